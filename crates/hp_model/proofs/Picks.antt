@@ -1,0 +1,80 @@
+-- Which row a search picks, and what a change there leaves.
+use Rattle.std.proofs.Common.{◌≡◌, ℕ, zero, suc, ◌+◌, ◌<◌, inl, inr, true, false, List, [], ◌∷◌, length, map, drop, refl, ap, ◌∙◌, arith}
+use Rattle.std.specs.Prelude.{nat_lt}
+use Rattle.std.specs.List.{sum_by, All}
+use Rattle.std.proofs.lemmas.Bool.{cond_both, cases_lt, ltb-true}
+use Rattle.std.proofs.lemmas.Grind.{common_steps}
+use Rattle.std.proofs.lemmas.List.{get_or_past}
+use Rattle.std.proofs.lemmas.List.Elements.{All-cons, All-head, All-tail}
+use Rattle.std.proofs.lemmas.List.Sums.{sum_by-set, passes_at_first}
+use Rattle.hp_model.specs.declared.node.Kind.{Kind}
+use Rattle.hp_model.specs.declared.node.Kind.TheVariants.{Free, Idle, Surplus, Persistent, FreeSurplus}
+use Rattle.hp_model.specs.declared.node.NodeRow.{NodeRow}
+use Rattle.hp_model.specs.Lists.{edit_at}
+use Rattle.hp_model.specs.NodeRows.{IsRow, at_row, row_at, no_row, has, lowest, near, next_from}
+
+-- a node that has one
+pub record IsPick (kind : Kind) (rows : List NodeRow) (n : ℕ) : Type 0 where
+  pub within : n < length rows
+  pub has_it : has kind (row_at rows n) ≡ true
+
+nothing_had : (kind : Kind) → has kind no_row ≡ false
+nothing_had Free = refl
+nothing_had Idle = refl
+nothing_had Surplus = refl
+nothing_had Persistent = refl
+nothing_had FreeSurplus = refl
+
+-- what is had is had by a node
+pub had : (kind : Kind) (rows : List NodeRow) (n : ℕ) → has kind (row_at rows n) ≡ true → IsPick kind rows n
+had kind rows n e =
+    elim (cases_lt n (length rows)) as (λ _. IsPick kind rows n) [
+      | inl here ↦ record { within = here; has_it = e }
+      | inr past ↦ (let none : has kind (row_at rows n) ≡ false = ap (has kind) (get_or_past rows n no_row past) ∙ nothing_had kind in cc)
+    ]
+
+pub lowest_pick : (kind : Kind) (rows : List NodeRow) → lowest kind rows < length rows → IsPick kind rows (lowest kind rows)
+lowest_pick kind rows l = record { within = l; has_it = passes_at_first (has kind) rows no_row l }
+
+pub near_pick : (kind : Kind) (home : ℕ) (rows : List NodeRow) → lowest kind rows < length rows → IsPick kind rows (near kind home rows)
+near_pick kind home rows l = cond_both (has kind (row_at rows home)) home (lowest kind rows) (IsPick kind rows) (λ e. had kind rows home e) (λ e. lowest_pick kind rows l)
+
+passes_ahead : (kind : Kind) (from : ℕ) (rows : List NodeRow) → from + lowest kind (drop from rows) < length rows → has kind (row_at rows (from + lowest kind (drop from rows))) ≡ true
+passes_ahead kind from rows h =
+    let there : has kind (row_at (drop from rows) (lowest kind (drop from rows))) ≡ true = passes_at_first (has kind) (drop from rows) no_row (grind (arith, common_steps)) in
+    grind (arith, common_steps)
+
+pub next_pick : (kind : Kind) (from : ℕ) (rows : List NodeRow) → lowest kind rows < length rows → IsPick kind rows (next_from kind from rows)
+next_pick kind from rows l =
+    let ahead : ℕ = from + lowest kind (drop from rows) in
+    cond_both (nat_lt ahead (length rows)) ahead (lowest kind rows) (IsPick kind rows)
+    (λ e. (let within : ahead < length rows = ltb-true ahead (length rows) e in record { within = within; has_it = passes_ahead kind from rows within }))
+    (λ e. lowest_pick kind rows l)
+
+-- ---- what a change of a row leaves
+
+pub record Edit (f : NodeRow → NodeRow) (rows : List NodeRow) (n : ℕ) : Type 0 where
+  pub was : All IsRow rows → IsRow (row_at rows n)
+  pub sum : (g : NodeRow → ℕ) → sum_by g (at_row f n rows) + g (row_at rows n) ≡ sum_by g rows + g (f (row_at rows n))
+  pub same : (g : NodeRow → ℕ) → g (f (row_at rows n)) ≡ g (row_at rows n) → map g (at_row f n rows) ≡ map g rows
+  pub moved : (g : NodeRow → ℕ) (h : ℕ → ℕ) → g (f (row_at rows n)) ≡ h (g (row_at rows n)) → map g (at_row f n rows) ≡ edit_at h (map g rows) n
+  pub all : IsRow (f (row_at rows n)) → All IsRow rows → All IsRow (at_row f n rows)
+
+pub edit : (f : NodeRow → NodeRow) (rows : List NodeRow) (n : ℕ) → n < length rows → Edit f rows n
+edit f [] n l = absurd (omega (arith, l))
+edit f (r ∷ rows) zero l = record {
+  was = λ all. All-head IsRow r rows all;
+  sum = λ g. sum_by-set g (r ∷ rows) 0 (f r) no_row l;
+  same = λ g e. ap (λ x. x ∷ map g rows) e;
+  moved = λ g h e. ap (λ x. x ∷ map g rows) e;
+  all = λ keeps all. All-cons IsRow (f r) rows keeps (All-tail IsRow r rows all);
+}
+edit f (r ∷ rows) (suc n) l =
+    let rest = edit f rows n (omega (arith, l)) in
+    record {
+      was = λ all. rest.was (All-tail IsRow r rows all);
+      sum = λ g. sum_by-set g (r ∷ rows) (suc n) (f (row_at rows n)) no_row l;
+      same = λ g e. ap (λ xs. g r ∷ xs) (rest.same g e);
+      moved = λ g h e. ap (λ xs. g r ∷ xs) (rest.moved g h e);
+      all = λ keeps all. All-cons IsRow r (at_row f n rows) (All-head IsRow r rows all) (rest.all keeps (All-tail IsRow r rows all));
+    }

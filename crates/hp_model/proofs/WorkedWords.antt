@@ -1,0 +1,25 @@
+-- The words of the worked runs.
+use Rattle.std.proofs.Common.{ℕ, ◌-◌, Ok, List, [], ◌∷◌, ◌++◌, length, replicate}
+use Rattle.hp_model.specs.declared.answer.Answer.TheVariants.{Bytes, Numbers, PerNode}
+use Rattle.hp_model.specs.declared.answer.NodeCount.{NodeCount}
+use Rattle.hp_model.specs.Machine.{start}
+use Rattle.hp_model.specs.Plan.{Reply}
+use Rattle.hp_model.specs.Resize.{no_count}
+use Rattle.hp_model.specs.State.{State}
+
+-- two nodes of four frames, pages of 1,024 bytes, four slots
+abbrev pub machine : State
+machine = start (4 ∷ 4 ∷ []) 1024 4
+
+abbrev pub counts : (total free rsvd surp nr overcommit : ℕ) → Reply
+counts t f r s nr over = Ok (Numbers (record { total = t; free = f; rsvd = r; surp = s; nr = nr; overcommit = over }))
+
+-- the answer with these bytes
+abbrev pub bytes : List ℕ → Reply
+bytes bs = Ok (Bytes (length bs) (bs ++ replicate (256 - length bs) 0))
+
+abbrev pub node_row : (total free surp : ℕ) → NodeCount
+node_row t f s = record { total = t; free = f; surp = s }
+
+abbrev pub nodes : List NodeCount → Reply
+nodes rows = Ok (PerNode (length rows) (rows ++ replicate (4 - length rows) no_count))

@@ -1,0 +1,49 @@
+-- The limits of this profile.
+use Rattle.std.specs.Prelude.{ℕ}
+
+abbrev pub most_nodes : ℕ
+most_nodes = 4
+
+-- frames of a node
+abbrev pub most_frames : ℕ
+most_frames = 65536
+
+-- bytes of a page
+abbrev pub most_page_bytes : ℕ
+most_page_bytes = 2097152
+
+-- files of a slot, named or not
+abbrev pub most_files : ℕ
+most_files = 1024
+
+-- maps of a slot
+abbrev pub most_maps : ℕ
+most_maps = 4096
+
+abbrev pub most_tasks : ℕ
+most_tasks = 256
+
+abbrev pub most_file_pages : ℕ
+most_file_pages = 1048576
+
+abbrev pub most_map_pages : ℕ
+most_map_pages = 65536
+
+-- bytes of a load, a store or a read
+abbrev pub most_bytes : ℕ
+most_bytes = 256
+
+abbrev pub most_overcommit : ℕ
+most_overcommit = 4294967295
+
+-- bytes of a name
+abbrev pub most_name_bytes : ℕ
+most_name_bytes = 64
+
+-- bytes of a line, without its end
+abbrev pub most_line_bytes : ℕ
+most_line_bytes = 1024
+
+-- bytes of an input
+abbrev pub most_input_bytes : ℕ
+most_input_bytes = 1073741824
