@@ -18,7 +18,7 @@ use Rattle.hp_model.specs.declared.place.Place.{Place}
 use Rattle.hp_model.specs.declared.place.Place.TheVariants.{Gone, Live}
 use Rattle.hp_model.proofs.Holding.{stamps_fall, stamps_at_fall}
 use Rattle.hp_model.proofs.Places.{any_map_down, any_filter, sum_by-map_le, sum_by-filter_le}
-use Rattle.hp_model.proofs.Ranges.{sum_by-edit_range}
+use Rattle.hp_model.proofs.Editing.{sum_by-edit_range}
 
 pub record FileFalls (f g : File) : Type 0 where
   pub has : (t : ℕ → ℕ → Bool) → file_has t g ≡ true → file_has t f ≡ true

@@ -30,3 +30,6 @@ pub mod WorkedMounts
 pub mod WorkedWithoutMemory
 pub mod WorkedLines
 pub mod RefusalsKeep
+pub mod Counting
+pub mod Editing
+pub mod Finding

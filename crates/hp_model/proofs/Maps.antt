@@ -22,7 +22,7 @@ use Rattle.hp_model.proofs.Falls.{no_holes}
 use Rattle.hp_model.proofs.FileMoves.{FileGrows, agreed_within, spent}
 use Rattle.hp_model.proofs.Holding.{stamps_stay, stamps_at_stay}
 use Rattle.hp_model.proofs.Places.{sum_by-map_same}
-use Rattle.hp_model.proofs.Ranges.{sum_by-edit_range}
+use Rattle.hp_model.proofs.Editing.{sum_by-edit_range}
 
 abbrev bit : Bool → ℕ
 bit b = cond b 1 0

@@ -1,0 +1,6 @@
+mod CellFacts
+mod Dropped
+mod Reserved
+mod Tables
+mod Taken
+mod Words

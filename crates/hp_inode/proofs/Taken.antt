@@ -1,0 +1,56 @@
+-- The lowest page of a range.
+use Rattle.std.proofs.Common.{◌≡◌, ℕ, zero, suc, [], ◌∷◌, set, subst, ◌+◌, ◌-◌, ◌<◌, ◌≤◌, false, List, length, drop, get_or, None, Some, sym, refl, ap, ◌∙◌, arith}
+use Rattle.std.specs.Prelude.{IsSome}
+use Rattle.std.specs.Option.{is_some}
+use Rattle.std.specs.List.{All}
+use Rattle.std.proofs.lemmas.List.{length-take, length-drop, length-set, get_or-set_same, get_or_default}
+use Rattle.hp_model.specs.declared.cell.Cell.{Cell}
+use Rattle.hp_model.specs.declared.cell.Cell.TheVariants.{Hole, Entered}
+use Rattle.hp_model.specs.File.{cell_in, has_page}
+use Rattle.hp_model.specs.Lists.{part, found}
+use Rattle.hp_model.proofs.Editing.{part_one}
+use Rattle.hp_model.proofs.Finding.{found_none, found_at}
+use Rattle.hp_region.specs.Region.{Region}
+use Rattle.hp_inode.specs.Rows.{Rows, page_in, IsFirstPage}
+use Rattle.hp_inode.specs.Kept.{cells_of, IsKept}
+use Rattle.hp_inode.proofs.CellFacts.{length-cells, has_page_cell}
+use Rattle.hp_inode.proofs.Dropped.{part_cell}
+
+module _ (len m : ℕ) (e : Region) (rows : Rows) (kept : IsKept len m e rows) (a b : ℕ) where
+  in_part : (j : ℕ) → j < length (part a b (cells_of len e.indices rows)) → j < b - a
+  in_part j lt = omega (arith, lt, length-take (b - a) (drop a (cells_of len e.indices rows)))
+
+  tested : (j : ℕ) → j < b - a → has_page (get_or (part a b (cells_of len e.indices rows)) j Hole) ≡ is_some (page_in rows (a + j))
+  tested j lt = ap has_page (part_cell (cells_of len e.indices rows) a b j lt) ∙ has_page_cell len m e rows kept (a + j)
+
+  pub no_page_there : ((k : ℕ) → a ≤ k → k < b → page_in rows k ≡ None) → All (λ (cell : Cell ℕ). has_page cell ≡ false) (part a b (cells_of len e.indices rows))
+  no_page_there none j d lt =
+      let below = in_part j lt in
+      ap has_page (get_or_default (part a b (cells_of len e.indices rows)) j d Hole lt) ∙ tested j below ∙ ap is_some (none (a + j) (omega arith) (omega (arith, below)))
+
+  pub found_no_page : ((k : ℕ) → a ≤ k → k < b → page_in rows k ≡ None) → found has_page (part a b (cells_of len e.indices rows)) ≡ None
+  found_no_page none = found_none has_page (part a b (cells_of len e.indices rows)) Hole (λ j lt. no_page_there none j Hole lt)
+
+  -- a page lies below the length
+  pub paged_below : (i : ℕ) → IsSome (page_in rows i) → i < len
+  paged_below i some = kept.below i (kept.paged i some)
+
+  pub found_page : (i : ℕ) → IsFirstPage rows a i → i < b → found has_page (part a b (cells_of len e.indices rows)) ≡ Some (i - a, cell_in (cells_of len e.indices rows) i)
+  found_page i first below =
+      let xs = cells_of len e.indices rows in
+      let back : a + (i - a) ≡ i = omega (arith, first.from) in
+      let inside : i - a < length (part a b xs) = omega (arith, first.from, below, paged_below i first.here, length-take (b - a) (drop a xs), length-drop a xs, length-cells len e.indices rows) in
+      found_at has_page (part a b xs) Hole (i - a) inside
+      (tested (i - a) (in_part (i - a) inside) ∙ ap (λ k. is_some (page_in rows k)) back ∙ first.here)
+      (λ j less. tested j (omega (arith, less, below)) ∙ ap is_some (first.none_before (a + j) (omega arith) (omega (arith, less, first.from))))
+      ∙ ap (λ c. Some (i - a, c)) (part_cell xs a b (i - a) (in_part (i - a) inside) ∙ ap (cell_in xs) back)
+
+-- after its page was taken an index is entered, and has none
+pub entered_alone : (xs ys : List (Cell ℕ)) (i : ℕ) → ys ≡ set xs i Entered → i < length xs → All (λ (cell : Cell ℕ). has_page cell ≡ false) (part i (i + 1) ys)
+entered_alone xs ys i is lt =
+    let alone : part i (i + 1) ys ≡ Entered ∷ [] = ap (part i (i + 1)) is ∙ part_one (set xs i Entered) i Hole (omega (arith, lt, length-set xs i Entered)) ∙ ap (λ c. c ∷ []) (get_or-set_same xs i Entered Hole lt) in
+    subst (All (λ (cell : Cell ℕ). has_page cell ≡ false)) (sym alone) one
+  where
+    one : All (λ (cell : Cell ℕ). has_page cell ≡ false) (Entered ∷ [])
+    one zero d less = refl
+    one (suc k) d less = absurd (omega (arith, less))

@@ -1,0 +1,14 @@
+-- Marks on numbers, a bit for each, 64 in a word.
+--     marked words k      k has a mark
+--     IsFirstFrom words n i      the first number with a mark, of those from n on, is i
+use Rattle.std.specs.Prelude.{ℕ, ◌≡◌, ◌==◌, ◌/◌, ◌%◌, ◌<◌, ◌≤◌, Bool, true, false, List}
+use Rattle.std.specs.List.{slice_index_or}
+use Rattle.std.specs.Int.{bit_at}
+
+abbrev pub marked : List ℕ → ℕ → Bool
+marked words k = bit_at (slice_index_or words (k / 64) 0) (k % 64) == 1
+
+pub record IsFirstFrom (words : List ℕ) (n i : ℕ) : Type 0 where
+  pub from : n ≤ i
+  pub here : marked words i ≡ true
+  pub none_before : (k : ℕ) → n ≤ k → k < i → marked words k ≡ false

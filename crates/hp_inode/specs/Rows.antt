@@ -1,0 +1,44 @@
+-- The rows of a page table: for each chunk of 512 indices no slot yet, or one slot for each.
+--     slot_in rows j k      the page in slot k of chunk j
+--     page_in rows i, has_slot rows i      the page of an index, and whether there is a slot for it
+--     IsFirstSlot row n k, IsFirstPage rows a i      the first with a page, of those from a place on
+--     IsChunk row marks, IsTable rows marks      the marks say where there are pages
+use Rattle.std.specs.Prelude.{ℕ, ◌≡◌, ◌*◌, ◌/◌, ◌%◌, ◌<◌, ◌≤◌, ◌^◌, Bool, true, false, List, [], length, nat_lt, Option, None, IsSome}
+use Rattle.std.specs.Option.{is_some}
+use Rattle.std.specs.List.{slice_index_or}
+use Rattle.hp_inode.specs.Marks.{marked}
+
+abbrev pub Rows : Type 0
+Rows = List (List (Option ℕ))
+
+abbrev pub slot_in : Rows → ℕ → ℕ → Option ℕ
+slot_in rows j k = slice_index_or (slice_index_or rows j []) k None
+
+abbrev pub page_in : Rows → ℕ → Option ℕ
+page_in rows i = slot_in rows (i / 512) (i % 512)
+
+abbrev pub has_slot : Rows → ℕ → Bool
+has_slot rows i = nat_lt (i % 512) (length (slice_index_or rows (i / 512) []))
+
+pub record IsFirstSlot (row : List (Option ℕ)) (n k : ℕ) : Type 0 where
+  pub from : n ≤ k
+  pub within : k < 512
+  pub here : IsSome (slice_index_or row k None)
+  pub none_before : (j : ℕ) → n ≤ j → j < k → slice_index_or row j None ≡ None
+
+pub record IsFirstPage (rows : Rows) (a i : ℕ) : Type 0 where
+  pub from : a ≤ i
+  pub here : IsSome (page_in rows i)
+  pub none_before : (k : ℕ) → a ≤ k → k < i → page_in rows k ≡ None
+
+-- a chunk has no slots or all, and a mark at each with a page
+pub record IsChunk (row : List (Option ℕ)) (marks : List ℕ) : Type 0 where
+  pub whole : 0 < length row → length row ≡ 512
+  pub pages : (k : ℕ) → marked marks k ≡ is_some (slice_index_or row k None)
+
+-- a table has a place for the mark of each chunk, and a mark at those with a page
+pub record IsTable (rows : Rows) (marks : List ℕ) : Type 0 where
+  pub few : length marks < 2 ^ 32
+  pub places : length rows ≤ 64 * length marks
+  pub some : (j : ℕ) → marked marks j ≡ true → ((k : ℕ) → slot_in rows j k ≡ None) → ⊥
+  pub none : (j k : ℕ) → marked marks j ≡ false → slot_in rows j k ≡ None

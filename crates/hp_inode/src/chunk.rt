@@ -1,0 +1,90 @@
+//! The pages of 512 indices.
+ghost use Rattle.std.specs.Prelude.{ℕ, ◌≡◌, ◌==◌, ◌<◌, ◌≤◌, [], length, replicate, IfOk, MatchOption, true, false, None};
+ghost use Rattle.std.specs.Option.{is_some};
+ghost use Rattle.std.specs.List.{slice_index_or, slice_set};
+ghost use Rattle.hp_inode.specs.Rows.{IsFirstSlot};
+
+use crate::marks::{first_from, set_mark};
+use hp_model::page_no::PageNo;
+use std::alloc::{AllocError, Global};
+use std::marker::Model;
+
+/// How many indices a chunk is for.
+pub const CHUNK: u64 = 512;
+
+/// The pages of 512 indices, with a mark at each slot that has one; or no slots yet.
+#[derive(Drop)]
+pub struct Chunk {
+    slots: Vec<Option<PageNo>>,
+    marks: [u64; 8],
+}
+
+impl Model for Chunk {
+    ghost use Rattle.std.specs.Prelude.{List, ℕ, Option};
+    ghost use Rattle.hp_inode.specs.Rows.{IsChunk};
+
+    ghost Value = { List (Option ℕ) };
+
+    ghost view = { λ c. c.slots.items };
+
+    ghost invariant = { λ c. IsChunk c.slots.items c.marks };
+}
+
+impl Chunk {
+    pub fn new(alloc: Global) -> Self
+        ensures { result ≡ [] }
+    {
+        Chunk {
+            slots: Vec::new(alloc),
+            marks: [0; 8],
+        }
+    }
+
+    pub fn with_slots(alloc: Global) -> Result<Self, AllocError>
+        ensures { IfOk result (λ chunk. chunk ≡ replicate 512 None) }
+    {
+        Ok(Chunk {
+            slots: vec![in alloc; None; 512]?,
+            marks: [0; 8],
+        })
+    }
+
+    pub fn is_empty(&self) -> bool
+        ensures empty { result ≡ (length self.now == 0) }
+        ensures whole { result ≡ false → length self.now ≡ 512 }
+    {
+        self.slots.is_empty()
+    }
+
+    pub fn get(&self, k: usize) -> Option<PageNo>
+        ensures { result ≡ slice_index_or self.now k None }
+    {
+        if k < self.slots.len() {
+            self.slots[k]
+        } else {
+            None
+        }
+    }
+
+    pub fn set(&mut self, k: usize, page: Option<PageNo>)
+        requires { k < length self.old }
+        ensures { self.new ≡ slice_set self.old k page }
+    {
+        self.slots[k] = page;
+        set_mark(&mut self.marks, k, page.is_some());
+    }
+
+    pub fn has_page(&self) -> bool
+        ensures some { result ≡ true → ((k : ℕ) → slice_index_or self.now k None ≡ None) → ⊥ }
+        ensures none { result ≡ false → (k : ℕ) → slice_index_or self.now k None ≡ None }
+    {
+        self.first_from(0).is_some()
+    }
+
+    /// The first slot with a page, of those from `n` on.
+    pub fn first_from(&self, n: usize) -> Option<usize>
+        ensures { MatchOption result ((k : ℕ) → n ≤ k → slice_index_or self.now k None ≡ None) (IsFirstSlot self.now n) }
+    {
+        first_from(&self.marks, n)
+    }
+}

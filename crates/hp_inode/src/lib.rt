@@ -1,0 +1,147 @@
+//! A file's indices: its length, which are entered, and their pages by number.
+#![tactic(auto)]
+
+ghost use Rattle.std.specs.Prelude.{ℕ, ◌≡◌, ◌+◌, ◌<◌, ◌≤◌, ◌^◌, [], length, drop, OnOk, OnErr, MatchOption, None, false};
+ghost use Rattle.std.specs.List.{slice_set, count_by, All};
+ghost use Rattle.hp_model.specs.File.{is_entered, is_hole, has_page, page_of, entered, cell_in, cells_to};
+ghost use Rattle.hp_model.specs.Lists.{edit_range, part, found};
+ghost use Rattle.hp_model.specs.declared.cell.Cell.TheVariants.{Hole, Entered, Present};
+
+use hp_model::page_no::PageNo;
+use hp_region::RegionList;
+use std::alloc::{AllocError, Global};
+use std::marker::Model;
+use table::PageTable;
+
+mod chunk;
+mod marks;
+mod table;
+#[cfg(test)]
+mod tests;
+
+/// The indices of a file, each a hole, entered (a page is reserved for it), or entered with its page.
+///
+/// Contracts see the list of its cells. Only `reserve_range` asks for memory.
+#[derive(Drop)]
+pub struct Inode {
+    len: u64,
+    // how many indices are entered
+    count: u64,
+    entries: RegionList,
+    table: PageTable,
+}
+
+impl Model for Inode {
+    ghost use Rattle.std.specs.Prelude.{List, ℕ};
+    ghost use Rattle.hp_model.specs.declared.cell.Cell.{Cell};
+    ghost use Rattle.hp_inode.specs.Kept.{cells_of, IsKept};
+
+    ghost Value = { List (Cell ℕ) };
+
+    ghost view = { λ f. cells_of f.len f.entries.indices f.table };
+
+    ghost invariant = { λ f. IsKept f.len f.count f.entries f.table };
+}
+
+impl Inode {
+    /// A file of length 0.
+    pub fn new(alloc: Global) -> Self
+        ensures { result ≡ [] }
+    {
+        Inode {
+            len: 0,
+            count: 0,
+            entries: RegionList::new(alloc),
+            table: PageTable::new(alloc),
+        }
+    }
+
+    /// The length in indices.
+    pub fn len(&self) -> u64
+        ensures { result ≡ length self.now }
+    {
+        self.len
+    }
+
+    /// The page of the index `i`, if it has one.
+    pub fn page_at(&self, i: u64) -> Option<PageNo>
+        ensures { result ≡ page_of (cell_in self.now i) }
+    {
+        self.table.page_at(i)
+    }
+
+    /// Whether the index `i` is entered, with a page or without.
+    pub fn entered(&self, i: u64) -> bool
+        ensures { result ≡ is_entered (cell_in self.now i) }
+    {
+        self.entries.contains(i)
+    }
+
+    /// How many indices from `a` up to `b` are holes.
+    pub fn missing(&self, a: u64, b: u64) -> u64
+        requires { b ≤ length self.now }
+        ensures { result ≡ count_by is_hole (part a b self.now) }
+    {
+        self.entries.missing(a, b)
+    }
+
+    /// Gives an entered index without a page its page.
+    pub fn fill(&mut self, i: u64, page: PageNo)
+        requires { cell_in self.old i ≡ Entered }
+        ensures { self.new ≡ slice_set self.old i (Present page) }
+    {
+        self.table.set(i, Some(page));
+    }
+
+    /// Enters the indices from `a` up to `b`, and makes the room for their pages and for every later removal.
+    /// At an error the cells are as they were.
+    pub fn reserve_range(&mut self, a: u64, b: u64) -> Result<(), AllocError>
+        requires { b ≤ length self.old }
+        ensures ok { OnOk result (self.new ≡ edit_range entered a b self.old) }
+        ensures err { OnErr result (self.new ≡ self.old) }
+    {
+        let count = self.count + self.entries.missing(a, b);
+        self.table.make_slots(a, b)?;
+        self.entries.make_room(count as usize + 1)?;
+        self.entries.add(a, b)?;
+        self.count = count;
+        Ok(())
+    }
+
+    /// Makes the file `len` indices long: longer by holes, or shorter by holes alone.
+    pub fn set_len(&mut self, len: u64)
+        requires small { len < 2 ^ 32 }
+        requires holes { All (λ cell. cell ≡ Hole) (drop len self.old) }
+        ensures { self.new ≡ cells_to len self.old }
+    {
+        self.len = len;
+    }
+
+    /// Takes the lowest page of the indices from `a` up to `b` out, with its entry. Entries without a page stay.
+    pub fn take_page(&mut self, a: u64, b: u64) -> Option<PageNo>
+        ensures page { MatchOption (found has_page (part a b self.old)) (result ≡ None) (λ p. result ≡ page_of p.1) }
+        ensures cells { MatchOption (found has_page (part a b self.old)) (self.new ≡ self.old) (λ p. self.new ≡ slice_set self.old (a + p.0) Hole) }
+        ensures none { result ≡ None → All (λ cell. has_page cell ≡ false) (part a b self.new) }
+    {
+        let i = self.table.first_from(a)?;
+        if i >= b {
+            return None;
+        }
+        let page = self.page_at(i);
+        self.table.set(i, None);
+        self.drop_entries(i, i + 1);
+        page
+    }
+
+    /// Makes the indices from `a` up to `b` holes, and answers how many were entered. None of them has a page.
+    pub fn drop_entries(&mut self, a: u64, b: u64) -> u64
+        requires within { b ≤ length self.old }
+        requires pageless { All (λ cell. has_page cell ≡ false) (part a b self.old) }
+        ensures count { result ≡ count_by is_entered (part a b self.old) }
+        ensures cells { self.new ≡ edit_range (λ cell. Hole) a b self.old }
+    {
+        let count = self.entries.remove(a, b).unwrap();
+        self.count -= count;
+        count
+    }
+}

@@ -1,0 +1,3 @@
+pub mod MarkedPlaces
+pub mod MarkedWords
+pub mod Ranges

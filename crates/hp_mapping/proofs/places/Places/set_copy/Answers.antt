@@ -1,0 +1,11 @@
+use Rattle.std.proofs.Common.{◌≡◌, slice_index_or, true}
+use Rattle.hp_model.specs.declared.place.Place.TheVariants.{Gone}
+use Rattle.hp_model.specs.Mapping.{is_live}
+use Rattle.hp_mapping.proofs.MarkedPlaces.{placed_copied}
+use Rattle.hp_mapping.proofs.places.Places.set_copy.Goals as goal
+
+pub invariant_of-self : goal.invariant_of-self
+invariant_of-self c =
+    let live : is_live (slice_index_or c.self.inside.places.items c.args.at Gone) ≡ true = rw (← c.self.view_is) at c.requires in
+    rw (c.set_copy.ensures, c.index_mut.ensures.value)
+    (placed_copied c.self.inside.places.items c.self.inside.live c.self.inside.copies c.mark.new.self c.args.at c.args.page c.index_mut.result.now c.self.invariant live c.mark.ensures)

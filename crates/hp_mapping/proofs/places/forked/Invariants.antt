@@ -1,0 +1,10 @@
+use Rattle.std.proofs.Common.{◌≡◌, take, map, length, vec_len, vec_capacity}
+use Rattle.hp_model.specs.Mapping.{unconsumed}
+use Rattle.hp_mapping.proofs.places.forked.Given as goal
+
+abbrev pub invariant-loop-place : goal.invariant-loop-place
+invariant-loop-place l = record {
+  items : l.copies.items ≡ map unconsumed (take l.place-index l.places);
+  len : vec_len l.copies ≡ l.place-index;
+  capacity : vec_capacity l.copies ≡ length l.places;
+}

@@ -1,0 +1,54 @@
+-- What contracts see of a mapping.
+use Rattle.std.specs.Prelude.{◌≡◌, ℕ, ◌-◌, ◌<◌, ◌≤◌, ◌&&◌, Bool, true, is_some, if◌then◌else◌}
+use Rattle.std.specs.Prelude.{None, Some}
+use Rattle.std.specs.List.{count_by}
+use Rattle.hp_model.specs.declared.place.Place.{Place}
+use Rattle.hp_model.specs.declared.place.Place.TheVariants.{Gone, Live}
+use Rattle.hp_model.specs.Lists.{part}
+use Rattle.hp_model.specs.Mapping.{Mapping, place_at, with_place, copy_of, is_unconsumed, without_copy}
+
+-- a map with page numbers as copies, and the file that it is of
+pub record Mapped : Type 0 where
+  pub file : ℕ
+  pub map : Mapping ℕ
+
+abbrev pub with_map : Mapping ℕ → Mapped → Mapped
+with_map m s = record s { map = m }
+
+-- the place of the file's index i is changed
+abbrev pub at_place : (Place ℕ → Place ℕ) → ℕ → Mapping ℕ → Mapping ℕ
+at_place f i m = with_place m i (f (place_at m i))
+
+abbrev pub consumed : Place ℕ → Place ℕ
+consumed Gone = Gone
+consumed (Live was copy) = Live true copy
+
+abbrev pub with_copy : ℕ → Place ℕ → Place ℕ
+with_copy page Gone = Gone
+with_copy page (Live was copy) = Live was (Some page)
+
+abbrev pub has_copy : Place ℕ → Bool
+has_copy p = is_some (copy_of p)
+
+abbrev pub has_reserve : Mapping ℕ → ℕ → Bool
+has_reserve m i = m.owner && is_unconsumed (place_at m i)
+
+-- no private copy from a up to b
+abbrev pub IsClear : ℕ → ℕ → Mapping ℕ → Type 0
+IsClear a b m = (k : ℕ) → a ≤ k → k < b → copy_of (place_at m k) ≡ None
+
+-- the reservations from a up to b
+abbrev pub reserves_in : ℕ → ℕ → Mapping ℕ → ℕ
+reserves_in a b m =
+    if m.owner
+    then count_by is_unconsumed (part (a - m.start) (b - m.start) m.places)
+    else 0
+
+-- the lowest private copy from a up to b was this page, and is gone
+pub record TakesLowest (a b page : ℕ) (old new : Mapping ℕ) : Type 0 where
+  pub at : ℕ
+  pub from : a ≤ at
+  pub below : at < b
+  pub page_is : copy_of (place_at old at) ≡ Some page
+  pub clear : IsClear a at old
+  pub after : new ≡ at_place without_copy at old

@@ -1,0 +1,62 @@
+//! One place of a map, with the number of a page as its copy.
+ghost use Rattle.std.specs.Prelude.{◌≡◌};
+ghost use Rattle.hp_model.specs.Mapping.{copy_of, is_unconsumed, without_copy, unconsumed};
+ghost use Rattle.hp_mapping.specs.Mapped.{consumed, with_copy};
+
+use hp_model::page_no::PageNo;
+use hp_model::place::Place;
+
+/// The place of a child's map.
+pub(crate) fn forked(place: &Place<PageNo>) -> Place<PageNo>
+    ensures { result ≡ unconsumed place.now }
+{
+    match place {
+        Place::Gone => Place::Gone,
+        Place::Live { consumed: _, copy } => Place::Live {
+            consumed: false,
+            copy: *copy,
+        },
+    }
+}
+
+pub(crate) fn is_unconsumed(place: &Place<PageNo>) -> bool
+    ensures { result ≡ is_unconsumed place.now }
+{
+    match place {
+        Place::Gone => false,
+        Place::Live { consumed, copy: _ } => !*consumed,
+    }
+}
+
+pub(crate) fn copy(place: &Place<PageNo>) -> Option<PageNo>
+    ensures { result ≡ copy_of place.now }
+{
+    match place {
+        Place::Gone => None,
+        Place::Live { consumed: _, copy } => *copy,
+    }
+}
+
+pub(crate) fn consume(place: &mut Place<PageNo>)
+    ensures { place.new ≡ consumed place.old }
+{
+    if let Place::Live { consumed, copy: _ } = place {
+        *consumed = true;
+    }
+}
+
+pub(crate) fn set_copy(place: &mut Place<PageNo>, page: PageNo)
+    ensures { place.new ≡ with_copy page place.old }
+{
+    if let Place::Live { consumed: _, copy } = place {
+        *copy = Some(page);
+    }
+}
+
+pub(crate) fn drop_copy(place: &mut Place<PageNo>)
+    ensures { place.new ≡ without_copy place.old }
+{
+    if let Place::Live { consumed: _, copy } = place {
+        *copy = None;
+    }
+}

@@ -1,0 +1,211 @@
+//! The places of a map, with marks of those that are live and of those that have a copy.
+ghost use Rattle.std.specs.Prelude.{◌≡◌, ℕ, ◌<◌, ◌≤◌, true, false, length, map, replicate, slice_index_or, slice_set, IsTrue, IsSome, IfOk, IfSome, IfNone, None};
+ghost use Rattle.std.specs.List.{count_by, list_any};
+ghost use Rattle.hp_model.specs.declared.place.Place.TheVariants.{Gone, Live};
+ghost use Rattle.hp_model.specs.Lists.{edit_range, part};
+ghost use Rattle.hp_model.specs.Mapping.{is_live, copy_of, is_unconsumed, without_copy, unconsumed};
+ghost use Rattle.hp_mapping.specs.Mapped.{consumed, with_copy};
+
+use crate::marks::Marks;
+use crate::place;
+use hp_model::page_no::PageNo;
+use hp_model::place::Place;
+use std::alloc::{AllocError, Global};
+use std::marker::Model;
+use std::mem::size_of;
+
+// A page of a map costs this, and a bit for each of the two marks.
+const _: () = prove!(size_of::<Place<PageNo>>() <= 12);
+
+/// Places, counted from 0. Contracts see them alone.
+#[derive(Drop)]
+pub(crate) struct Places {
+    places: Vec<Place<PageNo>>,
+    live: Marks,
+    copies: Marks,
+}
+
+impl Model for Places {
+    ghost use Rattle.std.specs.Prelude.{ℕ, List};
+    ghost use Rattle.hp_model.specs.declared.place.Place.{Place};
+    ghost use Rattle.hp_mapping.specs.Marks.{IsPlaced};
+
+    ghost Value = { List (Place ℕ) };
+
+    ghost view = { λ p. p.places.items };
+
+    ghost invariant = { λ p. IsPlaced p.places.items p.live p.copies };
+}
+
+impl Places {
+    /// So many live places with their reservation and no copy.
+    pub(crate) fn new(alloc: Global, count: usize) -> Result<Self, AllocError>
+        ensures { IfOk result (λ p. p ≡ replicate count (Live false None)) }
+    {
+        let places = fresh(alloc, count)?;
+        let live = Marks::all(alloc, count)?;
+        let copies = Marks::new(alloc, count)?;
+        Ok(Places {
+            places,
+            live,
+            copies,
+        })
+    }
+
+    /// The places of a child's map.
+    pub(crate) fn forked(&self, alloc: Global) -> Result<Self, AllocError>
+        ensures { IfOk result (λ p. p ≡ map unconsumed self.now) }
+    {
+        let places = forked(alloc, &self.places)?;
+        let live = self.live.copied()?;
+        let copies = self.copies.copied()?;
+        Ok(Places {
+            places,
+            live,
+            copies,
+        })
+    }
+
+    pub(crate) fn len(&self) -> usize
+        ensures { result ≡ length self.now }
+    {
+        self.places.len()
+    }
+
+    pub(crate) fn is_live(&self, at: usize) -> bool
+        ensures { result ≡ is_live (slice_index_or self.now at Gone) }
+    {
+        matches!(
+            self.places.get(at),
+            Some(Place::Live {
+                consumed: _,
+                copy: _
+            })
+        )
+    }
+
+    pub(crate) fn is_unconsumed(&self, at: usize) -> bool
+        ensures { result ≡ is_unconsumed (slice_index_or self.now at Gone) }
+    {
+        match self.places.get(at) {
+            Some(place) => place::is_unconsumed(place),
+            None => false,
+        }
+    }
+
+    pub(crate) fn copy_at(&self, at: usize) -> Option<PageNo>
+        ensures { result ≡ copy_of (slice_index_or self.now at Gone) }
+    {
+        place::copy(self.places.get(at)?)
+    }
+
+    pub(crate) fn has_live(&self) -> bool
+        ensures { result ≡ list_any is_live self.now }
+    {
+        self.live.next(0).is_some()
+    }
+
+    pub(crate) fn consume(&mut self, at: usize)
+        requires { at < length self.old }
+        ensures { self.new ≡ slice_set self.old at (consumed (slice_index_or self.old at Gone)) }
+    {
+        place::consume(&mut self.places[at]);
+    }
+
+    pub(crate) fn set_copy(&mut self, at: usize, page: PageNo)
+        requires { IsTrue (is_live (slice_index_or self.old at Gone)) }
+        ensures { self.new ≡ slice_set self.old at (with_copy page (slice_index_or self.old at Gone)) }
+    {
+        place::set_copy(&mut self.places[at], page);
+        self.copies.mark(at);
+    }
+
+    pub(crate) fn drop_copy(&mut self, at: usize)
+        requires { IsSome (copy_of (slice_index_or self.old at Gone)) }
+        ensures { self.new ≡ slice_set self.old at (without_copy (slice_index_or self.old at Gone)) }
+    {
+        place::drop_copy(&mut self.places[at]);
+        self.copies.unmark(at);
+    }
+
+    /// The lowest place from `from` up to `to` that has a copy.
+    pub(crate) fn lowest_copy(&self, from: usize, to: usize) -> Option<usize>
+        ensures from { IfSome result (λ at. from ≤ at) }
+        ensures below { IfSome result (λ at. at < to) }
+        ensures copy { IfSome result (λ at. IsSome (copy_of (slice_index_or self.now at Gone))) }
+        ensures clear { IfSome result (λ at. (k : ℕ) → from ≤ k → k < at → copy_of (slice_index_or self.now k Gone) ≡ None) }
+        ensures none { IfNone result ((k : ℕ) → from ≤ k → k < to → copy_of (slice_index_or self.now k Gone) ≡ None) }
+    {
+        let at = self.copies.next(from)?;
+        if at < to { Some(at) } else { None }
+    }
+
+    /// The lowest live place from `from` up to `to`.
+    fn next_live(&self, from: usize, to: usize) -> Option<usize>
+        ensures from { IfSome result (λ at. from ≤ at) }
+        ensures below { IfSome result (λ at. at < to) }
+        ensures live { IfSome result (λ at. IsTrue (is_live (slice_index_or self.now at Gone))) }
+        ensures gone { IfSome result (λ at. (k : ℕ) → from ≤ k → k < at → slice_index_or self.now k Gone ≡ Gone) }
+        ensures none { IfNone result ((k : ℕ) → from ≤ k → k < to → slice_index_or self.now k Gone ≡ Gone) }
+    {
+        let at = self.live.next(from)?;
+        if at < to { Some(at) } else { None }
+    }
+
+    /// A live place without a copy leaves. Says whether its reservation was there.
+    fn leave(&mut self, at: usize) -> bool
+        requires live { IsTrue (is_live (slice_index_or self.old at Gone)) }
+        requires clear { copy_of (slice_index_or self.old at Gone) ≡ None }
+        ensures left { self.new ≡ slice_set self.old at Gone }
+        ensures freed { result ≡ is_unconsumed (slice_index_or self.old at Gone) }
+    {
+        let place = &mut self.places[at];
+        let freed = place::is_unconsumed(place);
+        *place = Place::Gone;
+        self.live.unmark(at);
+        freed
+    }
+
+    /// The places from `from` up to `to` leave, with a step for each live one. Says how many reservations that
+    /// frees.
+    pub(crate) fn leave_range(&mut self, from: usize, to: usize) -> u64
+        requires order { from ≤ to }
+        requires within { to ≤ length self.old }
+        requires clear { (k : ℕ) → from ≤ k → k < to → copy_of (slice_index_or self.old k Gone) ≡ None }
+        ensures freed { result ≡ count_by is_unconsumed (part from to self.old) }
+        ensures left { self.new ≡ edit_range (λ p. Gone) from to self.old }
+    {
+        let mut freed = 0;
+        let mut at = from;
+        while let Some(live) = self.next_live(at, to) {
+            freed += u64::from(self.leave(live));
+            at = live + 1;
+        }
+        freed
+    }
+}
+
+// So many live places.
+fn fresh(alloc: Global, count: usize) -> Result<Vec<Place<PageNo>>, AllocError>
+    ensures { IfOk result (λ v. v.items ≡ replicate count (Live false None)) }
+{
+    let mut places = Vec::with_capacity(alloc, count)?;
+    for _at in 0..count {
+        places.push_reserved(Place::Live {
+            consumed: false,
+            copy: None,
+        });
+    }
+    Ok(places)
+}
+
+// The places of a child's map.
+fn forked(alloc: Global, places: &[Place<PageNo>]) -> Result<Vec<Place<PageNo>>, AllocError>
+    ensures { IfOk result (λ v. v.items ≡ map unconsumed places.now) }
+{
+    let mut copies = Vec::with_capacity(alloc, places.len())?;
+    for place in places {
+        copies.push_reserved(place::forked(place));
+    }
+    Ok(copies)
+}

@@ -1,0 +1,109 @@
+//! Marks in words.
+ghost use Rattle.std.specs.Prelude.{◌≡◌, ℕ, ◌+◌, ◌*◌, ◌/◌, ◌<◌, ◌≤◌, ◌↔◌, length, slice_index, IsTrue, IfOk, IfSome, IfNone};
+ghost use Rattle.hp_mapping.specs.Marks.{mark_at, IsBlank, IsBlankFrom, IsLowest, ChangesMark, KeepsWords};
+
+use crate::bits::{lowest_from, with_bit, without_bit};
+use std::alloc::{AllocError, Global};
+use std::marker::Model;
+
+/// A mark for each number below a limit, 64 in a word. Contracts see the words.
+#[derive(Drop)]
+pub(crate) struct Words {
+    words: Vec<u64>,
+}
+
+impl Model for Words {
+    ghost use Rattle.std.specs.Prelude.{ℕ, List, length, ◌≤◌, ◌^◌};
+
+    ghost Value = { List ℕ };
+
+    ghost view = { λ m. m.words.items };
+
+    ghost invariant = { λ m. length m.words.items ≤ 2 ^ 58 };
+}
+
+impl Words {
+    /// Words for the numbers below `count`, with no mark.
+    pub(crate) fn new(alloc: Global, count: usize) -> Result<Self, AllocError>
+        ensures blank { IfOk result (λ m. IsBlankFrom 0 m) }
+        ensures zero { IfOk result (λ m. (w : ℕ) → slice_index m w ≡ 0) }
+        ensures room { IfOk result (λ m. count ≤ 64 * length m) }
+    {
+        let words = vec![in alloc; 0u64; count / 64 + 1]?;
+        Ok(Words { words })
+    }
+
+    /// The same marks in words of their own.
+    pub(crate) fn copied(&self) -> Result<Self, AllocError>
+        ensures { IfOk result (λ m. m ≡ self.now) }
+    {
+        let words = self.words.clone()?;
+        Ok(Words { words })
+    }
+
+    /// How many words there are.
+    pub(crate) fn len(&self) -> usize
+        ensures { result ≡ length self.now }
+    {
+        self.words.len()
+    }
+
+    pub(crate) fn mark(&mut self, at: usize)
+        requires { at < 64 * length self.old }
+        ensures marked { ChangesMark at 1 self.old self.new }
+        ensures some { 0 < slice_index self.new (at / 64) }
+        ensures kept { KeepsWords (at / 64) self.old self.new }
+    {
+        let word = &mut self.words[at / 64];
+        *word = with_bit(*word, at % 64);
+    }
+
+    /// Says whether the number's word has no mark any more.
+    pub(crate) fn unmark(&mut self, at: usize) -> bool
+        requires { at < 64 * length self.old }
+        ensures unmarked { ChangesMark at 0 self.old self.new }
+        ensures zero { IsTrue result ↔ (slice_index self.new (at / 64) ≡ 0) }
+        ensures fewer { slice_index self.new (at / 64) ≤ slice_index self.old (at / 64) }
+        ensures kept { KeepsWords (at / 64) self.old self.new }
+    {
+        let word = &mut self.words[at / 64];
+        *word = without_bit(*word, at % 64);
+        *word == 0
+    }
+
+    /// The lowest mark from `from` on in its word.
+    pub(crate) fn next_in_word(&self, from: usize) -> Option<usize>
+        ensures some { IfSome result (λ at. IsLowest from at self.now) }
+        ensures none { IfNone result (IsBlank from (64 * (from / 64) + 64) self.now) }
+    {
+        let index = from / 64;
+        let word = *self.words.get(index)?;
+        let bit = lowest_from(word, from % 64)?;
+        Some(64 * index + bit)
+    }
+
+    /// The lowest mark of a word that has one.
+    pub(crate) fn lowest_in(&self, word: usize) -> usize
+        requires { 0 < slice_index self.now word }
+        ensures lowest { IsLowest (64 * word) result self.now }
+    {
+        let bit = self.words[word].trailing_zeros() as usize;
+        64 * word + bit
+    }
+
+    /// The lowest mark from `from` on, with a step for each word.
+    pub(crate) fn next(&self, from: usize) -> Option<usize>
+        ensures some { IfSome result (λ at. IsLowest from at self.now) }
+        ensures none { IfNone result (IsBlankFrom from self.now) }
+    {
+        if let Some(at) = self.next_in_word(from) {
+            return Some(at);
+        }
+        for word in from / 64 + 1..self.words.len() {
+            if self.words[word] != 0 {
+                return Some(self.lowest_in(word));
+            }
+        }
+        None
+    }
+}

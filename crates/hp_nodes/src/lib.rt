@@ -1,0 +1,17 @@
+//! The huge pages of all nodes: pages that can be held, and the rows of numbers that say how many are free.
+#![tactic(auto)]
+
+mod blanks;
+mod frame;
+mod lists;
+mod marks;
+mod node;
+mod page;
+mod search;
+
+pub use blanks::Blanks;
+pub use lists::NodeLists;
+pub use page::Page;
+
+#[cfg(test)]
+mod tests;

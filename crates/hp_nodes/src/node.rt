@@ -1,0 +1,145 @@
+//! One node: its row, and the frames that nobody holds.
+ghost use Rattle.std.specs.Prelude.{◌≡◌, ◌+◌, ◌-◌, ◌<◌, ◌≤◌, IfOk, vec_len};
+ghost use Rattle.hp_model.specs.NodeRows.{has, used, take_row, put_row, grow_row, shrink_row, add_surplus_row, give_back_row, promote_row, demote_row, IsRow};
+
+use crate::frame::Frame;
+use hp_model::naming::Naming;
+use hp_model::node::{Kind, NodeRow};
+use std::alloc::{AllocError, Global};
+use std::marker::Model;
+
+/// A node. The frames that nobody holds, free or idle, lie in one list. Contracts see the row.
+#[derive(Drop)]
+pub struct Node<N: Naming> {
+    row: NodeRow,
+    present: Vec<Frame<N>>,
+}
+
+impl<N: Naming> Model for Node<N> {
+    ghost use Rattle.std.specs.Prelude.{◌≡◌, ◌+◌, ◌≤◌, vec_len, vec_capacity};
+    ghost use Rattle.hp_model.specs.NodeRows.{IsRow};
+    ghost use Rattle.hp_model.specs.declared.node.NodeRow.{NodeRow};
+
+    ghost Value = { NodeRow };
+
+    ghost view = { λ n. n.row };
+
+    ghost invariant = { λ n. IsRow n.row × (vec_len n.present + n.row.total ≡ n.row.frames + n.row.free) × (n.row.frames ≤ vec_capacity n.present) };
+}
+
+impl<N: Naming> Node<N> {
+    /// All frames are idle.
+    pub fn new(alloc: Global, frames: u64, page_bytes: usize) -> Result<Self, AllocError>
+        requires frames { frames ≤ 65536 }
+        requires page_bytes { page_bytes ≡ N.page_bytes }
+        ensures { IfOk result (λ n. n ≡ record { frames = frames; total = 0; free = 0; surp = 0 }) }
+    {
+        let mut present = Vec::with_capacity(alloc, frames as usize)?;
+        for _frame in 0..frames {
+            present.push_reserved(Frame::new(alloc, page_bytes)?);
+        }
+        Ok(Node {
+            row: NodeRow {
+                frames,
+                total: 0,
+                free: 0,
+                surp: 0,
+            },
+            present,
+        })
+    }
+
+    pub fn row(&self) -> NodeRow
+        ensures row { result ≡ self.now }
+        ensures sound { IsRow self.now }
+    {
+        self.row
+    }
+
+    pub fn has(&self, kind: Kind) -> bool
+        ensures { result ≡ has kind self.now }
+    {
+        match kind {
+            Kind::Free => 0 < self.row.free,
+            Kind::Idle => self.row.total < self.row.frames,
+            Kind::Surplus => 0 < self.row.surp,
+            Kind::Persistent => self.row.surp < self.row.total,
+            Kind::FreeSurplus => 0 < self.row.free && 0 < self.row.surp,
+        }
+    }
+
+    pub fn take(&mut self) -> Frame<N>
+        requires { 0 < self.old.free }
+        ensures row { self.new ≡ take_row self.old }
+        ensures sound { IsRow self.new }
+    {
+        self.row.free -= 1;
+        self.present.pop().unwrap()
+    }
+
+    /// Takes no memory: the list was made with room for all frames.
+    pub fn put(&mut self, frame: Frame<N>)
+        requires { 0 < used self.old }
+        ensures row { self.new ≡ put_row self.old }
+        ensures sound { IsRow self.new }
+    {
+        self.row.free += 1;
+        self.present.push_reserved(frame);
+    }
+
+    pub fn grow(&mut self)
+        requires { self.old.total < self.old.frames }
+        ensures row { self.new ≡ grow_row self.old }
+        ensures sound { IsRow self.new }
+    {
+        self.row.total += 1;
+        self.row.free += 1;
+    }
+
+    pub fn shrink(&mut self)
+        requires free { 0 < self.old.free }
+        requires persistent { self.old.surp < self.old.total }
+        ensures row { self.new ≡ shrink_row self.old }
+        ensures sound { IsRow self.new }
+    {
+        self.row.total -= 1;
+        self.row.free -= 1;
+    }
+
+    pub fn add_surplus(&mut self)
+        requires { self.old.total < self.old.frames }
+        ensures row { self.new ≡ add_surplus_row self.old }
+        ensures sound { IsRow self.new }
+    {
+        self.row.total += 1;
+        self.row.free += 1;
+        self.row.surp += 1;
+    }
+
+    pub fn give_back(&mut self)
+        requires free { 0 < self.old.free }
+        requires surplus { 0 < self.old.surp }
+        ensures row { self.new ≡ give_back_row self.old }
+        ensures sound { IsRow self.new }
+    {
+        self.row.total -= 1;
+        self.row.free -= 1;
+        self.row.surp -= 1;
+    }
+
+    pub fn promote(&mut self)
+        requires { 0 < self.old.surp }
+        ensures row { self.new ≡ promote_row self.old }
+        ensures sound { IsRow self.new }
+    {
+        self.row.surp -= 1;
+    }
+
+    pub fn demote(&mut self)
+        requires { self.old.surp < self.old.total }
+        ensures row { self.new ≡ demote_row self.old }
+        ensures sound { IsRow self.new }
+    {
+        self.row.surp += 1;
+    }
+}

@@ -1,0 +1,89 @@
+//! Pages that somebody holds.
+ghost use Rattle.std.specs.Prelude.{◌≡◌, ◌+◌, ◌<◌, ◌≤◌, length};
+ghost use Rattle.hp_nodes.specs.Frame.{rewritten};
+ghost use Rattle.std.specs.Borrow.{Lends, sem, Array, u8 as byte};
+ghost use Rattle.hp_model.specs.Page.{overwritten, zeros};
+
+use crate::frame::Frame;
+use crate::marks::Mark;
+use hp_model::naming::Naming;
+use std::marker::Model;
+
+/// A page of the pool that somebody holds: a frame, and a mark in its node's ledger. Contracts
+/// see its node and its bytes.
+///
+/// It can't be dropped: `NodeLists::put` takes it back, by way of the pool. Its type names the
+/// ledgers, so it can only go back where it came from.
+pub struct Page<N: Naming> {
+    frame: Frame<N>,
+    mark: Mark<N>,
+}
+
+impl<N: Naming> Model for Page<N> {
+    ghost use Rattle.std.specs.Prelude.{◌<◌};
+    ghost use Rattle.hp_model.specs.Page.{Page};
+
+    ghost Value = { Page };
+
+    ghost view = { λ p. record { node = p.mark; bytes = p.frame } };
+
+    ghost invariant = { λ p. p.mark < 4 };
+}
+
+impl<N: Naming> Page<N> {
+    ghost use Rattle.hp_nodes.specs.contracts.page.Page.{the_row};
+
+    pub(crate) fn new(frame: Frame<N>, mark: Mark<N>) -> Self
+        ensures node { result.node ≡ mark }
+    {
+        let _node = mark.node();
+        Page { frame, mark }
+    }
+
+    pub(crate) fn into_parts(self) -> (Frame<N>, Mark<N>)
+        ensures node { result.1 ≡ self.node }
+    {
+        let Page { frame, mark } = self;
+        (frame, mark)
+    }
+
+    /// The node that the page goes back to.
+    pub fn node(&self) -> usize
+        ensures node { result ≡ self.now.node }
+        ensures below { result < 4 }
+    {
+        self.mark.node()
+    }
+
+    /// The bytes, as many as the machine's pages have.
+    pub fn bytes(&self) -> &[u8]
+        ensures bytes { result.now ≡ self.now.bytes }
+        ensures length { length result.now ≡ N.page_bytes }
+    {
+        self.frame.bytes()
+    }
+
+    /// The bytes, for writing. The page stays of its node.
+    pub fn bytes_mut(&mut self) -> &mut [u8]
+        ensures bytes { result.now ≡ self.old.bytes }
+        ensures length { length result.now ≡ N.page_bytes }
+        ensures* writes_back { sem 𝓛 (Lends (the_row N.row N.Naming) (Array byte 0) self.entry result (λ w. record self.old { bytes = rewritten self.old.bytes w })) }
+    {
+        self.frame.bytes_mut()
+    }
+
+    /// Writes over the bytes from an offset on.
+    pub fn write(&mut self, offset: usize, bytes: &[u8])
+        requires { offset + length bytes.now ≤ N.page_bytes }
+        ensures { self.new ≡ overwritten offset bytes.now self.old }
+    {
+        self.frame.write(offset, bytes);
+    }
+
+    /// Zeros in place of what the last holder wrote. A page that was taken has its last holder's bytes.
+    pub fn zero(&mut self)
+        ensures { self.new ≡ record self.old { bytes = zeros N.page_bytes } }
+    {
+        self.frame.zero();
+    }
+}

@@ -1,0 +1,14 @@
+use Rattle.std.proofs.Common.{◌≡◌, ◌+◌, ◌<◌, ◌≤◌}
+use Rattle.hp_model.specs.NodeRows.{sum_row}
+use Rattle.hp_model.specs.Resize.{lower_times}
+use Rattle.hp_pool.proofs.moves.lower.Given as goal
+
+abbrev pub invariant-loop-done : goal.invariant-loop-done
+invariant-loop-done g l = record {
+  moved : l.lists ≡ lower_times l.reserved l._done l.initial.lists;
+  frames : (sum_row l.lists.rows).frames ≡ (sum_row l.initial.lists.rows).frames;
+  settled : l.reserved < (sum_row l.lists.rows).free → (sum_row l.lists.rows).surp ≡ 0;
+  backed : l.reserved ≤ (sum_row l.lists.rows).free;
+  total : (sum_row l.lists.rows).total + (sum_row l.initial.lists.rows).surp + l._done ≡ (sum_row l.initial.lists.rows).total + (sum_row l.lists.rows).surp;
+  free : (sum_row l.lists.rows).free + (sum_row l.initial.lists.rows).total ≡ (sum_row l.initial.lists.rows).free + (sum_row l.lists.rows).total;
+}

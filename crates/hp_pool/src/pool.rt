@@ -1,0 +1,275 @@
+//! The pool.
+ghost use Rattle.std.specs.Prelude.{◌≡◌, ◌+◌, ◌-◌, ◌<◌, ◌≤◌, length, map, All, IsTrue, IfOk, IfErr, IsOk, ◌↔◌};
+ghost use Rattle.hp_model.specs.NodeRows.{row_at, idle_row, frames_of, total_of, free_of, surp_of};
+ghost use Rattle.hp_model.specs.Grant.{can_grant, granted};
+ghost use Rattle.hp_model.specs.Pool.{take_node, page_taken, page_put, page_kept, released, settled};
+ghost use Rattle.hp_model.specs.PoolCounts.{IsSettled, counts_of, rsvd};
+ghost use Rattle.hp_model.specs.Resize.{set_nr, node_count};
+
+use crate::blanks::Blanks;
+use crate::moves;
+use hp_model::answer::{Counts, NodeCount};
+use hp_model::naming::Naming;
+use hp_model::refusal::Refusal;
+use hp_nodes::{NodeLists, Page};
+use hp_permit::{Book, Permit};
+use std::alloc::{AllocError, Global};
+use std::marker::Model;
+
+/// The pool of huge pages (`admin-guide/mm/hugetlbpage.rst`). All numbers are pages.
+///
+/// Contracts see the two numbers that are set (nr and overcommit), what is committed (pages in use
+/// and pages promised), and the nodes. The pool is settled where the surplus is what the
+/// commitments are above nr: then no surplus page is unneeded, and the counts follow from these
+/// numbers (profile). `put` and `release` may leave it unsettled, until `settle`.
+///
+/// By the invariants of this type, of `Book` and of `NodeLists`, whenever nobody works on the pool
+/// (its lock is free), what is promised is the sum of all permits that are out, and the pages in use
+/// are the pages that are out, whoever holds them; and there are at least as many free pages as are
+/// promised. So whoever holds a permit of 1 gets a page from `take`, whatever others do.
+///
+/// No call but `new` takes memory. It can't be dropped: `close` ends it.
+pub struct Pool<N: Naming> {
+    nr: u64,
+    overcommit: u64,
+    book: Book<N>,
+    lists: NodeLists<N>,
+}
+
+impl<N: Naming> Model for Pool<N> {
+    ghost use Rattle.std.specs.Prelude.{◌+◌};
+    ghost use Rattle.hp_model.specs.NodeRows.{sum_row};
+    ghost use Rattle.hp_model.specs.Pool.{IsPool};
+    ghost use Rattle.hp_model.specs.PoolCounts.{Pool, used_of};
+
+    ghost Value = { Pool };
+
+    ghost view = { λ p. record { nr = p.nr; overcommit = p.overcommit; committed = p.book + used_of p.lists.rows; nodes = p.lists } };
+
+    ghost invariant = { λ p. IsPool p.nr p.overcommit p.book (sum_row p.lists.rows) };
+}
+
+impl<N: Naming> Pool<N> {
+    /// A pool over 1 to 4 nodes with so many frames each, of `page_bytes` bytes; no frame is in the
+    /// pool yet, and nr and overcommit are 0.
+    ///
+    /// Takes all the memory that the pool and its pages will ever need. Where some is refused, the
+    /// rest is given back before the error is answered.
+    #[tactic(auto, using(hp_model::proofs::Sums::idle_total, hp_model::proofs::Sums::idle_surp))]
+    pub fn new(
+        alloc: Global,
+        frames: &[u64],
+        page_bytes: usize,
+        blanks: Blanks,
+    ) -> Result<Self, AllocError>
+        requires some { 0 < length frames.now }
+        requires few { length frames.now ≤ 4 }
+        requires small { All (λ f. f ≤ 65536) frames.now }
+        requires page_bytes { page_bytes ≡ N.page_bytes }
+        requires permits { (blanks.permits.name ≡ N.permits) × (blanks.permits.parts ≡ 18446744073709551615) }
+        requires zero { (blanks.pages.zero.name ≡ N.pages_0) × (blanks.pages.zero.parts ≡ 18446744073709551615) }
+        requires one { (blanks.pages.one.name ≡ N.pages_1) × (blanks.pages.one.parts ≡ 18446744073709551615) }
+        requires two { (blanks.pages.two.name ≡ N.pages_2) × (blanks.pages.two.parts ≡ 18446744073709551615) }
+        requires three { (blanks.pages.three.name ≡ N.pages_3) × (blanks.pages.three.parts ≡ 18446744073709551615) }
+        ensures { IfOk result (λ p. p ≡ record { nr = 0; overcommit = 0; committed = 0; nodes = record { rows = map idle_row frames.now; growth = 0; release = 0 } }) }
+    {
+        let Blanks { permits, pages } = blanks;
+        let lists = NodeLists::new(alloc, frames, page_bytes, pages)?;
+        Ok(Pool {
+            nr: 0,
+            overcommit: 0,
+            book: Book::new(permits),
+            lists,
+        })
+    }
+
+    /// A permit of no page, to which others can be joined.
+    pub fn nothing(&mut self) -> Permit<N>
+        ensures same { self.new ≡ self.old }
+        ensures none { result ≡ 0 }
+    {
+        let _sums = self.lists.sums();
+        self.book.issue(0)
+    }
+
+    /// Commits k pages more. Surplus pages are made, near the home node, for what no page is free for.
+    ///
+    /// Refused as NoPages where more than nr and overcommit together, or more than all frames, would
+    /// be committed. Nothing is always granted, and changes nothing.
+    pub fn reserve(&mut self, home: usize, k: u64) -> Result<Permit<N>, Refusal>
+        requires { IsSettled self.old }
+        ensures granted { IsOk result ↔ IsTrue (can_grant k self.old) }
+        ensures ok { IfOk result (λ permit. (permit ≡ k) × (self.new ≡ granted home k self.old)) }
+        ensures err { IfErr result (λ e. (e ≡ Refusal.NoPages) × (self.new ≡ self.old)) }
+        ensures nothing { k ≡ 0 → self.new ≡ self.old }
+        ensures settled { IsSettled self.new }
+    {
+        let sums = self.lists.sums();
+        let committed = self.book.outstanding() + (sums.total - sums.free);
+        let most = (self.nr + self.overcommit).min(sums.frames);
+        if k != 0 && (most < committed || most - committed < k) {
+            return Err(Refusal::NoPages);
+        }
+        let needed = committed + k;
+        if sums.total < needed {
+            moves::add_surplus(&mut self.lists, home, needed - sums.total);
+        }
+        Ok(self.book.issue(k))
+    }
+
+    /// Takes a page by a permit of 1: of the home node where it has a free page, else of the lowest
+    /// node that has. Never refused. The page has the bytes that its last holder left.
+    #[tactic(auto, using(hp_model::proofs::Sums::some_free))]
+    pub fn take(&mut self, home: usize, permit: Permit<N>) -> Page<N>
+        requires { permit ≡ 1 }
+        ensures moved { self.new ≡ page_taken home self.old }
+        ensures node { result.node ≡ take_node home self.old }
+        ensures free { 0 < (row_at self.old.nodes.rows result.node).free }
+        ensures settled { IsSettled self.old → IsSettled self.new }
+    {
+        self.book.retire(permit);
+        self.lists.take(home)
+    }
+
+    /// Puts a page back at its node, and commits one page less. Never refused.
+    pub fn put(&mut self, page: Page<N>)
+        ensures { self.new ≡ page_put page.node self.old }
+    {
+        self.lists.put(page);
+    }
+
+    /// Puts a page back at its node, and keeps a page promised. Never refused.
+    pub fn put_keep(&mut self, page: Page<N>) -> Permit<N>
+        ensures moved { self.new ≡ page_kept page.node self.old }
+        ensures one { result ≡ 1 }
+        ensures settled { IsSettled self.old → IsSettled self.new }
+    {
+        self.lists.put(page);
+        self.book.issue(1)
+    }
+
+    /// Commits so many pages less as the permit promises.
+    pub fn release(&mut self, permit: Permit<N>)
+        ensures { self.new ≡ released permit self.old }
+    {
+        self.book.retire(permit);
+    }
+
+    /// Gives the unneeded surplus pages back, so that they leave the pool
+    /// (`admin-guide/mm/hugetlbpage.rst`).
+    pub fn settle(&mut self)
+        ensures moved { self.new ≡ settled self.old }
+        ensures settled { IsSettled self.new }
+    {
+        let sums = self.lists.sums();
+        let spare = (sums.free - self.book.outstanding()).min(sums.surp);
+        moves::give_back(&mut self.lists, spare);
+    }
+
+    /// Sets nr to n, or to the number of frames where n is more, whatever is in use, and answers it.
+    ///
+    /// Raising promotes surplus pages first and then takes frames in; lowering gives free pages back
+    /// that nobody is promised, and makes the other pages surplus
+    /// (`admin-guide/mm/hugetlbpage.rst`).
+    pub fn set_nr(&mut self, n: u64) -> u64
+        requires { IsSettled self.old }
+        ensures moved { self.new ≡ set_nr n self.old }
+        ensures value { result ≡ self.new.nr }
+        ensures settled { IsSettled self.new }
+    {
+        let sums = self.lists.sums();
+        let target = n.min(sums.frames);
+        let reserved = self.book.outstanding();
+        moves::raise(&mut self.lists, target.saturating_sub(self.nr));
+        moves::lower(&mut self.lists, reserved, self.nr.saturating_sub(target));
+        self.nr = target;
+        target
+    }
+
+    /// Sets how many surplus pages may be made. It changes no page.
+    pub fn set_overcommit(&mut self, n: u64)
+        requires within { n ≤ 4294967295 }
+        requires settled { IsSettled self.old }
+        ensures moved { self.new ≡ record self.old { overcommit = n } }
+        ensures settled { IsSettled self.new }
+    {
+        self.overcommit = n;
+    }
+
+    /// The pool's numbers, which follow from what is set, committed and in use, and are the sums over
+    /// the nodes.
+    pub fn counts(&self) -> Counts
+        requires { IsSettled self.now }
+        ensures counts { result ≡ counts_of self.now }
+        ensures total { result.total ≡ total_of self.now.nodes.rows }
+        ensures free { result.free ≡ free_of self.now.nodes.rows }
+        ensures surp { result.surp ≡ surp_of self.now.nodes.rows }
+        ensures backed { result.rsvd ≤ result.free }
+    {
+        let sums = self.lists.sums();
+        Counts {
+            total: sums.total,
+            free: sums.free,
+            rsvd: self.book.outstanding(),
+            surp: sums.surp,
+            nr: self.nr,
+            overcommit: self.overcommit,
+        }
+    }
+
+    /// Shows that a permit's amount is promised. It changes nothing.
+    pub fn check(&mut self, permit: &mut Permit<N>)
+        ensures pool { self.new ≡ self.old }
+        ensures permit { permit.new ≡ permit.old }
+        ensures promised { permit.old ≤ rsvd self.old }
+    {
+        self.book.check(permit);
+    }
+
+    /// One node's pages: all, those that are free, and the surplus.
+    pub fn node(&self, node: usize) -> NodeCount
+        requires { node < length self.now.nodes.rows }
+        ensures { result ≡ node_count (row_at self.now.nodes.rows node) }
+    {
+        self.lists.count(node)
+    }
+
+    /// How many pages are persistent, apart from those that became surplus.
+    pub fn nr(&self) -> u64
+        ensures { result ≡ self.now.nr }
+    {
+        self.nr
+    }
+
+    /// The frames of all nodes. nr is never more.
+    pub fn frames(&self) -> u64
+        ensures frames { result ≡ frames_of self.now.nodes.rows }
+        ensures within { self.now.nr ≤ result }
+    {
+        self.lists.sums().frames
+    }
+
+    /// How many nodes there are.
+    pub fn len(&self) -> usize
+        ensures { result ≡ length self.now.nodes.rows }
+    {
+        self.lists.len()
+    }
+
+    /// Ends the pool, and gives its memory back. A page or a permit that is still out can't come back.
+    pub fn close(self) -> Counts
+        requires { IsSettled self }
+        ensures { result ≡ counts_of self }
+    {
+        let counts = self.counts();
+        let Pool {
+            nr: _,
+            overcommit: _,
+            book,
+            lists,
+        } = self;
+        book.close();
+        lists.close();
+        counts
+    }
+}

@@ -1,0 +1,4 @@
+mod Apart
+mod Counts
+mod Members
+mod Places

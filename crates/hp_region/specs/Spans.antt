@@ -1,0 +1,58 @@
+-- The intervals of a region list, each from its start up to its end, in rising order, none touching the next.
+--     IsApart low xs      they are so, and begin at low or later
+--     holds xs q      q is in one of them
+--     indices_of xs      the set of what they hold
+--     added a b xs, removed a b xs      the intervals with the indices from a up to b, and without them
+--     covered a b xs      how many of these they hold
+use Rattle.std.specs.Prelude.{ℕ, ◌+◌, ◌-◌, ◌<◌, ◌≤◌, min, max, Bool, false, ◌||◌, List, [], ◌∷◌, ◌++◌, if◌then◌else◌, nat_lt}
+use Rattle.std.specs.Ordering.{nat_cmp}
+use Rattle.std.specs.FinSet as set
+use Rattle.hp_model.specs.Ranges.{within}
+use Rattle.hp_region.specs.declared.spans.Span.{Span}
+use Rattle.hp_region.specs.Region.{range_set}
+
+abbrev pub holds : List Span → ℕ → Bool
+holds [] q = false
+holds (s ∷ ss) q = within s.start s.end q || holds ss q
+
+abbrev pub IsApart : ℕ → List Span → Type 0
+IsApart low [] = Unit {0}
+IsApart low (s ∷ ss) = (low ≤ s.start) × (s.start < s.end) × IsApart (s.end + 1) ss
+
+abbrev pub indices_of : List Span → set.FinSet nat_cmp
+indices_of [] = set.empty
+indices_of (s ∷ ss) = set.union (range_set s.start s.end) (indices_of ss)
+
+abbrev pub added : ℕ → ℕ → List Span → List Span
+added a b [] = record { start = a; end = b } ∷ []
+added a b (s ∷ ss) =
+    if nat_lt s.end a then s ∷ added a b ss
+    else if nat_lt b s.start then record { start = a; end = b } ∷ s ∷ ss
+    else added (min a s.start) (max b s.end) ss
+
+-- what is left of an interval below a, and from b on
+abbrev pub left_piece : ℕ → Span → List Span
+left_piece a s = if nat_lt s.start a then record { start = s.start; end = min a s.end } ∷ [] else []
+
+abbrev pub right_piece : ℕ → Span → List Span
+right_piece b s = if nat_lt b s.end then record { start = max b s.start; end = s.end } ∷ [] else []
+
+abbrev pub removed : ℕ → ℕ → List Span → List Span
+removed a b [] = []
+removed a b (s ∷ ss) = left_piece a s ++ (right_piece b s ++ removed a b ss)
+
+abbrev pub overlap : ℕ → ℕ → Span → ℕ
+overlap a b s = min b s.end - max a s.start
+
+abbrev pub covered : ℕ → ℕ → List Span → ℕ
+covered a b [] = 0
+covered a b (s ∷ ss) = overlap a b s + covered a b ss
+
+-- what is left of the first interval below a, and of all from b on, where the first goes on past b
+abbrev pub left_of : ℕ → List Span → List Span
+left_of a [] = []
+left_of a (s ∷ ss) = left_piece a s
+
+abbrev pub right_of : ℕ → List Span → List Span
+right_of b [] = []
+right_of b (s ∷ ss) = record { start = max b s.start; end = s.end } ∷ ss

@@ -1,0 +1,144 @@
+//! The store.
+ghost use Rattle.std.specs.Prelude.{◌≡◌, ℕ, ◌+◌, ◌-◌, ◌<◌, ◌≤◌, ◌^◌, ◌↔◌, [], ◌∷◌, ◌++◌, length, replicate, max, None, IsSome, OnOk, OnErr, option_to_list};
+ghost use Rattle.hp_store.specs.Store.{Store, page_at, holders_of, bytes_of, inserted, shared, dropped, overwritten};
+
+use crate::slots::Slots;
+use hp_model::naming::Naming;
+use hp_model::page_no::PageNo;
+use hp_nodes::Page;
+use std::alloc::{AllocError, Global};
+use std::marker::Model;
+
+#[cfg(test)]
+mod tests;
+
+/// Pages in use, each under a number. It has to be closed, and is empty by then.
+pub struct PageStore<N: Naming> {
+    slots: Slots<N>,
+    going: Vec<Page<N>>,
+    room: usize,
+}
+
+impl<N: Naming> Model for PageStore<N> {
+    ghost use Rattle.std.specs.Prelude.{vec_len, vec_capacity};
+    ghost use Rattle.hp_store.specs.Store.{Store};
+    ghost use Rattle.hp_store.specs.Kept.{HasRoom};
+
+    ghost Value = { Store };
+
+    ghost view = { λ s. record { pages = s.slots; going = s.going.items; room = s.room } };
+
+    ghost invariant = { λ s. HasRoom s.slots (vec_len s.going) (vec_capacity s.going) s.room };
+}
+
+impl<N: Naming> PageStore<N> {
+    /// Takes no memory.
+    pub fn new(alloc: Global) -> Self
+        ensures { result ≡ record { pages = []; going = []; room = 0 } }
+    {
+        PageStore {
+            slots: Slots::new(alloc),
+            going: Vec::new(alloc),
+            room: 0,
+        }
+    }
+
+    /// Room for `count` pages to be put in, and to go later, with no memory. Refused where memory is, and past
+    /// 2^32 numbers.
+    pub fn make_room(&mut self, count: usize) -> Result<(), AllocError>
+        ensures ok { OnOk result (self.new ≡ record self.old { pages = self.new.pages; room = max self.old.room count }) }
+        ensures pages { OnOk result (self.new.pages ≡ self.old.pages ++ replicate (length self.new.pages - length self.old.pages) None) }
+        ensures same { (n : ℕ) → page_at self.new n ≡ page_at self.old n }
+        ensures err { OnErr result (self.new ≡ self.old) }
+    {
+        if count <= self.room {
+            return Ok(());
+        }
+        let most = self.slots.held().saturating_add(count);
+        self.going.reserve(most)?;
+        self.slots.reserve(count)?;
+        self.room = count;
+        Ok(())
+    }
+
+    /// Puts a page in under a number that was free.
+    pub fn insert(&mut self, page: Page<N>) -> PageNo
+        requires { 0 < self.old.room }
+        ensures fresh { page_at self.old result ≡ None }
+        ensures within { result < length self.old.pages }
+        ensures inserted { self.new ≡ inserted result page self.old }
+    {
+        let number = self.slots.insert(page);
+        self.room -= 1;
+        number
+    }
+
+    /// One holder more.
+    pub fn share(&mut self, number: PageNo)
+        requires held { IsSome (page_at self.old number) }
+        requires few { holders_of (page_at self.old number) + 1 < 2 ^ 64 }
+        ensures { self.new ≡ shared number self.old }
+    {
+        self.slots.share(number);
+    }
+
+    /// One holder less. The page of the last one goes.
+    pub fn drop_one(&mut self, number: PageNo)
+        requires { IsSome (page_at self.old number) }
+        ensures { self.new ≡ dropped number self.old }
+    {
+        if self.slots.holders(number) == 1 {
+            let page = self.slots.remove(number);
+            self.going.push_reserved(page);
+        } else {
+            self.slots.drop_one(number);
+        }
+    }
+
+    /// How many hold a number: 0 where it is free.
+    pub fn holders(&self, number: PageNo) -> u64
+        ensures { result ≡ holders_of (page_at self.now number) }
+    {
+        self.slots.holders(number)
+    }
+
+    pub fn bytes(&self, number: PageNo) -> &[u8]
+        requires { IsSome (page_at self.now number) }
+        ensures bytes { result.now ≡ bytes_of (page_at self.now number) }
+        ensures length { length result.now ≡ N.page_bytes }
+    {
+        self.slots.bytes(number)
+    }
+
+    /// Writes over some of the bytes of a page with one holder.
+    pub fn write(&mut self, number: PageNo, offset: usize, bytes: &[u8])
+        requires alone { holders_of (page_at self.old number) ≡ 1 }
+        requires fits { offset + length bytes.now ≤ N.page_bytes }
+        ensures { self.new ≡ overwritten number offset bytes.now self.old }
+    {
+        self.slots.write(number, offset, bytes);
+    }
+
+    /// The next page of those that go, to be put back.
+    pub fn next_going(&mut self) -> Option<Page<N>>
+        ensures some { IsSome result ↔ (0 < length self.old.going) }
+        ensures going { self.old.going ≡ self.new.going ++ option_to_list result }
+        ensures rest { self.new ≡ record self.old { going = self.new.going } }
+    {
+        self.going.pop()
+    }
+
+    /// Ends an empty store.
+    pub fn close(self)
+        requires pages { (n : ℕ) → page_at self n ≡ None }
+        requires going { self.going ≡ [] }
+    {
+        let PageStore {
+            slots,
+            going,
+            room: _,
+        } = self;
+        slots.close();
+        going.destroy_empty();
+    }
+}

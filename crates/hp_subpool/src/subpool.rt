@@ -1,0 +1,175 @@
+//! The subpool.
+ghost use Rattle.std.specs.Prelude.{◌≡◌, ◌+◌, ◌-◌, ◌<◌, ◌≤◌, ◌^◌, ◌&&◌, not, IsTrue, IfOk, IfErr, IsOk, OnOk, OnErr, Err, ◌↔◌};
+ghost use Rattle.hp_model.specs.Grant.{can_grant, granted, is_over};
+ghost use Rattle.hp_model.specs.Pool.{take_node, page_taken, page_kept, released};
+ghost use Rattle.hp_model.specs.PoolCounts.{IsSettled};
+ghost use Rattle.hp_subpool.specs.Subpool.{used, own_reserve, committed_of, rise, fall, is_full};
+
+use hp_model::naming::Naming;
+use hp_model::refusal::Refusal;
+use hp_nodes::Page;
+use hp_permit::Permit;
+use hp_pool::Pool;
+use std::marker::Model;
+
+/// What one mount may use of the pool, and what it has of it (`mm/hugetlbfs_reserv.rst`). All numbers are pages.
+///
+/// It holds two permits: one for its minimum, of what the minimum is above the pages in use and
+/// the reservations, and one for the reservations of its files and maps. So a held reservation
+/// always gets a page, and the minimum stays committed. It can't be dropped: `close` ends it.
+pub struct Subpool<N: Naming> {
+    max: Option<u64>,
+    min: u64,
+    pages: u64,
+    own: Permit<N>,
+    held: Permit<N>,
+}
+
+impl<N: Naming> Model for Subpool<N> {
+    ghost use Rattle.std.specs.Prelude.{◌≡◌, ◌+◌, ◌-◌, ◌<◌, ◌^◌};
+    ghost use Rattle.hp_subpool.specs.Subpool.{Subpool};
+
+    ghost Value = { Subpool };
+
+    ghost view = { λ s. record { max = s.max; min = s.min; pages = s.pages; held = s.held } };
+
+    ghost invariant = { λ s. (s.own ≡ s.min - (s.pages + s.held)) × (s.pages + s.held < 2 ^ 64) };
+}
+
+impl<N: Naming> Subpool<N> {
+    /// A subpool with nothing in use, whose minimum is committed in the pool, at home node 0.
+    /// `max` is the most pages, where there is a limit.
+    ///
+    /// Refused as NoPages where the pool can't commit the minimum.
+    pub fn open(pool: &mut Pool<N>, max: Option<u64>, min: u64) -> Result<Self, Refusal>
+        requires { IsSettled pool.old }
+        ensures granted { IsOk result ↔ IsTrue (can_grant min pool.old) }
+        ensures ok { IfOk result (λ s. (s ≡ record { max = max; min = min; pages = 0; held = 0 }) × (pool.new ≡ granted 0 min pool.old)) }
+        ensures err { IfErr result (λ e. (e ≡ Refusal.NoPages) × (pool.new ≡ pool.old)) }
+        ensures settled { IsSettled pool.new }
+    {
+        let mut own = pool.reserve(0, min)?;
+        let held = own.split(0);
+        Ok(Subpool {
+            max,
+            min,
+            pages: 0,
+            own,
+            held,
+        })
+    }
+
+    /// Reserves k pages more, out of what is kept for the minimum first (`mm/hugetlbfs_reserv.rst`).
+    ///
+    /// Refused as MountFull where they are past the limit, and else as NoPages where the pool
+    /// can't commit the rest. Nothing more is always granted (profile).
+    pub fn get(&mut self, pool: &mut Pool<N>, home: usize, k: u64) -> Result<(), Refusal>
+        requires settled { IsSettled pool.old }
+        requires fits { used self.old + k < 2 ^ 64 }
+        ensures granted { IsOk result ↔ IsTrue (not (is_full self.old k) && can_grant (rise self.old k) pool.old) }
+        ensures full { (result ≡ Err Refusal.MountFull) ↔ IsTrue (is_full self.old k) }
+        ensures no_pages { (result ≡ Err Refusal.NoPages) ↔ IsTrue (not (is_full self.old k) && not (can_grant (rise self.old k) pool.old)) }
+
+        ensures ok { OnOk result ((self.new ≡ record self.old { held = self.old.held + k }) × (pool.new ≡ granted home (rise self.old k) pool.old)) }
+        ensures err { OnErr result ((self.new ≡ self.old) × (pool.new ≡ pool.old)) }
+        ensures nothing { rise self.old k ≡ 0 → pool.new ≡ pool.old }
+        ensures settled { IsSettled pool.new }
+    {
+        let used = self.used();
+        if k > 0 && self.is_past(used + k) {
+            return Err(Refusal::MountFull);
+        }
+        let own = k.min(self.own.amount());
+        let new = pool.reserve(home, k - own)?;
+        self.held.join(new);
+        let kept = self.own.split(own);
+        self.held.join(kept);
+        Ok(())
+    }
+
+    // Whether so many pages are more than the limit.
+    fn is_past(&self, pages: u64) -> bool
+        ensures { result ≡ is_over self.now.max pages }
+    {
+        match self.max {
+            None => false,
+            Some(max) => max < pages,
+        }
+    }
+
+    /// Takes the page of a reservation that is held: of the home node where it has a free page,
+    /// else of the lowest node that has. Never refused.
+    pub fn take_one(&mut self, pool: &mut Pool<N>, home: usize) -> Page<N>
+        requires { 0 < self.old.held }
+        ensures sub { self.new ≡ record self.old { held = self.old.held - 1; pages = self.old.pages + 1 } }
+        ensures pool { pool.new ≡ page_taken home pool.old }
+        ensures node { result.node ≡ take_node home pool.old }
+        ensures settled { IsSettled pool.old → IsSettled pool.new }
+    {
+        self.pages += 1;
+        let permit = self.held.split(1);
+        pool.take(home, permit)
+    }
+
+    /// Puts a page back at its node. What the minimum asks for stays promised.
+    /// The pool may then have surplus pages that it doesn't need, until it is settled.
+    pub fn put_page(&mut self, pool: &mut Pool<N>, page: Page<N>)
+        requires { 0 < self.old.pages }
+        ensures sub { self.new ≡ record self.old { pages = self.old.pages - 1 } }
+        ensures pool { pool.new ≡ released (fall self.old 1) (page_kept page.node pool.old) }
+    {
+        let used = self.used();
+        self.pages -= 1;
+        if used <= self.min {
+            let permit = pool.put_keep(page);
+            self.own.join(permit);
+        } else {
+            pool.put(page);
+        }
+    }
+
+    /// Gives k reservations back. What the minimum asks for stays promised.
+    /// The pool may then have surplus pages that it doesn't need, until it is settled.
+    pub fn put_reserves(&mut self, pool: &mut Pool<N>, k: u64)
+        requires { k ≤ self.old.held }
+        ensures sub { self.new ≡ record self.old { held = self.old.held - k } }
+        ensures pool { pool.new ≡ released (fall self.old k) pool.old }
+    {
+        let own = self.min.saturating_sub(self.used() - k);
+        let mut part = self.held.split(k);
+        let kept = part.split(own - self.own.amount());
+        self.own.join(kept);
+        pool.release(part);
+    }
+
+    /// The pages in use and the reservations.
+    pub fn used(&self) -> u64
+        ensures { result ≡ used self.now }
+    {
+        self.pages + self.held.amount()
+    }
+
+    /// What is kept for the minimum alone.
+    pub fn own_reserve(&self) -> u64
+        ensures reserve { result ≡ own_reserve self.now }
+        ensures committed { used self.now + result ≡ committed_of self.now }
+    {
+        self.own.amount()
+    }
+
+    /// Ends the subpool, and its minimum with it.
+    pub fn close(self, pool: &mut Pool<N>)
+        requires { used self ≡ 0 }
+        ensures { pool.new ≡ released self.min pool.old }
+    {
+        let Subpool {
+            max: _,
+            min: _,
+            pages: _,
+            mut own,
+            held,
+        } = self;
+        own.join(held);
+        pool.release(own);
+    }
+}

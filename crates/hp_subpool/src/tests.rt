@@ -1,0 +1,111 @@
+//! A mount with a limit of three pages and a minimum of two, on a pool of four.
+ghost use Rattle.std.specs.Prelude.{◌≡◌};
+ghost use Rattle.hp_model.specs.PoolCounts.{IsSettled};
+
+use crate::Subpool;
+use hp_model::naming::Naming;
+use hp_model::refusal::Refusal;
+use hp_pool::{Blanks, Pool};
+use std::alloc::Global;
+use std::marker::Brand;
+use std::process::Abort;
+use std::sync::ledger::Blank;
+
+fn blanks() -> Blanks
+    ensures permits { result.permits.parts ≡ 18446744073709551615 }
+    ensures zero { result.pages.zero.parts ≡ 18446744073709551615 }
+    ensures one { result.pages.one.parts ≡ 18446744073709551615 }
+    ensures two { result.pages.two.parts ≡ 18446744073709551615 }
+    ensures three { result.pages.three.parts ≡ 18446744073709551615 }
+{
+    Blanks {
+        permits: Blank::new(u64::MAX),
+        pages: hp_nodes::Blanks {
+            zero: Blank::new(u64::MAX),
+            one: Blank::new(u64::MAX),
+            two: Blank::new(u64::MAX),
+            three: Blank::new(u64::MAX),
+        },
+    }
+}
+
+// Total, Free, Rsvd and Surp.
+fn shows<N: Naming, R: Abort>(rt: &R, pool: &Pool<N>, counts: [u64; 4])
+    requires { IsSettled pool.now }
+{
+    let now = pool.counts();
+    assert_eq!(rt; [now.total, now.free, now.rsvd, now.surp], counts);
+}
+
+// The minimum is filled again when the pages go.
+fn fills_the_minimum_again<N: Naming, R: Abort>(rt: &R, pool: &mut Pool<N>)
+    requires { IsSettled pool.old }
+    ensures { IsSettled pool.new }
+{
+    let mut sub = Subpool::open(pool, Some(3), 2).expect(rt, "fits");
+    shows(rt, pool, [4, 4, 2, 0]);
+    assert_eq!(rt; sub.get(pool, 0, 3), Ok(()));
+    shows(rt, pool, [4, 4, 3, 0]);
+    assert_eq!(rt; sub.get(pool, 1, 1), Err(Refusal::MountFull));
+    assert_eq!(rt; sub.get(pool, 1, 0), Ok(()));
+    assert_eq!(rt; sub.used(), 3);
+    assert_eq!(rt; sub.own_reserve(), 0);
+    let first = sub.take_one(pool, 0);
+    let second = sub.take_one(pool, 0);
+    let third = sub.take_one(pool, 0);
+    shows(rt, pool, [4, 1, 0, 0]);
+    sub.put_page(pool, first);
+    sub.put_page(pool, second);
+    sub.put_page(pool, third);
+    pool.settle();
+    shows(rt, pool, [4, 4, 2, 0]);
+    assert_eq!(rt; sub.own_reserve(), 2);
+    assert_eq!(rt; sub.used(), 0);
+    sub.close(pool);
+    pool.settle();
+    shows(rt, pool, [4, 4, 0, 0]);
+}
+
+// A reservation out of the minimum asks nothing of the pool, and the limit comes before the pool.
+fn asks_the_minimum_first<N: Naming, R: Abort>(rt: &R, pool: &mut Pool<N>)
+    requires { IsSettled pool.old }
+    ensures { IsSettled pool.new }
+{
+    match Subpool::open(pool, None, 5) {
+        Ok(sub) => sub.close(pool),
+        Err(refusal) => assert_eq!(rt; refusal, Refusal::NoPages),
+    }
+    pool.settle();
+    shows(rt, pool, [4, 4, 0, 0]);
+    let mut sub = Subpool::open(pool, None, 4).expect(rt, "fits");
+    shows(rt, pool, [4, 4, 4, 0]);
+    assert_eq!(rt; sub.get(pool, 1, 4), Ok(()));
+    shows(rt, pool, [4, 4, 4, 0]);
+    assert_eq!(rt; sub.get(pool, 1, 1), Err(Refusal::NoPages));
+    sub.put_reserves(pool, 4);
+    pool.settle();
+    shows(rt, pool, [4, 4, 4, 0]);
+    sub.close(pool);
+    pool.settle();
+    shows(rt, pool, [4, 4, 0, 0]);
+}
+
+fn run<N: Naming, R: Abort>(rt: &R, alloc: Global, blanks: Blanks)
+    requires permits { (blanks.permits.name ≡ N.permits) × (blanks.permits.parts ≡ 18446744073709551615) }
+    requires zero { (blanks.pages.zero.name ≡ N.pages_0) × (blanks.pages.zero.parts ≡ 18446744073709551615) }
+    requires one { (blanks.pages.one.name ≡ N.pages_1) × (blanks.pages.one.parts ≡ 18446744073709551615) }
+    requires two { (blanks.pages.two.name ≡ N.pages_2) × (blanks.pages.two.parts ≡ 18446744073709551615) }
+    requires three { (blanks.pages.three.name ≡ N.pages_3) × (blanks.pages.three.parts ≡ 18446744073709551615) }
+    requires bytes { N.page_bytes ≡ 1024 }
+{
+    let mut pool = Pool::<N>::new(alloc, &[4, 4], 1024, blanks).expect(rt, "memory");
+    pool.set_nr(4);
+    fills_the_minimum_again(rt, &mut pool);
+    asks_the_minimum_first(rt, &mut pool);
+    pool.close();
+}
+
+#[test]
+fn minimum_and_limit(rt: HostRuntime) {
+    run::<Brand, HostRuntime>(&rt, rt.alloc(), blanks());
+}
