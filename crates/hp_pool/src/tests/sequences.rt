@@ -128,3 +128,27 @@ fn sequences(rt: HostRuntime) {
         run::<Brand, HostRuntime>(&rt, rt.alloc(), blanks(), number);
     }
 }
+
+// Whether the memory is there.
+fn opens<N: Naming>(alloc: Global, blanks: Blanks) -> bool
+    requires permits { (blanks.permits.name ≡ N.permits) × (blanks.permits.parts ≡ 18446744073709551615) }
+    requires zero { (blanks.pages.zero.name ≡ N.pages_0) × (blanks.pages.zero.parts ≡ 18446744073709551615) }
+    requires one { (blanks.pages.one.name ≡ N.pages_1) × (blanks.pages.one.parts ≡ 18446744073709551615) }
+    requires two { (blanks.pages.two.name ≡ N.pages_2) × (blanks.pages.two.parts ≡ 18446744073709551615) }
+    requires three { (blanks.pages.three.name ≡ N.pages_3) × (blanks.pages.three.parts ≡ 18446744073709551615) }
+    requires bytes { N.page_bytes ≡ 1024 }
+{
+    match Pool::<N>::new(alloc, &[4, 4], 1024, blanks) {
+        Ok(pool) => {
+            pool.close();
+            true
+        }
+        Err(_) => false,
+    }
+}
+
+// Must also pass where an allocation is refused: what was made is given back.
+#[test]
+fn refused_memory_is_given_back(rt: HostRuntime) {
+    let _made = opens::<Brand>(rt.alloc(), blanks());
+}
