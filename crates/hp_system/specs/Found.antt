@@ -1,0 +1,68 @@
+-- Where a map is found, and what an access asks before it begins.
+use Rattle.std.specs.Prelude.{⊤, ◌≡◌, ℕ, ◌+◌, ◌<◌, ◌||◌, ◌==◌, Bool, false, Option, None, Some, Ok, Err, Result, List, [], ◌∷◌, ◌++◌, length, if◌then◌else◌, nat_lt}
+use Rattle.std.specs.List.{list_any, slice_index_or}
+use Rattle.hp_model.specs.declared.answer.Answer.TheVariants.{Done}
+use Rattle.hp_model.specs.declared.refusal.Refusal.{Refusal}
+use Rattle.hp_model.specs.declared.refusal.Refusal.TheVariants.{OutOfRange, CrossesPage, TooMany, BeyondEnd, OutOfMemory, NoPages}
+use Rattle.hp_model.specs.declared.step.Sharing.TheVariants.{Shared}
+use Rattle.hp_model.specs.File.{File, Mount, at_least, entered, new_file, with_file, with_cell}
+use Rattle.hp_model.specs.declared.cell.Cell.TheVariants.{Present}
+use Rattle.hp_model.specs.Lists.{edit_range}
+use Rattle.hp_model.specs.Mapping.{Map, is_map}
+use Rattle.hp_model.specs.Plan.{Reply}
+use Rattle.hp_model.specs.Profile.{most_bytes}
+use Rattle.hp_model.specs.SlotEvent.{is_unmapped, is_beyond}
+use Rattle.hp_model.specs.Spot.{Spot, spot}
+
+abbrev pub no_map : Map
+no_map = record { task = 0; number = 0; start = 0; sharing = Shared; owner = false; unmapped = false; places = [] }
+
+abbrev pub file_at : Mount → ℕ → File
+file_at m k = slice_index_or m.files k (new_file None)
+
+-- whether the file has the task's map of that number
+abbrev pub has_it : (task number : ℕ) → File → Bool
+has_it task number f = list_any (is_map task number) f.maps
+
+-- the map at a place of a file's maps
+abbrev pub spot_at : Mount → (file map : ℕ) → Spot
+spot_at m file map = record { file_no = file; file = file_at m file; map_no = map; map = slice_index_or (file_at m file).maps map no_map }
+
+-- the task's map of that number is there
+pub record IsFound (m : Mount) (task number file map : ℕ) : Type 0 where
+  pub is : spot m (is_map task number) ≡ Some (spot_at m file map)
+  pub file_in : file < length m.files
+  pub map_in : map < length (file_at m file).maps
+
+abbrev pub first_of : List (Bool × Refusal) → Option Refusal
+first_of [] = None
+first_of (t ∷ ts) = if t.0 then Some t.1 else first_of ts
+
+-- what a load or a store asks before its access
+abbrev pub byte_tests : (size : ℕ) → Spot → (i offset count : ℕ) → List (Bool × Refusal)
+byte_tests size s i offset count =
+    (is_unmapped s i || (count == 0), OutOfRange) ∷ (nat_lt size (offset + count), CrossesPage) ∷ (nat_lt most_bytes count, TooMany) ∷ (is_beyond s i, BeyondEnd) ∷ []
+
+abbrev pub touched : Result (Unit {0}) Refusal → Reply
+touched (Ok done) = Ok Done
+touched (Err r) = Err r
+
+-- a page at the index, by the entry or by a grant of one
+abbrev pub filled_with : Mount → (file i node : ℕ) → List ℕ → Mount
+filled_with m file i node bytes = with_file m file (with_cell (file_at m file) i (Present (record { node = node; bytes = bytes })))
+
+-- the file has as many indices, and the same maps
+pub record IsTouched (m n : Mount) (file : ℕ) : Type 0 where
+  pub files : length n.files ≡ length m.files
+  pub maps : (file_at n file).maps ≡ (file_at m file).maps
+  pub cells : length (file_at n file).cells ≡ length (file_at m file).cells
+
+-- why a map is refused, by whether its pages could be granted
+abbrev pub IsMapRefusal : Refusal → (can : Bool) → Type 0
+IsMapRefusal OutOfMemory can = ⊤
+IsMapRefusal NoPages can = can ≡ false
+IsMapRefusal other can = ⊥
+
+-- the file with a map more that asked for its pages
+abbrev pub with_map : File → Map → File
+with_map f map = record f { cells = edit_range entered map.start (map.start + length map.places) (at_least (map.start + length map.places) f.cells); maps = f.maps ++ map ∷ [] }

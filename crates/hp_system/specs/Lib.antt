@@ -1,0 +1,4 @@
+pub mod Carried
+pub mod Found
+pub mod Kept
+pub mod States

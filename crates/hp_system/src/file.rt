@@ -1,0 +1,202 @@
+//! A file.
+ghost use Rattle.std.specs.Prelude.{◌≡◌, ℕ, ◌+◌, ◌<◌, ◌≤◌, length, true, false, Some, None, IfOk, IfErr, IsOk, OnErr, IsTrue};
+ghost use Rattle.hp_model.specs.Grant.{can_grant, granted};
+ghost use Rattle.hp_model.specs.MakeMap.{asked};
+ghost use Rattle.hp_model.specs.PoolCounts.{IsSettled};
+ghost use Rattle.hp_model.specs.declared.step.Sharing.TheVariants.{Shared};
+ghost use Rattle.hp_model.specs.declared.step.Reserving.TheVariants.{Reserve};
+ghost use Rattle.std.specs.List.{list_any, position_or_len, slice_index_or};
+ghost use Rattle.hp_model.specs.declared.cell.Cell.TheVariants.{Present};
+ghost use Rattle.hp_model.specs.File.{cell_at, with_cell, new_file, has_page};
+ghost use Rattle.hp_model.specs.Mapping.{is_map};
+ghost use Rattle.hp_model.specs.SlotEvent.{has_name};
+ghost use Rattle.hp_model.specs.Spot.{cell_written};
+ghost use Rattle.hp_model.specs.Value.{shown};
+ghost use Rattle.hp_system.specs.Found.{no_map, with_map, IsMapRefusal};
+ghost use Rattle.hp_system.specs.States.{IsState};
+
+use crate::map::Map;
+use crate::ranges;
+use hp_model::bytes::Bytes;
+use hp_model::cell::Cell;
+use hp_model::naming::Naming;
+use hp_model::refusal::Refusal;
+use hp_nodes::Page;
+use hp_permit::Permit;
+use hp_pool::Pool;
+use std::alloc::Global;
+use std::marker::Model;
+use std::mem;
+
+/// What stands at an index of a file.
+#[derive(Clone, Copy, Debug, PartialEq, Eq)]
+pub enum PageState {
+    Hole,
+    Entered,
+    Present,
+}
+
+/// A file with a name: its indices below the length, and its maps.
+pub struct File<N: Naming> {
+    name: Bytes,
+    cells: Vec<Cell<Page<N>>>,
+    maps: Vec<Map>,
+}
+
+impl<N: Naming> Model for File<N> {
+    ghost use Rattle.std.specs.Prelude.{Some};
+    ghost use Rattle.hp_model.specs.File.{File as FileValue};
+
+    ghost Value = { FileValue };
+
+    ghost view = { λ f. record { name = Some f.name; cells = f.cells.items; maps = f.maps.items } };
+}
+
+impl<N: Naming> File<N> {
+    /// An empty file.
+    pub fn new(alloc: Global, name: Bytes) -> Self
+        ensures { result ≡ new_file (Some name) }
+    {
+        File {
+            name,
+            cells: Vec::new(alloc),
+            maps: Vec::new(alloc),
+        }
+    }
+
+    pub fn is_named(&self, name: &[u8]) -> bool
+        ensures { result ≡ has_name name.now self.now }
+    {
+        self.name.as_slice() == name
+    }
+
+    /// Puts a page at an index without one.
+    pub fn fill(&mut self, index: usize, page: Page<N>)
+        requires below { index < length self.old.cells }
+        requires empty { has_page (cell_at self.old index) ≡ false }
+        ensures { self.new ≡ with_cell self.old index (Present page) }
+    {
+        match mem::replace(&mut self.cells[index], Cell::Present(page)) {
+            Cell::Entered | Cell::Hole => {}
+            Cell::Present(_old) => unreachable!(),
+        }
+    }
+
+    /// How many indices are below the length.
+    pub fn len(&self) -> usize
+        ensures { result ≡ length self.now.cells }
+    {
+        self.cells.len()
+    }
+
+    /// Whether it has the task's map of that number.
+    pub fn has_map(&self, task: u64, number: u64) -> bool
+        ensures { result ≡ list_any (is_map task number) self.now.maps }
+    {
+        self.maps.iter().any(|m| m.is(task, number))
+    }
+
+    /// The place of the task's map of that number, or how many maps there are.
+    pub fn place_of(&self, task: u64, number: u64) -> usize
+        ensures { result ≡ position_or_len (is_map task number) self.now.maps }
+    {
+        let maps = self.maps.as_slice();
+        maps.iter()
+            .position(|m| m.is(task, number))
+            .unwrap_or(maps.len())
+    }
+
+    /// The map at a place.
+    pub fn map(&self, at: usize) -> &Map
+        requires { at < length self.now.maps }
+        ensures { result.now ≡ slice_index_or self.now.maps at no_map }
+    {
+        &self.maps[at]
+    }
+
+    /// What stands at an index.
+    pub fn state(&self, index: usize) -> PageState
+        requires { index < length self.now.cells }
+        ensures { IsState result (cell_at self.now index) }
+    {
+        match &self.cells[index] {
+            Cell::Hole => PageState::Hole,
+            Cell::Entered => PageState::Entered,
+            Cell::Present(_) => PageState::Present,
+        }
+    }
+
+    /// The bytes of the page at an index.
+    pub fn bytes(&self, index: usize) -> &[u8]
+        requires within { index < length self.now.cells }
+        requires page { has_page (cell_at self.now index) ≡ true }
+        ensures bytes { result.now ≡ shown N.page_bytes (cell_at self.now index) }
+        ensures length { length result.now ≡ N.page_bytes }
+    {
+        match &self.cells[index] {
+            Cell::Present(page) => page.bytes(),
+            _ => unreachable!(),
+        }
+    }
+
+    /// Writes bytes into the page at an index, from an offset on.
+    pub fn write(&mut self, index: usize, offset: usize, bytes: &[u8])
+        requires within { index < length self.old.cells }
+        requires page { has_page (cell_at self.old index) ≡ true }
+        requires fits { offset + length bytes.now ≤ N.page_bytes }
+        ensures { self.new ≡ with_cell self.old index (cell_written offset bytes.now (cell_at self.old index)) }
+    {
+        match &mut self.cells[index] {
+            Cell::Present(page) => page.write(offset, bytes),
+            _ => unreachable!(),
+        }
+    }
+
+    /// Adds a map, and enters its indices, which makes the file longer where they reach past its end.
+    /// The pages of the indices without an entry are asked of the pool; the permit is theirs.
+    ///
+    /// Refused as OutOfMemory or NoPages, and then nothing changes.
+    pub fn add_map(
+        &mut self,
+        pool: &mut Pool<N>,
+        home: usize,
+        map: Map,
+    ) -> Result<Permit<N>, Refusal>
+        requires settled { IsSettled pool.old }
+        requires reach { map.start + length map.places ≤ 1048576 }
+        ensures ok { IfOk result (λ permit. (permit ≡ asked Shared Reserve map.start (length map.places) self.old) × (self.new ≡ with_map self.old map) × (pool.new ≡ granted home permit pool.old)) }
+        ensures granted { IsOk result → IsTrue (can_grant (asked Shared Reserve map.start (length map.places) self.old) pool.old) }
+        ensures why { IfErr result (λ e. IsMapRefusal e (can_grant (asked Shared Reserve map.start (length map.places) self.old) pool.old)) }
+        ensures err { OnErr result ((self.new ≡ self.old) × (pool.new ≡ pool.old)) }
+        ensures settled { IsSettled pool.new }
+    {
+        let from = map.start() as usize;
+        let end = from + map.pages();
+        let more = end.saturating_sub(self.cells.len());
+        if self.cells.reserve(more).is_err() || self.maps.reserve(1).is_err() {
+            return Err(Refusal::OutOfMemory);
+        }
+        let asked = ranges::holes(self.cells.as_slice(), from, map.pages());
+        let permit = pool.reserve(home, asked as u64)?;
+        ranges::lengthen(&mut self.cells, end);
+        ranges::enter(self.cells.as_mut_slice(), from, end);
+        self.maps.push_reserved(map);
+        Ok(permit)
+    }
+
+    /// Puts the file's pages back.
+    pub fn close(self, pool: &mut Pool<N>) {
+        let File {
+            name: _,
+            mut cells,
+            maps: _,
+        } = self;
+        while let Some(cell) = cells.pop() {
+            match cell {
+                Cell::Present(page) => pool.put(page),
+                Cell::Entered | Cell::Hole => {}
+            }
+        }
+        cells.destroy_empty();
+    }
+}

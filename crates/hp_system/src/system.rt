@@ -1,0 +1,199 @@
+//! The machine.
+ghost use Rattle.std.specs.Prelude.{◌≡◌, ℕ, ◌+◌, ◌<◌, ◌≤◌, length, All, IfOk, OnErr};
+ghost use Rattle.hp_model.specs.declared.step.Step.TheVariants.{Connect, Create, Load, Store, Nr, Meminfo};
+ghost use Rattle.hp_model.specs.Machine.{start};
+ghost use Rattle.hp_model.specs.PoolCounts.{counts_of};
+ghost use Rattle.hp_model.specs.Step.{IsStep};
+
+use crate::files::{Files, MapAccess};
+use crate::table::TaskTable;
+use hp_model::answer::{Answer, Counts, Reply};
+use hp_model::bytes::Bytes;
+use hp_model::event::TableEvent;
+use hp_model::naming::Naming;
+use hp_model::refusal::Refusal;
+use hp_pool::{Blanks, Pool};
+use std::alloc::{AllocError, Global};
+use std::marker::Model;
+
+/// The machine. Contracts see its state.
+pub struct System<N: Naming> {
+    page_bytes: usize,
+    slots: u64,
+    table: TaskTable,
+    files: Files<N>,
+    pool: Pool<N>,
+}
+
+impl<N: Naming> Model for System<N> {
+    ghost use Rattle.hp_model.specs.State.{State};
+    ghost use Rattle.hp_system.specs.Carried.{state_of};
+    ghost use Rattle.hp_system.specs.Kept.{slots_with, IsKept};
+
+    ghost Value = { State };
+
+    ghost view = { λ s. state_of s.page_bytes s.table (slots_with s.slots s.files) s.pool };
+
+    ghost invariant = { λ s. IsKept s.page_bytes N.page_bytes s.slots s.table s.files s.pool };
+}
+
+impl<N: Naming> System<N> {
+    /// A machine of 1 to 4 nodes with so many frames each, of `page_bytes` bytes, and with so many
+    /// slots. Slot 0 is mounted without limits, and no other slot is. There is no task, no file and
+    /// no page in the pool.
+    ///
+    /// Takes the memory of all pages and of the task table at once. Where some is refused, the rest
+    /// is given back before the error is answered.
+    pub fn new(
+        alloc: Global,
+        frames: &[u64],
+        page_bytes: usize,
+        slots: u64,
+        blanks: Blanks,
+    ) -> Result<Self, AllocError>
+        requires some { 0 < length frames.now }
+        requires few { length frames.now ≤ 4 }
+        requires small { All (λ f. f ≤ 65536) frames.now }
+        requires slots { 0 < slots }
+        requires page_bytes { page_bytes ≡ N.page_bytes }
+        requires permits { (blanks.permits.name ≡ N.permits) × (blanks.permits.parts ≡ 18446744073709551615) }
+        requires zero { (blanks.pages.zero.name ≡ N.pages_0) × (blanks.pages.zero.parts ≡ 18446744073709551615) }
+        requires one { (blanks.pages.one.name ≡ N.pages_1) × (blanks.pages.one.parts ≡ 18446744073709551615) }
+        requires two { (blanks.pages.two.name ≡ N.pages_2) × (blanks.pages.two.parts ≡ 18446744073709551615) }
+        requires three { (blanks.pages.three.name ≡ N.pages_3) × (blanks.pages.three.parts ≡ 18446744073709551615) }
+        ensures { IfOk result (λ s. s ≡ start frames.now page_bytes slots) }
+    {
+        let table = TaskTable::new(alloc)?;
+        let mut pool = Pool::new(alloc, frames, page_bytes, blanks)?;
+        let files = Files::new(alloc, pool.nothing());
+        Ok(System {
+            page_bytes,
+            slots,
+            table,
+            files,
+            pool,
+        })
+    }
+
+    /// Adds a task with its home node, from which its pages come first.
+    ///
+    /// Refused, and then nothing changes, by the first of these that holds (profile):
+    /// - NoSuchNode: there is no node `home`.
+    /// - TaskExists: the task is there.
+    /// - TooMany: there are 256 tasks.
+    pub fn connect(&mut self, task: u64, home: u64) -> Reply
+        ensures step { IsStep self.old (Connect task home) result self.new }
+        ensures size { self.new.page_size ≡ self.old.page_size }
+    {
+        let nodes = self.pool.len() as u64;
+        self.table.apply(nodes, TableEvent::Add { task, home })
+    }
+
+    /// Makes a file of length 0 in a slot.
+    ///
+    /// Refused, and then nothing changes, by the first of these that holds (profile):
+    /// - NoSuchSlot: there is no such slot, or it is not mounted.
+    /// - BadName: the name is not 1 to 64 bytes of A-Z a-z 0-9 `.` `_` `-`.
+    /// - FileExists: a file of the slot has the name.
+    /// - TooMany: the slot has 1,024 files.
+    /// - OutOfMemory: memory for the name or the file is refused.
+    pub fn create(&mut self, slot: u64, name: &Bytes) -> Reply
+        ensures step { IsStep self.old (Create slot name.now) result self.new }
+        ensures size { self.new.page_size ≡ self.old.page_size }
+    {
+        let _slots = self.slots;
+        if slot != 0 {
+            return Err(Refusal::NoSuchSlot);
+        }
+        self.files.create(name)
+    }
+
+    /// Answers `count` bytes of the page at `access.index` of a file, from byte `access.offset` on,
+    /// through the task's map of that number. An index without a page first gets one of zeros: by
+    /// the promise of its entry, or else by one that is made now (`mm/hugetlbfs_reserv.rst`).
+    ///
+    /// Refused, and then nothing changes, by the first of these that holds (profile):
+    /// - NoSuchTask: the task is not there.
+    /// - NoSuchSlot: there is no such slot, or it is not mounted.
+    /// - NoSuchMap: the task has no map of that number on the slot.
+    /// - OutOfRange: the map doesn't map the index, or `count` is 0.
+    /// - CrossesPage: the bytes end past the end of the page.
+    /// - TooMany: `count` is more than 256.
+    /// - BeyondEnd: the index is not below the file's length (pages).
+    /// - NoPages: the index has no page and no entry, and no page more may be committed.
+    pub fn load(&mut self, slot: u64, access: &MapAccess, count: u64) -> Reply
+        ensures step { IsStep self.old (Load access.now.task slot access.now.map access.now.index access.now.offset count) result self.new }
+        ensures size { self.new.page_size ≡ self.old.page_size }
+    {
+        let page_bytes = self.page_bytes as u64;
+        let home = match self.table.home(access.task) {
+            Some(home) => home,
+            None => return Err(Refusal::NoSuchTask),
+        };
+        if slot != 0 {
+            return Err(Refusal::NoSuchSlot);
+        }
+        self.files
+            .load(&mut self.pool, page_bytes, home, access, count)
+    }
+
+    /// Writes 1 to 256 bytes into the page at `access.index` of a file, from byte `access.offset`
+    /// on, through the task's map of that number. An index without a page first gets one of zeros,
+    /// as at `load`.
+    ///
+    /// Refused as `load` is with as many bytes, in the same order, and then nothing changes. No
+    /// bytes are OutOfRange, and more than 256 are TooMany.
+    pub fn store(&mut self, slot: u64, access: &MapAccess, bytes: &Bytes) -> Reply
+        ensures step { IsStep self.old (Store access.now.task slot access.now.map access.now.index access.now.offset bytes.now) result self.new }
+        ensures size { self.new.page_size ≡ self.old.page_size }
+    {
+        let page_bytes = self.page_bytes as u64;
+        let home = match self.table.home(access.task) {
+            Some(home) => home,
+            None => return Err(Refusal::NoSuchTask),
+        };
+        if slot != 0 {
+            return Err(Refusal::NoSuchSlot);
+        }
+        self.files
+            .store(&mut self.pool, page_bytes, home, access, bytes.as_slice())
+    }
+
+    /// Sets how many persistent pages there are, or all frames where `pages` is more, and answers
+    /// the new number. Surplus pages become persistent first (`admin-guide/mm/hugetlbpage.rst`).
+    ///
+    /// For now refused as BadLine where `pages` is below the present number, and then nothing changes.
+    pub fn set_nr(&mut self, pages: u64) -> Reply
+        ensures step { IsStep self.old (Nr pages) result self.new }
+        ensures size { self.new.page_size ≡ self.old.page_size }
+    {
+        if pages < self.pool.nr() {
+            return Err(Refusal::BadLine);
+        }
+        Ok(Answer::Number(self.pool.set_nr(pages)))
+    }
+
+    /// Answers Total, Free, Rsvd and Surp, and what nr and overcommit are set to, all in pages
+    /// (`admin-guide/mm/hugetlbpage.rst`). Never refused, and changes nothing.
+    pub fn meminfo(&mut self) -> Reply
+        ensures step { IsStep self.old Meminfo result self.new }
+        ensures size { self.new.page_size ≡ self.old.page_size }
+    {
+        Ok(Answer::Numbers(self.pool.counts()))
+    }
+
+    /// Ends the machine, and answers the pool's last numbers (pages). Never refused.
+    ///
+    /// No contract says yet which numbers these are.
+    pub fn close(self) -> Counts {
+        let System {
+            page_bytes: _,
+            slots: _,
+            table: _,
+            files,
+            mut pool,
+        } = self;
+        files.close(&mut pool);
+        pool.close()
+    }
+}

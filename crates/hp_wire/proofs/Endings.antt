@@ -1,0 +1,94 @@
+-- The end of an input.
+use Rattle.std.proofs.Common.{◌≡◌, ◌≤◌, ℕ, zero, suc, List, [], ◌∷◌, ◌++◌, ◌+◌, ◌<◌, length, refl, sym, ◌∙◌, ap, subst, arith, Option, Result, Ok, Err, Bool, true, false, nat_le, inl, inr, append-nil, length-append, cond, IfOk, IfErr}
+use Rattle.std.proofs.lemmas.Bool.Decides.{nat_tests}
+use Rattle.std.specs.Io.KnownBytes.{Consumes, Appends}
+use Rattle.hp_model.specs.Plan.{Reply}
+use Rattle.hp_model.specs.Lines.{Line, unended, lines, ended_lines, after_lines}
+use Rattle.hp_model.specs.Text.{AnswersLines}
+use Rattle.hp_model.specs.declared.step.Step.{Step}
+use Rattle.hp_model.specs.declared.refusal.Refusal.{Refusal}
+use Rattle.hp_model.specs.declared.refusal.Refusal.TheVariants.{BadLine, LineTooLong}
+use Rattle.hp_model.specs.Writing.{text, line_of}
+use Rattle.hp_wire.specs.Answered.{Ran, RanInPart}
+use Rattle.hp_wire.specs.Sent.{AppendsFront}
+use Rattle.hp_wire.specs.Served.{Serves, unended_by, text_of_refusals}
+use Rattle.hp_wire.specs.declared.fault.RunFault.{RunFault}
+use Rattle.hp_wire.specs.declared.fault.RunFault.TheVariants.{Write}
+use Rattle.hp_wire.proofs.Known.{ran_then, ran_cut}
+use Rattle.hp_wire.proofs.Stands.{StandsFor}
+use Rattle.hp_wire.proofs.Turns.{Progress, consumes_then}
+
+abbrev refused : List Refusal → List Line
+refused [] = []
+refused (r ∷ rs) = Err r ∷ refused rs
+
+abbrev replies_of : List Refusal → List Reply
+replies_of [] = []
+replies_of (r ∷ rs) = Err r ∷ replies_of rs
+
+answers_refused : {S : Type 0} (may_answer : S → Step → Reply → S → Type 0) (s : S) (rs : List Refusal) → AnswersLines may_answer s (refused rs) (replies_of rs) s
+answers_refused may_answer s [] = refl
+answers_refused may_answer s (r ∷ rs) = (s, (refl, refl), answers_refused may_answer s rs)
+
+text_refused : (page : ℕ) (rs : List Refusal) → text_of_refusals page rs ≡ text page (replies_of rs)
+text_refused page [] = refl
+text_refused page (r ∷ rs) = ap (λ (xs : List ℕ). line_of page (Err r) ++ xs) (text_refused page rs)
+
+if_line : (b : Bool) → cond {A = Line} b (Err BadLine) (Err LineTooLong) ≡ Err (cond b BadLine LineTooLong)
+if_line true = refl
+if_line false = refl
+
+unended_is : (xs : List ℕ) → unended xs ≡ refused (unended_by (length xs))
+unended_is [] = refl
+unended_is (b ∷ bs) = ap (λ (l : Line). l ∷ []) (if_line (nat_le (length (b ∷ bs)) 1024))
+
+by_long : (n : ℕ) → 1024 < n → unended_by n ≡ LineTooLong ∷ []
+by_long zero h = absurd (omega arith)
+by_long (suc n) h = let t : nat_le (suc n) 1024 ≡ false = grind (arith, nat_tests) in ap (λ b. cond b BadLine LineTooLong ∷ []) t
+
+pub unended_stands : (held line : List ℕ) → StandsFor held line → unended line ≡ refused (unended_by (length held))
+unended_stands held line s = elim s.like [
+  | inl e ↦ unended_is line ∙ ap (λ xs. refused (unended_by (length xs))) (sym e)
+  | inr l ↦ unended_is line ∙ ap refused (by_long (length line) l.1 ∙ sym (by_long (length held) l.0))
+]
+
+ends_ran : {S : Type 0} (may_answer : S → Step → Reply → S → Type 0) (page : ℕ) (s : S) (rs : List Refusal) (a b : Option (List ℕ)) → Appends a b (text_of_refusals page rs) → Ran may_answer page s (refused rs) s a b
+ends_ran may_answer page s rs a b h = record { text = text_of_refusals page rs; replies = (replies_of rs, answers_refused may_answer s rs, text_refused page rs); written = h }
+
+ends_part : {S : Type 0} (may_answer : S → Step → Reply → S → Type 0) (page : ℕ) (s : S) (rs : List Refusal) (a b : Option (List ℕ)) → AppendsFront a b (text_of_refusals page rs) → RanInPart may_answer page s (refused rs) s a b
+ends_part may_answer page s rs a b h = record { done = refused rs; rest = []; first = sym (append-nil (refused rs)); text = text_of_refusals page rs; replies = (replies_of rs, answers_refused may_answer s rs, text_refused page rs); written = h }
+
+length_refused : (rs : List Refusal) → length (refused rs) ≡ length rs
+length_refused [] = refl
+length_refused (r ∷ rs) = ap suc (length_refused rs)
+
+-- the input ended, and the line that it ended in was answered
+pub finished : {S : Type 0} (may_answer : S → Step → Reply → S → Type 0) (page q : ℕ) (r0 r r1 : Option (List ℕ)) (s0 s : S) (w0 w w1 : Option (List ℕ)) (held : List ℕ) (n total count : ℕ) (result : Result ℕ RunFault)
+    → q ≡ page → n ≡ length held → total ≤ 1073741824 → Progress may_answer page r0 r s0 s w0 w held total count → Consumes r r1 []
+    → IfOk result (λ m. (m ≡ count + length (unended_by n)) × Appends w w1 (text_of_refusals q (unended_by n)))
+    → IfErr result (λ e. (e ≡ Write) × AppendsFront w w1 (text_of_refusals q (unended_by n)))
+    → (input : List ℕ) × Consumes r0 r1 input × Serves may_answer page s0 s w0 w1 input result
+finished {S} may_answer page q r0 r r1 s0 s w0 w w1 held n total count (Ok m) same len within p reads ok err =
+    let rs = unended_by n in
+    let end : unended (after_lines p.input) ≡ refused rs = unended_stands held (after_lines p.input) p.stands ∙ ap (λ k. refused (unended_by k)) (sym len) in
+    let all : lines p.input ≡ ended_lines p.input ++ refused rs = ap (λ (ls : List Line). ended_lines p.input ++ ls) end in (
+      p.input ++ [],
+      consumes_then r0 r r1 p.input [] p.consumed reads,
+      subst (λ (xs : List ℕ). Serves may_answer page s0 s w0 w1 xs (Ok m)) (sym (append-nil p.input)) (
+        subst (λ (ls : List Line). Ran may_answer page s0 ls s w0 w1) (sym all)
+            (ran_then may_answer page s0 (ended_lines p.input) s (refused rs) s w0 w w1 p.ran (ends_ran may_answer page s rs w w1 (subst (λ (x : ℕ). Appends w w1 (text_of_refusals x rs)) same ok.1))),
+        ok.0 ∙ ap (λ k. k + length rs) p.answered ∙ ap (λ k. length (ended_lines p.input) + k) (sym (length_refused rs)) ∙ sym (length-append (ended_lines p.input) (refused rs)) ∙ ap (λ (ls : List Line). length ls) (sym all),
+        omega (arith, within, p.size),
+      ),
+    )
+finished {S} may_answer page q r0 r r1 s0 s w0 w w1 held n total count (Err e) same len within p reads ok err =
+    let rs = unended_by n in
+    let end : unended (after_lines p.input) ≡ refused rs = unended_stands held (after_lines p.input) p.stands ∙ ap (λ k. refused (unended_by k)) (sym len) in
+    let all : lines p.input ≡ ended_lines p.input ++ refused rs = ap (λ (ls : List Line). ended_lines p.input ++ ls) end in (
+      p.input ++ [],
+      consumes_then r0 r r1 p.input [] p.consumed reads,
+      subst (λ (x : RunFault). Serves may_answer page s0 s w0 w1 (p.input ++ []) (Err x)) (sym err.0)
+          (subst (λ (xs : List ℕ). RanInPart may_answer page s0 (lines xs) s w0 w1) (sym (append-nil p.input))
+          (subst (λ (ls : List Line). RanInPart may_answer page s0 ls s w0 w1) (sym all)
+          (ran_cut may_answer page s0 (ended_lines p.input) s (refused rs) s w0 w w1 p.ran (ends_part may_answer page s rs w w1 (subst (λ (x : ℕ). AppendsFront w w1 (text_of_refusals x rs)) same err.1))))),
+    )

@@ -1,0 +1,324 @@
+//! The steps of the commands, by what stands after each command's word.
+ghost use Rattle.std.specs.Prelude.{◌≡◌};
+ghost use Rattle.hp_model.specs.Reading.{anon_of, attach_of, connect_of, create_of, df_of, exit_of, fault_of, fork_of, load_of, ls_of, map_of, meminfo_of, mount_of, nodes_of, nr_of, overcommit_of, punch_of, read_of, stat_of, store_of, truncate_of, umount_of, unlink_of, unmap_of, IsReadAs};
+
+use crate::parts::{copied, decoded, intent, number, reserving, sharing, word};
+use crate::words::Words;
+use hp_model::refusal::Refusal;
+use hp_model::step::Step;
+use std::alloc::Global;
+
+#[tactic(auto, unfolding(hp_model::specs::Reading::connect_of))]
+pub fn connect(words: Words<'_>) -> Result<Step, Refusal>
+    ensures { result ≡ connect_of words.entry }
+{
+    let (task, words) = number(words)?;
+    let (home, words) = number(words)?;
+    words.end()?;
+    Ok(Step::Connect { task, home })
+}
+
+#[tactic(auto, unfolding(hp_model::specs::Reading::attach_of))]
+pub fn attach(words: Words<'_>) -> Result<Step, Refusal>
+    ensures { result ≡ attach_of words.entry }
+{
+    let (task, words) = number(words)?;
+    words.end()?;
+    Ok(Step::Attach { task })
+}
+
+#[tactic(auto, unfolding(hp_model::specs::Reading::fork_of))]
+pub fn fork(words: Words<'_>) -> Result<Step, Refusal>
+    ensures { result ≡ fork_of words.entry }
+{
+    let (parent, words) = number(words)?;
+    let (child, words) = number(words)?;
+    words.end()?;
+    Ok(Step::Fork { parent, child })
+}
+
+#[tactic(auto, unfolding(hp_model::specs::Reading::exit_of))]
+pub fn exit(words: Words<'_>) -> Result<Step, Refusal>
+    ensures { result ≡ exit_of words.entry }
+{
+    let (task, words) = number(words)?;
+    words.end()?;
+    Ok(Step::Exit { task })
+}
+
+#[tactic(auto, unfolding(hp_model::specs::Reading::map_of))]
+pub fn map(alloc: Global, words: Words<'_>) -> Result<Step, Refusal>
+    ensures { IsReadAs result (map_of words.entry) }
+{
+    let (task, words) = number(words)?;
+    let (slot, words) = number(words)?;
+    let (name, words) = word(words)?;
+    let (from, words) = number(words)?;
+    let (pages, words) = number(words)?;
+    let (sharing, words) = sharing(words)?;
+    let reserving = reserving(words)?;
+    let name = copied(alloc, name)?;
+    Ok(Step::Map {
+        task,
+        slot,
+        name,
+        from,
+        pages,
+        sharing,
+        reserving,
+    })
+}
+
+#[tactic(auto, unfolding(hp_model::specs::Reading::anon_of))]
+pub fn anon(words: Words<'_>) -> Result<Step, Refusal>
+    ensures { result ≡ anon_of words.entry }
+{
+    let (task, words) = number(words)?;
+    let (pages, words) = number(words)?;
+    let (sharing, words) = sharing(words)?;
+    let reserving = reserving(words)?;
+    Ok(Step::Anon {
+        task,
+        pages,
+        sharing,
+        reserving,
+    })
+}
+
+#[tactic(auto, unfolding(hp_model::specs::Reading::unmap_of))]
+pub fn unmap(words: Words<'_>) -> Result<Step, Refusal>
+    ensures { result ≡ unmap_of words.entry }
+{
+    let (task, words) = number(words)?;
+    let (slot, words) = number(words)?;
+    let (map, words) = number(words)?;
+    let (from, words) = number(words)?;
+    let (to, words) = number(words)?;
+    words.end()?;
+    Ok(Step::Unmap {
+        task,
+        slot,
+        map,
+        from,
+        to,
+    })
+}
+
+#[tactic(auto, unfolding(hp_model::specs::Reading::fault_of))]
+pub fn fault(words: Words<'_>) -> Result<Step, Refusal>
+    ensures { result ≡ fault_of words.entry }
+{
+    let (task, words) = number(words)?;
+    let (slot, words) = number(words)?;
+    let (map, words) = number(words)?;
+    let (index, words) = number(words)?;
+    let (intent, words) = intent(words)?;
+    words.end()?;
+    Ok(Step::Fault {
+        task,
+        slot,
+        map,
+        index,
+        intent,
+    })
+}
+
+#[tactic(auto, unfolding(hp_model::specs::Reading::load_of))]
+pub fn load(words: Words<'_>) -> Result<Step, Refusal>
+    ensures { result ≡ load_of words.entry }
+{
+    let (task, words) = number(words)?;
+    let (slot, words) = number(words)?;
+    let (map, words) = number(words)?;
+    let (index, words) = number(words)?;
+    let (offset, words) = number(words)?;
+    let (count, words) = number(words)?;
+    words.end()?;
+    Ok(Step::Load {
+        task,
+        slot,
+        map,
+        index,
+        offset,
+        count,
+    })
+}
+
+#[tactic(auto, unfolding(hp_model::specs::Reading::store_of, hp_model::specs::Words::hex_at))]
+pub fn store(alloc: Global, words: Words<'_>) -> Result<Step, Refusal>
+    ensures { IsReadAs result (store_of words.entry) }
+{
+    let (task, words) = number(words)?;
+    let (slot, words) = number(words)?;
+    let (map, words) = number(words)?;
+    let (index, words) = number(words)?;
+    let (offset, words) = number(words)?;
+    let (piece, words) = words.piece()?;
+    let mut room = [0u8; 512];
+    let bytes = decoded(piece, &mut room)?;
+    words.end()?;
+    let bytes = copied(alloc, bytes)?;
+    Ok(Step::Store {
+        task,
+        slot,
+        map,
+        index,
+        offset,
+        bytes,
+    })
+}
+
+#[tactic(auto, unfolding(hp_model::specs::Reading::mount_of))]
+pub fn mount(alloc: Global, words: Words<'_>) -> Result<Step, Refusal>
+    ensures { IsReadAs result (mount_of words.entry) }
+{
+    let (slot, words) = number(words)?;
+    let (options, words) = word(words)?;
+    words.end()?;
+    let options = copied(alloc, options)?;
+    Ok(Step::Mount { slot, options })
+}
+
+#[tactic(auto, unfolding(hp_model::specs::Reading::umount_of))]
+pub fn umount(words: Words<'_>) -> Result<Step, Refusal>
+    ensures { result ≡ umount_of words.entry }
+{
+    let (slot, words) = number(words)?;
+    words.end()?;
+    Ok(Step::Umount { slot })
+}
+
+#[tactic(auto, unfolding(hp_model::specs::Reading::create_of))]
+pub fn create(alloc: Global, words: Words<'_>) -> Result<Step, Refusal>
+    ensures { IsReadAs result (create_of words.entry) }
+{
+    let (slot, words) = number(words)?;
+    let (name, words) = word(words)?;
+    words.end()?;
+    let name = copied(alloc, name)?;
+    Ok(Step::Create { slot, name })
+}
+
+#[tactic(auto, unfolding(hp_model::specs::Reading::unlink_of))]
+pub fn unlink(alloc: Global, words: Words<'_>) -> Result<Step, Refusal>
+    ensures { IsReadAs result (unlink_of words.entry) }
+{
+    let (slot, words) = number(words)?;
+    let (name, words) = word(words)?;
+    words.end()?;
+    let name = copied(alloc, name)?;
+    Ok(Step::Unlink { slot, name })
+}
+
+#[tactic(auto, unfolding(hp_model::specs::Reading::truncate_of))]
+pub fn truncate(alloc: Global, words: Words<'_>) -> Result<Step, Refusal>
+    ensures { IsReadAs result (truncate_of words.entry) }
+{
+    let (slot, words) = number(words)?;
+    let (name, words) = word(words)?;
+    let (pages, words) = number(words)?;
+    words.end()?;
+    let name = copied(alloc, name)?;
+    Ok(Step::Truncate { slot, name, pages })
+}
+
+#[tactic(auto, unfolding(hp_model::specs::Reading::punch_of))]
+pub fn punch(alloc: Global, words: Words<'_>) -> Result<Step, Refusal>
+    ensures { IsReadAs result (punch_of words.entry) }
+{
+    let (slot, words) = number(words)?;
+    let (name, words) = word(words)?;
+    let (from, words) = number(words)?;
+    let (to, words) = number(words)?;
+    words.end()?;
+    let name = copied(alloc, name)?;
+    Ok(Step::Punch {
+        slot,
+        name,
+        from,
+        to,
+    })
+}
+
+#[tactic(auto, unfolding(hp_model::specs::Reading::read_of))]
+pub fn read(alloc: Global, words: Words<'_>) -> Result<Step, Refusal>
+    ensures { IsReadAs result (read_of words.entry) }
+{
+    let (slot, words) = number(words)?;
+    let (name, words) = word(words)?;
+    let (index, words) = number(words)?;
+    let (offset, words) = number(words)?;
+    let (count, words) = number(words)?;
+    words.end()?;
+    let name = copied(alloc, name)?;
+    Ok(Step::Read {
+        slot,
+        name,
+        index,
+        offset,
+        count,
+    })
+}
+
+#[tactic(auto, unfolding(hp_model::specs::Reading::ls_of))]
+pub fn ls(words: Words<'_>) -> Result<Step, Refusal>
+    ensures { result ≡ ls_of words.entry }
+{
+    let (slot, words) = number(words)?;
+    words.end()?;
+    Ok(Step::Ls { slot })
+}
+
+#[tactic(auto, unfolding(hp_model::specs::Reading::stat_of))]
+pub fn stat(alloc: Global, words: Words<'_>) -> Result<Step, Refusal>
+    ensures { IsReadAs result (stat_of words.entry) }
+{
+    let (slot, words) = number(words)?;
+    let (name, words) = word(words)?;
+    words.end()?;
+    let name = copied(alloc, name)?;
+    Ok(Step::Stat { slot, name })
+}
+
+#[tactic(auto, unfolding(hp_model::specs::Reading::df_of))]
+pub fn df(words: Words<'_>) -> Result<Step, Refusal>
+    ensures { result ≡ df_of words.entry }
+{
+    let (slot, words) = number(words)?;
+    words.end()?;
+    Ok(Step::Df { slot })
+}
+
+#[tactic(auto, unfolding(hp_model::specs::Reading::nr_of))]
+pub fn nr(words: Words<'_>) -> Result<Step, Refusal>
+    ensures { result ≡ nr_of words.entry }
+{
+    let (pages, words) = number(words)?;
+    words.end()?;
+    Ok(Step::Nr { pages })
+}
+
+#[tactic(auto, unfolding(hp_model::specs::Reading::overcommit_of))]
+pub fn overcommit(words: Words<'_>) -> Result<Step, Refusal>
+    ensures { result ≡ overcommit_of words.entry }
+{
+    let (pages, words) = number(words)?;
+    words.end()?;
+    Ok(Step::Overcommit { pages })
+}
+
+#[tactic(auto, unfolding(hp_model::specs::Reading::meminfo_of))]
+pub fn meminfo(words: Words<'_>) -> Result<Step, Refusal>
+    ensures { result ≡ meminfo_of words.entry }
+{
+    words.end()?;
+    Ok(Step::Meminfo)
+}
+
+#[tactic(auto, unfolding(hp_model::specs::Reading::nodes_of))]
+pub fn nodes(words: Words<'_>) -> Result<Step, Refusal>
+    ensures { result ≡ nodes_of words.entry }
+{
+    words.end()?;
+    Ok(Step::Nodes)
+}

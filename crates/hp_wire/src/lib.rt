@@ -1,0 +1,15 @@
+//! Lines in, lines out: the steps that lines read as, the text of their replies, and runs over the lines of an
+//! input.
+#![tactic(auto)]
+
+mod commands;
+pub mod ends;
+pub mod fault;
+mod output;
+mod parts;
+pub mod reading;
+pub mod running;
+#[cfg(test)]
+mod tests;
+mod words;
+pub mod writing;

@@ -1,0 +1,81 @@
+//! Text that is added to what waits to be written. Nothing here asks for memory.
+ghost use Rattle.std.specs.Prelude.{◌≡◌, ◌≤◌, ◌*◌, ◌++◌, codes, decimal, length};
+ghost use Rattle.hex.specs.Hex.{encode_lower};
+ghost use Rattle.hp_model.specs.Writing.{spaced, limit_text, in_columns};
+ghost use Rattle.hp_wire.specs.Output.{HasRoom, Adds};
+
+/// Adds bytes.
+pub fn push(out: &mut Vec<u8>, bytes: &[u8])
+    requires { HasRoom out.old (length bytes.now) }
+    ensures { Adds out.old out.new bytes.now }
+{
+    out.extend_from_slice(bytes).unwrap();
+}
+
+/// Adds a number.
+pub fn push_number(out: &mut Vec<u8>, n: u64)
+    requires { HasRoom out.old 20 }
+    ensures adds { Adds out.old out.new (decimal n) }
+    ensures short { length (decimal n) ≤ 20 }
+{
+    let mut digits = itoa::Buffer::new();
+    push(out, digits.format(n).as_bytes());
+}
+
+/// Adds numbers with a space before each.
+pub fn push_spaced(out: &mut Vec<u8>, numbers: &[u64])
+    requires { HasRoom out.old (21 * length numbers.now) }
+    ensures adds { Adds out.old out.new (spaced numbers.now) }
+    ensures short { length (spaced numbers.now) ≤ 21 * length numbers.now }
+{
+    for n in numbers {
+        push_after_space(out, *n);
+    }
+}
+
+fn push_after_space(out: &mut Vec<u8>, n: u64)
+    requires { HasRoom out.old 21 }
+    ensures adds { Adds out.old out.new (codes " " ++ decimal n) }
+    ensures short { length (codes " " ++ decimal n) ≤ 21 }
+{
+    push(out, b" ");
+    push_number(out, n);
+}
+
+/// Adds a limit, or `-` where none is given.
+pub fn push_limit(out: &mut Vec<u8>, limit: Option<u64>)
+    requires { HasRoom out.old 20 }
+    ensures adds { Adds out.old out.new (limit_text limit) }
+    ensures short { length (limit_text limit) ≤ 20 }
+{
+    match limit {
+        None => push(out, b"-"),
+        Some(n) => push_number(out, n),
+    }
+}
+
+/// Adds a number right in eight columns, or in as many as it needs.
+pub fn push_columns(out: &mut Vec<u8>, n: u64)
+    requires { HasRoom out.old 28 }
+    ensures adds { Adds out.old out.new (in_columns n) }
+    ensures short { length (in_columns n) ≤ 28 }
+{
+    let mut digits = itoa::Buffer::new();
+    let text = digits.format(n).as_bytes();
+    let blank = [b' '; 8];
+    push(out, &blank[..8usize.saturating_sub(text.len())]);
+    push(out, text);
+}
+
+/// Adds bytes in hex digits, in lower case.
+pub fn push_hex(out: &mut Vec<u8>, bytes: &[u8])
+    requires few { length bytes.now ≤ 256 }
+    requires room { HasRoom out.old 512 }
+    ensures adds { Adds out.old out.new (encode_lower bytes.now) }
+    ensures short { length (encode_lower bytes.now) ≤ 512 }
+{
+    let mut digits = [0u8; 512];
+    let part = &mut digits[..2 * bytes.len()];
+    hex::encode_to_slice(bytes, part).unwrap();
+    push(out, part);
+}

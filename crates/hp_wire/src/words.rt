@@ -1,0 +1,118 @@
+//! The pieces of a line.
+ghost use Rattle.std.specs.Prelude.{◌≡◌, ◌∷◌, ◌==◌, ◌+◌, ◌-◌, ◌*◌, ◌^◌, ◌≤◌, ◌<◌, MatchOption, [], length};
+ghost use Rattle.hp_wire.specs.Pieces.{IsCutAt};
+ghost use Rattle.hp_wire.specs.Words.{pieces_left, IsShort};
+ghost use Rattle.std.specs.List.{position, slice_split};
+ghost use Rattle.std.specs.Int.{IsInRange};
+ghost use Rattle.hp_model.specs.Words.{number_of, pieces_of_line};
+
+use hp_model::refusal::Refusal;
+use std::marker::Model;
+
+/// The pieces of a line that aren't read yet.
+#[derive(Drop)]
+pub struct Words<'a> {
+    rest: Option<&'a [u8]>,
+}
+
+impl<'a> Model for Words<'a> {
+    ghost use Rattle.std.specs.Prelude.{ℕ, List};
+    ghost use Rattle.hp_wire.specs.Words.{pieces_left, IsShort};
+
+    ghost Value = { List (List ℕ) };
+
+    ghost view = { λ w. pieces_left w.rest };
+
+    ghost invariant = { λ w. IsShort w.rest };
+}
+
+impl<'a> Words<'a> {
+    ghost use Rattle.hp_model.specs.Words.{pieces_of_line, piece_at, end_at};
+    ghost use Rattle.hp_wire.specs.Words.{Gives};
+    ghost use Rattle.std.specs.Prelude.{◌≡◌, ◌≤◌, length, IfOk};
+
+    pub fn new(line: &'a [u8]) -> Words<'a>
+        requires { length line.now ≤ 1024 }
+        ensures { result ≡ pieces_of_line line.entry.now }
+    {
+        Words { rest: Some(line) }
+    }
+
+    /// The first piece, and the others.
+    #[tactic(auto, unfolding(hp_model::specs::Words::piece_at))]
+    pub fn piece(self) -> Result<(&'a [u8], Words<'a>), Refusal>
+        ensures value { Gives (λ x. (x.0.now, x.1)) result (piece_at self.entry) }
+        ensures short { IfOk result (λ x. length x.0.now ≤ 1024) }
+    {
+        match self.rest {
+            None => Err(Refusal::BadLine),
+            Some(rest) => {
+                let (piece, rest) = first_piece(rest);
+                Ok((piece, Words { rest }))
+            }
+        }
+    }
+
+    /// Whether no piece is left.
+    #[tactic(auto, unfolding(hp_model::specs::Words::end_at))]
+    pub fn end(self) -> Result<(), Refusal>
+        ensures { result ≡ end_at self.entry }
+    {
+        match self.rest {
+            None => Ok(()),
+            Some(_) => Err(Refusal::BadLine),
+        }
+    }
+}
+
+// What stands before the first space, and what stands after it.
+fn first_piece(line: &[u8]) -> (&[u8], Option<&[u8]>)
+    ensures cut { pieces_of_line line.now ≡ result.0.now ∷ pieces_left result.1 }
+    ensures short { length line.now ≤ 1024 → (length result.0.now ≤ 1024) × IsShort result.1 }
+{
+    match place_of(b' ', line) {
+        None => (line, None),
+        Some(at) => (&line[..at], Some(&line[at + 1..])),
+    }
+}
+
+// Where the bytes are cut first.
+pub fn place_of(byte: u8, bytes: &[u8]) -> Option<usize>
+    ensures { MatchOption result (slice_split (λ b. b == byte) bytes.now ≡ bytes.now ∷ []) (λ at. IsCutAt (λ b. b == byte) bytes.now at) }
+{
+    position_of(byte, bytes)
+}
+
+#[inline(always)]
+fn position_of(byte: u8, bytes: &[u8]) -> Option<usize>
+    ensures { result ≡ position (λ b. b == byte) bytes.now }
+{
+    bytes.iter().position(|b| *b == byte)
+}
+
+/// Reads a piece as a number.
+pub fn number_of(piece: &[u8]) -> Result<u64, Refusal>
+    ensures { result ≡ number_of piece.now }
+{
+    if piece.is_empty() || piece.len() > 20 {
+        return Err(Refusal::BadLine);
+    }
+    let mut value = 0u64;
+    for b in piece {
+        let Some(more) = with_digit(value, *b) else {
+            return Err(Refusal::BadLine);
+        };
+        value = more;
+    }
+    Ok(value)
+}
+
+// The number with one digit more, where it fits.
+fn with_digit(value: u64, b: u8) -> Option<u64>
+    ensures { MatchOption result (IsInRange 48 57 b → 2 ^ 64 ≤ value * 10 + (b - 48)) (λ n. IsInRange 48 57 b × (n ≡ value * 10 + (b - 48)) × (n < 2 ^ 64)) }
+{
+    if !b.is_ascii_digit() {
+        return None;
+    }
+    value.checked_mul(10)?.checked_add(u64::from(b - b'0'))
+}
