@@ -102,7 +102,7 @@ counted_new held maps tasks m name c =
 
 -- ---- as code changes a file that it has read: x is what it read, and g what it leaves there
 
-read_is : (m : Mount) (k : ℕ) (x : File) → k < length m.files → x ≡ slice_index_or m.files k x → x ≡ file_at m k
+pub read_is : (m : Mount) (k : ℕ) (x : File) → k < length m.files → x ≡ slice_index_or m.files k x → x ≡ file_at m k
 read_is m k x l e = e ∙ any_default m.files k x (new_file None) l
 
 module _ (held maps tasks : ℕ) (m : Mount) (k i : ℕ) (x g : File) (c : IsCounted held maps tasks m) (l : k < length m.files) (below : i < length (file_at m k).cells) (e : x ≡ slice_index_or m.files k x) where

@@ -10,8 +10,8 @@ use Rattle.hp_model.specs.declared.cell.Cell.TheVariants.{Present}
 use Rattle.hp_model.specs.Lists.{edit_range}
 use Rattle.hp_model.specs.Mapping.{Map, is_map}
 use Rattle.hp_model.specs.Plan.{Reply}
-use Rattle.hp_model.specs.Profile.{most_bytes}
-use Rattle.hp_model.specs.SlotEvent.{is_unmapped, is_beyond}
+use Rattle.hp_model.specs.Profile.{most_bytes, most_file_pages, most_map_pages}
+use Rattle.hp_model.specs.SlotEvent.{is_unmapped, is_beyond, are_too_many_maps}
 use Rattle.hp_model.specs.Spot.{Spot, spot}
 
 abbrev pub no_map : Map
@@ -42,6 +42,10 @@ first_of (t ∷ ts) = if t.0 then Some t.1 else first_of ts
 abbrev pub byte_tests : (size : ℕ) → Spot → (i offset count : ℕ) → List (Bool × Refusal)
 byte_tests size s i offset count =
     (is_unmapped s i || (count == 0), OutOfRange) ∷ (nat_lt size (offset + count), CrossesPage) ∷ (nat_lt most_bytes count, TooMany) ∷ (is_beyond s i, BeyondEnd) ∷ []
+
+-- what a map asks before its pages are asked for
+abbrev pub map_tests : Mount → (task a n : ℕ) → List (Bool × Refusal)
+map_tests m task a n = ((n == 0) || nat_lt most_file_pages (a + n), OutOfRange) ∷ (nat_lt most_map_pages n || are_too_many_maps m task, TooMany) ∷ []
 
 abbrev pub touched : Result (Unit {0}) Refusal → Reply
 touched (Ok done) = Ok Done

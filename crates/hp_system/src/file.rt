@@ -1,7 +1,7 @@
 //! A file.
-ghost use Rattle.std.specs.Prelude.{◌≡◌, ℕ, ◌+◌, ◌<◌, ◌≤◌, length, true, false, Some, None, IfOk, IfErr, IsOk, OnErr, IsTrue};
+ghost use Rattle.std.specs.Prelude.{◌≡◌, ℕ, List, ◌++◌, ◌+◌, ◌<◌, ◌≤◌, length, true, false, Some, None, IfOk, IfErr, IsOk, OnErr, IsTrue};
 ghost use Rattle.hp_model.specs.Grant.{can_grant, granted};
-ghost use Rattle.hp_model.specs.MakeMap.{asked};
+ghost use Rattle.hp_model.specs.MakeMap.{asked, numbers_of};
 ghost use Rattle.hp_model.specs.PoolCounts.{IsSettled};
 ghost use Rattle.hp_model.specs.declared.step.Sharing.TheVariants.{Shared};
 ghost use Rattle.hp_model.specs.declared.step.Reserving.TheVariants.{Reserve};
@@ -13,9 +13,11 @@ ghost use Rattle.hp_model.specs.SlotEvent.{has_name};
 ghost use Rattle.hp_model.specs.Spot.{cell_written};
 ghost use Rattle.hp_model.specs.Value.{shown};
 ghost use Rattle.hp_system.specs.Found.{no_map, with_map, IsMapRefusal};
+ghost use Rattle.hp_system.specs.Numbers.{HasNumbers};
 ghost use Rattle.hp_system.specs.States.{IsState};
 
 use crate::map::Map;
+use crate::numbers::Numbers;
 use crate::ranges;
 use hp_model::bytes::Bytes;
 use hp_model::cell::Cell;
@@ -152,6 +154,21 @@ impl<N: Naming> File<N> {
         }
     }
 
+    /// Adds the numbers of the task's maps.
+    #[tactic(auto, using(crate::proofs::Making::number_more, crate::proofs::Making::number_not))]
+    pub fn add_numbers(&self, task: u64, numbers: &mut Numbers)
+        requires { numbers.old.count + length self.now.maps ≤ 4096 }
+        ensures added { (xs : List ℕ) → HasNumbers numbers.old xs → HasNumbers numbers.new (xs ++ numbers_of task self.now.maps) }
+        ensures few { numbers.new.count ≤ numbers.old.count + length self.now.maps }
+    {
+        for i in 0..self.maps.len() {
+            let map = &self.maps[i];
+            if map.is_of(task) {
+                numbers.add(map.number());
+            }
+        }
+    }
+
     /// Adds a map, and enters its indices, which makes the file longer where they reach past its end.
     /// The pages of the indices without an entry are asked of the pool; the permit is theirs.
     ///
@@ -168,6 +185,7 @@ impl<N: Naming> File<N> {
         ensures granted { IsOk result → IsTrue (can_grant (asked Shared Reserve map.start (length map.places) self.old) pool.old) }
         ensures why { IfErr result (λ e. IsMapRefusal e (can_grant (asked Shared Reserve map.start (length map.places) self.old) pool.old)) }
         ensures err { OnErr result ((self.new ≡ self.old) × (pool.new ≡ pool.old)) }
+        ensures nothing { asked Shared Reserve map.start (length map.places) self.old ≡ 0 → pool.new ≡ pool.old }
         ensures settled { IsSettled pool.new }
     {
         let from = map.start() as usize;

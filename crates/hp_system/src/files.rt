@@ -19,6 +19,10 @@ ghost use Rattle.hp_model.specs.Spot.{Spot, spot, cell_written};
 ghost use Rattle.hp_system.specs.Carried.{IsDone, carried, choosing};
 ghost use Rattle.hp_system.specs.Found.{IsFound, has_it, file_at, spot_at, first_of, byte_tests, filled_with, touched, IsTouched};
 
+mod making;
+
+pub use making::MapRange;
+
 use crate::file::{File, PageState};
 use hp_model::answer::{Answer, Reply};
 use hp_model::bytes::Bytes;

@@ -4,11 +4,12 @@
 mod file;
 mod files;
 mod map;
+mod numbers;
 mod ranges;
 mod system;
 mod table;
 
-pub use files::MapAccess;
+pub use files::{MapAccess, MapRange};
 pub use system::System;
 
 #[cfg(test)]

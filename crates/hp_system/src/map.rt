@@ -47,6 +47,13 @@ impl Map {
         self.start
     }
 
+    /// Its number among the task's maps.
+    pub fn number(&self) -> u64
+        ensures { result ≡ self.now.number }
+    {
+        self.number
+    }
+
     /// How many indices it maps.
     pub fn pages(&self) -> usize
         ensures { result ≡ length self.now.places }

@@ -1,17 +1,21 @@
 //! The machine.
 ghost use Rattle.std.specs.Prelude.{◌≡◌, ℕ, ◌+◌, ◌<◌, ◌≤◌, length, All, IfOk, OnErr};
-ghost use Rattle.hp_model.specs.declared.step.Step.TheVariants.{Connect, Create, Load, Store, Nr, Meminfo};
+ghost use Rattle.hp_model.specs.declared.step.Reserving.TheVariants.{Reserve};
+ghost use Rattle.hp_model.specs.declared.step.Sharing.TheVariants.{Shared};
+ghost use Rattle.hp_model.specs.declared.step.Step.TheVariants.{Connect, Create, Map, Load, Store, Nr, Meminfo};
 ghost use Rattle.hp_model.specs.Machine.{start};
 ghost use Rattle.hp_model.specs.PoolCounts.{counts_of};
+ghost use Rattle.hp_model.specs.Run.{IsRun};
 ghost use Rattle.hp_model.specs.Step.{IsStep};
 
-use crate::files::{Files, MapAccess};
+use crate::files::{Files, MapAccess, MapRange};
 use crate::table::TaskTable;
 use hp_model::answer::{Answer, Counts, Reply};
 use hp_model::bytes::Bytes;
 use hp_model::event::TableEvent;
 use hp_model::naming::Naming;
 use hp_model::refusal::Refusal;
+use hp_model::step::{Reserving, Sharing, Step};
 use hp_pool::{Blanks, Pool};
 use std::alloc::{AllocError, Global};
 use std::marker::Model;
@@ -108,6 +112,33 @@ impl<N: Naming> System<N> {
         self.files.create(name)
     }
 
+    /// Maps `range.pages` indices of a file, from `range.start` on, for a task, and answers the map's
+    /// number: the least from 1 on that no map of the task on the slot has. A page is reserved for
+    /// each index that has no entry in the file yet; the file gets longer where the map ends past
+    /// its end (`mm/hugetlbfs_reserv.rst`).
+    ///
+    /// Refused, and then nothing changes, by the first of these that holds (profile):
+    /// - NoSuchTask: the task is not there.
+    /// - NoSuchSlot: there is no such slot, or it is not mounted.
+    /// - NoSuchFile: no file of the slot has the name.
+    /// - OutOfRange: there are no pages, or the map ends past index 1,048,576.
+    /// - TooMany: more than 65,536 pages, a 4,097th map of the slot, or one of a 257th task.
+    /// - OutOfMemory: memory for the file's indices or the map is refused.
+    /// - NoPages: more pages would be committed than nr and overcommit together, or than all frames.
+    pub fn map(&mut self, slot: u64, name: &Bytes, range: &MapRange) -> Reply
+        ensures step { IsStep self.old (Map range.now.task slot name.now range.now.start range.now.pages Shared Reserve) result self.new }
+        ensures size { self.new.page_size ≡ self.old.page_size }
+    {
+        let home = match self.table.home(range.task) {
+            Some(home) => home,
+            None => return Err(Refusal::NoSuchTask),
+        };
+        if slot != 0 {
+            return Err(Refusal::NoSuchSlot);
+        }
+        self.files.map(&mut self.pool, home, name.as_slice(), range)
+    }
+
     /// Answers `count` bytes of the page at `access.index` of a file, from byte `access.offset` on,
     /// through the task's map of that number. An index without a page first gets one of zeros: by
     /// the promise of its entry, or else by one that is made now (`mm/hugetlbfs_reserv.rst`).
@@ -180,6 +211,86 @@ impl<N: Naming> System<N> {
         ensures size { self.new.page_size ≡ self.old.page_size }
     {
         Ok(Answer::Numbers(self.pool.counts()))
+    }
+
+    /// Answers a step, or leaves everything as it was and says why.
+    ///
+    /// Refused as the step's own function is. BadLine where the step is not built yet.
+    #[tactic(auto, unfolding(hp_model::specs::Step::IsStep))]
+    pub fn apply(&mut self, step: &Step) -> Reply
+        ensures step { IsStep self.old step.now result self.new }
+        ensures size { self.new.page_size ≡ self.old.page_size }
+    {
+        match step {
+            Step::Connect { task, home } => self.connect(*task, *home),
+            Step::Create { slot, name } => self.create(*slot, name),
+            Step::Map {
+                task,
+                slot,
+                name,
+                from,
+                pages,
+                sharing: Sharing::Shared,
+                reserving: Reserving::Reserve,
+            } => {
+                let range = MapRange {
+                    task: *task,
+                    start: *from,
+                    pages: *pages,
+                };
+                self.map(*slot, name, &range)
+            }
+            Step::Load {
+                task,
+                slot,
+                map,
+                index,
+                offset,
+                count,
+            } => {
+                let access = MapAccess {
+                    task: *task,
+                    map: *map,
+                    index: *index,
+                    offset: *offset,
+                };
+                self.load(*slot, &access, *count)
+            }
+            Step::Store {
+                task,
+                slot,
+                map,
+                index,
+                offset,
+                bytes,
+            } => {
+                let access = MapAccess {
+                    task: *task,
+                    map: *map,
+                    index: *index,
+                    offset: *offset,
+                };
+                self.store(*slot, &access, bytes)
+            }
+            Step::Nr { pages } => self.set_nr(*pages),
+            Step::Meminfo => self.meminfo(),
+            _ => Err(Refusal::BadLine),
+        }
+    }
+
+    /// Does steps one after another, and answers their replies. Room for the replies is made first:
+    /// where it is refused, nothing is done.
+    pub fn run(&mut self, alloc: Global, steps: &[Step]) -> Result<Vec<Reply>, AllocError>
+        ensures run { IfOk result (λ replies. IsRun self.old steps.now replies.items self.new) }
+        ensures size { self.new.page_size ≡ self.old.page_size }
+        ensures err { OnErr result (self.new ≡ self.old) }
+    {
+        let mut replies = Vec::with_capacity(alloc, steps.len())?;
+        for step in steps {
+            let reply = self.apply(step);
+            replies.push_reserved(reply);
+        }
+        Ok(replies)
     }
 
     /// Ends the machine, and answers the pool's last numbers (pages). Never refused.
