@@ -33,3 +33,9 @@ pub mod RefusalsKeep
 pub mod Counting
 pub mod Editing
 pub mod Finding
+pub mod Outcomes
+pub mod Looks
+pub mod Runs
+pub mod Shown
+pub mod Stored
+pub mod SlotShows

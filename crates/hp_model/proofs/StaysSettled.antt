@@ -142,7 +142,7 @@ script_settled (Do e next) s reply t st is = script_settled (next is.0) is.1 rep
 script_settled (Where_mapped k task mapped other) s reply t st is =
     either_way (has_maps_of task (slot_at s k)) (λ p. script_settled mapped s reply t st p) (λ q. script_settled other s reply t st q) is
 
-step_settled : (s : State) (step : Step) (reply : Reply) (t : State) → IsSettledState s → IsStep s step reply t → IsSettledState t
+pub step_settled : (s : State) (step : Step) (reply : Reply) (t : State) → IsSettledState s → IsStep s step reply t → IsSettledState t
 unfolding IsStep
 step_settled s step reply t st is = built_settled (is_unbuilt s step) is
   where

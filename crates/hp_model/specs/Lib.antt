@@ -26,6 +26,7 @@ pub mod Pool
 pub mod PoolCounts
 pub mod PoolRun
 pub mod Profile
+pub mod Promises
 pub mod Ranges
 pub mod Reading
 pub mod Reserved

@@ -5,9 +5,13 @@ use Rattle.hp_model.specs.Plan.{Reply}
 use Rattle.hp_model.specs.State.{State}
 use Rattle.hp_model.specs.Step.{IsStep}
 
--- the steps are answered by these replies, one after another
+-- the steps are answered by these replies, one after another, each as R says
+abbrev pub RunsBy : (State → Step → Reply → State → Type 0) → State → List Step → List Reply → State → Type 0
+RunsBy R s [] [] t = s ≡ t
+RunsBy R s (step ∷ steps) (reply ∷ replies) t = (mid : State) × R s step reply mid × RunsBy R mid steps replies t
+RunsBy R s [] (reply ∷ replies) t = ⊥
+RunsBy R s (step ∷ steps) [] t = ⊥
+
+-- a run of the machine
 abbrev pub IsRun : State → List Step → List Reply → State → Type 0
-IsRun s [] [] t = s ≡ t
-IsRun s (step ∷ steps) (reply ∷ replies) t = (mid : State) × IsStep s step reply mid × IsRun mid steps replies t
-IsRun s [] (reply ∷ replies) t = ⊥
-IsRun s (step ∷ steps) [] t = ⊥
+IsRun s steps replies t = RunsBy IsStep s steps replies t

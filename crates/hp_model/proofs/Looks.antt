@@ -1,0 +1,71 @@
+-- What a look at one place of a list tells after a change that the look does not see, or of one place.
+use Rattle.std.proofs.Common.{◌≡◌, ⊎_elim, inl, inr, ℕ, zero, suc, ◌+◌, ◌-◌, ◌<◌, List, [], ◌∷◌, ◌++◌, length, take, drop, map, replicate, get_or, set, refl, sym, ap, ◌∙◌, subst, arith, append_assoc}
+use Rattle.std.proofs.lemmas.Bool.{cases_eq}
+use Rattle.std.proofs.lemmas.List.{get_or-set_same, get_or-set_other, take-append-drop}
+use Rattle.hp_model.specs.Lists.{edit_at, edit_range}
+
+module _ {X Y : Type 0} (g : X → Y) (d : X) where
+  -- one element is another, which looks the same
+  pub same_put : (xs : List X) (k : ℕ) (y : X) → k < length xs → g y ≡ g (get_or xs k d) → (j : ℕ) → g (get_or (set xs k y) j d) ≡ g (get_or xs j d)
+  same_put xs k y l e j =
+      elim (cases_eq j k) as (λ _. g (get_or (set xs k y) j d) ≡ g (get_or xs j d)) [
+        | inl same ↦ subst (λ i. g (get_or (set xs k y) i d) ≡ g (get_or xs i d)) (sym same) (ap g (get_or-set_same xs k y d l) ∙ e)
+        | inr other ↦ ap g (get_or-set_other xs k j y d other)
+      ]
+
+  -- what comes after looks the same
+  pub same_after : (xs ys zs : List X) → ((j : ℕ) → g (get_or ys j d) ≡ g (get_or zs j d)) → (j : ℕ) → g (get_or (xs ++ ys) j d) ≡ g (get_or (xs ++ zs) j d)
+  same_after [] ys zs h j = h j
+  same_after (x ∷ xs) ys zs h zero = refl
+  same_after (x ∷ xs) ys zs h (suc j) = same_after xs ys zs h j
+
+  same_mapped : (f : X → X) → ((x : X) → g (f x) ≡ g x) → (xs ys : List X) (j : ℕ) → g (get_or (map f xs ++ ys) j d) ≡ g (get_or (xs ++ ys) j d)
+  same_mapped f h [] ys j = refl
+  same_mapped f h (x ∷ xs) ys zero = h x
+  same_mapped f h (x ∷ xs) ys (suc j) = same_mapped f h xs ys j
+
+  -- elements more that look like none
+  pub same_more : (xs ys : List X) → ((j : ℕ) → g (get_or ys j d) ≡ g d) → (j : ℕ) → g (get_or (xs ++ ys) j d) ≡ g (get_or xs j d)
+  same_more [] ys h j = h j
+  same_more (x ∷ xs) ys h zero = refl
+  same_more (x ∷ xs) ys h (suc j) = same_more xs ys h j
+
+  pub same_one : (x : X) → g x ≡ g d → (j : ℕ) → g (get_or (x ∷ []) j d) ≡ g d
+  same_one x e zero = e
+  same_one x e (suc j) = refl
+
+  pub same_none : (n j : ℕ) → g (get_or (replicate n d) j d) ≡ g d
+  same_none zero j = refl
+  same_none (suc n) zero = refl
+  same_none (suc n) (suc j) = same_none n j
+
+  -- a range of elements is changed, and each looks the same
+  pub same_edit_range : (f : X → X) → ((x : X) → g (f x) ≡ g x) → (a b : ℕ) (xs : List X) (j : ℕ) → g (get_or (edit_range f a b xs) j d) ≡ g (get_or xs j d)
+  same_edit_range f h a b xs j =
+      let r : List X = drop a xs in
+      let k : ℕ = b - a in
+      ap (λ ys. g (get_or ys j d)) (append_assoc (take a xs) (map f (take k r)) (drop k r))
+      ∙ same_after (take a xs) (map f (take k r) ++ drop k r) (take k r ++ drop k r) (same_mapped f h (take k r) (drop k r)) j
+      ∙ ap (λ ys. g (get_or (take a xs ++ ys) j d)) (take-append-drop k r) ∙ ap (λ ys. g (get_or ys j d)) (take-append-drop a xs)
+
+-- ---- an edit of one element
+
+pub edit_other : {X : Type 0} (f : X → X) (d : X) (xs : List X) (k j : ℕ) → (j ≡ k → ⊥) → get_or (edit_at f xs k) j d ≡ get_or xs j d
+edit_other f d [] k j other = refl
+edit_other f d (x ∷ xs) zero zero other = absurd (other refl)
+edit_other f d (x ∷ xs) zero (suc j) other = refl
+edit_other f d (x ∷ xs) (suc k) zero other = refl
+edit_other f d (x ∷ xs) (suc k) (suc j) other = edit_other f d xs k j (λ same. other (ap suc same))
+
+pub edit_here : {X : Type 0} (f : X → X) (d : X) → f d ≡ d → (xs : List X) (k : ℕ) → get_or (edit_at f xs k) k d ≡ f (get_or xs k d)
+edit_here f d e [] k = sym e
+edit_here f d e (x ∷ xs) zero = refl
+edit_here f d e (x ∷ xs) (suc k) = edit_here f d e xs k
+
+-- an edit that a look does not see
+pub same_edit : {X Y : Type 0} (g : X → Y) (d : X) (f : X → X) → ((x : X) → g (f x) ≡ g x) → (xs : List X) (k j : ℕ) → g (get_or (edit_at f xs k) j d) ≡ g (get_or xs j d)
+same_edit g d f h [] k j = refl
+same_edit g d f h (x ∷ xs) zero zero = h x
+same_edit g d f h (x ∷ xs) zero (suc j) = refl
+same_edit g d f h (x ∷ xs) (suc k) zero = refl
+same_edit g d f h (x ∷ xs) (suc k) (suc j) = same_edit g d f h xs k j

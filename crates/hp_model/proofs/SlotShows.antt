@@ -1,0 +1,162 @@
+-- What a slot's files show after each event that is built, and what a load answers.
+use Rattle.std.proofs.Common.{◌≡◌, ℕ, ◌+◌, ◌<◌, Bool, true, false, ◌&&◌, ◌||◌, ◌==◌, not, Option, None, Some, is_some, List, [], ◌∷◌, length, replicate, refl, sym, ap, ◌∙◌, if◌then◌else◌, nat_lt, nat_le, ◌-◌}
+use Rattle.std.proofs.lemmas.Bool.{cond_both, leb-false}
+use Rattle.hp_model.specs.declared.answer.Answer.{Answer}
+use Rattle.hp_model.specs.declared.answer.Answer.TheVariants.{Done, MapNo}
+use Rattle.hp_model.specs.declared.cell.Cell.{Cell}
+use Rattle.hp_model.specs.declared.cell.Cell.TheVariants.{Hole, Entered, Present}
+use Rattle.hp_model.specs.declared.event.SlotEvent.TheVariants as slot
+use Rattle.hp_model.specs.declared.refusal.Refusal.{Refusal}
+use Rattle.hp_model.specs.declared.refusal.Refusal.TheVariants.{NoPages, MountFull, OutOfMemory, OutOfRange, CrossesPage, TooMany, BeyondEnd, NoSuchMap, NoSuchFile, BadName, FileExists, NoInodes}
+use Rattle.hp_model.specs.declared.step.Intent.{Intent}
+use Rattle.hp_model.specs.declared.step.Intent.TheVariants.{Read, Write}
+use Rattle.hp_model.specs.declared.step.Reserving.{Reserving}
+use Rattle.hp_model.specs.declared.step.Sharing.{Sharing}
+use Rattle.hp_model.specs.Access.{access}
+use Rattle.hp_model.specs.Balance.{left_by}
+use Rattle.hp_model.specs.File.{File, Mount, at_least, entered, new_file, with_file}
+use Rattle.hp_model.specs.Grant.{is_full, is_over, rise}
+use Rattle.hp_model.specs.MakeMap.{asked, mapped, next_number, reserves, with_new}
+use Rattle.hp_model.specs.Lists.{edit_range}
+use Rattle.hp_model.specs.Mapping.{is_map, is_shared}
+use Rattle.hp_model.specs.Page.{Page}
+use Rattle.hp_model.specs.Plan.{Slot, Outcome, Refused, Answered, Plan, Finish, Ask, Choice, refuse, unless, with_value, continued, grant, when_granted}
+use Rattle.hp_model.specs.Pool.{Grant}
+use Rattle.hp_model.specs.Profile.{most_bytes, most_file_pages, most_files, most_map_pages}
+use Rattle.hp_model.specs.Promises.{spot_on, IsLoaded, file_in, shown_on, over, is_shared_of}
+use Rattle.hp_model.specs.SlotEvent.{are_too_many_maps, byte_access, bytes_answer, file_named, has_name, is_beyond, is_name, is_unmapped, load, map_file, slot_event, store}
+use Rattle.hp_model.specs.Spot.{Spot, again, spot, written}
+use Rattle.hp_model.specs.Value.{shown, value}
+use Rattle.hp_model.proofs.Looks.{same_edit_range, same_more, same_none, same_one, same_put}
+use Rattle.hp_model.proofs.MountMoves.{IsFileAt, IsSpot, file_at, spot_is}
+use Rattle.hp_model.proofs.Outcomes.{Always, always_if, always_test, always_then}
+use Rattle.hp_model.proofs.Shown.{look, On, Same, Result, read_same, write_done}
+use Rattle.hp_model.proofs.Stored.{ready, stored}
+
+-- ---- outcomes that may be a refusal
+
+always_unless : (P : Outcome → Type 0) → ((r : Refusal) → P (Refused r)) → (ts : List (Bool × Refusal)) (p : Plan) → Always P p → Always P (unless ts p)
+always_unless P stops [] p h = h
+always_unless P stops (t ∷ ts) p h = always_test P t.0 t.1 (unless ts p) (stops t.1) (λ e. always_unless P stops ts p h)
+
+always_value : {X : Type 0} (P : Outcome → Type 0) → ((r : Refusal) → P (Refused r)) → (o : Option X) (r : Refusal) (f : X → Plan) → ((x : X) → o ≡ Some x → Always P (f x)) → Always P (with_value o r f)
+always_value P stops None r f h = stops r
+always_value P stops (Some x) r f h = h x refl
+
+granted_or : (P : Outcome → Type 0) → ((r : Refusal) → P (Refused r)) → (b : Bool) (o : Outcome) → P o → P (if b then o else Refused NoPages)
+granted_or P stops true o h = h
+granted_or P stops false o h = stops NoPages
+
+always_grant : (P : Outcome → Type 0) → ((r : Refusal) → P (Refused r)) → (c : Choice) (m : Mount) (home k : ℕ) (o : Outcome) → P o → Always P (grant c m home k o)
+always_grant P stops c m home k o h =
+    always_unless P stops ((is_full m k, MountFull) ∷ (c.refused, OutOfMemory) ∷ []) (if rise m k == 0 then Finish o else Ask (λ nr. Grant home (rise m k)) (when_granted o))
+    (always_if P (rise m k == 0) (Finish o) (Ask (λ nr. Grant home (rise m k)) (when_granted o)) (λ e. h) (λ e a. granted_or P stops a.granted o h))
+
+-- ---- events that leave what files show
+
+abbrev pub Quiet : (size : ℕ) → Slot → Outcome → Type 0
+Quiet size old o = (j x : ℕ) → shown_on size (left_by old o) j x ≡ shown_on size old j x
+
+refused_quiet : (size : ℕ) (old : Slot) (r : Refusal) → Quiet size old (Refused r)
+refused_quiet size old r = λ j x. refl
+
+pub create_quiet : (size k : ℕ) (c : Choice) (old : Slot) (name : List ℕ) → Always (Quiet size old) (slot_event size k c old (slot.Create name))
+create_quiet size k c None name = λ j x. refl
+create_quiet size k c (Some m) name =
+    let f : File = new_file (Some name) in
+    always_unless (Quiet size (Some m)) (refused_quiet size (Some m))
+    ((not (is_name name), BadName) ∷ (is_some (file_named m name), FileExists) ∷ (nat_le most_files (length m.files), TooMany) ∷ (is_over m.limits.inodes (length m.files + 1), NoInodes) ∷ (c.refused, OutOfMemory) ∷ [])
+    (Finish (Answered Done (Some (with_new m f)))) (λ j x. same_more (look size x) (new_file None) m.files (f ∷ []) (λ i. same_one (look size x) (new_file None) f refl i) j)
+
+entered_shows : (size : ℕ) (c : Cell Page) → shown size (entered c) ≡ shown size c
+entered_shows size Hole = refl
+entered_shows size Entered = refl
+entered_shows size (Present page) = refl
+
+mapped_shows : (size task number a n : ℕ) (sharing : Sharing) (reserving : Reserving) (f : File) (x : ℕ) → look size x (mapped task number a n sharing reserving f) ≡ look size x f
+mapped_shows size task number a n sharing reserving f x =
+    let cells = f.cells in
+    let long : look size x (record f { cells = at_least (a + n) cells }) ≡ look size x f = same_more (shown size) Hole cells (replicate (a + n - length cells) Hole) (λ j. same_none (shown size) Hole (a + n - length cells) j) x in
+    cond_both (is_shared sharing && reserves reserving) (edit_range entered a (a + n) (at_least (a + n) cells)) (at_least (a + n) cells) (λ cs. look size x (record f { cells = cs }) ≡ look size x f)
+    (λ e. same_edit_range (shown size) Hole entered (entered_shows size) a (a + n) (at_least (a + n) cells) x ∙ long)
+    (λ e. long)
+
+pub map_quiet : (size k : ℕ) (c : Choice) (old : Slot) (task home : ℕ) (name : List ℕ) (a n : ℕ) (sharing : Sharing) (reserving : Reserving)
+    → Always (Quiet size old) (slot_event size k c old (slot.Map task home name a n sharing reserving))
+map_quiet size k c None task home name a n sharing reserving = λ j x. refl
+map_quiet size k c (Some m) task home name a n sharing reserving =
+    let P = Quiet size (Some m) in
+    let stops = refused_quiet size (Some m) in
+    let number = next_number task m in
+    always_value P stops (file_named m name) NoSuchFile (map_file c m task home a n sharing reserving)
+    (λ q e. (let at = file_at m (has_name name) q e in
+    let more : File = mapped task number a n sharing reserving q.1 in
+    let left : Outcome = Answered (MapNo number) (Some (with_file m q.0 more)) in
+    always_unless P stops (((n == 0) || nat_lt most_file_pages (a + n), OutOfRange) ∷ (nat_lt most_map_pages n || are_too_many_maps m task, TooMany) ∷ [])
+    (grant c m home (asked sharing reserving a n q.1) left)
+    (always_grant P stops c m home (asked sharing reserving a n q.1) left
+    (λ j x. same_put (look size x) (new_file None) m.files q.0 more at.within (mapped_shows size task number a n sharing reserving q.1 x ∙ sym (ap (look size x) (at.is (new_file None)))) j))))
+
+-- ---- accesses
+
+module _ (size : ℕ) (c : Choice) (m : Mount) (home i : ℕ) where
+  bytes_on : (Q : Mount → Type 0) (offset count : ℕ) (intent : Intent) (s : Spot) → (i < length s.file.cells → Always (On Q) (access c size m s home i intent)) → Always (On Q) (byte_access c size m home i offset count intent s)
+  bytes_on Q offset count intent s h =
+      always_unless (On Q) (λ r. tt) ((is_unmapped s i || (count == 0), OutOfRange) ∷ (nat_lt size (offset + count), CrossesPage) ∷ (nat_lt most_bytes count, TooMany) ∷ []) (if is_beyond s i then refuse BeyondEnd else access c size m s home i intent)
+      (always_test (On Q) (is_beyond s i) BeyondEnd (access c size m s home i intent) tt (λ e. h (leb-false (length s.file.cells) i e)))
+
+-- the files show what they showed, and an answer is what the map shows
+pub record Loads (size : ℕ) (old : Slot) (o : Option Spot) (i offset count : ℕ) (out : Outcome) : Type 0 where
+  pub quiet : Quiet size old out
+  pub loaded : (a : Answer) (new : Slot) → out ≡ Answered a new → IsLoaded size o i offset count a
+
+load_refused : (size : ℕ) (old : Slot) (o : Option Spot) (i offset count : ℕ) (r : Refusal) → Loads size old o i offset count (Refused r)
+load_refused size old o i offset count r = record { quiet = λ j x. refl; loaded = λ a new e. cc }
+
+load_ends : (size : ℕ) (m : Mount) (s : Spot) (at : IsSpot m s) (i offset count : ℕ) (o : Outcome) → On (Same size m s at i) o
+    → Loads size (Some m) (Some s) i offset count (continued (λ n. Answered (bytes_answer offset count (value size (again n s).file (again n s).map i)) (Some n)) o)
+load_ends size m s at i offset count (Refused r) on = load_refused size (Some m) (Some s) i offset count r
+load_ends size m s at i offset count (Answered a None) on = absurd on
+load_ends size m s at i offset count (Answered a (Some n)) on = record {
+  quiet = on.cells;
+  loaded = λ b new e. (let first : bytes_answer offset count (value size (again n s).file (again n s).map i) ≡ b = cc in sym first ∙ ap (bytes_answer offset count) on.value);
+}
+
+pub load_loads : (size k : ℕ) (c : Choice) (old : Slot) (task home number i offset count : ℕ)
+    → Always (Loads size old (spot_on old task number) i offset count) (slot_event size k c old (slot.Load task home number i offset count))
+load_loads size k c None task home number i offset count = load_refused size None None i offset count _
+load_loads size k c (Some m) task home number i offset count = by_spot (spot m (is_map task number)) (λ s e. spot_is m (is_map task number) s e)
+  where
+    by_spot : (o : Option Spot) → ((s : Spot) → o ≡ Some s → IsSpot m s) → Always (Loads size (Some m) o i offset count) (with_value o NoSuchMap (load c size m home i offset count))
+    by_spot None is = load_refused size (Some m) None i offset count NoSuchMap
+    by_spot (Some s) is =
+        let at = is s refl in
+        always_then (On (Same size m s at i)) (Loads size (Some m) (Some s) i offset count) (λ n. Answered (bytes_answer offset count (value size (again n s).file (again n s).map i)) (Some n))
+        (load_ends size m s at i offset count) (byte_access c size m home i offset count Read s)
+        (bytes_on size c m home i (Same size m s at i) offset count Read s (read_same size m s at i c home))
+
+-- the bytes are over what the shared map's file shows there, and nothing else
+abbrev pub Stores : (size : ℕ) → Slot → Option Spot → (i offset : ℕ) → List ℕ → Outcome → Type 0
+Stores size old o i offset bytes (Refused r) = Unit {0}
+Stores size old o i offset bytes (Answered a new) =
+    (j x : ℕ) → shown_on size new j x ≡ (if (i == x) && is_shared_of o j then over offset bytes (shown_on size old j x) else shown_on size old j x)
+
+store_ends : (size : ℕ) (m : Mount) (s : Spot) (at : IsSpot m s) (i offset : ℕ) (bytes : List ℕ) (o : Outcome) → On (Result size m s at i) o
+    → Stores size (Some m) (Some s) i offset bytes (continued (λ n. Answered Done (Some (written n s i offset bytes))) o)
+store_ends size m s at i offset bytes (Refused r) on = tt
+store_ends size m s at i offset bytes (Answered a None) on = absurd on
+store_ends size m s at i offset bytes (Answered a (Some n)) on =
+    λ j x. stored size m s at i n (ready size m s at i n on) offset bytes (i == x) (is_shared s.map.sharing) (s.file_no == j) j x refl refl refl
+
+pub store_stores : (size k : ℕ) (c : Choice) (old : Slot) (task home number i offset : ℕ) (bytes : List ℕ)
+    → Always (Stores size old (spot_on old task number) i offset bytes) (slot_event size k c old (slot.Store task home number i offset bytes))
+store_stores size k c None task home number i offset bytes = tt
+store_stores size k c (Some m) task home number i offset bytes = by_spot (spot m (is_map task number)) (λ s e. spot_is m (is_map task number) s e)
+  where
+    by_spot : (o : Option Spot) → ((s : Spot) → o ≡ Some s → IsSpot m s) → Always (Stores size (Some m) o i offset bytes) (with_value o NoSuchMap (store c size m home i offset bytes))
+    by_spot None is = tt
+    by_spot (Some s) is =
+        let at = is s refl in
+        always_then (On (Result size m s at i)) (Stores size (Some m) (Some s) i offset bytes) (λ n. Answered Done (Some (written n s i offset bytes)))
+        (store_ends size m s at i offset bytes) (byte_access c size m home i offset (length bytes) Write s)
+        (bytes_on size c m home i (Result size m s at i) offset (length bytes) Write s (write_done size m s at i c home))

@@ -1,0 +1,115 @@
+-- What the machine promises of each step.
+use Rattle.std.specs.Prelude.{◌≡◌, ℕ, ◌+◌, ◌<◌, ◌&&◌, ◌||◌, ◌==◌, Bool, true, false, not, Option, None, Some, is_some, Ok, Err, List, ◌++◌, length, take, drop, if◌then◌else◌}
+use Rattle.std.specs.List.{slice_index_or}
+use Rattle.hp_model.specs.declared.answer.Answer.{Answer}
+use Rattle.hp_model.specs.declared.step.Intent.{Intent}
+use Rattle.hp_model.specs.declared.step.Intent.TheVariants.{Read, Write}
+use Rattle.hp_model.specs.declared.step.Step.{Step}
+use Rattle.hp_model.specs.declared.step.Step.TheVariants.{Fault, Load, Store}
+use Rattle.hp_model.specs.Balance.{slot_usage, IsWithinLimit}
+use Rattle.hp_model.specs.File.{File, Mount, cell_at, new_file}
+use Rattle.hp_model.specs.Laws.{is_for_pages}
+use Rattle.hp_model.specs.Mapping.{Map, copy_of, is_map, is_shared, place_at}
+use Rattle.hp_model.specs.Page.{zeros}
+use Rattle.hp_model.specs.Plan.{Reply, Slot}
+use Rattle.hp_model.specs.Reserved.{is_reserved}
+use Rattle.hp_model.specs.Run.{RunsBy}
+use Rattle.hp_model.specs.Settled.{IsSettledState, AreCounted}
+use Rattle.hp_model.specs.SlotEvent.{bytes_answer}
+use Rattle.hp_model.specs.Spot.{Spot, spot}
+use Rattle.hp_model.specs.State.{State, slot_at}
+use Rattle.hp_model.specs.Step.{IsStep}
+use Rattle.hp_model.specs.Value.{shown, value}
+
+abbrev pub spot_on : Slot → (task number : ℕ) → Option Spot
+spot_on None task number = None
+spot_on (Some m) task number = spot m (is_map task number)
+
+-- the map of the task with the number, if it is there
+abbrev pub map_named : State → (slot task number : ℕ) → Option Spot
+map_named s slot task number = spot_on (slot_at s slot) task number
+
+-- ---- accesses whose page is kept for them
+
+-- the owner of a private map has a copy there
+abbrev pub owns_copy : Map → ℕ → Bool
+owns_copy m i = not (is_shared m.sharing) && (m.owner && is_some (copy_of (place_at m i)))
+
+-- the index is reserved to the map, or an owner writes into its copy
+abbrev pub is_backed : Intent → Option Spot → ℕ → Bool
+is_backed intent None i = false
+is_backed Read (Some s) i = is_reserved s.file s.map i
+is_backed Write (Some s) i = is_reserved s.file s.map i || owns_copy s.map i
+
+abbrev pub is_backed_step : State → Step → Bool
+is_backed_step s (Fault task slot number i intent) = is_backed intent (map_named s slot task number) i
+is_backed_step s (Load task slot number i offset count) = is_backed Read (map_named s slot task number) i
+is_backed_step s (Store task slot number i offset bytes) = is_backed Write (map_named s slot task number) i
+is_backed_step s other = false
+
+-- refused for want of a huge page
+abbrev pub wants_page : Reply → Bool
+wants_page (Ok a) = false
+wants_page (Err r) = is_for_pages r
+
+-- ---- what is loaded: the map's own copy, or else what was stored through the file, or else zeros
+
+abbrev pub IsLoaded : (size : ℕ) → Option Spot → (i offset count : ℕ) → Answer → Type 0
+IsLoaded size None i offset count a = ⊥
+IsLoaded size (Some s) i offset count a = a ≡ bytes_answer offset count (value size s.file s.map i)
+
+abbrev pub ShowsMap : State → Step → Reply → Type 0
+ShowsMap s (Load task slot number i offset count) (Ok a) = IsLoaded s.page_size (map_named s slot task number) i offset count a
+ShowsMap s step reply = Unit {0}
+
+-- ---- what files show
+
+abbrev pub file_in : Mount → ℕ → File
+file_in m j = slice_index_or m.files j (new_file None)
+
+abbrev pub shown_on : (size : ℕ) → Slot → (file i : ℕ) → List ℕ
+shown_on size None file i = zeros size
+shown_on size (Some m) file i = shown size (cell_at (file_in m file) i)
+
+-- the bytes at an index of the file at this place of the slot; zeros where there is no page
+abbrev pub shown_in : State → (slot file i : ℕ) → List ℕ
+shown_in s slot file i = shown_on s.page_size (slot_at s slot) file i
+
+-- the bytes with others over them from the offset on
+abbrev pub over : (offset : ℕ) → (bytes old : List ℕ) → List ℕ
+over offset bytes old = take offset old ++ bytes ++ drop (offset + length bytes) old
+
+abbrev pub is_shared_of : Option Spot → ℕ → Bool
+is_shared_of None file = false
+is_shared_of (Some s) file = is_shared s.map.sharing && (s.file_no == file)
+
+-- what the step makes of the bytes there: a store through a shared map of that file writes them
+abbrev pub stored_over : State → Step → Reply → (slot file i : ℕ) → List ℕ → List ℕ
+stored_over s (Store task slot number i offset bytes) (Ok a) k file j old =
+    if (slot == k) && ((i == j) && is_shared_of (map_named s slot task number) file) then over offset bytes old else old
+stored_over s step reply k file j old = old
+
+-- ---- a step
+
+pub record IsPromised (s : State) (step : Step) (reply : Reply) (t : State) : Type 0 where
+  -- an access at an index reserved to its map, and an owner's write into its copy, are never refused for want of a huge page
+  pub reserved : is_backed_step s step ≡ true → wants_page reply ≡ false
+  -- Total, Free, Rsvd and Surp are those of the sums over files and maps, and each promised page is free
+  pub counts : AreCounted t
+  -- a step that raises what a mount uses ends within the mount's limit
+  pub limits : (slot : ℕ) → slot < length s.slots → slot_usage (slot_at s slot) < slot_usage (slot_at t slot) → IsWithinLimit (slot_at t slot)
+  -- a load answers what its map showed
+  pub loads : ShowsMap s step reply
+  -- each file shows what it showed, but for what is stored through a shared map of it
+  pub files : (slot file i : ℕ) → shown_in t slot file i ≡ stored_over s step reply slot file i (shown_in s slot file i)
+
+abbrev pub IsPromisedStep : State → Step → Reply → State → Type 0
+IsPromisedStep s step reply t = IsStep s step reply t × IsPromised s step reply t
+
+-- the steps are answered by these replies, one after another, each as promised
+abbrev pub IsPromisedRun : State → List Step → List Reply → State → Type 0
+IsPromisedRun s steps replies t = RunsBy IsPromisedStep s steps replies t
+
+-- each step of a settled machine is as promised
+abbrev pub PromisesAreKept : Type 0
+PromisesAreKept = (s : State) (step : Step) (reply : Reply) (t : State) → IsSettledState s → IsStep s step reply t → IsPromised s step reply t
