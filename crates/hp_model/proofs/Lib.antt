@@ -39,3 +39,5 @@ pub mod Runs
 pub mod Shown
 pub mod Stored
 pub mod SlotShows
+pub mod Backed
+pub mod Promised

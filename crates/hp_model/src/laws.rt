@@ -2,6 +2,7 @@
 
 ghost use Rattle.hp_model.specs.Balance.{SlotsAreBalanced};
 ghost use Rattle.hp_model.specs.Laws.{OwnerWrites, RefusalsChangeNothing, ReservedAccess};
+ghost use Rattle.hp_model.specs.Promises.{PromisesAreKept};
 ghost use Rattle.hp_model.specs.Settled.{CountsAreSums, LimitsHold, PoolIsTied, RunsAreSettled, StartIsSettled};
 
 /// An access at an index that is reserved to its map is never refused for want of a huge page, whatever the pool answers.
@@ -47,4 +48,10 @@ pub fn limits_hold()
 /// A refused event leaves everything as it was.
 pub fn refusals_change_nothing()
     ensures { RefusalsChangeNothing }
+{}
+
+/// Each step of a settled machine is as promised: reserved accesses and owners' writes are not refused for want of a huge page, the counts are
+/// sums, limits hold, a load answers what its map shows, and each file shows what it showed but for what is stored through it.
+pub fn promises_are_kept()
+    ensures { PromisesAreKept }
 {}

@@ -1,0 +1,248 @@
+-- Each step of a settled machine is as promised.
+use Rattle.std.proofs.Common.{◌≡◌, ⊎_elim, inl, inr, ◌⊎◌, subst, ℕ, ◌<◌, Bool, true, false, ◌&&◌, ◌==◌, None, Some, Ok, Err, List, length, refl, sym, ap, ◌∙◌, arith, if◌then◌else◌, nat_lt}
+use Rattle.std.specs.Bool.{MatchBool}
+use Rattle.std.specs.List.{slice_set, slice_index_or}
+use Rattle.std.proofs.lemmas.Bool.{cases_eq, ltb-true, eq-eqb, eqb-true, false_from_ne_true}
+use Rattle.std.proofs.lemmas.List.{get_or-set_same, get_or-set_other}
+use Rattle.hp_model.specs.declared.answer.Answer.{Answer}
+use Rattle.hp_model.specs.declared.event.Event.{Event}
+use Rattle.hp_model.specs.declared.event.Event.TheVariants.{Tasks, Slot as OnSlot, Pool as OnPool}
+use Rattle.hp_model.specs.declared.event.PoolEvent.{PoolEvent}
+use Rattle.hp_model.specs.declared.event.PoolEvent.TheVariants as pool
+use Rattle.hp_model.specs.declared.event.SlotEvent.{SlotEvent}
+use Rattle.hp_model.specs.declared.event.SlotEvent.TheVariants as slot
+use Rattle.hp_model.specs.declared.event.TableEvent.{TableEvent}
+use Rattle.hp_model.specs.declared.event.TableEvent.TheVariants as table
+use Rattle.hp_model.specs.declared.refusal.Refusal.{Refusal}
+use Rattle.hp_model.specs.declared.refusal.Refusal.TheVariants.{BadLine, NoSuchSlot, NoSuchTask}
+use Rattle.hp_model.specs.declared.step.Intent.TheVariants.{Read, Write}
+use Rattle.hp_model.specs.declared.step.Reserving.TheVariants.{Reserve}
+use Rattle.hp_model.specs.declared.step.Sharing.TheVariants.{Shared}
+use Rattle.hp_model.specs.declared.step.Step.{Step}
+use Rattle.hp_model.specs.declared.step.Step.TheVariants.{Connect, Create, Map, Load, Store, Nr, Meminfo}
+use Rattle.hp_model.specs.Balance.{slot_usage, IsWithinLimit, left_by}
+use Rattle.hp_model.specs.Event.{IsEvent, with_pool_reply, with_table}
+use Rattle.hp_model.specs.Laws.{is_for_pages, KeepsGoing}
+use Rattle.hp_model.specs.Plan.{Reply, Slot, Outcome, Refused, Answered}
+use Rattle.hp_model.specs.Promises.{is_backed, is_backed_step, wants_page, map_named, spot_on, ShowsMap, IsLoaded, shown_in, shown_on, stored_over, over, is_shared_of, IsPromised, PromisesAreKept, IsPromisedRun, IsPromisedStep}
+use Rattle.hp_model.specs.Run.{IsRun}
+use Rattle.hp_model.specs.Settled.{IsSettledState}
+use Rattle.hp_model.specs.SlotEvent.{slot_event}
+use Rattle.hp_model.specs.State.{State, slot_at}
+use Rattle.hp_model.specs.Step.{IsBuiltStep, IsScript, IsStep, on_slot, finding}
+use Rattle.hp_model.proofs.Backed.{load_goes, store_goes}
+use Rattle.hp_model.proofs.CountsHold.{counts_are_sums, limits_hold}
+use Rattle.hp_model.proofs.Outcomes.{Always, Ends, event_ends, reply_of, IsLeft, only_goes, slot_goes, finding_goes}
+use Rattle.hp_model.proofs.Runs.{run_by}
+use Rattle.hp_model.proofs.SlotShows.{Quiet, Loads, Stores, create_quiet, map_quiet, load_loads, store_stores}
+use Rattle.hp_model.proofs.StaysSettled.{step_settled}
+
+eq_same : (k : ℕ) → (k == k) ≡ true
+eq_same k = eq-eqb k k refl
+
+ne_other : (k o : ℕ) → (o ≡ k → ⊥) → (k == o) ≡ false
+ne_other k o other = false_from_ne_true (k == o) (λ e. other (sym (eqb-true k o e)))
+
+-- all but the counts
+record Kept (s : State) (step : Step) (reply : Reply) (t : State) : Type 0 where
+  pub reserved : is_backed_step s step ≡ true → wants_page reply ≡ false
+  pub limits : (k : ℕ) → k < length s.slots → slot_usage (slot_at s k) < slot_usage (slot_at t k) → IsWithinLimit (slot_at t k)
+  pub loads : ShowsMap s step reply
+  pub files : (k j x : ℕ) → shown_in t k j x ≡ stored_over s step reply k j x (shown_in s k j x)
+
+-- ---- a step that does nothing
+
+refused_shows : (s : State) (step : Step) (r : Refusal) → ShowsMap s step (Err r)
+refused_shows s (Load task k number i offset count) r = tt
+refused_shows s other r = tt
+
+refused_stores : (s : State) (step : Step) (r : Refusal) (k j x : ℕ) (old : List ℕ) → old ≡ stored_over s step (Err r) k j x old
+refused_stores s (Store task k number i offset bytes) r l j x old = refl
+refused_stores s other r l j x old = refl
+
+left_kept : (s : State) (step : Step) (r : Refusal) (reply : Reply) (t : State) → is_for_pages r ≡ false → IsLeft s r reply t → Kept s step reply t
+left_kept s step r reply t other left =
+    subst (λ x. Kept s step x t) (sym left.replied)
+    (subst (λ x. Kept s step (Err r) x) (sym left.same)
+    (record { reserved = λ e. other; limits = λ k l risen. absurd (omega (arith, risen)); loads = refused_shows s step r; files = λ k j x. refused_stores s step r k j x (shown_in s k j x) }))
+
+-- ---- a step that leaves the slots
+
+still_shows : (s t : State) → t.page_size ≡ s.page_size → t.slots ≡ s.slots → (k j x : ℕ) → shown_in t k j x ≡ shown_in s k j x
+still_shows s t size slots k j x = ap (λ z. shown_on z (slot_at t k) j x) size ∙ ap (λ (xs : List Slot). shown_on s.page_size (slice_index_or xs k None) j x) slots
+
+pool_shows : (s : State) (e : PoolEvent) (reply : Reply) (t : State) → IsEvent s (OnPool e) reply t → (k j x : ℕ) → shown_in t k j x ≡ shown_in s k j x
+pool_shows s e reply t is k j x = (let left = ap (λ (q : Reply × State). q.1) is.2 in still_shows s t (sym (ap (λ y. y.page_size) left)) (sym (ap (λ y. y.slots) left)) k j x)
+
+table_shows : (s : State) (e : TableEvent) (reply : Reply) (t : State) → IsEvent s (Tasks e) reply t → (k j x : ℕ) → shown_in t k j x ≡ shown_in s k j x
+table_shows s e reply t is k j x = (let left = ap (λ (q : Reply × State). q.1) is.2 in still_shows s t (sym (ap (λ y. y.page_size) left)) (sym (ap (λ y. y.slots) left)) k j x)
+
+-- ---- an event on a slot
+
+module _ (s : State) (k : ℕ) (t : State) (n : Slot) (l : k < length s.slots) (size : t.page_size ≡ s.page_size) (slots : t.slots ≡ slice_set s.slots k n) where
+  at_slot : (j x : ℕ) → shown_in t k j x ≡ shown_on s.page_size n j x
+  at_slot j x = ap (λ z. shown_on z (slot_at t k) j x) size ∙ ap (λ y. shown_on s.page_size y j x) (ap (λ (xs : List Slot). slice_index_or xs k None) slots ∙ get_or-set_same s.slots k n None l)
+
+  elsewhere : (o j x : ℕ) → (o ≡ k → ⊥) → shown_in t o j x ≡ shown_in s o j x
+  elsewhere o j x other = ap (λ z. shown_on z (slot_at t o) j x) size ∙ ap (λ y. shown_on s.page_size y j x) (ap (λ (xs : List Slot). slice_index_or xs o None) slots ∙ get_or-set_other s.slots k o n None other)
+
+  -- the slot of the event, and the others
+  at_each : (P : ℕ → Type 0) → P k → ((o : ℕ) → (o ≡ k → ⊥) → P o) → (o : ℕ) → P o
+  at_each P here there o = elim (cases_eq o k) as (λ _. P o) [ inl same ↦ subst P (sym same) here | inr other ↦ there o other ]
+
+module _ (s : State) (k : ℕ) (e : SlotEvent) (reply : Reply) (t : State) (is : IsEvent s (OnSlot k e) reply t) where
+  below : k < length s.slots
+  below = ltb-true k (length s.slots) is.1.0
+
+  quiet_shows : Ends (Quiet s.page_size (slot_at s k)) s k reply t → (o j x : ℕ) → shown_in t o j x ≡ shown_in s o j x
+  quiet_shows ends o j x =
+      let n = left_by (slot_at s k) ends.outcome in
+      at_each s k t n below ends.size ends.slots (λ o. shown_in t o j x ≡ shown_in s o j x) (at_slot s k t n below ends.size ends.slots j x ∙ ends.holds j x)
+      (λ o other. elsewhere s k t n below ends.size ends.slots o j x other) o
+
+  goes : Ends KeepsGoing s k reply t → wants_page reply ≡ false
+  goes ends = ap wants_page ends.replied ∙ by_outcome ends.outcome ends.holds
+    where
+      by_outcome : (o : Outcome) → KeepsGoing o → wants_page (reply_of o) ≡ false
+      by_outcome (Refused r) keeps = keeps
+      by_outcome (Answered a new) keeps = refl
+
+  limited : IsSettledState s → (o : ℕ) → o < length s.slots → slot_usage (slot_at s o) < slot_usage (slot_at t o) → IsWithinLimit (slot_at t o)
+  limited st o l risen = limits_hold s (OnSlot k e) reply t o l st is risen
+
+-- ---- each step
+
+module _ (s : State) (reply : Reply) (t : State) (st : IsSettledState s) where
+  connect_kept : (task home : ℕ) → IsBuiltStep s (Connect task home) reply t → Kept s (Connect task home) reply t
+  connect_kept task home is =
+      let it = only_goes s (Tasks (table.Add task home)) reply t is in
+      record { reserved = λ e. cc; limits = λ k l risen. limits_hold s (Tasks (table.Add task home)) reply t k l st it risen; loads = tt; files = table_shows s (table.Add task home) reply t it }
+
+  nr_kept : (n : ℕ) → IsBuiltStep s (Nr n) reply t → Kept s (Nr n) reply t
+  nr_kept n is =
+      let it = only_goes s (OnPool (pool.Nr n)) reply t is in
+      record { reserved = λ e. cc; limits = λ k l risen. limits_hold s (OnPool (pool.Nr n)) reply t k l st it risen; loads = tt; files = pool_shows s (pool.Nr n) reply t it }
+
+  meminfo_kept : IsBuiltStep s Meminfo reply t → Kept s Meminfo reply t
+  meminfo_kept is =
+      let it = only_goes s (OnPool pool.Meminfo) reply t is in
+      record { reserved = λ e. cc; limits = λ k l risen. limits_hold s (OnPool pool.Meminfo) reply t k l st it risen; loads = tt; files = pool_shows s pool.Meminfo reply t it }
+
+  -- by the slot, if it is there
+  on_slot_kept : (step : Step) (k : ℕ) (e : SlotEvent) → (IsEvent s (OnSlot k e) reply t → Kept s step reply t) → IsScript s (on_slot (length s.slots) k e) reply t → Kept s step reply t
+  on_slot_kept step k e h is = ⊎_elim (λ left. left_kept s step NoSuchSlot reply t refl left) h (slot_goes s (length s.slots) k e reply t is)
+
+  -- by the task, if it is there
+  task_kept : (step : Step) (task k : ℕ) (e : ℕ → SlotEvent) → ((home : ℕ) → IsEvent s (OnSlot k (e home)) reply t → Kept s step reply t)
+      → IsScript s (finding task (λ home. on_slot (length s.slots) k (e home))) reply t → Kept s step reply t
+  task_kept step task k e h is =
+      ⊎_elim (λ left. left_kept s step NoSuchTask reply t refl left) (λ found. on_slot_kept step k (e found.0) (h found.0) found.1)
+      (finding_goes s task (λ home. on_slot (length s.slots) k (e home)) reply t is)
+
+  create_kept : (k : ℕ) (name : List ℕ) → IsBuiltStep s (Create k name) reply t → Kept s (Create k name) reply t
+  create_kept k name is =
+      let e : SlotEvent = slot.Create name in
+      on_slot_kept (Create k name) k e
+      (λ it. record {
+        reserved = λ e. cc;
+        limits = limited s k e reply t it st;
+        loads = tt;
+        files = quiet_shows s k e reply t it (event_ends (Quiet s.page_size (slot_at s k)) s k e reply t (λ c. create_quiet s.page_size k c (slot_at s k) name) it);
+      }) is
+
+  map_kept : (task k : ℕ) (name : List ℕ) (a n : ℕ) → IsBuiltStep s (Map task k name a n Shared Reserve) reply t → Kept s (Map task k name a n Shared Reserve) reply t
+  map_kept task k name a n is =
+      let e : ℕ → SlotEvent = λ home. slot.Map task home name a n Shared Reserve in
+      task_kept (Map task k name a n Shared Reserve) task k e
+      (λ home it. record {
+        reserved = λ e. cc;
+        limits = limited s k (e home) reply t it st;
+        loads = tt;
+        files = quiet_shows s k (e home) reply t it (event_ends (Quiet s.page_size (slot_at s k)) s k (e home) reply t (λ c. map_quiet s.page_size k c (slot_at s k) task home name a n Shared Reserve) it);
+      }) is
+
+  loaded : (task k number i offset count : ℕ) (o : Outcome) → Loads s.page_size (slot_at s k) (map_named s k task number) i offset count o → ShowsMap s (Load task k number i offset count) (reply_of o)
+  loaded task k number i offset count (Refused r) h = tt
+  loaded task k number i offset count (Answered a new) h = h.loaded a new refl
+
+  load_kept : (task k number i offset count : ℕ) → IsBuiltStep s (Load task k number i offset count) reply t → Kept s (Load task k number i offset count) reply t
+  load_kept task k number i offset count is =
+      let step : Step = Load task k number i offset count in
+      let e : ℕ → SlotEvent = λ home. slot.Load task home number i offset count in
+      let old = slot_at s k in
+      task_kept step task k e
+      (λ home it. (let ends = event_ends (Loads s.page_size old (spot_on old task number) i offset count) s k (e home) reply t (λ c. load_loads s.page_size k c old task home number i offset count) it in
+      record {
+        reserved = λ backed. goes s k (e home) reply t it (event_ends KeepsGoing s k (e home) reply t (λ c. load_goes s.page_size k c task home number i offset old count backed) it);
+        limits = limited s k (e home) reply t it st;
+        loads = subst (λ r. ShowsMap s step r) (sym ends.replied) (loaded task k number i offset count ends.outcome ends.holds);
+        files = quiet_shows s k (e home) reply t it (record { outcome = ends.outcome; holds = ends.holds.quiet; replied = ends.replied; size = ends.size; slots = ends.slots });
+      })) is
+
+  -- the slot of the store, and the others
+  stored_here : (task k number i offset : ℕ) (bytes : List ℕ) (a : Answer) (j x : ℕ) (v old : List ℕ)
+      → v ≡ (if (i == x) && is_shared_of (map_named s k task number) j then over offset bytes old else old) → v ≡ stored_over s (Store task k number i offset bytes) (Ok a) k j x old
+  stored_here task k number i offset bytes a j x v old h =
+      let same : (k == k) ≡ true = eq_same k in
+      h ∙ ap (λ b. if b && ((i == x) && is_shared_of (map_named s k task number) j) then over offset bytes old else old) (sym same)
+
+  stored_there : (task k number i offset : ℕ) (bytes : List ℕ) (a : Answer) (o j x : ℕ) (old : List ℕ) → (o ≡ k → ⊥) → old ≡ stored_over s (Store task k number i offset bytes) (Ok a) o j x old
+  stored_there task k number i offset bytes a o j x old other =
+      ap (λ b. if b && ((i == x) && is_shared_of (map_named s k task number) j) then over offset bytes old else old) (sym (ne_other k o other))
+
+  store_shows : (task k number i offset : ℕ) (bytes : List ℕ) → k < length s.slots → (out : Outcome) → Stores s.page_size (slot_at s k) (map_named s k task number) i offset bytes out → t.page_size ≡ s.page_size → t.slots ≡ slice_set s.slots k (left_by (slot_at s k) out)
+      → (o j x : ℕ) → shown_in t o j x ≡ stored_over s (Store task k number i offset bytes) (reply_of out) o j x (shown_in s o j x)
+  store_shows task k number i offset bytes l (Refused r) h size slots o j x =
+      at_each s k t (slot_at s k) l size slots (λ o. shown_in t o j x ≡ shown_in s o j x) (at_slot s k t (slot_at s k) l size slots j x) (λ o other. elsewhere s k t (slot_at s k) l size slots o j x other) o
+  store_shows task k number i offset bytes l (Answered a n) h size slots o j x =
+      at_each s k t n l size slots (λ o. shown_in t o j x ≡ stored_over s (Store task k number i offset bytes) (Ok a) o j x (shown_in s o j x))
+      (stored_here task k number i offset bytes a j x (shown_in t k j x) (shown_in s k j x) (at_slot s k t n l size slots j x ∙ h j x))
+      (λ o other. elsewhere s k t n l size slots o j x other ∙ stored_there task k number i offset bytes a o j x (shown_in s o j x) other) o
+
+  store_kept : (task k number i offset : ℕ) (bytes : List ℕ) → IsBuiltStep s (Store task k number i offset bytes) reply t → Kept s (Store task k number i offset bytes) reply t
+  store_kept task k number i offset bytes is =
+      let step : Step = Store task k number i offset bytes in
+      let e : ℕ → SlotEvent = λ home. slot.Store task home number i offset bytes in
+      let old = slot_at s k in
+      task_kept step task k e
+      (λ home it. (let ends = event_ends (Stores s.page_size old (spot_on old task number) i offset bytes) s k (e home) reply t (λ c. store_stores s.page_size k c old task home number i offset bytes) it in
+      record {
+        reserved = λ backed. goes s k (e home) reply t it (event_ends KeepsGoing s k (e home) reply t (λ c. store_goes s.page_size k c task home number i offset old bytes backed) it);
+        limits = limited s k (e home) reply t it st;
+        loads = tt;
+        files = λ o j x.
+            subst (λ r. shown_in t o j x ≡ stored_over s step r o j x (shown_in s o j x)) (sym ends.replied)
+            (store_shows task k number i offset bytes (below s k (e home) reply t it) ends.outcome ends.holds ends.size ends.slots o j x);
+      })) is
+
+  unbuilt_kept : (step : Step) → (reply ≡ Err BadLine) × (t ≡ s) → Kept s step reply t
+  unbuilt_kept step is = left_kept s step BadLine reply t refl (record { replied = is.0; same = is.1 })
+
+  step_kept : (step : Step) → IsStep s step reply t → Kept s step reply t
+  unfolding IsStep
+  step_kept (Connect task home) is = connect_kept task home is
+  step_kept (Create k name) is = create_kept k name is
+  step_kept (Map task k name a n Shared Reserve) is = map_kept task k name a n is
+  step_kept (Load task k number i offset count) is = load_kept task k number i offset count is
+  step_kept (Store task k number i offset bytes) is = store_kept task k number i offset bytes is
+  step_kept (Nr n) is = by_test (nat_lt n s.nr) is
+    where
+      by_test : (b : Bool) → MatchBool b ((reply ≡ Err BadLine) × (t ≡ s)) (IsBuiltStep s (Nr n) reply t) → Kept s (Nr n) reply t
+      by_test true is = unbuilt_kept (Nr n) is
+      by_test false is = nr_kept n is
+  step_kept Meminfo is = meminfo_kept is
+  step_kept other is = unbuilt_kept other is
+
+pub promised : PromisesAreKept
+promised s step reply t st is =
+    let kept = step_kept s reply t st step is in
+    record { reserved = kept.reserved; counts = counts_are_sums t (step_settled s step reply t st is); limits = kept.limits; loads = kept.loads; files = kept.files }
+
+-- ---- runs
+
+pub promised_step : (s : State) (step : Step) (reply : Reply) (t : State) → IsSettledState s → IsStep s step reply t → IsPromisedStep s step reply t
+promised_step s step reply t st is = (is, promised s step reply t st is)
+
+pub promised_run : (s : State) (steps : List Step) (replies : List Reply) (t : State) → IsSettledState s → IsRun s steps replies t → IsPromisedRun s steps replies t
+promised_run s steps replies t st run =
+    run_by IsSettledState IsStep IsPromisedStep (λ s step reply t st is. (promised_step s step reply t st is, step_settled s step reply t st is)) s steps replies t st run
