@@ -22,7 +22,6 @@ use Rattle.hp_model.specs.Machine.{pool_of, node_of}
 use Rattle.hp_model.specs.Plan.{Reply, Slot, refuse}
 use Rattle.hp_model.specs.PoolCounts.{Pool, counts_of}
 use Rattle.hp_model.specs.Resize.{pool_event, set_nr}
-use Rattle.hp_model.specs.Run.{IsRun}
 use Rattle.hp_model.specs.SlotEvent.{slot_event}
 use Rattle.hp_model.specs.State.{State, slot_at}
 use Rattle.hp_model.specs.Step.{Script, Answer_with, on_slot, only, finding, is_unbuilt, IsScript, IsStep, IsBuiltStep}
@@ -166,15 +165,6 @@ pub on_slot_0 : (size bytes slots : ℕ) (t : Table) (m n : Mount) (p q : Pool) 
     → IsDone size p m e reply n q → IsScript (state_of size t (slots_with slots m) p) (on_slot (length (slots_with slots m)) 0 e) reply (state_of size t (slots_with slots n) q)
 on_slot_0 size bytes slots t m n p q e reply kept happens h =
     on_first size t (Some m) (replicate (slots - 1) None) p (state_of size t (slots_with slots n) q) e reply (done_is size t m n (replicate (slots - 1) None) p q e reply kept.tied happens h)
-
--- ---- runs
-
--- a run goes on by one step
-pub run_more : (s mid t : State) (steps : List Step) (replies : List Reply) (step : Step) (reply : Reply) → IsRun s steps replies mid → IsStep mid step reply t → IsRun s (steps ++ step ∷ []) (replies ++ reply ∷ []) t
-run_more s mid t [] [] step reply run next = (t, subst (λ x. IsStep x step reply t) (sym run) next, refl)
-run_more s mid t (x ∷ xs) (r ∷ rs) step reply run next = (run.0, run.1, run_more run.0 mid t xs rs step reply run.2 next)
-run_more s mid t [] (r ∷ rs) step reply run next = absurd run
-run_more s mid t (x ∷ xs) [] step reply run next = absurd run
 
 -- ---- steps of a slot without a task
 

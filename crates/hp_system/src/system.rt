@@ -5,8 +5,9 @@ ghost use Rattle.hp_model.specs.declared.step.Sharing.TheVariants.{Shared};
 ghost use Rattle.hp_model.specs.declared.step.Step.TheVariants.{Connect, Create, Map, Load, Store, Nr, Meminfo};
 ghost use Rattle.hp_model.specs.Machine.{start};
 ghost use Rattle.hp_model.specs.PoolCounts.{counts_of};
-ghost use Rattle.hp_model.specs.Run.{IsRun};
+ghost use Rattle.hp_model.specs.Promises.{IsPromised, IsPromisedRun};
 ghost use Rattle.hp_model.specs.Step.{IsStep};
+ghost use Rattle.hp_model.specs.Writing.{IsWithinLimits};
 
 use crate::files::{Files, MapAccess, MapRange};
 use crate::table::TaskTable;
@@ -15,6 +16,7 @@ use hp_model::bytes::Bytes;
 use hp_model::event::TableEvent;
 use hp_model::naming::Naming;
 use hp_model::refusal::Refusal;
+use hp_model::service::Service;
 use hp_model::step::{Reserving, Sharing, Step};
 use hp_pool::{Blanks, Pool};
 use std::alloc::{AllocError, Global};
@@ -213,11 +215,25 @@ impl<N: Naming> System<N> {
         Ok(Answer::Numbers(self.pool.counts()))
     }
 
-    /// Answers a step, or leaves everything as it was and says why.
+    /// Answers a step, or leaves everything as it was and says why. What is promised of each step
+    /// holds of this one: an access at an index reserved to its map is never refused for want of a
+    /// huge page; Total, Free, Rsvd and Surp are counts over files and maps; no mount is taken past
+    /// its limit; a load answers what its map shows, and a file shows what was stored through its maps.
     ///
-    /// Refused as the step's own function is. BadLine where the step is not built yet.
-    #[tactic(auto, unfolding(hp_model::specs::Step::IsStep))]
+    /// Refused as the step's own function is, and as BadLine where the step is not built yet.
     pub fn apply(&mut self, step: &Step) -> Reply
+        ensures step { IsStep self.old step.now result self.new }
+        ensures promised { IsPromised self.old step.now result self.new }
+        ensures size { self.new.page_size ≡ self.old.page_size }
+        ensures limits { IsWithinLimits result }
+    {
+        let _slots = self.slots;
+        self.answer(step)
+    }
+
+    // The step's own function.
+    #[tactic(auto, unfolding(hp_model::specs::Step::IsStep))]
+    fn answer(&mut self, step: &Step) -> Reply
         ensures step { IsStep self.old step.now result self.new }
         ensures size { self.new.page_size ≡ self.old.page_size }
     {
@@ -278,10 +294,10 @@ impl<N: Naming> System<N> {
         }
     }
 
-    /// Does steps one after another, and answers their replies. Room for the replies is made first:
+    /// Does steps one after another, and answers their replies, each as `apply` promises. Room for the replies is made first:
     /// where it is refused, nothing is done.
     pub fn run(&mut self, alloc: Global, steps: &[Step]) -> Result<Vec<Reply>, AllocError>
-        ensures run { IfOk result (λ replies. IsRun self.old steps.now replies.items self.new) }
+        ensures run { IfOk result (λ replies. IsPromisedRun self.old steps.now replies.items self.new) }
         ensures size { self.new.page_size ≡ self.old.page_size }
         ensures err { OnErr result (self.new ≡ self.old) }
     {
@@ -306,5 +322,21 @@ impl<N: Naming> System<N> {
         } = self;
         files.close(&mut pool);
         pool.close()
+    }
+}
+
+impl<N: Naming> Service for System<N> {
+    ghost use Rattle.hp_model.specs.Promises.{IsPromisedStep};
+
+    ghost may_answer = { IsPromisedStep };
+
+    ghost page = { λ s. s.page_size };
+
+    fn call(&mut self, step: &Step) -> Reply {
+        self.apply(step)
+    }
+
+    fn page_bytes(&self) -> u64 {
+        self.page_bytes as u64
     }
 }

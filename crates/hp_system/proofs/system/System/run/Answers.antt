@@ -1,7 +1,7 @@
 use Rattle.std.proofs.Common.{rules, ◌≡◌, ◌+◌, ◌∷◌, ◌++◌, [], List, take, length, sym, subst, ap, ◌∙◌, arith}
 use Rattle.std.proofs.lemmas.List.{take_more}
-use Rattle.hp_model.specs.Run.{IsRun}
-use Rattle.hp_system.proofs.MachineSteps.{run_more}
+use Rattle.hp_model.specs.Promises.{IsPromisedRun, IsPromisedStep}
+use Rattle.hp_model.proofs.Runs.{run_more}
 use Rattle.hp_system.proofs.system.System.run.Goals as goal
 
 pub loop-step-preserved : goal.loop-step-preserved
@@ -11,10 +11,10 @@ loop-step-preserved g c =
     let step = c.step-item.result in
     let inv = c.loop-step.invariant in
     let taken : take i steps ++ step ∷ [] ≡ take (i + 1) steps = ap (λ x. take i steps ++ x ∷ []) c.step-item.is ∙ sym (take_more steps i step c.loop-step-test.true) in
-    let run = run_more c.args.self.now c.loop-step.self c.apply-reply.new.self (take i steps) c.loop-step.replies.items step c.apply-reply.result inv.ran c.apply-reply.ensures.step in
+    let run = run_more IsPromisedStep c.args.self.now c.loop-step.self c.apply-reply.new.self (take i steps) c.loop-step.replies.items step c.apply-reply.result inv.ran (c.apply-reply.ensures.step, c.apply-reply.ensures.promised) in
     record {
-      ran = subst (λ xs. IsRun c.args.self.now xs c.push_reserved.new.self.items c.apply-reply.new.self) taken
-          (subst (λ rs. IsRun c.args.self.now (take i steps ++ step ∷ []) rs c.apply-reply.new.self) (sym c.push_reserved.ensures.items) run);
+      ran = subst (λ xs. IsPromisedRun c.args.self.now xs c.push_reserved.new.self.items c.apply-reply.new.self) taken
+          (subst (λ rs. IsPromisedRun c.args.self.now (take i steps ++ step ∷ []) rs c.apply-reply.new.self) (sym c.push_reserved.ensures.items) run);
       size = c.apply-reply.ensures.size ∙ inv.size;
       filled = omega (arith, c.push_reserved.ensures.len, inv.filled);
       room = omega (arith, c.push_reserved.ensures.capacity, inv.room);

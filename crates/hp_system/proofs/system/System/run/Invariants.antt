@@ -1,11 +1,11 @@
 use Rattle.std.proofs.Common.{◌≡◌, length, take}
 use Rattle.std.specs.Prelude.{◌≤◌, vec_len, vec_capacity}
-use Rattle.hp_model.specs.Run.{IsRun}
+use Rattle.hp_model.specs.Promises.{IsPromisedRun}
 use Rattle.hp_system.proofs.system.System.run.Given as goal
 
 abbrev pub invariant-loop-step : goal.invariant-loop-step
 invariant-loop-step g l = record {
-  ran : IsRun l.fn.self (take l.step-index l.steps) l.replies.items l.self;
+  ran : IsPromisedRun l.fn.self (take l.step-index l.steps) l.replies.items l.self;
   size : l.self.page_size ≡ l.fn.self.page_size;
   filled : vec_len l.replies ≡ l.step-index;
   room : length l.steps ≤ vec_capacity l.replies;
