@@ -41,3 +41,4 @@ pub mod Stored
 pub mod SlotShows
 pub mod Backed
 pub mod Promised
+pub mod Small

@@ -114,7 +114,7 @@ on_grant_page Q c m home n h =
 on_reserved_page : (Q : Mount → Type 0) (c : Choice) (home : ℕ) (n : ℕ → Mount) → ((node : ℕ) → Q (n node)) → Always (On Q) (reserved_page c home (λ node. Answered Done (Some (n node))))
 on_reserved_page Q c home n h = always_test (On Q) (may_lack_room && c.refused) OutOfMemory _ tt (λ f a. h a.node)
 
-on_weaker : (Q R : Mount → Type 0) → ((n : Mount) → Q n → R n) → (o : Outcome) → On Q o → On R o
+pub on_weaker : (Q R : Mount → Type 0) → ((n : Mount) → Q n → R n) → (o : Outcome) → On Q o → On R o
 on_weaker Q R h (Refused r) on = tt
 on_weaker Q R h (Answered a None) on = on
 on_weaker Q R h (Answered a (Some n)) on = h n on

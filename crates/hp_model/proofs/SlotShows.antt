@@ -35,11 +35,11 @@ use Rattle.hp_model.proofs.Stored.{ready, stored}
 
 -- ---- outcomes that may be a refusal
 
-always_unless : (P : Outcome → Type 0) → ((r : Refusal) → P (Refused r)) → (ts : List (Bool × Refusal)) (p : Plan) → Always P p → Always P (unless ts p)
+pub always_unless : (P : Outcome → Type 0) → ((r : Refusal) → P (Refused r)) → (ts : List (Bool × Refusal)) (p : Plan) → Always P p → Always P (unless ts p)
 always_unless P stops [] p h = h
 always_unless P stops (t ∷ ts) p h = always_test P t.0 t.1 (unless ts p) (stops t.1) (λ e. always_unless P stops ts p h)
 
-always_value : {X : Type 0} (P : Outcome → Type 0) → ((r : Refusal) → P (Refused r)) → (o : Option X) (r : Refusal) (f : X → Plan) → ((x : X) → o ≡ Some x → Always P (f x)) → Always P (with_value o r f)
+pub always_value : {X : Type 0} (P : Outcome → Type 0) → ((r : Refusal) → P (Refused r)) → (o : Option X) (r : Refusal) (f : X → Plan) → ((x : X) → o ≡ Some x → Always P (f x)) → Always P (with_value o r f)
 always_value P stops None r f h = stops r
 always_value P stops (Some x) r f h = h x refl
 
@@ -47,7 +47,7 @@ granted_or : (P : Outcome → Type 0) → ((r : Refusal) → P (Refused r)) → 
 granted_or P stops true o h = h
 granted_or P stops false o h = stops NoPages
 
-always_grant : (P : Outcome → Type 0) → ((r : Refusal) → P (Refused r)) → (c : Choice) (m : Mount) (home k : ℕ) (o : Outcome) → P o → Always P (grant c m home k o)
+pub always_grant : (P : Outcome → Type 0) → ((r : Refusal) → P (Refused r)) → (c : Choice) (m : Mount) (home k : ℕ) (o : Outcome) → P o → Always P (grant c m home k o)
 always_grant P stops c m home k o h =
     always_unless P stops ((is_full m k, MountFull) ∷ (c.refused, OutOfMemory) ∷ []) (if rise m k == 0 then Finish o else Ask (λ nr. Grant home (rise m k)) (when_granted o))
     (always_if P (rise m k == 0) (Finish o) (Ask (λ nr. Grant home (rise m k)) (when_granted o)) (λ e. h) (λ e a. granted_or P stops a.granted o h))
@@ -100,7 +100,7 @@ map_quiet size k c (Some m) task home name a n sharing reserving =
 -- ---- accesses
 
 module _ (size : ℕ) (c : Choice) (m : Mount) (home i : ℕ) where
-  bytes_on : (Q : Mount → Type 0) (offset count : ℕ) (intent : Intent) (s : Spot) → (i < length s.file.cells → Always (On Q) (access c size m s home i intent)) → Always (On Q) (byte_access c size m home i offset count intent s)
+  pub bytes_on : (Q : Mount → Type 0) (offset count : ℕ) (intent : Intent) (s : Spot) → (i < length s.file.cells → Always (On Q) (access c size m s home i intent)) → Always (On Q) (byte_access c size m home i offset count intent s)
   bytes_on Q offset count intent s h =
       always_unless (On Q) (λ r. tt) ((is_unmapped s i || (count == 0), OutOfRange) ∷ (nat_lt size (offset + count), CrossesPage) ∷ (nat_lt most_bytes count, TooMany) ∷ []) (if is_beyond s i then refuse BeyondEnd else access c size m s home i intent)
       (always_test (On Q) (is_beyond s i) BeyondEnd (access c size m s home i intent) tt (λ e. h (leb-false (length s.file.cells) i e)))
