@@ -1,12 +1,13 @@
 //! Steps at a machine of two nodes of four frames each.
-ghost use Rattle.std.specs.Prelude.{◌≡◌};
+ghost use Rattle.std.specs.Prelude.{◌≡◌, ◌≤◌, length};
 
 use crate::System;
-use crate::files::MapAccess;
+use crate::files::{MapAccess, MapRange};
 use hp_model::answer::{Answer, Counts};
 use hp_model::bytes::Bytes;
 use hp_model::naming::Naming;
 use hp_model::refusal::Refusal;
+use hp_model::step::Step;
 use hp_pool::Blanks;
 use std::alloc::Global;
 use std::marker::Brand;
@@ -44,6 +45,18 @@ fn all_free(pages: u64) -> Counts {
         surp: 0,
         nr: pages,
         overcommit: 0,
+    }
+}
+
+// The answer with these bytes of a page.
+fn loaded(front: &[u8]) -> Answer
+    requires { length front.now ≤ 256 }
+{
+    let mut bytes = [0u8; 256];
+    bytes[..front.len()].copy_from_slice(front);
+    Answer::Bytes {
+        count: front.len() as u64,
+        bytes,
     }
 }
 
@@ -86,6 +99,61 @@ fn creates<N: Naming, R: Abort>(rt: &R, alloc: Global, system: &mut System<N>) {
     );
 }
 
+// A map reserves its pages, a load shows what was stored, and a map past the pool is refused.
+fn maps<N: Naming, R: Abort>(rt: &R, alloc: Global, system: &mut System<N>) {
+    let name = bytes(rt, alloc, b"Data_0.a-z");
+    let range = MapRange {
+        task: 7,
+        start: 0,
+        pages: 3,
+    };
+    assert_eq!(rt; system.map(0, &name, &range), Ok(Answer::MapNo(1)));
+    assert_eq!(rt; system.map(0, &name, &range), Ok(Answer::MapNo(2)));
+    let longer = MapRange { pages: 9, ..range };
+    assert_eq!(rt; system.map(0, &name, &longer), Err(Refusal::NoPages));
+    let none = MapRange { pages: 0, ..range };
+    assert_eq!(rt; system.map(0, &name, &none), Err(Refusal::OutOfRange));
+    let unknown = bytes(rt, alloc, b"unknown");
+    assert_eq!(rt; system.map(0, &unknown, &range), Err(Refusal::NoSuchFile));
+    let access = MapAccess {
+        task: 7,
+        map: 1,
+        index: 2,
+        offset: 1020,
+    };
+    let text = bytes(rt, alloc, b"text");
+    assert_eq!(rt; system.store(0, &access, &text), Ok(Answer::Done));
+    let other = MapAccess { map: 2, ..access };
+    assert_eq!(rt; system.load(0, &other, 4), Ok(loaded(b"text")));
+    assert_eq!(rt; system.load(0, &access, 5), Err(Refusal::CrossesPage));
+    let first = MapAccess { index: 0, ..other };
+    assert_eq!(rt; system.load(0, &first, 2), Ok(loaded(&[0, 0])));
+    let counts = Counts {
+        free: 6,
+        rsvd: 1,
+        ..all_free(8)
+    };
+    assert_eq!(rt; system.meminfo(), Ok(Answer::Numbers(counts)));
+}
+
+// Steps in a list are answered one after another.
+fn runs<N: Naming, R: Abort>(rt: &R, alloc: Global, system: &mut System<N>) {
+    let steps = [
+        Step::Connect { task: 9, home: 0 },
+        Step::Nr { pages: 2 },
+        Step::Exit { task: 9 },
+        Step::Connect { task: 9, home: 0 },
+    ];
+    let replies = system.run(alloc, &steps).expect(rt, "memory");
+    let expected = [
+        Ok(Answer::Done),
+        Err(Refusal::BadLine),
+        Err(Refusal::BadLine),
+        Err(Refusal::TaskExists),
+    ];
+    assert!(rt; replies.as_slice() == expected.as_slice());
+}
+
 // nr rises, up to the frames, and falls in no step yet.
 fn grows<N: Naming, R: Abort>(rt: &R, system: &mut System<N>) {
     assert_eq!(rt; system.set_nr(3), Ok(Answer::Number(3)));
@@ -106,6 +174,8 @@ fn run<N: Naming, R: Abort>(rt: &R, alloc: Global, blanks: Blanks)
     connects(rt, alloc, &mut system);
     creates(rt, alloc, &mut system);
     grows(rt, &mut system);
+    maps(rt, alloc, &mut system);
+    runs(rt, alloc, &mut system);
     assert_eq!(rt; system.close(), all_free(8));
 }
 

@@ -1,8 +1,13 @@
 use Rattle.std.proofs.Common.{subst}
 use Rattle.hp_model.specs.Settled.{IsSettledState}
 use Rattle.hp_model.proofs.Promised.{promised}
+use Rattle.hp_model.proofs.Small.{within_limits}
 use Rattle.hp_system.proofs.system.System.apply.Goals as goal
 
 pub returns-clause-promised : goal.returns-clause-promised
 returns-clause-promised g c =
     promised c.args.self.now c.args.step.now c.answer.result c.answer.new.self (subst IsSettledState c.self.view_is c.self.invariant.settled) c.answer.ensures.step
+
+pub returns-clause-limits : goal.returns-clause-limits
+returns-clause-limits g c =
+    within_limits c.args.self.now c.args.step.now c.answer.result c.answer.new.self (subst IsSettledState c.self.view_is c.self.invariant.settled) c.answer.ensures.step
