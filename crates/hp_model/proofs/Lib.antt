@@ -42,3 +42,4 @@ pub mod SlotShows
 pub mod Backed
 pub mod Promised
 pub mod Small
+pub mod Seen

@@ -24,7 +24,7 @@ use Rattle.hp_model.specs.Balance.{slot_usage, IsWithinLimit, left_by}
 use Rattle.hp_model.specs.Event.{IsEvent, with_pool_reply, with_table}
 use Rattle.hp_model.specs.Laws.{is_for_pages, KeepsGoing}
 use Rattle.hp_model.specs.Plan.{Reply, Slot, Outcome, Refused, Answered}
-use Rattle.hp_model.specs.Promises.{is_backed, is_backed_step, wants_page, map_named, spot_on, ShowsMap, IsLoaded, shown_in, shown_on, stored_over, over, is_shared_of, IsPromised, PromisesAreKept, IsPromisedRun, IsPromisedStep}
+use Rattle.hp_model.specs.Promises.{is_backed, is_backed_step, wants_page, map_named, spot_on, ShowsMap, IsLoaded, shown_in, shown_on, stored_over, over, is_shared_of, seen_in, seen_on, seen_over, map_at, map_on, reaches, IsLostTo, LosesCopy, IsPromised, PromisesAreKept, IsPromisedRun, IsPromisedStep}
 use Rattle.hp_model.specs.Run.{IsRun}
 use Rattle.hp_model.specs.Settled.{IsSettledState}
 use Rattle.hp_model.specs.SlotEvent.{slot_event}
@@ -49,6 +49,7 @@ record Kept (s : State) (step : Step) (reply : Reply) (t : State) : Type 0 where
   pub limits : (k : ℕ) → k < length s.slots → slot_usage (slot_at s k) < slot_usage (slot_at t k) → IsWithinLimit (slot_at t k)
   pub loads : ShowsMap s step reply
   pub files : (k j x : ℕ) → shown_in t k j x ≡ stored_over s step reply k j x (shown_in s k j x)
+  pub maps : (k j l x : ℕ) → (seen_in t k j l x ≡ seen_over s step reply k j l x (seen_in s k j l x)) ⊎ LosesCopy s step t k j l x
 
 -- ---- a step that does nothing
 
@@ -60,45 +61,68 @@ refused_stores : (s : State) (step : Step) (r : Refusal) (k j x : ℕ) (old : Li
 refused_stores s (Store task k number i offset bytes) r l j x old = refl
 refused_stores s other r l j x old = refl
 
+refused_writes : (s : State) (step : Step) (r : Refusal) (k j l x : ℕ) (old : List ℕ) → old ≡ seen_over s step (Err r) k j l x old
+refused_writes s (Store task k number i offset bytes) r o j l x old = refl
+refused_writes s other r o j l x old = refl
+
 left_kept : (s : State) (step : Step) (r : Refusal) (reply : Reply) (t : State) → is_for_pages r ≡ false → IsLeft s r reply t → Kept s step reply t
 left_kept s step r reply t other left =
     subst (λ x. Kept s step x t) (sym left.replied)
     (subst (λ x. Kept s step (Err r) x) (sym left.same)
-    (record { reserved = λ e. other; limits = λ k l risen. absurd (omega (arith, risen)); loads = refused_shows s step r; files = λ k j x. refused_stores s step r k j x (shown_in s k j x) }))
+    (record { reserved = λ e. other; limits = λ k l risen. absurd (omega (arith, risen)); loads = refused_shows s step r; files = λ k j x. refused_stores s step r k j x (shown_in s k j x); maps = λ k j l x. inl (refused_writes s step r k j l x (seen_in s k j l x)) }))
 
 -- ---- a step that leaves the slots
 
-still_shows : (s t : State) → t.page_size ≡ s.page_size → t.slots ≡ s.slots → (k j x : ℕ) → shown_in t k j x ≡ shown_in s k j x
-still_shows s t size slots k j x = ap (λ z. shown_on z (slot_at t k) j x) size ∙ ap (λ (xs : List Slot). shown_on s.page_size (slice_index_or xs k None) j x) slots
+-- what is seen of a slot's files and maps
+record Shows (s t : State) : Type 0 where
+  pub files : (k j x : ℕ) → shown_in t k j x ≡ shown_in s k j x
+  pub maps : (k j l x : ℕ) → seen_in t k j l x ≡ seen_in s k j l x
 
-pool_shows : (s : State) (e : PoolEvent) (reply : Reply) (t : State) → IsEvent s (OnPool e) reply t → (k j x : ℕ) → shown_in t k j x ≡ shown_in s k j x
-pool_shows s e reply t is k j x = (let left = ap (λ (q : Reply × State). q.1) is.2 in still_shows s t (sym (ap (λ y. y.page_size) left)) (sym (ap (λ y. y.slots) left)) k j x)
+still : {X : Type 0} (g : ℕ → Slot → X) (s t : State) → t.page_size ≡ s.page_size → t.slots ≡ s.slots → (k : ℕ) → g t.page_size (slot_at t k) ≡ g s.page_size (slot_at s k)
+still g s t size slots k = ap (λ z. g z (slot_at t k)) size ∙ ap (λ (xs : List Slot). g s.page_size (slice_index_or xs k None)) slots
 
-table_shows : (s : State) (e : TableEvent) (reply : Reply) (t : State) → IsEvent s (Tasks e) reply t → (k j x : ℕ) → shown_in t k j x ≡ shown_in s k j x
-table_shows s e reply t is k j x = (let left = ap (λ (q : Reply × State). q.1) is.2 in still_shows s t (sym (ap (λ y. y.page_size) left)) (sym (ap (λ y. y.slots) left)) k j x)
+still_shows : (s t : State) → t.page_size ≡ s.page_size → t.slots ≡ s.slots → Shows s t
+still_shows s t size slots =
+    record { files = λ k j x. still (λ z y. shown_on z y j x) s t size slots k; maps = λ k j l x. still (λ z y. seen_on z y j l x) s t size slots k }
+
+pool_shows : (s : State) (e : PoolEvent) (reply : Reply) (t : State) → IsEvent s (OnPool e) reply t → Shows s t
+pool_shows s e reply t is = (let left = ap (λ (q : Reply × State). q.1) is.2 in still_shows s t (sym (ap (λ y. y.page_size) left)) (sym (ap (λ y. y.slots) left)))
+
+table_shows : (s : State) (e : TableEvent) (reply : Reply) (t : State) → IsEvent s (Tasks e) reply t → Shows s t
+table_shows s e reply t is = (let left = ap (λ (q : Reply × State). q.1) is.2 in still_shows s t (sym (ap (λ y. y.page_size) left)) (sym (ap (λ y. y.slots) left)))
 
 -- ---- an event on a slot
 
 module _ (s : State) (k : ℕ) (t : State) (n : Slot) (l : k < length s.slots) (size : t.page_size ≡ s.page_size) (slots : t.slots ≡ slice_set s.slots k n) where
-  at_slot : (j x : ℕ) → shown_in t k j x ≡ shown_on s.page_size n j x
-  at_slot j x = ap (λ z. shown_on z (slot_at t k) j x) size ∙ ap (λ y. shown_on s.page_size y j x) (ap (λ (xs : List Slot). slice_index_or xs k None) slots ∙ get_or-set_same s.slots k n None l)
+  at_slot : {X : Type 0} (g : ℕ → Slot → X) → g t.page_size (slot_at t k) ≡ g s.page_size n
+  at_slot g = ap (λ z. g z (slot_at t k)) size ∙ ap (g s.page_size) (ap (λ (xs : List Slot). slice_index_or xs k None) slots ∙ get_or-set_same s.slots k n None l)
 
-  elsewhere : (o j x : ℕ) → (o ≡ k → ⊥) → shown_in t o j x ≡ shown_in s o j x
-  elsewhere o j x other = ap (λ z. shown_on z (slot_at t o) j x) size ∙ ap (λ y. shown_on s.page_size y j x) (ap (λ (xs : List Slot). slice_index_or xs o None) slots ∙ get_or-set_other s.slots k o n None other)
+  elsewhere : {X : Type 0} (g : ℕ → Slot → X) (o : ℕ) → (o ≡ k → ⊥) → g t.page_size (slot_at t o) ≡ g s.page_size (slot_at s o)
+  elsewhere g o other = ap (λ z. g z (slot_at t o)) size ∙ ap (g s.page_size) (ap (λ (xs : List Slot). slice_index_or xs o None) slots ∙ get_or-set_other s.slots k o n None other)
 
-  -- the slot of the event, and the others
-  at_each : (P : ℕ → Type 0) → P k → ((o : ℕ) → (o ≡ k → ⊥) → P o) → (o : ℕ) → P o
-  at_each P here there o = elim (cases_eq o k) as (λ _. P o) [ inl same ↦ subst P (sym same) here | inr other ↦ there o other ]
+  -- what is seen is the same in the slot of the event, and so in all
+  same_all : {X : Type 0} (g : ℕ → Slot → X) → g s.page_size n ≡ g s.page_size (slot_at s k) → (o : ℕ) → g t.page_size (slot_at t o) ≡ g s.page_size (slot_at s o)
+  same_all g same o =
+      elim (cases_eq o k) as (λ _. g t.page_size (slot_at t o) ≡ g s.page_size (slot_at s o)) [
+        | inl here ↦ subst (λ y. g t.page_size (slot_at t y) ≡ g s.page_size (slot_at s y)) (sym here) (at_slot g ∙ same)
+        | inr other ↦ elsewhere g o other
+      ]
+
+-- the slot of the event, and the others
+at_each : (k : ℕ) (P : ℕ → Type 0) → P k → ((o : ℕ) → (o ≡ k → ⊥) → P o) → (o : ℕ) → P o
+at_each k P here there o = elim (cases_eq o k) as (λ _. P o) [ inl same ↦ subst P (sym same) here | inr other ↦ there o other ]
 
 module _ (s : State) (k : ℕ) (e : SlotEvent) (reply : Reply) (t : State) (is : IsEvent s (OnSlot k e) reply t) where
   below : k < length s.slots
   below = ltb-true k (length s.slots) is.1.0
 
-  quiet_shows : Ends (Quiet s.page_size (slot_at s k)) s k reply t → (o j x : ℕ) → shown_in t o j x ≡ shown_in s o j x
-  quiet_shows ends o j x =
+  quiet_shows : Ends (Quiet s.page_size (slot_at s k)) s k reply t → Shows s t
+  quiet_shows ends =
       let n = left_by (slot_at s k) ends.outcome in
-      at_each s k t n below ends.size ends.slots (λ o. shown_in t o j x ≡ shown_in s o j x) (at_slot s k t n below ends.size ends.slots j x ∙ ends.holds j x)
-      (λ o other. elsewhere s k t n below ends.size ends.slots o j x other) o
+      record {
+        files = λ o j x. same_all s k t n below ends.size ends.slots (λ z y. shown_on z y j x) (ends.holds.0 j x) o;
+        maps = λ o j l x. same_all s k t n below ends.size ends.slots (λ z y. seen_on z y j l x) (ends.holds.1 j l x) o;
+      }
 
   goes : Ends KeepsGoing s k reply t → wants_page reply ≡ false
   goes ends = ap wants_page ends.replied ∙ by_outcome ends.outcome ends.holds
@@ -116,17 +140,17 @@ module _ (s : State) (reply : Reply) (t : State) (st : IsSettledState s) where
   connect_kept : (task home : ℕ) → IsBuiltStep s (Connect task home) reply t → Kept s (Connect task home) reply t
   connect_kept task home is =
       let it = only_goes s (Tasks (table.Add task home)) reply t is in
-      record { reserved = λ e. cc; limits = λ k l risen. limits_hold s (Tasks (table.Add task home)) reply t k l st it risen; loads = tt; files = table_shows s (table.Add task home) reply t it }
+      record { reserved = λ e. cc; limits = λ k l risen. limits_hold s (Tasks (table.Add task home)) reply t k l st it risen; loads = tt; files = (table_shows s (table.Add task home) reply t it).files; maps = λ k j l x. inl ((table_shows s (table.Add task home) reply t it).maps k j l x) }
 
   nr_kept : (n : ℕ) → IsBuiltStep s (Nr n) reply t → Kept s (Nr n) reply t
   nr_kept n is =
       let it = only_goes s (OnPool (pool.Nr n)) reply t is in
-      record { reserved = λ e. cc; limits = λ k l risen. limits_hold s (OnPool (pool.Nr n)) reply t k l st it risen; loads = tt; files = pool_shows s (pool.Nr n) reply t it }
+      record { reserved = λ e. cc; limits = λ k l risen. limits_hold s (OnPool (pool.Nr n)) reply t k l st it risen; loads = tt; files = (pool_shows s (pool.Nr n) reply t it).files; maps = λ k j l x. inl ((pool_shows s (pool.Nr n) reply t it).maps k j l x) }
 
   meminfo_kept : IsBuiltStep s Meminfo reply t → Kept s Meminfo reply t
   meminfo_kept is =
       let it = only_goes s (OnPool pool.Meminfo) reply t is in
-      record { reserved = λ e. cc; limits = λ k l risen. limits_hold s (OnPool pool.Meminfo) reply t k l st it risen; loads = tt; files = pool_shows s pool.Meminfo reply t it }
+      record { reserved = λ e. cc; limits = λ k l risen. limits_hold s (OnPool pool.Meminfo) reply t k l st it risen; loads = tt; files = (pool_shows s pool.Meminfo reply t it).files; maps = λ k j l x. inl ((pool_shows s pool.Meminfo reply t it).maps k j l x) }
 
   -- by the slot, if it is there
   on_slot_kept : (step : Step) (k : ℕ) (e : SlotEvent) → (IsEvent s (OnSlot k e) reply t → Kept s step reply t) → IsScript s (on_slot (length s.slots) k e) reply t → Kept s step reply t
@@ -143,23 +167,15 @@ module _ (s : State) (reply : Reply) (t : State) (st : IsSettledState s) where
   create_kept k name is =
       let e : SlotEvent = slot.Create name in
       on_slot_kept (Create k name) k e
-      (λ it. record {
-        reserved = λ e. cc;
-        limits = limited s k e reply t it st;
-        loads = tt;
-        files = quiet_shows s k e reply t it (event_ends (Quiet s.page_size (slot_at s k)) s k e reply t (λ c. create_quiet s.page_size k c (slot_at s k) name) it);
-      }) is
+      (λ it. (let shows = quiet_shows s k e reply t it (event_ends (Quiet s.page_size (slot_at s k)) s k e reply t (λ c. create_quiet s.page_size k c (slot_at s k) name) it) in
+      record { reserved = λ e. cc; limits = limited s k e reply t it st; loads = tt; files = shows.files; maps = λ o j l x. inl (shows.maps o j l x) })) is
 
   map_kept : (task k : ℕ) (name : List ℕ) (a n : ℕ) → IsBuiltStep s (Map task k name a n Shared Reserve) reply t → Kept s (Map task k name a n Shared Reserve) reply t
   map_kept task k name a n is =
       let e : ℕ → SlotEvent = λ home. slot.Map task home name a n Shared Reserve in
       task_kept (Map task k name a n Shared Reserve) task k e
-      (λ home it. record {
-        reserved = λ e. cc;
-        limits = limited s k (e home) reply t it st;
-        loads = tt;
-        files = quiet_shows s k (e home) reply t it (event_ends (Quiet s.page_size (slot_at s k)) s k (e home) reply t (λ c. map_quiet s.page_size k c (slot_at s k) task home name a n Shared Reserve) it);
-      }) is
+      (λ home it. (let shows = quiet_shows s k (e home) reply t it (event_ends (Quiet s.page_size (slot_at s k)) s k (e home) reply t (λ c. map_quiet s.page_size k c (slot_at s k) task home name a n Shared Reserve) it) in
+      record { reserved = λ e. cc; limits = limited s k (e home) reply t it st; loads = tt; files = shows.files; maps = λ o j l x. inl (shows.maps o j l x) })) is
 
   loaded : (task k number i offset count : ℕ) (o : Outcome) → Loads s.page_size (slot_at s k) (map_named s k task number) i offset count o → ShowsMap s (Load task k number i offset count) (reply_of o)
   loaded task k number i offset count (Refused r) h = tt
@@ -172,32 +188,48 @@ module _ (s : State) (reply : Reply) (t : State) (st : IsSettledState s) where
       let old = slot_at s k in
       task_kept step task k e
       (λ home it. (let ends = event_ends (Loads s.page_size old (spot_on old task number) i offset count) s k (e home) reply t (λ c. load_loads s.page_size k c old task home number i offset count) it in
+      let shows = quiet_shows s k (e home) reply t it (record { outcome = ends.outcome; holds = ends.holds.quiet; replied = ends.replied; size = ends.size; slots = ends.slots }) in
       record {
         reserved = λ backed. goes s k (e home) reply t it (event_ends KeepsGoing s k (e home) reply t (λ c. load_goes s.page_size k c task home number i offset old count backed) it);
         limits = limited s k (e home) reply t it st;
         loads = subst (λ r. ShowsMap s step r) (sym ends.replied) (loaded task k number i offset count ends.outcome ends.holds);
-        files = quiet_shows s k (e home) reply t it (record { outcome = ends.outcome; holds = ends.holds.quiet; replied = ends.replied; size = ends.size; slots = ends.slots });
+        files = shows.files;
+        maps = λ o j l x. inl (shows.maps o j l x);
       })) is
 
   -- the slot of the store, and the others
-  stored_here : (task k number i offset : ℕ) (bytes : List ℕ) (a : Answer) (j x : ℕ) (v old : List ℕ)
-      → v ≡ (if (i == x) && is_shared_of (map_named s k task number) j then over offset bytes old else old) → v ≡ stored_over s (Store task k number i offset bytes) (Ok a) k j x old
-  stored_here task k number i offset bytes a j x v old h =
-      let same : (k == k) ≡ true = eq_same k in
-      h ∙ ap (λ b. if b && ((i == x) && is_shared_of (map_named s k task number) j) then over offset bytes old else old) (sym same)
+  picked : (k : ℕ) (b : Bool) (old new : List ℕ) → (if b then new else old) ≡ (if (k == k) && b then new else old)
+  picked k b old new = ap (λ c. if c && b then new else old) (sym (eq_same k))
 
-  stored_there : (task k number i offset : ℕ) (bytes : List ℕ) (a : Answer) (o j x : ℕ) (old : List ℕ) → (o ≡ k → ⊥) → old ≡ stored_over s (Store task k number i offset bytes) (Ok a) o j x old
-  stored_there task k number i offset bytes a o j x old other =
-      ap (λ b. if b && ((i == x) && is_shared_of (map_named s k task number) j) then over offset bytes old else old) (sym (ne_other k o other))
+  not_picked : (k o : ℕ) (b : Bool) (old new : List ℕ) → (o ≡ k → ⊥) → old ≡ (if (k == o) && b then new else old)
+  not_picked k o b old new other = ap (λ c. if c && b then new else old) (sym (ne_other k o other))
 
-  store_shows : (task k number i offset : ℕ) (bytes : List ℕ) → k < length s.slots → (out : Outcome) → Stores s.page_size (slot_at s k) (map_named s k task number) i offset bytes out → t.page_size ≡ s.page_size → t.slots ≡ slice_set s.slots k (left_by (slot_at s k) out)
-      → (o j x : ℕ) → shown_in t o j x ≡ stored_over s (Store task k number i offset bytes) (reply_of out) o j x (shown_in s o j x)
-  store_shows task k number i offset bytes l (Refused r) h size slots o j x =
-      at_each s k t (slot_at s k) l size slots (λ o. shown_in t o j x ≡ shown_in s o j x) (at_slot s k t (slot_at s k) l size slots j x) (λ o other. elsewhere s k t (slot_at s k) l size slots o j x other) o
-  store_shows task k number i offset bytes l (Answered a n) h size slots o j x =
-      at_each s k t n l size slots (λ o. shown_in t o j x ≡ stored_over s (Store task k number i offset bytes) (Ok a) o j x (shown_in s o j x))
-      (stored_here task k number i offset bytes a j x (shown_in t k j x) (shown_in s k j x) (at_slot s k t n l size slots j x ∙ h j x))
-      (λ o other. elsewhere s k t n l size slots o j x other ∙ stored_there task k number i offset bytes a o j x (shown_in s o j x) other) o
+  module _ (task k number i offset : ℕ) (bytes : List ℕ) (l : k < length s.slots) (size : t.page_size ≡ s.page_size) where
+    abbrev step : Step
+    step = Store task k number i offset bytes
+
+    abbrev Held : Outcome → Type 0
+    Held out = Stores s.page_size (slot_at s k) (map_named s k task number) i offset bytes out
+
+    store_shows : (out : Outcome) → Held out → t.slots ≡ slice_set s.slots k (left_by (slot_at s k) out) → (o j x : ℕ) → shown_in t o j x ≡ stored_over s step (reply_of out) o j x (shown_in s o j x)
+    store_shows (Refused r) h slots o j x = same_all s k t (slot_at s k) l size slots (λ z y. shown_on z y j x) refl o
+    store_shows (Answered a n) h slots o j x =
+        at_each k (λ o. shown_in t o j x ≡ stored_over s step (Ok a) o j x (shown_in s o j x))
+        (at_slot s k t n l size slots (λ z y. shown_on z y j x) ∙ h.0 j x ∙ picked k ((i == x) && is_shared_of (map_named s k task number) j) (shown_in s k j x) (over offset bytes (shown_in s k j x)))
+        (λ o other. elsewhere s k t n l size slots (λ z y. shown_on z y j x) o other ∙ not_picked k o ((i == x) && is_shared_of (map_named s k task number) j) (shown_in s o j x) (over offset bytes (shown_in s o j x)) other) o
+
+    store_seen : (out : Outcome) → Held out → t.slots ≡ slice_set s.slots k (left_by (slot_at s k) out)
+        → (o j n x : ℕ) → (seen_in t o j n x ≡ seen_over s step (reply_of out) o j n x (seen_in s o j n x)) ⊎ LosesCopy s step t o j n x
+    store_seen (Refused r) h slots o j n x = inl (same_all s k t (slot_at s k) l size slots (λ z y. seen_on z y j n x) refl o)
+    store_seen (Answered a new) h slots o j n x =
+        at_each k (λ o. (seen_in t o j n x ≡ seen_over s step (Ok a) o j n x (seen_in s o j n x)) ⊎ LosesCopy s step t o j n x)
+        (⊎_elim
+        (λ same. inl (at_slot s k t new l size slots (λ z y. seen_on z y j n x) ∙ same
+        ∙ picked k ((i == x) && reaches (map_named s k task number) (map_at s k j n) j n x) (seen_in s k j n x) (over offset bytes (seen_in s k j n x))))
+        (λ lost. inr (refl, subst (λ y. IsLostTo (map_named s k task number) i (map_at s k j n) y j x) (sym (at_slot s k t new l size slots (λ z y. map_on y j n))) lost))
+        (h.1 j n x))
+        (λ o other. inl (elsewhere s k t new l size slots (λ z y. seen_on z y j n x) o other
+        ∙ not_picked k o ((i == x) && reaches (map_named s k task number) (map_at s o j n) j n x) (seen_in s o j n x) (over offset bytes (seen_in s o j n x)) other)) o
 
   store_kept : (task k number i offset : ℕ) (bytes : List ℕ) → IsBuiltStep s (Store task k number i offset bytes) reply t → Kept s (Store task k number i offset bytes) reply t
   store_kept task k number i offset bytes is =
@@ -212,7 +244,10 @@ module _ (s : State) (reply : Reply) (t : State) (st : IsSettledState s) where
         loads = tt;
         files = λ o j x.
             subst (λ r. shown_in t o j x ≡ stored_over s step r o j x (shown_in s o j x)) (sym ends.replied)
-            (store_shows task k number i offset bytes (below s k (e home) reply t it) ends.outcome ends.holds ends.size ends.slots o j x);
+            (store_shows task k number i offset bytes (below s k (e home) reply t it) ends.size ends.outcome ends.holds ends.slots o j x);
+        maps = λ o j l x.
+            subst (λ r. (seen_in t o j l x ≡ seen_over s step r o j l x (seen_in s o j l x)) ⊎ LosesCopy s step t o j l x) (sym ends.replied)
+            (store_seen task k number i offset bytes (below s k (e home) reply t it) ends.size ends.outcome ends.holds ends.slots o j l x);
       })) is
 
   unbuilt_kept : (step : Step) → (reply ≡ Err BadLine) × (t ≡ s) → Kept s step reply t
@@ -236,7 +271,7 @@ module _ (s : State) (reply : Reply) (t : State) (st : IsSettledState s) where
 pub promised : PromisesAreKept
 promised s step reply t st is =
     let kept = step_kept s reply t st step is in
-    record { reserved = kept.reserved; counts = counts_are_sums t (step_settled s step reply t st is); limits = kept.limits; loads = kept.loads; files = kept.files }
+    record { reserved = kept.reserved; counts = counts_are_sums t (step_settled s step reply t st is); limits = kept.limits; loads = kept.loads; files = kept.files; maps = kept.maps }
 
 -- ---- runs
 

@@ -12,7 +12,6 @@ use Rattle.hp_model.specs.declared.place.Place.TheVariants.{Gone, Live}
 use Rattle.hp_model.specs.declared.refusal.Refusal.TheVariants.{NoPages, MountFull, OutOfMemory, TakenByOwner}
 use Rattle.hp_model.specs.declared.step.Intent.{Intent}
 use Rattle.hp_model.specs.declared.step.Intent.TheVariants.{Read, Write}
-use Rattle.hp_model.specs.declared.step.Sharing.TheVariants.{Shared}
 use Rattle.hp_model.specs.Access.{shared_access, new_copy, uncopied_access, private_access, access}
 use Rattle.hp_model.specs.CopyWrite.{robbed, taken_back, is_held_once, owner_write, copy_write}
 use Rattle.hp_model.specs.File.{File, Mount, cell_at, has_page, new_file, with_cell, with_file, with_map}
@@ -21,7 +20,7 @@ use Rattle.hp_model.specs.Mapping.{Map, copy_of, is_shared, place_at, with_place
 use Rattle.hp_model.specs.Page.{Page, Copy, zeros}
 use Rattle.hp_model.specs.Plan.{Outcome, Refused, Answered, Plan, Finish, Ask, Choice, refuse, grant_page, reserved_page, when_granted, may_lack_room}
 use Rattle.hp_model.specs.Pool.{GrantPage, PoolAnswer}
-use Rattle.hp_model.specs.Promises.{file_in}
+use Rattle.hp_model.specs.Promises.{file_in, map_in, no_map}
 use Rattle.hp_model.specs.Spot.{Spot, again, copied}
 use Rattle.hp_model.specs.Value.{shown, value}
 use Rattle.hp_model.proofs.FileMoves.{IsMapAt, live_at}
@@ -30,12 +29,6 @@ use Rattle.hp_model.proofs.MountMoves.{IsFileAt, IsSpot}
 use Rattle.hp_model.proofs.Outcomes.{Always, always_if, always_test, always_weaker}
 
 -- ---- looks at a file
-
-abbrev pub no_map : Map
-no_map = record { task = 0; number = 0; start = 0; sharing = Shared; owner = false; unmapped = false; places = [] }
-
-abbrev pub map_in : File → ℕ → Map
-map_in f l = slice_index_or f.maps l no_map
 
 -- what the file has at the index
 abbrev pub look : (size x : ℕ) → File → List ℕ
@@ -49,7 +42,7 @@ pub record SameLooks (size : ℕ) (f g : File) : Type 0 where
   pub cells : (x : ℕ) → look size x g ≡ look size x f
   pub maps : (l x : ℕ) → seen size l x g ≡ seen size l x f
 
-abbrev by_place : (size : ℕ) → Place Copy → List ℕ → List ℕ
+abbrev pub by_place : (size : ℕ) → Place Copy → List ℕ → List ℕ
 by_place size p v = elim (copy_of p) [ None ↦ v | Some copy ↦ copy.page.bytes ]
 
 fill_looks : (size : ℕ) (f : File) (i : ℕ) (page : Page) → i < length f.cells → page.bytes ≡ shown size (cell_at f i) → SameLooks size f (with_cell f i (Present page))
@@ -59,7 +52,7 @@ fill_looks size f i page l e =
 
 -- ---- a place of a map
 
-not_below : (b : Bool) (x : Place Copy) (c : Bool) (o : Option Copy) → (if b then Gone else x) ≡ Live c o → b ≡ false
+pub not_below : (b : Bool) (x : Place Copy) (c : Bool) (o : Option Copy) → (if b then Gone else x) ≡ Live c o → b ≡ false
 not_below true x c o e = cc
 not_below false x c o e = refl
 
@@ -128,11 +121,22 @@ module _ (size : ℕ) (m : Mount) (s : Spot) (at : IsSpot m s) (i : ℕ) where
     pub maps : (j l x : ℕ) → seen size l x (file_in n j) ≡ seen size l x (file_in m j)
     pub value : value size (again n s).file (again n s).map i ≡ value size s.file s.map i
     pub present : is_shared s.map.sharing ≡ true → has_page (cell_at (file_in n s.file_no) i) ≡ true
+    pub held : is_shared s.map.sharing ≡ true → (j l : ℕ) → map_in (file_in n j) l ≡ map_in (file_in m j) l
+
+  -- the spot's map has a copy there
+  pub record Own (n : Mount) : Type 0 where
+    pub consumed : Bool
+    pub copy : Copy
+    pub is : place_at (map_in (file_in n s.file_no) s.map_no) i ≡ Live consumed (Some copy)
+
+  -- and where it is private, it has a copy there
+  abbrev pub Copied : Mount → Type 0
+  Copied n = Same n × (is_shared s.map.sharing ≡ false → Own n)
 
   -- the file is another that shows the same
   put_same : (g : File) → SameLooks size s.file g → value size g (slice_index_or g.maps s.map_no s.map) i ≡ value size s.file s.map i
-      → (is_shared s.map.sharing ≡ true → has_page (cell_at g i) ≡ true) → Same (with_file m s.file_no g)
-  put_same g looks shows there =
+      → (is_shared s.map.sharing ≡ true → has_page (cell_at g i) ≡ true) → (is_shared s.map.sharing ≡ true → g.maps ≡ s.file.maps) → Same (with_file m s.file_no g)
+  put_same g looks shows there holds =
       let none = new_file None in
       let first = get_or-set_same m.files s.file_no g s.file at.file.within in
       record {
@@ -140,6 +144,7 @@ module _ (size : ℕ) (m : Mount) (s : Spot) (at : IsSpot m s) (i : ℕ) where
         maps = λ j l x. same_put (seen size l x) none m.files s.file_no g at.file.within (looks.maps l x ∙ sym (ap (seen size l x) (at.file.is none))) j;
         value = ap (λ f. value size f (slice_index_or f.maps s.map_no s.map) i) first ∙ shows;
         present = λ e. ap (λ f. has_page (cell_at f i)) (get_or-set_same m.files s.file_no g none at.file.within) ∙ there e;
+        held = λ e j l. same_put (λ f. map_in f l) none m.files s.file_no g at.file.within (ap (λ ms. slice_index_or ms l no_map) (holds e) ∙ sym (ap (λ f. map_in f l) (at.file.is none))) j;
       }
 
   same_map : slice_index_or s.file.maps s.map_no s.map ≡ s.map
@@ -153,6 +158,7 @@ module _ (size : ℕ) (m : Mount) (s : Spot) (at : IsSpot m s) (i : ℕ) where
         maps = λ j l x. refl;
         value = ap (λ f. value size f (slice_index_or f.maps s.map_no s.map) i) (at.file.is s.file) ∙ ap (λ y. value size s.file y i) same_map;
         present = λ e. ap (λ f. has_page (cell_at f i)) (at.file.is (new_file None)) ∙ there e;
+        held = λ e j l. refl;
       }
 
   fill_same : (node : ℕ) → i < length s.file.cells → shown size (cell_at s.file i) ≡ zeros size → Same (with_file m s.file_no (with_cell s.file i (Present (record { node = node; bytes = zeros size }))))
@@ -161,7 +167,7 @@ module _ (size : ℕ) (m : Mount) (s : Spot) (at : IsSpot m s) (i : ℕ) where
       let looks = fill_looks size s.file i page l (sym e) in
       put_same (with_cell s.file i (Present page)) looks
       (ap (λ y. value size (with_cell s.file i (Present page)) y i) same_map ∙ ap (by_place size (place_at s.map i)) (looks.cells i))
-      (λ shared. ap has_page (get_or-set_same s.file.cells i (Present page) Hole l))
+      (λ shared. ap has_page (get_or-set_same s.file.cells i (Present page) Hole l)) (λ shared. refl)
 
   copy_same : (c d : Bool) (o : Option Copy) (new : Copy) → is_shared s.map.sharing ≡ false → place_at s.map i ≡ Live c o → new.page.bytes ≡ value size s.file s.map i
       → Same (with_file m s.file_no (with_map s.file s.map_no (with_place s.map i (Live d (Some new)))))
@@ -170,7 +176,30 @@ module _ (size : ℕ) (m : Mount) (s : Spot) (at : IsSpot m s) (i : ℕ) where
       let f : File = s.file in
       put_same (with_map f s.map_no (with_place s.map i p)) (copy_looks size f s.map_no s.map i c d o new at.map is e)
       (ap (λ y. value size f y i) (get_or-set_same f.maps s.map_no (with_place s.map i p) s.map at.map.within) ∙ ap (λ q. by_place size q (look size i f)) (place_put s.map i c o is p) ∙ e)
-      (λ shared. cc)
+      (λ shared. cc) (λ shared. cc)
+
+  copy_own : (c d : Bool) (o : Option Copy) (new : Copy) → place_at s.map i ≡ Live c o → Own (with_file m s.file_no (with_map s.file s.map_no (with_place s.map i (Live d (Some new)))))
+  copy_own c d o new is =
+      let p : Place Copy = Live d (Some new) in
+      let f : File = s.file in
+      let g : File = with_map f s.map_no (with_place s.map i p) in
+      record {
+        consumed = d;
+        copy = new;
+        is = ap (λ y. place_at (map_in y s.map_no) i) (get_or-set_same m.files s.file_no g (new_file None) at.file.within)
+            ∙ ap (λ y. place_at y i) (get_or-set_same f.maps s.map_no (with_place s.map i p) no_map at.map.within) ∙ place_put s.map i c o is p;
+      }
+
+  copied_done : (c d : Bool) (o : Option Copy) (new : Copy) → is_shared s.map.sharing ≡ false → place_at s.map i ≡ Live c o → new.page.bytes ≡ value size s.file s.map i
+      → Copied (with_file m s.file_no (with_map s.file s.map_no (with_place s.map i (Live d (Some new)))))
+  copied_done c d o new apart is e = (copy_same c d o new apart is e, λ other. copy_own c d o new is)
+
+  kept_own : (c : Bool) (copy : Copy) → place_at s.map i ≡ Live c (Some copy) → Own m
+  kept_own c copy is = record {
+    consumed = c;
+    copy = copy;
+    is = ap (λ y. place_at (map_in y s.map_no) i) (at.file.is (new_file None)) ∙ ap (λ y. place_at y i) (at.map.is no_map) ∙ is;
+  }
 
   -- an owner took its copy back from all others
   abbrev robbed_mount : ℕ → Mount
@@ -185,7 +214,7 @@ module _ (size : ℕ) (m : Mount) (s : Spot) (at : IsSpot m s) (i : ℕ) where
     pub left : n ≡ robbed_mount copy.stamp
 
   abbrev pub Result : Mount → Type 0
-  Result n = Same n ⊎ Taken n
+  Result n = Copied n ⊎ Taken n
 
   module _ (c : Choice) (home : ℕ) where
     shared_same : (cell : Cell Page) → i < length s.file.cells → cell_at s.file i ≡ cell → Always (On Same) (shared_access c size m s home i cell)
@@ -197,37 +226,37 @@ module _ (size : ℕ) (m : Mount) (s : Spot) (at : IsSpot m s) (i : ℕ) where
       abbrev fresh : ℕ → Copy
       fresh node = record { stamp = c.stamp; page = record { node = node; bytes = value size s.file s.map i } }
 
-      new_same : (consumed : Bool) → place_at s.map i ≡ Live consumed None → Always (On Same) (new_copy c size m s home i consumed)
+      new_same : (consumed : Bool) → place_at s.map i ≡ Live consumed None → Always (On Copied) (new_copy c size m s home i consumed)
       new_same consumed is =
-          always_if (On Same) (s.map.owner && not consumed) (reserved_page c home (λ node. copied m s i true (fresh node))) (grant_page c m home (λ node. copied m s i consumed (fresh node)))
-          (λ e. on_reserved_page Same c home _ (λ node. copy_same consumed true None (fresh node) apart is refl))
-          (λ e. on_grant_page Same c m home _ (λ node. copy_same consumed consumed None (fresh node) apart is refl))
+          always_if (On Copied) (s.map.owner && not consumed) (reserved_page c home (λ node. copied m s i true (fresh node))) (grant_page c m home (λ node. copied m s i consumed (fresh node)))
+          (λ e. on_reserved_page Copied c home _ (λ node. copied_done consumed true None (fresh node) apart is refl))
+          (λ e. on_grant_page Copied c m home _ (λ node. copied_done consumed consumed None (fresh node) apart is refl))
 
       idle : Same m
       idle = stays_same (λ e. cc)
 
-      uncopied_same : (consumed : Bool) (intent : Intent) → place_at s.map i ≡ Live consumed None → Always (On Same) (uncopied_access c size m s home i consumed intent)
-      uncopied_same consumed Write is = new_same consumed is
-      uncopied_same consumed Read is =
-          always_if (On Same) (has_page (cell_at s.file i)) (Finish (Answered Done (Some m))) (new_copy c size m s home i consumed) (λ e. idle) (λ e. new_same consumed is)
+      uncopied_same : (consumed : Bool) → place_at s.map i ≡ Live consumed None → Always (On Same) (uncopied_access c size m s home i consumed Read)
+      uncopied_same consumed is =
+          always_if (On Same) (has_page (cell_at s.file i)) (Finish (Answered Done (Some m))) (new_copy c size m s home i consumed) (λ e. idle)
+          (λ e. always_weaker (On Copied) (On Same) (on_weaker Copied Same (λ n h. h.0)) (new_copy c size m s home i consumed) (new_same consumed is))
 
       read_private : (p : Place Copy) → place_at s.map i ≡ p → Always (On Same) (private_access c size m s home i p Read)
       read_private Gone is = tt
       read_private (Live consumed (Some copy)) is = idle
       read_private (Live consumed None) is =
-          always_test (On Same) s.map.unmapped TakenByOwner (uncopied_access c size m s home i consumed Read) tt (λ e. uncopied_same consumed Read is)
+          always_test (On Same) s.map.unmapped TakenByOwner (uncopied_access c size m s home i consumed Read) tt (λ e. uncopied_same consumed is)
 
       -- ---- a write
 
-      take_back : (consumed : Bool) (copy : Copy) → s.map.owner ≡ true → place_at s.map i ≡ Live consumed (Some copy) → Same (robbed_mount copy.stamp) ⊎ Taken (robbed_mount copy.stamp)
+      take_back : (consumed : Bool) (copy : Copy) → s.map.owner ≡ true → place_at s.map i ≡ Live consumed (Some copy) → Copied (robbed_mount copy.stamp) ⊎ Taken (robbed_mount copy.stamp)
       take_back consumed copy owner is = inr (record { consumed = consumed; copy = copy; is = is; owner = owner; apart = apart; left = refl })
 
       copied_same : (consumed : Bool) (copy : Copy) (node : ℕ) → place_at s.map i ≡ Live consumed (Some copy)
-          → Same (with_file m s.file_no (with_map s.file s.map_no (with_place s.map i (Live consumed (Some (record { stamp = c.stamp; page = record { node = node; bytes = copy.page.bytes } }))))))
+          → Copied (with_file m s.file_no (with_map s.file s.map_no (with_place s.map i (Live consumed (Some (record { stamp = c.stamp; page = record { node = node; bytes = copy.page.bytes } }))))))
       copied_same consumed copy node is =
-          copy_same consumed consumed (Some copy) (record { stamp = c.stamp; page = record { node = node; bytes = copy.page.bytes } }) apart is (sym (ap (λ q. by_place size q (look size i s.file)) is))
+          copied_done consumed consumed (Some copy) (record { stamp = c.stamp; page = record { node = node; bytes = copy.page.bytes } }) apart is (sym (ap (λ q. by_place size q (look size i s.file)) is))
 
-      owner_or : (b : Bool) (x n : Mount) → Same x ⊎ Taken x → Same n ⊎ Taken n → On Result (if b then Answered Done (Some x) else Answered Done (Some n))
+      owner_or : (b : Bool) (x n : Mount) → Result x → Result n → On Result (if b then Answered Done (Some x) else Answered Done (Some n))
       owner_or true x n hx hn = hx
       owner_or false x n hx hn = hn
 
@@ -238,7 +267,7 @@ module _ (size : ℕ) (m : Mount) (s : Spot) (at : IsSpot m s) (i : ℕ) where
           let back : Outcome = taken_back m s copy.stamp in
           let owns : Plan = if may_lack_room && c.refused then refuse OutOfMemory else owner_write m s home copy.stamp fresh_copy in
           let asks : Plan = grant_page c m home fresh_copy in
-          always_if (On Result) (is_held_once s.file copy.stamp) (Finish (Answered Done (Some m))) (if s.map.owner then owns else asks) (λ e. inl idle)
+          always_if (On Result) (is_held_once s.file copy.stamp) (Finish (Answered Done (Some m))) (if s.map.owner then owns else asks) (λ e. inl (idle, λ other. kept_own consumed copy is))
           (λ more. always_if (On Result) s.map.owner owns asks
           (λ owner. always_test (On Result) (may_lack_room && c.refused) OutOfMemory (owner_write m s home copy.stamp fresh_copy) tt
           (λ f. always_if (On Result) (is_full m 1) (Finish back) (Ask (λ nr. GrantPage home (rise m 1)) (λ a. if a.granted then fresh_copy a.node else back)) (λ full. take_back consumed copy owner is)
@@ -250,12 +279,12 @@ module _ (size : ℕ) (m : Mount) (s : Spot) (at : IsSpot m s) (i : ℕ) where
       write_private (Live consumed (Some copy)) is = write_copy consumed copy is
       write_private (Live consumed None) is =
           always_test (On Result) s.map.unmapped TakenByOwner (uncopied_access c size m s home i consumed Write) tt
-          (λ e. always_weaker (On Same) (On Result) (on_weaker Same Result (λ n h. inl h)) (uncopied_access c size m s home i consumed Write) (uncopied_same consumed Write is))
+          (λ e. always_weaker (On Copied) (On Result) (on_weaker Copied Result (λ n h. inl h)) (new_copy c size m s home i consumed) (new_same consumed is))
 
     pub write_done : i < length s.file.cells → Always (On Result) (access c size m s home i Write)
     write_done l =
         always_if (On Result) (is_shared s.map.sharing) (shared_access c size m s home i (cell_at s.file i)) (private_access c size m s home i (place_at s.map i) Write)
-        (λ e. always_weaker (On Same) (On Result) (on_weaker Same Result (λ n h. inl h)) (shared_access c size m s home i (cell_at s.file i)) (shared_same (cell_at s.file i) l refl))
+        (λ e. always_weaker (On Same) (On Result) (on_weaker Same Result (λ n h. inl (h, λ apart. cc))) (shared_access c size m s home i (cell_at s.file i)) (shared_same (cell_at s.file i) l refl))
         (λ e. write_private e (place_at s.map i) refl)
 
     pub read_same : i < length s.file.cells → Always (On Same) (access c size m s home i Read)

@@ -1,11 +1,14 @@
 -- What a slot's files show after each event that is built, and what a load answers.
-use Rattle.std.proofs.Common.{◌≡◌, ℕ, ◌+◌, ◌<◌, Bool, true, false, ◌&&◌, ◌||◌, ◌==◌, not, Option, None, Some, is_some, List, [], ◌∷◌, length, replicate, refl, sym, ap, ◌∙◌, if◌then◌else◌, nat_lt, nat_le, ◌-◌}
+use Rattle.std.proofs.Common.{◌≡◌, ◌⊎◌, ℕ, zero, suc, ◌+◌, ◌<◌, Bool, true, false, ◌&&◌, ◌||◌, ◌==◌, not, Option, None, Some, is_some, List, [], ◌∷◌, length, replicate, refl, sym, ap, ◌∙◌, if◌then◌else◌, nat_lt, nat_le, ◌-◌}
+use Rattle.std.specs.List.{slice_index_or}
 use Rattle.std.proofs.lemmas.Bool.{cond_both, leb-false}
 use Rattle.hp_model.specs.declared.answer.Answer.{Answer}
 use Rattle.hp_model.specs.declared.answer.Answer.TheVariants.{Done, MapNo}
 use Rattle.hp_model.specs.declared.cell.Cell.{Cell}
 use Rattle.hp_model.specs.declared.cell.Cell.TheVariants.{Hole, Entered, Present}
 use Rattle.hp_model.specs.declared.event.SlotEvent.TheVariants as slot
+use Rattle.hp_model.specs.declared.place.Place.{Place}
+use Rattle.hp_model.specs.declared.place.Place.TheVariants.{Gone, Live}
 use Rattle.hp_model.specs.declared.refusal.Refusal.{Refusal}
 use Rattle.hp_model.specs.declared.refusal.Refusal.TheVariants.{NoPages, MountFull, OutOfMemory, OutOfRange, CrossesPage, TooMany, BeyondEnd, NoSuchMap, NoSuchFile, BadName, FileExists, NoInodes}
 use Rattle.hp_model.specs.declared.step.Intent.{Intent}
@@ -16,21 +19,22 @@ use Rattle.hp_model.specs.Access.{access}
 use Rattle.hp_model.specs.Balance.{left_by}
 use Rattle.hp_model.specs.File.{File, Mount, at_least, entered, new_file, with_file}
 use Rattle.hp_model.specs.Grant.{is_full, is_over, rise}
-use Rattle.hp_model.specs.MakeMap.{asked, mapped, next_number, reserves, with_new}
+use Rattle.hp_model.specs.MakeMap.{asked, mapped, new_map, next_number, reserves, with_new}
 use Rattle.hp_model.specs.Lists.{edit_range}
-use Rattle.hp_model.specs.Mapping.{is_map, is_shared}
-use Rattle.hp_model.specs.Page.{Page}
+use Rattle.hp_model.specs.Mapping.{Map, copy_of, is_map, is_shared, place_at}
+use Rattle.hp_model.specs.Page.{Page, Copy}
 use Rattle.hp_model.specs.Plan.{Slot, Outcome, Refused, Answered, Plan, Finish, Ask, Choice, refuse, unless, with_value, continued, grant, when_granted}
 use Rattle.hp_model.specs.Pool.{Grant}
 use Rattle.hp_model.specs.Profile.{most_bytes, most_file_pages, most_files, most_map_pages}
-use Rattle.hp_model.specs.Promises.{spot_on, IsLoaded, file_in, shown_on, over, is_shared_of}
+use Rattle.hp_model.specs.Promises.{spot_on, IsLoaded, file_in, shown_on, seen_on, map_in, map_on, no_map, over, is_shared_of, reaches, IsLostTo}
 use Rattle.hp_model.specs.SlotEvent.{are_too_many_maps, byte_access, bytes_answer, file_named, has_name, is_beyond, is_name, is_unmapped, load, map_file, slot_event, store}
 use Rattle.hp_model.specs.Spot.{Spot, again, spot, written}
 use Rattle.hp_model.specs.Value.{shown, value}
 use Rattle.hp_model.proofs.Looks.{same_edit_range, same_more, same_none, same_one, same_put}
 use Rattle.hp_model.proofs.MountMoves.{IsFileAt, IsSpot, file_at, spot_is}
 use Rattle.hp_model.proofs.Outcomes.{Always, always_if, always_test, always_then}
-use Rattle.hp_model.proofs.Shown.{look, On, Same, Result, read_same, write_done}
+use Rattle.hp_model.proofs.Seen.{store_seen}
+use Rattle.hp_model.proofs.Shown.{look, seen, by_place, On, Same, Result, read_same, write_done}
 use Rattle.hp_model.proofs.Stored.{ready, stored}
 
 -- ---- outcomes that may be a refusal
@@ -55,18 +59,22 @@ always_grant P stops c m home k o h =
 -- ---- events that leave what files show
 
 abbrev pub Quiet : (size : ℕ) → Slot → Outcome → Type 0
-Quiet size old o = (j x : ℕ) → shown_on size (left_by old o) j x ≡ shown_on size old j x
+Quiet size old o =
+    ((j x : ℕ) → shown_on size (left_by old o) j x ≡ shown_on size old j x) × ((j l x : ℕ) → seen_on size (left_by old o) j l x ≡ seen_on size old j l x)
 
 refused_quiet : (size : ℕ) (old : Slot) (r : Refusal) → Quiet size old (Refused r)
-refused_quiet size old r = λ j x. refl
+refused_quiet size old r = (λ j x. refl, λ j l x. refl)
 
 pub create_quiet : (size k : ℕ) (c : Choice) (old : Slot) (name : List ℕ) → Always (Quiet size old) (slot_event size k c old (slot.Create name))
-create_quiet size k c None name = λ j x. refl
+create_quiet size k c None name = (λ j x. refl, λ j l x. refl)
 create_quiet size k c (Some m) name =
     let f : File = new_file (Some name) in
     always_unless (Quiet size (Some m)) (refused_quiet size (Some m))
     ((not (is_name name), BadName) ∷ (is_some (file_named m name), FileExists) ∷ (nat_le most_files (length m.files), TooMany) ∷ (is_over m.limits.inodes (length m.files + 1), NoInodes) ∷ (c.refused, OutOfMemory) ∷ [])
-    (Finish (Answered Done (Some (with_new m f)))) (λ j x. same_more (look size x) (new_file None) m.files (f ∷ []) (λ i. same_one (look size x) (new_file None) f refl i) j)
+    (Finish (Answered Done (Some (with_new m f)))) (
+      λ j x. same_more (look size x) (new_file None) m.files (f ∷ []) (λ i. same_one (look size x) (new_file None) f refl i) j,
+      λ j l x. same_more (seen size l x) (new_file None) m.files (f ∷ []) (λ i. same_one (seen size l x) (new_file None) f refl i) j,
+    )
 
 entered_shows : (size : ℕ) (c : Cell Page) → shown size (entered c) ≡ shown size c
 entered_shows size Hole = refl
@@ -81,9 +89,30 @@ mapped_shows size task number a n sharing reserving f x =
     (λ e. same_edit_range (shown size) Hole entered (entered_shows size) a (a + n) (at_least (a + n) cells) x ∙ long)
     (λ e. long)
 
+-- a new map has no copies
+none_yet : (n j : ℕ) → copy_of {C = Copy} (slice_index_or (replicate n (Live false None)) j Gone) ≡ None
+none_yet zero j = refl
+none_yet (suc n) zero = refl
+none_yet (suc n) (suc j) = none_yet n j
+
+none_at : (task number a n : ℕ) (sharing : Sharing) (reserving : Reserving) (x : ℕ) → copy_of (place_at (new_map task number a n sharing reserving) x) ≡ None
+none_at task number a n sharing reserving x =
+    cond_both (nat_lt x a) Gone (slice_index_or (replicate n (Live false None)) (x - a) Gone) (λ (p : Place Copy). copy_of p ≡ None) (λ e. refl) (λ e. none_yet n (x - a))
+
+none_past : (x : ℕ) → copy_of (place_at no_map x) ≡ None
+none_past x = cond_both (nat_lt x 0) Gone Gone (λ (p : Place Copy). copy_of p ≡ None) (λ e. refl) (λ e. refl)
+
+mapped_seen : (size task number a n : ℕ) (sharing : Sharing) (reserving : Reserving) (f : File) (l x : ℕ) → seen size l x (mapped task number a n sharing reserving f) ≡ seen size l x f
+mapped_seen size task number a n sharing reserving f l x =
+    let more : Map = new_map task number a n sharing reserving in
+    let by_copy : Option Copy → List ℕ = λ o. elim o [ None ↦ look size x f | Some copy ↦ copy.page.bytes ] in
+    ap (by_place size (place_at (map_in (mapped task number a n sharing reserving f) l) x)) (mapped_shows size task number a n sharing reserving f x)
+    ∙ same_more (λ (y : Map). value size f y x) no_map f.maps (more ∷ [])
+    (λ j. same_one (λ (y : Map). value size f y x) no_map more (ap by_copy (none_at task number a n sharing reserving x) ∙ sym (ap by_copy (none_past x))) j) l
+
 pub map_quiet : (size k : ℕ) (c : Choice) (old : Slot) (task home : ℕ) (name : List ℕ) (a n : ℕ) (sharing : Sharing) (reserving : Reserving)
     → Always (Quiet size old) (slot_event size k c old (slot.Map task home name a n sharing reserving))
-map_quiet size k c None task home name a n sharing reserving = λ j x. refl
+map_quiet size k c None task home name a n sharing reserving = (λ j x. refl, λ j l x. refl)
 map_quiet size k c (Some m) task home name a n sharing reserving =
     let P = Quiet size (Some m) in
     let stops = refused_quiet size (Some m) in
@@ -95,7 +124,10 @@ map_quiet size k c (Some m) task home name a n sharing reserving =
     always_unless P stops (((n == 0) || nat_lt most_file_pages (a + n), OutOfRange) ∷ (nat_lt most_map_pages n || are_too_many_maps m task, TooMany) ∷ [])
     (grant c m home (asked sharing reserving a n q.1) left)
     (always_grant P stops c m home (asked sharing reserving a n q.1) left
-    (λ j x. same_put (look size x) (new_file None) m.files q.0 more at.within (mapped_shows size task number a n sharing reserving q.1 x ∙ sym (ap (look size x) (at.is (new_file None)))) j))))
+    (
+      λ j x. same_put (look size x) (new_file None) m.files q.0 more at.within (mapped_shows size task number a n sharing reserving q.1 x ∙ sym (ap (look size x) (at.is (new_file None)))) j,
+      λ j l x. same_put (seen size l x) (new_file None) m.files q.0 more at.within (mapped_seen size task number a n sharing reserving q.1 l x ∙ sym (ap (seen size l x) (at.is (new_file None)))) j,
+    ))))
 
 -- ---- accesses
 
@@ -111,14 +143,14 @@ pub record Loads (size : ℕ) (old : Slot) (o : Option Spot) (i offset count : �
   pub loaded : (a : Answer) (new : Slot) → out ≡ Answered a new → IsLoaded size o i offset count a
 
 load_refused : (size : ℕ) (old : Slot) (o : Option Spot) (i offset count : ℕ) (r : Refusal) → Loads size old o i offset count (Refused r)
-load_refused size old o i offset count r = record { quiet = λ j x. refl; loaded = λ a new e. cc }
+load_refused size old o i offset count r = record { quiet = (λ j x. refl, λ j l x. refl); loaded = λ a new e. cc }
 
 load_ends : (size : ℕ) (m : Mount) (s : Spot) (at : IsSpot m s) (i offset count : ℕ) (o : Outcome) → On (Same size m s at i) o
     → Loads size (Some m) (Some s) i offset count (continued (λ n. Answered (bytes_answer offset count (value size (again n s).file (again n s).map i)) (Some n)) o)
 load_ends size m s at i offset count (Refused r) on = load_refused size (Some m) (Some s) i offset count r
 load_ends size m s at i offset count (Answered a None) on = absurd on
 load_ends size m s at i offset count (Answered a (Some n)) on = record {
-  quiet = on.cells;
+  quiet = (on.cells, on.maps);
   loaded = λ b new e. (let first : bytes_answer offset count (value size (again n s).file (again n s).map i) ≡ b = cc in sym first ∙ ap (bytes_answer offset count) on.value);
 }
 
@@ -139,14 +171,20 @@ load_loads size k c (Some m) task home number i offset count = by_spot (spot m (
 abbrev pub Stores : (size : ℕ) → Slot → Option Spot → (i offset : ℕ) → List ℕ → Outcome → Type 0
 Stores size old o i offset bytes (Refused r) = Unit {0}
 Stores size old o i offset bytes (Answered a new) =
-    (j x : ℕ) → shown_on size new j x ≡ (if (i == x) && is_shared_of o j then over offset bytes (shown_on size old j x) else shown_on size old j x)
+    ((j x : ℕ) → shown_on size new j x ≡ (if (i == x) && is_shared_of o j then over offset bytes (shown_on size old j x) else shown_on size old j x))
+    × ((j l x : ℕ) →
+        (seen_on size new j l x ≡ (if (i == x) && reaches o (map_on old j l) j l x then over offset bytes (seen_on size old j l x) else seen_on size old j l x))
+        ⊎ IsLostTo o i (map_on old j l) (map_on new j l) j x)
 
 store_ends : (size : ℕ) (m : Mount) (s : Spot) (at : IsSpot m s) (i offset : ℕ) (bytes : List ℕ) (o : Outcome) → On (Result size m s at i) o
     → Stores size (Some m) (Some s) i offset bytes (continued (λ n. Answered Done (Some (written n s i offset bytes))) o)
 store_ends size m s at i offset bytes (Refused r) on = tt
 store_ends size m s at i offset bytes (Answered a None) on = absurd on
 store_ends size m s at i offset bytes (Answered a (Some n)) on =
-    λ j x. stored size m s at i n (ready size m s at i n on) offset bytes (i == x) (is_shared s.map.sharing) (s.file_no == j) j x refl refl refl
+    (
+      λ j x. stored size m s at i n (ready size m s at i n on) offset bytes (i == x) (is_shared s.map.sharing) (s.file_no == j) j x refl refl refl,
+      store_seen size m s at i offset bytes n on,
+    )
 
 pub store_stores : (size k : ℕ) (c : Choice) (old : Slot) (task home number i offset : ℕ) (bytes : List ℕ)
     → Always (Stores size old (spot_on old task number) i offset bytes) (slot_event size k c old (slot.Store task home number i offset bytes))

@@ -33,7 +33,7 @@ module _ (size : ℕ) (m : Mount) (s : Spot) (at : IsSpot m s) (i : ℕ) (n : Mo
 
   pub ready : Result size m s at i n → Ready
   ready done =
-      ⊎_elim (λ same. record { cells = same.cells; present = same.present })
+      ⊎_elim (λ same. record { cells = same.0.cells; present = same.0.present })
       (λ taken. record {
         cells = λ j x.
             let none = new_file None in

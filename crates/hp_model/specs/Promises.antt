@@ -1,16 +1,19 @@
 -- What the machine promises of each step.
-use Rattle.std.specs.Prelude.{◌≡◌, ℕ, ◌+◌, ◌<◌, ◌&&◌, ◌||◌, ◌==◌, Bool, true, false, not, Option, None, Some, is_some, Ok, Err, List, ◌++◌, length, take, drop, if◌then◌else◌}
+use Rattle.std.specs.Prelude.{◌≡◌, ◌⊎◌, ℕ, ◌+◌, ◌<◌, ◌&&◌, ◌||◌, ◌==◌, Bool, true, false, not, Option, None, Some, is_some, Ok, Err, List, [], ◌++◌, length, take, drop, if◌then◌else◌}
 use Rattle.std.specs.List.{slice_index_or}
 use Rattle.hp_model.specs.declared.answer.Answer.{Answer}
 use Rattle.hp_model.specs.declared.step.Intent.{Intent}
 use Rattle.hp_model.specs.declared.step.Intent.TheVariants.{Read, Write}
+use Rattle.hp_model.specs.declared.place.Place.{Place}
+use Rattle.hp_model.specs.declared.step.Sharing.TheVariants.{Shared}
 use Rattle.hp_model.specs.declared.step.Step.{Step}
 use Rattle.hp_model.specs.declared.step.Step.TheVariants.{Fault, Load, Store}
 use Rattle.hp_model.specs.Balance.{slot_usage, IsWithinLimit}
+use Rattle.hp_model.specs.CopyWrite.{holds}
 use Rattle.hp_model.specs.File.{File, Mount, cell_at, new_file}
 use Rattle.hp_model.specs.Laws.{is_for_pages}
 use Rattle.hp_model.specs.Mapping.{Map, copy_of, is_map, is_shared, place_at}
-use Rattle.hp_model.specs.Page.{zeros}
+use Rattle.hp_model.specs.Page.{Copy, zeros}
 use Rattle.hp_model.specs.Plan.{Reply, Slot}
 use Rattle.hp_model.specs.Reserved.{is_reserved}
 use Rattle.hp_model.specs.Run.{RunsBy}
@@ -89,6 +92,60 @@ stored_over s (Store task slot number i offset bytes) (Ok a) k file j old =
     if (slot == k) && ((i == j) && is_shared_of (map_named s slot task number) file) then over offset bytes old else old
 stored_over s step reply k file j old = old
 
+-- ---- what maps show
+
+abbrev pub no_map : Map
+no_map = record { task = 0; number = 0; start = 0; sharing = Shared; owner = false; unmapped = false; places = [] }
+
+abbrev pub map_in : File → ℕ → Map
+map_in f n = slice_index_or f.maps n no_map
+
+abbrev pub map_on : Slot → (file map : ℕ) → Map
+map_on None file map = no_map
+map_on (Some m) file map = map_in (file_in m file) map
+
+-- the map at this place of the file
+abbrev pub map_at : State → (slot file map : ℕ) → Map
+map_at s slot file map = map_on (slot_at s slot) file map
+
+abbrev pub seen_on : (size : ℕ) → Slot → (file map i : ℕ) → List ℕ
+seen_on size None file map i = zeros size
+seen_on size (Some m) file map i = value size (file_in m file) (map_in (file_in m file) map) i
+
+-- the bytes that it shows at an index of the file
+abbrev pub seen_in : State → (slot file map i : ℕ) → List ℕ
+seen_in s slot file map i = seen_on s.page_size (slot_at s slot) file map i
+
+-- a store through a shared map reaches the maps of its file that have no copy there, one through a private map that map alone
+abbrev pub reaches : Option Spot → Map → (file map i : ℕ) → Bool
+reaches None old file map i = false
+reaches (Some s) old file map i = (s.file_no == file) && (if is_shared s.map.sharing then not (is_some (copy_of (place_at old i))) else (s.map_no == map))
+
+-- what the step makes of the bytes that a map shows
+abbrev pub seen_over : State → Step → Reply → (slot file map i : ℕ) → List ℕ → List ℕ
+seen_over s (Store task slot number i offset bytes) (Ok a) k file map j old =
+    if (slot == k) && ((i == j) && reaches (map_named s slot task number) (map_at s k file map) file map j) then over offset bytes old else old
+seen_over s step reply k file map j old = old
+
+abbrev pub is_same_copy : Place Copy → Place Copy → Bool
+is_same_copy p q = elim (copy_of p) [ None ↦ false | Some copy ↦ holds copy.stamp q ]
+
+-- a map held the copy that the owner writes into: the owner has kept it, the map has none there now, and is marked
+pub record IsLost (s : Spot) (i : ℕ) (old new : Map) (j : ℕ) : Type 0 where
+  pub private : is_shared s.map.sharing ≡ false
+  pub owner : s.map.owner ≡ true
+  pub held : is_same_copy (place_at s.map i) (place_at old j) ≡ true
+  pub lost : copy_of (place_at new j) ≡ None
+  pub marked : new.unmapped ≡ true
+
+abbrev pub IsLostTo : Option Spot → (i : ℕ) (old new : Map) (file j : ℕ) → Type 0
+IsLostTo None i old new file j = ⊥
+IsLostTo (Some s) i old new file j = (s.file_no ≡ file) × IsLost s i old new j
+
+abbrev pub LosesCopy : State → Step → State → (slot file map i : ℕ) → Type 0
+LosesCopy s (Store task slot number i offset bytes) t k file map j = (slot ≡ k) × IsLostTo (map_named s slot task number) i (map_at s k file map) (map_at t k file map) file j
+LosesCopy s step t k file map j = ⊥
+
 -- ---- a step
 
 pub record IsPromised (s : State) (step : Step) (reply : Reply) (t : State) : Type 0 where
@@ -102,6 +159,8 @@ pub record IsPromised (s : State) (step : Step) (reply : Reply) (t : State) : Ty
   pub loads : ShowsMap s step reply
   -- each file shows what it showed, but for what is stored through a shared map of it
   pub files : (slot file i : ℕ) → shown_in t slot file i ≡ stored_over s step reply slot file i (shown_in s slot file i)
+  -- each map shows what it showed, but for what a store reaches; or it has lost its copy to the owner that stored
+  pub maps : (slot file map i : ℕ) → (seen_in t slot file map i ≡ seen_over s step reply slot file map i (seen_in s slot file map i)) ⊎ LosesCopy s step t slot file map i
 
 abbrev pub IsPromisedStep : State → Step → Reply → State → Type 0
 IsPromisedStep s step reply t = IsStep s step reply t × IsPromised s step reply t
