@@ -1,5 +1,5 @@
 -- A map of a file on the mount of slot 0, by what each part of it did.
-use Rattle.std.proofs.Common.{◌≡◌, ℕ, ◌+◌, ◌<◌, ◌≤◌, nat_lt, nat_le, not, ◌||◌, Bool, true, false, cond, ◌&&◌, ◌==◌, Ok, Err, Option, Some, None, List, [], ◌∷◌, length, refl, sym, ap, subst, ◌∙◌, arith}
+use Rattle.std.proofs.Common.{◌≡◌, ℕ, ◌+◌, ◌<◌, ◌≤◌, nat_lt, nat_le, not, ◌||◌, Bool, true, false, cond, ◌&&◌, ◌==◌, Ok, Err, Option, Some, None, List, length, refl, sym, ap, ◌∙◌, arith}
 use Rattle.std.specs.List.{position_or_len, slice_index_or}
 use Rattle.std.proofs.lemmas.Bool.Decides.{nat_tests}
 use Rattle.hp_model.specs.declared.answer.Answer.{Answer}
@@ -14,13 +14,13 @@ use Rattle.hp_model.specs.File.{File, Mount, maps_of, new_file, with_file}
 use Rattle.hp_model.specs.Grant.{can_grant, granted, is_full, is_over, rise}
 use Rattle.hp_model.specs.MakeMap.{asked, mapped, next_number, tasks_of}
 use Rattle.hp_model.specs.MountCounts.{usage_of}
-use Rattle.hp_model.specs.Plan.{Slot, Reply, Outcome, Refused, Answered, Plan, Finish, Ask, grant, refuse, unless, when_granted, with_value}
-use Rattle.hp_model.specs.Pool.{Grant, granted_at, no_pages, section}
+use Rattle.hp_model.specs.Plan.{Slot, Reply, Outcome, Answered, Plan, Finish, Ask, grant, refuse, when_granted, with_value}
+use Rattle.hp_model.specs.Pool.{Grant, granted_at, no_pages}
 use Rattle.hp_model.specs.PoolCounts.{Pool}
 use Rattle.hp_model.specs.Profile.{most_file_pages, most_map_pages, most_maps, most_tasks}
 use Rattle.hp_model.specs.Lists.{is_among}
 use Rattle.hp_model.specs.SlotEvent.{are_too_many_maps, file_named, has_name, is_new_task_over, map_file}
-use Rattle.hp_system.specs.Carried.{answered, carried, choosing, ended, IsDone}
+use Rattle.hp_system.specs.Carried.{answered, carried, choosing, IsDone}
 use Rattle.hp_system.specs.Found.{file_at, first_of, map_tests, IsMapRefusal}
 use Rattle.hp_system.proofs.Accesses.{tests_fail, tests_pass}
 use Rattle.hp_system.proofs.Counted.{found_at, found_none}

@@ -1,7 +1,7 @@
 -- Numbers that are marked as used.
-use Rattle.std.proofs.Common.{◌≡◌, ◌≢◌, ℕ, zero, suc, ◌+◌, ◌-◌, ◌<◌, ◌≤◌, ◌==◌, ◌||◌, Bool, true, false, not, List, [], ◌∷◌, ◌++◌, length, replicate, refl, sym, ap, subst, ◌∙◌, arith}
+use Rattle.std.proofs.Common.{◌≡◌, ◌≢◌, ℕ, ◌+◌, ◌-◌, ◌<◌, ◌≤◌, ◌==◌, ◌||◌, Bool, true, false, not, List, [], ◌∷◌, ◌++◌, length, replicate, refl, sym, ap, ◌∙◌, arith}
 use Rattle.std.specs.Prelude.{slice_set, slice_index_or}
-use Rattle.std.specs.List.{list_any, position_or_len, range_with_len}
+use Rattle.std.specs.List.{position_or_len, range_with_len}
 use Rattle.std.proofs.lemmas.Bool.Decides.{nat_tests}
 use Rattle.std.proofs.lemmas.List.{get_or-replicate, get_or-set_same, get_or-set_other, length-append}
 use Rattle.std.proofs.lemmas.List.FromFn.{get_or-range_with_len, length-range_with_len}
@@ -46,8 +46,8 @@ added_low n m x xs has low len used count = record {
 pub added_high : (n m : Numbers) (x : ℕ) (xs : List ℕ) → HasNumbers n xs → 4098 ≤ x → m.used ≡ n.used → m.count ≡ n.count + 1 → HasNumbers m (xs ++ x ∷ [])
 added_high n m x xs has high used count = record {
   each = λ q l.
-    let other : (x == q) ≡ false = grind (arith, nat_tests, high, l) in
-    ap (λ u. slice_index_or u q false) used ∙ has.each q l ∙ sym (is_among-append q xs (x ∷ []) ∙ or_false (is_among q xs) (x == q) other);
+      let other : (x == q) ≡ false = grind (arith, nat_tests, high, l) in
+      ap (λ u. slice_index_or u q false) used ∙ has.each q l ∙ sym (is_among-append q xs (x ∷ []) ∙ or_false (is_among q xs) (x == q) other);
   count = count ∙ one_more xs x n.count has.count;
 }
 

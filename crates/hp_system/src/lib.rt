@@ -6,6 +6,7 @@ mod files;
 mod map;
 mod numbers;
 mod ranges;
+mod service;
 mod system;
 mod table;
 

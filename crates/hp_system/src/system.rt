@@ -16,7 +16,6 @@ use hp_model::bytes::Bytes;
 use hp_model::event::TableEvent;
 use hp_model::naming::Naming;
 use hp_model::refusal::Refusal;
-use hp_model::service::Service;
 use hp_model::step::{Reserving, Sharing, Step};
 use hp_pool::{Blanks, Pool};
 use std::alloc::{AllocError, Global};
@@ -79,6 +78,13 @@ impl<N: Naming> System<N> {
             files,
             pool,
         })
+    }
+
+    /// The bytes of a page.
+    pub fn page_bytes(&self) -> u64
+        ensures { result ≡ self.now.page_size }
+    {
+        self.page_bytes as u64
     }
 
     /// Adds a task with its home node, from which its pages come first.
@@ -158,7 +164,7 @@ impl<N: Naming> System<N> {
         ensures step { IsStep self.old (Load access.now.task slot access.now.map access.now.index access.now.offset count) result self.new }
         ensures size { self.new.page_size ≡ self.old.page_size }
     {
-        let page_bytes = self.page_bytes as u64;
+        let page_bytes = self.page_bytes();
         let home = match self.table.home(access.task) {
             Some(home) => home,
             None => return Err(Refusal::NoSuchTask),
@@ -180,7 +186,7 @@ impl<N: Naming> System<N> {
         ensures step { IsStep self.old (Store access.now.task slot access.now.map access.now.index access.now.offset bytes.now) result self.new }
         ensures size { self.new.page_size ≡ self.old.page_size }
     {
-        let page_bytes = self.page_bytes as u64;
+        let page_bytes = self.page_bytes();
         let home = match self.table.home(access.task) {
             Some(home) => home,
             None => return Err(Refusal::NoSuchTask),
@@ -322,21 +328,5 @@ impl<N: Naming> System<N> {
         } = self;
         files.close(&mut pool);
         pool.close()
-    }
-}
-
-impl<N: Naming> Service for System<N> {
-    ghost use Rattle.hp_model.specs.Promises.{IsPromisedStep};
-
-    ghost may_answer = { IsPromisedStep };
-
-    ghost page = { λ s. s.page_size };
-
-    fn call(&mut self, step: &Step) -> Reply {
-        self.apply(step)
-    }
-
-    fn page_bytes(&self) -> u64 {
-        self.page_bytes as u64
     }
 }

@@ -42,13 +42,7 @@ struct NextMap {
 
 impl<N: Naming> Files<N> {
     /// Maps indices of a file for a task, and enters them.
-    pub fn map(
-        &mut self,
-        pool: &mut Pool<N>,
-        home: u64,
-        name: &[u8],
-        range: &MapRange,
-    ) -> Reply
+    pub fn map(&mut self, pool: &mut Pool<N>, home: u64, name: &[u8], range: &MapRange) -> Reply
         requires settled { IsSettled pool.old }
         ensures done { IsDone N.page_bytes pool.old self.old (MapEvent range.now.task home name.now range.now.start range.now.pages Shared Reserve) result self.new pool.new }
         ensures settled { IsSettled pool.new }

@@ -1,8 +1,7 @@
-use Rattle.std.proofs.Common.{◌≡◌, ◌+◌, ◌<◌, true, false, cond, length, sym, ap, subst, ◌∙◌, arith}
+use Rattle.std.proofs.Common.{◌≡◌, ◌+◌, cond, sym, ap, subst, ◌∙◌, arith}
 use Rattle.std.specs.Prelude.{slice_index_or}
 use Rattle.std.proofs.lemmas.Result.{err_from_is_err_and}
 use Rattle.hp_model.specs.File.{with_file}
-use Rattle.hp_model.specs.MakeMap.{tasks_of}
 use Rattle.hp_system.specs.Kept.{IsCounted}
 use Rattle.hp_system.proofs.Making.{map_left, same_left, tasks_few}
 use Rattle.hp_system.proofs.files.Files.add_map.Goals as goal

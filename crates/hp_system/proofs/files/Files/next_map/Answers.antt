@@ -1,5 +1,4 @@
-use Rattle.std.proofs.Common.{◌≡◌, ◌+◌, ◌<◌, ◌≤◌, length, subst, sym, ◌∙◌, arith}
-use Rattle.hp_model.specs.File.{maps_of}
+use Rattle.std.proofs.Common.{subst, ◌∙◌, arith}
 use Rattle.hp_system.specs.Kept.{IsCounted}
 use Rattle.hp_system.proofs.MapDone.{allowed, crowded}
 use Rattle.hp_system.proofs.Making.{first_if_none}

@@ -1,4 +1,4 @@
-use Rattle.std.proofs.Common.{ℕ, ◌≤◌, length, take}
+use Rattle.std.proofs.Common.{take}
 use Rattle.std.specs.List.{flat_map}
 use Rattle.hp_model.specs.MakeMap.{numbers_of}
 use Rattle.hp_system.specs.Numbers.{HasNumbers}

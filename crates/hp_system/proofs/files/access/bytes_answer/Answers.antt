@@ -1,7 +1,7 @@
 use Rattle.std.proofs.Common.{◌++◌, take, drop, ap, ◌∙◌}
 use Rattle.hp_model.specs.declared.answer.Answer.TheVariants.{Bytes}
 use Rattle.std.proofs.lemmas.List.{drop-replicate}
-use Rattle.hp_system.proofs.files.bytes_answer.Goals as goal
+use Rattle.hp_system.proofs.files.access.bytes_answer.Goals as goal
 
 pub returns : goal.returns
 returns c =

@@ -1,0 +1,23 @@
+//! The machine as a service.
+
+use crate::system::System;
+use hp_model::answer::Reply;
+use hp_model::naming::Naming;
+use hp_model::service::Service;
+use hp_model::step::Step;
+
+impl<N: Naming> Service for System<N> {
+    ghost use Rattle.hp_model.specs.Promises.{IsPromisedStep};
+
+    ghost may_answer = { IsPromisedStep };
+
+    ghost page = { λ s. s.page_size };
+
+    fn call(&mut self, step: &Step) -> Reply {
+        self.apply(step)
+    }
+
+    fn page_bytes(&self) -> u64 {
+        System::page_bytes(self)
+    }
+}
