@@ -9,3 +9,4 @@ pub mod LineCuts
 pub mod Stands
 pub mod Turns
 pub mod Endings
+pub mod Scripts

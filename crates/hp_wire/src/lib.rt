@@ -9,6 +9,7 @@ mod output;
 mod parts;
 pub mod reading;
 pub mod running;
+pub mod script;
 #[cfg(test)]
 mod tests;
 mod words;

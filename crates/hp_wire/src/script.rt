@@ -1,0 +1,37 @@
+//! Runs over the lines of a script.
+ghost use Rattle.std.specs.Prelude.{◌≡◌, ◌≤◌, ℕ, List, OnOk, IfErr, IfSome};
+ghost use Rattle.std.specs.Io.KnownBytes.{Appends, Consumes};
+ghost use Rattle.hp_model.specs.Lines.{lines};
+ghost use Rattle.hp_model.specs.Plan.{Reply};
+ghost use Rattle.hp_model.specs.Text.{AnswersLines};
+ghost use Rattle.hp_model.specs.Writing.{text};
+ghost use Rattle.hp_wire.specs.Served.{Serves, IsMemoryOrTooLong};
+
+use crate::ends::{Sink, Source};
+use crate::fault::RunFault;
+use crate::running::run_lines;
+use hp_model::service::Service;
+use std::alloc::Global;
+
+/// Answers the lines of a script on a machine, one reply for each, and says how many lines there were.
+///
+/// The script is the reader's input up to its end, at most 1,073,741,824 bytes. All replies to the lines that were read
+/// are written before the next read, and no memory is asked for but before the first read and for a step with a name,
+/// options or bytes. The faults leave what `run_lines` says: `Memory` everything as it was, `Read` and `TooLong` the
+/// lines answered that had ended, `Write` a front of the text of the replies written.
+pub fn run_script<R: Source, W: Sink, S: Service>(
+    alloc: Global,
+    reader: &mut R,
+    writer: &mut W,
+    machine: &mut S,
+) -> Result<u64, RunFault>
+    requires { S.page machine.old ≤ 2097152 }
+    ensures served { (input : List ℕ) × Consumes (R.remaining reader.old) (R.remaining reader.new) input
+        × Serves S.may_answer (S.page machine.old) machine.old machine.new (W.contents writer.old) (W.contents writer.new) input result }
+    ensures script { IfSome (R.remaining reader.old) (λ input. OnOk result ((replies : List Reply)
+        × AnswersLines S.may_answer machine.old (lines input) replies machine.new
+        × Appends (W.contents writer.old) (W.contents writer.new) (text (S.page machine.old) replies))) }
+    ensures never { R.is_sure reader.old → W.is_sure writer.old → IfErr result IsMemoryOrTooLong }
+{
+    run_lines(alloc, reader, writer, machine)
+}
