@@ -3,6 +3,7 @@ ghost use Rattle.std.specs.Prelude.{◌≡◌, ◌≤◌, ℕ, List, OnOk, IfErr
 ghost use Rattle.std.specs.Io.KnownBytes.{Appends, Consumes};
 ghost use Rattle.hp_model.specs.Lines.{lines};
 ghost use Rattle.hp_model.specs.Plan.{Reply};
+ghost use Rattle.hp_model.specs.Promises.{IsPromisedStep};
 ghost use Rattle.hp_model.specs.Text.{AnswersLines};
 ghost use Rattle.hp_model.specs.Writing.{text};
 ghost use Rattle.hp_wire.specs.Served.{Serves, IsMemoryOrTooLong};
@@ -10,7 +11,8 @@ ghost use Rattle.hp_wire.specs.Served.{Serves, IsMemoryOrTooLong};
 use crate::ends::{Sink, Source};
 use crate::fault::RunFault;
 use crate::running::run_lines;
-use hp_model::service::Service;
+use hp_model::naming::Naming;
+use hp_system::System;
 use std::alloc::Global;
 
 /// Answers the lines of a script on a machine, one reply for each, and says how many lines there were.
@@ -19,18 +21,18 @@ use std::alloc::Global;
 /// are written before the next read, and no memory is asked for but before the first read and for a step with a name,
 /// options or bytes. The faults leave what `run_lines` says: `Memory` everything as it was, `Read` and `TooLong` the
 /// lines answered that had ended, `Write` a front of the text of the replies written.
-pub fn run_script<R: Source, W: Sink, S: Service>(
+pub fn run_script<N: Naming, R: Source, W: Sink>(
     alloc: Global,
     reader: &mut R,
     writer: &mut W,
-    machine: &mut S,
+    machine: &mut System<N>,
 ) -> Result<u64, RunFault>
-    requires { S.page machine.old ≤ 2097152 }
+    requires { machine.old.page_size ≤ 2097152 }
     ensures served { (input : List ℕ) × Consumes (R.remaining reader.old) (R.remaining reader.new) input
-        × Serves S.may_answer (S.page machine.old) machine.old machine.new (W.contents writer.old) (W.contents writer.new) input result }
+        × Serves IsPromisedStep machine.old.page_size machine.old machine.new (W.contents writer.old) (W.contents writer.new) input result }
     ensures script { IfSome (R.remaining reader.old) (λ input. OnOk result ((replies : List Reply)
-        × AnswersLines S.may_answer machine.old (lines input) replies machine.new
-        × Appends (W.contents writer.old) (W.contents writer.new) (text (S.page machine.old) replies))) }
+        × AnswersLines IsPromisedStep machine.old (lines input) replies machine.new
+        × Appends (W.contents writer.old) (W.contents writer.new) (text machine.old.page_size replies))) }
     ensures never { R.is_sure reader.old → W.is_sure writer.old → IfErr result IsMemoryOrTooLong }
 {
     run_lines(alloc, reader, writer, machine)

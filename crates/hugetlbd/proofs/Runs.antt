@@ -1,0 +1,35 @@
+-- A run of the default machine, from the run of a machine that starts as it.
+use Rattle.std.proofs.Common.{◌≡◌, ℕ, List, subst, Option, Some, None, Result, Ok, Err, OnOk, IfErr, IfSome}
+use Rattle.std.specs.Io.KnownBytes.{Appends, Consumes}
+use Rattle.hp_model.specs.Lines.{lines}
+use Rattle.hp_model.specs.Plan.{Reply}
+use Rattle.hp_model.specs.Promises.{IsPromisedStep}
+use Rattle.hp_model.specs.State.{State}
+use Rattle.hp_model.specs.Text.{AnswersLines}
+use Rattle.hp_model.specs.Writing.{text}
+use Rattle.hp_wire.specs.Served.{Serves, IsMemoryOrTooLong}
+use Rattle.hp_wire.specs.declared.fault.RunFault.{RunFault}
+use Rattle.hugetlbd.specs.Program.{default_machine, AnswersScript, Run}
+
+-- the machine ran
+pub run_ended : (s t : State) (r0 r1 w0 w1 : Option (List ℕ)) (result : Result ℕ RunFault) (reads writes : Type 0) → s ≡ default_machine
+    → (input : List ℕ) × Consumes r0 r1 input × Serves IsPromisedStep s.page_size s t w0 w1 input result
+    → (reads → writes → IfErr result IsMemoryOrTooLong)
+    → Run r0 r1 (reads × writes) w0 w1 result
+run_ended s t r0 r1 w0 w1 result reads writes same served never = record {
+  input = served.0;
+  machine = t;
+  consumed = served.1;
+  served = subst (λ (u : State). Serves IsPromisedStep u.page_size u t w0 w1 served.0 result) same served.2;
+  never = λ h. never h.0 h.1;
+}
+
+-- the machine answered a script that is known
+pub script_answered : (s t : State) (r0 w0 w1 : Option (List ℕ)) (result : Result ℕ RunFault) → s ≡ default_machine
+    → IfSome r0 (λ input. OnOk result ((replies : List Reply) × AnswersLines IsPromisedStep s (lines input) replies t × Appends w0 w1 (text s.page_size replies)))
+    → IfSome r0 (λ script. OnOk result (AnswersScript script w0 w1))
+script_answered s t None w0 w1 result same h = tt
+script_answered s t (Some xs) w0 w1 (Err e) same h = tt
+script_answered s t (Some xs) w0 w1 (Ok n) same h =
+    let now = subst (λ (u : State). (replies : List Reply) × AnswersLines IsPromisedStep u (lines xs) replies t × Appends w0 w1 (text u.page_size replies)) same h in
+    (now.0, t, now.1, now.2)
