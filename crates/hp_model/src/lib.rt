@@ -15,4 +15,3 @@ pub mod place;
 pub mod refusal;
 pub mod service;
 pub mod step;
-pub mod units;

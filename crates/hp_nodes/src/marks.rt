@@ -3,7 +3,7 @@ ghost use Rattle.std.specs.Prelude.{◌≡◌, ℕ, ◌+◌, ◌-◌, ◌<◌, �
 
 use crate::blanks::Blanks;
 use hp_model::naming::{Naming, Pages0, Pages1, Pages2, Pages3};
-use hp_model::units::{Issuer, Units};
+use hp_units::{Issuer, Units};
 use std::marker::Model;
 use std::sync::ledger::Ledger;
 

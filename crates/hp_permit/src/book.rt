@@ -3,7 +3,7 @@ ghost use Rattle.std.specs.Prelude.{◌≡◌, ℕ, ◌+◌, ◌<◌, ◌≤◌,
 
 use crate::permit::Permit;
 use hp_model::naming::{Naming, Permits};
-use hp_model::units::Issuer;
+use hp_units::Issuer;
 use std::marker::Model;
 use std::sync::ledger::Blank;
 

@@ -2,7 +2,7 @@
 ghost use Rattle.std.specs.Prelude.{◌≡◌, ℕ, ◌+◌, ◌≤◌};
 
 use hp_model::naming::{Naming, Permits};
-use hp_model::units::{Issuer, Units};
+use hp_units::{Issuer, Units};
 use std::marker::Model;
 
 /// A promise of so many pages, which counts as outstanding until it is retired. Contracts see the

@@ -1,4 +1,6 @@
 //! Units that one ledger hands out. Each unit has a part of its own to stand on, so any number of holders can split them.
+#![tactic(auto)]
+
 ghost use Rattle.std.specs.Prelude.{◌≡◌, ℕ, ◌+◌, ◌<◌, ◌≤◌, ◌^◌};
 
 use std::marker::Model;
