@@ -33,14 +33,6 @@ impl Bytes {
     {
         self.bytes.as_slice()
     }
-
-    /// The `Vec` of the bytes.
-    pub fn into_vec(self) -> Vec<u8>
-        ensures { result.items ≡ self }
-    {
-        let Bytes { bytes } = self;
-        bytes
-    }
 }
 
 impl PartialEq for Bytes {
