@@ -4,7 +4,7 @@ use crate::bytes::Bytes;
 use crate::step::{Intent, Reserving, Sharing};
 
 /// An event of the task table.
-#[derive(Clone, Copy, Debug, PartialEq, Eq)]
+#[derive(Clone, Copy, PartialEq, Eq)]
 pub enum TableEvent {
     /// Adds a task with its home node.
     Add { task: u64, home: u64 },
@@ -17,7 +17,7 @@ pub enum TableEvent {
 }
 
 /// An event of one slot. What a task does carries the task's number and home.
-#[derive(Drop, Debug, PartialEq, Eq)]
+#[derive(Drop, PartialEq, Eq)]
 pub enum SlotEvent {
     /// The slot's part of `Step::Mount`.
     Mount {
@@ -122,7 +122,7 @@ pub enum SlotEvent {
 }
 
 /// An event of the pool alone.
-#[derive(Clone, Copy, Debug, PartialEq, Eq)]
+#[derive(Clone, Copy, PartialEq, Eq)]
 pub enum PoolEvent {
     /// `Step::Nr`.
     Nr { pages: u64 },
@@ -135,7 +135,7 @@ pub enum PoolEvent {
 }
 
 /// An event with the part that it acts on.
-#[derive(Drop, Debug, PartialEq, Eq)]
+#[derive(Drop, PartialEq, Eq)]
 pub enum Event {
     /// Of the task table.
     Tasks(TableEvent),

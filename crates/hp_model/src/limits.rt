@@ -1,7 +1,7 @@
 //! The limits of a mount.
 
 /// The most pages, the pages that are kept at least, and the most files. None is no limit.
-#[derive(Clone, Copy, Debug, PartialEq, Eq)]
+#[derive(Clone, Copy)]
 pub struct Limits {
     /// Pages.
     pub max: Option<u64>,

@@ -3,28 +3,28 @@
 use crate::bytes::Bytes;
 
 /// Whether the pages of a map belong to its file or to the map.
-#[derive(Clone, Copy, Debug, PartialEq, Eq)]
+#[derive(Clone, Copy, PartialEq, Eq)]
 pub enum Sharing {
     Shared,
     Private,
 }
 
 /// Whether a map takes reservations when it is made.
-#[derive(Clone, Copy, Debug, PartialEq, Eq)]
+#[derive(Clone, Copy, PartialEq, Eq)]
 pub enum Reserving {
     Reserve,
     NoReserve,
 }
 
 /// Whether a fault is a read or a write.
-#[derive(Clone, Copy, Debug, PartialEq, Eq)]
+#[derive(Clone, Copy, PartialEq, Eq)]
 pub enum Intent {
     Read,
     Write,
 }
 
 /// One command with its numbers, names and bytes.
-#[derive(Drop, Debug, PartialEq, Eq)]
+#[derive(Drop)]
 pub enum Step {
     /// Adds a task whose home is a node. Answers `Done`.
     Connect {

@@ -309,10 +309,13 @@ fn writes_names(rt: HostRuntime) -> Result<(), Fail> {
 #[test]
 fn reads_a_step(rt: HostRuntime) -> Result<(), Fail> {
     let step = step_of_line(rt.alloc(), b"fork 1 20");
-    let want = Ok(Step::Fork {
-        parent: 1,
-        child: 20,
-    });
-    assert_eq!(rt; step, want);
+    let is_fork = matches!(
+        step,
+        Ok(Step::Fork {
+            parent: 1,
+            child: 20
+        })
+    );
+    assert!(rt; is_fork);
     Ok(())
 }
