@@ -1,6 +1,6 @@
 -- An access whose page is kept for it is never refused for want of a huge page.
-use Rattle.std.proofs.Common.{◌≡◌, ⊎_elim, ◌||◌, ◌&&◌, ◌==◌, ℕ, ◌+◌, Bool, true, false, not, Option, None, Some, is_some, List, [], ◌∷◌, length, refl, sym, ap, ◌∙◌, if◌then◌else◌, nat_lt}
-use Rattle.std.proofs.lemmas.Bool.{cond_both, or_cases, and_parts, not-true}
+use Rattle.std.proofs.Common.{◌≡◌, ⊎_elim, ◌||◌, ◌&&◌, ◌==◌, ℕ, ◌+◌, true, not, Option, None, Some, is_some, List, length, refl, nat_lt}
+use Rattle.std.proofs.lemmas.Bool.{or_cases, and_parts, not-true}
 use Rattle.hp_model.specs.declared.answer.Answer.TheVariants.{Done}
 use Rattle.hp_model.specs.declared.event.SlotEvent.TheVariants as slot
 use Rattle.hp_model.specs.declared.place.Place.{Place}
@@ -13,7 +13,7 @@ use Rattle.hp_model.specs.File.{Mount, cell_at}
 use Rattle.hp_model.specs.Laws.{KeepsGoing, NeverWantsPages}
 use Rattle.hp_model.specs.Mapping.{copy_of, is_map, is_shared, place_at}
 use Rattle.hp_model.specs.Page.{Copy}
-use Rattle.hp_model.specs.Plan.{Slot, Outcome, Refused, Answered, Plan, Finish, Ask, Choice, refuse, continued, with_value}
+use Rattle.hp_model.specs.Plan.{Slot, Outcome, Refused, Answered, Plan, Finish, Ask, Choice, continued, with_value}
 use Rattle.hp_model.specs.Profile.{most_bytes}
 use Rattle.hp_model.specs.Promises.{spot_on, is_backed, owns_copy}
 use Rattle.hp_model.specs.Reserved.{is_reserved}

@@ -1,25 +1,23 @@
 -- What a step leads to: one event on a slot, one on the pool alone, or one on the task table; and what follows for the slots.
-use Rattle.std.proofs.Common.{◌≡◌, ⊎_elim, inl, inr, ◌⊎◌, subst, ℕ, ◌<◌, Bool, true, false, Option, None, Some, Ok, Err, List, [], ◌∷◌, length, refl, sym, ap, ◌∙◌, if◌then◌else◌, nat_lt}
+use Rattle.std.proofs.Common.{◌≡◌, inl, inr, ◌⊎◌, subst, ℕ, Bool, true, false, Option, None, Some, Ok, Err, refl, sym, ap, ◌∙◌, if◌then◌else◌, nat_lt}
 use Rattle.std.specs.List.{slice_set}
-use Rattle.std.proofs.lemmas.Bool.{cond_both, ltb-true}
-use Rattle.hp_model.specs.declared.answer.Answer.{Answer}
+use Rattle.std.proofs.lemmas.Bool.{cond_both}
 use Rattle.hp_model.specs.declared.answer.Answer.TheVariants.{Home as HomeAnswer}
 use Rattle.hp_model.specs.declared.event.Event.{Event}
-use Rattle.hp_model.specs.declared.event.Event.TheVariants.{Tasks, Slot as OnSlot}
+use Rattle.hp_model.specs.declared.event.Event.TheVariants.{Slot as OnSlot}
 use Rattle.hp_model.specs.declared.event.SlotEvent.{SlotEvent}
-use Rattle.hp_model.specs.declared.event.TableEvent.TheVariants as table
 use Rattle.hp_model.specs.declared.refusal.Refusal.{Refusal}
 use Rattle.hp_model.specs.declared.refusal.Refusal.TheVariants.{NoSuchTask, NoSuchSlot}
 use Rattle.hp_model.specs.Balance.{left_by}
-use Rattle.hp_model.specs.Event.{IsEvent, IsFresh, planned, settled, with_table}
+use Rattle.hp_model.specs.Event.{IsEvent, planned, settled, with_table}
 use Rattle.hp_model.specs.File.{Mount}
 use Rattle.hp_model.specs.Machine.{pool_of, with_pool}
-use Rattle.hp_model.specs.Plan.{Reply, Slot, Outcome, Refused, Answered, Plan, Finish, Ask, Choice, refuse, unless, with_value, continued, and_then}
+use Rattle.hp_model.specs.Plan.{Reply, Outcome, Refused, Answered, Plan, Finish, Ask, Choice, refuse, continued, and_then}
 use Rattle.hp_model.specs.Pool.{PoolAnswer, section}
 use Rattle.hp_model.specs.SlotEvent.{slot_event}
 use Rattle.hp_model.specs.State.{State, slot_at}
 use Rattle.hp_model.specs.Step.{Script, Answer_with, only, finding, home_in, on_slot, IsScript}
-use Rattle.hp_model.specs.Table.{Table, home_of, when_known}
+use Rattle.hp_model.specs.Table.{home_of, when_known}
 use Rattle.hp_model.proofs.Tied.{settled_is}
 
 -- ---- outcomes

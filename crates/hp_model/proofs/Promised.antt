@@ -1,11 +1,9 @@
 -- Each step of a settled machine is as promised.
-use Rattle.std.proofs.Common.{◌≡◌, ⊎_elim, inl, inr, ◌⊎◌, subst, ℕ, ◌<◌, Bool, true, false, ◌&&◌, ◌==◌, None, Some, Ok, Err, List, length, refl, sym, ap, ◌∙◌, arith, if◌then◌else◌, nat_lt}
+use Rattle.std.proofs.Common.{◌≡◌, ⊎_elim, inl, inr, ◌⊎◌, subst, ℕ, ◌<◌, Bool, true, false, ◌&&◌, ◌==◌, None, Ok, Err, List, length, refl, sym, ap, ◌∙◌, arith, if◌then◌else◌, nat_lt}
 use Rattle.std.specs.Bool.{MatchBool}
 use Rattle.std.specs.List.{slice_set, slice_index_or}
 use Rattle.std.proofs.lemmas.Bool.{cases_eq, ltb-true, eq-eqb, eqb-true, false_from_ne_true}
 use Rattle.std.proofs.lemmas.List.{get_or-set_same, get_or-set_other}
-use Rattle.hp_model.specs.declared.answer.Answer.{Answer}
-use Rattle.hp_model.specs.declared.event.Event.{Event}
 use Rattle.hp_model.specs.declared.event.Event.TheVariants.{Tasks, Slot as OnSlot, Pool as OnPool}
 use Rattle.hp_model.specs.declared.event.PoolEvent.{PoolEvent}
 use Rattle.hp_model.specs.declared.event.PoolEvent.TheVariants as pool
@@ -15,24 +13,22 @@ use Rattle.hp_model.specs.declared.event.TableEvent.{TableEvent}
 use Rattle.hp_model.specs.declared.event.TableEvent.TheVariants as table
 use Rattle.hp_model.specs.declared.refusal.Refusal.{Refusal}
 use Rattle.hp_model.specs.declared.refusal.Refusal.TheVariants.{BadLine, NoSuchSlot, NoSuchTask}
-use Rattle.hp_model.specs.declared.step.Intent.TheVariants.{Read, Write}
 use Rattle.hp_model.specs.declared.step.Reserving.TheVariants.{Reserve}
 use Rattle.hp_model.specs.declared.step.Sharing.TheVariants.{Shared}
 use Rattle.hp_model.specs.declared.step.Step.{Step}
 use Rattle.hp_model.specs.declared.step.Step.TheVariants.{Connect, Create, Map, Load, Store, Nr, Meminfo}
 use Rattle.hp_model.specs.Balance.{slot_usage, IsWithinLimit, left_by}
-use Rattle.hp_model.specs.Event.{IsEvent, with_pool_reply, with_table}
+use Rattle.hp_model.specs.Event.{IsEvent}
 use Rattle.hp_model.specs.Laws.{is_for_pages, KeepsGoing}
 use Rattle.hp_model.specs.Plan.{Reply, Slot, Outcome, Refused, Answered}
-use Rattle.hp_model.specs.Promises.{is_backed, is_backed_step, wants_page, map_named, spot_on, ShowsMap, IsLoaded, shown_in, shown_on, stored_over, over, is_shared_of, seen_in, seen_on, seen_over, map_at, map_on, reaches, IsLostTo, LosesCopy, IsPromised, PromisesAreKept, IsPromisedRun, IsPromisedStep}
+use Rattle.hp_model.specs.Promises.{is_backed_step, wants_page, map_named, spot_on, ShowsMap, shown_in, shown_on, stored_over, over, is_shared_of, seen_in, seen_on, seen_over, map_at, map_on, reaches, IsLostTo, LosesCopy, PromisesAreKept, IsPromisedRun, IsPromisedStep}
 use Rattle.hp_model.specs.Run.{IsRun}
 use Rattle.hp_model.specs.Settled.{IsSettledState}
-use Rattle.hp_model.specs.SlotEvent.{slot_event}
 use Rattle.hp_model.specs.State.{State, slot_at}
 use Rattle.hp_model.specs.Step.{IsBuiltStep, IsScript, IsStep, on_slot, finding}
 use Rattle.hp_model.proofs.Backed.{load_goes, store_goes}
 use Rattle.hp_model.proofs.CountsHold.{counts_are_sums, limits_hold}
-use Rattle.hp_model.proofs.Outcomes.{Always, Ends, event_ends, reply_of, IsLeft, only_goes, slot_goes, finding_goes}
+use Rattle.hp_model.proofs.Outcomes.{Ends, event_ends, reply_of, IsLeft, only_goes, slot_goes, finding_goes}
 use Rattle.hp_model.proofs.Runs.{run_by}
 use Rattle.hp_model.proofs.SlotShows.{Quiet, Loads, Stores, create_quiet, map_quiet, load_loads, store_stores}
 use Rattle.hp_model.proofs.StaysSettled.{step_settled}

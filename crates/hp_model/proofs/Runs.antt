@@ -1,5 +1,5 @@
 -- Runs by steps of any kind.
-use Rattle.std.proofs.Common.{◌≡◌, List, [], ◌∷◌, ◌++◌, refl, sym, subst}
+use Rattle.std.proofs.Common.{List, [], ◌∷◌, ◌++◌, refl, sym, subst}
 use Rattle.hp_model.specs.declared.step.Step.{Step}
 use Rattle.hp_model.specs.Plan.{Reply}
 use Rattle.hp_model.specs.Run.{RunsBy}

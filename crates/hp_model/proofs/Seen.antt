@@ -1,7 +1,7 @@
 -- What maps show after a store.
-use Rattle.std.proofs.Common.{◌≡◌, ⊎_elim, inl, inr, ◌⊎◌, map, ℕ, zero, suc, ◌-◌, ◌<◌, Bool, true, false, ◌&&◌, ◌==◌, not, Option, None, Some, is_some, List, [], ◌∷◌, length, get_or, set, refl, sym, ap, ◌∙◌, subst, arith, if◌then◌else◌, nat_lt}
+use Rattle.std.proofs.Common.{◌≡◌, ⊎_elim, inl, inr, ◌⊎◌, map, ℕ, zero, suc, ◌-◌, Bool, true, false, ◌&&◌, ◌==◌, not, Option, None, Some, is_some, List, [], ◌∷◌, get_or, set, refl, sym, ap, ◌∙◌, subst, arith, if◌then◌else◌, nat_lt}
 use Rattle.std.specs.List.{slice_index_or, list_any}
-use Rattle.std.proofs.lemmas.Bool.{cond_both, cases_eq, ltb-false, eq-eqb, eqb-true, eqb-false, false_from_ne_true}
+use Rattle.std.proofs.lemmas.Bool.{cond_both, ltb-false, eqb-true, eqb-false}
 use Rattle.std.proofs.lemmas.List.{get_or-set_same, get_or-set_other, length-map}
 use Rattle.hp_model.specs.declared.place.Place.{Place}
 use Rattle.hp_model.specs.declared.place.Place.TheVariants.{Gone, Live}
@@ -12,10 +12,9 @@ use Rattle.hp_model.specs.Mapping.{Map, copy_of, is_shared, place_at, without_co
 use Rattle.hp_model.specs.Page.{Copy}
 use Rattle.hp_model.specs.Promises.{file_in, map_in, no_map, over, is_same_copy, IsLost}
 use Rattle.hp_model.specs.Spot.{Spot, cell_written, file_written, map_written, place_written, written}
-use Rattle.hp_model.specs.Value.{value}
 use Rattle.hp_model.proofs.Looks.{edit_here, edit_other, same_edit}
 use Rattle.hp_model.proofs.MountMoves.{IsSpot}
-use Rattle.hp_model.proofs.Shown.{look, seen, by_place, not_below, Same, Own, Copied, Taken, Result}
+use Rattle.hp_model.proofs.Shown.{look, seen, by_place, not_below, Own, Copied, Result}
 use Rattle.hp_model.proofs.Stored.{ready, stored}
 
 get_map : {X : Type 0} (h : X → X) (d : X) → h d ≡ d → (xs : List X) (j : ℕ) → get_or (map h xs) j d ≡ h (get_or xs j d)
@@ -94,7 +93,7 @@ module _ (size : ℕ) (m : Mount) (s : Spot) (at : IsSpot m s) (i offset : ℕ) 
 
   pick : (a d : Bool) (o : Option Copy) (v : List ℕ)
       → (elim o [ None ↦ (if a && (true && d) then over offset bytes v else v) | Some copy ↦ copy.page.bytes ])
-          ≡ (if a && (d && not (is_some o)) then over offset bytes (elim o [ None ↦ v | Some copy ↦ copy.page.bytes ]) else (elim o [ None ↦ v | Some copy ↦ copy.page.bytes ]))
+      ≡ (if a && (d && not (is_some o)) then over offset bytes (elim o [ None ↦ v | Some copy ↦ copy.page.bytes ]) else (elim o [ None ↦ v | Some copy ↦ copy.page.bytes ]))
   pick true true None v = refl
   pick true false None v = refl
   pick false d None v = refl
@@ -107,9 +106,9 @@ module _ (size : ℕ) (m : Mount) (s : Spot) (at : IsSpot m s) (i offset : ℕ) 
       let w : Mount = written n s i offset bytes in
       let edit : File → File = λ f. file_written s i offset bytes f in
       let maps_stay : map_in (file_in w j) l ≡ map_in (file_in m j) l =
-          same_edit (λ f. map_in f l) (new_file None) edit
-          (λ f. ap (λ b. map_in (if b then record f { cells = edit_at (cell_written offset bytes) f.cells i } else record f { maps = edit_at (map_written i offset bytes) f.maps s.map_no }) l) e) n.files s.file_no j
-          ∙ done.0.held e j l in
+      same_edit (λ f. map_in f l) (new_file None) edit
+      (λ f. ap (λ b. map_in (if b then record f { cells = edit_at (cell_written offset bytes) f.cells i } else record f { maps = edit_at (map_written i offset bytes) f.maps s.map_no }) l) e) n.files s.file_no j
+      ∙ done.0.held e j l in
       let o = copy_of (place_at (map_in (file_in m j) l) x) in
       let cells = stored size m s at i n (ready size m s at i n (inl done)) offset bytes (i == x) true (s.file_no == j) j x refl e refl in
       inl (ap (λ y. by_place size (place_at y x) (look size x (file_in w j))) maps_stay ∙ ap (by_place size (place_at (map_in (file_in m j) l) x)) cells
@@ -161,14 +160,17 @@ module _ (size : ℕ) (m : Mount) (s : Spot) (at : IsSpot m s) (i offset : ℕ) 
       beside = λ l x other.
           ⊎_elim
           (λ same. inl (ap (seen size l x) file_left ∙ ap (λ y. by_place size (place_at y x) (look size x s.file)) (map_beside l other) ∙ same ∙ sym (ap (seen size l x) file_was)))
-          (λ lost. inr (refl, record {
-            private = apart;
-            owner = owner;
-            held = ap (λ q. is_same_copy q (place_at (map_in (file_in m s.file_no) l) x)) is ∙ ap (λ q. holds q (place_at (map_in (file_in m s.file_no) l) x)) named
-                ∙ ap (λ f. holds stamp (place_at (map_in f l) x)) file_was ∙ lost.0;
-            lost = ap (λ f. copy_of (place_at (map_in f l) x)) file_left ∙ ap (λ y. copy_of (place_at y x)) (map_beside l other) ∙ lost.1;
-            marked = ap (λ f. (map_in f l).unmapped) file_left ∙ ap (λ y. y.unmapped) (map_beside l other) ∙ lost.2;
-          }))
+          (λ lost. inr (
+            refl,
+            record {
+              private = apart;
+              owner = owner;
+              held = ap (λ q. is_same_copy q (place_at (map_in (file_in m s.file_no) l) x)) is ∙ ap (λ q. holds q (place_at (map_in (file_in m s.file_no) l) x)) named
+                  ∙ ap (λ f. holds stamp (place_at (map_in f l) x)) file_was ∙ lost.0;
+              lost = ap (λ f. copy_of (place_at (map_in f l) x)) file_left ∙ ap (λ y. copy_of (place_at y x)) (map_beside l other) ∙ lost.1;
+              marked = ap (λ f. (map_in f l).unmapped) file_left ∙ ap (λ y. y.unmapped) (map_beside l other) ∙ lost.2;
+            },
+          ))
           (robs size stamp (map_in s.file l) x (look size x s.file));
     }
 

@@ -1,16 +1,14 @@
 -- What files and maps show after an access.
-use Rattle.std.proofs.Common.{◌≡◌, ⊎_elim, inl, inr, ◌⊎◌, map, ℕ, ◌<◌, ◌≤◌, ◌-◌, Bool, true, false, ◌&&◌, ◌||◌, ◌==◌, not, Option, None, Some, List, [], ◌∷◌, length, get_or, set, refl, sym, ap, ◌∙◌, subst, arith, if◌then◌else◌, nat_lt}
+use Rattle.std.proofs.Common.{◌≡◌, inl, inr, ◌⊎◌, map, ℕ, ◌<◌, ◌-◌, Bool, true, false, ◌&&◌, not, Option, None, Some, List, length, set, refl, sym, ap, ◌∙◌, subst, arith, if◌then◌else◌, nat_lt}
 use Rattle.std.specs.List.{slice_index_or}
-use Rattle.std.proofs.lemmas.Bool.{cond_both, cases_eq, ltb-false, leb-false}
+use Rattle.std.proofs.lemmas.Bool.{cases_eq, ltb-false}
 use Rattle.std.proofs.lemmas.List.{get_or-set_same, get_or-set_other}
-use Rattle.hp_model.specs.declared.answer.Answer.{Answer}
 use Rattle.hp_model.specs.declared.answer.Answer.TheVariants.{Done}
 use Rattle.hp_model.specs.declared.cell.Cell.{Cell}
 use Rattle.hp_model.specs.declared.cell.Cell.TheVariants.{Hole, Entered, Present}
 use Rattle.hp_model.specs.declared.place.Place.{Place}
 use Rattle.hp_model.specs.declared.place.Place.TheVariants.{Gone, Live}
 use Rattle.hp_model.specs.declared.refusal.Refusal.TheVariants.{NoPages, MountFull, OutOfMemory, TakenByOwner}
-use Rattle.hp_model.specs.declared.step.Intent.{Intent}
 use Rattle.hp_model.specs.declared.step.Intent.TheVariants.{Read, Write}
 use Rattle.hp_model.specs.Access.{shared_access, new_copy, uncopied_access, private_access, access}
 use Rattle.hp_model.specs.CopyWrite.{robbed, taken_back, is_held_once, owner_write, copy_write}
@@ -19,13 +17,13 @@ use Rattle.hp_model.specs.Grant.{is_full, rise}
 use Rattle.hp_model.specs.Mapping.{Map, copy_of, is_shared, place_at, with_place}
 use Rattle.hp_model.specs.Page.{Page, Copy, zeros}
 use Rattle.hp_model.specs.Plan.{Outcome, Refused, Answered, Plan, Finish, Ask, Choice, refuse, grant_page, reserved_page, when_granted, may_lack_room}
-use Rattle.hp_model.specs.Pool.{GrantPage, PoolAnswer}
+use Rattle.hp_model.specs.Pool.{GrantPage}
 use Rattle.hp_model.specs.Promises.{file_in, map_in, no_map}
 use Rattle.hp_model.specs.Spot.{Spot, again, copied}
 use Rattle.hp_model.specs.Value.{shown, value}
 use Rattle.hp_model.proofs.FileMoves.{IsMapAt, live_at}
 use Rattle.hp_model.proofs.Looks.{same_put}
-use Rattle.hp_model.proofs.MountMoves.{IsFileAt, IsSpot}
+use Rattle.hp_model.proofs.MountMoves.{IsSpot}
 use Rattle.hp_model.proofs.Outcomes.{Always, always_if, always_test, always_weaker}
 
 -- ---- looks at a file
@@ -79,10 +77,10 @@ copy_looks : (size : ℕ) (f : File) (k : ℕ) (m : Map) (i : ℕ) (c d : Bool) 
 copy_looks size f k m i c d o new here is e =
     let p : Place Copy = Live d (Some new) in
     let shows : (x : ℕ) → value size f (with_place m i p) x ≡ value size f m x = λ x.
-        elim (cases_eq x i) as (λ _. value size f (with_place m i p) x ≡ value size f m x) [
-          | inl same ↦ subst (λ y. value size f (with_place m i p) y ≡ value size f m y) (sym same) (ap (λ q. by_place size q (look size i f)) (place_put m i c o is p) ∙ e)
-          | inr other ↦ ap (λ q. by_place size q (look size x f)) (place_other m i c o is p x other)
-        ] in
+    elim (cases_eq x i) as (λ _. value size f (with_place m i p) x ≡ value size f m x) [
+      | inl same ↦ subst (λ y. value size f (with_place m i p) y ≡ value size f m y) (sym same) (ap (λ q. by_place size q (look size i f)) (place_put m i c o is p) ∙ e)
+      | inr other ↦ ap (λ q. by_place size q (look size x f)) (place_other m i c o is p x other)
+    ] in
     record {
       cells = λ x. refl;
       maps = λ l x. same_put (λ (y : Map). value size f y x) no_map f.maps k (with_place m i p) here.within (shows x ∙ sym (ap (λ y. value size f y x) (here.is no_map))) l;

@@ -26,12 +26,12 @@ use Rattle.hp_model.specs.Page.{Page, Copy}
 use Rattle.hp_model.specs.Plan.{Slot, Outcome, Refused, Answered, Plan, Finish, Ask, Choice, refuse, unless, with_value, continued, grant, when_granted}
 use Rattle.hp_model.specs.Pool.{Grant}
 use Rattle.hp_model.specs.Profile.{most_bytes, most_file_pages, most_files, most_map_pages}
-use Rattle.hp_model.specs.Promises.{spot_on, IsLoaded, file_in, shown_on, seen_on, map_in, map_on, no_map, over, is_shared_of, reaches, IsLostTo}
+use Rattle.hp_model.specs.Promises.{spot_on, IsLoaded, shown_on, seen_on, map_in, map_on, no_map, over, is_shared_of, reaches, IsLostTo}
 use Rattle.hp_model.specs.SlotEvent.{are_too_many_maps, byte_access, bytes_answer, file_named, has_name, is_beyond, is_name, is_unmapped, load, map_file, slot_event, store}
 use Rattle.hp_model.specs.Spot.{Spot, again, spot, written}
 use Rattle.hp_model.specs.Value.{shown, value}
 use Rattle.hp_model.proofs.Looks.{same_edit_range, same_more, same_none, same_one, same_put}
-use Rattle.hp_model.proofs.MountMoves.{IsFileAt, IsSpot, file_at, spot_is}
+use Rattle.hp_model.proofs.MountMoves.{IsSpot, file_at, spot_is}
 use Rattle.hp_model.proofs.Outcomes.{Always, always_if, always_test, always_then}
 use Rattle.hp_model.proofs.Seen.{store_seen}
 use Rattle.hp_model.proofs.Shown.{look, seen, by_place, On, Same, Result, read_same, write_done}
@@ -123,8 +123,7 @@ map_quiet size k c (Some m) task home name a n sharing reserving =
     let left : Outcome = Answered (MapNo number) (Some (with_file m q.0 more)) in
     always_unless P stops (((n == 0) || nat_lt most_file_pages (a + n), OutOfRange) ∷ (nat_lt most_map_pages n || are_too_many_maps m task, TooMany) ∷ [])
     (grant c m home (asked sharing reserving a n q.1) left)
-    (always_grant P stops c m home (asked sharing reserving a n q.1) left
-    (
+    (always_grant P stops c m home (asked sharing reserving a n q.1) left (
       λ j x. same_put (look size x) (new_file None) m.files q.0 more at.within (mapped_shows size task number a n sharing reserving q.1 x ∙ sym (ap (look size x) (at.is (new_file None)))) j,
       λ j l x. same_put (seen size l x) (new_file None) m.files q.0 more at.within (mapped_seen size task number a n sharing reserving q.1 l x ∙ sym (ap (seen size l x) (at.is (new_file None)))) j,
     ))))
@@ -173,18 +172,17 @@ Stores size old o i offset bytes (Refused r) = Unit {0}
 Stores size old o i offset bytes (Answered a new) =
     ((j x : ℕ) → shown_on size new j x ≡ (if (i == x) && is_shared_of o j then over offset bytes (shown_on size old j x) else shown_on size old j x))
     × ((j l x : ℕ) →
-        (seen_on size new j l x ≡ (if (i == x) && reaches o (map_on old j l) j l x then over offset bytes (seen_on size old j l x) else seen_on size old j l x))
-        ⊎ IsLostTo o i (map_on old j l) (map_on new j l) j x)
+    (seen_on size new j l x ≡ (if (i == x) && reaches o (map_on old j l) j l x then over offset bytes (seen_on size old j l x) else seen_on size old j l x))
+    ⊎ IsLostTo o i (map_on old j l) (map_on new j l) j x)
 
 store_ends : (size : ℕ) (m : Mount) (s : Spot) (at : IsSpot m s) (i offset : ℕ) (bytes : List ℕ) (o : Outcome) → On (Result size m s at i) o
     → Stores size (Some m) (Some s) i offset bytes (continued (λ n. Answered Done (Some (written n s i offset bytes))) o)
 store_ends size m s at i offset bytes (Refused r) on = tt
 store_ends size m s at i offset bytes (Answered a None) on = absurd on
-store_ends size m s at i offset bytes (Answered a (Some n)) on =
-    (
-      λ j x. stored size m s at i n (ready size m s at i n on) offset bytes (i == x) (is_shared s.map.sharing) (s.file_no == j) j x refl refl refl,
-      store_seen size m s at i offset bytes n on,
-    )
+store_ends size m s at i offset bytes (Answered a (Some n)) on = (
+  λ j x. stored size m s at i n (ready size m s at i n on) offset bytes (i == x) (is_shared s.map.sharing) (s.file_no == j) j x refl refl refl,
+  store_seen size m s at i offset bytes n on,
+)
 
 pub store_stores : (size k : ℕ) (c : Choice) (old : Slot) (task home number i offset : ℕ) (bytes : List ℕ)
     → Always (Stores size old (spot_on old task number) i offset bytes) (slot_event size k c old (slot.Store task home number i offset bytes))

@@ -1,5 +1,5 @@
 -- What each step of a settled machine answers is within the limits of a reply's text.
-use Rattle.std.proofs.Common.{◌≡◌, ⊎_elim, subst, ℕ, zero, suc, ◌+◌, ◌-◌, ◌*◌, ◌^◌, ◌<◌, ◌≤◌, ◌||◌, ◌==◌, Bool, true, false, not, None, Some, is_some, Ok, Err, List, [], ◌∷◌, length, map, refl, sym, ap, ◌∙◌, arith, cond, if◌then◌else◌, nat_lt, nat_le, max, min}
+use Rattle.std.proofs.Common.{◌≡◌, ⊎_elim, subst, ℕ, suc, ◌+◌, ◌*◌, ◌^◌, ◌<◌, ◌≤◌, ◌||◌, ◌==◌, Bool, true, false, not, None, Some, is_some, Ok, Err, List, [], ◌∷◌, length, refl, sym, ap, arith, cond, nat_lt, nat_le}
 use Rattle.std.specs.Bool.{MatchBool}
 use Rattle.std.specs.List.{All, filter, position_or_len, range_with_len}
 use Rattle.std.proofs.lemmas.Bool.{cond_both, leb-false, ltb-false, or_parts}
@@ -8,7 +8,7 @@ use Rattle.std.proofs.lemmas.List.Elements.{All-head, All-tail}
 use Rattle.std.proofs.lemmas.List.FromFn.{length-range_with_len}
 use Rattle.std.proofs.lemmas.List.Sums.{sum_by-cons}
 use Rattle.hp_model.specs.declared.answer.Answer.TheVariants.{Done, MapNo}
-use Rattle.hp_model.specs.declared.event.Event.TheVariants.{Tasks, Slot as OnSlot, Pool as OnPool}
+use Rattle.hp_model.specs.declared.event.Event.TheVariants.{Tasks, Pool as OnPool}
 use Rattle.hp_model.specs.declared.event.PoolEvent.TheVariants as pool
 use Rattle.hp_model.specs.declared.event.SlotEvent.{SlotEvent}
 use Rattle.hp_model.specs.declared.event.SlotEvent.TheVariants as slot
@@ -16,7 +16,6 @@ use Rattle.hp_model.specs.declared.event.TableEvent.TheVariants as table
 use Rattle.hp_model.specs.declared.node.NodeRow.{NodeRow}
 use Rattle.hp_model.specs.declared.refusal.Refusal.{Refusal}
 use Rattle.hp_model.specs.declared.refusal.Refusal.TheVariants.{OutOfMemory, OutOfRange, CrossesPage, TooMany, BeyondEnd, NoSuchMap, NoSuchFile, NoSuchNode, TaskExists, BadName, FileExists, NoInodes, BadLine, NoSuchSlot, NoSuchTask}
-use Rattle.hp_model.specs.declared.step.Intent.{Intent}
 use Rattle.hp_model.specs.declared.step.Intent.TheVariants.{Read, Write}
 use Rattle.hp_model.specs.declared.step.Reserving.{Reserving}
 use Rattle.hp_model.specs.declared.step.Reserving.TheVariants.{Reserve}
@@ -25,20 +24,17 @@ use Rattle.hp_model.specs.declared.step.Sharing.TheVariants.{Shared}
 use Rattle.hp_model.specs.declared.step.Step.{Step}
 use Rattle.hp_model.specs.declared.step.Step.TheVariants.{Connect, Create, Map, Load, Store, Nr, Meminfo}
 use Rattle.hp_model.specs.Access.{access}
-use Rattle.hp_model.specs.Event.{IsEvent}
 use Rattle.hp_model.specs.File.{Mount, maps_of, new_file, with_file}
 use Rattle.hp_model.specs.Grant.{is_over}
-use Rattle.hp_model.specs.Lists.{is_among, least_unused}
+use Rattle.hp_model.specs.Lists.{is_among}
 use Rattle.hp_model.specs.Machine.{pool_of, rows_of}
 use Rattle.hp_model.specs.MakeMap.{asked, mapped, next_number, numbers_of, with_new}
-use Rattle.hp_model.specs.Mapping.{is_map, is_of, Mapping}
+use Rattle.hp_model.specs.Mapping.{is_map, is_of}
 use Rattle.hp_model.specs.NodeRows.{IsRow, total_of, frames_of}
-use Rattle.hp_model.specs.Plan.{Reply, Slot, Outcome, Refused, Answered, Plan, Finish, Choice, refuse, unless, continued, grant}
-use Rattle.hp_model.specs.Pool.{PoolAnswer}
-use Rattle.hp_model.specs.PoolCounts.{Pool, counts_of}
+use Rattle.hp_model.specs.Plan.{Reply, Slot, Outcome, Refused, Answered, Plan, Finish, Choice, unless, continued, grant}
 use Rattle.hp_model.specs.Profile.{most_bytes, most_file_pages, most_files, most_map_pages, most_maps}
 use Rattle.hp_model.specs.Resize.{pool_event}
-use Rattle.hp_model.specs.Settled.{IsSettledState, IsSettledPool}
+use Rattle.hp_model.specs.Settled.{IsSettledState}
 use Rattle.hp_model.specs.SlotEvent.{are_too_many_maps, byte_access, bytes_answer, file_named, is_beyond, is_name, is_new_task_over, is_unmapped, load, map_file, slot_event, store}
 use Rattle.hp_model.specs.Spot.{Spot, again, spot, written}
 use Rattle.hp_model.specs.State.{Node, State, slot_at}
@@ -47,7 +43,7 @@ use Rattle.hp_model.specs.Table.{Table, added, is_crowded, is_known, or_refused}
 use Rattle.hp_model.specs.Value.{value}
 use Rattle.hp_model.specs.Writing.{IsWithinLimits}
 use Rattle.hp_model.proofs.MountMoves.{IsSpot, spot_is}
-use Rattle.hp_model.proofs.Outcomes.{Always, always_test, always_then, always_weaker, Ends, event_ends, reply_of, IsLeft, only_goes, slot_goes, finding_goes}
+use Rattle.hp_model.proofs.Outcomes.{Always, always_test, always_then, always_weaker, event_ends, reply_of, IsLeft, only_goes, slot_goes, finding_goes}
 use Rattle.hp_model.proofs.Shown.{On, Same, Result, on_weaker, read_same, write_done}
 use Rattle.hp_model.proofs.SlotShows.{always_grant, always_unless, always_value, bytes_on}
 

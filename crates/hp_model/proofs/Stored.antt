@@ -1,10 +1,6 @@
 -- What files show after each event that is built.
-use Rattle.std.proofs.Common.{◌≡◌, ⊎_elim, inl, inr, ◌⊎◌, map, ℕ, ◌+◌, ◌<◌, ◌≤◌, Bool, true, false, ◌&&◌, ◌||◌, ◌==◌, not, Option, None, Some, List, [], ◌∷◌, length, get_or, set, refl, sym, ap, ◌∙◌, subst, arith, if◌then◌else◌, nat_lt}
-use Rattle.std.specs.List.{slice_index_or}
-use Rattle.std.proofs.lemmas.Bool.{cond_both, cases_eq, leb-false, eqb-true, eqb-false}
-use Rattle.std.proofs.lemmas.List.{get_or-set_same}
-use Rattle.hp_model.specs.declared.answer.Answer.{Answer}
-use Rattle.hp_model.specs.declared.answer.Answer.TheVariants.{Done}
+use Rattle.std.proofs.Common.{◌≡◌, ⊎_elim, ℕ, Bool, true, false, ◌&&◌, ◌==◌, None, List, refl, sym, ap, ◌∙◌, subst, if◌then◌else◌}
+use Rattle.std.proofs.lemmas.Bool.{cond_both, eqb-true, eqb-false}
 use Rattle.hp_model.specs.declared.cell.Cell.{Cell}
 use Rattle.hp_model.specs.declared.cell.Cell.TheVariants.{Hole, Entered, Present}
 use Rattle.hp_model.specs.File.{File, Mount, cell_at, has_page, new_file}
@@ -16,7 +12,7 @@ use Rattle.hp_model.specs.Spot.{Spot, cell_written, file_written, map_written, w
 use Rattle.hp_model.specs.Value.{shown}
 use Rattle.hp_model.proofs.Looks.{edit_here, edit_other, same_edit, same_put}
 use Rattle.hp_model.proofs.MountMoves.{IsSpot}
-use Rattle.hp_model.proofs.Shown.{look, Same, Taken, Result}
+use Rattle.hp_model.proofs.Shown.{look, Result}
 
 -- ---- a store
 
