@@ -21,12 +21,12 @@ use Rattle.hp_model.specs.Balance.{slot_usage, IsWithinLimit, left_by}
 use Rattle.hp_model.specs.Event.{IsEvent}
 use Rattle.hp_model.specs.Laws.{is_for_pages, KeepsGoing}
 use Rattle.hp_model.specs.Plan.{Reply, Slot, Outcome, Refused, Answered}
-use Rattle.hp_model.specs.Promises.{is_backed_step, wants_page, map_named, spot_on, ShowsMap, shown_in, shown_on, stored_over, over, is_shared_of, seen_in, seen_on, seen_over, map_at, map_on, reaches, IsLostTo, LosesCopy, PromisesAreKept, IsPromisedRun, IsPromisedStep}
+use Rattle.hp_model.specs.Promises.{is_cut_off_step, is_refused, is_backed_step, wants_page, map_named, spot_on, ShowsMap, shown_in, shown_on, stored_over, over, is_shared_of, seen_in, seen_on, seen_over, map_at, map_on, reaches, IsLostTo, LosesCopy, PromisesAreKept, IsPromisedRun, IsPromisedStep}
 use Rattle.hp_model.specs.Run.{IsRun}
 use Rattle.hp_model.specs.Settled.{IsSettledState}
 use Rattle.hp_model.specs.State.{State, slot_at}
 use Rattle.hp_model.specs.Step.{IsBuiltStep, IsScript, IsStep, on_slot, finding}
-use Rattle.hp_model.proofs.Backed.{load_goes, store_goes}
+use Rattle.hp_model.proofs.Backed.{load_goes, store_goes, load_stops, store_stops, Stops}
 use Rattle.hp_model.proofs.CountsHold.{counts_are_sums, limits_hold}
 use Rattle.hp_model.proofs.Outcomes.{Ends, event_ends, reply_of, IsLeft, only_goes, slot_goes, finding_goes}
 use Rattle.hp_model.proofs.Runs.{run_by}
@@ -46,6 +46,8 @@ record Kept (s : State) (step : Step) (reply : Reply) (t : State) : Type 0 where
   pub loads : ShowsMap s step reply
   pub files : (k j x : ℕ) → shown_in t k j x ≡ stored_over s step reply k j x (shown_in s k j x)
   pub maps : (k j l x : ℕ) → (seen_in t k j l x ≡ seen_over s step reply k j l x (seen_in s k j l x)) ⊎ LosesCopy s step t k j l x
+  pub marks : (k j l : ℕ) → (map_at s k j l).unmapped ≡ true → (map_at t k j l).unmapped ≡ true
+  pub cut_off : is_cut_off_step s step ≡ true → is_refused reply ≡ true
 
 -- ---- a step that does nothing
 
@@ -65,7 +67,7 @@ left_kept : (s : State) (step : Step) (r : Refusal) (reply : Reply) (t : State) 
 left_kept s step r reply t other left =
     subst (λ x. Kept s step x t) (sym left.replied)
     (subst (λ x. Kept s step (Err r) x) (sym left.same)
-    (record { reserved = λ e. other; limits = λ k l risen. absurd (omega (arith, risen)); loads = refused_shows s step r; files = λ k j x. refused_stores s step r k j x (shown_in s k j x); maps = λ k j l x. inl (refused_writes s step r k j l x (seen_in s k j l x)) }))
+    (record { reserved = λ e. other; limits = λ k l risen. absurd (omega (arith, risen)); loads = refused_shows s step r; files = λ k j x. refused_stores s step r k j x (shown_in s k j x); maps = λ k j l x. inl (refused_writes s step r k j l x (seen_in s k j l x)); marks = λ k j l e. e; cut_off = λ e. refl }))
 
 -- ---- a step that leaves the slots
 
@@ -73,13 +75,14 @@ left_kept s step r reply t other left =
 record Shows (s t : State) : Type 0 where
   pub files : (k j x : ℕ) → shown_in t k j x ≡ shown_in s k j x
   pub maps : (k j l x : ℕ) → seen_in t k j l x ≡ seen_in s k j l x
+  pub marks : (k j l : ℕ) → (map_at t k j l).unmapped ≡ (map_at s k j l).unmapped
 
 still : {X : Type 0} (g : ℕ → Slot → X) (s t : State) → t.page_size ≡ s.page_size → t.slots ≡ s.slots → (k : ℕ) → g t.page_size (slot_at t k) ≡ g s.page_size (slot_at s k)
 still g s t size slots k = ap (λ z. g z (slot_at t k)) size ∙ ap (λ (xs : List Slot). g s.page_size (slice_index_or xs k None)) slots
 
 still_shows : (s t : State) → t.page_size ≡ s.page_size → t.slots ≡ s.slots → Shows s t
 still_shows s t size slots =
-    record { files = λ k j x. still (λ z y. shown_on z y j x) s t size slots k; maps = λ k j l x. still (λ z y. seen_on z y j l x) s t size slots k }
+    record { files = λ k j x. still (λ z y. shown_on z y j x) s t size slots k; maps = λ k j l x. still (λ z y. seen_on z y j l x) s t size slots k; marks = λ k j l. still (λ z y. (map_on y j l).unmapped) s t size slots k }
 
 pool_shows : (s : State) (e : PoolEvent) (reply : Reply) (t : State) → IsEvent s (OnPool e) reply t → Shows s t
 pool_shows s e reply t is = (let left = ap (λ (q : Reply × State). q.1) is.2 in still_shows s t (sym (ap (λ y. y.page_size) left)) (sym (ap (λ y. y.slots) left)))
@@ -118,6 +121,7 @@ module _ (s : State) (k : ℕ) (e : SlotEvent) (reply : Reply) (t : State) (is :
       record {
         files = λ o j x. same_all s k t n below ends.size ends.slots (λ z y. shown_on z y j x) (ends.holds.0 j x) o;
         maps = λ o j l x. same_all s k t n below ends.size ends.slots (λ z y. seen_on z y j l x) (ends.holds.1 j l x) o;
+        marks = λ o j l. same_all s k t n below ends.size ends.slots (λ z y. (map_on y j l).unmapped) (ends.holds.2 j l) o;
       }
 
   goes : Ends KeepsGoing s k reply t → wants_page reply ≡ false
@@ -126,6 +130,9 @@ module _ (s : State) (k : ℕ) (e : SlotEvent) (reply : Reply) (t : State) (is :
       by_outcome : (o : Outcome) → KeepsGoing o → wants_page (reply_of o) ≡ false
       by_outcome (Refused r) keeps = keeps
       by_outcome (Answered a new) keeps = refl
+
+  stops : Ends Stops s k reply t → is_refused reply ≡ true
+  stops ends = ap is_refused ends.replied ∙ ends.holds
 
   limited : IsSettledState s → (o : ℕ) → o < length s.slots → slot_usage (slot_at s o) < slot_usage (slot_at t o) → IsWithinLimit (slot_at t o)
   limited st o l risen = limits_hold s (OnSlot k e) reply t o l st is risen
@@ -136,17 +143,17 @@ module _ (s : State) (reply : Reply) (t : State) (st : IsSettledState s) where
   connect_kept : (task home : ℕ) → IsBuiltStep s (Connect task home) reply t → Kept s (Connect task home) reply t
   connect_kept task home is =
       let it = only_goes s (Tasks (table.Add task home)) reply t is in
-      record { reserved = λ e. cc; limits = λ k l risen. limits_hold s (Tasks (table.Add task home)) reply t k l st it risen; loads = tt; files = (table_shows s (table.Add task home) reply t it).files; maps = λ k j l x. inl ((table_shows s (table.Add task home) reply t it).maps k j l x) }
+      record { reserved = λ e. cc; limits = λ k l risen. limits_hold s (Tasks (table.Add task home)) reply t k l st it risen; loads = tt; files = (table_shows s (table.Add task home) reply t it).files; maps = λ k j l x. inl ((table_shows s (table.Add task home) reply t it).maps k j l x); marks = λ k j l e. (table_shows s (table.Add task home) reply t it).marks k j l ∙ e; cut_off = λ e. cc }
 
   nr_kept : (n : ℕ) → IsBuiltStep s (Nr n) reply t → Kept s (Nr n) reply t
   nr_kept n is =
       let it = only_goes s (OnPool (pool.Nr n)) reply t is in
-      record { reserved = λ e. cc; limits = λ k l risen. limits_hold s (OnPool (pool.Nr n)) reply t k l st it risen; loads = tt; files = (pool_shows s (pool.Nr n) reply t it).files; maps = λ k j l x. inl ((pool_shows s (pool.Nr n) reply t it).maps k j l x) }
+      record { reserved = λ e. cc; limits = λ k l risen. limits_hold s (OnPool (pool.Nr n)) reply t k l st it risen; loads = tt; files = (pool_shows s (pool.Nr n) reply t it).files; maps = λ k j l x. inl ((pool_shows s (pool.Nr n) reply t it).maps k j l x); marks = λ k j l e. (pool_shows s (pool.Nr n) reply t it).marks k j l ∙ e; cut_off = λ e. cc }
 
   meminfo_kept : IsBuiltStep s Meminfo reply t → Kept s Meminfo reply t
   meminfo_kept is =
       let it = only_goes s (OnPool pool.Meminfo) reply t is in
-      record { reserved = λ e. cc; limits = λ k l risen. limits_hold s (OnPool pool.Meminfo) reply t k l st it risen; loads = tt; files = (pool_shows s pool.Meminfo reply t it).files; maps = λ k j l x. inl ((pool_shows s pool.Meminfo reply t it).maps k j l x) }
+      record { reserved = λ e. cc; limits = λ k l risen. limits_hold s (OnPool pool.Meminfo) reply t k l st it risen; loads = tt; files = (pool_shows s pool.Meminfo reply t it).files; maps = λ k j l x. inl ((pool_shows s pool.Meminfo reply t it).maps k j l x); marks = λ k j l e. (pool_shows s pool.Meminfo reply t it).marks k j l ∙ e; cut_off = λ e. cc }
 
   -- by the slot, if it is there
   on_slot_kept : (step : Step) (k : ℕ) (e : SlotEvent) → (IsEvent s (OnSlot k e) reply t → Kept s step reply t) → IsScript s (on_slot (length s.slots) k e) reply t → Kept s step reply t
@@ -164,14 +171,14 @@ module _ (s : State) (reply : Reply) (t : State) (st : IsSettledState s) where
       let e : SlotEvent = slot.Create name in
       on_slot_kept (Create k name) k e
       (λ it. (let shows = quiet_shows s k e reply t it (event_ends (Quiet s.page_size (slot_at s k)) s k e reply t (λ c. create_quiet s.page_size k c (slot_at s k) name) it) in
-      record { reserved = λ e. cc; limits = limited s k e reply t it st; loads = tt; files = shows.files; maps = λ o j l x. inl (shows.maps o j l x) })) is
+      record { reserved = λ e. cc; limits = limited s k e reply t it st; loads = tt; files = shows.files; maps = λ o j l x. inl (shows.maps o j l x); marks = λ o j l e. shows.marks o j l ∙ e; cut_off = λ e. cc })) is
 
   map_kept : (task k : ℕ) (name : List ℕ) (a n : ℕ) → IsBuiltStep s (Map task k name a n Shared Reserve) reply t → Kept s (Map task k name a n Shared Reserve) reply t
   map_kept task k name a n is =
       let e : ℕ → SlotEvent = λ home. slot.Map task home name a n Shared Reserve in
       task_kept (Map task k name a n Shared Reserve) task k e
       (λ home it. (let shows = quiet_shows s k (e home) reply t it (event_ends (Quiet s.page_size (slot_at s k)) s k (e home) reply t (λ c. map_quiet s.page_size k c (slot_at s k) task home name a n Shared Reserve) it) in
-      record { reserved = λ e. cc; limits = limited s k (e home) reply t it st; loads = tt; files = shows.files; maps = λ o j l x. inl (shows.maps o j l x) })) is
+      record { reserved = λ e. cc; limits = limited s k (e home) reply t it st; loads = tt; files = shows.files; maps = λ o j l x. inl (shows.maps o j l x); marks = λ o j l e. shows.marks o j l ∙ e; cut_off = λ e. cc })) is
 
   loaded : (task k number i offset count : ℕ) (o : Outcome) → Loads s.page_size (slot_at s k) (map_named s k task number) i offset count o → ShowsMap s (Load task k number i offset count) (reply_of o)
   loaded task k number i offset count (Refused r) h = tt
@@ -191,6 +198,8 @@ module _ (s : State) (reply : Reply) (t : State) (st : IsSettledState s) where
         loads = subst (λ r. ShowsMap s step r) (sym ends.replied) (loaded task k number i offset count ends.outcome ends.holds);
         files = shows.files;
         maps = λ o j l x. inl (shows.maps o j l x);
+        marks = λ o j l e. shows.marks o j l ∙ e;
+        cut_off = λ cut. stops s k (e home) reply t it (event_ends Stops s k (e home) reply t (λ c. load_stops s.page_size k c task home number i offset old count cut) it);
       })) is
 
   -- the slot of the store, and the others
@@ -227,6 +236,12 @@ module _ (s : State) (reply : Reply) (t : State) (st : IsSettledState s) where
         (λ o other. inl (elsewhere s k t new l size slots (λ z y. seen_on z y j n x) o other
         ∙ not_picked k o ((i == x) && reaches (map_named s k task number) (map_at s o j n) j n x) (seen_in s o j n x) (over offset bytes (seen_in s o j n x)) other)) o
 
+    store_marks : (out : Outcome) → Held out → t.slots ≡ slice_set s.slots k (left_by (slot_at s k) out) → (o j n : ℕ) → (map_at s o j n).unmapped ≡ true → (map_at t o j n).unmapped ≡ true
+    store_marks (Refused r) h slots o j n = λ e. same_all s k t (slot_at s k) l size slots (λ z y. (map_on y j n).unmapped) refl o ∙ e
+    store_marks (Answered a new) h slots o j n =
+        at_each k (λ o. (map_at s o j n).unmapped ≡ true → (map_at t o j n).unmapped ≡ true) (λ e. at_slot s k t new l size slots (λ z y. (map_on y j n).unmapped) ∙ h.2 j n e)
+        (λ o other e. elsewhere s k t new l size slots (λ z y. (map_on y j n).unmapped) o other ∙ e) o
+
   store_kept : (task k number i offset : ℕ) (bytes : List ℕ) → IsBuiltStep s (Store task k number i offset bytes) reply t → Kept s (Store task k number i offset bytes) reply t
   store_kept task k number i offset bytes is =
       let step : Step = Store task k number i offset bytes in
@@ -244,6 +259,8 @@ module _ (s : State) (reply : Reply) (t : State) (st : IsSettledState s) where
         maps = λ o j l x.
             subst (λ r. (seen_in t o j l x ≡ seen_over s step r o j l x (seen_in s o j l x)) ⊎ LosesCopy s step t o j l x) (sym ends.replied)
             (store_seen task k number i offset bytes (below s k (e home) reply t it) ends.size ends.outcome ends.holds ends.slots o j l x);
+        marks = store_marks task k number i offset bytes (below s k (e home) reply t it) ends.size ends.outcome ends.holds ends.slots;
+        cut_off = λ cut. stops s k (e home) reply t it (event_ends Stops s k (e home) reply t (λ c. store_stops s.page_size k c task home number i offset old bytes cut) it);
       })) is
 
   unbuilt_kept : (step : Step) → (reply ≡ Err BadLine) × (t ≡ s) → Kept s step reply t
@@ -267,7 +284,7 @@ module _ (s : State) (reply : Reply) (t : State) (st : IsSettledState s) where
 pub promised : PromisesAreKept
 promised s step reply t st is =
     let kept = step_kept s reply t st step is in
-    record { reserved = kept.reserved; counts = counts_are_sums t (step_settled s step reply t st is); limits = kept.limits; loads = kept.loads; files = kept.files; maps = kept.maps }
+    record { reserved = kept.reserved; counts = counts_are_sums t (step_settled s step reply t st is); limits = kept.limits; loads = kept.loads; files = kept.files; maps = kept.maps; marks = kept.marks; cut_off = kept.cut_off }
 
 -- ---- runs
 

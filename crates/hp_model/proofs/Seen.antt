@@ -1,7 +1,7 @@
 -- What maps show after a store.
 use Rattle.std.proofs.Common.{◌≡◌, ⊎_elim, inl, inr, ◌⊎◌, map, ℕ, zero, suc, ◌-◌, Bool, true, false, ◌&&◌, ◌==◌, not, Option, None, Some, is_some, List, [], ◌∷◌, get_or, set, refl, sym, ap, ◌∙◌, subst, arith, if◌then◌else◌, nat_lt}
 use Rattle.std.specs.List.{slice_index_or, list_any}
-use Rattle.std.proofs.lemmas.Bool.{cond_both, ltb-false, eqb-true, eqb-false}
+use Rattle.std.proofs.lemmas.Bool.{cases_eq, cond_both, ltb-false, eqb-true, eqb-false}
 use Rattle.std.proofs.lemmas.List.{get_or-set_same, get_or-set_other, length-map}
 use Rattle.hp_model.specs.declared.place.Place.{Place}
 use Rattle.hp_model.specs.declared.place.Place.TheVariants.{Gone, Live}
@@ -14,7 +14,7 @@ use Rattle.hp_model.specs.Promises.{file_in, map_in, no_map, over, is_same_copy,
 use Rattle.hp_model.specs.Spot.{Spot, cell_written, file_written, map_written, place_written, written}
 use Rattle.hp_model.proofs.Looks.{edit_here, edit_other, same_edit}
 use Rattle.hp_model.proofs.MountMoves.{IsSpot}
-use Rattle.hp_model.proofs.Shown.{look, seen, by_place, not_below, Own, Copied, Result}
+use Rattle.hp_model.proofs.Shown.{marked, look, seen, by_place, not_below, Own, Copied, Result}
 use Rattle.hp_model.proofs.Stored.{ready, stored}
 
 get_map : {X : Type 0} (h : X → X) (d : X) → h d ≡ d → (xs : List X) (j : ℕ) → get_or (map h xs) j d ≡ h (get_or xs j d)
@@ -269,3 +269,35 @@ module _ (size : ℕ) (m : Mount) (s : Spot) (at : IsSpot m s) (i offset : ℕ) 
         | true ↦ λ e. ⊎_elim (λ copied. shared_seen n e copied j l x) (λ taken. (let apart = taken.apart in cc)) done
         | false ↦ λ e. private_seen n e (mine n e done) j l x
       ] refl
+
+  -- ---- marks
+
+  edit_marks : (l : ℕ) (f : File) → marked l (file_written s i offset bytes f) ≡ marked l f
+  edit_marks l f =
+      cond_both (is_shared s.map.sharing) (record f { cells = edit_at (cell_written offset bytes) f.cells i }) (record f { maps = edit_at (map_written i offset bytes) f.maps s.map_no }) (λ g. marked l g ≡ marked l f)
+      (λ e. refl) (λ e. same_edit (λ (y : Map). y.unmapped) no_map (map_written i offset bytes) (λ y. refl) f.maps s.map_no l)
+
+  robbed_marks : (stamp : ℕ) (y : Map) → y.unmapped ≡ true → (robbed stamp y).unmapped ≡ true
+  robbed_marks stamp y e =
+      cond_both (list_any (holds stamp) y.places) (record y { unmapped = true; places = map (drop_stamp stamp) y.places }) y (λ r. r.unmapped ≡ true) (λ some. refl) (λ none. e)
+
+  left_marks : (stamp l : ℕ) → marked l s.file ≡ true → marked l (left stamp) ≡ true
+  left_marks stamp l e =
+      elim (cases_eq l s.map_no) as (λ _. marked l (left stamp) ≡ true) [
+        | inl same ↦ subst (λ y. marked y (left stamp) ≡ true) (sym same) (ap (λ y. y.unmapped) (map_left stamp ∙ sym (at.map.is no_map)) ∙ subst (λ y. marked y s.file ≡ true) same e)
+        | inr other ↦ ap (λ y. y.unmapped) (map_beside stamp l other) ∙ robbed_marks stamp (map_in s.file l) e
+      ]
+
+  back_marks : (stamp j l : ℕ) → marked l (file_in m j) ≡ true → marked l (file_in (back stamp) j) ≡ true
+  back_marks stamp j l e =
+      elim (cases_eq j s.file_no) as (λ _. marked l (file_in (back stamp) j) ≡ true) [
+        | inl same ↦
+            subst (λ y. marked l (file_in (back stamp) y) ≡ true) (sym same)
+            (ap (marked l) (file_left stamp) ∙ left_marks stamp l (ap (marked l) (sym (file_was stamp)) ∙ subst (λ y. marked l (file_in m y) ≡ true) same e))
+        | inr other ↦ ap (marked l) (get_or-set_other m.files s.file_no j (left stamp) (new_file None) other) ∙ e
+      ]
+
+  pub store_marks : (n : Mount) → Result size m s at i n → (j l : ℕ) → marked l (file_in m j) ≡ true → marked l (file_in (written n s i offset bytes) j) ≡ true
+  store_marks n done j l e =
+      same_edit (marked l) (new_file None) (file_written s i offset bytes) (edit_marks l) n.files s.file_no j
+      ∙ ⊎_elim (λ copied. copied.0.marks j l ∙ e) (λ taken. ap (λ y. marked l (file_in y j)) taken.left ∙ back_marks taken.copy.stamp j l e) done

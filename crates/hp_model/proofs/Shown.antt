@@ -36,9 +36,14 @@ look size x f = shown size (cell_at f x)
 abbrev pub seen : (size l x : ℕ) → File → List ℕ
 seen size l x f = value size f (map_in f l) x
 
+-- whether a map of it lost a copy to an owner
+abbrev pub marked : (l : ℕ) → File → Bool
+marked l f = (map_in f l).unmapped
+
 pub record SameLooks (size : ℕ) (f g : File) : Type 0 where
   pub cells : (x : ℕ) → look size x g ≡ look size x f
   pub maps : (l x : ℕ) → seen size l x g ≡ seen size l x f
+  pub marks : (l : ℕ) → marked l g ≡ marked l f
 
 abbrev pub by_place : (size : ℕ) → Place Copy → List ℕ → List ℕ
 by_place size p v = elim (copy_of p) [ None ↦ v | Some copy ↦ copy.page.bytes ]
@@ -46,7 +51,7 @@ by_place size p v = elim (copy_of p) [ None ↦ v | Some copy ↦ copy.page.byte
 fill_looks : (size : ℕ) (f : File) (i : ℕ) (page : Page) → i < length f.cells → page.bytes ≡ shown size (cell_at f i) → SameLooks size f (with_cell f i (Present page))
 fill_looks size f i page l e =
     let cells : (x : ℕ) → look size x (with_cell f i (Present page)) ≡ look size x f = same_put (shown size) Hole f.cells i (Present page) l e in
-    record { cells = cells; maps = λ l x. ap (by_place size (place_at (map_in f l) x)) (cells x) }
+    record { cells = cells; maps = λ l x. ap (by_place size (place_at (map_in f l) x)) (cells x); marks = λ l. refl }
 
 -- ---- a place of a map
 
@@ -84,6 +89,7 @@ copy_looks size f k m i c d o new here is e =
     record {
       cells = λ x. refl;
       maps = λ l x. same_put (λ (y : Map). value size f y x) no_map f.maps k (with_place m i p) here.within (shows x ∙ sym (ap (λ y. value size f y x) (here.is no_map))) l;
+      marks = λ l. same_put (λ (y : Map). y.unmapped) no_map f.maps k (with_place m i p) here.within (sym (ap (λ y. y.unmapped) (here.is no_map))) l;
     }
 
 -- ---- outcomes that leave a mount
@@ -117,6 +123,7 @@ module _ (size : ℕ) (m : Mount) (s : Spot) (at : IsSpot m s) (i : ℕ) where
   pub record Same (n : Mount) : Type 0 where
     pub cells : (j x : ℕ) → look size x (file_in n j) ≡ look size x (file_in m j)
     pub maps : (j l x : ℕ) → seen size l x (file_in n j) ≡ seen size l x (file_in m j)
+    pub marks : (j l : ℕ) → marked l (file_in n j) ≡ marked l (file_in m j)
     pub value : value size (again n s).file (again n s).map i ≡ value size s.file s.map i
     pub present : is_shared s.map.sharing ≡ true → has_page (cell_at (file_in n s.file_no) i) ≡ true
     pub held : is_shared s.map.sharing ≡ true → (j l : ℕ) → map_in (file_in n j) l ≡ map_in (file_in m j) l
@@ -140,6 +147,7 @@ module _ (size : ℕ) (m : Mount) (s : Spot) (at : IsSpot m s) (i : ℕ) where
       record {
         cells = λ j x. same_put (look size x) none m.files s.file_no g at.file.within (looks.cells x ∙ sym (ap (look size x) (at.file.is none))) j;
         maps = λ j l x. same_put (seen size l x) none m.files s.file_no g at.file.within (looks.maps l x ∙ sym (ap (seen size l x) (at.file.is none))) j;
+        marks = λ j l. same_put (marked l) none m.files s.file_no g at.file.within (looks.marks l ∙ sym (ap (marked l) (at.file.is none))) j;
         value = ap (λ f. value size f (slice_index_or f.maps s.map_no s.map) i) first ∙ shows;
         present = λ e. ap (λ f. has_page (cell_at f i)) (get_or-set_same m.files s.file_no g none at.file.within) ∙ there e;
         held = λ e j l. same_put (λ f. map_in f l) none m.files s.file_no g at.file.within (ap (λ ms. slice_index_or ms l no_map) (holds e) ∙ sym (ap (λ f. map_in f l) (at.file.is none))) j;
@@ -154,6 +162,7 @@ module _ (size : ℕ) (m : Mount) (s : Spot) (at : IsSpot m s) (i : ℕ) where
       record {
         cells = λ j x. refl;
         maps = λ j l x. refl;
+        marks = λ j l. refl;
         value = ap (λ f. value size f (slice_index_or f.maps s.map_no s.map) i) (at.file.is s.file) ∙ ap (λ y. value size s.file y i) same_map;
         present = λ e. ap (λ f. has_page (cell_at f i)) (at.file.is (new_file None)) ∙ there e;
         held = λ e j l. refl;

@@ -26,15 +26,15 @@ use Rattle.hp_model.specs.Page.{Page, Copy}
 use Rattle.hp_model.specs.Plan.{Slot, Outcome, Refused, Answered, Plan, Finish, Ask, Choice, refuse, unless, with_value, continued, grant, when_granted}
 use Rattle.hp_model.specs.Pool.{Grant}
 use Rattle.hp_model.specs.Profile.{most_bytes, most_file_pages, most_files, most_map_pages}
-use Rattle.hp_model.specs.Promises.{spot_on, IsLoaded, shown_on, seen_on, map_in, map_on, no_map, over, is_shared_of, reaches, IsLostTo}
+use Rattle.hp_model.specs.Promises.{file_in, spot_on, IsLoaded, shown_on, seen_on, map_in, map_on, no_map, over, is_shared_of, reaches, IsLostTo}
 use Rattle.hp_model.specs.SlotEvent.{are_too_many_maps, byte_access, bytes_answer, file_named, has_name, is_beyond, is_name, is_unmapped, load, map_file, slot_event, store}
 use Rattle.hp_model.specs.Spot.{Spot, again, spot, written}
 use Rattle.hp_model.specs.Value.{shown, value}
 use Rattle.hp_model.proofs.Looks.{same_edit_range, same_more, same_none, same_one, same_put}
 use Rattle.hp_model.proofs.MountMoves.{IsSpot, file_at, spot_is}
 use Rattle.hp_model.proofs.Outcomes.{Always, always_if, always_test, always_then}
-use Rattle.hp_model.proofs.Seen.{store_seen}
-use Rattle.hp_model.proofs.Shown.{look, seen, by_place, On, Same, Result, read_same, write_done}
+use Rattle.hp_model.proofs.Seen.{store_seen, store_marks}
+use Rattle.hp_model.proofs.Shown.{marked, look, seen, by_place, On, Same, Result, read_same, write_done}
 use Rattle.hp_model.proofs.Stored.{ready, stored}
 
 -- ---- outcomes that may be a refusal
@@ -61,12 +61,13 @@ always_grant P stops c m home k o h =
 abbrev pub Quiet : (size : ℕ) → Slot → Outcome → Type 0
 Quiet size old o =
     ((j x : ℕ) → shown_on size (left_by old o) j x ≡ shown_on size old j x) × ((j l x : ℕ) → seen_on size (left_by old o) j l x ≡ seen_on size old j l x)
+    × ((j l : ℕ) → (map_on (left_by old o) j l).unmapped ≡ (map_on old j l).unmapped)
 
 refused_quiet : (size : ℕ) (old : Slot) (r : Refusal) → Quiet size old (Refused r)
-refused_quiet size old r = (λ j x. refl, λ j l x. refl)
+refused_quiet size old r = (λ j x. refl, λ j l x. refl, λ j l. refl)
 
 pub create_quiet : (size k : ℕ) (c : Choice) (old : Slot) (name : List ℕ) → Always (Quiet size old) (slot_event size k c old (slot.Create name))
-create_quiet size k c None name = (λ j x. refl, λ j l x. refl)
+create_quiet size k c None name = (λ j x. refl, λ j l x. refl, λ j l. refl)
 create_quiet size k c (Some m) name =
     let f : File = new_file (Some name) in
     always_unless (Quiet size (Some m)) (refused_quiet size (Some m))
@@ -74,6 +75,7 @@ create_quiet size k c (Some m) name =
     (Finish (Answered Done (Some (with_new m f)))) (
       λ j x. same_more (look size x) (new_file None) m.files (f ∷ []) (λ i. same_one (look size x) (new_file None) f refl i) j,
       λ j l x. same_more (seen size l x) (new_file None) m.files (f ∷ []) (λ i. same_one (seen size l x) (new_file None) f refl i) j,
+      λ j l. same_more (marked l) (new_file None) m.files (f ∷ []) (λ i. same_one (marked l) (new_file None) f refl i) j,
     )
 
 entered_shows : (size : ℕ) (c : Cell Page) → shown size (entered c) ≡ shown size c
@@ -110,9 +112,13 @@ mapped_seen size task number a n sharing reserving f l x =
     ∙ same_more (λ (y : Map). value size f y x) no_map f.maps (more ∷ [])
     (λ j. same_one (λ (y : Map). value size f y x) no_map more (ap by_copy (none_at task number a n sharing reserving x) ∙ sym (ap by_copy (none_past x))) j) l
 
+mapped_marks : (task number a n : ℕ) (sharing : Sharing) (reserving : Reserving) (f : File) (l : ℕ) → marked l (mapped task number a n sharing reserving f) ≡ marked l f
+mapped_marks task number a n sharing reserving f l =
+    let more : Map = new_map task number a n sharing reserving in same_more (λ (y : Map). y.unmapped) no_map f.maps (more ∷ []) (λ j. same_one (λ (y : Map). y.unmapped) no_map more refl j) l
+
 pub map_quiet : (size k : ℕ) (c : Choice) (old : Slot) (task home : ℕ) (name : List ℕ) (a n : ℕ) (sharing : Sharing) (reserving : Reserving)
     → Always (Quiet size old) (slot_event size k c old (slot.Map task home name a n sharing reserving))
-map_quiet size k c None task home name a n sharing reserving = (λ j x. refl, λ j l x. refl)
+map_quiet size k c None task home name a n sharing reserving = (λ j x. refl, λ j l x. refl, λ j l. refl)
 map_quiet size k c (Some m) task home name a n sharing reserving =
     let P = Quiet size (Some m) in
     let stops = refused_quiet size (Some m) in
@@ -126,6 +132,7 @@ map_quiet size k c (Some m) task home name a n sharing reserving =
     (always_grant P stops c m home (asked sharing reserving a n q.1) left (
       λ j x. same_put (look size x) (new_file None) m.files q.0 more at.within (mapped_shows size task number a n sharing reserving q.1 x ∙ sym (ap (look size x) (at.is (new_file None)))) j,
       λ j l x. same_put (seen size l x) (new_file None) m.files q.0 more at.within (mapped_seen size task number a n sharing reserving q.1 l x ∙ sym (ap (seen size l x) (at.is (new_file None)))) j,
+      λ j l. same_put (marked l) (new_file None) m.files q.0 more at.within (mapped_marks task number a n sharing reserving q.1 l ∙ sym (ap (marked l) (at.is (new_file None)))) j,
     ))))
 
 -- ---- accesses
@@ -139,18 +146,22 @@ module _ (size : ℕ) (c : Choice) (m : Mount) (home i : ℕ) where
 -- the files show what they showed, and an answer is what the map shows
 pub record Loads (size : ℕ) (old : Slot) (o : Option Spot) (i offset count : ℕ) (out : Outcome) : Type 0 where
   pub quiet : Quiet size old out
-  pub loaded : (a : Answer) (new : Slot) → out ≡ Answered a new → IsLoaded size o i offset count a
+  pub loaded : (a : Answer) (new : Slot) → out ≡ Answered a new → IsLoaded size old o i offset count a
 
 load_refused : (size : ℕ) (old : Slot) (o : Option Spot) (i offset count : ℕ) (r : Refusal) → Loads size old o i offset count (Refused r)
-load_refused size old o i offset count r = record { quiet = (λ j x. refl, λ j l x. refl); loaded = λ a new e. cc }
+load_refused size old o i offset count r = record { quiet = (λ j x. refl, λ j l x. refl, λ j l. refl); loaded = λ a new e. cc }
+
+-- a spot's map is the one at its places
+spot_seen : (size : ℕ) (m : Mount) (s : Spot) (at : IsSpot m s) (i : ℕ) → seen size s.map_no i (file_in m s.file_no) ≡ value size s.file s.map i
+spot_seen size m s at i = ap (seen size s.map_no i) (at.file.is (new_file None)) ∙ ap (λ y. value size s.file y i) (at.map.is no_map)
 
 load_ends : (size : ℕ) (m : Mount) (s : Spot) (at : IsSpot m s) (i offset count : ℕ) (o : Outcome) → On (Same size m s at i) o
     → Loads size (Some m) (Some s) i offset count (continued (λ n. Answered (bytes_answer offset count (value size (again n s).file (again n s).map i)) (Some n)) o)
 load_ends size m s at i offset count (Refused r) on = load_refused size (Some m) (Some s) i offset count r
 load_ends size m s at i offset count (Answered a None) on = absurd on
 load_ends size m s at i offset count (Answered a (Some n)) on = record {
-  quiet = (on.cells, on.maps);
-  loaded = λ b new e. (let first : bytes_answer offset count (value size (again n s).file (again n s).map i) ≡ b = cc in sym first ∙ ap (bytes_answer offset count) on.value);
+  quiet = (on.cells, on.maps, on.marks);
+  loaded = λ b new e. (let first : bytes_answer offset count (value size (again n s).file (again n s).map i) ≡ b = cc in sym first ∙ ap (bytes_answer offset count) (on.value ∙ sym (spot_seen size m s at i)));
 }
 
 pub load_loads : (size k : ℕ) (c : Choice) (old : Slot) (task home number i offset count : ℕ)
@@ -174,6 +185,7 @@ Stores size old o i offset bytes (Answered a new) =
     × ((j l x : ℕ) →
     (seen_on size new j l x ≡ (if (i == x) && reaches o (map_on old j l) j l x then over offset bytes (seen_on size old j l x) else seen_on size old j l x))
     ⊎ IsLostTo o i (map_on old j l) (map_on new j l) j x)
+    × ((j l : ℕ) → (map_on old j l).unmapped ≡ true → (map_on new j l).unmapped ≡ true)
 
 store_ends : (size : ℕ) (m : Mount) (s : Spot) (at : IsSpot m s) (i offset : ℕ) (bytes : List ℕ) (o : Outcome) → On (Result size m s at i) o
     → Stores size (Some m) (Some s) i offset bytes (continued (λ n. Answered Done (Some (written n s i offset bytes))) o)
@@ -182,6 +194,7 @@ store_ends size m s at i offset bytes (Answered a None) on = absurd on
 store_ends size m s at i offset bytes (Answered a (Some n)) on = (
   λ j x. stored size m s at i n (ready size m s at i n on) offset bytes (i == x) (is_shared s.map.sharing) (s.file_no == j) j x refl refl refl,
   store_seen size m s at i offset bytes n on,
+  store_marks size m s at i offset bytes n on,
 )
 
 pub store_stores : (size k : ℕ) (c : Choice) (old : Slot) (task home number i offset : ℕ) (bytes : List ℕ)

@@ -55,15 +55,22 @@ abbrev pub wants_page : Reply → Bool
 wants_page (Ok a) = false
 wants_page (Err r) = is_for_pages r
 
--- ---- what is loaded: the map's own copy, or else what was stored through the file, or else zeros
+-- ---- accesses that lost their copy to an owner
 
-abbrev pub IsLoaded : (size : ℕ) → Option Spot → (i offset count : ℕ) → Answer → Type 0
-IsLoaded size None i offset count a = ⊥
-IsLoaded size (Some s) i offset count a = a ≡ bytes_answer offset count (value size s.file s.map i)
+-- the map is private and marked, and has no copy there
+abbrev pub is_cut_off : Option Spot → ℕ → Bool
+is_cut_off None i = false
+is_cut_off (Some s) i = not (is_shared s.map.sharing) && (s.map.unmapped && not (is_some (copy_of (place_at s.map i))))
 
-abbrev pub ShowsMap : State → Step → Reply → Type 0
-ShowsMap s (Load task slot number i offset count) (Ok a) = IsLoaded s.page_size (map_named s slot task number) i offset count a
-ShowsMap s step reply = Unit {0}
+abbrev pub is_cut_off_step : State → Step → Bool
+is_cut_off_step s (Fault task slot number i intent) = is_cut_off (map_named s slot task number) i
+is_cut_off_step s (Load task slot number i offset count) = is_cut_off (map_named s slot task number) i
+is_cut_off_step s (Store task slot number i offset bytes) = is_cut_off (map_named s slot task number) i
+is_cut_off_step s other = false
+
+abbrev pub is_refused : Reply → Bool
+is_refused (Ok a) = false
+is_refused (Err r) = true
 
 -- ---- what files show
 
@@ -116,6 +123,15 @@ seen_on size (Some m) file map i = value size (file_in m file) (map_in (file_in 
 abbrev pub seen_in : State → (slot file map i : ℕ) → List ℕ
 seen_in s slot file map i = seen_on s.page_size (slot_at s slot) file map i
 
+-- a load answers bytes of what its map shows: its own copy, or else what was stored through the file, or else zeros
+abbrev pub IsLoaded : (size : ℕ) → Slot → Option Spot → (i offset count : ℕ) → Answer → Type 0
+IsLoaded size old None i offset count a = ⊥
+IsLoaded size old (Some s) i offset count a = a ≡ bytes_answer offset count (seen_on size old s.file_no s.map_no i)
+
+abbrev pub ShowsMap : State → Step → Reply → Type 0
+ShowsMap s (Load task slot number i offset count) (Ok a) = IsLoaded s.page_size (slot_at s slot) (map_named s slot task number) i offset count a
+ShowsMap s step reply = Unit {0}
+
 -- a store through a shared map reaches the maps of its file that have no copy there, one through a private map that map alone
 abbrev pub reaches : Option Spot → Map → (file map i : ℕ) → Bool
 reaches None old file map i = false
@@ -161,6 +177,9 @@ pub record IsPromised (s : State) (step : Step) (reply : Reply) (t : State) : Ty
   pub files : (slot file i : ℕ) → shown_in t slot file i ≡ stored_over s step reply slot file i (shown_in s slot file i)
   -- each map shows what it showed, but for what a store reaches; or it has lost its copy to the owner that stored
   pub maps : (slot file map i : ℕ) → (seen_in t slot file map i ≡ seen_over s step reply slot file map i (seen_in s slot file map i)) ⊎ LosesCopy s step t slot file map i
+  -- a marked map stays marked, and an access through it is refused where it has no copy
+  pub marks : (slot file map : ℕ) → (map_at s slot file map).unmapped ≡ true → (map_at t slot file map).unmapped ≡ true
+  pub cut_off : is_cut_off_step s step ≡ true → is_refused reply ≡ true
 
 abbrev pub IsPromisedStep : State → Step → Reply → State → Type 0
 IsPromisedStep s step reply t = IsStep s step reply t × IsPromised s step reply t
