@@ -43,3 +43,4 @@ pub mod Backed
 pub mod Promised
 pub mod Small
 pub mod Seen
+pub mod WorkedPromises
