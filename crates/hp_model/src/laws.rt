@@ -51,7 +51,7 @@ pub fn refusals_change_nothing()
 {}
 
 /// Each step of a settled machine is as promised: reserved accesses and owners' writes are not refused for want of a huge page, the counts are
-/// sums, limits hold, a load answers what its map shows, and each file shows what it showed but for what is stored through it.
+/// sums, limits hold, a load answers what its map shows, and files and maps show what they showed but for what the step stores.
 pub fn promises_are_kept()
     ensures { PromisesAreKept }
 {}
