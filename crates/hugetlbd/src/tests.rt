@@ -64,7 +64,11 @@ fn answers_each_front_of_the_stored_run(rt: HostRuntime) -> Result<(), Fail> {
             let text = replies_to(&rt, rt.alloc(), script.as_slice())?;
             assert!(rt; text.starts_with(replies.as_slice()));
             let last = &text.as_slice()[replies.len().min(text.len())..];
-            let want = if *byte == b'\n' { *reply } else { b"error 21 BadLine\n" };
+            let want = if *byte == b'\n' {
+                *reply
+            } else {
+                b"error 21 BadLine\n"
+            };
             assert_eq!(rt; last, want);
         }
         replies.extend_from_slice(reply)?;

@@ -33,5 +33,8 @@ pub const STORED: &[(&[u8], &[u8])] = &[
     (b"map 1 0 a 0 3 shared\n", b"ok 1\n"),
     (b"store 1 0 1 0 0 ff\n", b"ok\n"),
     (b"load 1 0 1 0 0 2\n", b"ok ff00\n"),
-    (b"meminfo\n", b"text 6\nHugePages_Total:       4\nHugePages_Free:        3\nHugePages_Rsvd:        2\nHugePages_Surp:        0\nHugepagesize:          1 kB\nHugetlb:               4 kB\n"),
+    (
+        b"meminfo\n",
+        b"text 6\nHugePages_Total:       4\nHugePages_Free:        3\nHugePages_Rsvd:        2\nHugePages_Surp:        0\nHugepagesize:          1 kB\nHugetlb:               4 kB\n",
+    ),
 ];
