@@ -27,7 +27,8 @@ use Rattle.hp_model.specs.SlotEvent.{load, store, byte_access, bytes_answer}
 use Rattle.hp_model.specs.Spot.{Spot, spot, again, written, file_written, cell_written, map_written}
 use Rattle.hp_model.specs.Value.{value, shown}
 use Rattle.hp_system.specs.Carried.{ended, answered, carried, choosing, IsDone}
-use Rattle.hp_system.specs.Found.{no_map, file_at, spot_at, IsFound, first_of, byte_tests, filled_with, IsTouched}
+use Rattle.hp_model.specs.Promises.{no_map, file_in}
+use Rattle.hp_system.specs.Found.{spot_at, IsFound, first_of, byte_tests, filled_with, IsTouched}
 
 -- ---- tests
 
@@ -81,7 +82,7 @@ module _ (size : ℕ) (p : Pool) (m : Mount) (s : Spot) (home i : ℕ) where
   pub access_present : (cell : Cell Page) (page : Page) → cell ≡ Present page → goes cell ≡ (Ok Done, Some m, p)
   access_present cell page e = ap goes e
 
-  pub access_entered : (cell : Cell Page) (n : Mount) (q : Pool) → cell ≡ Entered → s.file ≡ file_at m s.file_no → n ≡ filled_with m s.file_no i (take_node home p) (zeros size) → q ≡ page_taken home p
+  pub access_entered : (cell : Cell Page) (n : Mount) (q : Pool) → cell ≡ Entered → s.file ≡ file_in m s.file_no → n ≡ filled_with m s.file_no i (take_node home p) (zeros size) → q ≡ page_taken home p
       → goes cell ≡ (Ok Done, Some n, q)
   access_entered cell n q e f n_is q_is =
       ap goes e ∙ ap (λ g. (Ok Done, Some (with_file m s.file_no (with_cell g i (Present (record { node = take_node home p; bytes = zeros size })))), page_taken home p)) f
@@ -99,7 +100,7 @@ module _ (size : ℕ) (p : Pool) (m : Mount) (s : Spot) (home i : ℕ) where
       ∙ ap (λ k. answered (Some m) f (section p (GrantPage home k))) up
       ∙ ap (λ b. answered (Some m) f (cond b (granted_at (take_node home (granted home 1 p)), page_taken home (granted home 1 p)) (no_pages, p))) e
 
-  pub access_hole_ok : (cell : Cell Page) (n : Mount) (q : Pool) → cell ≡ Hole → m.limits.max ≡ None → m.limits.min ≡ 0 → can_grant 1 p ≡ true → s.file ≡ file_at m s.file_no
+  pub access_hole_ok : (cell : Cell Page) (n : Mount) (q : Pool) → cell ≡ Hole → m.limits.max ≡ None → m.limits.min ≡ 0 → can_grant 1 p ≡ true → s.file ≡ file_in m s.file_no
       → n ≡ filled_with m s.file_no i (take_node home (granted home 1 p)) (zeros size) → q ≡ page_taken home (granted home 1 p) → goes cell ≡ (Ok Done, Some n, q)
   access_hole_ok cell n q e max none granted_it f n_is q_is =
       let node : ℕ = take_node home (granted home 1 p) in
@@ -119,19 +120,19 @@ same_touched m file = record { files = refl; maps = refl; cells = refl }
 pub filled_touched : (m : Mount) (file i node : ℕ) (bytes : List ℕ) → file < length m.files → IsTouched m (filled_with m file i node bytes) file
 filled_touched m file i node bytes l =
     let page : Page = record { node = node; bytes = bytes } in
-    let g : File = with_cell (file_at m file) i (Present page) in
-    let at : file_at (filled_with m file i node bytes) file ≡ g = get_or-set_same m.files file g (new_file None) l in
+    let g : File = with_cell (file_in m file) i (Present page) in
+    let at : file_in (filled_with m file i node bytes) file ≡ g = get_or-set_same m.files file g (new_file None) l in
     record {
       files = length-set m.files file g;
       maps = ap (λ f. f.maps) at;
-      cells = ap (λ f. length f.cells) at ∙ length-set (file_at m file).cells i (Present page);
+      cells = ap (λ f. length f.cells) at ∙ length-set (file_in m file).cells i (Present page);
     }
 
-pub filled_page : (m : Mount) (file i node : ℕ) (bytes : List ℕ) → file < length m.files → i < length (file_at m file).cells → has_page (cell_at (file_at (filled_with m file i node bytes) file) i) ≡ true
+pub filled_page : (m : Mount) (file i node : ℕ) (bytes : List ℕ) → file < length m.files → i < length (file_in m file).cells → has_page (cell_at (file_in (filled_with m file i node bytes) file) i) ≡ true
 filled_page m file i node bytes l below =
     let page : Page = record { node = node; bytes = bytes } in
-    let g : File = with_cell (file_at m file) i (Present page) in
-    ap (λ f. has_page (cell_at f i)) (get_or-set_same m.files file g (new_file None) l) ∙ ap has_page (get_or-set_same (file_at m file).cells i (Present page) Hole below)
+    let g : File = with_cell (file_in m file) i (Present page) in
+    ap (λ f. has_page (cell_at f i)) (get_or-set_same m.files file g (new_file None) l) ∙ ap has_page (get_or-set_same (file_in m file).cells i (Present page) Hole below)
 
 pub any_default : {X : Type 0} (xs : List X) (k : ℕ) (d e : X) → k < length xs → slice_index_or xs k d ≡ slice_index_or xs k e
 any_default [] k d e l = absurd (omega (arith, l))
@@ -151,18 +152,18 @@ module _ (size : ℕ) (p : Pool) (m : Mount) (task number home i offset file map
       ∙ ap (λ x. cond (is_shared x) (shared_access (choosing false m) size m here home i (cell_at here.file i)) (private_access (choosing false m) size m here home i (place_at here.map i) intent)) shared
 
   -- the same map after the access
-  again_file : (n : Mount) → IsFound m task number file map → IsTouched m n file → (again n here).file ≡ file_at n file
-  again_file n found t = let within = found.file_in in let files = t.files in any_default n.files file here.file (new_file None) (omega (arith, within, files))
+  again_file : (n : Mount) → IsFound m task number file map → IsTouched m n file → (again n here).file ≡ file_in n file
+  again_file n found t = let within = found.file_within in let files = t.files in any_default n.files file here.file (new_file None) (omega (arith, within, files))
 
   again_map : (n : Mount) → IsFound m task number file map → IsTouched m n file → (again n here).map ≡ here.map
   again_map n found t =
       ap (λ f. slice_index_or f.maps map here.map) (again_file n found t) ∙ ap (λ ms. slice_index_or ms map here.map) t.maps
-      ∙ any_default (file_at m file).maps map here.map no_map found.map_in
+      ∙ any_default (file_in m file).maps map here.map no_map found.map_within
 
-  shows : (n : Mount) → IsFound m task number file map → IsTouched m n file → copy_of (place_at here.map i) ≡ None → value size (again n here).file (again n here).map i ≡ shown size (cell_at (file_at n file) i)
+  shows : (n : Mount) → IsFound m task number file map → IsTouched m n file → copy_of (place_at here.map i) ≡ None → value size (again n here).file (again n here).map i ≡ shown size (cell_at (file_in n file) i)
   shows n found t none =
-      ap (λ f. value size f (again n here).map i) (again_file n found t) ∙ ap (λ x. value size (file_at n file) x i) (again_map n found t)
-      ∙ ap (λ o. elim o [ None ↦ shown size (cell_at (file_at n file) i) | Some copy ↦ copy.page.bytes ]) none
+      ap (λ f. value size f (again n here).map i) (again_file n found t) ∙ ap (λ x. value size (file_in n file) x i) (again_map n found t)
+      ∙ ap (λ o. elim o [ None ↦ shown size (cell_at (file_in n file) i) | Some copy ↦ copy.page.bytes ]) none
 
   module _ (count : ℕ) where
     abbrev load_event : SlotEvent
@@ -195,7 +196,7 @@ module _ (size : ℕ) (p : Pool) (m : Mount) (task number home i offset file map
 
     pub load_done : (n : Mount) (q : Pool) (reply : Reply) → IsFound m task number file map → here.map.sharing ≡ Shared → first_of (byte_tests size here i offset count) ≡ None
         → goes size p m here home i (cell_at here.file i) ≡ (Ok Done, Some n, q) → IsTouched m n file → copy_of (place_at here.map i) ≡ None
-        → reply ≡ Ok (bytes_answer offset count (shown size (cell_at (file_at n file) i))) → IsDone size p m load_event reply n q
+        → reply ≡ Ok (bytes_answer offset count (shown size (cell_at (file_in n file) i))) → IsDone size p m load_event reply n q
     unfolding IsDone
     load_done n q reply found shared pass e t none reply_is = (
       false,
@@ -250,10 +251,10 @@ edit_is_set f [] i d l = absurd (omega (arith, l))
 edit_is_set f (x ∷ xs) zero d l = refl
 edit_is_set f (x ∷ xs) (suc i) d l = ap (λ ys. x ∷ ys) (edit_is_set f xs i d (omega (arith, l)))
 
-pub written_is : (n : Mount) (s : Spot) (i offset : ℕ) (bytes : List ℕ) → s.map.sharing ≡ Shared → s.file_no < length n.files → i < length (file_at n s.file_no).cells
-    → written n s i offset bytes ≡ with_file n s.file_no (with_cell (file_at n s.file_no) i (cell_written offset bytes (cell_at (file_at n s.file_no) i)))
+pub written_is : (n : Mount) (s : Spot) (i offset : ℕ) (bytes : List ℕ) → s.map.sharing ≡ Shared → s.file_no < length n.files → i < length (file_in n s.file_no).cells
+    → written n s i offset bytes ≡ with_file n s.file_no (with_cell (file_in n s.file_no) i (cell_written offset bytes (cell_at (file_in n s.file_no) i)))
 written_is n s i offset bytes shared l below =
-    let f : File = file_at n s.file_no in
+    let f : File = file_in n s.file_no in
     ap (λ fs. record n { files = fs }) (edit_is_set (file_written s i offset bytes) n.files s.file_no (new_file None) l
     ∙ ap (λ x. slice_set n.files s.file_no (cond (is_shared x) (record f { cells = edit_at (cell_written offset bytes) f.cells i }) (record f { maps = edit_at (map_written i offset bytes) f.maps s.map_no }))) shared
     ∙ ap (λ cs. slice_set n.files s.file_no (record f { cells = cs })) (edit_is_set (cell_written offset bytes) f.cells i Hole below))

@@ -4,14 +4,16 @@ use Rattle.std.specs.Prelude.{is_some, unwrap_or, ◌||◌}
 use Rattle.std.specs.List.{list_any, position_or_len, slice_index_or}
 use Rattle.std.specs.Option.{option_map}
 use Rattle.std.proofs.lemmas.Bool.Decides.{nat_tests}
-use Rattle.std.proofs.lemmas.List.Sums.{sum_by-append, sum_by-cons, prefix_len-le-length, passes_at_first}
+use Rattle.std.proofs.lemmas.List.Sums.{sum_by-append, sum_by-cons, prefix_len-le-length, passes_at_first, fails_before_first}
 use Rattle.hp_model.specs.File.{File, Mount, new_file}
 use Rattle.hp_model.specs.Lists.{found, one_on}
 use Rattle.hp_model.specs.MakeMap.{with_new}
 use Rattle.hp_model.specs.Mapping.{is_map}
 use Rattle.hp_model.specs.MountCounts.{reserves_of, file_reserves}
 use Rattle.hp_model.specs.Spot.{spot, spot_in}
-use Rattle.hp_system.specs.Found.{no_map, has_it, file_at, IsFound}
+use Rattle.hp_model.proofs.Finding as finding
+use Rattle.hp_model.specs.Promises.{no_map, file_in}
+use Rattle.hp_system.specs.Found.{has_it, IsFound}
 
 some_on : {X : Type 0} (o : Option (ℕ × X)) → is_some (option_map one_on o) ≡ is_some o
 some_on None = refl
@@ -36,30 +38,11 @@ position_le test xs = prefix_len-le-length _ xs
 pub found_or_len : (n p : ℕ) → p ≤ n → unwrap_or (cond (ltb p n) (Some p) None) n ≡ p
 found_or_len n p h = grind (arith, nat_tests)
 
-found_step : {X : Type 0} (test : X → Bool) (b : Bool) (x : X) (xs : List X) (d : X) → test x ≡ b
-    → (position_or_len test xs < length xs → found test xs ≡ Some (position_or_len test xs, slice_index_or xs (position_or_len test xs) d))
-    → cond (not b) (1 + position_or_len test xs) 0 < length (x ∷ xs)
-    → cond b (Some (0, x)) (option_map one_on (found test xs)) ≡ Some (cond (not b) (1 + position_or_len test xs) 0, slice_index_or (x ∷ xs) (cond (not b) (1 + position_or_len test xs) 0) d)
-found_step test true x xs d e rest l = refl
-found_step test false x xs d e rest l =
-    let far = rest (omega (arith, l)) in
-    let one : 1 + position_or_len test xs ≡ suc (position_or_len test xs) = omega arith in
-    let other : position_or_len test xs + 1 ≡ suc (position_or_len test xs) = omega arith in
-    ap (option_map one_on) far ∙ ap (λ n. Some (n, slice_index_or xs (position_or_len test xs) d)) other
-    ∙ ap (λ n. Some (n, slice_index_or (x ∷ xs) n d)) (sym one)
-
 pub found_at : {X : Type 0} (test : X → Bool) (xs : List X) (d : X) → position_or_len test xs < length xs → found test xs ≡ Some (position_or_len test xs, slice_index_or xs (position_or_len test xs) d)
-found_at test [] d l = absurd (omega (arith, l))
-found_at test (x ∷ xs) d l = found_step test (test x) x xs d refl (found_at test xs d) l
+found_at test xs d l = finding.found_at test xs d (position_or_len test xs) l (passes_at_first test xs d l) (λ k less. fails_before_first test xs k d less)
 
-none_step : {X : Type 0} (test : X → Bool) (b : Bool) (x : X) (xs : List X) → (length xs ≤ position_or_len test xs → found test xs ≡ None) → length (x ∷ xs) ≤ cond (not b) (1 + position_or_len test xs) 0
-    → cond b (Some (0, x)) (option_map one_on (found test xs)) ≡ None
-none_step test true x xs rest l = absurd (omega (arith, l))
-none_step test false x xs rest l = ap (option_map one_on) (rest (omega (arith, l)))
-
-pub found_none : {X : Type 0} (test : X → Bool) (xs : List X) → length xs ≤ position_or_len test xs → found test xs ≡ None
-found_none test [] l = refl
-found_none test (x ∷ xs) l = none_step test (test x) x xs (found_none test xs) l
+pub found_none : {X : Type 0} (test : X → Bool) (xs : List X) (d : X) → length xs ≤ position_or_len test xs → found test xs ≡ None
+found_none test xs d l = finding.found_none test xs d (λ k less. fails_before_first test xs k d (omega (arith, l, less)))
 
 -- some element passes where the search ends before the list
 any_step : {X : Type 0} (test : X → Bool) (b : Bool) (x : X) (xs : List X) → (list_any test xs ≡ true → position_or_len test xs < length xs) → (b || list_any test xs) ≡ true → cond (not b) (1 + position_or_len test xs) 0 < length (x ∷ xs)
@@ -72,10 +55,10 @@ any_position test (x ∷ xs) e = any_step test (test x) x xs (any_position test 
 
 -- ---- the map that an event names
 
-pub map_found : (m : Mount) (task number k j : ℕ) → k ≡ position_or_len (has_it task number) m.files → k < length m.files → j ≡ position_or_len (is_map task number) (file_at m k).maps → IsFound m task number k j
+pub map_found : (m : Mount) (task number k j : ℕ) → k ≡ position_or_len (has_it task number) m.files → k < length m.files → j ≡ position_or_len (is_map task number) (file_in m k).maps → IsFound m task number k j
 map_found m task number k j k_is within j_is =
     let test = is_map task number in
-    let f : File = file_at m k in
+    let f : File = file_in m k in
     let here : position_or_len (has_it task number) m.files < length m.files = omega (arith, k_is, within) in
     let passes : has_it task number f ≡ true = subst (λ i. has_it task number (slice_index_or m.files i (new_file None)) ≡ true) (sym k_is) (passes_at_first (has_it task number) m.files (new_file None) here) in
     let inside : position_or_len test f.maps < length f.maps = any_position test f.maps passes in
@@ -83,10 +66,10 @@ map_found m task number k j k_is within j_is =
     let map_is : found test f.maps ≡ Some (j, slice_index_or f.maps j no_map) = found_at test f.maps no_map inside ∙ ap (λ i. Some (i, slice_index_or f.maps i no_map)) (sym j_is) in
     record {
       is = ap (λ o. elim o [ None ↦ None | Some q ↦ option_map (spot_in q) (found test q.1.maps) ]) file_is ∙ ap (option_map (spot_in (k, f))) map_is;
-      file_in = within;
-      map_in = omega (arith, j_is, inside);
+      file_within = within;
+      map_within = omega (arith, j_is, inside);
     }
 
 pub no_map_found : (m : Mount) (task number : ℕ) → length m.files ≤ position_or_len (has_it task number) m.files → spot m (is_map task number) ≡ None
 no_map_found m task number past =
-    ap (λ o. elim o [ None ↦ None | Some q ↦ option_map (spot_in q) (found (is_map task number) q.1.maps) ]) (found_none (has_it task number) m.files past)
+    ap (λ o. elim o [ None ↦ None | Some q ↦ option_map (spot_in q) (found (is_map task number) q.1.maps) ]) (found_none (has_it task number) m.files (new_file None) past)

@@ -11,7 +11,8 @@ use Rattle.hp_model.specs.Lists.{distinct}
 use Rattle.hp_model.specs.MountCounts.{file_reserves, is_waiting}
 use Rattle.hp_model.specs.Page.{Page}
 use Rattle.hp_model.specs.Spot.{cell_written}
-use Rattle.hp_system.specs.Found.{file_at, filled_with}
+use Rattle.hp_model.specs.Promises.{file_in}
+use Rattle.hp_system.specs.Found.{filled_with}
 use Rattle.hp_system.specs.Kept.{IsCounted}
 use Rattle.hp_system.proofs.Accesses.{any_default}
 use Rattle.hp_system.proofs.Counted.{new_file_reserves}
@@ -24,8 +25,8 @@ same_maps (f ∷ fs) zero g l e = ap (λ ms. ms ++ flat_map (λ f. f.maps) fs) e
 same_maps (f ∷ fs) (suc k) g l e = ap (λ ms. f.maps ++ ms) (same_maps fs k g (omega (arith, l)) e)
 
 -- a file with as many reservations more or less, and the same maps
-counted_with : (held new maps tasks : ℕ) (m : Mount) (k : ℕ) (g : File) → IsCounted held maps tasks m → k < length m.files → g.maps ≡ (file_at m k).maps
-    → new + file_reserves (file_at m k) ≡ held + file_reserves g → IsCounted new maps tasks (with_file m k g)
+counted_with : (held new maps tasks : ℕ) (m : Mount) (k : ℕ) (g : File) → IsCounted held maps tasks m → k < length m.files → g.maps ≡ (file_in m k).maps
+    → new + file_reserves (file_in m k) ≡ held + file_reserves g → IsCounted new maps tasks (with_file m k g)
 counted_with held new maps tasks m k g c l e sums =
     let step = sum_by-set file_reserves m.files k g (new_file None) l in
     let promised = c.promised in
@@ -45,26 +46,26 @@ cell_reserves : (f : File) (i : ℕ) (c : Cell Page) (was : Bool) → i < length
 cell_reserves f i c was l e = let step = waits f i c l in let same = ap (λ b. cond b 1 0 + 0) e in omega (arith, step, same)
 
 -- an entry without a page is a promise
-pub some_promise : (held maps tasks : ℕ) (m : Mount) (k i : ℕ) → IsCounted held maps tasks m → k < length m.files → i < length (file_at m k).cells → cell_at (file_at m k) i ≡ Entered → 1 ≤ held
+pub some_promise : (held maps tasks : ℕ) (m : Mount) (k i : ℕ) → IsCounted held maps tasks m → k < length m.files → i < length (file_in m k).cells → cell_at (file_in m k) i ≡ Entered → 1 ≤ held
 some_promise held maps tasks m k i c l below is =
-    let f : File = file_at m k in
+    let f : File = file_in m k in
     let promised = c.promised in
     let one = cell_reserves f i Hole true below (ap is_waiting is) in
     let step = sum_by-set file_reserves m.files k (with_cell f i Hole) (new_file None) l in
     omega (arith, promised, one, step)
 
-pub counted_entry : (held new maps tasks : ℕ) (m : Mount) (k i node : ℕ) (bytes : List ℕ) → IsCounted held maps tasks m → k < length m.files → i < length (file_at m k).cells → cell_at (file_at m k) i ≡ Entered → new + 1 ≡ held
+pub counted_entry : (held new maps tasks : ℕ) (m : Mount) (k i node : ℕ) (bytes : List ℕ) → IsCounted held maps tasks m → k < length m.files → i < length (file_in m k).cells → cell_at (file_in m k) i ≡ Entered → new + 1 ≡ held
     → IsCounted new maps tasks (filled_with m k i node bytes)
 counted_entry held new maps tasks m k i node bytes c l below is one =
-    let f : File = file_at m k in
+    let f : File = file_in m k in
     let page : Page = record { node = node; bytes = bytes } in
     let step = cell_reserves f i (Present page) true below (ap is_waiting is) in
     counted_with held new maps tasks m k (with_cell f i (Present page)) c l refl (omega (arith, step, one))
 
-pub counted_hole : (held maps tasks : ℕ) (m : Mount) (k i node : ℕ) (bytes : List ℕ) → IsCounted held maps tasks m → k < length m.files → i < length (file_at m k).cells → cell_at (file_at m k) i ≡ Hole
+pub counted_hole : (held maps tasks : ℕ) (m : Mount) (k i node : ℕ) (bytes : List ℕ) → IsCounted held maps tasks m → k < length m.files → i < length (file_in m k).cells → cell_at (file_in m k) i ≡ Hole
     → IsCounted held maps tasks (filled_with m k i node bytes)
 counted_hole held maps tasks m k i node bytes c l below is =
-    let f : File = file_at m k in
+    let f : File = file_in m k in
     let page : Page = record { node = node; bytes = bytes } in
     let step = cell_reserves f i (Present page) false below (ap is_waiting is) in
     counted_with held held maps tasks m k (with_cell f i (Present page)) c l refl (omega (arith, step))
@@ -74,10 +75,10 @@ written_waits offset bytes Hole = refl
 written_waits offset bytes Entered = refl
 written_waits offset bytes (Present page) = refl
 
-pub counted_written : (held maps tasks : ℕ) (m : Mount) (k i offset : ℕ) (bytes : List ℕ) → IsCounted held maps tasks m → k < length m.files → i < length (file_at m k).cells
-    → IsCounted held maps tasks (with_file m k (with_cell (file_at m k) i (cell_written offset bytes (cell_at (file_at m k) i))))
+pub counted_written : (held maps tasks : ℕ) (m : Mount) (k i offset : ℕ) (bytes : List ℕ) → IsCounted held maps tasks m → k < length m.files → i < length (file_in m k).cells
+    → IsCounted held maps tasks (with_file m k (with_cell (file_in m k) i (cell_written offset bytes (cell_at (file_in m k) i))))
 counted_written held maps tasks m k i offset bytes c l below =
-    let f : File = file_at m k in
+    let f : File = file_in m k in
     let cell : Cell Page = cell_at f i in
     let step = cell_reserves f i (cell_written offset bytes cell) (is_waiting cell) below refl in
     let same = ap (λ b. cond b 1 0 + 0) (written_waits offset bytes cell) in
@@ -102,20 +103,20 @@ counted_new held maps tasks m name c =
 
 -- ---- as code changes a file that it has read: x is what it read, and g what it leaves there
 
-pub read_is : (m : Mount) (k : ℕ) (x : File) → k < length m.files → x ≡ slice_index_or m.files k x → x ≡ file_at m k
+pub read_is : (m : Mount) (k : ℕ) (x : File) → k < length m.files → x ≡ slice_index_or m.files k x → x ≡ file_in m k
 read_is m k x l e = e ∙ any_default m.files k x (new_file None) l
 
-module _ (held maps tasks : ℕ) (m : Mount) (k i : ℕ) (x g : File) (c : IsCounted held maps tasks m) (l : k < length m.files) (below : i < length (file_at m k).cells) (e : x ≡ slice_index_or m.files k x) where
-  left_as : (cell : Cell Page) → g ≡ with_cell x i cell → with_file m k (with_cell (file_at m k) i cell) ≡ with_file m k g
+module _ (held maps tasks : ℕ) (m : Mount) (k i : ℕ) (x g : File) (c : IsCounted held maps tasks m) (l : k < length m.files) (below : i < length (file_in m k).cells) (e : x ≡ slice_index_or m.files k x) where
+  left_as : (cell : Cell Page) → g ≡ with_cell x i cell → with_file m k (with_cell (file_in m k) i cell) ≡ with_file m k g
   left_as cell h = ap (λ f. with_file m k (with_cell f i cell)) (sym (read_is m k x l e)) ∙ ap (with_file m k) (sym h)
 
-  pub entry_left : (new : ℕ) (page : Page) → cell_at (file_at m k) i ≡ Entered → new + 1 ≡ held → g ≡ with_cell x i (Present page) → IsCounted new maps tasks (with_file m k g)
+  pub entry_left : (new : ℕ) (page : Page) → cell_at (file_in m k) i ≡ Entered → new + 1 ≡ held → g ≡ with_cell x i (Present page) → IsCounted new maps tasks (with_file m k g)
   entry_left new page is one h = subst (λ z. IsCounted new maps tasks z) (left_as (Present page) h) (counted_entry held new maps tasks m k i page.node page.bytes c l below is one)
 
-  pub hole_left : (page : Page) → cell_at (file_at m k) i ≡ Hole → g ≡ with_cell x i (Present page) → IsCounted held maps tasks (with_file m k g)
+  pub hole_left : (page : Page) → cell_at (file_in m k) i ≡ Hole → g ≡ with_cell x i (Present page) → IsCounted held maps tasks (with_file m k g)
   hole_left page is h = subst (λ z. IsCounted held maps tasks z) (left_as (Present page) h) (counted_hole held maps tasks m k i page.node page.bytes c l below is)
 
   pub written_left : (offset : ℕ) (bytes : List ℕ) → g ≡ with_cell x i (cell_written offset bytes (cell_at x i)) → IsCounted held maps tasks (with_file m k g)
   written_left offset bytes h =
       let cell = ap (λ f. with_cell x i (cell_written offset bytes (cell_at f i))) (read_is m k x l e) in
-      subst (λ z. IsCounted held maps tasks z) (left_as (cell_written offset bytes (cell_at (file_at m k) i)) (h ∙ cell)) (counted_written held maps tasks m k i offset bytes c l below)
+      subst (λ z. IsCounted held maps tasks z) (left_as (cell_written offset bytes (cell_at (file_in m k) i)) (h ∙ cell)) (counted_written held maps tasks m k i offset bytes c l below)

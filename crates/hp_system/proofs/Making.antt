@@ -18,7 +18,8 @@ use Rattle.hp_model.specs.Mapping.{Map, is_of}
 use Rattle.hp_model.specs.MountCounts.{file_reserves}
 use Rattle.hp_model.proofs.Distinct.{distinct_put, is_among-append, same_members}
 use Rattle.hp_model.proofs.Maps.{mapped_grows}
-use Rattle.hp_system.specs.Found.{file_at, with_map}
+use Rattle.hp_model.specs.Promises.{file_in}
+use Rattle.hp_system.specs.Found.{with_map}
 use Rattle.hp_system.specs.Kept.{IsCounted}
 use Rattle.hp_system.proofs.Keeping.{read_is}
 use Rattle.hp_system.specs.Numbers.{HasNumbers}
@@ -202,10 +203,10 @@ with_map_is f task number a n = ap (λ k. with_map_of k) (length-replicate n _)
     with_map_of : ℕ → File
     with_map_of k = record (mapped task number a k Shared Reserve f) { maps = f.maps ++ new_map task number a n Shared Reserve ∷ [] }
 
-pub counted_mapped : (held more maps tasks : ℕ) (m : Mount) (k task number a n : ℕ) (first : Bool) → IsCounted held maps tasks m → k < length m.files → more ≡ asked Shared Reserve a n (file_at m k)
-    → first ≡ not (is_among task (tasks_of m)) → IsCounted (held + more) (maps + 1) (tasks + cond first 1 0) (with_file m k (mapped task number a n Shared Reserve (file_at m k)))
+pub counted_mapped : (held more maps tasks : ℕ) (m : Mount) (k task number a n : ℕ) (first : Bool) → IsCounted held maps tasks m → k < length m.files → more ≡ asked Shared Reserve a n (file_in m k)
+    → first ≡ not (is_among task (tasks_of m)) → IsCounted (held + more) (maps + 1) (tasks + cond first 1 0) (with_file m k (mapped task number a n Shared Reserve (file_in m k)))
 counted_mapped held more maps tasks m k task number a n first c l more_is first_is =
-    let f : File = file_at m k in
+    let f : File = file_in m k in
     let g : File = mapped task number a n Shared Reserve f in
     let x : Map = new_map task number a n Shared Reserve in
     let grows = mapped_grows task number a n Shared Reserve f in
@@ -235,7 +236,7 @@ module _ (held maps tasks : ℕ) (m : Mount) (k : ℕ) (x g : File) (c : IsCount
   pub map_left : (task number a n : ℕ) (y : Map) (more held_now tasks_now : ℕ) (first : Bool) → y ≡ new_map task number a n Shared Reserve → more ≡ asked Shared Reserve y.start (length y.places) x → g ≡ with_map x y
       → held_now ≡ held + more → first ≡ not (is_among task (tasks_of m)) → tasks_now ≡ tasks + cond first 1 0 → IsCounted held_now (maps + 1) tasks_now (with_file m k g)
   map_left task number a n y more held_now tasks_now first y_is more_is g_is held_is first_is tasks_is =
-      let f : File = file_at m k in
+      let f : File = file_in m k in
       let x_is : x ≡ f = read_is m k x l e in
       let wide : length y.places ≡ n = ap (λ (z : Map). length z.places) y_is ∙ length-replicate n _ in
       let from : y.start ≡ a = ap (λ (z : Map). z.start) y_is in

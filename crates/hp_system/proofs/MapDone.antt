@@ -21,7 +21,8 @@ use Rattle.hp_model.specs.Profile.{most_file_pages, most_map_pages, most_maps, m
 use Rattle.hp_model.specs.Lists.{is_among}
 use Rattle.hp_model.specs.SlotEvent.{are_too_many_maps, file_named, has_name, is_new_task_over, map_file}
 use Rattle.hp_system.specs.Carried.{answered, carried, choosing, IsDone}
-use Rattle.hp_system.specs.Found.{file_at, first_of, map_tests, IsMapRefusal}
+use Rattle.hp_model.specs.Promises.{file_in}
+use Rattle.hp_system.specs.Found.{first_of, map_tests, IsMapRefusal}
 use Rattle.hp_system.proofs.Accesses.{tests_fail, tests_pass}
 use Rattle.hp_system.proofs.Counted.{found_at, found_none}
 
@@ -97,16 +98,16 @@ module _ (size : ℕ) (p : Pool) (m : Mount) (task home a n : ℕ) (name : List 
 
   pub map_nowhere : (k : ℕ) → k ≡ position_or_len (has_name name) m.files → length m.files ≤ k → IsDone size p m event (Err NoSuchFile) m p
   unfolding IsDone
-  map_nowhere k k_is past = (false, ap (after_name false) (found_none (has_name name) m.files (omega (arith, k_is, past))))
+  map_nowhere k k_is past = (false, ap (after_name false) (found_none (has_name name) m.files (new_file None) (omega (arith, k_is, past))))
 
   module _ (k : ℕ) (k_is : k ≡ position_or_len (has_name name) m.files) (within : k < length m.files) where
     abbrev outcome : ℕ → Outcome
-    outcome number = Answered (MapNo number) (Some (with_file m k (mapped task number a n Shared Reserve (file_at m k))))
+    outcome number = Answered (MapNo number) (Some (with_file m k (mapped task number a n Shared Reserve (file_in m k))))
 
     abbrev wants : ℕ
-    wants = asked Shared Reserve a n (file_at m k)
+    wants = asked Shared Reserve a n (file_in m k)
 
-    named : file_named m name ≡ Some (k, file_at m k)
+    named : file_named m name ≡ Some (k, file_in m k)
     named =
         let here : position_or_len (has_name name) m.files < length m.files = omega (arith, k_is, within) in
         found_at (has_name name) m.files (new_file None) here ∙ ap (λ i. Some (i, slice_index_or m.files i (new_file None))) (sym k_is)
@@ -126,10 +127,10 @@ module _ (size : ℕ) (p : Pool) (m : Mount) (task home a n : ℕ) (name : List 
     map_denied other max min pass why = absurd why
 
     pub map_done : (number : ℕ) (t : Mount) (q : Pool) → m.limits.max ≡ None → m.limits.min ≡ 0 → first_of (map_tests m task a n) ≡ None → can_grant wants p ≡ true → number ≡ next_number task m
-        → t ≡ with_file m k (mapped task number a n Shared Reserve (file_at m k)) → q ≡ granted home wants p → (wants ≡ 0 → q ≡ p) → IsDone size p m event (Ok (MapNo number)) t q
+        → t ≡ with_file m k (mapped task number a n Shared Reserve (file_in m k)) → q ≡ granted home wants p → (wants ≡ 0 → q ≡ p) → IsDone size p m event (Ok (MapNo number)) t q
     unfolding IsDone
     map_done number t q max min pass can number_is t_is left none = (
       false,
       passed false pass ∙ ap (λ x. carried p (Some m) (grant (choosing false m) m home wants (outcome x))) (sym number_is)
-          ∙ given m p q home wants (MapNo number) (Some (with_file m k (mapped task number a n Shared Reserve (file_at m k)))) max min can left none ∙ ap (λ x. (Ok (MapNo number), Some x, q)) (sym t_is),
+          ∙ given m p q home wants (MapNo number) (Some (with_file m k (mapped task number a n Shared Reserve (file_in m k)))) max min can left none ∙ ap (λ x. (Ok (MapNo number), Some x, q)) (sym t_is),
     )

@@ -10,15 +10,10 @@ use Rattle.hp_model.specs.declared.cell.Cell.TheVariants.{Present}
 use Rattle.hp_model.specs.Lists.{edit_range}
 use Rattle.hp_model.specs.Mapping.{Map, is_map}
 use Rattle.hp_model.specs.Plan.{Reply}
+use Rattle.hp_model.specs.Promises.{file_in, map_in, no_map}
 use Rattle.hp_model.specs.Profile.{most_bytes, most_file_pages, most_map_pages}
 use Rattle.hp_model.specs.SlotEvent.{is_unmapped, is_beyond, are_too_many_maps}
 use Rattle.hp_model.specs.Spot.{Spot, spot}
-
-abbrev pub no_map : Map
-no_map = record { task = 0; number = 0; start = 0; sharing = Shared; owner = false; unmapped = false; places = [] }
-
-abbrev pub file_at : Mount → ℕ → File
-file_at m k = slice_index_or m.files k (new_file None)
 
 -- whether the file has the task's map of that number
 abbrev pub has_it : (task number : ℕ) → File → Bool
@@ -26,13 +21,13 @@ has_it task number f = list_any (is_map task number) f.maps
 
 -- the map at a place of a file's maps
 abbrev pub spot_at : Mount → (file map : ℕ) → Spot
-spot_at m file map = record { file_no = file; file = file_at m file; map_no = map; map = slice_index_or (file_at m file).maps map no_map }
+spot_at m file map = record { file_no = file; file = file_in m file; map_no = map; map = map_in (file_in m file) map }
 
 -- the task's map of that number is there
 pub record IsFound (m : Mount) (task number file map : ℕ) : Type 0 where
   pub is : spot m (is_map task number) ≡ Some (spot_at m file map)
-  pub file_in : file < length m.files
-  pub map_in : map < length (file_at m file).maps
+  pub file_within : file < length m.files
+  pub map_within : map < length (file_in m file).maps
 
 abbrev pub first_of : List (Bool × Refusal) → Option Refusal
 first_of [] = None
@@ -53,13 +48,13 @@ touched (Err r) = Err r
 
 -- a page at the index, by the entry or by a grant of one
 abbrev pub filled_with : Mount → (file i node : ℕ) → List ℕ → Mount
-filled_with m file i node bytes = with_file m file (with_cell (file_at m file) i (Present (record { node = node; bytes = bytes })))
+filled_with m file i node bytes = with_file m file (with_cell (file_in m file) i (Present (record { node = node; bytes = bytes })))
 
 -- the file has as many indices, and the same maps
 pub record IsTouched (m n : Mount) (file : ℕ) : Type 0 where
   pub files : length n.files ≡ length m.files
-  pub maps : (file_at n file).maps ≡ (file_at m file).maps
-  pub cells : length (file_at n file).cells ≡ length (file_at m file).cells
+  pub maps : (file_in n file).maps ≡ (file_in m file).maps
+  pub cells : length (file_in n file).cells ≡ length (file_in m file).cells
 
 -- why a map is refused, by whether its pages could be granted
 abbrev pub IsMapRefusal : Refusal → (can : Bool) → Type 0

@@ -12,7 +12,8 @@ ghost use Rattle.hp_model.specs.Mapping.{is_map};
 ghost use Rattle.hp_model.specs.SlotEvent.{has_name};
 ghost use Rattle.hp_model.specs.Spot.{cell_written};
 ghost use Rattle.hp_model.specs.Value.{shown};
-ghost use Rattle.hp_system.specs.Found.{no_map, with_map, IsMapRefusal};
+ghost use Rattle.hp_model.specs.Promises.{no_map};
+ghost use Rattle.hp_system.specs.Found.{with_map, IsMapRefusal};
 ghost use Rattle.hp_system.specs.Numbers.{HasNumbers};
 ghost use Rattle.hp_system.specs.States.{IsState};
 

@@ -17,7 +17,8 @@ ghost use Rattle.hp_model.specs.declared.step.Sharing.TheVariants.{Shared};
 ghost use Rattle.hp_model.specs.Access.{shared_access};
 ghost use Rattle.hp_model.specs.Spot.{Spot, spot, cell_written};
 ghost use Rattle.hp_system.specs.Carried.{IsDone, carried, choosing};
-ghost use Rattle.hp_system.specs.Found.{IsFound, has_it, file_at, spot_at, first_of, byte_tests, filled_with, touched, IsTouched};
+ghost use Rattle.hp_model.specs.Promises.{file_in};
+ghost use Rattle.hp_system.specs.Found.{IsFound, has_it, spot_at, first_of, byte_tests, filled_with, touched, IsTouched};
 
 mod access;
 mod making;

@@ -15,7 +15,8 @@ ghost use Rattle.hp_model.specs.declared.step.Sharing.TheVariants.{Shared};
 ghost use Rattle.hp_model.specs.Access.{shared_access};
 ghost use Rattle.hp_model.specs.Spot.{Spot, spot, cell_written};
 ghost use Rattle.hp_system.specs.Carried.{IsDone, carried, choosing};
-ghost use Rattle.hp_system.specs.Found.{IsFound, has_it, file_at, spot_at, first_of, byte_tests, filled_with, touched, IsTouched};
+ghost use Rattle.hp_model.specs.Promises.{file_in};
+ghost use Rattle.hp_system.specs.Found.{IsFound, has_it, spot_at, first_of, byte_tests, filled_with, touched, IsTouched};
 
 use super::Files;
 use crate::file::{File, PageState};
@@ -88,7 +89,7 @@ impl<N: Naming> Files<N> {
     // The file at a place.
     fn file(&self, at: usize) -> &File<N>
         requires { at < length self.now.files }
-        ensures { result.now ≡ file_at self.now at }
+        ensures { result.now ≡ file_in self.now at }
     {
         &self.files[at]
     }
@@ -103,11 +104,11 @@ impl<N: Naming> Files<N> {
         count: u64,
     ) -> Option<Refusal>
         requires file { at.file < length self.now.files }
-        requires map { at.map < length (file_at self.now at.file).maps }
+        requires map { at.map < length (file_in self.now at.file).maps }
         ensures refused { result ≡ first_of (byte_tests page_bytes (spot_at self.now at.file at.map) index offset count) }
         ensures shared { (spot_at self.now at.file at.map).map.sharing ≡ Shared }
         ensures no_copy { copy_of (place_at (spot_at self.now at.file at.map).map index) ≡ None }
-        ensures below { IfNone result (index < length (file_at self.now at.file).cells) }
+        ensures below { IfNone result (index < length (file_in self.now at.file).cells) }
         ensures fits { IfNone result (offset + count ≤ page_bytes) }
         ensures few { IfNone result (count ≤ 256) }
     {
@@ -132,8 +133,8 @@ impl<N: Naming> Files<N> {
     #[tactic(auto, using(crate::proofs::Keeping::some_promise, crate::proofs::Keeping::counted_entry))]
     fn fill_entry(&mut self, pool: &mut Pool<N>, home: usize, file: usize, index: usize)
         requires file { file < length self.old.files }
-        requires below { index < length (file_at self.old file).cells }
-        requires entered { cell_at (file_at self.old file) index ≡ Entered }
+        requires below { index < length (file_in self.old file).cells }
+        requires entered { cell_at (file_in self.old file) index ≡ Entered }
         ensures mount { self.new ≡ filled_with self.old file index (take_node home pool.old) (zeros N.page_bytes) }
         ensures pool { pool.new ≡ page_taken home pool.old }
         ensures settled { IsSettled pool.old → IsSettled pool.new }
@@ -156,8 +157,8 @@ impl<N: Naming> Files<N> {
     ) -> Result<(), Refusal>
         requires settled { IsSettled pool.old }
         requires file { file < length self.old.files }
-        requires below { index < length (file_at self.old file).cells }
-        requires hole { cell_at (file_at self.old file) index ≡ Hole }
+        requires below { index < length (file_in self.old file).cells }
+        requires hole { cell_at (file_in self.old file) index ≡ Hole }
         ensures ok { OnOk result ((self.new ≡ filled_with self.old file index (take_node home (granted home 1 pool.old)) (zeros N.page_bytes)) × (pool.new ≡ page_taken home (granted home 1 pool.old))) }
         ensures granted { IsOk result ↔ IsTrue (can_grant 1 pool.old) }
         ensures err { IfErr result (λ e. (e ≡ Refusal.NoPages) × (self.new ≡ self.old) × (pool.new ≡ pool.old)) }
@@ -181,10 +182,10 @@ impl<N: Naming> Files<N> {
     ) -> Result<(), Refusal>
         requires settled { IsSettled pool.old }
         requires file { file < length self.old.files }
-        requires below { index < length (file_at self.old file).cells }
-        ensures done { (s : Spot) → s.file_no ≡ file → s.file ≡ file_at self.old file → carried pool.old (Some self.old) (shared_access (choosing false self.old) N.page_bytes self.old s home index (cell_at s.file index)) ≡ (touched result, Some self.new, pool.new) }
+        requires below { index < length (file_in self.old file).cells }
+        ensures done { (s : Spot) → s.file_no ≡ file → s.file ≡ file_in self.old file → carried pool.old (Some self.old) (shared_access (choosing false self.old) N.page_bytes self.old s home index (cell_at s.file index)) ≡ (touched result, Some self.new, pool.new) }
         ensures same { IsTouched self.old self.new file }
-        ensures page { OnOk result (has_page (cell_at (file_at self.new file) index) ≡ true) }
+        ensures page { OnOk result (has_page (cell_at (file_in self.new file) index) ≡ true) }
         ensures settled { IsSettled pool.new }
     {
         let _files = &self.files;
@@ -266,10 +267,10 @@ impl<N: Naming> Files<N> {
     #[tactic(auto, using(crate::proofs::Keeping::counted_written))]
     fn write(&mut self, file: usize, index: usize, offset: usize, bytes: &[u8])
         requires file { file < length self.old.files }
-        requires below { index < length (file_at self.old file).cells }
-        requires page { has_page (cell_at (file_at self.old file) index) ≡ true }
+        requires below { index < length (file_in self.old file).cells }
+        requires page { has_page (cell_at (file_in self.old file) index) ≡ true }
         requires fits { offset + length bytes.now ≤ N.page_bytes }
-        ensures { self.new ≡ with_file self.old file (with_cell (file_at self.old file) index (cell_written offset bytes.now (cell_at (file_at self.old file) index))) }
+        ensures { self.new ≡ with_file self.old file (with_cell (file_in self.old file) index (cell_written offset bytes.now (cell_at (file_in self.old file) index))) }
     {
         let at = &mut self.files[file];
         at.write(index, offset, bytes);

@@ -11,7 +11,8 @@ ghost use Rattle.hp_model.specs.MakeMap.{asked, mapped, next_number, numbers_of,
 ghost use Rattle.hp_model.specs.PoolCounts.{IsSettled};
 ghost use Rattle.hp_model.specs.SlotEvent.{has_name};
 ghost use Rattle.hp_system.specs.Carried.{IsDone};
-ghost use Rattle.hp_system.specs.Found.{file_at, first_of, map_tests, IsMapRefusal};
+ghost use Rattle.hp_model.specs.Promises.{file_in};
+ghost use Rattle.hp_system.specs.Found.{first_of, map_tests, IsMapRefusal};
 ghost use Rattle.hp_system.specs.Numbers.{HasNumbers};
 
 use super::Files;
@@ -125,12 +126,12 @@ impl<N: Naming> Files<N> {
         requires reach { range.now.start + range.now.pages ≤ 1048576 }
         requires few { length (maps_of self.old) < 4096 }
         requires first { next.is_first ≡ not (is_among range.now.task (tasks_of self.old)) }
-        ensures ok { OnOk result (self.new ≡ with_file self.old file (mapped range.now.task next.number range.now.start range.now.pages Shared Reserve (file_at self.old file))) }
-        ensures pool { OnOk result (pool.new ≡ granted home (asked Shared Reserve range.now.start range.now.pages (file_at self.old file)) pool.old) }
-        ensures granted { IsOk result → IsTrue (can_grant (asked Shared Reserve range.now.start range.now.pages (file_at self.old file)) pool.old) }
-        ensures why { IfErr result (λ e. IsMapRefusal e (can_grant (asked Shared Reserve range.now.start range.now.pages (file_at self.old file)) pool.old)) }
+        ensures ok { OnOk result (self.new ≡ with_file self.old file (mapped range.now.task next.number range.now.start range.now.pages Shared Reserve (file_in self.old file))) }
+        ensures pool { OnOk result (pool.new ≡ granted home (asked Shared Reserve range.now.start range.now.pages (file_in self.old file)) pool.old) }
+        ensures granted { IsOk result → IsTrue (can_grant (asked Shared Reserve range.now.start range.now.pages (file_in self.old file)) pool.old) }
+        ensures why { IfErr result (λ e. IsMapRefusal e (can_grant (asked Shared Reserve range.now.start range.now.pages (file_in self.old file)) pool.old)) }
         ensures err { OnErr result ((self.new ≡ self.old) × (pool.new ≡ pool.old)) }
-        ensures nothing { asked Shared Reserve range.now.start range.now.pages (file_at self.old file) ≡ 0 → pool.new ≡ pool.old }
+        ensures nothing { asked Shared Reserve range.now.start range.now.pages (file_in self.old file) ≡ 0 → pool.new ≡ pool.old }
         ensures settled { IsSettled pool.new }
     {
         let map = Map::new(range.task, next.number, range.start, range.pages as usize);
