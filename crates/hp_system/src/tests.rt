@@ -3,13 +3,13 @@ ghost use Rattle.std.specs.Prelude.{◌≡◌, ◌≤◌, length};
 
 use crate::System;
 use crate::files::{MapAccess, MapRange};
-use hp_model::answer::{Answer, Counts};
+use hp_model::answer::{Answer, Counts, Reply};
 use hp_model::bytes::Bytes;
 use hp_model::naming::Naming;
 use hp_model::refusal::Refusal;
-use hp_model::step::Step;
+use hp_model::step::{Reserving, Sharing, Step};
 use hp_pool::Blanks;
-use std::alloc::Global;
+use std::alloc::{AllocError, Global};
 use std::marker::Brand;
 use std::process::Abort;
 use std::sync::ledger::Blank;
@@ -182,4 +182,71 @@ fn run<N: Naming, R: Abort>(rt: &R, alloc: Global, blanks: Blanks)
 #[test]
 fn steps(rt: HostRuntime) {
     run::<Brand, HostRuntime>(&rt, rt.alloc(), blanks());
+}
+
+// A step that is refused memory leaves the counts as they were, and then goes through.
+fn tried<N: Naming, R: Abort>(rt: &R, system: &mut System<N>, step: &Step, expected: Reply) {
+    let before = system.meminfo();
+    let mut reply = system.apply(step);
+    if reply == Err(Refusal::OutOfMemory) {
+        assert_eq!(rt; system.meminfo(), before);
+        reply = system.apply(step);
+    }
+    assert_eq!(rt; reply, expected);
+}
+
+fn tries<N: Naming, R: Abort>(rt: &R, alloc: Global, blanks: Blanks) -> Result<(), AllocError>
+    requires permits { (blanks.permits.name ≡ N.permits) × (blanks.permits.parts ≡ 18446744073709551615) }
+    requires zero { (blanks.pages.zero.name ≡ N.pages_0) × (blanks.pages.zero.parts ≡ 18446744073709551615) }
+    requires one { (blanks.pages.one.name ≡ N.pages_1) × (blanks.pages.one.parts ≡ 18446744073709551615) }
+    requires two { (blanks.pages.two.name ≡ N.pages_2) × (blanks.pages.two.parts ≡ 18446744073709551615) }
+    requires three { (blanks.pages.three.name ≡ N.pages_3) × (blanks.pages.three.parts ≡ 18446744073709551615) }
+    requires bytes { N.page_bytes ≡ 1024 }
+{
+    let create = Step::Create {
+        slot: 0,
+        name: Bytes::new(Vec::from_slice(alloc, b"a")?),
+    };
+    let map = Step::Map {
+        task: 1,
+        slot: 0,
+        name: Bytes::new(Vec::from_slice(alloc, b"a")?),
+        from: 0,
+        pages: 3,
+        sharing: Sharing::Shared,
+        reserving: Reserving::Reserve,
+    };
+    let store = Step::Store {
+        task: 1,
+        slot: 0,
+        map: 1,
+        index: 2,
+        offset: 0,
+        bytes: Bytes::new(Vec::from_slice(alloc, &[255])?),
+    };
+    let mut system = System::<N>::new(alloc, &[4, 4], 1024, 2, blanks)?;
+    tried(
+        rt,
+        &mut system,
+        &Step::Connect { task: 1, home: 0 },
+        Ok(Answer::Done),
+    );
+    tried(
+        rt,
+        &mut system,
+        &Step::Nr { pages: 4 },
+        Ok(Answer::Number(4)),
+    );
+    tried(rt, &mut system, &create, Ok(Answer::Done));
+    tried(rt, &mut system, &map, Ok(Answer::MapNo(1)));
+    tried(rt, &mut system, &map, Ok(Answer::MapNo(2)));
+    tried(rt, &mut system, &store, Ok(Answer::Done));
+    assert_eq!(rt; system.close(), all_free(4));
+    Ok(())
+}
+
+// Must also pass where an allocation is refused.
+#[test]
+fn a_refusal_changes_nothing(rt: HostRuntime) {
+    let _tried = tries::<Brand, HostRuntime>(&rt, rt.alloc(), blanks());
 }
