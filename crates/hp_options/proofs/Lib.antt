@@ -1,0 +1,6 @@
+mod Digits
+mod Lasts
+mod Percents
+mod Commas
+pub mod Added
+mod Columns
