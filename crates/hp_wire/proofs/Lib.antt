@@ -2,8 +2,6 @@ pub mod Numbers
 pub mod Pieces
 pub mod LineEnds
 pub mod Keywords
-pub mod Added
-pub mod Columns
 pub mod Known
 pub mod LineCuts
 pub mod Stands

@@ -1,26 +1,10 @@
-//! Text that is added to what waits to be written. Nothing here asks for memory.
+//! Parts of a reply that are added to what waits to be written. Nothing here asks for memory.
 ghost use Rattle.std.specs.Prelude.{◌≡◌, ◌≤◌, ◌*◌, ◌++◌, codes, decimal, length};
 ghost use Rattle.hex.specs.Hex.{encode_lower};
-ghost use Rattle.hp_model.specs.Writing.{spaced, limit_text, in_columns};
-ghost use Rattle.hp_wire.specs.Output.{HasRoom, Adds};
+ghost use Rattle.hp_model.specs.Writing.{spaced, limit_text};
+ghost use Rattle.hp_options.specs.Output.{HasRoom, Adds};
 
-/// Adds bytes.
-pub fn push(out: &mut Vec<u8>, bytes: &[u8])
-    requires { HasRoom out.old (length bytes.now) }
-    ensures { Adds out.old out.new bytes.now }
-{
-    out.extend_from_slice(bytes).unwrap();
-}
-
-/// Adds a number.
-pub fn push_number(out: &mut Vec<u8>, n: u64)
-    requires { HasRoom out.old 20 }
-    ensures adds { Adds out.old out.new (decimal n) }
-    ensures short { length (decimal n) ≤ 20 }
-{
-    let mut digits = itoa::Buffer::new();
-    push(out, digits.format(n).as_bytes());
-}
+use hp_options::output::{push, push_number};
 
 /// Adds numbers with a space before each.
 pub fn push_spaced(out: &mut Vec<u8>, numbers: &[u64])
@@ -52,19 +36,6 @@ pub fn push_limit(out: &mut Vec<u8>, limit: Option<u64>)
         None => push(out, b"-"),
         Some(n) => push_number(out, n),
     }
-}
-
-/// Adds a number right in eight columns, or in as many as it needs.
-pub fn push_columns(out: &mut Vec<u8>, n: u64)
-    requires { HasRoom out.old 28 }
-    ensures adds { Adds out.old out.new (in_columns n) }
-    ensures short { length (in_columns n) ≤ 28 }
-{
-    let mut digits = itoa::Buffer::new();
-    let text = digits.format(n).as_bytes();
-    let blank = [b' '; 8];
-    push(out, &blank[..8usize.saturating_sub(text.len())]);
-    push(out, text);
 }
 
 /// Adds bytes in hex digits, in lower case.

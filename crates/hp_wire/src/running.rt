@@ -9,7 +9,7 @@ ghost use Rattle.hp_wire.specs.Sent.{AppendsFront};
 ghost use Rattle.hp_wire.specs.Answered.{Answered, AnsweredInPart, Gains, Ran, RanInPart};
 ghost use Rattle.hp_wire.specs.Served.{Serves, unended_by, text_of_refusals};
 ghost use Rattle.std.specs.Prelude.{ℕ, List, vec_len, ◌^◌};
-ghost use Rattle.hp_wire.specs.Output.{HasRoom, Adds};
+ghost use Rattle.hp_options.specs.Output.{HasRoom, Adds};
 ghost use Rattle.hp_model.specs.Writing.{line_of};
 
 use crate::ends::{Sink, Source};

@@ -4,12 +4,14 @@ ghost use Rattle.std.specs.List.{All};
 ghost use Rattle.hex.specs.Hex.{encode_lower};
 ghost use Rattle.hp_model.specs.Writing.{newline, number_line, spaced, heading, meminfo_text, rows_text, names_text, answer_text, line_of, HasSmallAnswer, IsWithinLimits};
 ghost use Rattle.hp_model.specs.declared.answer.Answer.TheVariants.{Usage as UsageAnswer};
-ghost use Rattle.hp_wire.specs.Output.{HasRoom, Adds};
+ghost use Rattle.hp_options.specs.Output.{HasRoom, Adds};
 
-use crate::output::{push, push_columns, push_hex, push_limit, push_number, push_spaced};
+use crate::output::{push_hex, push_limit, push_spaced};
 use hp_model::answer::{Answer, Counts, NodeCount, Reply};
 use hp_model::bytes::Bytes;
 use hp_model::refusal::Refusal;
+use hp_options::meminfo::meminfo_text;
+use hp_options::output::{push, push_number};
 
 /// No reply has more bytes: a heading of at most 26, and 1,024 names of 64 bytes with a newline each.
 pub const LONGEST: usize = 66_586;
@@ -164,28 +166,7 @@ fn push_counts(page: u64, counts: Counts, out: &mut Vec<u8>)
     ensures { Adds out.old out.new (heading 6 ++ meminfo_text page counts) }
 {
     push_heading(out, 6);
-    push_meminfo(page, counts, out);
-}
-
-fn push_meminfo(page: u64, counts: Counts, out: &mut Vec<u8>)
-    requires page { page ≤ 2097152 }
-    requires limits { counts.total ≤ 262144 }
-    requires room { HasRoom out.old 384 }
-    ensures { Adds out.old out.new (meminfo_text page counts) }
-{
-    push(out, b"HugePages_Total:");
-    push_columns(out, counts.total);
-    push(out, b"\nHugePages_Free: ");
-    push_columns(out, counts.free);
-    push(out, b"\nHugePages_Rsvd: ");
-    push_columns(out, counts.rsvd);
-    push(out, b"\nHugePages_Surp: ");
-    push_columns(out, counts.surp);
-    push(out, b"\nHugepagesize:   ");
-    push_columns(out, page / 1024);
-    push(out, b" kB\nHugetlb:        ");
-    push_columns(out, counts.total * page / 1024);
-    push(out, b" kB\n");
+    meminfo_text(counts, page, out);
 }
 
 fn push_refusal(refusal: Refusal, out: &mut Vec<u8>)
