@@ -12,5 +12,5 @@ pub mod running;
 pub mod script;
 #[cfg(test)]
 mod tests;
-mod words;
+pub mod words;
 pub mod writing;

@@ -1,5 +1,5 @@
--- A run of the default machine, from the run of a machine that starts as it.
-use Rattle.std.proofs.Common.{◌≡◌, ℕ, List, subst, Option, Some, None, Result, Ok, Err, OnOk, IfErr, IfSome}
+-- A run of a machine, from the run of one that starts as it.
+use Rattle.std.proofs.Common.{◌≡◌, ℕ, List, arith, subst, Option, Some, None, Result, Ok, Err, OnOk, IfErr, IfSome}
 use Rattle.std.specs.Io.KnownBytes.{Appends, Consumes}
 use Rattle.hp_model.specs.Lines.{lines}
 use Rattle.hp_model.specs.Plan.{Reply}
@@ -9,27 +9,39 @@ use Rattle.hp_model.specs.Text.{AnswersLines}
 use Rattle.hp_model.specs.Writing.{text}
 use Rattle.hp_wire.specs.Served.{Serves, IsMemoryOrTooLong}
 use Rattle.hp_wire.specs.declared.fault.RunFault.{RunFault}
-use Rattle.hugetlbd.specs.Program.{default_machine, AnswersScript, Run}
+use Rattle.hugetlbd.specs.Program.{AnswersScript, Run, status_of}
 
 -- the machine ran
-pub run_ended : (s t : State) (r0 r1 w0 w1 : Option (List ℕ)) (result : Result ℕ RunFault) (reads writes : Type 0) → s ≡ default_machine
+pub run_ended : (s t machine : State) (r0 r1 w0 w1 : Option (List ℕ)) (result : Result ℕ RunFault) (reads writes : Type 0) → s ≡ machine
     → (input : List ℕ) × Consumes r0 r1 input × Serves IsPromisedStep s.page_size s t w0 w1 input result
     → (reads → writes → IfErr result IsMemoryOrTooLong)
-    → Run r0 r1 (reads × writes) w0 w1 result
-run_ended s t r0 r1 w0 w1 result reads writes same served never = record {
+    → Run machine r0 r1 (reads × writes) w0 w1 result
+run_ended s t machine r0 r1 w0 w1 result reads writes same served never = record {
   input = served.0;
-  machine = t;
+  then = t;
   consumed = served.1;
   served = subst (λ (u : State). Serves IsPromisedStep u.page_size u t w0 w1 served.0 result) same served.2;
   never = λ h. never h.0 h.1;
 }
 
 -- the machine answered a script that is known
-pub script_answered : (s t : State) (r0 w0 w1 : Option (List ℕ)) (result : Result ℕ RunFault) → s ≡ default_machine
+pub script_answered : (s t machine : State) (r0 w0 w1 : Option (List ℕ)) (result : Result ℕ RunFault) → s ≡ machine
     → IfSome r0 (λ input. OnOk result ((replies : List Reply) × AnswersLines IsPromisedStep s (lines input) replies t × Appends w0 w1 (text s.page_size replies)))
-    → IfSome r0 (λ script. OnOk result (AnswersScript script w0 w1))
-script_answered s t None w0 w1 result same h = tt
-script_answered s t (Some xs) w0 w1 (Err e) same h = tt
-script_answered s t (Some xs) w0 w1 (Ok n) same h =
+    → IfSome r0 (λ script. OnOk result (AnswersScript machine script w0 w1))
+script_answered s t machine None w0 w1 result same h = tt
+script_answered s t machine (Some xs) w0 w1 (Err e) same h = tt
+script_answered s t machine (Some xs) w0 w1 (Ok n) same h =
     let now = subst (λ (u : State). (replies : List Reply) × AnswersLines IsPromisedStep u (lines xs) replies t × Appends w0 w1 (text u.page_size replies)) same h in
     (now.0, t, now.1, now.2)
+
+-- a run that ended well answered the script
+pub answered_well : (machine : State) (r0 w0 w1 : Option (List ℕ)) (ended : Result ℕ RunFault) (status : ℕ) → status ≡ status_of ended
+    → IfSome r0 (λ script. OnOk ended (AnswersScript machine script w0 w1)) → status ≡ 0 → IfSome r0 (λ script. AnswersScript machine script w0 w1)
+answered_well machine None w0 w1 ended status same h zero = tt
+answered_well machine (Some xs) w0 w1 (Ok n) status same h zero = h
+answered_well machine (Some xs) w0 w1 (Err e) status same h zero = absurd (omega (arith, same, zero))
+
+-- and so did a machine that is the same
+pub answered_as : (machine other : State) (r0 w0 w1 : Option (List ℕ)) → machine ≡ other → IfSome r0 (λ script. AnswersScript machine script w0 w1)
+    → IfSome r0 (λ script. AnswersScript other script w0 w1)
+answered_as machine other r0 w0 w1 same h = subst (λ (m : State). IfSome r0 (λ script. AnswersScript m script w0 w1)) same h

@@ -1,8 +1,12 @@
-//! The program: the machine, a script on it, and a status.
-ghost use Rattle.std.specs.Prelude.{◌≡◌, ℕ, List, Result, IfSome, OnOk};
+//! The program: what the words ask for, the machine, a script on it, and a status.
+ghost use Rattle.std.specs.Prelude.{◌≡◌, ◌≤◌, ◌⊎◌, ℕ, Result, map, length, IfSome, OnOk};
 ghost use Rattle.hp_wire.specs.declared.fault.RunFault.{RunFault as TheFault};
-ghost use Rattle.hugetlbd.specs.Program.{AnswersScript, Run, status_of};
+ghost use Rattle.hugetlbd.specs.Asked.{Asks};
+ghost use Rattle.hugetlbd.specs.Config.{Choice, IsWithinLimits, chosen, choice_of, usual};
+ghost use Rattle.hugetlbd.specs.Program.{AnswersScript, Run, IsStatusOfWrong, status_of};
 
+use crate::config::config;
+use crate::settings::{Machine, Wrong};
 use hp_model::naming::Naming;
 use hp_pool::Blanks;
 use hp_system::System;
@@ -10,52 +14,67 @@ use hp_wire::ends::{Sink, Source};
 use hp_wire::fault::RunFault;
 use hp_wire::script::run_script;
 use std::alloc::Global;
+use std::convert::AsStr;
 use std::io::Write;
 use std::marker::Brand;
 use std::sync::ledger::Blank;
 
-/// The frames of each node.
-const FRAMES: [u64; 2] = [4, 4];
-
-/// The bytes of a page.
-const PAGE_BYTES: usize = 1024;
-
-/// How many slots there are; the first is mounted.
-const SLOTS: u64 = 4;
-
-/// Answers the script on `input` by the default machine, and gives the status that the process ends with: 0, or 1 with
-/// the reason on `faults`.
-pub fn program<R: Source, W: Sink, E: Write>(
+/// Does what the words ask for, of which the first is the program's name, and gives the status that the process ends
+/// with.
+///
+/// A script on `input` is answered on `output` by the machine of the words: 0, or 1 with the reason on `faults`. Help
+/// is written to `output`, with 0. A wrong command line is named on `faults`, with 2.
+pub fn program<'a, S: AsStr, R: Source, W: Sink, E: Write>(
     alloc: Global,
+    words: &'a [S],
     input: &mut R,
     output: &mut W,
     faults: &mut E,
 ) -> u8
-    ensures ended { (ended : Result ℕ TheFault) × (result ≡ status_of ended)
-        × Run (R.remaining input.old) (R.remaining input.new) (R.is_sure input.old × W.is_sure output.old) (W.contents output.old) (W.contents output.new) ended }
-    ensures script { result ≡ 0 → IfSome (R.remaining input.old) (λ script. AnswersScript script (W.contents output.old) (W.contents output.new)) }
+    ensures ended { ((c : Choice) × Asks (map S.text words.entry.now) c × IsWithinLimits c × (ended : Result ℕ TheFault) × (result ≡ status_of ended)
+        × Run (chosen c) (R.remaining input.old) (R.remaining input.new) (R.is_sure input.old × W.is_sure output.old) (W.contents output.old) (W.contents output.new) ended)
+        ⊎ (input.new ≡ input.old) }
+    ensures script { result ≡ 0 → (input.new ≡ input.old) ⊎ ((c : Choice) × Asks (map S.text words.entry.now) c
+        × IfSome (R.remaining input.old) (λ script. AnswersScript (chosen c) script (W.contents output.old) (W.contents output.new))) }
+    ensures usual { length words.entry.now ≤ 1 → result ≡ 0 → (input.new ≡ input.old)
+        ⊎ IfSome (R.remaining input.old) (λ script. AnswersScript (chosen usual) script (W.contents output.old) (W.contents output.new)) }
 {
-    let ended = run_machine::<Brand, R, W>(alloc, blanks(), input, output);
-    report(ended, faults)
+    match config(alloc, words) {
+        Ok(config) => {
+            let machine = config.machine();
+            let ended = run_machine::<Brand, R, W>(alloc, &machine, blanks(), input, output);
+            report(ended, faults)
+        }
+        Err(wrong) => refuse(&wrong, output, faults),
+    }
 }
 
 // Makes the machine, runs the script on it and closes it.
 fn run_machine<N: Naming, R: Source, W: Sink>(
     alloc: Global,
+    config: &Machine,
     blanks: Blanks,
     input: &mut R,
     output: &mut W,
 ) -> Result<u64, RunFault>
-    requires bytes { N.page_bytes ≡ 1024 }
+    requires limits { IsWithinLimits (choice_of config.now) }
+    requires bytes { N.page_bytes ≡ config.now.page }
     requires permits { (blanks.permits.name ≡ N.permits) × (blanks.permits.parts ≡ 18446744073709551615) }
     requires zero { (blanks.pages.zero.name ≡ N.pages_0) × (blanks.pages.zero.parts ≡ 18446744073709551615) }
     requires one { (blanks.pages.one.name ≡ N.pages_1) × (blanks.pages.one.parts ≡ 18446744073709551615) }
     requires two { (blanks.pages.two.name ≡ N.pages_2) × (blanks.pages.two.parts ≡ 18446744073709551615) }
     requires three { (blanks.pages.three.name ≡ N.pages_3) × (blanks.pages.three.parts ≡ 18446744073709551615) }
-    ensures run { Run (R.remaining input.old) (R.remaining input.new) (R.is_sure input.old × W.is_sure output.old) (W.contents output.old) (W.contents output.new) result }
-    ensures script { IfSome (R.remaining input.old) (λ script. OnOk result (AnswersScript script (W.contents output.old) (W.contents output.new))) }
+    ensures run { Run (chosen (choice_of config.now)) (R.remaining input.old) (R.remaining input.new) (R.is_sure input.old × W.is_sure output.old) (W.contents output.old) (W.contents output.new) result }
+    ensures script { IfSome (R.remaining input.old) (λ script. OnOk result (AnswersScript (chosen (choice_of config.now)) script (W.contents output.old) (W.contents output.new))) }
 {
-    let Ok(mut machine) = System::<N>::new(alloc, &FRAMES, PAGE_BYTES, SLOTS, blanks) else {
+    let frames = config.frames.as_slice();
+    let Ok(mut machine) = System::<N>::new(
+        alloc,
+        frames,
+        config.page as usize,
+        config.slots,
+        blanks,
+    ) else {
         return Err(RunFault::Memory);
     };
     let ended = run_script(alloc, input, output, &mut machine);
@@ -91,6 +110,32 @@ pub fn report<E: Write>(ended: Result<u64, RunFault>, faults: &mut E) -> u8
         Err(fault) => {
             let _ = writeln!(faults, "hugetlbd: {fault}");
             1
+        }
+    }
+}
+
+/// Says why the words give no configuration, and gives the status. Help goes to `output`, and anything else to `faults`;
+/// where `faults` fails, the status alone tells.
+pub fn refuse<W: Write, E: Write>(wrong: &Wrong, output: &mut W, faults: &mut E) -> u8
+    ensures { IsStatusOfWrong wrong.now result }
+{
+    match wrong {
+        Wrong::Memory => report(Err(RunFault::Memory), faults),
+        Wrong::Parse(error) if error.use_stderr() => {
+            let _ = write!(faults, "{error}");
+            2
+        }
+        Wrong::Parse(help) => match write!(output, "{help}") {
+            Ok(()) => 0,
+            Err(_) => report(Err(RunFault::Write), faults),
+        },
+        Wrong::BadValue(name) => {
+            let _ = writeln!(faults, "hugetlbd: bad value for --{name}");
+            2
+        }
+        Wrong::OptionFirst => {
+            let _ = writeln!(faults, "hugetlbd: option before subcommand");
+            2
         }
     }
 }

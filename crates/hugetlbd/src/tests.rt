@@ -2,6 +2,7 @@
 
 mod ends;
 mod rows;
+mod words;
 
 use crate::program::{program, report};
 use ends::{Closed, Cut, Endless};
@@ -12,12 +13,15 @@ use std::alloc::Global;
 use std::process::Abort;
 use std::test::Fail;
 
+// No word but the program's name.
+const WORDS: &[&str] = &["hugetlbd"];
+
 // The text of the replies to a script, at status 0 and with nothing said of faults.
 fn replies_to<R: Abort>(rt: &R, alloc: Global, script: &[u8]) -> Result<Vec<u8>, Fail> {
     let mut rest = script;
     let mut text = Vec::new(alloc);
     let mut faults = Vec::new(alloc);
-    let status = program(alloc, &mut rest, &mut text, &mut faults);
+    let status = program(alloc, WORDS, &mut rest, &mut text, &mut faults);
     assert_eq!(rt; status, 0);
     assert!(rt; faults.is_empty());
     Ok(text)
@@ -120,7 +124,7 @@ fn a_failed_read_is_status_1(rt: HostRuntime) -> Result<(), Fail> {
     };
     let mut text = Vec::new(alloc);
     let mut faults = Vec::new(alloc);
-    let status = program(alloc, &mut input, &mut text, &mut faults);
+    let status = program(alloc, WORDS, &mut input, &mut text, &mut faults);
     assert_eq!(rt; status, 1);
     assert_eq!(rt; text.as_slice(), b"ok 4\nok\n".as_slice());
     assert_eq!(rt; faults.as_slice(), b"hugetlbd: read failed\n".as_slice());
@@ -132,7 +136,7 @@ fn a_failed_write_is_status_1(rt: HostRuntime) -> Result<(), Fail> {
     let alloc = rt.alloc();
     let mut input = b"nr 4\nconnect 1 0\n".as_slice();
     let mut faults = Vec::new(alloc);
-    let status = program(alloc, &mut input, &mut Outside(Closed), &mut faults);
+    let status = program(alloc, WORDS, &mut input, &mut Outside(Closed), &mut faults);
     assert_eq!(rt; status, 1);
     assert_eq!(rt; faults.as_slice(), b"hugetlbd: write failed\n".as_slice());
     Ok(())
@@ -144,7 +148,7 @@ fn a_long_input_is_status_1(rt: HostRuntime) -> Result<(), Fail> {
     let alloc = rt.alloc();
     let mut text = Vec::new(alloc);
     let mut faults = Vec::new(alloc);
-    let status = program(alloc, &mut Endless, &mut text, &mut faults);
+    let status = program(alloc, WORDS, &mut Endless, &mut text, &mut faults);
     assert_eq!(rt; status, 1);
     assert!(rt; text.is_empty());
     assert_eq!(rt; faults.as_slice(), b"hugetlbd: input too long\n".as_slice());

@@ -7,5 +7,5 @@ ghosts-run_machine g a = record {
   pages_1 = a.blanks.pages.one.name;
   pages_2 = a.blanks.pages.two.name;
   pages_3 = a.blanks.pages.three.name;
-  page_bytes = 1024;
+  page_bytes = a.config.now.page;
 }

@@ -1,0 +1,39 @@
+-- What a configuration holds, and its limits.
+use Rattle.std.specs.Prelude.{◌≤◌, ℕ, List, [], ◌∷◌, IsTrue, All, length}
+use Rattle.std.specs.Int.{is_power_of_two}
+use Rattle.hp_model.specs.Machine.{start}
+use Rattle.hp_model.specs.State.{State}
+use Rattle.hugetlbd.specs.declared.settings.Config.{Config}
+use Rattle.hugetlbd.specs.declared.settings.Config.TheVariants.{Script}
+use Rattle.hugetlbd.specs.declared.settings.Machine.{Machine}
+
+-- what a machine starts from
+pub record Choice : Type 0 where
+  pub frames : List ℕ
+  pub page : ℕ
+  pub slots : ℕ
+
+-- the machine at its start
+abbrev pub chosen : Choice → State
+chosen c = start c.frames c.page c.slots
+
+-- two nodes of 4 frames, pages of 1,024 bytes, 4 slots
+abbrev pub usual : Choice
+usual = record { frames = 4 ∷ 4 ∷ []; page = 1024; slots = 4 }
+
+abbrev pub choice_of : Machine → Choice
+choice_of m = record { frames = m.frames.items; page = m.page; slots = m.slots }
+
+abbrev pub choice_in : Config → Choice
+choice_in (Script m) = choice_of m
+
+-- 1 to 4 nodes of 1 to 65,536 frames, pages of 1,024 to 2,097,152 bytes, a power of two, and 1 to 64 slots
+pub record IsWithinLimits (c : Choice) : Type 0 where
+  pub some : 1 ≤ length c.frames
+  pub few : length c.frames ≤ 4
+  pub frames : All (λ f. (1 ≤ f) × (f ≤ 65536)) c.frames
+  pub page_low : 1024 ≤ c.page
+  pub page_high : c.page ≤ 2097152
+  pub page_power : IsTrue (is_power_of_two c.page)
+  pub slots_low : 1 ≤ c.slots
+  pub slots_high : c.slots ≤ 64

@@ -1,0 +1,164 @@
+//! The command line.
+ghost use Rattle.std.specs.Prelude.{◌≡◌, ◌≤◌, ◌∷◌, [], false, length, map, option_map, All, IfOk, MatchOption, Ok};
+ghost use Rattle.std.specs.Option.{option_map_or};
+ghost use Rattle.clap.specs.Words.{app_of, found_of, first_of, rows_of, rule_of};
+ghost use Rattle.hp_model.specs.Words.{number_of};
+ghost use Rattle.hugetlbd.specs.Asked.{Asks, Sets, hugetlbd, option, has_options, pieces};
+ghost use Rattle.hugetlbd.specs.Config.{IsWithinLimits, choice_in, choice_of};
+
+use crate::settings::{Config, Machine, Wrong};
+use clap::error::ErrorKind;
+use clap::{Arg, ArgAction, ArgMatches, Command, Error};
+use hp_wire::words::{number_of, place_of};
+use std::alloc::{AllocError, Global};
+use std::convert::AsStr;
+
+/// What the words ask for. The first word is the program's name.
+///
+/// Refused, by the first of these that holds:
+/// - `Parse`: `clap` refuses the words, or they ask for help.
+/// - `OptionFirst`: an option stands before the subcommand.
+/// - `BadValue`: an option has a value that it can't have, the first in the order frames, page, slots.
+/// - `Memory`: memory was refused. This one may stand in place of any answer.
+pub fn config<'a, S: AsStr>(alloc: Global, words: &'a [S]) -> Result<Config, Wrong>
+    ensures limits { IfOk result (λ c. IsWithinLimits (choice_in c)) }
+    ensures asked { IfOk result (λ c. Asks (map S.text words.entry.now) (choice_in c)) }
+{
+    let matches = match command(alloc)?.try_get_matches_from(words) {
+        Ok(matches) => matches,
+        Err(error) => return Err(wrong_of(error)),
+    };
+    match matches.subcommand() {
+        None => Ok(Config::Script(machine_of(alloc, &matches)?)),
+        Some(_) if has_option(&matches) => Err(Wrong::OptionFirst),
+        Some((_, inner)) => Ok(Config::Script(machine_of(alloc, inner)?)),
+    }
+}
+
+fn wrong_of(error: Error) -> Wrong {
+    if error.kind() == ErrorKind::OutOfMemory {
+        Wrong::Memory
+    } else {
+        Wrong::Parse(error)
+    }
+}
+
+// The program's options, and its subcommand with the same options.
+fn command<'a>(alloc: Global) -> Result<Command<'a>, AllocError>
+    ensures { IfOk result (λ c. app_of c ≡ hugetlbd) }
+{
+    let script = Command::new(alloc, "script")
+        .arg(option(alloc, "frames"))?
+        .arg(option(alloc, "page"))?
+        .arg(option(alloc, "slots"))?;
+    Command::new(alloc, "hugetlbd")
+        .arg(option(alloc, "frames"))?
+        .arg(option(alloc, "page"))?
+        .arg(option(alloc, "slots"))?
+        .subcommand(script)
+}
+
+fn option<'a>(alloc: Global, name: &'a str) -> Arg<'a>
+    ensures rule { rule_of result ≡ option name.entry.now }
+    ensures local { result.global ≡ false }
+{
+    Arg::new(alloc, name).long(name).action(ArgAction::Set)
+}
+
+// The text that the words give for an option.
+fn text_of<'a>(matches: &ArgMatches<'a>, name: &str) -> Option<&'a str>
+    ensures { option_map (λ s. s.now) result ≡ first_of name.now (rows_of (found_of matches.now)) }
+{
+    matches.get_str(name)
+}
+
+fn has_option(matches: &ArgMatches<'_>) -> bool
+    ensures { result ≡ has_options (rows_of (found_of matches.now)) }
+{
+    text_of(matches, "frames").is_some()
+        || text_of(matches, "page").is_some()
+        || text_of(matches, "slots").is_some()
+}
+
+fn machine_of(alloc: Global, matches: &ArgMatches<'_>) -> Result<Machine, Wrong>
+    ensures limits { IfOk result (λ m. IsWithinLimits (choice_of m)) }
+    ensures sets { IfOk result (λ m. Sets (rows_of (found_of matches.now)) (choice_of m)) }
+{
+    let frames = match text_of(matches, "frames") {
+        None => two_nodes(alloc)?,
+        Some(text) => frames_of(alloc, text.as_bytes())?,
+    };
+    let page = number_or(text_of(matches, "page"), "page", 1024, 1024, 2_097_152)?;
+    if !page.is_power_of_two() {
+        return Err(Wrong::BadValue("page"));
+    }
+    let slots = number_or(text_of(matches, "slots"), "slots", 4, 1, 64)?;
+    Ok(Machine {
+        frames,
+        page,
+        slots,
+    })
+}
+
+// Two nodes of 4 frames.
+fn two_nodes(alloc: Global) -> Result<Vec<u64>, AllocError>
+    ensures frames { IfOk result (λ v. v.items ≡ 4 ∷ 4 ∷ []) }
+{
+    let mut frames = Vec::new(alloc);
+    frames.push(4)?;
+    frames.push(4)?;
+    Ok(frames)
+}
+
+// The frames of 1 to 4 nodes, with one comma between two.
+#[tactic(auto, using(crate::proofs::Frames::frame_read, crate::proofs::Frames::last_frame_read))]
+fn frames_of(alloc: Global, text: &[u8]) -> Result<Vec<u64>, Wrong>
+    ensures reads { IfOk result (λ v. map number_of (pieces text.now) ≡ map Ok v.items) }
+    ensures limits { IfOk result (λ v. (1 ≤ length v.items) × (length v.items ≤ 4) × All (λ f. (1 ≤ f) × (f ≤ 65536)) v.items) }
+{
+    let mut frames = Vec::new(alloc);
+    let mut rest = text;
+    for _ in 0..4usize {
+        let (piece, more) = first_piece(rest);
+        match number_of(piece) {
+            Ok(n) if 1 <= n && n <= 65_536 => frames.push(n)?,
+            _ => return Err(Wrong::BadValue("frames")),
+        }
+        match more {
+            Some(more) => rest = more,
+            None => return Ok(frames),
+        }
+    }
+    Err(Wrong::BadValue("frames"))
+}
+
+// What stands before the first comma, and what stands after it.
+fn first_piece(text: &[u8]) -> (&[u8], Option<&[u8]>)
+    ensures { pieces text.now ≡ result.0.now ∷ option_map_or (λ rest. pieces rest.now) result.1 [] }
+{
+    match place_of(b',', text) {
+        None => (text, None),
+        Some(at) => (&text[..at], Some(&text[at + 1..])),
+    }
+}
+
+// The option's number, which lies between the bounds, or the number where it isn't given.
+fn number_or(
+    text: Option<&str>,
+    name: &'static str,
+    none: u64,
+    low: u64,
+    high: u64,
+) -> Result<u64, Wrong>
+    requires { (low ≤ none) × (none ≤ high) }
+    ensures bounds { IfOk result (λ n. (low ≤ n) × (n ≤ high)) }
+    ensures reads { IfOk result (λ n. MatchOption text.entry (n ≡ none) (λ text. number_of text.now ≡ Ok n)) }
+{
+    let Some(text) = text else {
+        return Ok(none);
+    };
+    match number_of(text.as_bytes()) {
+        Ok(n) if low <= n && n <= high => Ok(n),
+        _ => Err(Wrong::BadValue(name)),
+    }
+}
