@@ -8,9 +8,6 @@ use std::alloc::Global;
 use std::process::Abort;
 use std::test::Fail;
 
-const HELP: &[u8] =
-    b"Usage: hugetlbd [OPTIONS] [COMMAND]\n\nCommands:\n  script\n  help    Print this message or the help of the given subcommand(s)\n\nOptions:\n      --frames <frames>\n      --page <page>\n      --slots <slots>\n  -h, --help             Print help\n";
-
 // Runs the program on these words and no script, and compares the status and what it wrote.
 fn says<R: Abort>(
     rt: &R,
@@ -121,10 +118,15 @@ fn the_first_fault_is_named(rt: HostRuntime) -> Result<(), Fail> {
 
 #[test]
 fn help_is_no_fault(rt: HostRuntime) -> Result<(), Fail> {
-    says(&rt, rt.alloc(), &["hugetlbd", "--help"], 0, HELP, b"")?;
-    let mut faults = Vec::new(rt.alloc());
-    let mut rest = b"".as_slice();
     let words = ["hugetlbd", "--help"].as_slice();
+    let mut rest = b"nr 4\n".as_slice();
+    let mut text = Vec::new(rt.alloc());
+    let mut faults = Vec::new(rt.alloc());
+    let status = program(rt.alloc(), words, &mut rest, &mut text, &mut faults);
+    assert_eq!(rt; status, 0);
+    assert!(rt; text.starts_with(b"Usage: hugetlbd [OPTIONS] [COMMAND]\n"));
+    assert!(rt; text.ends_with(b"Print help\n"));
+    assert!(rt; faults.is_empty());
     let status = program(
         rt.alloc(),
         words,
