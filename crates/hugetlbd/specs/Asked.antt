@@ -1,12 +1,18 @@
 -- What the words of a command line ask for. The first word is the program's name.
-use Rattle.std.specs.Prelude.{◌≡◌, ◌==◌, ◌||◌, Bool, false, is_some, List, [], map, option_map, Option, Some, None, MatchOption, Ok, codes}
+use Rattle.std.specs.Prelude.{◌≡◌, ◌≢◌, ◌==◌, ◌||◌, Bool, false, is_some, List, [], map, option_map, Option, Some, None, MatchOption, Ok, codes}
 use Rattle.std.specs.List.{slice_split}
 use Rattle.clap.specs.Walk.{Row, Rule, Text, first_of}
 use Rattle.clap.specs.Simple.{App, new_app, new_rule, with_rule, with_subcommand, matches_of, subcommand_of}
 use Rattle.clap.specs.Faults.{fault_of}
+use Rattle.clap.specs.Takes.{takes}
+use Rattle.clap.specs.Values.{kind_of}
+use Rattle.clap.specs.declared.error.kind.ErrorKind.TheVariants.{OutOfMemory}
+use Rattle.clap.specs.declared.error.Error.{Error}
 use Rattle.clap.specs.declared.builder.action.ArgAction.TheVariants.{Set}
 use Rattle.hp_model.specs.Words.{number_of}
 use Rattle.hugetlbd.specs.Config.{Choice, usual}
+use Rattle.hugetlbd.specs.declared.settings.Wrong.{Wrong}
+use Rattle.hugetlbd.specs.declared.settings.Wrong.TheVariants.{Memory, Parse}
 
 -- ---- the command line, as clap reads it
 
@@ -49,3 +55,19 @@ SetsAt (Some inner) top c = (has_options top ≡ false) × Sets inner c
 pub record Asks (words : List Text) (c : Choice) : Type 0 where
   pub faultless : fault_of hugetlbd words ≡ []
   pub sets : SetsAt (option_map (λ p. p.1) (subcommand_of hugetlbd words)) (matches_of hugetlbd words) c
+
+-- clap refuses the words only where they are no right command line, or ask for help
+abbrev pub IsRefusedFor : List Text → Wrong → Type 0
+IsRefusedFor words (Parse error) = takes hugetlbd words ≡ false
+IsRefusedFor words other = Unit {0}
+
+-- a fault of a value, and none of clap's
+abbrev pub IsOfValues : Wrong → Type 0
+IsOfValues (Parse error) = ⊥
+IsOfValues other = Unit {0}
+
+-- why clap's refusal is passed on
+abbrev pub IsWrongOf : Error → Wrong → Type 0
+IsWrongOf error (Parse passed) = (passed ≡ error) × (kind_of error ≢ OutOfMemory)
+IsWrongOf error Memory = kind_of error ≡ OutOfMemory
+IsWrongOf error other = ⊥

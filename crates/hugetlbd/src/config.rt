@@ -1,9 +1,9 @@
 //! The command line.
-ghost use Rattle.std.specs.Prelude.{◌≡◌, ◌≤◌, ◌∷◌, [], false, length, map, option_map, All, IfOk, MatchOption, Ok};
+ghost use Rattle.std.specs.Prelude.{◌≡◌, ◌≤◌, ◌∷◌, [], false, length, map, option_map, All, IfErr, IfOk, MatchOption, Ok};
 ghost use Rattle.std.specs.Option.{option_map_or};
 ghost use Rattle.clap.specs.Words.{app_of, found_of, first_of, rows_of, rule_of};
 ghost use Rattle.hp_model.specs.Words.{number_of};
-ghost use Rattle.hugetlbd.specs.Asked.{Asks, Sets, hugetlbd, option, has_options, pieces};
+ghost use Rattle.hugetlbd.specs.Asked.{Asks, IsOfValues, IsRefusedFor, IsWrongOf, Sets, hugetlbd, option, has_options, pieces};
 ghost use Rattle.hugetlbd.specs.Config.{IsWithinLimits, choice_in, choice_of};
 
 use crate::settings::{Config, Machine, Wrong};
@@ -23,6 +23,7 @@ use std::convert::AsStr;
 pub fn config<'a, S: AsStr>(alloc: Global, words: &'a [S]) -> Result<Config, Wrong>
     ensures limits { IfOk result (λ c. IsWithinLimits (choice_in c)) }
     ensures asked { IfOk result (λ c. Asks (map S.text words.entry.now) (choice_in c)) }
+    ensures refused { IfErr result (IsRefusedFor (map S.text words.entry.now)) }
 {
     let matches = match command(alloc)?.try_get_matches_from(words) {
         Ok(matches) => matches,
@@ -35,7 +36,9 @@ pub fn config<'a, S: AsStr>(alloc: Global, words: &'a [S]) -> Result<Config, Wro
     }
 }
 
-fn wrong_of(error: Error) -> Wrong {
+fn wrong_of(error: Error) -> Wrong
+    ensures { IsWrongOf error result }
+{
     if error.kind() == ErrorKind::OutOfMemory {
         Wrong::Memory
     } else {
@@ -83,6 +86,7 @@ fn has_option(matches: &ArgMatches<'_>) -> bool
 fn machine_of(alloc: Global, matches: &ArgMatches<'_>) -> Result<Machine, Wrong>
     ensures limits { IfOk result (λ m. IsWithinLimits (choice_of m)) }
     ensures sets { IfOk result (λ m. Sets (rows_of (found_of matches.now)) (choice_of m)) }
+    ensures wrong { IfErr result IsOfValues }
 {
     let frames = match text_of(matches, "frames") {
         None => two_nodes(alloc)?,
@@ -115,6 +119,7 @@ fn two_nodes(alloc: Global) -> Result<Vec<u64>, AllocError>
 fn frames_of(alloc: Global, text: &[u8]) -> Result<Vec<u64>, Wrong>
     ensures reads { IfOk result (λ v. map number_of (pieces text.now) ≡ map Ok v.items) }
     ensures limits { IfOk result (λ v. (1 ≤ length v.items) × (length v.items ≤ 4) × All (λ f. (1 ≤ f) × (f ≤ 65536)) v.items) }
+    ensures wrong { IfErr result IsOfValues }
 {
     let mut frames = Vec::new(alloc);
     let mut rest = text;
@@ -152,6 +157,7 @@ fn number_or(
 ) -> Result<u64, Wrong>
     requires { (low ≤ none) × (none ≤ high) }
     ensures bounds { IfOk result (λ n. (low ≤ n) × (n ≤ high)) }
+    ensures wrong { IfErr result IsOfValues }
     ensures reads { IfOk result (λ n. MatchOption text.entry (n ≡ none) (λ text. number_of text.now ≡ Ok n)) }
 {
     let Some(text) = text else {

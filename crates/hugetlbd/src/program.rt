@@ -1,7 +1,8 @@
 //! The program: what the words ask for, the machine, a script on it, and a status.
-ghost use Rattle.std.specs.Prelude.{◌≡◌, ◌≤◌, ◌⊎◌, ℕ, Result, map, length, IfSome, OnOk};
+ghost use Rattle.std.specs.Prelude.{◌≡◌, ◌≤◌, ◌⊎◌, ℕ, Result, false, map, length, IfSome, OnOk};
+ghost use Rattle.clap.specs.Takes.{takes};
 ghost use Rattle.hp_wire.specs.declared.fault.RunFault.{RunFault as TheFault};
-ghost use Rattle.hugetlbd.specs.Asked.{Asks};
+ghost use Rattle.hugetlbd.specs.Asked.{Asks, hugetlbd};
 ghost use Rattle.hugetlbd.specs.Config.{Choice, IsWithinLimits, chosen, choice_of, usual};
 ghost use Rattle.hugetlbd.specs.Program.{AnswersScript, Run, IsStatusOfWrong, status_of};
 
@@ -33,11 +34,11 @@ pub fn program<'a, S: AsStr, R: Source, W: Sink, E: Write>(
 ) -> u8
     ensures ended { ((c : Choice) × Asks (map S.text words.entry.now) c × IsWithinLimits c × (ended : Result ℕ TheFault) × (result ≡ status_of ended)
         × Run (chosen c) (R.remaining input.old) (R.remaining input.new) (R.is_sure input.old × W.is_sure output.old) (W.contents output.old) (W.contents output.new) ended)
-        ⊎ (input.new ≡ input.old) }
-    ensures script { result ≡ 0 → (input.new ≡ input.old) ⊎ ((c : Choice) × Asks (map S.text words.entry.now) c
+        ⊎ ((input.new ≡ input.old) × (result ≡ 0 → takes hugetlbd (map S.text words.entry.now) ≡ false)) }
+    ensures script { result ≡ 0 → ((input.new ≡ input.old) × (takes hugetlbd (map S.text words.entry.now) ≡ false)) ⊎ ((c : Choice) × Asks (map S.text words.entry.now) c
         × IfSome (R.remaining input.old) (λ script. AnswersScript (chosen c) script (W.contents output.old) (W.contents output.new))) }
-    ensures usual { length words.entry.now ≤ 1 → result ≡ 0 → (input.new ≡ input.old)
-        ⊎ IfSome (R.remaining input.old) (λ script. AnswersScript (chosen usual) script (W.contents output.old) (W.contents output.new)) }
+    ensures usual { length words.entry.now ≤ 1 → result ≡ 0
+        → IfSome (R.remaining input.old) (λ script. AnswersScript (chosen usual) script (W.contents output.old) (W.contents output.new)) }
 {
     match config(alloc, words) {
         Ok(config) => {
