@@ -75,8 +75,7 @@ impl<N: Naming> Subpool<N> {
         ensures nothing { rise self.old k ≡ 0 → pool.new ≡ pool.old }
         ensures settled { IsSettled pool.new }
     {
-        let used = self.used();
-        if k > 0 && self.is_past(used + k) {
+        if self.is_full(k) {
             return Err(Refusal::MountFull);
         }
         let own = k.min(self.own.amount());
@@ -85,6 +84,14 @@ impl<N: Naming> Subpool<N> {
         let kept = self.own.split(own);
         self.held.join(kept);
         Ok(())
+    }
+
+    /// Whether k pages more are past the limit. None more never are (profile).
+    pub fn is_full(&self, k: u64) -> bool
+        requires { used self.now + k < 2 ^ 64 }
+        ensures { result ≡ is_full self.now k }
+    {
+        k > 0 && self.is_past(self.used() + k)
     }
 
     // Whether so many pages are more than the limit.
@@ -140,6 +147,20 @@ impl<N: Naming> Subpool<N> {
         let kept = part.split(own - self.own.amount());
         self.own.join(kept);
         pool.release(part);
+    }
+
+    /// The most pages, where there is a limit.
+    pub fn max(&self) -> Option<u64>
+        ensures { result ≡ self.now.max }
+    {
+        self.max
+    }
+
+    /// The pages that stay committed.
+    pub fn min(&self) -> u64
+        ensures { result ≡ self.now.min }
+    {
+        self.min
     }
 
     /// The pages in use and the reservations.

@@ -1,0 +1,7 @@
+mod Accesses
+mod Cells
+mod Counted
+mod Keeping
+mod Making
+mod MapDone
+mod Used

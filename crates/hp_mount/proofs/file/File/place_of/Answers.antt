@@ -1,0 +1,14 @@
+use Rattle.std.proofs.Common.{◌∙◌, ap, length, rules, tests}
+use Rattle.std.specs.Prelude.{unwrap_or}
+use Rattle.std.proofs.lemmas.Iterator.{YieldsList-from_slice}
+use Rattle.std.proofs.lemmas.Iterator.Search.{position_from_yields_List}
+use Rattle.hp_model.specs.Mapping.{is_map}
+use Rattle.hp_mount.proofs.Counted.{found_or_len, position_le}
+use Rattle.hp_mount.proofs.file.File.place_of.Goals as goal
+
+pub returns : goal.returns
+returns g c =
+    let maps = c.self.inside.maps.items in
+    let test = is_map c.args.task c.args.number in
+    let found = position_from_yields_List test _ _ c.position.result c.position.ensures.ran (YieldsList-from_slice maps (c.iter.ensures.rest ∙ c.as_slice-maps.ensures.value)) (λ x b q k. search (rules, tests)) in
+    rw (← c.self.view_is) (c.unwrap_or.ensures ∙ ap (λ n. unwrap_or c.position.result n) (ap length c.as_slice-maps.ensures.value) ∙ (ap (λ o. unwrap_or o (length maps)) found ∙ found_or_len _ _ (position_le test maps)))
