@@ -159,6 +159,12 @@ module _ (sub : Subpool) (maps tasks : ℕ) (m : Mount) (c : IsCounted sub maps 
   pub rise_is : (k : ℕ) → share.rise sub k ≡ rise m k
   rise_is k = (let used = used_is in let min = c.min in omega (arith, used, min))
 
+-- ---- a share with the same limits
+
+pub limits_as : (sub new : Subpool) (inodes : Option ℕ) (files : List File) → new.max ≡ sub.max → new.min ≡ sub.min → mount_of sub inodes files ≡ mount_of new inodes files
+limits_as sub new inodes files max min =
+    ap (λ x. record { limits = record { max = x; min = sub.min; inodes = inodes }; files = files }) (sym max) ∙ ap (λ x. record { limits = record { max = new.max; min = x; inodes = inodes }; files = files }) (sym min)
+
 -- ---- as code changes a file that it has read: x is what it read, and g what it leaves there
 
 pub read_is : (m : Mount) (k : ℕ) (x : File) → k < length m.files → x ≡ slice_index_or m.files k x → x ≡ file_in m k

@@ -219,7 +219,7 @@ none_copied (suc n) = none_copied n
 mapped_copies : (task number a n : ℕ) (f : File) → copies_of (mapped task number a n Shared Reserve f) ≡ copies_of f
 mapped_copies task number a n f =
     flat_map-append (λ (m : Map). filter_map copy_of m.places) f.maps (new_map task number a n Shared Reserve ∷ [])
-    ∙ ap (λ xs. copies_of f ++ xs ++ []) (none_copied n) ∙ append-nil (copies_of f)
+    ∙ ap (λ xs. copies_of f ++ (xs ++ [])) (none_copied n) ∙ append-nil (copies_of f)
 
 pub counted_mapped : (sub : Subpool) (more maps tasks : ℕ) (m : Mount) (k task number a n : ℕ) (first : Bool) → IsCounted sub maps tasks m → k < length m.files → more ≡ asked Shared Reserve a n (file_in m k)
     → first ≡ not (is_among task (tasks_of m)) → IsCounted (with_held sub more) (maps + 1) (tasks + cond first 1 0) (with_file m k (mapped task number a n Shared Reserve (file_in m k)))
