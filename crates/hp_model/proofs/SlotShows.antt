@@ -72,6 +72,7 @@ always_mount P stops h c size options a = by_limits (limits a.nr size (wanted_of
     by_tests false false late o g = stops NoPages
     by_tests false true true o g = stops OutOfMemory
     by_tests false true false o g = g
+
     by_limits : (r : ResultOf Limits Refusal) → P (mount_outcome c a r)
     by_limits (Err e) = stops e
     by_limits (Ok l) = by_tests c.refused a.granted c.after_grant (Answered Done (Some (record { limits = l; files = [] }))) (h l)
