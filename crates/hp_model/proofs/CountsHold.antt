@@ -1,21 +1,22 @@
--- The counts of a settled machine are sums over files and maps, and limits hold.
-use Rattle.std.proofs.Common.{◌≡◌, ⊎_elim, inl, inr, subst, ℕ, ◌<◌, None, List, length, sym, ap, ◌∙◌, arith}
-use Rattle.std.specs.List.{sum, slice_set, slice_index_or, range_with_len}
+-- The counts of a settled machine are sums over files and maps, and limits and minimums hold.
+use Rattle.std.proofs.Common.{◌≡◌, ⊎_elim, inl, inr, subst, ℕ, zero, suc, ◌+◌, ◌<◌, ◌≤◌, None, Some, List, [], ◌∷◌, length, refl, sym, ap, ◌∙◌, arith}
+use Rattle.std.specs.List.{sum, sum_by, slice_set, slice_index_or, range_with_len}
 use Rattle.std.proofs.lemmas.Bool.{cases_eq, ltb-true}
 use Rattle.std.proofs.lemmas.List.{get_or-set_same, get_or-set_other}
-use Rattle.std.proofs.lemmas.List.Sums.{sum-map}
+use Rattle.std.proofs.lemmas.List.Sums.{sum-map, sum_by-cons}
 use Rattle.hp_model.specs.declared.event.Event.{Event}
 use Rattle.hp_model.specs.declared.event.Event.TheVariants.{Tasks, Slot as OnSlot, Pool as OnPool}
 use Rattle.hp_model.specs.Balance.{IsBalanced, IsLimited, IsWithinLimit, slot_usage, left_by}
 use Rattle.hp_model.specs.Event.{after, CanHappen, planned}
-use Rattle.hp_model.specs.Machine.{pool_of, with_pool, used_at, used_pages}
-use Rattle.hp_model.specs.Plan.{Reply, Slot, Plan, Finish, Ask, Choice, slot_pages, slot_pages_at}
+use Rattle.hp_model.specs.Machine.{committed_pages, counts_in, pool_of, with_pool, used_at, used_pages}
+use Rattle.hp_model.specs.Plan.{Reply, Slot, Plan, Finish, Ask, Choice, slot_committed, slot_pages, slot_pages_at}
 use Rattle.hp_model.specs.Pool.{section}
 use Rattle.hp_model.specs.PoolCounts.{counts_by, used}
+use Rattle.hp_model.specs.Promises.{least_of}
 use Rattle.hp_model.specs.Settled.{IsSettledState, CountsAreSums, LimitsHold}
 use Rattle.hp_model.specs.SlotEvent.{slot_event}
 use Rattle.hp_model.specs.Sound.{IsSound}
-use Rattle.hp_model.specs.State.{State, slot_at}
+use Rattle.hp_model.specs.State.{State, slot_at, with_slot}
 use Rattle.hp_model.proofs.NodeSums.{slot_below, slot_above, swap_le, sum_above, once_in_range, far_range}
 use Rattle.hp_model.proofs.RowMoves.{used_sum}
 use Rattle.hp_model.proofs.SectionTies.{used_is}
@@ -48,6 +49,23 @@ counts_are_sums s st =
       surp = omega (arith, total, surplus);
       covered = omega (arith, is, total, in_use, uses);
     }
+
+-- ---- minimums
+
+least_committed : (x : Slot) → least_of x ≤ slot_committed x
+least_committed None = omega arith
+least_committed (Some m) = omega arith
+
+-- what is committed to one slot, and to the others
+one_and_others : (xs : List Slot) (k : ℕ) → slot_committed (slice_index_or xs k None) + sum_by slot_committed (slice_set xs k None) ≡ sum_by slot_committed xs
+one_and_others [] k = refl
+one_and_others (x ∷ xs) zero = omega (arith, sum_by-cons slot_committed None xs, sum_by-cons slot_committed x xs)
+one_and_others (x ∷ xs) (suc k) = omega (arith, sum_by-cons slot_committed x (slice_set xs k None), sum_by-cons slot_committed x xs, one_and_others xs k)
+
+pub minimums_hold : (s : State) → IsSettledState s → (k : ℕ) → least_of (slot_at s k) + committed_pages (with_slot s k None) ≤ used_pages s + (counts_in s).rsvd
+minimums_hold s st k =
+    let in_use = st.pool.used in
+    omega (arith, used_are s st, in_use, least_committed (slot_at s k), one_and_others s.slots k)
 
 -- ---- limits
 

@@ -16,21 +16,21 @@ use Rattle.hp_model.specs.declared.refusal.Refusal.TheVariants.{BadLine, NoSuchS
 use Rattle.hp_model.specs.declared.step.Reserving.TheVariants.{Reserve}
 use Rattle.hp_model.specs.declared.step.Sharing.TheVariants.{Shared}
 use Rattle.hp_model.specs.declared.step.Step.{Step}
-use Rattle.hp_model.specs.declared.step.Step.TheVariants.{Connect, Create, Map, Load, Store, Nr, Meminfo}
+use Rattle.hp_model.specs.declared.step.Step.TheVariants.{Connect, Mount, Umount, Create, Map, Load, Store, Nr, Meminfo, Df}
 use Rattle.hp_model.specs.Balance.{slot_usage, IsWithinLimit, left_by}
 use Rattle.hp_model.specs.Event.{IsEvent}
 use Rattle.hp_model.specs.Laws.{is_for_pages, KeepsGoing}
 use Rattle.hp_model.specs.Plan.{Reply, Slot, Outcome, Refused, Answered}
-use Rattle.hp_model.specs.Promises.{is_cut_off_step, is_refused, is_backed_step, wants_page, map_named, spot_on, ShowsMap, shown_in, shown_on, stored_over, over, is_shared_of, seen_in, seen_on, seen_over, map_at, map_on, reaches, IsLostTo, LosesCopy, PromisesAreKept, IsPromisedRun, IsPromisedStep}
+use Rattle.hp_model.specs.Promises.{is_cut_off_step, is_refused, is_backed_step, wants_page, map_named, spot_on, ShowsMap, shown_in, shown_on, stored_over, over, is_shared_of, seen_in, seen_on, seen_over, map_at, map_on, reaches, IsLostTo, LosesCopy, is_unmounted, PromisesAreKept, IsPromisedRun, IsPromisedStep}
 use Rattle.hp_model.specs.Run.{IsRun}
 use Rattle.hp_model.specs.Settled.{IsSettledState}
 use Rattle.hp_model.specs.State.{State, slot_at}
 use Rattle.hp_model.specs.Step.{IsBuiltStep, IsScript, IsStep, on_slot, finding}
 use Rattle.hp_model.proofs.Backed.{load_goes, store_goes, load_stops, store_stops, Stops}
-use Rattle.hp_model.proofs.CountsHold.{counts_are_sums, limits_hold}
+use Rattle.hp_model.proofs.CountsHold.{counts_are_sums, limits_hold, minimums_hold}
 use Rattle.hp_model.proofs.Outcomes.{Ends, event_ends, reply_of, IsLeft, only_goes, slot_goes, finding_goes}
 use Rattle.hp_model.proofs.Runs.{run_by}
-use Rattle.hp_model.proofs.SlotShows.{Quiet, Loads, Stores, create_quiet, map_quiet, load_loads, store_stores}
+use Rattle.hp_model.proofs.SlotShows.{Quiet, Loads, Stores, Unmounts, create_quiet, map_quiet, mount_quiet, usage_quiet, umount_ends, load_loads, store_stores}
 use Rattle.hp_model.proofs.StaysSettled.{step_settled}
 
 eq_same : (k : ℕ) → (k == k) ≡ true
@@ -39,13 +39,13 @@ eq_same k = eq-eqb k k refl
 ne_other : (k o : ℕ) → (o ≡ k → ⊥) → (k == o) ≡ false
 ne_other k o other = false_from_ne_true (k == o) (λ e. other (sym (eqb-true k o e)))
 
--- all but the counts
+-- all but the counts and minimums
 record Kept (s : State) (step : Step) (reply : Reply) (t : State) : Type 0 where
   pub reserved : is_backed_step s step ≡ true → wants_page reply ≡ false
   pub limits : (k : ℕ) → k < length s.slots → slot_usage (slot_at s k) < slot_usage (slot_at t k) → IsWithinLimit (slot_at t k)
   pub loads : ShowsMap s step reply
-  pub files : (k j x : ℕ) → shown_in t k j x ≡ stored_over s step reply k j x (shown_in s k j x)
-  pub maps : (k j l x : ℕ) → (seen_in t k j l x ≡ seen_over s step reply k j l x (seen_in s k j l x)) ⊎ LosesCopy s step t k j l x
+  pub files : (k j x : ℕ) → is_unmounted step reply k ≡ false → shown_in t k j x ≡ stored_over s step reply k j x (shown_in s k j x)
+  pub maps : (k j l x : ℕ) → is_unmounted step reply k ≡ false → (seen_in t k j l x ≡ seen_over s step reply k j l x (seen_in s k j l x)) ⊎ LosesCopy s step t k j l x
   pub marks : (k j l : ℕ) → (map_at s k j l).unmapped ≡ true → (map_at t k j l).unmapped ≡ true
   pub cut_off : is_cut_off_step s step ≡ true → is_refused reply ≡ true
 
@@ -67,7 +67,7 @@ left_kept : (s : State) (step : Step) (r : Refusal) (reply : Reply) (t : State) 
 left_kept s step r reply t other left =
     subst (λ x. Kept s step x t) (sym left.replied)
     (subst (λ x. Kept s step (Err r) x) (sym left.same)
-    (record { reserved = λ e. other; limits = λ k l risen. absurd (omega (arith, risen)); loads = refused_shows s step r; files = λ k j x. refused_stores s step r k j x (shown_in s k j x); maps = λ k j l x. inl (refused_writes s step r k j l x (seen_in s k j l x)); marks = λ k j l e. e; cut_off = λ e. refl }))
+    (record { reserved = λ e. other; limits = λ k l risen. absurd (omega (arith, risen)); loads = refused_shows s step r; files = λ k j x there. refused_stores s step r k j x (shown_in s k j x); maps = λ k j l x there. inl (refused_writes s step r k j l x (seen_in s k j l x)); marks = λ k j l e. e; cut_off = λ e. refl }))
 
 -- ---- a step that leaves the slots
 
@@ -143,17 +143,17 @@ module _ (s : State) (reply : Reply) (t : State) (st : IsSettledState s) where
   connect_kept : (task home : ℕ) → IsBuiltStep s (Connect task home) reply t → Kept s (Connect task home) reply t
   connect_kept task home is =
       let it = only_goes s (Tasks (table.Add task home)) reply t is in
-      record { reserved = λ e. cc; limits = λ k l risen. limits_hold s (Tasks (table.Add task home)) reply t k l st it risen; loads = tt; files = (table_shows s (table.Add task home) reply t it).files; maps = λ k j l x. inl ((table_shows s (table.Add task home) reply t it).maps k j l x); marks = λ k j l e. (table_shows s (table.Add task home) reply t it).marks k j l ∙ e; cut_off = λ e. cc }
+      record { reserved = λ e. cc; limits = λ k l risen. limits_hold s (Tasks (table.Add task home)) reply t k l st it risen; loads = tt; files = λ k j x there. (table_shows s (table.Add task home) reply t it).files k j x; maps = λ k j l x there. inl ((table_shows s (table.Add task home) reply t it).maps k j l x); marks = λ k j l e. (table_shows s (table.Add task home) reply t it).marks k j l ∙ e; cut_off = λ e. cc }
 
   nr_kept : (n : ℕ) → IsBuiltStep s (Nr n) reply t → Kept s (Nr n) reply t
   nr_kept n is =
       let it = only_goes s (OnPool (pool.Nr n)) reply t is in
-      record { reserved = λ e. cc; limits = λ k l risen. limits_hold s (OnPool (pool.Nr n)) reply t k l st it risen; loads = tt; files = (pool_shows s (pool.Nr n) reply t it).files; maps = λ k j l x. inl ((pool_shows s (pool.Nr n) reply t it).maps k j l x); marks = λ k j l e. (pool_shows s (pool.Nr n) reply t it).marks k j l ∙ e; cut_off = λ e. cc }
+      record { reserved = λ e. cc; limits = λ k l risen. limits_hold s (OnPool (pool.Nr n)) reply t k l st it risen; loads = tt; files = λ k j x there. (pool_shows s (pool.Nr n) reply t it).files k j x; maps = λ k j l x there. inl ((pool_shows s (pool.Nr n) reply t it).maps k j l x); marks = λ k j l e. (pool_shows s (pool.Nr n) reply t it).marks k j l ∙ e; cut_off = λ e. cc }
 
   meminfo_kept : IsBuiltStep s Meminfo reply t → Kept s Meminfo reply t
   meminfo_kept is =
       let it = only_goes s (OnPool pool.Meminfo) reply t is in
-      record { reserved = λ e. cc; limits = λ k l risen. limits_hold s (OnPool pool.Meminfo) reply t k l st it risen; loads = tt; files = (pool_shows s pool.Meminfo reply t it).files; maps = λ k j l x. inl ((pool_shows s pool.Meminfo reply t it).maps k j l x); marks = λ k j l e. (pool_shows s pool.Meminfo reply t it).marks k j l ∙ e; cut_off = λ e. cc }
+      record { reserved = λ e. cc; limits = λ k l risen. limits_hold s (OnPool pool.Meminfo) reply t k l st it risen; loads = tt; files = λ k j x there. (pool_shows s pool.Meminfo reply t it).files k j x; maps = λ k j l x there. inl ((pool_shows s pool.Meminfo reply t it).maps k j l x); marks = λ k j l e. (pool_shows s pool.Meminfo reply t it).marks k j l ∙ e; cut_off = λ e. cc }
 
   -- by the slot, if it is there
   on_slot_kept : (step : Step) (k : ℕ) (e : SlotEvent) → (IsEvent s (OnSlot k e) reply t → Kept s step reply t) → IsScript s (on_slot (length s.slots) k e) reply t → Kept s step reply t
@@ -171,14 +171,57 @@ module _ (s : State) (reply : Reply) (t : State) (st : IsSettledState s) where
       let e : SlotEvent = slot.Create name in
       on_slot_kept (Create k name) k e
       (λ it. (let shows = quiet_shows s k e reply t it (event_ends (Quiet s.page_size (slot_at s k)) s k e reply t (λ c. create_quiet s.page_size k c (slot_at s k) name) it) in
-      record { reserved = λ e. cc; limits = limited s k e reply t it st; loads = tt; files = shows.files; maps = λ o j l x. inl (shows.maps o j l x); marks = λ o j l e. shows.marks o j l ∙ e; cut_off = λ e. cc })) is
+      record { reserved = λ e. cc; limits = limited s k e reply t it st; loads = tt; files = λ o j x there. shows.files o j x; maps = λ o j l x there. inl (shows.maps o j l x); marks = λ o j l e. shows.marks o j l ∙ e; cut_off = λ e. cc })) is
+
+  mount_kept : (k : ℕ) (options : List ℕ) → IsBuiltStep s (Mount k options) reply t → Kept s (Mount k options) reply t
+  mount_kept k options is =
+      let e : SlotEvent = slot.Mount options in
+      on_slot_kept (Mount k options) k e
+      (λ it. (let shows = quiet_shows s k e reply t it (event_ends (Quiet s.page_size (slot_at s k)) s k e reply t (λ c. mount_quiet s.page_size k c (slot_at s k) options) it) in
+      record { reserved = λ e. cc; limits = limited s k e reply t it st; loads = tt; files = λ o j x there. shows.files o j x; maps = λ o j l x there. inl (shows.maps o j l x); marks = λ o j l e. shows.marks o j l ∙ e; cut_off = λ e. cc })) is
+
+  usage_kept : (k : ℕ) → IsBuiltStep s (Df k) reply t → Kept s (Df k) reply t
+  usage_kept k is =
+      let e : SlotEvent = slot.Df in
+      on_slot_kept (Df k) k e
+      (λ it. (let shows = quiet_shows s k e reply t it (event_ends (Quiet s.page_size (slot_at s k)) s k e reply t (λ c. usage_quiet s.page_size k c (slot_at s k)) it) in
+      record { reserved = λ e. cc; limits = limited s k e reply t it st; loads = tt; files = λ o j x there. shows.files o j x; maps = λ o j l x there. inl (shows.maps o j l x); marks = λ o j l e. shows.marks o j l ∙ e; cut_off = λ e. cc })) is
+
+  -- only what the mount had goes
+  module _ (k : ℕ) (l : k < length s.slots) (size : t.page_size ≡ s.page_size) where
+    umount_leaves : {X : Type 0} (g : ℕ → Slot → X) (out : Outcome) → t.slots ≡ slice_set s.slots k (left_by (slot_at s k) out)
+        → (o : ℕ) → is_unmounted (Umount k) (reply_of out) o ≡ false → g t.page_size (slot_at t o) ≡ g s.page_size (slot_at s o)
+    umount_leaves g (Refused r) slots o there = same_all s k t (slot_at s k) l size slots g refl o
+    umount_leaves g (Answered a new) slots o there = elsewhere s k t new l size slots g o (λ same. (let gone = eq-eqb k o (sym same) in cc))
+
+    umount_marks : (out : Outcome) → Unmounts (slot_at s k) out → t.slots ≡ slice_set s.slots k (left_by (slot_at s k) out) → (o j n : ℕ) → (map_at s o j n).unmapped ≡ true → (map_at t o j n).unmapped ≡ true
+    umount_marks (Refused r) h slots o j n = λ e. same_all s k t (slot_at s k) l size slots (λ z y. (map_on y j n).unmapped) refl o ∙ e
+    umount_marks (Answered a new) h slots o j n =
+        at_each k (λ o. (map_at s o j n).unmapped ≡ true → (map_at t o j n).unmapped ≡ true) (λ e. (let not = h j n in cc))
+        (λ o other e. elsewhere s k t new l size slots (λ z y. (map_on y j n).unmapped) o other ∙ e) o
+
+  umount_kept : (k : ℕ) → IsBuiltStep s (Umount k) reply t → Kept s (Umount k) reply t
+  umount_kept k is =
+      let e : SlotEvent = slot.Umount in
+      on_slot_kept (Umount k) k e
+      (λ it. (let ends = event_ends (Unmounts (slot_at s k)) s k e reply t (λ c. umount_ends s.page_size k c (slot_at s k)) it in
+      let there = λ (o : ℕ) (kept : is_unmounted (Umount k) reply o ≡ false). subst (λ r. is_unmounted (Umount k) r o ≡ false) ends.replied kept in
+      record {
+        reserved = λ e. cc;
+        limits = limited s k e reply t it st;
+        loads = tt;
+        files = λ o j x kept. umount_leaves k (below s k e reply t it) ends.size (λ z y. shown_on z y j x) ends.outcome ends.slots o (there o kept);
+        maps = λ o j l x kept. inl (umount_leaves k (below s k e reply t it) ends.size (λ z y. seen_on z y j l x) ends.outcome ends.slots o (there o kept));
+        marks = umount_marks k (below s k e reply t it) ends.size ends.outcome ends.holds ends.slots;
+        cut_off = λ e. cc;
+      })) is
 
   map_kept : (task k : ℕ) (name : List ℕ) (a n : ℕ) → IsBuiltStep s (Map task k name a n Shared Reserve) reply t → Kept s (Map task k name a n Shared Reserve) reply t
   map_kept task k name a n is =
       let e : ℕ → SlotEvent = λ home. slot.Map task home name a n Shared Reserve in
       task_kept (Map task k name a n Shared Reserve) task k e
       (λ home it. (let shows = quiet_shows s k (e home) reply t it (event_ends (Quiet s.page_size (slot_at s k)) s k (e home) reply t (λ c. map_quiet s.page_size k c (slot_at s k) task home name a n Shared Reserve) it) in
-      record { reserved = λ e. cc; limits = limited s k (e home) reply t it st; loads = tt; files = shows.files; maps = λ o j l x. inl (shows.maps o j l x); marks = λ o j l e. shows.marks o j l ∙ e; cut_off = λ e. cc })) is
+      record { reserved = λ e. cc; limits = limited s k (e home) reply t it st; loads = tt; files = λ o j x there. shows.files o j x; maps = λ o j l x there. inl (shows.maps o j l x); marks = λ o j l e. shows.marks o j l ∙ e; cut_off = λ e. cc })) is
 
   loaded : (task k number i offset count : ℕ) (o : Outcome) → Loads s.page_size (slot_at s k) (map_named s k task number) i offset count o → ShowsMap s (Load task k number i offset count) (reply_of o)
   loaded task k number i offset count (Refused r) h = tt
@@ -196,8 +239,8 @@ module _ (s : State) (reply : Reply) (t : State) (st : IsSettledState s) where
         reserved = λ backed. goes s k (e home) reply t it (event_ends KeepsGoing s k (e home) reply t (λ c. load_goes s.page_size k c task home number i offset old count backed) it);
         limits = limited s k (e home) reply t it st;
         loads = subst (λ r. ShowsMap s step r) (sym ends.replied) (loaded task k number i offset count ends.outcome ends.holds);
-        files = shows.files;
-        maps = λ o j l x. inl (shows.maps o j l x);
+        files = λ o j x there. shows.files o j x;
+        maps = λ o j l x there. inl (shows.maps o j l x);
         marks = λ o j l e. shows.marks o j l ∙ e;
         cut_off = λ cut. stops s k (e home) reply t it (event_ends Stops s k (e home) reply t (λ c. load_stops s.page_size k c task home number i offset old count cut) it);
       })) is
@@ -253,10 +296,10 @@ module _ (s : State) (reply : Reply) (t : State) (st : IsSettledState s) where
         reserved = λ backed. goes s k (e home) reply t it (event_ends KeepsGoing s k (e home) reply t (λ c. store_goes s.page_size k c task home number i offset old bytes backed) it);
         limits = limited s k (e home) reply t it st;
         loads = tt;
-        files = λ o j x.
+        files = λ o j x there.
             subst (λ r. shown_in t o j x ≡ stored_over s step r o j x (shown_in s o j x)) (sym ends.replied)
             (store_shows task k number i offset bytes (below s k (e home) reply t it) ends.size ends.outcome ends.holds ends.slots o j x);
-        maps = λ o j l x.
+        maps = λ o j l x there.
             subst (λ r. (seen_in t o j l x ≡ seen_over s step r o j l x (seen_in s o j l x)) ⊎ LosesCopy s step t o j l x) (sym ends.replied)
             (store_seen task k number i offset bytes (below s k (e home) reply t it) ends.size ends.outcome ends.holds ends.slots o j l x);
         marks = store_marks task k number i offset bytes (below s k (e home) reply t it) ends.size ends.outcome ends.holds ends.slots;
@@ -269,6 +312,8 @@ module _ (s : State) (reply : Reply) (t : State) (st : IsSettledState s) where
   step_kept : (step : Step) → IsStep s step reply t → Kept s step reply t
   unfolding IsStep
   step_kept (Connect task home) is = connect_kept task home is
+  step_kept (Mount k options) is = mount_kept k options is
+  step_kept (Umount k) is = umount_kept k is
   step_kept (Create k name) is = create_kept k name is
   step_kept (Map task k name a n Shared Reserve) is = map_kept task k name a n is
   step_kept (Load task k number i offset count) is = load_kept task k number i offset count is
@@ -279,12 +324,14 @@ module _ (s : State) (reply : Reply) (t : State) (st : IsSettledState s) where
       by_test true is = unbuilt_kept (Nr n) is
       by_test false is = nr_kept n is
   step_kept Meminfo is = meminfo_kept is
+  step_kept (Df k) is = usage_kept k is
   step_kept other is = unbuilt_kept other is
 
 pub promised : PromisesAreKept
 promised s step reply t st is =
     let kept = step_kept s reply t st step is in
-    record { reserved = kept.reserved; counts = counts_are_sums t (step_settled s step reply t st is); limits = kept.limits; loads = kept.loads; files = kept.files; maps = kept.maps; marks = kept.marks; cut_off = kept.cut_off }
+    let after = step_settled s step reply t st is in
+    record { reserved = kept.reserved; counts = counts_are_sums t after; limits = kept.limits; minimums = minimums_hold t after; loads = kept.loads; files = kept.files; maps = kept.maps; marks = kept.marks; cut_off = kept.cut_off }
 
 -- ---- runs
 

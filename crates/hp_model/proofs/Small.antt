@@ -15,14 +15,14 @@ use Rattle.hp_model.specs.declared.event.SlotEvent.TheVariants as slot
 use Rattle.hp_model.specs.declared.event.TableEvent.TheVariants as table
 use Rattle.hp_model.specs.declared.node.NodeRow.{NodeRow}
 use Rattle.hp_model.specs.declared.refusal.Refusal.{Refusal}
-use Rattle.hp_model.specs.declared.refusal.Refusal.TheVariants.{OutOfMemory, OutOfRange, CrossesPage, TooMany, BeyondEnd, NoSuchMap, NoSuchFile, NoSuchNode, TaskExists, BadName, FileExists, NoInodes, BadLine, NoSuchSlot, NoSuchTask}
+use Rattle.hp_model.specs.declared.refusal.Refusal.TheVariants.{OutOfMemory, OutOfRange, CrossesPage, TooMany, BeyondEnd, NoSuchMap, NoSuchFile, NoSuchNode, TaskExists, BadName, FileExists, NoInodes, Busy, BadLine, NoSuchSlot, NoSuchTask}
 use Rattle.hp_model.specs.declared.step.Intent.TheVariants.{Read, Write}
 use Rattle.hp_model.specs.declared.step.Reserving.{Reserving}
 use Rattle.hp_model.specs.declared.step.Reserving.TheVariants.{Reserve}
 use Rattle.hp_model.specs.declared.step.Sharing.{Sharing}
 use Rattle.hp_model.specs.declared.step.Sharing.TheVariants.{Shared}
 use Rattle.hp_model.specs.declared.step.Step.{Step}
-use Rattle.hp_model.specs.declared.step.Step.TheVariants.{Connect, Create, Map, Load, Store, Nr, Meminfo}
+use Rattle.hp_model.specs.declared.step.Step.TheVariants.{Connect, Mount as MountStep, Umount, Create, Map, Load, Store, Nr, Meminfo, Df}
 use Rattle.hp_model.specs.Access.{access}
 use Rattle.hp_model.specs.File.{Mount, maps_of, new_file, with_file}
 use Rattle.hp_model.specs.Grant.{is_over}
@@ -31,11 +31,11 @@ use Rattle.hp_model.specs.Machine.{pool_of, rows_of}
 use Rattle.hp_model.specs.MakeMap.{asked, mapped, next_number, numbers_of, with_new}
 use Rattle.hp_model.specs.Mapping.{is_map, is_of}
 use Rattle.hp_model.specs.NodeRows.{IsRow, total_of, frames_of}
-use Rattle.hp_model.specs.Plan.{Reply, Slot, Outcome, Refused, Answered, Plan, Finish, Choice, unless, continued, grant}
+use Rattle.hp_model.specs.Plan.{Reply, Slot, Outcome, Refused, Answered, Plan, Finish, Choice, unless, continued, grant, gives}
 use Rattle.hp_model.specs.Profile.{most_bytes, most_file_pages, most_files, most_map_pages, most_maps}
 use Rattle.hp_model.specs.Resize.{pool_event}
 use Rattle.hp_model.specs.Settled.{IsSettledState}
-use Rattle.hp_model.specs.SlotEvent.{are_too_many_maps, byte_access, bytes_answer, file_named, is_beyond, is_name, is_new_task_over, is_unmapped, load, map_file, slot_event, store}
+use Rattle.hp_model.specs.SlotEvent.{are_too_many_maps, byte_access, bytes_answer, file_named, has_maps, is_beyond, is_name, is_new_task_over, is_unmapped, load, map_file, slot_event, store}
 use Rattle.hp_model.specs.Spot.{Spot, again, spot, written}
 use Rattle.hp_model.specs.State.{Node, State, slot_at}
 use Rattle.hp_model.specs.Step.{IsBuiltStep, IsScript, IsStep, finding, on_slot}
@@ -45,7 +45,7 @@ use Rattle.hp_model.specs.Writing.{IsWithinLimits}
 use Rattle.hp_model.proofs.MountMoves.{IsSpot, spot_is}
 use Rattle.hp_model.proofs.Outcomes.{Always, always_test, always_then, always_weaker, event_ends, reply_of, IsLeft, only_goes, slot_goes, finding_goes}
 use Rattle.hp_model.proofs.Shown.{On, Same, Result, on_weaker, read_same, write_done}
-use Rattle.hp_model.proofs.SlotShows.{always_grant, always_unless, always_value, bytes_on}
+use Rattle.hp_model.proofs.SlotShows.{always_gives, always_grant, always_mount, always_unless, always_value, bytes_on}
 
 abbrev Small : Outcome → Type 0
 Small o = IsWithinLimits (reply_of o)
@@ -128,6 +128,14 @@ create_small size k c (Some m) name =
     ((not (is_name name), BadName) ∷ (is_some (file_named m name), FileExists) ∷ (nat_le most_files (length m.files), TooMany) ∷ (is_over m.limits.inodes (length m.files + 1), NoInodes) ∷ (c.refused, OutOfMemory) ∷ [])
     (Finish (Answered Done (Some (with_new m (new_file (Some name)))))) tt
 
+mount_small : (size k : ℕ) (c : Choice) (old : Slot) (options : List ℕ) → Always Small (slot_event size k c old (slot.Mount options))
+mount_small size k c None options = always_mount Small (λ r. tt) (λ l. tt) c size options
+mount_small size k c (Some m) options = tt
+
+umount_small : (size k : ℕ) (c : Choice) (old : Slot) → Always Small (slot_event size k c old slot.Umount)
+umount_small size k c None = tt
+umount_small size k c (Some m) = always_unless Small (λ r. tt) ((k == 0, Busy) ∷ (has_maps m, Busy) ∷ []) (gives Done (Some m) None) (always_gives Small Done (Some m) None tt)
+
 few_maps : (m : Mount) (task n : ℕ) → (nat_lt most_map_pages n || are_too_many_maps m task) ≡ false → next_number task m < 2 ^ 64
 few_maps m task n e =
     let parts = or_parts (nat_lt most_map_pages n) (are_too_many_maps m task) e in
@@ -188,6 +196,11 @@ store_small size k c (Some m) task home number i offset bytes =
 
 -- ---- each step
 
+-- the step answers a mount's limits, which are as large as its options made them
+abbrev pub is_usage : Step → Bool
+is_usage (Df k) = true
+is_usage other = false
+
 module _ (s : State) (reply : Reply) (t : State) (st : IsSettledState s) where
   left_small : (r : Refusal) → IsLeft s r reply t → IsWithinLimits reply
   left_small r left = subst IsWithinLimits (sym left.replied) tt
@@ -218,23 +231,26 @@ module _ (s : State) (reply : Reply) (t : State) (st : IsSettledState s) where
   unbuilt_small : (reply ≡ Err BadLine) × (t ≡ s) → IsWithinLimits reply
   unbuilt_small is = subst IsWithinLimits (sym is.0) tt
 
-  step_small : (step : Step) → IsStep s step reply t → IsWithinLimits reply
+  step_small : (step : Step) → IsStep s step reply t → (is_usage step ≡ true → IsWithinLimits reply) → IsWithinLimits reply
   unfolding IsStep
-  step_small (Connect task home) is = connect_small task home is
-  step_small (Create k name) is = on_slot_small k (slot.Create name) (λ c. create_small s.page_size k c (slot_at s k) name) is
-  step_small (Map task k name a n Shared Reserve) is =
+  step_small (Connect task home) is usage = connect_small task home is
+  step_small (MountStep k options) is usage = on_slot_small k (slot.Mount options) (λ c. mount_small s.page_size k c (slot_at s k) options) is
+  step_small (Umount k) is usage = on_slot_small k slot.Umount (λ c. umount_small s.page_size k c (slot_at s k)) is
+  step_small (Create k name) is usage = on_slot_small k (slot.Create name) (λ c. create_small s.page_size k c (slot_at s k) name) is
+  step_small (Map task k name a n Shared Reserve) is usage =
       task_small task k (λ home. slot.Map task home name a n Shared Reserve) (λ home c. map_small s.page_size k c (slot_at s k) task home name a n Shared Reserve) is
-  step_small (Load task k number i offset count) is =
+  step_small (Load task k number i offset count) is usage =
       task_small task k (λ home. slot.Load task home number i offset count) (λ home c. load_small s.page_size k c (slot_at s k) task home number i offset count) is
-  step_small (Store task k number i offset bytes) is =
+  step_small (Store task k number i offset bytes) is usage =
       task_small task k (λ home. slot.Store task home number i offset bytes) (λ home c. store_small s.page_size k c (slot_at s k) task home number i offset bytes) is
-  step_small (Nr n) is = by_test (nat_lt n s.nr) is
+  step_small (Nr n) is usage = by_test (nat_lt n s.nr) is
     where
       by_test : (b : Bool) → MatchBool b ((reply ≡ Err BadLine) × (t ≡ s)) (IsBuiltStep s (Nr n) reply t) → IsWithinLimits reply
       by_test true is = unbuilt_small is
       by_test false is = number_small n is
-  step_small Meminfo is = counts_small is
-  step_small other is = unbuilt_small is
+  step_small Meminfo is usage = counts_small is
+  step_small (Df k) is usage = usage refl
+  step_small other is usage = unbuilt_small is
 
-pub within_limits : (s : State) (step : Step) (reply : Reply) (t : State) → IsSettledState s → IsStep s step reply t → IsWithinLimits reply
-within_limits s step reply t st is = step_small s reply t st step is
+pub within_limits : (s : State) (step : Step) (reply : Reply) (t : State) → IsSettledState s → IsStep s step reply t → (is_usage step ≡ true → IsWithinLimits reply) → IsWithinLimits reply
+within_limits s step reply t st is usage = step_small s reply t st step is usage

@@ -1,5 +1,5 @@
 -- What the machine promises of each step.
-use Rattle.std.specs.Prelude.{◌≡◌, ◌⊎◌, ℕ, ◌+◌, ◌<◌, ◌&&◌, ◌||◌, ◌==◌, Bool, true, false, not, Option, None, Some, is_some, Ok, Err, List, [], ◌++◌, length, take, drop, if◌then◌else◌}
+use Rattle.std.specs.Prelude.{◌≡◌, ◌⊎◌, ℕ, ◌+◌, ◌<◌, ◌≤◌, ◌&&◌, ◌||◌, ◌==◌, Bool, true, false, not, Option, None, Some, is_some, Ok, Err, List, [], ◌++◌, length, take, drop, if◌then◌else◌}
 use Rattle.std.specs.List.{slice_index_or}
 use Rattle.hp_model.specs.declared.answer.Answer.{Answer}
 use Rattle.hp_model.specs.declared.step.Intent.{Intent}
@@ -7,11 +7,12 @@ use Rattle.hp_model.specs.declared.step.Intent.TheVariants.{Read, Write}
 use Rattle.hp_model.specs.declared.place.Place.{Place}
 use Rattle.hp_model.specs.declared.step.Sharing.TheVariants.{Shared}
 use Rattle.hp_model.specs.declared.step.Step.{Step}
-use Rattle.hp_model.specs.declared.step.Step.TheVariants.{Fault, Load, Store}
+use Rattle.hp_model.specs.declared.step.Step.TheVariants.{Fault, Load, Store, Umount}
 use Rattle.hp_model.specs.Balance.{slot_usage, IsWithinLimit}
 use Rattle.hp_model.specs.CopyWrite.{holds}
 use Rattle.hp_model.specs.File.{File, Mount, cell_at, new_file}
 use Rattle.hp_model.specs.Laws.{is_for_pages}
+use Rattle.hp_model.specs.Machine.{committed_pages, counts_in, used_pages}
 use Rattle.hp_model.specs.Mapping.{Map, copy_of, is_map, is_shared, place_at}
 use Rattle.hp_model.specs.Page.{Copy, zeros}
 use Rattle.hp_model.specs.Plan.{Reply, Slot}
@@ -20,7 +21,7 @@ use Rattle.hp_model.specs.Run.{RunsBy}
 use Rattle.hp_model.specs.Settled.{IsSettledState, AreCounted}
 use Rattle.hp_model.specs.SlotEvent.{bytes_answer}
 use Rattle.hp_model.specs.Spot.{Spot, spot}
-use Rattle.hp_model.specs.State.{State, slot_at}
+use Rattle.hp_model.specs.State.{State, slot_at, with_slot}
 use Rattle.hp_model.specs.Step.{IsStep}
 use Rattle.hp_model.specs.Value.{shown, value}
 
@@ -162,6 +163,18 @@ abbrev pub LosesCopy : State → Step → State → (slot file map i : ℕ) → 
 LosesCopy s (Store task slot number i offset bytes) t k file map j = (slot ≡ k) × IsLostTo (map_named s slot task number) i (map_at s k file map) (map_at t k file map) file j
 LosesCopy s step t k file map j = ⊥
 
+-- ---- what mounts keep
+
+-- the pages that stay committed to the slot's mount at least
+abbrev pub least_of : Slot → ℕ
+least_of None = 0
+least_of (Some m) = m.limits.min
+
+-- the slot's mount, and all its files, went by this step
+abbrev pub is_unmounted : Step → Reply → ℕ → Bool
+is_unmounted (Umount k) (Ok a) slot = k == slot
+is_unmounted step reply slot = false
+
 -- ---- a step
 
 pub record IsPromised (s : State) (step : Step) (reply : Reply) (t : State) : Type 0 where
@@ -171,12 +184,14 @@ pub record IsPromised (s : State) (step : Step) (reply : Reply) (t : State) : Ty
   pub counts : AreCounted t
   -- a step that raises what a mount uses ends within the mount's limit
   pub limits : (slot : ℕ) → slot < length s.slots → slot_usage (slot_at s slot) < slot_usage (slot_at t slot) → IsWithinLimit (slot_at t slot)
+  -- each mount's minimum stays committed, beside all that the other mounts have: it is in use, or a part of Rsvd
+  pub minimums : (slot : ℕ) → least_of (slot_at t slot) + committed_pages (with_slot t slot None) ≤ used_pages t + (counts_in t).rsvd
   -- a load answers what its map showed
   pub loads : ShowsMap s step reply
-  -- each file shows what it showed, but for what is stored through a shared map of it
-  pub files : (slot file i : ℕ) → shown_in t slot file i ≡ stored_over s step reply slot file i (shown_in s slot file i)
+  -- each file shows what it showed, but for what is stored through a shared map of it; only an umount ends files
+  pub files : (slot file i : ℕ) → is_unmounted step reply slot ≡ false → shown_in t slot file i ≡ stored_over s step reply slot file i (shown_in s slot file i)
   -- each map shows what it showed, but for what a store reaches; or it has lost its copy to the owner that stored
-  pub maps : (slot file map i : ℕ) → (seen_in t slot file map i ≡ seen_over s step reply slot file map i (seen_in s slot file map i)) ⊎ LosesCopy s step t slot file map i
+  pub maps : (slot file map i : ℕ) → is_unmounted step reply slot ≡ false → (seen_in t slot file map i ≡ seen_over s step reply slot file map i (seen_in s slot file map i)) ⊎ LosesCopy s step t slot file map i
   -- a marked map stays marked, and an access through it is refused where it has no copy
   pub marks : (slot file map : ℕ) → (map_at s slot file map).unmapped ≡ true → (map_at t slot file map).unmapped ≡ true
   pub cut_off : is_cut_off_step s step ≡ true → is_refused reply ≡ true

@@ -99,11 +99,14 @@ script n (Df k) = on_slot n k slot.Df
 abbrev pub is_unbuilt : State → Step → Bool
 is_unbuilt s (Nr pages) = nat_lt pages s.nr
 is_unbuilt s (Connect task home) = false
+is_unbuilt s (Mount k options) = false
+is_unbuilt s (Umount k) = false
 is_unbuilt s (Create k name) = false
 is_unbuilt s (Map task k name a pages Shared Reserve) = false
 is_unbuilt s (Load task k number i offset count) = false
 is_unbuilt s (Store task k number i offset bytes) = false
 is_unbuilt s Meminfo = false
+is_unbuilt s (Df k) = false
 is_unbuilt s other = true
 
 -- ---- a step of one thread
