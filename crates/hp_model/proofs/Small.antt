@@ -27,12 +27,13 @@ use Rattle.hp_model.specs.Access.{access}
 use Rattle.hp_model.specs.File.{Mount, maps_of, new_file, with_file}
 use Rattle.hp_model.specs.Grant.{is_over}
 use Rattle.hp_model.specs.Lists.{is_among}
-use Rattle.hp_model.specs.Machine.{pool_of, rows_of}
+use Rattle.hp_model.specs.Machine.{committed_pages, pool_of, rows_of}
 use Rattle.hp_model.specs.MakeMap.{asked, mapped, next_number, numbers_of, with_new}
 use Rattle.hp_model.specs.Mapping.{is_map, is_of}
 use Rattle.hp_model.specs.NodeRows.{IsRow, total_of, frames_of}
 use Rattle.hp_model.specs.Plan.{Reply, Slot, Outcome, Refused, Answered, Plan, Finish, Choice, unless, continued, grant, gives}
 use Rattle.hp_model.specs.Profile.{most_bytes, most_file_pages, most_files, most_map_pages, most_maps}
+use Rattle.hp_model.specs.Promises.{is_usage}
 use Rattle.hp_model.specs.Resize.{pool_event}
 use Rattle.hp_model.specs.Settled.{IsSettledState}
 use Rattle.hp_model.specs.SlotEvent.{are_too_many_maps, byte_access, bytes_answer, file_named, has_maps, is_beyond, is_name, is_new_task_over, is_unmapped, load, map_file, slot_event, store}
@@ -112,6 +113,10 @@ module _ (s : State) (st : IsSettledState s) where
       let below = in_pool.total in
       let total = st.pool.total in
       (omega (arith, most, below, total), omega arith, omega arith, omega arith)
+
+-- no more is committed than there can be frames
+pub committed_few : (s : State) → IsSettledState s → committed_pages s ≤ 262144
+committed_few s st = (let most = most_frames_in s st in let below = (in_pool s st).total in let total = st.pool.total in omega (arith, most, below, total))
 
 -- ---- the task table
 
@@ -195,11 +200,6 @@ store_small size k c (Some m) task home number i offset bytes =
     (bytes_on size c m home i (Result size m s at i) offset (length bytes) Write s (write_done size m s at i c home))))
 
 -- ---- each step
-
--- the step answers a mount's limits, which are as large as its options made them
-abbrev pub is_usage : Step → Bool
-is_usage (Df k) = true
-is_usage other = false
 
 module _ (s : State) (reply : Reply) (t : State) (st : IsSettledState s) where
   left_small : (r : Refusal) → IsLeft s r reply t → IsWithinLimits reply

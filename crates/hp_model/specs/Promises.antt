@@ -7,7 +7,7 @@ use Rattle.hp_model.specs.declared.step.Intent.TheVariants.{Read, Write}
 use Rattle.hp_model.specs.declared.place.Place.{Place}
 use Rattle.hp_model.specs.declared.step.Sharing.TheVariants.{Shared}
 use Rattle.hp_model.specs.declared.step.Step.{Step}
-use Rattle.hp_model.specs.declared.step.Step.TheVariants.{Fault, Load, Store, Umount}
+use Rattle.hp_model.specs.declared.step.Step.TheVariants.{Df, Fault, Load, Store, Umount}
 use Rattle.hp_model.specs.Balance.{slot_usage, IsWithinLimit}
 use Rattle.hp_model.specs.CopyWrite.{holds}
 use Rattle.hp_model.specs.File.{File, Mount, cell_at, new_file}
@@ -174,6 +174,11 @@ least_of (Some m) = m.limits.min
 abbrev pub is_unmounted : Step → Reply → ℕ → Bool
 is_unmounted (Umount k) (Ok a) slot = k == slot
 is_unmounted step reply slot = false
+
+-- the step answers a mount's limits, which are as large as its options made them
+abbrev pub is_usage : Step → Bool
+is_usage (Df k) = true
+is_usage step = false
 
 -- ---- a step
 

@@ -165,6 +165,9 @@ pub limits_as : (sub new : Subpool) (inodes : Option ℕ) (files : List File) �
 limits_as sub new inodes files max min =
     ap (λ x. record { limits = record { max = x; min = sub.min; inodes = inodes }; files = files }) (sym max) ∙ ap (λ x. record { limits = record { max = new.max; min = x; inodes = inodes }; files = files }) (sym min)
 
+pub share_as : (sub new : Subpool) (inodes : Option ℕ) (maps tasks : ℕ) (files : List File) → new.max ≡ sub.max → new.min ≡ sub.min → IsCounted new maps tasks (mount_of sub inodes files) → IsCounted new maps tasks (mount_of new inodes files)
+share_as sub new inodes maps tasks files max min c = subst (λ m. IsCounted new maps tasks m) (limits_as sub new inodes files max min) c
+
 -- ---- as code changes a file that it has read: x is what it read, and g what it leaves there
 
 pub read_is : (m : Mount) (k : ℕ) (x : File) → k < length m.files → x ≡ slice_index_or m.files k x → x ≡ file_in m k

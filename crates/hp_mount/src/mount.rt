@@ -10,7 +10,7 @@ ghost use Rattle.hp_model.specs.MountCounts.{usage_of};
 ghost use Rattle.hp_model.specs.Plan.{gives};
 ghost use Rattle.hp_model.specs.PoolCounts.{Pool as PoolValue, IsSettled};
 ghost use Rattle.hp_model.specs.SlotEvent.{has_maps, is_name, is_name_byte, file_named};
-ghost use Rattle.hp_model.specs.Writing.{IsWithinLimits};
+ghost use Rattle.hp_model.specs.Writing.{IsWithinLimit, IsWithinLimits};
 ghost use Rattle.hp_mount.specs.Carried.{IsDone, carried};
 
 mod access;
@@ -79,6 +79,17 @@ fn is_name(name: &[u8]) -> bool
     name.iter().all(|c| is_name_byte(*c))
 }
 
+// A limit as it is. Its number is below 2^64, as each number of the code.
+fn told(limit: Option<u64>) -> Option<u64>
+    ensures same { result ≡ limit }
+    ensures small { IsWithinLimit result }
+{
+    match limit {
+        Some(most) => Some(most),
+        None => None,
+    }
+}
+
 impl<N: Naming> Mount<N> {
     /// A mount with these limits and no file, whose minimum is committed in the pool, at home node 0.
     ///
@@ -89,6 +100,7 @@ impl<N: Naming> Mount<N> {
         ensures granted { IsOk result ↔ IsTrue (can_grant limits.now.min pool.old) }
         ensures ok { IfOk result (λ m. (m ≡ record { limits = limits.now; files = [] }) × (pool.new ≡ granted 0 limits.now.min pool.old)) }
         ensures err { IfErr result (λ e. (e ≡ Refusal.NoPages) × (pool.new ≡ pool.old)) }
+        ensures nothing { limits.now.min ≡ 0 → pool.new ≡ pool.old }
         ensures settled { IsSettled pool.new }
     {
         let share = Subpool::open(pool, limits.max, limits.min)?;
@@ -117,10 +129,10 @@ impl<N: Naming> Mount<N> {
         ensures limits { IsWithinLimits (Ok result) }
     {
         Answer::Usage {
-            max: self.share.max(),
+            max: told(self.share.max()),
             min: self.share.min(),
             used: self.share.used(),
-            inodes: self.inodes,
+            inodes: told(self.inodes),
             files: self.files.len() as u64,
         }
     }

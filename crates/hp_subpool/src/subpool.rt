@@ -46,6 +46,7 @@ impl<N: Naming> Subpool<N> {
         ensures granted { IsOk result ↔ IsTrue (can_grant min pool.old) }
         ensures ok { IfOk result (λ s. (s ≡ record { max = max; min = min; pages = 0; held = 0 }) × (pool.new ≡ granted 0 min pool.old)) }
         ensures err { IfErr result (λ e. (e ≡ Refusal.NoPages) × (pool.new ≡ pool.old)) }
+        ensures nothing { min ≡ 0 → pool.new ≡ pool.old }
         ensures settled { IsSettled pool.new }
     {
         let mut own = pool.reserve(0, min)?;

@@ -1,7 +1,8 @@
 -- Steps of the machine, by what its parts do. The code's values enter as variables with equations.
 use Rattle.std.proofs.Common.{◌≡◌, ℕ, zero, suc, ◌-◌, ◌<◌, ◌≤◌, true, false, cond, List, ◌∷◌, Ok, Err, None, Some, length, map, replicate, refl, sym, ◌∙◌, ap, subst, arith, IsTrue}
 use Rattle.std.specs.Bool.{MatchBool}
-use Rattle.std.specs.Prelude.{nat_lt, slice_index_or}
+use Rattle.std.specs.Prelude.{nat_lt, slice_index_or, slice_set}
+use Rattle.std.proofs.lemmas.List.{get_or_default, set-get_or}
 use Rattle.std.proofs.lemmas.Bool.Decides.{nat_tests}
 use Rattle.std.proofs.lemmas.Grind.{common_steps}
 use Rattle.hp_model.specs.declared.answer.Answer.TheVariants.{Number, Numbers, Home as HomeAnswer}
@@ -26,9 +27,9 @@ use Rattle.hp_model.specs.SlotEvent.{slot_event}
 use Rattle.hp_model.specs.State.{State, slot_at}
 use Rattle.hp_model.specs.Step.{Script, Answer_with, on_slot, only, finding, is_unbuilt, IsScript, IsStep, IsBuiltStep}
 use Rattle.hp_model.specs.Table.{Table, table_event, home_of, when_known}
-use Rattle.hp_system.specs.Carried.{state_of, IsDone}
-use Rattle.hp_system.specs.Kept.{slots_with, IsKept}
-use Rattle.hp_system.proofs.Carries.{calm, done_is}
+use Rattle.hp_mount.specs.Carried.{carried, choosing, IsDone}
+use Rattle.hp_system.specs.Kept.{state_of, IsKept}
+use Rattle.hp_system.proofs.Carries.{calm, done_is, slot_in}
 
 same_length : (p : Pool) → length (map node_of p.nodes.rows) ≡ length p.nodes.rows
 same_length p = grind (arith, common_steps)
@@ -104,112 +105,91 @@ module _ (size : ℕ) (t : Table) (slots : List Slot) (p : Pool) where
       let gives : table_event (length p.nodes.rows) t (table.Find task) ≡ (Err NoSuchTask, t) = ap (λ o. when_known t o (λ x. (Ok (HomeAnswer x), t))) unknown in
       (Err NoSuchTask, s, table_event_is (table.Find task) (Err NoSuchTask) t gives, (refl, refl))
 
-  -- ---- a built step of a task, by its script
-  pub step_by_script : (step : Step) (task : ℕ) (next : ℕ → Script) (reply : Reply) (new s : State) → is_unbuilt (state_of size t slots p) step ≡ false
-      → (IsScript (state_of size t slots p) (finding task next) reply new → IsBuiltStep (state_of size t slots p) step reply new)
-      → (home : ℕ) → home_of t task ≡ Some home → IsScript (state_of size t slots p) (next home) reply new → state_of size t slots p ≡ s → IsStep s step reply new
-  unfolding IsStep
-  step_by_script step task next reply new s built is home known h s_is =
-      let old : State = state_of size t slots p in
-      subst (λ x. IsStep x step reply new) s_is
-      (subst (λ b. MatchBool b ((reply ≡ Err BadLine) × (new ≡ old)) (IsBuiltStep old step reply new)) (sym built) (is (finding_is task home next reply new known h)))
-
-  pub step_unknown : (step : Step) (task : ℕ) (next : ℕ → Script) (s : State) → is_unbuilt (state_of size t slots p) step ≡ false
-      → (IsScript (state_of size t slots p) (finding task next) (Err NoSuchTask) (state_of size t slots p) → IsBuiltStep (state_of size t slots p) step (Err NoSuchTask) (state_of size t slots p))
-      → home_of t task ≡ None → state_of size t slots p ≡ s → IsStep s step (Err NoSuchTask) s
-  unfolding IsStep
-  step_unknown step task next s built is unknown s_is =
-      let old : State = state_of size t slots p in
-      let reply : Reply = Err NoSuchTask in
-      subst (λ x. IsStep x step reply x) s_is
-      (subst (λ b. MatchBool b ((reply ≡ Err BadLine) × (old ≡ old)) (IsBuiltStep old step reply old)) (sym built) (is (not_found_is task next unknown)))
-
 -- ---- slots
 
-none_in : (n k : ℕ) → slice_index_or (replicate {A = Slot} n None) k None ≡ None
-none_in zero k = refl
-none_in (suc n) zero = refl
-none_in (suc n) (suc k) = none_in n k
+-- a slot of a number that there is
+pub on_its_slot : (s new : State) (k : ℕ) (e : SlotEvent) (reply : Reply) → k < length s.slots → IsEvent s (OnSlot k e) reply new → IsScript s (on_slot (length s.slots) k e) reply new
+on_its_slot s new k e reply within h =
+    let there : nat_lt k (length s.slots) ≡ true = grind (arith, nat_tests, within) in
+    subst (λ b. IsScript s (cond b (only (OnSlot k e)) (Answer_with (Err NoSuchSlot))) reply new) (sym there) (only_is s new (OnSlot k e) reply h)
 
--- no slot above 0 is mounted
-none_above : (m : Mount) (n k : ℕ) → 0 < k → slice_index_or (Some m ∷ replicate n None) k None ≡ None
-none_above m n zero above = absurd (omega arith)
-none_above m n (suc k) above = none_in n k
+-- and of one that there isn't
+pub past_slots : (s : State) (k : ℕ) (e : SlotEvent) → length s.slots ≤ k → IsScript s (on_slot (length s.slots) k e) (Err NoSuchSlot) s
+past_slots s k e past =
+    let none : nat_lt k (length s.slots) ≡ false = grind (arith, nat_tests, past) in
+    subst (λ b. IsScript s (cond b (only (OnSlot k e)) (Answer_with (Err NoSuchSlot))) (Err NoSuchSlot) s) (sym none) (refl, refl)
 
--- slot 0 is there
-pub on_first : (size : ℕ) (t : Table) (m : Slot) (rest : List Slot) (p : Pool) (new : State) (e : SlotEvent) (reply : Reply)
-    → IsEvent (state_of size t (m ∷ rest) p) (OnSlot 0 e) reply new → IsScript (state_of size t (m ∷ rest) p) (on_slot (length (m ∷ rest)) 0 e) reply new
-on_first size t m rest p new e reply h =
-    let s : State = state_of size t (m ∷ rest) p in
-    let there : nat_lt 0 (length (m ∷ rest)) ≡ true = grind (arith, nat_tests) in
-    subst (λ b. IsScript s (cond b (only (OnSlot 0 e)) (Answer_with (Err NoSuchSlot))) reply new) (sym there) (only_is s new (OnSlot 0 e) reply h)
+-- what was read of a slot is what it is, and put back it leaves the slots as they were
+pub read_slot : (xs : List Slot) (k : ℕ) (x old : Slot) → k < length xs → x ≡ slice_index_or xs k x → x ≡ old → slot_in xs k ≡ old
+read_slot xs k x old within e is = get_or_default xs k None x within ∙ sym e ∙ is
 
--- another slot answers that it is not there
-pub elsewhere_is : (size : ℕ) (t : Table) (m : Mount) (n k : ℕ) (p : Pool) (e : SlotEvent) → 0 < k → slot_event size k calm None e ≡ refuse NoSuchSlot → IsTrue (is_slot_event None e)
-    → let s : State = state_of size t (Some m ∷ replicate n None) p in IsScript s (on_slot (length s.slots) k e) (Err NoSuchSlot) s
-elsewhere_is size t m n k p e above refuses happens =
-    let s : State = state_of size t (Some m ∷ replicate n None) p in
-    let none : slot_at s k ≡ None = none_above m n k above in
-    elim (nat_lt k (length s.slots)) as (λ b. nat_lt k (length s.slots) ≡ b → IsScript s (cond b (only (OnSlot k e)) (Answer_with (Err NoSuchSlot))) (Err NoSuchSlot) s) [
-      | true ↦ λ below.
-          only_is s s (OnSlot k e) (Err NoSuchSlot) (
-            calm,
-            (below, subst (λ x. IsTrue (is_slot_event x e)) (sym none) happens, subst (λ x. IsFresh calm x) (sym none) refl),
-            subst (λ x. planned s k (slot_event size k calm x e) ≡ (Err NoSuchSlot, s)) (sym none) (ap (planned s k) refuses),
-          )
-      | false ↦ λ past. (refl, refl)
-    ] refl
+pub put_back : (xs : List Slot) (k : ℕ) (x : Slot) → x ≡ slice_index_or xs k x → slice_set xs k x ≡ xs
+put_back xs k x e = ap (slice_set xs k) e ∙ set-get_or xs k x
 
--- an event done on the mount of slot 0 is its script
-pub on_slot_0 : (size bytes slots : ℕ) (t : Table) (m n : Mount) (p q : Pool) (e : SlotEvent) (reply : Reply) → IsKept size bytes slots t m p → IsTrue (is_slot_event (Some m) e)
-    → IsDone size p m e reply n q → IsScript (state_of size t (slots_with slots m) p) (on_slot (length (slots_with slots m)) 0 e) reply (state_of size t (slots_with slots n) q)
-on_slot_0 size bytes slots t m n p q e reply kept happens h =
-    on_first size t (Some m) (replicate (slots - 1) None) p (state_of size t (slots_with slots n) q) e reply (done_is size t m n (replicate (slots - 1) None) p q e reply kept.tied happens h)
+-- a slot without a mount answers that it is not there
+none_done : (size k : ℕ) (p : Pool) (e : SlotEvent) → slot_event size k (choosing false None) None e ≡ refuse NoSuchSlot → IsDone size k p None e (Err NoSuchSlot) None p
+unfolding IsDone
+none_done size k p e refuses = (false, ap (carried p None) refuses)
 
--- ---- steps of a slot without a task
-
-pub slot_step_0 : (size bytes slots : ℕ) (t : Table) (m n : Mount) (p q : Pool) (e : SlotEvent) (step : Step) (reply : Reply) (s : State) → IsKept size bytes slots t m p → IsTrue (is_slot_event (Some m) e)
-    → is_unbuilt (state_of size t (slots_with slots m) p) step ≡ false
-    → (IsScript (state_of size t (slots_with slots m) p) (on_slot (length (slots_with slots m)) 0 e) reply (state_of size t (slots_with slots n) q) → IsBuiltStep (state_of size t (slots_with slots m) p) step reply (state_of size t (slots_with slots n) q))
-    → IsDone size p m e reply n q → state_of size t (slots_with slots m) p ≡ s → IsStep s step reply (state_of size t (slots_with slots n) q)
-unfolding IsStep
-slot_step_0 size bytes slots t m n p q e step reply s kept happens built is h s_is =
-    let old : State = state_of size t (slots_with slots m) p in
-    let new : State = state_of size t (slots_with slots n) q in
-    subst (λ x. IsStep x step reply new) s_is
-    (subst (λ b. MatchBool b ((reply ≡ Err BadLine) × (new ≡ old)) (IsBuiltStep old step reply new)) (sym built) (is (on_slot_0 size bytes slots t m n p q e reply kept happens h)))
-
-pub slot_step_none : (size slots : ℕ) (t : Table) (m : Mount) (k : ℕ) (p : Pool) (e : SlotEvent) (step : Step) (s : State) → 0 < k → slot_event size k calm None e ≡ refuse NoSuchSlot → IsTrue (is_slot_event None e)
-    → is_unbuilt (state_of size t (slots_with slots m) p) step ≡ false
-    → (IsScript (state_of size t (slots_with slots m) p) (on_slot (length (slots_with slots m)) k e) (Err NoSuchSlot) (state_of size t (slots_with slots m) p) → IsBuiltStep (state_of size t (slots_with slots m) p) step (Err NoSuchSlot) (state_of size t (slots_with slots m) p))
-    → state_of size t (slots_with slots m) p ≡ s → IsStep s step (Err NoSuchSlot) s
-unfolding IsStep
-slot_step_none size slots t m k p e step s above refuses happens built is s_is =
-    let old : State = state_of size t (slots_with slots m) p in
-    let reply : Reply = Err NoSuchSlot in
-    subst (λ x. IsStep x step reply x) s_is
-    (subst (λ b. MatchBool b ((reply ≡ Err BadLine) × (old ≡ old)) (IsBuiltStep old step reply old)) (sym built) (is (elsewhere_is size t m (slots - 1) k p e above refuses happens)))
-
--- ---- steps of a task on a slot
-
-module _ (size bytes slots : ℕ) (t : Table) (m : Mount) (p : Pool) where
+module _ (size bytes : ℕ) (t : Table) (xs : List Slot) (p : Pool) (kept : IsKept size bytes t xs p) (k : ℕ) where
   abbrev before : State
-  before = state_of size t (slots_with slots m) p
+  before = state_of size t xs p
 
-  abbrev asks_slot : ℕ → (ℕ → SlotEvent) → ℕ → Script
-  asks_slot k e home = on_slot (length (slots_with slots m)) k (e home)
+  -- what an event on the slot leaves, as a script
+  script_done : (old new : Slot) (q : Pool) (e : SlotEvent) (reply : Reply) → k < length xs → slot_in xs k ≡ old → IsTrue (is_slot_event old e) → IsDone size k p old e reply new q
+      → IsScript before (on_slot (length xs) k e) reply (state_of size t (slice_set xs k new) q)
+  script_done old new q e reply within here happens h =
+      on_its_slot before (state_of size t (slice_set xs k new) q) k e reply within (done_is size t xs k old new p q e reply kept.tied within here happens h)
 
-  pub task_step_0 : (step : Step) (task home : ℕ) (e : ℕ → SlotEvent) (n : Mount) (q : Pool) (reply : Reply) (s : State) → is_unbuilt before step ≡ false
-      → ((new : State) → IsScript before (finding task (asks_slot 0 e)) reply new → IsBuiltStep before step reply new)
-      → IsKept size bytes slots t m p → IsTrue (is_slot_event (Some m) (e home)) → home_of t task ≡ Some home → IsDone size p m (e home) reply n q → before ≡ s
-      → IsStep s step reply (state_of size t (slots_with slots n) q)
-  task_step_0 step task home e n q reply s built is kept happens known h s_is =
-      let new : State = state_of size t (slots_with slots n) q in
-      step_by_script size t (slots_with slots m) p step task (asks_slot 0 e) reply new s built (is new) home known (on_slot_0 size bytes slots t m n p q (e home) reply kept happens h) s_is
+  -- and where it leaves all as it was
+  script_same : (old : Slot) (e : SlotEvent) (reply : Reply) → k < length xs → slot_in xs k ≡ old → IsTrue (is_slot_event old e) → IsDone size k p old e reply old p → IsScript before (on_slot (length xs) k e) reply before
+  script_same old e reply within here happens h =
+      subst (λ ys. IsScript before (on_slot (length xs) k e) reply (state_of size t ys p)) (ap (slice_set xs k) (sym here) ∙ set-get_or xs k None) (script_done old old p e reply within here happens h)
 
-  pub task_step_none : (step : Step) (task home k : ℕ) (e : ℕ → SlotEvent) (s : State) → is_unbuilt before step ≡ false
-      → (IsScript before (finding task (asks_slot k e)) (Err NoSuchSlot) before → IsBuiltStep before step (Err NoSuchSlot) before)
-      → 0 < k → slot_event size k calm None (e home) ≡ refuse NoSuchSlot → IsTrue (is_slot_event None (e home)) → home_of t task ≡ Some home → before ≡ s → IsStep s step (Err NoSuchSlot) s
-  task_step_none step task home k e s built is above refuses happens known s_is =
-      subst (λ x. IsStep s step (Err NoSuchSlot) x) s_is
-      (step_by_script size t (slots_with slots m) p step task (asks_slot k e) (Err NoSuchSlot) before s built is home known (elsewhere_is size t m (slots - 1) k p (e home) above refuses happens) s_is)
+  module _ (step : Step) (built : is_unbuilt before step ≡ false) (s : State) (s_is : before ≡ s) where
+    by_built : (reply : Reply) (new : State) → IsBuiltStep before step reply new → IsStep s step reply new
+    unfolding IsStep
+    by_built reply new is = subst (λ x. IsStep x step reply new) s_is (subst (λ b. MatchBool b ((reply ≡ Err BadLine) × (new ≡ before)) (IsBuiltStep before step reply new)) (sym built) is)
+
+    same_after : (reply : Reply) → IsStep s step reply before → IsStep s step reply s
+    same_after reply h = subst (λ x. IsStep s step reply x) s_is h
+
+    -- ---- steps of a slot without a task
+
+    module _ (e : SlotEvent) (is : (reply : Reply) (new : State) → IsScript before (on_slot (length xs) k e) reply new → IsBuiltStep before step reply new) where
+      pub slot_step : (old new : Slot) (q : Pool) (reply : Reply) → k < length xs → slot_in xs k ≡ old → IsTrue (is_slot_event old e) → IsDone size k p old e reply new q → IsStep s step reply (state_of size t (slice_set xs k new) q)
+      slot_step old new q reply within here happens h = by_built reply (state_of size t (slice_set xs k new) q) (is reply _ (script_done old new q e reply within here happens h))
+
+      pub slot_step_same : (old : Slot) (reply : Reply) → k < length xs → slot_in xs k ≡ old → IsTrue (is_slot_event old e) → IsDone size k p old e reply old p → IsStep s step reply s
+      slot_step_same old reply within here happens h = same_after reply (by_built reply before (is reply before (script_same old e reply within here happens h)))
+
+      pub slot_step_past : length xs ≤ k → IsStep s step (Err NoSuchSlot) s
+      slot_step_past past = same_after (Err NoSuchSlot) (by_built (Err NoSuchSlot) before (is (Err NoSuchSlot) before (past_slots before k e past)))
+
+      -- the slot was read as x, which is no mount
+      pub slot_step_none : (x : Slot) → k < length xs → x ≡ slice_index_or xs k x → x ≡ None → slot_event size k (choosing false None) None e ≡ refuse NoSuchSlot → IsTrue (is_slot_event None e) → IsStep s step (Err NoSuchSlot) s
+      slot_step_none x within read none refuses happens = slot_step_same None (Err NoSuchSlot) within (read_slot xs k x None within read none) happens (none_done size k p e refuses)
+
+    -- ---- steps of a task on a slot
+
+    module _ (task : ℕ) (e : ℕ → SlotEvent) (is : (reply : Reply) (new : State) → IsScript before (finding task (λ home. on_slot (length xs) k (e home))) reply new → IsBuiltStep before step reply new) where
+      pub task_unknown : home_of t task ≡ None → IsStep s step (Err NoSuchTask) s
+      task_unknown unknown = same_after (Err NoSuchTask) (by_built (Err NoSuchTask) before (is (Err NoSuchTask) before (not_found_is size t xs p task (λ home. on_slot (length xs) k (e home)) unknown)))
+
+      module _ (home : ℕ) (known : home_of t task ≡ Some home) where
+        found : (reply : Reply) (new : State) → IsScript before (on_slot (length xs) k (e home)) reply new → IsStep s step reply new
+        found reply new h = by_built reply new (is reply new (finding_is size t xs p task home (λ home. on_slot (length xs) k (e home)) reply new known h))
+
+        pub task_step : (old new : Slot) (q : Pool) (reply : Reply) → k < length xs → slot_in xs k ≡ old → IsTrue (is_slot_event old (e home)) → IsDone size k p old (e home) reply new q → IsStep s step reply (state_of size t (slice_set xs k new) q)
+        task_step old new q reply within here happens h = found reply _ (script_done old new q (e home) reply within here happens h)
+
+        pub task_step_past : length xs ≤ k → IsStep s step (Err NoSuchSlot) s
+        task_step_past past = same_after (Err NoSuchSlot) (found (Err NoSuchSlot) before (past_slots before k (e home) past))
+
+        pub task_step_none : (x : Slot) → k < length xs → x ≡ slice_index_or xs k x → x ≡ None → slot_event size k (choosing false None) None (e home) ≡ refuse NoSuchSlot → IsTrue (is_slot_event None (e home)) → IsStep s step (Err NoSuchSlot) s
+        task_step_none x within read none refuses happens =
+            same_after (Err NoSuchSlot) (found (Err NoSuchSlot) before (script_same None (e home) (Err NoSuchSlot) within (read_slot xs k x None within read none) happens (none_done size k p (e home) refuses)))
+
+-- the state with a slot that was read and put back
+pub state_back : (size : ℕ) (t : Table) (xs : List Slot) (p : Pool) (k : ℕ) (x : Slot) (s : State) → x ≡ slice_index_or xs k x → state_of size t xs p ≡ s → s ≡ state_of size t (slice_set xs k x) p
+state_back size t xs p k x s read s_is = sym s_is ∙ ap (λ ys. state_of size t ys p) (sym (put_back xs k x read))

@@ -2,15 +2,14 @@
 use Rattle.std.proofs.Common.{◌≡◌, ℕ, zero, suc, ◌+◌, ◌-◌, ◌<◌, ◌≤◌, List, [], ◌∷◌, None, Some, length, map, replicate, refl, sym, ◌∙◌, ap, subst, arith}
 use Rattle.std.specs.List.{sum_by, All}
 use Rattle.std.proofs.lemmas.List.Sums.{sum_by-cons}
-use Rattle.hp_model.specs.Machine.{pool_of, start, open_mount, node_of, idle_node, rows_of, used_at, committed_pages}
+use Rattle.hp_model.specs.Machine.{pool_of, slots_from, start, open_mount, node_of, idle_node, rows_of, used_at, committed_pages}
 use Rattle.hp_model.specs.NodeRows.{idle_row}
 use Rattle.hp_model.specs.Plan.{slot_committed}
 use Rattle.hp_model.specs.PoolCounts.{Pool}
 use Rattle.hp_model.specs.Settled.{IsSettledState}
 use Rattle.hp_model.specs.State.{State}
 use Rattle.hp_model.proofs.StaysSettled.{start_is_settled}
-use Rattle.hp_system.specs.Carried.{state_of}
-use Rattle.hp_system.specs.Kept.{slots_with, IsKept}
+use Rattle.hp_system.specs.Kept.{state_of, IsKept}
 
 abbrev pub first_pool : List ℕ → Pool
 first_pool frames = record { nr = 0; overcommit = 0; committed = 0; nodes = record { rows = map idle_row frames; growth = 0; release = 0 } }
@@ -19,7 +18,7 @@ idle_nodes : (frames : List ℕ) → map node_of (map idle_row frames) ≡ map i
 idle_nodes [] = refl
 idle_nodes (f ∷ fs) = ap (λ xs. idle_node f ∷ xs) (idle_nodes fs)
 
-pub start_is : (frames : List ℕ) (size n : ℕ) → state_of size [] (slots_with n open_mount) (first_pool frames) ≡ start frames size n
+pub start_is : (frames : List ℕ) (size n : ℕ) → state_of size [] (slots_from n) (first_pool frames) ≡ start frames size n
 start_is frames size n = ap (λ xs. record (start frames size n) { nodes = xs }) (idle_nodes frames)
 
 none_free : (u : ℕ) → 0 - u ≡ 0
@@ -40,7 +39,7 @@ start_pool frames size n =
     ap (λ c. record (pool_of (start frames size n)) { committed = c }) none
     ∙ ap (λ rs. record { nr = 0; overcommit = 0; committed = 0; nodes = record { rows = rs; growth = 0; release = 0 } }) (idle_rows (start frames size n) 0 frames)
 
-pub start_kept : (frames : List ℕ) (size bytes n : ℕ) → size ≡ bytes → 0 < n → length frames ≤ 4 → All (λ f. f ≤ 65536) frames → IsKept size bytes n [] open_mount (first_pool frames)
+pub start_kept : (frames : List ℕ) (size bytes n : ℕ) → size ≡ bytes → 0 < size → length frames ≤ 4 → All (λ f. f ≤ 65536) frames → IsKept size bytes [] (slots_from n) (first_pool frames)
 start_kept frames size bytes n same some few small = record {
   size = same;
   some = some;

@@ -1,28 +1,34 @@
--- What holds of the machine between steps.
-use Rattle.std.specs.Prelude.{◌≡◌, ℕ, ◌-◌, ◌<◌, None, Some, List, ◌∷◌, length, replicate}
-use Rattle.hp_model.specs.File.{Mount, maps_of}
-use Rattle.hp_model.specs.MakeMap.{tasks_of}
-use Rattle.hp_model.specs.MountCounts.{reserves_of}
-use Rattle.hp_model.specs.Machine.{pool_of}
+-- The machine's state by its parts, and what holds of it between steps.
+use Rattle.std.specs.Prelude.{◌≡◌, ℕ, ◌<◌, List, map}
+use Rattle.hp_model.specs.declared.answer.Counts.{Counts}
+use Rattle.hp_model.specs.Machine.{node_of, pool_of}
 use Rattle.hp_model.specs.Plan.{Slot}
 use Rattle.hp_model.specs.PoolCounts.{Pool}
 use Rattle.hp_model.specs.Settled.{IsSettledState}
+use Rattle.hp_model.specs.State.{State}
 use Rattle.hp_model.specs.Table.{Table}
-use Rattle.hp_system.specs.Carried.{state_of}
 
--- slot 0 has the mount, and no other slot has one
-abbrev pub slots_with : ℕ → Mount → List Slot
-slots_with n m = Some m ∷ replicate (n - 1) None
+-- the machine's state, by a table, slots and a pool
+abbrev pub state_of : (page_size : ℕ) → Table → List Slot → Pool → State
+state_of size table slots p =
+    record {
+      page_size = size;
+      table = table;
+      slots = slots;
+      nr = p.nr;
+      overcommit = p.overcommit;
+      nodes = map node_of p.nodes.rows;
+      growth = p.nodes.growth;
+      release = p.nodes.release;
+    }
 
 -- the pool's numbers are the sums over files and maps, and settled
-pub record IsKept (page_size bytes slots : ℕ) (table : Table) (m : Mount) (p : Pool) : Type 0 where
+pub record IsKept (page_size bytes : ℕ) (table : Table) (slots : List Slot) (p : Pool) : Type 0 where
   pub size : page_size ≡ bytes
-  pub some : 0 < slots
-  pub tied : pool_of (state_of page_size table (slots_with slots m) p) ≡ p
-  pub settled : IsSettledState (state_of page_size table (slots_with slots m) p)
+  pub some : 0 < page_size
+  pub tied : pool_of (state_of page_size table slots p) ≡ p
+  pub settled : IsSettledState (state_of page_size table slots p)
 
--- what a mount keeps beside its files: the promises of its entries, how many maps there are, and how many tasks have some
-pub record IsCounted (held mapped busy : ℕ) (m : Mount) : Type 0 where
-  pub promised : held ≡ reserves_of m
-  pub maps : mapped ≡ length (maps_of m)
-  pub tasks : busy ≡ length (tasks_of m)
+-- the numbers of a pool whose pages are all free and promised to nobody
+abbrev pub all_free : State → Counts
+all_free s = record { total = s.nr; free = s.nr; rsvd = 0; surp = 0; nr = s.nr; overcommit = s.overcommit }

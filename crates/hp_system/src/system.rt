@@ -1,45 +1,48 @@
 //! The machine.
-ghost use Rattle.std.specs.Prelude.{◌≡◌, ℕ, ◌+◌, ◌<◌, ◌≤◌, length, All, IfOk, OnErr};
+ghost use Rattle.std.specs.Prelude.{◌≡◌, ◌<◌, ◌≤◌, [], length, true, vec_capacity, All, IfOk, OnErr};
 ghost use Rattle.hp_model.specs.declared.step.Reserving.TheVariants.{Reserve};
 ghost use Rattle.hp_model.specs.declared.step.Sharing.TheVariants.{Shared};
-ghost use Rattle.hp_model.specs.declared.step.Step.TheVariants.{Connect, Create, Map, Load, Store, Nr, Meminfo};
-ghost use Rattle.hp_model.specs.Machine.{start};
-ghost use Rattle.hp_model.specs.PoolCounts.{counts_of};
-ghost use Rattle.hp_model.specs.Promises.{IsPromised, IsPromisedRun};
+ghost use Rattle.hp_model.specs.declared.step.Step.TheVariants.{Connect, Mount as MountStep, Umount, Create, Map, Load, Store, Nr, Meminfo, Df};
+ghost use Rattle.hp_model.specs.Machine.{slots_from, start};
+ghost use Rattle.hp_model.specs.PoolCounts.{IsSettled};
+ghost use Rattle.hp_model.specs.Promises.{is_usage, IsPromised, IsPromisedRun};
 ghost use Rattle.hp_model.specs.Step.{IsStep};
 ghost use Rattle.hp_model.specs.Writing.{IsWithinLimits};
+ghost use Rattle.hp_system.specs.Kept.{all_free};
 
-use crate::files::{Files, MapAccess, MapRange};
 use crate::table::TaskTable;
 use hp_model::answer::{Answer, Counts, Reply};
 use hp_model::bytes::Bytes;
 use hp_model::event::TableEvent;
+use hp_model::limits::Limits;
 use hp_model::naming::Naming;
 use hp_model::refusal::Refusal;
 use hp_model::step::{Reserving, Sharing, Step};
+use hp_mount::{MapAccess, MapRange, Mount};
+use hp_options::options::parse_options;
 use hp_pool::{Blanks, Pool};
 use std::alloc::{AllocError, Global};
 use std::marker::Model;
+use std::mem;
 
-/// The machine. Contracts see its state.
+/// The machine. Contracts see its state. It can't be dropped: `close` ends it.
 pub struct System<N: Naming> {
     page_bytes: usize,
-    slots: u64,
+    alloc: Global,
+    slots: Vec<Option<Mount<N>>>,
     table: TaskTable,
-    files: Files<N>,
     pool: Pool<N>,
 }
 
 impl<N: Naming> Model for System<N> {
     ghost use Rattle.hp_model.specs.State.{State};
-    ghost use Rattle.hp_system.specs.Carried.{state_of};
-    ghost use Rattle.hp_system.specs.Kept.{slots_with, IsKept};
+    ghost use Rattle.hp_system.specs.Kept.{state_of, IsKept};
 
     ghost Value = { State };
 
-    ghost view = { λ s. state_of s.page_bytes s.table (slots_with s.slots s.files) s.pool };
+    ghost view = { λ s. state_of s.page_bytes s.table s.slots.items s.pool };
 
-    ghost invariant = { λ s. IsKept s.page_bytes N.page_bytes s.slots s.table s.files s.pool };
+    ghost invariant = { λ s. IsKept s.page_bytes N.page_bytes s.table s.slots.items s.pool };
 }
 
 impl<N: Naming> System<N> {
@@ -47,8 +50,8 @@ impl<N: Naming> System<N> {
     /// slots. Slot 0 is mounted without limits, and no other slot is. There is no task, no file and
     /// no page in the pool.
     ///
-    /// Takes the memory of all pages and of the task table at once. Where some is refused, the rest
-    /// is given back before the error is answered.
+    /// Takes the memory of all pages, of the slots and of the task table at once. Where some is
+    /// refused, the rest is given back before the error is answered.
     pub fn new(
         alloc: Global,
         frames: &[u64],
@@ -60,6 +63,7 @@ impl<N: Naming> System<N> {
         requires few { length frames.now ≤ 4 }
         requires small { All (λ f. f ≤ 65536) frames.now }
         requires slots { 0 < slots }
+        requires bytes { 0 < page_bytes }
         requires page_bytes { page_bytes ≡ N.page_bytes }
         requires permits { (blanks.permits.name ≡ N.permits) × (blanks.permits.parts ≡ 18446744073709551615) }
         requires zero { (blanks.pages.zero.name ≡ N.pages_0) × (blanks.pages.zero.parts ≡ 18446744073709551615) }
@@ -69,15 +73,23 @@ impl<N: Naming> System<N> {
         ensures { IfOk result (λ s. s ≡ start frames.now page_bytes slots) }
     {
         let table = TaskTable::new(alloc)?;
-        let mut pool = Pool::new(alloc, frames, page_bytes, blanks)?;
-        let files = Files::new(alloc, pool.nothing());
-        Ok(System {
-            page_bytes,
-            slots,
-            table,
-            files,
-            pool,
-        })
+        let mut mounts = Vec::with_capacity(alloc, slots as usize)?;
+        match Pool::new(alloc, frames, page_bytes, blanks) {
+            Err(error) => {
+                mounts.destroy_empty();
+                Err(error)
+            }
+            Ok(mut pool) => {
+                open_slots(alloc, &mut mounts, slots as usize, &mut pool);
+                Ok(System {
+                    page_bytes,
+                    alloc,
+                    slots: mounts,
+                    table,
+                    pool,
+                })
+            }
+        }
     }
 
     /// The bytes of a page.
@@ -101,6 +113,84 @@ impl<N: Naming> System<N> {
         self.table.apply(nodes, TableEvent::Add { task, home })
     }
 
+    /// Mounts a slot with options, and commits the minimum that they ask for: a section of the pool, at
+    /// home node 0. Sizes in percent are of nr at this moment (`admin-guide/mm/hugetlbpage.rst`). It
+    /// takes no memory.
+    ///
+    /// Refused, and then nothing changes, by the first of these that holds (profile):
+    /// - NoSuchSlot: there is no such slot.
+    /// - SlotTaken: it is mounted.
+    /// - BadOption: the text is no options.
+    /// - MinOverSize: the minimum is above the limit, in pages.
+    /// - NoPages: with the minimum more pages would be committed than nr and overcommit together, or
+    ///   than all frames.
+    pub fn mount(&mut self, slot: u64, options: &Bytes) -> Reply
+        ensures step { IsStep self.old (MountStep slot options.now) result self.new }
+        ensures size { self.new.page_size ≡ self.old.page_size }
+    {
+        let at = slot as usize;
+        if at >= self.slots.len() {
+            return Err(Refusal::NoSuchSlot);
+        }
+        if self.slots[at].is_some() {
+            return Err(Refusal::SlotTaken);
+        }
+        let page_bytes = self.page_bytes();
+        let limits = parse_options(options.as_slice(), self.pool.nr(), page_bytes)?;
+        let mount = Mount::open(self.alloc, &mut self.pool, &limits)?;
+        match mem::replace(&mut self.slots[at], Some(mount)) {
+            None => Ok(Answer::Done),
+            Some(_old) => unreachable!(),
+        }
+    }
+
+    /// Ends the mount of a slot, with its files. Their pages and reservations go back to the pool, and
+    /// the mount's minimum with them; pages that became unneeded surplus leave the pool.
+    ///
+    /// Refused, and then nothing changes, by the first of these that holds (profile):
+    /// - NoSuchSlot: there is no such slot, or it is not mounted.
+    /// - Busy: it is slot 0, or a task has a map there.
+    pub fn umount(&mut self, slot: u64) -> Reply
+        ensures step { IsStep self.old (Umount slot) result self.new }
+        ensures size { self.new.page_size ≡ self.old.page_size }
+    {
+        let at = slot as usize;
+        if at >= self.slots.len() {
+            return Err(Refusal::NoSuchSlot);
+        }
+        match &self.slots[at] {
+            None => return Err(Refusal::NoSuchSlot),
+            Some(mount) => {
+                if at == 0 || mount.has_maps() {
+                    return Err(Refusal::Busy);
+                }
+            }
+        }
+        match mem::replace(&mut self.slots[at], None) {
+            None => unreachable!(),
+            Some(mount) => mount.close(&mut self.pool),
+        }
+        Ok(Answer::Done)
+    }
+
+    /// Answers a mount's limit and minimum, its pages in use and reservations, its limit of files, and
+    /// how many files it has. It changes nothing.
+    ///
+    /// Refused as NoSuchSlot where there is no such slot, or where it is not mounted.
+    pub fn df(&self, slot: u64) -> Reply
+        ensures step { IsStep self.now (Df slot) result self.now }
+        ensures limits { IsWithinLimits result }
+    {
+        let at = slot as usize;
+        if at >= self.slots.len() {
+            return Err(Refusal::NoSuchSlot);
+        }
+        let Some(mount) = &self.slots[at] else {
+            return Err(Refusal::NoSuchSlot);
+        };
+        Ok(mount.usage())
+    }
+
     /// Makes a file of length 0 in a slot.
     ///
     /// Refused, and then nothing changes, by the first of these that holds (profile):
@@ -108,16 +198,20 @@ impl<N: Naming> System<N> {
     /// - BadName: the name is not 1 to 64 bytes of A-Z a-z 0-9 `.` `_` `-`.
     /// - FileExists: a file of the slot has the name.
     /// - TooMany: the slot has 1,024 files.
+    /// - NoInodes: it has as many files as its mount may have.
     /// - OutOfMemory: memory for the name or the file is refused.
     pub fn create(&mut self, slot: u64, name: &Bytes) -> Reply
         ensures step { IsStep self.old (Create slot name.now) result self.new }
         ensures size { self.new.page_size ≡ self.old.page_size }
     {
-        let _slots = self.slots;
-        if slot != 0 {
+        let at = slot as usize;
+        if at >= self.slots.len() {
             return Err(Refusal::NoSuchSlot);
         }
-        self.files.create(name)
+        let Some(mount) = &mut self.slots[at] else {
+            return Err(Refusal::NoSuchSlot);
+        };
+        mount.create(name)
     }
 
     /// Maps `range.pages` indices of a file, from `range.start` on, for a task, and answers the map's
@@ -131,6 +225,7 @@ impl<N: Naming> System<N> {
     /// - NoSuchFile: no file of the slot has the name.
     /// - OutOfRange: there are no pages, or the map ends past index 1,048,576.
     /// - TooMany: more than 65,536 pages, a 4,097th map of the slot, or one of a 257th task.
+    /// - MountFull: the mount would use more pages than its limit.
     /// - OutOfMemory: memory for the file's indices or the map is refused.
     /// - NoPages: more pages would be committed than nr and overcommit together, or than all frames.
     pub fn map(&mut self, slot: u64, name: &Bytes, range: &MapRange) -> Reply
@@ -141,10 +236,14 @@ impl<N: Naming> System<N> {
             Some(home) => home,
             None => return Err(Refusal::NoSuchTask),
         };
-        if slot != 0 {
+        let at = slot as usize;
+        if at >= self.slots.len() {
             return Err(Refusal::NoSuchSlot);
         }
-        self.files.map(&mut self.pool, home, name.as_slice(), range)
+        let Some(mount) = &mut self.slots[at] else {
+            return Err(Refusal::NoSuchSlot);
+        };
+        mount.map(&mut self.pool, home, name.as_slice(), range)
     }
 
     /// Answers `count` bytes of the page at `access.index` of a file, from byte `access.offset` on,
@@ -159,6 +258,7 @@ impl<N: Naming> System<N> {
     /// - CrossesPage: the bytes end past the end of the page.
     /// - TooMany: `count` is more than 256.
     /// - BeyondEnd: the index is not below the file's length (pages).
+    /// - MountFull: the index has no page and no entry, and the mount uses as many pages as its limit.
     /// - NoPages: the index has no page and no entry, and no page more may be committed.
     pub fn load(&mut self, slot: u64, access: &MapAccess, count: u64) -> Reply
         ensures step { IsStep self.old (Load access.now.task slot access.now.map access.now.index access.now.offset count) result self.new }
@@ -169,11 +269,14 @@ impl<N: Naming> System<N> {
             Some(home) => home,
             None => return Err(Refusal::NoSuchTask),
         };
-        if slot != 0 {
+        let at = slot as usize;
+        if at >= self.slots.len() {
             return Err(Refusal::NoSuchSlot);
         }
-        self.files
-            .load(&mut self.pool, page_bytes, home, access, count)
+        let Some(mount) = &mut self.slots[at] else {
+            return Err(Refusal::NoSuchSlot);
+        };
+        mount.load(&mut self.pool, page_bytes, home, access, count)
     }
 
     /// Writes 1 to 256 bytes into the page at `access.index` of a file, from byte `access.offset`
@@ -191,11 +294,14 @@ impl<N: Naming> System<N> {
             Some(home) => home,
             None => return Err(Refusal::NoSuchTask),
         };
-        if slot != 0 {
+        let at = slot as usize;
+        if at >= self.slots.len() {
             return Err(Refusal::NoSuchSlot);
         }
-        self.files
-            .store(&mut self.pool, page_bytes, home, access, bytes.as_slice())
+        let Some(mount) = &mut self.slots[at] else {
+            return Err(Refusal::NoSuchSlot);
+        };
+        mount.store(&mut self.pool, page_bytes, home, access, bytes.as_slice())
     }
 
     /// Sets how many persistent pages there are, or all frames where `pages` is more, and answers
@@ -233,7 +339,7 @@ impl<N: Naming> System<N> {
         ensures size { self.new.page_size ≡ self.old.page_size }
         ensures limits { IsWithinLimits result }
     {
-        let _slots = self.slots;
+        let _slots = &self.slots;
         self.answer(step)
     }
 
@@ -241,10 +347,13 @@ impl<N: Naming> System<N> {
     #[tactic(auto, unfolding(hp_model::specs::Step::IsStep))]
     fn answer(&mut self, step: &Step) -> Reply
         ensures step { IsStep self.old step.now result self.new }
+        ensures usage { is_usage step.now ≡ true → IsWithinLimits result }
         ensures size { self.new.page_size ≡ self.old.page_size }
     {
         match step {
             Step::Connect { task, home } => self.connect(*task, *home),
+            Step::Mount { slot, options } => self.mount(*slot, options),
+            Step::Umount { slot } => self.umount(*slot),
             Step::Create { slot, name } => self.create(*slot, name),
             Step::Map {
                 task,
@@ -296,6 +405,7 @@ impl<N: Naming> System<N> {
             }
             Step::Nr { pages } => self.set_nr(*pages),
             Step::Meminfo => self.meminfo(),
+            Step::Df { slot } => self.df(*slot),
             _ => Err(Refusal::BadLine),
         }
     }
@@ -315,18 +425,54 @@ impl<N: Naming> System<N> {
         Ok(replies)
     }
 
-    /// Ends the machine, and answers the pool's last numbers (pages). Never refused.
-    ///
-    /// No contract says yet which numbers these are.
-    pub fn close(self) -> Counts {
+    /// Ends the machine with all that it has: maps, files, mounts and tasks. It answers the pool's numbers
+    /// (pages), of which all that were persistent are free again, and none is promised or surplus.
+    /// Never refused; it takes no memory.
+    pub fn close(self) -> Counts
+        ensures { result ≡ all_free self }
+    {
         let System {
             page_bytes: _,
-            slots: _,
+            alloc: _,
+            mut slots,
             table: _,
-            files,
             mut pool,
         } = self;
-        files.close(&mut pool);
+        while let Some(slot) = slots.pop() {
+            match slot {
+                Some(mount) => mount.close(&mut pool),
+                None => {}
+            }
+        }
+        slots.destroy_empty();
         pool.close()
+    }
+}
+
+// Slot 0 with a mount without limits, and the other slots without one. There is room for them.
+fn open_slots<N: Naming>(
+    alloc: Global,
+    slots: &mut Vec<Option<Mount<N>>>,
+    count: usize,
+    pool: &mut Pool<N>,
+)
+    requires none { slots.old.items ≡ [] }
+    requires some { 0 < count }
+    requires room { count ≤ vec_capacity slots.old }
+    requires settled { IsSettled pool.old }
+    ensures slots { slots.new.items ≡ slots_from count }
+    ensures pool { pool.new ≡ pool.old }
+{
+    let unlimited = Limits {
+        max: None,
+        min: 0,
+        inodes: None,
+    };
+    match Mount::open(alloc, pool, &unlimited) {
+        Ok(mount) => slots.push_reserved(Some(mount)),
+        Err(_refusal) => unreachable!(),
+    }
+    while slots.len() < count {
+        slots.push_reserved(None);
     }
 }

@@ -2,7 +2,7 @@
 ghost use Rattle.std.specs.Prelude.{◌≡◌, ◌≤◌, length};
 
 use crate::System;
-use crate::files::{MapAccess, MapRange};
+use hp_mount::{MapAccess, MapRange};
 use hp_model::answer::{Answer, Counts, Reply};
 use hp_model::bytes::Bytes;
 use hp_model::naming::Naming;

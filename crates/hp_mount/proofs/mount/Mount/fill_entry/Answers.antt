@@ -1,8 +1,8 @@
-use Rattle.std.proofs.Common.{◌≡◌, subst, sym}
-use Rattle.std.specs.Prelude.{slice_index_or}
+use Rattle.std.proofs.Common.{◌≡◌, ap, subst, sym}
+use Rattle.std.specs.Prelude.{slice_index_or, slice_set}
 use Rattle.hp_model.specs.File.{with_file}
 use Rattle.hp_mount.specs.Counted.{IsCounted}
-use Rattle.hp_mount.proofs.Keeping.{entry_left}
+use Rattle.hp_mount.proofs.Keeping.{entry_left, share_as}
 use Rattle.hp_mount.proofs.mount.Mount.fill_entry.Goals as goal
 
 pub invariant_of-self : goal.invariant_of-self
@@ -12,5 +12,7 @@ invariant_of-self g c =
     let x = c.index_mut-at.result.now in
     let kept = subst (λ m. IsCounted s.share s.maps s.tasks m) c.self.view_is c.self.invariant in
     let read = subst (λ m. x ≡ slice_index_or m.files k x) c.self.view_is c.index_mut-at.ensures.value in
-    subst (λ m. IsCounted c.take_one-page.new.self s.maps s.tasks (with_file m k c.fill.new.self)) (sym c.self.view_is)
-    (entry_left s.share s.maps s.tasks c.args.self.now k c.args.index x c.fill.new.self kept c.requires.file c.requires.below read c.take_one-page.new.self c.zero.new.self c.requires.entered c.take_one-page.ensures.sub c.fill.ensures)
+    let taken = c.take_one-page.ensures.sub in
+    share_as s.share c.take_one-page.new.self s.inodes s.maps s.tasks (slice_set s.files.items k c.fill.new.self) (ap (λ u. u.max) taken) (ap (λ u. u.min) taken)
+    (subst (λ m. IsCounted c.take_one-page.new.self s.maps s.tasks (with_file m k c.fill.new.self)) (sym c.self.view_is)
+    (entry_left s.share s.maps s.tasks c.args.self.now k c.args.index x c.fill.new.self kept c.requires.file c.requires.below read c.take_one-page.new.self c.zero.new.self c.requires.entered taken c.fill.ensures))

@@ -10,4 +10,4 @@ returns-clause-promised g c =
 
 pub returns-clause-limits : goal.returns-clause-limits
 returns-clause-limits g c =
-    within_limits c.args.self.now c.args.step.now c.answer.result c.answer.new.self (subst IsSettledState c.self.view_is c.self.invariant.settled) c.answer.ensures.step
+    within_limits c.args.self.now c.args.step.now c.answer.result c.answer.new.self (subst IsSettledState c.self.view_is c.self.invariant.settled) c.answer.ensures.step c.answer.ensures.usage

@@ -1,13 +1,12 @@
-use Rattle.hp_system.specs.Kept.{slots_with}
 use Rattle.hp_system.proofs.Carries.{settled_pool}
 use Rattle.hp_system.proofs.MachineSteps.{meminfo_step}
 use Rattle.hp_system.proofs.system.System.meminfo.Goals as goal
 
 pub counts-requires : goal.counts-requires
 counts-requires g c =
-    let s = c.self.inside in settled_pool s.page_bytes g.N.Naming.page_bytes s.slots s.table s.files s.pool c.self.invariant
+    let s = c.self.inside in settled_pool s.page_bytes g.N.Naming.page_bytes s.table s.slots.items s.pool c.self.invariant
 
 pub returns-clause-step : goal.returns-clause-step
 returns-clause-step g c =
     let s = c.self.inside in
-    meminfo_step s.page_bytes s.table (slots_with s.slots s.files) s.pool c.self.invariant.tied c.counts.result c.args.self.now c.counts.ensures.counts c.self.view_is
+    meminfo_step s.page_bytes s.table s.slots.items s.pool c.self.invariant.tied c.counts.result c.args.self.now c.counts.ensures.counts c.self.view_is
