@@ -1,5 +1,6 @@
 mod Accesses
 mod Cells
+mod Closing
 mod Counted
 mod Keeping
 mod Making
