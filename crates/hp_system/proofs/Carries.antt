@@ -3,7 +3,7 @@ use Rattle.std.proofs.Common.{◌≡◌, ℕ, suc, ◌+◌, ◌<◌, ◌≤◌, 
 use Rattle.std.specs.Prelude.{nat_lt, slice_index_or, slice_set}
 use Rattle.std.specs.List.{sum}
 use Rattle.std.proofs.lemmas.Bool.Decides.{nat_tests}
-use Rattle.std.proofs.lemmas.List.{set-get_or}
+use Rattle.std.proofs.lemmas.List.{length-map, set-get_or}
 use Rattle.std.proofs.lemmas.List.Sums.{get_or-le-sum_by, sum_by-cons}
 use Rattle.hp_model.specs.declared.event.Event.TheVariants.{Slot as OnSlot, Pool as OnPool}
 use Rattle.hp_model.specs.declared.event.PoolEvent.{PoolEvent}
@@ -11,7 +11,7 @@ use Rattle.hp_model.specs.declared.event.SlotEvent.{SlotEvent}
 use Rattle.hp_model.specs.Event.{IsEvent, IsFresh, planned, settled, stamps_in, after, is_slot_event}
 use Rattle.hp_model.specs.File.{Mount}
 use Rattle.hp_model.specs.Lists.{is_among}
-use Rattle.hp_model.specs.Machine.{pool_of, with_pool}
+use Rattle.hp_model.specs.Machine.{node_of, pool_of, with_pool}
 use Rattle.hp_model.specs.MountCounts.{usage_of}
 use Rattle.hp_model.specs.Plan.{Reply, Slot, Outcome, Refused, Answered, Plan, Finish, Ask, Choice, slot_committed}
 use Rattle.hp_model.specs.Pool.{PoolAnswer, section}
@@ -42,7 +42,7 @@ ended_is : (size : ℕ) (t : Table) (xs : List Slot) (k : ℕ) (p : Pool) (o : O
 ended_is size t xs k p (Refused r) = ap (λ ys. (Err r, state_of size t ys p)) (sym (set-get_or xs k None))
 ended_is size t xs k p (Answered a new) = refl
 
-planned_is : (size : ℕ) (t : Table) (xs : List Slot) (k : ℕ) (p : Pool) (plan : Plan) → pool_of (state_of size t xs p) ≡ p
+pub planned_is : (size : ℕ) (t : Table) (xs : List Slot) (k : ℕ) (p : Pool) (plan : Plan) → pool_of (state_of size t xs p) ≡ p
     → planned (state_of size t xs p) k plan ≡ left_of size t xs k (carried p (slot_in xs k) plan)
 planned_is size t xs k p (Finish o) tie = ended_is size t xs k p o
 planned_is size t xs k p (Ask sec f) tie =
@@ -132,6 +132,9 @@ module _ (size bytes : ℕ) (t : Table) where
       let one = get_or-le-sum_by slot_committed xs k None within in
       let mine = ap slot_committed here in
       omega (arith, all, one, mine)
+
+  pub few_nodes : (xs : List Slot) (p : Pool) → IsKept size bytes t xs p → length p.nodes.rows ≤ 4
+  few_nodes xs p kept = (let nodes = kept.settled.nodes in let same = length-map p.nodes.rows node_of in omega (arith, nodes, same))
 
 -- the task table is no part of it
 pub kept_with_table : (size bytes : ℕ) (t u : Table) (xs : List Slot) (p : Pool) → IsKept size bytes t xs p → IsKept size bytes u xs p

@@ -1,3 +1,5 @@
 mod Carries
+mod Ending
 mod MachineSteps
+mod Mounting
 mod Start

@@ -1,10 +1,11 @@
 -- The machine at the start.
-use Rattle.std.proofs.Common.{◌≡◌, ℕ, zero, suc, ◌+◌, ◌-◌, ◌<◌, ◌≤◌, List, [], ◌∷◌, None, Some, length, map, replicate, refl, sym, ◌∙◌, ap, subst, arith}
+use Rattle.std.proofs.Common.{◌≡◌, ℕ, zero, suc, ◌+◌, ◌-◌, ◌<◌, ◌≤◌, List, [], ◌∷◌, ◌++◌, None, Some, length, map, replicate, refl, sym, ◌∙◌, ap, subst, arith}
 use Rattle.std.specs.List.{sum_by, All}
+use Rattle.std.proofs.lemmas.List.{replicate-append-replicate}
 use Rattle.std.proofs.lemmas.List.Sums.{sum_by-cons}
 use Rattle.hp_model.specs.Machine.{pool_of, slots_from, start, open_mount, node_of, idle_node, rows_of, used_at, committed_pages}
 use Rattle.hp_model.specs.NodeRows.{idle_row}
-use Rattle.hp_model.specs.Plan.{slot_committed}
+use Rattle.hp_model.specs.Plan.{Slot, slot_committed}
 use Rattle.hp_model.specs.PoolCounts.{Pool}
 use Rattle.hp_model.specs.Settled.{IsSettledState}
 use Rattle.hp_model.specs.State.{State}
@@ -13,6 +14,10 @@ use Rattle.hp_system.specs.Kept.{state_of, IsKept}
 
 abbrev pub first_pool : List ℕ → Pool
 first_pool frames = record { nr = 0; overcommit = 0; committed = 0; nodes = record { rows = map idle_row frames; growth = 0; release = 0 } }
+
+-- one slot without a mount more
+pub none_more : (x : Slot) (n : ℕ) → (x ∷ replicate {A = Slot} n None) ++ None ∷ [] ≡ x ∷ replicate {A = Slot} (suc n) None
+none_more x n = ap (λ ys. x ∷ ys) (replicate-append-replicate n 1 None ∙ ap (λ k. replicate {A = Slot} k None) (let more : n + 1 ≡ suc n = omega arith in more))
 
 idle_nodes : (frames : List ℕ) → map node_of (map idle_row frames) ≡ map idle_node frames
 idle_nodes [] = refl
@@ -29,7 +34,7 @@ idle_rows s k [] = refl
 idle_rows s k (f ∷ fs) =
     ap (λ x. record { frames = f; total = 0; free = x; surp = 0 } ∷ rows_of s (k + 1) (map idle_node fs)) (none_free (used_at k s)) ∙ ap (λ xs. idle_row f ∷ xs) (idle_rows s (k + 1) fs)
 
-sum_none : (n : ℕ) → sum_by slot_committed (replicate n None) ≡ 0
+pub sum_none : (n : ℕ) → sum_by slot_committed (replicate n None) ≡ 0
 sum_none zero = refl
 sum_none (suc n) = omega (arith, sum_none n, sum_by-cons slot_committed None (replicate n None))
 

@@ -472,7 +472,7 @@ fn open_slots<N: Naming>(
         Ok(mount) => slots.push_reserved(Some(mount)),
         Err(_refusal) => unreachable!(),
     }
-    while slots.len() < count {
+    for _ in 1..count {
         slots.push_reserved(None);
     }
 }

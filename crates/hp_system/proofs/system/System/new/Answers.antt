@@ -1,28 +1,42 @@
 use Rattle.std.proofs.Common.{◌≡◌, [], sym, ap, subst, ◌∙◌}
-use Rattle.hp_model.specs.Machine.{open_mount}
-use Rattle.hp_system.specs.Carried.{state_of}
-use Rattle.hp_system.specs.Kept.{slots_with, IsKept}
+use Rattle.hp_model.specs.Machine.{slots_from}
+use Rattle.hp_model.specs.PoolCounts.{IsSettled, Pool}
+use Rattle.hp_system.specs.Kept.{state_of, IsKept}
+use Rattle.hp_system.proofs.Carries.{settled_pool}
 use Rattle.hp_system.proofs.Start.{start_kept, start_is, first_pool}
 use Rattle.hp_system.proofs.system.System.new.Goals as goal
+
+pub open_slots-requires : goal.open_slots-requires
+open_slots-requires g c =
+    let size = c.args.page_bytes in
+    let bytes = g.N.Naming.page_bytes in
+    let slots = c.args.slots in
+    let kept = start_kept c.args.frames.now size bytes slots c.requires.page_bytes c.requires.bytes c.requires.few c.requires.small in
+    record {
+      none = c.in_ok-mounts.ensures.items;
+      some = c.requires.slots;
+      room = c.in_ok-mounts.ensures.capacity;
+      settled = subst (λ (p : Pool). IsSettled p) (sym c.in-Ok.ensures) (settled_pool size bytes [] (slots_from slots) (first_pool c.args.frames.now) kept);
+    }
 
 pub invariant_of-result : goal.invariant_of-result
 invariant_of-result g c =
     let size = c.args.page_bytes in
     let bytes = g.N.Naming.page_bytes in
     let slots = c.args.slots in
-    let empty : c.in_ok-table.table ≡ [] = c.in_ok-table.ensures in
-    let fresh : c.nothing.new.self ≡ first_pool c.args.frames.now = c.nothing.ensures.same ∙ c.in_ok-pool.ensures in
-    let kept = start_kept c.args.frames.now size bytes slots c.requires.page_bytes c.requires.slots c.requires.few c.requires.small in
-    subst (λ t. IsKept size bytes slots t c.new-files.result c.nothing.new.self) (sym empty)
-    (subst (λ m. IsKept size bytes slots [] m c.nothing.new.self) (sym c.new-files.ensures)
-    (subst (λ p. IsKept size bytes slots [] open_mount p) (sym fresh) kept))
+    let frames = c.args.frames.now in
+    let fresh : c.open_slots.new.pool ≡ first_pool frames = c.open_slots.ensures.pool ∙ c.in-Ok.ensures in
+    let kept = start_kept frames size bytes slots c.requires.page_bytes c.requires.bytes c.requires.few c.requires.small in
+    subst (λ t. IsKept size bytes t c.open_slots.new.slots.items c.open_slots.new.pool) (sym c.in_ok-table.ensures)
+    (subst (λ xs. IsKept size bytes [] xs c.open_slots.new.pool) (sym c.open_slots.ensures.slots)
+    (subst (λ p. IsKept size bytes [] (slots_from slots) p) (sym fresh) kept))
 
-pub returns : goal.returns
-returns g c =
+pub returns-in-Ok : goal.returns-in-Ok
+returns-in-Ok g c =
     let size = c.args.page_bytes in
     let slots = c.args.slots in
-    let empty : c.in_ok-table.table ≡ [] = c.in_ok-table.ensures in
-    let fresh : c.nothing.new.self ≡ first_pool c.args.frames.now = c.nothing.ensures.same ∙ c.in_ok-pool.ensures in
-    ap (λ x. state_of size c.in_ok-table.table (slots_with slots c.new-files.result) x) fresh
-    ∙ (ap (λ x. state_of size c.in_ok-table.table (slots_with slots x) (first_pool c.args.frames.now)) c.new-files.ensures
-    ∙ (ap (λ x. state_of size x (slots_with slots open_mount) (first_pool c.args.frames.now)) empty ∙ start_is c.args.frames.now size slots))
+    let frames = c.args.frames.now in
+    let fresh : c.open_slots.new.pool ≡ first_pool frames = c.open_slots.ensures.pool ∙ c.in-Ok.ensures in
+    ap (λ x. state_of size c.in_ok-table.table c.open_slots.new.slots.items x) fresh
+    ∙ (ap (λ xs. state_of size c.in_ok-table.table xs (first_pool frames)) c.open_slots.ensures.slots
+    ∙ (ap (λ t. state_of size t (slots_from slots) (first_pool frames)) c.in_ok-table.ensures ∙ start_is frames size slots))

@@ -1,0 +1,121 @@
+-- The end of the machine: slot after slot goes, with all that it has.
+use Rattle.std.proofs.Common.{◌≡◌, ℕ, suc, ◌+◌, ◌-◌, ◌<◌, ◌≤◌, ◌&&◌, ◌==◌, None, Some, Ok, List, [], ◌∷◌, ◌++◌, length, replicate, refl, sym, ap, subst, ◌∙◌, arith}
+use Rattle.std.specs.Prelude.{max, slice_set}
+use Rattle.std.specs.List.{sum}
+use Rattle.std.proofs.lemmas.Bool.{cond_both}
+use Rattle.std.proofs.lemmas.List.{append-nil, append_assoc, length-append, length-replicate}
+use Rattle.std.proofs.Math.Seq.{get_or-append_seam, set-append_seam}
+use Rattle.hp_model.specs.declared.answer.Answer.TheVariants.{Done}
+use Rattle.hp_model.specs.declared.answer.Counts.{Counts}
+use Rattle.hp_model.specs.Balance.{IsBalanced}
+use Rattle.hp_model.specs.File.{Mount}
+use Rattle.hp_model.specs.Machine.{committed_pages, pool_of}
+use Rattle.hp_model.specs.Plan.{Plan, Finish, Ask, Answered, Slot, fall_of, gives, puts_of}
+use Rattle.hp_model.specs.Pool.{GiveBack}
+use Rattle.hp_model.specs.PoolCounts.{Pool, counts_by, counts_of, used}
+use Rattle.hp_model.specs.Settled.{IsSettledState}
+use Rattle.hp_model.specs.State.{State}
+use Rattle.hp_model.specs.Table.{Table}
+use Rattle.hp_model.proofs.Plans.{balanced_gives}
+use Rattle.hp_model.proofs.RowMoves.{puts_are}
+use Rattle.hp_model.proofs.Tied.{plan_tied}
+use Rattle.hp_mount.specs.Carried.{carried}
+use Rattle.hp_system.specs.Kept.{all_free, state_of, IsKept}
+use Rattle.hp_system.proofs.Carries.{planned_is, section_left, slot_in}
+use Rattle.hp_system.proofs.Start.{sum_none}
+
+-- what is left of n slots: these, and as many without a mount as are done; what is set stays
+pub record IsEnding (size bytes n : ℕ) (t : Table) (start : Pool) (xs : List Slot) (p : Pool) : Type 0 where
+  pub kept : IsKept size bytes t (xs ++ replicate (n - length xs) None) p
+  pub few : length xs ≤ n
+  pub nr : p.nr ≡ start.nr
+  pub overcommit : p.overcommit ≡ start.overcommit
+
+pub begins : (size bytes : ℕ) (t : Table) (xs : List Slot) (p : Pool) → IsKept size bytes t xs p → IsEnding size bytes (length xs) t p xs p
+begins size bytes t xs p kept =
+    let none : length xs - length xs ≡ 0 = omega arith in
+    record { kept = subst (λ ys. IsKept size bytes t ys p) (sym (ap (λ k. xs ++ replicate {A = Slot} k None) none ∙ append-nil xs)) kept; few = omega arith; nr = refl; overcommit = refl }
+
+-- giving back changes nothing that is set
+given_nr : (p q : Pool) (m : Mount) → carried p (Some m) (gives Done (Some m) None) ≡ (Ok Done, None, q) → (q.nr ≡ p.nr) × (q.overcommit ≡ p.overcommit)
+given_nr p q m e =
+    let ks = puts_of (Some m) None in
+    let back : Plan = Ask (λ nr. GiveBack ks (fall_of (Some m) None)) (λ answer. Answered Done None) in
+    let left = ap (λ x. x.2) e in
+    let goes = cond_both ((sum ks == 0) && (fall_of (Some m) None == 0)) (Finish (Answered Done None)) back
+    (λ plan. ((carried p (Some m) plan).2.nr ≡ p.nr) × ((carried p (Some m) plan).2.overcommit ≡ p.overcommit))
+    (λ none. (refl, refl)) (λ some. (ap (λ x. x.nr) (puts_are ks p), ap (λ x. x.overcommit) (puts_are ks p))) in
+    (ap (λ x. x.nr) (sym left) ∙ goes.0, ap (λ x. x.overcommit) (sym left) ∙ goes.1)
+
+-- a mount that gives all back keeps the sums
+gone_kept : (size bytes : ℕ) (t : Table) (xs : List Slot) (k : ℕ) (m : Mount) (p q : Pool) → IsKept size bytes t xs p → k < length xs → slot_in xs k ≡ Some m
+    → carried p (Some m) (gives Done (Some m) None) ≡ (Ok Done, None, q) → IsKept size bytes t (slice_set xs k None) q
+gone_kept size bytes t xs k m p q kept within here e =
+    let s : State = state_of size t xs p in
+    let plan : Plan = gives Done (Some m) None in
+    let balanced = subst (λ y. IsBalanced y plan) (sym here) (balanced_gives Done (Some m) None (record { committed = omega arith; each = λ n. omega arith; usage = omega arith; sound = tt })) in
+    let law = plan_tied s k plan within kept.settled balanced in
+    let goes = planned_is size t xs k p plan kept.tied ∙ ap (λ y. (y.0, state_of size t (slice_set xs k y.1) y.2)) (ap (λ o. carried p o plan) here ∙ e) in
+    let left = sym (section_left s p (Some m) plan kept.tied refl) ∙ ap (λ x. x.2) e in
+    record {
+      size = kept.size;
+      some = kept.some;
+      tied = ap (λ x. pool_of x.1) (sym goes) ∙ law.0 ∙ left;
+      settled = subst (λ x. IsSettledState x) (ap (λ x. x.1) goes) law.1;
+    }
+
+module _ (size bytes n : ℕ) (t : Table) (start : Pool) (xs rest : List Slot) (x : Slot) (p : Pool) (is : xs ≡ rest ++ x ∷ []) (was : IsEnding size bytes n t start xs p) where
+  abbrev tail : ℕ
+  tail = n - length xs
+
+  wide : length xs ≡ length rest + 1
+  wide = ap length is ∙ length-append rest (x ∷ [])
+
+  laid : xs ++ replicate tail None ≡ rest ++ x ∷ replicate tail None
+  laid = ap (λ ys. ys ++ replicate tail None) is ∙ append_assoc rest (x ∷ []) (replicate tail None)
+
+  one_less : rest ++ None ∷ replicate tail None ≡ rest ++ replicate (n - length rest) None
+  one_less =
+      let few = was.few in
+      let more : suc tail ≡ n - length rest = omega (arith, wide, few) in
+      ap (λ k. rest ++ replicate {A = Slot} k None) more
+
+  ended_with : (q : Pool) → IsKept size bytes t (rest ++ None ∷ replicate tail None) q → q.nr ≡ p.nr → q.overcommit ≡ p.overcommit → IsEnding size bytes n t start rest q
+  ended_with q kept nr overcommit =
+      let few = was.few in
+      record { kept = subst (λ ys. IsKept size bytes t ys q) one_less kept; few = omega (arith, wide, few); nr = nr ∙ was.nr; overcommit = overcommit ∙ was.overcommit }
+
+  -- the last slot had no mount
+  pub none_goes : x ≡ None → IsEnding size bytes n t start rest p
+  none_goes e = ended_with p (subst (λ ys. IsKept size bytes t ys p) (laid ∙ ap (λ y. rest ++ y ∷ replicate tail None) e) was.kept) refl refl
+
+  -- or one that gave all back
+  pub mount_goes : (m : Mount) (q : Pool) → x ≡ Some m → carried p (Some m) (gives Done (Some m) None) ≡ (Ok Done, None, q) → IsEnding size bytes n t start rest q
+  mount_goes m q e given =
+      let ys = rest ++ x ∷ replicate tail None in
+      let kept = subst (λ zs. IsKept size bytes t zs p) laid was.kept in
+      let within : length rest < length ys = omega (arith, length-append rest (x ∷ replicate tail None)) in
+      let here = get_or-append_seam rest x (replicate tail None) None ∙ e in
+      let same = given_nr p q m given in
+      ended_with q (subst (λ zs. IsKept size bytes t zs q) (set-append_seam rest x (replicate tail None) None) (gone_kept size bytes t ys (length rest) m p q kept within here given)) same.0 same.1
+
+-- nothing is committed any more
+pub all_gone : (size bytes n : ℕ) (t : Table) (start p : Pool) (s : State) (xs : List Slot) → xs ≡ [] → IsEnding size bytes n t start xs p → start.nr ≡ s.nr → start.overcommit ≡ s.overcommit → counts_of p ≡ all_free s
+all_gone size bytes n t start p s xs none ends nr_is overcommit_is =
+    let kept = subst (λ ys. IsKept size bytes t (ys ++ replicate (n - length ys) None) p) none ends.kept in
+    let sums : committed_pages (state_of size t (replicate (n - 0) None) p) ≡ 0 = sum_none (n - 0) in
+    let committed : p.committed ≡ 0 = sym (ap (λ y. y.committed) kept.tied) ∙ sums in
+    let in_use = subst (λ (y : Pool). used y ≤ y.committed) kept.tied kept.settled.pool.used in
+    let idle : used p ≡ 0 = omega (arith, in_use, committed) in
+    ap (λ c. counts_by p.nr p.overcommit c (used p)) committed ∙ ap (counts_by p.nr p.overcommit 0) idle ∙ free p.nr p.overcommit
+    ∙ ap (λ k. record { total = k; free = k; rsvd = 0; surp = 0; nr = k; overcommit = p.overcommit }) (ends.nr ∙ nr_is)
+    ∙ ap (λ o. record { total = s.nr; free = s.nr; rsvd = 0; surp = 0; nr = s.nr; overcommit = o }) (ends.overcommit ∙ overcommit_is)
+  where
+    free : (nr overcommit : ℕ) → counts_by nr overcommit 0 0 ≡ record { total = nr; free = nr; rsvd = 0; surp = 0; nr = nr; overcommit = overcommit }
+    free nr overcommit =
+        let most : max nr 0 ≡ nr = omega arith in
+        let none : nr - nr ≡ 0 = omega arith in
+        let whole : nr - 0 ≡ nr = omega arith in
+        ap (λ k. record { total = k; free = k - 0; rsvd = 0; surp = k - nr; nr = nr; overcommit = overcommit }) most
+        ∙ ap (λ k. record { total = nr; free = k; rsvd = 0; surp = nr - nr; nr = nr; overcommit = overcommit }) whole
+        ∙ ap (λ k. record { total = nr; free = nr; rsvd = 0; surp = k; nr = nr; overcommit = overcommit }) none
