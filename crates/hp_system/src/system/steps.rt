@@ -1,0 +1,152 @@
+//! Steps of all kinds.
+ghost use Rattle.std.specs.Prelude.{◌≡◌, true, IfOk, OnErr};
+ghost use Rattle.hp_model.specs.declared.step.Step.TheVariants.{Connect, Nr, Meminfo};
+ghost use Rattle.hp_model.specs.Promises.{is_usage, IsPromised, IsPromisedRun};
+ghost use Rattle.hp_model.specs.Step.{IsStep};
+ghost use Rattle.hp_model.specs.Writing.{IsWithinLimits};
+
+use super::System;
+use hp_model::answer::{Answer, Reply};
+use hp_model::event::TableEvent;
+use hp_model::naming::Naming;
+use hp_model::refusal::Refusal;
+use hp_model::step::{Reserving, Sharing, Step};
+use hp_mount::{MapAccess, MapRange};
+use std::alloc::{AllocError, Global};
+
+impl<N: Naming> System<N> {
+    /// Adds a task with its home node, from which its pages come first.
+    ///
+    /// Refused, and then nothing changes, by the first of these that holds (profile):
+    /// - NoSuchNode: there is no node `home`.
+    /// - TaskExists: the task is there.
+    /// - TooMany: there are 256 tasks.
+    pub fn connect(&mut self, task: u64, home: u64) -> Reply
+        ensures step { IsStep self.old (Connect task home) result self.new }
+        ensures size { self.new.page_size ≡ self.old.page_size }
+    {
+        let nodes = self.pool.len() as u64;
+        self.table.apply(nodes, TableEvent::Add { task, home })
+    }
+
+    /// Sets how many persistent pages there are, or all frames where `pages` is more, and answers
+    /// the new number. Surplus pages become persistent first (`admin-guide/mm/hugetlbpage.rst`).
+    ///
+    /// For now refused as BadLine where `pages` is below the present number, and then nothing changes.
+    pub fn set_nr(&mut self, pages: u64) -> Reply
+        ensures step { IsStep self.old (Nr pages) result self.new }
+        ensures size { self.new.page_size ≡ self.old.page_size }
+    {
+        if pages < self.pool.nr() {
+            return Err(Refusal::BadLine);
+        }
+        Ok(Answer::Number(self.pool.set_nr(pages)))
+    }
+
+    /// Answers Total, Free, Rsvd and Surp, and what nr and overcommit are set to, all in pages
+    /// (`admin-guide/mm/hugetlbpage.rst`). Never refused, and changes nothing.
+    pub fn meminfo(&mut self) -> Reply
+        ensures step { IsStep self.old Meminfo result self.new }
+        ensures size { self.new.page_size ≡ self.old.page_size }
+    {
+        Ok(Answer::Numbers(self.pool.counts()))
+    }
+
+    /// Answers a step, or leaves everything as it was and says why. What is promised of each step
+    /// holds of this one: an access at an index reserved to its map is never refused for want of a
+    /// huge page; Total, Free, Rsvd and Surp are counts over files and maps; no mount is taken past
+    /// its limit; a load answers what its map shows, and a file shows what was stored through its maps.
+    ///
+    /// Refused as the step's own function is, and as BadLine where the step is not built yet.
+    pub fn apply(&mut self, step: &Step) -> Reply
+        ensures step { IsStep self.old step.now result self.new }
+        ensures promised { IsPromised self.old step.now result self.new }
+        ensures size { self.new.page_size ≡ self.old.page_size }
+        ensures limits { IsWithinLimits result }
+    {
+        let _slots = &self.slots;
+        self.answer(step)
+    }
+
+    // The step's own function.
+    #[tactic(auto, unfolding(hp_model::specs::Step::IsStep))]
+    fn answer(&mut self, step: &Step) -> Reply
+        ensures step { IsStep self.old step.now result self.new }
+        ensures usage { is_usage step.now ≡ true → IsWithinLimits result }
+        ensures size { self.new.page_size ≡ self.old.page_size }
+    {
+        match step {
+            Step::Connect { task, home } => self.connect(*task, *home),
+            Step::Mount { slot, options } => self.mount(*slot, options),
+            Step::Umount { slot } => self.umount(*slot),
+            Step::Create { slot, name } => self.create(*slot, name),
+            Step::Map {
+                task,
+                slot,
+                name,
+                from,
+                pages,
+                sharing: Sharing::Shared,
+                reserving: Reserving::Reserve,
+            } => {
+                let range = MapRange {
+                    task: *task,
+                    start: *from,
+                    pages: *pages,
+                };
+                self.map(*slot, name, &range)
+            }
+            Step::Load {
+                task,
+                slot,
+                map,
+                index,
+                offset,
+                count,
+            } => {
+                let access = MapAccess {
+                    task: *task,
+                    map: *map,
+                    index: *index,
+                    offset: *offset,
+                };
+                self.load(*slot, &access, *count)
+            }
+            Step::Store {
+                task,
+                slot,
+                map,
+                index,
+                offset,
+                bytes,
+            } => {
+                let access = MapAccess {
+                    task: *task,
+                    map: *map,
+                    index: *index,
+                    offset: *offset,
+                };
+                self.store(*slot, &access, bytes)
+            }
+            Step::Nr { pages } => self.set_nr(*pages),
+            Step::Meminfo => self.meminfo(),
+            Step::Df { slot } => self.df(*slot),
+            _ => Err(Refusal::BadLine),
+        }
+    }
+
+    /// Does steps one after another, and answers their replies, each as `apply` promises. Room for the replies is made first:
+    /// where it is refused, nothing is done.
+    pub fn run(&mut self, alloc: Global, steps: &[Step]) -> Result<Vec<Reply>, AllocError>
+        ensures run { IfOk result (λ replies. IsPromisedRun self.old steps.now replies.items self.new) }
+        ensures size { self.new.page_size ≡ self.old.page_size }
+        ensures err { OnErr result (self.new ≡ self.old) }
+    {
+        let mut replies = Vec::with_capacity(alloc, steps.len())?;
+        for step in steps {
+            let reply = self.apply(step);
+            replies.push_reserved(reply);
+        }
+        Ok(replies)
+    }
+}
