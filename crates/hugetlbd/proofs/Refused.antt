@@ -64,18 +64,19 @@ none_bad options name c sets fits (inr (inr h)) =
     number_not_bad _ c.slots _ IsSlots sets.slots fits.slots (subst (λ (n : Text). IsBad n CanBeSlots options) h.0 h.1)
 
 -- right words are refused only for want of memory
-pub only_memory : (words : List Text) (w : Wrong) (c : Choice) → IsRefusedFor words w → Asks words c → IsWithinLimits c → w ≡ Memory
+only_memory : (words : List Text) (w : Wrong) (c : Choice) → IsRefusedFor words w → Asks words c → IsWithinLimits c → w ≡ Memory
 only_memory words Memory c refused a fits = refl
 only_memory words (Parse error) c refused a fits = absurd (subst (IsAmong (kind_of error)) a.faultless refused.1)
 only_memory words OptionFirst c refused a fits = (let both : true ≡ false = sym refused.1 ∙ a.behind in cc)
 only_memory words (BadValue name) c refused a fits = absurd (none_bad (options_of words) name.now c a.sets fits refused.2)
 
--- and status 0 says that clap doesn't take them
+-- so they end in status 1
+pub right_is_1 : (words : List Text) (w : Wrong) (status : ℕ) (c : Choice) → IsRefusedFor words w → IsStatusOfWrong w status → Asks words c → IsWithinLimits c → status ≡ 1
+right_is_1 words w status c refused is a fits = subst (λ (x : Wrong). IsStatusOfWrong x status) (only_memory words w c refused a fits) is
+
+-- status 0 says that clap doesn't take them
 pub not_taken : (words : List Text) (w : Wrong) (status : ℕ) → IsRefusedFor words w → IsStatusOfWrong w status → status ≡ 0 → takes hugetlbd words ≡ false
 not_taken words Memory status refused is zero = absurd (omega (arith, is, zero))
 not_taken words (Parse error) status refused is zero = refused.0
 not_taken words (BadValue name) status refused is zero = absurd (omega (arith, is, zero))
 not_taken words OptionFirst status refused is zero = absurd (omega (arith, is, zero))
-
-pub memory_is_1 : (w : Wrong) (status : ℕ) → w ≡ Memory → IsStatusOfWrong w status → status ≡ 1
-memory_is_1 w status same is = subst (λ (x : Wrong). IsStatusOfWrong x status) same is

@@ -5,8 +5,11 @@ use lib.Count.{ones}
 use Rattle.clap.proofs.OnLiterals.{clap_on_literals}
 use Rattle.clap.specs.Words.{Text}
 use Rattle.hp_model.specs.Machine.{start}
-use Rattle.hugetlbd.specs.Asked.{Asks, Sets}
+use Rattle.hugetlbd.proofs.Refused.{right_is_1}
+use Rattle.hugetlbd.specs.Asked.{Asks, IsRefusedFor, Sets}
 use Rattle.hugetlbd.specs.Config.{Choice, IsWithinLimits, chosen, usual}
+use Rattle.hugetlbd.specs.Program.{IsStatusOfWrong}
+use Rattle.hugetlbd.specs.declared.settings.Wrong.{Wrong}
 
 sets_usual : (c : Choice) → Sets [] c → chosen c ≡ chosen usual
 sets_usual c s =
@@ -19,16 +22,20 @@ no_words (w ∷ []) c few a = sets_usual c a.sets
 no_words (w ∷ v ∷ rest) c few a = absurd (omega (arith, few))
 
 -- they ask for the usual machine
-pub usual_asked : (words : List Text) → length words ≤ 1 → Asks words usual
+usual_asked : (words : List Text) → length words ≤ 1 → Asks words usual
 unfolding clap_on_literals
 usual_asked [] few = record { faultless = refl; behind = refl; sets = record { frames = refl; page = refl; slots = refl } }
 usual_asked (w ∷ []) few = record { faultless = refl; behind = refl; sets = record { frames = refl; page = refl; slots = refl } }
 usual_asked (w ∷ v ∷ rest) few = absurd (omega (arith, few))
 
 -- which is within the limits
-pub usual_fits : IsWithinLimits usual
+usual_fits : IsWithinLimits usual
 unfolding ones
 usual_fits = record { frames = search rules; page = search rules; slots = search rules }
+
+-- so they end in status 1, where they are refused
+pub few_is_1 : (words : List Text) (w : Wrong) (status : ℕ) → length words ≤ 1 → IsRefusedFor words w → IsStatusOfWrong w status → status ≡ 1
+few_is_1 words w status few refused is = right_is_1 words w status usual refused is (usual_asked words few) usual_fits
 
 pub few_texts : {X : Type 0} (text : X → Text) (words : List X) → length words ≤ 1 → length (map text words) ≤ 1
 few_texts text words few = subst (λ (n : ℕ). n ≤ 1) (sym (length-map words text)) few

@@ -2,8 +2,8 @@ use Rattle.std.proofs.Common.{◌∙◌, ap, map, inl, inr, refl, subst, sym, ar
 use Rattle.hugetlbd.specs.Asked.{Asks}
 use Rattle.hugetlbd.specs.Config.{Choice, choice_of, chosen, usual}
 use Rattle.hugetlbd.proofs.Runs.{answered_well, answered_as, ends_below_2, ran_as}
-use Rattle.hugetlbd.proofs.Refused.{memory_is_1, not_taken, only_memory}
-use Rattle.hugetlbd.proofs.Usual.{few_texts, no_words, usual_asked, usual_fits}
+use Rattle.hugetlbd.proofs.Refused.{not_taken, right_is_1}
+use Rattle.hugetlbd.proofs.Usual.{few_is_1, few_texts, no_words}
 use Rattle.hugetlbd.proofs.program.program.Goals as goal
 
 pub returns-in-Ok-clause-script : goal.returns-in-Ok-clause-script
@@ -35,7 +35,7 @@ returns-in-Err-clause-ended g c = inr (c.in-Err.wrong, c.in-Err.ensures.refused,
 
 pub returns-in-Err-clause-right : goal.returns-in-Err-clause-right
 returns-in-Err-clause-right g c choice asked fits two =
-    omega (arith, two, memory_is_1 c.in-Err.wrong c.refuse.result (only_memory (map g.S.AsStr.text c.args.words.now) c.in-Err.wrong choice c.in-Err.ensures.refused asked fits) c.refuse.ensures.status)
+    omega (arith, two, right_is_1 _ c.in-Err.wrong c.refuse.result choice c.in-Err.ensures.refused c.refuse.ensures.status asked fits)
 
 pub returns-in-Err-clause-script : goal.returns-in-Err-clause-script
 returns-in-Err-clause-script g c zero =
@@ -43,12 +43,8 @@ returns-in-Err-clause-script g c zero =
 
 pub returns-in-Err-clause-usual : goal.returns-in-Err-clause-usual
 returns-in-Err-clause-usual g c few zero =
-    let words = map g.S.AsStr.text c.args.words.now in
-    let memory = only_memory words c.in-Err.wrong usual c.in-Err.ensures.refused (usual_asked words (few_texts _ _ few)) usual_fits in
-    absurd (omega (arith, zero, memory_is_1 c.in-Err.wrong c.refuse.result memory c.refuse.ensures.status))
+    absurd (omega (arith, zero, few_is_1 _ c.in-Err.wrong c.refuse.result (few_texts g.S.AsStr.text c.args.words.now few) c.in-Err.ensures.refused c.refuse.ensures.status))
 
 pub returns-in-Err-clause-alone : goal.returns-in-Err-clause-alone
 returns-in-Err-clause-alone g c few =
-    let words = map g.S.AsStr.text c.args.words.now in
-    let memory = only_memory words c.in-Err.wrong usual c.in-Err.ensures.refused (usual_asked words (few_texts _ _ few)) usual_fits in
-    inr (memory_is_1 c.in-Err.wrong c.refuse.result memory c.refuse.ensures.status, refl)
+    inr (few_is_1 _ c.in-Err.wrong c.refuse.result (few_texts g.S.AsStr.text c.args.words.now few) c.in-Err.ensures.refused c.refuse.ensures.status, refl)
