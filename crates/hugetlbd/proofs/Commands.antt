@@ -1,11 +1,13 @@
 -- The program's command line, as clap builds it.
-use Rattle.std.proofs.Common.{◌≡◌, ◌∙◌, refl, ap, ap₂, subst, true, false, List, [], Option, option_map}
+use Rattle.std.proofs.Common.{◌≡◌, ◌∙◌, ◌&&◌, refl, sym, ap, ap₂, subst, true, false, List, [], Option, Some, None, is_some, option_map}
+use Rattle.std.specs.Option.{option_map_or}
 use Rattle.clap.specs.Built.{AddsArg}
-use Rattle.clap.specs.Words.{App, Row, Rule, Text, app_of, is_simple, matches_of, rule_of, subcommand_of, with_rule}
+use Rattle.clap.specs.Words.{App, HasMatchesOf, Row, Rule, Text, app_of, found_of, rows_of, rule_of, subcommand_of, subcommand_rows_of, with_rule}
 use Rattle.clap.specs.Faults.{fault_of, is_simple_and_free}
 use Rattle.clap.specs.declared.builder.arg.Arg.{Arg}
 use Rattle.clap.specs.declared.builder.command.Command.{Command}
-use Rattle.hugetlbd.specs.Asked.{Asks, SetsAt, hugetlbd}
+use Rattle.clap.specs.declared.parser.matches.ArgMatches.{ArgMatches}
+use Rattle.hugetlbd.specs.Asked.{Asks, Sets, has_option_first, has_options, hugetlbd, options_of}
 use Rattle.hugetlbd.specs.Config.{Choice}
 
 -- an argument was added
@@ -13,17 +15,47 @@ pub adds_rule : (a b : Command) (x : Arg) (app : App) (rule : Rule) → AddsArg 
     → app_of b ≡ with_rule app rule
 adds_rule a b x app rule h local before same = h.shape local ∙ ap₂ with_rule before same
 
--- what a parse found is what the words ask for
-pub asks : (app : App) (words : List Text) (top : List Row) (inner : Option (List Row)) (sub : Option (Text × List Row)) (c : Choice) → app ≡ hugetlbd
+-- what a parse found, where it took the words: the options at the top, and those of the subcommand
+pub record Found (words : List Text) (top : List Row) (inner : Option (List Row)) : Type 0 where
+  pub faultless : fault_of hugetlbd words ≡ []
+  pub first : has_option_first words ≡ (is_some inner && has_options top)
+  pub options : options_of words ≡ option_map_or (λ rows. rows) inner top
+
+rows_in : Option (Text × List Row) → Option (List Row)
+rows_in = option_map (λ p. p.1)
+
+is_some-rows_in : (sub : Option (Text × List Row)) → is_some sub ≡ is_some (rows_in sub)
+unfolding rows_in
+is_some-rows_in None = refl
+is_some-rows_in (Some p) = refl
+
+options-rows_in : (sub : Option (Text × List Row)) (top : List Row) → option_map_or (λ p. p.1) sub top ≡ option_map_or (λ rows. rows) (rows_in sub) top
+unfolding rows_in
+options-rows_in None top = refl
+options-rows_in (Some p) top = refl
+
+pub found : (app : App) (words : List Text) (m : ArgMatches) (inner : Option (List Row)) → app ≡ hugetlbd
     → (is_simple_and_free app ≡ true → fault_of app words ≡ [])
-    → (is_simple app ≡ true → (top ≡ matches_of app words) × (sub ≡ subcommand_of app words))
-    → inner ≡ option_map (λ p. p.1) sub
-    → SetsAt inner top c → Asks words c
-asks app words top inner sub c same faults matches met sets =
+    → HasMatchesOf app words m
+    → inner ≡ option_map (λ p. p.1) (subcommand_rows_of m)
+    → Found words (rows_of (found_of m)) inner
+unfolding rows_in
+found app words m inner same faults matches met =
     let fault = subst (λ (a : App). is_simple_and_free a ≡ true → fault_of a words ≡ []) same faults in
-    let found = subst (λ (a : App). is_simple a ≡ true → (top ≡ matches_of a words) × (sub ≡ subcommand_of a words)) same matches refl in
-    let met_all = met ∙ ap (option_map (λ p. p.1)) found.1 in
+    let found = subst (λ (a : App). HasMatchesOf a words m) same matches refl in
+    let rows : rows_in (subcommand_of hugetlbd words) ≡ inner = ap rows_in (sym found.1) ∙ sym met in
+    let sub = subcommand_of hugetlbd words in
     record {
       faultless = fault refl;
-      sets = subst (λ (o : Option (List Row)). SetsAt o (matches_of hugetlbd words) c) met_all (subst (λ (t : List Row). SetsAt inner t c) found.0 sets);
+      first = ap₂ (◌&&◌) (is_some-rows_in sub ∙ ap is_some rows) (ap has_options (sym found.0));
+      options = options-rows_in sub _ ∙ ap₂ (option_map_or (λ rows. rows)) rows (sym found.0);
     }
+
+-- and then what the words ask for
+pub asks : (words : List Text) (top : List Row) (inner : Option (List Row)) (c : Choice) → Found words top inner → (is_some inner && has_options top) ≡ false
+    → Sets (option_map_or (λ rows. rows) inner top) c → Asks words c
+asks words top inner c f behind sets = record {
+  faultless = f.faultless;
+  behind = f.first ∙ behind;
+  sets = subst (λ (rows : List Row). Sets rows c) (sym f.options) sets;
+}

@@ -45,3 +45,12 @@ answered_well machine (Some xs) w0 w1 (Err e) status same h zero = absurd (omega
 pub answered_as : (machine other : State) (r0 w0 w1 : Option (List ℕ)) → machine ≡ other → IfSome r0 (λ script. AnswersScript machine script w0 w1)
     → IfSome r0 (λ script. AnswersScript other script w0 w1)
 answered_as machine other r0 w0 w1 same h = subst (λ (m : State). IfSome r0 (λ script. AnswersScript m script w0 w1)) same h
+
+-- a run ends with status 0 or 1
+pub ends_below_2 : (ended : Result ℕ RunFault) (status : ℕ) → status ≡ status_of ended → status ≡ 2 → ⊥
+ends_below_2 (Ok n) status same two = omega (arith, same, two)
+ends_below_2 (Err e) status same two = omega (arith, same, two)
+
+pub ran_as : {machine other : State} {r0 r1 w0 w1 : Option (List ℕ)} {sure : Type 0} {ended : Result ℕ RunFault} → machine ≡ other
+    → Run machine r0 r1 sure w0 w1 ended → Run other r0 r1 sure w0 w1 ended
+ran_as {r0 = r0} {r1 = r1} {w0 = w0} {w1 = w1} {sure = sure} {ended = ended} same h = subst (λ (m : State). Run m r0 r1 sure w0 w1 ended) same h

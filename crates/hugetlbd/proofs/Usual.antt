@@ -1,17 +1,15 @@
 -- A command line with no words after the program's name asks for the usual machine.
-use Rattle.std.proofs.Common.{◌≡◌, ◌∙◌, ◌∷◌, ◌≤◌, ℕ, List, [], length, Bool, true, false, refl, sym, ap, arith}
+use Rattle.std.proofs.Common.{◌≡◌, ◌∷◌, ◌∙◌, ◌≤◌, ℕ, List, [], length, map, refl, sym, ap, subst, arith, rules}
+use Rattle.std.proofs.lemmas.List.{length-map}
+use lib.Count.{ones}
 use Rattle.clap.proofs.OnLiterals.{clap_on_literals}
-use Rattle.clap.specs.Takes.{takes}
-use Rattle.clap.specs.Values.{kind_of}
-use Rattle.clap.specs.Words.{App, Text}
-use Rattle.clap.specs.declared.error.Error.{Error}
-use Rattle.clap.specs.declared.error.kind.ErrorKind.TheVariants.{OutOfMemory}
+use Rattle.clap.specs.Words.{Text}
 use Rattle.hp_model.specs.Machine.{start}
-use Rattle.hugetlbd.specs.Asked.{Asks, IsRefusedFor, IsWrongOf, Sets, hugetlbd}
+use Rattle.hugetlbd.proofs.Refused.{right_is_1}
+use Rattle.hugetlbd.specs.Asked.{Asks, IsRefusedFor, Sets}
+use Rattle.hugetlbd.specs.Config.{Choice, IsWithinLimits, chosen, usual}
 use Rattle.hugetlbd.specs.Program.{IsStatusOfWrong}
 use Rattle.hugetlbd.specs.declared.settings.Wrong.{Wrong}
-use Rattle.hugetlbd.specs.declared.settings.Wrong.TheVariants.{Memory, Parse, BadValue, OptionFirst}
-use Rattle.hugetlbd.specs.Config.{Choice, chosen, usual}
 
 sets_usual : (c : Choice) → Sets [] c → chosen c ≡ chosen usual
 sets_usual c s =
@@ -23,27 +21,21 @@ no_words [] c few a = sets_usual c a.sets
 no_words (w ∷ []) c few a = sets_usual c a.sets
 no_words (w ∷ v ∷ rest) c few a = absurd (omega (arith, few))
 
--- and clap takes them
-pub taken : (words : List Text) → length words ≤ 1 → takes hugetlbd words ≡ true
+-- they ask for the usual machine
+usual_asked : (words : List Text) → length words ≤ 1 → Asks words usual
 unfolding clap_on_literals
-taken [] few = refl
-taken (w ∷ []) few = refl
-taken (w ∷ v ∷ rest) few = absurd (omega (arith, few))
+usual_asked [] few = record { faultless = refl; behind = refl; sets = record { frames = refl; page = refl; slots = refl } }
+usual_asked (w ∷ []) few = record { faultless = refl; behind = refl; sets = record { frames = refl; page = refl; slots = refl } }
+usual_asked (w ∷ v ∷ rest) few = absurd (omega (arith, few))
 
--- so no words are refused only for want of memory
-pub not_refused : (words : List Text) (w : Wrong) (status : ℕ) → length words ≤ 1 → IsRefusedFor words w → IsStatusOfWrong w status → status ≡ 0 → ⊥
-not_refused words Memory status few refused is zero = omega (arith, is, zero)
-not_refused words (Parse error) status few refused is zero = (let both : true ≡ false = sym (taken words few) ∙ refused in cc)
-not_refused words (BadValue name) status few refused is zero = omega (arith, is, zero)
-not_refused words OptionFirst status few refused is zero = omega (arith, is, zero)
+-- which is within the limits
+usual_fits : IsWithinLimits usual
+unfolding ones
+usual_fits = record { frames = search rules; page = search rules; slots = search rules }
 
-never : (b : Bool) → (b ≡ true → ⊥) → b ≡ false
-never true f = absurd (f refl)
-never false f = refl
+-- so they end in status 1, where they are refused
+pub few_is_1 : (words : List Text) (w : Wrong) (status : ℕ) → length words ≤ 1 → IsRefusedFor words w → IsStatusOfWrong w status → status ≡ 1
+few_is_1 words w status few refused is = right_is_1 words w status usual refused is (usual_asked words few) usual_fits
 
--- clap's refusal is passed on as one where it doesn't take the words
-pub refused_for : (a : App) (words : List Text) (error : Error) (w : Wrong) → a ≡ hugetlbd → (takes a words ≡ true → kind_of error ≡ OutOfMemory) → IsWrongOf error w → IsRefusedFor words w
-refused_for a words error Memory same passes is = tt
-refused_for a words error (Parse e) same passes is = never (takes hugetlbd words) (λ t. is.1 (passes (ap (λ x. takes x words) same ∙ t)))
-refused_for a words error (BadValue name) same passes is = tt
-refused_for a words error OptionFirst same passes is = tt
+pub few_texts : {X : Type 0} (text : X → Text) (words : List X) → length words ≤ 1 → length (map text words) ≤ 1
+few_texts text words few = subst (λ (n : ℕ). n ≤ 1) (sym (length-map words text)) few

@@ -1,18 +1,20 @@
 -- What the words of a command line ask for. The first word is the program's name.
-use Rattle.std.specs.Prelude.{◌≡◌, ◌≢◌, ◌==◌, ◌||◌, Bool, false, is_some, List, [], map, option_map, Option, Some, None, MatchOption, Ok, codes}
+use Rattle.std.specs.Prelude.{◌≡◌, ◌≢◌, ◌⊎◌, ◌==◌, ◌&&◌, ◌||◌, ℕ, Bool, true, false, is_some, List, [], map, Some, IfSome, IsSomeAnd, MatchOption, Ok, codes}
 use Rattle.std.specs.List.{slice_split}
+use Rattle.std.specs.Option.{option_map_or}
 use Rattle.clap.specs.Walk.{Row, Rule, Text, first_of}
 use Rattle.clap.specs.Simple.{App, new_app, new_rule, with_rule, with_subcommand, matches_of, subcommand_of}
 use Rattle.clap.specs.Faults.{fault_of}
+use Rattle.clap.specs.Kinds.{IsAmong}
 use Rattle.clap.specs.Takes.{takes}
 use Rattle.clap.specs.Values.{kind_of}
 use Rattle.clap.specs.declared.error.kind.ErrorKind.TheVariants.{OutOfMemory}
 use Rattle.clap.specs.declared.error.Error.{Error}
 use Rattle.clap.specs.declared.builder.action.ArgAction.TheVariants.{Set}
 use Rattle.hp_model.specs.Words.{number_of}
-use Rattle.hugetlbd.specs.Config.{Choice, usual}
+use Rattle.hugetlbd.specs.Config.{Choice, IsFrames, IsPage, IsSlots, usual}
 use Rattle.hugetlbd.specs.declared.settings.Wrong.{Wrong}
-use Rattle.hugetlbd.specs.declared.settings.Wrong.TheVariants.{Memory, Parse}
+use Rattle.hugetlbd.specs.declared.settings.Wrong.TheVariants.{Memory, Parse, BadValue, OptionFirst}
 
 -- ---- the command line, as clap reads it
 
@@ -46,25 +48,63 @@ pub record Sets (options : List Row) (c : Choice) : Type 0 where
 abbrev pub has_options : List Row → Bool
 has_options options = is_some (first_of (codes "frames") options) || (is_some (first_of (codes "page") options) || is_some (first_of (codes "slots") options))
 
--- the options that count: those of the subcommand, where there is one, and then none stands before it
-abbrev pub SetsAt : Option (List Row) → List Row → Choice → Type 0
-SetsAt None top c = Sets top c
-SetsAt (Some inner) top c = (has_options top ≡ false) × Sets inner c
+-- an option stands before the subcommand
+abbrev pub has_option_first : List Text → Bool
+has_option_first words = is_some (subcommand_of hugetlbd words) && has_options (matches_of hugetlbd words)
+
+-- the options that count: those of the subcommand, where there is one
+abbrev pub options_of : List Text → List Row
+options_of words = option_map_or (λ p. p.1) (subcommand_of hugetlbd words) (matches_of hugetlbd words)
 
 -- the words are a right command line, and ask for this
 pub record Asks (words : List Text) (c : Choice) : Type 0 where
   pub faultless : fault_of hugetlbd words ≡ []
-  pub sets : SetsAt (option_map (λ p. p.1) (subcommand_of hugetlbd words)) (matches_of hugetlbd words) c
+  pub behind : has_option_first words ≡ false
+  pub sets : Sets (options_of words) c
 
--- clap refuses the words only where they are no right command line, or ask for help
+-- ---- wrong words
+
+-- what each option can have as its value
+abbrev pub CanBeFrames : Text → Type 0
+CanBeFrames text = (fs : List ℕ) × (map number_of (pieces text) ≡ map Ok fs) × IsFrames fs
+
+abbrev pub CanBePage : Text → Type 0
+CanBePage text = (n : ℕ) × (number_of text ≡ Ok n) × IsPage n
+
+abbrev pub CanBeSlots : Text → Type 0
+CanBeSlots text = (n : ℕ) × (number_of text ≡ Ok n) × IsSlots n
+
+-- the option of this name is given, with a value that it can't have
+abbrev pub IsBad : Text → (Text → Type 0) → List Row → Type 0
+IsBad name CanBe options = IsSomeAnd (first_of name options) (λ text. CanBe text → ⊥)
+
+-- it isn't given, or with a value that it can have
+abbrev pub IsGood : Text → (Text → Type 0) → List Row → Type 0
+IsGood name CanBe options = IfSome (first_of name options) CanBe
+
+-- the first bad option has this name, in the order frames, page, slots
+abbrev pub HasBadValue : List Row → Text → Type 0
+HasBadValue options name = ((name ≡ codes "frames") × IsBad name CanBeFrames options)
+    ⊎ (((name ≡ codes "page") × IsBad name CanBePage options × IsGood (codes "frames") CanBeFrames options)
+    ⊎ ((name ≡ codes "slots") × IsBad name CanBeSlots options × IsGood (codes "page") CanBePage options × IsGood (codes "frames") CanBeFrames options))
+
+-- it is said that the option of this name has a bad value
+abbrev pub IsBadValue : Text → Wrong → Type 0
+IsBadValue name (BadValue bad) = bad.now ≡ name
+IsBadValue name other = ⊥
+
+-- why these options set no machine; memory may be refused in place of any answer
+abbrev pub IsWrongIn : List Row → Wrong → Type 0
+IsWrongIn options Memory = Unit {0}
+IsWrongIn options (BadValue name) = HasBadValue options name.now
+IsWrongIn options other = ⊥
+
+-- why these words ask for nothing; memory may be refused in place of any answer
 abbrev pub IsRefusedFor : List Text → Wrong → Type 0
-IsRefusedFor words (Parse error) = takes hugetlbd words ≡ false
-IsRefusedFor words other = Unit {0}
-
--- a fault of a value, and none of clap's
-abbrev pub IsOfValues : Wrong → Type 0
-IsOfValues (Parse error) = ⊥
-IsOfValues other = Unit {0}
+IsRefusedFor words Memory = Unit {0}
+IsRefusedFor words (Parse error) = (takes hugetlbd words ≡ false) × IsAmong (kind_of error) (fault_of hugetlbd words)
+IsRefusedFor words OptionFirst = (fault_of hugetlbd words ≡ []) × (has_option_first words ≡ true)
+IsRefusedFor words (BadValue name) = (fault_of hugetlbd words ≡ []) × (has_option_first words ≡ false) × HasBadValue (options_of words) name.now
 
 -- why clap's refusal is passed on
 abbrev pub IsWrongOf : Error → Wrong → Type 0

@@ -27,13 +27,18 @@ choice_of m = record { frames = m.frames.items; page = m.page; slots = m.slots }
 abbrev pub choice_in : Config → Choice
 choice_in (Script m) = choice_of m
 
--- 1 to 4 nodes of 1 to 65,536 frames, pages of 1,024 to 2,097,152 bytes, a power of two, and 1 to 64 slots
+-- 1 to 4 nodes of 1 to 65,536 frames
+abbrev pub IsFrames : List ℕ → Type 0
+IsFrames fs = (1 ≤ length fs) × (length fs ≤ 4) × All (λ f. (1 ≤ f) × (f ≤ 65536)) fs
+
+-- 1,024 to 2,097,152 bytes, a power of two
+abbrev pub IsPage : ℕ → Type 0
+IsPage n = (1024 ≤ n) × (n ≤ 2097152) × IsTrue (is_power_of_two n)
+
+abbrev pub IsSlots : ℕ → Type 0
+IsSlots n = (1 ≤ n) × (n ≤ 64)
+
 pub record IsWithinLimits (c : Choice) : Type 0 where
-  pub some : 1 ≤ length c.frames
-  pub few : length c.frames ≤ 4
-  pub frames : All (λ f. (1 ≤ f) × (f ≤ 65536)) c.frames
-  pub page_low : 1024 ≤ c.page
-  pub page_high : c.page ≤ 2097152
-  pub page_power : IsTrue (is_power_of_two c.page)
-  pub slots_low : 1 ≤ c.slots
-  pub slots_high : c.slots ≤ 64
+  pub frames : IsFrames c.frames
+  pub page : IsPage c.page
+  pub slots : IsSlots c.slots

@@ -1,7 +1,8 @@
 -- A run of the program.
-use Rattle.std.specs.Prelude.{◌≡◌, ◌≢◌, ℕ, List, Option, Result, Ok, Err, IfErr}
+use Rattle.std.specs.Prelude.{◌≡◌, ◌≤◌, ◌⊎◌, ℕ, List, Option, Result, Ok, Err, IfErr}
 use Rattle.std.specs.Io.KnownBytes.{Appends, Consumes}
 use Rattle.clap.specs.Values.{kind_of}
+use Rattle.clap.specs.declared.error.Error.{Error}
 use Rattle.clap.specs.declared.error.kind.ErrorKind.TheVariants.{DisplayHelp, DisplayVersion}
 use Rattle.hp_model.specs.Lines.{lines}
 use Rattle.hp_model.specs.Plan.{Reply}
@@ -11,8 +12,6 @@ use Rattle.hp_model.specs.Text.{AnswersLines}
 use Rattle.hp_model.specs.Writing.{text}
 use Rattle.hp_wire.specs.Served.{Serves, IsMemoryOrTooLong}
 use Rattle.hp_wire.specs.declared.fault.RunFault.{RunFault}
-use Rattle.hugetlbd.specs.Asked.{Asks}
-use Rattle.hugetlbd.specs.Config.{Choice, IsWithinLimits, chosen}
 use Rattle.hugetlbd.specs.declared.settings.Wrong.{Wrong}
 use Rattle.hugetlbd.specs.declared.settings.Wrong.TheVariants.{Memory, Parse, BadValue, OptionFirst}
 
@@ -35,9 +34,13 @@ pub record Run (machine : State) (unread left : Option (List ℕ)) (sure : Type 
   pub served : Serves IsPromisedStep machine.page_size machine then before after input ended
   pub never : sure → IfErr ended IsMemoryOrTooLong
 
+-- clap's refusal is the help that was asked for
+abbrev pub IsHelp : Error → Type 0
+IsHelp error = (kind_of error ≡ DisplayHelp) ⊎ (kind_of error ≡ DisplayVersion)
+
 -- what a process may end with where its words give no configuration: after help 0, or 1 where that can't be written
 abbrev pub IsStatusOfWrong : Wrong → ℕ → Type 0
 IsStatusOfWrong Memory status = status ≡ 1
-IsStatusOfWrong (Parse error) status = kind_of error ≢ DisplayHelp → kind_of error ≢ DisplayVersion → status ≡ 2
+IsStatusOfWrong (Parse error) status = (IsHelp error → status ≤ 1) × ((IsHelp error → ⊥) → status ≡ 2)
 IsStatusOfWrong (BadValue name) status = status ≡ 2
 IsStatusOfWrong OptionFirst status = status ≡ 2

@@ -1,10 +1,11 @@
 //! The command line.
-ghost use Rattle.std.specs.Prelude.{◌≡◌, ◌≤◌, ◌∷◌, [], false, length, map, option_map, All, IfErr, IfOk, MatchOption, Ok};
+ghost use Rattle.std.specs.Prelude.{◌≡◌, ◌≤◌, ◌⊎◌, ◌∷◌, ℕ, [], codes, false, map, option_map, IfErr, IfOk, IsSomeAnd, MatchOption, Ok};
 ghost use Rattle.std.specs.Option.{option_map_or};
 ghost use Rattle.clap.specs.Words.{app_of, found_of, first_of, rows_of, rule_of};
 ghost use Rattle.hp_model.specs.Words.{number_of};
-ghost use Rattle.hugetlbd.specs.Asked.{Asks, IsOfValues, IsRefusedFor, IsWrongOf, Sets, hugetlbd, option, has_options, pieces};
-ghost use Rattle.hugetlbd.specs.Config.{IsWithinLimits, choice_in, choice_of};
+ghost use Rattle.hugetlbd.specs.Asked.{Asks, CanBeFrames, IsBadValue, IsRefusedFor, IsWrongIn, IsWrongOf, Sets, hugetlbd, option, has_options, pieces};
+ghost use Rattle.hugetlbd.specs.Config.{IsFrames, IsWithinLimits, choice_in, choice_of};
+ghost use Rattle.hugetlbd.specs.declared.settings.Wrong.TheVariants.{Memory};
 
 use crate::settings::{Config, Machine, Wrong};
 use clap::error::ErrorKind;
@@ -86,7 +87,7 @@ fn has_option(matches: &ArgMatches<'_>) -> bool
 fn machine_of(alloc: Global, matches: &ArgMatches<'_>) -> Result<Machine, Wrong>
     ensures limits { IfOk result (λ m. IsWithinLimits (choice_of m)) }
     ensures sets { IfOk result (λ m. Sets (rows_of (found_of matches.now)) (choice_of m)) }
-    ensures wrong { IfErr result IsOfValues }
+    ensures wrong { IfErr result (IsWrongIn (rows_of (found_of matches.now))) }
 {
     let frames = match text_of(matches, "frames") {
         None => two_nodes(alloc)?,
@@ -118,17 +119,17 @@ fn two_nodes(alloc: Global) -> Result<Vec<u64>, AllocError>
 #[tactic(auto, using(crate::proofs::Frames::frame_read, crate::proofs::Frames::last_frame_read))]
 fn frames_of(alloc: Global, text: &[u8]) -> Result<Vec<u64>, Wrong>
     ensures reads { IfOk result (λ v. map number_of (pieces text.now) ≡ map Ok v.items) }
-    ensures limits { IfOk result (λ v. (1 ≤ length v.items) × (length v.items ≤ 4) × All (λ f. (1 ≤ f) × (f ≤ 65536)) v.items) }
-    ensures wrong { IfErr result IsOfValues }
+    ensures limits { IfOk result (λ v. IsFrames v.items) }
+    ensures wrong { IfErr result (λ wrong. (wrong ≡ Memory) ⊎ (IsBadValue (codes "frames") wrong × (CanBeFrames text.now → ⊥))) }
 {
     let mut frames = Vec::new(alloc);
     let mut rest = text;
     for _ in 0..4usize {
         let (piece, more) = first_piece(rest);
-        match number_of(piece) {
-            Ok(n) if 1 <= n && n <= 65_536 => frames.push(n)?,
-            _ => return Err(Wrong::BadValue("frames")),
-        }
+        let Some(n) = number_between(piece, 1, 65_536) else {
+            return Err(Wrong::BadValue("frames"));
+        };
+        frames.push(n)?;
         match more {
             Some(more) => rest = more,
             None => return Ok(frames),
@@ -157,14 +158,25 @@ fn number_or(
 ) -> Result<u64, Wrong>
     requires { (low ≤ none) × (none ≤ high) }
     ensures bounds { IfOk result (λ n. (low ≤ n) × (n ≤ high)) }
-    ensures wrong { IfErr result IsOfValues }
     ensures reads { IfOk result (λ n. MatchOption text.entry (n ≡ none) (λ text. number_of text.now ≡ Ok n)) }
+    ensures wrong { IfErr result (λ wrong. IsBadValue name.now wrong
+        × IsSomeAnd text.entry (λ text. (n : ℕ) → number_of text.now ≡ Ok n → low ≤ n → n ≤ high → ⊥)) }
 {
     let Some(text) = text else {
         return Ok(none);
     };
-    match number_of(text.as_bytes()) {
-        Ok(n) if low <= n && n <= high => Ok(n),
-        _ => Err(Wrong::BadValue(name)),
+    match number_between(text.as_bytes(), low, high) {
+        Some(n) => Ok(n),
+        None => Err(Wrong::BadValue(name)),
+    }
+}
+
+// The number that the text is, where that lies between the bounds.
+fn number_between(text: &[u8], low: u64, high: u64) -> Option<u64>
+    ensures { MatchOption result ((n : ℕ) → number_of text.now ≡ Ok n → low ≤ n → n ≤ high → ⊥) (λ n. (number_of text.now ≡ Ok n) × (low ≤ n) × (n ≤ high)) }
+{
+    match number_of(text) {
+        Ok(n) if low <= n && n <= high => Some(n),
+        _ => None,
     }
 }

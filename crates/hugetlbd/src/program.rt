@@ -1,10 +1,11 @@
 //! The program: what the words ask for, the machine, a script on it, and a status.
-ghost use Rattle.std.specs.Prelude.{◌≡◌, ◌≤◌, ◌⊎◌, ℕ, Result, false, map, length, IfSome, OnOk};
+ghost use Rattle.std.specs.Prelude.{◌≡◌, ◌≢◌, ◌≤◌, ◌⊎◌, ℕ, Result, false, map, length, IfSome, OnOk};
 ghost use Rattle.clap.specs.Takes.{takes};
 ghost use Rattle.hp_wire.specs.declared.fault.RunFault.{RunFault as TheFault};
-ghost use Rattle.hugetlbd.specs.Asked.{Asks, hugetlbd};
+ghost use Rattle.hugetlbd.specs.Asked.{Asks, IsRefusedFor, hugetlbd};
 ghost use Rattle.hugetlbd.specs.Config.{Choice, IsWithinLimits, chosen, choice_of, usual};
 ghost use Rattle.hugetlbd.specs.Program.{AnswersScript, Run, IsStatusOfWrong, status_of};
+ghost use Rattle.hugetlbd.specs.declared.settings.Wrong.{Wrong as TheWrong};
 
 use crate::config::config;
 use crate::settings::{Machine, Wrong};
@@ -34,11 +35,15 @@ pub fn program<'a, S: AsStr, R: Source, W: Sink, E: Write>(
 ) -> u8
     ensures ended { ((c : Choice) × Asks (map S.text words.entry.now) c × IsWithinLimits c × (ended : Result ℕ TheFault) × (result ≡ status_of ended)
         × Run (chosen c) (R.remaining input.old) (R.remaining input.new) (R.is_sure input.old × W.is_sure output.old) (W.contents output.old) (W.contents output.new) ended)
-        ⊎ ((input.new ≡ input.old) × (result ≡ 0 → takes hugetlbd (map S.text words.entry.now) ≡ false)) }
+        ⊎ ((wrong : TheWrong) × IsRefusedFor (map S.text words.entry.now) wrong × IsStatusOfWrong wrong result × (input.new ≡ input.old) × (result ≡ 2 → output.new ≡ output.old)) }
+    ensures right { (c : Choice) → Asks (map S.text words.entry.now) c → IsWithinLimits c → result ≢ 2 }
     ensures script { result ≡ 0 → ((input.new ≡ input.old) × (takes hugetlbd (map S.text words.entry.now) ≡ false)) ⊎ ((c : Choice) × Asks (map S.text words.entry.now) c
         × IfSome (R.remaining input.old) (λ script. AnswersScript (chosen c) script (W.contents output.old) (W.contents output.new))) }
     ensures usual { length words.entry.now ≤ 1 → result ≡ 0
         → IfSome (R.remaining input.old) (λ script. AnswersScript (chosen usual) script (W.contents output.old) (W.contents output.new)) }
+    ensures alone { length words.entry.now ≤ 1 → ((ended : Result ℕ TheFault) × (result ≡ status_of ended)
+        × Run (chosen usual) (R.remaining input.old) (R.remaining input.new) (R.is_sure input.old × W.is_sure output.old) (W.contents output.old) (W.contents output.new) ended)
+        ⊎ ((result ≡ 1) × (input.new ≡ input.old)) }
 {
     match config(alloc, words) {
         Ok(config) => {
@@ -118,7 +123,8 @@ pub fn report<E: Write>(ended: Result<u64, RunFault>, faults: &mut E) -> u8
 /// Says why the words give no configuration, and gives the status. Help goes to `output`, and anything else to `faults`;
 /// where `faults` fails, the status alone tells.
 pub fn refuse<W: Write, E: Write>(wrong: &Wrong, output: &mut W, faults: &mut E) -> u8
-    ensures { IsStatusOfWrong wrong.now result }
+    ensures status { IsStatusOfWrong wrong.now result }
+    ensures quiet { result ≡ 2 → output.new ≡ output.old }
 {
     match wrong {
         Wrong::Memory => report(Err(RunFault::Memory), faults),

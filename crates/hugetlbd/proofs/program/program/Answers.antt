@@ -1,9 +1,9 @@
-use Rattle.std.proofs.Common.{◌≡◌, ◌∙◌, ◌≤◌, ap, map, length, inr, subst, sym, ℕ}
-use Rattle.std.proofs.lemmas.List.{length-map}
+use Rattle.std.proofs.Common.{◌∙◌, ap, map, inl, inr, refl, subst, sym, arith}
 use Rattle.hugetlbd.specs.Asked.{Asks}
-use Rattle.hugetlbd.specs.Config.{Choice, choice_in, choice_of, chosen, usual}
-use Rattle.hugetlbd.proofs.Runs.{answered_well, answered_as}
-use Rattle.hugetlbd.proofs.Usual.{no_words, not_refused}
+use Rattle.hugetlbd.specs.Config.{Choice, choice_of, chosen, usual}
+use Rattle.hugetlbd.proofs.Runs.{answered_well, answered_as, ends_below_2, ran_as}
+use Rattle.hugetlbd.proofs.Refused.{not_taken, right_is_1}
+use Rattle.hugetlbd.proofs.Usual.{few_is_1, few_texts, no_words}
 use Rattle.hugetlbd.proofs.program.program.Goals as goal
 
 pub returns-in-Ok-clause-script : goal.returns-in-Ok-clause-script
@@ -17,13 +17,34 @@ returns-in-Ok-clause-script g c zero =
 
 pub returns-in-Ok-clause-usual : goal.returns-in-Ok-clause-usual
 returns-in-Ok-clause-usual g c few zero =
-    let few_texts : length (map g.S.AsStr.text c.args.words.now) ≤ 1 = subst (λ (n : ℕ). n ≤ 1) (sym (length-map c.args.words.now g.S.AsStr.text)) few in
-    let same = ap chosen c.machine-machine.ensures ∙ no_words (map g.S.AsStr.text c.args.words.now) _ few_texts c.in-Ok.ensures.asked in
+    let same = ap chosen c.machine-machine.ensures ∙ no_words (map g.S.AsStr.text c.args.words.now) _ (few_texts _ _ few) c.in-Ok.ensures.asked in
     answered_as _ (chosen usual) (g.R.Read.remaining c.args.input.now) (g.W.Write.contents c.args.output.now) (g.W.Write.contents c.run_machine-ended.new.output)
     same (answered_well _ (g.R.Read.remaining c.args.input.now) (g.W.Write.contents c.args.output.now) (g.W.Write.contents c.run_machine-ended.new.output)
     c.run_machine-ended.result c.report.result c.report.ensures c.run_machine-ended.ensures.script zero)
 
+pub returns-in-Ok-clause-right : goal.returns-in-Ok-clause-right
+returns-in-Ok-clause-right g c choice asked fits = ends_below_2 c.run_machine-ended.result c.report.result c.report.ensures
+
+pub returns-in-Ok-clause-alone : goal.returns-in-Ok-clause-alone
+returns-in-Ok-clause-alone g c few =
+    let same = ap chosen c.machine-machine.ensures ∙ no_words (map g.S.AsStr.text c.args.words.now) _ (few_texts _ _ few) c.in-Ok.ensures.asked in
+    inl (c.run_machine-ended.result, c.report.ensures, ran_as same c.run_machine-ended.ensures.run)
+
+pub returns-in-Err-clause-ended : goal.returns-in-Err-clause-ended
+returns-in-Err-clause-ended g c = inr (c.in-Err.wrong, c.in-Err.ensures.refused, c.refuse.ensures.status, refl, c.refuse.ensures.quiet)
+
+pub returns-in-Err-clause-right : goal.returns-in-Err-clause-right
+returns-in-Err-clause-right g c choice asked fits two =
+    omega (arith, two, right_is_1 _ c.in-Err.wrong c.refuse.result choice c.in-Err.ensures.refused c.refuse.ensures.status asked fits)
+
+pub returns-in-Err-clause-script : goal.returns-in-Err-clause-script
+returns-in-Err-clause-script g c zero =
+    inl (refl, not_taken (map g.S.AsStr.text c.args.words.now) c.in-Err.wrong c.refuse.result c.in-Err.ensures.refused c.refuse.ensures.status zero)
+
 pub returns-in-Err-clause-usual : goal.returns-in-Err-clause-usual
 returns-in-Err-clause-usual g c few zero =
-    let few_texts : length (map g.S.AsStr.text c.args.words.now) ≤ 1 = subst (λ (n : ℕ). n ≤ 1) (sym (length-map c.args.words.now g.S.AsStr.text)) few in
-    absurd (not_refused (map g.S.AsStr.text c.args.words.now) c.in-Err.wrong c.refuse.result few_texts c.in-Err.ensures.refused c.refuse.ensures zero)
+    absurd (omega (arith, zero, few_is_1 _ c.in-Err.wrong c.refuse.result (few_texts g.S.AsStr.text c.args.words.now few) c.in-Err.ensures.refused c.refuse.ensures.status))
+
+pub returns-in-Err-clause-alone : goal.returns-in-Err-clause-alone
+returns-in-Err-clause-alone g c few =
+    inr (few_is_1 _ c.in-Err.wrong c.refuse.result (few_texts g.S.AsStr.text c.args.words.now few) c.in-Err.ensures.refused c.refuse.ensures.status, refl)
