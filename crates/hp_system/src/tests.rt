@@ -1,17 +1,13 @@
 //! Steps at a machine of two nodes of four frames each.
-ghost use Rattle.std.specs.Prelude.{◌≡◌, ◌≤◌, length};
+ghost use Rattle.std.specs.Prelude.{◌≡◌};
 
-use crate::System;
-use hp_mount::{MapAccess, MapRange};
-use hp_model::answer::{Answer, Counts, Reply};
+mod memory;
+mod steps;
+
+use hp_model::answer::Counts;
 use hp_model::bytes::Bytes;
-use hp_model::naming::Naming;
-use hp_model::refusal::Refusal;
-use hp_model::step::{Reserving, Sharing, Step};
 use hp_pool::Blanks;
 use std::alloc::{AllocError, Global};
-use std::marker::Brand;
-use std::process::Abort;
 use std::sync::ledger::Blank;
 
 fn blanks() -> Blanks
@@ -32,8 +28,8 @@ fn blanks() -> Blanks
     }
 }
 
-fn bytes<R: Abort>(rt: &R, alloc: Global, text: &[u8]) -> Bytes {
-    Bytes::new(Vec::from_slice(alloc, text).expect(rt, "memory"))
+fn bytes(alloc: Global, text: &[u8]) -> Result<Bytes, AllocError> {
+    Ok(Bytes::new(Vec::from_slice(alloc, text)?))
 }
 
 // A pool with all its pages free.
@@ -46,207 +42,4 @@ fn all_free(pages: u64) -> Counts {
         nr: pages,
         overcommit: 0,
     }
-}
-
-// The answer with these bytes of a page.
-fn loaded(front: &[u8]) -> Answer
-    requires { length front.now ≤ 256 }
-{
-    let mut bytes = [0u8; 256];
-    bytes[..front.len()].copy_from_slice(front);
-    Answer::Bytes {
-        count: front.len() as u64,
-        bytes,
-    }
-}
-
-// A task is added once; its maps are looked for where the task and the slot are there.
-fn connects<N: Naming, R: Abort>(rt: &R, alloc: Global, system: &mut System<N>) {
-    assert_eq!(rt; system.connect(7, 1), Ok(Answer::Done));
-    assert_eq!(rt; system.connect(7, 0), Err(Refusal::TaskExists));
-    assert_eq!(rt; system.connect(8, 2), Err(Refusal::NoSuchNode));
-    let access = MapAccess {
-        task: 7,
-        map: 1,
-        index: 0,
-        offset: 0,
-    };
-    let text = bytes(rt, alloc, b"text");
-    assert_eq!(rt; system.load(0, &access, 4), Err(Refusal::NoSuchMap));
-    assert_eq!(rt; system.store(0, &access, &text), Err(Refusal::NoSuchMap));
-    assert_eq!(rt; system.load(2, &access, 4), Err(Refusal::NoSuchSlot));
-    let unknown = MapAccess { task: 8, ..access };
-    assert_eq!(rt; system.store(2, &unknown, &text), Err(Refusal::NoSuchTask));
-}
-
-// A name is used once, in the slot that is mounted.
-fn creates<N: Naming, R: Abort>(rt: &R, alloc: Global, system: &mut System<N>) {
-    let name = bytes(rt, alloc, b"Data_0.a-z");
-    assert_eq!(rt; system.create(0, &name), Ok(Answer::Done));
-    assert_eq!(rt; system.create(0, &name), Err(Refusal::FileExists));
-    assert_eq!(rt; system.create(1, &name), Err(Refusal::NoSuchSlot));
-    assert_eq!(rt;
-        system.create(0, &bytes(rt, alloc, b"a/b")),
-        Err(Refusal::BadName)
-    );
-    assert_eq!(rt;
-        system.create(0, &bytes(rt, alloc, &[97; 64])),
-        Ok(Answer::Done)
-    );
-    assert_eq!(rt;
-        system.create(0, &bytes(rt, alloc, &[97; 65])),
-        Err(Refusal::BadName)
-    );
-}
-
-// A map reserves its pages, a load shows what was stored, and a map past the pool is refused.
-fn maps<N: Naming, R: Abort>(rt: &R, alloc: Global, system: &mut System<N>) {
-    let name = bytes(rt, alloc, b"Data_0.a-z");
-    let range = MapRange {
-        task: 7,
-        start: 0,
-        pages: 3,
-    };
-    assert_eq!(rt; system.map(0, &name, &range), Ok(Answer::MapNo(1)));
-    assert_eq!(rt; system.map(0, &name, &range), Ok(Answer::MapNo(2)));
-    let longer = MapRange { pages: 9, ..range };
-    assert_eq!(rt; system.map(0, &name, &longer), Err(Refusal::NoPages));
-    let none = MapRange { pages: 0, ..range };
-    assert_eq!(rt; system.map(0, &name, &none), Err(Refusal::OutOfRange));
-    let unknown = bytes(rt, alloc, b"unknown");
-    assert_eq!(rt; system.map(0, &unknown, &range), Err(Refusal::NoSuchFile));
-    let access = MapAccess {
-        task: 7,
-        map: 1,
-        index: 2,
-        offset: 1020,
-    };
-    let text = bytes(rt, alloc, b"text");
-    assert_eq!(rt; system.store(0, &access, &text), Ok(Answer::Done));
-    let other = MapAccess { map: 2, ..access };
-    assert_eq!(rt; system.load(0, &other, 4), Ok(loaded(b"text")));
-    assert_eq!(rt; system.load(0, &access, 5), Err(Refusal::CrossesPage));
-    let first = MapAccess { index: 0, ..other };
-    assert_eq!(rt; system.load(0, &first, 2), Ok(loaded(&[0, 0])));
-    let counts = Counts {
-        free: 6,
-        rsvd: 1,
-        ..all_free(8)
-    };
-    assert_eq!(rt; system.meminfo(), Ok(Answer::Numbers(counts)));
-}
-
-// Steps in a list are answered one after another.
-fn runs<N: Naming, R: Abort>(rt: &R, alloc: Global, system: &mut System<N>) {
-    let steps = [
-        Step::Connect { task: 9, home: 0 },
-        Step::Nr { pages: 2 },
-        Step::Exit { task: 9 },
-        Step::Connect { task: 9, home: 0 },
-    ];
-    let replies = system.run(alloc, &steps).expect(rt, "memory");
-    let expected = [
-        Ok(Answer::Done),
-        Err(Refusal::BadLine),
-        Err(Refusal::BadLine),
-        Err(Refusal::TaskExists),
-    ];
-    assert!(rt; replies.as_slice() == expected.as_slice());
-}
-
-// nr rises, up to the frames, and falls in no step yet.
-fn grows<N: Naming, R: Abort>(rt: &R, system: &mut System<N>) {
-    assert_eq!(rt; system.set_nr(3), Ok(Answer::Number(3)));
-    assert_eq!(rt; system.meminfo(), Ok(Answer::Numbers(all_free(3))));
-    assert_eq!(rt; system.set_nr(2), Err(Refusal::BadLine));
-    assert_eq!(rt; system.set_nr(9), Ok(Answer::Number(8)));
-}
-
-fn run<N: Naming, R: Abort>(rt: &R, alloc: Global, blanks: Blanks)
-    requires permits { (blanks.permits.name ≡ N.permits) × (blanks.permits.parts ≡ 18446744073709551615) }
-    requires zero { (blanks.pages.zero.name ≡ N.pages_0) × (blanks.pages.zero.parts ≡ 18446744073709551615) }
-    requires one { (blanks.pages.one.name ≡ N.pages_1) × (blanks.pages.one.parts ≡ 18446744073709551615) }
-    requires two { (blanks.pages.two.name ≡ N.pages_2) × (blanks.pages.two.parts ≡ 18446744073709551615) }
-    requires three { (blanks.pages.three.name ≡ N.pages_3) × (blanks.pages.three.parts ≡ 18446744073709551615) }
-    requires bytes { N.page_bytes ≡ 1024 }
-{
-    let mut system = System::<N>::new(alloc, &[4, 4], 1024, 2, blanks).expect(rt, "memory");
-    connects(rt, alloc, &mut system);
-    creates(rt, alloc, &mut system);
-    grows(rt, &mut system);
-    maps(rt, alloc, &mut system);
-    runs(rt, alloc, &mut system);
-    assert_eq!(rt; system.close(), all_free(8));
-}
-
-#[test]
-fn steps(rt: HostRuntime) {
-    run::<Brand, HostRuntime>(&rt, rt.alloc(), blanks());
-}
-
-// A step that is refused memory leaves the counts as they were, and then goes through.
-fn tried<N: Naming, R: Abort>(rt: &R, system: &mut System<N>, step: &Step, expected: Reply) {
-    let before = system.meminfo();
-    let mut reply = system.apply(step);
-    if reply == Err(Refusal::OutOfMemory) {
-        assert_eq!(rt; system.meminfo(), before);
-        reply = system.apply(step);
-    }
-    assert_eq!(rt; reply, expected);
-}
-
-fn tries<N: Naming, R: Abort>(rt: &R, alloc: Global, blanks: Blanks) -> Result<(), AllocError>
-    requires permits { (blanks.permits.name ≡ N.permits) × (blanks.permits.parts ≡ 18446744073709551615) }
-    requires zero { (blanks.pages.zero.name ≡ N.pages_0) × (blanks.pages.zero.parts ≡ 18446744073709551615) }
-    requires one { (blanks.pages.one.name ≡ N.pages_1) × (blanks.pages.one.parts ≡ 18446744073709551615) }
-    requires two { (blanks.pages.two.name ≡ N.pages_2) × (blanks.pages.two.parts ≡ 18446744073709551615) }
-    requires three { (blanks.pages.three.name ≡ N.pages_3) × (blanks.pages.three.parts ≡ 18446744073709551615) }
-    requires bytes { N.page_bytes ≡ 1024 }
-{
-    let create = Step::Create {
-        slot: 0,
-        name: Bytes::new(Vec::from_slice(alloc, b"a")?),
-    };
-    let map = Step::Map {
-        task: 1,
-        slot: 0,
-        name: Bytes::new(Vec::from_slice(alloc, b"a")?),
-        from: 0,
-        pages: 3,
-        sharing: Sharing::Shared,
-        reserving: Reserving::Reserve,
-    };
-    let store = Step::Store {
-        task: 1,
-        slot: 0,
-        map: 1,
-        index: 2,
-        offset: 0,
-        bytes: Bytes::new(Vec::from_slice(alloc, &[255])?),
-    };
-    let mut system = System::<N>::new(alloc, &[4, 4], 1024, 2, blanks)?;
-    tried(
-        rt,
-        &mut system,
-        &Step::Connect { task: 1, home: 0 },
-        Ok(Answer::Done),
-    );
-    tried(
-        rt,
-        &mut system,
-        &Step::Nr { pages: 4 },
-        Ok(Answer::Number(4)),
-    );
-    tried(rt, &mut system, &create, Ok(Answer::Done));
-    tried(rt, &mut system, &map, Ok(Answer::MapNo(1)));
-    tried(rt, &mut system, &map, Ok(Answer::MapNo(2)));
-    tried(rt, &mut system, &store, Ok(Answer::Done));
-    assert_eq!(rt; system.close(), all_free(4));
-    Ok(())
-}
-
-// Must also pass where an allocation is refused.
-#[test]
-fn a_refusal_changes_nothing(rt: HostRuntime) {
-    let _tried = tries::<Brand, HostRuntime>(&rt, rt.alloc(), blanks());
 }

@@ -1,7 +1,7 @@
-use Rattle.hp_system.proofs.tests.steps.Given as goal
+use Rattle.hp_system.proofs.tests.memory.a_refusal_changes_nothing.Given as goal
 
-abbrev pub ghosts-run : goal.ghosts-run
-ghosts-run g a = record {
+abbrev pub ghosts-first_steps : goal.ghosts-first_steps
+ghosts-first_steps g a = record {
   permits = a.blanks.permits.name;
   pages_0 = a.blanks.pages.zero.name;
   pages_1 = a.blanks.pages.one.name;

@@ -1,7 +1,7 @@
-use Rattle.hp_system.proofs.tests.a_refusal_changes_nothing.Given as goal
+use Rattle.hp_system.proofs.tests.memory.a_refusal_on_a_mount_changes_nothing.Given as goal
 
-abbrev pub ghosts-tries : goal.ghosts-tries
-ghosts-tries g a = record {
+abbrev pub ghosts-limits : goal.ghosts-limits
+ghosts-limits g a = record {
   permits = a.blanks.permits.name;
   pages_0 = a.blanks.pages.zero.name;
   pages_1 = a.blanks.pages.one.name;
