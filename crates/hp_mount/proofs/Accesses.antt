@@ -1,7 +1,7 @@
 -- A load and a store on a mount, by what each part of them did.
 use Rattle.std.proofs.Common.{◌≡◌, ℕ, zero, suc, ◌+◌, ◌<◌, Bool, true, false, cond, Ok, Err, Some, None, List, [], ◌∷◌, length, refl, sym, ap, ◌∙◌, arith}
 use Rattle.std.specs.Prelude.{max, slice_set, slice_index_or}
-use Rattle.std.proofs.lemmas.List.{get_or-set_same, length-set}
+use Rattle.std.proofs.lemmas.List.{get_or_default, get_or-set_same, length-set}
 use Rattle.hp_model.specs.declared.answer.Answer.{Answer}
 use Rattle.hp_model.specs.declared.answer.Answer.TheVariants.{Done}
 use Rattle.hp_model.specs.declared.cell.Cell.{Cell}
@@ -133,11 +133,6 @@ filled_page m file i node bytes l below =
     let g : File = with_cell (file_in m file) i (Present page) in
     ap (λ f. has_page (cell_at f i)) (get_or-set_same m.files file g (new_file None) l) ∙ ap has_page (get_or-set_same (file_in m file).cells i (Present page) Hole below)
 
-pub any_default : {X : Type 0} (xs : List X) (k : ℕ) (d e : X) → k < length xs → slice_index_or xs k d ≡ slice_index_or xs k e
-any_default [] k d e l = absurd (omega (arith, l))
-any_default (x ∷ xs) zero d e l = refl
-any_default (x ∷ xs) (suc k) d e l = any_default xs k d e (omega (arith, l))
-
 -- ---- a load and a store
 
 module _ (size slot : ℕ) (p : Pool) (m : Mount) (task number home i offset file map : ℕ) where
@@ -152,12 +147,12 @@ module _ (size slot : ℕ) (p : Pool) (m : Mount) (task number home i offset fil
 
   -- the same map after the access
   again_file : (n : Mount) → IsFound m task number file map → IsTouched m n file → (again n here).file ≡ file_in n file
-  again_file n found t = let within = found.file_within in let files = t.files in any_default n.files file here.file (new_file None) (omega (arith, within, files))
+  again_file n found t = let within = found.file_within in let files = t.files in get_or_default n.files file here.file (new_file None) (omega (arith, within, files))
 
   again_map : (n : Mount) → IsFound m task number file map → IsTouched m n file → (again n here).map ≡ here.map
   again_map n found t =
       ap (λ f. slice_index_or f.maps map here.map) (again_file n found t) ∙ ap (λ ms. slice_index_or ms map here.map) t.maps
-      ∙ any_default (file_in m file).maps map here.map no_map found.map_within
+      ∙ get_or_default (file_in m file).maps map here.map no_map found.map_within
 
   shows : (n : Mount) → IsFound m task number file map → IsTouched m n file → copy_of (place_at here.map i) ≡ None → value size (again n here).file (again n here).map i ≡ shown size (cell_at (file_in n file) i)
   shows n found t none =

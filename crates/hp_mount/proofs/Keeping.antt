@@ -19,7 +19,7 @@ use Rattle.hp_mount.specs.Found.{filled_with}
 use Rattle.hp_mount.specs.Counted.{IsCounted, mount_of}
 use Rattle.hp_subpool.specs.Subpool as share
 use Rattle.hp_subpool.specs.Subpool.{Subpool}
-use Rattle.hp_mount.proofs.Accesses.{any_default}
+use Rattle.std.proofs.lemmas.List.{get_or_default}
 use Rattle.hp_mount.proofs.Counted.{new_file_pages, new_file_reserves}
 
 -- ---- maps that stay
@@ -171,7 +171,7 @@ share_as sub new inodes maps tasks files max min c = subst (λ m. IsCounted new 
 -- ---- as code changes a file that it has read: x is what it read, and g what it leaves there
 
 pub read_is : (m : Mount) (k : ℕ) (x : File) → k < length m.files → x ≡ slice_index_or m.files k x → x ≡ file_in m k
-read_is m k x l e = e ∙ any_default m.files k x (new_file None) l
+read_is m k x l e = e ∙ get_or_default m.files k x (new_file None) l
 
 module _ (sub : Subpool) (maps tasks : ℕ) (m : Mount) (k i : ℕ) (x g : File) (c : IsCounted sub maps tasks m) (l : k < length m.files) (below : i < length (file_in m k).cells) (e : x ≡ slice_index_or m.files k x) where
   left_as : (cell : Cell Page) → g ≡ with_cell x i cell → with_file m k (with_cell (file_in m k) i cell) ≡ with_file m k g

@@ -4,7 +4,7 @@ use Rattle.std.specs.Prelude.{slice_index_or, slice_set, None}
 use Rattle.std.specs.List.{filter, filter_map, flat_map, All}
 use Rattle.std.proofs.lemmas.Bool.Decides.{nat_tests}
 use Rattle.std.proofs.lemmas.Grind.{flat_map-append}
-use Rattle.std.proofs.lemmas.List.{append_assoc, append-nil, length-append, length-replicate, map-append, set-get_or}
+use Rattle.std.proofs.lemmas.List.{append_assoc, append-nil, length-append, length-map, length-replicate, map-append, set-get_or}
 use Rattle.std.proofs.lemmas.List.Elements.{filter-append, All-get_or, All-set}
 use Rattle.std.proofs.lemmas.List.Folds.{length-flat_map-take}
 use Rattle.std.proofs.lemmas.List.Sums.{sum_by-set}
@@ -79,12 +79,8 @@ filter_few {X} test (x ∷ xs) = either (filter test xs) (test x) (filter_few te
     either ys true rest = omega (arith, rest)
     either ys false rest = omega (arith, rest)
 
-map_length : {X Y : Type 0} (f : X → Y) (xs : List X) → length (map f xs) ≡ length xs
-map_length f [] = refl
-map_length f (x ∷ xs) = ap suc (map_length f xs)
-
 pub numbers_few : (task : ℕ) (maps : List Map) → length (numbers_of task maps) ≤ length maps
-numbers_few task maps = let few = filter_few (is_of task) maps in let same = map_length (λ (m : Map). m.number) (filter (is_of task) maps) in omega (arith, few, same)
+numbers_few task maps = let few = filter_few (is_of task) maps in let same = length-map (filter (is_of task) maps) (λ (m : Map). m.number) in omega (arith, few, same)
 
 pub few_so_far : (task : ℕ) (files : List File) (i n : ℕ) (f : File) → n ≡ length (numbers_of task (flat_map (λ f. f.maps) (take i files))) → i < length files → f ≡ slice_index_or files i f
     → length (flat_map (λ f. f.maps) files) < 4096 → n + length f.maps ≤ 4096
@@ -143,7 +139,7 @@ distinct_few (x ∷ xs) = either (distinct xs) (is_among x xs) (distinct_few xs)
     either ys false rest = omega (arith, rest)
 
 pub tasks_few : (m : Mount) → length (tasks_of m) ≤ length (maps_of m)
-tasks_few m = let few = distinct_few (map (λ x. x.task) (maps_of m)) in let same = map_length (λ (x : Map). x.task) (maps_of m) in omega (arith, few, same)
+tasks_few m = let few = distinct_few (map (λ x. x.task) (maps_of m)) in let same = length-map (maps_of m) (λ (x : Map). x.task) in omega (arith, few, same)
 
 -- a number that is there already counts no more
 distinct_again : (n : ℕ) (xs ys : List ℕ) → is_among n (xs ++ ys) ≡ true → length (distinct (xs ++ n ∷ ys)) ≡ length (distinct (xs ++ ys))
