@@ -1,6 +1,6 @@
 -- A load and a store on a mount, by what each part of them did.
-use Rattle.std.proofs.Common.{◌≡◌, ℕ, zero, suc, ◌+◌, ◌<◌, Bool, true, false, cond, Ok, Err, Some, None, List, [], ◌∷◌, length, refl, sym, ap, ◌∙◌, arith}
-use Rattle.std.specs.Prelude.{max, slice_set, slice_index_or}
+use Rattle.std.proofs.Common.{◌≡◌, ℕ, zero, suc, ◌<◌, Bool, true, false, cond, Ok, Err, Some, None, List, [], ◌∷◌, length, refl, sym, ap, ◌∙◌, arith}
+use Rattle.std.specs.Prelude.{slice_set, slice_index_or}
 use Rattle.std.proofs.lemmas.List.{get_or_default, get_or-set_same, length-set}
 use Rattle.hp_model.specs.declared.answer.Answer.{Answer}
 use Rattle.hp_model.specs.declared.answer.Answer.TheVariants.{Done}

@@ -13,7 +13,6 @@ use Rattle.hp_model.specs.declared.step.Sharing.TheVariants.{Shared}
 use Rattle.hp_model.specs.File.{File, Mount, maps_of, new_file, with_file}
 use Rattle.hp_model.specs.Grant.{can_grant, granted, is_full, rise}
 use Rattle.hp_model.specs.MakeMap.{mapped, next_number, tasks_of}
-use Rattle.hp_model.specs.MountCounts.{usage_of}
 use Rattle.hp_model.specs.Plan.{Choice, Slot, Reply, Outcome, Answered, Plan, Finish, Ask, grant, refuse, when_granted, with_value}
 use Rattle.hp_model.specs.Pool.{Grant, granted_at, no_pages}
 use Rattle.hp_model.specs.PoolCounts.{Pool}

@@ -1,5 +1,5 @@
 -- An event of a slot carried out on its mount and the pool.
-use Rattle.std.specs.Prelude.{◌≡◌, ℕ, suc, Bool, false, Ok, Err, List}
+use Rattle.std.specs.Prelude.{◌≡◌, ℕ, suc, Bool, false, Ok, Err}
 use Rattle.std.specs.List.{sum}
 use Rattle.hp_model.specs.declared.event.SlotEvent.{SlotEvent}
 use Rattle.hp_model.specs.Event.{stamps_in}

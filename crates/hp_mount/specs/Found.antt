@@ -1,12 +1,12 @@
 -- Where a map is found, and what an access asks before it begins.
-use Rattle.std.specs.Prelude.{⊤, ◌≡◌, ℕ, ◌+◌, ◌<◌, ◌||◌, ◌==◌, Bool, true, false, Option, None, Some, Ok, Err, Result, List, [], ◌∷◌, ◌++◌, length, map, if◌then◌else◌, nat_lt}
-use Rattle.std.specs.List.{count_by, list_any, range_with_len, slice_index_or}
+use Rattle.std.specs.Prelude.{◌≡◌, ℕ, ◌+◌, ◌<◌, ◌||◌, ◌==◌, Bool, true, false, Option, None, Some, Ok, Err, Result, List, [], ◌∷◌, ◌++◌, length, map, if◌then◌else◌, nat_lt}
+use Rattle.std.specs.List.{count_by, list_any, range_with_len}
 use Rattle.hp_model.specs.declared.answer.Answer.TheVariants.{Done}
 use Rattle.hp_model.specs.declared.refusal.Refusal.{Refusal}
 use Rattle.hp_model.specs.declared.refusal.Refusal.TheVariants.{OutOfRange, CrossesPage, TooMany, BeyondEnd, OutOfMemory, NoPages, MountFull}
 use Rattle.hp_model.specs.declared.step.Reserving.TheVariants.{Reserve}
 use Rattle.hp_model.specs.declared.step.Sharing.TheVariants.{Shared}
-use Rattle.hp_model.specs.File.{File, Mount, at_least, entered, new_file, with_file, with_cell}
+use Rattle.hp_model.specs.File.{File, Mount, at_least, entered, with_file, with_cell}
 use Rattle.hp_model.specs.declared.cell.Cell.{Cell}
 use Rattle.hp_model.specs.declared.cell.Cell.TheVariants.{Present}
 use Rattle.hp_model.specs.Lists.{edit_range}
@@ -15,7 +15,7 @@ use Rattle.hp_model.specs.Mapping.{Map, is_map}
 use Rattle.hp_model.specs.MountCounts.{is_page_at}
 use Rattle.hp_model.specs.Page.{Page}
 use Rattle.hp_model.specs.Plan.{Reply}
-use Rattle.hp_model.specs.Promises.{file_in, map_in, no_map}
+use Rattle.hp_model.specs.Promises.{file_in, map_in}
 use Rattle.hp_model.specs.Profile.{most_bytes, most_file_pages, most_map_pages}
 use Rattle.hp_model.specs.SlotEvent.{is_unmapped, is_beyond, are_too_many_maps}
 use Rattle.hp_model.specs.Spot.{Spot, spot}

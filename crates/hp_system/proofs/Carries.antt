@@ -68,9 +68,11 @@ done_is size t xs k old new p q e reply tie within here happens h =
     let there : IsTrue (nat_lt k (length xs)) = grind (arith, nat_tests, within) in
     let c = choosing h.0 old in
     let goes : planned (state_of size t xs p) k (slot_event size k c old e) ≡ left_of size t xs k (carried p old (slot_event size k c old e)) =
-    planned_is size t xs k p (slot_event size k c old e) tie ∙ ap (λ y. left_of size t xs k (carried p y (slot_event size k c old e))) here in
-    (c, (there, subst (λ y. IsTrue (is_slot_event y e)) (sym here) happens, subst (λ y. IsFresh c y) (sym here) (is_fresh h.0 old)),
-        ap (λ y. planned (state_of size t xs p) k (slot_event size k c y e)) here ∙ goes ∙ ap (left_of size t xs k) h.1)
+    planned_is size t xs k p (slot_event size k c old e) tie ∙ ap (λ y. left_of size t xs k (carried p y (slot_event size k c old e))) here in (
+      c,
+      (there, subst (λ y. IsTrue (is_slot_event y e)) (sym here) happens, subst (λ y. IsFresh c y) (sym here) (is_fresh h.0 old)),
+      ap (λ y. planned (state_of size t xs p) k (slot_event size k c y e)) here ∙ goes ∙ ap (left_of size t xs k) h.1,
+    )
 
 -- ---- what holds afterwards
 

@@ -69,7 +69,13 @@ fn shown<N: Naming>(system: &mut System<N>) -> [Reply; 5] {
 }
 
 // Each step is answered so; or it is refused memory, leaves the counts and each mount as they were, and then goes through.
-fn tries<N: Naming, R: Abort>(rt: &R, alloc: Global, blanks: Blanks, rows: &[(Step, Reply)], left: u64) -> Result<(), AllocError>
+fn tries<N: Naming, R: Abort>(
+    rt: &R,
+    alloc: Global,
+    blanks: Blanks,
+    rows: &[(Step, Reply)],
+    left: u64,
+) -> Result<(), AllocError>
     requires permits { (blanks.permits.name ≡ N.permits) × (blanks.permits.parts ≡ 18446744073709551615) }
     requires zero { (blanks.pages.zero.name ≡ N.pages_0) × (blanks.pages.zero.parts ≡ 18446744073709551615) }
     requires one { (blanks.pages.one.name ≡ N.pages_1) × (blanks.pages.one.parts ≡ 18446744073709551615) }
@@ -133,7 +139,10 @@ fn options<N: Naming, R: Abort>(rt: &R, alloc: Global, blanks: Blanks) -> Result
         (mount(alloc, 3, b"size=50%")?, Ok(Answer::Done)),
         (Step::Df { slot: 3 }, usage(Some(2), 0, 0, 0)),
         (Step::Umount { slot: 3 }, Ok(Answer::Done)),
-        (mount(alloc, 3, b"size=1K,min_size=2K")?, Err(Refusal::MinOverSize)),
+        (
+            mount(alloc, 3, b"size=1K,min_size=2K")?,
+            Err(Refusal::MinOverSize),
+        ),
         (mount(alloc, 3, b"size=2X")?, Err(Refusal::BadOption)),
         (mount(alloc, 3, b"min_size=6K")?, Err(Refusal::NoPages)),
         (Step::Df { slot: 3 }, Err(Refusal::NoSuchSlot)),

@@ -1,4 +1,4 @@
-use Rattle.std.proofs.Common.{◌≡◌, [], ◌∷◌, ◌++◌, Some, sym, ap, subst, ◌∙◌}
+use Rattle.std.proofs.Common.{[], ◌∷◌, ◌++◌, Some, sym, ap, subst, ◌∙◌}
 use Rattle.hp_mount.specs.Counted.{IsCounted, mount_of}
 use Rattle.hp_mount.proofs.Keeping.{counted_new}
 use Rattle.hp_mount.proofs.mount.Mount.add.Goals as goal

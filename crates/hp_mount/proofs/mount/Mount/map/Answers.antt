@@ -1,4 +1,4 @@
-use Rattle.std.proofs.Common.{◌<◌, ◌≤◌, length, refl, subst, sym, ap, arith}
+use Rattle.std.proofs.Common.{◌<◌, ◌≤◌, length, refl, subst, arith}
 use Rattle.std.proofs.lemmas.Result.{err_from_is_err_and}
 use Rattle.hp_mount.proofs.MapDone.{map_denied, map_done, map_nowhere, map_refused}
 use Rattle.hp_mount.proofs.mount.Mount.map.Goals as goal
