@@ -1,5 +1,5 @@
 //! Loads and stores through maps.
-ghost use Rattle.std.specs.Prelude.{◌≡◌, ℕ, ◌+◌, ◌<◌, ◌≤◌, length, IfErr, IsOk, IfSome, IfNone, OnOk, OnErr, Some, None, IsTrue, true, false};
+ghost use Rattle.std.specs.Prelude.{◌≡◌, ◌≢◌, ℕ, ◌+◌, ◌<◌, ◌≤◌, length, Err, IfErr, IsOk, IfSome, IfNone, OnOk, OnErr, Some, None, IsTrue, true, false};
 ghost use Rattle.std.specs.List.{position_or_len};
 ghost use Rattle.hp_model.specs.declared.event.SlotEvent.TheVariants.{Load, Store};
 ghost use Rattle.hp_model.specs.declared.cell.Cell.TheVariants.{Entered, Hole};
@@ -112,6 +112,7 @@ impl<N: Naming> Mount<N> {
         ensures below { IfNone result (index < length (file_in self.now at.file).cells) }
         ensures fits { IfNone result (offset + count ≤ page_bytes) }
         ensures few { IfNone result (count ≤ 256) }
+        ensures memory { IfSome result (λ r. r ≢ Refusal.OutOfMemory) }
     {
         let file = self.file(at.file);
         let covered = file.map(at.map).covers(index);
@@ -163,6 +164,7 @@ impl<N: Naming> Mount<N> {
         ensures ok { OnOk result ((self.new ≡ filled_with self.old file index (take_node home (granted home (rise self.old 1) pool.old)) (zeros N.page_bytes)) × (pool.new ≡ page_taken home (granted home (rise self.old 1) pool.old))) }
         ensures granted { IsOk result → (is_full self.old 1 ≡ false) × (can_grant (rise self.old 1) pool.old ≡ true) }
         ensures why { IfErr result (λ e. IsWant e (is_full self.old 1) (can_grant (rise self.old 1) pool.old)) }
+        ensures memory { IfErr result (λ r. r ≢ Refusal.OutOfMemory) }
         ensures err { OnErr result ((self.new ≡ self.old) × (pool.new ≡ pool.old)) }
         ensures settled { IsSettled pool.new }
     {
@@ -188,6 +190,7 @@ impl<N: Naming> Mount<N> {
         requires below { index < length (file_in self.old file).cells }
         ensures done { (s : Spot) → s.file_no ≡ file → s.file ≡ file_in self.old file → carried pool.old (Some self.old) (shared_access (choosing false (Some self.old)) N.page_bytes self.old s home index (cell_at s.file index)) ≡ (touched result, Some self.new, pool.new) }
         ensures same { IsTouched self.old self.new file }
+        ensures memory { IfErr result (λ r. r ≢ Refusal.OutOfMemory) }
         ensures page { OnOk result (has_page (cell_at (file_in self.new file) index) ≡ true) }
         ensures settled { IsSettled pool.new }
     {
@@ -205,7 +208,7 @@ impl<N: Naming> Mount<N> {
         }
     }
 
-    /// Answers bytes of the page at a file's index, through a task's map.
+    /// Answers bytes of the page at a file's index, through a task's map. It asks for no memory.
     #[tactic(auto, using(crate::proofs::Accesses::load_none, crate::proofs::Accesses::load_refused, crate::proofs::Accesses::load_denied, crate::proofs::Accesses::load_done))]
     pub fn load(
         &mut self,
@@ -219,6 +222,7 @@ impl<N: Naming> Mount<N> {
         requires few { usage_of self.old ≤ 262144 }
         requires page_bytes { page_bytes ≡ N.page_bytes }
         ensures done { (k : ℕ) → IsDone N.page_bytes k pool.old (Some self.old) (Load access.now.task home access.now.map access.now.index access.now.offset count) result (Some self.new) pool.new }
+        ensures memory { result ≢ Err Refusal.OutOfMemory }
         ensures settled { IsSettled pool.new }
     {
         let at = match self.find(access.task, access.map) {
@@ -236,7 +240,7 @@ impl<N: Naming> Mount<N> {
         Ok(bytes_answer(page, access.offset as usize, count as usize))
     }
 
-    /// Writes bytes into the page at a file's index, through a task's map.
+    /// Writes bytes into the page at a file's index, through a task's map. It asks for no memory.
     #[tactic(auto, using(crate::proofs::Accesses::store_none, crate::proofs::Accesses::store_refused, crate::proofs::Accesses::store_denied, crate::proofs::Accesses::store_done, crate::proofs::Accesses::written_is))]
     pub fn store(
         &mut self,
@@ -250,6 +254,7 @@ impl<N: Naming> Mount<N> {
         requires few { usage_of self.old ≤ 262144 }
         requires page_bytes { page_bytes ≡ N.page_bytes }
         ensures done { (k : ℕ) → IsDone N.page_bytes k pool.old (Some self.old) (Store access.now.task home access.now.map access.now.index access.now.offset bytes.now) result (Some self.new) pool.new }
+        ensures memory { result ≢ Err Refusal.OutOfMemory }
         ensures settled { IsSettled pool.new }
     {
         let at = match self.find(access.task, access.map) {

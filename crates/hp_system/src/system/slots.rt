@@ -1,5 +1,6 @@
 //! Steps on a slot.
-ghost use Rattle.std.specs.Prelude.{◌≡◌};
+ghost use Rattle.std.specs.Prelude.{◌≡◌, ◌≢◌, Err};
+ghost use Rattle.hp_model.specs.declared.refusal.Refusal.TheVariants as Refusal;
 ghost use Rattle.hp_model.specs.declared.step.Reserving.TheVariants.{Reserve};
 ghost use Rattle.hp_model.specs.declared.step.Sharing.TheVariants.{Shared};
 ghost use Rattle.hp_model.specs.declared.step.Step.TheVariants.{Mount as MountStep, Umount, Create, Map, Load, Store, Df};
@@ -29,6 +30,7 @@ impl<N: Naming> System<N> {
     ///   than all frames.
     pub fn mount(&mut self, slot: u64, options: &Bytes) -> Reply
         ensures step { IsStep self.old (MountStep slot options.now) result self.new }
+        ensures memory { result ≢ Err Refusal.OutOfMemory }
         ensures size { self.new.page_size ≡ self.old.page_size }
     {
         let at = slot as usize;
@@ -55,6 +57,7 @@ impl<N: Naming> System<N> {
     /// - Busy: it is slot 0, or a task has a map there.
     pub fn umount(&mut self, slot: u64) -> Reply
         ensures step { IsStep self.old (Umount slot) result self.new }
+        ensures memory { result ≢ Err Refusal.OutOfMemory }
         ensures size { self.new.page_size ≡ self.old.page_size }
     {
         let at = slot as usize;
@@ -82,6 +85,7 @@ impl<N: Naming> System<N> {
     /// Refused as NoSuchSlot where there is no such slot, or where it is not mounted.
     pub fn df(&self, slot: u64) -> Reply
         ensures step { IsStep self.now (Df slot) result self.now }
+        ensures memory { result ≢ Err Refusal.OutOfMemory }
         ensures limits { IsWithinLimits result }
     {
         let at = slot as usize;
@@ -165,6 +169,7 @@ impl<N: Naming> System<N> {
     /// - NoPages: the index has no page and no entry, and no page more may be committed.
     pub fn load(&mut self, slot: u64, access: &MapAccess, count: u64) -> Reply
         ensures step { IsStep self.old (Load access.now.task slot access.now.map access.now.index access.now.offset count) result self.new }
+        ensures memory { result ≢ Err Refusal.OutOfMemory }
         ensures size { self.new.page_size ≡ self.old.page_size }
     {
         let page_bytes = self.page_bytes();
@@ -190,6 +195,7 @@ impl<N: Naming> System<N> {
     /// bytes are OutOfRange, and more than 256 are TooMany.
     pub fn store(&mut self, slot: u64, access: &MapAccess, bytes: &Bytes) -> Reply
         ensures step { IsStep self.old (Store access.now.task slot access.now.map access.now.index access.now.offset bytes.now) result self.new }
+        ensures memory { result ≢ Err Refusal.OutOfMemory }
         ensures size { self.new.page_size ≡ self.old.page_size }
     {
         let page_bytes = self.page_bytes();

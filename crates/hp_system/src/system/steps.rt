@@ -1,9 +1,11 @@
 //! Steps of all kinds.
-ghost use Rattle.std.specs.Prelude.{◌≡◌, true, IfOk, OnErr};
+ghost use Rattle.std.specs.Prelude.{◌≡◌, ◌≢◌, true, false, Err, IfOk, OnErr};
+ghost use Rattle.hp_model.specs.declared.refusal.Refusal.TheVariants as Refusal;
 ghost use Rattle.hp_model.specs.declared.step.Step.TheVariants.{Connect, Nr, Meminfo};
 ghost use Rattle.hp_model.specs.Promises.{is_usage, IsPromised, IsPromisedRun};
 ghost use Rattle.hp_model.specs.Step.{IsStep};
 ghost use Rattle.hp_model.specs.Writing.{IsWithinLimits};
+ghost use Rattle.hp_system.specs.Memory.{takes_memory};
 
 use super::System;
 use hp_model::answer::{Answer, Reply};
@@ -23,6 +25,7 @@ impl<N: Naming> System<N> {
     /// - TooMany: there are 256 tasks.
     pub fn connect(&mut self, task: u64, home: u64) -> Reply
         ensures step { IsStep self.old (Connect task home) result self.new }
+        ensures memory { result ≢ Err Refusal.OutOfMemory }
         ensures size { self.new.page_size ≡ self.old.page_size }
     {
         let nodes = self.pool.len() as u64;
@@ -35,6 +38,7 @@ impl<N: Naming> System<N> {
     /// For now refused as BadLine where `pages` is below the present number, and then nothing changes.
     pub fn set_nr(&mut self, pages: u64) -> Reply
         ensures step { IsStep self.old (Nr pages) result self.new }
+        ensures memory { result ≢ Err Refusal.OutOfMemory }
         ensures size { self.new.page_size ≡ self.old.page_size }
     {
         if pages < self.pool.nr() {
@@ -47,6 +51,7 @@ impl<N: Naming> System<N> {
     /// (`admin-guide/mm/hugetlbpage.rst`). Never refused, and changes nothing.
     pub fn meminfo(&mut self) -> Reply
         ensures step { IsStep self.old Meminfo result self.new }
+        ensures memory { result ≢ Err Refusal.OutOfMemory }
         ensures size { self.new.page_size ≡ self.old.page_size }
     {
         Ok(Answer::Numbers(self.pool.counts()))
@@ -57,10 +62,12 @@ impl<N: Naming> System<N> {
     /// huge page; Total, Free, Rsvd and Surp are counts over files and maps; no mount is taken past
     /// its limit; a load answers what its map shows, and a file shows what was stored through its maps.
     ///
-    /// Refused as the step's own function is, and as BadLine where the step is not built yet.
+    /// Refused as the step's own function is, and as BadLine where the step is not built yet. Only a step that makes a file or
+    /// a map can be refused memory.
     pub fn apply(&mut self, step: &Step) -> Reply
         ensures step { IsStep self.old step.now result self.new }
         ensures promised { IsPromised self.old step.now result self.new }
+        ensures memory { takes_memory step.now ≡ false → result ≢ Err Refusal.OutOfMemory }
         ensures size { self.new.page_size ≡ self.old.page_size }
         ensures limits { IsWithinLimits result }
     {
@@ -73,6 +80,7 @@ impl<N: Naming> System<N> {
     fn answer(&mut self, step: &Step) -> Reply
         ensures step { IsStep self.old step.now result self.new }
         ensures usage { is_usage step.now ≡ true → IsWithinLimits result }
+        ensures memory { takes_memory step.now ≡ false → result ≢ Err Refusal.OutOfMemory }
         ensures size { self.new.page_size ≡ self.old.page_size }
     {
         match step {
