@@ -1,5 +1,5 @@
 -- Reading the frames of one node after another.
-use Rattle.std.proofs.Common.{◌≡◌, ◌∙◌, ◌++◌, ◌∷◌, ℕ, List, [], map, Result, Ok, refl, ap, ap₂, append-nil}
+use Rattle.std.proofs.Common.{◌≡◌, ◌∙◌, ◌++◌, ◌∷◌, ℕ, List, [], map, Result, Ok, refl, ap, append-nil}
 use Rattle.hp_model.specs.Words.{number_of}
 use Rattle.hp_model.specs.declared.refusal.Refusal.{Refusal}
 use Rattle.hugetlbd.specs.Asked.{pieces}

@@ -11,8 +11,6 @@ use Rattle.hp_model.specs.Text.{AnswersLines}
 use Rattle.hp_model.specs.Writing.{text}
 use Rattle.hp_wire.specs.Served.{Serves, IsMemoryOrTooLong}
 use Rattle.hp_wire.specs.declared.fault.RunFault.{RunFault}
-use Rattle.hugetlbd.specs.Asked.{Asks}
-use Rattle.hugetlbd.specs.Config.{Choice, IsWithinLimits, chosen}
 use Rattle.hugetlbd.specs.declared.settings.Wrong.{Wrong}
 use Rattle.hugetlbd.specs.declared.settings.Wrong.TheVariants.{Memory, Parse, BadValue, OptionFirst}
 

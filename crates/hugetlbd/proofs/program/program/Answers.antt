@@ -1,7 +1,7 @@
-use Rattle.std.proofs.Common.{◌≡◌, ◌∙◌, ◌≤◌, ap, map, length, inr, subst, sym, ℕ}
+use Rattle.std.proofs.Common.{◌∙◌, ◌≤◌, ap, map, length, inr, subst, sym, ℕ}
 use Rattle.std.proofs.lemmas.List.{length-map}
 use Rattle.hugetlbd.specs.Asked.{Asks}
-use Rattle.hugetlbd.specs.Config.{Choice, choice_in, choice_of, chosen, usual}
+use Rattle.hugetlbd.specs.Config.{Choice, choice_of, chosen, usual}
 use Rattle.hugetlbd.proofs.Runs.{answered_well, answered_as}
 use Rattle.hugetlbd.proofs.Usual.{no_words, not_refused}
 use Rattle.hugetlbd.proofs.program.program.Goals as goal
