@@ -1,18 +1,15 @@
 -- The option text of a mount, and the limits that it gives.
-use Rattle.std.specs.Prelude.{ℕ, ◌+◌, ◌-◌, ◌*◌, ◌/◌, ◌^◌, ◌&&◌, ◌||◌, ◌==◌, Bool, true, false, Option, None, Some, Result, Ok, Err, List, [], ◌∷◌, length, take, drop, if◌then◌else◌, nat_lt, nat_le, codes, unwrap_or, nat_eq}
+use Rattle.std.specs.Prelude.{ℕ, ◌-◌, ◌*◌, ◌/◌, ◌^◌, ◌&&◌, ◌||◌, ◌==◌, Bool, true, false, Option, None, Some, Result, Ok, Err, List, [], ◌∷◌, length, take, drop, if◌then◌else◌, nat_lt, nat_le, codes, unwrap_or, nat_eq}
+use Rattle.std.specs.Char.{is_ascii_digit}
 use Rattle.std.specs.Option.{option_map, option_and_then}
-use Rattle.std.specs.List.{list_all, fold, starts_with}
+use Rattle.std.specs.List.{slice_split, starts_with}
+use Rattle.std.specs.Str.{all_ascii_digits}
+use Rattle.std.specs.Str.Parse.{digits_value}
 use Rattle.hp_model.specs.declared.refusal.Refusal.{Refusal}
 use Rattle.hp_model.specs.declared.refusal.Refusal.TheVariants.{BadOption, MinOverSize}
 use Rattle.hp_model.specs.declared.limits.Limits.{Limits}
 
 -- ---- numbers
-
-abbrev pub is_digit : ℕ → Bool
-is_digit c = nat_le 48 c && nat_le c 57
-
-abbrev pub decimal : List ℕ → ℕ
-decimal ds = fold (λ n d. 10 * n + (d - 48)) 0 ds
 
 abbrev pub when : {X : Type 0} → Bool → X → Option X
 when true x = Some x
@@ -20,7 +17,7 @@ when false x = None
 
 -- 1 to 20 digits whose value is below 2^64
 abbrev pub number_of : List ℕ → Option ℕ
-number_of ds = when (list_all is_digit ds && nat_le 1 (length ds) && nat_le (length ds) 20 && nat_lt (decimal ds) (2 ^ 64)) (decimal ds)
+number_of ds = when (nat_lt 0 (length ds) && nat_le (length ds) 20 && all_ascii_digits ds && nat_lt (digits_value 10 ds) (2 ^ 64)) (digits_value 10 ds)
 
 abbrev pub scale_of : ℕ → ℕ
 scale_of c =
@@ -43,7 +40,7 @@ scaled scale n = when (nat_lt (n * scale) (2 ^ 64)) (n * scale)
 -- digits, with a suffix that multiplies
 abbrev pub quantity_of : List ℕ → Option ℕ
 quantity_of text =
-    if is_digit (last_of text) then number_of text
+    if is_ascii_digit (last_of text) then number_of text
     else if scale_of (last_of text) == 1 then None
     else option_and_then (scaled (scale_of (last_of text))) (number_of (without_last text))
 
@@ -84,14 +81,9 @@ option_of w text =
     (or_else (option_and_then (λ t. option_map (λ a. record w { min_size = Some a }) (amount_of t)) (after_key (codes "min_size=") text))
     (option_and_then (λ t. option_map (λ n. record w { nr_inodes = Some n }) (quantity_of t)) (after_key (codes "nr_inodes=") text)))
 
-abbrev pub onto : ℕ → List (List ℕ) → List (List ℕ)
-onto x [] = (x ∷ []) ∷ []
-onto x (w ∷ ws) = (x ∷ w) ∷ ws
-
 -- the parts between commas
 abbrev pub parts : List ℕ → List (List ℕ)
-parts [] = [] ∷ []
-parts (x ∷ xs) = if x == 44 then [] ∷ parts xs else onto x (parts xs)
+parts text = slice_split (λ b. b == 44) text
 
 abbrev pub options_of : Wanted → List (List ℕ) → Option Wanted
 options_of w [] = Some w

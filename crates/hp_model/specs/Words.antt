@@ -1,9 +1,10 @@
 -- The words of a line, and what each may be read as.
-use Rattle.std.specs.Prelude.{ℕ, ◌^◌, List, [], ◌∷◌, length, Result, Ok, Err, Bool, ◌&&◌, ◌==◌, nat_le, nat_lt, if◌then◌else◌, codes}
+use Rattle.std.specs.Prelude.{ℕ, List, [], ◌∷◌, length, Result, Ok, Err, Bool, ◌&&◌, ◌==◌, nat_le, nat_lt, if◌then◌else◌, codes}
 use Rattle.std.specs.List.{slice_split, list_all}
-use Rattle.std.specs.Str.{bytes_eq, all_ascii_digits}
-use Rattle.std.specs.Str.Parse.{digits_value}
+use Rattle.std.specs.Option.{ok_or}
+use Rattle.std.specs.Str.{bytes_eq}
 use Rattle.hex.specs.Hex.{decode_of}
+use Rattle.hp_model.specs.Options.{number_of as number_in}
 use Rattle.hp_model.specs.declared.refusal.Refusal.{Refusal}
 use Rattle.hp_model.specs.declared.refusal.Refusal.TheVariants.{BadLine}
 use Rattle.hp_model.specs.declared.step.Intent.{Intent}
@@ -56,12 +57,9 @@ word_at pieces = do
 
 -- ---- numbers
 
--- 1 to 20 decimal digits with a value below 2^64
-abbrev pub is_number : List ℕ → Bool
-is_number piece = nat_lt 0 (length piece) && nat_le (length piece) 20 && all_ascii_digits piece && nat_lt (digits_value 10 piece) (2 ^ 64)
-
+-- 1 to 20 digits whose value is below 2^64, as in a mount's options
 abbrev pub number_of : List ℕ → Result ℕ Refusal
-number_of piece = if is_number piece then Ok (digits_value 10 piece) else Err BadLine
+number_of piece = ok_or (number_in piece) BadLine
 
 unfoldable pub number_at : List (List ℕ) → Read ℕ
 number_at pieces = do

@@ -1,6 +1,6 @@
 mod Digits
 mod Lasts
 mod Percents
-mod Commas
+mod Cuts
 pub mod Added
 mod Columns

@@ -1,2 +1,3 @@
 pub mod Seen
 pub mod Output
+pub mod Pieces

@@ -1,11 +1,12 @@
-//! The options of a mount, and the text of meminfo.
+//! The options of a mount, and the text of meminfo, with the numbers and pieces that texts are read by.
 #![tactic(auto)]
 
 mod amounts;
 pub mod meminfo;
-mod numbers;
+pub mod numbers;
 pub mod options;
 pub mod output;
+pub mod pieces;
 #[cfg(test)]
 mod tests;
 mod wanted;

@@ -1,9 +1,9 @@
-//! Numbers in an option.
+//! Numbers in a text.
 ghost use Rattle.std.specs.Prelude.{◌≡◌, ◌+◌, ◌-◌, ◌*◌, ◌^◌, ◌≤◌, ◌<◌, MatchOption};
 ghost use Rattle.std.specs.Int.{IsInRange};
 ghost use Rattle.hp_model.specs.Options.{number_of, quantity_of, scaled, scale_of, last_of, without_last};
 
-/// Reads 1 to 20 digits with a value below 2^64.
+/// Reads 1 to 20 digits with a value below 2^64. Any other text is no number.
 pub fn number_of(digits: &[u8]) -> Option<u64>
     ensures { result ≡ number_of digits.now }
 {
@@ -12,17 +12,14 @@ pub fn number_of(digits: &[u8]) -> Option<u64>
     }
     let mut value = 0u64;
     for b in digits {
-        let Some(more) = with_digit(value, *b) else {
-            return None;
-        };
-        value = more;
+        value = with_digit(value, *b)?;
     }
     Some(value)
 }
 
 // The number with one digit more, where it fits.
 fn with_digit(value: u64, b: u8) -> Option<u64>
-    ensures { MatchOption result (IsInRange 48 57 b → 2 ^ 64 ≤ 10 * value + (b - 48)) (λ n. IsInRange 48 57 b × (n ≡ 10 * value + (b - 48)) × (n < 2 ^ 64)) }
+    ensures { MatchOption result (IsInRange 48 57 b → 2 ^ 64 ≤ value * 10 + (b - 48)) (λ n. IsInRange 48 57 b × (n ≡ value * 10 + (b - 48)) × (n < 2 ^ 64)) }
 {
     if !b.is_ascii_digit() {
         return None;
@@ -31,7 +28,7 @@ fn with_digit(value: u64, b: u8) -> Option<u64>
 }
 
 /// Reads digits, with a suffix that multiplies.
-pub fn quantity_of(text: &[u8]) -> Option<u64>
+pub(crate) fn quantity_of(text: &[u8]) -> Option<u64>
     ensures { result ≡ quantity_of text.now }
 {
     let (last, front) = cut_last(text);
@@ -46,7 +43,7 @@ pub fn quantity_of(text: &[u8]) -> Option<u64>
 }
 
 /// The last byte, or 0 where there is none, and those before it.
-pub fn cut_last(text: &[u8]) -> (u8, &[u8])
+pub(crate) fn cut_last(text: &[u8]) -> (u8, &[u8])
     ensures last { result.0 ≡ last_of text.now }
     ensures front { result.1.now ≡ without_last text.now }
 {

@@ -1,11 +1,12 @@
 //! The text of a mount's options, and the limits that it means.
-ghost use Rattle.std.specs.Prelude.{◌≡◌, ◌<◌, ◌+◌, ◌∷◌, [], length, take, drop, position, ◌==◌, MatchOption};
+ghost use Rattle.std.specs.Prelude.{◌≡◌, ◌<◌, ◌∷◌, [], length, MatchOption};
 ghost use Rattle.std.specs.Option.{option_map};
 ghost use Rattle.hp_model.specs.Options.{after_key, option_of, options_of, nothing_wanted, parts, wanted_of, limits_of, checked, limits, pages_for};
 ghost use Rattle.hp_options.specs.Seen.{amount_seen, wanted_seen};
 
 use crate::amounts::{amount_of, pages_for};
 use crate::numbers::quantity_of;
+use crate::pieces::place_of;
 use crate::wanted::{Amount, Wanted};
 use hp_model::limits::Limits;
 use hp_model::refusal::Refusal;
@@ -56,22 +57,8 @@ fn options_of(start: Wanted, text: &[u8]) -> Option<Wanted>
 fn cut_at_comma(text: &[u8]) -> Option<(&[u8], &[u8])>
     ensures { MatchOption result (parts text.now ≡ text.now ∷ []) (λ cut. (parts text.now ≡ cut.0.now ∷ parts cut.1.now) × (length cut.1.now < length text.now)) }
 {
-    let at = comma_of(text)?;
+    let at = place_of(b',', text)?;
     Some((&text[..at], &text[at + 1..]))
-}
-
-// Where the first comma stands.
-fn comma_of(text: &[u8]) -> Option<usize>
-    ensures { MatchOption result (parts text.now ≡ text.now ∷ []) (λ at. (at < length text.now) × (parts text.now ≡ take at text.now ∷ parts (drop (at + 1) text.now))) }
-{
-    position_of(b',', text)
-}
-
-#[inline(always)]
-fn position_of(byte: u8, bytes: &[u8]) -> Option<usize>
-    ensures { result ≡ position (λ b. b == byte) bytes.now }
-{
-    bytes.iter().position(|b| *b == byte)
 }
 
 // What one option sets.

@@ -2,7 +2,7 @@
 use Rattle.std.proofs.Common.{◌≡◌, ℕ, List, [], ◌∷◌, ◌++◌, ◌+◌, ◌-◌, ◌<◌, ◌≤◌, length, take, drop, refl, sym, ◌∙◌, ap, arith, ◌==◌, length-drop, append_assoc, drop-drop}
 use Rattle.std.specs.List.{slice_split}
 use Rattle.hp_model.specs.Lines.{Line, ended, pieces, ended_pieces, last_piece, ended_lines, after_lines}
-use Rattle.hp_wire.specs.Pieces.{IsCutAt}
+use Rattle.hp_options.specs.Pieces.{IsCutAt}
 use Rattle.hp_wire.proofs.Pieces.{first_piece, joined, slice_split-append}
 use Rattle.std.specs.List.{onto_first}
 use Rattle.std.specs.Prelude.{nat_eq, Bool, true, false}

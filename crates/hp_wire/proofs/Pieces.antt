@@ -1,34 +1,7 @@
 -- A list is cut at each element that passes.
-use Rattle.std.proofs.Common.{◌≡◌, ℕ, List, [], ◌∷◌, ◌++◌, ◌+◌, ◌<◌, ◌≤◌, length, refl, sym, ◌∙◌, ap, subst, arith, Bool, true, false, not, nat_lt, Option, Some, None, cond, MatchOption}
-use Rattle.std.proofs.lemmas.Bool.Decides.{nat_tests}
-use Rattle.std.proofs.lemmas.List.Splits.{slice_split_first, slice_split-cons_yes, slice_split-cons_no, length-slice_split}
-use Rattle.std.specs.List.{slice_split, position, position_or_len, onto_first}
-use Rattle.hp_wire.specs.Pieces.{IsCutAt}
-
-cut_go : {X : Type 0} (p : X → Bool) (xs : List X) (at : ℕ) (d : X) (b : Bool) → nat_lt (position_or_len p xs) (length xs) ≡ b → cond b (Some (position_or_len p xs)) None ≡ Some at → IsCutAt p xs at
-cut_go p xs at d true t e =
-    let within : position_or_len p xs < length xs = grind (arith, nat_tests) in
-    let same : position_or_len p xs ≡ at = cc in
-    subst (λ n. IsCutAt p xs n) same (record { within = within; pieces = slice_split_first p xs d within })
-cut_go p xs at d false t e = cc
-
-pub cut_at : {X : Type 0} (p : X → Bool) (xs : List X) (at : ℕ) (d : X) → position p xs ≡ Some at → IsCutAt p xs at
-cut_at {X} p xs at d h = cut_go p xs at d (nat_lt (position_or_len p xs) (length xs)) refl h
-
-whole_cons : {X : Type 0} (p : X → Bool) (x : X) (xs : List X) (b : Bool) → p x ≡ b → length (x ∷ xs) ≤ cond (not b) (1 + position_or_len p xs) 0 → (length xs ≤ position_or_len p xs → slice_split p xs ≡ xs ∷ []) → slice_split p (x ∷ xs) ≡ (x ∷ xs) ∷ []
-whole_cons p x xs true t h ih = absurd (omega arith)
-whole_cons p x xs false t h ih = slice_split-cons_no p x xs t ∙ ap (onto_first x) (ih (omega arith))
-
-whole : {X : Type 0} (p : X → Bool) (xs : List X) → length xs ≤ position_or_len p xs → slice_split p xs ≡ xs ∷ []
-whole p [] h = refl
-whole p (x ∷ xs) h = whole_cons p x xs (p x) refl h (whole p xs)
-
-not_cut_go : {X : Type 0} (p : X → Bool) (xs : List X) (b : Bool) → nat_lt (position_or_len p xs) (length xs) ≡ b → cond b (Some (position_or_len p xs)) None ≡ None → slice_split p xs ≡ xs ∷ []
-not_cut_go p xs true t e = cc
-not_cut_go p xs false t e = whole p xs (grind (arith, nat_tests))
-
-pub not_cut : {X : Type 0} (p : X → Bool) (xs : List X) → position p xs ≡ None → slice_split p xs ≡ xs ∷ []
-not_cut p xs h = not_cut_go p xs (nat_lt (position_or_len p xs) (length xs)) refl h
+use Rattle.std.proofs.Common.{◌≡◌, List, [], ◌∷◌, ◌++◌, length, refl, sym, ◌∙◌, ap, arith, Bool, true, false}
+use Rattle.std.proofs.lemmas.List.Splits.{slice_split-cons_yes, slice_split-cons_no, length-slice_split}
+use Rattle.std.specs.List.{slice_split, onto_first}
 
 pub not_empty : {X : Type 0} (p : X → Bool) (xs : List X) → slice_split p xs ≡ [] → ⊥
 not_empty p xs h = let n : length (slice_split p xs) ≡ 0 = ap length h in omega (arith, length-slice_split p xs)
@@ -76,7 +49,3 @@ append_go {X} p x xs ys false t ih =
 pub slice_split-append : {X : Type 0} (p : X → Bool) (xs ys : List X) → slice_split p (xs ++ ys) ≡ joined (slice_split p xs) (slice_split p ys)
 slice_split-append p [] ys = let f = first_piece p ys in join_nil (slice_split p ys) f.0 f.1 f.2
 slice_split-append p (x ∷ xs) ys = append_go p x xs ys (p x) refl (slice_split-append p xs ys)
-
-pub place_is : {X : Type 0} (p : X → Bool) (xs : List X) (d : X) (r : Option ℕ) → r ≡ position p xs → MatchOption r (slice_split p xs ≡ xs ∷ []) (λ at. IsCutAt p xs at)
-place_is p xs d None e = not_cut p xs (sym e)
-place_is p xs d (Some at) e = cut_at p xs at d (sym e)

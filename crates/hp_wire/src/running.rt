@@ -15,11 +15,11 @@ ghost use Rattle.hp_model.specs.Writing.{line_of};
 use crate::ends::{Sink, Source};
 use crate::fault::RunFault;
 use crate::reading::step_of_line;
-use crate::words::place_of;
 use crate::writing::{LONGEST, line_of_reply};
 use hp_model::answer::Reply;
 use hp_model::refusal::Refusal;
 use hp_model::service::Service;
+use hp_options::pieces::place_of;
 use std::alloc::{AllocError, Global};
 
 /// The most bytes that an input may have.

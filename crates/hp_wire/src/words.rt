@@ -1,12 +1,11 @@
 //! The pieces of a line.
-ghost use Rattle.std.specs.Prelude.{◌≡◌, ◌∷◌, ◌==◌, ◌+◌, ◌-◌, ◌*◌, ◌^◌, ◌≤◌, ◌<◌, MatchOption, [], length};
-ghost use Rattle.hp_wire.specs.Pieces.{IsCutAt};
+ghost use Rattle.std.specs.Prelude.{◌≡◌, ◌∷◌, ◌≤◌, length};
 ghost use Rattle.hp_wire.specs.Words.{pieces_left, IsShort};
-ghost use Rattle.std.specs.List.{position, slice_split};
-ghost use Rattle.std.specs.Int.{IsInRange};
 ghost use Rattle.hp_model.specs.Words.{number_of, pieces_of_line};
 
 use hp_model::refusal::Refusal;
+use hp_options::numbers;
+use hp_options::pieces::place_of;
 use std::marker::Model;
 
 /// The pieces of a line that aren't read yet.
@@ -76,43 +75,9 @@ fn first_piece(line: &[u8]) -> (&[u8], Option<&[u8]>)
     }
 }
 
-// Where the bytes are cut first.
-pub fn place_of(byte: u8, bytes: &[u8]) -> Option<usize>
-    ensures { MatchOption result (slice_split (λ b. b == byte) bytes.now ≡ bytes.now ∷ []) (λ at. IsCutAt (λ b. b == byte) bytes.now at) }
-{
-    position_of(byte, bytes)
-}
-
-#[inline(always)]
-fn position_of(byte: u8, bytes: &[u8]) -> Option<usize>
-    ensures { result ≡ position (λ b. b == byte) bytes.now }
-{
-    bytes.iter().position(|b| *b == byte)
-}
-
 /// Reads a piece as a number.
 pub fn number_of(piece: &[u8]) -> Result<u64, Refusal>
     ensures { result ≡ number_of piece.now }
 {
-    if piece.is_empty() || piece.len() > 20 {
-        return Err(Refusal::BadLine);
-    }
-    let mut value = 0u64;
-    for b in piece {
-        let Some(more) = with_digit(value, *b) else {
-            return Err(Refusal::BadLine);
-        };
-        value = more;
-    }
-    Ok(value)
-}
-
-// The number with one digit more, where it fits.
-fn with_digit(value: u64, b: u8) -> Option<u64>
-    ensures { MatchOption result (IsInRange 48 57 b → 2 ^ 64 ≤ value * 10 + (b - 48)) (λ n. IsInRange 48 57 b × (n ≡ value * 10 + (b - 48)) × (n < 2 ^ 64)) }
-{
-    if !b.is_ascii_digit() {
-        return None;
-    }
-    value.checked_mul(10)?.checked_add(u64::from(b - b'0'))
+    numbers::number_of(piece).ok_or(Refusal::BadLine)
 }

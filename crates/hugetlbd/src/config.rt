@@ -10,7 +10,8 @@ ghost use Rattle.hugetlbd.specs.declared.settings.Wrong.TheVariants.{Memory};
 use crate::settings::{Config, Machine, Wrong};
 use clap::error::ErrorKind;
 use clap::{Arg, ArgAction, ArgMatches, Command, Error};
-use hp_wire::words::{number_of, place_of};
+use hp_options::pieces::place_of;
+use hp_wire::words::number_of;
 use std::alloc::{AllocError, Global};
 use std::convert::AsStr;
 
