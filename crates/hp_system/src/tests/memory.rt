@@ -68,12 +68,23 @@ fn shown<N: Naming>(system: &mut System<N>) -> [Reply; 5] {
     ]
 }
 
-// Each step is answered so; or it is refused memory, leaves the counts and each mount as they were, and then goes through.
+// The step is answered so; or it is refused memory, leaves the counts and each mount as they were, and then goes through.
+fn tried<N: Naming, R: Abort>(rt: &R, system: &mut System<N>, step: &Step, expected: &Reply) {
+    let before = shown(system);
+    let mut reply = system.apply(step);
+    if reply == Err(Refusal::OutOfMemory) {
+        assert!(rt; shown(system) == before);
+        reply = system.apply(step);
+    }
+    assert!(rt; reply == *expected);
+}
+
+// All steps, part by part, on a machine with so many pages at the end.
 fn tries<N: Naming, R: Abort>(
     rt: &R,
     alloc: Global,
     blanks: Blanks,
-    rows: &[(Step, Reply)],
+    rows: &[&[(Step, Reply)]],
     left: u64,
 ) -> Result<(), AllocError>
     requires permits { (blanks.permits.name ≡ N.permits) × (blanks.permits.parts ≡ 18446744073709551615) }
@@ -84,14 +95,10 @@ fn tries<N: Naming, R: Abort>(
     requires bytes { N.page_bytes ≡ 1024 }
 {
     let mut system = System::<N>::new(alloc, &[4, 4], 1024, 4, blanks)?;
-    for (step, expected) in rows {
-        let before = shown(&mut system);
-        let mut reply = system.apply(step);
-        if reply == Err(Refusal::OutOfMemory) {
-            assert!(rt; shown(&mut system) == before);
-            reply = system.apply(step);
+    for part in rows {
+        for (step, expected) in *part {
+            tried(rt, &mut system, step, expected);
         }
-        assert!(rt; reply == *expected);
     }
     assert_eq!(rt; system.close(), all_free(left));
     Ok(())
@@ -114,7 +121,7 @@ fn first_steps<N: Naming, R: Abort>(rt: &R, alloc: Global, blanks: Blanks) -> Re
         (map(alloc, 0, b"a", 3)?, Ok(Answer::MapNo(2))),
         (store(alloc, 0, 2)?, Ok(Answer::Done)),
     ];
-    tries::<N, R>(rt, alloc, blanks, &rows, 4)
+    tries::<N, R>(rt, alloc, blanks, &[rows.as_slice()], 4)
 }
 
 // Must also pass where an allocation is refused.
@@ -156,7 +163,7 @@ fn options<N: Naming, R: Abort>(rt: &R, alloc: Global, blanks: Blanks) -> Result
         (create(alloc, 3, b"a/b")?, Err(Refusal::BadName)),
         (Step::Umount { slot: 3 }, Ok(Answer::Done)),
     ];
-    tries::<N, R>(rt, alloc, blanks, &rows, 5)
+    tries::<N, R>(rt, alloc, blanks, &[rows.as_slice()], 5)
 }
 
 #[test]
@@ -164,7 +171,27 @@ fn a_refused_mount_changes_nothing(rt: HostRuntime) {
     let _tried = options::<Brand, HostRuntime>(&rt, rt.alloc(), blanks());
 }
 
-// A limit of three pages and a minimum of two.
+// A mount with a limit of three pages and a minimum of two, and a file of which three pages are mapped.
+fn full_mount(alloc: Global) -> Result<[(Step, Reply); 5], AllocError> {
+    Ok([
+        (Step::Connect { task: 1, home: 0 }, Ok(Answer::Done)),
+        (Step::Nr { pages: 4 }, Ok(Answer::Number(4))),
+        (mount(alloc, 2, b"size=3K,min_size=2K")?, Ok(Answer::Done)),
+        (create(alloc, 2, b"a")?, Ok(Answer::Done)),
+        (map(alloc, 2, b"a", 3)?, Ok(Answer::MapNo(1))),
+    ])
+}
+
+// What such a mount refuses, and does.
+fn past_the_limit(alloc: Global) -> Result<[(Step, Reply); 4], AllocError> {
+    Ok([
+        (map(alloc, 2, b"a", 4)?, Err(Refusal::MountFull)),
+        (store(alloc, 2, 1)?, Ok(Answer::Done)),
+        (Step::Df { slot: 2 }, usage(Some(3), 2, 3, 1)),
+        (Step::Umount { slot: 2 }, Err(Refusal::Busy)),
+    ])
+}
+
 fn limits<N: Naming, R: Abort>(rt: &R, alloc: Global, blanks: Blanks) -> Result<(), AllocError>
     requires permits { (blanks.permits.name ≡ N.permits) × (blanks.permits.parts ≡ 18446744073709551615) }
     requires zero { (blanks.pages.zero.name ≡ N.pages_0) × (blanks.pages.zero.parts ≡ 18446744073709551615) }
@@ -173,19 +200,9 @@ fn limits<N: Naming, R: Abort>(rt: &R, alloc: Global, blanks: Blanks) -> Result<
     requires three { (blanks.pages.three.name ≡ N.pages_3) × (blanks.pages.three.parts ≡ 18446744073709551615) }
     requires bytes { N.page_bytes ≡ 1024 }
 {
-    let rows = [
-        (Step::Connect { task: 1, home: 0 }, Ok(Answer::Done)),
-        (Step::Nr { pages: 4 }, Ok(Answer::Number(4))),
-        (mount(alloc, 2, b"size=3K,min_size=2K")?, Ok(Answer::Done)),
-        (create(alloc, 2, b"a")?, Ok(Answer::Done)),
-        (map(alloc, 2, b"a", 3)?, Ok(Answer::MapNo(1))),
-        (create(alloc, 2, b"b")?, Ok(Answer::Done)),
-        (map(alloc, 2, b"b", 1)?, Err(Refusal::MountFull)),
-        (store(alloc, 2, 1)?, Ok(Answer::Done)),
-        (Step::Df { slot: 2 }, usage(Some(3), 2, 3, 2)),
-        (Step::Umount { slot: 2 }, Err(Refusal::Busy)),
-    ];
-    tries::<N, R>(rt, alloc, blanks, &rows, 4)
+    let first = full_mount(alloc)?;
+    let then = past_the_limit(alloc)?;
+    tries::<N, R>(rt, alloc, blanks, &[first.as_slice(), then.as_slice()], 4)
 }
 
 #[test]
