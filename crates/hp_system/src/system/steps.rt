@@ -60,7 +60,8 @@ impl<N: Naming> System<N> {
     /// Answers a step, or leaves everything as it was and says why. What is promised of each step
     /// holds of this one: an access at an index reserved to its map is never refused for want of a
     /// huge page; Total, Free, Rsvd and Surp are counts over files and maps; no mount is taken past
-    /// its limit; a load answers what its map shows, and a file shows what was stored through its maps.
+    /// its limit, and minimums stay committed; a load answers what its map shows, and a file shows what
+    /// was stored through its maps, until an umount ends it.
     ///
     /// Refused as the step's own function is, and as BadLine where the step is not built yet. Only a step that makes a file or
     /// a map can be refused memory.
