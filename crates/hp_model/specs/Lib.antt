@@ -1,5 +1,4 @@
 pub mod Access
-pub mod Balance
 pub mod CopyWrite
 pub mod Differ
 pub mod Event
@@ -8,7 +7,6 @@ pub mod Fork
 pub mod GiveBack
 pub mod Grant
 pub mod JointRun
-pub mod Laws
 pub mod Lines
 pub mod Lists
 pub mod LocalRun

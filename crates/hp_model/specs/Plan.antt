@@ -1,12 +1,12 @@
 -- How an event on a slot goes on: at once, or by one hold of the pool's lock.
-use Rattle.std.specs.Prelude.{ℕ, ◌-◌, ◌&&◌, ◌==◌, Bool, true, Option, None, Some, Result, List, [], ◌∷◌, map, if◌then◌else◌}
+use Rattle.std.specs.Prelude.{◌≡◌, ℕ, ◌-◌, ◌&&◌, ◌==◌, Bool, true, false, Option, None, Some, Result, List, [], ◌∷◌, map, if◌then◌else◌}
 use Rattle.std.specs.List.{range_with_len, sum}
 use Rattle.hp_model.specs.declared.answer.Answer.{Answer}
 use Rattle.hp_model.specs.declared.refusal.Refusal.{Refusal}
 use Rattle.hp_model.specs.declared.refusal.Refusal.TheVariants.{NoPages, MountFull, OutOfMemory}
 use Rattle.hp_model.specs.File.{Mount}
-use Rattle.hp_model.specs.Grant.{rise, is_full}
-use Rattle.hp_model.specs.MountCounts.{pages_of, committed_of, pages_at}
+use Rattle.hp_model.specs.Grant.{rise, is_full, is_over}
+use Rattle.hp_model.specs.MountCounts.{pages_of, committed_of, pages_at, usage_of}
 use Rattle.hp_model.specs.Pool.{Section, Grant, GrantPage, TakePage, GiveBack, PoolAnswer}
 
 abbrev pub Reply : Type 0
@@ -106,3 +106,12 @@ gives a old new =
     if (sum (puts_of old new) == 0) && (fall_of old new == 0)
     then Finish (Answered a new)
     else Ask (λ nr. GiveBack (puts_of old new) (fall_of old new)) (λ answer. Answered a new)
+
+abbrev pub slot_usage : Slot → ℕ
+slot_usage None = 0
+slot_usage (Some m) = usage_of m
+
+-- the mount uses no more than its limit
+abbrev pub IsWithinLimit : Slot → Type 0
+IsWithinLimit None = Unit {0}
+IsWithinLimit (Some m) = is_over m.limits.max (usage_of m) ≡ false

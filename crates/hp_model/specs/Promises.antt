@@ -2,23 +2,24 @@
 use Rattle.std.specs.Prelude.{◌≡◌, ◌⊎◌, ℕ, ◌+◌, ◌<◌, ◌≤◌, ◌&&◌, ◌||◌, ◌==◌, Bool, true, false, not, Option, None, Some, is_some, Ok, Err, List, [], ◌++◌, length, take, drop, if◌then◌else◌}
 use Rattle.std.specs.List.{slice_index_or}
 use Rattle.hp_model.specs.declared.answer.Answer.{Answer}
+use Rattle.hp_model.specs.declared.refusal.Refusal.{Refusal}
+use Rattle.hp_model.specs.declared.refusal.Refusal.TheVariants.{NoPages, MountFull}
 use Rattle.hp_model.specs.declared.step.Intent.{Intent}
 use Rattle.hp_model.specs.declared.step.Intent.TheVariants.{Read, Write}
 use Rattle.hp_model.specs.declared.place.Place.{Place}
 use Rattle.hp_model.specs.declared.step.Sharing.TheVariants.{Shared}
 use Rattle.hp_model.specs.declared.step.Step.{Step}
 use Rattle.hp_model.specs.declared.step.Step.TheVariants.{Df, Fault, Load, Store, Umount}
-use Rattle.hp_model.specs.Balance.{slot_usage, IsWithinLimit}
+use Rattle.hp_model.specs.Plan.{slot_usage, IsWithinLimit}
 use Rattle.hp_model.specs.CopyWrite.{holds}
 use Rattle.hp_model.specs.File.{File, Mount, cell_at, new_file}
-use Rattle.hp_model.specs.Laws.{is_for_pages}
 use Rattle.hp_model.specs.Machine.{committed_pages, counts_in, used_pages}
 use Rattle.hp_model.specs.Mapping.{Map, copy_of, is_map, is_shared, place_at}
 use Rattle.hp_model.specs.Page.{Copy, zeros}
 use Rattle.hp_model.specs.Plan.{Reply, Slot}
 use Rattle.hp_model.specs.Reserved.{is_reserved}
 use Rattle.hp_model.specs.Run.{RunsBy}
-use Rattle.hp_model.specs.Settled.{IsSettledState, AreCounted}
+use Rattle.hp_model.specs.Settled.{AreCounted}
 use Rattle.hp_model.specs.SlotEvent.{bytes_answer}
 use Rattle.hp_model.specs.Spot.{Spot, spot}
 use Rattle.hp_model.specs.State.{State, slot_at, with_slot}
@@ -51,7 +52,13 @@ is_backed_step s (Load task slot number i offset count) = is_backed Read (map_na
 is_backed_step s (Store task slot number i offset bytes) = is_backed Write (map_named s slot task number) i
 is_backed_step s other = false
 
--- refused for want of a huge page
+-- a refusal for want of a huge page
+abbrev pub is_for_pages : Refusal → Bool
+is_for_pages NoPages = true
+is_for_pages MountFull = true
+is_for_pages other = false
+
+-- refused so
 abbrev pub wants_page : Reply → Bool
 wants_page (Ok a) = false
 wants_page (Err r) = is_for_pages r
@@ -207,7 +214,3 @@ IsPromisedStep s step reply t = IsStep s step reply t × IsPromised s step reply
 -- the steps are answered by these replies, one after another, each as promised
 abbrev pub IsPromisedRun : State → List Step → List Reply → State → Type 0
 IsPromisedRun s steps replies t = RunsBy IsPromisedStep s steps replies t
-
--- each step of a settled machine is as promised
-abbrev pub PromisesAreKept : Type 0
-PromisesAreKept = (s : State) (step : Step) (reply : Reply) (t : State) → IsSettledState s → IsStep s step reply t → IsPromised s step reply t

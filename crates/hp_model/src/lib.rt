@@ -4,7 +4,6 @@
 pub mod answer;
 pub mod cell;
 pub mod event;
-pub mod laws;
 pub mod limits;
 pub mod naming;
 pub mod node;

@@ -20,7 +20,7 @@ use Rattle.hp_model.specs.Mapping.{Map, copy_of, is_of}
 use Rattle.hp_model.specs.Page.{Copy}
 use Rattle.hp_model.specs.MountCounts.{copies_of, file_pages, file_reserves}
 use Rattle.hp_model.proofs.Distinct.{distinct_put, is_among-append, same_members}
-use Rattle.hp_model.proofs.Maps.{mapped_grows}
+use Rattle.hp_laws.proofs.Maps.{mapped_grows}
 use Rattle.hp_model.specs.Promises.{file_in}
 use Rattle.hp_mount.specs.Counted.{IsCounted}
 use Rattle.hp_mount.specs.Found.{map_wants, wants_at, with_map}

@@ -17,12 +17,13 @@ use Rattle.hp_model.specs.Plan.{Reply, Slot, Outcome, Refused, Answered, Plan, F
 use Rattle.hp_model.specs.Pool.{PoolAnswer, section}
 use Rattle.hp_model.specs.PoolCounts.{Pool, IsSettled}
 use Rattle.hp_model.specs.Resize.{pool_event}
-use Rattle.hp_model.specs.Settled.{IsSettledState, pool_after}
+use Rattle.hp_model.specs.Settled.{IsSettledState}
+use Rattle.hp_laws.specs.Laws.{pool_after}
 use Rattle.hp_model.specs.SlotEvent.{slot_event}
 use Rattle.hp_model.specs.State.{State}
 use Rattle.hp_model.specs.Table.{Table}
-use Rattle.hp_model.proofs.Small.{committed_few}
-use Rattle.hp_model.proofs.StaysSettled.{pool_is_tied, event_settled}
+use Rattle.hp_laws.proofs.Small.{committed_few}
+use Rattle.hp_laws.proofs.StaysSettled.{pool_is_tied, event_settled}
 use Rattle.hp_mount.specs.Carried.{ended, carried, choosing, IsDone}
 use Rattle.hp_system.specs.Kept.{state_of, IsKept}
 

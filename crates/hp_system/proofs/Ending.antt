@@ -7,7 +7,7 @@ use Rattle.std.proofs.lemmas.List.{append-nil, append_assoc, length-append, leng
 use Rattle.std.proofs.Math.Seq.{get_or-append_seam, set-append_seam}
 use Rattle.hp_model.specs.declared.answer.Answer.TheVariants.{Done}
 use Rattle.hp_model.specs.declared.answer.Counts.{Counts}
-use Rattle.hp_model.specs.Balance.{IsBalanced}
+use Rattle.hp_laws.specs.Balance.{IsBalanced}
 use Rattle.hp_model.specs.File.{Mount}
 use Rattle.hp_model.specs.Machine.{committed_pages, pool_of}
 use Rattle.hp_model.specs.Plan.{Plan, Finish, Ask, Answered, Slot, fall_of, gives, puts_of}
@@ -16,9 +16,9 @@ use Rattle.hp_model.specs.PoolCounts.{Pool, counts_by, counts_of, used}
 use Rattle.hp_model.specs.Settled.{IsSettledState}
 use Rattle.hp_model.specs.State.{State}
 use Rattle.hp_model.specs.Table.{Table}
-use Rattle.hp_model.proofs.Plans.{balanced_gives}
+use Rattle.hp_laws.proofs.Plans.{balanced_gives}
 use Rattle.hp_model.proofs.RowMoves.{puts_are}
-use Rattle.hp_model.proofs.Tied.{plan_tied}
+use Rattle.hp_laws.proofs.Tied.{plan_tied}
 use Rattle.hp_mount.specs.Carried.{carried}
 use Rattle.hp_system.specs.Kept.{all_free, state_of, IsKept}
 use Rattle.hp_system.proofs.Carries.{planned_is, section_left, slot_in}

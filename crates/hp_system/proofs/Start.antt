@@ -9,7 +9,7 @@ use Rattle.hp_model.specs.Plan.{Slot, slot_committed}
 use Rattle.hp_model.specs.PoolCounts.{Pool}
 use Rattle.hp_model.specs.Settled.{IsSettledState}
 use Rattle.hp_model.specs.State.{State}
-use Rattle.hp_model.proofs.StaysSettled.{start_is_settled}
+use Rattle.hp_laws.proofs.StaysSettled.{start_is_settled}
 use Rattle.hp_system.specs.Kept.{state_of, IsKept}
 
 abbrev pub first_pool : List ℕ → Pool

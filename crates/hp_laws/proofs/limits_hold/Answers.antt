@@ -1,0 +1,5 @@
+use Rattle.hp_laws.proofs.CountsHold.{limits_hold}
+use Rattle.hp_laws.proofs.limits_hold.Goals as goal
+
+pub returns : goal.returns
+returns c = limits_hold

@@ -1,0 +1,5 @@
+use Rattle.hp_laws.proofs.Reserved.{copy_keeps}
+use Rattle.hp_laws.proofs.owners_write.Goals as goal
+
+pub returns : goal.returns
+returns c = copy_keeps

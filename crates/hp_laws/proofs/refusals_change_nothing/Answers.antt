@@ -1,0 +1,5 @@
+use Rattle.hp_laws.proofs.RefusalsKeep.{refusals_change_nothing}
+use Rattle.hp_laws.proofs.refusals_change_nothing.Goals as goal
+
+pub returns : goal.returns
+returns c = refusals_change_nothing

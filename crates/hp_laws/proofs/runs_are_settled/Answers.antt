@@ -1,0 +1,5 @@
+use Rattle.hp_laws.proofs.StaysSettled.{runs_are_settled}
+use Rattle.hp_laws.proofs.runs_are_settled.Goals as goal
+
+pub returns : goal.returns
+returns c = runs_are_settled

@@ -1,0 +1,5 @@
+use Rattle.hp_laws.proofs.SlotsBalanced.{slots_are_balanced}
+use Rattle.hp_laws.proofs.slots_are_balanced.Goals as goal
+
+pub returns : goal.returns
+returns c = slots_are_balanced

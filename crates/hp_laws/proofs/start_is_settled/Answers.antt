@@ -1,0 +1,5 @@
+use Rattle.hp_laws.proofs.StaysSettled.{start_is_settled}
+use Rattle.hp_laws.proofs.start_is_settled.Goals as goal
+
+pub returns : goal.returns
+returns c = start_is_settled

@@ -1,0 +1,64 @@
+-- The tie of slots and pool: what a section with its answer moves in the pool's numbers is what its event moves in the slot's counts.
+use Rattle.std.specs.Prelude.{◌≡◌, ◌⊎◌, ℕ, ◌+◌, ◌<◌, ◌≤◌, ◌&&◌, ◌==◌, Bool, true, false, if◌then◌else◌}
+use Rattle.std.specs.List.{slice_index_or}
+use Rattle.hp_model.specs.Plan.{Slot, Outcome, Refused, Answered, Plan, Finish, Ask, slot_committed, slot_pages, slot_pages_at, slot_usage, IsWithinLimit}
+use Rattle.hp_model.specs.Pool.{section, Section, Grant, GrantPage, TakePage, GiveBack, ReadAndGrant, GrantAndReturn, PoolAnswer}
+use Rattle.hp_model.specs.PoolCounts.{Pool}
+use Rattle.hp_model.specs.Sound.{IsSound}
+
+-- what the section, answered so, adds to the pool's commitment, and what it takes from it
+abbrev pub raised_by : Section → PoolAnswer → ℕ
+raised_by (Grant home pages) a = if a.granted then pages else 0
+raised_by (GrantPage home pages) a = if a.granted then pages else 0
+raised_by (TakePage home) a = 0
+raised_by (GiveBack puts pages) a = 0
+raised_by (ReadAndGrant pages) a = if a.granted then pages else 0
+raised_by (GrantAndReturn pages) a = 0
+
+abbrev pub lowered_by : Section → ℕ
+lowered_by (GiveBack puts pages) = pages
+lowered_by other = 0
+
+abbrev pub takes_page : Section → PoolAnswer → Bool
+takes_page (GrantPage home pages) a = a.granted
+takes_page (TakePage home) a = true
+takes_page other a = false
+
+-- the pages that it takes and puts at the node
+abbrev pub taken_at : ℕ → Section → PoolAnswer → ℕ
+taken_at n s a = if takes_page s a && (a.node == n) then 1 else 0
+
+abbrev pub put_at : ℕ → Section → ℕ
+put_at n (GiveBack puts pages) = slice_index_or puts n 0
+put_at n other = 0
+
+-- the usage doesn't rise, or ends within the limit
+abbrev pub IsLimited : Slot → Slot → Type 0
+IsLimited old new = (slot_usage new ≤ slot_usage old) ⊎ IsWithinLimit new
+
+-- a slot before and after, by these numbers
+pub record Change (old new : Slot) (raised lowered : ℕ) (taken put : ℕ → ℕ) (takes : Bool) : Type 0 where
+  pub committed : slot_committed new + lowered ≡ slot_committed old + raised
+  pub pages : (n : ℕ) → n < 4 → slot_pages_at n new + put n ≡ slot_pages_at n old + taken n
+  -- a page is taken only where one more is committed than is in use
+  pub covered : takes ≡ true → slot_pages old + 1 ≤ slot_committed old + raised
+  -- at a node that there isn't, no page comes up
+  pub far : (n : ℕ) → slot_pages_at n new ≤ slot_pages_at n old + taken n
+  pub limited : IsLimited old new
+  pub sound : IsSound new
+
+abbrev pub Moves : Slot → Section → PoolAnswer → Slot → Type 0
+Moves old s a new = Change old new (raised_by s a) (lowered_by s) (λ n. taken_at n s a) (λ n. put_at n s) (takes_page s a)
+
+abbrev pub Stays : Slot → Slot → Type 0
+Stays old new = Change old new 0 0 (λ n. 0) (λ n. 0) false
+
+-- the slot that an outcome leaves
+abbrev pub left_by : Slot → Outcome → Slot
+left_by old (Refused r) = old
+left_by old (Answered a new) = new
+
+-- whatever the pool answers; and what is asked for is what is asked for at the nr that the pool tells
+abbrev pub IsBalanced : Slot → Plan → Type 0
+IsBalanced old (Finish o) = Stays old (left_by old o)
+IsBalanced old (Ask s f) = ((a : PoolAnswer) → Moves old (s a.nr) a (left_by old (f a))) × ((p : Pool) → s (section p (s p.nr)).0.nr ≡ s p.nr)

@@ -1,0 +1,118 @@
+-- Statements about the machine.
+use Rattle.std.specs.Prelude.{◌≡◌, ℕ, ◌<◌, ◌≤◌, Bool, true, false, Err, IsTrue, List, length}
+use Rattle.std.specs.Bool.{MatchBool}
+use Rattle.std.specs.List.{All}
+use Rattle.hp_model.specs.declared.event.Event.{Event}
+use Rattle.hp_model.specs.declared.event.Event.TheVariants.{Tasks, Slot as OnSlot, Pool as OnPool}
+use Rattle.hp_model.specs.declared.event.SlotEvent.{SlotEvent}
+use Rattle.hp_model.specs.declared.event.SlotEvent.TheVariants.{Mount as MountEvent}
+use Rattle.hp_model.specs.declared.refusal.Refusal.{Refusal}
+use Rattle.hp_model.specs.declared.refusal.Refusal.TheVariants.{OutOfMemory}
+use Rattle.hp_model.specs.declared.step.Intent.{Intent}
+use Rattle.hp_model.specs.declared.step.Step.{Step}
+use Rattle.hp_model.specs.Access.{access}
+use Rattle.hp_model.specs.CopyWrite.{copy_write}
+use Rattle.hp_model.specs.Event.{after, CanHappen, IsEvent, IsEventRun, IsFresh}
+use Rattle.hp_model.specs.File.{Mount}
+use Rattle.hp_model.specs.Machine.{pool_of, start}
+use Rattle.hp_model.specs.Page.{Copy}
+use Rattle.hp_model.specs.Plan.{Outcome, Refused, Answered, Plan, Finish, Ask, Choice, Reply, Slot, slot_usage, IsWithinLimit}
+use Rattle.hp_model.specs.Pool.{section, PoolAnswer}
+use Rattle.hp_model.specs.PoolCounts.{Pool}
+use Rattle.hp_model.specs.Promises.{is_for_pages, IsPromised}
+use Rattle.hp_model.specs.Reserved.{is_reserved}
+use Rattle.hp_model.specs.Resize.{pool_event}
+use Rattle.hp_model.specs.Run.{IsRun}
+use Rattle.hp_model.specs.Settled.{AreCounted, IsSettledState}
+use Rattle.hp_model.specs.SlotEvent.{slot_event}
+use Rattle.hp_model.specs.Sound.{IsSound}
+use Rattle.hp_model.specs.Spot.{Spot}
+use Rattle.hp_model.specs.State.{State, slot_at}
+use Rattle.hp_model.specs.Step.{IsStep}
+use Rattle.hp_laws.specs.Balance.{IsBalanced}
+
+abbrev pub KeepsGoing : Outcome → Type 0
+KeepsGoing (Refused r) = is_for_pages r ≡ false
+KeepsGoing (Answered a s) = Unit {0}
+
+-- whatever the pool answers, the plan is not refused for want of a huge page
+abbrev pub NeverWantsPages : Plan → Type 0
+NeverWantsPages (Finish o) = KeepsGoing o
+NeverWantsPages (Ask s f) = (a : PoolAnswer) → KeepsGoing (f a)
+
+-- an access at an index that is reserved to its map is never refused for want of a huge page
+abbrev pub ReservedAccess : Type 0
+ReservedAccess =
+    (c : Choice) (size : ℕ) (m : Mount) (s : Spot) (home i : ℕ) (intent : Intent) →
+    IsTrue (is_reserved s.file s.map i) → NeverWantsPages (access c size m s home i intent)
+
+-- an owner's write into its copy is never refused for want of a huge page
+abbrev pub OwnerWrites : Type 0
+OwnerWrites =
+    (c : Choice) (m : Mount) (s : Spot) (home i : ℕ) (consumed : Bool) (copy : Copy) →
+    s.map.owner ≡ true → NeverWantsPages (copy_write c m s home i consumed copy)
+
+-- ---- refusals
+
+-- a mount that is refused memory after its grant: the nodes may then be as after the grant and its giving back
+abbrev pub is_late : Event → Refusal → Bool
+is_late (OnSlot k (MountEvent options)) OutOfMemory = true
+is_late e r = false
+
+-- nothing but the nodes has changed
+abbrev pub SameButNodes : State → State → Type 0
+SameButNodes s t = t ≡ record s { nodes = t.nodes; growth = t.growth; release = t.release }
+
+-- a refused event leaves everything as it was
+abbrev pub RefusalsChangeNothing : Type 0
+RefusalsChangeNothing =
+    (s : State) (e : Event) (r : Refusal) (t : State) → IsSettledState s → IsEvent s e (Err r) t → MatchBool (is_late e r) (SameButNodes s t) (t ≡ s)
+
+-- ---- the tie of slots and pool
+
+-- each event on a slot moves its counts as its section moves the pool's numbers
+abbrev pub SlotsAreBalanced : Type 0
+SlotsAreBalanced = (size slot : ℕ) (c : Choice) (old : Slot) (e : SlotEvent) → IsFresh c old → IsSound old → IsBalanced old (slot_event size slot c old e)
+
+-- the pool as the plan's section leaves it
+abbrev pub pool_after : State → Plan → Pool
+pool_after s (Finish o) = pool_of s
+pool_after s (Ask sec f) = (section (pool_of s) (sec s.nr)).1
+
+-- the pool as the event leaves it
+abbrev pub pool_left : Choice → State → Event → Pool
+pool_left c s (Tasks e) = pool_of s
+pool_left c s (OnSlot k e) = pool_after s (slot_event s.page_size k c (slot_at s k) e)
+pool_left c s (OnPool e) = (pool_event (pool_of s) e).1
+
+-- after each event the sums over files and maps are the numbers that it left in the pool, and these are settled
+abbrev pub PoolIsTied : Type 0
+PoolIsTied =
+    (c : Choice) (s : State) (e : Event) → CanHappen c s e → IsSettledState s →
+    (pool_of (after c s e).1 ≡ pool_left c s e) × IsSettledState (after c s e).1
+
+-- the machine starts so
+abbrev pub StartIsSettled : Type 0
+StartIsSettled = (frames : List ℕ) (page_size slots : ℕ) → length frames ≤ 4 → All (λ f. f ≤ 65536) frames → IsSettledState (start frames page_size slots)
+
+-- and is so after each event and each step of every run
+abbrev pub RunsAreSettled : Type 0
+RunsAreSettled =
+    (s : State) → IsSettledState s →
+    ((es : List (Event × Reply)) (t : State) → IsEventRun s es t → IsSettledState t)
+    × ((steps : List Step) (replies : List Reply) (t : State) → IsRun s steps replies t → IsSettledState t)
+
+abbrev pub CountsAreSums : Type 0
+CountsAreSums = (s : State) → IsSettledState s → AreCounted s
+
+-- an event that raises a mount's usage ends within its limit
+abbrev pub LimitsHold : Type 0
+LimitsHold =
+    (s : State) (e : Event) (reply : Reply) (t : State) (k : ℕ) → k < length s.slots → IsSettledState s → IsEvent s e reply t →
+    slot_usage (slot_at s k) < slot_usage (slot_at t k) → IsWithinLimit (slot_at t k)
+
+-- ---- promises
+
+-- each step of a settled machine is as promised
+abbrev pub PromisesAreKept : Type 0
+PromisesAreKept = (s : State) (step : Step) (reply : Reply) (t : State) → IsSettledState s → IsStep s step reply t → IsPromised s step reply t

@@ -1,0 +1,55 @@
+//! What holds of the machine, whatever its steps. Each law is the contract of a function that does nothing.
+#![tactic(auto)]
+
+ghost use Rattle.hp_laws.specs.Laws.{CountsAreSums, LimitsHold, OwnerWrites, PoolIsTied, PromisesAreKept, RefusalsChangeNothing, ReservedAccess, RunsAreSettled, SlotsAreBalanced, StartIsSettled};
+
+/// An access at an index that is reserved to its map is never refused for want of a huge page, whatever the pool answers.
+pub fn reserved_accesses_get_pages()
+    ensures { ReservedAccess }
+{}
+
+/// An owner's write into its copy is never refused for want of a huge page, whatever the pool answers and however many other maps hold the copy.
+pub fn owners_write()
+    ensures { OwnerWrites }
+{}
+
+/// Each event on a slot moves the slot's counts as its section moves the pool's numbers, whatever the pool answers.
+pub fn slots_are_balanced()
+    ensures { SlotsAreBalanced }
+{}
+
+/// After every event the sums over files and maps are the numbers that it left in the pool, and these are settled.
+pub fn pool_is_tied()
+    ensures { PoolIsTied }
+{}
+
+/// The machine starts settled.
+pub fn start_is_settled()
+    ensures { StartIsSettled }
+{}
+
+/// A settled machine stays settled through every run of events, and of steps.
+pub fn runs_are_settled()
+    ensures { RunsAreSettled }
+{}
+
+/// In a settled machine Total, Free, Rsvd and Surp are those of the sums over files and maps and of the nodes' rows, and Free covers Rsvd.
+pub fn counts_are_sums()
+    ensures { CountsAreSums }
+{}
+
+/// An event that raises what a mount uses ends within the mount's limit.
+pub fn limits_hold()
+    ensures { LimitsHold }
+{}
+
+/// A refused event leaves everything as it was.
+pub fn refusals_change_nothing()
+    ensures { RefusalsChangeNothing }
+{}
+
+/// Each step of a settled machine is as promised: reserved accesses and owners' writes are not refused for want of a huge page, the counts are
+/// sums, limits hold, a load answers what its map shows, and files and maps show what they showed but for what the step stores.
+pub fn promises_are_kept()
+    ensures { PromisesAreKept }
+{}

@@ -1,5 +1,0 @@
-use Rattle.hp_model.proofs.StaysSettled.{pool_is_tied}
-use Rattle.hp_model.proofs.laws.pool_is_tied.Goals as goal
-
-pub returns : goal.returns
-returns c = pool_is_tied

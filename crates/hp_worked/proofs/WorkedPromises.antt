@@ -1,0 +1,87 @@
+-- What is promised of some steps, by computation: the tests and the bytes that the promises speak of.
+use Rattle.std.proofs.Common.{◌≡◌, ℕ, true, false, Ok, Err, List, [], ◌∷◌, take, refl}
+use Rattle.std.specs.Prelude.{codes}
+use Rattle.hp_model.specs.declared.answer.Answer.TheVariants.{Done}
+use Rattle.hp_model.specs.declared.refusal.Refusal.TheVariants.{NoPages, TakenByOwner}
+use Rattle.hp_model.specs.declared.step.Reserving.TheVariants.{Reserve, NoReserve}
+use Rattle.hp_model.specs.declared.step.Sharing.TheVariants.{Shared, Private}
+use Rattle.hp_model.specs.declared.step.Step.{Step}
+use Rattle.hp_model.specs.declared.step.Step.TheVariants.{Connect, Fork, Create, Map, Load, Store, Nr}
+use Rattle.hp_model.specs.Plain.{plain_step}
+use Rattle.hp_model.specs.Promises.{is_backed_step, is_cut_off_step, map_at, seen_in, seen_over, shown_in, stored_over}
+use Rattle.hp_model.specs.State.{State}
+use Rattle.hp_worked.proofs.WorkedWords.{machine}
+
+abbrev after_all : State → List Step → State
+after_all s [] = s
+after_all s (step ∷ steps) = after_all (plain_step s step).1 steps
+
+abbrev first_bytes : State → (file map index : ℕ) → List ℕ
+first_bytes s file map index = take 2 (seen_in s 0 file map index)
+
+-- ---- a shared map: two files, one stored into
+
+abbrev shared : State
+shared =
+    after_all machine
+    (Nr 2 ∷ Connect 1 0 ∷ Create 0 (codes "a") ∷ Create 0 (codes "b") ∷ Map 1 0 (codes "a") 0 1 Shared Reserve ∷ Map 1 0 (codes "b") 0 1 Shared NoReserve ∷ Map 1 0 (codes "b") 0 1 Shared NoReserve ∷ [])
+
+abbrev into_first : Step
+into_first = Store 1 0 1 0 1 (9 ∷ [])
+
+reserved_there : is_backed_step shared into_first ≡ true
+reserved_there = refl
+
+not_reserved_there : is_backed_step shared (Store 1 0 2 0 1 (9 ∷ [])) ≡ false
+not_reserved_there = refl
+
+stored_in_first : take 2 (stored_over shared into_first (Ok Done) 0 0 0 (shown_in shared 0 0 0)) ≡ 0 ∷ 9 ∷ []
+stored_in_first = refl
+
+not_in_second : take 2 (stored_over shared into_first (Ok Done) 0 1 0 (shown_in shared 0 1 0)) ≡ 0 ∷ 0 ∷ []
+not_in_second = refl
+
+shown_after : take 2 (shown_in (plain_step shared into_first).1 0 0 0) ≡ 0 ∷ 9 ∷ []
+shown_after = refl
+
+-- both maps of the second file are reached by a store through one of them
+both_reached : take 2 (seen_over shared (Store 1 0 3 0 0 (7 ∷ [])) (Ok Done) 0 1 0 0 (seen_in shared 0 1 0 0)) ≡ 7 ∷ 0 ∷ []
+both_reached = refl
+
+-- ---- a private map and its child: the owner takes the copy back
+
+abbrev forked : State
+forked = after_all machine (Nr 2 ∷ Connect 1 0 ∷ Create 0 (codes "a") ∷ Map 1 0 (codes "a") 0 2 Private Reserve ∷ Store 1 0 1 0 0 (5 ∷ []) ∷ Fork 1 2 ∷ [])
+
+abbrev by_owner : Step
+by_owner = Store 1 0 1 0 0 (6 ∷ [])
+
+abbrev robbed : State
+robbed = (plain_step forked by_owner).1
+
+owner_is_backed : is_backed_step forked by_owner ≡ true
+owner_is_backed = refl
+
+child_is_not_backed : is_backed_step forked (Store 2 0 1 0 0 (6 ∷ [])) ≡ false
+child_is_not_backed = refl
+
+child_wants_a_page : (plain_step forked (Store 2 0 1 0 0 (6 ∷ []))).0 ≡ Err NoPages
+child_wants_a_page = refl
+
+child_shows_the_copy : first_bytes forked 0 1 0 ≡ 5 ∷ 0 ∷ []
+child_shows_the_copy = refl
+
+owner_shows_its_bytes : first_bytes robbed 0 0 0 ≡ 6 ∷ 0 ∷ []
+owner_shows_its_bytes = refl
+
+only_the_owners_map : take 2 (seen_over forked by_owner (Ok Done) 0 0 1 0 (seen_in forked 0 0 1 0)) ≡ 5 ∷ 0 ∷ []
+only_the_owners_map = refl
+
+child_is_marked : (map_at robbed 0 0 1).unmapped ≡ true
+child_is_marked = refl
+
+child_is_cut_off : is_cut_off_step robbed (Load 2 0 1 1 0 1) ≡ true
+child_is_cut_off = refl
+
+child_is_refused : (plain_step robbed (Load 2 0 1 1 0 1)).0 ≡ Err TakenByOwner
+child_is_refused = refl
