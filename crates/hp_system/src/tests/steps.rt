@@ -153,3 +153,25 @@ fn run<N: Naming, R: Abort>(rt: &R, alloc: Global, blanks: Blanks)
 fn steps(rt: HostRuntime) {
     run::<Brand, HostRuntime>(&rt, rt.alloc(), blanks());
 }
+
+// Machines that are made, used and closed give back all that they held.
+fn come_and_go<N: Naming, R: Abort>(rt: &R, alloc: Global, blanks: Blanks)
+    requires permits { (blanks.permits.name ≡ N.permits) × (blanks.permits.parts ≡ 18446744073709551615) }
+    requires zero { (blanks.pages.zero.name ≡ N.pages_0) × (blanks.pages.zero.parts ≡ 18446744073709551615) }
+    requires one { (blanks.pages.one.name ≡ N.pages_1) × (blanks.pages.one.parts ≡ 18446744073709551615) }
+    requires two { (blanks.pages.two.name ≡ N.pages_2) × (blanks.pages.two.parts ≡ 18446744073709551615) }
+    requires three { (blanks.pages.three.name ≡ N.pages_3) × (blanks.pages.three.parts ≡ 18446744073709551615) }
+    requires bytes { N.page_bytes ≡ 1024 }
+{
+    let mut system = System::<N>::new(alloc, &[4, 4], 1024, 2, blanks).expect(rt, "memory");
+    connects(rt, alloc, &mut system);
+    creates(rt, alloc, &mut system);
+    system.close();
+}
+
+#[test]
+fn machines_come_and_go(rt: HostRuntime) {
+    for _ in 0..8 {
+        come_and_go::<Brand, HostRuntime>(&rt, rt.alloc(), blanks());
+    }
+}

@@ -1,0 +1,120 @@
+"""What the gate built, and how it is run: test programs, the program, and scripts with the replies that they must get."""
+import os
+import selectors
+import subprocess
+import tempfile
+from pathlib import Path
+
+TOP = Path(__file__).resolve().parent.parent
+PROGRAM = TOP / "crates/hugetlbd/out/hugetlbd"
+# A run that has not answered by then has hung.
+SECONDS = 20
+
+
+class Failed(Exception):
+    """A run that went otherwise than it must."""
+
+
+class Case:
+    """A script, the words of its machine, and its replies: those to each line, as one text."""
+
+    def __init__(self, script):
+        self.name = script.stem
+        words = script.with_suffix(".words")
+        self.words = words.read_text().split() if words.exists() else []
+        self.script = script.read_bytes()
+        self.expected = script.with_suffix(".replies").read_bytes()
+
+    def lines(self):
+        """Each line with its end, and the reply to it."""
+        replies = replies_in(self.expected)
+        return list(zip(self.script.splitlines(keepends=True), replies, strict=True))
+
+
+def replies_in(text):
+    """Cuts a text into replies, of which one that begins `text N` has N more lines."""
+    lines, replies = text.splitlines(keepends=True), []
+    while lines:
+        count = 1 + (int(lines[0].split()[1]) if lines[0].startswith(b"text ") else 0)
+        replies.append(b"".join(lines[:count]))
+        lines = lines[count:]
+    return replies
+
+
+def cases():
+    """The scripts with replies: the worked rows and the examples."""
+    found = [*(TOP / "tests/rows").glob("*.script"), *(TOP / "examples").glob("*.script")]
+    if not found:
+        raise Failed("no script was found")
+    return [Case(script) for script in sorted(found)]
+
+
+class Memory:
+    """The preloaded counter of a program's calls for memory, which can refuse one of them."""
+
+    def __init__(self, folder):
+        self.library, self.report = f"{folder}/refuse.so", f"{folder}/report"
+        build = ["cc", "-O2", "-shared", "-fPIC", "-o", self.library, TOP / "tests/refuse.c"]
+        subprocess.run(build, check=True)
+
+    def environment(self, refused=0):
+        """What a program is started with so that its call of this number gets no memory; 0: each does."""
+        return {"LD_PRELOAD": self.library, "REFUSE_AT": str(refused), "REFUSE_REPORT": self.report}
+
+    def told(self):
+        """After the run: the calls made, the blocks still held, and the most bytes held at one time; none after an abort."""
+        report = Path(self.report)
+        if not report.exists():
+            return 0, 0, 0
+        told = [int(number) for number in report.read_text().split()]
+        report.unlink()
+        return told
+
+
+class Client:
+    """A client that gives the program one line at a time, and waits for its reply."""
+
+    def __init__(self, words, environment=None):
+        pipes = {"stdin": subprocess.PIPE, "stdout": subprocess.PIPE, "stderr": subprocess.PIPE}
+        self.program = subprocess.Popen([PROGRAM, *words], bufsize=0, env=environment or {}, **pipes)
+        self.selector = selectors.DefaultSelector()
+        self.selector.register(self.program.stdout, selectors.EVENT_READ)
+        self.left = b""
+
+    def line(self):
+        """The next line of the output, or what there is at its end."""
+        while b"\n" not in self.left:
+            if not self.selector.select(SECONDS):
+                self.program.kill()
+                raise Failed("no reply came to a line while the client waited for it")
+            more = os.read(self.program.stdout.fileno(), 65536)
+            if not more:
+                break
+            self.left += more
+        line, end, self.left = self.left.partition(b"\n")
+        return line + end
+
+    def ask(self, line):
+        """Writes the line and answers the reply; nothing where the program has ended."""
+        try:
+            self.program.stdin.write(line)
+        except BrokenPipeError:
+            return b""
+        reply = self.line()
+        count = int(reply.split()[1]) if reply.startswith(b"text ") else 0
+        return reply + b"".join(self.line() for _ in range(count))
+
+    def close(self):
+        """Ends the input, and answers what was still written, the status and the words on standard error."""
+        try:
+            output, faults = self.program.communicate(timeout=SECONDS)
+        except subprocess.TimeoutExpired:
+            self.program.kill()
+            raise Failed("the program did not end at its input's end") from None
+        self.selector.close()
+        return self.left + output, self.program.returncode, faults
+
+
+def room():
+    """A folder for a run's files."""
+    return tempfile.TemporaryDirectory(prefix="hugetlbd-")

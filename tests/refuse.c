@@ -1,0 +1,95 @@
+// Preloaded into a program, this counts its calls for memory and refuses one of them.
+//
+//   REFUSE_AT=N         the Nth call of malloc, calloc or realloc gets no memory (none: each gets it)
+//   REFUSE_REPORT=FILE  at the end the file has one line: the calls made, the blocks still held, the most bytes held at one time
+//
+//   cc -O2 -shared -fPIC -o refuse.so refuse.c && LD_PRELOAD=./refuse.so REFUSE_AT=3 program
+#include <errno.h>
+#include <fcntl.h>
+#include <malloc.h>
+#include <stdio.h>
+#include <stdlib.h>
+#include <sys/syscall.h>
+#include <unistd.h>
+
+extern void *__libc_malloc(size_t size);
+extern void *__libc_realloc(void *block, size_t size);
+extern void __libc_free(void *block);
+
+static _Atomic size_t calls, refused, blocks, held, most;
+static _Atomic char is_ready;
+
+static int is_refused(void) {
+    if (!is_ready) {
+        const char *number = getenv("REFUSE_AT");
+        refused = number ? strtoul(number, 0, 10) : 0;
+        is_ready = 1;
+    }
+    if (++calls != refused)
+        return 0;
+    errno = ENOMEM;
+    return 1;
+}
+
+static void *taken(void *block) {
+    if (block) {
+        blocks++;
+        held += malloc_usable_size(block);
+        most = held > most ? held : most;
+    }
+    return block;
+}
+
+static void given(void *block) {
+    if (block) {
+        blocks--;
+        held -= malloc_usable_size(block);
+    }
+}
+
+void *malloc(size_t size) {
+    return is_refused() ? 0 : taken(__libc_malloc(size));
+}
+
+void *calloc(size_t count, size_t size) {
+    size_t whole;
+    if (is_refused() || __builtin_mul_overflow(count, size, &whole))
+        return 0;
+    char *block = taken(__libc_malloc(whole));
+    for (size_t i = 0; block && i < whole; i++)
+        block[i] = 0;
+    return block;
+}
+
+void *realloc(void *block, size_t size) {
+    if (is_refused())
+        return 0;
+    given(block);
+    void *moved = __libc_realloc(block, size);
+    taken(moved ? moved : block);
+    return moved;
+}
+
+void free(void *block) {
+    given(block);
+    __libc_free(block);
+}
+
+// (a program with threads ends by `_exit`, which runs no destructors)
+__attribute__((destructor)) static void report(void) {
+    const char *file = getenv("REFUSE_REPORT");
+    char line[96];
+    int out = file ? open(file, O_WRONLY | O_CREAT | O_TRUNC, 0644) : -1;
+    if (out < 0)
+        return;
+    int length = snprintf(line, sizeof line, "%zu %zu %zu\n", calls, blocks, most);
+    if (write(out, line, length) != length)
+        abort();
+    close(out);
+}
+
+void _exit(int status) {
+    report();
+    for (;;)
+        syscall(SYS_exit_group, status);
+}
