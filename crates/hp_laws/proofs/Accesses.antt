@@ -16,7 +16,7 @@ use Rattle.hp_model.specs.Mapping.{with_place, place_at, is_shared}
 use Rattle.hp_model.specs.MountCounts.{stamps_of}
 use Rattle.hp_model.specs.Page.{Page, Copy, zeros}
 use Rattle.hp_model.specs.Plan.{Outcome, Answered, Plan, Finish, Ask, Choice, refuse, unless, may_lack_room, grant_page, reserved_page}
-use Rattle.hp_model.specs.Pool.{GrantPage}
+use Rattle.hp_model.specs.declared.section.Section.TheVariants.{GrantPage}
 use Rattle.hp_model.specs.Sound.{IsAgreed}
 use Rattle.hp_model.specs.Spot.{Spot, copied, written, file_written}
 use Rattle.hp_model.specs.Value.{value}

@@ -5,7 +5,10 @@ use Rattle.hp_model.specs.File.{Mount}
 use Rattle.hp_model.specs.Grant.{is_full, rise}
 use Rattle.hp_model.specs.LocalRun.{ThroughDoor, Gives}
 use Rattle.hp_model.specs.Plan.{Plan, Finish, Ask, Outcome, Reply, Slot, Choice, grant, refuse, when_granted}
-use Rattle.hp_model.specs.Pool.{Section, Grant, PoolAnswer, granted_at, no_pages}
+use Rattle.hp_model.specs.Pool.{granted_at, no_pages}
+use Rattle.hp_model.specs.declared.section.PoolAnswer.{PoolAnswer}
+use Rattle.hp_model.specs.declared.section.Section.{Section}
+use Rattle.hp_model.specs.declared.section.Section.TheVariants.{Grant}
 
 -- memory is not refused
 abbrev pub calm : Choice

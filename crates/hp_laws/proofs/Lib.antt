@@ -15,7 +15,10 @@ pub mod NodeSums
 pub mod Sections
 pub mod SectionTies
 pub mod Tied
+pub mod Lengths
+pub mod Tells
 pub mod StaysSettled
+pub mod JoinedRun
 pub mod CountsHold
 pub mod RefusalsKeep
 pub mod Outcomes

@@ -13,7 +13,8 @@ use Rattle.hp_model.specs.Event.{IsEvent, planned, settled, with_table}
 use Rattle.hp_model.specs.File.{Mount}
 use Rattle.hp_model.specs.Machine.{pool_of, with_pool}
 use Rattle.hp_model.specs.Plan.{Reply, Outcome, Refused, Answered, Plan, Finish, Ask, Choice, refuse, continued, and_then}
-use Rattle.hp_model.specs.Pool.{PoolAnswer, section}
+use Rattle.hp_model.specs.Pool.{section}
+use Rattle.hp_model.specs.declared.section.PoolAnswer.{PoolAnswer}
 use Rattle.hp_model.specs.SlotEvent.{slot_event}
 use Rattle.hp_model.specs.State.{State, slot_at}
 use Rattle.hp_model.specs.Step.{Script, Answer_with, only, finding, home_in, on_slot, IsScript}

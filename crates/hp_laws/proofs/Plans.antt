@@ -15,7 +15,7 @@ use Rattle.hp_model.specs.File.{Mount}
 use Rattle.hp_model.specs.Grant.{rise, is_full, is_over}
 use Rattle.hp_model.specs.MountCounts.{pages_at, usage_of}
 use Rattle.hp_model.specs.Plan.{Slot, Outcome, Refused, Answered, Plan, Finish, Ask, Choice, refuse, unless, with_value, continued, and_then, grant, grant_page, reserved_page, when_granted, may_lack_room, slot_committed, slot_pages_at, puts_of, fall_of, gives}
-use Rattle.hp_model.specs.Pool.{Grant, GiveBack}
+use Rattle.hp_model.specs.declared.section.Section.TheVariants.{Grant, GiveBack}
 use Rattle.hp_model.specs.Sound.{IsSound, IsAgreed}
 use Rattle.hp_model.specs.declared.limits.Limits.{Limits}
 use Rattle.hp_laws.proofs.MountMoves.{MountGrows, MountFalls}

@@ -39,7 +39,9 @@ use Rattle.hp_model.specs.Mapping.{is_map, place_at, with_place}
 use Rattle.hp_model.specs.Options.{limits, wanted_of}
 use Rattle.hp_model.specs.Page.{Copy, Page}
 use Rattle.hp_model.specs.Plan.{Reply, Slot, Outcome, Refused, Answered, Plan, Finish, Ask, Choice, refuse, unless, with_value, continued, and_then, grant, grant_page, reserved_page, when_granted, gives, puts_of, fall_of, may_lack_room}
-use Rattle.hp_model.specs.Pool.{Grant, GrantPage, GiveBack, ReadAndGrant, GrantAndReturn, PoolAnswer, section, granted_at, no_pages, released, settled as settled_pool, take_node, page_taken, give_back_times}
+use Rattle.hp_model.specs.Pool.{section, granted_at, no_pages, released, settled as settled_pool, take_node, page_taken, give_back_times}
+use Rattle.hp_model.specs.declared.section.PoolAnswer.{PoolAnswer}
+use Rattle.hp_model.specs.declared.section.Section.TheVariants.{Grant, GrantPage, GiveBack, ReadAndGrant, GrantAndReturn}
 use Rattle.hp_model.specs.PoolCounts.{Pool}
 use Rattle.hp_model.specs.Profile.{most_overcommit, most_bytes, most_files, most_maps, most_tasks, most_file_pages, most_map_pages}
 use Rattle.hp_model.specs.Resize.{pool_event}

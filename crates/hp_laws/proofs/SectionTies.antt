@@ -7,7 +7,10 @@ use Rattle.hp_laws.specs.Balance.{raised_by, lowered_by, takes_page, taken_at, p
 use Rattle.hp_model.specs.Grant.{can_grant, granted}
 use Rattle.hp_model.specs.Lists.{edit_at}
 use Rattle.hp_model.specs.NodeRows.{used as row_used}
-use Rattle.hp_model.specs.Pool.{take_node, page_taken, puts_from, released, settled as settled_pool, Section, Grant, GrantPage, TakePage, GiveBack, ReadAndGrant, GrantAndReturn, PoolAnswer, granted_at, no_pages, section}
+use Rattle.hp_model.specs.Pool.{take_node, page_taken, puts_from, released, settled as settled_pool, granted_at, no_pages, section}
+use Rattle.hp_model.specs.declared.section.PoolAnswer.{PoolAnswer}
+use Rattle.hp_model.specs.declared.section.Section.{Section}
+use Rattle.hp_model.specs.declared.section.Section.TheVariants.{Grant, GrantPage, TakePage, GiveBack, ReadAndGrant, GrantAndReturn}
 use Rattle.hp_model.specs.PoolCounts.{Pool, used}
 use Rattle.hp_model.specs.Settled.{IsSettledPool}
 use Rattle.hp_model.proofs.RowMoves.{used_sum}

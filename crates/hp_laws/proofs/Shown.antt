@@ -17,7 +17,7 @@ use Rattle.hp_model.specs.Grant.{is_full, rise}
 use Rattle.hp_model.specs.Mapping.{Map, copy_of, is_shared, place_at, with_place}
 use Rattle.hp_model.specs.Page.{Page, Copy, zeros}
 use Rattle.hp_model.specs.Plan.{Outcome, Refused, Answered, Plan, Finish, Ask, Choice, refuse, grant_page, reserved_page, when_granted, may_lack_room}
-use Rattle.hp_model.specs.Pool.{GrantPage}
+use Rattle.hp_model.specs.declared.section.Section.TheVariants.{GrantPage}
 use Rattle.hp_model.specs.Promises.{file_in, map_in, no_map}
 use Rattle.hp_model.specs.Spot.{Spot, again, copied}
 use Rattle.hp_model.specs.Value.{shown, value}

@@ -26,7 +26,7 @@ use Rattle.hp_model.specs.Mapping.{Map, copy_of, is_map, is_shared, place_at}
 use Rattle.hp_model.specs.Options.{limits, wanted_of}
 use Rattle.hp_model.specs.Page.{Page, Copy, zeros}
 use Rattle.hp_model.specs.Plan.{Slot, Outcome, Refused, Answered, Plan, Finish, Ask, Choice, refuse, unless, with_value, continued, grant, when_granted, gives, puts_of, fall_of}
-use Rattle.hp_model.specs.Pool.{Grant, GiveBack}
+use Rattle.hp_model.specs.declared.section.Section.TheVariants.{Grant, GiveBack}
 use Rattle.hp_model.specs.Profile.{most_bytes, most_file_pages, most_files, most_map_pages}
 use Rattle.hp_model.specs.Promises.{file_in, spot_on, IsLoaded, shown_on, seen_on, map_in, map_on, no_map, over, is_shared_of, reaches, IsLostTo}
 use Rattle.hp_model.specs.SlotEvent.{are_too_many_maps, byte_access, bytes_answer, file_named, has_maps, has_name, is_beyond, is_name, is_unmapped, load, map_file, mount_on, mount_outcome, slot_event, store}

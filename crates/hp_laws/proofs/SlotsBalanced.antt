@@ -23,7 +23,9 @@ use Rattle.hp_model.specs.Mapping.{is_map}
 use Rattle.hp_model.specs.MountCounts.{stamps_of, file_pages_at, pages_at}
 use Rattle.hp_model.specs.Options.{limits, wanted_of}
 use Rattle.hp_model.specs.Plan.{Slot, Plan, Choice, refuse, unless, with_value, Answered, Finish, grant, gives}
-use Rattle.hp_model.specs.Pool.{PoolAnswer, section, settled, released, GrantAndReturn, ReadAndGrant}
+use Rattle.hp_model.specs.Pool.{section, settled, released}
+use Rattle.hp_model.specs.declared.section.PoolAnswer.{PoolAnswer}
+use Rattle.hp_model.specs.declared.section.Section.TheVariants.{GrantAndReturn, ReadAndGrant}
 use Rattle.hp_model.specs.PoolCounts.{Pool}
 use Rattle.hp_model.specs.Profile.{most_bytes, most_files, most_maps, most_tasks, most_file_pages, most_map_pages}
 use Rattle.hp_model.specs.SlotEvent.{on_mount, on_none, mount_section, mount_pages, mount_outcome, fault, byte_access, load, store, file_named, has_name, is_beyond, bytes_answer, map_file, unlink, truncate, punch, unmap, read, stat, is_unmapped, has_maps, is_name, span_tests, are_too_many_maps, is_bad_range, edited}

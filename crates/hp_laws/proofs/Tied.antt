@@ -10,7 +10,10 @@ use Rattle.hp_model.specs.Event.{planned, settled}
 use Rattle.hp_model.specs.Machine.{pool_of, with_pool, rows_of, node_of, committed_pages, used_at}
 use Rattle.hp_model.specs.NodeRows.{IsRow, used as row_used}
 use Rattle.hp_model.specs.Plan.{Slot, Outcome, Refused, Answered, Plan, Finish, Ask, slot_committed, slot_pages, slot_pages_at}
-use Rattle.hp_model.specs.Pool.{Section, Grant, PoolAnswer, no_pages, section}
+use Rattle.hp_model.specs.Pool.{no_pages, section}
+use Rattle.hp_model.specs.declared.section.PoolAnswer.{PoolAnswer}
+use Rattle.hp_model.specs.declared.section.Section.{Section}
+use Rattle.hp_model.specs.declared.section.Section.TheVariants.{Grant}
 use Rattle.hp_model.specs.PoolCounts.{Pool}
 use Rattle.hp_model.specs.Settled.{IsSettledPool, IsSettledState}
 use Rattle.hp_laws.specs.Laws.{pool_after}

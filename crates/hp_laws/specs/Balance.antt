@@ -2,7 +2,10 @@
 use Rattle.std.specs.Prelude.{◌≡◌, ◌⊎◌, ℕ, ◌+◌, ◌<◌, ◌≤◌, ◌&&◌, ◌==◌, Bool, true, false, if◌then◌else◌}
 use Rattle.std.specs.List.{slice_index_or}
 use Rattle.hp_model.specs.Plan.{Slot, Outcome, Refused, Answered, Plan, Finish, Ask, slot_committed, slot_pages, slot_pages_at, slot_usage, IsWithinLimit}
-use Rattle.hp_model.specs.Pool.{section, Section, Grant, GrantPage, TakePage, GiveBack, ReadAndGrant, GrantAndReturn, PoolAnswer}
+use Rattle.hp_model.specs.Pool.{section}
+use Rattle.hp_model.specs.declared.section.PoolAnswer.{PoolAnswer}
+use Rattle.hp_model.specs.declared.section.Section.{Section}
+use Rattle.hp_model.specs.declared.section.Section.TheVariants.{Grant, GrantPage, TakePage, GiveBack, ReadAndGrant, GrantAndReturn}
 use Rattle.hp_model.specs.PoolCounts.{Pool}
 use Rattle.hp_model.specs.Sound.{IsSound}
 

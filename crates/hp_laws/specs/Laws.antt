@@ -14,10 +14,12 @@ use Rattle.hp_model.specs.Access.{access}
 use Rattle.hp_model.specs.CopyWrite.{copy_write}
 use Rattle.hp_model.specs.Event.{after, CanHappen, IsEvent, IsEventRun, IsFresh}
 use Rattle.hp_model.specs.File.{Mount}
+use Rattle.hp_model.specs.JointRun.{Trails, Item, AreRuns, HasParts, IsOrder, IsJointRun}
 use Rattle.hp_model.specs.Machine.{pool_of, start}
 use Rattle.hp_model.specs.Page.{Copy}
 use Rattle.hp_model.specs.Plan.{Outcome, Refused, Answered, Plan, Finish, Ask, Choice, Reply, Slot, slot_usage, IsWithinLimit}
-use Rattle.hp_model.specs.Pool.{section, PoolAnswer}
+use Rattle.hp_model.specs.Pool.{section}
+use Rattle.hp_model.specs.declared.section.PoolAnswer.{PoolAnswer}
 use Rattle.hp_model.specs.PoolCounts.{Pool}
 use Rattle.hp_model.specs.Promises.{is_for_pages, IsPromised}
 use Rattle.hp_model.specs.Reserved.{is_reserved}
@@ -29,6 +31,7 @@ use Rattle.hp_model.specs.Sound.{IsSound}
 use Rattle.hp_model.specs.Spot.{Spot}
 use Rattle.hp_model.specs.State.{State, slot_at}
 use Rattle.hp_model.specs.Step.{IsStep}
+use Rattle.hp_model.specs.Table.{Table}
 use Rattle.hp_laws.specs.Balance.{IsBalanced}
 
 abbrev pub KeepsGoing : Outcome → Type 0
@@ -116,3 +119,14 @@ LimitsHold =
 -- each step of a settled machine is as promised
 abbrev pub PromisesAreKept : Type 0
 PromisesAreKept = (s : State) (step : Step) (reply : Reply) (t : State) → IsSettledState s → IsStep s step reply t → IsPromised s step reply t
+
+-- ---- trails
+
+-- a list that joins runs of the parts is a run of the machine, and ends in the ends of the parts;
+-- so the pool's numbers there are the sums over the slots
+abbrev pub JoinedLaw : Type 0
+JoinedLaw =
+    (s : State) (t : Trails) (items : List Item) (table : Table) (ends : ℕ → Slot) (numbers : Pool)
+    → IsSettledState s → AreRuns s t table ends numbers → IsOrder t items
+    → (end : State) × IsJointRun s t items end × IsSettledState end
+    × HasParts end (length s.slots) table ends numbers

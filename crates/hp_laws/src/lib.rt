@@ -1,7 +1,7 @@
 //! What holds of the machine, whatever its steps. Each law is the contract of a function that does nothing.
 #![tactic(auto)]
 
-ghost use Rattle.hp_laws.specs.Laws.{CountsAreSums, LimitsHold, OwnerWrites, PoolIsTied, PromisesAreKept, RefusalsChangeNothing, ReservedAccess, RunsAreSettled, SlotsAreBalanced, StartIsSettled};
+ghost use Rattle.hp_laws.specs.Laws.{CountsAreSums, JoinedLaw, LimitsHold, OwnerWrites, PoolIsTied, PromisesAreKept, RefusalsChangeNothing, ReservedAccess, RunsAreSettled, SlotsAreBalanced, StartIsSettled};
 
 /// An access at an index that is reserved to its map is never refused for want of a huge page, whatever the pool answers.
 pub fn reserved_accesses_get_pages()
@@ -52,4 +52,10 @@ pub fn refusals_change_nothing()
 /// sums, limits hold, a load answers what its map shows, and files and maps show what they showed but for what the step stores.
 pub fn promises_are_kept()
     ensures { PromisesAreKept }
+{}
+
+/// A list that joins trails which are runs of the table, the slots and the pool is a run of the
+/// machine, with the recorded replies, and ends where the trails end.
+pub fn trails_join()
+    ensures { JoinedLaw }
 {}

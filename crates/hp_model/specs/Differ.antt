@@ -1,71 +1,135 @@
 -- Why trails and receipts can't belong to one run.
-use Rattle.std.specs.Prelude.{◌≡◌, ◌≢◌, ◌⊎◌, ℕ, ◌+◌, ◌<◌, ◌==◌, Bool, true, false, None, Some, List, [], length}
-use Rattle.std.specs.List.{All, count_by, filter_map, flat_map, slice_get, slice_index_or, sum_by}
-use Rattle.hp_model.specs.declared.event.Event.{Event}
-use Rattle.hp_model.specs.JointRun.{Trails, Position, InTasks, InSlot, InPool, entry_at, slot_trail, asked_place, pool_place, IsSectionOf}
-use Rattle.hp_model.specs.LocalRun.{SlotEntry}
-use Rattle.hp_model.specs.Plan.{Reply}
-use Rattle.hp_model.specs.Pool.{Section, PoolAnswer}
-use Rattle.hp_model.specs.PoolRun.{PoolEntry, OfSlot, OfPool}
-
--- what a session was told of one event
-pub record Receipt : Type 0 where
-  pub at : Position
-  pub event : Event
-  pub reply : Reply
+use Rattle.std.specs.Prelude.{◌≡◌, ◌≢◌, ◌⊎◌, ℕ, ◌<◌, Bool, true, Option, None, Some, List, []}
+use Rattle.std.specs.List.{slice_get, slice_index_or}
+use Rattle.std.specs.Option.{option_map, option_and_then}
+use Rattle.hp_model.specs.declared.entry.Asked.{Asked}
+use Rattle.hp_model.specs.declared.entry.Part.{Part}
+use Rattle.hp_model.specs.declared.entry.Part.TheVariants.{Tasks, Slot as AtSlot, Pool as AtPool}
+use Rattle.hp_model.specs.declared.entry.PoolEntry.{PoolEntry}
+use Rattle.hp_model.specs.declared.entry.PoolEntry.TheVariants.{OfSlot, OfPool}
+use Rattle.hp_model.specs.declared.entry.Receipt.{Receipt}
+use Rattle.hp_model.specs.declared.entry.SlotEntry.{SlotEntry}
+use Rattle.hp_model.specs.declared.section.PoolAnswer.{PoolAnswer}
+use Rattle.hp_model.specs.declared.section.Section.{Section}
+use Rattle.hp_model.specs.JointRun.{Trails, slot_trail, Entry, InTasks, InSlot, InPool, event_of}
 
 -- ---- sections
 
--- the places in the pool's trail that the entries of slots name
-abbrev pub asked_places : Trails → List ℕ
-asked_places t = flat_map (filter_map asked_place) t.slots
+-- the slot's entry at this place has this section
+pub record Asks (t : Trails) (slot place : ℕ) (asked : Asked) : Type 0 where
+  pub entry : SlotEntry
+  pub there : slice_get (slot_trail t slot) place ≡ Some entry
+  pub asks : entry.asked ≡ Some asked
 
--- each section of a slot's entry is the pool's entry at its place, and each of the pool's that is no event is such a section once
-pub record SectionsFit (t : Trails) : Type 0 where
-  pub there : (k i : ℕ) (e : SlotEntry) → slice_get (slot_trail t k) i ≡ Some e → IsSectionOf t e.asked
-  pub once : (j : ℕ) (section : Section) (answer : PoolAnswer) → slice_get t.pool j ≡ Some (OfSlot section answer) → count_by (λ place. place == j) (asked_places t) ≡ 1
+-- a slot's section is not what the pool's trail has at its place
+pub record WrongSection (t : Trails) : Type 0 where
+  pub slot : ℕ
+  pub place : ℕ
+  pub asked : Asked
+  pub asks : Asks t slot place asked
+  pub other : slice_get t.pool asked.place ≢ Some (OfSlot asked.section asked.answer)
+
+-- two entries of slots have their section at one place
+pub record SharedSection (t : Trails) : Type 0 where
+  pub slot : ℕ
+  pub place : ℕ
+  pub asked : Asked
+  pub slot' : ℕ
+  pub place' : ℕ
+  pub asked' : Asked
+  pub asks : Asks t slot place asked
+  pub asks' : Asks t slot' place' asked'
+  pub apart : (slot ≡ slot') × (place ≡ place') → ⊥
+  pub same : asked.place ≡ asked'.place
+
+-- a section in the pool's trail is of no slot's entry
+pub record LostSection (t : Trails) : Type 0 where
+  pub place : ℕ
+  pub section : Section
+  pub answer : PoolAnswer
+  pub there : slice_get t.pool place ≡ Some (OfSlot section answer)
+  pub lost : (slot i : ℕ) (asked : Asked) → Asks t slot i asked → asked.place ≢ place
 
 -- ---- receipts
 
-abbrev pub is_pool_event : PoolEntry → Bool
-is_pool_event (OfSlot section answer) = false
-is_pool_event (OfPool event reply) = true
+abbrev pub of_pool : PoolEntry → Option Entry
+of_pool (OfSlot section answer) = None
+of_pool (OfPool event reply) = Some (InPool event reply)
 
-abbrev pub events_in : Trails → ℕ
-events_in t = length t.tasks + sum_by length t.slots + count_by is_pool_event t.pool
+-- the entry at this place of the part's trail, where it is an event
+abbrev pub entry_at : Trails → Part → ℕ → Option Entry
+entry_at t Tasks i = option_map InTasks (slice_get t.tasks i)
+entry_at t (AtSlot k) i = option_map (InSlot k) (slice_get (slot_trail t k) i)
+entry_at t AtPool i = option_and_then of_pool (slice_get t.pool i)
 
--- each tells what stands at its place, no two tell of one place, and there are as many as events
-pub record ReceiptsFit (t : Trails) (receipts : List Receipt) : Type 0 where
-  pub told : All (λ r. entry_at t r.at ≡ Some (r.event, r.reply)) receipts
-  pub apart : (i j : ℕ) (r s : Receipt) → i < j → slice_get receipts i ≡ Some r → slice_get receipts j ≡ Some s → r.at ≢ s.at
-  pub all : length receipts ≡ events_in t
+-- the session's receipt at this place
+abbrev pub Has : List (List Receipt) → (session i : ℕ) → Receipt → Type 0
+Has sessions session i r = slice_get (slice_index_or sessions session []) i ≡ Some r
+
+-- a receipt does not tell what stands at its place
+pub record WrongReceipt (t : Trails) (sessions : List (List Receipt)) : Type 0 where
+  pub session : ℕ
+  pub i : ℕ
+  pub receipt : Receipt
+  pub has : Has sessions session i receipt
+  pub other : option_map event_of (entry_at t receipt.part receipt.place)
+      ≢ Some (receipt.event, receipt.reply)
+
+-- two receipts tell of one place
+pub record ToldTwice (sessions : List (List Receipt)) : Type 0 where
+  pub session : ℕ
+  pub i : ℕ
+  pub receipt : Receipt
+  pub session' : ℕ
+  pub i' : ℕ
+  pub receipt' : Receipt
+  pub has : Has sessions session i receipt
+  pub has' : Has sessions session' i' receipt'
+  pub apart : (session ≡ session') × (i ≡ i') → ⊥
+  pub part : receipt.part ≡ receipt'.part
+  pub place : receipt.place ≡ receipt'.place
+
+-- no receipt tells of an event
+pub record Untold (t : Trails) (sessions : List (List Receipt)) : Type 0 where
+  pub part : Part
+  pub place : ℕ
+  pub entry : Entry
+  pub there : entry_at t part place ≡ Some entry
+  pub untold : (session i : ℕ) (r : Receipt) → Has sessions session i r
+      → (r.part ≡ part) × (r.place ≡ place) → ⊥
 
 -- ---- orders
 
-abbrev pub IsBeforeInTrail : Position → Position → Type 0
-IsBeforeInTrail (InTasks i) (InTasks j) = i < j
-IsBeforeInTrail (InSlot k i) (InSlot m j) = (k ≡ m) × (i < j)
-IsBeforeInTrail (InPool i) (InPool j) = i < j
-IsBeforeInTrail other another = ⊥
+-- the entry stands in the pool's trail there, itself or by its section
+abbrev pub InPoolAt : Trails → Part → ℕ → ℕ → Type 0
+InPoolAt t Tasks i place = ⊥
+InPoolAt t (AtSlot k) i place = (a : Asked) × Asks t k i a × (a.place ≡ place)
+InPoolAt t AtPool i place = i ≡ place
 
-abbrev pub IsBeforeInPool : Trails → Position → Position → Type 0
-IsBeforeInPool t a b = (i : ℕ) × (j : ℕ) × (pool_place t a ≡ Some i) × (pool_place t b ≡ Some j) × (i < j)
-
-abbrev pub IsBeforeInSession : List (List Receipt) → Position → Position → Type 0
-IsBeforeInSession sessions a b =
-    (session : ℕ) × (i : ℕ) × (j : ℕ) × (r : Receipt) × (s : Receipt) ×
-    (slice_get (slice_index_or sessions session []) i ≡ Some r) × (slice_get (slice_index_or sessions session []) j ≡ Some s) × (r.at ≡ a) × (s.at ≡ b) × (i < j)
-
--- a must come before b
-abbrev pub IsBefore : Trails → List (List Receipt) → Position → Position → Type 0
-IsBefore t sessions a b = IsBeforeInTrail a b ⊎ (IsBeforeInPool t a b ⊎ IsBeforeInSession sessions a b)
+-- the entry at i of part a must come before the one at j of part b
+abbrev pub IsBefore : Trails → List (List Receipt) → (a : Part) (i : ℕ) (b : Part) (j : ℕ) → Type 0
+IsBefore t sessions a i b j =
+    ((a ≡ b) × (i < j))
+    ⊎ (((m : ℕ) × (n : ℕ) × InPoolAt t a i m × InPoolAt t b j n × (m < n))
+    ⊎ ((session : ℕ) × (m : ℕ) × (n : ℕ) × (r : Receipt) × (q : Receipt)
+    × Has sessions session m r × Has sessions session n q × (m < n)
+    × (r.part ≡ a) × (r.place ≡ i) × (q.part ≡ b) × (q.place ≡ j)))
 
 -- some events, each of which has another of them before it: no order has them all
-pub record IsCircle (t : Trails) (sessions : List (List Receipt)) (events : List Position) : Type 0 where
-  pub some : 0 < length events
-  pub are_events : All (λ a. entry_at t a ≢ None) events
-  pub each : (j : ℕ) (b : Position) → slice_get events j ≡ Some b → (i : ℕ) × (a : Position) × (slice_get events i ≡ Some a) × (a ≢ b) × IsBefore t sessions a b
+pub record HasCircle (t : Trails) (sessions : List (List Receipt)) : Type 0 where
+  pub set : Part → ℕ → Bool
+  pub part : Part
+  pub place : ℕ
+  pub some : (set part place ≡ true) × (entry_at t part place ≢ None)
+  pub each : (b : Part) (j : ℕ) → set b j ≡ true → entry_at t b j ≢ None
+      → (a : Part) × (i : ℕ) × (set a i ≡ true) × (entry_at t a i ≢ None)
+      × ((a ≡ b) × (i ≡ j) → ⊥) × IsBefore t sessions a i b j
 
 -- the receipts are one list for each session
 abbrev pub Differ : Trails → List (List Receipt) → Type 0
-Differ t sessions = (SectionsFit t → ⊥) ⊎ ((ReceiptsFit t (flat_map (λ session. session) sessions) → ⊥) ⊎ ((events : List Position) × IsCircle t sessions events))
+Differ t sessions =
+    WrongSection t
+    ⊎ (SharedSection t
+    ⊎ (LostSection t
+    ⊎ (WrongReceipt t sessions
+    ⊎ (ToldTwice sessions ⊎ (Untold t sessions ⊎ HasCircle t sessions)))))

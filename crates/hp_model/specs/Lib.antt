@@ -37,6 +37,7 @@ pub mod Spot
 pub mod State
 pub mod Step
 pub mod Table
+pub mod TableRun
 pub mod Text
 pub mod Value
 pub mod Words

@@ -3,12 +3,14 @@
 
 pub mod answer;
 pub mod cell;
+pub mod entry;
 pub mod event;
 pub mod limits;
 pub mod naming;
 pub mod node;
 pub mod place;
 pub mod refusal;
+pub mod section;
 pub mod service;
 pub mod step;
 

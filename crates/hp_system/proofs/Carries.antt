@@ -14,7 +14,8 @@ use Rattle.hp_model.specs.Lists.{is_among}
 use Rattle.hp_model.specs.Machine.{node_of, pool_of, with_pool}
 use Rattle.hp_model.specs.MountCounts.{usage_of}
 use Rattle.hp_model.specs.Plan.{Reply, Slot, Outcome, Refused, Answered, Plan, Finish, Ask, Choice, slot_committed}
-use Rattle.hp_model.specs.Pool.{PoolAnswer, section}
+use Rattle.hp_model.specs.Pool.{section}
+use Rattle.hp_model.specs.declared.section.PoolAnswer.{PoolAnswer}
 use Rattle.hp_model.specs.PoolCounts.{Pool, IsSettled}
 use Rattle.hp_model.specs.Resize.{pool_event}
 use Rattle.hp_model.specs.Settled.{IsSettledState}

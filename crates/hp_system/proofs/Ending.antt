@@ -11,7 +11,7 @@ use Rattle.hp_laws.specs.Balance.{IsBalanced}
 use Rattle.hp_model.specs.File.{Mount}
 use Rattle.hp_model.specs.Machine.{committed_pages, pool_of}
 use Rattle.hp_model.specs.Plan.{Plan, Finish, Ask, Answered, Slot, fall_of, gives, puts_of}
-use Rattle.hp_model.specs.Pool.{GiveBack}
+use Rattle.hp_model.specs.declared.section.Section.TheVariants.{GiveBack}
 use Rattle.hp_model.specs.PoolCounts.{Pool, counts_by, counts_of, used}
 use Rattle.hp_model.specs.Settled.{IsSettledState}
 use Rattle.hp_model.specs.State.{State}

@@ -1,4 +1,5 @@
 pub mod WorkedWords
+pub mod WorkedTrails
 pub mod Agreement
 pub mod WorkedSharing
 pub mod WorkedPrivate

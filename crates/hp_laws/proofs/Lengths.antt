@@ -1,0 +1,107 @@
+-- The number of nodes never changes.
+use Rattle.std.proofs.Common.{◌≡◌, ℕ, zero, suc, ◌+◌, ◌-◌, Bool, true, false, List, [], ◌∷◌, length, map, refl, sym, ap, ◌∙◌, cond}
+use Rattle.std.specs.Prelude.{nat_lt, nat_le, min, Ok, Err}
+use Rattle.std.proofs.lemmas.Bool.{cond_both}
+use Rattle.std.proofs.lemmas.List.{length-map, length-set}
+use Rattle.hp_model.specs.declared.event.PoolEvent.{PoolEvent}
+use Rattle.hp_model.specs.declared.event.PoolEvent.TheVariants.{Nr, Overcommit, Meminfo, Nodes}
+use Rattle.hp_model.specs.declared.node.Kind.TheVariants.{Free, Idle, Surplus, Persistent, FreeSurplus}
+use Rattle.hp_model.specs.declared.node.NodeRow.{NodeRow}
+use Rattle.hp_model.specs.declared.answer.Answer.TheVariants.{Done}
+use Rattle.hp_model.specs.declared.refusal.Refusal.TheVariants.{OutOfRange}
+use Rattle.hp_model.specs.Grant.{can_grant, granted, surplus_times}
+use Rattle.hp_model.specs.Machine.{pool_of, with_pool, rows_of, node_of}
+use Rattle.hp_model.specs.NodeRows.{NodeRows, at_row, row_at, lowest, near, next_from, give_back_row, promote_row, demote_row, grow_row, put_row, take_row, shrink_row, add_surplus_row, total_of, taken, put_at, surplus_added, grown, shrunk, promoted, demoted, given_back, free_of, surp_of, frames_of}
+use Rattle.hp_model.specs.Pool.{section, granted_at, no_pages, page_taken, take_node, kept_times, puts_from, released, settled, give_back_times}
+use Rattle.hp_model.specs.declared.section.PoolAnswer.{PoolAnswer}
+use Rattle.hp_model.specs.declared.section.Section.{Section}
+use Rattle.hp_model.specs.declared.section.Section.TheVariants.{Grant, GrantPage, TakePage, GiveBack, ReadAndGrant, GrantAndReturn}
+use Rattle.hp_model.specs.PoolCounts.{Pool, rsvd}
+use Rattle.hp_model.specs.Plan.{Reply}
+use Rattle.hp_model.specs.Profile.{most_overcommit}
+use Rattle.hp_model.specs.Resize.{pool_event, set_nr, raised, raise_times, lowered, lower_times}
+use Rattle.hp_model.specs.State.{State, Node}
+
+abbrev IsLong : ℕ → NodeRows → Type 0
+IsLong n s = length s.rows ≡ n
+
+long_row : (f : NodeRow → NodeRow) (i : ℕ) (rows : List NodeRow) → length (at_row f i rows) ≡ length rows
+long_row f i rows = length-set rows i (f (row_at rows i))
+
+long_given_back : (s : NodeRows) → length (given_back s).rows ≡ length s.rows
+long_given_back s =
+    let both = lowest FreeSurplus s.rows in
+    let apart : List NodeRow = at_row shrink_row (lowest Free s.rows) s.rows in
+    cond_both (nat_lt both (length s.rows)) (at_row give_back_row both s.rows) (at_row promote_row (lowest Surplus s.rows) apart) (λ (rows : List NodeRow). length rows ≡ length s.rows)
+    (λ e. long_row give_back_row both s.rows)
+    (λ e. long_row promote_row (lowest Surplus s.rows) apart ∙ long_row shrink_row (lowest Free s.rows) s.rows)
+
+long_give_back_times : (k : ℕ) (s : NodeRows) → length (give_back_times k s).rows ≡ length s.rows
+long_give_back_times zero s = refl
+long_give_back_times (suc k) s = long_given_back (give_back_times k s) ∙ long_give_back_times k s
+
+long_surplus_times : (home k : ℕ) (s : NodeRows) → length (surplus_times home k s).rows ≡ length s.rows
+long_surplus_times home zero s = refl
+long_surplus_times home (suc k) s = long_row add_surplus_row (near Idle home (surplus_times home k s).rows) (surplus_times home k s).rows ∙ long_surplus_times home k s
+
+long_raised : (s : NodeRows) → length (raised s).rows ≡ length s.rows
+long_raised s = cond_both (nat_lt 0 (surp_of s.rows)) (promoted s) (grown s) (λ (x : NodeRows). length x.rows ≡ length s.rows) (λ e. long_row promote_row (lowest Surplus s.rows) s.rows) (λ e. long_row grow_row (next_from Idle s.growth s.rows) s.rows)
+
+long_raise_times : (k : ℕ) (s : NodeRows) → length (raise_times k s).rows ≡ length s.rows
+long_raise_times zero s = refl
+long_raise_times (suc k) s = long_raised (raise_times k s) ∙ long_raise_times k s
+
+long_lowered : (reserved : ℕ) (s : NodeRows) → length (lowered reserved s).rows ≡ length s.rows
+long_lowered reserved s =
+    cond_both (nat_lt reserved (free_of s.rows)) (shrunk s) (demoted s) (λ (x : NodeRows). length x.rows ≡ length s.rows) (λ e. long_row shrink_row (next_from Free s.release s.rows) s.rows) (λ e. long_row demote_row (lowest Persistent s.rows) s.rows)
+
+long_lower_times : (reserved k : ℕ) (s : NodeRows) → length (lower_times reserved k s).rows ≡ length s.rows
+long_lower_times reserved zero s = refl
+long_lower_times reserved (suc k) s = long_lowered reserved (lower_times reserved k s) ∙ long_lower_times reserved k s
+
+long_kept_times : (node k : ℕ) (p : Pool) → length (kept_times node k p).nodes.rows ≡ length p.nodes.rows
+long_kept_times node zero p = refl
+long_kept_times node (suc k) p = long_row put_row node (kept_times node k p).nodes.rows ∙ long_kept_times node k p
+
+long_puts : (node : ℕ) (ks : List ℕ) (p : Pool) → length (puts_from node ks p).nodes.rows ≡ length p.nodes.rows
+long_puts node [] p = refl
+long_puts node (k ∷ ks) p = long_puts (node + 1) ks (kept_times node k p) ∙ long_kept_times node k p
+
+long_settled : (p : Pool) → length (settled p).nodes.rows ≡ length p.nodes.rows
+long_settled p = long_give_back_times (surp_of p.nodes.rows - (p.committed - p.nr)) p.nodes
+
+long_granted : (home d : ℕ) (p : Pool) → length (granted home d p).nodes.rows ≡ length p.nodes.rows
+long_granted home d p = long_surplus_times home (p.committed + d - total_of p.nodes.rows) p.nodes
+
+abbrev Long : Pool → PoolAnswer × Pool → Type 0
+Long p x = length x.1.nodes.rows ≡ length p.nodes.rows
+
+pub long_section : (p : Pool) (s : Section) → length (section p s).1.nodes.rows ≡ length p.nodes.rows
+long_section p (Grant home d) = cond_both (can_grant d p) (granted_at 0, granted home d p) (no_pages, p) (Long p) (λ e. long_granted home d p) (λ e. refl)
+long_section p (GrantPage home d) =
+    cond_both (can_grant d p) (granted_at (take_node home (granted home d p)), page_taken home (granted home d p)) (no_pages, p) (Long p)
+    (λ e. long_row take_row (near Free home (granted home d p).nodes.rows) (granted home d p).nodes.rows ∙ long_granted home d p) (λ e. refl)
+long_section p (TakePage home) = long_row take_row (near Free home p.nodes.rows) p.nodes.rows
+long_section p (GiveBack puts k) = long_settled (released k (puts_from 0 puts p)) ∙ long_puts 0 puts p
+long_section p (ReadAndGrant d) =
+    cond_both (can_grant d p) (record { granted = true; node = 0; nr = p.nr }, granted 0 d p) (record { granted = false; node = 0; nr = p.nr }, p) (Long p)
+    (λ e. long_granted 0 d p) (λ e. refl)
+long_section p (GrantAndReturn d) =
+    cond_both (can_grant d p) (record { granted = true; node = 0; nr = p.nr }, settled (released d (granted 0 d p))) (record { granted = false; node = 0; nr = p.nr }, p) (Long p)
+    (λ e. long_settled (released d (granted 0 d p)) ∙ long_granted 0 d p) (λ e. refl)
+
+pub long_event : (p : Pool) (e : PoolEvent) → length (pool_event p e).1.nodes.rows ≡ length p.nodes.rows
+long_event p (Nr n) =
+    let target = min n (frames_of p.nodes.rows) in
+    long_lower_times (rsvd p) (p.nr - target) (raise_times (target - p.nr) p.nodes) ∙ long_raise_times (target - p.nr) p.nodes
+long_event p (Overcommit n) =
+    cond_both (nat_le n most_overcommit) (Ok Done, record p { overcommit = n }) (Err OutOfRange, p) (λ (x : Reply × Pool). length x.1.nodes.rows ≡ length p.nodes.rows) (λ e. refl) (λ e. refl)
+long_event p Meminfo = refl
+long_event p Nodes = refl
+
+long_rows : (s : State) (a : ℕ) (ns : List Node) → length (rows_of s a ns) ≡ length ns
+long_rows s a [] = refl
+long_rows s a (n ∷ ns) = ap suc (long_rows s (a + 1) ns)
+
+pub long_with_pool : (s : State) (q : Pool) → length q.nodes.rows ≡ length (pool_of s).nodes.rows → length (with_pool s q).nodes ≡ length s.nodes
+long_with_pool s q e = length-map q.nodes.rows node_of ∙ e ∙ long_rows s 0 s.nodes

@@ -1,0 +1,5 @@
+use Rattle.hp_laws.proofs.JoinedRun.{joined_law}
+use Rattle.hp_laws.proofs.trails_join.Goals as goal
+
+pub returns : goal.returns
+returns c = joined_law

@@ -1,0 +1,254 @@
+-- Trails made by hand, and receipts that join them or do not, by computation.
+use Rattle.std.proofs.Common.{◌≡◌, ◌≢◌, inl, inr, ℕ, zero, suc, ◌<◌, ◌≤◌, Bool, true, false, Option, None, Some, Ok, Err, List, [], ◌∷◌, refl, ap, arith, cond}
+use Rattle.std.specs.List.{All, slice_get, slice_index_or}
+use Rattle.std.proofs.lemmas.List.Elements.{All-cons, All-nil}
+use Rattle.hp_model.specs.declared.answer.Answer.{Answer}
+use Rattle.hp_model.specs.declared.answer.Answer.TheVariants.{Done, Home, MapNo, Number}
+use Rattle.hp_model.specs.declared.entry.Asked.{Asked}
+use Rattle.hp_model.specs.declared.entry.Part.{Part}
+use Rattle.hp_model.specs.declared.entry.Part.TheVariants.{Tasks, Slot as AtSlot, Pool as AtPool}
+use Rattle.hp_model.specs.declared.entry.PoolEntry.{PoolEntry}
+use Rattle.hp_model.specs.declared.entry.PoolEntry.TheVariants.{OfSlot, OfPool}
+use Rattle.hp_model.specs.declared.entry.Receipt.{Receipt}
+use Rattle.hp_model.specs.declared.entry.SlotEntry.{SlotEntry}
+use Rattle.hp_model.specs.declared.entry.TableEntry.{TableEntry}
+use Rattle.hp_model.specs.declared.event.Event.{Event}
+use Rattle.hp_model.specs.declared.event.Event.TheVariants.{Tasks as OnTasks, Slot as OnSlot, Pool as OnPool}
+use Rattle.hp_model.specs.declared.event.PoolEvent.TheVariants.{Nr}
+use Rattle.hp_model.specs.declared.event.SlotEvent.TheVariants.{Create, Map as MapEvent}
+use Rattle.hp_model.specs.declared.event.TableEvent.TheVariants.{Add, Find}
+use Rattle.hp_model.specs.declared.step.Sharing.TheVariants.{Shared}
+use Rattle.hp_model.specs.declared.step.Reserving.TheVariants.{Reserve}
+use Rattle.hp_model.specs.Differ.{WrongSection, WrongReceipt, ToldTwice, Untold, HasCircle, IsBefore, Differ, Has, entry_at, Asks}
+use Rattle.hp_model.specs.File.{with_file, new_file, Mount}
+use Rattle.hp_model.specs.JointRun.{keep, numbered, slot_part, told, Trails, slot_trail, Entry, InTasks, InSlot, InPool, Item, IsThere, IsOrder, IsTold, Joins, AreRuns, IsJointRun, event_of}
+use Rattle.hp_model.specs.LocalRun.{IsLocalRun}
+use Rattle.hp_model.specs.Machine.{start, open_mount, pool_of}
+use Rattle.hp_model.specs.MakeMap.{mapped, with_new}
+use Rattle.hp_model.specs.Plan.{Slot, Choice, Reply}
+use Rattle.hp_model.specs.Pool.{section, granted_at}
+use Rattle.hp_model.specs.declared.section.Section.{Section}
+use Rattle.hp_model.specs.declared.section.Section.TheVariants.{Grant}
+use Rattle.hp_model.specs.PoolCounts.{Pool}
+use Rattle.hp_model.specs.Resize.{pool_event}
+use Rattle.hp_model.specs.State.{State, slot_at}
+use Rattle.hp_model.specs.Table.{Table}
+use Rattle.hp_laws.proofs.JoinedRun.{joined_law}
+use Rattle.hp_laws.proofs.StaysSettled.{start_is_settled}
+
+-- ---- the trails
+
+abbrev machine : State
+machine = start (4 ∷ 4 ∷ []) 1024 1
+
+abbrev a_name : List ℕ
+a_name = 97 ∷ []
+
+abbrev add_one : TableEntry
+add_one = record { event = Add 1 0; reply = Ok Done }
+
+abbrev find_one : TableEntry
+find_one = record { event = Find 1; reply = Ok (Home 0) }
+
+abbrev create_a : SlotEntry
+create_a = record { event = Create a_name; reply = Ok Done; asked = None }
+
+-- the map's entry, with its section at this place
+abbrev map_a : ℕ → SlotEntry
+map_a place = record {
+  event = MapEvent 1 0 a_name 0 1 Shared Reserve;
+  reply = Ok (MapNo 1);
+  asked = Some (record { place = place; section = Grant 0 1; answer = granted_at 0 });
+}
+
+abbrev nr_four : PoolEntry
+nr_four = OfPool (Nr 4) (Ok (Number 4))
+
+-- the trails, with the map's section at this place, and a grant of so many pages in the pool's
+abbrev trails : (place pages : ℕ) → Trails
+trails place pages = record {
+  tasks = add_one ∷ find_one ∷ [];
+  slots = (create_a ∷ map_a place ∷ []) ∷ [];
+  pool = nr_four ∷ OfSlot (Grant 0 pages) (granted_at 0) ∷ [];
+}
+
+-- ---- the receipts
+
+abbrev pool_0 : Receipt
+pool_0 = record { part = AtPool; place = 0; event = OnPool (Nr 4); reply = Ok (Number 4) }
+
+abbrev tasks_0 : Receipt
+tasks_0 = record { part = Tasks; place = 0; event = OnTasks (Add 1 0); reply = Ok Done }
+
+abbrev tasks_1 : Receipt
+tasks_1 = record { part = Tasks; place = 1; event = OnTasks (Find 1); reply = Ok (Home 0) }
+
+abbrev slot_0 : Receipt
+slot_0 = record { part = AtSlot 0; place = 0; event = OnSlot 0 (Create a_name); reply = Ok Done }
+
+abbrev slot_1 : ℕ → Receipt
+slot_1 number = record { part = AtSlot 0; place = 1; event = OnSlot 0 (MapEvent 1 0 a_name 0 1 Shared Reserve); reply = Ok (MapNo number) }
+
+abbrev sessions : List (List Receipt)
+sessions = (pool_0 ∷ tasks_0 ∷ slot_0 ∷ tasks_1 ∷ slot_1 1 ∷ []) ∷ []
+
+-- ---- they join
+
+abbrev item : Entry → ℕ → Item
+item e place = record { entry = e; place = place; by = 0 }
+
+abbrev items : List Item
+items = item (InPool (Nr 4) (Ok (Number 4))) 0 ∷ item (InTasks add_one) 0 ∷ item (InSlot 0 create_a) 0 ∷ item (InTasks find_one) 1 ∷ item (InSlot 0 (map_a 1)) 1 ∷ []
+
+one_slot : (P : ℕ → Type 0) → P 0 → (k : ℕ) → k < 1 → P k
+one_slot P p zero l = p
+one_slot P p (suc k) l = absurd (omega (arith, l))
+
+pub joins : Joins (trails 1 1) sessions items
+joins = record {
+  order = record {
+    tasks = refl;
+    slots = one_slot (λ k. keep (slot_part k) items ≡ numbered 0 (slot_trail (trails 1 1) k)) refl;
+    pool = refl;
+    there = λ i d l. within i d l;
+  };
+  told = record { each = one_slot (λ s. keep (told s) items ≡ slice_index_or sessions s []) refl; by = λ i d l. told_within i d l };
+}
+  where
+    within : All (λ (i : Item). IsThere 1 i.entry) items
+    within =
+        let P : Item → Type 0 = λ i. IsThere 1 i.entry in
+        let a = item (InPool (Nr 4) (Ok (Number 4))) 0 in
+        let b = item (InTasks add_one) 0 in
+        let c = item (InSlot 0 create_a) 0 in
+        let d = item (InTasks find_one) 1 in
+        let e = item (InSlot 0 (map_a 1)) 1 in
+        All-cons P a (b ∷ c ∷ d ∷ e ∷ []) tt
+        (All-cons P b (c ∷ d ∷ e ∷ []) tt (All-cons P c (d ∷ e ∷ []) (omega arith) (All-cons P d (e ∷ []) tt (All-cons P e [] (omega arith) (All-nil P)))))
+
+    told_within : All (λ (i : Item). i.by < 1) items
+    told_within =
+        let P : Item → Type 0 = λ i. i.by < 1 in
+        let a = item (InPool (Nr 4) (Ok (Number 4))) 0 in
+        let b = item (InTasks add_one) 0 in
+        let c = item (InSlot 0 create_a) 0 in
+        let d = item (InTasks find_one) 1 in
+        let e = item (InSlot 0 (map_a 1)) 1 in
+        All-cons P a (b ∷ c ∷ d ∷ e ∷ []) (omega arith)
+        (All-cons P b (c ∷ d ∷ e ∷ []) (omega arith) (All-cons P c (d ∷ e ∷ []) (omega arith) (All-cons P d (e ∷ []) (omega arith) (All-cons P e [] (omega arith) (All-nil P)))))
+
+-- ---- each trail is a run, and so the joined list is a run of the machine
+
+abbrev ends : ℕ → Slot
+ends k = Some (with_file (with_new open_mount (new_file (Some a_name))) 0 (mapped 1 1 0 1 Shared Reserve (new_file (Some a_name))))
+
+abbrev first : Choice
+first = record { stamp = 0; refused = false; after_grant = false }
+
+abbrev pool_1 : Pool
+pool_1 = (pool_event (pool_of machine) (Nr 4)).1
+
+abbrev pool_2 : Pool
+pool_2 = (section pool_1 (Grant 0 1)).1
+
+runs : AreRuns machine (trails 1 1) ((1, 0) ∷ []) ends pool_2
+runs = record {
+  count = refl;
+  tasks = ((1, 0) ∷ [], refl, ((1, 0) ∷ [], refl, refl));
+  slots = one_slot (λ k. IsLocalRun 1024 k (slot_at machine k) (slot_trail (trails 1 1) k) (ends k)) (Some (with_new open_mount (new_file (Some a_name))), (refl, first, refl, (refl, refl)), (ends 0, (refl, first, refl, (refl, (refl, refl))), refl));
+  pool = (pool_1, refl, (pool_2, refl, refl));
+}
+
+few : All (λ (f : ℕ). f ≤ 65536) (4 ∷ 4 ∷ [])
+few = All-cons (λ (f : ℕ). f ≤ 65536) 4 (4 ∷ []) (omega arith) (All-cons (λ (f : ℕ). f ≤ 65536) 4 [] (omega arith) (All-nil (λ (f : ℕ). f ≤ 65536)))
+
+pub joint_run : (end : State) × IsJointRun machine (trails 1 1) items end
+joint_run =
+    let end = joined_law machine (trails 1 1) items ((1, 0) ∷ []) ends pool_2 (start_is_settled (4 ∷ 4 ∷ []) 1024 1 (omega arith) few) runs joins.order in (end.0, end.1)
+
+-- ---- six changes, after each of which they differ
+
+no_receipts : (session i : ℕ) (r : Receipt) (rs : List Receipt) → slice_get (slice_index_or (rs ∷ []) (suc session) []) i ≡ Some r → ⊥
+no_receipts session i r rs has = cc
+
+-- a receipt left out
+pub left_out : Differ (trails 1 1) ((pool_0 ∷ tasks_0 ∷ slot_0 ∷ tasks_1 ∷ []) ∷ [])
+left_out = inr (inr (inr (inr (inr (inl (record { part = AtSlot 0; place = 1; entry = InSlot 0 (map_a 1); there = refl; untold = none }))))))
+  where
+    none : (session i : ℕ) (r : Receipt) → Has ((pool_0 ∷ tasks_0 ∷ slot_0 ∷ tasks_1 ∷ []) ∷ []) session i r → (r.part ≡ AtSlot 0) × (r.place ≡ 1) → ⊥
+    none zero zero r has is = cc
+    none zero (suc zero) r has is = cc
+    none zero (suc (suc zero)) r has is = cc
+    none zero (suc (suc (suc zero))) r has is = cc
+    none zero (suc (suc (suc (suc i)))) r has is = cc
+    none (suc s) i r has is = cc
+
+-- one given twice
+pub given_twice : Differ (trails 1 1) ((pool_0 ∷ tasks_0 ∷ slot_0 ∷ tasks_1 ∷ slot_1 1 ∷ slot_1 1 ∷ []) ∷ [])
+given_twice = inr (inr (inr (inr (inl (record {
+  session = 0;
+  i = 4;
+  receipt = slot_1 1;
+  session' = 0;
+  i' = 5;
+  receipt' = slot_1 1;
+  has = refl;
+  has' = refl;
+  apart = λ e. omega (arith, e.1);
+  part = refl;
+  place = refl;
+})))))
+
+abbrev reply_of : Option (Event × Reply) → Reply
+reply_of None = Ok Done
+reply_of (Some p) = p.1
+
+other_reply : ◌≡◌ {A = Reply} (Ok (MapNo 1)) (Ok (MapNo 2)) → ⊥
+other_reply e = cc
+
+-- the map's receipt with another number
+pub other_number : Differ (trails 1 1) ((pool_0 ∷ tasks_0 ∷ slot_0 ∷ tasks_1 ∷ slot_1 2 ∷ []) ∷ [])
+other_number = inr (inr (inr (inl (record { session = 0; i = 4; receipt = slot_1 2; has = refl; other = λ e. other_reply (ap reply_of e) }))))
+
+-- the map's section at place 0
+pub other_place : Differ (trails 0 1) sessions
+other_place = inl (record {
+  slot = 0;
+  place = 1;
+  asked = record { place = 0; section = Grant 0 1; answer = granted_at 0 };
+  asks = record { entry = map_a 0; there = refl; asks = refl };
+  other = λ e. cc;
+})
+
+-- the pool's grant of 1 made a grant of 2
+pub other_grant : Differ (trails 1 2) sessions
+other_grant = inl (record {
+  slot = 0;
+  place = 1;
+  asked = record { place = 1; section = Grant 0 1; answer = granted_at 0 };
+  asks = record { entry = map_a 1; there = refl; asks = refl };
+  other = λ e. cc;
+})
+
+-- the last two receipts exchanged with the first two
+abbrev exchanged : List (List Receipt)
+exchanged = (tasks_1 ∷ slot_1 1 ∷ slot_0 ∷ pool_0 ∷ tasks_0 ∷ []) ∷ []
+
+abbrev of_tasks : Part → ℕ → Bool
+of_tasks Tasks zero = true
+of_tasks Tasks (suc zero) = true
+of_tasks Tasks (suc (suc i)) = false
+of_tasks (AtSlot k) i = false
+of_tasks AtPool i = false
+
+pub in_a_circle : Differ (trails 1 1) exchanged
+in_a_circle = inr (inr (inr (inr (inr (inr (record { set = of_tasks; part = Tasks; place = 0; some = (refl, λ e. cc); each = each }))))))
+  where
+    each : (b : Part) (j : ℕ) → of_tasks b j ≡ true → entry_at (trails 1 1) b j ≢ None
+        → (a : Part) × (i : ℕ) × (of_tasks a i ≡ true) × (entry_at (trails 1 1) a i ≢ None) × ((a ≡ b) × (i ≡ j) → ⊥) × IsBefore (trails 1 1) exchanged a i b j
+    each Tasks zero is there =
+        (Tasks, 1, refl, (λ e. cc), (λ e. omega (arith, e.1)), inr (inr (0, 0, 4, tasks_1, tasks_0, refl, refl, omega arith, refl, refl, refl, refl)))
+    each Tasks (suc zero) is there = (Tasks, 0, refl, (λ e. cc), (λ e. omega (arith, e.1)), inl (refl, omega arith))
+    each Tasks (suc (suc i)) is there = cc
+    each (AtSlot k) i is there = cc
+    each AtPool i is there = cc
