@@ -83,15 +83,6 @@ impl<N: Naming> Pool<N> {
         })
     }
 
-    /// A permit of no page, to which others can be joined.
-    pub fn nothing(&mut self) -> Permit<N>
-        ensures same { self.new ≡ self.old }
-        ensures none { result ≡ 0 }
-    {
-        let _sums = self.lists.sums();
-        self.book.issue(0)
-    }
-
     /// Commits k pages more. Surplus pages are made, near the home node, for what no page is free for.
     ///
     /// Refused as NoPages where more than nr and overcommit together, or more than all frames, would
@@ -239,14 +230,6 @@ impl<N: Naming> Pool<N> {
         ensures { result ≡ self.now.nr }
     {
         self.nr
-    }
-
-    /// The frames of all nodes. nr is never more.
-    pub fn frames(&self) -> u64
-        ensures frames { result ≡ frames_of self.now.nodes.rows }
-        ensures within { self.now.nr ≤ result }
-    {
-        self.lists.sums().frames
     }
 
     /// How many nodes there are.
