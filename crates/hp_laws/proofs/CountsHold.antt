@@ -10,6 +10,7 @@ use Rattle.hp_laws.specs.Balance.{IsBalanced, IsLimited, left_by}
 use Rattle.hp_model.specs.Plan.{IsWithinLimit, slot_usage}
 use Rattle.hp_model.specs.Event.{after, CanHappen, planned}
 use Rattle.hp_model.specs.Machine.{committed_pages, counts_in, pool_of, with_pool, used_at, used_pages}
+use Rattle.hp_model.specs.NodeRows.{total_of}
 use Rattle.hp_model.specs.Plan.{Reply, Slot, Plan, Finish, Ask, Choice, slot_committed, slot_pages, slot_pages_at}
 use Rattle.hp_model.specs.Pool.{section}
 use Rattle.hp_model.specs.PoolCounts.{counts_by, used}
@@ -64,10 +65,10 @@ one_and_others [] k = refl
 one_and_others (x ∷ xs) zero = omega (arith, sum_by-cons slot_committed None xs, sum_by-cons slot_committed x xs)
 one_and_others (x ∷ xs) (suc k) = omega (arith, sum_by-cons slot_committed x (slice_set xs k None), sum_by-cons slot_committed x xs, one_and_others xs k)
 
-pub minimums_hold : (s : State) → IsSettledState s → (k : ℕ) → least_of (slot_at s k) + committed_pages (with_slot s k None) ≤ used_pages s + (counts_in s).rsvd
+pub minimums_hold : (s : State) → IsSettledState s → (k : ℕ) → least_of (slot_at s k) + committed_pages (with_slot s k None) ≤ total_of (pool_of s).nodes.rows
 minimums_hold s st k =
-    let in_use = st.pool.used in
-    omega (arith, used_are s st, in_use, least_committed (slot_at s k), one_and_others s.slots k)
+    let total = st.pool.total in
+    omega (arith, total, least_committed (slot_at s k), one_and_others s.slots k)
 
 -- ---- limits
 

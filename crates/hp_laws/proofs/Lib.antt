@@ -31,3 +31,4 @@ pub mod Backed
 pub mod Promised
 pub mod Small
 pub mod Seen
+pub mod Answered

@@ -33,7 +33,8 @@ use Rattle.hp_model.specs.Value.{shown, value}
 use Rattle.hp_model.specs.Grant.{can_grant, granted, surplus_times, rise, is_full, is_over}
 use Rattle.hp_model.specs.MountCounts.{usage_of}
 use Rattle.hp_model.specs.NodeRows.{total_of, surp_of}
-use Rattle.hp_laws.specs.Laws.{is_late, SameButNodes, RefusalsChangeNothing}
+use Rattle.hp_model.specs.Promises.{is_late, SameButNodes}
+use Rattle.hp_laws.specs.Laws.{RefusalsChangeNothing}
 use Rattle.hp_model.specs.Machine.{pool_of, with_pool}
 use Rattle.hp_model.specs.Mapping.{is_map, place_at, with_place}
 use Rattle.hp_model.specs.Options.{limits, wanted_of}

@@ -21,7 +21,7 @@ use Rattle.hp_model.specs.Plan.{Outcome, Refused, Answered, Plan, Finish, Ask, C
 use Rattle.hp_model.specs.Pool.{section}
 use Rattle.hp_model.specs.declared.section.PoolAnswer.{PoolAnswer}
 use Rattle.hp_model.specs.PoolCounts.{Pool}
-use Rattle.hp_model.specs.Promises.{is_for_pages, IsPromised}
+use Rattle.hp_model.specs.Promises.{is_for_pages, is_late, IsPromised, SameButNodes}
 use Rattle.hp_model.specs.Reserved.{is_reserved}
 use Rattle.hp_model.specs.Resize.{pool_event}
 use Rattle.hp_model.specs.Run.{IsRun}
@@ -56,15 +56,6 @@ OwnerWrites =
     s.map.owner ≡ true → NeverWantsPages (copy_write c m s home i consumed copy)
 
 -- ---- refusals
-
--- a mount that is refused memory after its grant: the nodes may then be as after the grant and its giving back
-abbrev pub is_late : Event → Refusal → Bool
-is_late (OnSlot k (MountEvent options)) OutOfMemory = true
-is_late e r = false
-
--- nothing but the nodes has changed
-abbrev pub SameButNodes : State → State → Type 0
-SameButNodes s t = t ≡ record s { nodes = t.nodes; growth = t.growth; release = t.release }
 
 -- a refused event leaves everything as it was
 abbrev pub RefusalsChangeNothing : Type 0

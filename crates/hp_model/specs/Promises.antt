@@ -1,26 +1,35 @@
 -- What the machine promises of each step.
-use Rattle.std.specs.Prelude.{◌≡◌, ◌⊎◌, ℕ, ◌+◌, ◌<◌, ◌≤◌, ◌&&◌, ◌||◌, ◌==◌, Bool, true, false, not, Option, None, Some, is_some, Ok, Err, List, [], ◌++◌, length, take, drop, if◌then◌else◌}
+use Rattle.std.specs.Prelude.{◌≡◌, ◌⊎◌, ℕ, ◌+◌, ◌<◌, ◌≤◌, ◌&&◌, ◌||◌, ◌==◌, Bool, true, false, not, Option, None, Some, is_some, option_map, Ok, Err, List, [], ◌++◌, length, take, drop, if◌then◌else◌}
+use Rattle.std.specs.Bool.{MatchBool}
 use Rattle.std.specs.List.{slice_index_or}
 use Rattle.hp_model.specs.declared.answer.Answer.{Answer}
+use Rattle.hp_model.specs.declared.answer.Answer.TheVariants.{Numbers, PerNode, Usage}
+use Rattle.hp_model.specs.declared.event.Event.{Event}
+use Rattle.hp_model.specs.declared.event.Event.TheVariants.{Slot as OnSlot}
+use Rattle.hp_model.specs.declared.event.SlotEvent.TheVariants.{Mount as MountEvent}
 use Rattle.hp_model.specs.declared.refusal.Refusal.{Refusal}
-use Rattle.hp_model.specs.declared.refusal.Refusal.TheVariants.{NoPages, MountFull}
+use Rattle.hp_model.specs.declared.refusal.Refusal.TheVariants.{NoPages, MountFull, OutOfMemory}
 use Rattle.hp_model.specs.declared.step.Intent.{Intent}
 use Rattle.hp_model.specs.declared.step.Intent.TheVariants.{Read, Write}
 use Rattle.hp_model.specs.declared.place.Place.{Place}
 use Rattle.hp_model.specs.declared.step.Sharing.TheVariants.{Shared}
 use Rattle.hp_model.specs.declared.step.Step.{Step}
-use Rattle.hp_model.specs.declared.step.Step.TheVariants.{Df, Fault, Load, Store, Umount}
+use Rattle.hp_model.specs.declared.step.Step.TheVariants.{Df, Fault, Fork, Load, Meminfo, Mount as MountStep, Nodes, Read as ReadStep, Store, Umount}
 use Rattle.hp_model.specs.Plan.{slot_usage, IsWithinLimit}
 use Rattle.hp_model.specs.CopyWrite.{holds}
 use Rattle.hp_model.specs.File.{File, Mount, cell_at, new_file}
-use Rattle.hp_model.specs.Machine.{committed_pages, counts_in, used_pages}
+use Rattle.hp_model.specs.GiveBack.{without_task}
+use Rattle.hp_model.specs.Machine.{committed_pages, counts_in, pool_of}
 use Rattle.hp_model.specs.Mapping.{Map, copy_of, is_map, is_shared, place_at}
+use Rattle.hp_model.specs.MountCounts.{usage_of}
+use Rattle.hp_model.specs.NodeRows.{total_of}
 use Rattle.hp_model.specs.Page.{Copy, zeros}
 use Rattle.hp_model.specs.Plan.{Reply, Slot}
 use Rattle.hp_model.specs.Reserved.{is_reserved}
+use Rattle.hp_model.specs.Resize.{node_counts}
 use Rattle.hp_model.specs.Run.{RunsBy}
 use Rattle.hp_model.specs.Settled.{AreCounted}
-use Rattle.hp_model.specs.SlotEvent.{bytes_answer}
+use Rattle.hp_model.specs.SlotEvent.{bytes_answer, file_named}
 use Rattle.hp_model.specs.Spot.{Spot, spot}
 use Rattle.hp_model.specs.State.{State, slot_at, with_slot}
 use Rattle.hp_model.specs.Step.{IsStep}
@@ -170,6 +179,61 @@ abbrev pub LosesCopy : State → Step → State → (slot file map i : ℕ) → 
 LosesCopy s (Store task slot number i offset bytes) t k file map j = (slot ≡ k) × IsLostTo (map_named s slot task number) i (map_at s k file map) (map_at t k file map) file j
 LosesCopy s step t k file map j = ⊥
 
+-- ---- what is answered
+
+-- the mount's limits, what it uses, and how many files it has
+abbrev pub IsUsage : Slot → Answer → Type 0
+IsUsage None a = ⊥
+IsUsage (Some m) a = a ≡ Usage m.limits.max m.limits.min (usage_of m) m.limits.inodes (length m.files)
+
+-- bytes of the file at the index, or zeros where it has no page
+abbrev pub IsRead : (size : ℕ) → Option (ℕ × File) → (i offset count : ℕ) → Answer → Type 0
+IsRead size None i offset count a = ⊥
+IsRead size (Some f) i offset count a = a ≡ bytes_answer offset count (shown size (cell_at f.1 i))
+
+abbrev pub named_on : Slot → List ℕ → Option (ℕ × File)
+named_on None name = None
+named_on (Some m) name = file_named m name
+
+-- a step that reads answers what there was: the counts, the nodes' rows, a mount's numbers, a file's bytes
+abbrev pub Tells : State → Step → Reply → Type 0
+Tells s Meminfo (Ok a) = a ≡ Numbers (counts_in s)
+Tells s Nodes (Ok a) = a ≡ PerNode (length s.nodes) (node_counts (pool_of s))
+Tells s (Df k) (Ok a) = IsUsage (slot_at s k) a
+Tells s (ReadStep k name i offset count) (Ok a) = IsRead s.page_size (named_on (slot_at s k) name) i offset count a
+Tells s step reply = Unit {0}
+
+-- ---- what a refusal leaves
+
+-- a mount that is refused memory after its grant: the nodes may then be as after the grant and its giving back
+abbrev pub is_late : Event → Refusal → Bool
+is_late (OnSlot k (MountEvent options)) OutOfMemory = true
+is_late e r = false
+
+abbrev pub is_late_step : Step → Refusal → Bool
+is_late_step (MountStep k options) r = is_late (OnSlot k (MountEvent options)) r
+is_late_step step r = false
+
+-- nothing but the nodes has changed
+abbrev pub SameButNodes : State → State → Type 0
+SameButNodes s t = t ≡ record s { nodes = t.nodes; growth = t.growth; release = t.release }
+
+-- a fork that is refused may have ended maps that stood under the child's number, and what went with them
+abbrev pub IsForkLeft : (child : ℕ) → (old new : Slot) → Type 0
+IsForkLeft child old new = (new ≡ old) ⊎ (new ≡ option_map (without_task child) old)
+
+pub record LeavesOthers (s : State) (child : ℕ) (t : State) : Type 0 where
+  pub table : t.table ≡ s.table
+  pub nr : t.nr ≡ s.nr
+  pub overcommit : t.overcommit ≡ s.overcommit
+  pub slots : (slot : ℕ) → IsForkLeft child (slot_at s slot) (slot_at t slot)
+
+-- a refused step leaves everything as it was
+abbrev pub LeavesAll : State → Step → Reply → State → Type 0
+LeavesAll s step (Ok a) t = Unit {0}
+LeavesAll s (Fork parent child) (Err r) t = LeavesOthers s child t
+LeavesAll s step (Err r) t = MatchBool (is_late_step step r) (SameButNodes s t) (t ≡ s)
+
 -- ---- what mounts keep
 
 -- the pages that stay committed to the slot's mount at least
@@ -196,10 +260,14 @@ pub record IsPromised (s : State) (step : Step) (reply : Reply) (t : State) : Ty
   pub counts : AreCounted t
   -- a step that raises what a mount uses ends within the mount's limit
   pub limits : (slot : ℕ) → slot < length s.slots → slot_usage (slot_at s slot) < slot_usage (slot_at t slot) → IsWithinLimit (slot_at t slot)
-  -- each mount's minimum stays committed, beside all that the other mounts have: it is in use, or a part of Rsvd
-  pub minimums : (slot : ℕ) → least_of (slot_at t slot) + committed_pages (with_slot t slot None) ≤ used_pages t + (counts_in t).rsvd
+  -- the pool has the pages of each mount's minimum, beside all that is committed to the other mounts
+  pub minimums : (slot : ℕ) → least_of (slot_at t slot) + committed_pages (with_slot t slot None) ≤ total_of (pool_of t).nodes.rows
   -- a load answers what its map showed
   pub loads : ShowsMap s step reply
+  -- and so do the steps that read counts, rows, a mount's numbers or a file
+  pub answers : Tells s step reply
+  -- a refused step leaves the whole machine as it was
+  pub refused : LeavesAll s step reply t
   -- each file shows what it showed, but for what is stored through a shared map of it; only an umount ends files
   pub files : (slot file i : ℕ) → is_unmounted step reply slot ≡ false → shown_in t slot file i ≡ stored_over s step reply slot file i (shown_in s slot file i)
   -- each map shows what it showed, but for what a store reaches; or it has lost its copy to the owner that stored

@@ -34,4 +34,4 @@ pub record AreCounted (s : State) : Type 0 where
   pub total : total_of (pool_of s).nodes.rows ≡ (counts_in s).total
   pub free : free_of (pool_of s).nodes.rows ≡ (counts_in s).free
   pub surp : surp_of (pool_of s).nodes.rows ≡ (counts_in s).surp
-  pub covered : (counts_in s).rsvd ≤ (counts_in s).free
+  pub covered : (counts_in s).rsvd ≤ free_of (pool_of s).nodes.rows
