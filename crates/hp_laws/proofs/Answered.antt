@@ -1,7 +1,6 @@
 -- What a step that reads answers, and that a refused step leaves the machine as it was.
-use Rattle.std.proofs.Common.{◌≡◌, ⊎_elim, inl, subst, ℕ, Bool, true, false, None, Some, Ok, Err, List, length, nat_lt, refl, sym, ap, ◌∙◌}
+use Rattle.std.proofs.Common.{◌≡◌, ⊎_elim, inl, subst, ℕ, Bool, true, false, None, Some, Ok, Err, length, nat_lt, refl, sym, ap}
 use Rattle.std.specs.Bool.{MatchBool}
-use Rattle.hp_model.specs.declared.answer.Answer.{Answer}
 use Rattle.hp_model.specs.declared.answer.Answer.TheVariants.{Numbers}
 use Rattle.hp_model.specs.declared.event.Event.{Event}
 use Rattle.hp_model.specs.declared.event.Event.TheVariants.{Tasks, Slot as OnSlot, Pool as OnPool}
@@ -10,13 +9,12 @@ use Rattle.hp_model.specs.declared.event.SlotEvent.{SlotEvent}
 use Rattle.hp_model.specs.declared.event.SlotEvent.TheVariants as slot
 use Rattle.hp_model.specs.declared.event.TableEvent.TheVariants as table
 use Rattle.hp_model.specs.declared.refusal.Refusal.{Refusal}
-use Rattle.hp_model.specs.declared.refusal.Refusal.TheVariants.{BadLine, NoSuchSlot, NoSuchTask}
+use Rattle.hp_model.specs.declared.refusal.Refusal.TheVariants.{BadLine, NoSuchSlot}
 use Rattle.hp_model.specs.declared.step.Reserving.TheVariants.{Reserve}
 use Rattle.hp_model.specs.declared.step.Sharing.TheVariants.{Shared}
 use Rattle.hp_model.specs.declared.step.Step.{Step}
 use Rattle.hp_model.specs.declared.step.Step.TheVariants.{Connect, Fork, Mount, Umount, Create, Map, Load, Store, Nr, Meminfo, Nodes, Read as ReadStep, Df}
 use Rattle.hp_model.specs.Event.{IsEvent}
-use Rattle.hp_model.specs.Machine.{counts_in}
 use Rattle.hp_model.specs.Plan.{Choice, Outcome, Refused, Answered, Reply, Slot}
 use Rattle.hp_model.specs.Promises.{is_late, is_late_step, IsUsage, LeavesAll, LeavesOthers, SameButNodes, Tells}
 use Rattle.hp_model.specs.Settled.{IsSettledState}

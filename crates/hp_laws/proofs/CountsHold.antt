@@ -9,7 +9,7 @@ use Rattle.hp_model.specs.declared.event.Event.TheVariants.{Tasks, Slot as OnSlo
 use Rattle.hp_laws.specs.Balance.{IsBalanced, IsLimited, left_by}
 use Rattle.hp_model.specs.Plan.{IsWithinLimit, slot_usage}
 use Rattle.hp_model.specs.Event.{after, CanHappen, planned}
-use Rattle.hp_model.specs.Machine.{committed_pages, counts_in, pool_of, with_pool, used_at, used_pages}
+use Rattle.hp_model.specs.Machine.{committed_pages, pool_of, with_pool, used_at, used_pages}
 use Rattle.hp_model.specs.NodeRows.{total_of}
 use Rattle.hp_model.specs.Plan.{Reply, Slot, Plan, Finish, Ask, Choice, slot_committed, slot_pages, slot_pages_at}
 use Rattle.hp_model.specs.Pool.{section}

@@ -1,6 +1,5 @@
 -- The law of joined runs: an induction on the list, in which the pool's numbers stay the sums over the slots.
-use Rattle.std.proofs.Common.{◌≡◌, ◌≢◌, inl, inr, ℕ, zero, suc, ◌+◌, ◌<◌, ◌==◌, Bool, true, false, cond, Option, None, Some, Ok, Err, List, [], ◌∷◌, length, map, refl, sym, ap, ◌∙◌, subst, arith, eqb}
-use Rattle.std.specs.Prelude.{nat_lt, IsTrue}
+use Rattle.std.proofs.Common.{◌≡◌, inl, inr, ℕ, ◌+◌, ◌<◌, ◌==◌, Bool, false, cond, Option, None, Some, Ok, Err, List, [], ◌∷◌, length, map, refl, sym, ap, ◌∙◌, subst, arith}
 use Rattle.std.specs.List.{All, slice_index_or, slice_set}
 use Rattle.std.proofs.lemmas.Bool.{eq-eqb}
 use Rattle.std.proofs.lemmas.Bool.Decides.{eqb_tells, nat_tests}
@@ -8,29 +7,26 @@ use Rattle.std.proofs.lemmas.List.{get_or-set_same, get_or-set_other, set-get_or
 use Rattle.std.proofs.lemmas.List.Elements.{All-head, All-tail}
 use Rattle.hp_model.specs.declared.entry.Asked.{Asked}
 use Rattle.hp_model.specs.declared.entry.PoolEntry.{PoolEntry}
-use Rattle.hp_model.specs.declared.entry.PoolEntry.TheVariants.{OfSlot, OfPool}
+use Rattle.hp_model.specs.declared.entry.PoolEntry.TheVariants.{OfPool}
 use Rattle.hp_model.specs.declared.entry.SlotEntry.{SlotEntry}
 use Rattle.hp_model.specs.declared.entry.TableEntry.{TableEntry}
-use Rattle.hp_model.specs.declared.event.Event.{Event}
-use Rattle.hp_model.specs.declared.event.Event.TheVariants.{Tasks as OnTasks, Slot as OnSlot, Pool as OnPool}
+use Rattle.hp_model.specs.declared.event.Event.TheVariants.{Slot as OnSlot, Pool as OnPool}
 use Rattle.hp_model.specs.declared.event.PoolEvent.{PoolEvent}
 use Rattle.hp_model.specs.Event.{IsEvent, IsEventRun, CanHappen, after, planned, settled, asked_pool, with_table, with_pool_reply}
-use Rattle.hp_model.specs.JointRun.{Trails, slot_trail, Entry, InTasks, InSlot, InPool, Item, option_cons, keep, numbered, task_entry, slot_entry, section_entry, pool_entry, placed, task_part, slot_part, pool_part, IsThere, IsOrder, event_of, AreRuns, HasParts}
+use Rattle.hp_model.specs.JointRun.{slot_trail, Entry, InTasks, InSlot, InPool, Item, option_cons, keep, numbered, task_entry, slot_entry, section_entry, pool_entry, placed, task_part, slot_part, pool_part, IsThere, event_of, HasParts}
 use Rattle.hp_laws.specs.Laws.{JoinedLaw}
-use Rattle.hp_model.specs.LocalRun.{Gives, Goes, IsLocalStep, IsLocalRun}
+use Rattle.hp_model.specs.LocalRun.{Gives, Goes, IsLocalRun}
 use Rattle.hp_model.specs.Machine.{pool_of, with_pool}
 use Rattle.hp_model.specs.Plan.{Reply, Slot, Outcome, Refused, Answered, Plan, Finish, Ask, Choice}
 use Rattle.hp_model.specs.Pool.{section}
 use Rattle.hp_model.specs.declared.section.PoolAnswer.{PoolAnswer}
-use Rattle.hp_model.specs.declared.section.Section.{Section}
 use Rattle.hp_model.specs.PoolCounts.{Pool}
-use Rattle.hp_model.specs.PoolRun.{IsPoolStep, IsPoolRun}
-use Rattle.hp_model.specs.Resize.{pool_event}
+use Rattle.hp_model.specs.PoolRun.{IsPoolRun}
 use Rattle.hp_model.specs.Settled.{IsSettledState}
 use Rattle.hp_laws.specs.Laws.{pool_after}
 use Rattle.hp_model.specs.SlotEvent.{slot_event}
 use Rattle.hp_model.specs.State.{State, slot_at, with_slot}
-use Rattle.hp_model.specs.Table.{Table, table_event}
+use Rattle.hp_model.specs.Table.{Table}
 use Rattle.hp_model.specs.TableRun.{IsTableRun}
 use Rattle.hp_laws.proofs.Lengths.{long_section, long_event, long_with_pool}
 use Rattle.hp_laws.proofs.StaysSettled.{pool_is_tied, event_settled}

@@ -32,3 +32,4 @@ pub mod Promised
 pub mod Small
 pub mod Seen
 pub mod Answered
+pub mod Limited

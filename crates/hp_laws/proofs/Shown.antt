@@ -103,12 +103,12 @@ on_granted : (Q : Mount → Type 0) (b : Bool) (n : Mount) → Q n → On Q (if 
 on_granted Q true n h = h
 on_granted Q false n h = tt
 
-on_grant_page : (Q : Mount → Type 0) (c : Choice) (m : Mount) (home : ℕ) (n : ℕ → Mount) → ((node : ℕ) → Q (n node)) → Always (On Q) (grant_page c m home (λ node. Answered Done (Some (n node))))
+pub on_grant_page : (Q : Mount → Type 0) (c : Choice) (m : Mount) (home : ℕ) (n : ℕ → Mount) → ((node : ℕ) → Q (n node)) → Always (On Q) (grant_page c m home (λ node. Answered Done (Some (n node))))
 on_grant_page Q c m home n h =
     always_test (On Q) (is_full m 1) MountFull _ tt
     (λ e. always_test (On Q) c.refused OutOfMemory (Ask (λ nr. GrantPage home (rise m 1)) (λ a. when_granted (Answered Done (Some (n a.node))) a)) tt (λ f a. on_granted Q a.granted (n a.node) (h a.node)))
 
-on_reserved_page : (Q : Mount → Type 0) (c : Choice) (home : ℕ) (n : ℕ → Mount) → ((node : ℕ) → Q (n node)) → Always (On Q) (reserved_page c home (λ node. Answered Done (Some (n node))))
+pub on_reserved_page : (Q : Mount → Type 0) (c : Choice) (home : ℕ) (n : ℕ → Mount) → ((node : ℕ) → Q (n node)) → Always (On Q) (reserved_page c home (λ node. Answered Done (Some (n node))))
 on_reserved_page Q c home n h = always_test (On Q) (may_lack_room && c.refused) OutOfMemory _ tt (λ f a. h a.node)
 
 pub on_weaker : (Q R : Mount → Type 0) → ((n : Mount) → Q n → R n) → (o : Outcome) → On Q o → On R o

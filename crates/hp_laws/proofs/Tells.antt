@@ -1,5 +1,5 @@
 -- What an event asks of the pool depends on nr only where the pool tells it.
-use Rattle.std.proofs.Common.{◌≡◌, ℕ, ◌+◌, Bool, true, false, ◌&&◌, ◌||◌, ◌==◌, not, Option, None, Some, List, [], ◌∷◌, length, refl, sym, ap, ◌∙◌, cond}
+use Rattle.std.proofs.Common.{◌≡◌, ℕ, ◌+◌, Bool, ◌&&◌, ◌||◌, ◌==◌, not, Option, None, Some, List, [], ◌∷◌, length, refl, sym, ap, ◌∙◌}
 use Rattle.std.specs.List.{sum, filter_map}
 use Rattle.std.specs.Prelude.{if◌then◌else◌, is_some, nat_lt, nat_le}
 use Rattle.std.proofs.lemmas.Bool.{cond_both}
@@ -12,12 +12,12 @@ use Rattle.hp_model.specs.declared.event.SlotEvent.TheVariants.{Mount as MountEv
 use Rattle.hp_model.specs.declared.place.Place.{Place}
 use Rattle.hp_model.specs.declared.place.Place.TheVariants.{Gone, Live}
 use Rattle.hp_model.specs.declared.refusal.Refusal.{Refusal}
-use Rattle.hp_model.specs.declared.refusal.Refusal.TheVariants.{OutOfMemory, MountFull, TakenByOwner, BeyondEnd, NoSuchFile, FileExists, NoInodes, BadName, NoSuchMap, OutOfRange, CrossesPage, Busy, TooMany}
+use Rattle.hp_model.specs.declared.refusal.Refusal.TheVariants.{OutOfMemory, MountFull, BeyondEnd, NoSuchFile, FileExists, NoInodes, BadName, NoSuchMap, OutOfRange, CrossesPage, Busy, TooMany}
 use Rattle.hp_model.specs.declared.step.Intent.{Intent}
 use Rattle.hp_model.specs.declared.step.Intent.TheVariants.{Read, Write}
 use Rattle.hp_model.specs.Access.{access, shared_access, private_access, uncopied_access, new_copy}
 use Rattle.hp_model.specs.CopyWrite.{taken_back, copy_write, owner_write, is_held_once}
-use Rattle.hp_model.specs.File.{Mount, File, cell_at, has_page, with_file, maps_of, new_file}
+use Rattle.hp_model.specs.File.{Mount, cell_at, has_page, with_file, maps_of, new_file}
 use Rattle.hp_model.specs.Grant.{rise, is_full, is_over}
 use Rattle.hp_model.specs.Mapping.{is_shared, place_at, is_map}
 use Rattle.hp_model.specs.Options.{wanted_of, limits}
@@ -33,7 +33,7 @@ use Rattle.hp_model.specs.declared.section.PoolAnswer.{PoolAnswer}
 use Rattle.hp_model.specs.declared.section.Section.{Section}
 use Rattle.hp_model.specs.declared.section.Section.TheVariants.{Grant, GrantPage, TakePage, GiveBack}
 use Rattle.hp_model.specs.PoolCounts.{Pool}
-use Rattle.hp_model.specs.SlotEvent.{is_name, has_maps, edited, is_bad_range, span_tests, bytes_answer, are_too_many_maps, is_unmapped, is_beyond, slot_event, on_mount, on_none, mount_section, mount_pages, file_named, fault, byte_access, load, store, map_file, unlink, truncate, punch, unmap, read, stat, umount, create, list, map_anon, fork_maps, exit_maps}
+use Rattle.hp_model.specs.SlotEvent.{is_name, has_maps, edited, is_bad_range, span_tests, bytes_answer, are_too_many_maps, is_unmapped, is_beyond, slot_event, on_mount, on_none, mount_section, mount_pages, file_named, fault, byte_access, load, store, map_file, unlink, truncate, punch, unmap, read, stat}
 use Rattle.hp_model.specs.Spot.{Spot, spot, copied, written, again}
 use Rattle.hp_laws.proofs.SlotsBalanced.{tells_nr}
 

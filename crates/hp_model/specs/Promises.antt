@@ -241,6 +241,12 @@ abbrev pub least_of : Slot → ℕ
 least_of None = 0
 least_of (Some m) = m.limits.min
 
+-- a mount that stays has the limits that its options made
+abbrev pub SameLimits : (old new : Slot) → Type 0
+SameLimits None new = Unit {0}
+SameLimits (Some m) None = ⊥
+SameLimits (Some m) (Some n) = n.limits ≡ m.limits
+
 -- the slot's mount, and all its files, went by this step
 abbrev pub is_unmounted : Step → Reply → ℕ → Bool
 is_unmounted (Umount k) (Ok a) slot = k == slot
@@ -260,6 +266,8 @@ pub record IsPromised (s : State) (step : Step) (reply : Reply) (t : State) : Ty
   pub counts : AreCounted t
   -- a step that raises what a mount uses ends within the mount's limit
   pub limits : (slot : ℕ) → slot < length s.slots → slot_usage (slot_at s slot) < slot_usage (slot_at t slot) → IsWithinLimit (slot_at t slot)
+  -- a mount and its limits stay until its umount
+  pub mounts : (slot : ℕ) → is_unmounted step reply slot ≡ false → SameLimits (slot_at s slot) (slot_at t slot)
   -- the pool has the pages of each mount's minimum, beside all that is committed to the other mounts
   pub minimums : (slot : ℕ) → least_of (slot_at t slot) + committed_pages (with_slot t slot None) ≤ total_of (pool_of t).nodes.rows
   -- a load answers what its map showed

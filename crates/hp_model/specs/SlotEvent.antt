@@ -72,15 +72,22 @@ mount_on c size text =
 abbrev pub has_maps : Mount → Bool
 has_maps m = nat_lt 0 (length (maps_of m))
 
+abbrev pub umount_tests : (slot : ℕ) → Mount → List (Bool × Refusal)
+umount_tests slot m = (slot == 0, Busy) ∷ (has_maps m, Busy) ∷ []
+
 abbrev pub umount : (slot : ℕ) → Mount → Plan
-umount slot m = unless ((slot == 0, Busy) ∷ (has_maps m, Busy) ∷ []) (gives Done (Some m) None)
+umount slot m = unless (umount_tests slot m) (gives Done (Some m) None)
 
 -- ---- files
 
+abbrev pub create_tests : Choice → Mount → List ℕ → List (Bool × Refusal)
+create_tests c m name =
+    (not (is_name name), BadName) ∷ (is_some (file_named m name), FileExists) ∷ (nat_le most_files (length m.files), TooMany)
+    ∷ (is_over m.limits.inodes (length m.files + 1), NoInodes) ∷ (c.refused, OutOfMemory) ∷ []
+
 abbrev pub create : Choice → Mount → List ℕ → Plan
 create c m name =
-    unless ((not (is_name name), BadName) ∷ (is_some (file_named m name), FileExists) ∷ (nat_le most_files (length m.files), TooMany)
-    ∷ (is_over m.limits.inodes (length m.files + 1), NoInodes) ∷ (c.refused, OutOfMemory) ∷ [])
+    unless (create_tests c m name)
     (Finish (Answered Done (Some (with_new m (new_file (Some name))))))
 
 abbrev pub edited : Mount → ℕ → File → Slot
@@ -105,9 +112,12 @@ bytes_answer offset count page = Bytes count (take count (drop offset page) ++ r
 abbrev pub span_tests : (size offset count : ℕ) → List (Bool × Refusal)
 span_tests size offset count = (nat_lt size (offset + count), CrossesPage) ∷ (nat_lt most_bytes count, TooMany) ∷ []
 
+abbrev pub read_tests : (size : ℕ) → (i offset count : ℕ) → File → List (Bool × Refusal)
+read_tests size i offset count f = ((count == 0) || nat_le (length f.cells) i, OutOfRange) ∷ span_tests size offset count
+
 abbrev pub read : (size : ℕ) → Mount → (i offset count : ℕ) → ℕ × File → Plan
 read size m i offset count f =
-    unless (((count == 0) || nat_le (length f.1.cells) i, OutOfRange) ∷ span_tests size offset count)
+    unless (read_tests size i offset count f.1)
     (Finish (Answered (bytes_answer offset count (shown size (cell_at f.1 i))) (Some m)))
 
 abbrev pub stat : Mount → ℕ × File → Plan
@@ -129,17 +139,25 @@ is_new_task_over m task = not (is_among task (tasks_of m)) && nat_le most_tasks 
 abbrev pub are_too_many_maps : Mount → ℕ → Bool
 are_too_many_maps m task = nat_le most_maps (length (maps_of m)) || is_new_task_over m task
 
+abbrev pub map_tests : Mount → (task a n : ℕ) → List (Bool × Refusal)
+map_tests m task a n =
+    ((n == 0) || nat_lt most_file_pages (a + n), OutOfRange) ∷ (nat_lt most_map_pages n || are_too_many_maps m task, TooMany) ∷ []
+
 abbrev pub map_file : Choice → Mount → (task home a n : ℕ) → Sharing → Reserving → ℕ × File → Plan
 map_file c m task home a n sharing reserving f =
-    unless (((n == 0) || nat_lt most_file_pages (a + n), OutOfRange) ∷ (nat_lt most_map_pages n || are_too_many_maps m task, TooMany) ∷ [])
+    unless (map_tests m task a n)
     (grant c m home (asked sharing reserving a n f.1)
     (Answered (MapNo (next_number task m)) (Some (with_file m f.0 (mapped task (next_number task m) a n sharing reserving f.1)))))
 
+abbrev pub anon_tests : Mount → (task n : ℕ) → List (Bool × Refusal)
+anon_tests m task n =
+    ((n == 0) || nat_lt most_file_pages n, OutOfRange)
+    ∷ (nat_lt most_map_pages n || are_too_many_maps m task || nat_le most_files (length m.files), TooMany)
+    ∷ (is_over m.limits.inodes (length m.files + 1), NoInodes) ∷ []
+
 abbrev pub map_anon : Choice → Mount → (task home n : ℕ) → Sharing → Reserving → Plan
 map_anon c m task home n sharing reserving =
-    unless (((n == 0) || nat_lt most_file_pages n, OutOfRange)
-    ∷ (nat_lt most_map_pages n || are_too_many_maps m task || nat_le most_files (length m.files), TooMany)
-    ∷ (is_over m.limits.inodes (length m.files + 1), NoInodes) ∷ [])
+    unless (anon_tests m task n)
     (grant c m home (asked sharing reserving 0 n (new_file None))
     (Answered (MapNo (next_number task m)) (Some (with_new m (mapped task (next_number task m) 0 n sharing reserving (new_file None))))))
 
@@ -155,14 +173,20 @@ is_unmapped s i = not (is_live (place_at s.map i))
 abbrev pub is_beyond : Spot → ℕ → Bool
 is_beyond s i = nat_le (length s.file.cells) i
 
+abbrev pub fault_tests : (i : ℕ) → Spot → List (Bool × Refusal)
+fault_tests i s = (is_unmapped s i, OutOfRange) ∷ (is_beyond s i, BeyondEnd) ∷ []
+
 abbrev pub fault : Choice → (size : ℕ) → Mount → (home i : ℕ) → Intent → Spot → Plan
-fault c size m home i intent s =
-    unless ((is_unmapped s i, OutOfRange) ∷ (is_beyond s i, BeyondEnd) ∷ []) (access c size m s home i intent)
+fault c size m home i intent s = unless (fault_tests i s) (access c size m s home i intent)
+
+abbrev pub byte_tests : (size : ℕ) → (i offset count : ℕ) → Spot → List (Bool × Refusal)
+byte_tests size i offset count s =
+    (is_unmapped s i || (count == 0), OutOfRange) ∷ (nat_lt size (offset + count), CrossesPage) ∷ (nat_lt most_bytes count, TooMany)
+    ∷ (is_beyond s i, BeyondEnd) ∷ []
 
 abbrev pub byte_access : Choice → (size : ℕ) → Mount → (home i offset count : ℕ) → Intent → Spot → Plan
 byte_access c size m home i offset count intent s =
-    unless ((is_unmapped s i || (count == 0), OutOfRange) ∷ (nat_lt size (offset + count), CrossesPage) ∷ (nat_lt most_bytes count, TooMany)
-    ∷ (is_beyond s i, BeyondEnd) ∷ [])
+    unless (byte_tests size i offset count s)
     (access c size m s home i intent)
 
 abbrev pub load : Choice → (size : ℕ) → Mount → (home i offset count : ℕ) → Spot → Plan
@@ -176,10 +200,14 @@ store c size m home i offset bytes s =
 
 -- ---- fork and exit
 
+abbrev pub fork_tests : Choice → Mount → (parent child : ℕ) → List (Bool × Refusal)
+fork_tests c m parent child =
+    (nat_lt most_maps (length (maps_of (forked parent child m))) || nat_lt most_tasks (length (tasks_of (forked parent child m))), TooMany)
+    ∷ (c.refused, OutOfMemory) ∷ []
+
 abbrev pub fork_maps : Choice → Mount → (parent child : ℕ) → Plan
 fork_maps c m parent child =
-    unless ((nat_lt most_maps (length (maps_of (forked parent child m))) || nat_lt most_tasks (length (tasks_of (forked parent child m))), TooMany)
-    ∷ (c.refused, OutOfMemory) ∷ [])
+    unless (fork_tests c m parent child)
     (gives Done (Some m) (Some (forked parent child m)))
 
 abbrev pub exit_maps : Mount → (task : ℕ) → Plan
