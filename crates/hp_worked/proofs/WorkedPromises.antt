@@ -1,15 +1,20 @@
 -- What is promised of some steps, by computation: the tests and the bytes that the promises speak of.
-use Rattle.std.proofs.Common.{◌≡◌, ℕ, true, false, Ok, Err, List, [], ◌∷◌, take, refl}
-use Rattle.std.specs.Prelude.{codes}
-use Rattle.hp_model.specs.declared.answer.Answer.TheVariants.{Done}
-use Rattle.hp_model.specs.declared.refusal.Refusal.TheVariants.{NoPages, TakenByOwner}
+use Rattle.std.proofs.Common.{◌≡◌, subst, ℕ, ◌+◌, ◌==◌, true, false, None, Some, Ok, Err, List, [], ◌∷◌, length, take, map, nat_le, refl}
+use Rattle.std.specs.Prelude.{codes, is_some}
+use Rattle.hp_model.specs.declared.answer.Answer.{Answer}
+use Rattle.hp_model.specs.declared.answer.Answer.TheVariants.{Done, Numbers, Usage}
+use Rattle.hp_model.specs.declared.limits.Limits.{Limits}
+use Rattle.hp_model.specs.declared.refusal.Refusal.TheVariants.{BadName, NoPages, TakenByOwner}
 use Rattle.hp_model.specs.declared.step.Reserving.TheVariants.{Reserve, NoReserve}
 use Rattle.hp_model.specs.declared.step.Sharing.TheVariants.{Shared, Private}
 use Rattle.hp_model.specs.declared.step.Step.{Step}
-use Rattle.hp_model.specs.declared.step.Step.TheVariants.{Connect, Fork, Create, Map, Load, Store, Nr}
+use Rattle.hp_model.specs.declared.step.Step.TheVariants.{Connect, Create, Df, Fork, Load, Map, Meminfo, Mount, Nr, Store}
+use Rattle.hp_model.specs.Machine.{committed_pages, counts_in, pool_of}
+use Rattle.hp_model.specs.NodeRows.{free_of, total_of}
 use Rattle.hp_model.specs.Plain.{plain_step}
-use Rattle.hp_model.specs.Promises.{is_backed_step, is_cut_off_step, map_at, seen_in, seen_over, shown_in, stored_over}
-use Rattle.hp_model.specs.State.{State}
+use Rattle.hp_model.specs.Plan.{Slot}
+use Rattle.hp_model.specs.Promises.{is_backed_step, is_cut_off_step, least_of, map_at, seen_in, seen_over, shown_in, stored_over, LeavesAll, SameLimits, Tells}
+use Rattle.hp_model.specs.State.{Node, State, slot_at, with_slot}
 use Rattle.hp_worked.proofs.WorkedWords.{machine}
 
 abbrev after_all : State → List Step → State
@@ -85,3 +90,53 @@ child_is_cut_off = refl
 
 child_is_refused : (plain_step robbed (Load 2 0 1 1 0 1)).0 ≡ Err TakenByOwner
 child_is_refused = refl
+
+-- ---- what the promises refuse: a pool without the pages, wrong numbers, a refusal that leaves something, other limits
+
+abbrev mounted : State
+mounted = after_all machine (Nr 4 ∷ Mount 2 (codes "size=3K,min_size=2K") ∷ Connect 1 0 ∷ Create 2 (codes "a") ∷ Map 1 2 (codes "a") 0 3 Shared Reserve ∷ [])
+
+abbrev without_pages : State
+without_pages = record mounted { nodes = map (λ (n : Node). record n { total = 0; surp = 0 }) mounted.nodes }
+
+minimum_there : nat_le (least_of (slot_at mounted 2) + committed_pages (with_slot mounted 2 None)) (total_of (pool_of mounted).nodes.rows) ≡ true
+minimum_there = refl
+
+minimum_not_there : nat_le (least_of (slot_at without_pages 2) + committed_pages (with_slot without_pages 2 None)) (total_of (pool_of without_pages).nodes.rows) ≡ false
+minimum_not_there = refl
+
+promised_pages_are_free : nat_le (counts_in mounted).rsvd (free_of (pool_of mounted).nodes.rows) ≡ true
+promised_pages_are_free = refl
+
+promised_pages_are_not_there : nat_le (counts_in without_pages).rsvd (free_of (pool_of without_pages).nodes.rows) ≡ false
+promised_pages_are_not_there = refl
+
+abbrev rsvd_in : Answer → ℕ
+rsvd_in (Numbers counts) = counts.rsvd
+rsvd_in other = 99
+
+abbrev used_in : Answer → ℕ
+used_in (Usage max min used inodes files) = used
+used_in other = 99
+
+abbrev files_on : Slot → ℕ
+files_on None = 0
+files_on (Some m) = length m.files
+
+rsvd_told_as_none : Tells mounted Meminfo (Ok (Numbers (record (counts_in mounted) { rsvd = 0 }))) → ⊥
+rsvd_told_as_none e = (let wrong : false ≡ true = subst (λ a. (rsvd_in a == 0) ≡ true) e refl in cc)
+
+usage_told_as_less : Tells mounted (Df 2) (Ok (Usage (Some 3) 2 2 None 1)) → ⊥
+usage_told_as_less e = (let wrong : false ≡ true = subst (λ a. (used_in a == 2) ≡ true) e refl in cc)
+
+usage_of_no_mount : Tells mounted (Df 3) (Ok (Usage None 0 0 None 0)) → ⊥
+usage_of_no_mount e = e
+
+refused_create_makes_a_file : LeavesAll mounted (Create 2 (codes "a/b")) (Err BadName) (plain_step mounted (Create 2 (codes "b"))).1 → ⊥
+refused_create_makes_a_file e = (let wrong : false ≡ true = subst (λ x. (files_on (slot_at x 2) == 2) ≡ true) e refl in cc)
+
+limit_forgotten : SameLimits (slot_at mounted 2) (Some (record { limits = record { max = None; min = 2; inodes = None }; files = [] })) → ⊥
+limit_forgotten e = (let wrong : true ≡ false = subst (λ (l : Limits). is_some l.max ≡ false) e refl in cc)
+
+mount_gone : SameLimits (slot_at mounted 2) None → ⊥
+mount_gone e = e
