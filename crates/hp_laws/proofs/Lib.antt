@@ -33,3 +33,5 @@ pub mod Small
 pub mod Seen
 pub mod Answered
 pub mod Limited
+pub mod Naming
+pub mod Made

@@ -3,7 +3,7 @@ use Rattle.std.specs.Prelude.{◌≡◌, ◌⊎◌, ℕ, ◌+◌, ◌<◌, ◌�
 use Rattle.std.specs.Bool.{MatchBool}
 use Rattle.std.specs.List.{slice_index_or}
 use Rattle.hp_model.specs.declared.answer.Answer.{Answer}
-use Rattle.hp_model.specs.declared.answer.Answer.TheVariants.{Numbers, PerNode, Usage}
+use Rattle.hp_model.specs.declared.answer.Answer.TheVariants.{MapNo, Numbers, PerNode, Usage}
 use Rattle.hp_model.specs.declared.event.Event.{Event}
 use Rattle.hp_model.specs.declared.event.Event.TheVariants.{Slot as OnSlot}
 use Rattle.hp_model.specs.declared.event.SlotEvent.TheVariants.{Mount as MountEvent}
@@ -14,12 +14,13 @@ use Rattle.hp_model.specs.declared.step.Intent.TheVariants.{Read, Write}
 use Rattle.hp_model.specs.declared.place.Place.{Place}
 use Rattle.hp_model.specs.declared.step.Sharing.TheVariants.{Shared}
 use Rattle.hp_model.specs.declared.step.Step.{Step}
-use Rattle.hp_model.specs.declared.step.Step.TheVariants.{Df, Fault, Fork, Load, Meminfo, Mount as MountStep, Nodes, Read as ReadStep, Store, Umount}
+use Rattle.hp_model.specs.declared.step.Step.TheVariants.{Create as CreateStep, Df, Fault, Fork, Load, Map as MapStep, Meminfo, Mount as MountStep, Nodes, Read as ReadStep, Store, Umount}
 use Rattle.hp_model.specs.Plan.{slot_usage, IsWithinLimit}
 use Rattle.hp_model.specs.CopyWrite.{holds}
 use Rattle.hp_model.specs.File.{File, Mount, cell_at, new_file}
 use Rattle.hp_model.specs.GiveBack.{without_task}
 use Rattle.hp_model.specs.Machine.{committed_pages, counts_in, pool_of}
+use Rattle.hp_model.specs.MakeMap.{new_map}
 use Rattle.hp_model.specs.Mapping.{Map, copy_of, is_map, is_shared, place_at}
 use Rattle.hp_model.specs.MountCounts.{usage_of}
 use Rattle.hp_model.specs.NodeRows.{total_of}
@@ -203,6 +204,26 @@ Tells s (Df k) (Ok a) = IsUsage (slot_at s k) a
 Tells s (ReadStep k name i offset count) (Ok a) = IsRead s.page_size (named_on (slot_at s k) name) i offset count a
 Tells s step reply = Unit {0}
 
+-- ---- what is made
+
+-- a map that was not there, of the file that the name means
+abbrev pub IsNewMap : (old new : Slot) → List ℕ → Map → Type 0
+IsNewMap old new name map =
+    (spot_on old map.task map.number ≡ None)
+    × ((s : Spot) × (spot_on new map.task map.number ≡ Some s) × (s.map ≡ map) × (named_on new name ≡ Some (s.file_no, s.file)))
+
+-- a file that was not there, without pages, entries and maps
+abbrev pub IsNewFile : (old new : Slot) → List ℕ → Type 0
+IsNewFile old new name = (named_on old name ≡ None) × ((place : ℕ) × (named_on new name ≡ Some (place, new_file (Some name))))
+
+-- a created file is new and empty; a map's number is one that the task did not use, and means a map of that file, range and sharing
+abbrev pub Makes : State → Step → Reply → State → Type 0
+Makes s (CreateStep k name) (Ok a) t = IsNewFile (slot_at s k) (slot_at t k) name
+Makes s (MapStep task k name a n sharing reserving) (Ok (MapNo number)) t =
+    IsNewMap (slot_at s k) (slot_at t k) name (new_map task number a n sharing reserving)
+Makes s (MapStep task k name a n sharing reserving) (Ok other) t = ⊥
+Makes s step reply t = Unit {0}
+
 -- ---- what a refusal leaves
 
 -- a mount that is refused memory after its grant: the nodes may then be as after the grant and its giving back
@@ -274,6 +295,8 @@ pub record IsPromised (s : State) (step : Step) (reply : Reply) (t : State) : Ty
   pub loads : ShowsMap s step reply
   -- and so do the steps that read counts, rows, a mount's numbers or a file
   pub answers : Tells s step reply
+  -- what a name and a map's number mean, once they are made
+  pub makes : Makes s step reply t
   -- a refused step leaves the whole machine as it was
   pub refused : LeavesAll s step reply t
   -- each file shows what it showed, but for what is stored through a shared map of it; only an umount ends files

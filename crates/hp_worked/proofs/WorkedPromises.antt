@@ -1,19 +1,21 @@
 -- What is promised of some steps, by computation: the tests and the bytes that the promises speak of.
-use Rattle.std.proofs.Common.{◌≡◌, subst, ℕ, ◌+◌, ◌==◌, true, false, None, Some, Ok, Err, List, [], ◌∷◌, length, take, map, nat_le, refl}
+use Rattle.std.proofs.Common.{◌≡◌, subst, ℕ, ◌+◌, ◌==◌, true, false, None, Option, Some, Ok, Err, List, [], ◌∷◌, length, take, map, nat_le, refl, ap, arith}
 use Rattle.std.specs.Prelude.{codes, is_some}
 use Rattle.hp_model.specs.declared.answer.Answer.{Answer}
-use Rattle.hp_model.specs.declared.answer.Answer.TheVariants.{Done, Numbers, Usage}
+use Rattle.hp_model.specs.declared.answer.Answer.TheVariants.{Done, MapNo, Numbers, Usage}
 use Rattle.hp_model.specs.declared.limits.Limits.{Limits}
 use Rattle.hp_model.specs.declared.refusal.Refusal.TheVariants.{BadName, NoPages, TakenByOwner}
 use Rattle.hp_model.specs.declared.step.Reserving.TheVariants.{Reserve, NoReserve}
 use Rattle.hp_model.specs.declared.step.Sharing.TheVariants.{Shared, Private}
 use Rattle.hp_model.specs.declared.step.Step.{Step}
 use Rattle.hp_model.specs.declared.step.Step.TheVariants.{Connect, Create, Df, Fork, Load, Map, Meminfo, Mount, Nr, Store}
+use Rattle.hp_model.specs.File.{File}
 use Rattle.hp_model.specs.Machine.{committed_pages, counts_in, pool_of}
 use Rattle.hp_model.specs.NodeRows.{free_of, total_of}
 use Rattle.hp_model.specs.Plain.{plain_step}
 use Rattle.hp_model.specs.Plan.{Slot}
-use Rattle.hp_model.specs.Promises.{is_backed_step, is_cut_off_step, least_of, map_at, seen_in, seen_over, shown_in, stored_over, LeavesAll, SameLimits, Tells}
+use Rattle.hp_model.specs.Promises.{is_backed_step, is_cut_off_step, least_of, map_at, seen_in, seen_over, shown_in, stored_over, LeavesAll, Makes, SameLimits, Tells}
+use Rattle.hp_model.specs.Spot.{Spot}
 use Rattle.hp_model.specs.State.{Node, State, slot_at, with_slot}
 use Rattle.hp_worked.proofs.WorkedWords.{machine}
 
@@ -140,3 +142,26 @@ limit_forgotten e = (let wrong : true ≡ false = subst (λ (l : Limits). is_som
 
 mount_gone : SameLimits (slot_at mounted 2) None → ⊥
 mount_gone e = e
+
+-- ---- a map of another file, and a file that is not kept
+
+abbrev file_of_spot : Option Spot → ℕ
+file_of_spot None = 99
+file_of_spot (Some s) = s.file_no
+
+abbrev file_of_name : Option (ℕ × File) → ℕ
+file_of_name None = 99
+file_of_name (Some f) = f.0
+
+mapped_on_another_file :
+    Makes shared (Map 1 0 (codes "a") 0 1 Shared NoReserve) (Ok (MapNo 4)) (plain_step shared (Map 1 0 (codes "b") 0 1 Shared NoReserve)).1 → ⊥
+mapped_on_another_file e =
+    (let there : 1 ≡ e.1.0.file_no = ap file_of_spot e.1.1 in
+    let named : 0 ≡ e.1.0.file_no = ap file_of_name e.1.3 in
+    absurd (omega (arith, there, named)))
+
+number_in_use : Makes shared (Map 1 0 (codes "a") 0 1 Shared NoReserve) (Ok (MapNo 2)) (plain_step shared (Map 1 0 (codes "a") 0 1 Shared NoReserve)).1 → ⊥
+number_in_use e = (let there : 1 ≡ 99 = ap file_of_spot e.0 in absurd (omega (arith, there)))
+
+created_and_forgotten : Makes shared (Create 0 (codes "c")) (Ok Done) shared → ⊥
+created_and_forgotten e = (let wrong : false ≡ true = ap is_some e.1.1 in cc)

@@ -1,10 +1,8 @@
 -- Trails made by hand, and receipts that join them or do not, by computation.
-use Rattle.std.proofs.Common.{◌≡◌, ◌≢◌, inl, inr, ℕ, zero, suc, ◌<◌, ◌≤◌, Bool, true, false, Option, None, Some, Ok, Err, List, [], ◌∷◌, refl, ap, arith, cond}
+use Rattle.std.proofs.Common.{◌≡◌, ◌≢◌, inl, inr, ℕ, zero, suc, ◌<◌, ◌≤◌, Bool, true, false, Option, None, Some, Ok, List, [], ◌∷◌, refl, ap, arith}
 use Rattle.std.specs.List.{All, slice_get, slice_index_or}
 use Rattle.std.proofs.lemmas.List.Elements.{All-cons, All-nil}
-use Rattle.hp_model.specs.declared.answer.Answer.{Answer}
 use Rattle.hp_model.specs.declared.answer.Answer.TheVariants.{Done, Home, MapNo, Number}
-use Rattle.hp_model.specs.declared.entry.Asked.{Asked}
 use Rattle.hp_model.specs.declared.entry.Part.{Part}
 use Rattle.hp_model.specs.declared.entry.Part.TheVariants.{Tasks, Slot as AtSlot, Pool as AtPool}
 use Rattle.hp_model.specs.declared.entry.PoolEntry.{PoolEntry}
@@ -19,20 +17,18 @@ use Rattle.hp_model.specs.declared.event.SlotEvent.TheVariants.{Create, Map as M
 use Rattle.hp_model.specs.declared.event.TableEvent.TheVariants.{Add, Find}
 use Rattle.hp_model.specs.declared.step.Sharing.TheVariants.{Shared}
 use Rattle.hp_model.specs.declared.step.Reserving.TheVariants.{Reserve}
-use Rattle.hp_model.specs.Differ.{WrongSection, WrongReceipt, ToldTwice, Untold, HasCircle, IsBefore, Differ, Has, entry_at, Asks}
-use Rattle.hp_model.specs.File.{with_file, new_file, Mount}
-use Rattle.hp_model.specs.JointRun.{keep, numbered, slot_part, told, Trails, slot_trail, Entry, InTasks, InSlot, InPool, Item, IsThere, IsOrder, IsTold, Joins, AreRuns, IsJointRun, event_of}
+use Rattle.hp_model.specs.Differ.{IsBefore, Differ, Has, entry_at}
+use Rattle.hp_model.specs.File.{with_file, new_file}
+use Rattle.hp_model.specs.JointRun.{keep, numbered, slot_part, told, Trails, slot_trail, Entry, InTasks, InSlot, InPool, Item, IsThere, Joins, AreRuns, IsJointRun}
 use Rattle.hp_model.specs.LocalRun.{IsLocalRun}
 use Rattle.hp_model.specs.Machine.{start, open_mount, pool_of}
 use Rattle.hp_model.specs.MakeMap.{mapped, with_new}
 use Rattle.hp_model.specs.Plan.{Slot, Choice, Reply}
 use Rattle.hp_model.specs.Pool.{section, granted_at}
-use Rattle.hp_model.specs.declared.section.Section.{Section}
 use Rattle.hp_model.specs.declared.section.Section.TheVariants.{Grant}
 use Rattle.hp_model.specs.PoolCounts.{Pool}
 use Rattle.hp_model.specs.Resize.{pool_event}
 use Rattle.hp_model.specs.State.{State, slot_at}
-use Rattle.hp_model.specs.Table.{Table}
 use Rattle.hp_laws.proofs.JoinedRun.{joined_law}
 use Rattle.hp_laws.proofs.StaysSettled.{start_is_settled}
 

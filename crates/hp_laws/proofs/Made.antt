@@ -1,0 +1,201 @@
+-- A created file and a new map are what their reply says.
+use Rattle.std.proofs.Common.{◌≡◌, ⊎_elim, subst, ℕ, ◌<◌, ◌||◌, Bool, true, false, not, None, Option, Some, Err, List, [], ◌∷◌, ◌++◌, length, drop, is_some, option_map, refl, sym, ap, ◌∙◌, get_or, if◌then◌else◌}
+use Rattle.std.specs.List.{flat_map, list_any, slice_index_or, slice_set}
+use Rattle.std.proofs.lemmas.Bool.{eq-eqb, false_from_ne_true, ltb-true}
+use Rattle.std.proofs.lemmas.List.{get_or-set_same}
+use Rattle.std.proofs.lemmas.Slice.Eq.{bytes_eq-Decides}
+use Rattle.std.proofs.lemmas.List.Folds.{list_any_at}
+use Rattle.hp_model.specs.declared.answer.Answer.TheVariants.{Done, MapNo}
+use Rattle.hp_model.specs.declared.refusal.Refusal.{Refusal}
+use Rattle.hp_model.specs.declared.refusal.Refusal.TheVariants.{BadLine, BadName, FileExists, NoSuchFile, NoSuchSlot, NoSuchTask}
+use Rattle.hp_model.specs.declared.step.Reserving.{Reserving}
+use Rattle.hp_model.specs.declared.step.Reserving.TheVariants.{Reserve}
+use Rattle.hp_model.specs.declared.step.Sharing.{Sharing}
+use Rattle.hp_model.specs.declared.step.Sharing.TheVariants.{Shared}
+use Rattle.hp_model.specs.declared.step.Step.{Step}
+use Rattle.hp_model.specs.declared.step.Step.TheVariants.{Create as CreateStep, Map as MapStep}
+use Rattle.hp_model.specs.declared.event.Event.TheVariants.{Slot as OnSlot}
+use Rattle.hp_model.specs.File.{File, Mount, maps_of, new_file, with_file}
+use Rattle.hp_model.specs.Lists.{found, one_on}
+use Rattle.hp_model.specs.MakeMap.{asked, mapped, new_map, next_number, numbers_of, with_new}
+use Rattle.hp_model.specs.Mapping.{Map, is_map}
+use Rattle.hp_model.specs.Plan.{Choice, Outcome, Refused, Answered, Finish, Plan, Reply, Slot, grant, unless}
+use Rattle.hp_model.specs.Promises.{IsNewFile, IsNewMap, Makes}
+use Rattle.hp_model.specs.State.{State, slot_at}
+use Rattle.hp_model.specs.Step.{IsBuiltStep, IsStep, on_slot}
+use Rattle.hp_model.specs.Event.{IsEvent}
+use Rattle.hp_laws.specs.Balance.{left_by}
+use Rattle.hp_model.specs.SlotEvent.{create_tests, file_named, has_name, is_name, map_file, map_tests, slot_event}
+use Rattle.hp_model.specs.declared.event.SlotEvent.TheVariants as slot
+use Rattle.hp_model.specs.Spot.{Spot, spot, spot_in}
+use Rattle.hp_model.proofs.Distinct.{or_assoc}
+use Rattle.hp_laws.proofs.Naming.{found_again, found_last, found_not, found_put, least_is_unused, number_used}
+use Rattle.hp_laws.proofs.Outcomes.{Always, always_test, event_ends, finding_goes, reply_of, slot_goes}
+use Rattle.hp_laws.proofs.Places.{found_place}
+use Rattle.hp_laws.proofs.SlotShows.{always_grant, always_unless, always_value}
+
+-- ---- a map's number is not used before
+
+any_append : {X : Type 0} (t : X → Bool) (xs ys : List X) → list_any t (xs ++ ys) ≡ (list_any t xs || list_any t ys)
+any_append t [] ys = refl
+any_append t (x ∷ xs) ys = ap (λ b. t x || b) (any_append t xs ys) ∙ or_assoc (t x) (list_any t xs) (list_any t ys)
+
+any_in_files : (t : Map → Bool) (fs : List File) → list_any t (flat_map (λ f. f.maps) fs) ≡ list_any (λ (f : File). list_any t f.maps) fs
+any_in_files t [] = refl
+any_in_files t (f ∷ fs) = any_append t f.maps (flat_map (λ f. f.maps) fs) ∙ ap (λ b. list_any t f.maps || b) (any_in_files t fs)
+
+none_there : {X : Type 0} (t : X → Bool) (xs : List X) (k : ℕ) (d : X) → k < length xs → list_any t xs ≡ false → t (get_or xs k d) ≡ false
+none_there t xs k d l none = false_from_ne_true (t (get_or xs k d)) (λ e. (let one = list_any_at t xs k d l e in cc))
+
+-- a map is found where its file is found, and it in there
+abbrev in_file : (Map → Bool) → Option (ℕ × File) → Option Spot
+in_file test None = None
+in_file test (Some f) = option_map (spot_in f) (found test f.1.maps)
+
+spot_in_file : (m : Mount) (test : Map → Bool) → spot m test ≡ in_file test (found (λ (f : File). list_any test f.maps) m.files)
+spot_in_file m test = by_found (found (λ (f : File). list_any test f.maps) m.files)
+  where
+    by_found : (o : Option (ℕ × File)) → (elim o [ None ↦ None | Some f ↦ option_map (spot_in f) (found test f.1.maps) ]) ≡ in_file test o
+    by_found None = refl
+    by_found (Some f) = refl
+
+spot_none : (m : Mount) (test : Map → Bool) → found (λ (f : File). list_any test f.maps) m.files ≡ None → spot m test ≡ None
+spot_none m test e = spot_in_file m test ∙ ap (in_file test) e
+
+spot_some : (m : Mount) (test : Map → Bool) (f : ℕ × File) (q : ℕ × Map) → found (λ (f : File). list_any test f.maps) m.files ≡ Some f → found test f.1.maps ≡ Some q
+    → spot m test ≡ Some (spot_in f q)
+spot_some m test f q e w = spot_in_file m test ∙ ap (in_file test) e ∙ ap (option_map (spot_in f)) w
+
+module _ (m : Mount) (task : ℕ) where
+  abbrev number : ℕ
+  number = next_number task m
+
+  abbrev has_it : File → Bool
+  has_it f = list_any (is_map task number) f.maps
+
+  unused : list_any has_it m.files ≡ false
+  unused = sym (any_in_files (is_map task number) m.files) ∙ number_used task number (maps_of m) ∙ least_is_unused (numbers_of task (maps_of m))
+
+  pub map_is_new : (name : List ℕ) (a n : ℕ) (sharing : Sharing) (reserving : Reserving) (f : ℕ × File) → file_named m name ≡ Some f
+      → IsNewMap (Some m) (Some (with_file m f.0 (mapped task number a n sharing reserving f.1))) name (new_map task number a n sharing reserving)
+  map_is_new name a n sharing reserving f is =
+      let new = new_map task number a n sharing reserving in
+      let g = mapped task number a n sharing reserving f.1 in
+      let at = found_place (has_name name) m.files f is in
+      let passes : is_map task number new ≡ true = rw (eq-eqb task task refl, eq-eqb number number refl) refl in
+      let old : list_any (is_map task number) f.1.maps ≡ false = ap has_it (sym (at.is f.1)) ∙ none_there has_it m.files f.0 f.1 at.within unused in
+      let has : has_it g ≡ true = any_append (is_map task number) f.1.maps (new ∷ []) ∙ rw (old, passes) refl in
+      let made : Spot = record { file_no = f.0; file = g; map_no = length f.1.maps; map = new } in (
+        spot_none m (is_map task number) (found_not has_it m.files unused),
+        (
+          made,
+          spot_some (with_file m f.0 g) (is_map task number) (f.0, g) (length f.1.maps, new) (found_put has_it m.files f.0 g at.within unused has)
+              (found_last (is_map task number) f.1.maps new old passes),
+          refl,
+          found_again (has_name name) m.files f g is at.passes,
+        ),
+      )
+
+-- ---- events
+
+abbrev MapMade : Slot → List ℕ → (task a n : ℕ) → Sharing → Reserving → Outcome → Type 0
+MapMade old name task a n sharing reserving (Refused r) = Unit {0}
+MapMade old name task a n sharing reserving (Answered (MapNo number) new) = IsNewMap old new name (new_map task number a n sharing reserving)
+MapMade old name task a n sharing reserving (Answered other new) = ⊥
+
+map_made : (size k : ℕ) (c : Choice) (old : Slot) (task home : ℕ) (name : List ℕ) (a n : ℕ) (sharing : Sharing) (reserving : Reserving)
+    → Always (MapMade old name task a n sharing reserving) (slot_event size k c old (slot.Map task home name a n sharing reserving))
+map_made size k c None task home name a n sharing reserving = tt
+map_made size k c (Some m) task home name a n sharing reserving =
+    let P = MapMade (Some m) name task a n sharing reserving in
+    always_value P (λ r. tt) (file_named m name) NoSuchFile (map_file c m task home a n sharing reserving)
+    (λ f is. (let done : Outcome = Answered (MapNo (next_number task m)) (Some (with_file m f.0 (mapped task (next_number task m) a n sharing reserving f.1))) in
+    always_unless P (λ r. tt) (map_tests m task a n) (grant c m home (asked sharing reserving a n f.1) done)
+    (always_grant P (λ r. tt) c m home (asked sharing reserving a n f.1) done (map_is_new m task name a n sharing reserving f is))))
+
+same_name : (name : List ℕ) → has_name name (new_file (Some name)) ≡ true
+same_name name = (bytes_eq-Decides name name).1 refl
+
+abbrev FileMade : Slot → List ℕ → Outcome → Type 0
+FileMade old name (Refused r) = Unit {0}
+FileMade old name (Answered a new) = IsNewFile old new name
+
+-- a file of the name is not there, and is found once it is made
+named_none : {X : Type 0} (o : Option X) → is_some o ≡ false → o ≡ None
+named_none None e = refl
+named_none (Some x) e = cc
+
+found_none : {X : Type 0} (t : X → Bool) (xs : List X) → found t xs ≡ None → list_any t xs ≡ false
+found_none t [] e = refl
+found_none {X = X} t (x ∷ xs) e = by_head (t x) refl (found t xs) refl e (found_none t xs)
+  where
+    by_head : (b : Bool) → t x ≡ b → (r : Option (ℕ × X)) → found t xs ≡ r → (if b then Some (0, x) else option_map one_on r) ≡ None → (found t xs ≡ None → list_any t xs ≡ false) → list_any t (x ∷ xs) ≡ false
+    by_head true is r was e rest = cc
+    by_head false is None was e rest = rw (is, rest was) refl
+    by_head false is (Some p) was e rest = cc
+
+create_made : (size k : ℕ) (c : Choice) (old : Slot) (name : List ℕ) → Always (FileMade old name) (slot_event size k c old (slot.Create name))
+create_made size k c None name = tt
+create_made size k c (Some m) name =
+    let P = FileMade (Some m) name in
+    let f : File = new_file (Some name) in
+    let done : Plan = Finish (Answered Done (Some (with_new m f))) in
+    always_test P (not (is_name name)) BadName (unless (drop 1 (create_tests c m name)) done) tt
+    (λ good. always_test P (is_some (file_named m name)) FileExists (unless (drop 2 (create_tests c m name)) done) tt
+    (λ absent. (let none = named_none (file_named m name) absent in
+    always_unless P (λ r. tt) (drop 2 (create_tests c m name)) done
+    (none, (length m.files, found_last (has_name name) m.files f (found_none (has_name name) m.files none) (same_name name))))))
+
+-- ---- steps
+
+module _ (s : State) (reply : Reply) (t : State) where
+  -- a refusal makes nothing
+  makes_none : (step : Step) (r : Refusal) → reply ≡ Err r → Makes s step reply t
+  makes_none step r same = subst (λ x. Makes s step x t) (sym same) (by_step step)
+    where
+      by_step : (step : Step) → Makes s step (Err r) t
+      by_step (CreateStep k name) = tt
+      by_step (MapStep task k name a n sharing reserving) = tt
+      by_step other = tt
+
+  -- what the event leaves in its slot
+  left_there : (k : ℕ) (n : Slot) → k < length s.slots → t.slots ≡ slice_set s.slots k n → slot_at t k ≡ n
+  left_there k n l slots = ap (λ (xs : List Slot). slice_index_or xs k None) slots ∙ get_or-set_same s.slots k n None l
+
+  create_makes : (k : ℕ) (name : List ℕ) → IsBuiltStep s (CreateStep k name) reply t → Makes s (CreateStep k name) reply t
+  create_makes k name is = ⊎_elim (λ left. makes_none (CreateStep k name) NoSuchSlot left.replied) by_event (slot_goes s (length s.slots) k (slot.Create name) reply t is)
+    where
+      by_outcome : k < length s.slots → (o : Outcome) → FileMade (slot_at s k) name o → t.slots ≡ slice_set s.slots k (left_by (slot_at s k) o) → Makes s (CreateStep k name) (reply_of o) t
+      by_outcome l (Refused r) h slots = tt
+      by_outcome l (Answered a new) h slots = subst (λ n. IsNewFile (slot_at s k) n name) (sym (left_there k new l slots)) h
+
+      by_event : IsEvent s (OnSlot k (slot.Create name)) reply t → Makes s (CreateStep k name) reply t
+      by_event it =
+          let ends = event_ends (FileMade (slot_at s k) name) s k (slot.Create name) reply t (λ c. create_made s.page_size k c (slot_at s k) name) it in
+          subst (λ x. Makes s (CreateStep k name) x t) (sym ends.replied) (by_outcome (ltb-true k (length s.slots) it.1.0) ends.outcome ends.holds ends.slots)
+
+  map_makes : (task k : ℕ) (name : List ℕ) (a n : ℕ) → IsBuiltStep s (MapStep task k name a n Shared Reserve) reply t → Makes s (MapStep task k name a n Shared Reserve) reply t
+  map_makes task k name a n is =
+      ⊎_elim (λ left. makes_none step NoSuchTask left.replied)
+      (λ found. ⊎_elim (λ left. makes_none step NoSuchSlot left.replied) (by_event found.0) (slot_goes s (length s.slots) k (slot.Map task found.0 name a n Shared Reserve) reply t found.1))
+      (finding_goes s task (λ home. on_slot (length s.slots) k (slot.Map task home name a n Shared Reserve)) reply t is)
+    where
+      step : Step
+      step = MapStep task k name a n Shared Reserve
+
+      by_outcome : k < length s.slots → (o : Outcome) → MapMade (slot_at s k) name task a n Shared Reserve o → t.slots ≡ slice_set s.slots k (left_by (slot_at s k) o) → Makes s (MapStep task k name a n Shared Reserve) (reply_of o) t
+      by_outcome l (Refused r) h slots = tt
+      by_outcome l (Answered (MapNo number) new) h slots = subst (λ x. IsNewMap (slot_at s k) x name (new_map task number a n Shared Reserve)) (sym (left_there k new l slots)) h
+      by_outcome l (Answered other new) h slots = absurd h
+
+      by_event : (home : ℕ) → IsEvent s (OnSlot k (slot.Map task home name a n Shared Reserve)) reply t → Makes s (MapStep task k name a n Shared Reserve) reply t
+      by_event home it =
+          let ends = event_ends (MapMade (slot_at s k) name task a n Shared Reserve) s k (slot.Map task home name a n Shared Reserve) reply t (λ c. map_made s.page_size k c (slot_at s k) task home name a n Shared Reserve) it in
+          subst (λ x. Makes s (MapStep task k name a n Shared Reserve) x t) (sym ends.replied) (by_outcome (ltb-true k (length s.slots) it.1.0) ends.outcome ends.holds ends.slots)
+
+  pub step_makes : (step : Step) → IsStep s step reply t → Makes s step reply t
+  unfolding IsStep
+  step_makes (CreateStep k name) is = create_makes k name is
+  step_makes (MapStep task k name a n Shared Reserve) is = map_makes task k name a n is
+  step_makes (MapStep task k name a n sharing reserving) is = makes_none (MapStep task k name a n sharing reserving) BadLine is.0
+  step_makes other is = tt
