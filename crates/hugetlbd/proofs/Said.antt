@@ -1,5 +1,5 @@
 -- What is said where something went wrong.
-use Rattle.std.proofs.Common.{◌≡◌, ◌∙◌, ◌++◌, ◌∷◌, ℕ, List, [], codes, refl, sym, ap, subst, append_assoc, append-nil, Option, Result, Ok, Err, OnOk, IfErr, IsOk, true, false, arith, IsTrue, ◌↔◌, ◌≢◌, inl, inr}
+use Rattle.std.proofs.Common.{◌≡◌, ◌++◌, ℕ, List, codes, refl, sym, ap, append_assoc, Option, Result, Ok, Err, OnOk, IfErr, IsOk, true, false, arith, IsTrue, ◌↔◌, ◌≢◌, inl, inr}
 use Rattle.std.specs.Io.KnownBytes.{Appends}
 use Rattle.clap.specs.Values.{kind_of}
 use Rattle.clap.specs.declared.error.Error.{Error}
@@ -7,7 +7,7 @@ use Rattle.clap.specs.declared.error.kind.ErrorKind.TheVariants.{DisplayHelp, Di
 use Rattle.hp_wire.specs.Sent.{AppendsFront}
 use Rattle.hp_wire.specs.Served.{text_of_fault}
 use Rattle.hp_wire.specs.declared.fault.RunFault.TheVariants as fault
-use Rattle.hp_wire.proofs.Known.{appends_then, appends_same, front_whole, front_then, front_more}
+use Rattle.hp_wire.proofs.Known.{appends_then, front_whole, front_then, front_more}
 use Rattle.hugetlbd.specs.Program.{IsHelp, Refuses, Says, named}
 use Rattle.hugetlbd.specs.declared.config.TheConstants.{HELP}
 use Rattle.hugetlbd.specs.declared.settings.Wrong.TheVariants.{Parse}

@@ -68,16 +68,23 @@ abbrev pub SaysEnd : Type 0 → Option (List ℕ) → Option (List ℕ) → Resu
 SaysEnd sure before after (Ok count) = after ≡ before
 SaysEnd sure before after (Err fault) = Says sure before after (named (text_of_fault fault))
 
--- of words that give no configuration: the line of what is wrong with them, and of help that can't be written; clap's refusal has a text of its own
+-- of words that give no configuration: the line of what is wrong with them, and of help that can't be
+-- written; clap's refusal has a text of its own
 abbrev pub SaysWrong : Type 0 → Option (List ℕ) → Option (List ℕ) → Wrong → ℕ → Type 0
-SaysWrong sure before after Memory status = Says sure before after (named (text_of_fault fault.Memory))
+SaysWrong sure before after Memory status =
+    Says sure before after (named (text_of_fault fault.Memory))
 SaysWrong sure before after (Parse error) status =
-    IsHelp error → (status ≡ 0 → after ≡ before) × (status ≡ 1 → Says sure before after (named (text_of_fault fault.Write)))
-SaysWrong sure before after (BadValue name) status = Says sure before after (named (codes "bad value for --" ++ name.now))
-SaysWrong sure before after OptionFirst status = Says sure before after (named (codes "option before subcommand"))
+    IsHelp error → (status ≡ 0 → after ≡ before)
+    × (status ≡ 1 → Says sure before after (named (text_of_fault fault.Write)))
+SaysWrong sure before after (BadValue name) status =
+    Says sure before after (named (codes "bad value for --" ++ name.now))
+SaysWrong sure before after OptionFirst status =
+    Says sure before after (named (codes "option before subcommand"))
 
--- Words that give no configuration end in this status. The output is as it was, but for help: that is written at status 0, and a front of it else; a sure end takes it.
-pub record Refuses {W : Type 0} (contents : W → Option (List ℕ)) (is_sure : W → Type 0) (old new : W) (said : Type 0) (before after : Option (List ℕ)) (wrong : Wrong) (status : ℕ) : Type 0 where
+-- Words that give no configuration end in this status. The output is as it was, but for help: that is
+-- written at status 0, and a front of it else; a sure end takes it.
+pub record Refuses {W : Type 0} (contents : W → Option (List ℕ)) (is_sure : W → Type 0) (old new : W)
+    (said : Type 0) (before after : Option (List ℕ)) (wrong : Wrong) (status : ℕ) : Type 0 where
   pub ends : IsStatusOfWrong wrong status
   pub quiet : (AsksForHelp wrong → ⊥) → new ≡ old
   pub help : status ≡ 0 → Appends (contents old) (contents new) HELP.now

@@ -36,19 +36,29 @@ pub fn program<'a, S: AsStr, R: Source, W: Sink, E: Sink>(
     output: &mut W,
     faults: &mut E,
 ) -> u8
-    ensures ended { ((c : Choice) × Asks (map S.text words.entry.now) c × IsWithinLimits c × (ended : Result ℕ TheFault) × (result ≡ status_of ended)
-        × Run (chosen c) (R.remaining input.old) (R.remaining input.new) (R.is_sure input.old × W.is_sure output.old) (W.contents output.old) (W.contents output.new) ended
+    ensures ended { let asked = map S.text words.entry.now in
+        ((c : Choice) × Asks asked c × IsWithinLimits c
+        × (ended : Result ℕ TheFault) × (result ≡ status_of ended)
+        × Run (chosen c) (R.remaining input.old) (R.remaining input.new)
+        (R.is_sure input.old × W.is_sure output.old)
+        (W.contents output.old) (W.contents output.new) ended
         × SaysEnd (E.is_sure faults.old) (E.contents faults.old) (E.contents faults.new) ended)
-        ⊎ ((wrong : TheWrong) × IsRefusedFor (map S.text words.entry.now) wrong × (input.new ≡ input.old)
-        × Refuses W.contents W.is_sure output.old output.new (E.is_sure faults.old) (E.contents faults.old) (E.contents faults.new) wrong result) }
+        ⊎ ((wrong : TheWrong) × IsRefusedFor asked wrong × (input.new ≡ input.old)
+        × Refuses W.contents W.is_sure output.old output.new
+        (E.is_sure faults.old) (E.contents faults.old) (E.contents faults.new) wrong result) }
     ensures right { (c : Choice) → Asks (map S.text words.entry.now) c → IsWithinLimits c → result ≢ 2 }
-    ensures script { result ≡ 0 → ((input.new ≡ input.old) × (takes hugetlbd (map S.text words.entry.now) ≡ false) × Appends (W.contents output.old) (W.contents output.new) HELP.now)
-        ⊎ ((c : Choice) × Asks (map S.text words.entry.now) c
-        × IfSome (R.remaining input.old) (λ script. AnswersScript (chosen c) script (W.contents output.old) (W.contents output.new))) }
-    ensures usual { length words.entry.now ≤ 1 → result ≡ 0
-        → IfSome (R.remaining input.old) (λ script. AnswersScript (chosen usual) script (W.contents output.old) (W.contents output.new)) }
-    ensures alone { length words.entry.now ≤ 1 → ((ended : Result ℕ TheFault) × (result ≡ status_of ended)
-        × Run (chosen usual) (R.remaining input.old) (R.remaining input.new) (R.is_sure input.old × W.is_sure output.old) (W.contents output.old) (W.contents output.new) ended)
+    ensures script { let asked = map S.text words.entry.now in
+        result ≡ 0 → ((input.new ≡ input.old) × (takes hugetlbd asked ≡ false)
+        × Appends (W.contents output.old) (W.contents output.new) HELP.now)
+        ⊎ ((c : Choice) × Asks asked c × IfSome (R.remaining input.old) (λ script.
+        AnswersScript (chosen c) script (W.contents output.old) (W.contents output.new))) }
+    ensures usual { length words.entry.now ≤ 1 → result ≡ 0 → IfSome (R.remaining input.old) (λ script.
+        AnswersScript (chosen usual) script (W.contents output.old) (W.contents output.new)) }
+    ensures alone { length words.entry.now ≤ 1
+        → ((ended : Result ℕ TheFault) × (result ≡ status_of ended)
+        × Run (chosen usual) (R.remaining input.old) (R.remaining input.new)
+        (R.is_sure input.old × W.is_sure output.old)
+        (W.contents output.old) (W.contents output.new) ended)
         ⊎ ((result ≡ 1) × (input.new ≡ input.old) × (output.new ≡ output.old)) }
 {
     match config(alloc, words) {
@@ -113,7 +123,8 @@ fn blanks() -> Blanks
     }
 }
 
-/// The status for the way that a run ended. A fault is named on `faults`; where that fails too, the status alone tells.
+/// The status for the way that a run ended. A fault is named on `faults`; where that fails too, the
+/// status alone tells.
 pub fn report<E: Sink>(ended: Result<u64, RunFault>, faults: &mut E) -> u8
     ensures status { result ≡ status_of ended }
     ensures says { SaysEnd (E.is_sure faults.old) (E.contents faults.old) (E.contents faults.new) ended }
@@ -127,10 +138,11 @@ pub fn report<E: Sink>(ended: Result<u64, RunFault>, faults: &mut E) -> u8
     }
 }
 
-/// Says why the words give no configuration, and gives the status. Help goes to `output`, and anything else to `faults`;
-/// where `faults` fails, the status alone tells.
+/// Says why the words give no configuration, and gives the status. Help goes to `output`, and
+/// anything else to `faults`; where `faults` fails, the status alone tells.
 pub fn refuse<W: Sink, E: Sink>(wrong: &Wrong, output: &mut W, faults: &mut E) -> u8
-    ensures { Refuses W.contents W.is_sure output.old output.new (E.is_sure faults.old) (E.contents faults.old) (E.contents faults.new) wrong.now result }
+    ensures { Refuses W.contents W.is_sure output.old output.new
+        (E.is_sure faults.old) (E.contents faults.old) (E.contents faults.new) wrong.now result }
 {
     match wrong {
         Wrong::Memory => report(Err(RunFault::Memory), faults),
@@ -155,14 +167,17 @@ pub fn refuse<W: Sink, E: Sink>(wrong: &Wrong, output: &mut W, faults: &mut E) -
 
 // Names what went wrong on a line of its own, as far as `faults` takes it.
 fn name<E: Sink>(what: &str, of: &str, faults: &mut E)
-    ensures { Says (E.is_sure faults.old) (E.contents faults.old) (E.contents faults.new) (named (what.now ++ of.now)) }
+    ensures { Says (E.is_sure faults.old) (E.contents faults.old) (E.contents faults.new)
+        (named (what.now ++ of.now)) }
 {
     let _ = write_line(what, of, faults);
 }
 
 fn write_line<E: Sink>(what: &str, of: &str, faults: &mut E) -> Result<(), RunFault>
-    ensures sent { OnOk result (Appends (E.contents faults.old) (E.contents faults.new) (named (what.now ++ of.now))) }
-    ensures cut { IfErr result (λ e. AppendsFront (E.contents faults.old) (E.contents faults.new) (named (what.now ++ of.now))) }
+    ensures sent { OnOk result (Appends (E.contents faults.old) (E.contents faults.new)
+        (named (what.now ++ of.now))) }
+    ensures cut { IfErr result (λ e. AppendsFront (E.contents faults.old) (E.contents faults.new)
+        (named (what.now ++ of.now))) }
     ensures sure { E.is_sure faults.old → IsOk result }
 {
     write_whole(faults, b"hugetlbd: ")?;

@@ -1,4 +1,4 @@
-use Rattle.std.proofs.Common.{◌≡◌, codes, rules}
+use Rattle.std.proofs.Common.{◌≡◌, rules}
 use Rattle.std.proofs.lemmas.Result.{err_from_is_err_and, IfErr-weaker}
 use Rattle.hugetlbd.proofs.Said.{cut_first, cut_second, cut_third, cut_fourth}
 use Rattle.hugetlbd.proofs.program.write_line.Goals as goal
