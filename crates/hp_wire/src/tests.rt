@@ -171,6 +171,7 @@ impl Sink for Nowhere {
 struct Client<'a> {
     /// What it sends, and how many bytes of replies it has then got.
     pieces: &'a [(&'a [u8], usize)],
+    sent: usize,
     wanted: usize,
     written: &'a Cell<usize>,
     hangs: bool,
@@ -179,10 +180,10 @@ struct Client<'a> {
 impl Read for Client<'_> {
     fn read(&mut self, buf: &mut [u8]) -> io::Result<usize> {
         self.hangs |= self.written.get() != self.wanted;
-        let Some(((piece, replies), rest)) = self.pieces.split_first() else {
+        let Some((piece, replies)) = self.pieces.get(self.sent) else {
             return Ok(0);
         };
-        self.pieces = rest;
+        self.sent += 1;
         self.wanted = *replies;
         let mut piece = *piece;
         piece.read(buf)
@@ -354,6 +355,7 @@ fn all_replies_are_written_before_the_next_read(rt: HostRuntime) -> Result<(), F
             (b"nr 1\nnr 2\nnr 3\n\n", 40),
             (b"nr", 40),
         ],
+        sent: 0,
         wanted: 0,
         written: &written,
         hangs: false,
