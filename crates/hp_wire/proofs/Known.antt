@@ -1,16 +1,18 @@
 -- Known bytes that grow again, and replies to lines after lines.
-use Rattle.std.proofs.Common.{◌≡◌, ℕ, List, [], ◌∷◌, ◌++◌, ◌+◌, ◌≤◌, length, take, drop, refl, sym, ◌∙◌, ap, subst, arith, append_assoc, Option, Some, None, take-add, append-nil}
-use Rattle.std.proofs.Math.Seq.{take-append-add, take-length}
+use Rattle.std.proofs.Common.{◌≡◌, ℕ, List, [], ◌∷◌, ◌++◌, ◌+◌, ◌≤◌, length, take, drop, refl, sym, ◌∙◌, ap, subst, arith, append_assoc, Option, Some, None, take-add, append-nil, Result, Ok, Err, inl, inr, true, false}
+use Rattle.std.proofs.Math.Seq.{take-append-add, take-append_seam, take-length}
+use Rattle.std.proofs.lemmas.List.{take-append-drop}
 use Rattle.std.proofs.Common.{◌-◌, length-drop}
 use Rattle.std.proofs.lemmas.Grind.{flat_map-append}
 use Rattle.std.specs.Io.KnownBytes.{Appends}
 use Rattle.hp_model.specs.Plan.{Reply}
 use Rattle.hp_model.specs.Lines.{Line}
-use Rattle.hp_model.specs.Reading.{step_of}
+use Rattle.hp_model.specs.Reading.{step_of, IsReadAs}
 use Rattle.hp_model.specs.Writing.{text, line_of}
 use Rattle.hp_model.specs.Text.{AnswersStep, AnswersLines, IsTextOfReplies}
+use Rattle.hp_model.specs.declared.refusal.Refusal.{Refusal}
 use Rattle.hp_model.specs.declared.step.Step.{Step}
-use Rattle.hp_wire.specs.Answered.{Gains, Answered, AnsweredInPart, Ran, RanInPart}
+use Rattle.hp_wire.specs.Answered.{AnswersRead, Gains, Answered, AnsweredInPart, Ran, RanInPart}
 use Rattle.hp_wire.specs.Sent.{AppendsFront}
 
 pub appends_then : (a b c : Option (List ℕ)) (xs ys : List ℕ) → Appends a b xs → Appends b c ys → Appends a c (xs ++ ys)
@@ -25,6 +27,21 @@ appends_none (Some a) = sym (append-nil a)
 
 pub appends_same : (a b : Option (List ℕ)) (xs ys : List ℕ) → xs ≡ ys → Appends a b xs → Appends a b ys
 appends_same a b xs ys e h = subst (λ (zs : List ℕ). Appends a b zs) e h
+
+pub front_whole : (a b : Option (List ℕ)) (xs : List ℕ) → Appends a b xs → AppendsFront a b xs
+front_whole a b xs h = (length xs, appends_same a b xs (take (length xs) xs) (sym (take-length xs)) h)
+
+pub front_then : (a b c : Option (List ℕ)) (xs ys : List ℕ) → Appends a b xs → AppendsFront b c ys → AppendsFront a c (xs ++ ys)
+front_then a b c xs ys h k =
+    (length xs + k.0, appends_same a c (xs ++ take k.0 ys) (take (length xs + k.0) (xs ++ ys)) (sym (take-append-add xs ys k.0)) (appends_then a b c xs (take k.0 ys) h k.1))
+
+pub front_more : (a b : Option (List ℕ)) (xs rest all : List ℕ) → xs ++ rest ≡ all → AppendsFront a b xs → AppendsFront a b all
+front_more a b xs rest all e h =
+    let n = length (take h.0 xs) in
+    let cut : take h.0 xs ++ (drop h.0 xs ++ rest) ≡ all =
+    sym (append_assoc (take h.0 xs) (drop h.0 xs) rest) ∙ ap (λ (zs : List ℕ). zs ++ rest) (take-append-drop h.0 xs) ∙ e in
+    let same : take h.0 xs ≡ take n all = sym (take-append_seam (take h.0 xs) (drop h.0 xs ++ rest)) ∙ ap (take n) cut in
+    (n, appends_same a b (take h.0 xs) (take n all) same h.1)
 
 pub appends_more : (a b c : Option (List ℕ)) (at n : ℕ) (bytes : List ℕ) → Appends a b (take at bytes) → Appends b c (take n (drop at bytes)) → Appends a c (take (at + n) bytes)
 appends_more a b c at n bytes h k = appends_same a c (take at bytes ++ take n (drop at bytes)) (take (at + n) bytes) (sym (take-add at n bytes)) (appends_then a b c (take at bytes) (take n (drop at bytes)) h k)
@@ -85,13 +102,18 @@ answered_cut may_answer page s ls m ks a b c o p h k = record {
   first = refl;
   text = h.text;
   replies = h.replies;
-  written = (
-    length h.gained.sent + k.0,
-    appends_same a c (h.gained.sent ++ take k.0 p) (take (length h.gained.sent + k.0) (o ++ h.text))
-        (sym (ap (take (length h.gained.sent + k.0)) h.gained.same ∙ take-append-add h.gained.sent p k.0))
-        (appends_then a b c h.gained.sent (take k.0 p) h.gained.written k.1),
-  );
+  written = subst (λ (zs : List ℕ). AppendsFront a c zs) (sym h.gained.same) (front_then a b c h.gained.sent p h.gained.written k);
 }
+
+-- the answer to what a line was read as answers the line
+pub answers_read : {S : Type 0} (may_answer : S → Step → Reply → S → Type 0) (s : S) (line read : Result Step Refusal) (reply : Reply) (t : S)
+    → IsReadAs read line → AnswersRead may_answer s read reply t → AnswersStep may_answer s line reply t
+answers_read {S} may_answer s (Ok step) read reply t (inl same) h = inl (subst (λ (r : Result Step Refusal). AnswersRead may_answer s r reply t) same h)
+answers_read {S} may_answer s (Ok step) read reply t (inr lacks) h =
+    let left = subst (λ (r : Result Step Refusal). AnswersRead may_answer s r reply t) lacks.2 h in
+    inr (lacks.0, left.0, left.1)
+answers_read {S} may_answer s (Err refusal) read reply t (inl same) h = subst (λ (r : Result Step Refusal). AnswersRead may_answer s r reply t) same h
+answers_read may_answer s (Err refusal) read reply t (inr lacks) h = (let never : false ≡ true = lacks.1 in cc)
 
 -- a line that was answered, after room was made
 pub answered_one : {S : Type 0} (may_answer : S → Step → Reply → S → Type 0) (page : ℕ) (s : S) (line : Line) (reply : Reply) (t : S) (a b : Option (List ℕ)) (o p q : List ℕ)
@@ -137,11 +159,7 @@ ran_cut {S} may_answer page s ls m ks t a b c h k = record {
   first = ap (λ (xs : List Line). ls ++ xs) k.first ∙ sym (append_assoc ls k.done k.rest);
   text = h.text ++ k.text;
   replies = text_then may_answer page s ls m h.text k.done t k.text h.replies k.replies;
-  written = (
-    length h.text + k.written.0,
-    appends_same a c (h.text ++ take k.written.0 k.text) (take (length h.text + k.written.0) (h.text ++ k.text))
-        (sym (take-append-add h.text k.text k.written.0)) (appends_then a b c h.text (take k.written.0 k.text) h.written k.written.1),
-  );
+  written = front_then a b c h.text k.text h.written k.written;
 }
 
 -- what waited is written after the lines were answered

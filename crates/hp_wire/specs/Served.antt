@@ -1,5 +1,5 @@
 -- Runs over an input.
-use Rattle.std.specs.Prelude.{◌≡◌, ◌≤◌, ℕ, ◌+◌, List, [], take, length, Option, Result, Ok, Err, zero, suc, ◌∷◌, ◌⊎◌, nat_le, if◌then◌else◌}
+use Rattle.std.specs.Prelude.{◌≡◌, ◌≤◌, ℕ, ◌+◌, List, [], take, length, Option, Result, Ok, Err, zero, suc, ◌∷◌, ◌⊎◌, nat_le, if◌then◌else◌, codes}
 use Rattle.std.specs.List.{flat_map}
 use Rattle.hp_model.specs.Profile.{most_input_bytes, most_line_bytes}
 use Rattle.hp_model.specs.Writing.{line_of}
@@ -33,6 +33,13 @@ Serves may_answer page old new before after input (Err Read) = Ran may_answer pa
 Serves may_answer page old new before after input (Err TooLong) = (length input ≡ most_input_bytes + 1) × Ran may_answer page old (ended_lines (take most_input_bytes input)) new before after
 -- the steps that were done stand, and a front of the text of their replies is written
 Serves may_answer page old new before after input (Err Write) = RanInPart may_answer page old (lines input) new before after
+
+-- what is said of the end of a run
+abbrev pub text_of_fault : RunFault → List ℕ
+text_of_fault Memory = codes "out of memory"
+text_of_fault Read = codes "read failed"
+text_of_fault Write = codes "write failed"
+text_of_fault TooLong = codes "input too long"
 
 -- a run ended for want of memory, or at the limit of an input
 abbrev pub IsMemoryOrTooLong : RunFault → Type 0

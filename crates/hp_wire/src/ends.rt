@@ -1,10 +1,12 @@
 //! What lines are read from and replies are written to.
-ghost use Rattle.std.specs.Prelude.{◌≡◌, ◌<◌, length, IsOk, IfOk};
+ghost use Rattle.std.specs.Prelude.{◌≡◌, ◌<◌, length, IsOk, IfOk, IfErr, OnOk};
 ghost use Rattle.std.specs.Io.{ReadsAtMost, WritesAtMost};
-ghost use Rattle.std.specs.Io.KnownBytes.{Keeps, ReadConsumes, WriteAppends};
+ghost use Rattle.std.specs.Io.KnownBytes.{Appends, Keeps, ReadConsumes, WriteAppends};
+ghost use Rattle.hp_wire.specs.Sent.{AppendsFront};
 
+use crate::fault::RunFault;
 use std::io;
-use std::io::{Read, Write};
+use std::io::{Read, Stderr, Stdin, Stdout, Write};
 
 /// A reader that says whether a read of it can fail.
 pub trait Source: Read {
@@ -47,38 +49,37 @@ impl Sink for Vec<u8> {
     }
 }
 
-/// Any reader or writer of std, which may fail.
-#[derive(Drop)]
-pub struct Outside<T>(pub T);
-
-impl<R: Read> Read for Outside<R> {
-    ghost remaining = { λ r. R.remaining r.0 };
-
-    fn read(&mut self, buf: &mut [u8]) -> io::Result<usize> {
-        self.0.read(buf)
-    }
-}
-
-impl<R: Read> Source for Outside<R> {
+impl Source for Stdin {
     fn read_some(&mut self, buf: &mut [u8]) -> io::Result<usize> {
-        self.0.read(buf)
+        self.read(buf)
     }
 }
 
-impl<W: Write> Write for Outside<W> {
-    ghost contents = { λ w. W.contents w.0 };
-
-    fn write(&mut self, buf: &[u8]) -> io::Result<usize> {
-        self.0.write(buf)
-    }
-
-    fn flush(&mut self) -> io::Result<()> {
-        self.0.flush()
-    }
-}
-
-impl<W: Write> Sink for Outside<W> {
+impl Sink for Stdout {
     fn write_some(&mut self, buf: &[u8]) -> io::Result<usize> {
-        self.0.write(buf)
+        self.write(buf)
     }
+}
+
+impl Sink for Stderr {
+    fn write_some(&mut self, buf: &[u8]) -> io::Result<usize> {
+        self.write(buf)
+    }
+}
+
+/// Writes all the bytes. `Write` says that a write failed or took none, and then a front of them is written.
+pub fn write_whole<W: Sink>(writer: &mut W, bytes: &[u8]) -> Result<(), RunFault>
+    ensures sent { OnOk result (Appends (W.contents writer.old) (W.contents writer.new) bytes.now) }
+    ensures cut { IfErr result (λ e. (e ≡ RunFault.Write) × AppendsFront (W.contents writer.old) (W.contents writer.new) bytes.now) }
+    ensures sure { W.is_sure writer.old → IsOk result }
+    ensures stays { W.is_sure writer.old → W.is_sure writer.new }
+{
+    let mut at = 0;
+    while at < bytes.len() {
+        match writer.write_some(&bytes[at..]) {
+            Ok(n) if n > 0 => at += n,
+            _ => return Err(RunFault::Write),
+        }
+    }
+    Ok(())
 }

@@ -2,23 +2,24 @@
 ghost use Rattle.std.specs.Prelude.{◌≡◌, ◌≢◌, IsOk, ◌+◌, ◌-◌, ◌<◌, ◌≤◌, [], ◌∷◌, length, take, drop, vec_capacity, OnOk, IfOk, IfErr, Err, nat_le, if◌then◌else◌};
 ghost use Rattle.std.specs.Io.KnownBytes.{Appends, Consumes, IsAtEnd, Keeps};
 ghost use Rattle.hp_model.specs.Writing.{IsWithinLimits};
-ghost use Rattle.hp_model.specs.Reading.{step_of, step_of_bytes};
+ghost use Rattle.hp_model.specs.Reading.{step_of};
 ghost use Rattle.hp_model.specs.Lines.{ended, ended_lines, after_lines};
 ghost use Rattle.hp_model.specs.Text.{AnswersStep};
 ghost use Rattle.hp_wire.specs.Sent.{AppendsFront};
-ghost use Rattle.hp_wire.specs.Answered.{Answered, AnsweredInPart, Gains, Ran, RanInPart};
+ghost use Rattle.hp_wire.specs.Answered.{AnswersRead, Answered, AnsweredInPart, Gains, Ran, RanInPart};
 ghost use Rattle.hp_wire.specs.Served.{Serves, unended_by, text_of_refusals};
 ghost use Rattle.std.specs.Prelude.{ℕ, List, vec_len, ◌^◌};
 ghost use Rattle.hp_options.specs.Output.{HasRoom, Adds};
 ghost use Rattle.hp_model.specs.Writing.{line_of};
 
-use crate::ends::{Sink, Source};
+use crate::ends::{Sink, Source, write_whole};
 use crate::fault::RunFault;
 use crate::reading::step_of_line;
 use crate::writing::{LONGEST, line_of_reply};
 use hp_model::answer::Reply;
 use hp_model::refusal::Refusal;
 use hp_model::service::Service;
+use hp_model::step::Step;
 use hp_options::pieces::place_of;
 use std::alloc::{AllocError, Global};
 
@@ -310,16 +311,17 @@ fn reply_to<S: Service>(alloc: Global, service: &mut S, line: &[u8]) -> Reply
     if line.len() > LINE_LIMIT {
         return Err(Refusal::LineTooLong);
     }
-    answer(alloc, service, line)
+    let read = step_of_line(alloc, line);
+    answer(service, read)
 }
 
-fn answer<S: Service>(alloc: Global, service: &mut S, line: &[u8]) -> Reply
-    requires { length line.now ≤ 1024 }
-    ensures answered { AnswersStep S.may_answer service.old (step_of_bytes line.now) result service.new }
+// The machine's reply to the step that was read, or why none was.
+fn answer<S: Service>(service: &mut S, read: Result<Step, Refusal>) -> Reply
+    ensures answered { AnswersRead S.may_answer service.old read result service.new }
     ensures same_page { S.page service.new ≡ S.page service.old }
     ensures limits { IsWithinLimits result }
 {
-    let step = step_of_line(alloc, line)?;
+    let step = read?;
     service.call(&step)
 }
 
@@ -331,23 +333,7 @@ fn send<W: Sink>(writer: &mut W, out: &mut Vec<u8>) -> Result<(), RunFault>
     ensures sure { W.is_sure writer.old → IsOk result }
     ensures stays { W.is_sure writer.old → W.is_sure writer.new }
 {
-    write_out(writer, out.as_slice())?;
+    write_whole(writer, out.as_slice())?;
     out.clear();
-    Ok(())
-}
-
-fn write_out<W: Sink>(writer: &mut W, bytes: &[u8]) -> Result<(), RunFault>
-    ensures sent { OnOk result (Appends (W.contents writer.old) (W.contents writer.new) bytes.now) }
-    ensures cut { IfErr result (λ e. (e ≡ RunFault.Write) × AppendsFront (W.contents writer.old) (W.contents writer.new) bytes.now) }
-    ensures sure { W.is_sure writer.old → IsOk result }
-    ensures stays { W.is_sure writer.old → W.is_sure writer.new }
-{
-    let mut at = 0;
-    while at < bytes.len() {
-        match writer.write_some(&bytes[at..]) {
-            Ok(n) if n > 0 => at += n,
-            _ => return Err(RunFault::Write),
-        }
-    }
     Ok(())
 }

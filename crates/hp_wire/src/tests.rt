@@ -2,7 +2,7 @@
 
 ghost use Rattle.hp_model.specs.Writing.{HasSmallAnswer};
 
-use crate::ends::{Outside, Sink, Source};
+use crate::ends::{Sink, Source};
 use crate::fault::RunFault;
 use crate::reading::step_of_line;
 use crate::running::run_lines;
@@ -14,6 +14,7 @@ use hp_model::refusal::Refusal;
 use hp_model::service::Service;
 use hp_model::step::Step;
 use std::alloc::Global;
+use std::cell::Cell;
 use std::io;
 use std::io::{Read, Write};
 use std::test::Fail;
@@ -164,6 +165,61 @@ impl Sink for Nowhere {
     }
 }
 
+/// A client that sends a piece at each read, and looks whether all replies to the lines before it
+/// are written.
+#[derive(Drop)]
+struct Client<'a> {
+    /// What it sends, and how many bytes of replies it has then got.
+    pieces: &'a [(&'a [u8], usize)],
+    sent: usize,
+    wanted: usize,
+    written: &'a Cell<usize>,
+    hangs: bool,
+}
+
+impl Read for Client<'_> {
+    fn read(&mut self, buf: &mut [u8]) -> io::Result<usize> {
+        self.hangs |= self.written.get() != self.wanted;
+        let Some((piece, replies)) = self.pieces.get(self.sent) else {
+            return Ok(0);
+        };
+        self.sent += 1;
+        self.wanted = *replies;
+        let mut piece = *piece;
+        piece.read(buf)
+    }
+}
+
+impl Source for Client<'_> {
+    fn read_some(&mut self, buf: &mut [u8]) -> io::Result<usize> {
+        self.read(buf)
+    }
+}
+
+/// A writer that counts what it takes.
+#[derive(Drop)]
+struct Counter<'a> {
+    written: &'a Cell<usize>,
+}
+
+impl Write for Counter<'_> {
+    fn write(&mut self, buf: &[u8]) -> io::Result<usize> {
+        self.written
+            .set(self.written.get().saturating_add(buf.len()));
+        Ok(buf.len())
+    }
+
+    fn flush(&mut self) -> io::Result<()> {
+        Ok(())
+    }
+}
+
+impl Sink for Counter<'_> {
+    fn write_some(&mut self, buf: &[u8]) -> io::Result<usize> {
+        self.write(buf)
+    }
+}
+
 // The replies to an input, and how many lines it has.
 fn replies_to(alloc: Global, input: &[u8]) -> Result<(Vec<u8>, u64), RunFault> {
     let mut rest = input;
@@ -280,16 +336,36 @@ fn writes_a_front_before_a_write_fails(rt: HostRuntime) -> Result<(), Fail> {
 }
 
 #[test]
-fn runs_over_any_reader_and_writer(rt: HostRuntime) -> Result<(), Fail> {
-    let alloc = rt.alloc();
-    let mut reader = Outside(SCRIPT);
-    let mut writer = Outside(Vec::new(alloc));
-    let mut sample = Sample { calls: 0 };
-    let count = run_lines(alloc, &mut reader, &mut writer, &mut sample)?;
-    assert_eq!(rt; writer.0.as_slice(), REPLIES);
-    assert_eq!(rt; count, 11);
+fn runs_over_a_sure_writer(rt: HostRuntime) -> Result<(), Fail> {
     let mut rest = SCRIPT;
-    assert_eq!(rt; run_lines(alloc, &mut rest, &mut Nowhere, &mut sample)?, 11);
+    let mut sample = Sample { calls: 0 };
+    let count = run_lines(rt.alloc(), &mut rest, &mut Nowhere, &mut sample)?;
+    assert_eq!(rt; count, 11);
+    Ok(())
+}
+
+// A client that waits for its replies before it sends more would hang else.
+#[test]
+fn all_replies_are_written_before_the_next_read(rt: HostRuntime) -> Result<(), Fail> {
+    let written = Cell::new(0);
+    let mut client = Client {
+        pieces: &[
+            (b"nr 4\nconn", 5),
+            (b"ect 1 0\n", 8),
+            (b"nr 1\nnr 2\nnr 3\n\n", 40),
+            (b"nr", 40),
+        ],
+        sent: 0,
+        wanted: 0,
+        written: &written,
+        hangs: false,
+    };
+    let mut replies = Counter { written: &written };
+    let mut sample = Sample { calls: 0 };
+    let count = run_lines(rt.alloc(), &mut client, &mut replies, &mut sample)?;
+    assert_eq!(rt; count, 7);
+    assert!(rt; !client.hangs);
+    assert_eq!(rt; written.get(), 57);
     Ok(())
 }
 

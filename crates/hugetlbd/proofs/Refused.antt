@@ -64,7 +64,7 @@ none_bad options name c sets fits (inr (inr h)) =
     number_not_bad _ c.slots _ IsSlots sets.slots fits.slots (subst (λ (n : Text). IsBad n CanBeSlots options) h.0 h.1)
 
 -- right words are refused only for want of memory
-only_memory : (words : List Text) (w : Wrong) (c : Choice) → IsRefusedFor words w → Asks words c → IsWithinLimits c → w ≡ Memory
+pub only_memory : (words : List Text) (w : Wrong) (c : Choice) → IsRefusedFor words w → Asks words c → IsWithinLimits c → w ≡ Memory
 only_memory words Memory c refused a fits = refl
 only_memory words (Parse error) c refused a fits = absurd (subst (IsAmong (kind_of error)) a.faultless refused.1)
 only_memory words OptionFirst c refused a fits = (let both : true ≡ false = sym refused.1 ∙ a.behind in cc)

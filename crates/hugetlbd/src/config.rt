@@ -15,6 +15,19 @@ use hp_wire::words::number_of;
 use std::alloc::{AllocError, Global};
 use std::convert::AsStr;
 
+/// What is printed where the words ask for help.
+pub const HELP: &str = "\
+Usage: hugetlbd [script] [OPTIONS]
+
+Answers the lines on standard input on a new machine, one reply for each, on standard output.
+
+Options:
+      --frames <N,..>  frames of each node: 1 to 4 nodes of 1 to 65,536 [default: 4,4]
+      --page <BYTES>   bytes of a page: a power of two from 1,024 to 2,097,152 [default: 1024]
+      --slots <N>      slots for mounts: 1 to 64, the first of them mounted [default: 4]
+  -h, --help           print this help
+";
+
 /// What the words ask for. The first word is the program's name.
 ///
 /// Refused, by the first of these that holds:

@@ -7,7 +7,6 @@ mod settings;
 #[cfg(test)]
 mod tests;
 
-use hp_wire::ends::Outside;
 use settings::Wrong;
 use std::alloc::Global;
 use std::env::{self, Env};
@@ -15,8 +14,8 @@ use std::io::{self, ErrorKind, Write};
 use std::process::ExitCode;
 
 fn main(rt: HostRuntime) -> ExitCode {
-    let mut input = Outside(rt.stdin());
-    let mut output = Outside(rt.stdout());
+    let mut input = rt.stdin();
+    let mut output = rt.stdout();
     let mut faults = rt.stderr();
     let alloc = rt.alloc();
     let status = match words(&rt) {

@@ -1,18 +1,20 @@
 //! The program: what the words ask for, the machine, a script on it, and a status.
-ghost use Rattle.std.specs.Prelude.{◌≡◌, ◌≢◌, ◌≤◌, ◌⊎◌, ℕ, Result, false, map, length, IfSome, OnOk};
+ghost use Rattle.std.specs.Prelude.{◌≡◌, ◌≢◌, ◌≤◌, ◌⊎◌, ◌++◌, ℕ, Result, false, map, length, IfErr, IfSome, IsOk, OnOk};
+ghost use Rattle.std.specs.Io.KnownBytes.{Appends};
 ghost use Rattle.clap.specs.Takes.{takes};
+ghost use Rattle.hp_wire.specs.Sent.{AppendsFront};
 ghost use Rattle.hp_wire.specs.declared.fault.RunFault.{RunFault as TheFault};
 ghost use Rattle.hugetlbd.specs.Asked.{Asks, IsRefusedFor, hugetlbd};
 ghost use Rattle.hugetlbd.specs.Config.{Choice, IsWithinLimits, chosen, choice_of, usual};
-ghost use Rattle.hugetlbd.specs.Program.{AnswersScript, Run, IsStatusOfWrong, status_of};
+ghost use Rattle.hugetlbd.specs.Program.{AnswersScript, Refuses, Run, Says, SaysEnd, named, status_of};
 ghost use Rattle.hugetlbd.specs.declared.settings.Wrong.{Wrong as TheWrong};
 
-use crate::config::config;
+use crate::config::{HELP, config};
 use crate::settings::{Machine, Wrong};
 use hp_model::naming::Naming;
 use hp_pool::Blanks;
 use hp_system::System;
-use hp_wire::ends::{Sink, Source};
+use hp_wire::ends::{Sink, Source, write_whole};
 use hp_wire::fault::RunFault;
 use hp_wire::script::run_script;
 use std::alloc::Global;
@@ -25,25 +27,39 @@ use std::sync::ledger::Blank;
 /// with.
 ///
 /// A script on `input` is answered on `output` by the machine of the words: 0, or 1 with the reason on `faults`. Help
-/// is written to `output`, with 0. A wrong command line is named on `faults`, with 2.
-pub fn program<'a, S: AsStr, R: Source, W: Sink, E: Write>(
+/// is written to `output`, with 0. A wrong command line is named on `faults`, with 2. Where no script runs and no help
+/// is asked for, `output` is as it was.
+pub fn program<'a, S: AsStr, R: Source, W: Sink, E: Sink>(
     alloc: Global,
     words: &'a [S],
     input: &mut R,
     output: &mut W,
     faults: &mut E,
 ) -> u8
-    ensures ended { ((c : Choice) × Asks (map S.text words.entry.now) c × IsWithinLimits c × (ended : Result ℕ TheFault) × (result ≡ status_of ended)
-        × Run (chosen c) (R.remaining input.old) (R.remaining input.new) (R.is_sure input.old × W.is_sure output.old) (W.contents output.old) (W.contents output.new) ended)
-        ⊎ ((wrong : TheWrong) × IsRefusedFor (map S.text words.entry.now) wrong × IsStatusOfWrong wrong result × (input.new ≡ input.old) × (result ≡ 2 → output.new ≡ output.old)) }
+    ensures ended { let asked = map S.text words.entry.now in
+        ((c : Choice) × Asks asked c × IsWithinLimits c
+        × (ended : Result ℕ TheFault) × (result ≡ status_of ended)
+        × Run (chosen c) (R.remaining input.old) (R.remaining input.new)
+        (R.is_sure input.old × W.is_sure output.old)
+        (W.contents output.old) (W.contents output.new) ended
+        × SaysEnd (E.is_sure faults.old) (E.contents faults.old) (E.contents faults.new) ended)
+        ⊎ ((wrong : TheWrong) × IsRefusedFor asked wrong × (input.new ≡ input.old)
+        × Refuses W.contents W.is_sure output.old output.new
+        (E.is_sure faults.old) (E.contents faults.old) (E.contents faults.new) wrong result) }
     ensures right { (c : Choice) → Asks (map S.text words.entry.now) c → IsWithinLimits c → result ≢ 2 }
-    ensures script { result ≡ 0 → ((input.new ≡ input.old) × (takes hugetlbd (map S.text words.entry.now) ≡ false)) ⊎ ((c : Choice) × Asks (map S.text words.entry.now) c
-        × IfSome (R.remaining input.old) (λ script. AnswersScript (chosen c) script (W.contents output.old) (W.contents output.new))) }
-    ensures usual { length words.entry.now ≤ 1 → result ≡ 0
-        → IfSome (R.remaining input.old) (λ script. AnswersScript (chosen usual) script (W.contents output.old) (W.contents output.new)) }
-    ensures alone { length words.entry.now ≤ 1 → ((ended : Result ℕ TheFault) × (result ≡ status_of ended)
-        × Run (chosen usual) (R.remaining input.old) (R.remaining input.new) (R.is_sure input.old × W.is_sure output.old) (W.contents output.old) (W.contents output.new) ended)
-        ⊎ ((result ≡ 1) × (input.new ≡ input.old)) }
+    ensures script { let asked = map S.text words.entry.now in
+        result ≡ 0 → ((input.new ≡ input.old) × (takes hugetlbd asked ≡ false)
+        × Appends (W.contents output.old) (W.contents output.new) HELP.now)
+        ⊎ ((c : Choice) × Asks asked c × IfSome (R.remaining input.old) (λ script.
+        AnswersScript (chosen c) script (W.contents output.old) (W.contents output.new))) }
+    ensures usual { length words.entry.now ≤ 1 → result ≡ 0 → IfSome (R.remaining input.old) (λ script.
+        AnswersScript (chosen usual) script (W.contents output.old) (W.contents output.new)) }
+    ensures alone { length words.entry.now ≤ 1
+        → ((ended : Result ℕ TheFault) × (result ≡ status_of ended)
+        × Run (chosen usual) (R.remaining input.old) (R.remaining input.new)
+        (R.is_sure input.old × W.is_sure output.old)
+        (W.contents output.old) (W.contents output.new) ended)
+        ⊎ ((result ≡ 1) × (input.new ≡ input.old) × (output.new ≡ output.old)) }
 {
     match config(alloc, words) {
         Ok(config) => {
@@ -107,24 +123,26 @@ fn blanks() -> Blanks
     }
 }
 
-/// The status for the way that a run ended. A fault is named on `faults`; where that fails too, the status alone tells.
-pub fn report<E: Write>(ended: Result<u64, RunFault>, faults: &mut E) -> u8
-    ensures { result ≡ status_of ended }
+/// The status for the way that a run ended. A fault is named on `faults`; where that fails too, the
+/// status alone tells.
+pub fn report<E: Sink>(ended: Result<u64, RunFault>, faults: &mut E) -> u8
+    ensures status { result ≡ status_of ended }
+    ensures says { SaysEnd (E.is_sure faults.old) (E.contents faults.old) (E.contents faults.new) ended }
 {
     match ended {
         Ok(_) => 0,
         Err(fault) => {
-            let _ = writeln!(faults, "hugetlbd: {fault}");
+            name(fault.text(), "", faults);
             1
         }
     }
 }
 
-/// Says why the words give no configuration, and gives the status. Help goes to `output`, and anything else to `faults`;
-/// where `faults` fails, the status alone tells.
-pub fn refuse<W: Write, E: Write>(wrong: &Wrong, output: &mut W, faults: &mut E) -> u8
-    ensures status { IsStatusOfWrong wrong.now result }
-    ensures quiet { result ≡ 2 → output.new ≡ output.old }
+/// Says why the words give no configuration, and gives the status. Help goes to `output`, and
+/// anything else to `faults`; where `faults` fails, the status alone tells.
+pub fn refuse<W: Sink, E: Sink>(wrong: &Wrong, output: &mut W, faults: &mut E) -> u8
+    ensures { Refuses W.contents W.is_sure output.old output.new
+        (E.is_sure faults.old) (E.contents faults.old) (E.contents faults.new) wrong.now result }
 {
     match wrong {
         Wrong::Memory => report(Err(RunFault::Memory), faults),
@@ -132,17 +150,38 @@ pub fn refuse<W: Write, E: Write>(wrong: &Wrong, output: &mut W, faults: &mut E)
             let _ = write!(faults, "{error}");
             2
         }
-        Wrong::Parse(help) => match write!(output, "{help}") {
+        Wrong::Parse(_) => match write_whole(output, HELP.as_bytes()) {
             Ok(()) => 0,
-            Err(_) => report(Err(RunFault::Write), faults),
+            Err(fault) => report(Err(fault), faults),
         },
-        Wrong::BadValue(name) => {
-            let _ = writeln!(faults, "hugetlbd: bad value for --{name}");
+        Wrong::BadValue(option) => {
+            name("bad value for --", option, faults);
             2
         }
         Wrong::OptionFirst => {
-            let _ = writeln!(faults, "hugetlbd: option before subcommand");
+            name("option before subcommand", "", faults);
             2
         }
     }
+}
+
+// Names what went wrong on a line of its own, as far as `faults` takes it.
+fn name<E: Sink>(what: &str, of: &str, faults: &mut E)
+    ensures { Says (E.is_sure faults.old) (E.contents faults.old) (E.contents faults.new)
+        (named (what.now ++ of.now)) }
+{
+    let _ = write_line(what, of, faults);
+}
+
+fn write_line<E: Sink>(what: &str, of: &str, faults: &mut E) -> Result<(), RunFault>
+    ensures sent { OnOk result (Appends (E.contents faults.old) (E.contents faults.new)
+        (named (what.now ++ of.now))) }
+    ensures cut { IfErr result (λ e. AppendsFront (E.contents faults.old) (E.contents faults.new)
+        (named (what.now ++ of.now))) }
+    ensures sure { E.is_sure faults.old → IsOk result }
+{
+    write_whole(faults, b"hugetlbd: ")?;
+    write_whole(faults, what.as_bytes())?;
+    write_whole(faults, of.as_bytes())?;
+    write_whole(faults, b"\n")
 }

@@ -6,7 +6,6 @@ mod words;
 
 use crate::program::{program, report};
 use ends::{Closed, Cut, Endless};
-use hp_wire::ends::Outside;
 use hp_wire::fault::RunFault;
 use rows::{ROWS, STORED};
 use std::alloc::Global;
@@ -136,7 +135,7 @@ fn a_failed_write_is_status_1(rt: HostRuntime) -> Result<(), Fail> {
     let alloc = rt.alloc();
     let mut input = b"nr 4\nconnect 1 0\n".as_slice();
     let mut faults = Vec::new(alloc);
-    let status = program(alloc, WORDS, &mut input, &mut Outside(Closed), &mut faults);
+    let status = program(alloc, WORDS, &mut input, &mut Closed, &mut faults);
     assert_eq!(rt; status, 1);
     assert_eq!(rt; faults.as_slice(), b"hugetlbd: write failed\n".as_slice());
     Ok(())

@@ -1,6 +1,6 @@
 //! Readers and writers that fail, and an input without an end.
 
-use hp_wire::ends::Source;
+use hp_wire::ends::{Sink, Source};
 use std::io;
 use std::io::{Read, Write};
 
@@ -36,6 +36,12 @@ impl Write for Closed {
 
     fn flush(&mut self) -> io::Result<()> {
         Ok(())
+    }
+}
+
+impl Sink for Closed {
+    fn write_some(&mut self, buf: &[u8]) -> io::Result<usize> {
+        self.write(buf)
     }
 }
 

@@ -124,16 +124,10 @@ fn help_is_no_fault(rt: HostRuntime) -> Result<(), Fail> {
     let mut faults = Vec::new(rt.alloc());
     let status = program(rt.alloc(), words, &mut rest, &mut text, &mut faults);
     assert_eq!(rt; status, 0);
-    assert!(rt; text.starts_with(b"Usage: hugetlbd [OPTIONS] [COMMAND]\n"));
-    assert!(rt; text.ends_with(b"Print help\n"));
+    assert!(rt; text.starts_with(b"Usage: hugetlbd [script] [OPTIONS]\n"));
+    assert!(rt; text.ends_with(b"print this help\n"));
     assert!(rt; faults.is_empty());
-    let status = program(
-        rt.alloc(),
-        words,
-        &mut rest,
-        &mut hp_wire::ends::Outside(Closed),
-        &mut faults,
-    );
+    let status = program(rt.alloc(), words, &mut rest, &mut Closed, &mut faults);
     assert_eq!(rt; status, 1);
     assert_eq!(rt; faults.as_slice(), b"hugetlbd: write failed\n".as_slice());
     Ok(())

@@ -3,7 +3,7 @@ use Rattle.hugetlbd.specs.Asked.{Asks}
 use Rattle.hugetlbd.specs.Config.{Choice, choice_of, chosen, usual}
 use Rattle.hugetlbd.proofs.Runs.{answered_well, answered_as, ends_below_2, ran_as}
 use Rattle.hugetlbd.proofs.Refused.{not_taken, right_is_1}
-use Rattle.hugetlbd.proofs.Usual.{few_is_1, few_texts, no_words}
+use Rattle.hugetlbd.proofs.Usual.{few_is_1, few_is_no_help, few_texts, no_words}
 use Rattle.hugetlbd.proofs.program.program.Goals as goal
 
 pub returns-in-Ok-clause-script : goal.returns-in-Ok-clause-script
@@ -12,7 +12,7 @@ returns-in-Ok-clause-script g c zero =
       choice_of c.machine-machine.result,
       subst (λ (k : Choice). Asks (map g.S.AsStr.text c.args.words.now) k) (sym c.machine-machine.ensures) c.in-Ok.ensures.asked,
       answered_well _ (g.R.Read.remaining c.args.input.now) (g.W.Write.contents c.args.output.now) (g.W.Write.contents c.run_machine-ended.new.output)
-          c.run_machine-ended.result c.report.result c.report.ensures c.run_machine-ended.ensures.script zero,
+          c.run_machine-ended.result c.report.result c.report.ensures.status c.run_machine-ended.ensures.script zero,
     )
 
 pub returns-in-Ok-clause-usual : goal.returns-in-Ok-clause-usual
@@ -20,31 +20,41 @@ returns-in-Ok-clause-usual g c few zero =
     let same = ap chosen c.machine-machine.ensures ∙ no_words (map g.S.AsStr.text c.args.words.now) _ (few_texts _ _ few) c.in-Ok.ensures.asked in
     answered_as _ (chosen usual) (g.R.Read.remaining c.args.input.now) (g.W.Write.contents c.args.output.now) (g.W.Write.contents c.run_machine-ended.new.output)
     same (answered_well _ (g.R.Read.remaining c.args.input.now) (g.W.Write.contents c.args.output.now) (g.W.Write.contents c.run_machine-ended.new.output)
-    c.run_machine-ended.result c.report.result c.report.ensures c.run_machine-ended.ensures.script zero)
+    c.run_machine-ended.result c.report.result c.report.ensures.status c.run_machine-ended.ensures.script zero)
 
 pub returns-in-Ok-clause-right : goal.returns-in-Ok-clause-right
-returns-in-Ok-clause-right g c choice asked fits = ends_below_2 c.run_machine-ended.result c.report.result c.report.ensures
+returns-in-Ok-clause-right g c choice asked fits = ends_below_2 c.run_machine-ended.result c.report.result c.report.ensures.status
 
 pub returns-in-Ok-clause-alone : goal.returns-in-Ok-clause-alone
 returns-in-Ok-clause-alone g c few =
     let same = ap chosen c.machine-machine.ensures ∙ no_words (map g.S.AsStr.text c.args.words.now) _ (few_texts _ _ few) c.in-Ok.ensures.asked in
-    inl (c.run_machine-ended.result, c.report.ensures, ran_as same c.run_machine-ended.ensures.run)
+    inl (c.run_machine-ended.result, c.report.ensures.status, ran_as same c.run_machine-ended.ensures.run)
 
 pub returns-in-Err-clause-ended : goal.returns-in-Err-clause-ended
-returns-in-Err-clause-ended g c = inr (c.in-Err.wrong, c.in-Err.ensures.refused, c.refuse.ensures.status, refl, c.refuse.ensures.quiet)
+returns-in-Err-clause-ended g c = inr (c.in-Err.wrong, c.in-Err.ensures.refused, refl, c.refuse.ensures)
 
 pub returns-in-Err-clause-right : goal.returns-in-Err-clause-right
 returns-in-Err-clause-right g c choice asked fits two =
-    omega (arith, two, right_is_1 _ c.in-Err.wrong c.refuse.result choice c.in-Err.ensures.refused c.refuse.ensures.status asked fits)
+    omega (arith, two, right_is_1 _ c.in-Err.wrong c.refuse.result choice c.in-Err.ensures.refused c.refuse.ensures.ends asked fits)
 
 pub returns-in-Err-clause-script : goal.returns-in-Err-clause-script
 returns-in-Err-clause-script g c zero =
-    inl (refl, not_taken (map g.S.AsStr.text c.args.words.now) c.in-Err.wrong c.refuse.result c.in-Err.ensures.refused c.refuse.ensures.status zero)
+    let words = map g.S.AsStr.text c.args.words.now in
+    inl (
+      refl,
+      not_taken words c.in-Err.wrong c.refuse.result c.in-Err.ensures.refused c.refuse.ensures.ends zero,
+      c.refuse.ensures.help zero,
+    )
 
 pub returns-in-Err-clause-usual : goal.returns-in-Err-clause-usual
 returns-in-Err-clause-usual g c few zero =
-    absurd (omega (arith, zero, few_is_1 _ c.in-Err.wrong c.refuse.result (few_texts g.S.AsStr.text c.args.words.now few) c.in-Err.ensures.refused c.refuse.ensures.status))
+    absurd (omega (arith, zero, few_is_1 _ c.in-Err.wrong c.refuse.result (few_texts g.S.AsStr.text c.args.words.now few) c.in-Err.ensures.refused c.refuse.ensures.ends))
 
 pub returns-in-Err-clause-alone : goal.returns-in-Err-clause-alone
 returns-in-Err-clause-alone g c few =
-    inr (few_is_1 _ c.in-Err.wrong c.refuse.result (few_texts g.S.AsStr.text c.args.words.now few) c.in-Err.ensures.refused c.refuse.ensures.status, refl)
+    let texts = few_texts g.S.AsStr.text c.args.words.now few in
+    inr (
+      few_is_1 _ c.in-Err.wrong c.refuse.result texts c.in-Err.ensures.refused c.refuse.ensures.ends,
+      refl,
+      c.refuse.ensures.quiet (few_is_no_help _ c.in-Err.wrong texts c.in-Err.ensures.refused),
+    )

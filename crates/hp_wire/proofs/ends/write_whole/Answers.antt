@@ -1,5 +1,5 @@
 use Rattle.hp_wire.proofs.Known.{appends_rest, within_rest}
-use Rattle.hp_wire.proofs.running.write_out.Goals as goal
+use Rattle.hp_wire.proofs.ends.write_whole.Goals as goal
 
 pub loop-at-preserved : goal.loop-at-preserved
 loop-at-preserved g c = record {

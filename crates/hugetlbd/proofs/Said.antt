@@ -1,0 +1,67 @@
+-- What is said where something went wrong.
+use Rattle.std.proofs.Common.{◌≡◌, ◌++◌, ℕ, List, codes, refl, sym, ap, append_assoc, Option, Result, Ok, Err, OnOk, IfErr, IsOk, true, false, arith, IsTrue, ◌↔◌, ◌≢◌, inl, inr}
+use Rattle.std.specs.Io.KnownBytes.{Appends}
+use Rattle.clap.specs.Values.{kind_of}
+use Rattle.clap.specs.declared.error.Error.{Error}
+use Rattle.clap.specs.declared.error.kind.ErrorKind.TheVariants.{DisplayHelp, DisplayVersion}
+use Rattle.hp_wire.specs.Sent.{AppendsFront}
+use Rattle.hp_wire.specs.Served.{text_of_fault}
+use Rattle.hp_wire.specs.declared.fault.RunFault.TheVariants as fault
+use Rattle.hp_wire.proofs.Known.{appends_then, front_whole, front_then, front_more}
+use Rattle.hugetlbd.specs.Program.{IsHelp, Refuses, Says, named}
+use Rattle.hugetlbd.specs.declared.config.TheConstants.{HELP}
+use Rattle.hugetlbd.specs.declared.settings.Wrong.TheVariants.{Parse}
+
+-- a text that is written part after part is cut within one of them
+cut_at : (a b c : Option (List ℕ)) (first part rest all : List ℕ) → first ++ part ++ rest ≡ all → Appends a b first → AppendsFront b c part → AppendsFront a c all
+cut_at a b c first part rest all e h k = front_more a c (first ++ part) rest all e (front_then a b c first part h k)
+
+pub cut_first : (a b : Option (List ℕ)) (what of : List ℕ) → AppendsFront a b (codes "hugetlbd: ") → AppendsFront a b (named (what ++ of))
+cut_first a b what of k = front_more a b (codes "hugetlbd: ") ((what ++ of) ++ codes "\n") (named (what ++ of)) refl k
+
+pub cut_second : (a b c : Option (List ℕ)) (what of : List ℕ) → Appends a b (codes "hugetlbd: ") → AppendsFront b c what → AppendsFront a c (named (what ++ of))
+cut_second a b c what of h k =
+    cut_at a b c (codes "hugetlbd: ") what (of ++ codes "\n") (named (what ++ of)) (ap (λ (zs : List ℕ). codes "hugetlbd: " ++ zs) (sym (append_assoc what of (codes "\n")))) h k
+
+pub cut_third : (a b c d : Option (List ℕ)) (what of : List ℕ) → Appends a b (codes "hugetlbd: ") → Appends b c what → AppendsFront c d of → AppendsFront a d (named (what ++ of))
+cut_third a b c d what of h k m =
+    cut_at a c d (codes "hugetlbd: " ++ what) of (codes "\n") (named (what ++ of)) refl (appends_then a b c (codes "hugetlbd: ") what h k) m
+
+pub cut_fourth : (a b c d e : Option (List ℕ)) (what of : List ℕ) → Appends a b (codes "hugetlbd: ") → Appends b c what → Appends c d of → AppendsFront d e (codes "\n")
+    → AppendsFront a e (named (what ++ of))
+cut_fourth a b c d e what of h k m n =
+    front_then a d e (codes "hugetlbd: " ++ what ++ of) (codes "\n") (appends_then a c d (codes "hugetlbd: " ++ what) of (appends_then a b c (codes "hugetlbd: ") what h k) m) n
+
+-- and it is whole where no write fails
+pub says_of : {X Y : Type 0} (sure : Type 0) (a b : Option (List ℕ)) (text : List ℕ) (result : Result X Y) → OnOk result (Appends a b text) → IfErr result (λ e. AppendsFront a b text)
+    → (sure → IsOk result) → Says sure a b text
+says_of sure a b text (Ok x) h k s = (front_whole a b text h, λ i. h)
+says_of sure a b text (Err e) h k s = (k, λ i. (let never : false ≡ true = s i in cc))
+
+asked_for : (error : Error) → (IsTrue false ↔ ((kind_of error ≢ DisplayHelp) × (kind_of error ≢ DisplayVersion))) → (IsHelp error → ⊥) → ⊥
+asked_for error asked not = (let never : false ≡ true = asked.1 (λ help. not (inl help), λ version. not (inr version)) in cc)
+
+-- the help was written
+pub shown : {W : Type 0} (contents : W → Option (List ℕ)) (is_sure : W → Type 0) (old new : W) (said : Type 0) (before : Option (List ℕ)) (error : Error)
+    → (IsTrue false ↔ ((kind_of error ≢ DisplayHelp) × (kind_of error ≢ DisplayVersion))) → Appends (contents old) (contents new) HELP.now → Refuses contents is_sure old new said before before (Parse error) 0
+shown contents is_sure old new said before error asked h = record {
+  ends = (λ is. omega arith, λ not. absurd (asked_for error asked not));
+  quiet = λ not. absurd (asked_for error asked not);
+  help = λ zero. h;
+  cut = λ is. front_whole (contents old) (contents new) HELP.now h;
+  sure = λ is sure. refl;
+  says = λ is. (λ zero. refl, λ one. absurd (omega (arith, one)));
+}
+
+-- a write of the help failed
+pub not_shown : {W : Type 0} (contents : W → Option (List ℕ)) (is_sure : W → Type 0) (old new : W) (said : Type 0) (before after : Option (List ℕ)) (error : Error)
+    → (IsTrue false ↔ ((kind_of error ≢ DisplayHelp) × (kind_of error ≢ DisplayVersion))) → AppendsFront (contents old) (contents new) HELP.now → (is_sure old → ⊥) → Says said before after (named (text_of_fault fault.Write))
+    → Refuses contents is_sure old new said before after (Parse error) 1
+not_shown contents is_sure old new said before after error asked h failed says = record {
+  ends = (λ is. omega arith, λ not. absurd (asked_for error asked not));
+  quiet = λ not. absurd (asked_for error asked not);
+  help = λ one. absurd (omega (arith, one));
+  cut = λ is. h;
+  sure = λ is sure. absurd (failed sure);
+  says = λ is. (λ one. absurd (omega (arith, one)), λ one. says);
+}
