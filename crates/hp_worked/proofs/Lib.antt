@@ -7,3 +7,4 @@ pub mod WorkedMounts
 pub mod WorkedWithoutMemory
 pub mod WorkedLines
 pub mod WorkedPromises
+pub mod Worked

@@ -1,164 +1,122 @@
--- Worked runs of mounts, names and refusals, by computation: what is written, and that the pool's numbers are the sums after every event.
-use Rattle.std.proofs.Common.{◌≡◌, ℕ, true, List, [], ◌∷◌, ◌++◌, refl}
+-- Worked scripts of mounts, names and refusals.
+use Rattle.std.proofs.Common.{◌++◌, [], ◌∷◌}
 use Rattle.std.specs.Prelude.{codes}
-use Rattle.std.specs.Fmt.{digits}
-use Rattle.hex.specs.Hex.{encode_with, decode_pairs}
 use Rattle.hp_model.specs.Machine.{start}
-use Rattle.hp_model.specs.Plain.{plain_text}
-use Rattle.hp_model.specs.Reading.{step_of_bytes, step_of_command, slot_command, pool_command, connect_of, attach_of, fork_of, exit_of, mount_of, umount_of, create_of, unlink_of, truncate_of, punch_of, read_of, ls_of, stat_of, map_of, anon_of, unmap_of, fault_of, load_of, store_of, nr_of, overcommit_of, meminfo_of, nodes_of, df_of}
-use Rattle.hp_model.specs.Words.{piece_at, end_at, word_at, number_at, hex_at, sharing_at, intent_at, reserving_at}
-use Rattle.hp_worked.proofs.Agreement.{text_agrees}
-use Rattle.hp_worked.proofs.WorkedWords.{machine}
+use Rattle.hp_worked.proofs.WorkedWords.{machine, Worked}
 
-abbrev file_names_and_inodes_in : List ℕ
-file_names_and_inodes_in =
-    codes "nr 4\nconnect 1 0\nconnect 2 1\nmount 2 nr_inodes=1\ncreate 2 x\ncreate 2 x\ncreate 2 y\ncreate 2 a/b\n"
-    ++ codes "unlink 2 z\n"
+abbrev pub file_names_and_inodes : Worked
+file_names_and_inodes = record {
+  machine = machine;
+  input =
+      codes "nr 4\nconnect 1 0\nconnect 2 1\nmount 2 nr_inodes=1\ncreate 2 x\ncreate 2 x\ncreate 2 y\ncreate 2 a/b\n"
+      ++ codes "unlink 2 z\n";
+  replies =
+      codes "ok 4\nok\nok\nok\nok\nerror 13 FileExists\nerror 14 NoInodes\nerror 15 BadName\nerror 12 NoSuchFile\n";
+}
 
-file_names_and_inodes : plain_text machine file_names_and_inodes_in
-    ≡ codes "ok 4\nok\nok\nok\nok\nerror 13 FileExists\nerror 14 NoInodes\nerror 15 BadName\nerror 12 NoSuchFile\n"
-unfolding step_of_bytes piece_at end_at word_at number_at hex_at sharing_at intent_at reserving_at step_of_command slot_command pool_command connect_of attach_of fork_of exit_of mount_of umount_of create_of unlink_of truncate_of punch_of read_of ls_of stat_of map_of anon_of unmap_of fault_of load_of store_of nr_of overcommit_of meminfo_of nodes_of df_of digits encode_with decode_pairs
-file_names_and_inodes = refl
+abbrev pub mount_minimum_and_size : Worked
+mount_minimum_and_size = record {
+  machine = machine;
+  input =
+      codes "nr 4\nconnect 1 0\nconnect 2 1\nmount 2 size=3K,min_size=2K\nmeminfo\ncreate 2 a\nmap 1 2 a 0 3 private\n"
+      ++ codes "meminfo\nmap 2 2 a 0 1 private\ndf 2\numount 2\n";
+  replies =
+      codes "ok 4\nok\nok\nok\ntext 6\nHugePages_Total:       4\nHugePages_Free:        4\nHugePages_Rsvd:        2\n"
+      ++ codes "HugePages_Surp:        0\nHugepagesize:          1 kB\nHugetlb:               4 kB\nok\nok 1\ntext 6\n"
+      ++ codes "HugePages_Total:       4\nHugePages_Free:        4\nHugePages_Rsvd:        3\nHugePages_Surp:        0\n"
+      ++ codes "Hugepagesize:          1 kB\nHugetlb:               4 kB\nerror 3 MountFull\nok 3 2 3 - 1\nerror 19 Busy\n";
+}
 
-file_names_and_inodes_agrees : text_agrees machine file_names_and_inodes_in ≡ true
-unfolding step_of_bytes piece_at end_at word_at number_at hex_at sharing_at intent_at reserving_at step_of_command slot_command pool_command connect_of attach_of fork_of exit_of mount_of umount_of create_of unlink_of truncate_of punch_of read_of ls_of stat_of map_of anon_of unmap_of fault_of load_of store_of nr_of overcommit_of meminfo_of nodes_of df_of digits encode_with decode_pairs
-file_names_and_inodes_agrees = refl
+abbrev pub mount_minimum_filled_again : Worked
+mount_minimum_filled_again = record {
+  machine = machine;
+  input =
+      codes "nr 4\nconnect 1 0\nconnect 2 1\nmount 2 size=3K,min_size=2K\nmeminfo\ncreate 2 a\nmap 1 2 a 0 3 private\n"
+      ++ codes "meminfo\nmap 2 2 a 0 1 private\ndf 2\numount 2\nfault 1 2 1 0 write\nfault 1 2 1 1 write\n"
+      ++ codes "fault 1 2 1 2 write\nmeminfo\nunmap 1 2 1 0 3\nmeminfo\numount 2\nmeminfo\n";
+  replies =
+      codes "ok 4\nok\nok\nok\ntext 6\nHugePages_Total:       4\nHugePages_Free:        4\nHugePages_Rsvd:        2\n"
+      ++ codes "HugePages_Surp:        0\nHugepagesize:          1 kB\nHugetlb:               4 kB\nok\nok 1\ntext 6\n"
+      ++ codes "HugePages_Total:       4\nHugePages_Free:        4\nHugePages_Rsvd:        3\nHugePages_Surp:        0\n"
+      ++ codes "Hugepagesize:          1 kB\nHugetlb:               4 kB\nerror 3 MountFull\nok 3 2 3 - 1\nerror 19 Busy\nok\n"
+      ++ codes "ok\nok\ntext 6\nHugePages_Total:       4\nHugePages_Free:        1\nHugePages_Rsvd:        0\n"
+      ++ codes "HugePages_Surp:        0\nHugepagesize:          1 kB\nHugetlb:               4 kB\nok\ntext 6\n"
+      ++ codes "HugePages_Total:       4\nHugePages_Free:        4\nHugePages_Rsvd:        2\nHugePages_Surp:        0\n"
+      ++ codes "Hugepagesize:          1 kB\nHugetlb:               4 kB\nok\ntext 6\nHugePages_Total:       4\n"
+      ++ codes "HugePages_Free:        4\nHugePages_Rsvd:        0\nHugePages_Surp:        0\nHugepagesize:          1 kB\n"
+      ++ codes "Hugetlb:               4 kB\n";
+}
 
-abbrev mount_minimum_and_size_in : List ℕ
-mount_minimum_and_size_in =
-    codes "nr 4\nconnect 1 0\nconnect 2 1\nmount 2 size=3K,min_size=2K\nmeminfo\ncreate 2 a\nmap 1 2 a 0 3 private\n"
-    ++ codes "meminfo\nmap 2 2 a 0 1 private\ndf 2\numount 2\n"
+abbrev pub mount_minimum_past_the_pool : Worked
+mount_minimum_past_the_pool = record {
+  machine = machine;
+  input =
+      codes "nr 4\nconnect 1 0\nconnect 2 1\nmount 2 min_size=5K\ndf 2\nmeminfo\n";
+  replies =
+      codes "ok 4\nok\nok\nerror 2 NoPages\nerror 8 NoSuchSlot\ntext 6\nHugePages_Total:       4\n"
+      ++ codes "HugePages_Free:        4\nHugePages_Rsvd:        0\nHugePages_Surp:        0\nHugepagesize:          1 kB\n"
+      ++ codes "Hugetlb:               4 kB\n";
+}
 
-mount_minimum_and_size : plain_text machine mount_minimum_and_size_in
-    ≡ codes "ok 4\nok\nok\nok\ntext 6\nHugePages_Total:       4\nHugePages_Free:        4\nHugePages_Rsvd:        2\n"
-    ++ codes "HugePages_Surp:        0\nHugepagesize:          1 kB\nHugetlb:               4 kB\nok\nok 1\ntext 6\n"
-    ++ codes "HugePages_Total:       4\nHugePages_Free:        4\nHugePages_Rsvd:        3\nHugePages_Surp:        0\n"
-    ++ codes "Hugepagesize:          1 kB\nHugetlb:               4 kB\nerror 3 MountFull\nok 3 2 3 - 1\nerror 19 Busy\n"
-unfolding step_of_bytes piece_at end_at word_at number_at hex_at sharing_at intent_at reserving_at step_of_command slot_command pool_command connect_of attach_of fork_of exit_of mount_of umount_of create_of unlink_of truncate_of punch_of read_of ls_of stat_of map_of anon_of unmap_of fault_of load_of store_of nr_of overcommit_of meminfo_of nodes_of df_of digits encode_with decode_pairs
-mount_minimum_and_size = refl
+abbrev pub mount_minimum_refused_after_shrink : Worked
+mount_minimum_refused_after_shrink = record {
+  machine = machine;
+  input =
+      codes "nr 4\nconnect 1 0\nconnect 2 1\nnr 1\nmeminfo\nnodes\nmount 2 min_size=2K\ndf 2\n";
+  replies =
+      codes "ok 4\nok\nok\nok 1\ntext 6\nHugePages_Total:       1\nHugePages_Free:        1\nHugePages_Rsvd:        0\n"
+      ++ codes "HugePages_Surp:        0\nHugepagesize:          1 kB\nHugetlb:               1 kB\ntext 2\n0 0 0 0\n1 1 1 0\n"
+      ++ codes "error 2 NoPages\nerror 8 NoSuchSlot\n";
+}
 
-mount_minimum_and_size_agrees : text_agrees machine mount_minimum_and_size_in ≡ true
-unfolding step_of_bytes piece_at end_at word_at number_at hex_at sharing_at intent_at reserving_at step_of_command slot_command pool_command connect_of attach_of fork_of exit_of mount_of umount_of create_of unlink_of truncate_of punch_of read_of ls_of stat_of map_of anon_of unmap_of fault_of load_of store_of nr_of overcommit_of meminfo_of nodes_of df_of digits encode_with decode_pairs
-mount_minimum_and_size_agrees = refl
+abbrev pub mount_option_table : Worked
+mount_option_table = record {
+  machine = start (1024 ∷ []) 1024 4;
+  input =
+      codes "nr 4\nmount 1 -\ndf 1\numount 1\nmount 1 size=2K\ndf 1\numount 1\nmount 1 size=1023\ndf 1\numount 1\n"
+      ++ codes "overcommit 1020\nmount 1 min_size=1m\ndf 1\numount 1\nmount 1 size=1K,size=3K,nr_inodes=2k\ndf 1\numount 1\n"
+      ++ codes "mount 1 size=1K,min_size=2K\nmount 1 size=2X\nmount 1 size=\nmount 1 size=101%\nmount 1 size=1K,\n"
+      ++ codes "mount 1 uid=0\nmount 1 nr_inodes=5%\nnr 5\nmount 1 size=50%\ndf 1\numount 1\nnr 7\n"
+      ++ codes "mount 1 size=100%,min_size=25%\ndf 1\n";
+  replies =
+      codes "ok 4\nok\nok - 0 0 - 0\nok\nok\nok 2 0 0 - 0\nok\nok\nok 0 0 0 - 0\nok\nok\nok\nok - 1024 0 - 0\nok\nok\n"
+      ++ codes "ok 3 0 0 2048 0\nok\nerror 10 MinOverSize\nerror 11 BadOption\nerror 11 BadOption\nerror 11 BadOption\n"
+      ++ codes "error 11 BadOption\nerror 11 BadOption\nerror 11 BadOption\nok 5\nok\nok 2 0 0 - 0\nok\nok 7\nok\n"
+      ++ codes "ok 7 1 0 - 0\n";
+}
 
-abbrev mount_minimum_filled_again_in : List ℕ
-mount_minimum_filled_again_in =
-    codes "nr 4\nconnect 1 0\nconnect 2 1\nmount 2 size=3K,min_size=2K\nmeminfo\ncreate 2 a\nmap 1 2 a 0 3 private\n"
-    ++ codes "meminfo\nmap 2 2 a 0 1 private\ndf 2\numount 2\nfault 1 2 1 0 write\nfault 1 2 1 1 write\n"
-    ++ codes "fault 1 2 1 2 write\nmeminfo\nunmap 1 2 1 0 3\nmeminfo\numount 2\nmeminfo\n"
+abbrev pub mount_options_and_slots : Worked
+mount_options_and_slots = record {
+  machine = machine;
+  input =
+      codes "nr 4\nconnect 1 0\nconnect 2 1\nnr 5\nmount 2 size=2K\ndf 2\nmount 3 size=50%\ndf 3\numount 3\n"
+      ++ codes "mount 3 size=1K,min_size=2K\nmount 3 size=2X\nmount 0 -\numount 0\nmount 4 -\n";
+  replies =
+      codes "ok 4\nok\nok\nok 5\nok\nok 2 0 0 - 0\nok\nok 2 0 0 - 0\nok\nerror 10 MinOverSize\nerror 11 BadOption\n"
+      ++ codes "error 9 SlotTaken\nerror 19 Busy\nerror 8 NoSuchSlot\n";
+}
 
-mount_minimum_filled_again : plain_text machine mount_minimum_filled_again_in
-    ≡ codes "ok 4\nok\nok\nok\ntext 6\nHugePages_Total:       4\nHugePages_Free:        4\nHugePages_Rsvd:        2\n"
-    ++ codes "HugePages_Surp:        0\nHugepagesize:          1 kB\nHugetlb:               4 kB\nok\nok 1\ntext 6\n"
-    ++ codes "HugePages_Total:       4\nHugePages_Free:        4\nHugePages_Rsvd:        3\nHugePages_Surp:        0\n"
-    ++ codes "Hugepagesize:          1 kB\nHugetlb:               4 kB\nerror 3 MountFull\nok 3 2 3 - 1\nerror 19 Busy\nok\n"
-    ++ codes "ok\nok\ntext 6\nHugePages_Total:       4\nHugePages_Free:        1\nHugePages_Rsvd:        0\n"
-    ++ codes "HugePages_Surp:        0\nHugepagesize:          1 kB\nHugetlb:               4 kB\nok\ntext 6\n"
-    ++ codes "HugePages_Total:       4\nHugePages_Free:        4\nHugePages_Rsvd:        2\nHugePages_Surp:        0\n"
-    ++ codes "Hugepagesize:          1 kB\nHugetlb:               4 kB\nok\ntext 6\nHugePages_Total:       4\n"
-    ++ codes "HugePages_Free:        4\nHugePages_Rsvd:        0\nHugePages_Surp:        0\nHugepagesize:          1 kB\n"
-    ++ codes "Hugetlb:               4 kB\n"
-unfolding step_of_bytes piece_at end_at word_at number_at hex_at sharing_at intent_at reserving_at step_of_command slot_command pool_command connect_of attach_of fork_of exit_of mount_of umount_of create_of unlink_of truncate_of punch_of read_of ls_of stat_of map_of anon_of unmap_of fault_of load_of store_of nr_of overcommit_of meminfo_of nodes_of df_of digits encode_with decode_pairs
-mount_minimum_filled_again = refl
+abbrev pub shared_map_past_mount_size : Worked
+shared_map_past_mount_size = record {
+  machine = machine;
+  input =
+      codes "nr 4\nconnect 1 0\nconnect 2 1\nmount 2 size=3K,min_size=2K\nmeminfo\ncreate 2 a\nmap 1 2 a 0 3 shared\n"
+      ++ codes "meminfo\ncreate 2 b\nmap 2 2 b 0 1 shared\ndf 2\numount 2\n";
+  replies =
+      codes "ok 4\nok\nok\nok\ntext 6\nHugePages_Total:       4\nHugePages_Free:        4\nHugePages_Rsvd:        2\n"
+      ++ codes "HugePages_Surp:        0\nHugepagesize:          1 kB\nHugetlb:               4 kB\nok\nok 1\ntext 6\n"
+      ++ codes "HugePages_Total:       4\nHugePages_Free:        4\nHugePages_Rsvd:        3\nHugePages_Surp:        0\n"
+      ++ codes "Hugepagesize:          1 kB\nHugetlb:               4 kB\nok\nerror 3 MountFull\nok 3 2 3 - 2\nerror 19 Busy\n";
+}
 
-mount_minimum_filled_again_agrees : text_agrees machine mount_minimum_filled_again_in ≡ true
-unfolding step_of_bytes piece_at end_at word_at number_at hex_at sharing_at intent_at reserving_at step_of_command slot_command pool_command connect_of attach_of fork_of exit_of mount_of umount_of create_of unlink_of truncate_of punch_of read_of ls_of stat_of map_of anon_of unmap_of fault_of load_of store_of nr_of overcommit_of meminfo_of nodes_of df_of digits encode_with decode_pairs
-mount_minimum_filled_again_agrees = refl
-
-abbrev mount_minimum_past_the_pool_in : List ℕ
-mount_minimum_past_the_pool_in =
-    codes "nr 4\nconnect 1 0\nconnect 2 1\nmount 2 min_size=5K\ndf 2\nmeminfo\n"
-
-mount_minimum_past_the_pool : plain_text machine mount_minimum_past_the_pool_in
-    ≡ codes "ok 4\nok\nok\nerror 2 NoPages\nerror 8 NoSuchSlot\ntext 6\nHugePages_Total:       4\n"
-    ++ codes "HugePages_Free:        4\nHugePages_Rsvd:        0\nHugePages_Surp:        0\nHugepagesize:          1 kB\n"
-    ++ codes "Hugetlb:               4 kB\n"
-unfolding step_of_bytes piece_at end_at word_at number_at hex_at sharing_at intent_at reserving_at step_of_command slot_command pool_command connect_of attach_of fork_of exit_of mount_of umount_of create_of unlink_of truncate_of punch_of read_of ls_of stat_of map_of anon_of unmap_of fault_of load_of store_of nr_of overcommit_of meminfo_of nodes_of df_of digits encode_with decode_pairs
-mount_minimum_past_the_pool = refl
-
-mount_minimum_past_the_pool_agrees : text_agrees machine mount_minimum_past_the_pool_in ≡ true
-unfolding step_of_bytes piece_at end_at word_at number_at hex_at sharing_at intent_at reserving_at step_of_command slot_command pool_command connect_of attach_of fork_of exit_of mount_of umount_of create_of unlink_of truncate_of punch_of read_of ls_of stat_of map_of anon_of unmap_of fault_of load_of store_of nr_of overcommit_of meminfo_of nodes_of df_of digits encode_with decode_pairs
-mount_minimum_past_the_pool_agrees = refl
-
-abbrev mount_minimum_refused_after_shrink_in : List ℕ
-mount_minimum_refused_after_shrink_in =
-    codes "nr 4\nconnect 1 0\nconnect 2 1\nnr 1\nmeminfo\nnodes\nmount 2 min_size=2K\ndf 2\n"
-
-mount_minimum_refused_after_shrink : plain_text machine mount_minimum_refused_after_shrink_in
-    ≡ codes "ok 4\nok\nok\nok 1\ntext 6\nHugePages_Total:       1\nHugePages_Free:        1\nHugePages_Rsvd:        0\n"
-    ++ codes "HugePages_Surp:        0\nHugepagesize:          1 kB\nHugetlb:               1 kB\ntext 2\n0 0 0 0\n1 1 1 0\n"
-    ++ codes "error 2 NoPages\nerror 8 NoSuchSlot\n"
-unfolding step_of_bytes piece_at end_at word_at number_at hex_at sharing_at intent_at reserving_at step_of_command slot_command pool_command connect_of attach_of fork_of exit_of mount_of umount_of create_of unlink_of truncate_of punch_of read_of ls_of stat_of map_of anon_of unmap_of fault_of load_of store_of nr_of overcommit_of meminfo_of nodes_of df_of digits encode_with decode_pairs
-mount_minimum_refused_after_shrink = refl
-
-mount_minimum_refused_after_shrink_agrees : text_agrees machine mount_minimum_refused_after_shrink_in ≡ true
-unfolding step_of_bytes piece_at end_at word_at number_at hex_at sharing_at intent_at reserving_at step_of_command slot_command pool_command connect_of attach_of fork_of exit_of mount_of umount_of create_of unlink_of truncate_of punch_of read_of ls_of stat_of map_of anon_of unmap_of fault_of load_of store_of nr_of overcommit_of meminfo_of nodes_of df_of digits encode_with decode_pairs
-mount_minimum_refused_after_shrink_agrees = refl
-
-abbrev mount_option_table_in : List ℕ
-mount_option_table_in =
-    codes "nr 4\nmount 1 -\ndf 1\numount 1\nmount 1 size=2K\ndf 1\numount 1\nmount 1 size=1023\ndf 1\numount 1\n"
-    ++ codes "overcommit 1020\nmount 1 min_size=1m\ndf 1\numount 1\nmount 1 size=1K,size=3K,nr_inodes=2k\ndf 1\numount 1\n"
-    ++ codes "mount 1 size=1K,min_size=2K\nmount 1 size=2X\nmount 1 size=\nmount 1 size=101%\nmount 1 size=1K,\n"
-    ++ codes "mount 1 uid=0\nmount 1 nr_inodes=5%\nnr 5\nmount 1 size=50%\ndf 1\numount 1\nnr 7\n"
-    ++ codes "mount 1 size=100%,min_size=25%\ndf 1\n"
-
-mount_option_table : plain_text (start (1024 ∷ []) 1024 4) mount_option_table_in
-    ≡ codes "ok 4\nok\nok - 0 0 - 0\nok\nok\nok 2 0 0 - 0\nok\nok\nok 0 0 0 - 0\nok\nok\nok\nok - 1024 0 - 0\nok\nok\n"
-    ++ codes "ok 3 0 0 2048 0\nok\nerror 10 MinOverSize\nerror 11 BadOption\nerror 11 BadOption\nerror 11 BadOption\n"
-    ++ codes "error 11 BadOption\nerror 11 BadOption\nerror 11 BadOption\nok 5\nok\nok 2 0 0 - 0\nok\nok 7\nok\n"
-    ++ codes "ok 7 1 0 - 0\n"
-unfolding step_of_bytes piece_at end_at word_at number_at hex_at sharing_at intent_at reserving_at step_of_command slot_command pool_command connect_of attach_of fork_of exit_of mount_of umount_of create_of unlink_of truncate_of punch_of read_of ls_of stat_of map_of anon_of unmap_of fault_of load_of store_of nr_of overcommit_of meminfo_of nodes_of df_of digits encode_with decode_pairs
-mount_option_table = refl
-
-mount_option_table_agrees : text_agrees (start (1024 ∷ []) 1024 4) mount_option_table_in ≡ true
-unfolding step_of_bytes piece_at end_at word_at number_at hex_at sharing_at intent_at reserving_at step_of_command slot_command pool_command connect_of attach_of fork_of exit_of mount_of umount_of create_of unlink_of truncate_of punch_of read_of ls_of stat_of map_of anon_of unmap_of fault_of load_of store_of nr_of overcommit_of meminfo_of nodes_of df_of digits encode_with decode_pairs
-mount_option_table_agrees = refl
-
-abbrev mount_options_and_slots_in : List ℕ
-mount_options_and_slots_in =
-    codes "nr 4\nconnect 1 0\nconnect 2 1\nnr 5\nmount 2 size=2K\ndf 2\nmount 3 size=50%\ndf 3\numount 3\n"
-    ++ codes "mount 3 size=1K,min_size=2K\nmount 3 size=2X\nmount 0 -\numount 0\nmount 4 -\n"
-
-mount_options_and_slots : plain_text machine mount_options_and_slots_in
-    ≡ codes "ok 4\nok\nok\nok 5\nok\nok 2 0 0 - 0\nok\nok 2 0 0 - 0\nok\nerror 10 MinOverSize\nerror 11 BadOption\n"
-    ++ codes "error 9 SlotTaken\nerror 19 Busy\nerror 8 NoSuchSlot\n"
-unfolding step_of_bytes piece_at end_at word_at number_at hex_at sharing_at intent_at reserving_at step_of_command slot_command pool_command connect_of attach_of fork_of exit_of mount_of umount_of create_of unlink_of truncate_of punch_of read_of ls_of stat_of map_of anon_of unmap_of fault_of load_of store_of nr_of overcommit_of meminfo_of nodes_of df_of digits encode_with decode_pairs
-mount_options_and_slots = refl
-
-mount_options_and_slots_agrees : text_agrees machine mount_options_and_slots_in ≡ true
-unfolding step_of_bytes piece_at end_at word_at number_at hex_at sharing_at intent_at reserving_at step_of_command slot_command pool_command connect_of attach_of fork_of exit_of mount_of umount_of create_of unlink_of truncate_of punch_of read_of ls_of stat_of map_of anon_of unmap_of fault_of load_of store_of nr_of overcommit_of meminfo_of nodes_of df_of digits encode_with decode_pairs
-mount_options_and_slots_agrees = refl
-
-abbrev shared_map_past_mount_size_in : List ℕ
-shared_map_past_mount_size_in =
-    codes "nr 4\nconnect 1 0\nconnect 2 1\nmount 2 size=3K,min_size=2K\nmeminfo\ncreate 2 a\nmap 1 2 a 0 3 shared\n"
-    ++ codes "meminfo\ncreate 2 b\nmap 2 2 b 0 1 shared\ndf 2\numount 2\n"
-
-shared_map_past_mount_size : plain_text machine shared_map_past_mount_size_in
-    ≡ codes "ok 4\nok\nok\nok\ntext 6\nHugePages_Total:       4\nHugePages_Free:        4\nHugePages_Rsvd:        2\n"
-    ++ codes "HugePages_Surp:        0\nHugepagesize:          1 kB\nHugetlb:               4 kB\nok\nok 1\ntext 6\n"
-    ++ codes "HugePages_Total:       4\nHugePages_Free:        4\nHugePages_Rsvd:        3\nHugePages_Surp:        0\n"
-    ++ codes "Hugepagesize:          1 kB\nHugetlb:               4 kB\nok\nerror 3 MountFull\nok 3 2 3 - 2\nerror 19 Busy\n"
-unfolding step_of_bytes piece_at end_at word_at number_at hex_at sharing_at intent_at reserving_at step_of_command slot_command pool_command connect_of attach_of fork_of exit_of mount_of umount_of create_of unlink_of truncate_of punch_of read_of ls_of stat_of map_of anon_of unmap_of fault_of load_of store_of nr_of overcommit_of meminfo_of nodes_of df_of digits encode_with decode_pairs
-shared_map_past_mount_size = refl
-
-shared_map_past_mount_size_agrees : text_agrees machine shared_map_past_mount_size_in ≡ true
-unfolding step_of_bytes piece_at end_at word_at number_at hex_at sharing_at intent_at reserving_at step_of_command slot_command pool_command connect_of attach_of fork_of exit_of mount_of umount_of create_of unlink_of truncate_of punch_of read_of ls_of stat_of map_of anon_of unmap_of fault_of load_of store_of nr_of overcommit_of meminfo_of nodes_of df_of digits encode_with decode_pairs
-shared_map_past_mount_size_agrees = refl
-
-abbrev tasks_maps_and_access_refusals_in : List ℕ
-tasks_maps_and_access_refusals_in =
-    codes "nr 4\nconnect 1 0\nconnect 2 1\nattach 2\nattach 9\nconnect 1 0\nconnect 5 2\nanon 1 1 private\n"
-    ++ codes "load 1 0 2 0 0 1\nload 1 0 1 0 1023 2\nload 1 0 1 0 0 257\nmeminfo\n"
-
-tasks_maps_and_access_refusals : plain_text machine tasks_maps_and_access_refusals_in
-    ≡ codes "ok 4\nok\nok\nok 1\nerror 6 NoSuchTask\nerror 7 TaskExists\nerror 25 NoSuchNode\nok 1\nerror 16 NoSuchMap\n"
-    ++ codes "error 18 CrossesPage\nerror 20 TooMany\ntext 6\nHugePages_Total:       4\nHugePages_Free:        4\n"
-    ++ codes "HugePages_Rsvd:        1\nHugePages_Surp:        0\nHugepagesize:          1 kB\nHugetlb:               4 kB\n"
-unfolding step_of_bytes piece_at end_at word_at number_at hex_at sharing_at intent_at reserving_at step_of_command slot_command pool_command connect_of attach_of fork_of exit_of mount_of umount_of create_of unlink_of truncate_of punch_of read_of ls_of stat_of map_of anon_of unmap_of fault_of load_of store_of nr_of overcommit_of meminfo_of nodes_of df_of digits encode_with decode_pairs
-tasks_maps_and_access_refusals = refl
-
-tasks_maps_and_access_refusals_agrees : text_agrees machine tasks_maps_and_access_refusals_in ≡ true
-unfolding step_of_bytes piece_at end_at word_at number_at hex_at sharing_at intent_at reserving_at step_of_command slot_command pool_command connect_of attach_of fork_of exit_of mount_of umount_of create_of unlink_of truncate_of punch_of read_of ls_of stat_of map_of anon_of unmap_of fault_of load_of store_of nr_of overcommit_of meminfo_of nodes_of df_of digits encode_with decode_pairs
-tasks_maps_and_access_refusals_agrees = refl
+abbrev pub tasks_maps_and_access_refusals : Worked
+tasks_maps_and_access_refusals = record {
+  machine = machine;
+  input =
+      codes "nr 4\nconnect 1 0\nconnect 2 1\nattach 2\nattach 9\nconnect 1 0\nconnect 5 2\nanon 1 1 private\n"
+      ++ codes "load 1 0 2 0 0 1\nload 1 0 1 0 1023 2\nload 1 0 1 0 0 257\nmeminfo\n";
+  replies =
+      codes "ok 4\nok\nok\nok 1\nerror 6 NoSuchTask\nerror 7 TaskExists\nerror 25 NoSuchNode\nok 1\nerror 16 NoSuchMap\n"
+      ++ codes "error 18 CrossesPage\nerror 20 TooMany\ntext 6\nHugePages_Total:       4\nHugePages_Free:        4\n"
+      ++ codes "HugePages_Rsvd:        1\nHugePages_Surp:        0\nHugepagesize:          1 kB\nHugetlb:               4 kB\n";
+}

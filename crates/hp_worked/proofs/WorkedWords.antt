@@ -23,3 +23,9 @@ node_row t f s = record { total = t; free = f; surp = s }
 
 abbrev pub nodes : List NodeCount → Reply
 nodes rows = Ok (PerNode (length rows) (rows ++ replicate (4 - length rows) no_count))
+
+-- a script, the machine that it runs on, and the replies that it must get
+pub record Worked : Type 0 where
+  pub machine : State
+  pub input : List ℕ
+  pub replies : List ℕ
