@@ -35,3 +35,7 @@ pub mod Answered
 pub mod Limited
 pub mod Naming
 pub mod Made
+pub mod Keys
+pub mod Placed
+pub mod Accessed
+pub mod Lifted

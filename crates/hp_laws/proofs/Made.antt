@@ -36,7 +36,7 @@ use Rattle.hp_laws.proofs.SlotShows.{always_grant, always_unless, always_value}
 
 -- ---- a map's number is not used before
 
-any_append : {X : Type 0} (t : X → Bool) (xs ys : List X) → list_any t (xs ++ ys) ≡ (list_any t xs || list_any t ys)
+pub any_append : {X : Type 0} (t : X → Bool) (xs ys : List X) → list_any t (xs ++ ys) ≡ (list_any t xs || list_any t ys)
 any_append t [] ys = refl
 any_append t (x ∷ xs) ys = ap (λ b. t x || b) (any_append t xs ys) ∙ or_assoc (t x) (list_any t xs) (list_any t ys)
 
@@ -48,11 +48,11 @@ none_there : {X : Type 0} (t : X → Bool) (xs : List X) (k : ℕ) (d : X) → k
 none_there t xs k d l none = false_from_ne_true (t (get_or xs k d)) (λ e. (let one = list_any_at t xs k d l e in cc))
 
 -- a map is found where its file is found, and it in there
-abbrev in_file : (Map → Bool) → Option (ℕ × File) → Option Spot
+abbrev pub in_file : (Map → Bool) → Option (ℕ × File) → Option Spot
 in_file test None = None
 in_file test (Some f) = option_map (spot_in f) (found test f.1.maps)
 
-spot_in_file : (m : Mount) (test : Map → Bool) → spot m test ≡ in_file test (found (λ (f : File). list_any test f.maps) m.files)
+pub spot_in_file : (m : Mount) (test : Map → Bool) → spot m test ≡ in_file test (found (λ (f : File). list_any test f.maps) m.files)
 spot_in_file m test = by_found (found (λ (f : File). list_any test f.maps) m.files)
   where
     by_found : (o : Option (ℕ × File)) → (elim o [ None ↦ None | Some f ↦ option_map (spot_in f) (found test f.1.maps) ]) ≡ in_file test o
