@@ -29,7 +29,6 @@ use Rattle.hp_laws.proofs.Outcomes.{Always, always_if}
 use Rattle.hp_laws.proofs.Shown.{On, on_grant_page, on_reserved_page}
 use Rattle.hp_laws.proofs.SlotShows.{always_unless}
 
-
 -- ---- the same keys
 
 key_set : {X K : Type 0} (key : X → K) (xs : List X) (k : ℕ) (y : X) → key y ≡ key (get_or xs k y) → map key (slice_set xs k y) ≡ map key xs

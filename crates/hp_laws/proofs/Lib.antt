@@ -39,3 +39,5 @@ pub mod Keys
 pub mod Placed
 pub mod Accessed
 pub mod Lifted
+pub mod Meanings
+pub mod Named

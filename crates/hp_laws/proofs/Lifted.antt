@@ -1,46 +1,32 @@
 -- From events of a slot to steps: what each event that is built keeps of its slot, each step keeps of all slots but those that it unmounts.
-use Rattle.std.proofs.Common.{◌≡◌, ⊎_elim, inl, inr, subst, ℕ, ◌<◌, Bool, true, false, None, Some, Ok, Err, List, [], ◌∷◌, length, nat_lt, refl, sym, ap, ◌∙◌}
+use Rattle.std.proofs.Common.{◌≡◌, ⊎_elim, inl, inr, subst, ℕ, ◌<◌, Bool, true, false, None, Some, Ok, Err, List, [], length, nat_lt, refl, sym, ap, ◌∙◌}
 use Rattle.std.specs.Bool.{MatchBool}
-use Rattle.std.specs.List.{filter_map, slice_index_or, slice_set}
+use Rattle.std.specs.List.{slice_index_or, slice_set}
 use Rattle.std.proofs.lemmas.Bool.{cases_eq, eq-eqb, ltb-true}
 use Rattle.std.proofs.lemmas.List.{get_or-set_other, get_or-set_same}
 use Rattle.hp_model.specs.declared.answer.Answer.{Answer}
-use Rattle.hp_model.specs.declared.answer.Answer.TheVariants.{Done, MapNo, Names}
 use Rattle.hp_model.specs.declared.event.Event.{Event}
 use Rattle.hp_model.specs.declared.event.Event.TheVariants.{Tasks, Slot as OnSlot, Pool as OnPool}
 use Rattle.hp_model.specs.declared.event.SlotEvent.{SlotEvent}
 use Rattle.hp_model.specs.declared.event.SlotEvent.TheVariants as slot
-use Rattle.hp_model.specs.declared.step.Intent.TheVariants.{Read, Write}
 use Rattle.hp_model.specs.declared.event.PoolEvent.TheVariants as pool
 use Rattle.hp_model.specs.declared.event.TableEvent.TheVariants as table
 use Rattle.hp_model.specs.declared.step.Reserving.TheVariants.{Reserve}
 use Rattle.hp_model.specs.declared.step.Sharing.TheVariants.{Shared}
 use Rattle.hp_model.specs.declared.step.Step.{Step}
 use Rattle.hp_model.specs.declared.step.Step.TheVariants.{Connect, Mount as MountStep, Umount, Create, Map as MapStep, Load, Store, Nr, Meminfo, Df}
-use Rattle.hp_model.specs.Access.{access}
-use Rattle.hp_model.specs.File.{File, Mount, cell_at, new_file, with_file}
-use Rattle.hp_model.specs.Fork.{forked}
-use Rattle.hp_model.specs.GiveBack.{punched, swept, truncated, unlinked, unmapped_from, without_task}
+use Rattle.hp_model.specs.File.{Mount}
 use Rattle.hp_model.specs.Event.{after, IsEvent}
-use Rattle.hp_model.specs.MakeMap.{asked, mapped, next_number, with_new}
-use Rattle.hp_model.specs.Plan.{Choice, Outcome, Refused, Answered, Plan, Finish, Ask, Slot, and_then, continued, gives, grant, Reply, unless, with_value}
-use Rattle.hp_model.specs.declared.refusal.Refusal.{Refusal}
-use Rattle.hp_model.specs.declared.refusal.Refusal.TheVariants.{BadLine, NoSuchFile, NoSuchMap, OutOfMemory, OutOfRange}
-use Rattle.hp_model.specs.Profile.{most_file_pages}
-use Rattle.hp_model.specs.Promises.{is_unmounted, SameLimits}
-use Rattle.hp_model.specs.SlotEvent.{anon_tests, byte_access, bytes_answer, create_tests, edited, fault, fault_tests, file_named, fork_tests, is_bad_range, load, map_file, map_tests, punch, read, read_tests, stat, store, truncate, unlink, unmap, on_mount, slot_event}
-use Rattle.hp_model.specs.Mapping.{is_map}
-use Rattle.hp_model.specs.Spot.{Spot, again, spot, written}
-use Rattle.hp_model.specs.Value.{shown, value}
+use Rattle.hp_model.specs.Plan.{Choice, Outcome, Refused, Answered, Plan, Finish, Ask, Slot, Reply}
+use Rattle.hp_model.specs.declared.refusal.Refusal.TheVariants.{BadLine}
+use Rattle.hp_model.specs.Promises.{is_unmounted}
+use Rattle.hp_model.specs.SlotEvent.{slot_event}
 use Rattle.hp_model.specs.State.{State, slot_at}
 use Rattle.hp_model.specs.Step.{IsBuiltStep, IsScript, IsStep, finding, on_slot, only}
 use Rattle.hp_laws.specs.Balance.{left_by}
-use Rattle.hp_laws.proofs.Accessed.{access_on, bytes_on}
-use Rattle.hp_laws.proofs.MountMoves.{IsSpot, spot_is}
-use Rattle.hp_laws.proofs.Outcomes.{Always, always_then, always_weaker, event_ends, finding_goes, only_goes, reply_of, slot_goes}
+use Rattle.hp_laws.proofs.Outcomes.{Always, event_ends, finding_goes, only_goes, reply_of, slot_goes}
 use Rattle.hp_laws.proofs.Shown.{On}
-use Rattle.hp_laws.proofs.SlotShows.{always_gives, always_grant, always_mount, always_unless, always_value}
-
+use Rattle.hp_laws.proofs.SlotShows.{always_mount}
 
 abbrev pub is_umount : SlotEvent → Bool
 is_umount slot.Umount = true

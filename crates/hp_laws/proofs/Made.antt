@@ -76,6 +76,9 @@ module _ (m : Mount) (task : ℕ) where
   unused : list_any has_it m.files ≡ false
   unused = sym (any_in_files (is_map task number) m.files) ∙ number_used task number (maps_of m) ∙ least_is_unused (numbers_of task (maps_of m))
 
+  pub number_is_new : spot m (is_map task number) ≡ None
+  number_is_new = spot_none m (is_map task number) (found_not has_it m.files unused)
+
   pub map_is_new : (name : List ℕ) (a n : ℕ) (sharing : Sharing) (reserving : Reserving) (f : ℕ × File) → file_named m name ≡ Some f
       → IsNewMap (Some m) (Some (with_file m f.0 (mapped task number a n sharing reserving f.1))) name (new_map task number a n sharing reserving)
   map_is_new name a n sharing reserving f is =

@@ -180,6 +180,26 @@ abbrev pub LosesCopy : State → Step → State → (slot file map i : ℕ) → 
 LosesCopy s (Store task slot number i offset bytes) t k file map j = (slot ≡ k) × IsLostTo (map_named s slot task number) i (map_at s k file map) (map_at t k file map) file j
 LosesCopy s step t k file map j = ⊥
 
+-- ---- what names and numbers mean afterwards
+
+abbrev pub named_on : Slot → List ℕ → Option (ℕ × File)
+named_on None name = None
+named_on (Some m) name = file_named m name
+
+-- the name has a file, which shows these bytes at the index
+abbrev pub StillNamed : (size : ℕ) → Slot → List ℕ → (i : ℕ) → List ℕ → Type 0
+StillNamed size slot name i bytes = (g : ℕ × File) × (named_on slot name ≡ Some g) × (shown size (cell_at g.1 i) ≡ bytes)
+
+abbrev pub LosesTo : State → Step → (slot : ℕ) (p q : Spot) (j : ℕ) → Type 0
+LosesTo s (Store task slot number i offset bytes) k p q j = (slot ≡ k) × IsLostTo (map_named s slot task number) i p.map q.map p.file_no j
+LosesTo s step k p q j = ⊥
+
+-- p before and q after: the bytes are as they were but for a store, or the copy is lost; and a marked map stays marked
+abbrev pub StillMapped : State → Step → Reply → (size slot : ℕ) (p q : Spot) (i : ℕ) → Type 0
+StillMapped s step reply size slot p q i =
+    ((value size q.file q.map i ≡ seen_over s step reply slot p.file_no p.map_no i (value s.page_size p.file p.map i)) ⊎ LosesTo s step slot p q i)
+    × (p.map.unmapped ≡ true → q.map.unmapped ≡ true)
+
 -- ---- what is answered
 
 -- the mount's limits, what it uses, and how many files it has
@@ -191,10 +211,6 @@ IsUsage (Some m) a = a ≡ Usage m.limits.max m.limits.min (usage_of m) m.limits
 abbrev pub IsRead : (size : ℕ) → Option (ℕ × File) → (i offset count : ℕ) → Answer → Type 0
 IsRead size None i offset count a = ⊥
 IsRead size (Some f) i offset count a = a ≡ bytes_answer offset count (shown size (cell_at f.1 i))
-
-abbrev pub named_on : Slot → List ℕ → Option (ℕ × File)
-named_on None name = None
-named_on (Some m) name = file_named m name
 
 -- a step that reads answers what there was: the counts, the nodes' rows, a mount's numbers, a file's bytes
 abbrev pub Tells : State → Step → Reply → Type 0
@@ -299,12 +315,13 @@ pub record IsPromised (s : State) (step : Step) (reply : Reply) (t : State) : Ty
   pub makes : Makes s step reply t
   -- a refused step leaves the whole machine as it was
   pub refused : LeavesAll s step reply t
-  -- each file shows what it showed, but for what is stored through a shared map of it; only an umount ends files
-  pub files : (slot file i : ℕ) → is_unmounted step reply slot ≡ false → shown_in t slot file i ≡ stored_over s step reply slot file i (shown_in s slot file i)
-  -- each map shows what it showed, but for what a store reaches; or it has lost its copy to the owner that stored
-  pub maps : (slot file map i : ℕ) → is_unmounted step reply slot ≡ false → (seen_in t slot file map i ≡ seen_over s step reply slot file map i (seen_in s slot file map i)) ⊎ LosesCopy s step t slot file map i
-  -- a marked map stays marked, and an access through it is refused where it has no copy
-  pub marks : (slot file map : ℕ) → (map_at s slot file map).unmapped ≡ true → (map_at t slot file map).unmapped ≡ true
+  -- each name keeps its file, which shows what it showed, but for what is stored through a shared map of it; only an umount ends files
+  pub files : (slot : ℕ) (name : List ℕ) (i : ℕ) (f : ℕ × File) → is_unmounted step reply slot ≡ false → named_on (slot_at s slot) name ≡ Some f
+      → StillNamed t.page_size (slot_at t slot) name i (stored_over s step reply slot f.0 i (shown s.page_size (cell_at f.1 i)))
+  -- each number of a task keeps its map, which shows what it showed, but for what a store reaches; or it has lost its copy to the owner that stored
+  pub maps : (slot task number i : ℕ) (p : Spot) → is_unmounted step reply slot ≡ false → map_named s slot task number ≡ Some p
+      → (q : Spot) × (map_named t slot task number ≡ Some q) × StillMapped s step reply t.page_size slot p q i
+  -- an access through a marked map is refused where it has no copy
   pub cut_off : is_cut_off_step s step ≡ true → is_refused reply ≡ true
 
 abbrev pub IsPromisedStep : State → Step → Reply → State → Type 0

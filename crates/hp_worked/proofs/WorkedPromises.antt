@@ -1,5 +1,6 @@
 -- What is promised of some steps, by computation: the tests and the bytes that the promises speak of.
-use Rattle.std.proofs.Common.{◌≡◌, subst, ℕ, ◌+◌, ◌==◌, true, false, None, Option, Some, Ok, Err, List, [], ◌∷◌, length, take, map, nat_le, refl, ap, arith}
+use Rattle.std.proofs.Common.{◌≡◌, subst, ℕ, ◌+◌, ◌==◌, ◌∙◌, true, false, None, Option, Some, Ok, Err, List, [], ◌∷◌, length, take, map, nat_le, refl, ap, arith}
+use Rattle.std.specs.List.{slice_index_or}
 use Rattle.std.specs.Prelude.{codes, is_some}
 use Rattle.hp_model.specs.declared.answer.Answer.{Answer}
 use Rattle.hp_model.specs.declared.answer.Answer.TheVariants.{Done, MapNo, Numbers, Usage}
@@ -9,14 +10,15 @@ use Rattle.hp_model.specs.declared.step.Reserving.TheVariants.{Reserve, NoReserv
 use Rattle.hp_model.specs.declared.step.Sharing.TheVariants.{Shared, Private}
 use Rattle.hp_model.specs.declared.step.Step.{Step}
 use Rattle.hp_model.specs.declared.step.Step.TheVariants.{Connect, Create, Df, Fork, Load, Map, Meminfo, Mount, Nr, Store}
-use Rattle.hp_model.specs.File.{File}
+use Rattle.hp_model.specs.File.{File, cell_at}
 use Rattle.hp_model.specs.Machine.{committed_pages, counts_in, pool_of}
 use Rattle.hp_model.specs.NodeRows.{free_of, total_of}
 use Rattle.hp_model.specs.Plain.{plain_step}
 use Rattle.hp_model.specs.Plan.{Slot}
-use Rattle.hp_model.specs.Promises.{is_backed_step, is_cut_off_step, least_of, map_at, seen_in, seen_over, shown_in, stored_over, LeavesAll, Makes, SameLimits, Tells}
+use Rattle.hp_model.specs.Promises.{LeavesAll, Makes, SameLimits, StillNamed, Tells, file_in, is_backed_step, is_cut_off_step, least_of, map_at, map_named, seen_in, seen_over, shown_in, shown_on, stored_over}
 use Rattle.hp_model.specs.Spot.{Spot}
 use Rattle.hp_model.specs.State.{Node, State, slot_at, with_slot}
+use Rattle.hp_model.specs.Value.{shown}
 use Rattle.hp_worked.proofs.WorkedWords.{machine}
 
 abbrev after_all : State → List Step → State
@@ -165,3 +167,35 @@ number_in_use e = (let there : 1 ≡ 99 = ap file_of_spot e.0 in absurd (omega (
 
 created_and_forgotten : Makes shared (Create 0 (codes "c")) (Ok Done) shared → ⊥
 created_and_forgotten e = (let wrong : false ≡ true = ap is_some e.1.1 in cc)
+
+-- ---- a name that means another file, a name and a number that are lost
+
+abbrev stored : State
+stored = (plain_step shared into_first).1
+
+-- the names of the two files are exchanged
+abbrev exchanged : Slot → Slot
+exchanged None = None
+exchanged (Some m) = Some (record m { files = record (file_in m 0) { name = Some (codes "b") } ∷ record (file_in m 1) { name = Some (codes "a") } ∷ [] })
+
+abbrev stored_bytes : List ℕ
+stored_bytes = shown_in stored 0 0 0
+
+still_there : take 2 stored_bytes ≡ 0 ∷ 9 ∷ []
+still_there = refl
+
+abbrev shown_of : Option (ℕ × File) → List ℕ
+shown_of None = []
+shown_of (Some f) = shown 1024 (cell_at f.1 0)
+
+name_means_another_file : StillNamed 1024 (exchanged (slot_at stored 0)) (codes "a") 0 stored_bytes → ⊥
+name_means_another_file e =
+    (let bytes : take 2 (shown_on 1024 (exchanged (slot_at stored 0)) 1 0) ≡ take 2 stored_bytes =
+    ap (λ (o : Option (ℕ × File)). take 2 (shown_of o)) e.1 ∙ ap (take 2) e.2 in
+    let wrong : false ≡ true = ap (λ (xs : List ℕ). slice_index_or xs 1 0 == 9) bytes in cc)
+
+name_is_lost : StillNamed 1024 (slot_at machine 0) (codes "a") 0 stored_bytes → ⊥
+name_is_lost e = (let wrong : false ≡ true = ap is_some e.1 in cc)
+
+number_is_lost : (q : Spot) → map_named machine 0 1 1 ≡ Some q → ⊥
+number_is_lost q e = (let wrong : false ≡ true = ap is_some e in cc)

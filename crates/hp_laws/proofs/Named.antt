@@ -1,0 +1,88 @@
+-- What is shown by place is shown by name and number, where these stay in place.
+use Rattle.std.proofs.Common.{◌≡◌, ⊎_elim, inl, inr, ◌⊎◌, subst, ℕ, true, false, None, Some, List, sym, ap, ◌∙◌}
+use Rattle.hp_model.specs.declared.step.Step.{Step}
+use Rattle.hp_model.specs.declared.step.Step.TheVariants.{Store}
+use Rattle.hp_model.specs.File.{File, cell_at, new_file}
+use Rattle.hp_model.specs.Mapping.{Map, is_map}
+use Rattle.hp_model.specs.Plan.{Reply, Slot}
+use Rattle.hp_model.specs.Promises.{IsLostTo, LosesCopy, LosesTo, StillMapped, StillNamed, is_unmounted, map_at, map_in, map_named, map_on, named_on, no_map, seen_in, seen_on, seen_over, shown_in, shown_on, spot_on, stored_over}
+use Rattle.hp_model.specs.SlotEvent.{has_name}
+use Rattle.hp_model.specs.Spot.{Spot}
+use Rattle.hp_model.specs.State.{State, slot_at}
+use Rattle.hp_model.specs.Value.{shown, value}
+use Rattle.hp_laws.proofs.Keys.{places}
+use Rattle.hp_laws.proofs.Lifted.{KeepsBut}
+use Rattle.hp_laws.proofs.Meanings.{SlotPlaced}
+use Rattle.hp_laws.proofs.MountMoves.{spot_is}
+use Rattle.hp_laws.proofs.Places.{found_place}
+
+-- ---- one slot
+
+file_shown : (size : ℕ) (x : Slot) (name : List ℕ) (f : ℕ × File) (i : ℕ) → named_on x name ≡ Some f → shown_on size x f.0 i ≡ shown size (cell_at f.1 i)
+file_shown size None name f i e = cc
+file_shown size (Some m) name f i e = ap (λ (y : File). shown size (cell_at y i)) ((found_place (has_name name) m.files f e).is (new_file None))
+
+map_shown : (x : Slot) (task number : ℕ) (p : Spot) → spot_on x task number ≡ Some p → map_on x p.file_no p.map_no ≡ p.map
+map_shown None task number p e = cc
+map_shown (Some m) task number p e =
+    let at = spot_is m (is_map task number) p e in ap (λ (f : File). map_in f p.map_no) (at.file.is (new_file None)) ∙ at.map.is no_map
+
+seen_shown : (size : ℕ) (x : Slot) (task number : ℕ) (p : Spot) (i : ℕ) → spot_on x task number ≡ Some p → seen_on size x p.file_no p.map_no i ≡ value size p.file p.map i
+seen_shown size None task number p i e = cc
+seen_shown size (Some m) task number p i e =
+    let at = spot_is m (is_map task number) p e in
+    ap (λ (f : File). value size f (map_in f p.map_no) i) (at.file.is (new_file None)) ∙ ap (λ (y : Map). value size p.file y i) (at.map.is no_map)
+
+name_stays : (x y : Slot) (name : List ℕ) (f : ℕ × File) → SlotPlaced x y → named_on x name ≡ Some f → (g : ℕ × File) × (named_on y name ≡ Some g) × (g.0 ≡ f.0)
+name_stays None y name f stays e = cc
+name_stays (Some m) None name f stays e = absurd stays
+name_stays (Some m) (Some n) name f stays e = stays.names name f e
+
+number_stays : (x y : Slot) (task number : ℕ) (p : Spot) → SlotPlaced x y → spot_on x task number ≡ Some p → (q : Spot) × (spot_on y task number ≡ Some q) × (places q ≡ places p)
+number_stays None y task number p stays e = cc
+number_stays (Some m) None task number p stays e = absurd stays
+number_stays (Some m) (Some n) task number p stays e = stays.numbers task number p e
+
+-- ---- a step
+
+module _ (s : State) (step : Step) (reply : Reply) (t : State) (stays : KeepsBut SlotPlaced (is_unmounted step reply) s t) where
+  pub files_by_name : ((k j i : ℕ) → is_unmounted step reply k ≡ false → shown_in t k j i ≡ stored_over s step reply k j i (shown_in s k j i))
+      → (slot : ℕ) (name : List ℕ) (i : ℕ) (f : ℕ × File) → is_unmounted step reply slot ≡ false → named_on (slot_at s slot) name ≡ Some f
+      → StillNamed t.page_size (slot_at t slot) name i (stored_over s step reply slot f.0 i (shown s.page_size (cell_at f.1 i)))
+  files_by_name files slot name i f there e =
+      let n = name_stays (slot_at s slot) (slot_at t slot) name f (stays slot there) e in (
+        n.0,
+        n.1,
+        sym (file_shown t.page_size (slot_at t slot) name n.0 i n.1) ∙ ap (λ j. shown_in t slot j i) n.2 ∙ files slot f.0 i there
+            ∙ ap (stored_over s step reply slot f.0 i) (file_shown s.page_size (slot_at s slot) name f i e),
+      )
+
+  -- what was lost by place was lost by number
+  lost_to : (step : Step) (slot : ℕ) (p q : Spot) (i : ℕ) → map_at s slot p.file_no p.map_no ≡ p.map → map_at t slot p.file_no p.map_no ≡ q.map
+      → LosesCopy s step t slot p.file_no p.map_no i → LosesTo s step slot p q i
+  lost_to (Store task k number x offset bytes) slot p q i old new lost = (
+    lost.0,
+    subst (λ (y : Map). IsLostTo (map_named s k task number) x y q.map p.file_no i) old
+        (subst (λ (y : Map). IsLostTo (map_named s k task number) x (map_at s slot p.file_no p.map_no) y p.file_no i) new lost.1),
+  )
+  lost_to other slot p q i old new lost = absurd lost
+
+  pub maps_by_number : ((k j l i : ℕ) → is_unmounted step reply k ≡ false → (seen_in t k j l i ≡ seen_over s step reply k j l i (seen_in s k j l i)) ⊎ LosesCopy s step t k j l i)
+      → ((k j l : ℕ) → (map_at s k j l).unmapped ≡ true → (map_at t k j l).unmapped ≡ true)
+      → (slot task number i : ℕ) (p : Spot) → is_unmounted step reply slot ≡ false → map_named s slot task number ≡ Some p
+      → (q : Spot) × (map_named t slot task number ≡ Some q) × StillMapped s step reply t.page_size slot p q i
+  maps_by_number maps marks slot task number i p there e =
+      let n = number_stays (slot_at s slot) (slot_at t slot) task number p (stays slot there) e in
+      let q = n.0 in
+      let old : map_at s slot p.file_no p.map_no ≡ p.map = map_shown (slot_at s slot) task number p e in
+      let new : map_at t slot p.file_no p.map_no ≡ q.map = ap (λ (x : ℕ × ℕ). map_at t slot x.0 x.1) (sym n.2) ∙ map_shown (slot_at t slot) task number q n.1 in
+      let shows : value t.page_size q.file q.map i ≡ seen_in t slot p.file_no p.map_no i =
+      sym (seen_shown t.page_size (slot_at t slot) task number q i n.1) ∙ ap (λ (x : ℕ × ℕ). seen_in t slot x.0 x.1 i) n.2 in (
+        q,
+        n.1,
+        (
+          ⊎_elim (λ same. inl (shows ∙ same ∙ ap (seen_over s step reply slot p.file_no p.map_no i) (seen_shown s.page_size (slot_at s slot) task number p i e)))
+              (λ lost. inr (lost_to step slot p q i old new lost)) (maps slot p.file_no p.map_no i there),
+          λ marked. ap (λ (x : Map). x.unmapped) (sym new) ∙ marks slot p.file_no p.map_no (ap (λ (x : Map). x.unmapped) old ∙ marked),
+        ),
+      )
