@@ -67,10 +67,12 @@ impl Sink for Stderr {
     }
 }
 
-/// Writes all the bytes. `Write` says that a write failed or took none, and then a front of them is written.
+/// Writes all the bytes. `Write` says that a write failed or took none of them; then a front of the
+/// bytes is written.
 pub fn write_whole<W: Sink>(writer: &mut W, bytes: &[u8]) -> Result<(), RunFault>
     ensures sent { OnOk result (Appends (W.contents writer.old) (W.contents writer.new) bytes.now) }
-    ensures cut { IfErr result (λ e. (e ≡ RunFault.Write) × AppendsFront (W.contents writer.old) (W.contents writer.new) bytes.now) }
+    ensures cut { IfErr result (λ e. (e ≡ RunFault.Write)
+        × AppendsFront (W.contents writer.old) (W.contents writer.new) bytes.now) }
     ensures sure { W.is_sure writer.old → IsOk result }
     ensures stays { W.is_sure writer.old → W.is_sure writer.new }
 {

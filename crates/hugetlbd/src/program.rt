@@ -23,12 +23,12 @@ use std::io::Write;
 use std::marker::Brand;
 use std::sync::ledger::Blank;
 
-/// Does what the words ask for, of which the first is the program's name, and gives the status that the process ends
-/// with.
+/// Does what the words ask for, of which the first is the program's name, and gives the status that
+/// the process ends with.
 ///
-/// A script on `input` is answered on `output` by the machine of the words: 0, or 1 with the reason on `faults`. Help
-/// is written to `output`, with 0. A wrong command line is named on `faults`, with 2. Where no script runs and no help
-/// is asked for, `output` is as it was.
+/// A script on `input` is answered on `output` by the machine of the words: 0, or 1 with the reason
+/// on `faults`. Help is written to `output`, with 0. A wrong command line is named on `faults`, with
+/// 2. Where no script runs and no help is asked for, `output` is as it was.
 pub fn program<'a, S: AsStr, R: Source, W: Sink, E: Sink>(
     alloc: Global,
     words: &'a [S],
