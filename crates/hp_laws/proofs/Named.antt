@@ -1,11 +1,12 @@
 -- What is shown by place is shown by name and number, where these stay in place.
-use Rattle.std.proofs.Common.{◌≡◌, ⊎_elim, inl, inr, ◌⊎◌, subst, ℕ, true, false, None, Some, List, sym, ap, ◌∙◌}
+use Rattle.std.proofs.Common.{◌≡◌, ⊎_elim, inl, inr, ◌⊎◌, subst, ℕ, true, false, None, Some, Ok, List, refl, sym, ap, ◌∙◌}
 use Rattle.hp_model.specs.declared.step.Step.{Step}
-use Rattle.hp_model.specs.declared.step.Step.TheVariants.{Store}
+use Rattle.hp_model.specs.declared.step.Step.TheVariants.{Exit, Fault, Fork, Store, Unlink, Unmap}
+use Rattle.hp_model.specs.declared.step.Intent.TheVariants.{Write}
 use Rattle.hp_model.specs.File.{File, cell_at, new_file}
 use Rattle.hp_model.specs.Mapping.{Map, is_map}
 use Rattle.hp_model.specs.Plan.{Reply, Slot}
-use Rattle.hp_model.specs.Promises.{IsLostTo, LosesCopy, LosesTo, StillMapped, StillNamed, is_unmounted, map_at, map_in, map_named, map_on, named_on, no_map, seen_in, seen_on, seen_over, shown_in, shown_on, spot_on, stored_over}
+use Rattle.hp_model.specs.Promises.{IsLostTo, LosesCopy, LosesTo, StillMapped, StillNamed, is_ended_name, is_ended_number, is_unmounted, map_at, map_in, map_named, map_on, named_on, no_map, seen_in, seen_on, seen_over, shown_in, shown_on, spot_on, stored_over}
 use Rattle.hp_model.specs.SlotEvent.{has_name}
 use Rattle.hp_model.specs.Spot.{Spot}
 use Rattle.hp_model.specs.State.{State, slot_at}
@@ -46,17 +47,6 @@ number_stays (Some m) (Some n) task number p stays e = stays.numbers task number
 -- ---- a step
 
 module _ (s : State) (step : Step) (reply : Reply) (t : State) (stays : KeepsBut SlotPlaced (is_unmounted step reply) s t) where
-  pub files_by_name : ((k j i : ℕ) → is_unmounted step reply k ≡ false → shown_in t k j i ≡ stored_over s step reply k j i (shown_in s k j i))
-      → (slot : ℕ) (name : List ℕ) (i : ℕ) (f : ℕ × File) → is_unmounted step reply slot ≡ false → named_on (slot_at s slot) name ≡ Some f
-      → StillNamed t.page_size (slot_at t slot) name i (stored_over s step reply slot f.0 i (shown s.page_size (cell_at f.1 i)))
-  files_by_name files slot name i f there e =
-      let n = name_stays (slot_at s slot) (slot_at t slot) name f (stays slot there) e in (
-        n.0,
-        n.1,
-        sym (file_shown t.page_size (slot_at t slot) name n.0 i n.1) ∙ ap (λ j. shown_in t slot j i) n.2 ∙ files slot f.0 i there
-            ∙ ap (stored_over s step reply slot f.0 i) (file_shown s.page_size (slot_at s slot) name f i e),
-      )
-
   -- what was lost by place was lost by number
   lost_to : (step : Step) (slot : ℕ) (p q : Spot) (i : ℕ) → map_at s slot p.file_no p.map_no ≡ p.map → map_at t slot p.file_no p.map_no ≡ q.map
       → LosesCopy s step t slot p.file_no p.map_no i → LosesTo s step slot p q i
@@ -65,13 +55,42 @@ module _ (s : State) (step : Step) (reply : Reply) (t : State) (stays : KeepsBut
     subst (λ (y : Map). IsLostTo (map_named s k task number) x y q.map p.file_no i) old
         (subst (λ (y : Map). IsLostTo (map_named s k task number) x (map_at s slot p.file_no p.map_no) y p.file_no i) new lost.1),
   )
+  lost_to (Fault task k number x Write) slot p q i old new lost = (
+    lost.0,
+    subst (λ (y : Map). IsLostTo (map_named s k task number) x y q.map p.file_no i) old
+        (subst (λ (y : Map). IsLostTo (map_named s k task number) x (map_at s slot p.file_no p.map_no) y p.file_no i) new lost.1),
+  )
   lost_to other slot p q i old new lost = absurd lost
+
+  -- what ends a mount ends its names and numbers
+  open_name : (step : Step) (reply : Reply) (slot : ℕ) (name : List ℕ) → is_ended_name step reply slot name ≡ false → is_unmounted step reply slot ≡ false
+  open_name (Unlink k gone) (Ok a) slot name e = refl
+  open_name step reply slot name e = e
+
+  open_number : (step : Step) (reply : Reply) (slot task number : ℕ) → is_ended_number s step reply slot task number ≡ false → is_unmounted step reply slot ≡ false
+  open_number (Exit gone) (Ok a) slot task number e = refl
+  open_number (Fork parent child) reply slot task number e = refl
+  open_number (Unmap owner k gone a b) (Ok x) slot task number e = refl
+  open_number step reply slot task number e = e
+
+  pub files_by_name : ((k j i : ℕ) → is_unmounted step reply k ≡ false → shown_in t k j i ≡ stored_over s step reply k j i (shown_in s k j i))
+      → (slot : ℕ) (name : List ℕ) (i : ℕ) (f : ℕ × File) → is_ended_name step reply slot name ≡ false → named_on (slot_at s slot) name ≡ Some f
+      → StillNamed t.page_size (slot_at t slot) name i (stored_over s step reply slot f.0 i (shown s.page_size (cell_at f.1 i)))
+  files_by_name files slot name i f goes_on e =
+      let there = open_name step reply slot name goes_on in
+      let n = name_stays (slot_at s slot) (slot_at t slot) name f (stays slot there) e in (
+        n.0,
+        n.1,
+        sym (file_shown t.page_size (slot_at t slot) name n.0 i n.1) ∙ ap (λ j. shown_in t slot j i) n.2 ∙ files slot f.0 i there
+            ∙ ap (stored_over s step reply slot f.0 i) (file_shown s.page_size (slot_at s slot) name f i e),
+      )
 
   pub maps_by_number : ((k j l i : ℕ) → is_unmounted step reply k ≡ false → (seen_in t k j l i ≡ seen_over s step reply k j l i (seen_in s k j l i)) ⊎ LosesCopy s step t k j l i)
       → ((k j l : ℕ) → (map_at s k j l).unmapped ≡ true → (map_at t k j l).unmapped ≡ true)
-      → (slot task number i : ℕ) (p : Spot) → is_unmounted step reply slot ≡ false → map_named s slot task number ≡ Some p
+      → (slot task number i : ℕ) (p : Spot) → is_ended_number s step reply slot task number ≡ false → map_named s slot task number ≡ Some p
       → (q : Spot) × (map_named t slot task number ≡ Some q) × StillMapped s step reply t.page_size slot p q i
-  maps_by_number maps marks slot task number i p there e =
+  maps_by_number maps marks slot task number i p goes_on e =
+      let there = open_number step reply slot task number goes_on in
       let n = number_stays (slot_at s slot) (slot_at t slot) task number p (stays slot there) e in
       let q = n.0 in
       let old : map_at s slot p.file_no p.map_no ≡ p.map = map_shown (slot_at s slot) task number p e in

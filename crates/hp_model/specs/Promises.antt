@@ -1,7 +1,8 @@
 -- What the machine promises of each step.
-use Rattle.std.specs.Prelude.{◌≡◌, ◌⊎◌, ℕ, ◌+◌, ◌<◌, ◌≤◌, ◌&&◌, ◌||◌, ◌==◌, Bool, true, false, not, Option, None, Some, is_some, option_map, Ok, Err, List, [], ◌++◌, length, take, drop, if◌then◌else◌}
+use Rattle.std.specs.Prelude.{◌≡◌, ◌⊎◌, ℕ, ◌+◌, ◌<◌, ◌≤◌, ◌&&◌, ◌||◌, ◌==◌, Bool, true, false, not, Option, None, Some, is_some, option_map, Ok, Err, List, [], ◌++◌, length, take, drop, if◌then◌else◌, nat_le, nat_lt}
 use Rattle.std.specs.Bool.{MatchBool}
 use Rattle.std.specs.List.{slice_index_or}
+use Rattle.std.specs.Str.{bytes_eq}
 use Rattle.hp_model.specs.declared.answer.Answer.{Answer}
 use Rattle.hp_model.specs.declared.answer.Answer.TheVariants.{MapNo, Numbers, PerNode, Usage}
 use Rattle.hp_model.specs.declared.event.Event.{Event}
@@ -14,14 +15,14 @@ use Rattle.hp_model.specs.declared.step.Intent.TheVariants.{Read, Write}
 use Rattle.hp_model.specs.declared.place.Place.{Place}
 use Rattle.hp_model.specs.declared.step.Sharing.TheVariants.{Shared}
 use Rattle.hp_model.specs.declared.step.Step.{Step}
-use Rattle.hp_model.specs.declared.step.Step.TheVariants.{Create as CreateStep, Df, Fault, Fork, Load, Map as MapStep, Meminfo, Mount as MountStep, Nodes, Read as ReadStep, Store, Umount}
+use Rattle.hp_model.specs.declared.step.Step.TheVariants.{Create as CreateStep, Df, Exit, Fault, Fork, Load, Map as MapStep, Meminfo, Mount as MountStep, Nodes, Punch as PunchStep, Read as ReadStep, Store, Truncate as TruncateStep, Umount, Unlink as UnlinkStep, Unmap as UnmapStep}
 use Rattle.hp_model.specs.Plan.{slot_usage, IsWithinLimit}
 use Rattle.hp_model.specs.CopyWrite.{holds}
 use Rattle.hp_model.specs.File.{File, Mount, cell_at, new_file}
 use Rattle.hp_model.specs.GiveBack.{without_task}
 use Rattle.hp_model.specs.Machine.{committed_pages, counts_in, pool_of}
 use Rattle.hp_model.specs.MakeMap.{new_map}
-use Rattle.hp_model.specs.Mapping.{Map, copy_of, is_map, is_shared, place_at}
+use Rattle.hp_model.specs.Mapping.{Map, copy_of, is_map, is_mapped, is_shared, place_at, without_range}
 use Rattle.hp_model.specs.MountCounts.{usage_of}
 use Rattle.hp_model.specs.NodeRows.{total_of}
 use Rattle.hp_model.specs.Page.{Copy, zeros}
@@ -111,10 +112,25 @@ abbrev pub is_shared_of : Option Spot → ℕ → Bool
 is_shared_of None file = false
 is_shared_of (Some s) file = is_shared s.map.sharing && (s.file_no == file)
 
--- what the step makes of the bytes there: a store through a shared map of that file writes them
+abbrev pub named_on : Slot → List ℕ → Option (ℕ × File)
+named_on None name = None
+named_on (Some m) name = file_named m name
+
+-- the name means that file
+abbrev pub means_file : Slot → List ℕ → (file : ℕ) → Bool
+means_file slot name file = elim (named_on slot name) [ None ↦ false | Some f ↦ f.0 == file ]
+
+abbrev pub is_in : (a b i : ℕ) → Bool
+is_in a b i = nat_le a i && nat_lt i b
+
+-- what the step makes of the bytes there: a store through a shared map of that file writes them, and what is cut off or punched is zeros
 abbrev pub stored_over : State → Step → Reply → (slot file i : ℕ) → List ℕ → List ℕ
 stored_over s (Store task slot number i offset bytes) (Ok a) k file j old =
     if (slot == k) && ((i == j) && is_shared_of (map_named s slot task number) file) then over offset bytes old else old
+stored_over s (TruncateStep slot name n) (Ok a) k file j old =
+    if (slot == k) && (means_file (slot_at s k) name file && nat_le n j) then zeros s.page_size else old
+stored_over s (PunchStep slot name from to) (Ok a) k file j old =
+    if (slot == k) && (means_file (slot_at s k) name file && is_in from to j) then zeros s.page_size else old
 stored_over s step reply k file j old = old
 
 -- ---- what maps show
@@ -155,10 +171,22 @@ abbrev pub reaches : Option Spot → Map → (file map i : ℕ) → Bool
 reaches None old file map i = false
 reaches (Some s) old file map i = (s.file_no == file) && (if is_shared s.map.sharing then not (is_some (copy_of (place_at old i))) else (s.map_no == map))
 
--- what the step makes of the bytes that a map shows
+-- the map of the task with the number stands there
+abbrev pub is_at : Option Spot → (file map : ℕ) → Bool
+is_at None file map = false
+is_at (Some s) file map = (s.file_no == file) && (s.map_no == map)
+
+-- what the step makes of the bytes that a map shows: a store writes them, what is cut off or punched is zeros, and where a map is unmapped
+-- the file is left
 abbrev pub seen_over : State → Step → Reply → (slot file map i : ℕ) → List ℕ → List ℕ
 seen_over s (Store task slot number i offset bytes) (Ok a) k file map j old =
     if (slot == k) && ((i == j) && reaches (map_named s slot task number) (map_at s k file map) file map j) then over offset bytes old else old
+seen_over s (TruncateStep slot name n) (Ok a) k file map j old =
+    if (slot == k) && (means_file (slot_at s k) name file && nat_le n j) then zeros s.page_size else old
+seen_over s (PunchStep slot name from to) (Ok a) k file map j old =
+    if (slot == k) && (means_file (slot_at s k) name file && is_in from to j) then zeros s.page_size else old
+seen_over s (UnmapStep task slot number from to) (Ok a) k file map j old =
+    if (slot == k) && (is_at (map_named s slot task number) file map && is_in from to j) then shown_in s k file j else old
 seen_over s step reply k file map j old = old
 
 abbrev pub is_same_copy : Place Copy → Place Copy → Bool
@@ -178,13 +206,33 @@ IsLostTo (Some s) i old new file j = (s.file_no ≡ file) × IsLost s i old new 
 
 abbrev pub LosesCopy : State → Step → State → (slot file map i : ℕ) → Type 0
 LosesCopy s (Store task slot number i offset bytes) t k file map j = (slot ≡ k) × IsLostTo (map_named s slot task number) i (map_at s k file map) (map_at t k file map) file j
+LosesCopy s (Fault task slot number i Write) t k file map j = (slot ≡ k) × IsLostTo (map_named s slot task number) i (map_at s k file map) (map_at t k file map) file j
 LosesCopy s step t k file map j = ⊥
 
 -- ---- what names and numbers mean afterwards
 
-abbrev pub named_on : Slot → List ℕ → Option (ℕ × File)
-named_on None name = None
-named_on (Some m) name = file_named m name
+-- the slot's mount, and all its files, went by this step
+abbrev pub is_unmounted : Step → Reply → ℕ → Bool
+is_unmounted (Umount k) (Ok a) slot = k == slot
+is_unmounted step reply slot = false
+
+-- the name was ended by this step: it was unlinked, or its mount went
+abbrev pub is_ended_name : Step → Reply → (slot : ℕ) → List ℕ → Bool
+is_ended_name (UnlinkStep k gone) (Ok a) slot name = (k == slot) && bytes_eq gone name
+is_ended_name step reply slot name = is_unmounted step reply slot
+
+-- whether an index of the map stays mapped
+abbrev pub stays_mapped : Option Spot → (from to : ℕ) → Bool
+stays_mapped None from to = false
+stays_mapped (Some s) from to = is_mapped (without_range from to s.map)
+
+-- the number was ended by this step: its last index was unmapped, its task left, its mount went; or a fork ended the child's old maps
+abbrev pub is_ended_number : State → Step → Reply → (slot task number : ℕ) → Bool
+is_ended_number s (Exit gone) (Ok a) slot task number = gone == task
+is_ended_number s (Fork parent child) reply slot task number = child == task
+is_ended_number s (UnmapStep owner k gone from to) (Ok a) slot task number =
+    (k == slot) && ((owner == task) && ((gone == number) && not (stays_mapped (map_named s slot task number) from to)))
+is_ended_number s step reply slot task number = is_unmounted step reply slot
 
 -- the name has a file, which shows these bytes at the index
 abbrev pub StillNamed : (size : ℕ) → Slot → List ℕ → (i : ℕ) → List ℕ → Type 0
@@ -192,6 +240,7 @@ StillNamed size slot name i bytes = (g : ℕ × File) × (named_on slot name ≡
 
 abbrev pub LosesTo : State → Step → (slot : ℕ) (p q : Spot) (j : ℕ) → Type 0
 LosesTo s (Store task slot number i offset bytes) k p q j = (slot ≡ k) × IsLostTo (map_named s slot task number) i p.map q.map p.file_no j
+LosesTo s (Fault task slot number i Write) k p q j = (slot ≡ k) × IsLostTo (map_named s slot task number) i p.map q.map p.file_no j
 LosesTo s step k p q j = ⊥
 
 -- p before and q after: the bytes are as they were but for a store, or the copy is lost; and a marked map stays marked
@@ -284,11 +333,6 @@ SameLimits None new = Unit {0}
 SameLimits (Some m) None = ⊥
 SameLimits (Some m) (Some n) = n.limits ≡ m.limits
 
--- the slot's mount, and all its files, went by this step
-abbrev pub is_unmounted : Step → Reply → ℕ → Bool
-is_unmounted (Umount k) (Ok a) slot = k == slot
-is_unmounted step reply slot = false
-
 -- the step answers a mount's limits, which are as large as its options made them
 abbrev pub is_usage : Step → Bool
 is_usage (Df k) = true
@@ -315,11 +359,11 @@ pub record IsPromised (s : State) (step : Step) (reply : Reply) (t : State) : Ty
   pub makes : Makes s step reply t
   -- a refused step leaves the whole machine as it was
   pub refused : LeavesAll s step reply t
-  -- each name keeps its file, which shows what it showed, but for what is stored through a shared map of it; only an umount ends files
-  pub files : (slot : ℕ) (name : List ℕ) (i : ℕ) (f : ℕ × File) → is_unmounted step reply slot ≡ false → named_on (slot_at s slot) name ≡ Some f
+  -- each name keeps its file, which shows what it showed, but for what a step stores, cuts off or punches
+  pub files : (slot : ℕ) (name : List ℕ) (i : ℕ) (f : ℕ × File) → is_ended_name step reply slot name ≡ false → named_on (slot_at s slot) name ≡ Some f
       → StillNamed t.page_size (slot_at t slot) name i (stored_over s step reply slot f.0 i (shown s.page_size (cell_at f.1 i)))
   -- each number of a task keeps its map, which shows what it showed, but for what a store reaches; or it has lost its copy to the owner that stored
-  pub maps : (slot task number i : ℕ) (p : Spot) → is_unmounted step reply slot ≡ false → map_named s slot task number ≡ Some p
+  pub maps : (slot task number i : ℕ) (p : Spot) → is_ended_number s step reply slot task number ≡ false → map_named s slot task number ≡ Some p
       → (q : Spot) × (map_named t slot task number ≡ Some q) × StillMapped s step reply t.page_size slot p q i
   -- an access through a marked map is refused where it has no copy
   pub cut_off : is_cut_off_step s step ≡ true → is_refused reply ≡ true

@@ -9,13 +9,13 @@ use Rattle.hp_model.specs.declared.refusal.Refusal.TheVariants.{BadName, NoPages
 use Rattle.hp_model.specs.declared.step.Reserving.TheVariants.{Reserve, NoReserve}
 use Rattle.hp_model.specs.declared.step.Sharing.TheVariants.{Shared, Private}
 use Rattle.hp_model.specs.declared.step.Step.{Step}
-use Rattle.hp_model.specs.declared.step.Step.TheVariants.{Connect, Create, Df, Fork, Load, Map, Meminfo, Mount, Nr, Store}
+use Rattle.hp_model.specs.declared.step.Step.TheVariants.{Connect, Create, Df, Fork, Load, Map, Meminfo, Mount, Nr, Punch, Store, Truncate, Unmap}
 use Rattle.hp_model.specs.File.{File, cell_at}
 use Rattle.hp_model.specs.Machine.{committed_pages, counts_in, pool_of}
 use Rattle.hp_model.specs.NodeRows.{free_of, total_of}
 use Rattle.hp_model.specs.Plain.{plain_step}
 use Rattle.hp_model.specs.Plan.{Slot}
-use Rattle.hp_model.specs.Promises.{LeavesAll, Makes, SameLimits, StillNamed, Tells, file_in, is_backed_step, is_cut_off_step, least_of, map_at, map_named, seen_in, seen_over, shown_in, shown_on, stored_over}
+use Rattle.hp_model.specs.Promises.{LeavesAll, Makes, SameLimits, StillNamed, Tells, file_in, is_backed_step, is_cut_off_step, is_ended_number, least_of, map_at, map_named, seen_in, seen_over, shown_in, shown_on, stored_over}
 use Rattle.hp_model.specs.Spot.{Spot}
 use Rattle.hp_model.specs.State.{Node, State, slot_at, with_slot}
 use Rattle.hp_model.specs.Value.{shown}
@@ -199,3 +199,34 @@ name_is_lost e = (let wrong : false ≡ true = ap is_some e.1 in cc)
 
 number_is_lost : (q : Spot) → map_named machine 0 1 1 ≡ Some q → ⊥
 number_is_lost q e = (let wrong : false ≡ true = ap is_some e in cc)
+
+-- ---- steps that are not built yet: what they leave is what is promised
+
+abbrev punched_out : Step
+punched_out = Punch 0 (codes "a") 0 1
+
+punch_shows_zeros : take 2 (stored_over stored punched_out (Ok Done) 0 0 0 stored_bytes) ≡ take 2 (shown_in (plain_step stored punched_out).1 0 0 0)
+punch_shows_zeros = refl
+
+punch_elsewhere : take 2 (stored_over stored (Punch 0 (codes "b") 0 1) (Ok Done) 0 0 0 stored_bytes) ≡ take 2 (shown_in (plain_step stored (Punch 0 (codes "b") 0 1)).1 0 0 0)
+punch_elsewhere = refl
+
+truncated_map_shows_zeros :
+    take 2 (seen_over forked (Truncate 0 (codes "a") 0) (Ok Done) 0 0 1 0 (seen_in forked 0 0 1 0)) ≡ take 2 (seen_in (plain_step forked (Truncate 0 (codes "a") 0)).1 0 0 1 0)
+truncated_map_shows_zeros = refl
+
+abbrev unmapped_first : Step
+unmapped_first = Unmap 1 0 1 0 1
+
+unmap_shows_the_file : take 2 (seen_over forked unmapped_first (Ok Done) 0 0 0 0 (seen_in forked 0 0 0 0)) ≡ take 2 (seen_in (plain_step forked unmapped_first).1 0 0 0 0)
+unmap_shows_the_file = refl
+
+-- the child's map keeps its copy
+unmap_of_another : take 2 (seen_over forked unmapped_first (Ok Done) 0 0 1 0 (seen_in forked 0 0 1 0)) ≡ take 2 (seen_in (plain_step forked unmapped_first).1 0 0 1 0)
+unmap_of_another = refl
+
+part_is_not_the_end : is_ended_number forked unmapped_first (Ok Done) 0 1 1 ≡ false
+part_is_not_the_end = refl
+
+whole_is_the_end : is_ended_number forked (Unmap 1 0 1 0 2) (Ok Done) 0 1 1 ≡ true
+whole_is_the_end = refl
