@@ -52,13 +52,13 @@ module _ (s : State) (step : Step) (reply : Reply) (t : State) (stays : KeepsBut
       → LosesCopy s step t slot p.file_no p.map_no i → LosesTo s step slot p q i
   lost_to (Store task k number x offset bytes) slot p q i old new lost = (
     lost.0,
-    subst (λ (y : Map). IsLostTo (map_named s k task number) x y q.map p.file_no i) old
-        (subst (λ (y : Map). IsLostTo (map_named s k task number) x (map_at s slot p.file_no p.map_no) y p.file_no i) new lost.1),
+    subst (λ (y : Map). IsLostTo (map_named s k task number) x y q.map p.file_no p.map_no i) old
+        (subst (λ (y : Map). IsLostTo (map_named s k task number) x (map_at s slot p.file_no p.map_no) y p.file_no p.map_no i) new lost.1),
   )
   lost_to (Fault task k number x Write) slot p q i old new lost = (
     lost.0,
-    subst (λ (y : Map). IsLostTo (map_named s k task number) x y q.map p.file_no i) old
-        (subst (λ (y : Map). IsLostTo (map_named s k task number) x (map_at s slot p.file_no p.map_no) y p.file_no i) new lost.1),
+    subst (λ (y : Map). IsLostTo (map_named s k task number) x y q.map p.file_no p.map_no i) old
+        (subst (λ (y : Map). IsLostTo (map_named s k task number) x (map_at s slot p.file_no p.map_no) y p.file_no p.map_no i) new lost.1),
   )
   lost_to other slot p q i old new lost = absurd lost
 

@@ -282,7 +282,7 @@ module _ (s : State) (reply : Reply) (t : State) (st : IsSettledState s) where
         (⊎_elim
         (λ same. inl (at_slot s k t new l size slots (λ z y. seen_on z y j n x) ∙ same
         ∙ picked k ((i == x) && reaches (map_named s k task number) (map_at s k j n) j n x) (seen_in s k j n x) (over offset bytes (seen_in s k j n x))))
-        (λ lost. inr (refl, subst (λ y. IsLostTo (map_named s k task number) i (map_at s k j n) y j x) (sym (at_slot s k t new l size slots (λ z y. map_on y j n))) lost))
+        (λ lost. inr (refl, subst (λ y. IsLostTo (map_named s k task number) i (map_at s k j n) y j n x) (sym (at_slot s k t new l size slots (λ z y. map_on y j n))) lost))
         (h.1 j n x))
         (λ o other. inl (elsewhere s k t new l size slots (λ z y. seen_on z y j n x) o other
         ∙ not_picked k o ((i == x) && reaches (map_named s k task number) (map_at s o j n) j n x) (seen_in s o j n x) (over offset bytes (seen_in s o j n x)) other)) o

@@ -78,7 +78,7 @@ robs size stamp m x v =
 
 module _ (size : ℕ) (m : Mount) (s : Spot) (at : IsSpot m s) (i offset : ℕ) (bytes : List ℕ) where
   abbrev Lost : Mount → (j l x : ℕ) → Type 0
-  Lost n j l x = (s.file_no ≡ j) × IsLost s i (map_in (file_in m j) l) (map_in (file_in n j) l) x
+  Lost n j l x = (s.file_no ≡ j) × IsLost s i (map_in (file_in m j) l) (map_in (file_in n j) l) x × (l ≡ s.map_no → ⊥)
 
   abbrev here : (j l x : ℕ) → List ℕ
   here j l x = seen size l x (file_in m j)
@@ -170,6 +170,7 @@ module _ (size : ℕ) (m : Mount) (s : Spot) (at : IsSpot m s) (i offset : ℕ) 
               lost = ap (λ f. copy_of (place_at (map_in f l) x)) file_left ∙ ap (λ y. copy_of (place_at y x)) (map_beside l other) ∙ lost.1;
               marked = ap (λ f. (map_in f l).unmapped) file_left ∙ ap (λ y. y.unmapped) (map_beside l other) ∙ lost.2;
             },
+            other,
           ))
           (robs size stamp (map_in s.file l) x (look size x s.file));
     }
@@ -221,7 +222,7 @@ module _ (size : ℕ) (m : Mount) (s : Spot) (at : IsSpot m s) (i offset : ℕ) 
         ⊎_elim
         (λ same. inl (ap (seen size l x) file_here ∙ ap (λ y. by_place size (place_at y x) (look size x f)) (map_other l other) ∙ same ∙ untested a))
         (λ lost. (let new : map_in (file_in after s.file_no) l ≡ map_in f l = ap (λ y. map_in y l) file_here ∙ map_other l other in
-        inr (lost.0, subst (λ y. IsLost s i (map_in (file_in m s.file_no) l) y x) (sym new) lost.1)))
+        inr (lost.0, subst (λ y. IsLost s i (map_in (file_in m s.file_no) l) y x) (sym new) lost.1, lost.2)))
         (is.beside l x other)
       where
         untested : (a : Bool) → here s.file_no l x ≡ (if a && (true && false) then over offset bytes (here s.file_no l x) else here s.file_no l x)

@@ -242,7 +242,7 @@ Stores size old o i offset bytes (Answered a new) =
     ((j x : ℕ) → shown_on size new j x ≡ (if (i == x) && is_shared_of o j then over offset bytes (shown_on size old j x) else shown_on size old j x))
     × ((j l x : ℕ) →
     (seen_on size new j l x ≡ (if (i == x) && reaches o (map_on old j l) j l x then over offset bytes (seen_on size old j l x) else seen_on size old j l x))
-    ⊎ IsLostTo o i (map_on old j l) (map_on new j l) j x)
+    ⊎ IsLostTo o i (map_on old j l) (map_on new j l) j l x)
     × ((j l : ℕ) → (map_on old j l).unmapped ≡ true → (map_on new j l).unmapped ≡ true)
 
 store_ends : (size : ℕ) (m : Mount) (s : Spot) (at : IsSpot m s) (i offset : ℕ) (bytes : List ℕ) (o : Outcome) → On (Result size m s at i) o

@@ -200,13 +200,14 @@ pub record IsLost (s : Spot) (i : ℕ) (old new : Map) (j : ℕ) : Type 0 where
   pub lost : copy_of (place_at new j) ≡ None
   pub marked : new.unmapped ≡ true
 
-abbrev pub IsLostTo : Option Spot → (i : ℕ) (old new : Map) (file j : ℕ) → Type 0
-IsLostTo None i old new file j = ⊥
-IsLostTo (Some s) i old new file j = (s.file_no ≡ file) × IsLost s i old new j
+-- another map of the owner's file has lost its copy to it
+abbrev pub IsLostTo : Option Spot → (i : ℕ) (old new : Map) (file map j : ℕ) → Type 0
+IsLostTo None i old new file map j = ⊥
+IsLostTo (Some s) i old new file map j = (s.file_no ≡ file) × IsLost s i old new j × (map ≡ s.map_no → ⊥)
 
 abbrev pub LosesCopy : State → Step → State → (slot file map i : ℕ) → Type 0
-LosesCopy s (Store task slot number i offset bytes) t k file map j = (slot ≡ k) × IsLostTo (map_named s slot task number) i (map_at s k file map) (map_at t k file map) file j
-LosesCopy s (Fault task slot number i Write) t k file map j = (slot ≡ k) × IsLostTo (map_named s slot task number) i (map_at s k file map) (map_at t k file map) file j
+LosesCopy s (Store task slot number i offset bytes) t k file map j = (slot ≡ k) × IsLostTo (map_named s slot task number) i (map_at s k file map) (map_at t k file map) file map j
+LosesCopy s (Fault task slot number i Write) t k file map j = (slot ≡ k) × IsLostTo (map_named s slot task number) i (map_at s k file map) (map_at t k file map) file map j
 LosesCopy s step t k file map j = ⊥
 
 -- ---- what names and numbers mean afterwards
@@ -239,8 +240,8 @@ abbrev pub StillNamed : (size : ℕ) → Slot → List ℕ → (i : ℕ) → Lis
 StillNamed size slot name i bytes = (g : ℕ × File) × (named_on slot name ≡ Some g) × (shown size (cell_at g.1 i) ≡ bytes)
 
 abbrev pub LosesTo : State → Step → (slot : ℕ) (p q : Spot) (j : ℕ) → Type 0
-LosesTo s (Store task slot number i offset bytes) k p q j = (slot ≡ k) × IsLostTo (map_named s slot task number) i p.map q.map p.file_no j
-LosesTo s (Fault task slot number i Write) k p q j = (slot ≡ k) × IsLostTo (map_named s slot task number) i p.map q.map p.file_no j
+LosesTo s (Store task slot number i offset bytes) k p q j = (slot ≡ k) × IsLostTo (map_named s slot task number) i p.map q.map p.file_no p.map_no j
+LosesTo s (Fault task slot number i Write) k p q j = (slot ≡ k) × IsLostTo (map_named s slot task number) i p.map q.map p.file_no p.map_no j
 LosesTo s step k p q j = ⊥
 
 -- p before and q after: the bytes are as they were but for a store, or the copy is lost; and a marked map stays marked

@@ -1,5 +1,5 @@
 -- What is promised of some steps, by computation: the tests and the bytes that the promises speak of.
-use Rattle.std.proofs.Common.{◌≡◌, subst, ℕ, ◌+◌, ◌==◌, ◌∙◌, true, false, None, Option, Some, Ok, Err, List, [], ◌∷◌, length, take, map, nat_le, refl, ap, arith}
+use Rattle.std.proofs.Common.{◌≡◌, subst, sym, ℕ, ◌+◌, ◌==◌, ◌∙◌, true, false, None, Option, Some, Ok, Err, List, [], ◌∷◌, length, take, map, nat_le, refl, ap, arith}
 use Rattle.std.specs.List.{slice_index_or}
 use Rattle.std.specs.Prelude.{codes, is_some}
 use Rattle.hp_model.specs.declared.answer.Answer.{Answer}
@@ -15,7 +15,7 @@ use Rattle.hp_model.specs.Machine.{committed_pages, counts_in, pool_of}
 use Rattle.hp_model.specs.NodeRows.{free_of, total_of}
 use Rattle.hp_model.specs.Plain.{plain_step}
 use Rattle.hp_model.specs.Plan.{Slot}
-use Rattle.hp_model.specs.Promises.{LeavesAll, Makes, SameLimits, StillNamed, Tells, file_in, is_backed_step, is_cut_off_step, is_ended_number, least_of, map_at, map_named, seen_in, seen_over, shown_in, shown_on, stored_over}
+use Rattle.hp_model.specs.Promises.{IsLostTo, LeavesAll, LosesTo, Makes, SameLimits, StillNamed, Tells, file_in, is_backed_step, is_cut_off_step, is_ended_number, least_of, map_at, map_named, seen_in, seen_over, shown_in, shown_on, stored_over}
 use Rattle.hp_model.specs.Spot.{Spot}
 use Rattle.hp_model.specs.State.{Node, State, slot_at, with_slot}
 use Rattle.hp_model.specs.Value.{shown}
@@ -230,3 +230,7 @@ part_is_not_the_end = refl
 
 whole_is_the_end : is_ended_number forked (Unmap 1 0 1 0 2) (Ok Done) 0 1 1 ≡ true
 whole_is_the_end = refl
+
+-- the map that stores never loses its own copy
+own_copy_is_kept : (p q : Spot) → Some p ≡ map_named forked 0 1 1 → LosesTo forked by_owner 0 p q 0 → ⊥
+own_copy_is_kept p q e lost = (let to = subst (λ o. IsLostTo o 0 p.map q.map p.file_no p.map_no 0) (sym e) lost.1 in to.2 refl)
