@@ -23,9 +23,8 @@ use Rattle.hp_model.specs.Event.{IsEvent}
 use Rattle.hp_model.specs.Promises.{is_for_pages}
 use Rattle.hp_laws.specs.Laws.{KeepsGoing}
 use Rattle.hp_model.specs.Plan.{Reply, Slot, Outcome, Refused, Answered}
-use Rattle.hp_model.specs.Promises.{is_cut_off_step, is_refused, is_backed_step, wants_page, map_named, spot_on, ShowsMap, shown_in, shown_on, stored_over, over, is_shared_of, seen_in, seen_on, seen_over, map_at, map_on, reaches, IsLostTo, LosesCopy, is_unmounted, IsPromisedRun, IsPromisedStep}
+use Rattle.hp_model.specs.Promises.{is_cut_off_step, is_refused, is_backed_step, wants_page, map_named, spot_on, ShowsMap, shown_in, shown_on, stored_over, over, is_shared_of, seen_in, seen_on, seen_over, map_at, map_on, reaches, IsLostTo, LosesCopy, is_unmounted}
 use Rattle.hp_laws.specs.Laws.{PromisesAreKept}
-use Rattle.hp_model.specs.Run.{IsRun}
 use Rattle.hp_model.specs.Settled.{IsSettledState}
 use Rattle.hp_model.specs.State.{State, slot_at}
 use Rattle.hp_model.specs.Step.{IsBuiltStep, IsScript, IsStep, on_slot, finding}
@@ -37,7 +36,6 @@ use Rattle.hp_laws.proofs.Made.{step_makes}
 use Rattle.hp_laws.proofs.Meanings.{step_placed}
 use Rattle.hp_laws.proofs.Named.{files_by_name, maps_by_number}
 use Rattle.hp_laws.proofs.Outcomes.{Ends, event_ends, reply_of, IsLeft, only_goes, slot_goes, finding_goes}
-use Rattle.hp_laws.proofs.Runs.{run_by}
 use Rattle.hp_laws.proofs.SlotShows.{Quiet, Loads, Stores, Unmounts, create_quiet, map_quiet, mount_quiet, usage_quiet, umount_ends, load_loads, store_stores}
 use Rattle.hp_laws.proofs.StaysSettled.{step_settled}
 
@@ -340,12 +338,3 @@ promised s step reply t st is =
     let kept = step_kept s reply t st step is in
     let after = step_settled s step reply t st is in
     record { reserved = kept.reserved; counts = counts_are_sums t after; limits = kept.limits; mounts = step_keeps s reply t step is; minimums = minimums_hold t after; loads = kept.loads; answers = step_tells s reply t st step is; makes = step_makes s reply t step is; refused = step_leaves s reply t st step is; files = files_by_name s step reply t (step_placed s reply t step is) kept.files; maps = maps_by_number s step reply t (step_placed s reply t step is) kept.maps kept.marks; cut_off = kept.cut_off }
-
--- ---- runs
-
-pub promised_step : (s : State) (step : Step) (reply : Reply) (t : State) → IsSettledState s → IsStep s step reply t → IsPromisedStep s step reply t
-promised_step s step reply t st is = (is, promised s step reply t st is)
-
-pub promised_run : (s : State) (steps : List Step) (replies : List Reply) (t : State) → IsSettledState s → IsRun s steps replies t → IsPromisedRun s steps replies t
-promised_run s steps replies t st run =
-    run_by IsSettledState IsStep IsPromisedStep (λ s step reply t st is. (promised_step s step reply t st is, step_settled s step reply t st is)) s steps replies t st run

@@ -1,5 +1,5 @@
 -- What the machine promises of each step.
-use Rattle.std.specs.Prelude.{◌≡◌, ◌⊎◌, ℕ, ◌+◌, ◌<◌, ◌≤◌, ◌&&◌, ◌||◌, ◌==◌, Bool, true, false, not, Option, None, Some, is_some, option_map, Ok, Err, List, [], ◌++◌, length, take, drop, if◌then◌else◌, nat_le, nat_lt}
+use Rattle.std.specs.Prelude.{◌≡◌, ◌≢◌, ◌⊎◌, ℕ, ◌+◌, ◌<◌, ◌≤◌, ◌&&◌, ◌||◌, ◌==◌, Bool, true, false, not, Option, None, Some, is_some, option_map, Ok, Err, List, [], ◌++◌, length, take, drop, if◌then◌else◌, nat_le, nat_lt}
 use Rattle.std.specs.Bool.{MatchBool}
 use Rattle.std.specs.List.{slice_index_or}
 use Rattle.std.specs.Str.{bytes_eq}
@@ -369,8 +369,16 @@ pub record IsPromised (s : State) (step : Step) (reply : Reply) (t : State) : Ty
   -- an access through a marked map is refused where it has no copy
   pub cut_off : is_cut_off_step s step ≡ true → is_refused reply ≡ true
 
+-- of the steps that are built only those that make a file or a map ask for memory
+abbrev pub takes_memory : Step → Bool
+takes_memory (CreateStep k name) = true
+takes_memory (MapStep task k name a n sharing reserving) = true
+takes_memory step = false
+
+-- a step of the machine, as promised; and others are not refused memory
 abbrev pub IsPromisedStep : State → Step → Reply → State → Type 0
-IsPromisedStep s step reply t = IsStep s step reply t × IsPromised s step reply t
+IsPromisedStep s step reply t =
+    IsStep s step reply t × IsPromised s step reply t × (takes_memory step ≡ false → reply ≢ Err OutOfMemory)
 
 -- the steps are answered by these replies, one after another, each as promised
 abbrev pub IsPromisedRun : State → List Step → List Reply → State → Type 0

@@ -1,5 +1,5 @@
 -- Steps of the machine, by what its parts do. The code's values enter as variables with equations.
-use Rattle.std.proofs.Common.{◌≡◌, ℕ, zero, suc, ◌-◌, ◌<◌, ◌≤◌, true, false, cond, List, ◌∷◌, Ok, Err, None, Some, length, map, replicate, refl, sym, ◌∙◌, ap, subst, arith, IsTrue}
+use Rattle.std.proofs.Common.{◌≡◌, ℕ, ◌<◌, ◌≤◌, true, false, cond, List, Ok, Err, None, Some, length, map, refl, sym, ◌∙◌, ap, subst, arith, IsTrue}
 use Rattle.std.specs.Bool.{MatchBool}
 use Rattle.std.specs.Prelude.{nat_lt, slice_index_or, slice_set}
 use Rattle.std.proofs.lemmas.List.{get_or_default, set-get_or}
@@ -17,14 +17,13 @@ use Rattle.hp_model.specs.declared.event.TableEvent.TheVariants as table
 use Rattle.hp_model.specs.declared.refusal.Refusal.TheVariants.{NoSuchTask, NoSuchSlot, BadLine}
 use Rattle.hp_model.specs.declared.step.Step.{Step}
 use Rattle.hp_model.specs.declared.step.Step.TheVariants.{Connect, Nr, Meminfo}
-use Rattle.hp_model.specs.Event.{IsEvent, IsFresh, planned, with_table, with_pool_reply, is_slot_event}
-use Rattle.hp_model.specs.File.{Mount}
+use Rattle.hp_model.specs.Event.{IsEvent, with_table, with_pool_reply, is_slot_event}
 use Rattle.hp_model.specs.Machine.{pool_of, node_of}
 use Rattle.hp_model.specs.Plan.{Reply, Slot, refuse}
 use Rattle.hp_model.specs.PoolCounts.{Pool, counts_of}
 use Rattle.hp_model.specs.Resize.{pool_event, set_nr}
 use Rattle.hp_model.specs.SlotEvent.{slot_event}
-use Rattle.hp_model.specs.State.{State, slot_at}
+use Rattle.hp_model.specs.State.{State}
 use Rattle.hp_model.specs.Step.{Script, Answer_with, on_slot, only, finding, is_unbuilt, IsScript, IsStep, IsBuiltStep}
 use Rattle.hp_model.specs.Table.{Table, table_event, home_of, when_known}
 use Rattle.hp_mount.specs.Carried.{carried, choosing, IsDone}

@@ -5,7 +5,7 @@ ghost use Rattle.hp_model.specs.declared.step.Step.TheVariants.{Connect, Nr, Mem
 ghost use Rattle.hp_model.specs.Promises.{is_usage, IsPromised, IsPromisedRun};
 ghost use Rattle.hp_model.specs.Step.{IsStep};
 ghost use Rattle.hp_model.specs.Writing.{IsWithinLimits};
-ghost use Rattle.hp_system.specs.Memory.{takes_memory};
+ghost use Rattle.hp_model.specs.Promises.{takes_memory};
 
 use super::System;
 use hp_model::answer::{Answer, Reply};

@@ -1,4 +1,4 @@
-use Rattle.std.proofs.Common.{◌≡◌, ◌++◌, length, replicate, None, subst, ap, ◌∙◌, ◌-◌, arith}
+use Rattle.std.proofs.Common.{◌++◌, length, replicate, None, subst, ap, ◌∙◌, ◌-◌, arith}
 use Rattle.std.proofs.lemmas.List.{nil_from_length}
 use Rattle.hp_system.proofs.Carries.{few_nodes, settled_pool}
 use Rattle.hp_system.proofs.Ending.{all_gone, begins, mount_goes, none_goes, IsEnding}

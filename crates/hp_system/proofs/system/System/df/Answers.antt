@@ -1,4 +1,4 @@
-use Rattle.std.proofs.Common.{◌≡◌, ◌<◌, ◌≤◌, Ok, None, Some, length, refl, arith}
+use Rattle.std.proofs.Common.{◌<◌, Ok, Some, length, refl, arith}
 use Rattle.hp_model.specs.declared.event.SlotEvent.TheVariants as slot
 use Rattle.hp_model.specs.declared.step.Step.TheVariants.{Df}
 use Rattle.hp_system.proofs.MachineSteps.{read_slot, slot_step_none, slot_step_past, slot_step_same}
