@@ -1,0 +1,14 @@
+pub mod ListsSame
+pub mod Indexing
+pub mod Adding
+pub mod Listing
+pub mod Fitting
+pub mod Taking
+pub mod Walking
+pub mod Passing
+pub mod Circle
+pub mod Stuck
+pub mod Covering
+pub mod Joining
+pub mod Emptying
+pub mod Exact

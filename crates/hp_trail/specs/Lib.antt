@@ -1,0 +1,4 @@
+pub mod Keeping
+pub mod Tellers
+pub mod Walk
+pub mod Audit

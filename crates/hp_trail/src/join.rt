@@ -1,0 +1,66 @@
+//! Joining trails and receipts into one order.
+ghost use Rattle.std.specs.Prelude.{IfOk, MatchOption};
+ghost use Rattle.hp_model.specs.Differ.{Differ};
+ghost use Rattle.hp_trail.specs.Tellers.{teller};
+ghost use Rattle.hp_trail.specs.Walk.{IsWoken, JoinsBy, cursor, lists, trails_of};
+
+use crate::tellers::Tellers;
+use crate::walk::Walk;
+use hp_model::entry::{Part, PoolEntry, Receipt, SlotEntry, TableEntry};
+use std::alloc::{AllocError, Global};
+
+/// The sessions in an order in which trails and receipts join, each as often as it was told of an
+/// event; None where trails and receipts differ.
+///
+/// A session is tried whenever its next event may have come next in its trail, and in the pool's:
+/// at the start, after it passed an event, and when the place that it tells of has come.
+pub(crate) fn join(
+    alloc: Global,
+    tasks: &[TableEntry],
+    slots: &[Vec<SlotEntry>],
+    pool: &[PoolEntry],
+    receipts: &[Vec<Receipt>],
+) -> Result<Option<Vec<usize>>, AllocError>
+    ensures { let t = trails_of tasks.now slots.now pool.now in
+        let told = lists receipts.now in
+        IfOk result (λ r. MatchOption r (Differ t told) (λ order. JoinsBy t told order.items)) }
+{
+    let Some(tellers) = Tellers::list(alloc, tasks, slots, pool, receipts)? else {
+        return Ok(None);
+    };
+    let mut walk = Walk::open(alloc, tasks, slots, pool, receipts)?;
+    let events = receipts
+        .iter()
+        .fold(0usize, |sum, told| sum.saturating_add(told.len()));
+    let mut order = Vec::new(alloc);
+    order.reserve(events)?;
+    let mut work = Vec::new(alloc);
+    work.reserve(events.saturating_mul(2).saturating_add(receipts.len()))?;
+    for session in 0..receipts.len() {
+        work.push(session)?;
+    }
+    while let Some(session) = work.pop() {
+        let Some(part) = walk.pass(session) else {
+            continue;
+        };
+        order.push(session)?;
+        work.push(session)?;
+        wake(&tellers, &walk, part, &mut work)?;
+        wake(&tellers, &walk, Part::Pool, &mut work)?;
+    }
+    if !walk.has_ended() {
+        return Ok(None);
+    }
+    Ok(Some(order))
+}
+
+/// The session that tells of what comes next in the part's trail is to be tried.
+fn wake(tellers: &Tellers, walk: &Walk, part: Part, work: &mut Vec<usize>) -> Result<(), AllocError>
+    ensures { let told = teller tellers.now part (cursor walk.now.cursors part) in
+        IfOk result (λ _. IsWoken told work.old.items work.new.items) }
+{
+    if let Some(session) = tellers.of(part, walk.cursor(part)) {
+        work.push(session)?;
+    }
+    Ok(())
+}

@@ -1,0 +1,80 @@
+//! A trail that keeps its entries.
+ghost use Rattle.std.specs.Prelude.{◌≡◌, ◌≤◌, ◌+◌, [], Some, true, IfOk, vec_len, vec_capacity};
+ghost use Rattle.hp_trail.specs.Keeping.{places_left};
+
+use crate::trail::Trail;
+use std::alloc::{AllocError, Global};
+use std::marker::Model;
+
+/// Keeps every entry, in room that was made at the start.
+#[derive(Drop)]
+pub struct Kept<E> {
+    items: Vec<E>,
+    places: usize,
+    extra: usize,
+    ghost fits: { vec_len items ≤ places + extra },
+    ghost made: { places + extra ≤ vec_capacity items },
+    ghost small: { places + extra ≤ 17301504 },
+}
+
+impl<E> Model for Kept<E> {
+    ghost use Rattle.hp_trail.specs.Keeping.{Keeping};
+
+    ghost Value = { Keeping E };
+
+    ghost view = { λ k. record { entries = k.items.items; places = k.places; extra = k.extra } };
+}
+
+impl<E: Drop> Kept<E> {
+    /// A trail with room for `places` entries, and for `extra` closing ones more.
+    pub fn open(alloc: Global, places: usize, extra: usize) -> Result<Kept<E>, AllocError>
+        requires places { places ≤ 16777216 }
+        requires extra { extra ≤ 524288 }
+        ensures { IfOk result (λ k. k ≡ record { entries = []; places = places; extra = extra }) }
+    {
+        let mut items = Vec::new(alloc);
+        items.reserve(places + extra)?;
+        Ok(Kept {
+            items,
+            places,
+            extra,
+        })
+    }
+
+    /// The entries.
+    pub fn into_entries(self) -> Vec<E>
+        ensures { result.items ≡ self.entries }
+    {
+        let Kept { items, .. } = self;
+        items
+    }
+}
+
+impl<E: Drop> Trail<E> for Kept<E> {
+    ghost entries = { λ k. Some k.entries };
+
+    ghost left = { λ k. Some (places_left k) };
+
+    ghost extra = { λ k. k.extra };
+
+    fn is_kept(&self) -> bool {
+        true
+    }
+
+    fn place(&self) -> u64 {
+        self.items.len() as u64
+    }
+
+    fn has_room(&self, closing: bool) -> bool {
+        let places = if closing {
+            self.places + self.extra
+        } else {
+            self.places
+        };
+        self.items.len() < places
+    }
+
+    fn push(&mut self, entry: E) {
+        self.items.push_reserved(entry);
+    }
+}

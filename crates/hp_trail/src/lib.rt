@@ -1,0 +1,14 @@
+//! Trails of events, and the audit that joins them into one run of the machine.
+#![tactic(auto)]
+
+pub mod audit;
+mod join;
+pub mod kept;
+mod same;
+mod tellers;
+mod telling;
+#[cfg(test)]
+mod tests;
+pub mod trail;
+pub mod unkept;
+mod walk;

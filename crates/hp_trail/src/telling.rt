@@ -1,0 +1,60 @@
+//! Whether a receipt tells of an entry: its event, and its reply.
+ghost use Rattle.std.specs.Prelude.{◌≡◌, ◌≢◌, true, false, Some};
+ghost use Rattle.hp_trail.specs.Tellers.{TellsOf};
+ghost use Rattle.hp_model.specs.declared.entry.PoolEntry.TheVariants.{OfSlot};
+ghost use Rattle.hp_model.specs.Differ.{of_pool};
+ghost use Rattle.hp_model.specs.JointRun.{InTasks, InSlot};
+
+use crate::same::{same_pool_event, same_reply, same_slot_event, same_table_event};
+use hp_model::entry::{Asked, PoolEntry, Receipt, SlotEntry, TableEntry};
+use hp_model::event::Event;
+
+pub(crate) fn tells_task(receipt: &Receipt, entry: &TableEntry) -> bool
+    ensures same { result ≡ true → TellsOf (Some (InTasks entry.now)) receipt.now }
+    ensures other { result ≡ false → TellsOf (Some (InTasks entry.now)) receipt.now → ⊥ }
+{
+    match &receipt.event {
+        Event::Tasks(event) => same_table_event(*event, entry.event)
+            && same_reply(&entry.reply, &receipt.reply),
+        _ => false,
+    }
+}
+
+pub(crate) fn tells_slot(receipt: &Receipt, entry: &SlotEntry, slot: u64) -> bool
+    ensures same { result ≡ true → TellsOf (Some (InSlot slot entry.now)) receipt.now }
+    ensures other { result ≡ false → TellsOf (Some (InSlot slot entry.now)) receipt.now → ⊥ }
+{
+    match &receipt.event {
+        Event::Slot { slot: own, event } => {
+            *own == slot
+                && same_slot_event(event, &entry.event)
+                && same_reply(&entry.reply, &receipt.reply)
+        }
+        _ => false,
+    }
+}
+
+/// A section of a slot's event is told by no receipt of its own.
+pub(crate) fn tells_pool(receipt: &Receipt, entry: &PoolEntry) -> bool
+    ensures same { result ≡ true → TellsOf (of_pool entry.now) receipt.now }
+    ensures other { result ≡ false → TellsOf (of_pool entry.now) receipt.now → ⊥ }
+{
+    match (&receipt.event, entry) {
+        (Event::Pool(own), PoolEntry::OfPool { event, reply }) => {
+            same_pool_event(*own, *event) && same_reply(reply, &receipt.reply)
+        }
+        _ => false,
+    }
+}
+
+/// Whether the pool's trail has this section there, with this answer.
+pub(crate) fn is_section(entry: &PoolEntry, asked: Asked) -> bool
+    ensures same { result ≡ true → entry.now ≡ OfSlot asked.section asked.answer }
+    ensures other { result ≡ false → entry.now ≢ OfSlot asked.section asked.answer }
+{
+    match entry {
+        PoolEntry::OfSlot { section, answer } => *section == asked.section
+            && *answer == asked.answer,
+        PoolEntry::OfPool { .. } => false,
+    }
+}
