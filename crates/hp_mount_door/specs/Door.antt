@@ -1,0 +1,45 @@
+-- What a door answers, and what it does to a share.
+use Rattle.std.specs.Prelude.{◌≡◌, ℕ, ◌+◌, ◌-◌, ◌<◌, ◌≤◌, ◌==◌, List, length, map}
+use Rattle.std.specs.List.{count_by, range_with_len}
+use Rattle.hp_model.specs.declared.refusal.Refusal.{Refusal}
+use Rattle.hp_model.specs.declared.refusal.Refusal.TheVariants.{NoPages, TraceFull}
+use Rattle.hp_model.specs.Page.{Page}
+use Rattle.hp_model.specs.Pool.{Section, GiveBack, PoolAnswer, granted_at}
+use Rattle.hp_model.specs.PoolCounts.{Pool, IsSettled}
+use Rattle.hp_subpool.specs.Subpool.{Subpool}
+
+-- a door refuses as NoPages, by a section that is refused, or as TraceFull, and then there was none
+abbrev pub IsDoorRefusal : Refusal → (denied full : Type 0) → Type 0
+IsDoorRefusal NoPages denied full = denied
+IsDoorRefusal TraceFull denied full = full
+IsDoorRefusal other denied full = ⊥
+
+-- a page more, for a reservation that was held
+abbrev pub with_page : Subpool → Subpool
+with_page s = record s { held = s.held - 1; pages = s.pages + 1 }
+
+-- a page more, by a grant
+abbrev pub with_granted : Subpool → Subpool
+with_granted s = record s { pages = s.pages + 1 }
+
+-- k reservations more
+abbrev pub with_reserves : ℕ → Subpool → Subpool
+with_reserves k s = record s { held = s.held + k }
+
+-- so many pages and reservations less
+abbrev pub with_less : (pages reserves : ℕ) → Subpool → Subpool
+with_less pages reserves s = record s { pages = s.pages - pages; held = s.held - reserves }
+
+-- how many of the pages are of node 0, 1, 2 and 3
+abbrev pub by_node : List Page → List ℕ
+by_node pages = map (λ n. count_by (λ (page : Page). page.node == n) pages) (range_with_len 0 4)
+
+-- a section that puts the pages back and uncommits so many; none where that is nothing
+pub record GivesBack {X : Type 0} (took : X → Section → PoolAnswer → X → Type 0) (pages : List Page) (commitments : ℕ) (door left : X) : Type 0 where
+  pub some : 0 < length pages + commitments → took door (GiveBack (by_node pages) commitments) (granted_at 0) left
+  pub none : length pages + commitments ≡ 0 → left ≡ door
+
+-- a pool that nobody works on
+pub record IsReady (p : Pool) : Type 0 where
+  pub settled : IsSettled p
+  pub nodes : length p.nodes.rows ≤ 4

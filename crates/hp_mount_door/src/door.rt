@@ -1,0 +1,105 @@
+//! Doors to the pool.
+ghost use Rattle.std.specs.Prelude.{◌≡◌, ℕ, ◌+◌, ◌<◌, ◌≤◌, ◌^◌, false, List, length, IfOk, IfErr, IsOk, OnOk, OnErr};
+ghost use Rattle.hp_model.specs.Page.{Page as PageValue};
+ghost use Rattle.hp_model.specs.Pool.{Section, Grant, GrantPage, TakePage, PoolAnswer, granted_at, no_pages};
+ghost use Rattle.hp_subpool.specs.Subpool.{Subpool as ShareValue, committed_of, fall, is_full as ShareIsFull, rise, used};
+ghost use Rattle.hp_mount_door.specs.Door.{IsDoorRefusal, GivesBack, with_page, with_granted, with_reserves, with_less};
+
+use hp_model::refusal::Refusal;
+
+/// A way to the pool. Each call is one section of the pool at most.
+///
+/// The types are a share of the pool, a page, and pages that nobody holds any more. What they mean is said by
+/// `share_of`, `page_of` and `going_of`, since a type of a trait can have no bound here. A caller asks that they mean
+/// themselves.
+pub trait PoolDoor {
+    type Share;
+
+    type Page;
+
+    type Going;
+
+    ghost share_of: { Self.Share → ShareValue };
+
+    ghost page_of: { Self.Page → PageValue };
+
+    ghost going_of: { Self.Going → List PageValue };
+
+    // the same without the pages that go
+    ghost emptied: { Self.Going → Self.Going };
+
+    // it has no page but those that go
+    ghost is_spent: { Self.Going → Type 0 };
+
+    // a section can be entered
+    ghost is_ready: { Self → Type 0 };
+
+    // one section with its answer, from one state of the door to another
+    ghost took: { Self → Section → PoolAnswer → Self → Type 0 };
+
+    // there was no room to note a section
+    ghost is_full: { Self → Type 0 };
+
+    // what is left after a call
+    ghost is_left: { Self → Type 0 };
+
+    // a call that enters no section leaves the door as well
+    ghost stays: { (d : Self) → is_ready d → is_left d };
+
+    /// Reserves k pages more for the share. Where its minimum covers them there is no section.
+    ///
+    /// Refused as NoPages where the pool can't commit them, and as TraceFull where the section can't be noted. Then the
+    /// share stays as it was.
+    fn get(&mut self, share: &mut Self::Share, home: usize, k: u64) -> Result<(), Refusal>
+        requires ready { is_ready self.old }
+        requires within { ShareIsFull (share_of share.old) k ≡ false }
+        requires few { used (share_of share.old) + k < 2 ^ 64 }
+        ensures none { rise (share_of share.old) k ≡ 0 → IsOk result }
+        ensures same { rise (share_of share.old) k ≡ 0 → self.new ≡ self.old }
+        ensures ok { IsOk result → 0 < rise (share_of share.old) k → took self.old (Grant home (rise (share_of share.old) k)) (granted_at 0) self.new }
+        ensures share { OnOk result (share_of share.new ≡ with_reserves k (share_of share.old)) }
+        ensures err { IfErr result (λ e. IsDoorRefusal e (took self.old (Grant home (rise (share_of share.old) k)) no_pages self.new) ((self.new ≡ self.old) × is_full self.new)) }
+        ensures unchanged { OnErr result (share.new ≡ share.old) }
+        ensures left { is_left self.new };
+
+    /// A page more for the share, by a grant of one. Refused as `get` is.
+    fn get_page(&mut self, share: &mut Self::Share, home: usize) -> Result<Self::Page, Refusal>
+        requires ready { is_ready self.old }
+        requires within { ShareIsFull (share_of share.old) 1 ≡ false }
+        requires few { used (share_of share.old) + 1 < 2 ^ 64 }
+        ensures ok { IfOk result (λ page. took self.old (GrantPage home (rise (share_of share.old) 1)) (granted_at (page_of page).node) self.new) }
+        ensures share { OnOk result (share_of share.new ≡ with_granted (share_of share.old)) }
+        ensures err { IfErr result (λ e. IsDoorRefusal e (took self.old (GrantPage home (rise (share_of share.old) 1)) no_pages self.new) ((self.new ≡ self.old) × is_full self.new)) }
+        ensures unchanged { OnErr result (share.new ≡ share.old) }
+        ensures left { is_left self.new };
+
+    /// The page of a reservation that the share holds. Refused as TraceFull alone.
+    fn take_page(&mut self, share: &mut Self::Share, home: usize) -> Result<Self::Page, Refusal>
+        requires ready { is_ready self.old }
+        requires held { 0 < (share_of share.old).held }
+        ensures ok { IfOk result (λ page. took self.old (TakePage home) (granted_at (page_of page).node) self.new) }
+        ensures share { OnOk result (share_of share.new ≡ with_page (share_of share.old)) }
+        ensures err { IfErr result (λ e. IsDoorRefusal e ⊥ ((self.new ≡ self.old) × is_full self.new)) }
+        ensures unchanged { OnErr result (share.new ≡ share.old) }
+        ensures left { is_left self.new };
+
+    /// Puts the pages that go back at their nodes, and gives so many reservations back. What the minimum asks for stays
+    /// committed. Where that is nothing there is no section. Never refused.
+    fn put(&mut self, share: &mut Self::Share, going: &mut Self::Going, reserves: u64)
+        requires ready { is_ready self.old }
+        requires pages { length (going_of going.old) ≤ (share_of share.old).pages }
+        requires held { reserves ≤ (share_of share.old).held }
+        ensures given { GivesBack took (going_of going.old) (fall (share_of share.old) (length (going_of going.old) + reserves)) self.old self.new }
+        ensures share { share_of share.new ≡ with_less (length (going_of going.old)) reserves (share_of share.old) }
+        ensures going { going.new ≡ emptied going.old }
+        ensures left { is_left self.new };
+
+    /// Ends a share, all of whose pages go back, with its reservations and its minimum. Where that is nothing there is
+    /// no section. Never refused.
+    fn close(&mut self, share: Self::Share, going: Self::Going)
+        requires ready { is_ready self.old }
+        requires pages { length (going_of going) ≡ (share_of share).pages }
+        requires spent { is_spent going }
+        ensures given { GivesBack took (going_of going) (committed_of (share_of share)) self.old self.new }
+        ensures left { is_left self.new };
+}

@@ -1,0 +1,7 @@
+//! The door through which a mount's events reach the pool.
+#![tactic(auto)]
+
+mod door;
+mod own;
+
+pub use door::PoolDoor;
