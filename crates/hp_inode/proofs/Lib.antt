@@ -4,3 +4,4 @@ mod Reserved
 mod Tables
 mod Taken
 mod Words
+mod Readying

@@ -1,3 +1,4 @@
 pub mod Kept
 pub mod Marks
 pub mod Rows
+pub mod Ready

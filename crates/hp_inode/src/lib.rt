@@ -1,7 +1,7 @@
 //! A file's indices: its length, which are entered, and their pages by number.
 #![tactic(auto)]
 
-ghost use Rattle.std.specs.Prelude.{ℕ, ◌≡◌, ◌+◌, ◌<◌, ◌≤◌, ◌^◌, [], length, drop, OnOk, OnErr, MatchOption, None, false};
+ghost use Rattle.std.specs.Prelude.{ℕ, ◌≡◌, ◌+◌, ◌<◌, ◌≤◌, ◌^◌, [], length, drop, OnOk, OnErr, IfOk, IfErr, MatchOption, None, false};
 ghost use Rattle.std.specs.List.{slice_set, count_by, All};
 ghost use Rattle.hp_model.specs.File.{is_entered, is_hole, has_page, page_of, entered, cell_in, cells_to};
 ghost use Rattle.hp_model.specs.Lists.{edit_range, part, found};
@@ -9,12 +9,14 @@ ghost use Rattle.hp_model.specs.declared.cell.Cell.TheVariants.{Hole, Entered, P
 
 use hp_model::page_no::PageNo;
 use hp_region::RegionList;
+pub use ready::ReadyInode;
 use std::alloc::{AllocError, Global};
 use std::marker::Model;
 use table::PageTable;
 
 mod chunk;
 mod marks;
+mod ready;
 mod table;
 #[cfg(test)]
 mod tests;
@@ -106,6 +108,38 @@ impl Inode {
         self.entries.add(a, b)?;
         self.count = count;
         Ok(())
+    }
+
+    /// Makes the room to enter the indices from `a` up to `b`, past the end too. Where memory is refused, the inode is
+    /// handed back as it was.
+    pub fn prepare(self, a: u64, b: u64) -> Result<ReadyInode, Inode>
+        requires { b < 2 ^ 32 }
+        ensures ok { IfOk result (λ ready. ready ≡ record { cells = self; from = a; to = b }) }
+        ensures err { IfErr result (λ inode. inode ≡ self) }
+    {
+        let Inode {
+            len,
+            count,
+            mut entries,
+            mut table,
+        } = self;
+        let wanted = count + entries.missing(a, b);
+        if table.make_slots(a, b).is_err() || entries.make_room(wanted as usize + 1).is_err() {
+            return Err(Inode {
+                len,
+                count,
+                entries,
+                table,
+            });
+        }
+        Ok(ReadyInode {
+            len,
+            count,
+            entries,
+            table,
+            from: a,
+            to: b,
+        })
     }
 
     /// Makes the file `len` indices long: longer by holes, or shorter by holes alone.

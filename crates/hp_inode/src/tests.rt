@@ -83,3 +83,26 @@ fn a_refusal_changes_nothing(rt: HostRuntime) -> Result<(), Fail> {
     assert_eq!(rt; inode.missing(0, 2000), 0);
     Ok(())
 }
+
+// Run with each allocation failing in turn.
+#[test]
+fn a_prepared_range_is_entered_or_left(rt: HostRuntime) -> Result<(), Fail> {
+    let mut inode = Inode::new(rt.alloc());
+    inode.set_len(10);
+    let left = match inode.prepare(4, 600) {
+        Ok(ready) => ready.leave(),
+        Err(inode) => inode,
+    };
+    assert_eq!(rt; left.len(), 10);
+    assert!(rt; !left.entered(4));
+    match left.prepare(4, 600) {
+        Ok(ready) => {
+            let entered = ready.enter();
+            assert_eq!(rt; entered.len(), 600);
+            assert!(rt; entered.entered(599));
+            assert!(rt; !entered.entered(3));
+        }
+        Err(inode) => assert_eq!(rt; inode.len(), 10),
+    }
+    Ok(())
+}

@@ -20,3 +20,4 @@ pub record IsNumbered (slots : List (Option Holding)) (free : List ℕ) (free_ca
 pub record HasRoom (slots : List (Option Holding)) (going going_capacity room : ℕ) : Type 0 where
   pub slots_room : held_count slots + room ≤ length slots
   pub going_room : held_count slots + room + going ≤ going_capacity
+  pub few : held_count slots + room ≤ 2 ^ 32

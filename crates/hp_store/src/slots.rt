@@ -47,6 +47,7 @@ impl<N: Naming> Slots<N> {
     /// Makes `count` slots free at least, up to 2^32 slots in all.
     pub(crate) fn reserve(&mut self, count: usize) -> Result<(), AllocError>
         ensures ok { OnOk result (held_count self.new + count ≤ length self.new) }
+        ensures few { OnOk result (held_count self.new + count ≤ 2 ^ 32) }
         ensures slots { OnOk result (self.new ≡ self.old ++ replicate (length self.new - length self.old) None) }
         ensures held { held_count self.new ≡ held_count self.old }
         ensures same { (n : ℕ) → slice_index_or self.new n None ≡ slice_index_or self.old n None }

@@ -1,6 +1,6 @@
 //! The store.
 ghost use Rattle.std.specs.Prelude.{◌≡◌, ℕ, ◌+◌, ◌-◌, ◌<◌, ◌≤◌, ◌^◌, ◌↔◌, [], ◌∷◌, ◌++◌, length, replicate, max, None, IsSome, OnOk, OnErr, option_to_list};
-ghost use Rattle.hp_store.specs.Store.{Store, page_at, holders_of, bytes_of, inserted, shared, dropped, overwritten};
+ghost use Rattle.hp_store.specs.Store.{Store, page_at, holders_of, bytes_of, held_count, inserted, shared, dropped, overwritten};
 
 use crate::slots::Slots;
 use hp_model::naming::Naming;
@@ -49,6 +49,7 @@ impl<N: Naming> PageStore<N> {
         ensures ok { OnOk result (self.new ≡ record self.old { pages = self.new.pages; room = max self.old.room count }) }
         ensures pages { OnOk result (self.new.pages ≡ self.old.pages ++ replicate (length self.new.pages - length self.old.pages) None) }
         ensures same { (n : ℕ) → page_at self.new n ≡ page_at self.old n }
+        ensures few { OnOk result (held_count self.old.pages + count ≤ 2 ^ 32) }
         ensures err { OnErr result (self.new ≡ self.old) }
     {
         if count <= self.room {

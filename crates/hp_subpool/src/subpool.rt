@@ -89,19 +89,11 @@ impl<N: Naming> Subpool<N> {
 
     /// Whether k pages more are past the limit. None more never are (profile).
     pub fn is_full(&self, k: u64) -> bool
-        requires { used self.now + k < 2 ^ 64 }
         ensures { result ≡ is_full self.now k }
-    {
-        k > 0 && self.is_past(self.used() + k)
-    }
-
-    // Whether so many pages are more than the limit.
-    fn is_past(&self, pages: u64) -> bool
-        ensures { result ≡ is_over self.now.max pages }
     {
         match self.max {
             None => false,
-            Some(max) => max < pages,
+            Some(max) => k > max.saturating_sub(self.used()),
         }
     }
 
@@ -162,6 +154,13 @@ impl<N: Naming> Subpool<N> {
         ensures { result ≡ self.now.min }
     {
         self.min
+    }
+
+    /// The reservations that files and maps hold.
+    pub fn held(&self) -> u64
+        ensures { result ≡ self.now.held }
+    {
+        self.held.amount()
     }
 
     /// The pages in use and the reservations.

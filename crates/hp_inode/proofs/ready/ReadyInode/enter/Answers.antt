@@ -1,0 +1,23 @@
+use Rattle.std.proofs.Common.{ap, ◌∙◌, arith}
+use Rattle.hp_model.specs.File.{at_least, entered}
+use Rattle.hp_model.specs.Lists.{edit_range}
+use Rattle.hp_inode.specs.Ready.{Ready}
+use Rattle.hp_inode.proofs.Readying.{few_entered, few_missing, enter_kept, enter_cells}
+use Rattle.hp_inode.proofs.ready.ReadyInode.enter.Goals as goal
+
+pub overflow_add-result : goal.overflow_add-result
+overflow_add-result c =
+    let s = c.self.inside in
+    let ready = c.self.invariant in
+    omega (arith, few_entered s.len s.count s.entries s.table ready.kept, few_missing s.entries s.from s.to, ready.small, ready.kept.small, c.missing-missing.ensures)
+
+pub invariant_of-result : goal.invariant_of-result
+invariant_of-result c =
+    let s = c.self.inside in
+    enter_kept s.len s.count s.entries c.add.new.self s.table s.from s.to c.max.result c.missing-missing.result c.self.invariant c.max.ensures c.missing-missing.ensures (rw c.unwrap.ensures at c.add.ensures.ok) c.add.ensures.room
+
+pub returns : goal.returns
+returns c =
+    let s = c.self.inside in
+    enter_cells s.len s.count s.entries c.add.new.self s.table s.from s.to c.max.result c.missing-missing.result c.self.invariant c.max.ensures c.missing-missing.ensures (rw c.unwrap.ensures at c.add.ensures.ok)
+    ∙ ap (λ (r : Ready). edit_range entered r.from r.to (at_least r.to r.cells)) c.self.view_is

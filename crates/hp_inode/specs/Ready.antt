@@ -1,0 +1,19 @@
+-- An inode with the room to enter a range.
+use Rattle.std.specs.Prelude.{ℕ, ◌≡◌, ◌+◌, ◌<◌, ◌≤◌, ◌^◌, true, List}
+use Rattle.hp_model.specs.declared.cell.Cell.{Cell}
+use Rattle.hp_region.specs.Region.{Region, missing_in}
+use Rattle.hp_inode.specs.Kept.{IsKept}
+use Rattle.hp_inode.specs.Rows.{Rows, has_slot}
+
+-- a file's cells, and the range that can be entered with no memory
+pub record Ready : Type 0 where
+  pub cells : List (Cell ℕ)
+  pub from : ℕ
+  pub to : ℕ
+
+-- the indices from a up to b have their slots, and room for the removal of each
+pub record IsReady (len count : ℕ) (entries : Region) (rows : Rows) (a b : ℕ) : Type 0 where
+  pub kept : IsKept len count entries rows
+  pub small : b < 2 ^ 32
+  pub slots : (k : ℕ) → a ≤ k → k < b → has_slot rows k ≡ true
+  pub room : count + missing_in entries.indices a b < entries.room
