@@ -1,0 +1,51 @@
+-- What files and maps are called. No public clause cites this module.
+use Rattle.std.specs.Prelude.{◌≡◌, ℕ, ◌≤◌, ◌&&◌, ◌==◌, Bool, false, Option, None, Some, List, length, map}
+use Rattle.std.specs.List.{count_by, flat_map, sum_by}
+use Rattle.std.specs.Str.{bytes_eq}
+use Rattle.hp_model.specs.Lists.{distinct}
+use Rattle.hp_model.specs.Mapping.{Mapping}
+use Rattle.hp_store.specs.Store.{Store}
+use Rattle.hp_mount_files.specs.Held.{IsHeld}
+use Rattle.hp_mount_files.specs.Numbered.{NumberedFile}
+
+-- a file's name, and the task and number of each of its maps
+pub record Label : Type 0 where
+  pub name : Option (List ℕ)
+  pub keys : List (ℕ × ℕ)
+
+abbrev pub key_of : Mapping ℕ → ℕ × ℕ
+key_of m = (m.task, m.number)
+
+abbrev pub label_of : NumberedFile → Label
+label_of f = record { name = f.name; keys = map key_of f.maps }
+
+abbrev pub labels_of : List NumberedFile → List Label
+labels_of fs = map label_of fs
+
+abbrev pub is_name_of : List ℕ → Option (List ℕ) → Bool
+is_name_of name None = false
+is_name_of name (Some n) = bytes_eq n name
+
+abbrev pub is_key : (task number : ℕ) → ℕ × ℕ → Bool
+is_key task number k = (k.0 == task) && (k.1 == number)
+
+abbrev pub has_label : List ℕ → Label → Bool
+has_label name l = is_name_of name l.name
+
+abbrev pub keys_in : (task number : ℕ) → Label → ℕ
+keys_in task number l = count_by (is_key task number) l.keys
+
+abbrev pub tasks_in : Label → List ℕ
+tasks_in l = map (λ k. k.0) l.keys
+
+-- no two files have one name, nor two maps one task and number; and so many maps there are, of so many tasks
+pub record IsKeyed (maps tasks : ℕ) (ls : List Label) : Type 0 where
+  pub names : (name : List ℕ) → count_by (has_label name) ls ≤ 1
+  pub keys : (task number : ℕ) → sum_by (keys_in task number) ls ≤ 1
+  pub map_count : maps ≡ sum_by (λ (l : Label). length l.keys) ls
+  pub task_count : tasks ≡ length (distinct (flat_map tasks_in ls))
+
+-- what holds of the files of a mount
+pub record IsFiles (s : Store) (more maps tasks : ℕ) (fs : List NumberedFile) : Type 0 where
+  pub held : IsHeld s more fs
+  pub keyed : IsKeyed maps tasks (labels_of fs)
