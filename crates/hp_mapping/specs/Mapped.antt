@@ -7,14 +7,6 @@ use Rattle.hp_model.specs.declared.place.Place.TheVariants.{Gone, Live}
 use Rattle.hp_model.specs.Lists.{part}
 use Rattle.hp_model.specs.Mapping.{Mapping, place_at, with_place, copy_of, is_unconsumed, without_copy}
 
--- a map with page numbers as copies, and the file that it is of
-pub record Mapped : Type 0 where
-  pub file : ℕ
-  pub map : Mapping ℕ
-
-abbrev pub with_map : Mapping ℕ → Mapped → Mapped
-with_map m s = record s { map = m }
-
 -- the place of the file's index i is changed
 abbrev pub at_place : (Place ℕ → Place ℕ) → ℕ → Mapping ℕ → Mapping ℕ
 at_place f i m = with_place m i (f (place_at m i))

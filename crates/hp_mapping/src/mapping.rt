@@ -3,7 +3,7 @@ ghost use Rattle.std.specs.Prelude.{◌≡◌, ℕ, ◌+◌, ◌-◌, ◌<◌, �
 ghost use Rattle.hp_model.specs.declared.place.Place.TheVariants.{Gone, Live};
 ghost use Rattle.hp_model.specs.Mapping.{place_at, is_live, is_mapped, is_shared, copy_of, without_copy, without_range, map_for};
 ghost use Rattle.hp_mapping.specs.Flags.{has_owner, has_unmapped, sharing_of};
-ghost use Rattle.hp_mapping.specs.Mapped.{with_map, at_place, consumed, with_copy, has_reserve, IsClear, reserves_in, TakesLowest};
+ghost use Rattle.hp_mapping.specs.Mapped.{at_place, consumed, with_copy, has_reserve, IsClear, reserves_in, TakesLowest};
 
 use crate::flags::MapFlags;
 use crate::places::Places;
@@ -20,30 +20,26 @@ pub struct Mapping {
     alloc: Global,
     task: u64,
     number: u64,
-    file: usize,
     start: u64,
     flags: MapFlags,
     places: Places,
 }
 
 impl Model for Mapping {
-    ghost use Rattle.std.specs.Prelude.{length, ◌+◌, ◌<◌, ◌^◌};
-    ghost use Rattle.hp_mapping.specs.Mapped.{Mapped};
+    ghost use Rattle.std.specs.Prelude.{ℕ, length, ◌+◌, ◌<◌, ◌^◌};
+    ghost use Rattle.hp_model.specs.Mapping.{Mapping};
     ghost use Rattle.hp_mapping.specs.Flags.{has_owner, has_unmapped, sharing_of};
 
-    ghost Value = { Mapped };
+    ghost Value = { Mapping ℕ };
 
     ghost view = { λ m. record {
-      file = m.file;
-      map = record {
-        task = m.task;
-        number = m.number;
-        start = m.start;
-        sharing = sharing_of m.flags.0;
-        owner = has_owner m.flags.0;
-        unmapped = has_unmapped m.flags.0;
-        places = m.places;
-      };
+      task = m.task;
+      number = m.number;
+      start = m.start;
+      sharing = sharing_of m.flags.0;
+      owner = has_owner m.flags.0;
+      unmapped = has_unmapped m.flags.0;
+      places = m.places;
     } };
 
     ghost invariant = { λ m. m.start + length m.places < 2 ^ 64 };
@@ -56,23 +52,19 @@ impl Mapping {
         alloc: Global,
         task: u64,
         number: u64,
-        file: usize,
         a: u64,
         b: u64,
         flags: MapFlags,
     ) -> Result<Self, AllocError>
         requires { a ≤ b }
         ensures { IfOk result (λ m. m ≡ record {
-          file = file;
-          map = record {
-            task = task;
-            number = number;
-            start = a;
-            sharing = sharing_of flags.0;
-            owner = has_owner flags.0;
-            unmapped = has_unmapped flags.0;
-            places = replicate (b - a) (Live false None);
-          };
+          task = task;
+          number = number;
+          start = a;
+          sharing = sharing_of flags.0;
+          owner = has_owner flags.0;
+          unmapped = has_unmapped flags.0;
+          places = replicate (b - a) (Live false None);
         }) }
     {
         let places = Places::new(alloc, (b - a) as usize)?;
@@ -80,7 +72,6 @@ impl Mapping {
             alloc,
             task,
             number,
-            file,
             start: a,
             flags,
             places,
@@ -88,81 +79,75 @@ impl Mapping {
     }
 
     pub fn task(&self) -> u64
-        ensures { result ≡ self.now.map.task }
+        ensures { result ≡ self.now.task }
     {
         self.task
     }
 
     pub fn number(&self) -> u64
-        ensures { result ≡ self.now.map.number }
+        ensures { result ≡ self.now.number }
     {
         self.number
     }
 
-    pub fn file(&self) -> usize
-        ensures { result ≡ self.now.file }
-    {
-        self.file
-    }
-
     /// The first index of the range.
     pub fn start(&self) -> u64
-        ensures { result ≡ self.now.map.start }
+        ensures { result ≡ self.now.start }
     {
         self.start
     }
 
     /// The index past the last of the range.
     pub fn end(&self) -> u64
-        ensures { result ≡ self.now.map.start + length self.now.map.places }
+        ensures { result ≡ self.now.start + length self.now.places }
     {
         self.start + self.places.len() as u64
     }
 
     pub fn is_shared(&self) -> bool
-        ensures { result ≡ is_shared self.now.map.sharing }
+        ensures { result ≡ is_shared self.now.sharing }
     {
         self.flags.is_shared()
     }
 
     /// Whether the map holds its reservations itself.
     pub fn is_owner(&self) -> bool
-        ensures { result ≡ self.now.map.owner }
+        ensures { result ≡ self.now.owner }
     {
         self.flags.is_owner()
     }
 
     /// Whether a copy was taken away from the map (`mm/hugetlbfs_reserv.rst`).
     pub fn is_unmapped(&self) -> bool
-        ensures { result ≡ self.now.map.unmapped }
+        ensures { result ≡ self.now.unmapped }
     {
         self.flags.is_unmapped()
     }
 
     /// Whether an index is left in the map.
     pub fn is_mapped(&self) -> bool
-        ensures { result ≡ is_mapped self.now.map }
+        ensures { result ≡ is_mapped self.now }
     {
         self.places.has_live()
     }
 
     /// Whether the file's index is in the map.
     pub fn is_live(&self, i: u64) -> bool
-        ensures { result ≡ is_live (place_at self.now.map i) }
+        ensures { result ≡ is_live (place_at self.now i) }
     {
         i >= self.start && self.places.is_live(self.offset(i))
     }
 
     /// Whether the map holds a reservation at the file's index.
     pub fn has_reserve(&self, i: u64) -> bool
-        ensures { result ≡ has_reserve self.now.map i }
+        ensures { result ≡ has_reserve self.now i }
     {
         i >= self.start && self.flags.is_owner() && self.places.is_unconsumed(self.offset(i))
     }
 
     /// The copy at the file's index.
     pub fn copy_at(&self, i: u64) -> Option<PageNo>
-        ensures { result ≡ copy_of (place_at self.now.map i) }
+        ensures { result ≡ copy_of (place_at self.now i) }
     {
         if i < self.start {
             return None;
@@ -172,24 +157,24 @@ impl Mapping {
 
     /// The reservation at the file's index is used up.
     pub fn consume(&mut self, i: u64)
-        requires { IsTrue (is_live (place_at self.old.map i)) }
-        ensures { self.new ≡ with_map (at_place consumed i self.old.map) self.old }
+        requires { IsTrue (is_live (place_at self.old i)) }
+        ensures { self.new ≡ at_place consumed i self.old }
     {
         self.places.consume((i - self.start) as usize);
     }
 
     /// The page is the copy at the file's index, in place of any other.
     pub fn set_copy(&mut self, i: u64, page: PageNo)
-        requires { IsTrue (is_live (place_at self.old.map i)) }
-        ensures { self.new ≡ with_map (at_place (with_copy page) i self.old.map) self.old }
+        requires { IsTrue (is_live (place_at self.old i)) }
+        ensures { self.new ≡ at_place (with_copy page) i self.old }
     {
         self.places.set_copy((i - self.start) as usize, page);
     }
 
     /// A copy goes for good, and the map is marked.
     pub fn take_away(&mut self, i: u64)
-        requires { IsSome (copy_of (place_at self.old.map i)) }
-        ensures { self.new ≡ with_map (record (at_place without_copy i self.old.map) { unmapped = true }) self.old }
+        requires { IsSome (copy_of (place_at self.old i)) }
+        ensures { self.new ≡ record (at_place without_copy i self.old) { unmapped = true } }
     {
         self.drop_copy(i);
         self.flags = self.flags.marked();
@@ -197,9 +182,8 @@ impl Mapping {
 
     /// The lowest copy from `a` up to `b` goes, and its number is handed out.
     pub fn take_copy(&mut self, a: u64, b: u64) -> Option<PageNo>
-        ensures some { IfSome result (λ page. TakesLowest a b page self.old.map self.new.map) }
-        ensures rest { self.new ≡ with_map self.new.map self.old }
-        ensures none { IfNone result (IsClear a b self.old.map) }
+        ensures some { IfSome result (λ page. TakesLowest a b page self.old self.new) }
+        ensures none { IfNone result (IsClear a b self.old) }
         ensures unchanged { IfNone result (self.new ≡ self.old) }
     {
         let at = self.lowest_copy(a, b)?;
@@ -212,9 +196,9 @@ impl Mapping {
     pub fn lowest_copy(&self, a: u64, b: u64) -> Option<u64>
         ensures from { IfSome result (λ at. a ≤ at) }
         ensures below { IfSome result (λ at. at < b) }
-        ensures copy { IfSome result (λ at. IsSome (copy_of (place_at self.now.map at))) }
-        ensures clear { IfSome result (λ at. IsClear a at self.now.map) }
-        ensures none { IfNone result (IsClear a b self.now.map) }
+        ensures copy { IfSome result (λ at. IsSome (copy_of (place_at self.now at))) }
+        ensures clear { IfSome result (λ at. IsClear a at self.now) }
+        ensures none { IfNone result (IsClear a b self.now) }
     {
         let from = self.offset(a);
         let to = self.offset(b);
@@ -224,8 +208,8 @@ impl Mapping {
 
     // A copy goes.
     fn drop_copy(&mut self, i: u64)
-        requires { IsSome (copy_of (place_at self.old.map i)) }
-        ensures { self.new ≡ with_map (at_place without_copy i self.old.map) self.old }
+        requires { IsSome (copy_of (place_at self.old i)) }
+        ensures { self.new ≡ at_place without_copy i self.old }
     {
         self.places.drop_copy((i - self.start) as usize);
     }
@@ -234,9 +218,9 @@ impl Mapping {
     /// for each index that was there.
     pub fn unmap(&mut self, a: u64, b: u64) -> u64
         requires order { a ≤ b }
-        requires clear { IsClear a b self.old.map }
-        ensures freed { result ≡ reserves_in a b self.old.map }
-        ensures left { self.new ≡ with_map (without_range a b self.old.map) self.old }
+        requires clear { IsClear a b self.old }
+        ensures freed { result ≡ reserves_in a b self.old }
+        ensures left { self.new ≡ without_range a b self.old }
     {
         let from = self.offset(a);
         let to = self.offset(b);
@@ -246,7 +230,7 @@ impl Mapping {
 
     // Where the file's index lies among the places, at most past the last.
     fn offset(&self, i: u64) -> usize
-        ensures { result ≡ min (i - self.now.map.start) (length self.now.map.places) }
+        ensures { result ≡ min (i - self.now.start) (length self.now.places) }
     {
         let offset = i.saturating_sub(self.start);
         (offset.min(self.places.len() as u64)) as usize
@@ -255,14 +239,13 @@ impl Mapping {
     /// The map of a child: of the same number, range, copies and mark. It owns nothing. It takes all the memory that
     /// the child's map will ever need but for a fork's.
     pub fn fork_for(&self, task: u64) -> Result<Self, AllocError>
-        ensures { IfOk result (λ m. m ≡ with_map (map_for task self.now.map) self.now) }
+        ensures { IfOk result (λ m. m ≡ map_for task self.now) }
     {
         let places = self.places.forked(self.alloc)?;
         Ok(Mapping {
             alloc: self.alloc,
             task,
             number: self.number,
-            file: self.file,
             start: self.start,
             flags: self.flags.without_owner(),
             places,

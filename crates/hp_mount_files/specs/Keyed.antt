@@ -1,9 +1,9 @@
 -- What files and maps are called. No public clause cites this module.
 use Rattle.std.specs.Prelude.{◌≡◌, ℕ, ◌≤◌, ◌&&◌, ◌==◌, Bool, false, Option, None, Some, List, length, map}
-use Rattle.std.specs.List.{count_by, flat_map, sum_by}
+use Rattle.std.specs.List.{count_by, filter, flat_map, sum_by}
 use Rattle.std.specs.Str.{bytes_eq}
 use Rattle.hp_model.specs.Lists.{distinct}
-use Rattle.hp_model.specs.Mapping.{Mapping}
+use Rattle.hp_model.specs.Mapping.{Mapping, is_of}
 use Rattle.hp_store.specs.Store.{Store}
 use Rattle.hp_mount_files.specs.Held.{IsHeld}
 use Rattle.hp_mount_files.specs.Numbered.{NumberedFile}
@@ -34,6 +34,10 @@ has_label name l = is_name_of name l.name
 
 abbrev pub keys_in : (task number : ℕ) → Label → ℕ
 keys_in task number l = count_by (is_key task number) l.keys
+
+-- the numbers of a task's maps
+abbrev pub numbers_in : ℕ → List (Mapping ℕ) → List ℕ
+numbers_in task ms = map (λ m. m.number) (filter (is_of task) ms)
 
 abbrev pub tasks_in : Label → List ℕ
 tasks_in l = map (λ k. k.0) l.keys

@@ -23,12 +23,11 @@ fn freed(map: &mut Mapping, a: u64, b: u64) -> Option<u64>
 
 #[test]
 fn a_map_of_four_pages(rt: HostRuntime) -> Result<(), Fail> {
-    let mut map = Mapping::new(rt.alloc(), 7, 3, 2, 10, 14, OWNER)?;
+    let mut map = Mapping::new(rt.alloc(), 7, 3, 10, 14, OWNER)?;
     assert_eq!(rt;
         [map.task(), map.number(), map.start(), map.end()].as_slice(),
         [7, 3, 10, 14].as_slice()
     );
-    assert_eq!(rt; map.file(), 2);
     assert!(rt; map.is_owner() && !map.is_shared() && !map.is_unmapped() && map.is_mapped());
     assert!(rt; !map.is_live(9) && map.is_live(13) && !map.is_live(14));
     assert!(rt; map.is_live(10));
@@ -47,7 +46,7 @@ fn a_map_of_four_pages(rt: HostRuntime) -> Result<(), Fail> {
 
 #[test]
 fn a_child_of_a_map(rt: HostRuntime) -> Result<(), Fail> {
-    let mut map = Mapping::new(rt.alloc(), 7, 3, 2, 10, 14, OWNER)?;
+    let mut map = Mapping::new(rt.alloc(), 7, 3, 10, 14, OWNER)?;
     assert!(rt; map.is_live(12));
     map.set_copy(12, PageNo::new(5));
     let mut child = map.fork_for(8)?;
@@ -68,9 +67,9 @@ fn a_child_of_a_map(rt: HostRuntime) -> Result<(), Fail> {
 
 #[test]
 fn a_second_try_after_refused_memory(rt: HostRuntime) -> Result<(), Fail> {
-    let mut map = match Mapping::new(rt.alloc(), 7, 3, 2, 0, 200, OWNER) {
+    let mut map = match Mapping::new(rt.alloc(), 7, 3, 0, 200, OWNER) {
         Ok(map) => map,
-        Err(_) => Mapping::new(rt.alloc(), 7, 3, 2, 0, 200, OWNER)?,
+        Err(_) => Mapping::new(rt.alloc(), 7, 3, 0, 200, OWNER)?,
     };
     assert!(rt; map.is_live(150));
     map.set_copy(150, PageNo::new(5));
@@ -89,7 +88,7 @@ fn a_second_try_after_refused_memory(rt: HostRuntime) -> Result<(), Fail> {
 
 #[test]
 fn each_second_page_of_many_unmapped(rt: HostRuntime) -> Result<(), Fail> {
-    let mut map = Mapping::new(rt.alloc(), 7, 3, 2, 0, 65536, OWNER)?;
+    let mut map = Mapping::new(rt.alloc(), 7, 3, 0, 65536, OWNER)?;
     for half in 0..32768u64 {
         let at = 2 * half + 1;
         assert_eq!(rt; freed(&mut map, at, at + 1), Some(1));
