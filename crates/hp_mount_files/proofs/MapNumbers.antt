@@ -27,7 +27,7 @@ use Rattle.hp_mount_files.proofs.Unique.{none_found}
 
 -- ---- the numbers of a task's maps
 
-numbers_append : (task : ℕ) (xs ys : List (Mapping ℕ)) → numbers_in task (xs ++ ys) ≡ numbers_in task xs ++ numbers_in task ys
+pub numbers_append : (task : ℕ) (xs ys : List (Mapping ℕ)) → numbers_in task (xs ++ ys) ≡ numbers_in task xs ++ numbers_in task ys
 numbers_append task xs ys = ap (map (λ m. m.number)) (filter-append (is_of task) xs ys) ∙ map-append (λ m. m.number) (filter (is_of task) xs) (filter (is_of task) ys)
 
 number_if : (b : Bool) (m : Mapping ℕ) → map (λ (x : Mapping ℕ). x.number) (cond b (m ∷ []) []) ≡ cond b (m.number ∷ []) []
@@ -97,7 +97,7 @@ or_same : (b c : Bool) → (b ≡ true → c ≡ true) → (b || c) ≡ c
 or_same true c e = sym (e refl)
 or_same false c e = refl
 
-among_distinct : (q : ℕ) (xs : List ℕ) → is_among q (distinct xs) ≡ is_among q xs
+pub among_distinct : (q : ℕ) (xs : List ℕ) → is_among q (distinct xs) ≡ is_among q xs
 among_distinct q [] = refl
 among_distinct q (x ∷ xs) =
     elim (is_among x xs) as (λ b. is_among x xs ≡ b → is_among q (cond b (distinct xs) (x ∷ distinct xs)) ≡ ((x == q) || is_among q xs)) [
@@ -127,7 +127,7 @@ first_if_none task ms n e = ap (λ k. k == 0) e ∙ twice (length (numbers_of ta
     twice false = refl
 
 -- a number that is there already counts no more
-distinct_again : (n : ℕ) (xs ys : List ℕ) → is_among n (xs ++ ys) ≡ true → length (distinct (xs ++ n ∷ ys)) ≡ length (distinct (xs ++ ys))
+pub distinct_again : (n : ℕ) (xs ys : List ℕ) → is_among n (xs ++ ys) ≡ true → length (distinct (xs ++ n ∷ ys)) ≡ length (distinct (xs ++ ys))
 distinct_again n xs ys known =
     same_members (xs ++ n ∷ ys) (xs ++ ys) (λ q.
     is_among-append q xs (n ∷ ys) ∙ swap (is_among q xs) (n == q) (is_among q ys)
@@ -228,3 +228,11 @@ module _ (xs : List ℕ) where
 
   pub unused_is_new : is_among (least_unused xs) xs ≡ false
   unused_is_new = ⊎_elim found_one (λ past. absurd (all_used past)) (cases_lt place (length range))
+
+pub distinct_few : (xs : List ℕ) → length (distinct xs) ≤ length xs
+distinct_few [] = omega arith
+distinct_few (x ∷ xs) = either (distinct xs) (is_among x xs) (distinct_few xs)
+  where
+    either : (ys : List ℕ) (b : Bool) → length ys ≤ length xs → length (cond b ys (x ∷ ys)) ≤ length (x ∷ xs)
+    either ys true rest = omega (arith, rest)
+    either ys false rest = omega (arith, rest)

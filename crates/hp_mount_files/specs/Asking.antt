@@ -6,21 +6,21 @@ use Rattle.hp_model.specs.Pool.{Section, Grant, PoolAnswer, granted_at, no_pages
 use Rattle.hp_mount_door.specs.Door.{IsDoorRefusal, with_reserves}
 use Rattle.hp_subpool.specs.Subpool.{Subpool, rise}
 
-module _ {X : Type 0} (took : X → Section → PoolAnswer → X → Type 0) (full : X → Type 0) (home k : ℕ) (share : Subpool) (door : X) where
+module _ {X : Type 0} (took : X → Section → PoolAnswer → X → Type 0) (full : X → Type 0) (home k : ℕ) (s : Subpool) (d : X) where
   -- k more are granted, by a section where the minimum does not cover them
   pub record IsGranted (new : Subpool) (left : X) : Type 0 where
-    pub share : new ≡ with_reserves k share
-    pub none : rise share k ≡ 0 → left ≡ door
-    pub some : 0 < rise share k → took door (Grant home (rise share k)) (granted_at 0) left
+    pub share : new ≡ with_reserves k s
+    pub none : rise s k ≡ 0 → left ≡ d
+    pub some : 0 < rise s k → took d (Grant home (rise s k)) (granted_at 0) left
 
   pub record IsDenied (e : Refusal) (new : Subpool) (left : X) : Type 0 where
-    pub share : new ≡ share
-    pub some : 0 < rise share k
-    pub why : IsDoorRefusal e (took door (Grant home (rise share k)) no_pages left) ((left ≡ door) × full left)
+    pub share : new ≡ s
+    pub some : 0 < rise s k
+    pub why : IsDoorRefusal e (took d (Grant home (rise s k)) no_pages left) ((left ≡ d) × full left)
 
   pub record IsUnasked (new : Subpool) (left : X) : Type 0 where
-    pub share : new ≡ share
-    pub door : left ≡ door
+    pub share : new ≡ s
+    pub door : left ≡ d
 
   -- granted; or for want of memory not asked for; or refused by the door
   abbrev pub IsAsked : Result (Unit {0}) Refusal → (new : Subpool) (left : X) → Type 0

@@ -1,0 +1,279 @@
+-- A shared map more, whose indices are entered.
+use Rattle.std.proofs.Common.{◌≡◌, ℕ, zero, suc, ◌+◌, ◌-◌, ◌<◌, ◌≤◌, Bool, true, false, not, cond, ◌&&◌, ◌||◌, ◌==◌, List, [], ◌∷◌, ◌++◌, length, map, take, drop, replicate, refl, sym, ap, subst, ◌∙◌, arith}
+use Rattle.std.specs.Prelude.{slice_index_or, slice_set, Some, None}
+use Rattle.std.specs.List.{count_by, filter, flat_map, sum_by}
+use Rattle.std.proofs.lemmas.Bool.{and_parts, eqb-true}
+use Rattle.std.proofs.lemmas.Grind.{flat_map-append}
+use Rattle.std.proofs.lemmas.List.{append_assoc, append-nil, length-append, length-map, length-replicate, map-append, map-set}
+use Rattle.std.proofs.lemmas.List.Sums.{sum_by-append, sum_by-cons, sum_by-set, sum_by_push}
+use Rattle.hp_model.specs.declared.cell.Cell.{Cell}
+use Rattle.hp_model.specs.declared.cell.Cell.TheVariants.{Hole, Entered, Present}
+use Rattle.hp_model.specs.declared.place.Place.{Place}
+use Rattle.hp_model.specs.declared.place.Place.TheVariants.{Live}
+use Rattle.hp_model.specs.declared.step.Reserving.TheVariants.{Reserve}
+use Rattle.hp_model.specs.declared.step.Sharing.TheVariants.{Shared}
+use Rattle.hp_model.specs.File.{File, at_least, entered}
+use Rattle.hp_model.specs.Lists.{distinct, edit_range, is_among, least_unused}
+use Rattle.hp_model.specs.MakeMap.{mapped, new_map, numbers_of}
+use Rattle.hp_model.specs.Mapping.{Map, Mapping, is_of}
+use Rattle.hp_model.specs.Page.{Copy}
+use Rattle.hp_model.proofs.Counting.{count_cons}
+use Rattle.hp_model.proofs.Distinct.{distinct_put, is_among-append}
+use Rattle.hp_store.specs.Store.{Store}
+use Rattle.hp_mount_files.specs.Files.{Files, file_at, mapped_at, with_file_at}
+use Rattle.hp_mount_files.specs.Held.{IsHeld, in_cell, in_file, in_map, in_place}
+use Rattle.hp_mount_files.specs.Keyed.{IsFiles, IsKeyed, Label, has_label, is_key, key_of, keys_in, label_of, labels_of, numbers_in, tasks_in}
+use Rattle.hp_mount_files.specs.Numbered.{NumberedFile, cell_shown, file_shown, files_shown, map_shown, new_mapping, numbered_at, place_shown, with_mapping}
+use Rattle.hp_mount_files.specs.Places.{all_maps, all_tasks}
+use Rattle.hp_mount_files.proofs.Alike.{alike_held}
+use Rattle.hp_mount_files.proofs.Cells.{file_is, no_file}
+use Rattle.hp_mount_files.proofs.MapNumbers.{among_distinct, distinct_again, numbers_append, numbers_shown, unused_is_new}
+use Rattle.hp_mount_files.proofs.Unique.{maps_counted, tasks_counted}
+use Rattle.hp_mount_files.proofs.Views.{read_is, view}
+
+-- ---- lists
+
+module _ {X Y : Type 0} (g : X → Y) where
+  map_take : (n : ℕ) (xs : List X) → map g (take n xs) ≡ take n (map g xs)
+  map_take zero [] = refl
+  map_take zero (x ∷ xs) = refl
+  map_take (suc n) [] = refl
+  map_take (suc n) (x ∷ xs) = ap (λ ys. g x ∷ ys) (map_take n xs)
+
+  map_drop : (n : ℕ) (xs : List X) → map g (drop n xs) ≡ drop n (map g xs)
+  map_drop zero [] = refl
+  map_drop zero (x ∷ xs) = refl
+  map_drop (suc n) [] = refl
+  map_drop (suc n) (x ∷ xs) = map_drop n xs
+
+  map_replicate : (n : ℕ) (x : X) → map g (replicate n x) ≡ replicate n (g x)
+  map_replicate zero x = refl
+  map_replicate (suc n) x = ap (λ ys. g x ∷ ys) (map_replicate n x)
+
+  module _ (f : X → X) (h : Y → Y) (same : (x : X) → g (f x) ≡ h (g x)) where
+    map_twice : (xs : List X) → map g (map f xs) ≡ map h (map g xs)
+    map_twice [] = refl
+    map_twice (x ∷ xs) = ap (λ y. y ∷ map g (map f xs)) (same x) ∙ ap (λ ys. h (g x) ∷ ys) (map_twice xs)
+
+    map_edited : (a b : ℕ) (xs : List X) → map g (edit_range f a b xs) ≡ edit_range h a b (map g xs)
+    map_edited a b xs =
+        map-append g (take a xs ++ map f (take (b - a) (drop a xs))) (drop (b - a) (drop a xs))
+        ∙ ap (λ ys. ys ++ map g (drop (b - a) (drop a xs))) (map-append g (take a xs) (map f (take (b - a) (drop a xs))))
+        ∙ ap (λ ys. ys ++ map g (map f (take (b - a) (drop a xs))) ++ map g (drop (b - a) (drop a xs))) (map_take a xs)
+        ∙ ap (λ ys. take a (map g xs) ++ ys ++ map g (drop (b - a) (drop a xs))) (map_twice (take (b - a) (drop a xs)) ∙ ap (map h) (map_take (b - a) (drop a xs) ∙ ap (take (b - a)) (map_drop a xs)))
+        ∙ ap (λ ys. take a (map g xs) ++ map h (take (b - a) (drop a (map g xs))) ++ ys) (map_drop (b - a) (drop a xs) ∙ ap (drop (b - a)) (map_drop a xs))
+
+module _ {X : Type 0} (c : X → ℕ) where
+  sum_parts : (n : ℕ) (xs : List X) → sum_by c (take n xs) + sum_by c (drop n xs) ≡ sum_by c xs
+  sum_parts zero [] = refl
+  sum_parts zero (x ∷ xs) = omega arith
+  sum_parts (suc n) [] = refl
+  sum_parts (suc n) (x ∷ xs) = (let rest = sum_parts n xs in omega (arith, rest, sum_by-cons c x (take n xs), sum_by-cons c x xs))
+
+  sum_mapped : (f : X → X) → ((x : X) → c (f x) ≡ c x) → (xs : List X) → sum_by c (map f xs) ≡ sum_by c xs
+  sum_mapped f same [] = refl
+  sum_mapped f same (x ∷ xs) = (let here = same x in let rest = sum_mapped f same xs in omega (arith, here, rest, sum_by-cons c (f x) (map f xs), sum_by-cons c x xs))
+
+  sum_edited : (f : X → X) → ((x : X) → c (f x) ≡ c x) → (a b : ℕ) (xs : List X) → sum_by c (edit_range f a b xs) ≡ sum_by c xs
+  sum_edited f same a b xs =
+      let front = sum_by-append c (take a xs) (map f (take (b - a) (drop a xs))) in
+      let back = sum_by-append c (take a xs ++ map f (take (b - a) (drop a xs))) (drop (b - a) (drop a xs)) in
+      let mid = sum_mapped f same (take (b - a) (drop a xs)) in
+      let whole = sum_parts a xs in
+      let rest = sum_parts (b - a) (drop a xs) in
+      omega (arith, front, back, mid, whole, rest)
+
+  sum_none : (n : ℕ) (x : X) → c x ≡ 0 → sum_by c (replicate n x) ≡ 0
+  sum_none zero x e = refl
+  sum_none (suc n) x e = (let rest = sum_none n x e in omega (arith, e, rest, sum_by-cons c x (replicate n x)))
+
+  sum_through : {Y : Type 0} (f : Y → X) (ys : List Y) → sum_by c (map f ys) ≡ sum_by (λ y. c (f y)) ys
+  sum_through f [] = refl
+  sum_through f (y ∷ ys) = (let rest = sum_through f ys in omega (arith, rest, sum_by-cons c (f y) (map f ys), sum_by-cons (λ y. c (f y)) y ys))
+
+-- ---- a list of which one part has one element more
+
+record IsPut (xs ys : List ℕ) (n : ℕ) : Type 0 where
+  front : List ℕ
+  back : List ℕ
+  before : xs ≡ front ++ back
+  after : ys ≡ front ++ n ∷ back
+
+put_in : {X : Type 0} (part : X → List ℕ) (d : X) (xs : List X) (k : ℕ) (x : X) (n : ℕ) → k < length xs → part x ≡ part (slice_index_or xs k d) ++ n ∷ [] → IsPut (flat_map part xs) (flat_map part (slice_set xs k x)) n
+put_in part d [] k x n l e = absurd (omega (arith, l))
+put_in part d (z ∷ xs) zero x n l e = record { front = part z; back = flat_map part xs; before = refl; after = ap (λ ys. ys ++ flat_map part xs) e ∙ append_assoc (part z) (n ∷ []) (flat_map part xs) }
+put_in part d (z ∷ xs) (suc k) x n l e =
+    let rest = put_in part d xs k x n (omega (arith, l)) e in
+    record {
+      front = part z ++ rest.front;
+      back = rest.back;
+      before = ap (λ ys. part z ++ ys) rest.before ∙ sym (append_assoc (part z) rest.front rest.back);
+      after = ap (λ ys. part z ++ ys) rest.after ∙ sym (append_assoc (part z) rest.front (n ∷ rest.back));
+    }
+
+put_distinct : (xs ys : List ℕ) (n : ℕ) (b : Bool) → IsPut xs ys n → is_among n xs ≡ not b → length (distinct ys) ≡ length (distinct xs) + cond b 1 0
+put_distinct xs ys n b p known =
+    let there : is_among n (p.front ++ p.back) ≡ not b = ap (is_among n) (sym p.before) ∙ known in
+    let left = ap (λ zs. length (distinct zs)) p.before in
+    let right = ap (λ zs. length (distinct zs)) p.after in
+    elim b as (λ c. is_among n (p.front ++ p.back) ≡ not c → length (distinct ys) ≡ length (distinct xs) + cond c 1 0) [
+      | true ↦ λ e. (let step = distinct_put n p.front p.back e in omega (arith, step, left, right))
+      | false ↦ λ e. (let step = distinct_again n p.front p.back e in omega (arith, step, left, right))
+    ] there
+
+-- ---- a number that the task's maps do not have
+
+neither : (b c : Bool) → (b || c) ≡ false → (b ≡ false) × (c ≡ false)
+neither true c e = cc
+neither false c e = (refl, e)
+
+none_in_maps : (task number : ℕ) (ms : List (Mapping ℕ)) → is_among number (numbers_in task ms) ≡ false → count_by (is_key task number) (map key_of ms) ≡ 0
+none_in_maps task number [] e = refl
+none_in_maps task number (m ∷ ms) e = (let step = count_cons (is_key task number) (key_of m) (map key_of ms) in either (m.task == task) step e (none_in_maps task number ms))
+  where
+    either : (b : Bool) → count_by (is_key task number) (map key_of (m ∷ ms)) ≡ cond {A = ℕ} (b && (m.number == number)) 1 0 + count_by (is_key task number) (map key_of ms)
+        → is_among number (map (λ (x : Mapping ℕ). x.number) (cond b (m ∷ filter (is_of task) ms) (filter (is_of task) ms))) ≡ false
+        → (is_among number (numbers_in task ms) ≡ false → count_by (is_key task number) (map key_of ms) ≡ 0) → count_by (is_key task number) (map key_of (m ∷ ms)) ≡ 0
+    either true step e rest =
+        let parts = neither (m.number == number) (is_among number (numbers_in task ms)) e in
+        let here = ap (λ b. cond {A = ℕ} b 1 0 + 0) parts.0 in
+        let there = rest parts.1 in
+        omega (arith, step, here, there)
+    either false step e rest = (let there = rest e in omega (arith, step, there))
+
+none_in_files : (task number : ℕ) (fs : List NumberedFile) → is_among number (numbers_in task (flat_map (λ (f : NumberedFile). f.maps) fs)) ≡ false → sum_by (keys_in task number) (labels_of fs) ≡ 0
+none_in_files task number [] e = refl
+none_in_files task number (f ∷ fs) e =
+    let rest = flat_map (λ (f : NumberedFile). f.maps) fs in
+    let split = sym (is_among-append number (numbers_in task f.maps) (numbers_in task rest)) ∙ ap (is_among number) (sym (numbers_append task f.maps rest)) ∙ e in
+    let parts = neither (is_among number (numbers_in task f.maps)) (is_among number (numbers_in task rest)) split in
+    let here = none_in_maps task number f.maps parts.0 in
+    let there = none_in_files task number fs parts.1 in
+    omega (arith, here, there, sum_by-cons (keys_in task number) (label_of f) (labels_of fs))
+
+-- ---- what is shown
+
+entered_shown : (s : Store) (c : Cell ℕ) → cell_shown s (entered c) ≡ entered (cell_shown s c)
+entered_shown s Hole = refl
+entered_shown s Entered = refl
+entered_shown s (Present n) = refl
+
+entered_counts : (n : ℕ) (c : Cell ℕ) → in_cell n (entered c) ≡ in_cell n c
+entered_counts n Hole = refl
+entered_counts n Entered = refl
+entered_counts n (Present k) = refl
+
+module _ (task number a n : ℕ) where
+  abbrev y : Mapping ℕ
+  y = new_mapping task number a n
+
+  wide : length y.places ≡ n
+  wide = length-replicate n _
+
+  new_shown : (s : Store) → map_shown s y ≡ new_map task number a n Shared Reserve
+  new_shown s = ap (λ ps. record (new_map task number a n Shared Reserve) { places = ps }) (map_replicate (place_shown s) n (Live false None))
+
+  mapped_shown : (s : Store) (x : NumberedFile) → file_shown s (with_mapping y x) ≡ mapped task number a n Shared Reserve (file_shown s x)
+  mapped_shown s x =
+      let end : ℕ = a + length y.places in
+      let cells : map (cell_shown s) (edit_range entered a end (at_least end x.cells)) ≡ edit_range entered a (a + n) (at_least (a + n) (map (cell_shown s) x.cells)) =
+      map_edited (cell_shown s) entered entered (entered_shown s) a end (at_least end x.cells)
+      ∙ ap (edit_range entered a end) (map-append (cell_shown s) x.cells (replicate (end - length x.cells) Hole) ∙ ap (λ cs. map (cell_shown s) x.cells ++ cs) (map_replicate (cell_shown s) (end - length x.cells) Hole))
+      ∙ ap (λ m. edit_range entered a end (map (cell_shown s) x.cells ++ replicate (end - m) Hole)) (sym (length-map x.cells (cell_shown s)))
+      ∙ ap (λ m. edit_range entered a (a + m) (at_least (a + m) (map (cell_shown s) x.cells))) wide in
+      ap (λ cs. record { name = x.name; cells = cs; maps = map (map_shown s) (x.maps ++ y ∷ []) }) cells
+      ∙ ap (λ ms. record { name = x.name; cells = edit_range entered a (a + n) (at_least (a + n) (map (cell_shown s) x.cells)); maps = ms }) (map-append (map_shown s) x.maps (y ∷ []) ∙ ap (λ m. map (map_shown s) x.maps ++ m ∷ []) (new_shown s))
+
+  cells_count : (m : ℕ) (x : NumberedFile) → sum_by (in_cell m) (with_mapping y x).cells ≡ sum_by (in_cell m) x.cells
+  cells_count m x =
+      let end : ℕ = a + length y.places in
+      let same = sum_edited (in_cell m) entered (entered_counts m) a end (at_least end x.cells) in
+      let both = sum_by-append (in_cell m) x.cells (replicate (end - length x.cells) Hole) in
+      let none = sum_none (in_cell m) (end - length x.cells) Hole refl in
+      omega (arith, same, both, none)
+
+  file_count : (m : ℕ) (x : NumberedFile) → in_file m (with_mapping y x) ≡ in_file m x
+  file_count m x =
+      let cells = cells_count m x in
+      let maps = sum_by_push (in_map m) x.maps y in
+      let none = sum_none (in_place m) n (Live false None) refl in
+      omega (arith, cells, maps, none)
+
+  module _ (s : Store) (more maps tasks : ℕ) (fs : List NumberedFile) (k : ℕ) (is : IsFiles s more maps tasks fs) (l : k < length fs) (x g : NumberedFile) (read : x ≡ slice_index_or fs k x) (g_is : g ≡ with_mapping y x) where
+    at : x ≡ numbered_at fs k
+    at = read_is fs k x l read
+
+    pub map_view : view s more (slice_set fs k g) ≡ with_file_at k (mapped task number a n Shared Reserve (file_at (files_shown s fs) k)) (view s more fs)
+    map_view =
+        ap (λ xs. record (view s more fs) { files = xs }) (map-set (file_shown s) fs k g
+        ∙ ap (slice_set (files_shown s fs) k) (ap (file_shown s) g_is ∙ mapped_shown s x ∙ ap (mapped task number a n Shared Reserve) (ap (file_shown s) at ∙ sym (file_is s fs k l))))
+
+    pub map_held : IsHeld s more (slice_set fs k g)
+    map_held = alike_held s more fs is.held k l g
+        (λ m. ap (λ (f : NumberedFile). sum_by (in_cell m) f.cells) g_is ∙ cells_count m x ∙ ap (λ (f : NumberedFile). sum_by (in_cell m) f.cells) at)
+        (λ m. ap (in_file m) g_is ∙ file_count m x ∙ ap (in_file m) at)
+
+    label_is : label_of g ≡ record { name = x.name; keys = map key_of x.maps ++ (task, number) ∷ [] }
+    label_is = ap label_of g_is ∙ ap (λ ks. record { name = x.name; keys = ks }) (map-append key_of x.maps (y ∷ []))
+
+    keys_more : (t m : ℕ) → keys_in t m (label_of g) ≡ keys_in t m (label_of x) + cond (is_key t m (task, number)) 1 0
+    keys_more t m = ap (keys_in t m) label_is ∙ sum_by_push (λ q. cond {A = ℕ} (is_key t m q) 1 0) (map key_of x.maps) (task, number)
+
+    module _ (fresh : is_among number (numbers_of task (all_maps (files_shown s fs))) ≡ false) where
+      keys_few : (t m : ℕ) (b : Bool) → is_key t m (task, number) ≡ b → sum_by (keys_in t m) (labels_of fs) ≤ 1 → sum_by (keys_in t m) (labels_of fs) + cond {A = ℕ} b 1 0 ≤ 1
+      keys_few t m true e most =
+          let parts = and_parts (task == t) (number == m) e in
+          let none = none_in_files task number fs (ap (is_among number) (numbers_shown s task fs) ∙ fresh) in
+          let same = ap (λ q. sum_by (keys_in q m) (labels_of fs)) (eqb-true task t parts.0) in
+          let also = ap (λ q. sum_by (keys_in task q) (labels_of fs)) (eqb-true number m parts.1) in
+          omega (arith, none, same, also)
+      keys_few t m false e most = omega (arith, most)
+
+      pub map_keyed : (first : Bool) → first ≡ not (is_among task (all_tasks (files_shown s fs))) → IsKeyed (maps + 1) (tasks + cond first 1 0) (labels_of (slice_set fs k g))
+      map_keyed first first_is = record {
+        names = λ name.
+            let step = sum_by-set (λ (f : NumberedFile). cond {A = ℕ} (has_label name (label_of f)) 1 0) fs k g no_file l in
+            let before = sum_through (λ (q : Label). cond {A = ℕ} (has_label name q) 1 0) label_of fs in
+            let after = sum_through (λ (q : Label). cond {A = ℕ} (has_label name q) 1 0) label_of (slice_set fs k g) in
+            let same = ap (λ (q : Label). cond {A = ℕ} (has_label name q) 1 0 + 0) label_is in
+            let here = ap (λ (f : NumberedFile). cond {A = ℕ} (has_label name (label_of f)) 1 0 + 0) at in
+            let most = is.keyed.names name in
+            omega (arith, step, before, after, same, here, most);
+        keys = λ t m.
+            let step = sum_by-set (λ (f : NumberedFile). keys_in t m (label_of f)) fs k g no_file l in
+            let before = sum_through (keys_in t m) label_of fs in
+            let after = sum_through (keys_in t m) label_of (slice_set fs k g) in
+            let more = keys_more t m in
+            let here = ap (λ (f : NumberedFile). keys_in t m (label_of f)) at in
+            let few = keys_few t m (is_key t m (task, number)) refl (is.keyed.keys t m) in
+            omega (arith, step, before, after, more, here, few);
+        map_count =
+            let step = sum_by-set (λ (f : NumberedFile). length (label_of f).keys) fs k g no_file l in
+            let before = sum_through (λ (q : Label). length q.keys) label_of fs in
+            let after = sum_through (λ (q : Label). length q.keys) label_of (slice_set fs k g) in
+            let more = ap (λ (q : Label). length q.keys) label_is ∙ length-append (map key_of x.maps) ((task, number) ∷ []) in
+            let here = ap (λ (f : NumberedFile). length (label_of f).keys) at in
+            let was = is.keyed.map_count in
+            omega (arith, step, before, after, more, here, was);
+        task_count =
+            let tasks_at : NumberedFile → List ℕ = λ f. tasks_in (label_of f) in
+            let more : tasks_at g ≡ tasks_at (numbered_at fs k) ++ task ∷ [] = ap tasks_in label_is ∙ map-append (λ (q : ℕ × ℕ). q.0) (map key_of x.maps) ((task, number) ∷ []) ∙ ap (λ f. tasks_at f ++ task ∷ []) at in
+            let before : flat_map tasks_at fs ≡ flat_map tasks_in (labels_of fs) = flat_through fs in
+            let after : flat_map tasks_at (slice_set fs k g) ≡ flat_map tasks_in (labels_of (slice_set fs k g)) = flat_through (slice_set fs k g) in
+            let known : is_among task (flat_map tasks_at fs) ≡ not first = ap (is_among task) (before ∙ tasks_counted s fs) ∙ sym (among_distinct task (map (λ (m : Map). m.task) (all_maps (files_shown s fs)))) ∙ flip (is_among task (all_tasks (files_shown s fs))) first first_is in
+            let count = put_distinct (flat_map tasks_at fs) (flat_map tasks_at (slice_set fs k g)) task first (put_in tasks_at no_file fs k g task l more) known in
+            let left = ap (λ ts. length (distinct ts)) before in
+            let right = ap (λ ts. length (distinct ts)) after in
+            let was = is.keyed.task_count in
+            omega (arith, count, left, right, was);
+      }
+        where
+          flat_through : (fs : List NumberedFile) → flat_map (λ f. tasks_in (label_of f)) fs ≡ flat_map tasks_in (labels_of fs)
+          flat_through [] = refl
+          flat_through (f ∷ fs) = ap (λ ts. tasks_in (label_of f) ++ ts) (flat_through fs)
+          flip : (a b : Bool) → b ≡ not a → a ≡ not b
+          flip true b e = ap not (sym e)
+          flip false b e = ap not (sym e)
+
+      pub map_files : (first : Bool) (tasks_now : ℕ) → first ≡ not (is_among task (all_tasks (files_shown s fs))) → tasks_now ≡ tasks + cond first 1 0 → IsFiles s more (maps + 1) tasks_now (slice_set fs k g)
+      map_files first tasks_now first_is now_is = record { held = map_held; keyed = subst (λ t. IsKeyed (maps + 1) t (labels_of (slice_set fs k g))) (sym now_is) (map_keyed first first_is) }
