@@ -1,0 +1,26 @@
+-- Pages whose holders go.
+use Rattle.std.specs.Prelude.{◌≡◌, ℕ, ◌+◌, ◌==◌, List, length, if◌then◌else◌}
+use Rattle.std.specs.Prelude.{Option, None}
+use Rattle.std.specs.List.{count_by, sum_by}
+use Rattle.hp_model.specs.Page.{Page}
+use Rattle.hp_store.specs.Store.{Holding, Store, held_count, holders_of, one_if_held, page_at}
+use Rattle.hp_mount_files.specs.Numbered.{page_in}
+
+-- 1 for a page of the node
+abbrev pub at_node : ℕ → Option Holding → ℕ
+at_node n o = if (page_in o).node == n then one_if_held o else 0
+
+-- how many of the pages are of the node
+abbrev pub count_at : ℕ → List Page → ℕ
+count_at n pages = count_by (λ (page : Page). page.node == n) pages
+
+-- each page has a holder
+abbrev pub HasHolders : Store → Type 0
+HasHolders s = (n : ℕ) → holders_of (page_at s n) ≡ 0 → page_at s n ≡ None
+
+-- of so many holders of each number so many are left; and a page that is left by its last goes
+pub record IsDropping (total left : ℕ → ℕ) (old now : Store) : Type 0 where
+  pub held : (n : ℕ) → holders_of (page_at now n) + total n ≡ holders_of (page_at old n) + left n
+  pub some : HasHolders now
+  pub pages : held_count now.pages + length now.going ≡ held_count old.pages + length old.going
+  pub nodes : (n : ℕ) → sum_by (at_node n) now.pages + count_at n now.going ≡ sum_by (at_node n) old.pages + count_at n old.going
