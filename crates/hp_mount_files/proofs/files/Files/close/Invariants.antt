@@ -1,0 +1,10 @@
+use Rattle.std.specs.Prelude.{ℕ, vec_len}
+use Rattle.hp_mount_files.specs.Dropping.{IsDropping}
+use Rattle.hp_mount_files.specs.Held.{in_files}
+use Rattle.hp_mount_files.proofs.files.Files.close.Given as goal
+
+abbrev pub invariant-loop-file : goal.invariant-loop-file
+invariant-loop-file g l = IsDropping (λ n. in_files n l.initial.list.items) (λ n. in_files n l.list.items) l.initial.store l.store
+
+abbrev pub decreases-loop-file : goal.decreases-loop-file
+decreases-loop-file g l = vec_len l.list
