@@ -1,20 +1,18 @@
 -- A file more, which is empty.
-use Rattle.std.proofs.Common.{◌≡◌, ℕ, zero, suc, ◌+◌, ◌<◌, ◌≤◌, Bool, true, false, cond, ⊎_elim, List, [], ◌∷◌, ◌++◌, length, map, Option, Some, None, refl, sym, ap, subst, ◌∙◌, arith}
-use Rattle.std.specs.Prelude.{slice_index_or}
+use Rattle.std.proofs.Common.{◌≡◌, ℕ, zero, suc, ◌+◌, ◌<◌, ◌≤◌, Bool, true, false, cond, ⊎_elim, List, [], ◌∷◌, ◌++◌, length, Some, None, refl, sym, ap, subst, ◌∙◌, arith}
 use Rattle.std.specs.List.{count_by, flat_map, sum_by}
 use Rattle.std.specs.Str.{bytes_eq}
 use Rattle.std.proofs.lemmas.Bool.{cases_lt}
 use Rattle.std.proofs.lemmas.Grind.{flat_map-append}
-use Rattle.std.proofs.lemmas.List.{append-nil, length-append, map-append}
+use Rattle.std.proofs.lemmas.List.{append-nil, map-append}
 use Rattle.std.proofs.lemmas.List.Sums.{sum_by_push}
 use Rattle.std.proofs.lemmas.Slice.Eq.{bytes_eq-Decides}
 use Rattle.hp_model.specs.Lists.{distinct, found}
 use Rattle.hp_model.specs.SlotEvent.{has_name}
-use Rattle.hp_store.specs.Store.{Store, holders_of, page_at}
+use Rattle.hp_store.specs.Store.{Store}
 use Rattle.hp_mount_files.specs.Held.{IsHeld, in_cell, in_cells, in_file, in_files}
 use Rattle.hp_mount_files.specs.Keyed.{IsFiles, IsKeyed, Label, has_label, keys_in, label_of, labels_of, tasks_in}
 use Rattle.hp_mount_files.specs.Numbered.{NumberedFile, files_shown, numbered_at}
-use Rattle.hp_mount_files.proofs.Cells.{no_file}
 use Rattle.hp_mount_files.proofs.Unique.{names_counted, none_found}
 
 abbrev pub empty_file : List ℕ → NumberedFile

@@ -1,9 +1,8 @@
 -- Holders that go, one by one.
-use Rattle.std.proofs.Common.{◌≡◌, ◌≢◌, ℕ, zero, suc, ◌+◌, ◌-◌, ◌<◌, ◌≤◌, ◌==◌, ⊎_elim, Bool, true, false, cond, nat_lt, Option, Some, None, List, [], ◌∷◌, ◌++◌, length, drop, take, refl, sym, ap, subst, ◌∙◌, arith}
+use Rattle.std.proofs.Common.{◌≡◌, ◌≢◌, ℕ, zero, suc, ◌+◌, ◌-◌, ◌<◌, ◌≤◌, ◌==◌, ⊎_elim, Bool, true, false, cond, nat_lt, Option, Some, None, List, [], ◌∷◌, ◌++◌, length, take, refl, sym, ap, subst, ◌∙◌, arith}
 use Rattle.std.specs.Prelude.{IsSome, MatchOption, slice_index_or, slice_set}
 use Rattle.std.specs.List.{count_by, sum_by}
 use Rattle.std.specs.Option.{option_map}
-use Rattle.std.proofs.lemmas.Bool.{cases_lt}
 use Rattle.std.proofs.lemmas.Bool.Decides.{eqb_tells, nat_tests}
 use Rattle.std.proofs.lemmas.List.{get_or-set_same, get_or-set_other, length-append, length-set, take_all}
 use Rattle.std.proofs.lemmas.List.Sums.{sum_by-cons, sum_by-set, sum_by_push}
@@ -21,7 +20,6 @@ use Rattle.hp_store.specs.Store as store
 use Rattle.hp_store.specs.Store.{Holding, Store, held_count, held_once_less, holders_of, one_if_held, page_at}
 use Rattle.hp_mount_files.specs.Dropping.{HasHolders, IsDropping, at_node, count_at}
 use Rattle.hp_mount_files.specs.Held.{in_cell, in_map, in_place}
-use Rattle.hp_mount_files.specs.Numbered.{page_in}
 use Rattle.hp_mount_files.proofs.Lifting.{is_it}
 use Rattle.hp_mount_files.proofs.Unique.{none_found}
 use Rattle.hp_mount_files.proofs.Views.{some_within}
@@ -96,6 +94,7 @@ module _ (s : Store) (number : ℕ) (h : Holding) (is : page_at s number ≡ Som
       none : (b : Bool) → cond {A = ℕ} b 0 0 ≡ 0
       none true = refl
       none false = refl
+
       either : (b : Bool) → sum_by (at_node n) (slice_set s.pages number (cond b None (Some (held_once_less h)))) + at_node n (slice_index_or s.pages number None) ≡ sum_by (at_node n) s.pages + at_node n (cond b None (Some (held_once_less h)))
           → at_node n (page_at s number) ≡ at_node n (Some h) → sum_by (at_node n) (slice_set s.pages number (cond b None (Some (held_once_less h)))) + count_at n (cond b (s.going ++ store.page_of h ∷ []) s.going) ≡ sum_by (at_node n) s.pages + count_at n s.going
       either true step was = omega (arith, step, was, none (0 == n), sum_by_push (λ (page : Page). cond {A = ℕ} (page.node == n) 1 0) s.going (store.page_of h))
@@ -149,6 +148,7 @@ found_at (x ∷ xs) p e = either (has_page x) refl e (found_at xs)
         let l = there.0 in
         let inside : q.0 + 1 < length (x ∷ xs) = omega (arith, l) in
         subst (IsFoundAt (x ∷ xs)) is (inside, ap (λ k. slice_index_or (x ∷ xs) k Hole) more ∙ there.1, there.2)
+
     either : (b : Bool) → has_page x ≡ b → cond b (Some (0, x)) (option_map one_on (found has_page xs)) ≡ Some p → ((q : ℕ × Cell ℕ) → found has_page xs ≡ Some q → IsFoundAt xs q) → IsFoundAt (x ∷ xs) p
     either true has e rest = (let is : (0, x) ≡ p = cc in subst (IsFoundAt (x ∷ xs)) is (omega arith, refl, has))
     either false has e rest = next (found has_page xs) e rest
@@ -221,6 +221,7 @@ place_inside m i k e = either (nat_lt i m.start) e
     inside [] j e = cc
     inside (p ∷ ps) zero e = omega arith
     inside (p ∷ ps) (suc j) e = (let rest = inside ps j e in omega (arith, rest))
+
     either : (b : Bool) → copy_of (cond b Gone (slice_index_or m.places (i - m.start) Gone)) ≡ Some k → (i - m.start < length m.places) × (copy_of (slice_index_or m.places (i - m.start) Gone) ≡ Some k)
     either true e = cc
     either false e = (inside m.places (i - m.start) e, e)

@@ -1,9 +1,9 @@
 -- What files and maps are called, through each change.
-use Rattle.std.proofs.Common.{◌≡◌, ℕ, zero, suc, ◌+◌, ◌<◌, ◌≤◌, List, [], ◌∷◌, ◌++◌, length, map, refl, sym, ap, subst, ◌∙◌, arith}
+use Rattle.std.proofs.Common.{◌≡◌, ℕ, zero, suc, List, [], ◌∷◌, map, refl, sym, ap, subst, ◌∙◌}
 use Rattle.std.specs.Prelude.{slice_set, slice_index_or}
 use Rattle.std.proofs.lemmas.List.{map-set, set-get_or}
 use Rattle.hp_model.specs.Mapping.{Mapping}
-use Rattle.hp_mount_files.specs.Keyed.{IsKeyed, Label, key_of, label_of, labels_of}
+use Rattle.hp_mount_files.specs.Keyed.{IsKeyed, key_of, label_of, labels_of}
 use Rattle.hp_mount_files.specs.Numbered.{NumberedFile, mapping_at, no_mapping}
 
 pub set_read : {Y : Type 0} (xs : List Y) (j : ℕ) (d : Y) → slice_set xs j (slice_index_or xs j d) ≡ xs

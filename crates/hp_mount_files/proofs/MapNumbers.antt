@@ -141,7 +141,6 @@ distinct_again n xs ys known =
     swap true false c = refl
     swap false b c = refl
 
-
 -- ---- as the machine shows them
 
 numbers_seen : (s : Store) (task : ℕ) (ms : List (Mapping ℕ)) → numbers_of task (map (map_shown s) ms) ≡ numbers_in task ms

@@ -1,34 +1,31 @@
 -- A shared map more, whose indices are entered.
 use Rattle.std.proofs.Common.{◌≡◌, ℕ, zero, suc, ◌+◌, ◌-◌, ◌<◌, ◌≤◌, Bool, true, false, not, cond, ◌&&◌, ◌||◌, ◌==◌, List, [], ◌∷◌, ◌++◌, length, map, take, drop, replicate, refl, sym, ap, subst, ◌∙◌, arith}
-use Rattle.std.specs.Prelude.{slice_index_or, slice_set, Some, None}
+use Rattle.std.specs.Prelude.{slice_index_or, slice_set, None}
 use Rattle.std.specs.List.{count_by, filter, flat_map, sum_by}
 use Rattle.std.proofs.lemmas.Bool.{and_parts, eqb-true}
-use Rattle.std.proofs.lemmas.Grind.{flat_map-append}
-use Rattle.std.proofs.lemmas.List.{append_assoc, append-nil, length-append, length-map, length-replicate, map-append, map-set}
+use Rattle.std.proofs.lemmas.List.{append_assoc, length-append, length-map, length-replicate, map-append, map-set}
 use Rattle.std.proofs.lemmas.List.Sums.{sum_by-append, sum_by-cons, sum_by-set, sum_by_push}
 use Rattle.hp_model.specs.declared.cell.Cell.{Cell}
 use Rattle.hp_model.specs.declared.cell.Cell.TheVariants.{Hole, Entered, Present}
-use Rattle.hp_model.specs.declared.place.Place.{Place}
 use Rattle.hp_model.specs.declared.place.Place.TheVariants.{Live}
 use Rattle.hp_model.specs.declared.step.Reserving.TheVariants.{Reserve}
 use Rattle.hp_model.specs.declared.step.Sharing.TheVariants.{Shared}
-use Rattle.hp_model.specs.File.{File, at_least, entered}
-use Rattle.hp_model.specs.Lists.{distinct, edit_range, is_among, least_unused}
+use Rattle.hp_model.specs.File.{at_least, entered}
+use Rattle.hp_model.specs.Lists.{distinct, edit_range, is_among}
 use Rattle.hp_model.specs.MakeMap.{mapped, new_map, numbers_of}
 use Rattle.hp_model.specs.Mapping.{Map, Mapping, is_of}
-use Rattle.hp_model.specs.Page.{Copy}
 use Rattle.hp_model.proofs.Counting.{count_cons}
 use Rattle.hp_model.proofs.Distinct.{distinct_put, is_among-append}
 use Rattle.hp_store.specs.Store.{Store}
-use Rattle.hp_mount_files.specs.Files.{Files, file_at, mapped_at, with_file_at}
+use Rattle.hp_mount_files.specs.Files.{file_at, with_file_at}
 use Rattle.hp_mount_files.specs.Held.{IsHeld, in_cell, in_file, in_map, in_place}
 use Rattle.hp_mount_files.specs.Keyed.{IsFiles, IsKeyed, Label, has_label, is_key, key_of, keys_in, label_of, labels_of, numbers_in, tasks_in}
 use Rattle.hp_mount_files.specs.Numbered.{NumberedFile, cell_shown, file_shown, files_shown, map_shown, new_mapping, numbered_at, place_shown, with_mapping}
 use Rattle.hp_mount_files.specs.Places.{all_maps, all_tasks}
 use Rattle.hp_mount_files.proofs.Alike.{alike_held}
 use Rattle.hp_mount_files.proofs.Cells.{file_is, no_file}
-use Rattle.hp_mount_files.proofs.MapNumbers.{among_distinct, distinct_again, numbers_append, numbers_shown, unused_is_new}
-use Rattle.hp_mount_files.proofs.Unique.{maps_counted, tasks_counted}
+use Rattle.hp_mount_files.proofs.MapNumbers.{among_distinct, distinct_again, numbers_append, numbers_shown}
+use Rattle.hp_mount_files.proofs.Unique.{tasks_counted}
 use Rattle.hp_mount_files.proofs.Views.{read_is, view}
 
 -- ---- lists
@@ -271,6 +268,7 @@ module _ (task number a n : ℕ) where
           flat_through : (fs : List NumberedFile) → flat_map (λ f. tasks_in (label_of f)) fs ≡ flat_map tasks_in (labels_of fs)
           flat_through [] = refl
           flat_through (f ∷ fs) = ap (λ ts. tasks_in (label_of f) ++ ts) (flat_through fs)
+
           flip : (a b : Bool) → b ≡ not a → a ≡ not b
           flip true b e = ap not (sym e)
           flip false b e = ap not (sym e)

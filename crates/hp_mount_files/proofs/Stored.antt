@@ -1,23 +1,21 @@
 -- The pages of a store are those that the files show, counted once each.
-use Rattle.std.proofs.Common.{◌≡◌, ◌≢◌, ℕ, zero, suc, ◌+◌, ◌-◌, ◌<◌, ◌≤◌, ◌==◌, ◌||◌, ◌&&◌, ⊎_elim, Bool, true, false, cond, nat_lt, Option, Some, None, List, [], ◌∷◌, ◌++◌, length, map, refl, sym, ap, subst, ◌∙◌, arith}
+use Rattle.std.proofs.Common.{◌≡◌, ◌≢◌, ℕ, zero, suc, ◌+◌, ◌<◌, ◌≤◌, ◌==◌, ◌||◌, ◌&&◌, ⊎_elim, Bool, true, false, cond, nat_lt, Option, Some, None, List, [], ◌∷◌, ◌++◌, length, map, refl, sym, ap, subst, ◌∙◌, arith}
 use Rattle.std.specs.List.{cons_option}
-use Rattle.std.specs.Prelude.{if◌then◌else◌, is_some, slice_index_or}
+use Rattle.std.specs.Prelude.{slice_index_or}
 use Rattle.std.specs.List.{count_by, filter, filter_map, flat_map, range_with_len, sum_by}
 use Rattle.std.proofs.lemmas.Bool.{cases_lt}
 use Rattle.std.proofs.lemmas.Bool.Decides.{eqb_tells, nat_tests}
-use Rattle.std.proofs.lemmas.Grind.{flat_map-append}
 use Rattle.std.proofs.lemmas.List.{get_or_past, map-append}
-use Rattle.std.proofs.lemmas.List.Elements.{filter-append}
-use Rattle.std.proofs.lemmas.List.FromFn.{fill_by_all, length-range_with_len}
-use Rattle.std.proofs.lemmas.List.Sums.{sum_by-append, sum_by-cons}
+use Rattle.std.proofs.lemmas.List.FromFn.{fill_by_all}
+use Rattle.std.proofs.lemmas.List.Sums.{sum_by-cons}
 use Rattle.hp_model.specs.declared.cell.Cell.{Cell}
 use Rattle.hp_model.specs.declared.cell.Cell.TheVariants.{Hole, Entered, Present}
 use Rattle.hp_model.specs.declared.place.Place.{Place}
 use Rattle.hp_model.specs.declared.place.Place.TheVariants.{Gone, Live}
-use Rattle.hp_model.specs.File.{File, has_page}
+use Rattle.hp_model.specs.File.{has_page}
 use Rattle.hp_model.specs.Lists.{distinct, is_among}
 use Rattle.hp_model.specs.Mapping.{Map, Mapping, copy_of}
-use Rattle.hp_model.specs.MountCounts.{copies_of, file_pages, file_pages_at, is_page_at, stamp_at, stamps_of}
+use Rattle.hp_model.specs.MountCounts.{file_pages, file_pages_at, is_page_at, stamp_at}
 use Rattle.hp_model.specs.Page.{Copy}
 use Rattle.hp_model.proofs.Counting.{count_cons}
 use Rattle.hp_model.proofs.Distinct.{is_among-append}
@@ -119,8 +117,10 @@ module _ (b : ℕ → Bool) where
       nothing : (c : Bool) → cond {A = ℕ} c 0 0 ≡ 0
       nothing true = refl
       nothing false = refl
+
       above : a ≤ x → x ≢ a → a + 1 ≤ x
       above low other = ⊎_elim (λ (l : x < a + 1). absurd (other (omega (arith, l, low)))) (λ (l : a + 1 ≤ x). l) (cases_lt x (a + 1))
+
       over_past : (x a n : ℕ) → x < a → over (λ k. cond (x == k) 1 0) (range_with_len a n) ≡ 0
       over_past x a zero l = refl
       over_past x a (suc n) l =
@@ -159,15 +159,19 @@ module _ (b : ℕ → Bool) where
       or_more : (p q : Bool) → q ≡ true → (p || q) ≡ true
       or_more true q e = refl
       or_more false q e = e
+
       here : (y == y) ≡ true
       here = grind (arith, nat_tests)
+
       passing : (c d : Bool) → b y ≡ c → is_among y (filter b ys) ≡ (d && c) → length (distinct (cond c (y ∷ filter b ys) (filter b ys))) ≡ length (distinct (filter b ys)) + cond c (cond d 0 1) 0
       passing true true e known = ap (λ q. length (cond q (distinct (filter b ys)) (y ∷ distinct (filter b ys)))) known ∙ (let same : length (distinct (filter b ys)) ≡ length (distinct (filter b ys)) + 0 = omega arith in same)
       passing true false e known = ap (λ q. length (cond q (distinct (filter b ys)) (y ∷ distinct (filter b ys)))) known ∙ (let same : suc (length (distinct (filter b ys))) ≡ length (distinct (filter b ys)) + 1 = omega arith in same)
       passing false d e known = (let same : length (distinct (filter b ys)) ≡ length (distinct (filter b ys)) + 0 = omega arith in same)
+
       again : (p q : Bool) → (p ≡ true → q ≡ true) → cond {A = ℕ} (p || q) 1 0 ≡ cond q 1 0
       again true q h = sym (ap (λ c. cond {A = ℕ} c 1 0) (h refl))
       again false q h = refl
+
       new : (p q : Bool) → (p ≡ true → q ≡ false) → cond {A = ℕ} (p || q) 1 0 ≡ cond p 1 0 + cond q 1 0
       new true true h = absurd (clash (h refl))
         where
@@ -176,6 +180,7 @@ module _ (b : ℕ → Bool) where
       new true false h = refl
       new false true h = refl
       new false false h = refl
+
       either : (d : Bool) → is_among y ys ≡ d → over (λ k. cond (is_among k ys) 1 0) (range_with_len 0 n) ≡ length (distinct (filter b ys)) → over (λ k. cond (is_among k (y ∷ ys)) 1 0) (range_with_len 0 n) ≡ length (distinct (filter b (y ∷ ys)))
       either true e rest =
           let same = over_same (λ k. cond (is_among k (y ∷ ys)) 1 0) (λ k. cond (is_among k ys) 1 0) (λ k. again (y == k) (is_among k ys) (λ t. (let is : y ≡ k = grind (arith, nat_tests, t) in ap (λ q. is_among q ys) (sym is) ∙ e))) (range_with_len 0 n) in
@@ -211,6 +216,7 @@ module _ (b : ℕ → Bool) where
     where
       same : (k : ℕ) → (k == k) ≡ true
       same k = grind (arith, nat_tests)
+
       one : (c : Cell ℕ) → ((k : ℕ) → 0 < in_cell k c → k < n) → over (λ k. in_cell k c) (range_with_len 0 n) ≡ cond (passing_cell c) 1 0
       one Hole below = over_none (λ k. 0) (λ k. refl) (range_with_len 0 n)
       one Entered below = over_none (λ k. 0) (λ k. refl) (range_with_len 0 n)
@@ -274,8 +280,10 @@ some_at k (f ∷ fs) l = (let step = sum_by-cons (in_file k) f fs in ⊎_elim (�
   where
     next : (j : ℕ) → j < length fs → j + 1 < length (f ∷ fs)
     next j l = omega (arith, l)
+
     at : (j : ℕ) → numbered_at (f ∷ fs) (j + 1) ≡ numbered_at fs j
     at j = (let same : j + 1 ≡ suc j = omega arith in ap (numbered_at (f ∷ fs)) same)
+
     here : (j : ℕ) → 0 < in_file k (numbered_at fs j) → 0 < in_file k (numbered_at (f ∷ fs) (j + 1))
     here j some = subst (λ g. 0 < in_file k g) (sym (at j)) some
 
@@ -294,8 +302,10 @@ module _ (s : Store) (more : ℕ) (fs : List NumberedFile) (h : IsHeld s more fs
     where
       clash : ◌≡◌ {A = Option Holding} (Some x) None → ⊥
       clash e = cc
+
       gone : in_files k fs < 1 → in_files k fs ≡ 0
       gone l = omega (arith, l)
+
       by : (j : ℕ) × (j < length fs) × (0 < in_file k (numbered_at fs j)) → sum_by (λ f. weight f k) fs ≡ 1
       by p =
           let j : ℕ = p.0 in
@@ -372,6 +382,7 @@ module _ (s : Store) (more : ℕ) (fs : List NumberedFile) (h : IsHeld s more fs
       cells (Hole ∷ cs) = omega (arith, cells cs, count_cons has_page Hole (map (cell_shown s) cs), count_cons (passing_cell (λ k. true)) Hole cs)
       cells (Entered ∷ cs) = omega (arith, cells cs, count_cons has_page Entered (map (cell_shown s) cs), count_cons (passing_cell (λ k. true)) Entered cs)
       cells (Present n ∷ cs) = omega (arith, cells cs, count_cons has_page (cell_shown s (Present n)) (map (cell_shown s) cs), count_cons (passing_cell (λ k. true)) (Present n) cs)
+
       each : (gs : List NumberedFile) → sum_by file_pages (files_shown s gs) ≡ sum_by (λ f. count_by (passing_cell (λ k. true)) f.cells + length (distinct (filter (λ k. true) (copies_in f)))) gs
       each [] = refl
       each (g ∷ gs) =
@@ -386,6 +397,7 @@ module _ (s : Store) (more : ℕ) (fs : List NumberedFile) (h : IsHeld s more fs
       cells (Hole ∷ cs) = omega (arith, cells cs, count_cons (is_page_at n) Hole (map (cell_shown s) cs), count_cons (passing_cell (on_node s n)) Hole cs)
       cells (Entered ∷ cs) = omega (arith, cells cs, count_cons (is_page_at n) Entered (map (cell_shown s) cs), count_cons (passing_cell (on_node s n)) Entered cs)
       cells (Present k ∷ cs) = omega (arith, cells cs, count_cons (is_page_at n) (cell_shown s (Present k)) (map (cell_shown s) cs), count_cons (passing_cell (on_node s n)) (Present k) cs)
+
       each : (gs : List NumberedFile) → sum_by (file_pages_at n) (files_shown s gs) ≡ sum_by (λ f. count_by (passing_cell (on_node s n)) f.cells + length (distinct (filter (on_node s n) (copies_in f)))) gs
       each [] = refl
       each (g ∷ gs) =

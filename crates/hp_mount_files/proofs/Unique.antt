@@ -5,10 +5,10 @@ use Rattle.std.specs.List.{count_by, flat_map, list_any, position_or_len, slice_
 use Rattle.std.specs.Option.{option_map}
 use Rattle.std.specs.Str.{bytes_eq}
 use Rattle.std.proofs.lemmas.Bool.{ltb-true, ltb-false}
-use Rattle.std.proofs.lemmas.List.{get_or-map, length-append, length-map, map-append}
-use Rattle.std.proofs.lemmas.List.Sums.{sum_by-append, sum_by-cons}
+use Rattle.std.proofs.lemmas.List.{length-append, length-map, map-append}
+use Rattle.std.proofs.lemmas.List.Sums.{sum_by-cons}
 use Rattle.hp_model.specs.File.{File, new_file}
-use Rattle.hp_model.specs.Lists.{distinct, found, one_on}
+use Rattle.hp_model.specs.Lists.{found, one_on}
 use Rattle.hp_model.specs.Mapping.{Map, Mapping, is_map}
 use Rattle.hp_model.specs.SlotEvent.{has_name}
 use Rattle.hp_model.proofs.Counting.{count_alike, count_cons, count_map}
@@ -16,7 +16,7 @@ use Rattle.hp_store.specs.Store.{Store}
 use Rattle.hp_mount_files.specs.Files.{file_at}
 use Rattle.hp_mount_files.specs.Keyed.{IsKeyed, Label, has_label, is_key, is_name_of, key_of, keys_in, label_of, labels_of, tasks_in}
 use Rattle.hp_mount_files.specs.Numbered.{NumberedFile, file_shown, files_shown, map_shown, mapping_at, no_mapping, numbered_at}
-use Rattle.hp_mount_files.specs.Places.{all_maps, all_tasks, has_it, IsFound, IsNamed}
+use Rattle.hp_mount_files.specs.Places.{all_maps, has_it, IsFound, IsNamed}
 use Rattle.hp_mount_files.proofs.Cells.{file_is, no_file}
 use Rattle.hp_mount_files.proofs.Finding.{any_shown, found_at, found_none, map_found, position_shown}
 use Rattle.hp_mount_files.proofs.Lifting.{at_most}
@@ -73,6 +73,7 @@ module _ {X : Type 0} (test : X → Bool) where
       rest_none : (o : Option (ℕ × X)) → option_map one_on o ≡ None → o ≡ None
       rest_none None e = refl
       rest_none (Some q) e = cc
+
       either : (b : Bool) → (found test xs ≡ None → count_by test xs ≡ 0) → count_by test (x ∷ xs) ≡ cond {A = ℕ} b 1 0 + count_by test xs → cond b (Some (0, x)) (option_map one_on (found test xs)) ≡ None → count_by test (x ∷ xs) ≡ 0
       either true none step e = cc
       either false none step e = (let rest = none (rest_none (found test xs) e) in omega (arith, step, rest))

@@ -25,7 +25,7 @@ loop-number-preserved g c =
     let number : ℕ = c.in-Some.number in
     let t : IsCopyTaken was.map c.take_copy.new.self number = copy_taken c.start-start.result c.end-end.result number was.map c.take_copy.new.self c.in-Some.ensures.some in (
       drop_next (λ n. in_map n c.args.map) (λ n. in_map n was.map) (λ n. in_map n c.take_copy.new.self) c.args.store.now was.store was.invariant.0 number (c.requires.held number) t.parts
-      c.drop_one.new.self c.drop_one.ensures,
+          c.drop_one.new.self c.drop_one.ensures,
       t.start ∙ was.invariant.1,
       ap (λ n. n + length c.take_copy.new.self.places) t.start ∙ ap (λ n. was.map.start + n) t.long ∙ was.invariant.2,
     )

@@ -1,4 +1,4 @@
-use Rattle.std.proofs.Common.{ℕ, ap, sym, ◌∙◌}
+use Rattle.std.proofs.Common.{ℕ, sym, ◌∙◌}
 use Rattle.std.specs.List.{sum_by}
 use Rattle.hp_store.specs.Store.{page_at}
 use Rattle.hp_mount_files.specs.Held.{in_cell}
@@ -26,7 +26,7 @@ loop-number-preserved g c =
     let number : ℕ = c.in-Some.number in
     let t : IsTaken was.inode c.take_page.new.self number = taken was.inode c.take_page.new.self c.len-len.result (sym was.invariant.1) c.take_page.result number c.in-Some.is c.take_page.ensures.page c.take_page.ensures.cells in (
       drop_next (λ n. sum_by (in_cell n) c.args.inode) (λ n. sum_by (in_cell n) was.inode) (λ n. sum_by (in_cell n) c.take_page.new.self) c.args.store.now was.store was.invariant.0 number (c.requires.held number) t.parts
-      c.drop_one.new.self c.drop_one.ensures,
+          c.drop_one.new.self c.drop_one.ensures,
       t.long ∙ was.invariant.1,
     )
 

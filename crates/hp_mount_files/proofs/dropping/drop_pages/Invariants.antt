@@ -1,4 +1,4 @@
-use Rattle.std.specs.Prelude.{◌≡◌, ℕ, length}
+use Rattle.std.specs.Prelude.{◌≡◌, length}
 use Rattle.std.specs.List.{count_by, sum_by}
 use Rattle.hp_model.specs.File.{has_page}
 use Rattle.hp_mount_files.specs.Dropping.{IsDropping}

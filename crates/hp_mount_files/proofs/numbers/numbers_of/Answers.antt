@@ -1,5 +1,5 @@
 use Rattle.std.proofs.Common.{arith}
-use Rattle.hp_mount_files.proofs.MapNumbers.{few_in_all, few_so_far, numbers_more}
+use Rattle.hp_mount_files.proofs.MapNumbers.{few_in_all, few_so_far}
 use Rattle.hp_mount_files.proofs.numbers.numbers_of.Goals as goal
 
 pub add_numbers-requires : goal.add_numbers-requires

@@ -1,7 +1,7 @@
-use Rattle.std.specs.Prelude.{ℕ, ◌+◌, vec_len}
+use Rattle.std.specs.Prelude.{vec_len}
 use Rattle.std.specs.List.{sum_by}
 use Rattle.hp_mount_files.specs.Dropping.{IsDropping}
-use Rattle.hp_mount_files.specs.Held.{in_cell, in_file, in_map}
+use Rattle.hp_mount_files.specs.Held.{in_file, in_map}
 use Rattle.hp_mount_files.proofs.file.File.close.Given as goal
 
 abbrev pub invariant-loop-map : goal.invariant-loop-map

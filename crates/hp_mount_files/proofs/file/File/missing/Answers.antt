@@ -1,4 +1,4 @@
-use Rattle.std.proofs.Common.{◌≡◌, ◌+◌, ◌-◌, min, refl, ap, drop, take, ◌∙◌}
+use Rattle.std.proofs.Common.{◌+◌, ◌-◌, min, ap, drop, take, ◌∙◌}
 use Rattle.std.specs.List.{count_by}
 use Rattle.hp_model.specs.File.{at_least, is_hole}
 use Rattle.hp_mount_files.specs.Numbered.{NumberedFile}

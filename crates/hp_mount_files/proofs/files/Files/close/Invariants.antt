@@ -1,4 +1,4 @@
-use Rattle.std.specs.Prelude.{ℕ, vec_len}
+use Rattle.std.specs.Prelude.{vec_len}
 use Rattle.hp_mount_files.specs.Dropping.{IsDropping}
 use Rattle.hp_mount_files.specs.Held.{in_files}
 use Rattle.hp_mount_files.proofs.files.Files.close.Given as goal

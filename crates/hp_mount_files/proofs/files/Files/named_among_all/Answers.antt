@@ -1,4 +1,4 @@
-use Rattle.std.proofs.Common.{rules, tests, ◌≡◌, ◌∙◌, ap, length, sym, subst}
+use Rattle.std.proofs.Common.{rules, tests, ◌≡◌, ◌∙◌, subst}
 use Rattle.std.specs.Prelude.{IfNone, IfSome, None}
 use Rattle.std.proofs.lemmas.Iterator.{YieldsList-from_slice}
 use Rattle.std.proofs.lemmas.Iterator.Search.{position_from_yields_List}

@@ -1,4 +1,4 @@
-use Rattle.std.proofs.Common.{◌≡◌, ℕ, ◌<◌, List, ap, length, subst, sym, ◌∙◌, arith}
+use Rattle.std.proofs.Common.{ℕ, List, ap, length, subst, ◌∙◌, arith}
 use Rattle.std.specs.List.{flat_map}
 use Rattle.hp_model.specs.MakeMap.{numbers_of}
 use Rattle.hp_mount_files.specs.Files.{Files}

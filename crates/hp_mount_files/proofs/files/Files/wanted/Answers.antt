@@ -1,4 +1,4 @@
-use Rattle.std.proofs.Common.{◌≡◌, refl, ◌<◌, ◌+◌, ◌-◌, length, ap, drop, subst, sym, take, ◌∙◌, arith}
+use Rattle.std.proofs.Common.{refl, ◌<◌, ◌+◌, ◌-◌, length, ap, drop, subst, sym, take, ◌∙◌, arith}
 use Rattle.std.specs.List.{count_by}
 use Rattle.hp_model.specs.declared.step.Reserving.TheVariants.{Reserve}
 use Rattle.hp_model.specs.declared.step.Sharing.TheVariants.{Shared}

@@ -1,0 +1,159 @@
+-- What a mount keeps, through each change of its files.
+use Rattle.std.proofs.Common.{◌≡◌, ℕ, zero, suc, ◌+◌, ◌-◌, ◌<◌, ◌≤◌, max, Option, List, [], ◌∷◌, length, Some, None, refl, sym, ap, subst, ◌∙◌, arith}
+use Rattle.std.specs.Prelude.{slice_set, slice_index_or}
+use Rattle.std.proofs.lemmas.List.{get_or_default, get_or-set_same, length-set}
+use Rattle.hp_mount_door.specs.Door.{with_page, with_granted}
+use Rattle.hp_model.specs.declared.cell.Cell.{Cell}
+use Rattle.hp_model.specs.declared.cell.Cell.TheVariants.{Hole, Entered, Present}
+use Rattle.hp_model.specs.File.{File, Mount, cell_at, with_cell, with_file, new_file}
+use Rattle.hp_model.specs.Grant as grant
+use Rattle.hp_model.specs.MountCounts.{pages_of, usage_of}
+use Rattle.hp_model.specs.Page.{Page}
+use Rattle.hp_model.specs.Promises.{file_in}
+use Rattle.hp_laws.proofs.FileMoves as moves
+use Rattle.hp_laws.proofs.FileMoves.{FileGrows}
+use Rattle.hp_laws.proofs.MountMoves.{MountGrows, IsFileAt, file_grows}
+use Rattle.hp_mount_files.specs.Files.{Files, file_at, filled_at, with_cell_at}
+use Rattle.hp_mount_next.specs.Found.{IsTouched}
+use Rattle.hp_mount_next.specs.Kept.{IsKept, mount_of}
+use Rattle.hp_subpool.specs.Subpool as share
+use Rattle.hp_subpool.specs.Subpool.{Subpool, used}
+
+-- ---- what is asked of the share is what is asked of the mount
+
+module _ (s : Subpool) (v : Files) (m : Mount) (c : IsKept s v m) (max_is : m.limits.max ≡ s.max) (min_is : m.limits.min ≡ s.min) where
+  pub full_is : (k : ℕ) → share.is_full s k ≡ grant.is_full m k
+  full_is k = (let u = c.used in rw (u, max_is) refl)
+
+  pub rise_is : (k : ℕ) → share.rise s k ≡ grant.rise m k
+  rise_is k = (let u = c.used in omega (arith, u, min_is))
+
+-- ---- the mount that a share and files leave
+
+pub mount_left : (s new : Subpool) (inodes : Option ℕ) (fs gs : List File) → new.max ≡ s.max → new.min ≡ s.min → gs ≡ fs → mount_of new inodes gs ≡ mount_of s inodes fs
+mount_left s new inodes fs gs max_is min_is files = ap (λ x. record { limits = record { max = x; min = new.min; inodes = inodes }; files = gs }) max_is
+    ∙ ap (λ x. record { limits = record { max = s.max; min = x; inodes = inodes }; files = gs }) min_is ∙ ap (λ xs. record { limits = record { max = s.max; min = s.min; inodes = inodes }; files = xs }) files
+
+-- ---- a file for another, with so many pages and so much usage more
+
+module _ (s : Subpool) (v : Files) (inodes : Option ℕ) (c : IsKept s v (mount_of s inodes v.files)) (k : ℕ) (l : k < length v.files) where
+  abbrev m : Mount
+  m = mount_of s inodes v.files
+
+  here : IsFileAt m k (file_at v.files k)
+  here = record { within = l; is = λ d. get_or_default v.files k d (new_file None) l }
+
+  pub grows : (g : File) (node p u : ℕ) → FileGrows (file_at v.files k) g node p u → MountGrows m (with_file m k g) node p u
+  grows g node p u h = file_grows m k (file_at v.files k) g node p u here c.sound h
+
+  pub grown : (new : Subpool) (w : Files) (g : File) (node p u : ℕ) → FileGrows (file_at v.files k) g node p u → new.max ≡ s.max → new.min ≡ s.min → new.pages ≡ s.pages + p → used new ≡ used s + u
+      → new.held ≤ w.room → w.going ≡ v.going → w.files ≡ slice_set v.files k g → IsKept new w (mount_of new inodes w.files)
+  grown new w g node p u h max_is min_is pages_is used_is room going files =
+      let all = grows g node p u h in
+      let had = c.pages in
+      let was = c.used in
+      let more = all.pages in
+      let raised = all.usage in
+      let same_mount : mount_of new inodes w.files ≡ with_file m k g = mount_left s new inodes (slice_set v.files k g) w.files max_is min_is files in
+      subst (λ n. IsKept new w n) (sym same_mount) (record {
+        pages = pages_is ∙ omega (arith, had, more);
+        used = used_is ∙ omega (arith, was, raised);
+        room = room;
+        going = going ∙ c.going;
+        sound = all.sound;
+      })
+
+  -- an entry without a page is a reservation that is held
+  pub some_held : (i : ℕ) → i < length (file_at v.files k).cells → cell_at (file_at v.files k) i ≡ Entered → 0 < s.held
+  some_held i below entered =
+      let page : Page = record { node = 0; bytes = [] } in
+      let all = grows (with_cell (file_at v.files k) i (Present page)) 0 1 0 (moves.fill_entry (file_at v.files k) i page below entered) in
+      let had = c.pages in
+      let was = c.used in
+      let more = all.pages in
+      let same = all.usage in
+      omega (arith, had, was, more, same)
+
+  -- ---- an entered index gets its page
+
+  pub entry_kept : (i : ℕ) (page : Page) (new : Subpool) (w : Files) → i < length (file_at v.files k).cells → cell_at (file_at v.files k) i ≡ Entered → new ≡ with_page s → w ≡ filled_at k i page v
+      → IsKept new w (mount_of new inodes w.files)
+  entry_kept i page new w below entered new_is w_is =
+      let held = some_held i below entered in
+      let room = c.room in
+      let held_is = ap (λ (x : Subpool). x.held) new_is in
+      let pages_is = ap (λ (x : Subpool). x.pages) new_is in
+      let room_is = ap (λ (x : Files). x.room) w_is in
+      grown new w (with_cell (file_at v.files k) i (Present page)) page.node 1 0 (moves.fill_entry (file_at v.files k) i page below entered) (ap (λ (x : Subpool). x.max) new_is) (ap (λ (x : Subpool). x.min) new_is)
+      pages_is (omega (arith, held_is, pages_is, held)) (omega (arith, held_is, room_is, room, held)) (ap (λ (x : Files). x.going) w_is) (ap (λ (x : Files). x.files) w_is)
+
+  pub entry_left : (i : ℕ) (page : Page) (new : Subpool) (w : Files) → new ≡ with_page s → w ≡ filled_at k i page v → mount_of new inodes w.files ≡ with_file m k (with_cell (file_in m k) i (Present page))
+  entry_left i page new w new_is w_is = mount_left s new inodes (slice_set v.files k (with_cell (file_at v.files k) i (Present page))) w.files (ap (λ (x : Subpool). x.max) new_is) (ap (λ (x : Subpool). x.min) new_is) (ap (λ (x : Files). x.files) w_is)
+
+  -- ---- an index without an entry gets a page, by a grant: it is entered first
+
+  set_twice : {Y : Type 0} (xs : List Y) (j : ℕ) (x y : Y) → slice_set (slice_set xs j x) j y ≡ slice_set xs j y
+  set_twice [] j x y = refl
+  set_twice (z ∷ xs) zero x y = refl
+  set_twice (z ∷ xs) (suc j) x y = ap (λ ys. z ∷ ys) (set_twice xs j x y)
+
+  abbrev roomier : ℕ → Files
+  roomier spare = record v { room = max v.room spare }
+
+  entered_file : (i spare : ℕ) (cell : Cell Page) → with_cell (file_at (with_cell_at k i Entered (roomier spare)).files k) i cell ≡ with_cell (file_at v.files k) i cell
+  entered_file i spare cell =
+      ap (λ f. with_cell f i cell) (get_or-set_same v.files k (with_cell (file_at v.files k) i Entered) (new_file None) l)
+      ∙ ap (λ cs. record (file_at v.files k) { cells = cs }) (set_twice (file_at v.files k).cells i Entered cell)
+
+  pub again_files : (i spare : ℕ) (cell : Cell Page) → (with_cell_at k i cell (with_cell_at k i Entered (roomier spare))).files ≡ slice_set v.files k (with_cell (file_at v.files k) i cell)
+  again_files i spare cell =
+      ap (λ f. slice_set (slice_set v.files k (with_cell (file_at v.files k) i Entered)) k f) (entered_file i spare cell)
+      ∙ set_twice v.files k (with_cell (file_at v.files k) i Entered) (with_cell (file_at v.files k) i cell)
+
+  pub hole_kept : (i spare : ℕ) (page : Page) (new : Subpool) (w : Files) → i < length (file_at v.files k).cells → cell_at (file_at v.files k) i ≡ Hole → s.held < spare → new ≡ with_granted s
+      → w ≡ filled_at k i page (with_cell_at k i Entered (roomier spare)) → IsKept new w (mount_of new inodes w.files)
+  hole_kept i spare page new w below hole enough new_is w_is =
+      let held_is = ap (λ (x : Subpool). x.held) new_is in
+      let pages_is = ap (λ (x : Subpool). x.pages) new_is in
+      let room_is = ap (λ (x : Files). x.room) w_is in
+      grown new w (with_cell (file_at v.files k) i (Present page)) page.node 1 1 (moves.fill_hole (file_at v.files k) i page below hole) (ap (λ (x : Subpool). x.max) new_is) (ap (λ (x : Subpool). x.min) new_is)
+      pages_is (omega (arith, held_is, pages_is)) (omega (arith, held_is, room_is, enough)) (ap (λ (x : Files). x.going) w_is) (ap (λ (x : Files). x.files) w_is ∙ again_files i spare (Present page))
+
+  pub granted_left : (i spare : ℕ) (page : Page) (new : Subpool) (w : Files) → new ≡ with_granted s → w ≡ filled_at k i page (with_cell_at k i Entered (roomier spare)) → mount_of new inodes w.files ≡ with_file m k (with_cell (file_in m k) i (Present page))
+  granted_left i spare page new w new_is w_is = mount_left s new inodes (slice_set v.files k (with_cell (file_at v.files k) i (Present page))) w.files (ap (λ (x : Subpool). x.max) new_is) (ap (λ (x : Subpool). x.min) new_is) (ap (λ (x : Files). x.files) w_is ∙ again_files i spare (Present page))
+
+  -- refused: the index is a hole again
+  pub hole_again : (i spare : ℕ) → cell_at (file_at v.files k) i ≡ Hole → (with_cell_at k i Hole (with_cell_at k i Entered (roomier spare))).files ≡ v.files
+  hole_again i spare hole =
+      again_files i spare Hole ∙ ap (λ c. slice_set v.files k (record (file_at v.files k) { cells = slice_set (file_at v.files k).cells i c })) (sym hole)
+      ∙ ap (λ cs. slice_set v.files k (record (file_at v.files k) { cells = cs })) (set_read (file_at v.files k).cells i Hole) ∙ set_read v.files k (new_file None)
+    where
+      set_read : {Y : Type 0} (xs : List Y) (j : ℕ) (d : Y) → slice_set xs j (slice_index_or xs j d) ≡ xs
+      set_read [] j d = refl
+      set_read (z ∷ xs) zero d = refl
+      set_read (z ∷ xs) (suc j) d = ap (λ ys. z ∷ ys) (set_read xs j d)
+
+  pub hole_stays : (i spare : ℕ) (new : Subpool) (w : Files) → cell_at (file_at v.files k) i ≡ Hole → new ≡ s → w ≡ with_cell_at k i Hole (with_cell_at k i Entered (roomier spare)) → mount_of new inodes w.files ≡ m
+  hole_stays i spare new w hole new_is w_is = mount_left s new inodes v.files w.files (ap (λ (x : Subpool). x.max) new_is) (ap (λ (x : Subpool). x.min) new_is) (ap (λ (x : Files). x.files) w_is ∙ hole_again i spare hole)
+
+  pub hole_keeps : (i spare : ℕ) (new : Subpool) (w : Files) → cell_at (file_at v.files k) i ≡ Hole → new ≡ s → w ≡ with_cell_at k i Hole (with_cell_at k i Entered (roomier spare)) → IsKept new w (mount_of new inodes w.files)
+  hole_keeps i spare new w hole new_is w_is =
+      let room_is = ap (λ (x : Files). x.room) w_is in
+      let room = c.room in
+      let held_is = ap (λ (x : Subpool). x.held) new_is in
+      subst (λ n. IsKept new w n) (sym (hole_stays i spare new w hole new_is w_is)) (record {
+        pages = ap (λ (x : Subpool). x.pages) new_is ∙ c.pages;
+        used = ap used new_is ∙ c.used;
+        room = omega (arith, room_is, room, held_is);
+        going = ap (λ (x : Files). x.going) w_is ∙ c.going;
+        sound = c.sound;
+      })
+
+-- ---- more room alone
+
+module _ (s : Subpool) (v w : Files) (inodes : Option ℕ) (c : IsKept s v (mount_of s inodes v.files)) (w_is : w ≡ record v { room = w.room }) where
+  pub room_left : mount_of s inodes w.files ≡ mount_of s inodes v.files
+  room_left = ap (λ (x : Files). mount_of s inodes x.files) w_is
+
+  pub room_kept : v.room ≤ w.room → IsKept s w (mount_of s inodes w.files)
+  room_kept more = (let room = c.room in subst (λ n. IsKept s w n) (sym room_left) (record { pages = c.pages; used = c.used; room = omega (arith, room, more); going = ap (λ (x : Files). x.going) w_is ∙ c.going; sound = c.sound }))

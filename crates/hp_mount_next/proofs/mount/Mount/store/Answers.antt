@@ -1,0 +1,100 @@
+use Rattle.std.proofs.Common.{◌≡◌, ◌<◌, Bool, List, length, Some, None, Ok, Err, refl, sym, ap, subst, ◌∙◌, arith}
+use Rattle.hp_model.specs.declared.answer.Answer.TheVariants.{Done}
+use Rattle.hp_model.specs.declared.limits.Limits.{Limits}
+use Rattle.hp_model.specs.declared.refusal.Refusal.{Refusal}
+use Rattle.hp_model.specs.declared.step.Intent.TheVariants.{Write}
+use Rattle.hp_model.specs.Access.{access}
+use Rattle.hp_model.specs.File.{Mount}
+use Rattle.hp_model.specs.Mapping.{is_map}
+use Rattle.hp_model.specs.Plan.{Choice, Plan, Outcome, Answered}
+use Rattle.hp_model.specs.Promises.{file_in}
+use Rattle.hp_model.specs.Spot.{Spot, spot, written}
+use Rattle.hp_mount_next.specs.Done.{Tried, done}
+use Rattle.hp_mount_next.specs.Found.{spot_at, first_of, byte_tests}
+use Rattle.hp_mount_next.proofs.Commands.{missing, tested, denied, went, byte_tests_are, written_is}
+use Rattle.hp_mount_next.proofs.mount.Mount.store.Goals as goal
+
+pub returns-in_default : goal.returns-in_default
+returns-in_default g c =
+    let o = c.self.inside in
+    let m = c.args.self.now in
+    let size = g.N.Naming.page_bytes in
+    let a = c.args.access.now in
+    let limits : Limits = record { max = o.share.max; min = o.share.min; inodes = o.inodes } in
+    let tests = λ (s : Spot). byte_tests size s a.index a.offset (length c.args.bytes.now) in
+    let act = λ (x : Choice) (s : Spot). access x size m s c.args.home a.index Write in
+    let cont : Spot → Mount → Outcome = λ s n. Answered Done (Some (written n s a.index a.offset c.args.bytes.now)) in
+    record { done = λ k. missing g.D.PoolDoor.took g.D.PoolDoor.is_full m (is_map a.task a.map) tests act cont c.args.door.now (subst (λ (x : Mount). spot x (is_map a.task a.map) ≡ None) c.self.view_is (c.in_default.ensures.none limits)) }
+
+pub returns-in-Some-refused : goal.returns-in-Some-refused
+returns-in-Some-refused g c =
+    let o = c.self.inside in
+    let m = c.args.self.now in
+    let size = g.N.Naming.page_bytes in
+    let a = c.args.access.now in
+    let limits : Limits = record { max = o.share.max; min = o.share.min; inodes = o.inodes } in
+    let tests = λ (s : Spot). byte_tests size s a.index a.offset (length c.args.bytes.now) in
+    let act = λ (x : Choice) (s : Spot). access x size m s c.args.home a.index Write in
+    let cont : Spot → Mount → Outcome = λ s n. Answered Done (Some (written n s a.index a.offset c.args.bytes.now)) in
+    let at = c.in-Some.at in
+    let s = spot_at m at.file at.map in
+    let found = subst (λ (x : Mount). spot x (is_map a.task a.map) ≡ Some (spot_at x at.file at.map)) c.self.view_is (c.in-Some.ensures.some.is limits) in
+    record {
+      done = λ k. tested g.D.PoolDoor.took g.D.PoolDoor.is_full m (is_map a.task a.map) tests act cont c.args.door.now s found (byte_tests_are size s a.index a.offset (length c.args.bytes.now)) c.in-Some-refused.refusal
+          (subst (λ n. first_of (byte_tests n s a.index a.offset (length c.args.bytes.now)) ≡ Some c.in-Some-refused.refusal) c.requires.page_bytes (sym c.refused.ensures.refused ∙ c.in-Some-refused.is));
+    }
+
+pub reach-requires-clause-shared : goal.reach-requires-clause-shared
+reach-requires-clause-shared g c =
+    let o = c.self.inside in
+    let m = c.args.self.now in
+    let a = c.args.access.now in
+    let limits : Limits = record { max = o.share.max; min = o.share.min; inodes = o.inodes } in
+    let at = c.in-Some.at in
+    let s = spot_at m at.file at.map in
+    let found = subst (λ (x : Mount). spot x (is_map a.task a.map) ≡ Some (spot_at x at.file at.map)) c.self.view_is (c.in-Some.ensures.some.is limits) in
+    c.requires.shared s found
+
+pub returns-in-Err : goal.returns-in-Err
+returns-in-Err g c =
+    let o = c.self.inside in
+    let m = c.args.self.now in
+    let size = g.N.Naming.page_bytes in
+    let a = c.args.access.now in
+    let limits : Limits = record { max = o.share.max; min = o.share.min; inodes = o.inodes } in
+    let tests = λ (s : Spot). byte_tests size s a.index a.offset (length c.args.bytes.now) in
+    let act = λ (x : Choice) (s : Spot). access x size m s c.args.home a.index Write in
+    let cont : Spot → Mount → Outcome = λ s n. Answered Done (Some (written n s a.index a.offset c.args.bytes.now)) in
+    let at = c.in-Some.at in
+    let s = spot_at m at.file at.map in
+    let found = subst (λ (x : Mount). spot x (is_map a.task a.map) ≡ Some (spot_at x at.file at.map)) c.self.view_is (c.in-Some.ensures.some.is limits) in
+    let pass = subst (λ n. first_of (byte_tests n s a.index a.offset (length c.args.bytes.now)) ≡ None) c.requires.page_bytes (sym c.refused.ensures.refused ∙ c.in_default-refused.is) in
+    record {
+      done = λ k. denied g.D.PoolDoor.took g.D.PoolDoor.is_full m (is_map a.task a.map) tests act cont c.args.door.now s found pass c.in-Err.refusal (Some c.reach.new.self) c.reach.new.door
+          (subst (λ r. Tried g.D.PoolDoor.took g.D.PoolDoor.is_full (λ x. act x s) (Some m) c.args.door.now (done r) (Some c.reach.new.self) c.reach.new.door) c.in-Err.is c.reach.ensures.done);
+    }
+
+pub returns : goal.returns
+returns g c =
+    let o = c.self.inside in
+    let m = c.args.self.now in
+    let size = g.N.Naming.page_bytes in
+    let a = c.args.access.now in
+    let limits : Limits = record { max = o.share.max; min = o.share.min; inodes = o.inodes } in
+    let tests = λ (s : Spot). byte_tests size s a.index a.offset (length c.args.bytes.now) in
+    let act = λ (x : Choice) (s : Spot). access x size m s c.args.home a.index Write in
+    let cont : Spot → Mount → Outcome = λ s n. Answered Done (Some (written n s a.index a.offset c.args.bytes.now)) in
+    let at = c.in-Some.at in
+    let s = spot_at m at.file at.map in
+    let found = subst (λ (x : Mount). spot x (is_map a.task a.map) ≡ Some (spot_at x at.file at.map)) c.self.view_is (c.in-Some.ensures.some.is limits) in
+    let pass = subst (λ n. first_of (byte_tests n s a.index a.offset (length c.args.bytes.now)) ≡ None) c.requires.page_bytes (sym c.refused.ensures.refused ∙ c.in_default-refused.is) in
+    let n = c.reach.new.self in
+    let file_within = subst (λ (x : Mount). at.file < length x.files) c.self.view_is c.in-Some.ensures.some.file_within in
+    let files = c.reach.ensures.same.files in
+    let cells = c.reach.ensures.same.cells in
+    let below = c.in_default-refused.ensures.below in
+    record {
+      done = λ k. went g.D.PoolDoor.took g.D.PoolDoor.is_full m (is_map a.task a.map) tests act cont c.args.door.now s found pass n c.reach.new.door Done (Some c.write.new.self)
+          (subst (λ r. Tried g.D.PoolDoor.took g.D.PoolDoor.is_full (λ x. act x s) (Some m) c.args.door.now (done r) (Some n) c.reach.new.door) c.in_default-reach.is c.reach.ensures.done)
+          (refl, ap Some (c.write.ensures ∙ sym (written_is n s a.index a.offset c.args.bytes.now (c.requires.shared s found) (omega (arith, file_within, files)) (omega (arith, below, cells)))));
+    }

@@ -1,0 +1,8 @@
+use Rattle.std.proofs.Common.{◌≡◌, ◌+◌, ◌-◌, ◌≤◌, ℕ, zero, suc, List, ◌++◌, take, drop, replicate, refl, sym, ap, ◌∙◌, arith}
+use Rattle.hp_model.specs.declared.answer.Answer.TheVariants.{Bytes}
+use Rattle.std.proofs.lemmas.List.{drop-replicate}
+use Rattle.hp_mount_next.proofs.Zeros.{zeros_split}
+use Rattle.hp_mount_next.proofs.mount.reach.no_bytes.Goals as goal
+
+pub returns : goal.returns
+returns c size offset fits few = ap (Bytes c.args.count) (zeros_split c.args.count offset size fits few)
