@@ -1,13 +1,13 @@
 -- An event on one map: its tests, its access, and what follows, whichever these are.
 use Rattle.std.proofs.Common.{◌≡◌, ℕ, zero, suc, ◌+◌, ◌<◌, Bool, true, false, cond, List, [], ◌∷◌, Option, Some, None, Ok, Err, length, refl, sym, ap, subst, ◌∙◌, arith}
-use Rattle.std.specs.Prelude.{slice_index_or, slice_set, nat_lt, ◌||◌, ◌==◌}
+use Rattle.std.specs.Prelude.{Result, slice_index_or, slice_set, nat_lt, ◌||◌, ◌==◌}
 use Rattle.std.proofs.lemmas.List.{get_or_default}
 use Rattle.hp_model.specs.declared.answer.Answer.{Answer}
 use Rattle.hp_model.specs.declared.answer.Answer.TheVariants.{Done}
 use Rattle.hp_model.specs.declared.refusal.Refusal.{Refusal}
 use Rattle.hp_model.specs.declared.refusal.Refusal.TheVariants as r
 use Rattle.hp_model.specs.Access.{access, shared_access, private_access}
-use Rattle.hp_model.specs.File.{Mount, File, cell_at, new_file, with_cell, with_file}
+use Rattle.hp_model.specs.File.{Mount, File, cell_at, is_entered, new_file, with_cell, with_file}
 use Rattle.hp_model.specs.declared.cell.Cell.TheVariants.{Hole}
 use Rattle.hp_model.specs.Lists.{edit_at}
 use Rattle.hp_laws.proofs.FileMoves.{FileGrows}
@@ -173,3 +173,17 @@ written_is n s i offset bytes shared l below =
 
 pub write_grows : (k i offset : ℕ) (bytes : List ℕ) (f : File) → i < length f.cells → FileGrows f (with_cell f i (cell_written offset bytes (cell_at f i))) 0 0 0
 write_grows k i offset bytes f l = subst (λ cs. FileGrows f (record f { cells = cs }) 0 0 0) (edit_is_set (cell_written offset bytes) f.cells i Hole l) (writes true k i offset bytes f)
+
+-- an entered index of the map that was found
+pub entered_there : (o : Option Spot) (at s : Spot) (i : ℕ) → o ≡ Some at → o ≡ Some s → is_entered (cell_at s.file i) ≡ true → is_entered (cell_at at.file i) ≡ true
+entered_there o at s i found seen entered = (let same : at ≡ s = some_same (sym found ∙ seen) in subst (λ (x : Spot). is_entered (cell_at x.file i) ≡ true) (sym same) entered)
+  where
+    some_same : {x y : Spot} → Some x ≡ Some y → x ≡ y
+    some_same e = cc
+
+-- a refusal that is not for want of memory, whatever would have been answered
+pub not_memory : {A B : Type 0} (e : Refusal) → (◌≡◌ {A = Result A Refusal} (Err e) (Err r.OutOfMemory) → ⊥) → ◌≡◌ {A = Result B Refusal} (Err e) (Err r.OutOfMemory) → ⊥
+not_memory e h same = h (ap Err (err_is same))
+  where
+    err_is : {B : Type 0} → ◌≡◌ {A = Result B Refusal} (Err e) (Err r.OutOfMemory) → e ≡ r.OutOfMemory
+    err_is same = cc

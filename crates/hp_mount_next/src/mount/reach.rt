@@ -1,12 +1,13 @@
 //! Accesses through maps: each sees to it that there is a page.
-ghost use Rattle.std.specs.Prelude.{◌≡◌, ◌≢◌, ℕ, ◌+◌, ◌<◌, ◌≤◌, ◌^◌, length, Err, IfErr, IfOk, OnOk, OnErr, Some, None, true, false, IfNone};
+ghost use Rattle.std.specs.Prelude.{◌≡◌, ◌≢◌, ℕ, ◌+◌, ◌<◌, ◌≤◌, ◌^◌, length, Err, IfErr, IfOk, OnOk, OnErr, Some, None, true, false, IfNone, IfSome};
 ghost use Rattle.hp_model.specs.declared.cell.Cell.TheVariants.{Entered, Hole};
 ghost use Rattle.hp_model.specs.Access.{shared_access, access};
 ghost use Rattle.hp_model.specs.declared.event.SlotEvent.TheVariants.{Load, Store, Fault};
 ghost use Rattle.hp_model.specs.Mapping.{is_map, is_shared};
 ghost use Rattle.hp_model.specs.SlotEvent.{bytes_answer};
 ghost use Rattle.hp_model.specs.Value.{value};
-ghost use Rattle.hp_model.specs.File.{cell_at, with_cell, with_file};
+ghost use Rattle.hp_model.specs.declared.refusal.Refusal.TheVariants as Refusal;
+ghost use Rattle.hp_model.specs.File.{cell_at, is_entered, with_cell, with_file};
 ghost use Rattle.hp_model.specs.MountCounts.{usage_of};
 ghost use Rattle.hp_model.specs.Page.{Page as PageValue, zeros};
 ghost use Rattle.hp_model.specs.Promises.{file_in, map_in};
@@ -50,6 +51,8 @@ impl<N: Naming> Mount<N> {
         requires below { index < length (file_in self.old file).cells }
         requires entered { cell_at (file_in self.old file) index ≡ Entered }
         ensures done { (s : Spot) → s.file_no ≡ file → s.file ≡ file_in self.old file → Tried D.took D.is_full (λ c. shared_access c N.page_bytes self.old s home index (cell_at s.file index)) (Some self.old) door.old (done result) (Some self.new) door.new }
+        ensures left { D.is_left door.new }
+        ensures memory { result ≢ Err Refusal.OutOfMemory }
         ensures same { IsTouched self.old self.new file }
     {
         let mut page = door.take_page(&mut self.share, home)?;
@@ -73,12 +76,13 @@ impl<N: Naming> Mount<N> {
         requires below { index < length (file_in self.old file).cells }
         requires hole { cell_at (file_in self.old file) index ≡ Hole }
         ensures done { (s : Spot) → s.file_no ≡ file → s.file ≡ file_in self.old file → Tried D.took D.is_full (λ c. shared_access c N.page_bytes self.old s home index (cell_at s.file index)) (Some self.old) door.old (done result) (Some self.new) door.new }
+        ensures left { D.is_left door.new }
         ensures same { IsTouched self.old self.new file }
     {
         if self.share.is_full(1) {
             return Err(Refusal::MountFull);
         }
-        let spare = self.share.held() as usize + 1;
+        let spare = (self.share.held() as usize).saturating_add(1);
         let Ok(()) = self.files.prepare(file, index, spare) else {
             return Err(Refusal::OutOfMemory);
         };
@@ -110,6 +114,8 @@ impl<N: Naming> Mount<N> {
         requires file { file < length self.old.files }
         requires below { index < length (file_in self.old file).cells }
         ensures done { (s : Spot) → s.file_no ≡ file → s.file ≡ file_in self.old file → Tried D.took D.is_full (λ c. shared_access c N.page_bytes self.old s home index (cell_at s.file index)) (Some self.old) door.old (done result) (Some self.new) door.new }
+        ensures left { D.is_left door.new }
+        ensures memory { is_entered (cell_at (file_in self.old file) index) ≡ true → result ≢ Err Refusal.OutOfMemory }
         ensures same { IsTouched self.old self.new file }
     {
         let _files = &self.files;
@@ -136,6 +142,8 @@ impl<N: Naming> Mount<N> {
         requires below { index < length (file_in self.old at.file).cells }
         requires shared { is_shared (spot_at self.old at.file at.map).map.sharing ≡ true }
         ensures done { Tried D.took D.is_full (λ c. access c N.page_bytes self.old (spot_at self.old at.file at.map) home index intent) (Some self.old) door.old (done result) (Some self.new) door.new }
+        ensures left { D.is_left door.new }
+        ensures memory { is_entered (cell_at (file_in self.old at.file) index) ≡ true → result ≢ Err Refusal.OutOfMemory }
         ensures same { IsTouched self.old self.new at.file }
     {
         let _intent = intent;
@@ -154,6 +162,7 @@ impl<N: Naming> Mount<N> {
         requires file { at.file < length self.now.files }
         requires map { at.map < length (file_in self.now at.file).maps }
         ensures refused { result ≡ first_of (byte_tests page_bytes (spot_at self.now at.file at.map) index offset count) }
+        ensures memory { IfSome result (λ r. r ≢ Refusal.OutOfMemory) }
         ensures below { IfNone result (index < length (file_in self.now at.file).cells) }
         ensures fits { IfNone result (offset + count ≤ page_bytes) }
         ensures few { IfNone result (count ≤ 256) }
@@ -179,6 +188,7 @@ impl<N: Naming> Mount<N> {
         requires file { at.file < length self.now.files }
         requires map { at.map < length (file_in self.now at.file).maps }
         ensures refused { result ≡ first_of (fault_tests (spot_at self.now at.file at.map) index) }
+        ensures memory { IfSome result (λ r. r ≢ Refusal.OutOfMemory) }
         ensures below { IfNone result (index < length (file_in self.now at.file).cells) }
     {
         if !self.files.is_live(at, index) {
@@ -203,6 +213,8 @@ impl<N: Naming> Mount<N> {
         requires ready { D.is_ready door.old }
         requires shared { (s : Spot) → spot self.old (is_map access.now.task access.now.map) ≡ Some s → is_shared s.map.sharing ≡ true }
         ensures done { (k : ℕ) → IsDone D.took D.is_full N.page_bytes k (Some self.old) door.old (Fault access.now.task home access.now.map access.now.index intent) result (Some self.new) door.new }
+        ensures left { D.is_left door.new }
+        ensures memory { (s : Spot) → spot self.old (is_map access.now.task access.now.map) ≡ Some s → is_entered (cell_at s.file access.now.index) ≡ true → result ≢ Err Refusal.OutOfMemory }
     {
         let Some(at) = self.files.find(access.task, access.map) else {
             return Err(Refusal::NoSuchMap);
@@ -231,6 +243,8 @@ impl<N: Naming> Mount<N> {
         requires page_bytes { page_bytes ≡ N.page_bytes }
         requires shared { (s : Spot) → spot self.old (is_map access.now.task access.now.map) ≡ Some s → is_shared s.map.sharing ≡ true }
         ensures done { (k : ℕ) → IsDone D.took D.is_full N.page_bytes k (Some self.old) door.old (Load access.now.task home access.now.map access.now.index access.now.offset count) result (Some self.new) door.new }
+        ensures left { D.is_left door.new }
+        ensures memory { (s : Spot) → spot self.old (is_map access.now.task access.now.map) ≡ Some s → is_entered (cell_at s.file access.now.index) ≡ true → result ≢ Err Refusal.OutOfMemory }
     {
         let Some(at) = self.files.find(access.task, access.map) else {
             return Err(Refusal::NoSuchMap);
@@ -259,6 +273,8 @@ impl<N: Naming> Mount<N> {
         requires page_bytes { page_bytes ≡ N.page_bytes }
         requires shared { (s : Spot) → spot self.old (is_map access.now.task access.now.map) ≡ Some s → is_shared s.map.sharing ≡ true }
         ensures done { (k : ℕ) → IsDone D.took D.is_full N.page_bytes k (Some self.old) door.old (Store access.now.task home access.now.map access.now.index access.now.offset bytes.now) result (Some self.new) door.new }
+        ensures left { D.is_left door.new }
+        ensures memory { (s : Spot) → spot self.old (is_map access.now.task access.now.map) ≡ Some s → is_entered (cell_at s.file access.now.index) ≡ true → result ≢ Err Refusal.OutOfMemory }
     {
         let Some(at) = self.files.find(access.task, access.map) else {
             return Err(Refusal::NoSuchMap);

@@ -13,11 +13,11 @@ use Rattle.hp_model.specs.Spot.{Spot, spot, again}
 use Rattle.hp_model.specs.Value.{value}
 use Rattle.hp_mount_next.specs.Done.{Tried, done}
 use Rattle.hp_mount_next.specs.Found.{spot_at, first_of, byte_tests}
-use Rattle.hp_mount_next.proofs.Commands.{missing, tested, denied, went, byte_tests_are, again_is}
+use Rattle.hp_mount_next.proofs.Commands.{entered_there, not_memory, missing, tested, denied, went, byte_tests_are, again_is}
 use Rattle.hp_mount_next.proofs.mount.Mount.load.Goals as goal
 
-pub returns-in_default : goal.returns-in_default
-returns-in_default g c =
+pub returns-in_default-clause-done : goal.returns-in_default-clause-done
+returns-in_default-clause-done g c k =
     let o = c.self.inside in
     let m = c.args.self.now in
     let size = g.N.Naming.page_bytes in
@@ -26,10 +26,10 @@ returns-in_default g c =
     let tests = λ (s : Spot). byte_tests size s a.index a.offset c.args.count in
     let act = λ (x : Choice) (s : Spot). access x size m s c.args.home a.index Read in
     let cont : Spot → Mount → Outcome = λ s n. Answered (bytes_answer a.offset c.args.count (value size (again n s).file (again n s).map a.index)) (Some n) in
-    record { done = λ k. missing g.D.PoolDoor.took g.D.PoolDoor.is_full m (is_map a.task a.map) tests act cont c.args.door.now (subst (λ (x : Mount). spot x (is_map a.task a.map) ≡ None) c.self.view_is (c.in_default.ensures.none limits)) }
+    missing g.D.PoolDoor.took g.D.PoolDoor.is_full m (is_map a.task a.map) tests act cont c.args.door.now (subst (λ (x : Mount). spot x (is_map a.task a.map) ≡ None) c.self.view_is (c.in_default.ensures.none limits))
 
-pub returns-in-Some-refused : goal.returns-in-Some-refused
-returns-in-Some-refused g c =
+pub returns-in-Some-refused-clause-done : goal.returns-in-Some-refused-clause-done
+returns-in-Some-refused-clause-done g c k =
     let o = c.self.inside in
     let m = c.args.self.now in
     let size = g.N.Naming.page_bytes in
@@ -41,10 +41,8 @@ returns-in-Some-refused g c =
     let at = c.in-Some.at in
     let s = spot_at m at.file at.map in
     let found = subst (λ (x : Mount). spot x (is_map a.task a.map) ≡ Some (spot_at x at.file at.map)) c.self.view_is (c.in-Some.ensures.some.is limits) in
-    record {
-      done = λ k. tested g.D.PoolDoor.took g.D.PoolDoor.is_full m (is_map a.task a.map) tests act cont c.args.door.now s found (byte_tests_are size s a.index a.offset c.args.count) c.in-Some-refused.refusal
-          (subst (λ n. first_of (byte_tests n s a.index a.offset c.args.count) ≡ Some c.in-Some-refused.refusal) c.requires.page_bytes (sym c.refused.ensures.refused ∙ c.in-Some-refused.is));
-    }
+    tested g.D.PoolDoor.took g.D.PoolDoor.is_full m (is_map a.task a.map) tests act cont c.args.door.now s found (byte_tests_are size s a.index a.offset c.args.count) c.in-Some-refused.refusal
+          (subst (λ n. first_of (byte_tests n s a.index a.offset c.args.count) ≡ Some c.in-Some-refused.refusal) c.requires.page_bytes (sym c.refused.ensures.refused ∙ c.in-Some-refused.is))
 
 pub reach-requires-clause-shared : goal.reach-requires-clause-shared
 reach-requires-clause-shared g c =
@@ -57,8 +55,8 @@ reach-requires-clause-shared g c =
     let found = subst (λ (x : Mount). spot x (is_map a.task a.map) ≡ Some (spot_at x at.file at.map)) c.self.view_is (c.in-Some.ensures.some.is limits) in
     c.requires.shared s found
 
-pub returns-in-Err : goal.returns-in-Err
-returns-in-Err g c =
+pub returns-in-Err-clause-done : goal.returns-in-Err-clause-done
+returns-in-Err-clause-done g c k =
     let o = c.self.inside in
     let m = c.args.self.now in
     let size = g.N.Naming.page_bytes in
@@ -71,13 +69,11 @@ returns-in-Err g c =
     let s = spot_at m at.file at.map in
     let found = subst (λ (x : Mount). spot x (is_map a.task a.map) ≡ Some (spot_at x at.file at.map)) c.self.view_is (c.in-Some.ensures.some.is limits) in
     let pass = subst (λ n. first_of (byte_tests n s a.index a.offset c.args.count) ≡ None) c.requires.page_bytes (sym c.refused.ensures.refused ∙ c.in_default-refused.is) in
-    record {
-      done = λ k. denied g.D.PoolDoor.took g.D.PoolDoor.is_full m (is_map a.task a.map) tests act cont c.args.door.now s found pass c.in-Err.refusal (Some c.reach.new.self) c.reach.new.door
-          (subst (λ r. Tried g.D.PoolDoor.took g.D.PoolDoor.is_full (λ x. act x s) (Some m) c.args.door.now (done r) (Some c.reach.new.self) c.reach.new.door) c.in-Err.is c.reach.ensures.done);
-    }
+    denied g.D.PoolDoor.took g.D.PoolDoor.is_full m (is_map a.task a.map) tests act cont c.args.door.now s found pass c.in-Err.refusal (Some c.reach.new.self) c.reach.new.door
+          (subst (λ r. Tried g.D.PoolDoor.took g.D.PoolDoor.is_full (λ x. act x s) (Some m) c.args.door.now (done r) (Some c.reach.new.self) c.reach.new.door) c.in-Err.is c.reach.ensures.done)
 
-pub returns : goal.returns
-returns g c =
+pub returns-clause-done : goal.returns-clause-done
+returns-clause-done g c k =
     let o = c.self.inside in
     let m = c.args.self.now in
     let size = g.N.Naming.page_bytes in
@@ -93,8 +89,16 @@ returns g c =
     let n = c.reach.new.self in
     let file_within = subst (λ (x : Mount). at.file < length x.files) c.self.view_is c.in-Some.ensures.some.file_within in
     let map_within = subst (λ (x : Mount). at.map < length (file_in x at.file).maps) c.self.view_is c.in-Some.ensures.some.map_within in
-    record {
-      done = λ k. went g.D.PoolDoor.took g.D.PoolDoor.is_full m (is_map a.task a.map) tests act cont c.args.door.now s found pass n c.reach.new.door c.shown_bytes.result (Some n)
+    went g.D.PoolDoor.took g.D.PoolDoor.is_full m (is_map a.task a.map) tests act cont c.args.door.now s found pass n c.reach.new.door c.shown_bytes.result (Some n)
           (subst (λ r. Tried g.D.PoolDoor.took g.D.PoolDoor.is_full (λ x. act x s) (Some m) c.args.door.now (done r) (Some n) c.reach.new.door) c.in_default-reach.is c.reach.ensures.done)
-          (ap Ok (c.shown_bytes.ensures ∙ ap (λ (x : Spot). bytes_answer a.offset c.args.count (value size x.file x.map a.index)) (sym (again_is m n at.file at.map file_within map_within c.reach.ensures.same))), refl);
-    }
+          (ap Ok (c.shown_bytes.ensures ∙ ap (λ (x : Spot). bytes_answer a.offset c.args.count (value size x.file x.map a.index)) (sym (again_is m n at.file at.map file_within map_within c.reach.ensures.same))), refl)
+
+pub returns-in-Err-clause-memory : goal.returns-in-Err-clause-memory
+returns-in-Err-clause-memory g c s seen entered =
+    let o = c.self.inside in
+    let m = c.args.self.now in
+    let a = c.args.access.now in
+    let limits : Limits = record { max = o.share.max; min = o.share.min; inodes = o.inodes } in
+    let at = c.in-Some.at in
+    let found = subst (λ (x : Mount). spot x (is_map a.task a.map) ≡ Some (spot_at x at.file at.map)) c.self.view_is (c.in-Some.ensures.some.is limits) in
+    not_memory c.in-Err.refusal (c.in-Err.ensures.memory (entered_there (spot m (is_map a.task a.map)) (spot_at m at.file at.map) s a.index found seen entered))

@@ -1,0 +1,185 @@
+//! Files and maps that are made.
+ghost use Rattle.std.specs.Prelude.{◌≡◌, ℕ, ◌+◌, ◌<◌, ◌≤◌, length, not, is_some, true, false, IfErr, IfOk, OnOk, OnErr, Some, None};
+ghost use Rattle.hp_model.specs.declared.answer.Answer.TheVariants.{MapNo};
+ghost use Rattle.hp_model.specs.declared.event.SlotEvent.TheVariants.{Create, Map as MapEvent};
+ghost use Rattle.hp_model.specs.declared.step.Reserving.TheVariants.{Reserve};
+ghost use Rattle.hp_model.specs.declared.step.Sharing.TheVariants.{Shared};
+ghost use Rattle.hp_model.specs.File.{maps_of, with_file};
+ghost use Rattle.hp_model.specs.Grant.{is_over};
+ghost use Rattle.hp_model.specs.Lists.{is_among};
+ghost use Rattle.hp_model.specs.MakeMap.{asked, mapped, next_number, tasks_of};
+ghost use Rattle.hp_model.specs.Plan.{Answered, grant};
+ghost use Rattle.hp_model.specs.Promises.{file_in};
+ghost use Rattle.hp_model.specs.SlotEvent.{file_named, is_name, is_name_byte};
+ghost use Rattle.hp_subpool.specs.Subpool.{Subpool as ShareValue};
+ghost use Rattle.hp_mount_next.specs.Alone.{IsDoneAlone};
+ghost use Rattle.hp_mount_next.specs.Done.{Tried, IsDone};
+ghost use Rattle.hp_mount_next.specs.Found.{first_of};
+ghost use Rattle.hp_mount_next.specs.Making.{create_tests, map_tests, numbered};
+
+use super::Mount;
+use hp_model::answer::{Answer, Reply};
+use hp_model::bytes::Bytes;
+use hp_model::naming::Naming;
+use hp_model::refusal::Refusal;
+use hp_mount_door::PoolDoor;
+use hp_mount_files::{MapRange, NextMap};
+use hp_subpool::Subpool;
+
+/// The most pages that a file may have.
+const MOST_FILE_PAGES: u64 = 1_048_576;
+
+// one of A-Z a-z 0-9 . _ -
+fn is_name_byte(c: u8) -> bool
+    ensures { result ≡ is_name_byte c }
+{
+    (65 <= c && c <= 90)
+        || (97 <= c && c <= 122)
+        || (48 <= c && c <= 57)
+        || c == 46
+        || c == 95
+        || c == 45
+}
+
+/// Whether a file may be named so.
+fn is_name(name: &[u8]) -> bool
+    ensures { result ≡ is_name name.now }
+{
+    if name.len() < 1 {
+        return false;
+    }
+    if name.len() > 64 {
+        return false;
+    }
+    name.iter().all(|c| is_name_byte(*c))
+}
+
+impl<N: Naming> Mount<N> {
+    // Whether one file more is past the limit of files.
+    fn is_without_inodes(&self) -> bool
+        requires { length self.now.files < 1024 }
+        ensures { result ≡ is_over self.now.limits.inodes (length self.now.files + 1) }
+    {
+        match self.inodes {
+            None => false,
+            Some(most) => most < self.files.count() as u64 + 1,
+        }
+    }
+
+    // Whether a file has the name.
+    fn is_taken(&self, name: &[u8]) -> bool
+        ensures { result ≡ is_some (file_named self.now name.now) }
+    {
+        self.files.named(name).is_some()
+    }
+
+    // What a new file of this name is refused before memory, if anything.
+    fn refused_file(&self, name: &[u8]) -> Option<Refusal>
+        ensures { result ≡ first_of (create_tests self.now name.now) }
+    {
+        if !is_name(name) {
+            return Some(Refusal::BadName);
+        }
+        if self.is_taken(name) {
+            return Some(Refusal::FileExists);
+        }
+        if self.files.count() >= 1024 {
+            return Some(Refusal::TooMany);
+        }
+        if self.is_without_inodes() {
+            return Some(Refusal::NoInodes);
+        }
+        None
+    }
+
+    /// Makes a file of length 0. Refused as BadName, FileExists, TooMany, NoInodes or OutOfMemory, the first of these
+    /// that holds, and then nothing changes.
+    pub fn create(&mut self, name: &Bytes) -> Reply
+        ensures { (size k : ℕ) → IsDoneAlone size k (Some self.old) (Create name.now) result (Some self.new) }
+    {
+        if let Some(refusal) = self.refused_file(name.as_slice()) {
+            return Err(refusal);
+        }
+        if self.files.create(name.as_slice()).is_err() {
+            return Err(Refusal::OutOfMemory);
+        }
+        Ok(Answer::Done)
+    }
+
+    // The map that the task may make next, or why it may not.
+    fn next_map(&self, range: &MapRange) -> Result<NextMap, Refusal>
+        ensures number { IfOk result (λ next. next.number ≡ next_number range.now.task self.now) }
+        ensures first { IfOk result (λ next. next.is_first ≡ not (is_among range.now.task (tasks_of self.now))) }
+        ensures pass { OnOk result (first_of (map_tests self.now range.now.task range.now.start range.now.pages) ≡ None) }
+        ensures few { OnOk result (length (maps_of self.now) < 4096) }
+        ensures reach { OnOk result (range.now.start + range.now.pages ≤ 1048576) }
+        ensures err { IfErr result (λ e. first_of (map_tests self.now range.now.task range.now.start range.now.pages) ≡ Some e) }
+    {
+        let pages = range.pages;
+        if pages == 0 || range.start > MOST_FILE_PAGES || pages > MOST_FILE_PAGES - range.start {
+            return Err(Refusal::OutOfRange);
+        }
+        if pages > 65_536 || self.files.map_count() >= 4096 {
+            return Err(Refusal::TooMany);
+        }
+        let next = self.files.next_map(range.task);
+        if next.is_first && self.files.task_count() >= 256 {
+            return Err(Refusal::TooMany);
+        }
+        Ok(next)
+    }
+
+    // Adds the map to the file at a place, and reserves its pages through the door.
+    fn add_map<D: PoolDoor<Share = Subpool<N>>>(
+        &mut self,
+        door: &mut D,
+        home: usize,
+        file: usize,
+        range: &MapRange,
+        next: NextMap,
+    ) -> Result<(), Refusal>
+        requires shares { (s : ShareValue) → D.share_of s ≡ s }
+        requires ready { D.is_ready door.old }
+        requires file { file < length self.old.files }
+        requires reach { range.now.start + range.now.pages ≤ 1048576 }
+        requires few { length (maps_of self.old) < 4096 }
+        requires number { next.number ≡ next_number range.now.task self.old }
+        requires first { next.is_first ≡ not (is_among range.now.task (tasks_of self.old)) }
+        ensures done { Tried D.took D.is_full (λ c. grant c self.old home (asked Shared Reserve range.now.start range.now.pages (file_in self.old file)) (Answered (MapNo next.number) (Some (with_file self.old file (mapped range.now.task next.number range.now.start range.now.pages Shared Reserve (file_in self.old file)))))) (Some self.old) door.old (numbered next.number result) (Some self.new) door.new }
+        ensures left { D.is_left door.new }
+    {
+        let wanted = self.files.wanted(file, range);
+        if self.share.is_full(wanted) {
+            return Err(Refusal::MountFull);
+        }
+        self.files
+            .add_map(door, &mut self.share, home, file, range, next)?;
+        Ok(())
+    }
+
+    /// Maps indices of a file for a task, shared, and enters them.
+    pub fn map<D: PoolDoor<Share = Subpool<N>>>(
+        &mut self,
+        door: &mut D,
+        home: u64,
+        name: &[u8],
+        range: &MapRange,
+    ) -> Reply
+        requires shares { (s : ShareValue) → D.share_of s ≡ s }
+        requires ready { D.is_ready door.old }
+        ensures done { (size k : ℕ) → IsDone D.took D.is_full size k (Some self.old) door.old (MapEvent range.now.task home name.now range.now.start range.now.pages Shared Reserve) result (Some self.new) door.new }
+        ensures left { D.is_left door.new }
+    {
+        let Some(file) = self.files.named(name) else {
+            return Err(Refusal::NoSuchFile);
+        };
+        let next = match self.next_map(range) {
+            Ok(next) => next,
+            Err(refusal) => return Err(refusal),
+        };
+        match self.add_map(door, home as usize, file, range, next) {
+            Ok(()) => Ok(Answer::MapNo(next.number)),
+            Err(refusal) => Err(refusal),
+        }
+    }
+}
