@@ -2,7 +2,7 @@
 use Rattle.std.proofs.Common.{◌≡◌, ℕ, zero, suc, ◌+◌, ◌-◌, ◌<◌, ◌≤◌, max, Option, List, [], ◌∷◌, length, Some, None, refl, sym, ap, subst, ◌∙◌, arith}
 use Rattle.std.specs.Prelude.{slice_set, slice_index_or}
 use Rattle.std.proofs.lemmas.List.{get_or_default, get_or-set_same, length-set}
-use Rattle.hp_mount_door.specs.Door.{with_page, with_granted}
+use Rattle.hp_mount_door.specs.Door.{with_page, with_granted, with_reserves}
 use Rattle.hp_model.specs.declared.cell.Cell.{Cell}
 use Rattle.hp_model.specs.declared.cell.Cell.TheVariants.{Hole, Entered, Present}
 use Rattle.hp_model.specs.File.{File, Mount, cell_at, with_cell, with_file, new_file}
@@ -10,10 +10,14 @@ use Rattle.hp_model.specs.Grant as grant
 use Rattle.hp_model.specs.MountCounts.{pages_of, usage_of}
 use Rattle.hp_model.specs.Page.{Page}
 use Rattle.hp_model.specs.Promises.{file_in}
+use Rattle.hp_model.specs.declared.step.Reserving.TheVariants.{Reserve}
+use Rattle.hp_model.specs.declared.step.Sharing.TheVariants.{Shared}
+use Rattle.hp_model.specs.MakeMap.{asked, mapped}
+use Rattle.hp_laws.proofs.Maps.{mapped_grows}
 use Rattle.hp_laws.proofs.FileMoves as moves
 use Rattle.hp_laws.proofs.FileMoves.{FileGrows}
 use Rattle.hp_laws.proofs.MountMoves.{MountGrows, IsFileAt, file_grows}
-use Rattle.hp_mount_files.specs.Files.{Files, file_at, filled_at, with_cell_at}
+use Rattle.hp_mount_files.specs.Files.{Files, file_at, filled_at, mapped_at, with_cell_at}
 use Rattle.hp_mount_next.specs.Found.{IsTouched}
 use Rattle.hp_mount_next.specs.Kept.{IsKept, mount_of}
 use Rattle.hp_subpool.specs.Subpool as share
@@ -148,6 +152,21 @@ module _ (s : Subpool) (v : Files) (inodes : Option ℕ) (c : IsKept s v (mount_
         going = ap (λ (x : Files). x.going) w_is ∙ c.going;
         sound = c.sound;
       })
+
+  -- ---- a shared map more
+
+  module _ (task number a n more : ℕ) (new : Subpool) (w : Files) (more_is : more ≡ asked Shared Reserve a n (file_at v.files k)) (new_is : new ≡ with_reserves more s) (w_is : w ≡ mapped_at k task number a n (max v.room (s.held + more)) v) where
+    pub map_kept : IsKept new w (mount_of new inodes w.files)
+    map_kept =
+        let held_is = ap (λ (x : Subpool). x.held) new_is in
+        let pages_is = ap (λ (x : Subpool). x.pages) new_is in
+        let room_is = ap (λ (x : Files). x.room) w_is in
+        let plain : s.pages ≡ s.pages + 0 = omega arith in
+        grown new w (mapped task number a n Shared Reserve (file_at v.files k)) 0 0 (asked Shared Reserve a n (file_at v.files k)) (mapped_grows task number a n Shared Reserve (file_at v.files k)) (ap (λ (x : Subpool). x.max) new_is) (ap (λ (x : Subpool). x.min) new_is)
+        (pages_is ∙ plain) (omega (arith, held_is, pages_is, more_is)) (omega (arith, held_is, room_is)) (ap (λ (x : Files). x.going) w_is) (ap (λ (x : Files). x.files) w_is)
+
+    pub map_left : mount_of new inodes w.files ≡ with_file m k (mapped task number a n Shared Reserve (file_in m k))
+    map_left = mount_left s new inodes (slice_set v.files k (mapped task number a n Shared Reserve (file_at v.files k))) w.files (ap (λ (x : Subpool). x.max) new_is) (ap (λ (x : Subpool). x.min) new_is) (ap (λ (x : Files). x.files) w_is)
 
 -- ---- more room alone
 

@@ -25,6 +25,7 @@ use hp_model::refusal::Refusal;
 use hp_mount_door::PoolDoor;
 use hp_mount_files::{MapRange, NextMap};
 use hp_subpool::Subpool;
+use std::alloc::AllocError;
 
 /// The most pages that a file may have.
 const MOST_FILE_PAGES: u64 = 1_048_576;
@@ -100,7 +101,7 @@ impl<N: Naming> Mount<N> {
         if let Some(refusal) = self.refused_file(name.as_slice()) {
             return Err(refusal);
         }
-        if self.files.create(name.as_slice()).is_err() {
+        if let Err(AllocError) = self.files.create(name.as_slice()) {
             return Err(Refusal::OutOfMemory);
         }
         Ok(Answer::Done)
@@ -152,8 +153,10 @@ impl<N: Naming> Mount<N> {
         if self.share.is_full(wanted) {
             return Err(Refusal::MountFull);
         }
-        self.files
-            .add_map(door, &mut self.share, home, file, range, next)?;
+        let files = &mut self.files;
+        if let Err(refusal) = files.add_map(door, &mut self.share, home, file, range, next) {
+            return Err(refusal);
+        }
         Ok(())
     }
 

@@ -1,0 +1,173 @@
+-- Files and maps that are made, by what code did.
+use Rattle.std.proofs.Common.{◌≡◌, ℕ, suc, ◌+◌, ◌<◌, ◌≤◌, ◌==◌, Bool, true, false, cond, List, [], ◌∷◌, Option, Some, None, Ok, Err, length, refl, sym, ap, subst, ◌∙◌, arith}
+use Rattle.std.specs.Prelude.{Result, ◌||◌, nat_lt}
+use Rattle.std.proofs.lemmas.Bool.Decides.{nat_tests}
+use Rattle.hp_model.specs.declared.answer.Answer.{Answer}
+use Rattle.hp_model.specs.declared.answer.Answer.TheVariants.{Done, MapNo, Usage as UsageAnswer}
+use Rattle.hp_model.specs.declared.event.SlotEvent.TheVariants.{Create, Df, Map as MapEvent}
+use Rattle.hp_model.specs.declared.refusal.Refusal.{Refusal}
+use Rattle.hp_model.specs.declared.refusal.Refusal.TheVariants as r
+use Rattle.hp_model.specs.declared.step.Reserving.TheVariants.{Reserve}
+use Rattle.hp_model.specs.declared.step.Sharing.TheVariants.{Shared}
+use Rattle.hp_model.specs.File.{File, Mount, new_file, with_file}
+use Rattle.hp_model.specs.Grant.{is_full, rise}
+use Rattle.hp_model.specs.LocalRun.{Gives, ThroughDoor}
+use Rattle.hp_model.specs.MountCounts.{usage_of}
+use Rattle.hp_model.specs.MakeMap.{asked, mapped, next_number, with_new}
+use Rattle.hp_model.specs.Plan.{Answered, Ask, Choice, Finish, Outcome, Plan, Refused, Reply, Slot, grant, refuse, unless, when_granted, with_value}
+use Rattle.hp_model.specs.Pool.{Section, Grant, PoolAnswer, granted_at, no_pages}
+use Rattle.hp_model.specs.Profile.{most_file_pages, most_map_pages}
+use Rattle.hp_model.specs.Promises.{file_in}
+use Rattle.hp_model.specs.SlotEvent.{are_too_many_maps, file_named, map_file, slot_event}
+use Rattle.hp_mount_files.specs.Asking.{IsAsked, IsGranted}
+use Rattle.hp_mount_files.specs.Files.{Files}
+use Rattle.hp_mount_next.specs.Alone.{EndsAtOnce, IsDoneAlone}
+use Rattle.hp_mount_next.specs.Done.{IsDone, Through, Tried}
+use Rattle.hp_mount_next.specs.Found.{first_of}
+use Rattle.hp_mount_next.specs.Kept.{IsKept, mount_of}
+use Rattle.hp_mount_next.specs.Making.{create_tests, map_tests, numbered}
+use Rattle.hp_mount_next.proofs.Commands.{tests_fail, tests_pass, tried_as}
+use Rattle.hp_mount_next.proofs.Ways.{fresh_choice, is_fresh, refused_at}
+use Rattle.hp_subpool.specs.Subpool as share
+use Rattle.hp_subpool.specs.Subpool.{Subpool}
+
+-- ---- what asks nothing of the pool
+
+pub usage_alone : (s : Subpool) (v : Files) (inodes : Option ℕ) → IsKept s v (mount_of s inodes v.files) → (max ino : Option ℕ) (min used n : ℕ) → max ≡ s.max → min ≡ s.min → used ≡ share.used s → ino ≡ inodes → n ≡ length v.files
+    → (size k : ℕ) → IsDoneAlone size k (Some (mount_of s inodes v.files)) Df (Ok (UsageAnswer max min used ino n)) (Some (mount_of s inodes v.files))
+usage_alone s v inodes kept max ino min used n max_is min_is used_is ino_is n_is size k =
+    let m : Mount = mount_of s inodes v.files in
+    record {
+      choice = fresh_choice false (Some m);
+      fresh = is_fresh false (Some m);
+      outcome = Answered (UsageAnswer max min used ino n) (Some m);
+      ends = sym (ap (λ x. Finish (Answered (UsageAnswer x min used ino n) (Some m))) max_is ∙ ap (λ x. Finish (Answered (UsageAnswer s.max x used ino n) (Some m))) min_is
+      ∙ ap (λ x. Finish (Answered (UsageAnswer s.max s.min x ino n) (Some m))) (used_is ∙ kept.used) ∙ ap (λ x. Finish (Answered (UsageAnswer s.max s.min (usage_of m) x n) (Some m))) ino_is
+      ∙ ap (λ x. Finish (Answered (UsageAnswer s.max s.min (usage_of m) inodes x) (Some m))) n_is);
+      gives = (refl, refl);
+    }
+
+module _ (m : Mount) (name : List ℕ) (size k : ℕ) where
+  pub create_refused : (e : Refusal) → first_of (create_tests m name) ≡ Some e → IsDoneAlone size k (Some m) (Create name) (Err e) (Some m)
+  create_refused e h = record {
+    choice = fresh_choice false (Some m);
+    fresh = is_fresh false (Some m);
+    outcome = Refused e;
+    ends = tests_fail (create_tests m name) (unless ((false, r.OutOfMemory) ∷ []) (Finish (Answered Done (Some (with_new m (new_file (Some name))))))) e h;
+    gives = (refl, refl);
+  }
+
+  pub create_without_memory : (n : Mount) → first_of (create_tests m name) ≡ None → n ≡ m → IsDoneAlone size k (Some m) (Create name) (Err r.OutOfMemory) (Some n)
+  create_without_memory n pass same = record {
+    choice = fresh_choice true (Some m);
+    fresh = is_fresh true (Some m);
+    outcome = Refused r.OutOfMemory;
+    ends = tests_pass (create_tests m name) (unless ((true, r.OutOfMemory) ∷ []) (Finish (Answered Done (Some (with_new m (new_file (Some name))))))) pass;
+    gives = (refl, ap Some same);
+  }
+
+  pub create_done : (n : Mount) → first_of (create_tests m name) ≡ None → n ≡ with_new m (new_file (Some name)) → IsDoneAlone size k (Some m) (Create name) (Ok Done) (Some n)
+  create_done n pass is = record {
+    choice = fresh_choice false (Some m);
+    fresh = is_fresh false (Some m);
+    outcome = Answered Done (Some (with_new m (new_file (Some name))));
+    ends = tests_pass (create_tests m name) (unless ((false, r.OutOfMemory) ∷ []) (Finish (Answered Done (Some (with_new m (new_file (Some name))))))) pass;
+    gives = (refl, ap Some is);
+  }
+
+-- ---- a grant
+
+module _ {X : Type 0} (took : X → Section → PoolAnswer → X → Type 0) (full : X → Type 0) (m : Mount) (home k : ℕ) (a : Answer) (n : Mount) (door : X) where
+  abbrev outcome : Outcome
+  outcome = Answered a (Some n)
+
+  abbrev plan : Choice → Plan
+  plan c = grant c m home k outcome
+
+  -- once memory is there
+  abbrev goes : Bool → Plan
+  goes none = cond none (Finish outcome) (Ask (λ nr. Grant home (rise m k)) (when_granted outcome))
+
+  tests : (c : Choice) (is refused : Bool) → is_full m k ≡ is → c.refused ≡ refused → (reply : Reply) (new : Slot) (left : X)
+      → ThroughDoor took (cond is (refuse r.MountFull) (cond refused (refuse r.OutOfMemory) (goes (rise m k == 0)))) (Some m) door reply new left → ThroughDoor took (plan c) (Some m) door reply new left
+  tests c is refused e z reply new left h =
+      subst (λ b. ThroughDoor took (cond b (refuse r.MountFull) (cond c.refused (refuse r.OutOfMemory) (goes (rise m k == 0)))) (Some m) door reply new left) (sym e)
+      (subst (λ b. ThroughDoor took (cond is (refuse r.MountFull) (cond b (refuse r.OutOfMemory) (goes (rise m k == 0)))) (Some m) door reply new left) (sym z) h)
+
+  pub grant_full : is_full m k ≡ true → Tried took full plan (Some m) door (Err r.MountFull) (Some m) door
+  grant_full e = (let c : Choice = fresh_choice false (Some m) in (c, is_fresh false (Some m), tests c true false e refl (Err r.MountFull) (Some m) door (refused_at took m r.MountFull door)))
+
+  some_rise : 0 < rise m k → (rise m k == 0) ≡ false
+  some_rise l = grind (arith, nat_tests, l)
+
+  module _ (room : is_full m k ≡ false) (s : Subpool) (rise_is : share.rise s k ≡ rise m k) where
+    pub grant_given : (new : Subpool) (left : X) → IsGranted took full home k s door new left → Tried took full plan (Some m) door (Ok a) (Some n) left
+    grant_given new left given =
+        let c : Choice = fresh_choice false (Some m) in
+        (c, is_fresh false (Some m), tests c false false room refl (Ok a) (Some n) left (either (rise m k == 0) refl))
+      where
+        either : (b : Bool) → (rise m k == 0) ≡ b → ThroughDoor took (goes (rise m k == 0)) (Some m) door (Ok a) (Some n) left
+        either true e = (let none : rise m k ≡ 0 = grind (arith, nat_tests, e) in subst (λ b. ThroughDoor took (goes b) (Some m) door (Ok a) (Some n) left) (sym e) ((refl, refl), given.none (rise_is ∙ none)))
+        either false e =
+            let some : 0 < rise m k = grind (arith, nat_tests, e) in
+            let section = subst (λ d. took door (Grant home d) (granted_at 0) left) rise_is (given.some (subst (λ d. 0 < d) (sym rise_is) some)) in
+            subst (λ b. ThroughDoor took (goes b) (Some m) door (Ok a) (Some n) left) (sym e) (granted_at 0, section, (refl, refl))
+
+    pub grant_denied : (e : Refusal) (new : Subpool) (left : X) (after : Mount) → IsAsked took full home k s door (Err e) new left → after ≡ m → Tried took full plan (Some m) door (Err e) (Some after) left
+    grant_denied r.OutOfMemory new left after none same =
+        let c : Choice = fresh_choice true (Some m) in
+        (c, is_fresh true (Some m), tests c false true room refl (Err r.OutOfMemory) (Some after) left ((refl, ap Some same), none.door))
+    grant_denied r.NoPages new left after denied same =
+        let c : Choice = fresh_choice false (Some m) in
+        let some = subst (λ d. 0 < d) rise_is denied.some in
+        let section = subst (λ d. took door (Grant home d) no_pages left) rise_is denied.why in (
+          c,
+          is_fresh false (Some m),
+          tests c false false room refl (Err r.NoPages) (Some after) left
+              (subst (λ b. ThroughDoor took (goes b) (Some m) door (Err r.NoPages) (Some after) left) (sym (some_rise some)) (no_pages, section, (refl, ap Some same))),
+        )
+    grant_denied r.TraceFull new left after denied same = (ap Some same, denied.why)
+    grant_denied other new left after denied same = absurd denied.why
+
+-- refused, the share is as it was
+pub asked_share : {X : Type 0} (took : X → Section → PoolAnswer → X → Type 0) (full : X → Type 0) (home k : ℕ) (s : Subpool) (door : X) (e : Refusal) (new : Subpool) (left : X) → IsAsked took full home k s door (Err e) new left → new ≡ s
+asked_share took full home k s door r.OutOfMemory new left asked = asked.share
+asked_share took full home k s door other new left asked = asked.share
+
+-- ---- a map
+
+never_map : (a b : Bool) → cond a (Some r.OutOfRange) (cond b (Some r.TooMany) None) ≡ Some r.TraceFull → ⊥
+never_map true b e = cc
+never_map false true e = cc
+never_map false false e = cc
+
+module _ {X : Type 0} (took : X → Section → PoolAnswer → X → Type 0) (full : X → Type 0) (m : Mount) (size slot task home a n : ℕ) (name : List ℕ) (door : X) where
+  abbrev event : Choice → Plan
+  event c = slot_event size slot c (Some m) (MapEvent task home name a n Shared Reserve)
+
+  pub map_nowhere : file_named m name ≡ None → Tried took full event (Some m) door (Err r.NoSuchFile) (Some m) door
+  map_nowhere e = (
+    fresh_choice false (Some m),
+    is_fresh false (Some m),
+    subst (λ o. ThroughDoor took (with_value o r.NoSuchFile (map_file (fresh_choice false (Some m)) m task home a n Shared Reserve)) (Some m) door (Err r.NoSuchFile) (Some m) door) (sym e) (refused_at took m r.NoSuchFile door),
+  )
+
+  module _ (k : ℕ) (named : file_named m name ≡ Some (k, file_in m k)) where
+    abbrev grants : Choice → ℕ → Plan
+    grants c number = grant c m home (asked Shared Reserve a n (file_in m k)) (Answered (MapNo number) (Some (with_file m k (mapped task number a n Shared Reserve (file_in m k)))))
+
+    of_file : (c : Choice) → event c ≡ unless (map_tests m task a n) (grants c (next_number task m))
+    of_file c = ap (λ o. with_value o r.NoSuchFile (map_file c m task home a n Shared Reserve)) named
+
+    refused_by : (e : Refusal) → first_of (map_tests m task a n) ≡ Some e → Through took event (Some m) door (Err e) (Some m) door
+    refused_by e h =
+        let c : Choice = fresh_choice false (Some m) in
+        (c, is_fresh false (Some m), subst (λ p. ThroughDoor took p (Some m) door (Err e) (Some m) door) (sym (of_file c ∙ tests_fail (map_tests m task a n) (grants c (next_number task m)) e h)) (refused_at took m e door))
+
+    pub map_refused : (e : Refusal) → first_of (map_tests m task a n) ≡ Some e → Tried took full event (Some m) door (Err e) (Some m) door
+    map_refused r.TraceFull h = absurd (never_map ((n == 0) || nat_lt most_file_pages (a + n)) (nat_lt most_map_pages n || are_too_many_maps m task) h)
+    map_refused other h = refused_by other h
+
+    pub map_went : (number : ℕ) → first_of (map_tests m task a n) ≡ None → number ≡ next_number task m → (reply : Reply) (new : Slot) (left : X) → Tried took full (λ c. grants c number) (Some m) door reply new left → Tried took full event (Some m) door reply new left
+    map_went number pass number_is reply new left h =
+        tried_as took full (λ c. grants c number) event (λ c. ap (grants c) number_is ∙ sym (tests_pass (map_tests m task a n) (grants c (next_number task m)) pass) ∙ sym (of_file c)) (Some m) door reply new left h

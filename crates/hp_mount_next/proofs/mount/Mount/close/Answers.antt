@@ -1,0 +1,25 @@
+use Rattle.std.proofs.Common.{◌≡◌, ℕ, List, Ok, None, Some, length, ap, subst, sym, ◌∙◌, arith}
+use Rattle.std.specs.List.{sum_by}
+use Rattle.hp_model.specs.declared.answer.Answer.TheVariants.{Done}
+use Rattle.hp_model.specs.File.{Mount}
+use Rattle.hp_model.specs.LocalRun.{ThroughDoor}
+use Rattle.hp_model.specs.Page.{Page}
+use Rattle.hp_model.specs.Plan.{gives}
+use Rattle.hp_mount_door.specs.Door.{GivesBack}
+use Rattle.hp_mount_next.specs.Kept.{mount_of}
+use Rattle.hp_mount_next.proofs.Ending.{ended}
+use Rattle.hp_subpool.specs.Subpool.{Subpool, committed_of}
+use Rattle.hp_mount_next.proofs.mount.Mount.close.Goals as goal
+
+pub returns-clause-done : goal.returns-clause-done
+returns-clause-done g c =
+    let o = c.self.inside in
+    let m = mount_of o.share o.inodes o.files.files in
+    let took = g.D.PoolDoor.took in
+    let door = c.args.door.now in
+    let going = c.close-going.result in
+    let inv = c.self.invariant in
+    let committed = ap committed_of (c.requires.shares o.share) in
+    let given = subst (λ (pages : List Page). GivesBack took pages (committed_of (g.D.PoolDoor.share_of o.share)) door c.close.new.self) (c.requires.going going) c.close.ensures.given in
+    subst (λ (x : Mount). ThroughDoor took (gives Done (Some x) None) (Some x) door (Ok Done) None c.close.new.self) c.self.view_is
+    (ended took m going.going (committed_of (g.D.PoolDoor.share_of o.share)) door c.close.new.self c.close-going.ensures.pages c.close-going.ensures.nodes (omega (arith, committed, inv.used)) given)
