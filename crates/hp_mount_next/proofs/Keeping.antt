@@ -1,5 +1,5 @@
 -- What a mount keeps, through each change of its files.
-use Rattle.std.proofs.Common.{◌≡◌, ℕ, zero, suc, ◌+◌, ◌-◌, ◌<◌, ◌≤◌, max, Option, List, [], ◌∷◌, length, Some, None, refl, sym, ap, subst, ◌∙◌, arith}
+use Rattle.std.proofs.Common.{◌≡◌, ℕ, zero, suc, ◌+◌, ◌-◌, ◌++◌, eqb, ◌<◌, ◌≤◌, max, true, Option, List, [], ◌∷◌, length, Some, None, refl, sym, ap, subst, ◌∙◌, arith}
 use Rattle.std.specs.Prelude.{slice_set, slice_index_or}
 use Rattle.std.proofs.lemmas.List.{get_or_default, get_or-set_same, length-set}
 use Rattle.hp_mount_door.specs.Door.{with_page, with_granted, with_reserves}
@@ -9,17 +9,20 @@ use Rattle.hp_model.specs.File.{File, Mount, cell_at, with_cell, with_file, new_
 use Rattle.hp_model.specs.Grant as grant
 use Rattle.hp_model.specs.MountCounts.{pages_of, usage_of}
 use Rattle.hp_model.specs.Page.{Page}
-use Rattle.hp_model.specs.Promises.{file_in}
+use Rattle.hp_model.specs.Promises.{file_in, map_in, no_map}
 use Rattle.hp_model.specs.declared.step.Reserving.TheVariants.{Reserve}
 use Rattle.hp_model.specs.declared.step.Sharing.TheVariants.{Shared}
-use Rattle.hp_model.specs.MakeMap.{asked, mapped}
+use Rattle.std.proofs.lemmas.List.Elements.{All-append, All-cons, All-get_or, All-nil, All-set}
+use Rattle.hp_model.specs.Sound.{IsAgreed}
+use Rattle.hp_model.specs.MakeMap.{asked, mapped, new_map, with_new}
+use Rattle.hp_model.specs.Mapping.{Map, is_shared}
 use Rattle.hp_laws.proofs.Maps.{mapped_grows}
 use Rattle.hp_laws.proofs.FileMoves as moves
 use Rattle.hp_laws.proofs.FileMoves.{FileGrows}
-use Rattle.hp_laws.proofs.MountMoves.{MountGrows, IsFileAt, file_grows}
+use Rattle.hp_laws.proofs.MountMoves.{MountGrows, IsFileAt, file_grows, new_grows, nothing_more}
 use Rattle.hp_mount_files.specs.Files.{Files, file_at, filled_at, mapped_at, with_cell_at}
 use Rattle.hp_mount_next.specs.Found.{IsTouched}
-use Rattle.hp_mount_next.specs.Kept.{IsKept, mount_of}
+use Rattle.hp_mount_next.specs.Kept.{AreShared, IsKept, mount_of}
 use Rattle.hp_subpool.specs.Subpool as share
 use Rattle.hp_subpool.specs.Subpool.{Subpool, used}
 
@@ -50,9 +53,13 @@ module _ (s : Subpool) (v : Files) (inodes : Option ℕ) (c : IsKept s v (mount_
   pub grows : (g : File) (node p u : ℕ) → FileGrows (file_at v.files k) g node p u → MountGrows m (with_file m k g) node p u
   grows g node p u h = file_grows m k (file_at v.files k) g node p u here c.sound h
 
-  pub grown : (new : Subpool) (w : Files) (g : File) (node p u : ℕ) → FileGrows (file_at v.files k) g node p u → new.max ≡ s.max → new.min ≡ s.min → new.pages ≡ s.pages + p → used new ≡ used s + u
+  -- the file's maps are shared
+  pub shared_here : AreShared (file_at v.files k)
+  shared_here = All-get_or AreShared v.files k (new_file None) l c.plain
+
+  pub grown : (new : Subpool) (w : Files) (g : File) (node p u : ℕ) → FileGrows (file_at v.files k) g node p u → AreShared g → new.max ≡ s.max → new.min ≡ s.min → new.pages ≡ s.pages + p → used new ≡ used s + u
       → new.held ≤ w.room → w.going ≡ v.going → w.files ≡ slice_set v.files k g → IsKept new w (mount_of new inodes w.files)
-  grown new w g node p u h max_is min_is pages_is used_is room going files =
+  grown new w g node p u h shared max_is min_is pages_is used_is room going files =
       let all = grows g node p u h in
       let had = c.pages in
       let was = c.used in
@@ -65,6 +72,7 @@ module _ (s : Subpool) (v : Files) (inodes : Option ℕ) (c : IsKept s v (mount_
         room = room;
         going = going ∙ c.going;
         sound = all.sound;
+        plain = All-set AreShared v.files k g shared c.plain;
       })
 
   -- an entry without a page is a reservation that is held
@@ -88,7 +96,7 @@ module _ (s : Subpool) (v : Files) (inodes : Option ℕ) (c : IsKept s v (mount_
       let held_is = ap (λ (x : Subpool). x.held) new_is in
       let pages_is = ap (λ (x : Subpool). x.pages) new_is in
       let room_is = ap (λ (x : Files). x.room) w_is in
-      grown new w (with_cell (file_at v.files k) i (Present page)) page.node 1 0 (moves.fill_entry (file_at v.files k) i page below entered) (ap (λ (x : Subpool). x.max) new_is) (ap (λ (x : Subpool). x.min) new_is)
+      grown new w (with_cell (file_at v.files k) i (Present page)) page.node 1 0 (moves.fill_entry (file_at v.files k) i page below entered) shared_here (ap (λ (x : Subpool). x.max) new_is) (ap (λ (x : Subpool). x.min) new_is)
       pages_is (omega (arith, held_is, pages_is, held)) (omega (arith, held_is, room_is, room, held)) (ap (λ (x : Files). x.going) w_is) (ap (λ (x : Files). x.files) w_is)
 
   pub entry_left : (i : ℕ) (page : Page) (new : Subpool) (w : Files) → new ≡ with_page s → w ≡ filled_at k i page v → mount_of new inodes w.files ≡ with_file m k (with_cell (file_in m k) i (Present page))
@@ -120,7 +128,7 @@ module _ (s : Subpool) (v : Files) (inodes : Option ℕ) (c : IsKept s v (mount_
       let held_is = ap (λ (x : Subpool). x.held) new_is in
       let pages_is = ap (λ (x : Subpool). x.pages) new_is in
       let room_is = ap (λ (x : Files). x.room) w_is in
-      grown new w (with_cell (file_at v.files k) i (Present page)) page.node 1 1 (moves.fill_hole (file_at v.files k) i page below hole) (ap (λ (x : Subpool). x.max) new_is) (ap (λ (x : Subpool). x.min) new_is)
+      grown new w (with_cell (file_at v.files k) i (Present page)) page.node 1 1 (moves.fill_hole (file_at v.files k) i page below hole) shared_here (ap (λ (x : Subpool). x.max) new_is) (ap (λ (x : Subpool). x.min) new_is)
       pages_is (omega (arith, held_is, pages_is)) (omega (arith, held_is, room_is, enough)) (ap (λ (x : Files). x.going) w_is) (ap (λ (x : Files). x.files) w_is ∙ again_files i spare (Present page))
 
   pub granted_left : (i spare : ℕ) (page : Page) (new : Subpool) (w : Files) → new ≡ with_granted s → w ≡ filled_at k i page (with_cell_at k i Entered (roomier spare)) → mount_of new inodes w.files ≡ with_file m k (with_cell (file_in m k) i (Present page))
@@ -151,6 +159,7 @@ module _ (s : Subpool) (v : Files) (inodes : Option ℕ) (c : IsKept s v (mount_
         room = omega (arith, room_is, room, held_is);
         going = ap (λ (x : Files). x.going) w_is ∙ c.going;
         sound = c.sound;
+        plain = c.plain;
       })
 
   -- ---- a shared map more
@@ -162,7 +171,9 @@ module _ (s : Subpool) (v : Files) (inodes : Option ℕ) (c : IsKept s v (mount_
         let pages_is = ap (λ (x : Subpool). x.pages) new_is in
         let room_is = ap (λ (x : Files). x.room) w_is in
         let plain : s.pages ≡ s.pages + 0 = omega arith in
-        grown new w (mapped task number a n Shared Reserve (file_at v.files k)) 0 0 (asked Shared Reserve a n (file_at v.files k)) (mapped_grows task number a n Shared Reserve (file_at v.files k)) (ap (λ (x : Subpool). x.max) new_is) (ap (λ (x : Subpool). x.min) new_is)
+        let new_one : Map = new_map task number a n Shared Reserve in
+        let one_more = All-append (λ (x : Map). is_shared x.sharing ≡ true) (file_at v.files k).maps (new_one ∷ []) shared_here (All-cons (λ (x : Map). is_shared x.sharing ≡ true) new_one [] refl (All-nil (λ (x : Map). is_shared x.sharing ≡ true))) in
+        grown new w (mapped task number a n Shared Reserve (file_at v.files k)) 0 0 (asked Shared Reserve a n (file_at v.files k)) (mapped_grows task number a n Shared Reserve (file_at v.files k)) one_more (ap (λ (x : Subpool). x.max) new_is) (ap (λ (x : Subpool). x.min) new_is)
         (pages_is ∙ plain) (omega (arith, held_is, pages_is, more_is)) (omega (arith, held_is, room_is)) (ap (λ (x : Files). x.going) w_is) (ap (λ (x : Files). x.files) w_is)
 
     pub map_left : mount_of new inodes w.files ≡ with_file m k (mapped task number a n Shared Reserve (file_in m k))
@@ -175,4 +186,8 @@ module _ (s : Subpool) (v w : Files) (inodes : Option ℕ) (c : IsKept s v (moun
   room_left = ap (λ (x : Files). mount_of s inodes x.files) w_is
 
   pub room_kept : v.room ≤ w.room → IsKept s w (mount_of s inodes w.files)
-  room_kept more = (let room = c.room in subst (λ n. IsKept s w n) (sym room_left) (record { pages = c.pages; used = c.used; room = omega (arith, room, more); going = ap (λ (x : Files). x.going) w_is ∙ c.going; sound = c.sound }))
+  room_kept more = (let room = c.room in subst (λ n. IsKept s w n) (sym room_left) (record { pages = c.pages; used = c.used; room = omega (arith, room, more); going = ap (λ (x : Files). x.going) w_is ∙ c.going; sound = c.sound; plain = c.plain }))
+
+-- a map that is found is shared
+pub found_shared : (s : Subpool) (v : Files) (inodes : Option ℕ) → IsKept s v (mount_of s inodes v.files) → (k j : ℕ) → k < length v.files → j < length (file_at v.files k).maps → is_shared (map_in (file_in (mount_of s inodes v.files) k) j).sharing ≡ true
+found_shared s v inodes c k j l jl = All-get_or (λ (x : Map). is_shared x.sharing ≡ true) (file_at v.files k).maps j no_map jl (shared_here s v inodes c k l)

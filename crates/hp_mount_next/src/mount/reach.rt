@@ -211,7 +211,6 @@ impl<N: Naming> Mount<N> {
         requires shares { (s : ShareValue) → D.share_of s ≡ s }
         requires pages { (p : PageValue) → D.page_of p ≡ p }
         requires ready { D.is_ready door.old }
-        requires shared { (s : Spot) → spot self.old (is_map access.now.task access.now.map) ≡ Some s → is_shared s.map.sharing ≡ true }
         ensures done { (k : ℕ) → IsDone D.took D.is_full N.page_bytes k (Some self.old) door.old (Fault access.now.task home access.now.map access.now.index intent) result (Some self.new) door.new }
         ensures left { D.is_left door.new }
         ensures memory { (s : Spot) → spot self.old (is_map access.now.task access.now.map) ≡ Some s → is_entered (cell_at s.file access.now.index) ≡ true → result ≢ Err Refusal.OutOfMemory }
@@ -241,7 +240,6 @@ impl<N: Naming> Mount<N> {
         requires pages { (p : PageValue) → D.page_of p ≡ p }
         requires ready { D.is_ready door.old }
         requires page_bytes { page_bytes ≡ N.page_bytes }
-        requires shared { (s : Spot) → spot self.old (is_map access.now.task access.now.map) ≡ Some s → is_shared s.map.sharing ≡ true }
         ensures done { (k : ℕ) → IsDone D.took D.is_full N.page_bytes k (Some self.old) door.old (Load access.now.task home access.now.map access.now.index access.now.offset count) result (Some self.new) door.new }
         ensures left { D.is_left door.new }
         ensures memory { (s : Spot) → spot self.old (is_map access.now.task access.now.map) ≡ Some s → is_entered (cell_at s.file access.now.index) ≡ true → result ≢ Err Refusal.OutOfMemory }
@@ -271,7 +269,6 @@ impl<N: Naming> Mount<N> {
         requires pages { (p : PageValue) → D.page_of p ≡ p }
         requires ready { D.is_ready door.old }
         requires page_bytes { page_bytes ≡ N.page_bytes }
-        requires shared { (s : Spot) → spot self.old (is_map access.now.task access.now.map) ≡ Some s → is_shared s.map.sharing ≡ true }
         ensures done { (k : ℕ) → IsDone D.took D.is_full N.page_bytes k (Some self.old) door.old (Store access.now.task home access.now.map access.now.index access.now.offset bytes.now) result (Some self.new) door.new }
         ensures left { D.is_left door.new }
         ensures memory { (s : Spot) → spot self.old (is_map access.now.task access.now.map) ≡ Some s → is_entered (cell_at s.file access.now.index) ≡ true → result ≢ Err Refusal.OutOfMemory }

@@ -1,14 +1,15 @@
-use Rattle.std.proofs.Common.{◌≡◌, ◌<◌, Bool, List, length, Some, None, Ok, Err, refl, sym, ap, subst, ◌∙◌}
+use Rattle.std.proofs.Common.{true, ◌≡◌, ◌<◌, Bool, List, length, Some, None, Ok, Err, refl, sym, ap, subst, ◌∙◌}
 use Rattle.hp_model.specs.declared.answer.Answer.TheVariants.{Done}
 use Rattle.hp_model.specs.declared.limits.Limits.{Limits}
 use Rattle.hp_model.specs.Access.{access}
 use Rattle.hp_model.specs.File.{Mount}
-use Rattle.hp_model.specs.Mapping.{is_map}
+use Rattle.hp_model.specs.Mapping.{is_map, is_shared}
 use Rattle.hp_model.specs.Plan.{Choice, Plan}
 use Rattle.hp_model.specs.Spot.{Spot, spot}
 use Rattle.hp_mount_next.specs.Done.{Tried, done}
 use Rattle.hp_mount_next.specs.Found.{spot_at, first_of, fault_tests}
 use Rattle.hp_mount_next.proofs.Commands.{entered_there, not_memory, bare_missing, bare_tested, bare_went, fault_tests_are}
+use Rattle.hp_mount_next.proofs.Keeping.{found_shared}
 use Rattle.hp_mount_next.proofs.mount.Mount.fault.Goals as goal
 
 pub returns-in_default-clause-done : goal.returns-in_default-clause-done
@@ -45,7 +46,7 @@ reach-requires-clause-shared g c =
     let at = c.in-Some.at in
     let s = spot_at m at.file at.map in
     let found = subst (λ (x : Mount). spot x (is_map a.task a.map) ≡ Some (spot_at x at.file at.map)) c.self.view_is (c.in-Some.ensures.some.is limits) in
-    c.requires.shared s found
+    subst (λ (x : Mount). is_shared (spot_at x at.file at.map).map.sharing ≡ true) c.self.view_is (found_shared o.share o.files o.inodes c.self.invariant at.file at.map c.in-Some.ensures.some.file_within c.in-Some.ensures.some.map_within)
 
 pub returns-in-Ok-clause-done : goal.returns-in-Ok-clause-done
 returns-in-Ok-clause-done g c k =

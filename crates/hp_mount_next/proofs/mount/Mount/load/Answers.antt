@@ -1,11 +1,11 @@
-use Rattle.std.proofs.Common.{◌≡◌, ◌<◌, Bool, List, length, Some, None, Ok, Err, refl, sym, ap, subst, ◌∙◌}
+use Rattle.std.proofs.Common.{true, ◌≡◌, ◌<◌, Bool, List, length, Some, None, Ok, Err, refl, sym, ap, subst, ◌∙◌}
 use Rattle.hp_model.specs.declared.answer.Answer.TheVariants.{Done}
 use Rattle.hp_model.specs.declared.limits.Limits.{Limits}
 use Rattle.hp_model.specs.declared.refusal.Refusal.{Refusal}
 use Rattle.hp_model.specs.declared.step.Intent.TheVariants.{Read}
 use Rattle.hp_model.specs.Access.{access}
 use Rattle.hp_model.specs.File.{Mount}
-use Rattle.hp_model.specs.Mapping.{is_map}
+use Rattle.hp_model.specs.Mapping.{is_map, is_shared}
 use Rattle.hp_model.specs.Plan.{Choice, Plan, Outcome, Answered}
 use Rattle.hp_model.specs.Promises.{file_in}
 use Rattle.hp_model.specs.SlotEvent.{bytes_answer}
@@ -14,6 +14,7 @@ use Rattle.hp_model.specs.Value.{value}
 use Rattle.hp_mount_next.specs.Done.{Tried, done}
 use Rattle.hp_mount_next.specs.Found.{spot_at, first_of, byte_tests}
 use Rattle.hp_mount_next.proofs.Commands.{entered_there, not_memory, missing, tested, denied, went, byte_tests_are, again_is}
+use Rattle.hp_mount_next.proofs.Keeping.{found_shared}
 use Rattle.hp_mount_next.proofs.mount.Mount.load.Goals as goal
 
 pub returns-in_default-clause-done : goal.returns-in_default-clause-done
@@ -53,7 +54,7 @@ reach-requires-clause-shared g c =
     let at = c.in-Some.at in
     let s = spot_at m at.file at.map in
     let found = subst (λ (x : Mount). spot x (is_map a.task a.map) ≡ Some (spot_at x at.file at.map)) c.self.view_is (c.in-Some.ensures.some.is limits) in
-    c.requires.shared s found
+    subst (λ (x : Mount). is_shared (spot_at x at.file at.map).map.sharing ≡ true) c.self.view_is (found_shared o.share o.files o.inodes c.self.invariant at.file at.map c.in-Some.ensures.some.file_within c.in-Some.ensures.some.map_within)
 
 pub returns-in-Err-clause-done : goal.returns-in-Err-clause-done
 returns-in-Err-clause-done g c k =

@@ -1,17 +1,18 @@
-use Rattle.std.proofs.Common.{◌≡◌, ◌<◌, Bool, List, length, Some, None, Ok, Err, refl, sym, ap, subst, ◌∙◌, arith}
+use Rattle.std.proofs.Common.{true, ◌≡◌, ◌<◌, Bool, List, length, Some, None, Ok, Err, refl, sym, ap, subst, ◌∙◌, arith}
 use Rattle.hp_model.specs.declared.answer.Answer.TheVariants.{Done}
 use Rattle.hp_model.specs.declared.limits.Limits.{Limits}
 use Rattle.hp_model.specs.declared.refusal.Refusal.{Refusal}
 use Rattle.hp_model.specs.declared.step.Intent.TheVariants.{Write}
 use Rattle.hp_model.specs.Access.{access}
 use Rattle.hp_model.specs.File.{Mount}
-use Rattle.hp_model.specs.Mapping.{is_map}
+use Rattle.hp_model.specs.Mapping.{is_map, is_shared}
 use Rattle.hp_model.specs.Plan.{Choice, Plan, Outcome, Answered}
 use Rattle.hp_model.specs.Promises.{file_in}
 use Rattle.hp_model.specs.Spot.{Spot, spot, written}
 use Rattle.hp_mount_next.specs.Done.{Tried, done}
 use Rattle.hp_mount_next.specs.Found.{spot_at, first_of, byte_tests}
 use Rattle.hp_mount_next.proofs.Commands.{entered_there, not_memory, missing, tested, denied, went, byte_tests_are, written_is}
+use Rattle.hp_mount_next.proofs.Keeping.{found_shared}
 use Rattle.hp_mount_next.proofs.mount.Mount.store.Goals as goal
 
 pub returns-in_default-clause-done : goal.returns-in_default-clause-done
@@ -51,7 +52,7 @@ reach-requires-clause-shared g c =
     let at = c.in-Some.at in
     let s = spot_at m at.file at.map in
     let found = subst (λ (x : Mount). spot x (is_map a.task a.map) ≡ Some (spot_at x at.file at.map)) c.self.view_is (c.in-Some.ensures.some.is limits) in
-    c.requires.shared s found
+    subst (λ (x : Mount). is_shared (spot_at x at.file at.map).map.sharing ≡ true) c.self.view_is (found_shared o.share o.files o.inodes c.self.invariant at.file at.map c.in-Some.ensures.some.file_within c.in-Some.ensures.some.map_within)
 
 pub returns-in-Err-clause-done : goal.returns-in-Err-clause-done
 returns-in-Err-clause-done g c k =
@@ -91,7 +92,7 @@ returns-clause-done g c k =
     let below = c.in_default-refused.ensures.below in
     went g.D.PoolDoor.took g.D.PoolDoor.is_full m (is_map a.task a.map) tests act cont c.args.door.now s found pass n c.reach.new.door Done (Some c.write.new.self)
           (subst (λ r. Tried g.D.PoolDoor.took g.D.PoolDoor.is_full (λ x. act x s) (Some m) c.args.door.now (done r) (Some n) c.reach.new.door) c.in_default-reach.is c.reach.ensures.done)
-          (refl, ap Some (c.write.ensures ∙ sym (written_is n s a.index a.offset c.args.bytes.now (c.requires.shared s found) (omega (arith, file_within, files)) (omega (arith, below, cells)))))
+          (refl, ap Some (c.write.ensures ∙ sym (written_is n s a.index a.offset c.args.bytes.now (subst (λ (x : Mount). is_shared (spot_at x at.file at.map).map.sharing ≡ true) c.self.view_is (found_shared o.share o.files o.inodes c.self.invariant at.file at.map c.in-Some.ensures.some.file_within c.in-Some.ensures.some.map_within)) (omega (arith, file_within, files)) (omega (arith, below, cells)))))
 
 pub returns-in-Err-clause-memory : goal.returns-in-Err-clause-memory
 returns-in-Err-clause-memory g c s seen entered =
