@@ -1,4 +1,4 @@
-//! A mount with a minimum of two pages on a pool of four, through the pool itself.
+//! A mount of three pages at most on a pool of four, through the pool as its own door.
 ghost use Rattle.std.specs.Prelude.{◌≡◌};
 ghost use Rattle.hp_mount_door.specs.Door.{IsReady};
 
@@ -40,17 +40,83 @@ fn bytes<R: Abort>(rt: &R, alloc: Global, text: &[u8]) -> Bytes {
 fn usage(used: u64, files: u64) -> Answer {
     Answer::Usage {
         max: Some(3),
-        min: 2,
+        min: 0,
         used,
         inodes: Some(2),
         files,
     }
 }
 
-// The free pages and those that are promised.
-fn shows<N: Naming, R: Abort>(rt: &R, pool: &Pool<N>, free: u64, rsvd: u64)
-    requires { IsReady pool.now }
+fn range(start: u64, pages: u64) -> MapRange {
+    MapRange {
+        task: 7,
+        start,
+        pages,
+    }
+}
+
+fn access(map: u64, index: u64) -> MapAccess {
+    MapAccess {
+        task: 7,
+        map,
+        index,
+        offset: 1022,
+    }
+}
+
+// The answer of two bytes.
+fn two(first: u8, second: u8) -> Reply {
+    let mut bytes = [0u8; 256];
+    bytes[0] = first;
+    bytes[1] = second;
+    Ok(Answer::Bytes { count: 2, bytes })
+}
+
+// Each call once. What is stored through one map is loaded through another of the same file.
+fn each_call<N: Naming, R: Abort>(rt: &R, alloc: Global, pool: &mut Pool<N>, mount: &mut Mount<N>)
+    requires ready { IsReady pool.old }
+    requires bytes { N.page_bytes ≡ 1024 }
+    ensures { IsReady pool.new }
 {
-    let now = pool.counts();
-    assert_eq!(rt; [now.free, now.rsvd], [free, rsvd]);
+    let name = bytes(rt, alloc, b"a");
+    assert_eq!(rt; mount.create(&name), Ok(Answer::Done));
+    assert_eq!(rt; mount.create(&name), Err(Refusal::FileExists));
+    assert!(rt; !mount.has_maps());
+    assert_eq!(rt; mount.map(pool, 0, b"b", &range(0, 1)), Err(Refusal::NoSuchFile));
+    assert_eq!(rt; mount.map(pool, 0, b"a", &range(0, 2)), Ok(Answer::MapNo(1)));
+    assert_eq!(rt; mount.map(pool, 0, b"a", &range(1, 1)), Ok(Answer::MapNo(2)));
+    assert_eq!(rt; mount.map(pool, 0, b"a", &range(2, 2)), Err(Refusal::MountFull));
+    assert!(rt; mount.has_maps());
+    assert_eq!(rt; mount.usage(), usage(2, 1));
+    assert_eq!(rt; mount.load(pool, 1024, 0, &access(1, 1), 2), two(0, 0));
+    assert_eq!(rt; mount.store(pool, 1024, 0, &access(1, 1), b"xy"), Ok(Answer::Done));
+    assert_eq!(rt; mount.load(pool, 1024, 0, &access(2, 1), 2), two(120, 121));
+    assert_eq!(rt; mount.load(pool, 1024, 0, &access(2, 0), 2), Err(Refusal::OutOfRange));
+    assert_eq!(rt; mount.load(pool, 1024, 0, &access(2, 1), 3), Err(Refusal::CrossesPage));
+    assert_eq!(rt; mount.fault(pool, 0, &access(1, 0), Intent::Write), Ok(Answer::Done));
+    assert_eq!(rt; mount.fault(pool, 0, &access(3, 0), Intent::Read), Err(Refusal::NoSuchMap));
+    assert_eq!(rt; mount.usage(), usage(2, 1));
+}
+
+fn run<N: Naming, R: Abort>(rt: &R, alloc: Global, blanks: Blanks)
+    requires permits { (blanks.permits.name ≡ N.permits) × (blanks.permits.parts ≡ 18446744073709551615) }
+    requires zero { (blanks.pages.zero.name ≡ N.pages_0) × (blanks.pages.zero.parts ≡ 18446744073709551615) }
+    requires one { (blanks.pages.one.name ≡ N.pages_1) × (blanks.pages.one.parts ≡ 18446744073709551615) }
+    requires two { (blanks.pages.two.name ≡ N.pages_2) × (blanks.pages.two.parts ≡ 18446744073709551615) }
+    requires three { (blanks.pages.three.name ≡ N.pages_3) × (blanks.pages.three.parts ≡ 18446744073709551615) }
+    requires bytes { N.page_bytes ≡ 1024 }
+{
+    let mut pool = Pool::<N>::new(alloc, &[4, 4], 1024, blanks).expect(rt, "memory");
+    pool.set_overcommit(4);
+    let share = Subpool::open(&mut pool, Some(3), 0).expect(rt, "fits");
+    let mut mount = Mount::new(alloc, share, Some(2));
+    each_call(rt, alloc, &mut pool, &mut mount);
+    mount.close(&mut pool);
+    let counts = pool.close();
+    assert_eq!(rt; [counts.total, counts.free, counts.rsvd, counts.surp], [0, 0, 0, 0]);
+}
+
+#[test]
+fn a_mount_through_the_pool(rt: HostRuntime) {
+    run::<Brand, HostRuntime>(&rt, rt.alloc(), blanks());
 }
