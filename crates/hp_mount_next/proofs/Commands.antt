@@ -13,15 +13,14 @@ use Rattle.hp_model.specs.Lists.{edit_at}
 use Rattle.hp_laws.proofs.FileMoves.{FileGrows}
 use Rattle.hp_laws.proofs.CopyWrites.{writes}
 use Rattle.hp_model.specs.LocalRun.{ThroughDoor, Gives}
-use Rattle.hp_model.specs.Mapping.{Map, is_map, is_shared, place_at}
-use Rattle.hp_model.specs.Plan.{Plan, Finish, Ask, Outcome, Refused, Answered, Reply, Slot, Choice, refuse, unless, with_value, and_then}
+use Rattle.hp_model.specs.Mapping.{Map, is_shared, place_at}
+use Rattle.hp_model.specs.Plan.{Plan, Outcome, Reply, Slot, Choice, refuse, unless, with_value, and_then}
 use Rattle.hp_model.specs.Pool.{Section, PoolAnswer}
 use Rattle.hp_model.specs.Promises.{file_in, map_in, no_map}
-use Rattle.hp_model.specs.SlotEvent.{is_unmapped, is_beyond, bytes_answer}
+use Rattle.hp_model.specs.SlotEvent.{is_unmapped, is_beyond}
 use Rattle.hp_model.specs.Spot.{Spot, spot, again, written, file_written, cell_written, map_written}
-use Rattle.hp_model.specs.Value.{value}
 use Rattle.hp_model.specs.declared.step.Intent.{Intent}
-use Rattle.hp_mount_next.specs.Done.{Through, Tried, done}
+use Rattle.hp_mount_next.specs.Done.{Through, Tried}
 use Rattle.hp_mount_next.specs.Found.{spot_at, first_of, byte_tests, fault_tests, IsTouched}
 use Rattle.hp_mount_next.proofs.Ways.{fresh_choice, is_fresh, refused_at, then_goes, then_refused}
 

@@ -1,15 +1,14 @@
 -- A mount that ends.
-use Rattle.std.proofs.Common.{◌≡◌, ℕ, suc, zero, ◌+◌, ◌-◌, ◌<◌, ◌≤◌, ◌==◌, ◌&&◌, Bool, true, false, cond, eqb, List, [], ◌∷◌, Some, None, Ok, length, map, max, refl, sym, ap, subst, ◌∙◌, arith}
-use Rattle.std.specs.List.{count_by, range_with_len, sum, sum_by}
+use Rattle.std.proofs.Common.{◌≡◌, ℕ, suc, zero, ◌+◌, ◌-◌, ◌<◌, ◌==◌, ◌&&◌, Bool, true, false, List, [], ◌∷◌, Some, None, Ok, length, map, refl, sym, ap, subst, ◌∙◌, arith}
+use Rattle.std.specs.List.{count_by, range_with_len, sum}
 use Rattle.std.proofs.lemmas.Bool.{and_parts, cond_both, eqb-true}
-use Rattle.std.proofs.lemmas.Bool.Decides.{nat_tests}
 use Rattle.std.proofs.lemmas.List.{nil_from_length}
 use Rattle.hp_model.specs.declared.answer.Answer.TheVariants.{Done}
 use Rattle.hp_model.specs.File.{Mount}
 use Rattle.hp_model.specs.LocalRun.{ThroughDoor}
-use Rattle.hp_model.specs.MountCounts.{committed_of, file_pages, file_pages_at, pages_at, pages_of, usage_of}
+use Rattle.hp_model.specs.MountCounts.{committed_of, pages_at, pages_of}
 use Rattle.hp_model.specs.Page.{Page}
-use Rattle.hp_model.specs.Plan.{Answered, Ask, Finish, Plan, fall_of, gives, puts_of}
+use Rattle.hp_model.specs.Plan.{Answered, Ask, Finish, fall_of, gives, puts_of}
 use Rattle.hp_model.specs.Pool.{GiveBack, Section, PoolAnswer, granted_at}
 use Rattle.hp_mount_door.specs.Door.{GivesBack, by_node}
 
@@ -45,11 +44,13 @@ module _ {X : Type 0} (took : X → Section → PoolAnswer → X → Type 0) (m 
           let sums : sum puts ≡ 0 = ap sum (sym puts_are) ∙ ap (λ xs. sum (by_node xs)) nil in
           let fall : fall_of (Some m) None ≡ 0 = falls ∙ none in
           ap (λ n. (n == 0) && (fall_of (Some m) None == 0)) sums ∙ ap (λ n. n == 0) fall
+
       something : test ≡ false → 0 < length pages + commitments
       something e = by (length pages) (commitments) refl refl
         where
           clash : true ≡ false → ⊥
           clash e = cc
+
           by : (a b : ℕ) → length pages ≡ a → commitments ≡ b → 0 < length pages + commitments
           by zero zero a_is b_is = absurd (clash (sym (nothing_put b_is a_is) ∙ e))
           by zero (suc b) a_is b_is = omega (arith, b_is)

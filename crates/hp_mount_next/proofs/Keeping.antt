@@ -1,27 +1,24 @@
 -- What a mount keeps, through each change of its files.
-use Rattle.std.proofs.Common.{◌≡◌, ℕ, zero, suc, ◌+◌, ◌-◌, ◌++◌, eqb, ◌<◌, ◌≤◌, max, true, Option, List, [], ◌∷◌, length, Some, None, refl, sym, ap, subst, ◌∙◌, arith}
+use Rattle.std.proofs.Common.{◌≡◌, ℕ, zero, suc, ◌+◌, ◌<◌, ◌≤◌, max, true, Option, List, [], ◌∷◌, length, None, refl, sym, ap, subst, ◌∙◌, arith}
 use Rattle.std.specs.Prelude.{slice_set, slice_index_or}
-use Rattle.std.proofs.lemmas.List.{get_or_default, get_or-set_same, length-set}
+use Rattle.std.proofs.lemmas.List.{get_or_default, get_or-set_same}
 use Rattle.hp_mount_door.specs.Door.{with_page, with_granted, with_reserves}
 use Rattle.hp_model.specs.declared.cell.Cell.{Cell}
 use Rattle.hp_model.specs.declared.cell.Cell.TheVariants.{Hole, Entered, Present}
 use Rattle.hp_model.specs.File.{File, Mount, cell_at, with_cell, with_file, new_file}
 use Rattle.hp_model.specs.Grant as grant
-use Rattle.hp_model.specs.MountCounts.{pages_of, usage_of}
 use Rattle.hp_model.specs.Page.{Page}
 use Rattle.hp_model.specs.Promises.{file_in, map_in, no_map}
 use Rattle.hp_model.specs.declared.step.Reserving.TheVariants.{Reserve}
 use Rattle.hp_model.specs.declared.step.Sharing.TheVariants.{Shared}
 use Rattle.std.proofs.lemmas.List.Elements.{All-append, All-cons, All-get_or, All-nil, All-set}
-use Rattle.hp_model.specs.Sound.{IsAgreed}
-use Rattle.hp_model.specs.MakeMap.{asked, mapped, new_map, with_new}
+use Rattle.hp_model.specs.MakeMap.{asked, mapped, new_map}
 use Rattle.hp_model.specs.Mapping.{Map, is_shared}
 use Rattle.hp_laws.proofs.Maps.{mapped_grows}
 use Rattle.hp_laws.proofs.FileMoves as moves
 use Rattle.hp_laws.proofs.FileMoves.{FileGrows}
-use Rattle.hp_laws.proofs.MountMoves.{MountGrows, IsFileAt, file_grows, new_grows, nothing_more}
+use Rattle.hp_laws.proofs.MountMoves.{MountGrows, IsFileAt, file_grows}
 use Rattle.hp_mount_files.specs.Files.{Files, file_at, filled_at, mapped_at, with_cell_at}
-use Rattle.hp_mount_next.specs.Found.{IsTouched}
 use Rattle.hp_mount_next.specs.Kept.{AreShared, IsKept, mount_of}
 use Rattle.hp_subpool.specs.Subpool as share
 use Rattle.hp_subpool.specs.Subpool.{Subpool, used}

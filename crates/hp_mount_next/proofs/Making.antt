@@ -1,6 +1,6 @@
 -- Files and maps that are made, by what code did.
-use Rattle.std.proofs.Common.{◌≡◌, ℕ, suc, ◌+◌, ◌<◌, ◌≤◌, ◌==◌, Bool, true, false, cond, List, [], ◌∷◌, Option, Some, None, Ok, Err, length, refl, sym, ap, subst, ◌∙◌, arith}
-use Rattle.std.specs.Prelude.{Result, ◌||◌, nat_lt}
+use Rattle.std.proofs.Common.{◌≡◌, ℕ, ◌+◌, ◌<◌, ◌==◌, Bool, true, false, cond, List, [], ◌∷◌, Option, Some, None, Ok, Err, length, refl, sym, ap, subst, ◌∙◌, arith}
+use Rattle.std.specs.Prelude.{◌||◌, nat_lt}
 use Rattle.std.proofs.lemmas.Bool.Decides.{nat_tests}
 use Rattle.hp_model.specs.declared.answer.Answer.{Answer}
 use Rattle.hp_model.specs.declared.answer.Answer.TheVariants.{Done, MapNo, Usage as UsageAnswer}
@@ -9,9 +9,9 @@ use Rattle.hp_model.specs.declared.refusal.Refusal.{Refusal}
 use Rattle.hp_model.specs.declared.refusal.Refusal.TheVariants as r
 use Rattle.hp_model.specs.declared.step.Reserving.TheVariants.{Reserve}
 use Rattle.hp_model.specs.declared.step.Sharing.TheVariants.{Shared}
-use Rattle.hp_model.specs.File.{File, Mount, new_file, with_file}
+use Rattle.hp_model.specs.File.{Mount, new_file, with_file}
 use Rattle.hp_model.specs.Grant.{is_full, rise}
-use Rattle.hp_model.specs.LocalRun.{Gives, ThroughDoor}
+use Rattle.hp_model.specs.LocalRun.{ThroughDoor}
 use Rattle.hp_model.specs.MountCounts.{usage_of}
 use Rattle.hp_model.specs.MakeMap.{asked, mapped, next_number, with_new}
 use Rattle.hp_model.specs.Plan.{Answered, Ask, Choice, Finish, Outcome, Plan, Refused, Reply, Slot, grant, refuse, unless, when_granted, with_value}
@@ -21,11 +21,11 @@ use Rattle.hp_model.specs.Promises.{file_in}
 use Rattle.hp_model.specs.SlotEvent.{are_too_many_maps, file_named, map_file, slot_event}
 use Rattle.hp_mount_files.specs.Asking.{IsAsked, IsGranted}
 use Rattle.hp_mount_files.specs.Files.{Files}
-use Rattle.hp_mount_next.specs.Alone.{EndsAtOnce, IsDoneAlone}
-use Rattle.hp_mount_next.specs.Done.{IsDone, Through, Tried}
+use Rattle.hp_mount_next.specs.Alone.{IsDoneAlone}
+use Rattle.hp_mount_next.specs.Done.{Through, Tried}
 use Rattle.hp_mount_next.specs.Found.{first_of}
 use Rattle.hp_mount_next.specs.Kept.{IsKept, mount_of}
-use Rattle.hp_mount_next.specs.Making.{create_tests, map_tests, numbered}
+use Rattle.hp_mount_next.specs.Making.{create_tests, map_tests}
 use Rattle.hp_mount_next.proofs.Commands.{tests_fail, tests_pass, tried_as}
 use Rattle.hp_mount_next.proofs.Ways.{fresh_choice, is_fresh, refused_at}
 use Rattle.hp_subpool.specs.Subpool as share
@@ -42,8 +42,8 @@ usage_alone s v inodes kept max ino min used n max_is min_is used_is ino_is n_is
       fresh = is_fresh false (Some m);
       outcome = Answered (UsageAnswer max min used ino n) (Some m);
       ends = sym (ap (λ x. Finish (Answered (UsageAnswer x min used ino n) (Some m))) max_is ∙ ap (λ x. Finish (Answered (UsageAnswer s.max x used ino n) (Some m))) min_is
-      ∙ ap (λ x. Finish (Answered (UsageAnswer s.max s.min x ino n) (Some m))) (used_is ∙ kept.used) ∙ ap (λ x. Finish (Answered (UsageAnswer s.max s.min (usage_of m) x n) (Some m))) ino_is
-      ∙ ap (λ x. Finish (Answered (UsageAnswer s.max s.min (usage_of m) inodes x) (Some m))) n_is);
+          ∙ ap (λ x. Finish (Answered (UsageAnswer s.max s.min x ino n) (Some m))) (used_is ∙ kept.used) ∙ ap (λ x. Finish (Answered (UsageAnswer s.max s.min (usage_of m) x n) (Some m))) ino_is
+          ∙ ap (λ x. Finish (Answered (UsageAnswer s.max s.min (usage_of m) inodes x) (Some m))) n_is);
       gives = (refl, refl);
     }
 

@@ -1,5 +1,5 @@
 -- An access through a shared map, by what code did.
-use Rattle.std.proofs.Common.{◌≡◌, ℕ, ◌+◌, ◌<◌, Bool, true, false, cond, List, Some, None, Ok, Err, length, refl, sym, ap, subst, ◌∙◌, arith}
+use Rattle.std.proofs.Common.{◌≡◌, ℕ, ◌<◌, true, false, Some, None, Ok, Err, length, refl, sym, ap, subst, ◌∙◌}
 use Rattle.std.proofs.lemmas.List.{get_or-set_same, length-set}
 use Rattle.hp_mount_door.specs.Door.{IsDoorRefusal}
 use Rattle.hp_model.specs.declared.answer.Answer.TheVariants.{Done}
@@ -13,13 +13,13 @@ use Rattle.hp_model.specs.File.{File, Mount, cell_at, with_cell, with_file, new_
 use Rattle.hp_model.specs.Grant.{is_full, rise}
 use Rattle.hp_model.specs.LocalRun.{ThroughDoor}
 use Rattle.hp_model.specs.Page.{Page, zeros}
-use Rattle.hp_model.specs.Plan.{Choice, Outcome, Plan, Reply, Slot, grant_page, reserved_page}
+use Rattle.hp_model.specs.Plan.{Choice, Outcome, Plan, Reply, Slot, grant_page}
 use Rattle.hp_model.specs.Pool.{Section, GrantPage, TakePage, PoolAnswer, granted_at, no_pages}
 use Rattle.hp_model.specs.Promises.{file_in}
 use Rattle.hp_model.specs.Spot.{Spot, filled}
-use Rattle.hp_mount_next.specs.Done.{Through, Tried, done}
+use Rattle.hp_mount_next.specs.Done.{Through, Tried}
 use Rattle.hp_mount_next.specs.Found.{IsTouched}
-use Rattle.hp_mount_next.proofs.Ways.{fresh_choice, is_fresh, at_once, page_full, page_without_memory, page_denied, page_granted, page_reserved}
+use Rattle.hp_mount_next.proofs.Ways.{fresh_choice, is_fresh, page_full, page_without_memory, page_denied, page_granted, page_reserved}
 
 module _ {X : Type 0} (took : X → Section → PoolAnswer → X → Type 0) (full : X → Type 0) (size : ℕ) (m : Mount) (home k i : ℕ) (s : Spot) (no : s.file_no ≡ k) (file : s.file ≡ file_in m k) (door : X) where
   abbrev f : File

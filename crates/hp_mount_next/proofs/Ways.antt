@@ -1,12 +1,9 @@
 -- The ways that a plan goes through a door, as code takes them. Nothing here names a command.
-use Rattle.std.proofs.Common.{◌≡◌, ℕ, suc, ◌+◌, ◌<◌, ◌≤◌, ◌==◌, Bool, true, false, not, cond, Some, None, Ok, Err, List, [], ◌∷◌, refl, sym, ap, subst, ◌∙◌, arith}
-use Rattle.std.specs.Prelude.{◌||◌, Result}
-use Rattle.std.specs.Bool.{IsTrue}
-use Rattle.std.specs.List.{sum, list_any}
+use Rattle.std.proofs.Common.{◌≡◌, ℕ, suc, ◌<◌, ◌==◌, Bool, true, false, cond, Some, None, Ok, Err, List, [], ◌∷◌, refl, sym, ap, subst, ◌∙◌, arith}
+use Rattle.std.specs.Prelude.{◌||◌}
+use Rattle.std.specs.List.{sum}
 use Rattle.std.proofs.lemmas.List.Sums.{sum_by-cons}
-use Rattle.hp_mount_door.specs.Door.{IsDoorRefusal}
 use Rattle.hp_model.specs.declared.answer.Answer.{Answer}
-use Rattle.hp_model.specs.declared.answer.Answer.TheVariants.{Done}
 use Rattle.hp_model.specs.declared.refusal.Refusal.{Refusal}
 use Rattle.hp_model.specs.declared.refusal.Refusal.TheVariants as r
 use Rattle.hp_model.specs.Event.{IsFresh, stamps_in}
@@ -14,9 +11,8 @@ use Rattle.hp_model.specs.File.{Mount}
 use Rattle.hp_model.specs.Grant.{is_full, rise}
 use Rattle.hp_model.specs.Lists.{is_among}
 use Rattle.hp_model.specs.LocalRun.{ThroughDoor, Gives}
-use Rattle.hp_model.specs.Plan.{Plan, Finish, Ask, Outcome, Refused, Answered, Reply, Slot, Choice, refuse, unless, continued, and_then, grant_page, reserved_page, when_granted}
+use Rattle.hp_model.specs.Plan.{Plan, Finish, Ask, Outcome, Refused, Answered, Reply, Slot, Choice, refuse, continued, and_then, grant_page, reserved_page, when_granted}
 use Rattle.hp_model.specs.Pool.{Section, GrantPage, TakePage, PoolAnswer, granted_at, no_pages}
-use Rattle.hp_mount_next.specs.Done.{Through, Tried, done}
 
 -- ---- a fresh stamp
 

@@ -82,19 +82,46 @@ fn each_call<N: Naming, R: Abort>(rt: &R, alloc: Global, pool: &mut Pool<N>, mou
     assert_eq!(rt; mount.create(&name), Ok(Answer::Done));
     assert_eq!(rt; mount.create(&name), Err(Refusal::FileExists));
     assert!(rt; !mount.has_maps());
-    assert_eq!(rt; mount.map(pool, 0, b"b", &range(0, 1)), Err(Refusal::NoSuchFile));
-    assert_eq!(rt; mount.map(pool, 0, b"a", &range(0, 2)), Ok(Answer::MapNo(1)));
-    assert_eq!(rt; mount.map(pool, 0, b"a", &range(1, 1)), Ok(Answer::MapNo(2)));
-    assert_eq!(rt; mount.map(pool, 0, b"a", &range(2, 2)), Err(Refusal::MountFull));
+    assert_eq!(rt;
+        mount.map(pool, 0, b"b", &range(0, 1)),
+        Err(Refusal::NoSuchFile)
+    );
+    assert_eq!(rt;
+        mount.map(pool, 0, b"a", &range(0, 2)),
+        Ok(Answer::MapNo(1))
+    );
+    assert_eq!(rt;
+        mount.map(pool, 0, b"a", &range(1, 1)),
+        Ok(Answer::MapNo(2))
+    );
+    assert_eq!(rt;
+        mount.map(pool, 0, b"a", &range(2, 2)),
+        Err(Refusal::MountFull)
+    );
     assert!(rt; mount.has_maps());
     assert_eq!(rt; mount.usage(), usage(2, 1));
     assert_eq!(rt; mount.load(pool, 1024, 0, &access(1, 1), 2), two(0, 0));
-    assert_eq!(rt; mount.store(pool, 1024, 0, &access(1, 1), b"xy"), Ok(Answer::Done));
+    assert_eq!(rt;
+        mount.store(pool, 1024, 0, &access(1, 1), b"xy"),
+        Ok(Answer::Done)
+    );
     assert_eq!(rt; mount.load(pool, 1024, 0, &access(2, 1), 2), two(120, 121));
-    assert_eq!(rt; mount.load(pool, 1024, 0, &access(2, 0), 2), Err(Refusal::OutOfRange));
-    assert_eq!(rt; mount.load(pool, 1024, 0, &access(2, 1), 3), Err(Refusal::CrossesPage));
-    assert_eq!(rt; mount.fault(pool, 0, &access(1, 0), Intent::Write), Ok(Answer::Done));
-    assert_eq!(rt; mount.fault(pool, 0, &access(3, 0), Intent::Read), Err(Refusal::NoSuchMap));
+    assert_eq!(rt;
+        mount.load(pool, 1024, 0, &access(2, 0), 2),
+        Err(Refusal::OutOfRange)
+    );
+    assert_eq!(rt;
+        mount.load(pool, 1024, 0, &access(2, 1), 3),
+        Err(Refusal::CrossesPage)
+    );
+    assert_eq!(rt;
+        mount.fault(pool, 0, &access(1, 0), Intent::Write),
+        Ok(Answer::Done)
+    );
+    assert_eq!(rt;
+        mount.fault(pool, 0, &access(3, 0), Intent::Read),
+        Err(Refusal::NoSuchMap)
+    );
     assert_eq!(rt; mount.usage(), usage(2, 1));
 }
 
@@ -113,7 +140,10 @@ fn run<N: Naming, R: Abort>(rt: &R, alloc: Global, blanks: Blanks)
     each_call(rt, alloc, &mut pool, &mut mount);
     mount.close(&mut pool);
     let counts = pool.close();
-    assert_eq!(rt; [counts.total, counts.free, counts.rsvd, counts.surp], [0, 0, 0, 0]);
+    assert_eq!(rt;
+        [counts.total, counts.free, counts.rsvd, counts.surp],
+        [0, 0, 0, 0]
+    );
 }
 
 #[test]

@@ -17,11 +17,11 @@ ghost use Rattle.hp_mount_next.specs.Done.{Tried, IsDone, done};
 ghost use Rattle.hp_mount_next.specs.Found.{IsTouched, spot_at, first_of, byte_tests, fault_tests};
 
 use super::Mount;
-use hp_mount_door::PoolDoor;
 use hp_model::answer::{Answer, Reply};
 use hp_model::naming::Naming;
 use hp_model::refusal::Refusal;
 use hp_model::step::Intent;
+use hp_mount_door::PoolDoor;
 use hp_mount_files::{CellState, MapPlace};
 use hp_nodes::Page;
 use hp_subpool::Subpool;

@@ -1,13 +1,12 @@
-use Rattle.std.proofs.Common.{◌≡◌, ◌<◌, ℕ, Ok, Err, Some, length, refl, sym, ap, subst, ◌∙◌, arith}
+use Rattle.std.proofs.Common.{◌<◌, Ok, Err, Some, length, refl, sym, ap, subst, ◌∙◌}
 use Rattle.hp_model.specs.declared.answer.Answer.TheVariants.{MapNo}
 use Rattle.hp_model.specs.declared.step.Reserving.TheVariants.{Reserve}
 use Rattle.hp_model.specs.declared.step.Sharing.TheVariants.{Shared}
-use Rattle.hp_model.specs.File.{File, Mount, with_file}
+use Rattle.hp_model.specs.File.{Mount, with_file}
 use Rattle.hp_model.specs.Grant.{is_full, rise}
 use Rattle.hp_model.specs.MakeMap.{asked, mapped}
 use Rattle.hp_model.specs.Promises.{file_in}
 use Rattle.hp_mount_files.specs.Asking.{IsAsked, IsGranted}
-use Rattle.hp_mount_files.specs.Files.{Files}
 use Rattle.hp_model.specs.Plan.{Answered, grant}
 use Rattle.hp_mount_next.specs.Done.{Tried}
 use Rattle.hp_mount_next.specs.Kept.{mount_of}

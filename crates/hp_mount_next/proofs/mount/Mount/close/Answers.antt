@@ -1,5 +1,4 @@
-use Rattle.std.proofs.Common.{◌≡◌, ℕ, List, Ok, None, Some, length, ap, subst, sym, ◌∙◌, arith}
-use Rattle.std.specs.List.{sum_by}
+use Rattle.std.proofs.Common.{List, Ok, None, Some, ap, subst, arith}
 use Rattle.hp_model.specs.declared.answer.Answer.TheVariants.{Done}
 use Rattle.hp_model.specs.File.{Mount}
 use Rattle.hp_model.specs.LocalRun.{ThroughDoor}
@@ -8,7 +7,7 @@ use Rattle.hp_model.specs.Plan.{gives}
 use Rattle.hp_mount_door.specs.Door.{GivesBack}
 use Rattle.hp_mount_next.specs.Kept.{mount_of}
 use Rattle.hp_mount_next.proofs.Ending.{ended}
-use Rattle.hp_subpool.specs.Subpool.{Subpool, committed_of}
+use Rattle.hp_subpool.specs.Subpool.{committed_of}
 use Rattle.hp_mount_next.proofs.mount.Mount.close.Goals as goal
 
 pub returns-clause-done : goal.returns-clause-done

@@ -1,4 +1,4 @@
-use Rattle.std.proofs.Common.{◌≡◌, List, ℕ, Some, sym, ap, ◌∙◌}
+use Rattle.std.proofs.Common.{List, ℕ, Some, sym, ap, ◌∙◌}
 use Rattle.hp_model.specs.File.{Mount, new_file}
 use Rattle.hp_model.specs.MakeMap.{with_new}
 use Rattle.hp_mount_files.specs.Files.{Files}

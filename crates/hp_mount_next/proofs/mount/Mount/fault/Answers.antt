@@ -1,13 +1,13 @@
-use Rattle.std.proofs.Common.{true, ◌≡◌, ◌<◌, Bool, List, length, Some, None, Ok, Err, refl, sym, ap, subst, ◌∙◌}
+use Rattle.std.proofs.Common.{true, ◌≡◌, Some, None, Ok, Err, sym, subst, ◌∙◌}
 use Rattle.hp_model.specs.declared.answer.Answer.TheVariants.{Done}
 use Rattle.hp_model.specs.declared.limits.Limits.{Limits}
 use Rattle.hp_model.specs.Access.{access}
 use Rattle.hp_model.specs.File.{Mount}
 use Rattle.hp_model.specs.Mapping.{is_map, is_shared}
-use Rattle.hp_model.specs.Plan.{Choice, Plan}
+use Rattle.hp_model.specs.Plan.{Choice}
 use Rattle.hp_model.specs.Spot.{Spot, spot}
 use Rattle.hp_mount_next.specs.Done.{Tried, done}
-use Rattle.hp_mount_next.specs.Found.{spot_at, first_of, fault_tests}
+use Rattle.hp_mount_next.specs.Found.{spot_at, fault_tests}
 use Rattle.hp_mount_next.proofs.Commands.{entered_there, not_memory, bare_missing, bare_tested, bare_went, fault_tests_are}
 use Rattle.hp_mount_next.proofs.Keeping.{found_shared}
 use Rattle.hp_mount_next.proofs.mount.Mount.fault.Goals as goal
@@ -62,7 +62,7 @@ returns-in-Ok-clause-done g c k =
     let found = subst (λ (x : Mount). spot x (is_map a.task a.map) ≡ Some (spot_at x at.file at.map)) c.self.view_is (c.in-Some.ensures.some.is limits) in
     let pass = sym c.refused_fault.ensures.refused ∙ c.in_default-refused_fault.is in
     bare_went g.D.PoolDoor.took g.D.PoolDoor.is_full m (is_map a.task a.map) tests act c.args.door.now s found pass (Ok Done) (Some c.reach.new.self) c.reach.new.door
-          (subst (λ r. Tried g.D.PoolDoor.took g.D.PoolDoor.is_full (λ x. act x s) (Some m) c.args.door.now (done r) (Some c.reach.new.self) c.reach.new.door) c.in-Ok.is c.reach.ensures.done)
+    (subst (λ r. Tried g.D.PoolDoor.took g.D.PoolDoor.is_full (λ x. act x s) (Some m) c.args.door.now (done r) (Some c.reach.new.self) c.reach.new.door) c.in-Ok.is c.reach.ensures.done)
 
 pub returns-in-Err-clause-done : goal.returns-in-Err-clause-done
 returns-in-Err-clause-done g c k =
@@ -78,7 +78,7 @@ returns-in-Err-clause-done g c k =
     let found = subst (λ (x : Mount). spot x (is_map a.task a.map) ≡ Some (spot_at x at.file at.map)) c.self.view_is (c.in-Some.ensures.some.is limits) in
     let pass = sym c.refused_fault.ensures.refused ∙ c.in_default-refused_fault.is in
     bare_went g.D.PoolDoor.took g.D.PoolDoor.is_full m (is_map a.task a.map) tests act c.args.door.now s found pass (Err c.in-Err.refusal) (Some c.reach.new.self) c.reach.new.door
-          (subst (λ r. Tried g.D.PoolDoor.took g.D.PoolDoor.is_full (λ x. act x s) (Some m) c.args.door.now (done r) (Some c.reach.new.self) c.reach.new.door) c.in-Err.is c.reach.ensures.done)
+    (subst (λ r. Tried g.D.PoolDoor.took g.D.PoolDoor.is_full (λ x. act x s) (Some m) c.args.door.now (done r) (Some c.reach.new.self) c.reach.new.door) c.in-Err.is c.reach.ensures.done)
 
 pub returns-in-Err-clause-memory : goal.returns-in-Err-clause-memory
 returns-in-Err-clause-memory g c s seen entered =

@@ -1,7 +1,7 @@
-use Rattle.std.proofs.Common.{◌≡◌, ◌<◌, ◌+◌, ◌≤◌, Bool, true, false, Some, None, length, refl, sym, ap, subst, ◌∙◌, arith, rules, tests}
+use Rattle.std.proofs.Common.{◌≡◌, ◌<◌, length, refl, sym, ap, subst, ◌∙◌, arith}
 use Rattle.hp_mount_door.specs.Door.{with_granted, IsDoorRefusal}
 use Rattle.hp_model.specs.File.{Mount, cell_at, with_cell, with_file}
-use Rattle.hp_model.specs.declared.cell.Cell.TheVariants.{Hole, Entered, Present}
+use Rattle.hp_model.specs.declared.cell.Cell.TheVariants.{Hole, Present}
 use Rattle.hp_model.specs.Grant as grant
 use Rattle.hp_model.specs.Page.{Page}
 use Rattle.hp_model.specs.Pool.{GrantPage, granted_at, no_pages}

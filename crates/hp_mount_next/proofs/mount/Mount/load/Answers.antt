@@ -1,12 +1,10 @@
-use Rattle.std.proofs.Common.{true, ◌≡◌, ◌<◌, Bool, List, length, Some, None, Ok, Err, refl, sym, ap, subst, ◌∙◌}
-use Rattle.hp_model.specs.declared.answer.Answer.TheVariants.{Done}
+use Rattle.std.proofs.Common.{true, ◌≡◌, ◌<◌, length, Some, None, Ok, refl, sym, ap, subst, ◌∙◌}
 use Rattle.hp_model.specs.declared.limits.Limits.{Limits}
-use Rattle.hp_model.specs.declared.refusal.Refusal.{Refusal}
 use Rattle.hp_model.specs.declared.step.Intent.TheVariants.{Read}
 use Rattle.hp_model.specs.Access.{access}
 use Rattle.hp_model.specs.File.{Mount}
 use Rattle.hp_model.specs.Mapping.{is_map, is_shared}
-use Rattle.hp_model.specs.Plan.{Choice, Plan, Outcome, Answered}
+use Rattle.hp_model.specs.Plan.{Choice, Outcome, Answered}
 use Rattle.hp_model.specs.Promises.{file_in}
 use Rattle.hp_model.specs.SlotEvent.{bytes_answer}
 use Rattle.hp_model.specs.Spot.{Spot, spot, again}
@@ -43,7 +41,7 @@ returns-in-Some-refused-clause-done g c k =
     let s = spot_at m at.file at.map in
     let found = subst (λ (x : Mount). spot x (is_map a.task a.map) ≡ Some (spot_at x at.file at.map)) c.self.view_is (c.in-Some.ensures.some.is limits) in
     tested g.D.PoolDoor.took g.D.PoolDoor.is_full m (is_map a.task a.map) tests act cont c.args.door.now s found (byte_tests_are size s a.index a.offset c.args.count) c.in-Some-refused.refusal
-          (subst (λ n. first_of (byte_tests n s a.index a.offset c.args.count) ≡ Some c.in-Some-refused.refusal) c.requires.page_bytes (sym c.refused.ensures.refused ∙ c.in-Some-refused.is))
+    (subst (λ n. first_of (byte_tests n s a.index a.offset c.args.count) ≡ Some c.in-Some-refused.refusal) c.requires.page_bytes (sym c.refused.ensures.refused ∙ c.in-Some-refused.is))
 
 pub reach-requires-clause-shared : goal.reach-requires-clause-shared
 reach-requires-clause-shared g c =
@@ -71,7 +69,7 @@ returns-in-Err-clause-done g c k =
     let found = subst (λ (x : Mount). spot x (is_map a.task a.map) ≡ Some (spot_at x at.file at.map)) c.self.view_is (c.in-Some.ensures.some.is limits) in
     let pass = subst (λ n. first_of (byte_tests n s a.index a.offset c.args.count) ≡ None) c.requires.page_bytes (sym c.refused.ensures.refused ∙ c.in_default-refused.is) in
     denied g.D.PoolDoor.took g.D.PoolDoor.is_full m (is_map a.task a.map) tests act cont c.args.door.now s found pass c.in-Err.refusal (Some c.reach.new.self) c.reach.new.door
-          (subst (λ r. Tried g.D.PoolDoor.took g.D.PoolDoor.is_full (λ x. act x s) (Some m) c.args.door.now (done r) (Some c.reach.new.self) c.reach.new.door) c.in-Err.is c.reach.ensures.done)
+    (subst (λ r. Tried g.D.PoolDoor.took g.D.PoolDoor.is_full (λ x. act x s) (Some m) c.args.door.now (done r) (Some c.reach.new.self) c.reach.new.door) c.in-Err.is c.reach.ensures.done)
 
 pub returns-clause-done : goal.returns-clause-done
 returns-clause-done g c k =
@@ -91,8 +89,8 @@ returns-clause-done g c k =
     let file_within = subst (λ (x : Mount). at.file < length x.files) c.self.view_is c.in-Some.ensures.some.file_within in
     let map_within = subst (λ (x : Mount). at.map < length (file_in x at.file).maps) c.self.view_is c.in-Some.ensures.some.map_within in
     went g.D.PoolDoor.took g.D.PoolDoor.is_full m (is_map a.task a.map) tests act cont c.args.door.now s found pass n c.reach.new.door c.shown_bytes.result (Some n)
-          (subst (λ r. Tried g.D.PoolDoor.took g.D.PoolDoor.is_full (λ x. act x s) (Some m) c.args.door.now (done r) (Some n) c.reach.new.door) c.in_default-reach.is c.reach.ensures.done)
-          (ap Ok (c.shown_bytes.ensures ∙ ap (λ (x : Spot). bytes_answer a.offset c.args.count (value size x.file x.map a.index)) (sym (again_is m n at.file at.map file_within map_within c.reach.ensures.same))), refl)
+    (subst (λ r. Tried g.D.PoolDoor.took g.D.PoolDoor.is_full (λ x. act x s) (Some m) c.args.door.now (done r) (Some n) c.reach.new.door) c.in_default-reach.is c.reach.ensures.done)
+    (ap Ok (c.shown_bytes.ensures ∙ ap (λ (x : Spot). bytes_answer a.offset c.args.count (value size x.file x.map a.index)) (sym (again_is m n at.file at.map file_within map_within c.reach.ensures.same))), refl)
 
 pub returns-in-Err-clause-memory : goal.returns-in-Err-clause-memory
 returns-in-Err-clause-memory g c s seen entered =

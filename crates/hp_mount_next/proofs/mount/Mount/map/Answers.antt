@@ -1,13 +1,12 @@
-use Rattle.std.proofs.Common.{◌≡◌, ℕ, Option, Ok, Err, None, Some, sym, ap, subst, ◌∙◌}
+use Rattle.std.proofs.Common.{◌≡◌, Err, None, Some, subst}
 use Rattle.hp_model.specs.declared.answer.Answer.TheVariants.{MapNo}
 use Rattle.hp_model.specs.declared.step.Reserving.TheVariants.{Reserve}
 use Rattle.hp_model.specs.declared.step.Sharing.TheVariants.{Shared}
-use Rattle.hp_model.specs.File.{File, Mount, with_file}
+use Rattle.hp_model.specs.File.{Mount, with_file}
 use Rattle.hp_model.specs.MakeMap.{asked, mapped}
 use Rattle.hp_model.specs.Plan.{Answered, Choice, grant}
 use Rattle.hp_model.specs.Promises.{file_in}
 use Rattle.hp_model.specs.SlotEvent.{file_named}
-use Rattle.hp_mount_next.specs.Found.{first_of}
 use Rattle.hp_mount_next.specs.Done.{Tried}
 use Rattle.hp_mount_next.specs.Making.{numbered}
 use Rattle.hp_mount_next.proofs.Making.{map_nowhere, map_refused, map_went}

@@ -1,8 +1,8 @@
-use Rattle.std.proofs.Common.{◌≡◌, refl, sym, subst, Some}
+use Rattle.std.proofs.Common.{refl, sym, Some}
 use Rattle.hp_model.specs.Access.{access, shared_access}
 use Rattle.hp_model.specs.File.{cell_at}
-use Rattle.hp_model.specs.Plan.{Choice, Plan}
-use Rattle.hp_mount_next.specs.Done.{Tried, done}
+use Rattle.hp_model.specs.Plan.{Choice}
+use Rattle.hp_mount_next.specs.Done.{done}
 use Rattle.hp_mount_next.specs.Found.{spot_at}
 use Rattle.hp_mount_next.proofs.Commands.{tried_as, shared_is}
 use Rattle.hp_mount_next.proofs.mount.Mount.reach.Goals as goal

@@ -1,13 +1,11 @@
-use Rattle.std.proofs.Common.{true, ◌≡◌, ◌<◌, Bool, List, length, Some, None, Ok, Err, refl, sym, ap, subst, ◌∙◌, arith}
+use Rattle.std.proofs.Common.{true, ◌≡◌, ◌<◌, length, Some, None, refl, sym, ap, subst, ◌∙◌, arith}
 use Rattle.hp_model.specs.declared.answer.Answer.TheVariants.{Done}
 use Rattle.hp_model.specs.declared.limits.Limits.{Limits}
-use Rattle.hp_model.specs.declared.refusal.Refusal.{Refusal}
 use Rattle.hp_model.specs.declared.step.Intent.TheVariants.{Write}
 use Rattle.hp_model.specs.Access.{access}
 use Rattle.hp_model.specs.File.{Mount}
 use Rattle.hp_model.specs.Mapping.{is_map, is_shared}
-use Rattle.hp_model.specs.Plan.{Choice, Plan, Outcome, Answered}
-use Rattle.hp_model.specs.Promises.{file_in}
+use Rattle.hp_model.specs.Plan.{Choice, Outcome, Answered}
 use Rattle.hp_model.specs.Spot.{Spot, spot, written}
 use Rattle.hp_mount_next.specs.Done.{Tried, done}
 use Rattle.hp_mount_next.specs.Found.{spot_at, first_of, byte_tests}
@@ -41,7 +39,7 @@ returns-in-Some-refused-clause-done g c k =
     let s = spot_at m at.file at.map in
     let found = subst (λ (x : Mount). spot x (is_map a.task a.map) ≡ Some (spot_at x at.file at.map)) c.self.view_is (c.in-Some.ensures.some.is limits) in
     tested g.D.PoolDoor.took g.D.PoolDoor.is_full m (is_map a.task a.map) tests act cont c.args.door.now s found (byte_tests_are size s a.index a.offset (length c.args.bytes.now)) c.in-Some-refused.refusal
-          (subst (λ n. first_of (byte_tests n s a.index a.offset (length c.args.bytes.now)) ≡ Some c.in-Some-refused.refusal) c.requires.page_bytes (sym c.refused.ensures.refused ∙ c.in-Some-refused.is))
+    (subst (λ n. first_of (byte_tests n s a.index a.offset (length c.args.bytes.now)) ≡ Some c.in-Some-refused.refusal) c.requires.page_bytes (sym c.refused.ensures.refused ∙ c.in-Some-refused.is))
 
 pub reach-requires-clause-shared : goal.reach-requires-clause-shared
 reach-requires-clause-shared g c =
@@ -69,7 +67,7 @@ returns-in-Err-clause-done g c k =
     let found = subst (λ (x : Mount). spot x (is_map a.task a.map) ≡ Some (spot_at x at.file at.map)) c.self.view_is (c.in-Some.ensures.some.is limits) in
     let pass = subst (λ n. first_of (byte_tests n s a.index a.offset (length c.args.bytes.now)) ≡ None) c.requires.page_bytes (sym c.refused.ensures.refused ∙ c.in_default-refused.is) in
     denied g.D.PoolDoor.took g.D.PoolDoor.is_full m (is_map a.task a.map) tests act cont c.args.door.now s found pass c.in-Err.refusal (Some c.reach.new.self) c.reach.new.door
-          (subst (λ r. Tried g.D.PoolDoor.took g.D.PoolDoor.is_full (λ x. act x s) (Some m) c.args.door.now (done r) (Some c.reach.new.self) c.reach.new.door) c.in-Err.is c.reach.ensures.done)
+    (subst (λ r. Tried g.D.PoolDoor.took g.D.PoolDoor.is_full (λ x. act x s) (Some m) c.args.door.now (done r) (Some c.reach.new.self) c.reach.new.door) c.in-Err.is c.reach.ensures.done)
 
 pub returns-clause-done : goal.returns-clause-done
 returns-clause-done g c k =
@@ -91,8 +89,8 @@ returns-clause-done g c k =
     let cells = c.reach.ensures.same.cells in
     let below = c.in_default-refused.ensures.below in
     went g.D.PoolDoor.took g.D.PoolDoor.is_full m (is_map a.task a.map) tests act cont c.args.door.now s found pass n c.reach.new.door Done (Some c.write.new.self)
-          (subst (λ r. Tried g.D.PoolDoor.took g.D.PoolDoor.is_full (λ x. act x s) (Some m) c.args.door.now (done r) (Some n) c.reach.new.door) c.in_default-reach.is c.reach.ensures.done)
-          (refl, ap Some (c.write.ensures ∙ sym (written_is n s a.index a.offset c.args.bytes.now (subst (λ (x : Mount). is_shared (spot_at x at.file at.map).map.sharing ≡ true) c.self.view_is (found_shared o.share o.files o.inodes c.self.invariant at.file at.map c.in-Some.ensures.some.file_within c.in-Some.ensures.some.map_within)) (omega (arith, file_within, files)) (omega (arith, below, cells)))))
+    (subst (λ r. Tried g.D.PoolDoor.took g.D.PoolDoor.is_full (λ x. act x s) (Some m) c.args.door.now (done r) (Some n) c.reach.new.door) c.in_default-reach.is c.reach.ensures.done)
+    (refl, ap Some (c.write.ensures ∙ sym (written_is n s a.index a.offset c.args.bytes.now (subst (λ (x : Mount). is_shared (spot_at x at.file at.map).map.sharing ≡ true) c.self.view_is (found_shared o.share o.files o.inodes c.self.invariant at.file at.map c.in-Some.ensures.some.file_within c.in-Some.ensures.some.map_within)) (omega (arith, file_within, files)) (omega (arith, below, cells)))))
 
 pub returns-in-Err-clause-memory : goal.returns-in-Err-clause-memory
 returns-in-Err-clause-memory g c s seen entered =

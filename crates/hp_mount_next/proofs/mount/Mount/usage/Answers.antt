@@ -1,4 +1,4 @@
-use Rattle.std.proofs.Common.{◌≡◌, subst, Some, Ok, ◌∙◌}
+use Rattle.std.proofs.Common.{subst, Some, Ok, ◌∙◌}
 use Rattle.hp_model.specs.declared.answer.Answer.TheVariants.{Usage as UsageAnswer}
 use Rattle.hp_model.specs.declared.event.SlotEvent.TheVariants.{Df}
 use Rattle.hp_model.specs.File.{Mount}

@@ -1,10 +1,10 @@
-use Rattle.std.proofs.Common.{◌≡◌, ◌<◌, ◌≤◌, ◌+◌, length, refl, sym, ap, subst, ◌∙◌, arith}
-use Rattle.hp_model.specs.File.{Mount, File, cell_at, with_cell, with_file}
+use Rattle.std.proofs.Common.{◌<◌, ◌≤◌, length, refl, sym, ap, subst, ◌∙◌, arith}
+use Rattle.hp_model.specs.File.{Mount, cell_at, with_cell, with_file}
 use Rattle.hp_model.specs.Promises.{file_in}
 use Rattle.hp_model.specs.Spot.{cell_written}
 use Rattle.hp_mount_files.specs.Files.{Files, file_at}
 use Rattle.hp_mount_next.proofs.Commands.{write_grows}
-use Rattle.hp_mount_next.proofs.Keeping.{grown, mount_left, shared_here}
+use Rattle.hp_mount_next.proofs.Keeping.{grown, shared_here}
 use Rattle.hp_mount_next.proofs.mount.Mount.write.Goals as goal
 
 pub invariant_of-self : goal.invariant_of-self

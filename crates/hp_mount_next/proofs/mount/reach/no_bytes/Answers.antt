@@ -1,6 +1,5 @@
-use Rattle.std.proofs.Common.{◌≡◌, ◌+◌, ◌-◌, ◌≤◌, ℕ, zero, suc, List, ◌++◌, take, drop, replicate, refl, sym, ap, ◌∙◌, arith}
+use Rattle.std.proofs.Common.{ap}
 use Rattle.hp_model.specs.declared.answer.Answer.TheVariants.{Bytes}
-use Rattle.std.proofs.lemmas.List.{drop-replicate}
 use Rattle.hp_mount_next.proofs.Zeros.{zeros_split}
 use Rattle.hp_mount_next.proofs.mount.reach.no_bytes.Goals as goal
 
