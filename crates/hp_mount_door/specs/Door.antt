@@ -4,7 +4,10 @@ use Rattle.std.specs.List.{count_by, range_with_len}
 use Rattle.hp_model.specs.declared.refusal.Refusal.{Refusal}
 use Rattle.hp_model.specs.declared.refusal.Refusal.TheVariants.{NoPages, TraceFull}
 use Rattle.hp_model.specs.Page.{Page}
-use Rattle.hp_model.specs.Pool.{Section, GiveBack, PoolAnswer, granted_at}
+use Rattle.hp_model.specs.declared.section.PoolAnswer.{PoolAnswer}
+use Rattle.hp_model.specs.declared.section.Section.{Section}
+use Rattle.hp_model.specs.declared.section.Section.TheVariants.{GiveBack}
+use Rattle.hp_model.specs.Pool.{granted_at}
 use Rattle.hp_model.specs.PoolCounts.{Pool, IsSettled}
 use Rattle.hp_subpool.specs.Subpool.{Subpool}
 

@@ -2,7 +2,10 @@
 use Rattle.std.specs.Prelude.{◌≡◌, ℕ, ◌<◌, Ok, Err, Result}
 use Rattle.hp_model.specs.declared.refusal.Refusal.{Refusal}
 use Rattle.hp_model.specs.declared.refusal.Refusal.TheVariants.{OutOfMemory}
-use Rattle.hp_model.specs.Pool.{Section, Grant, PoolAnswer, granted_at, no_pages}
+use Rattle.hp_model.specs.declared.section.PoolAnswer.{PoolAnswer}
+use Rattle.hp_model.specs.declared.section.Section.{Section}
+use Rattle.hp_model.specs.declared.section.Section.TheVariants.{Grant}
+use Rattle.hp_model.specs.Pool.{granted_at, no_pages}
 use Rattle.hp_mount_door.specs.Door.{IsDoorRefusal, with_reserves}
 use Rattle.hp_subpool.specs.Subpool.{Subpool, rise}
 

@@ -15,7 +15,8 @@ use Rattle.hp_laws.proofs.CopyWrites.{writes}
 use Rattle.hp_model.specs.LocalRun.{ThroughDoor, Gives}
 use Rattle.hp_model.specs.Mapping.{Map, is_shared, place_at}
 use Rattle.hp_model.specs.Plan.{Plan, Outcome, Reply, Slot, Choice, refuse, unless, with_value, and_then}
-use Rattle.hp_model.specs.Pool.{Section, PoolAnswer}
+use Rattle.hp_model.specs.declared.section.PoolAnswer.{PoolAnswer}
+use Rattle.hp_model.specs.declared.section.Section.{Section}
 use Rattle.hp_model.specs.Promises.{file_in, map_in, no_map}
 use Rattle.hp_model.specs.SlotEvent.{is_unmapped, is_beyond}
 use Rattle.hp_model.specs.Spot.{Spot, spot, again, written, file_written, cell_written, map_written}

@@ -15,7 +15,10 @@ use Rattle.hp_model.specs.LocalRun.{ThroughDoor}
 use Rattle.hp_model.specs.MountCounts.{usage_of}
 use Rattle.hp_model.specs.MakeMap.{asked, mapped, next_number, with_new}
 use Rattle.hp_model.specs.Plan.{Answered, Ask, Choice, Finish, Outcome, Plan, Refused, Reply, Slot, grant, refuse, unless, when_granted, with_value}
-use Rattle.hp_model.specs.Pool.{Section, Grant, PoolAnswer, granted_at, no_pages}
+use Rattle.hp_model.specs.declared.section.PoolAnswer.{PoolAnswer}
+use Rattle.hp_model.specs.declared.section.Section.{Section}
+use Rattle.hp_model.specs.declared.section.Section.TheVariants.{Grant}
+use Rattle.hp_model.specs.Pool.{granted_at, no_pages}
 use Rattle.hp_model.specs.Profile.{most_file_pages, most_map_pages}
 use Rattle.hp_model.specs.Promises.{file_in}
 use Rattle.hp_model.specs.SlotEvent.{are_too_many_maps, file_named, map_file, slot_event}

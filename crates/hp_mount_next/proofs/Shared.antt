@@ -14,7 +14,10 @@ use Rattle.hp_model.specs.Grant.{is_full, rise}
 use Rattle.hp_model.specs.LocalRun.{ThroughDoor}
 use Rattle.hp_model.specs.Page.{Page, zeros}
 use Rattle.hp_model.specs.Plan.{Choice, Outcome, Plan, Reply, Slot, grant_page}
-use Rattle.hp_model.specs.Pool.{Section, GrantPage, TakePage, PoolAnswer, granted_at, no_pages}
+use Rattle.hp_model.specs.declared.section.PoolAnswer.{PoolAnswer}
+use Rattle.hp_model.specs.declared.section.Section.{Section}
+use Rattle.hp_model.specs.declared.section.Section.TheVariants.{GrantPage, TakePage}
+use Rattle.hp_model.specs.Pool.{granted_at, no_pages}
 use Rattle.hp_model.specs.Promises.{file_in}
 use Rattle.hp_model.specs.Spot.{Spot, filled}
 use Rattle.hp_mount_next.specs.Done.{Through, Tried}

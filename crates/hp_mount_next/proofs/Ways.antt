@@ -12,7 +12,10 @@ use Rattle.hp_model.specs.Grant.{is_full, rise}
 use Rattle.hp_model.specs.Lists.{is_among}
 use Rattle.hp_model.specs.LocalRun.{ThroughDoor, Gives}
 use Rattle.hp_model.specs.Plan.{Plan, Finish, Ask, Outcome, Refused, Answered, Reply, Slot, Choice, refuse, continued, and_then, grant_page, reserved_page, when_granted}
-use Rattle.hp_model.specs.Pool.{Section, GrantPage, TakePage, PoolAnswer, granted_at, no_pages}
+use Rattle.hp_model.specs.declared.section.PoolAnswer.{PoolAnswer}
+use Rattle.hp_model.specs.declared.section.Section.{Section}
+use Rattle.hp_model.specs.declared.section.Section.TheVariants.{GrantPage, TakePage}
+use Rattle.hp_model.specs.Pool.{granted_at, no_pages}
 
 -- ---- a fresh stamp
 

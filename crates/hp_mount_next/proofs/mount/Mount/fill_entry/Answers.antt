@@ -3,7 +3,8 @@ use Rattle.hp_mount_door.specs.Door.{with_page}
 use Rattle.hp_model.specs.File.{Mount, cell_at, with_cell, with_file}
 use Rattle.hp_model.specs.declared.cell.Cell.TheVariants.{Entered, Present}
 use Rattle.hp_model.specs.Page.{Page}
-use Rattle.hp_model.specs.Pool.{TakePage, granted_at}
+use Rattle.hp_model.specs.declared.section.Section.TheVariants.{TakePage}
+use Rattle.hp_model.specs.Pool.{granted_at}
 use Rattle.hp_model.specs.Promises.{file_in}
 use Rattle.hp_mount_next.proofs.Keeping.{entry_kept, entry_left}
 use Rattle.hp_mount_next.proofs.Shared.{shared_entered}

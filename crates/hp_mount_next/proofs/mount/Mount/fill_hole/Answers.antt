@@ -4,7 +4,8 @@ use Rattle.hp_model.specs.File.{Mount, cell_at, with_cell, with_file}
 use Rattle.hp_model.specs.declared.cell.Cell.TheVariants.{Hole, Present}
 use Rattle.hp_model.specs.Grant as grant
 use Rattle.hp_model.specs.Page.{Page}
-use Rattle.hp_model.specs.Pool.{GrantPage, granted_at, no_pages}
+use Rattle.hp_model.specs.declared.section.Section.TheVariants.{GrantPage}
+use Rattle.hp_model.specs.Pool.{granted_at, no_pages}
 use Rattle.hp_model.specs.Promises.{file_in}
 use Rattle.hp_mount_files.specs.Files.{filled_at, with_cell_at}
 use Rattle.hp_mount_next.specs.Kept.{mount_of}
