@@ -4,6 +4,7 @@ import selectors
 import subprocess
 import tempfile
 from pathlib import Path
+from shutil import which
 
 TOP = Path(__file__).resolve().parent.parent
 PROGRAM = TOP / "crates/hugetlbd/out/hugetlbd"
@@ -54,7 +55,11 @@ class Memory:
 
     def __init__(self, folder):
         self.library, self.report = f"{folder}/refuse.so", f"{folder}/report"
-        build = ["cc", "-O2", "-shared", "-fPIC", "-o", self.library, TOP / "tests/refuse.c"]
+        compilers = [os.environ.get("CC"), "cc", "gcc", "clang"]
+        compiler = next((each for each in compilers if each and which(each)), None)
+        if compiler is None:
+            raise Failed("no C compiler was found for tests/refuse.c: set CC")
+        build = [compiler, "-O2", "-shared", "-fPIC", "-o", self.library, TOP / "tests/refuse.c"]
         subprocess.run(build, check=True)
 
     def environment(self, refused=0):
