@@ -73,7 +73,7 @@ tells_reserved_page : (c : Choice) (home : ℕ) (f : ℕ → Outcome) → Tells 
 tells_reserved_page c home f =
     tells_unless ((may_lack_room && c.refused, OutOfMemory) ∷ []) (Ask (λ nr. TakePage home) (λ a. f a.node)) (tells_same (TakePage home) (λ a. f a.node))
 
-tells_gives : (a : Answer) (old new : Slot) → Tells (gives a old new)
+pub tells_gives : (a : Answer) (old new : Slot) → Tells (gives a old new)
 tells_gives a old new =
     cond_both ((sum (puts_of old new) == 0) && (fall_of old new == 0)) (Finish (Answered a new)) (Ask (λ nr. GiveBack (puts_of old new) (fall_of old new)) (λ answer. Answered a new)) Tells
     (λ e. tt) (λ e. tells_same (GiveBack (puts_of old new) (fall_of old new)) (λ answer. Answered a new))

@@ -369,16 +369,18 @@ pub record IsPromised (s : State) (step : Step) (reply : Reply) (t : State) : Ty
   -- an access through a marked map is refused where it has no copy
   pub cut_off : is_cut_off_step s step ≡ true → is_refused reply ≡ true
 
--- of the steps that are built only those that make a file or a map ask for memory
-abbrev pub takes_memory : Step → Bool
-takes_memory (CreateStep k name) = true
-takes_memory (MapStep task k name a n sharing reserving) = true
-takes_memory step = false
+-- of the steps that are built these may be refused memory: one that makes a file or a map, and an access that nothing backs
+abbrev pub takes_memory : State → Step → Bool
+takes_memory s (CreateStep k name) = true
+takes_memory s (MapStep task k name a n sharing reserving) = true
+takes_memory s (Load task k number i offset count) = not (is_backed Read (map_named s k task number) i)
+takes_memory s (Store task k number i offset bytes) = not (is_backed Write (map_named s k task number) i)
+takes_memory s step = false
 
 -- a step of the machine, as promised; and others are not refused memory
 abbrev pub IsPromisedStep : State → Step → Reply → State → Type 0
 IsPromisedStep s step reply t =
-    IsStep s step reply t × IsPromised s step reply t × (takes_memory step ≡ false → reply ≢ Err OutOfMemory)
+    IsStep s step reply t × IsPromised s step reply t × (takes_memory s step ≡ false → reply ≢ Err OutOfMemory)
 
 -- the steps are answered by these replies, one after another, each as promised
 abbrev pub IsPromisedRun : State → List Step → List Reply → State → Type 0

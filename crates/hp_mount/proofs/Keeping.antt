@@ -1,191 +1,190 @@
--- What a mount keeps beside its files, through each change of a file.
-use Rattle.std.proofs.Common.{◌≡◌, ℕ, zero, suc, ◌+◌, ◌-◌, ◌<◌, ◌&&◌, nat_lt, Bool, true, false, cond, List, [], ◌∷◌, ◌++◌, length, map, Option, None, refl, sym, ap, subst, ◌∙◌, arith}
+-- What a mount keeps, through each change of its files.
+use Rattle.std.proofs.Common.{◌≡◌, ℕ, zero, suc, ◌+◌, ◌<◌, ◌≤◌, max, true, Option, List, [], ◌∷◌, length, None, refl, sym, ap, subst, ◌∙◌, arith}
 use Rattle.std.specs.Prelude.{slice_set, slice_index_or}
-use Rattle.std.specs.List.{filter_map, flat_map, count_by}
-use Rattle.std.proofs.lemmas.List.Elements.{All-append, All-cons, All-get_or, All-nil, All-set}
-use Rattle.std.proofs.lemmas.List.Sums.{sum_by-set}
+use Rattle.std.proofs.lemmas.List.{get_or_default, get_or-set_same}
+use Rattle.hp_mount_door.specs.Door.{with_page, with_granted, with_reserves}
 use Rattle.hp_model.specs.declared.cell.Cell.{Cell}
 use Rattle.hp_model.specs.declared.cell.Cell.TheVariants.{Hole, Entered, Present}
-use Rattle.hp_model.specs.File.{File, Mount, has_page, maps_of, new_file, with_file, with_cell, cell_at}
-use Rattle.hp_model.specs.Grant.{is_full, is_over, rise}
-use Rattle.hp_model.specs.MakeMap.{with_new}
-use Rattle.hp_model.specs.Lists.{distinct}
-use Rattle.hp_model.specs.Mapping.{copy_of}
-use Rattle.hp_model.specs.MountCounts.{copies_of, file_pages, file_reserves, is_waiting, usage_of}
-use Rattle.hp_model.specs.Page.{Copy, Page}
-use Rattle.hp_model.specs.Spot.{cell_written}
-use Rattle.hp_model.specs.Promises.{file_in}
-use Rattle.hp_mount.specs.Found.{filled_with}
-use Rattle.hp_mount.specs.Counted.{IsCounted, mount_of}
+use Rattle.hp_model.specs.File.{File, Mount, cell_at, with_cell, with_file, new_file}
+use Rattle.hp_model.specs.Grant as grant
+use Rattle.hp_model.specs.Page.{Page}
+use Rattle.hp_model.specs.Promises.{file_in, map_in, no_map}
+use Rattle.hp_model.specs.declared.step.Reserving.TheVariants.{Reserve}
+use Rattle.hp_model.specs.declared.step.Sharing.TheVariants.{Shared}
+use Rattle.std.proofs.lemmas.List.Elements.{All-append, All-cons, All-get_or, All-nil, All-set}
+use Rattle.hp_model.specs.MakeMap.{asked, mapped, new_map}
+use Rattle.hp_model.specs.Mapping.{Map, is_shared}
+use Rattle.hp_laws.proofs.Maps.{mapped_grows}
+use Rattle.hp_laws.proofs.FileMoves as moves
+use Rattle.hp_laws.proofs.FileMoves.{FileGrows}
+use Rattle.hp_laws.proofs.MountMoves.{MountGrows, IsFileAt, file_grows}
+use Rattle.hp_mount_files.specs.Files.{Files, file_at, filled_at, mapped_at, with_cell_at}
+use Rattle.hp_mount.specs.Kept.{AreShared, IsKept, mount_of}
 use Rattle.hp_subpool.specs.Subpool as share
-use Rattle.hp_subpool.specs.Subpool.{Subpool}
-use Rattle.std.proofs.lemmas.List.{get_or_default}
-use Rattle.hp_mount.proofs.Counted.{new_file_pages, new_file_reserves}
-
--- ---- maps that stay
-
-same_maps : (fs : List File) (k : ℕ) (g : File) → k < length fs → g.maps ≡ (slice_index_or fs k (new_file None)).maps → flat_map (λ f. f.maps) (slice_set fs k g) ≡ flat_map (λ f. f.maps) fs
-same_maps [] k g l e = refl
-same_maps (f ∷ fs) zero g l e = ap (λ ms. ms ++ flat_map (λ f. f.maps) fs) e
-same_maps (f ∷ fs) (suc k) g l e = ap (λ ms. f.maps ++ ms) (same_maps fs k g (omega (arith, l)) e)
-
--- a file with as many pages and reservations more or less, the same maps, and the share with them
-counted_with : (sub new : Subpool) (maps tasks : ℕ) (m : Mount) (k : ℕ) (g : File) → IsCounted sub maps tasks m → k < length m.files → g.maps ≡ (file_in m k).maps → new.max ≡ sub.max → new.min ≡ sub.min
-    → new.pages + count_by has_page (file_in m k).cells ≡ sub.pages + count_by has_page g.cells → new.held + file_reserves (file_in m k) ≡ sub.held + file_reserves g → IsCounted new maps tasks (with_file m k g)
-counted_with sub new maps tasks m k g c l e max min pages sums =
-    let f : File = file_in m k in
-    let reserves = sum_by-set file_reserves m.files k g (new_file None) l in
-    let used = sum_by-set file_pages m.files k g (new_file None) l in
-    let copies : copies_of g ≡ copies_of f = ap (λ ms. flat_map (λ x. filter_map copy_of x.places) ms) e in
-    let stamps = ap (λ (xs : List Copy). length (distinct (map (λ x. x.stamp) xs))) copies in
-    let promised = c.promised in
-    let had = c.pages in
-    let same : maps_of (with_file m k g) ≡ maps_of m = same_maps m.files k g l e in
-    record {
-      max = c.max ∙ sym max;
-      min = c.min ∙ sym min;
-      pages = omega (arith, used, had, pages, stamps);
-      promised = omega (arith, reserves, promised, sums);
-      maps = c.maps ∙ ap length (sym same);
-      tasks = c.tasks ∙ ap (λ ms. length (distinct (map (λ x. x.task) ms))) (sym same);
-      plain = All-set (λ f. copies_of f ≡ []) m.files k g (copies ∙ All-get_or (λ f. copies_of f ≡ []) m.files k (new_file None) l c.plain) c.plain;
-    }
-
--- ---- one cell of a file
-
-waits : (f : File) (i : ℕ) (c : Cell Page) → i < length f.cells → count_by is_waiting (slice_set f.cells i c) + cond (is_waiting (cell_at f i)) 1 0 ≡ count_by is_waiting f.cells + cond (is_waiting c) 1 0
-waits f i c l = sum_by-set (λ x. cond (is_waiting x) 1 0) f.cells i c Hole l
-
-cell_reserves : (f : File) (i : ℕ) (c : Cell Page) (was : Bool) → i < length f.cells → is_waiting (cell_at f i) ≡ was → file_reserves (with_cell f i c) + cond was 1 0 ≡ file_reserves f + cond (is_waiting c) 1 0
-cell_reserves f i c was l e = let step = waits f i c l in let same = ap (λ b. cond b 1 0 + 0) e in omega (arith, step, same)
-
-cell_pages : (f : File) (i : ℕ) (c : Cell Page) (was : Bool) → i < length f.cells → has_page (cell_at f i) ≡ was → count_by has_page (slice_set f.cells i c) + cond was 1 0 ≡ count_by has_page f.cells + cond (has_page c) 1 0
-cell_pages f i c was l e = let step = sum_by-set (λ x. cond (has_page x) 1 0) f.cells i c Hole l in let same = ap (λ b. cond b 1 0 + 0) e in omega (arith, step, same)
-
--- an entry without a page is a promise
-pub some_promise : (sub : Subpool) (maps tasks : ℕ) (m : Mount) (k i : ℕ) → IsCounted sub maps tasks m → k < length m.files → i < length (file_in m k).cells → cell_at (file_in m k) i ≡ Entered → 0 < sub.held
-some_promise sub maps tasks m k i c l below is =
-    let f : File = file_in m k in
-    let promised = c.promised in
-    let one = cell_reserves f i Hole true below (ap is_waiting is) in
-    let step = sum_by-set file_reserves m.files k (with_cell f i Hole) (new_file None) l in
-    omega (arith, promised, one, step)
-
--- what an access does to the share: by the reservation of an entry, or by a grant of one
-abbrev pub by_entry : Subpool → Subpool
-by_entry sub = record sub { held = sub.held - 1; pages = sub.pages + 1 }
-
-abbrev pub by_grant : Subpool → Subpool
-by_grant sub = record sub { held = sub.held + 1 - 1; pages = sub.pages + 1 }
-
-pub counted_entry : (sub : Subpool) (maps tasks : ℕ) (m : Mount) (k i node : ℕ) (bytes : List ℕ) → IsCounted sub maps tasks m → k < length m.files → i < length (file_in m k).cells → cell_at (file_in m k) i ≡ Entered
-    → IsCounted (by_entry sub) maps tasks (filled_with m k i node bytes)
-counted_entry sub maps tasks m k i node bytes c l below is =
-    let f : File = file_in m k in
-    let page : Page = record { node = node; bytes = bytes } in
-    let step = cell_reserves f i (Present page) true below (ap is_waiting is) in
-    let pages = cell_pages f i (Present page) false below (ap has_page is) in
-    let some = some_promise sub maps tasks m k i c l below is in
-    counted_with sub (by_entry sub) maps tasks m k (with_cell f i (Present page)) c l refl refl refl (omega (arith, pages)) (omega (arith, step, some))
-
-pub counted_hole : (sub : Subpool) (maps tasks : ℕ) (m : Mount) (k i node : ℕ) (bytes : List ℕ) → IsCounted sub maps tasks m → k < length m.files → i < length (file_in m k).cells → cell_at (file_in m k) i ≡ Hole
-    → IsCounted (by_grant sub) maps tasks (filled_with m k i node bytes)
-counted_hole sub maps tasks m k i node bytes c l below is =
-    let f : File = file_in m k in
-    let page : Page = record { node = node; bytes = bytes } in
-    let step = cell_reserves f i (Present page) false below (ap is_waiting is) in
-    let pages = cell_pages f i (Present page) false below (ap has_page is) in
-    counted_with sub (by_grant sub) maps tasks m k (with_cell f i (Present page)) c l refl refl refl (omega (arith, pages)) (omega (arith, step))
-
-written_waits : (offset : ℕ) (bytes : List ℕ) (c : Cell Page) → is_waiting (cell_written offset bytes c) ≡ is_waiting c
-written_waits offset bytes Hole = refl
-written_waits offset bytes Entered = refl
-written_waits offset bytes (Present page) = refl
-
-written_has : (offset : ℕ) (bytes : List ℕ) (c : Cell Page) → has_page (cell_written offset bytes c) ≡ has_page c
-written_has offset bytes Hole = refl
-written_has offset bytes Entered = refl
-written_has offset bytes (Present page) = refl
-
-pub counted_written : (sub : Subpool) (maps tasks : ℕ) (m : Mount) (k i offset : ℕ) (bytes : List ℕ) → IsCounted sub maps tasks m → k < length m.files → i < length (file_in m k).cells
-    → IsCounted sub maps tasks (with_file m k (with_cell (file_in m k) i (cell_written offset bytes (cell_at (file_in m k) i))))
-counted_written sub maps tasks m k i offset bytes c l below =
-    let f : File = file_in m k in
-    let cell : Cell Page = cell_at f i in
-    let step = cell_reserves f i (cell_written offset bytes cell) (is_waiting cell) below refl in
-    let same = ap (λ b. cond b 1 0 + 0) (written_waits offset bytes cell) in
-    let pages = cell_pages f i (cell_written offset bytes cell) (has_page cell) below refl in
-    let as_many = ap (λ b. cond b 1 0 + 0) (written_has offset bytes cell) in
-    counted_with sub sub maps tasks m k (with_cell f i (cell_written offset bytes cell)) c l refl refl refl (omega (arith, pages, as_many)) (omega (arith, step, same))
-
--- ---- a mount without files
-
-pub counted_open : (sub : Subpool) (max : Option ℕ) (min : ℕ) (inodes : Option ℕ) → sub ≡ record { max = max; min = min; pages = 0; held = 0 } → IsCounted sub 0 0 (mount_of sub inodes [])
-counted_open sub max min inodes e =
-    record { max = refl; min = refl; pages = ap (λ s. s.pages) e; promised = ap (λ s. s.held) e; maps = refl; tasks = refl; plain = All-nil (λ f. copies_of f ≡ []) }
-
--- ---- a file more
-
-flat_more : (fs : List File) (f : File) → f.maps ≡ [] → flat_map (λ f. f.maps) (fs ++ f ∷ []) ≡ flat_map (λ f. f.maps) fs
-flat_more [] f e = ap (λ ms. ms ++ []) e
-flat_more (x ∷ fs) f e = ap (λ ms. x.maps ++ ms) (flat_more fs f e)
-
-pub counted_new : (sub : Subpool) (maps tasks : ℕ) (m : Mount) (name : Option (List ℕ)) → IsCounted sub maps tasks m → IsCounted sub maps tasks (with_new m (new_file name))
-counted_new sub maps tasks m name c =
-    let same : maps_of (with_new m (new_file name)) ≡ maps_of m = flat_more m.files (new_file name) refl in
-    let none = new_file_reserves m name in
-    let empty = new_file_pages m name in
-    let promised = c.promised in
-    let pages = c.pages in
-    record {
-      max = c.max;
-      min = c.min;
-      pages = omega (arith, pages, empty);
-      promised = omega (arith, promised, none);
-      maps = c.maps ∙ ap length (sym same);
-      tasks = c.tasks ∙ ap (λ ms. length (distinct (map (λ x. x.task) ms))) (sym same);
-      plain = All-append (λ f. copies_of f ≡ []) m.files (new_file name ∷ []) c.plain (All-cons (λ f. copies_of f ≡ []) (new_file name) [] refl (All-nil (λ f. copies_of f ≡ [])));
-    }
+use Rattle.hp_subpool.specs.Subpool.{Subpool, used}
 
 -- ---- what is asked of the share is what is asked of the mount
 
-module _ (sub : Subpool) (maps tasks : ℕ) (m : Mount) (c : IsCounted sub maps tasks m) where
-  pub used_is : share.used sub ≡ usage_of m
-  used_is = (let pages = c.pages in let promised = c.promised in omega (arith, pages, promised))
+module _ (s : Subpool) (v : Files) (m : Mount) (c : IsKept s v m) (max_is : m.limits.max ≡ s.max) (min_is : m.limits.min ≡ s.min) where
+  pub full_is : (k : ℕ) → share.is_full s k ≡ grant.is_full m k
+  full_is k = (let u = c.used in rw (u, max_is) refl)
 
-  pub full_is : (k : ℕ) → share.is_full sub k ≡ is_full m k
-  full_is k = ap (λ u. nat_lt 0 k && is_over sub.max (u + k)) used_is ∙ ap (λ l. nat_lt 0 k && is_over l (usage_of m + k)) (sym c.max)
+  pub rise_is : (k : ℕ) → share.rise s k ≡ grant.rise m k
+  rise_is k = (let u = c.used in omega (arith, u, min_is))
 
-  pub rise_is : (k : ℕ) → share.rise sub k ≡ rise m k
-  rise_is k = (let used = used_is in let min = c.min in omega (arith, used, min))
+-- ---- the mount that a share and files leave
 
--- ---- a share with the same limits
+pub mount_left : (s new : Subpool) (inodes : Option ℕ) (fs gs : List File) → new.max ≡ s.max → new.min ≡ s.min → gs ≡ fs → mount_of new inodes gs ≡ mount_of s inodes fs
+mount_left s new inodes fs gs max_is min_is files = ap (λ x. record { limits = record { max = x; min = new.min; inodes = inodes }; files = gs }) max_is
+    ∙ ap (λ x. record { limits = record { max = s.max; min = x; inodes = inodes }; files = gs }) min_is ∙ ap (λ xs. record { limits = record { max = s.max; min = s.min; inodes = inodes }; files = xs }) files
 
-pub limits_as : (sub new : Subpool) (inodes : Option ℕ) (files : List File) → new.max ≡ sub.max → new.min ≡ sub.min → mount_of sub inodes files ≡ mount_of new inodes files
-limits_as sub new inodes files max min =
-    ap (λ x. record { limits = record { max = x; min = sub.min; inodes = inodes }; files = files }) (sym max) ∙ ap (λ x. record { limits = record { max = new.max; min = x; inodes = inodes }; files = files }) (sym min)
+-- ---- a file for another, with so many pages and so much usage more
 
-pub share_as : (sub new : Subpool) (inodes : Option ℕ) (maps tasks : ℕ) (files : List File) → new.max ≡ sub.max → new.min ≡ sub.min → IsCounted new maps tasks (mount_of sub inodes files) → IsCounted new maps tasks (mount_of new inodes files)
-share_as sub new inodes maps tasks files max min c = subst (λ m. IsCounted new maps tasks m) (limits_as sub new inodes files max min) c
+module _ (s : Subpool) (v : Files) (inodes : Option ℕ) (c : IsKept s v (mount_of s inodes v.files)) (k : ℕ) (l : k < length v.files) where
+  abbrev m : Mount
+  m = mount_of s inodes v.files
 
--- ---- as code changes a file that it has read: x is what it read, and g what it leaves there
+  here : IsFileAt m k (file_at v.files k)
+  here = record { within = l; is = λ d. get_or_default v.files k d (new_file None) l }
 
-pub read_is : (m : Mount) (k : ℕ) (x : File) → k < length m.files → x ≡ slice_index_or m.files k x → x ≡ file_in m k
-read_is m k x l e = e ∙ get_or_default m.files k x (new_file None) l
+  pub grows : (g : File) (node p u : ℕ) → FileGrows (file_at v.files k) g node p u → MountGrows m (with_file m k g) node p u
+  grows g node p u h = file_grows m k (file_at v.files k) g node p u here c.sound h
 
-module _ (sub : Subpool) (maps tasks : ℕ) (m : Mount) (k i : ℕ) (x g : File) (c : IsCounted sub maps tasks m) (l : k < length m.files) (below : i < length (file_in m k).cells) (e : x ≡ slice_index_or m.files k x) where
-  left_as : (cell : Cell Page) → g ≡ with_cell x i cell → with_file m k (with_cell (file_in m k) i cell) ≡ with_file m k g
-  left_as cell h = ap (λ f. with_file m k (with_cell f i cell)) (sym (read_is m k x l e)) ∙ ap (with_file m k) (sym h)
+  -- the file's maps are shared
+  pub shared_here : AreShared (file_at v.files k)
+  shared_here = All-get_or AreShared v.files k (new_file None) l c.plain
 
-  pub entry_left : (new : Subpool) (page : Page) → cell_at (file_in m k) i ≡ Entered → new ≡ by_entry sub → g ≡ with_cell x i (Present page) → IsCounted new maps tasks (with_file m k g)
-  entry_left new page is new_is h =
-      subst (λ s. IsCounted s maps tasks (with_file m k g)) (sym new_is) (subst (λ z. IsCounted (by_entry sub) maps tasks z) (left_as (Present page) h) (counted_entry sub maps tasks m k i page.node page.bytes c l below is))
+  pub grown : (new : Subpool) (w : Files) (g : File) (node p u : ℕ) → FileGrows (file_at v.files k) g node p u → AreShared g → new.max ≡ s.max → new.min ≡ s.min → new.pages ≡ s.pages + p → used new ≡ used s + u
+      → new.held ≤ w.room → w.going ≡ v.going → w.files ≡ slice_set v.files k g → IsKept new w (mount_of new inodes w.files)
+  grown new w g node p u h shared max_is min_is pages_is used_is room going files =
+      let all = grows g node p u h in
+      let had = c.pages in
+      let was = c.used in
+      let more = all.pages in
+      let raised = all.usage in
+      let same_mount : mount_of new inodes w.files ≡ with_file m k g = mount_left s new inodes (slice_set v.files k g) w.files max_is min_is files in
+      subst (λ n. IsKept new w n) (sym same_mount) (record {
+        pages = pages_is ∙ omega (arith, had, more);
+        used = used_is ∙ omega (arith, was, raised);
+        room = room;
+        going = going ∙ c.going;
+        sound = all.sound;
+        plain = All-set AreShared v.files k g shared c.plain;
+      })
 
-  pub hole_left : (new : Subpool) (page : Page) → cell_at (file_in m k) i ≡ Hole → new ≡ by_grant sub → g ≡ with_cell x i (Present page) → IsCounted new maps tasks (with_file m k g)
-  hole_left new page is new_is h =
-      subst (λ s. IsCounted s maps tasks (with_file m k g)) (sym new_is) (subst (λ z. IsCounted (by_grant sub) maps tasks z) (left_as (Present page) h) (counted_hole sub maps tasks m k i page.node page.bytes c l below is))
+  -- an entry without a page is a reservation that is held
+  pub some_held : (i : ℕ) → i < length (file_at v.files k).cells → cell_at (file_at v.files k) i ≡ Entered → 0 < s.held
+  some_held i below entered =
+      let page : Page = record { node = 0; bytes = [] } in
+      let all = grows (with_cell (file_at v.files k) i (Present page)) 0 1 0 (moves.fill_entry (file_at v.files k) i page below entered) in
+      let had = c.pages in
+      let was = c.used in
+      let more = all.pages in
+      let same = all.usage in
+      omega (arith, had, was, more, same)
 
-  pub written_left : (offset : ℕ) (bytes : List ℕ) → g ≡ with_cell x i (cell_written offset bytes (cell_at x i)) → IsCounted sub maps tasks (with_file m k g)
-  written_left offset bytes h =
-      let cell = ap (λ f. with_cell x i (cell_written offset bytes (cell_at f i))) (read_is m k x l e) in
-      subst (λ z. IsCounted sub maps tasks z) (left_as (cell_written offset bytes (cell_at (file_in m k) i)) (h ∙ cell)) (counted_written sub maps tasks m k i offset bytes c l below)
+  -- ---- an entered index gets its page
+
+  pub entry_kept : (i : ℕ) (page : Page) (new : Subpool) (w : Files) → i < length (file_at v.files k).cells → cell_at (file_at v.files k) i ≡ Entered → new ≡ with_page s → w ≡ filled_at k i page v
+      → IsKept new w (mount_of new inodes w.files)
+  entry_kept i page new w below entered new_is w_is =
+      let held = some_held i below entered in
+      let room = c.room in
+      let held_is = ap (λ (x : Subpool). x.held) new_is in
+      let pages_is = ap (λ (x : Subpool). x.pages) new_is in
+      let room_is = ap (λ (x : Files). x.room) w_is in
+      grown new w (with_cell (file_at v.files k) i (Present page)) page.node 1 0 (moves.fill_entry (file_at v.files k) i page below entered) shared_here (ap (λ (x : Subpool). x.max) new_is) (ap (λ (x : Subpool). x.min) new_is)
+      pages_is (omega (arith, held_is, pages_is, held)) (omega (arith, held_is, room_is, room, held)) (ap (λ (x : Files). x.going) w_is) (ap (λ (x : Files). x.files) w_is)
+
+  pub entry_left : (i : ℕ) (page : Page) (new : Subpool) (w : Files) → new ≡ with_page s → w ≡ filled_at k i page v → mount_of new inodes w.files ≡ with_file m k (with_cell (file_in m k) i (Present page))
+  entry_left i page new w new_is w_is = mount_left s new inodes (slice_set v.files k (with_cell (file_at v.files k) i (Present page))) w.files (ap (λ (x : Subpool). x.max) new_is) (ap (λ (x : Subpool). x.min) new_is) (ap (λ (x : Files). x.files) w_is)
+
+  -- ---- an index without an entry gets a page, by a grant: it is entered first
+
+  set_twice : {Y : Type 0} (xs : List Y) (j : ℕ) (x y : Y) → slice_set (slice_set xs j x) j y ≡ slice_set xs j y
+  set_twice [] j x y = refl
+  set_twice (z ∷ xs) zero x y = refl
+  set_twice (z ∷ xs) (suc j) x y = ap (λ ys. z ∷ ys) (set_twice xs j x y)
+
+  abbrev roomier : ℕ → Files
+  roomier spare = record v { room = max v.room spare }
+
+  entered_file : (i spare : ℕ) (cell : Cell Page) → with_cell (file_at (with_cell_at k i Entered (roomier spare)).files k) i cell ≡ with_cell (file_at v.files k) i cell
+  entered_file i spare cell =
+      ap (λ f. with_cell f i cell) (get_or-set_same v.files k (with_cell (file_at v.files k) i Entered) (new_file None) l)
+      ∙ ap (λ cs. record (file_at v.files k) { cells = cs }) (set_twice (file_at v.files k).cells i Entered cell)
+
+  pub again_files : (i spare : ℕ) (cell : Cell Page) → (with_cell_at k i cell (with_cell_at k i Entered (roomier spare))).files ≡ slice_set v.files k (with_cell (file_at v.files k) i cell)
+  again_files i spare cell =
+      ap (λ f. slice_set (slice_set v.files k (with_cell (file_at v.files k) i Entered)) k f) (entered_file i spare cell)
+      ∙ set_twice v.files k (with_cell (file_at v.files k) i Entered) (with_cell (file_at v.files k) i cell)
+
+  pub hole_kept : (i spare : ℕ) (page : Page) (new : Subpool) (w : Files) → i < length (file_at v.files k).cells → cell_at (file_at v.files k) i ≡ Hole → s.held < spare → new ≡ with_granted s
+      → w ≡ filled_at k i page (with_cell_at k i Entered (roomier spare)) → IsKept new w (mount_of new inodes w.files)
+  hole_kept i spare page new w below hole enough new_is w_is =
+      let held_is = ap (λ (x : Subpool). x.held) new_is in
+      let pages_is = ap (λ (x : Subpool). x.pages) new_is in
+      let room_is = ap (λ (x : Files). x.room) w_is in
+      grown new w (with_cell (file_at v.files k) i (Present page)) page.node 1 1 (moves.fill_hole (file_at v.files k) i page below hole) shared_here (ap (λ (x : Subpool). x.max) new_is) (ap (λ (x : Subpool). x.min) new_is)
+      pages_is (omega (arith, held_is, pages_is)) (omega (arith, held_is, room_is, enough)) (ap (λ (x : Files). x.going) w_is) (ap (λ (x : Files). x.files) w_is ∙ again_files i spare (Present page))
+
+  pub granted_left : (i spare : ℕ) (page : Page) (new : Subpool) (w : Files) → new ≡ with_granted s → w ≡ filled_at k i page (with_cell_at k i Entered (roomier spare)) → mount_of new inodes w.files ≡ with_file m k (with_cell (file_in m k) i (Present page))
+  granted_left i spare page new w new_is w_is = mount_left s new inodes (slice_set v.files k (with_cell (file_at v.files k) i (Present page))) w.files (ap (λ (x : Subpool). x.max) new_is) (ap (λ (x : Subpool). x.min) new_is) (ap (λ (x : Files). x.files) w_is ∙ again_files i spare (Present page))
+
+  -- refused: the index is a hole again
+  pub hole_again : (i spare : ℕ) → cell_at (file_at v.files k) i ≡ Hole → (with_cell_at k i Hole (with_cell_at k i Entered (roomier spare))).files ≡ v.files
+  hole_again i spare hole =
+      again_files i spare Hole ∙ ap (λ c. slice_set v.files k (record (file_at v.files k) { cells = slice_set (file_at v.files k).cells i c })) (sym hole)
+      ∙ ap (λ cs. slice_set v.files k (record (file_at v.files k) { cells = cs })) (set_read (file_at v.files k).cells i Hole) ∙ set_read v.files k (new_file None)
+    where
+      set_read : {Y : Type 0} (xs : List Y) (j : ℕ) (d : Y) → slice_set xs j (slice_index_or xs j d) ≡ xs
+      set_read [] j d = refl
+      set_read (z ∷ xs) zero d = refl
+      set_read (z ∷ xs) (suc j) d = ap (λ ys. z ∷ ys) (set_read xs j d)
+
+  pub hole_stays : (i spare : ℕ) (new : Subpool) (w : Files) → cell_at (file_at v.files k) i ≡ Hole → new ≡ s → w ≡ with_cell_at k i Hole (with_cell_at k i Entered (roomier spare)) → mount_of new inodes w.files ≡ m
+  hole_stays i spare new w hole new_is w_is = mount_left s new inodes v.files w.files (ap (λ (x : Subpool). x.max) new_is) (ap (λ (x : Subpool). x.min) new_is) (ap (λ (x : Files). x.files) w_is ∙ hole_again i spare hole)
+
+  pub hole_keeps : (i spare : ℕ) (new : Subpool) (w : Files) → cell_at (file_at v.files k) i ≡ Hole → new ≡ s → w ≡ with_cell_at k i Hole (with_cell_at k i Entered (roomier spare)) → IsKept new w (mount_of new inodes w.files)
+  hole_keeps i spare new w hole new_is w_is =
+      let room_is = ap (λ (x : Files). x.room) w_is in
+      let room = c.room in
+      let held_is = ap (λ (x : Subpool). x.held) new_is in
+      subst (λ n. IsKept new w n) (sym (hole_stays i spare new w hole new_is w_is)) (record {
+        pages = ap (λ (x : Subpool). x.pages) new_is ∙ c.pages;
+        used = ap used new_is ∙ c.used;
+        room = omega (arith, room_is, room, held_is);
+        going = ap (λ (x : Files). x.going) w_is ∙ c.going;
+        sound = c.sound;
+        plain = c.plain;
+      })
+
+  -- ---- a shared map more
+
+  module _ (task number a n more : ℕ) (new : Subpool) (w : Files) (more_is : more ≡ asked Shared Reserve a n (file_at v.files k)) (new_is : new ≡ with_reserves more s) (w_is : w ≡ mapped_at k task number a n (max v.room (s.held + more)) v) where
+    pub map_kept : IsKept new w (mount_of new inodes w.files)
+    map_kept =
+        let held_is = ap (λ (x : Subpool). x.held) new_is in
+        let pages_is = ap (λ (x : Subpool). x.pages) new_is in
+        let room_is = ap (λ (x : Files). x.room) w_is in
+        let plain : s.pages ≡ s.pages + 0 = omega arith in
+        let new_one : Map = new_map task number a n Shared Reserve in
+        let one_more = All-append (λ (x : Map). is_shared x.sharing ≡ true) (file_at v.files k).maps (new_one ∷ []) shared_here (All-cons (λ (x : Map). is_shared x.sharing ≡ true) new_one [] refl (All-nil (λ (x : Map). is_shared x.sharing ≡ true))) in
+        grown new w (mapped task number a n Shared Reserve (file_at v.files k)) 0 0 (asked Shared Reserve a n (file_at v.files k)) (mapped_grows task number a n Shared Reserve (file_at v.files k)) one_more (ap (λ (x : Subpool). x.max) new_is) (ap (λ (x : Subpool). x.min) new_is)
+        (pages_is ∙ plain) (omega (arith, held_is, pages_is, more_is)) (omega (arith, held_is, room_is)) (ap (λ (x : Files). x.going) w_is) (ap (λ (x : Files). x.files) w_is)
+
+    pub map_left : mount_of new inodes w.files ≡ with_file m k (mapped task number a n Shared Reserve (file_in m k))
+    map_left = mount_left s new inodes (slice_set v.files k (mapped task number a n Shared Reserve (file_at v.files k))) w.files (ap (λ (x : Subpool). x.max) new_is) (ap (λ (x : Subpool). x.min) new_is) (ap (λ (x : Files). x.files) w_is)
+
+-- ---- more room alone
+
+module _ (s : Subpool) (v w : Files) (inodes : Option ℕ) (c : IsKept s v (mount_of s inodes v.files)) (w_is : w ≡ record v { room = w.room }) where
+  pub room_left : mount_of s inodes w.files ≡ mount_of s inodes v.files
+  room_left = ap (λ (x : Files). mount_of s inodes x.files) w_is
+
+  pub room_kept : v.room ≤ w.room → IsKept s w (mount_of s inodes w.files)
+  room_kept more = (let room = c.room in subst (λ n. IsKept s w n) (sym room_left) (record { pages = c.pages; used = c.used; room = omega (arith, room, more); going = ap (λ (x : Files). x.going) w_is ∙ c.going; sound = c.sound; plain = c.plain }))
+
+-- a map that is found is shared
+pub found_shared : (s : Subpool) (v : Files) (inodes : Option ℕ) → IsKept s v (mount_of s inodes v.files) → (k j : ℕ) → k < length v.files → j < length (file_at v.files k).maps → is_shared (map_in (file_in (mount_of s inodes v.files) k) j).sharing ≡ true
+found_shared s v inodes c k j l jl = All-get_or (λ (x : Map). is_shared x.sharing ≡ true) (file_at v.files k).maps j no_map jl (shared_here s v inodes c k l)

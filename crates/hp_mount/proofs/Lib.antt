@@ -1,8 +1,7 @@
-mod Accesses
-mod Cells
-mod Closing
-mod Counted
-mod Keeping
-mod Making
-mod MapDone
-mod Used
+pub mod Ways
+pub mod Keeping
+pub mod Shared
+pub mod Commands
+pub mod Zeros
+pub mod Making
+pub mod Ending

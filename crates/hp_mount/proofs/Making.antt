@@ -1,277 +1,176 @@
--- A map more on the mount.
-use Rattle.std.proofs.Common.{◌≡◌, ℕ, zero, suc, ◌+◌, ◌<◌, ◌≤◌, ◌==◌, ◌||◌, Bool, true, false, not, cond, List, [], ◌∷◌, ◌++◌, length, map, replicate, take, refl, sym, ap, subst, ◌∙◌, arith}
-use Rattle.std.specs.Prelude.{slice_index_or, slice_set, None}
-use Rattle.std.specs.List.{filter, filter_map, flat_map}
+-- Files and maps that are made, by what code did.
+use Rattle.std.proofs.Common.{◌≡◌, ℕ, ◌+◌, ◌<◌, ◌==◌, Bool, true, false, cond, List, [], ◌∷◌, Option, Some, None, Ok, Err, length, refl, sym, ap, subst, ◌∙◌, arith}
+use Rattle.std.specs.Prelude.{◌||◌, nat_lt}
 use Rattle.std.proofs.lemmas.Bool.Decides.{nat_tests}
-use Rattle.std.proofs.lemmas.Grind.{flat_map-append}
-use Rattle.std.proofs.lemmas.List.{append_assoc, append-nil, length-append, length-map, length-replicate, map-append, set-get_or}
-use Rattle.std.proofs.lemmas.List.Elements.{filter-append, All-get_or, All-set}
-use Rattle.std.proofs.lemmas.List.Folds.{length-flat_map-take}
-use Rattle.std.proofs.lemmas.List.Sums.{sum_by-set}
-use Rattle.std.proofs.Math.Seq.{take-suc}
+use Rattle.hp_model.specs.declared.answer.Answer.{Answer}
+use Rattle.hp_model.specs.declared.answer.Answer.TheVariants.{Done, MapNo, Usage as UsageAnswer}
+use Rattle.hp_model.specs.declared.event.SlotEvent.TheVariants.{Create, Df, Map as MapEvent}
+use Rattle.hp_model.specs.declared.refusal.Refusal.{Refusal}
+use Rattle.hp_model.specs.declared.refusal.Refusal.TheVariants as r
 use Rattle.hp_model.specs.declared.step.Reserving.TheVariants.{Reserve}
 use Rattle.hp_model.specs.declared.step.Sharing.TheVariants.{Shared}
-use Rattle.hp_model.specs.File.{File, Mount, maps_of, new_file, with_file}
-use Rattle.hp_model.specs.Lists.{distinct, is_among}
-use Rattle.hp_model.specs.MakeMap.{asked, mapped, new_map, numbers_of, tasks_of}
-use Rattle.hp_model.specs.declared.place.Place.{Place}
-use Rattle.hp_model.specs.declared.place.Place.TheVariants.{Live}
-use Rattle.hp_model.specs.Mapping.{Map, copy_of, is_of}
-use Rattle.hp_model.specs.Page.{Copy}
-use Rattle.hp_model.specs.MountCounts.{copies_of, file_pages, file_reserves}
-use Rattle.hp_model.proofs.Distinct.{distinct_put, is_among-append, same_members}
-use Rattle.hp_laws.proofs.Maps.{mapped_grows}
+use Rattle.hp_model.specs.File.{Mount, new_file, with_file}
+use Rattle.hp_model.specs.Grant.{is_full, rise}
+use Rattle.hp_model.specs.LocalRun.{ThroughDoor}
+use Rattle.hp_model.specs.MountCounts.{usage_of}
+use Rattle.hp_model.specs.MakeMap.{asked, mapped, next_number, with_new}
+use Rattle.hp_model.specs.Plan.{Answered, Ask, Choice, Finish, Outcome, Plan, Refused, Reply, Slot, grant, refuse, unless, when_granted, with_value}
+use Rattle.hp_model.specs.declared.section.PoolAnswer.{PoolAnswer}
+use Rattle.hp_model.specs.declared.section.Section.{Section}
+use Rattle.hp_model.specs.declared.section.Section.TheVariants.{Grant}
+use Rattle.hp_model.specs.Pool.{granted_at, no_pages}
+use Rattle.hp_model.specs.Profile.{most_file_pages, most_map_pages}
 use Rattle.hp_model.specs.Promises.{file_in}
-use Rattle.hp_mount.specs.Counted.{IsCounted}
-use Rattle.hp_mount.specs.Found.{map_wants, wants_at, with_map}
+use Rattle.hp_model.specs.SlotEvent.{are_too_many_maps, file_named, map_file, slot_event}
+use Rattle.hp_mount_files.specs.Asking.{IsAsked, IsGranted}
+use Rattle.hp_mount_files.specs.Files.{Files}
+use Rattle.hp_mount.specs.Alone.{IsDoneAlone}
+use Rattle.hp_mount.specs.Done.{Through, Tried}
+use Rattle.hp_mount.specs.Found.{first_of}
+use Rattle.hp_mount.specs.Kept.{IsKept, mount_of}
+use Rattle.hp_mount.specs.Making.{create_tests, map_tests}
+use Rattle.hp_mount.proofs.Commands.{tests_fail, tests_pass, tried_as}
+use Rattle.hp_mount.proofs.Ways.{fresh_choice, is_fresh, refused_at}
+use Rattle.hp_subpool.specs.Subpool as share
 use Rattle.hp_subpool.specs.Subpool.{Subpool}
-use Rattle.hp_mount.proofs.Keeping.{read_is}
-use Rattle.hp_mount.specs.Numbers.{HasNumbers}
-use Rattle.hp_mount.specs.declared.numbers.Numbers.{Numbers}
 
--- ---- the numbers of a task's maps
+-- ---- what asks nothing of the pool
 
-numbers_append : (task : ℕ) (xs ys : List Map) → numbers_of task (xs ++ ys) ≡ numbers_of task xs ++ numbers_of task ys
-numbers_append task xs ys = ap (map (λ m. m.number)) (filter-append (is_of task) xs ys) ∙ map-append (λ m. m.number) (filter (is_of task) xs) (filter (is_of task) ys)
-
-number_if : (b : Bool) (m : Map) → map (λ (x : Map). x.number) (cond b (m ∷ []) []) ≡ cond b (m.number ∷ []) []
-number_if true m = refl
-number_if false m = refl
-
-next_in : (task : ℕ) (maps : List Map) (i : ℕ) (m d : Map) (b : Bool) → i < length maps → m ≡ slice_index_or maps i d → is_of task m ≡ b → numbers_of task (take (suc i) maps) ≡ numbers_of task (take i maps) ++ cond b (m.number ∷ []) []
-next_in task maps i m d b l e is =
-    ap (numbers_of task) (take-suc maps i d l ∙ ap (λ x. take i maps ++ x ∷ []) (sym e)) ∙ numbers_append task (take i maps) (m ∷ [])
-    ∙ ap (λ ns. numbers_of task (take i maps) ++ ns) (number_if (is_of task m) m ∙ ap (λ c. cond c (m.number ∷ []) []) is)
-
--- one map more was looked at: it is the task's, and its number was added; or it is another's
-pub number_more : (task : ℕ) (maps : List Map) (i j : ℕ) (m d : Map) (old new : Numbers) (xs : List ℕ) → i < length maps → m ≡ slice_index_or maps i d → is_of task m ≡ true → j ≡ i + 1
-    → HasNumbers new ((xs ++ numbers_of task (take i maps)) ++ m.number ∷ []) → HasNumbers new (xs ++ numbers_of task (take j maps))
-number_more task maps i j m d old new xs l e is next has =
-    let j_is : j ≡ suc i = omega (arith, next) in
-    subst (λ ns. HasNumbers new ns) (append_assoc xs (numbers_of task (take i maps)) (m.number ∷ []) ∙ ap (λ ns. xs ++ ns) (sym (next_in task maps i m d true l e is)) ∙ ap (λ k. xs ++ numbers_of task (take k maps)) (sym j_is)) has
-
-pub number_not : (task : ℕ) (maps : List Map) (i j : ℕ) (m d : Map) (new : Numbers) (xs : List ℕ) → i < length maps → m ≡ slice_index_or maps i d → is_of task m ≡ false → j ≡ i + 1
-    → HasNumbers new (xs ++ numbers_of task (take i maps)) → HasNumbers new (xs ++ numbers_of task (take j maps))
-number_not task maps i j m d new xs l e is next has =
-    let j_is : j ≡ suc i = omega (arith, next) in
-    subst (λ ns. HasNumbers new ns) (ap (λ ns. xs ++ ns) (sym (next_in task maps i m d false l e is ∙ append-nil (numbers_of task (take i maps)))) ∙ ap (λ k. xs ++ numbers_of task (take k maps)) (sym j_is)) has
-
-abbrev maps_in : List File → List Map
-maps_in fs = flat_map (λ f. f.maps) fs
-
--- one file more was looked at
-pub numbers_more : (task : ℕ) (files : List File) (i j : ℕ) (f : File) (d : File) (new : Numbers) → i < length files → f ≡ slice_index_or files i d → j ≡ i + 1
-    → HasNumbers new (numbers_of task (flat_map (λ f. f.maps) (take i files)) ++ numbers_of task f.maps) → HasNumbers new (numbers_of task (flat_map (λ f. f.maps) (take j files)))
-numbers_more task files i j f d new l e next has =
-    let j_is : j ≡ suc i = omega (arith, next) in
-    let all : maps_in (take (suc i) files) ≡ maps_in (take i files) ++ f.maps =
-    ap maps_in (take-suc files i d l ∙ ap (λ x. take i files ++ x ∷ []) (sym e)) ∙ flat_map-append (λ f. f.maps) (take i files) (f ∷ []) ∙ ap (λ ms. maps_in (take i files) ++ ms) (append-nil f.maps) in
-    subst (λ ns. HasNumbers new ns) (sym (numbers_append task (maps_in (take i files)) f.maps) ∙ ap (numbers_of task) (sym all) ∙ ap (λ k. numbers_of task (maps_in (take k files))) (sym j_is)) has
-
-pub maps_so_far : (files : List File) (i : ℕ) (f d : File) → i < length files → f ≡ slice_index_or files i d → length (flat_map (λ f. f.maps) (take i files)) + length f.maps ≤ length (flat_map (λ f. f.maps) files)
-maps_so_far files i f d l e = let step = length-flat_map-take (λ (f : File). f.maps) files i d l in let same = ap (λ (f : File). length f.maps) e in omega (arith, step, same)
-
-filter_few : {X : Type 0} (test : X → Bool) (xs : List X) → length (filter test xs) ≤ length xs
-filter_few test [] = omega arith
-filter_few {X} test (x ∷ xs) = either (filter test xs) (test x) (filter_few test xs)
-  where
-    either : (ys : List X) (b : Bool) → length ys ≤ length xs → length (cond b (x ∷ ys) ys) ≤ length (x ∷ xs)
-    either ys true rest = omega (arith, rest)
-    either ys false rest = omega (arith, rest)
-
-pub numbers_few : (task : ℕ) (maps : List Map) → length (numbers_of task maps) ≤ length maps
-numbers_few task maps = let few = filter_few (is_of task) maps in let same = length-map (filter (is_of task) maps) (λ (m : Map). m.number) in omega (arith, few, same)
-
-pub few_so_far : (task : ℕ) (files : List File) (i n : ℕ) (f : File) → n ≡ length (numbers_of task (flat_map (λ f. f.maps) (take i files))) → i < length files → f ≡ slice_index_or files i f
-    → length (flat_map (λ f. f.maps) files) < 4096 → n + length f.maps ≤ 4096
-few_so_far task files i n f n_is l e few = omega (arith, n_is, few, numbers_few task (maps_in (take i files)), maps_so_far files i f f l e)
-
-maps_in_front : (files : List File) (i : ℕ) → length (maps_in (take i files)) ≤ length (maps_in files)
-maps_in_front [] zero = omega arith
-maps_in_front [] (suc i) = omega arith
-maps_in_front (f ∷ files) zero = omega arith
-maps_in_front (f ∷ files) (suc i) = omega (arith, maps_in_front files i, length-append f.maps (maps_in (take i files)), length-append f.maps (maps_in files))
-
-pub few_in_all : (task : ℕ) (files : List File) (i n : ℕ) → n ≡ length (numbers_of task (flat_map (λ f. f.maps) (take i files))) → length (flat_map (λ f. f.maps) files) < 4096 → n < 4096
-few_in_all task files i n n_is few = omega (arith, n_is, few, numbers_few task (maps_in (take i files)), maps_in_front files i)
-
--- ---- the tasks that have maps
-
-or_same : (b c : Bool) → (b ≡ true → c ≡ true) → (b || c) ≡ c
-or_same true c e = sym (e refl)
-or_same false c e = refl
-
-among_distinct : (q : ℕ) (xs : List ℕ) → is_among q (distinct xs) ≡ is_among q xs
-among_distinct q [] = refl
-among_distinct q (x ∷ xs) =
-    elim (is_among x xs) as (λ b. is_among x xs ≡ b → is_among q (cond b (distinct xs) (x ∷ distinct xs)) ≡ ((x == q) || is_among q xs)) [
-      | true ↦ λ e.
-          among_distinct q xs ∙ sym (or_same (x == q) (is_among q xs) (λ same. (let one : x ≡ q = grind (arith, nat_tests, same) in subst (λ k. is_among k xs ≡ true) one e)))
-      | false ↦ λ e. ap (λ b. (x == q) || b) (among_distinct q xs)
-    ] refl
-
-has_some : (task : ℕ) (maps : List Map) → is_among task (map (λ x. x.task) maps) ≡ not (length (numbers_of task maps) == 0)
-has_some task [] = refl
-has_some task (m ∷ maps) = either (m.task == task) (has_some task maps)
-  where
-    either : (b : Bool) → is_among task (map (λ x. x.task) maps) ≡ not (length (numbers_of task maps) == 0)
-        → (b || is_among task (map (λ x. x.task) maps)) ≡ not (length (map (λ (x : Map). x.number) (cond b (m ∷ filter (is_of task) maps) (filter (is_of task) maps))) == 0)
-    either true rest = grind (arith, nat_tests)
-    either false rest = rest
-
--- a task without a number has no map
-is_first_map : (task : ℕ) (m : Mount) → is_among task (tasks_of m) ≡ not (length (numbers_of task (maps_of m)) == 0)
-is_first_map task m = among_distinct task (map (λ x. x.task) (maps_of m)) ∙ has_some task (maps_of m)
-
-pub first_if_none : (task : ℕ) (m : Mount) (n : ℕ) → n ≡ length (numbers_of task (maps_of m)) → (n == 0) ≡ not (is_among task (tasks_of m))
-first_if_none task m n e = ap (λ k. k == 0) e ∙ twice (length (numbers_of task (maps_of m)) == 0) ∙ ap not (sym (is_first_map task m))
-  where
-    twice : (b : Bool) → b ≡ not (not b)
-    twice true = refl
-    twice false = refl
-
-distinct_few : (xs : List ℕ) → length (distinct xs) ≤ length xs
-distinct_few [] = omega arith
-distinct_few (x ∷ xs) = either (distinct xs) (is_among x xs) (distinct_few xs)
-  where
-    either : (ys : List ℕ) (b : Bool) → length ys ≤ length xs → length (cond b ys (x ∷ ys)) ≤ length (x ∷ xs)
-    either ys true rest = omega (arith, rest)
-    either ys false rest = omega (arith, rest)
-
-pub tasks_few : (m : Mount) → length (tasks_of m) ≤ length (maps_of m)
-tasks_few m = let few = distinct_few (map (λ x. x.task) (maps_of m)) in let same = length-map (maps_of m) (λ (x : Map). x.task) in omega (arith, few, same)
-
--- a number that is there already counts no more
-distinct_again : (n : ℕ) (xs ys : List ℕ) → is_among n (xs ++ ys) ≡ true → length (distinct (xs ++ n ∷ ys)) ≡ length (distinct (xs ++ ys))
-distinct_again n xs ys known =
-    same_members (xs ++ n ∷ ys) (xs ++ ys) (λ q.
-    is_among-append q xs (n ∷ ys) ∙ swap (is_among q xs) (n == q) (is_among q ys)
-    ∙ or_same (n == q) (is_among q xs || is_among q ys) (λ same.
-    let one : n ≡ q = grind (arith, nat_tests, same) in
-    sym (is_among-append q xs ys) ∙ subst (λ k. is_among k (xs ++ ys) ≡ true) one known)
-    ∙ sym (is_among-append q xs ys))
-  where
-    swap : (a b c : Bool) → (a || (b || c)) ≡ (b || (a || c))
-    swap true true c = refl
-    swap true false c = refl
-    swap false b c = refl
-
--- ---- a file of the mount with a map more
-
--- the maps of all files, cut where the new one stands
-record IsPut (fs gs : List Map) (x : Map) : Type 0 where
-  front : List Map
-  back : List Map
-  before : fs ≡ front ++ back
-  after : gs ≡ front ++ x ∷ back
-
-put_in : (fs : List File) (k : ℕ) (g : File) (x : Map) → k < length fs → g.maps ≡ (slice_index_or fs k (new_file None)).maps ++ x ∷ [] → IsPut (maps_in fs) (maps_in (slice_set fs k g)) x
-put_in [] k g x l e = absurd (omega (arith, l))
-put_in (f ∷ fs) zero g x l e = record { front = f.maps; back = maps_in fs; before = refl; after = ap (λ ms. ms ++ maps_in fs) e ∙ append_assoc f.maps (x ∷ []) (maps_in fs) }
-put_in (f ∷ fs) (suc k) g x l e =
-    let rest = put_in fs k g x (omega (arith, l)) e in
+pub usage_alone : (s : Subpool) (v : Files) (inodes : Option ℕ) → IsKept s v (mount_of s inodes v.files) → (max ino : Option ℕ) (min used n : ℕ) → max ≡ s.max → min ≡ s.min → used ≡ share.used s → ino ≡ inodes → n ≡ length v.files
+    → (size k : ℕ) → IsDoneAlone size k (Some (mount_of s inodes v.files)) Df (Ok (UsageAnswer max min used ino n)) (Some (mount_of s inodes v.files))
+usage_alone s v inodes kept max ino min used n max_is min_is used_is ino_is n_is size k =
+    let m : Mount = mount_of s inodes v.files in
     record {
-      front = f.maps ++ rest.front;
-      back = rest.back;
-      before = ap (λ ms. f.maps ++ ms) rest.before ∙ sym (append_assoc f.maps rest.front rest.back);
-      after = ap (λ ms. f.maps ++ ms) rest.after ∙ sym (append_assoc f.maps rest.front (x ∷ rest.back));
+      choice = fresh_choice false (Some m);
+      fresh = is_fresh false (Some m);
+      outcome = Answered (UsageAnswer max min used ino n) (Some m);
+      ends = sym (ap (λ x. Finish (Answered (UsageAnswer x min used ino n) (Some m))) max_is ∙ ap (λ x. Finish (Answered (UsageAnswer s.max x used ino n) (Some m))) min_is
+          ∙ ap (λ x. Finish (Answered (UsageAnswer s.max s.min x ino n) (Some m))) (used_is ∙ kept.used) ∙ ap (λ x. Finish (Answered (UsageAnswer s.max s.min (usage_of m) x n) (Some m))) ino_is
+          ∙ ap (λ x. Finish (Answered (UsageAnswer s.max s.min (usage_of m) inodes x) (Some m))) n_is);
+      gives = (refl, refl);
     }
 
-put_length : (fs gs : List Map) (x : Map) → IsPut fs gs x → length gs ≡ length fs + 1
-put_length fs gs x p =
-    let was = ap length p.before in
-    let is = ap length p.after in
-    omega (arith, was, is, length-append p.front p.back, length-append p.front (x ∷ p.back))
+module _ (m : Mount) (name : List ℕ) (size k : ℕ) where
+  pub create_refused : (e : Refusal) → first_of (create_tests m name) ≡ Some e → IsDoneAlone size k (Some m) (Create name) (Err e) (Some m)
+  create_refused e h = record {
+    choice = fresh_choice false (Some m);
+    fresh = is_fresh false (Some m);
+    outcome = Refused e;
+    ends = tests_fail (create_tests m name) (unless ((false, r.OutOfMemory) ∷ []) (Finish (Answered Done (Some (with_new m (new_file (Some name))))))) e h;
+    gives = (refl, refl);
+  }
 
-put_tasks : (fs gs : List Map) (x : Map) (b : Bool) → IsPut fs gs x → is_among x.task (map (λ x. x.task) fs) ≡ not b → length (distinct (map (λ x. x.task) gs)) ≡ length (distinct (map (λ x. x.task) fs)) + cond b 1 0
-put_tasks fs gs x b p known =
-    let t = λ (x : Map). x.task in
-    let was : map t fs ≡ map t p.front ++ map t p.back = ap (map t) p.before ∙ map-append t p.front p.back in
-    let is : map t gs ≡ map t p.front ++ x.task ∷ map t p.back = ap (map t) p.after ∙ map-append t p.front (x ∷ p.back) in
-    let known_there : is_among x.task (map t p.front ++ map t p.back) ≡ not b = ap (is_among x.task) (sym was) ∙ known in
-    let left = ap (λ xs. length (distinct xs)) was in
-    let right = ap (λ xs. length (distinct xs)) is in
-    elim b as (λ c. is_among x.task (map t p.front ++ map t p.back) ≡ not c → length (distinct (map t gs)) ≡ length (distinct (map t fs)) + cond c 1 0) [
-      | true ↦ λ e. (let step = distinct_put x.task (map t p.front) (map t p.back) e in omega (arith, step, left, right))
-      | false ↦ λ e. (let step = distinct_again x.task (map t p.front) (map t p.back) e in omega (arith, step, left, right))
-    ] known_there
+  pub create_without_memory : (n : Mount) → first_of (create_tests m name) ≡ None → n ≡ m → IsDoneAlone size k (Some m) (Create name) (Err r.OutOfMemory) (Some n)
+  create_without_memory n pass same = record {
+    choice = fresh_choice true (Some m);
+    fresh = is_fresh true (Some m);
+    outcome = Refused r.OutOfMemory;
+    ends = tests_pass (create_tests m name) (unless ((true, r.OutOfMemory) ∷ []) (Finish (Answered Done (Some (with_new m (new_file (Some name))))))) pass;
+    gives = (refl, ap Some same);
+  }
 
--- the file has one map more, as the machine makes it
-pub with_map_is : (f : File) (task number a n : ℕ) → with_map f (new_map task number a n Shared Reserve) ≡ mapped task number a n Shared Reserve f
-with_map_is f task number a n = ap (λ k. with_map_of k) (length-replicate n _)
-  where
-    with_map_of : ℕ → File
-    with_map_of k = record (mapped task number a k Shared Reserve f) { maps = f.maps ++ new_map task number a n Shared Reserve ∷ [] }
+  pub create_done : (n : Mount) → first_of (create_tests m name) ≡ None → n ≡ with_new m (new_file (Some name)) → IsDoneAlone size k (Some m) (Create name) (Ok Done) (Some n)
+  create_done n pass is = record {
+    choice = fresh_choice false (Some m);
+    fresh = is_fresh false (Some m);
+    outcome = Answered Done (Some (with_new m (new_file (Some name))));
+    ends = tests_pass (create_tests m name) (unless ((false, r.OutOfMemory) ∷ []) (Finish (Answered Done (Some (with_new m (new_file (Some name))))))) pass;
+    gives = (refl, ap Some is);
+  }
 
--- the share with k reservations more
-abbrev pub with_held : Subpool → ℕ → Subpool
-with_held sub k = record sub { held = sub.held + k }
+-- ---- a grant
 
-none_copied : (n : ℕ) → filter_map copy_of (replicate {A = Place Copy} n (Live false None)) ≡ []
-none_copied zero = refl
-none_copied (suc n) = none_copied n
+module _ {X : Type 0} (took : X → Section → PoolAnswer → X → Type 0) (full : X → Type 0) (m : Mount) (home k : ℕ) (a : Answer) (n : Mount) (door : X) where
+  abbrev outcome : Outcome
+  outcome = Answered a (Some n)
 
--- a new map has no copy
-mapped_copies : (task number a n : ℕ) (f : File) → copies_of (mapped task number a n Shared Reserve f) ≡ copies_of f
-mapped_copies task number a n f =
-    flat_map-append (λ (m : Map). filter_map copy_of m.places) f.maps (new_map task number a n Shared Reserve ∷ [])
-    ∙ ap (λ xs. copies_of f ++ (xs ++ [])) (none_copied n) ∙ append-nil (copies_of f)
+  abbrev plan : Choice → Plan
+  plan c = grant c m home k outcome
 
-pub counted_mapped : (sub : Subpool) (more maps tasks : ℕ) (m : Mount) (k task number a n : ℕ) (first : Bool) → IsCounted sub maps tasks m → k < length m.files → more ≡ asked Shared Reserve a n (file_in m k)
-    → first ≡ not (is_among task (tasks_of m)) → IsCounted (with_held sub more) (maps + 1) (tasks + cond first 1 0) (with_file m k (mapped task number a n Shared Reserve (file_in m k)))
-counted_mapped sub more maps tasks m k task number a n first c l more_is first_is =
-    let f : File = file_in m k in
-    let g : File = mapped task number a n Shared Reserve f in
-    let x : Map = new_map task number a n Shared Reserve in
-    let grows = mapped_grows task number a n Shared Reserve f in
-    let pages = grows.pages in
-    let usage = grows.usage in
-    let sums = sum_by-set file_reserves m.files k g (new_file None) l in
-    let used = sum_by-set file_pages m.files k g (new_file None) l in
-    let promised = c.promised in
-    let had = c.pages in
-    let put : IsPut (maps_of m) (maps_of (with_file m k g)) x = put_in m.files k g x l refl in
-    let many = put_length (maps_of m) (maps_of (with_file m k g)) x put in
-    let many_was = c.maps in
-    let busy_was = c.tasks in
-    let known : is_among task (map (λ x. x.task) (maps_of m)) ≡ not first = sym (among_distinct task (map (λ x. x.task) (maps_of m))) ∙ flip (is_among task (tasks_of m)) first first_is in
-    let busy = put_tasks (maps_of m) (maps_of (with_file m k g)) x first put known in
-    record {
-      max = c.max;
-      min = c.min;
-      pages = omega (arith, had, used, pages);
-      promised = omega (arith, promised, sums, pages, usage, more_is);
-      maps = omega (arith, many, many_was);
-      tasks = omega (arith, busy, busy_was);
-      plain = All-set (λ f. copies_of f ≡ []) m.files k g (mapped_copies task number a n f ∙ All-get_or (λ f. copies_of f ≡ []) m.files k (new_file None) l c.plain) c.plain;
-    }
-  where
-    flip : (a b : Bool) → b ≡ not a → a ≡ not b
-    flip true b e = ap not (sym e)
-    flip false b e = ap not (sym e)
+  -- once memory is there
+  abbrev goes : Bool → Plan
+  goes none = cond none (Finish outcome) (Ask (λ nr. Grant home (rise m k)) (when_granted outcome))
 
--- ---- as code changes a file that it has read: x is what it read, and g what it leaves there
+  tests : (c : Choice) (is refused : Bool) → is_full m k ≡ is → c.refused ≡ refused → (reply : Reply) (new : Slot) (left : X)
+      → ThroughDoor took (cond is (refuse r.MountFull) (cond refused (refuse r.OutOfMemory) (goes (rise m k == 0)))) (Some m) door reply new left → ThroughDoor took (plan c) (Some m) door reply new left
+  tests c is refused e z reply new left h =
+      subst (λ b. ThroughDoor took (cond b (refuse r.MountFull) (cond c.refused (refuse r.OutOfMemory) (goes (rise m k == 0)))) (Some m) door reply new left) (sym e)
+      (subst (λ b. ThroughDoor took (cond is (refuse r.MountFull) (cond b (refuse r.OutOfMemory) (goes (rise m k == 0)))) (Some m) door reply new left) (sym z) h)
 
-module _ (sub : Subpool) (maps tasks : ℕ) (m : Mount) (k : ℕ) (x g : File) (c : IsCounted sub maps tasks m) (l : k < length m.files) (e : x ≡ slice_index_or m.files k x) where
-  -- what the map asks for there is what it asks for on the mount
-  pub wants_are : (task number a n : ℕ) (y : Map) → y ≡ new_map task number a n Shared Reserve → map_wants x y ≡ wants_at m k a n
-  wants_are task number a n y y_is =
-      let wide : length y.places ≡ n = ap (λ (z : Map). length z.places) y_is ∙ length-replicate n _ in
-      let from : y.start ≡ a = ap (λ (z : Map). z.start) y_is in
-      ap (λ i. asked Shared Reserve i (length y.places) x) from ∙ ap (λ j. asked Shared Reserve a j x) wide ∙ ap (asked Shared Reserve a n) (read_is m k x l e)
+  pub grant_full : is_full m k ≡ true → Tried took full plan (Some m) door (Err r.MountFull) (Some m) door
+  grant_full e = (let c : Choice = fresh_choice false (Some m) in (c, is_fresh false (Some m), tests c true false e refl (Err r.MountFull) (Some m) door (refused_at took m r.MountFull door)))
 
-  pub mapped_is : (task number a n : ℕ) (y : Map) → y ≡ new_map task number a n Shared Reserve → g ≡ with_map x y → with_file m k g ≡ with_file m k (mapped task number a n Shared Reserve (file_in m k))
-  mapped_is task number a n y y_is g_is =
-      ap (with_file m k) (g_is ∙ ap (with_map x) y_is ∙ with_map_is x task number a n ∙ ap (mapped task number a n Shared Reserve) (read_is m k x l e))
+  some_rise : 0 < rise m k → (rise m k == 0) ≡ false
+  some_rise l = grind (arith, nat_tests, l)
 
-  pub map_left : (task number a n : ℕ) (y : Map) (sub_now : Subpool) (tasks_now : ℕ) (first : Bool) → y ≡ new_map task number a n Shared Reserve → g ≡ with_map x y
-      → sub_now ≡ with_held sub (map_wants x y) → first ≡ not (is_among task (tasks_of m)) → tasks_now ≡ tasks + cond first 1 0 → IsCounted sub_now (maps + 1) tasks_now (with_file m k g)
-  map_left task number a n y sub_now tasks_now first y_is g_is sub_is first_is tasks_is =
-      let kept = counted_mapped sub (map_wants x y) maps tasks m k task number a n first c l (wants_are task number a n y y_is) first_is in
-      subst (λ z. IsCounted sub_now (maps + 1) tasks_now z) (sym (mapped_is task number a n y y_is g_is))
-      (subst (λ s. IsCounted s (maps + 1) tasks_now (with_file m k (mapped task number a n Shared Reserve (file_in m k)))) (sym sub_is)
-      (subst (λ t. IsCounted (with_held sub (map_wants x y)) (maps + 1) t (with_file m k (mapped task number a n Shared Reserve (file_in m k)))) (sym tasks_is) kept))
+  module _ (room : is_full m k ≡ false) (s : Subpool) (rise_is : share.rise s k ≡ rise m k) where
+    pub grant_given : (new : Subpool) (left : X) → IsGranted took full home k s door new left → Tried took full plan (Some m) door (Ok a) (Some n) left
+    grant_given new left given =
+        let c : Choice = fresh_choice false (Some m) in
+        (c, is_fresh false (Some m), tests c false false room refl (Ok a) (Some n) left (either (rise m k == 0) refl))
+      where
+        either : (b : Bool) → (rise m k == 0) ≡ b → ThroughDoor took (goes (rise m k == 0)) (Some m) door (Ok a) (Some n) left
+        either true e = (let none : rise m k ≡ 0 = grind (arith, nat_tests, e) in subst (λ b. ThroughDoor took (goes b) (Some m) door (Ok a) (Some n) left) (sym e) ((refl, refl), given.none (rise_is ∙ none)))
+        either false e =
+            let some : 0 < rise m k = grind (arith, nat_tests, e) in
+            let section = subst (λ d. took door (Grant home d) (granted_at 0) left) rise_is (given.some (subst (λ d. 0 < d) (sym rise_is) some)) in
+            subst (λ b. ThroughDoor took (goes b) (Some m) door (Ok a) (Some n) left) (sym e) (granted_at 0, section, (refl, refl))
 
--- a file that is left as it was read
-pub same_left : (m : Mount) (k : ℕ) (x g : File) → x ≡ slice_index_or m.files k x → g ≡ x → with_file m k g ≡ m
-same_left m k x g e same = ap (λ fs. record m { files = fs }) (ap (slice_set m.files k) (same ∙ e) ∙ set-get_or m.files k x)
+    pub grant_denied : (e : Refusal) (new : Subpool) (left : X) (after : Mount) → IsAsked took full home k s door (Err e) new left → after ≡ m → Tried took full plan (Some m) door (Err e) (Some after) left
+    grant_denied r.OutOfMemory new left after none same =
+        let c : Choice = fresh_choice true (Some m) in
+        (c, is_fresh true (Some m), tests c false true room refl (Err r.OutOfMemory) (Some after) left ((refl, ap Some same), none.door))
+    grant_denied r.NoPages new left after denied same =
+        let c : Choice = fresh_choice false (Some m) in
+        let some = subst (λ d. 0 < d) rise_is denied.some in
+        let section = subst (λ d. took door (Grant home d) no_pages left) rise_is denied.why in (
+          c,
+          is_fresh false (Some m),
+          tests c false false room refl (Err r.NoPages) (Some after) left
+              (subst (λ b. ThroughDoor took (goes b) (Some m) door (Err r.NoPages) (Some after) left) (sym (some_rise some)) (no_pages, section, (refl, ap Some same))),
+        )
+    grant_denied r.TraceFull new left after denied same = (ap Some same, denied.why)
+    grant_denied other new left after denied same = absurd denied.why
+
+-- refused, the share is as it was
+pub asked_share : {X : Type 0} (took : X → Section → PoolAnswer → X → Type 0) (full : X → Type 0) (home k : ℕ) (s : Subpool) (door : X) (e : Refusal) (new : Subpool) (left : X) → IsAsked took full home k s door (Err e) new left → new ≡ s
+asked_share took full home k s door r.OutOfMemory new left asked = asked.share
+asked_share took full home k s door other new left asked = asked.share
+
+-- ---- a map
+
+never_map : (a b : Bool) → cond a (Some r.OutOfRange) (cond b (Some r.TooMany) None) ≡ Some r.TraceFull → ⊥
+never_map true b e = cc
+never_map false true e = cc
+never_map false false e = cc
+
+module _ {X : Type 0} (took : X → Section → PoolAnswer → X → Type 0) (full : X → Type 0) (m : Mount) (size slot task home a n : ℕ) (name : List ℕ) (door : X) where
+  abbrev event : Choice → Plan
+  event c = slot_event size slot c (Some m) (MapEvent task home name a n Shared Reserve)
+
+  pub map_nowhere : file_named m name ≡ None → Tried took full event (Some m) door (Err r.NoSuchFile) (Some m) door
+  map_nowhere e = (
+    fresh_choice false (Some m),
+    is_fresh false (Some m),
+    subst (λ o. ThroughDoor took (with_value o r.NoSuchFile (map_file (fresh_choice false (Some m)) m task home a n Shared Reserve)) (Some m) door (Err r.NoSuchFile) (Some m) door) (sym e) (refused_at took m r.NoSuchFile door),
+  )
+
+  module _ (k : ℕ) (named : file_named m name ≡ Some (k, file_in m k)) where
+    abbrev grants : Choice → ℕ → Plan
+    grants c number = grant c m home (asked Shared Reserve a n (file_in m k)) (Answered (MapNo number) (Some (with_file m k (mapped task number a n Shared Reserve (file_in m k)))))
+
+    of_file : (c : Choice) → event c ≡ unless (map_tests m task a n) (grants c (next_number task m))
+    of_file c = ap (λ o. with_value o r.NoSuchFile (map_file c m task home a n Shared Reserve)) named
+
+    refused_by : (e : Refusal) → first_of (map_tests m task a n) ≡ Some e → Through took event (Some m) door (Err e) (Some m) door
+    refused_by e h =
+        let c : Choice = fresh_choice false (Some m) in
+        (c, is_fresh false (Some m), subst (λ p. ThroughDoor took p (Some m) door (Err e) (Some m) door) (sym (of_file c ∙ tests_fail (map_tests m task a n) (grants c (next_number task m)) e h)) (refused_at took m e door))
+
+    pub map_refused : (e : Refusal) → first_of (map_tests m task a n) ≡ Some e → Tried took full event (Some m) door (Err e) (Some m) door
+    map_refused r.TraceFull h = absurd (never_map ((n == 0) || nat_lt most_file_pages (a + n)) (nat_lt most_map_pages n || are_too_many_maps m task) h)
+    map_refused other h = refused_by other h
+
+    pub map_went : (number : ℕ) → first_of (map_tests m task a n) ≡ None → number ≡ next_number task m → (reply : Reply) (new : Slot) (left : X) → Tried took full (λ c. grants c number) (Some m) door reply new left → Tried took full event (Some m) door reply new left
+    map_went number pass number_is reply new left h =
+        tried_as took full (λ c. grants c number) event (λ c. ap (grants c) number_is ∙ sym (tests_pass (map_tests m task a n) (grants c (next_number task m)) pass) ∙ sym (of_file c)) (Some m) door reply new left h

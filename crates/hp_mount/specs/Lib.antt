@@ -1,5 +1,7 @@
-pub mod Carried
-pub mod Counted
+pub mod Kept
+pub mod Done
 pub mod Found
-pub mod Numbers
-pub mod States
+pub mod Alone
+pub mod Making
+pub mod Event
+pub mod Memory

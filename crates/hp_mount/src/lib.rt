@@ -1,10 +1,13 @@
-//! One mount's events: its files, their pages and their maps.
+//! One mount's events: its files, their pages and their maps, through any door to the pool.
 #![tactic(auto)]
 
-mod file;
-mod map;
+mod event;
 mod mount;
-mod numbers;
-mod ranges;
 
-pub use mount::{MapAccess, MapRange, Mount};
+pub use hp_mount_door::PoolDoor;
+pub use hp_mount_files::MapRange;
+pub use event::MountEvent;
+pub use mount::{MapAccess, Mount};
+
+#[cfg(test)]
+mod tests;

@@ -1,82 +1,56 @@
 //! A mount.
-ghost use Rattle.std.specs.Prelude.{◌≡◌, ℕ, ◌+◌, ◌<◌, ◌≤◌, [], length, is_some, IfOk, IfErr, IsOk, ◌↔◌, OnOk, OnErr, Some, None, Ok, IsTrue};
-ghost use Rattle.hp_model.specs.declared.answer.Answer.TheVariants.{Done};
-ghost use Rattle.hp_model.specs.declared.event.SlotEvent.TheVariants.{Create, Df};
+ghost use Rattle.std.specs.Prelude.{◌≡◌, ◌≢◌, ℕ, [], length, true, false, None, Ok, Err, Some};
 ghost use Rattle.hp_model.specs.declared.refusal.Refusal.TheVariants as Refusal;
-ghost use Rattle.hp_model.specs.File.{maps_of, new_file};
-ghost use Rattle.hp_model.specs.Grant.{can_grant, granted, is_over};
-ghost use Rattle.hp_model.specs.MakeMap.{with_new};
-ghost use Rattle.hp_model.specs.MountCounts.{usage_of};
+ghost use Rattle.hp_model.specs.declared.answer.Answer.TheVariants.{Done};
+ghost use Rattle.hp_model.specs.declared.event.SlotEvent.TheVariants.{Df};
+ghost use Rattle.hp_model.specs.LocalRun.{ThroughDoor};
+ghost use Rattle.hp_model.specs.Page.{Page as PageValue};
 ghost use Rattle.hp_model.specs.Plan.{gives};
-ghost use Rattle.hp_model.specs.PoolCounts.{Pool as PoolValue, IsSettled};
-ghost use Rattle.hp_model.specs.SlotEvent.{has_maps, is_name, is_name_byte, file_named};
+ghost use Rattle.hp_model.specs.SlotEvent.{has_maps};
 ghost use Rattle.hp_model.specs.Writing.{IsWithinLimit, IsWithinLimits};
-ghost use Rattle.hp_mount.specs.Carried.{IsDone, carried};
+ghost use Rattle.hp_store.specs.Store.{Store as StoreValue, page_at};
+ghost use Rattle.hp_subpool.specs.Subpool.{Subpool as ShareValue};
+ghost use Rattle.hp_mount.specs.Alone.{IsDoneAlone};
+ghost use Rattle.hp_mount.specs.Done.{IsDone};
+ghost use Rattle.hp_mount.specs.Event.{event_of, is_usage};
+ghost use Rattle.hp_mount.specs.Memory.{asks_memory};
 
-mod access;
 mod making;
+mod reach;
 
-use crate::file::{File, PageState};
-pub use access::MapAccess;
+use crate::event::MountEvent;
 use hp_model::answer::{Answer, Reply};
-use hp_model::bytes::Bytes;
-use hp_model::limits::Limits;
 use hp_model::naming::Naming;
 use hp_model::refusal::Refusal;
-use hp_pool::Pool;
+use hp_mount_door::PoolDoor;
+use hp_mount_files::{Files, MapRange};
+use hp_nodes::Page;
+use hp_store::PageStore;
 use hp_subpool::Subpool;
-pub use making::MapRange;
-use std::alloc::{AllocError, Global};
+pub use reach::MapAccess;
+use std::alloc::Global;
 use std::marker::Model;
 
 /// A mount: its share of the pool, its limit of files, and its files with their maps. Contracts see the mount of the
 /// definitions. It can't be dropped: `close` ends it.
 ///
-/// The share (`Subpool`) holds the pages in use, the reservations of all entries without a page, and what is kept for
-/// the minimum.
+/// The share (`Subpool`) holds the pages in use, the reservations of all entries without a page and of owners, and what
+/// is kept for the minimum. Each reservation has room for its page.
 pub struct Mount<N: Naming> {
-    alloc: Global,
     share: Subpool<N>,
     inodes: Option<u64>,
-    files: Vec<File<N>>,
-    maps: u64,
-    tasks: u64,
+    files: Files<N>,
 }
 
 impl<N: Naming> Model for Mount<N> {
     ghost use Rattle.hp_model.specs.File.{Mount as MountValue};
-    ghost use Rattle.hp_mount.specs.Counted.{IsCounted, mount_of};
+    ghost use Rattle.hp_mount.specs.Kept.{IsKept, mount_of};
 
     ghost Value = { MountValue };
 
-    ghost view = { λ s. mount_of s.share s.inodes s.files.items };
+    ghost view = { λ s. mount_of s.share s.inodes s.files.files };
 
-    ghost invariant = { λ s. IsCounted s.share s.maps s.tasks (mount_of s.share s.inodes s.files.items) };
-}
-
-// one of A-Z a-z 0-9 . _ -
-fn is_name_byte(c: u8) -> bool
-    ensures { result ≡ is_name_byte c }
-{
-    (65 <= c && c <= 90)
-        || (97 <= c && c <= 122)
-        || (48 <= c && c <= 57)
-        || c == 46
-        || c == 95
-        || c == 45
-}
-
-/// Whether a file may be named so.
-fn is_name(name: &[u8]) -> bool
-    ensures { result ≡ is_name name.now }
-{
-    if name.len() < 1 {
-        return false;
-    }
-    if name.len() > 64 {
-        return false;
-    }
-    name.iter().all(|c| is_name_byte(*c))
+    ghost invariant = { λ s. IsKept s.share s.files (mount_of s.share s.inodes s.files.files) };
 }
 
 // A limit as it is. Its number is below 2^64, as each number of the code.
@@ -91,41 +65,29 @@ fn told(limit: Option<u64>) -> Option<u64>
 }
 
 impl<N: Naming> Mount<N> {
-    /// A mount with these limits and no file, whose minimum is committed in the pool, at home node 0.
-    ///
-    /// Refused as NoPages where the pool can't commit the minimum, and then nothing changes. It takes no memory.
-    #[tactic(auto, using(crate::proofs::Keeping::counted_open))]
-    pub fn open(alloc: Global, pool: &mut Pool<N>, limits: &Limits) -> Result<Self, Refusal>
-        requires { IsSettled pool.old }
-        ensures granted { IsOk result ↔ IsTrue (can_grant limits.now.min pool.old) }
-        ensures ok { IfOk result (λ m. (m ≡ record { limits = limits.now; files = [] }) × (pool.new ≡ granted 0 limits.now.min pool.old)) }
-        ensures err { IfErr result (λ e. (e ≡ Refusal.NoPages) × (pool.new ≡ pool.old)) }
-        ensures nothing { limits.now.min ≡ 0 → pool.new ≡ pool.old }
-        ensures settled { IsSettled pool.new }
+    /// A mount without files, by a share of which nothing is in use, and its limit of files. It takes no memory.
+    pub fn new(alloc: Global, share: Subpool<N>, inodes: Option<u64>) -> Self
+        requires pages { share.pages ≡ 0 }
+        requires held { share.held ≡ 0 }
+        ensures { result ≡ record { limits = record { max = share.max; min = share.min; inodes = inodes }; files = [] } }
     {
-        let share = Subpool::open(pool, limits.max, limits.min)?;
-        Ok(Mount {
-            alloc,
+        Mount {
             share,
-            inodes: limits.inodes,
-            files: Vec::new(alloc),
-            maps: 0,
-            tasks: 0,
-        })
+            inodes,
+            files: Files::new(alloc),
+        }
     }
 
     /// Whether there is a map.
     pub fn has_maps(&self) -> bool
         ensures { result ≡ has_maps self.now }
     {
-        let _files = &self.files;
-        self.maps > 0
+        self.files.map_count() > 0
     }
 
     /// The mount's limits, its pages in use and reservations, and how many files it has. Never refused.
-    #[tactic(auto, unfolding(crate::specs::Carried::IsDone))]
     pub fn usage(&self) -> Answer
-        ensures done { (size k : ℕ) (p : PoolValue) → IsDone size k p (Some self.now) Df (Ok result) (Some self.now) p }
+        ensures done { (size k : ℕ) → IsDoneAlone size k (Some self.now) Df (Ok result) (Some self.now) }
         ensures limits { IsWithinLimits (Ok result) }
     {
         Answer::Usage {
@@ -133,88 +95,89 @@ impl<N: Naming> Mount<N> {
             min: self.share.min(),
             used: self.share.used(),
             inodes: told(self.inodes),
-            files: self.files.len() as u64,
+            files: self.files.count() as u64,
         }
     }
 
-    /// Whether a file has the name.
-    fn is_taken(&self, name: &[u8]) -> bool
-        ensures { result ≡ is_some (file_named self.now name.now) }
+    /// What a step asks of the mount, for a task with that home node. It is done in one section of the pool at most.
+    ///
+    /// Refused as the definitions say, and then nothing changes; as TraceFull where the door has no room to note a section.
+    /// An access at an index that is reserved to its map, or has a page, asks for no memory.
+    pub fn apply<D: PoolDoor<Share = Subpool<N>, Page = Page<N>>>(
+        &mut self,
+        door: &mut D,
+        page_bytes: u64,
+        home: u64,
+        event: MountEvent<'_>,
+    ) -> Reply
+        requires shares { (s : ShareValue) → D.share_of s ≡ s }
+        requires pages { (p : PageValue) → D.page_of p ≡ p }
+        requires ready { D.is_ready door.old }
+        requires page_bytes { page_bytes ≡ N.page_bytes }
+        ensures done { (k : ℕ) → IsDone D.took D.is_full N.page_bytes k (Some self.old) door.old
+            (event_of home event.entry) result (Some self.new) door.new }
+        ensures left { D.is_left door.new }
+        ensures memory { asks_memory (Some self.old) (event_of home event.entry) ≡ false
+            → result ≢ Err Refusal.OutOfMemory }
+        ensures limits { is_usage (event_of home event.entry) ≡ true → IsWithinLimits result }
     {
-        self.files.iter().any(|f| f.is_named(name))
-    }
-
-    // Whether one file more is past the limit of files.
-    fn is_without_inodes(&self) -> bool
-        requires { length self.now.files < 1024 }
-        ensures { result ≡ is_over self.now.limits.inodes (length self.now.files + 1) }
-    {
-        match self.inodes {
-            None => false,
-            Some(most) => most < self.files.len() as u64 + 1,
+        match event {
+            MountEvent::Create { name } => self.create(name),
+            MountEvent::Usage => Ok(self.usage()),
+            MountEvent::Map {
+                task,
+                name,
+                start,
+                pages,
+            } => self.map(door, home, name, &MapRange { task, start, pages }),
+            MountEvent::Fault {
+                task,
+                map,
+                index,
+                intent,
+            } => {
+                let access = MapAccess { task, map, index };
+                self.fault(door, home, &access, intent)
+            }
+            MountEvent::Load {
+                task,
+                map,
+                index,
+                offset,
+                count,
+            } => {
+                let access = MapAccess { task, map, index };
+                self.load(door, page_bytes, home, &access, offset, count)
+            }
+            MountEvent::Store {
+                task,
+                map,
+                index,
+                offset,
+                bytes,
+            } => {
+                let access = MapAccess { task, map, index };
+                self.store(door, page_bytes, home, &access, offset, bytes)
+            }
         }
-    }
-
-    /// Makes a file of length 0. Refused as BadName, FileExists, TooMany, NoInodes or OutOfMemory, the first of these
-    /// that holds, and then nothing changes.
-    #[tactic(auto, unfolding(crate::specs::Carried::IsDone))]
-    pub fn create(&mut self, name: &Bytes) -> Reply
-        ensures done { (size k : ℕ) (p : PoolValue) → IsDone size k p (Some self.old) (Create name.now) result (Some self.new) p }
-    {
-        if !is_name(name.as_slice()) {
-            return Err(Refusal::BadName);
-        }
-        if self.is_taken(name.as_slice()) {
-            return Err(Refusal::FileExists);
-        }
-        if self.files.len() >= 1024 {
-            return Err(Refusal::TooMany);
-        }
-        if self.is_without_inodes() {
-            return Err(Refusal::NoInodes);
-        }
-        match self.add(name.as_slice()) {
-            Ok(()) => Ok(Answer::Done),
-            Err(AllocError) => Err(Refusal::OutOfMemory),
-        }
-    }
-
-    // A file more, if there is memory.
-    #[tactic(auto, using(crate::proofs::Keeping::counted_new))]
-    fn add(&mut self, name: &[u8]) -> Result<(), AllocError>
-        ensures ok { OnOk result (self.new ≡ with_new self.old (new_file (Some name.now))) }
-        ensures err { OnErr result (self.new ≡ self.old) }
-    {
-        let copy = Vec::from_slice(self.alloc, name)?;
-        self.files.reserve(1)?;
-        self.files
-            .push_reserved(File::new(self.alloc, Bytes::new(copy)));
-        Ok(())
     }
 
     /// Ends the mount with its files and maps. Their pages and reservations go back to the pool, and the minimum with
     /// them; pages that became unneeded surplus leave the pool. Never refused.
-    pub fn close(self, pool: &mut Pool<N>)
-        requires settled { IsSettled pool.old }
-        requires nodes { length pool.old.nodes.rows ≤ 4 }
-        ensures given { carried pool.old (Some self) (gives Done (Some self) None) ≡ (Ok Done, None, pool.new) }
-        ensures settled { IsSettled pool.new }
+    pub fn close<D: PoolDoor<Share = Subpool<N>, Going = PageStore<N>>>(self, door: &mut D)
+        requires shares { (s : ShareValue) → D.share_of s ≡ s }
+        requires going { (s : StoreValue) → D.going_of s ≡ s.going }
+        requires spent { (s : StoreValue) → ((n : ℕ) → page_at s n ≡ None) → D.is_spent s }
+        requires ready { D.is_ready door.old }
+        ensures done { ThroughDoor D.took (gives Done (Some self) None) (Some self) door.old (Ok Done) None door.new }
+        ensures left { D.is_left door.new }
     {
         let Mount {
-            alloc: _,
-            mut share,
+            share,
             inodes: _,
-            mut files,
-            maps: _,
-            tasks: _,
+            files,
         } = self;
-        while let Some(file) = files.pop() {
-            file.close(&mut share, pool);
-        }
-        files.destroy_empty();
-        let held = share.used();
-        share.put_reserves(pool, held);
-        share.close(pool);
-        pool.settle();
+        let going = files.close();
+        door.close(share, going);
     }
 }

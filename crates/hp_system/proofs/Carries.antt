@@ -1,31 +1,34 @@
--- From what a part did to a step of the machine, and to what holds after it.
-use Rattle.std.proofs.Common.{◌≡◌, ℕ, suc, ◌<◌, ◌≤◌, ◌==◌, Bool, false, List, [], ◌∷◌, Err, None, Some, length, refl, sym, ◌∙◌, ap, subst, arith, IsTrue}
+-- From what an event did to a slot and the pool to what it did to the machine, and to what holds after it.
+use Rattle.std.proofs.Common.{◌≡◌, ℕ, ◌<◌, ◌≤◌, Bool, false, List, Err, Ok, None, Some, length, refl, sym, ◌∙◌, ap, subst, arith, IsTrue}
 use Rattle.std.specs.Prelude.{nat_lt, slice_index_or, slice_set}
-use Rattle.std.specs.List.{sum}
 use Rattle.std.proofs.lemmas.Bool.Decides.{nat_tests}
 use Rattle.std.proofs.lemmas.List.{length-map, set-get_or}
-use Rattle.std.proofs.lemmas.List.Sums.{get_or-le-sum_by, sum_by-cons}
 use Rattle.hp_model.specs.declared.event.Event.TheVariants.{Slot as OnSlot, Pool as OnPool}
 use Rattle.hp_model.specs.declared.event.PoolEvent.{PoolEvent}
 use Rattle.hp_model.specs.declared.event.SlotEvent.{SlotEvent}
-use Rattle.hp_model.specs.Event.{IsEvent, IsFresh, planned, settled, stamps_in, after, is_slot_event}
-use Rattle.hp_model.specs.File.{Mount}
-use Rattle.hp_model.specs.Lists.{is_among}
-use Rattle.hp_model.specs.Machine.{node_of, pool_of, with_pool}
-use Rattle.hp_model.specs.MountCounts.{usage_of}
-use Rattle.hp_model.specs.Plan.{Reply, Slot, Outcome, Refused, Answered, Plan, Finish, Ask, Choice, slot_committed}
-use Rattle.hp_model.specs.Pool.{section}
+use Rattle.hp_model.specs.declared.refusal.Refusal.TheVariants as refusal
 use Rattle.hp_model.specs.declared.section.PoolAnswer.{PoolAnswer}
+use Rattle.hp_model.specs.declared.section.Section.{Section}
+use Rattle.hp_model.specs.Event.{CanHappen, IsEvent, IsFresh, after, asked_pool, is_slot_event, planned, settled}
+use Rattle.hp_model.specs.LocalRun.{Gives, ThroughDoor}
+use Rattle.hp_model.specs.Machine.{node_of, pool_of, with_pool}
+use Rattle.hp_model.specs.Plan.{Reply, Slot, Outcome, Refused, Answered, Plan, Finish, Ask, Choice}
+use Rattle.hp_model.specs.Pool.{section}
 use Rattle.hp_model.specs.PoolCounts.{Pool, IsSettled}
 use Rattle.hp_model.specs.Resize.{pool_event}
 use Rattle.hp_model.specs.Settled.{IsSettledState}
-use Rattle.hp_laws.specs.Laws.{pool_after}
 use Rattle.hp_model.specs.SlotEvent.{slot_event}
 use Rattle.hp_model.specs.State.{State}
 use Rattle.hp_model.specs.Table.{Table}
-use Rattle.hp_laws.proofs.Small.{committed_few}
+use Rattle.hp_laws.specs.Laws.{pool_after}
 use Rattle.hp_laws.proofs.StaysSettled.{pool_is_tied, event_settled}
-use Rattle.hp_mount.specs.Carried.{ended, carried, choosing, IsDone}
+use Rattle.hp_laws.proofs.Tells.{Tells, slot_event_tells}
+use Rattle.hp_mount.specs.declared.event.MountEvent.{MountEvent}
+use Rattle.hp_mount.specs.declared.event.MountEvent.TheVariants as event
+use Rattle.hp_mount.specs.Done.{Tried}
+use Rattle.hp_mount.specs.Event.{event_of}
+use Rattle.hp_mount_door.specs.Door.{IsReady}
+use Rattle.hp_system.specs.Event.{IsCarried, took}
 use Rattle.hp_system.specs.Kept.{state_of, IsKept}
 
 abbrev pub calm : Choice
@@ -35,77 +38,70 @@ calm = record { stamp = 0; refused = false; after_grant = false }
 abbrev pub slot_in : List Slot → ℕ → Slot
 slot_in xs k = slice_index_or xs k None
 
--- ---- what a plan leaves of a slot and the pool is what it leaves of the machine
+-- the pool has always room to note a section
+pub never_full : (plan : Choice → Plan) (old new : Slot) (p q : Pool) (reply : Reply)
+    → Tried took (λ d. ⊥) plan old p reply new q → (c : Choice) × IsFresh c old × ThroughDoor took (plan c) old p reply new q
+never_full plan old new p q (Ok a) h = h
+never_full plan old new p q (Err refusal.TraceFull) h = absurd h.1.1
+never_full plan old new p q (Err other) h = h
 
-abbrev left_of : ℕ → Table → List Slot → ℕ → Reply × Slot × Pool → Reply × State
-left_of size t xs k q = (q.0, state_of size t (slice_set xs k q.1) q.2)
+module _ (size : ℕ) (t : Table) (xs : List Slot) (k : ℕ) (p : Pool) (tied : pool_of (state_of size t xs p) ≡ p) (old new : Slot) (here : slot_in xs k ≡ old) where
+  abbrev before : State
+  before = state_of size t xs p
 
-ended_is : (size : ℕ) (t : Table) (xs : List Slot) (k : ℕ) (p : Pool) (o : Outcome) → settled (state_of size t xs p) k o ≡ left_of size t xs k (ended p (slot_in xs k) o)
-ended_is size t xs k p (Refused r) = ap (λ ys. (Err r, state_of size t ys p)) (sym (set-get_or xs k None))
-ended_is size t xs k p (Answered a new) = refl
+  abbrev left : Pool → State
+  left q = state_of size t (slice_set xs k new) q
 
-pub planned_is : (size : ℕ) (t : Table) (xs : List Slot) (k : ℕ) (p : Pool) (plan : Plan) → pool_of (state_of size t xs p) ≡ p
-    → planned (state_of size t xs p) k plan ≡ left_of size t xs k (carried p (slot_in xs k) plan)
-planned_is size t xs k p (Finish o) tie = ended_is size t xs k p o
-planned_is size t xs k p (Ask sec f) tie =
-    let s : State = state_of size t xs p in
-    let q : PoolAnswer × Pool = section p (sec p.nr) in
-    ap (λ x. settled (with_pool s (section x (sec p.nr)).1) k (f (section x (sec p.nr)).0)) tie ∙ ended_is size t xs k q.1 (f q.0)
+  outcome_is : (o : Outcome) (reply : Reply) (q : Pool) → Gives o old reply new → settled (state_of size t xs q) k o ≡ (reply, left q)
+  outcome_is (Refused r) reply q h =
+      ap (λ ys. (Err r, state_of size t ys q)) (sym (set-get_or xs k None)) ∙ ap (λ y. (Err r, state_of size t (slice_set xs k y) q)) (here ∙ sym h.1)
+      ∙ ap (λ x. (x, left q)) (sym h.0)
+  outcome_is (Answered a slot) reply q h = ap (λ y. (Ok a, state_of size t (slice_set xs k y) q)) (sym h.1) ∙ ap (λ x. (x, left q)) (sym h.0)
 
-fresh_above : (xs : List ℕ) (n : ℕ) → sum xs < n → is_among n xs ≡ false
-fresh_above [] n l = refl
-fresh_above (x ∷ xs) n l =
-    let apart : (x == n) ≡ false = grind (arith, nat_tests, sum_by-cons (λ (y : ℕ). y) x xs) in
-    let rest : is_among n xs ≡ false = fresh_above xs n (omega (arith, sum_by-cons (λ (y : ℕ). y) x xs)) in
-    rw (apart, rest) refl
-
-is_fresh : (refused : Bool) (slot : Slot) → IsFresh (choosing refused slot) slot
-is_fresh refused slot = let e : is_among (suc (sum (stamps_in slot))) (stamps_in slot) ≡ false = fresh_above (stamps_in slot) (suc (sum (stamps_in slot))) (omega arith) in rw e refl
-
--- an event done on the slot is the machine's event
-pub done_is : (size : ℕ) (t : Table) (xs : List Slot) (k : ℕ) (old new : Slot) (p q : Pool) (e : SlotEvent) (reply : Reply) → pool_of (state_of size t xs p) ≡ p → k < length xs → slot_in xs k ≡ old
-    → IsTrue (is_slot_event old e) → IsDone size k p old e reply new q → IsEvent (state_of size t xs p) (OnSlot k e) reply (state_of size t (slice_set xs k new) q)
-unfolding IsDone
-done_is size t xs k old new p q e reply tie within here happens h =
-    let there : IsTrue (nat_lt k (length xs)) = grind (arith, nat_tests, within) in
-    let c = choosing h.0 old in
-    let goes : planned (state_of size t xs p) k (slot_event size k c old e) ≡ left_of size t xs k (carried p old (slot_event size k c old e)) =
-    planned_is size t xs k p (slot_event size k c old e) tie ∙ ap (λ y. left_of size t xs k (carried p y (slot_event size k c old e))) here in (
-      c,
-      (there, subst (λ y. IsTrue (is_slot_event y e)) (sym here) happens, subst (λ y. IsFresh c y) (sym here) (is_fresh h.0 old)),
-      ap (λ y. planned (state_of size t xs p) k (slot_event size k c y e)) here ∙ goes ∙ ap (left_of size t xs k) h.1,
-    )
-
--- ---- what holds afterwards
-
-ends_at : (q : Pool) (old : Slot) (o : Outcome) → (ended q old o).2 ≡ q
-ends_at q old (Refused r) = refl
-ends_at q old (Answered a n) = refl
-
-pub section_left : (s : State) (p : Pool) (old : Slot) (plan : Plan) → pool_of s ≡ p → s.nr ≡ p.nr → (carried p old plan).2 ≡ pool_after s plan
-section_left s p old (Finish o) tie nr = ends_at p old o ∙ sym tie
-section_left s p old (Ask sec f) tie nr =
-    ends_at (section p (sec p.nr)).1 old (f (section p (sec p.nr)).0) ∙ ap (λ x. (section x (sec p.nr)).1) (sym tie) ∙ ap (λ k. (section (pool_of s) (sec k)).1) (sym nr)
+  -- a plan that was carried out on the slot and the pool is carried out on the machine, and the pool is left so
+  pub plan_is : (plan : Plan) (reply : Reply) (q : Pool) → Tells plan → ThroughDoor took plan old p reply new q
+      → (planned before k plan ≡ (reply, left q)) × (pool_after before plan ≡ q)
+  plan_is (Finish o) reply q tells h = (outcome_is o reply p h.0 ∙ ap (λ x. (reply, left x)) (sym h.1), tied ∙ sym h.1)
+  plan_is (Ask s f) reply q tells h =
+      let entered : section (pool_of before) (s p.nr) ≡ (h.0, q) =
+      ap (λ x. section x (s p.nr)) tied ∙ ap (λ x. section p x) (tells p h.0 q h.1) ∙ h.1 in
+      (ap (λ x. asked_pool before k x f) entered ∙ outcome_is (f h.0) reply q h.2, ap (λ x. x.1) entered)
 
 module _ (size bytes : ℕ) (t : Table) where
-  -- an event of a slot keeps it
-  pub kept_after : (xs : List Slot) (k : ℕ) (old new : Slot) (p q : Pool) (e : SlotEvent) (reply : Reply) → IsKept size bytes t xs p → k < length xs → slot_in xs k ≡ old → IsTrue (is_slot_event old e)
-      → IsDone size k p old e reply new q → IsKept size bytes t (slice_set xs k new) q
-  unfolding IsDone done_is
-  kept_after xs k old new p q e reply kept within here happens h =
-      let s : State = state_of size t xs p in
-      let left_state : State = state_of size t (slice_set xs k new) q in
-      let plan : Plan = slot_event size k (choosing h.0 old) old e in
-      let is : IsEvent s (OnSlot k e) reply left_state = done_is size t xs k old new p q e reply kept.tied within here happens h in
-      let law = pool_is_tied is.0 s (OnSlot k e) is.1 kept.settled in
-      let same : pool_after s (slot_event size k (choosing h.0 old) (slot_in xs k) e) ≡ pool_after s plan = ap (λ y. pool_after s (slot_event size k (choosing h.0 old) y e)) here in
-      let left : pool_after s plan ≡ q = sym (section_left s p old plan kept.tied refl) ∙ ap (λ (x : Reply × Slot × Pool). x.2) h.1 in
-      record {
-        size = kept.size;
-        some = kept.some;
-        tied = ap (λ (x : Reply × State). pool_of x.1) (sym is.2) ∙ law.0 ∙ same ∙ left;
-        settled = event_settled s (OnSlot k e) reply left_state kept.settled is;
-      }
+  -- an event of a slot: what it did to the machine, and that the machine is kept
+  module _ (xs : List Slot) (k : ℕ) (old new : Slot) (p q : Pool) (e : SlotEvent) (reply : Reply) (kept : IsKept size bytes t xs p) (within : k < length xs)
+      (here : slot_in xs k ≡ old) (happens : IsTrue (is_slot_event old e)) (h : IsCarried size k p old e reply new q) where
+    abbrev was : State
+    was = state_of size t xs p
+
+    abbrev is_now : State
+    is_now = state_of size t (slice_set xs k new) q
+
+    abbrev plan : Plan
+    plan = slot_event size k h.0 (slot_in xs k) e
+
+    went : (planned was k plan ≡ (reply, is_now)) × (pool_after was plan ≡ q)
+    went =
+        plan_is size t xs k p kept.tied old new here plan reply q (slot_event_tells size k h.0 (slot_in xs k) e)
+        (subst (λ y. ThroughDoor took (slot_event size k h.0 y e) old p reply new q) (sym here) h.2)
+
+    can_happen : CanHappen h.0 was (OnSlot k e)
+    can_happen =
+        let there : IsTrue (nat_lt k (length xs)) = grind (arith, nat_tests, within) in
+        (there, subst (λ y. IsTrue (is_slot_event y e)) (sym here) happens, subst (λ y. IsFresh h.0 y) (sym here) h.1)
+
+    pub event_done : IsEvent was (OnSlot k e) reply is_now
+    event_done = (h.0, can_happen, went.0)
+
+    pub kept_after : IsKept size bytes t (slice_set xs k new) q
+    kept_after =
+        let law = pool_is_tied h.0 was (OnSlot k e) can_happen kept.settled in
+        record {
+          size = kept.size;
+          some = kept.some;
+          tied = ap (λ (x : Reply × State). pool_of x.1) (sym went.0) ∙ law.0 ∙ went.1;
+          settled = event_settled was (OnSlot k e) reply is_now kept.settled event_done;
+        }
 
   -- an event of the pool keeps it
   pub kept_by_pool : (xs : List Slot) (p q : Pool) (e : PoolEvent) (reply : Reply) → IsKept size bytes t xs p → pool_event p e ≡ (reply, q) → IsKept size bytes t xs q
@@ -121,24 +117,36 @@ module _ (size bytes : ℕ) (t : Table) where
         settled = subst IsSettledState same law.1;
       }
 
-  pub settled_pool : (xs : List Slot) (p : Pool) → IsKept size bytes t xs p → IsSettled p
-  settled_pool xs p kept =
+  -- the pool is ready for a section
+  pub ready : (xs : List Slot) (p : Pool) → IsKept size bytes t xs p → IsReady p
+  ready xs p kept =
       let it = kept.settled.pool in
       let total = it.total in
       let surplus = it.surplus in
+      let nodes = kept.settled.nodes in
+      let same = length-map p.nodes.rows node_of in
       let here : IsSettled (pool_of (state_of size t xs p)) = omega (arith, total, surplus) in
-      subst (λ (x : Pool). IsSettled x) kept.tied here
+      record { settled = subst (λ (x : Pool). IsSettled x) kept.tied here; nodes = omega (arith, nodes, same) }
 
-  -- a mount uses no more pages than there are frames
-  pub few_used : (xs : List Slot) (k : ℕ) (m : Mount) (p : Pool) → IsKept size bytes t xs p → k < length xs → slot_in xs k ≡ Some m → usage_of m ≤ 262144
-  few_used xs k m p kept within here =
-      let all = committed_few (state_of size t xs p) kept.settled in
-      let one = get_or-le-sum_by slot_committed xs k None within in
-      let mine = ap slot_committed here in
-      omega (arith, all, one, mine)
+-- ---- what a step asks of a mount
 
-  pub few_nodes : (xs : List Slot) (p : Pool) → IsKept size bytes t xs p → length p.nodes.rows ≤ 4
-  few_nodes xs p kept = (let nodes = kept.settled.nodes in let same = length-map p.nodes.rows node_of in omega (arith, nodes, same))
+-- it is an event of any slot
+pub happens : (home : ℕ) (e : MountEvent) (slot : Slot) → IsTrue (is_slot_event slot (event_of home e))
+happens home (event.Create name) slot = refl
+happens home (event.Map task name start pages) slot = refl
+happens home (event.Fault task map index intent) slot = refl
+happens home (event.Load task map index offset count) slot = refl
+happens home (event.Store task map index offset bytes) slot = refl
+happens home event.Usage slot = refl
+
+-- a slot that is not mounted answers that it is not there
+pub unmounted : (size k home : ℕ) (e : MountEvent) (p : Pool) → IsCarried size k p None (event_of home e) (Err refusal.NoSuchSlot) None p
+unmounted size k home (event.Create name) p = (calm, refl, ((refl, refl), refl))
+unmounted size k home (event.Map task name start pages) p = (calm, refl, ((refl, refl), refl))
+unmounted size k home (event.Fault task map index intent) p = (calm, refl, ((refl, refl), refl))
+unmounted size k home (event.Load task map index offset count) p = (calm, refl, ((refl, refl), refl))
+unmounted size k home (event.Store task map index offset bytes) p = (calm, refl, ((refl, refl), refl))
+unmounted size k home event.Usage p = (calm, refl, ((refl, refl), refl))
 
 -- the task table is no part of it
 pub kept_with_table : (size bytes : ℕ) (t u : Table) (xs : List Slot) (p : Pool) → IsKept size bytes t xs p → IsKept size bytes u xs p

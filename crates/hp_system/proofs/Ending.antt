@@ -18,9 +18,11 @@ use Rattle.hp_model.specs.Table.{Table}
 use Rattle.hp_laws.proofs.Plans.{balanced_gives}
 use Rattle.hp_model.proofs.RowMoves.{puts_are}
 use Rattle.hp_laws.proofs.Tied.{plan_tied}
-use Rattle.hp_mount.specs.Carried.{carried}
+use Rattle.hp_model.specs.LocalRun.{ThroughDoor}
+use Rattle.hp_laws.proofs.Tells.{tells_gives}
+use Rattle.hp_system.specs.Event.{took}
 use Rattle.hp_system.specs.Kept.{all_free, state_of, IsKept}
-use Rattle.hp_system.proofs.Carries.{planned_is, section_left, slot_in}
+use Rattle.hp_system.proofs.Carries.{plan_is, slot_in}
 use Rattle.hp_system.proofs.Start.{sum_none}
 
 -- what is left of n slots: these, and as many without a mount as are done; what is set stays
@@ -36,31 +38,29 @@ begins size bytes t xs p kept =
     record { kept = subst (λ ys. IsKept size bytes t ys p) (sym (ap (λ k. xs ++ replicate {A = Slot} k None) none ∙ append-nil xs)) kept; few = omega arith; nr = refl; overcommit = refl }
 
 -- giving back changes nothing that is set
-given_nr : (p q : Pool) (m : Mount) → carried p (Some m) (gives Done (Some m) None) ≡ (Ok Done, None, q) → (q.nr ≡ p.nr) × (q.overcommit ≡ p.overcommit)
-given_nr p q m e =
+given_nr : (p q : Pool) (m : Mount) → ThroughDoor took (gives Done (Some m) None) (Some m) p (Ok Done) None q → (q.nr ≡ p.nr) × (q.overcommit ≡ p.overcommit)
+given_nr p q m h =
     let ks = puts_of (Some m) None in
     let back : Plan = Ask (λ nr. GiveBack ks (fall_of (Some m) None)) (λ answer. Answered Done None) in
-    let left = ap (λ x. x.2) e in
-    let goes = cond_both ((sum ks == 0) && (fall_of (Some m) None == 0)) (Finish (Answered Done None)) back
-    (λ plan. ((carried p (Some m) plan).2.nr ≡ p.nr) × ((carried p (Some m) plan).2.overcommit ≡ p.overcommit))
-    (λ none. (refl, refl)) (λ some. (ap (λ x. x.nr) (puts_are ks p), ap (λ x. x.overcommit) (puts_are ks p))) in
-    (ap (λ x. x.nr) (sym left) ∙ goes.0, ap (λ x. x.overcommit) (sym left) ∙ goes.1)
+    cond_both ((sum ks == 0) && (fall_of (Some m) None == 0)) (Finish (Answered Done None)) back
+    (λ plan. ThroughDoor took plan (Some m) p (Ok Done) None q → (q.nr ≡ p.nr) × (q.overcommit ≡ p.overcommit))
+    (λ none h. (ap (λ x. x.nr) h.1, ap (λ x. x.overcommit) h.1))
+    (λ some h. (ap (λ x. x.1.nr) (sym h.1) ∙ ap (λ x. x.nr) (puts_are ks p), ap (λ x. x.1.overcommit) (sym h.1) ∙ ap (λ x. x.overcommit) (puts_are ks p))) h
 
 -- a mount that gives all back keeps the sums
 gone_kept : (size bytes : ℕ) (t : Table) (xs : List Slot) (k : ℕ) (m : Mount) (p q : Pool) → IsKept size bytes t xs p → k < length xs → slot_in xs k ≡ Some m
-    → carried p (Some m) (gives Done (Some m) None) ≡ (Ok Done, None, q) → IsKept size bytes t (slice_set xs k None) q
-gone_kept size bytes t xs k m p q kept within here e =
+    → ThroughDoor took (gives Done (Some m) None) (Some m) p (Ok Done) None q → IsKept size bytes t (slice_set xs k None) q
+gone_kept size bytes t xs k m p q kept within here h =
     let s : State = state_of size t xs p in
     let plan : Plan = gives Done (Some m) None in
     let balanced = subst (λ y. IsBalanced y plan) (sym here) (balanced_gives Done (Some m) None (record { committed = omega arith; each = λ n. omega arith; usage = omega arith; sound = tt })) in
     let law = plan_tied s k plan within kept.settled balanced in
-    let goes = planned_is size t xs k p plan kept.tied ∙ ap (λ y. (y.0, state_of size t (slice_set xs k y.1) y.2)) (ap (λ o. carried p o plan) here ∙ e) in
-    let left = sym (section_left s p (Some m) plan kept.tied refl) ∙ ap (λ x. x.2) e in
+    let goes = plan_is size t xs k p kept.tied (Some m) None here plan (Ok Done) q (tells_gives Done (Some m) None) h in
     record {
       size = kept.size;
       some = kept.some;
-      tied = ap (λ x. pool_of x.1) (sym goes) ∙ law.0 ∙ left;
-      settled = subst (λ x. IsSettledState x) (ap (λ x. x.1) goes) law.1;
+      tied = ap (λ x. pool_of x.1) (sym goes.0) ∙ law.0 ∙ goes.1;
+      settled = subst (λ x. IsSettledState x) (ap (λ x. x.1) goes.0) law.1;
     }
 
 module _ (size bytes n : ℕ) (t : Table) (start : Pool) (xs rest : List Slot) (x : Slot) (p : Pool) (is : xs ≡ rest ++ x ∷ []) (was : IsEnding size bytes n t start xs p) where
@@ -89,7 +89,7 @@ module _ (size bytes n : ℕ) (t : Table) (start : Pool) (xs rest : List Slot) (
   none_goes e = ended_with p (subst (λ ys. IsKept size bytes t ys p) (laid ∙ ap (λ y. rest ++ y ∷ replicate tail None) e) was.kept) refl refl
 
   -- or one that gave all back
-  pub mount_goes : (m : Mount) (q : Pool) → x ≡ Some m → carried p (Some m) (gives Done (Some m) None) ≡ (Ok Done, None, q) → IsEnding size bytes n t start rest q
+  pub mount_goes : (m : Mount) (q : Pool) → x ≡ Some m → ThroughDoor took (gives Done (Some m) None) (Some m) p (Ok Done) None q → IsEnding size bytes n t start rest q
   mount_goes m q e given =
       let ys = rest ++ x ∷ replicate tail None in
       let kept = subst (λ zs. IsKept size bytes t zs p) laid was.kept in

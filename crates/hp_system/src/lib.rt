@@ -5,7 +5,6 @@ mod service;
 mod system;
 mod table;
 
-pub use hp_mount::{MapAccess, MapRange};
 pub use system::System;
 
 #[cfg(test)]

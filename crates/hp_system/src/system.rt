@@ -9,10 +9,10 @@ mod steps;
 
 use crate::table::TaskTable;
 use hp_model::answer::Counts;
-use hp_model::limits::Limits;
 use hp_model::naming::Naming;
 use hp_mount::Mount;
 use hp_pool::{Blanks, Pool};
+use hp_subpool::Subpool;
 use std::alloc::{AllocError, Global};
 use std::marker::Model;
 
@@ -128,13 +128,8 @@ fn open_slots<N: Naming>(
     ensures slots { slots.new.items ≡ slots_from count }
     ensures pool { pool.new ≡ pool.old }
 {
-    let unlimited = Limits {
-        max: None,
-        min: 0,
-        inodes: None,
-    };
-    match Mount::open(alloc, pool, &unlimited) {
-        Ok(mount) => slots.push_reserved(Some(mount)),
+    match Subpool::open(pool, None, 0) {
+        Ok(share) => slots.push_reserved(Some(Mount::new(alloc, share, None))),
         Err(_refusal) => unreachable!(),
     }
     for _ in 1..count {

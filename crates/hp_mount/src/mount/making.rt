@@ -1,98 +1,118 @@
-//! Maps of files that are made.
-ghost use Rattle.std.specs.Prelude.{◌≡◌, ℕ, ◌+◌, ◌<◌, ◌≤◌, ◌&&◌, nat_le, length, not, true, false, IfOk, IfErr, IsOk, OnOk, OnErr, Some, None};
-ghost use Rattle.std.specs.List.{position_or_len};
-ghost use Rattle.hp_model.specs.declared.event.SlotEvent.TheVariants.{Map as MapEvent};
+//! Files and maps that are made.
+ghost use Rattle.std.specs.Prelude.{◌≡◌, ◌≢◌, Err, IfSome, ℕ, ◌+◌, ◌<◌, ◌≤◌, length, not, is_some, true, false, IfErr, IfOk, OnOk, OnErr, Some, None};
+ghost use Rattle.hp_model.specs.declared.answer.Answer.TheVariants.{MapNo};
+ghost use Rattle.hp_model.specs.declared.refusal.Refusal.TheVariants as Refusal;
+ghost use Rattle.hp_model.specs.declared.event.SlotEvent.TheVariants.{Create, Map as MapEvent};
 ghost use Rattle.hp_model.specs.declared.step.Reserving.TheVariants.{Reserve};
 ghost use Rattle.hp_model.specs.declared.step.Sharing.TheVariants.{Shared};
 ghost use Rattle.hp_model.specs.File.{maps_of, with_file};
-ghost use Rattle.hp_model.specs.Grant.{can_grant, granted, is_full, rise};
+ghost use Rattle.hp_model.specs.Grant.{is_over};
 ghost use Rattle.hp_model.specs.Lists.{is_among};
-ghost use Rattle.hp_model.specs.MakeMap.{mapped, next_number, numbers_of, tasks_of};
-ghost use Rattle.hp_model.specs.MountCounts.{usage_of};
-ghost use Rattle.hp_model.specs.PoolCounts.{IsSettled};
-ghost use Rattle.hp_model.specs.SlotEvent.{has_name};
-ghost use Rattle.hp_mount.specs.Carried.{IsDone};
+ghost use Rattle.hp_model.specs.MakeMap.{asked, mapped, next_number, tasks_of};
+ghost use Rattle.hp_model.specs.Plan.{Answered, grant};
 ghost use Rattle.hp_model.specs.Promises.{file_in};
-ghost use Rattle.hp_mount.specs.Found.{first_of, map_tests, wants_at, IsMapRefusal};
-ghost use Rattle.hp_mount.specs.Numbers.{HasNumbers};
+ghost use Rattle.hp_model.specs.SlotEvent.{file_named, is_name, is_name_byte};
+ghost use Rattle.hp_subpool.specs.Subpool.{Subpool as ShareValue};
+ghost use Rattle.hp_mount.specs.Alone.{IsDoneAlone};
+ghost use Rattle.hp_mount.specs.Done.{Tried, IsDone};
+ghost use Rattle.hp_mount.specs.Found.{first_of};
+ghost use Rattle.hp_mount.specs.Making.{create_tests, map_tests, numbered};
 
 use super::Mount;
-use crate::map::Map;
-use crate::numbers::Numbers;
 use hp_model::answer::{Answer, Reply};
 use hp_model::naming::Naming;
 use hp_model::refusal::Refusal;
-use hp_pool::Pool;
+use hp_mount_door::PoolDoor;
+use hp_mount_files::{MapRange, NextMap};
+use hp_subpool::Subpool;
+use std::alloc::AllocError;
 
 /// The most pages that a file may have.
 const MOST_FILE_PAGES: u64 = 1_048_576;
 
-/// The indices that a task asks to map: so many `pages` of a file, from index `start` on.
-#[derive(Clone, Copy, Debug, PartialEq, Eq)]
-pub struct MapRange {
-    pub task: u64,
-    pub start: u64,
-    pub pages: u64,
+// one of A-Z a-z 0-9 . _ -
+fn is_name_byte(c: u8) -> bool
+    ensures { result ≡ is_name_byte c }
+{
+    (65 <= c && c <= 90)
+        || (97 <= c && c <= 122)
+        || (48 <= c && c <= 57)
+        || c == 46
+        || c == 95
+        || c == 45
 }
 
-/// The number of a task's next map, and whether it is the task's first.
-#[derive(Clone, Copy, Debug, PartialEq, Eq)]
-struct NextMap {
-    number: u64,
-    is_first: bool,
+/// Whether a file may be named so.
+fn is_name(name: &[u8]) -> bool
+    ensures { result ≡ is_name name.now }
+{
+    if name.len() < 1 {
+        return false;
+    }
+    if name.len() > 64 {
+        return false;
+    }
+    name.iter().all(|c| is_name_byte(*c))
 }
 
 impl<N: Naming> Mount<N> {
-    /// Maps indices of a file for a task, and enters them.
-    pub fn map(&mut self, pool: &mut Pool<N>, home: u64, name: &[u8], range: &MapRange) -> Reply
-        requires settled { IsSettled pool.old }
-        requires few { usage_of self.old ≤ 262144 }
-        ensures done { (k : ℕ) → IsDone N.page_bytes k pool.old (Some self.old) (MapEvent range.now.task home name.now range.now.start range.now.pages Shared Reserve) result (Some self.new) pool.new }
-        ensures settled { IsSettled pool.new }
+    // Whether one file more is past the limit of files.
+    fn is_without_inodes(&self) -> bool
+        requires { length self.now.files < 1024 }
+        ensures { result ≡ is_over self.now.limits.inodes (length self.now.files + 1) }
     {
-        let file = self.named(name);
-        if file >= self.files.len() {
-            return Err(Refusal::NoSuchFile);
+        match self.inodes {
+            None => false,
+            Some(most) => most < self.files.count() as u64 + 1,
         }
-        let next = self.next_map(range)?;
-        self.add_map(pool, home as usize, file, range, next)?;
-        Ok(Answer::MapNo(next.number))
     }
 
-    // The place of the file with the name, or how many files there are.
-    fn named(&self, name: &[u8]) -> usize
-        ensures { result ≡ position_or_len (has_name name.now) self.now.files }
+    // Whether a file has the name.
+    fn is_taken(&self, name: &[u8]) -> bool
+        ensures { result ≡ is_some (file_named self.now name.now) }
     {
-        let files = self.files.as_slice();
-        files
-            .iter()
-            .position(|f| f.is_named(name))
-            .unwrap_or(files.len())
+        self.files.named(name).is_some()
     }
 
-    // The numbers of the task's maps.
-    fn numbers(&self, task: u64) -> Numbers
-        requires { length (maps_of self.now) < 4096 }
-        ensures numbers { HasNumbers result (numbers_of task (maps_of self.now)) }
-        ensures few { result.count < 4096 }
+    // What a new file of this name is refused before memory, if anything.
+    fn refused_file(&self, name: &[u8]) -> Option<Refusal>
+        ensures first { result ≡ first_of (create_tests self.now name.now) }
+        ensures noted { IfSome result (λ r. r ≢ Refusal.TraceFull) }
     {
-        let mut numbers = Numbers::new();
-        for i in 0..self.files.len() {
-            self.files[i].add_numbers(task, &mut numbers);
+        if !is_name(name) {
+            return Some(Refusal::BadName);
         }
-        numbers
+        if self.is_taken(name) {
+            return Some(Refusal::FileExists);
+        }
+        if self.files.count() >= 1024 {
+            return Some(Refusal::TooMany);
+        }
+        if self.is_without_inodes() {
+            return Some(Refusal::NoInodes);
+        }
+        None
     }
 
-    // Whether one task more would be too many, where the task has no map yet.
-    fn is_one_task_over(&self, is_first: bool) -> bool
-        ensures { result ≡ (is_first && nat_le 256 (length (tasks_of self.now))) }
+    /// Makes a file of length 0. Refused as BadName, FileExists, TooMany, NoInodes or OutOfMemory, the first of these
+    /// that holds, and then nothing changes.
+    pub fn create(&mut self, name: &[u8]) -> Reply
+        ensures done { (size k : ℕ) → IsDoneAlone size k (Some self.old) (Create name.now) result (Some self.new) }
+        ensures noted { result ≢ Err Refusal.TraceFull }
     {
-        is_first && self.tasks >= 256
+        if let Some(refusal) = self.refused_file(name) {
+            return Err(refusal);
+        }
+        if let Err(AllocError) = self.files.create(name) {
+            return Err(Refusal::OutOfMemory);
+        }
+        Ok(Answer::Done)
     }
 
     // The map that the task may make next, or why it may not.
     fn next_map(&self, range: &MapRange) -> Result<NextMap, Refusal>
-        ensures ok { IfOk result (λ next. (next.number ≡ next_number range.now.task self.now) × (next.is_first ≡ not (is_among range.now.task (tasks_of self.now)))) }
+        ensures number { IfOk result (λ next. next.number ≡ next_number range.now.task self.now) }
+        ensures first { IfOk result (λ next. next.is_first ≡ not (is_among range.now.task (tasks_of self.now))) }
         ensures pass { OnOk result (first_of (map_tests self.now range.now.task range.now.start range.now.pages) ≡ None) }
         ensures few { OnOk result (length (maps_of self.now) < 4096) }
         ensures reach { OnOk result (range.now.start + range.now.pages ≤ 1048576) }
@@ -102,48 +122,69 @@ impl<N: Naming> Mount<N> {
         if pages == 0 || range.start > MOST_FILE_PAGES || pages > MOST_FILE_PAGES - range.start {
             return Err(Refusal::OutOfRange);
         }
-        if pages > 65_536 || self.maps >= 4096 {
+        if pages > 65_536 || self.files.map_count() >= 4096 {
             return Err(Refusal::TooMany);
         }
-        let numbers = self.numbers(range.task);
-        let is_first = numbers.count() == 0;
-        if self.is_one_task_over(is_first) {
+        let next = self.files.next_map(range.task);
+        if next.is_first && self.files.task_count() >= 256 {
             return Err(Refusal::TooMany);
         }
-        let number = numbers.least_unused();
-        Ok(NextMap { number, is_first })
+        Ok(next)
     }
 
-    // Adds the map to the file at a place, and its reservations to those of the mount.
-    fn add_map(
+    // Adds the map to the file at a place, and reserves its pages through the door.
+    fn add_map<D: PoolDoor<Share = Subpool<N>>>(
         &mut self,
-        pool: &mut Pool<N>,
+        door: &mut D,
         home: usize,
         file: usize,
         range: &MapRange,
         next: NextMap,
     ) -> Result<(), Refusal>
-        requires settled { IsSettled pool.old }
-        requires usage { usage_of self.old ≤ 262144 }
+        requires shares { (s : ShareValue) → D.share_of s ≡ s }
+        requires ready { D.is_ready door.old }
         requires file { file < length self.old.files }
         requires reach { range.now.start + range.now.pages ≤ 1048576 }
         requires few { length (maps_of self.old) < 4096 }
+        requires number { next.number ≡ next_number range.now.task self.old }
         requires first { next.is_first ≡ not (is_among range.now.task (tasks_of self.old)) }
-        ensures ok { OnOk result (self.new ≡ with_file self.old file (mapped range.now.task next.number range.now.start range.now.pages Shared Reserve (file_in self.old file))) }
-        ensures pool { OnOk result (pool.new ≡ granted home (rise self.old (wants_at self.old file range.now.start range.now.pages)) pool.old) }
-        ensures granted { IsOk result → (is_full self.old (wants_at self.old file range.now.start range.now.pages) ≡ false) × (can_grant (rise self.old (wants_at self.old file range.now.start range.now.pages)) pool.old ≡ true) }
-        ensures why { IfErr result (λ e. IsMapRefusal e (is_full self.old (wants_at self.old file range.now.start range.now.pages)) (can_grant (rise self.old (wants_at self.old file range.now.start range.now.pages)) pool.old)) }
-        ensures err { OnErr result ((self.new ≡ self.old) × (pool.new ≡ pool.old)) }
-        ensures nothing { rise self.old (wants_at self.old file range.now.start range.now.pages) ≡ 0 → pool.new ≡ pool.old }
-        ensures settled { IsSettled pool.new }
+        ensures done { Tried D.took D.is_full (λ c. grant c self.old home (asked Shared Reserve range.now.start range.now.pages (file_in self.old file)) (Answered (MapNo next.number) (Some (with_file self.old file (mapped range.now.task next.number range.now.start range.now.pages Shared Reserve (file_in self.old file)))))) (Some self.old) door.old (numbered next.number result) (Some self.new) door.new }
+        ensures left { D.is_left door.new }
     {
-        let map = Map::new(range.task, next.number, range.start, range.pages as usize);
-        let at = &mut self.files[file];
-        at.add_map(&mut self.share, pool, home, map)?;
-        self.maps += 1;
-        if next.is_first {
-            self.tasks += 1;
+        let wanted = self.files.wanted(file, range);
+        if self.share.is_full(wanted) {
+            return Err(Refusal::MountFull);
+        }
+        let files = &mut self.files;
+        if let Err(refusal) = files.add_map(door, &mut self.share, home, file, range, next) {
+            return Err(refusal);
         }
         Ok(())
+    }
+
+    /// Maps indices of a file for a task, shared, and enters them.
+    pub fn map<D: PoolDoor<Share = Subpool<N>>>(
+        &mut self,
+        door: &mut D,
+        home: u64,
+        name: &[u8],
+        range: &MapRange,
+    ) -> Reply
+        requires shares { (s : ShareValue) → D.share_of s ≡ s }
+        requires ready { D.is_ready door.old }
+        ensures done { (size k : ℕ) → IsDone D.took D.is_full size k (Some self.old) door.old (MapEvent range.now.task home name.now range.now.start range.now.pages Shared Reserve) result (Some self.new) door.new }
+        ensures left { D.is_left door.new }
+    {
+        let Some(file) = self.files.named(name) else {
+            return Err(Refusal::NoSuchFile);
+        };
+        let next = match self.next_map(range) {
+            Ok(next) => next,
+            Err(refusal) => return Err(refusal),
+        };
+        match self.add_map(door, home as usize, file, range, next) {
+            Ok(()) => Ok(Answer::MapNo(next.number)),
+            Err(refusal) => Err(refusal),
+        }
     }
 }

@@ -1,19 +1,22 @@
 //! Steps of all kinds.
 ghost use Rattle.std.specs.Prelude.{◌≡◌, ◌≢◌, true, false, Err, IfOk, OnErr};
 ghost use Rattle.hp_model.specs.declared.refusal.Refusal.TheVariants as Refusal;
-ghost use Rattle.hp_model.specs.declared.step.Step.TheVariants.{Connect, Nr, Meminfo};
+ghost use Rattle.hp_model.specs.declared.step.Step.TheVariants.{Connect, Map as MapStep, Nr, Meminfo};
 ghost use Rattle.hp_model.specs.Promises.{is_usage, IsPromised, IsPromisedRun};
+ghost use Rattle.hp_model.specs.declared.step.Reserving.TheVariants.{Reserve};
+ghost use Rattle.hp_model.specs.declared.step.Sharing.TheVariants.{Shared};
 ghost use Rattle.hp_model.specs.Step.{IsStep};
 ghost use Rattle.hp_model.specs.Writing.{IsWithinLimits};
 ghost use Rattle.hp_model.specs.Promises.{takes_memory};
 
 use super::System;
 use hp_model::answer::{Answer, Reply};
+use hp_model::bytes::Bytes;
 use hp_model::event::TableEvent;
 use hp_model::naming::Naming;
 use hp_model::refusal::Refusal;
 use hp_model::step::{Reserving, Sharing, Step};
-use hp_mount::{MapAccess, MapRange};
+use hp_mount::MountEvent;
 use std::alloc::{AllocError, Global};
 
 impl<N: Naming> System<N> {
@@ -63,12 +66,12 @@ impl<N: Naming> System<N> {
     /// its limit, and minimums stay committed; a load answers what its map shows, and a file shows what
     /// was stored through its maps, until an umount ends it.
     ///
-    /// Refused as the step's own function is, and as BadLine where the step is not built yet. Only a step that makes a file or
-    /// a map can be refused memory.
+    /// Refused as the step's own function is, and as BadLine where the step is not built yet. Only a step that
+    /// makes a file or a map, and an access that nothing backs, can be refused memory.
     pub fn apply(&mut self, step: &Step) -> Reply
         ensures step { IsStep self.old step.now result self.new }
         ensures promised { IsPromised self.old step.now result self.new }
-        ensures memory { takes_memory step.now ≡ false → result ≢ Err Refusal.OutOfMemory }
+        ensures memory { takes_memory self.old step.now ≡ false → result ≢ Err Refusal.OutOfMemory }
         ensures size { self.new.page_size ≡ self.old.page_size }
         ensures limits { IsWithinLimits result }
     {
@@ -76,19 +79,45 @@ impl<N: Naming> System<N> {
         self.answer(step)
     }
 
+    // Maps indices of a file, shared.
+    #[tactic(auto, unfolding(hp_model::specs::Step::IsStep))]
+    fn map_shared(
+        &mut self,
+        task: u64,
+        slot: u64,
+        name: &Bytes,
+        start: u64,
+        pages: u64,
+    ) -> Reply
+        ensures step { IsStep self.old (MapStep task slot name.now start pages Shared Reserve) result self.new }
+        ensures size { self.new.page_size ≡ self.old.page_size }
+    {
+        let event = MountEvent::Map {
+            task,
+            name: name.as_slice(),
+            start,
+            pages,
+        };
+        self.of_task(task, slot, event)
+    }
+
     // The step's own function.
     #[tactic(auto, unfolding(hp_model::specs::Step::IsStep))]
     fn answer(&mut self, step: &Step) -> Reply
         ensures step { IsStep self.old step.now result self.new }
         ensures usage { is_usage step.now ≡ true → IsWithinLimits result }
-        ensures memory { takes_memory step.now ≡ false → result ≢ Err Refusal.OutOfMemory }
+        ensures memory { takes_memory self.old step.now ≡ false → result ≢ Err Refusal.OutOfMemory }
         ensures size { self.new.page_size ≡ self.old.page_size }
     {
         match step {
             Step::Connect { task, home } => self.connect(*task, *home),
             Step::Mount { slot, options } => self.mount(*slot, options),
             Step::Umount { slot } => self.umount(*slot),
-            Step::Create { slot, name } => self.create(*slot, name),
+            Step::Df { slot } => self.on_slot(*slot, 0, MountEvent::Usage),
+            Step::Create { slot, name } => {
+                let name = name.as_slice();
+                self.on_slot(*slot, 0, MountEvent::Create { name })
+            }
             Step::Map {
                 task,
                 slot,
@@ -97,14 +126,7 @@ impl<N: Naming> System<N> {
                 pages,
                 sharing: Sharing::Shared,
                 reserving: Reserving::Reserve,
-            } => {
-                let range = MapRange {
-                    task: *task,
-                    start: *from,
-                    pages: *pages,
-                };
-                self.map(*slot, name, &range)
-            }
+            } => self.map_shared(*task, *slot, name, *from, *pages),
             Step::Load {
                 task,
                 slot,
@@ -113,13 +135,14 @@ impl<N: Naming> System<N> {
                 offset,
                 count,
             } => {
-                let access = MapAccess {
+                let event = MountEvent::Load {
                     task: *task,
                     map: *map,
                     index: *index,
                     offset: *offset,
+                    count: *count,
                 };
-                self.load(*slot, &access, *count)
+                self.of_task(*task, *slot, event)
             }
             Step::Store {
                 task,
@@ -129,17 +152,17 @@ impl<N: Naming> System<N> {
                 offset,
                 bytes,
             } => {
-                let access = MapAccess {
+                let event = MountEvent::Store {
                     task: *task,
                     map: *map,
                     index: *index,
                     offset: *offset,
+                    bytes: bytes.as_slice(),
                 };
-                self.store(*slot, &access, bytes)
+                self.of_task(*task, *slot, event)
             }
             Step::Nr { pages } => self.set_nr(*pages),
             Step::Meminfo => self.meminfo(),
-            Step::Df { slot } => self.df(*slot),
             _ => Err(Refusal::BadLine),
         }
     }

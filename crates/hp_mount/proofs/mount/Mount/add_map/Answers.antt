@@ -1,61 +1,71 @@
-use Rattle.std.proofs.Common.{◌≡◌, ◌+◌, cond, sym, ap, subst, ◌∙◌, arith}
-use Rattle.std.specs.Prelude.{slice_index_or, slice_set}
-use Rattle.std.proofs.lemmas.List.{set-get_or}
-use Rattle.hp_model.specs.File.{with_file}
-use Rattle.hp_mount.specs.Counted.{IsCounted, mount_of}
-use Rattle.hp_mount.proofs.Keeping.{share_as, used_is}
-use Rattle.hp_mount.proofs.Making.{map_left, tasks_few}
+use Rattle.std.proofs.Common.{◌<◌, Ok, Err, Some, length, refl, sym, ap, subst, ◌∙◌}
+use Rattle.hp_model.specs.declared.answer.Answer.TheVariants.{MapNo}
+use Rattle.hp_model.specs.declared.step.Reserving.TheVariants.{Reserve}
+use Rattle.hp_model.specs.declared.step.Sharing.TheVariants.{Shared}
+use Rattle.hp_model.specs.File.{Mount, with_file}
+use Rattle.hp_model.specs.Grant.{is_full, rise}
+use Rattle.hp_model.specs.MakeMap.{asked, mapped}
+use Rattle.hp_model.specs.Promises.{file_in}
+use Rattle.hp_mount_files.specs.Asking.{IsAsked, IsGranted}
+use Rattle.hp_model.specs.Plan.{Answered, grant}
+use Rattle.hp_mount.specs.Done.{Tried}
+use Rattle.hp_mount.specs.Kept.{mount_of}
+use Rattle.hp_mount.proofs.Keeping.{full_is, map_kept, map_left, rise_is, room_left}
+use Rattle.hp_mount.proofs.Making.{asked_share, grant_denied, grant_full, grant_given}
 use Rattle.hp_mount.proofs.mount.Mount.add_map.Goals as goal
 
-pub overflow_add-self-then-next : goal.overflow_add-self-then-next
-overflow_add-self-then-next g c =
+pub returns-then-is_full-clause-done : goal.returns-then-is_full-clause-done
+returns-then-is_full-clause-done g c =
+    let o = c.self.inside in
+    let k = c.args.file in
+    let r = c.args.range.now in
     let m = c.args.self.now in
-    let kept = subst (λ m. IsCounted c.self.inside.share c.self.inside.maps c.self.inside.tasks m) c.self.view_is c.self.invariant in
-    let tasks = kept.tasks in
-    let few = c.requires.few in
-    omega (arith, tasks, few, tasks_few m)
+    let wants = asked Shared Reserve r.start r.pages (file_in m k) in
+    let after = with_file m k (mapped r.task c.args.next.number r.start r.pages Shared Reserve (file_in m k)) in
+    let there = ap (λ (x : Mount). asked Shared Reserve r.start r.pages (file_in x k)) c.self.view_is in
+    let wanted = c.wanted-wanted.ensures ∙ there in
+    let full = ap (is_full m) (sym wanted) ∙ sym (ap (λ (x : Mount). is_full x c.wanted-wanted.result) c.self.view_is) ∙ sym (full_is o.share o.files (mount_of o.share o.inodes o.files.files) c.self.invariant refl refl c.wanted-wanted.result) ∙ sym c.is_full.ensures in
+    grant_full g.D.PoolDoor.took g.D.PoolDoor.is_full m c.args.home wants (MapNo c.args.next.number) after c.args.door.now (full ∙ c.if-is_full.true)
 
-pub add_map-requires-clause-few : goal.add_map-requires-clause-few
-add_map-requires-clause-few g c =
-    let kept = subst (λ m. IsCounted c.self.inside.share c.self.inside.maps c.self.inside.tasks m) c.self.view_is c.self.invariant in
-    let few = c.requires.usage in
-    omega (arith, few, used_is c.self.inside.share c.self.inside.maps c.self.inside.tasks c.args.self.now kept)
-
-pub invariant_of-self : goal.invariant_of-self
-invariant_of-self g c =
-    let s = c.self.inside in
-    let k = c.args.file in
-    let x = c.index_mut-at.result.now in
-    let same = c.in_err-add_map.ensures.err in
-    let back : slice_set s.files.items k c.add_map.new.self ≡ s.files.items = ap (slice_set s.files.items k) (same.0 ∙ c.index_mut-at.ensures.value) ∙ set-get_or s.files.items k x in
-    subst (λ u. IsCounted u s.maps s.tasks (mount_of u s.inodes (slice_set s.files.items k c.add_map.new.self))) (sym same.1)
-    (subst (λ fs. IsCounted s.share s.maps s.tasks (mount_of s.share s.inodes fs)) (sym back) c.self.invariant)
-
-pub invariant_of-self-then-next : goal.invariant_of-self-then-next
-invariant_of-self-then-next g c =
-    let s = c.self.inside in
-    let k = c.args.file in
-    let x = c.index_mut-at.result.now in
+pub invariant_of-self-2 : goal.invariant_of-self-2
+invariant_of-self-2 g c =
+    let o = c.self.inside in
     let r = c.args.range.now in
-    let kept = subst (λ m. IsCounted s.share s.maps s.tasks m) c.self.view_is c.self.invariant in
-    let read = subst (λ m. x ≡ slice_index_or m.files k x) c.self.view_is c.index_mut-at.ensures.value in
-    let now = c.in_ok-add_map.ensures.share in
-    share_as s.share c.add_map.new.share s.inodes (s.maps + 1) (s.tasks + 1) (slice_set s.files.items k c.add_map.new.self) (ap (λ u. u.max) now) (ap (λ u. u.min) now)
-    (subst (λ m. IsCounted c.add_map.new.share (s.maps + 1) (s.tasks + 1) (with_file m k c.add_map.new.self)) (sym c.self.view_is)
-    (map_left s.share s.maps s.tasks c.args.self.now k x c.add_map.new.self kept c.requires.file read r.task c.args.next.number r.start r.pages
-    c.new-map.result c.add_map.new.share (s.tasks + 1) c.args.next.is_first c.new-map.ensures c.in_ok-add_map.ensures.file now c.requires.first (ap (λ b. s.tasks + cond b 1 0) (sym c.if-next.true))))
+    let within = subst (λ (x : Mount). c.args.file < length x.files) (sym c.self.view_is) c.requires.file in
+    map_kept o.share o.files o.inodes c.self.invariant c.args.file within r.task c.args.next.number r.start r.pages _ c.add_map.new.share c.add_map.new.self refl c.in_default.ensures.asked.share c.in_default.ensures.ok
 
-pub invariant_of-self-else-next : goal.invariant_of-self-else-next
-invariant_of-self-else-next g c =
-    let s = c.self.inside in
+pub returns-clause-done : goal.returns-clause-done
+returns-clause-done g c =
+    let o = c.self.inside in
     let k = c.args.file in
-    let x = c.index_mut-at.result.now in
     let r = c.args.range.now in
-    let kept = subst (λ m. IsCounted s.share s.maps s.tasks m) c.self.view_is c.self.invariant in
-    let read = subst (λ m. x ≡ slice_index_or m.files k x) c.self.view_is c.index_mut-at.ensures.value in
-    let now = c.in_ok-add_map.ensures.share in
-    let same = ap (λ b. s.tasks + cond b 1 0) (sym c.if-next.false) in
-    share_as s.share c.add_map.new.share s.inodes (s.maps + 1) s.tasks (slice_set s.files.items k c.add_map.new.self) (ap (λ u. u.max) now) (ap (λ u. u.min) now)
-    (subst (λ m. IsCounted c.add_map.new.share (s.maps + 1) s.tasks (with_file m k c.add_map.new.self)) (sym c.self.view_is)
-    (map_left s.share s.maps s.tasks c.args.self.now k x c.add_map.new.self kept c.requires.file read r.task c.args.next.number r.start r.pages
-    c.new-map.result c.add_map.new.share s.tasks c.args.next.is_first c.new-map.ensures c.in_ok-add_map.ensures.file now c.requires.first (omega (arith, same))))
+    let m = c.args.self.now in
+    let wants = asked Shared Reserve r.start r.pages (file_in m k) in
+    let after = with_file m k (mapped r.task c.args.next.number r.start r.pages Shared Reserve (file_in m k)) in
+    let there = ap (λ (x : Mount). asked Shared Reserve r.start r.pages (file_in x k)) c.self.view_is in
+    let wanted = c.wanted-wanted.ensures ∙ there in
+    let full = ap (is_full m) (sym wanted) ∙ sym (ap (λ (x : Mount). is_full x c.wanted-wanted.result) c.self.view_is) ∙ sym (full_is o.share o.files (mount_of o.share o.inodes o.files.files) c.self.invariant refl refl c.wanted-wanted.result) ∙ sym c.is_full.ensures in
+    let rise_same = rise_is o.share o.files (mount_of o.share o.inodes o.files.files) c.self.invariant refl refl wants ∙ ap (λ (x : Mount). rise x wants) c.self.view_is in
+    let within = subst (λ (x : Mount). k < length x.files) (sym c.self.view_is) c.requires.file in
+    let given = subst (λ n. IsGranted g.D.PoolDoor.took g.D.PoolDoor.is_full c.args.home n o.share c.args.door.now c.add_map.new.share c.add_map.new.door) there c.in_default.ensures.asked in
+    let new_is = map_left o.share o.files o.inodes c.self.invariant k within r.task c.args.next.number r.start r.pages _ c.add_map.new.share c.add_map.new.self refl c.in_default.ensures.asked.share c.in_default.ensures.ok
+    ∙ ap (λ (x : Mount). with_file x k (mapped r.task c.args.next.number r.start r.pages Shared Reserve (file_in x k))) c.self.view_is in
+    let done = grant_given g.D.PoolDoor.took g.D.PoolDoor.is_full m c.args.home wants (MapNo c.args.next.number) after c.args.door.now (full ∙ c.if-is_full.false) o.share rise_same c.add_map.new.share c.add_map.new.door given in
+    subst (λ (x : Mount). Tried g.D.PoolDoor.took g.D.PoolDoor.is_full (λ p. grant p m c.args.home wants (Answered (MapNo c.args.next.number) (Some after))) (Some m) c.args.door.now (Ok (MapNo c.args.next.number)) (Some x) c.add_map.new.door) (sym new_is) done
+
+pub returns-in-Err-clause-done : goal.returns-in-Err-clause-done
+returns-in-Err-clause-done g c =
+    let o = c.self.inside in
+    let k = c.args.file in
+    let r = c.args.range.now in
+    let m = c.args.self.now in
+    let wants = asked Shared Reserve r.start r.pages (file_in m k) in
+    let after = with_file m k (mapped r.task c.args.next.number r.start r.pages Shared Reserve (file_in m k)) in
+    let there = ap (λ (x : Mount). asked Shared Reserve r.start r.pages (file_in x k)) c.self.view_is in
+    let wanted = c.wanted-wanted.ensures ∙ there in
+    let full = ap (is_full m) (sym wanted) ∙ sym (ap (λ (x : Mount). is_full x c.wanted-wanted.result) c.self.view_is) ∙ sym (full_is o.share o.files (mount_of o.share o.inodes o.files.files) c.self.invariant refl refl c.wanted-wanted.result) ∙ sym c.is_full.ensures in
+    let rise_same = rise_is o.share o.files (mount_of o.share o.inodes o.files.files) c.self.invariant refl refl wants ∙ ap (λ (x : Mount). rise x wants) c.self.view_is in
+    let denied = subst (λ n. IsAsked g.D.PoolDoor.took g.D.PoolDoor.is_full c.args.home n o.share c.args.door.now (Err c.in-Err.refusal) c.add_map.new.share c.add_map.new.door) there c.in-Err.ensures.asked in
+    let same = asked_share g.D.PoolDoor.took g.D.PoolDoor.is_full c.args.home _ o.share c.args.door.now c.in-Err.refusal c.add_map.new.share c.add_map.new.door c.in-Err.ensures.asked in
+    let stays = ap (λ x. mount_of x o.inodes c.add_map.new.self.files) same ∙ room_left o.share o.files c.add_map.new.self o.inodes c.self.invariant c.in-Err.ensures.err ∙ c.self.view_is in
+    grant_denied g.D.PoolDoor.took g.D.PoolDoor.is_full m c.args.home wants (MapNo c.args.next.number) after c.args.door.now (full ∙ c.if-is_full.false) o.share rise_same c.in-Err.refusal c.add_map.new.share c.add_map.new.door _ denied stays

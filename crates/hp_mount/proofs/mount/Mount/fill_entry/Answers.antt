@@ -1,18 +1,36 @@
-use Rattle.std.proofs.Common.{◌≡◌, ap, subst, sym}
-use Rattle.std.specs.Prelude.{slice_index_or, slice_set}
-use Rattle.hp_model.specs.File.{with_file}
-use Rattle.hp_mount.specs.Counted.{IsCounted}
-use Rattle.hp_mount.proofs.Keeping.{entry_left, share_as}
+use Rattle.std.proofs.Common.{◌≡◌, ◌<◌, length, sym, ap, subst, ◌∙◌}
+use Rattle.hp_mount_door.specs.Door.{with_page}
+use Rattle.hp_model.specs.File.{Mount, cell_at, with_cell, with_file}
+use Rattle.hp_model.specs.declared.cell.Cell.TheVariants.{Entered, Present}
+use Rattle.hp_model.specs.Page.{Page}
+use Rattle.hp_model.specs.declared.section.Section.TheVariants.{TakePage}
+use Rattle.hp_model.specs.Pool.{granted_at}
+use Rattle.hp_model.specs.Promises.{file_in}
+use Rattle.hp_mount.proofs.Keeping.{entry_kept, entry_left}
+use Rattle.hp_mount.proofs.Shared.{shared_entered}
 use Rattle.hp_mount.proofs.mount.Mount.fill_entry.Goals as goal
 
-pub invariant_of-self : goal.invariant_of-self
-invariant_of-self g c =
+pub invariant_of-self-2 : goal.invariant_of-self-2
+invariant_of-self-2 g c =
     let s = c.self.inside in
     let k = c.args.file in
-    let x = c.index_mut-at.result.now in
-    let kept = subst (λ m. IsCounted s.share s.maps s.tasks m) c.self.view_is c.self.invariant in
-    let read = subst (λ m. x ≡ slice_index_or m.files k x) c.self.view_is c.index_mut-at.ensures.value in
-    let taken = c.take_one-page.ensures.sub in
-    share_as s.share c.take_one-page.new.self s.inodes s.maps s.tasks (slice_set s.files.items k c.fill.new.self) (ap (λ u. u.max) taken) (ap (λ u. u.min) taken)
-    (subst (λ m. IsCounted c.take_one-page.new.self s.maps s.tasks (with_file m k c.fill.new.self)) (sym c.self.view_is)
-    (entry_left s.share s.maps s.tasks c.args.self.now k c.args.index x c.fill.new.self kept c.requires.file c.requires.below read c.take_one-page.new.self c.zero.new.self c.requires.entered taken c.fill.ensures))
+    let i = c.args.index in
+    entry_kept s.share s.files s.inodes c.self.invariant k (subst (λ m. k < length m.files) (sym c.self.view_is) c.requires.file) i c.zero.new.self c.take_page.new.share c.fill.new.self
+    (subst (λ m. i < length (file_in m k).cells) (sym c.self.view_is) c.requires.below) (subst (λ m. cell_at (file_in m k) i ≡ Entered) (sym c.self.view_is) c.requires.entered)
+    (sym (c.requires.shares c.take_page.new.share) ∙ c.in_ok-page.ensures.share ∙ ap with_page (c.requires.shares s.share)) c.fill.ensures
+
+pub returns-clause-done : goal.returns-clause-done
+returns-clause-done g c s at file =
+    let i = c.args.index in
+    let k = c.args.file in
+    let o = c.self.inside in
+    let m = c.args.self.now in
+    let page = c.zero.new.self in
+    let got = c.in_ok-page.page in
+    let node = ap (λ (p : Page). p.node) (c.requires.pages got) ∙ sym (ap (λ (p : Page). p.node) c.zero.ensures) in
+    shared_entered g.D.PoolDoor.took g.D.PoolDoor.is_full g.N.Naming.page_bytes m c.args.home k i s at file c.args.door.now c.take_page.new.self page _ c.requires.entered
+    (subst (λ n. g.D.PoolDoor.took c.args.door.now (TakePage c.args.home) (granted_at n) c.take_page.new.self) node c.in_ok-page.ensures.ok)
+    (ap (λ (p : Page). p.bytes) c.zero.ensures)
+    (entry_left o.share o.files o.inodes c.self.invariant k (subst (λ m. k < length m.files) (sym c.self.view_is) c.requires.file) i page c.take_page.new.share c.fill.new.self
+    (sym (c.requires.shares c.take_page.new.share) ∙ c.in_ok-page.ensures.share ∙ ap with_page (c.requires.shares o.share)) c.fill.ensures
+    ∙ ap (λ (x : Mount). with_file x k (with_cell (file_in x k) i (Present page))) c.self.view_is)

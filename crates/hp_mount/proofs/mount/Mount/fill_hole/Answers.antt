@@ -1,24 +1,85 @@
-use Rattle.std.proofs.Common.{◌≡◌, ◌+◌, ◌-◌, ap, ◌∙◌, subst, sym}
-use Rattle.std.specs.Prelude.{slice_index_or, slice_set}
-use Rattle.hp_model.specs.File.{with_file}
-use Rattle.hp_mount.specs.Counted.{IsCounted, mount_of}
-use Rattle.hp_subpool.specs.Subpool.{Subpool}
-use Rattle.hp_mount.proofs.Keeping.{hole_left, share_as}
+use Rattle.std.proofs.Common.{◌≡◌, ◌<◌, length, refl, sym, ap, subst, ◌∙◌, arith}
+use Rattle.hp_mount_door.specs.Door.{with_granted, IsDoorRefusal}
+use Rattle.hp_model.specs.File.{Mount, cell_at, with_cell, with_file}
+use Rattle.hp_model.specs.declared.cell.Cell.TheVariants.{Hole, Present}
+use Rattle.hp_model.specs.Grant as grant
+use Rattle.hp_model.specs.Page.{Page}
+use Rattle.hp_model.specs.declared.section.Section.TheVariants.{GrantPage}
+use Rattle.hp_model.specs.Pool.{granted_at, no_pages}
+use Rattle.hp_model.specs.Promises.{file_in}
+use Rattle.hp_mount_files.specs.Files.{filled_at, with_cell_at}
+use Rattle.hp_mount.specs.Kept.{mount_of}
+use Rattle.hp_mount.proofs.Keeping.{full_is, rise_is, hole_kept, hole_keeps, hole_stays, granted_left, room_left}
+use Rattle.hp_mount.proofs.Shared.{shared_full, shared_without_memory, shared_granted, shared_denied}
+use Rattle.hp_subpool.specs.Subpool as share
 use Rattle.hp_mount.proofs.mount.Mount.fill_hole.Goals as goal
 
-pub invariant_of-self : goal.invariant_of-self
-invariant_of-self g c =
-    let s = c.self.inside in
-    subst (λ u. IsCounted u s.maps s.tasks (mount_of u s.inodes s.files.items)) (sym c.in_err-get.ensures.err.0) c.self.invariant
-
-pub invariant_of-self-2 : goal.invariant_of-self-2
-invariant_of-self-2 g c =
-    let s = c.self.inside in
+pub returns-then-is_full-clause-done : goal.returns-then-is_full-clause-done
+returns-then-is_full-clause-done g c s at file =
+    let o = c.self.inside in
     let k = c.args.file in
-    let x = c.index_mut-at.result.now in
-    let kept = subst (λ m. IsCounted s.share s.maps s.tasks m) c.self.view_is c.self.invariant in
-    let read = subst (λ m. x ≡ slice_index_or m.files k x) c.self.view_is c.index_mut-at.ensures.value in
-    let taken = c.take_one-page.ensures.sub ∙ ap (λ (u : Subpool). record u { held = u.held - 1; pages = u.pages + 1 }) c.in_ok-get.ensures.ok.0 in
-    share_as s.share c.take_one-page.new.self s.inodes s.maps s.tasks (slice_set s.files.items k c.fill.new.self) (ap (λ u. u.max) taken) (ap (λ u. u.min) taken)
-    (subst (λ m. IsCounted c.take_one-page.new.self s.maps s.tasks (with_file m k c.fill.new.self)) (sym c.self.view_is)
-    (hole_left s.share s.maps s.tasks c.args.self.now k c.args.index x c.fill.new.self kept c.requires.file c.requires.below read c.take_one-page.new.self c.zero.new.self c.requires.hole taken c.fill.ensures))
+    let i = c.args.index in
+    let m = c.args.self.now in
+    let inv = c.self.invariant in
+    shared_full g.D.PoolDoor.took g.D.PoolDoor.is_full g.N.Naming.page_bytes m c.args.home k i s at file c.args.door.now c.requires.hole (sym (ap (λ (x : Mount). grant.is_full x 1) c.self.view_is) ∙ sym (full_is o.share o.files (mount_of o.share o.inodes o.files.files) inv refl refl 1) ∙ sym c.is_full.ensures ∙ c.if-is_full.true)
+
+pub returns-in_default-clause-done : goal.returns-in_default-clause-done
+returns-in_default-clause-done g c s at file =
+    let o = c.self.inside in
+    let k = c.args.file in
+    let i = c.args.index in
+    let m = c.args.self.now in
+    let inv = c.self.invariant in
+    shared_without_memory g.D.PoolDoor.took g.D.PoolDoor.is_full g.N.Naming.page_bytes m c.args.home k i s at file c.args.door.now c.requires.hole _ (sym (ap (λ (x : Mount). grant.is_full x 1) c.self.view_is) ∙ sym (full_is o.share o.files (mount_of o.share o.inodes o.files.files) inv refl refl 1) ∙ sym c.is_full.ensures ∙ c.if-is_full.false) (room_left o.share o.files c.prepare.new.self o.inodes inv c.in_default.ensures.err ∙ c.self.view_is)
+
+pub invariant_of-self-in-Ok-get_page : goal.invariant_of-self-in-Ok-get_page
+invariant_of-self-in-Ok-get_page g c =
+    let o = c.self.inside in
+    let k = c.args.file in
+    let i = c.args.index in
+    let m = c.args.self.now in
+    let inv = c.self.invariant in
+    hole_kept o.share o.files o.inodes inv k (subst (λ (x : Mount). k < length x.files) (sym c.self.view_is) c.requires.file) i c.saturating_add-spare.result c.zero.new.self c.get_page.new.share c.fill.new.self (subst (λ (x : Mount). i < length (file_in x k).cells) (sym c.self.view_is) c.requires.below) (subst (λ (x : Mount). cell_at (file_in x k) i ≡ Hole) (sym c.self.view_is) c.requires.hole) (omega (arith, c.held.ensures, c.saturating_add-spare.ensures, c.in-Ok.ensures.few)) (sym (c.requires.shares c.get_page.new.share) ∙ c.in-Ok-get_page.ensures.share ∙ ap with_granted (c.requires.shares o.share)) (c.fill.ensures ∙ ap (λ v. filled_at k i c.zero.new.self v) c.in-Ok.ensures.ok)
+
+pub invariant_of-self-in-Err : goal.invariant_of-self-in-Err
+invariant_of-self-in-Err g c =
+    let o = c.self.inside in
+    let k = c.args.file in
+    let i = c.args.index in
+    let m = c.args.self.now in
+    let inv = c.self.invariant in
+    hole_keeps o.share o.files o.inodes inv k (subst (λ (x : Mount). k < length x.files) (sym c.self.view_is) c.requires.file) i c.saturating_add-spare.result c.get_page.new.share c.leave.new.self (subst (λ (x : Mount). cell_at (file_in x k) i ≡ Hole) (sym c.self.view_is) c.requires.hole) c.in-Err.ensures.unchanged (c.leave.ensures ∙ ap (λ v. with_cell_at k i Hole v) c.in-Ok.ensures.ok)
+
+pub returns-in-Ok-get_page-clause-done : goal.returns-in-Ok-get_page-clause-done
+returns-in-Ok-get_page-clause-done g c s at file =
+    let o = c.self.inside in
+    let k = c.args.file in
+    let i = c.args.index in
+    let m = c.args.self.now in
+    let inv = c.self.invariant in
+    let got = c.in-Ok-get_page.got in
+    let node = ap (λ (p : Page). p.node) (c.requires.pages got) ∙ sym (ap (λ (p : Page). p.node) c.zero.ensures) in
+    shared_granted g.D.PoolDoor.took g.D.PoolDoor.is_full g.N.Naming.page_bytes m c.args.home k i s at file c.args.door.now c.requires.hole c.get_page.new.self c.zero.new.self _ (sym (ap (λ (x : Mount). grant.is_full x 1) c.self.view_is) ∙ sym (full_is o.share o.files (mount_of o.share o.inodes o.files.files) inv refl refl 1) ∙ sym c.is_full.ensures ∙ c.if-is_full.false)
+    (subst (λ n. g.D.PoolDoor.took c.args.door.now (GrantPage c.args.home (grant.rise m 1)) (granted_at n) c.get_page.new.self) node
+    (subst (λ n. g.D.PoolDoor.took c.args.door.now (GrantPage c.args.home n) (granted_at (g.D.PoolDoor.page_of got).node) c.get_page.new.self) (ap (λ x. share.rise x 1) (c.requires.shares o.share) ∙ rise_is o.share o.files (mount_of o.share o.inodes o.files.files) inv refl refl 1 ∙ ap (λ (x : Mount). grant.rise x 1) c.self.view_is) c.in-Ok-get_page.ensures.ok))
+    (ap (λ (p : Page). p.bytes) c.zero.ensures)
+    (granted_left o.share o.files o.inodes inv k (subst (λ (x : Mount). k < length x.files) (sym c.self.view_is) c.requires.file) i c.saturating_add-spare.result c.zero.new.self c.get_page.new.share c.fill.new.self (sym (c.requires.shares c.get_page.new.share) ∙ c.in-Ok-get_page.ensures.share ∙ ap with_granted (c.requires.shares o.share)) (c.fill.ensures ∙ ap (λ v. filled_at k i c.zero.new.self v) c.in-Ok.ensures.ok)
+    ∙ ap (λ (x : Mount). with_file x k (with_cell (file_in x k) i (Present c.zero.new.self))) c.self.view_is)
+
+pub returns-in-Err-clause-done : goal.returns-in-Err-clause-done
+returns-in-Err-clause-done g c s at file =
+    let o = c.self.inside in
+    let k = c.args.file in
+    let i = c.args.index in
+    let m = c.args.self.now in
+    let inv = c.self.invariant in
+    shared_denied g.D.PoolDoor.took g.D.PoolDoor.is_full g.N.Naming.page_bytes m c.args.home k i s at file c.args.door.now c.requires.hole c.get_page.new.self _ c.in-Err.refusal (sym (ap (λ (x : Mount). grant.is_full x 1) c.self.view_is) ∙ sym (full_is o.share o.files (mount_of o.share o.inodes o.files.files) inv refl refl 1) ∙ sym c.is_full.ensures ∙ c.if-is_full.false)
+    (subst (λ n. IsDoorRefusal c.in-Err.refusal (g.D.PoolDoor.took c.args.door.now (GrantPage c.args.home n) no_pages c.get_page.new.self) ((c.get_page.new.self ≡ c.args.door.now) × g.D.PoolDoor.is_full c.get_page.new.self)) (ap (λ x. share.rise x 1) (c.requires.shares o.share) ∙ rise_is o.share o.files (mount_of o.share o.inodes o.files.files) inv refl refl 1 ∙ ap (λ (x : Mount). grant.rise x 1) c.self.view_is) c.in-Err.ensures.err)
+    (hole_stays o.share o.files o.inodes inv k (subst (λ (x : Mount). k < length x.files) (sym c.self.view_is) c.requires.file) i c.saturating_add-spare.result c.get_page.new.share c.leave.new.self (subst (λ (x : Mount). cell_at (file_in x k) i ≡ Hole) (sym c.self.view_is) c.requires.hole) c.in-Err.ensures.unchanged (c.leave.ensures ∙ ap (λ v. with_cell_at k i Hole v) c.in-Ok.ensures.ok) ∙ c.self.view_is)
+
+pub get_page-requires-clause-few : goal.get_page-requires-clause-few
+get_page-requires-clause-few g c =
+    let o = c.self.inside in
+    let inv = c.self.invariant in
+    let same = ap share.used (c.requires.shares o.share) in
+    omega (arith, same, inv.pages, c.in-Ok.ensures.few, c.held.ensures, c.saturating_add-spare.ensures)

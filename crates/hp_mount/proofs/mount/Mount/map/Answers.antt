@@ -1,42 +1,39 @@
-use Rattle.std.proofs.Common.{◌<◌, ◌≤◌, length, refl, subst, arith}
-use Rattle.std.proofs.lemmas.Result.{err_from_is_err_and}
-use Rattle.hp_mount.proofs.MapDone.{map_denied, map_done, map_nowhere, map_refused}
+use Rattle.std.proofs.Common.{◌≡◌, Err, None, Some, subst}
+use Rattle.hp_model.specs.declared.answer.Answer.TheVariants.{MapNo}
+use Rattle.hp_model.specs.declared.step.Reserving.TheVariants.{Reserve}
+use Rattle.hp_model.specs.declared.step.Sharing.TheVariants.{Shared}
+use Rattle.hp_model.specs.File.{Mount, with_file}
+use Rattle.hp_model.specs.MakeMap.{asked, mapped}
+use Rattle.hp_model.specs.Plan.{Answered, Choice, grant}
+use Rattle.hp_model.specs.Promises.{file_in}
+use Rattle.hp_model.specs.SlotEvent.{file_named}
+use Rattle.hp_mount.specs.Done.{Tried}
+use Rattle.hp_mount.specs.Making.{numbered}
+use Rattle.hp_mount.proofs.Making.{map_nowhere, map_refused, map_went}
 use Rattle.hp_mount.proofs.mount.Mount.map.Goals as goal
 
-pub returns-then-file-len-clause-done : goal.returns-then-file-len-clause-done
-returns-then-file-len-clause-done g c slot =
-    let m = c.args.self.now in
+pub returns-in_default-clause-done : goal.returns-in_default-clause-done
+returns-in_default-clause-done g c size k =
     let r = c.args.range.now in
-    let k = c.named-file.result in
-    let past = subst (λ m. length m.files ≤ k) c.self.view_is (omega (arith, c.if-file-len.true, c.len.ensures)) in
-    map_nowhere g.N.Naming.page_bytes slot c.args.pool.now m r.task c.args.home r.start r.pages c.args.name.now k c.named-file.ensures past
+    let m = c.args.self.now in
+    map_nowhere g.D.PoolDoor.took g.D.PoolDoor.is_full m size k r.task c.args.home r.start r.pages c.args.name.now c.args.door.now
+    (subst (λ (x : Mount). file_named x c.args.name.now ≡ None) c.self.view_is c.in_default.ensures.none)
 
-pub returns-in_err-next-clause-done : goal.returns-in_err-next-clause-done
-returns-in_err-next-clause-done g c slot =
-    let m = c.args.self.now in
+pub returns-in-Err-clause-done : goal.returns-in-Err-clause-done
+returns-in-Err-clause-done g c size k =
     let r = c.args.range.now in
-    let k = c.named-file.result in
-    let within = subst (λ m. k < length m.files) c.self.view_is (omega (arith, c.if-file-len.false, c.len.ensures)) in
-    let p = err_from_is_err_and c.from_residual.result c.from_residual.ensures.1 in
-    rw (p.1, p.2) (map_refused g.N.Naming.page_bytes slot c.args.pool.now m r.task c.args.home r.start r.pages c.args.name.now k c.named-file.ensures within c.in_err-next.field-0.0 c.in_err-next.ensures.err)
+    let m = c.args.self.now in
+    let file = c.in-Some.file in
+    let named = subst (λ (x : Mount). file_named x c.args.name.now ≡ Some (file, file_in x file)) c.self.view_is c.in-Some.ensures.some.is in
+    map_refused g.D.PoolDoor.took g.D.PoolDoor.is_full m size k r.task c.args.home r.start r.pages c.args.name.now c.args.door.now file named c.in-Err.refusal c.in-Err.ensures.err
 
-pub returns-in_err-add_map-clause-done : goal.returns-in_err-add_map-clause-done
-returns-in_err-add_map-clause-done g c slot =
-    let m = c.args.self.now in
+pub returns-in-Err-add_map-clause-done : goal.returns-in-Err-add_map-clause-done
+returns-in-Err-add_map-clause-done g c size k =
     let r = c.args.range.now in
-    let k = c.named-file.result in
-    let within = subst (λ m. k < length m.files) c.self.view_is (omega (arith, c.if-file-len.false, c.len.ensures)) in
-    let p = err_from_is_err_and c.from_residual-in_err-add_map.result c.from_residual-in_err-add_map.ensures.1 in
-    let same = c.in_err-add_map.ensures.err in
-    rw (p.1, p.2, same.0, same.1) (map_denied g.N.Naming.page_bytes slot c.args.pool.now m r.task c.args.home r.start r.pages c.args.name.now k c.named-file.ensures within c.in_err-add_map.field-0.0
-    c.in_ok-next.ensures.pass c.in_err-add_map.ensures.why)
-
-pub returns-clause-done : goal.returns-clause-done
-returns-clause-done g c slot =
     let m = c.args.self.now in
-    let r = c.args.range.now in
-    let k = c.named-file.result in
-    let within = subst (λ m. k < length m.files) c.self.view_is (omega (arith, c.if-file-len.false, c.len.ensures)) in
-    map_done g.N.Naming.page_bytes slot c.args.pool.now m r.task c.args.home r.start r.pages c.args.name.now k c.named-file.ensures within c.in_ok-next.next.number c.add_map.new.self c.add_map.new.pool
-    c.in_ok-next.ensures.pass (c.in_ok-add_map.ensures.granted refl).0 (c.in_ok-add_map.ensures.granted refl).1 c.in_ok-next.ensures.ok.0
-    c.in_ok-add_map.ensures.ok c.in_ok-add_map.ensures.pool c.in_ok-add_map.ensures.nothing
+    let file = c.in-Some.file in
+    let number = c.in-Ok.next.number in
+    let named = subst (λ (x : Mount). file_named x c.args.name.now ≡ Some (file, file_in x file)) c.self.view_is c.in-Some.ensures.some.is in
+    let plan = λ (p : Choice). grant p m c.args.home (asked Shared Reserve r.start r.pages (file_in m file)) (Answered (MapNo number) (Some (with_file m file (mapped r.task number r.start r.pages Shared Reserve (file_in m file))))) in
+    map_went g.D.PoolDoor.took g.D.PoolDoor.is_full m size k r.task c.args.home r.start r.pages c.args.name.now c.args.door.now file named number c.in-Ok.ensures.pass c.in-Ok.ensures.number (Err c.in-Err-add_map.refusal) (Some c.add_map.new.self) c.add_map.new.door
+    (subst (λ q. Tried g.D.PoolDoor.took g.D.PoolDoor.is_full plan (Some m) c.args.door.now (numbered number q) (Some c.add_map.new.self) c.add_map.new.door) c.in-Err-add_map.is c.add_map.ensures.done)

@@ -1,16 +1,27 @@
-use Rattle.std.proofs.Common.{◌≡◌, subst, sym}
-use Rattle.std.specs.Prelude.{slice_index_or}
-use Rattle.hp_model.specs.File.{with_file}
-use Rattle.hp_mount.specs.Counted.{IsCounted}
-use Rattle.hp_mount.proofs.Keeping.{written_left}
+use Rattle.std.proofs.Common.{◌<◌, ◌≤◌, length, refl, sym, ap, subst, ◌∙◌, arith}
+use Rattle.hp_model.specs.File.{Mount, cell_at, with_cell, with_file}
+use Rattle.hp_model.specs.Promises.{file_in}
+use Rattle.hp_model.specs.Spot.{cell_written}
+use Rattle.hp_mount_files.specs.Files.{Files, file_at}
+use Rattle.hp_mount.proofs.Commands.{write_grows}
+use Rattle.hp_mount.proofs.Keeping.{grown, shared_here}
 use Rattle.hp_mount.proofs.mount.Mount.write.Goals as goal
 
 pub invariant_of-self : goal.invariant_of-self
 invariant_of-self g c =
-    let s = c.self.inside in
+    let o = c.self.inside in
     let k = c.args.file in
-    let x = c.index_mut-at.result.now in
-    let kept = subst (λ m. IsCounted s.share s.maps s.tasks m) c.self.view_is c.self.invariant in
-    let read = subst (λ m. x ≡ slice_index_or m.files k x) c.self.view_is c.index_mut-at.ensures.value in
-    subst (λ m. IsCounted s.share s.maps s.tasks (with_file m k c.write.new.self)) (sym c.self.view_is)
-    (written_left s.share s.maps s.tasks c.args.self.now k c.args.index x c.write.new.self kept c.requires.file c.requires.below read c.args.offset c.args.bytes.now c.write.ensures)
+    let i = c.args.index in
+    let f = file_at o.files.files k in
+    let pages = c.self.invariant.pages in
+    grown o.share o.files o.inodes c.self.invariant k (subst (λ (x : Mount). k < length x.files) (sym c.self.view_is) c.requires.file) o.share c.write.new.self (with_cell f i (cell_written c.args.offset c.args.bytes.now (cell_at f i))) 0 0 0
+    (write_grows k i c.args.offset c.args.bytes.now f (subst (λ (x : Mount). i < length (file_in x k).cells) (sym c.self.view_is) c.requires.below)) (shared_here o.share o.files o.inodes c.self.invariant k (subst (λ (x : Mount). k < length x.files) (sym c.self.view_is) c.requires.file)) refl refl (omega (arith)) (omega (arith))
+    (subst (λ n. o.share.held ≤ n) (sym (ap (λ (x : Files). x.room) c.write.ensures)) c.self.invariant.room) (ap (λ (x : Files). x.going) c.write.ensures) (ap (λ (x : Files). x.files) c.write.ensures)
+
+pub returns : goal.returns
+returns g c =
+    let o = c.self.inside in
+    let k = c.args.file in
+    let i = c.args.index in
+    ap (λ (v : Files). record { limits = record { max = o.share.max; min = o.share.min; inodes = o.inodes }; files = v.files }) c.write.ensures
+    ∙ ap (λ (x : Mount). with_file x k (with_cell (file_in x k) i (cell_written c.args.offset c.args.bytes.now (cell_at (file_in x k) i)))) c.self.view_is

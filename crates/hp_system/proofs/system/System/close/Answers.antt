@@ -1,6 +1,6 @@
 use Rattle.std.proofs.Common.{◌++◌, length, replicate, None, subst, ap, ◌∙◌, ◌-◌, arith}
 use Rattle.std.proofs.lemmas.List.{nil_from_length}
-use Rattle.hp_system.proofs.Carries.{few_nodes, settled_pool}
+use Rattle.hp_system.proofs.Carries.{ready}
 use Rattle.hp_system.proofs.Ending.{all_gone, begins, mount_goes, none_goes, IsEnding}
 use Rattle.hp_system.proofs.system.System.close.Goals as goal
 
@@ -10,23 +10,17 @@ loop-slot-init g c =
     let bytes = g.N.Naming.page_bytes in
     subst (λ x. IsEnding x.page_size bytes (length x.slots) x.table s.pool s.slots.items s.pool) c.self.view_is (begins s.page_bytes bytes s.table s.slots.items s.pool c.self.invariant)
 
-pub close-requires-clause-settled : goal.close-requires-clause-settled
-close-requires-clause-settled g c =
+pub close-requires-clause-ready : goal.close-requires-clause-ready
+close-requires-clause-ready g c =
     let s = c.args.self in
     let xs = c.loop-slot.slots.items in
-    settled_pool s.page_size g.N.Naming.page_bytes s.table (xs ++ replicate (length s.slots - length xs) None) c.loop-slot.pool c.loop-slot.invariant.kept
-
-pub close-requires-clause-nodes : goal.close-requires-clause-nodes
-close-requires-clause-nodes g c =
-    let s = c.args.self in
-    let xs = c.loop-slot.slots.items in
-    few_nodes s.page_size g.N.Naming.page_bytes s.table (xs ++ replicate (length s.slots - length xs) None) c.loop-slot.pool c.loop-slot.invariant.kept
+    ready s.page_size g.N.Naming.page_bytes s.table (xs ++ replicate (length s.slots - length xs) None) c.loop-slot.pool c.loop-slot.invariant.kept
 
 pub loop-slot-preserved-in-Some-slot : goal.loop-slot-preserved-in-Some-slot
 loop-slot-preserved-in-Some-slot g c =
     let s = c.args.self in
     mount_goes s.page_size g.N.Naming.page_bytes (length s.slots) s.table c.self.inside.pool c.loop-slot.slots.items c.pop.new.self.items c.in-Some.slot c.loop-slot.pool
-    c.in-Some.ensures.items c.loop-slot.invariant c.in-Some-slot.mount c.close.new.pool c.in-Some-slot.is c.close.ensures.given
+    c.in-Some.ensures.items c.loop-slot.invariant c.in-Some-slot.mount c.close.new.door c.in-Some-slot.is c.close.ensures.done
 
 pub loop-slot-preserved : goal.loop-slot-preserved
 loop-slot-preserved g c =

@@ -1,10 +1,10 @@
-use Rattle.hp_system.proofs.Carries.{settled_pool}
+use Rattle.hp_system.proofs.Carries.{ready}
 use Rattle.hp_system.proofs.MachineSteps.{meminfo_step}
 use Rattle.hp_system.proofs.system.System.meminfo.Goals as goal
 
 pub counts-requires : goal.counts-requires
 counts-requires g c =
-    let s = c.self.inside in settled_pool s.page_bytes g.N.Naming.page_bytes s.table s.slots.items s.pool c.self.invariant
+    let s = c.self.inside in (ready s.page_bytes g.N.Naming.page_bytes s.table s.slots.items s.pool c.self.invariant).settled
 
 pub returns-clause-step : goal.returns-clause-step
 returns-clause-step g c =

@@ -2,7 +2,7 @@ use Rattle.std.proofs.Common.{◌≡◌, [], sym, ap, subst, ◌∙◌}
 use Rattle.hp_model.specs.Machine.{slots_from}
 use Rattle.hp_model.specs.PoolCounts.{IsSettled, Pool}
 use Rattle.hp_system.specs.Kept.{state_of, IsKept}
-use Rattle.hp_system.proofs.Carries.{settled_pool}
+use Rattle.hp_system.proofs.Carries.{ready}
 use Rattle.hp_system.proofs.Start.{start_kept, start_is, first_pool}
 use Rattle.hp_system.proofs.system.System.new.Goals as goal
 
@@ -16,7 +16,7 @@ open_slots-requires g c =
       none = c.in_ok-mounts.ensures.items;
       some = c.requires.slots;
       room = c.in_ok-mounts.ensures.capacity;
-      settled = subst (λ (p : Pool). IsSettled p) (sym c.in-Ok.ensures) (settled_pool size bytes [] (slots_from slots) (first_pool c.args.frames.now) kept);
+      settled = subst (λ (p : Pool). IsSettled p) (sym c.in-Ok.ensures) (ready size bytes [] (slots_from slots) (first_pool c.args.frames.now) kept).settled;
     }
 
 pub invariant_of-result : goal.invariant_of-result

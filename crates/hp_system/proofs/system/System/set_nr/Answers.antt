@@ -1,13 +1,13 @@
 use Rattle.std.proofs.Common.{◌<◌, ◌≤◌, Ok, arith}
 use Rattle.hp_model.specs.declared.answer.Answer.TheVariants.{Number}
 use Rattle.hp_model.specs.declared.event.PoolEvent.TheVariants.{Nr}
-use Rattle.hp_system.proofs.Carries.{kept_by_pool, settled_pool}
+use Rattle.hp_system.proofs.Carries.{kept_by_pool, ready}
 use Rattle.hp_system.proofs.MachineSteps.{nr_step, nr_event, falling_step}
 use Rattle.hp_system.proofs.system.System.set_nr.Goals as goal
 
 pub set_nr-requires : goal.set_nr-requires
 set_nr-requires g c =
-    let s = c.self.inside in settled_pool s.page_bytes g.N.Naming.page_bytes s.table s.slots.items s.pool c.self.invariant
+    let s = c.self.inside in (ready s.page_bytes g.N.Naming.page_bytes s.table s.slots.items s.pool c.self.invariant).settled
 
 pub invariant_of-self : goal.invariant_of-self
 invariant_of-self g c =

@@ -1,0 +1,212 @@
+-- An event on one map: its tests, its access, and what follows, whichever these are.
+use Rattle.std.proofs.Common.{◌≡◌, ℕ, zero, suc, ◌+◌, ◌<◌, Bool, true, false, cond, List, [], ◌∷◌, Option, Some, None, Ok, Err, length, refl, sym, ap, subst, ◌∙◌, arith}
+use Rattle.std.specs.Prelude.{Result, slice_index_or, slice_set, nat_lt, not, is_some, ◌&&◌, ◌||◌, ◌==◌}
+use Rattle.std.proofs.lemmas.List.{get_or_default}
+use Rattle.hp_model.specs.declared.answer.Answer.{Answer}
+use Rattle.hp_model.specs.declared.answer.Answer.TheVariants.{Done}
+use Rattle.hp_model.specs.declared.refusal.Refusal.{Refusal}
+use Rattle.hp_model.specs.declared.refusal.Refusal.TheVariants as r
+use Rattle.hp_model.specs.Access.{access, shared_access, private_access}
+use Rattle.hp_model.specs.File.{Mount, File, cell_at, is_entered, new_file, with_cell, with_file}
+use Rattle.hp_model.specs.declared.cell.Cell.TheVariants.{Hole}
+use Rattle.hp_model.specs.Lists.{edit_at}
+use Rattle.hp_laws.proofs.FileMoves.{FileGrows}
+use Rattle.hp_laws.proofs.CopyWrites.{writes}
+use Rattle.hp_model.specs.LocalRun.{ThroughDoor, Gives}
+use Rattle.hp_model.specs.Mapping.{Map, copy_of, is_shared, is_unconsumed, place_at}
+use Rattle.hp_model.specs.Plan.{Plan, Outcome, Reply, Slot, Choice, refuse, unless, with_value, and_then}
+use Rattle.hp_model.specs.declared.section.PoolAnswer.{PoolAnswer}
+use Rattle.hp_model.specs.declared.section.Section.{Section}
+use Rattle.hp_model.specs.Promises.{file_in, is_backed, map_in, no_map, owns_copy}
+use Rattle.hp_model.specs.SlotEvent.{is_unmapped, is_beyond}
+use Rattle.hp_model.specs.Spot.{Spot, spot, again, written, file_written, cell_written, map_written}
+use Rattle.hp_model.specs.declared.step.Intent.{Intent}
+use Rattle.hp_model.specs.declared.step.Intent.TheVariants.{Read, Write}
+use Rattle.hp_mount.specs.Done.{Through, Tried}
+use Rattle.hp_mount.specs.Found.{IsTouched, first_of, spot_at, spot_of, tests_of, why_not}
+use Rattle.hp_mount.specs.declared.mount.reach.Asked.{Asked}
+use Rattle.hp_mount.specs.declared.mount.reach.Asked.TheVariants.{Page, Bytes}
+use Rattle.hp_mount.specs.declared.mount.reach.MapAccess.{MapAccess}
+use Rattle.hp_model.specs.Profile.{most_bytes}
+use Rattle.hp_model.specs.Reserved.{is_reserved}
+use Rattle.hp_mount.proofs.Ways.{fresh_choice, is_fresh, refused_at, then_goes, then_refused}
+
+-- ---- tests
+
+pub tests_pass : (ts : List (Bool × Refusal)) (p : Plan) → first_of ts ≡ None → unless ts p ≡ p
+tests_pass [] p e = refl
+tests_pass (t ∷ ts) p e = passes t.0 e (tests_pass ts p)
+  where
+    passes : (b : Bool) → cond b (Some t.1) (first_of ts) ≡ None → (first_of ts ≡ None → unless ts p ≡ p) → cond b (refuse t.1) (unless ts p) ≡ p
+    passes true e rest = cc
+    passes false e rest = rest e
+
+pub tests_fail : (ts : List (Bool × Refusal)) (p : Plan) (e : Refusal) → first_of ts ≡ Some e → unless ts p ≡ refuse e
+tests_fail [] p x e = cc
+tests_fail (t ∷ ts) p x e = fails t.0 e (tests_fail ts p x)
+  where
+    fails : (b : Bool) → cond b (Some t.1) (first_of ts) ≡ Some x → (first_of ts ≡ Some x → unless ts p ≡ refuse x) → cond b (refuse t.1) (unless ts p) ≡ refuse x
+    fails true e rest = (let same : t.1 ≡ x = cc in ap refuse same)
+    fails false e rest = rest e
+
+-- ---- why an access does not begin
+
+abbrev pub why_of : (size i : ℕ) → Asked → Option Spot → Option Refusal
+why_of size i asked o = elim o [ None ↦ Some r.NoSuchMap | Some s ↦ first_of (tests_of size i asked s) ]
+
+-- it is never for want of memory, or of room to note a section
+abbrev pub is_early : Refusal → Bool
+is_early r.NoSuchMap = true
+is_early r.OutOfRange = true
+is_early r.CrossesPage = true
+is_early r.TooMany = true
+is_early r.BeyondEnd = true
+is_early other = false
+
+some_same : {Y : Type 0} {x y : Y} → Some x ≡ Some y → x ≡ y
+some_same e = cc
+
+some_early : (x e : Refusal) → is_early x ≡ true → Some x ≡ Some e → is_early e ≡ true
+some_early x e early h = subst (λ y. is_early y ≡ true) (some_same h) early
+
+page_early : (a b : Bool) (e : Refusal) → cond a (Some r.OutOfRange) (cond b (Some r.BeyondEnd) None) ≡ Some e → is_early e ≡ true
+page_early true b e h = some_early r.OutOfRange e refl h
+page_early false true e h = some_early r.BeyondEnd e refl h
+page_early false false e h = cc
+
+bytes_early : (a b c d : Bool) (e : Refusal) → cond a (Some r.OutOfRange) (cond b (Some r.CrossesPage) (cond c (Some r.TooMany) (cond d (Some r.BeyondEnd) None))) ≡ Some e → is_early e ≡ true
+bytes_early true b c d e h = some_early r.OutOfRange e refl h
+bytes_early false true c d e h = some_early r.CrossesPage e refl h
+bytes_early false false true d e h = some_early r.TooMany e refl h
+bytes_early false false false true e h = some_early r.BeyondEnd e refl h
+bytes_early false false false false e h = cc
+
+pub why_is_early : (size i : ℕ) (asked : Asked) (o : Option Spot) (e : Refusal) → why_of size i asked o ≡ Some e → is_early e ≡ true
+why_is_early size i asked None e h = some_early r.NoSuchMap e refl h
+why_is_early size i Page (Some s) e h = page_early (is_unmapped s i) (is_beyond s i) e h
+why_is_early size i (Bytes offset count) (Some s) e h = bytes_early (is_unmapped s i || (count == 0)) (nat_lt size (offset + count)) (nat_lt most_bytes count) (is_beyond s i) e h
+
+is_not_early : is_early r.TraceFull ≡ true → ⊥
+is_not_early e = cc
+
+pub early_not_memory : {A : Type 0} (e : Refusal) → is_early e ≡ true → ◌≡◌ {A = Result A Refusal} (Err e) (Err r.OutOfMemory) → ⊥
+early_not_memory e early h = never (subst (λ x. is_early x ≡ true) (err_is h) early)
+  where
+    err_is : {A : Type 0} → ◌≡◌ {A = Result A Refusal} (Err e) (Err r.OutOfMemory) → e ≡ r.OutOfMemory
+    err_is h = cc
+    never : is_early r.OutOfMemory ≡ true → ⊥
+    never e = cc
+
+-- ---- an access, and what follows it, whichever these are
+
+module _ {X : Type 0} (took : X → Section → PoolAnswer → X → Type 0) (full : X → Type 0) (m : Mount) (door : X) where
+  -- what makes a plan of an access leaves a refusal as it is
+  abbrev pub KeepsRefusals : (Spot → Plan → Plan) → Type 0
+  KeepsRefusals then =
+      (s : Spot) (p : Plan) (left : X) (e : Refusal) (new : Slot) → ThroughDoor took p (Some m) door (Err e) new left → ThroughDoor took (then s p) (Some m) door (Err e) new left
+
+  module _ (a : MapAccess) (asked : Asked) (size : ℕ) (act : Choice → Spot → Plan) (then : Spot → Plan → Plan) (keeps : KeepsRefusals then) where
+    abbrev plan : Choice → Plan
+    plan c = with_value (spot_of a m) r.NoSuchMap (λ s. then s (unless (tests_of size a.index asked s) (act c s)))
+
+    -- it does not begin
+    begun : (c : Choice) (e : Refusal) (o : Option Spot) → why_of size a.index asked o ≡ Some e
+        → ThroughDoor took (with_value o r.NoSuchMap (λ s. then s (unless (tests_of size a.index asked s) (act c s)))) (Some m) door (Err e) (Some m) door
+    begun c e None h = subst (λ x. ThroughDoor took (refuse r.NoSuchMap) (Some m) door (Err x) (Some m) door) (some_same h) (refused_at took m r.NoSuchMap door)
+    begun c e (Some s) h =
+        keeps s (unless (tests_of size a.index asked s) (act c s)) door e (Some m)
+        (subst (λ p. ThroughDoor took p (Some m) door (Err e) (Some m) door) (sym (tests_fail (tests_of size a.index asked s) (act c s) e h)) (refused_at took m e door))
+
+    pub not_begun : (e : Refusal) → why_not m a asked size ≡ Some e → Tried took full plan (Some m) door (Err e) (Some m) door
+    not_begun r.TraceFull h = absurd (is_not_early (why_is_early size a.index asked (spot_of a m) r.TraceFull h))
+    not_begun other h = (fresh_choice false (Some m), is_fresh false (Some m), begun (fresh_choice false (Some m)) other (spot_of a m) h)
+
+    module _ (s : Spot) (found : spot_of a m ≡ Some s) (pass : first_of (tests_of size a.index asked s) ≡ None) where
+      plan_is : (c : Choice) → then s (act c s) ≡ plan c
+      plan_is c =
+          ap (then s) (sym (tests_pass (tests_of size a.index asked s) (act c s) pass))
+          ∙ sym (ap (λ o. with_value o r.NoSuchMap (λ x. then x (unless (tests_of size a.index asked x) (act c x)))) found)
+
+      -- it was refused
+      pub denied : (e : Refusal) (new : Slot) (left : X) → Tried took full (λ c. act c s) (Some m) door (Err e) new left → Tried took full plan (Some m) door (Err e) new left
+      denied r.TraceFull new left h = h
+      denied other new left h = (h.0, h.1, subst (λ p. ThroughDoor took p (Some m) door (Err other) new left) (plan_is h.0) (keeps s (act h.0 s) left other new h.2))
+
+      -- it was answered, and what follows it leaves this
+      pub went : (n : Slot) (left : X) (b : Answer) (new : Slot)
+          → ((p : Plan) → ThroughDoor took p (Some m) door (Ok Done) n left → ThroughDoor took (then s p) (Some m) door (Ok b) new left)
+          → Tried took full (λ c. act c s) (Some m) door (Ok Done) n left → Tried took full plan (Some m) door (Ok b) new left
+      went n left b new follows h = (h.0, h.1, subst (λ p. ThroughDoor took p (Some m) door (Ok b) new left) (plan_is h.0) (follows (act h.0 s) h.2))
+
+  -- nothing follows
+  pub nothing_follows : KeepsRefusals (λ s p. p)
+  nothing_follows s p left e new h = h
+
+  pub follows : (cont : Spot → Mount → Outcome) → KeepsRefusals (λ s p. and_then (cont s) p)
+  follows cont s p left e new h = then_refused took m (cont s) p door left e new h
+
+-- ---- the same map after an access
+
+pub again_is : (m n : Mount) (file map : ℕ) → file < length m.files → map < length (file_in m file).maps → IsTouched m n file → again n (spot_at m file map) ≡ spot_at n file map
+again_is m n file map fl ml t =
+    let files = t.files in
+    let maps = t.maps in
+    let f : slice_index_or n.files file (file_in m file) ≡ file_in n file = get_or_default n.files file (file_in m file) (new_file None) (omega (arith, files, fl)) in
+    ap (λ g. record { file_no = file; file = g; map_no = map; map = slice_index_or g.maps map (map_in (file_in m file) map) }) f
+    ∙ ap (λ x. record { file_no = file; file = file_in n file; map_no = map; map = x }) (get_or_default (file_in n file).maps map (map_in (file_in m file) map) no_map (omega (arith, maps, ml)))
+
+-- a shared map's access
+pub shared_is : (c : Choice) (size : ℕ) (m : Mount) (s : Spot) (home i : ℕ) (intent : Intent) → is_shared s.map.sharing ≡ true → access c size m s home i intent ≡ shared_access c size m s home i (cell_at s.file i)
+shared_is c size m s home i intent e = ap (λ b. cond b (shared_access c size m s home i (cell_at s.file i)) (private_access c size m s home i (place_at s.map i) intent)) e
+
+-- plans that are the same at each choice
+pub tried_as : {X : Type 0} (took : X → Section → PoolAnswer → X → Type 0) (full : X → Type 0) (p q : Choice → Plan) → ((c : Choice) → p c ≡ q c) → (old : Slot) (door : X) (reply : Reply) (new : Slot) (left : X) → Tried took full p old door reply new left → Tried took full q old door reply new left
+tried_as took full p q same old door (Err r.TraceFull) new left h = h
+tried_as took full p q same old door (Ok a) new left h = (h.0, h.1, subst (λ x. ThroughDoor took x old door (Ok a) new left) (same h.0) h.2)
+tried_as took full p q same old door (Err other) new left h = (h.0, h.1, subst (λ x. ThroughDoor took x old door (Err other) new left) (same h.0) h.2)
+
+-- ---- what a store through a shared map writes
+
+pub edit_is_set : {Y : Type 0} (f : Y → Y) (xs : List Y) (i : ℕ) (d : Y) → i < length xs → edit_at f xs i ≡ slice_set xs i (f (slice_index_or xs i d))
+edit_is_set f [] i d l = absurd (nothing_below i l)
+  where
+    nothing_below : (i : ℕ) → i < 0 → ⊥
+    nothing_below i l = omega (arith, l)
+edit_is_set f (x ∷ xs) zero d l = refl
+edit_is_set f (x ∷ xs) (suc i) d l = ap (λ ys. x ∷ ys) (edit_is_set f xs i d (omega (arith, l)))
+
+pub written_is : (n : Mount) (s : Spot) (i offset : ℕ) (bytes : List ℕ) → is_shared s.map.sharing ≡ true → s.file_no < length n.files → i < length (file_in n s.file_no).cells
+    → written n s i offset bytes ≡ with_file n s.file_no (with_cell (file_in n s.file_no) i (cell_written offset bytes (cell_at (file_in n s.file_no) i)))
+written_is n s i offset bytes shared l below =
+    let f : File = file_in n s.file_no in
+    ap (λ fs. record n { files = fs }) (edit_is_set (file_written s i offset bytes) n.files s.file_no (new_file None) l
+    ∙ ap (λ b. slice_set n.files s.file_no (cond b (record f { cells = edit_at (cell_written offset bytes) f.cells i }) (record f { maps = edit_at (map_written i offset bytes) f.maps s.map_no }))) shared
+    ∙ ap (λ cs. slice_set n.files s.file_no (record f { cells = cs })) (edit_is_set (cell_written offset bytes) f.cells i Hole below))
+
+pub write_grows : (k i offset : ℕ) (bytes : List ℕ) (f : File) → i < length f.cells → FileGrows f (with_cell f i (cell_written offset bytes (cell_at f i))) 0 0 0
+write_grows k i offset bytes f l = subst (λ cs. FileGrows f (record f { cells = cs }) 0 0 0) (edit_is_set (cell_written offset bytes) f.cells i Hole l) (writes true k i offset bytes f)
+
+-- ---- memory
+
+-- an index that is backed for a shared map is entered
+pub backed_is_entered : (intent : Intent) (o : Option Spot) (s : Spot) (i : ℕ) → o ≡ Some s → is_shared s.map.sharing ≡ true → is_backed intent o i ≡ true → is_entered (cell_at s.file i) ≡ true
+backed_is_entered intent o s i found shared backed = here intent (ap (λ x. is_backed intent x i) (sym found) ∙ backed)
+  where
+    reserved : is_reserved s.file s.map i ≡ is_entered (cell_at s.file i)
+    reserved = ap (λ b. cond b (is_entered (cell_at s.file i)) (s.map.owner && is_unconsumed (place_at s.map i))) shared
+    no_copy : owns_copy s.map i ≡ false
+    no_copy = ap (λ b. not b && (s.map.owner && is_some (copy_of (place_at s.map i)))) shared
+    either : (a b : Bool) → (a || b) ≡ true → b ≡ false → a ≡ true
+    either true b e none = refl
+    either false true e none = cc
+    either false false e none = cc
+    here : (intent : Intent) → is_backed intent (Some s) i ≡ true → is_entered (cell_at s.file i) ≡ true
+    here Read e = sym reserved ∙ e
+    here Write e = sym reserved ∙ either (is_reserved s.file s.map i) (owns_copy s.map i) e no_copy
+
+-- a refusal that is not for want of memory, whatever would have been answered
+pub not_memory : {A B : Type 0} (e : Refusal) → (◌≡◌ {A = Result A Refusal} (Err e) (Err r.OutOfMemory) → ⊥) → ◌≡◌ {A = Result B Refusal} (Err e) (Err r.OutOfMemory) → ⊥
+not_memory e h same = h (ap Err (err_is same))
+  where
+    err_is : {B : Type 0} → ◌≡◌ {A = Result B Refusal} (Err e) (Err r.OutOfMemory) → e ≡ r.OutOfMemory
+    err_is same = cc

@@ -1,0 +1,44 @@
+//! What a step asks of a mount.
+
+use hp_model::step::Intent;
+
+/// What a step asks of a mount. Names and bytes are the step's own: nothing is copied. An event of a task says nothing of
+/// the task's home, which goes beside it.
+#[derive(Clone, Copy, Drop)]
+pub enum MountEvent<'a> {
+    /// Makes a file of length 0.
+    Create { name: &'a [u8] },
+    /// Maps `pages` indices of a file, from `start` on, shared, and enters them. A page is reserved for each that was
+    /// not entered; the file gets longer where the map ends past its end (`mm/hugetlbfs_reserv.rst`).
+    Map {
+        task: u64,
+        name: &'a [u8],
+        start: u64,
+        pages: u64,
+    },
+    /// Sees to it that a map shows a page at an index, or for a write that it has one to write into.
+    Fault {
+        task: u64,
+        map: u64,
+        index: u64,
+        intent: Intent,
+    },
+    /// Answers `count` bytes that a map shows at an index, from byte `offset` of the page on.
+    Load {
+        task: u64,
+        map: u64,
+        index: u64,
+        offset: u64,
+        count: u64,
+    },
+    /// Writes bytes through a map at an index, from byte `offset` of the page on.
+    Store {
+        task: u64,
+        map: u64,
+        index: u64,
+        offset: u64,
+        bytes: &'a [u8],
+    },
+    /// Answers the mount's limits, its pages in use and reservations, and how many files it has.
+    Usage,
+}

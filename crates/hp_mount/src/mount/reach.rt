@@ -1,0 +1,386 @@
+//! Accesses through maps: each sees to it that there is a page.
+ghost use Rattle.std.specs.Prelude.{◌≡◌, ◌≢◌, ℕ, ◌+◌, ◌<◌, ◌≤◌, ◌^◌, length, Err, IfErr, IfOk, OnOk, OnErr, Some, None, true, false, IfNone, IfSome};
+ghost use Rattle.hp_model.specs.declared.cell.Cell.TheVariants.{Entered, Hole};
+ghost use Rattle.hp_model.specs.Access.{shared_access, access};
+ghost use Rattle.hp_model.specs.declared.event.SlotEvent.TheVariants.{Load, Store, Fault};
+ghost use Rattle.hp_model.specs.Mapping.{is_shared};
+ghost use Rattle.hp_model.specs.SlotEvent.{byte_tests, bytes_answer, fault_tests};
+ghost use Rattle.hp_model.specs.Value.{value};
+ghost use Rattle.hp_model.specs.declared.refusal.Refusal.TheVariants as Refusal;
+ghost use Rattle.hp_model.specs.File.{cell_at, is_entered, with_cell, with_file};
+ghost use Rattle.hp_model.specs.MountCounts.{usage_of};
+ghost use Rattle.hp_model.specs.Page.{Page as PageValue, zeros};
+ghost use Rattle.hp_model.specs.Promises.{file_in, is_backed, map_in};
+ghost use Rattle.hp_model.specs.declared.step.Intent.TheVariants.{Read, Write};
+ghost use Rattle.hp_model.specs.Spot.{Spot, cell_written};
+ghost use Rattle.hp_subpool.specs.Subpool.{Subpool as ShareValue};
+ghost use Rattle.hp_mount.specs.Done.{Tried, IsDone, done};
+ghost use Rattle.hp_mount.specs.Found.{Fits, IsPlaced, IsTouched, first_of, spot_at, spot_of, tests_of, why_not};
+
+use super::Mount;
+use hp_model::answer::{Answer, Reply};
+use hp_model::naming::Naming;
+use hp_model::refusal::Refusal;
+use hp_model::step::Intent;
+use hp_mount_door::PoolDoor;
+use hp_mount_files::{CellState, MapPlace};
+use hp_nodes::Page;
+use hp_subpool::Subpool;
+
+/// An access by a task through one of its maps, at an index of the file.
+#[derive(Clone, Copy, Debug, PartialEq, Eq)]
+pub struct MapAccess {
+    pub task: u64,
+    pub map: u64,
+    pub index: u64,
+}
+
+/// What an access asks of a page: the page, or bytes of it.
+#[derive(Clone, Copy, PartialEq, Eq)]
+pub enum Asked {
+    Page,
+    Bytes { offset: u64, count: u64 },
+}
+
+impl<N: Naming> Mount<N> {
+    // The page of an entered index, by the reservation that its entry holds.
+    fn fill_entry<D: PoolDoor<Share = Subpool<N>, Page = Page<N>>>(
+        &mut self,
+        door: &mut D,
+        home: usize,
+        file: usize,
+        index: u64,
+    ) -> Result<(), Refusal>
+        requires shares { (s : ShareValue) → D.share_of s ≡ s }
+        requires pages { (p : PageValue) → D.page_of p ≡ p }
+        requires ready { D.is_ready door.old }
+        requires file { file < length self.old.files }
+        requires below { index < length (file_in self.old file).cells }
+        requires entered { cell_at (file_in self.old file) index ≡ Entered }
+        ensures done { (s : Spot) → s.file_no ≡ file → s.file ≡ file_in self.old file → Tried D.took D.is_full (λ c. shared_access c N.page_bytes self.old s home index (cell_at s.file index)) (Some self.old) door.old (done result) (Some self.new) door.new }
+        ensures left { D.is_left door.new }
+        ensures memory { result ≢ Err Refusal.OutOfMemory }
+        ensures same { IsTouched self.old self.new file }
+    {
+        let mut page = door.take_page(&mut self.share, home)?;
+        page.zero();
+        self.files.fill(file, index, page);
+        Ok(())
+    }
+
+    // The page of an index without an entry, by a grant of one.
+    fn fill_hole<D: PoolDoor<Share = Subpool<N>, Page = Page<N>>>(
+        &mut self,
+        door: &mut D,
+        home: usize,
+        file: usize,
+        index: u64,
+    ) -> Result<(), Refusal>
+        requires shares { (s : ShareValue) → D.share_of s ≡ s }
+        requires pages { (p : PageValue) → D.page_of p ≡ p }
+        requires ready { D.is_ready door.old }
+        requires file { file < length self.old.files }
+        requires below { index < length (file_in self.old file).cells }
+        requires hole { cell_at (file_in self.old file) index ≡ Hole }
+        ensures done { (s : Spot) → s.file_no ≡ file → s.file ≡ file_in self.old file → Tried D.took D.is_full (λ c. shared_access c N.page_bytes self.old s home index (cell_at s.file index)) (Some self.old) door.old (done result) (Some self.new) door.new }
+        ensures left { D.is_left door.new }
+        ensures same { IsTouched self.old self.new file }
+    {
+        if self.share.is_full(1) {
+            return Err(Refusal::MountFull);
+        }
+        let spare = (self.share.held() as usize).saturating_add(1);
+        let Ok(()) = self.files.prepare(file, index, spare) else {
+            return Err(Refusal::OutOfMemory);
+        };
+        match door.get_page(&mut self.share, home) {
+            Ok(got) => {
+                let mut page = got;
+                page.zero();
+                self.files.fill(file, index, page);
+                Ok(())
+            }
+            Err(refusal) => {
+                self.files.leave(file, index);
+                Err(refusal)
+            }
+        }
+    }
+
+    // Sees to it that the index of a shared map has a page: by its entry, else by a grant of one.
+    fn reach_shared<D: PoolDoor<Share = Subpool<N>, Page = Page<N>>>(
+        &mut self,
+        door: &mut D,
+        home: usize,
+        file: usize,
+        index: u64,
+    ) -> Result<(), Refusal>
+        requires shares { (s : ShareValue) → D.share_of s ≡ s }
+        requires pages { (p : PageValue) → D.page_of p ≡ p }
+        requires ready { D.is_ready door.old }
+        requires file { file < length self.old.files }
+        requires below { index < length (file_in self.old file).cells }
+        ensures done { (s : Spot) → s.file_no ≡ file → s.file ≡ file_in self.old file → Tried D.took D.is_full (λ c. shared_access c N.page_bytes self.old s home index (cell_at s.file index)) (Some self.old) door.old (done result) (Some self.new) door.new }
+        ensures left { D.is_left door.new }
+        ensures memory { is_entered (cell_at (file_in self.old file) index) ≡ true → result ≢ Err Refusal.OutOfMemory }
+        ensures same { IsTouched self.old self.new file }
+    {
+        let _files = &self.files;
+        match self.files.cell(file, index) {
+            CellState::Present => Ok(()),
+            CellState::Entered => self.fill_entry(door, home, file, index),
+            CellState::Hole => self.fill_hole(door, home, file, index),
+        }
+    }
+
+    // Sees to it that the map shows a page at an index, or for a write that it has one to write into.
+    fn reach<D: PoolDoor<Share = Subpool<N>, Page = Page<N>>>(
+        &mut self,
+        door: &mut D,
+        home: usize,
+        at: MapPlace,
+        index: u64,
+        intent: Intent,
+    ) -> Result<(), Refusal>
+        requires shares { (s : ShareValue) → D.share_of s ≡ s }
+        requires pages { (p : PageValue) → D.page_of p ≡ p }
+        requires ready { D.is_ready door.old }
+        requires file { at.file < length self.old.files }
+        requires below { index < length (file_in self.old at.file).cells }
+        requires shared { is_shared (spot_at self.old at.file at.map).map.sharing ≡ true }
+        ensures done { Tried D.took D.is_full (λ c. access c N.page_bytes self.old (spot_at self.old at.file at.map) home index intent) (Some self.old) door.old (done result) (Some self.new) door.new }
+        ensures left { D.is_left door.new }
+        ensures memory { is_entered (cell_at (file_in self.old at.file) index) ≡ true → result ≢ Err Refusal.OutOfMemory }
+        ensures same { IsTouched self.old self.new at.file }
+    {
+        let _intent = intent;
+        self.reach_shared(door, home, at.file, index)
+    }
+
+    // What a load or a store of so many bytes is refused before its access, if anything.
+    fn refused_bytes(
+        &self,
+        page_bytes: u64,
+        at: MapPlace,
+        index: u64,
+        offset: u64,
+        count: u64,
+    ) -> Option<Refusal>
+        requires file { at.file < length self.now.files }
+        requires map { at.map < length (file_in self.now at.file).maps }
+        ensures refused { result ≡ first_of (byte_tests page_bytes index offset count (spot_at self.now at.file at.map)) }
+        ensures below { IfNone result (index < length (file_in self.now at.file).cells) }
+        ensures fits { IfNone result (offset + count ≤ page_bytes) }
+        ensures few { IfNone result (count ≤ 256) }
+    {
+        let live = self.files.is_live(at, index);
+        if !live || count == 0 {
+            return Some(Refusal::OutOfRange);
+        }
+        if offset > page_bytes || count > page_bytes - offset {
+            return Some(Refusal::CrossesPage);
+        }
+        if count > 256 {
+            return Some(Refusal::TooMany);
+        }
+        if index >= self.files.len(at.file) {
+            return Some(Refusal::BeyondEnd);
+        }
+        None
+    }
+
+    // What a fault is refused before its access, if anything.
+    fn refused_page(&self, at: MapPlace, index: u64) -> Option<Refusal>
+        requires file { at.file < length self.now.files }
+        requires map { at.map < length (file_in self.now at.file).maps }
+        ensures refused { result ≡ first_of (fault_tests index (spot_at self.now at.file at.map)) }
+        ensures below { IfNone result (index < length (file_in self.now at.file).cells) }
+    {
+        if !self.files.is_live(at, index) {
+            return Some(Refusal::OutOfRange);
+        }
+        if index >= self.files.len(at.file) {
+            return Some(Refusal::BeyondEnd);
+        }
+        None
+    }
+
+    // What an access is refused before it begins, if anything.
+    fn refused(
+        &self,
+        page_bytes: u64,
+        at: MapPlace,
+        index: u64,
+        asked: Asked,
+    ) -> Option<Refusal>
+        requires file { at.file < length self.now.files }
+        requires map { at.map < length (file_in self.now at.file).maps }
+        ensures refused { result ≡ first_of (tests_of page_bytes index asked (spot_at self.now at.file at.map)) }
+        ensures below { IfNone result (index < length (file_in self.now at.file).cells) }
+        ensures fits { IfNone result (Fits page_bytes asked) }
+    {
+        match asked {
+            Asked::Page => self.refused_page(at, index),
+            Asked::Bytes { offset, count } => {
+                self.refused_bytes(page_bytes, at, index, offset, count)
+            }
+        }
+    }
+
+    // Where the map of an access stands, or why the access does not begin.
+    fn place(
+        &self,
+        page_bytes: u64,
+        access: &MapAccess,
+        asked: Asked,
+    ) -> Result<MapPlace, Refusal>
+        ensures placed { IfOk result (λ at. IsPlaced self.now access.now asked page_bytes at) }
+        ensures fits { OnOk result (Fits page_bytes asked) }
+        ensures refused { IfErr result (λ e. why_not self.now access.now asked page_bytes ≡ Some e) }
+    {
+        let Some(at) = self.files.find(access.task, access.map) else {
+            return Err(Refusal::NoSuchMap);
+        };
+        match self.refused(page_bytes, at, access.index, asked) {
+            Some(refusal) => Err(refusal),
+            None => Ok(at),
+        }
+    }
+
+    /// Sees to it that a map shows a page at an index, or for a write that it has one to write into.
+    pub fn fault<D: PoolDoor<Share = Subpool<N>, Page = Page<N>>>(
+        &mut self,
+        door: &mut D,
+        home: u64,
+        access: &MapAccess,
+        intent: Intent,
+    ) -> Reply
+        requires shares { (s : ShareValue) → D.share_of s ≡ s }
+        requires pages { (p : PageValue) → D.page_of p ≡ p }
+        requires ready { D.is_ready door.old }
+        ensures done { (k : ℕ) → IsDone D.took D.is_full N.page_bytes k (Some self.old) door.old
+            (Fault access.now.task home access.now.map access.now.index intent) result (Some self.new) door.new }
+        ensures left { D.is_left door.new }
+        ensures memory { is_backed intent (spot_of access.now self.old) access.now.index ≡ true → result ≢ Err Refusal.OutOfMemory }
+    {
+        let at = match self.place(0, access, Asked::Page) {
+            Ok(at) => at,
+            Err(refusal) => return Err(refusal),
+        };
+        match self.reach(door, home as usize, at, access.index, intent) {
+            Ok(()) => Ok(Answer::Done),
+            Err(refusal) => Err(refusal),
+        }
+    }
+
+    /// Answers `count` bytes that a map shows at an index, from byte `offset` of the page on.
+    pub fn load<D: PoolDoor<Share = Subpool<N>, Page = Page<N>>>(
+        &mut self,
+        door: &mut D,
+        page_bytes: u64,
+        home: u64,
+        access: &MapAccess,
+        offset: u64,
+        count: u64,
+    ) -> Reply
+        requires shares { (s : ShareValue) → D.share_of s ≡ s }
+        requires pages { (p : PageValue) → D.page_of p ≡ p }
+        requires ready { D.is_ready door.old }
+        requires page_bytes { page_bytes ≡ N.page_bytes }
+        ensures done { (k : ℕ) → IsDone D.took D.is_full N.page_bytes k (Some self.old) door.old
+            (Load access.now.task home access.now.map access.now.index offset count) result (Some self.new) door.new }
+        ensures left { D.is_left door.new }
+        ensures memory { is_backed Read (spot_of access.now self.old) access.now.index ≡ true → result ≢ Err Refusal.OutOfMemory }
+    {
+        let at = match self.place(page_bytes, access, Asked::Bytes { offset, count }) {
+            Ok(at) => at,
+            Err(refusal) => return Err(refusal),
+        };
+        match self.reach(door, home as usize, at, access.index, Intent::Read) {
+            Ok(()) => Ok(self.shown_bytes(at, access.index, offset as usize, count as usize)),
+            Err(refusal) => Err(refusal),
+        }
+    }
+
+    /// Writes bytes through a map at an index, from byte `offset` of the page on.
+    pub fn store<D: PoolDoor<Share = Subpool<N>, Page = Page<N>>>(
+        &mut self,
+        door: &mut D,
+        page_bytes: u64,
+        home: u64,
+        access: &MapAccess,
+        offset: u64,
+        bytes: &[u8],
+    ) -> Reply
+        requires shares { (s : ShareValue) → D.share_of s ≡ s }
+        requires pages { (p : PageValue) → D.page_of p ≡ p }
+        requires ready { D.is_ready door.old }
+        requires page_bytes { page_bytes ≡ N.page_bytes }
+        ensures done { (k : ℕ) → IsDone D.took D.is_full N.page_bytes k (Some self.old) door.old
+            (Store access.now.task home access.now.map access.now.index offset bytes.now) result (Some self.new) door.new }
+        ensures left { D.is_left door.new }
+        ensures memory { is_backed Write (spot_of access.now self.old) access.now.index ≡ true → result ≢ Err Refusal.OutOfMemory }
+    {
+        let count = bytes.len() as u64;
+        let at = match self.place(page_bytes, access, Asked::Bytes { offset, count }) {
+            Ok(at) => at,
+            Err(refusal) => return Err(refusal),
+        };
+        if let Err(refusal) = self.reach(door, home as usize, at, access.index, Intent::Write) {
+            return Err(refusal);
+        }
+        self.write(at.file, access.index, offset as usize, bytes);
+        Ok(Answer::Done)
+    }
+
+    // Writes bytes into a file's page, if there is one.
+    fn write(&mut self, file: usize, index: u64, offset: usize, bytes: &[u8])
+        requires file { file < length self.old.files }
+        requires below { index < length (file_in self.old file).cells }
+        requires fits { offset + length bytes.now ≤ N.page_bytes }
+        ensures { self.new ≡ with_file self.old file (with_cell (file_in self.old file) index (cell_written offset bytes.now (cell_at (file_in self.old file) index))) }
+    {
+        self.files.write(file, index, offset, bytes);
+    }
+
+    // The answer with `count` bytes of what a map shows.
+    fn shown_bytes(&self, at: MapPlace, index: u64, offset: usize, count: usize) -> Answer
+        requires file { at.file < length self.now.files }
+        requires map { at.map < length (file_in self.now at.file).maps }
+        requires within { offset + count ≤ N.page_bytes }
+        requires few { count ≤ 256 }
+        ensures { result ≡ bytes_answer offset count (value N.page_bytes (file_in self.now at.file) (map_in (file_in self.now at.file) at.map) index) }
+    {
+        match self.files.shown(at, index) {
+            Some(page) => bytes_answer(page, offset, count),
+            None => no_bytes(count),
+        }
+    }
+}
+
+/// The answer with `count` bytes of a page.
+fn bytes_answer(page: &[u8], offset: usize, count: usize) -> Answer
+    requires within { offset + count ≤ length page.now }
+    requires few { count ≤ 256 }
+    ensures { result ≡ bytes_answer offset count page.now }
+{
+    let mut bytes = [0u8; 256];
+    let (front, _) = bytes.split_at_mut(count);
+    let (_, rest) = page.split_at(offset);
+    let (wanted, _) = rest.split_at(count);
+    front.copy_from_slice(wanted);
+    Answer::Bytes {
+        count: count as u64,
+        bytes,
+    }
+}
+
+/// The answer with `count` zeros.
+fn no_bytes(count: usize) -> Answer
+    ensures { (size offset : ℕ) → offset + count ≤ size → count ≤ 256 → result ≡ bytes_answer offset count (zeros size) }
+{
+    Answer::Bytes {
+        count: count as u64,
+        bytes: [0u8; 256],
+    }
+}

@@ -1,0 +1,145 @@
+//! A mount of three pages at most on a pool of four, through the pool as its own door.
+ghost use Rattle.std.specs.Prelude.{◌≡◌};
+ghost use Rattle.hp_mount_door.specs.Door.{IsReady};
+
+use crate::{MapAccess, MapRange, Mount};
+use hp_model::answer::{Answer, Reply};
+use hp_model::naming::Naming;
+use hp_model::refusal::Refusal;
+use hp_model::step::Intent;
+use hp_pool::{Blanks, Pool};
+use hp_subpool::Subpool;
+use std::alloc::Global;
+use std::marker::Brand;
+use std::process::Abort;
+use std::sync::ledger::Blank;
+
+fn blanks() -> Blanks
+    ensures permits { result.permits.parts ≡ 18446744073709551615 }
+    ensures zero { result.pages.zero.parts ≡ 18446744073709551615 }
+    ensures one { result.pages.one.parts ≡ 18446744073709551615 }
+    ensures two { result.pages.two.parts ≡ 18446744073709551615 }
+    ensures three { result.pages.three.parts ≡ 18446744073709551615 }
+{
+    Blanks {
+        permits: Blank::new(u64::MAX),
+        pages: hp_nodes::Blanks {
+            zero: Blank::new(u64::MAX),
+            one: Blank::new(u64::MAX),
+            two: Blank::new(u64::MAX),
+            three: Blank::new(u64::MAX),
+        },
+    }
+}
+
+fn usage(used: u64, files: u64) -> Answer {
+    Answer::Usage {
+        max: Some(3),
+        min: 0,
+        used,
+        inodes: Some(2),
+        files,
+    }
+}
+
+fn range(start: u64, pages: u64) -> MapRange {
+    MapRange {
+        task: 7,
+        start,
+        pages,
+    }
+}
+
+fn access(map: u64, index: u64) -> MapAccess {
+    MapAccess {
+        task: 7,
+        map,
+        index,
+    }
+}
+
+// The answer of two bytes.
+fn two(first: u8, second: u8) -> Reply {
+    let mut bytes = [0u8; 256];
+    bytes[0] = first;
+    bytes[1] = second;
+    Ok(Answer::Bytes { count: 2, bytes })
+}
+
+// Each call once. What is stored through one map is loaded through another of the same file.
+fn each_call<N: Naming, R: Abort>(rt: &R, pool: &mut Pool<N>, mount: &mut Mount<N>)
+    requires ready { IsReady pool.old }
+    requires bytes { N.page_bytes ≡ 1024 }
+    ensures { IsReady pool.new }
+{
+    assert_eq!(rt; mount.create(b"a"), Ok(Answer::Done));
+    assert_eq!(rt; mount.create(b"a"), Err(Refusal::FileExists));
+    assert!(rt; !mount.has_maps());
+    assert_eq!(rt;
+        mount.map(pool, 0, b"b", &range(0, 1)),
+        Err(Refusal::NoSuchFile)
+    );
+    assert_eq!(rt;
+        mount.map(pool, 0, b"a", &range(0, 2)),
+        Ok(Answer::MapNo(1))
+    );
+    assert_eq!(rt;
+        mount.map(pool, 0, b"a", &range(1, 1)),
+        Ok(Answer::MapNo(2))
+    );
+    assert_eq!(rt;
+        mount.map(pool, 0, b"a", &range(2, 2)),
+        Err(Refusal::MountFull)
+    );
+    assert!(rt; mount.has_maps());
+    assert_eq!(rt; mount.usage(), usage(2, 1));
+    assert_eq!(rt; mount.load(pool, 1024, 0, &access(1, 1), 1022, 2), two(0, 0));
+    assert_eq!(rt;
+        mount.store(pool, 1024, 0, &access(1, 1), 1022, b"xy"),
+        Ok(Answer::Done)
+    );
+    assert_eq!(rt; mount.load(pool, 1024, 0, &access(2, 1), 1022, 2), two(120, 121));
+    assert_eq!(rt;
+        mount.load(pool, 1024, 0, &access(2, 0), 1022, 2),
+        Err(Refusal::OutOfRange)
+    );
+    assert_eq!(rt;
+        mount.load(pool, 1024, 0, &access(2, 1), 1022, 3),
+        Err(Refusal::CrossesPage)
+    );
+    assert_eq!(rt;
+        mount.fault(pool, 0, &access(1, 0), Intent::Write),
+        Ok(Answer::Done)
+    );
+    assert_eq!(rt;
+        mount.fault(pool, 0, &access(3, 0), Intent::Read),
+        Err(Refusal::NoSuchMap)
+    );
+    assert_eq!(rt; mount.usage(), usage(2, 1));
+}
+
+fn run<N: Naming, R: Abort>(rt: &R, alloc: Global, blanks: Blanks)
+    requires permits { (blanks.permits.name ≡ N.permits) × (blanks.permits.parts ≡ 18446744073709551615) }
+    requires zero { (blanks.pages.zero.name ≡ N.pages_0) × (blanks.pages.zero.parts ≡ 18446744073709551615) }
+    requires one { (blanks.pages.one.name ≡ N.pages_1) × (blanks.pages.one.parts ≡ 18446744073709551615) }
+    requires two { (blanks.pages.two.name ≡ N.pages_2) × (blanks.pages.two.parts ≡ 18446744073709551615) }
+    requires three { (blanks.pages.three.name ≡ N.pages_3) × (blanks.pages.three.parts ≡ 18446744073709551615) }
+    requires bytes { N.page_bytes ≡ 1024 }
+{
+    let mut pool = Pool::<N>::new(alloc, &[4, 4], 1024, blanks).expect(rt, "memory");
+    pool.set_overcommit(4);
+    let share = Subpool::open(&mut pool, Some(3), 0).expect(rt, "fits");
+    let mut mount = Mount::new(alloc, share, Some(2));
+    each_call(rt, &mut pool, &mut mount);
+    mount.close(&mut pool);
+    let counts = pool.close();
+    assert_eq!(rt;
+        [counts.total, counts.free, counts.rsvd, counts.surp],
+        [0, 0, 0, 0]
+    );
+}
+
+#[test]
+fn a_mount_through_the_pool(rt: HostRuntime) {
+    run::<Brand, HostRuntime>(&rt, rt.alloc(), blanks());
+}

@@ -1,0 +1,49 @@
+use Rattle.std.proofs.Common.{◌≡◌, ◌<◌, Err, None, Some, length, refl, sym, subst, arith}
+use Rattle.hp_model.specs.declared.refusal.Refusal.TheVariants.{NoSuchSlot}
+use Rattle.hp_model.specs.Plan.{Choice, Slot}
+use Rattle.hp_model.specs.SlotEvent.{slot_event}
+use Rattle.hp_model.specs.Step.{IsScript, on_slot}
+use Rattle.hp_mount.specs.Event.{event_of}
+use Rattle.hp_system.specs.Event.{IsCarried}
+use Rattle.hp_system.proofs.Carries.{happens, kept_after, never_full, ready, unmounted}
+use Rattle.hp_system.proofs.MachineSteps.{read_slot, slot_done, slot_same, state_back}
+use Rattle.hp_system.proofs.system.System.on_slot.Goals as goal
+
+pub returns-in_default-clause-done : goal.returns-in_default-clause-done
+returns-in_default-clause-done g c =
+    let s = c.self.inside in
+    let was = c.args.self.now in
+    let e = event_of c.args.home c.args.event in
+    let x = c.index_mut.result.now in
+    let within : c.args.slot < length s.slots.items = omega (arith, c.if-at-len.false, c.len.ensures) in
+    let here = read_slot s.slots.items c.args.slot x None within c.index_mut.ensures.value c.in_default.is in
+    subst (λ t. IsScript was (on_slot (length was.slots) c.args.slot e) (Err NoSuchSlot) t) (state_back s.page_bytes s.table s.slots.items s.pool c.args.slot x was c.index_mut.ensures.value c.self.view_is)
+    (slot_same s.page_bytes g.N.Naming.page_bytes s.table s.slots.items s.pool c.self.invariant was c.self.view_is c.args.slot within None here e (happens c.args.home c.args.event None) (Err NoSuchSlot)
+    (unmounted s.page_bytes c.args.slot c.args.home c.args.event s.pool))
+
+pub apply-requires-clause-ready : goal.apply-requires-clause-ready
+apply-requires-clause-ready g c = (let s = c.self.inside in ready s.page_bytes g.N.Naming.page_bytes s.table s.slots.items s.pool c.self.invariant)
+
+pub invariant_of-self-2 : goal.invariant_of-self-2
+invariant_of-self-2 g c =
+    let s = c.self.inside in
+    let old : Slot = Some c.in-Some.mount in
+    let new : Slot = Some c.apply.new.self in
+    let e = event_of c.args.home c.args.event in
+    let within : c.args.slot < length s.slots.items = omega (arith, c.if-at-len.false, c.len.ensures) in
+    let here = read_slot s.slots.items c.args.slot c.index_mut.result.now old within c.index_mut.ensures.value c.in-Some.is in
+    let done = never_full (λ (x : Choice). slot_event g.N.Naming.page_bytes c.args.slot x old e) old new s.pool c.apply.new.door c.apply.result (c.apply.ensures.done c.args.slot) in
+    kept_after s.page_bytes g.N.Naming.page_bytes s.table s.slots.items c.args.slot old new s.pool c.apply.new.door e c.apply.result c.self.invariant within here (happens c.args.home c.args.event old)
+    (subst (λ n. IsCarried n c.args.slot s.pool old e c.apply.result new c.apply.new.door) (sym c.self.invariant.size) done)
+
+pub returns-clause-done : goal.returns-clause-done
+returns-clause-done g c =
+    let s = c.self.inside in
+    let old : Slot = Some c.in-Some.mount in
+    let new : Slot = Some c.apply.new.self in
+    let e = event_of c.args.home c.args.event in
+    let within : c.args.slot < length s.slots.items = omega (arith, c.if-at-len.false, c.len.ensures) in
+    let here = read_slot s.slots.items c.args.slot c.index_mut.result.now old within c.index_mut.ensures.value c.in-Some.is in
+    let done = never_full (λ (x : Choice). slot_event g.N.Naming.page_bytes c.args.slot x old e) old new s.pool c.apply.new.door c.apply.result (c.apply.ensures.done c.args.slot) in
+    slot_done s.page_bytes g.N.Naming.page_bytes s.table s.slots.items s.pool c.self.invariant c.args.self.now c.self.view_is c.args.slot within old here e (happens c.args.home c.args.event old) new c.apply.new.door c.apply.result
+    (subst (λ n. IsCarried n c.args.slot s.pool old e c.apply.result new c.apply.new.door) (sym c.self.invariant.size) done)

@@ -1,0 +1,20 @@
+-- An event on a slot, carried out on the slot and the pool.
+use Rattle.std.specs.Prelude.{◌≡◌, ℕ}
+use Rattle.hp_model.specs.declared.event.SlotEvent.{SlotEvent}
+use Rattle.hp_model.specs.declared.section.PoolAnswer.{PoolAnswer}
+use Rattle.hp_model.specs.declared.section.Section.{Section}
+use Rattle.hp_model.specs.Event.{IsFresh}
+use Rattle.hp_model.specs.LocalRun.{ThroughDoor}
+use Rattle.hp_model.specs.Plan.{Choice, Reply, Slot}
+use Rattle.hp_model.specs.Pool.{section}
+use Rattle.hp_model.specs.PoolCounts.{Pool}
+use Rattle.hp_model.specs.SlotEvent.{slot_event}
+
+-- the pool by itself: a section gives its answer, and leaves the pool
+abbrev pub took : Pool → Section → PoolAnswer → Pool → Type 0
+took p s a q = section p s ≡ (a, q)
+
+-- the event's plan, with some fresh stamp, was answered so, and left that slot and pool
+abbrev pub IsCarried : (size k : ℕ) (p : Pool) (old : Slot) → SlotEvent → Reply → (new : Slot) (q : Pool) → Type 0
+IsCarried size k p old e reply new q =
+    (c : Choice) × IsFresh c old × ThroughDoor took (slot_event size k c old e) old p reply new q
