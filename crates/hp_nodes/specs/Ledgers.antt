@@ -19,3 +19,14 @@ IsLedger name b = (b.name ≡ name) × IsWhole b
 abbrev pub AreLedgers : {N : Type 0} → Ghosts N → Blanks → Type 0
 AreLedgers names b = IsLedger names.pages_0 b.zero × IsLedger names.pages_1 b.one
     × IsLedger names.pages_2 b.two × IsLedger names.pages_3 b.three
+
+-- the names of a machine over these ledgers, with pages of so many bytes and no ledger of permits
+abbrev pub names_of : {N : Type 0} → Blanks → ℕ → Ghosts N
+names_of b page_bytes = record {
+  permits = 0;
+  pages_0 = b.zero.name;
+  pages_1 = b.one.name;
+  pages_2 = b.two.name;
+  pages_3 = b.three.name;
+  page_bytes = page_bytes;
+}
