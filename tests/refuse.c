@@ -1,6 +1,8 @@
-// Preloaded into a program, this counts its calls for memory and refuses one of them.
+// Preloaded into a program, this counts its calls for memory and refuses one of them, and fails one read or write.
 //
 //   REFUSE_AT=N         the Nth call of malloc, calloc or realloc gets no memory (none: each gets it)
+//   REFUSE_READ_AT=N    the Nth read of the standard input fails
+//   REFUSE_WRITE_AT=N   the Nth write to the standard output fails
 //   REFUSE_REPORT=FILE  at the end the file has one line: the calls made, the blocks still held, the most bytes held at one time
 //
 //   cc -O2 -shared -fPIC -o refuse.so refuse.c && LD_PRELOAD=./refuse.so REFUSE_AT=3 program
@@ -10,19 +12,24 @@
 #include <stdio.h>
 #include <stdlib.h>
 #include <sys/syscall.h>
+#include <sys/types.h>
 #include <unistd.h>
 
 extern void *__libc_malloc(size_t size);
 extern void *__libc_realloc(void *block, size_t size);
 extern void __libc_free(void *block);
 
-static _Atomic size_t calls, refused, blocks, held, most;
+static _Atomic size_t calls, refused, reads, writes, blocks, held, most;
 static _Atomic char is_ready;
+
+static size_t number_of(const char *name) {
+    const char *number = getenv(name);
+    return number ? strtoul(number, 0, 10) : 0;
+}
 
 static int is_refused(void) {
     if (!is_ready) {
-        const char *number = getenv("REFUSE_AT");
-        refused = number ? strtoul(number, 0, 10) : 0;
+        refused = number_of("REFUSE_AT");
         is_ready = 1;
     }
     if (++calls != refused)
@@ -73,6 +80,22 @@ void *realloc(void *block, size_t size) {
 void free(void *block) {
     given(block);
     __libc_free(block);
+}
+
+ssize_t read(int file, void *buffer, size_t size) {
+    if (file == 0 && ++reads == number_of("REFUSE_READ_AT")) {
+        errno = EIO;
+        return -1;
+    }
+    return syscall(SYS_read, file, buffer, size);
+}
+
+ssize_t write(int file, const void *buffer, size_t size) {
+    if (file == 1 && ++writes == number_of("REFUSE_WRITE_AT")) {
+        errno = EIO;
+        return -1;
+    }
+    return syscall(SYS_write, file, buffer, size);
 }
 
 // (a program with threads ends by `_exit`, which runs no destructors)

@@ -18,8 +18,6 @@ mod chunk;
 mod marks;
 mod ready;
 mod table;
-#[cfg(test)]
-mod tests;
 
 /// The indices of a file, each a hole, entered (a page is reserved for it), or entered with its page.
 ///

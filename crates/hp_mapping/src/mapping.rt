@@ -11,9 +11,6 @@ use hp_model::page_no::PageNo;
 use std::alloc::{AllocError, Global};
 use std::marker::Model;
 
-#[cfg(test)]
-mod tests;
-
 /// A task's map of a range of a file. Indices are the file's, in pages.
 #[derive(Drop)]
 pub struct Mapping {

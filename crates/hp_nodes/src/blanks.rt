@@ -1,4 +1,5 @@
 //! The ledgers that a machine's pages count in.
+ghost use Rattle.hp_nodes.specs.Ledgers.{AreWhole};
 
 use std::sync::ledger::Blank;
 
@@ -9,4 +10,18 @@ pub struct Blanks {
     pub one: Blank,
     pub two: Blank,
     pub three: Blank,
+}
+
+impl Blanks {
+    /// Each is cut into as many parts as there can be units.
+    pub fn new() -> Self
+        ensures { AreWhole result }
+    {
+        Blanks {
+            zero: Blank::new(u64::MAX),
+            one: Blank::new(u64::MAX),
+            two: Blank::new(u64::MAX),
+            three: Blank::new(u64::MAX),
+        }
+    }
 }

@@ -12,6 +12,3 @@ mod search;
 pub use blanks::Blanks;
 pub use lists::NodeLists;
 pub use page::Page;
-
-#[cfg(test)]
-mod tests;

@@ -1,6 +1,7 @@
 //! The nodes together, and the moves of pages and frames among them.
 ghost use Rattle.std.specs.Prelude.{◌≡◌, ◌+◌, ◌-◌, ◌<◌, ◌≤◌, if◌then◌else◌, length, map, All, IsTrue, IfOk};
 ghost use Rattle.hp_model.specs.Resize.{node_count};
+ghost use Rattle.hp_nodes.specs.Ledgers.{AreLedgers};
 ghost use Rattle.hp_model.specs.NodeRows.{has, lowest, near, next_from, some_has, row_at, taken, put_at, surplus_added, grown, shrunk, promoted, demoted, given_back, idle_row, sum_row, free_of, total_of, take_row, put_row, grow_row, shrink_row, add_surplus_row, give_back_row, promote_row, demote_row};
 
 use crate::blanks::Blanks;
@@ -56,10 +57,7 @@ impl<N: Naming> NodeLists<N> {
         requires few { length frames.now ≤ 4 }
         requires small { All (λ f. f ≤ 65536) frames.now }
         requires page_bytes { page_bytes ≡ N.page_bytes }
-        requires zero { (blanks.zero.name ≡ N.pages_0) × (blanks.zero.parts ≡ 18446744073709551615) }
-        requires one { (blanks.one.name ≡ N.pages_1) × (blanks.one.parts ≡ 18446744073709551615) }
-        requires two { (blanks.two.name ≡ N.pages_2) × (blanks.two.parts ≡ 18446744073709551615) }
-        requires three { (blanks.three.name ≡ N.pages_3) × (blanks.three.parts ≡ 18446744073709551615) }
+        requires ledgers { AreLedgers N.Naming blanks }
         ensures { IfOk result (λ s. s ≡ record { rows = map idle_row frames.now; growth = 0; release = 0 }) }
     {
         let mut nodes = Vec::with_capacity(alloc, frames.len())?;

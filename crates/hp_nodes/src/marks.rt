@@ -1,5 +1,6 @@
 //! What a page counts as, in the ledger of each node.
 ghost use Rattle.std.specs.Prelude.{◌≡◌, ℕ, ◌+◌, ◌-◌, ◌<◌, ◌^◌, ◌==◌, List, [], ◌∷◌, if◌then◌else◌, All, slice_set, slice_index};
+ghost use Rattle.hp_nodes.specs.Ledgers.{AreLedgers};
 
 use crate::blanks::Blanks;
 use hp_model::naming::{Naming, Pages0, Pages1, Pages2, Pages3};
@@ -65,10 +66,7 @@ impl<N: Naming> Mark<N> {
 
 impl<N: Naming> Marks<N> {
     pub fn new(blanks: Blanks) -> Self
-        requires zero { (blanks.zero.name ≡ N.pages_0) × (blanks.zero.parts ≡ 18446744073709551615) }
-        requires one { (blanks.one.name ≡ N.pages_1) × (blanks.one.parts ≡ 18446744073709551615) }
-        requires two { (blanks.two.name ≡ N.pages_2) × (blanks.two.parts ≡ 18446744073709551615) }
-        requires three { (blanks.three.name ≡ N.pages_3) × (blanks.three.parts ≡ 18446744073709551615) }
+        requires { AreLedgers N.Naming blanks }
         ensures { result ≡ 0 ∷ 0 ∷ 0 ∷ 0 ∷ [] }
     {
         let Blanks {

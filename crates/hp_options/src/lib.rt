@@ -7,6 +7,4 @@ pub mod numbers;
 pub mod options;
 pub mod output;
 pub mod pieces;
-#[cfg(test)]
-mod tests;
 mod wanted;

@@ -6,6 +6,3 @@ mod permit;
 
 pub use book::Book;
 pub use permit::Permit;
-
-#[cfg(test)]
-mod tests;

@@ -1,4 +1,5 @@
 //! The ledgers of a machine.
+ghost use Rattle.hp_pool.specs.Ledgers.{AreWhole};
 
 use std::sync::ledger::Blank;
 
@@ -8,4 +9,16 @@ use std::sync::ledger::Blank;
 pub struct Blanks {
     pub permits: Blank,
     pub pages: hp_nodes::Blanks,
+}
+
+impl Blanks {
+    /// Each is cut into as many parts as there can be units.
+    pub fn new() -> Self
+        ensures { AreWhole result }
+    {
+        Blanks {
+            permits: Blank::new(u64::MAX),
+            pages: hp_nodes::Blanks::new(),
+        }
+    }
 }

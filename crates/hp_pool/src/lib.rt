@@ -7,6 +7,3 @@ mod pool;
 
 pub use blanks::Blanks;
 pub use pool::Pool;
-
-#[cfg(test)]
-mod tests;

@@ -5,6 +5,7 @@ ghost use Rattle.hp_model.specs.Grant.{can_grant, granted};
 ghost use Rattle.hp_model.specs.Pool.{take_node, page_taken, page_put, page_kept, released, settled};
 ghost use Rattle.hp_model.specs.PoolCounts.{IsSettled, counts_of, rsvd};
 ghost use Rattle.hp_model.specs.Resize.{set_nr, node_count};
+ghost use Rattle.hp_pool.specs.Ledgers.{AreLedgers};
 
 use crate::blanks::Blanks;
 use crate::moves;
@@ -66,11 +67,7 @@ impl<N: Naming> Pool<N> {
         requires few { length frames.now ≤ 4 }
         requires small { All (λ f. f ≤ 65536) frames.now }
         requires page_bytes { page_bytes ≡ N.page_bytes }
-        requires permits { (blanks.permits.name ≡ N.permits) × (blanks.permits.parts ≡ 18446744073709551615) }
-        requires zero { (blanks.pages.zero.name ≡ N.pages_0) × (blanks.pages.zero.parts ≡ 18446744073709551615) }
-        requires one { (blanks.pages.one.name ≡ N.pages_1) × (blanks.pages.one.parts ≡ 18446744073709551615) }
-        requires two { (blanks.pages.two.name ≡ N.pages_2) × (blanks.pages.two.parts ≡ 18446744073709551615) }
-        requires three { (blanks.pages.three.name ≡ N.pages_3) × (blanks.pages.three.parts ≡ 18446744073709551615) }
+        requires ledgers { AreLedgers N.Naming blanks }
         ensures { IfOk result (λ p. p ≡ record { nr = 0; overcommit = 0; committed = 0; nodes = record { rows = map idle_row frames.now; growth = 0; release = 0 } }) }
     {
         let Blanks { permits, pages } = blanks;

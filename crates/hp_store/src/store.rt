@@ -9,9 +9,6 @@ use hp_nodes::Page;
 use std::alloc::{AllocError, Global};
 use std::marker::Model;
 
-#[cfg(test)]
-mod tests;
-
 /// Pages in use, each under a number. It has to be closed, and is empty by then.
 pub struct PageStore<N: Naming> {
     slots: Slots<N>,

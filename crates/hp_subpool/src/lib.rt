@@ -4,6 +4,3 @@
 mod subpool;
 
 pub use subpool::Subpool;
-
-#[cfg(test)]
-mod tests;

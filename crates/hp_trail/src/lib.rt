@@ -7,8 +7,6 @@ pub mod kept;
 mod same;
 mod tellers;
 mod telling;
-#[cfg(test)]
-mod tests;
 pub mod trail;
 pub mod unkept;
 mod walk;

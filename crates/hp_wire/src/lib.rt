@@ -10,7 +10,5 @@ mod parts;
 pub mod reading;
 pub mod running;
 pub mod script;
-#[cfg(test)]
-mod tests;
 pub mod words;
 pub mod writing;

@@ -4,8 +4,6 @@
 mod config;
 mod program;
 mod settings;
-#[cfg(test)]
-mod tests;
 
 use settings::Wrong;
 use std::alloc::Global;

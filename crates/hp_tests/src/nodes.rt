@@ -1,0 +1,95 @@
+//! Two nodes of two frames and one.
+ghost use Rattle.std.specs.Prelude.{◌≡◌};
+ghost use Rattle.hp_nodes.specs.Ledgers.{AreLedgers};
+
+use hp_model::answer::NodeCount;
+use hp_model::naming::Naming;
+use hp_nodes::{Blanks, NodeLists, Page};
+use std::alloc::{AllocError, Global};
+use std::marker::Brand;
+use std::process::Abort;
+
+// What is written stays, also for the next holder, until it is zeroed.
+fn writes<N: Naming, R: Abort>(rt: &R, page: &mut Page<N>)
+    requires { N.page_bytes ≡ 8 }
+{
+    page.zero();
+    page.write(2, &[5, 6]);
+    page.bytes_mut()[7] = 9;
+    assert_eq!(rt; page.bytes(), [0, 0, 5, 6, 0, 0, 0, 9].as_slice());
+    page.zero();
+    assert_eq!(rt; page.bytes(), [0; 8].as_slice());
+    page.write(0, &[1]);
+}
+
+#[tactic(auto, using(hp_model::proofs::Sums::some_free))]
+fn goes_home<N: Naming, R: Abort>(rt: &R, lists: &mut NodeLists<N>)
+    requires { N.page_bytes ≡ 8 }
+{
+    let sums = lists.sums();
+    assert!(rt; sums.free > 0);
+    let mut page = lists.take(1);
+    assert_eq!(rt; page.node(), 1);
+    writes(rt, &mut page);
+    lists.put(page);
+    let sums = lists.sums();
+    assert!(rt; sums.free > 0);
+    let page = lists.take(1);
+    assert_eq!(rt; page.bytes(), [1, 0, 0, 0, 0, 0, 0, 0].as_slice());
+    lists.put(page);
+}
+
+#[tactic(auto, using(hp_model::proofs::Sums::some_idle))]
+fn grows<N: Naming, R: Abort>(rt: &R, lists: &mut NodeLists<N>) {
+    for _page in 0..3 {
+        let sums = lists.sums();
+        assert!(rt; sums.total < sums.frames);
+        lists.grow();
+    }
+    assert_eq!(rt; lists.len(), 2);
+    let counts = [lists.count(0), lists.count(1)];
+    assert_eq!(rt;
+        counts[0],
+        NodeCount {
+            total: 2,
+            free: 2,
+            surp: 0
+        }
+    );
+    assert_eq!(rt;
+        counts[1],
+        NodeCount {
+            total: 1,
+            free: 1,
+            surp: 0
+        }
+    );
+}
+
+fn opens<N: Naming, R: Abort>(
+    rt: &R,
+    alloc: Global,
+    blanks: Blanks,
+    page_bytes: usize,
+) -> Result<(), AllocError>
+    requires page_bytes { page_bytes ≡ N.page_bytes }
+    requires ledgers { AreLedgers N.Naming blanks }
+{
+    let mut lists = NodeLists::<N>::new(alloc, &[2, 1], page_bytes, blanks)?;
+    grows(rt, &mut lists);
+    if page_bytes == 8 {
+        goes_home(rt, &mut lists);
+    }
+    lists.close();
+    Ok(())
+}
+
+#[test]
+fn pages_go_home(rt: HostRuntime) -> Result<(), AllocError> {
+    opens::<Brand, HostRuntime>(&rt, rt.alloc(), Blanks::new(), 8)
+}
+
+#[test]
+fn too_much_memory_is_refused(rt: HostRuntime) {
+    assert!(rt; opens::<Brand, HostRuntime>(&rt, rt.alloc(), Blanks::new(), 1 << 62).is_err());
+}

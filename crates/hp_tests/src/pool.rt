@@ -1,0 +1,38 @@
+//! A machine of two nodes of four frames each.
+ghost use Rattle.std.specs.Prelude.{◌≡◌};
+ghost use Rattle.hp_model.specs.PoolCounts.{IsSettled};
+
+use hp_model::naming::Naming;
+use hp_model::refusal::Refusal;
+use hp_pool::Pool;
+use std::process::Abort;
+
+mod sequences;
+mod threads;
+
+// Total, Free, Rsvd and Surp, and of each node total, free and surplus.
+fn shows<N: Naming, R: Abort>(rt: &R, pool: &Pool<N>, counts: [u64; 4], nodes: [[u64; 3]; 2])
+    requires { IsSettled pool.now }
+{
+    let now = pool.counts();
+    assert_eq!(rt; [now.total, now.free, now.rsvd, now.surp], counts);
+    assert_eq!(rt; pool.len(), 2);
+    let zero = pool.node(0);
+    assert_eq!(rt; [zero.total, zero.free, zero.surp], nodes[0]);
+    let one = pool.node(1);
+    assert_eq!(rt; [one.total, one.free, one.surp], nodes[1]);
+}
+
+fn is_refused<N: Naming>(pool: &mut Pool<N>, home: usize, k: u64) -> bool
+    requires { IsSettled pool.old }
+    ensures { IsSettled pool.new }
+{
+    match pool.reserve(home, k) {
+        Ok(permit) => {
+            pool.release(permit);
+            pool.settle();
+            false
+        }
+        Err(refusal) => refusal == Refusal::NoPages,
+    }
+}

@@ -1,0 +1,155 @@
+//! Two threads that hand permits and pages on to each other.
+ghost use Rattle.std.specs.Prelude.{◌≡◌, IfSome};
+ghost use Rattle.hp_pool.specs.Ledgers.{AreLedgers};
+
+use hp_model::naming::Naming;
+use hp_nodes::Page;
+use hp_permit::Permit;
+use hp_pool::{Blanks, Pool};
+use std::alloc::Global;
+use std::marker::{Brand, Model};
+use std::process::Abort;
+use std::sync::{Mutex, Wait};
+use std::thread::Threads;
+use std::{mem, thread};
+
+// A pool that is settled whenever its lock is free.
+struct Core<N: Naming> {
+    pool: Pool<N>,
+}
+
+impl<N: Naming> Model for Core<N> {
+    ghost use Rattle.hp_model.specs.PoolCounts.{Pool, IsSettled};
+
+    ghost Value = { Pool };
+
+    ghost view = { λ c. c.pool };
+
+    ghost invariant = { λ c. IsSettled c.pool };
+}
+
+impl<N: Naming> Core<N> {
+    // One permit more, if the numbers allow it.
+    fn reserve(&mut self, home: usize) -> Option<Permit<N>> {
+        match self.pool.reserve(home, 1) {
+            Ok(permit) => Some(permit),
+            Err(_) => None,
+        }
+    }
+
+    fn take(&mut self, home: usize, permit: Permit<N>) -> Page<N>
+        requires { permit ≡ 1 }
+    {
+        self.pool.take(home, permit)
+    }
+
+    fn put_keep(&mut self, page: Page<N>) -> Permit<N> {
+        self.pool.put_keep(page)
+    }
+
+    fn release(&mut self, permit: Permit<N>) {
+        self.pool.release(permit);
+        self.pool.settle();
+    }
+}
+
+// What two threads work on: permits of each, and a shelf that a page can lie on.
+struct Shared<N: Naming> {
+    core: Mutex<Core<N>>,
+    left: Mutex<Permit<N>>,
+    right: Mutex<Permit<N>>,
+    shelf: Mutex<Option<Page<N>>>,
+}
+
+fn split_one<N: Naming, R: Wait>(rt: &R, from: &Mutex<Permit<N>>) -> Option<Permit<N>>
+    ensures { IfSome result (λ permit. permit ≡ 1) }
+{
+    let mut permit = from.lock(rt);
+    if permit.amount() == 0 {
+        return None;
+    }
+    Some(permit.split(1))
+}
+
+// Takes a page for a permit, leaves it on the shelf, and puts the page back that lay there. Its
+// permit goes to the other thread.
+fn turn<N: Naming, R: Wait>(
+    rt: &R,
+    shared: &Shared<N>,
+    home: usize,
+    mine: &Mutex<Permit<N>>,
+    other: &Mutex<Permit<N>>,
+) {
+    let more = shared.core.lock(rt).reserve(home);
+    if let Some(permit) = split_one(rt, mine) {
+        let mut page = shared.core.lock(rt).take(home, permit);
+        page.zero();
+        let last = mem::replace(&mut *shared.shelf.lock(rt), Some(page));
+        if let Some(page) = last {
+            let permit = shared.core.lock(rt).put_keep(page);
+            other.lock(rt).join(permit);
+        }
+    }
+    if let Some(permit) = more {
+        shared.core.lock(rt).release(permit);
+    }
+}
+
+fn left<N: Naming, R: Wait>(rt: &R, shared: &Shared<N>) {
+    for _turn in 0..1000 {
+        turn(rt, shared, 0, &shared.left, &shared.right);
+    }
+}
+
+fn right<N: Naming, R: Wait>(rt: &R, shared: &Shared<N>) {
+    for _turn in 0..1000 {
+        turn(rt, shared, 1, &shared.right, &shared.left);
+    }
+}
+
+fn run<N: Naming + Send + Sync, R: Threads + Wait + Abort + Sync>(
+    rt: &R,
+    alloc: Global,
+    blanks: Blanks,
+)
+    requires ledgers { AreLedgers N.Naming blanks }
+    requires bytes { N.page_bytes ≡ 1024 }
+{
+    let mut pool = Pool::<N>::new(alloc, &[4, 4], 1024, blanks).expect(rt, "memory");
+    pool.set_nr(4);
+    pool.set_overcommit(2);
+    let mut all = pool.reserve(0, 4).expect(rt, "fits");
+    let shared = Shared {
+        core: Mutex::new(Core { pool }),
+        left: Mutex::new(all.split(2)),
+        right: Mutex::new(all),
+        shelf: Mutex::new(None),
+    };
+    let lent = &shared;
+    thread::join(rt, move || left(rt, lent), move || right(rt, lent));
+    let Shared {
+        core,
+        left,
+        right,
+        shelf,
+    } = shared;
+    let Core { mut pool } = core.into_inner();
+    let mut permit = left.into_inner();
+    permit.join(right.into_inner());
+    match shelf.into_inner() {
+        Some(page) => permit.join(pool.put_keep(page)),
+        None => {}
+    }
+    let now = pool.counts();
+    assert_eq!(rt; [now.total, now.free, now.rsvd, now.surp], [4, 4, 4, 0]);
+    assert_eq!(rt; permit.amount(), 4);
+    pool.release(permit);
+    pool.settle();
+    let now = pool.close();
+    assert_eq!(rt; [now.total, now.free, now.rsvd, now.surp], [4, 4, 0, 0]);
+}
+
+#[test]
+fn threads_hand_on_permits_and_pages(rt: HostRuntime) {
+    run::<Brand, HostRuntime>(&rt, rt.alloc(), Blanks::new());
+}

@@ -1,0 +1,164 @@
+//! Runs on a small service.
+
+use crate::ends::{Client, Counter, Nowhere, Reader, Writer};
+use crate::sample::Sample;
+use hp_wire::fault::RunFault;
+use hp_wire::running::run_lines;
+use std::alloc::Global;
+use std::cell::Cell;
+use std::test::Fail;
+
+const SCRIPT: &[u8] =
+    b"nr 4\nconnect 1 0\ncreate 0 a\nmap 1 0 a 0 3 shared\nstore 1 0 1 0 0 ff\nload 1 0 1 0 0 2\nmeminfo\nnodes\ndf 2\nstat 0 a\numount 9\n";
+
+const REPLIES: &[u8] =
+    b"ok 4\nok\nok\nok 1\nok\nok ff00\ntext 6\nHugePages_Total:       4\nHugePages_Free:        4\nHugePages_Rsvd:        0\nHugePages_Surp:        0\nHugepagesize:          1 kB\nHugetlb:               4 kB\ntext 2\n0 2 2 0\n1 2 2 0\nok 3 2 3 - 1\nok 3 1 1 2\nerror 8 NoSuchSlot\n";
+
+// The replies to an input, and how many lines it has.
+fn replies_to(alloc: Global, input: &[u8]) -> Result<(Vec<u8>, u64), RunFault> {
+    let mut rest = input;
+    let mut text = Vec::new(alloc);
+    let mut sample = Sample { calls: 0 };
+    let count = run_lines(alloc, &mut rest, &mut text, &mut sample)?;
+    Ok((text, count))
+}
+
+#[test]
+fn answers_each_line(rt: HostRuntime) -> Result<(), Fail> {
+    let (text, count) = replies_to(rt.alloc(), SCRIPT)?;
+    assert_eq!(rt; text.as_slice(), REPLIES);
+    assert_eq!(rt; count, 11);
+    Ok(())
+}
+
+#[test]
+fn refuses_broken_lines(rt: HostRuntime) -> Result<(), Fail> {
+    let bad = b"error 21 BadLine\n".as_slice();
+    for line in [
+        b"\n".as_slice(),
+        b"nr 4",
+        b"nr\n",
+        b"nr 4 \n",
+        b" nr 4\n",
+        b"nr  4\n",
+        b"nr 4\r\n",
+        b"nr 18446744073709551616\n",
+        b"nr 000000000000000000004\n",
+        b"NR 4\n",
+        b"store 1 0 1 0 0 f\n",
+        b"store 1 0 1 0 0 fg\n",
+        b"store 1 0 1 0 0 \n",
+        b"map 1 0 a 0 3 shared reserve\n",
+        b"map 1 0 a 0 3 shared noreserve \n",
+        b"map 1 0 a 0 3\n",
+        b"create 0 \x7f\n",
+        b"\x00\xff\n",
+    ] {
+        let (text, count) = replies_to(rt.alloc(), line)?;
+        assert_eq!(rt; text.as_slice(), bad, "at {line:?}");
+        assert_eq!(rt; count, 1);
+    }
+    let (text, count) = replies_to(rt.alloc(), b"")?;
+    assert!(rt; text.is_empty() && count == 0);
+    let good = b"nr 00000000000000000004\nstore 1 0 1 0 0 fF\nmap 1 0 a 0 3 private noreserve\n";
+    let (text, _) = replies_to(rt.alloc(), good.as_slice())?;
+    assert_eq!(rt; text.as_slice(), b"ok 4\nok\nok 1\n".as_slice());
+    Ok(())
+}
+
+#[test]
+fn refuses_long_lines(rt: HostRuntime) -> Result<(), Fail> {
+    let alloc = rt.alloc();
+    for (len, ends, want) in [
+        (1024usize, true, b"error 21 BadLine\nok 7\n".as_slice()),
+        (1025, true, b"error 22 LineTooLong\nok 7\n"),
+        (70_000, true, b"error 22 LineTooLong\nok 7\n"),
+        (200_000, true, b"error 22 LineTooLong\nok 7\n"),
+        (1024, false, b"error 21 BadLine\n"),
+        (1025, false, b"error 22 LineTooLong\n"),
+        (200_000, false, b"error 22 LineTooLong\n"),
+    ] {
+        let mut input = vec![in alloc; b'x'; len]?;
+        if ends {
+            input.extend_from_slice(b"\nnr 7\n")?;
+        }
+        let (text, _) = replies_to(alloc, input.as_slice())?;
+        assert_eq!(rt; text.as_slice(), want, "at {len}");
+    }
+    Ok(())
+}
+
+#[test]
+fn answers_what_ended_before_a_read_fails(rt: HostRuntime) -> Result<(), Fail> {
+    let alloc = rt.alloc();
+    for reads in 0..14u64 {
+        let mut reader = Reader {
+            rest: SCRIPT,
+            at_most: 7,
+            reads,
+        };
+        let mut text = Vec::new(alloc);
+        let mut sample = Sample { calls: 0 };
+        let result = run_lines(alloc, &mut reader, &mut text, &mut sample);
+        assert_eq!(rt; result, Err(RunFault::Read), "at {reads}");
+        let read = SCRIPT.len() - reader.rest.len().min(SCRIPT.len());
+        let ended = SCRIPT[..read].iter().filter(|b| **b == b'\n').count();
+        assert_eq!(rt; sample.calls, ended as u64, "at {reads}");
+        assert!(rt; REPLIES.starts_with(text.as_slice()), "at {reads}");
+        assert!(rt; ended == 0 || text.ends_with(b"\n"), "at {reads}");
+    }
+    Ok(())
+}
+
+#[test]
+fn writes_a_front_before_a_write_fails(rt: HostRuntime) -> Result<(), Fail> {
+    let alloc = rt.alloc();
+    for writes in 0..40u64 {
+        let mut rest = SCRIPT;
+        let mut writer = Writer {
+            text: Vec::new(alloc),
+            at_most: 5,
+            writes,
+        };
+        let mut sample = Sample { calls: 0 };
+        let result = run_lines(alloc, &mut rest, &mut writer, &mut sample);
+        assert_eq!(rt; result, Err(RunFault::Write), "at {writes}");
+        assert_eq!(rt; writer.text.len() as u64, 5 * writes);
+        assert!(rt; REPLIES.starts_with(writer.text.as_slice()), "at {writes}");
+    }
+    Ok(())
+}
+
+#[test]
+fn runs_over_a_sure_writer(rt: HostRuntime) -> Result<(), Fail> {
+    let mut rest = SCRIPT;
+    let mut sample = Sample { calls: 0 };
+    let count = run_lines(rt.alloc(), &mut rest, &mut Nowhere, &mut sample)?;
+    assert_eq!(rt; count, 11);
+    Ok(())
+}
+
+// A client that waits for its replies before it sends more would hang else.
+#[test]
+fn all_replies_are_written_before_the_next_read(rt: HostRuntime) -> Result<(), Fail> {
+    let written = Cell::new(0);
+    let mut client = Client {
+        pieces: &[
+            (b"nr 4\nconn", 5),
+            (b"ect 1 0\n", 8),
+            (b"nr 1\nnr 2\nnr 3\n\n", 40),
+            (b"nr", 40),
+        ],
+        sent: 0,
+        wanted: 0,
+        written: &written,
+        hangs: false,
+    };
+    let mut replies = Counter { written: &written };
+    let mut sample = Sample { calls: 0 };
+    let count = run_lines(rt.alloc(), &mut client, &mut replies, &mut sample)?;
+    assert_eq!(rt; count, 7);
+    assert!(rt; !client.hangs);
+    assert_eq!(rt; written.get(), 57);
+    Ok(())
+}
