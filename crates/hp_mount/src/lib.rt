@@ -8,6 +8,3 @@ pub use hp_mount_door::PoolDoor;
 pub use hp_mount_files::MapRange;
 pub use event::MountEvent;
 pub use mount::{MapAccess, Mount};
-
-#[cfg(test)]
-mod tests;

@@ -6,6 +6,3 @@ mod system;
 mod table;
 
 pub use system::System;
-
-#[cfg(test)]
-mod tests;

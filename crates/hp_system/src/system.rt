@@ -2,6 +2,7 @@
 ghost use Rattle.std.specs.Prelude.{◌≡◌, ◌<◌, ◌≤◌, [], length, vec_capacity, All, IfOk};
 ghost use Rattle.hp_model.specs.Machine.{slots_from, start};
 ghost use Rattle.hp_model.specs.PoolCounts.{IsSettled};
+ghost use Rattle.hp_pool.specs.Ledgers.{AreLedgers};
 ghost use Rattle.hp_system.specs.Kept.{all_free};
 
 mod slots;
@@ -56,11 +57,7 @@ impl<N: Naming> System<N> {
         requires slots { 0 < slots }
         requires bytes { 0 < page_bytes }
         requires page_bytes { page_bytes ≡ N.page_bytes }
-        requires permits { (blanks.permits.name ≡ N.permits) × (blanks.permits.parts ≡ 18446744073709551615) }
-        requires zero { (blanks.pages.zero.name ≡ N.pages_0) × (blanks.pages.zero.parts ≡ 18446744073709551615) }
-        requires one { (blanks.pages.one.name ≡ N.pages_1) × (blanks.pages.one.parts ≡ 18446744073709551615) }
-        requires two { (blanks.pages.two.name ≡ N.pages_2) × (blanks.pages.two.parts ≡ 18446744073709551615) }
-        requires three { (blanks.pages.three.name ≡ N.pages_3) × (blanks.pages.three.parts ≡ 18446744073709551615) }
+        requires ledgers { AreLedgers N.Naming blanks }
         ensures { IfOk result (λ s. s ≡ start frames.now page_bytes slots) }
     {
         let table = TaskTable::new(alloc)?;

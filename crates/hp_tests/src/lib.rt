@@ -1,10 +1,12 @@
-//! Tests of the crates below a mount: each public call, on values from outside, and what no contract says.
+//! Tests of the machine and the crates below it: each public call, on values from outside, and what no contract says.
 #![tactic(auto)]
 
 #[cfg(test)]
 mod inode;
 #[cfg(test)]
 mod mapping;
+#[cfg(test)]
+mod mount;
 #[cfg(test)]
 mod nodes;
 #[cfg(test)]
@@ -19,5 +21,7 @@ mod region;
 mod store;
 #[cfg(test)]
 mod subpool;
+#[cfg(test)]
+mod system;
 #[cfg(test)]
 mod trail;

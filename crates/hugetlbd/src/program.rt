@@ -4,6 +4,7 @@ ghost use Rattle.std.specs.Io.KnownBytes.{Appends};
 ghost use Rattle.clap.specs.Takes.{takes};
 ghost use Rattle.hp_wire.specs.Sent.{AppendsFront};
 ghost use Rattle.hp_wire.specs.declared.fault.RunFault.{RunFault as TheFault};
+ghost use Rattle.hp_pool.specs.Ledgers.{AreLedgers};
 ghost use Rattle.hugetlbd.specs.Asked.{Asks, IsRefusedFor, hugetlbd};
 ghost use Rattle.hugetlbd.specs.Config.{Choice, IsWithinLimits, chosen, choice_of, usual};
 ghost use Rattle.hugetlbd.specs.Program.{AnswersScript, Refuses, Run, Says, SaysEnd, named, status_of};
@@ -21,7 +22,6 @@ use std::alloc::Global;
 use std::convert::AsStr;
 use std::io::Write;
 use std::marker::Brand;
-use std::sync::ledger::Blank;
 
 /// Does what the words ask for, of which the first is the program's name, and gives the status that
 /// the process ends with.
@@ -64,7 +64,7 @@ pub fn program<'a, S: AsStr, R: Source, W: Sink, E: Sink>(
     match config(alloc, words) {
         Ok(config) => {
             let machine = config.machine();
-            let ended = run_machine::<Brand, R, W>(alloc, &machine, blanks(), input, output);
+            let ended = run_machine::<Brand, R, W>(alloc, &machine, Blanks::new(), input, output);
             report(ended, faults)
         }
         Err(wrong) => refuse(&wrong, output, faults),
@@ -81,11 +81,7 @@ fn run_machine<N: Naming, R: Source, W: Sink>(
 ) -> Result<u64, RunFault>
     requires limits { IsWithinLimits (choice_of config.now) }
     requires bytes { N.page_bytes ≡ config.now.page }
-    requires permits { (blanks.permits.name ≡ N.permits) × (blanks.permits.parts ≡ 18446744073709551615) }
-    requires zero { (blanks.pages.zero.name ≡ N.pages_0) × (blanks.pages.zero.parts ≡ 18446744073709551615) }
-    requires one { (blanks.pages.one.name ≡ N.pages_1) × (blanks.pages.one.parts ≡ 18446744073709551615) }
-    requires two { (blanks.pages.two.name ≡ N.pages_2) × (blanks.pages.two.parts ≡ 18446744073709551615) }
-    requires three { (blanks.pages.three.name ≡ N.pages_3) × (blanks.pages.three.parts ≡ 18446744073709551615) }
+    requires ledgers { AreLedgers N.Naming blanks }
     ensures run { Run (chosen (choice_of config.now)) (R.remaining input.old) (R.remaining input.new) (R.is_sure input.old × W.is_sure output.old) (W.contents output.old) (W.contents output.new) result }
     ensures script { IfSome (R.remaining input.old) (λ script. OnOk result (AnswersScript (chosen (choice_of config.now)) script (W.contents output.old) (W.contents output.new))) }
 {
@@ -102,25 +98,6 @@ fn run_machine<N: Naming, R: Source, W: Sink>(
     let ended = run_script(alloc, input, output, &mut machine);
     machine.close();
     ended
-}
-
-// The ledgers of one machine, before their first use.
-fn blanks() -> Blanks
-    ensures permits { result.permits.parts ≡ 18446744073709551615 }
-    ensures zero { result.pages.zero.parts ≡ 18446744073709551615 }
-    ensures one { result.pages.one.parts ≡ 18446744073709551615 }
-    ensures two { result.pages.two.parts ≡ 18446744073709551615 }
-    ensures three { result.pages.three.parts ≡ 18446744073709551615 }
-{
-    Blanks {
-        permits: Blank::new(u64::MAX),
-        pages: hp_nodes::Blanks {
-            zero: Blank::new(u64::MAX),
-            one: Blank::new(u64::MAX),
-            two: Blank::new(u64::MAX),
-            three: Blank::new(u64::MAX),
-        },
-    }
 }
 
 /// The status for the way that a run ended. A fault is named on `faults`; where that fails too, the
