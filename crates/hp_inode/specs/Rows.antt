@@ -3,7 +3,7 @@
 --     page_in rows i, has_slot rows i      the page of an index, and whether there is a slot for it
 --     IsFirstSlot row n k, IsFirstPage rows a i      the first with a page, of those from a place on
 --     IsChunk row marks, IsTable rows marks      the marks say where there are pages
-use Rattle.std.specs.Prelude.{ℕ, ◌≡◌, ◌*◌, ◌/◌, ◌%◌, ◌<◌, ◌≤◌, ◌^◌, Bool, true, false, List, [], length, nat_lt, Option, None, IsSome}
+use Rattle.std.specs.Prelude.{ℕ, ◌≡◌, ◌*◌, ◌/◌, ◌%◌, ◌<◌, ◌≤◌, ◌^◌, Bool, true, false, List, [], length, nat_lt, Option, None, IsSome, MatchOption}
 use Rattle.std.specs.Option.{is_some}
 use Rattle.std.specs.List.{slice_index_or}
 use Rattle.hp_inode.specs.Marks.{marked}
@@ -42,3 +42,10 @@ pub record IsTable (rows : Rows) (marks : List ℕ) : Type 0 where
   pub places : length rows ≤ 64 * length marks
   pub some : (j : ℕ) → marked marks j ≡ true → ((k : ℕ) → slot_in rows j k ≡ None) → ⊥
   pub none : (j k : ℕ) → marked marks j ≡ false → slot_in rows j k ≡ None
+
+-- the first with a page, of those from a place on, or none where there is none
+abbrev pub FindsSlot : List (Option ℕ) → ℕ → Option ℕ → Type 0
+FindsSlot row n found = MatchOption found ((k : ℕ) → n ≤ k → slice_index_or row k None ≡ None) (IsFirstSlot row n)
+
+abbrev pub FindsPage : Rows → ℕ → Option ℕ → Type 0
+FindsPage rows a found = MatchOption found ((k : ℕ) → a ≤ k → page_in rows k ≡ None) (IsFirstPage rows a)

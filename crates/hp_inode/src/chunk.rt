@@ -2,7 +2,7 @@
 ghost use Rattle.std.specs.Prelude.{ℕ, ◌≡◌, ◌==◌, ◌<◌, ◌≤◌, [], length, replicate, IfOk, MatchOption, true, false, None};
 ghost use Rattle.std.specs.Option.{is_some};
 ghost use Rattle.std.specs.List.{slice_index_or, slice_set};
-ghost use Rattle.hp_inode.specs.Rows.{IsFirstSlot};
+ghost use Rattle.hp_inode.specs.Rows.{FindsSlot};
 
 use crate::marks::{first_from, set_mark};
 use hp_model::page_no::PageNo;
@@ -83,7 +83,7 @@ impl Chunk {
 
     /// The first slot with a page, of those from `n` on.
     pub fn first_from(&self, n: usize) -> Option<usize>
-        ensures { MatchOption result ((k : ℕ) → n ≤ k → slice_index_or self.now k None ≡ None) (IsFirstSlot self.now n) }
+        ensures { FindsSlot self.now n result }
     {
         first_from(&self.marks, n)
     }

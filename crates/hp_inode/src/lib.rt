@@ -151,8 +151,12 @@ impl Inode {
 
     /// Takes the lowest page of the indices from `a` up to `b` out, with its entry. Entries without a page stay.
     pub fn take_page(&mut self, a: u64, b: u64) -> Option<PageNo>
-        ensures page { MatchOption (found has_page (part a b self.old)) (result ≡ None) (λ p. result ≡ page_of p.1) }
-        ensures cells { MatchOption (found has_page (part a b self.old)) (self.new ≡ self.old) (λ p. self.new ≡ slice_set self.old (a + p.0) Hole) }
+        ensures page { MatchOption (found has_page (part a b self.old))
+            (result ≡ None)
+            (λ p. result ≡ page_of p.1) }
+        ensures cells { MatchOption (found has_page (part a b self.old))
+            (self.new ≡ self.old)
+            (λ p. self.new ≡ slice_set self.old (a + p.0) Hole) }
         ensures none { result ≡ None → All (λ cell. has_page cell ≡ false) (part a b self.new) }
     {
         let i = self.table.first_from(a)?;

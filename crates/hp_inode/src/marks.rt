@@ -1,6 +1,6 @@
 //! Marks on numbers, a bit for each: the first mark from a number on is found a word at a time.
 ghost use Rattle.std.specs.Prelude.{ℕ, ◌≡◌, ◌*◌, ◌<◌, ◌≤◌, ◌^◌, length, false, OnOk, MatchOption, vec_len};
-ghost use Rattle.hp_inode.specs.Marks.{marked, IsFirstFrom};
+ghost use Rattle.hp_inode.specs.Marks.{marked, FindsFrom};
 
 use std::alloc::AllocError;
 
@@ -24,7 +24,7 @@ pub fn set_mark(words: &mut [u64], k: usize, on: bool)
 /// The first number with a mark, of those from `n` on.
 pub fn first_from(words: &[u64], n: usize) -> Option<usize>
     requires { length words.now < 2 ^ 32 }
-    ensures { MatchOption result ((k : ℕ) → n ≤ k → marked words.now k ≡ false) (IsFirstFrom words.now n) }
+    ensures { FindsFrom words.now n result }
 {
     let start = n / WORD;
     if start >= words.len() {

@@ -1,7 +1,7 @@
 //! Pages by index, in chunks of 512 slots: an index's slot is found in one step, and so is a chunk with pages.
 ghost use Rattle.std.specs.Prelude.{ℕ, ◌≡◌, ◌/◌, ◌<◌, ◌≤◌, ◌^◌, ◌++◌, ◌∷◌, [], length, OnOk, OnErr, MatchOption, true, None};
 ghost use Rattle.std.specs.List.{slice_index_or};
-ghost use Rattle.hp_inode.specs.Rows.{page_in, slot_in, has_slot, IsFirstSlot, IsFirstPage};
+ghost use Rattle.hp_inode.specs.Rows.{page_in, slot_in, has_slot, FindsSlot, FindsPage};
 
 use crate::chunk::{CHUNK, Chunk};
 use crate::marks::{first_from, make_place, set_mark};
@@ -63,7 +63,7 @@ impl PageTable {
 
     /// The first index with a page, of those from `a` on.
     pub fn first_from(&self, a: u64) -> Option<u64>
-        ensures { MatchOption result ((k : ℕ) → a ≤ k → page_in self.now k ≡ None) (IsFirstPage self.now a) }
+        ensures { FindsPage self.now a result }
     {
         let at = (a / CHUNK) as usize;
         if let Some(k) = self.slot_from(at, (a % CHUNK) as usize) {
@@ -76,7 +76,7 @@ impl PageTable {
 
     // The first slot of a chunk with a page, of those from `n` on.
     fn slot_from(&self, at: usize, n: usize) -> Option<usize>
-        ensures { MatchOption result ((k : ℕ) → n ≤ k → slot_in self.now at k ≡ None) (IsFirstSlot (slice_index_or self.now at []) n) }
+        ensures { FindsSlot (slice_index_or self.now at []) n result }
     {
         if at < self.chunks.len() {
             self.chunks[at].first_from(n)

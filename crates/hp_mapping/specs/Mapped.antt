@@ -1,5 +1,5 @@
 -- What contracts see of a mapping.
-use Rattle.std.specs.Prelude.{◌≡◌, ℕ, ◌-◌, ◌<◌, ◌≤◌, ◌&&◌, Bool, true, is_some, if◌then◌else◌}
+use Rattle.std.specs.Prelude.{◌≡◌, ℕ, ◌-◌, ◌<◌, ◌≤◌, ◌&&◌, Bool, true, is_some, if◌then◌else◌, List, slice_index_or, slice_set}
 use Rattle.std.specs.Prelude.{None, Some}
 use Rattle.std.specs.List.{count_by}
 use Rattle.hp_model.specs.declared.place.Place.{Place}
@@ -44,3 +44,13 @@ pub record TakesLowest (a b page : ℕ) (old new : Mapping ℕ) : Type 0 where
   pub page_is : copy_of (place_at old at) ≡ Some page
   pub clear : IsClear a at old
   pub after : new ≡ at_place without_copy at old
+
+-- the same of a list of places: one is changed; those from a up to b have no copy; they are gone
+abbrev pub at_index : (Place ℕ → Place ℕ) → ℕ → List (Place ℕ) → List (Place ℕ)
+at_index f at places = slice_set places at (f (slice_index_or places at Gone))
+
+abbrev pub HasNoCopy : ℕ → ℕ → List (Place ℕ) → Type 0
+HasNoCopy a b places = (k : ℕ) → a ≤ k → k < b → copy_of (slice_index_or places k Gone) ≡ None
+
+abbrev pub IsGone : ℕ → ℕ → List (Place ℕ) → Type 0
+IsGone a b places = (k : ℕ) → a ≤ k → k < b → slice_index_or places k Gone ≡ Gone

@@ -4,7 +4,7 @@ ghost use Rattle.std.specs.List.{count_by, list_any};
 ghost use Rattle.hp_model.specs.declared.place.Place.TheVariants.{Gone, Live};
 ghost use Rattle.hp_model.specs.Lists.{edit_range, part};
 ghost use Rattle.hp_model.specs.Mapping.{is_live, copy_of, is_unconsumed, without_copy, unconsumed};
-ghost use Rattle.hp_mapping.specs.Mapped.{consumed, with_copy};
+ghost use Rattle.hp_mapping.specs.Mapped.{at_index, consumed, with_copy, HasNoCopy, IsGone};
 
 use crate::marks::Marks;
 use crate::place;
@@ -107,14 +107,14 @@ impl Places {
 
     pub(crate) fn consume(&mut self, at: usize)
         requires { at < length self.old }
-        ensures { self.new ≡ slice_set self.old at (consumed (slice_index_or self.old at Gone)) }
+        ensures { self.new ≡ at_index consumed at self.old }
     {
         place::consume(&mut self.places[at]);
     }
 
     pub(crate) fn set_copy(&mut self, at: usize, page: PageNo)
         requires { IsTrue (is_live (slice_index_or self.old at Gone)) }
-        ensures { self.new ≡ slice_set self.old at (with_copy page (slice_index_or self.old at Gone)) }
+        ensures { self.new ≡ at_index (with_copy page) at self.old }
     {
         place::set_copy(&mut self.places[at], page);
         self.copies.mark(at);
@@ -122,7 +122,7 @@ impl Places {
 
     pub(crate) fn drop_copy(&mut self, at: usize)
         requires { IsSome (copy_of (slice_index_or self.old at Gone)) }
-        ensures { self.new ≡ slice_set self.old at (without_copy (slice_index_or self.old at Gone)) }
+        ensures { self.new ≡ at_index without_copy at self.old }
     {
         place::drop_copy(&mut self.places[at]);
         self.copies.unmark(at);
@@ -133,8 +133,8 @@ impl Places {
         ensures from { IfSome result (λ at. from ≤ at) }
         ensures below { IfSome result (λ at. at < to) }
         ensures copy { IfSome result (λ at. IsSome (copy_of (slice_index_or self.now at Gone))) }
-        ensures clear { IfSome result (λ at. (k : ℕ) → from ≤ k → k < at → copy_of (slice_index_or self.now k Gone) ≡ None) }
-        ensures none { IfNone result ((k : ℕ) → from ≤ k → k < to → copy_of (slice_index_or self.now k Gone) ≡ None) }
+        ensures clear { IfSome result (λ at. HasNoCopy from at self.now) }
+        ensures none { IfNone result (HasNoCopy from to self.now) }
     {
         let at = self.copies.next(from)?;
         if at < to { Some(at) } else { None }
@@ -145,8 +145,8 @@ impl Places {
         ensures from { IfSome result (λ at. from ≤ at) }
         ensures below { IfSome result (λ at. at < to) }
         ensures live { IfSome result (λ at. IsTrue (is_live (slice_index_or self.now at Gone))) }
-        ensures gone { IfSome result (λ at. (k : ℕ) → from ≤ k → k < at → slice_index_or self.now k Gone ≡ Gone) }
-        ensures none { IfNone result ((k : ℕ) → from ≤ k → k < to → slice_index_or self.now k Gone ≡ Gone) }
+        ensures gone { IfSome result (λ at. IsGone from at self.now) }
+        ensures none { IfNone result (IsGone from to self.now) }
     {
         let at = self.live.next(from)?;
         if at < to { Some(at) } else { None }
@@ -171,7 +171,7 @@ impl Places {
     pub(crate) fn leave_range(&mut self, from: usize, to: usize) -> u64
         requires order { from ≤ to }
         requires within { to ≤ length self.old }
-        requires clear { (k : ℕ) → from ≤ k → k < to → copy_of (slice_index_or self.old k Gone) ≡ None }
+        requires clear { HasNoCopy from to self.old }
         ensures freed { result ≡ count_by is_unconsumed (part from to self.old) }
         ensures left { self.new ≡ edit_range (λ p. Gone) from to self.old }
     {

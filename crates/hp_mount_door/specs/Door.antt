@@ -6,10 +6,11 @@ use Rattle.hp_model.specs.declared.refusal.Refusal.TheVariants.{NoPages, TraceFu
 use Rattle.hp_model.specs.Page.{Page}
 use Rattle.hp_model.specs.declared.section.PoolAnswer.{PoolAnswer}
 use Rattle.hp_model.specs.declared.section.Section.{Section}
-use Rattle.hp_model.specs.declared.section.Section.TheVariants.{GiveBack}
-use Rattle.hp_model.specs.Pool.{granted_at}
+use Rattle.hp_model.specs.declared.section.Section.TheVariants.{GiveBack, Grant, GrantPage}
+use Rattle.hp_model.specs.Pool.{granted_at, no_pages}
 use Rattle.hp_model.specs.PoolCounts.{Pool, IsSettled}
-use Rattle.hp_subpool.specs.Subpool.{Subpool}
+use Rattle.hp_subpool.specs.Subpool.{Subpool, rise}
+pub use Rattle.hp_subpool.specs.Subpool.{with_page, with_reserves}
 
 -- a door refuses as NoPages, by a section that is refused, or as TraceFull, and then there was none
 abbrev pub IsDoorRefusal : Refusal → (denied full : Type 0) → Type 0
@@ -17,17 +18,20 @@ IsDoorRefusal NoPages denied full = denied
 IsDoorRefusal TraceFull denied full = full
 IsDoorRefusal other denied full = ⊥
 
--- a page more, for a reservation that was held
-abbrev pub with_page : Subpool → Subpool
-with_page s = record s { held = s.held - 1; pages = s.pages + 1 }
+-- what a share asks for: k reservations more, or a page
+abbrev pub grant_for : ℕ → ℕ → Subpool → Section
+grant_for home k s = Grant home (rise s k)
+
+abbrev pub page_for : ℕ → Subpool → Section
+page_for home s = GrantPage home (rise s 1)
+
+-- refused by this section, or with nothing changed as TraceFull
+abbrev pub IsRefusedAt : {X : Type 0} (took : X → Section → PoolAnswer → X → Type 0) (is_full : X → Type 0) → Section → X → X → Refusal → Type 0
+IsRefusedAt took is_full section door left e = IsDoorRefusal e (took door section no_pages left) ((left ≡ door) × is_full left)
 
 -- a page more, by a grant
 abbrev pub with_granted : Subpool → Subpool
 with_granted s = record s { pages = s.pages + 1 }
-
--- k reservations more
-abbrev pub with_reserves : ℕ → Subpool → Subpool
-with_reserves k s = record s { held = s.held + k }
 
 -- so many pages and reservations less
 abbrev pub with_less : (pages reserves : ℕ) → Subpool → Subpool

@@ -3,10 +3,10 @@ ghost use Rattle.std.specs.Prelude.{◌≡◌, ℕ, ◌+◌, ◌<◌, ◌≤◌,
 ghost use Rattle.hp_model.specs.Page.{Page as PageValue};
 ghost use Rattle.hp_model.specs.declared.section.PoolAnswer.{PoolAnswer};
 ghost use Rattle.hp_model.specs.declared.section.Section.{Section};
-ghost use Rattle.hp_model.specs.declared.section.Section.TheVariants.{Grant, GrantPage, TakePage};
-ghost use Rattle.hp_model.specs.Pool.{granted_at, no_pages};
+ghost use Rattle.hp_model.specs.declared.section.Section.TheVariants.{TakePage};
+ghost use Rattle.hp_model.specs.Pool.{granted_at};
 ghost use Rattle.hp_subpool.specs.Subpool.{Subpool as ShareValue, committed_of, fall, is_full as ShareIsFull, rise, used};
-ghost use Rattle.hp_mount_door.specs.Door.{IsDoorRefusal, GivesBack, with_page, with_granted, with_reserves, with_less};
+ghost use Rattle.hp_mount_door.specs.Door.{IsDoorRefusal, IsRefusedAt, GivesBack, grant_for, page_for, with_page, with_granted, with_reserves, with_less};
 
 use hp_model::refusal::Refusal;
 
@@ -59,9 +59,11 @@ pub trait PoolDoor {
         requires few { used (share_of share.old) + k < 2 ^ 64 }
         ensures none { rise (share_of share.old) k ≡ 0 → IsOk result }
         ensures same { rise (share_of share.old) k ≡ 0 → self.new ≡ self.old }
-        ensures ok { IsOk result → 0 < rise (share_of share.old) k → took self.old (Grant home (rise (share_of share.old) k)) (granted_at 0) self.new }
+        ensures ok { IsOk result → 0 < rise (share_of share.old) k
+            → took self.old (grant_for home k (share_of share.old)) (granted_at 0) self.new }
         ensures share { OnOk result (share_of share.new ≡ with_reserves k (share_of share.old)) }
-        ensures err { IfErr result (λ e. IsDoorRefusal e (took self.old (Grant home (rise (share_of share.old) k)) no_pages self.new) ((self.new ≡ self.old) × is_full self.new)) }
+        ensures err { IfErr result (λ e.
+            IsRefusedAt took is_full (grant_for home k (share_of share.old)) self.old self.new e) }
         ensures unchanged { OnErr result (share.new ≡ share.old) }
         ensures left { is_left self.new };
 
@@ -70,9 +72,11 @@ pub trait PoolDoor {
         requires ready { is_ready self.old }
         requires within { ShareIsFull (share_of share.old) 1 ≡ false }
         requires few { used (share_of share.old) + 1 < 2 ^ 64 }
-        ensures ok { IfOk result (λ page. took self.old (GrantPage home (rise (share_of share.old) 1)) (granted_at (page_of page).node) self.new) }
+        ensures ok { IfOk result (λ page.
+            took self.old (page_for home (share_of share.old)) (granted_at (page_of page).node) self.new) }
         ensures share { OnOk result (share_of share.new ≡ with_granted (share_of share.old)) }
-        ensures err { IfErr result (λ e. IsDoorRefusal e (took self.old (GrantPage home (rise (share_of share.old) 1)) no_pages self.new) ((self.new ≡ self.old) × is_full self.new)) }
+        ensures err { IfErr result (λ e.
+            IsRefusedAt took is_full (page_for home (share_of share.old)) self.old self.new e) }
         ensures unchanged { OnErr result (share.new ≡ share.old) }
         ensures left { is_left self.new };
 
@@ -80,9 +84,11 @@ pub trait PoolDoor {
     fn take_page(&mut self, share: &mut Self::Share, home: usize) -> Result<Self::Page, Refusal>
         requires ready { is_ready self.old }
         requires held { 0 < (share_of share.old).held }
-        ensures ok { IfOk result (λ page. took self.old (TakePage home) (granted_at (page_of page).node) self.new) }
+        ensures ok { IfOk result (λ page.
+            took self.old (TakePage home) (granted_at (page_of page).node) self.new) }
         ensures share { OnOk result (share_of share.new ≡ with_page (share_of share.old)) }
-        ensures err { IfErr result (λ e. IsDoorRefusal e ⊥ ((self.new ≡ self.old) × is_full self.new)) }
+        ensures err { IfErr result (λ e.
+            IsDoorRefusal e ⊥ ((self.new ≡ self.old) × is_full self.new)) }
         ensures unchanged { OnErr result (share.new ≡ share.old) }
         ensures left { is_left self.new };
 
@@ -92,8 +98,10 @@ pub trait PoolDoor {
         requires ready { is_ready self.old }
         requires pages { length (going_of going.old) ≤ (share_of share.old).pages }
         requires held { reserves ≤ (share_of share.old).held }
-        ensures given { GivesBack took (going_of going.old) (fall (share_of share.old) (length (going_of going.old) + reserves)) self.old self.new }
-        ensures share { share_of share.new ≡ with_less (length (going_of going.old)) reserves (share_of share.old) }
+        ensures given { GivesBack took (going_of going.old)
+            (fall (share_of share.old) (length (going_of going.old) + reserves)) self.old self.new }
+        ensures share { share_of share.new
+            ≡ with_less (length (going_of going.old)) reserves (share_of share.old) }
         ensures going { going.new ≡ emptied going.old }
         ensures left { is_left self.new };
 

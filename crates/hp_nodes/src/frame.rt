@@ -1,7 +1,7 @@
 //! The frames that pages are made of.
 ghost use Rattle.std.specs.Prelude.{◌≡◌, IfOk, ◌+◌, ◌≤◌, ◌++◌, length, take, drop};
 ghost use Rattle.hp_model.specs.Page.{zeros};
-ghost use Rattle.hp_nodes.specs.Frame.{rewritten};
+ghost use Rattle.hp_nodes.specs.Frame.{overwritten, rewritten};
 ghost use Rattle.std.specs.Borrow.{Lends, sem, Array, u8 as byte};
 
 use hp_model::naming::Naming;
@@ -49,14 +49,15 @@ impl<N: Naming> Frame<N> {
     pub fn bytes_mut(&mut self) -> &mut [u8]
         ensures bytes { result.now ≡ self.old }
         ensures length { length result.now ≡ N.page_bytes }
-        ensures* writes_back { sem 𝓛 (Lends (the_row N.row N.Naming) (Array byte 0) self.entry result (rewritten self.old)) }
+        ensures* writes_back { sem 𝓛
+            (Lends (the_row N.row N.Naming) (Array byte 0) self.entry result (rewritten self.old)) }
     {
         &mut self.bytes
     }
 
     pub fn write(&mut self, offset: usize, bytes: &[u8])
         requires { offset + length bytes.now ≤ N.page_bytes }
-        ensures { self.new ≡ take offset self.old ++ bytes.now ++ drop (offset + length bytes.now) self.old }
+        ensures { self.new ≡ overwritten offset bytes.now self.old }
     {
         let rest = self.bytes.len() - offset;
         prove!(bytes.len() <= rest);

@@ -1,6 +1,7 @@
 //! The nodes together, and the moves of pages and frames among them.
 ghost use Rattle.std.specs.Prelude.{◌≡◌, ◌+◌, ◌-◌, ◌<◌, ◌≤◌, if◌then◌else◌, length, map, All, IsTrue, IfOk};
 ghost use Rattle.hp_model.specs.Resize.{node_count};
+ghost use Rattle.hp_nodes.specs.Kept.{idle_nodes};
 ghost use Rattle.hp_nodes.specs.Ledgers.{AreLedgers};
 ghost use Rattle.hp_model.specs.NodeRows.{has, lowest, near, next_from, some_has, row_at, taken, put_at, surplus_added, grown, shrunk, promoted, demoted, given_back, idle_row, sum_row, free_of, total_of, take_row, put_row, grow_row, shrink_row, add_surplus_row, give_back_row, promote_row, demote_row};
 
@@ -58,7 +59,7 @@ impl<N: Naming> NodeLists<N> {
         requires small { All (λ f. f ≤ 65536) frames.now }
         requires page_bytes { page_bytes ≡ N.page_bytes }
         requires ledgers { AreLedgers N.Naming blanks }
-        ensures { IfOk result (λ s. s ≡ record { rows = map idle_row frames.now; growth = 0; release = 0 }) }
+        ensures { IfOk result (λ s. s ≡ idle_nodes frames.now) }
     {
         let mut nodes = Vec::with_capacity(alloc, frames.len())?;
         for count in frames {

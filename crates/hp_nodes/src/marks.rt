@@ -18,11 +18,14 @@ pub struct Mark<N: Naming> {
 }
 
 impl<N: Naming> Model for Mark<N> {
+    ghost use Rattle.std.specs.Prelude.{ℕ};
+    ghost use Rattle.hp_nodes.specs.Kept.{IsMark};
+
     ghost Value = { ℕ };
 
     ghost view = { λ m. m.node };
 
-    ghost invariant = { λ m. (m.node < 4) × (m.zero ≡ (if m.node == 0 then 1 else 0)) × (m.one ≡ (if m.node == 1 then 1 else 0)) × (m.two ≡ (if m.node == 2 then 1 else 0)) × (m.three ≡ (if m.node == 3 then 1 else 0)) };
+    ghost invariant = { λ m. IsMark m.node m.zero m.one m.two m.three };
 }
 
 /// Issues the marks. Contracts see how many are out, node by node.

@@ -16,15 +16,15 @@ pub struct Node<N: Naming> {
 }
 
 impl<N: Naming> Model for Node<N> {
-    ghost use Rattle.std.specs.Prelude.{◌≡◌, ◌+◌, ◌≤◌, vec_len, vec_capacity};
-    ghost use Rattle.hp_model.specs.NodeRows.{IsRow};
+    ghost use Rattle.std.specs.Prelude.{vec_len, vec_capacity};
     ghost use Rattle.hp_model.specs.declared.node.NodeRow.{NodeRow};
+    ghost use Rattle.hp_nodes.specs.Kept.{IsNode};
 
     ghost Value = { NodeRow };
 
     ghost view = { λ n. n.row };
 
-    ghost invariant = { λ n. IsRow n.row × (vec_len n.present + n.row.total ≡ n.row.frames + n.row.free) × (n.row.frames ≤ vec_capacity n.present) };
+    ghost invariant = { λ n. IsNode n.row (vec_len n.present) (vec_capacity n.present) };
 }
 
 impl<N: Naming> Node<N> {

@@ -67,7 +67,9 @@ impl<N: Naming> Page<N> {
     pub fn bytes_mut(&mut self) -> &mut [u8]
         ensures bytes { result.now ≡ self.old.bytes }
         ensures length { length result.now ≡ N.page_bytes }
-        ensures* writes_back { sem 𝓛 (Lends (the_row N.row N.Naming) (Array byte 0) self.entry result (λ w. record self.old { bytes = rewritten self.old.bytes w })) }
+        ensures* writes_back { sem 𝓛
+            (Lends (the_row N.row N.Naming) (Array byte 0) self.entry result
+            (λ w. record self.old { bytes = rewritten self.old.bytes w })) }
     {
         self.frame.bytes_mut()
     }

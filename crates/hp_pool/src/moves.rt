@@ -1,9 +1,10 @@
 //! Moves among the nodes that are repeated, one for each page that moves.
 ghost use Rattle.std.specs.Prelude.{◌≡◌, ◌+◌, ◌-◌, ◌<◌, ◌≤◌, nat_lt, if◌then◌else◌};
-ghost use Rattle.hp_model.specs.NodeRows.{sum_row, promote_row, grow_row, shrink_row, demote_row};
+ghost use Rattle.hp_model.specs.NodeRows.{promote_row, grow_row, shrink_row, demote_row};
 ghost use Rattle.hp_model.specs.Grant.{surplus_times};
 ghost use Rattle.hp_model.specs.Pool.{give_back_times};
 ghost use Rattle.hp_model.specs.Resize.{raise_times, lower_times, raised, lowered};
+ghost use Rattle.hp_pool.specs.Sums.{sums, with_surplus, without_surplus, MorePersistent, SameUsed};
 
 use hp_model::naming::Naming;
 use hp_nodes::NodeLists;
@@ -11,9 +12,9 @@ use hp_nodes::NodeLists;
 /// Takes so many frames in as surplus pages, near the home node.
 #[tactic(auto, using(hp_model::proofs::Sums::some_idle))]
 pub fn add_surplus<N: Naming>(lists: &mut NodeLists<N>, home: usize, count: u64)
-    requires { (sum_row lists.old.rows).total + count ≤ (sum_row lists.old.rows).frames }
+    requires { (sums lists.old).total + count ≤ (sums lists.old).frames }
     ensures moved { lists.new ≡ surplus_times home count lists.old }
-    ensures sums { let s = sum_row lists.old.rows in sum_row lists.new.rows ≡ record s { total = s.total + count; free = s.free + count; surp = s.surp + count } }
+    ensures sums { sums lists.new ≡ with_surplus count (sums lists.old) }
 {
     for _done in 0..count {
         lists.add_surplus(home);
@@ -23,10 +24,10 @@ pub fn add_surplus<N: Naming>(lists: &mut NodeLists<N>, home: usize, count: u64)
 /// Gives so many surplus pages back.
 #[tactic(auto, using(hp_model::proofs::Sums::some_free, hp_model::proofs::Sums::some_surplus))]
 pub fn give_back<N: Naming>(lists: &mut NodeLists<N>, count: u64)
-    requires free { count ≤ (sum_row lists.old.rows).free }
-    requires surplus { count ≤ (sum_row lists.old.rows).surp }
+    requires free { count ≤ (sums lists.old).free }
+    requires surplus { count ≤ (sums lists.old).surp }
     ensures moved { lists.new ≡ give_back_times count lists.old }
-    ensures sums { let s = sum_row lists.old.rows in sum_row lists.new.rows ≡ record s { total = s.total - count; free = s.free - count; surp = s.surp - count } }
+    ensures sums { sums lists.new ≡ without_surplus count (sums lists.old) }
 {
     for _done in 0..count {
         lists.give_back();
@@ -35,10 +36,10 @@ pub fn give_back<N: Naming>(lists: &mut NodeLists<N>, count: u64)
 
 #[tactic(auto, using(hp_model::proofs::Sums::some_idle, hp_model::proofs::Sums::some_surplus))]
 fn raise_once<N: Naming>(lists: &mut NodeLists<N>, surplus: bool)
-    requires surplus { surplus ≡ nat_lt 0 (sum_row lists.old.rows).surp }
-    requires idle { (sum_row lists.old.rows).surp ≡ 0 → (sum_row lists.old.rows).total < (sum_row lists.old.rows).frames }
+    requires surplus { surplus ≡ nat_lt 0 (sums lists.old).surp }
+    requires idle { (sums lists.old).surp ≡ 0 → (sums lists.old).total < (sums lists.old).frames }
     ensures moved { lists.new ≡ raised lists.old }
-    ensures sums { let s = sum_row lists.old.rows in sum_row lists.new.rows ≡ (if surplus then promote_row s else grow_row s) }
+    ensures sums { let s = sums lists.old in sums lists.new ≡ (if surplus then promote_row s else grow_row s) }
 {
     if surplus {
         lists.promote();
@@ -49,12 +50,12 @@ fn raise_once<N: Naming>(lists: &mut NodeLists<N>, surplus: bool)
 
 /// Makes so many more pages persistent: surplus pages first, then frames.
 pub fn raise<N: Naming>(lists: &mut NodeLists<N>, count: u64)
-    requires { (sum_row lists.old.rows).total - (sum_row lists.old.rows).surp + count ≤ (sum_row lists.old.rows).frames }
+    requires { (sums lists.old).total - (sums lists.old).surp + count ≤ (sums lists.old).frames }
     ensures moved { lists.new ≡ raise_times count lists.old }
-    ensures frames { (sum_row lists.new.rows).frames ≡ (sum_row lists.old.rows).frames }
-    ensures surp { (sum_row lists.new.rows).surp ≡ (sum_row lists.old.rows).surp - count }
-    ensures total { (sum_row lists.new.rows).total + (sum_row lists.old.rows).surp ≡ (sum_row lists.old.rows).total + count + (sum_row lists.new.rows).surp }
-    ensures free { (sum_row lists.new.rows).free + (sum_row lists.old.rows).total ≡ (sum_row lists.old.rows).free + (sum_row lists.new.rows).total }
+    ensures frames { (sums lists.new).frames ≡ (sums lists.old).frames }
+    ensures surp { (sums lists.new).surp ≡ (sums lists.old).surp - count }
+    ensures total { MorePersistent count (sums lists.old) (sums lists.new) }
+    ensures free { SameUsed (sums lists.old) (sums lists.new) }
 {
     for _done in 0..count {
         let surplus = lists.sums().surp > 0;
@@ -64,11 +65,11 @@ pub fn raise<N: Naming>(lists: &mut NodeLists<N>, count: u64)
 
 #[tactic(auto, using(hp_model::proofs::Sums::some_free, hp_model::proofs::Sums::some_persistent, hp_model::proofs::Sums::none_surplus))]
 fn lower_once<N: Naming>(lists: &mut NodeLists<N>, reserved: u64, spare: bool)
-    requires spare { spare ≡ nat_lt reserved (sum_row lists.old.rows).free }
-    requires settled { reserved < (sum_row lists.old.rows).free → (sum_row lists.old.rows).surp ≡ 0 }
-    requires persistent { (sum_row lists.old.rows).surp < (sum_row lists.old.rows).total }
+    requires spare { spare ≡ nat_lt reserved (sums lists.old).free }
+    requires settled { reserved < (sums lists.old).free → (sums lists.old).surp ≡ 0 }
+    requires persistent { (sums lists.old).surp < (sums lists.old).total }
     ensures moved { lists.new ≡ lowered reserved lists.old }
-    ensures sums { let s = sum_row lists.old.rows in sum_row lists.new.rows ≡ (if spare then shrink_row s else demote_row s) }
+    ensures sums { let s = sums lists.old in sums lists.new ≡ (if spare then shrink_row s else demote_row s) }
 {
     if spare {
         lists.shrink();
@@ -79,15 +80,15 @@ fn lower_once<N: Naming>(lists: &mut NodeLists<N>, reserved: u64, spare: bool)
 
 /// Makes so many fewer pages persistent: free pages leave that are not reserved, then others become surplus.
 pub fn lower<N: Naming>(lists: &mut NodeLists<N>, reserved: u64, count: u64)
-    requires settled { reserved < (sum_row lists.old.rows).free → (sum_row lists.old.rows).surp ≡ 0 }
-    requires backed { reserved ≤ (sum_row lists.old.rows).free }
-    requires persistent { (sum_row lists.old.rows).surp + count ≤ (sum_row lists.old.rows).total }
+    requires settled { reserved < (sums lists.old).free → (sums lists.old).surp ≡ 0 }
+    requires backed { reserved ≤ (sums lists.old).free }
+    requires persistent { (sums lists.old).surp + count ≤ (sums lists.old).total }
     ensures moved { lists.new ≡ lower_times reserved count lists.old }
-    ensures frames { (sum_row lists.new.rows).frames ≡ (sum_row lists.old.rows).frames }
-    ensures settled { reserved < (sum_row lists.new.rows).free → (sum_row lists.new.rows).surp ≡ 0 }
-    ensures backed { reserved ≤ (sum_row lists.new.rows).free }
-    ensures total { (sum_row lists.new.rows).total + (sum_row lists.old.rows).surp + count ≡ (sum_row lists.old.rows).total + (sum_row lists.new.rows).surp }
-    ensures free { (sum_row lists.new.rows).free + (sum_row lists.old.rows).total ≡ (sum_row lists.old.rows).free + (sum_row lists.new.rows).total }
+    ensures frames { (sums lists.new).frames ≡ (sums lists.old).frames }
+    ensures settled { reserved < (sums lists.new).free → (sums lists.new).surp ≡ 0 }
+    ensures backed { reserved ≤ (sums lists.new).free }
+    ensures total { MorePersistent count (sums lists.new) (sums lists.old) }
+    ensures free { SameUsed (sums lists.old) (sums lists.new) }
 {
     for _done in 0..count {
         let spare = lists.sums().free > reserved;

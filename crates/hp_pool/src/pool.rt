@@ -6,6 +6,7 @@ ghost use Rattle.hp_model.specs.Pool.{take_node, page_taken, page_put, page_kept
 ghost use Rattle.hp_model.specs.PoolCounts.{IsSettled, counts_of, rsvd};
 ghost use Rattle.hp_model.specs.Resize.{set_nr, node_count};
 ghost use Rattle.hp_pool.specs.Ledgers.{AreLedgers};
+ghost use Rattle.hp_pool.specs.Sums.{idle_pool};
 
 use crate::blanks::Blanks;
 use crate::moves;
@@ -68,7 +69,7 @@ impl<N: Naming> Pool<N> {
         requires small { All (λ f. f ≤ 65536) frames.now }
         requires page_bytes { page_bytes ≡ N.page_bytes }
         requires ledgers { AreLedgers N.Naming blanks }
-        ensures { IfOk result (λ p. p ≡ record { nr = 0; overcommit = 0; committed = 0; nodes = record { rows = map idle_row frames.now; growth = 0; release = 0 } }) }
+        ensures { IfOk result (λ p. p ≡ idle_pool frames.now) }
     {
         let Blanks { permits, pages } = blanks;
         let lists = NodeLists::new(alloc, frames, page_bytes, pages)?;

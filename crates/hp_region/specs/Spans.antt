@@ -56,3 +56,6 @@ left_of a (s ∷ ss) = left_piece a s
 abbrev pub right_of : ℕ → List Span → List Span
 right_of b [] = []
 right_of b (s ∷ ss) = record { start = max b s.start; end = s.end } ∷ ss
+
+abbrev pub cut : ℕ → ℕ → List Span → List Span
+cut a b xs = left_of a xs ++ right_of b xs

@@ -1,5 +1,5 @@
 -- What contracts see of a store of pages.
-use Rattle.std.specs.Prelude.{ℕ, ◌+◌, ◌-◌, ◌==◌, List, [], ◌∷◌, ◌++◌, length, take, drop, slice_set, slice_index_or, if◌then◌else◌}
+use Rattle.std.specs.Prelude.{ℕ, ◌≡◌, ◌+◌, ◌-◌, ◌==◌, List, [], ◌∷◌, ◌++◌, length, replicate, take, drop, slice_set, slice_index_or, if◌then◌else◌}
 use Rattle.std.specs.Prelude.{Option, None, Some}
 use Rattle.std.specs.Option.{option_map}
 use Rattle.std.specs.List.{sum_by}
@@ -75,3 +75,11 @@ one_if_held (Some h) = 1
 -- how many of the slots have a page
 abbrev pub held_count : List (Option Holding) → ℕ
 held_count slots = sum_by one_if_held slots
+
+-- what stands in a slot is changed
+abbrev pub at_slot : (Holding → Holding) → ℕ → List (Option Holding) → List (Option Holding)
+at_slot f at slots = slice_set slots at (option_map f (slice_index_or slots at None))
+
+-- more slots, all free, behind those that were there
+abbrev pub Lengthens : List (Option Holding) → List (Option Holding) → Type 0
+Lengthens old new = new ≡ old ++ replicate (length new - length old) None

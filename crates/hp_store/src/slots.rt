@@ -1,7 +1,7 @@
 //! Slots for pages, and the numbers of those that are free.
 ghost use Rattle.std.specs.Prelude.{◌≡◌, ℕ, ◌+◌, ◌-◌, ◌<◌, ◌≤◌, ◌^◌, List, [], ◌∷◌, ◌++◌, length, replicate, slice_index_or, slice_set, None, Some, IsSome, OnOk, OnErr, vec_len, vec_capacity};
 ghost use Rattle.std.specs.Option.{option_map};
-ghost use Rattle.hp_store.specs.Store.{Holding, holders_of, bytes_of, first_held, held_once_more, held_once_less, page_of, written, held_count};
+ghost use Rattle.hp_store.specs.Store.{Holding, holders_of, bytes_of, first_held, held_once_more, held_once_less, page_of, written, held_count, at_slot, Lengthens};
 ghost use Rattle.hp_store.specs.Kept.{IsFree};
 
 use crate::kept::Kept;
@@ -48,7 +48,7 @@ impl<N: Naming> Slots<N> {
     pub(crate) fn reserve(&mut self, count: usize) -> Result<(), AllocError>
         ensures ok { OnOk result (held_count self.new + count ≤ length self.new) }
         ensures few { OnOk result (held_count self.new + count ≤ 2 ^ 32) }
-        ensures slots { OnOk result (self.new ≡ self.old ++ replicate (length self.new - length self.old) None) }
+        ensures slots { OnOk result (Lengthens self.old self.new) }
         ensures held { held_count self.new ≡ held_count self.old }
         ensures same { (n : ℕ) → slice_index_or self.new n None ≡ slice_index_or self.old n None }
         ensures err { OnErr result (self.new ≡ self.old) }
@@ -106,7 +106,7 @@ impl<N: Naming> Slots<N> {
     pub(crate) fn share(&mut self, at: PageNo)
         requires held { IsSome (slice_index_or self.old at None) }
         requires few { holders_of (slice_index_or self.old at None) + 1 < 2 ^ 64 }
-        ensures shared { self.new ≡ slice_set self.old at (option_map held_once_more (slice_index_or self.old at None)) }
+        ensures shared { self.new ≡ at_slot held_once_more at self.old }
         ensures held { held_count self.new ≡ held_count self.old }
     {
         if let Some(kept) = &mut self.pages[at.number() as usize] {
@@ -116,7 +116,7 @@ impl<N: Naming> Slots<N> {
 
     pub(crate) fn drop_one(&mut self, at: PageNo)
         requires { 1 < holders_of (slice_index_or self.old at None) }
-        ensures dropped { self.new ≡ slice_set self.old at (option_map held_once_less (slice_index_or self.old at None)) }
+        ensures dropped { self.new ≡ at_slot held_once_less at self.old }
         ensures held { held_count self.new ≡ held_count self.old }
     {
         if let Some(kept) = &mut self.pages[at.number() as usize] {
@@ -127,7 +127,7 @@ impl<N: Naming> Slots<N> {
     pub(crate) fn write(&mut self, at: PageNo, offset: usize, bytes: &[u8])
         requires held { IsSome (slice_index_or self.old at None) }
         requires fits { offset + length bytes.now ≤ N.page_bytes }
-        ensures written { self.new ≡ slice_set self.old at (option_map (written offset bytes.now) (slice_index_or self.old at None)) }
+        ensures written { self.new ≡ at_slot (written offset bytes.now) at self.old }
         ensures held { held_count self.new ≡ held_count self.old }
     {
         if let Some(kept) = &mut self.pages[at.number() as usize] {

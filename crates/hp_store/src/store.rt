@@ -1,6 +1,6 @@
 //! The store.
 ghost use Rattle.std.specs.Prelude.{◌≡◌, ℕ, ◌+◌, ◌-◌, ◌<◌, ◌≤◌, ◌^◌, ◌↔◌, [], ◌∷◌, ◌++◌, length, replicate, max, None, IsSome, OnOk, OnErr, option_to_list};
-ghost use Rattle.hp_store.specs.Store.{Store, page_at, holders_of, bytes_of, held_count, inserted, shared, dropped, overwritten};
+ghost use Rattle.hp_store.specs.Store.{Store, page_at, holders_of, bytes_of, held_count, inserted, shared, dropped, overwritten, Lengthens};
 
 use crate::slots::Slots;
 use hp_model::naming::Naming;
@@ -43,8 +43,9 @@ impl<N: Naming> PageStore<N> {
     /// Room for `count` pages to be put in, and to go later, with no memory. Refused where memory is, and past
     /// 2^32 numbers.
     pub fn make_room(&mut self, count: usize) -> Result<(), AllocError>
-        ensures ok { OnOk result (self.new ≡ record self.old { pages = self.new.pages; room = max self.old.room count }) }
-        ensures pages { OnOk result (self.new.pages ≡ self.old.pages ++ replicate (length self.new.pages - length self.old.pages) None) }
+        ensures ok { OnOk result (self.new
+            ≡ record self.old { pages = self.new.pages; room = max self.old.room count }) }
+        ensures pages { OnOk result (Lengthens self.old.pages self.new.pages) }
         ensures same { (n : ℕ) → page_at self.new n ≡ page_at self.old n }
         ensures few { OnOk result (held_count self.old.pages + count ≤ 2 ^ 32) }
         ensures err { OnErr result (self.new ≡ self.old) }

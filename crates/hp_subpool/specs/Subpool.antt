@@ -1,6 +1,7 @@
 -- What a mount may use of the pool, and what it has of it.
-use Rattle.std.specs.Prelude.{ℕ, ◌+◌, ◌-◌, ◌&&◌, Bool, Option, max, nat_lt}
-use Rattle.hp_model.specs.Grant.{is_over}
+use Rattle.std.specs.Prelude.{ℕ, ◌+◌, ◌-◌, ◌&&◌, not, Bool, Option, max, nat_lt}
+use Rattle.hp_model.specs.Grant.{can_grant, is_over}
+use Rattle.hp_model.specs.PoolCounts.{Pool}
 
 -- the most pages (None is no limit), the pages that stay committed at least, the pages in use, and the reservations that files and maps hold
 pub record Subpool : Type 0 where
@@ -31,3 +32,22 @@ fall s k = committed_of s - max (used s - k) s.min
 -- whether k pages more are past the limit. None more never are
 abbrev pub is_full : Subpool → ℕ → Bool
 is_full s k = nat_lt 0 k && is_over s.max (used s + k)
+
+-- whether k pages more are within the limit, and the pool can commit what they ask of it; and whether that alone is wanting
+abbrev pub can_get : Subpool → ℕ → Pool → Bool
+can_get s k pool = not (is_full s k) && can_grant (rise s k) pool
+
+abbrev pub lacks_pages : Subpool → ℕ → Pool → Bool
+lacks_pages s k pool = not (is_full s k) && not (can_grant (rise s k) pool)
+
+-- with nothing in use
+abbrev pub opened : Option ℕ → ℕ → Subpool
+opened max min = record { max = max; min = min; pages = 0; held = 0 }
+
+-- k reservations more
+abbrev pub with_reserves : ℕ → Subpool → Subpool
+with_reserves k s = record s { held = s.held + k }
+
+-- a page more, for a reservation that was held
+abbrev pub with_page : Subpool → Subpool
+with_page s = record s { held = s.held - 1; pages = s.pages + 1 }

@@ -3,7 +3,7 @@ ghost use Rattle.std.specs.Prelude.{◌≡◌, ◌+◌, ◌-◌, ◌<◌, ◌≤
 ghost use Rattle.hp_model.specs.Grant.{can_grant, granted, is_over};
 ghost use Rattle.hp_model.specs.Pool.{take_node, page_taken, page_kept, released};
 ghost use Rattle.hp_model.specs.PoolCounts.{IsSettled};
-ghost use Rattle.hp_subpool.specs.Subpool.{used, own_reserve, committed_of, rise, fall, is_full};
+ghost use Rattle.hp_subpool.specs.Subpool.{used, own_reserve, committed_of, rise, fall, is_full, can_get, lacks_pages, opened, with_reserves, with_page};
 
 use hp_model::naming::Naming;
 use hp_model::refusal::Refusal;
@@ -44,7 +44,7 @@ impl<N: Naming> Subpool<N> {
     pub fn open(pool: &mut Pool<N>, max: Option<u64>, min: u64) -> Result<Self, Refusal>
         requires { IsSettled pool.old }
         ensures granted { IsOk result ↔ IsTrue (can_grant min pool.old) }
-        ensures ok { IfOk result (λ s. (s ≡ record { max = max; min = min; pages = 0; held = 0 }) × (pool.new ≡ granted 0 min pool.old)) }
+        ensures ok { IfOk result (λ s. (s ≡ opened max min) × (pool.new ≡ granted 0 min pool.old)) }
         ensures err { IfErr result (λ e. (e ≡ Refusal.NoPages) × (pool.new ≡ pool.old)) }
         ensures nothing { min ≡ 0 → pool.new ≡ pool.old }
         ensures settled { IsSettled pool.new }
@@ -67,11 +67,11 @@ impl<N: Naming> Subpool<N> {
     pub fn get(&mut self, pool: &mut Pool<N>, home: usize, k: u64) -> Result<(), Refusal>
         requires settled { IsSettled pool.old }
         requires fits { used self.old + k < 2 ^ 64 }
-        ensures granted { IsOk result ↔ IsTrue (not (is_full self.old k) && can_grant (rise self.old k) pool.old) }
+        ensures granted { IsOk result ↔ IsTrue (can_get self.old k pool.old) }
         ensures full { (result ≡ Err Refusal.MountFull) ↔ IsTrue (is_full self.old k) }
-        ensures no_pages { (result ≡ Err Refusal.NoPages) ↔ IsTrue (not (is_full self.old k) && not (can_grant (rise self.old k) pool.old)) }
-
-        ensures ok { OnOk result ((self.new ≡ record self.old { held = self.old.held + k }) × (pool.new ≡ granted home (rise self.old k) pool.old)) }
+        ensures no_pages { (result ≡ Err Refusal.NoPages) ↔ IsTrue (lacks_pages self.old k pool.old) }
+        ensures ok { OnOk result ((self.new ≡ with_reserves k self.old)
+            × (pool.new ≡ granted home (rise self.old k) pool.old)) }
         ensures err { OnErr result ((self.new ≡ self.old) × (pool.new ≡ pool.old)) }
         ensures nothing { rise self.old k ≡ 0 → pool.new ≡ pool.old }
         ensures settled { IsSettled pool.new }
@@ -101,7 +101,7 @@ impl<N: Naming> Subpool<N> {
     /// else of the lowest node that has. Never refused.
     pub fn take_one(&mut self, pool: &mut Pool<N>, home: usize) -> Page<N>
         requires { 0 < self.old.held }
-        ensures sub { self.new ≡ record self.old { held = self.old.held - 1; pages = self.old.pages + 1 } }
+        ensures sub { self.new ≡ with_page self.old }
         ensures pool { pool.new ≡ page_taken home pool.old }
         ensures node { result.node ≡ take_node home pool.old }
         ensures settled { IsSettled pool.old → IsSettled pool.new }

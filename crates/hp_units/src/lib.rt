@@ -17,7 +17,8 @@ impl<L: Ledger> Model for Issuer<L> {
 
     ghost view = { λ i. i.book.total };
 
-    ghost invariant = { λ i. (i.spare.amount ≡ 0) × (i.spare.parts + i.book.total ≡ 18446744073709551615) };
+    ghost invariant = { λ i.
+        (i.spare.amount ≡ 0) × (i.spare.parts + i.book.total ≡ 18446744073709551615) };
 }
 
 /// Units of a ledger. They have to be given back. Contracts see how many they are.
