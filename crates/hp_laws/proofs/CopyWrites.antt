@@ -11,7 +11,8 @@ use Rattle.hp_model.specs.Lists.{is_among, edit_at}
 use Rattle.hp_model.specs.Mapping.{with_place, without_copy, Map, place_at, is_unconsumed}
 use Rattle.hp_model.specs.MountCounts.{owner_reserves, stamps_of, is_waiting, is_page_at}
 use Rattle.hp_model.specs.Page.{overwritten, Page, Copy}
-use Rattle.hp_model.specs.Sound.{place_has, map_has, file_has, is_stamp, is_stamp_at, IsAgreed}
+use Rattle.hp_model.specs.Sound.{place_has, map_has, file_has, is_stamp}
+use Rattle.hp_laws.specs.Agreed.{is_stamp_at, IsAgreed}
 use Rattle.hp_model.specs.Spot.{cell_written, place_written, map_written}
 use Rattle.hp_model.specs.declared.cell.Cell.{Cell}
 use Rattle.hp_model.specs.declared.cell.Cell.TheVariants.{Hole, Entered, Present}

@@ -9,7 +9,8 @@ use Rattle.hp_model.specs.Lists.{is_among}
 use Rattle.hp_model.specs.Mapping.{with_place, Map, place_at, copy_of, is_unconsumed}
 use Rattle.hp_model.specs.MountCounts.{file_pages, file_reserves, file_pages_at, is_waiting, is_page_at, owner_reserves, stamps_of}
 use Rattle.hp_model.specs.Page.{Page, Copy}
-use Rattle.hp_model.specs.Sound.{place_has, map_has, file_has, is_stamp, is_stamp_at, IsAgreed}
+use Rattle.hp_model.specs.Sound.{place_has, map_has, file_has, is_stamp}
+use Rattle.hp_laws.specs.Agreed.{is_stamp_at, IsAgreed}
 use Rattle.hp_model.specs.declared.cell.Cell.TheVariants.{Hole, Entered, Present}
 use Rattle.hp_model.specs.declared.place.Place.{Place}
 use Rattle.hp_model.specs.declared.place.Place.TheVariants.{Gone, Live}
@@ -218,7 +219,7 @@ maps_count q (m ∷ ms) =
 abbrev share_of : Bool → ℕ
 share_of b = cond b 1 0
 
-none_counted : {X : Type 0} (p : X → Bool) (xs : List X) → list_any p xs ≡ false → count_by p xs ≡ 0
+pub none_counted : {X : Type 0} (p : X → Bool) (xs : List X) → list_any p xs ≡ false → count_by p xs ≡ 0
 none_counted p [] e = refl
 none_counted p (x ∷ xs) e =
     let parts = or_parts (p x) (list_any p xs) e in

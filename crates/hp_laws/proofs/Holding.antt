@@ -9,7 +9,8 @@ use Rattle.hp_model.specs.Lists.{distinct, is_among}
 use Rattle.hp_model.specs.Mapping.{Map, copy_of}
 use Rattle.hp_model.specs.MountCounts.{copies_of, stamps_of, stamp_at}
 use Rattle.hp_model.specs.Page.{Copy}
-use Rattle.hp_model.specs.Sound.{place_has, map_has, file_has, is_stamp, is_stamp_at}
+use Rattle.hp_model.specs.Sound.{place_has, map_has, file_has, is_stamp}
+use Rattle.hp_laws.specs.Agreed.{is_stamp_at}
 use Rattle.hp_model.specs.declared.place.Place.{Place}
 use Rattle.hp_model.specs.declared.place.Place.TheVariants.{Gone, Live}
 use Rattle.hp_model.proofs.Distinct.{same_members, is_among-append, distinct_put, length_if}

@@ -12,7 +12,7 @@ use Rattle.hp_model.specs.File.{File, Mount, cell_at, new_file, with_file}
 use Rattle.hp_model.specs.Fork.{forked}
 use Rattle.hp_model.specs.GiveBack.{punched, swept, truncated, unlinked, unmapped_from, without_task}
 use Rattle.hp_model.specs.MakeMap.{asked, mapped, next_number, with_new}
-use Rattle.hp_model.specs.Plan.{Choice, Outcome, Refused, Answered, Plan, Finish, Slot, and_then, continued, gives, grant, Reply, unless, with_value}
+use Rattle.hp_model.specs.Plan.{Choice, Outcome, Answered, Plan, Finish, Slot, and_then, gives, grant, Reply, unless, with_value}
 use Rattle.hp_model.specs.declared.refusal.Refusal.{Refusal}
 use Rattle.hp_model.specs.declared.refusal.Refusal.TheVariants.{NoSuchFile, NoSuchMap, OutOfMemory, OutOfRange}
 use Rattle.hp_model.specs.Profile.{most_file_pages}
@@ -27,7 +27,7 @@ use Rattle.hp_laws.proofs.Accessed.{access_on, bytes_on}
 use Rattle.hp_laws.proofs.Lifted.{EndsBy, KeepsBut, ends_on, ends_open, ends_unless, is_umount, step_by}
 use Rattle.hp_laws.proofs.MountMoves.{IsSpot, spot_is}
 use Rattle.hp_laws.proofs.Outcomes.{Always, always_then, always_weaker}
-use Rattle.hp_laws.proofs.Shown.{On}
+use Rattle.hp_laws.proofs.Shown.{On, on_follows}
 use Rattle.hp_laws.proofs.SlotShows.{always_gives, always_grant, always_unless, always_value}
 
 -- ---- an open mount
@@ -44,12 +44,7 @@ module _ (c : Choice) (m : Mount) where
 
   -- what follows an access, where it leaves the limits
   then_on : (f : Mount → Outcome) (p : Plan) → ((n : Mount) → Stays n → On Stays (f n)) → Always (On Stays) p → Always (On Stays) (and_then f p)
-  then_on f p h all = always_then (On Stays) (On Stays) f follows p all
-    where
-      follows : (o : Outcome) → On Stays o → On Stays (continued f o)
-      follows (Refused r) on = tt
-      follows (Answered a None) on = on
-      follows (Answered a (Some n)) on = h n on
+  then_on f p h all = always_then (On Stays) (On Stays) f (on_follows Stays Stays f h) p all
 
   named_on : (name : List ℕ) (f : ℕ × File → Plan) → ((x : ℕ × File) → Always (On Stays) (f x)) → Always (On Stays) (with_value (file_named m name) NoSuchFile f)
   named_on name f h = always_value (On Stays) (λ r. tt) (file_named m name) NoSuchFile f (λ x is. h x)

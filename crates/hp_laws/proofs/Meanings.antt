@@ -12,7 +12,7 @@ use Rattle.hp_model.specs.declared.step.Step.{Step}
 use Rattle.hp_model.specs.File.{File, Mount, new_file, with_file}
 use Rattle.hp_model.specs.MakeMap.{asked, mapped, new_map, next_number, with_new}
 use Rattle.hp_model.specs.Lists.{edit_at}
-use Rattle.hp_model.specs.Plan.{Choice, Outcome, Refused, Answered, Plan, Finish, Slot, and_then, continued, grant, Reply, unless, with_value}
+use Rattle.hp_model.specs.Plan.{Choice, Outcome, Answered, Plan, Finish, Slot, and_then, grant, Reply, unless, with_value}
 use Rattle.hp_model.specs.declared.refusal.Refusal.{Refusal}
 use Rattle.hp_model.specs.declared.refusal.Refusal.TheVariants.{NoSuchFile, NoSuchMap}
 use Rattle.hp_model.specs.Promises.{is_unmounted}
@@ -30,7 +30,7 @@ use Rattle.hp_laws.proofs.Places.{found_place}
 use Rattle.hp_laws.proofs.Lifted.{EndsBy, KeepsBut, ends_on, ends_open, ends_unless, is_built, is_umount, step_by}
 use Rattle.hp_laws.proofs.MountMoves.{IsSpot, spot_is}
 use Rattle.hp_laws.proofs.Outcomes.{Always, always_then, always_weaker}
-use Rattle.hp_laws.proofs.Shown.{On, on_weaker}
+use Rattle.hp_laws.proofs.Shown.{On, on_follows, on_weaker}
 use Rattle.hp_laws.proofs.SlotShows.{always_grant, always_unless, always_value}
 
 -- ---- keys of longer lists
@@ -88,12 +88,7 @@ module _ (c : Choice) (m : Mount) where
   Stays n = keys n ≡ keys m
 
   then_on : (f : Mount → Outcome) (p : Plan) → ((n : Mount) → Stays n → On Stays (f n)) → Always (On Stays) p → Always (On Stays) (and_then f p)
-  then_on f p h all = always_then (On Stays) (On Stays) f follows p all
-    where
-      follows : (o : Outcome) → On Stays o → On Stays (continued f o)
-      follows (Refused r) on = tt
-      follows (Answered a None) on = on
-      follows (Answered a (Some n)) on = h n on
+  then_on f p h all = always_then (On Stays) (On Stays) f (on_follows Stays Stays f h) p all
 
   found_on : (task number : ℕ) (f : Spot → Plan) → ((s : Spot) → IsSpot m s → Always (On Stays) (f s)) → Always (On Stays) (with_value (spot m (is_map task number)) NoSuchMap f)
   found_on task number f h = always_value (On Stays) (λ r. tt) (spot m (is_map task number)) NoSuchMap f (λ s is. h s (spot_is m (is_map task number) s is))

@@ -10,7 +10,7 @@ use Rattle.hp_model.specs.Lists.{edit_at, found}
 use Rattle.hp_model.specs.MakeMap.{with_new}
 use Rattle.hp_model.specs.Mapping.{Map}
 use Rattle.hp_model.specs.MountCounts.{file_pages, file_reserves, file_pages_at, pages_of, usage_of, pages_at}
-use Rattle.hp_model.specs.Sound.{IsAgreed}
+use Rattle.hp_laws.specs.Agreed.{IsAgreed}
 use Rattle.hp_model.specs.Spot.{Spot, spot, spot_in}
 use Rattle.hp_laws.proofs.Falls.{FileFalls}
 use Rattle.hp_laws.proofs.FileMoves.{FileGrows, IsMapAt, agreed_within}
@@ -22,17 +22,17 @@ pub record MountGrows (m n : Mount) (node k u : ℕ) : Type 0 where
   pub usage : usage_of n ≡ usage_of m + u
   pub each : (x : ℕ) → pages_at x n ≡ pages_at x m + cond (node == x) k 0
   pub limits : n.limits ≡ m.limits
-  pub sound : All IsAgreed n.files
+  pub agreed : All IsAgreed n.files
 
 pub record IsFileAt (m : Mount) (at_no : ℕ) (f : File) : Type 0 where
   pub within : at_no < length m.files
   pub is : (d : File) → slice_index_or m.files at_no d ≡ f
 
 pub agreed_at : (m : Mount) (at_no : ℕ) (f : File) → IsFileAt m at_no f → All IsAgreed m.files → IsAgreed f
-agreed_at m at_no f at sound = subst (λ (x : File). IsAgreed x) (at.is f) (sound at_no f at.within)
+agreed_at m at_no f at agreed = subst (λ (x : File). IsAgreed x) (at.is f) (agreed at_no f at.within)
 
 pub file_grows : (m : Mount) (at_no : ℕ) (f g : File) (node k u : ℕ) → IsFileAt m at_no f → All IsAgreed m.files → FileGrows f g node k u → MountGrows m (with_file m at_no g) node k u
-file_grows m at_no f g node k u at sound grows =
+file_grows m at_no f g node k u at agreed grows =
     let pages = sum_by-set file_pages m.files at_no g f at.within in
     let reserves = sum_by-set file_reserves m.files at_no g f at.within in
     let was = ap file_pages (at.is f) in
@@ -42,12 +42,12 @@ file_grows m at_no f g node k u at sound grows =
       usage = omega (arith, pages, was, reserves, had, grows.usage);
       each = λ x. omega (arith, sum_by-set (file_pages_at x) m.files at_no g f at.within, ap (file_pages_at x) (at.is f), grows.each x);
       limits = refl;
-      sound = All-set IsAgreed m.files at_no g (grows.agreed (agreed_at m at_no f at sound)) sound;
+      agreed = All-set IsAgreed m.files at_no g (grows.agreed (agreed_at m at_no f at agreed)) agreed;
     }
 
 -- a file more, by what it has above an empty one
 pub new_grows : (m : Mount) (name : Option (List ℕ)) (g : File) (u : ℕ) → All IsAgreed m.files → FileGrows (new_file name) g 0 0 u → MountGrows m (with_new m g) 0 0 u
-new_grows m name g u sound grows =
+new_grows m name g u agreed grows =
     let pages = sum_by-append file_pages m.files (g ∷ []) in
     let reserves = sum_by-append file_reserves m.files (g ∷ []) in
     let one = sum_by-cons file_pages g [] in
@@ -57,7 +57,7 @@ new_grows m name g u sound grows =
       usage = omega (arith, pages, reserves, one, two, grows.pages, grows.usage);
       each = λ x. omega (arith, sum_by-append (file_pages_at x) m.files (g ∷ []), sum_by-cons (file_pages_at x) g [], grows.each x);
       limits = refl;
-      sound = All-push IsAgreed m.files g sound (grows.agreed (λ q a b h. cc));
+      agreed = All-push IsAgreed m.files g agreed (grows.agreed (λ q a b h. cc));
     }
 
 All-edit_at : {X : Type 0} (P : X → Type 0) (f : X → X) → ((x : X) → P x → P (f x)) → (xs : List X) (i : ℕ) → All P xs → All P (edit_at f xs i)
@@ -71,7 +71,7 @@ nothing_more false n = omega arith
 
 -- a change of one file that no count sees
 pub edit_grows : (m : Mount) (at_no : ℕ) (h : File → File) → All IsAgreed m.files → ((f : File) → FileGrows f (h f) 0 0 0) → MountGrows m (record m { files = edit_at h m.files at_no }) 0 0 0
-edit_grows m at_no h sound same =
+edit_grows m at_no h agreed same =
     let pages = sum_by-edit_at file_pages h (λ f. (let s = (same f).pages in omega (arith, s))) m.files at_no in
     let reserves = sum_by-edit_at file_reserves h (λ f. (let s = (same f).pages in let t = (same f).usage in omega (arith, s, t))) m.files at_no in
     record {
@@ -79,7 +79,7 @@ edit_grows m at_no h sound same =
       usage = omega (arith, pages, reserves);
       each = λ x. sum_by-edit_at (file_pages_at x) h (λ f. (same f).each x ∙ sym (nothing_more (0 == x) (file_pages_at x f))) m.files at_no ∙ nothing_more (0 == x) (pages_at x m);
       limits = refl;
-      sound = All-edit_at IsAgreed h (λ f. (same f).agreed) m.files at_no sound;
+      agreed = All-edit_at IsAgreed h (λ f. (same f).agreed) m.files at_no agreed;
     }
 
 -- ---- what only gives back
@@ -88,10 +88,10 @@ pub record MountFalls (m n : Mount) : Type 0 where
   pub usage : usage_of n ≤ usage_of m
   pub each : (x : ℕ) → pages_at x n ≤ pages_at x m
   pub limits : n.limits ≡ m.limits
-  pub sound : All IsAgreed n.files
+  pub agreed : All IsAgreed n.files
 
 pub file_sweeps : (m : Mount) (at_no : ℕ) (f g : File) → IsFileAt m at_no f → All IsAgreed m.files → FileFalls f g → MountFalls m (swept (with_file m at_no g))
-file_sweeps m at_no f g at sound falls =
+file_sweeps m at_no f g at agreed falls =
     let next : Mount = with_file m at_no g in
     let pages = sum_by-set file_pages m.files at_no g f at.within in
     let reserves = sum_by-set file_reserves m.files at_no g f at.within in
@@ -101,11 +101,11 @@ file_sweeps m at_no f g at sound falls =
       usage = omega (arith, pages, was, reserves, had, falls.pages, falls.reserves, sum_by-filter_le file_pages is_kept next.files, sum_by-filter_le file_reserves is_kept next.files);
       each = λ x. omega (arith, sum_by-set (file_pages_at x) m.files at_no g f at.within, ap (file_pages_at x) (at.is f), falls.each x, sum_by-filter_le (file_pages_at x) is_kept next.files);
       limits = refl;
-      sound = All-filter is_kept IsAgreed next.files (All-set IsAgreed m.files at_no g (agreed_within f g falls.has (agreed_at m at_no f at sound)) sound);
+      agreed = All-filter is_kept IsAgreed next.files (All-set IsAgreed m.files at_no g (agreed_within f g falls.has (agreed_at m at_no f at agreed)) agreed);
     }
 
 pub files_sweep : (m : Mount) (h : File → File) → All IsAgreed m.files → ((f : File) → FileFalls f (h f)) → MountFalls m (swept (record m { files = map h m.files }))
-files_sweep m h sound falls =
+files_sweep m h agreed falls =
     let next : List File = map h m.files in
     let pages = sum_by-map_le file_pages h (λ f. (falls f).pages) m.files in
     let reserves = sum_by-map_le file_reserves h (λ f. (falls f).reserves) m.files in
@@ -113,7 +113,7 @@ files_sweep m h sound falls =
       usage = omega (arith, pages, reserves, sum_by-filter_le file_pages is_kept next, sum_by-filter_le file_reserves is_kept next);
       each = λ x. omega (arith, sum_by-map_le (file_pages_at x) h (λ f. (falls f).each x) m.files, sum_by-filter_le (file_pages_at x) is_kept next);
       limits = refl;
-      sound = All-filter is_kept IsAgreed next (All-map IsAgreed h m.files (All-weaker IsAgreed (λ f. IsAgreed (h f)) (λ f agreed. agreed_within f (h f) (falls f).has agreed) m.files sound));
+      agreed = All-filter is_kept IsAgreed next (All-map IsAgreed h m.files (All-weaker IsAgreed (λ f. IsAgreed (h f)) (λ f agreed. agreed_within f (h f) (falls f).has agreed) m.files agreed));
     }
 
 -- ---- where a map is found

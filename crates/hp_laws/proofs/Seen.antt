@@ -1,5 +1,5 @@
 -- What maps show after a store.
-use Rattle.std.proofs.Common.{◌≡◌, ⊎_elim, inl, inr, ◌⊎◌, map, ℕ, zero, suc, ◌-◌, Bool, true, false, ◌&&◌, ◌==◌, not, Option, None, Some, is_some, List, [], ◌∷◌, get_or, set, refl, sym, ap, ◌∙◌, subst, arith, if◌then◌else◌, nat_lt}
+use Rattle.std.proofs.Common.{◌≡◌, ⊎_elim, inl, inr, ◌⊎◌, map, ℕ, ◌-◌, Bool, true, false, ◌&&◌, ◌==◌, not, Option, None, Some, is_some, List, set, refl, sym, ap, ◌∙◌, subst, arith, if◌then◌else◌, nat_lt}
 use Rattle.std.specs.List.{slice_index_or, list_any}
 use Rattle.std.proofs.lemmas.Bool.{cases_eq, cond_both, ltb-false, eqb-true, eqb-false}
 use Rattle.std.proofs.lemmas.List.{get_or-set_same, get_or-set_other, length-map}
@@ -12,15 +12,10 @@ use Rattle.hp_model.specs.Mapping.{Map, copy_of, is_shared, place_at, without_co
 use Rattle.hp_model.specs.Page.{Copy}
 use Rattle.hp_model.specs.Promises.{file_in, map_in, no_map, over, is_same_copy, IsLost}
 use Rattle.hp_model.specs.Spot.{Spot, cell_written, file_written, map_written, place_written, written}
-use Rattle.hp_laws.proofs.Looks.{edit_here, edit_other, same_edit}
+use Rattle.hp_laws.proofs.Looks.{edit_here, edit_other, get_map, same_edit}
 use Rattle.hp_laws.proofs.MountMoves.{IsSpot}
 use Rattle.hp_laws.proofs.Shown.{marked, look, seen, by_place, not_below, Own, Copied, Result}
 use Rattle.hp_laws.proofs.Stored.{ready, stored}
-
-get_map : {X : Type 0} (h : X → X) (d : X) → h d ≡ d → (xs : List X) (j : ℕ) → get_or (map h xs) j d ≡ h (get_or xs j d)
-get_map h d e [] j = sym e
-get_map h d e (x ∷ xs) zero = refl
-get_map h d e (x ∷ xs) (suc j) = get_map h d e xs j
 
 -- ---- one place of a map that is written
 

@@ -1,2 +1,3 @@
+pub mod Agreed
 pub mod Balance
 pub mod Laws

@@ -1,7 +1,6 @@
 -- What the machine promises of each step.
 use Rattle.std.specs.Prelude.{◌≡◌, ◌≢◌, ◌⊎◌, ℕ, ◌+◌, ◌<◌, ◌≤◌, ◌&&◌, ◌||◌, ◌==◌, Bool, true, false, not, Option, None, Some, is_some, option_map, Ok, Err, List, [], ◌++◌, length, take, drop, if◌then◌else◌, nat_le, nat_lt}
 use Rattle.std.specs.Bool.{MatchBool}
-use Rattle.std.specs.List.{slice_index_or}
 use Rattle.std.specs.Str.{bytes_eq}
 use Rattle.hp_model.specs.declared.answer.Answer.{Answer}
 use Rattle.hp_model.specs.declared.answer.Answer.TheVariants.{MapNo, Numbers, PerNode, Usage}
@@ -19,9 +18,11 @@ use Rattle.hp_model.specs.declared.step.Step.TheVariants.{Create as CreateStep, 
 use Rattle.hp_model.specs.Plan.{slot_usage, IsWithinLimit}
 use Rattle.hp_model.specs.CopyWrite.{holds}
 use Rattle.hp_model.specs.File.{File, Mount, cell_at, new_file}
+pub use Rattle.hp_model.specs.File.{file_in, map_in}
 use Rattle.hp_model.specs.GiveBack.{without_task}
 use Rattle.hp_model.specs.Machine.{committed_pages, counts_in, pool_of}
 use Rattle.hp_model.specs.MakeMap.{new_map}
+pub use Rattle.hp_model.specs.Mapping.{no_map}
 use Rattle.hp_model.specs.Mapping.{Map, copy_of, is_map, is_mapped, is_shared, place_at, without_range}
 use Rattle.hp_model.specs.MountCounts.{usage_of}
 use Rattle.hp_model.specs.NodeRows.{total_of}
@@ -93,9 +94,6 @@ is_refused (Err r) = true
 
 -- ---- what files show
 
-abbrev pub file_in : Mount → ℕ → File
-file_in m j = slice_index_or m.files j (new_file None)
-
 abbrev pub shown_on : (size : ℕ) → Slot → (file i : ℕ) → List ℕ
 shown_on size None file i = zeros size
 shown_on size (Some m) file i = shown size (cell_at (file_in m file) i)
@@ -134,12 +132,6 @@ stored_over s (PunchStep slot name from to) (Ok a) k file j old =
 stored_over s step reply k file j old = old
 
 -- ---- what maps show
-
-abbrev pub no_map : Map
-no_map = record { task = 0; number = 0; start = 0; sharing = Shared; owner = false; unmapped = false; places = [] }
-
-abbrev pub map_in : File → ℕ → Map
-map_in f n = slice_index_or f.maps n no_map
 
 abbrev pub map_on : Slot → (file map : ℕ) → Map
 map_on None file map = no_map

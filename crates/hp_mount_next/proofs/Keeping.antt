@@ -68,7 +68,7 @@ module _ (s : Subpool) (v : Files) (inodes : Option ℕ) (c : IsKept s v (mount_
         used = used_is ∙ omega (arith, was, raised);
         room = room;
         going = going ∙ c.going;
-        sound = all.sound;
+        sound = all.agreed;
         plain = All-set AreShared v.files k g shared c.plain;
       })
 

@@ -21,7 +21,7 @@ use Rattle.hp_model.specs.State.{Node, State, slot_at, with_slot}
 use Rattle.hp_model.specs.Value.{shown}
 use Rattle.hp_worked.proofs.WorkedWords.{machine}
 
-abbrev after_all : State → List Step → State
+abbrev pub after_all : State → List Step → State
 after_all s [] = s
 after_all s (step ∷ steps) = after_all (plain_step s step).1 steps
 
