@@ -1,20 +1,17 @@
 -- Each event on a slot leaves it sound, whatever fresh stamp is chosen.
 use Rattle.std.proofs.Common.{◌≡◌, ℕ, ◌+◌, ◌-◌, ◌<◌, ◌≤◌, ◌&&◌, ◌||◌, ◌==◌, Bool, true, false, not, Option, None, Some, List, [], ◌∷◌, ◌++◌, length, map, set, arith, refl, sym, ap, ◌∙◌, subst, nat_lt, if◌then◌else◌}
-use Rattle.std.specs.List.{count_by, filter_map, flat_map, list_any}
+use Rattle.std.specs.List.{count_by, flat_map, list_any}
 use Rattle.std.proofs.lemmas.Bool.{and_parts, both_ways, cond_both, eq-eqb, eqb-true, leb-false, not-true}
 use Rattle.std.proofs.lemmas.List.{get_or_default, length-set}
 use Rattle.std.proofs.lemmas.List.Sums.{sum_by-append, sum_by-cons}
-use Rattle.hp_model.specs.declared.answer.Answer.{Answer}
-use Rattle.hp_model.specs.declared.answer.Answer.TheVariants.{Done, MapNo, Names}
+use Rattle.hp_model.specs.declared.answer.Answer.TheVariants.{Done}
 use Rattle.hp_model.specs.declared.cell.Cell.{Cell}
 use Rattle.hp_model.specs.declared.cell.Cell.TheVariants.{Entered, Hole, Present}
-use Rattle.hp_model.specs.declared.event.SlotEvent.{SlotEvent}
 use Rattle.hp_model.specs.declared.event.SlotEvent.TheVariants as slot
 use Rattle.hp_model.specs.declared.limits.Limits.{Limits}
 use Rattle.hp_model.specs.declared.place.Place.{Place}
 use Rattle.hp_model.specs.declared.place.Place.TheVariants.{Gone, Live}
-use Rattle.hp_model.specs.declared.refusal.Refusal.{Refusal}
-use Rattle.hp_model.specs.declared.refusal.Refusal.TheVariants.{BeyondEnd, NoSuchFile, NoSuchMap, CrossesPage, OutOfMemory, OutOfRange, TooMany}
+use Rattle.hp_model.specs.declared.refusal.Refusal.TheVariants.{BeyondEnd, CrossesPage, OutOfMemory, OutOfRange, TooMany}
 use Rattle.hp_model.specs.declared.section.Section.TheVariants.{GrantPage}
 use Rattle.hp_model.specs.declared.step.Intent.{Intent}
 use Rattle.hp_model.specs.declared.step.Intent.TheVariants.{Read, Write}
@@ -23,20 +20,19 @@ use Rattle.hp_model.specs.declared.step.Sharing.{Sharing}
 use Rattle.hp_model.specs.Access.{access, new_copy, private_access, shared_access, uncopied_access}
 use Rattle.hp_model.specs.CopyWrite.{copy_write, is_held_once, owner_write, taken_back}
 use Rattle.hp_model.specs.File.{File, Mount, cell_at, file_in, has_page, map_in, maps_of, new_file, with_cell, with_file, with_map}
-use Rattle.hp_model.specs.Fork.{forked}
-use Rattle.hp_model.specs.GiveBack.{file_unmapped, file_without, punched, truncated, unlinked, unmapped_from, without_task, swept}
+use Rattle.hp_model.specs.GiveBack.{file_unmapped, file_without, punched, truncated, unlinked, without_task, swept}
 use Rattle.hp_model.specs.Grant.{is_full, rise}
 use Rattle.hp_model.specs.Lists.{edit_at, is_among}
-use Rattle.hp_model.specs.MakeMap.{asked, mapped, new_map, next_number, with_new}
+use Rattle.hp_model.specs.MakeMap.{mapped, new_map, next_number}
 use Rattle.hp_model.specs.Mapping.{Map, copy_of, is_map, is_mapped, is_of, is_shared, is_unconsumed, map_punched, no_map, place_at, with_place, without_range}
 use Rattle.hp_model.specs.MountCounts.{stamps_of}
 use Rattle.hp_model.specs.Page.{Copy, Page, overwritten, zeros}
-use Rattle.hp_model.specs.Plan.{Ask, Answered, Choice, Finish, Outcome, Plan, Refused, Slot, gives, grant, may_lack_room, unless, with_value}
-use Rattle.hp_model.specs.Profile.{most_bytes, most_file_pages}
+use Rattle.hp_model.specs.Plan.{Ask, Answered, Choice, Finish, Outcome, Refused, Slot, gives, may_lack_room, unless}
+use Rattle.hp_model.specs.Profile.{most_bytes}
 use Rattle.hp_model.specs.Sound.{HasCopy, IsSound, IsSoundFile, IsSoundMap, IsSoundMount, is_stamp}
-use Rattle.hp_model.specs.SlotEvent.{anon_tests, byte_access, bytes_answer, create_tests, edited, fault, file_named, fork_tests, has_name, is_bad_range, is_beyond, is_unmapped, load, map_file, map_tests, on_mount, punch, read, read_tests, stat, store, truncate, umount_tests, unlink, unmap}
-use Rattle.hp_model.specs.Spot.{Spot, again, cell_written, copied, file_written, map_written, place_written, spot, written}
-use Rattle.hp_model.specs.Value.{shown, value}
+use Rattle.hp_model.specs.SlotEvent.{byte_access, fault, is_beyond, is_unmapped, on_mount, umount_tests}
+use Rattle.hp_model.specs.Spot.{Spot, cell_written, copied, file_written, map_written, place_written, written}
+use Rattle.hp_model.specs.Value.{value}
 use Rattle.hp_model.proofs.Editing.{length-edit_at}
 use Rattle.hp_laws.specs.Balance.{Always, left_by}
 use Rattle.hp_laws.specs.Laws.{SlotsStaySound}
@@ -46,16 +42,16 @@ use Rattle.hp_laws.proofs.FileMoves.{live_at, none_counted}
 use Rattle.hp_laws.proofs.FilesSound.{cells_keep, mapped_keeps, punched_keeps, truncated_keeps, unlinked_keeps, unmapped_keeps, without_keeps}
 use Rattle.hp_laws.proofs.Holding.{stamps_are}
 use Rattle.hp_laws.proofs.Lesser.{KeepsFile, keeps_less, less_all}
-use Rattle.hp_laws.proofs.Lifted.{is_umount}
 use Rattle.hp_laws.proofs.Looks.{edit_set}
 use Rattle.hp_laws.proofs.Made.{number_unused}
-use Rattle.hp_laws.proofs.MountMoves.{IsFileAt, IsSpot, file_at, spot_is}
+use Rattle.hp_laws.proofs.MountMoves.{IsFileAt, IsSpot}
 use Rattle.hp_laws.proofs.MountsSound.{cut_sound, edit_sound, filtered_numbers, forked_sound, mapped_numbers, new_sound, put_sound, set_sound, swept_sound}
 use Rattle.hp_laws.proofs.Outcomes.{always_if, always_test, always_then, always_weaker}
 use Rattle.hp_laws.proofs.Shown.{On, on_follows, on_grant_page, on_reserved_page, on_weaker}
 use Rattle.hp_laws.proofs.Single.{bit}
-use Rattle.hp_laws.proofs.SlotShows.{always_gives, always_grant, always_mount, always_unless, always_value}
+use Rattle.hp_laws.proofs.SlotShows.{always_gives, always_mount, always_unless}
 use Rattle.hp_laws.proofs.SlotsBalanced.{new_in_file}
+use Rattle.hp_laws.proofs.Walk.{Leaves, event_on}
 
 -- ---- a map more
 
@@ -251,29 +247,11 @@ read_left m sound s at i Write n h = h.0
 pub empty_sound : (l : Limits) → IsSoundMount (record { limits = l; files = [] })
 empty_sound l = record { files = λ k d l. absurd (omega (arith, l)); stamps = λ stamp. omega arith; numbers = λ task number. omega arith }
 
-module _ (c : Choice) (m : Mount) (sound : IsSoundMount m) (new : is_among c.stamp (flat_map stamps_of m.files) ≡ false) where
-  abbrev Good : Outcome → Type 0
-  Good o = On IsSoundMount o
-
-  gives_on : (n : Mount) → IsSoundMount n → Always Good (gives Done (Some m) (Some n))
-  gives_on n h = always_gives Good Done (Some m) (Some n) h
-
-  tested : (ts : List (Bool × Refusal)) (p : Plan) → Always Good p → Always Good (unless ts p)
-  tested ts p h = always_unless Good (λ r. tt) ts p h
-
-  named_on : (name : List ℕ) (f : ℕ × File → Plan) → ((q : ℕ × File) → IsFileAt m q.0 q.1 → Always Good (f q)) → Always Good (with_value (file_named m name) NoSuchFile f)
-  named_on name f h = always_value Good (λ r. tt) (file_named m name) NoSuchFile f (λ q is. h q (file_at m (has_name name) q is))
-
-  spot_on : (task number : ℕ) (f : Spot → Plan) → ((s : Spot) → IsSpot m s → Always Good (f s)) → Always Good (with_value (spot m (is_map task number)) NoSuchMap f)
-  spot_on task number f h = always_value Good (λ r. tt) (spot m (is_map task number)) NoSuchMap f (λ s is. h s (spot_is m (is_map task number) s is))
-
-  granted_on : (home k : ℕ) (a : Answer) (n : Mount) → IsSoundMount n → Always Good (grant c m home k (Answered a (Some n)))
-  granted_on home k a n h = always_grant Good (λ r. tt) c m home k (Answered a (Some n)) h
-
+module _ (size : ℕ) (c : Choice) (m : Mount) (sound : IsSoundMount m) (new : is_among c.stamp (flat_map stamps_of m.files) ≡ false) where
   -- a file in another form, and without what is not kept
-  edited_on : (q : ℕ × File) (g : File) → IsFileAt m q.0 q.1 → KeepsFile q.1 g → ((task number : ℕ) → count_by (is_map task number) g.maps ≤ count_by (is_map task number) q.1.maps)
-      → Always Good (gives Done (Some m) (edited m q.0 g))
-  edited_on q g at keeps numbers = gives_on (swept (with_file m q.0 g)) (swept_sound (with_file m q.0 g) (put_sound m q.0 q.1 g at keeps numbers sound))
+  edited_sound : (q : ℕ × File) (g : File) → IsFileAt m q.0 q.1 → KeepsFile q.1 g → ((task number : ℕ) → count_by (is_map task number) g.maps ≤ count_by (is_map task number) q.1.maps)
+      → IsSoundMount (swept (with_file m q.0 g))
+  edited_sound q g at keeps numbers = swept_sound (with_file m q.0 g) (put_sound m q.0 q.1 g at keeps numbers sound)
 
   punched_numbers : (a b task number : ℕ) (f : File) → count_by (is_map task number) (map (map_punched a b) f.maps) ≤ count_by (is_map task number) f.maps
   punched_numbers a b task number f = mapped_numbers (map_punched a b) (λ x. refl) (λ x. refl) task number f.maps
@@ -292,63 +270,36 @@ module _ (c : Choice) (m : Mount) (sound : IsSoundMount m) (new : is_among c.sta
       swept_sound (record m { files = map (file_without gone) m.files })
       (cut_sound m (file_without gone) (without_keeps gone) (λ task number f. filtered_numbers (λ x. not (is_of gone x)) task number f.maps f.maps (omega arith)) sound)
 
-  event_on : (size k : ℕ) (e : SlotEvent) → is_umount e ≡ false → Always Good (on_mount size k c m e)
-  event_on size k (slot.Mount options) stays = tt
-  event_on size k slot.Umount stays = cc
-  event_on size k (slot.Create name) stays =
-      let g : File = new_file (Some name) in
-      tested (create_tests c m name) (Finish (Answered Done (Some (with_new m g))))
-      (new_sound m g (keeps_less (new_file None) g (less_all []) (omega arith)) (λ task number. (let one = sound.numbers task number in omega (arith, one))) sound)
-  event_on size k (slot.Unlink name) stays = named_on name (unlink m) (λ q at. edited_on q (unlinked q.1) at (unlinked_keeps q.1) (λ task number. omega arith))
-  event_on size k (slot.Truncate name n) stays =
-      named_on name (truncate m n)
-      (λ q at. tested ((nat_lt most_file_pages n, OutOfRange) ∷ []) (gives Done (Some m) (edited m q.0 (truncated n q.1)))
-      (edited_on q (truncated n q.1) at (truncated_keeps n q.1) (λ task number. punched_numbers n (n + length q.1.cells) task number q.1)))
-  event_on size k (slot.Punch name a b) stays =
-      named_on name (punch m a b)
-      (λ q at. tested ((is_bad_range a b, OutOfRange) ∷ []) (gives Done (Some m) (edited m q.0 (punched a b q.1)))
-      (edited_on q (punched a b q.1) at (punched_keeps a b q.1) (λ task number. punched_numbers a b task number q.1)))
-  event_on size k (slot.Read name i offset count) stays =
-      named_on name (read size m i offset count)
-      (λ q at. tested (read_tests size i offset count q.1) (Finish (Answered (bytes_answer offset count (shown size (cell_at q.1 i))) (Some m))) sound)
-  event_on size k slot.Ls stays = tested ((c.refused, OutOfMemory) ∷ []) (Finish (Answered (Names (filter_map (λ f. f.name) m.files)) (Some m))) sound
-  event_on size k (slot.Stat name) stays = named_on name (stat m) (λ q at. sound)
-  event_on size k slot.Df stays = sound
-  event_on size k (slot.Map task home name a n sharing reserving) stays =
-      let number = next_number task m in
-      named_on name (map_file c m task home a n sharing reserving)
-      (λ q at. (let with_it = with_file m q.0 (mapped task number a n sharing reserving q.1) in
-      tested (map_tests m task a n) (grant c m home (asked sharing reserving a n q.1) (Answered (MapNo number) (Some with_it)))
-      (granted_on home (asked sharing reserving a n q.1) (MapNo number) with_it
-      (set_sound m q.0 q.1 (mapped task number a n sharing reserving q.1) at (mapped_keeps task number a n sharing reserving q.1)
-      (λ t u. new_number m task a n sharing reserving q.1.maps t u (sound.numbers t u)) sound))))
-  event_on size k (slot.Anon task home n sharing reserving) stays =
-      let number = next_number task m in
-      let g = mapped task number 0 n sharing reserving (new_file None) in
-      tested (anon_tests m task n) (grant c m home (asked sharing reserving 0 n (new_file None)) (Answered (MapNo number) (Some (with_new m g))))
-      (granted_on home (asked sharing reserving 0 n (new_file None)) (MapNo number) (with_new m g)
-      (new_sound m g (mapped_keeps task number 0 n sharing reserving (new_file None)) (λ t u. new_number m task 0 n sharing reserving [] t u (sound.numbers t u)) sound))
-  event_on size k (slot.Unmap task number a b) stays =
-      spot_on task number (unmap m task number a b)
-      (λ s at. tested ((is_bad_range a b, OutOfRange) ∷ []) (gives Done (Some m) (Some (unmapped_from task number a b m)))
-      (gives_on (unmapped_from task number a b m) (unmapped_sound (is_map task number) a b)))
-  event_on size k (slot.Fault task home number i intent) stays =
-      spot_on task number (fault c size m home i intent)
-      (λ s at. always_weaker (On (Left m sound s at intent i)) Good (on_weaker (Left m sound s at intent i) IsSoundMount (read_left m sound s at i intent)) (fault c size m home i intent s)
-      (fault_left m sound s at c new size home i intent))
-  event_on size k (slot.Load task home number i offset count) stays =
-      spot_on task number (load c size m home i offset count)
-      (λ s at. always_then Good Good (λ n. Answered (bytes_answer offset count (value size (again n s).file (again n s).map i)) (Some n))
-      (on_follows IsSoundMount IsSoundMount (λ n. Answered (bytes_answer offset count (value size (again n s).file (again n s).map i)) (Some n)) (λ n h. h))
-      (byte_access c size m home i offset count Read s) (bytes_left m sound s at c new size home i offset count Read))
-  event_on size k (slot.Store task home number i offset bytes) stays =
-      spot_on task number (store c size m home i offset bytes)
-      (λ s at. always_then (On (Left m sound s at Write i)) Good (λ n. Answered Done (Some (written n s i offset bytes)))
-      (on_follows (Left m sound s at Write i) IsSoundMount (λ n. Answered Done (Some (written n s i offset bytes))) (λ n h. written_sound n h.0 s i offset bytes h.1))
-      (byte_access c size m home i offset (length bytes) Write s) (bytes_left m sound s at c new size home i offset (length bytes) Write))
-  event_on size k (slot.ForkMaps parent child) stays =
-      tested (fork_tests c m parent child) (gives Done (Some m) (Some (forked parent child m))) (gives_on (forked parent child m) (forked_sound parent child m sound))
-  event_on size k (slot.ExitMaps task) stays = gives_on (without_task task m) (without_sound task)
+  stays_sound : Leaves size c m IsSoundMount
+  stays_sound = record {
+    same = sound;
+    creates = λ name.
+        (let g : File = new_file (Some name) in
+        new_sound m g (keeps_less (new_file None) g (less_all []) (omega arith)) (λ task number. (let one = sound.numbers task number in omega (arith, one))) sound);
+    unlinks = λ q at. edited_sound q (unlinked q.1) at (unlinked_keeps q.1) (λ task number. omega arith);
+    truncates = λ n q at. edited_sound q (truncated n q.1) at (truncated_keeps n q.1) (λ task number. punched_numbers n (n + length q.1.cells) task number q.1);
+    punches = λ a b q at. edited_sound q (punched a b q.1) at (punched_keeps a b q.1) (λ task number. punched_numbers a b task number q.1);
+    maps = λ task a n sharing reserving q at.
+        (let number = next_number task m in
+        set_sound m q.0 q.1 (mapped task number a n sharing reserving q.1) at (mapped_keeps task number a n sharing reserving q.1)
+        (λ t u. new_number m task a n sharing reserving q.1.maps t u (sound.numbers t u)) sound);
+    anons = λ task n sharing reserving.
+        (let number = next_number task m in
+        new_sound m (mapped task number 0 n sharing reserving (new_file None)) (mapped_keeps task number 0 n sharing reserving (new_file None))
+        (λ t u. new_number m task 0 n sharing reserving [] t u (sound.numbers t u)) sound);
+    unmaps = λ task number a b. unmapped_sound (is_map task number) a b;
+    forks = λ parent child. forked_sound parent child m sound;
+    exits = λ task. without_sound task;
+    faults = λ s at home i intent.
+        always_weaker (On (Left m sound s at intent i)) (On IsSoundMount) (on_weaker (Left m sound s at intent i) IsSoundMount (read_left m sound s at i intent)) (fault c size m home i intent s)
+        (fault_left m sound s at c new size home i intent);
+    reads = λ s at home i offset count. bytes_left m sound s at c new size home i offset count Read;
+    stores = λ s at home i offset bytes.
+        (let write = λ (n : Mount). Answered Done (Some (written n s i offset bytes)) in
+        always_then (On (Left m sound s at Write i)) (On IsSoundMount) write
+        (on_follows (Left m sound s at Write i) IsSoundMount write (λ n h. written_sound n h.0 s i offset bytes h.1))
+        (byte_access c size m home i offset (length bytes) Write s) (bytes_left m sound s at c new size home i offset (length bytes) Write));
+  }
 
 -- ---- a slot
 
@@ -357,12 +308,12 @@ left_good m sound (Refused r) on = sound
 left_good m sound (Answered a None) on = tt
 left_good m sound (Answered a (Some n)) on = on
 
-abbrev Leaves : Slot → Outcome → Type 0
-Leaves old o = IsSound (left_by old o)
+abbrev GoesOn : Slot → Outcome → Type 0
+GoesOn old o = IsSound (left_by old o)
 
 pub slots_stay_sound : SlotsStaySound
-slots_stay_sound size k c None (slot.Mount options) new sound = always_mount (Leaves None) (λ r. tt) empty_sound c size options
+slots_stay_sound size k c None (slot.Mount options) new sound = always_mount (GoesOn None) (λ r. tt) empty_sound c size options
 slots_stay_sound size k c None other new sound = tt
-slots_stay_sound size k c (Some m) slot.Umount new sound = always_unless (Leaves (Some m)) (λ r. sound) (umount_tests k m) (gives Done (Some m) None) (always_gives (Leaves (Some m)) Done (Some m) None tt)
+slots_stay_sound size k c (Some m) slot.Umount new sound = always_unless (GoesOn (Some m)) (λ r. sound) (umount_tests k m) (gives Done (Some m) None) (always_gives (GoesOn (Some m)) Done (Some m) None tt)
 slots_stay_sound size k c (Some m) e new sound =
-    always_weaker (On IsSoundMount) (Leaves (Some m)) (left_good m sound) (on_mount size k c m e) (event_on c m sound (not-true _ new) size k e refl)
+    always_weaker (On IsSoundMount) (GoesOn (Some m)) (left_good m sound) (on_mount size k c m e) (event_on size c m IsSoundMount (stays_sound size c m sound (not-true _ new)) k e refl)

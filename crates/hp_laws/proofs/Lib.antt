@@ -47,4 +47,5 @@ pub mod Lesser
 pub mod FilesSound
 pub mod MountsSound
 pub mod CopiesSound
+pub mod Walk
 pub mod EventsSound
