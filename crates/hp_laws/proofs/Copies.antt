@@ -3,17 +3,15 @@ use Rattle.std.proofs.Common.{◌≡◌, ℕ, ◌+◌, ◌-◌, ◌<◌, Bool, t
 use Rattle.std.specs.List.{slice_index_or}
 use Rattle.std.proofs.lemmas.Bool.{and_parts, cond_both, eqb-true, le-ltb, ltb-false, ltb-true}
 use Rattle.std.proofs.lemmas.List.{get_or_default, get_or_past}
-use Rattle.std.proofs.lemmas.List.Elements.{All-weaker}
 use Rattle.std.proofs.lemmas.List.Folds.{Any-from_list_any, list_any_at}
 use Rattle.hp_model.specs.File.{File, Mount, file_in, map_in, new_file}
 use Rattle.hp_model.specs.Mapping.{Map, copy_of, no_map, place_at}
 use Rattle.hp_model.specs.Page.{Copy}
-use Rattle.hp_model.specs.Plan.{Slot}
-use Rattle.hp_model.specs.Sound.{HasCopy, IsSound, IsSoundFile, file_has, map_has, place_has}
+use Rattle.hp_model.specs.Sound.{HasCopy, IsSoundFile, file_has, map_has, place_has}
 use Rattle.hp_model.specs.declared.place.Place.{Place}
 use Rattle.hp_model.specs.declared.place.Place.TheVariants.{Gone, Live}
-use Rattle.hp_laws.specs.Agreed.{AreAgreed, IsAgreed, is_stamp_at}
 use Rattle.hp_laws.proofs.FileMoves.{live_at}
+use Rattle.hp_laws.proofs.Holding.{IsAgreed, is_stamp_at}
 
 -- ---- by places
 
@@ -95,7 +93,3 @@ agreed_file f sound q m n a b =
     let stamps : x.copy.stamp ≡ y.copy.stamp = eqb-true x.copy.stamp q left.1 ∙ sym (eqb-true y.copy.stamp q right.1) in
     let same = sound.copies x.index y.index x.copy y.copy (x.map, x.has) (y.map, y.has) stamps in
     sym (eqb-true x.copy.page.node m left.0) ∙ ap (λ c. c.page.node) same.1 ∙ eqb-true y.copy.page.node n right.0
-
-pub agreed_slot : (s : Slot) → IsSound s → AreAgreed s
-agreed_slot None sound = tt
-agreed_slot (Some m) sound = All-weaker IsSoundFile IsAgreed agreed_file m.files sound.files

@@ -22,7 +22,6 @@ use Rattle.hp_model.specs.Sound.{IsSound}
 use Rattle.hp_model.specs.State.{State, slot_at, with_slot}
 use Rattle.hp_laws.proofs.NodeSums.{slot_below, slot_above, swap_le, sum_above, once_in_range, far_range}
 use Rattle.hp_model.proofs.RowMoves.{used_sum}
-use Rattle.hp_laws.proofs.Copies.{agreed_slot}
 use Rattle.hp_laws.proofs.SectionTies.{used_is}
 use Rattle.hp_laws.proofs.SlotsBalanced.{slots_are_balanced}
 use Rattle.hp_laws.proofs.Tied.{settled_is, left_sound}
@@ -33,8 +32,7 @@ used_are s st =
     let ns : List ℕ = range_with_len 0 (length s.nodes) in
     let is = used_is (pool_of s) st.pool in
     let sums = ap sum st.used ∙ sum-map (λ n. used_at n s) ns in
-    let few = swap_le IsSound slot_pages_at slot_pages ns
-    (λ x sound. slot_below ns (once_in_range 0 (length s.nodes)) x (agreed_slot x sound)) s.slots st.slots in
+    let few = swap_le IsSound slot_pages_at slot_pages ns (slot_below ns (once_in_range 0 (length s.nodes))) s.slots st.slots in
     let many = sum_above ns slot_pages_at slot_pages (slot_above ns) s.slots (far_range (length s.nodes) (λ n. used_at n s) st.homed) in
     omega (arith, is, sums, few, many)
 

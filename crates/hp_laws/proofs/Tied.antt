@@ -20,7 +20,6 @@ use Rattle.hp_laws.specs.Laws.{pool_after}
 use Rattle.hp_model.specs.Sound.{IsSound}
 use Rattle.hp_model.specs.State.{State, Node, with_slot, slot_at}
 use Rattle.hp_model.specs.declared.node.NodeRow.{NodeRow}
-use Rattle.hp_laws.proofs.Copies.{agreed_slot}
 use Rattle.hp_laws.proofs.NodeSums.{slot_below, swap_le, once_in_range, pages-le-committed}
 use Rattle.hp_laws.proofs.SectionTies.{IsWanted, used_is, same_list, relead, section_leads}
 use Rattle.hp_laws.proofs.Sections.{Leads, long_as, unchanged}
@@ -95,7 +94,7 @@ module _ (s : State) (k : ℕ) (st : IsSettledState s) (new : Slot) (sound : IsS
       let settled = st.pool in
       let used = used_is (pool_of s) settled in
       let used_sums = ap sum st.used ∙ sum-map (λ n. used_at n s) ns in
-      let below = λ (x : Slot) (h : IsSound x). slot_below ns (once_in_range 0 (length s.nodes)) x (agreed_slot x h) in
+      let below = slot_below ns (once_in_range 0 (length s.nodes)) in
       let all_pages = swap_le IsSound slot_pages_at slot_pages ns below s.slots st.slots in
       let without = sum_by-set slot_pages s.slots k None None l in
       let uncommitted = sum_by-set slot_committed s.slots k None None l in

@@ -7,7 +7,6 @@ use Rattle.hp_model.specs.declared.section.PoolAnswer.{PoolAnswer}
 use Rattle.hp_model.specs.declared.section.Section.{Section}
 use Rattle.hp_model.specs.declared.section.Section.TheVariants.{Grant, GrantPage, TakePage, GiveBack, ReadAndGrant, GrantAndReturn}
 use Rattle.hp_model.specs.PoolCounts.{Pool}
-use Rattle.hp_laws.specs.Agreed.{AreAgreed}
 
 -- what the section, answered so, adds to the pool's commitment, and what it takes from it
 abbrev pub raised_by : Section → PoolAnswer → ℕ
@@ -48,7 +47,6 @@ pub record Change (old new : Slot) (raised lowered : ℕ) (taken put : ℕ → �
   -- at a node that there isn't, no page comes up
   pub far : (n : ℕ) → slot_pages_at n new ≤ slot_pages_at n old + taken n
   pub limited : IsLimited old new
-  pub agreed : AreAgreed new
 
 abbrev pub Moves : Slot → Section → PoolAnswer → Slot → Type 0
 Moves old s a new = Change old new (raised_by s a) (lowered_by s) (λ n. taken_at n s a) (λ n. put_at n s) (takes_page s a)

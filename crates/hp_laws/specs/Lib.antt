@@ -1,3 +1,2 @@
-pub mod Agreed
 pub mod Balance
 pub mod Laws

@@ -54,7 +54,7 @@ gone_kept : (size bytes : ℕ) (t : Table) (xs : List Slot) (k : ℕ) (m : Mount
 gone_kept size bytes t xs k m p q kept within here e =
     let s : State = state_of size t xs p in
     let plan : Plan = gives Done (Some m) None in
-    let balanced = subst (λ y. IsBalanced y plan) (sym here) (balanced_gives Done (Some m) None (record { committed = omega arith; each = λ n. omega arith; usage = omega arith; agreed = tt })) in
+    let balanced = subst (λ y. IsBalanced y plan) (sym here) (balanced_gives Done (Some m) None (record { committed = omega arith; each = λ n. omega arith; usage = omega arith })) in
     let sound = subst (λ y. Always (λ o. IsSound (left_by y o)) plan) (sym here) (always_gives (λ o. IsSound (left_by (Some m) o)) Done (Some m) None tt) in
     let law = plan_tied s k plan within kept.settled balanced sound in
     let goes = planned_is size t xs k p plan kept.tied ∙ ap (λ y. (y.0, state_of size t (slice_set xs k y.1) y.2)) (ap (λ o. carried p o plan) here ∙ e) in
