@@ -1,7 +1,8 @@
 -- What an access leaves: the mount as it was, or with its file in another form that has the same name and maps of the same numbers.
-use Rattle.std.proofs.Common.{◌≡◌, ℕ, ◌<◌, ◌&&◌, Bool, true, false, not, map, suc, zero, arith, get_or, None, Some, List, [], ◌∷◌, length, refl, sym, ap, ◌∙◌, if◌then◌else◌}
+use Rattle.std.proofs.Common.{◌≡◌, ℕ, ◌-◌, ◌<◌, ◌&&◌, Bool, true, false, not, map, suc, zero, arith, get_or, None, Some, List, [], ◌∷◌, length, refl, sym, ap, ◌∙◌, if◌then◌else◌}
 use Rattle.std.specs.List.{list_any, slice_index_or, slice_set}
 use Rattle.std.proofs.lemmas.Bool.{cond_both}
+use Rattle.std.proofs.lemmas.List.{length-map, length-set}
 use Rattle.hp_model.specs.declared.answer.Answer.TheVariants.{Done}
 use Rattle.hp_model.specs.declared.cell.Cell.{Cell}
 use Rattle.hp_model.specs.declared.cell.Cell.TheVariants.{Entered, Hole, Present}
@@ -19,11 +20,12 @@ use Rattle.hp_model.specs.Page.{Copy, Page, zeros}
 use Rattle.hp_model.specs.Plan.{Choice, Outcome, Answered, Finish, Ask, may_lack_room}
 use Rattle.hp_model.specs.declared.refusal.Refusal.TheVariants.{OutOfMemory}
 use Rattle.hp_model.specs.declared.section.Section.TheVariants.{GrantPage}
+use Rattle.hp_model.specs.Promises.{shape_of}
 use Rattle.hp_model.specs.SlotEvent.{byte_access, byte_tests}
 use Rattle.hp_model.specs.Spot.{Spot, copied}
 use Rattle.hp_model.specs.Value.{value}
 use Rattle.hp_laws.proofs.FileMoves.{IsMapAt}
-use Rattle.hp_laws.proofs.Keys.{file_key, keys, map_key}
+use Rattle.hp_laws.proofs.Keys.{file_key, keys}
 use Rattle.hp_laws.proofs.MountMoves.{IsSpot}
 use Rattle.hp_laws.proofs.Outcomes.{Always, always_if}
 use Rattle.hp_laws.proofs.Shown.{On, on_grant_page, on_reserved_page}
@@ -45,17 +47,21 @@ key_map : {X K : Type 0} (key : X → K) (f : X → X) → ((x : X) → key (f x
 key_map key f same [] = refl
 key_map key f same (x ∷ xs) = rw (same x, key_map key f same xs) refl
 
-robbed_key : (stamp : ℕ) (x : Map) → map_key (robbed stamp x) ≡ map_key x
+-- other places, and as many
+pub pages_same : (x : Map) (mark : Bool) (ps : List (Place Copy)) → length ps ≡ length x.places → shape_of (record x { unmapped = mark; places = ps }) ≡ shape_of x
+pages_same x mark ps long = ap (λ n. record { task = x.task; number = x.number; start = x.start; pages = n; sharing = x.sharing; owner = x.owner }) long
+
+robbed_key : (stamp : ℕ) (x : Map) → shape_of (robbed stamp x) ≡ shape_of x
 robbed_key stamp x =
-    cond_both (list_any (holds stamp) x.places) (record x { unmapped = true; places = map (drop_stamp stamp) x.places }) x (λ y. map_key y ≡ map_key x) (λ e. refl) (λ e. refl)
+    cond_both (list_any (holds stamp) x.places) (record x { unmapped = true; places = map (drop_stamp stamp) x.places }) x (λ y. shape_of y ≡ shape_of x) (λ e. pages_same x true (map (drop_stamp stamp) x.places) (length-map x.places (drop_stamp stamp))) (λ e. refl)
 
 -- a file in the place of another of the same name and numbers
 pub file_put : (m : Mount) (k : ℕ) (g f : File) → ((d : File) → slice_index_or m.files k d ≡ g) → file_key f ≡ file_key g → keys (with_file m k f) ≡ keys m
 file_put m k g f there same = key_set file_key m.files k f (same ∙ sym (ap file_key (there f)))
 
 -- a map in the place of another of the same number
-map_put : (f : File) (k : ℕ) (x y : Map) → IsMapAt f k x → map_key y ≡ map_key x → file_key (with_map f k y) ≡ file_key f
-map_put f k x y at same = ap (λ ks. (f.name, ks)) (key_set map_key f.maps k y (same ∙ sym (ap map_key (at.is y))))
+map_put : (f : File) (k : ℕ) (x y : Map) → IsMapAt f k x → shape_of y ≡ shape_of x → file_key (with_map f k y) ≡ file_key f
+map_put f k x y at same = ap (λ ks. (f.name, ks)) (key_set shape_of f.maps k y (same ∙ sym (ap shape_of (at.is y))))
 
 -- an element of the list that a function was put over
 get_mapped : {X : Type 0} (f : X → X) (xs : List X) (k : ℕ) (d : X) → k < length xs → get_or (map f xs) k d ≡ f (get_or xs k d)
@@ -66,8 +72,8 @@ get_mapped f (x ∷ xs) (suc k) d l = get_mapped f xs k d (omega (arith, l))
 back_put : (f : File) (k stamp : ℕ) (x : Map) → IsMapAt f k x → file_key (with_map (record f { maps = map (robbed stamp) f.maps }) k x) ≡ file_key f
 back_put f k stamp x at =
     ap (λ ks. (f.name, ks))
-    (key_set map_key (map (robbed stamp) f.maps) k x (sym (ap map_key (get_mapped (robbed stamp) f.maps k x at.within) ∙ robbed_key stamp (get_or f.maps k x) ∙ ap map_key (at.is x)))
-    ∙ key_map map_key (robbed stamp) (robbed_key stamp) f.maps)
+    (key_set shape_of (map (robbed stamp) f.maps) k x (sym (ap shape_of (get_mapped (robbed stamp) f.maps k x at.within) ∙ robbed_key stamp (get_or f.maps k x) ∙ ap shape_of (at.is x)))
+    ∙ key_map shape_of (robbed stamp) (robbed_key stamp) f.maps)
 
 -- ---- accesses
 
@@ -80,7 +86,8 @@ module _ (c : Choice) (m : Mount) (Q : Mount → Type 0) (own : Q m) (s : Spot) 
   -- the map with a copy there
   copied_on : (consumed : Bool) (copy : Copy) → On Q (copied m s i consumed copy)
   copied_on consumed copy =
-      let x : Map = with_place s.map i (Live consumed (Some copy)) in put (with_map s.file s.map_no x) (map_put s.file s.map_no s.map x at.map refl)
+      let x : Map = with_place s.map i (Live consumed (Some copy)) in put (with_map s.file s.map_no x) (map_put s.file s.map_no s.map x at.map
+      (pages_same s.map s.map.unmapped x.places (length-set s.map.places (i - s.map.start) (Live consumed (Some copy)))))
 
   new_on : (consumed : Bool) → Always (On Q) (new_copy c size m s home i consumed)
   new_on consumed =

@@ -11,14 +11,14 @@ use Rattle.hp_model.specs.Lists.{is_among, edit_at}
 use Rattle.hp_model.specs.Mapping.{with_place, without_copy, Map, place_at, is_unconsumed}
 use Rattle.hp_model.specs.MountCounts.{owner_reserves, stamps_of, is_waiting, is_page_at}
 use Rattle.hp_model.specs.Page.{overwritten, Page, Copy}
-use Rattle.hp_model.specs.Sound.{place_has, map_has, file_has, is_stamp, is_stamp_at, IsAgreed}
+use Rattle.hp_model.specs.Sound.{place_has, map_has, file_has, is_stamp}
 use Rattle.hp_model.specs.Spot.{cell_written, place_written, map_written}
 use Rattle.hp_model.specs.declared.cell.Cell.{Cell}
 use Rattle.hp_model.specs.declared.cell.Cell.TheVariants.{Hole, Entered, Present}
 use Rattle.hp_model.specs.declared.place.Place.{Place}
 use Rattle.hp_model.specs.declared.place.Place.TheVariants.{Gone, Live}
-use Rattle.hp_laws.proofs.FileMoves.{FileGrows, IsMapAt, IsLiveAt, live_at, reserves_step, same_owed, held_in, maps_count, none_held, agreed_test, spent, agreed_within, agreed_plus}
-use Rattle.hp_laws.proofs.Holding.{stamps_grow, stamps_at_grow, stamps_stay, stamps_at_stay, weaker}
+use Rattle.hp_laws.proofs.FileMoves.{FileGrows, IsMapAt, IsLiveAt, live_at, reserves_step, same_owed, held_in, maps_count, none_held, agreed_test, spent}
+use Rattle.hp_laws.proofs.Holding.{is_stamp_at, IsAgreed, stamps_grow, stamps_at_grow, stamps_stay, stamps_at_stay, weaker}
 use Rattle.hp_laws.proofs.Places.{any_two, any_unset, any_set_up, any_set_at, any_map_up, any_map_down, any_either, any_of_set, sum_by-map_same, any_edit_at, sum_by-edit_at}
 
 the_other : (a b c : Bool) → c ≡ (a || b) → (a ≡ true → b ≡ true) → b ≡ c
@@ -86,7 +86,6 @@ module _ (f : File) (k : ℕ) (m : Map) (i : ℕ) (c : Bool) (old new : Copy) (h
         pages = omega (arith, stamps);
         usage = omega (arith, stamps, reserves, same);
         each = λ n. omega (arith, stamps_at_grow n new.stamp new.page.node f after has fresh);
-        agreed = agreed_plus new.stamp new.page.node f after has fresh;
       }
 
 -- ---- the owner takes the copy back
@@ -240,7 +239,6 @@ module _ (f : File) (k : ℕ) (m : Map) (i : ℕ) (c : Bool) (copy : Copy) (here
         pages = omega (arith, stamps);
         usage = omega (arith, stamps, maps, here_is, robbed_is, all);
         each = λ n. omega (arith, stamps_at_stay n f back has, spent (0 == n));
-        agreed = agreed_within f back (back_down);
       }
 
 -- ---- bytes written into a page
@@ -276,7 +274,6 @@ writes true k i offset bytes f =
       pages = omega (arith, pages);
       usage = omega (arith, pages, waits);
       each = λ n. omega (arith, count (is_page_at n) (λ p q e. ap (λ x. x == n) e), spent (0 == n));
-      agreed = λ a. a;
     }
 writes false k i offset bytes f =
     let g : File = record f { maps = edit_at (map_written i offset bytes) f.maps k } in
@@ -288,5 +285,4 @@ writes false k i offset bytes f =
       pages = omega (arith, stamps);
       usage = omega (arith, stamps, owes);
       each = λ n. omega (arith, stamps_at_stay n f g has, spent (0 == n));
-      agreed = agreed_within f g (λ t e. sym (has t) ∙ e);
     }

@@ -11,7 +11,7 @@ use Rattle.hp_model.specs.Lists.{edit_range}
 use Rattle.hp_model.specs.Mapping.{map_for, unconsumed, without_range, without_copy, map_punched, is_mapped, Map, is_unconsumed, is_of}
 use Rattle.hp_model.specs.MountCounts.{file_pages, file_reserves, file_pages_at, is_waiting, is_page_at, owner_reserves}
 use Rattle.hp_model.specs.Page.{Page, Copy}
-use Rattle.hp_model.specs.Sound.{place_has, map_has, file_has}
+use Rattle.hp_model.specs.Sound.{place_has, map_has}
 use Rattle.hp_model.specs.declared.cell.Cell.{Cell}
 use Rattle.hp_model.specs.declared.cell.Cell.TheVariants.{Hole, Entered, Present}
 use Rattle.hp_model.specs.declared.place.Place.{Place}
@@ -21,7 +21,6 @@ use Rattle.hp_laws.proofs.Places.{any_map_down, any_filter, sum_by-map_le, sum_b
 use Rattle.hp_model.proofs.Editing.{sum_by-edit_range}
 
 pub record FileFalls (f g : File) : Type 0 where
-  pub has : (t : ℕ → ℕ → Bool) → file_has t g ≡ true → file_has t f ≡ true
   pub pages : file_pages g ≤ file_pages f
   pub reserves : file_reserves g ≤ file_reserves f
   pub each : (n : ℕ) → file_pages_at n g ≤ file_pages_at n f
@@ -40,7 +39,6 @@ pub file_falls : (f g : File) → CellsFall f.cells g.cells → MapsFall f.maps 
 file_falls f g cells maps =
     let stamps = stamps_fall f g maps.has in
     record {
-      has = maps.has;
       pages = omega (arith, stamps, cells.pages);
       reserves = omega (arith, cells.waits, maps.reserves);
       each = λ n. omega (arith, stamps_at_fall n f g maps.has, cells.each n);

@@ -2,19 +2,19 @@
 use Rattle.std.proofs.Common.{◌≡◌, ⊎_elim, subst, ◌++◌, ℕ, zero, suc, ◌+◌, ◌-◌, ◌<◌, Bool, true, false, ◌||◌, ◌==◌, Option, None, Some, List, [], ◌∷◌, length, map, refl, sym, ap, ◌∙◌, cond, arith, if◌then◌else◌, nat_lt}
 use Rattle.std.specs.List.{list_any, slice_set, slice_index_or, sum_by, count_by, filter_map, flat_map}
 use Rattle.std.proofs.lemmas.List.{map-append}
-use Rattle.std.proofs.lemmas.Bool.{or_parts, or_cases, or_left, or_right, and_from, and_parts, eq-eqb, eqb-true, both_ways}
+use Rattle.std.proofs.lemmas.Bool.{or_parts, or_cases, or_left, or_right, and_from, and_parts, eq-eqb, eqb-true}
 use Rattle.std.proofs.lemmas.List.Sums.{sum_by-set, sum_by-cons, sum_by-append}
 use Rattle.hp_model.specs.File.{with_cell, with_map, File, cell_at, has_page}
 use Rattle.hp_model.specs.Lists.{is_among}
 use Rattle.hp_model.specs.Mapping.{with_place, Map, place_at, copy_of, is_unconsumed}
 use Rattle.hp_model.specs.MountCounts.{file_pages, file_reserves, file_pages_at, is_waiting, is_page_at, owner_reserves, stamps_of}
 use Rattle.hp_model.specs.Page.{Page, Copy}
-use Rattle.hp_model.specs.Sound.{place_has, map_has, file_has, is_stamp, is_stamp_at, IsAgreed}
+use Rattle.hp_model.specs.Sound.{place_has, map_has, file_has, is_stamp}
 use Rattle.hp_model.specs.declared.cell.Cell.TheVariants.{Hole, Entered, Present}
 use Rattle.hp_model.specs.declared.place.Place.{Place}
 use Rattle.hp_model.specs.declared.place.Place.TheVariants.{Gone, Live}
 use Rattle.hp_laws.proofs.CountSteps.{share, count-set, fill_entry-pages, fill_entry-reserves}
-use Rattle.hp_laws.proofs.Holding.{stamps_grow, stamps_at_grow, weaker, stamps_are}
+use Rattle.hp_laws.proofs.Holding.{is_stamp_at, IsAgreed, stamps_grow, stamps_at_grow, weaker}
 use Rattle.hp_laws.proofs.Places.{any_set}
 
 -- k pages more at the node, and the usage u more
@@ -22,7 +22,6 @@ pub record FileGrows (f g : File) (node k u : ℕ) : Type 0 where
   pub pages : file_pages g ≡ file_pages f + k
   pub usage : file_pages g + file_reserves g ≡ file_pages f + file_reserves f + u
   pub each : (n : ℕ) → file_pages_at n g ≡ file_pages_at n f + cond (node == n) k 0
-  pub agreed : IsAgreed f → IsAgreed g
 
 -- ---- a page of the file
 
@@ -31,7 +30,6 @@ fill_entry f i page l is = record {
   pages = fill_entry-pages f i page l is;
   usage = omega (arith, fill_entry-pages f i page l is, fill_entry-reserves f i page l is);
   each = λ n. (let step = count-set (is_page_at n) f i (Present page) l in let was = ap (share (is_page_at n)) is in omega (arith, step, was));
-  agreed = λ a. a;
 }
 
 pub fill_hole : (f : File) (i : ℕ) (page : Page) → i < length f.cells → cell_at f i ≡ Hole → FileGrows f (with_cell f i (Present page)) page.node 1 1
@@ -44,7 +42,6 @@ fill_hole f i page l is =
       pages = omega (arith, step, was);
       usage = omega (arith, step, was, waits, waited);
       each = λ n. (let at_n = count-set (is_page_at n) f i (Present page) l in let was_n = ap (share (is_page_at n)) is in omega (arith, at_n, was_n));
-      agreed = λ a. a;
     }
 
 -- ---- a place of a map
@@ -127,28 +124,6 @@ pub spent : (b : Bool) → ◌≡◌ {A = ℕ} (cond b 0 0) 0
 spent true = refl
 spent false = refl
 
--- ---- agreement
-
-pub agreed_within : (f g : File) → ((t : ℕ → ℕ → Bool) → file_has t g ≡ true → file_has t f ≡ true) → IsAgreed f → IsAgreed g
-agreed_within f g h agreed q m n a b = agreed q m n (h (is_stamp_at m q) a) (h (is_stamp_at n q) b)
-
-is_new : (stamp m q : ℕ) (f : File) → is_among stamp (stamps_of f) ≡ false → stamp ≡ q → file_has (is_stamp_at m q) f ≡ true → ⊥
-is_new stamp m q f fresh same held =
-    both_ways (is_among q (stamps_of f)) (ap (λ x. is_among x (stamps_of f)) (sym same) ∙ fresh)
-    (stamps_are f q ∙ weaker (is_stamp_at m q) (is_stamp q) f (λ s n both. (and_parts (n == m) (s == q) both).1) held)
-
-pub agreed_plus : (stamp node : ℕ) (f g : File) → ((t : ℕ → ℕ → Bool) → file_has t g ≡ (t stamp node || file_has t f)) → is_among stamp (stamps_of f) ≡ false → IsAgreed f → IsAgreed g
-agreed_plus stamp node f g has fresh agreed q m n a b =
-    let first = or_cases (is_stamp_at m q stamp node) (file_has (is_stamp_at m q) f) (sym (has (is_stamp_at m q)) ∙ a) in
-    let second = or_cases (is_stamp_at n q stamp node) (file_has (is_stamp_at n q) f) (sym (has (is_stamp_at n q)) ∙ b) in
-    ⊎_elim
-    (λ l. (let here = and_parts (node == m) (stamp == q) l in
-    ⊎_elim (λ r. (let there = and_parts (node == n) (stamp == q) r in sym (eqb-true node m here.0) ∙ eqb-true node n there.0))
-    (λ r. absurd (is_new stamp n q f fresh (eqb-true stamp q here.1) r)) second))
-    (λ l. ⊎_elim (λ r. (let there = and_parts (node == n) (stamp == q) r in absurd (is_new stamp m q f fresh (eqb-true stamp q there.1) l)))
-    (λ r. agreed q m n l r) second)
-    first
-
 -- ---- a new copy where there is none
 
 -- by a grant: the reservation stays as it is
@@ -165,7 +140,6 @@ copy_grows f k m i c new here is fresh =
       pages = omega (arith, stamps);
       usage = omega (arith, stamps, reserves, same);
       each = λ n. omega (arith, stamps_at_grow n new.stamp new.page.node f g has fresh);
-      agreed = agreed_plus new.stamp new.page.node f g has fresh;
     }
 
 -- by an owner's reservation, which is consumed
@@ -183,7 +157,6 @@ copy_consumes f k m i new here is owner fresh =
       pages = omega (arith, stamps);
       usage = omega (arith, stamps, reserves, one, none);
       each = λ n. omega (arith, stamps_at_grow n new.stamp new.page.node f g has fresh);
-      agreed = agreed_plus new.stamp new.page.node f g has fresh;
     }
 
 -- ---- a write into a copy that other maps hold too
@@ -218,7 +191,7 @@ maps_count q (m ∷ ms) =
 abbrev share_of : Bool → ℕ
 share_of b = cond b 1 0
 
-none_counted : {X : Type 0} (p : X → Bool) (xs : List X) → list_any p xs ≡ false → count_by p xs ≡ 0
+pub none_counted : {X : Type 0} (p : X → Bool) (xs : List X) → list_any p xs ≡ false → count_by p xs ≡ 0
 none_counted p [] e = refl
 none_counted p (x ∷ xs) e =
     let parts = or_parts (p x) (list_any p xs) e in

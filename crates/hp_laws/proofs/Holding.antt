@@ -9,10 +9,19 @@ use Rattle.hp_model.specs.Lists.{distinct, is_among}
 use Rattle.hp_model.specs.Mapping.{Map, copy_of}
 use Rattle.hp_model.specs.MountCounts.{copies_of, stamps_of, stamp_at}
 use Rattle.hp_model.specs.Page.{Copy}
-use Rattle.hp_model.specs.Sound.{place_has, map_has, file_has, is_stamp, is_stamp_at}
+use Rattle.hp_model.specs.Sound.{place_has, map_has, file_has, is_stamp}
 use Rattle.hp_model.specs.declared.place.Place.{Place}
 use Rattle.hp_model.specs.declared.place.Place.TheVariants.{Gone, Live}
 use Rattle.hp_model.proofs.Distinct.{same_members, is_among-append, distinct_put, length_if}
+
+-- ---- stamps at a node
+
+abbrev pub is_stamp_at : ℕ → ℕ → ℕ → ℕ → Bool
+is_stamp_at n q stamp node = (node == n) && (stamp == q)
+
+-- copies with one stamp are pages of one node: what the counts by node rest on
+abbrev pub IsAgreed : File → Type 0
+IsAgreed f = (q m n : ℕ) → file_has (is_stamp_at m q) f ≡ true → file_has (is_stamp_at n q) f ≡ true → m ≡ n
 
 -- ---- how many different numbers a list has
 

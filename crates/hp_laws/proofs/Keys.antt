@@ -5,33 +5,30 @@ use Rattle.std.specs.Str.{bytes_eq}
 use Rattle.hp_model.specs.File.{File, Mount}
 use Rattle.hp_model.specs.Lists.{found, one_on}
 use Rattle.hp_model.specs.Mapping.{Map, is_map}
+use Rattle.hp_model.specs.Promises.{Shape, shape_of}
 use Rattle.hp_model.specs.SlotEvent.{file_named}
 use Rattle.hp_model.specs.Spot.{Spot, spot, spot_in}
 use Rattle.hp_laws.proofs.Made.{in_file, spot_in_file}
 
 -- ---- keys
 
--- a map's task and number
-abbrev pub map_key : Map → ℕ × ℕ
-map_key m = (m.task, m.number)
-
--- a file's name, and the tasks and numbers of its maps
+-- a file's name, and the shapes of its maps
 abbrev pub FileKey : Type 0
-FileKey = Option (List ℕ) × List (ℕ × ℕ)
+FileKey = Option (List ℕ) × List Shape
 
 abbrev pub file_key : File → FileKey
-file_key f = (f.name, map map_key f.maps)
+file_key f = (f.name, map shape_of f.maps)
 
 abbrev pub keys : Mount → List FileKey
 keys m = map file_key m.files
 
-abbrev pub is_key : (task number : ℕ) → ℕ × ℕ → Bool
-is_key task number k = (k.0 == task) && (k.1 == number)
+abbrev pub is_key : (task number : ℕ) → Shape → Bool
+is_key task number k = (k.task == task) && (k.number == number)
 
 abbrev pub is_named : List ℕ → FileKey → Bool
 is_named name k = elim k.0 [ None ↦ false | Some n ↦ bytes_eq n name ]
 
-abbrev pub has_key : (ℕ × ℕ → Bool) → FileKey → Bool
+abbrev pub has_key : (Shape → Bool) → FileKey → Bool
 has_key t k = list_any t k.1
 
 -- ---- what is found, by its key
@@ -53,31 +50,34 @@ found_same : {X : Type 0} (t u : X → Bool) → ((x : X) → t x ≡ u x) → (
 found_same t u h [] = refl
 found_same t u h (x ∷ xs) = rw (h x, found_same t u h xs) refl
 
-any_mapped : (t : ℕ × ℕ → Bool) (ms : List Map) → list_any (λ m. t (map_key m)) ms ≡ list_any t (map map_key ms)
+any_mapped : (t : Shape → Bool) (ms : List Map) → list_any (λ m. t (shape_of m)) ms ≡ list_any t (map shape_of ms)
 any_mapped t [] = refl
-any_mapped t (m ∷ ms) = ap (λ b. t (map_key m) || b) (any_mapped t ms)
+any_mapped t (m ∷ ms) = ap (λ b. t (shape_of m) || b) (any_mapped t ms)
 
 -- the place of the file of a name
 pub name_place : (m : Mount) (name : List ℕ) → found (is_named name) (keys m) ≡ option_map (keyed file_key) (file_named m name)
 name_place m name = found_mapped (is_named name) file_key m.files
 
--- the places of a map
-abbrev pub places : Spot → ℕ × ℕ
-places s = (s.file_no, s.map_no)
+-- the places of a map, and its shape
+abbrev pub Where : Type 0
+Where = ℕ × ℕ × Shape
 
-abbrev pub in_key : (ℕ × ℕ → Bool) → Option (ℕ × FileKey) → Option (ℕ × ℕ)
+abbrev pub places : Spot → Where
+places s = (s.file_no, s.map_no, shape_of s.map)
+
+abbrev pub in_key : (Shape → Bool) → Option (ℕ × FileKey) → Option Where
 in_key t None = None
-in_key t (Some k) = option_map (λ q. (k.0, q.0)) (found t k.1.1)
+in_key t (Some k) = option_map (λ q. (k.0, q.0, q.1)) (found t k.1.1)
 
-abbrev pub key_places : (ℕ × ℕ → Bool) → List FileKey → Option (ℕ × ℕ)
+abbrev pub key_places : (Shape → Bool) → List FileKey → Option Where
 key_places t ks = in_key t (found (has_key t) ks)
 
 number_in : (task number : ℕ) (o : Option (ℕ × File)) → option_map places (in_file (is_map task number) o) ≡ in_key (is_key task number) (option_map (keyed file_key) o)
 number_in task number None = refl
 number_in task number (Some f) =
-    by_found (found (is_map task number) f.1.maps) ∙ sym (ap (option_map (λ (q : ℕ × (ℕ × ℕ)). (f.0, q.0))) (found_mapped (is_key task number) map_key f.1.maps))
+    by_found (found (is_map task number) f.1.maps) ∙ sym (ap (option_map (λ (q : ℕ × Shape). (f.0, q.0, q.1))) (found_mapped (is_key task number) shape_of f.1.maps))
   where
-    by_found : (o : Option (ℕ × Map)) → option_map places (option_map (spot_in f) o) ≡ option_map (λ (q : ℕ × (ℕ × ℕ)). (f.0, q.0)) (option_map (keyed map_key) o)
+    by_found : (o : Option (ℕ × Map)) → option_map places (option_map (spot_in f) o) ≡ option_map (λ (q : ℕ × Shape). (f.0, q.0, q.1)) (option_map (keyed shape_of) o)
     by_found None = refl
     by_found (Some q) = refl
 

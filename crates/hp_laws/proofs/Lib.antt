@@ -41,3 +41,11 @@ pub mod Accessed
 pub mod Lifted
 pub mod Meanings
 pub mod Named
+pub mod Single
+pub mod Copies
+pub mod Lesser
+pub mod FilesSound
+pub mod MountsSound
+pub mod CopiesSound
+pub mod Walk
+pub mod EventsSound

@@ -1,8 +1,39 @@
 -- What a look at one place of a list tells after a change that the look does not see, or of one place.
-use Rattle.std.proofs.Common.{◌≡◌, inl, inr, ℕ, zero, suc, ◌-◌, ◌<◌, List, [], ◌∷◌, ◌++◌, length, take, drop, map, replicate, get_or, set, refl, sym, ap, ◌∙◌, subst, append_assoc}
+use Rattle.std.proofs.Common.{◌≡◌, inl, inr, ℕ, zero, suc, ◌-◌, ◌<◌, ◌≤◌, arith, List, [], ◌∷◌, ◌++◌, length, take, drop, map, replicate, get_or, set, refl, sym, ap, ◌∙◌, subst, append_assoc}
 use Rattle.std.proofs.lemmas.Bool.{cases_eq}
 use Rattle.std.proofs.lemmas.List.{get_or-set_same, get_or-set_other, take-append-drop}
 use Rattle.hp_model.specs.Lists.{edit_at, edit_range}
+
+-- ---- a range of elements is changed
+
+module _ {X : Type 0} (R : X → X → Type 0) (same : (x : X) → R x x) (d : X) where
+  related_after : (xs ys zs : List X) → ((j : ℕ) → R (get_or ys j d) (get_or zs j d)) → (j : ℕ) → R (get_or (xs ++ ys) j d) (get_or (xs ++ zs) j d)
+  related_after [] ys zs h j = h j
+  related_after (x ∷ xs) ys zs h zero = same x
+  related_after (x ∷ xs) ys zs h (suc j) = related_after xs ys zs h j
+
+  related_mapped : (f : X → X) → ((x : X) → R (f x) x) → (xs ys : List X) (j : ℕ) → R (get_or (map f xs ++ ys) j d) (get_or (xs ++ ys) j d)
+  related_mapped f h [] ys j = same (get_or ys j d)
+  related_mapped f h (x ∷ xs) ys zero = h x
+  related_mapped f h (x ∷ xs) ys (suc j) = related_mapped f h xs ys j
+
+  -- each is related to what it was
+  pub related_edit_range : (f : X → X) → ((x : X) → R (f x) x) → (a b : ℕ) (xs : List X) (j : ℕ) → R (get_or (edit_range f a b xs) j d) (get_or xs j d)
+  related_edit_range f h a b xs j =
+      let r : List X = drop a xs in
+      let k : ℕ = b - a in
+      let whole : take a xs ++ (take k r ++ drop k r) ≡ xs = ap (λ ys. take a xs ++ ys) (take-append-drop k r) ∙ take-append-drop a xs in
+      let changed : List X = take a xs ++ (map f (take k r) ++ drop k r) in
+      subst (λ ys. R (get_or ys j d) (get_or xs j d)) (sym (append_assoc (take a xs) (map f (take k r)) (drop k r)))
+      (subst (λ ys. R (get_or changed j d) (get_or ys j d)) whole
+      (related_after (take a xs) (map f (take k r) ++ drop k r) (take k r ++ drop k r) (related_mapped f h (take k r) (drop k r)) j))
+
+pub get_map : {X : Type 0} (h : X → X) (d : X) → h d ≡ d → (xs : List X) (j : ℕ) → get_or (map h xs) j d ≡ h (get_or xs j d)
+get_map h d e [] j = sym e
+get_map h d e (x ∷ xs) zero = refl
+get_map h d e (x ∷ xs) (suc j) = get_map h d e xs j
+
+-- ---- looks
 
 module _ {X Y : Type 0} (g : X → Y) (d : X) where
   -- one element is another, which looks the same
@@ -12,17 +43,6 @@ module _ {X Y : Type 0} (g : X → Y) (d : X) where
         | inl same ↦ subst (λ i. g (get_or (set xs k y) i d) ≡ g (get_or xs i d)) (sym same) (ap g (get_or-set_same xs k y d l) ∙ e)
         | inr other ↦ ap g (get_or-set_other xs k j y d other)
       ]
-
-  -- what comes after looks the same
-  pub same_after : (xs ys zs : List X) → ((j : ℕ) → g (get_or ys j d) ≡ g (get_or zs j d)) → (j : ℕ) → g (get_or (xs ++ ys) j d) ≡ g (get_or (xs ++ zs) j d)
-  same_after [] ys zs h j = h j
-  same_after (x ∷ xs) ys zs h zero = refl
-  same_after (x ∷ xs) ys zs h (suc j) = same_after xs ys zs h j
-
-  same_mapped : (f : X → X) → ((x : X) → g (f x) ≡ g x) → (xs ys : List X) (j : ℕ) → g (get_or (map f xs ++ ys) j d) ≡ g (get_or (xs ++ ys) j d)
-  same_mapped f h [] ys j = refl
-  same_mapped f h (x ∷ xs) ys zero = h x
-  same_mapped f h (x ∷ xs) ys (suc j) = same_mapped f h xs ys j
 
   -- elements more that look like none
   pub same_more : (xs ys : List X) → ((j : ℕ) → g (get_or ys j d) ≡ g d) → (j : ℕ) → g (get_or (xs ++ ys) j d) ≡ g (get_or xs j d)
@@ -41,12 +61,7 @@ module _ {X Y : Type 0} (g : X → Y) (d : X) where
 
   -- a range of elements is changed, and each looks the same
   pub same_edit_range : (f : X → X) → ((x : X) → g (f x) ≡ g x) → (a b : ℕ) (xs : List X) (j : ℕ) → g (get_or (edit_range f a b xs) j d) ≡ g (get_or xs j d)
-  same_edit_range f h a b xs j =
-      let r : List X = drop a xs in
-      let k : ℕ = b - a in
-      ap (λ ys. g (get_or ys j d)) (append_assoc (take a xs) (map f (take k r)) (drop k r))
-      ∙ same_after (take a xs) (map f (take k r) ++ drop k r) (take k r ++ drop k r) (same_mapped f h (take k r) (drop k r)) j
-      ∙ ap (λ ys. g (get_or (take a xs ++ ys) j d)) (take-append-drop k r) ∙ ap (λ ys. g (get_or ys j d)) (take-append-drop a xs)
+  same_edit_range f h a b xs j = related_edit_range (λ x y. g x ≡ g y) (λ x. refl) d f h a b xs j
 
 -- ---- an edit of one element
 
@@ -61,6 +76,16 @@ pub edit_here : {X : Type 0} (f : X → X) (d : X) → f d ≡ d → (xs : List 
 edit_here f d e [] k = sym e
 edit_here f d e (x ∷ xs) zero = refl
 edit_here f d e (x ∷ xs) (suc k) = edit_here f d e xs k
+
+pub edit_set : {X : Type 0} (f : X → X) (d : X) (xs : List X) (k : ℕ) → k < length xs → edit_at f xs k ≡ set xs k (f (get_or xs k d))
+edit_set f d [] k l = absurd (omega (arith, l))
+edit_set f d (x ∷ xs) zero l = refl
+edit_set f d (x ∷ xs) (suc k) l = ap (λ ys. x ∷ ys) (edit_set f d xs k (omega (arith, l)))
+
+pub edit_past : {X : Type 0} (f : X → X) (xs : List X) (k : ℕ) → length xs ≤ k → edit_at f xs k ≡ xs
+edit_past f [] k l = refl
+edit_past f (x ∷ xs) zero l = absurd (omega (arith, l))
+edit_past f (x ∷ xs) (suc k) l = ap (λ ys. x ∷ ys) (edit_past f xs k (omega (arith, l)))
 
 -- an edit that a look does not see
 pub same_edit : {X Y : Type 0} (g : X → Y) (d : X) (f : X → X) → ((x : X) → g (f x) ≡ g x) → (xs : List X) (k j : ℕ) → g (get_or (edit_at f xs k) j d) ≡ g (get_or xs j d)

@@ -73,8 +73,11 @@ module _ (m : Mount) (task : ℕ) where
   abbrev has_it : File → Bool
   has_it f = list_any (is_map task number) f.maps
 
+  pub number_unused : list_any (is_map task number) (maps_of m) ≡ false
+  number_unused = number_used task number (maps_of m) ∙ least_is_unused (numbers_of task (maps_of m))
+
   unused : list_any has_it m.files ≡ false
-  unused = sym (any_in_files (is_map task number) m.files) ∙ number_used task number (maps_of m) ∙ least_is_unused (numbers_of task (maps_of m))
+  unused = sym (any_in_files (is_map task number) m.files) ∙ number_unused
 
   pub number_is_new : spot m (is_map task number) ≡ None
   number_is_new = spot_none m (is_map task number) (found_not has_it m.files unused)

@@ -1,5 +1,5 @@
 -- A file with one map more: its usage is higher by what the map asks for.
-use Rattle.std.proofs.Common.{◌≡◌, ℕ, zero, suc, ◌+◌, ◌-◌, Bool, true, false, ◌||◌, ◌==◌, None, List, [], ◌∷◌, ◌++◌, length, map, take, drop, replicate, refl, sym, ap, ◌∙◌, cond, arith}
+use Rattle.std.proofs.Common.{◌≡◌, ℕ, zero, suc, ◌+◌, ◌-◌, Bool, true, false, ◌||◌, ◌==◌, None, List, [], ◌∷◌, ◌++◌, length, map, take, drop, replicate, refl, ap, ◌∙◌, cond, arith}
 use Rattle.std.specs.List.{list_any, count_by}
 use Rattle.std.proofs.lemmas.List.Folds.{list_any-append}
 use Rattle.std.proofs.lemmas.List.Sums.{sum_by-append, sum_by-take-drop, sum_by-cons}
@@ -19,7 +19,7 @@ use Rattle.hp_model.specs.declared.cell.Cell.TheVariants.{Hole, Entered, Present
 use Rattle.hp_model.specs.declared.place.Place.{Place}
 use Rattle.hp_model.specs.declared.place.Place.TheVariants.{Live}
 use Rattle.hp_laws.proofs.Falls.{no_holes}
-use Rattle.hp_laws.proofs.FileMoves.{FileGrows, agreed_within, spent}
+use Rattle.hp_laws.proofs.FileMoves.{FileGrows, spent}
 use Rattle.hp_laws.proofs.Holding.{stamps_stay, stamps_at_stay}
 use Rattle.hp_laws.proofs.Places.{sum_by-map_same}
 use Rattle.hp_model.proofs.Editing.{sum_by-edit_range}
@@ -115,7 +115,6 @@ map_more f cells m u w wait none owes =
       pages = omega (arith, stamps, wait.pages);
       usage = omega (arith, stamps, wait.pages, wait.waits, sums, one, owes);
       each = λ n. omega (arith, stamps_at_stay n f g has, wait.each n, spent (0 == n));
-      agreed = agreed_within f g (λ t e. sym (has t) ∙ e);
     }
 
 pub mapped_grows : (task number a n : ℕ) (sharing : Sharing) (reserving : Reserving) (f : File) → FileGrows f (mapped task number a n sharing reserving f) 0 0 (asked sharing reserving a n f)

@@ -1,5 +1,5 @@
 -- What names and numbers mean stands where it stood, after each event that is built but an umount.
-use Rattle.std.proofs.Common.{◌≡◌, subst, ℕ, ◌<◌, ◌==◌, Bool, true, false, None, Some, List, [], ◌∷◌, ◌++◌, length, map, option_map, suc, zero, get_or, arith, refl, sym, ap, ◌∙◌}
+use Rattle.std.proofs.Common.{◌≡◌, subst, ℕ, ◌-◌, ◌<◌, ◌==◌, Bool, true, false, None, Some, List, [], ◌∷◌, ◌++◌, length, map, option_map, suc, zero, get_or, arith, refl, sym, ap, ◌∙◌}
 use Rattle.std.specs.List.{slice_set}
 use Rattle.std.proofs.lemmas.Bool.{and_parts, cond_both, eqb-true}
 use Rattle.hp_model.specs.declared.answer.Answer.TheVariants.{Done, MapNo}
@@ -12,25 +12,26 @@ use Rattle.hp_model.specs.declared.step.Step.{Step}
 use Rattle.hp_model.specs.File.{File, Mount, new_file, with_file}
 use Rattle.hp_model.specs.MakeMap.{asked, mapped, new_map, next_number, with_new}
 use Rattle.hp_model.specs.Lists.{edit_at}
-use Rattle.hp_model.specs.Plan.{Choice, Outcome, Refused, Answered, Plan, Finish, Slot, and_then, continued, grant, Reply, unless, with_value}
+use Rattle.hp_model.specs.Plan.{Choice, Outcome, Answered, Plan, Finish, Slot, and_then, grant, Reply, unless, with_value}
 use Rattle.hp_model.specs.declared.refusal.Refusal.{Refusal}
 use Rattle.hp_model.specs.declared.refusal.Refusal.TheVariants.{NoSuchFile, NoSuchMap}
-use Rattle.hp_model.specs.Promises.{is_unmounted}
+use Rattle.hp_model.specs.Promises.{is_unmounted, shape_of}
 use Rattle.hp_model.specs.SlotEvent.{has_name, byte_access, bytes_answer, create_tests, file_named, load, map_file, map_tests, store, on_mount, slot_event}
 use Rattle.hp_model.specs.Mapping.{is_map, is_shared}
-use Rattle.hp_model.specs.Spot.{Spot, again, cell_written, file_written, map_written, spot, written}
+use Rattle.hp_model.specs.Spot.{Spot, again, cell_written, file_written, map_written, place_written, spot, written}
 use Rattle.hp_model.specs.Value.{value}
 use Rattle.hp_model.specs.State.{State}
 use Rattle.hp_model.specs.Step.{IsStep}
-use Rattle.hp_laws.proofs.Accessed.{bytes_on, file_put, key_edit}
-use Rattle.hp_laws.proofs.Keys.{file_key, is_key, key_places, keys, map_key, number_places, places}
+use Rattle.hp_model.proofs.Editing.{length-edit_at}
+use Rattle.hp_laws.proofs.Accessed.{bytes_on, file_put, key_edit, pages_same}
+use Rattle.hp_laws.proofs.Keys.{file_key, is_key, key_places, keys, number_places, places}
 use Rattle.hp_laws.proofs.Made.{number_is_new}
 use Rattle.hp_laws.proofs.Placed.{KeysLead, Placed, lead_added, lead_more, lead_same, placed}
 use Rattle.hp_laws.proofs.Places.{found_place}
 use Rattle.hp_laws.proofs.Lifted.{EndsBy, KeepsBut, ends_on, ends_open, ends_unless, is_built, is_umount, step_by}
 use Rattle.hp_laws.proofs.MountMoves.{IsSpot, spot_is}
 use Rattle.hp_laws.proofs.Outcomes.{Always, always_then, always_weaker}
-use Rattle.hp_laws.proofs.Shown.{On, on_weaker}
+use Rattle.hp_laws.proofs.Shown.{On, on_follows, on_weaker}
 use Rattle.hp_laws.proofs.SlotShows.{always_grant, always_unless, always_value}
 
 -- ---- keys of longer lists
@@ -59,8 +60,8 @@ module _ (m : Mount) where
   placed_new f = placed m (with_new m f) (subst (λ ks. KeysLead (keys m) ks) (sym (keys_more file_key m.files f)) (lead_more (keys m) (file_key f ∷ [])))
 
   -- the number of a new map is no map's yet
-  no_key : (task : ℕ) (t u : ℕ) → is_key t u (task, next_number task m) ≡ true → key_places (is_key t u) (keys m) ≡ None
-  no_key task t u e =
+  no_key : (task a n : ℕ) (sharing : Sharing) (reserving : Reserving) (t u : ℕ) → is_key t u (shape_of (new_map task (next_number task m) a n sharing reserving)) ≡ true → key_places (is_key t u) (keys m) ≡ None
+  no_key task a n sharing reserving t u e =
       let parts = and_parts (task == t) (next_number task m == u) e in
       subst (λ (x : ℕ). key_places (is_key x u) (keys m) ≡ None) (eqb-true task t parts.0)
       (subst (λ (x : ℕ). key_places (is_key task x) (keys m) ≡ None) (eqb-true (next_number task m) u parts.1)
@@ -72,28 +73,24 @@ module _ (m : Mount) where
       let number = next_number task m in
       let g = mapped task number a n sharing reserving f.1 in
       let at = found_place (has_name name) m.files f is in
-      let key : file_key g ≡ ((file_key f.1).0, (file_key f.1).1 ++ (task, number) ∷ []) = ap (λ ks. (f.1.name, ks)) (keys_more map_key f.1.maps (new_map task number a n sharing reserving)) in
+      let key : file_key g ≡ ((file_key f.1).0, (file_key f.1).1 ++ shape_of (new_map task number a n sharing reserving) ∷ []) = ap (λ ks. (f.1.name, ks)) (keys_more shape_of f.1.maps (new_map task number a n sharing reserving)) in
       placed m (with_file m f.0 g)
       (subst (λ ks. KeysLead (keys m) ks) (sym (keys_set file_key m.files f.0 g ∙ ap (slice_set (keys m) f.0) key))
-      (lead_added (keys m) f.0 (file_key f.1) (task, number) (λ d. key_at file_key m.files f.0 f.1 d at.within ∙ ap file_key (at.is f.1)) (no_key task)))
+      (lead_added (keys m) f.0 (file_key f.1) (shape_of (new_map task number a n sharing reserving)) (λ d. key_at file_key m.files f.0 f.1 d at.within ∙ ap file_key (at.is f.1)) (no_key task a n sharing reserving)))
 
 -- what a store writes leaves names and numbers
 written_key : (s : Spot) (i offset : ℕ) (bytes : List ℕ) (f : File) → file_key (file_written s i offset bytes f) ≡ file_key f
 written_key s i offset bytes f =
     cond_both (is_shared s.map.sharing) (record f { cells = edit_at (cell_written offset bytes) f.cells i }) (record f { maps = edit_at (map_written i offset bytes) f.maps s.map_no }) (λ (y : File). file_key y ≡ file_key f)
-    (λ e. refl) (λ e. ap (λ ks. (f.name, ks)) (key_edit map_key (map_written i offset bytes) (λ x. refl) f.maps s.map_no))
+    (λ e. refl) (λ e. ap (λ ks. (f.name, ks)) (key_edit shape_of (map_written i offset bytes)
+    (λ x. pages_same x x.unmapped (map_written i offset bytes x).places (length-edit_at (place_written offset bytes) x.places (i - x.start))) f.maps s.map_no))
 
 module _ (c : Choice) (m : Mount) where
   abbrev Stays : Mount → Type 0
   Stays n = keys n ≡ keys m
 
   then_on : (f : Mount → Outcome) (p : Plan) → ((n : Mount) → Stays n → On Stays (f n)) → Always (On Stays) p → Always (On Stays) (and_then f p)
-  then_on f p h all = always_then (On Stays) (On Stays) f follows p all
-    where
-      follows : (o : Outcome) → On Stays o → On Stays (continued f o)
-      follows (Refused r) on = tt
-      follows (Answered a None) on = on
-      follows (Answered a (Some n)) on = h n on
+  then_on f p h all = always_then (On Stays) (On Stays) f (on_follows Stays Stays f h) p all
 
   found_on : (task number : ℕ) (f : Spot → Plan) → ((s : Spot) → IsSpot m s → Always (On Stays) (f s)) → Always (On Stays) (with_value (spot m (is_map task number)) NoSuchMap f)
   found_on task number f h = always_value (On Stays) (λ r. tt) (spot m (is_map task number)) NoSuchMap f (λ s is. h s (spot_is m (is_map task number) s is))

@@ -1,8 +1,7 @@
 -- How the counts of a mount change with one of its files.
-use Rattle.std.proofs.Common.{◌≡◌, ◌==◌, subst, ℕ, zero, suc, ◌+◌, ◌<◌, ◌≤◌, Bool, true, false, Option, None, Some, List, [], ◌∷◌, length, map, refl, sym, ap, ◌∙◌, cond, arith}
-use Rattle.std.specs.List.{list_any, slice_index_or, All}
+use Rattle.std.proofs.Common.{◌≡◌, ◌==◌, subst, ℕ, ◌+◌, ◌<◌, ◌≤◌, Bool, true, false, Option, None, Some, List, [], ◌∷◌, length, map, refl, sym, ap, ◌∙◌, cond, arith}
+use Rattle.std.specs.List.{list_any, slice_index_or}
 use Rattle.std.specs.Option.{option_map}
-use Rattle.std.proofs.lemmas.List.Elements.{All-set, All-cons, All-head, All-tail, All-push, All-map, All-weaker, All-filter}
 use Rattle.std.proofs.lemmas.List.Sums.{sum_by-set, sum_by-append, sum_by-cons}
 use Rattle.hp_model.specs.File.{with_file, new_file, File, Mount}
 use Rattle.hp_model.specs.GiveBack.{swept, is_kept}
@@ -10,10 +9,9 @@ use Rattle.hp_model.specs.Lists.{edit_at, found}
 use Rattle.hp_model.specs.MakeMap.{with_new}
 use Rattle.hp_model.specs.Mapping.{Map}
 use Rattle.hp_model.specs.MountCounts.{file_pages, file_reserves, file_pages_at, pages_of, usage_of, pages_at}
-use Rattle.hp_model.specs.Sound.{IsAgreed}
 use Rattle.hp_model.specs.Spot.{Spot, spot, spot_in}
 use Rattle.hp_laws.proofs.Falls.{FileFalls}
-use Rattle.hp_laws.proofs.FileMoves.{FileGrows, IsMapAt, agreed_within}
+use Rattle.hp_laws.proofs.FileMoves.{FileGrows, IsMapAt}
 use Rattle.hp_laws.proofs.Places.{found_place, sum_by-edit_at, sum_by-map_le, sum_by-filter_le}
 
 -- k pages more at the node, and the usage u more
@@ -22,17 +20,13 @@ pub record MountGrows (m n : Mount) (node k u : ℕ) : Type 0 where
   pub usage : usage_of n ≡ usage_of m + u
   pub each : (x : ℕ) → pages_at x n ≡ pages_at x m + cond (node == x) k 0
   pub limits : n.limits ≡ m.limits
-  pub sound : All IsAgreed n.files
 
 pub record IsFileAt (m : Mount) (at_no : ℕ) (f : File) : Type 0 where
   pub within : at_no < length m.files
   pub is : (d : File) → slice_index_or m.files at_no d ≡ f
 
-pub agreed_at : (m : Mount) (at_no : ℕ) (f : File) → IsFileAt m at_no f → All IsAgreed m.files → IsAgreed f
-agreed_at m at_no f at sound = subst (λ (x : File). IsAgreed x) (at.is f) (sound at_no f at.within)
-
-pub file_grows : (m : Mount) (at_no : ℕ) (f g : File) (node k u : ℕ) → IsFileAt m at_no f → All IsAgreed m.files → FileGrows f g node k u → MountGrows m (with_file m at_no g) node k u
-file_grows m at_no f g node k u at sound grows =
+pub file_grows : (m : Mount) (at_no : ℕ) (f g : File) (node k u : ℕ) → IsFileAt m at_no f → FileGrows f g node k u → MountGrows m (with_file m at_no g) node k u
+file_grows m at_no f g node k u at grows =
     let pages = sum_by-set file_pages m.files at_no g f at.within in
     let reserves = sum_by-set file_reserves m.files at_no g f at.within in
     let was = ap file_pages (at.is f) in
@@ -42,12 +36,11 @@ file_grows m at_no f g node k u at sound grows =
       usage = omega (arith, pages, was, reserves, had, grows.usage);
       each = λ x. omega (arith, sum_by-set (file_pages_at x) m.files at_no g f at.within, ap (file_pages_at x) (at.is f), grows.each x);
       limits = refl;
-      sound = All-set IsAgreed m.files at_no g (grows.agreed (agreed_at m at_no f at sound)) sound;
     }
 
 -- a file more, by what it has above an empty one
-pub new_grows : (m : Mount) (name : Option (List ℕ)) (g : File) (u : ℕ) → All IsAgreed m.files → FileGrows (new_file name) g 0 0 u → MountGrows m (with_new m g) 0 0 u
-new_grows m name g u sound grows =
+pub new_grows : (m : Mount) (name : Option (List ℕ)) (g : File) (u : ℕ) → FileGrows (new_file name) g 0 0 u → MountGrows m (with_new m g) 0 0 u
+new_grows m name g u grows =
     let pages = sum_by-append file_pages m.files (g ∷ []) in
     let reserves = sum_by-append file_reserves m.files (g ∷ []) in
     let one = sum_by-cons file_pages g [] in
@@ -57,21 +50,15 @@ new_grows m name g u sound grows =
       usage = omega (arith, pages, reserves, one, two, grows.pages, grows.usage);
       each = λ x. omega (arith, sum_by-append (file_pages_at x) m.files (g ∷ []), sum_by-cons (file_pages_at x) g [], grows.each x);
       limits = refl;
-      sound = All-push IsAgreed m.files g sound (grows.agreed (λ q a b h. cc));
     }
-
-All-edit_at : {X : Type 0} (P : X → Type 0) (f : X → X) → ((x : X) → P x → P (f x)) → (xs : List X) (i : ℕ) → All P xs → All P (edit_at f xs i)
-All-edit_at P f h [] i all = all
-All-edit_at P f h (x ∷ xs) zero all = All-cons P (f x) xs (h x (All-head P x xs all)) (All-tail P x xs all)
-All-edit_at P f h (x ∷ xs) (suc i) all = All-cons P x (edit_at f xs i) (All-head P x xs all) (All-edit_at P f h xs i (All-tail P x xs all))
 
 pub nothing_more : (b : Bool) (n : ℕ) → n ≡ n + cond b 0 0
 nothing_more true n = omega arith
 nothing_more false n = omega arith
 
 -- a change of one file that no count sees
-pub edit_grows : (m : Mount) (at_no : ℕ) (h : File → File) → All IsAgreed m.files → ((f : File) → FileGrows f (h f) 0 0 0) → MountGrows m (record m { files = edit_at h m.files at_no }) 0 0 0
-edit_grows m at_no h sound same =
+pub edit_grows : (m : Mount) (at_no : ℕ) (h : File → File) → ((f : File) → FileGrows f (h f) 0 0 0) → MountGrows m (record m { files = edit_at h m.files at_no }) 0 0 0
+edit_grows m at_no h same =
     let pages = sum_by-edit_at file_pages h (λ f. (let s = (same f).pages in omega (arith, s))) m.files at_no in
     let reserves = sum_by-edit_at file_reserves h (λ f. (let s = (same f).pages in let t = (same f).usage in omega (arith, s, t))) m.files at_no in
     record {
@@ -79,7 +66,6 @@ edit_grows m at_no h sound same =
       usage = omega (arith, pages, reserves);
       each = λ x. sum_by-edit_at (file_pages_at x) h (λ f. (same f).each x ∙ sym (nothing_more (0 == x) (file_pages_at x f))) m.files at_no ∙ nothing_more (0 == x) (pages_at x m);
       limits = refl;
-      sound = All-edit_at IsAgreed h (λ f. (same f).agreed) m.files at_no sound;
     }
 
 -- ---- what only gives back
@@ -88,10 +74,9 @@ pub record MountFalls (m n : Mount) : Type 0 where
   pub usage : usage_of n ≤ usage_of m
   pub each : (x : ℕ) → pages_at x n ≤ pages_at x m
   pub limits : n.limits ≡ m.limits
-  pub sound : All IsAgreed n.files
 
-pub file_sweeps : (m : Mount) (at_no : ℕ) (f g : File) → IsFileAt m at_no f → All IsAgreed m.files → FileFalls f g → MountFalls m (swept (with_file m at_no g))
-file_sweeps m at_no f g at sound falls =
+pub file_sweeps : (m : Mount) (at_no : ℕ) (f g : File) → IsFileAt m at_no f → FileFalls f g → MountFalls m (swept (with_file m at_no g))
+file_sweeps m at_no f g at falls =
     let next : Mount = with_file m at_no g in
     let pages = sum_by-set file_pages m.files at_no g f at.within in
     let reserves = sum_by-set file_reserves m.files at_no g f at.within in
@@ -101,11 +86,10 @@ file_sweeps m at_no f g at sound falls =
       usage = omega (arith, pages, was, reserves, had, falls.pages, falls.reserves, sum_by-filter_le file_pages is_kept next.files, sum_by-filter_le file_reserves is_kept next.files);
       each = λ x. omega (arith, sum_by-set (file_pages_at x) m.files at_no g f at.within, ap (file_pages_at x) (at.is f), falls.each x, sum_by-filter_le (file_pages_at x) is_kept next.files);
       limits = refl;
-      sound = All-filter is_kept IsAgreed next.files (All-set IsAgreed m.files at_no g (agreed_within f g falls.has (agreed_at m at_no f at sound)) sound);
     }
 
-pub files_sweep : (m : Mount) (h : File → File) → All IsAgreed m.files → ((f : File) → FileFalls f (h f)) → MountFalls m (swept (record m { files = map h m.files }))
-files_sweep m h sound falls =
+pub files_sweep : (m : Mount) (h : File → File) → ((f : File) → FileFalls f (h f)) → MountFalls m (swept (record m { files = map h m.files }))
+files_sweep m h falls =
     let next : List File = map h m.files in
     let pages = sum_by-map_le file_pages h (λ f. (falls f).pages) m.files in
     let reserves = sum_by-map_le file_reserves h (λ f. (falls f).reserves) m.files in
@@ -113,7 +97,6 @@ files_sweep m h sound falls =
       usage = omega (arith, pages, reserves, sum_by-filter_le file_pages is_kept next, sum_by-filter_le file_reserves is_kept next);
       each = λ x. omega (arith, sum_by-map_le (file_pages_at x) h (λ f. (falls f).each x) m.files, sum_by-filter_le (file_pages_at x) is_kept next);
       limits = refl;
-      sound = All-filter is_kept IsAgreed next (All-map IsAgreed h m.files (All-weaker IsAgreed (λ f. IsAgreed (h f)) (λ f agreed. agreed_within f (h f) (falls f).has agreed) m.files sound));
     }
 
 -- ---- where a map is found

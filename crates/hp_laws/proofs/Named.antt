@@ -1,21 +1,21 @@
 -- What is shown by place is shown by name and number, where these stay in place.
-use Rattle.std.proofs.Common.{◌≡◌, ⊎_elim, inl, inr, ◌⊎◌, subst, ℕ, true, false, None, Some, Ok, List, refl, sym, ap, ◌∙◌}
+use Rattle.std.proofs.Common.{◌≡◌, ⊎_elim, inl, inr, ◌⊎◌, subst, ℕ, true, false, Option, None, Some, Ok, List, refl, sym, ap, ◌∙◌}
 use Rattle.hp_model.specs.declared.step.Step.{Step}
-use Rattle.hp_model.specs.declared.step.Step.TheVariants.{Exit, Fault, Fork, Store, Unlink, Unmap}
-use Rattle.hp_model.specs.declared.step.Intent.TheVariants.{Write}
+use Rattle.hp_model.specs.declared.step.Step.TheVariants.{Exit, Fork, Store, Unlink, Unmap}
 use Rattle.hp_model.specs.File.{File, cell_at, new_file}
 use Rattle.hp_model.specs.Mapping.{Map, is_map}
 use Rattle.hp_model.specs.Plan.{Reply, Slot}
-use Rattle.hp_model.specs.Promises.{IsLostTo, LosesCopy, LosesTo, StillMapped, StillNamed, is_ended_name, is_ended_number, is_unmounted, map_at, map_in, map_named, map_on, named_on, no_map, seen_in, seen_on, seen_over, shown_in, shown_on, spot_on, stored_over}
+use Rattle.hp_model.specs.Promises.{IsLost, IsLostTo, LosesTo, StillMapped, StillNamed, is_ended_name, is_ended_number, is_unmounted, map_at, map_in, map_named, map_on, named_on, no_map, seen_in, seen_on, seen_over, shown_in, shown_on, spot_on, stored_over}
 use Rattle.hp_model.specs.SlotEvent.{has_name}
 use Rattle.hp_model.specs.Spot.{Spot}
 use Rattle.hp_model.specs.State.{State, slot_at}
 use Rattle.hp_model.specs.Value.{shown, value}
-use Rattle.hp_laws.proofs.Keys.{places}
+use Rattle.hp_laws.proofs.Keys.{Where, places}
 use Rattle.hp_laws.proofs.Lifted.{KeepsBut}
 use Rattle.hp_laws.proofs.Meanings.{SlotPlaced}
 use Rattle.hp_laws.proofs.MountMoves.{spot_is}
 use Rattle.hp_laws.proofs.Places.{found_place}
+use Rattle.hp_laws.proofs.Seen.{IsLostAt}
 
 -- ---- one slot
 
@@ -46,21 +46,34 @@ number_stays (Some m) (Some n) task number p stays e = stays.numbers task number
 
 -- ---- a step
 
+-- by places: a map lost its copy to the owner that stored
+abbrev pub LosesAt : State → Step → State → (slot file map i : ℕ) → Type 0
+LosesAt s (Store task slot number i offset bytes) t k file map j =
+    (slot ≡ k) × IsLostAt (map_named s slot task number) (λ o. map_at t k o.file_no o.map_no) i (map_at s k file map) (map_at t k file map) file map j
+LosesAt s step t k file map j = ⊥
+
 module _ (s : State) (step : Step) (reply : Reply) (t : State) (stays : KeepsBut SlotPlaced (is_unmounted step reply) s t) where
   -- what was lost by place was lost by number
-  lost_to : (step : Step) (slot : ℕ) (p q : Spot) (i : ℕ) → map_at s slot p.file_no p.map_no ≡ p.map → map_at t slot p.file_no p.map_no ≡ q.map
-      → LosesCopy s step t slot p.file_no p.map_no i → LosesTo s step slot p q i
-  lost_to (Store task k number x offset bytes) slot p q i old new lost = (
-    lost.0,
-    subst (λ (y : Map). IsLostTo (map_named s k task number) x y q.map p.file_no p.map_no i) old
-        (subst (λ (y : Map). IsLostTo (map_named s k task number) x (map_at s slot p.file_no p.map_no) y p.file_no p.map_no i) new lost.1),
-  )
-  lost_to (Fault task k number x Write) slot p q i old new lost = (
-    lost.0,
-    subst (λ (y : Map). IsLostTo (map_named s k task number) x y q.map p.file_no p.map_no i) old
-        (subst (λ (y : Map). IsLostTo (map_named s k task number) x (map_at s slot p.file_no p.map_no) y p.file_no p.map_no i) new lost.1),
-  )
-  lost_to other slot p q i old new lost = absurd lost
+  lost_to : (step : Step) (slot : ℕ) (p q : Spot) (i : ℕ) → is_unmounted step reply slot ≡ false → KeepsBut SlotPlaced (is_unmounted step reply) s t
+      → map_at s slot p.file_no p.map_no ≡ p.map → map_at t slot p.file_no p.map_no ≡ q.map → LosesAt s step t slot p.file_no p.map_no i → LosesTo s step t slot p q i
+  lost_to (Store task k number x offset bytes) slot p q i there stays old new lost = (lost.0, by_owner (map_named s k task number) refl lost.1)
+    where
+      by_owner : (o : Option Spot) → map_named s k task number ≡ o
+          → IsLostAt o (λ y. map_at t slot y.file_no y.map_no) x (map_at s slot p.file_no p.map_no) (map_at t slot p.file_no p.map_no) p.file_no p.map_no i
+          → IsLostTo (map_named s k task number) (map_named t k task number) x p q i
+      by_owner None named lost = absurd lost
+      by_owner (Some o) named at =
+          let n = number_stays (slot_at s k) (slot_at t k) task number o (stays k (subst (λ y. is_unmounted (Store task k number x offset bytes) reply y ≡ false) (sym lost.0) there)) named in
+          let own : map_at t slot o.file_no o.map_no ≡ n.0.map =
+          ap (λ y. map_at t y o.file_no o.map_no) (sym lost.0) ∙ ap (λ (y : Where). map_at t k y.0 y.1) (sym n.2) ∙ map_shown (slot_at t k) task number n.0 n.1 in
+          subst (λ y. IsLostTo y (map_named t k task number) x p q i) (sym named)
+          (subst (λ y. IsLostTo (Some o) y x p q i) (sym n.1) (
+            at.0,
+            subst (λ y. IsLost o.map n.0.map x y q.map i) old (subst (λ y. IsLost o.map n.0.map x (map_at s slot p.file_no p.map_no) y i) new
+                (subst (λ y. IsLost o.map y x (map_at s slot p.file_no p.map_no) (map_at t slot p.file_no p.map_no) i) own at.1)),
+            at.2,
+          ))
+  lost_to other slot p q i there stays old new lost = absurd lost
 
   -- what ends a mount ends its names and numbers
   open_name : (step : Step) (reply : Reply) (slot : ℕ) (name : List ℕ) → is_ended_name step reply slot name ≡ false → is_unmounted step reply slot ≡ false
@@ -85,23 +98,24 @@ module _ (s : State) (step : Step) (reply : Reply) (t : State) (stays : KeepsBut
             ∙ ap (stored_over s step reply slot f.0 i) (file_shown s.page_size (slot_at s slot) name f i e),
       )
 
-  pub maps_by_number : ((k j l i : ℕ) → is_unmounted step reply k ≡ false → (seen_in t k j l i ≡ seen_over s step reply k j l i (seen_in s k j l i)) ⊎ LosesCopy s step t k j l i)
+  pub maps_by_number : ((k j l i : ℕ) → is_unmounted step reply k ≡ false → (seen_in t k j l i ≡ seen_over s step reply k j l i (seen_in s k j l i)) ⊎ LosesAt s step t k j l i)
       → ((k j l : ℕ) → (map_at s k j l).unmapped ≡ true → (map_at t k j l).unmapped ≡ true)
       → (slot task number i : ℕ) (p : Spot) → is_ended_number s step reply slot task number ≡ false → map_named s slot task number ≡ Some p
-      → (q : Spot) × (map_named t slot task number ≡ Some q) × StillMapped s step reply t.page_size slot p q i
+      → (q : Spot) × (map_named t slot task number ≡ Some q) × StillMapped s step reply t slot p q i
   maps_by_number maps marks slot task number i p goes_on e =
       let there = open_number step reply slot task number goes_on in
       let n = number_stays (slot_at s slot) (slot_at t slot) task number p (stays slot there) e in
       let q = n.0 in
       let old : map_at s slot p.file_no p.map_no ≡ p.map = map_shown (slot_at s slot) task number p e in
-      let new : map_at t slot p.file_no p.map_no ≡ q.map = ap (λ (x : ℕ × ℕ). map_at t slot x.0 x.1) (sym n.2) ∙ map_shown (slot_at t slot) task number q n.1 in
+      let new : map_at t slot p.file_no p.map_no ≡ q.map = ap (λ (x : Where). map_at t slot x.0 x.1) (sym n.2) ∙ map_shown (slot_at t slot) task number q n.1 in
       let shows : value t.page_size q.file q.map i ≡ seen_in t slot p.file_no p.map_no i =
-      sym (seen_shown t.page_size (slot_at t slot) task number q i n.1) ∙ ap (λ (x : ℕ × ℕ). seen_in t slot x.0 x.1 i) n.2 in (
+      sym (seen_shown t.page_size (slot_at t slot) task number q i n.1) ∙ ap (λ (x : Where). seen_in t slot x.0 x.1 i) n.2 in (
         q,
         n.1,
-        (
-          ⊎_elim (λ same. inl (shows ∙ same ∙ ap (seen_over s step reply slot p.file_no p.map_no i) (seen_shown s.page_size (slot_at s slot) task number p i e)))
-              (λ lost. inr (lost_to step slot p q i old new lost)) (maps slot p.file_no p.map_no i there),
-          λ marked. ap (λ (x : Map). x.unmapped) (sym new) ∙ marks slot p.file_no p.map_no (ap (λ (x : Map). x.unmapped) old ∙ marked),
-        ),
+        record {
+          shape = ap (λ (x : Where). x.2) n.2;
+          marked = λ marked. ap (λ (x : Map). x.unmapped) (sym new) ∙ marks slot p.file_no p.map_no (ap (λ (x : Map). x.unmapped) old ∙ marked);
+          shows = ⊎_elim (λ same. inl (shows ∙ same ∙ ap (seen_over s step reply slot p.file_no p.map_no i) (seen_shown s.page_size (slot_at s slot) task number p i e)))
+              (λ lost. inr (lost_to step slot p q i there stays old new lost)) (maps slot p.file_no p.map_no i there);
+        },
       )

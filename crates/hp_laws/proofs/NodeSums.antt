@@ -9,11 +9,12 @@ use Rattle.hp_model.specs.Lists.{distinct, is_among}
 use Rattle.hp_model.specs.MountCounts.{copies_of, stamp_at, file_pages, file_pages_at, is_page_at}
 use Rattle.hp_model.specs.Page.{Page, Copy}
 use Rattle.hp_model.specs.Plan.{slot_pages, Slot, slot_pages_at, slot_committed}
-use Rattle.hp_model.specs.Sound.{IsAgreed, IsSound}
 use Rattle.hp_model.specs.declared.cell.Cell.{Cell}
 use Rattle.hp_model.specs.declared.cell.Cell.TheVariants.{Hole, Entered, Present}
 use Rattle.hp_model.proofs.Distinct.{length_if}
-use Rattle.hp_laws.proofs.Holding.{stamps_at_are}
+use Rattle.hp_model.specs.Sound.{IsSound, IsSoundFile}
+use Rattle.hp_laws.proofs.Copies.{agreed_file}
+use Rattle.hp_laws.proofs.Holding.{IsAgreed, stamps_at_are}
 
 -- ---- sums over nodes
 
@@ -126,7 +127,8 @@ file_below ns once f agreed =
 
 pub slot_below : (ns : List ℕ) → ((node : ℕ) → count_by (λ n. node == n) ns ≤ 1) → (s : Slot) → IsSound s → sum_by (λ n. slot_pages_at n s) ns ≤ slot_pages s
 slot_below ns once None sound = omega (arith, sum_none ns)
-slot_below ns once (Some m) sound = swap_le IsAgreed file_pages_at file_pages ns (file_below ns once) m.files sound
+slot_below ns once (Some m) sound =
+    swap_le IsSoundFile file_pages_at file_pages ns (λ f good. file_below ns once f (agreed_file f good)) m.files sound.files
 
 pub pages-le-committed : (s : Slot) → slot_pages s ≤ slot_committed s
 pages-le-committed None = omega arith

@@ -8,13 +8,13 @@ use Rattle.hp_model.specs.declared.event.Event.TheVariants.{Slot as OnSlot}
 use Rattle.hp_model.specs.declared.event.SlotEvent.{SlotEvent}
 use Rattle.hp_model.specs.declared.refusal.Refusal.{Refusal}
 use Rattle.hp_model.specs.declared.refusal.Refusal.TheVariants.{NoSuchTask, NoSuchSlot}
+pub use Rattle.hp_laws.specs.Balance.{Always}
 use Rattle.hp_laws.specs.Balance.{left_by}
 use Rattle.hp_model.specs.Event.{IsEvent, planned, settled, with_table}
 use Rattle.hp_model.specs.File.{Mount}
 use Rattle.hp_model.specs.Machine.{pool_of, with_pool}
 use Rattle.hp_model.specs.Plan.{Reply, Outcome, Refused, Answered, Plan, Finish, Ask, Choice, refuse, continued, and_then}
 use Rattle.hp_model.specs.Pool.{section}
-use Rattle.hp_model.specs.declared.section.PoolAnswer.{PoolAnswer}
 use Rattle.hp_model.specs.SlotEvent.{slot_event}
 use Rattle.hp_model.specs.State.{State, slot_at}
 use Rattle.hp_model.specs.Step.{Script, Answer_with, only, finding, home_in, on_slot, IsScript}
@@ -22,11 +22,6 @@ use Rattle.hp_model.specs.Table.{home_of, when_known}
 use Rattle.hp_laws.proofs.Tied.{settled_is}
 
 -- ---- outcomes
-
--- whatever the pool answers, P holds of the outcome
-abbrev pub Always : (Outcome → Type 0) → Plan → Type 0
-Always P (Finish o) = P o
-Always P (Ask sec f) = (a : PoolAnswer) → P (f a)
 
 pub always_if : (P : Outcome → Type 0) (b : Bool) (p q : Plan) → (b ≡ true → Always P p) → (b ≡ false → Always P q) → Always P (if b then p else q)
 always_if P b p q h k = cond_both b p q (Always P) h k

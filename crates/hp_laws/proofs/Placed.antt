@@ -5,9 +5,10 @@ use Rattle.std.proofs.lemmas.Bool.{cases_eq, eq-eqb, eqb-true, false_from_ne_tru
 use Rattle.hp_model.specs.File.{File, Mount}
 use Rattle.hp_model.specs.Lists.{found, one_on}
 use Rattle.hp_model.specs.Mapping.{is_map}
+use Rattle.hp_model.specs.Promises.{Shape}
 use Rattle.hp_model.specs.SlotEvent.{file_named}
 use Rattle.hp_model.specs.Spot.{Spot, spot}
-use Rattle.hp_laws.proofs.Keys.{FileKey, file_key, has_key, in_key, is_key, is_named, key_places, keyed, keys, name_place, number_places, places}
+use Rattle.hp_laws.proofs.Keys.{FileKey, Where, file_key, has_key, in_key, is_key, is_named, key_places, keyed, keys, name_place, number_places, places}
 use Rattle.hp_laws.proofs.Made.{any_append}
 use Rattle.hp_laws.proofs.Places.{found_place}
 
@@ -16,7 +17,7 @@ use Rattle.hp_laws.proofs.Places.{found_place}
 -- each name and number that is found in the first is found in the second, at the same place
 pub record KeysLead (ks ls : List FileKey) : Type 0 where
   pub names : (name : List ℕ) (k : ℕ × FileKey) → found (is_named name) ks ≡ Some k → (l : ℕ × FileKey) × (found (is_named name) ls ≡ Some l) × (l.0 ≡ k.0)
-  pub numbers : (task number : ℕ) (x : ℕ × ℕ) → key_places (is_key task number) ks ≡ Some x → key_places (is_key task number) ls ≡ Some x
+  pub numbers : (task number : ℕ) (x : Where) → key_places (is_key task number) ks ≡ Some x → key_places (is_key task number) ls ≡ Some x
 
 pub lead_same : (ks ls : List FileKey) → ls ≡ ks → KeysLead ks ls
 lead_same ks ls same =
@@ -38,7 +39,7 @@ pub lead_more : (ks more : List FileKey) → KeysLead ks (ks ++ more)
 lead_more ks more =
     record { names = λ name k e. (k, found_more (is_named name) ks more k e, refl); numbers = λ task number x e. numbers (is_key task number) x (found (has_key (is_key task number)) ks) refl e }
   where
-    numbers : (t : ℕ × ℕ → Bool) (x : ℕ × ℕ) (o : Option (ℕ × FileKey)) → found (has_key t) ks ≡ o → in_key t o ≡ Some x → key_places t (ks ++ more) ≡ Some x
+    numbers : (t : Shape → Bool) (x : Where) (o : Option (ℕ × FileKey)) → found (has_key t) ks ≡ o → in_key t o ≡ Some x → key_places t (ks ++ more) ≡ Some x
     numbers t x None was e = cc
     numbers t x (Some k) was e = ap (in_key t) (found_more (has_key t) ks more k was) ∙ e
 
@@ -86,28 +87,28 @@ found_set {X = X} t (x ∷ xs) (suc j) y same = by_head (t x) (found t xs) (foun
 
 -- ---- a file gets one map more, of a key that is not there yet
 
-module _ (ks : List FileKey) (j : ℕ) (k : FileKey) (new : ℕ × ℕ) (there : (d : FileKey) → get_or ks j d ≡ k)
+module _ (ks : List FileKey) (j : ℕ) (k : FileKey) (new : Shape) (there : (d : FileKey) → get_or ks j d ≡ k)
     (fresh : (task number : ℕ) → is_key task number new ≡ true → key_places (is_key task number) ks ≡ None) where
   abbrev with_new : FileKey
   with_new = (k.0, k.1 ++ new ∷ [])
 
-  still_has : (t : ℕ × ℕ → Bool) → t new ≡ false → has_key t with_new ≡ has_key t k
+  still_has : (t : Shape → Bool) → t new ≡ false → has_key t with_new ≡ has_key t k
   still_has t unlike = any_append t k.1 (new ∷ []) ∙ rw unlike (or_none (has_key t k))
     where
       or_none : (b : Bool) → (b || (false || false)) ≡ b
       or_none true = refl
       or_none false = refl
 
-  in_more : (t : ℕ × ℕ → Bool) (q : ℕ × FileKey) (x : ℕ × ℕ) (b : Bool) → (b ≡ true → q.1 ≡ k) → in_key t (Some q) ≡ Some x → in_key t (Some (q.0, if b then with_new else q.1)) ≡ Some x
+  in_more : (t : Shape → Bool) (q : ℕ × FileKey) (x : Where) (b : Bool) → (b ≡ true → q.1 ≡ k) → in_key t (Some q) ≡ Some x → in_key t (Some (q.0, if b then with_new else q.1)) ≡ Some x
   in_more t q x false is e = e
   in_more t q x true is e =
       by_place (found t q.1.1) refl e
     where
-      by_place : (o : Option (ℕ × (ℕ × ℕ))) → found t q.1.1 ≡ o → option_map (λ (p : ℕ × (ℕ × ℕ)). (q.0, p.0)) o ≡ Some x
-          → option_map (λ (p : ℕ × (ℕ × ℕ)). (q.0, p.0)) (found t (k.1 ++ new ∷ [])) ≡ Some x
+      by_place : (o : Option (ℕ × Shape)) → found t q.1.1 ≡ o → option_map (λ (p : ℕ × Shape). (q.0, p.0, p.1)) o ≡ Some x
+          → option_map (λ (p : ℕ × Shape). (q.0, p.0, p.1)) (found t (k.1 ++ new ∷ [])) ≡ Some x
       by_place None was e = cc
       by_place (Some p) was e =
-          ap (option_map (λ (p : ℕ × (ℕ × ℕ)). (q.0, p.0))) (found_more t k.1 (new ∷ []) p (ap (λ (f : FileKey). found t f.1) (sym (is refl)) ∙ was)) ∙ e
+          ap (option_map (λ (p : ℕ × Shape). (q.0, p.0, p.1))) (found_more t k.1 (new ∷ []) p (ap (λ (f : FileKey). found t f.1) (sym (is refl)) ∙ was)) ∙ e
 
   pub lead_added : KeysLead ks (slice_set ks j with_new)
   lead_added = record { names = names; numbers = λ task number x e. numbers task number x (is_key task number new) refl e }
@@ -115,7 +116,7 @@ module _ (ks : List FileKey) (j : ℕ) (k : FileKey) (new : ℕ × ℕ) (there :
       names : (name : List ℕ) (q : ℕ × FileKey) → found (is_named name) ks ≡ Some q → (l : ℕ × FileKey) × (found (is_named name) (slice_set ks j with_new) ≡ Some l) × (l.0 ≡ q.0)
       names name q e = (put_at j with_new q, found_set (is_named name) ks j with_new (ap (is_named name) (sym (ap (λ (f : FileKey). (f.0, k.1 ++ new ∷ [])) (there with_new)))) ∙ ap (option_map (put_at j with_new)) e, refl)
 
-      numbers : (task number : ℕ) (x : ℕ × ℕ) (b : Bool) → is_key task number new ≡ b → key_places (is_key task number) ks ≡ Some x → key_places (is_key task number) (slice_set ks j with_new) ≡ Some x
+      numbers : (task number : ℕ) (x : Where) (b : Bool) → is_key task number new ≡ b → key_places (is_key task number) ks ≡ Some x → key_places (is_key task number) (slice_set ks j with_new) ≡ Some x
       numbers task number x true is e = (let none = fresh task number is in cc)
       numbers task number x false is e = by_file (found (has_key (is_key task number)) ks) refl e
         where
@@ -147,5 +148,5 @@ placed m n lead =
           (there.0, there.1, there.2 ∙ found.2));
       numbers = λ task number p e.
           (let at = lead.numbers task number (places p) (sym (number_places m task number) ∙ ap (option_map places) e) in
-          unkeyed places (λ (x : ℕ × ℕ). x) places (λ q. refl) (spot n (is_map task number)) (places p) (number_places n task number ∙ at));
+          unkeyed places (λ (x : Where). x) places (λ q. refl) (spot n (is_map task number)) (places p) (number_places n task number ∙ at));
     }

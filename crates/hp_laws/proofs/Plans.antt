@@ -1,6 +1,6 @@
 -- How each way of making a plan balances.
 use Rattle.std.proofs.Common.{◌≡◌, ⊎_elim, inl, inr, ap, ◌∙◌, ℕ, zero, suc, ◌+◌, ◌-◌, ◌<◌, ◌≤◌, Bool, true, false, ◌&&◌, ◌==◌, Option, None, Some, List, [], ◌∷◌, refl, cond, arith, if◌then◌else◌}
-use Rattle.std.specs.List.{sum, slice_index_or, All}
+use Rattle.std.specs.List.{sum, slice_index_or}
 use Rattle.std.proofs.lemmas.Bool.{cond_both, and_parts, eqb-true}
 use Rattle.std.proofs.lemmas.Bool.Decides.{nat_tests}
 use Rattle.std.specs.Prelude.{nat_lt}
@@ -16,24 +16,23 @@ use Rattle.hp_model.specs.Grant.{rise, is_full, is_over}
 use Rattle.hp_model.specs.MountCounts.{pages_at, usage_of}
 use Rattle.hp_model.specs.Plan.{Slot, Outcome, Refused, Answered, Plan, Finish, Ask, Choice, refuse, unless, with_value, continued, and_then, grant, grant_page, reserved_page, when_granted, may_lack_room, slot_committed, slot_pages_at, puts_of, fall_of, gives}
 use Rattle.hp_model.specs.declared.section.Section.TheVariants.{Grant, GiveBack}
-use Rattle.hp_model.specs.Sound.{IsSound, IsAgreed}
 use Rattle.hp_model.specs.declared.limits.Limits.{Limits}
 use Rattle.hp_laws.proofs.MountMoves.{MountGrows, MountFalls}
 
-pub stays : (old : Slot) → IsSound old → Stays old old
-stays old sound = record { committed = refl; pages = λ n l. refl; covered = λ e. cc; far = λ n. omega arith; limited = inl (omega arith); sound = sound }
+pub stays : (old : Slot) → Stays old old
+stays old = record { committed = refl; pages = λ n l. refl; covered = λ e. cc; far = λ n. omega arith; limited = inl (omega arith) }
 
-pub balanced_unless : (old : Slot) (ts : List (Bool × Refusal)) (p : Plan) → IsSound old → IsBalanced old p → IsBalanced old (unless ts p)
-balanced_unless old [] p sound h = h
-balanced_unless old (t ∷ ts) p sound h = cond_both t.0 (refuse t.1) (unless ts p) (IsBalanced old) (λ e. stays old sound) (λ e. balanced_unless old ts p sound h)
+pub balanced_unless : (old : Slot) (ts : List (Bool × Refusal)) (p : Plan) → IsBalanced old p → IsBalanced old (unless ts p)
+balanced_unless old [] p h = h
+balanced_unless old (t ∷ ts) p h = cond_both t.0 (refuse t.1) (unless ts p) (IsBalanced old) (λ e. stays old) (λ e. balanced_unless old ts p h)
 
-pub balanced_value : {X : Type 0} (old : Slot) (o : Option X) (r : Refusal) (f : X → Plan) → IsSound old → ((x : X) → o ≡ Some x → IsBalanced old (f x)) → IsBalanced old (with_value o r f)
-balanced_value old None r f sound h = stays old sound
-balanced_value old (Some x) r f sound h = h x refl
+pub balanced_value : {X : Type 0} (old : Slot) (o : Option X) (r : Refusal) (f : X → Plan) → ((x : X) → o ≡ Some x → IsBalanced old (f x)) → IsBalanced old (with_value o r f)
+balanced_value old None r f h = stays old
+balanced_value old (Some x) r f h = h x refl
 
 -- a test that fails, and then the others
-pub balanced_test : (old : Slot) (b : Bool) (r : Refusal) (ts : List (Bool × Refusal)) (p : Plan) → IsSound old → (b ≡ false → IsBalanced old p) → IsBalanced old (unless ((b, r) ∷ ts) p)
-balanced_test old b r ts p sound h = cond_both b (refuse r) (unless ts p) (IsBalanced old) (λ e. stays old sound) (λ e. balanced_unless old ts p sound (h e))
+pub balanced_test : (old : Slot) (b : Bool) (r : Refusal) (ts : List (Bool × Refusal)) (p : Plan) → (b ≡ false → IsBalanced old p) → IsBalanced old (unless ((b, r) ∷ ts) p)
+balanced_test old b r ts p h = cond_both b (refuse r) (unless ts p) (IsBalanced old) (λ e. stays old) (λ e. balanced_unless old ts p (h e))
 
 -- ---- limits
 
@@ -62,7 +61,6 @@ grown_one m n node room grows = record {
   covered = λ e. omega arith;
   far = λ x. (let each = grows.each x in omega (arith, each));
   limited = limited_by m n 1 grows.usage grows.limits room;
-  sound = grows.sound;
 }
 
 grown_reserved : (m n : Mount) (node : ℕ) → MountGrows m n node 1 0 → Change (Some m) (Some n) 0 0 (λ x. if node == x then 1 else 0) (λ x. 0) true
@@ -72,7 +70,6 @@ grown_reserved m n node grows = record {
   covered = λ e. (let usage = grows.usage in let pages = grows.pages in omega (arith, usage, pages));
   far = λ x. (let each = grows.each x in omega (arith, each));
   limited = inl (let usage = grows.usage in omega (arith, usage));
-  sound = grows.sound;
 }
 
 grown_by : (m n : Mount) (k : ℕ) → is_full m k ≡ false → MountGrows m n 0 0 k → Change (Some m) (Some n) (rise m k) 0 (λ x. 0) (λ x. 0) false
@@ -82,7 +79,6 @@ grown_by m n k room grows = record {
   covered = λ e. cc;
   far = λ x. (let same = none_more (0 == x) (pages_at x n) (pages_at x m) (grows.each x) in omega (arith, same));
   limited = limited_by m n k grows.usage grows.limits room;
-  sound = grows.sound;
 }
 
 pub grown_same : (m n : Mount) → MountGrows m n 0 0 0 → Stays (Some m) (Some n)
@@ -92,7 +88,6 @@ grown_same m n grows = record {
   covered = λ e. cc;
   far = λ x. (let same = none_more (0 == x) (pages_at x n) (pages_at x m) (grows.each x) in omega (arith, same));
   limited = inl (let usage = grows.usage in omega (arith, usage));
-  sound = grows.sound;
 }
 
 -- ---- a page
@@ -103,31 +98,31 @@ pub page_granted : (m : Mount) (n : ℕ → Mount) (o : Outcome) (b : Bool) (nod
 page_granted m n o true node room grows same = grown_one m (n node) node room grows
 page_granted m n o false node room grows same = same
 
-pub balanced_grant_page : (c : Choice) (m : Mount) (home : ℕ) (n : ℕ → Mount) → All IsAgreed m.files → ((node : ℕ) → MountGrows m (n node) node 1 1)
+pub balanced_grant_page : (c : Choice) (m : Mount) (home : ℕ) (n : ℕ → Mount) → ((node : ℕ) → MountGrows m (n node) node 1 1)
     → IsBalanced (Some m) (grant_page c m home (λ node. Answered Done (Some (n node))))
-balanced_grant_page c m home n sound grows =
-    balanced_test (Some m) (is_full m 1) MountFull ((c.refused, OutOfMemory) ∷ []) _ sound
-    (λ room. ((λ a. page_granted m n (Refused NoPages) a.granted a.node room (grows a.node) (stays (Some m) sound)), (λ p. refl)))
+balanced_grant_page c m home n grows =
+    balanced_test (Some m) (is_full m 1) MountFull ((c.refused, OutOfMemory) ∷ []) _
+    (λ room. ((λ a. page_granted m n (Refused NoPages) a.granted a.node room (grows a.node) (stays (Some m))), (λ p. refl)))
 
-pub balanced_reserved_page : (c : Choice) (m : Mount) (home : ℕ) (n : ℕ → Mount) → All IsAgreed m.files → ((node : ℕ) → MountGrows m (n node) node 1 0)
+pub balanced_reserved_page : (c : Choice) (m : Mount) (home : ℕ) (n : ℕ → Mount) → ((node : ℕ) → MountGrows m (n node) node 1 0)
     → IsBalanced (Some m) (reserved_page c home (λ node. Answered Done (Some (n node))))
-balanced_reserved_page c m home n sound grows =
-    balanced_unless (Some m) ((may_lack_room && c.refused, OutOfMemory) ∷ []) _ sound ((λ a. grown_reserved m (n a.node) a.node (grows a.node)), (λ p. refl))
+balanced_reserved_page c m home n grows =
+    balanced_unless (Some m) ((may_lack_room && c.refused, OutOfMemory) ∷ []) _ ((λ a. grown_reserved m (n a.node) a.node (grows a.node)), (λ p. refl))
 
 -- ---- reservations
 
-reserves_granted : (m n : Mount) (answer : Answer) (k : ℕ) (b : Bool) → All IsAgreed m.files → is_full m k ≡ false → MountGrows m n 0 0 k
+reserves_granted : (m n : Mount) (answer : Answer) (k : ℕ) (b : Bool) → is_full m k ≡ false → MountGrows m n 0 0 k
     → Change (Some m) (left_by (Some m) (if b then Answered answer (Some n) else Refused NoPages)) (if b then rise m k else 0) 0 (λ x. 0) (λ x. 0) false
-reserves_granted m n answer k true sound room grows = grown_by m n k room grows
-reserves_granted m n answer k false sound room grows = stays (Some m) sound
+reserves_granted m n answer k true room grows = grown_by m n k room grows
+reserves_granted m n answer k false room grows = stays (Some m)
 
-pub balanced_grant : (c : Choice) (m n : Mount) (home k : ℕ) (answer : Answer) → All IsAgreed m.files → MountGrows m n 0 0 k → IsBalanced (Some m) (grant c m home k (Answered answer (Some n)))
-balanced_grant c m n home k answer sound grows =
-    balanced_test (Some m) (is_full m k) MountFull ((c.refused, OutOfMemory) ∷ []) _ sound
+pub balanced_grant : (c : Choice) (m n : Mount) (home k : ℕ) (answer : Answer) → MountGrows m n 0 0 k → IsBalanced (Some m) (grant c m home k (Answered answer (Some n)))
+balanced_grant c m n home k answer grows =
+    balanced_test (Some m) (is_full m k) MountFull ((c.refused, OutOfMemory) ∷ []) _
     (λ room. cond_both (rise m k == 0) (Finish (Answered answer (Some n))) (Ask (λ nr. Grant home (rise m k)) (when_granted (Answered answer (Some n)))) (IsBalanced (Some m))
     (λ e. (let none = eqb-true (rise m k) 0 e in let change = grown_by m n k room grows in let committed = change.committed in
-    record { committed = omega (arith, none, committed); pages = change.pages; covered = λ e. cc; far = change.far; limited = change.limited; sound = change.sound }))
-    (λ e. ((λ a. reserves_granted m n answer k a.granted sound room grows), (λ p. refl))))
+    record { committed = omega (arith, none, committed); pages = change.pages; covered = λ e. cc; far = change.far; limited = change.limited }))
+    (λ e. ((λ a. reserves_granted m n answer k a.granted room grows), (λ p. refl))))
 
 -- ---- giving back
 
@@ -135,7 +130,6 @@ pub record SlotFalls (old new : Slot) : Type 0 where
   pub committed : slot_committed new ≤ slot_committed old
   pub each : (n : ℕ) → slot_pages_at n new ≤ slot_pages_at n old
   pub usage : slot_usage new ≤ slot_usage old
-  pub sound : IsSound new
 
 puts_at : (old new : Slot) (n : ℕ) → n < 4 → slice_index_or (puts_of old new) n 0 ≡ slot_pages_at n old - slot_pages_at n new
 puts_at old new zero l = refl
@@ -163,7 +157,6 @@ balanced_gives a old new falls =
       covered = λ e. cc;
       far = λ n. (let each = falls.each n in omega (arith, each));
       limited = inl falls.usage;
-      sound = falls.sound;
     }))
     (λ e. (
       (λ answer. (let committed = falls.committed in
@@ -173,7 +166,6 @@ balanced_gives a old new falls =
             covered = λ e. cc;
             far = λ n. (let each = falls.each n in omega (arith, each));
             limited = inl falls.usage;
-            sound = falls.sound;
           })),
       (λ p. refl),
     ))
@@ -183,7 +175,6 @@ mount_falls m n falls = record {
   committed = (let usage = falls.usage in let min = ap (λ l. l.min) falls.limits in omega (arith, usage, min));
   each = falls.each;
   usage = falls.usage;
-  sound = falls.sound;
 }
 
 -- ---- what follows
@@ -202,18 +193,17 @@ then_stays old m n raised lowered taken put takes first grows =
       covered = first.covered;
       far = λ n. (let f = first.far n in let s = same.far n in omega (arith, f, s));
       limited = still_limited old m n grows first.limited;
-      sound = same.sound;
     }
 
 then_same : (old : Slot) (answer : Mount → Answer) (h : Mount → Mount) (o : Outcome) (raised lowered : ℕ) (taken put : ℕ → ℕ) (takes : Bool)
-    → ((m : Mount) → All IsAgreed m.files → MountGrows m (h m) 0 0 0) → Change old (left_by old o) raised lowered taken put takes
+    → ((m : Mount) → MountGrows m (h m) 0 0 0) → Change old (left_by old o) raised lowered taken put takes
     → Change old (left_by old (continued (λ m. Answered (answer m) (Some (h m))) o)) raised lowered taken put takes
 then_same old answer h (Refused r) raised lowered taken put takes same change = change
 then_same old answer h (Answered a None) raised lowered taken put takes same change = change
 then_same old answer h (Answered a (Some m)) raised lowered taken put takes same change =
-    then_stays old m (h m) raised lowered taken put takes change (same m change.sound)
+    then_stays old m (h m) raised lowered taken put takes change (same m)
 
-pub balanced_then : (old : Slot) (answer : Mount → Answer) (h : Mount → Mount) (p : Plan) → ((m : Mount) → All IsAgreed m.files → MountGrows m (h m) 0 0 0) → IsBalanced old p
+pub balanced_then : (old : Slot) (answer : Mount → Answer) (h : Mount → Mount) (p : Plan) → ((m : Mount) → MountGrows m (h m) 0 0 0) → IsBalanced old p
     → IsBalanced old (and_then (λ m. Answered (answer m) (Some (h m))) p)
 balanced_then old answer h (Finish o) same b = then_same old answer h o 0 0 (λ n. 0) (λ n. 0) false same b
 balanced_then old answer h (Ask s f) same b = ((λ a. then_same old answer h (f a) _ _ _ _ _ same (b.0 a)), b.1)

@@ -23,7 +23,7 @@ use Rattle.hp_model.specs.Event.{IsEvent}
 use Rattle.hp_model.specs.Promises.{is_for_pages}
 use Rattle.hp_laws.specs.Laws.{KeepsGoing}
 use Rattle.hp_model.specs.Plan.{Reply, Slot, Outcome, Refused, Answered}
-use Rattle.hp_model.specs.Promises.{is_cut_off_step, is_refused, is_backed_step, wants_page, map_named, spot_on, ShowsMap, shown_in, shown_on, stored_over, over, is_shared_of, seen_in, seen_on, seen_over, map_at, map_on, reaches, IsLostTo, LosesCopy, is_unmounted}
+use Rattle.hp_model.specs.Promises.{is_cut_off_step, is_refused, is_backed_step, wants_page, map_named, spot_on, ShowsMap, shown_in, shown_on, stored_over, over, is_shared_of, seen_in, seen_on, seen_over, map_at, map_on, reaches, is_unmounted}
 use Rattle.hp_laws.specs.Laws.{PromisesAreKept}
 use Rattle.hp_model.specs.Settled.{IsSettledState}
 use Rattle.hp_model.specs.State.{State, slot_at}
@@ -34,10 +34,12 @@ use Rattle.hp_laws.proofs.CountsHold.{counts_are_sums, limits_hold, minimums_hol
 use Rattle.hp_laws.proofs.Limited.{step_keeps}
 use Rattle.hp_laws.proofs.Made.{step_makes}
 use Rattle.hp_laws.proofs.Meanings.{step_placed}
-use Rattle.hp_laws.proofs.Named.{files_by_name, maps_by_number}
+use Rattle.hp_laws.proofs.Named.{LosesAt, files_by_name, maps_by_number}
 use Rattle.hp_laws.proofs.Outcomes.{Ends, event_ends, reply_of, IsLeft, only_goes, slot_goes, finding_goes}
 use Rattle.hp_laws.proofs.SlotShows.{Quiet, Loads, Stores, Unmounts, create_quiet, map_quiet, mount_quiet, usage_quiet, umount_ends, load_loads, store_stores}
+use Rattle.hp_laws.proofs.Seen.{IsLostAt}
 use Rattle.hp_laws.proofs.StaysSettled.{step_settled}
+use Rattle.hp_laws.proofs.Tied.{left_sound}
 
 eq_same : (k : ℕ) → (k == k) ≡ true
 eq_same k = eq-eqb k k refl
@@ -51,7 +53,7 @@ record Kept (s : State) (step : Step) (reply : Reply) (t : State) : Type 0 where
   pub limits : (k : ℕ) → k < length s.slots → slot_usage (slot_at s k) < slot_usage (slot_at t k) → IsWithinLimit (slot_at t k)
   pub loads : ShowsMap s step reply
   pub files : (k j x : ℕ) → is_unmounted step reply k ≡ false → shown_in t k j x ≡ stored_over s step reply k j x (shown_in s k j x)
-  pub maps : (k j l x : ℕ) → is_unmounted step reply k ≡ false → (seen_in t k j l x ≡ seen_over s step reply k j l x (seen_in s k j l x)) ⊎ LosesCopy s step t k j l x
+  pub maps : (k j l x : ℕ) → is_unmounted step reply k ≡ false → (seen_in t k j l x ≡ seen_over s step reply k j l x (seen_in s k j l x)) ⊎ LosesAt s step t k j l x
   pub marks : (k j l : ℕ) → (map_at s k j l).unmapped ≡ true → (map_at t k j l).unmapped ≡ true
   pub cut_off : is_cut_off_step s step ≡ true → is_refused reply ≡ true
 
@@ -273,14 +275,14 @@ module _ (s : State) (reply : Reply) (t : State) (st : IsSettledState s) where
         (λ o other. elsewhere s k t n l size slots (λ z y. shown_on z y j x) o other ∙ not_picked k o ((i == x) && is_shared_of (map_named s k task number) j) (shown_in s o j x) (over offset bytes (shown_in s o j x)) other) o
 
     store_seen : (out : Outcome) → Held out → t.slots ≡ slice_set s.slots k (left_by (slot_at s k) out)
-        → (o j n x : ℕ) → (seen_in t o j n x ≡ seen_over s step (reply_of out) o j n x (seen_in s o j n x)) ⊎ LosesCopy s step t o j n x
+        → (o j n x : ℕ) → (seen_in t o j n x ≡ seen_over s step (reply_of out) o j n x (seen_in s o j n x)) ⊎ LosesAt s step t o j n x
     store_seen (Refused r) h slots o j n x = inl (same_all s k t (slot_at s k) l size slots (λ z y. seen_on z y j n x) refl o)
     store_seen (Answered a new) h slots o j n x =
-        at_each k (λ o. (seen_in t o j n x ≡ seen_over s step (Ok a) o j n x (seen_in s o j n x)) ⊎ LosesCopy s step t o j n x)
+        at_each k (λ o. (seen_in t o j n x ≡ seen_over s step (Ok a) o j n x (seen_in s o j n x)) ⊎ LosesAt s step t o j n x)
         (⊎_elim
         (λ same. inl (at_slot s k t new l size slots (λ z y. seen_on z y j n x) ∙ same
         ∙ picked k ((i == x) && reaches (map_named s k task number) (map_at s k j n) j n x) (seen_in s k j n x) (over offset bytes (seen_in s k j n x))))
-        (λ lost. inr (refl, subst (λ y. IsLostTo (map_named s k task number) i (map_at s k j n) y j n x) (sym (at_slot s k t new l size slots (λ z y. map_on y j n))) lost))
+        (λ lost. inr (refl, subst (λ y. IsLostAt (map_named s k task number) (λ o. map_on y o.file_no o.map_no) i (map_at s k j n) (map_on y j n) j n x) (sym (at_slot s k t new l size slots (λ z y. y))) lost))
         (h.1 j n x))
         (λ o other. inl (elsewhere s k t new l size slots (λ z y. seen_on z y j n x) o other
         ∙ not_picked k o ((i == x) && reaches (map_named s k task number) (map_at s o j n) j n x) (seen_in s o j n x) (over offset bytes (seen_in s o j n x)) other)) o
@@ -297,7 +299,7 @@ module _ (s : State) (reply : Reply) (t : State) (st : IsSettledState s) where
       let e : ℕ → SlotEvent = λ home. slot.Store task home number i offset bytes in
       let old = slot_at s k in
       task_kept step task k e
-      (λ home it. (let ends = event_ends (Stores s.page_size old (spot_on old task number) i offset bytes) s k (e home) reply t (λ c. store_stores s.page_size k c old task home number i offset bytes) it in
+      (λ home it. (let ends = event_ends (Stores s.page_size old (spot_on old task number) i offset bytes) s k (e home) reply t (λ c. store_stores s.page_size k c old (left_sound s k (below s k (e home) reply t it) st) task home number i offset bytes) it in
       record {
         reserved = λ backed. goes s k (e home) reply t it (event_ends KeepsGoing s k (e home) reply t (λ c. store_goes s.page_size k c task home number i offset old bytes backed) it);
         limits = limited s k (e home) reply t it st;
@@ -306,7 +308,7 @@ module _ (s : State) (reply : Reply) (t : State) (st : IsSettledState s) where
             subst (λ r. shown_in t o j x ≡ stored_over s step r o j x (shown_in s o j x)) (sym ends.replied)
             (store_shows task k number i offset bytes (below s k (e home) reply t it) ends.size ends.outcome ends.holds ends.slots o j x);
         maps = λ o j l x there.
-            subst (λ r. (seen_in t o j l x ≡ seen_over s step r o j l x (seen_in s o j l x)) ⊎ LosesCopy s step t o j l x) (sym ends.replied)
+            subst (λ r. (seen_in t o j l x ≡ seen_over s step r o j l x (seen_in s o j l x)) ⊎ LosesAt s step t o j l x) (sym ends.replied)
             (store_seen task k number i offset bytes (below s k (e home) reply t it) ends.size ends.outcome ends.holds ends.slots o j l x);
         marks = store_marks task k number i offset bytes (below s k (e home) reply t it) ends.size ends.outcome ends.holds ends.slots;
         cut_off = λ cut. stops s k (e home) reply t it (event_ends Stops s k (e home) reply t (λ c. store_stops s.page_size k c task home number i offset old bytes cut) it);

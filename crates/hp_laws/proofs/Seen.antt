@@ -1,7 +1,7 @@
 -- What maps show after a store.
-use Rattle.std.proofs.Common.{◌≡◌, ⊎_elim, inl, inr, ◌⊎◌, map, ℕ, zero, suc, ◌-◌, Bool, true, false, ◌&&◌, ◌==◌, not, Option, None, Some, is_some, List, [], ◌∷◌, get_or, set, refl, sym, ap, ◌∙◌, subst, arith, if◌then◌else◌, nat_lt}
+use Rattle.std.proofs.Common.{◌≡◌, ⊎_elim, inl, inr, ◌⊎◌, map, ℕ, ◌-◌, Bool, true, false, ◌&&◌, ◌==◌, not, Option, None, Some, is_some, List, set, refl, sym, ap, ◌∙◌, subst, arith, if◌then◌else◌, nat_lt}
 use Rattle.std.specs.List.{slice_index_or, list_any}
-use Rattle.std.proofs.lemmas.Bool.{cases_eq, cond_both, ltb-false, eqb-true, eqb-false}
+use Rattle.std.proofs.lemmas.Bool.{cases_eq, cond_both, eq-eqb, ltb-false, eqb-true, eqb-false}
 use Rattle.std.proofs.lemmas.List.{get_or-set_same, get_or-set_other, length-map}
 use Rattle.hp_model.specs.declared.place.Place.{Place}
 use Rattle.hp_model.specs.declared.place.Place.TheVariants.{Gone, Live}
@@ -12,15 +12,12 @@ use Rattle.hp_model.specs.Mapping.{Map, copy_of, is_shared, place_at, without_co
 use Rattle.hp_model.specs.Page.{Copy}
 use Rattle.hp_model.specs.Promises.{file_in, map_in, no_map, over, is_same_copy, IsLost}
 use Rattle.hp_model.specs.Spot.{Spot, cell_written, file_written, map_written, place_written, written}
-use Rattle.hp_laws.proofs.Looks.{edit_here, edit_other, same_edit}
+use Rattle.hp_model.specs.Sound.{HasCopy, IsSoundMount}
+use Rattle.hp_laws.proofs.CopiesSound.{same_index}
+use Rattle.hp_laws.proofs.Looks.{edit_here, edit_other, get_map, same_edit}
 use Rattle.hp_laws.proofs.MountMoves.{IsSpot}
 use Rattle.hp_laws.proofs.Shown.{marked, look, seen, by_place, not_below, Own, Copied, Result}
 use Rattle.hp_laws.proofs.Stored.{ready, stored}
-
-get_map : {X : Type 0} (h : X → X) (d : X) → h d ≡ d → (xs : List X) (j : ℕ) → get_or (map h xs) j d ≡ h (get_or xs j d)
-get_map h d e [] j = sym e
-get_map h d e (x ∷ xs) zero = refl
-get_map h d e (x ∷ xs) (suc j) = get_map h d e xs j
 
 -- ---- one place of a map that is written
 
@@ -74,11 +71,29 @@ robs size stamp m x v =
           | false ↦ λ e. inl (ap (λ q. by_place size q v) at ∙ ap (λ b. by_place size (if b then without_copy (place_at m x) else place_at m x) v) e)
         ] refl
 
+held_copy : (stamp : ℕ) (p : Place Copy) → holds stamp p ≡ true → (a : Copy) × (copy_of p ≡ Some a) × (a.stamp ≡ stamp)
+held_copy stamp Gone e = cc
+held_copy stamp (Live c None) e = cc
+held_copy stamp (Live c (Some a)) e = (a, refl, eqb-true a.stamp stamp e)
+
+-- a copy whose bytes are written stays the same copy
+same_written : (offset : ℕ) (bytes : List ℕ) (p q : Place Copy) → is_same_copy p (place_written offset bytes q) ≡ is_same_copy p q
+same_written offset bytes Gone q = refl
+same_written offset bytes (Live c None) q = refl
+same_written offset bytes (Live c (Some a)) Gone = refl
+same_written offset bytes (Live c (Some a)) (Live d None) = refl
+same_written offset bytes (Live c (Some a)) (Live d (Some b)) = refl
+
 -- ---- a store
 
-module _ (size : ℕ) (m : Mount) (s : Spot) (at : IsSpot m s) (i offset : ℕ) (bytes : List ℕ) where
+-- by places: the map at these places lost its copy to the owner, whose map stands where it stood
+abbrev pub IsLostAt : Option Spot → (Spot → Map) → (i : ℕ) (old new : Map) (file map j : ℕ) → Type 0
+IsLostAt None after i old new file map j = ⊥
+IsLostAt (Some o) after i old new file map j = (o.file_no ≡ file) × IsLost o.map (after o) i old new j × (map ≡ o.map_no → ⊥)
+
+module _ (size : ℕ) (m : Mount) (sound : IsSoundMount m) (s : Spot) (at : IsSpot m s) (i offset : ℕ) (bytes : List ℕ) where
   abbrev Lost : Mount → (j l x : ℕ) → Type 0
-  Lost n j l x = (s.file_no ≡ j) × IsLost s i (map_in (file_in m j) l) (map_in (file_in n j) l) x × (l ≡ s.map_no → ⊥)
+  Lost n j l x = IsLostAt (Some s) (λ o. map_in (file_in n o.file_no) o.map_no) i (map_in (file_in m j) l) (map_in (file_in n j) l) j l x
 
   abbrev here : (j l x : ℕ) → List ℕ
   here j l x = seen size l x (file_in m j)
@@ -150,6 +165,14 @@ module _ (size : ℕ) (m : Mount) (s : Spot) (at : IsSpot m s) (i offset : ℕ) 
     map_beside : (l : ℕ) → (l ≡ s.map_no → ⊥) → map_in left l ≡ robbed stamp (map_in s.file l)
     map_beside l other = get_or-set_other (map (robbed stamp) s.file.maps) s.map_no l s.map no_map other ∙ get_map (robbed stamp) no_map refl s.file.maps l
 
+    -- who holds the stamp holds it at the owner's index
+    at_index : (consumed : Bool) (copy : Copy) → copy.stamp ≡ stamp → place_at s.map i ≡ Live consumed (Some copy) → (l x : ℕ) → holds stamp (place_at (map_in s.file l) x) ≡ true → x ≡ i
+    at_index consumed copy named is l x holds_it =
+        let held = held_copy stamp (place_at (map_in s.file l) x) holds_it in
+        let own : HasCopy (map_in s.file s.map_no) i copy = ap (λ y. copy_of (place_at y i)) (at.map.is no_map) ∙ ap copy_of is in
+        let there : (k z : ℕ) (a : Copy) → HasCopy (map_in s.file k) z a → HasCopy (map_in (file_in m s.file_no) k) z a = λ k z a. subst (λ f. HasCopy (map_in f k) z a) (sym file_was) in
+        (same_index m sound s.file_no l x s.map_no i held.0 copy (there l x held.0 held.1) (there s.map_no i copy own) (held.2 ∙ sym named)).0
+
     back_mine : (consumed : Bool) (copy : Copy) → copy.stamp ≡ stamp → place_at s.map i ≡ Live consumed (Some copy) → s.map.owner ≡ true → is_shared s.map.sharing ≡ false → Mine back
     back_mine consumed copy named is owner apart = record {
       own = record { consumed = consumed; copy = copy; is = ap (λ f. place_at (map_in f s.map_no) i) file_left ∙ ap (λ y. place_at y i) map_left ∙ is };
@@ -163,10 +186,13 @@ module _ (size : ℕ) (m : Mount) (s : Spot) (at : IsSpot m s) (i offset : ℕ) 
           (λ lost. inr (
             refl,
             record {
+              index = at_index consumed copy named is l x lost.0;
               private = apart;
               owner = owner;
               held = ap (λ q. is_same_copy q (place_at (map_in (file_in m s.file_no) l) x)) is ∙ ap (λ q. holds q (place_at (map_in (file_in m s.file_no) l) x)) named
                   ∙ ap (λ f. holds stamp (place_at (map_in f l) x)) file_was ∙ lost.0;
+              kept = ap (λ q. is_same_copy q (place_at (map_in (file_in back s.file_no) s.map_no) i)) is
+                  ∙ ap (holds copy.stamp) (ap (λ f. place_at (map_in f s.map_no) i) file_left ∙ ap (λ y. place_at y i) map_left ∙ is) ∙ eq-eqb copy.stamp copy.stamp refl;
               lost = ap (λ f. copy_of (place_at (map_in f l) x)) file_left ∙ ap (λ y. copy_of (place_at y x)) (map_beside l other) ∙ lost.1;
               marked = ap (λ f. (map_in f l).unmapped) file_left ∙ ap (λ y. y.unmapped) (map_beside l other) ∙ lost.2;
             },
@@ -204,6 +230,11 @@ module _ (size : ℕ) (m : Mount) (s : Spot) (at : IsSpot m s) (i offset : ℕ) 
     map_here : map_in g s.map_no ≡ map_written i offset bytes (map_in f s.map_no)
     map_here = edit_here (map_written i offset bytes) no_map refl f.maps s.map_no
 
+    -- what stands at the owner's place afterwards
+    own_after : place_at (map_in (file_in after s.file_no) s.map_no) i ≡ place_written offset bytes (place_at (map_in f s.map_no) i)
+    own_after =
+        let own = is.own in ap (λ y. place_at (map_in y s.map_no) i) file_here ∙ ap (λ y. place_at y i) map_here ∙ written_at (map_in f s.map_no) i own.consumed (Some own.copy) own.is offset bytes
+
     -- the test of what is reached, by its three parts
     abbrev Tested : (a d b : Bool) → (j l x : ℕ) → Type 0
     Tested a d b j l x = (seen size l x (file_in after j) ≡ (if a && (d && b) then over offset bytes (here j l x) else here j l x)) ⊎ Lost after j l x
@@ -222,7 +253,19 @@ module _ (size : ℕ) (m : Mount) (s : Spot) (at : IsSpot m s) (i offset : ℕ) 
         ⊎_elim
         (λ same. inl (ap (seen size l x) file_here ∙ ap (λ y. by_place size (place_at y x) (look size x f)) (map_other l other) ∙ same ∙ untested a))
         (λ lost. (let new : map_in (file_in after s.file_no) l ≡ map_in f l = ap (λ y. map_in y l) file_here ∙ map_other l other in
-        inr (lost.0, subst (λ y. IsLost s i (map_in (file_in m s.file_no) l) y x) (sym new) lost.1, lost.2)))
+        inr (
+          lost.0,
+          record {
+            index = lost.1.index;
+            private = lost.1.private;
+            owner = lost.1.owner;
+            held = lost.1.held;
+            kept = ap (is_same_copy (place_at s.map i)) own_after ∙ same_written offset bytes (place_at s.map i) (place_at (map_in f s.map_no) i) ∙ lost.1.kept;
+            lost = ap (λ y. copy_of (place_at y x)) new ∙ lost.1.lost;
+            marked = ap (λ y. y.unmapped) new ∙ lost.1.marked;
+          },
+          lost.2,
+        )))
         (is.beside l x other)
       where
         untested : (a : Bool) → here s.file_no l x ≡ (if a && (true && false) then over offset bytes (here s.file_no l x) else here s.file_no l x)

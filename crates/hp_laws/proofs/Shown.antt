@@ -16,7 +16,7 @@ use Rattle.hp_model.specs.File.{File, Mount, cell_at, has_page, new_file, with_c
 use Rattle.hp_model.specs.Grant.{is_full, rise}
 use Rattle.hp_model.specs.Mapping.{Map, copy_of, is_shared, place_at, with_place}
 use Rattle.hp_model.specs.Page.{Page, Copy, zeros}
-use Rattle.hp_model.specs.Plan.{Outcome, Refused, Answered, Plan, Finish, Ask, Choice, refuse, grant_page, reserved_page, when_granted, may_lack_room}
+use Rattle.hp_model.specs.Plan.{Outcome, Refused, Answered, Plan, Finish, Ask, Choice, continued, refuse, grant_page, reserved_page, when_granted, may_lack_room}
 use Rattle.hp_model.specs.declared.section.Section.TheVariants.{GrantPage}
 use Rattle.hp_model.specs.Promises.{file_in, map_in, no_map}
 use Rattle.hp_model.specs.Spot.{Spot, again, copied}
@@ -115,6 +115,12 @@ pub on_weaker : (Q R : Mount → Type 0) → ((n : Mount) → Q n → R n) → (
 on_weaker Q R h (Refused r) on = tt
 on_weaker Q R h (Answered a None) on = on
 on_weaker Q R h (Answered a (Some n)) on = h n on
+
+-- what follows an answer, on the mount that it leaves
+pub on_follows : (Q R : Mount → Type 0) (f : Mount → Outcome) → ((n : Mount) → Q n → On R (f n)) → (o : Outcome) → On Q o → On R (continued f o)
+on_follows Q R f h (Refused r) on = tt
+on_follows Q R f h (Answered a None) on = absurd on
+on_follows Q R f h (Answered a (Some n)) on = h n on
 
 -- ---- an access that leaves all as it shows
 

@@ -28,14 +28,15 @@ use Rattle.hp_model.specs.Page.{Page, Copy, zeros}
 use Rattle.hp_model.specs.Plan.{Slot, Outcome, Refused, Answered, Plan, Finish, Ask, Choice, refuse, unless, with_value, continued, grant, when_granted, gives, puts_of, fall_of}
 use Rattle.hp_model.specs.declared.section.Section.TheVariants.{Grant, GiveBack}
 use Rattle.hp_model.specs.Profile.{most_bytes, most_file_pages, most_files, most_map_pages}
-use Rattle.hp_model.specs.Promises.{file_in, spot_on, IsLoaded, shown_on, seen_on, map_in, map_on, no_map, over, is_shared_of, reaches, IsLostTo}
+use Rattle.hp_model.specs.Promises.{file_in, spot_on, IsLoaded, shown_on, seen_on, map_in, map_on, no_map, over, is_shared_of, reaches}
 use Rattle.hp_model.specs.SlotEvent.{are_too_many_maps, byte_access, bytes_answer, file_named, has_maps, has_name, is_beyond, is_name, is_unmapped, load, map_file, mount_on, mount_outcome, slot_event, store}
+use Rattle.hp_model.specs.Sound.{IsSound, IsSoundMount}
 use Rattle.hp_model.specs.Spot.{Spot, again, spot, written}
 use Rattle.hp_model.specs.Value.{shown, value}
 use Rattle.hp_laws.proofs.Looks.{same_edit_range, same_more, same_none, same_one, same_put}
 use Rattle.hp_laws.proofs.MountMoves.{IsSpot, file_at, spot_is}
 use Rattle.hp_laws.proofs.Outcomes.{Always, always_if, always_test, always_then}
-use Rattle.hp_laws.proofs.Seen.{store_seen, store_marks}
+use Rattle.hp_laws.proofs.Seen.{IsLostAt, store_seen, store_marks}
 use Rattle.hp_laws.proofs.Shown.{marked, look, seen, by_place, On, Same, Result, read_same, write_done}
 use Rattle.hp_laws.proofs.Stored.{ready, stored}
 
@@ -242,28 +243,28 @@ Stores size old o i offset bytes (Answered a new) =
     ((j x : ℕ) → shown_on size new j x ≡ (if (i == x) && is_shared_of o j then over offset bytes (shown_on size old j x) else shown_on size old j x))
     × ((j l x : ℕ) →
     (seen_on size new j l x ≡ (if (i == x) && reaches o (map_on old j l) j l x then over offset bytes (seen_on size old j l x) else seen_on size old j l x))
-    ⊎ IsLostTo o i (map_on old j l) (map_on new j l) j l x)
+    ⊎ IsLostAt o (λ y. map_on new y.file_no y.map_no) i (map_on old j l) (map_on new j l) j l x)
     × ((j l : ℕ) → (map_on old j l).unmapped ≡ true → (map_on new j l).unmapped ≡ true)
 
-store_ends : (size : ℕ) (m : Mount) (s : Spot) (at : IsSpot m s) (i offset : ℕ) (bytes : List ℕ) (o : Outcome) → On (Result size m s at i) o
+store_ends : (size : ℕ) (m : Mount) (sound : IsSoundMount m) (s : Spot) (at : IsSpot m s) (i offset : ℕ) (bytes : List ℕ) (o : Outcome) → On (Result size m s at i) o
     → Stores size (Some m) (Some s) i offset bytes (continued (λ n. Answered Done (Some (written n s i offset bytes))) o)
-store_ends size m s at i offset bytes (Refused r) on = tt
-store_ends size m s at i offset bytes (Answered a None) on = absurd on
-store_ends size m s at i offset bytes (Answered a (Some n)) on = (
+store_ends size m sound s at i offset bytes (Refused r) on = tt
+store_ends size m sound s at i offset bytes (Answered a None) on = absurd on
+store_ends size m sound s at i offset bytes (Answered a (Some n)) on = (
   λ j x. stored size m s at i n (ready size m s at i n on) offset bytes (i == x) (is_shared s.map.sharing) (s.file_no == j) j x refl refl refl,
-  store_seen size m s at i offset bytes n on,
-  store_marks size m s at i offset bytes n on,
+  store_seen size m sound s at i offset bytes n on,
+  store_marks size m sound s at i offset bytes n on,
 )
 
-pub store_stores : (size k : ℕ) (c : Choice) (old : Slot) (task home number i offset : ℕ) (bytes : List ℕ)
+pub store_stores : (size k : ℕ) (c : Choice) (old : Slot) → IsSound old → (task home number i offset : ℕ) (bytes : List ℕ)
     → Always (Stores size old (spot_on old task number) i offset bytes) (slot_event size k c old (slot.Store task home number i offset bytes))
-store_stores size k c None task home number i offset bytes = tt
-store_stores size k c (Some m) task home number i offset bytes = by_spot (spot m (is_map task number)) (λ s e. spot_is m (is_map task number) s e)
+store_stores size k c None sound task home number i offset bytes = tt
+store_stores size k c (Some m) sound task home number i offset bytes = by_spot (spot m (is_map task number)) (λ s e. spot_is m (is_map task number) s e)
   where
     by_spot : (o : Option Spot) → ((s : Spot) → o ≡ Some s → IsSpot m s) → Always (Stores size (Some m) o i offset bytes) (with_value o NoSuchMap (store c size m home i offset bytes))
     by_spot None is = tt
     by_spot (Some s) is =
         let at = is s refl in
         always_then (On (Result size m s at i)) (Stores size (Some m) (Some s) i offset bytes) (λ n. Answered Done (Some (written n s i offset bytes)))
-        (store_ends size m s at i offset bytes) (byte_access c size m home i offset (length bytes) Write s)
+        (store_ends size m sound s at i offset bytes) (byte_access c size m home i offset (length bytes) Write s)
         (bytes_on size c m home i (Result size m s at i) offset (length bytes) Write s (write_done size m s at i c home))

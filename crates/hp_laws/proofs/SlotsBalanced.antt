@@ -1,6 +1,6 @@
 -- Each event on a slot balances.
-use Rattle.std.proofs.Common.{◌≡◌, inl, ℕ, ◌+◌, Bool, true, false, ◌||◌, ◌==◌, not, None, Some, is_some, Result, Ok, Err, List, [], ◌∷◌, length, refl, ap, ◌∙◌, arith, if◌then◌else◌, nat_lt, nat_le}
-use Rattle.std.specs.List.{All, list_any, flat_map, filter_map}
+use Rattle.std.proofs.Common.{◌≡◌, inl, subst, ℕ, ◌+◌, Bool, true, false, ◌||◌, ◌==◌, not, None, Some, is_some, Result, Ok, Err, List, [], ◌∷◌, length, refl, ap, ◌∙◌, arith, if◌then◌else◌, nat_lt, nat_le}
+use Rattle.std.specs.List.{list_any, flat_map, filter_map}
 use Rattle.std.proofs.lemmas.Bool.{cond_both, not-true, leb-false, false_from_ne_true, both_ways}
 use Rattle.std.proofs.lemmas.List.Folds.{list_any_at}
 use Rattle.hp_model.specs.declared.answer.Answer.TheVariants.{Done, MapNo, Names}
@@ -29,12 +29,13 @@ use Rattle.hp_model.specs.declared.section.Section.TheVariants.{GrantAndReturn, 
 use Rattle.hp_model.specs.PoolCounts.{Pool}
 use Rattle.hp_model.specs.Profile.{most_bytes, most_files, most_maps, most_tasks, most_file_pages, most_map_pages}
 use Rattle.hp_model.specs.SlotEvent.{on_mount, on_none, mount_section, mount_pages, mount_outcome, fault, byte_access, load, store, file_named, has_name, is_beyond, bytes_answer, map_file, unlink, truncate, punch, unmap, read, stat, is_unmapped, has_maps, is_name, span_tests, are_too_many_maps, is_bad_range, edited}
-use Rattle.hp_model.specs.Sound.{IsSound, IsAgreed}
+use Rattle.hp_model.specs.Sound.{IsSoundFile, IsSoundMount}
 use Rattle.hp_model.specs.Spot.{Spot, spot, written, again}
 use Rattle.hp_model.specs.Value.{value, shown}
 use Rattle.hp_model.specs.declared.limits.Limits.{Limits}
 use Rattle.hp_laws.proofs.Accesses.{access_balanced, written_same}
 use Rattle.hp_model.proofs.Distinct.{is_among-append}
+use Rattle.hp_laws.proofs.Copies.{agreed_file}
 use Rattle.hp_laws.proofs.Falls.{unmapped_falls, without_falls, forked_falls, punched_falls, truncated_falls, unlinked_falls}
 use Rattle.hp_laws.proofs.FileMoves.{FileGrows}
 use Rattle.hp_laws.proofs.Maps.{mapped_grows}
@@ -47,7 +48,7 @@ among_files : (q : ℕ) (fs : List File) → is_among q (flat_map stamps_of fs) 
 among_files q [] = refl
 among_files q (f ∷ fs) = is_among-append q (stamps_of f) (flat_map stamps_of fs) ∙ ap (λ b. is_among q (stamps_of f) || b) (among_files q fs)
 
-new_in_file : (q : ℕ) (m : Mount) (at_no : ℕ) (f : File) → IsFileAt m at_no f → is_among q (flat_map stamps_of m.files) ≡ false → is_among q (stamps_of f) ≡ false
+pub new_in_file : (q : ℕ) (m : Mount) (at_no : ℕ) (f : File) → IsFileAt m at_no f → is_among q (flat_map stamps_of m.files) ≡ false → is_among q (stamps_of f) ≡ false
 new_in_file q m at_no f at new =
     false_from_ne_true (is_among q (stamps_of f))
     (λ e. both_ways (is_among q (flat_map stamps_of m.files)) new
@@ -56,43 +57,43 @@ new_in_file q m at_no f at new =
 -- ---- what changes nothing
 
 same_file : (f : File) → FileGrows f f 0 0 0
-same_file f = record { pages = omega arith; usage = omega arith; each = λ n. nothing_more (0 == n) (file_pages_at n f); agreed = λ a. a }
+same_file f = record { pages = omega arith; usage = omega arith; each = λ n. nothing_more (0 == n) (file_pages_at n f) }
 
-same_mount : (m : Mount) → All IsAgreed m.files → MountGrows m m 0 0 0
-same_mount m sound = record { pages = omega arith; usage = omega arith; each = λ n. nothing_more (0 == n) (pages_at n m); limits = refl; sound = sound }
+same_mount : (m : Mount) → MountGrows m m 0 0 0
+same_mount m = record { pages = omega arith; usage = omega arith; each = λ n. nothing_more (0 == n) (pages_at n m); limits = refl }
 
 -- ---- accesses
 
-balanced_last : (old : Slot) (b : Bool) (r : Refusal) (p : Plan) → IsSound old → (b ≡ false → IsBalanced old p) → IsBalanced old (unless ((b, r) ∷ []) p)
-balanced_last old b r p sound h = cond_both b (refuse r) p (IsBalanced old) (λ e. stays old sound) h
+balanced_last : (old : Slot) (b : Bool) (r : Refusal) (p : Plan) → (b ≡ false → IsBalanced old p) → IsBalanced old (unless ((b, r) ∷ []) p)
+balanced_last old b r p h = cond_both b (refuse r) p (IsBalanced old) (λ e. stays old) h
 
-module _ (c : Choice) (size : ℕ) (m : Mount) (sound : All IsAgreed m.files) (new : is_among c.stamp (flat_map stamps_of m.files) ≡ false) (home i : ℕ) (s : Spot) (at : IsSpot m s) where
+module _ (c : Choice) (size : ℕ) (m : Mount) (sound : IsSoundMount m) (new : is_among c.stamp (flat_map stamps_of m.files) ≡ false) (home i : ℕ) (s : Spot) (at : IsSpot m s) where
   guarded : (intent : Intent) → IsBalanced (Some m) (unless ((is_beyond s i, BeyondEnd) ∷ []) (access c size m s home i intent))
   guarded intent =
-      balanced_last (Some m) (is_beyond s i) BeyondEnd (access c size m s home i intent) sound
-      (λ e. access_balanced c size m s at sound (new_in_file c.stamp m s.file_no s.file at.file new) home i intent (leb-false (length s.file.cells) i e))
+      balanced_last (Some m) (is_beyond s i) BeyondEnd (access c size m s home i intent)
+      (λ e. access_balanced c size m s at (agreed_file s.file (subst IsSoundFile (at.file.is s.file) (sound.files s.file_no s.file at.file.within))) (new_in_file c.stamp m s.file_no s.file at.file new) home i intent (leb-false (length s.file.cells) i e))
 
   fault_balanced : (intent : Intent) → IsBalanced (Some m) (fault c size m home i intent s)
-  fault_balanced intent = balanced_unless (Some m) ((is_unmapped s i, OutOfRange) ∷ []) (unless ((is_beyond s i, BeyondEnd) ∷ []) (access c size m s home i intent)) sound (guarded intent)
+  fault_balanced intent = balanced_unless (Some m) ((is_unmapped s i, OutOfRange) ∷ []) (unless ((is_beyond s i, BeyondEnd) ∷ []) (access c size m s home i intent)) (guarded intent)
 
   byte_balanced : (offset count : ℕ) (intent : Intent) → IsBalanced (Some m) (byte_access c size m home i offset count intent s)
   byte_balanced offset count intent =
-      balanced_unless (Some m) ((is_unmapped s i || (count == 0), OutOfRange) ∷ (nat_lt size (offset + count), CrossesPage) ∷ (nat_lt most_bytes count, TooMany) ∷ []) (unless ((is_beyond s i, BeyondEnd) ∷ []) (access c size m s home i intent)) sound (guarded intent)
+      balanced_unless (Some m) ((is_unmapped s i || (count == 0), OutOfRange) ∷ (nat_lt size (offset + count), CrossesPage) ∷ (nat_lt most_bytes count, TooMany) ∷ []) (unless ((is_beyond s i, BeyondEnd) ∷ []) (access c size m s home i intent)) (guarded intent)
 
   load_balanced : (offset count : ℕ) → IsBalanced (Some m) (load c size m home i offset count s)
   load_balanced offset count =
       balanced_then (Some m) (λ n. bytes_answer offset count (value size (again n s).file (again n s).map i)) (λ n. n) (byte_access c size m home i offset count Read s)
-      (λ n agreed. same_mount n agreed) (byte_balanced offset count Read)
+      same_mount (byte_balanced offset count Read)
 
   store_balanced : (offset : ℕ) (bytes : List ℕ) → IsBalanced (Some m) (store c size m home i offset bytes s)
   store_balanced offset bytes =
       balanced_then (Some m) (λ n. Done) (λ n. written n s i offset bytes) (byte_access c size m home i offset (length bytes) Write s)
-      (λ n agreed. written_same n s i offset bytes agreed) (byte_balanced offset (length bytes) Write)
+      (λ n. written_same n s i offset bytes) (byte_balanced offset (length bytes) Write)
 
 -- ---- mount
 
 nothing : Change None None 0 0 (λ n. 0) (λ n. 0) false
-nothing = stays None tt
+nothing = stays None
 
 mount_by : (stamp : ℕ) (refused after_grant granted : Bool) (node nr : ℕ) (l : Result Limits Refusal)
     → Moves None (mount_section (record { stamp = stamp; refused = refused; after_grant = after_grant }) (mount_pages (record { stamp = stamp; refused = refused; after_grant = after_grant }) l))
@@ -113,7 +114,6 @@ mount_by stamp false false true node nr (Ok l) = record {
   covered = λ e. cc;
   far = λ n. omega arith;
   limited = inl (omega arith);
-  sound = λ k d lt. absurd (omega arith);
 }
 
 told : (p : Pool) (d : ℕ) (q : Pool) → (if◌then◌else◌ {A = PoolAnswer × Pool} (can_grant d p) (record { granted = true; node = 0; nr = p.nr }, q) (record { granted = false; node = 0; nr = p.nr }, p)).0.nr ≡ p.nr
@@ -133,52 +133,52 @@ on_none_balanced size c other = nothing
 
 -- ---- the events of a mount
 
-module _ (size slot : ℕ) (c : Choice) (m : Mount) (sound : All IsAgreed m.files) (new : is_among c.stamp (flat_map stamps_of m.files) ≡ false) where
+module _ (size slot : ℕ) (c : Choice) (m : Mount) (sound : IsSoundMount m) (new : is_among c.stamp (flat_map stamps_of m.files) ≡ false) where
   of_file : (name : List ℕ) (r : Refusal) (f : ℕ × File → Plan) → ((q : ℕ × File) → IsFileAt m q.0 q.1 → IsBalanced (Some m) (f q))
       → IsBalanced (Some m) (with_value (file_named m name) r f)
-  of_file name r f h = balanced_value (Some m) (file_named m name) r f sound (λ q e. h q (file_at m (has_name name) q e))
+  of_file name r f h = balanced_value (Some m) (file_named m name) r f (λ q e. h q (file_at m (has_name name) q e))
 
   of_map : (task number : ℕ) (r : Refusal) (f : Spot → Plan) → ((s : Spot) → IsSpot m s → IsBalanced (Some m) (f s)) → IsBalanced (Some m) (with_value (spot m (is_map task number)) r f)
-  of_map task number r f h = balanced_value (Some m) (spot m (is_map task number)) r f sound (λ s e. h s (spot_is m (is_map task number) s e))
+  of_map task number r f h = balanced_value (Some m) (spot m (is_map task number)) r f (λ s e. h s (spot_is m (is_map task number) s e))
 
   on_mount_balanced : (e : SlotEvent) → IsBalanced (Some m) (on_mount size slot c m e)
-  on_mount_balanced (MountEvent options) = stays (Some m) sound
+  on_mount_balanced (MountEvent options) = stays (Some m)
   on_mount_balanced Umount =
-      balanced_unless (Some m) ((slot == 0, Busy) ∷ (has_maps m, Busy) ∷ []) (gives Done (Some m) None) sound (balanced_gives Done (Some m) None (record { committed = omega arith; each = λ n. omega arith; usage = omega arith; sound = tt }))
+      balanced_unless (Some m) ((slot == 0, Busy) ∷ (has_maps m, Busy) ∷ []) (gives Done (Some m) None) (balanced_gives Done (Some m) None (record { committed = omega arith; each = λ n. omega arith; usage = omega arith }))
   on_mount_balanced (Create name) =
       balanced_unless (Some m)
       ((not (is_name name), BadName) ∷ (is_some (file_named m name), FileExists) ∷ (nat_le most_files (length m.files), TooMany) ∷ (is_over m.limits.inodes (length m.files + 1), NoInodes) ∷ (c.refused, OutOfMemory) ∷ [])
-      (Finish (Answered Done (Some (with_new m (new_file (Some name)))))) sound (grown_same m _ (new_grows m (Some name) (new_file (Some name)) 0 sound (same_file (new_file (Some name)))))
+      (Finish (Answered Done (Some (with_new m (new_file (Some name)))))) (grown_same m _ (new_grows m (Some name) (new_file (Some name)) 0 (same_file (new_file (Some name)))))
   on_mount_balanced (Unlink name) =
-      of_file name NoSuchFile (unlink m) (λ q at. balanced_gives Done (Some m) _ (mount_falls m _ (file_sweeps m q.0 q.1 (unlinked q.1) at sound (unlinked_falls q.1))))
+      of_file name NoSuchFile (unlink m) (λ q at. balanced_gives Done (Some m) _ (mount_falls m _ (file_sweeps m q.0 q.1 (unlinked q.1) at (unlinked_falls q.1))))
   on_mount_balanced (Truncate name pages) =
       of_file name NoSuchFile (truncate m pages)
-      (λ q at. balanced_unless (Some m) ((nat_lt most_file_pages pages, OutOfRange) ∷ []) (gives Done (Some m) (edited m q.0 (truncated pages q.1))) sound (balanced_gives Done (Some m) _ (mount_falls m _ (file_sweeps m q.0 q.1 (truncated pages q.1) at sound (truncated_falls pages q.1)))))
+      (λ q at. balanced_unless (Some m) ((nat_lt most_file_pages pages, OutOfRange) ∷ []) (gives Done (Some m) (edited m q.0 (truncated pages q.1))) (balanced_gives Done (Some m) _ (mount_falls m _ (file_sweeps m q.0 q.1 (truncated pages q.1) at (truncated_falls pages q.1)))))
   on_mount_balanced (Punch name a b) =
       of_file name NoSuchFile (punch m a b)
-      (λ q at. balanced_unless (Some m) ((is_bad_range a b, OutOfRange) ∷ []) (gives Done (Some m) (edited m q.0 (punched a b q.1))) sound (balanced_gives Done (Some m) _ (mount_falls m _ (file_sweeps m q.0 q.1 (punched a b q.1) at sound (punched_falls a b q.1)))))
+      (λ q at. balanced_unless (Some m) ((is_bad_range a b, OutOfRange) ∷ []) (gives Done (Some m) (edited m q.0 (punched a b q.1))) (balanced_gives Done (Some m) _ (mount_falls m _ (file_sweeps m q.0 q.1 (punched a b q.1) at (punched_falls a b q.1)))))
   on_mount_balanced (ReadEvent name i offset count) =
       of_file name NoSuchFile (read size m i offset count) (λ q at. balanced_unless (Some m) (((count == 0) || nat_le (length q.1.cells) i, OutOfRange) ∷ span_tests size offset count)
-      (Finish (Answered (bytes_answer offset count (shown size (cell_at q.1 i))) (Some m))) sound (stays (Some m) sound))
-  on_mount_balanced Ls = balanced_unless (Some m) ((c.refused, OutOfMemory) ∷ []) (Finish (Answered (Names (filter_map (λ f. f.name) m.files)) (Some m))) sound (stays (Some m) sound)
-  on_mount_balanced (Stat name) = of_file name NoSuchFile (stat m) (λ q at. stays (Some m) sound)
-  on_mount_balanced Df = stays (Some m) sound
+      (Finish (Answered (bytes_answer offset count (shown size (cell_at q.1 i))) (Some m))) (stays (Some m)))
+  on_mount_balanced Ls = balanced_unless (Some m) ((c.refused, OutOfMemory) ∷ []) (Finish (Answered (Names (filter_map (λ f. f.name) m.files)) (Some m))) (stays (Some m))
+  on_mount_balanced (Stat name) = of_file name NoSuchFile (stat m) (λ q at. stays (Some m))
+  on_mount_balanced Df = stays (Some m)
   on_mount_balanced (MapEvent task home name a n sharing reserving) =
       of_file name NoSuchFile (map_file c m task home a n sharing reserving)
       (λ q at. balanced_unless (Some m) (((n == 0) || nat_lt most_file_pages (a + n), OutOfRange) ∷ (nat_lt most_map_pages n || are_too_many_maps m task, TooMany) ∷ [])
-      (grant c m home (asked sharing reserving a n q.1) (Answered (MapNo (next_number task m)) (Some (with_file m q.0 (mapped task (next_number task m) a n sharing reserving q.1))))) sound
-      (balanced_grant c m _ home (asked sharing reserving a n q.1) (MapNo (next_number task m)) sound
-      (file_grows m q.0 q.1 (mapped task (next_number task m) a n sharing reserving q.1) 0 0 (asked sharing reserving a n q.1) at sound (mapped_grows task (next_number task m) a n sharing reserving q.1))))
+      (grant c m home (asked sharing reserving a n q.1) (Answered (MapNo (next_number task m)) (Some (with_file m q.0 (mapped task (next_number task m) a n sharing reserving q.1)))))
+      (balanced_grant c m _ home (asked sharing reserving a n q.1) (MapNo (next_number task m))
+      (file_grows m q.0 q.1 (mapped task (next_number task m) a n sharing reserving q.1) 0 0 (asked sharing reserving a n q.1) at (mapped_grows task (next_number task m) a n sharing reserving q.1))))
   on_mount_balanced (Anon task home n sharing reserving) =
       balanced_unless (Some m) (((n == 0) || nat_lt most_file_pages n, OutOfRange) ∷ (nat_lt most_map_pages n || are_too_many_maps m task || nat_le most_files (length m.files), TooMany) ∷ (is_over m.limits.inodes (length m.files + 1), NoInodes) ∷ [])
-      (grant c m home (asked sharing reserving 0 n (new_file None)) (Answered (MapNo (next_number task m)) (Some (with_new m (mapped task (next_number task m) 0 n sharing reserving (new_file None)))))) sound
-      (balanced_grant c m _ home (asked sharing reserving 0 n (new_file None)) (MapNo (next_number task m)) sound
-      (new_grows m None (mapped task (next_number task m) 0 n sharing reserving (new_file None)) (asked sharing reserving 0 n (new_file None)) sound
+      (grant c m home (asked sharing reserving 0 n (new_file None)) (Answered (MapNo (next_number task m)) (Some (with_new m (mapped task (next_number task m) 0 n sharing reserving (new_file None))))))
+      (balanced_grant c m _ home (asked sharing reserving 0 n (new_file None)) (MapNo (next_number task m))
+      (new_grows m None (mapped task (next_number task m) 0 n sharing reserving (new_file None)) (asked sharing reserving 0 n (new_file None))
       (mapped_grows task (next_number task m) 0 n sharing reserving (new_file None))))
   on_mount_balanced (Unmap task number a b) =
       of_map task number NoSuchMap (unmap m task number a b)
-      (λ s at. balanced_unless (Some m) ((is_bad_range a b, OutOfRange) ∷ []) (gives Done (Some m) (Some (unmapped_from task number a b m))) sound
-      (balanced_gives Done (Some m) _ (mount_falls m _ (files_sweep m (file_unmapped (is_map task number) a b) sound (unmapped_falls (is_map task number) a b)))))
+      (λ s at. balanced_unless (Some m) ((is_bad_range a b, OutOfRange) ∷ []) (gives Done (Some m) (Some (unmapped_from task number a b m)))
+      (balanced_gives Done (Some m) _ (mount_falls m _ (files_sweep m (file_unmapped (is_map task number) a b) (unmapped_falls (is_map task number) a b)))))
   on_mount_balanced (Fault task home number i intent) =
       of_map task number NoSuchMap (fault c size m home i intent) (λ s at. fault_balanced c size m sound new home i s at intent)
   on_mount_balanced (Load task home number i offset count) =
@@ -188,8 +188,8 @@ module _ (size slot : ℕ) (c : Choice) (m : Mount) (sound : All IsAgreed m.file
   on_mount_balanced (ForkMaps parent child) =
       balanced_unless (Some m)
       ((nat_lt most_maps (length (maps_of (forked parent child m))) || nat_lt most_tasks (length (tasks_of (forked parent child m))), TooMany) ∷ (c.refused, OutOfMemory) ∷ [])
-      (gives Done (Some m) (Some (forked parent child m))) sound (balanced_gives Done (Some m) _ (mount_falls m _ (files_sweep m (file_forked parent child) sound (forked_falls parent child))))
-  on_mount_balanced (ExitMaps task) = balanced_gives Done (Some m) _ (mount_falls m _ (files_sweep m (file_without task) sound (without_falls task)))
+      (gives Done (Some m) (Some (forked parent child m))) (balanced_gives Done (Some m) _ (mount_falls m _ (files_sweep m (file_forked parent child) (forked_falls parent child))))
+  on_mount_balanced (ExitMaps task) = balanced_gives Done (Some m) _ (mount_falls m _ (files_sweep m (file_without task) (without_falls task)))
 
 pub slots_are_balanced : SlotsAreBalanced
 slots_are_balanced size slot c None e new sound = on_none_balanced size c e

@@ -29,6 +29,7 @@ use Rattle.hp_model.specs.Sound.{IsSound}
 use Rattle.hp_model.specs.State.{State, slot_at}
 use Rattle.hp_model.specs.Step.{Script, Answer_with, Do, Where_mapped, script, is_unbuilt, IsScript, IsBuiltStep, IsStep}
 use Rattle.hp_model.specs.Table.{Table, table_event}
+use Rattle.hp_laws.proofs.EventsSound.{empty_sound, slots_stay_sound}
 use Rattle.hp_laws.proofs.SectionTies.{relead}
 use Rattle.hp_laws.proofs.Sections.{Leads, unchanged, set_leads}
 use Rattle.hp_laws.proofs.SlotsBalanced.{slots_are_balanced}
@@ -37,7 +38,7 @@ use Rattle.hp_laws.proofs.Tied.{tied, plan_tied, left_sound}
 -- ---- the start
 
 start_slots : (n : ℕ) → All IsSound (slots_from n)
-start_slots n = All-cons IsSound (Some open_mount) (replicate (n - 1) None) (λ k d l. absurd (omega arith)) (All-replicate IsSound (n - 1) None tt)
+start_slots n = All-cons IsSound (Some open_mount) (replicate (n - 1) None) (empty_sound open_mount.limits) (All-replicate IsSound (n - 1) None tt)
 
 none_sum : (g : Slot → ℕ) → g None ≡ 0 → (n : ℕ) → sum_by g (replicate n None) ≡ 0
 none_sum g e zero = refl
@@ -121,7 +122,9 @@ pub pool_is_tied : PoolIsTied
 pool_is_tied c s (Tasks e) can st = (refl, with_tasks s st (table_event (length s.nodes) s.table e).1)
 pool_is_tied c s (OnSlot k e) can st =
     let l : k < length s.slots = ltb-true k (length s.slots) can.0 in
-    plan_tied s k (slot_event s.page_size k c (slot_at s k) e) l st (slots_are_balanced s.page_size k c (slot_at s k) e can.2 (left_sound s k l st))
+    let sound = left_sound s k l st in
+    plan_tied s k (slot_event s.page_size k c (slot_at s k) e) l st (slots_are_balanced s.page_size k c (slot_at s k) e can.2 sound)
+    (slots_stay_sound s.page_size k c (slot_at s k) e can.2 sound)
 pool_is_tied c s (OnPool e) can st = pool_moves s st e
 
 -- ---- runs

@@ -5,7 +5,7 @@ use Rattle.std.proofs.lemmas.Bool.{ne_eqb}
 use Rattle.std.proofs.lemmas.List.{length-map}
 use Rattle.std.proofs.lemmas.List.Elements.{All-head, All-tail, All-set}
 use Rattle.std.proofs.lemmas.List.Sums.{sum_by-set, sum-map, sum_by-le-sum_by}
-use Rattle.hp_laws.specs.Balance.{Moves, takes_page, left_by, IsBalanced}
+use Rattle.hp_laws.specs.Balance.{Always, Moves, takes_page, left_by, IsBalanced}
 use Rattle.hp_model.specs.Event.{planned, settled}
 use Rattle.hp_model.specs.Machine.{pool_of, with_pool, rows_of, node_of, committed_pages, used_at}
 use Rattle.hp_model.specs.NodeRows.{IsRow, used as row_used}
@@ -94,13 +94,14 @@ module _ (s : State) (k : ℕ) (st : IsSettledState s) (new : Slot) (sound : IsS
       let settled = st.pool in
       let used = used_is (pool_of s) settled in
       let used_sums = ap sum st.used ∙ sum-map (λ n. used_at n s) ns in
-      let all_pages = swap_le IsSound slot_pages_at slot_pages ns (slot_below ns (once_in_range 0 (length s.nodes))) s.slots st.slots in
+      let below = slot_below ns (once_in_range 0 (length s.nodes)) in
+      let all_pages = swap_le IsSound slot_pages_at slot_pages ns below s.slots st.slots in
       let without = sum_by-set slot_pages s.slots k None None l in
       let uncommitted = sum_by-set slot_committed s.slots k None None l in
       let others = sum_by-le-sum_by slot_pages slot_committed (slice_set s.slots k None) pages-le-committed in
       let new_sums = sum-map (λ n. used_at n after_it) ns in
       let new_below = swap_le IsSound slot_pages_at slot_committed ns
-      (λ x h. (let below = slot_below ns (once_in_range 0 (length s.nodes)) x h in let le = pages-le-committed x in omega (arith, below, le))) after_it.slots (All-set IsSound s.slots k new sound st.slots) in
+      (λ x h. (let le = pages-le-committed x in omega (arith, below x h, le))) after_it.slots (All-set IsSound s.slots k new sound st.slots) in
       record {
         few = st.nodes;
         long = long_rows s 0 s.nodes;
@@ -135,22 +136,23 @@ left_sound s k l st = st.slots k None l
 abbrev pub Tied : State → Plan → State → Type 0
 Tied s p t = (pool_of t ≡ pool_after s p) × IsSettledState t
 
-pub plan_tied : (s : State) (k : ℕ) (p : Plan) → k < length s.slots → IsSettledState s → IsBalanced (slot_at s k) p → Tied s p (planned s k p).1
-plan_tied s k (Finish o) l st b =
+pub plan_tied : (s : State) (k : ℕ) (p : Plan) → k < length s.slots → IsSettledState s → IsBalanced (slot_at s k) p
+    → Always (λ o. IsSound (left_by (slot_at s k) o)) p → Tied s p (planned s k p).1
+plan_tied s k (Finish o) l st b sound =
     let new : Slot = left_by (slot_at s k) o in
     let p : Pool = pool_of s in
-    let w = wanted s k st new b.sound p (Grant 0 0) no_pages l b in
-    let homed = homed_after s k st new b.sound p (Grant 0 0) no_pages l b (λ e. cc) in
+    let w = wanted s k st new sound p (Grant 0 0) no_pages l b in
+    let homed = homed_after s k st new sound p (Grant 0 0) no_pages l b (λ e. cc) in
     let leads = relead p p _ _ _ _ (unchanged p st.pool) (let x = w.commits in omega (arith, x)) (same_list p (λ n. used_at n s) (λ n. used_at n (with_slot (with_pool s p) k new)) (length s.nodes) w.few w.was w.pages) in
-    let t = tied s st (slice_set s.slots k new) (All-set IsSound s.slots k new b.sound st.slots) p leads homed in
+    let t = tied s st (slice_set s.slots k new) (All-set IsSound s.slots k new sound st.slots) p leads homed in
     let is : with_slot (with_pool s p) k new ≡ (settled s k o).1 = ap (λ x. with_slot x k new) (pool_back s) ∙ sym (settled_is s k o) in
     subst (λ (x : State). Tied s (Finish o) x) is t
-plan_tied s k (Ask sec f) l st b =
+plan_tied s k (Ask sec f) l st b sound =
     let q : PoolAnswer × Pool = section (pool_of s) (sec s.nr) in
     let new : Slot = left_by (slot_at s k) (f q.0) in
     let moves = subst (λ (x : Section). Moves (slot_at s k) x q.0 new) (b.1 (pool_of s)) (b.0 q.0) in
-    let w = wanted s k st new moves.sound q.1 (sec s.nr) q.0 l moves in
+    let w = wanted s k st new (sound q.0) q.1 (sec s.nr) q.0 l moves in
     let leads = section_leads (pool_of s) (sec s.nr) (λ n. used_at n s) (λ n. used_at n (with_slot (with_pool s q.1) k new)) (committed_pages (with_slot (with_pool s q.1) k new)) (length s.nodes) st.pool w in
-    let homed = homed_after s k st new moves.sound q.1 (sec s.nr) q.0 l moves leads.1 in
-    let t = tied s st (slice_set s.slots k new) (All-set IsSound s.slots k new moves.sound st.slots) q.1 leads.0 homed in
+    let homed = homed_after s k st new (sound q.0) q.1 (sec s.nr) q.0 l moves leads.1 in
+    let t = tied s st (slice_set s.slots k new) (All-set IsSound s.slots k new (sound q.0) st.slots) q.1 leads.0 homed in
     subst (λ (x : State). Tied s (Ask sec f) x) (sym (settled_is (with_pool s q.1) k (f q.0))) t

@@ -7,7 +7,6 @@ use Rattle.hp_model.specs.declared.section.PoolAnswer.{PoolAnswer}
 use Rattle.hp_model.specs.declared.section.Section.{Section}
 use Rattle.hp_model.specs.declared.section.Section.TheVariants.{Grant, GrantPage, TakePage, GiveBack, ReadAndGrant, GrantAndReturn}
 use Rattle.hp_model.specs.PoolCounts.{Pool}
-use Rattle.hp_model.specs.Sound.{IsSound}
 
 -- what the section, answered so, adds to the pool's commitment, and what it takes from it
 abbrev pub raised_by : Section → PoolAnswer → ℕ
@@ -48,7 +47,6 @@ pub record Change (old new : Slot) (raised lowered : ℕ) (taken put : ℕ → �
   -- at a node that there isn't, no page comes up
   pub far : (n : ℕ) → slot_pages_at n new ≤ slot_pages_at n old + taken n
   pub limited : IsLimited old new
-  pub sound : IsSound new
 
 abbrev pub Moves : Slot → Section → PoolAnswer → Slot → Type 0
 Moves old s a new = Change old new (raised_by s a) (lowered_by s) (λ n. taken_at n s a) (λ n. put_at n s) (takes_page s a)
@@ -60,6 +58,11 @@ Stays old new = Change old new 0 0 (λ n. 0) (λ n. 0) false
 abbrev pub left_by : Slot → Outcome → Slot
 left_by old (Refused r) = old
 left_by old (Answered a new) = new
+
+-- whatever the pool answers, P holds of the outcome
+abbrev pub Always : (Outcome → Type 0) → Plan → Type 0
+Always P (Finish o) = P o
+Always P (Ask sec f) = (a : PoolAnswer) → P (f a)
 
 -- whatever the pool answers; and what is asked for is what is asked for at the nr that the pool tells
 abbrev pub IsBalanced : Slot → Plan → Type 0

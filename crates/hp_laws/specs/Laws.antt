@@ -17,7 +17,6 @@ use Rattle.hp_model.specs.Machine.{pool_of, start}
 use Rattle.hp_model.specs.Page.{Copy}
 use Rattle.hp_model.specs.Plan.{Outcome, Refused, Answered, Plan, Finish, Ask, Choice, Reply, Slot, slot_usage, IsWithinLimit}
 use Rattle.hp_model.specs.Pool.{section}
-use Rattle.hp_model.specs.declared.section.PoolAnswer.{PoolAnswer}
 use Rattle.hp_model.specs.PoolCounts.{Pool}
 use Rattle.hp_model.specs.Promises.{is_for_pages, is_late, IsPromised, SameButNodes}
 use Rattle.hp_model.specs.Reserved.{is_reserved}
@@ -30,7 +29,7 @@ use Rattle.hp_model.specs.Spot.{Spot}
 use Rattle.hp_model.specs.State.{State, slot_at}
 use Rattle.hp_model.specs.Step.{IsStep}
 use Rattle.hp_model.specs.Table.{Table}
-use Rattle.hp_laws.specs.Balance.{IsBalanced}
+use Rattle.hp_laws.specs.Balance.{Always, IsBalanced, left_by}
 
 abbrev pub KeepsGoing : Outcome → Type 0
 KeepsGoing (Refused r) = is_for_pages r ≡ false
@@ -38,8 +37,7 @@ KeepsGoing (Answered a s) = Unit {0}
 
 -- whatever the pool answers, the plan is not refused for want of a huge page
 abbrev pub NeverWantsPages : Plan → Type 0
-NeverWantsPages (Finish o) = KeepsGoing o
-NeverWantsPages (Ask s f) = (a : PoolAnswer) → KeepsGoing (f a)
+NeverWantsPages p = Always KeepsGoing p
 
 -- an access at an index that is reserved to its map is never refused for want of a huge page
 abbrev pub ReservedAccess : Type 0
@@ -65,6 +63,12 @@ RefusalsChangeNothing =
 -- each event on a slot moves its counts as its section moves the pool's numbers
 abbrev pub SlotsAreBalanced : Type 0
 SlotsAreBalanced = (size slot : ℕ) (c : Choice) (old : Slot) (e : SlotEvent) → IsFresh c old → IsSound old → IsBalanced old (slot_event size slot c old e)
+
+-- each event on a slot leaves it sound, with whatever fresh stamp
+abbrev pub SlotsStaySound : Type 0
+SlotsStaySound =
+    (size slot : ℕ) (c : Choice) (old : Slot) (e : SlotEvent) → IsFresh c old → IsSound old →
+    Always (λ o. IsSound (left_by old o)) (slot_event size slot c old e)
 
 -- the pool as the plan's section leaves it
 abbrev pub pool_after : State → Plan → Pool

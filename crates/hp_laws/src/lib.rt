@@ -1,7 +1,7 @@
 //! What holds of the machine, whatever its steps. Each law is the contract of a function that does nothing.
 #![tactic(auto)]
 
-ghost use Rattle.hp_laws.specs.Laws.{CountsAreSums, JoinedLaw, LimitsHold, OwnerWrites, PoolIsTied, PromisesAreKept, RefusalsChangeNothing, ReservedAccess, RunsAreSettled, SlotsAreBalanced, StartIsSettled};
+ghost use Rattle.hp_laws.specs.Laws.{CountsAreSums, JoinedLaw, LimitsHold, OwnerWrites, PoolIsTied, PromisesAreKept, RefusalsChangeNothing, ReservedAccess, RunsAreSettled, SlotsAreBalanced, SlotsStaySound, StartIsSettled};
 
 /// An access at an index that is reserved to its map is never refused for want of a huge page, whatever the pool answers.
 pub fn reserved_accesses_get_pages()
@@ -16,6 +16,12 @@ pub fn owners_write()
 /// Each event on a slot moves the slot's counts as its section moves the pool's numbers, whatever the pool answers.
 pub fn slots_are_balanced()
     ensures { SlotsAreBalanced }
+{}
+
+/// Each event on a slot leaves its copies and maps sound, with whatever fresh stamp: copies with one stamp are one copy, in one file at
+/// one index, with one owner at most; an owner's stand where it has consumed; copies lie below the file's length; a task's number is of one map.
+pub fn slots_stay_sound()
+    ensures { SlotsStaySound }
 {}
 
 /// After every event the sums over files and maps are the numbers that it left in the pool, and these are settled.

@@ -16,12 +16,15 @@ module _ {X : Type 0} (f : X → X) (a b : ℕ) (xs : List X) where
     after : a ≤ k → a ≤ length xs → get_or (edit_range f a b xs) k d ≡ get_or (map f (take (b - a) (drop a xs)) ++ drop (b - a) (drop a xs)) (k - a) d
     after from le = ap (λ ys. get_or ys k d) parts ∙ get_or-append_right (take a xs) (map f (take (b - a) (drop a xs)) ++ drop (b - a) (drop a xs)) a k d (omega (arith, le, length-take a xs)) from
 
-    pub get_or-edit_within : a ≤ k → k < b → b ≤ length xs → get_or (edit_range f a b xs) k d ≡ f (get_or xs k d)
-    get_or-edit_within from high le =
-        after from (omega (arith, from, high, le))
-        ∙ get_or_append_left (map f (take (b - a) (drop a xs))) (drop (b - a) (drop a xs)) d (k - a) (omega (arith, from, high, le, length-map (take (b - a) (drop a xs)) f, length-take (b - a) (drop a xs), length-drop a xs))
-        ∙ get_or-map f (take (b - a) (drop a xs)) (k - a) d d (omega (arith, from, high, le, length-take (b - a) (drop a xs), length-drop a xs))
+    pub get_or-edit_in : a ≤ k → k < b → k < length xs → get_or (edit_range f a b xs) k d ≡ f (get_or xs k d)
+    get_or-edit_in from high lt =
+        after from (omega (arith, from, lt))
+        ∙ get_or_append_left (map f (take (b - a) (drop a xs))) (drop (b - a) (drop a xs)) d (k - a) (omega (arith, from, high, lt, length-map (take (b - a) (drop a xs)) f, length-take (b - a) (drop a xs), length-drop a xs))
+        ∙ get_or-map f (take (b - a) (drop a xs)) (k - a) d d (omega (arith, from, high, lt, length-take (b - a) (drop a xs), length-drop a xs))
         ∙ ap f (get_or-take (b - a) (drop a xs) (k - a) d (omega (arith, from, high)) ∙ get_or-drop a xs (k - a) d ∙ ap (λ j. get_or xs j d) {x = a + (k - a)} {y = k} (omega (arith, from)))
+
+    pub get_or-edit_within : a ≤ k → k < b → b ≤ length xs → get_or (edit_range f a b xs) k d ≡ f (get_or xs k d)
+    get_or-edit_within from high le = get_or-edit_in from high (omega (arith, high, le))
 
     pub get_or-edit_past : a ≤ k → b ≤ k → k < length xs → get_or (edit_range f a b xs) k d ≡ get_or xs k d
     get_or-edit_past from past lt =

@@ -2,7 +2,7 @@
 use Rattle.std.specs.Prelude.{ℕ, ◌-◌, Bool, true, false, not, List, [], ◌++◌, length, take, replicate}
 use Rattle.std.specs.Prelude.{Option, None, Some}
 use Rattle.std.specs.List.{slice_index_or, slice_set, flat_map}
-use Rattle.hp_model.specs.Mapping.{Map}
+use Rattle.hp_model.specs.Mapping.{Map, no_map}
 use Rattle.hp_model.specs.Page.{Page}
 use Rattle.hp_model.specs.declared.cell.Cell.{Cell}
 use Rattle.hp_model.specs.declared.cell.Cell.TheVariants.{Hole, Entered, Present}
@@ -77,7 +77,13 @@ with_map f k m = record f { maps = slice_set f.maps k m }
 abbrev pub new_file : Option (List ℕ) → File
 new_file name = record { name = name; cells = []; maps = [] }
 
+abbrev pub map_in : File → ℕ → Map
+map_in f k = slice_index_or f.maps k no_map
+
 -- ---- files and maps of a mount
+
+abbrev pub file_in : Mount → ℕ → File
+file_in m k = slice_index_or m.files k (new_file None)
 
 abbrev pub with_file : Mount → ℕ → File → Mount
 with_file m k f = record m { files = slice_set m.files k f }

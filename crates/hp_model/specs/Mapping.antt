@@ -1,5 +1,5 @@
 -- Maps of a file. C is what a map has as a private copy: a stamp with its page, or a page's number.
-use Rattle.std.specs.Prelude.{ℕ, ◌-◌, ◌&&◌, ◌==◌, Bool, true, false, List, map, if◌then◌else◌, nat_lt}
+use Rattle.std.specs.Prelude.{ℕ, ◌-◌, ◌&&◌, ◌==◌, Bool, true, false, List, [], map, if◌then◌else◌, nat_lt}
 use Rattle.std.specs.Prelude.{Option, None}
 use Rattle.std.specs.List.{slice_index_or, slice_set, list_any}
 use Rattle.hp_model.specs.Lists.{edit_range}
@@ -22,6 +22,10 @@ pub record Mapping (C : Type 0) : Type 0 where
 -- a map of the machine
 abbrev pub Map : Type 0
 Map = Mapping Copy
+
+-- what stands where there is no map
+abbrev pub no_map : Map
+no_map = record { task = 0; number = 0; start = 0; sharing = Shared; owner = false; unmapped = false; places = [] }
 
 abbrev pub is_shared : Sharing → Bool
 is_shared Shared = true

@@ -1,7 +1,6 @@
 -- What the machine promises of each step.
 use Rattle.std.specs.Prelude.{◌≡◌, ◌≢◌, ◌⊎◌, ℕ, ◌+◌, ◌<◌, ◌≤◌, ◌&&◌, ◌||◌, ◌==◌, Bool, true, false, not, Option, None, Some, is_some, option_map, Ok, Err, List, [], ◌++◌, length, take, drop, if◌then◌else◌, nat_le, nat_lt}
 use Rattle.std.specs.Bool.{MatchBool}
-use Rattle.std.specs.List.{slice_index_or}
 use Rattle.std.specs.Str.{bytes_eq}
 use Rattle.hp_model.specs.declared.answer.Answer.{Answer}
 use Rattle.hp_model.specs.declared.answer.Answer.TheVariants.{MapNo, Numbers, PerNode, Usage}
@@ -13,15 +12,18 @@ use Rattle.hp_model.specs.declared.refusal.Refusal.TheVariants.{NoPages, MountFu
 use Rattle.hp_model.specs.declared.step.Intent.{Intent}
 use Rattle.hp_model.specs.declared.step.Intent.TheVariants.{Read, Write}
 use Rattle.hp_model.specs.declared.place.Place.{Place}
+use Rattle.hp_model.specs.declared.step.Sharing.{Sharing}
 use Rattle.hp_model.specs.declared.step.Sharing.TheVariants.{Shared}
 use Rattle.hp_model.specs.declared.step.Step.{Step}
 use Rattle.hp_model.specs.declared.step.Step.TheVariants.{Create as CreateStep, Df, Exit, Fault, Fork, Load, Map as MapStep, Meminfo, Mount as MountStep, Nodes, Punch as PunchStep, Read as ReadStep, Store, Truncate as TruncateStep, Umount, Unlink as UnlinkStep, Unmap as UnmapStep}
 use Rattle.hp_model.specs.Plan.{slot_usage, IsWithinLimit}
 use Rattle.hp_model.specs.CopyWrite.{holds}
 use Rattle.hp_model.specs.File.{File, Mount, cell_at, new_file}
+pub use Rattle.hp_model.specs.File.{file_in, map_in}
 use Rattle.hp_model.specs.GiveBack.{without_task}
 use Rattle.hp_model.specs.Machine.{committed_pages, counts_in, pool_of}
 use Rattle.hp_model.specs.MakeMap.{new_map}
+pub use Rattle.hp_model.specs.Mapping.{no_map}
 use Rattle.hp_model.specs.Mapping.{Map, copy_of, is_map, is_mapped, is_shared, place_at, without_range}
 use Rattle.hp_model.specs.MountCounts.{usage_of}
 use Rattle.hp_model.specs.NodeRows.{total_of}
@@ -93,9 +95,6 @@ is_refused (Err r) = true
 
 -- ---- what files show
 
-abbrev pub file_in : Mount → ℕ → File
-file_in m j = slice_index_or m.files j (new_file None)
-
 abbrev pub shown_on : (size : ℕ) → Slot → (file i : ℕ) → List ℕ
 shown_on size None file i = zeros size
 shown_on size (Some m) file i = shown size (cell_at (file_in m file) i)
@@ -134,12 +133,6 @@ stored_over s (PunchStep slot name from to) (Ok a) k file j old =
 stored_over s step reply k file j old = old
 
 -- ---- what maps show
-
-abbrev pub no_map : Map
-no_map = record { task = 0; number = 0; start = 0; sharing = Shared; owner = false; unmapped = false; places = [] }
-
-abbrev pub map_in : File → ℕ → Map
-map_in f n = slice_index_or f.maps n no_map
 
 abbrev pub map_on : Slot → (file map : ℕ) → Map
 map_on None file map = no_map
@@ -192,23 +185,27 @@ seen_over s step reply k file map j old = old
 abbrev pub is_same_copy : Place Copy → Place Copy → Bool
 is_same_copy p q = elim (copy_of p) [ None ↦ false | Some copy ↦ holds copy.stamp q ]
 
--- a map held the copy that the owner writes into: the owner has kept it, the map has none there now, and is marked
-pub record IsLost (s : Spot) (i : ℕ) (old new : Map) (j : ℕ) : Type 0 where
-  pub private : is_shared s.map.sharing ≡ false
-  pub owner : s.map.owner ≡ true
-  pub held : is_same_copy (place_at s.map i) (place_at old j) ≡ true
+-- a map held the copy that an owner's map, `own` and then `after`, writes into: at the very index of that write the owner has it still,
+-- and the map, which is marked, has none
+pub record IsLost (own after : Map) (i : ℕ) (old new : Map) (j : ℕ) : Type 0 where
+  pub index : j ≡ i
+  pub private : is_shared own.sharing ≡ false
+  pub owner : own.owner ≡ true
+  pub held : is_same_copy (place_at own i) (place_at old j) ≡ true
+  pub kept : is_same_copy (place_at own i) (place_at after i) ≡ true
   pub lost : copy_of (place_at new j) ≡ None
   pub marked : new.unmapped ≡ true
 
--- another map of the owner's file has lost its copy to it
-abbrev pub IsLostTo : Option Spot → (i : ℕ) (old new : Map) (file map j : ℕ) → Type 0
-IsLostTo None i old new file map j = ⊥
-IsLostTo (Some s) i old new file map j = (s.file_no ≡ file) × IsLost s i old new j × (map ≡ s.map_no → ⊥)
+-- another map of the owner's file, p before and q after, has lost its copy to it
+abbrev pub IsLostTo : (owner after : Option Spot) → (i : ℕ) (p q : Spot) (j : ℕ) → Type 0
+IsLostTo (Some o) (Some a) i p q j = (o.file_no ≡ p.file_no) × IsLost o.map a.map i p.map q.map j × (p.map_no ≡ o.map_no → ⊥)
+IsLostTo owner after i p q j = ⊥
 
-abbrev pub LosesCopy : State → Step → State → (slot file map i : ℕ) → Type 0
-LosesCopy s (Store task slot number i offset bytes) t k file map j = (slot ≡ k) × IsLostTo (map_named s slot task number) i (map_at s k file map) (map_at t k file map) file map j
-LosesCopy s (Fault task slot number i Write) t k file map j = (slot ≡ k) × IsLostTo (map_named s slot task number) i (map_at s k file map) (map_at t k file map) file map j
-LosesCopy s step t k file map j = ⊥
+-- only an owner's store and its write fault take copies back
+abbrev pub LosesTo : State → Step → State → (slot : ℕ) (p q : Spot) (j : ℕ) → Type 0
+LosesTo s (Store task slot number i offset bytes) t k p q j = (slot ≡ k) × IsLostTo (map_named s slot task number) (map_named t slot task number) i p q j
+LosesTo s (Fault task slot number i Write) t k p q j = (slot ≡ k) × IsLostTo (map_named s slot task number) (map_named t slot task number) i p q j
+LosesTo s step t k p q j = ⊥
 
 -- ---- what names and numbers mean afterwards
 
@@ -239,16 +236,24 @@ is_ended_number s step reply slot task number = is_unmounted step reply slot
 abbrev pub StillNamed : (size : ℕ) → Slot → List ℕ → (i : ℕ) → List ℕ → Type 0
 StillNamed size slot name i bytes = (g : ℕ × File) × (named_on slot name ≡ Some g) × (shown size (cell_at g.1 i) ≡ bytes)
 
-abbrev pub LosesTo : State → Step → (slot : ℕ) (p q : Spot) (j : ℕ) → Type 0
-LosesTo s (Store task slot number i offset bytes) k p q j = (slot ≡ k) × IsLostTo (map_named s slot task number) i p.map q.map p.file_no p.map_no j
-LosesTo s (Fault task slot number i Write) k p q j = (slot ≡ k) × IsLostTo (map_named s slot task number) i p.map q.map p.file_no p.map_no j
-LosesTo s step k p q j = ⊥
+-- what a map keeps as long as it is there
+pub record Shape : Type 0 where
+  pub task : ℕ
+  pub number : ℕ
+  pub start : ℕ
+  pub pages : ℕ
+  pub sharing : Sharing
+  pub owner : Bool
 
--- p before and q after: the bytes are as they were but for a store, or the copy is lost; and a marked map stays marked
-abbrev pub StillMapped : State → Step → Reply → (size slot : ℕ) (p q : Spot) (i : ℕ) → Type 0
-StillMapped s step reply size slot p q i =
-    ((value size q.file q.map i ≡ seen_over s step reply slot p.file_no p.map_no i (value s.page_size p.file p.map i)) ⊎ LosesTo s step slot p q i)
-    × (p.map.unmapped ≡ true → q.map.unmapped ≡ true)
+abbrev pub shape_of : Map → Shape
+shape_of m = record { task = m.task; number = m.number; start = m.start; pages = length m.places; sharing = m.sharing; owner = m.owner }
+
+-- p before and q after: range, sharing and ownership are as they were, and a marked map stays marked; the bytes at an index
+-- are as they were but for a store, or the copy there is lost
+pub record StillMapped (s : State) (step : Step) (reply : Reply) (t : State) (slot : ℕ) (p q : Spot) (i : ℕ) : Type 0 where
+  pub shape : shape_of q.map ≡ shape_of p.map
+  pub marked : p.map.unmapped ≡ true → q.map.unmapped ≡ true
+  pub shows : (value t.page_size q.file q.map i ≡ seen_over s step reply slot p.file_no p.map_no i (value s.page_size p.file p.map i)) ⊎ LosesTo s step t slot p q i
 
 -- ---- what is answered
 
@@ -363,9 +368,10 @@ pub record IsPromised (s : State) (step : Step) (reply : Reply) (t : State) : Ty
   -- each name keeps its file, which shows what it showed, but for what a step stores, cuts off or punches
   pub files : (slot : ℕ) (name : List ℕ) (i : ℕ) (f : ℕ × File) → is_ended_name step reply slot name ≡ false → named_on (slot_at s slot) name ≡ Some f
       → StillNamed t.page_size (slot_at t slot) name i (stored_over s step reply slot f.0 i (shown s.page_size (cell_at f.1 i)))
-  -- each number of a task keeps its map, which shows what it showed, but for what a store reaches; or it has lost its copy to the owner that stored
+  -- each number of a task keeps its map, with its range, sharing and ownership, and the map shows what it showed, but for what a store reaches;
+  -- or it has lost its copy at that index to the owner that stored there
   pub maps : (slot task number i : ℕ) (p : Spot) → is_ended_number s step reply slot task number ≡ false → map_named s slot task number ≡ Some p
-      → (q : Spot) × (map_named t slot task number ≡ Some q) × StillMapped s step reply t.page_size slot p q i
+      → (q : Spot) × (map_named t slot task number ≡ Some q) × StillMapped s step reply t slot p q i
   -- an access through a marked map is refused where it has no copy
   pub cut_off : is_cut_off_step s step ≡ true → is_refused reply ≡ true
 

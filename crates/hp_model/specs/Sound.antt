@@ -1,12 +1,14 @@
--- What holds of each mount that events leave.
-use Rattle.std.specs.Prelude.{◌≡◌, ℕ, ◌&&◌, ◌==◌, Bool, true, false, None, Some}
-use Rattle.std.specs.List.{list_any, All}
-use Rattle.hp_model.specs.File.{File}
-use Rattle.hp_model.specs.Mapping.{Map}
+-- What holds of the copies and the maps of every slot, whatever events made them.
+use Rattle.std.specs.Prelude.{◌≡◌, ℕ, ◌≤◌, ◌<◌, ◌&&◌, ◌==◌, Bool, true, false, None, Some, length}
+use Rattle.std.specs.List.{All, count_by, list_any}
+use Rattle.hp_model.specs.File.{File, Mount, map_in, maps_of}
+use Rattle.hp_model.specs.Mapping.{Map, copy_of, is_map, is_shared, is_unconsumed, place_at}
 use Rattle.hp_model.specs.Page.{Copy}
 use Rattle.hp_model.specs.Plan.{Slot}
 use Rattle.hp_model.specs.declared.place.Place.{Place}
 use Rattle.hp_model.specs.declared.place.Place.TheVariants.{Gone, Live}
+
+-- ---- copies that are held
 
 -- whether a copy is held whose stamp and node pass
 abbrev pub place_has : (ℕ → ℕ → Bool) → Place Copy → Bool
@@ -23,14 +25,42 @@ file_has t f = list_any (map_has t) f.maps
 abbrev pub is_stamp : ℕ → ℕ → ℕ → Bool
 is_stamp q stamp node = stamp == q
 
-abbrev pub is_stamp_at : ℕ → ℕ → ℕ → ℕ → Bool
-is_stamp_at n q stamp node = (node == n) && (stamp == q)
+abbrev pub owns_stamp : ℕ → Map → Bool
+owns_stamp stamp m = m.owner && map_has (is_stamp stamp) m
 
--- maps that hold the same stamp hold a page at the same node
-abbrev pub IsAgreed : File → Type 0
-IsAgreed f = (q m n : ℕ) → file_has (is_stamp_at m q) f ≡ true → file_has (is_stamp_at n q) f ≡ true → m ≡ n
+-- the map has the copy at this index of the file
+abbrev pub HasCopy : Map → ℕ → Copy → Type 0
+HasCopy m i copy = copy_of (place_at m i) ≡ Some copy
 
--- what holds of each slot that events leave
+-- one of the file's maps has it there
+abbrev pub FileHasCopy : File → ℕ → Copy → Type 0
+FileHasCopy f i copy = (k : ℕ) × HasCopy (map_in f k) i copy
+
+-- ---- what holds of them
+
+-- a place with a copy, where the file has so many pages
+pub record IsCopyPlace (pages : ℕ) (m : Map) (i : ℕ) : Type 0 where
+  pub private : is_shared m.sharing ≡ false
+  pub below : i < pages
+  pub consumed : m.owner ≡ true → is_unconsumed (place_at m i) ≡ false
+
+-- only a private map has copies, below the file's length, and an owner where it has consumed
+abbrev pub IsSoundMap : (pages : ℕ) → Map → Type 0
+IsSoundMap pages m = (i : ℕ) (copy : Copy) → HasCopy m i copy → IsCopyPlace pages m i
+
+pub record IsSoundFile (f : File) : Type 0 where
+  pub maps : All (IsSoundMap (length f.cells)) f.maps
+  -- copies with one stamp stand at one index, with the same bytes and node
+  pub copies : (i j : ℕ) (a b : Copy) → FileHasCopy f i a → FileHasCopy f j b → a.stamp ≡ b.stamp → (i ≡ j) × (a ≡ b)
+  pub owners : (stamp : ℕ) → count_by (owns_stamp stamp) f.maps ≤ 1
+
+pub record IsSoundMount (m : Mount) : Type 0 where
+  pub files : All IsSoundFile m.files
+  -- a stamp is in one file
+  pub stamps : (stamp : ℕ) → count_by (file_has (is_stamp stamp)) m.files ≤ 1
+  -- a task's number is of one map
+  pub numbers : (task number : ℕ) → count_by (is_map task number) (maps_of m) ≤ 1
+
 abbrev pub IsSound : Slot → Type 0
 IsSound None = Unit {0}
-IsSound (Some m) = All IsAgreed m.files
+IsSound (Some m) = IsSoundMount m

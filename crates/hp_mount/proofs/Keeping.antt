@@ -48,7 +48,7 @@ module _ (s : Subpool) (v : Files) (inodes : Option ℕ) (c : IsKept s v (mount_
   here = record { within = l; is = λ d. get_or_default v.files k d (new_file None) l }
 
   pub grows : (g : File) (node p u : ℕ) → FileGrows (file_at v.files k) g node p u → MountGrows m (with_file m k g) node p u
-  grows g node p u h = file_grows m k (file_at v.files k) g node p u here c.sound h
+  grows g node p u h = file_grows m k (file_at v.files k) g node p u here h
 
   -- the file's maps are shared
   pub shared_here : AreShared (file_at v.files k)
@@ -68,7 +68,6 @@ module _ (s : Subpool) (v : Files) (inodes : Option ℕ) (c : IsKept s v (mount_
         used = used_is ∙ omega (arith, was, raised);
         room = room;
         going = going ∙ c.going;
-        sound = all.sound;
         plain = All-set AreShared v.files k g shared c.plain;
       })
 
@@ -155,7 +154,6 @@ module _ (s : Subpool) (v : Files) (inodes : Option ℕ) (c : IsKept s v (mount_
         used = ap used new_is ∙ c.used;
         room = omega (arith, room_is, room, held_is);
         going = ap (λ (x : Files). x.going) w_is ∙ c.going;
-        sound = c.sound;
         plain = c.plain;
       })
 
@@ -183,7 +181,7 @@ module _ (s : Subpool) (v w : Files) (inodes : Option ℕ) (c : IsKept s v (moun
   room_left = ap (λ (x : Files). mount_of s inodes x.files) w_is
 
   pub room_kept : v.room ≤ w.room → IsKept s w (mount_of s inodes w.files)
-  room_kept more = (let room = c.room in subst (λ n. IsKept s w n) (sym room_left) (record { pages = c.pages; used = c.used; room = omega (arith, room, more); going = ap (λ (x : Files). x.going) w_is ∙ c.going; sound = c.sound; plain = c.plain }))
+  room_kept more = (let room = c.room in subst (λ n. IsKept s w n) (sym room_left) (record { pages = c.pages; used = c.used; room = omega (arith, room, more); going = ap (λ (x : Files). x.going) w_is ∙ c.going; plain = c.plain }))
 
 -- a map that is found is shared
 pub found_shared : (s : Subpool) (v : Files) (inodes : Option ℕ) → IsKept s v (mount_of s inodes v.files) → (k j : ℕ) → k < length v.files → j < length (file_at v.files k).maps → is_shared (map_in (file_in (mount_of s inodes v.files) k) j).sharing ≡ true

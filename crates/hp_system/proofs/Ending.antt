@@ -6,17 +6,19 @@ use Rattle.std.proofs.lemmas.Bool.{cond_both}
 use Rattle.std.proofs.lemmas.List.{append-nil, append_assoc, length-append}
 use Rattle.std.proofs.Math.Seq.{get_or-append_seam, set-append_seam}
 use Rattle.hp_model.specs.declared.answer.Answer.TheVariants.{Done}
-use Rattle.hp_laws.specs.Balance.{IsBalanced}
+use Rattle.hp_laws.specs.Balance.{Always, IsBalanced, left_by}
 use Rattle.hp_model.specs.File.{Mount}
 use Rattle.hp_model.specs.Machine.{committed_pages, pool_of}
 use Rattle.hp_model.specs.Plan.{Plan, Finish, Ask, Answered, Slot, fall_of, gives, puts_of}
 use Rattle.hp_model.specs.declared.section.Section.TheVariants.{GiveBack}
 use Rattle.hp_model.specs.PoolCounts.{Pool, counts_by, counts_of, used}
 use Rattle.hp_model.specs.Settled.{IsSettledState}
+use Rattle.hp_model.specs.Sound.{IsSound}
 use Rattle.hp_model.specs.State.{State}
 use Rattle.hp_model.specs.Table.{Table}
 use Rattle.hp_laws.proofs.Plans.{balanced_gives}
 use Rattle.hp_model.proofs.RowMoves.{puts_are}
+use Rattle.hp_laws.proofs.SlotShows.{always_gives}
 use Rattle.hp_laws.proofs.Tied.{plan_tied}
 use Rattle.hp_model.specs.LocalRun.{ThroughDoor}
 use Rattle.hp_laws.proofs.Tells.{tells_gives}
@@ -53,8 +55,9 @@ gone_kept : (size bytes : ℕ) (t : Table) (xs : List Slot) (k : ℕ) (m : Mount
 gone_kept size bytes t xs k m p q kept within here h =
     let s : State = state_of size t xs p in
     let plan : Plan = gives Done (Some m) None in
-    let balanced = subst (λ y. IsBalanced y plan) (sym here) (balanced_gives Done (Some m) None (record { committed = omega arith; each = λ n. omega arith; usage = omega arith; sound = tt })) in
-    let law = plan_tied s k plan within kept.settled balanced in
+    let balanced = subst (λ y. IsBalanced y plan) (sym here) (balanced_gives Done (Some m) None (record { committed = omega arith; each = λ n. omega arith; usage = omega arith })) in
+    let sound = subst (λ y. Always (λ o. IsSound (left_by y o)) plan) (sym here) (always_gives (λ o. IsSound (left_by (Some m) o)) Done (Some m) None tt) in
+    let law = plan_tied s k plan within kept.settled balanced sound in
     let goes = plan_is size t xs k p kept.tied (Some m) None here plan (Ok Done) q (tells_gives Done (Some m) None) h in
     record {
       size = kept.size;

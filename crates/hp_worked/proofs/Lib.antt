@@ -7,4 +7,5 @@ pub mod WorkedMounts
 pub mod WorkedWithoutMemory
 pub mod WorkedLines
 pub mod WorkedPromises
+pub mod WorkedSound
 pub mod Worked

@@ -1,5 +1,5 @@
 -- What is promised of some steps, by computation: the tests and the bytes that the promises speak of.
-use Rattle.std.proofs.Common.{◌≡◌, subst, sym, ℕ, ◌+◌, ◌==◌, ◌∙◌, true, false, None, Option, Some, Ok, Err, List, [], ◌∷◌, length, take, map, nat_le, refl, ap, arith}
+use Rattle.std.proofs.Common.{◌≡◌, ⊎_elim, subst, ℕ, ◌+◌, ◌==◌, ◌∙◌, true, false, None, Option, Some, Ok, Err, List, [], ◌∷◌, length, take, map, nat_le, refl, ap, arith}
 use Rattle.std.specs.List.{slice_index_or}
 use Rattle.std.specs.Prelude.{codes, is_some}
 use Rattle.hp_model.specs.declared.answer.Answer.{Answer}
@@ -10,18 +10,20 @@ use Rattle.hp_model.specs.declared.step.Reserving.TheVariants.{Reserve, NoReserv
 use Rattle.hp_model.specs.declared.step.Sharing.TheVariants.{Shared, Private}
 use Rattle.hp_model.specs.declared.step.Step.{Step}
 use Rattle.hp_model.specs.declared.step.Step.TheVariants.{Connect, Create, Df, Fork, Load, Map, Meminfo, Mount, Nr, Punch, Store, Truncate, Unmap}
-use Rattle.hp_model.specs.File.{File, cell_at}
+use Rattle.hp_model.specs.declared.place.Place.TheVariants.{Live}
+use Rattle.hp_model.specs.File.{File, cell_at, new_file, with_file, with_map}
 use Rattle.hp_model.specs.Machine.{committed_pages, counts_in, pool_of}
+use Rattle.hp_model.specs.Mapping.{Map as MapOf, copy_of, is_shared, no_map, place_at, with_place}
 use Rattle.hp_model.specs.NodeRows.{free_of, total_of}
 use Rattle.hp_model.specs.Plain.{plain_step}
 use Rattle.hp_model.specs.Plan.{Slot}
-use Rattle.hp_model.specs.Promises.{IsLostTo, LeavesAll, LosesTo, Makes, SameLimits, StillNamed, Tells, file_in, is_backed_step, is_cut_off_step, is_ended_number, least_of, map_at, map_named, seen_in, seen_over, shown_in, shown_on, stored_over}
+use Rattle.hp_model.specs.Promises.{LeavesAll, LosesTo, Makes, SameLimits, Shape, StillMapped, StillNamed, Tells, file_in, is_backed_step, is_cut_off_step, is_ended_number, least_of, map_at, map_named, seen_in, seen_over, shown_in, shown_on, stored_over}
 use Rattle.hp_model.specs.Spot.{Spot}
 use Rattle.hp_model.specs.State.{Node, State, slot_at, with_slot}
-use Rattle.hp_model.specs.Value.{shown}
+use Rattle.hp_model.specs.Value.{shown, value}
 use Rattle.hp_worked.proofs.WorkedWords.{machine}
 
-abbrev after_all : State → List Step → State
+abbrev pub after_all : State → List Step → State
 after_all s [] = s
 after_all s (step ∷ steps) = after_all (plain_step s step).1 steps
 
@@ -231,6 +233,90 @@ part_is_not_the_end = refl
 whole_is_the_end : is_ended_number forked (Unmap 1 0 1 0 2) (Ok Done) 0 1 1 ≡ true
 whole_is_the_end = refl
 
--- the map that stores never loses its own copy
-own_copy_is_kept : (p q : Spot) → Some p ≡ map_named forked 0 1 1 → LosesTo forked by_owner 0 p q 0 → ⊥
-own_copy_is_kept p q e lost = (let to = subst (λ o. IsLostTo o 0 p.map q.map p.file_no p.map_no 0) (sym e) lost.1 in to.2 refl)
+-- ---- copies that an owner takes back: only at the index of its write, only from other maps, and it keeps its own
+
+abbrev spot_or : Option Spot → Spot
+spot_or None = record { file_no = 99; file = new_file None; map_no = 99; map = no_map }
+spot_or (Some s) = s
+
+-- parent and child hold two copies
+abbrev sharing : State
+sharing = (plain_step (after_all machine (Nr 2 ∷ Connect 1 0 ∷ Create 0 (codes "a") ∷ Map 1 0 (codes "a") 0 2 Private Reserve ∷ Store 1 0 1 0 0 (5 ∷ []) ∷ Store 1 0 1 1 0 (7 ∷ []) ∷ [])) (Fork 1 2)).1
+
+abbrev taken : State
+taken = (plain_step sharing by_owner).1
+
+-- the file's map at this place is another
+abbrev with_map_of : (map : ℕ) → MapOf → State → State
+with_map_of map x t = elim (slot_at t 0) [ None ↦ t | Some m ↦ with_slot t 0 (Some (with_file m 0 (with_map (file_in m 0) map x))) ]
+
+abbrev parent_in : State → Spot
+parent_in t = spot_or (map_named t 0 1 1)
+
+abbrev child_in : State → Spot
+child_in t = spot_or (map_named t 0 2 1)
+
+child_lost_its_copy : copy_of (place_at (child_in taken).map 0) ≡ None
+child_lost_its_copy = refl
+
+lost_to_the_owner : LosesTo sharing by_owner taken 0 (child_in sharing) (child_in taken) 0
+lost_to_the_owner =
+    (refl, (refl, record { index = refl; private = refl; owner = refl; held = refl; kept = refl; lost = refl; marked = refl }, λ e. (let same : 1 ≡ 0 = e in absurd (omega (arith, same)))))
+
+-- the child's copy at the next index goes too
+abbrev lost_next : State
+lost_next = with_map_of 1 (with_place (child_in taken).map 1 (Live false None)) taken
+
+abbrev byte_at : Spot → ℕ → ℕ
+byte_at p i = slice_index_or (value 1024 p.file p.map i) 0 0
+
+lost_at_another_index : StillMapped sharing by_owner (Ok Done) lost_next 0 (child_in sharing) (child_in lost_next) 1 → ⊥
+lost_at_another_index still =
+    ⊎_elim (λ same. (let wrong : 0 ≡ 7 = ap (λ (bytes : List ℕ). slice_index_or bytes 0 0) same in absurd (omega (arith, wrong))))
+    (λ lost. (let wrong : 1 ≡ 0 = lost.1.1.index in absurd (omega (arith, wrong)))) still.shows
+
+-- the owner loses its copy with the child
+abbrev none_kept : State
+none_kept = with_map_of 0 (with_place (parent_in taken).map 0 (Live true None)) taken
+
+owner_keeps_none : LosesTo sharing by_owner none_kept 0 (child_in sharing) (child_in none_kept) 0 → ⊥
+owner_keeps_none lost = (let wrong : false ≡ true = lost.1.1.kept in cc)
+
+-- the child is not marked
+abbrev unmarked : State
+unmarked = with_map_of 1 (record (child_in taken).map { unmapped = false }) taken
+
+lost_without_a_mark : LosesTo sharing by_owner unmarked 0 (child_in sharing) (child_in unmarked) 0 → ⊥
+lost_without_a_mark lost = (let wrong : false ≡ true = lost.1.1.marked in cc)
+
+-- a map of another file
+lost_in_another_file : LosesTo sharing by_owner taken 0 (record (child_in sharing) { file_no = 1 }) (child_in taken) 0 → ⊥
+lost_in_another_file lost = (let wrong : 0 ≡ 1 = lost.1.0 in absurd (omega (arith, wrong)))
+
+-- the map that stores
+own_copy_is_kept : LosesTo sharing by_owner taken 0 (parent_in sharing) (parent_in taken) 0 → ⊥
+own_copy_is_kept lost = lost.1.2 refl
+
+-- a child that stores takes nothing back
+lost_to_a_child : LosesTo sharing (Store 2 0 1 0 0 (6 ∷ [])) taken 0 (parent_in sharing) (parent_in taken) 0 → ⊥
+lost_to_a_child lost = (let wrong : false ≡ true = lost.1.1.owner in cc)
+
+-- ---- a map that is kept, with another range, sharing or owner
+
+abbrev kept_as : (MapOf → MapOf) → State
+kept_as h = with_map_of 1 (h (child_in taken).map) taken
+
+abbrev Kept : State → Type 0
+Kept t = StillMapped sharing by_owner (Ok Done) t 0 (child_in sharing) (child_in t) 1
+
+starts_elsewhere : Kept (kept_as (λ x. record x { start = 1 })) → ⊥
+starts_elsewhere still = (let wrong : 1 ≡ 0 = ap (λ (x : Shape). x.start) still.shape in absurd (omega (arith, wrong)))
+
+has_fewer_pages : Kept (kept_as (λ x. record x { places = take 1 x.places })) → ⊥
+has_fewer_pages still = (let wrong : 1 ≡ 2 = ap (λ (x : Shape). x.pages) still.shape in absurd (omega (arith, wrong)))
+
+is_shared_now : Kept (kept_as (λ x. record x { sharing = Shared })) → ⊥
+is_shared_now still = (let wrong : true ≡ false = ap (λ (x : Shape). is_shared x.sharing) still.shape in cc)
+
+is_owner_now : Kept (kept_as (λ x. record x { owner = true })) → ⊥
+is_owner_now still = (let wrong : true ≡ false = ap (λ (x : Shape). x.owner) still.shape in cc)
