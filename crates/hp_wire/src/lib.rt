@@ -2,15 +2,18 @@
 //! input.
 #![tactic(auto)]
 
+mod answering;
 mod commands;
 pub mod ends;
 pub mod fault;
 mod output;
 mod parts;
 pub mod reading;
+mod replies;
 pub mod running;
 pub mod script;
 #[cfg(test)]
 mod tests;
+mod unanswered;
 pub mod words;
 pub mod writing;
