@@ -1,6 +1,7 @@
 -- A refused event leaves everything as it was.
 use Rattle.std.proofs.Common.{◌≡◌, subst, ℕ, ◌+◌, ◌-◌, Bool, true, false, ◌||◌, ◌==◌, ◌&&◌, not, Option, None, Some, is_some, Result, Ok, Err, List, [], ◌∷◌, length, refl, sym, ap, ◌∙◌, arith, if◌then◌else◌, nat_lt, nat_le}
 use Rattle.std.specs.Bool.{MatchBool}
+use Rattle.std.specs.Prelude.{max}
 use Rattle.std.specs.List.{count_by, filter_map}
 use Rattle.std.proofs.lemmas.Bool.{cond_both}
 use Rattle.hp_model.specs.declared.answer.Answer.{Answer}
@@ -224,9 +225,9 @@ module _ (size number : ℕ) (c : Choice) (m : Mount) where
 
 -- ---- a mount
 
-granted_none : (p : Pool) → IsSettledPool p → granted 0 0 p ≡ p
-granted_none p s =
-    let total = s.total in
+-- a grant of nothing leaves a settled pool as it is
+pub granted_none : (p : Pool) → total_of p.nodes.rows ≡ max p.nr p.committed → granted 0 0 p ≡ p
+granted_none p total =
     let none : p.committed + 0 - total_of p.nodes.rows ≡ 0 = omega (arith, total) in
     let same : p.committed + 0 ≡ p.committed = omega arith in
     ap (λ k. record p { committed = p.committed + 0; nodes = surplus_times 0 k p.nodes }) none ∙ ap (λ c. record p { committed = c }) same
@@ -269,8 +270,8 @@ mount_section_keeps c l p r st late is = by_choice c.after_grant refl is
         → (section p (if b then GrantAndReturn (mount_pages c l) else ReadAndGrant (mount_pages c l))).1 ≡ p
     by_choice true e is =
         by_test (can_grant (mount_pages c l) p) (settled_pool (released (mount_pages c l) (granted 0 (mount_pages c l) p)))
-        (λ none. ap (λ d. settled_pool (released d (granted 0 d p))) none ∙ ap (λ x. settled_pool (released 0 x)) (granted_none p st) ∙ settled_already p st) is
-    by_choice false e is = by_test (can_grant (mount_pages c l) p) (granted 0 (mount_pages c l) p) (λ none. ap (λ d. granted 0 d p) none ∙ granted_none p st) is
+        (λ none. ap (λ d. settled_pool (released d (granted 0 d p))) none ∙ ap (λ x. settled_pool (released 0 x)) (granted_none p st.total) ∙ settled_already p st) is
+    by_choice false e is = by_test (can_grant (mount_pages c l) p) (granted 0 (mount_pages c l) p) (λ none. ap (λ d. granted 0 d p) none ∙ granted_none p st.total) is
 
 keeps_on_none : (size : ℕ) (c : Choice) (e : SlotEvent) → IsKept late_memory (on_none size c e)
 keeps_on_none size c (slot.Mount options) = record {

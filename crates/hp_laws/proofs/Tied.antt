@@ -1,8 +1,8 @@
 -- The pool's numbers as sums over the slots are those that an event leaves.
-use Rattle.std.proofs.Common.{◌≡◌, subst, ℕ, zero, suc, ◌+◌, ◌-◌, ◌<◌, ◌≤◌, Bool, true, false, ◌&&◌, ◌==◌, None, List, [], ◌∷◌, length, map, refl, sym, ap, ◌∙◌, cond, arith}
-use Rattle.std.specs.List.{sum, slice_index_or, slice_set, range_with_len, All}
+use Rattle.std.proofs.Common.{◌≡◌, subst, ℕ, ◌+◌, ◌-◌, ◌<◌, ◌≤◌, Bool, true, false, ◌&&◌, ◌==◌, None, List, [], ◌∷◌, length, map, refl, sym, ap, ◌∙◌, cond, arith}
+use Rattle.std.specs.List.{sum, slice_set, range_with_len, All}
 use Rattle.std.proofs.lemmas.Bool.{ne_eqb}
-use Rattle.std.proofs.lemmas.List.{length-map}
+use Rattle.std.proofs.lemmas.List.{length-map, set-get_or}
 use Rattle.std.proofs.lemmas.List.Elements.{All-head, All-tail, All-set}
 use Rattle.std.proofs.lemmas.List.Sums.{sum_by-set, sum-map, sum_by-le-sum_by}
 use Rattle.hp_laws.specs.Balance.{Always, Moves, takes_page, left_by, IsBalanced}
@@ -44,11 +44,6 @@ long_rows s a (n ∷ ns) = omega (arith, long_rows s (a + 1) ns)
 nodes_back : (s : State) (a : ℕ) (ns : List Node) → map node_of (rows_of s a ns) ≡ ns
 nodes_back s a [] = refl
 nodes_back s a (n ∷ ns) = ap (λ xs. n ∷ xs) (nodes_back s (a + 1) ns)
-
-set_back : (xs : List Slot) (k : ℕ) → slice_set xs k (slice_index_or xs k None) ≡ xs
-set_back [] k = refl
-set_back (x ∷ xs) zero = refl
-set_back (x ∷ xs) (suc k) = ap (λ ys. x ∷ ys) (set_back xs k)
 
 module _ (s : State) (st : IsSettledState s) (xs : List Slot) (sound : All IsSound xs) (q : Pool) where
   abbrev pub next : State
@@ -124,7 +119,7 @@ module _ (s : State) (k : ℕ) (st : IsSettledState s) (new : Slot) (sound : IsS
 -- ---- events
 
 pub settled_is : (s : State) (k : ℕ) (o : Outcome) → (settled s k o).1 ≡ with_slot s k (left_by (slot_at s k) o)
-settled_is s k (Refused r) = ap (λ xs. record s { slots = xs }) (sym (set_back s.slots k))
+settled_is s k (Refused r) = ap (λ xs. record s { slots = xs }) (sym (set-get_or s.slots k None))
 settled_is s k (Answered a new) = refl
 
 pub pool_back : (s : State) → with_pool s (pool_of s) ≡ s

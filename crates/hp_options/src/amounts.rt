@@ -4,8 +4,9 @@ ghost use Rattle.std.specs.Option.{option_map};
 ghost use Rattle.hp_model.specs.Options.{amount_of, percent_of, pages_for};
 ghost use Rattle.hp_options.specs.Seen.{amount_seen};
 
-use crate::numbers::{cut_last, number_of, quantity_of};
+use crate::quantities::{cut_last, quantity_of};
 use crate::wanted::{Amount, Part};
+use hp_text::numbers::number_of;
 
 /// Reads a size in bytes, or a percentage.
 pub fn amount_of(text: &[u8]) -> Option<Amount>

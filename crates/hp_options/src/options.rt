@@ -1,15 +1,15 @@
 //! The text of a mount's options, and the limits that it means.
-ghost use Rattle.std.specs.Prelude.{◌≡◌, ◌<◌, ◌∷◌, [], length, MatchOption};
+ghost use Rattle.std.specs.Prelude.{◌≡◌, ◌<◌};
 ghost use Rattle.std.specs.Option.{option_map};
 ghost use Rattle.hp_model.specs.Options.{after_key, option_of, options_of, nothing_wanted, parts, wanted_of, limits_of, checked, limits, pages_for};
 ghost use Rattle.hp_options.specs.Seen.{amount_seen, wanted_seen};
 
 use crate::amounts::{amount_of, pages_for};
-use crate::numbers::quantity_of;
-use crate::pieces::place_of;
+use crate::quantities::quantity_of;
 use crate::wanted::{Amount, Wanted};
 use hp_model::limits::Limits;
 use hp_model::refusal::Refusal;
+use hp_text::pieces::first_piece;
 
 /// The limits that a mount's options mean, in pages of `page_bytes` bytes, where `nr` pages are asked for. It takes
 /// no memory.
@@ -45,20 +45,13 @@ fn options_of(start: Wanted, text: &[u8]) -> Option<Wanted>
     ensures { option_map wanted_seen result ≡ options_of (wanted_seen start) (parts text.now) }
 {
     let mut wanted = start;
-    let mut rest = text;
-    while let Some((part, more)) = cut_at_comma(rest) {
+    let mut left = Some(text);
+    while let Some(rest) = left {
+        let (part, more) = first_piece(b',', rest);
         wanted = option_of(wanted, part)?;
-        rest = more;
+        left = more;
     }
-    option_of(wanted, rest)
-}
-
-// What stands before the first comma, and what stands after it.
-fn cut_at_comma(text: &[u8]) -> Option<(&[u8], &[u8])>
-    ensures { MatchOption result (parts text.now ≡ text.now ∷ []) (λ cut. (parts text.now ≡ cut.0.now ∷ parts cut.1.now) × (length cut.1.now < length text.now)) }
-{
-    let at = place_of(b',', text)?;
-    Some((&text[..at], &text[at + 1..]))
+    Some(wanted)
 }
 
 // What one option sets.

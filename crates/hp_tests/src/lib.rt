@@ -24,4 +24,6 @@ mod subpool;
 #[cfg(test)]
 mod system;
 #[cfg(test)]
+mod text;
+#[cfg(test)]
 mod trail;

@@ -1,10 +1,7 @@
-//! Texts that are options and texts that are none, and the text of meminfo.
+//! Texts that are options and texts that are none.
 
-use hp_model::answer::Counts;
 use hp_model::refusal::Refusal;
-use hp_options::meminfo::meminfo_text;
 use hp_options::options::parse_options;
-use std::test::Fail;
 
 // The limit, the minimum and the files that the options mean, in pages of 1,024 bytes.
 fn limits(text: &[u8], nr: u64) -> Result<(Option<u64>, u64, Option<u64>), Refusal> {
@@ -94,33 +91,4 @@ fn compares_minimum_and_limit_in_pages(rt: HostRuntime) {
     ] {
         assert_eq!(rt; limits(text, nr), meant, "at {text:?} and {nr}");
     }
-}
-
-const SMALL: &[u8] =
-    b"HugePages_Total:       4\nHugePages_Free:        3\nHugePages_Rsvd:        2\nHugePages_Surp:        1\nHugepagesize:          1 kB\nHugetlb:               4 kB\n";
-
-const GREATEST: &[u8] =
-    b"HugePages_Total:  262144\nHugePages_Free:   262144\nHugePages_Rsvd:        0\nHugePages_Surp:        0\nHugepagesize:       2048 kB\nHugetlb:        536870912 kB\n";
-
-#[test]
-fn writes_meminfo(rt: HostRuntime) -> Result<(), Fail> {
-    let mut counts = Counts {
-        total: 4,
-        free: 3,
-        rsvd: 2,
-        surp: 1,
-        nr: 3,
-        overcommit: 1,
-    };
-    let mut small = Vec::with_capacity(rt.alloc(), 256)?;
-    meminfo_text(counts, 1024, &mut small);
-    assert_eq!(rt; small.as_slice(), SMALL);
-    counts.total = 262_144;
-    counts.free = 262_144;
-    counts.rsvd = 0;
-    counts.surp = 0;
-    let mut greatest = Vec::with_capacity(rt.alloc(), 256)?;
-    meminfo_text(counts, 2_097_152, &mut greatest);
-    assert_eq!(rt; greatest.as_slice(), GREATEST);
-    Ok(())
 }

@@ -1,5 +1,5 @@
 -- The end of an input.
-use Rattle.std.proofs.Common.{◌≡◌, ◌≤◌, ℕ, zero, suc, List, [], ◌∷◌, ◌++◌, ◌+◌, ◌<◌, length, refl, sym, ◌∙◌, ap, subst, arith, Option, Result, Ok, Err, Bool, true, false, nat_le, inl, inr, append-nil, length-append, cond, IfOk, IfErr}
+use Rattle.std.proofs.Common.{◌≡◌, ◌≤◌, ℕ, zero, suc, List, [], ◌∷◌, ◌++◌, ◌+◌, ◌<◌, length, refl, sym, ◌∙◌, ap, subst, arith, Option, Result, Ok, Err, Bool, true, false, nat_le, inl, inr, append-nil, length-append, cond, IfOk, IfErr, OnOk}
 use Rattle.std.proofs.lemmas.Bool.Decides.{nat_tests}
 use Rattle.std.specs.Io.KnownBytes.{Consumes, Appends}
 use Rattle.hp_model.specs.Plan.{Reply}
@@ -10,10 +10,10 @@ use Rattle.hp_model.specs.declared.refusal.Refusal.{Refusal}
 use Rattle.hp_model.specs.declared.refusal.Refusal.TheVariants.{BadLine, LineTooLong}
 use Rattle.hp_model.specs.Writing.{text, line_of}
 use Rattle.hp_wire.specs.Answered.{Ran, RanInPart}
-use Rattle.hp_wire.specs.Sent.{AppendsFront}
+use Rattle.hp_wire.specs.Sent.{AppendsFront, IsCut}
+use Rattle.hp_wire.specs.Unanswered.{Gets}
 use Rattle.hp_wire.specs.Served.{Serves, unended_by, text_of_refusals}
 use Rattle.hp_wire.specs.declared.fault.RunFault.{RunFault}
-use Rattle.hp_wire.specs.declared.fault.RunFault.TheVariants.{Write}
 use Rattle.hp_wire.proofs.Known.{ran_then, ran_cut}
 use Rattle.hp_wire.proofs.Stands.{StandsFor}
 use Rattle.hp_wire.proofs.Turns.{Progress, consumes_then}
@@ -52,43 +52,51 @@ unended_stands held line s = elim s.like [
   | inr l ↦ unended_is line ∙ ap refused (by_long (length line) l.1 ∙ sym (by_long (length held) l.0))
 ]
 
-ends_ran : {S : Type 0} (may_answer : S → Step → Reply → S → Type 0) (page : ℕ) (s : S) (rs : List Refusal) (a b : Option (List ℕ)) → Appends a b (text_of_refusals page rs) → Ran may_answer page s (refused rs) s a b
-ends_ran may_answer page s rs a b h = record { text = text_of_refusals page rs; replies = (replies_of rs, answers_refused may_answer s rs, text_refused page rs); written = h }
+ends_ran : {S : Type 0} {may_answer : S → Step → Reply → S → Type 0} {page : ℕ} {s : S} {a b : Option (List ℕ)} (rs : List Refusal) → Appends a b (text_of_refusals page rs) → Ran may_answer page s (refused rs) s a b
+ends_ran {may_answer} {page} {s} rs h = record { text = text_of_refusals page rs; replies = (replies_of rs, answers_refused may_answer s rs, text_refused page rs); written = h }
 
-ends_part : {S : Type 0} (may_answer : S → Step → Reply → S → Type 0) (page : ℕ) (s : S) (rs : List Refusal) (a b : Option (List ℕ)) → AppendsFront a b (text_of_refusals page rs) → RanInPart may_answer page s (refused rs) s a b
-ends_part may_answer page s rs a b h = record { done = refused rs; rest = []; first = sym (append-nil (refused rs)); text = text_of_refusals page rs; replies = (replies_of rs, answers_refused may_answer s rs, text_refused page rs); written = h }
+ends_part : {S : Type 0} {may_answer : S → Step → Reply → S → Type 0} {page : ℕ} {s : S} {a b : Option (List ℕ)} (rs : List Refusal) → AppendsFront a b (text_of_refusals page rs) → RanInPart may_answer page s (refused rs) s a b
+ends_part {may_answer} {page} {s} rs h = record { done = refused rs; rest = []; first = sym (append-nil (refused rs)); text = text_of_refusals page rs; replies = (replies_of rs, answers_refused may_answer s rs, text_refused page rs); written = h }
 
 length_refused : (rs : List Refusal) → length (refused rs) ≡ length rs
 length_refused [] = refl
 length_refused (r ∷ rs) = ap suc (length_refused rs)
 
+-- the lines of an input, where so much of the last one is held
+all_lines : {S : Type 0} {may_answer : S → Step → Reply → S → Type 0} {page : ℕ} {r0 r : Option (List ℕ)} {s0 s : S} {w0 w : Option (List ℕ)} {held : List ℕ} {total count : ℕ}
+    → (p : Progress may_answer page r0 r s0 s w0 w held total count) → lines p.input ≡ ended_lines p.input ++ refused (unended_by (length held))
+all_lines {held} p = ap (λ (ls : List Line). ended_lines p.input ++ ls) (unended_stands held (after_lines p.input) p.stands)
+
 -- the input ended, and the line that it ended in was answered
-pub finished : {S : Type 0} (may_answer : S → Step → Reply → S → Type 0) (page q : ℕ) (r0 r r1 : Option (List ℕ)) (s0 s : S) (w0 w w1 : Option (List ℕ)) (held : List ℕ) (n total count : ℕ) (result : Result ℕ RunFault)
-    → q ≡ page → n ≡ length held → total ≤ 1073741824 → Progress may_answer page r0 r s0 s w0 w held total count → Consumes r r1 []
-    → IfOk result (λ m. (m ≡ count + length (unended_by n)) × Appends w w1 (text_of_refusals q (unended_by n)))
-    → IfErr result (λ e. (e ≡ Write) × AppendsFront w w1 (text_of_refusals q (unended_by n)))
-    → (input : List ℕ) × Consumes r0 r1 input × Serves may_answer page s0 s w0 w1 input result
-finished {S} may_answer page q r0 r r1 s0 s w0 w w1 held n total count (Ok m) same len within p reads ok err =
-    let rs = unended_by n in
-    let end : unended (after_lines p.input) ≡ refused rs = unended_stands held (after_lines p.input) p.stands ∙ ap (λ k. refused (unended_by k)) (sym len) in
-    let all : lines p.input ≡ ended_lines p.input ++ refused rs = ap (λ (ls : List Line). ended_lines p.input ++ ls) end in (
-      p.input ++ [],
-      consumes_then r0 r r1 p.input [] p.consumed reads,
-      subst (λ (xs : List ℕ). Serves may_answer page s0 s w0 w1 xs (Ok m)) (sym (append-nil p.input)) (
-        subst (λ (ls : List Line). Ran may_answer page s0 ls s w0 w1) (sym all)
-            (ran_then may_answer page s0 (ended_lines p.input) s (refused rs) s w0 w w1 p.ran (ends_ran may_answer page s rs w w1 (subst (λ (x : ℕ). Appends w w1 (text_of_refusals x rs)) same ok.1))),
-        ok.0 ∙ ap (λ k. k + length rs) p.answered ∙ ap (λ k. length (ended_lines p.input) + k) (sym (length_refused rs)) ∙ sym (length-append (ended_lines p.input) (refused rs)) ∙ ap (λ (ls : List Line). length ls) (sym all),
-        omega (arith, within, p.size),
-      ),
+finished_at : {S : Type 0} (may_answer : S → Step → Reply → S → Type 0) (page q : ℕ) (r0 r : Option (List ℕ)) (s0 s : S) (w0 w w1 : Option (List ℕ)) (held : List ℕ) (total count : ℕ) (result : Result ℕ RunFault)
+    → (p : Progress may_answer page r0 r s0 s w0 w held total count) → q ≡ page → total ≤ 1073741824
+    → IfOk result (λ m. m ≡ count + length (unended_by (length held))) → OnOk result (Appends w w1 (text_of_refusals q (unended_by (length held))))
+    → IfErr result (IsCut w w1 (text_of_refusals q (unended_by (length held))))
+    → Serves may_answer page s0 s w0 w1 p.input result
+finished_at may_answer page q r0 r s0 s w0 w w1 held total count (Ok m) p same within all written cut =
+    let rs = unended_by (length held) in (
+      rw (all_lines p) (ran_then p.ran (ends_ran rs (subst (λ (x : ℕ). Appends w w1 (text_of_refusals x rs)) same written))),
+      all ∙ ap (λ k. k + length rs) p.answered ∙ ap (λ k. length (ended_lines p.input) + k) (sym (length_refused rs)) ∙ sym (length-append (ended_lines p.input) (refused rs)) ∙ ap (λ (ls : List Line). length ls) (sym (all_lines p)),
+      omega (arith, within, p.size),
     )
-finished {S} may_answer page q r0 r r1 s0 s w0 w w1 held n total count (Err e) same len within p reads ok err =
-    let rs = unended_by n in
-    let end : unended (after_lines p.input) ≡ refused rs = unended_stands held (after_lines p.input) p.stands ∙ ap (λ k. refused (unended_by k)) (sym len) in
-    let all : lines p.input ≡ ended_lines p.input ++ refused rs = ap (λ (ls : List Line). ended_lines p.input ++ ls) end in (
-      p.input ++ [],
-      consumes_then r0 r r1 p.input [] p.consumed reads,
-      subst (λ (x : RunFault). Serves may_answer page s0 s w0 w1 (p.input ++ []) (Err x)) (sym err.0)
-          (subst (λ (xs : List ℕ). RanInPart may_answer page s0 (lines xs) s w0 w1) (sym (append-nil p.input))
-          (subst (λ (ls : List Line). RanInPart may_answer page s0 ls s w0 w1) (sym all)
-          (ran_cut may_answer page s0 (ended_lines p.input) s (refused rs) s w0 w w1 p.ran (ends_part may_answer page s rs w w1 (subst (λ (x : ℕ). AppendsFront w w1 (text_of_refusals x rs)) same err.1))))),
+finished_at may_answer page q r0 r s0 s w0 w w1 held total count (Err e) p same within all written cut =
+    rw (cut.0, all_lines p) (ran_cut p.ran (ends_part (unended_by (length held)) (subst (λ (x : ℕ). AppendsFront w w1 (text_of_refusals x (unended_by (length held)))) same cut.1)))
+
+nil_of : (xs : List ℕ) → length xs ≡ 0 → xs ≡ []
+nil_of [] e = refl
+nil_of (x ∷ xs) e = absurd (omega arith)
+
+pub finished : {S : Type 0} {may_answer : S → Step → Reply → S → Type 0} {page q : ℕ} {r0 r r1 : Option (List ℕ)} {s0 s : S} {w0 w : Option (List ℕ)} {held chunk : List ℕ} {n total count : ℕ} (w1 : Option (List ℕ)) (result : Result ℕ RunFault)
+    → Progress may_answer page r0 r s0 s w0 w held total count → Gets held chunk r r1 n → n ≡ 0 → q ≡ page → total ≤ 1073741824
+    → IfOk result (λ m. m ≡ count + length (unended_by (length chunk))) → OnOk result (Appends w w1 (text_of_refusals q (unended_by (length chunk))))
+    → IfErr result (IsCut w w1 (text_of_refusals q (unended_by (length chunk))))
+    → (input : List ℕ) × Consumes r0 r1 input × Serves may_answer page s0 s w0 w1 input result
+finished {may_answer} {page} {q} {r0} {r} {r1} {s0} {s} {w0} {w} {held} {chunk} {total} {count} w1 result before got none_read same within all written cut =
+    let none : got.bytes ≡ [] = nil_of got.bytes (sym got.all ∙ none_read) in
+    let same_held : chunk ≡ held = got.behind ∙ ap (λ (bs : List ℕ). held ++ bs) none ∙ append-nil held in
+    let p : Progress may_answer page r0 r s0 s w0 w chunk total count = rw same_held before in
+    let reads : Consumes r r1 [] = subst (λ (bs : List ℕ). Consumes r r1 bs) none got.consumed in (
+      p.input,
+      subst (λ (bs : List ℕ). Consumes r0 r1 bs) (append-nil p.input) (consumes_then r0 r r1 p.input [] p.consumed reads),
+      finished_at may_answer page q r0 r s0 s w0 w w1 chunk total count result p same within all written cut,
     )

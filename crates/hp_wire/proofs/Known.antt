@@ -14,6 +14,7 @@ use Rattle.hp_model.specs.declared.refusal.Refusal.{Refusal}
 use Rattle.hp_model.specs.declared.step.Step.{Step}
 use Rattle.hp_wire.specs.Answered.{AnswersRead, Gains, Answered, AnsweredInPart, Ran, RanInPart}
 use Rattle.hp_wire.specs.Sent.{AppendsFront}
+use Rattle.hp_text.proofs.Cuts.{rest_is}
 
 pub appends_then : (a b c : Option (List ℕ)) (xs ys : List ℕ) → Appends a b xs → Appends b c ys → Appends a c (xs ++ ys)
 appends_then None b c xs ys h k = tt
@@ -46,10 +47,6 @@ front_more a b xs rest all e h =
 pub appends_more : (a b c : Option (List ℕ)) (at n : ℕ) (bytes : List ℕ) → Appends a b (take at bytes) → Appends b c (take n (drop at bytes)) → Appends a c (take (at + n) bytes)
 appends_more a b c at n bytes h k = appends_same a c (take at bytes ++ take n (drop at bytes)) (take (at + n) bytes) (sym (take-add at n bytes)) (appends_then a b c (take at bytes) (take n (drop at bytes)) h k)
 
--- a slice from a place on, as the code cuts it
-pub rest_is : (at : ℕ) (bytes : List ℕ) → take (length bytes - at) (drop at bytes) ≡ drop at bytes
-rest_is at bytes = ap (λ n. take n (drop at bytes)) (sym (length-drop at bytes)) ∙ take-length (drop at bytes)
-
 pub appends_rest : (a b c : Option (List ℕ)) (at n : ℕ) (bytes : List ℕ) → Appends a b (take at bytes) → Appends b c (take n (take (length bytes - at) (drop at bytes))) → Appends a c (take (at + n) bytes)
 appends_rest a b c at n bytes h k = appends_more a b c at n bytes h (appends_same b c (take n (take (length bytes - at) (drop at bytes))) (take n (drop at bytes)) (ap (take n) (rest_is at bytes)) k)
 
@@ -71,37 +68,39 @@ text_then may_answer page s ls m xs ks t ys h k = (
   ap (λ (zs : List ℕ). zs ++ ys) h.2 ∙ ap (λ (zs : List ℕ). text page h.0 ++ zs) k.2 ∙ sym (flat_map-append (line_of page) h.0 k.0),
 )
 
-pub gains_then : (a b c : Option (List ℕ)) (o p q xs ys : List ℕ) → Gains a o b p xs → Gains b p c q ys → Gains a o c q (xs ++ ys)
-gains_then a b c o p q xs ys h k = record {
+pub gains_then : {a b c : Option (List ℕ)} {o p q xs ys : List ℕ} → Gains a o b p xs → Gains b p c q ys → Gains a o c q (xs ++ ys)
+gains_then {a} {b} {c} {o} {p} {q} {xs} {ys} h k = record {
   sent = h.sent ++ k.sent;
   written = appends_then a b c h.sent k.sent h.written k.written;
   same = sym (append_assoc o xs ys) ∙ ap (λ (zs : List ℕ). zs ++ ys) h.same ∙ append_assoc h.sent p ys ∙ ap (λ (zs : List ℕ). h.sent ++ zs) k.same ∙ sym (append_assoc h.sent k.sent q);
 }
 
-pub answered_then : {S : Type 0} (may_answer : S → Step → Reply → S → Type 0) (page : ℕ) (s : S) (ls : List Line) (m : S) (ks : List Line) (t : S) (a b c : Option (List ℕ)) (o p q : List ℕ)
+pub gains_none : (a : Option (List ℕ)) (o : List ℕ) → Gains a o a o []
+gains_none a o = record { sent = []; written = appends_none a; same = append-nil o }
+
+pub gains_sent : (a b : Option (List ℕ)) (o p : List ℕ) → Appends a b o → p ≡ [] → Gains a o b p []
+gains_sent a b o p h e = record { sent = o; written = h; same = ap (λ (zs : List ℕ). o ++ zs) (sym e) }
+
+pub answered_then : {S : Type 0} {may_answer : S → Step → Reply → S → Type 0} {page : ℕ} {s m t : S} {ls ks : List Line} {a b c : Option (List ℕ)} {o p q : List ℕ}
     → Answered may_answer page s ls m a o b p → Answered may_answer page m ks t b p c q → Answered may_answer page s (ls ++ ks) t a o c q
-answered_then may_answer page s ls m ks t a b c o p q h k = record {
+answered_then {may_answer} {page} {s} {m} {t} {ls} {ks} h k = record {
   text = h.text ++ k.text;
   replies = text_then may_answer page s ls m h.text ks t k.text h.replies k.replies;
-  gained = gains_then a b c o p q h.text k.text h.gained k.gained;
+  gained = gains_then h.gained k.gained;
 }
 
-pub answered_none : {S : Type 0} (may_answer : S → Step → Reply → S → Type 0) (page : ℕ) (s : S) (a : Option (List ℕ)) (o : List ℕ) → Answered may_answer page s [] s a o a o
-answered_none may_answer page s a o = record {
-  text = [];
-  replies = ([], refl, refl);
-  gained = record { sent = []; written = appends_none a; same = append-nil o };
-}
+pub answered_none : {S : Type 0} {may_answer : S → Step → Reply → S → Type 0} {page : ℕ} {s : S} {a : Option (List ℕ)} {o : List ℕ} → Answered may_answer page s [] s a o a o
+answered_none {a} {o} = record { text = []; replies = ([], refl, refl); gained = gains_none a o }
 
 -- what waited and goes out in part, after lines that were answered
-pub answered_cut : {S : Type 0} (may_answer : S → Step → Reply → S → Type 0) (page : ℕ) (s : S) (ls : List Line) (m : S) (ks : List Line) (a b c : Option (List ℕ)) (o p : List ℕ)
-    → Answered may_answer page s ls m a o b p → AppendsFront b c p → AnsweredInPart may_answer page s (ls ++ ks) m a o c
-answered_cut may_answer page s ls m ks a b c o p h k = record {
+pub answered_cut : {S : Type 0} {may_answer : S → Step → Reply → S → Type 0} {page : ℕ} {s m t : S} {all ls : List Line} {a b c : Option (List ℕ)} {o p : List ℕ} (ks : List Line)
+    → Answered may_answer page s ls m a o b p → all ≡ ls ++ ks → t ≡ m → AppendsFront b c p → AnsweredInPart may_answer page s all t a o c
+answered_cut {may_answer} {page} {s} {ls} {a} {b} {c} {p} ks h whole same k = record {
   done = ls;
   rest = ks;
-  first = refl;
+  first = whole;
   text = h.text;
-  replies = h.replies;
+  replies = rw same h.replies;
   written = subst (λ (zs : List ℕ). AppendsFront a c zs) (sym h.gained.same) (front_then a b c h.gained.sent p h.gained.written k);
 }
 
@@ -116,44 +115,34 @@ answers_read {S} may_answer s (Err refusal) read reply t (inl same) h = subst (�
 answers_read may_answer s (Err refusal) read reply t (inr lacks) h = (let never : false ≡ true = lacks.1 in cc)
 
 -- a line that was answered, after room was made
-pub answered_one : {S : Type 0} (may_answer : S → Step → Reply → S → Type 0) (page : ℕ) (s : S) (line : Line) (reply : Reply) (t : S) (a b : Option (List ℕ)) (o p q : List ℕ)
-    → Gains a o b p [] → AnswersStep may_answer s (step_of line) reply t → q ≡ p ++ line_of page reply → Answered may_answer page s (line ∷ []) t a o b q
-answered_one may_answer page s line reply t a b o p q h k e = record {
-  text = line_of page reply;
-  replies = (reply ∷ [], (t, k, refl), sym (append-nil (line_of page reply)));
-  gained = record {
-    sent = h.sent;
-    written = h.written;
-    same = ap (λ (zs : List ℕ). zs ++ line_of page reply) (sym (append-nil o) ∙ h.same) ∙ append_assoc h.sent p (line_of page reply) ∙ ap (λ (zs : List ℕ). h.sent ++ zs) (sym e);
-  };
-}
+pub answered_one : {S : Type 0} {may_answer : S → Step → Reply → S → Type 0} {page here : ℕ} {s t : S} {line : Line} {a b : Option (List ℕ)} {o p q : List ℕ} (reply : Reply)
+    → Gains a o b p [] → AnswersStep may_answer s (step_of line) reply t → here ≡ page → q ≡ p ++ line_of here reply → Answered may_answer page s (line ∷ []) t a o b q
+answered_one {page} {t} {o} {p} {q} reply h k same e =
+    let added : q ≡ p ++ line_of page reply = e ∙ ap (λ n. p ++ line_of n reply) same in
+    record {
+      text = line_of page reply;
+      replies = (reply ∷ [], (t, k, refl), sym (append-nil (line_of page reply)));
+      gained = record {
+        sent = h.sent;
+        written = h.written;
+        same = ap (λ (zs : List ℕ). zs ++ line_of page reply) (sym (append-nil o) ∙ h.same) ∙ append_assoc h.sent p (line_of page reply) ∙ ap (λ (zs : List ℕ). h.sent ++ zs) (sym added);
+      };
+    }
 
-pub gains_none : (a : Option (List ℕ)) (o : List ℕ) → Gains a o a o []
-gains_none a o = record { sent = []; written = appends_none a; same = append-nil o }
+pub ran_none : {S : Type 0} {may_answer : S → Step → Reply → S → Type 0} {page : ℕ} {s : S} {a : Option (List ℕ)} → Ran may_answer page s [] s a a
+ran_none {a} = record { text = []; replies = ([], refl, refl); written = appends_none a }
 
-pub gains_sent : (a b : Option (List ℕ)) (o p : List ℕ) → Appends a b o → p ≡ [] → Gains a o b p []
-gains_sent a b o p h e = record { sent = o; written = h; same = ap (λ (zs : List ℕ). o ++ zs) (sym e) }
-
-pub answered_cut_at : {S : Type 0} (may_answer : S → Step → Reply → S → Type 0) (page : ℕ) (s : S) (all done rest : List Line) (m t : S) (a b c : Option (List ℕ)) (o p : List ℕ)
-    → all ≡ done ++ rest → Answered may_answer page s done m a o b p → t ≡ m → AppendsFront b c p → AnsweredInPart may_answer page s all t a o c
-answered_cut_at {S} may_answer page s all done rest m t a b c o p e h same k =
-    subst (λ (ls : List Line). AnsweredInPart may_answer page s ls t a o c) (sym e)
-    (subst (λ (u : S). AnsweredInPart may_answer page s (done ++ rest) u a o c) (sym same) (answered_cut may_answer page s done m rest a b c o p h k))
-
-pub ran_none : {S : Type 0} (may_answer : S → Step → Reply → S → Type 0) (page : ℕ) (s : S) (a : Option (List ℕ)) → Ran may_answer page s [] s a a
-ran_none may_answer page s a = record { text = []; replies = ([], refl, refl); written = appends_none a }
-
-pub ran_then : {S : Type 0} (may_answer : S → Step → Reply → S → Type 0) (page : ℕ) (s : S) (ls : List Line) (m : S) (ks : List Line) (t : S) (a b c : Option (List ℕ))
+pub ran_then : {S : Type 0} {may_answer : S → Step → Reply → S → Type 0} {page : ℕ} {s m t : S} {ls ks : List Line} {a b c : Option (List ℕ)}
     → Ran may_answer page s ls m a b → Ran may_answer page m ks t b c → Ran may_answer page s (ls ++ ks) t a c
-ran_then may_answer page s ls m ks t a b c h k = record {
+ran_then {may_answer} {page} {s} {m} {t} {ls} {ks} {a} {b} {c} h k = record {
   text = h.text ++ k.text;
   replies = text_then may_answer page s ls m h.text ks t k.text h.replies k.replies;
   written = appends_then a b c h.text k.text h.written k.written;
 }
 
-pub ran_cut : {S : Type 0} (may_answer : S → Step → Reply → S → Type 0) (page : ℕ) (s : S) (ls : List Line) (m : S) (ks : List Line) (t : S) (a b c : Option (List ℕ))
+pub ran_cut : {S : Type 0} {may_answer : S → Step → Reply → S → Type 0} {page : ℕ} {s m t : S} {ls ks : List Line} {a b c : Option (List ℕ)}
     → Ran may_answer page s ls m a b → RanInPart may_answer page m ks t b c → RanInPart may_answer page s (ls ++ ks) t a c
-ran_cut {S} may_answer page s ls m ks t a b c h k = record {
+ran_cut {may_answer} {page} {s} {m} {t} {ls} {ks} {a} {b} {c} h k = record {
   done = ls ++ k.done;
   rest = k.rest;
   first = ap (λ (xs : List Line). ls ++ xs) k.first ∙ sym (append_assoc ls k.done k.rest);
@@ -163,17 +152,17 @@ ran_cut {S} may_answer page s ls m ks t a b c h k = record {
 }
 
 -- what waited is written after the lines were answered
-pub ran_sent : {S : Type 0} (may_answer : S → Step → Reply → S → Type 0) (page : ℕ) (s : S) (ls : List Line) (t : S) (a b c : Option (List ℕ)) (o p : List ℕ)
+pub ran_sent : {S : Type 0} {may_answer : S → Step → Reply → S → Type 0} {page : ℕ} {s t : S} {ls : List Line} {a b c : Option (List ℕ)} {o p : List ℕ}
     → o ≡ [] → Answered may_answer page s ls t a o b p → Appends b c p → Ran may_answer page s ls t a c
-ran_sent may_answer page s ls t a b c o p e h k = record {
+ran_sent {a} {b} {c} {p} e h k = record {
   text = h.text;
   replies = h.replies;
   written = appends_same a c (h.gained.sent ++ p) h.text (sym h.gained.same ∙ ap (λ (zs : List ℕ). zs ++ h.text) e) (appends_then a b c h.gained.sent p h.gained.written k);
 }
 
-pub ran_part : {S : Type 0} (may_answer : S → Step → Reply → S → Type 0) (page : ℕ) (s : S) (ls : List Line) (t : S) (a c : Option (List ℕ)) (o : List ℕ)
+pub ran_part : {S : Type 0} {may_answer : S → Step → Reply → S → Type 0} {page : ℕ} {s t : S} {ls : List Line} {a c : Option (List ℕ)} {o : List ℕ}
     → o ≡ [] → AnsweredInPart may_answer page s ls t a o c → RanInPart may_answer page s ls t a c
-ran_part may_answer page s ls t a c o e h = record {
+ran_part {a} {c} {o} e h = record {
   done = h.done;
   rest = h.rest;
   first = h.first;
@@ -182,8 +171,6 @@ ran_part may_answer page s ls t a c o e h = record {
   written = (h.written.0, appends_same a c (take h.written.0 (o ++ h.text)) (take h.written.0 h.text) (ap (λ (zs : List ℕ). take h.written.0 (zs ++ h.text)) e) h.written.1);
 }
 
-pub ran_unsent : {S : Type 0} (may_answer : S → Step → Reply → S → Type 0) (page : ℕ) (s : S) (ls : List Line) (t : S) (a b c : Option (List ℕ)) (o p : List ℕ)
+pub ran_unsent : {S : Type 0} {may_answer : S → Step → Reply → S → Type 0} {page : ℕ} {s t : S} {ls : List Line} {a b c : Option (List ℕ)} {o p : List ℕ}
     → o ≡ [] → Answered may_answer page s ls t a o b p → AppendsFront b c p → RanInPart may_answer page s ls t a c
-ran_unsent {S} may_answer page s ls t a b c o p e h k =
-    subst (λ (xs : List Line). RanInPart may_answer page s xs t a c) (append-nil ls)
-    (ran_part may_answer page s (ls ++ []) t a c o e (answered_cut may_answer page s ls t [] a b c o p h k))
+ran_unsent {ls} e h k = ran_part e (answered_cut [] h (sym (append-nil ls)) refl k)

@@ -1,3 +1,4 @@
+pub mod Buffers
 pub mod Pieces
 pub mod LineEnds
 pub mod Keywords

@@ -1,13 +1,12 @@
 -- The lines of bytes that are cut at a newline.
-use Rattle.std.proofs.Common.{◌≡◌, ℕ, List, [], ◌∷◌, ◌++◌, ◌+◌, ◌-◌, ◌<◌, ◌≤◌, length, take, drop, refl, sym, ◌∙◌, ap, arith, ◌==◌, length-drop, append_assoc, drop-drop}
-use Rattle.std.specs.List.{slice_split}
+use Rattle.std.proofs.Common.{◌≡◌, ℕ, List, [], ◌∷◌, ◌++◌, ◌+◌, ◌-◌, length, drop, refl, sym, ◌∙◌, ap, arith, ◌==◌, length-append, append_assoc, append-nil}
 use Rattle.hp_model.specs.Lines.{Line, ended, pieces, ended_pieces, last_piece, ended_lines, after_lines}
-use Rattle.hp_options.specs.Pieces.{IsCutAt}
+use Rattle.hp_wire.specs.Unanswered.{CountsLines}
+use Rattle.std.proofs.Math.Seq.{drop-append_seam}
 use Rattle.hp_wire.proofs.Pieces.{first_piece, joined, slice_split-append}
 use Rattle.std.specs.List.{onto_first}
 use Rattle.std.specs.Prelude.{nat_eq, Bool, true, false}
 use Rattle.std.proofs.lemmas.List.Splits.{slice_split-cons_yes, slice_split-cons_no}
-use Rattle.hp_wire.proofs.Known.{rest_is}
 
 ended_front : (line : List ℕ) (ps : List (List ℕ)) (f : List ℕ) (m : List (List ℕ)) → ps ≡ f ∷ m → ended_pieces (line ∷ ps) ≡ ended line ∷ ended_pieces ps
 ended_front line [] f m e = cc
@@ -17,36 +16,47 @@ last_front : (line : List ℕ) (ps : List (List ℕ)) (f : List ℕ) (m : List (
 last_front line [] f m e = cc
 last_front line (p ∷ ps) f m e = refl
 
-pub cut_ended : (rest : List ℕ) (at : ℕ) → IsCutAt (λ b. b == 10) rest at → ended_lines rest ≡ ended (take at rest) ∷ ended_lines (drop (at + 1) rest)
-cut_ended rest at h = let f = first_piece (λ b. b == 10) (drop (at + 1) rest) in
-    ap ended_pieces h.pieces ∙ ended_front (take at rest) (pieces (drop (at + 1) rest)) f.0 f.1 f.2
+cut_ended : (rest line next : List ℕ) → pieces rest ≡ line ∷ pieces next → ended_lines rest ≡ ended line ∷ ended_lines next
+cut_ended rest line next h = let f = first_piece (λ b. b == 10) next in
+    ap ended_pieces h ∙ ended_front line (pieces next) f.0 f.1 f.2
 
-pub cut_after : (rest : List ℕ) (at : ℕ) → IsCutAt (λ b. b == 10) rest at → after_lines rest ≡ after_lines (drop (at + 1) rest)
-cut_after rest at h = let f = first_piece (λ b. b == 10) (drop (at + 1) rest) in
-    ap last_piece h.pieces ∙ last_front (take at rest) (pieces (drop (at + 1) rest)) f.0 f.1 f.2
+cut_after : (rest line next : List ℕ) → pieces rest ≡ line ∷ pieces next → after_lines rest ≡ after_lines next
+cut_after rest line next h = let f = first_piece (λ b. b == 10) next in
+    ap last_piece h ∙ last_front line (pieces next) f.0 f.1 f.2
 
-pub uncut_ended : (rest : List ℕ) → slice_split (λ b. b == 10) rest ≡ rest ∷ [] → ended_lines rest ≡ []
-uncut_ended rest h = ap ended_pieces h
+-- lines were cut off the front of bytes, and these are left
+pub record CutOff (bytes rest : List ℕ) (done : List Line) : Type 0 where
+  pub front : List ℕ
+  pub whole : bytes ≡ front ++ rest
+  pub lines : ended_lines bytes ≡ done ++ ended_lines rest
+  pub after : after_lines bytes ≡ after_lines rest
 
-pub uncut_after : (rest : List ℕ) → slice_split (λ b. b == 10) rest ≡ rest ∷ [] → after_lines rest ≡ rest
-uncut_after rest h = ap last_piece h
+pub none_off : (bytes : List ℕ) → CutOff bytes bytes []
+none_off bytes = record { front = []; whole = refl; lines = refl; after = refl }
 
--- what the code goes on with
-pub next_rest : (rest after : List ℕ) (at : ℕ) → after ≡ drop at rest → take (length after - 1) (drop 1 after) ≡ drop (at + 1) rest
-next_rest rest after at e = rest_is 1 after ∙ ap (drop 1) e ∙ drop-drop 1 at rest
+pub one_off : {bytes rest : List ℕ} {done : List Line} (line next : List ℕ) → CutOff bytes rest done → pieces rest ≡ line ∷ pieces next → rest ≡ line ++ 10 ∷ next
+    → CutOff bytes next (done ++ ended line ∷ [])
+one_off {rest} {done} line next h cut whole = record {
+  front = h.front ++ (line ++ 10 ∷ []);
+  whole = h.whole ∙ ap (λ (xs : List ℕ). h.front ++ xs) (whole ∙ sym (append_assoc line (10 ∷ []) next)) ∙ sym (append_assoc h.front (line ++ 10 ∷ []) next);
+  lines = h.lines ∙ ap (λ (ls : List Line). done ++ ls) (cut_ended rest line next cut) ∙ sym (append_assoc done (ended line ∷ []) (ended_lines next));
+  after = h.after ∙ cut_after rest line next cut;
+}
 
-pub rest_step : (bytes rest next : List ℕ) (at : ℕ) → rest ≡ drop (length bytes - length rest) bytes → length rest ≤ length bytes → at < length rest → next ≡ drop (at + 1) rest → next ≡ drop (length bytes - length next) bytes
-rest_step bytes rest next at e within lt n =
-    let len : length next ≡ length rest - (at + 1) = ap length n ∙ length-drop (at + 1) rest in
-    let place : (length bytes - length rest) + (at + 1) ≡ length bytes - length next = omega arith in
-    n ∙ ap (drop (at + 1)) e ∙ drop-drop (at + 1) (length bytes - length rest) bytes ∙ ap (λ k. drop k bytes) place
+-- no more lines end in what is left
+pub all_off : {bytes rest : List ℕ} {done : List Line} (line : List ℕ) → CutOff bytes rest done → pieces rest ≡ line ∷ [] → ended_lines bytes ≡ done
+all_off {done} line h cut = h.lines ∙ ap (λ (ls : List Line). done ++ ls) (ap ended_pieces cut) ∙ append-nil done
 
-pub next_length : (rest next : List ℕ) (at : ℕ) → at < length rest → next ≡ drop (at + 1) rest → length next + at + 1 ≡ length rest
-next_length rest next at lt n = omega (arith, ap length n, length-drop (at + 1) rest)
-
-pub lines_step : (done : List Line) (bytes rest line next : List ℕ) (at : ℕ) → ended_lines bytes ≡ done ++ ended_lines rest → IsCutAt (λ b. b == 10) rest at → line ≡ take at rest → next ≡ drop (at + 1) rest → ended_lines bytes ≡ (done ++ ended line ∷ []) ++ ended_lines next
-lines_step done bytes rest line next at e h l n =
-    e ∙ ap (λ (ls : List Line). done ++ ls) (cut_ended rest at h ∙ ap (λ xs. ended xs ∷ ended_lines (drop (at + 1) rest)) (sym l) ∙ ap (λ xs. ended line ∷ ended_lines xs) (sym n)) ∙ sym (append_assoc done (ended line ∷ []) (ended_lines next))
+pub counted : {bytes rest : List ℕ} {done : List Line} (line : List ℕ) (count : ℕ) → CutOff bytes rest done → pieces rest ≡ line ∷ [] → rest ≡ line ++ [] → count ≡ length done
+    → CountsLines bytes (length rest, count)
+counted {bytes} {rest} line count h cut whole n =
+    let size : length bytes ≡ length h.front + length rest = ap length h.whole ∙ length-append h.front rest in
+    let at : length bytes - length rest ≡ length h.front = omega arith in
+    let left : drop (length bytes - length rest) bytes ≡ rest = ap (λ k. drop k bytes) at ∙ ap (drop (length h.front)) h.whole ∙ drop-append_seam h.front rest in (
+      omega arith,
+      h.after ∙ ap last_piece cut ∙ sym (append-nil line) ∙ sym whole ∙ sym left,
+      n ∙ ap (λ (ls : List Line). length ls) (sym (all_off line h cut)),
+    )
 
 -- bytes after bytes
 joined_some : (c : List ℕ) (front bs : List (List ℕ)) → (f : List ℕ) × (m : List (List ℕ)) × (joined (c ∷ front) bs ≡ f ∷ m)

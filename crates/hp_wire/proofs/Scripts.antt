@@ -4,9 +4,8 @@ use Rattle.std.specs.Io.KnownBytes.{Appends, Consumes, IsAtEnd}
 use Rattle.hp_model.specs.Plan.{Reply}
 use Rattle.hp_model.specs.Lines.{lines}
 use Rattle.hp_model.specs.Text.{AnswersLines}
-use Rattle.hp_model.specs.Writing.{text}
 use Rattle.hp_model.specs.declared.step.Step.{Step}
-use Rattle.hp_wire.specs.Served.{Serves}
+use Rattle.hp_wire.specs.Served.{AnswersInput, Serves}
 use Rattle.hp_wire.specs.declared.fault.RunFault.{RunFault}
 
 whole_input : (xs ys input : List ℕ) → xs ≡ input ++ ys → ys ≡ [] → input ≡ xs
@@ -16,7 +15,7 @@ whole_input xs ys input cut end = sym (cut ∙ ap (λ (zs : List ℕ). input ++ 
 pub ran_script : {S : Type 0} (may_answer : S → Step → Reply → S → Type 0) (page : ℕ) (r0 r1 : Option (List ℕ)) (s0 s1 : S) (w0 w1 : Option (List ℕ)) (result : Result ℕ RunFault)
     → (input : List ℕ) × Consumes r0 r1 input × Serves may_answer page s0 s1 w0 w1 input result
     → OnOk result (IsAtEnd r1)
-    → IfSome r0 (λ input. OnOk result ((replies : List Reply) × AnswersLines may_answer s0 (lines input) replies s1 × Appends w0 w1 (text page replies)))
+    → IfSome r0 (λ input. OnOk result (AnswersInput may_answer page input s0 s1 w0 w1))
 ran_script may_answer page None r1 s0 s1 w0 w1 result served whole = tt
 ran_script may_answer page (Some xs) r1 s0 s1 w0 w1 (Err e) served whole = tt
 ran_script may_answer page (Some xs) None s0 s1 w0 w1 (Ok n) served whole = absurd served.1

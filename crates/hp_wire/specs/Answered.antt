@@ -1,5 +1,5 @@
 -- Lines that were answered, into what waits to be written.
-use Rattle.std.specs.Prelude.{◌≡◌, ℕ, List, ◌++◌, Option, Result, Ok, Err}
+use Rattle.std.specs.Prelude.{◌≡◌, ℕ, List, [], ◌++◌, Option, Result, Ok, Err}
 use Rattle.std.specs.Io.KnownBytes.{Appends}
 use Rattle.hp_model.specs.Plan.{Reply}
 use Rattle.hp_model.specs.Lines.{Line}
@@ -7,6 +7,9 @@ use Rattle.hp_model.specs.Text.{IsTextOfReplies}
 use Rattle.hp_model.specs.declared.refusal.Refusal.{Refusal}
 use Rattle.hp_model.specs.declared.step.Step.{Step}
 use Rattle.hp_wire.specs.Sent.{AppendsFront}
+use Rattle.hp_wire.specs.Waiting.{Waiting}
+use Rattle.hp_wire.specs.declared.fault.RunFault.{RunFault}
+use Rattle.hp_wire.specs.declared.fault.RunFault.TheVariants.{Write}
 
 -- a step that was read is answered by the machine alone, and what was read as none leaves it as it was
 abbrev pub AnswersRead : {S : Type 0} → (S → Step → Reply → S → Type 0) → S → Result Step Refusal → Reply → S → Type 0
@@ -48,3 +51,28 @@ pub record RanInPart {S : Type 0} (may_answer : S → Step → Reply → S → T
   pub text : List ℕ
   pub replies : IsTextOfReplies may_answer page old done new text
   pub written : AppendsFront before after text
+
+-- ---- with a writer whose known bytes `contents` tells, and the replies that wait
+
+-- all the lines were answered
+abbrev pub AnswersAll : {S W : Type 0} → (S → Step → Reply → S → Type 0) → (W → Option (List ℕ)) → List Line → S → S → W → W → Waiting → Waiting → Type 0
+AnswersAll may_answer contents lines old new before after waiting left =
+    Answered may_answer waiting.page old lines new (contents before) waiting.text (contents after) left.text
+
+-- a write failed while they were answered
+abbrev pub AnswersSome : {S W : Type 0} → (S → Step → Reply → S → Type 0) → (W → Option (List ℕ)) → List Line → S → S → W → W → Waiting → RunFault → Type 0
+AnswersSome may_answer contents lines old new before after waiting fault =
+    (fault ≡ Write) × AnsweredInPart may_answer waiting.page old lines new (contents before) waiting.text (contents after)
+
+-- all the lines were answered, and the replies written
+abbrev pub RunsAll : {S W : Type 0} → (S → Step → Reply → S → Type 0) → (W → Option (List ℕ)) → ℕ → List Line → S → S → W → W → Type 0
+RunsAll may_answer contents page lines old new before after = Ran may_answer page old lines new (contents before) (contents after)
+
+-- a write failed while they were answered and written
+abbrev pub RunsSome : {S W : Type 0} → (S → Step → Reply → S → Type 0) → (W → Option (List ℕ)) → ℕ → List Line → S → S → W → W → RunFault → Type 0
+RunsSome may_answer contents page lines old new before after fault =
+    (fault ≡ Write) × RanInPart may_answer page old lines new (contents before) (contents after)
+
+-- what is written and what waits stay as they are, in this order
+abbrev pub LosesNone : {W : Type 0} → (W → Option (List ℕ)) → W → W → Waiting → Waiting → Type 0
+LosesNone contents before after waiting left = Gains (contents before) waiting.text (contents after) left.text []

@@ -2,12 +2,14 @@
 use Rattle.std.specs.Prelude.{◌≡◌, ◌≤◌, ℕ, ◌+◌, List, [], take, length, Option, Result, Ok, Err, zero, suc, ◌∷◌, ◌⊎◌, nat_le, if◌then◌else◌, codes}
 use Rattle.std.specs.List.{flat_map}
 use Rattle.hp_model.specs.Profile.{most_input_bytes, most_line_bytes}
-use Rattle.hp_model.specs.Writing.{line_of}
+use Rattle.hp_model.specs.Text.{AnswersLines}
+use Rattle.hp_model.specs.Writing.{line_of, text}
 use Rattle.hp_model.specs.declared.refusal.Refusal.{Refusal}
 use Rattle.hp_model.specs.declared.refusal.Refusal.TheVariants.{BadLine, LineTooLong}
 use Rattle.hp_model.specs.Plan.{Reply}
 use Rattle.hp_model.specs.Lines.{lines, ended_lines}
 use Rattle.hp_model.specs.declared.step.Step.{Step}
+use Rattle.std.specs.Io.KnownBytes.{Appends, Consumes}
 use Rattle.hp_wire.specs.declared.fault.RunFault.{RunFault}
 use Rattle.hp_wire.specs.declared.fault.RunFault.TheVariants.{Memory, Read, Write, TooLong}
 use Rattle.hp_wire.specs.Answered.{Ran, RanInPart}
@@ -33,6 +35,19 @@ Serves may_answer page old new before after input (Err Read) = Ran may_answer pa
 Serves may_answer page old new before after input (Err TooLong) = (length input ≡ most_input_bytes + 1) × Ran may_answer page old (ended_lines (take most_input_bytes input)) new before after
 -- the steps that were done stand, and a front of the text of their replies is written
 Serves may_answer page old new before after input (Err Write) = RanInPart may_answer page old (lines input) new before after
+
+-- Some input was read, and the run leaves of it what `Serves` says. What a reader has left and what was written, as far as
+-- that is known, is told by `remaining` and `contents`.
+abbrev pub ServesInput : {S R W : Type 0} → (S → Step → Reply → S → Type 0) → (S → ℕ) → (R → Option (List ℕ)) → (W → Option (List ℕ))
+    → S → S → R → R → W → W → Result ℕ RunFault → Type 0
+ServesInput may_answer page remaining contents old new unread left before after ended =
+    (input : List ℕ) × Consumes (remaining unread) (remaining left) input
+    × Serves may_answer (page old) old new (contents before) (contents after) input ended
+
+-- there are replies to the lines of the input, one after another, and what was written is their text
+abbrev pub AnswersInput : {S : Type 0} → (S → Step → Reply → S → Type 0) → (page : ℕ) → (input : List ℕ) → S → S → Option (List ℕ) → Option (List ℕ) → Type 0
+AnswersInput may_answer page input old new before after =
+    (replies : List Reply) × AnswersLines may_answer old (lines input) replies new × Appends before after (text page replies)
 
 -- what is said of the end of a run
 abbrev pub text_of_fault : RunFault → List ℕ

@@ -1,8 +1,8 @@
 //! What lines are read from and replies are written to.
 ghost use Rattle.std.specs.Prelude.{◌≡◌, ◌<◌, length, IsOk, IfOk, IfErr, OnOk};
 ghost use Rattle.std.specs.Io.{ReadsAtMost, WritesAtMost};
-ghost use Rattle.std.specs.Io.KnownBytes.{Appends, Keeps, ReadConsumes, WriteAppends};
-ghost use Rattle.hp_wire.specs.Sent.{AppendsFront};
+ghost use Rattle.std.specs.Io.KnownBytes.{ReadConsumes, WriteAppends};
+ghost use Rattle.hp_wire.specs.Sent.{Writes, WritesFront};
 
 use crate::fault::RunFault;
 use std::io;
@@ -16,7 +16,8 @@ pub trait Source: Read {
     /// Reads some bytes to the front of the buffer, and none at the end alone, as `read` does.
     fn read_some(&mut self, buf: &mut [u8]) -> io::Result<usize>
         ensures bound { ReadsAtMost result buf.new }
-        ensures bytes { ReadConsumes (Self.remaining self.old) (Self.remaining self.new) result buf.new }
+        ensures bytes { ReadConsumes (Self.remaining self.old) (Self.remaining self.new)
+            result buf.new }
         ensures sure { is_sure self.old → IsOk result }
         ensures stays { is_sure self.old → is_sure self.new };
 }
@@ -29,7 +30,8 @@ pub trait Sink: Write {
     /// Writes some of the bytes from the front on, and says how many, as `write` does.
     fn write_some(&mut self, buf: &[u8]) -> io::Result<usize>
         ensures bound { WritesAtMost result buf.now }
-        ensures bytes { WriteAppends (Self.contents self.old) (Self.contents self.new) result buf.now }
+        ensures bytes { WriteAppends (Self.contents self.old) (Self.contents self.new)
+            result buf.now }
         ensures sure { is_sure self.old → IsOk result }
         ensures some { is_sure self.old → 0 < length buf.now → IfOk result (λ n. 0 < n) }
         ensures stays { is_sure self.old → is_sure self.new };
@@ -70,9 +72,8 @@ impl Sink for Stderr {
 /// Writes all the bytes. `Write` says that a write failed or took none of them; then a front of the
 /// bytes is written.
 pub fn write_whole<W: Sink>(writer: &mut W, bytes: &[u8]) -> Result<(), RunFault>
-    ensures sent { OnOk result (Appends (W.contents writer.old) (W.contents writer.new) bytes.now) }
-    ensures cut { IfErr result (λ e. (e ≡ RunFault.Write)
-        × AppendsFront (W.contents writer.old) (W.contents writer.new) bytes.now) }
+    ensures sent { OnOk result (Writes W.contents writer.old writer.new bytes.now) }
+    ensures cut { IfErr result (WritesFront W.contents writer.old writer.new bytes.now) }
     ensures sure { W.is_sure writer.old → IsOk result }
     ensures stays { W.is_sure writer.old → W.is_sure writer.new }
 {

@@ -2,13 +2,16 @@
 //! input.
 #![tactic(auto)]
 
+mod answering;
 mod commands;
 pub mod ends;
 pub mod fault;
 mod output;
 mod parts;
 pub mod reading;
+mod replies;
 pub mod running;
 pub mod script;
+mod unanswered;
 pub mod words;
 pub mod writing;

@@ -2,9 +2,9 @@
 ghost use Rattle.std.specs.Prelude.{◌≡◌, ◌≤◌, ◌*◌, ◌++◌, codes, decimal, length};
 ghost use Rattle.hex.specs.Hex.{encode_lower};
 ghost use Rattle.hp_model.specs.Writing.{spaced, limit_text};
-ghost use Rattle.hp_options.specs.Output.{HasRoom, Adds};
+ghost use Rattle.hp_text.specs.Output.{HasRoom, Adds};
 
-use hp_options::output::{push, push_number};
+use hp_text::output::{push, push_number};
 
 /// Adds numbers with a space before each.
 pub fn push_spaced(out: &mut Vec<u8>, numbers: &[u64])

@@ -11,6 +11,9 @@ use hp_model::refusal::Refusal;
 use hp_model::step::Step;
 use std::alloc::Global;
 
+/// The most bytes that a line may have.
+pub const LINE_LIMIT: usize = 1024;
+
 /// The step that a line reads as, or `BadLine`. Only a step that carries a name, options or bytes asks for
 /// memory, and only once the whole line was read and found good: `OutOfMemory` is answered for such a line alone.
 #[tactic(auto, unfolding(hp_model::specs::Reading::step_of_bytes))]

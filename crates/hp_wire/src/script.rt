@@ -1,12 +1,7 @@
 //! Runs over the lines of a script.
-ghost use Rattle.std.specs.Prelude.{◌≡◌, ◌≤◌, ℕ, List, OnOk, IfErr, IfSome};
-ghost use Rattle.std.specs.Io.KnownBytes.{Appends, Consumes};
-ghost use Rattle.hp_model.specs.Lines.{lines};
-ghost use Rattle.hp_model.specs.Plan.{Reply};
+ghost use Rattle.std.specs.Prelude.{◌≤◌, IfErr, IfSome, OnOk};
 ghost use Rattle.hp_model.specs.Promises.{IsPromisedStep};
-ghost use Rattle.hp_model.specs.Text.{AnswersLines};
-ghost use Rattle.hp_model.specs.Writing.{text};
-ghost use Rattle.hp_wire.specs.Served.{Serves, IsMemoryOrTooLong};
+ghost use Rattle.hp_wire.specs.Served.{AnswersInput, IsMemoryOrTooLong, ServesInput};
 
 use crate::ends::{Sink, Source};
 use crate::fault::RunFault;
@@ -28,12 +23,13 @@ pub fn run_script<N: Naming, R: Source, W: Sink>(
     machine: &mut System<N>,
 ) -> Result<u64, RunFault>
     requires { machine.old.page_size ≤ 2097152 }
-    ensures served { (input : List ℕ) × Consumes (R.remaining reader.old) (R.remaining reader.new) input
-        × Serves IsPromisedStep machine.old.page_size machine.old machine.new (W.contents writer.old) (W.contents writer.new) input result }
-    ensures script { IfSome (R.remaining reader.old) (λ input. OnOk result ((replies : List Reply)
-        × AnswersLines IsPromisedStep machine.old (lines input) replies machine.new
-        × Appends (W.contents writer.old) (W.contents writer.new) (text machine.old.page_size replies))) }
-    ensures never { R.is_sure reader.old → W.is_sure writer.old → IfErr result IsMemoryOrTooLong }
+    ensures served { ServesInput IsPromisedStep (λ state. state.page_size) R.remaining W.contents
+        machine.old machine.new reader.old reader.new writer.old writer.new result }
+    ensures script { IfSome (R.remaining reader.old) (λ input. OnOk result
+        (AnswersInput IsPromisedStep machine.old.page_size input machine.old machine.new
+        (W.contents writer.old) (W.contents writer.new))) }
+    ensures never { R.is_sure reader.old → W.is_sure writer.old
+        → IfErr result IsMemoryOrTooLong }
 {
     run_lines(alloc, reader, writer, machine)
 }

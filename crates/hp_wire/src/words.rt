@@ -1,11 +1,10 @@
 //! The pieces of a line.
-ghost use Rattle.std.specs.Prelude.{◌≡◌, ◌∷◌, ◌≤◌, length};
-ghost use Rattle.hp_wire.specs.Words.{pieces_left, IsShort};
+ghost use Rattle.std.specs.Prelude.{◌≡◌, ◌≤◌, length};
 ghost use Rattle.hp_model.specs.Words.{number_of, pieces_of_line};
 
 use hp_model::refusal::Refusal;
-use hp_options::numbers;
-use hp_options::pieces::place_of;
+use hp_text::numbers;
+use hp_text::pieces::first_piece;
 use std::marker::Model;
 
 /// The pieces of a line that aren't read yet.
@@ -15,14 +14,15 @@ pub struct Words<'a> {
 }
 
 impl<'a> Model for Words<'a> {
-    ghost use Rattle.std.specs.Prelude.{ℕ, List};
-    ghost use Rattle.hp_wire.specs.Words.{pieces_left, IsShort};
+    ghost use Rattle.std.specs.Prelude.{ℕ, ◌≤◌, List, length, IfSome};
+    ghost use Rattle.hp_text.specs.Pieces.{pieces_after};
 
     ghost Value = { List (List ℕ) };
 
-    ghost view = { λ w. pieces_left w.rest };
+    // The pieces between the spaces.
+    ghost view = { λ w. pieces_after 32 w.rest };
 
-    ghost invariant = { λ w. IsShort w.rest };
+    ghost invariant = { λ w. IfSome w.rest (λ rest. length rest.now ≤ 1024) };
 }
 
 impl<'a> Words<'a> {
@@ -46,7 +46,7 @@ impl<'a> Words<'a> {
         match self.rest {
             None => Err(Refusal::BadLine),
             Some(rest) => {
-                let (piece, rest) = first_piece(rest);
+                let (piece, rest) = first_piece(b' ', rest);
                 Ok((piece, Words { rest }))
             }
         }
@@ -61,17 +61,6 @@ impl<'a> Words<'a> {
             None => Ok(()),
             Some(_) => Err(Refusal::BadLine),
         }
-    }
-}
-
-// What stands before the first space, and what stands after it.
-fn first_piece(line: &[u8]) -> (&[u8], Option<&[u8]>)
-    ensures cut { pieces_of_line line.now ≡ result.0.now ∷ pieces_left result.1 }
-    ensures short { length line.now ≤ 1024 → (length result.0.now ≤ 1024) × IsShort result.1 }
-{
-    match place_of(b' ', line) {
-        None => (line, None),
-        Some(at) => (&line[..at], Some(&line[at + 1..])),
     }
 }
 

@@ -4,14 +4,15 @@ ghost use Rattle.std.specs.List.{All};
 ghost use Rattle.hex.specs.Hex.{encode_lower};
 ghost use Rattle.hp_model.specs.Writing.{newline, number_line, spaced, heading, meminfo_text, rows_text, names_text, answer_text, line_of, HasSmallAnswer, IsWithinLimits};
 ghost use Rattle.hp_model.specs.declared.answer.Answer.TheVariants.{Usage as UsageAnswer};
-ghost use Rattle.hp_options.specs.Output.{HasRoom, Adds};
+ghost use Rattle.hp_wire.specs.Rows.{row_line};
+ghost use Rattle.hp_text.specs.Output.{HasRoom, Adds};
 
 use crate::output::{push_hex, push_limit, push_spaced};
 use hp_model::answer::{Answer, Counts, NodeCount, Reply};
 use hp_model::bytes::Bytes;
 use hp_model::refusal::Refusal;
-use hp_options::meminfo::meminfo_text;
-use hp_options::output::{push, push_number};
+use hp_text::meminfo::meminfo_text;
+use hp_text::output::{push, push_number};
 
 /// No reply has more bytes: a heading of at most 26, and 1,024 names of 64 bytes with a newline each.
 pub const LONGEST: usize = 66_586;
@@ -151,8 +152,8 @@ fn push_rows(out: &mut Vec<u8>, rows: &[NodeCount])
 
 fn push_row(out: &mut Vec<u8>, node: u64, row: NodeCount)
     requires { HasRoom out.old 84 }
-    ensures adds { Adds out.old out.new (decimal node ++ spaced (row.total ∷ row.free ∷ row.surp ∷ []) ++ newline) }
-    ensures short { length (decimal node ++ spaced (row.total ∷ row.free ∷ row.surp ∷ []) ++ newline) ≤ 84 }
+    ensures adds { Adds out.old out.new (row_line node row) }
+    ensures short { length (row_line node row) ≤ 84 }
 {
     push_number(out, node);
     push_spaced(out, &[row.total, row.free, row.surp]);

@@ -1,13 +1,9 @@
 -- A run of a machine, from the run of one that starts as it.
 use Rattle.std.proofs.Common.{◌≡◌, ℕ, List, arith, subst, Option, Some, None, Result, Ok, Err, OnOk, IfErr, IfSome}
-use Rattle.std.specs.Io.KnownBytes.{Appends, Consumes}
-use Rattle.hp_model.specs.Lines.{lines}
-use Rattle.hp_model.specs.Plan.{Reply}
+use Rattle.std.specs.Io.KnownBytes.{Consumes}
 use Rattle.hp_model.specs.Promises.{IsPromisedStep}
 use Rattle.hp_model.specs.State.{State}
-use Rattle.hp_model.specs.Text.{AnswersLines}
-use Rattle.hp_model.specs.Writing.{text}
-use Rattle.hp_wire.specs.Served.{Serves, IsMemoryOrTooLong}
+use Rattle.hp_wire.specs.Served.{AnswersInput, Serves, IsMemoryOrTooLong}
 use Rattle.hp_wire.specs.declared.fault.RunFault.{RunFault}
 use Rattle.hugetlbd.specs.Program.{AnswersScript, Run, status_of}
 
@@ -26,20 +22,17 @@ run_ended s t machine r0 r1 w0 w1 result reads writes same served never = record
 
 -- the machine answered a script that is known
 pub script_answered : (s t machine : State) (r0 w0 w1 : Option (List ℕ)) (result : Result ℕ RunFault) → s ≡ machine
-    → IfSome r0 (λ input. OnOk result ((replies : List Reply) × AnswersLines IsPromisedStep s (lines input) replies t × Appends w0 w1 (text s.page_size replies)))
-    → IfSome r0 (λ script. OnOk result (AnswersScript machine script w0 w1))
-script_answered s t machine None w0 w1 result same h = tt
-script_answered s t machine (Some xs) w0 w1 (Err e) same h = tt
-script_answered s t machine (Some xs) w0 w1 (Ok n) same h =
-    let now = subst (λ (u : State). (replies : List Reply) × AnswersLines IsPromisedStep u (lines xs) replies t × Appends w0 w1 (text u.page_size replies)) same h in
-    (now.0, t, now.1, now.2)
+    → IfSome r0 (λ input. OnOk result (AnswersInput IsPromisedStep s.page_size input s t w0 w1))
+    → OnOk result (IfSome r0 (λ script. AnswersScript machine script w0 w1))
+script_answered s t machine r0 w0 w1 (Err e) same h = tt
+script_answered s t machine None w0 w1 (Ok n) same h = tt
+script_answered s t machine (Some xs) w0 w1 (Ok n) same h = (t, subst (λ (u : State). AnswersInput IsPromisedStep u.page_size xs u t w0 w1) same h)
 
 -- a run that ended well answered the script
 pub answered_well : (machine : State) (r0 w0 w1 : Option (List ℕ)) (ended : Result ℕ RunFault) (status : ℕ) → status ≡ status_of ended
-    → IfSome r0 (λ script. OnOk ended (AnswersScript machine script w0 w1)) → status ≡ 0 → IfSome r0 (λ script. AnswersScript machine script w0 w1)
-answered_well machine None w0 w1 ended status same h zero = tt
-answered_well machine (Some xs) w0 w1 (Ok n) status same h zero = h
-answered_well machine (Some xs) w0 w1 (Err e) status same h zero = absurd (omega (arith, same, zero))
+    → OnOk ended (IfSome r0 (λ script. AnswersScript machine script w0 w1)) → status ≡ 0 → IfSome r0 (λ script. AnswersScript machine script w0 w1)
+answered_well machine r0 w0 w1 (Ok n) status same h zero = h
+answered_well machine r0 w0 w1 (Err e) status same h zero = absurd (omega (arith, same, zero))
 
 -- and so did a machine that is the same
 pub answered_as : (machine other : State) (r0 w0 w1 : Option (List ℕ)) → machine ≡ other → IfSome r0 (λ script. AnswersScript machine script w0 w1)

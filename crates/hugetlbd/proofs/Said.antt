@@ -4,8 +4,9 @@ use Rattle.std.specs.Io.KnownBytes.{Appends}
 use Rattle.clap.specs.Values.{kind_of}
 use Rattle.clap.specs.declared.error.Error.{Error}
 use Rattle.clap.specs.declared.error.kind.ErrorKind.TheVariants.{DisplayHelp, DisplayVersion}
-use Rattle.hp_wire.specs.Sent.{AppendsFront}
+use Rattle.hp_wire.specs.Sent.{AppendsFront, IsCut}
 use Rattle.hp_wire.specs.Served.{text_of_fault}
+use Rattle.hp_wire.specs.declared.fault.RunFault.{RunFault}
 use Rattle.hp_wire.specs.declared.fault.RunFault.TheVariants as fault
 use Rattle.hp_wire.proofs.Known.{appends_then, front_whole, front_then, front_more}
 use Rattle.hugetlbd.specs.Program.{IsHelp, Refuses, Says, named}
@@ -33,10 +34,10 @@ cut_fourth a b c d e what of h k m n =
     front_then a d e (codes "hugetlbd: " ++ what ++ of) (codes "\n") (appends_then a c d (codes "hugetlbd: " ++ what) of (appends_then a b c (codes "hugetlbd: ") what h k) m) n
 
 -- and it is whole where no write fails
-pub says_of : {X Y : Type 0} (sure : Type 0) (a b : Option (List ℕ)) (text : List ℕ) (result : Result X Y) → OnOk result (Appends a b text) → IfErr result (λ e. AppendsFront a b text)
+pub says_of : {X : Type 0} (sure : Type 0) (a b : Option (List ℕ)) (text : List ℕ) (result : Result X RunFault) → OnOk result (Appends a b text) → IfErr result (IsCut a b text)
     → (sure → IsOk result) → Says sure a b text
 says_of sure a b text (Ok x) h k s = (front_whole a b text h, λ i. h)
-says_of sure a b text (Err e) h k s = (k, λ i. (let never : false ≡ true = s i in cc))
+says_of sure a b text (Err e) h k s = (k.1, λ i. (let never : false ≡ true = s i in cc))
 
 asked_for : (error : Error) → (IsTrue false ↔ ((kind_of error ≢ DisplayHelp) × (kind_of error ≢ DisplayVersion))) → (IsHelp error → ⊥) → ⊥
 asked_for error asked not = (let never : false ≡ true = asked.1 (λ help. not (inl help), λ version. not (inr version)) in cc)

@@ -1,5 +1,5 @@
 -- What the words of a command line ask for. The first word is the program's name.
-use Rattle.std.specs.Prelude.{◌≡◌, ◌≢◌, ◌⊎◌, ◌==◌, ◌&&◌, ◌||◌, ℕ, Bool, true, false, is_some, List, [], map, Some, IfSome, IsSomeAnd, MatchOption, Ok, codes}
+use Rattle.std.specs.Prelude.{◌≡◌, ◌≢◌, ◌≤◌, ◌⊎◌, ◌==◌, ◌&&◌, ◌||◌, ℕ, Bool, true, false, is_some, List, [], map, Option, Some, IfSome, IsSomeAnd, MatchOption, Ok, codes}
 use Rattle.std.specs.List.{slice_split}
 use Rattle.std.specs.Option.{option_map_or}
 use Rattle.clap.specs.Walk.{Row, Rule, Text, first_of}
@@ -11,6 +11,9 @@ use Rattle.clap.specs.Values.{kind_of}
 use Rattle.clap.specs.declared.error.kind.ErrorKind.TheVariants.{OutOfMemory}
 use Rattle.clap.specs.declared.error.Error.{Error}
 use Rattle.clap.specs.declared.builder.action.ArgAction.TheVariants.{Set}
+use Rattle.clap.specs.declared.parser.matches.ArgMatches.{ArgMatches}
+use Rattle.clap.specs.Words.{found_of, rows_of}
+use Rattle.std.specs.Borrow.{Bor}
 use Rattle.hp_model.specs.Words.{number_of}
 use Rattle.hugetlbd.specs.Config.{Choice, IsFrames, IsPage, IsSlots, usual}
 use Rattle.hugetlbd.specs.declared.settings.Wrong.{Wrong}
@@ -31,6 +34,10 @@ script = with_options (new_app (codes "script"))
 -- the program's options, and its subcommand with the same options
 abbrev pub hugetlbd : App
 hugetlbd = with_subcommand (with_options (new_app (codes "hugetlbd"))) script.top
+
+-- the options that clap found, at the top or of the subcommand
+abbrev pub options_in : ArgMatches → List Row
+options_in matches = rows_of (found_of matches)
 
 -- ---- the machine
 
@@ -74,6 +81,18 @@ CanBePage text = (n : ℕ) × (number_of text ≡ Ok n) × IsPage n
 abbrev pub CanBeSlots : Text → Type 0
 CanBeSlots text = (n : ℕ) × (number_of text ≡ Ok n) × IsSlots n
 
+-- the text is a number between the bounds, this one
+abbrev pub IsNumberWithin : ℕ → ℕ → Text → ℕ → Type 0
+IsNumberWithin low high text n = (number_of text ≡ Ok n) × (low ≤ n) × (n ≤ high)
+
+-- it is no number between them
+abbrev pub IsNoneWithin : ℕ → ℕ → Text → Type 0
+IsNoneWithin low high text = (n : ℕ) → number_of text ≡ Ok n → low ≤ n → n ≤ high → ⊥
+
+-- what is given is this number, or nothing is, and it is the usual one
+abbrev pub IsNumberOr : ℕ → Option (Bor Text) → ℕ → Type 0
+IsNumberOr usual given n = MatchOption given (n ≡ usual) (λ text. number_of text.now ≡ Ok n)
+
 -- the option of this name is given, with a value that it can't have
 abbrev pub IsBad : Text → (Text → Type 0) → List Row → Type 0
 IsBad name CanBe options = IsSomeAnd (first_of name options) (λ text. CanBe text → ⊥)
@@ -92,6 +111,10 @@ HasBadValue options name = ((name ≡ codes "frames") × IsBad name CanBeFrames 
 abbrev pub IsBadValue : Text → Wrong → Type 0
 IsBadValue name (BadValue bad) = bad.now ≡ name
 IsBadValue name other = ⊥
+
+-- why this text gives no frames; memory may be refused in place of any answer
+abbrev pub IsWrongFrames : Text → Wrong → Type 0
+IsWrongFrames text wrong = (wrong ≡ Memory) ⊎ (IsBadValue (codes "frames") wrong × (CanBeFrames text → ⊥))
 
 -- why these options set no machine; memory may be refused in place of any answer
 abbrev pub IsWrongIn : List Row → Wrong → Type 0

@@ -1,17 +1,13 @@
 -- A run of the program.
-use Rattle.std.specs.Prelude.{◌≡◌, ◌≤◌, ◌⊎◌, ◌++◌, ℕ, List, Option, Result, Ok, Err, IfErr, codes}
+use Rattle.std.specs.Prelude.{◌≡◌, ◌≤◌, ◌⊎◌, ◌++◌, ℕ, List, Option, Result, Ok, Err, IfErr, IfSome, codes}
 use Rattle.std.specs.Io.KnownBytes.{Appends, Consumes}
 use Rattle.clap.specs.Values.{kind_of}
 use Rattle.clap.specs.declared.error.Error.{Error}
 use Rattle.clap.specs.declared.error.kind.ErrorKind.TheVariants.{DisplayHelp, DisplayVersion}
-use Rattle.hp_model.specs.Lines.{lines}
-use Rattle.hp_model.specs.Plan.{Reply}
 use Rattle.hp_model.specs.State.{State}
 use Rattle.hp_model.specs.Promises.{IsPromisedStep}
-use Rattle.hp_model.specs.Text.{AnswersLines}
-use Rattle.hp_model.specs.Writing.{text}
 use Rattle.hp_wire.specs.Sent.{AppendsFront}
-use Rattle.hp_wire.specs.Served.{Serves, IsMemoryOrTooLong, text_of_fault}
+use Rattle.hp_wire.specs.Served.{AnswersInput, Serves, IsMemoryOrTooLong, text_of_fault}
 use Rattle.hp_wire.specs.declared.fault.RunFault.{RunFault}
 use Rattle.hp_wire.specs.declared.fault.RunFault.TheVariants as fault
 use Rattle.hugetlbd.specs.declared.config.TheConstants.{HELP}
@@ -20,9 +16,12 @@ use Rattle.hugetlbd.specs.declared.settings.Wrong.TheVariants.{Memory, Parse, Ba
 
 -- this machine gives replies to the script's lines, one after another, and what was written is their text
 abbrev pub AnswersScript : State → List ℕ → Option (List ℕ) → Option (List ℕ) → Type 0
-AnswersScript machine script before after = (replies : List Reply) × (left : State)
-    × AnswersLines IsPromisedStep machine (lines script) replies left
-    × Appends before after (text machine.page_size replies)
+AnswersScript machine script before after = (left : State) × AnswersInput IsPromisedStep machine.page_size script machine left before after
+
+-- so it does, where the script on the input is known
+abbrev pub AnswersKnown : {R W : Type 0} → State → (R → Option (List ℕ)) → (W → Option (List ℕ)) → R → W → W → Type 0
+AnswersKnown machine remaining contents input before after =
+    IfSome (remaining input) (λ script. AnswersScript machine script (contents before) (contents after))
 
 -- the status of a process for the way that its run ended
 abbrev pub status_of : Result ℕ RunFault → ℕ
@@ -36,6 +35,11 @@ pub record Run (machine : State) (unread left : Option (List ℕ)) (sure : Type 
   pub consumed : Consumes unread left input
   pub served : Serves IsPromisedStep machine.page_size machine then before after input ended
   pub never : sure → IfErr ended IsMemoryOrTooLong
+
+-- so it was on an input and an output, of which `remaining` and `contents` tell what is known
+abbrev pub RunsOn : {R W : Type 0} → State → (R → Option (List ℕ)) → (W → Option (List ℕ)) → Type 0 → R → R → W → W → Result ℕ RunFault → Type 0
+RunsOn machine remaining contents sure unread left before after ended =
+    Run machine (remaining unread) (remaining left) sure (contents before) (contents after) ended
 
 -- clap's refusal is the help that was asked for
 abbrev pub IsHelp : Error → Type 0

@@ -1,16 +1,14 @@
 //! The command line.
-ghost use Rattle.std.specs.Prelude.{◌≡◌, ◌≤◌, ◌⊎◌, ◌∷◌, ℕ, [], codes, false, map, option_map, IfErr, IfOk, IsSomeAnd, MatchOption, Ok};
-ghost use Rattle.std.specs.Option.{option_map_or};
-ghost use Rattle.clap.specs.Words.{app_of, found_of, first_of, rows_of, rule_of};
+ghost use Rattle.std.specs.Prelude.{◌≡◌, ◌≤◌, ◌∷◌, [], false, map, option_map, IfErr, IfOk, IsSomeAnd, MatchOption, Ok};
+ghost use Rattle.clap.specs.Words.{app_of, first_of, rule_of};
 ghost use Rattle.hp_model.specs.Words.{number_of};
-ghost use Rattle.hugetlbd.specs.Asked.{Asks, CanBeFrames, IsBadValue, IsRefusedFor, IsWrongIn, IsWrongOf, Sets, hugetlbd, option, has_options, pieces};
+ghost use Rattle.hugetlbd.specs.Asked.{Asks, IsBadValue, IsNoneWithin, IsNumberOr, IsNumberWithin, IsRefusedFor, IsWrongFrames, IsWrongIn, IsWrongOf, Sets, hugetlbd, option, options_in, has_options, pieces};
 ghost use Rattle.hugetlbd.specs.Config.{IsFrames, IsWithinLimits, choice_in, choice_of};
-ghost use Rattle.hugetlbd.specs.declared.settings.Wrong.TheVariants.{Memory};
 
 use crate::settings::{Config, Machine, Wrong};
 use clap::error::ErrorKind;
 use clap::{Arg, ArgAction, ArgMatches, Command, Error};
-use hp_options::pieces::place_of;
+use hp_text::pieces::first_piece;
 use hp_wire::words::number_of;
 use std::alloc::{AllocError, Global};
 use std::convert::AsStr;
@@ -85,13 +83,13 @@ fn option<'a>(alloc: Global, name: &'a str) -> Arg<'a>
 
 // The text that the words give for an option.
 fn text_of<'a>(matches: &ArgMatches<'a>, name: &str) -> Option<&'a str>
-    ensures { option_map (λ s. s.now) result ≡ first_of name.now (rows_of (found_of matches.now)) }
+    ensures { option_map (λ s. s.now) result ≡ first_of name.now (options_in matches.now) }
 {
     matches.get_str(name)
 }
 
 fn has_option(matches: &ArgMatches<'_>) -> bool
-    ensures { result ≡ has_options (rows_of (found_of matches.now)) }
+    ensures { result ≡ has_options (options_in matches.now) }
 {
     text_of(matches, "frames").is_some()
         || text_of(matches, "page").is_some()
@@ -100,8 +98,8 @@ fn has_option(matches: &ArgMatches<'_>) -> bool
 
 fn machine_of(alloc: Global, matches: &ArgMatches<'_>) -> Result<Machine, Wrong>
     ensures limits { IfOk result (λ m. IsWithinLimits (choice_of m)) }
-    ensures sets { IfOk result (λ m. Sets (rows_of (found_of matches.now)) (choice_of m)) }
-    ensures wrong { IfErr result (IsWrongIn (rows_of (found_of matches.now))) }
+    ensures sets { IfOk result (λ m. Sets (options_in matches.now) (choice_of m)) }
+    ensures wrong { IfErr result (IsWrongIn (options_in matches.now)) }
 {
     let frames = match text_of(matches, "frames") {
         None => two_nodes(alloc)?,
@@ -134,12 +132,12 @@ fn two_nodes(alloc: Global) -> Result<Vec<u64>, AllocError>
 fn frames_of(alloc: Global, text: &[u8]) -> Result<Vec<u64>, Wrong>
     ensures reads { IfOk result (λ v. map number_of (pieces text.now) ≡ map Ok v.items) }
     ensures limits { IfOk result (λ v. IsFrames v.items) }
-    ensures wrong { IfErr result (λ wrong. (wrong ≡ Memory) ⊎ (IsBadValue (codes "frames") wrong × (CanBeFrames text.now → ⊥))) }
+    ensures wrong { IfErr result (IsWrongFrames text.now) }
 {
     let mut frames = Vec::new(alloc);
     let mut rest = text;
     for _ in 0..4usize {
-        let (piece, more) = first_piece(rest);
+        let (piece, more) = first_piece(b',', rest);
         let Some(n) = number_between(piece, 1, 65_536) else {
             return Err(Wrong::BadValue("frames"));
         };
@@ -152,16 +150,6 @@ fn frames_of(alloc: Global, text: &[u8]) -> Result<Vec<u64>, Wrong>
     Err(Wrong::BadValue("frames"))
 }
 
-// What stands before the first comma, and what stands after it.
-fn first_piece(text: &[u8]) -> (&[u8], Option<&[u8]>)
-    ensures { pieces text.now ≡ result.0.now ∷ option_map_or (λ rest. pieces rest.now) result.1 [] }
-{
-    match place_of(b',', text) {
-        None => (text, None),
-        Some(at) => (&text[..at], Some(&text[at + 1..])),
-    }
-}
-
 // The option's number, which lies between the bounds, or the number where it isn't given.
 fn number_or(
     text: Option<&str>,
@@ -172,9 +160,9 @@ fn number_or(
 ) -> Result<u64, Wrong>
     requires { (low ≤ none) × (none ≤ high) }
     ensures bounds { IfOk result (λ n. (low ≤ n) × (n ≤ high)) }
-    ensures reads { IfOk result (λ n. MatchOption text.entry (n ≡ none) (λ text. number_of text.now ≡ Ok n)) }
+    ensures reads { IfOk result (IsNumberOr none text.entry) }
     ensures wrong { IfErr result (λ wrong. IsBadValue name.now wrong
-        × IsSomeAnd text.entry (λ text. (n : ℕ) → number_of text.now ≡ Ok n → low ≤ n → n ≤ high → ⊥)) }
+        × IsSomeAnd text.entry (λ text. IsNoneWithin low high text.now)) }
 {
     let Some(text) = text else {
         return Ok(none);
@@ -187,7 +175,8 @@ fn number_or(
 
 // The number that the text is, where that lies between the bounds.
 fn number_between(text: &[u8], low: u64, high: u64) -> Option<u64>
-    ensures { MatchOption result ((n : ℕ) → number_of text.now ≡ Ok n → low ≤ n → n ≤ high → ⊥) (λ n. (number_of text.now ≡ Ok n) × (low ≤ n) × (n ≤ high)) }
+    ensures { MatchOption result (IsNoneWithin low high text.now)
+        (IsNumberWithin low high text.now) }
 {
     match number_of(text) {
         Ok(n) if low <= n && n <= high => Some(n),

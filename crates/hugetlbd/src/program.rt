@@ -1,13 +1,12 @@
 //! The program: what the words ask for, the machine, a script on it, and a status.
-ghost use Rattle.std.specs.Prelude.{◌≡◌, ◌≢◌, ◌≤◌, ◌⊎◌, ◌++◌, ℕ, Result, false, map, length, IfErr, IfSome, IsOk, OnOk};
-ghost use Rattle.std.specs.Io.KnownBytes.{Appends};
+ghost use Rattle.std.specs.Prelude.{◌≡◌, ◌≢◌, ◌≤◌, ◌⊎◌, ◌++◌, ℕ, Result, false, map, length, IfErr, IsOk, OnOk};
 ghost use Rattle.clap.specs.Takes.{takes};
-ghost use Rattle.hp_wire.specs.Sent.{AppendsFront};
+ghost use Rattle.hp_wire.specs.Sent.{Writes, WritesFront};
 ghost use Rattle.hp_wire.specs.declared.fault.RunFault.{RunFault as TheFault};
 ghost use Rattle.hp_pool.specs.Ledgers.{AreLedgers};
 ghost use Rattle.hugetlbd.specs.Asked.{Asks, IsRefusedFor, hugetlbd};
 ghost use Rattle.hugetlbd.specs.Config.{Choice, IsWithinLimits, chosen, choice_of, usual};
-ghost use Rattle.hugetlbd.specs.Program.{AnswersScript, Refuses, Run, Says, SaysEnd, named, status_of};
+ghost use Rattle.hugetlbd.specs.Program.{AnswersKnown, Refuses, RunsOn, Says, SaysEnd, named, status_of};
 ghost use Rattle.hugetlbd.specs.declared.settings.Wrong.{Wrong as TheWrong};
 
 use crate::config::{HELP, config};
@@ -39,26 +38,27 @@ pub fn program<'a, S: AsStr, R: Source, W: Sink, E: Sink>(
     ensures ended { let asked = map S.text words.entry.now in
         ((c : Choice) × Asks asked c × IsWithinLimits c
         × (ended : Result ℕ TheFault) × (result ≡ status_of ended)
-        × Run (chosen c) (R.remaining input.old) (R.remaining input.new)
+        × RunsOn (chosen c) R.remaining W.contents
         (R.is_sure input.old × W.is_sure output.old)
-        (W.contents output.old) (W.contents output.new) ended
+        input.old input.new output.old output.new ended
         × SaysEnd (E.is_sure faults.old) (E.contents faults.old) (E.contents faults.new) ended)
         ⊎ ((wrong : TheWrong) × IsRefusedFor asked wrong × (input.new ≡ input.old)
         × Refuses W.contents W.is_sure output.old output.new
         (E.is_sure faults.old) (E.contents faults.old) (E.contents faults.new) wrong result) }
-    ensures right { (c : Choice) → Asks (map S.text words.entry.now) c → IsWithinLimits c → result ≢ 2 }
+    ensures right { (c : Choice) → Asks (map S.text words.entry.now) c → IsWithinLimits c
+        → result ≢ 2 }
     ensures script { let asked = map S.text words.entry.now in
         result ≡ 0 → ((input.new ≡ input.old) × (takes hugetlbd asked ≡ false)
-        × Appends (W.contents output.old) (W.contents output.new) HELP.now)
-        ⊎ ((c : Choice) × Asks asked c × IfSome (R.remaining input.old) (λ script.
-        AnswersScript (chosen c) script (W.contents output.old) (W.contents output.new))) }
-    ensures usual { length words.entry.now ≤ 1 → result ≡ 0 → IfSome (R.remaining input.old) (λ script.
-        AnswersScript (chosen usual) script (W.contents output.old) (W.contents output.new)) }
+        × Writes W.contents output.old output.new HELP.now)
+        ⊎ ((c : Choice) × Asks asked c
+        × AnswersKnown (chosen c) R.remaining W.contents input.old output.old output.new) }
+    ensures usual { length words.entry.now ≤ 1 → result ≡ 0
+        → AnswersKnown (chosen usual) R.remaining W.contents input.old output.old output.new }
     ensures alone { length words.entry.now ≤ 1
         → ((ended : Result ℕ TheFault) × (result ≡ status_of ended)
-        × Run (chosen usual) (R.remaining input.old) (R.remaining input.new)
+        × RunsOn (chosen usual) R.remaining W.contents
         (R.is_sure input.old × W.is_sure output.old)
-        (W.contents output.old) (W.contents output.new) ended)
+        input.old input.new output.old output.new ended)
         ⊎ ((result ≡ 1) × (input.new ≡ input.old) × (output.new ≡ output.old)) }
 {
     match config(alloc, words) {
@@ -82,8 +82,11 @@ fn run_machine<N: Naming, R: Source, W: Sink>(
     requires limits { IsWithinLimits (choice_of config.now) }
     requires bytes { N.page_bytes ≡ config.now.page }
     requires ledgers { AreLedgers N.Naming blanks }
-    ensures run { Run (chosen (choice_of config.now)) (R.remaining input.old) (R.remaining input.new) (R.is_sure input.old × W.is_sure output.old) (W.contents output.old) (W.contents output.new) result }
-    ensures script { IfSome (R.remaining input.old) (λ script. OnOk result (AnswersScript (chosen (choice_of config.now)) script (W.contents output.old) (W.contents output.new))) }
+    ensures run { RunsOn (chosen (choice_of config.now)) R.remaining W.contents
+        (R.is_sure input.old × W.is_sure output.old)
+        input.old input.new output.old output.new result }
+    ensures script { OnOk result (AnswersKnown (chosen (choice_of config.now))
+        R.remaining W.contents input.old output.old output.new) }
 {
     let frames = config.frames.as_slice();
     let Ok(mut machine) = System::<N>::new(
@@ -104,7 +107,8 @@ fn run_machine<N: Naming, R: Source, W: Sink>(
 /// status alone tells.
 pub fn report<E: Sink>(ended: Result<u64, RunFault>, faults: &mut E) -> u8
     ensures status { result ≡ status_of ended }
-    ensures says { SaysEnd (E.is_sure faults.old) (E.contents faults.old) (E.contents faults.new) ended }
+    ensures says { SaysEnd (E.is_sure faults.old)
+        (E.contents faults.old) (E.contents faults.new) ended }
 {
     match ended {
         Ok(_) => 0,
@@ -151,9 +155,9 @@ fn name<E: Sink>(what: &str, of: &str, faults: &mut E)
 }
 
 fn write_line<E: Sink>(what: &str, of: &str, faults: &mut E) -> Result<(), RunFault>
-    ensures sent { OnOk result (Appends (E.contents faults.old) (E.contents faults.new)
+    ensures sent { OnOk result (Writes E.contents faults.old faults.new
         (named (what.now ++ of.now))) }
-    ensures cut { IfErr result (λ e. AppendsFront (E.contents faults.old) (E.contents faults.new)
+    ensures cut { IfErr result (WritesFront E.contents faults.old faults.new
         (named (what.now ++ of.now))) }
     ensures sure { E.is_sure faults.old → IsOk result }
 {

@@ -1,6 +1,6 @@
 use Rattle.std.proofs.Common.{◌≤◌, ◌+◌, ◌-◌, ◌*◌, length, drop, vec_len, vec_capacity}
 use Rattle.hp_model.specs.Writing.{names_text}
-use Rattle.hp_options.proofs.Added.{Adding}
+use Rattle.hp_text.proofs.Added.{Adding}
 use Rattle.hp_wire.proofs.writing.push_name_lines.Given as goal
 
 abbrev pub invariant-loop-name : goal.invariant-loop-name

@@ -1,6 +1,6 @@
 use Rattle.std.proofs.Common.{◌≡◌, ◌≤◌, ◌+◌, ◌-◌, ◌*◌, length, drop, vec_len, vec_capacity}
 use Rattle.hp_model.specs.Writing.{rows_text}
-use Rattle.hp_options.proofs.Added.{Adding}
+use Rattle.hp_text.proofs.Added.{Adding}
 use Rattle.hp_wire.proofs.writing.push_rows.Given as goal
 
 abbrev pub invariant-loop-row : goal.invariant-loop-row

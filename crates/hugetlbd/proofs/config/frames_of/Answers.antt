@@ -7,7 +7,7 @@ returns-in_default-clause-wrong c =
     inr (
       refl,
       λ can.
-          let read = piece_read c.args.text.now _ c.loop.rest.now _ c.loop.frames.items c.loop.invariant.reads c.first_piece.ensures can in
+          let read = piece_read c.args.text.now _ c.loop.rest.now _ c.loop.frames.items c.loop.invariant.reads c.first_piece.ensures.pieces can in
           c.in_default.ensures read.0 read.1 read.2 read.3,
     )
 

@@ -1,0 +1,68 @@
+//! Numbers, pieces, and the text of meminfo.
+
+use hp_text::meminfo::meminfo_text;
+use hp_text::numbers::number_of;
+use hp_text::pieces::first_piece;
+use hp_model::answer::Counts;
+use std::test::Fail;
+
+#[test]
+fn reads_numbers(rt: HostRuntime) {
+    assert_eq!(rt; number_of(b"0"), Some(0));
+    assert_eq!(rt; number_of(b"00000000000000000007"), Some(7));
+    assert_eq!(rt; number_of(b"18446744073709551615"), Some(u64::MAX));
+    for text in [
+        b"".as_slice(),
+        b"-1",
+        b"+1",
+        b" 1",
+        b"1x",
+        b"18446744073709551616",
+        b"000000000000000000001",
+    ] {
+        assert_eq!(rt; number_of(text), None);
+    }
+}
+
+#[test]
+fn cuts_at_the_first_separator(rt: HostRuntime) {
+    assert_eq!(rt; first_piece(b',', b""), (b"".as_slice(), None));
+    assert_eq!(rt; first_piece(b',', b"ab"), (b"ab".as_slice(), None));
+    assert_eq!(rt;
+        first_piece(b',', b"ab,"),
+        (b"ab".as_slice(), Some(b"".as_slice()))
+    );
+    assert_eq!(rt;
+        first_piece(b',', b",a,b"),
+        (b"".as_slice(), Some(b"a,b".as_slice()))
+    );
+}
+
+const SMALL: &[u8] =
+    b"HugePages_Total:       4\nHugePages_Free:        3\nHugePages_Rsvd:        2\nHugePages_Surp:        1\nHugepagesize:          1 kB\nHugetlb:               4 kB\n";
+
+const GREATEST: &[u8] =
+    b"HugePages_Total:  262144\nHugePages_Free:   262144\nHugePages_Rsvd:        0\nHugePages_Surp:        0\nHugepagesize:       2048 kB\nHugetlb:        536870912 kB\n";
+
+#[test]
+fn writes_meminfo(rt: HostRuntime) -> Result<(), Fail> {
+    let mut counts = Counts {
+        total: 4,
+        free: 3,
+        rsvd: 2,
+        surp: 1,
+        nr: 3,
+        overcommit: 1,
+    };
+    let mut small = Vec::with_capacity(rt.alloc(), 256)?;
+    meminfo_text(counts, 1024, &mut small);
+    assert_eq!(rt; small.as_slice(), SMALL);
+    counts.total = 262_144;
+    counts.free = 262_144;
+    counts.rsvd = 0;
+    counts.surp = 0;
+    let mut greatest = Vec::with_capacity(rt.alloc(), 256)?;
+    meminfo_text(counts, 2_097_152, &mut greatest);
+    assert_eq!(rt; greatest.as_slice(), GREATEST);
+    Ok(())
+}

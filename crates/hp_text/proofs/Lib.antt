@@ -1,0 +1,4 @@
+pub mod Added
+mod Columns
+pub mod Cuts
+mod Digits

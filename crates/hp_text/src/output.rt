@@ -1,0 +1,35 @@
+//! Text that is added to what waits to be written. Nothing here asks for memory.
+ghost use Rattle.std.specs.Prelude.{◌≡◌, ◌≤◌, decimal, length};
+ghost use Rattle.hp_model.specs.Writing.{in_columns};
+ghost use Rattle.hp_text.specs.Output.{HasRoom, Adds};
+
+/// Adds bytes.
+pub fn push(out: &mut Vec<u8>, bytes: &[u8])
+    requires { HasRoom out.old (length bytes.now) }
+    ensures { Adds out.old out.new bytes.now }
+{
+    out.extend_from_slice(bytes).unwrap();
+}
+
+/// Adds a number.
+pub fn push_number(out: &mut Vec<u8>, n: u64)
+    requires { HasRoom out.old 20 }
+    ensures adds { Adds out.old out.new (decimal n) }
+    ensures short { length (decimal n) ≤ 20 }
+{
+    let mut digits = itoa::Buffer::new();
+    push(out, digits.format(n).as_bytes());
+}
+
+/// Adds a number right in eight columns, or in as many as it needs.
+pub fn push_columns(out: &mut Vec<u8>, n: u64)
+    requires { HasRoom out.old 20 }
+    ensures adds { Adds out.old out.new (in_columns n) }
+    ensures short { length (in_columns n) ≤ 20 }
+{
+    let mut digits = itoa::Buffer::new();
+    let text = digits.format(n).as_bytes();
+    let blank = [b' '; 8];
+    push(out, &blank[..8usize.saturating_sub(text.len())]);
+    push(out, text);
+}

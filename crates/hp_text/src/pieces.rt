@@ -1,0 +1,24 @@
+//! The pieces that a text is cut into at a separator.
+ghost use Rattle.std.specs.Prelude.{◌≡◌, ◌∷◌, ◌++◌, ◌==◌};
+ghost use Rattle.std.specs.List.{position};
+ghost use Rattle.hp_text.specs.Pieces.{pieces, pieces_after, from_separator};
+
+/// What stands before the first separator, and what stands after it. With no separator the whole text is the one piece.
+#[inline(always)]
+pub fn first_piece(separator: u8, text: &[u8]) -> (&[u8], Option<&[u8]>)
+    ensures pieces { pieces separator text.now
+        ≡ result.0.now ∷ pieces_after separator result.1 }
+    ensures whole { text.now ≡ result.0.now ++ from_separator separator result.1 }
+{
+    match place_of(separator, text) {
+        None => (text, None),
+        Some(at) => (&text[..at], Some(&text[at + 1..])),
+    }
+}
+
+#[inline(always)]
+fn place_of(byte: u8, bytes: &[u8]) -> Option<usize>
+    ensures { result ≡ position (λ b. b == byte) bytes.now }
+{
+    bytes.iter().position(|b| *b == byte)
+}

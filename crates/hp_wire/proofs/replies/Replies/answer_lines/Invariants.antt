@@ -1,0 +1,18 @@
+use Rattle.std.proofs.Common.{◌≡◌, ◌+◌, ◌≤◌, length, List}
+use Rattle.hp_model.specs.Lines.{Line}
+use Rattle.hp_wire.specs.Answered.{Answered}
+use Rattle.hp_wire.proofs.LineCuts.{CutOff}
+use Rattle.hp_wire.proofs.replies.Replies.answer_lines.Given as goal
+
+abbrev pub invariant-loop-line : goal.invariant-loop-line
+invariant-loop-line g l = (done : List Line) × record {
+  answered : Answered g.S.Service.may_answer l.fn.self.page l.fn.service done l.service (g.W.Write.contents l.fn.writer) l.fn.self.text (g.W.Write.contents l.writer) l.self.text;
+  cut : CutOff l.bytes l.rest done;
+  count : l.count ≡ length done;
+  few : l.count + length l.rest ≤ length l.bytes;
+  page : l.self.page ≡ l.fn.self.page;
+  sure : g.W.Sink.is_sure l.fn.writer → g.W.Sink.is_sure l.writer;
+}
+
+abbrev pub decreases-loop-line : goal.decreases-loop-line
+decreases-loop-line g l = length l.rest

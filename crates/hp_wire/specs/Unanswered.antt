@@ -1,0 +1,26 @@
+-- Bytes that were read and wait to be answered.
+use Rattle.std.specs.Prelude.{◌≡◌, ◌≤◌, ◌-◌, ℕ, List, ◌++◌, drop, take, length, Option}
+use Rattle.std.specs.Io.KnownBytes.{Consumes, Keeps}
+use Rattle.hp_model.specs.Lines.{after_lines, ended_lines}
+use Rattle.hp_wire.specs.declared.fault.RunFault.{RunFault}
+use Rattle.hp_wire.specs.declared.fault.RunFault.TheVariants.{Read}
+
+-- so many bytes were read, and stand behind those that were there
+pub record Gets (old new : List ℕ) (unread left : Option (List ℕ)) (count : ℕ) : Type 0 where
+  pub bytes : List ℕ
+  pub consumed : Consumes unread left bytes
+  pub behind : new ≡ old ++ bytes
+  pub all : count ≡ length bytes
+
+-- so many bytes were read, to this place of a buffer, and what stands before it is as it was
+abbrev pub GetsAt : ℕ → List ℕ → List ℕ → Option (List ℕ) → Option (List ℕ) → ℕ → Type 0
+GetsAt at old new unread left count =
+    (take at new ≡ take at old) × Consumes unread left (take count (drop at new)) × (length (take count (drop at new)) ≡ count)
+
+-- a read failed, and took nothing
+abbrev pub FailsToRead : Option (List ℕ) → Option (List ℕ) → RunFault → Type 0
+FailsToRead unread left fault = (fault ≡ Read) × Keeps unread left
+
+-- so many bytes follow the last line that ended, and so many lines ended
+abbrev pub CountsLines : List ℕ → ℕ × ℕ → Type 0
+CountsLines bytes x = (x.0 ≤ length bytes) × (after_lines bytes ≡ drop (length bytes - x.0) bytes) × (x.1 ≡ length (ended_lines bytes))

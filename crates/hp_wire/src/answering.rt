@@ -1,0 +1,150 @@
+//! The answers to lines.
+ghost use Rattle.std.specs.Prelude.{◌≡◌, ◌+◌, ◌<◌, ◌^◌, [], ◌∷◌, length, IfErr, IfOk, IsOk, OnOk};
+ghost use Rattle.hp_model.specs.Lines.{ended, ended_lines};
+ghost use Rattle.hp_model.specs.Reading.{step_of};
+ghost use Rattle.hp_model.specs.Text.{AnswersStep};
+ghost use Rattle.hp_model.specs.Writing.{IsWithinLimits};
+ghost use Rattle.hp_wire.specs.Answered.{AnswersAll, AnswersRead, AnswersSome, RunsAll, RunsSome};
+ghost use Rattle.hp_wire.specs.Sent.{Writes, WritesFront};
+ghost use Rattle.hp_wire.specs.Served.{text_of_refusals, unended_by};
+ghost use Rattle.hp_wire.specs.Unanswered.{CountsLines};
+
+use crate::ends::Sink;
+use crate::fault::RunFault;
+use crate::reading::{LINE_LIMIT, step_of_line};
+use crate::replies::Replies;
+use hp_model::answer::Reply;
+use hp_model::refusal::Refusal;
+use hp_model::service::Service;
+use hp_model::step::Step;
+use hp_text::pieces::first_piece;
+use std::alloc::Global;
+
+impl Replies {
+    /// Answers the lines that end in these bytes, and writes out their replies. It says how many bytes follow the last of
+    /// the lines, and how many lines there were.
+    pub fn answer_chunk<W: Sink, S: Service>(
+        &mut self,
+        alloc: Global,
+        chunk: &[u8],
+        service: &mut S,
+        writer: &mut W,
+    ) -> Result<(usize, u64), RunFault>
+        requires { self.old.text ≡ [] }
+        ensures ran { OnOk result (RunsAll S.may_answer W.contents self.old.page
+            (ended_lines chunk.now) service.old service.new writer.old writer.new) }
+        ensures cut { IfErr result (RunsSome S.may_answer W.contents self.old.page
+            (ended_lines chunk.now) service.old service.new writer.old writer.new) }
+        ensures counts { IfOk result (CountsLines chunk.now) }
+        ensures none { OnOk result (self.new.text ≡ []) }
+        ensures page { self.new.page ≡ self.old.page }
+        ensures sure { W.is_sure writer.old → IsOk result }
+        ensures stays { W.is_sure writer.old → W.is_sure writer.new }
+    {
+        let (left, count) = self.answer_lines(alloc, chunk, service, writer)?;
+        self.send(writer)?;
+        Ok((left, count))
+    }
+
+    // Answers the lines that end in these bytes, and says how many bytes follow the last of them, and how many they were.
+    fn answer_lines<W: Sink, S: Service>(
+        &mut self,
+        alloc: Global,
+        bytes: &[u8],
+        service: &mut S,
+        writer: &mut W,
+    ) -> Result<(usize, u64), RunFault>
+        ensures answered { OnOk result (AnswersAll S.may_answer W.contents (ended_lines bytes.now)
+            service.old service.new writer.old writer.new self.old self.new) }
+        ensures cut { IfErr result (AnswersSome S.may_answer W.contents (ended_lines bytes.now)
+            service.old service.new writer.old writer.new self.old) }
+        ensures counts { IfOk result (CountsLines bytes.now) }
+        ensures page { self.new.page ≡ self.old.page }
+        ensures sure { W.is_sure writer.old → IsOk result }
+        ensures stays { W.is_sure writer.old → W.is_sure writer.new }
+    {
+        let mut rest = bytes;
+        let mut count = 0u64;
+        while let (line, Some(after)) = first_piece(b'\n', rest) {
+            self.answer_line(alloc, line, service, writer)?;
+            count += 1;
+            rest = after;
+        }
+        Ok((rest.len(), count))
+    }
+
+    // Answers one line, for which room is made first.
+    fn answer_line<W: Sink, S: Service>(
+        &mut self,
+        alloc: Global,
+        line: &[u8],
+        service: &mut S,
+        writer: &mut W,
+    ) -> Result<(), RunFault>
+        ensures answered { OnOk result (AnswersAll S.may_answer W.contents (ended line.now ∷ [])
+            service.old service.new writer.old writer.new self.old self.new) }
+        ensures cut { IfErr result (WritesFront W.contents writer.old writer.new self.old.text) }
+        ensures undone { IfErr result (λ _. service.new ≡ service.old) }
+        ensures page { self.new.page ≡ self.old.page }
+        ensures sure { W.is_sure writer.old → IsOk result }
+        ensures stays { W.is_sure writer.old → W.is_sure writer.new }
+    {
+        self.make_room(writer)?;
+        let reply = reply_to(alloc, service, line);
+        self.add(&reply);
+        Ok(())
+    }
+
+    /// Answers the line that the input ends in, of which so many bytes are held, where it ends in one, and says how many
+    /// lines there were with those before.
+    pub fn finish<W: Sink>(
+        &mut self,
+        held: usize,
+        count: u64,
+        writer: &mut W,
+    ) -> Result<u64, RunFault>
+        requires none { self.old.text ≡ [] }
+        requires count { count < 2 ^ 63 }
+        ensures count { IfOk result (λ n. n ≡ count + length (unended_by held)) }
+        ensures written { OnOk result (Writes W.contents writer.old writer.new
+            (text_of_refusals self.old.page (unended_by held))) }
+        ensures cut { IfErr result (WritesFront W.contents writer.old writer.new
+            (text_of_refusals self.old.page (unended_by held))) }
+        ensures sure { W.is_sure writer.old → IsOk result }
+        ensures stays { W.is_sure writer.old → W.is_sure writer.new }
+    {
+        let mut lines = count;
+        if held > 0 {
+            let refusal = if held <= LINE_LIMIT {
+                Refusal::BadLine
+            } else {
+                Refusal::LineTooLong
+            };
+            self.add(&Err(refusal));
+            lines += 1;
+        }
+        self.send(writer)?;
+        Ok(lines)
+    }
+}
+
+fn reply_to<S: Service>(alloc: Global, service: &mut S, line: &[u8]) -> Reply
+    ensures answered { AnswersStep S.may_answer service.old (step_of (ended line.now))
+        result service.new }
+    ensures limits { IsWithinLimits result }
+{
+    if line.len() > LINE_LIMIT {
+        return Err(Refusal::LineTooLong);
+    }
+    let read = step_of_line(alloc, line);
+    answer(service, read)
+}
+
+// The machine's reply to the step that was read, or why none was.
+fn answer<S: Service>(service: &mut S, read: Result<Step, Refusal>) -> Reply
+    ensures answered { AnswersRead S.may_answer service.old read result service.new }
+    ensures limits { IsWithinLimits result }
+{
+    let step = read?;
+    service.call(&step)
+}

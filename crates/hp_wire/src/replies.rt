@@ -1,0 +1,83 @@
+//! The replies that wait to be written.
+ghost use Rattle.std.specs.Prelude.{◌≡◌, ◌≤◌, ◌++◌, [], IfErr, IfOk, IsOk, OnOk};
+ghost use Rattle.hp_model.specs.Writing.{IsWithinLimits, line_of};
+ghost use Rattle.hp_wire.specs.Answered.{LosesNone};
+ghost use Rattle.hp_wire.specs.Sent.{Writes, WritesFront};
+ghost use Rattle.hp_wire.specs.Waiting.{HasRoomForOne};
+
+use crate::ends::{Sink, write_whole};
+use crate::fault::RunFault;
+use crate::writing::{LONGEST, line_of_reply};
+use hp_model::answer::Reply;
+use std::alloc::{AllocError, Global};
+use std::marker::Model;
+
+const ROOM: usize = 131_072;
+
+/// The text of replies, where a page has `page` bytes.
+#[derive(Drop)]
+pub struct Replies {
+    page: u64,
+    waiting: Vec<u8>,
+}
+
+impl Model for Replies {
+    ghost use Rattle.std.specs.Prelude.{◌≤◌, vec_capacity};
+    ghost use Rattle.hp_wire.specs.Waiting.{Waiting};
+
+    ghost Value = { Waiting };
+
+    ghost view = { λ r. record { page = r.page; text = r.waiting.items } };
+
+    ghost invariant = { λ r. (r.page ≤ 2097152) × (131072 ≤ vec_capacity r.waiting) };
+}
+
+impl Replies {
+    /// No replies yet. All memory for their text is asked for here.
+    pub fn new(alloc: Global, page: u64) -> Result<Replies, AllocError>
+        requires { page ≤ 2097152 }
+        ensures { IfOk result (λ replies. (replies.page ≡ page) × (replies.text ≡ [])) }
+    {
+        let waiting = Vec::with_capacity(alloc, ROOM)?;
+        Ok(Replies { page, waiting })
+    }
+
+    /// Adds the text of a reply.
+    pub fn add(&mut self, reply: &Reply)
+        requires limits { IsWithinLimits reply.now }
+        requires room { HasRoomForOne self.old }
+        ensures page { self.new.page ≡ self.old.page }
+        ensures text { self.new.text ≡ self.old.text ++ line_of self.old.page reply.now }
+    {
+        line_of_reply(self.page, reply, &mut self.waiting);
+    }
+
+    /// Makes room for one reply more: where there is none, writes out those that wait.
+    pub fn make_room<W: Sink>(&mut self, writer: &mut W) -> Result<(), RunFault>
+        ensures room { OnOk result (HasRoomForOne self.new) }
+        ensures page { self.new.page ≡ self.old.page }
+        ensures kept { OnOk result (LosesNone W.contents writer.old writer.new self.old self.new) }
+        ensures cut { IfErr result (WritesFront W.contents writer.old writer.new self.old.text) }
+        ensures sure { W.is_sure writer.old → IsOk result }
+        ensures stays { W.is_sure writer.old → W.is_sure writer.new }
+    {
+        if self.waiting.len() > ROOM - LONGEST {
+            return self.send(writer);
+        }
+        Ok(())
+    }
+
+    /// Writes out the replies that wait.
+    pub fn send<W: Sink>(&mut self, writer: &mut W) -> Result<(), RunFault>
+        ensures sent { OnOk result (Writes W.contents writer.old writer.new self.old.text) }
+        ensures none { OnOk result (self.new.text ≡ []) }
+        ensures page { self.new.page ≡ self.old.page }
+        ensures cut { IfErr result (WritesFront W.contents writer.old writer.new self.old.text) }
+        ensures sure { W.is_sure writer.old → IsOk result }
+        ensures stays { W.is_sure writer.old → W.is_sure writer.new }
+    {
+        write_whole(writer, self.waiting.as_slice())?;
+        self.waiting.clear();
+        Ok(())
+    }
+}

@@ -1,0 +1,103 @@
+//! The bytes that were read and wait to be answered.
+ghost use Rattle.std.specs.Prelude.{◌≡◌, ◌+◌, ◌-◌, ◌<◌, ◌≤◌, [], drop, length, take, IfErr, IfOk, IsOk};
+ghost use Rattle.std.specs.Io.KnownBytes.{IsAtEnd};
+ghost use Rattle.hp_wire.specs.Unanswered.{FailsToRead, Gets, GetsAt};
+
+use crate::ends::Source;
+use crate::fault::RunFault;
+use crate::reading::LINE_LIMIT;
+use std::alloc::{AllocError, Global};
+use std::marker::Model;
+
+const ROOM: usize = 65_536;
+
+/// Bytes at the front of a buffer.
+#[derive(Drop)]
+pub struct Unanswered {
+    buffer: Vec<u8>,
+    end: usize,
+}
+
+impl Model for Unanswered {
+    ghost use Rattle.std.specs.Prelude.{◌≡◌, ◌≤◌, ℕ, List, length, take};
+
+    ghost Value = { List ℕ };
+
+    ghost view = { λ u. take u.end u.buffer.items };
+
+    ghost invariant = { λ u. (length u.buffer.items ≡ 65536) × (u.end ≤ 65536) };
+}
+
+impl Unanswered {
+    /// No bytes yet. All memory for them is asked for here.
+    pub fn new(alloc: Global) -> Result<Unanswered, AllocError>
+        ensures { IfOk result (λ unanswered. unanswered ≡ []) }
+    {
+        let buffer = vec![in alloc; 0u8; ROOM]?;
+        Ok(Unanswered { buffer, end: 0 })
+    }
+
+    /// The bytes.
+    pub fn bytes(&self) -> &[u8]
+        ensures { result.now ≡ self.now }
+    {
+        &self.buffer[..self.end]
+    }
+
+    /// Reads at most so many bytes more, and says how many; none at the input's end alone.
+    pub fn read<R: Source>(&mut self, reader: &mut R, most: usize) -> Result<usize, RunFault>
+        requires { length self.old ≤ 1025 }
+        ensures got { IfOk result (Gets self.old self.new
+            (R.remaining reader.old) (R.remaining reader.new)) }
+        ensures bound { IfOk result (λ n. n ≤ most) }
+        ensures end { IfOk result (λ n. n ≡ 0 → 0 < most
+            → IsAtEnd (R.remaining reader.new)) }
+        ensures err { IfErr result (FailsToRead (R.remaining reader.old) (R.remaining reader.new)) }
+        ensures sure { R.is_sure reader.old → IsOk result }
+        ensures stays { R.is_sure reader.old → R.is_sure reader.new }
+    {
+        let room = (ROOM - self.end).min(most);
+        let n = read_behind(reader, &mut self.buffer, self.end, room)?;
+        self.end += n;
+        Ok(n)
+    }
+
+    /// Keeps the last so many bytes alone, or the first 1,025 of these: they stand for a line that is too long.
+    pub fn keep_last(&mut self, left: usize)
+        requires { left ≤ length self.old }
+        ensures { self.new ≡ take 1025 (drop (length self.old - left) self.old) }
+    {
+        let from = self.end - left;
+        self.end = left.min(LINE_LIMIT + 1);
+        move_to_front(&mut self.buffer, from, self.end);
+    }
+}
+
+// Reads into the buffer at a place.
+fn read_behind<R: Source>(
+    reader: &mut R,
+    buffer: &mut [u8],
+    at: usize,
+    room: usize,
+) -> Result<usize, RunFault>
+    requires { at + room ≤ length buffer.old }
+    ensures bound { IfOk result (λ n. n ≤ room) }
+    ensures got { IfOk result (GetsAt at buffer.old buffer.new
+        (R.remaining reader.old) (R.remaining reader.new)) }
+    ensures end { IfOk result (λ n. n ≡ 0 → 0 < room → IsAtEnd (R.remaining reader.new)) }
+    ensures err { IfErr result (FailsToRead (R.remaining reader.old) (R.remaining reader.new)) }
+    ensures sure { R.is_sure reader.old → IsOk result }
+    ensures stays { R.is_sure reader.old → R.is_sure reader.new }
+{
+    match reader.read_some(&mut buffer[at..at + room]) {
+        Ok(n) => Ok(n),
+        Err(_) => Err(RunFault::Read),
+    }
+}
+
+fn move_to_front(buffer: &mut [u8], from: usize, n: usize)
+    requires { from + n ≤ length buffer.old }
+    ensures { take n buffer.new ≡ take n (drop from buffer.old) }
+{
+    buffer.copy_within(from..from + n, 0);
+}
