@@ -10,10 +10,10 @@ use Rattle.hp_model.specs.declared.step.Intent.{Intent}
 use Rattle.hp_model.specs.declared.step.Intent.TheVariants.{Read, Write}
 use Rattle.hp_model.specs.Access.{uncopied_access, access, private_access, shared_access}
 use Rattle.hp_model.specs.File.{Mount, cell_at}
-use Rattle.hp_laws.specs.Laws.{KeepsGoing, NeverWantsPages}
+use Rattle.hp_laws.specs.Laws.{KeepsGoing}
 use Rattle.hp_model.specs.Mapping.{copy_of, is_map, is_shared, place_at}
 use Rattle.hp_model.specs.Page.{Copy}
-use Rattle.hp_model.specs.Plan.{refuse, Slot, Outcome, Refused, Answered, Plan, Finish, Ask, Choice, continued, with_value}
+use Rattle.hp_model.specs.Plan.{refuse, Slot, Outcome, Refused, Answered, Choice, continued, with_value}
 use Rattle.hp_model.specs.Profile.{most_bytes}
 use Rattle.hp_model.specs.Promises.{is_cut_off, is_refused, spot_on, is_backed, owns_copy}
 use Rattle.hp_model.specs.Reserved.{is_reserved}
@@ -23,18 +23,14 @@ use Rattle.hp_model.specs.Value.{value}
 use Rattle.hp_laws.proofs.Outcomes.{reply_of, Always, always_if, always_test, always_then}
 use Rattle.hp_laws.proofs.Reserved.{reserved_access, copy_keeps}
 
-all_keep : (p : Plan) → NeverWantsPages p → Always KeepsGoing p
-all_keep (Finish o) h = h
-all_keep (Ask sec f) h = h
-
 module _ (c : Choice) (size : ℕ) (m : Mount) (s : Spot) (home i : ℕ) where
   reserved_goes : (intent : Intent) → is_reserved s.file s.map i ≡ true → Always KeepsGoing (access c size m s home i intent)
-  reserved_goes intent e = all_keep (access c size m s home i intent) (reserved_access c size m s home i intent e)
+  reserved_goes intent e = reserved_access c size m s home i intent e
 
   copy_goes : (p : Place Copy) → s.map.owner ≡ true → is_some (copy_of p) ≡ true → Always KeepsGoing (private_access c size m s home i p Write)
   copy_goes Gone owner has = cc
   copy_goes (Live consumed None) owner has = cc
-  copy_goes (Live consumed (Some copy)) owner has = all_keep (private_access c size m s home i (Live consumed (Some copy)) Write) (copy_keeps c m s home i consumed copy owner)
+  copy_goes (Live consumed (Some copy)) owner has = copy_keeps c m s home i consumed copy owner
 
   owned_goes : owns_copy s.map i ≡ true → Always KeepsGoing (access c size m s home i Write)
   owned_goes e =

@@ -51,7 +51,8 @@ use Rattle.hp_laws.proofs.Shown.{On, on_follows, on_grant_page, on_reserved_page
 use Rattle.hp_laws.proofs.Single.{bit}
 use Rattle.hp_laws.proofs.SlotShows.{always_gives, always_mount, always_unless}
 use Rattle.hp_laws.proofs.SlotsBalanced.{new_in_file}
-use Rattle.hp_laws.proofs.Walk.{Leaves, event_on}
+use Rattle.hp_laws.proofs.LeavesWalk.{Leaves, leaves_walk}
+use Rattle.hp_laws.proofs.Walk.{walk}
 
 -- ---- a map more
 
@@ -247,7 +248,7 @@ read_left m sound s at i Write n h = h.0
 pub empty_sound : (l : Limits) → IsSoundMount (record { limits = l; files = [] })
 empty_sound l = record { files = λ k d l. absurd (omega (arith, l)); stamps = λ stamp. omega arith; numbers = λ task number. omega arith }
 
-module _ (size : ℕ) (c : Choice) (m : Mount) (sound : IsSoundMount m) (new : is_among c.stamp (flat_map stamps_of m.files) ≡ false) where
+module _ (size k : ℕ) (c : Choice) (m : Mount) (sound : IsSoundMount m) (new : is_among c.stamp (flat_map stamps_of m.files) ≡ false) where
   -- a file in another form, and without what is not kept
   edited_sound : (q : ℕ × File) (g : File) → IsFileAt m q.0 q.1 → KeepsFile q.1 g → ((task number : ℕ) → count_by (is_map task number) g.maps ≤ count_by (is_map task number) q.1.maps)
       → IsSoundMount (swept (with_file m q.0 g))
@@ -270,7 +271,7 @@ module _ (size : ℕ) (c : Choice) (m : Mount) (sound : IsSoundMount m) (new : i
       swept_sound (record m { files = map (file_without gone) m.files })
       (cut_sound m (file_without gone) (without_keeps gone) (λ task number f. filtered_numbers (λ x. not (is_of gone x)) task number f.maps f.maps (omega arith)) sound)
 
-  stays_sound : Leaves size c m IsSoundMount
+  stays_sound : Leaves size k c m IsSoundMount
   stays_sound = record {
     same = sound;
     creates = λ name.
@@ -316,4 +317,4 @@ slots_stay_sound size k c None (slot.Mount options) new sound = always_mount (Go
 slots_stay_sound size k c None other new sound = tt
 slots_stay_sound size k c (Some m) slot.Umount new sound = always_unless (GoesOn (Some m)) (λ r. sound) (umount_tests k m) (gives Done (Some m) None) (always_gives (GoesOn (Some m)) Done (Some m) None tt)
 slots_stay_sound size k c (Some m) e new sound =
-    always_weaker (On IsSoundMount) (GoesOn (Some m)) (left_good m sound) (on_mount size k c m e) (event_on size c m IsSoundMount (stays_sound size c m sound (not-true _ new)) k e refl)
+    always_weaker (On IsSoundMount) (GoesOn (Some m)) (left_good m sound) (on_mount size k c m e) (walk size k c m (Always (On IsSoundMount)) (leaves_walk size k c m IsSoundMount (stays_sound size k c m sound (not-true _ new))) e refl)

@@ -48,4 +48,6 @@ pub mod FilesSound
 pub mod MountsSound
 pub mod CopiesSound
 pub mod Walk
+pub mod LeavesWalk
+pub mod PlanRules
 pub mod EventsSound

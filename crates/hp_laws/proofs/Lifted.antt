@@ -27,10 +27,7 @@ use Rattle.hp_laws.specs.Balance.{left_by}
 use Rattle.hp_laws.proofs.Outcomes.{Always, event_ends, finding_goes, only_goes, reply_of, slot_goes}
 use Rattle.hp_laws.proofs.Shown.{On}
 use Rattle.hp_laws.proofs.SlotShows.{always_mount}
-
-abbrev pub is_umount : SlotEvent → Bool
-is_umount slot.Umount = true
-is_umount other = false
+pub use Rattle.hp_laws.proofs.Walk.{is_umount}
 
 -- the events of the steps that are built
 abbrev pub is_built : SlotEvent → Bool

@@ -17,15 +17,16 @@ use Rattle.hp_laws.proofs.Lifted.{EndsBy, KeepsBut, ends_on, ends_open, ends_unl
 use Rattle.hp_laws.proofs.Outcomes.{Always, always_then, always_weaker}
 use Rattle.hp_laws.proofs.Shown.{On, on_follows}
 use Rattle.hp_laws.proofs.SlotShows.{always_unless}
-use Rattle.hp_laws.proofs.Walk.{Leaves, event_on}
+use Rattle.hp_laws.proofs.LeavesWalk.{Leaves, leaves_walk}
+use Rattle.hp_laws.proofs.Walk.{walk}
 
 -- ---- an open mount
 
-module _ (size : ℕ) (c : Choice) (m : Mount) where
+module _ (size k : ℕ) (c : Choice) (m : Mount) where
   abbrev Stays : Mount → Type 0
   Stays n = n.limits ≡ m.limits
 
-  limits_stay : Leaves size c m Stays
+  limits_stay : Leaves size k c m Stays
   limits_stay = record {
     same = refl;
     creates = λ name. refl;
@@ -53,7 +54,7 @@ slot_keeps : (size k : ℕ) (c : Choice) (old : Slot) (e : SlotEvent) → Always
 slot_keeps size k c None e = ends_open size k c e SameLimits (λ new. tt)
 slot_keeps size k c (Some m) e =
     ends_unless SameLimits (Some m) (is_umount e) (on_mount size k c m e)
-    (λ is. always_weaker (On (λ n. n.limits ≡ m.limits)) (EndsBy SameLimits false (Some m)) (ends_on SameLimits m (λ n. n.limits ≡ m.limits) (λ n h. h)) (on_mount size k c m e) (event_on size c m (λ n. n.limits ≡ m.limits) (limits_stay size c m) k e is))
+    (λ is. always_weaker (On (λ n. n.limits ≡ m.limits)) (EndsBy SameLimits false (Some m)) (ends_on SameLimits m (λ n. n.limits ≡ m.limits) (λ n h. h)) (on_mount size k c m e) (walk size k c m (Always (On (λ n. n.limits ≡ m.limits))) (leaves_walk size k c m (λ n. n.limits ≡ m.limits) (limits_stay size k c m)) e is))
 
 same_limits : (old : Slot) → SameLimits old old
 same_limits None = tt

@@ -1,5 +1,5 @@
 -- How each way of making a plan balances.
-use Rattle.std.proofs.Common.{◌≡◌, ⊎_elim, inl, inr, ap, ◌∙◌, ℕ, zero, suc, ◌+◌, ◌-◌, ◌<◌, ◌≤◌, Bool, true, false, ◌&&◌, ◌==◌, Option, None, Some, List, [], ◌∷◌, refl, cond, arith, if◌then◌else◌}
+use Rattle.std.proofs.Common.{◌≡◌, ⊎_elim, inl, inr, ap, ◌∙◌, ℕ, zero, suc, ◌+◌, ◌-◌, ◌<◌, ◌≤◌, Bool, true, false, ◌&&◌, ◌==◌, None, Some, List, [], ◌∷◌, refl, cond, arith, if◌then◌else◌}
 use Rattle.std.specs.List.{sum, slice_index_or}
 use Rattle.std.proofs.lemmas.Bool.{cond_both, and_parts, eqb-true}
 use Rattle.std.proofs.lemmas.Bool.Decides.{nat_tests}
@@ -14,21 +14,17 @@ use Rattle.hp_model.specs.Plan.{slot_usage}
 use Rattle.hp_model.specs.File.{Mount}
 use Rattle.hp_model.specs.Grant.{rise, is_full, is_over}
 use Rattle.hp_model.specs.MountCounts.{pages_at, usage_of}
-use Rattle.hp_model.specs.Plan.{Slot, Outcome, Refused, Answered, Plan, Finish, Ask, Choice, refuse, unless, with_value, continued, and_then, grant, grant_page, reserved_page, when_granted, may_lack_room, slot_committed, slot_pages_at, puts_of, fall_of, gives}
+use Rattle.hp_model.specs.Plan.{Slot, Outcome, Refused, Answered, Plan, Finish, Ask, Choice, refuse, unless, continued, and_then, grant, grant_page, reserved_page, when_granted, may_lack_room, slot_committed, slot_pages_at, puts_of, fall_of, gives}
 use Rattle.hp_model.specs.declared.section.Section.TheVariants.{Grant, GiveBack}
 use Rattle.hp_model.specs.declared.limits.Limits.{Limits}
 use Rattle.hp_laws.proofs.MountMoves.{MountGrows, MountFalls}
+use Rattle.hp_laws.proofs.Walk.{plan_unless}
 
 pub stays : (old : Slot) → Stays old old
 stays old = record { committed = refl; pages = λ n l. refl; covered = λ e. cc; far = λ n. omega arith; limited = inl (omega arith) }
 
 pub balanced_unless : (old : Slot) (ts : List (Bool × Refusal)) (p : Plan) → IsBalanced old p → IsBalanced old (unless ts p)
-balanced_unless old [] p h = h
-balanced_unless old (t ∷ ts) p h = cond_both t.0 (refuse t.1) (unless ts p) (IsBalanced old) (λ e. stays old) (λ e. balanced_unless old ts p h)
-
-pub balanced_value : {X : Type 0} (old : Slot) (o : Option X) (r : Refusal) (f : X → Plan) → ((x : X) → o ≡ Some x → IsBalanced old (f x)) → IsBalanced old (with_value o r f)
-balanced_value old None r f h = stays old
-balanced_value old (Some x) r f h = h x refl
+balanced_unless old ts p h = plan_unless (IsBalanced old) (λ r. stays old) ts p h
 
 -- a test that fails, and then the others
 pub balanced_test : (old : Slot) (b : Bool) (r : Refusal) (ts : List (Bool × Refusal)) (p : Plan) → (b ≡ false → IsBalanced old p) → IsBalanced old (unless ((b, r) ∷ ts) p)

@@ -39,16 +39,15 @@ use Rattle.hp_laws.proofs.Outcomes.{Always, always_if, always_test, always_then}
 use Rattle.hp_laws.proofs.Seen.{IsLostAt, store_seen, store_marks}
 use Rattle.hp_laws.proofs.Shown.{marked, look, seen, by_place, On, Same, Result, read_same, write_done}
 use Rattle.hp_laws.proofs.Stored.{ready, stored}
+use Rattle.hp_laws.proofs.Walk.{plan_unless, plan_value}
 
 -- ---- outcomes that may be a refusal
 
 pub always_unless : (P : Outcome → Type 0) → ((r : Refusal) → P (Refused r)) → (ts : List (Bool × Refusal)) (p : Plan) → Always P p → Always P (unless ts p)
-always_unless P stops [] p h = h
-always_unless P stops (t ∷ ts) p h = always_test P t.0 t.1 (unless ts p) (stops t.1) (λ e. always_unless P stops ts p h)
+always_unless P stops ts p h = plan_unless (Always P) stops ts p h
 
 pub always_value : {X : Type 0} (P : Outcome → Type 0) → ((r : Refusal) → P (Refused r)) → (o : Option X) (r : Refusal) (f : X → Plan) → ((x : X) → o ≡ Some x → Always P (f x)) → Always P (with_value o r f)
-always_value P stops None r f h = stops r
-always_value P stops (Some x) r f h = h x refl
+always_value P stops o r f h = plan_value (Always P) stops o r f h
 
 granted_or : (P : Outcome → Type 0) → ((r : Refusal) → P (Refused r)) → (b : Bool) (o : Outcome) → P o → P (if b then o else Refused NoPages)
 granted_or P stops true o h = h

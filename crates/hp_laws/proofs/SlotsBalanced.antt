@@ -1,37 +1,37 @@
 -- Each event on a slot balances.
-use Rattle.std.proofs.Common.{◌≡◌, inl, subst, ℕ, ◌+◌, Bool, true, false, ◌||◌, ◌==◌, not, None, Some, is_some, Result, Ok, Err, List, [], ◌∷◌, length, refl, ap, ◌∙◌, arith, if◌then◌else◌, nat_lt, nat_le}
-use Rattle.std.specs.List.{list_any, flat_map, filter_map}
+use Rattle.std.proofs.Common.{◌≡◌, inl, subst, ℕ, ◌+◌, Bool, true, false, ◌||◌, ◌==◌, None, Some, Result, Ok, Err, List, [], ◌∷◌, length, refl, ap, ◌∙◌, arith, if◌then◌else◌, nat_lt}
+use Rattle.std.specs.List.{list_any, flat_map}
 use Rattle.std.proofs.lemmas.Bool.{cond_both, not-true, leb-false, false_from_ne_true, both_ways}
 use Rattle.std.proofs.lemmas.List.Folds.{list_any_at}
-use Rattle.hp_model.specs.declared.answer.Answer.TheVariants.{Done, MapNo, Names}
+use Rattle.hp_model.specs.declared.answer.Answer.TheVariants.{Done, MapNo}
 use Rattle.hp_model.specs.declared.event.SlotEvent.{SlotEvent}
-use Rattle.hp_model.specs.declared.event.SlotEvent.TheVariants.{Mount as MountEvent, Umount, Create, Unlink, Truncate, Punch, Read as ReadEvent, Ls, Stat, Df, Map as MapEvent, Anon, Unmap, Fault, Load, Store, ForkMaps, ExitMaps}
+use Rattle.hp_model.specs.declared.event.SlotEvent.TheVariants.{Mount as MountEvent}
 use Rattle.hp_model.specs.declared.refusal.Refusal.{Refusal}
-use Rattle.hp_model.specs.declared.refusal.Refusal.TheVariants.{OutOfMemory, BeyondEnd, NoSuchFile, NoSuchMap, Busy, TooMany, OutOfRange, CrossesPage, BadName, FileExists, NoInodes}
+use Rattle.hp_model.specs.declared.refusal.Refusal.TheVariants.{BeyondEnd, TooMany, OutOfRange, CrossesPage}
 use Rattle.hp_model.specs.declared.step.Intent.{Intent}
 use Rattle.hp_model.specs.declared.step.Intent.TheVariants.{Read, Write}
 use Rattle.hp_model.specs.Access.{access}
 use Rattle.hp_laws.specs.Balance.{Change, Moves, IsBalanced, left_by}
 use Rattle.hp_laws.specs.Laws.{SlotsAreBalanced}
-use Rattle.hp_model.specs.File.{with_file, new_file, maps_of, File, cell_at, Mount}
-use Rattle.hp_model.specs.Fork.{file_forked, forked}
-use Rattle.hp_model.specs.GiveBack.{file_unmapped, file_without, punched, truncated, unlinked, unmapped_from}
-use Rattle.hp_model.specs.Grant.{is_over, can_grant, granted}
+use Rattle.hp_model.specs.File.{new_file, File, Mount}
+use Rattle.hp_model.specs.Fork.{file_forked}
+use Rattle.hp_model.specs.GiveBack.{file_unmapped, file_without, punched, truncated, unlinked}
+use Rattle.hp_model.specs.Grant.{can_grant, granted}
 use Rattle.hp_model.specs.Lists.{is_among}
-use Rattle.hp_model.specs.MakeMap.{asked, mapped, with_new, next_number, tasks_of}
+use Rattle.hp_model.specs.MakeMap.{asked, mapped, next_number}
 use Rattle.hp_model.specs.Mapping.{is_map}
 use Rattle.hp_model.specs.MountCounts.{stamps_of, file_pages_at, pages_at}
 use Rattle.hp_model.specs.Options.{limits, wanted_of}
-use Rattle.hp_model.specs.Plan.{Slot, Plan, Choice, refuse, unless, with_value, Answered, Finish, grant, gives}
+use Rattle.hp_model.specs.Plan.{Slot, Plan, Choice, refuse, unless, gives}
 use Rattle.hp_model.specs.Pool.{section, settled, released}
 use Rattle.hp_model.specs.declared.section.PoolAnswer.{PoolAnswer}
 use Rattle.hp_model.specs.declared.section.Section.TheVariants.{GrantAndReturn, ReadAndGrant}
 use Rattle.hp_model.specs.PoolCounts.{Pool}
-use Rattle.hp_model.specs.Profile.{most_bytes, most_files, most_maps, most_tasks, most_file_pages, most_map_pages}
-use Rattle.hp_model.specs.SlotEvent.{on_mount, on_none, mount_section, mount_pages, mount_outcome, fault, byte_access, load, store, file_named, has_name, is_beyond, bytes_answer, map_file, unlink, truncate, punch, unmap, read, stat, is_unmapped, has_maps, is_name, span_tests, are_too_many_maps, is_bad_range, edited}
+use Rattle.hp_model.specs.Profile.{most_bytes}
+use Rattle.hp_model.specs.SlotEvent.{on_mount, on_none, mount_section, mount_pages, mount_outcome, fault, byte_access, load, store, is_beyond, bytes_answer, is_unmapped}
 use Rattle.hp_model.specs.Sound.{IsSoundFile, IsSoundMount}
-use Rattle.hp_model.specs.Spot.{Spot, spot, written, again}
-use Rattle.hp_model.specs.Value.{value, shown}
+use Rattle.hp_model.specs.Spot.{Spot, written, again}
+use Rattle.hp_model.specs.Value.{value}
 use Rattle.hp_model.specs.declared.limits.Limits.{Limits}
 use Rattle.hp_laws.proofs.Accesses.{access_balanced, written_same}
 use Rattle.hp_model.proofs.Distinct.{is_among-append}
@@ -39,8 +39,9 @@ use Rattle.hp_laws.proofs.Copies.{agreed_file}
 use Rattle.hp_laws.proofs.Falls.{unmapped_falls, without_falls, forked_falls, punched_falls, truncated_falls, unlinked_falls}
 use Rattle.hp_laws.proofs.FileMoves.{FileGrows}
 use Rattle.hp_laws.proofs.Maps.{mapped_grows}
-use Rattle.hp_laws.proofs.MountMoves.{MountGrows, IsSpot, IsFileAt, nothing_more, spot_is, file_at, file_grows, new_grows, file_sweeps, files_sweep}
-use Rattle.hp_laws.proofs.Plans.{stays, grown_same, balanced_unless, balanced_value, balanced_grant, balanced_gives, balanced_then, mount_falls}
+use Rattle.hp_laws.proofs.MountMoves.{MountFalls, MountGrows, IsSpot, IsFileAt, nothing_more, file_grows, new_grows, file_sweeps, files_sweep}
+use Rattle.hp_laws.proofs.Plans.{stays, grown_same, balanced_unless, balanced_grant, balanced_gives, balanced_then, mount_falls}
+use Rattle.hp_laws.proofs.Walk.{Walks, walk_all}
 
 -- ---- a new stamp
 
@@ -134,62 +135,39 @@ on_none_balanced size c other = nothing
 -- ---- the events of a mount
 
 module _ (size slot : ℕ) (c : Choice) (m : Mount) (sound : IsSoundMount m) (new : is_among c.stamp (flat_map stamps_of m.files) ≡ false) where
-  of_file : (name : List ℕ) (r : Refusal) (f : ℕ × File → Plan) → ((q : ℕ × File) → IsFileAt m q.0 q.1 → IsBalanced (Some m) (f q))
-      → IsBalanced (Some m) (with_value (file_named m name) r f)
-  of_file name r f h = balanced_value (Some m) (file_named m name) r f (λ q e. h q (file_at m (has_name name) q e))
+  falls : (n : Mount) → MountFalls m n → IsBalanced (Some m) (gives Done (Some m) (Some n))
+  falls n less = balanced_gives Done (Some m) (Some n) (mount_falls m n less)
 
-  of_map : (task number : ℕ) (r : Refusal) (f : Spot → Plan) → ((s : Spot) → IsSpot m s → IsBalanced (Some m) (f s)) → IsBalanced (Some m) (with_value (spot m (is_map task number)) r f)
-  of_map task number r f h = balanced_value (Some m) (spot m (is_map task number)) r f (λ s e. h s (spot_is m (is_map task number) s e))
+  events_balanced : Walks size slot c m (IsBalanced (Some m))
+  events_balanced = record {
+    refuses = λ r. stays (Some m);
+    same = λ a. stays (Some m);
+    creates = λ name. grown_same m _ (new_grows m (Some name) (new_file (Some name)) 0 (same_file (new_file (Some name))));
+    unlinks = λ q at. falls _ (file_sweeps m q.0 q.1 (unlinked q.1) at (unlinked_falls q.1));
+    truncates = λ n q at. falls _ (file_sweeps m q.0 q.1 (truncated n q.1) at (truncated_falls n q.1));
+    punches = λ a b q at. falls _ (file_sweeps m q.0 q.1 (punched a b q.1) at (punched_falls a b q.1));
+    maps = λ task home a n sharing reserving q at.
+        (let k = asked sharing reserving a n q.1 in
+        let number = next_number task m in
+        balanced_grant c m _ home k (MapNo number)
+        (file_grows m q.0 q.1 (mapped task number a n sharing reserving q.1) 0 0 k at (mapped_grows task number a n sharing reserving q.1)));
+    anons = λ task home n sharing reserving.
+        (let k = asked sharing reserving 0 n (new_file None) in
+        let number = next_number task m in
+        balanced_grant c m _ home k (MapNo number)
+        (new_grows m None (mapped task number 0 n sharing reserving (new_file None)) k (mapped_grows task number 0 n sharing reserving (new_file None))));
+    unmaps = λ task number a b. falls _ (files_sweep m (file_unmapped (is_map task number) a b) (unmapped_falls (is_map task number) a b));
+    forks = λ parent child. falls _ (files_sweep m (file_forked parent child) (forked_falls parent child));
+    exits = λ task. falls _ (files_sweep m (file_without task) (without_falls task));
+    faults = λ s at home i intent. fault_balanced c size m sound new home i s at intent;
+    loads = λ s at home i offset count. load_balanced c size m sound new home i s at offset count;
+    stores = λ s at home i offset bytes. store_balanced c size m sound new home i s at offset bytes;
+  }
 
   on_mount_balanced : (e : SlotEvent) → IsBalanced (Some m) (on_mount size slot c m e)
-  on_mount_balanced (MountEvent options) = stays (Some m)
-  on_mount_balanced Umount =
-      balanced_unless (Some m) ((slot == 0, Busy) ∷ (has_maps m, Busy) ∷ []) (gives Done (Some m) None) (balanced_gives Done (Some m) None (record { committed = omega arith; each = λ n. omega arith; usage = omega arith }))
-  on_mount_balanced (Create name) =
-      balanced_unless (Some m)
-      ((not (is_name name), BadName) ∷ (is_some (file_named m name), FileExists) ∷ (nat_le most_files (length m.files), TooMany) ∷ (is_over m.limits.inodes (length m.files + 1), NoInodes) ∷ (c.refused, OutOfMemory) ∷ [])
-      (Finish (Answered Done (Some (with_new m (new_file (Some name)))))) (grown_same m _ (new_grows m (Some name) (new_file (Some name)) 0 (same_file (new_file (Some name)))))
-  on_mount_balanced (Unlink name) =
-      of_file name NoSuchFile (unlink m) (λ q at. balanced_gives Done (Some m) _ (mount_falls m _ (file_sweeps m q.0 q.1 (unlinked q.1) at (unlinked_falls q.1))))
-  on_mount_balanced (Truncate name pages) =
-      of_file name NoSuchFile (truncate m pages)
-      (λ q at. balanced_unless (Some m) ((nat_lt most_file_pages pages, OutOfRange) ∷ []) (gives Done (Some m) (edited m q.0 (truncated pages q.1))) (balanced_gives Done (Some m) _ (mount_falls m _ (file_sweeps m q.0 q.1 (truncated pages q.1) at (truncated_falls pages q.1)))))
-  on_mount_balanced (Punch name a b) =
-      of_file name NoSuchFile (punch m a b)
-      (λ q at. balanced_unless (Some m) ((is_bad_range a b, OutOfRange) ∷ []) (gives Done (Some m) (edited m q.0 (punched a b q.1))) (balanced_gives Done (Some m) _ (mount_falls m _ (file_sweeps m q.0 q.1 (punched a b q.1) at (punched_falls a b q.1)))))
-  on_mount_balanced (ReadEvent name i offset count) =
-      of_file name NoSuchFile (read size m i offset count) (λ q at. balanced_unless (Some m) (((count == 0) || nat_le (length q.1.cells) i, OutOfRange) ∷ span_tests size offset count)
-      (Finish (Answered (bytes_answer offset count (shown size (cell_at q.1 i))) (Some m))) (stays (Some m)))
-  on_mount_balanced Ls = balanced_unless (Some m) ((c.refused, OutOfMemory) ∷ []) (Finish (Answered (Names (filter_map (λ f. f.name) m.files)) (Some m))) (stays (Some m))
-  on_mount_balanced (Stat name) = of_file name NoSuchFile (stat m) (λ q at. stays (Some m))
-  on_mount_balanced Df = stays (Some m)
-  on_mount_balanced (MapEvent task home name a n sharing reserving) =
-      of_file name NoSuchFile (map_file c m task home a n sharing reserving)
-      (λ q at. balanced_unless (Some m) (((n == 0) || nat_lt most_file_pages (a + n), OutOfRange) ∷ (nat_lt most_map_pages n || are_too_many_maps m task, TooMany) ∷ [])
-      (grant c m home (asked sharing reserving a n q.1) (Answered (MapNo (next_number task m)) (Some (with_file m q.0 (mapped task (next_number task m) a n sharing reserving q.1)))))
-      (balanced_grant c m _ home (asked sharing reserving a n q.1) (MapNo (next_number task m))
-      (file_grows m q.0 q.1 (mapped task (next_number task m) a n sharing reserving q.1) 0 0 (asked sharing reserving a n q.1) at (mapped_grows task (next_number task m) a n sharing reserving q.1))))
-  on_mount_balanced (Anon task home n sharing reserving) =
-      balanced_unless (Some m) (((n == 0) || nat_lt most_file_pages n, OutOfRange) ∷ (nat_lt most_map_pages n || are_too_many_maps m task || nat_le most_files (length m.files), TooMany) ∷ (is_over m.limits.inodes (length m.files + 1), NoInodes) ∷ [])
-      (grant c m home (asked sharing reserving 0 n (new_file None)) (Answered (MapNo (next_number task m)) (Some (with_new m (mapped task (next_number task m) 0 n sharing reserving (new_file None))))))
-      (balanced_grant c m _ home (asked sharing reserving 0 n (new_file None)) (MapNo (next_number task m))
-      (new_grows m None (mapped task (next_number task m) 0 n sharing reserving (new_file None)) (asked sharing reserving 0 n (new_file None))
-      (mapped_grows task (next_number task m) 0 n sharing reserving (new_file None))))
-  on_mount_balanced (Unmap task number a b) =
-      of_map task number NoSuchMap (unmap m task number a b)
-      (λ s at. balanced_unless (Some m) ((is_bad_range a b, OutOfRange) ∷ []) (gives Done (Some m) (Some (unmapped_from task number a b m)))
-      (balanced_gives Done (Some m) _ (mount_falls m _ (files_sweep m (file_unmapped (is_map task number) a b) (unmapped_falls (is_map task number) a b)))))
-  on_mount_balanced (Fault task home number i intent) =
-      of_map task number NoSuchMap (fault c size m home i intent) (λ s at. fault_balanced c size m sound new home i s at intent)
-  on_mount_balanced (Load task home number i offset count) =
-      of_map task number NoSuchMap (load c size m home i offset count) (λ s at. load_balanced c size m sound new home i s at offset count)
-  on_mount_balanced (Store task home number i offset bytes) =
-      of_map task number NoSuchMap (store c size m home i offset bytes) (λ s at. store_balanced c size m sound new home i s at offset bytes)
-  on_mount_balanced (ForkMaps parent child) =
-      balanced_unless (Some m)
-      ((nat_lt most_maps (length (maps_of (forked parent child m))) || nat_lt most_tasks (length (tasks_of (forked parent child m))), TooMany) ∷ (c.refused, OutOfMemory) ∷ [])
-      (gives Done (Some m) (Some (forked parent child m))) (balanced_gives Done (Some m) _ (mount_falls m _ (files_sweep m (file_forked parent child) (forked_falls parent child))))
-  on_mount_balanced (ExitMaps task) = balanced_gives Done (Some m) _ (mount_falls m _ (files_sweep m (file_without task) (without_falls task)))
+  on_mount_balanced e =
+      walk_all size slot c m (IsBalanced (Some m)) events_balanced
+      (balanced_gives Done (Some m) None (record { committed = omega arith; each = λ n. omega arith; usage = omega arith })) e
 
 pub slots_are_balanced : SlotsAreBalanced
 slots_are_balanced size slot c None e new sound = on_none_balanced size c e

@@ -1,104 +1,117 @@
--- One walk over the events of an open mount: what holds of each mount that a change leaves holds of each that an event leaves.
-use Rattle.std.proofs.Common.{◌≡◌, ℕ, Bool, false, None, Some, List, [], ◌∷◌, nat_lt}
-use Rattle.std.specs.List.{filter_map}
+-- One walk over the events of an open mount: what holds of the plan of each change holds of the plan of each event.
+use Rattle.std.proofs.Common.{◌≡◌, ℕ, Bool, true, false, Option, None, Some, List, [], ◌∷◌, length, nat_lt, refl}
+use Rattle.std.proofs.lemmas.Bool.{cond_both}
+use Rattle.std.specs.List.{count_by, filter_map}
 use Rattle.hp_model.specs.declared.answer.Answer.{Answer}
-use Rattle.hp_model.specs.declared.answer.Answer.TheVariants.{Done, MapNo, Names}
+use Rattle.hp_model.specs.declared.answer.Answer.TheVariants.{Done, MapNo, Names, Stat as StatAnswer, Usage as UsageAnswer}
 use Rattle.hp_model.specs.declared.event.SlotEvent.{SlotEvent}
 use Rattle.hp_model.specs.declared.event.SlotEvent.TheVariants as slot
 use Rattle.hp_model.specs.declared.refusal.Refusal.{Refusal}
-use Rattle.hp_model.specs.declared.refusal.Refusal.TheVariants.{NoSuchFile, NoSuchMap, OutOfMemory, OutOfRange}
+use Rattle.hp_model.specs.declared.refusal.Refusal.TheVariants.{NoSuchFile, NoSuchMap, OutOfMemory, OutOfRange, SlotTaken}
 use Rattle.hp_model.specs.declared.step.Intent.{Intent}
-use Rattle.hp_model.specs.declared.step.Intent.TheVariants.{Read}
 use Rattle.hp_model.specs.declared.step.Reserving.{Reserving}
 use Rattle.hp_model.specs.declared.step.Sharing.{Sharing}
-use Rattle.hp_model.specs.File.{File, Mount, cell_at, new_file, with_file}
+use Rattle.hp_model.specs.File.{File, Mount, cell_at, has_page, is_entered, new_file, with_file}
 use Rattle.hp_model.specs.Fork.{forked}
-use Rattle.hp_model.specs.GiveBack.{punched, swept, truncated, unlinked, unmapped_from, without_task}
+use Rattle.hp_model.specs.GiveBack.{punched, truncated, unlinked, unmapped_from, without_task}
 use Rattle.hp_model.specs.MakeMap.{asked, mapped, next_number, with_new}
 use Rattle.hp_model.specs.Mapping.{is_map}
-use Rattle.hp_model.specs.Plan.{Answered, Choice, Finish, Plan, gives, grant, unless, with_value}
+use Rattle.hp_model.specs.MountCounts.{usage_of}
+use Rattle.hp_model.specs.Plan.{Answered, Choice, Finish, Plan, gives, grant, refuse, unless, with_value}
 use Rattle.hp_model.specs.Profile.{most_file_pages}
-use Rattle.hp_model.specs.SlotEvent.{anon_tests, byte_access, bytes_answer, create_tests, edited, fault, file_named, fork_tests, has_name, is_bad_range, load, map_file, map_tests, on_mount, punch, read, read_tests, stat, store, truncate, unlink, unmap}
-use Rattle.hp_model.specs.Spot.{Spot, again, spot}
-use Rattle.hp_model.specs.Value.{shown, value}
-use Rattle.hp_laws.specs.Balance.{Always}
-use Rattle.hp_laws.proofs.Lifted.{is_umount}
+use Rattle.hp_model.specs.SlotEvent.{anon_tests, bytes_answer, create_tests, edited, fault, file_named, fork_tests, has_name, is_bad_range, load, map_file, map_tests, on_mount, punch, read, read_tests, stat, store, truncate, umount_tests, unlink, unmap}
+use Rattle.hp_model.specs.Spot.{Spot, spot}
+use Rattle.hp_model.specs.Value.{shown}
 use Rattle.hp_laws.proofs.MountMoves.{IsFileAt, IsSpot, file_at, spot_is}
-use Rattle.hp_laws.proofs.Outcomes.{always_then}
-use Rattle.hp_laws.proofs.Shown.{On, on_follows}
-use Rattle.hp_laws.proofs.SlotShows.{always_gives, always_grant, always_unless, always_value}
 
-module _ (size : ℕ) (c : Choice) (m : Mount) (Q : Mount → Type 0) where
-  -- each change that an event makes leaves it so
-  pub record Leaves : Type 0 where
-    pub same : Q m
-    pub creates : (name : List ℕ) → Q (with_new m (new_file (Some name)))
-    pub unlinks : (q : ℕ × File) → IsFileAt m q.0 q.1 → Q (swept (with_file m q.0 (unlinked q.1)))
-    pub truncates : (n : ℕ) (q : ℕ × File) → IsFileAt m q.0 q.1 → Q (swept (with_file m q.0 (truncated n q.1)))
-    pub punches : (a b : ℕ) (q : ℕ × File) → IsFileAt m q.0 q.1 → Q (swept (with_file m q.0 (punched a b q.1)))
-    pub maps : (task a n : ℕ) (sharing : Sharing) (reserving : Reserving) (q : ℕ × File) → IsFileAt m q.0 q.1
-        → Q (with_file m q.0 (mapped task (next_number task m) a n sharing reserving q.1))
-    pub anons : (task n : ℕ) (sharing : Sharing) (reserving : Reserving) → Q (with_new m (mapped task (next_number task m) 0 n sharing reserving (new_file None)))
-    pub unmaps : (task number a b : ℕ) → Q (unmapped_from task number a b m)
-    pub forks : (parent child : ℕ) → Q (forked parent child m)
-    pub exits : (task : ℕ) → Q (without_task task m)
-    pub faults : (s : Spot) → IsSpot m s → (home i : ℕ) (intent : Intent) → Always (On Q) (fault c size m home i intent s)
-    pub reads : (s : Spot) → IsSpot m s → (home i offset count : ℕ) → Always (On Q) (byte_access c size m home i offset count Read s)
-    pub stores : (s : Spot) → IsSpot m s → (home i offset : ℕ) (bytes : List ℕ) → Always (On Q) (store c size m home i offset bytes s)
+-- ---- tests and what is found
 
-  gives_on : (n : Mount) → Q n → Always (On Q) (gives Done (Some m) (Some n))
-  gives_on n h = always_gives (On Q) Done (Some m) (Some n) h
+module _ (W : Plan → Type 0) (refuses : (r : Refusal) → W (refuse r)) where
+  pub plan_unless : (ts : List (Bool × Refusal)) (p : Plan) → W p → W (unless ts p)
+  plan_unless [] p h = h
+  plan_unless (t ∷ ts) p h = cond_both t.0 (refuse t.1) (unless ts p) W (λ e. refuses t.1) (λ e. plan_unless ts p h)
 
-  tested : (ts : List (Bool × Refusal)) (p : Plan) → Always (On Q) p → Always (On Q) (unless ts p)
-  tested ts p h = always_unless (On Q) (λ r. tt) ts p h
+  pub plan_value : {X : Type 0} (o : Option X) (r : Refusal) (f : X → Plan) → ((x : X) → o ≡ Some x → W (f x)) → W (with_value o r f)
+  plan_value None r f h = refuses r
+  plan_value (Some x) r f h = h x refl
 
-  named_on : (name : List ℕ) (f : ℕ × File → Plan) → ((q : ℕ × File) → IsFileAt m q.0 q.1 → Always (On Q) (f q)) → Always (On Q) (with_value (file_named m name) NoSuchFile f)
-  named_on name f h = always_value (On Q) (λ r. tt) (file_named m name) NoSuchFile f (λ q is. h q (file_at m (has_name name) q is))
+-- ---- events
 
-  spot_on : (task number : ℕ) (f : Spot → Plan) → ((s : Spot) → IsSpot m s → Always (On Q) (f s)) → Always (On Q) (with_value (spot m (is_map task number)) NoSuchMap f)
-  spot_on task number f h = always_value (On Q) (λ r. tt) (spot m (is_map task number)) NoSuchMap f (λ s is. h s (spot_is m (is_map task number) s is))
+abbrev pub is_umount : SlotEvent → Bool
+is_umount slot.Umount = true
+is_umount other = false
 
-  granted_on : (home k : ℕ) (a : Answer) (n : Mount) → Q n → Always (On Q) (grant c m home k (Answered a (Some n)))
-  granted_on home k a n h = always_grant (On Q) (λ r. tt) c m home k (Answered a (Some n)) h
+module _ (size k : ℕ) (c : Choice) (m : Mount) (W : Plan → Type 0) where
+  -- of what each event comes to, its tests passed
+  pub record Walks : Type 0 where
+    pub refuses : (r : Refusal) → W (refuse r)
+    pub same : (a : Answer) → W (Finish (Answered a (Some m)))
+    pub creates : (name : List ℕ) → W (Finish (Answered Done (Some (with_new m (new_file (Some name))))))
+    pub unlinks : (q : ℕ × File) → IsFileAt m q.0 q.1 → W (gives Done (Some m) (edited m q.0 (unlinked q.1)))
+    pub truncates : (n : ℕ) (q : ℕ × File) → IsFileAt m q.0 q.1 → W (gives Done (Some m) (edited m q.0 (truncated n q.1)))
+    pub punches : (a b : ℕ) (q : ℕ × File) → IsFileAt m q.0 q.1 → W (gives Done (Some m) (edited m q.0 (punched a b q.1)))
+    pub maps : (task home a n : ℕ) (sharing : Sharing) (reserving : Reserving) (q : ℕ × File) → IsFileAt m q.0 q.1
+        → W (grant c m home (asked sharing reserving a n q.1)
+        (Answered (MapNo (next_number task m)) (Some (with_file m q.0 (mapped task (next_number task m) a n sharing reserving q.1)))))
+    pub anons : (task home n : ℕ) (sharing : Sharing) (reserving : Reserving)
+        → W (grant c m home (asked sharing reserving 0 n (new_file None))
+        (Answered (MapNo (next_number task m)) (Some (with_new m (mapped task (next_number task m) 0 n sharing reserving (new_file None))))))
+    pub unmaps : (task number a b : ℕ) → W (gives Done (Some m) (Some (unmapped_from task number a b m)))
+    pub forks : (parent child : ℕ) → W (gives Done (Some m) (Some (forked parent child m)))
+    pub exits : (task : ℕ) → W (gives Done (Some m) (Some (without_task task m)))
+    pub faults : (s : Spot) → IsSpot m s → (home i : ℕ) (intent : Intent) → W (fault c size m home i intent s)
+    pub loads : (s : Spot) → IsSpot m s → (home i offset count : ℕ) → W (load c size m home i offset count s)
+    pub stores : (s : Spot) → IsSpot m s → (home i offset : ℕ) (bytes : List ℕ) → W (store c size m home i offset bytes s)
 
-  -- and so does each event but an umount
-  pub event_on : Leaves → (k : ℕ) (e : SlotEvent) → is_umount e ≡ false → Always (On Q) (on_mount size k c m e)
-  event_on leaves k (slot.Mount options) stays = tt
-  event_on leaves k slot.Umount stays = cc
-  event_on leaves k (slot.Create name) stays = tested (create_tests c m name) (Finish (Answered Done (Some (with_new m (new_file (Some name)))))) (leaves.creates name)
-  event_on leaves k (slot.Unlink name) stays = named_on name (unlink m) (λ q at. gives_on (swept (with_file m q.0 (unlinked q.1))) (leaves.unlinks q at))
-  event_on leaves k (slot.Truncate name n) stays =
-      named_on name (truncate m n)
-      (λ q at. tested ((nat_lt most_file_pages n, OutOfRange) ∷ []) (gives Done (Some m) (edited m q.0 (truncated n q.1))) (gives_on (swept (with_file m q.0 (truncated n q.1))) (leaves.truncates n q at)))
-  event_on leaves k (slot.Punch name a b) stays =
-      named_on name (punch m a b)
-      (λ q at. tested ((is_bad_range a b, OutOfRange) ∷ []) (gives Done (Some m) (edited m q.0 (punched a b q.1))) (gives_on (swept (with_file m q.0 (punched a b q.1))) (leaves.punches a b q at)))
-  event_on leaves k (slot.Read name i offset count) stays =
-      named_on name (read size m i offset count)
-      (λ q at. tested (read_tests size i offset count q.1) (Finish (Answered (bytes_answer offset count (shown size (cell_at q.1 i))) (Some m))) leaves.same)
-  event_on leaves k slot.Ls stays = tested ((c.refused, OutOfMemory) ∷ []) (Finish (Answered (Names (filter_map (λ f. f.name) m.files)) (Some m))) leaves.same
-  event_on leaves k (slot.Stat name) stays = named_on name (stat m) (λ q at. leaves.same)
-  event_on leaves k slot.Df stays = leaves.same
-  event_on leaves k (slot.Map task home name a n sharing reserving) stays =
-      let number = next_number task m in
-      named_on name (map_file c m task home a n sharing reserving)
-      (λ q at. (let new = with_file m q.0 (mapped task number a n sharing reserving q.1) in
-      tested (map_tests m task a n) (grant c m home (asked sharing reserving a n q.1) (Answered (MapNo number) (Some new)))
-      (granted_on home (asked sharing reserving a n q.1) (MapNo number) new (leaves.maps task a n sharing reserving q at))))
-  event_on leaves k (slot.Anon task home n sharing reserving) stays =
-      let number = next_number task m in
-      let new = with_new m (mapped task number 0 n sharing reserving (new_file None)) in
-      tested (anon_tests m task n) (grant c m home (asked sharing reserving 0 n (new_file None)) (Answered (MapNo number) (Some new)))
-      (granted_on home (asked sharing reserving 0 n (new_file None)) (MapNo number) new (leaves.anons task n sharing reserving))
-  event_on leaves k (slot.Unmap task number a b) stays =
-      spot_on task number (unmap m task number a b)
-      (λ s at. tested ((is_bad_range a b, OutOfRange) ∷ []) (gives Done (Some m) (Some (unmapped_from task number a b m))) (gives_on (unmapped_from task number a b m) (leaves.unmaps task number a b)))
-  event_on leaves k (slot.Fault task home number i intent) stays = spot_on task number (fault c size m home i intent) (λ s at. leaves.faults s at home i intent)
-  event_on leaves k (slot.Load task home number i offset count) stays =
-      spot_on task number (load c size m home i offset count)
-      (λ s at. (let answer = λ (n : Mount). Answered (bytes_answer offset count (value size (again n s).file (again n s).map i)) (Some n) in
-      always_then (On Q) (On Q) answer (on_follows Q Q answer (λ n h. h)) (byte_access c size m home i offset count Read s) (leaves.reads s at home i offset count)))
-  event_on leaves k (slot.Store task home number i offset bytes) stays = spot_on task number (store c size m home i offset bytes) (λ s at. leaves.stores s at home i offset bytes)
-  event_on leaves k (slot.ForkMaps parent child) stays =
-      tested (fork_tests c m parent child) (gives Done (Some m) (Some (forked parent child m))) (gives_on (forked parent child m) (leaves.forks parent child))
-  event_on leaves k (slot.ExitMaps task) stays = gives_on (without_task task m) (leaves.exits task)
+  module _ (walks : Walks) where
+    tested : (ts : List (Bool × Refusal)) (p : Plan) → W p → W (unless ts p)
+    tested ts p h = plan_unless W walks.refuses ts p h
+
+    of_file : (name : List ℕ) (f : ℕ × File → Plan) → ((q : ℕ × File) → IsFileAt m q.0 q.1 → W (f q)) → W (with_value (file_named m name) NoSuchFile f)
+    of_file name f h = plan_value W walks.refuses (file_named m name) NoSuchFile f (λ q is. h q (file_at m (has_name name) q is))
+
+    of_map : (task number : ℕ) (f : Spot → Plan) → ((s : Spot) → IsSpot m s → W (f s)) → W (with_value (spot m (is_map task number)) NoSuchMap f)
+    of_map task number f h = plan_value W walks.refuses (spot m (is_map task number)) NoSuchMap f (λ s is. h s (spot_is m (is_map task number) s is))
+
+    -- so it is of each event but an umount
+    pub walk : (e : SlotEvent) → is_umount e ≡ false → W (on_mount size k c m e)
+    walk (slot.Mount options) stays = walks.refuses SlotTaken
+    walk slot.Umount stays = cc
+    walk (slot.Create name) stays = tested (create_tests c m name) (Finish (Answered Done (Some (with_new m (new_file (Some name)))))) (walks.creates name)
+    walk (slot.Unlink name) stays = of_file name (unlink m) walks.unlinks
+    walk (slot.Truncate name n) stays =
+        of_file name (truncate m n) (λ q at. tested ((nat_lt most_file_pages n, OutOfRange) ∷ []) (gives Done (Some m) (edited m q.0 (truncated n q.1))) (walks.truncates n q at))
+    walk (slot.Punch name a b) stays =
+        of_file name (punch m a b) (λ q at. tested ((is_bad_range a b, OutOfRange) ∷ []) (gives Done (Some m) (edited m q.0 (punched a b q.1))) (walks.punches a b q at))
+    walk (slot.Read name i offset count) stays =
+        of_file name (read size m i offset count)
+        (λ q at. (let answer = bytes_answer offset count (shown size (cell_at q.1 i)) in tested (read_tests size i offset count q.1) (Finish (Answered answer (Some m))) (walks.same answer)))
+    walk slot.Ls stays =
+        let names = Names (filter_map (λ f. f.name) m.files) in tested ((c.refused, OutOfMemory) ∷ []) (Finish (Answered names (Some m))) (walks.same names)
+    walk (slot.Stat name) stays =
+        of_file name (stat m) (λ q at. walks.same (StatAnswer (length q.1.cells) (count_by has_page q.1.cells) (count_by is_entered q.1.cells) (length q.1.maps)))
+    walk slot.Df stays = walks.same (UsageAnswer m.limits.max m.limits.min (usage_of m) m.limits.inodes (length m.files))
+    walk (slot.Map task home name a n sharing reserving) stays =
+        let number = next_number task m in
+        of_file name (map_file c m task home a n sharing reserving)
+        (λ q at. tested (map_tests m task a n)
+        (grant c m home (asked sharing reserving a n q.1) (Answered (MapNo number) (Some (with_file m q.0 (mapped task number a n sharing reserving q.1)))))
+        (walks.maps task home a n sharing reserving q at))
+    walk (slot.Anon task home n sharing reserving) stays =
+        let number = next_number task m in
+        tested (anon_tests m task n)
+        (grant c m home (asked sharing reserving 0 n (new_file None)) (Answered (MapNo number) (Some (with_new m (mapped task number 0 n sharing reserving (new_file None))))))
+        (walks.anons task home n sharing reserving)
+    walk (slot.Unmap task number a b) stays =
+        of_map task number (unmap m task number a b)
+        (λ s at. tested ((is_bad_range a b, OutOfRange) ∷ []) (gives Done (Some m) (Some (unmapped_from task number a b m))) (walks.unmaps task number a b))
+    walk (slot.Fault task home number i intent) stays = of_map task number (fault c size m home i intent) (λ s at. walks.faults s at home i intent)
+    walk (slot.Load task home number i offset count) stays = of_map task number (load c size m home i offset count) (λ s at. walks.loads s at home i offset count)
+    walk (slot.Store task home number i offset bytes) stays = of_map task number (store c size m home i offset bytes) (λ s at. walks.stores s at home i offset bytes)
+    walk (slot.ForkMaps parent child) stays = tested (fork_tests c m parent child) (gives Done (Some m) (Some (forked parent child m))) (walks.forks parent child)
+    walk (slot.ExitMaps task) stays = walks.exits task
+
+    -- and of that too, where it is of giving all back
+    pub walk_all : W (gives Done (Some m) None) → (e : SlotEvent) → W (on_mount size k c m e)
+    walk_all none slot.Umount = tested (umount_tests k m) (gives Done (Some m) None) none
+    walk_all none e = walk e refl
