@@ -73,7 +73,8 @@ pub trait PoolDoor {
         requires within { ShareIsFull (share_of share.old) 1 ≡ false }
         requires few { used (share_of share.old) + 1 < 2 ^ 64 }
         ensures ok { IfOk result (λ page.
-            took self.old (page_for home (share_of share.old)) (granted_at (page_of page).node) self.new) }
+            took self.old (page_for home (share_of share.old))
+            (granted_at (page_of page).node) self.new) }
         ensures share { OnOk result (share_of share.new ≡ with_granted (share_of share.old)) }
         ensures err { IfErr result (λ e.
             IsRefusedAt took is_full (page_for home (share_of share.old)) self.old self.new e) }
@@ -111,6 +112,7 @@ pub trait PoolDoor {
         requires ready { is_ready self.old }
         requires pages { length (going_of going) ≡ (share_of share).pages }
         requires spent { is_spent going }
-        ensures given { GivesBack took (going_of going) (committed_of (share_of share)) self.old self.new }
+        ensures given { GivesBack took (going_of going) (committed_of (share_of share))
+            self.old self.new }
         ensures left { is_left self.new };
 }

@@ -17,7 +17,8 @@ use hp_subpool::Subpool;
 fn put_pages<N: Naming>(pool: &mut Pool<N>, share: &mut Subpool<N>, going: &mut PageStore<N>)
     requires pages { length going.old.going ≤ share.old.pages }
     requires nodes { length pool.old.nodes.rows ≤ 4 }
-    ensures share { share.new ≡ record share.old { pages = share.old.pages - length going.old.going } }
+    ensures share { share.new
+        ≡ record share.old { pages = share.old.pages - length going.old.going } }
     ensures pool { pool.new ≡ released (fall share.old (length going.old.going))
         (puts_from 0 (by_node going.old.going) pool.old) }
     ensures going { going.new ≡ record going.old { going = [] } }

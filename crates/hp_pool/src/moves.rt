@@ -4,7 +4,7 @@ ghost use Rattle.hp_model.specs.NodeRows.{promote_row, grow_row, shrink_row, dem
 ghost use Rattle.hp_model.specs.Grant.{surplus_times};
 ghost use Rattle.hp_model.specs.Pool.{give_back_times};
 ghost use Rattle.hp_model.specs.Resize.{raise_times, lower_times, raised, lowered};
-ghost use Rattle.hp_pool.specs.Sums.{sums, with_surplus, without_surplus, MorePersistent, SameUsed};
+ghost use Rattle.hp_pool.specs.Sums.{sums, with_surplus, without_surplus, raised_row, lowered_row, MorePersistent, SameUsed};
 
 use hp_model::naming::Naming;
 use hp_nodes::NodeLists;
@@ -39,7 +39,7 @@ fn raise_once<N: Naming>(lists: &mut NodeLists<N>, surplus: bool)
     requires surplus { surplus ≡ nat_lt 0 (sums lists.old).surp }
     requires idle { (sums lists.old).surp ≡ 0 → (sums lists.old).total < (sums lists.old).frames }
     ensures moved { lists.new ≡ raised lists.old }
-    ensures sums { let s = sums lists.old in sums lists.new ≡ (if surplus then promote_row s else grow_row s) }
+    ensures sums { sums lists.new ≡ raised_row surplus (sums lists.old) }
 {
     if surplus {
         lists.promote();
@@ -69,7 +69,7 @@ fn lower_once<N: Naming>(lists: &mut NodeLists<N>, reserved: u64, spare: bool)
     requires settled { reserved < (sums lists.old).free → (sums lists.old).surp ≡ 0 }
     requires persistent { (sums lists.old).surp < (sums lists.old).total }
     ensures moved { lists.new ≡ lowered reserved lists.old }
-    ensures sums { let s = sums lists.old in sums lists.new ≡ (if spare then shrink_row s else demote_row s) }
+    ensures sums { sums lists.new ≡ lowered_row spare (sums lists.old) }
 {
     if spare {
         lists.shrink();

@@ -91,7 +91,8 @@ impl RegionList {
     /// since an interval may be split, and at an error the set stays.
     pub fn remove(&mut self, a: u64, b: u64) -> Result<u64, AllocError>
         ensures count { IfOk result (λ n. n ≡ count_in self.old.indices a b) }
-        ensures ok { OnOk result (self.new.indices ≡ set.difference self.old.indices (range_set a b)) }
+        ensures ok { OnOk result (self.new.indices
+            ≡ set.difference self.old.indices (range_set a b)) }
         ensures err { OnErr result (self.new.indices ≡ self.old.indices) }
         ensures in_room { 0 < self.old.room → IsOk result }
         ensures room { self.old.room ≤ self.new.room + 1 }

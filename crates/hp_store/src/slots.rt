@@ -172,7 +172,8 @@ fn widen<N: Naming>(pages: &mut Vec<Option<Kept<N>>>, free: &mut Vec<PageNo>, mo
     requires free_room { vec_len pages.old + more ≤ vec_capacity free.old }
     requires few { vec_len pages.old + more ≤ 2 ^ 32 }
     ensures slots { pages.new.items ≡ pages.old.items ++ replicate more None }
-    ensures same { (n : ℕ) → slice_index_or pages.new.items n None ≡ slice_index_or pages.old.items n None }
+    ensures same { (n : ℕ)
+        → slice_index_or pages.new.items n None ≡ slice_index_or pages.old.items n None }
     ensures free { IsFree pages.new.items free.new.items }
     ensures free_len { vec_len free.new ≡ vec_len free.old + more }
     ensures pages_len { vec_len pages.new ≡ vec_len pages.old + more }

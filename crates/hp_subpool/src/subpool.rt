@@ -69,7 +69,8 @@ impl<N: Naming> Subpool<N> {
         requires fits { used self.old + k < 2 ^ 64 }
         ensures granted { IsOk result ↔ IsTrue (can_get self.old k pool.old) }
         ensures full { (result ≡ Err Refusal.MountFull) ↔ IsTrue (is_full self.old k) }
-        ensures no_pages { (result ≡ Err Refusal.NoPages) ↔ IsTrue (lacks_pages self.old k pool.old) }
+        ensures no_pages { (result ≡ Err Refusal.NoPages)
+            ↔ IsTrue (lacks_pages self.old k pool.old) }
         ensures ok { OnOk result ((self.new ≡ with_reserves k self.old)
             × (pool.new ≡ granted home (rise self.old k) pool.old)) }
         ensures err { OnErr result ((self.new ≡ self.old) × (pool.new ≡ pool.old)) }
