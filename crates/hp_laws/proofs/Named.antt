@@ -1,5 +1,6 @@
 -- What is shown by place is shown by name and number, where these stay in place.
 use Rattle.std.proofs.Common.{◌≡◌, ⊎_elim, inl, inr, ◌⊎◌, subst, ℕ, true, false, Option, None, Some, Ok, List, refl, sym, ap, ◌∙◌}
+use Rattle.std.specs.List.{slice_index_or}
 use Rattle.hp_model.specs.declared.step.Step.{Step}
 use Rattle.hp_model.specs.declared.step.Step.TheVariants.{Exit, Fork, Store, Unlink, Unmap}
 use Rattle.hp_model.specs.File.{File, cell_at, new_file}
@@ -43,6 +44,16 @@ number_stays : (x y : Slot) (task number : ℕ) (p : Spot) → SlotPlaced x y �
 number_stays None y task number p stays e = cc
 number_stays (Some m) None task number p stays e = absurd stays
 number_stays (Some m) (Some n) task number p stays e = stays.numbers task number p e
+
+-- a file that has a name, and that a map is of
+file_same : (x : Slot) (name : List ℕ) (g : ℕ × File) (task number : ℕ) (q : Spot) → named_on x name ≡ Some g → spot_on x task number ≡ Some q → g.0 ≡ q.file_no
+    → named_on x name ≡ Some (q.file_no, q.file)
+file_same None name g task number q named found same = cc
+file_same (Some m) name g task number q named found same =
+    let here : g.1 ≡ q.file =
+    sym ((found_place (has_name name) m.files g named).is (new_file None)) ∙ ap (λ k. slice_index_or m.files k (new_file None)) same
+    ∙ (spot_is m (is_map task number) q found).file.is (new_file None) in
+    named ∙ ap (λ k. Some (k, g.1)) same ∙ ap (λ f. Some (q.file_no, f)) here
 
 -- ---- a step
 
@@ -114,6 +125,9 @@ module _ (s : State) (step : Step) (reply : Reply) (t : State) (stays : KeepsBut
         n.1,
         record {
           shape = ap (λ (x : Where). x.2) n.2;
+          file = λ name kept named.
+              (let g = name_stays (slot_at s slot) (slot_at t slot) name (p.file_no, p.file) (stays slot there) named in
+              file_same (slot_at t slot) name g.0 task number q g.1 n.1 (g.2 ∙ sym (ap (λ (x : Where). x.0) n.2)));
           marked = λ marked. ap (λ (x : Map). x.unmapped) (sym new) ∙ marks slot p.file_no p.map_no (ap (λ (x : Map). x.unmapped) old ∙ marked);
           shows = ⊎_elim (λ same. inl (shows ∙ same ∙ ap (seen_over s step reply slot p.file_no p.map_no i) (seen_shown s.page_size (slot_at s slot) task number p i e)))
               (λ lost. inr (lost_to step slot p q i there stays old new lost)) (maps slot p.file_no p.map_no i there);

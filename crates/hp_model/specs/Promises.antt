@@ -248,10 +248,12 @@ pub record Shape : Type 0 where
 abbrev pub shape_of : Map → Shape
 shape_of m = record { task = m.task; number = m.number; start = m.start; pages = length m.places; sharing = m.sharing; owner = m.owner }
 
--- p before and q after: range, sharing and ownership are as they were, and a marked map stays marked; the bytes at an index
--- are as they were but for a store, or the copy there is lost
+-- p before and q after: range, sharing and ownership are as they were, a name of the map's file means its file, and a marked map
+-- stays marked; the bytes at an index are as they were but for a store, or the copy there is lost
 pub record StillMapped (s : State) (step : Step) (reply : Reply) (t : State) (slot : ℕ) (p q : Spot) (i : ℕ) : Type 0 where
   pub shape : shape_of q.map ≡ shape_of p.map
+  pub file : (name : List ℕ) → is_ended_name step reply slot name ≡ false → named_on (slot_at s slot) name ≡ Some (p.file_no, p.file)
+      → named_on (slot_at t slot) name ≡ Some (q.file_no, q.file)
   pub marked : p.map.unmapped ≡ true → q.map.unmapped ≡ true
   pub shows : (value t.page_size q.file q.map i ≡ seen_over s step reply slot p.file_no p.map_no i (value s.page_size p.file p.map i)) ⊎ LosesTo s step t slot p q i
 
@@ -368,7 +370,7 @@ pub record IsPromised (s : State) (step : Step) (reply : Reply) (t : State) : Ty
   -- each name keeps its file, which shows what it showed, but for what a step stores, cuts off or punches
   pub files : (slot : ℕ) (name : List ℕ) (i : ℕ) (f : ℕ × File) → is_ended_name step reply slot name ≡ false → named_on (slot_at s slot) name ≡ Some f
       → StillNamed t.page_size (slot_at t slot) name i (stored_over s step reply slot f.0 i (shown s.page_size (cell_at f.1 i)))
-  -- each number of a task keeps its map, with its range, sharing and ownership, and the map shows what it showed, but for what a store reaches;
+  -- each number of a task keeps its map, with its file, range, sharing and ownership, and the map shows what it showed, but for what a store reaches;
   -- or it has lost its copy at that index to the owner that stored there
   pub maps : (slot task number i : ℕ) (p : Spot) → is_ended_number s step reply slot task number ≡ false → map_named s slot task number ≡ Some p
       → (q : Spot) × (map_named t slot task number ≡ Some q) × StillMapped s step reply t slot p q i

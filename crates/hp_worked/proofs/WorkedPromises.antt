@@ -1,5 +1,5 @@
 -- What is promised of some steps, by computation: the tests and the bytes that the promises speak of.
-use Rattle.std.proofs.Common.{◌≡◌, ⊎_elim, subst, ℕ, ◌+◌, ◌==◌, ◌∙◌, true, false, None, Option, Some, Ok, Err, List, [], ◌∷◌, length, take, map, nat_le, refl, ap, arith}
+use Rattle.std.proofs.Common.{◌≡◌, ⊎_elim, subst, ℕ, ◌+◌, ◌==◌, ◌∙◌, true, false, None, Option, Some, Ok, Err, List, [], ◌∷◌, length, take, map, nat_le, refl, ap, arith, option_map}
 use Rattle.std.specs.List.{slice_index_or}
 use Rattle.std.specs.Prelude.{codes, is_some}
 use Rattle.hp_model.specs.declared.answer.Answer.{Answer}
@@ -17,7 +17,7 @@ use Rattle.hp_model.specs.Mapping.{Map as MapOf, copy_of, is_shared, no_map, pla
 use Rattle.hp_model.specs.NodeRows.{free_of, total_of}
 use Rattle.hp_model.specs.Plain.{plain_step}
 use Rattle.hp_model.specs.Plan.{Slot}
-use Rattle.hp_model.specs.Promises.{LeavesAll, LosesTo, Makes, SameLimits, Shape, StillMapped, StillNamed, Tells, file_in, is_backed_step, is_cut_off_step, is_ended_number, least_of, map_at, map_named, seen_in, seen_over, shown_in, shown_on, stored_over}
+use Rattle.hp_model.specs.Promises.{LeavesAll, LosesTo, Makes, SameLimits, Shape, StillMapped, StillNamed, Tells, file_in, is_backed_step, is_cut_off_step, is_ended_number, least_of, map_at, map_named, seen_in, seen_over, shown_in, shown_on, stored_over, named_on}
 use Rattle.hp_model.specs.Spot.{Spot}
 use Rattle.hp_model.specs.State.{Node, State, slot_at, with_slot}
 use Rattle.hp_model.specs.Value.{shown, value}
@@ -201,6 +201,18 @@ name_is_lost e = (let wrong : false ≡ true = ap is_some e.1 in cc)
 
 number_is_lost : (q : Spot) → map_named machine 0 1 1 ≡ Some q → ⊥
 number_is_lost q e = (let wrong : false ≡ true = ap is_some e in cc)
+
+-- a map that stands on another file, with the same bytes: both files are empty, and exchange their names
+abbrev renamed : State
+renamed = with_slot shared 0 (exchanged (slot_at shared 0))
+
+map_of_another_file : (p q : Spot) → map_named shared 0 1 1 ≡ Some p → map_named renamed 0 1 1 ≡ Some q → StillMapped shared (Df 0) (Ok Done) renamed 0 p q 0 → ⊥
+map_of_another_file p q was is still =
+    (let place : 0 ≡ p.file_no = ap file_of_spot was in
+    let old : named_on (slot_at shared 0) (codes "a") ≡ Some (p.file_no, p.file) = ap (λ (o : Option Spot). option_map (λ (s : Spot). (s.file_no, s.file)) o) was in
+    let new : 1 ≡ q.file_no = ap file_of_name (still.file (codes "a") refl old) in
+    let stands : 0 ≡ q.file_no = ap file_of_spot is in
+    absurd (omega (arith, new, stands)))
 
 -- ---- steps that are not built yet: what they leave is what is promised
 
