@@ -257,6 +257,11 @@ pub record StillMapped (s : State) (step : Step) (reply : Reply) (t : State) (sl
   pub marked : p.map.unmapped ≡ true → q.map.unmapped ≡ true
   pub shows : (value t.page_size q.file q.map i ≡ seen_over s step reply slot p.file_no p.map_no i (value s.page_size p.file p.map i)) ⊎ LosesTo s step t slot p q i
 
+-- two maps are of one file just where they were
+abbrev pub SameFiles : Bool → Option Spot → Option Spot → Type 0
+SameFiles together (Some p) (Some q) = (p.file_no == q.file_no) ≡ together
+SameFiles together p q = ⊥
+
 -- ---- what is answered
 
 -- the mount's limits, what it uses, and how many files it has
@@ -374,6 +379,10 @@ pub record IsPromised (s : State) (step : Step) (reply : Reply) (t : State) : Ty
   -- or it has lost its copy at that index to the owner that stored there
   pub maps : (slot task number i : ℕ) (p : Spot) → is_ended_number s step reply slot task number ≡ false → map_named s slot task number ≡ Some p
       → (q : Spot) × (map_named t slot task number ≡ Some q) × StillMapped s step reply t slot p q i
+  -- of the maps that are kept those of one file, also of one that has no name, are of one file still, and others are not
+  pub together : (slot : ℕ) (a b : ℕ × ℕ) (p o : Spot) → is_ended_number s step reply slot a.0 a.1 ≡ false → is_ended_number s step reply slot b.0 b.1 ≡ false
+      → map_named s slot a.0 a.1 ≡ Some p → map_named s slot b.0 b.1 ≡ Some o
+      → SameFiles (p.file_no == o.file_no) (map_named t slot a.0 a.1) (map_named t slot b.0 b.1)
   -- an access through a marked map is refused where it has no copy
   pub cut_off : is_cut_off_step s step ≡ true → is_refused reply ≡ true
 
