@@ -1,5 +1,5 @@
 -- What an access leaves: the mount as it was, or with its file in another form that has the same name and maps of the same numbers.
-use Rattle.std.proofs.Common.{◌≡◌, ℕ, ◌-◌, ◌<◌, ◌&&◌, Bool, true, false, not, map, suc, zero, arith, get_or, None, Some, List, [], ◌∷◌, length, refl, sym, ap, ◌∙◌, if◌then◌else◌}
+use Rattle.std.proofs.Common.{◌≡◌, ℕ, ◌-◌, ◌<◌, ◌&&◌, Bool, true, not, map, suc, zero, arith, get_or, None, Some, List, [], ◌∷◌, length, refl, sym, ap, ◌∙◌, if◌then◌else◌}
 use Rattle.std.specs.List.{list_any, slice_index_or, slice_set}
 use Rattle.std.proofs.lemmas.Bool.{cond_both}
 use Rattle.std.proofs.lemmas.List.{length-map, length-set}
@@ -27,7 +27,7 @@ use Rattle.hp_model.specs.Value.{value}
 use Rattle.hp_laws.proofs.FileMoves.{IsMapAt}
 use Rattle.hp_laws.proofs.Keys.{file_key, keys}
 use Rattle.hp_laws.proofs.MountMoves.{IsSpot}
-use Rattle.hp_laws.proofs.Outcomes.{Always, always_if}
+use Rattle.hp_laws.proofs.Outcomes.{Always, always_if, outcome_if}
 use Rattle.hp_laws.proofs.Shown.{On, on_grant_page, on_reserved_page}
 use Rattle.hp_laws.proofs.SlotShows.{always_unless}
 
@@ -100,10 +100,6 @@ module _ (c : Choice) (m : Mount) (Q : Mount → Type 0) (own : Q m) (s : Spot) 
   uncopied_on consumed Read =
       always_if (On Q) (has_page (cell_at s.file i)) (Finish (Answered Done (Some m))) (new_copy c size m s home i consumed) (λ e. own) (λ e. new_on consumed)
 
-  either : (b : Bool) (o q : Outcome) → On Q o → On Q q → On Q (if b then o else q)
-  either true o q h k = h
-  either false o q h k = k
-
   write_on : (consumed : Bool) (copy : Copy) → Always (On Q) (copy_write c m s home i consumed copy)
   write_on consumed copy =
       let mine : ℕ → Copy = λ node. record { stamp = c.stamp; page = record { node = node; bytes = copy.page.bytes } } in
@@ -114,7 +110,7 @@ module _ (c : Choice) (m : Mount) (Q : Mount → Type 0) (own : Q m) (s : Spot) 
       (λ e. always_if (On Q) s.map.owner _ _
       (λ owner. always_unless (On Q) (λ r. tt) ((may_lack_room && c.refused, OutOfMemory) ∷ []) (owner_write m s home copy.stamp fresh)
       (always_if (On Q) (is_full m 1) (Finish back) (Ask (λ nr. GrantPage home (rise m 1)) (λ a. if a.granted then fresh a.node else back))
-      (λ full. kept) (λ room a. either a.granted (fresh a.node) back (copied_on consumed (mine a.node)) kept)))
+      (λ full. kept) (λ room a. outcome_if (On Q) a.granted (fresh a.node) back (copied_on consumed (mine a.node)) kept)))
       (λ other. on_grant_page Q c m home _ (λ node. copied_on consumed (mine node))))
 
   private_on : (p : Place Copy) (intent : Intent) → Always (On Q) (private_access c size m s home i p intent)

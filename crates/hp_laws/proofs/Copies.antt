@@ -20,8 +20,11 @@ live_of Gone a e = cc
 live_of (Live c None) a e = cc
 live_of (Live c (Some b)) a e = (c, ap (λ o. Live c o) e)
 
+pub none_copied : (i : ℕ) → copy_of (place_at no_map i) ≡ None
+none_copied i = cond_both (nat_lt i 0) Gone (slice_index_or no_map.places (i - 0) Gone) (λ p. copy_of p ≡ None) (λ e. refl) (λ e. refl)
+
 no_copy : (i : ℕ) (a : Copy) → HasCopy no_map i a → ⊥
-no_copy i a = cond_both (nat_lt i 0) Gone (slice_index_or (no_map.places) (i - 0) Gone) (λ p. copy_of p ≡ Some a → ⊥) (λ e h. cc) (λ e h. cc)
+no_copy i a has = (let none = sym (none_copied i) ∙ has in cc)
 
 -- below a length, or the element is the default
 within : {X : Type 0} (xs : List X) (k : ℕ) (d : X) → (get_or xs k d ≡ d → ⊥) → k < length xs

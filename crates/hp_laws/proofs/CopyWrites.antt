@@ -17,20 +17,14 @@ use Rattle.hp_model.specs.declared.cell.Cell.{Cell}
 use Rattle.hp_model.specs.declared.cell.Cell.TheVariants.{Hole, Entered, Present}
 use Rattle.hp_model.specs.declared.place.Place.{Place}
 use Rattle.hp_model.specs.declared.place.Place.TheVariants.{Gone, Live}
-use Rattle.hp_laws.proofs.FileMoves.{FileGrows, IsMapAt, IsLiveAt, live_at, reserves_step, same_owed, held_in, maps_count, none_held, agreed_test, spent}
+use Rattle.hp_laws.proofs.FileMoves.{or_false, FileGrows, IsMapAt, IsLiveAt, live_at, reserves_step, same_owed, held_in, maps_count, none_held, agreed_test, spent}
 use Rattle.hp_laws.proofs.Holding.{is_stamp_at, IsAgreed, stamps_grow, stamps_at_grow, stamps_stay, stamps_at_stay, weaker}
 use Rattle.hp_laws.proofs.Places.{any_two, any_unset, any_set_up, any_set_at, any_map_up, any_map_down, any_either, any_of_set, sum_by-map_same, any_edit_at, sum_by-edit_at}
+use Rattle.hp_laws.proofs.Single.{bit}
 
 the_other : (a b c : Bool) → c ≡ (a || b) → (a ≡ true → b ≡ true) → b ≡ c
 the_other true b c e h = h refl ∙ sym e
 the_other false b c e h = sym e
-
-or_false : (b : Bool) → b ≡ (b || false)
-or_false true = refl
-or_false false = refl
-
-abbrev bit : Bool → ℕ
-bit b = cond b 1 0
 
 module _ (f : File) (k : ℕ) (m : Map) (i : ℕ) (c : Bool) (old new : Copy) (here : IsMapAt f k m) (is : place_at m i ≡ Live c (Some old)) where
   abbrev rest : File

@@ -46,7 +46,7 @@ use Rattle.hp_laws.proofs.Looks.{edit_set}
 use Rattle.hp_laws.proofs.Made.{number_unused}
 use Rattle.hp_laws.proofs.MountMoves.{IsFileAt, IsSpot}
 use Rattle.hp_laws.proofs.MountsSound.{cut_sound, edit_sound, filtered_numbers, forked_sound, mapped_numbers, new_sound, put_sound, set_sound, swept_sound}
-use Rattle.hp_laws.proofs.Outcomes.{always_if, always_test, always_then, always_weaker}
+use Rattle.hp_laws.proofs.Outcomes.{always_if, always_test, always_then, always_weaker, outcome_if}
 use Rattle.hp_laws.proofs.Shown.{On, on_follows, on_grant_page, on_reserved_page, on_weaker}
 use Rattle.hp_laws.proofs.Single.{bit}
 use Rattle.hp_laws.proofs.SlotShows.{always_gives, always_mount, always_unless}
@@ -142,10 +142,6 @@ module _ (m : Mount) (sound : IsSoundMount m) (s : Spot) (at : IsSpot m s) where
       uncopied_sound Read consumed is =
           always_if (On (Left Read i)) (has_page (cell_at s.file i)) (Finish (Answered Done (Some m))) (new_copy c size m s home i consumed) (λ e. sound) (λ e. new_sound_copy Read consumed is)
 
-      either : (b : Bool) (o q : Outcome) → On (Left Write i) o → On (Left Write i) q → On (Left Write i) (if b then o else q)
-      either true o q h k = h
-      either false o q h k = k
-
       write_sound : (consumed : Bool) (copy : Copy) → place_at s.map i ≡ Live consumed (Some copy) → Always (On (Left Write i)) (copy_write c m s home i consumed copy)
       write_sound consumed copy is =
           let has : HasCopy s.map i copy = ap copy_of is in
@@ -161,7 +157,7 @@ module _ (m : Mount) (sound : IsSoundMount m) (s : Spot) (at : IsSpot m s) where
           (λ more. always_if (On (Left Write i)) s.map.owner _ _
           (λ owner. always_unless (On (Left Write i)) (λ r. tt) ((may_lack_room && c.refused, OutOfMemory) ∷ []) (owner_write m s home copy.stamp mine)
           (always_if (On (Left Write i)) (is_full m 1) (Finish back) (Ask (λ nr. GrantPage home (rise m 1)) (λ a. if a.granted then mine a.node else back))
-          (λ full. kept) (λ room a. either a.granted (mine a.node) back (own_copy a.node) kept)))
+          (λ full. kept) (λ room a. outcome_if (On (Left Write i)) a.granted (mine a.node) back (own_copy a.node) kept)))
           (λ other. on_grant_page (Left Write i) c m home _ own_copy))
 
       private_sound : (intent : Intent) (p : Place Copy) → place_at s.map i ≡ p → Always (On (Left intent i)) (private_access c size m s home i p intent)

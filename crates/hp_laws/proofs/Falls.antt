@@ -19,6 +19,7 @@ use Rattle.hp_model.specs.declared.place.Place.TheVariants.{Gone, Live}
 use Rattle.hp_laws.proofs.Holding.{stamps_fall, stamps_at_fall}
 use Rattle.hp_laws.proofs.Places.{any_map_down, any_filter, sum_by-map_le, sum_by-filter_le}
 use Rattle.hp_model.proofs.Editing.{sum_by-edit_range}
+use Rattle.hp_laws.proofs.Single.{bit}
 
 pub record FileFalls (f g : File) : Type 0 where
   pub pages : file_pages g ≤ file_pages f
@@ -79,9 +80,6 @@ sum_by-edit_range_le g f h a b xs =
     let ends = sum_by-take-drop g xs a in
     let ranges = sum_by-take-drop g (drop a xs) (b - a) in
     omega (arith, all, mid, ends, ranges)
-
-abbrev bit : Bool → ℕ
-bit b = cond b 1 0
 
 -- ---- punched and cut
 

@@ -16,6 +16,7 @@ use Rattle.hp_model.specs.declared.place.Place.TheVariants.{Gone, Live}
 use Rattle.hp_laws.proofs.CountSteps.{share, count-set, fill_entry-pages, fill_entry-reserves}
 use Rattle.hp_laws.proofs.Holding.{is_stamp_at, IsAgreed, stamps_grow, stamps_at_grow, weaker}
 use Rattle.hp_laws.proofs.Places.{any_set}
+use Rattle.hp_laws.proofs.Single.{bit}
 
 -- k pages more at the node, and the usage u more
 pub record FileGrows (f g : File) (node k u : ℕ) : Type 0 where
@@ -67,7 +68,7 @@ live_at m i c o e =
       is = is;
     }
 
-or_false : (b : Bool) → b ≡ (b || false)
+pub or_false : (b : Bool) → b ≡ (b || false)
 or_false true = refl
 or_false false = refl
 
@@ -188,15 +189,12 @@ maps_count q (m ∷ ms) =
     let cons = sum_by-cons (held_in q) m ms in
     omega (arith, split, sums, cons, places_count q m.places, maps_count q ms)
 
-abbrev share_of : Bool → ℕ
-share_of b = cond b 1 0
-
 pub none_counted : {X : Type 0} (p : X → Bool) (xs : List X) → list_any p xs ≡ false → count_by p xs ≡ 0
 none_counted p [] e = refl
 none_counted p (x ∷ xs) e =
     let parts = or_parts (p x) (list_any p xs) e in
     let cons = sum_by-cons (λ x. cond (p x) 1 0) x xs in
-    let here = ap (λ b. share_of b) parts.0 in
+    let here = ap (λ b. bit b) parts.0 in
     omega (arith, cons, here, none_counted p xs parts.1)
 
 pub none_held : (q : ℕ) (ms : List Map) → list_any (map_has (is_stamp q)) ms ≡ false → sum_by (held_in q) ms ≡ 0

@@ -21,7 +21,7 @@ use Rattle.hp_model.specs.Mapping.{Map, copy_of, is_mapped, is_of, is_shared, ma
 use Rattle.hp_model.specs.Page.{Copy, Page}
 use Rattle.hp_model.specs.Sound.{FileHasCopy, HasCopy, IsSoundMap, is_stamp, map_has, owns_stamp}
 use Rattle.hp_model.proofs.Editing.{get_or-edit_in, length-edit_range}
-use Rattle.hp_laws.proofs.Copies.{map_copy}
+use Rattle.hp_laws.proofs.Copies.{map_copy, none_copied}
 use Rattle.hp_laws.proofs.FileMoves.{IsMapAt}
 use Rattle.hp_laws.proofs.Lesser.{IsLess, KeepsFile, keeps_by, keeps_less, less_all, less_filtered, less_forked, less_mapped, less_placed, less_punched, less_range, less_robbed, less_same}
 use Rattle.hp_laws.proofs.Looks.{same_more, same_one}
@@ -135,9 +135,6 @@ module _ (task number a n : ℕ) (sharing : Sharing) (reserving : Reserving) whe
   blank i =
       cond_both (nat_lt i a) Gone (slice_index_or (replicate n (Live false None)) (i - a) Gone) (λ p. copy_of p ≡ None) (λ e. refl) (λ e. blank_at n (i - a))
 
-  blank_none : (i : ℕ) → copy_of (place_at no_map i) ≡ None
-  blank_none i = cond_both (nat_lt i 0) Gone (slice_index_or no_map.places (i - 0) Gone) (λ p. copy_of p ≡ None) (λ e. refl) (λ e. refl)
-
   owns_none : (stamp : ℕ) → owns_stamp stamp new ≡ false
   owns_none stamp =
       false_from_ne_true (owns_stamp stamp new)
@@ -154,7 +151,7 @@ module _ (task number a n : ℕ) (sharing : Sharing) (reserving : Reserving) whe
   mapped_keeps f =
       let g : File = mapped task number a n sharing reserving f in
       let copies : (i : ℕ) (x : Copy) → FileHasCopy g i x → FileHasCopy f i x = λ i x has.
-      (has.0, sym (same_more (λ m. copy_of (place_at m i)) no_map f.maps (new ∷ []) (same_one (λ m. copy_of (place_at m i)) no_map new (blank i ∙ sym (blank_none i))) has.0) ∙ has.1) in
+      (has.0, sym (same_more (λ m. copy_of (place_at m i)) no_map f.maps (new ∷ []) (same_one (λ m. copy_of (place_at m i)) no_map new (blank i ∙ sym (none_copied i))) has.0) ∙ has.1) in
       record {
         sound = λ sound. record {
           maps = All-push (IsSoundMap (length g.cells)) f.maps new

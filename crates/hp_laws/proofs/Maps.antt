@@ -23,9 +23,7 @@ use Rattle.hp_laws.proofs.FileMoves.{FileGrows, spent}
 use Rattle.hp_laws.proofs.Holding.{stamps_stay, stamps_at_stay}
 use Rattle.hp_laws.proofs.Places.{sum_by-map_same}
 use Rattle.hp_model.proofs.Editing.{sum_by-edit_range}
-
-abbrev bit : Bool → ℕ
-bit b = cond b 1 0
+use Rattle.hp_laws.proofs.Single.{bit}
 
 -- the cells, and how many of them wait for a page more than before
 record CellsWait (xs ys : List (Cell Page)) (u : ℕ) : Type 0 where

@@ -1,12 +1,12 @@
 -- What is shown by place is shown by name and number, where these stay in place.
-use Rattle.std.proofs.Common.{◌≡◌, ⊎_elim, inl, inr, ◌⊎◌, subst, ℕ, true, false, Option, None, Some, Ok, List, refl, sym, ap, ◌∙◌}
+use Rattle.std.proofs.Common.{◌≡◌, ⊎_elim, inl, inr, ◌⊎◌, subst, ℕ, true, false, Option, None, Some, Ok, List, refl, sym, ap, ◌∙◌, ◌==◌}
 use Rattle.std.specs.List.{slice_index_or}
 use Rattle.hp_model.specs.declared.step.Step.{Step}
 use Rattle.hp_model.specs.declared.step.Step.TheVariants.{Exit, Fork, Store, Unlink, Unmap}
 use Rattle.hp_model.specs.File.{File, cell_at, new_file}
 use Rattle.hp_model.specs.Mapping.{Map, is_map}
 use Rattle.hp_model.specs.Plan.{Reply, Slot}
-use Rattle.hp_model.specs.Promises.{IsLost, IsLostTo, LosesTo, StillMapped, StillNamed, is_ended_name, is_ended_number, is_unmounted, map_at, map_in, map_named, map_on, named_on, no_map, seen_in, seen_on, seen_over, shown_in, shown_on, spot_on, stored_over}
+use Rattle.hp_model.specs.Promises.{IsKeptMap, IsLost, IsLostTo, LosesTo, SameFiles, StillMapped, StillNamed, is_ended_name, is_ended_number, is_unmounted, map_at, map_in, map_named, map_on, named_on, no_map, seen_in, seen_on, seen_over, shown_in, shown_on, spot_on, stored_over}
 use Rattle.hp_model.specs.SlotEvent.{has_name}
 use Rattle.hp_model.specs.Spot.{Spot}
 use Rattle.hp_model.specs.State.{State, slot_at}
@@ -133,3 +133,15 @@ module _ (s : State) (step : Step) (reply : Reply) (t : State) (stays : KeepsBut
               (λ lost. inr (lost_to step slot p q i there stays old new lost)) (maps slot p.file_no p.map_no i there);
         },
       )
+
+  pub maps_together : (slot : ℕ) (a b : ℕ × ℕ) (p o : Spot) → IsKeptMap s step reply slot a p → IsKeptMap s step reply slot b o
+      → SameFiles (p.file_no == o.file_no) (map_named t slot a.0 a.1) (map_named t slot b.0 b.1)
+  maps_together slot a b p o first second =
+      let x = slot_at s slot in
+      let y = slot_at t slot in
+      let m = number_stays x y a.0 a.1 p (stays slot (open_number step reply slot a.0 a.1 first.0)) first.1 in
+      let n = number_stays x y b.0 b.1 o (stays slot (open_number step reply slot b.0 b.1 second.0)) second.1 in
+      let same = p.file_no == o.file_no in
+      subst (λ q. SameFiles same q (map_named t slot b.0 b.1)) (sym m.1)
+      (subst (λ q. SameFiles same (Some m.0) q) (sym n.1)
+      (ap (λ (k : Where). k.0 == n.0.file_no) m.2 ∙ ap (λ (k : Where). p.file_no == k.0) n.2))

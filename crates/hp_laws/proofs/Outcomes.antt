@@ -26,6 +26,9 @@ use Rattle.hp_laws.proofs.Tied.{settled_is}
 pub always_if : (P : Outcome → Type 0) (b : Bool) (p q : Plan) → (b ≡ true → Always P p) → (b ≡ false → Always P q) → Always P (if b then p else q)
 always_if P b p q h k = cond_both b p q (Always P) h k
 
+pub outcome_if : (P : Outcome → Type 0) (b : Bool) (o q : Outcome) → P o → P q → P (if b then o else q)
+outcome_if P b o q h k = cond_both b o q P (λ e. h) (λ e. k)
+
 pub always_test : (P : Outcome → Type 0) (b : Bool) (r : Refusal) (p : Plan) → P (Refused r) → (b ≡ false → Always P p) → Always P (if b then refuse r else p)
 always_test P b r p stops h = cond_both b (refuse r) p (Always P) (λ e. stops) h
 

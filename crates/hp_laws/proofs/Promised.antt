@@ -34,7 +34,7 @@ use Rattle.hp_laws.proofs.CountsHold.{counts_are_sums, limits_hold, minimums_hol
 use Rattle.hp_laws.proofs.Limited.{step_keeps}
 use Rattle.hp_laws.proofs.Made.{step_makes}
 use Rattle.hp_laws.proofs.Meanings.{step_placed}
-use Rattle.hp_laws.proofs.Named.{LosesAt, files_by_name, maps_by_number}
+use Rattle.hp_laws.proofs.Named.{LosesAt, files_by_name, maps_by_number, maps_together}
 use Rattle.hp_laws.proofs.Outcomes.{Ends, event_ends, reply_of, IsLeft, only_goes, slot_goes, finding_goes}
 use Rattle.hp_laws.proofs.SlotShows.{Quiet, Loads, Stores, Unmounts, create_quiet, map_quiet, mount_quiet, usage_quiet, umount_ends, load_loads, store_stores}
 use Rattle.hp_laws.proofs.Seen.{IsLostAt}
@@ -339,4 +339,4 @@ pub promised : PromisesAreKept
 promised s step reply t st is =
     let kept = step_kept s reply t st step is in
     let after = step_settled s step reply t st is in
-    record { reserved = kept.reserved; counts = counts_are_sums t after; limits = kept.limits; mounts = step_keeps s reply t step is; minimums = minimums_hold t after; loads = kept.loads; answers = step_tells s reply t st step is; makes = step_makes s reply t step is; refused = step_leaves s reply t st step is; files = files_by_name s step reply t (step_placed s reply t step is) kept.files; maps = maps_by_number s step reply t (step_placed s reply t step is) kept.maps kept.marks; cut_off = kept.cut_off }
+    record { reserved = kept.reserved; counts = counts_are_sums t after; limits = kept.limits; mounts = step_keeps s reply t step is; minimums = minimums_hold t after; loads = kept.loads; answers = step_tells s reply t st step is; makes = step_makes s reply t step is; refused = step_leaves s reply t st step is; files = files_by_name s step reply t (step_placed s reply t step is) kept.files; maps = maps_by_number s step reply t (step_placed s reply t step is) kept.maps kept.marks; together = maps_together s step reply t (step_placed s reply t step is); cut_off = kept.cut_off }

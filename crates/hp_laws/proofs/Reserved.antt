@@ -16,26 +16,23 @@ use Rattle.hp_model.specs.declared.cell.Cell.{Cell}
 use Rattle.hp_model.specs.declared.cell.Cell.TheVariants.{Hole, Entered, Present}
 use Rattle.hp_model.specs.declared.place.Place.{Place}
 use Rattle.hp_model.specs.declared.place.Place.TheVariants.{Gone, Live}
+use Rattle.hp_laws.proofs.Outcomes.{always_if, outcome_if}
+use Rattle.std.proofs.lemmas.Bool.{and_parts}
 
 either : (b : Bool) (p q : Plan) → NeverWantsPages p → NeverWantsPages q → NeverWantsPages (if b then p else q)
-either true p q hp hq = hp
-either false p q hp hq = hq
+either b p q hp hq = always_if KeepsGoing b p q (λ e. hp) (λ e. hq)
 
 shared_keeps : (c : Choice) (size : ℕ) (m : Mount) (s : Spot) (home i : ℕ) (cell : Cell Page) → IsTrue (is_entered cell) → NeverWantsPages (shared_access c size m s home i cell)
 shared_keeps c size m s home i (Present page) e = tt
 shared_keeps c size m s home i Entered e = either c.refused _ _ refl (λ a. tt)
 shared_keeps c size m s home i Hole e = cc
 
-either_outcome : (b : Bool) (o q : Outcome) → KeepsGoing o → KeepsGoing q → KeepsGoing (if b then o else q)
-either_outcome true o q ho hq = ho
-either_outcome false o q ho hq = hq
-
 the_first : (b : Bool) (p q : Plan) → b ≡ true → NeverWantsPages p → NeverWantsPages (if b then p else q)
 the_first true p q e hp = hp
 the_first false p q e hp = cc
 
 owner_keeps : (m : Mount) (s : Spot) (home stamp : ℕ) (fresh : ℕ → Outcome) → ((n : ℕ) → KeepsGoing (fresh n)) → NeverWantsPages (owner_write m s home stamp fresh)
-owner_keeps m s home stamp fresh h = either (is_full m 1) _ _ tt (λ a. either_outcome a.granted _ _ (h a.node) tt)
+owner_keeps m s home stamp fresh h = either (is_full m 1) _ _ tt (λ a. outcome_if KeepsGoing a.granted _ _ (h a.node) tt)
 
 pub copy_keeps : OwnerWrites
 copy_keeps c m s home i consumed copy e =
@@ -49,14 +46,6 @@ uncopied_keeps c size m s home i Write e = new_keeps c size m s home i e
 uncopied_keeps c size m s home i Read e = either (has_page (cell_at s.file i)) _ _ tt (new_keeps c size m s home i e)
 
 -- an owner whose index is not consumed
-left_of_and : (a b : Bool) → (a && b) ≡ true → a ≡ true
-left_of_and true b e = refl
-left_of_and false b e = e
-
-right_of_and : (a b : Bool) → (a && b) ≡ true → b ≡ true
-right_of_and true b e = e
-right_of_and false b e = cc
-
 private_keeps : (c : Choice) (size : ℕ) (m : Mount) (s : Spot) (home i : ℕ) (p : Place Copy) (intent : Intent) → s.map.owner ≡ true → is_unconsumed p ≡ true → NeverWantsPages (private_access c size m s home i p intent)
 private_keeps c size m s home i Gone intent e u = refl
 private_keeps c size m s home i (Live consumed (Some copy)) Read e u = tt
@@ -68,5 +57,5 @@ pub reserved_access : ReservedAccess
 reserved_access c size m s home i intent =
     elim s.map.sharing as (λ v. IsTrue (if is_shared v then is_entered (cell_at s.file i) else (s.map.owner && is_unconsumed (place_at s.map i))) → NeverWantsPages (if is_shared v then shared_access c size m s home i (cell_at s.file i) else private_access c size m s home i (place_at s.map i) intent)) [
       | Shared ↦ λ e. shared_keeps c size m s home i (cell_at s.file i) e
-      | Private ↦ λ e. private_keeps c size m s home i (place_at s.map i) intent (left_of_and _ _ e) (right_of_and _ _ e)
+      | Private ↦ λ e. private_keeps c size m s home i (place_at s.map i) intent (and_parts s.map.owner (is_unconsumed (place_at s.map i)) e).0 (and_parts s.map.owner (is_unconsumed (place_at s.map i)) e).1
     ]

@@ -185,8 +185,8 @@ seen_over s step reply k file map j old = old
 abbrev pub is_same_copy : Place Copy → Place Copy → Bool
 is_same_copy p q = elim (copy_of p) [ None ↦ false | Some copy ↦ holds copy.stamp q ]
 
--- a map held the copy that an owner's map, `own` and then `after`, writes into: at the very index of that write the owner has it still,
--- and the map, which is marked, has none
+-- a map held the copy that an owner's map, `own` and then `after`, writes into: at the very index of that write
+-- the owner has it still, and the map, which is marked, has none
 pub record IsLost (own after : Map) (i : ℕ) (old new : Map) (j : ℕ) : Type 0 where
   pub index : j ≡ i
   pub private : is_shared own.sharing ≡ false
@@ -198,13 +198,19 @@ pub record IsLost (own after : Map) (i : ℕ) (old new : Map) (j : ℕ) : Type 0
 
 -- another map of the owner's file, p before and q after, has lost its copy to it
 abbrev pub IsLostTo : (owner after : Option Spot) → (i : ℕ) (p q : Spot) (j : ℕ) → Type 0
-IsLostTo (Some o) (Some a) i p q j = (o.file_no ≡ p.file_no) × IsLost o.map a.map i p.map q.map j × (p.map_no ≡ o.map_no → ⊥)
+IsLostTo (Some o) (Some a) i p q j =
+    (o.file_no ≡ p.file_no) × IsLost o.map a.map i p.map q.map j × (p.map_no ≡ o.map_no → ⊥)
 IsLostTo owner after i p q j = ⊥
+
+-- the copy went to the map of the task with the number, as it was and is
+abbrev pub IsTakenBy : State → State → (slot task number i : ℕ) (p q : Spot) (j : ℕ) → Type 0
+IsTakenBy s t slot task number i p q j =
+    IsLostTo (map_named s slot task number) (map_named t slot task number) i p q j
 
 -- only an owner's store and its write fault take copies back
 abbrev pub LosesTo : State → Step → State → (slot : ℕ) (p q : Spot) (j : ℕ) → Type 0
-LosesTo s (Store task slot number i offset bytes) t k p q j = (slot ≡ k) × IsLostTo (map_named s slot task number) (map_named t slot task number) i p q j
-LosesTo s (Fault task slot number i Write) t k p q j = (slot ≡ k) × IsLostTo (map_named s slot task number) (map_named t slot task number) i p q j
+LosesTo s (Store task slot number i offset bytes) t k p q j = (slot ≡ k) × IsTakenBy s t slot task number i p q j
+LosesTo s (Fault task slot number i Write) t k p q j = (slot ≡ k) × IsTakenBy s t slot task number i p q j
 LosesTo s step t k p q j = ⊥
 
 -- ---- what names and numbers mean afterwards
@@ -246,16 +252,43 @@ pub record Shape : Type 0 where
   pub owner : Bool
 
 abbrev pub shape_of : Map → Shape
-shape_of m = record { task = m.task; number = m.number; start = m.start; pages = length m.places; sharing = m.sharing; owner = m.owner }
+shape_of m =
+    record {
+      task = m.task;
+      number = m.number;
+      start = m.start;
+      pages = length m.places;
+      sharing = m.sharing;
+      owner = m.owner;
+    }
 
--- p before and q after: range, sharing and ownership are as they were, a name of the map's file means its file, and a marked map
--- stays marked; the bytes at an index are as they were but for a store, or the copy there is lost
+-- the name means the file that the map is of
+abbrev pub IsNameOf : Slot → List ℕ → Spot → Type 0
+IsNameOf slot name p = named_on slot name ≡ Some (p.file_no, p.file)
+
+-- the bytes at an index are as they were, but for what the step makes of them
+abbrev pub StillShows : State → Step → Reply → State → (slot : ℕ) (p q : Spot) (i : ℕ) → Type 0
+StillShows s step reply t slot p q i =
+    value t.page_size q.file q.map i ≡ seen_over s step reply slot p.file_no p.map_no i (value s.page_size p.file p.map i)
+
+-- a map, p before and q after, has its range, sharing, ownership and file; marked, it stays marked; it shows what it
+-- showed at the index, or has lost its copy there
 pub record StillMapped (s : State) (step : Step) (reply : Reply) (t : State) (slot : ℕ) (p q : Spot) (i : ℕ) : Type 0 where
   pub shape : shape_of q.map ≡ shape_of p.map
-  pub file : (name : List ℕ) → is_ended_name step reply slot name ≡ false → named_on (slot_at s slot) name ≡ Some (p.file_no, p.file)
-      → named_on (slot_at t slot) name ≡ Some (q.file_no, q.file)
+  pub file : (name : List ℕ) → is_ended_name step reply slot name ≡ false
+      → IsNameOf (slot_at s slot) name p → IsNameOf (slot_at t slot) name q
   pub marked : p.map.unmapped ≡ true → q.map.unmapped ≡ true
-  pub shows : (value t.page_size q.file q.map i ≡ seen_over s step reply slot p.file_no p.map_no i (value s.page_size p.file p.map i)) ⊎ LosesTo s step t slot p q i
+  pub shows : StillShows s step reply t slot p q i ⊎ LosesTo s step t slot p q i
+
+-- the task's number, by this pair, means the map, and the step does not end it
+abbrev pub IsKeptMap : State → Step → Reply → (slot : ℕ) → ℕ × ℕ → Spot → Type 0
+IsKeptMap s step reply slot a p =
+    (is_ended_number s step reply slot a.0 a.1 ≡ false) × (map_named s slot a.0 a.1 ≡ Some p)
+
+-- two maps are of one file just where they were
+abbrev pub SameFiles : Bool → Option Spot → Option Spot → Type 0
+SameFiles together (Some p) (Some q) = (p.file_no == q.file_no) ≡ together
+SameFiles together p q = ⊥
 
 -- ---- what is answered
 
@@ -370,10 +403,14 @@ pub record IsPromised (s : State) (step : Step) (reply : Reply) (t : State) : Ty
   -- each name keeps its file, which shows what it showed, but for what a step stores, cuts off or punches
   pub files : (slot : ℕ) (name : List ℕ) (i : ℕ) (f : ℕ × File) → is_ended_name step reply slot name ≡ false → named_on (slot_at s slot) name ≡ Some f
       → StillNamed t.page_size (slot_at t slot) name i (stored_over s step reply slot f.0 i (shown s.page_size (cell_at f.1 i)))
-  -- each number of a task keeps its map, with its file, range, sharing and ownership, and the map shows what it showed, but for what a store reaches;
-  -- or it has lost its copy at that index to the owner that stored there
+  -- each number of a task keeps its map, with its file, range, sharing and ownership, and the map shows what it showed,
+  -- but for what a store reaches; or it has lost its copy at that index to the owner that stored there
   pub maps : (slot task number i : ℕ) (p : Spot) → is_ended_number s step reply slot task number ≡ false → map_named s slot task number ≡ Some p
       → (q : Spot) × (map_named t slot task number ≡ Some q) × StillMapped s step reply t slot p q i
+  -- of the maps that are kept those of one file, with a name or without, are of one file still, and others are not
+  pub together : (slot : ℕ) (a b : ℕ × ℕ) (p o : Spot)
+      → IsKeptMap s step reply slot a p → IsKeptMap s step reply slot b o
+      → SameFiles (p.file_no == o.file_no) (map_named t slot a.0 a.1) (map_named t slot b.0 b.1)
   -- an access through a marked map is refused where it has no copy
   pub cut_off : is_cut_off_step s step ≡ true → is_refused reply ≡ true
 

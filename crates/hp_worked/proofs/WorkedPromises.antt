@@ -1,5 +1,5 @@
 -- What is promised of some steps, by computation: the tests and the bytes that the promises speak of.
-use Rattle.std.proofs.Common.{◌≡◌, ⊎_elim, subst, ℕ, ◌+◌, ◌==◌, ◌∙◌, true, false, None, Option, Some, Ok, Err, List, [], ◌∷◌, length, take, map, nat_le, refl, ap, arith, option_map}
+use Rattle.std.proofs.Common.{◌≡◌, ⊎_elim, subst, ℕ, ◌+◌, ◌==◌, ◌∙◌, true, false, None, Option, Some, Ok, Err, List, [], ◌∷◌, length, take, map, nat_le, refl, ap, arith, option_map, ◌++◌}
 use Rattle.std.specs.List.{slice_index_or}
 use Rattle.std.specs.Prelude.{codes, is_some}
 use Rattle.hp_model.specs.declared.answer.Answer.{Answer}
@@ -17,7 +17,7 @@ use Rattle.hp_model.specs.Mapping.{Map as MapOf, copy_of, is_shared, no_map, pla
 use Rattle.hp_model.specs.NodeRows.{free_of, total_of}
 use Rattle.hp_model.specs.Plain.{plain_step}
 use Rattle.hp_model.specs.Plan.{Slot}
-use Rattle.hp_model.specs.Promises.{LeavesAll, LosesTo, Makes, SameLimits, Shape, StillMapped, StillNamed, Tells, file_in, is_backed_step, is_cut_off_step, is_ended_number, least_of, map_at, map_named, seen_in, seen_over, shown_in, shown_on, stored_over, named_on}
+use Rattle.hp_model.specs.Promises.{LeavesAll, LosesTo, Makes, SameFiles, SameLimits, Shape, StillMapped, StillNamed, Tells, file_in, is_backed_step, is_cut_off_step, is_ended_number, least_of, map_at, map_named, seen_in, seen_over, shown_in, shown_on, stored_over, named_on, map_in}
 use Rattle.hp_model.specs.Spot.{Spot}
 use Rattle.hp_model.specs.State.{Node, State, slot_at, with_slot}
 use Rattle.hp_model.specs.Value.{shown, value}
@@ -213,6 +213,20 @@ map_of_another_file p q was is still =
     let new : 1 ≡ q.file_no = ap file_of_name (still.file (codes "a") refl old) in
     let stands : 0 ≡ q.file_no = ap file_of_spot is in
     absurd (omega (arith, new, stands)))
+
+-- two maps of one file, of which one moves to another
+abbrev moved : Slot → Slot
+moved None = None
+moved (Some m) = Some (with_file (with_file m 0 (record (file_in m 0) { maps = (file_in m 0).maps ++ map_in (file_in m 1) 1 ∷ [] })) 1 (record (file_in m 1) { maps = take 1 (file_in m 1).maps }))
+
+abbrev parted : State
+parted = with_slot shared 0 (moved (slot_at shared 0))
+
+maps_are_of_one_file : SameFiles true (map_named shared 0 1 2) (map_named shared 0 1 3)
+maps_are_of_one_file = refl
+
+maps_are_parted : SameFiles true (map_named parted 0 1 2) (map_named parted 0 1 3) → ⊥
+maps_are_parted same = (let wrong : false ≡ true = same in cc)
 
 -- ---- steps that are not built yet: what they leave is what is promised
 
