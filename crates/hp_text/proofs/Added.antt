@@ -1,5 +1,5 @@
 -- What is added after what was added.
-use Rattle.std.proofs.Common.{◌≡◌, ◌++◌, ◌+◌, ◌<◌, ◌≤◌, ℕ, List, [], ◌∷◌, length, arith, append_assoc, append-nil, length-append, ◌∙◌, ap, sym, refl, Vec, vec_len, vec_capacity, drop, get_or, add-one, drop-cons, drop_of_length-le}
+use Rattle.std.proofs.Common.{◌≡◌, ◌++◌, ◌+◌, ◌<◌, ◌≤◌, ℕ, List, ◌∷◌, length, arith, append_assoc, length-append, ◌∙◌, ap, sym, Vec, vec_len, vec_capacity, drop, get_or, add-one, drop-cons}
 use Rattle.std.specs.List.{flat_map}
 use Rattle.std.specs.declared.alloc.Global.{Global}
 use Rattle.hp_text.specs.Output.{Adds}
@@ -17,9 +17,6 @@ pub record Adding (old new : Vec ℕ Global) (rest all : List ℕ) : Type 0 wher
   pub len : vec_len new + length rest ≡ vec_len old + length all
   pub capacity : vec_capacity old ≤ vec_capacity new
 
-pub adding_start : (out : Vec ℕ Global) (all : List ℕ) → Adding out out all all
-adding_start out all = record { bytes = refl; len = refl; capacity = omega arith }
-
 pub adding_more : {old a b : Vec ℕ Global} {rest all : List ℕ} (piece left : List ℕ) → Adding old a rest all → rest ≡ piece ++ left → Adds a b piece → Adding old b left all
 adding_more {a} piece left h cut k = record {
   bytes = ap (λ (xs : List ℕ). xs ++ left) k.bytes ∙ append_assoc a.items piece left ∙ ap (λ (xs : List ℕ). a.items ++ xs) (sym cut) ∙ h.bytes;
@@ -27,16 +24,6 @@ adding_more {a} piece left h cut k = record {
   capacity = omega (arith, h.capacity, k.capacity);
 }
 
-pub adding_end : {old a : Vec ℕ Global} {rest all : List ℕ} → Adding old a rest all → rest ≡ [] → Adds old a all
-adding_end {a} h none = record {
-  bytes = sym (append-nil a.items) ∙ ap (λ (xs : List ℕ). a.items ++ xs) (sym none) ∙ h.bytes;
-  len = omega (arith, h.len, ap length none);
-  capacity = h.capacity;
-}
-
 pub flat_map_cut : {X : Type 0} (f : X → List ℕ) (xs : List X) (i : ℕ) (d : X) → i < length xs → flat_map f (drop i xs) ≡ f (get_or xs i d) ++ flat_map f (drop (i + 1) xs)
 flat_map_cut {X} f xs i d within =
     let cut : drop i xs ≡ get_or xs i d ∷ drop (i + 1) xs = rw add-one (drop-cons xs i d within) in ap (flat_map f) cut
-
-pub flat_map_end : {X : Type 0} (f : X → List ℕ) (xs : List X) (i : ℕ) → length xs ≤ i → flat_map f (drop i xs) ≡ []
-flat_map_end f xs i past = ap (flat_map f) (drop_of_length-le xs past)

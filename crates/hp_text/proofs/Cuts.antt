@@ -1,12 +1,11 @@
 -- A text is cut at its first separator.
-use Rattle.std.proofs.Common.{◌≡◌, ℕ, List, [], ◌∷◌, ◌++◌, ◌+◌, ◌<◌, ◌≤◌, length, take, drop, refl, sym, ◌∙◌, ap, arith, Bool, true, false, nat_lt, ◌==◌, Some, None, cond, length-append, length-drop, take_all, ◌-◌}
+use Rattle.std.proofs.Common.{◌≡◌, ℕ, List, [], ◌∷◌, ◌++◌, ◌+◌, ◌<◌, ◌≤◌, length, take, drop, refl, sym, ◌∙◌, ap, arith, Bool, true, false, nat_lt, ◌==◌, Some, None, cond, length-drop, take_all, ◌-◌}
 use Rattle.std.proofs.lemmas.Bool.{eqb-true}
 use Rattle.std.proofs.lemmas.Bool.Decides.{nat_tests}
 use Rattle.std.proofs.lemmas.List.Splits.{slice_split_first, slice_split_none}
 use Rattle.std.proofs.lemmas.List.Sums.{fails_before_first, passes_at_first, split_at_first}
 use Rattle.std.specs.List.{position, position_or_len}
-use Rattle.hp_text.specs.Pieces.{pieces, from_separator}
-use denote.Ref.{Bor}
+use Rattle.hp_text.specs.Pieces.{pieces}
 
 abbrev separates : ℕ → ℕ → Bool
 separates separator b = b == separator
@@ -50,7 +49,3 @@ uncut separator text e = uncut_go separator text (nat_lt (position_or_len (separ
 -- a slice from a place on, as code cuts it
 pub rest_is : (at : ℕ) (bytes : List ℕ) → take (length bytes - at) (drop at bytes) ≡ drop at bytes
 rest_is at bytes = take_all (length bytes - at) (drop at bytes) (omega (arith, length-drop at bytes))
-
--- both parts are shorter
-pub shorter : (separator : ℕ) (text piece : List ℕ) (rest : Bor (List ℕ)) → text ≡ piece ++ from_separator separator (Some rest) → length piece + length rest.now + 1 ≡ length text
-shorter separator text piece rest whole = omega (arith, ap length whole, length-append piece (separator ∷ rest.now))

@@ -4,6 +4,7 @@ ghost use Rattle.hp_model.specs.Options.{number_of};
 ghost use Rattle.hp_text.specs.Numbers.{IsWithDigit};
 
 /// Reads 1 to 20 digits with a value below 2^64. Any other text is no number.
+#[inline(always)]
 pub fn number_of(digits: &[u8]) -> Option<u64>
     ensures { result ≡ number_of digits.now }
 {
@@ -18,6 +19,7 @@ pub fn number_of(digits: &[u8]) -> Option<u64>
 }
 
 // The number with one digit more, where it fits.
+#[inline(always)]
 fn with_digit(value: u64, b: u8) -> Option<u64>
     ensures { IsWithDigit value b result }
 {

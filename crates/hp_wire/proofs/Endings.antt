@@ -1,6 +1,7 @@
 -- The end of an input.
 use Rattle.std.proofs.Common.{◌≡◌, ◌≤◌, ℕ, zero, suc, List, [], ◌∷◌, ◌++◌, ◌+◌, ◌<◌, length, refl, sym, ◌∙◌, ap, subst, arith, Option, Result, Ok, Err, Bool, true, false, nat_le, inl, inr, append-nil, length-append, cond, IfOk, IfErr, OnOk}
 use Rattle.std.proofs.lemmas.Bool.Decides.{nat_tests}
+use Rattle.std.proofs.lemmas.List.{nil_from_length}
 use Rattle.std.specs.Io.KnownBytes.{Consumes, Appends}
 use Rattle.hp_model.specs.Plan.{Reply}
 use Rattle.hp_model.specs.Lines.{Line, unended, lines, ended_lines, after_lines}
@@ -82,17 +83,13 @@ finished_at may_answer page q r0 r s0 s w0 w w1 held total count (Ok m) p same w
 finished_at may_answer page q r0 r s0 s w0 w w1 held total count (Err e) p same within all written cut =
     rw (cut.0, all_lines p) (ran_cut p.ran (ends_part (unended_by (length held)) (subst (λ (x : ℕ). AppendsFront w w1 (text_of_refusals x (unended_by (length held)))) same cut.1)))
 
-nil_of : (xs : List ℕ) → length xs ≡ 0 → xs ≡ []
-nil_of [] e = refl
-nil_of (x ∷ xs) e = absurd (omega arith)
-
 pub finished : {S : Type 0} {may_answer : S → Step → Reply → S → Type 0} {page q : ℕ} {r0 r r1 : Option (List ℕ)} {s0 s : S} {w0 w : Option (List ℕ)} {held chunk : List ℕ} {n total count : ℕ} (w1 : Option (List ℕ)) (result : Result ℕ RunFault)
     → Progress may_answer page r0 r s0 s w0 w held total count → Gets held chunk r r1 n → n ≡ 0 → q ≡ page → total ≤ 1073741824
     → IfOk result (λ m. m ≡ count + length (unended_by (length chunk))) → OnOk result (Appends w w1 (text_of_refusals q (unended_by (length chunk))))
     → IfErr result (IsCut w w1 (text_of_refusals q (unended_by (length chunk))))
     → (input : List ℕ) × Consumes r0 r1 input × Serves may_answer page s0 s w0 w1 input result
 finished {may_answer} {page} {q} {r0} {r} {r1} {s0} {s} {w0} {w} {held} {chunk} {total} {count} w1 result before got none_read same within all written cut =
-    let none : got.bytes ≡ [] = nil_of got.bytes (sym got.all ∙ none_read) in
+    let none : got.bytes ≡ [] = nil_from_length got.bytes (sym got.all ∙ none_read) in
     let same_held : chunk ≡ held = got.behind ∙ ap (λ (bs : List ℕ). held ++ bs) none ∙ append-nil held in
     let p : Progress may_answer page r0 r s0 s w0 w chunk total count = rw same_held before in
     let reads : Consumes r r1 [] = subst (λ (bs : List ℕ). Consumes r r1 bs) none got.consumed in (

@@ -78,9 +78,6 @@ gains_then {a} {b} {c} {o} {p} {q} {xs} {ys} h k = record {
 pub gains_none : (a : Option (List ℕ)) (o : List ℕ) → Gains a o a o []
 gains_none a o = record { sent = []; written = appends_none a; same = append-nil o }
 
-pub gains_sent : (a b : Option (List ℕ)) (o p : List ℕ) → Appends a b o → p ≡ [] → Gains a o b p []
-gains_sent a b o p h e = record { sent = o; written = h; same = ap (λ (zs : List ℕ). o ++ zs) (sym e) }
-
 pub answered_then : {S : Type 0} {may_answer : S → Step → Reply → S → Type 0} {page : ℕ} {s m t : S} {ls ks : List Line} {a b c : Option (List ℕ)} {o p q : List ℕ}
     → Answered may_answer page s ls m a o b p → Answered may_answer page m ks t b p c q → Answered may_answer page s (ls ++ ks) t a o c q
 answered_then {may_answer} {page} {s} {m} {t} {ls} {ks} h k = record {

@@ -8,3 +8,4 @@ pub mod Stands
 pub mod Turns
 pub mod Endings
 pub mod Scripts
+pub mod HexValues

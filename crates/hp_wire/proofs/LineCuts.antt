@@ -1,8 +1,6 @@
 -- The lines of bytes that are cut at a newline.
-use Rattle.std.proofs.Common.{◌≡◌, ℕ, List, [], ◌∷◌, ◌++◌, ◌+◌, ◌-◌, length, drop, refl, sym, ◌∙◌, ap, arith, ◌==◌, length-append, append_assoc, append-nil}
+use Rattle.std.proofs.Common.{◌≡◌, ℕ, List, [], ◌∷◌, ◌++◌, refl, sym, ◌∙◌, ap, ◌==◌, append_assoc}
 use Rattle.hp_model.specs.Lines.{Line, ended, pieces, ended_pieces, last_piece, ended_lines, after_lines}
-use Rattle.hp_wire.specs.Unanswered.{CountsLines}
-use Rattle.std.proofs.Math.Seq.{drop-append_seam}
 use Rattle.hp_wire.proofs.Pieces.{first_piece, joined, slice_split-append}
 use Rattle.std.specs.List.{onto_first}
 use Rattle.std.specs.Prelude.{nat_eq, Bool, true, false}
@@ -42,21 +40,6 @@ one_off {rest} {done} line next h cut whole = record {
   lines = h.lines ∙ ap (λ (ls : List Line). done ++ ls) (cut_ended rest line next cut) ∙ sym (append_assoc done (ended line ∷ []) (ended_lines next));
   after = h.after ∙ cut_after rest line next cut;
 }
-
--- no more lines end in what is left
-pub all_off : {bytes rest : List ℕ} {done : List Line} (line : List ℕ) → CutOff bytes rest done → pieces rest ≡ line ∷ [] → ended_lines bytes ≡ done
-all_off {done} line h cut = h.lines ∙ ap (λ (ls : List Line). done ++ ls) (ap ended_pieces cut) ∙ append-nil done
-
-pub counted : {bytes rest : List ℕ} {done : List Line} (line : List ℕ) (count : ℕ) → CutOff bytes rest done → pieces rest ≡ line ∷ [] → rest ≡ line ++ [] → count ≡ length done
-    → CountsLines bytes (length rest, count)
-counted {bytes} {rest} line count h cut whole n =
-    let size : length bytes ≡ length h.front + length rest = ap length h.whole ∙ length-append h.front rest in
-    let at : length bytes - length rest ≡ length h.front = omega arith in
-    let left : drop (length bytes - length rest) bytes ≡ rest = ap (λ k. drop k bytes) at ∙ ap (drop (length h.front)) h.whole ∙ drop-append_seam h.front rest in (
-      omega arith,
-      h.after ∙ ap last_piece cut ∙ sym (append-nil line) ∙ sym whole ∙ sym left,
-      n ∙ ap (λ (ls : List Line). length ls) (sym (all_off line h cut)),
-    )
 
 -- bytes after bytes
 joined_some : (c : List ℕ) (front bs : List (List ℕ)) → (f : List ℕ) × (m : List (List ℕ)) × (joined (c ∷ front) bs ≡ f ∷ m)

@@ -128,6 +128,7 @@ impl Replies {
     }
 }
 
+#[inline(always)]
 fn reply_to<S: Service>(alloc: Global, service: &mut S, line: &[u8]) -> Reply
     ensures answered { AnswersStep S.may_answer service.old (step_of (ended line.now))
         result service.new }
@@ -141,6 +142,7 @@ fn reply_to<S: Service>(alloc: Global, service: &mut S, line: &[u8]) -> Reply
 }
 
 // The machine's reply to the step that was read, or why none was.
+#[inline(always)]
 fn answer<S: Service>(service: &mut S, read: Result<Step, Refusal>) -> Reply
     ensures answered { AnswersRead S.may_answer service.old read result service.new }
     ensures limits { IsWithinLimits result }

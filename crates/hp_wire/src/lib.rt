@@ -6,6 +6,7 @@ mod answering;
 mod commands;
 pub mod ends;
 pub mod fault;
+mod hex_digits;
 mod output;
 mod parts;
 pub mod reading;

@@ -4,6 +4,7 @@ ghost use Rattle.std.specs.List.{list_all};
 ghost use Rattle.hp_model.specs.Words.{number_at, word_at, word_of, is_word, is_word_byte, sharing_at, sharing_of, intent_at, intent_of, reserving_at, bytes_of_hex};
 ghost use Rattle.hp_wire.specs.Words.{Gives};
 
+use crate::hex_digits::decode;
 use crate::words::{Words, number_of};
 use hp_model::bytes::Bytes;
 use hp_model::refusal::Refusal;
@@ -12,6 +13,7 @@ use std::alloc::Global;
 
 /// A number, and the words after it.
 #[tactic(auto, unfolding(hp_model::specs::Words::number_at))]
+#[inline(always)]
 pub fn number<'a>(words: Words<'a>) -> Result<(u64, Words<'a>), Refusal>
     ensures { result ≡ number_at words.entry }
 {
@@ -101,14 +103,15 @@ pub fn decoded<'a>(piece: &[u8], room: &'a mut [u8]) -> Result<&'a [u8], Refusal
     requires { (length piece.now ≤ 1024) × (length room.old ≡ 512) }
     ensures { Gives (λ x. x.now) result (bytes_of_hex piece.now) }
 {
-    if piece.is_empty() {
+    if piece.is_empty() || piece.len() % 2 != 0 {
         return Err(Refusal::BadLine);
     }
     let n = piece.len() / 2;
     let part = &mut room[..n];
-    match hex::decode_to_slice(piece, part) {
-        Ok(()) => Ok(part),
-        Err(_) => Err(Refusal::BadLine),
+    if decode(piece, part) {
+        Ok(part)
+    } else {
+        Err(Refusal::BadLine)
     }
 }
 

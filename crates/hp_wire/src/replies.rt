@@ -43,6 +43,7 @@ impl Replies {
     }
 
     /// Adds the text of a reply.
+    #[inline(always)]
     pub fn add(&mut self, reply: &Reply)
         requires limits { IsWithinLimits reply.now }
         requires room { HasRoomForOne self.old }

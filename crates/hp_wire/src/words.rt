@@ -39,6 +39,7 @@ impl<'a> Words<'a> {
 
     /// The first piece, and the others.
     #[tactic(auto, unfolding(hp_model::specs::Words::piece_at))]
+    #[inline(always)]
     pub fn piece(self) -> Result<(&'a [u8], Words<'a>), Refusal>
         ensures value { Gives (λ x. (x.0.now, x.1)) result (piece_at self.entry) }
         ensures short { IfOk result (λ x. length x.0.now ≤ 1024) }
@@ -65,6 +66,7 @@ impl<'a> Words<'a> {
 }
 
 /// Reads a piece as a number.
+#[inline(always)]
 pub fn number_of(piece: &[u8]) -> Result<u64, Refusal>
     ensures { result ≡ number_of piece.now }
 {
