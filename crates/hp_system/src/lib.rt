@@ -7,6 +7,3 @@ mod table;
 
 pub use hp_mount::{MapAccess, MapRange};
 pub use system::System;
-
-#[cfg(test)]
-mod tests;

@@ -1,37 +1,19 @@
 //! A mount of three pages at most on a pool of four, through the pool as its own door.
 ghost use Rattle.std.specs.Prelude.{◌≡◌};
 ghost use Rattle.hp_mount_door.specs.Door.{IsReady};
+ghost use Rattle.hp_pool.specs.Ledgers.{AreLedgers};
 
-use crate::{MapAccess, MapRange, Mount};
 use hp_model::answer::{Answer, Reply};
 use hp_model::bytes::Bytes;
 use hp_model::naming::Naming;
 use hp_model::refusal::Refusal;
 use hp_model::step::Intent;
+use hp_mount_next::{MapAccess, MapRange, Mount};
 use hp_pool::{Blanks, Pool};
 use hp_subpool::Subpool;
 use std::alloc::Global;
 use std::marker::Brand;
 use std::process::Abort;
-use std::sync::ledger::Blank;
-
-fn blanks() -> Blanks
-    ensures permits { result.permits.parts ≡ 18446744073709551615 }
-    ensures zero { result.pages.zero.parts ≡ 18446744073709551615 }
-    ensures one { result.pages.one.parts ≡ 18446744073709551615 }
-    ensures two { result.pages.two.parts ≡ 18446744073709551615 }
-    ensures three { result.pages.three.parts ≡ 18446744073709551615 }
-{
-    Blanks {
-        permits: Blank::new(u64::MAX),
-        pages: hp_nodes::Blanks {
-            zero: Blank::new(u64::MAX),
-            one: Blank::new(u64::MAX),
-            two: Blank::new(u64::MAX),
-            three: Blank::new(u64::MAX),
-        },
-    }
-}
 
 fn bytes<R: Abort>(rt: &R, alloc: Global, text: &[u8]) -> Bytes {
     Bytes::new(Vec::from_slice(alloc, text).expect(rt, "memory"))
@@ -126,11 +108,7 @@ fn each_call<N: Naming, R: Abort>(rt: &R, alloc: Global, pool: &mut Pool<N>, mou
 }
 
 fn run<N: Naming, R: Abort>(rt: &R, alloc: Global, blanks: Blanks)
-    requires permits { (blanks.permits.name ≡ N.permits) × (blanks.permits.parts ≡ 18446744073709551615) }
-    requires zero { (blanks.pages.zero.name ≡ N.pages_0) × (blanks.pages.zero.parts ≡ 18446744073709551615) }
-    requires one { (blanks.pages.one.name ≡ N.pages_1) × (blanks.pages.one.parts ≡ 18446744073709551615) }
-    requires two { (blanks.pages.two.name ≡ N.pages_2) × (blanks.pages.two.parts ≡ 18446744073709551615) }
-    requires three { (blanks.pages.three.name ≡ N.pages_3) × (blanks.pages.three.parts ≡ 18446744073709551615) }
+    requires ledgers { AreLedgers N.Naming blanks }
     requires bytes { N.page_bytes ≡ 1024 }
 {
     let mut pool = Pool::<N>::new(alloc, &[4, 4], 1024, blanks).expect(rt, "memory");
@@ -148,5 +126,5 @@ fn run<N: Naming, R: Abort>(rt: &R, alloc: Global, blanks: Blanks)
 
 #[test]
 fn a_mount_through_the_pool(rt: HostRuntime) {
-    run::<Brand, HostRuntime>(&rt, rt.alloc(), blanks());
+    run::<Brand, HostRuntime>(&rt, rt.alloc(), Blanks::new());
 }

@@ -1,21 +1,32 @@
-//! Steps one by one, and their replies.
+//! Steps one by one at a machine of two nodes of four frames each, and their replies.
 ghost use Rattle.std.specs.Prelude.{◌≡◌, ◌≤◌, length};
+ghost use Rattle.hp_pool.specs.Ledgers.{AreLedgers};
 
-use super::{all_free, blanks};
-use crate::System;
 use hp_model::answer::{Answer, Counts};
 use hp_model::bytes::Bytes;
 use hp_model::naming::Naming;
 use hp_model::refusal::Refusal;
 use hp_model::step::Step;
-use hp_mount::{MapAccess, MapRange};
 use hp_pool::Blanks;
+use hp_system::{MapAccess, MapRange, System};
 use std::alloc::Global;
 use std::marker::Brand;
 use std::process::Abort;
 
 fn bytes<R: Abort>(rt: &R, alloc: Global, text: &[u8]) -> Bytes {
-    super::bytes(alloc, text).expect(rt, "memory")
+    Bytes::new(Vec::from_slice(alloc, text).expect(rt, "memory"))
+}
+
+// A pool with all its pages free.
+fn all_free(pages: u64) -> Counts {
+    Counts {
+        total: pages,
+        free: pages,
+        rsvd: 0,
+        surp: 0,
+        nr: pages,
+        overcommit: 0,
+    }
 }
 
 // The answer with these bytes of a page.
@@ -133,11 +144,7 @@ fn grows<N: Naming, R: Abort>(rt: &R, system: &mut System<N>) {
 }
 
 fn run<N: Naming, R: Abort>(rt: &R, alloc: Global, blanks: Blanks)
-    requires permits { (blanks.permits.name ≡ N.permits) × (blanks.permits.parts ≡ 18446744073709551615) }
-    requires zero { (blanks.pages.zero.name ≡ N.pages_0) × (blanks.pages.zero.parts ≡ 18446744073709551615) }
-    requires one { (blanks.pages.one.name ≡ N.pages_1) × (blanks.pages.one.parts ≡ 18446744073709551615) }
-    requires two { (blanks.pages.two.name ≡ N.pages_2) × (blanks.pages.two.parts ≡ 18446744073709551615) }
-    requires three { (blanks.pages.three.name ≡ N.pages_3) × (blanks.pages.three.parts ≡ 18446744073709551615) }
+    requires ledgers { AreLedgers N.Naming blanks }
     requires bytes { N.page_bytes ≡ 1024 }
 {
     let mut system = System::<N>::new(alloc, &[4, 4], 1024, 2, blanks).expect(rt, "memory");
@@ -151,16 +158,12 @@ fn run<N: Naming, R: Abort>(rt: &R, alloc: Global, blanks: Blanks)
 
 #[test]
 fn steps(rt: HostRuntime) {
-    run::<Brand, HostRuntime>(&rt, rt.alloc(), blanks());
+    run::<Brand, HostRuntime>(&rt, rt.alloc(), Blanks::new());
 }
 
 // Machines that are made, used and closed give back all that they held.
 fn come_and_go<N: Naming, R: Abort>(rt: &R, alloc: Global, blanks: Blanks)
-    requires permits { (blanks.permits.name ≡ N.permits) × (blanks.permits.parts ≡ 18446744073709551615) }
-    requires zero { (blanks.pages.zero.name ≡ N.pages_0) × (blanks.pages.zero.parts ≡ 18446744073709551615) }
-    requires one { (blanks.pages.one.name ≡ N.pages_1) × (blanks.pages.one.parts ≡ 18446744073709551615) }
-    requires two { (blanks.pages.two.name ≡ N.pages_2) × (blanks.pages.two.parts ≡ 18446744073709551615) }
-    requires three { (blanks.pages.three.name ≡ N.pages_3) × (blanks.pages.three.parts ≡ 18446744073709551615) }
+    requires ledgers { AreLedgers N.Naming blanks }
     requires bytes { N.page_bytes ≡ 1024 }
 {
     let mut system = System::<N>::new(alloc, &[4, 4], 1024, 2, blanks).expect(rt, "memory");
@@ -172,6 +175,6 @@ fn come_and_go<N: Naming, R: Abort>(rt: &R, alloc: Global, blanks: Blanks)
 #[test]
 fn machines_come_and_go(rt: HostRuntime) {
     for _ in 0..8 {
-        come_and_go::<Brand, HostRuntime>(&rt, rt.alloc(), blanks());
+        come_and_go::<Brand, HostRuntime>(&rt, rt.alloc(), Blanks::new());
     }
 }
