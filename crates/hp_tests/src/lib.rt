@@ -1,12 +1,10 @@
-//! Tests of the machine and the crates below it: each public call, on values from outside, and what no contract says.
+//! Tests of the crates below a mount: each public call, on values from outside, and what no contract says.
 #![tactic(auto)]
 
 #[cfg(test)]
 mod inode;
 #[cfg(test)]
 mod mapping;
-#[cfg(test)]
-mod mount;
 #[cfg(test)]
 mod nodes;
 #[cfg(test)]
@@ -21,8 +19,6 @@ mod region;
 mod store;
 #[cfg(test)]
 mod subpool;
-#[cfg(test)]
-mod system;
 #[cfg(test)]
 mod text;
 #[cfg(test)]

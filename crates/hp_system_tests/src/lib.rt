@@ -1,0 +1,7 @@
+//! Tests of a mount and of the machine: each public call, step by step.
+#![tactic(auto)]
+
+#[cfg(test)]
+mod mount;
+#[cfg(test)]
+mod system;
