@@ -94,6 +94,7 @@ early_not_memory e early h = never (subst (λ x. is_early x ≡ true) (err_is h)
   where
     err_is : {A : Type 0} → ◌≡◌ {A = Result A Refusal} (Err e) (Err r.OutOfMemory) → e ≡ r.OutOfMemory
     err_is h = cc
+
     never : is_early r.OutOfMemory ≡ true → ⊥
     never e = cc
 
@@ -194,12 +195,15 @@ backed_is_entered intent o s i found shared backed = here intent (ap (λ x. is_b
   where
     reserved : is_reserved s.file s.map i ≡ is_entered (cell_at s.file i)
     reserved = ap (λ b. cond b (is_entered (cell_at s.file i)) (s.map.owner && is_unconsumed (place_at s.map i))) shared
+
     no_copy : owns_copy s.map i ≡ false
     no_copy = ap (λ b. not b && (s.map.owner && is_some (copy_of (place_at s.map i)))) shared
+
     either : (a b : Bool) → (a || b) ≡ true → b ≡ false → a ≡ true
     either true b e none = refl
     either false true e none = cc
     either false false e none = cc
+
     here : (intent : Intent) → is_backed intent (Some s) i ≡ true → is_entered (cell_at s.file i) ≡ true
     here Read e = sym reserved ∙ e
     here Write e = sym reserved ∙ either (is_reserved s.file s.map i) (owns_copy s.map i) e no_copy

@@ -7,7 +7,9 @@ use hp_model::step::Intent;
 #[derive(Clone, Copy, Drop)]
 pub enum MountEvent<'a> {
     /// Makes a file of length 0.
-    Create { name: &'a [u8] },
+    Create {
+        name: &'a [u8],
+    },
     /// Maps `pages` indices of a file, from `start` on, shared, and enters them. A page is reserved for each that was
     /// not entered; the file gets longer where the map ends past its end (`mm/hugetlbfs_reserv.rst`).
     Map {

@@ -4,7 +4,7 @@
 mod event;
 mod mount;
 
+pub use event::MountEvent;
 pub use hp_mount_door::PoolDoor;
 pub use hp_mount_files::MapRange;
-pub use event::MountEvent;
 pub use mount::{MapAccess, Mount};

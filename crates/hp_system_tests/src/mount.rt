@@ -75,12 +75,18 @@ fn each_call<N: Naming, R: Abort>(rt: &R, pool: &mut Pool<N>, mount: &mut Mount<
     );
     assert!(rt; mount.has_maps());
     assert_eq!(rt; mount.usage(), usage(2, 1));
-    assert_eq!(rt; mount.load(pool, 1024, 0, &access(1, 1), 1022, 2), two(0, 0));
+    assert_eq!(rt;
+        mount.load(pool, 1024, 0, &access(1, 1), 1022, 2),
+        two(0, 0)
+    );
     assert_eq!(rt;
         mount.store(pool, 1024, 0, &access(1, 1), 1022, b"xy"),
         Ok(Answer::Done)
     );
-    assert_eq!(rt; mount.load(pool, 1024, 0, &access(2, 1), 1022, 2), two(120, 121));
+    assert_eq!(rt;
+        mount.load(pool, 1024, 0, &access(2, 1), 1022, 2),
+        two(120, 121)
+    );
     assert_eq!(rt;
         mount.load(pool, 1024, 0, &access(2, 0), 1022, 2),
         Err(Refusal::OutOfRange)

@@ -90,7 +90,12 @@ fn all_free(pages: u64) -> Counts {
 
 // A task is added once; its maps are looked for where the task and the slot are there.
 fn connects<N: Naming, R: Abort>(rt: &R, alloc: Global, system: &mut System<N>) {
-    answers(rt, system, Step::Connect { task: 7, home: 1 }, Ok(Answer::Done));
+    answers(
+        rt,
+        system,
+        Step::Connect { task: 7, home: 1 },
+        Ok(Answer::Done),
+    );
     let again = Step::Connect { task: 7, home: 0 };
     answers(rt, system, again, Err(Refusal::TaskExists));
     let nowhere = Step::Connect { task: 8, home: 2 };
@@ -133,7 +138,12 @@ fn maps<N: Naming, R: Abort>(rt: &R, alloc: Global, system: &mut System<N>) {
     answers(rt, system, map(rt, alloc, name, 3), Ok(Answer::MapNo(1)));
     answers(rt, system, map(rt, alloc, name, 3), Ok(Answer::MapNo(2)));
     answers(rt, system, map(rt, alloc, name, 9), Err(Refusal::NoPages));
-    answers(rt, system, map(rt, alloc, name, 0), Err(Refusal::OutOfRange));
+    answers(
+        rt,
+        system,
+        map(rt, alloc, name, 0),
+        Err(Refusal::OutOfRange),
+    );
     let unknown = map(rt, alloc, b"unknown", 3);
     answers(rt, system, unknown, Err(Refusal::NoSuchFile));
     answers(rt, system, store(rt, alloc, 7, 0, 1, 2), Ok(Answer::Done));

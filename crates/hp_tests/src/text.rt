@@ -1,9 +1,9 @@
 //! Numbers, pieces, and the text of meminfo.
 
+use hp_model::answer::Counts;
 use hp_text::meminfo::meminfo_text;
 use hp_text::numbers::number_of;
 use hp_text::pieces::first_piece;
-use hp_model::answer::Counts;
 use std::test::Fail;
 
 #[test]

@@ -206,13 +206,7 @@ impl<N: Naming> Mount<N> {
     }
 
     // What an access is refused before it begins, if anything.
-    fn refused(
-        &self,
-        page_bytes: u64,
-        at: MapPlace,
-        index: u64,
-        asked: Asked,
-    ) -> Option<Refusal>
+    fn refused(&self, page_bytes: u64, at: MapPlace, index: u64, asked: Asked) -> Option<Refusal>
         requires file { at.file < length self.now.files }
         requires map { at.map < length (file_in self.now at.file).maps }
         ensures refused { result ≡ first_of (tests_of page_bytes index asked (spot_at self.now at.file at.map)) }
@@ -228,12 +222,7 @@ impl<N: Naming> Mount<N> {
     }
 
     // Where the map of an access stands, or why the access does not begin.
-    fn place(
-        &self,
-        page_bytes: u64,
-        access: &MapAccess,
-        asked: Asked,
-    ) -> Result<MapPlace, Refusal>
+    fn place(&self, page_bytes: u64, access: &MapAccess, asked: Asked) -> Result<MapPlace, Refusal>
         ensures placed { IfOk result (λ at. IsPlaced self.now access.now asked page_bytes at) }
         ensures fits { OnOk result (Fits page_bytes asked) }
         ensures refused { IfErr result (λ e. why_not self.now access.now asked page_bytes ≡ Some e) }
