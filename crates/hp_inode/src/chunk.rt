@@ -1,5 +1,5 @@
 //! The pages of 512 indices.
-ghost use Rattle.std.specs.Prelude.{ℕ, ◌≡◌, ◌==◌, ◌<◌, ◌≤◌, [], length, replicate, IfOk, MatchOption, true, false, None};
+ghost use Rattle.std.specs.Prelude.{ℕ, ◌≡◌, ◌==◌, ◌<◌, [], length, replicate, IfOk, true, false, None};
 ghost use Rattle.std.specs.Option.{is_some};
 ghost use Rattle.std.specs.List.{slice_index_or, slice_set};
 ghost use Rattle.hp_inode.specs.Rows.{FindsSlot};

@@ -1,5 +1,5 @@
 //! Marks on numbers, a bit for each: the first mark from a number on is found a word at a time.
-ghost use Rattle.std.specs.Prelude.{ℕ, ◌≡◌, ◌*◌, ◌<◌, ◌≤◌, ◌^◌, length, false, OnOk, MatchOption, vec_len};
+ghost use Rattle.std.specs.Prelude.{ℕ, ◌≡◌, ◌*◌, ◌<◌, ◌≤◌, ◌^◌, length, OnOk, vec_len};
 ghost use Rattle.hp_inode.specs.Marks.{marked, FindsFrom};
 
 use std::alloc::AllocError;

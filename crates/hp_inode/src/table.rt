@@ -1,7 +1,7 @@
 //! Pages by index, in chunks of 512 slots: an index's slot is found in one step, and so is a chunk with pages.
-ghost use Rattle.std.specs.Prelude.{ℕ, ◌≡◌, ◌/◌, ◌<◌, ◌≤◌, ◌^◌, ◌++◌, ◌∷◌, [], length, OnOk, OnErr, MatchOption, true, None};
+ghost use Rattle.std.specs.Prelude.{ℕ, ◌≡◌, ◌/◌, ◌<◌, ◌≤◌, ◌^◌, ◌++◌, ◌∷◌, [], length, OnOk, OnErr, true, None};
 ghost use Rattle.std.specs.List.{slice_index_or};
-ghost use Rattle.hp_inode.specs.Rows.{page_in, slot_in, has_slot, FindsSlot, FindsPage};
+ghost use Rattle.hp_inode.specs.Rows.{page_in, has_slot, FindsSlot, FindsPage};
 
 use crate::chunk::{CHUNK, Chunk};
 use crate::marks::{first_from, make_place, set_mark};

@@ -1,6 +1,5 @@
 //! Moves among the nodes that are repeated, one for each page that moves.
-ghost use Rattle.std.specs.Prelude.{◌≡◌, ◌+◌, ◌-◌, ◌<◌, ◌≤◌, nat_lt, if◌then◌else◌};
-ghost use Rattle.hp_model.specs.NodeRows.{promote_row, grow_row, shrink_row, demote_row};
+ghost use Rattle.std.specs.Prelude.{◌≡◌, ◌+◌, ◌-◌, ◌<◌, ◌≤◌, nat_lt};
 ghost use Rattle.hp_model.specs.Grant.{surplus_times};
 ghost use Rattle.hp_model.specs.Pool.{give_back_times};
 ghost use Rattle.hp_model.specs.Resize.{raise_times, lower_times, raised, lowered};

@@ -1,6 +1,6 @@
 //! The pool.
-ghost use Rattle.std.specs.Prelude.{◌≡◌, ◌+◌, ◌-◌, ◌<◌, ◌≤◌, length, map, All, IsTrue, IfOk, IfErr, IsOk, ◌↔◌};
-ghost use Rattle.hp_model.specs.NodeRows.{row_at, idle_row, frames_of, total_of, free_of, surp_of};
+ghost use Rattle.std.specs.Prelude.{◌≡◌, ◌+◌, ◌-◌, ◌<◌, ◌≤◌, length, All, IsTrue, IfOk, IfErr, IsOk, ◌↔◌};
+ghost use Rattle.hp_model.specs.NodeRows.{row_at, frames_of, total_of, free_of, surp_of};
 ghost use Rattle.hp_model.specs.Grant.{can_grant, granted};
 ghost use Rattle.hp_model.specs.Pool.{take_node, page_taken, page_put, page_kept, released, settled};
 ghost use Rattle.hp_model.specs.PoolCounts.{IsSettled, counts_of, rsvd};

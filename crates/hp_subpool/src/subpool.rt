@@ -1,5 +1,5 @@
 //! The subpool.
-ghost use Rattle.std.specs.Prelude.{◌≡◌, ◌+◌, ◌-◌, ◌<◌, ◌≤◌, ◌^◌, ◌&&◌, not, IsTrue, IfOk, IfErr, IsOk, OnOk, OnErr, Err, ◌↔◌};
+ghost use Rattle.std.specs.Prelude.{◌≡◌, ◌+◌, ◌-◌, ◌<◌, ◌≤◌, ◌^◌, IsTrue, IfOk, IfErr, IsOk, OnOk, OnErr, Err, ◌↔◌};
 ghost use Rattle.hp_model.specs.Grant.{can_grant, granted, is_over};
 ghost use Rattle.hp_model.specs.Pool.{take_node, page_taken, page_kept, released};
 ghost use Rattle.hp_model.specs.PoolCounts.{IsSettled};
