@@ -12,24 +12,24 @@ use Rattle.hp_model.specs.declared.cell.Cell.TheVariants.{Hole}
 use Rattle.hp_model.specs.Lists.{edit_at}
 use Rattle.hp_laws.proofs.FileMoves.{FileGrows}
 use Rattle.hp_laws.proofs.CopyWrites.{writes}
-use Rattle.hp_model.specs.LocalRun.{ThroughDoor, Gives}
-use Rattle.hp_model.specs.Mapping.{Map, copy_of, is_shared, is_unconsumed, place_at}
+use Rattle.hp_model.specs.LocalRun.{ThroughDoor}
+use Rattle.hp_model.specs.Mapping.{copy_of, is_shared, is_unconsumed, place_at}
 use Rattle.hp_model.specs.Plan.{Plan, Outcome, Reply, Slot, Choice, refuse, unless, with_value, and_then}
 use Rattle.hp_model.specs.declared.section.PoolAnswer.{PoolAnswer}
 use Rattle.hp_model.specs.declared.section.Section.{Section}
 use Rattle.hp_model.specs.Promises.{file_in, is_backed, map_in, no_map, owns_copy}
 use Rattle.hp_model.specs.SlotEvent.{is_unmapped, is_beyond}
-use Rattle.hp_model.specs.Spot.{Spot, spot, again, written, file_written, cell_written, map_written}
+use Rattle.hp_model.specs.Spot.{Spot, again, written, file_written, cell_written, map_written}
 use Rattle.hp_model.specs.declared.step.Intent.{Intent}
 use Rattle.hp_model.specs.declared.step.Intent.TheVariants.{Read, Write}
-use Rattle.hp_mount.specs.Done.{Through, Tried}
+use Rattle.hp_mount.specs.Done.{Tried}
 use Rattle.hp_mount.specs.Found.{IsTouched, first_of, spot_at, spot_of, tests_of, why_not}
 use Rattle.hp_mount.specs.declared.mount.reach.Asked.{Asked}
 use Rattle.hp_mount.specs.declared.mount.reach.Asked.TheVariants.{Page, Bytes}
 use Rattle.hp_mount.specs.declared.mount.reach.MapAccess.{MapAccess}
 use Rattle.hp_model.specs.Profile.{most_bytes}
 use Rattle.hp_model.specs.Reserved.{is_reserved}
-use Rattle.hp_mount.proofs.Ways.{fresh_choice, is_fresh, refused_at, then_goes, then_refused}
+use Rattle.hp_mount.proofs.Ways.{fresh_choice, is_fresh, refused_at, then_refused}
 
 -- ---- tests
 

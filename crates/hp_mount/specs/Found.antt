@@ -1,5 +1,5 @@
 -- What an access asks before it begins, and what it leaves as it was.
-use Rattle.std.specs.Prelude.{◌<◌, ◌≤◌, true, ◌≡◌, ℕ, ◌+◌, ◌||◌, ◌==◌, Bool, Option, None, Some, List, [], ◌∷◌, length, if◌then◌else◌, nat_lt}
+use Rattle.std.specs.Prelude.{◌<◌, ◌≤◌, true, ◌≡◌, ℕ, ◌+◌, Bool, Option, None, Some, List, [], ◌∷◌, length, if◌then◌else◌}
 use Rattle.hp_model.specs.declared.refusal.Refusal.{Refusal}
 use Rattle.hp_model.specs.declared.refusal.Refusal.TheVariants.{NoSuchMap}
 use Rattle.hp_model.specs.File.{Mount}

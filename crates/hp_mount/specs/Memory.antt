@@ -1,5 +1,5 @@
 -- What may be refused memory.
-use Rattle.std.specs.Prelude.{ℕ, Bool, true, false, not}
+use Rattle.std.specs.Prelude.{Bool, true, false, not}
 use Rattle.hp_model.specs.declared.event.SlotEvent.{SlotEvent}
 use Rattle.hp_model.specs.declared.event.SlotEvent.TheVariants.{Create, Map, Fault, Load, Store}
 use Rattle.hp_model.specs.declared.step.Intent.TheVariants.{Read, Write}

@@ -1,5 +1,5 @@
 -- From what an event did to a slot and the pool to what it did to the machine, and to what holds after it.
-use Rattle.std.proofs.Common.{◌≡◌, ℕ, ◌<◌, ◌≤◌, Bool, false, List, Err, Ok, None, Some, length, refl, sym, ◌∙◌, ap, subst, arith, IsTrue}
+use Rattle.std.proofs.Common.{◌≡◌, ℕ, ◌<◌, false, List, Err, Ok, None, length, refl, sym, ◌∙◌, ap, subst, arith, IsTrue}
 use Rattle.std.specs.Prelude.{nat_lt, slice_index_or, slice_set}
 use Rattle.std.proofs.lemmas.Bool.Decides.{nat_tests}
 use Rattle.std.proofs.lemmas.List.{length-map, set-get_or}
@@ -7,8 +7,6 @@ use Rattle.hp_model.specs.declared.event.Event.TheVariants.{Slot as OnSlot, Pool
 use Rattle.hp_model.specs.declared.event.PoolEvent.{PoolEvent}
 use Rattle.hp_model.specs.declared.event.SlotEvent.{SlotEvent}
 use Rattle.hp_model.specs.declared.refusal.Refusal.TheVariants as refusal
-use Rattle.hp_model.specs.declared.section.PoolAnswer.{PoolAnswer}
-use Rattle.hp_model.specs.declared.section.Section.{Section}
 use Rattle.hp_model.specs.Event.{CanHappen, IsEvent, IsFresh, after, asked_pool, is_slot_event, planned, settled}
 use Rattle.hp_model.specs.LocalRun.{Gives, ThroughDoor}
 use Rattle.hp_model.specs.Machine.{node_of, pool_of, with_pool}

@@ -81,14 +81,7 @@ impl<N: Naming> System<N> {
 
     // Maps indices of a file, shared.
     #[tactic(auto, unfolding(hp_model::specs::Step::IsStep))]
-    fn map_shared(
-        &mut self,
-        task: u64,
-        slot: u64,
-        name: &Bytes,
-        start: u64,
-        pages: u64,
-    ) -> Reply
+    fn map_shared(&mut self, task: u64, slot: u64, name: &Bytes, start: u64, pages: u64) -> Reply
         ensures step { IsStep self.old (MapStep task slot name.now start pages Shared Reserve) result self.new }
         ensures size { self.new.page_size ≡ self.old.page_size }
     {

@@ -1,4 +1,4 @@
-use Rattle.std.proofs.Common.{◌≡◌, Bool, Err, Ok, Some, true, false, not, refl, sym, subst}
+use Rattle.std.proofs.Common.{◌≡◌, Bool, Ok, Some, true, false, not, refl, sym, subst}
 use Rattle.hp_model.specs.declared.event.SlotEvent.TheVariants.{Create, Df}
 use Rattle.hp_model.specs.Plan.{Choice, Slot}
 use Rattle.hp_model.specs.SlotEvent.{slot_event}

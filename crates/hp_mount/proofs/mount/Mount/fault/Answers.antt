@@ -1,4 +1,4 @@
-use Rattle.std.proofs.Common.{Err, Ok, Some, subst}
+use Rattle.std.proofs.Common.{Some, subst}
 use Rattle.hp_model.specs.declared.answer.Answer.TheVariants.{Done}
 use Rattle.hp_model.specs.Access.{access}
 use Rattle.hp_model.specs.Plan.{Choice}

@@ -1,17 +1,17 @@
-use Rattle.std.proofs.Common.{◌≡◌, ◌<◌, Err, None, Ok, Some, length, refl, sym, ap, subst, ◌∙◌, arith}
+use Rattle.std.proofs.Common.{◌≡◌, None, Ok, Some, refl, sym, ap, subst, ◌∙◌}
 use Rattle.hp_model.specs.declared.answer.Answer.TheVariants.{Done}
 use Rattle.hp_model.specs.declared.step.Intent.TheVariants.{Read}
 use Rattle.hp_model.specs.Access.{access}
 use Rattle.hp_model.specs.File.{Mount}
 use Rattle.hp_model.specs.LocalRun.{Gives}
 use Rattle.hp_model.specs.Plan.{Answered, Choice, Outcome, and_then}
-use Rattle.hp_model.specs.Spot.{Spot, again, written}
+use Rattle.hp_model.specs.Spot.{Spot, again}
 use Rattle.hp_model.specs.SlotEvent.{bytes_answer}
 use Rattle.hp_model.specs.Value.{value}
 use Rattle.hp_mount.specs.declared.mount.reach.Asked.TheVariants.{Bytes}
 use Rattle.hp_mount.specs.Done.{Tried, done}
 use Rattle.hp_mount.specs.Found.{first_of, spot_at, spot_of, tests_of, why_not}
-use Rattle.hp_mount.proofs.Commands.{again_is, backed_is_entered, denied, early_not_memory, follows, not_begun, not_memory, went, why_is_early, written_is}
+use Rattle.hp_mount.proofs.Commands.{again_is, backed_is_entered, denied, early_not_memory, follows, not_begun, not_memory, went, why_is_early}
 use Rattle.hp_mount.proofs.Ways.{then_goes}
 use Rattle.hp_mount.proofs.mount.Mount.load.Goals as goal
 

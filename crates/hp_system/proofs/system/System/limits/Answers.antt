@@ -1,4 +1,4 @@
-use Rattle.std.proofs.Common.{◌≡◌, ◌<◌, sym, ap, subst, ◌∙◌}
+use Rattle.std.proofs.Common.{◌<◌, sym, ap, subst, ◌∙◌}
 use Rattle.hp_model.specs.Options.{limits, wanted_of}
 use Rattle.hp_model.specs.State.{State}
 use Rattle.hp_system.proofs.system.System.limits.Goals as goal

@@ -1,4 +1,4 @@
-use Rattle.std.proofs.Common.{◌≡◌, None, Some, length, sym, ap, subst, ◌∙◌}
+use Rattle.std.proofs.Common.{length, sym, ap, ◌∙◌}
 use Rattle.hp_model.specs.Step.{on_slot}
 use Rattle.hp_model.specs.State.{State}
 use Rattle.hp_model.specs.Table.{home_of}

@@ -1,4 +1,4 @@
-use Rattle.std.proofs.Common.{◌≡◌, ◌<◌, Err, None, Some, length, refl, sym, subst, arith}
+use Rattle.std.proofs.Common.{◌<◌, Err, None, Some, length, sym, subst, arith}
 use Rattle.hp_model.specs.declared.refusal.Refusal.TheVariants.{NoSuchSlot}
 use Rattle.hp_model.specs.Plan.{Choice, Slot}
 use Rattle.hp_model.specs.SlotEvent.{slot_event}
