@@ -1,13 +1,21 @@
 -- What making a file or a map asks first.
-use Rattle.std.specs.Prelude.{ℕ, ◌+◌, ◌||◌, ◌==◌, Bool, not, is_some, List, [], ◌∷◌, length, nat_le, nat_lt, Ok, Err, Result}
+use Rattle.std.specs.Prelude.{ℕ, ◌+◌, ◌||◌, ◌==◌, Bool, not, is_some, Option, Some, List, [], ◌∷◌, length, nat_le, nat_lt, Ok, Err, Result}
 use Rattle.hp_model.specs.declared.answer.Answer.TheVariants.{MapNo}
+use Rattle.hp_model.specs.declared.event.SlotEvent.{SlotEvent}
+use Rattle.hp_model.specs.declared.event.SlotEvent.TheVariants.{Map as MapEvent}
 use Rattle.hp_model.specs.declared.refusal.Refusal.{Refusal}
 use Rattle.hp_model.specs.declared.refusal.Refusal.TheVariants.{BadName, FileExists, NoInodes, OutOfRange, TooMany}
-use Rattle.hp_model.specs.File.{Mount}
+use Rattle.hp_model.specs.declared.step.Reserving.TheVariants.{Reserve}
+use Rattle.hp_model.specs.declared.step.Sharing.TheVariants.{Shared}
+use Rattle.hp_model.specs.File.{File, Mount, with_file}
 use Rattle.hp_model.specs.Grant.{is_over}
-use Rattle.hp_model.specs.Plan.{Reply}
+use Rattle.hp_model.specs.MakeMap.{asked, mapped}
+use Rattle.hp_model.specs.Plan.{Answered, Choice, Plan, Reply, grant}
 use Rattle.hp_model.specs.Profile.{most_file_pages, most_files, most_map_pages}
+use Rattle.hp_model.specs.Promises.{file_in}
 use Rattle.hp_model.specs.SlotEvent.{are_too_many_maps, file_named, is_name}
+use Rattle.hp_mount_files.specs.declared.next_map.MapRange.{MapRange}
+use Rattle.hp_mount.specs.Found.{first_of}
 
 abbrev pub create_tests : Mount → List ℕ → List (Bool × Refusal)
 create_tests m name =
@@ -15,6 +23,21 @@ create_tests m name =
 
 abbrev pub map_tests : Mount → (task a n : ℕ) → List (Bool × Refusal)
 map_tests m task a n = ((n == 0) || nat_lt most_file_pages (a + n), OutOfRange) ∷ (nat_lt most_map_pages n || are_too_many_maps m task, TooMany) ∷ []
+
+-- why a task may not map the range, if anything
+abbrev pub why_no_map : Mount → MapRange → Option Refusal
+why_no_map m range = first_of (map_tests m range.task range.start range.pages)
+
+-- the grant of a shared map's pages, and the map
+abbrev pub map_plan : Mount → MapRange → (number home file : ℕ) → Choice → Plan
+map_plan m range number home file c =
+    grant c m home (asked Shared Reserve range.start range.pages (file_in m file))
+    (Answered (MapNo number) (Some (with_file m file
+    (mapped range.task number range.start range.pages Shared Reserve (file_in m file)))))
+
+-- the event of a shared map
+abbrev pub map_event : (home : ℕ) → (name : List ℕ) → MapRange → SlotEvent
+map_event home name range = MapEvent range.task home name range.start range.pages Shared Reserve
 
 -- the reply of a map that was made, by its number
 abbrev pub numbered : ℕ → Result (Unit {0}) Refusal → Reply

@@ -13,6 +13,7 @@ ghost use Rattle.hp_subpool.specs.Subpool.{Subpool as ShareValue};
 ghost use Rattle.hp_mount.specs.Alone.{IsDoneAlone};
 ghost use Rattle.hp_mount.specs.Done.{IsDone};
 ghost use Rattle.hp_mount.specs.Event.{event_of, is_usage};
+ghost use Rattle.hp_mount.specs.Kept.{mount_of};
 ghost use Rattle.hp_mount.specs.Memory.{asks_memory};
 
 mod making;
@@ -69,7 +70,7 @@ impl<N: Naming> Mount<N> {
     pub fn new(alloc: Global, share: Subpool<N>, inodes: Option<u64>) -> Self
         requires pages { share.pages ≡ 0 }
         requires held { share.held ≡ 0 }
-        ensures { result ≡ record { limits = record { max = share.max; min = share.min; inodes = inodes }; files = [] } }
+        ensures { result ≡ mount_of share inodes [] }
     {
         Mount {
             share,
@@ -169,7 +170,8 @@ impl<N: Naming> Mount<N> {
         requires going { (s : StoreValue) → D.going_of s ≡ s.going }
         requires spent { (s : StoreValue) → ((n : ℕ) → page_at s n ≡ None) → D.is_spent s }
         requires ready { D.is_ready door.old }
-        ensures done { ThroughDoor D.took (gives Done (Some self) None) (Some self) door.old (Ok Done) None door.new }
+        ensures done { ThroughDoor D.took (gives Done (Some self) None)
+            (Some self) door.old (Ok Done) None door.new }
         ensures left { D.is_left door.new }
     {
         let Mount {

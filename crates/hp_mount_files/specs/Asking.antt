@@ -1,13 +1,38 @@
--- Reservations that are asked for through a door.
-use Rattle.std.specs.Prelude.{◌≡◌, ℕ, ◌<◌, Ok, Err, Result}
+-- What a new map asks for, and reservations that are asked for through a door.
+use Rattle.std.specs.Prelude.{◌≡◌, ℕ, ◌<◌, Bool, List, Ok, Err, Result, not}
 use Rattle.hp_model.specs.declared.refusal.Refusal.{Refusal}
 use Rattle.hp_model.specs.declared.refusal.Refusal.TheVariants.{OutOfMemory}
 use Rattle.hp_model.specs.declared.section.PoolAnswer.{PoolAnswer}
 use Rattle.hp_model.specs.declared.section.Section.{Section}
 use Rattle.hp_model.specs.declared.section.Section.TheVariants.{Grant}
+use Rattle.hp_model.specs.declared.step.Reserving.TheVariants.{Reserve}
+use Rattle.hp_model.specs.declared.step.Sharing.TheVariants.{Shared}
+use Rattle.hp_model.specs.File.{File}
+use Rattle.hp_model.specs.Lists.{is_among, least_unused}
+use Rattle.hp_model.specs.MakeMap.{asked, mapped, numbers_of}
 use Rattle.hp_model.specs.Pool.{granted_at, no_pages}
 use Rattle.hp_mount_door.specs.Door.{IsDoorRefusal, with_reserves}
 use Rattle.hp_subpool.specs.Subpool.{Subpool, rise}
+use Rattle.hp_mount_files.specs.declared.next_map.MapRange.{MapRange}
+use Rattle.hp_mount_files.specs.Files.{file_at}
+use Rattle.hp_mount_files.specs.Places.{all_maps, all_tasks}
+
+-- how many pages a shared map of a range of a file asks for
+abbrev pub wants : MapRange → (file : ℕ) → List File → ℕ
+wants range file fs = asked Shared Reserve range.start range.pages (file_at fs file)
+
+-- the file with a shared map of the range more
+abbrev pub with_shared : MapRange → (number file : ℕ) → List File → File
+with_shared range number file fs =
+    mapped range.task number range.start range.pages Shared Reserve (file_at fs file)
+
+-- the least number that none of the task's maps has
+abbrev pub next_of : (task : ℕ) → List File → ℕ
+next_of task fs = least_unused (numbers_of task (all_maps fs))
+
+-- the task has no map yet
+abbrev pub is_first_of : (task : ℕ) → List File → Bool
+is_first_of task fs = not (is_among task (all_tasks fs))
 
 module _ {X : Type 0} (took : X → Section → PoolAnswer → X → Type 0) (full : X → Type 0) (home k : ℕ) (s : Subpool) (d : X) where
   -- k more are granted, by a section where the minimum does not cover them

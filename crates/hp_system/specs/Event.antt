@@ -1,5 +1,5 @@
--- An event on a slot, carried out on the slot and the pool.
-use Rattle.std.specs.Prelude.{◌≡◌, ℕ}
+-- An event on a slot, carried out on the slot and the pool, and as a step of the machine.
+use Rattle.std.specs.Prelude.{◌≡◌, ℕ, length}
 use Rattle.hp_model.specs.declared.event.SlotEvent.{SlotEvent}
 use Rattle.hp_model.specs.declared.section.PoolAnswer.{PoolAnswer}
 use Rattle.hp_model.specs.declared.section.Section.{Section}
@@ -9,6 +9,8 @@ use Rattle.hp_model.specs.Plan.{Choice, Reply, Slot}
 use Rattle.hp_model.specs.Pool.{section}
 use Rattle.hp_model.specs.PoolCounts.{Pool}
 use Rattle.hp_model.specs.SlotEvent.{slot_event}
+use Rattle.hp_model.specs.State.{State}
+use Rattle.hp_model.specs.Step.{IsScript, finding, on_slot}
 
 -- the pool by itself: a section gives its answer, and leaves the pool
 abbrev pub took : Pool → Section → PoolAnswer → Pool → Type 0
@@ -18,3 +20,11 @@ took p s a q = section p s ≡ (a, q)
 abbrev pub IsCarried : (size k : ℕ) (p : Pool) (old : Slot) → SlotEvent → Reply → (new : Slot) (q : Pool) → Type 0
 IsCarried size k p old e reply new q =
     (c : Choice) × IsFresh c old × ThroughDoor took (slot_event size k c old e) old p reply new q
+
+-- the machine did the event on the slot of that number, if it is there
+abbrev pub DoesOnSlot : State → (k : ℕ) → SlotEvent → Reply → State → Type 0
+DoesOnSlot s k e reply t = IsScript s (on_slot (length s.slots) k e) reply t
+
+-- and that of a task with its home, if the task is there
+abbrev pub DoesOfTask : State → (task k : ℕ) → (ℕ → SlotEvent) → Reply → State → Type 0
+DoesOfTask s task k e reply t = IsScript s (finding task (λ home. on_slot (length s.slots) k (e home))) reply t

@@ -16,7 +16,7 @@ ghost use Rattle.hp_subpool.specs.Subpool.{Subpool as ShareValue};
 ghost use Rattle.hp_mount.specs.Alone.{IsDoneAlone};
 ghost use Rattle.hp_mount.specs.Done.{Tried, IsDone};
 ghost use Rattle.hp_mount.specs.Found.{first_of};
-ghost use Rattle.hp_mount.specs.Making.{create_tests, map_tests, numbered};
+ghost use Rattle.hp_mount.specs.Making.{create_tests, map_event, map_plan, numbered, why_no_map};
 
 use super::Mount;
 use hp_model::answer::{Answer, Reply};
@@ -113,10 +113,10 @@ impl<N: Naming> Mount<N> {
     fn next_map(&self, range: &MapRange) -> Result<NextMap, Refusal>
         ensures number { IfOk result (λ next. next.number ≡ next_number range.now.task self.now) }
         ensures first { IfOk result (λ next. next.is_first ≡ not (is_among range.now.task (tasks_of self.now))) }
-        ensures pass { OnOk result (first_of (map_tests self.now range.now.task range.now.start range.now.pages) ≡ None) }
+        ensures pass { OnOk result (why_no_map self.now range.now ≡ None) }
         ensures few { OnOk result (length (maps_of self.now) < 4096) }
         ensures reach { OnOk result (range.now.start + range.now.pages ≤ 1048576) }
-        ensures err { IfErr result (λ e. first_of (map_tests self.now range.now.task range.now.start range.now.pages) ≡ Some e) }
+        ensures err { IfErr result (λ e. why_no_map self.now range.now ≡ Some e) }
     {
         let pages = range.pages;
         if pages == 0 || range.start > MOST_FILE_PAGES || pages > MOST_FILE_PAGES - range.start {
@@ -148,7 +148,8 @@ impl<N: Naming> Mount<N> {
         requires few { length (maps_of self.old) < 4096 }
         requires number { next.number ≡ next_number range.now.task self.old }
         requires first { next.is_first ≡ not (is_among range.now.task (tasks_of self.old)) }
-        ensures done { Tried D.took D.is_full (λ c. grant c self.old home (asked Shared Reserve range.now.start range.now.pages (file_in self.old file)) (Answered (MapNo next.number) (Some (with_file self.old file (mapped range.now.task next.number range.now.start range.now.pages Shared Reserve (file_in self.old file)))))) (Some self.old) door.old (numbered next.number result) (Some self.new) door.new }
+        ensures done { Tried D.took D.is_full (map_plan self.old range.now next.number home file)
+            (Some self.old) door.old (numbered next.number result) (Some self.new) door.new }
         ensures left { D.is_left door.new }
     {
         let wanted = self.files.wanted(file, range);
@@ -172,7 +173,8 @@ impl<N: Naming> Mount<N> {
     ) -> Reply
         requires shares { (s : ShareValue) → D.share_of s ≡ s }
         requires ready { D.is_ready door.old }
-        ensures done { (size k : ℕ) → IsDone D.took D.is_full size k (Some self.old) door.old (MapEvent range.now.task home name.now range.now.start range.now.pages Shared Reserve) result (Some self.new) door.new }
+        ensures done { (size k : ℕ) → IsDone D.took D.is_full size k (Some self.old) door.old
+            (map_event home name.now range.now) result (Some self.new) door.new }
         ensures left { D.is_left door.new }
     {
         let Some(file) = self.files.named(name) else {

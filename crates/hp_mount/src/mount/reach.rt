@@ -14,7 +14,7 @@ ghost use Rattle.hp_model.specs.Promises.{file_in, is_backed, map_in};
 ghost use Rattle.hp_model.specs.declared.step.Intent.TheVariants.{Read, Write};
 ghost use Rattle.hp_model.specs.Spot.{Spot, cell_written};
 ghost use Rattle.hp_subpool.specs.Subpool.{Subpool as ShareValue};
-ghost use Rattle.hp_mount.specs.Done.{Tried, IsDone, done};
+ghost use Rattle.hp_mount.specs.Done.{IsAccessed, IsDone, IsReached};
 ghost use Rattle.hp_mount.specs.Found.{Fits, IsPlaced, IsTouched, first_of, spot_at, spot_of, tests_of, why_not};
 
 use super::Mount;
@@ -57,7 +57,8 @@ impl<N: Naming> Mount<N> {
         requires file { file < length self.old.files }
         requires below { index < length (file_in self.old file).cells }
         requires entered { cell_at (file_in self.old file) index ≡ Entered }
-        ensures done { (s : Spot) → s.file_no ≡ file → s.file ≡ file_in self.old file → Tried D.took D.is_full (λ c. shared_access c N.page_bytes self.old s home index (cell_at s.file index)) (Some self.old) door.old (done result) (Some self.new) door.new }
+        ensures done { IsReached D.took D.is_full N.page_bytes home file index
+            self.old door.old result self.new door.new }
         ensures left { D.is_left door.new }
         ensures memory { result ≢ Err Refusal.OutOfMemory }
         ensures same { IsTouched self.old self.new file }
@@ -82,7 +83,8 @@ impl<N: Naming> Mount<N> {
         requires file { file < length self.old.files }
         requires below { index < length (file_in self.old file).cells }
         requires hole { cell_at (file_in self.old file) index ≡ Hole }
-        ensures done { (s : Spot) → s.file_no ≡ file → s.file ≡ file_in self.old file → Tried D.took D.is_full (λ c. shared_access c N.page_bytes self.old s home index (cell_at s.file index)) (Some self.old) door.old (done result) (Some self.new) door.new }
+        ensures done { IsReached D.took D.is_full N.page_bytes home file index
+            self.old door.old result self.new door.new }
         ensures left { D.is_left door.new }
         ensures same { IsTouched self.old self.new file }
     {
@@ -120,9 +122,11 @@ impl<N: Naming> Mount<N> {
         requires ready { D.is_ready door.old }
         requires file { file < length self.old.files }
         requires below { index < length (file_in self.old file).cells }
-        ensures done { (s : Spot) → s.file_no ≡ file → s.file ≡ file_in self.old file → Tried D.took D.is_full (λ c. shared_access c N.page_bytes self.old s home index (cell_at s.file index)) (Some self.old) door.old (done result) (Some self.new) door.new }
+        ensures done { IsReached D.took D.is_full N.page_bytes home file index
+            self.old door.old result self.new door.new }
         ensures left { D.is_left door.new }
-        ensures memory { is_entered (cell_at (file_in self.old file) index) ≡ true → result ≢ Err Refusal.OutOfMemory }
+        ensures memory { is_entered (cell_at (file_in self.old file) index) ≡ true
+            → result ≢ Err Refusal.OutOfMemory }
         ensures same { IsTouched self.old self.new file }
     {
         let _files = &self.files;
@@ -148,9 +152,11 @@ impl<N: Naming> Mount<N> {
         requires file { at.file < length self.old.files }
         requires below { index < length (file_in self.old at.file).cells }
         requires shared { is_shared (spot_at self.old at.file at.map).map.sharing ≡ true }
-        ensures done { Tried D.took D.is_full (λ c. access c N.page_bytes self.old (spot_at self.old at.file at.map) home index intent) (Some self.old) door.old (done result) (Some self.new) door.new }
+        ensures done { IsAccessed D.took D.is_full N.page_bytes home at index intent
+            self.old door.old result self.new door.new }
         ensures left { D.is_left door.new }
-        ensures memory { is_entered (cell_at (file_in self.old at.file) index) ≡ true → result ≢ Err Refusal.OutOfMemory }
+        ensures memory { is_entered (cell_at (file_in self.old at.file) index) ≡ true
+            → result ≢ Err Refusal.OutOfMemory }
         ensures same { IsTouched self.old self.new at.file }
     {
         let _intent = intent;
@@ -168,7 +174,8 @@ impl<N: Naming> Mount<N> {
     ) -> Option<Refusal>
         requires file { at.file < length self.now.files }
         requires map { at.map < length (file_in self.now at.file).maps }
-        ensures refused { result ≡ first_of (byte_tests page_bytes index offset count (spot_at self.now at.file at.map)) }
+        ensures refused { result
+            ≡ first_of (byte_tests page_bytes index offset count (spot_at self.now at.file at.map)) }
         ensures below { IfNone result (index < length (file_in self.now at.file).cells) }
         ensures fits { IfNone result (offset + count ≤ page_bytes) }
         ensures few { IfNone result (count ≤ 256) }
@@ -209,7 +216,8 @@ impl<N: Naming> Mount<N> {
     fn refused(&self, page_bytes: u64, at: MapPlace, index: u64, asked: Asked) -> Option<Refusal>
         requires file { at.file < length self.now.files }
         requires map { at.map < length (file_in self.now at.file).maps }
-        ensures refused { result ≡ first_of (tests_of page_bytes index asked (spot_at self.now at.file at.map)) }
+        ensures refused { result
+            ≡ first_of (tests_of page_bytes index asked (spot_at self.now at.file at.map)) }
         ensures below { IfNone result (index < length (file_in self.now at.file).cells) }
         ensures fits { IfNone result (Fits page_bytes asked) }
     {
@@ -248,9 +256,11 @@ impl<N: Naming> Mount<N> {
         requires pages { (p : PageValue) → D.page_of p ≡ p }
         requires ready { D.is_ready door.old }
         ensures done { (k : ℕ) → IsDone D.took D.is_full N.page_bytes k (Some self.old) door.old
-            (Fault access.now.task home access.now.map access.now.index intent) result (Some self.new) door.new }
+            (Fault access.now.task home access.now.map access.now.index intent)
+            result (Some self.new) door.new }
         ensures left { D.is_left door.new }
-        ensures memory { is_backed intent (spot_of access.now self.old) access.now.index ≡ true → result ≢ Err Refusal.OutOfMemory }
+        ensures memory { is_backed intent (spot_of access.now self.old) access.now.index ≡ true
+            → result ≢ Err Refusal.OutOfMemory }
     {
         let at = match self.place(0, access, Asked::Page) {
             Ok(at) => at,
@@ -277,9 +287,11 @@ impl<N: Naming> Mount<N> {
         requires ready { D.is_ready door.old }
         requires page_bytes { page_bytes ≡ N.page_bytes }
         ensures done { (k : ℕ) → IsDone D.took D.is_full N.page_bytes k (Some self.old) door.old
-            (Load access.now.task home access.now.map access.now.index offset count) result (Some self.new) door.new }
+            (Load access.now.task home access.now.map access.now.index offset count)
+            result (Some self.new) door.new }
         ensures left { D.is_left door.new }
-        ensures memory { is_backed Read (spot_of access.now self.old) access.now.index ≡ true → result ≢ Err Refusal.OutOfMemory }
+        ensures memory { is_backed Read (spot_of access.now self.old) access.now.index ≡ true
+            → result ≢ Err Refusal.OutOfMemory }
     {
         let at = match self.place(page_bytes, access, Asked::Bytes { offset, count }) {
             Ok(at) => at,
@@ -306,9 +318,11 @@ impl<N: Naming> Mount<N> {
         requires ready { D.is_ready door.old }
         requires page_bytes { page_bytes ≡ N.page_bytes }
         ensures done { (k : ℕ) → IsDone D.took D.is_full N.page_bytes k (Some self.old) door.old
-            (Store access.now.task home access.now.map access.now.index offset bytes.now) result (Some self.new) door.new }
+            (Store access.now.task home access.now.map access.now.index offset bytes.now)
+            result (Some self.new) door.new }
         ensures left { D.is_left door.new }
-        ensures memory { is_backed Write (spot_of access.now self.old) access.now.index ≡ true → result ≢ Err Refusal.OutOfMemory }
+        ensures memory { is_backed Write (spot_of access.now self.old) access.now.index ≡ true
+            → result ≢ Err Refusal.OutOfMemory }
     {
         let count = bytes.len() as u64;
         let at = match self.place(page_bytes, access, Asked::Bytes { offset, count }) {
@@ -327,7 +341,8 @@ impl<N: Naming> Mount<N> {
         requires file { file < length self.old.files }
         requires below { index < length (file_in self.old file).cells }
         requires fits { offset + length bytes.now ≤ N.page_bytes }
-        ensures { self.new ≡ with_file self.old file (with_cell (file_in self.old file) index (cell_written offset bytes.now (cell_at (file_in self.old file) index))) }
+        ensures { self.new ≡ with_file self.old file (with_cell (file_in self.old file) index
+            (cell_written offset bytes.now (cell_at (file_in self.old file) index))) }
     {
         self.files.write(file, index, offset, bytes);
     }
@@ -338,7 +353,8 @@ impl<N: Naming> Mount<N> {
         requires map { at.map < length (file_in self.now at.file).maps }
         requires within { offset + count ≤ N.page_bytes }
         requires few { count ≤ 256 }
-        ensures { result ≡ bytes_answer offset count (value N.page_bytes (file_in self.now at.file) (map_in (file_in self.now at.file) at.map) index) }
+        ensures { result ≡ bytes_answer offset count
+            (value N.page_bytes (file_in self.now at.file) (map_in (file_in self.now at.file) at.map) index) }
     {
         match self.files.shown(at, index) {
             Some(page) => bytes_answer(page, offset, count),
@@ -366,7 +382,8 @@ fn bytes_answer(page: &[u8], offset: usize, count: usize) -> Answer
 
 /// The answer with `count` zeros.
 fn no_bytes(count: usize) -> Answer
-    ensures { (size offset : ℕ) → offset + count ≤ size → count ≤ 256 → result ≡ bytes_answer offset count (zeros size) }
+    ensures { (size offset : ℕ) → offset + count ≤ size → count ≤ 256
+        → result ≡ bytes_answer offset count (zeros size) }
 {
     Answer::Bytes {
         count: count as u64,

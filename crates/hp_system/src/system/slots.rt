@@ -4,10 +4,10 @@ ghost use Rattle.hp_model.specs.declared.refusal.Refusal.TheVariants as Refusal;
 ghost use Rattle.hp_model.specs.declared.event.SlotEvent.TheVariants.{Mount as Mounting, Umount as Umounting};
 ghost use Rattle.hp_model.specs.Options.{limits, wanted_of};
 ghost use Rattle.hp_model.specs.State.{slot_at};
-ghost use Rattle.hp_model.specs.Step.{IsScript, finding, on_slot};
 ghost use Rattle.hp_model.specs.Writing.{IsWithinLimits};
 ghost use Rattle.hp_mount.specs.Event.{event_of, is_usage};
 ghost use Rattle.hp_mount.specs.Memory.{asks_memory};
+ghost use Rattle.hp_system.specs.Event.{DoesOfTask, DoesOnSlot};
 
 use super::System;
 use hp_model::answer::{Answer, Reply};
@@ -40,7 +40,7 @@ impl<N: Naming> System<N> {
     // - NoPages: with the minimum more pages would be committed than nr and overcommit together, or
     //   than all frames.
     pub(crate) fn mount(&mut self, slot: u64, options: &Bytes) -> Reply
-        ensures done { IsScript self.old (on_slot (length self.old.slots) slot (Mounting options.now)) result self.new }
+        ensures done { DoesOnSlot self.old slot (Mounting options.now) result self.new }
         ensures memory { result ≢ Err Refusal.OutOfMemory }
         ensures size { self.new.page_size ≡ self.old.page_size }
     {
@@ -67,7 +67,7 @@ impl<N: Naming> System<N> {
     // - NoSuchSlot: there is no such slot, or it is not mounted.
     // - Busy: it is slot 0, or a task has a map there.
     pub(crate) fn umount(&mut self, slot: u64) -> Reply
-        ensures done { IsScript self.old (on_slot (length self.old.slots) slot Umounting) result self.new }
+        ensures done { DoesOnSlot self.old slot Umounting result self.new }
         ensures memory { result ≢ Err Refusal.OutOfMemory }
         ensures size { self.new.page_size ≡ self.old.page_size }
     {
@@ -90,11 +90,13 @@ impl<N: Naming> System<N> {
         Ok(Answer::Done)
     }
 
-    // What a step asks of the mount of a slot, for a task with that home node. Refused as NoSuchSlot where there is no
-    // such slot or it is not mounted, and else as the mount refuses it; then nothing changes.
+    // What a step asks of the mount of a slot, for a task with that home node. Refused as NoSuchSlot
+    // where there is no such slot or it is not mounted, and else as the mount refuses it; then
+    // nothing changes.
     pub(crate) fn on_slot(&mut self, slot: u64, home: u64, event: MountEvent<'_>) -> Reply
-        ensures done { IsScript self.old (on_slot (length self.old.slots) slot (event_of home event.entry)) result self.new }
-        ensures memory { asks_memory (slot_at self.old slot) (event_of home event.entry) ≡ false → result ≢ Err Refusal.OutOfMemory }
+        ensures done { DoesOnSlot self.old slot (event_of home event.entry) result self.new }
+        ensures memory { asks_memory (slot_at self.old slot) (event_of home event.entry) ≡ false
+            → result ≢ Err Refusal.OutOfMemory }
         ensures limits { is_usage (event_of home event.entry) ≡ true → IsWithinLimits result }
         ensures size { self.new.page_size ≡ self.old.page_size }
     {
@@ -111,8 +113,9 @@ impl<N: Naming> System<N> {
 
     // The same for a task. Refused as NoSuchTask where it is not there.
     pub(crate) fn of_task(&mut self, task: u64, slot: u64, event: MountEvent<'_>) -> Reply
-        ensures done { IsScript self.old (finding task (λ home. on_slot (length self.old.slots) slot (event_of home event.entry))) result self.new }
-        ensures memory { asks_memory (slot_at self.old slot) (event_of 0 event.entry) ≡ false → result ≢ Err Refusal.OutOfMemory }
+        ensures done { DoesOfTask self.old task slot (λ home. event_of home event.entry) result self.new }
+        ensures memory { asks_memory (slot_at self.old slot) (event_of 0 event.entry) ≡ false
+            → result ≢ Err Refusal.OutOfMemory }
         ensures size { self.new.page_size ≡ self.old.page_size }
     {
         match self.table.home(task) {

@@ -66,8 +66,8 @@ impl<N: Naming> System<N> {
     /// its limit, and minimums stay committed; a load answers what its map shows, and a file shows what
     /// was stored through its maps, until an umount ends it.
     ///
-    /// Refused as the step's own function is, and as BadLine where the step is not built yet. Only a step that
-    /// makes a file or a map, and an access that nothing backs, can be refused memory.
+    /// Refused as the step's own function is, and as BadLine where the step is not built yet. Only a
+    /// step that makes a file or a map, and an access that nothing backs, can be refused memory.
     pub fn apply(&mut self, step: &Step) -> Reply
         ensures step { IsStep self.old step.now result self.new }
         ensures promised { IsPromised self.old step.now result self.new }
@@ -82,7 +82,8 @@ impl<N: Naming> System<N> {
     // Maps indices of a file, shared.
     #[tactic(auto, unfolding(hp_model::specs::Step::IsStep))]
     fn map_shared(&mut self, task: u64, slot: u64, name: &Bytes, start: u64, pages: u64) -> Reply
-        ensures step { IsStep self.old (MapStep task slot name.now start pages Shared Reserve) result self.new }
+        ensures step { IsStep self.old (MapStep task slot name.now start pages Shared Reserve)
+            result self.new }
         ensures size { self.new.page_size ≡ self.old.page_size }
     {
         let event = MountEvent::Map {
@@ -160,8 +161,8 @@ impl<N: Naming> System<N> {
         }
     }
 
-    /// Does steps one after another, and answers their replies, each as `apply` promises. Room for the replies is made first:
-    /// where it is refused, nothing is done.
+    /// Does steps one after another, and answers their replies, each as `apply` promises. Room for the
+    /// replies is made first: where it is refused, nothing is done.
     pub fn run(&mut self, alloc: Global, steps: &[Step]) -> Result<Vec<Reply>, AllocError>
         ensures run { IfOk result (λ replies. IsPromisedRun self.old steps.now replies.items self.new) }
         ensures size { self.new.page_size ≡ self.old.page_size }
