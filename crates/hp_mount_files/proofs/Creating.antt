@@ -11,14 +11,15 @@ use Rattle.hp_model.specs.Lists.{distinct, found}
 use Rattle.hp_model.specs.SlotEvent.{has_name}
 use Rattle.hp_store.specs.Store.{Store}
 use Rattle.hp_mount_files.specs.Held.{IsHeld, in_cell, in_cells, in_file, in_files}
-use Rattle.hp_mount_files.specs.Keyed.{IsFiles, IsKeyed, Label, has_label, keys_in, label_of, labels_of, tasks_in}
+use Rattle.hp_mount_files.specs.Hints.{AreNoted, IsFiles, IsMore, Noted, has_name as has_noted}
+use Rattle.hp_mount_files.specs.Keyed.{IsKeyed, Label, has_label, keys_in, label_of, labels_of, tasks_in}
 use Rattle.hp_mount_files.specs.Numbered.{NumberedFile, files_shown, numbered_at}
 use Rattle.hp_mount_files.proofs.Unique.{names_counted, none_found}
 
 abbrev pub empty_file : List ℕ → NumberedFile
 empty_file name = record { name = Some name; cells = []; maps = [] }
 
-module _ (s : Store) (more maps tasks : ℕ) (fs : List NumberedFile) (name : List ℕ) (is : IsFiles s more maps tasks fs) (new : found (has_name name) (files_shown s fs) ≡ None) where
+module _ (old now : Noted) (s : Store) (more maps tasks : ℕ) (fs : List NumberedFile) (name : List ℕ) (is : IsFiles old s more maps tasks fs) (new : found (has_name name) (files_shown s fs) ≡ None) where
   abbrev gs : List NumberedFile
   gs = fs ++ empty_file name ∷ []
 
@@ -76,5 +77,27 @@ module _ (s : Store) (more maps tasks : ℕ) (fs : List NumberedFile) (name : Li
     task_count = is.keyed.task_count ∙ ap (λ ts. length (distinct ts)) (sym (flat_map-append tasks_in (labels_of fs) (label_of (empty_file name) ∷ []) ∙ append-nil (flat_map tasks_in (labels_of fs))));
   })
 
-  pub created : (f : NumberedFile) (hs : List NumberedFile) → f ≡ empty_file name → hs ≡ fs ++ f ∷ [] → IsFiles s more maps tasks hs
-  created f hs f_is hs_is = subst (IsFiles s more maps tasks) (sym (hs_is ∙ ap (λ x. fs ++ x ∷ []) f_is)) (record { held = held; keyed = keyed })
+  -- only its own name is new
+  module _ (grown : IsMore old now) (own : has_noted name now ≡ true) where
+    other_name : (other : List ℕ) (b : Bool) → bytes_eq name other ≡ b → has_noted other now ≡ false → b ≡ false
+    other_name other true e none =
+        let same : name ≡ other = (bytes_eq-Decides name other).0 e in
+        let known = subst (λ n. has_noted n now ≡ true) same own in
+        cc
+    other_name other false e none = refl
+
+    noted : AreNoted now (labels_of gs)
+    noted = subst (AreNoted now) (sym labels) (record {
+      names = λ other e.
+          let step = sum_by_push (λ (l : Label). cond {A = ℕ} (has_label other l) 1 0) (labels_of fs) (label_of (empty_file name)) in
+          let before = is.noted.names other (grown.names other e) in
+          let last = ap (λ b. cond {A = ℕ} b 1 0) (other_name other (bytes_eq name other) refl e) in
+          omega (arith, step, before, last);
+      keys = λ task number e.
+          let step = sum_by_push (keys_in task number) (labels_of fs) (label_of (empty_file name)) in
+          let before = is.noted.keys task number (grown.keys task number e) in
+          omega (arith, step, before);
+    })
+
+    pub created : (f : NumberedFile) (hs : List NumberedFile) → f ≡ empty_file name → hs ≡ fs ++ f ∷ [] → IsFiles now s more maps tasks hs
+    created f hs f_is hs_is = subst (IsFiles now s more maps tasks) (sym (hs_is ∙ ap (λ x. fs ++ x ∷ []) f_is)) (record { held = held; keyed = keyed; noted = noted })

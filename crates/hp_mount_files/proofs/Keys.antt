@@ -3,7 +3,10 @@ use Rattle.std.proofs.Common.{◌≡◌, ℕ, zero, suc, List, [], ◌∷◌, ma
 use Rattle.std.specs.Prelude.{slice_set, slice_index_or}
 use Rattle.std.proofs.lemmas.List.{map-set, set-get_or}
 use Rattle.hp_model.specs.Mapping.{Mapping}
-use Rattle.hp_mount_files.specs.Keyed.{IsKeyed, key_of, label_of, labels_of}
+use Rattle.hp_store.specs.Store.{Store}
+use Rattle.hp_mount_files.specs.Held.{IsHeld}
+use Rattle.hp_mount_files.specs.Hints.{AreNoted, IsFiles, IsMore, Noted}
+use Rattle.hp_mount_files.specs.Keyed.{IsKeyed, Label, key_of, label_of, labels_of}
 use Rattle.hp_mount_files.specs.Numbered.{NumberedFile, mapping_at, no_mapping}
 
 pub set_read : {Y : Type 0} (xs : List Y) (j : ℕ) (d : Y) → slice_set xs j (slice_index_or xs j d) ≡ xs
@@ -21,5 +24,22 @@ pub labels_stay : (fs : List NumberedFile) (k : ℕ) (x g : NumberedFile) → x 
 labels_stay fs k x g read same =
     map-set label_of fs k g ∙ ap (slice_set (labels_of fs) k) same ∙ sym (map-set label_of fs k x) ∙ ap labels_of (ap (slice_set fs k) read ∙ set-get_or fs k x)
 
-pub keyed_same : (maps tasks : ℕ) (fs : List NumberedFile) (k : ℕ) (x g : NumberedFile) → x ≡ slice_index_or fs k x → label_of g ≡ label_of x → IsKeyed maps tasks (labels_of fs) → IsKeyed maps tasks (labels_of (slice_set fs k g))
-keyed_same maps tasks fs k x g read same keyed = subst (IsKeyed maps tasks) (sym (labels_stay fs k x g read same)) keyed
+-- a file that keeps its label keeps what holds of all
+pub files_same : (n : Noted) (s t : Store) (more maps tasks : ℕ) (fs : List NumberedFile) (k : ℕ) (x g : NumberedFile) → x ≡ slice_index_or fs k x → label_of g ≡ label_of x
+    → IsFiles n s more maps tasks fs → IsHeld t more (slice_set fs k g) → IsFiles n t more maps tasks (slice_set fs k g)
+files_same n s t more maps tasks fs k x g read same is held =
+    let stay = sym (labels_stay fs k x g read same) in
+    record {
+      held = held;
+      keyed = subst (IsKeyed maps tasks) stay is.keyed;
+      noted = subst (AreNoted n) stay is.noted;
+    }
+
+-- as much was noted as before, or more
+pub noted_more : (old new : Noted) (ls : List Label) → IsMore old new → AreNoted old ls → AreNoted new ls
+noted_more old new ls more are =
+    record { names = λ name e. are.names name (more.names name e); keys = λ task number e. are.keys task number (more.keys task number e) }
+
+pub files_noted : (old new : Noted) (s : Store) (more maps tasks : ℕ) (fs : List NumberedFile) → IsMore old new → IsFiles old s more maps tasks fs → IsFiles new s more maps tasks fs
+files_noted old new s more maps tasks fs grown is =
+    record { held = is.held; keyed = is.keyed; noted = noted_more old new (labels_of fs) grown is.noted }

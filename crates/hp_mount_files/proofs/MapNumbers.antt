@@ -1,16 +1,12 @@
 -- The numbers of a task's maps, and the next one.
-use Rattle.std.proofs.Common.{◌≡◌, ℕ, zero, suc, ◌+◌, ◌<◌, ◌≤◌, ◌==◌, ◌||◌, ⊎_elim, Bool, true, false, not, cond, List, [], ◌∷◌, ◌++◌, length, map, take, refl, sym, ap, subst, ◌∙◌, arith}
-use Rattle.std.specs.Prelude.{slice_index_or}
+use Rattle.std.proofs.Common.{◌≡◌, ℕ, zero, suc, ◌+◌, ◌<◌, ◌≤◌, ◌==◌, ◌||◌, ⊎_elim, Bool, true, false, not, cond, List, [], ◌∷◌, ◌++◌, length, map, refl, sym, ap, subst, ◌∙◌, arith}
 use Rattle.std.specs.List.{count_by, filter, flat_map, position_or_len, range_with_len}
 use Rattle.std.proofs.lemmas.Bool.{cases_lt}
 use Rattle.std.proofs.lemmas.Bool.Decides.{nat_tests}
-use Rattle.std.proofs.lemmas.Grind.{flat_map-append}
-use Rattle.std.proofs.lemmas.List.{append_assoc, append-nil, length-append, length-map, map-append}
+use Rattle.std.proofs.lemmas.List.{map-append}
 use Rattle.std.proofs.lemmas.List.Elements.{filter-append}
-use Rattle.std.proofs.lemmas.List.Folds.{length-flat_map-take}
 use Rattle.std.proofs.lemmas.List.FromFn.{get_or-range_with_len, length-range_with_len}
 use Rattle.std.proofs.lemmas.List.Sums.{fails_before_first, passes_at_first}
-use Rattle.std.proofs.Math.Seq.{take-suc}
 use Rattle.hp_model.specs.Lists.{distinct, is_among, least_unused}
 use Rattle.hp_model.specs.MakeMap.{numbers_of}
 use Rattle.hp_model.specs.Mapping.{Map, Mapping, is_of}
@@ -20,9 +16,7 @@ use Rattle.hp_model.proofs.Finding as finding
 use Rattle.hp_store.specs.Store.{Store}
 use Rattle.hp_mount_files.specs.Keyed.{numbers_in}
 use Rattle.hp_mount_files.specs.Numbered.{NumberedFile, files_shown, map_shown}
-use Rattle.hp_mount_files.specs.Numbers.{HasNumbers}
 use Rattle.hp_mount_files.specs.Places.{all_maps}
-use Rattle.hp_mount_files.specs.declared.numbers.Numbers.{Numbers}
 use Rattle.hp_mount_files.proofs.Unique.{none_found}
 
 -- ---- the numbers of a task's maps
@@ -30,66 +24,8 @@ use Rattle.hp_mount_files.proofs.Unique.{none_found}
 pub numbers_append : (task : ℕ) (xs ys : List (Mapping ℕ)) → numbers_in task (xs ++ ys) ≡ numbers_in task xs ++ numbers_in task ys
 numbers_append task xs ys = ap (map (λ m. m.number)) (filter-append (is_of task) xs ys) ∙ map-append (λ m. m.number) (filter (is_of task) xs) (filter (is_of task) ys)
 
-number_if : (b : Bool) (m : Mapping ℕ) → map (λ (x : Mapping ℕ). x.number) (cond b (m ∷ []) []) ≡ cond b (m.number ∷ []) []
-number_if true m = refl
-number_if false m = refl
-
-next_in : (task : ℕ) (maps : List (Mapping ℕ)) (i : ℕ) (m d : Mapping ℕ) (b : Bool) → i < length maps → m ≡ slice_index_or maps i d → is_of task m ≡ b → numbers_in task (take (suc i) maps) ≡ numbers_in task (take i maps) ++ cond b (m.number ∷ []) []
-next_in task maps i m d b l e is =
-    ap (numbers_in task) (take-suc maps i d l ∙ ap (λ x. take i maps ++ x ∷ []) (sym e)) ∙ numbers_append task (take i maps) (m ∷ [])
-    ∙ ap (λ ns. numbers_in task (take i maps) ++ ns) (number_if (is_of task m) m ∙ ap (λ c. cond c (m.number ∷ []) []) is)
-
--- one map more was looked at: it is the task's, and its number was added; or it is another's
-pub number_more : (task : ℕ) (maps : List (Mapping ℕ)) (i j : ℕ) (m d : Mapping ℕ) (old new : Numbers) (xs : List ℕ) → i < length maps → m ≡ slice_index_or maps i d → is_of task m ≡ true → j ≡ i + 1
-    → HasNumbers new ((xs ++ numbers_in task (take i maps)) ++ m.number ∷ []) → HasNumbers new (xs ++ numbers_in task (take j maps))
-number_more task maps i j m d old new xs l e is next has =
-    let j_is : j ≡ suc i = omega (arith, next) in
-    subst (λ ns. HasNumbers new ns) (append_assoc xs (numbers_in task (take i maps)) (m.number ∷ []) ∙ ap (λ ns. xs ++ ns) (sym (next_in task maps i m d true l e is)) ∙ ap (λ k. xs ++ numbers_in task (take k maps)) (sym j_is)) has
-
-pub number_not : (task : ℕ) (maps : List (Mapping ℕ)) (i j : ℕ) (m d : Mapping ℕ) (new : Numbers) (xs : List ℕ) → i < length maps → m ≡ slice_index_or maps i d → is_of task m ≡ false → j ≡ i + 1
-    → HasNumbers new (xs ++ numbers_in task (take i maps)) → HasNumbers new (xs ++ numbers_in task (take j maps))
-number_not task maps i j m d new xs l e is next has =
-    let j_is : j ≡ suc i = omega (arith, next) in
-    subst (λ ns. HasNumbers new ns) (ap (λ ns. xs ++ ns) (sym (next_in task maps i m d false l e is ∙ append-nil (numbers_in task (take i maps)))) ∙ ap (λ k. xs ++ numbers_in task (take k maps)) (sym j_is)) has
-
 abbrev maps_in : List NumberedFile → List (Mapping ℕ)
 maps_in fs = flat_map (λ f. f.maps) fs
-
--- one file more was looked at
-pub numbers_more : (task : ℕ) (files : List NumberedFile) (i j : ℕ) (f : NumberedFile) (d : NumberedFile) (new : Numbers) → i < length files → f ≡ slice_index_or files i d → j ≡ i + 1
-    → HasNumbers new (numbers_in task (flat_map (λ f. f.maps) (take i files)) ++ numbers_in task f.maps) → HasNumbers new (numbers_in task (flat_map (λ f. f.maps) (take j files)))
-numbers_more task files i j f d new l e next has =
-    let j_is : j ≡ suc i = omega (arith, next) in
-    let all : maps_in (take (suc i) files) ≡ maps_in (take i files) ++ f.maps =
-    ap maps_in (take-suc files i d l ∙ ap (λ x. take i files ++ x ∷ []) (sym e)) ∙ flat_map-append (λ f. f.maps) (take i files) (f ∷ []) ∙ ap (λ ms. maps_in (take i files) ++ ms) (append-nil f.maps) in
-    subst (λ ns. HasNumbers new ns) (sym (numbers_append task (maps_in (take i files)) f.maps) ∙ ap (numbers_in task) (sym all) ∙ ap (λ k. numbers_in task (maps_in (take k files))) (sym j_is)) has
-
-pub maps_so_far : (files : List NumberedFile) (i : ℕ) (f d : NumberedFile) → i < length files → f ≡ slice_index_or files i d → length (flat_map (λ f. f.maps) (take i files)) + length f.maps ≤ length (flat_map (λ f. f.maps) files)
-maps_so_far files i f d l e = let step = length-flat_map-take (λ (f : NumberedFile). f.maps) files i d l in let same = ap (λ (f : NumberedFile). length f.maps) e in omega (arith, step, same)
-
-filter_few : {X : Type 0} (test : X → Bool) (xs : List X) → length (filter test xs) ≤ length xs
-filter_few test [] = omega arith
-filter_few {X} test (x ∷ xs) = either (filter test xs) (test x) (filter_few test xs)
-  where
-    either : (ys : List X) (b : Bool) → length ys ≤ length xs → length (cond b (x ∷ ys) ys) ≤ length (x ∷ xs)
-    either ys true rest = omega (arith, rest)
-    either ys false rest = omega (arith, rest)
-
-pub numbers_few : (task : ℕ) (maps : List (Mapping ℕ)) → length (numbers_in task maps) ≤ length maps
-numbers_few task maps = let few = filter_few (is_of task) maps in let same = length-map (filter (is_of task) maps) (λ (m : Mapping ℕ). m.number) in omega (arith, few, same)
-
-pub few_so_far : (task : ℕ) (files : List NumberedFile) (i n : ℕ) (f : NumberedFile) → n ≡ length (numbers_in task (flat_map (λ f. f.maps) (take i files))) → i < length files → f ≡ slice_index_or files i f
-    → length (flat_map (λ f. f.maps) files) < 4096 → n + length f.maps ≤ 4096
-few_so_far task files i n f n_is l e few = omega (arith, n_is, few, numbers_few task (maps_in (take i files)), maps_so_far files i f f l e)
-
-maps_in_front : (files : List NumberedFile) (i : ℕ) → length (maps_in (take i files)) ≤ length (maps_in files)
-maps_in_front [] zero = omega arith
-maps_in_front [] (suc i) = omega arith
-maps_in_front (f ∷ files) zero = omega arith
-maps_in_front (f ∷ files) (suc i) = omega (arith, maps_in_front files i, length-append f.maps (maps_in (take i files)), length-append f.maps (maps_in files))
-
-pub few_in_all : (task : ℕ) (files : List NumberedFile) (i n : ℕ) → n ≡ length (numbers_in task (flat_map (λ f. f.maps) (take i files))) → length (flat_map (λ f. f.maps) files) < 4096 → n < 4096
-few_in_all task files i n n_is few = omega (arith, n_is, few, numbers_few task (maps_in (take i files)), maps_in_front files i)
 
 -- ---- the tasks that have maps
 
@@ -105,26 +41,6 @@ among_distinct q (x ∷ xs) =
           among_distinct q xs ∙ sym (or_same (x == q) (is_among q xs) (λ same. (let one : x ≡ q = grind (arith, nat_tests, same) in subst (λ k. is_among k xs ≡ true) one e)))
       | false ↦ λ e. ap (λ b. (x == q) || b) (among_distinct q xs)
     ] refl
-
-has_some : (task : ℕ) (maps : List Map) → is_among task (map (λ x. x.task) maps) ≡ not (length (numbers_of task maps) == 0)
-has_some task [] = refl
-has_some task (m ∷ maps) = either (m.task == task) (has_some task maps)
-  where
-    either : (b : Bool) → is_among task (map (λ x. x.task) maps) ≡ not (length (numbers_of task maps) == 0)
-        → (b || is_among task (map (λ x. x.task) maps)) ≡ not (length (map (λ (x : Map). x.number) (cond b (m ∷ filter (is_of task) maps) (filter (is_of task) maps))) == 0)
-    either true rest = grind (arith, nat_tests)
-    either false rest = rest
-
--- a task without a number has no map
-is_first_map : (task : ℕ) (ms : List Map) → is_among task (distinct (map (λ x. x.task) ms)) ≡ not (length (numbers_of task ms) == 0)
-is_first_map task ms = among_distinct task (map (λ x. x.task) ms) ∙ has_some task ms
-
-pub first_if_none : (task : ℕ) (ms : List Map) (n : ℕ) → n ≡ length (numbers_of task ms) → (n == 0) ≡ not (is_among task (distinct (map (λ x. x.task) ms)))
-first_if_none task ms n e = ap (λ k. k == 0) e ∙ twice (length (numbers_of task ms) == 0) ∙ ap not (sym (is_first_map task ms))
-  where
-    twice : (b : Bool) → b ≡ not (not b)
-    twice true = refl
-    twice false = refl
 
 -- a number that is there already counts no more
 pub distinct_again : (n : ℕ) (xs ys : List ℕ) → is_among n (xs ++ ys) ≡ true → length (distinct (xs ++ n ∷ ys)) ≡ length (distinct (xs ++ ys))
@@ -159,9 +75,6 @@ maps_seen s (f ∷ fs) = ap (λ ms. map (map_shown s) f.maps ++ ms) (maps_seen s
 pub numbers_shown : (s : Store) (task : ℕ) (fs : List NumberedFile) → numbers_in task (flat_map (λ f. f.maps) fs) ≡ numbers_of task (all_maps (files_shown s fs))
 numbers_shown s task fs = sym (ap (numbers_of task) (maps_seen s fs) ∙ numbers_seen s task (maps_in fs))
 
-pub maps_shown_len : (s : Store) (fs : List NumberedFile) → length (flat_map (λ f. f.maps) fs) ≡ length (all_maps (files_shown s fs))
-maps_shown_len s fs = sym (ap length (maps_seen s fs) ∙ length-map (maps_in fs) (map_shown s))
-
 -- ---- the least unused number is not used
 
 one_at_most : (x a n : ℕ) → count_by (λ k. x == k) (range_with_len a n) ≤ 1
@@ -193,7 +106,7 @@ either_at_most p q (x ∷ xs) =
     bits false true all left right rest = omega (arith, all, left, right, rest)
     bits false false all left right rest = omega (arith, all, left, right, rest)
 
-few_among : (xs : List ℕ) (a n : ℕ) → count_by (λ k. is_among k xs) (range_with_len a n) ≤ length xs
+pub few_among : (xs : List ℕ) (a n : ℕ) → count_by (λ k. is_among k xs) (range_with_len a n) ≤ length xs
 few_among [] a n = (let none = count_outside (λ k. false) a n (λ i low high. refl) in omega (arith, none))
 few_among (x ∷ xs) a n = (let both = either_at_most (λ k. x == k) (λ k. is_among k xs) (range_with_len a n) in let one = one_at_most x a n in let rest = few_among xs a n in omega (arith, both, one, rest))
 

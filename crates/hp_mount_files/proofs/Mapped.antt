@@ -19,7 +19,8 @@ use Rattle.hp_model.proofs.Distinct.{distinct_put, is_among-append}
 use Rattle.hp_store.specs.Store.{Store}
 use Rattle.hp_mount_files.specs.Files.{file_at, with_file_at}
 use Rattle.hp_mount_files.specs.Held.{IsHeld, in_cell, in_file, in_map, in_place}
-use Rattle.hp_mount_files.specs.Keyed.{IsFiles, IsKeyed, Label, has_label, is_key, key_of, keys_in, label_of, labels_of, numbers_in, tasks_in}
+use Rattle.hp_mount_files.specs.Hints.{AreNoted, IsFiles, IsMore, Noted, has_key}
+use Rattle.hp_mount_files.specs.Keyed.{IsKeyed, Label, has_label, is_key, key_of, keys_in, label_of, labels_of, numbers_in, tasks_in}
 use Rattle.hp_mount_files.specs.Numbered.{NumberedFile, cell_shown, file_shown, files_shown, map_shown, new_mapping, numbered_at, place_shown, with_mapping}
 use Rattle.hp_mount_files.specs.Places.{all_maps, all_tasks}
 use Rattle.hp_mount_files.proofs.Alike.{alike_held}
@@ -196,7 +197,7 @@ module _ (task number a n : ℕ) where
       let none = sum_none (in_place m) n (Live false None) refl in
       omega (arith, cells, maps, none)
 
-  module _ (s : Store) (more maps tasks : ℕ) (fs : List NumberedFile) (k : ℕ) (is : IsFiles s more maps tasks fs) (l : k < length fs) (x g : NumberedFile) (read : x ≡ slice_index_or fs k x) (g_is : g ≡ with_mapping y x) where
+  module _ (old : Noted) (s : Store) (more maps tasks : ℕ) (fs : List NumberedFile) (k : ℕ) (is : IsFiles old s more maps tasks fs) (l : k < length fs) (x g : NumberedFile) (read : x ≡ slice_index_or fs k x) (g_is : g ≡ with_mapping y x) where
     at : x ≡ numbered_at fs k
     at = read_is fs k x l read
 
@@ -273,5 +274,35 @@ module _ (task number a n : ℕ) where
           flip true b e = ap not (sym e)
           flip false b e = ap not (sym e)
 
-      pub map_files : (first : Bool) (tasks_now : ℕ) → first ≡ not (is_among task (all_tasks (files_shown s fs))) → tasks_now ≡ tasks + cond first 1 0 → IsFiles s more (maps + 1) tasks_now (slice_set fs k g)
-      map_files first tasks_now first_is now_is = record { held = map_held; keyed = subst (λ t. IsKeyed (maps + 1) t (labels_of (slice_set fs k g))) (sym now_is) (map_keyed first first_is) }
+      module _ (now : Noted) (grown : IsMore old now) (own : has_key task number now ≡ true) where
+        -- a key that was not noted is another
+        other_key : (t m : ℕ) (b : Bool) → is_key t m (task, number) ≡ b → has_key t m now ≡ false → b ≡ false
+        other_key t m true e none =
+            let parts = and_parts (task == t) (number == m) e in
+            let known = subst (λ q. has_key q m now ≡ true) (eqb-true task t parts.0) (subst (λ q. has_key task q now ≡ true) (eqb-true number m parts.1) own) in
+            cc
+        other_key t m false e none = refl
+
+        map_noted : AreNoted now (labels_of (slice_set fs k g))
+        map_noted = record {
+          names = λ name e.
+              let step = sum_by-set (λ (f : NumberedFile). cond {A = ℕ} (has_label name (label_of f)) 1 0) fs k g no_file l in
+              let before = sum_through (λ (q : Label). cond {A = ℕ} (has_label name q) 1 0) label_of fs in
+              let after = sum_through (λ (q : Label). cond {A = ℕ} (has_label name q) 1 0) label_of (slice_set fs k g) in
+              let same = ap (λ (q : Label). cond {A = ℕ} (has_label name q) 1 0 + 0) label_is in
+              let here = ap (λ (f : NumberedFile). cond {A = ℕ} (has_label name (label_of f)) 1 0 + 0) at in
+              let none = is.noted.names name (grown.names name e) in
+              omega (arith, step, before, after, same, here, none);
+          keys = λ t m e.
+              let step = sum_by-set (λ (f : NumberedFile). keys_in t m (label_of f)) fs k g no_file l in
+              let before = sum_through (keys_in t m) label_of fs in
+              let after = sum_through (keys_in t m) label_of (slice_set fs k g) in
+              let more = keys_more t m in
+              let here = ap (λ (f : NumberedFile). keys_in t m (label_of f)) at in
+              let none = is.noted.keys t m (grown.keys t m e) in
+              let other = ap (λ b. cond {A = ℕ} b 1 0) (other_key t m (is_key t m (task, number)) refl e) in
+              omega (arith, step, before, after, more, here, none, other);
+        }
+
+        pub map_files : (first : Bool) → first ≡ not (is_among task (all_tasks (files_shown s fs))) → IsFiles now s more (maps + 1) (tasks + cond first 1 0) (slice_set fs k g)
+        map_files first first_is = record { held = map_held; keyed = map_keyed first first_is; noted = map_noted }

@@ -11,12 +11,13 @@ use Rattle.hp_model.specs.File.{File, new_file}
 use Rattle.hp_model.specs.Lists.{found, one_on}
 use Rattle.hp_model.specs.Mapping.{Map, Mapping, is_map}
 use Rattle.hp_model.specs.SlotEvent.{has_name}
+use Rattle.hp_model.specs.Spot.{spot_in}
 use Rattle.hp_model.proofs.Counting.{count_alike, count_cons, count_map}
 use Rattle.hp_store.specs.Store.{Store}
 use Rattle.hp_mount_files.specs.Files.{file_at}
 use Rattle.hp_mount_files.specs.Keyed.{IsKeyed, Label, has_label, is_key, is_name_of, key_of, keys_in, label_of, labels_of, tasks_in}
 use Rattle.hp_mount_files.specs.Numbered.{NumberedFile, file_shown, files_shown, map_shown, mapping_at, no_mapping, numbered_at}
-use Rattle.hp_mount_files.specs.Places.{all_maps, has_it, IsFound, IsNamed}
+use Rattle.hp_mount_files.specs.Places.{all_maps, has_it, IsFound, IsMissing, IsNamed}
 use Rattle.hp_mount_files.proofs.Cells.{file_is, no_file}
 use Rattle.hp_mount_files.proofs.Finding.{any_shown, found_at, found_none, map_found, position_shown}
 use Rattle.hp_mount_files.proofs.Lifting.{at_most}
@@ -78,6 +79,16 @@ module _ {X : Type 0} (test : X → Bool) where
       either true none step e = cc
       either false none step e = (let rest = none (rest_none (found test xs) e) in omega (arith, step, rest))
 
+-- ---- none passes
+
+pub zero_found : {X : Type 0} (test : X → Bool) (xs : List X) → count_by test xs ≡ 0 → found test xs ≡ None
+zero_found test [] e = refl
+zero_found test (x ∷ xs) e = (let step = count_cons test x xs in at (test x) step (zero_found test xs))
+  where
+    at : (b : Bool) → count_by test (x ∷ xs) ≡ cond {A = ℕ} b 1 0 + count_by test xs → (count_by test xs ≡ 0 → found test xs ≡ None) → cond b (Some (0, x)) (option_map one_on (found test xs)) ≡ None
+    at true step rest = absurd (omega (arith, step, e))
+    at false step rest = ap (option_map one_on) (rest (omega (arith, step, e)))
+
 -- ---- files by their names
 
 named_shown : (s : Store) (name : List ℕ) (f : NumberedFile) → has_name name (file_shown s f) ≡ has_label name (label_of f)
@@ -114,21 +125,18 @@ module _ (s : Store) (maps tasks : ℕ) (fs : List NumberedFile) (keyed : IsKeye
     count : NumberedFile → ℕ
     count f = count_by test f.maps
 
-    few : sum_by count fs ≤ 1
+    through : (fs : List NumberedFile) → sum_by (keys_in task number) (labels_of fs) ≡ sum_by count fs
     unfolding count
-    few =
-        let most = keyed.keys task number in
-        let same = sums_through fs in
-        omega (arith, most, same)
-      where
-        sums_through : (fs : List NumberedFile) → sum_by (keys_in task number) (labels_of fs) ≡ sum_by (λ (f : NumberedFile). count_by test f.maps) fs
-        sums_through [] = refl
-        sums_through (f ∷ fs) =
-            let left = sum_by-cons (keys_in task number) (label_of f) (labels_of fs) in
-            let right = sum_by-cons (λ (f : NumberedFile). count_by test f.maps) f fs in
-            let here = count_map (is_key task number) key_of f.maps in
-            let rest = sums_through fs in
-            omega (arith, left, right, here, rest)
+    through [] = refl
+    through (f ∷ fs) =
+        let left = sum_by-cons (keys_in task number) (label_of f) (labels_of fs) in
+        let right = sum_by-cons (λ (f : NumberedFile). count_by test f.maps) f fs in
+        let here = count_map (is_key task number) key_of f.maps in
+        let rest = through fs in
+        omega (arith, left, right, here, rest)
+
+    few : sum_by count fs ≤ 1
+    few = (let most = keyed.keys task number in let same = through fs in omega (arith, most, same))
 
     holders : (fs : List NumberedFile) → count_by (has_it task number) (files_shown s fs) ≤ sum_by count fs
     unfolding count
@@ -157,6 +165,15 @@ module _ (s : Store) (maps tasks : ℕ) (fs : List NumberedFile) (keyed : IsKeye
         let here : position_or_len test x.maps ≡ j = alone_at test x.maps j no_mapping (omega (arith, most, own, same)) jl is in
         map_found (files_shown s fs) task number k j (sym place) inside
         (sym here ∙ sym (position_shown (map_shown s) test (is_map task number) (λ m. refl) x.maps) ∙ ap (λ (f : File). position_or_len (is_map task number) f.maps) (sym seen))
+
+    pub no_map_here : sum_by (keys_in task number) (labels_of fs) ≡ 0 → IsMissing (files_shown s fs) task number
+    no_map_here none limits =
+        let all = holders fs in
+        let same = through fs in
+        ap (λ o. elim o [ None ↦ None | Some q ↦ option_map (spot_in q) (found (is_map task number) q.1.maps) ]) (zero_found (has_it task number) (files_shown s fs) (omega (arith, all, same, none)))
+
+  pub no_name_here : (name : List ℕ) → count_by (has_label name) (labels_of fs) ≡ 0 → found (has_name name) (files_shown s fs) ≡ None
+  no_name_here name none = zero_found (has_name name) (files_shown s fs) (names_counted s name fs ∙ none)
 
 -- ---- counts
 

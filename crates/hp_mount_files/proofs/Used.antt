@@ -1,76 +1,165 @@
--- Numbers that are marked as used.
-use Rattle.std.proofs.Common.{◌≡◌, ◌≢◌, ℕ, ◌+◌, ◌-◌, ◌<◌, ◌≤◌, ◌==◌, ◌||◌, Bool, true, false, not, List, [], ◌∷◌, ◌++◌, length, replicate, refl, sym, ap, ◌∙◌, arith}
-use Rattle.std.specs.Prelude.{slice_set, slice_index_or}
-use Rattle.std.specs.List.{position_or_len, range_with_len}
-use Rattle.std.proofs.lemmas.Bool.Decides.{nat_tests}
-use Rattle.std.proofs.lemmas.List.{get_or-replicate, get_or-set_same, get_or-set_other, length-append}
+-- The least number that is not used, and which numbers a task's maps have.
+use Rattle.std.proofs.Common.{◌≡◌, ℕ, ◌+◌, ◌-◌, ◌<◌, ◌≤◌, ◌==◌, ◌&&◌, ◌||◌, ⊎_elim, subst, Bool, true, false, not, cond, Option, None, Some, List, [], ◌∷◌, ◌++◌, length, map, refl, sym, ap, ◌∙◌, arith}
+use Rattle.std.specs.Prelude.{is_some, IfNone, IfSome}
+use Rattle.std.specs.List.{filter, flat_map, list_any, position_or_len, range_with_len}
+use Rattle.std.specs.Option.{option_map}
+use Rattle.std.proofs.lemmas.Bool.{cases_lt}
+use Rattle.std.proofs.lemmas.List.{map-append}
+use Rattle.std.proofs.lemmas.List.Elements.{filter-append}
 use Rattle.std.proofs.lemmas.List.FromFn.{get_or-range_with_len, length-range_with_len}
 use Rattle.std.proofs.lemmas.List.Sums.{position_or_len_is}
-use Rattle.hp_model.specs.Lists.{is_among, least_unused}
+use Rattle.hp_model.specs.declared.limits.Limits.{Limits}
+use Rattle.hp_model.specs.File.{File}
+use Rattle.hp_model.specs.Lists.{found, is_among, least_unused, one_on}
+use Rattle.hp_model.specs.MakeMap.{numbers_of}
+use Rattle.hp_model.specs.Mapping.{Map, Mapping, is_map, is_of}
+use Rattle.hp_model.specs.Spot.{spot, spot_in}
+use Rattle.hp_model.proofs.Counting.{count_not, count_outside}
 use Rattle.hp_model.proofs.Distinct.{is_among-append}
-use Rattle.hp_mount_files.specs.declared.numbers.Numbers.{Numbers}
-use Rattle.hp_mount_files.specs.Numbers.{HasNumbers}
+use Rattle.hp_store.specs.Store.{Store}
+use Rattle.hp_mount_files.specs.declared.files.MapPlace.{MapPlace}
+use Rattle.hp_mount_files.specs.Asking.{is_first_of}
+use Rattle.hp_mount_files.specs.Keyed.{key_of, label_of, labels_of, tasks_in}
+use Rattle.hp_mount_files.specs.Numbered.{NumberedFile, files_shown}
+use Rattle.hp_mount_files.specs.Places.{all_maps, all_tasks, has_it, mount_with, IsFound, IsMissing}
+use Rattle.hp_mount_files.proofs.MapNumbers.{among_distinct, few_among}
+use Rattle.hp_mount_files.proofs.Unique.{tasks_counted}
 
-one_more : (xs : List ℕ) (x n : ℕ) → n ≡ length xs → n + 1 ≡ length (xs ++ x ∷ [])
-one_more xs x n e = omega (arith, e, length-append xs (x ∷ []))
+-- ---- the numbers below n are used
 
-or_false : (a b : Bool) → b ≡ false → (a || (b || false)) ≡ a
-or_false true b e = refl
-or_false false true e = cc
-or_false false false e = refl
+module _ (xs : List ℕ) (n : ℕ) (one : 1 ≤ n) (used : (k : ℕ) → 1 ≤ k → k < n → is_among k xs ≡ true) where
+  pub used_few : n ≤ length xs + 1
+  used_few =
+      let few = few_among xs 1 (n - 1) in
+      let none = count_outside (λ k. not (is_among k xs)) 1 (n - 1) (λ k low high. ap not (used k low (omega (arith, high, one)))) in
+      let both = count_not (λ k. is_among k xs) (range_with_len 1 (n - 1)) in
+      let long = length-range_with_len 1 (n - 1) in
+      omega (arith, few, none, both, long, one)
 
-or_true : (a b : Bool) → b ≡ true → (a || (b || false)) ≡ true
-or_true true b e = refl
-or_true false true e = refl
-or_true false false e = cc
+  -- and n is not
+  pub least_is : is_among n xs ≡ false → n ≡ least_unused xs
+  least_is free =
+      let i : ℕ = n - 1 in
+      let most = used_few in
+      let len = length-range_with_len 1 (length xs + 1) in
+      let at : (k j : ℕ) → k < length xs + 1 → j ≡ 1 + k → _ = λ k j l e. get_or-range_with_len 1 (length xs + 1) k 0 l ∙ sym e in
+      let place : position_or_len (λ m. not (is_among m xs)) (range_with_len 1 (length xs + 1)) ≡ i =
+      position_or_len_is (λ m. not (is_among m xs)) (range_with_len 1 (length xs + 1)) i 0 (omega (arith, len, most, one))
+      (λ k l. ap (λ m. not (is_among m xs)) (at k (1 + k) (omega (arith, l, most, one)) refl) ∙ ap not (used (1 + k) (omega arith) (omega (arith, l, one))))
+      (λ l. ap (λ m. not (is_among m xs)) (at i n (omega (arith, l, len)) (omega (arith, one))) ∙ ap not free) in
+      omega (arith, place, one)
 
--- the mark of the number that is added, and the others
-marked : (used : List Bool) (xs : List ℕ) (x q : ℕ) → x < length used → slice_index_or used q false ≡ is_among q xs → slice_index_or (slice_set used x true) q false ≡ is_among q (xs ++ x ∷ [])
-marked used xs x q low each =
-    elim (x == q) as (λ b. (x == q) ≡ b → slice_index_or (slice_set used x true) q false ≡ is_among q (xs ++ x ∷ [])) [
-      | true ↦ λ e.
-          (let same : q ≡ x = grind (arith, nat_tests, e) in
-          ap (λ k. slice_index_or (slice_set used x true) k false) same ∙ get_or-set_same used x true false low
-          ∙ sym (is_among-append q xs (x ∷ []) ∙ or_true (is_among q xs) (x == q) e))
-      | false ↦ λ e.
-          (let other : q ≢ x = λ same. absurd (grind (arith, nat_tests, e, same)) in
-          get_or-set_other used x q true false other ∙ each ∙ sym (is_among-append q xs (x ∷ []) ∙ or_false (is_among q xs) (x == q) e))
-    ] refl
+numbers_few : (task : ℕ) (ms : List Map) → length (numbers_of task ms) ≤ length ms
+numbers_few task [] = omega arith
+numbers_few task (m ∷ ms) = at (m.task == task) (numbers_few task ms)
+  where
+    at : (b : Bool) → length (numbers_of task ms) ≤ length ms → length (map (λ (x : Map). x.number) (cond b (m ∷ filter (is_of task) ms) (filter (is_of task) ms))) ≤ length (m ∷ ms)
+    at true rest = omega (arith, rest)
+    at false rest = omega (arith, rest)
 
-pub added_low : (n m : Numbers) (x : ℕ) (xs : List ℕ) → HasNumbers n xs → x < 4098 → length n.used ≡ 4098 → m.used ≡ slice_set n.used x true → m.count ≡ n.count + 1 → HasNumbers m (xs ++ x ∷ [])
-added_low n m x xs has low len used count = record {
-  each = λ q l. ap (λ u. slice_index_or u q false) used ∙ marked n.used xs x q (omega (arith, low, len)) (has.each q l);
-  count = count ∙ one_more xs x n.count has.count;
-}
+-- the search of a number goes on past a used one, and ends
+pub used_next : (task n : ℕ) (ms : List Map) → length ms < 4096 → 1 ≤ n → ((k : ℕ) → 1 ≤ k → k < n → is_among k (numbers_of task ms) ≡ true) → is_among n (numbers_of task ms) ≡ true
+    → (1 ≤ n + 1) × (n + 1 ≤ 4097) × ((k : ℕ) → 1 ≤ k → k < n + 1 → is_among k (numbers_of task ms) ≡ true)
+used_next task n ms few one used here =
+    let more : (k : ℕ) → 1 ≤ k → k < n + 1 → is_among k (numbers_of task ms) ≡ true = λ k low high.
+    ⊎_elim (used k low) (λ (past : n ≤ k). (let same : n ≡ k = omega (arith, past, high) in subst (λ q. is_among q (numbers_of task ms) ≡ true) same here)) (cases_lt k n) in
+    let most = used_few (numbers_of task ms) (n + 1) (omega arith) more in
+    (omega arith, omega (arith, most, few, numbers_few task ms), more)
 
-pub added_high : (n m : Numbers) (x : ℕ) (xs : List ℕ) → HasNumbers n xs → 4098 ≤ x → m.used ≡ n.used → m.count ≡ n.count + 1 → HasNumbers m (xs ++ x ∷ [])
-added_high n m x xs has high used count = record {
-  each = λ q l.
-      let other : (x == q) ≡ false = grind (arith, nat_tests, high, l) in
-      ap (λ u. slice_index_or u q false) used ∙ has.each q l ∙ sym (is_among-append q xs (x ∷ []) ∙ or_false (is_among q xs) (x == q) other);
-  count = count ∙ one_more xs x n.count has.count;
-}
+-- ---- a task's map of a number
 
-pub none_used : (n : Numbers) → n.used ≡ replicate 4098 false → n.count ≡ 0 → HasNumbers n []
-none_used n used count = record {
-  each = λ x l. ap (λ u. slice_index_or u x false) used ∙ get_or-replicate 4098 x false false l;
-  count = count;
-}
+among_maps : (task number : ℕ) (ms : List Map) → list_any (is_map task number) ms ≡ is_among number (numbers_of task ms)
+among_maps task number [] = refl
+among_maps task number (m ∷ ms) = at (m.task == task) (among_maps task number ms)
+  where
+    at : (b : Bool) → list_any (is_map task number) ms ≡ is_among number (numbers_of task ms)
+        → ((b && (m.number == number)) || list_any (is_map task number) ms) ≡ is_among number (map (λ (x : Map). x.number) (cond b (m ∷ filter (is_of task) ms) (filter (is_of task) ms)))
+    at true rest = ap (λ b. (m.number == number) || b) rest
+    at false rest = rest
 
--- the search from 1 on ends at the least unused number
-pub least_is : (n : Numbers) (x : ℕ) (xs : List ℕ) → HasNumbers n xs → n.count < 4096 → 1 ≤ x → x ≤ n.count + 2
-    → ((k : ℕ) → 1 ≤ k → k < x → slice_index_or n.used k false ≡ true) → (x < n.count + 2 → slice_index_or n.used x false ≡ false) → x ≡ least_unused xs
-least_is n x xs has few one most before here =
-    let count = has.count in
-    let i : ℕ = x - 1 in
-    let len = length-range_with_len 1 (length xs + 1) in
-    let at : (k j : ℕ) → k < length xs + 1 → j ≡ 1 + k → slice_index_or (range_with_len 1 (length xs + 1)) k 0 ≡ j = λ k j l e. get_or-range_with_len 1 (length xs + 1) k 0 l ∙ sym e in
-    let place : position_or_len (λ m. not (is_among m xs)) (range_with_len 1 (length xs + 1)) ≡ i =
-    position_or_len_is (λ m. not (is_among m xs)) (range_with_len 1 (length xs + 1)) i 0 (omega (arith, len, most, count, one))
-    (λ k l. (
-    let used : slice_index_or n.used (1 + k) false ≡ true = before (1 + k) (omega arith) (omega (arith, l, one)) in
-    ap (λ m. not (is_among m xs)) (at k (1 + k) (omega (arith, l, most, count, one)) refl) ∙ ap not (sym (has.each (1 + k) (omega (arith, l, most, few))) ∙ used)))
-    (λ l. (
-    let free : slice_index_or n.used x false ≡ false = here (omega (arith, l, len, count, one)) in
-    ap (λ m. not (is_among m xs)) (at i x (omega (arith, l, len)) (omega (arith, one))) ∙ ap not (sym (has.each x (omega (arith, l, len, count, few, one))) ∙ free))) in
-    omega (arith, place, one)
+numbers_both : (task : ℕ) (xs ys : List Map) → numbers_of task (xs ++ ys) ≡ numbers_of task xs ++ numbers_of task ys
+numbers_both task xs ys = ap (map (λ m. m.number)) (filter-append (is_of task) xs ys) ∙ map-append (λ m. m.number) (filter (is_of task) xs) (filter (is_of task) ys)
+
+among_files : (task number : ℕ) (fs : List File) → list_any (has_it task number) fs ≡ is_among number (numbers_of task (all_maps fs))
+among_files task number [] = refl
+among_files task number (f ∷ fs) =
+    ap (λ b. b || list_any (has_it task number) fs) (among_maps task number f.maps) ∙ ap (λ b. is_among number (numbers_of task f.maps) || b) (among_files task number fs)
+    ∙ sym (ap (is_among number) (numbers_both task f.maps (all_maps fs)) ∙ is_among-append number (numbers_of task f.maps) (numbers_of task (all_maps fs)))
+
+some_found : {X : Type 0} (test : X → Bool) (xs : List X) → is_some (found test xs) ≡ list_any test xs
+some_found test [] = refl
+some_found {X} test (x ∷ xs) = at (test x) (some_found test xs)
+  where
+    through : (o : Option (ℕ × X)) → is_some (option_map one_on o) ≡ is_some o
+    through None = refl
+    through (Some q) = refl
+
+    at : (b : Bool) → is_some (found test xs) ≡ list_any test xs → is_some (cond b (Some (0, x)) (option_map one_on (found test xs))) ≡ (b || list_any test xs)
+    at true rest = refl
+    at false rest = through (found test xs) ∙ rest
+
+found_passes : {X : Type 0} (test : X → Bool) (xs : List X) (q : ℕ × X) → found test xs ≡ Some q → test q.1 ≡ true
+found_passes test [] q e = cc
+found_passes {X} test (x ∷ xs) q e = at (test x) (found_passes test xs) refl e
+  where
+    passes : Option (ℕ × X) → Bool
+    passes None = true
+    passes (Some p) = test p.1
+
+    behind : ((p : ℕ × X) → found test xs ≡ Some p → test p.1 ≡ true) → (o : Option (ℕ × X)) → found test xs ≡ o → option_map one_on o ≡ Some q → test q.1 ≡ true
+    behind rest None is e = cc
+    behind rest (Some p) is e = sym (ap passes e) ∙ rest p is
+
+    at : (b : Bool) → ((p : ℕ × X) → found test xs ≡ Some p → test p.1 ≡ true) → test x ≡ b → cond b (Some (0, x)) (option_map one_on (found test xs)) ≡ Some q → test q.1 ≡ true
+    at true rest is e = sym (ap passes e) ∙ is
+    at false rest is e = behind rest (found test xs) refl e
+
+-- it is found where it is
+pub used_if_found : (fs : List File) (task number : ℕ) (limits : Limits) → is_some (spot (mount_with limits fs) (is_map task number)) ≡ is_among number (numbers_of task (all_maps fs))
+used_if_found fs task number limits = by_found (found (has_it task number) fs) refl ∙ some_found (has_it task number) fs ∙ among_files task number fs
+  where
+    through : (q : ℕ × File) (o : Option (ℕ × Map)) → is_some (option_map (spot_in q) o) ≡ is_some o
+    through q None = refl
+    through q (Some p) = refl
+
+    by_found : (o : Option (ℕ × File)) → found (has_it task number) fs ≡ o → is_some (elim o [ None ↦ None | Some q ↦ option_map (spot_in q) (found (is_map task number) q.1.maps) ]) ≡ is_some o
+    by_found None e = refl
+    by_found (Some q) e = through q (found (is_map task number) q.1.maps) ∙ some_found (is_map task number) q.1.maps ∙ found_passes (has_it task number) fs q e
+
+no_limits : Limits
+no_limits = record { max = None; min = 0; inodes = None }
+
+pub used_is : (fs : List File) (task number : ℕ) (r : Option MapPlace) → IfSome r (λ at. IsFound fs task number at.file at.map) → IfNone r (IsMissing fs task number) → is_some r ≡ is_among number (numbers_of task (all_maps fs))
+used_is fs task number None found missing = sym (ap is_some (missing no_limits)) ∙ used_if_found fs task number no_limits
+used_is fs task number (Some at) found missing = sym (ap is_some (found.is no_limits)) ∙ used_if_found fs task number no_limits
+
+-- ---- the tasks that have maps
+
+-- a task with a number has a map
+pub task_of_number : (task number : ℕ) (ms : List Map) → is_among number (numbers_of task ms) ≡ true → is_among task (map (λ x. x.task) ms) ≡ true
+task_of_number task number [] e = cc
+task_of_number task number (m ∷ ms) e = at (m.task == task) (task_of_number task number ms) e
+  where
+    at : (b : Bool) → (is_among number (numbers_of task ms) ≡ true → is_among task (map (λ x. x.task) ms) ≡ true)
+        → is_among number (map (λ (x : Map). x.number) (cond b (m ∷ filter (is_of task) ms) (filter (is_of task) ms))) ≡ true → (b || is_among task (map (λ x. x.task) ms)) ≡ true
+    at true rest e = refl
+    at false rest e = rest e
+
+tasks_among : (task : ℕ) (ms : List (Mapping ℕ)) → is_among task (map (λ (k : ℕ × ℕ). k.0) (map key_of ms)) ≡ list_any (is_of task) ms
+tasks_among task [] = refl
+tasks_among task (m ∷ ms) = ap (λ b. (m.task == task) || b) (tasks_among task ms)
+
+any_of_task : (task : ℕ) (fs : List NumberedFile) → is_among task (flat_map tasks_in (labels_of fs)) ≡ list_any (λ (f : NumberedFile). list_any (is_of task) f.maps) fs
+any_of_task task [] = refl
+any_of_task task (f ∷ fs) =
+    is_among-append task (tasks_in (label_of f)) (flat_map tasks_in (labels_of fs)) ∙ ap (λ b. b || is_among task (flat_map tasks_in (labels_of fs))) (tasks_among task f.maps)
+    ∙ ap (λ b. list_any (is_of task) f.maps || b) (any_of_task task fs)
+
+pub has_maps_if : (s : Store) (task : ℕ) (fs : List NumberedFile) → list_any (λ (f : NumberedFile). list_any (is_of task) f.maps) fs ≡ not (is_first_of task (files_shown s fs))
+has_maps_if s task fs =
+    sym (any_of_task task fs) ∙ ap (is_among task) (tasks_counted s fs) ∙ sym (among_distinct task (map (λ (m : Map). m.task) (all_maps (files_shown s fs))))
+    ∙ twice (is_among task (all_tasks (files_shown s fs)))
+  where
+    twice : (b : Bool) → b ≡ not (not b)
+    twice true = refl
+    twice false = refl

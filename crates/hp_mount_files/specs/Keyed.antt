@@ -4,8 +4,6 @@ use Rattle.std.specs.List.{count_by, filter, flat_map, sum_by}
 use Rattle.std.specs.Str.{bytes_eq}
 use Rattle.hp_model.specs.Lists.{distinct}
 use Rattle.hp_model.specs.Mapping.{Mapping, is_of}
-use Rattle.hp_store.specs.Store.{Store}
-use Rattle.hp_mount_files.specs.Held.{IsHeld}
 use Rattle.hp_mount_files.specs.Numbered.{NumberedFile}
 
 -- a file's name, and the task and number of each of its maps
@@ -48,8 +46,3 @@ pub record IsKeyed (maps tasks : ℕ) (ls : List Label) : Type 0 where
   pub keys : (task number : ℕ) → sum_by (keys_in task number) ls ≤ 1
   pub map_count : maps ≡ sum_by (λ (l : Label). length l.keys) ls
   pub task_count : tasks ≡ length (distinct (flat_map tasks_in ls))
-
--- what holds of the files of a mount
-pub record IsFiles (s : Store) (more maps tasks : ℕ) (fs : List NumberedFile) : Type 0 where
-  pub held : IsHeld s more fs
-  pub keyed : IsKeyed maps tasks (labels_of fs)

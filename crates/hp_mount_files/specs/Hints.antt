@@ -1,0 +1,45 @@
+-- What was noted of files and maps, and what holds of files. No public clause cites this module.
+use Rattle.std.specs.Prelude.{◌≡◌, ℕ, ◌==◌, ◌&&◌, Bool, false, List, map}
+use Rattle.std.specs.Global.{Vec}
+use Rattle.std.specs.List.{count_by, list_any, sum_by}
+use Rattle.std.specs.Str.{bytes_eq}
+use Rattle.hp_store.specs.Store.{Store}
+use Rattle.hp_mount_files.specs.Held.{IsHeld}
+use Rattle.hp_mount_files.specs.Keyed.{IsKeyed, Label, has_label, keys_in, labels_of}
+use Rattle.hp_mount_files.specs.Numbered.{NumberedFile}
+
+-- the names of files, and the tasks and numbers of maps, that were ever noted
+pub record Noted : Type 0 where
+  pub names : List (List ℕ)
+  pub keys : List (ℕ × ℕ)
+
+abbrev pub names_of : {X : Type 0} → List (Vec ℕ × X) → List (List ℕ)
+names_of es = map (λ e. e.0.items) es
+
+abbrev pub keys_of : {X : Type 0} → List ((ℕ × ℕ) × X) → List (ℕ × ℕ)
+keys_of es = map (λ e. e.0) es
+
+abbrev pub has_name : List ℕ → Noted → Bool
+has_name name n = list_any (bytes_eq name) n.names
+
+abbrev pub is_pair : (task number : ℕ) → ℕ × ℕ → Bool
+is_pair task number k = (task == k.0) && (number == k.1)
+
+abbrev pub has_key : (task number : ℕ) → Noted → Bool
+has_key task number n = list_any (is_pair task number) n.keys
+
+-- nothing is forgotten
+pub record IsMore (old new : Noted) : Type 0 where
+  pub names : (name : List ℕ) → has_name name new ≡ false → has_name name old ≡ false
+  pub keys : (task number : ℕ) → has_key task number new ≡ false → has_key task number old ≡ false
+
+-- what was never noted is not there
+pub record AreNoted (n : Noted) (ls : List Label) : Type 0 where
+  pub names : (name : List ℕ) → has_name name n ≡ false → count_by (has_label name) ls ≡ 0
+  pub keys : (task number : ℕ) → has_key task number n ≡ false → sum_by (keys_in task number) ls ≡ 0
+
+-- what holds of the files of a mount
+pub record IsFiles (n : Noted) (s : Store) (more maps tasks : ℕ) (fs : List NumberedFile) : Type 0 where
+  pub held : IsHeld s more fs
+  pub keyed : IsKeyed maps tasks (labels_of fs)
+  pub noted : AreNoted n (labels_of fs)
