@@ -4,4 +4,6 @@
 #[cfg(test)]
 mod mount;
 #[cfg(test)]
+mod noting;
+#[cfg(test)]
 mod system;

@@ -1,0 +1,240 @@
+//! A mount through another door than the pool: one that notes what is taken, and has few places to note it.
+ghost use Rattle.std.specs.Prelude.{◌≡◌};
+ghost use Rattle.hp_mount_door.specs.Door.{IsReady};
+ghost use Rattle.hp_pool.specs.Ledgers.{AreLedgers};
+
+use hp_model::answer::{Answer, Reply};
+use hp_model::naming::Naming;
+use hp_model::refusal::Refusal;
+use hp_mount::{MapAccess, MapRange, Mount};
+use hp_mount_door::PoolDoor;
+use hp_nodes::Page;
+use hp_pool::{Blanks, Pool};
+use hp_store::PageStore;
+use hp_subpool::Subpool;
+use std::alloc::Global;
+use std::marker::Brand;
+use std::process::Abort;
+
+// What was taken through a door, in pages: reservations, pages by a grant, and pages of reservations.
+#[derive(Clone, Copy, Debug, PartialEq, Eq)]
+struct Taken {
+    reserves: u64,
+    granted: u64,
+    reserved: u64,
+}
+
+// A door that refuses what asks for a section where it has no place left to note it. Giving back needs none.
+struct Noting<N: Naming> {
+    pool: Pool<N>,
+    places: u64,
+    taken: Taken,
+}
+
+impl<N: Naming> PoolDoor for Noting<N> {
+    ghost use Rattle.hp_model.specs.Pool.{section};
+    ghost use Rattle.hp_store.specs.Store.{page_at};
+    ghost use Rattle.std.specs.Prelude.{None, [], ℕ};
+
+    type Share = Subpool<N>;
+
+    type Page = Page<N>;
+
+    type Going = PageStore<N>;
+
+    ghost share_of = { λ s. s };
+
+    ghost page_of = { λ p. p };
+
+    ghost going_of = { λ s. s.going };
+
+    ghost emptied = { λ s. record s { going = [] } };
+
+    ghost is_spent = { λ s. (n : ℕ) → page_at s n ≡ None };
+
+    ghost is_ready = { λ d. IsReady d.pool };
+
+    ghost took = { λ d s a e. section d.pool s ≡ (a, e.pool) };
+
+    ghost is_full = { λ d. d.places ≡ 0 };
+
+    ghost is_left = { λ d. IsReady d.pool };
+
+    ghost stays = { λ d ready. ready };
+
+    fn get(&mut self, share: &mut Subpool<N>, home: usize, k: u64) -> Result<(), Refusal> {
+        let asked = k.saturating_sub(share.own_reserve());
+        if asked == 0 {
+            return PoolDoor::get(&mut self.pool, share, home, k);
+        }
+        if self.places == 0 {
+            return Err(Refusal::TraceFull);
+        }
+        self.places -= 1;
+        self.taken.reserves = self.taken.reserves.saturating_add(asked);
+        PoolDoor::get(&mut self.pool, share, home, k)
+    }
+
+    fn get_page(&mut self, share: &mut Subpool<N>, home: usize) -> Result<Page<N>, Refusal> {
+        if self.places == 0 {
+            return Err(Refusal::TraceFull);
+        }
+        self.places -= 1;
+        self.taken.granted = self.taken.granted.saturating_add(1);
+        self.pool.get_page(share, home)
+    }
+
+    fn take_page(&mut self, share: &mut Subpool<N>, home: usize) -> Result<Page<N>, Refusal> {
+        if self.places == 0 {
+            return Err(Refusal::TraceFull);
+        }
+        self.places -= 1;
+        self.taken.reserved = self.taken.reserved.saturating_add(1);
+        self.pool.take_page(share, home)
+    }
+
+    fn put(&mut self, share: &mut Subpool<N>, going: &mut PageStore<N>, reserves: u64) {
+        PoolDoor::put(&mut self.pool, share, going, reserves);
+    }
+
+    fn close(&mut self, share: Subpool<N>, going: PageStore<N>) {
+        PoolDoor::close(&mut self.pool, share, going);
+    }
+}
+
+fn usage(used: u64) -> Answer {
+    Answer::Usage {
+        max: Some(3),
+        min: 0,
+        used,
+        inodes: None,
+        files: 1,
+    }
+}
+
+// The answer of a byte.
+fn byte(first: u8) -> Reply {
+    let mut bytes = [0u8; 256];
+    bytes[0] = first;
+    Ok(Answer::Bytes { count: 1, bytes })
+}
+
+const RANGE: MapRange = MapRange {
+    task: 7,
+    start: 0,
+    pages: 2,
+};
+
+const ACCESS: MapAccess = MapAccess {
+    task: 7,
+    map: 1,
+    index: 1,
+};
+
+fn map_pages<N: Naming>(door: &mut Noting<N>, mount: &mut Mount<N>) -> Reply
+    requires { IsReady door.old.pool }
+    ensures { IsReady door.new.pool }
+{
+    mount.map(door, 0, b"a", &RANGE)
+}
+
+fn load_byte<N: Naming>(door: &mut Noting<N>, mount: &mut Mount<N>) -> Reply
+    requires ready { IsReady door.old.pool }
+    requires bytes { N.page_bytes ≡ 1024 }
+    ensures { IsReady door.new.pool }
+{
+    mount.load(door, 1024, 0, &ACCESS, 0, 1)
+}
+
+fn store_byte<N: Naming>(door: &mut Noting<N>, mount: &mut Mount<N>) -> Reply
+    requires ready { IsReady door.old.pool }
+    requires bytes { N.page_bytes ≡ 1024 }
+    ensures { IsReady door.new.pool }
+{
+    mount.store(door, 1024, 0, &ACCESS, 0, b"x")
+}
+
+// A map and an access are refused where the door has no place, change nothing, and go through with one. What
+// has its page asks for no section.
+fn in_turn<N: Naming, R: Abort>(rt: &R, door: &mut Noting<N>, mount: &mut Mount<N>)
+    requires ready { IsReady door.old.pool }
+    requires bytes { N.page_bytes ≡ 1024 }
+    ensures { IsReady door.new.pool }
+{
+    assert_eq!(rt; mount.create(b"a"), Ok(Answer::Done));
+    assert_eq!(rt; map_pages(door, mount), Err(Refusal::TraceFull));
+    assert!(rt; !mount.has_maps());
+    assert_eq!(rt; mount.usage(), usage(0));
+    door.places = 1;
+    assert_eq!(rt; map_pages(door, mount), Ok(Answer::MapNo(1)));
+    assert_eq!(rt; mount.usage(), usage(2));
+    assert_eq!(rt; load_byte(door, mount), Err(Refusal::TraceFull));
+    assert_eq!(rt; store_byte(door, mount), Err(Refusal::TraceFull));
+    door.places = 1;
+    assert_eq!(rt; store_byte(door, mount), Ok(Answer::Done));
+    assert_eq!(rt; load_byte(door, mount), byte(120));
+    assert_eq!(rt; mount.usage(), usage(2));
+}
+
+// A page by a grant, which no map of today asks for, is refused without a place.
+fn a_page_by_a_grant<N: Naming, R: Abort>(rt: &R, door: &mut Noting<N>)
+    requires ready { IsReady door.old.pool }
+    ensures { IsReady door.new.pool }
+{
+    let mut share = Subpool::open(&mut door.pool, Some(1), 0).expect(rt, "fits");
+    door.places = 0;
+    match door.get_page(&mut share, 0) {
+        Ok(page) => {
+            share.put_page(&mut door.pool, page);
+            assert!(rt; false);
+        }
+        Err(refusal) => assert_eq!(rt; refusal, Refusal::TraceFull),
+    }
+    share.close(&mut door.pool);
+    door.pool.settle();
+}
+
+fn run<N: Naming, R: Abort>(rt: &R, alloc: Global, blanks: Blanks)
+    requires ledgers { AreLedgers N.Naming blanks }
+    requires bytes { N.page_bytes ≡ 1024 }
+{
+    let mut pool = Pool::<N>::new(alloc, &[4, 4], 1024, blanks).expect(rt, "memory");
+    pool.set_overcommit(4);
+    let share = Subpool::open(&mut pool, Some(3), 0).expect(rt, "fits");
+    let mut mount = Mount::new(alloc, share, None);
+    let mut door = Noting {
+        pool,
+        places: 0,
+        taken: Taken {
+            reserves: 0,
+            granted: 0,
+            reserved: 0,
+        },
+    };
+    in_turn(rt, &mut door, &mut mount);
+    a_page_by_a_grant(rt, &mut door);
+    mount.close(&mut door);
+    let Noting {
+        pool,
+        places: _,
+        taken,
+    } = door;
+    assert_eq!(rt;
+        taken,
+        Taken {
+            reserves: 2,
+            granted: 0,
+            reserved: 1
+        }
+    );
+    let counts = pool.close();
+    assert_eq!(rt;
+        [counts.total, counts.free, counts.rsvd, counts.surp],
+        [0, 0, 0, 0]
+    );
+}
+
+#[test]
+fn a_mount_through_a_door_with_few_places(rt: HostRuntime) {
+    run::<Brand, HostRuntime>(&rt, rt.alloc(), Blanks::new());
+}
