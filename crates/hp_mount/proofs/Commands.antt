@@ -1,5 +1,5 @@
 -- An event on one map: its tests, its access, and what follows, whichever these are.
-use Rattle.std.proofs.Common.{◌≡◌, ℕ, zero, suc, ◌+◌, ◌<◌, Bool, true, false, cond, List, [], ◌∷◌, Option, Some, None, Ok, Err, length, refl, sym, ap, subst, ◌∙◌, arith}
+use Rattle.std.proofs.Common.{◌≡◌, ◌≢◌, ℕ, zero, suc, ◌+◌, ◌<◌, Bool, true, false, cond, List, [], ◌∷◌, Option, Some, None, Ok, Err, length, refl, sym, ap, subst, ◌∙◌, arith}
 use Rattle.std.specs.Prelude.{Result, slice_index_or, slice_set, nat_lt, not, is_some, ◌&&◌, ◌||◌, ◌==◌}
 use Rattle.std.proofs.lemmas.List.{get_or_default}
 use Rattle.hp_model.specs.declared.answer.Answer.{Answer}
@@ -14,19 +14,21 @@ use Rattle.hp_laws.proofs.FileMoves.{FileGrows}
 use Rattle.hp_laws.proofs.CopyWrites.{writes}
 use Rattle.hp_model.specs.LocalRun.{ThroughDoor}
 use Rattle.hp_model.specs.Mapping.{copy_of, is_shared, is_unconsumed, place_at}
-use Rattle.hp_model.specs.Plan.{Plan, Outcome, Reply, Slot, Choice, refuse, unless, with_value, and_then}
+use Rattle.hp_model.specs.Plan.{Answered, Plan, Outcome, Reply, Slot, Choice, refuse, unless, with_value, and_then}
 use Rattle.hp_model.specs.declared.section.PoolAnswer.{PoolAnswer}
 use Rattle.hp_model.specs.declared.section.Section.{Section}
 use Rattle.hp_model.specs.Promises.{file_in, is_backed, map_in, no_map, owns_copy}
-use Rattle.hp_model.specs.SlotEvent.{is_unmapped, is_beyond}
+use Rattle.hp_model.specs.SlotEvent.{bytes_answer, is_unmapped, is_beyond}
 use Rattle.hp_model.specs.Spot.{Spot, again, written, file_written, cell_written, map_written}
 use Rattle.hp_model.specs.declared.step.Intent.{Intent}
 use Rattle.hp_model.specs.declared.step.Intent.TheVariants.{Read, Write}
-use Rattle.hp_mount.specs.Done.{Tried}
-use Rattle.hp_mount.specs.Found.{IsTouched, first_of, spot_at, spot_of, tests_of, why_not}
+use Rattle.hp_mount_files.specs.declared.files.MapPlace.{MapPlace}
+use Rattle.hp_mount.specs.Done.{IsAccessed, Tried}
+use Rattle.hp_mount.specs.Found.{IsPlaced, IsTouched, first_of, spot_at, spot_of, tests_of, why_not}
 use Rattle.hp_mount.specs.declared.mount.reach.Asked.{Asked}
 use Rattle.hp_mount.specs.declared.mount.reach.Asked.TheVariants.{Page, Bytes}
 use Rattle.hp_mount.specs.declared.mount.reach.MapAccess.{MapAccess}
+use Rattle.hp_model.specs.Value.{value}
 use Rattle.hp_model.specs.Profile.{most_bytes}
 use Rattle.hp_model.specs.Reserved.{is_reserved}
 use Rattle.hp_mount.proofs.Ways.{fresh_choice, is_fresh, refused_at, then_refused}
@@ -98,6 +100,34 @@ early_not_memory e early h = never (subst (λ x. is_early x ≡ true) (err_is h)
     never : is_early r.OutOfMemory ≡ true → ⊥
     never e = cc
 
+-- ---- memory
+
+-- an index that is backed for a shared map is entered
+pub backed_is_entered : (intent : Intent) (o : Option Spot) (s : Spot) (i : ℕ) → o ≡ Some s → is_shared s.map.sharing ≡ true → is_backed intent o i ≡ true → is_entered (cell_at s.file i) ≡ true
+backed_is_entered intent o s i found shared backed = here intent (ap (λ x. is_backed intent x i) (sym found) ∙ backed)
+  where
+    reserved : is_reserved s.file s.map i ≡ is_entered (cell_at s.file i)
+    reserved = ap (λ b. cond b (is_entered (cell_at s.file i)) (s.map.owner && is_unconsumed (place_at s.map i))) shared
+
+    no_copy : owns_copy s.map i ≡ false
+    no_copy = ap (λ b. not b && (s.map.owner && is_some (copy_of (place_at s.map i)))) shared
+
+    either : (a b : Bool) → (a || b) ≡ true → b ≡ false → a ≡ true
+    either true b e none = refl
+    either false true e none = cc
+    either false false e none = cc
+
+    here : (intent : Intent) → is_backed intent (Some s) i ≡ true → is_entered (cell_at s.file i) ≡ true
+    here Read e = sym reserved ∙ e
+    here Write e = sym reserved ∙ either (is_reserved s.file s.map i) (owns_copy s.map i) e no_copy
+
+-- a refusal that is not for want of memory, whatever would have been answered
+pub not_memory : {A B : Type 0} (e : Refusal) → (◌≡◌ {A = Result A Refusal} (Err e) (Err r.OutOfMemory) → ⊥) → ◌≡◌ {A = Result B Refusal} (Err e) (Err r.OutOfMemory) → ⊥
+not_memory e h same = h (ap Err (err_is same))
+  where
+    err_is : {B : Type 0} → ◌≡◌ {A = Result B Refusal} (Err e) (Err r.OutOfMemory) → e ≡ r.OutOfMemory
+    err_is same = cc
+
 -- ---- an access, and what follows it, whichever these are
 
 module _ {X : Type 0} (took : X → Section → PoolAnswer → X → Type 0) (full : X → Type 0) (m : Mount) (door : X) where
@@ -106,7 +136,10 @@ module _ {X : Type 0} (took : X → Section → PoolAnswer → X → Type 0) (fu
   KeepsRefusals then =
       (s : Spot) (p : Plan) (left : X) (e : Refusal) (new : Slot) → ThroughDoor took p (Some m) door (Err e) new left → ThroughDoor took (then s p) (Some m) door (Err e) new left
 
-  module _ (a : MapAccess) (asked : Asked) (size : ℕ) (act : Choice → Spot → Plan) (then : Spot → Plan → Plan) (keeps : KeepsRefusals then) where
+  module _ (size home : ℕ) (a : MapAccess) (intent : Intent) (asked : Asked) (then : Spot → Plan → Plan) (keeps : KeepsRefusals then) where
+    abbrev act : Choice → Spot → Plan
+    act c s = access c size m s home a.index intent
+
     abbrev plan : Choice → Plan
     plan c = with_value (spot_of a m) r.NoSuchMap (λ s. then s (unless (tests_of size a.index asked s) (act c s)))
 
@@ -122,22 +155,38 @@ module _ {X : Type 0} (took : X → Section → PoolAnswer → X → Type 0) (fu
     not_begun r.TraceFull h = absurd (is_not_early (why_is_early size a.index asked (spot_of a m) r.TraceFull h))
     not_begun other h = (fresh_choice false (Some m), is_fresh false (Some m), begun (fresh_choice false (Some m)) other (spot_of a m) h)
 
-    module _ (s : Spot) (found : spot_of a m ≡ Some s) (pass : first_of (tests_of size a.index asked s) ≡ None) where
-      plan_is : (c : Choice) → then s (act c s) ≡ plan c
+    module _ (at : MapPlace) (placed : IsPlaced m a asked size at) where
+      abbrev here : Spot
+      here = spot_at m at.file at.map
+
+      plan_is : (c : Choice) → then here (act c here) ≡ plan c
       plan_is c =
-          ap (then s) (sym (tests_pass (tests_of size a.index asked s) (act c s) pass))
-          ∙ sym (ap (λ o. with_value o r.NoSuchMap (λ x. then x (unless (tests_of size a.index asked x) (act c x)))) found)
+          ap (then here) (sym (tests_pass (tests_of size a.index asked here) (act c here) placed.pass))
+          ∙ sym (ap (λ o. with_value o r.NoSuchMap (λ x. then x (unless (tests_of size a.index asked x) (act c x)))) placed.found)
 
       -- it was refused
-      pub denied : (e : Refusal) (new : Slot) (left : X) → Tried took full (λ c. act c s) (Some m) door (Err e) new left → Tried took full plan (Some m) door (Err e) new left
-      denied r.TraceFull new left h = h
-      denied other new left h = (h.0, h.1, subst (λ p. ThroughDoor took p (Some m) door (Err other) new left) (plan_is h.0) (keeps s (act h.0 s) left other new h.2))
+      refusal_kept : (e : Refusal) (new : Slot) (left : X) → Tried took full (λ c. act c here) (Some m) door (Err e) new left → Tried took full plan (Some m) door (Err e) new left
+      refusal_kept r.TraceFull new left h = h
+      refusal_kept other new left h = (h.0, h.1, subst (λ p. ThroughDoor took p (Some m) door (Err other) new left) (plan_is h.0) (keeps here (act h.0 here) left other new h.2))
+
+      pub denied : (e : Refusal) (result : Result (Unit {0}) Refusal) (new : Mount) (left : X) → result ≡ Err e → IsAccessed took full size home at a.index intent m door result new left
+          → Tried took full plan (Some m) door (Err e) (Some new) left
+      denied e result new left is h = refusal_kept e (Some new) left (subst (λ q. IsAccessed took full size home at a.index intent m door q new left) is h)
 
       -- it was answered, and what follows it leaves this
-      pub went : (n : Slot) (left : X) (b : Answer) (new : Slot)
-          → ((p : Plan) → ThroughDoor took p (Some m) door (Ok Done) n left → ThroughDoor took (then s p) (Some m) door (Ok b) new left)
-          → Tried took full (λ c. act c s) (Some m) door (Ok Done) n left → Tried took full plan (Some m) door (Ok b) new left
-      went n left b new follows h = (h.0, h.1, subst (λ p. ThroughDoor took p (Some m) door (Ok b) new left) (plan_is h.0) (follows (act h.0 s) h.2))
+      pub went : (result : Result (Unit {0}) Refusal) (n : Mount) (left : X) (b : Answer) (new : Slot) → result ≡ Ok tt
+          → ((p : Plan) → ThroughDoor took p (Some m) door (Ok Done) (Some n) left → ThroughDoor took (then here p) (Some m) door (Ok b) new left)
+          → IsAccessed took full size home at a.index intent m door result n left → Tried took full plan (Some m) door (Ok b) new left
+      went result n left b new is follows access =
+          let h = subst (λ q. IsAccessed took full size home at a.index intent m door q n left) is access in
+          (h.0, h.1, subst (λ p. ThroughDoor took p (Some m) door (Ok b) new left) (plan_is h.0) (follows (act h.0 here) h.2))
+
+      -- an access that is backed is not refused memory
+      pub backed_not_memory : {B : Type 0} (e : Refusal) (result : Result (Unit {0}) Refusal) → result ≡ Err e
+          → (is_entered (cell_at (file_in m at.file) a.index) ≡ true → result ≢ Err r.OutOfMemory)
+          → is_backed intent (spot_of a m) a.index ≡ true → ◌≡◌ {A = Result B Refusal} (Err e) (Err r.OutOfMemory) → ⊥
+      backed_not_memory e result is never backed =
+          not_memory e (subst (λ q. q ≢ Err r.OutOfMemory) is (never (backed_is_entered intent (spot_of a m) here a.index placed.found placed.shared backed)))
 
   -- nothing follows
   pub nothing_follows : KeepsRefusals (λ s p. p)
@@ -187,30 +236,11 @@ written_is n s i offset bytes shared l below =
 pub write_grows : (k i offset : ℕ) (bytes : List ℕ) (f : File) → i < length f.cells → FileGrows f (with_cell f i (cell_written offset bytes (cell_at f i))) 0 0 0
 write_grows k i offset bytes f l = subst (λ cs. FileGrows f (record f { cells = cs }) 0 0 0) (edit_is_set (cell_written offset bytes) f.cells i Hole l) (writes true k i offset bytes f)
 
--- ---- memory
+-- ---- what follows a load and a store
 
--- an index that is backed for a shared map is entered
-pub backed_is_entered : (intent : Intent) (o : Option Spot) (s : Spot) (i : ℕ) → o ≡ Some s → is_shared s.map.sharing ≡ true → is_backed intent o i ≡ true → is_entered (cell_at s.file i) ≡ true
-backed_is_entered intent o s i found shared backed = here intent (ap (λ x. is_backed intent x i) (sym found) ∙ backed)
-  where
-    reserved : is_reserved s.file s.map i ≡ is_entered (cell_at s.file i)
-    reserved = ap (λ b. cond b (is_entered (cell_at s.file i)) (s.map.owner && is_unconsumed (place_at s.map i))) shared
+module _ (size i offset : ℕ) where
+  abbrev pub loads : (count : ℕ) → Spot → Mount → Outcome
+  loads count s n = Answered (bytes_answer offset count (value size (again n s).file (again n s).map i)) (Some n)
 
-    no_copy : owns_copy s.map i ≡ false
-    no_copy = ap (λ b. not b && (s.map.owner && is_some (copy_of (place_at s.map i)))) shared
-
-    either : (a b : Bool) → (a || b) ≡ true → b ≡ false → a ≡ true
-    either true b e none = refl
-    either false true e none = cc
-    either false false e none = cc
-
-    here : (intent : Intent) → is_backed intent (Some s) i ≡ true → is_entered (cell_at s.file i) ≡ true
-    here Read e = sym reserved ∙ e
-    here Write e = sym reserved ∙ either (is_reserved s.file s.map i) (owns_copy s.map i) e no_copy
-
--- a refusal that is not for want of memory, whatever would have been answered
-pub not_memory : {A B : Type 0} (e : Refusal) → (◌≡◌ {A = Result A Refusal} (Err e) (Err r.OutOfMemory) → ⊥) → ◌≡◌ {A = Result B Refusal} (Err e) (Err r.OutOfMemory) → ⊥
-not_memory e h same = h (ap Err (err_is same))
-  where
-    err_is : {B : Type 0} → ◌≡◌ {A = Result B Refusal} (Err e) (Err r.OutOfMemory) → e ≡ r.OutOfMemory
-    err_is same = cc
+  abbrev pub stores : (bytes : List ℕ) → Spot → Mount → Outcome
+  stores bytes s n = Answered Done (Some (written n s i offset bytes))
