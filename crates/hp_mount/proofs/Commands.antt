@@ -181,13 +181,6 @@ module _ {X : Type 0} (took : X → Section → PoolAnswer → X → Type 0) (fu
           let h = subst (λ q. IsAccessed took full size home at a.index intent m door q n left) is access in
           (h.0, h.1, subst (λ p. ThroughDoor took p (Some m) door (Ok b) new left) (plan_is h.0) (follows (act h.0 here) h.2))
 
-      -- an access that is backed is not refused memory
-      pub backed_not_memory : {B : Type 0} (e : Refusal) (result : Result (Unit {0}) Refusal) → result ≡ Err e
-          → (is_entered (cell_at (file_in m at.file) a.index) ≡ true → result ≢ Err r.OutOfMemory)
-          → is_backed intent (spot_of a m) a.index ≡ true → ◌≡◌ {A = Result B Refusal} (Err e) (Err r.OutOfMemory) → ⊥
-      backed_not_memory e result is never backed =
-          not_memory e (subst (λ q. q ≢ Err r.OutOfMemory) is (never (backed_is_entered intent (spot_of a m) here a.index placed.found placed.shared backed)))
-
   -- nothing follows
   pub nothing_follows : KeepsRefusals (λ s p. p)
   nothing_follows s p left e new h = h
@@ -235,6 +228,17 @@ written_is n s i offset bytes shared l below =
 
 pub write_grows : (k i offset : ℕ) (bytes : List ℕ) (f : File) → i < length f.cells → FileGrows f (with_cell f i (cell_written offset bytes (cell_at f i))) 0 0 0
 write_grows k i offset bytes f l = subst (λ cs. FileGrows f (record f { cells = cs }) 0 0 0) (edit_is_set (cell_written offset bytes) f.cells i Hole l) (writes true k i offset bytes f)
+
+-- a fault asks the same of a page of any size
+pub page_placed : (m : Mount) (a : MapAccess) (size other : ℕ) (at : MapPlace) → IsPlaced m a Page size at → IsPlaced m a Page other at
+page_placed m a size other at p = record { found = p.found; pass = p.pass; file = p.file; map = p.map; below = p.below; shared = p.shared }
+
+-- an access that is backed is not refused memory
+pub backed_not_memory : {B : Type 0} (a : MapAccess) (intent : Intent) (asked : Asked) (size : ℕ) (m : Mount) (at : MapPlace) → IsPlaced m a asked size at
+    → (e : Refusal) (result : Result (Unit {0}) Refusal) → result ≡ Err e → (is_entered (cell_at (file_in m at.file) a.index) ≡ true → result ≢ Err r.OutOfMemory)
+    → is_backed intent (spot_of a m) a.index ≡ true → ◌≡◌ {A = Result B Refusal} (Err e) (Err r.OutOfMemory) → ⊥
+backed_not_memory a intent asked size m at placed e result is never backed =
+    not_memory e (subst (λ q. q ≢ Err r.OutOfMemory) is (never (backed_is_entered intent (spot_of a m) (spot_at m at.file at.map) a.index placed.found placed.shared backed)))
 
 -- ---- what follows a load and a store
 

@@ -7,7 +7,7 @@ use Rattle.hp_model.specs.declared.refusal.Refusal.{Refusal}
 use Rattle.hp_model.specs.declared.refusal.Refusal.TheVariants.{BadName, FileExists, NoInodes, OutOfRange, TooMany}
 use Rattle.hp_model.specs.declared.step.Reserving.TheVariants.{Reserve}
 use Rattle.hp_model.specs.declared.step.Sharing.TheVariants.{Shared}
-use Rattle.hp_model.specs.File.{File, Mount, with_file}
+use Rattle.hp_model.specs.File.{Mount, with_file}
 use Rattle.hp_model.specs.Grant.{is_over}
 use Rattle.hp_model.specs.MakeMap.{asked, mapped}
 use Rattle.hp_model.specs.Plan.{Answered, Choice, Plan, Reply, grant}
