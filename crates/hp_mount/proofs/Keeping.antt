@@ -1,5 +1,5 @@
 -- What a mount keeps, through each change of its files.
-use Rattle.std.proofs.Common.{◌≡◌, ℕ, zero, suc, ◌+◌, ◌<◌, ◌≤◌, max, true, Option, List, [], ◌∷◌, length, None, refl, sym, ap, subst, ◌∙◌, arith}
+use Rattle.std.proofs.Common.{◌≡◌, ℕ, zero, suc, ◌+◌, ◌<◌, ◌≤◌, max, true, Bool, Option, List, [], ◌∷◌, length, None, refl, sym, ap, subst, ◌∙◌, arith}
 use Rattle.std.specs.Prelude.{slice_set, slice_index_or}
 use Rattle.std.proofs.lemmas.List.{get_or_default, get_or-set_same}
 use Rattle.hp_mount_door.specs.Door.{with_page, with_granted, with_reserves}
@@ -18,6 +18,8 @@ use Rattle.hp_laws.proofs.Maps.{mapped_grows}
 use Rattle.hp_laws.proofs.FileMoves as moves
 use Rattle.hp_laws.proofs.FileMoves.{FileGrows}
 use Rattle.hp_laws.proofs.MountMoves.{MountGrows, IsFileAt, file_grows}
+use Rattle.hp_mount_files.specs.declared.next_map.MapRange.{MapRange}
+use Rattle.hp_mount_files.specs.Asking.{wants}
 use Rattle.hp_mount_files.specs.Files.{Files, file_at, filled_at, mapped_at, with_cell_at}
 use Rattle.hp_mount.specs.Kept.{AreShared, IsKept, mount_of}
 use Rattle.hp_subpool.specs.Subpool as share
@@ -186,3 +188,15 @@ module _ (s : Subpool) (v w : Files) (inodes : Option ℕ) (c : IsKept s v (moun
 -- a map that is found is shared
 pub found_shared : (s : Subpool) (v : Files) (inodes : Option ℕ) → IsKept s v (mount_of s inodes v.files) → (k j : ℕ) → k < length v.files → j < length (file_at v.files k).maps → is_shared (map_in (file_in (mount_of s inodes v.files) k) j).sharing ≡ true
 found_shared s v inodes c k j l jl = All-get_or (λ (x : Map). is_shared x.sharing ≡ true) (file_at v.files k).maps j no_map jl (shared_here s v inodes c k l)
+
+-- ---- what a shared map of a range asks for
+
+module _ (s : Subpool) (v : Files) (inodes : Option ℕ) (m : Mount) (c : IsKept s v (mount_of s inodes v.files)) (view : mount_of s inodes v.files ≡ m) (k : ℕ) (range : MapRange) where
+  pub wants_is : wants range k v.files ≡ wants range k m.files
+  wants_is = ap (λ (x : Mount). wants range k x.files) view
+
+  pub full_as : (n : ℕ) (b : Bool) → n ≡ wants range k v.files → b ≡ share.is_full s n → grant.is_full m (wants range k m.files) ≡ b
+  full_as n b n_is b_is = ap (grant.is_full m) (sym (n_is ∙ wants_is)) ∙ sym (ap (λ (x : Mount). grant.is_full x n) view) ∙ sym (full_is s v (mount_of s inodes v.files) c refl refl n) ∙ sym b_is
+
+  pub rise_as : share.rise s (wants range k m.files) ≡ grant.rise m (wants range k m.files)
+  rise_as = rise_is s v (mount_of s inodes v.files) c refl refl (wants range k m.files) ∙ ap (λ (x : Mount). grant.rise x (wants range k m.files)) view

@@ -1,31 +1,19 @@
 use Rattle.std.proofs.Common.{◌<◌, Ok, Err, Some, length, refl, sym, ap, subst, ◌∙◌}
 use Rattle.hp_model.specs.declared.answer.Answer.TheVariants.{MapNo}
-use Rattle.hp_model.specs.declared.step.Reserving.TheVariants.{Reserve}
-use Rattle.hp_model.specs.declared.step.Sharing.TheVariants.{Shared}
 use Rattle.hp_model.specs.File.{Mount, with_file}
-use Rattle.hp_model.specs.Grant.{is_full, rise}
-use Rattle.hp_model.specs.MakeMap.{asked, mapped}
-use Rattle.hp_model.specs.Promises.{file_in}
-use Rattle.hp_mount_files.specs.Asking.{IsAsked, IsGranted}
-use Rattle.hp_model.specs.Plan.{Answered, grant}
+use Rattle.hp_mount_files.specs.Asking.{IsAsked, IsGranted, with_shared}
 use Rattle.hp_mount.specs.Done.{Tried}
 use Rattle.hp_mount.specs.Kept.{mount_of}
-use Rattle.hp_mount.proofs.Keeping.{full_is, map_kept, map_left, rise_is, room_left}
+use Rattle.hp_mount.specs.Making.{map_plan}
+use Rattle.hp_mount.proofs.Keeping.{full_as, map_kept, map_left, rise_as, room_left, wants_is}
 use Rattle.hp_mount.proofs.Making.{asked_share, grant_denied, grant_full, grant_given}
 use Rattle.hp_mount.proofs.mount.Mount.add_map.Goals as goal
 
 pub returns-then-is_full-clause-done : goal.returns-then-is_full-clause-done
 returns-then-is_full-clause-done g c =
     let o = c.self.inside in
-    let k = c.args.file in
-    let r = c.args.range.now in
-    let m = c.args.self.now in
-    let wants = asked Shared Reserve r.start r.pages (file_in m k) in
-    let after = with_file m k (mapped r.task c.args.next.number r.start r.pages Shared Reserve (file_in m k)) in
-    let there = ap (λ (x : Mount). asked Shared Reserve r.start r.pages (file_in x k)) c.self.view_is in
-    let wanted = c.wanted-wanted.ensures ∙ there in
-    let full = ap (is_full m) (sym wanted) ∙ sym (ap (λ (x : Mount). is_full x c.wanted-wanted.result) c.self.view_is) ∙ sym (full_is o.share o.files (mount_of o.share o.inodes o.files.files) c.self.invariant refl refl c.wanted-wanted.result) ∙ sym c.is_full.ensures in
-    grant_full g.D.PoolDoor.took g.D.PoolDoor.is_full m c.args.home wants (MapNo c.args.next.number) after c.args.door.now (full ∙ c.if-is_full.true)
+    let full = full_as o.share o.files o.inodes c.args.self.now c.self.invariant c.self.view_is c.args.file c.args.range.now c.wanted-wanted.result c.is_full.result c.wanted-wanted.ensures c.is_full.ensures in
+    grant_full g.D.PoolDoor.took g.D.PoolDoor.is_full c.args.self.now c.args.home _ (MapNo c.args.next.number) _ c.args.door.now (full ∙ c.if-is_full.true)
 
 pub invariant_of-self-2 : goal.invariant_of-self-2
 invariant_of-self-2 g c =
@@ -40,18 +28,14 @@ returns-clause-done g c =
     let k = c.args.file in
     let r = c.args.range.now in
     let m = c.args.self.now in
-    let wants = asked Shared Reserve r.start r.pages (file_in m k) in
-    let after = with_file m k (mapped r.task c.args.next.number r.start r.pages Shared Reserve (file_in m k)) in
-    let there = ap (λ (x : Mount). asked Shared Reserve r.start r.pages (file_in x k)) c.self.view_is in
-    let wanted = c.wanted-wanted.ensures ∙ there in
-    let full = ap (is_full m) (sym wanted) ∙ sym (ap (λ (x : Mount). is_full x c.wanted-wanted.result) c.self.view_is) ∙ sym (full_is o.share o.files (mount_of o.share o.inodes o.files.files) c.self.invariant refl refl c.wanted-wanted.result) ∙ sym c.is_full.ensures in
-    let rise_same = rise_is o.share o.files (mount_of o.share o.inodes o.files.files) c.self.invariant refl refl wants ∙ ap (λ (x : Mount). rise x wants) c.self.view_is in
+    let full = full_as o.share o.files o.inodes m c.self.invariant c.self.view_is k r c.wanted-wanted.result c.is_full.result c.wanted-wanted.ensures c.is_full.ensures in
+    let given = subst (λ n. IsGranted g.D.PoolDoor.took g.D.PoolDoor.is_full c.args.home n o.share c.args.door.now c.add_map.new.share c.add_map.new.door) (wants_is o.share o.files o.inodes m c.self.invariant c.self.view_is k r) c.in_default.ensures.asked in
     let within = subst (λ (x : Mount). k < length x.files) (sym c.self.view_is) c.requires.file in
-    let given = subst (λ n. IsGranted g.D.PoolDoor.took g.D.PoolDoor.is_full c.args.home n o.share c.args.door.now c.add_map.new.share c.add_map.new.door) there c.in_default.ensures.asked in
     let new_is = map_left o.share o.files o.inodes c.self.invariant k within r.task c.args.next.number r.start r.pages _ c.add_map.new.share c.add_map.new.self refl c.in_default.ensures.asked.share c.in_default.ensures.ok
-    ∙ ap (λ (x : Mount). with_file x k (mapped r.task c.args.next.number r.start r.pages Shared Reserve (file_in x k))) c.self.view_is in
-    let done = grant_given g.D.PoolDoor.took g.D.PoolDoor.is_full m c.args.home wants (MapNo c.args.next.number) after c.args.door.now (full ∙ c.if-is_full.false) o.share rise_same c.add_map.new.share c.add_map.new.door given in
-    subst (λ (x : Mount). Tried g.D.PoolDoor.took g.D.PoolDoor.is_full (λ p. grant p m c.args.home wants (Answered (MapNo c.args.next.number) (Some after))) (Some m) c.args.door.now (Ok (MapNo c.args.next.number)) (Some x) c.add_map.new.door) (sym new_is) done
+    ∙ ap (λ (x : Mount). with_file x k (with_shared r c.args.next.number k x.files)) c.self.view_is in
+    subst (λ (x : Mount). Tried g.D.PoolDoor.took g.D.PoolDoor.is_full (map_plan m r c.args.next.number c.args.home k) (Some m) c.args.door.now (Ok (MapNo c.args.next.number)) (Some x) c.add_map.new.door) (sym new_is)
+    (grant_given g.D.PoolDoor.took g.D.PoolDoor.is_full m c.args.home _ (MapNo c.args.next.number) _ c.args.door.now (full ∙ c.if-is_full.false) o.share
+    (rise_as o.share o.files o.inodes m c.self.invariant c.self.view_is k r) c.add_map.new.share c.add_map.new.door given)
 
 pub returns-in-Err-clause-done : goal.returns-in-Err-clause-done
 returns-in-Err-clause-done g c =
@@ -59,13 +43,9 @@ returns-in-Err-clause-done g c =
     let k = c.args.file in
     let r = c.args.range.now in
     let m = c.args.self.now in
-    let wants = asked Shared Reserve r.start r.pages (file_in m k) in
-    let after = with_file m k (mapped r.task c.args.next.number r.start r.pages Shared Reserve (file_in m k)) in
-    let there = ap (λ (x : Mount). asked Shared Reserve r.start r.pages (file_in x k)) c.self.view_is in
-    let wanted = c.wanted-wanted.ensures ∙ there in
-    let full = ap (is_full m) (sym wanted) ∙ sym (ap (λ (x : Mount). is_full x c.wanted-wanted.result) c.self.view_is) ∙ sym (full_is o.share o.files (mount_of o.share o.inodes o.files.files) c.self.invariant refl refl c.wanted-wanted.result) ∙ sym c.is_full.ensures in
-    let rise_same = rise_is o.share o.files (mount_of o.share o.inodes o.files.files) c.self.invariant refl refl wants ∙ ap (λ (x : Mount). rise x wants) c.self.view_is in
-    let denied = subst (λ n. IsAsked g.D.PoolDoor.took g.D.PoolDoor.is_full c.args.home n o.share c.args.door.now (Err c.in-Err.refusal) c.add_map.new.share c.add_map.new.door) there c.in-Err.ensures.asked in
+    let full = full_as o.share o.files o.inodes m c.self.invariant c.self.view_is k r c.wanted-wanted.result c.is_full.result c.wanted-wanted.ensures c.is_full.ensures in
+    let denied = subst (λ n. IsAsked g.D.PoolDoor.took g.D.PoolDoor.is_full c.args.home n o.share c.args.door.now (Err c.in-Err.refusal) c.add_map.new.share c.add_map.new.door) (wants_is o.share o.files o.inodes m c.self.invariant c.self.view_is k r) c.in-Err.ensures.asked in
     let same = asked_share g.D.PoolDoor.took g.D.PoolDoor.is_full c.args.home _ o.share c.args.door.now c.in-Err.refusal c.add_map.new.share c.add_map.new.door c.in-Err.ensures.asked in
     let stays = ap (λ x. mount_of x o.inodes c.add_map.new.self.files) same ∙ room_left o.share o.files c.add_map.new.self o.inodes c.self.invariant c.in-Err.ensures.err ∙ c.self.view_is in
-    grant_denied g.D.PoolDoor.took g.D.PoolDoor.is_full m c.args.home wants (MapNo c.args.next.number) after c.args.door.now (full ∙ c.if-is_full.false) o.share rise_same c.in-Err.refusal c.add_map.new.share c.add_map.new.door _ denied stays
+    grant_denied g.D.PoolDoor.took g.D.PoolDoor.is_full m c.args.home _ (MapNo c.args.next.number) _ c.args.door.now (full ∙ c.if-is_full.false) o.share
+    (rise_as o.share o.files o.inodes m c.self.invariant c.self.view_is k r) c.in-Err.refusal c.add_map.new.share c.add_map.new.door _ denied stays
