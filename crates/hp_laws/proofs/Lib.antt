@@ -48,6 +48,7 @@ pub mod FilesSound
 pub mod MountsSound
 pub mod CopiesSound
 pub mod Walk
+pub mod Whole
 pub mod LeavesWalk
 pub mod PlanRules
 pub mod EventsSound

@@ -339,4 +339,4 @@ pub promised : PromisesAreKept
 promised s step reply t st is =
     let kept = step_kept s reply t st step is in
     let after = step_settled s step reply t st is in
-    record { reserved = kept.reserved; counts = counts_are_sums t after; limits = kept.limits; mounts = step_keeps s reply t step is; minimums = minimums_hold t after; loads = kept.loads; answers = step_tells s reply t st step is; makes = step_makes s reply t step is; refused = step_leaves s reply t st step is; files = files_by_name s step reply t (step_placed s reply t step is) kept.files; maps = maps_by_number s step reply t (step_placed s reply t step is) kept.maps kept.marks; together = maps_together s step reply t (step_placed s reply t step is); cut_off = kept.cut_off }
+    record { reserved = kept.reserved; counts = counts_are_sums t after; limits = kept.limits; mounts = step_keeps s reply t step is; minimums = minimums_hold t after; loads = kept.loads; answers = step_tells s st reply t step is; makes = step_makes s reply t step is; refused = step_leaves s st reply t step is; files = files_by_name s step reply t (step_placed s reply t step is) kept.files; maps = maps_by_number s step reply t (step_placed s reply t step is) kept.maps kept.marks; together = maps_together s step reply t (step_placed s reply t step is); cut_off = kept.cut_off }

@@ -75,7 +75,7 @@ number_le task m =
     let same = length-map (filter (is_of task) (maps_of m)) (λ x. x.number) in
     omega (arith, at, long, few, same)
 
-rows_many : (s : State) (a : ℕ) (xs : List Node) → length (rows_of s a xs) ≡ length xs
+pub rows_many : (s : State) (a : ℕ) (xs : List Node) → length (rows_of s a xs) ≡ length xs
 rows_many s a [] = refl
 rows_many s a (x ∷ xs) = ap suc (rows_many s (a + 1) xs)
 
