@@ -49,6 +49,10 @@ pub mod MountsSound
 pub mod CopiesSound
 pub mod Walk
 pub mod Whole
+pub mod Changes
+pub mod Meant
+pub mod Follows
+pub mod ByPlace
 pub mod LeavesWalk
 pub mod PlanRules
 pub mod EventsSound

@@ -25,7 +25,7 @@ lead_same ks ls same =
 
 -- ---- more at the end
 
-found_more : {X : Type 0} (t : X → Bool) (xs ys : List X) (q : ℕ × X) → found t xs ≡ Some q → found t (xs ++ ys) ≡ Some q
+pub found_more : {X : Type 0} (t : X → Bool) (xs ys : List X) (q : ℕ × X) → found t xs ≡ Some q → found t (xs ++ ys) ≡ Some q
 found_more t [] ys q e = cc
 found_more {X = X} t (x ∷ xs) ys q e = by_head (t x) (found t xs) refl (λ p w. found_more t xs ys p w) e
   where
