@@ -33,7 +33,8 @@ pub record PlaceKeeps (size : ℕ) (m : Mount) (e : SlotEvent) (n : Mount) : Typ
   pub maps : (task number x : ℕ) (p : Spot) → spot m (is_map task number) ≡ Some p
       → (seen_on size (Some n) p.file_no p.map_no x ≡ seen_by size (Some m) e p.file_no p.map_no x (seen_on size (Some m) p.file_no p.map_no x))
       ⊎ LosesAt m e n p.file_no p.map_no x
-  pub marks : (j l : ℕ) → (map_on (Some m) j l).unmapped ≡ true → (map_on (Some n) j l).unmapped ≡ true
+  pub marks : (task number : ℕ) (p : Spot) → spot m (is_map task number) ≡ Some p
+      → (map_on (Some m) p.file_no p.map_no).unmapped ≡ true → (map_on (Some n) p.file_no p.map_no).unmapped ≡ true
 
 module _ (size : ℕ) (m n : Mount) where
   -- what was lost by place was lost by number
@@ -72,7 +73,7 @@ module _ (size : ℕ) (m n : Mount) where
           file = λ name goes_on named.
               (let g = keeps.names name (p.file_no, p.file) goes_on named in
               file_same (Some n) name g.0 task number q g.1 there (g.2 ∙ sym (ap (λ (x : Where). x.0) same)));
-          marked = λ marked. ap (λ (x : Map). x.unmapped) (sym new) ∙ keeps.marks p.file_no p.map_no (ap (λ (x : Map). x.unmapped) old ∙ marked);
+          marked = λ marked. ap (λ (x : Map). x.unmapped) (sym new) ∙ keeps.marks task number p found (ap (λ (x : Map). x.unmapped) old ∙ marked);
           shows = ⊎_elim
               (λ shows. inl (sym (seen_shown size (Some n) task number q i there) ∙ ap (λ (x : Where). seen_on size (Some n) x.0 x.1 i) same ∙ shows
               ∙ ap (seen_by size (Some m) e p.file_no p.map_no i) (seen_shown size (Some m) task number p i found)))

@@ -172,7 +172,7 @@ module _ (m : Mount) where
   some_map f test (Some p) q e = (p, refl, (let w : spot_in f p ≡ q = cc in w))
 
   -- what is found in the file, there or elsewhere
-  some_file : (test : Map → Bool) (o : Option (ℕ × File)) (q : Spot) → in_file test o ≡ Some q → (f : ℕ × File) × (o ≡ Some f) × ((p : ℕ × Map) × (found test f.1.maps ≡ Some p) × (spot_in f p ≡ q))
+  pub some_file : (test : Map → Bool) (o : Option (ℕ × File)) (q : Spot) → in_file test o ≡ Some q → (f : ℕ × File) × (o ≡ Some f) × ((p : ℕ × Map) × (found test f.1.maps ≡ Some p) × (spot_in f p ≡ q))
   some_file test None q e = cc
   some_file test (Some f) q e = (f, refl, some_map f test (found test f.1.maps) q e)
 
@@ -273,7 +273,10 @@ module _ (m : Mount) (h : File → File) (ok : Map → Bool) (each : FilesFollow
 
 -- ---- maps that go, and maps that are made for a child
 
-pub thin_follows : (keep : Map → Bool) → FilesFollow (λ f. record f { maps = filter keep f.maps }) keep
+abbrev pub thin : (Map → Bool) → File → File
+thin keep f = record f { maps = filter keep f.maps }
+
+pub thin_follows : (keep : Map → Bool) → FilesFollow (thin keep) keep
 thin_follows keep = record {
   names = λ f. refl;
   cells = λ f. refl;

@@ -53,6 +53,9 @@ pub mod Changes
 pub mod Meant
 pub mod Follows
 pub mod ByPlace
+pub mod Cuts
+pub mod Unmaps
+pub mod SlotKept
 pub mod LeavesWalk
 pub mod PlanRules
 pub mod EventsSound

@@ -12,8 +12,6 @@ use Rattle.hp_model.specs.Spot.{Spot}
 use Rattle.hp_model.specs.State.{State, slot_at}
 use Rattle.hp_model.specs.Value.{shown, value}
 use Rattle.hp_laws.proofs.Keys.{Where, places}
-use Rattle.hp_laws.proofs.Lifted.{KeepsBut}
-use Rattle.hp_laws.proofs.Meanings.{SlotPlaced}
 use Rattle.hp_laws.proofs.MountMoves.{spot_is}
 use Rattle.hp_laws.proofs.Places.{found_place}
 use Rattle.hp_laws.proofs.Seen.{IsLostAt}
