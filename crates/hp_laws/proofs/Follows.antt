@@ -97,7 +97,7 @@ pub record Follows (m n : Mount) (ok : Map → Bool) : Type 0 where
       → (r : Spot) × (spot n (is_map task number) ≡ Some r) × (r.file_no ≡ to q.file_no) × (r.map ≡ q.map) × (r.file.cells ≡ q.file.cells)
   pub apart : (a b : ℕ × ℕ) (q o : Spot) → spot m (is_map a.0 a.1) ≡ Some q → spot m (is_map b.0 b.1) ≡ Some o → (to q.file_no == to o.file_no) ≡ (q.file_no == o.file_no)
 
-both_same : (together : Bool) (x y : Option Spot) → SameFiles together x y → (p : Spot) (o : Spot) → x ≡ Some p → y ≡ Some o → (p.file_no == o.file_no) ≡ together
+pub both_same : (together : Bool) (x y : Option Spot) → SameFiles together x y → (p : Spot) (o : Spot) → x ≡ Some p → y ≡ Some o → (p.file_no == o.file_no) ≡ together
 both_same together (Some a) (Some b) same p o e w = ap (λ z. z.file_no == o.file_no) (sym (some_same a p e)) ∙ ap (λ z. a.file_no == z.file_no) (sym (some_same b o w)) ∙ same
   where
     some_same : (a p : Spot) → Some a ≡ Some p → a ≡ p

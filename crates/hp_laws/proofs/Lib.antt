@@ -56,6 +56,7 @@ pub mod ByPlace
 pub mod Cuts
 pub mod Unmaps
 pub mod SlotKept
+pub mod Fades
 pub mod LeavesWalk
 pub mod PlanRules
 pub mod EventsSound

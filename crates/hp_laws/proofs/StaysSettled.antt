@@ -136,7 +136,7 @@ events_settled : (s : State) → IsSettledState s → (es : List (Event × Reply
 events_settled s st [] t run = subst IsSettledState run st
 events_settled s st (e ∷ es) t run = events_settled run.0 (event_settled s e.0 e.1 run.0 st run.1) es t run.2
 
-either_way : {P Q R : Type 0} (b : Bool) → (P → R) → (Q → R) → MatchBool b P Q → R
+pub either_way : {P Q R : Type 0} (b : Bool) → (P → R) → (Q → R) → MatchBool b P Q → R
 either_way true f g is = f is
 either_way false f g is = g is
 
