@@ -24,6 +24,7 @@ use Rattle.hp_model.specs.SlotEvent.{slot_event}
 use Rattle.hp_model.specs.State.{State, slot_at}
 use Rattle.hp_model.specs.Step.{IsBuiltStep, IsScript, IsStep, finding, on_slot, only}
 use Rattle.hp_laws.specs.Balance.{left_by}
+use Rattle.hp_laws.proofs.Fades.{Fades, exit_fade, fork_fade}
 use Rattle.hp_laws.proofs.Outcomes.{Always, event_ends, finding_goes, only_goes, reply_of, slot_goes}
 use Rattle.hp_laws.proofs.Shown.{On}
 use Rattle.hp_laws.proofs.SlotShows.{always_mount}
@@ -107,6 +108,9 @@ module _ (R : Slot → Slot → Type 0) (same : (old : Slot) → R old old) wher
     event_by (OnPool e) whole is = slots_stay s t _ (sym (ap (λ (q : Reply × State). q.1.slots) is.2))
 
   pub step_by : ((size k : ℕ) (c : Choice) (old : Slot) (e : SlotEvent) → Always (EndsBy R (is_umount e) old) (slot_event size k c old e))
+      → ((size gone : ℕ) (x y : Slot) → Fades size gone x y → R x y)
       → (s : State) (reply : Reply) (t : State) (step : Step) → IsStep s step reply t → KeepsBut R (is_unmounted step reply) s t
-  step_by h s reply t step is =
-      by_event s (λ step reply t. KeepsBut R (is_unmounted step reply) s t) (λ step r early k there. same (slot_at s k)) (λ e reply t whole it. event_by h s reply t e whole it) reply t step is
+  step_by h fades s reply t step is =
+      by_event s (λ step reply t. KeepsBut R (is_unmounted step reply) s t) (λ step r early k there. same (slot_at s k)) (λ e reply t whole it. event_by h s reply t e whole it)
+      (λ parent child reply t built it k there. fades s.page_size child (slot_at s k) (slot_at t k) ((fork_fade s parent child reply t it).slots k))
+      (λ task reply t built it k there. fades s.page_size task (slot_at s k) (slot_at t k) ((exit_fade s task reply t it).slots k)) reply t step is

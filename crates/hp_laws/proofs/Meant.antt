@@ -16,7 +16,7 @@ use Rattle.hp_model.specs.declared.event.TableEvent.TheVariants as table
 use Rattle.hp_model.specs.declared.refusal.Refusal.{Refusal}
 use Rattle.hp_model.specs.declared.step.Intent.TheVariants.{Read, Write}
 use Rattle.hp_model.specs.declared.step.Step.{Step}
-use Rattle.hp_model.specs.declared.step.Step.TheVariants.{Store}
+use Rattle.hp_model.specs.declared.step.Step.TheVariants.{Exit, Fork, Store}
 use Rattle.hp_model.specs.Event.{IsEvent}
 use Rattle.hp_model.specs.File.{File, cell_at}
 use Rattle.hp_model.specs.Page.{zeros}
@@ -27,10 +27,11 @@ use Rattle.hp_model.specs.SlotEvent.{slot_event}
 use Rattle.hp_model.specs.Sound.{IsSound}
 use Rattle.hp_model.specs.Spot.{Spot}
 use Rattle.hp_model.specs.State.{State, slot_at}
-use Rattle.hp_model.specs.Step.{IsStep}
+use Rattle.hp_model.specs.Step.{IsBuiltStep, IsStep}
 use Rattle.hp_model.specs.Value.{shown, value}
 use Rattle.hp_laws.specs.Balance.{left_by}
 use Rattle.hp_laws.proofs.Changes.{KeepsSlot, KeptMap, LosesBy, SlotKeeps, ends_name, ends_number, seen_by, stored_by}
+use Rattle.hp_laws.proofs.Fades.{AllFade, exit_fade, exit_refused, fork_fade}
 use Rattle.hp_laws.proofs.Outcomes.{Always, Ends, event_ends, reply_of}
 use Rattle.hp_laws.proofs.Tied.{left_sound}
 use Rattle.hp_laws.proofs.Whole.{by_event, is_whole, slot_step, step_of}
@@ -193,6 +194,44 @@ pool_idle s (pool.Overcommit n) reply = (λ k j i old. refl, λ k j l i old. ref
 pool_idle s pool.Meminfo reply = (λ k j i old. refl, λ k j l i old. refl)
 pool_idle s pool.Nodes reply = (λ k j i old. refl, λ k j l i old. refl)
 
+-- ---- a step that ends maps of a task
+
+module _ (s : State) (step : Step) (reply : Reply) (t : State) (gone : ℕ) (fade : AllFade gone s t) (idle : Idle s step reply)
+    (number : (k task no : ℕ) → is_ended_number s step reply k task no ≡ false → (gone == task) ≡ false) where
+  fade_map : (k : ℕ) (p q : Spot) (i : ℕ) → KeptMap s.page_size (slot_at s k) (slot.ExitMaps gone) (slot_at t k) p q i → StillMapped s step reply t k p q i
+  fade_map k p q i kept = record {
+    shape = kept.shape;
+    file = λ name stays named. kept.file name refl named;
+    marked = kept.marked;
+    shows = ⊎_elim
+        (λ same. inl (ap (λ n. value n q.file q.map i) fade.size ∙ same ∙ idle.1 k p.file_no p.map_no i (value s.page_size p.file p.map i)))
+        (λ lost. absurd lost) kept.shows;
+  }
+
+  fade_meant : Meant s step reply t
+  fade_meant k = record {
+    names = λ name i f stays named.
+        (let kept = (fade.slots k).keeps.names name i f refl named in
+        (kept.0, kept.1, ap (λ n. shown n (cell_at kept.0.1 i)) fade.size ∙ kept.2 ∙ idle.0 k f.0 i (shown s.page_size (cell_at f.1 i))));
+    numbers = λ task no i p stays found.
+        (let kept = (fade.slots k).keeps.numbers task no i p (number k task no stays) found in (kept.0, kept.1, fade_map k p kept.0 i kept.2));
+    together = λ a b p o first second.
+        (fade.slots k).keeps.together a b p o (number k a.0 a.1 first.0) (number k b.0 b.1 second.0) first.1 second.1;
+  }
+
+fork_meant : (s : State) (parent child : ℕ) (reply : Reply) (t : State) → IsBuiltStep s (Fork parent child) reply t → Meant s (Fork parent child) reply t
+fork_meant s parent child reply t is =
+    fade_meant s (Fork parent child) reply t child (fork_fade s parent child reply t is) (table_idle s (table.FindAndAdd parent child) reply) (λ k task no stays. stays)
+
+exit_meant : (s : State) (task : ℕ) (reply : Reply) (t : State) → IsBuiltStep s (Exit task) reply t → Meant s (Exit task) reply t
+exit_meant s task (Ok a) t is =
+    fade_meant s (Exit task) (Ok a) t task (exit_fade s task (Ok a) t is) (table_idle s (table.Remove task) (Ok a)) (λ k other no stays. stays)
+exit_meant s task (Err r) t is =
+    subst (λ x. Meant s (Exit task) (Err r) x) (sym (exit_refused s task r t is))
+    (λ k. still_meant s (Exit task) (Err r) s k refl refl (refused_stores s (Exit task) r k) (refused_writes s (Exit task) r k))
+
+-- ---- each step
+
 module _ (s : State) (h : (k : ℕ) (c : Choice) (e : SlotEvent) → IsSound (slot_at s k) → Always (KeepsSlot s.page_size (slot_at s k) e) (slot_event s.page_size k c (slot_at s k) e)) (st : IsSettledState s) where
   outcome_meant : (k : ℕ) (e : SlotEvent) (t : State) (o : Outcome) → k < length s.slots → t.page_size ≡ s.page_size → t.slots ≡ slice_set s.slots k (left_by (slot_at s k) o)
       → KeepsSlot s.page_size (slot_at s k) e o → Meant s (slot_step k e) (reply_of o) t
@@ -228,4 +267,5 @@ module _ (s : State) (h : (k : ℕ) (c : Choice) (e : SlotEvent) → IsSound (sl
   pub step_meant : (reply : Reply) (t : State) (step : Step) → IsStep s step reply t → Meant s step reply t
   step_meant reply t step is =
       by_event s (λ step reply t. Meant s step reply t)
-      (λ step r early k. still_meant s step (Err r) s k refl refl (refused_stores s step r k) (refused_writes s step r k)) event_meant reply t step is
+      (λ step r early k. still_meant s step (Err r) s k refl refl (refused_stores s step r k) (refused_writes s step r k)) event_meant
+      (λ parent child reply t built it. fork_meant s parent child reply t it) (λ task reply t built it. exit_meant s task reply t it) reply t step is

@@ -20,6 +20,7 @@ use Rattle.hp_laws.specs.Laws.{KeepsGoing, PromisesAreKept}
 use Rattle.hp_laws.proofs.Answered.{step_leaves, step_tells}
 use Rattle.hp_laws.proofs.Backed.{Stops, fault_goes, fault_stops, load_goes, load_stops, store_goes, store_stops}
 use Rattle.hp_laws.proofs.CountsHold.{counts_are_sums, limits_hold, minimums_hold}
+use Rattle.hp_laws.proofs.Fades.{AllFade, exit_fade, fork_fade}
 use Rattle.hp_laws.proofs.Limited.{step_keeps}
 use Rattle.hp_laws.proofs.Made.{step_makes}
 use Rattle.hp_laws.proofs.Meant.{step_meant}
@@ -99,8 +100,14 @@ module _ (s : State) (st : IsSettledState s) (reply : Reply) (t : State) where
   event_kept : (e : Event) → IsEvent s e reply t → Kept s (step_of e) reply t
   event_kept e is = record { reserved = event_goes e is; limits = λ k l risen. limits_hold s e reply t k l st is risen; loads = event_shows e is; cut_off = event_stops e is }
 
+-- where maps of a task end, no mount uses more
+fade_limits : (s : State) (gone : ℕ) (t : State) → AllFade gone s t → (k : ℕ) → k < length s.slots → slot_usage (slot_at s k) < slot_usage (slot_at t k) → IsWithinLimit (slot_at t k)
+fade_limits s gone t fade k l risen = let less = (fade.slots k).usage in absurd (omega (arith, less, risen))
+
 step_kept : (s : State) → IsSettledState s → (reply : Reply) (t : State) (step : Step) → IsStep s step reply t → Kept s step reply t
-step_kept s st reply t step is = by_event s (λ step reply t. Kept s step reply t) (early_kept s) (λ e reply t whole it. event_kept s st reply t e it) reply t step is
+step_kept s st reply t step is = by_event s (λ step reply t. Kept s step reply t) (early_kept s) (λ e reply t whole it. event_kept s st reply t e it)
+    (λ parent child reply t built it. record { reserved = λ e. cc; limits = fade_limits s child t (fork_fade s parent child reply t it); loads = tt; cut_off = λ e. cc })
+    (λ task reply t built it. record { reserved = λ e. cc; limits = fade_limits s task t (exit_fade s task reply t it); loads = tt; cut_off = λ e. cc }) reply t step is
 
 pub promised : PromisesAreKept
 promised s step reply t st is =

@@ -32,10 +32,10 @@ use Rattle.hp_model.specs.declared.step.Reserving.TheVariants.{Reserve}
 use Rattle.hp_model.specs.declared.step.Sharing.{Sharing}
 use Rattle.hp_model.specs.declared.step.Sharing.TheVariants.{Shared}
 use Rattle.hp_model.specs.declared.step.Step.{Step}
-use Rattle.hp_model.specs.declared.step.Step.TheVariants.{Attach, Df, Ls, Stat}
+use Rattle.hp_model.specs.declared.step.Step.TheVariants.{Attach, Df, Exit, Fork, Ls, Stat}
 use Rattle.hp_model.specs.Access.{access, new_copy, private_access, shared_access}
 use Rattle.hp_model.specs.CopyWrite.{copy_write, is_held_once, owner_write, taken_back}
-use Rattle.hp_model.specs.Event.{IsEvent}
+use Rattle.hp_model.specs.Event.{IsEvent, has_maps_of}
 use Rattle.hp_model.specs.Fork.{forked}
 use Rattle.hp_model.specs.GiveBack.{punched, truncated, unlinked, unmapped_from, without_task}
 use Rattle.hp_model.specs.File.{File, Mount, cell_at, has_page, maps_of, new_file, with_file}
@@ -55,13 +55,14 @@ use Rattle.hp_model.specs.Settled.{IsSettledState}
 use Rattle.hp_model.specs.SlotEvent.{anon_tests, edited, fault, fault_tests, fork_tests, is_bad_range, on_mount, punch, read, truncate, unlink, unmap, are_too_many_maps, byte_access, bytes_answer, file_named, has_maps, is_beyond, is_name, is_new_task_over, is_unmapped, load, map_file, slot_event, store}
 use Rattle.hp_model.specs.Spot.{Spot, again, copied, spot, written}
 use Rattle.hp_model.specs.State.{Node, State, slot_at}
-use Rattle.hp_model.specs.Step.{IsBuiltStep, IsStep, is_unbuilt}
+use Rattle.hp_model.specs.Step.{Answer_with, Do, IsBuiltStep, IsScript, IsStep, Script, Where_mapped, exit_slots, fork_slots, is_unbuilt, or_undone, script, when_done}
 use Rattle.hp_model.specs.Table.{Table, added, home_of, is_crowded, is_known, or_refused, removed, table_event, when_known}
 use Rattle.hp_model.specs.Value.{shown, value}
 use Rattle.hp_model.specs.Writing.{IsWithinLimits}
 use Rattle.hp_laws.proofs.MountMoves.{IsSpot, spot_is}
 use Rattle.hp_laws.proofs.Outcomes.{Always, always_if, outcome_if, always_test, always_then, always_weaker, event_ends, reply_of, IsLeft, only_goes, slot_goes, finding_goes}
 use Rattle.hp_laws.proofs.Shown.{On, Same, Result, on_weaker, read_same, write_done}
+use Rattle.hp_laws.proofs.StaysSettled.{either_way}
 use Rattle.hp_laws.proofs.Whole.{by_event, is_whole, step_of}
 use Rattle.hp_laws.proofs.SlotShows.{always_gives, always_grant, always_mount, always_unless, always_value, bytes_on}
 
@@ -378,6 +379,37 @@ module _ (s : State) (st : IsSettledState s) where
   event_small (OnSlot k e) reply t is apart =
       let ends = event_ends Small s k e reply t (λ c. slot_small s.page_size k c (slot_at s k) e apart) is in subst IsWithinLimits (sym ends.replied) ends.holds
 
+-- ---- scripts
+
+-- all that it replies with is so
+abbrev Replies : Script → Type 0
+Replies (Answer_with r) = IsWithinLimits r
+Replies (Do e next) = (r : Reply) → Replies (next r)
+Replies (Where_mapped k task mapped other) = Replies mapped × Replies other
+
+script_small : (c : Script) → Replies c → (s : State) (reply : Reply) (t : State) → IsScript s c reply t → IsWithinLimits reply
+script_small (Answer_with r) all s reply t is = subst IsWithinLimits (sym is.0) all
+script_small (Do e next) all s reply t is = script_small (next is.0) (all is.0) is.1 reply t is.3
+script_small (Where_mapped k task mapped other) all s reply t is =
+    either_way (has_maps_of task (slot_at s k)) (λ it. script_small mapped all.0 s reply t it) (λ it. script_small other all.1 s reply t it) is
+
+when_small : (r : Reply) (next : Script) → Replies next → Replies (when_done r next)
+when_small (Err r) next all = tt
+when_small (Ok a) next all = all
+
+exits_small : (ks : List ℕ) (task : ℕ) (next : Script) → Replies next → Replies (exit_slots ks task next)
+exits_small [] task next all = all
+exits_small (k ∷ ks) task next all = ((λ r. exits_small ks task next all), exits_small ks task next all)
+
+or_undone_small : (done : List ℕ) (child : ℕ) (r : Reply) (next : Script) → Replies next → Replies (or_undone done child r next)
+or_undone_small done child (Err r) next all = exits_small done child _ (λ reply. tt)
+or_undone_small done child (Ok a) next all = all
+
+forks_small : (ks done : List ℕ) (parent child : ℕ) → Replies (fork_slots ks done parent child)
+forks_small [] done parent child = tt
+forks_small (k ∷ ks) done parent child =
+    ((λ r. or_undone_small done child r (fork_slots ks (done ++ k ∷ []) parent child) (forks_small ks (done ++ k ∷ []) parent child)), forks_small ks done parent child)
+
 -- ---- each step
 
 -- the numbers of a mount, a file or a task, and names, are as large as they were made
@@ -402,7 +434,9 @@ module _ (s : State) (st : IsSettledState s) where
 
   pub step_small : (reply : Reply) (t : State) (step : Step) → IsStep s step reply t → is_told_step step ≡ false → IsWithinLimits reply
   step_small reply t step is =
-      by_event s SmallUnlessTold (λ step r early apart. tt) (λ e reply t whole it apart. event_small s st e reply t it (sym (told_same e whole) ∙ apart)) reply t step is
+      by_event s SmallUnlessTold (λ step r early apart. tt) (λ e reply t whole it apart. event_small s st e reply t it (sym (told_same e whole) ∙ apart))
+      (λ parent child reply t built it apart. script_small (script (length s.slots) (Fork parent child)) (λ r. when_small r (fork_slots (range_with_len 0 (length s.slots)) [] parent child) (forks_small (range_with_len 0 (length s.slots)) [] parent child)) s reply t it)
+      (λ task reply t built it apart. script_small (script (length s.slots) (Exit task)) (λ r. when_small r (exit_slots (range_with_len 0 (length s.slots)) task (Answer_with (Ok Done))) (exits_small (range_with_len 0 (length s.slots)) task (Answer_with (Ok Done)) tt)) s reply t it) reply t step is
 
 -- of these only `df` is built
 unbuilt_small : (s : State) (step : Step) (reply : Reply) (t : State) → is_unbuilt s step ≡ true → IsStep s step reply t → IsWithinLimits reply

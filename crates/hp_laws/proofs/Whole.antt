@@ -1,4 +1,4 @@
--- A step of one event on a slot, the pool or the task table: what its event does is what the step does.
+-- From events to steps: what the one event of a step does is what the step does. A fork and an exit are several events.
 use Rattle.std.proofs.Common.{◌≡◌, ⊎_elim, inl, inr, ◌⊎◌, subst, ℕ, Bool, true, false, Err, length, refl, sym}
 use Rattle.std.specs.Bool.{MatchBool}
 use Rattle.hp_model.specs.declared.event.Event.{Event}
@@ -81,14 +81,10 @@ is_alone (Fork parent child) = false
 is_alone (Exit task) = false
 is_alone other = true
 
--- of the others none is built yet
-alone_if_built : (s : State) (step : Step) → is_unbuilt s step ≡ false → is_alone step ≡ true
-alone_if_built s (Fork parent child) built = cc
-alone_if_built s (Exit task) built = cc
-alone_if_built s other built = refl
-
 module _ (s : State) (P : Step → Reply → State → Type 0) (early : (step : Step) (r : Refusal) → is_early r ≡ true → P step (Err r) s)
-    (done : (e : Event) (reply : Reply) (t : State) → is_whole e ≡ true → IsEvent s e reply t → P (step_of e) reply t) (reply : Reply) (t : State) where
+    (done : (e : Event) (reply : Reply) (t : State) → is_whole e ≡ true → IsEvent s e reply t → P (step_of e) reply t)
+    (forks : (parent child : ℕ) (reply : Reply) (t : State) → is_unbuilt s (Fork parent child) ≡ false → IsBuiltStep s (Fork parent child) reply t → P (Fork parent child) reply t)
+    (exits : (task : ℕ) (reply : Reply) (t : State) → is_unbuilt s (Exit task) ≡ false → IsBuiltStep s (Exit task) reply t → P (Exit task) reply t) (reply : Reply) (t : State) where
   by_left : (step : Step) (r : Refusal) → is_early r ≡ true → IsLeft s r reply t → P step reply t
   by_left step r is left = subst (λ x. P step x t) (sym left.replied) (subst (λ x. P step (Err r) x) (sym left.same) (early step r is))
 
@@ -136,10 +132,15 @@ module _ (s : State) (P : Step → Reply → State → Type 0) (early : (step : 
   by_script Nodes alone is = by_only (OnPool pool.Nodes) refl is
   by_script (Df k) alone is = by_slot k slot.Df refl is
 
+  by_kind : (step : Step) → is_unbuilt s step ≡ false → IsBuiltStep s step reply t → P step reply t
+  by_kind (Fork parent child) built is = forks parent child reply t built is
+  by_kind (Exit task) built is = exits task reply t built is
+  by_kind other built is = by_script other refl is
+
   pub by_event : (step : Step) → IsStep s step reply t → P step reply t
   unfolding IsStep
   by_event step is = by_test (is_unbuilt s step) refl is
     where
       by_test : (b : Bool) → is_unbuilt s step ≡ b → MatchBool b ((reply ≡ Err BadLine) × (t ≡ s)) (IsBuiltStep s step reply t) → P step reply t
       by_test true is left = by_left step BadLine refl (record { replied = left.0; same = left.1 })
-      by_test false built is = by_script step (alone_if_built s step built) is
+      by_test false built is = by_kind step built is
