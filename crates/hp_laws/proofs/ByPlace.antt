@@ -1,18 +1,16 @@
 -- What is shown by place is shown by name and number, where these stay in place.
-use Rattle.std.proofs.Common.{◌≡◌, ⊎_elim, inl, inr, ◌⊎◌, subst, ℕ, Bool, true, false, ◌==◌, Option, None, Some, List, refl, sym, ap, ◌∙◌}
+use Rattle.std.proofs.Common.{◌≡◌, ⊎_elim, inl, inr, ◌⊎◌, subst, ℕ, true, false, ◌==◌, Option, None, Some, List, refl, sym, ap, ◌∙◌}
 use Rattle.hp_model.specs.declared.event.SlotEvent.{SlotEvent}
 use Rattle.hp_model.specs.declared.event.SlotEvent.TheVariants as slot
 use Rattle.hp_model.specs.declared.step.Intent.TheVariants.{Read, Write}
 use Rattle.hp_model.specs.File.{File, Mount}
 use Rattle.hp_model.specs.Mapping.{Map, is_map}
-use Rattle.hp_model.specs.Plan.{Slot}
 use Rattle.hp_model.specs.Promises.{IsLost, IsLostTo, SameFiles, map_on, seen_on, shown_on, spot_on}
 use Rattle.hp_model.specs.SlotEvent.{file_named}
 use Rattle.hp_model.specs.Spot.{Spot, spot}
 use Rattle.hp_laws.proofs.Changes.{KeptMap, LosesBy, SlotKeeps, ends_name, ends_number, seen_by, stored_by}
 use Rattle.hp_laws.proofs.Keys.{Where, places}
 use Rattle.hp_laws.proofs.Named.{file_same, file_shown, map_shown, seen_shown}
-use Rattle.hp_laws.proofs.Placed.{Placed}
 use Rattle.hp_laws.proofs.Seen.{IsLostAt}
 
 -- the map at these places lost its copy

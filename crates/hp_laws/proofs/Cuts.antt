@@ -3,7 +3,7 @@ use Rattle.std.proofs.Common.{◌≡◌, ⊎_elim, inl, inr, ◌⊎◌, subst, �
 use Rattle.std.specs.List.{list_any}
 use Rattle.std.specs.Str.{bytes_eq}
 use Rattle.std.proofs.lemmas.Slice.Eq.{bytes_eq-Decides}
-use Rattle.std.proofs.lemmas.Bool.{cases_eq, cases_lt, cond_both, eq-eqb, eqb-true, false_from_ne_true, leb-false, leb-true, ltb-false, ltb-true}
+use Rattle.std.proofs.lemmas.Bool.{cases_eq, cases_lt, eq-eqb, eqb-true, false_from_ne_true, leb-false, leb-true, ltb-false, ltb-true}
 use Rattle.std.proofs.lemmas.List.{get_or-set_other, get_or-set_same, get_or-take, get_or_past, length-take}
 use Rattle.std.proofs.lemmas.List.Elements.{All-get_or}
 use Rattle.hp_model.specs.declared.cell.Cell.{Cell}
@@ -17,17 +17,17 @@ use Rattle.hp_model.specs.GiveBack.{punched, truncated, unlinked}
 use Rattle.hp_model.specs.Lists.{edit_range, found}
 use Rattle.hp_model.specs.Mapping.{Map, copy_of, is_map, map_punched, no_map, place_at, without_copy}
 use Rattle.hp_model.specs.Page.{Copy, Page, zeros}
-use Rattle.hp_model.specs.Promises.{file_in, is_in, map_in, map_on, means_file, seen_on, shape_of, shown_on}
+use Rattle.hp_model.specs.Promises.{file_in, is_in, map_in, means_file, shape_of}
 use Rattle.hp_model.specs.SlotEvent.{file_named, has_name}
 use Rattle.hp_model.specs.Sound.{IsSoundFile, IsSoundMap, IsSoundMount}
 use Rattle.hp_model.specs.Spot.{Spot, spot, spot_in}
 use Rattle.hp_model.specs.Value.{shown, value}
 use Rattle.hp_model.proofs.Editing.{get_or-edit_below, get_or-edit_in, get_or-edit_past, length-edit_range}
 use Rattle.hp_laws.proofs.Accessed.{file_put, get_mapped, key_map, pages_same}
-use Rattle.hp_laws.proofs.ByPlace.{LosesAt, PlaceKeeps}
+use Rattle.hp_laws.proofs.ByPlace.{PlaceKeeps}
 use Rattle.hp_laws.proofs.Changes.{seen_by, stored_by}
 use Rattle.hp_laws.proofs.Follows.{some_file}
-use Rattle.hp_laws.proofs.Keys.{file_key, keys, places}
+use Rattle.hp_laws.proofs.Keys.{keys, places}
 use Rattle.hp_laws.proofs.Looks.{same_more, same_none, same_put}
 use Rattle.hp_laws.proofs.Made.{in_file, spot_in_file}
 use Rattle.hp_laws.proofs.MountMoves.{file_at, spot_is}
@@ -315,10 +315,12 @@ module _ (size : ℕ) (m : Mount) (name : List ℕ) (q : ℕ × File) (named : f
 
   pub unlink_keeps : PlaceKeeps size m (slot.Unlink name) left
   unlink_keeps = record {
-    names = λ other f goes_on e.
-        ((f.0, if f.0 == q.0 then unlinked q.1 else f.1),
-        found_set (has_name other) m.files q.0 (unlinked q.1) (sym (ap (has_name other) ((file_at m (has_name name) q named).is (unlinked q.1)) ∙ not_named other goes_on))
-        ∙ ap (option_map (put_at q.0 (unlinked q.1))) e, refl);
+    names = λ other f goes_on e. (
+      (f.0, if f.0 == q.0 then unlinked q.1 else f.1),
+      found_set (has_name other) m.files q.0 (unlinked q.1) (sym (ap (has_name other) ((file_at m (has_name name) q named).is (unlinked q.1)) ∙ not_named other goes_on))
+          ∙ ap (option_map (put_at q.0 (unlinked q.1))) e,
+      refl,
+    );
     numbers = λ task number p goes_on e. number_stays (is_map task number) p e;
     cells = λ j x. same_look (look size x) refl j;
     maps = λ task number x p found. inl (same_look (seen size p.map_no x) refl p.file_no);

@@ -24,7 +24,7 @@ use Rattle.hp_model.specs.GiveBack.{file_unmapped, file_without, is_left, map_un
 use Rattle.hp_model.specs.Grant.{is_full, rise}
 use Rattle.hp_model.specs.Lists.{edit_at, is_among}
 use Rattle.hp_model.specs.MakeMap.{mapped, new_map, next_number}
-use Rattle.hp_model.specs.Mapping.{Map, copy_of, is_map, is_mapped, is_of, is_shared, is_unconsumed, map_punched, no_map, place_at, with_place, without_range}
+use Rattle.hp_model.specs.Mapping.{Map, copy_of, is_map, is_of, is_shared, is_unconsumed, map_punched, no_map, place_at, with_place, without_range}
 use Rattle.hp_model.specs.MountCounts.{stamps_of}
 use Rattle.hp_model.specs.Page.{Copy, Page, overwritten, zeros}
 use Rattle.hp_model.specs.Plan.{Ask, Answered, Choice, Finish, Outcome, Refused, Slot, gives, may_lack_room, unless}

@@ -1,8 +1,7 @@
 -- What a script keeps whose events on slots only end maps of one task: a fork's, or an exit's.
-use Rattle.std.proofs.Common.{◌≡◌, ⊎_elim, inl, inr, subst, ℕ, ◌<◌, ◌≤◌, ◌==◌, Bool, true, false, Option, None, Some, Ok, Err, List, [], ◌∷◌, ◌++◌, length, refl, sym, ap, ◌∙◌, arith}
-use Rattle.std.specs.Bool.{MatchBool}
+use Rattle.std.proofs.Common.{◌≡◌, ⊎_elim, inl, inr, subst, ℕ, ◌<◌, ◌≤◌, ◌==◌, Option, None, Some, Ok, Err, List, [], ◌∷◌, ◌++◌, length, refl, sym, ap, ◌∙◌, arith}
 use Rattle.std.specs.List.{range_with_len, slice_index_or, slice_set}
-use Rattle.std.proofs.lemmas.Bool.{cases_eq, eq-eqb, eqb-true, ltb-true}
+use Rattle.std.proofs.lemmas.Bool.{cases_eq, ltb-true}
 use Rattle.std.proofs.lemmas.List.{get_or-set_other, get_or-set_same}
 use Rattle.hp_model.specs.declared.answer.Answer.TheVariants.{Done}
 use Rattle.hp_model.specs.declared.event.Event.{Event}
@@ -10,15 +9,13 @@ use Rattle.hp_model.specs.declared.event.Event.TheVariants.{Tasks, Slot as OnSlo
 use Rattle.hp_model.specs.declared.event.SlotEvent.{SlotEvent}
 use Rattle.hp_model.specs.declared.event.SlotEvent.TheVariants as slot
 use Rattle.hp_model.specs.declared.refusal.Refusal.{Refusal}
-use Rattle.hp_model.specs.declared.refusal.Refusal.TheVariants.{NoSuchSlot}
 use Rattle.hp_model.specs.declared.step.Step.TheVariants.{Exit, Fork}
 use Rattle.hp_model.specs.Event.{IsEvent, has_maps_of, with_table}
-use Rattle.hp_model.specs.File.{File, Mount}
+use Rattle.hp_model.specs.File.{Mount}
 use Rattle.hp_model.specs.Fork.{file_forked, forked}
 use Rattle.hp_model.specs.GiveBack.{file_without, without_task}
 use Rattle.hp_model.specs.Plan.{Choice, Outcome, Refused, Answered, Reply, Slot, gives, slot_usage}
-use Rattle.hp_model.specs.Promises.{SameFiles, SameLimits, named_on, spot_on}
-use Rattle.hp_model.specs.Settled.{IsSettledState}
+use Rattle.hp_model.specs.Promises.{SameFiles, SameLimits, spot_on}
 use Rattle.hp_model.specs.SlotEvent.{fork_tests, slot_event}
 use Rattle.hp_model.specs.Spot.{Spot}
 use Rattle.hp_model.specs.State.{State, slot_at}

@@ -8,7 +8,7 @@ use Rattle.hp_model.specs.File.{cell_punched, cells_to, File, has_page}
 use Rattle.hp_model.specs.Fork.{file_forked}
 use Rattle.hp_model.specs.GiveBack.{file_unmapped, file_without, is_left, map_unmapped, punched, truncated, unlinked}
 use Rattle.hp_model.specs.Lists.{edit_range}
-use Rattle.hp_model.specs.Mapping.{map_for, unconsumed, without_range, without_copy, map_punched, is_mapped, Map, is_unconsumed, is_of}
+use Rattle.hp_model.specs.Mapping.{map_for, unconsumed, without_range, without_copy, map_punched, Map, is_unconsumed, is_of}
 use Rattle.hp_model.specs.MountCounts.{file_pages, file_reserves, file_pages_at, is_waiting, is_page_at, owner_reserves}
 use Rattle.hp_model.specs.Page.{Page, Copy}
 use Rattle.hp_model.specs.Sound.{place_has, map_has}

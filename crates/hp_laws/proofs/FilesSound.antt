@@ -17,7 +17,7 @@ use Rattle.hp_model.specs.Fork.{file_forked}
 use Rattle.hp_model.specs.GiveBack.{file_unmapped, file_without, is_left, map_unmapped, punched, truncated, unlinked}
 use Rattle.hp_model.specs.Lists.{edit_range}
 use Rattle.hp_model.specs.MakeMap.{cells_mapped, mapped, new_map, reserves}
-use Rattle.hp_model.specs.Mapping.{Map, copy_of, is_mapped, is_of, is_shared, map_punched, no_map, place_at, without_copy, without_range}
+use Rattle.hp_model.specs.Mapping.{Map, copy_of, is_of, is_shared, map_punched, no_map, place_at, without_copy, without_range}
 use Rattle.hp_model.specs.Page.{Copy, Page}
 use Rattle.hp_model.specs.Sound.{FileHasCopy, HasCopy, IsSoundMap, is_stamp, map_has, owns_stamp}
 use Rattle.hp_model.proofs.Editing.{get_or-edit_in, length-edit_range}

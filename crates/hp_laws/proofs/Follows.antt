@@ -1,5 +1,5 @@
 -- Names and numbers after files without a name and without maps are gone, or maps of some kind.
-use Rattle.std.proofs.Common.{◌≡◌, ⊎_elim, inl, inr, subst, ℕ, zero, suc, ◌+◌, ◌<◌, ◌||◌, ◌==◌, Bool, true, false, not, Option, None, Some, is_some, List, [], ◌∷◌, length, map, option_map, add-one, get_or, cond, refl, sym, ap, ◌∙◌, arith, if◌then◌else◌, nat_lt}
+use Rattle.std.proofs.Common.{◌≡◌, ⊎_elim, inl, subst, ℕ, zero, suc, ◌+◌, ◌<◌, ◌||◌, ◌==◌, Bool, true, false, not, Option, None, Some, is_some, List, [], ◌∷◌, length, map, option_map, add-one, get_or, refl, sym, ap, ◌∙◌, arith, if◌then◌else◌, nat_lt}
 use Rattle.std.specs.List.{filter, list_any}
 use Rattle.std.specs.Str.{bytes_eq}
 use Rattle.std.proofs.lemmas.Bool.{cases_eq, cases_order, eq-eqb, eqb-true, false_from_ne_true, or_right, lt-ltb, or_cases, and_parts}
@@ -11,11 +11,11 @@ use Rattle.hp_model.specs.GiveBack.{is_kept, swept}
 use Rattle.hp_model.specs.Lists.{found, one_on}
 use Rattle.hp_model.specs.Mapping.{Map, is_map, is_of, map_for, place_at}
 use Rattle.hp_model.specs.Plan.{Slot}
-use Rattle.hp_model.specs.Promises.{SameFiles, named_on, shape_of, spot_on}
+use Rattle.hp_model.specs.Promises.{SameFiles, shape_of, spot_on}
 use Rattle.hp_model.specs.SlotEvent.{file_named, has_name}
 use Rattle.hp_model.specs.Spot.{Spot, spot, spot_in}
 use Rattle.hp_model.specs.Value.{shown, value}
-use Rattle.hp_laws.proofs.Changes.{KeptMap, LosesBy, SlotKeeps, ends_number}
+use Rattle.hp_laws.proofs.Changes.{LosesBy, SlotKeeps, ends_number}
 use Rattle.hp_laws.proofs.Keys.{found_mapped, found_same, keyed}
 use Rattle.hp_laws.proofs.Made.{any_append, in_file, spot_in_file}
 use Rattle.hp_laws.proofs.MountMoves.{spot_is}

@@ -1,6 +1,5 @@
 -- From events of a slot to steps: what each event that is built keeps of its slot, each step keeps of all slots but those that it unmounts.
-use Rattle.std.proofs.Common.{◌≡◌, ⊎_elim, inl, inr, subst, ℕ, ◌<◌, Bool, true, false, None, Some, Ok, Err, List, [], length, nat_lt, refl, sym, ap, ◌∙◌}
-use Rattle.std.specs.Bool.{MatchBool}
+use Rattle.std.proofs.Common.{◌≡◌, inl, inr, subst, ℕ, ◌<◌, Bool, true, false, None, Some, Ok, List, [], length, refl, sym, ap}
 use Rattle.std.specs.List.{slice_index_or, slice_set}
 use Rattle.std.proofs.lemmas.Bool.{cases_eq, eq-eqb, ltb-true}
 use Rattle.std.proofs.lemmas.List.{get_or-set_other, get_or-set_same}
@@ -9,23 +8,17 @@ use Rattle.hp_model.specs.declared.event.Event.{Event}
 use Rattle.hp_model.specs.declared.event.Event.TheVariants.{Tasks, Slot as OnSlot, Pool as OnPool}
 use Rattle.hp_model.specs.declared.event.SlotEvent.{SlotEvent}
 use Rattle.hp_model.specs.declared.event.SlotEvent.TheVariants as slot
-use Rattle.hp_model.specs.declared.event.PoolEvent.TheVariants as pool
-use Rattle.hp_model.specs.declared.event.TableEvent.TheVariants as table
-use Rattle.hp_model.specs.declared.step.Reserving.TheVariants.{Reserve}
-use Rattle.hp_model.specs.declared.step.Sharing.TheVariants.{Shared}
 use Rattle.hp_model.specs.declared.step.Step.{Step}
-use Rattle.hp_model.specs.declared.step.Step.TheVariants.{Connect, Mount as MountStep, Umount, Create, Map as MapStep, Load, Store, Nr, Meminfo, Df}
 use Rattle.hp_model.specs.File.{Mount}
-use Rattle.hp_model.specs.Event.{after, IsEvent}
+use Rattle.hp_model.specs.Event.{IsEvent}
 use Rattle.hp_model.specs.Plan.{Choice, Outcome, Refused, Answered, Plan, Finish, Ask, Slot, Reply}
-use Rattle.hp_model.specs.declared.refusal.Refusal.TheVariants.{BadLine}
 use Rattle.hp_model.specs.Promises.{is_unmounted}
 use Rattle.hp_model.specs.SlotEvent.{slot_event}
 use Rattle.hp_model.specs.State.{State, slot_at}
-use Rattle.hp_model.specs.Step.{IsBuiltStep, IsScript, IsStep, finding, on_slot, only}
+use Rattle.hp_model.specs.Step.{IsStep}
 use Rattle.hp_laws.specs.Balance.{left_by}
 use Rattle.hp_laws.proofs.Fades.{Fades, exit_fade, fork_fade}
-use Rattle.hp_laws.proofs.Outcomes.{Always, event_ends, finding_goes, only_goes, reply_of, slot_goes}
+use Rattle.hp_laws.proofs.Outcomes.{Always, event_ends, reply_of}
 use Rattle.hp_laws.proofs.Shown.{On}
 use Rattle.hp_laws.proofs.SlotShows.{always_mount}
 use Rattle.hp_laws.proofs.Whole.{by_event, is_whole, slot_step, step_of}

@@ -1,5 +1,5 @@
 -- A created file and a new map are what their reply says.
-use Rattle.std.proofs.Common.{◌≡◌, ⊎_elim, subst, ℕ, ◌<◌, ◌||◌, Bool, true, false, not, None, Option, Some, Err, List, [], ◌∷◌, ◌++◌, length, drop, is_some, option_map, refl, sym, ap, ◌∙◌, get_or, if◌then◌else◌}
+use Rattle.std.proofs.Common.{◌≡◌, subst, ℕ, ◌<◌, ◌||◌, Bool, true, false, not, None, Option, Some, Err, List, [], ◌∷◌, ◌++◌, length, drop, is_some, option_map, refl, sym, ap, ◌∙◌, get_or, if◌then◌else◌}
 use Rattle.std.specs.List.{flat_map, list_any, slice_index_or, slice_set}
 use Rattle.std.proofs.lemmas.Bool.{eq-eqb, false_from_ne_true, ltb-true}
 use Rattle.std.proofs.lemmas.List.{get_or-set_same}
@@ -7,11 +7,9 @@ use Rattle.std.proofs.lemmas.Slice.Eq.{bytes_eq-Decides}
 use Rattle.std.proofs.lemmas.List.Folds.{list_any_at}
 use Rattle.hp_model.specs.declared.answer.Answer.TheVariants.{Done, MapNo}
 use Rattle.hp_model.specs.declared.refusal.Refusal.{Refusal}
-use Rattle.hp_model.specs.declared.refusal.Refusal.TheVariants.{BadLine, BadName, FileExists, NoSuchFile, NoSuchSlot, NoSuchTask}
+use Rattle.hp_model.specs.declared.refusal.Refusal.TheVariants.{BadName, FileExists, NoSuchFile}
 use Rattle.hp_model.specs.declared.step.Reserving.{Reserving}
-use Rattle.hp_model.specs.declared.step.Reserving.TheVariants.{Reserve}
 use Rattle.hp_model.specs.declared.step.Sharing.{Sharing}
-use Rattle.hp_model.specs.declared.step.Sharing.TheVariants.{Shared}
 use Rattle.hp_model.specs.declared.step.Step.{Step}
 use Rattle.hp_model.specs.declared.step.Step.TheVariants.{Create as CreateStep, Map as MapStep}
 use Rattle.hp_model.specs.declared.event.Event.{Event}
@@ -25,7 +23,7 @@ use Rattle.hp_model.specs.Mapping.{Map, is_map}
 use Rattle.hp_model.specs.Plan.{Choice, Outcome, Refused, Answered, Finish, Plan, Reply, Slot, grant, unless}
 use Rattle.hp_model.specs.Promises.{IsNewFile, IsNewMap, Makes}
 use Rattle.hp_model.specs.State.{State, slot_at}
-use Rattle.hp_model.specs.Step.{IsBuiltStep, IsStep, on_slot}
+use Rattle.hp_model.specs.Step.{IsStep}
 use Rattle.hp_model.specs.Event.{IsEvent}
 use Rattle.hp_laws.specs.Balance.{left_by}
 use Rattle.hp_model.specs.SlotEvent.{create_tests, file_named, has_name, is_name, map_file, map_tests, slot_event}
@@ -33,7 +31,7 @@ use Rattle.hp_model.specs.declared.event.SlotEvent.TheVariants as slot
 use Rattle.hp_model.specs.Spot.{Spot, spot, spot_in}
 use Rattle.hp_model.proofs.Distinct.{or_assoc}
 use Rattle.hp_laws.proofs.Naming.{found_again, found_last, found_not, found_put, least_is_unused, number_used}
-use Rattle.hp_laws.proofs.Outcomes.{Always, always_test, event_ends, finding_goes, reply_of, slot_goes}
+use Rattle.hp_laws.proofs.Outcomes.{Always, always_test, event_ends, reply_of}
 use Rattle.hp_laws.proofs.Places.{found_place}
 use Rattle.hp_laws.proofs.SlotShows.{always_grant, always_unless, always_value}
 use Rattle.hp_laws.proofs.Whole.{by_event, is_whole, step_of}

@@ -1,29 +1,23 @@
 -- What names and numbers mean stands where it stood, after a file or a map more and after each access.
-use Rattle.std.proofs.Common.{◌≡◌, subst, ℕ, ◌-◌, ◌<◌, ◌==◌, Bool, true, false, None, Some, List, [], ◌∷◌, ◌++◌, length, map, option_map, suc, zero, get_or, arith, refl, sym, ap, ◌∙◌}
+use Rattle.std.proofs.Common.{◌≡◌, subst, ℕ, ◌-◌, ◌<◌, ◌==◌, true, None, Some, List, [], ◌∷◌, ◌++◌, length, map, option_map, suc, zero, get_or, arith, refl, sym, ap, ◌∙◌}
 use Rattle.std.specs.List.{slice_set}
 use Rattle.std.proofs.lemmas.Bool.{and_parts, cond_both, eqb-true}
-use Rattle.hp_model.specs.declared.answer.Answer.TheVariants.{Done, MapNo}
-use Rattle.hp_model.specs.declared.event.SlotEvent.{SlotEvent}
-use Rattle.hp_model.specs.declared.event.SlotEvent.TheVariants as slot
+use Rattle.hp_model.specs.declared.answer.Answer.TheVariants.{Done}
 use Rattle.hp_model.specs.declared.step.Intent.{Intent}
 use Rattle.hp_model.specs.declared.step.Intent.TheVariants.{Read, Write}
 use Rattle.hp_model.specs.Access.{access}
 use Rattle.hp_model.specs.declared.step.Reserving.{Reserving}
 use Rattle.hp_model.specs.declared.step.Sharing.{Sharing}
-use Rattle.hp_model.specs.declared.step.Step.{Step}
-use Rattle.hp_model.specs.File.{File, Mount, new_file, with_file}
-use Rattle.hp_model.specs.MakeMap.{asked, mapped, new_map, next_number, with_new}
+use Rattle.hp_model.specs.File.{File, Mount, with_file}
+use Rattle.hp_model.specs.MakeMap.{mapped, new_map, next_number, with_new}
 use Rattle.hp_model.specs.Lists.{edit_at}
-use Rattle.hp_model.specs.Plan.{Choice, Outcome, Answered, Plan, Finish, Slot, and_then, grant, Reply, unless, with_value}
-use Rattle.hp_model.specs.declared.refusal.Refusal.{Refusal}
-use Rattle.hp_model.specs.declared.refusal.Refusal.TheVariants.{NoSuchFile, NoSuchMap}
-use Rattle.hp_model.specs.Promises.{is_unmounted, shape_of}
-use Rattle.hp_model.specs.SlotEvent.{has_name, byte_access, bytes_answer, create_tests, fault, fault_tests, file_named, load, map_file, map_tests, store, on_mount, slot_event}
+use Rattle.hp_model.specs.Plan.{Choice, Outcome, Answered, Plan, and_then, with_value}
+use Rattle.hp_model.specs.declared.refusal.Refusal.TheVariants.{NoSuchMap}
+use Rattle.hp_model.specs.Promises.{shape_of}
+use Rattle.hp_model.specs.SlotEvent.{has_name, byte_access, bytes_answer, fault, fault_tests, file_named, load, store}
 use Rattle.hp_model.specs.Mapping.{is_map, is_shared}
 use Rattle.hp_model.specs.Spot.{Spot, again, cell_written, file_written, map_written, place_written, spot, written}
 use Rattle.hp_model.specs.Value.{value}
-use Rattle.hp_model.specs.State.{State}
-use Rattle.hp_model.specs.Step.{IsStep}
 use Rattle.hp_model.proofs.Editing.{length-edit_at}
 use Rattle.hp_laws.proofs.Accessed.{access_on, bytes_on, file_put, key_edit, pages_same}
 use Rattle.hp_laws.proofs.Keys.{file_key, is_key, key_places, keys, number_places, places}
@@ -33,7 +27,7 @@ use Rattle.hp_laws.proofs.Places.{found_place}
 use Rattle.hp_laws.proofs.MountMoves.{IsSpot, spot_is}
 use Rattle.hp_laws.proofs.Outcomes.{Always, always_then, always_weaker}
 use Rattle.hp_laws.proofs.Shown.{On, on_follows, on_weaker}
-use Rattle.hp_laws.proofs.SlotShows.{always_grant, always_unless, always_value}
+use Rattle.hp_laws.proofs.SlotShows.{always_unless, always_value}
 
 -- ---- keys of longer lists
 

@@ -1,5 +1,5 @@
 -- What names and numbers mean after a step: what an event keeps of its slot its step keeps of all slots.
-use Rattle.std.proofs.Common.{◌≡◌, ⊎_elim, inl, inr, ◌⊎◌, subst, ℕ, ◌<◌, Bool, true, false, ◌&&◌, ◌==◌, not, None, Some, Ok, Err, List, length, refl, sym, ap, ◌∙◌, if◌then◌else◌, nat_le}
+use Rattle.std.proofs.Common.{◌≡◌, ⊎_elim, inl, inr, subst, ℕ, ◌<◌, Bool, true, false, ◌&&◌, ◌==◌, not, None, Some, Ok, Err, List, length, refl, sym, ap, ◌∙◌, if◌then◌else◌, nat_le}
 use Rattle.std.specs.Str.{bytes_eq}
 use Rattle.std.specs.List.{slice_index_or, slice_set}
 use Rattle.std.proofs.lemmas.Bool.{cases_eq, eq-eqb, eqb-true, false_from_ne_true, ltb-true}
@@ -21,7 +21,7 @@ use Rattle.hp_model.specs.Event.{IsEvent}
 use Rattle.hp_model.specs.File.{File, cell_at}
 use Rattle.hp_model.specs.Page.{zeros}
 use Rattle.hp_model.specs.Plan.{Choice, Outcome, Refused, Answered, Reply, Slot}
-use Rattle.hp_model.specs.Promises.{IsKeptMap, LosesTo, SameFiles, StillMapped, StillNamed, StillShows, is_at, is_ended_name, is_ended_number, is_in, is_shared_of, map_at, map_named, means_file, named_on, over, reaches, seen_over, shown_in, spot_on, stays_mapped, stored_over}
+use Rattle.hp_model.specs.Promises.{IsKeptMap, LosesTo, SameFiles, StillMapped, StillNamed, is_at, is_ended_name, is_ended_number, is_in, is_shared_of, map_at, map_named, means_file, named_on, over, reaches, seen_over, shown_in, spot_on, stays_mapped, stored_over}
 use Rattle.hp_model.specs.Settled.{IsSettledState}
 use Rattle.hp_model.specs.SlotEvent.{slot_event}
 use Rattle.hp_model.specs.Sound.{IsSound}
@@ -32,7 +32,7 @@ use Rattle.hp_model.specs.Value.{shown, value}
 use Rattle.hp_laws.specs.Balance.{left_by}
 use Rattle.hp_laws.proofs.Changes.{KeepsSlot, KeptMap, LosesBy, SlotKeeps, ends_name, ends_number, seen_by, stored_by}
 use Rattle.hp_laws.proofs.Fades.{AllFade, exit_fade, exit_refused, fork_fade}
-use Rattle.hp_laws.proofs.Outcomes.{Always, Ends, event_ends, reply_of}
+use Rattle.hp_laws.proofs.Outcomes.{Always, event_ends, reply_of}
 use Rattle.hp_laws.proofs.Tied.{left_sound}
 use Rattle.hp_laws.proofs.Whole.{by_event, is_whole, slot_step, step_of}
 

@@ -1,20 +1,15 @@
 -- What is shown by place is shown by name and number, where these stay in place.
-use Rattle.std.proofs.Common.{◌≡◌, ⊎_elim, inl, inr, ◌⊎◌, subst, ℕ, true, false, Option, None, Some, Ok, List, refl, sym, ap, ◌∙◌, ◌==◌}
+use Rattle.std.proofs.Common.{◌≡◌, ℕ, None, Some, List, sym, ap, ◌∙◌}
 use Rattle.std.specs.List.{slice_index_or}
-use Rattle.hp_model.specs.declared.step.Step.{Step}
-use Rattle.hp_model.specs.declared.step.Step.TheVariants.{Exit, Fork, Store, Unlink, Unmap}
 use Rattle.hp_model.specs.File.{File, cell_at, new_file}
 use Rattle.hp_model.specs.Mapping.{Map, is_map}
-use Rattle.hp_model.specs.Plan.{Reply, Slot}
-use Rattle.hp_model.specs.Promises.{IsKeptMap, IsLost, IsLostTo, LosesTo, SameFiles, StillMapped, StillNamed, is_ended_name, is_ended_number, is_unmounted, map_at, map_in, map_named, map_on, named_on, no_map, seen_in, seen_on, seen_over, shown_in, shown_on, spot_on, stored_over}
+use Rattle.hp_model.specs.Plan.{Slot}
+use Rattle.hp_model.specs.Promises.{map_in, map_on, named_on, no_map, seen_on, shown_on, spot_on}
 use Rattle.hp_model.specs.SlotEvent.{has_name}
 use Rattle.hp_model.specs.Spot.{Spot}
-use Rattle.hp_model.specs.State.{State, slot_at}
 use Rattle.hp_model.specs.Value.{shown, value}
-use Rattle.hp_laws.proofs.Keys.{Where, places}
 use Rattle.hp_laws.proofs.MountMoves.{spot_is}
 use Rattle.hp_laws.proofs.Places.{found_place}
-use Rattle.hp_laws.proofs.Seen.{IsLostAt}
 
 -- ---- one slot
 
@@ -42,4 +37,3 @@ file_same (Some m) name g task number q named found same =
     sym ((found_place (has_name name) m.files g named).is (new_file None)) ∙ ap (λ k. slice_index_or m.files k (new_file None)) same
     ∙ (spot_is m (is_map task number) q found).file.is (new_file None) in
     named ∙ ap (λ k. Some (k, g.1)) same ∙ ap (λ f. Some (q.file_no, f)) here
-

@@ -1,5 +1,5 @@
 -- Each step of a settled machine is as promised.
-use Rattle.std.proofs.Common.{◌≡◌, ℕ, ◌<◌, Bool, true, false, Ok, Err, List, length, refl, sym, ap, ◌∙◌, subst, arith}
+use Rattle.std.proofs.Common.{◌≡◌, ℕ, ◌<◌, true, false, Err, length, refl, sym, ap, ◌∙◌, subst, arith}
 use Rattle.hp_model.specs.declared.event.Event.{Event}
 use Rattle.hp_model.specs.declared.event.Event.TheVariants.{Tasks, Slot as OnSlot, Pool as OnPool}
 use Rattle.hp_model.specs.declared.event.PoolEvent.TheVariants as pool
@@ -28,7 +28,7 @@ use Rattle.hp_laws.proofs.Outcomes.{Always, event_ends, reply_of}
 use Rattle.hp_laws.proofs.SlotKept.{slot_keeps}
 use Rattle.hp_laws.proofs.SlotShows.{Loads, load_loads}
 use Rattle.hp_laws.proofs.StaysSettled.{step_settled}
-use Rattle.hp_laws.proofs.Whole.{by_event, early_pages, is_early, is_whole, step_of}
+use Rattle.hp_laws.proofs.Whole.{by_event, early_pages, is_early, step_of}
 
 -- what an access answers, and the limits
 record Kept (s : State) (step : Step) (reply : Reply) (t : State) : Type 0 where

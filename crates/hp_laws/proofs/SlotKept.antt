@@ -1,7 +1,6 @@
 -- Each event that is answered keeps what names and numbers mean on its slot.
-use Rattle.std.proofs.Common.{◌≡◌, ⊎_elim, inl, inr, ◌⊎◌, subst, ℕ, ◌+◌, ◌||◌, ◌==◌, Bool, true, false, Option, None, Some, List, [], ◌∷◌, length, refl, sym, ap, ◌∙◌, nat_le, nat_lt}
+use Rattle.std.proofs.Common.{◌≡◌, ⊎_elim, inl, inr, subst, ℕ, ◌+◌, Bool, true, None, Some, List, [], ◌∷◌, length, refl, sym, ◌∙◌, nat_le, nat_lt}
 use Rattle.std.proofs.lemmas.Bool.{leb-false}
-use Rattle.hp_model.specs.declared.answer.Answer.{Answer}
 use Rattle.hp_model.specs.declared.answer.Answer.TheVariants.{Done, MapNo}
 use Rattle.hp_model.specs.declared.event.SlotEvent.{SlotEvent}
 use Rattle.hp_model.specs.declared.event.SlotEvent.TheVariants as slot
@@ -9,8 +8,6 @@ use Rattle.hp_model.specs.declared.refusal.Refusal.{Refusal}
 use Rattle.hp_model.specs.declared.refusal.Refusal.TheVariants.{BeyondEnd, NoSuchFile, NoSuchMap, OutOfMemory, OutOfRange}
 use Rattle.hp_model.specs.declared.step.Intent.{Intent}
 use Rattle.hp_model.specs.declared.step.Intent.TheVariants.{Read, Write}
-use Rattle.hp_model.specs.declared.step.Reserving.{Reserving}
-use Rattle.hp_model.specs.declared.step.Sharing.{Sharing}
 use Rattle.hp_model.specs.Access.{access}
 use Rattle.hp_model.specs.File.{File, Mount, new_file, with_file}
 use Rattle.hp_model.specs.Fork.{forked}
@@ -20,13 +17,13 @@ use Rattle.hp_model.specs.Mapping.{is_map, map_punched}
 use Rattle.hp_model.specs.Plan.{Ask, Choice, Outcome, Refused, Answered, Finish, Plan, Slot, gives, grant, unless, with_value}
 use Rattle.hp_model.specs.Profile.{most_file_pages}
 use Rattle.hp_model.specs.Promises.{is_in, map_on, shown_on, seen_on, spot_on}
-use Rattle.hp_model.specs.SlotEvent.{anon_tests, create_tests, edited, fault, fault_tests, file_named, fork_tests, has_name, is_bad_range, is_beyond, is_unmapped, load, map_file, map_tests, on_mount, punch, read, read_tests, slot_event, stat, store, truncate, umount_tests, unlink, unmap}
+use Rattle.hp_model.specs.SlotEvent.{anon_tests, create_tests, edited, fault, file_named, fork_tests, is_bad_range, is_beyond, is_unmapped, map_file, map_tests, on_mount, punch, read, read_tests, slot_event, stat, truncate, umount_tests, unlink, unmap}
 use Rattle.hp_model.specs.Sound.{IsSound, IsSoundMount}
 use Rattle.hp_model.specs.Spot.{Spot, spot}
 use Rattle.hp_laws.proofs.Accessed.{access_on, file_put}
-use Rattle.hp_laws.proofs.ByPlace.{LosesAt, PlaceKeeps, by_place}
+use Rattle.hp_laws.proofs.ByPlace.{PlaceKeeps, by_place}
 use Rattle.hp_laws.proofs.Changes.{KeepsSlot, LosesBy, SlotKeeps, seen_by, stored_by}
-use Rattle.hp_laws.proofs.Cuts.{IsCut, cut_keeps, punch_cut, truncate_cut, unlink_keeps}
+use Rattle.hp_laws.proofs.Cuts.{cut_keeps, punch_cut, truncate_cut, unlink_keeps}
 use Rattle.hp_laws.proofs.Follows.{follow, sweep_follows}
 use Rattle.hp_laws.proofs.Keys.{keys}
 use Rattle.hp_laws.proofs.Meanings.{fault_on, load_on, placed_map, placed_new, placed_on, placed_same, store_on}

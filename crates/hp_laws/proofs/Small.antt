@@ -1,5 +1,5 @@
 -- What each step of a settled machine answers is within the limits of a reply's text.
-use Rattle.std.proofs.Common.{◌≡◌, ⊎_elim, subst, ℕ, suc, ◌+◌, ◌*◌, ◌^◌, ◌<◌, ◌≤◌, ◌||◌, ◌&&◌, ◌==◌, ◌∙◌, Bool, true, false, not, Option, None, Some, is_some, Ok, Err, List, [], ◌∷◌, ◌++◌, drop, replicate, map, length, refl, sym, ap, arith, if◌then◌else◌, cond, nat_lt, nat_le}
+use Rattle.std.proofs.Common.{◌≡◌, subst, ℕ, suc, ◌+◌, ◌*◌, ◌^◌, ◌<◌, ◌≤◌, ◌||◌, ◌&&◌, ◌==◌, ◌∙◌, Bool, true, false, not, Option, None, Some, is_some, Ok, Err, List, [], ◌∷◌, ◌++◌, drop, replicate, map, length, refl, sym, ap, arith, if◌then◌else◌, cond, nat_lt, nat_le}
 use Rattle.std.specs.Bool.{MatchBool}
 use Rattle.std.specs.List.{All, filter, position_or_len, range_with_len}
 use Rattle.std.proofs.lemmas.Bool.{cond_both, leb-false, ltb-false, or_parts}
@@ -24,13 +24,11 @@ use Rattle.hp_model.specs.declared.event.SlotEvent.TheVariants as slot
 use Rattle.hp_model.specs.declared.event.TableEvent.TheVariants as table
 use Rattle.hp_model.specs.declared.node.NodeRow.{NodeRow}
 use Rattle.hp_model.specs.declared.refusal.Refusal.{Refusal}
-use Rattle.hp_model.specs.declared.refusal.Refusal.TheVariants.{MountFull, NoPages, OutOfMemory, OutOfRange, CrossesPage, TooMany, BeyondEnd, NoSuchMap, NoSuchFile, NoSuchNode, TaskExists, BadName, FileExists, NoInodes, Busy, BadLine, NoSuchSlot, NoSuchTask}
+use Rattle.hp_model.specs.declared.refusal.Refusal.TheVariants.{MountFull, NoPages, OutOfMemory, OutOfRange, CrossesPage, TooMany, BeyondEnd, NoSuchMap, NoSuchFile, NoSuchNode, TaskExists, BadName, FileExists, NoInodes, Busy, BadLine}
 use Rattle.hp_model.specs.declared.step.Intent.{Intent}
 use Rattle.hp_model.specs.declared.step.Intent.TheVariants.{Read, Write}
 use Rattle.hp_model.specs.declared.step.Reserving.{Reserving}
-use Rattle.hp_model.specs.declared.step.Reserving.TheVariants.{Reserve}
 use Rattle.hp_model.specs.declared.step.Sharing.{Sharing}
-use Rattle.hp_model.specs.declared.step.Sharing.TheVariants.{Shared}
 use Rattle.hp_model.specs.declared.step.Step.{Step}
 use Rattle.hp_model.specs.declared.step.Step.TheVariants.{Attach, Df, Exit, Fork, Ls, Stat}
 use Rattle.hp_model.specs.Access.{access, new_copy, private_access, shared_access}
@@ -60,7 +58,7 @@ use Rattle.hp_model.specs.Table.{Table, added, home_of, is_crowded, is_known, or
 use Rattle.hp_model.specs.Value.{shown, value}
 use Rattle.hp_model.specs.Writing.{IsWithinLimits}
 use Rattle.hp_laws.proofs.MountMoves.{IsSpot, spot_is}
-use Rattle.hp_laws.proofs.Outcomes.{Always, always_if, outcome_if, always_test, always_then, always_weaker, event_ends, reply_of, IsLeft, only_goes, slot_goes, finding_goes}
+use Rattle.hp_laws.proofs.Outcomes.{Always, always_if, outcome_if, always_test, always_then, always_weaker, event_ends, reply_of}
 use Rattle.hp_laws.proofs.Shown.{On, Same, Result, on_weaker, read_same, write_done}
 use Rattle.hp_laws.proofs.StaysSettled.{either_way}
 use Rattle.hp_laws.proofs.Whole.{by_event, is_whole, step_of}

@@ -1,19 +1,16 @@
 -- What names and numbers mean after a range of a map is unmapped, and where maps of a task go or are made for a child.
-use Rattle.std.proofs.Common.{◌≡◌, ⊎_elim, inl, inr, subst, ℕ, ◌-◌, ◌<◌, ◌&&◌, ◌||◌, ◌==◌, Bool, true, false, not, Option, None, Some, List, [], ◌∷◌, length, map, get_or, refl, sym, ap, ◌∙◌, if◌then◌else◌}
-use Rattle.std.specs.List.{filter, list_any}
-use Rattle.std.proofs.lemmas.Bool.{and_parts, cond_both, eq-eqb, eqb-false, eqb-true, false_from_ne_true, not-true, or_left, or_right}
+use Rattle.std.proofs.Common.{◌≡◌, inl, subst, ℕ, ◌-◌, ◌&&◌, ◌==◌, Bool, true, false, not, Option, None, Some, List, [], ◌∷◌, map, refl, sym, ap, ◌∙◌, if◌then◌else◌}
+use Rattle.std.specs.List.{list_any}
+use Rattle.std.proofs.lemmas.Bool.{and_parts, cond_both, eq-eqb, eqb-false, eqb-true, false_from_ne_true, or_left, or_right}
 use Rattle.hp_model.specs.declared.event.SlotEvent.{SlotEvent}
 use Rattle.hp_model.specs.declared.event.SlotEvent.TheVariants as slot
-use Rattle.hp_model.specs.declared.place.Place.{Place}
 use Rattle.hp_model.specs.declared.place.Place.TheVariants.{Gone}
 use Rattle.hp_model.specs.File.{File, Mount, new_file}
 use Rattle.hp_model.specs.Fork.{file_forked, forked}
 use Rattle.hp_model.specs.GiveBack.{file_unmapped, file_without, is_left, map_unmapped, swept, unmapped_from, without_task}
-use Rattle.hp_model.specs.Lists.{edit_range, found}
-use Rattle.hp_model.specs.Mapping.{Map, is_map, is_mapped, is_of, no_map, place_at, without_range}
-use Rattle.hp_model.specs.Page.{Copy}
-use Rattle.hp_model.specs.Plan.{Slot}
-use Rattle.hp_model.specs.Promises.{file_in, is_at, is_in, map_in, map_on, seen_on, shape_of, shown_on, spot_on, stays_mapped}
+use Rattle.hp_model.specs.Lists.{found}
+use Rattle.hp_model.specs.Mapping.{Map, is_map, is_mapped, no_map, place_at, without_range}
+use Rattle.hp_model.specs.Promises.{file_in, is_at, is_in, map_in, map_on, seen_on, shape_of, shown_on, stays_mapped}
 use Rattle.hp_model.specs.Spot.{Spot, spot}
 use Rattle.hp_model.specs.Value.{value}
 use Rattle.hp_model.proofs.Editing.{length-edit_range}
@@ -22,7 +19,7 @@ use Rattle.hp_laws.proofs.ByPlace.{PlaceKeeps, by_place}
 use Rattle.hp_laws.proofs.Changes.{LosesBy, SlotKeeps, ends_number, seen_by, stored_by}
 use Rattle.hp_laws.proofs.Cuts.{place_ranged}
 use Rattle.hp_laws.proofs.Follows.{FilesFollow, edit_follows, follow, fork_follows, is_not_of, some_file, sweep_follows, thin, thin_follows}
-use Rattle.hp_laws.proofs.Keys.{Where, file_key, keys, places}
+use Rattle.hp_laws.proofs.Keys.{Where, file_key, keys}
 use Rattle.hp_laws.proofs.Looks.{get_map}
 use Rattle.hp_laws.proofs.Made.{spot_in_file}
 use Rattle.hp_laws.proofs.MountMoves.{spot_is}

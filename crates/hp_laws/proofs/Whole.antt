@@ -1,5 +1,5 @@
 -- From events to steps: what the one event of a step does is what the step does. A fork and an exit are several events.
-use Rattle.std.proofs.Common.{◌≡◌, ⊎_elim, inl, inr, ◌⊎◌, subst, ℕ, Bool, true, false, Err, length, refl, sym}
+use Rattle.std.proofs.Common.{◌≡◌, ⊎_elim, subst, ℕ, Bool, true, false, Err, length, refl, sym}
 use Rattle.std.specs.Bool.{MatchBool}
 use Rattle.hp_model.specs.declared.event.Event.{Event}
 use Rattle.hp_model.specs.declared.event.Event.TheVariants.{Tasks, Slot as OnSlot, Pool as OnPool}
