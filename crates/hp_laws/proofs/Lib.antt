@@ -57,6 +57,8 @@ pub mod Cuts
 pub mod Unmaps
 pub mod SlotKept
 pub mod Fades
+pub mod Swept
+pub mod Undone
 pub mod LeavesWalk
 pub mod PlanRules
 pub mod EventsSound

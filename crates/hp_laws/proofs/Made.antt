@@ -42,7 +42,7 @@ pub any_append : {X : Type 0} (t : X → Bool) (xs ys : List X) → list_any t (
 any_append t [] ys = refl
 any_append t (x ∷ xs) ys = ap (λ b. t x || b) (any_append t xs ys) ∙ or_assoc (t x) (list_any t xs) (list_any t ys)
 
-any_in_files : (t : Map → Bool) (fs : List File) → list_any t (flat_map (λ f. f.maps) fs) ≡ list_any (λ (f : File). list_any t f.maps) fs
+pub any_in_files : (t : Map → Bool) (fs : List File) → list_any t (flat_map (λ f. f.maps) fs) ≡ list_any (λ (f : File). list_any t f.maps) fs
 any_in_files t [] = refl
 any_in_files t (f ∷ fs) = any_append t f.maps (flat_map (λ f. f.maps) fs) ∙ ap (λ b. list_any t f.maps || b) (any_in_files t fs)
 
