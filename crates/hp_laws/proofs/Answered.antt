@@ -21,7 +21,7 @@ use Rattle.hp_model.specs.Resize.{node_counts}
 use Rattle.hp_model.specs.Settled.{IsSettledState}
 use Rattle.hp_model.specs.SlotEvent.{bytes_answer, file_named, read, read_tests, slot_event}
 use Rattle.hp_model.specs.State.{State, slot_at}
-use Rattle.hp_model.specs.Step.{IsBuiltStep, IsStep, is_unbuilt}
+use Rattle.hp_model.specs.Step.{IsBuiltStep, IsStep}
 use Rattle.hp_model.specs.Value.{shown}
 use Rattle.hp_laws.proofs.CountsHold.{counts_are_sums}
 use Rattle.hp_laws.proofs.Fades.{exit_refused}
@@ -29,6 +29,7 @@ use Rattle.hp_laws.proofs.Outcomes.{Always, event_ends, reply_of}
 use Rattle.hp_laws.proofs.RefusalsKeep.{refusals_change_nothing}
 use Rattle.hp_laws.proofs.SlotShows.{always_unless}
 use Rattle.hp_laws.proofs.Small.{rows_many}
+use Rattle.hp_laws.proofs.Undone.{fork_refused}
 use Rattle.hp_laws.proofs.Whole.{by_event, is_whole, slot_step, step_of}
 
 -- ---- refused steps
@@ -62,14 +63,18 @@ module _ (s : State) (st : IsSettledState s) where
   event_leaves e (Ok a) t whole is = tt
   event_leaves e (Err r) t whole is = refused_leaves e r t whole (refusals_change_nothing s e r t st is)
 
-  exit_leaves : (task : ℕ) (reply : Reply) (t : State) → is_unbuilt s (Exit task) ≡ false → IsBuiltStep s (Exit task) reply t → LeavesAll s (Exit task) reply t
-  exit_leaves task (Ok a) t built is = tt
-  exit_leaves task (Err r) t built is = exit_refused s task r t is
+  fork_leaves : (parent child : ℕ) (reply : Reply) (t : State) → IsBuiltStep s (Fork parent child) reply t → LeavesAll s (Fork parent child) reply t
+  fork_leaves parent child (Ok a) t is = tt
+  fork_leaves parent child (Err r) t is = fork_refused s st parent child r t is
+
+  exit_leaves : (task : ℕ) (reply : Reply) (t : State) → IsBuiltStep s (Exit task) reply t → LeavesAll s (Exit task) reply t
+  exit_leaves task (Ok a) t is = tt
+  exit_leaves task (Err r) t is = exit_refused s task r t is
 
   pub step_leaves : (reply : Reply) (t : State) (step : Step) → IsStep s step reply t → LeavesAll s step reply t
   step_leaves reply t step is =
       by_event s (λ step reply t. LeavesAll s step reply t) (λ step r early. same_leaves s step r s refl) event_leaves
-      (λ parent child reply t built is. cc) exit_leaves reply t step is
+      fork_leaves exit_leaves reply t step is
 
 -- ---- steps that read
 
@@ -138,4 +143,4 @@ module _ (s : State) (st : IsSettledState s) where
   event_tells (Tasks other) reply t whole is = tt
 
   pub step_tells : (reply : Reply) (t : State) (step : Step) → IsStep s step reply t → Tells s step reply
-  step_tells reply t step is = by_event s (λ step reply t. Tells s step reply) (λ step r early. nothing_told s step r) event_tells (λ parent child reply t built is. tt) (λ task reply t built is. tt) reply t step is
+  step_tells reply t step is = by_event s (λ step reply t. Tells s step reply) (λ step r early. nothing_told s step r) event_tells (λ parent child reply t is. tt) (λ task reply t is. tt) reply t step is

@@ -26,9 +26,8 @@ use Rattle.hp_laws.proofs.Changes.{KeptMap, SlotKeeps}
 use Rattle.hp_laws.proofs.Falls.{forked_falls, without_falls}
 use Rattle.hp_laws.proofs.Follows.{both_same}
 use Rattle.hp_laws.proofs.MountMoves.{files_sweep}
-use Rattle.hp_laws.proofs.Outcomes.{event_ends}
+use Rattle.hp_laws.proofs.Outcomes.{either_way, event_ends}
 use Rattle.hp_laws.proofs.SlotShows.{always_gives, always_unless}
-use Rattle.hp_laws.proofs.StaysSettled.{either_way}
 use Rattle.hp_laws.proofs.Unmaps.{exit_keeps, fork_keeps, same_keeps}
 
 -- ---- one slot

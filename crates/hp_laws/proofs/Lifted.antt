@@ -105,5 +105,5 @@ module _ (R : Slot → Slot → Type 0) (same : (old : Slot) → R old old) wher
       → (s : State) (reply : Reply) (t : State) (step : Step) → IsStep s step reply t → KeepsBut R (is_unmounted step reply) s t
   step_by h fades s reply t step is =
       by_event s (λ step reply t. KeepsBut R (is_unmounted step reply) s t) (λ step r early k there. same (slot_at s k)) (λ e reply t whole it. event_by h s reply t e whole it)
-      (λ parent child reply t built it k there. fades s.page_size child (slot_at s k) (slot_at t k) ((fork_fade s parent child reply t it).slots k))
-      (λ task reply t built it k there. fades s.page_size task (slot_at s k) (slot_at t k) ((exit_fade s task reply t it).slots k)) reply t step is
+      (λ parent child reply t it k there. fades s.page_size child (slot_at s k) (slot_at t k) ((fork_fade s parent child reply t it).slots k))
+      (λ task reply t it k there. fades s.page_size task (slot_at s k) (slot_at t k) ((exit_fade s task reply t it).slots k)) reply t step is

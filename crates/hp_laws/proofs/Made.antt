@@ -196,4 +196,4 @@ module _ (s : State) where
   event_makes (OnPool other) reply t whole is = tt
 
   pub step_makes : (reply : Reply) (t : State) (step : Step) → IsStep s step reply t → Makes s step reply t
-  step_makes reply t step is = by_event s (λ step reply t. Makes s step reply t) (λ step r early. makes_none s step r) event_makes (λ parent child reply t built is. tt) (λ task reply t built is. tt) reply t step is
+  step_makes reply t step is = by_event s (λ step reply t. Makes s step reply t) (λ step r early. makes_none s step r) event_makes (λ parent child reply t is. tt) (λ task reply t is. tt) reply t step is

@@ -268,4 +268,4 @@ module _ (s : State) (h : (k : ℕ) (c : Choice) (e : SlotEvent) → IsSound (sl
   step_meant reply t step is =
       by_event s (λ step reply t. Meant s step reply t)
       (λ step r early k. still_meant s step (Err r) s k refl refl (refused_stores s step r k) (refused_writes s step r k)) event_meant
-      (λ parent child reply t built it. fork_meant s parent child reply t it) (λ task reply t built it. exit_meant s task reply t it) reply t step is
+      (λ parent child reply t it. fork_meant s parent child reply t it) (λ task reply t it. exit_meant s task reply t it) reply t step is

@@ -106,8 +106,8 @@ fade_limits s gone t fade k l risen = let less = (fade.slots k).usage in absurd 
 
 step_kept : (s : State) → IsSettledState s → (reply : Reply) (t : State) (step : Step) → IsStep s step reply t → Kept s step reply t
 step_kept s st reply t step is = by_event s (λ step reply t. Kept s step reply t) (early_kept s) (λ e reply t whole it. event_kept s st reply t e it)
-    (λ parent child reply t built it. record { reserved = λ e. cc; limits = fade_limits s child t (fork_fade s parent child reply t it); loads = tt; cut_off = λ e. cc })
-    (λ task reply t built it. record { reserved = λ e. cc; limits = fade_limits s task t (exit_fade s task reply t it); loads = tt; cut_off = λ e. cc }) reply t step is
+    (λ parent child reply t it. record { reserved = λ e. cc; limits = fade_limits s child t (fork_fade s parent child reply t it); loads = tt; cut_off = λ e. cc })
+    (λ task reply t it. record { reserved = λ e. cc; limits = fade_limits s task t (exit_fade s task reply t it); loads = tt; cut_off = λ e. cc }) reply t step is
 
 pub promised : PromisesAreKept
 promised s step reply t st is =

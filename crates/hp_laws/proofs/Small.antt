@@ -58,9 +58,8 @@ use Rattle.hp_model.specs.Table.{Table, added, home_of, is_crowded, is_known, or
 use Rattle.hp_model.specs.Value.{shown, value}
 use Rattle.hp_model.specs.Writing.{IsWithinLimits}
 use Rattle.hp_laws.proofs.MountMoves.{IsSpot, spot_is}
-use Rattle.hp_laws.proofs.Outcomes.{Always, always_if, outcome_if, always_test, always_then, always_weaker, event_ends, reply_of}
+use Rattle.hp_laws.proofs.Outcomes.{either_way, Always, always_if, outcome_if, always_test, always_then, always_weaker, event_ends, reply_of}
 use Rattle.hp_laws.proofs.Shown.{On, Same, Result, on_weaker, read_same, write_done}
-use Rattle.hp_laws.proofs.StaysSettled.{either_way}
 use Rattle.hp_laws.proofs.Whole.{by_event, is_whole, step_of}
 use Rattle.hp_laws.proofs.SlotShows.{always_gives, always_grant, always_mount, always_unless, always_value, bytes_on}
 
@@ -433,8 +432,8 @@ module _ (s : State) (st : IsSettledState s) where
   pub step_small : (reply : Reply) (t : State) (step : Step) → IsStep s step reply t → is_told_step step ≡ false → IsWithinLimits reply
   step_small reply t step is =
       by_event s SmallUnlessTold (λ step r early apart. tt) (λ e reply t whole it apart. event_small s st e reply t it (sym (told_same e whole) ∙ apart))
-      (λ parent child reply t built it apart. script_small (script (length s.slots) (Fork parent child)) (λ r. when_small r (fork_slots (range_with_len 0 (length s.slots)) [] parent child) (forks_small (range_with_len 0 (length s.slots)) [] parent child)) s reply t it)
-      (λ task reply t built it apart. script_small (script (length s.slots) (Exit task)) (λ r. when_small r (exit_slots (range_with_len 0 (length s.slots)) task (Answer_with (Ok Done))) (exits_small (range_with_len 0 (length s.slots)) task (Answer_with (Ok Done)) tt)) s reply t it) reply t step is
+      (λ parent child reply t it apart. script_small (script (length s.slots) (Fork parent child)) (λ r. when_small r (fork_slots (range_with_len 0 (length s.slots)) [] parent child) (forks_small (range_with_len 0 (length s.slots)) [] parent child)) s reply t it)
+      (λ task reply t it apart. script_small (script (length s.slots) (Exit task)) (λ r. when_small r (exit_slots (range_with_len 0 (length s.slots)) task (Answer_with (Ok Done))) (exits_small (range_with_len 0 (length s.slots)) task (Answer_with (Ok Done)) tt)) s reply t it) reply t step is
 
 -- of these only `df` is built
 unbuilt_small : (s : State) (step : Step) (reply : Reply) (t : State) → is_unbuilt s step ≡ true → IsStep s step reply t → IsWithinLimits reply

@@ -32,10 +32,10 @@ use Rattle.hp_model.specs.Table.{Table, added, home_of, is_crowded, is_known, or
 use Rattle.hp_model.proofs.Distinct.{is_among-append}
 use Rattle.hp_model.proofs.RowMoves.{puts_are}
 use Rattle.hp_laws.specs.Balance.{Always, left_by}
-use Rattle.hp_laws.proofs.Outcomes.{event_ends, reply_of}
+use Rattle.hp_laws.proofs.Outcomes.{either_way, event_ends, reply_of}
 use Rattle.hp_laws.proofs.RefusalsKeep.{refusals_change_nothing}
 use Rattle.hp_laws.proofs.SlotShows.{always_gives, always_unless}
-use Rattle.hp_laws.proofs.StaysSettled.{either_way, event_settled}
+use Rattle.hp_laws.proofs.StaysSettled.{event_settled}
 use Rattle.hp_laws.proofs.Swept.{forked_without, swept_twice, twice_without, without_after, without_none}
 use Rattle.hp_laws.proofs.Walk.{plan_unless}
 

@@ -16,7 +16,7 @@ use Rattle.hp_model.specs.Plan.{Reply}
 use Rattle.hp_model.specs.Promises.{is_for_pages}
 use Rattle.hp_model.specs.State.{State}
 use Rattle.hp_model.specs.Step.{IsBuiltStep, IsScript, IsStep, finding, is_unbuilt, on_slot, only}
-use Rattle.hp_laws.proofs.Outcomes.{IsLeft, finding_goes, only_goes, slot_goes}
+use Rattle.hp_laws.proofs.Outcomes.{either_way, IsLeft, finding_goes, only_goes, slot_goes}
 
 -- ---- the step of an event
 
@@ -75,16 +75,10 @@ early_pages other early = refl
 
 -- ---- what holds of each event holds of each step
 
--- the step is one event, but for a task that is found first
-abbrev pub is_alone : Step → Bool
-is_alone (Fork parent child) = false
-is_alone (Exit task) = false
-is_alone other = true
-
 module _ (s : State) (P : Step → Reply → State → Type 0) (early : (step : Step) (r : Refusal) → is_early r ≡ true → P step (Err r) s)
     (done : (e : Event) (reply : Reply) (t : State) → is_whole e ≡ true → IsEvent s e reply t → P (step_of e) reply t)
-    (forks : (parent child : ℕ) (reply : Reply) (t : State) → is_unbuilt s (Fork parent child) ≡ false → IsBuiltStep s (Fork parent child) reply t → P (Fork parent child) reply t)
-    (exits : (task : ℕ) (reply : Reply) (t : State) → is_unbuilt s (Exit task) ≡ false → IsBuiltStep s (Exit task) reply t → P (Exit task) reply t) (reply : Reply) (t : State) where
+    (forks : (parent child : ℕ) (reply : Reply) (t : State) → IsBuiltStep s (Fork parent child) reply t → P (Fork parent child) reply t)
+    (exits : (task : ℕ) (reply : Reply) (t : State) → IsBuiltStep s (Exit task) reply t → P (Exit task) reply t) (reply : Reply) (t : State) where
   by_left : (step : Step) (r : Refusal) → is_early r ≡ true → IsLeft s r reply t → P step reply t
   by_left step r is left = subst (λ x. P step x t) (sym left.replied) (subst (λ x. P step (Err r) x) (sym left.same) (early step r is))
 
@@ -101,46 +95,38 @@ module _ (s : State) (P : Step → Reply → State → Type 0) (early : (step : 
       ⊎_elim (λ left. by_left step NoSuchTask refl left) (λ found. subst (λ x. P x reply t) (same found.0) (by_slot k (e found.0) (whole found.0) found.1))
       (finding_goes s task (λ home. on_slot (length s.slots) k (e home)) reply t is)
 
-  pub by_script : (step : Step) → is_alone step ≡ true → IsBuiltStep s step reply t → P step reply t
-  by_script (Connect task home) alone is = by_only (Tasks (table.Add task home)) refl is
-  by_script (Attach task) alone is = by_only (Tasks (table.Find task)) refl is
-  by_script (Fork parent child) alone is = cc
-  by_script (Exit task) alone is = cc
-  by_script (Mount k options) alone is = by_slot k (slot.Mount options) refl is
-  by_script (Umount k) alone is = by_slot k slot.Umount refl is
-  by_script (Create k name) alone is = by_slot k (slot.Create name) refl is
-  by_script (Unlink k name) alone is = by_slot k (slot.Unlink name) refl is
-  by_script (Truncate k name pages) alone is = by_slot k (slot.Truncate name pages) refl is
-  by_script (Punch k name a b) alone is = by_slot k (slot.Punch name a b) refl is
-  by_script (Read k name i offset count) alone is = by_slot k (slot.Read name i offset count) refl is
-  by_script (Ls k) alone is = by_slot k slot.Ls refl is
-  by_script (Stat k name) alone is = by_slot k (slot.Stat name) refl is
-  by_script (Map task k name a pages sharing reserving) alone is =
+  pub by_script : (step : Step) → IsBuiltStep s step reply t → P step reply t
+  by_script (Connect task home) is = by_only (Tasks (table.Add task home)) refl is
+  by_script (Attach task) is = by_only (Tasks (table.Find task)) refl is
+  by_script (Fork parent child) is = forks parent child reply t is
+  by_script (Exit task) is = exits task reply t is
+  by_script (Mount k options) is = by_slot k (slot.Mount options) refl is
+  by_script (Umount k) is = by_slot k slot.Umount refl is
+  by_script (Create k name) is = by_slot k (slot.Create name) refl is
+  by_script (Unlink k name) is = by_slot k (slot.Unlink name) refl is
+  by_script (Truncate k name pages) is = by_slot k (slot.Truncate name pages) refl is
+  by_script (Punch k name a b) is = by_slot k (slot.Punch name a b) refl is
+  by_script (Read k name i offset count) is = by_slot k (slot.Read name i offset count) refl is
+  by_script (Ls k) is = by_slot k slot.Ls refl is
+  by_script (Stat k name) is = by_slot k (slot.Stat name) refl is
+  by_script (Map task k name a pages sharing reserving) is =
       by_task (Map task k name a pages sharing reserving) k task (λ home. slot.Map task home name a pages sharing reserving) (λ home. refl) (λ home. refl) is
-  by_script (Anon task pages sharing reserving) alone is =
+  by_script (Anon task pages sharing reserving) is =
       by_task (Anon task pages sharing reserving) 0 task (λ home. slot.Anon task home pages sharing reserving) (λ home. refl) (λ home. refl) is
-  by_script (Unmap task k number a b) alone is = by_task (Unmap task k number a b) k task (λ home. slot.Unmap task number a b) (λ home. refl) (λ home. refl) is
-  by_script (Fault task k number i intent) alone is =
+  by_script (Unmap task k number a b) is = by_task (Unmap task k number a b) k task (λ home. slot.Unmap task number a b) (λ home. refl) (λ home. refl) is
+  by_script (Fault task k number i intent) is =
       by_task (Fault task k number i intent) k task (λ home. slot.Fault task home number i intent) (λ home. refl) (λ home. refl) is
-  by_script (Load task k number i offset count) alone is =
+  by_script (Load task k number i offset count) is =
       by_task (Load task k number i offset count) k task (λ home. slot.Load task home number i offset count) (λ home. refl) (λ home. refl) is
-  by_script (Store task k number i offset bytes) alone is =
+  by_script (Store task k number i offset bytes) is =
       by_task (Store task k number i offset bytes) k task (λ home. slot.Store task home number i offset bytes) (λ home. refl) (λ home. refl) is
-  by_script (Nr pages) alone is = by_only (OnPool (pool.Nr pages)) refl is
-  by_script (Overcommit pages) alone is = by_only (OnPool (pool.Overcommit pages)) refl is
-  by_script Meminfo alone is = by_only (OnPool pool.Meminfo) refl is
-  by_script Nodes alone is = by_only (OnPool pool.Nodes) refl is
-  by_script (Df k) alone is = by_slot k slot.Df refl is
-
-  by_kind : (step : Step) → is_unbuilt s step ≡ false → IsBuiltStep s step reply t → P step reply t
-  by_kind (Fork parent child) built is = forks parent child reply t built is
-  by_kind (Exit task) built is = exits task reply t built is
-  by_kind other built is = by_script other refl is
+  by_script (Nr pages) is = by_only (OnPool (pool.Nr pages)) refl is
+  by_script (Overcommit pages) is = by_only (OnPool (pool.Overcommit pages)) refl is
+  by_script Meminfo is = by_only (OnPool pool.Meminfo) refl is
+  by_script Nodes is = by_only (OnPool pool.Nodes) refl is
+  by_script (Df k) is = by_slot k slot.Df refl is
 
   pub by_event : (step : Step) → IsStep s step reply t → P step reply t
   unfolding IsStep
-  by_event step is = by_test (is_unbuilt s step) refl is
-    where
-      by_test : (b : Bool) → is_unbuilt s step ≡ b → MatchBool b ((reply ≡ Err BadLine) × (t ≡ s)) (IsBuiltStep s step reply t) → P step reply t
-      by_test true is left = by_left step BadLine refl (record { replied = left.0; same = left.1 })
-      by_test false built is = by_kind step built is
+  by_event step is =
+      either_way (is_unbuilt s step) (λ left. by_left step BadLine refl (record { replied = left.0; same = left.1 })) (λ built. by_script step built) is
