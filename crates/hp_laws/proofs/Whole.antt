@@ -16,7 +16,7 @@ use Rattle.hp_model.specs.Plan.{Reply}
 use Rattle.hp_model.specs.Promises.{is_for_pages}
 use Rattle.hp_model.specs.State.{State}
 use Rattle.hp_model.specs.Step.{IsBuiltStep, IsScript, IsStep, finding, is_unbuilt, on_slot, only}
-use Rattle.hp_laws.proofs.Outcomes.{either_way, IsLeft, finding_goes, only_goes, slot_goes}
+use Rattle.hp_laws.proofs.Outcomes.{IsLeft, finding_goes, only_goes, slot_goes}
 
 -- ---- the step of an event
 
@@ -128,5 +128,8 @@ module _ (s : State) (P : Step → Reply → State → Type 0) (early : (step : 
 
   pub by_event : (step : Step) → IsStep s step reply t → P step reply t
   unfolding IsStep
-  by_event step is =
-      either_way (is_unbuilt s step) (λ left. by_left step BadLine refl (record { replied = left.0; same = left.1 })) (λ built. by_script step built) is
+  by_event step is = by_test (is_unbuilt s step) is
+    where
+      by_test : (b : Bool) → MatchBool b ((reply ≡ Err BadLine) × (t ≡ s)) (IsBuiltStep s step reply t) → P step reply t
+      by_test true left = by_left step BadLine refl (record { replied = left.0; same = left.1 })
+      by_test false built = by_script step built
