@@ -1,6 +1,5 @@
 -- What each step of a settled machine answers is within the limits of a reply's text.
 use Rattle.std.proofs.Common.{◌≡◌, subst, ℕ, suc, ◌+◌, ◌*◌, ◌^◌, ◌<◌, ◌≤◌, ◌||◌, ◌&&◌, ◌==◌, ◌∙◌, Bool, true, false, not, Option, None, Some, is_some, Ok, Err, List, [], ◌∷◌, ◌++◌, drop, replicate, map, length, refl, sym, ap, arith, if◌then◌else◌, cond, nat_lt, nat_le}
-use Rattle.std.specs.Bool.{MatchBool}
 use Rattle.std.specs.List.{All, filter, position_or_len, range_with_len}
 use Rattle.std.proofs.lemmas.Bool.{cond_both, leb-false, ltb-false, or_parts}
 use Rattle.std.proofs.lemmas.List.{length-map}
@@ -24,13 +23,13 @@ use Rattle.hp_model.specs.declared.event.SlotEvent.TheVariants as slot
 use Rattle.hp_model.specs.declared.event.TableEvent.TheVariants as table
 use Rattle.hp_model.specs.declared.node.NodeRow.{NodeRow}
 use Rattle.hp_model.specs.declared.refusal.Refusal.{Refusal}
-use Rattle.hp_model.specs.declared.refusal.Refusal.TheVariants.{MountFull, NoPages, OutOfMemory, OutOfRange, CrossesPage, TooMany, BeyondEnd, NoSuchMap, NoSuchFile, NoSuchNode, TaskExists, BadName, FileExists, NoInodes, Busy, BadLine}
+use Rattle.hp_model.specs.declared.refusal.Refusal.TheVariants.{MountFull, NoPages, OutOfMemory, OutOfRange, CrossesPage, TooMany, BeyondEnd, NoSuchMap, NoSuchFile, NoSuchNode, TaskExists, BadName, FileExists, NoInodes, Busy}
 use Rattle.hp_model.specs.declared.step.Intent.{Intent}
 use Rattle.hp_model.specs.declared.step.Intent.TheVariants.{Read, Write}
 use Rattle.hp_model.specs.declared.step.Reserving.{Reserving}
 use Rattle.hp_model.specs.declared.step.Sharing.{Sharing}
 use Rattle.hp_model.specs.declared.step.Step.{Step}
-use Rattle.hp_model.specs.declared.step.Step.TheVariants.{Attach, Df, Exit, Fork, Ls, Stat}
+use Rattle.hp_model.specs.declared.step.Step.TheVariants.{Exit, Fork}
 use Rattle.hp_model.specs.Access.{access, new_copy, private_access, shared_access}
 use Rattle.hp_model.specs.CopyWrite.{copy_write, is_held_once, owner_write, taken_back}
 use Rattle.hp_model.specs.Event.{IsEvent, has_maps_of}
@@ -53,7 +52,7 @@ use Rattle.hp_model.specs.Settled.{IsSettledState}
 use Rattle.hp_model.specs.SlotEvent.{anon_tests, edited, fault, fault_tests, fork_tests, is_bad_range, on_mount, punch, read, truncate, unlink, unmap, are_too_many_maps, byte_access, bytes_answer, file_named, has_maps, is_beyond, is_name, is_new_task_over, is_unmapped, load, map_file, slot_event, store}
 use Rattle.hp_model.specs.Spot.{Spot, again, copied, spot, written}
 use Rattle.hp_model.specs.State.{Node, State, slot_at}
-use Rattle.hp_model.specs.Step.{Answer_with, Do, IsBuiltStep, IsScript, IsStep, Script, Where_mapped, exit_slots, fork_slots, is_unbuilt, or_undone, script, when_done}
+use Rattle.hp_model.specs.Step.{Answer_with, Do, IsScript, IsStep, Script, Where_mapped, exit_slots, fork_slots, or_undone, script, when_done}
 use Rattle.hp_model.specs.Table.{Table, added, home_of, is_crowded, is_known, or_refused, removed, table_event, when_known}
 use Rattle.hp_model.specs.Value.{shown, value}
 use Rattle.hp_model.specs.Writing.{IsWithinLimits}
@@ -409,14 +408,7 @@ forks_small (k ∷ ks) done parent child =
 
 -- ---- each step
 
--- the numbers of a mount, a file or a task, and names, are as large as they were made
-abbrev pub is_told_step : Step → Bool
-is_told_step (Attach task) = true
-is_told_step (Ls k) = true
-is_told_step (Stat k name) = true
-is_told_step step = is_usage step
-
-told_same : (e : Event) → is_whole e ≡ true → is_told_step (step_of e) ≡ is_told e
+told_same : (e : Event) → is_whole e ≡ true → is_usage (step_of e) ≡ is_told e
 told_same (Tasks (table.Add task home)) whole = refl
 told_same (Tasks (table.Find task)) whole = refl
 told_same (Tasks other) whole = cc
@@ -427,23 +419,17 @@ told_same (OnPool other) whole = refl
 
 module _ (s : State) (st : IsSettledState s) where
   abbrev SmallUnlessTold : Step → Reply → State → Type 0
-  SmallUnlessTold step reply t = is_told_step step ≡ false → IsWithinLimits reply
+  SmallUnlessTold step reply t = is_usage step ≡ false → IsWithinLimits reply
 
-  pub step_small : (reply : Reply) (t : State) (step : Step) → IsStep s step reply t → is_told_step step ≡ false → IsWithinLimits reply
+  pub step_small : (reply : Reply) (t : State) (step : Step) → IsStep s step reply t → is_usage step ≡ false → IsWithinLimits reply
   step_small reply t step is =
       by_event s SmallUnlessTold (λ step r early apart. tt) (λ e reply t whole it apart. event_small s st e reply t it (sym (told_same e whole) ∙ apart))
       (λ parent child reply t it apart. script_small (script (length s.slots) (Fork parent child)) (λ r. when_small r (fork_slots (range_with_len 0 (length s.slots)) [] parent child) (forks_small (range_with_len 0 (length s.slots)) [] parent child)) s reply t it)
       (λ task reply t it apart. script_small (script (length s.slots) (Exit task)) (λ r. when_small r (exit_slots (range_with_len 0 (length s.slots)) task (Answer_with (Ok Done))) (exits_small (range_with_len 0 (length s.slots)) task (Answer_with (Ok Done)) tt)) s reply t it) reply t step is
 
--- of these only `df` is built
-unbuilt_small : (s : State) (step : Step) (reply : Reply) (t : State) → is_unbuilt s step ≡ true → IsStep s step reply t → IsWithinLimits reply
-unfolding IsStep
-unbuilt_small s step reply t unbuilt is =
-    let left = subst (λ b. MatchBool b ((reply ≡ Err BadLine) × (t ≡ s)) (IsBuiltStep s step reply t)) unbuilt is in subst IsWithinLimits (sym left.0) tt
-
 pub within_limits : (s : State) (step : Step) (reply : Reply) (t : State) → IsSettledState s → IsStep s step reply t → (is_usage step ≡ true → IsWithinLimits reply) → IsWithinLimits reply
-within_limits s (Attach task) reply t st is usage = unbuilt_small s (Attach task) reply t refl is
-within_limits s (Ls k) reply t st is usage = unbuilt_small s (Ls k) reply t refl is
-within_limits s (Stat k name) reply t st is usage = unbuilt_small s (Stat k name) reply t refl is
-within_limits s (Df k) reply t st is usage = usage refl
-within_limits s other reply t st is usage = step_small s st reply t other is refl
+within_limits s step reply t st is usage = by_kind (is_usage step) refl
+  where
+    by_kind : (b : Bool) → is_usage step ≡ b → IsWithinLimits reply
+    by_kind true told = usage told
+    by_kind false apart = step_small s st reply t step is apart

@@ -1,14 +1,13 @@
 -- Maps of a task go: once is as often, and a child's go with what its fork made.
-use Rattle.std.proofs.Common.{◌≡◌, ℕ, ◌≤◌, ◌||◌, ◌==◌, Bool, true, false, not, Option, None, Some, is_some, List, [], ◌∷◌, ◌++◌, length, map, option_map, cond, refl, sym, ap, ◌∙◌, arith, nat_lt, suc}
-use Rattle.std.specs.List.{filter, flat_map, list_any}
+use Rattle.std.proofs.Common.{◌≡◌, ℕ, Bool, true, false, not, Some, is_some, List, [], ◌∷◌, ◌++◌, length, map, cond, refl, sym, ap, ◌∙◌, arith, nat_lt}
+use Rattle.std.specs.List.{filter, list_any}
 use Rattle.std.proofs.lemmas.Bool.{eq-eqb, lt-ltb, or_parts}
 use Rattle.std.proofs.lemmas.List.Elements.{filter-append}
-use Rattle.hp_model.specs.File.{File, Mount, maps_of}
+use Rattle.hp_model.specs.File.{File, Mount}
 use Rattle.hp_model.specs.Event.{has_maps_of}
-use Rattle.hp_model.specs.Fork.{file_forked, forked}
+use Rattle.hp_model.specs.Fork.{file_forked}
 use Rattle.hp_model.specs.GiveBack.{file_without, is_kept, swept, without_task}
 use Rattle.hp_model.specs.Mapping.{Map, is_of, map_for}
-use Rattle.hp_model.specs.Plan.{Slot}
 use Rattle.hp_laws.proofs.Follows.{is_not_of}
 use Rattle.hp_laws.proofs.Made.{any_in_files}
 

@@ -1,8 +1,8 @@
 -- What a refused fork leaves: the slots are as they were, or without the child's old maps.
-use Rattle.std.proofs.Common.{◌≡◌, ⊎_elim, inl, inr, ◌⊎◌, subst, ℕ, ◌<◌, ◌||◌, ◌==◌, ◌&&◌, Bool, true, false, not, Option, None, Some, is_some, Ok, Err, List, [], ◌∷◌, ◌++◌, length, map, option_map, refl, sym, ap, ◌∙◌, if◌then◌else◌}
+use Rattle.std.proofs.Common.{◌≡◌, ⊎_elim, inl, inr, ◌⊎◌, subst, ℕ, ◌||◌, ◌==◌, ◌&&◌, Bool, true, false, Option, None, Some, is_some, Ok, Err, List, [], ◌∷◌, ◌++◌, length, map, option_map, refl, sym, ap, ◌∙◌, if◌then◌else◌}
 use Rattle.std.specs.Bool.{MatchBool}
 use Rattle.hp_model.specs.declared.answer.Answer.{Answer}
-use Rattle.std.specs.List.{sum, filter, find, range_with_len, slice_index_or, slice_set}
+use Rattle.std.specs.List.{sum, find, range_with_len, slice_index_or, slice_set}
 use Rattle.std.proofs.lemmas.Bool.{cases_eq, cond_both, eq-eqb, eqb-true, false_from_ne_true, ltb-true, or_left, or_right}
 use Rattle.std.proofs.lemmas.List.{get_or-set_other, get_or-set_same}
 use Rattle.hp_model.specs.declared.answer.Answer.TheVariants.{Done}
@@ -20,14 +20,14 @@ use Rattle.hp_model.specs.GiveBack.{file_without, swept, without_task}
 use Rattle.hp_model.specs.Lists.{is_among}
 use Rattle.hp_model.specs.Machine.{pool_of, with_pool}
 use Rattle.hp_model.specs.Plan.{Answered, Ask, Choice, Finish, Outcome, Plan, Refused, Reply, Slot, fall_of, gives, puts_of}
-use Rattle.hp_model.specs.Pool.{puts_from, section}
+use Rattle.hp_model.specs.Pool.{section}
 use Rattle.hp_model.specs.declared.section.Section.TheVariants.{GiveBack}
 use Rattle.hp_model.specs.PoolCounts.{Pool}
 use Rattle.hp_model.specs.Promises.{IsForkLeft, LeavesOthers}
 use Rattle.hp_model.specs.Settled.{IsSettledState}
 use Rattle.hp_model.specs.SlotEvent.{fork_tests, slot_event}
 use Rattle.hp_model.specs.State.{State, slot_at}
-use Rattle.hp_model.specs.Step.{Answer_with, Do, IsBuiltStep, IsScript, Script, exit_slots, fork_slots, or_undone, undone, when_done}
+use Rattle.hp_model.specs.Step.{Answer_with, Do, IsBuiltStep, IsScript, Script, fork_slots, or_undone, undone, when_done}
 use Rattle.hp_model.specs.Table.{Table, added, home_of, is_crowded, is_known, or_refused, removed, when_known}
 use Rattle.hp_model.proofs.Distinct.{is_among-append}
 use Rattle.hp_model.proofs.RowMoves.{puts_are}
