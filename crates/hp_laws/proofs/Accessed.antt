@@ -43,7 +43,7 @@ key_edit key f same [] k = refl
 key_edit key f same (x ∷ xs) zero = ap (λ z. z ∷ map key xs) (same x)
 key_edit key f same (x ∷ xs) (suc k) = ap (λ zs. key x ∷ zs) (key_edit key f same xs k)
 
-key_map : {X K : Type 0} (key : X → K) (f : X → X) → ((x : X) → key (f x) ≡ key x) → (xs : List X) → map key (map f xs) ≡ map key xs
+pub key_map : {X K : Type 0} (key : X → K) (f : X → X) → ((x : X) → key (f x) ≡ key x) → (xs : List X) → map key (map f xs) ≡ map key xs
 key_map key f same [] = refl
 key_map key f same (x ∷ xs) = rw (same x, key_map key f same xs) refl
 
@@ -64,7 +64,7 @@ map_put : (f : File) (k : ℕ) (x y : Map) → IsMapAt f k x → shape_of y ≡ 
 map_put f k x y at same = ap (λ ks. (f.name, ks)) (key_set shape_of f.maps k y (same ∙ sym (ap shape_of (at.is y))))
 
 -- an element of the list that a function was put over
-get_mapped : {X : Type 0} (f : X → X) (xs : List X) (k : ℕ) (d : X) → k < length xs → get_or (map f xs) k d ≡ f (get_or xs k d)
+pub get_mapped : {X : Type 0} (f : X → X) (xs : List X) (k : ℕ) (d : X) → k < length xs → get_or (map f xs) k d ≡ f (get_or xs k d)
 get_mapped f [] k d l = absurd (omega (arith, l))
 get_mapped f (x ∷ xs) zero d l = refl
 get_mapped f (x ∷ xs) (suc k) d l = get_mapped f xs k d (omega (arith, l))

@@ -17,7 +17,7 @@ use Rattle.hp_model.specs.Plan.{refuse, Slot, Outcome, Refused, Answered, Choice
 use Rattle.hp_model.specs.Profile.{most_bytes}
 use Rattle.hp_model.specs.Promises.{is_cut_off, is_refused, spot_on, is_backed, owns_copy}
 use Rattle.hp_model.specs.Reserved.{is_reserved}
-use Rattle.hp_model.specs.SlotEvent.{byte_access, bytes_answer, is_beyond, is_unmapped, load, slot_event, store}
+use Rattle.hp_model.specs.SlotEvent.{byte_access, bytes_answer, fault, is_beyond, is_unmapped, load, slot_event, store}
 use Rattle.hp_model.specs.Spot.{Spot, again, spot, written}
 use Rattle.hp_model.specs.Value.{value}
 use Rattle.hp_laws.proofs.Outcomes.{reply_of, Always, always_if, always_test, always_then}
@@ -77,6 +77,17 @@ module _ (size k : ℕ) (c : Choice) (task home number i offset : ℕ) where
           let f : Mount → Outcome = λ n. Answered Done (Some (written n s i offset bytes)) in
           always_then KeepsGoing KeepsGoing f (goes_on c size m s home i f (λ n. tt)) (byte_access c size m home i offset (length bytes) Write s) (bytes_go c size m s home i offset (length bytes) Write e)
 
+pub fault_goes : (size k : ℕ) (c : Choice) (task home number i : ℕ) (intent : Intent) (old : Slot) → is_backed intent (spot_on old task number) i ≡ true
+    → Always KeepsGoing (slot_event size k c old (slot.Fault task home number i intent))
+fault_goes size k c task home number i intent None e = cc
+fault_goes size k c task home number i intent (Some m) e = by_spot (spot m (is_map task number)) e
+  where
+    by_spot : (o : Option Spot) → is_backed intent o i ≡ true → Always KeepsGoing (with_value o NoSuchMap (fault c size m home i intent))
+    by_spot None e = refl
+    by_spot (Some s) e =
+        always_test KeepsGoing (is_unmapped s i) OutOfRange _ refl
+        (λ a. always_test KeepsGoing (is_beyond s i) BeyondEnd (access c size m s home i intent) refl (λ b. access_goes c size m s home i intent e))
+
 -- ---- an access through a marked map, where it has no copy
 
 abbrev pub Stops : Outcome → Type 0
@@ -128,3 +139,14 @@ module _ (size k : ℕ) (c : Choice) (task home number i offset : ℕ) where
       by_spot (Some s) e =
           let f : Mount → Outcome = λ n. Answered Done (Some (written n s i offset bytes)) in
           always_then Stops Stops f (still_stops f) (byte_access c size m home i offset (length bytes) Write s) (bytes_stop c size m s home i offset (length bytes) Write e)
+
+pub fault_stops : (size k : ℕ) (c : Choice) (task home number i : ℕ) (intent : Intent) (old : Slot) → is_cut_off (spot_on old task number) i ≡ true
+    → Always Stops (slot_event size k c old (slot.Fault task home number i intent))
+fault_stops size k c task home number i intent None e = cc
+fault_stops size k c task home number i intent (Some m) e = by_spot (spot m (is_map task number)) e
+  where
+    by_spot : (o : Option Spot) → is_cut_off o i ≡ true → Always Stops (with_value o NoSuchMap (fault c size m home i intent))
+    by_spot None e = refl
+    by_spot (Some s) e =
+        always_test Stops (is_unmapped s i) OutOfRange _ refl
+        (λ a. always_test Stops (is_beyond s i) BeyondEnd (access c size m s home i intent) refl (λ b. access_stops c size m s home i intent e))

@@ -20,11 +20,11 @@ use Rattle.hp_model.specs.declared.step.Sharing.{Sharing}
 use Rattle.hp_model.specs.Access.{access, new_copy, private_access, shared_access, uncopied_access}
 use Rattle.hp_model.specs.CopyWrite.{copy_write, is_held_once, owner_write, taken_back}
 use Rattle.hp_model.specs.File.{File, Mount, cell_at, file_in, has_page, map_in, maps_of, new_file, with_cell, with_file, with_map}
-use Rattle.hp_model.specs.GiveBack.{file_unmapped, file_without, punched, truncated, unlinked, without_task, swept}
+use Rattle.hp_model.specs.GiveBack.{file_unmapped, file_without, is_left, map_unmapped, punched, truncated, unlinked, without_task, swept}
 use Rattle.hp_model.specs.Grant.{is_full, rise}
 use Rattle.hp_model.specs.Lists.{edit_at, is_among}
 use Rattle.hp_model.specs.MakeMap.{mapped, new_map, next_number}
-use Rattle.hp_model.specs.Mapping.{Map, copy_of, is_map, is_mapped, is_of, is_shared, is_unconsumed, map_punched, no_map, place_at, with_place, without_range}
+use Rattle.hp_model.specs.Mapping.{Map, copy_of, is_map, is_of, is_shared, is_unconsumed, map_punched, no_map, place_at, with_place, without_range}
 use Rattle.hp_model.specs.MountCounts.{stamps_of}
 use Rattle.hp_model.specs.Page.{Copy, Page, overwritten, zeros}
 use Rattle.hp_model.specs.Plan.{Ask, Answered, Choice, Finish, Outcome, Refused, Slot, gives, may_lack_room, unless}
@@ -255,10 +255,10 @@ module _ (size k : ℕ) (c : Choice) (m : Mount) (sound : IsSoundMount m) (new :
 
   unmapped_sound : (test : Map → Bool) (a b : ℕ) → IsSoundMount (swept (record m { files = map (file_unmapped test a b) m.files }))
   unmapped_sound test a b =
-      let cut : Map → Map = λ x. if test x then without_range a b x else x in
+      let cut : Map → Map = map_unmapped test a b in
       swept_sound (record m { files = map (file_unmapped test a b) m.files })
       (cut_sound m (file_unmapped test a b) (unmapped_keeps test a b)
-      (λ task number f. filtered_numbers is_mapped task number f.maps (map cut f.maps)
+      (λ task number f. filtered_numbers (is_left test) task number f.maps (map cut f.maps)
       (mapped_numbers cut (λ x. cond_both (test x) (without_range a b x) x (λ y. y.task ≡ x.task) (λ e. refl) (λ e. refl))
       (λ x. cond_both (test x) (without_range a b x) x (λ y. y.number ≡ x.number) (λ e. refl) (λ e. refl)) task number f.maps)) sound)
 

@@ -6,9 +6,9 @@ use Rattle.std.proofs.lemmas.List.Folds.{list_any-append}
 use Rattle.std.proofs.lemmas.List.Sums.{sum_by-append, sum_by-take-drop, sum_by-take-le, sum_by-cons}
 use Rattle.hp_model.specs.File.{cell_punched, cells_to, File, has_page}
 use Rattle.hp_model.specs.Fork.{file_forked}
-use Rattle.hp_model.specs.GiveBack.{file_unmapped, file_without, punched, truncated, unlinked}
+use Rattle.hp_model.specs.GiveBack.{file_unmapped, file_without, is_left, map_unmapped, punched, truncated, unlinked}
 use Rattle.hp_model.specs.Lists.{edit_range}
-use Rattle.hp_model.specs.Mapping.{map_for, unconsumed, without_range, without_copy, map_punched, is_mapped, Map, is_unconsumed, is_of}
+use Rattle.hp_model.specs.Mapping.{map_for, unconsumed, without_range, without_copy, map_punched, Map, is_unconsumed, is_of}
 use Rattle.hp_model.specs.MountCounts.{file_pages, file_reserves, file_pages_at, is_waiting, is_page_at, owner_reserves}
 use Rattle.hp_model.specs.Page.{Page, Copy}
 use Rattle.hp_model.specs.Sound.{place_has, map_has}
@@ -176,8 +176,8 @@ maps_filtered test xs ys fall = record {
 pub unmapped_falls : (test : Map → Bool) (a b : ℕ) (f : File) → FileFalls f (file_unmapped test a b f)
 unmapped_falls test a b f =
     file_falls f (file_unmapped test a b f) (same_cells f.cells)
-    (maps_filtered is_mapped f.maps (map (λ m. if test m then without_range a b m else m) f.maps)
-    (maps_fall (λ m. if test m then without_range a b m else m) (λ t m. range_has_if (test m) a b t m) (λ m. range_owes_if (test m) a b m) f.maps))
+    (maps_filtered (is_left test) f.maps (map (map_unmapped test a b) f.maps)
+    (maps_fall (map_unmapped test a b) (λ t m. range_has_if (test m) a b t m) (λ m. range_owes_if (test m) a b m) f.maps))
 
 pub without_falls : (task : ℕ) (f : File) → FileFalls f (file_without task f)
 without_falls task f = file_falls f (file_without task f) (same_cells f.cells) (maps_filtered (λ m. not (is_of task m)) f.maps f.maps (same_maps f.maps))

@@ -14,10 +14,10 @@ use Rattle.hp_model.specs.declared.step.Sharing.{Sharing}
 use Rattle.hp_model.specs.CopyWrite.{robbed}
 use Rattle.hp_model.specs.File.{File, at_least, cell_punched, cells_to, entered, with_map}
 use Rattle.hp_model.specs.Fork.{file_forked}
-use Rattle.hp_model.specs.GiveBack.{file_unmapped, file_without, punched, truncated, unlinked}
+use Rattle.hp_model.specs.GiveBack.{file_unmapped, file_without, is_left, map_unmapped, punched, truncated, unlinked}
 use Rattle.hp_model.specs.Lists.{edit_range}
 use Rattle.hp_model.specs.MakeMap.{cells_mapped, mapped, new_map, reserves}
-use Rattle.hp_model.specs.Mapping.{Map, copy_of, is_mapped, is_of, is_shared, map_punched, no_map, place_at, without_copy, without_range}
+use Rattle.hp_model.specs.Mapping.{Map, copy_of, is_of, is_shared, map_punched, no_map, place_at, without_copy, without_range}
 use Rattle.hp_model.specs.Page.{Copy, Page}
 use Rattle.hp_model.specs.Sound.{FileHasCopy, HasCopy, IsSoundMap, is_stamp, map_has, owns_stamp}
 use Rattle.hp_model.proofs.Editing.{get_or-edit_in, length-edit_range}
@@ -40,9 +40,8 @@ punched_keeps a b f =
 
 pub unmapped_keeps : (test : Map → Bool) (a b : ℕ) (f : File) → KeepsFile f (file_unmapped test a b f)
 unmapped_keeps test a b f =
-    let cut : Map → Map = λ m. if test m then without_range a b m else m in
     let less = λ (x : Map). cond_both (test x) (without_range a b x) x (IsLess x) (λ e. less_range a b x) (λ e. less_same x) in
-    keeps_less f (file_unmapped test a b f) (less_filtered is_mapped f.maps (map cut f.maps) (less_mapped cut less f.maps)) (omega arith)
+    keeps_less f (file_unmapped test a b f) (less_filtered (is_left test) f.maps (map (map_unmapped test a b) f.maps) (less_mapped (map_unmapped test a b) less f.maps)) (omega arith)
 
 pub without_keeps : (task : ℕ) (f : File) → KeepsFile f (file_without task f)
 without_keeps task f = keeps_less f (file_without task f) (less_filtered (λ m. not (is_of task m)) f.maps f.maps (less_all f.maps)) (omega arith)

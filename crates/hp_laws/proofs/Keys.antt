@@ -36,7 +36,7 @@ has_key t k = list_any t k.1
 abbrev pub keyed : {X K : Type 0} → (X → K) → ℕ × X → ℕ × K
 keyed key q = (q.0, key q.1)
 
-found_mapped : {X K : Type 0} (t : K → Bool) (key : X → K) (xs : List X) → found t (map key xs) ≡ option_map (keyed key) (found (λ x. t (key x)) xs)
+pub found_mapped : {X K : Type 0} (t : K → Bool) (key : X → K) (xs : List X) → found t (map key xs) ≡ option_map (keyed key) (found (λ x. t (key x)) xs)
 found_mapped t key [] = refl
 found_mapped {X = X} t key (x ∷ xs) = by_head (t (key x)) (found (λ x. t (key x)) xs) (found_mapped t key xs)
   where
@@ -46,7 +46,7 @@ found_mapped {X = X} t key (x ∷ xs) = by_head (t (key x)) (found (λ x. t (key
     by_head false None e = ap (option_map one_on) e
     by_head false (Some q) e = ap (option_map one_on) e
 
-found_same : {X : Type 0} (t u : X → Bool) → ((x : X) → t x ≡ u x) → (xs : List X) → found t xs ≡ found u xs
+pub found_same : {X : Type 0} (t u : X → Bool) → ((x : X) → t x ≡ u x) → (xs : List X) → found t xs ≡ found u xs
 found_same t u h [] = refl
 found_same t u h (x ∷ xs) = rw (h x, found_same t u h xs) refl
 

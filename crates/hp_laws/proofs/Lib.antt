@@ -48,6 +48,17 @@ pub mod FilesSound
 pub mod MountsSound
 pub mod CopiesSound
 pub mod Walk
+pub mod Whole
+pub mod Changes
+pub mod Meant
+pub mod Follows
+pub mod ByPlace
+pub mod Cuts
+pub mod Unmaps
+pub mod SlotKept
+pub mod Fades
+pub mod Swept
+pub mod Undone
 pub mod LeavesWalk
 pub mod PlanRules
 pub mod EventsSound

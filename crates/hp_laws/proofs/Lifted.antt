@@ -1,6 +1,5 @@
 -- From events of a slot to steps: what each event that is built keeps of its slot, each step keeps of all slots but those that it unmounts.
-use Rattle.std.proofs.Common.{◌≡◌, ⊎_elim, inl, inr, subst, ℕ, ◌<◌, Bool, true, false, None, Some, Ok, Err, List, [], length, nat_lt, refl, sym, ap, ◌∙◌}
-use Rattle.std.specs.Bool.{MatchBool}
+use Rattle.std.proofs.Common.{◌≡◌, inl, inr, subst, ℕ, ◌<◌, Bool, true, false, None, Some, Ok, List, [], length, refl, sym, ap}
 use Rattle.std.specs.List.{slice_index_or, slice_set}
 use Rattle.std.proofs.lemmas.Bool.{cases_eq, eq-eqb, ltb-true}
 use Rattle.std.proofs.lemmas.List.{get_or-set_other, get_or-set_same}
@@ -9,36 +8,21 @@ use Rattle.hp_model.specs.declared.event.Event.{Event}
 use Rattle.hp_model.specs.declared.event.Event.TheVariants.{Tasks, Slot as OnSlot, Pool as OnPool}
 use Rattle.hp_model.specs.declared.event.SlotEvent.{SlotEvent}
 use Rattle.hp_model.specs.declared.event.SlotEvent.TheVariants as slot
-use Rattle.hp_model.specs.declared.event.PoolEvent.TheVariants as pool
-use Rattle.hp_model.specs.declared.event.TableEvent.TheVariants as table
-use Rattle.hp_model.specs.declared.step.Reserving.TheVariants.{Reserve}
-use Rattle.hp_model.specs.declared.step.Sharing.TheVariants.{Shared}
 use Rattle.hp_model.specs.declared.step.Step.{Step}
-use Rattle.hp_model.specs.declared.step.Step.TheVariants.{Connect, Mount as MountStep, Umount, Create, Map as MapStep, Load, Store, Nr, Meminfo, Df}
 use Rattle.hp_model.specs.File.{Mount}
-use Rattle.hp_model.specs.Event.{after, IsEvent}
+use Rattle.hp_model.specs.Event.{IsEvent}
 use Rattle.hp_model.specs.Plan.{Choice, Outcome, Refused, Answered, Plan, Finish, Ask, Slot, Reply}
-use Rattle.hp_model.specs.declared.refusal.Refusal.TheVariants.{BadLine}
 use Rattle.hp_model.specs.Promises.{is_unmounted}
 use Rattle.hp_model.specs.SlotEvent.{slot_event}
 use Rattle.hp_model.specs.State.{State, slot_at}
-use Rattle.hp_model.specs.Step.{IsBuiltStep, IsScript, IsStep, finding, on_slot, only}
+use Rattle.hp_model.specs.Step.{IsStep}
 use Rattle.hp_laws.specs.Balance.{left_by}
-use Rattle.hp_laws.proofs.Outcomes.{Always, event_ends, finding_goes, only_goes, reply_of, slot_goes}
+use Rattle.hp_laws.proofs.Fades.{Fades, exit_fade, fork_fade}
+use Rattle.hp_laws.proofs.Outcomes.{Always, event_ends, reply_of}
 use Rattle.hp_laws.proofs.Shown.{On}
 use Rattle.hp_laws.proofs.SlotShows.{always_mount}
+use Rattle.hp_laws.proofs.Whole.{by_event, is_whole, slot_step, step_of}
 pub use Rattle.hp_laws.proofs.Walk.{is_umount}
-
--- the events of the steps that are built
-abbrev pub is_built : SlotEvent → Bool
-is_built (slot.Mount options) = true
-is_built slot.Umount = true
-is_built (slot.Create name) = true
-is_built slot.Df = true
-is_built (slot.Map task home name a n sharing reserving) = true
-is_built (slot.Load task home number i offset count) = true
-is_built (slot.Store task home number i offset bytes) = true
-is_built other = false
 
 -- ---- outcomes
 
@@ -73,6 +57,12 @@ ends_open size k c other R h = tt
 
 -- ---- steps
 
+-- an umount ends the mount of its slot, and nothing else does
+ends_here : (k : ℕ) (e : SlotEvent) (a : Answer) (reply : Reply) → reply ≡ Ok a → is_unmounted (slot_step k e) reply k ≡ false → is_umount e ≡ false
+ends_here k slot.Umount a reply replied there =
+    let kept = subst (λ r. is_unmounted (slot_step k slot.Umount) r k ≡ false) replied there in let here = eq-eqb k k refl in cc
+ends_here k other a reply replied there = refl
+
 -- R holds of every slot before and after, but of those that pass
 abbrev pub KeepsBut : (Slot → Slot → Type 0) → (ℕ → Bool) → State → State → Type 0
 KeepsBut R gone s t = (k : ℕ) → gone k ≡ false → R (slot_at s k) (slot_at t k)
@@ -93,52 +83,27 @@ module _ (R : Slot → Slot → Type 0) (same : (old : Slot) → R old old) wher
         | inr other ↦ subst (λ x. R (slot_at s j) x) (sym (get_or-set_other s.slots k j n None other)) (same (slot_at s j))
       ])
 
-  module _ (h : (size k : ℕ) (c : Choice) (old : Slot) (e : SlotEvent) → is_built e ≡ true → Always (EndsBy R (is_umount e) old) (slot_event size k c old e)) (s : State) (reply : Reply) (t : State) where
-    only_keeps : (e : Event) (gone : ℕ → Bool) → ((c : Choice) → (after c s e).1.slots ≡ s.slots) → IsScript s (only e) reply t → KeepsBut R gone s t
-    only_keeps e gone stay is =
-        let it = only_goes s e reply t is in
-        slots_stay s t gone (sym (ap (λ (q : Reply × State). q.1.slots) it.2) ∙ stay it.0)
-
-    event_keeps : (k : ℕ) (e : SlotEvent) (gone : ℕ → Bool) → is_built e ≡ true → ((a : Answer) → reply ≡ Ok a → gone k ≡ false → is_umount e ≡ false)
+  module _ (h : (size k : ℕ) (c : Choice) (old : Slot) (e : SlotEvent) → Always (EndsBy R (is_umount e) old) (slot_event size k c old e)) (s : State) (reply : Reply) (t : State) where
+    event_keeps : (k : ℕ) (e : SlotEvent) (gone : ℕ → Bool) → ((a : Answer) → reply ≡ Ok a → gone k ≡ false → is_umount e ≡ false)
         → IsEvent s (OnSlot k e) reply t → KeepsBut R gone s t
-    event_keeps k e gone built early it =
+    event_keeps k e gone early it =
         let old = slot_at s k in
-        let ends = event_ends (EndsBy R (is_umount e) old) s k e reply t (λ c. h s.page_size k c old e built) it in
+        let ends = event_ends (EndsBy R (is_umount e) old) s k e reply t (λ c. h s.page_size k c old e) it in
         by_outcome ends.outcome ends.holds ends.replied ends.slots
       where
         by_outcome : (o : Outcome) → EndsBy R (is_umount e) (slot_at s k) o → reply ≡ reply_of o → t.slots ≡ slice_set s.slots k (left_by (slot_at s k) o) → KeepsBut R gone s t
         by_outcome (Refused r) h replied slots = set_keeps s t k (slot_at s k) gone (ltb-true k (length s.slots) it.1.0) slots (λ e. same (slot_at s k))
         by_outcome (Answered a new) h replied slots = set_keeps s t k new gone (ltb-true k (length s.slots) it.1.0) slots (λ there. h (early a replied there))
 
-    slot_step_keeps : (k : ℕ) (e : SlotEvent) (gone : ℕ → Bool) → is_built e ≡ true → ((a : Answer) → reply ≡ Ok a → gone k ≡ false → is_umount e ≡ false)
-        → IsScript s (on_slot (length s.slots) k e) reply t → KeepsBut R gone s t
-    slot_step_keeps k e gone built early is =
-        ⊎_elim (λ left. slots_stay s t gone (ap (λ x. x.slots) left.same)) (event_keeps k e gone built early) (slot_goes s (length s.slots) k e reply t is)
+    pub event_by : (e : Event) → is_whole e ≡ true → IsEvent s e reply t → KeepsBut R (is_unmounted (step_of e) reply) s t
+    event_by (Tasks e) whole is = slots_stay s t _ (sym (ap (λ (q : Reply × State). q.1.slots) is.2))
+    event_by (OnSlot k e) whole is = event_keeps k e (is_unmounted (slot_step k e) reply) (λ a replied. ends_here k e a reply replied) is
+    event_by (OnPool e) whole is = slots_stay s t _ (sym (ap (λ (q : Reply × State). q.1.slots) is.2))
 
-    task_step_keeps : (k task : ℕ) (e : ℕ → SlotEvent) (gone : ℕ → Bool) → ((home : ℕ) → is_built (e home) ≡ true) → ((home : ℕ) → is_umount (e home) ≡ false)
-        → IsScript s (finding task (λ home. on_slot (length s.slots) k (e home))) reply t → KeepsBut R gone s t
-    task_step_keeps k task e gone built early is =
-        ⊎_elim (λ left. slots_stay s t gone (ap (λ x. x.slots) left.same))
-        (λ found. slot_step_keeps k (e found.0) gone (built found.0) (λ a replied there. early found.0) found.1)
-        (finding_goes s task (λ home. on_slot (length s.slots) k (e home)) reply t is)
-
-    pub step_by : (step : Step) → IsStep s step reply t → KeepsBut R (is_unmounted step reply) s t
-    unfolding IsStep
-    step_by (Connect task home) is = only_keeps (Tasks (table.Add task home)) _ (λ c. refl) is
-    step_by (MountStep k options) is = slot_step_keeps k (slot.Mount options) _ refl (λ a replied there. refl) is
-    step_by (Umount k) is =
-        slot_step_keeps k slot.Umount (is_unmounted (Umount k) reply) refl
-        (λ a replied there. (let there = subst (λ r. is_unmounted (Umount k) r k ≡ false) replied there in let here = eq-eqb k k refl in cc)) is
-    step_by (Create k name) is = slot_step_keeps k (slot.Create name) _ refl (λ a replied there. refl) is
-    step_by (Df k) is = slot_step_keeps k slot.Df _ refl (λ a replied there. refl) is
-    step_by (MapStep task k name a n Shared Reserve) is =
-        task_step_keeps k task (λ home. slot.Map task home name a n Shared Reserve) _ (λ home. refl) (λ home. refl) is
-    step_by (Load task k number i offset count) is = task_step_keeps k task (λ home. slot.Load task home number i offset count) _ (λ home. refl) (λ home. refl) is
-    step_by (Store task k number i offset bytes) is = task_step_keeps k task (λ home. slot.Store task home number i offset bytes) _ (λ home. refl) (λ home. refl) is
-    step_by (Nr n) is = by_test (nat_lt n s.nr) is
-      where
-        by_test : (b : Bool) → MatchBool b ((reply ≡ Err BadLine) × (t ≡ s)) (IsBuiltStep s (Nr n) reply t) → KeepsBut R (is_unmounted (Nr n) reply) s t
-        by_test true is = slots_stay s t _ (ap (λ x. x.slots) is.1)
-        by_test false is = only_keeps (OnPool (pool.Nr n)) _ (λ c. refl) is
-    step_by Meminfo is = only_keeps (OnPool pool.Meminfo) _ (λ c. refl) is
-    step_by other is = slots_stay s t _ (ap (λ x. x.slots) is.1)
+  pub step_by : ((size k : ℕ) (c : Choice) (old : Slot) (e : SlotEvent) → Always (EndsBy R (is_umount e) old) (slot_event size k c old e))
+      → ((size gone : ℕ) (x y : Slot) → Fades size gone x y → R x y)
+      → (s : State) (reply : Reply) (t : State) (step : Step) → IsStep s step reply t → KeepsBut R (is_unmounted step reply) s t
+  step_by h fades s reply t step is =
+      by_event s (λ step reply t. KeepsBut R (is_unmounted step reply) s t) (λ step r early k there. same (slot_at s k)) (λ e reply t whole it. event_by h s reply t e whole it)
+      (λ parent child reply t it k there. fades s.page_size child (slot_at s k) (slot_at t k) ((fork_fade s parent child reply t it).slots k))
+      (λ task reply t it k there. fades s.page_size task (slot_at s k) (slot_at t k) ((exit_fade s task reply t it).slots k)) reply t step is

@@ -61,4 +61,4 @@ same_limits None = tt
 same_limits (Some m) = refl
 
 pub step_keeps : (s : State) (reply : Reply) (t : State) (step : Step) → IsStep s step reply t → KeepsBut SameLimits (is_unmounted step reply) s t
-step_keeps s reply t step is = step_by SameLimits same_limits (λ size k c old e built. slot_keeps size k c old e) s reply t step is
+step_keeps s reply t step is = step_by SameLimits same_limits slot_keeps (λ size gone x y fades. fades.limits) s reply t step is

@@ -1,5 +1,5 @@
 -- A created file and a new map are what their reply says.
-use Rattle.std.proofs.Common.{◌≡◌, ⊎_elim, subst, ℕ, ◌<◌, ◌||◌, Bool, true, false, not, None, Option, Some, Err, List, [], ◌∷◌, ◌++◌, length, drop, is_some, option_map, refl, sym, ap, ◌∙◌, get_or, if◌then◌else◌}
+use Rattle.std.proofs.Common.{◌≡◌, subst, ℕ, ◌<◌, ◌||◌, Bool, true, false, not, None, Option, Some, Err, List, [], ◌∷◌, ◌++◌, length, drop, is_some, option_map, refl, sym, ap, ◌∙◌, get_or, if◌then◌else◌}
 use Rattle.std.specs.List.{flat_map, list_any, slice_index_or, slice_set}
 use Rattle.std.proofs.lemmas.Bool.{eq-eqb, false_from_ne_true, ltb-true}
 use Rattle.std.proofs.lemmas.List.{get_or-set_same}
@@ -7,14 +7,15 @@ use Rattle.std.proofs.lemmas.Slice.Eq.{bytes_eq-Decides}
 use Rattle.std.proofs.lemmas.List.Folds.{list_any_at}
 use Rattle.hp_model.specs.declared.answer.Answer.TheVariants.{Done, MapNo}
 use Rattle.hp_model.specs.declared.refusal.Refusal.{Refusal}
-use Rattle.hp_model.specs.declared.refusal.Refusal.TheVariants.{BadLine, BadName, FileExists, NoSuchFile, NoSuchSlot, NoSuchTask}
+use Rattle.hp_model.specs.declared.refusal.Refusal.TheVariants.{BadName, FileExists, NoSuchFile}
 use Rattle.hp_model.specs.declared.step.Reserving.{Reserving}
-use Rattle.hp_model.specs.declared.step.Reserving.TheVariants.{Reserve}
 use Rattle.hp_model.specs.declared.step.Sharing.{Sharing}
-use Rattle.hp_model.specs.declared.step.Sharing.TheVariants.{Shared}
 use Rattle.hp_model.specs.declared.step.Step.{Step}
 use Rattle.hp_model.specs.declared.step.Step.TheVariants.{Create as CreateStep, Map as MapStep}
-use Rattle.hp_model.specs.declared.event.Event.TheVariants.{Slot as OnSlot}
+use Rattle.hp_model.specs.declared.event.Event.{Event}
+use Rattle.hp_model.specs.declared.event.Event.TheVariants.{Tasks, Slot as OnSlot, Pool as OnPool}
+use Rattle.hp_model.specs.declared.event.PoolEvent.TheVariants as pool
+use Rattle.hp_model.specs.declared.event.TableEvent.TheVariants as table
 use Rattle.hp_model.specs.File.{File, Mount, maps_of, new_file, with_file}
 use Rattle.hp_model.specs.Lists.{found, one_on}
 use Rattle.hp_model.specs.MakeMap.{asked, mapped, new_map, next_number, numbers_of, with_new}
@@ -22,7 +23,7 @@ use Rattle.hp_model.specs.Mapping.{Map, is_map}
 use Rattle.hp_model.specs.Plan.{Choice, Outcome, Refused, Answered, Finish, Plan, Reply, Slot, grant, unless}
 use Rattle.hp_model.specs.Promises.{IsNewFile, IsNewMap, Makes}
 use Rattle.hp_model.specs.State.{State, slot_at}
-use Rattle.hp_model.specs.Step.{IsBuiltStep, IsStep, on_slot}
+use Rattle.hp_model.specs.Step.{IsStep}
 use Rattle.hp_model.specs.Event.{IsEvent}
 use Rattle.hp_laws.specs.Balance.{left_by}
 use Rattle.hp_model.specs.SlotEvent.{create_tests, file_named, has_name, is_name, map_file, map_tests, slot_event}
@@ -30,9 +31,10 @@ use Rattle.hp_model.specs.declared.event.SlotEvent.TheVariants as slot
 use Rattle.hp_model.specs.Spot.{Spot, spot, spot_in}
 use Rattle.hp_model.proofs.Distinct.{or_assoc}
 use Rattle.hp_laws.proofs.Naming.{found_again, found_last, found_not, found_put, least_is_unused, number_used}
-use Rattle.hp_laws.proofs.Outcomes.{Always, always_test, event_ends, finding_goes, reply_of, slot_goes}
+use Rattle.hp_laws.proofs.Outcomes.{Always, always_test, event_ends, reply_of}
 use Rattle.hp_laws.proofs.Places.{found_place}
 use Rattle.hp_laws.proofs.SlotShows.{always_grant, always_unless, always_value}
+use Rattle.hp_laws.proofs.Whole.{by_event, is_whole, step_of}
 
 -- ---- a map's number is not used before
 
@@ -40,7 +42,7 @@ pub any_append : {X : Type 0} (t : X → Bool) (xs ys : List X) → list_any t (
 any_append t [] ys = refl
 any_append t (x ∷ xs) ys = ap (λ b. t x || b) (any_append t xs ys) ∙ or_assoc (t x) (list_any t xs) (list_any t ys)
 
-any_in_files : (t : Map → Bool) (fs : List File) → list_any t (flat_map (λ f. f.maps) fs) ≡ list_any (λ (f : File). list_any t f.maps) fs
+pub any_in_files : (t : Map → Bool) (fs : List File) → list_any t (flat_map (λ f. f.maps) fs) ≡ list_any (λ (f : File). list_any t f.maps) fs
 any_in_files t [] = refl
 any_in_files t (f ∷ fs) = any_append t f.maps (flat_map (λ f. f.maps) fs) ∙ ap (λ b. list_any t f.maps || b) (any_in_files t fs)
 
@@ -154,54 +156,44 @@ create_made size k c (Some m) name =
 
 -- ---- steps
 
-module _ (s : State) (reply : Reply) (t : State) where
+module _ (s : State) where
   -- a refusal makes nothing
-  makes_none : (step : Step) (r : Refusal) → reply ≡ Err r → Makes s step reply t
-  makes_none step r same = subst (λ x. Makes s step x t) (sym same) (by_step step)
-    where
-      by_step : (step : Step) → Makes s step (Err r) t
-      by_step (CreateStep k name) = tt
-      by_step (MapStep task k name a n sharing reserving) = tt
-      by_step other = tt
+  makes_none : (t : State) (step : Step) (r : Refusal) → Makes s step (Err r) t
+  makes_none t (CreateStep k name) r = tt
+  makes_none t (MapStep task k name a n sharing reserving) r = tt
+  makes_none t other r = tt
 
-  -- what the event leaves in its slot
-  left_there : (k : ℕ) (n : Slot) → k < length s.slots → t.slots ≡ slice_set s.slots k n → slot_at t k ≡ n
-  left_there k n l slots = ap (λ (xs : List Slot). slice_index_or xs k None) slots ∙ get_or-set_same s.slots k n None l
+  module _ (t : State) (k : ℕ) (l : k < length s.slots) where
+    -- what the event leaves in its slot
+    left_there : (n : Slot) → t.slots ≡ slice_set s.slots k n → slot_at t k ≡ n
+    left_there n slots = ap (λ (xs : List Slot). slice_index_or xs k None) slots ∙ get_or-set_same s.slots k n None l
 
-  create_makes : (k : ℕ) (name : List ℕ) → IsBuiltStep s (CreateStep k name) reply t → Makes s (CreateStep k name) reply t
-  create_makes k name is = ⊎_elim (λ left. makes_none (CreateStep k name) NoSuchSlot left.replied) by_event (slot_goes s (length s.slots) k (slot.Create name) reply t is)
-    where
-      by_outcome : k < length s.slots → (o : Outcome) → FileMade (slot_at s k) name o → t.slots ≡ slice_set s.slots k (left_by (slot_at s k) o) → Makes s (CreateStep k name) (reply_of o) t
-      by_outcome l (Refused r) h slots = tt
-      by_outcome l (Answered a new) h slots = subst (λ n. IsNewFile (slot_at s k) n name) (sym (left_there k new l slots)) h
+    file_makes : (name : List ℕ) (o : Outcome) → FileMade (slot_at s k) name o → t.slots ≡ slice_set s.slots k (left_by (slot_at s k) o) → Makes s (CreateStep k name) (reply_of o) t
+    file_makes name (Refused r) h slots = tt
+    file_makes name (Answered a new) h slots = subst (λ n. IsNewFile (slot_at s k) n name) (sym (left_there new slots)) h
 
-      by_event : IsEvent s (OnSlot k (slot.Create name)) reply t → Makes s (CreateStep k name) reply t
-      by_event it =
-          let ends = event_ends (FileMade (slot_at s k) name) s k (slot.Create name) reply t (λ c. create_made s.page_size k c (slot_at s k) name) it in
-          subst (λ x. Makes s (CreateStep k name) x t) (sym ends.replied) (by_outcome (ltb-true k (length s.slots) it.1.0) ends.outcome ends.holds ends.slots)
+    map_makes : (task : ℕ) (name : List ℕ) (a n : ℕ) (sharing : Sharing) (reserving : Reserving) (o : Outcome) → MapMade (slot_at s k) name task a n sharing reserving o
+        → t.slots ≡ slice_set s.slots k (left_by (slot_at s k) o) → Makes s (MapStep task k name a n sharing reserving) (reply_of o) t
+    map_makes task name a n sharing reserving (Refused r) h slots = tt
+    map_makes task name a n sharing reserving (Answered (MapNo number) new) h slots = subst (λ x. IsNewMap (slot_at s k) x name (new_map task number a n sharing reserving)) (sym (left_there new slots)) h
+    map_makes task name a n sharing reserving (Answered other new) h slots = absurd h
 
-  map_makes : (task k : ℕ) (name : List ℕ) (a n : ℕ) → IsBuiltStep s (MapStep task k name a n Shared Reserve) reply t → Makes s (MapStep task k name a n Shared Reserve) reply t
-  map_makes task k name a n is =
-      ⊎_elim (λ left. makes_none step NoSuchTask left.replied)
-      (λ found. ⊎_elim (λ left. makes_none step NoSuchSlot left.replied) (by_event found.0) (slot_goes s (length s.slots) k (slot.Map task found.0 name a n Shared Reserve) reply t found.1))
-      (finding_goes s task (λ home. on_slot (length s.slots) k (slot.Map task home name a n Shared Reserve)) reply t is)
-    where
-      step : Step
-      step = MapStep task k name a n Shared Reserve
+  event_makes : (e : Event) (reply : Reply) (t : State) → is_whole e ≡ true → IsEvent s e reply t → Makes s (step_of e) reply t
+  event_makes (OnSlot k (slot.Create name)) reply t whole is =
+      let ends = event_ends (FileMade (slot_at s k) name) s k (slot.Create name) reply t (λ c. create_made s.page_size k c (slot_at s k) name) is in
+      subst (λ x. Makes s (CreateStep k name) x t) (sym ends.replied) (file_makes t k (ltb-true k (length s.slots) is.1.0) name ends.outcome ends.holds ends.slots)
+  event_makes (OnSlot k (slot.Map task home name a n sharing reserving)) reply t whole is =
+      let e = slot.Map task home name a n sharing reserving in
+      let ends = event_ends (MapMade (slot_at s k) name task a n sharing reserving) s k e reply t (λ c. map_made s.page_size k c (slot_at s k) task home name a n sharing reserving) is in
+      subst (λ x. Makes s (MapStep task k name a n sharing reserving) x t) (sym ends.replied)
+      (map_makes t k (ltb-true k (length s.slots) is.1.0) task name a n sharing reserving ends.outcome ends.holds ends.slots)
+  event_makes (OnSlot k (slot.ForkMaps parent child)) reply t whole is = cc
+  event_makes (OnSlot k (slot.ExitMaps task)) reply t whole is = cc
+  event_makes (OnSlot k other) reply t whole is = tt
+  event_makes (Tasks (table.Add task home)) reply t whole is = tt
+  event_makes (Tasks other) reply t whole is = tt
+  event_makes (OnPool pool.Meminfo) reply t whole is = tt
+  event_makes (OnPool other) reply t whole is = tt
 
-      by_outcome : k < length s.slots → (o : Outcome) → MapMade (slot_at s k) name task a n Shared Reserve o → t.slots ≡ slice_set s.slots k (left_by (slot_at s k) o) → Makes s (MapStep task k name a n Shared Reserve) (reply_of o) t
-      by_outcome l (Refused r) h slots = tt
-      by_outcome l (Answered (MapNo number) new) h slots = subst (λ x. IsNewMap (slot_at s k) x name (new_map task number a n Shared Reserve)) (sym (left_there k new l slots)) h
-      by_outcome l (Answered other new) h slots = absurd h
-
-      by_event : (home : ℕ) → IsEvent s (OnSlot k (slot.Map task home name a n Shared Reserve)) reply t → Makes s (MapStep task k name a n Shared Reserve) reply t
-      by_event home it =
-          let ends = event_ends (MapMade (slot_at s k) name task a n Shared Reserve) s k (slot.Map task home name a n Shared Reserve) reply t (λ c. map_made s.page_size k c (slot_at s k) task home name a n Shared Reserve) it in
-          subst (λ x. Makes s (MapStep task k name a n Shared Reserve) x t) (sym ends.replied) (by_outcome (ltb-true k (length s.slots) it.1.0) ends.outcome ends.holds ends.slots)
-
-  pub step_makes : (step : Step) → IsStep s step reply t → Makes s step reply t
-  unfolding IsStep
-  step_makes (CreateStep k name) is = create_makes k name is
-  step_makes (MapStep task k name a n Shared Reserve) is = map_makes task k name a n is
-  step_makes (MapStep task k name a n sharing reserving) is = makes_none (MapStep task k name a n sharing reserving) BadLine is.0
-  step_makes other is = tt
+  pub step_makes : (reply : Reply) (t : State) (step : Step) → IsStep s step reply t → Makes s step reply t
+  step_makes reply t step is = by_event s (λ step reply t. Makes s step reply t) (λ step r early. makes_none s step r) event_makes (λ parent child reply t is. tt) (λ task reply t is. tt) reply t step is

@@ -1,38 +1,33 @@
--- What names and numbers mean stands where it stood, after each event that is built but an umount.
-use Rattle.std.proofs.Common.{◌≡◌, subst, ℕ, ◌-◌, ◌<◌, ◌==◌, Bool, true, false, None, Some, List, [], ◌∷◌, ◌++◌, length, map, option_map, suc, zero, get_or, arith, refl, sym, ap, ◌∙◌}
+-- What names and numbers mean stands where it stood, after a file or a map more and after each access.
+use Rattle.std.proofs.Common.{◌≡◌, subst, ℕ, ◌-◌, ◌<◌, ◌==◌, true, None, Some, List, [], ◌∷◌, ◌++◌, length, map, option_map, suc, zero, get_or, arith, refl, sym, ap, ◌∙◌}
 use Rattle.std.specs.List.{slice_set}
 use Rattle.std.proofs.lemmas.Bool.{and_parts, cond_both, eqb-true}
-use Rattle.hp_model.specs.declared.answer.Answer.TheVariants.{Done, MapNo}
-use Rattle.hp_model.specs.declared.event.SlotEvent.{SlotEvent}
-use Rattle.hp_model.specs.declared.event.SlotEvent.TheVariants as slot
+use Rattle.hp_model.specs.declared.answer.Answer.TheVariants.{Done}
+use Rattle.hp_model.specs.declared.step.Intent.{Intent}
 use Rattle.hp_model.specs.declared.step.Intent.TheVariants.{Read, Write}
+use Rattle.hp_model.specs.Access.{access}
 use Rattle.hp_model.specs.declared.step.Reserving.{Reserving}
 use Rattle.hp_model.specs.declared.step.Sharing.{Sharing}
-use Rattle.hp_model.specs.declared.step.Step.{Step}
-use Rattle.hp_model.specs.File.{File, Mount, new_file, with_file}
-use Rattle.hp_model.specs.MakeMap.{asked, mapped, new_map, next_number, with_new}
+use Rattle.hp_model.specs.File.{File, Mount, with_file}
+use Rattle.hp_model.specs.MakeMap.{mapped, new_map, next_number, with_new}
 use Rattle.hp_model.specs.Lists.{edit_at}
-use Rattle.hp_model.specs.Plan.{Choice, Outcome, Answered, Plan, Finish, Slot, and_then, grant, Reply, unless, with_value}
-use Rattle.hp_model.specs.declared.refusal.Refusal.{Refusal}
-use Rattle.hp_model.specs.declared.refusal.Refusal.TheVariants.{NoSuchFile, NoSuchMap}
-use Rattle.hp_model.specs.Promises.{is_unmounted, shape_of}
-use Rattle.hp_model.specs.SlotEvent.{has_name, byte_access, bytes_answer, create_tests, file_named, load, map_file, map_tests, store, on_mount, slot_event}
+use Rattle.hp_model.specs.Plan.{Choice, Outcome, Answered, Plan, and_then, with_value}
+use Rattle.hp_model.specs.declared.refusal.Refusal.TheVariants.{NoSuchMap}
+use Rattle.hp_model.specs.Promises.{shape_of}
+use Rattle.hp_model.specs.SlotEvent.{has_name, byte_access, bytes_answer, fault, fault_tests, file_named, load, store}
 use Rattle.hp_model.specs.Mapping.{is_map, is_shared}
 use Rattle.hp_model.specs.Spot.{Spot, again, cell_written, file_written, map_written, place_written, spot, written}
 use Rattle.hp_model.specs.Value.{value}
-use Rattle.hp_model.specs.State.{State}
-use Rattle.hp_model.specs.Step.{IsStep}
 use Rattle.hp_model.proofs.Editing.{length-edit_at}
-use Rattle.hp_laws.proofs.Accessed.{bytes_on, file_put, key_edit, pages_same}
+use Rattle.hp_laws.proofs.Accessed.{access_on, bytes_on, file_put, key_edit, pages_same}
 use Rattle.hp_laws.proofs.Keys.{file_key, is_key, key_places, keys, number_places, places}
 use Rattle.hp_laws.proofs.Made.{number_is_new}
 use Rattle.hp_laws.proofs.Placed.{KeysLead, Placed, lead_added, lead_more, lead_same, placed}
 use Rattle.hp_laws.proofs.Places.{found_place}
-use Rattle.hp_laws.proofs.Lifted.{EndsBy, KeepsBut, ends_on, ends_open, ends_unless, is_built, is_umount, step_by}
 use Rattle.hp_laws.proofs.MountMoves.{IsSpot, spot_is}
 use Rattle.hp_laws.proofs.Outcomes.{Always, always_then, always_weaker}
 use Rattle.hp_laws.proofs.Shown.{On, on_follows, on_weaker}
-use Rattle.hp_laws.proofs.SlotShows.{always_grant, always_unless, always_value}
+use Rattle.hp_laws.proofs.SlotShows.{always_unless, always_value}
 
 -- ---- keys of longer lists
 
@@ -53,10 +48,10 @@ key_at key (x ∷ xs) (suc k) d e l = key_at key xs k d e (omega (arith, l))
 -- ---- an open mount
 
 module _ (m : Mount) where
-  placed_same : (n : Mount) → keys n ≡ keys m → Placed m n
+  pub placed_same : (n : Mount) → keys n ≡ keys m → Placed m n
   placed_same n same = placed m n (lead_same (keys m) (keys n) same)
 
-  placed_new : (f : File) → Placed m (with_new m f)
+  pub placed_new : (f : File) → Placed m (with_new m f)
   placed_new f = placed m (with_new m f) (subst (λ ks. KeysLead (keys m) ks) (sym (keys_more file_key m.files f)) (lead_more (keys m) (file_key f ∷ [])))
 
   -- the number of a new map is no map's yet
@@ -67,7 +62,7 @@ module _ (m : Mount) where
       (subst (λ (x : ℕ). key_places (is_key task x) (keys m) ≡ None) (eqb-true (next_number task m) u parts.1)
       (sym (number_places m task (next_number task m)) ∙ ap (option_map places) (number_is_new m task)))
 
-  placed_map : (task a n : ℕ) (sharing : Sharing) (reserving : Reserving) (name : List ℕ) (f : ℕ × File) → file_named m name ≡ Some f
+  pub placed_map : (task a n : ℕ) (sharing : Sharing) (reserving : Reserving) (name : List ℕ) (f : ℕ × File) → file_named m name ≡ Some f
       → Placed m (with_file m f.0 (mapped task (next_number task m) a n sharing reserving f.1))
   placed_map task a n sharing reserving name f is =
       let number = next_number task m in
@@ -99,58 +94,22 @@ module _ (c : Choice) (m : Mount) where
   in_place s at f same = file_put m s.file_no s.file f at.file.is same
 
   -- an access leaves the keys, and so do a load and a store
-  load_on : (size task number home i offset count : ℕ) → Always (On Stays) (with_value (spot m (is_map task number)) NoSuchMap (load c size m home i offset count))
+  pub load_on : (size task number home i offset count : ℕ) → Always (On Stays) (with_value (spot m (is_map task number)) NoSuchMap (load c size m home i offset count))
   load_on size task number home i offset count =
       found_on task number (load c size m home i offset count)
       (λ s at. then_on (λ n. Answered (bytes_answer offset count (value size (again n s).file (again n s).map i)) (Some n)) (byte_access c size m home i offset count Read s)
       (λ n h. h) (bytes_on c m Stays refl s at (in_place s at) size home i offset count Read))
 
-  store_on : (size task number home i offset : ℕ) (bytes : List ℕ) → Always (On Stays) (with_value (spot m (is_map task number)) NoSuchMap (store c size m home i offset bytes))
+  pub store_on : (size task number home i offset : ℕ) (bytes : List ℕ) → Always (On Stays) (with_value (spot m (is_map task number)) NoSuchMap (store c size m home i offset bytes))
   store_on size task number home i offset bytes =
       found_on task number (store c size m home i offset bytes)
       (λ s at. then_on (λ n. Answered Done (Some (written n s i offset bytes))) (byte_access c size m home i offset (length bytes) Write s)
       (λ n h. key_edit file_key (file_written s i offset bytes) (written_key s i offset bytes) n.files s.file_no ∙ h) (bytes_on c m Stays refl s at (in_place s at) size home i offset (length bytes) Write))
 
-  tested : (ts : List (Bool × Refusal)) (p : Plan) → Always (On (Placed m)) p → Always (On (Placed m)) (unless ts p)
-  tested ts p h = always_unless (On (Placed m)) (λ r. tt) ts p h
+  pub fault_on : (size task number home i : ℕ) (intent : Intent) → Always (On Stays) (with_value (spot m (is_map task number)) NoSuchMap (fault c size m home i intent))
+  fault_on size task number home i intent =
+      found_on task number (fault c size m home i intent)
+      (λ s at. always_unless (On Stays) (λ r. tt) (fault_tests i s) (access c size m s home i intent) (access_on c m Stays refl s at (in_place s at) size home i intent))
 
-  placed_on : (p : Plan) → Always (On Stays) p → Always (On (Placed m)) p
+  pub placed_on : (p : Plan) → Always (On Stays) p → Always (On (Placed m)) p
   placed_on p all = always_weaker (On Stays) (On (Placed m)) (on_weaker Stays (Placed m) (λ n h. placed_same m n h)) p all
-
-  event_on : (size k : ℕ) (e : SlotEvent) → is_built e ≡ true → is_umount e ≡ false → Always (On (Placed m)) (on_mount size k c m e)
-  event_on size k (slot.Mount options) built stays = tt
-  event_on size k slot.Umount built stays = cc
-  event_on size k (slot.Create name) built stays =
-      tested (create_tests c m name) (Finish (Answered Done (Some (with_new m (new_file (Some name)))))) (placed_new m (new_file (Some name)))
-  event_on size k slot.Df built stays = placed_same m m refl
-  event_on size k (slot.Map task home name a n sharing reserving) built stays =
-      let number = next_number task m in
-      always_value (On (Placed m)) (λ r. tt) (file_named m name) NoSuchFile (map_file c m task home a n sharing reserving)
-      (λ f is. (let new = with_file m f.0 (mapped task number a n sharing reserving f.1) in
-      tested (map_tests m task a n) (grant c m home (asked sharing reserving a n f.1) (Answered (MapNo number) (Some new)))
-      (always_grant (On (Placed m)) (λ r. tt) c m home (asked sharing reserving a n f.1) (Answered (MapNo number) (Some new)) (placed_map m task a n sharing reserving name f is))))
-  event_on size k (slot.Load task home number i offset count) built stays =
-      placed_on (with_value (spot m (is_map task number)) NoSuchMap (load c size m home i offset count)) (load_on size task number home i offset count)
-  event_on size k (slot.Store task home number i offset bytes) built stays =
-      placed_on (with_value (spot m (is_map task number)) NoSuchMap (store c size m home i offset bytes)) (store_on size task number home i offset bytes)
-  event_on size k other built stays = cc
-
--- ---- a slot, and steps
-
-abbrev pub SlotPlaced : (old new : Slot) → Type 0
-SlotPlaced None new = Unit {0}
-SlotPlaced (Some m) None = ⊥
-SlotPlaced (Some m) (Some n) = Placed m n
-
-slot_placed : (size k : ℕ) (c : Choice) (old : Slot) (e : SlotEvent) → is_built e ≡ true → Always (EndsBy SlotPlaced (is_umount e) old) (slot_event size k c old e)
-slot_placed size k c None e built = ends_open size k c e SlotPlaced (λ new. tt)
-slot_placed size k c (Some m) e built =
-    ends_unless SlotPlaced (Some m) (is_umount e) (on_mount size k c m e)
-    (λ is. always_weaker (On (Placed m)) (EndsBy SlotPlaced false (Some m)) (ends_on SlotPlaced m (Placed m) (λ n h. h)) (on_mount size k c m e) (event_on c m size k e built is))
-
-same_placed : (old : Slot) → SlotPlaced old old
-same_placed None = tt
-same_placed (Some m) = placed_same m m refl
-
-pub step_placed : (s : State) (reply : Reply) (t : State) (step : Step) → IsStep s step reply t → KeepsBut SlotPlaced (is_unmounted step reply) s t
-step_placed s reply t step is = step_by SlotPlaced same_placed slot_placed s reply t step is

@@ -1,5 +1,6 @@
 -- What a step leads to: one event on a slot, one on the pool alone, or one on the task table; and what follows for the slots.
 use Rattle.std.proofs.Common.{◌≡◌, inl, inr, ◌⊎◌, subst, ℕ, Bool, true, false, Option, None, Some, Ok, Err, refl, sym, ap, ◌∙◌, if◌then◌else◌, nat_lt}
+use Rattle.std.specs.Bool.{MatchBool}
 use Rattle.std.specs.List.{slice_set}
 use Rattle.std.proofs.lemmas.Bool.{cond_both}
 use Rattle.hp_model.specs.declared.answer.Answer.TheVariants.{Home as HomeAnswer}
@@ -74,6 +75,11 @@ event_ends P s k e reply t h is =
     subst (λ (x : Reply × State). Ends P s k x.0 x.1) is.2 (plan_ends P s k p (h is.0))
 
 -- ---- scripts
+
+-- by a choice of the script
+pub either_way : {P Q R : Type 0} (b : Bool) → (P → R) → (Q → R) → MatchBool b P Q → R
+either_way true f g is = f is
+either_way false f g is = g is
 
 -- nothing but a refusal
 pub record IsLeft (s : State) (r : Refusal) (reply : Reply) (t : State) : Type 0 where

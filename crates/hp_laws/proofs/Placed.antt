@@ -25,7 +25,7 @@ lead_same ks ls same =
 
 -- ---- more at the end
 
-found_more : {X : Type 0} (t : X → Bool) (xs ys : List X) (q : ℕ × X) → found t xs ≡ Some q → found t (xs ++ ys) ≡ Some q
+pub found_more : {X : Type 0} (t : X → Bool) (xs ys : List X) (q : ℕ × X) → found t xs ≡ Some q → found t (xs ++ ys) ≡ Some q
 found_more t [] ys q e = cc
 found_more {X = X} t (x ∷ xs) ys q e = by_head (t x) (found t xs) refl (λ p w. found_more t xs ys p w) e
   where
@@ -46,7 +46,7 @@ lead_more ks more =
 -- ---- one in the place of another
 
 -- what was found, where another stands at the place j now
-abbrev put_at : {X : Type 0} → ℕ → X → ℕ × X → ℕ × X
+abbrev pub put_at : {X : Type 0} → ℕ → X → ℕ × X → ℕ × X
 put_at j y p = (p.0, if p.0 == j then y else p.1)
 
 suc_eq : (a b : ℕ) → (a + 1 == suc b) ≡ (a == b)
@@ -68,7 +68,7 @@ later j y p = ap (λ b. (p.0 + 1, if b then y else p.1)) (sym (suc_eq p.0 j))
 first_later : {X : Type 0} (y : X) (p : ℕ × X) → one_on p ≡ put_at 0 y (one_on p)
 first_later y p = ap (λ b. (p.0 + 1, if b then y else p.1)) (sym (suc_not_zero p.0))
 
-found_set : {X : Type 0} (t : X → Bool) (xs : List X) (j : ℕ) (y : X) → t y ≡ t (get_or xs j y) → found t (slice_set xs j y) ≡ option_map (put_at j y) (found t xs)
+pub found_set : {X : Type 0} (t : X → Bool) (xs : List X) (j : ℕ) (y : X) → t y ≡ t (get_or xs j y) → found t (slice_set xs j y) ≡ option_map (put_at j y) (found t xs)
 found_set t [] j y same = refl
 found_set {X = X} t (x ∷ xs) zero y same = by_head (t x) (t y) same (found t xs)
   where

@@ -345,3 +345,23 @@ module _ (size : ℕ) (m : Mount) (sound : IsSoundMount m) (s : Spot) (at : IsSp
   store_marks n done j l e =
       same_edit (marked l) (new_file None) (file_written s i offset bytes) (edit_marks l) n.files s.file_no j
       ∙ ⊎_elim (λ copied. copied.0.marks j l ∙ e) (λ taken. ap (λ y. marked l (file_in y j)) taken.left ∙ back_marks taken.copy.stamp j l e) done
+
+  -- ---- a write that is only a fault
+
+  in_mine : (n : Mount) → Mine n → (j l x : ℕ) → (seen size l x (file_in n j) ≡ here j l x) ⊎ Lost n j l x
+  in_mine n own j l x =
+      elim (cases_eq j s.file_no) as (λ _. (seen size l x (file_in n j) ≡ here j l x) ⊎ Lost n j l x) [
+        | inl same ↦ subst (λ k. (seen size l x (file_in n k) ≡ here k l x) ⊎ Lost n k l x) (sym same)
+            (elim (cases_eq l s.map_no) as (λ _. (seen size l x (file_in n s.file_no) ≡ here s.file_no l x) ⊎ Lost n s.file_no l x) [
+              | inl own_map ↦ subst (λ k. (seen size k x (file_in n s.file_no) ≡ here s.file_no k x) ⊎ Lost n s.file_no k x) (sym own_map) (inl (own.self x))
+              | inr other ↦ own.beside l x other
+            ])
+        | inr other ↦ inl (own.there j l x other)
+      ]
+
+  pub touched_seen : (n : Mount) → Result size m s at i n → (j l x : ℕ) → (seen size l x (file_in n j) ≡ here j l x) ⊎ Lost n j l x
+  touched_seen n done j l x = ⊎_elim (λ copied. inl (copied.0.maps j l x)) (λ taken. in_mine n (mine n taken.apart done) j l x) done
+
+  pub touched_marks : (n : Mount) → Result size m s at i n → (j l : ℕ) → marked l (file_in m j) ≡ true → marked l (file_in n j) ≡ true
+  touched_marks n done j l e =
+      ⊎_elim (λ copied. copied.0.marks j l ∙ e) (λ taken. ap (λ y. marked l (file_in y j)) taken.left ∙ back_marks taken.copy.stamp j l e) done

@@ -29,7 +29,7 @@ use Rattle.hp_model.specs.Plan.{Slot, Outcome, Refused, Answered, Plan, Finish, 
 use Rattle.hp_model.specs.declared.section.Section.TheVariants.{Grant, GiveBack}
 use Rattle.hp_model.specs.Profile.{most_bytes, most_file_pages, most_files, most_map_pages}
 use Rattle.hp_model.specs.Promises.{file_in, spot_on, IsLoaded, shown_on, seen_on, map_in, map_on, no_map, over, is_shared_of, reaches}
-use Rattle.hp_model.specs.SlotEvent.{are_too_many_maps, byte_access, bytes_answer, file_named, has_maps, has_name, is_beyond, is_name, is_unmapped, load, map_file, mount_on, mount_outcome, slot_event, store}
+use Rattle.hp_model.specs.SlotEvent.{anon_tests, are_too_many_maps, byte_access, bytes_answer, file_named, has_maps, has_name, is_beyond, is_name, is_unmapped, load, map_file, mount_on, mount_outcome, slot_event, store}
 use Rattle.hp_model.specs.Sound.{IsSound, IsSoundMount}
 use Rattle.hp_model.specs.Spot.{Spot, again, spot, written}
 use Rattle.hp_model.specs.Value.{shown, value}
@@ -168,6 +168,22 @@ map_quiet size k c (Some m) task home name a n sharing reserving =
       λ j l x. same_put (seen size l x) (new_file None) m.files q.0 more at.within (mapped_seen size task number a n sharing reserving q.1 l x ∙ sym (ap (seen size l x) (at.is (new_file None)))) j,
       λ j l. same_put (marked l) (new_file None) m.files q.0 more at.within (mapped_marks task number a n sharing reserving q.1 l ∙ sym (ap (marked l) (at.is (new_file None)))) j,
     ))))
+
+pub anon_quiet : (size k : ℕ) (c : Choice) (m : Mount) (task home n : ℕ) (sharing : Sharing) (reserving : Reserving)
+    → Always (Quiet size (Some m)) (slot_event size k c (Some m) (slot.Anon task home n sharing reserving))
+anon_quiet size k c m task home n sharing reserving =
+    let P = Quiet size (Some m) in
+    let stops = refused_quiet size (Some m) in
+    let number = next_number task m in
+    let bare : File = new_file None in
+    let f : File = mapped task number 0 n sharing reserving bare in
+    let left : Outcome = Answered (MapNo number) (Some (with_new m f)) in
+    always_unless P stops (anon_tests m task n) (grant c m home (asked sharing reserving 0 n bare) left)
+    (always_grant P stops c m home (asked sharing reserving 0 n bare) left (
+      λ j x. same_more (look size x) bare m.files (f ∷ []) (λ i. same_one (look size x) bare f (mapped_shows size task number 0 n sharing reserving bare x) i) j,
+      λ j l x. same_more (seen size l x) bare m.files (f ∷ []) (λ i. same_one (seen size l x) bare f (mapped_seen size task number 0 n sharing reserving bare l x) i) j,
+      λ j l. same_more (marked l) bare m.files (f ∷ []) (λ i. same_one (marked l) bare f (mapped_marks task number 0 n sharing reserving bare l) i) j,
+    ))
 
 -- ---- umounts
 

@@ -1,51 +1,65 @@
 -- What each step of a settled machine answers is within the limits of a reply's text.
-use Rattle.std.proofs.Common.{◌≡◌, ⊎_elim, subst, ℕ, suc, ◌+◌, ◌*◌, ◌^◌, ◌<◌, ◌≤◌, ◌||◌, ◌==◌, Bool, true, false, not, None, Some, is_some, Ok, Err, List, [], ◌∷◌, length, refl, sym, ap, arith, cond, nat_lt, nat_le}
-use Rattle.std.specs.Bool.{MatchBool}
+use Rattle.std.proofs.Common.{◌≡◌, subst, ℕ, suc, ◌+◌, ◌*◌, ◌^◌, ◌<◌, ◌≤◌, ◌||◌, ◌&&◌, ◌==◌, ◌∙◌, Bool, true, false, not, Option, None, Some, is_some, Ok, Err, List, [], ◌∷◌, ◌++◌, drop, replicate, map, length, refl, sym, ap, arith, if◌then◌else◌, cond, nat_lt, nat_le}
 use Rattle.std.specs.List.{All, filter, position_or_len, range_with_len}
 use Rattle.std.proofs.lemmas.Bool.{cond_both, leb-false, ltb-false, or_parts}
 use Rattle.std.proofs.lemmas.List.{length-map}
-use Rattle.std.proofs.lemmas.List.Elements.{All-head, All-tail}
+use Rattle.std.proofs.lemmas.List.Elements.{All-cons, All-head, All-replicate, All-tail, All-take}
 use Rattle.std.proofs.lemmas.List.FromFn.{length-range_with_len}
 use Rattle.std.proofs.lemmas.List.Sums.{sum_by-cons}
 use Rattle.hp_model.specs.declared.answer.Answer.TheVariants.{Done, MapNo}
-use Rattle.hp_model.specs.declared.event.Event.TheVariants.{Tasks, Pool as OnPool}
+use Rattle.hp_model.specs.declared.event.Event.{Event}
+use Rattle.hp_model.specs.declared.event.Event.TheVariants.{Tasks, Slot as OnSlot, Pool as OnPool}
+use Rattle.hp_model.specs.declared.event.PoolEvent.{PoolEvent}
+use Rattle.hp_model.specs.declared.event.TableEvent.{TableEvent}
+use Rattle.hp_model.specs.declared.answer.NodeCount.{NodeCount}
+use Rattle.hp_model.specs.declared.cell.Cell.{Cell}
+use Rattle.hp_model.specs.declared.cell.Cell.TheVariants.{Hole, Entered, Present}
+use Rattle.hp_model.specs.declared.place.Place.{Place}
+use Rattle.hp_model.specs.declared.place.Place.TheVariants.{Gone, Live}
+use Rattle.hp_model.specs.declared.section.Section.TheVariants.{GrantPage, TakePage}
 use Rattle.hp_model.specs.declared.event.PoolEvent.TheVariants as pool
 use Rattle.hp_model.specs.declared.event.SlotEvent.{SlotEvent}
 use Rattle.hp_model.specs.declared.event.SlotEvent.TheVariants as slot
 use Rattle.hp_model.specs.declared.event.TableEvent.TheVariants as table
 use Rattle.hp_model.specs.declared.node.NodeRow.{NodeRow}
 use Rattle.hp_model.specs.declared.refusal.Refusal.{Refusal}
-use Rattle.hp_model.specs.declared.refusal.Refusal.TheVariants.{OutOfMemory, OutOfRange, CrossesPage, TooMany, BeyondEnd, NoSuchMap, NoSuchFile, NoSuchNode, TaskExists, BadName, FileExists, NoInodes, Busy, BadLine, NoSuchSlot, NoSuchTask}
+use Rattle.hp_model.specs.declared.refusal.Refusal.TheVariants.{MountFull, NoPages, OutOfMemory, OutOfRange, CrossesPage, TooMany, BeyondEnd, NoSuchMap, NoSuchFile, NoSuchNode, TaskExists, BadName, FileExists, NoInodes, Busy}
+use Rattle.hp_model.specs.declared.step.Intent.{Intent}
 use Rattle.hp_model.specs.declared.step.Intent.TheVariants.{Read, Write}
 use Rattle.hp_model.specs.declared.step.Reserving.{Reserving}
-use Rattle.hp_model.specs.declared.step.Reserving.TheVariants.{Reserve}
 use Rattle.hp_model.specs.declared.step.Sharing.{Sharing}
-use Rattle.hp_model.specs.declared.step.Sharing.TheVariants.{Shared}
 use Rattle.hp_model.specs.declared.step.Step.{Step}
-use Rattle.hp_model.specs.declared.step.Step.TheVariants.{Connect, Mount as MountStep, Umount, Create, Map, Load, Store, Nr, Meminfo, Df}
-use Rattle.hp_model.specs.Access.{access}
-use Rattle.hp_model.specs.File.{Mount, maps_of, new_file, with_file}
-use Rattle.hp_model.specs.Grant.{is_over}
+use Rattle.hp_model.specs.declared.step.Step.TheVariants.{Exit, Fork}
+use Rattle.hp_model.specs.Access.{access, new_copy, private_access, shared_access}
+use Rattle.hp_model.specs.CopyWrite.{copy_write, is_held_once, owner_write, taken_back}
+use Rattle.hp_model.specs.Event.{IsEvent, has_maps_of}
+use Rattle.hp_model.specs.Fork.{forked}
+use Rattle.hp_model.specs.GiveBack.{punched, truncated, unlinked, unmapped_from, without_task}
+use Rattle.hp_model.specs.File.{File, Mount, cell_at, has_page, maps_of, new_file, with_file}
+use Rattle.hp_model.specs.Grant.{is_full, is_over, rise}
 use Rattle.hp_model.specs.Lists.{is_among}
 use Rattle.hp_model.specs.Machine.{committed_pages, pool_of, rows_of}
 use Rattle.hp_model.specs.MakeMap.{asked, mapped, next_number, numbers_of, with_new}
-use Rattle.hp_model.specs.Mapping.{is_map, is_of}
+use Rattle.hp_model.specs.Mapping.{is_map, is_of, is_shared, place_at}
 use Rattle.hp_model.specs.NodeRows.{IsRow, total_of, frames_of}
-use Rattle.hp_model.specs.Plan.{Reply, Slot, Outcome, Refused, Answered, Plan, Finish, Choice, unless, continued, grant, gives}
-use Rattle.hp_model.specs.Profile.{most_bytes, most_file_pages, most_files, most_map_pages, most_maps}
+use Rattle.hp_model.specs.Page.{Copy, Page}
+use Rattle.hp_model.specs.PoolCounts.{Pool}
+use Rattle.hp_model.specs.Plan.{Ask, grant_page, may_lack_room, reserved_page, when_granted, with_value, Reply, Slot, Outcome, Refused, Answered, Plan, Finish, Choice, unless, continued, grant, gives}
+use Rattle.hp_model.specs.Profile.{most_overcommit, most_bytes, most_file_pages, most_files, most_map_pages, most_maps}
 use Rattle.hp_model.specs.Promises.{is_usage}
-use Rattle.hp_model.specs.Resize.{pool_event}
+use Rattle.hp_model.specs.Resize.{no_count, node_count, pool_event}
 use Rattle.hp_model.specs.Settled.{IsSettledState}
-use Rattle.hp_model.specs.SlotEvent.{are_too_many_maps, byte_access, bytes_answer, file_named, has_maps, is_beyond, is_name, is_new_task_over, is_unmapped, load, map_file, slot_event, store}
-use Rattle.hp_model.specs.Spot.{Spot, again, spot, written}
+use Rattle.hp_model.specs.SlotEvent.{anon_tests, edited, fault, fault_tests, fork_tests, is_bad_range, on_mount, punch, read, truncate, unlink, unmap, are_too_many_maps, byte_access, bytes_answer, file_named, has_maps, is_beyond, is_name, is_new_task_over, is_unmapped, load, map_file, slot_event, store}
+use Rattle.hp_model.specs.Spot.{Spot, again, copied, spot, written}
 use Rattle.hp_model.specs.State.{Node, State, slot_at}
-use Rattle.hp_model.specs.Step.{IsBuiltStep, IsScript, IsStep, finding, on_slot}
-use Rattle.hp_model.specs.Table.{Table, added, is_crowded, is_known, or_refused}
-use Rattle.hp_model.specs.Value.{value}
+use Rattle.hp_model.specs.Step.{Answer_with, Do, IsScript, IsStep, Script, Where_mapped, exit_slots, fork_slots, or_undone, script, when_done}
+use Rattle.hp_model.specs.Table.{Table, added, home_of, is_crowded, is_known, or_refused, removed, table_event, when_known}
+use Rattle.hp_model.specs.Value.{shown, value}
 use Rattle.hp_model.specs.Writing.{IsWithinLimits}
 use Rattle.hp_laws.proofs.MountMoves.{IsSpot, spot_is}
-use Rattle.hp_laws.proofs.Outcomes.{Always, always_test, always_then, always_weaker, event_ends, reply_of, IsLeft, only_goes, slot_goes, finding_goes}
+use Rattle.hp_laws.proofs.Outcomes.{either_way, Always, always_if, outcome_if, always_test, always_then, always_weaker, event_ends, reply_of}
 use Rattle.hp_laws.proofs.Shown.{On, Same, Result, on_weaker, read_same, write_done}
+use Rattle.hp_laws.proofs.Whole.{by_event, is_whole, step_of}
 use Rattle.hp_laws.proofs.SlotShows.{always_gives, always_grant, always_mount, always_unless, always_value, bytes_on}
 
 abbrev Small : Outcome → Type 0
@@ -75,7 +89,7 @@ number_le task m =
     let same = length-map (filter (is_of task) (maps_of m)) (λ x. x.number) in
     omega (arith, at, long, few, same)
 
-rows_many : (s : State) (a : ℕ) (xs : List Node) → length (rows_of s a xs) ≡ length xs
+pub rows_many : (s : State) (a : ℕ) (xs : List Node) → length (rows_of s a xs) ≡ length xs
 rows_many s a [] = refl
 rows_many s a (x ∷ xs) = ap suc (rows_many s (a + 1) xs)
 
@@ -199,58 +213,223 @@ store_small size k c (Some m) task home number i offset bytes =
     always_then (On (Result size m s at i)) Small (λ n. Answered Done (Some (written n s i offset bytes))) (store_ends size m s at i offset bytes) (byte_access c size m home i offset (length bytes) Write s)
     (bytes_on size c m home i (Result size m s at i) offset (length bytes) Write s (write_done size m s at i c home))))
 
+anon_small : (size k : ℕ) (c : Choice) (m : Mount) (task home n : ℕ) (sharing : Sharing) (reserving : Reserving)
+    → Always Small (slot_event size k c (Some m) (slot.Anon task home n sharing reserving))
+anon_small size k c m task home n sharing reserving =
+    let left : Outcome = Answered (MapNo (next_number task m)) (Some (with_new m (mapped task (next_number task m) 0 n sharing reserving (new_file None)))) in
+    let rest : Plan = grant c m home (asked sharing reserving 0 n (new_file None)) left in
+    always_test Small ((n == 0) || nat_lt most_file_pages n) OutOfRange (unless (drop 1 (anon_tests m task n)) rest) tt
+    (λ e. always_test Small (nat_lt most_map_pages n || are_too_many_maps m task || nat_le most_files (length m.files)) TooMany (unless (drop 2 (anon_tests m task n)) rest) tt
+    (λ f. always_unless Small (λ r. tt) (drop 2 (anon_tests m task n)) rest (always_grant Small (λ r. tt) c m home (asked sharing reserving 0 n (new_file None)) left
+    (few_maps m task n (both_parts (nat_lt most_map_pages n) (are_too_many_maps m task) (nat_le most_files (length m.files)) f)))))
+  where
+    both_parts : (a b c : Bool) → (a || b || c) ≡ false → (a || b) ≡ false
+    both_parts true b c e = cc
+    both_parts false true c e = cc
+    both_parts false false c e = refl
+
+-- an access is answered `Done`
+granted_small : (b : Bool) (o : Outcome) → Small o → Small (if b then o else Refused NoPages)
+granted_small true o h = h
+granted_small false o h = tt
+
+module _ (c : Choice) (size : ℕ) (m : Mount) (s : Spot) (home i : ℕ) where
+  page_small : (f : ℕ → Outcome) → ((node : ℕ) → Small (f node)) → Always Small (grant_page c m home f)
+  page_small f h =
+      always_unless Small (λ r. tt) ((is_full m 1, MountFull) ∷ (c.refused, OutOfMemory) ∷ []) (Ask (λ nr. GrantPage home (rise m 1)) (λ a. when_granted (f a.node) a))
+      (λ a. granted_small a.granted (f a.node) (h a.node))
+
+  taken_small : (f : ℕ → Outcome) → ((node : ℕ) → Small (f node)) → Always Small (reserved_page c home f)
+  taken_small f h = always_unless Small (λ r. tt) ((may_lack_room && c.refused, OutOfMemory) ∷ []) (Ask (λ nr. TakePage home) (λ a. f a.node)) (λ a. h a.node)
+
+  shared_small : (cell : Cell Page) → Always Small (shared_access c size m s home i cell)
+  shared_small (Present page) = tt
+  shared_small Entered = taken_small _ (λ node. tt)
+  shared_small Hole = page_small _ (λ node. tt)
+
+  copy_small : (consumed : Bool) → Always Small (new_copy c size m s home i consumed)
+  copy_small consumed = always_if Small (s.map.owner && not consumed) _ _ (λ e. taken_small _ (λ node. tt)) (λ e. page_small _ (λ node. tt))
+
+  write_small : (consumed : Bool) (copy : Copy) → Always Small (copy_write c m s home i consumed copy)
+  write_small consumed copy =
+      let fresh : ℕ → Outcome = λ node. copied m s i consumed (record { stamp = c.stamp; page = record { node = node; bytes = copy.page.bytes } }) in
+      always_if Small (is_held_once s.file copy.stamp) _ _ (λ e. tt)
+      (λ e. always_if Small s.map.owner _ _
+      (λ owner. always_unless Small (λ r. tt) ((may_lack_room && c.refused, OutOfMemory) ∷ []) (owner_write m s home copy.stamp fresh)
+      (always_if Small (is_full m 1) _ _ (λ full. tt) (λ room a. outcome_if Small a.granted (fresh a.node) (taken_back m s copy.stamp) tt tt)))
+      (λ other. page_small _ (λ node. tt)))
+
+  private_small : (p : Place Copy) (intent : Intent) → Always Small (private_access c size m s home i p intent)
+  private_small Gone intent = tt
+  private_small (Live consumed (Some copy)) Read = tt
+  private_small (Live consumed (Some copy)) Write = write_small consumed copy
+  private_small (Live consumed None) Read =
+      always_if Small s.map.unmapped _ _ (λ e. tt) (λ e. always_if Small (has_page (cell_at s.file i)) _ _ (λ e. tt) (λ e. copy_small consumed))
+  private_small (Live consumed None) Write = always_if Small s.map.unmapped _ _ (λ e. tt) (λ e. copy_small consumed)
+
+  access_small : (intent : Intent) → Always Small (access c size m s home i intent)
+  access_small intent = always_if Small (is_shared s.map.sharing) _ _ (λ e. shared_small (cell_at s.file i)) (λ e. private_small (place_at s.map i) intent)
+
+read_small : (size : ℕ) (m : Mount) (i offset count : ℕ) (f : ℕ × File) → Always Small (read size m i offset count f)
+read_small size m i offset count f =
+    let rest : Plan = Finish (Answered (bytes_answer offset count (shown size (cell_at f.1 i))) (Some m)) in
+    always_test Small ((count == 0) || nat_le (length f.1.cells) i) OutOfRange _ tt
+    (λ a. always_test Small (nat_lt size (offset + count)) CrossesPage _ tt (λ b. always_test Small (nat_lt most_bytes count) TooMany rest tt (λ d. ltb-false most_bytes count d)))
+
+-- what answers numbers or names as they stand
+abbrev pub tells_all : SlotEvent → Bool
+tells_all slot.Df = true
+tells_all slot.Ls = true
+tells_all (slot.Stat name) = true
+tells_all other = false
+
+module _ (size k : ℕ) (c : Choice) (m : Mount) where
+  done_small : (new : Slot) → Always Small (gives Done (Some m) new)
+  done_small new = always_gives Small Done (Some m) new tt
+
+  of_file : (name : List ℕ) (f : ℕ × File → Plan) → ((q : ℕ × File) → Always Small (f q)) → Always Small (with_value (file_named m name) NoSuchFile f)
+  of_file name f h = always_value Small (λ r. tt) (file_named m name) NoSuchFile f (λ q e. h q)
+
+  of_map : (task number : ℕ) (f : Spot → Plan) → ((s : Spot) → Always Small (f s)) → Always Small (with_value (spot m (is_map task number)) NoSuchMap f)
+  of_map task number f h = always_value Small (λ r. tt) (spot m (is_map task number)) NoSuchMap f (λ s e. h s)
+
+  tested : (ts : List (Bool × Refusal)) (p : Plan) → Always Small p → Always Small (unless ts p)
+  tested ts p h = always_unless Small (λ r. tt) ts p h
+
+  mounted_small : (e : SlotEvent) → tells_all e ≡ false → Always Small (on_mount size k c m e)
+  mounted_small (slot.Mount options) e = tt
+  mounted_small slot.Umount e = umount_small size k c (Some m)
+  mounted_small (slot.Create name) e = create_small size k c (Some m) name
+  mounted_small (slot.Unlink name) e = of_file name (unlink m) (λ q. done_small (edited m q.0 (unlinked q.1)))
+  mounted_small (slot.Truncate name n) e = of_file name (truncate m n) (λ q. tested ((nat_lt most_file_pages n, OutOfRange) ∷ []) _ (done_small (edited m q.0 (truncated n q.1))))
+  mounted_small (slot.Punch name a b) e = of_file name (punch m a b) (λ q. tested ((is_bad_range a b, OutOfRange) ∷ []) _ (done_small (edited m q.0 (punched a b q.1))))
+  mounted_small (slot.Read name i offset count) e = of_file name (read size m i offset count) (read_small size m i offset count)
+  mounted_small slot.Ls e = cc
+  mounted_small (slot.Stat name) e = cc
+  mounted_small slot.Df e = cc
+  mounted_small (slot.Map task home name a n sharing reserving) e = map_small size k c (Some m) task home name a n sharing reserving
+  mounted_small (slot.Anon task home n sharing reserving) e = anon_small size k c m task home n sharing reserving
+  mounted_small (slot.Unmap task number a b) e =
+      of_map task number (unmap m task number a b) (λ s. tested ((is_bad_range a b, OutOfRange) ∷ []) _ (done_small (Some (unmapped_from task number a b m))))
+  mounted_small (slot.Fault task home number i intent) e =
+      of_map task number (fault c size m home i intent) (λ s. tested (fault_tests i s) (access c size m s home i intent) (access_small c size m s home i intent))
+  mounted_small (slot.Load task home number i offset count) e = load_small size k c (Some m) task home number i offset count
+  mounted_small (slot.Store task home number i offset bytes) e = store_small size k c (Some m) task home number i offset bytes
+  mounted_small (slot.ForkMaps parent child) e = tested (fork_tests c m parent child) _ (done_small (Some (forked parent child m)))
+  mounted_small (slot.ExitMaps task) e = done_small (Some (without_task task m))
+
+slot_small : (size k : ℕ) (c : Choice) (old : Slot) (e : SlotEvent) → tells_all e ≡ false → Always Small (slot_event size k c old e)
+slot_small size k c None (slot.Mount options) e = mount_small size k c None options
+slot_small size k c None other e = tt
+slot_small size k c (Some m) e apart = mounted_small size k c m e apart
+
+-- ---- each event
+
+-- the event answers what stands in the machine's tables, which is as large as it was made
+abbrev pub is_told : Event → Bool
+is_told (Tasks (table.Find task)) = true
+is_told (OnSlot k e) = tells_all e
+is_told other = false
+
+table_small : (n : ℕ) (x : Table) (e : TableEvent) → is_told (Tasks e) ≡ false → IsWithinLimits (table_event n x e).0
+table_small n x (table.Add task home) e = or_small ((nat_le n home, NoSuchNode) ∷ (is_known x task, TaskExists) ∷ (is_crowded x, TooMany) ∷ []) x (added x task home)
+table_small n x (table.Find task) e = cc
+table_small n x (table.FindAndAdd parent child) e = by_home (home_of x parent)
+  where
+    by_home : (o : Option ℕ) → IsWithinLimits (when_known x o (λ home. or_refused ((is_known x child, TaskExists) ∷ (is_crowded x, TooMany) ∷ []) x (Ok Done, added x child home))).0
+    by_home None = tt
+    by_home (Some home) = or_small ((is_known x child, TaskExists) ∷ (is_crowded x, TooMany) ∷ []) x (added x child home)
+table_small n x (table.Remove task) e = by_home (home_of x task)
+  where
+    by_home : (o : Option ℕ) → IsWithinLimits (when_known x o (λ home. (Ok Done, removed x task))).0
+    by_home None = tt
+    by_home (Some home) = tt
+
+abbrev IsSmallRow : NodeCount → Type 0
+IsSmallRow r = (r.total ≤ 65536) × (r.free ≤ r.total) × (r.surp ≤ r.total)
+
+-- the rows that are answered
+rows_small : (rows : List NodeRow) → All IsRow rows → All IsSmallRow (map node_count rows ++ replicate 4 no_count)
+rows_small [] all = All-replicate IsSmallRow 4 no_count (omega arith, omega arith, omega arith)
+rows_small (r ∷ rows) all =
+    let head = All-head IsRow r rows all in
+    let few = head.few in
+    let total_in = head.total_in in
+    All-cons IsSmallRow (node_count r) (map node_count rows ++ replicate 4 no_count) (omega (arith, few, total_in), head.free_in, head.surp_in)
+    (rows_small rows (All-tail IsRow r rows all))
+
+pool_small : (s : State) → IsSettledState s → (e : PoolEvent) → IsWithinLimits (pool_event (pool_of s) e).0
+pool_small s st (pool.Nr n) = nr_small s st n
+pool_small s st (pool.Overcommit n) = cond_both (nat_le n most_overcommit) (Ok Done, record (pool_of s) { overcommit = n }) (Err OutOfRange, pool_of s) (λ (q : Reply × Pool). IsWithinLimits q.0) (λ e. tt) (λ e. tt)
+pool_small s st pool.Meminfo = meminfo_small s st
+pool_small s st pool.Nodes =
+    let rows = (pool_of s).nodes.rows in
+    let many = rows_many s 0 s.nodes in
+    let nodes = st.nodes in
+    (omega (arith, many, nodes), All-take IsSmallRow 4 (map node_count rows ++ replicate 4 no_count) (rows_small rows st.pool.rows))
+
+module _ (s : State) (st : IsSettledState s) where
+  pub event_small : (e : Event) (reply : Reply) (t : State) → IsEvent s e reply t → is_told e ≡ false → IsWithinLimits reply
+  event_small (Tasks e) reply t is apart = subst IsWithinLimits (ap (λ (q : Reply × State). q.0) is.2) (table_small (length s.nodes) s.table e apart)
+  event_small (OnPool e) reply t is apart = subst IsWithinLimits (ap (λ (q : Reply × State). q.0) is.2) (pool_small s st e)
+  event_small (OnSlot k e) reply t is apart =
+      let ends = event_ends Small s k e reply t (λ c. slot_small s.page_size k c (slot_at s k) e apart) is in subst IsWithinLimits (sym ends.replied) ends.holds
+
+-- ---- scripts
+
+-- all that it replies with is so
+abbrev Replies : Script → Type 0
+Replies (Answer_with r) = IsWithinLimits r
+Replies (Do e next) = (r : Reply) → Replies (next r)
+Replies (Where_mapped k task mapped other) = Replies mapped × Replies other
+
+script_small : (c : Script) → Replies c → (s : State) (reply : Reply) (t : State) → IsScript s c reply t → IsWithinLimits reply
+script_small (Answer_with r) all s reply t is = subst IsWithinLimits (sym is.0) all
+script_small (Do e next) all s reply t is = script_small (next is.0) (all is.0) is.1 reply t is.3
+script_small (Where_mapped k task mapped other) all s reply t is =
+    either_way (has_maps_of task (slot_at s k)) (λ it. script_small mapped all.0 s reply t it) (λ it. script_small other all.1 s reply t it) is
+
+when_small : (r : Reply) (next : Script) → Replies next → Replies (when_done r next)
+when_small (Err r) next all = tt
+when_small (Ok a) next all = all
+
+exits_small : (ks : List ℕ) (task : ℕ) (next : Script) → Replies next → Replies (exit_slots ks task next)
+exits_small [] task next all = all
+exits_small (k ∷ ks) task next all = ((λ r. exits_small ks task next all), exits_small ks task next all)
+
+or_undone_small : (done : List ℕ) (child : ℕ) (r : Reply) (next : Script) → Replies next → Replies (or_undone done child r next)
+or_undone_small done child (Err r) next all = exits_small done child _ (λ reply. tt)
+or_undone_small done child (Ok a) next all = all
+
+forks_small : (ks done : List ℕ) (parent child : ℕ) → Replies (fork_slots ks done parent child)
+forks_small [] done parent child = tt
+forks_small (k ∷ ks) done parent child =
+    ((λ r. or_undone_small done child r (fork_slots ks (done ++ k ∷ []) parent child) (forks_small ks (done ++ k ∷ []) parent child)), forks_small ks done parent child)
+
 -- ---- each step
 
-module _ (s : State) (reply : Reply) (t : State) (st : IsSettledState s) where
-  left_small : (r : Refusal) → IsLeft s r reply t → IsWithinLimits reply
-  left_small r left = subst IsWithinLimits (sym left.replied) tt
+told_same : (e : Event) → is_whole e ≡ true → is_usage (step_of e) ≡ is_told e
+told_same (Tasks (table.Add task home)) whole = refl
+told_same (Tasks (table.Find task)) whole = refl
+told_same (Tasks other) whole = cc
+told_same (OnSlot k slot.Df) whole = refl
+told_same (OnSlot k other) whole = refl
+told_same (OnPool pool.Meminfo) whole = refl
+told_same (OnPool other) whole = refl
 
-  on_slot_small : (k : ℕ) (e : SlotEvent) → ((c : Choice) → Always Small (slot_event s.page_size k c (slot_at s k) e)) → IsScript s (on_slot (length s.slots) k e) reply t → IsWithinLimits reply
-  on_slot_small k e h is =
-      ⊎_elim (λ left. left_small NoSuchSlot left) (λ it. (let ends = event_ends Small s k e reply t h it in subst IsWithinLimits (sym ends.replied) ends.holds))
-      (slot_goes s (length s.slots) k e reply t is)
+module _ (s : State) (st : IsSettledState s) where
+  abbrev SmallUnlessTold : Step → Reply → State → Type 0
+  SmallUnlessTold step reply t = is_usage step ≡ false → IsWithinLimits reply
 
-  task_small : (task k : ℕ) (e : ℕ → SlotEvent) → ((home : ℕ) (c : Choice) → Always Small (slot_event s.page_size k c (slot_at s k) (e home)))
-      → IsScript s (finding task (λ home. on_slot (length s.slots) k (e home))) reply t → IsWithinLimits reply
-  task_small task k e h is =
-      ⊎_elim (λ left. left_small NoSuchTask left) (λ found. on_slot_small k (e found.0) (h found.0) found.1)
-      (finding_goes s task (λ home. on_slot (length s.slots) k (e home)) reply t is)
-
-  connect_small : (task home : ℕ) → IsBuiltStep s (Connect task home) reply t → IsWithinLimits reply
-  connect_small task home is =
-      let it = only_goes s (Tasks (table.Add task home)) reply t is in
-      subst IsWithinLimits (ap (λ (q : Reply × State). q.0) it.2)
-      (or_small ((nat_le (length s.nodes) home, NoSuchNode) ∷ (is_known s.table task, TaskExists) ∷ (is_crowded s.table, TooMany) ∷ []) s.table (added s.table task home))
-
-  number_small : (n : ℕ) → IsBuiltStep s (Nr n) reply t → IsWithinLimits reply
-  number_small n is = (let it = only_goes s (OnPool (pool.Nr n)) reply t is in subst IsWithinLimits (ap (λ (q : Reply × State). q.0) it.2) (nr_small s st n))
-
-  counts_small : IsBuiltStep s Meminfo reply t → IsWithinLimits reply
-  counts_small is = (let it = only_goes s (OnPool pool.Meminfo) reply t is in subst IsWithinLimits (ap (λ (q : Reply × State). q.0) it.2) (meminfo_small s st))
-
-  unbuilt_small : (reply ≡ Err BadLine) × (t ≡ s) → IsWithinLimits reply
-  unbuilt_small is = subst IsWithinLimits (sym is.0) tt
-
-  step_small : (step : Step) → IsStep s step reply t → (is_usage step ≡ true → IsWithinLimits reply) → IsWithinLimits reply
-  unfolding IsStep
-  step_small (Connect task home) is usage = connect_small task home is
-  step_small (MountStep k options) is usage = on_slot_small k (slot.Mount options) (λ c. mount_small s.page_size k c (slot_at s k) options) is
-  step_small (Umount k) is usage = on_slot_small k slot.Umount (λ c. umount_small s.page_size k c (slot_at s k)) is
-  step_small (Create k name) is usage = on_slot_small k (slot.Create name) (λ c. create_small s.page_size k c (slot_at s k) name) is
-  step_small (Map task k name a n Shared Reserve) is usage =
-      task_small task k (λ home. slot.Map task home name a n Shared Reserve) (λ home c. map_small s.page_size k c (slot_at s k) task home name a n Shared Reserve) is
-  step_small (Load task k number i offset count) is usage =
-      task_small task k (λ home. slot.Load task home number i offset count) (λ home c. load_small s.page_size k c (slot_at s k) task home number i offset count) is
-  step_small (Store task k number i offset bytes) is usage =
-      task_small task k (λ home. slot.Store task home number i offset bytes) (λ home c. store_small s.page_size k c (slot_at s k) task home number i offset bytes) is
-  step_small (Nr n) is usage = by_test (nat_lt n s.nr) is
-    where
-      by_test : (b : Bool) → MatchBool b ((reply ≡ Err BadLine) × (t ≡ s)) (IsBuiltStep s (Nr n) reply t) → IsWithinLimits reply
-      by_test true is = unbuilt_small is
-      by_test false is = number_small n is
-  step_small Meminfo is usage = counts_small is
-  step_small (Df k) is usage = usage refl
-  step_small other is usage = unbuilt_small is
+  pub step_small : (reply : Reply) (t : State) (step : Step) → IsStep s step reply t → is_usage step ≡ false → IsWithinLimits reply
+  step_small reply t step is =
+      by_event s SmallUnlessTold (λ step r early apart. tt) (λ e reply t whole it apart. event_small s st e reply t it (sym (told_same e whole) ∙ apart))
+      (λ parent child reply t it apart. script_small (script (length s.slots) (Fork parent child)) (λ r. when_small r (fork_slots (range_with_len 0 (length s.slots)) [] parent child) (forks_small (range_with_len 0 (length s.slots)) [] parent child)) s reply t it)
+      (λ task reply t it apart. script_small (script (length s.slots) (Exit task)) (λ r. when_small r (exit_slots (range_with_len 0 (length s.slots)) task (Answer_with (Ok Done))) (exits_small (range_with_len 0 (length s.slots)) task (Answer_with (Ok Done)) tt)) s reply t it) reply t step is
 
 pub within_limits : (s : State) (step : Step) (reply : Reply) (t : State) → IsSettledState s → IsStep s step reply t → (is_usage step ≡ true → IsWithinLimits reply) → IsWithinLimits reply
-within_limits s step reply t st is usage = step_small s reply t st step is usage
+within_limits s step reply t st is usage = by_kind (is_usage step) refl
+  where
+    by_kind : (b : Bool) → is_usage step ≡ b → IsWithinLimits reply
+    by_kind true told = usage told
+    by_kind false apart = step_small s st reply t step is apart

@@ -31,6 +31,7 @@ use Rattle.hp_model.specs.Step.{Script, Answer_with, Do, Where_mapped, script, i
 use Rattle.hp_model.specs.Table.{Table, table_event}
 use Rattle.hp_laws.proofs.EventsSound.{empty_sound, slots_stay_sound}
 use Rattle.hp_laws.proofs.SectionTies.{relead}
+use Rattle.hp_laws.proofs.Outcomes.{either_way}
 use Rattle.hp_laws.proofs.Sections.{Leads, unchanged, set_leads}
 use Rattle.hp_laws.proofs.SlotsBalanced.{slots_are_balanced}
 use Rattle.hp_laws.proofs.Tied.{tied, plan_tied, left_sound}
@@ -135,10 +136,6 @@ event_settled s e reply t st is = subst (λ (x : Reply × State). IsSettledState
 events_settled : (s : State) → IsSettledState s → (es : List (Event × Reply)) (t : State) → IsEventRun s es t → IsSettledState t
 events_settled s st [] t run = subst IsSettledState run st
 events_settled s st (e ∷ es) t run = events_settled run.0 (event_settled s e.0 e.1 run.0 st run.1) es t run.2
-
-either_way : {P Q R : Type 0} (b : Bool) → (P → R) → (Q → R) → MatchBool b P Q → R
-either_way true f g is = f is
-either_way false f g is = g is
 
 script_settled : (c : Script) (s : State) (reply : Reply) (t : State) → IsSettledState s → IsScript s c reply t → IsSettledState t
 script_settled (Answer_with r) s reply t st is = subst IsSettledState (sym is.1) st

@@ -14,8 +14,15 @@ swept m = record m { files = filter is_kept m.files }
 
 -- ---- maps
 
+-- of the maps that pass the indices go, and with its last index a map
+abbrev pub map_unmapped : (Map → Bool) → ℕ → ℕ → Map → Map
+map_unmapped test a b m = if test m then without_range a b m else m
+
+abbrev pub is_left : (Map → Bool) → Map → Bool
+is_left test m = is_mapped m || not (test m)
+
 abbrev pub file_unmapped : (Map → Bool) → ℕ → ℕ → File → File
-file_unmapped test a b f = record f { maps = filter is_mapped (map (λ m. if test m then without_range a b m else m) f.maps) }
+file_unmapped test a b f = record f { maps = filter (is_left test) (map (map_unmapped test a b) f.maps) }
 
 -- unmap
 abbrev pub unmapped_from : ℕ → ℕ → ℕ → ℕ → Mount → Mount

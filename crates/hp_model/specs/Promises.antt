@@ -15,7 +15,7 @@ use Rattle.hp_model.specs.declared.place.Place.{Place}
 use Rattle.hp_model.specs.declared.step.Sharing.{Sharing}
 use Rattle.hp_model.specs.declared.step.Sharing.TheVariants.{Shared}
 use Rattle.hp_model.specs.declared.step.Step.{Step}
-use Rattle.hp_model.specs.declared.step.Step.TheVariants.{Create as CreateStep, Df, Exit, Fault, Fork, Load, Map as MapStep, Meminfo, Mount as MountStep, Nodes, Punch as PunchStep, Read as ReadStep, Store, Truncate as TruncateStep, Umount, Unlink as UnlinkStep, Unmap as UnmapStep}
+use Rattle.hp_model.specs.declared.step.Step.TheVariants.{Attach, Create as CreateStep, Df, Exit, Fault, Fork, Load, Ls, Map as MapStep, Meminfo, Mount as MountStep, Nodes, Punch as PunchStep, Read as ReadStep, Stat, Store, Truncate as TruncateStep, Umount, Unlink as UnlinkStep, Unmap as UnmapStep}
 use Rattle.hp_model.specs.Plan.{slot_usage, IsWithinLimit}
 use Rattle.hp_model.specs.CopyWrite.{holds}
 use Rattle.hp_model.specs.File.{File, Mount, cell_at, new_file}
@@ -374,8 +374,11 @@ SameLimits None new = Unit {0}
 SameLimits (Some m) None = ⊥
 SameLimits (Some m) (Some n) = n.limits ≡ m.limits
 
--- the step answers a mount's limits, which are as large as its options made them
+-- the step answers numbers or names as they stand: of a task, of a file, or of a mount
 abbrev pub is_usage : Step → Bool
+is_usage (Attach task) = true
+is_usage (Ls k) = true
+is_usage (Stat k name) = true
 is_usage (Df k) = true
 is_usage step = false
 
