@@ -17,7 +17,7 @@ use Rattle.hp_model.specs.Grant.{is_full, rise}
 use Rattle.hp_model.specs.Lists.{edit_at}
 use Rattle.hp_model.specs.Mapping.{Map, is_shared, place_at, with_place}
 use Rattle.hp_model.specs.Page.{Copy, Page, zeros}
-use Rattle.hp_model.specs.Plan.{Choice, Outcome, Answered, Finish, Ask, may_lack_room}
+use Rattle.hp_model.specs.Plan.{Choice, Outcome, Answered, Finish, Ask}
 use Rattle.hp_model.specs.declared.refusal.Refusal.TheVariants.{OutOfMemory}
 use Rattle.hp_model.specs.declared.section.Section.TheVariants.{GrantPage}
 use Rattle.hp_model.specs.Promises.{shape_of}
@@ -80,7 +80,7 @@ back_put f k stamp x at =
 module _ (c : Choice) (m : Mount) (Q : Mount → Type 0) (own : Q m) (s : Spot) (at : IsSpot m s) (put : (f : File) → file_key f ≡ file_key s.file → Q (with_file m s.file_no f)) (size home i : ℕ) where
   shared_on : (cell : Cell Page) → Always (On Q) (shared_access c size m s home i cell)
   shared_on (Present page) = own
-  shared_on Entered = on_reserved_page Q c home _ (λ node. put (with_cell s.file i (Present (record { node = node; bytes = zeros size }))) refl)
+  shared_on Entered = on_reserved_page Q home _ (λ node. put (with_cell s.file i (Present (record { node = node; bytes = zeros size }))) refl)
   shared_on Hole = on_grant_page Q c m home _ (λ node. put (with_cell s.file i (Present (record { node = node; bytes = zeros size }))) refl)
 
   -- the map with a copy there
@@ -93,7 +93,7 @@ module _ (c : Choice) (m : Mount) (Q : Mount → Type 0) (own : Q m) (s : Spot) 
   new_on consumed =
       let fresh : ℕ → Copy = λ node. record { stamp = c.stamp; page = record { node = node; bytes = value size s.file s.map i } } in
       always_if (On Q) (s.map.owner && not consumed) _ _
-      (λ e. on_reserved_page Q c home _ (λ node. copied_on true (fresh node))) (λ e. on_grant_page Q c m home _ (λ node. copied_on consumed (fresh node)))
+      (λ e. on_reserved_page Q home _ (λ node. copied_on true (fresh node))) (λ e. on_grant_page Q c m home _ (λ node. copied_on consumed (fresh node)))
 
   uncopied_on : (consumed : Bool) (intent : Intent) → Always (On Q) (uncopied_access c size m s home i consumed intent)
   uncopied_on consumed Write = new_on consumed
@@ -108,9 +108,8 @@ module _ (c : Choice) (m : Mount) (Q : Mount → Type 0) (own : Q m) (s : Spot) 
       let kept : On Q back = put (with_map (record s.file { maps = map (robbed copy.stamp) s.file.maps }) s.map_no s.map) (back_put s.file s.map_no copy.stamp s.map at.map) in
       always_if (On Q) (is_held_once s.file copy.stamp) _ _ (λ e. own)
       (λ e. always_if (On Q) s.map.owner _ _
-      (λ owner. always_unless (On Q) (λ r. tt) ((may_lack_room && c.refused, OutOfMemory) ∷ []) (owner_write m s home copy.stamp fresh)
-      (always_if (On Q) (is_full m 1) (Finish back) (Ask (λ nr. GrantPage home (rise m 1)) (λ a. if a.granted then fresh a.node else back))
-      (λ full. kept) (λ room a. outcome_if (On Q) a.granted (fresh a.node) back (copied_on consumed (mine a.node)) kept)))
+      (λ owner. always_if (On Q) (is_full m 1) (Finish back) (Ask (λ nr. GrantPage home (rise m 1)) (λ a. if a.granted then fresh a.node else back))
+      (λ full. kept) (λ room a. outcome_if (On Q) a.granted (fresh a.node) back (copied_on consumed (mine a.node)) kept))
       (λ other. on_grant_page Q c m home _ (λ node. copied_on consumed (mine node))))
 
   private_on : (p : Place Copy) (intent : Intent) → Always (On Q) (private_access c size m s home i p intent)

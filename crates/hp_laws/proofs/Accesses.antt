@@ -14,7 +14,7 @@ use Rattle.hp_model.specs.Lists.{is_among}
 use Rattle.hp_model.specs.Mapping.{with_place, place_at, is_shared}
 use Rattle.hp_model.specs.MountCounts.{stamps_of}
 use Rattle.hp_model.specs.Page.{Page, Copy, zeros}
-use Rattle.hp_model.specs.Plan.{Outcome, Answered, Plan, Finish, Ask, Choice, refuse, unless, may_lack_room, grant_page, reserved_page}
+use Rattle.hp_model.specs.Plan.{Outcome, Answered, Plan, Finish, Ask, Choice, refuse, unless, grant_page, reserved_page}
 use Rattle.hp_model.specs.declared.section.Section.TheVariants.{GrantPage}
 use Rattle.hp_model.specs.Spot.{Spot, copied, written, file_written}
 use Rattle.hp_model.specs.Value.{value}
@@ -32,7 +32,7 @@ module _ (c : Choice) (size : ℕ) (m : Mount) (s : Spot) (at : IsSpot m s) (agr
   shared_balanced : (cell : Cell Page) → i < length s.file.cells → cell_at s.file i ≡ cell → IsBalanced (Some m) (shared_access c size m s home i cell)
   shared_balanced (Present page) l is = stays (Some m)
   shared_balanced Entered l is =
-      balanced_reserved_page c m home (λ node. with_file m s.file_no (with_cell s.file i (Present (record { node = node; bytes = zeros size }))))
+      balanced_reserved_page m home (λ node. with_file m s.file_no (with_cell s.file i (Present (record { node = node; bytes = zeros size }))))
       (λ node. file_grows m s.file_no s.file _ node 1 0 at.file (fill_entry s.file i (record { node = node; bytes = zeros size }) l is))
   shared_balanced Hole l is =
       balanced_grant_page c m home (λ node. with_file m s.file_no (with_cell s.file i (Present (record { node = node; bytes = zeros size }))))
@@ -50,10 +50,10 @@ module _ (c : Choice) (size : ℕ) (m : Mount) (s : Spot) (at : IsSpot m s) (agr
   new_balanced : (consumed : Bool) → place_at s.map i ≡ Live consumed None → IsBalanced (Some m) (new_copy c size m s home i consumed)
   new_balanced consumed is =
       cond_both (s.map.owner && not consumed)
-      (reserved_page c home (λ node. copied m s i true (copy_for node shows))) (grant_page c m home (λ node. copied m s i consumed (copy_for node shows))) (IsBalanced (Some m))
+      (reserved_page home (λ node. copied m s i true (copy_for node shows))) (grant_page c m home (λ node. copied m s i consumed (copy_for node shows))) (IsBalanced (Some m))
       (λ e. (let parts = and_parts s.map.owner (not consumed) e in
       let open_still : place_at s.map i ≡ Live false None = is ∙ ap (λ b. Live b None) (not-true consumed parts.1) in
-      balanced_reserved_page c m home (λ node. with_copy true node shows)
+      balanced_reserved_page m home (λ node. with_copy true node shows)
       (λ node. file_grows m s.file_no s.file _ node 1 0 at.file (copy_consumes s.file s.map_no s.map i (copy_for node shows) at.map open_still parts.0 fresh))))
       (λ e. balanced_grant_page c m home (λ node. with_copy consumed node shows)
       (λ node. file_grows m s.file_no s.file _ node 1 1 at.file (copy_grows s.file s.map_no s.map i consumed (copy_for node shows) at.map is fresh)))
@@ -87,12 +87,12 @@ module _ (c : Choice) (size : ℕ) (m : Mount) (s : Spot) (at : IsSpot m s) (agr
   copy_balanced : (consumed : Bool) (copy : Copy) → place_at s.map i ≡ Live consumed (Some copy) → IsBalanced (Some m) (copy_write c m s home i consumed copy)
   copy_balanced consumed copy is =
       let fresh_copy : ℕ → Outcome = λ node. copied m s i consumed (copy_for node copy.page.bytes) in
-      let owns : Plan = unless ((may_lack_room && c.refused, OutOfMemory) ∷ []) (owner_write m s home copy.stamp fresh_copy) in
+      let owns : Plan = owner_write m s home copy.stamp fresh_copy in
       let asks : Plan = grant_page c m home fresh_copy in
       cond_both (is_held_once s.file copy.stamp) (Finish (Answered Done (Some m))) (if s.map.owner then owns else asks) (IsBalanced (Some m))
       (λ e. stays (Some m))
       (λ more. cond_both s.map.owner owns asks (IsBalanced (Some m))
-      (λ e. balanced_unless (Some m) ((may_lack_room && c.refused, OutOfMemory) ∷ []) (owner_write m s home copy.stamp fresh_copy) (owner_balanced consumed copy is more))
+      (λ e. owner_balanced consumed copy is more)
       (λ e. balanced_grant_page c m home (λ node. with_copy consumed node copy.page.bytes) (own_copy consumed copy is more)))
 
   private_balanced : (p : Place Copy) (intent : Intent) → place_at s.map i ≡ p → IsBalanced (Some m) (private_access c size m s home i p intent)

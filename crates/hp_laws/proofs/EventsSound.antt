@@ -27,7 +27,7 @@ use Rattle.hp_model.specs.MakeMap.{mapped, new_map, next_number}
 use Rattle.hp_model.specs.Mapping.{Map, copy_of, is_map, is_of, is_shared, is_unconsumed, map_punched, no_map, place_at, with_place, without_range}
 use Rattle.hp_model.specs.MountCounts.{stamps_of}
 use Rattle.hp_model.specs.Page.{Copy, Page, overwritten, zeros}
-use Rattle.hp_model.specs.Plan.{Ask, Answered, Choice, Finish, Outcome, Refused, Slot, gives, may_lack_room, unless}
+use Rattle.hp_model.specs.Plan.{Ask, Answered, Choice, Finish, Outcome, Refused, Slot, gives, unless}
 use Rattle.hp_model.specs.Profile.{most_bytes}
 use Rattle.hp_model.specs.Sound.{HasCopy, IsSound, IsSoundFile, IsSoundMap, IsSoundMount, is_stamp}
 use Rattle.hp_model.specs.SlotEvent.{byte_access, fault, is_beyond, is_unmapped, on_mount, umount_tests}
@@ -113,7 +113,7 @@ module _ (m : Mount) (sound : IsSoundMount m) (s : Spot) (at : IsSpot m s) where
 
     shared_sound : is_shared s.map.sharing ≡ true → (intent : Intent) (cell : Cell Page) → Always (On (Left intent i)) (shared_access c size m s home i cell)
     shared_sound e intent (Present page) = shared_left e intent m sound
-    shared_sound e intent Entered = on_reserved_page (Left intent i) c home _ (λ node. filled_left e intent (record { node = node; bytes = zeros size }))
+    shared_sound e intent Entered = on_reserved_page (Left intent i) home _ (λ node. filled_left e intent (record { node = node; bytes = zeros size }))
     shared_sound e intent Hole = on_grant_page (Left intent i) c m home _ (λ node. filled_left e intent (record { node = node; bytes = zeros size }))
 
     module _ (apart : is_shared s.map.sharing ≡ false) where
@@ -134,7 +134,7 @@ module _ (m : Mount) (sound : IsSoundMount m) (s : Spot) (at : IsSpot m s) where
       new_sound_copy : (intent : Intent) (consumed : Bool) → place_at s.map i ≡ Live consumed None → Always (On (Left intent i)) (new_copy c size m s home i consumed)
       new_sound_copy intent consumed is =
           always_if (On (Left intent i)) (s.map.owner && not consumed) _ _
-          (λ e. on_reserved_page (Left intent i) c home _ (λ node. copied_left intent consumed None is true (λ own. refl) (record { node = node; bytes = value size s.file s.map i })))
+          (λ e. on_reserved_page (Left intent i) home _ (λ node. copied_left intent consumed None is true (λ own. refl) (record { node = node; bytes = value size s.file s.map i })))
           (λ e. on_grant_page (Left intent i) c m home _ (λ node. copied_left intent consumed None is consumed (owner_consumed consumed e) (record { node = node; bytes = value size s.file s.map i })))
 
       uncopied_sound : (intent : Intent) (consumed : Bool) → place_at s.map i ≡ Live consumed None → Always (On (Left intent i)) (uncopied_access c size m s home i consumed intent)
@@ -155,9 +155,8 @@ module _ (m : Mount) (sound : IsSoundMount m) (s : Spot) (at : IsSpot m s) where
           let kept : On (Left Write i) back = (back_sound m s at i copy has sound, λ e. back_sole m s at i copy has sound) in
           always_if (On (Left Write i)) (is_held_once s.file copy.stamp) _ _ (λ once. (sound, λ e. record { copy = copy; has = here; alone = held_once m s at i copy has sound once }))
           (λ more. always_if (On (Left Write i)) s.map.owner _ _
-          (λ owner. always_unless (On (Left Write i)) (λ r. tt) ((may_lack_room && c.refused, OutOfMemory) ∷ []) (owner_write m s home copy.stamp mine)
-          (always_if (On (Left Write i)) (is_full m 1) (Finish back) (Ask (λ nr. GrantPage home (rise m 1)) (λ a. if a.granted then mine a.node else back))
-          (λ full. kept) (λ room a. outcome_if (On (Left Write i)) a.granted (mine a.node) back (own_copy a.node) kept)))
+          (λ owner. always_if (On (Left Write i)) (is_full m 1) (Finish back) (Ask (λ nr. GrantPage home (rise m 1)) (λ a. if a.granted then mine a.node else back))
+          (λ full. kept) (λ room a. outcome_if (On (Left Write i)) a.granted (mine a.node) back (own_copy a.node) kept))
           (λ other. on_grant_page (Left Write i) c m home _ own_copy))
 
       private_sound : (intent : Intent) (p : Place Copy) → place_at s.map i ≡ p → Always (On (Left intent i)) (private_access c size m s home i p intent)

@@ -23,7 +23,7 @@ use Rattle.hp_model.specs.Grant.{is_full, rise}
 use Rattle.hp_model.specs.MakeMap.{asked, mapped, next_number, with_new}
 use Rattle.hp_model.specs.Mapping.{is_shared, place_at, with_place}
 use Rattle.hp_model.specs.Page.{Copy, Page, zeros}
-use Rattle.hp_model.specs.Plan.{Answered, Ask, Choice, Finish, Outcome, Plan, Refused, Slot, and_then, fall_of, gives, grant, grant_page, may_lack_room, puts_of, refuse, reserved_page, unless, when_granted}
+use Rattle.hp_model.specs.Plan.{Answered, Ask, Choice, Finish, Outcome, Plan, Refused, Slot, and_then, fall_of, gives, grant, grant_page, puts_of, refuse, reserved_page, unless, when_granted}
 use Rattle.hp_model.specs.SlotEvent.{byte_access, byte_tests, bytes_answer, edited, fault_tests, on_mount}
 use Rattle.hp_model.specs.Spot.{Spot, again, written}
 use Rattle.hp_model.specs.Value.{value}
@@ -60,8 +60,8 @@ module _ (W : Plan → Type 0) where
     plan_page c m home n =
         tested ((is_full m 1, MountFull) ∷ (c.refused, OutOfMemory) ∷ []) (Ask (λ nr. GrantPage home (rise m 1)) (λ a. when_granted (Answered Done (n a.node)) a)) (rules.pages home (rise m 1) n)
 
-    plan_reserved : (c : Choice) (home : ℕ) (n : ℕ → Slot) → W (reserved_page c home (λ node. Answered Done (n node)))
-    plan_reserved c home n = tested ((may_lack_room && c.refused, OutOfMemory) ∷ []) (Ask (λ nr. TakePage home) (λ a. Answered Done (n a.node))) (rules.takes home n)
+    plan_reserved : (home : ℕ) (n : ℕ → Slot) → W (reserved_page home (λ node. Answered Done (n node)))
+    plan_reserved home n = rules.takes home n
 
     -- ---- accesses
 
@@ -75,13 +75,13 @@ module _ (W : Plan → Type 0) where
 
       plan_shared : (cell : Cell Page) → W (shared_access c size m s home i cell)
       plan_shared (Present page) = rules.done (Answered Done (Some m))
-      plan_shared Entered = plan_reserved c home (λ node. with_page (record { node = node; bytes = zeros size }))
+      plan_shared Entered = plan_reserved home (λ node. with_page (record { node = node; bytes = zeros size }))
       plan_shared Hole = plan_page c m home (λ node. with_page (record { node = node; bytes = zeros size }))
 
       plan_new : (consumed : Bool) → W (new_copy c size m s home i consumed)
       plan_new consumed =
           let fresh : ℕ → Copy = λ node. record { stamp = c.stamp; page = record { node = node; bytes = value size s.file s.map i } } in
-          either (s.map.owner && not consumed) _ _ (plan_reserved c home (λ node. with_copy true (fresh node))) (plan_page c m home (λ node. with_copy consumed (fresh node)))
+          either (s.map.owner && not consumed) _ _ (plan_reserved home (λ node. with_copy true (fresh node))) (plan_page c m home (λ node. with_copy consumed (fresh node)))
 
       plan_uncopied : (consumed : Bool) (intent : Intent) → W (uncopied_access c size m s home i consumed intent)
       plan_uncopied consumed Write = plan_new consumed
@@ -95,11 +95,10 @@ module _ (W : Plan → Type 0) where
       plan_copy : (consumed : Bool) (copy : Copy) → W (copy_write c m s home i consumed copy)
       plan_copy consumed copy =
           let own : ℕ → Slot = λ node. with_copy consumed (record { stamp = c.stamp; page = record { node = node; bytes = copy.page.bytes } }) in
-          let owns : Plan = unless ((may_lack_room && c.refused, OutOfMemory) ∷ []) (owner_write m s home copy.stamp (λ node. Answered Done (own node))) in
+          let owns : Plan = owner_write m s home copy.stamp (λ node. Answered Done (own node)) in
           let asks : Plan = grant_page c m home (λ node. Answered Done (own node)) in
           either (is_held_once s.file copy.stamp) (Finish (Answered Done (Some m))) (if s.map.owner then owns else asks) (rules.done (Answered Done (Some m)))
-          (either s.map.owner owns asks
-          (tested ((may_lack_room && c.refused, OutOfMemory) ∷ []) (owner_write m s home copy.stamp (λ node. Answered Done (own node))) (plan_owner copy.stamp own)) (plan_page c m home own))
+          (either s.map.owner owns asks (plan_owner copy.stamp own) (plan_page c m home own))
 
       plan_private : (p : Place Copy) (intent : Intent) → W (private_access c size m s home i p intent)
       plan_private Gone intent = rules.done (Refused OutOfRange)

@@ -14,7 +14,7 @@ use Rattle.hp_model.specs.Plan.{slot_usage}
 use Rattle.hp_model.specs.File.{Mount}
 use Rattle.hp_model.specs.Grant.{rise, is_full, is_over}
 use Rattle.hp_model.specs.MountCounts.{pages_at, usage_of}
-use Rattle.hp_model.specs.Plan.{Slot, Outcome, Refused, Answered, Plan, Finish, Ask, Choice, refuse, unless, continued, and_then, grant, grant_page, reserved_page, when_granted, may_lack_room, slot_committed, slot_pages_at, puts_of, fall_of, gives}
+use Rattle.hp_model.specs.Plan.{Slot, Outcome, Refused, Answered, Plan, Finish, Ask, Choice, refuse, unless, continued, and_then, grant, grant_page, reserved_page, when_granted, slot_committed, slot_pages_at, puts_of, fall_of, gives}
 use Rattle.hp_model.specs.declared.section.Section.TheVariants.{Grant, GiveBack}
 use Rattle.hp_model.specs.declared.limits.Limits.{Limits}
 use Rattle.hp_laws.proofs.MountMoves.{MountGrows, MountFalls}
@@ -100,10 +100,10 @@ balanced_grant_page c m home n grows =
     balanced_test (Some m) (is_full m 1) MountFull ((c.refused, OutOfMemory) ∷ []) _
     (λ room. ((λ a. page_granted m n (Refused NoPages) a.granted a.node room (grows a.node) (stays (Some m))), (λ p. refl)))
 
-pub balanced_reserved_page : (c : Choice) (m : Mount) (home : ℕ) (n : ℕ → Mount) → ((node : ℕ) → MountGrows m (n node) node 1 0)
-    → IsBalanced (Some m) (reserved_page c home (λ node. Answered Done (Some (n node))))
-balanced_reserved_page c m home n grows =
-    balanced_unless (Some m) ((may_lack_room && c.refused, OutOfMemory) ∷ []) _ ((λ a. grown_reserved m (n a.node) a.node (grows a.node)), (λ p. refl))
+pub balanced_reserved_page : (m : Mount) (home : ℕ) (n : ℕ → Mount) → ((node : ℕ) → MountGrows m (n node) node 1 0)
+    → IsBalanced (Some m) (reserved_page home (λ node. Answered Done (Some (n node))))
+balanced_reserved_page m home n grows =
+    ((λ a. grown_reserved m (n a.node) a.node (grows a.node)), (λ p. refl))
 
 -- ---- reservations
 

@@ -24,7 +24,7 @@ either b p q hp hq = always_if KeepsGoing b p q (λ e. hp) (λ e. hq)
 
 shared_keeps : (c : Choice) (size : ℕ) (m : Mount) (s : Spot) (home i : ℕ) (cell : Cell Page) → IsTrue (is_entered cell) → NeverWantsPages (shared_access c size m s home i cell)
 shared_keeps c size m s home i (Present page) e = tt
-shared_keeps c size m s home i Entered e = either c.refused _ _ refl (λ a. tt)
+shared_keeps c size m s home i Entered e = λ a. tt
 shared_keeps c size m s home i Hole e = cc
 
 the_first : (b : Bool) (p q : Plan) → b ≡ true → NeverWantsPages p → NeverWantsPages (if b then p else q)
@@ -36,10 +36,10 @@ owner_keeps m s home stamp fresh h = either (is_full m 1) _ _ tt (λ a. outcome_
 
 pub copy_keeps : OwnerWrites
 copy_keeps c m s home i consumed copy e =
-    either (is_held_once s.file copy.stamp) _ _ tt (the_first s.map.owner _ _ e (either c.refused _ _ refl (owner_keeps m s home copy.stamp _ (λ n. tt))))
+    either (is_held_once s.file copy.stamp) _ _ tt (the_first s.map.owner _ _ e (owner_keeps m s home copy.stamp _ (λ n. tt)))
 
 new_keeps : (c : Choice) (size : ℕ) (m : Mount) (s : Spot) (home i : ℕ) → s.map.owner ≡ true → NeverWantsPages (new_copy c size m s home i false)
-new_keeps c size m s home i e = the_first (s.map.owner && true) _ _ (ap (λ b. b && true) e) (either c.refused _ _ refl (λ a. tt))
+new_keeps c size m s home i e = the_first (s.map.owner && true) _ _ (ap (λ b. b && true) e) (λ a. tt)
 
 uncopied_keeps : (c : Choice) (size : ℕ) (m : Mount) (s : Spot) (home i : ℕ) (intent : Intent) → s.map.owner ≡ true → NeverWantsPages (uncopied_access c size m s home i false intent)
 uncopied_keeps c size m s home i Write e = new_keeps c size m s home i e

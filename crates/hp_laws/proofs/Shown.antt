@@ -16,7 +16,7 @@ use Rattle.hp_model.specs.File.{File, Mount, cell_at, has_page, new_file, with_c
 use Rattle.hp_model.specs.Grant.{is_full, rise}
 use Rattle.hp_model.specs.Mapping.{Map, copy_of, is_shared, place_at, with_place}
 use Rattle.hp_model.specs.Page.{Page, Copy, zeros}
-use Rattle.hp_model.specs.Plan.{Outcome, Refused, Answered, Plan, Finish, Ask, Choice, continued, refuse, grant_page, reserved_page, when_granted, may_lack_room}
+use Rattle.hp_model.specs.Plan.{Outcome, Refused, Answered, Plan, Finish, Ask, Choice, continued, refuse, grant_page, reserved_page, when_granted}
 use Rattle.hp_model.specs.declared.section.Section.TheVariants.{GrantPage}
 use Rattle.hp_model.specs.Promises.{file_in, map_in, no_map}
 use Rattle.hp_model.specs.Spot.{Spot, again, copied}
@@ -108,8 +108,8 @@ on_grant_page Q c m home n h =
     always_test (On Q) (is_full m 1) MountFull _ tt
     (λ e. always_test (On Q) c.refused OutOfMemory (Ask (λ nr. GrantPage home (rise m 1)) (λ a. when_granted (Answered Done (Some (n a.node))) a)) tt (λ f a. on_granted Q a.granted (n a.node) (h a.node)))
 
-pub on_reserved_page : (Q : Mount → Type 0) (c : Choice) (home : ℕ) (n : ℕ → Mount) → ((node : ℕ) → Q (n node)) → Always (On Q) (reserved_page c home (λ node. Answered Done (Some (n node))))
-on_reserved_page Q c home n h = always_test (On Q) (may_lack_room && c.refused) OutOfMemory _ tt (λ f a. h a.node)
+pub on_reserved_page : (Q : Mount → Type 0) (home : ℕ) (n : ℕ → Mount) → ((node : ℕ) → Q (n node)) → Always (On Q) (reserved_page home (λ node. Answered Done (Some (n node))))
+on_reserved_page Q home n h = λ a. h a.node
 
 pub on_weaker : (Q R : Mount → Type 0) → ((n : Mount) → Q n → R n) → (o : Outcome) → On Q o → On R o
 on_weaker Q R h (Refused r) on = tt
@@ -232,7 +232,7 @@ module _ (size : ℕ) (m : Mount) (s : Spot) (at : IsSpot m s) (i : ℕ) where
   module _ (c : Choice) (home : ℕ) where
     shared_same : (cell : Cell Page) → i < length s.file.cells → cell_at s.file i ≡ cell → Always (On Same) (shared_access c size m s home i cell)
     shared_same (Present page) l is = stays_same (λ e. ap has_page is)
-    shared_same Entered l is = on_reserved_page Same c home _ (λ node. fill_same node l (ap (shown size) is))
+    shared_same Entered l is = on_reserved_page Same home _ (λ node. fill_same node l (ap (shown size) is))
     shared_same Hole l is = on_grant_page Same c m home _ (λ node. fill_same node l (ap (shown size) is))
 
     module _ (apart : is_shared s.map.sharing ≡ false) where
@@ -241,8 +241,8 @@ module _ (size : ℕ) (m : Mount) (s : Spot) (at : IsSpot m s) (i : ℕ) where
 
       new_same : (consumed : Bool) → place_at s.map i ≡ Live consumed None → Always (On Copied) (new_copy c size m s home i consumed)
       new_same consumed is =
-          always_if (On Copied) (s.map.owner && not consumed) (reserved_page c home (λ node. copied m s i true (fresh node))) (grant_page c m home (λ node. copied m s i consumed (fresh node)))
-          (λ e. on_reserved_page Copied c home _ (λ node. copied_done consumed true None (fresh node) apart is refl))
+          always_if (On Copied) (s.map.owner && not consumed) (reserved_page home (λ node. copied m s i true (fresh node))) (grant_page c m home (λ node. copied m s i consumed (fresh node)))
+          (λ e. on_reserved_page Copied home _ (λ node. copied_done consumed true None (fresh node) apart is refl))
           (λ e. on_grant_page Copied c m home _ (λ node. copied_done consumed consumed None (fresh node) apart is refl))
 
       idle : Same m
@@ -278,13 +278,12 @@ module _ (size : ℕ) (m : Mount) (s : Spot) (at : IsSpot m s) (i : ℕ) where
           let own : ℕ → Mount = λ node. with_file m s.file_no (with_map s.file s.map_no (with_place s.map i (Live consumed (Some (record { stamp = c.stamp; page = record { node = node; bytes = copy.page.bytes } }))))) in
           let fresh_copy : ℕ → Outcome = λ node. Answered Done (Some (own node)) in
           let back : Outcome = taken_back m s copy.stamp in
-          let owns : Plan = if may_lack_room && c.refused then refuse OutOfMemory else owner_write m s home copy.stamp fresh_copy in
+          let owns : Plan = owner_write m s home copy.stamp fresh_copy in
           let asks : Plan = grant_page c m home fresh_copy in
           always_if (On Result) (is_held_once s.file copy.stamp) (Finish (Answered Done (Some m))) (if s.map.owner then owns else asks) (λ e. inl (idle, λ other. kept_own consumed copy is))
           (λ more. always_if (On Result) s.map.owner owns asks
-          (λ owner. always_test (On Result) (may_lack_room && c.refused) OutOfMemory (owner_write m s home copy.stamp fresh_copy) tt
-          (λ f. always_if (On Result) (is_full m 1) (Finish back) (Ask (λ nr. GrantPage home (rise m 1)) (λ a. if a.granted then fresh_copy a.node else back)) (λ full. take_back consumed copy owner is)
-          (λ room a. owner_or a.granted (own a.node) (robbed_mount copy.stamp) (inl (copied_same consumed copy a.node is)) (take_back consumed copy owner is))))
+          (λ owner. always_if (On Result) (is_full m 1) (Finish back) (Ask (λ nr. GrantPage home (rise m 1)) (λ a. if a.granted then fresh_copy a.node else back)) (λ full. take_back consumed copy owner is)
+          (λ room a. owner_or a.granted (own a.node) (robbed_mount copy.stamp) (inl (copied_same consumed copy a.node is)) (take_back consumed copy owner is)))
           (λ other. on_grant_page Result c m home own (λ node. inl (copied_same consumed copy node is))))
 
       write_private : (p : Place Copy) → place_at s.map i ≡ p → Always (On Result) (private_access c size m s home i p Write)

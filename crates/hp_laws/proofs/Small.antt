@@ -44,7 +44,7 @@ use Rattle.hp_model.specs.Mapping.{is_map, is_of, is_shared, place_at}
 use Rattle.hp_model.specs.NodeRows.{IsRow, total_of, frames_of}
 use Rattle.hp_model.specs.Page.{Copy, Page}
 use Rattle.hp_model.specs.PoolCounts.{Pool}
-use Rattle.hp_model.specs.Plan.{Ask, grant_page, may_lack_room, reserved_page, when_granted, with_value, Reply, Slot, Outcome, Refused, Answered, Plan, Finish, Choice, unless, continued, grant, gives}
+use Rattle.hp_model.specs.Plan.{Ask, grant_page, reserved_page, when_granted, with_value, Reply, Slot, Outcome, Refused, Answered, Plan, Finish, Choice, unless, continued, grant, gives}
 use Rattle.hp_model.specs.Profile.{most_overcommit, most_bytes, most_file_pages, most_files, most_map_pages, most_maps}
 use Rattle.hp_model.specs.Promises.{is_usage}
 use Rattle.hp_model.specs.Resize.{no_count, node_count, pool_event}
@@ -239,24 +239,20 @@ module _ (c : Choice) (size : ℕ) (m : Mount) (s : Spot) (home i : ℕ) where
       always_unless Small (λ r. tt) ((is_full m 1, MountFull) ∷ (c.refused, OutOfMemory) ∷ []) (Ask (λ nr. GrantPage home (rise m 1)) (λ a. when_granted (f a.node) a))
       (λ a. granted_small a.granted (f a.node) (h a.node))
 
-  taken_small : (f : ℕ → Outcome) → ((node : ℕ) → Small (f node)) → Always Small (reserved_page c home f)
-  taken_small f h = always_unless Small (λ r. tt) ((may_lack_room && c.refused, OutOfMemory) ∷ []) (Ask (λ nr. TakePage home) (λ a. f a.node)) (λ a. h a.node)
-
   shared_small : (cell : Cell Page) → Always Small (shared_access c size m s home i cell)
   shared_small (Present page) = tt
-  shared_small Entered = taken_small _ (λ node. tt)
+  shared_small Entered = λ a. tt
   shared_small Hole = page_small _ (λ node. tt)
 
   copy_small : (consumed : Bool) → Always Small (new_copy c size m s home i consumed)
-  copy_small consumed = always_if Small (s.map.owner && not consumed) _ _ (λ e. taken_small _ (λ node. tt)) (λ e. page_small _ (λ node. tt))
+  copy_small consumed = always_if Small (s.map.owner && not consumed) _ _ (λ e a. tt) (λ e. page_small _ (λ node. tt))
 
   write_small : (consumed : Bool) (copy : Copy) → Always Small (copy_write c m s home i consumed copy)
   write_small consumed copy =
       let fresh : ℕ → Outcome = λ node. copied m s i consumed (record { stamp = c.stamp; page = record { node = node; bytes = copy.page.bytes } }) in
       always_if Small (is_held_once s.file copy.stamp) _ _ (λ e. tt)
       (λ e. always_if Small s.map.owner _ _
-      (λ owner. always_unless Small (λ r. tt) ((may_lack_room && c.refused, OutOfMemory) ∷ []) (owner_write m s home copy.stamp fresh)
-      (always_if Small (is_full m 1) _ _ (λ full. tt) (λ room a. outcome_if Small a.granted (fresh a.node) (taken_back m s copy.stamp) tt tt)))
+      (λ owner. always_if Small (is_full m 1) _ _ (λ full. tt) (λ room a. outcome_if Small a.granted (fresh a.node) (taken_back m s copy.stamp) tt tt))
       (λ other. page_small _ (λ node. tt)))
 
   private_small : (p : Place Copy) (intent : Intent) → Always Small (private_access c size m s home i p intent)

@@ -18,7 +18,7 @@ use Rattle.hp_model.specs.Value.{value}
 
 abbrev pub shared_access : Choice → ℕ → Mount → Spot → (home i : ℕ) → Cell Page → Plan
 shared_access c size m s home i (Present page) = Finish (Answered Done (Some m))
-shared_access c size m s home i Entered = reserved_page c home (λ node. filled m s i (record { node = node; bytes = zeros size }))
+shared_access c size m s home i Entered = reserved_page home (λ node. filled m s i (record { node = node; bytes = zeros size }))
 shared_access c size m s home i Hole = grant_page c m home (λ node. filled m s i (record { node = node; bytes = zeros size }))
 
 -- a private copy of what the map shows: by the owner's reservation, which is consumed, else by a grant
@@ -26,7 +26,7 @@ abbrev pub new_copy : Choice → ℕ → Mount → Spot → (home i : ℕ) → B
 new_copy c size m s home i consumed =
     let fresh : ℕ → Copy = λ node. record { stamp = c.stamp; page = record { node = node; bytes = value size s.file s.map i } } in
     if s.map.owner && not consumed
-    then reserved_page c home (λ node. copied m s i true (fresh node))
+    then reserved_page home (λ node. copied m s i true (fresh node))
     else grant_page c m home (λ node. copied m s i consumed (fresh node))
 
 abbrev pub uncopied_access : Choice → ℕ → Mount → Spot → (home i : ℕ) → Bool → Intent → Plan

@@ -9,7 +9,7 @@ use Rattle.hp_model.specs.Grant.{is_full, rise}
 use Rattle.hp_model.specs.Mapping.{Map, copy_of, without_copy}
 use Rattle.hp_model.specs.MountCounts.{stamps_of}
 use Rattle.hp_model.specs.Page.{Copy}
-use Rattle.hp_model.specs.Plan.{Outcome, Answered, Plan, Finish, Ask, Choice, grant_page, unless, may_lack_room}
+use Rattle.hp_model.specs.Plan.{Outcome, Answered, Plan, Finish, Ask, Choice, grant_page}
 use Rattle.hp_model.specs.Pool.{GrantPage}
 use Rattle.hp_model.specs.Spot.{Spot, copied}
 
@@ -40,5 +40,5 @@ abbrev pub copy_write : Choice → Mount → Spot → (home i : ℕ) → Bool �
 copy_write c m s home i consumed copy =
     let fresh : ℕ → Outcome = λ node. copied m s i consumed (record { stamp = c.stamp; page = record { node = node; bytes = copy.page.bytes } }) in
     if is_held_once s.file copy.stamp then Finish (Answered Done (Some m))
-    else if s.map.owner then unless ((may_lack_room && c.refused, OutOfMemory) ∷ []) (owner_write m s home copy.stamp fresh)
+    else if s.map.owner then owner_write m s home copy.stamp fresh
     else grant_page c m home fresh

@@ -71,13 +71,9 @@ grant_page c m home f =
     unless ((is_full m 1, MountFull) ∷ (c.refused, OutOfMemory) ∷ [])
     (Ask (λ nr. GrantPage home (rise m 1)) (λ a. when_granted (f a.node) a))
 
--- until a mount keeps room for each reservation, an access by one may be refused memory, and so may an owner's write into its copy
-abbrev pub may_lack_room : Bool
-may_lack_room = true
-
--- a page for a reservation that is held
-abbrev pub reserved_page : Choice → (home : ℕ) → (ℕ → Outcome) → Plan
-reserved_page c home f = unless ((may_lack_room && c.refused, OutOfMemory) ∷ []) (Ask (λ nr. TakePage home) (λ a. f a.node))
+-- a page for a reservation that is held, for which there is room
+abbrev pub reserved_page : (home : ℕ) → (ℕ → Outcome) → Plan
+reserved_page home f = Ask (λ nr. TakePage home) (λ a. f a.node)
 
 -- ---- giving back
 

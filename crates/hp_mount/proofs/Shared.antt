@@ -53,7 +53,7 @@ module _ {X : Type 0} (took : X → Section → PoolAnswer → X → Type 0) (fu
         c,
         is_fresh false (Some m),
         subst (λ x. ThroughDoor took (shared_access c size m s home i x) (Some m) door (Ok Done) (Some n) left) (sym (cell_here Entered e))
-            (page_reserved took m c home (λ node. filled m s i (record { node = node; bytes = zeros size })) door left page.node (Ok Done) (Some n) refl t
+            (page_reserved took m c home (λ node. filled m s i (record { node = node; bytes = zeros size })) door left page.node (Ok Done) (Some n) t
             (refl, ap Some (n_is ∙ sym (filled_is page) ∙ ap (λ b. with_file m s.file_no (with_cell s.file i (Present (record { node = page.node; bytes = b })))) bytes))),
       )
 

@@ -73,9 +73,8 @@ module _ {X : Type 0} (took : X → Section → PoolAnswer → X → Type 0) (m 
     page_granted left node reply new e z t h = tests false false e z reply new left (granted_at node, t, h)
 
     -- a page by a reservation
-    pub page_reserved : (left : X) (node : ℕ) (reply : Reply) (new : Slot) → c.refused ≡ false → took door (TakePage home) (granted_at node) left → Gives (f node) (Some m) reply new → goes (reserved_page c home f) door reply new left
-    page_reserved left node reply new z t h =
-        subst (λ b. goes (cond b (refuse r.OutOfMemory) (Ask (λ nr. TakePage home) (λ a. f a.node))) door reply new left) (sym z) (granted_at node, t, h)
+    pub page_reserved : (left : X) (node : ℕ) (reply : Reply) (new : Slot) → took door (TakePage home) (granted_at node) left → Gives (f node) (Some m) reply new → goes (reserved_page home f) door reply new left
+    page_reserved left node reply new t h = (granted_at node, t, h)
 
   -- ---- what follows an access, whatever it is
 
