@@ -1,4 +1,4 @@
--- From events of a slot to steps: what each event that is built keeps of its slot, each step keeps of all slots but those that it unmounts.
+-- From events of a slot to steps: what each event keeps of its slot, each step keeps of all slots but those that it unmounts.
 use Rattle.std.proofs.Common.{◌≡◌, inl, inr, subst, ℕ, ◌<◌, Bool, true, false, None, Some, Ok, List, [], length, refl, sym, ap}
 use Rattle.std.specs.List.{slice_index_or, slice_set}
 use Rattle.std.proofs.lemmas.Bool.{cases_eq, eq-eqb, ltb-true}

@@ -1,4 +1,4 @@
--- What is shown by place is shown by name and number, where these stay in place.
+-- What a name's file and a number's map show is what stands at their places.
 use Rattle.std.proofs.Common.{◌≡◌, ℕ, None, Some, List, sym, ap, ◌∙◌}
 use Rattle.std.specs.List.{slice_index_or}
 use Rattle.hp_model.specs.File.{File, cell_at, new_file}

@@ -1,4 +1,4 @@
--- What maps show after a store.
+-- What maps show after a store, and after a fault that writes.
 use Rattle.std.proofs.Common.{◌≡◌, ⊎_elim, inl, inr, ◌⊎◌, map, ℕ, ◌-◌, Bool, true, false, ◌&&◌, ◌==◌, not, Option, None, Some, is_some, List, set, refl, sym, ap, ◌∙◌, subst, arith, if◌then◌else◌, nat_lt}
 use Rattle.std.specs.List.{slice_index_or, list_any}
 use Rattle.std.proofs.lemmas.Bool.{cases_eq, cond_both, eq-eqb, ltb-false, eqb-true, eqb-false}

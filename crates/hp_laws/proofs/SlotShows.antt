@@ -1,7 +1,7 @@
--- What a slot's files show after each event that is built, and what a load answers.
-use Rattle.std.proofs.Common.{◌≡◌, ◌⊎◌, ℕ, zero, suc, ◌+◌, ◌<◌, ◌≤◌, Bool, true, false, ◌&&◌, ◌||◌, ◌==◌, not, Option, None, Some, is_some, Result as ResultOf, Ok, Err, List, [], ◌∷◌, length, length-append, replicate, refl, sym, ap, ◌∙◌, arith, if◌then◌else◌, nat_lt, nat_le, ◌-◌}
-use Rattle.std.specs.List.{flat_map, slice_index_or, sum}
-use Rattle.std.proofs.lemmas.Bool.{cond_both, leb-false, ltb-false}
+-- What a slot's files show after a file or a map is made, a load and a store, and what a load answers.
+use Rattle.std.proofs.Common.{◌≡◌, ◌⊎◌, ℕ, zero, suc, ◌+◌, ◌<◌, Bool, true, false, ◌&&◌, ◌||◌, ◌==◌, not, Option, None, Some, is_some, Result as ResultOf, Ok, Err, List, [], ◌∷◌, length, replicate, refl, sym, ap, ◌∙◌, if◌then◌else◌, nat_lt, nat_le, ◌-◌}
+use Rattle.std.specs.List.{slice_index_or, sum}
+use Rattle.std.proofs.lemmas.Bool.{cond_both, leb-false}
 use Rattle.hp_model.specs.declared.answer.Answer.{Answer}
 use Rattle.hp_model.specs.declared.answer.Answer.TheVariants.{Done, MapNo}
 use Rattle.hp_model.specs.declared.cell.Cell.{Cell}
@@ -11,25 +11,25 @@ use Rattle.hp_model.specs.declared.limits.Limits.{Limits}
 use Rattle.hp_model.specs.declared.place.Place.{Place}
 use Rattle.hp_model.specs.declared.place.Place.TheVariants.{Gone, Live}
 use Rattle.hp_model.specs.declared.refusal.Refusal.{Refusal}
-use Rattle.hp_model.specs.declared.refusal.Refusal.TheVariants.{NoPages, MountFull, OutOfMemory, OutOfRange, CrossesPage, TooMany, BeyondEnd, NoSuchMap, NoSuchFile, BadName, FileExists, NoInodes, NoSuchSlot, SlotTaken, Busy}
+use Rattle.hp_model.specs.declared.refusal.Refusal.TheVariants.{NoPages, MountFull, OutOfMemory, OutOfRange, CrossesPage, TooMany, BeyondEnd, NoSuchMap, NoSuchFile, BadName, FileExists, NoInodes}
 use Rattle.hp_model.specs.declared.step.Intent.{Intent}
 use Rattle.hp_model.specs.declared.step.Intent.TheVariants.{Read, Write}
 use Rattle.hp_model.specs.declared.step.Reserving.{Reserving}
 use Rattle.hp_model.specs.declared.step.Sharing.{Sharing}
 use Rattle.hp_model.specs.Access.{access}
 use Rattle.hp_laws.specs.Balance.{left_by}
-use Rattle.hp_model.specs.File.{File, Mount, at_least, entered, maps_of, new_file, with_file}
+use Rattle.hp_model.specs.File.{File, Mount, at_least, entered, new_file, with_file}
 use Rattle.hp_model.specs.Grant.{is_full, is_over, rise}
 use Rattle.hp_model.specs.MakeMap.{asked, mapped, new_map, next_number, reserves, with_new}
 use Rattle.hp_model.specs.Lists.{edit_range}
 use Rattle.hp_model.specs.Mapping.{Map, copy_of, is_map, is_shared, place_at}
 use Rattle.hp_model.specs.Options.{limits, wanted_of}
-use Rattle.hp_model.specs.Page.{Page, Copy, zeros}
+use Rattle.hp_model.specs.Page.{Page, Copy}
 use Rattle.hp_model.specs.Plan.{Slot, Outcome, Refused, Answered, Plan, Finish, Ask, Choice, refuse, unless, with_value, continued, grant, when_granted, gives, puts_of, fall_of}
 use Rattle.hp_model.specs.declared.section.Section.TheVariants.{Grant, GiveBack}
 use Rattle.hp_model.specs.Profile.{most_bytes, most_file_pages, most_files, most_map_pages}
 use Rattle.hp_model.specs.Promises.{file_in, spot_on, IsLoaded, shown_on, seen_on, map_in, map_on, no_map, over, is_shared_of, reaches}
-use Rattle.hp_model.specs.SlotEvent.{anon_tests, are_too_many_maps, byte_access, bytes_answer, file_named, has_maps, has_name, is_beyond, is_name, is_unmapped, load, map_file, mount_on, mount_outcome, slot_event, store}
+use Rattle.hp_model.specs.SlotEvent.{anon_tests, are_too_many_maps, byte_access, bytes_answer, file_named, has_name, is_beyond, is_name, is_unmapped, load, map_file, mount_on, mount_outcome, slot_event, store}
 use Rattle.hp_model.specs.Sound.{IsSound, IsSoundMount}
 use Rattle.hp_model.specs.Spot.{Spot, again, spot, written}
 use Rattle.hp_model.specs.Value.{shown, value}
@@ -125,19 +125,6 @@ none_at task number a n sharing reserving x =
 none_past : (x : ℕ) → copy_of (place_at no_map x) ≡ None
 none_past x = cond_both (nat_lt x 0) Gone Gone (λ (p : Place Copy). copy_of p ≡ None) (λ e. refl) (λ e. refl)
 
--- of a file without pages a map without copies shows zeros
-bare_seen : (size x : ℕ) → value size (new_file None) no_map x ≡ zeros size
-bare_seen size x = ap (λ (o : Option Copy). elim o [ None ↦ zeros size | Some copy ↦ copy.page.bytes ]) (none_past x)
-
--- a new mount shows what a slot without one does
-pub mount_quiet : (size k : ℕ) (c : Choice) (old : Slot) (options : List ℕ) → Always (Quiet size old) (slot_event size k c old (slot.Mount options))
-mount_quiet size k c None options = always_mount (Quiet size None) (refused_quiet size None) (λ l. (λ j x. refl, λ j n x. bare_seen size x, λ j n. refl)) c size options
-mount_quiet size k c (Some m) options = refused_quiet size (Some m) SlotTaken
-
-pub usage_quiet : (size k : ℕ) (c : Choice) (old : Slot) → Always (Quiet size old) (slot_event size k c old slot.Df)
-usage_quiet size k c None = refused_quiet size None NoSuchSlot
-usage_quiet size k c (Some m) = (λ j x. refl, λ j l x. refl, λ j l. refl)
-
 mapped_seen : (size task number a n : ℕ) (sharing : Sharing) (reserving : Reserving) (f : File) (l x : ℕ) → seen size l x (mapped task number a n sharing reserving f) ≡ seen size l x f
 mapped_seen size task number a n sharing reserving f l x =
     let more : Map = new_map task number a n sharing reserving in
@@ -184,30 +171,6 @@ anon_quiet size k c m task home n sharing reserving =
       λ j l x. same_more (seen size l x) bare m.files (f ∷ []) (λ i. same_one (seen size l x) bare f (mapped_seen size task number 0 n sharing reserving bare l x) i) j,
       λ j l. same_more (marked l) bare m.files (f ∷ []) (λ i. same_one (marked l) bare f (mapped_marks task number 0 n sharing reserving bare l) i) j,
     ))
-
--- ---- umounts
-
--- a mount goes only where none of its files has a map, and so none that is marked
-abbrev pub Unmounts : Slot → Outcome → Type 0
-Unmounts old (Refused r) = Unit {0}
-Unmounts old (Answered a new) = (j l : ℕ) → (map_on old j l).unmapped ≡ false
-
-not_marked : (fs : List File) → length (flat_map (λ f. f.maps) fs) ≤ 0 → (j l : ℕ) → (map_in (slice_index_or fs j (new_file None)) l).unmapped ≡ false
-not_marked [] none j l = refl
-not_marked (f ∷ fs) none zero l = by_maps f.maps (omega (arith, none, length-append f.maps (flat_map (λ g. g.maps) fs)))
-  where
-    by_maps : (ms : List Map) → length ms ≤ 0 → (slice_index_or ms l no_map).unmapped ≡ false
-    by_maps [] few = refl
-    by_maps (y ∷ ys) few = absurd (omega (arith, few))
-not_marked (f ∷ fs) none (suc j) l = not_marked fs (omega (arith, none, length-append f.maps (flat_map (λ g. g.maps) fs))) j l
-
-pub umount_ends : (size k : ℕ) (c : Choice) (old : Slot) → Always (Unmounts old) (slot_event size k c old slot.Umount)
-umount_ends size k c None = tt
-umount_ends size k c (Some m) =
-    let P = Unmounts (Some m) in
-    let rest : Plan = gives Done (Some m) None in
-    always_test P (k == 0) Busy (unless ((has_maps m, Busy) ∷ []) rest) tt
-    (λ e. always_test P (has_maps m) Busy rest tt (λ g. always_gives P Done (Some m) None (not_marked m.files (ltb-false 0 (length (maps_of m)) g))))
 
 -- ---- accesses
 

@@ -1,4 +1,4 @@
--- What files show after each event that is built.
+-- What files show after a store.
 use Rattle.std.proofs.Common.{◌≡◌, ⊎_elim, ℕ, Bool, true, false, ◌&&◌, ◌==◌, None, List, refl, sym, ap, ◌∙◌, subst, if◌then◌else◌}
 use Rattle.std.proofs.lemmas.Bool.{cond_both, eqb-true, eqb-false}
 use Rattle.hp_model.specs.declared.cell.Cell.{Cell}

@@ -10,7 +10,7 @@ use Rattle.hp_model.specs.declared.step.Reserving.TheVariants.{Reserve, NoReserv
 use Rattle.hp_model.specs.declared.step.Sharing.TheVariants.{Shared, Private}
 use Rattle.hp_model.specs.declared.step.Step.{Step}
 use Rattle.hp_model.specs.declared.step.Step.TheVariants.{Connect, Create, Df, Fork, Load, Map, Meminfo, Mount, Nr, Punch, Store, Truncate, Unmap}
-use Rattle.hp_model.specs.declared.place.Place.TheVariants.{Live}
+use Rattle.hp_model.specs.declared.place.Place.TheVariants.{Gone, Live}
 use Rattle.hp_model.specs.File.{File, cell_at, new_file, with_file, with_map}
 use Rattle.hp_model.specs.Machine.{committed_pages, counts_in, pool_of}
 use Rattle.hp_model.specs.Mapping.{Map as MapOf, copy_of, is_shared, no_map, place_at, with_place}
@@ -346,3 +346,20 @@ is_shared_now still = (let wrong : true ≡ false = ap (λ (x : Shape). is_share
 
 is_owner_now : Kept (kept_as (λ x. record x { owner = true })) → ⊥
 is_owner_now still = (let wrong : true ≡ false = ap (λ (x : Shape). x.owner) still.shape in cc)
+
+-- ---- an unmap takes the map that it names, whatever other maps there are
+
+abbrev two_maps : State
+two_maps =
+    after_all machine
+    (Nr 2 ∷ Connect 1 0 ∷ Create 0 (codes "a") ∷ Map 1 0 (codes "a") 0 1 Shared Reserve ∷ Map 1 0 (codes "a") 0 1 Shared NoReserve ∷ [])
+
+-- the second map has no index, as no run leaves it
+abbrev one_unmapped : State
+one_unmapped = (plain_step (with_map_of 1 (record (map_at two_maps 0 0 1) { places = Gone ∷ [] }) two_maps) (Unmap 1 0 1 0 1)).1
+
+named_goes : is_some (map_named one_unmapped 0 1 1) ≡ false
+named_goes = refl
+
+other_stays : is_some (map_named one_unmapped 0 1 2) ≡ true
+other_stays = refl
