@@ -8,7 +8,7 @@ use std::process::Abort;
 use std::test::Fail;
 
 // A file of so many indices, all holes.
-fn sized(rt: &impl Abort, alloc: Global, len: u64) -> Inode
+fn sized<R: Abort>(rt: &R, alloc: Global, len: u64) -> Inode
     requires { len < 2 ^ 32 }
 {
     let mut inode = Inode::new(alloc);
@@ -17,45 +17,82 @@ fn sized(rt: &impl Abort, alloc: Global, len: u64) -> Inode
     inode
 }
 
-fn missing(rt: &impl Abort, inode: &Inode, a: u64, b: u64) -> u64 {
+// So many indices of a range have no entry.
+fn lacks<R: Abort>(rt: &R, inode: &Inode, a: u64, b: u64, count: u64) {
     assert!(rt; b <= inode.len());
-    inode.missing(a, b)
+    assert_eq!(rt; inode.missing(a, b), count);
 }
 
-fn reserve(rt: &impl Abort, inode: &mut Inode, a: u64, b: u64) -> Result<(), AllocError> {
+// Whether an index is entered, and its page.
+fn shows<R: Abort>(rt: &R, inode: &Inode, i: u64, cell: (bool, Option<PageNo>)) {
+    assert_eq!(rt; (inode.entered(i), inode.page_at(i)), cell);
+}
+
+fn reserve<R: Abort>(rt: &R, inode: &mut Inode, a: u64, b: u64) -> Result<(), AllocError> {
     assert!(rt; b <= inode.len());
     inode.reserve_range(a, b)
 }
 
+// Where memory is refused, the file of 2,000 indices stays as it was, and so many lack an entry. It
+// is tried again.
+fn reserve_at_last<R: Abort>(
+    rt: &R,
+    inode: &mut Inode,
+    a: u64,
+    b: u64,
+    count: u64,
+) -> Result<(), AllocError> {
+    match reserve(rt, inode, a, b) {
+        Ok(()) => Ok(()),
+        Err(_) => {
+            has_len(rt, inode, 2000);
+            lacks(rt, inode, 0, 2000, count);
+            reserve(rt, inode, a, b)
+        }
+    }
+}
+
+fn has_len<R: Abort>(rt: &R, inode: &Inode, len: u64) {
+    assert_eq!(rt; inode.len(), len);
+}
+
+fn page(number: u32) -> Option<PageNo> {
+    Some(PageNo::new(number))
+}
+
 // Fills an index that is entered and has no page.
-fn fill(rt: &impl Abort, inode: &mut Inode, i: u64, page: u32) {
+fn fill<R: Abort>(rt: &R, inode: &mut Inode, i: u64, page: u32) {
     assert!(rt; inode.entered(i));
     assert!(rt; inode.page_at(i).is_none());
     inode.fill(i, PageNo::new(page));
 }
 
-// Drops the entries of a range that has no page.
-fn drop_entries(rt: &impl Abort, inode: &mut Inode, a: u64, b: u64) -> u64 {
+// The lowest page of a range goes.
+fn takes<R: Abort>(rt: &R, inode: &mut Inode, a: u64, b: u64, page: Option<PageNo>) {
+    assert_eq!(rt; inode.take_page(a, b), page);
+}
+
+// The entries of a range that has no page go.
+fn drops<R: Abort>(rt: &R, inode: &mut Inode, a: u64, b: u64, count: u64) {
     assert!(rt; b <= inode.len());
     assert!(rt; inode.take_page(a, b).is_none());
-    inode.drop_entries(a, b)
+    assert_eq!(rt; inode.drop_entries(a, b), count);
 }
 
 #[test]
 fn each_call_once(rt: HostRuntime) -> Result<(), Fail> {
     let mut inode = sized(&rt, rt.alloc(), 2000);
-    assert_eq!(rt; missing(&rt, &inode, 10, 1010), 1000);
+    lacks(&rt, &inode, 10, 1010, 1000);
     reserve(&rt, &mut inode, 10, 1010)?;
     fill(&rt, &mut inode, 600, 7);
     fill(&rt, &mut inode, 1009, 8);
-    assert_eq!(rt; inode.page_at(600), Some(PageNo::new(7)));
-    assert_eq!(rt; inode.page_at(601), None);
-    assert!(rt; inode.entered(601));
-    assert_eq!(rt; inode.take_page(0, 600), None);
-    assert_eq!(rt; inode.take_page(0, 2000), Some(PageNo::new(7)));
-    assert_eq!(rt; inode.take_page(0, 2000), Some(PageNo::new(8)));
-    assert!(rt; !inode.entered(600));
-    assert_eq!(rt; drop_entries(&rt, &mut inode, 0, 2000), 998);
+    shows(&rt, &inode, 600, (true, page(7)));
+    shows(&rt, &inode, 601, (true, None));
+    takes(&rt, &mut inode, 0, 600, None);
+    takes(&rt, &mut inode, 0, 2000, page(7));
+    takes(&rt, &mut inode, 0, 2000, page(8));
+    shows(&rt, &inode, 600, (false, None));
+    drops(&rt, &mut inode, 0, 2000, 998);
     Ok(())
 }
 
@@ -68,14 +105,12 @@ fn every_second_page_is_taken(rt: HostRuntime) -> Result<(), Fail> {
     }
     for i in 0..32768u32 {
         let at = 2 * u64::from(i);
-        assert_eq!(rt; inode.take_page(at, at + 2), Some(PageNo::new(2 * i)));
+        takes(&rt, &mut inode, at, at + 2, page(2 * i));
     }
     for i in 0..32768u32 {
-        assert!(rt; !inode.entered(2 * u64::from(i)));
-        assert_eq!(rt;
-            inode.page_at(2 * u64::from(i) + 1),
-            Some(PageNo::new(2 * i + 1))
-        );
+        let at = 2 * u64::from(i);
+        shows(&rt, &inode, at, (false, None));
+        shows(&rt, &inode, at + 1, (true, page(2 * i + 1)));
     }
     Ok(())
 }
@@ -84,21 +119,12 @@ fn every_second_page_is_taken(rt: HostRuntime) -> Result<(), Fail> {
 #[test]
 fn a_refusal_changes_nothing(rt: HostRuntime) -> Result<(), Fail> {
     let mut inode = sized(&rt, rt.alloc(), 2000);
-    if reserve(&rt, &mut inode, 0, 1000).is_err() {
-        assert_eq!(rt; inode.len(), 2000);
-        assert_eq!(rt; missing(&rt, &inode, 0, 2000), 2000);
-        reserve(&rt, &mut inode, 0, 1000)?;
-    }
+    reserve_at_last(&rt, &mut inode, 0, 1000, 2000)?;
     fill(&rt, &mut inode, 5, 9);
-    assert_eq!(rt; inode.len(), 2000);
-    if reserve(&rt, &mut inode, 600, 2000).is_err() {
-        assert_eq!(rt; inode.len(), 2000);
-        assert_eq!(rt; missing(&rt, &inode, 0, 2000), 1000);
-        assert_eq!(rt; inode.page_at(5), Some(PageNo::new(9)));
-        reserve(&rt, &mut inode, 600, 2000)?;
-    }
-    assert_eq!(rt; inode.len(), 2000);
-    assert_eq!(rt; missing(&rt, &inode, 0, 2000), 0);
+    reserve_at_last(&rt, &mut inode, 600, 2000, 1000)?;
+    shows(&rt, &inode, 5, (true, page(9)));
+    has_len(&rt, &inode, 2000);
+    lacks(&rt, &inode, 0, 2000, 0);
     Ok(())
 }
 
@@ -110,16 +136,18 @@ fn a_prepared_range_is_entered_or_left(rt: HostRuntime) -> Result<(), Fail> {
         Ok(ready) => ready.leave(),
         Err(inode) => inode,
     };
-    assert_eq!(rt; left.len(), 10);
-    assert!(rt; !left.entered(4));
+    has_len(&rt, &left, 10);
+    shows(&rt, &left, 4, (false, None));
     match left.prepare(4, 600) {
-        Ok(ready) => {
-            let entered = ready.enter();
-            assert_eq!(rt; entered.len(), 600);
-            assert!(rt; entered.entered(599));
-            assert!(rt; !entered.entered(3));
-        }
-        Err(inode) => assert_eq!(rt; inode.len(), 10),
+        Ok(ready) => is_entered(&rt, &ready.enter()),
+        Err(inode) => has_len(&rt, &inode, 10),
     }
     Ok(())
+}
+
+// The range from 4 up to 600 was entered.
+fn is_entered<R: Abort>(rt: &R, inode: &Inode) {
+    has_len(rt, inode, 600);
+    shows(rt, inode, 599, (true, None));
+    shows(rt, inode, 3, (false, None));
 }

@@ -29,15 +29,42 @@ fn forked_at_last<R: Abort>(rt: &R, map: &Mapping) -> Result<Mapping, AllocError
     match map.fork_for(8) {
         Ok(child) => Ok(child),
         Err(_) => {
-            assert_eq!(rt; map.lowest_copy(0, 200), Some(150));
-            assert!(rt; map.is_owner() && map.has_reserve(199));
+            shows(rt, map, 150, (true, true, page(5)));
+            shows(rt, map, 199, (true, true, None));
             map.fork_for(8)
         }
     }
 }
 
+fn forked(map: &Mapping) -> Result<Mapping, AllocError> {
+    map.fork_for(8)
+}
+
 fn page(number: u32) -> Option<PageNo> {
     Some(PageNo::new(number))
+}
+
+// The map's task, number, start and end.
+fn is_named<R: Abort>(rt: &R, map: &Mapping, named: [u64; 4]) {
+    assert_eq!(rt; [map.task(), map.number(), map.start(), map.end()], named);
+}
+
+// Whether the map is its owner's, shared, marked, and mapped at all.
+fn is_flagged<R: Abort>(rt: &R, map: &Mapping, flags: [bool; 4]) {
+    assert_eq!(rt;
+        [
+            map.is_owner(),
+            map.is_shared(),
+            map.is_unmapped(),
+            map.is_mapped()
+        ],
+        flags
+    );
+}
+
+// Whether an index is in the map and has its reservation, and its copy.
+fn shows<R: Abort>(rt: &R, map: &Mapping, i: u64, place: (bool, bool, Option<PageNo>)) {
+    assert_eq!(rt; (map.is_live(i), map.has_reserve(i), map.copy_at(i)), place);
 }
 
 // The reservation of an index in the map is used up.
@@ -52,34 +79,41 @@ fn set_copy<R: Abort>(rt: &R, map: &mut Mapping, i: u64, page: u32) {
     map.set_copy(i, PageNo::new(page));
 }
 
+// The lowest copy of a range goes.
+fn takes<R: Abort>(rt: &R, map: &mut Mapping, a: u64, b: u64, page: Option<PageNo>) {
+    assert_eq!(rt; map.take_copy(a, b), page);
+}
+
+// The copy of an index is taken away.
+fn take_away<R: Abort>(rt: &R, map: &mut Mapping, i: u64) {
+    assert!(rt; map.copy_at(i).is_some());
+    map.take_away(i);
+}
+
 // What a range frees, if it has no copy.
-fn freed(map: &mut Mapping, a: u64, b: u64) -> Option<u64>
+fn frees<R: Abort>(rt: &R, map: &mut Mapping, a: u64, b: u64, freed: u64)
     requires { a ≤ b }
 {
-    match map.lowest_copy(a, b) {
-        None => Some(map.unmap(a, b)),
-        Some(_) => None,
-    }
+    assert!(rt; map.lowest_copy(a, b).is_none());
+    assert_eq!(rt; map.unmap(a, b), freed);
 }
 
 #[test]
 fn a_map_of_four_pages(rt: HostRuntime) -> Result<(), Fail> {
     let mut map = owned(rt.alloc(), 10, 14)?;
-    assert_eq!(rt;
-        [map.task(), map.number(), map.start(), map.end()].as_slice(),
-        [7, 3, 10, 14].as_slice()
-    );
-    assert!(rt; map.is_owner() && !map.is_shared() && !map.is_unmapped() && map.is_mapped());
-    assert!(rt; !map.is_live(9) && map.is_live(13) && !map.is_live(14));
+    is_named(&rt, &map, [7, 3, 10, 14]);
+    is_flagged(&rt, &map, [true, false, false, true]);
     consume(&rt, &mut map, 10);
-    assert!(rt; !map.has_reserve(9) && !map.has_reserve(10) && map.has_reserve(11));
     set_copy(&rt, &mut map, 12, 5);
-    assert_eq!(rt; map.copy_at(12), page(5));
-    assert_eq!(rt; map.copy_at(13), None);
+    shows(&rt, &map, 9, (false, false, None));
+    shows(&rt, &map, 10, (true, false, None));
+    shows(&rt, &map, 12, (true, true, page(5)));
+    shows(&rt, &map, 13, (true, true, None));
+    shows(&rt, &map, 14, (false, false, None));
     assert_eq!(rt; map.lowest_copy(0, u64::MAX), Some(12));
-    assert_eq!(rt; map.take_copy(0, 12), None);
-    assert_eq!(rt; map.take_copy(0, 13), page(5));
-    assert_eq!(rt; map.copy_at(12), None);
+    takes(&rt, &mut map, 0, 12, None);
+    takes(&rt, &mut map, 0, 13, page(5));
+    shows(&rt, &map, 12, (true, true, None));
     Ok(())
 }
 
@@ -87,19 +121,16 @@ fn a_map_of_four_pages(rt: HostRuntime) -> Result<(), Fail> {
 fn a_child_of_a_map(rt: HostRuntime) -> Result<(), Fail> {
     let mut map = owned(rt.alloc(), 10, 14)?;
     set_copy(&rt, &mut map, 12, 5);
-    let mut child = map.fork_for(8)?;
-    assert_eq!(rt;
-        [child.task(), child.number(), child.start(), child.end()].as_slice(),
-        [8, 3, 10, 14].as_slice()
-    );
-    assert!(rt; !child.is_owner() && !child.has_reserve(11) && child.is_live(11));
-    assert_eq!(rt; child.copy_at(12), page(5));
-    if child.copy_at(12).is_some() {
-        child.take_away(12);
-    }
-    assert!(rt; child.is_unmapped() && !map.is_unmapped());
-    assert_eq!(rt; child.copy_at(12), None);
-    assert_eq!(rt; map.copy_at(12), page(5));
+    let mut child = forked(&map)?;
+    is_named(&rt, &child, [8, 3, 10, 14]);
+    is_flagged(&rt, &child, [false, false, false, true]);
+    shows(&rt, &child, 11, (true, false, None));
+    shows(&rt, &child, 12, (true, false, page(5)));
+    take_away(&rt, &mut child, 12);
+    shows(&rt, &child, 12, (true, false, None));
+    is_flagged(&rt, &child, [false, false, true, true]);
+    shows(&rt, &map, 12, (true, true, page(5)));
+    is_flagged(&rt, &map, [true, false, false, true]);
     Ok(())
 }
 
@@ -108,8 +139,8 @@ fn a_second_try_after_refused_memory(rt: HostRuntime) -> Result<(), Fail> {
     let mut map = owned_at_last(rt.alloc(), 0, 200)?;
     set_copy(&rt, &mut map, 150, 5);
     let child = forked_at_last(&rt, &map)?;
-    assert_eq!(rt; child.lowest_copy(0, 200), Some(150));
-    assert_eq!(rt; map.lowest_copy(0, 200), Some(150));
+    shows(&rt, &child, 150, (true, false, page(5)));
+    shows(&rt, &map, 150, (true, true, page(5)));
     Ok(())
 }
 
@@ -118,18 +149,18 @@ fn each_second_page_of_many_unmapped(rt: HostRuntime) -> Result<(), Fail> {
     let mut map = owned(rt.alloc(), 0, 65536)?;
     for half in 0..32768u64 {
         let at = 2 * half + 1;
-        assert_eq!(rt; freed(&mut map, at, at + 1), Some(1));
+        frees(&rt, &mut map, at, at + 1, 1);
     }
     for half in 0..32768u32 {
         let at = 2 * u64::from(half);
-        assert!(rt; !map.is_live(at + 1));
+        shows(&rt, &map, at + 1, (false, false, None));
         set_copy(&rt, &mut map, at, half);
     }
     for half in 0..32768u32 {
-        assert_eq!(rt; map.take_copy(0, 65536), page(half));
+        takes(&rt, &mut map, 0, 65536, page(half));
     }
     assert!(rt; map.is_mapped());
-    assert_eq!(rt; freed(&mut map, 0, 65536), Some(32768));
+    frees(&rt, &mut map, 0, 65536, 32768);
     assert!(rt; !map.is_mapped());
     Ok(())
 }

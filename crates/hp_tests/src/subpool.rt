@@ -5,6 +5,7 @@ ghost use Rattle.hp_pool.specs.Ledgers.{AreLedgers};
 
 use hp_model::naming::Naming;
 use hp_model::refusal::Refusal;
+use hp_nodes::Page;
 use hp_pool::{Blanks, Pool};
 use hp_subpool::Subpool;
 use std::alloc::Global;
@@ -19,32 +20,91 @@ fn shows<N: Naming, R: Abort>(rt: &R, pool: &Pool<N>, counts: [u64; 4])
     assert_eq!(rt; [now.total, now.free, now.rsvd, now.surp], counts);
 }
 
+// A mount's subpool whose minimum the pool can commit.
+fn opened<N: Naming, R: Abort>(rt: &R, pool: &mut Pool<N>, max: Option<u64>, min: u64) -> Subpool<N>
+    requires { IsSettled pool.old }
+    ensures { IsSettled pool.new }
+{
+    Subpool::open(pool, max, min).expect(rt, "fits")
+}
+
+// The pool can't commit a minimum.
+fn is_refused<N: Naming, R: Abort>(rt: &R, pool: &mut Pool<N>, min: u64)
+    requires { IsSettled pool.old }
+    ensures { IsSettled pool.new }
+{
+    match Subpool::open(pool, None, min) {
+        Ok(sub) => sub.close(pool),
+        Err(refusal) => assert_eq!(rt; refusal, Refusal::NoPages),
+    }
+    pool.settle();
+}
+
+// A request of so many pages is answered so.
+fn gets<N: Naming, R: Abort>(
+    rt: &R,
+    sub: &mut Subpool<N>,
+    pool: &mut Pool<N>,
+    k: u64,
+    reply: Result<(), Refusal>,
+)
+    requires { IsSettled pool.old }
+    ensures { IsSettled pool.new }
+{
+    assert!(rt; sub.used() < 8);
+    assert!(rt; k < 8);
+    assert_eq!(rt; sub.get(pool, 1, k), reply);
+}
+
+fn uses<N: Naming, R: Abort>(rt: &R, sub: &Subpool<N>, used: u64, own: u64) {
+    assert_eq!(rt; [sub.used(), sub.own_reserve()], [used, own]);
+}
+
+fn take<N: Naming, R: Abort>(rt: &R, sub: &mut Subpool<N>, pool: &mut Pool<N>) -> Page<N>
+    requires { IsSettled pool.old }
+    ensures { IsSettled pool.new }
+{
+    assert!(rt; sub.held() > 0);
+    sub.take_one(pool, 0)
+}
+
+fn put<N: Naming, R: Abort>(rt: &R, sub: &mut Subpool<N>, pool: &mut Pool<N>, page: Page<N>) {
+    assert!(rt; sub.used() > sub.held());
+    sub.put_page(pool, page);
+}
+
+// A subpool that nothing is used of ends.
+fn ends<N: Naming, R: Abort>(rt: &R, sub: Subpool<N>, pool: &mut Pool<N>)
+    ensures { IsSettled pool.new }
+{
+    assert_eq!(rt; sub.used(), 0);
+    sub.close(pool);
+    pool.settle();
+}
+
 // The minimum is filled again when the pages go.
 fn fills_the_minimum_again<N: Naming, R: Abort>(rt: &R, pool: &mut Pool<N>)
     requires { IsSettled pool.old }
     ensures { IsSettled pool.new }
 {
-    let mut sub = Subpool::open(pool, Some(3), 2).expect(rt, "fits");
+    let mut sub = opened(rt, pool, Some(3), 2);
     shows(rt, pool, [4, 4, 2, 0]);
-    assert_eq!(rt; sub.get(pool, 0, 3), Ok(()));
+    gets(rt, &mut sub, pool, 3, Ok(()));
     shows(rt, pool, [4, 4, 3, 0]);
-    assert_eq!(rt; sub.get(pool, 1, 1), Err(Refusal::MountFull));
-    assert_eq!(rt; sub.get(pool, 1, 0), Ok(()));
-    assert_eq!(rt; sub.used(), 3);
-    assert_eq!(rt; sub.own_reserve(), 0);
-    let first = sub.take_one(pool, 0);
-    let second = sub.take_one(pool, 0);
-    let third = sub.take_one(pool, 0);
+    gets(rt, &mut sub, pool, 1, Err(Refusal::MountFull));
+    gets(rt, &mut sub, pool, 0, Ok(()));
+    uses(rt, &sub, 3, 0);
+    let first = take(rt, &mut sub, pool);
+    let second = take(rt, &mut sub, pool);
+    let third = take(rt, &mut sub, pool);
     shows(rt, pool, [4, 1, 0, 0]);
-    sub.put_page(pool, first);
-    sub.put_page(pool, second);
-    sub.put_page(pool, third);
+    put(rt, &mut sub, pool, first);
+    put(rt, &mut sub, pool, second);
+    put(rt, &mut sub, pool, third);
     pool.settle();
     shows(rt, pool, [4, 4, 2, 0]);
-    assert_eq!(rt; sub.own_reserve(), 2);
-    assert_eq!(rt; sub.used(), 0);
-    sub.close(pool);
-    pool.settle();
+    uses(rt, &sub, 0, 2);
+    ends(rt, sub, pool);
     shows(rt, pool, [4, 4, 0, 0]);
 }
 
@@ -53,22 +113,18 @@ fn asks_the_minimum_first<N: Naming, R: Abort>(rt: &R, pool: &mut Pool<N>)
     requires { IsSettled pool.old }
     ensures { IsSettled pool.new }
 {
-    match Subpool::open(pool, None, 5) {
-        Ok(sub) => sub.close(pool),
-        Err(refusal) => assert_eq!(rt; refusal, Refusal::NoPages),
-    }
-    pool.settle();
+    is_refused(rt, pool, 5);
     shows(rt, pool, [4, 4, 0, 0]);
-    let mut sub = Subpool::open(pool, None, 4).expect(rt, "fits");
+    let mut sub = opened(rt, pool, None, 4);
     shows(rt, pool, [4, 4, 4, 0]);
-    assert_eq!(rt; sub.get(pool, 1, 4), Ok(()));
+    gets(rt, &mut sub, pool, 4, Ok(()));
     shows(rt, pool, [4, 4, 4, 0]);
-    assert_eq!(rt; sub.get(pool, 1, 1), Err(Refusal::NoPages));
+    gets(rt, &mut sub, pool, 1, Err(Refusal::NoPages));
+    assert!(rt; sub.held() == 4);
     sub.put_reserves(pool, 4);
     pool.settle();
     shows(rt, pool, [4, 4, 4, 0]);
-    sub.close(pool);
-    pool.settle();
+    ends(rt, sub, pool);
     shows(rt, pool, [4, 4, 0, 0]);
 }
 

@@ -4,13 +4,18 @@ use hp_model::answer::Counts;
 use hp_text::meminfo::meminfo_text;
 use hp_text::numbers::number_of;
 use hp_text::pieces::first_piece;
+use std::process::Abort;
 use std::test::Fail;
+
+fn means<R: Abort>(rt: &R, text: &[u8], number: Option<u64>) {
+    assert_eq!(rt; number_of(text), number);
+}
 
 #[test]
 fn reads_numbers(rt: HostRuntime) {
-    assert_eq!(rt; number_of(b"0"), Some(0));
-    assert_eq!(rt; number_of(b"00000000000000000007"), Some(7));
-    assert_eq!(rt; number_of(b"18446744073709551615"), Some(u64::MAX));
+    means(&rt, b"0", Some(0));
+    means(&rt, b"00000000000000000007", Some(7));
+    means(&rt, b"18446744073709551615", Some(u64::MAX));
     for text in [
         b"".as_slice(),
         b"-1",
@@ -20,22 +25,21 @@ fn reads_numbers(rt: HostRuntime) {
         b"18446744073709551616",
         b"000000000000000000001",
     ] {
-        assert_eq!(rt; number_of(text), None);
+        means(&rt, text, None);
     }
+}
+
+// The piece before the first comma, and what stands behind it.
+fn cuts<R: Abort>(rt: &R, text: &[u8], cut: (&[u8], Option<&[u8]>)) {
+    assert_eq!(rt; first_piece(b',', text), cut);
 }
 
 #[test]
 fn cuts_at_the_first_separator(rt: HostRuntime) {
-    assert_eq!(rt; first_piece(b',', b""), (b"".as_slice(), None));
-    assert_eq!(rt; first_piece(b',', b"ab"), (b"ab".as_slice(), None));
-    assert_eq!(rt;
-        first_piece(b',', b"ab,"),
-        (b"ab".as_slice(), Some(b"".as_slice()))
-    );
-    assert_eq!(rt;
-        first_piece(b',', b",a,b"),
-        (b"".as_slice(), Some(b"a,b".as_slice()))
-    );
+    cuts(&rt, b"", (b"", None));
+    cuts(&rt, b"ab", (b"ab", None));
+    cuts(&rt, b"ab,", (b"ab", Some(b"")));
+    cuts(&rt, b",a,b", (b"", Some(b"a,b")));
 }
 
 const SMALL: &[u8] =

@@ -1,11 +1,7 @@
 pub mod Buffers
-pub mod Pieces
-pub mod LineEnds
-pub mod Keywords
 pub mod Known
 pub mod LineCuts
 pub mod Stands
 pub mod Turns
 pub mod Endings
 pub mod Scripts
-pub mod HexValues

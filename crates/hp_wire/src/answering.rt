@@ -11,8 +11,8 @@ ghost use Rattle.hp_wire.specs.Unanswered.{CountsLines};
 
 use crate::ends::Sink;
 use crate::fault::RunFault;
-use crate::reading::{LINE_LIMIT, step_of_line};
 use crate::replies::Replies;
+use hp_line::reading::{LINE_LIMIT, step_of_line};
 use hp_model::answer::Reply;
 use hp_model::refusal::Refusal;
 use hp_model::service::Service;

@@ -1,18 +1,12 @@
-//! Lines in, lines out: the steps that lines read as, the text of their replies, and runs over the lines of an
-//! input.
+//! Runs over the lines of an input: each line's reply is written. `hp_line` reads a line and writes a reply.
 #![tactic(auto)]
 
 mod answering;
-mod commands;
 pub mod ends;
 pub mod fault;
-mod hex_digits;
-mod output;
-mod parts;
-pub mod reading;
 mod replies;
 pub mod running;
 pub mod script;
 mod unanswered;
-pub mod words;
-pub mod writing;
+
+pub use hp_line::{reading, words, writing};

@@ -7,7 +7,7 @@ ghost use Rattle.hp_wire.specs.Waiting.{HasRoomForOne};
 
 use crate::ends::{Sink, write_whole};
 use crate::fault::RunFault;
-use crate::writing::{LONGEST, line_of_reply};
+use hp_line::writing::{LONGEST, line_of_reply};
 use hp_model::answer::Reply;
 use std::alloc::{AllocError, Global};
 use std::marker::Model;

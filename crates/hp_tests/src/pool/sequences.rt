@@ -1,24 +1,79 @@
 //! Worked sequences: how pages go round the nodes, become surplus and leave the pool.
-ghost use Rattle.std.specs.Prelude.{◌≡◌};
+ghost use Rattle.std.specs.Prelude.{◌≡◌, ◌≤◌};
 ghost use Rattle.hp_model.specs.PoolCounts.{IsSettled};
 ghost use Rattle.hp_pool.specs.Ledgers.{AreLedgers};
 
 use super::{is_refused, shows};
 use hp_model::naming::Naming;
+use hp_nodes::Page;
+use hp_permit::Permit;
 use hp_pool::{Blanks, Pool};
 use std::alloc::Global;
 use std::marker::Brand;
 use std::process::Abort;
 
+fn sets_nr<N: Naming, R: Abort>(rt: &R, pool: &mut Pool<N>, n: u64, nr: u64)
+    requires { IsSettled pool.old }
+    ensures { IsSettled pool.new }
+{
+    assert_eq!(rt; pool.set_nr(n), nr);
+}
+
+fn sets_overcommit<N: Naming>(pool: &mut Pool<N>, n: u64)
+    requires settled { IsSettled pool.old }
+    requires few { n ≤ 1 }
+    ensures { IsSettled pool.new }
+{
+    pool.set_overcommit(n);
+}
+
+fn reserve<N: Naming, R: Abort>(rt: &R, pool: &mut Pool<N>, home: usize, k: u64) -> Permit<N>
+    requires { IsSettled pool.old }
+    ensures { IsSettled pool.new }
+{
+    pool.reserve(home, k).expect(rt, "fits")
+}
+
+// Takes a page for one of those that the permit promises.
+fn take<N: Naming, R: Abort>(
+    rt: &R,
+    pool: &mut Pool<N>,
+    home: usize,
+    permit: &mut Permit<N>,
+) -> Page<N>
+    requires { IsSettled pool.old }
+    ensures { IsSettled pool.new }
+{
+    assert!(rt; permit.amount() > 0);
+    pool.take(home, permit.split(1))
+}
+
+fn put<N: Naming>(pool: &mut Pool<N>, page: Page<N>) {
+    pool.put(page);
+}
+
+fn settle<N: Naming>(pool: &mut Pool<N>)
+    ensures { IsSettled pool.new }
+{
+    pool.settle();
+}
+
+fn release<N: Naming>(pool: &mut Pool<N>, permit: Permit<N>)
+    ensures { IsSettled pool.new }
+{
+    pool.release(permit);
+    pool.settle();
+}
+
 // nr goes round the nodes, up from the growth cursor and down from the release cursor.
 fn goes_round<N: Naming, R: Abort>(rt: &R, mut pool: Pool<N>)
     requires { IsSettled pool }
 {
-    assert_eq!(rt; pool.set_nr(4), 4);
+    sets_nr(rt, &mut pool, 4, 4);
     shows(rt, &pool, [4, 4, 0, 0], [[2, 2, 0], [2, 2, 0]]);
-    assert_eq!(rt; pool.set_nr(1), 1);
+    sets_nr(rt, &mut pool, 1, 1);
     shows(rt, &pool, [1, 1, 0, 0], [[0, 0, 0], [1, 1, 0]]);
-    assert_eq!(rt; pool.set_nr(9), 8);
+    sets_nr(rt, &mut pool, 9, 8);
     shows(rt, &pool, [8, 8, 0, 0], [[4, 4, 0], [4, 4, 0]]);
     pool.close();
 }
@@ -27,30 +82,29 @@ fn goes_round<N: Naming, R: Abort>(rt: &R, mut pool: Pool<N>)
 fn promotes_surplus<N: Naming, R: Abort>(rt: &R, mut pool: Pool<N>)
     requires { IsSettled pool }
 {
-    pool.set_nr(4);
-    let mut a = pool.reserve(0, 3).expect(rt, "fits");
-    let page = pool.take(0, a.split(1));
+    sets_nr(rt, &mut pool, 4, 4);
+    let mut a = reserve(rt, &mut pool, 0, 3);
+    let page = take(rt, &mut pool, 0, &mut a);
     shows(rt, &pool, [4, 3, 2, 0], [[2, 1, 0], [2, 2, 0]]);
     assert!(rt; is_refused(&mut pool, 1, 2));
-    pool.set_overcommit(1);
-    let b = pool.reserve(1, 2).expect(rt, "fits");
+    sets_overcommit(&mut pool, 1);
+    let b = reserve(rt, &mut pool, 1, 2);
     shows(rt, &pool, [5, 4, 4, 1], [[2, 1, 0], [3, 3, 1]]);
-    pool.set_nr(1);
+    sets_nr(rt, &mut pool, 1, 1);
     shows(rt, &pool, [5, 4, 4, 4], [[2, 1, 2], [3, 3, 2]]);
-    pool.set_nr(3);
+    sets_nr(rt, &mut pool, 3, 3);
     shows(rt, &pool, [5, 4, 4, 2], [[2, 1, 0], [3, 3, 2]]);
-    pool.set_overcommit(0);
+    sets_overcommit(&mut pool, 0);
     assert!(rt; is_refused(&mut pool, 1, 1));
-    pool.set_nr(5);
+    sets_nr(rt, &mut pool, 5, 5);
     assert!(rt; is_refused(&mut pool, 1, 1));
-    pool.set_nr(6);
+    sets_nr(rt, &mut pool, 6, 6);
     shows(rt, &pool, [6, 5, 4, 0], [[3, 2, 0], [3, 3, 0]]);
-    a.join(pool.reserve(1, 1).expect(rt, "fits"));
+    a.join(reserve(rt, &mut pool, 1, 1));
     shows(rt, &pool, [6, 5, 5, 0], [[3, 2, 0], [3, 3, 0]]);
-    pool.put(page);
+    put(&mut pool, page);
     a.join(b);
-    pool.release(a);
-    pool.settle();
+    release(&mut pool, a);
     pool.close();
 }
 
@@ -58,27 +112,29 @@ fn promotes_surplus<N: Naming, R: Abort>(rt: &R, mut pool: Pool<N>)
 fn surplus_leaves<N: Naming, R: Abort>(rt: &R, mut pool: Pool<N>)
     requires { IsSettled pool }
 {
-    pool.set_nr(4);
-    let mut a = pool.reserve(0, 3).expect(rt, "fits");
-    let first = pool.take(0, a.split(1));
-    pool.set_overcommit(1);
-    let mut b = pool.reserve(1, 2).expect(rt, "fits");
-    pool.set_nr(1);
-    let second = pool.take(0, a.split(1));
-    let third = pool.take(0, a);
-    let fourth = pool.take(1, b.split(1));
-    let fifth = pool.take(1, b);
+    sets_nr(rt, &mut pool, 4, 4);
+    let mut a = reserve(rt, &mut pool, 0, 3);
+    let first = take(rt, &mut pool, 0, &mut a);
+    sets_overcommit(&mut pool, 1);
+    let mut b = reserve(rt, &mut pool, 1, 2);
+    sets_nr(rt, &mut pool, 1, 1);
+    let second = take(rt, &mut pool, 0, &mut a);
+    let third = take(rt, &mut pool, 0, &mut a);
+    let fourth = take(rt, &mut pool, 1, &mut b);
+    let fifth = take(rt, &mut pool, 1, &mut b);
+    a.join(b);
+    release(&mut pool, a);
     assert!(rt; is_refused(&mut pool, 0, 1));
-    pool.set_nr(0);
+    sets_nr(rt, &mut pool, 0, 0);
     shows(rt, &pool, [5, 0, 0, 5], [[2, 0, 2], [3, 0, 3]]);
-    pool.put(first);
-    pool.put(second);
-    pool.put(third);
-    pool.settle();
+    put(&mut pool, first);
+    put(&mut pool, second);
+    put(&mut pool, third);
+    settle(&mut pool);
     shows(rt, &pool, [2, 0, 0, 2], [[0, 0, 0], [2, 0, 2]]);
-    pool.put(fourth);
-    pool.put(fifth);
-    pool.settle();
+    put(&mut pool, fourth);
+    put(&mut pool, fifth);
+    settle(&mut pool);
     shows(rt, &pool, [0, 0, 0, 0], [[0, 0, 0], [0, 0, 0]]);
     pool.close();
 }
@@ -87,21 +143,20 @@ fn surplus_leaves<N: Naming, R: Abort>(rt: &R, mut pool: Pool<N>)
 fn gives_back_apart<N: Naming, R: Abort>(rt: &R, mut pool: Pool<N>)
     requires { IsSettled pool }
 {
-    pool.set_nr(2);
-    pool.set_overcommit(1);
-    let mut a = pool.reserve(1, 3).expect(rt, "fits");
+    sets_nr(rt, &mut pool, 2, 2);
+    sets_overcommit(&mut pool, 1);
+    let mut a = reserve(rt, &mut pool, 1, 3);
     shows(rt, &pool, [3, 3, 3, 1], [[1, 1, 0], [2, 2, 1]]);
-    let first = pool.take(1, a.split(1));
-    let second = pool.take(1, a.split(1));
+    let first = take(rt, &mut pool, 1, &mut a);
+    let second = take(rt, &mut pool, 1, &mut a);
     shows(rt, &pool, [3, 1, 1, 1], [[1, 1, 0], [2, 0, 1]]);
-    pool.release(a);
-    pool.settle();
+    release(&mut pool, a);
     shows(rt, &pool, [2, 0, 0, 0], [[0, 0, 0], [2, 0, 0]]);
-    pool.put(first);
-    pool.put(second);
-    pool.settle();
+    put(&mut pool, first);
+    put(&mut pool, second);
+    settle(&mut pool);
     shows(rt, &pool, [2, 2, 0, 0], [[0, 0, 0], [2, 2, 0]]);
-    pool.set_nr(3);
+    sets_nr(rt, &mut pool, 3, 3);
     shows(rt, &pool, [3, 3, 0, 0], [[1, 1, 0], [2, 2, 0]]);
     pool.close();
 }

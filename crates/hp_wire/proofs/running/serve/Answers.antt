@@ -57,3 +57,6 @@ loop-preserved g c =
       reader = λ s. c.read.ensures.stays (i.reader s);
       writer = λ s. c.answer_chunk-in-loop.ensures.stays (i.writer s);
     }
+
+pub returns-clause-served : goal.returns-clause-served
+returns-clause-served g c = absurd (omega (arith, c.loop.invariant.turns, c.loop.invariant.limit))

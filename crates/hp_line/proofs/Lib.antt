@@ -1,0 +1,4 @@
+pub mod Pieces
+mod LineEnds
+mod Keywords
+mod HexValues

@@ -1,0 +1,10 @@
+//! The step that a line reads as, and the text of a reply.
+#![tactic(auto)]
+
+mod commands;
+mod hex_digits;
+mod output;
+mod parts;
+pub mod reading;
+pub mod words;
+pub mod writing;
