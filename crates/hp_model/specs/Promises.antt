@@ -1,5 +1,5 @@
 -- What the machine promises of each step.
-use Rattle.std.specs.Prelude.{◌≡◌, ◌≢◌, ◌⊎◌, ℕ, ◌+◌, ◌<◌, ◌≤◌, ◌&&◌, ◌||◌, ◌==◌, Bool, true, false, not, Option, None, Some, is_some, option_map, Ok, Err, List, [], ◌++◌, length, take, drop, if◌then◌else◌, nat_le, nat_lt}
+use Rattle.std.specs.Prelude.{◌≡◌, ◌≢◌, ◌⊎◌, ℕ, ◌+◌, ◌<◌, ◌≤◌, ◌&&◌, ◌||◌, ◌==◌, Bool, true, false, not, Option, None, Some, is_some, option_map, Ok, Err, List, ◌++◌, length, take, drop, if◌then◌else◌, nat_le, nat_lt}
 use Rattle.std.specs.Bool.{MatchBool}
 use Rattle.std.specs.Str.{bytes_eq}
 use Rattle.hp_model.specs.declared.answer.Answer.{Answer}
@@ -13,12 +13,11 @@ use Rattle.hp_model.specs.declared.step.Intent.{Intent}
 use Rattle.hp_model.specs.declared.step.Intent.TheVariants.{Read, Write}
 use Rattle.hp_model.specs.declared.place.Place.{Place}
 use Rattle.hp_model.specs.declared.step.Sharing.{Sharing}
-use Rattle.hp_model.specs.declared.step.Sharing.TheVariants.{Shared}
 use Rattle.hp_model.specs.declared.step.Step.{Step}
 use Rattle.hp_model.specs.declared.step.Step.TheVariants.{Attach, Create as CreateStep, Df, Exit, Fault, Fork, Load, Ls, Map as MapStep, Meminfo, Mount as MountStep, Nodes, Punch as PunchStep, Read as ReadStep, Stat, Store, Truncate as TruncateStep, Umount, Unlink as UnlinkStep, Unmap as UnmapStep}
 use Rattle.hp_model.specs.Plan.{slot_usage, IsWithinLimit}
 use Rattle.hp_model.specs.CopyWrite.{holds}
-use Rattle.hp_model.specs.File.{File, Mount, cell_at, new_file}
+use Rattle.hp_model.specs.File.{File, cell_at, new_file}
 pub use Rattle.hp_model.specs.File.{file_in, map_in}
 use Rattle.hp_model.specs.GiveBack.{without_task}
 use Rattle.hp_model.specs.Machine.{committed_pages, counts_in, pool_of}
