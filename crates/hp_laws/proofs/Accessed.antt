@@ -11,14 +11,13 @@ use Rattle.hp_model.specs.declared.place.Place.TheVariants.{Gone, Live}
 use Rattle.hp_model.specs.declared.step.Intent.{Intent}
 use Rattle.hp_model.specs.declared.step.Intent.TheVariants.{Read, Write}
 use Rattle.hp_model.specs.Access.{access, new_copy, private_access, shared_access, uncopied_access}
-use Rattle.hp_model.specs.CopyWrite.{copy_write, drop_stamp, holds, robbed, is_held_once, owner_write, taken_back}
+use Rattle.hp_model.specs.CopyWrite.{copy_write, drop_stamp, holds, robbed, is_held_once, taken_back}
 use Rattle.hp_model.specs.File.{File, Mount, cell_at, has_page, with_cell, with_file, with_map}
 use Rattle.hp_model.specs.Grant.{is_full, rise}
 use Rattle.hp_model.specs.Lists.{edit_at}
 use Rattle.hp_model.specs.Mapping.{Map, is_shared, place_at, with_place}
 use Rattle.hp_model.specs.Page.{Copy, Page, zeros}
 use Rattle.hp_model.specs.Plan.{Choice, Outcome, Answered, Finish, Ask}
-use Rattle.hp_model.specs.declared.refusal.Refusal.TheVariants.{OutOfMemory}
 use Rattle.hp_model.specs.declared.section.Section.TheVariants.{GrantPage}
 use Rattle.hp_model.specs.Promises.{shape_of}
 use Rattle.hp_model.specs.SlotEvent.{byte_access, byte_tests}

@@ -1,8 +1,8 @@
 -- Each access balances.
-use Rattle.std.proofs.Common.{◌≡◌, ℕ, ◌<◌, Bool, true, false, ◌&&◌, not, None, Some, List, [], ◌∷◌, length, map, refl, ap, ◌∙◌, if◌then◌else◌}
+use Rattle.std.proofs.Common.{◌≡◌, ℕ, ◌<◌, Bool, true, false, ◌&&◌, not, None, Some, List, length, map, refl, ap, ◌∙◌, if◌then◌else◌}
 use Rattle.std.proofs.lemmas.Bool.{cond_both, and_parts, not-true}
 use Rattle.hp_model.specs.declared.answer.Answer.TheVariants.{Done}
-use Rattle.hp_model.specs.declared.refusal.Refusal.TheVariants.{OutOfMemory, TakenByOwner}
+use Rattle.hp_model.specs.declared.refusal.Refusal.TheVariants.{TakenByOwner}
 use Rattle.hp_model.specs.declared.step.Intent.{Intent}
 use Rattle.hp_model.specs.declared.step.Intent.TheVariants.{Read, Write}
 use Rattle.hp_model.specs.Access.{shared_access, new_copy, uncopied_access, private_access, access}
@@ -14,7 +14,7 @@ use Rattle.hp_model.specs.Lists.{is_among}
 use Rattle.hp_model.specs.Mapping.{with_place, place_at, is_shared}
 use Rattle.hp_model.specs.MountCounts.{stamps_of}
 use Rattle.hp_model.specs.Page.{Page, Copy, zeros}
-use Rattle.hp_model.specs.Plan.{Outcome, Answered, Plan, Finish, Ask, Choice, refuse, unless, grant_page, reserved_page}
+use Rattle.hp_model.specs.Plan.{Outcome, Answered, Plan, Finish, Ask, Choice, refuse, grant_page, reserved_page}
 use Rattle.hp_model.specs.declared.section.Section.TheVariants.{GrantPage}
 use Rattle.hp_model.specs.Spot.{Spot, copied, written, file_written}
 use Rattle.hp_model.specs.Value.{value}
@@ -26,7 +26,7 @@ use Rattle.hp_laws.proofs.Holding.{IsAgreed}
 use Rattle.hp_laws.proofs.CopyWrites.{copy_parts, takes_back, writes}
 use Rattle.hp_laws.proofs.FileMoves.{fill_entry, fill_hole, copy_grows, copy_consumes}
 use Rattle.hp_laws.proofs.MountMoves.{MountGrows, IsSpot, file_grows, edit_grows}
-use Rattle.hp_laws.proofs.Plans.{stays, balanced_unless, balanced_grant_page, balanced_reserved_page, page_granted, grown_same}
+use Rattle.hp_laws.proofs.Plans.{stays, balanced_grant_page, balanced_reserved_page, page_granted, grown_same}
 
 module _ (c : Choice) (size : ℕ) (m : Mount) (s : Spot) (at : IsSpot m s) (agreed : IsAgreed s.file) (fresh : is_among c.stamp (stamps_of s.file) ≡ false) (home i : ℕ) where
   shared_balanced : (cell : Cell Page) → i < length s.file.cells → cell_at s.file i ≡ cell → IsBalanced (Some m) (shared_access c size m s home i cell)

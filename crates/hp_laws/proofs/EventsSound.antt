@@ -11,14 +11,14 @@ use Rattle.hp_model.specs.declared.event.SlotEvent.TheVariants as slot
 use Rattle.hp_model.specs.declared.limits.Limits.{Limits}
 use Rattle.hp_model.specs.declared.place.Place.{Place}
 use Rattle.hp_model.specs.declared.place.Place.TheVariants.{Gone, Live}
-use Rattle.hp_model.specs.declared.refusal.Refusal.TheVariants.{BeyondEnd, CrossesPage, OutOfMemory, OutOfRange, TooMany}
+use Rattle.hp_model.specs.declared.refusal.Refusal.TheVariants.{BeyondEnd, CrossesPage, OutOfRange, TooMany}
 use Rattle.hp_model.specs.declared.section.Section.TheVariants.{GrantPage}
 use Rattle.hp_model.specs.declared.step.Intent.{Intent}
 use Rattle.hp_model.specs.declared.step.Intent.TheVariants.{Read, Write}
 use Rattle.hp_model.specs.declared.step.Reserving.{Reserving}
 use Rattle.hp_model.specs.declared.step.Sharing.{Sharing}
 use Rattle.hp_model.specs.Access.{access, new_copy, private_access, shared_access, uncopied_access}
-use Rattle.hp_model.specs.CopyWrite.{copy_write, is_held_once, owner_write, taken_back}
+use Rattle.hp_model.specs.CopyWrite.{copy_write, is_held_once, taken_back}
 use Rattle.hp_model.specs.File.{File, Mount, cell_at, file_in, has_page, map_in, maps_of, new_file, with_cell, with_file, with_map}
 use Rattle.hp_model.specs.GiveBack.{file_unmapped, file_without, is_left, map_unmapped, punched, truncated, unlinked, without_task, swept}
 use Rattle.hp_model.specs.Grant.{is_full, rise}

@@ -16,7 +16,7 @@ use Rattle.hp_model.specs.File.{File, Mount, cell_at, has_page, new_file, with_c
 use Rattle.hp_model.specs.Grant.{is_full, rise}
 use Rattle.hp_model.specs.Mapping.{Map, copy_of, is_shared, place_at, with_place}
 use Rattle.hp_model.specs.Page.{Page, Copy, zeros}
-use Rattle.hp_model.specs.Plan.{Outcome, Refused, Answered, Plan, Finish, Ask, Choice, continued, refuse, grant_page, reserved_page, when_granted}
+use Rattle.hp_model.specs.Plan.{Outcome, Refused, Answered, Plan, Finish, Ask, Choice, continued, grant_page, reserved_page, when_granted}
 use Rattle.hp_model.specs.declared.section.Section.TheVariants.{GrantPage}
 use Rattle.hp_model.specs.Promises.{file_in, map_in, no_map}
 use Rattle.hp_model.specs.Spot.{Spot, again, copied}

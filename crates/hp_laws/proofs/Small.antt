@@ -16,7 +16,7 @@ use Rattle.hp_model.specs.declared.cell.Cell.{Cell}
 use Rattle.hp_model.specs.declared.cell.Cell.TheVariants.{Hole, Entered, Present}
 use Rattle.hp_model.specs.declared.place.Place.{Place}
 use Rattle.hp_model.specs.declared.place.Place.TheVariants.{Gone, Live}
-use Rattle.hp_model.specs.declared.section.Section.TheVariants.{GrantPage, TakePage}
+use Rattle.hp_model.specs.declared.section.Section.TheVariants.{GrantPage}
 use Rattle.hp_model.specs.declared.event.PoolEvent.TheVariants as pool
 use Rattle.hp_model.specs.declared.event.SlotEvent.{SlotEvent}
 use Rattle.hp_model.specs.declared.event.SlotEvent.TheVariants as slot
@@ -31,7 +31,7 @@ use Rattle.hp_model.specs.declared.step.Sharing.{Sharing}
 use Rattle.hp_model.specs.declared.step.Step.{Step}
 use Rattle.hp_model.specs.declared.step.Step.TheVariants.{Exit, Fork}
 use Rattle.hp_model.specs.Access.{access, new_copy, private_access, shared_access}
-use Rattle.hp_model.specs.CopyWrite.{copy_write, is_held_once, owner_write, taken_back}
+use Rattle.hp_model.specs.CopyWrite.{copy_write, is_held_once, taken_back}
 use Rattle.hp_model.specs.Event.{IsEvent, has_maps_of}
 use Rattle.hp_model.specs.Fork.{forked}
 use Rattle.hp_model.specs.GiveBack.{punched, truncated, unlinked, unmapped_from, without_task}
@@ -44,7 +44,7 @@ use Rattle.hp_model.specs.Mapping.{is_map, is_of, is_shared, place_at}
 use Rattle.hp_model.specs.NodeRows.{IsRow, total_of, frames_of}
 use Rattle.hp_model.specs.Page.{Copy, Page}
 use Rattle.hp_model.specs.PoolCounts.{Pool}
-use Rattle.hp_model.specs.Plan.{Ask, grant_page, reserved_page, when_granted, with_value, Reply, Slot, Outcome, Refused, Answered, Plan, Finish, Choice, unless, continued, grant, gives}
+use Rattle.hp_model.specs.Plan.{Ask, grant_page, when_granted, with_value, Reply, Slot, Outcome, Refused, Answered, Plan, Finish, Choice, unless, continued, grant, gives}
 use Rattle.hp_model.specs.Profile.{most_overcommit, most_bytes, most_file_pages, most_files, most_map_pages, most_maps}
 use Rattle.hp_model.specs.Promises.{is_usage}
 use Rattle.hp_model.specs.Resize.{no_count, node_count, pool_event}
