@@ -1,7 +1,7 @@
 -- The lines of bytes that are cut at a newline.
 use Rattle.std.proofs.Common.{◌≡◌, ℕ, List, [], ◌∷◌, ◌++◌, refl, sym, ◌∙◌, ap, ◌==◌, append_assoc}
 use Rattle.hp_model.specs.Lines.{Line, ended, pieces, ended_pieces, last_piece, ended_lines, after_lines}
-use Rattle.hp_line.proofs.Pieces.{first_piece, joined, slice_split-append}
+use Rattle.hp_wire_lines.proofs.Pieces.{first_piece, joined, slice_split-append}
 use Rattle.std.specs.List.{onto_first}
 use Rattle.std.specs.Prelude.{nat_eq, Bool, true, false}
 use Rattle.std.proofs.lemmas.List.Splits.{slice_split-cons_yes, slice_split-cons_no}

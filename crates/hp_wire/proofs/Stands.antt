@@ -5,7 +5,7 @@ use Rattle.std.proofs.lemmas.List.Splits.{slice_split-cons_yes, slice_split-cons
 use Rattle.std.specs.List.{onto_first}
 use Rattle.hp_model.specs.Lines.{Line, ended, pieces, ended_pieces, last_piece, ended_lines, after_lines}
 use Rattle.hp_model.specs.declared.refusal.Refusal.TheVariants.{LineTooLong}
-use Rattle.hp_line.proofs.Pieces.{first_piece, joined, slice_split-append}
+use Rattle.hp_wire_lines.proofs.Pieces.{first_piece, joined, slice_split-append}
 use Rattle.hp_wire.proofs.LineCuts.{last_whole}
 
 -- both are pieces of a line, and they are equal or both too long

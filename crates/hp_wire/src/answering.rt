@@ -12,12 +12,12 @@ ghost use Rattle.hp_wire.specs.Unanswered.{CountsLines};
 use crate::ends::Sink;
 use crate::fault::RunFault;
 use crate::replies::Replies;
-use hp_line::reading::{LINE_LIMIT, step_of_line};
 use hp_model::answer::Reply;
 use hp_model::refusal::Refusal;
 use hp_model::service::Service;
 use hp_model::step::Step;
 use hp_text::pieces::first_piece;
+use hp_wire_lines::reading::{LINE_LIMIT, step_of_line};
 use std::alloc::Global;
 
 impl Replies {

@@ -1,4 +1,4 @@
-//! Runs over the lines of an input: each line's reply is written. `hp_line` reads a line and writes a reply.
+//! Runs over the lines of an input: each line's reply is written. `hp_wire_lines` reads a line and writes a reply.
 #![tactic(auto)]
 
 mod answering;
@@ -9,4 +9,4 @@ pub mod running;
 pub mod script;
 mod unanswered;
 
-pub use hp_line::{reading, words, writing};
+pub use hp_wire_lines::{reading, words, writing};

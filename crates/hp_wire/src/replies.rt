@@ -7,8 +7,8 @@ ghost use Rattle.hp_wire.specs.Waiting.{HasRoomForOne};
 
 use crate::ends::{Sink, write_whole};
 use crate::fault::RunFault;
-use hp_line::writing::{LONGEST, line_of_reply};
 use hp_model::answer::Reply;
+use hp_wire_lines::writing::{LONGEST, line_of_reply};
 use std::alloc::{AllocError, Global};
 use std::marker::Model;
 

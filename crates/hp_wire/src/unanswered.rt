@@ -5,7 +5,7 @@ ghost use Rattle.hp_wire.specs.Unanswered.{FailsToRead, Gets, GetsAt};
 
 use crate::ends::Source;
 use crate::fault::RunFault;
-use hp_line::reading::LINE_LIMIT;
+use hp_wire_lines::reading::LINE_LIMIT;
 use std::alloc::{AllocError, Global};
 use std::marker::Model;
 

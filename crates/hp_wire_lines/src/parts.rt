@@ -1,0 +1,126 @@
+//! What the words of a line say.
+ghost use Rattle.std.specs.Prelude.{◌≡◌, ◌≤◌, length, MatchResult};
+ghost use Rattle.std.specs.List.{list_all};
+ghost use Rattle.hp_model.specs.Words.{number_at, word_at, word_of, is_word, is_word_byte, sharing_at, sharing_of, intent_at, intent_of, reserving_at, bytes_of_hex};
+ghost use Rattle.hp_wire_lines.specs.Words.{Gives};
+
+use crate::hex_digits::decode;
+use crate::words::{Words, number_of};
+use hp_model::bytes::Bytes;
+use hp_model::refusal::Refusal;
+use hp_model::step::{Intent, Reserving, Sharing};
+use std::alloc::Global;
+
+/// A number, and the words after it.
+#[tactic(auto, unfolding(hp_model::specs::Words::number_at))]
+#[inline(always)]
+pub fn number<'a>(words: Words<'a>) -> Result<(u64, Words<'a>), Refusal>
+    ensures { result ≡ number_at words.entry }
+{
+    let (piece, words) = words.piece()?;
+    Ok((number_of(piece)?, words))
+}
+
+/// A name or options, and the words after it.
+#[tactic(auto, unfolding(hp_model::specs::Words::word_at))]
+pub fn word<'a>(words: Words<'a>) -> Result<(&'a [u8], Words<'a>), Refusal>
+    ensures { Gives (λ x. (x.0.now, x.1)) result (word_at words.entry) }
+{
+    let (piece, words) = words.piece()?;
+    Ok((word_of(piece)?, words))
+}
+
+// A piece of one or more printed characters.
+fn word_of(piece: &[u8]) -> Result<&[u8], Refusal>
+    ensures { Gives (λ x. x.now) result (word_of piece.now) }
+{
+    if is_word(piece) {
+        Ok(piece)
+    } else {
+        Err(Refusal::BadLine)
+    }
+}
+
+fn is_word(piece: &[u8]) -> bool
+    ensures { result ≡ is_word piece.now }
+{
+    !piece.is_empty() && is_printed(piece)
+}
+
+fn is_printed(bytes: &[u8]) -> bool
+    ensures { result ≡ list_all is_word_byte bytes.now }
+{
+    bytes.iter().all(|b| *b >= 33 && *b <= 126)
+}
+
+/// `shared` or `private`, and the words after it.
+#[tactic(auto, unfolding(hp_model::specs::Words::sharing_at))]
+pub fn sharing<'a>(words: Words<'a>) -> Result<(Sharing, Words<'a>), Refusal>
+    ensures { result ≡ sharing_at words.entry }
+{
+    let (piece, words) = words.piece()?;
+    if piece == b"shared".as_slice() {
+        Ok((Sharing::Shared, words))
+    } else if piece == b"private".as_slice() {
+        Ok((Sharing::Private, words))
+    } else {
+        Err(Refusal::BadLine)
+    }
+}
+
+/// `read` or `write`, and the words after it.
+#[tactic(auto, unfolding(hp_model::specs::Words::intent_at))]
+pub fn intent<'a>(words: Words<'a>) -> Result<(Intent, Words<'a>), Refusal>
+    ensures { result ≡ intent_at words.entry }
+{
+    let (piece, words) = words.piece()?;
+    if piece == b"read".as_slice() {
+        Ok((Intent::Read, words))
+    } else if piece == b"write".as_slice() {
+        Ok((Intent::Write, words))
+    } else {
+        Err(Refusal::BadLine)
+    }
+}
+
+/// Nothing, or `noreserve` as the last word.
+pub fn reserving(words: Words<'_>) -> Result<Reserving, Refusal>
+    ensures { result ≡ reserving_at words.entry }
+{
+    let Ok((piece, words)) = words.piece() else {
+        return Ok(Reserving::Reserve);
+    };
+    words.end()?;
+    if piece == b"noreserve".as_slice() {
+        Ok(Reserving::NoReserve)
+    } else {
+        Err(Refusal::BadLine)
+    }
+}
+
+/// The bytes of hex digits, in the front of the room. At least two digits.
+pub fn decoded<'a>(piece: &[u8], room: &'a mut [u8]) -> Result<&'a [u8], Refusal>
+    requires { (length piece.now ≤ 1024) × (length room.old ≡ 512) }
+    ensures { Gives (λ x. x.now) result (bytes_of_hex piece.now) }
+{
+    if piece.is_empty() || piece.len() % 2 != 0 {
+        return Err(Refusal::BadLine);
+    }
+    let n = piece.len() / 2;
+    let part = &mut room[..n];
+    if decode(piece, part) {
+        Ok(part)
+    } else {
+        Err(Refusal::BadLine)
+    }
+}
+
+/// A copy of a word's bytes, or `OutOfMemory`.
+pub fn copied(alloc: Global, bytes: &[u8]) -> Result<Bytes, Refusal>
+    ensures { MatchResult result (λ copy. copy ≡ bytes.now) (λ e. e ≡ Refusal.OutOfMemory) }
+{
+    match Vec::from_slice(alloc, bytes) {
+        Ok(copy) => Ok(Bytes::new(copy)),
+        Err(_) => Err(Refusal::OutOfMemory),
+    }
+}

@@ -1,0 +1,182 @@
+//! The text of a reply.
+ghost use Rattle.std.specs.Prelude.{◌≡◌, ◌≤◌, ◌*◌, ◌++◌, ◌∷◌, [], codes, decimal, length, Err};
+ghost use Rattle.std.specs.List.{All};
+ghost use Rattle.hex.specs.Hex.{encode_lower};
+ghost use Rattle.hp_model.specs.Writing.{newline, number_line, spaced, heading, meminfo_text, rows_text, names_text, answer_text, line_of, HasSmallAnswer, IsWithinLimits};
+ghost use Rattle.hp_model.specs.declared.answer.Answer.TheVariants.{Usage as UsageAnswer};
+ghost use Rattle.hp_wire_lines.specs.Rows.{row_line};
+ghost use Rattle.hp_text.specs.Output.{HasRoom, Adds};
+
+use crate::output::{push_hex, push_limit, push_spaced};
+use hp_model::answer::{Answer, Counts, NodeCount, Reply};
+use hp_model::bytes::Bytes;
+use hp_model::refusal::Refusal;
+use hp_text::meminfo::meminfo_text;
+use hp_text::output::{push, push_number};
+
+/// No reply has more bytes: a heading of at most 26, and 1,024 names of 64 bytes with a newline each.
+pub const LONGEST: usize = 66_586;
+
+/// Adds the lines of a reply to what waits to be written, where a page has `page` bytes. It takes no memory.
+pub fn line_of_reply(page: u64, reply: &Reply, out: &mut Vec<u8>)
+    requires page { page ≤ 2097152 }
+    requires limits { IsWithinLimits reply.now }
+    requires room { HasRoom out.old 66586 }
+    ensures { Adds out.old out.new (line_of page reply.now) }
+{
+    match reply {
+        Ok(answer) => push_answer(page, answer, out),
+        Err(refusal) => push_refusal(*refusal, out),
+    }
+}
+
+fn push_answer(page: u64, answer: &Answer, out: &mut Vec<u8>)
+    requires page { page ≤ 2097152 }
+    requires limits { HasSmallAnswer answer.now }
+    requires room { HasRoom out.old 66586 }
+    ensures { Adds out.old out.new (answer_text page answer.now) }
+{
+    match answer {
+        Answer::Done => push(out, b"ok\n"),
+        Answer::Home(n) | Answer::MapNo(n) | Answer::Number(n) => push_numbers(out, &[*n]),
+        Answer::Bytes { count, bytes } => push_bytes(out, &bytes[..*count as usize]),
+        Answer::Stat {
+            len,
+            pages,
+            entries,
+            maps,
+        } => push_numbers(out, &[*len, *pages, *entries, *maps]),
+        Answer::Usage {
+            max,
+            min,
+            used,
+            inodes,
+            files,
+        } => push_usage(out, *max, *min, *used, *inodes, *files),
+        Answer::Names(names) => push_names(out, names.as_slice()),
+        Answer::Numbers(counts) => push_counts(page, *counts, out),
+        Answer::PerNode { nodes, rows } => push_nodes(out, *nodes, &rows[..*nodes as usize]),
+    }
+}
+
+fn push_numbers(out: &mut Vec<u8>, numbers: &[u64])
+    requires few { length numbers.now ≤ 4 }
+    requires room { HasRoom out.old 512 }
+    ensures { Adds out.old out.new (number_line numbers.now) }
+{
+    push(out, b"ok");
+    push_spaced(out, numbers);
+    push(out, b"\n");
+}
+
+fn push_bytes(out: &mut Vec<u8>, bytes: &[u8])
+    requires few { length bytes.now ≤ 256 }
+    requires room { HasRoom out.old 1024 }
+    ensures { Adds out.old out.new (codes "ok " ++ encode_lower bytes.now ++ newline) }
+{
+    push(out, b"ok ");
+    push_hex(out, bytes);
+    push(out, b"\n");
+}
+
+fn push_usage(
+    out: &mut Vec<u8>,
+    max: Option<u64>,
+    min: u64,
+    used: u64,
+    inodes: Option<u64>,
+    files: u64,
+)
+    requires { HasRoom out.old 512 }
+    ensures { Adds out.old out.new (answer_text 0 (UsageAnswer max min used inodes files)) }
+{
+    push(out, b"ok ");
+    push_limit(out, max);
+    push_spaced(out, &[min, used]);
+    push(out, b" ");
+    push_limit(out, inodes);
+    push_spaced(out, &[files]);
+    push(out, b"\n");
+}
+
+fn push_names(out: &mut Vec<u8>, names: &[Bytes])
+    requires limits { (length names.now ≤ 1024) × All (λ name. length name ≤ 64) names.now }
+    requires room { HasRoom out.old 66586 }
+    ensures { Adds out.old out.new (heading (length names.now) ++ names_text names.now) }
+{
+    push_heading(out, names.len() as u64);
+    push_name_lines(out, names);
+}
+
+fn push_name_lines(out: &mut Vec<u8>, names: &[Bytes])
+    requires limits { All (λ name. length name ≤ 64) names.now }
+    requires room { HasRoom out.old (65 * length names.now) }
+    ensures { Adds out.old out.new (names_text names.now) }
+{
+    for name in names {
+        push(out, name.as_slice());
+        push(out, b"\n");
+    }
+}
+
+fn push_heading(out: &mut Vec<u8>, lines: u64)
+    requires room { HasRoom out.old 26 }
+    ensures adds { Adds out.old out.new (heading lines) }
+    ensures short { length (heading lines) ≤ 26 }
+{
+    push(out, b"text ");
+    push_number(out, lines);
+    push(out, b"\n");
+}
+
+fn push_nodes(out: &mut Vec<u8>, nodes: u64, rows: &[NodeCount])
+    requires few { length rows.now ≤ 4 }
+    requires room { HasRoom out.old 512 }
+    ensures { Adds out.old out.new (heading nodes ++ rows_text 0 rows.now) }
+{
+    push_heading(out, nodes);
+    push_rows(out, rows);
+}
+
+fn push_rows(out: &mut Vec<u8>, rows: &[NodeCount])
+    requires few { length rows.now ≤ 4 }
+    requires room { HasRoom out.old (84 * length rows.now) }
+    ensures { Adds out.old out.new (rows_text 0 rows.now) }
+{
+    let mut node = 0u64;
+    for row in rows {
+        push_row(out, node, *row);
+        node += 1;
+    }
+}
+
+fn push_row(out: &mut Vec<u8>, node: u64, row: NodeCount)
+    requires { HasRoom out.old 84 }
+    ensures adds { Adds out.old out.new (row_line node row) }
+    ensures short { length (row_line node row) ≤ 84 }
+{
+    push_number(out, node);
+    push_spaced(out, &[row.total, row.free, row.surp]);
+    push(out, b"\n");
+}
+
+fn push_counts(page: u64, counts: Counts, out: &mut Vec<u8>)
+    requires page { page ≤ 2097152 }
+    requires limits { counts.total ≤ 262144 }
+    requires room { HasRoom out.old 512 }
+    ensures { Adds out.old out.new (heading 6 ++ meminfo_text page counts) }
+{
+    push_heading(out, 6);
+    meminfo_text(counts, page, out);
+}
+
+fn push_refusal(refusal: Refusal, out: &mut Vec<u8>)
+    requires { HasRoom out.old 64 }
+    ensures { Adds out.old out.new (line_of 0 (Err refusal)) }
+{
+    push(out, b"error ");
+    push_number(out, refusal.number());
+    push(out, b" ");
+    push(out, refusal.name().as_bytes());
+    push(out, b"\n");
+}
