@@ -12,7 +12,7 @@ use Rattle.std.proofs.lemmas.List.FromFn.{get_or-map-range_with_len, length-map-
 use Rattle.hp_region.specs.Region.{Region, count_in, missing_in}
 use Rattle.hp_model.specs.declared.cell.Cell.{Cell}
 use Rattle.hp_model.specs.declared.cell.Cell.TheVariants.{Hole, Entered}
-use Rattle.hp_model.specs.File.{is_entered, is_hole, has_page, page_of, cell_in, cells_to}
+use Rattle.hp_model.specs.files.File.{is_entered, is_hole, has_page, page_of, cell_in, cells_to}
 use Rattle.hp_model.specs.Lists.{part}
 use Rattle.hp_inode.specs.Rows.{Rows, page_in, has_slot}
 use Rattle.hp_inode.specs.Kept.{cell_by, cell_of, cells_of, IsKept}

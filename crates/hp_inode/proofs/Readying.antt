@@ -9,7 +9,7 @@ use Rattle.std.proofs.lemmas.List.FromFn.{length-range_with_len}
 use Rattle.std.proofs.lemmas.List.Sums.{count_by-le-length}
 use Rattle.hp_model.specs.declared.cell.Cell.{Cell}
 use Rattle.hp_model.specs.declared.cell.Cell.TheVariants.{Hole}
-use Rattle.hp_model.specs.File.{at_least, cells_to, entered}
+use Rattle.hp_model.specs.files.File.{at_least, cells_to, entered}
 use Rattle.hp_model.specs.Lists.{edit_range}
 use Rattle.hp_region.specs.Region.{Region, missing_in, range_set}
 use Rattle.hp_inode.specs.Kept.{IsKept, cells_of}

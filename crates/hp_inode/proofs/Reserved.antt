@@ -9,12 +9,12 @@ use Rattle.std.proofs.lemmas.List.FromFn.{fill_by_all}
 use Rattle.std.proofs.lemmas.List.FromFn.{length-range_with_len}
 use Rattle.std.proofs.lemmas.List.Sums.{count_by-le-length}
 use Rattle.hp_region.specs.Region.{Region, range_set, count_in, missing_in}
-use Rattle.hp_model.specs.Ranges.{within}
+use Rattle.hp_model.specs.files.Ranges.{within}
 use Rattle.hp_model.proofs.Counting.{count_alike, count_or, count_within, alike_in}
 use Rattle.hp_model.proofs.Ranges.{contains-range, within-in, within-true, within-below, within-past}
 use Rattle.hp_model.proofs.Editing.{length-edit_range, get_or-edit_below, get_or-edit_within, get_or-edit_past}
 use Rattle.hp_model.specs.declared.cell.Cell.TheVariants.{Hole}
-use Rattle.hp_model.specs.File.{entered, cell_in}
+use Rattle.hp_model.specs.files.File.{entered, cell_in}
 use Rattle.hp_model.specs.Lists.{edit_range}
 use Rattle.hp_inode.specs.Rows.{Rows, page_in, has_slot}
 use Rattle.hp_inode.specs.Kept.{cell_by, cell_of, cells_of, IsKept}

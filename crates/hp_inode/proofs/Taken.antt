@@ -6,7 +6,7 @@ use Rattle.std.specs.List.{All}
 use Rattle.std.proofs.lemmas.List.{length-take, length-drop, length-set, get_or-set_same, get_or_default}
 use Rattle.hp_model.specs.declared.cell.Cell.{Cell}
 use Rattle.hp_model.specs.declared.cell.Cell.TheVariants.{Hole, Entered}
-use Rattle.hp_model.specs.File.{cell_in, has_page}
+use Rattle.hp_model.specs.files.File.{cell_in, has_page}
 use Rattle.hp_model.specs.Lists.{part, found}
 use Rattle.hp_model.proofs.Editing.{part_one}
 use Rattle.hp_model.proofs.Finding.{found_none, found_at}

@@ -3,7 +3,7 @@
 
 ghost use Rattle.std.specs.Prelude.{ℕ, ◌≡◌, ◌+◌, ◌<◌, ◌≤◌, ◌^◌, [], length, drop, OnOk, OnErr, IfOk, IfErr, MatchOption, None, false};
 ghost use Rattle.std.specs.List.{slice_set, count_by, All};
-ghost use Rattle.hp_model.specs.File.{is_entered, is_hole, has_page, page_of, entered, cell_in, cells_to};
+ghost use Rattle.hp_model.specs.files.File.{is_entered, is_hole, has_page, page_of, entered, cell_in, cells_to};
 ghost use Rattle.hp_model.specs.Lists.{edit_range, part, found};
 ghost use Rattle.hp_model.specs.declared.cell.Cell.TheVariants.{Hole, Entered, Present};
 

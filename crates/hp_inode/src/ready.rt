@@ -1,6 +1,6 @@
 //! An inode with the room to enter a range.
 ghost use Rattle.std.specs.Prelude.{◌≡◌};
-ghost use Rattle.hp_model.specs.File.{at_least, entered};
+ghost use Rattle.hp_model.specs.files.File.{at_least, entered};
 ghost use Rattle.hp_model.specs.Lists.{edit_range};
 
 use crate::Inode;

@@ -10,19 +10,19 @@ use Rattle.hp_model.specs.declared.place.Place.{Place}
 use Rattle.hp_model.specs.declared.place.Place.TheVariants.{Gone, Live}
 use Rattle.hp_model.specs.declared.step.Intent.{Intent}
 use Rattle.hp_model.specs.declared.step.Intent.TheVariants.{Read, Write}
-use Rattle.hp_model.specs.Access.{access, new_copy, private_access, shared_access, uncopied_access}
-use Rattle.hp_model.specs.CopyWrite.{copy_write, drop_stamp, holds, robbed, is_held_once, taken_back}
-use Rattle.hp_model.specs.File.{File, Mount, cell_at, has_page, with_cell, with_file, with_map}
-use Rattle.hp_model.specs.Grant.{is_full, rise}
+use Rattle.hp_model.specs.files.Access.{access, new_copy, private_access, shared_access, uncopied_access}
+use Rattle.hp_model.specs.files.CopyWrite.{copy_write, drop_stamp, holds, robbed, is_held_once, taken_back}
+use Rattle.hp_model.specs.files.File.{File, Mount, cell_at, has_page, with_cell, with_file, with_map}
+use Rattle.hp_model.specs.pool.Grant.{is_full, rise}
 use Rattle.hp_model.specs.Lists.{edit_at}
-use Rattle.hp_model.specs.Mapping.{Map, is_shared, place_at, with_place}
-use Rattle.hp_model.specs.Page.{Copy, Page, zeros}
-use Rattle.hp_model.specs.Plan.{Choice, Outcome, Answered, Finish, Ask}
+use Rattle.hp_model.specs.files.Mapping.{Map, is_shared, place_at, with_place}
+use Rattle.hp_model.specs.files.Page.{Copy, Page, zeros}
+use Rattle.hp_model.specs.machine.Plan.{Choice, Outcome, Answered, Finish, Ask}
 use Rattle.hp_model.specs.declared.section.Section.TheVariants.{GrantPage}
-use Rattle.hp_model.specs.Promises.{shape_of}
-use Rattle.hp_model.specs.SlotEvent.{byte_access, byte_tests}
-use Rattle.hp_model.specs.Spot.{Spot, copied}
-use Rattle.hp_model.specs.Value.{value}
+use Rattle.hp_model.specs.machine.Promises.{shape_of}
+use Rattle.hp_model.specs.machine.SlotEvent.{byte_access, byte_tests}
+use Rattle.hp_model.specs.files.Spot.{Spot, copied}
+use Rattle.hp_model.specs.files.Value.{value}
 use Rattle.hp_laws.proofs.FileMoves.{IsMapAt}
 use Rattle.hp_laws.proofs.Keys.{file_key, keys}
 use Rattle.hp_laws.proofs.MountMoves.{IsSpot}

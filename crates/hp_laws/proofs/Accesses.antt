@@ -5,19 +5,19 @@ use Rattle.hp_model.specs.declared.answer.Answer.TheVariants.{Done}
 use Rattle.hp_model.specs.declared.refusal.Refusal.TheVariants.{TakenByOwner}
 use Rattle.hp_model.specs.declared.step.Intent.{Intent}
 use Rattle.hp_model.specs.declared.step.Intent.TheVariants.{Read, Write}
-use Rattle.hp_model.specs.Access.{shared_access, new_copy, uncopied_access, private_access, access}
+use Rattle.hp_model.specs.files.Access.{shared_access, new_copy, uncopied_access, private_access, access}
 use Rattle.hp_laws.specs.Balance.{IsBalanced, Stays, left_by}
-use Rattle.hp_model.specs.CopyWrite.{robbed, taken_back, is_held_once, owner_write, copy_write}
-use Rattle.hp_model.specs.File.{with_file, with_cell, with_map, cell_at, has_page, Mount}
-use Rattle.hp_model.specs.Grant.{is_full, rise}
+use Rattle.hp_model.specs.files.CopyWrite.{robbed, taken_back, is_held_once, owner_write, copy_write}
+use Rattle.hp_model.specs.files.File.{with_file, with_cell, with_map, cell_at, has_page, Mount}
+use Rattle.hp_model.specs.pool.Grant.{is_full, rise}
 use Rattle.hp_model.specs.Lists.{is_among}
-use Rattle.hp_model.specs.Mapping.{with_place, place_at, is_shared}
-use Rattle.hp_model.specs.MountCounts.{stamps_of}
-use Rattle.hp_model.specs.Page.{Page, Copy, zeros}
-use Rattle.hp_model.specs.Plan.{Outcome, Answered, Plan, Finish, Ask, Choice, refuse, grant_page, reserved_page}
+use Rattle.hp_model.specs.files.Mapping.{with_place, place_at, is_shared}
+use Rattle.hp_model.specs.files.MountCounts.{stamps_of}
+use Rattle.hp_model.specs.files.Page.{Page, Copy, zeros}
+use Rattle.hp_model.specs.machine.Plan.{Outcome, Answered, Plan, Finish, Ask, Choice, refuse, grant_page, reserved_page}
 use Rattle.hp_model.specs.declared.section.Section.TheVariants.{GrantPage}
-use Rattle.hp_model.specs.Spot.{Spot, copied, written, file_written}
-use Rattle.hp_model.specs.Value.{value}
+use Rattle.hp_model.specs.files.Spot.{Spot, copied, written, file_written}
+use Rattle.hp_model.specs.files.Value.{value}
 use Rattle.hp_model.specs.declared.cell.Cell.{Cell}
 use Rattle.hp_model.specs.declared.cell.Cell.TheVariants.{Hole, Entered, Present}
 use Rattle.hp_model.specs.declared.place.Place.{Place}

@@ -12,17 +12,17 @@ use Rattle.hp_model.specs.declared.refusal.Refusal.{Refusal}
 use Rattle.hp_model.specs.declared.refusal.Refusal.TheVariants.{NoSuchFile}
 use Rattle.hp_model.specs.declared.step.Step.{Step}
 use Rattle.hp_model.specs.declared.step.Step.TheVariants.{Df, Exit, Fork, Meminfo, Mount, Nodes, Read as ReadStep}
-use Rattle.hp_model.specs.Event.{IsEvent}
-use Rattle.hp_model.specs.File.{File, cell_at}
-use Rattle.hp_model.specs.Machine.{pool_of}
-use Rattle.hp_model.specs.Plan.{Choice, Outcome, Refused, Answered, Finish, Reply, Slot, with_value}
-use Rattle.hp_model.specs.Promises.{IsRead, IsUsage, LeavesAll, LeavesOthers, SameButNodes, Tells, is_late, is_late_step, named_on}
-use Rattle.hp_model.specs.Resize.{node_counts}
-use Rattle.hp_model.specs.Settled.{IsSettledState}
-use Rattle.hp_model.specs.SlotEvent.{bytes_answer, file_named, read, read_tests, slot_event}
-use Rattle.hp_model.specs.State.{State, slot_at}
-use Rattle.hp_model.specs.Step.{IsBuiltStep, IsStep}
-use Rattle.hp_model.specs.Value.{shown}
+use Rattle.hp_model.specs.machine.Event.{IsEvent}
+use Rattle.hp_model.specs.files.File.{File, cell_at}
+use Rattle.hp_model.specs.machine.Machine.{pool_of}
+use Rattle.hp_model.specs.machine.Plan.{Choice, Outcome, Refused, Answered, Finish, Reply, Slot, with_value}
+use Rattle.hp_model.specs.machine.Promises.{IsRead, IsUsage, LeavesAll, LeavesOthers, SameButNodes, Tells, is_late, is_late_step, named_on}
+use Rattle.hp_model.specs.pool.Resize.{node_counts}
+use Rattle.hp_model.specs.machine.Settled.{IsSettledState}
+use Rattle.hp_model.specs.machine.SlotEvent.{bytes_answer, file_named, read, read_tests, slot_event}
+use Rattle.hp_model.specs.machine.State.{State, slot_at}
+use Rattle.hp_model.specs.machine.Step.{IsBuiltStep, IsStep}
+use Rattle.hp_model.specs.files.Value.{shown}
 use Rattle.hp_laws.proofs.CountsHold.{counts_are_sums}
 use Rattle.hp_laws.proofs.Fades.{exit_refused}
 use Rattle.hp_laws.proofs.Outcomes.{Always, event_ends, reply_of}

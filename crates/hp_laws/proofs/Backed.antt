@@ -8,18 +8,18 @@ use Rattle.hp_model.specs.declared.place.Place.TheVariants.{Gone, Live}
 use Rattle.hp_model.specs.declared.refusal.Refusal.TheVariants.{OutOfRange, CrossesPage, TooMany, BeyondEnd, NoSuchMap, TakenByOwner}
 use Rattle.hp_model.specs.declared.step.Intent.{Intent}
 use Rattle.hp_model.specs.declared.step.Intent.TheVariants.{Read, Write}
-use Rattle.hp_model.specs.Access.{uncopied_access, access, private_access, shared_access}
-use Rattle.hp_model.specs.File.{Mount, cell_at}
+use Rattle.hp_model.specs.files.Access.{uncopied_access, access, private_access, shared_access}
+use Rattle.hp_model.specs.files.File.{Mount, cell_at}
 use Rattle.hp_laws.specs.Laws.{KeepsGoing}
-use Rattle.hp_model.specs.Mapping.{copy_of, is_map, is_shared, place_at}
-use Rattle.hp_model.specs.Page.{Copy}
-use Rattle.hp_model.specs.Plan.{refuse, Slot, Outcome, Refused, Answered, Choice, continued, with_value}
+use Rattle.hp_model.specs.files.Mapping.{copy_of, is_map, is_shared, place_at}
+use Rattle.hp_model.specs.files.Page.{Copy}
+use Rattle.hp_model.specs.machine.Plan.{refuse, Slot, Outcome, Refused, Answered, Choice, continued, with_value}
 use Rattle.hp_model.specs.Profile.{most_bytes}
-use Rattle.hp_model.specs.Promises.{is_cut_off, is_refused, spot_on, is_backed, owns_copy}
-use Rattle.hp_model.specs.Reserved.{is_reserved}
-use Rattle.hp_model.specs.SlotEvent.{byte_access, bytes_answer, fault, is_beyond, is_unmapped, load, slot_event, store}
-use Rattle.hp_model.specs.Spot.{Spot, again, spot, written}
-use Rattle.hp_model.specs.Value.{value}
+use Rattle.hp_model.specs.machine.Promises.{is_cut_off, is_refused, spot_on, is_backed, owns_copy}
+use Rattle.hp_model.specs.files.Reserved.{is_reserved}
+use Rattle.hp_model.specs.machine.SlotEvent.{byte_access, bytes_answer, fault, is_beyond, is_unmapped, load, slot_event, store}
+use Rattle.hp_model.specs.files.Spot.{Spot, again, spot, written}
+use Rattle.hp_model.specs.files.Value.{value}
 use Rattle.hp_laws.proofs.Outcomes.{reply_of, Always, always_if, always_test, always_then}
 use Rattle.hp_laws.proofs.Reserved.{reserved_access, copy_keeps}
 

@@ -3,11 +3,11 @@ use Rattle.std.proofs.Common.{◌≡◌, ⊎_elim, inl, inr, ◌⊎◌, subst, �
 use Rattle.hp_model.specs.declared.event.SlotEvent.{SlotEvent}
 use Rattle.hp_model.specs.declared.event.SlotEvent.TheVariants as slot
 use Rattle.hp_model.specs.declared.step.Intent.TheVariants.{Read, Write}
-use Rattle.hp_model.specs.File.{File, Mount}
-use Rattle.hp_model.specs.Mapping.{Map, is_map}
-use Rattle.hp_model.specs.Promises.{IsLost, IsLostTo, SameFiles, map_on, seen_on, shown_on, spot_on}
-use Rattle.hp_model.specs.SlotEvent.{file_named}
-use Rattle.hp_model.specs.Spot.{Spot, spot}
+use Rattle.hp_model.specs.files.File.{File, Mount}
+use Rattle.hp_model.specs.files.Mapping.{Map, is_map}
+use Rattle.hp_model.specs.machine.Promises.{IsLost, IsLostTo, SameFiles, map_on, seen_on, shown_on, spot_on}
+use Rattle.hp_model.specs.machine.SlotEvent.{file_named}
+use Rattle.hp_model.specs.files.Spot.{Spot, spot}
 use Rattle.hp_laws.proofs.Changes.{KeptMap, LosesBy, SlotKeeps, ends_name, ends_number, seen_by, stored_by}
 use Rattle.hp_laws.proofs.Keys.{Where, places}
 use Rattle.hp_laws.proofs.Named.{file_same, file_shown, map_shown, seen_shown}

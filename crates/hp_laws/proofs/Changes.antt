@@ -4,12 +4,12 @@ use Rattle.std.specs.Str.{bytes_eq}
 use Rattle.hp_model.specs.declared.event.SlotEvent.{SlotEvent}
 use Rattle.hp_model.specs.declared.event.SlotEvent.TheVariants as slot
 use Rattle.hp_model.specs.declared.step.Intent.TheVariants.{Write}
-use Rattle.hp_model.specs.File.{File, cell_at}
-use Rattle.hp_model.specs.Page.{zeros}
-use Rattle.hp_model.specs.Plan.{Outcome, Refused, Answered, Slot}
-use Rattle.hp_model.specs.Promises.{IsLostTo, IsNameOf, SameFiles, StillNamed, is_at, is_in, is_shared_of, map_on, means_file, named_on, over, reaches, shape_of, shown_on, spot_on, stays_mapped}
-use Rattle.hp_model.specs.Spot.{Spot}
-use Rattle.hp_model.specs.Value.{shown, value}
+use Rattle.hp_model.specs.files.File.{File, cell_at}
+use Rattle.hp_model.specs.files.Page.{zeros}
+use Rattle.hp_model.specs.machine.Plan.{Outcome, Refused, Answered, Slot}
+use Rattle.hp_model.specs.machine.Promises.{IsLostTo, IsNameOf, SameFiles, StillNamed, is_at, is_in, is_shared_of, map_on, means_file, named_on, over, reaches, shape_of, shown_on, spot_on, stays_mapped}
+use Rattle.hp_model.specs.files.Spot.{Spot}
+use Rattle.hp_model.specs.files.Value.{shown, value}
 
 -- the bytes of the file at this place
 abbrev pub stored_by : (size : ℕ) → Slot → SlotEvent → (file i : ℕ) → List ℕ → List ℕ

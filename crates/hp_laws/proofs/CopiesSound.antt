@@ -8,13 +8,13 @@ use Rattle.std.proofs.lemmas.List.Folds.{list_any_at}
 use Rattle.std.proofs.lemmas.List.Sums.{get_or-le-sum_by, sum_by-set}
 use Rattle.hp_model.specs.declared.place.Place.{Place}
 use Rattle.hp_model.specs.declared.place.Place.TheVariants.{Gone, Live}
-use Rattle.hp_model.specs.CopyWrite.{drop_stamp, holds, is_held_once, robbed}
-use Rattle.hp_model.specs.File.{File, Mount, file_in, map_in, new_file, with_file, with_map}
-use Rattle.hp_model.specs.Mapping.{Map, copy_of, is_map, is_shared, is_unconsumed, no_map, place_at, with_place}
-use Rattle.hp_model.specs.MountCounts.{stamps_of}
-use Rattle.hp_model.specs.Page.{Copy}
-use Rattle.hp_model.specs.Sound.{HasCopy, IsCopyPlace, IsSoundFile, IsSoundMap, IsSoundMount, file_has, is_stamp, map_has, owns_stamp, place_has}
-use Rattle.hp_model.specs.Spot.{Spot}
+use Rattle.hp_model.specs.files.CopyWrite.{drop_stamp, holds, is_held_once, robbed}
+use Rattle.hp_model.specs.files.File.{File, Mount, file_in, map_in, new_file, with_file, with_map}
+use Rattle.hp_model.specs.files.Mapping.{Map, copy_of, is_map, is_shared, is_unconsumed, no_map, place_at, with_place}
+use Rattle.hp_model.specs.files.MountCounts.{stamps_of}
+use Rattle.hp_model.specs.files.Page.{Copy}
+use Rattle.hp_model.specs.machine.Sound.{HasCopy, IsCopyPlace, IsSoundFile, IsSoundMap, IsSoundMount, file_has, is_stamp, map_has, owns_stamp, place_has}
+use Rattle.hp_model.specs.files.Spot.{Spot}
 use Rattle.hp_laws.proofs.Copies.{file_copy, file_has_stamp, file_there, has_stamp, live_of, map_copy, map_there}
 use Rattle.hp_laws.proofs.FileMoves.{held_in, live_at, maps_count}
 use Rattle.hp_laws.proofs.FilesSound.{back_keeps}

@@ -5,14 +5,14 @@ use Rattle.std.proofs.lemmas.List.{length-map, get_or-map}
 use Rattle.std.proofs.lemmas.Bool.{or_left, or_right, true_from_ne_false, both_ways, eq-eqb, eqb-true, and_from, and_parts, and_right, or_cases}
 use Rattle.std.proofs.lemmas.List.Folds.{list_any_at}
 use Rattle.std.proofs.lemmas.List.Sums.{sum_by-set}
-use Rattle.hp_model.specs.CopyWrite.{is_held_once, robbed, drop_stamp, holds}
-use Rattle.hp_model.specs.File.{with_map, has_page, File}
+use Rattle.hp_model.specs.files.CopyWrite.{is_held_once, robbed, drop_stamp, holds}
+use Rattle.hp_model.specs.files.File.{with_map, has_page, File}
 use Rattle.hp_model.specs.Lists.{is_among, edit_at}
-use Rattle.hp_model.specs.Mapping.{with_place, without_copy, Map, place_at, is_unconsumed}
-use Rattle.hp_model.specs.MountCounts.{owner_reserves, stamps_of, is_waiting, is_page_at}
-use Rattle.hp_model.specs.Page.{overwritten, Page, Copy}
-use Rattle.hp_model.specs.Sound.{place_has, map_has, file_has, is_stamp}
-use Rattle.hp_model.specs.Spot.{cell_written, place_written, map_written}
+use Rattle.hp_model.specs.files.Mapping.{with_place, without_copy, Map, place_at, is_unconsumed}
+use Rattle.hp_model.specs.files.MountCounts.{owner_reserves, stamps_of, is_waiting, is_page_at}
+use Rattle.hp_model.specs.files.Page.{overwritten, Page, Copy}
+use Rattle.hp_model.specs.machine.Sound.{place_has, map_has, file_has, is_stamp}
+use Rattle.hp_model.specs.files.Spot.{cell_written, place_written, map_written}
 use Rattle.hp_model.specs.declared.cell.Cell.{Cell}
 use Rattle.hp_model.specs.declared.cell.Cell.TheVariants.{Hole, Entered, Present}
 use Rattle.hp_model.specs.declared.place.Place.{Place}

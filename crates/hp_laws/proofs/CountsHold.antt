@@ -7,19 +7,19 @@ use Rattle.std.proofs.lemmas.List.Sums.{sum-map, sum_by-cons}
 use Rattle.hp_model.specs.declared.event.Event.{Event}
 use Rattle.hp_model.specs.declared.event.Event.TheVariants.{Tasks, Slot as OnSlot, Pool as OnPool}
 use Rattle.hp_laws.specs.Balance.{IsBalanced, IsLimited, left_by}
-use Rattle.hp_model.specs.Plan.{IsWithinLimit, slot_usage}
-use Rattle.hp_model.specs.Event.{after, CanHappen, planned}
-use Rattle.hp_model.specs.Machine.{committed_pages, pool_of, with_pool, used_at, used_pages}
-use Rattle.hp_model.specs.NodeRows.{total_of}
-use Rattle.hp_model.specs.Plan.{Reply, Slot, Plan, Finish, Ask, Choice, slot_committed, slot_pages, slot_pages_at}
-use Rattle.hp_model.specs.Pool.{section}
-use Rattle.hp_model.specs.PoolCounts.{counts_by, used}
-use Rattle.hp_model.specs.Promises.{least_of}
-use Rattle.hp_model.specs.Settled.{IsSettledState}
+use Rattle.hp_model.specs.machine.Plan.{IsWithinLimit, slot_usage}
+use Rattle.hp_model.specs.machine.Event.{after, CanHappen, planned}
+use Rattle.hp_model.specs.machine.Machine.{committed_pages, pool_of, with_pool, used_at, used_pages}
+use Rattle.hp_model.specs.pool.NodeRows.{total_of}
+use Rattle.hp_model.specs.machine.Plan.{Reply, Slot, Plan, Finish, Ask, Choice, slot_committed, slot_pages, slot_pages_at}
+use Rattle.hp_model.specs.pool.Pool.{section}
+use Rattle.hp_model.specs.pool.PoolCounts.{counts_by, used}
+use Rattle.hp_model.specs.machine.Promises.{least_of}
+use Rattle.hp_model.specs.machine.Settled.{IsSettledState}
 use Rattle.hp_laws.specs.Laws.{CountsAreSums, LimitsHold}
-use Rattle.hp_model.specs.SlotEvent.{slot_event}
-use Rattle.hp_model.specs.Sound.{IsSound}
-use Rattle.hp_model.specs.State.{State, slot_at, with_slot}
+use Rattle.hp_model.specs.machine.SlotEvent.{slot_event}
+use Rattle.hp_model.specs.machine.Sound.{IsSound}
+use Rattle.hp_model.specs.machine.State.{State, slot_at, with_slot}
 use Rattle.hp_laws.proofs.NodeSums.{slot_below, slot_above, swap_le, sum_above, once_in_range, far_range}
 use Rattle.hp_model.proofs.RowMoves.{used_sum}
 use Rattle.hp_laws.proofs.SectionTies.{used_is}

@@ -12,16 +12,16 @@ use Rattle.hp_model.specs.declared.event.SlotEvent.{SlotEvent}
 use Rattle.hp_model.specs.declared.event.SlotEvent.TheVariants as slot
 use Rattle.hp_model.specs.declared.place.Place.{Place}
 use Rattle.hp_model.specs.declared.place.Place.TheVariants.{Gone, Live}
-use Rattle.hp_model.specs.File.{File, Mount, cell_at, cell_punched, cells_to, new_file, with_file}
-use Rattle.hp_model.specs.GiveBack.{punched, truncated, unlinked}
+use Rattle.hp_model.specs.files.File.{File, Mount, cell_at, cell_punched, cells_to, new_file, with_file}
+use Rattle.hp_model.specs.files.GiveBack.{punched, truncated, unlinked}
 use Rattle.hp_model.specs.Lists.{edit_range, found}
-use Rattle.hp_model.specs.Mapping.{Map, copy_of, is_map, map_punched, no_map, place_at, without_copy}
-use Rattle.hp_model.specs.Page.{Copy, Page, zeros}
-use Rattle.hp_model.specs.Promises.{file_in, is_in, map_in, means_file, shape_of}
-use Rattle.hp_model.specs.SlotEvent.{file_named, has_name}
-use Rattle.hp_model.specs.Sound.{IsSoundFile, IsSoundMap, IsSoundMount}
-use Rattle.hp_model.specs.Spot.{Spot, spot, spot_in}
-use Rattle.hp_model.specs.Value.{shown, value}
+use Rattle.hp_model.specs.files.Mapping.{Map, copy_of, is_map, map_punched, no_map, place_at, without_copy}
+use Rattle.hp_model.specs.files.Page.{Copy, Page, zeros}
+use Rattle.hp_model.specs.machine.Promises.{file_in, is_in, map_in, means_file, shape_of}
+use Rattle.hp_model.specs.machine.SlotEvent.{file_named, has_name}
+use Rattle.hp_model.specs.machine.Sound.{IsSoundFile, IsSoundMap, IsSoundMount}
+use Rattle.hp_model.specs.files.Spot.{Spot, spot, spot_in}
+use Rattle.hp_model.specs.files.Value.{shown, value}
 use Rattle.hp_model.proofs.Editing.{get_or-edit_below, get_or-edit_in, get_or-edit_past, length-edit_range}
 use Rattle.hp_laws.proofs.Accessed.{file_put, get_mapped, key_map, pages_same}
 use Rattle.hp_laws.proofs.ByPlace.{PlaceKeeps}

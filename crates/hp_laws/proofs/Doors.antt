@@ -1,11 +1,11 @@
 -- How a plan that asks for a grant goes through a door: the ways that a caller's code has.
 use Rattle.std.proofs.Common.{◌≡◌, ℕ, ◌==◌, ◌<◌, Bool, true, false, cond, Some, Err, sym, ap, subst, arith}
 use Rattle.hp_model.specs.declared.refusal.Refusal.TheVariants.{NoPages, MountFull}
-use Rattle.hp_model.specs.File.{Mount}
-use Rattle.hp_model.specs.Grant.{is_full, rise}
-use Rattle.hp_model.specs.LocalRun.{ThroughDoor, Gives}
-use Rattle.hp_model.specs.Plan.{Plan, Finish, Ask, Outcome, Reply, Slot, Choice, grant, refuse, when_granted}
-use Rattle.hp_model.specs.Pool.{granted_at, no_pages}
+use Rattle.hp_model.specs.files.File.{Mount}
+use Rattle.hp_model.specs.pool.Grant.{is_full, rise}
+use Rattle.hp_model.specs.threads.LocalRun.{ThroughDoor, Gives}
+use Rattle.hp_model.specs.machine.Plan.{Plan, Finish, Ask, Outcome, Reply, Slot, Choice, grant, refuse, when_granted}
+use Rattle.hp_model.specs.pool.Pool.{granted_at, no_pages}
 use Rattle.hp_model.specs.declared.section.PoolAnswer.{PoolAnswer}
 use Rattle.hp_model.specs.declared.section.Section.{Section}
 use Rattle.hp_model.specs.declared.section.Section.TheVariants.{Grant}

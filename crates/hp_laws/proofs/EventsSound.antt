@@ -17,22 +17,22 @@ use Rattle.hp_model.specs.declared.step.Intent.{Intent}
 use Rattle.hp_model.specs.declared.step.Intent.TheVariants.{Read, Write}
 use Rattle.hp_model.specs.declared.step.Reserving.{Reserving}
 use Rattle.hp_model.specs.declared.step.Sharing.{Sharing}
-use Rattle.hp_model.specs.Access.{access, new_copy, private_access, shared_access, uncopied_access}
-use Rattle.hp_model.specs.CopyWrite.{copy_write, is_held_once, taken_back}
-use Rattle.hp_model.specs.File.{File, Mount, cell_at, file_in, has_page, map_in, maps_of, new_file, with_cell, with_file, with_map}
-use Rattle.hp_model.specs.GiveBack.{file_unmapped, file_without, is_left, map_unmapped, punched, truncated, unlinked, without_task, swept}
-use Rattle.hp_model.specs.Grant.{is_full, rise}
+use Rattle.hp_model.specs.files.Access.{access, new_copy, private_access, shared_access, uncopied_access}
+use Rattle.hp_model.specs.files.CopyWrite.{copy_write, is_held_once, taken_back}
+use Rattle.hp_model.specs.files.File.{File, Mount, cell_at, file_in, has_page, map_in, maps_of, new_file, with_cell, with_file, with_map}
+use Rattle.hp_model.specs.files.GiveBack.{file_unmapped, file_without, is_left, map_unmapped, punched, truncated, unlinked, without_task, swept}
+use Rattle.hp_model.specs.pool.Grant.{is_full, rise}
 use Rattle.hp_model.specs.Lists.{edit_at, is_among}
-use Rattle.hp_model.specs.MakeMap.{mapped, new_map, next_number}
-use Rattle.hp_model.specs.Mapping.{Map, copy_of, is_map, is_of, is_shared, is_unconsumed, map_punched, no_map, place_at, with_place, without_range}
-use Rattle.hp_model.specs.MountCounts.{stamps_of}
-use Rattle.hp_model.specs.Page.{Copy, Page, overwritten, zeros}
-use Rattle.hp_model.specs.Plan.{Ask, Answered, Choice, Finish, Outcome, Refused, Slot, gives, unless}
+use Rattle.hp_model.specs.files.MakeMap.{mapped, new_map, next_number}
+use Rattle.hp_model.specs.files.Mapping.{Map, copy_of, is_map, is_of, is_shared, is_unconsumed, map_punched, no_map, place_at, with_place, without_range}
+use Rattle.hp_model.specs.files.MountCounts.{stamps_of}
+use Rattle.hp_model.specs.files.Page.{Copy, Page, overwritten, zeros}
+use Rattle.hp_model.specs.machine.Plan.{Ask, Answered, Choice, Finish, Outcome, Refused, Slot, gives, unless}
 use Rattle.hp_model.specs.Profile.{most_bytes}
-use Rattle.hp_model.specs.Sound.{HasCopy, IsSound, IsSoundFile, IsSoundMap, IsSoundMount, is_stamp}
-use Rattle.hp_model.specs.SlotEvent.{byte_access, fault, is_beyond, is_unmapped, on_mount, umount_tests}
-use Rattle.hp_model.specs.Spot.{Spot, cell_written, copied, file_written, map_written, place_written, written}
-use Rattle.hp_model.specs.Value.{value}
+use Rattle.hp_model.specs.machine.Sound.{HasCopy, IsSound, IsSoundFile, IsSoundMap, IsSoundMount, is_stamp}
+use Rattle.hp_model.specs.machine.SlotEvent.{byte_access, fault, is_beyond, is_unmapped, on_mount, umount_tests}
+use Rattle.hp_model.specs.files.Spot.{Spot, cell_written, copied, file_written, map_written, place_written, written}
+use Rattle.hp_model.specs.files.Value.{value}
 use Rattle.hp_model.proofs.Editing.{length-edit_at}
 use Rattle.hp_laws.specs.Balance.{Always, left_by}
 use Rattle.hp_laws.specs.Laws.{SlotsStaySound}

@@ -10,17 +10,17 @@ use Rattle.hp_model.specs.declared.event.SlotEvent.{SlotEvent}
 use Rattle.hp_model.specs.declared.event.SlotEvent.TheVariants as slot
 use Rattle.hp_model.specs.declared.refusal.Refusal.{Refusal}
 use Rattle.hp_model.specs.declared.step.Step.TheVariants.{Exit, Fork}
-use Rattle.hp_model.specs.Event.{IsEvent, has_maps_of, with_table}
-use Rattle.hp_model.specs.File.{Mount}
-use Rattle.hp_model.specs.Fork.{file_forked, forked}
-use Rattle.hp_model.specs.GiveBack.{file_without, without_task}
-use Rattle.hp_model.specs.Plan.{Choice, Outcome, Refused, Answered, Reply, Slot, gives, slot_usage}
-use Rattle.hp_model.specs.Promises.{SameFiles, SameLimits, spot_on}
-use Rattle.hp_model.specs.SlotEvent.{fork_tests, slot_event}
-use Rattle.hp_model.specs.Spot.{Spot}
-use Rattle.hp_model.specs.State.{State, slot_at}
-use Rattle.hp_model.specs.Table.{home_of, removed, when_known}
-use Rattle.hp_model.specs.Step.{Answer_with, Do, IsBuiltStep, IsScript, Script, Where_mapped, exit_slots, fork_slots, or_undone, script, undone, when_done}
+use Rattle.hp_model.specs.machine.Event.{IsEvent, has_maps_of, with_table}
+use Rattle.hp_model.specs.files.File.{Mount}
+use Rattle.hp_model.specs.files.Fork.{file_forked, forked}
+use Rattle.hp_model.specs.files.GiveBack.{file_without, without_task}
+use Rattle.hp_model.specs.machine.Plan.{Choice, Outcome, Refused, Answered, Reply, Slot, gives, slot_usage}
+use Rattle.hp_model.specs.machine.Promises.{SameFiles, SameLimits, spot_on}
+use Rattle.hp_model.specs.machine.SlotEvent.{fork_tests, slot_event}
+use Rattle.hp_model.specs.files.Spot.{Spot}
+use Rattle.hp_model.specs.machine.State.{State, slot_at}
+use Rattle.hp_model.specs.machine.Table.{home_of, removed, when_known}
+use Rattle.hp_model.specs.machine.Step.{Answer_with, Do, IsBuiltStep, IsScript, Script, Where_mapped, exit_slots, fork_slots, or_undone, script, undone, when_done}
 use Rattle.hp_laws.specs.Balance.{Always, left_by}
 use Rattle.hp_laws.proofs.Changes.{KeptMap, SlotKeeps}
 use Rattle.hp_laws.proofs.Falls.{forked_falls, without_falls}

@@ -4,14 +4,14 @@ use Rattle.std.specs.List.{list_any, sum_by, count_by, filter}
 use Rattle.std.proofs.lemmas.Bool.{or_left, or_right, or_cases}
 use Rattle.std.proofs.lemmas.List.Folds.{list_any-append}
 use Rattle.std.proofs.lemmas.List.Sums.{sum_by-append, sum_by-take-drop, sum_by-take-le, sum_by-cons}
-use Rattle.hp_model.specs.File.{cell_punched, cells_to, File, has_page}
-use Rattle.hp_model.specs.Fork.{file_forked}
-use Rattle.hp_model.specs.GiveBack.{file_unmapped, file_without, is_left, map_unmapped, punched, truncated, unlinked}
+use Rattle.hp_model.specs.files.File.{cell_punched, cells_to, File, has_page}
+use Rattle.hp_model.specs.files.Fork.{file_forked}
+use Rattle.hp_model.specs.files.GiveBack.{file_unmapped, file_without, is_left, map_unmapped, punched, truncated, unlinked}
 use Rattle.hp_model.specs.Lists.{edit_range}
-use Rattle.hp_model.specs.Mapping.{map_for, unconsumed, without_range, without_copy, map_punched, Map, is_unconsumed, is_of}
-use Rattle.hp_model.specs.MountCounts.{file_pages, file_reserves, file_pages_at, is_waiting, is_page_at, owner_reserves}
-use Rattle.hp_model.specs.Page.{Page, Copy}
-use Rattle.hp_model.specs.Sound.{place_has, map_has}
+use Rattle.hp_model.specs.files.Mapping.{map_for, unconsumed, without_range, without_copy, map_punched, Map, is_unconsumed, is_of}
+use Rattle.hp_model.specs.files.MountCounts.{file_pages, file_reserves, file_pages_at, is_waiting, is_page_at, owner_reserves}
+use Rattle.hp_model.specs.files.Page.{Page, Copy}
+use Rattle.hp_model.specs.machine.Sound.{place_has, map_has}
 use Rattle.hp_model.specs.declared.cell.Cell.{Cell}
 use Rattle.hp_model.specs.declared.cell.Cell.TheVariants.{Hole, Entered, Present}
 use Rattle.hp_model.specs.declared.place.Place.{Place}

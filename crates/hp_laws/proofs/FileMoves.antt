@@ -4,12 +4,12 @@ use Rattle.std.specs.List.{list_any, slice_set, slice_index_or, sum_by, count_by
 use Rattle.std.proofs.lemmas.List.{map-append}
 use Rattle.std.proofs.lemmas.Bool.{or_parts, or_cases, or_left, or_right, and_from, and_parts, eq-eqb, eqb-true}
 use Rattle.std.proofs.lemmas.List.Sums.{sum_by-set, sum_by-cons, sum_by-append}
-use Rattle.hp_model.specs.File.{with_cell, with_map, File, cell_at, has_page}
+use Rattle.hp_model.specs.files.File.{with_cell, with_map, File, cell_at, has_page}
 use Rattle.hp_model.specs.Lists.{is_among}
-use Rattle.hp_model.specs.Mapping.{with_place, Map, place_at, copy_of, is_unconsumed}
-use Rattle.hp_model.specs.MountCounts.{file_pages, file_reserves, file_pages_at, is_waiting, is_page_at, owner_reserves, stamps_of}
-use Rattle.hp_model.specs.Page.{Page, Copy}
-use Rattle.hp_model.specs.Sound.{place_has, map_has, file_has, is_stamp}
+use Rattle.hp_model.specs.files.Mapping.{with_place, Map, place_at, copy_of, is_unconsumed}
+use Rattle.hp_model.specs.files.MountCounts.{file_pages, file_reserves, file_pages_at, is_waiting, is_page_at, owner_reserves, stamps_of}
+use Rattle.hp_model.specs.files.Page.{Page, Copy}
+use Rattle.hp_model.specs.machine.Sound.{place_has, map_has, file_has, is_stamp}
 use Rattle.hp_model.specs.declared.cell.Cell.TheVariants.{Hole, Entered, Present}
 use Rattle.hp_model.specs.declared.place.Place.{Place}
 use Rattle.hp_model.specs.declared.place.Place.TheVariants.{Gone, Live}

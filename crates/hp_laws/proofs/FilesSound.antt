@@ -11,15 +11,15 @@ use Rattle.hp_model.specs.declared.place.Place.{Place}
 use Rattle.hp_model.specs.declared.place.Place.TheVariants.{Gone, Live}
 use Rattle.hp_model.specs.declared.step.Reserving.{Reserving}
 use Rattle.hp_model.specs.declared.step.Sharing.{Sharing}
-use Rattle.hp_model.specs.CopyWrite.{robbed}
-use Rattle.hp_model.specs.File.{File, at_least, cell_punched, cells_to, entered, with_map}
-use Rattle.hp_model.specs.Fork.{file_forked}
-use Rattle.hp_model.specs.GiveBack.{file_unmapped, file_without, is_left, map_unmapped, punched, truncated, unlinked}
+use Rattle.hp_model.specs.files.CopyWrite.{robbed}
+use Rattle.hp_model.specs.files.File.{File, at_least, cell_punched, cells_to, entered, with_map}
+use Rattle.hp_model.specs.files.Fork.{file_forked}
+use Rattle.hp_model.specs.files.GiveBack.{file_unmapped, file_without, is_left, map_unmapped, punched, truncated, unlinked}
 use Rattle.hp_model.specs.Lists.{edit_range}
-use Rattle.hp_model.specs.MakeMap.{cells_mapped, mapped, new_map, reserves}
-use Rattle.hp_model.specs.Mapping.{Map, copy_of, is_of, is_shared, map_punched, no_map, place_at, without_copy, without_range}
-use Rattle.hp_model.specs.Page.{Copy, Page}
-use Rattle.hp_model.specs.Sound.{FileHasCopy, HasCopy, IsSoundMap, is_stamp, map_has, owns_stamp}
+use Rattle.hp_model.specs.files.MakeMap.{cells_mapped, mapped, new_map, reserves}
+use Rattle.hp_model.specs.files.Mapping.{Map, copy_of, is_of, is_shared, map_punched, no_map, place_at, without_copy, without_range}
+use Rattle.hp_model.specs.files.Page.{Copy, Page}
+use Rattle.hp_model.specs.machine.Sound.{FileHasCopy, HasCopy, IsSoundMap, is_stamp, map_has, owns_stamp}
 use Rattle.hp_model.proofs.Editing.{get_or-edit_in, length-edit_range}
 use Rattle.hp_laws.proofs.Copies.{map_copy, none_copied}
 use Rattle.hp_laws.proofs.FileMoves.{IsMapAt}

@@ -5,16 +5,16 @@ use Rattle.std.specs.Str.{bytes_eq}
 use Rattle.std.proofs.lemmas.Bool.{cases_eq, cases_order, eq-eqb, eqb-true, false_from_ne_true, or_right, lt-ltb, or_cases, and_parts}
 use Rattle.std.proofs.lemmas.List.Folds.{list_any_at}
 use Rattle.hp_model.specs.declared.event.SlotEvent.{SlotEvent}
-use Rattle.hp_model.specs.File.{File, Mount, cell_in, new_file}
-use Rattle.hp_model.specs.Fork.{file_forked}
-use Rattle.hp_model.specs.GiveBack.{is_kept, swept}
+use Rattle.hp_model.specs.files.File.{File, Mount, cell_in, new_file}
+use Rattle.hp_model.specs.files.Fork.{file_forked}
+use Rattle.hp_model.specs.files.GiveBack.{is_kept, swept}
 use Rattle.hp_model.specs.Lists.{found, one_on}
-use Rattle.hp_model.specs.Mapping.{Map, is_map, is_of, map_for, place_at}
-use Rattle.hp_model.specs.Plan.{Slot}
-use Rattle.hp_model.specs.Promises.{SameFiles, shape_of, spot_on}
-use Rattle.hp_model.specs.SlotEvent.{file_named, has_name}
-use Rattle.hp_model.specs.Spot.{Spot, spot, spot_in}
-use Rattle.hp_model.specs.Value.{shown, value}
+use Rattle.hp_model.specs.files.Mapping.{Map, is_map, is_of, map_for, place_at}
+use Rattle.hp_model.specs.machine.Plan.{Slot}
+use Rattle.hp_model.specs.machine.Promises.{SameFiles, shape_of, spot_on}
+use Rattle.hp_model.specs.machine.SlotEvent.{file_named, has_name}
+use Rattle.hp_model.specs.files.Spot.{Spot, spot, spot_in}
+use Rattle.hp_model.specs.files.Value.{shown, value}
 use Rattle.hp_laws.proofs.Changes.{LosesBy, SlotKeeps, ends_number}
 use Rattle.hp_laws.proofs.Keys.{found_mapped, found_same, keyed}
 use Rattle.hp_laws.proofs.Made.{any_append, in_file, spot_in_file}

@@ -4,12 +4,12 @@ use Rattle.std.specs.List.{list_any, filter_map, flat_map, cons_option}
 use Rattle.std.proofs.lemmas.List.{map-append}
 use Rattle.std.proofs.lemmas.Bool.{or_left, or_right, and_parts, both_ways, false_from_ne_true}
 use Rattle.std.proofs.lemmas.List.Elements.{filter_map-append}
-use Rattle.hp_model.specs.File.{File}
+use Rattle.hp_model.specs.files.File.{File}
 use Rattle.hp_model.specs.Lists.{distinct, is_among}
-use Rattle.hp_model.specs.Mapping.{Map, copy_of}
-use Rattle.hp_model.specs.MountCounts.{copies_of, stamps_of, stamp_at}
-use Rattle.hp_model.specs.Page.{Copy}
-use Rattle.hp_model.specs.Sound.{place_has, map_has, file_has, is_stamp}
+use Rattle.hp_model.specs.files.Mapping.{Map, copy_of}
+use Rattle.hp_model.specs.files.MountCounts.{copies_of, stamps_of, stamp_at}
+use Rattle.hp_model.specs.files.Page.{Copy}
+use Rattle.hp_model.specs.machine.Sound.{place_has, map_has, file_has, is_stamp}
 use Rattle.hp_model.specs.declared.place.Place.{Place}
 use Rattle.hp_model.specs.declared.place.Place.TheVariants.{Gone, Live}
 use Rattle.hp_model.proofs.Distinct.{same_members, is_among-append, distinct_put, length_if}

@@ -12,22 +12,22 @@ use Rattle.hp_model.specs.declared.entry.SlotEntry.{SlotEntry}
 use Rattle.hp_model.specs.declared.entry.TableEntry.{TableEntry}
 use Rattle.hp_model.specs.declared.event.Event.TheVariants.{Slot as OnSlot, Pool as OnPool}
 use Rattle.hp_model.specs.declared.event.PoolEvent.{PoolEvent}
-use Rattle.hp_model.specs.Event.{IsEvent, IsEventRun, CanHappen, after, planned, settled, asked_pool, with_table, with_pool_reply}
-use Rattle.hp_model.specs.JointRun.{slot_trail, Entry, InTasks, InSlot, InPool, Item, option_cons, keep, numbered, task_entry, slot_entry, section_entry, pool_entry, placed, task_part, slot_part, pool_part, IsThere, event_of, HasParts}
+use Rattle.hp_model.specs.machine.Event.{IsEvent, IsEventRun, CanHappen, after, planned, settled, asked_pool, with_table, with_pool_reply}
+use Rattle.hp_model.specs.threads.JointRun.{slot_trail, Entry, InTasks, InSlot, InPool, Item, option_cons, keep, numbered, task_entry, slot_entry, section_entry, pool_entry, placed, task_part, slot_part, pool_part, IsThere, event_of, HasParts}
 use Rattle.hp_laws.specs.Laws.{JoinedLaw}
-use Rattle.hp_model.specs.LocalRun.{Gives, Goes, IsLocalRun}
-use Rattle.hp_model.specs.Machine.{pool_of, with_pool}
-use Rattle.hp_model.specs.Plan.{Reply, Slot, Outcome, Refused, Answered, Plan, Finish, Ask, Choice}
-use Rattle.hp_model.specs.Pool.{section}
+use Rattle.hp_model.specs.threads.LocalRun.{Gives, Goes, IsLocalRun}
+use Rattle.hp_model.specs.machine.Machine.{pool_of, with_pool}
+use Rattle.hp_model.specs.machine.Plan.{Reply, Slot, Outcome, Refused, Answered, Plan, Finish, Ask, Choice}
+use Rattle.hp_model.specs.pool.Pool.{section}
 use Rattle.hp_model.specs.declared.section.PoolAnswer.{PoolAnswer}
-use Rattle.hp_model.specs.PoolCounts.{Pool}
-use Rattle.hp_model.specs.PoolRun.{IsPoolRun}
-use Rattle.hp_model.specs.Settled.{IsSettledState}
+use Rattle.hp_model.specs.pool.PoolCounts.{Pool}
+use Rattle.hp_model.specs.threads.PoolRun.{IsPoolRun}
+use Rattle.hp_model.specs.machine.Settled.{IsSettledState}
 use Rattle.hp_laws.specs.Laws.{pool_after}
-use Rattle.hp_model.specs.SlotEvent.{slot_event}
-use Rattle.hp_model.specs.State.{State, slot_at, with_slot}
-use Rattle.hp_model.specs.Table.{Table}
-use Rattle.hp_model.specs.TableRun.{IsTableRun}
+use Rattle.hp_model.specs.machine.SlotEvent.{slot_event}
+use Rattle.hp_model.specs.machine.State.{State, slot_at, with_slot}
+use Rattle.hp_model.specs.machine.Table.{Table}
+use Rattle.hp_model.specs.threads.TableRun.{IsTableRun}
 use Rattle.hp_laws.proofs.Lengths.{long_section, long_event, long_with_pool}
 use Rattle.hp_laws.proofs.StaysSettled.{pool_is_tied, event_settled}
 use Rattle.hp_laws.proofs.Tells.{Tells, slot_event_tells}

@@ -2,12 +2,12 @@
 use Rattle.std.proofs.Common.{◌≡◌, ℕ, ◌&&◌, ◌||◌, ◌==◌, Bool, true, false, None, Option, Some, List, [], ◌∷◌, map, option_map, refl, sym, ap, ◌∙◌, if◌then◌else◌}
 use Rattle.std.specs.List.{list_any}
 use Rattle.std.specs.Str.{bytes_eq}
-use Rattle.hp_model.specs.File.{File, Mount}
+use Rattle.hp_model.specs.files.File.{File, Mount}
 use Rattle.hp_model.specs.Lists.{found, one_on}
-use Rattle.hp_model.specs.Mapping.{Map, is_map}
-use Rattle.hp_model.specs.Promises.{Shape, shape_of}
-use Rattle.hp_model.specs.SlotEvent.{file_named}
-use Rattle.hp_model.specs.Spot.{Spot, spot, spot_in}
+use Rattle.hp_model.specs.files.Mapping.{Map, is_map}
+use Rattle.hp_model.specs.machine.Promises.{Shape, shape_of}
+use Rattle.hp_model.specs.machine.SlotEvent.{file_named}
+use Rattle.hp_model.specs.files.Spot.{Spot, spot, spot_in}
 use Rattle.hp_laws.proofs.Made.{in_file, spot_in_file}
 
 -- ---- keys

@@ -5,14 +5,14 @@ use Rattle.hp_model.specs.declared.step.Intent.{Intent}
 use Rattle.hp_model.specs.declared.step.Intent.TheVariants.{Read}
 use Rattle.hp_model.specs.declared.step.Reserving.{Reserving}
 use Rattle.hp_model.specs.declared.step.Sharing.{Sharing}
-use Rattle.hp_model.specs.File.{File, Mount, new_file, with_file}
-use Rattle.hp_model.specs.Fork.{forked}
-use Rattle.hp_model.specs.GiveBack.{punched, swept, truncated, unlinked, unmapped_from, without_task}
-use Rattle.hp_model.specs.MakeMap.{asked, mapped, next_number, with_new}
-use Rattle.hp_model.specs.Plan.{Answered, Choice, gives}
-use Rattle.hp_model.specs.SlotEvent.{byte_access, bytes_answer, fault, store}
-use Rattle.hp_model.specs.Spot.{Spot, again}
-use Rattle.hp_model.specs.Value.{value}
+use Rattle.hp_model.specs.files.File.{File, Mount, new_file, with_file}
+use Rattle.hp_model.specs.files.Fork.{forked}
+use Rattle.hp_model.specs.files.GiveBack.{punched, swept, truncated, unlinked, unmapped_from, without_task}
+use Rattle.hp_model.specs.files.MakeMap.{asked, mapped, next_number, with_new}
+use Rattle.hp_model.specs.machine.Plan.{Answered, Choice, gives}
+use Rattle.hp_model.specs.machine.SlotEvent.{byte_access, bytes_answer, fault, store}
+use Rattle.hp_model.specs.files.Spot.{Spot, again}
+use Rattle.hp_model.specs.files.Value.{value}
 use Rattle.hp_laws.specs.Balance.{Always}
 use Rattle.hp_laws.proofs.MountMoves.{IsFileAt, IsSpot}
 use Rattle.hp_laws.proofs.Outcomes.{always_then}

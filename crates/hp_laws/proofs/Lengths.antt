@@ -9,18 +9,18 @@ use Rattle.hp_model.specs.declared.node.Kind.TheVariants.{Free, Idle, Surplus, P
 use Rattle.hp_model.specs.declared.node.NodeRow.{NodeRow}
 use Rattle.hp_model.specs.declared.answer.Answer.TheVariants.{Done}
 use Rattle.hp_model.specs.declared.refusal.Refusal.TheVariants.{OutOfRange}
-use Rattle.hp_model.specs.Grant.{can_grant, granted, surplus_times}
-use Rattle.hp_model.specs.Machine.{pool_of, with_pool, rows_of, node_of}
-use Rattle.hp_model.specs.NodeRows.{NodeRows, at_row, row_at, lowest, near, next_from, give_back_row, promote_row, demote_row, grow_row, put_row, take_row, shrink_row, add_surplus_row, total_of, grown, shrunk, promoted, demoted, given_back, free_of, surp_of, frames_of}
-use Rattle.hp_model.specs.Pool.{section, granted_at, no_pages, page_taken, take_node, kept_times, puts_from, released, settled, give_back_times}
+use Rattle.hp_model.specs.pool.Grant.{can_grant, granted, surplus_times}
+use Rattle.hp_model.specs.machine.Machine.{pool_of, with_pool, rows_of, node_of}
+use Rattle.hp_model.specs.pool.NodeRows.{NodeRows, at_row, row_at, lowest, near, next_from, give_back_row, promote_row, demote_row, grow_row, put_row, take_row, shrink_row, add_surplus_row, total_of, grown, shrunk, promoted, demoted, given_back, free_of, surp_of, frames_of}
+use Rattle.hp_model.specs.pool.Pool.{section, granted_at, no_pages, page_taken, take_node, kept_times, puts_from, released, settled, give_back_times}
 use Rattle.hp_model.specs.declared.section.PoolAnswer.{PoolAnswer}
 use Rattle.hp_model.specs.declared.section.Section.{Section}
 use Rattle.hp_model.specs.declared.section.Section.TheVariants.{Grant, GrantPage, TakePage, GiveBack, ReadAndGrant, GrantAndReturn}
-use Rattle.hp_model.specs.PoolCounts.{Pool, rsvd}
-use Rattle.hp_model.specs.Plan.{Reply}
+use Rattle.hp_model.specs.pool.PoolCounts.{Pool, rsvd}
+use Rattle.hp_model.specs.machine.Plan.{Reply}
 use Rattle.hp_model.specs.Profile.{most_overcommit}
-use Rattle.hp_model.specs.Resize.{pool_event, raised, raise_times, lowered, lower_times}
-use Rattle.hp_model.specs.State.{State, Node}
+use Rattle.hp_model.specs.pool.Resize.{pool_event, raised, raise_times, lowered, lower_times}
+use Rattle.hp_model.specs.machine.State.{State, Node}
 
 abbrev IsLong : ℕ → NodeRows → Type 0
 IsLong n s = length s.rows ≡ n

@@ -5,12 +5,12 @@ use Rattle.std.proofs.lemmas.Bool.{and_from, and_parts, cond_both}
 use Rattle.std.proofs.lemmas.List.{get_or-map, get_or_default, length-map}
 use Rattle.std.proofs.lemmas.List.Elements.{All-append, All-filter, All-map}
 use Rattle.std.proofs.lemmas.List.Sums.{sum_by-append, sum_by-cons}
-use Rattle.hp_model.specs.CopyWrite.{drop_stamp, holds, robbed}
-use Rattle.hp_model.specs.File.{File}
+use Rattle.hp_model.specs.files.CopyWrite.{drop_stamp, holds, robbed}
+use Rattle.hp_model.specs.files.File.{File}
 use Rattle.hp_model.specs.Lists.{edit_range}
-use Rattle.hp_model.specs.Mapping.{Map, copy_of, is_shared, is_unconsumed, map_for, map_punched, no_map, place_at, unconsumed, without_copy, without_range}
-use Rattle.hp_model.specs.Page.{Copy}
-use Rattle.hp_model.specs.Sound.{FileHasCopy, HasCopy, IsSoundFile, IsSoundMap, file_has, is_stamp, map_has, owns_stamp}
+use Rattle.hp_model.specs.files.Mapping.{Map, copy_of, is_shared, is_unconsumed, map_for, map_punched, no_map, place_at, unconsumed, without_copy, without_range}
+use Rattle.hp_model.specs.files.Page.{Copy}
+use Rattle.hp_model.specs.machine.Sound.{FileHasCopy, HasCopy, IsSoundFile, IsSoundMap, file_has, is_stamp, map_has, owns_stamp}
 use Rattle.hp_model.specs.declared.place.Place.{Place}
 use Rattle.hp_model.specs.declared.place.Place.TheVariants.{Gone, Live}
 use Rattle.hp_laws.proofs.Copies.{file_copy, file_has_stamp, has_stamp, map_copy, map_there}

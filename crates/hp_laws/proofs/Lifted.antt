@@ -9,13 +9,13 @@ use Rattle.hp_model.specs.declared.event.Event.TheVariants.{Tasks, Slot as OnSlo
 use Rattle.hp_model.specs.declared.event.SlotEvent.{SlotEvent}
 use Rattle.hp_model.specs.declared.event.SlotEvent.TheVariants as slot
 use Rattle.hp_model.specs.declared.step.Step.{Step}
-use Rattle.hp_model.specs.File.{Mount}
-use Rattle.hp_model.specs.Event.{IsEvent}
-use Rattle.hp_model.specs.Plan.{Choice, Outcome, Refused, Answered, Plan, Finish, Ask, Slot, Reply}
-use Rattle.hp_model.specs.Promises.{is_unmounted}
-use Rattle.hp_model.specs.SlotEvent.{slot_event}
-use Rattle.hp_model.specs.State.{State, slot_at}
-use Rattle.hp_model.specs.Step.{IsStep}
+use Rattle.hp_model.specs.files.File.{Mount}
+use Rattle.hp_model.specs.machine.Event.{IsEvent}
+use Rattle.hp_model.specs.machine.Plan.{Choice, Outcome, Refused, Answered, Plan, Finish, Ask, Slot, Reply}
+use Rattle.hp_model.specs.machine.Promises.{is_unmounted}
+use Rattle.hp_model.specs.machine.SlotEvent.{slot_event}
+use Rattle.hp_model.specs.machine.State.{State, slot_at}
+use Rattle.hp_model.specs.machine.Step.{IsStep}
 use Rattle.hp_laws.specs.Balance.{left_by}
 use Rattle.hp_laws.proofs.Fades.{Fades, exit_fade, fork_fade}
 use Rattle.hp_laws.proofs.Outcomes.{Always, event_ends, reply_of}

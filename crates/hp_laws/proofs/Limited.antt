@@ -4,14 +4,14 @@ use Rattle.hp_model.specs.declared.answer.Answer.TheVariants.{Done}
 use Rattle.hp_model.specs.declared.event.SlotEvent.{SlotEvent}
 use Rattle.hp_model.specs.declared.step.Intent.TheVariants.{Read, Write}
 use Rattle.hp_model.specs.declared.step.Step.{Step}
-use Rattle.hp_model.specs.Access.{access}
-use Rattle.hp_model.specs.File.{Mount}
-use Rattle.hp_model.specs.Plan.{Choice, Answered, Slot, Reply}
-use Rattle.hp_model.specs.Promises.{is_unmounted, SameLimits}
-use Rattle.hp_model.specs.SlotEvent.{byte_access, fault_tests, on_mount, slot_event}
-use Rattle.hp_model.specs.Spot.{written}
-use Rattle.hp_model.specs.State.{State}
-use Rattle.hp_model.specs.Step.{IsStep}
+use Rattle.hp_model.specs.files.Access.{access}
+use Rattle.hp_model.specs.files.File.{Mount}
+use Rattle.hp_model.specs.machine.Plan.{Choice, Answered, Slot, Reply}
+use Rattle.hp_model.specs.machine.Promises.{is_unmounted, SameLimits}
+use Rattle.hp_model.specs.machine.SlotEvent.{byte_access, fault_tests, on_mount, slot_event}
+use Rattle.hp_model.specs.files.Spot.{written}
+use Rattle.hp_model.specs.machine.State.{State}
+use Rattle.hp_model.specs.machine.Step.{IsStep}
 use Rattle.hp_laws.proofs.Accessed.{access_on, bytes_on}
 use Rattle.hp_laws.proofs.Lifted.{EndsBy, KeepsBut, ends_on, ends_open, ends_unless, is_umount, step_by}
 use Rattle.hp_laws.proofs.Outcomes.{Always, always_then, always_weaker}

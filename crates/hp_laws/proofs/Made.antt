@@ -16,19 +16,19 @@ use Rattle.hp_model.specs.declared.event.Event.{Event}
 use Rattle.hp_model.specs.declared.event.Event.TheVariants.{Tasks, Slot as OnSlot, Pool as OnPool}
 use Rattle.hp_model.specs.declared.event.PoolEvent.TheVariants as pool
 use Rattle.hp_model.specs.declared.event.TableEvent.TheVariants as table
-use Rattle.hp_model.specs.File.{File, Mount, maps_of, new_file, with_file}
+use Rattle.hp_model.specs.files.File.{File, Mount, maps_of, new_file, with_file}
 use Rattle.hp_model.specs.Lists.{found, one_on}
-use Rattle.hp_model.specs.MakeMap.{asked, mapped, new_map, next_number, numbers_of, with_new}
-use Rattle.hp_model.specs.Mapping.{Map, is_map}
-use Rattle.hp_model.specs.Plan.{Choice, Outcome, Refused, Answered, Finish, Plan, Reply, Slot, grant, unless}
-use Rattle.hp_model.specs.Promises.{IsNewFile, IsNewMap, Makes}
-use Rattle.hp_model.specs.State.{State, slot_at}
-use Rattle.hp_model.specs.Step.{IsStep}
-use Rattle.hp_model.specs.Event.{IsEvent}
+use Rattle.hp_model.specs.files.MakeMap.{asked, mapped, new_map, next_number, numbers_of, with_new}
+use Rattle.hp_model.specs.files.Mapping.{Map, is_map}
+use Rattle.hp_model.specs.machine.Plan.{Choice, Outcome, Refused, Answered, Finish, Plan, Reply, Slot, grant, unless}
+use Rattle.hp_model.specs.machine.Promises.{IsNewFile, IsNewMap, Makes}
+use Rattle.hp_model.specs.machine.State.{State, slot_at}
+use Rattle.hp_model.specs.machine.Step.{IsStep}
+use Rattle.hp_model.specs.machine.Event.{IsEvent}
 use Rattle.hp_laws.specs.Balance.{left_by}
-use Rattle.hp_model.specs.SlotEvent.{create_tests, file_named, has_name, is_name, map_file, map_tests, slot_event}
+use Rattle.hp_model.specs.machine.SlotEvent.{create_tests, file_named, has_name, is_name, map_file, map_tests, slot_event}
 use Rattle.hp_model.specs.declared.event.SlotEvent.TheVariants as slot
-use Rattle.hp_model.specs.Spot.{Spot, spot, spot_in}
+use Rattle.hp_model.specs.files.Spot.{Spot, spot, spot_in}
 use Rattle.hp_model.proofs.Distinct.{or_assoc}
 use Rattle.hp_laws.proofs.Naming.{found_again, found_last, found_not, found_put, least_is_unused, number_used}
 use Rattle.hp_laws.proofs.Outcomes.{Always, always_test, event_ends, reply_of}

@@ -7,13 +7,13 @@ use Rattle.hp_model.specs.declared.step.Sharing.{Sharing}
 use Rattle.hp_model.specs.declared.step.Sharing.TheVariants.{Shared, Private}
 use Rattle.hp_model.specs.declared.step.Reserving.{Reserving}
 use Rattle.hp_model.specs.declared.step.Reserving.TheVariants.{Reserve, NoReserve}
-use Rattle.hp_model.specs.File.{at_least, entered, is_hole, File, has_page}
+use Rattle.hp_model.specs.files.File.{at_least, entered, is_hole, File, has_page}
 use Rattle.hp_model.specs.Lists.{edit_range}
-use Rattle.hp_model.specs.MakeMap.{asked, new_map, mapped, cells_mapped}
-use Rattle.hp_model.specs.Mapping.{Map, is_unconsumed}
-use Rattle.hp_model.specs.MountCounts.{is_waiting, is_page_at, owner_reserves}
-use Rattle.hp_model.specs.Page.{Page, Copy}
-use Rattle.hp_model.specs.Sound.{place_has, map_has, file_has}
+use Rattle.hp_model.specs.files.MakeMap.{asked, new_map, mapped, cells_mapped}
+use Rattle.hp_model.specs.files.Mapping.{Map, is_unconsumed}
+use Rattle.hp_model.specs.files.MountCounts.{is_waiting, is_page_at, owner_reserves}
+use Rattle.hp_model.specs.files.Page.{Page, Copy}
+use Rattle.hp_model.specs.machine.Sound.{place_has, map_has, file_has}
 use Rattle.hp_model.specs.declared.cell.Cell.{Cell}
 use Rattle.hp_model.specs.declared.cell.Cell.TheVariants.{Hole, Entered, Present}
 use Rattle.hp_model.specs.declared.place.Place.{Place}

@@ -5,19 +5,19 @@ use Rattle.std.proofs.lemmas.Bool.{and_parts, cond_both, eqb-true}
 use Rattle.hp_model.specs.declared.answer.Answer.TheVariants.{Done}
 use Rattle.hp_model.specs.declared.step.Intent.{Intent}
 use Rattle.hp_model.specs.declared.step.Intent.TheVariants.{Read, Write}
-use Rattle.hp_model.specs.Access.{access}
+use Rattle.hp_model.specs.files.Access.{access}
 use Rattle.hp_model.specs.declared.step.Reserving.{Reserving}
 use Rattle.hp_model.specs.declared.step.Sharing.{Sharing}
-use Rattle.hp_model.specs.File.{File, Mount, with_file}
-use Rattle.hp_model.specs.MakeMap.{mapped, new_map, next_number, with_new}
+use Rattle.hp_model.specs.files.File.{File, Mount, with_file}
+use Rattle.hp_model.specs.files.MakeMap.{mapped, new_map, next_number, with_new}
 use Rattle.hp_model.specs.Lists.{edit_at}
-use Rattle.hp_model.specs.Plan.{Choice, Outcome, Answered, Plan, and_then, with_value}
+use Rattle.hp_model.specs.machine.Plan.{Choice, Outcome, Answered, Plan, and_then, with_value}
 use Rattle.hp_model.specs.declared.refusal.Refusal.TheVariants.{NoSuchMap}
-use Rattle.hp_model.specs.Promises.{shape_of}
-use Rattle.hp_model.specs.SlotEvent.{has_name, byte_access, bytes_answer, fault, fault_tests, file_named, load, store}
-use Rattle.hp_model.specs.Mapping.{is_map, is_shared}
-use Rattle.hp_model.specs.Spot.{Spot, again, cell_written, file_written, map_written, place_written, spot, written}
-use Rattle.hp_model.specs.Value.{value}
+use Rattle.hp_model.specs.machine.Promises.{shape_of}
+use Rattle.hp_model.specs.machine.SlotEvent.{has_name, byte_access, bytes_answer, fault, fault_tests, file_named, load, store}
+use Rattle.hp_model.specs.files.Mapping.{is_map, is_shared}
+use Rattle.hp_model.specs.files.Spot.{Spot, again, cell_written, file_written, map_written, place_written, spot, written}
+use Rattle.hp_model.specs.files.Value.{value}
 use Rattle.hp_model.proofs.Editing.{length-edit_at}
 use Rattle.hp_laws.proofs.Accessed.{access_on, bytes_on, file_put, key_edit, pages_same}
 use Rattle.hp_laws.proofs.Keys.{file_key, is_key, key_places, keys, number_places, places}

@@ -17,18 +17,18 @@ use Rattle.hp_model.specs.declared.refusal.Refusal.{Refusal}
 use Rattle.hp_model.specs.declared.step.Intent.TheVariants.{Read, Write}
 use Rattle.hp_model.specs.declared.step.Step.{Step}
 use Rattle.hp_model.specs.declared.step.Step.TheVariants.{Exit, Fork, Store}
-use Rattle.hp_model.specs.Event.{IsEvent}
-use Rattle.hp_model.specs.File.{File, cell_at}
-use Rattle.hp_model.specs.Page.{zeros}
-use Rattle.hp_model.specs.Plan.{Choice, Outcome, Refused, Answered, Reply, Slot}
-use Rattle.hp_model.specs.Promises.{IsKeptMap, LosesTo, SameFiles, StillMapped, StillNamed, is_at, is_ended_name, is_ended_number, is_in, is_shared_of, map_at, map_named, means_file, named_on, over, reaches, seen_over, shown_in, spot_on, stays_mapped, stored_over}
-use Rattle.hp_model.specs.Settled.{IsSettledState}
-use Rattle.hp_model.specs.SlotEvent.{slot_event}
-use Rattle.hp_model.specs.Sound.{IsSound}
-use Rattle.hp_model.specs.Spot.{Spot}
-use Rattle.hp_model.specs.State.{State, slot_at}
-use Rattle.hp_model.specs.Step.{IsBuiltStep, IsStep}
-use Rattle.hp_model.specs.Value.{shown, value}
+use Rattle.hp_model.specs.machine.Event.{IsEvent}
+use Rattle.hp_model.specs.files.File.{File, cell_at}
+use Rattle.hp_model.specs.files.Page.{zeros}
+use Rattle.hp_model.specs.machine.Plan.{Choice, Outcome, Refused, Answered, Reply, Slot}
+use Rattle.hp_model.specs.machine.Promises.{IsKeptMap, LosesTo, SameFiles, StillMapped, StillNamed, is_at, is_ended_name, is_ended_number, is_in, is_shared_of, map_at, map_named, means_file, named_on, over, reaches, seen_over, shown_in, spot_on, stays_mapped, stored_over}
+use Rattle.hp_model.specs.machine.Settled.{IsSettledState}
+use Rattle.hp_model.specs.machine.SlotEvent.{slot_event}
+use Rattle.hp_model.specs.machine.Sound.{IsSound}
+use Rattle.hp_model.specs.files.Spot.{Spot}
+use Rattle.hp_model.specs.machine.State.{State, slot_at}
+use Rattle.hp_model.specs.machine.Step.{IsBuiltStep, IsStep}
+use Rattle.hp_model.specs.files.Value.{shown, value}
 use Rattle.hp_laws.specs.Balance.{left_by}
 use Rattle.hp_laws.proofs.Changes.{KeepsSlot, KeptMap, LosesBy, SlotKeeps, ends_name, ends_number, seen_by, stored_by}
 use Rattle.hp_laws.proofs.Fades.{AllFade, exit_fade, exit_refused, fork_fade}

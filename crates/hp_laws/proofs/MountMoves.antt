@@ -3,13 +3,13 @@ use Rattle.std.proofs.Common.{◌≡◌, ◌==◌, subst, ℕ, ◌+◌, ◌<◌,
 use Rattle.std.specs.List.{list_any, slice_index_or}
 use Rattle.std.specs.Option.{option_map}
 use Rattle.std.proofs.lemmas.List.Sums.{sum_by-set, sum_by-append, sum_by-cons}
-use Rattle.hp_model.specs.File.{with_file, new_file, File, Mount}
-use Rattle.hp_model.specs.GiveBack.{swept, is_kept}
+use Rattle.hp_model.specs.files.File.{with_file, new_file, File, Mount}
+use Rattle.hp_model.specs.files.GiveBack.{swept, is_kept}
 use Rattle.hp_model.specs.Lists.{edit_at, found}
-use Rattle.hp_model.specs.MakeMap.{with_new}
-use Rattle.hp_model.specs.Mapping.{Map}
-use Rattle.hp_model.specs.MountCounts.{file_pages, file_reserves, file_pages_at, pages_of, usage_of, pages_at}
-use Rattle.hp_model.specs.Spot.{Spot, spot, spot_in}
+use Rattle.hp_model.specs.files.MakeMap.{with_new}
+use Rattle.hp_model.specs.files.Mapping.{Map}
+use Rattle.hp_model.specs.files.MountCounts.{file_pages, file_reserves, file_pages_at, pages_of, usage_of, pages_at}
+use Rattle.hp_model.specs.files.Spot.{Spot, spot, spot_in}
 use Rattle.hp_laws.proofs.Falls.{FileFalls}
 use Rattle.hp_laws.proofs.FileMoves.{FileGrows, IsMapAt}
 use Rattle.hp_laws.proofs.Places.{found_place, sum_by-edit_at, sum_by-map_le, sum_by-filter_le}

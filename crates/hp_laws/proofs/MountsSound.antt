@@ -5,14 +5,14 @@ use Rattle.std.proofs.lemmas.Bool.{and_from, and_parts, both_ways, eq-eqb, eqb-t
 use Rattle.std.proofs.lemmas.List.{get_or_default}
 use Rattle.std.proofs.lemmas.List.Elements.{All-filter, All-map, All-push, All-set, All-weaker}
 use Rattle.std.proofs.lemmas.List.Sums.{sum_by-append, sum_by-cons, sum_by-set}
-use Rattle.hp_model.specs.File.{File, Mount, file_in, maps_of, new_file, with_file}
-use Rattle.hp_model.specs.Fork.{file_forked, forked}
-use Rattle.hp_model.specs.GiveBack.{is_kept, swept}
+use Rattle.hp_model.specs.files.File.{File, Mount, file_in, maps_of, new_file, with_file}
+use Rattle.hp_model.specs.files.Fork.{file_forked, forked}
+use Rattle.hp_model.specs.files.GiveBack.{is_kept, swept}
 use Rattle.hp_model.specs.Lists.{edit_at}
-use Rattle.hp_model.specs.MakeMap.{with_new}
-use Rattle.hp_model.specs.Mapping.{Map, is_map, is_of, map_for}
-use Rattle.hp_model.specs.Page.{Copy}
-use Rattle.hp_model.specs.Sound.{FileHasCopy, IsSoundFile, IsSoundMount, file_has, is_stamp}
+use Rattle.hp_model.specs.files.MakeMap.{with_new}
+use Rattle.hp_model.specs.files.Mapping.{Map, is_map, is_of, map_for}
+use Rattle.hp_model.specs.files.Page.{Copy}
+use Rattle.hp_model.specs.machine.Sound.{FileHasCopy, IsSoundFile, IsSoundMount, file_has, is_stamp}
 use Rattle.hp_model.proofs.Counting.{count_map}
 use Rattle.hp_laws.proofs.Copies.{map_there}
 use Rattle.hp_laws.proofs.FilesSound.{forked_keeps}

@@ -3,8 +3,8 @@ use Rattle.std.proofs.Common.{◌≡◌, ⊎_elim, inl, inr, ◌⊎◌, subst, �
 use Rattle.std.specs.List.{list_any, position_or_len, range_with_len, slice_set}
 use Rattle.std.proofs.lemmas.Bool.{eqb-true, false_from_ne_true, or_cases}
 use Rattle.hp_model.specs.Lists.{distinct, found, is_among, least_unused, one_on}
-use Rattle.hp_model.specs.MakeMap.{numbers_of}
-use Rattle.hp_model.specs.Mapping.{Map, is_map}
+use Rattle.hp_model.specs.files.MakeMap.{numbers_of}
+use Rattle.hp_model.specs.files.Mapping.{Map, is_map}
 use Rattle.hp_laws.proofs.Holding.{fewer_members}
 
 -- ---- the least unused number

@@ -4,15 +4,15 @@ use Rattle.std.specs.List.{sum_by, count_by, filter_map, cons_option, range_with
 use Rattle.std.proofs.lemmas.Bool.{or_cases, or_left, or_right, eq-eqb, eqb-true, ne_eqb}
 use Rattle.std.proofs.lemmas.List.Elements.{All-head, All-tail}
 use Rattle.std.proofs.lemmas.List.Sums.{sum_by-cons}
-use Rattle.hp_model.specs.File.{File, has_page}
+use Rattle.hp_model.specs.files.File.{File, has_page}
 use Rattle.hp_model.specs.Lists.{distinct, is_among}
-use Rattle.hp_model.specs.MountCounts.{copies_of, stamp_at, file_pages, file_pages_at, is_page_at}
-use Rattle.hp_model.specs.Page.{Page, Copy}
-use Rattle.hp_model.specs.Plan.{slot_pages, Slot, slot_pages_at, slot_committed}
+use Rattle.hp_model.specs.files.MountCounts.{copies_of, stamp_at, file_pages, file_pages_at, is_page_at}
+use Rattle.hp_model.specs.files.Page.{Page, Copy}
+use Rattle.hp_model.specs.machine.Plan.{slot_pages, Slot, slot_pages_at, slot_committed}
 use Rattle.hp_model.specs.declared.cell.Cell.{Cell}
 use Rattle.hp_model.specs.declared.cell.Cell.TheVariants.{Hole, Entered, Present}
 use Rattle.hp_model.proofs.Distinct.{length_if}
-use Rattle.hp_model.specs.Sound.{IsSound, IsSoundFile}
+use Rattle.hp_model.specs.machine.Sound.{IsSound, IsSoundFile}
 use Rattle.hp_laws.proofs.Copies.{agreed_file}
 use Rattle.hp_laws.proofs.Holding.{IsAgreed, stamps_at_are}
 

@@ -11,15 +11,15 @@ use Rattle.hp_model.specs.declared.refusal.Refusal.{Refusal}
 use Rattle.hp_model.specs.declared.refusal.Refusal.TheVariants.{NoSuchTask, NoSuchSlot}
 pub use Rattle.hp_laws.specs.Balance.{Always}
 use Rattle.hp_laws.specs.Balance.{left_by}
-use Rattle.hp_model.specs.Event.{IsEvent, planned, settled, with_table}
-use Rattle.hp_model.specs.File.{Mount}
-use Rattle.hp_model.specs.Machine.{pool_of, with_pool}
-use Rattle.hp_model.specs.Plan.{Reply, Outcome, Refused, Answered, Plan, Finish, Ask, Choice, refuse, continued, and_then}
-use Rattle.hp_model.specs.Pool.{section}
-use Rattle.hp_model.specs.SlotEvent.{slot_event}
-use Rattle.hp_model.specs.State.{State, slot_at}
-use Rattle.hp_model.specs.Step.{Script, Answer_with, only, finding, home_in, on_slot, IsScript}
-use Rattle.hp_model.specs.Table.{home_of, when_known}
+use Rattle.hp_model.specs.machine.Event.{IsEvent, planned, settled, with_table}
+use Rattle.hp_model.specs.files.File.{Mount}
+use Rattle.hp_model.specs.machine.Machine.{pool_of, with_pool}
+use Rattle.hp_model.specs.machine.Plan.{Reply, Outcome, Refused, Answered, Plan, Finish, Ask, Choice, refuse, continued, and_then}
+use Rattle.hp_model.specs.pool.Pool.{section}
+use Rattle.hp_model.specs.machine.SlotEvent.{slot_event}
+use Rattle.hp_model.specs.machine.State.{State, slot_at}
+use Rattle.hp_model.specs.machine.Step.{Script, Answer_with, only, finding, home_in, on_slot, IsScript}
+use Rattle.hp_model.specs.machine.Table.{home_of, when_known}
 use Rattle.hp_laws.proofs.Tied.{settled_is}
 
 -- ---- outcomes

@@ -2,12 +2,12 @@
 use Rattle.std.proofs.Common.{◌≡◌, ⊎_elim, subst, ℕ, zero, suc, ◌+◌, ◌||◌, ◌==◌, Bool, true, false, None, Option, Some, List, [], ◌∷◌, ◌++◌, option_map, get_or, refl, sym, ap, ◌∙◌, arith, if◌then◌else◌}
 use Rattle.std.specs.List.{slice_set}
 use Rattle.std.proofs.lemmas.Bool.{cases_eq, eq-eqb, eqb-true, false_from_ne_true}
-use Rattle.hp_model.specs.File.{File, Mount}
+use Rattle.hp_model.specs.files.File.{File, Mount}
 use Rattle.hp_model.specs.Lists.{found, one_on}
-use Rattle.hp_model.specs.Mapping.{is_map}
-use Rattle.hp_model.specs.Promises.{Shape}
-use Rattle.hp_model.specs.SlotEvent.{file_named}
-use Rattle.hp_model.specs.Spot.{Spot, spot}
+use Rattle.hp_model.specs.files.Mapping.{is_map}
+use Rattle.hp_model.specs.machine.Promises.{Shape}
+use Rattle.hp_model.specs.machine.SlotEvent.{file_named}
+use Rattle.hp_model.specs.files.Spot.{Spot, spot}
 use Rattle.hp_laws.proofs.Keys.{FileKey, Where, file_key, has_key, in_key, is_key, is_named, key_places, keyed, keys, name_place, number_places, places}
 use Rattle.hp_laws.proofs.Made.{any_append}
 use Rattle.hp_laws.proofs.Places.{found_place}

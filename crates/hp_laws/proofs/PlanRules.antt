@@ -14,19 +14,19 @@ use Rattle.hp_model.specs.declared.refusal.Refusal.TheVariants.{MountFull, OutOf
 use Rattle.hp_model.specs.declared.section.Section.TheVariants.{GiveBack, Grant, GrantPage, TakePage}
 use Rattle.hp_model.specs.declared.step.Intent.{Intent}
 use Rattle.hp_model.specs.declared.step.Intent.TheVariants.{Read, Write}
-use Rattle.hp_model.specs.Access.{access, new_copy, private_access, shared_access, uncopied_access}
-use Rattle.hp_model.specs.CopyWrite.{copy_write, is_held_once, owner_write, taken_back}
-use Rattle.hp_model.specs.File.{Mount, cell_at, has_page, new_file, with_cell, with_file, with_map}
-use Rattle.hp_model.specs.Fork.{forked}
-use Rattle.hp_model.specs.GiveBack.{punched, truncated, unlinked, unmapped_from, without_task}
-use Rattle.hp_model.specs.Grant.{is_full, rise}
-use Rattle.hp_model.specs.MakeMap.{asked, mapped, next_number, with_new}
-use Rattle.hp_model.specs.Mapping.{is_shared, place_at, with_place}
-use Rattle.hp_model.specs.Page.{Copy, Page, zeros}
-use Rattle.hp_model.specs.Plan.{Answered, Ask, Choice, Finish, Outcome, Plan, Refused, Slot, and_then, fall_of, gives, grant, grant_page, puts_of, refuse, reserved_page, unless, when_granted}
-use Rattle.hp_model.specs.SlotEvent.{byte_access, byte_tests, bytes_answer, edited, fault_tests, on_mount}
-use Rattle.hp_model.specs.Spot.{Spot, again, written}
-use Rattle.hp_model.specs.Value.{value}
+use Rattle.hp_model.specs.files.Access.{access, new_copy, private_access, shared_access, uncopied_access}
+use Rattle.hp_model.specs.files.CopyWrite.{copy_write, is_held_once, owner_write, taken_back}
+use Rattle.hp_model.specs.files.File.{Mount, cell_at, has_page, new_file, with_cell, with_file, with_map}
+use Rattle.hp_model.specs.files.Fork.{forked}
+use Rattle.hp_model.specs.files.GiveBack.{punched, truncated, unlinked, unmapped_from, without_task}
+use Rattle.hp_model.specs.pool.Grant.{is_full, rise}
+use Rattle.hp_model.specs.files.MakeMap.{asked, mapped, next_number, with_new}
+use Rattle.hp_model.specs.files.Mapping.{is_shared, place_at, with_place}
+use Rattle.hp_model.specs.files.Page.{Copy, Page, zeros}
+use Rattle.hp_model.specs.machine.Plan.{Answered, Ask, Choice, Finish, Outcome, Plan, Refused, Slot, and_then, fall_of, gives, grant, grant_page, puts_of, refuse, reserved_page, unless, when_granted}
+use Rattle.hp_model.specs.machine.SlotEvent.{byte_access, byte_tests, bytes_answer, edited, fault_tests, on_mount}
+use Rattle.hp_model.specs.files.Spot.{Spot, again, written}
+use Rattle.hp_model.specs.files.Value.{value}
 use Rattle.hp_laws.proofs.Walk.{Walks, plan_unless, walk_all}
 
 module _ (W : Plan → Type 0) where

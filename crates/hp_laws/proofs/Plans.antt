@@ -10,11 +10,11 @@ use Rattle.hp_model.specs.declared.answer.Answer.TheVariants.{Done}
 use Rattle.hp_model.specs.declared.refusal.Refusal.{Refusal}
 use Rattle.hp_model.specs.declared.refusal.Refusal.TheVariants.{NoPages, MountFull, OutOfMemory}
 use Rattle.hp_laws.specs.Balance.{Change, Stays, IsBalanced, IsLimited, left_by}
-use Rattle.hp_model.specs.Plan.{slot_usage}
-use Rattle.hp_model.specs.File.{Mount}
-use Rattle.hp_model.specs.Grant.{rise, is_full, is_over}
-use Rattle.hp_model.specs.MountCounts.{pages_at, usage_of}
-use Rattle.hp_model.specs.Plan.{Slot, Outcome, Refused, Answered, Plan, Finish, Ask, Choice, refuse, unless, continued, and_then, grant, grant_page, reserved_page, when_granted, slot_committed, slot_pages_at, puts_of, fall_of, gives}
+use Rattle.hp_model.specs.machine.Plan.{slot_usage}
+use Rattle.hp_model.specs.files.File.{Mount}
+use Rattle.hp_model.specs.pool.Grant.{rise, is_full, is_over}
+use Rattle.hp_model.specs.files.MountCounts.{pages_at, usage_of}
+use Rattle.hp_model.specs.machine.Plan.{Slot, Outcome, Refused, Answered, Plan, Finish, Ask, Choice, refuse, unless, continued, and_then, grant, grant_page, reserved_page, when_granted, slot_committed, slot_pages_at, puts_of, fall_of, gives}
 use Rattle.hp_model.specs.declared.section.Section.TheVariants.{Grant, GiveBack}
 use Rattle.hp_model.specs.declared.limits.Limits.{Limits}
 use Rattle.hp_laws.proofs.MountMoves.{MountGrows, MountFalls}

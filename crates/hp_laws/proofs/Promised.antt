@@ -9,13 +9,13 @@ use Rattle.hp_model.specs.declared.event.TableEvent.TheVariants as table
 use Rattle.hp_model.specs.declared.refusal.Refusal.{Refusal}
 use Rattle.hp_model.specs.declared.step.Step.{Step}
 use Rattle.hp_model.specs.declared.step.Step.TheVariants.{Load}
-use Rattle.hp_model.specs.Event.{IsEvent}
-use Rattle.hp_model.specs.Plan.{Choice, Outcome, Refused, Answered, Reply, IsWithinLimit, slot_usage}
-use Rattle.hp_model.specs.Promises.{ShowsMap, is_backed_step, is_cut_off_step, is_refused, map_named, spot_on, wants_page}
-use Rattle.hp_model.specs.Settled.{IsSettledState}
-use Rattle.hp_model.specs.SlotEvent.{slot_event}
-use Rattle.hp_model.specs.State.{State, slot_at}
-use Rattle.hp_model.specs.Step.{IsStep}
+use Rattle.hp_model.specs.machine.Event.{IsEvent}
+use Rattle.hp_model.specs.machine.Plan.{Choice, Outcome, Refused, Answered, Reply, IsWithinLimit, slot_usage}
+use Rattle.hp_model.specs.machine.Promises.{ShowsMap, is_backed_step, is_cut_off_step, is_refused, map_named, spot_on, wants_page}
+use Rattle.hp_model.specs.machine.Settled.{IsSettledState}
+use Rattle.hp_model.specs.machine.SlotEvent.{slot_event}
+use Rattle.hp_model.specs.machine.State.{State, slot_at}
+use Rattle.hp_model.specs.machine.Step.{IsStep}
 use Rattle.hp_laws.specs.Laws.{KeepsGoing, PromisesAreKept}
 use Rattle.hp_laws.proofs.Answered.{step_leaves, step_tells}
 use Rattle.hp_laws.proofs.Backed.{Stops, fault_goes, fault_stops, load_goes, load_stops, store_goes, store_stops}

@@ -16,25 +16,25 @@ use Rattle.hp_model.specs.declared.event.TableEvent.TheVariants.{Add, Find, Find
 use Rattle.hp_model.specs.declared.limits.Limits.{Limits}
 use Rattle.hp_model.specs.declared.refusal.Refusal.{Refusal}
 use Rattle.hp_model.specs.declared.refusal.Refusal.TheVariants.{OutOfMemory, TaskExists, NoSuchNode, TooMany, OutOfRange, SlotTaken}
-use Rattle.hp_model.specs.Event.{after, settled, planned}
-use Rattle.hp_model.specs.File.{Mount}
-use Rattle.hp_model.specs.Grant.{can_grant, granted, surplus_times}
-use Rattle.hp_model.specs.NodeRows.{total_of, surp_of}
-use Rattle.hp_model.specs.Promises.{is_late, SameButNodes}
+use Rattle.hp_model.specs.machine.Event.{after, settled, planned}
+use Rattle.hp_model.specs.files.File.{Mount}
+use Rattle.hp_model.specs.pool.Grant.{can_grant, granted, surplus_times}
+use Rattle.hp_model.specs.pool.NodeRows.{total_of, surp_of}
+use Rattle.hp_model.specs.machine.Promises.{is_late, SameButNodes}
 use Rattle.hp_laws.specs.Laws.{RefusalsChangeNothing}
-use Rattle.hp_model.specs.Machine.{pool_of, with_pool}
-use Rattle.hp_model.specs.Options.{limits, wanted_of}
-use Rattle.hp_model.specs.Plan.{Reply, Slot, Outcome, Refused, Answered, Plan, Finish, Ask, Choice, continued, and_then, when_granted}
-use Rattle.hp_model.specs.Pool.{section, granted_at, no_pages, released, settled as settled_pool, take_node, page_taken, give_back_times}
+use Rattle.hp_model.specs.machine.Machine.{pool_of, with_pool}
+use Rattle.hp_model.specs.files.Options.{limits, wanted_of}
+use Rattle.hp_model.specs.machine.Plan.{Reply, Slot, Outcome, Refused, Answered, Plan, Finish, Ask, Choice, continued, and_then, when_granted}
+use Rattle.hp_model.specs.pool.Pool.{section, granted_at, no_pages, released, settled as settled_pool, take_node, page_taken, give_back_times}
 use Rattle.hp_model.specs.declared.section.PoolAnswer.{PoolAnswer}
 use Rattle.hp_model.specs.declared.section.Section.TheVariants.{ReadAndGrant, GrantAndReturn}
-use Rattle.hp_model.specs.PoolCounts.{Pool}
+use Rattle.hp_model.specs.pool.PoolCounts.{Pool}
 use Rattle.hp_model.specs.Profile.{most_overcommit}
-use Rattle.hp_model.specs.Resize.{pool_event}
-use Rattle.hp_model.specs.Settled.{IsSettledPool, IsSettledState}
-use Rattle.hp_model.specs.SlotEvent.{slot_event, on_mount, on_none, mount_section, mount_pages, mount_outcome}
-use Rattle.hp_model.specs.State.{State, slot_at}
-use Rattle.hp_model.specs.Table.{Table, table_event, or_refused, when_known, home_of, is_known, is_crowded, added, removed}
+use Rattle.hp_model.specs.pool.Resize.{pool_event}
+use Rattle.hp_model.specs.machine.Settled.{IsSettledPool, IsSettledState}
+use Rattle.hp_model.specs.machine.SlotEvent.{slot_event, on_mount, on_none, mount_section, mount_pages, mount_outcome}
+use Rattle.hp_model.specs.machine.State.{State, slot_at}
+use Rattle.hp_model.specs.machine.Table.{Table, table_event, or_refused, when_known, home_of, is_known, is_crowded, added, removed}
 use Rattle.hp_laws.proofs.SlotsBalanced.{tells_nr}
 use Rattle.hp_laws.proofs.PlanRules.{PlanRules, plan_walk}
 use Rattle.hp_laws.proofs.Tied.{pool_back}

@@ -3,15 +3,15 @@ use Rattle.std.proofs.Common.{◌≡◌, ℕ, Bool, true, false, ◌&&◌, None,
 use Rattle.hp_model.specs.declared.step.Sharing.TheVariants.{Shared, Private}
 use Rattle.hp_model.specs.declared.step.Intent.{Intent}
 use Rattle.hp_model.specs.declared.step.Intent.TheVariants.{Read, Write}
-use Rattle.hp_model.specs.Access.{shared_access, private_access, uncopied_access, new_copy}
-use Rattle.hp_model.specs.CopyWrite.{owner_write, is_held_once}
-use Rattle.hp_model.specs.File.{is_entered, cell_at, has_page, Mount}
-use Rattle.hp_model.specs.Grant.{is_full}
+use Rattle.hp_model.specs.files.Access.{shared_access, private_access, uncopied_access, new_copy}
+use Rattle.hp_model.specs.files.CopyWrite.{owner_write, is_held_once}
+use Rattle.hp_model.specs.files.File.{is_entered, cell_at, has_page, Mount}
+use Rattle.hp_model.specs.pool.Grant.{is_full}
 use Rattle.hp_laws.specs.Laws.{NeverWantsPages, KeepsGoing, ReservedAccess, OwnerWrites}
-use Rattle.hp_model.specs.Mapping.{place_at, is_unconsumed, is_shared}
-use Rattle.hp_model.specs.Page.{Page, Copy}
-use Rattle.hp_model.specs.Plan.{Plan, Outcome, Choice}
-use Rattle.hp_model.specs.Spot.{Spot}
+use Rattle.hp_model.specs.files.Mapping.{place_at, is_unconsumed, is_shared}
+use Rattle.hp_model.specs.files.Page.{Page, Copy}
+use Rattle.hp_model.specs.machine.Plan.{Plan, Outcome, Choice}
+use Rattle.hp_model.specs.files.Spot.{Spot}
 use Rattle.hp_model.specs.declared.cell.Cell.{Cell}
 use Rattle.hp_model.specs.declared.cell.Cell.TheVariants.{Hole, Entered, Present}
 use Rattle.hp_model.specs.declared.place.Place.{Place}

@@ -1,9 +1,9 @@
 -- Runs by steps of any kind.
 use Rattle.std.proofs.Common.{List, [], ◌∷◌, ◌++◌, refl, sym, subst}
 use Rattle.hp_model.specs.declared.step.Step.{Step}
-use Rattle.hp_model.specs.Plan.{Reply}
-use Rattle.hp_model.specs.Run.{RunsBy}
-use Rattle.hp_model.specs.State.{State}
+use Rattle.hp_model.specs.machine.Plan.{Reply}
+use Rattle.hp_model.specs.machine.Run.{RunsBy}
+use Rattle.hp_model.specs.machine.State.{State}
 
 -- a run goes on by one step
 pub run_more : (R : State → Step → Reply → State → Type 0) (s mid t : State) (steps : List Step) (replies : List Reply) (step : Step) (reply : Reply)

@@ -4,15 +4,15 @@ use Rattle.std.specs.List.{sum, slice_index_or, range_with_len}
 use Rattle.std.proofs.lemmas.Bool.{eq-eqb, ne_eqb}
 use Rattle.std.proofs.lemmas.List.{length-map}
 use Rattle.hp_laws.specs.Balance.{raised_by, lowered_by, takes_page, taken_at, put_at}
-use Rattle.hp_model.specs.Grant.{can_grant, granted}
+use Rattle.hp_model.specs.pool.Grant.{can_grant, granted}
 use Rattle.hp_model.specs.Lists.{edit_at}
-use Rattle.hp_model.specs.NodeRows.{used as row_used}
-use Rattle.hp_model.specs.Pool.{take_node, page_taken, puts_from, released, settled as settled_pool, granted_at, no_pages, section}
+use Rattle.hp_model.specs.pool.NodeRows.{used as row_used}
+use Rattle.hp_model.specs.pool.Pool.{take_node, page_taken, puts_from, released, settled as settled_pool, granted_at, no_pages, section}
 use Rattle.hp_model.specs.declared.section.PoolAnswer.{PoolAnswer}
 use Rattle.hp_model.specs.declared.section.Section.{Section}
 use Rattle.hp_model.specs.declared.section.Section.TheVariants.{Grant, GrantPage, TakePage, GiveBack, ReadAndGrant, GrantAndReturn}
-use Rattle.hp_model.specs.PoolCounts.{Pool, used}
-use Rattle.hp_model.specs.Settled.{IsSettledPool}
+use Rattle.hp_model.specs.pool.PoolCounts.{Pool, used}
+use Rattle.hp_model.specs.machine.Settled.{IsSettledPool}
 use Rattle.hp_model.proofs.RowMoves.{used_sum}
 use Rattle.hp_laws.proofs.Sections.{Leads, long_as, unchanged, committed, took_one, gave_back}
 

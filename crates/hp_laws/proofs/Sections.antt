@@ -7,13 +7,13 @@ use Rattle.std.proofs.lemmas.List.{length-map}
 use Rattle.std.proofs.lemmas.List.Elements.{All-head, All-tail}
 use Rattle.std.proofs.lemmas.List.Sums.{sum_by-cons}
 use Rattle.hp_model.specs.declared.node.NodeRow.{NodeRow}
-use Rattle.hp_model.specs.Grant.{can_grant, granted, most}
+use Rattle.hp_model.specs.pool.Grant.{can_grant, granted, most}
 use Rattle.hp_model.specs.Lists.{edit_at}
-use Rattle.hp_model.specs.NodeRows.{NodeRows, IsRow, used as row_used, total_of, free_of, surp_of, frames_of, promoted, grown, shrunk, demoted}
-use Rattle.hp_model.specs.Pool.{take_node, page_taken, puts_from, released, settled}
-use Rattle.hp_model.specs.PoolCounts.{Pool, used, rsvd}
-use Rattle.hp_model.specs.Resize.{raised, raise_times, lowered, lower_times, set_nr}
-use Rattle.hp_model.specs.Settled.{IsSettledPool}
+use Rattle.hp_model.specs.pool.NodeRows.{NodeRows, IsRow, used as row_used, total_of, free_of, surp_of, frames_of, promoted, grown, shrunk, demoted}
+use Rattle.hp_model.specs.pool.Pool.{take_node, page_taken, puts_from, released, settled}
+use Rattle.hp_model.specs.pool.PoolCounts.{Pool, used, rsvd}
+use Rattle.hp_model.specs.pool.Resize.{raised, raise_times, lowered, lower_times, set_nr}
+use Rattle.hp_model.specs.machine.Settled.{IsSettledPool}
 use Rattle.hp_model.proofs.RowMoves.{Moved, row_frames, same_frames, added, removed, one_taken, put, put_rows, puts_are, used_sum, one_promoted, one_grown, one_shrunk, one_demoted}
 
 -- q is settled and has these numbers

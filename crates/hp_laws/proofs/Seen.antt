@@ -5,14 +5,14 @@ use Rattle.std.proofs.lemmas.Bool.{cases_eq, cond_both, eq-eqb, ltb-false, eqb-t
 use Rattle.std.proofs.lemmas.List.{get_or-set_same, get_or-set_other, length-map}
 use Rattle.hp_model.specs.declared.place.Place.{Place}
 use Rattle.hp_model.specs.declared.place.Place.TheVariants.{Gone, Live}
-use Rattle.hp_model.specs.CopyWrite.{holds, drop_stamp, robbed}
-use Rattle.hp_model.specs.File.{File, Mount, new_file, with_map}
+use Rattle.hp_model.specs.files.CopyWrite.{holds, drop_stamp, robbed}
+use Rattle.hp_model.specs.files.File.{File, Mount, new_file, with_map}
 use Rattle.hp_model.specs.Lists.{edit_at}
-use Rattle.hp_model.specs.Mapping.{Map, copy_of, is_shared, place_at, without_copy}
-use Rattle.hp_model.specs.Page.{Copy}
-use Rattle.hp_model.specs.Promises.{file_in, map_in, no_map, over, is_same_copy, IsLost}
-use Rattle.hp_model.specs.Spot.{Spot, cell_written, file_written, map_written, place_written, written}
-use Rattle.hp_model.specs.Sound.{HasCopy, IsSoundMount}
+use Rattle.hp_model.specs.files.Mapping.{Map, copy_of, is_shared, place_at, without_copy}
+use Rattle.hp_model.specs.files.Page.{Copy}
+use Rattle.hp_model.specs.machine.Promises.{file_in, map_in, no_map, over, is_same_copy, IsLost}
+use Rattle.hp_model.specs.files.Spot.{Spot, cell_written, file_written, map_written, place_written, written}
+use Rattle.hp_model.specs.machine.Sound.{HasCopy, IsSoundMount}
 use Rattle.hp_laws.proofs.CopiesSound.{same_index}
 use Rattle.hp_laws.proofs.Looks.{edit_here, edit_other, get_map, same_edit}
 use Rattle.hp_laws.proofs.MountMoves.{IsSpot}

@@ -10,17 +10,17 @@ use Rattle.hp_model.specs.declared.place.Place.{Place}
 use Rattle.hp_model.specs.declared.place.Place.TheVariants.{Gone, Live}
 use Rattle.hp_model.specs.declared.refusal.Refusal.TheVariants.{NoPages, MountFull, OutOfMemory, TakenByOwner}
 use Rattle.hp_model.specs.declared.step.Intent.TheVariants.{Read, Write}
-use Rattle.hp_model.specs.Access.{shared_access, new_copy, uncopied_access, private_access, access}
-use Rattle.hp_model.specs.CopyWrite.{robbed, taken_back, is_held_once, owner_write, copy_write}
-use Rattle.hp_model.specs.File.{File, Mount, cell_at, has_page, new_file, with_cell, with_file, with_map}
-use Rattle.hp_model.specs.Grant.{is_full, rise}
-use Rattle.hp_model.specs.Mapping.{Map, copy_of, is_shared, place_at, with_place}
-use Rattle.hp_model.specs.Page.{Page, Copy, zeros}
-use Rattle.hp_model.specs.Plan.{Outcome, Refused, Answered, Plan, Finish, Ask, Choice, continued, grant_page, reserved_page, when_granted}
+use Rattle.hp_model.specs.files.Access.{shared_access, new_copy, uncopied_access, private_access, access}
+use Rattle.hp_model.specs.files.CopyWrite.{robbed, taken_back, is_held_once, owner_write, copy_write}
+use Rattle.hp_model.specs.files.File.{File, Mount, cell_at, has_page, new_file, with_cell, with_file, with_map}
+use Rattle.hp_model.specs.pool.Grant.{is_full, rise}
+use Rattle.hp_model.specs.files.Mapping.{Map, copy_of, is_shared, place_at, with_place}
+use Rattle.hp_model.specs.files.Page.{Page, Copy, zeros}
+use Rattle.hp_model.specs.machine.Plan.{Outcome, Refused, Answered, Plan, Finish, Ask, Choice, continued, grant_page, reserved_page, when_granted}
 use Rattle.hp_model.specs.declared.section.Section.TheVariants.{GrantPage}
-use Rattle.hp_model.specs.Promises.{file_in, map_in, no_map}
-use Rattle.hp_model.specs.Spot.{Spot, again, copied}
-use Rattle.hp_model.specs.Value.{shown, value}
+use Rattle.hp_model.specs.machine.Promises.{file_in, map_in, no_map}
+use Rattle.hp_model.specs.files.Spot.{Spot, again, copied}
+use Rattle.hp_model.specs.files.Value.{shown, value}
 use Rattle.hp_laws.proofs.FileMoves.{IsMapAt, live_at}
 use Rattle.hp_laws.proofs.Looks.{same_put}
 use Rattle.hp_laws.proofs.MountMoves.{IsSpot}

@@ -8,18 +8,18 @@ use Rattle.hp_model.specs.declared.refusal.Refusal.{Refusal}
 use Rattle.hp_model.specs.declared.refusal.Refusal.TheVariants.{BeyondEnd, NoSuchFile, NoSuchMap, OutOfMemory, OutOfRange}
 use Rattle.hp_model.specs.declared.step.Intent.{Intent}
 use Rattle.hp_model.specs.declared.step.Intent.TheVariants.{Read, Write}
-use Rattle.hp_model.specs.Access.{access}
-use Rattle.hp_model.specs.File.{File, Mount, new_file, with_file}
-use Rattle.hp_model.specs.Fork.{forked}
-use Rattle.hp_model.specs.GiveBack.{punched, swept, truncated, unlinked, unmapped_from, without_task}
-use Rattle.hp_model.specs.MakeMap.{asked, mapped, next_number, with_new}
-use Rattle.hp_model.specs.Mapping.{is_map, map_punched}
-use Rattle.hp_model.specs.Plan.{Ask, Choice, Outcome, Refused, Answered, Finish, Plan, Slot, gives, grant, unless, with_value}
+use Rattle.hp_model.specs.files.Access.{access}
+use Rattle.hp_model.specs.files.File.{File, Mount, new_file, with_file}
+use Rattle.hp_model.specs.files.Fork.{forked}
+use Rattle.hp_model.specs.files.GiveBack.{punched, swept, truncated, unlinked, unmapped_from, without_task}
+use Rattle.hp_model.specs.files.MakeMap.{asked, mapped, next_number, with_new}
+use Rattle.hp_model.specs.files.Mapping.{is_map, map_punched}
+use Rattle.hp_model.specs.machine.Plan.{Ask, Choice, Outcome, Refused, Answered, Finish, Plan, Slot, gives, grant, unless, with_value}
 use Rattle.hp_model.specs.Profile.{most_file_pages}
-use Rattle.hp_model.specs.Promises.{is_in, map_on, shown_on, seen_on, spot_on}
-use Rattle.hp_model.specs.SlotEvent.{anon_tests, create_tests, edited, fault, file_named, fork_tests, is_bad_range, is_beyond, is_unmapped, map_file, map_tests, on_mount, punch, read, read_tests, slot_event, stat, truncate, umount_tests, unlink, unmap}
-use Rattle.hp_model.specs.Sound.{IsSound, IsSoundMount}
-use Rattle.hp_model.specs.Spot.{Spot, spot}
+use Rattle.hp_model.specs.machine.Promises.{is_in, map_on, shown_on, seen_on, spot_on}
+use Rattle.hp_model.specs.machine.SlotEvent.{anon_tests, create_tests, edited, fault, file_named, fork_tests, is_bad_range, is_beyond, is_unmapped, map_file, map_tests, on_mount, punch, read, read_tests, slot_event, stat, truncate, umount_tests, unlink, unmap}
+use Rattle.hp_model.specs.machine.Sound.{IsSound, IsSoundMount}
+use Rattle.hp_model.specs.files.Spot.{Spot, spot}
 use Rattle.hp_laws.proofs.Accessed.{access_on, file_put}
 use Rattle.hp_laws.proofs.ByPlace.{PlaceKeeps, by_place}
 use Rattle.hp_laws.proofs.Changes.{KeepsSlot, LosesBy, SlotKeeps, seen_by, stored_by}

@@ -16,23 +16,23 @@ use Rattle.hp_model.specs.declared.step.Intent.{Intent}
 use Rattle.hp_model.specs.declared.step.Intent.TheVariants.{Read, Write}
 use Rattle.hp_model.specs.declared.step.Reserving.{Reserving}
 use Rattle.hp_model.specs.declared.step.Sharing.{Sharing}
-use Rattle.hp_model.specs.Access.{access}
+use Rattle.hp_model.specs.files.Access.{access}
 use Rattle.hp_laws.specs.Balance.{left_by}
-use Rattle.hp_model.specs.File.{File, Mount, at_least, entered, new_file, with_file}
-use Rattle.hp_model.specs.Grant.{is_full, is_over, rise}
-use Rattle.hp_model.specs.MakeMap.{asked, mapped, new_map, next_number, reserves, with_new}
+use Rattle.hp_model.specs.files.File.{File, Mount, at_least, entered, new_file, with_file}
+use Rattle.hp_model.specs.pool.Grant.{is_full, is_over, rise}
+use Rattle.hp_model.specs.files.MakeMap.{asked, mapped, new_map, next_number, reserves, with_new}
 use Rattle.hp_model.specs.Lists.{edit_range}
-use Rattle.hp_model.specs.Mapping.{Map, copy_of, is_map, is_shared, place_at}
-use Rattle.hp_model.specs.Options.{limits, wanted_of}
-use Rattle.hp_model.specs.Page.{Page, Copy}
-use Rattle.hp_model.specs.Plan.{Slot, Outcome, Refused, Answered, Plan, Finish, Ask, Choice, refuse, unless, with_value, continued, grant, when_granted, gives, puts_of, fall_of}
+use Rattle.hp_model.specs.files.Mapping.{Map, copy_of, is_map, is_shared, place_at}
+use Rattle.hp_model.specs.files.Options.{limits, wanted_of}
+use Rattle.hp_model.specs.files.Page.{Page, Copy}
+use Rattle.hp_model.specs.machine.Plan.{Slot, Outcome, Refused, Answered, Plan, Finish, Ask, Choice, refuse, unless, with_value, continued, grant, when_granted, gives, puts_of, fall_of}
 use Rattle.hp_model.specs.declared.section.Section.TheVariants.{Grant, GiveBack}
 use Rattle.hp_model.specs.Profile.{most_bytes, most_file_pages, most_files, most_map_pages}
-use Rattle.hp_model.specs.Promises.{file_in, spot_on, IsLoaded, shown_on, seen_on, map_in, map_on, no_map, over, is_shared_of, reaches}
-use Rattle.hp_model.specs.SlotEvent.{anon_tests, are_too_many_maps, byte_access, bytes_answer, file_named, has_name, is_beyond, is_name, is_unmapped, load, map_file, mount_on, mount_outcome, slot_event, store}
-use Rattle.hp_model.specs.Sound.{IsSound, IsSoundMount}
-use Rattle.hp_model.specs.Spot.{Spot, again, spot, written}
-use Rattle.hp_model.specs.Value.{shown, value}
+use Rattle.hp_model.specs.machine.Promises.{file_in, spot_on, IsLoaded, shown_on, seen_on, map_in, map_on, no_map, over, is_shared_of, reaches}
+use Rattle.hp_model.specs.machine.SlotEvent.{anon_tests, are_too_many_maps, byte_access, bytes_answer, file_named, has_name, is_beyond, is_name, is_unmapped, load, map_file, mount_on, mount_outcome, slot_event, store}
+use Rattle.hp_model.specs.machine.Sound.{IsSound, IsSoundMount}
+use Rattle.hp_model.specs.files.Spot.{Spot, again, spot, written}
+use Rattle.hp_model.specs.files.Value.{shown, value}
 use Rattle.hp_laws.proofs.Looks.{same_edit_range, same_more, same_none, same_one, same_put}
 use Rattle.hp_laws.proofs.MountMoves.{IsSpot, file_at, spot_is}
 use Rattle.hp_laws.proofs.Outcomes.{Always, always_if, always_test, always_then}

@@ -10,28 +10,28 @@ use Rattle.hp_model.specs.declared.refusal.Refusal.{Refusal}
 use Rattle.hp_model.specs.declared.refusal.Refusal.TheVariants.{BeyondEnd, TooMany, OutOfRange, CrossesPage}
 use Rattle.hp_model.specs.declared.step.Intent.{Intent}
 use Rattle.hp_model.specs.declared.step.Intent.TheVariants.{Read, Write}
-use Rattle.hp_model.specs.Access.{access}
+use Rattle.hp_model.specs.files.Access.{access}
 use Rattle.hp_laws.specs.Balance.{Change, Moves, IsBalanced, left_by}
 use Rattle.hp_laws.specs.Laws.{SlotsAreBalanced}
-use Rattle.hp_model.specs.File.{new_file, File, Mount}
-use Rattle.hp_model.specs.Fork.{file_forked}
-use Rattle.hp_model.specs.GiveBack.{file_unmapped, file_without, punched, truncated, unlinked}
-use Rattle.hp_model.specs.Grant.{can_grant, granted}
+use Rattle.hp_model.specs.files.File.{new_file, File, Mount}
+use Rattle.hp_model.specs.files.Fork.{file_forked}
+use Rattle.hp_model.specs.files.GiveBack.{file_unmapped, file_without, punched, truncated, unlinked}
+use Rattle.hp_model.specs.pool.Grant.{can_grant, granted}
 use Rattle.hp_model.specs.Lists.{is_among}
-use Rattle.hp_model.specs.MakeMap.{asked, mapped, next_number}
-use Rattle.hp_model.specs.Mapping.{is_map}
-use Rattle.hp_model.specs.MountCounts.{stamps_of, file_pages_at, pages_at}
-use Rattle.hp_model.specs.Options.{limits, wanted_of}
-use Rattle.hp_model.specs.Plan.{Slot, Plan, Choice, refuse, unless, gives}
-use Rattle.hp_model.specs.Pool.{section, settled, released}
+use Rattle.hp_model.specs.files.MakeMap.{asked, mapped, next_number}
+use Rattle.hp_model.specs.files.Mapping.{is_map}
+use Rattle.hp_model.specs.files.MountCounts.{stamps_of, file_pages_at, pages_at}
+use Rattle.hp_model.specs.files.Options.{limits, wanted_of}
+use Rattle.hp_model.specs.machine.Plan.{Slot, Plan, Choice, refuse, unless, gives}
+use Rattle.hp_model.specs.pool.Pool.{section, settled, released}
 use Rattle.hp_model.specs.declared.section.PoolAnswer.{PoolAnswer}
 use Rattle.hp_model.specs.declared.section.Section.TheVariants.{GrantAndReturn, ReadAndGrant}
-use Rattle.hp_model.specs.PoolCounts.{Pool}
+use Rattle.hp_model.specs.pool.PoolCounts.{Pool}
 use Rattle.hp_model.specs.Profile.{most_bytes}
-use Rattle.hp_model.specs.SlotEvent.{on_mount, on_none, mount_section, mount_pages, mount_outcome, fault, byte_access, load, store, is_beyond, bytes_answer, is_unmapped}
-use Rattle.hp_model.specs.Sound.{IsSoundFile, IsSoundMount}
-use Rattle.hp_model.specs.Spot.{Spot, written, again}
-use Rattle.hp_model.specs.Value.{value}
+use Rattle.hp_model.specs.machine.SlotEvent.{on_mount, on_none, mount_section, mount_pages, mount_outcome, fault, byte_access, load, store, is_beyond, bytes_answer, is_unmapped}
+use Rattle.hp_model.specs.machine.Sound.{IsSoundFile, IsSoundMount}
+use Rattle.hp_model.specs.files.Spot.{Spot, written, again}
+use Rattle.hp_model.specs.files.Value.{value}
 use Rattle.hp_model.specs.declared.limits.Limits.{Limits}
 use Rattle.hp_laws.proofs.Accesses.{access_balanced, written_same}
 use Rattle.hp_model.proofs.Distinct.{is_among-append}

@@ -30,32 +30,32 @@ use Rattle.hp_model.specs.declared.step.Reserving.{Reserving}
 use Rattle.hp_model.specs.declared.step.Sharing.{Sharing}
 use Rattle.hp_model.specs.declared.step.Step.{Step}
 use Rattle.hp_model.specs.declared.step.Step.TheVariants.{Exit, Fork}
-use Rattle.hp_model.specs.Access.{access, new_copy, private_access, shared_access}
-use Rattle.hp_model.specs.CopyWrite.{copy_write, is_held_once, taken_back}
-use Rattle.hp_model.specs.Event.{IsEvent, has_maps_of}
-use Rattle.hp_model.specs.Fork.{forked}
-use Rattle.hp_model.specs.GiveBack.{punched, truncated, unlinked, unmapped_from, without_task}
-use Rattle.hp_model.specs.File.{File, Mount, cell_at, has_page, maps_of, new_file, with_file}
-use Rattle.hp_model.specs.Grant.{is_full, is_over, rise}
+use Rattle.hp_model.specs.files.Access.{access, new_copy, private_access, shared_access}
+use Rattle.hp_model.specs.files.CopyWrite.{copy_write, is_held_once, taken_back}
+use Rattle.hp_model.specs.machine.Event.{IsEvent, has_maps_of}
+use Rattle.hp_model.specs.files.Fork.{forked}
+use Rattle.hp_model.specs.files.GiveBack.{punched, truncated, unlinked, unmapped_from, without_task}
+use Rattle.hp_model.specs.files.File.{File, Mount, cell_at, has_page, maps_of, new_file, with_file}
+use Rattle.hp_model.specs.pool.Grant.{is_full, is_over, rise}
 use Rattle.hp_model.specs.Lists.{is_among}
-use Rattle.hp_model.specs.Machine.{committed_pages, pool_of, rows_of}
-use Rattle.hp_model.specs.MakeMap.{asked, mapped, next_number, numbers_of, with_new}
-use Rattle.hp_model.specs.Mapping.{is_map, is_of, is_shared, place_at}
-use Rattle.hp_model.specs.NodeRows.{IsRow, total_of, frames_of}
-use Rattle.hp_model.specs.Page.{Copy, Page}
-use Rattle.hp_model.specs.PoolCounts.{Pool}
-use Rattle.hp_model.specs.Plan.{Ask, grant_page, when_granted, with_value, Reply, Slot, Outcome, Refused, Answered, Plan, Finish, Choice, unless, continued, grant, gives}
+use Rattle.hp_model.specs.machine.Machine.{committed_pages, pool_of, rows_of}
+use Rattle.hp_model.specs.files.MakeMap.{asked, mapped, next_number, numbers_of, with_new}
+use Rattle.hp_model.specs.files.Mapping.{is_map, is_of, is_shared, place_at}
+use Rattle.hp_model.specs.pool.NodeRows.{IsRow, total_of, frames_of}
+use Rattle.hp_model.specs.files.Page.{Copy, Page}
+use Rattle.hp_model.specs.pool.PoolCounts.{Pool}
+use Rattle.hp_model.specs.machine.Plan.{Ask, grant_page, when_granted, with_value, Reply, Slot, Outcome, Refused, Answered, Plan, Finish, Choice, unless, continued, grant, gives}
 use Rattle.hp_model.specs.Profile.{most_overcommit, most_bytes, most_file_pages, most_files, most_map_pages, most_maps}
-use Rattle.hp_model.specs.Promises.{is_usage}
-use Rattle.hp_model.specs.Resize.{no_count, node_count, pool_event}
-use Rattle.hp_model.specs.Settled.{IsSettledState}
-use Rattle.hp_model.specs.SlotEvent.{anon_tests, edited, fault, fault_tests, fork_tests, is_bad_range, on_mount, punch, read, truncate, unlink, unmap, are_too_many_maps, byte_access, bytes_answer, file_named, has_maps, is_beyond, is_name, is_new_task_over, is_unmapped, load, map_file, slot_event, store}
-use Rattle.hp_model.specs.Spot.{Spot, again, copied, spot, written}
-use Rattle.hp_model.specs.State.{Node, State, slot_at}
-use Rattle.hp_model.specs.Step.{Answer_with, Do, IsScript, IsStep, Script, Where_mapped, exit_slots, fork_slots, or_undone, script, when_done}
-use Rattle.hp_model.specs.Table.{Table, added, home_of, is_crowded, is_known, or_refused, removed, table_event, when_known}
-use Rattle.hp_model.specs.Value.{shown, value}
-use Rattle.hp_model.specs.Writing.{IsWithinLimits}
+use Rattle.hp_model.specs.machine.Promises.{is_usage}
+use Rattle.hp_model.specs.pool.Resize.{no_count, node_count, pool_event}
+use Rattle.hp_model.specs.machine.Settled.{IsSettledState}
+use Rattle.hp_model.specs.machine.SlotEvent.{anon_tests, edited, fault, fault_tests, fork_tests, is_bad_range, on_mount, punch, read, truncate, unlink, unmap, are_too_many_maps, byte_access, bytes_answer, file_named, has_maps, is_beyond, is_name, is_new_task_over, is_unmapped, load, map_file, slot_event, store}
+use Rattle.hp_model.specs.files.Spot.{Spot, again, copied, spot, written}
+use Rattle.hp_model.specs.machine.State.{Node, State, slot_at}
+use Rattle.hp_model.specs.machine.Step.{Answer_with, Do, IsScript, IsStep, Script, Where_mapped, exit_slots, fork_slots, or_undone, script, when_done}
+use Rattle.hp_model.specs.machine.Table.{Table, added, home_of, is_crowded, is_known, or_refused, removed, table_event, when_known}
+use Rattle.hp_model.specs.files.Value.{shown, value}
+use Rattle.hp_model.specs.text.Writing.{IsWithinLimits}
 use Rattle.hp_laws.proofs.MountMoves.{IsSpot, spot_is}
 use Rattle.hp_laws.proofs.Outcomes.{either_way, Always, always_if, outcome_if, always_test, always_then, always_weaker, event_ends, reply_of}
 use Rattle.hp_laws.proofs.Shown.{On, Same, Result, on_weaker, read_same, write_done}

@@ -14,21 +14,21 @@ use Rattle.hp_model.specs.declared.event.PoolEvent.TheVariants.{Nr, Overcommit, 
 use Rattle.hp_model.specs.declared.node.NodeRow.{NodeRow}
 use Rattle.hp_model.specs.declared.refusal.Refusal.TheVariants.{OutOfRange, BadLine}
 use Rattle.hp_model.specs.declared.step.Step.{Step}
-use Rattle.hp_model.specs.Event.{has_maps_of, IsEvent, IsEventRun}
-use Rattle.hp_model.specs.Machine.{pool_of, with_pool, rows_of, row_of, used_at, slots_from, open_mount, start, idle_node}
-use Rattle.hp_model.specs.NodeRows.{IsRow, used as row_used, total_of, surp_of}
-use Rattle.hp_model.specs.Plan.{Reply, Slot, slot_committed, slot_pages_at}
-use Rattle.hp_model.specs.PoolCounts.{Pool}
+use Rattle.hp_model.specs.machine.Event.{has_maps_of, IsEvent, IsEventRun}
+use Rattle.hp_model.specs.machine.Machine.{pool_of, with_pool, rows_of, row_of, used_at, slots_from, open_mount, start, idle_node}
+use Rattle.hp_model.specs.pool.NodeRows.{IsRow, used as row_used, total_of, surp_of}
+use Rattle.hp_model.specs.machine.Plan.{Reply, Slot, slot_committed, slot_pages_at}
+use Rattle.hp_model.specs.pool.PoolCounts.{Pool}
 use Rattle.hp_model.specs.Profile.{most_overcommit}
-use Rattle.hp_model.specs.Resize.{pool_event, set_nr}
-use Rattle.hp_model.specs.Run.{IsRun}
-use Rattle.hp_model.specs.Settled.{IsSettledState}
+use Rattle.hp_model.specs.pool.Resize.{pool_event, set_nr}
+use Rattle.hp_model.specs.machine.Run.{IsRun}
+use Rattle.hp_model.specs.machine.Settled.{IsSettledState}
 use Rattle.hp_laws.specs.Laws.{PoolIsTied, StartIsSettled, RunsAreSettled}
-use Rattle.hp_model.specs.SlotEvent.{slot_event}
-use Rattle.hp_model.specs.Sound.{IsSound}
-use Rattle.hp_model.specs.State.{State, slot_at}
-use Rattle.hp_model.specs.Step.{Script, Answer_with, Do, Where_mapped, script, is_unbuilt, IsScript, IsBuiltStep, IsStep}
-use Rattle.hp_model.specs.Table.{Table, table_event}
+use Rattle.hp_model.specs.machine.SlotEvent.{slot_event}
+use Rattle.hp_model.specs.machine.Sound.{IsSound}
+use Rattle.hp_model.specs.machine.State.{State, slot_at}
+use Rattle.hp_model.specs.machine.Step.{Script, Answer_with, Do, Where_mapped, script, is_unbuilt, IsScript, IsBuiltStep, IsStep}
+use Rattle.hp_model.specs.machine.Table.{Table, table_event}
 use Rattle.hp_laws.proofs.EventsSound.{empty_sound, slots_stay_sound}
 use Rattle.hp_laws.proofs.SectionTies.{relead}
 use Rattle.hp_laws.proofs.Outcomes.{either_way}

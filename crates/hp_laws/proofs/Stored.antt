@@ -3,13 +3,13 @@ use Rattle.std.proofs.Common.{◌≡◌, ⊎_elim, ℕ, Bool, true, false, ◌&&
 use Rattle.std.proofs.lemmas.Bool.{cond_both, eqb-true, eqb-false}
 use Rattle.hp_model.specs.declared.cell.Cell.{Cell}
 use Rattle.hp_model.specs.declared.cell.Cell.TheVariants.{Hole, Entered, Present}
-use Rattle.hp_model.specs.File.{File, Mount, cell_at, has_page, new_file}
+use Rattle.hp_model.specs.files.File.{File, Mount, cell_at, has_page, new_file}
 use Rattle.hp_model.specs.Lists.{edit_at}
-use Rattle.hp_model.specs.Mapping.{is_shared}
-use Rattle.hp_model.specs.Page.{Page}
-use Rattle.hp_model.specs.Promises.{file_in, over}
-use Rattle.hp_model.specs.Spot.{Spot, cell_written, file_written, map_written, written}
-use Rattle.hp_model.specs.Value.{shown}
+use Rattle.hp_model.specs.files.Mapping.{is_shared}
+use Rattle.hp_model.specs.files.Page.{Page}
+use Rattle.hp_model.specs.machine.Promises.{file_in, over}
+use Rattle.hp_model.specs.files.Spot.{Spot, cell_written, file_written, map_written, written}
+use Rattle.hp_model.specs.files.Value.{shown}
 use Rattle.hp_laws.proofs.Looks.{edit_here, edit_other, same_edit, same_put}
 use Rattle.hp_laws.proofs.MountMoves.{IsSpot}
 use Rattle.hp_laws.proofs.Shown.{look, Result}

@@ -3,11 +3,11 @@ use Rattle.std.proofs.Common.{◌≡◌, ℕ, Bool, true, false, not, Some, is_s
 use Rattle.std.specs.List.{filter, list_any}
 use Rattle.std.proofs.lemmas.Bool.{eq-eqb, lt-ltb, or_parts}
 use Rattle.std.proofs.lemmas.List.Elements.{filter-append}
-use Rattle.hp_model.specs.File.{File, Mount}
-use Rattle.hp_model.specs.Event.{has_maps_of}
-use Rattle.hp_model.specs.Fork.{file_forked}
-use Rattle.hp_model.specs.GiveBack.{file_without, is_kept, swept, without_task}
-use Rattle.hp_model.specs.Mapping.{Map, is_of, map_for}
+use Rattle.hp_model.specs.files.File.{File, Mount}
+use Rattle.hp_model.specs.machine.Event.{has_maps_of}
+use Rattle.hp_model.specs.files.Fork.{file_forked}
+use Rattle.hp_model.specs.files.GiveBack.{file_without, is_kept, swept, without_task}
+use Rattle.hp_model.specs.files.Mapping.{Map, is_of, map_for}
 use Rattle.hp_laws.proofs.Follows.{is_not_of}
 use Rattle.hp_laws.proofs.Made.{any_in_files}
 

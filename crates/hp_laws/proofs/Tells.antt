@@ -3,13 +3,13 @@ use Rattle.std.proofs.Common.{◌≡◌, ℕ, None, Some, refl, sym, ap, ◌∙�
 use Rattle.hp_model.specs.declared.answer.Answer.{Answer}
 use Rattle.hp_model.specs.declared.event.SlotEvent.{SlotEvent}
 use Rattle.hp_model.specs.declared.event.SlotEvent.TheVariants.{Mount as MountEvent}
-use Rattle.hp_model.specs.File.{Mount}
-use Rattle.hp_model.specs.Options.{wanted_of, limits}
-use Rattle.hp_model.specs.Plan.{Answered, Slot, Plan, Finish, Ask, Choice, and_then, gives}
-use Rattle.hp_model.specs.Pool.{section}
+use Rattle.hp_model.specs.files.File.{Mount}
+use Rattle.hp_model.specs.files.Options.{wanted_of, limits}
+use Rattle.hp_model.specs.machine.Plan.{Answered, Slot, Plan, Finish, Ask, Choice, and_then, gives}
+use Rattle.hp_model.specs.pool.Pool.{section}
 use Rattle.hp_model.specs.declared.section.PoolAnswer.{PoolAnswer}
-use Rattle.hp_model.specs.PoolCounts.{Pool}
-use Rattle.hp_model.specs.SlotEvent.{slot_event, on_none, mount_section, mount_pages}
+use Rattle.hp_model.specs.pool.PoolCounts.{Pool}
+use Rattle.hp_model.specs.machine.SlotEvent.{slot_event, on_none, mount_section, mount_pages}
 use Rattle.hp_laws.proofs.PlanRules.{PlanRules, plan_gives, plan_walk}
 use Rattle.hp_laws.proofs.SlotsBalanced.{tells_nr}
 

@@ -6,19 +6,19 @@ use Rattle.std.proofs.lemmas.List.{length-map, set-get_or}
 use Rattle.std.proofs.lemmas.List.Elements.{All-head, All-tail, All-set}
 use Rattle.std.proofs.lemmas.List.Sums.{sum_by-set, sum-map, sum_by-le-sum_by}
 use Rattle.hp_laws.specs.Balance.{Always, Moves, takes_page, left_by, IsBalanced}
-use Rattle.hp_model.specs.Event.{planned, settled}
-use Rattle.hp_model.specs.Machine.{pool_of, with_pool, rows_of, node_of, committed_pages, used_at}
-use Rattle.hp_model.specs.NodeRows.{IsRow, used as row_used}
-use Rattle.hp_model.specs.Plan.{Slot, Outcome, Refused, Answered, Plan, Finish, Ask, slot_committed, slot_pages, slot_pages_at}
-use Rattle.hp_model.specs.Pool.{no_pages, section}
+use Rattle.hp_model.specs.machine.Event.{planned, settled}
+use Rattle.hp_model.specs.machine.Machine.{pool_of, with_pool, rows_of, node_of, committed_pages, used_at}
+use Rattle.hp_model.specs.pool.NodeRows.{IsRow, used as row_used}
+use Rattle.hp_model.specs.machine.Plan.{Slot, Outcome, Refused, Answered, Plan, Finish, Ask, slot_committed, slot_pages, slot_pages_at}
+use Rattle.hp_model.specs.pool.Pool.{no_pages, section}
 use Rattle.hp_model.specs.declared.section.PoolAnswer.{PoolAnswer}
 use Rattle.hp_model.specs.declared.section.Section.{Section}
 use Rattle.hp_model.specs.declared.section.Section.TheVariants.{Grant}
-use Rattle.hp_model.specs.PoolCounts.{Pool}
-use Rattle.hp_model.specs.Settled.{IsSettledPool, IsSettledState}
+use Rattle.hp_model.specs.pool.PoolCounts.{Pool}
+use Rattle.hp_model.specs.machine.Settled.{IsSettledPool, IsSettledState}
 use Rattle.hp_laws.specs.Laws.{pool_after}
-use Rattle.hp_model.specs.Sound.{IsSound}
-use Rattle.hp_model.specs.State.{State, Node, with_slot, slot_at}
+use Rattle.hp_model.specs.machine.Sound.{IsSound}
+use Rattle.hp_model.specs.machine.State.{State, Node, with_slot, slot_at}
 use Rattle.hp_model.specs.declared.node.NodeRow.{NodeRow}
 use Rattle.hp_laws.proofs.NodeSums.{slot_below, swap_le, once_in_range, pages-le-committed}
 use Rattle.hp_laws.proofs.SectionTies.{IsWanted, used_is, same_list, relead, section_leads}

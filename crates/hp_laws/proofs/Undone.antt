@@ -13,22 +13,22 @@ use Rattle.hp_model.specs.declared.event.TableEvent.TheVariants as table
 use Rattle.hp_model.specs.declared.refusal.Refusal.{Refusal}
 use Rattle.hp_model.specs.declared.refusal.Refusal.TheVariants.{NoSuchTask, TaskExists, TooMany}
 use Rattle.hp_model.specs.declared.step.Step.TheVariants.{Fork}
-use Rattle.hp_model.specs.Event.{IsEvent, has_maps_of, planned, settled, with_table}
-use Rattle.hp_model.specs.File.{Mount}
-use Rattle.hp_model.specs.Fork.{file_forked, forked}
-use Rattle.hp_model.specs.GiveBack.{file_without, swept, without_task}
+use Rattle.hp_model.specs.machine.Event.{IsEvent, has_maps_of, planned, settled, with_table}
+use Rattle.hp_model.specs.files.File.{Mount}
+use Rattle.hp_model.specs.files.Fork.{file_forked, forked}
+use Rattle.hp_model.specs.files.GiveBack.{file_without, swept, without_task}
 use Rattle.hp_model.specs.Lists.{is_among}
-use Rattle.hp_model.specs.Machine.{pool_of, with_pool}
-use Rattle.hp_model.specs.Plan.{Answered, Ask, Choice, Finish, Outcome, Plan, Refused, Reply, Slot, fall_of, gives, puts_of}
-use Rattle.hp_model.specs.Pool.{section}
+use Rattle.hp_model.specs.machine.Machine.{pool_of, with_pool}
+use Rattle.hp_model.specs.machine.Plan.{Answered, Ask, Choice, Finish, Outcome, Plan, Refused, Reply, Slot, fall_of, gives, puts_of}
+use Rattle.hp_model.specs.pool.Pool.{section}
 use Rattle.hp_model.specs.declared.section.Section.TheVariants.{GiveBack}
-use Rattle.hp_model.specs.PoolCounts.{Pool}
-use Rattle.hp_model.specs.Promises.{IsForkLeft, LeavesOthers}
-use Rattle.hp_model.specs.Settled.{IsSettledState}
-use Rattle.hp_model.specs.SlotEvent.{fork_tests, slot_event}
-use Rattle.hp_model.specs.State.{State, slot_at}
-use Rattle.hp_model.specs.Step.{Answer_with, Do, IsBuiltStep, IsScript, Script, fork_slots, or_undone, undone, when_done}
-use Rattle.hp_model.specs.Table.{Table, added, home_of, is_crowded, is_known, or_refused, removed, when_known}
+use Rattle.hp_model.specs.pool.PoolCounts.{Pool}
+use Rattle.hp_model.specs.machine.Promises.{IsForkLeft, LeavesOthers}
+use Rattle.hp_model.specs.machine.Settled.{IsSettledState}
+use Rattle.hp_model.specs.machine.SlotEvent.{fork_tests, slot_event}
+use Rattle.hp_model.specs.machine.State.{State, slot_at}
+use Rattle.hp_model.specs.machine.Step.{Answer_with, Do, IsBuiltStep, IsScript, Script, fork_slots, or_undone, undone, when_done}
+use Rattle.hp_model.specs.machine.Table.{Table, added, home_of, is_crowded, is_known, or_refused, removed, when_known}
 use Rattle.hp_model.proofs.Distinct.{is_among-append}
 use Rattle.hp_model.proofs.RowMoves.{puts_are}
 use Rattle.hp_laws.specs.Balance.{Always, left_by}

@@ -5,14 +5,14 @@ use Rattle.std.proofs.lemmas.Bool.{and_parts, cond_both, eq-eqb, eqb-false, eqb-
 use Rattle.hp_model.specs.declared.event.SlotEvent.{SlotEvent}
 use Rattle.hp_model.specs.declared.event.SlotEvent.TheVariants as slot
 use Rattle.hp_model.specs.declared.place.Place.TheVariants.{Gone}
-use Rattle.hp_model.specs.File.{File, Mount, new_file}
-use Rattle.hp_model.specs.Fork.{file_forked, forked}
-use Rattle.hp_model.specs.GiveBack.{file_unmapped, file_without, is_left, map_unmapped, swept, unmapped_from, without_task}
+use Rattle.hp_model.specs.files.File.{File, Mount, new_file}
+use Rattle.hp_model.specs.files.Fork.{file_forked, forked}
+use Rattle.hp_model.specs.files.GiveBack.{file_unmapped, file_without, is_left, map_unmapped, swept, unmapped_from, without_task}
 use Rattle.hp_model.specs.Lists.{found}
-use Rattle.hp_model.specs.Mapping.{Map, is_map, is_mapped, no_map, place_at, without_range}
-use Rattle.hp_model.specs.Promises.{file_in, is_at, is_in, map_in, map_on, seen_on, shape_of, shown_on, stays_mapped}
-use Rattle.hp_model.specs.Spot.{Spot, spot}
-use Rattle.hp_model.specs.Value.{value}
+use Rattle.hp_model.specs.files.Mapping.{Map, is_map, is_mapped, no_map, place_at, without_range}
+use Rattle.hp_model.specs.machine.Promises.{file_in, is_at, is_in, map_in, map_on, seen_on, shape_of, shown_on, stays_mapped}
+use Rattle.hp_model.specs.files.Spot.{Spot, spot}
+use Rattle.hp_model.specs.files.Value.{value}
 use Rattle.hp_model.proofs.Editing.{length-edit_range}
 use Rattle.hp_laws.proofs.Accessed.{get_mapped, key_map, pages_same}
 use Rattle.hp_laws.proofs.ByPlace.{PlaceKeeps, by_place}

@@ -11,17 +11,17 @@ use Rattle.hp_model.specs.declared.refusal.Refusal.TheVariants.{NoSuchFile, NoSu
 use Rattle.hp_model.specs.declared.step.Intent.{Intent}
 use Rattle.hp_model.specs.declared.step.Reserving.{Reserving}
 use Rattle.hp_model.specs.declared.step.Sharing.{Sharing}
-use Rattle.hp_model.specs.File.{File, Mount, cell_at, has_page, is_entered, new_file, with_file}
-use Rattle.hp_model.specs.Fork.{forked}
-use Rattle.hp_model.specs.GiveBack.{punched, truncated, unlinked, unmapped_from, without_task}
-use Rattle.hp_model.specs.MakeMap.{asked, mapped, next_number, with_new}
-use Rattle.hp_model.specs.Mapping.{is_map}
-use Rattle.hp_model.specs.MountCounts.{usage_of}
-use Rattle.hp_model.specs.Plan.{Answered, Choice, Finish, Plan, gives, grant, refuse, unless, with_value}
+use Rattle.hp_model.specs.files.File.{File, Mount, cell_at, has_page, is_entered, new_file, with_file}
+use Rattle.hp_model.specs.files.Fork.{forked}
+use Rattle.hp_model.specs.files.GiveBack.{punched, truncated, unlinked, unmapped_from, without_task}
+use Rattle.hp_model.specs.files.MakeMap.{asked, mapped, next_number, with_new}
+use Rattle.hp_model.specs.files.Mapping.{is_map}
+use Rattle.hp_model.specs.files.MountCounts.{usage_of}
+use Rattle.hp_model.specs.machine.Plan.{Answered, Choice, Finish, Plan, gives, grant, refuse, unless, with_value}
 use Rattle.hp_model.specs.Profile.{most_file_pages}
-use Rattle.hp_model.specs.SlotEvent.{anon_tests, bytes_answer, create_tests, edited, fault, file_named, fork_tests, has_name, is_bad_range, load, map_file, map_tests, on_mount, punch, read, read_tests, stat, store, truncate, umount_tests, unlink, unmap}
-use Rattle.hp_model.specs.Spot.{Spot, spot}
-use Rattle.hp_model.specs.Value.{shown}
+use Rattle.hp_model.specs.machine.SlotEvent.{anon_tests, bytes_answer, create_tests, edited, fault, file_named, fork_tests, has_name, is_bad_range, load, map_file, map_tests, on_mount, punch, read, read_tests, stat, store, truncate, umount_tests, unlink, unmap}
+use Rattle.hp_model.specs.files.Spot.{Spot, spot}
+use Rattle.hp_model.specs.files.Value.{shown}
 use Rattle.hp_laws.proofs.MountMoves.{IsFileAt, IsSpot, file_at, spot_is}
 
 -- ---- tests and what is found

@@ -11,11 +11,11 @@ use Rattle.hp_model.specs.declared.refusal.Refusal.{Refusal}
 use Rattle.hp_model.specs.declared.refusal.Refusal.TheVariants.{BadLine, MountFull, NoPages, NoSuchSlot, NoSuchTask}
 use Rattle.hp_model.specs.declared.step.Step.{Step}
 use Rattle.hp_model.specs.declared.step.Step.TheVariants.{Connect, Attach, Fork, Exit, Mount, Umount, Create, Unlink, Truncate, Punch, Read, Ls, Stat, Map, Anon, Unmap, Fault, Load, Store, Nr, Overcommit, Meminfo, Nodes, Df}
-use Rattle.hp_model.specs.Event.{IsEvent}
-use Rattle.hp_model.specs.Plan.{Reply}
-use Rattle.hp_model.specs.Promises.{is_for_pages}
-use Rattle.hp_model.specs.State.{State}
-use Rattle.hp_model.specs.Step.{IsBuiltStep, IsScript, IsStep, finding, is_unbuilt, on_slot, only}
+use Rattle.hp_model.specs.machine.Event.{IsEvent}
+use Rattle.hp_model.specs.machine.Plan.{Reply}
+use Rattle.hp_model.specs.machine.Promises.{is_for_pages}
+use Rattle.hp_model.specs.machine.State.{State}
+use Rattle.hp_model.specs.machine.Step.{IsBuiltStep, IsScript, IsStep, finding, is_unbuilt, on_slot, only}
 use Rattle.hp_laws.proofs.Outcomes.{IsLeft, finding_goes, only_goes, slot_goes}
 
 -- ---- the step of an event

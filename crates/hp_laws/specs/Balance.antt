@@ -1,12 +1,12 @@
 -- The tie of slots and pool: what a section with its answer moves in the pool's numbers is what its event moves in the slot's counts.
 use Rattle.std.specs.Prelude.{◌≡◌, ◌⊎◌, ℕ, ◌+◌, ◌<◌, ◌≤◌, ◌&&◌, ◌==◌, Bool, true, false, if◌then◌else◌}
 use Rattle.std.specs.List.{slice_index_or}
-use Rattle.hp_model.specs.Plan.{Slot, Outcome, Refused, Answered, Plan, Finish, Ask, slot_committed, slot_pages, slot_pages_at, slot_usage, IsWithinLimit}
-use Rattle.hp_model.specs.Pool.{section}
+use Rattle.hp_model.specs.machine.Plan.{Slot, Outcome, Refused, Answered, Plan, Finish, Ask, slot_committed, slot_pages, slot_pages_at, slot_usage, IsWithinLimit}
+use Rattle.hp_model.specs.pool.Pool.{section}
 use Rattle.hp_model.specs.declared.section.PoolAnswer.{PoolAnswer}
 use Rattle.hp_model.specs.declared.section.Section.{Section}
 use Rattle.hp_model.specs.declared.section.Section.TheVariants.{Grant, GrantPage, TakePage, GiveBack, ReadAndGrant, GrantAndReturn}
-use Rattle.hp_model.specs.PoolCounts.{Pool}
+use Rattle.hp_model.specs.pool.PoolCounts.{Pool}
 
 -- what the section, answered so, adds to the pool's commitment, and what it takes from it
 abbrev pub raised_by : Section → PoolAnswer → ℕ

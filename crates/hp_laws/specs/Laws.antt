@@ -8,27 +8,27 @@ use Rattle.hp_model.specs.declared.event.SlotEvent.{SlotEvent}
 use Rattle.hp_model.specs.declared.refusal.Refusal.{Refusal}
 use Rattle.hp_model.specs.declared.step.Intent.{Intent}
 use Rattle.hp_model.specs.declared.step.Step.{Step}
-use Rattle.hp_model.specs.Access.{access}
-use Rattle.hp_model.specs.CopyWrite.{copy_write}
-use Rattle.hp_model.specs.Event.{after, CanHappen, IsEvent, IsEventRun, IsFresh}
-use Rattle.hp_model.specs.File.{Mount}
-use Rattle.hp_model.specs.JointRun.{Trails, Item, AreRuns, HasParts, IsOrder, IsJointRun}
-use Rattle.hp_model.specs.Machine.{pool_of, start}
-use Rattle.hp_model.specs.Page.{Copy}
-use Rattle.hp_model.specs.Plan.{Outcome, Refused, Answered, Plan, Finish, Ask, Choice, Reply, Slot, slot_usage, IsWithinLimit}
-use Rattle.hp_model.specs.Pool.{section}
-use Rattle.hp_model.specs.PoolCounts.{Pool}
-use Rattle.hp_model.specs.Promises.{is_for_pages, is_late, IsPromised, SameButNodes}
-use Rattle.hp_model.specs.Reserved.{is_reserved}
-use Rattle.hp_model.specs.Resize.{pool_event}
-use Rattle.hp_model.specs.Run.{IsRun}
-use Rattle.hp_model.specs.Settled.{AreCounted, IsSettledState}
-use Rattle.hp_model.specs.SlotEvent.{slot_event}
-use Rattle.hp_model.specs.Sound.{IsSound}
-use Rattle.hp_model.specs.Spot.{Spot}
-use Rattle.hp_model.specs.State.{State, slot_at}
-use Rattle.hp_model.specs.Step.{IsStep}
-use Rattle.hp_model.specs.Table.{Table}
+use Rattle.hp_model.specs.files.Access.{access}
+use Rattle.hp_model.specs.files.CopyWrite.{copy_write}
+use Rattle.hp_model.specs.machine.Event.{after, CanHappen, IsEvent, IsEventRun, IsFresh}
+use Rattle.hp_model.specs.files.File.{Mount}
+use Rattle.hp_model.specs.threads.JointRun.{Trails, Item, AreRuns, HasParts, IsOrder, IsJointRun}
+use Rattle.hp_model.specs.machine.Machine.{pool_of, start}
+use Rattle.hp_model.specs.files.Page.{Copy}
+use Rattle.hp_model.specs.machine.Plan.{Outcome, Refused, Answered, Plan, Finish, Ask, Choice, Reply, Slot, slot_usage, IsWithinLimit}
+use Rattle.hp_model.specs.pool.Pool.{section}
+use Rattle.hp_model.specs.pool.PoolCounts.{Pool}
+use Rattle.hp_model.specs.machine.Promises.{is_for_pages, is_late, IsPromised, SameButNodes}
+use Rattle.hp_model.specs.files.Reserved.{is_reserved}
+use Rattle.hp_model.specs.pool.Resize.{pool_event}
+use Rattle.hp_model.specs.machine.Run.{IsRun}
+use Rattle.hp_model.specs.machine.Settled.{AreCounted, IsSettledState}
+use Rattle.hp_model.specs.machine.SlotEvent.{slot_event}
+use Rattle.hp_model.specs.machine.Sound.{IsSound}
+use Rattle.hp_model.specs.files.Spot.{Spot}
+use Rattle.hp_model.specs.machine.State.{State, slot_at}
+use Rattle.hp_model.specs.machine.Step.{IsStep}
+use Rattle.hp_model.specs.machine.Table.{Table}
 use Rattle.hp_laws.specs.Balance.{Always, IsBalanced, left_by}
 
 abbrev pub KeepsGoing : Outcome → Type 0

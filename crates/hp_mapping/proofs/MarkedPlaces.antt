@@ -5,7 +5,7 @@ use Rattle.std.proofs.lemmas.List.{get_or-set_same, get_or-set_other, length-set
 use Rattle.std.specs.List.{list_any}
 use Rattle.hp_model.specs.declared.place.Place.{Place}
 use Rattle.hp_model.specs.declared.place.Place.TheVariants.{Gone, Live}
-use Rattle.hp_model.specs.Mapping.{is_live, unconsumed}
+use Rattle.hp_model.specs.files.Mapping.{is_live, unconsumed}
 use Rattle.hp_mapping.specs.Mapped.{has_copy, with_copy}
 use Rattle.hp_mapping.specs.Marks.{mark_at, one_if, ChangesMark, IsPlaced, IsBlankFrom, IsLowest}
 

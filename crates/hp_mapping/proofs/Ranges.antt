@@ -6,7 +6,7 @@ use Rattle.std.proofs.lemmas.List.Sums.{sum_by-append}
 use Rattle.hp_model.specs.declared.place.Place.{Place}
 use Rattle.hp_model.specs.declared.place.Place.TheVariants.{Gone}
 use Rattle.hp_model.specs.Lists.{edit_range, part}
-use Rattle.hp_model.specs.Mapping.{Mapping, place_at, copy_of, is_unconsumed}
+use Rattle.hp_model.specs.files.Mapping.{Mapping, place_at, copy_of, is_unconsumed}
 use Rattle.hp_mapping.specs.Mapped.{IsClear, reserves_in}
 use Rattle.std.specs.Prelude.{nat_lt}
 use Rattle.std.proofs.lemmas.Bool.Decides.{nat_tests}

@@ -5,7 +5,7 @@ use Rattle.std.specs.List.{count_by}
 use Rattle.hp_model.specs.declared.place.Place.{Place}
 use Rattle.hp_model.specs.declared.place.Place.TheVariants.{Gone, Live}
 use Rattle.hp_model.specs.Lists.{part}
-use Rattle.hp_model.specs.Mapping.{Mapping, place_at, with_place, copy_of, is_unconsumed, without_copy}
+use Rattle.hp_model.specs.files.Mapping.{Mapping, place_at, with_place, copy_of, is_unconsumed, without_copy}
 
 -- the place of the file's index i is changed
 abbrev pub at_place : (Place ℕ → Place ℕ) → ℕ → Mapping ℕ → Mapping ℕ

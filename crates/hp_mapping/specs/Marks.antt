@@ -3,7 +3,7 @@ use Rattle.std.specs.Prelude.{◌≡◌, ◌≢◌, ℕ, ◌*◌, ◌/◌, ◌%�
 use Rattle.std.specs.Int.{bit_at}
 use Rattle.hp_model.specs.declared.place.Place.{Place}
 use Rattle.hp_model.specs.declared.place.Place.TheVariants.{Gone}
-use Rattle.hp_model.specs.Mapping.{is_live}
+use Rattle.hp_model.specs.files.Mapping.{is_live}
 use Rattle.hp_mapping.specs.Mapped.{has_copy}
 
 -- 1 where the number is marked, else 0

@@ -1,7 +1,7 @@
 //! The flags of a map.
 ghost use Rattle.std.specs.Prelude.{⊤, ◌≡◌, [], ◌∷◌, true, false, codes};
 ghost use Rattle.std.specs.Int.RustNames.{bit_and, bit_or};
-ghost use Rattle.hp_model.specs.Mapping.{is_shared};
+ghost use Rattle.hp_model.specs.files.Mapping.{is_shared};
 ghost use Rattle.hp_mapping.specs.Flags.{has_owner, has_unmapped, sharing_of};
 
 use bitflags::{Flag, Flags, bitflag_items};

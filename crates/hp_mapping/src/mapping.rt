@@ -1,7 +1,7 @@
 //! The map.
 ghost use Rattle.std.specs.Prelude.{◌≡◌, ℕ, ◌+◌, ◌-◌, ◌<◌, ◌≤◌, true, false, length, replicate, IsTrue, IsSome, min, IfOk, IfSome, IfNone, None};
 ghost use Rattle.hp_model.specs.declared.place.Place.TheVariants.{Gone, Live};
-ghost use Rattle.hp_model.specs.Mapping.{place_at, is_live, is_mapped, is_shared, copy_of, without_copy, without_range, map_for};
+ghost use Rattle.hp_model.specs.files.Mapping.{place_at, is_live, is_mapped, is_shared, copy_of, without_copy, without_range, map_for};
 ghost use Rattle.hp_mapping.specs.Flags.{has_owner, has_unmapped, sharing_of};
 ghost use Rattle.hp_mapping.specs.Mapped.{at_place, consumed, with_copy, has_reserve, IsClear, reserves_in, TakesLowest};
 
@@ -24,7 +24,7 @@ pub struct Mapping {
 
 impl Model for Mapping {
     ghost use Rattle.std.specs.Prelude.{ℕ, length, ◌+◌, ◌<◌, ◌^◌};
-    ghost use Rattle.hp_model.specs.Mapping.{Mapping};
+    ghost use Rattle.hp_model.specs.files.Mapping.{Mapping};
     ghost use Rattle.hp_mapping.specs.Flags.{has_owner, has_unmapped, sharing_of};
 
     ghost Value = { Mapping ℕ };

@@ -1,6 +1,6 @@
 //! One place of a map, with the number of a page as its copy.
 ghost use Rattle.std.specs.Prelude.{◌≡◌};
-ghost use Rattle.hp_model.specs.Mapping.{copy_of, is_unconsumed, without_copy, unconsumed};
+ghost use Rattle.hp_model.specs.files.Mapping.{copy_of, is_unconsumed, without_copy, unconsumed};
 ghost use Rattle.hp_mapping.specs.Mapped.{consumed, with_copy};
 
 use hp_model::page_no::PageNo;

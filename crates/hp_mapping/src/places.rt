@@ -3,7 +3,7 @@ ghost use Rattle.std.specs.Prelude.{◌≡◌, ℕ, ◌<◌, ◌≤◌, true, fa
 ghost use Rattle.std.specs.List.{count_by, list_any};
 ghost use Rattle.hp_model.specs.declared.place.Place.TheVariants.{Gone, Live};
 ghost use Rattle.hp_model.specs.Lists.{edit_range, part};
-ghost use Rattle.hp_model.specs.Mapping.{is_live, copy_of, is_unconsumed, without_copy, unconsumed};
+ghost use Rattle.hp_model.specs.files.Mapping.{is_live, copy_of, is_unconsumed, without_copy, unconsumed};
 ghost use Rattle.hp_mapping.specs.Mapped.{at_index, consumed, with_copy, HasNoCopy, IsGone};
 
 use crate::marks::Marks;

@@ -11,7 +11,7 @@ use Rattle.hp_model.specs.declared.node.Kind.{Kind}
 use Rattle.hp_model.specs.declared.node.Kind.TheVariants.{Free, Idle, Surplus, Persistent, FreeSurplus}
 use Rattle.hp_model.specs.declared.node.NodeRow.{NodeRow}
 use Rattle.hp_model.specs.Lists.{edit_at}
-use Rattle.hp_model.specs.NodeRows.{IsRow, at_row, row_at, no_row, has, lowest, near, next_from}
+use Rattle.hp_model.specs.pool.NodeRows.{IsRow, at_row, row_at, no_row, has, lowest, near, next_from}
 
 -- a node that has one
 pub record IsPick (kind : Kind) (rows : List NodeRow) (n : ℕ) : Type 0 where

@@ -10,11 +10,11 @@ use Rattle.std.proofs.lemmas.List.Sums.{sum_by-cons, sum-map, fails_before_first
 use Rattle.std.proofs.Math.Seq.{set-append_seam, get_or-append_seam}
 use Rattle.hp_model.specs.declared.node.Kind.TheVariants.{Free, Idle, Surplus, Persistent, FreeSurplus}
 use Rattle.hp_model.specs.declared.node.NodeRow.{NodeRow}
-use Rattle.hp_model.specs.Grant.{surplus_times}
+use Rattle.hp_model.specs.pool.Grant.{surplus_times}
 use Rattle.hp_model.specs.Lists.{edit_at}
-use Rattle.hp_model.specs.NodeRows.{NodeRows, IsRow, at_row, row_at, no_row, has, lowest, near, next_from, used, total_of, free_of, surp_of, frames_of, taken, surplus_added, grown, shrunk, promoted, demoted, given_back, take_row, put_row, add_surplus_row, grow_row, shrink_row, promote_row, demote_row, give_back_row}
-use Rattle.hp_model.specs.Pool.{give_back_times, kept_times, puts_from, page_kept}
-use Rattle.hp_model.specs.PoolCounts.{Pool}
+use Rattle.hp_model.specs.pool.NodeRows.{NodeRows, IsRow, at_row, row_at, no_row, has, lowest, near, next_from, used, total_of, free_of, surp_of, frames_of, taken, surplus_added, grown, shrunk, promoted, demoted, given_back, take_row, put_row, add_surplus_row, grow_row, shrink_row, promote_row, demote_row, give_back_row}
+use Rattle.hp_model.specs.pool.Pool.{give_back_times, kept_times, puts_from, page_kept}
+use Rattle.hp_model.specs.pool.PoolCounts.{Pool}
 use Rattle.hp_model.proofs.Picks.{IsPick, edit, near_pick, lowest_pick, next_pick, had}
 use Rattle.hp_model.proofs.Sums.{some_free, some_idle, some_surplus, some_persistent, none_surplus}
 

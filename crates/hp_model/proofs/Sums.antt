@@ -8,7 +8,7 @@ use Rattle.std.proofs.lemmas.List.Sums.{sum_by-set, sum_by-cons, get_or-le-sum_b
 use Rattle.hp_model.specs.declared.node.NodeRow.{NodeRow}
 use Rattle.hp_model.specs.declared.node.Kind.{Kind}
 use Rattle.hp_model.specs.declared.node.Kind.TheVariants.{Free, Idle, Surplus, Persistent}
-use Rattle.hp_model.specs.NodeRows.{IsRow, idle_row, used, row_at, no_row, has, lowest, some_has, sum_row, frames_of, total_of, free_of, surp_of, take_row, put_row, grow_row, shrink_row, add_surplus_row, give_back_row, promote_row, demote_row}
+use Rattle.hp_model.specs.pool.NodeRows.{IsRow, idle_row, used, row_at, no_row, has, lowest, some_has, sum_row, frames_of, total_of, free_of, surp_of, take_row, put_row, grow_row, shrink_row, add_surplus_row, give_back_row, promote_row, demote_row}
 
 abbrev row : ℕ → ℕ → ℕ → ℕ → NodeRow
 row a b c d = record { frames = a; total = b; free = c; surp = d }

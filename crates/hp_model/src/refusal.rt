@@ -1,6 +1,6 @@
 //! Why a step is refused.
 ghost use Rattle.std.specs.Prelude.{◌≡◌, Some};
-ghost use Rattle.hp_model.specs.Names.{name_of_refusal, number_of_refusal};
+ghost use Rattle.hp_model.specs.text.Names.{name_of_refusal, number_of_refusal};
 
 use std::fmt;
 

@@ -1,8 +1,8 @@
 //! What answers steps.
 ghost use Rattle.std.specs.Prelude.{◌≡◌, ℕ};
 ghost use Rattle.hp_model.specs.declared.step.Step.{Step as TheStep};
-ghost use Rattle.hp_model.specs.Plan.{Reply as TheReply};
-ghost use Rattle.hp_model.specs.Writing.{IsWithinLimits};
+ghost use Rattle.hp_model.specs.machine.Plan.{Reply as TheReply};
+ghost use Rattle.hp_model.specs.text.Writing.{IsWithinLimits};
 
 use crate::answer::Reply;
 use crate::step::Step;

@@ -6,20 +6,20 @@ use Rattle.hp_model.specs.declared.answer.Answer.{Answer}
 use Rattle.hp_model.specs.declared.answer.Answer.TheVariants.{Done}
 use Rattle.hp_model.specs.declared.refusal.Refusal.{Refusal}
 use Rattle.hp_model.specs.declared.refusal.Refusal.TheVariants as r
-use Rattle.hp_model.specs.Access.{access, shared_access, private_access}
-use Rattle.hp_model.specs.File.{Mount, File, cell_at, is_entered, new_file, with_cell, with_file}
+use Rattle.hp_model.specs.files.Access.{access, shared_access, private_access}
+use Rattle.hp_model.specs.files.File.{Mount, File, cell_at, is_entered, new_file, with_cell, with_file}
 use Rattle.hp_model.specs.declared.cell.Cell.TheVariants.{Hole}
 use Rattle.hp_model.specs.Lists.{edit_at}
 use Rattle.hp_laws.proofs.FileMoves.{FileGrows}
 use Rattle.hp_laws.proofs.CopyWrites.{writes}
-use Rattle.hp_model.specs.LocalRun.{ThroughDoor}
-use Rattle.hp_model.specs.Mapping.{copy_of, is_shared, is_unconsumed, place_at}
-use Rattle.hp_model.specs.Plan.{Answered, Plan, Outcome, Reply, Slot, Choice, refuse, unless, with_value, and_then}
+use Rattle.hp_model.specs.threads.LocalRun.{ThroughDoor}
+use Rattle.hp_model.specs.files.Mapping.{copy_of, is_shared, is_unconsumed, place_at}
+use Rattle.hp_model.specs.machine.Plan.{Answered, Plan, Outcome, Reply, Slot, Choice, refuse, unless, with_value, and_then}
 use Rattle.hp_model.specs.declared.section.PoolAnswer.{PoolAnswer}
 use Rattle.hp_model.specs.declared.section.Section.{Section}
-use Rattle.hp_model.specs.Promises.{file_in, is_backed, map_in, no_map, owns_copy}
-use Rattle.hp_model.specs.SlotEvent.{bytes_answer, is_unmapped, is_beyond}
-use Rattle.hp_model.specs.Spot.{Spot, again, written, file_written, cell_written, map_written}
+use Rattle.hp_model.specs.machine.Promises.{file_in, is_backed, map_in, no_map, owns_copy}
+use Rattle.hp_model.specs.machine.SlotEvent.{bytes_answer, is_unmapped, is_beyond}
+use Rattle.hp_model.specs.files.Spot.{Spot, again, written, file_written, cell_written, map_written}
 use Rattle.hp_model.specs.declared.step.Intent.{Intent}
 use Rattle.hp_model.specs.declared.step.Intent.TheVariants.{Read, Write}
 use Rattle.hp_mount_files.specs.declared.files.MapPlace.{MapPlace}
@@ -28,9 +28,9 @@ use Rattle.hp_mount.specs.Found.{IsPlaced, IsTouched, first_of, spot_at, spot_of
 use Rattle.hp_mount.specs.declared.mount.reach.Asked.{Asked}
 use Rattle.hp_mount.specs.declared.mount.reach.Asked.TheVariants.{Page, Bytes}
 use Rattle.hp_mount.specs.declared.mount.reach.MapAccess.{MapAccess}
-use Rattle.hp_model.specs.Value.{value}
+use Rattle.hp_model.specs.files.Value.{value}
 use Rattle.hp_model.specs.Profile.{most_bytes}
-use Rattle.hp_model.specs.Reserved.{is_reserved}
+use Rattle.hp_model.specs.files.Reserved.{is_reserved}
 use Rattle.hp_mount.proofs.Ways.{fresh_choice, is_fresh, refused_at, then_refused}
 
 -- ---- tests

@@ -4,15 +4,15 @@ use Rattle.std.specs.List.{count_by, range_with_len, sum}
 use Rattle.std.proofs.lemmas.Bool.{and_parts, cond_both, eqb-true}
 use Rattle.std.proofs.lemmas.List.{nil_from_length}
 use Rattle.hp_model.specs.declared.answer.Answer.TheVariants.{Done}
-use Rattle.hp_model.specs.File.{Mount}
-use Rattle.hp_model.specs.LocalRun.{ThroughDoor}
-use Rattle.hp_model.specs.MountCounts.{committed_of, pages_at, pages_of}
-use Rattle.hp_model.specs.Page.{Page}
-use Rattle.hp_model.specs.Plan.{Answered, Ask, Finish, fall_of, gives, puts_of}
+use Rattle.hp_model.specs.files.File.{Mount}
+use Rattle.hp_model.specs.threads.LocalRun.{ThroughDoor}
+use Rattle.hp_model.specs.files.MountCounts.{committed_of, pages_at, pages_of}
+use Rattle.hp_model.specs.files.Page.{Page}
+use Rattle.hp_model.specs.machine.Plan.{Answered, Ask, Finish, fall_of, gives, puts_of}
 use Rattle.hp_model.specs.declared.section.PoolAnswer.{PoolAnswer}
 use Rattle.hp_model.specs.declared.section.Section.{Section}
 use Rattle.hp_model.specs.declared.section.Section.TheVariants.{GiveBack}
-use Rattle.hp_model.specs.Pool.{granted_at}
+use Rattle.hp_model.specs.pool.Pool.{granted_at}
 use Rattle.hp_mount_door.specs.Door.{GivesBack, by_node}
 
 module _ {X : Type 0} (took : X → Section → PoolAnswer → X → Type 0) (m : Mount) (pages : List Page) (commitments : ℕ) (door left : X) (all : length pages ≡ pages_of m) (nodes : (n : ℕ) → count_by (λ (page : Page). page.node == n) pages ≡ pages_at n m) (committed : commitments ≡ committed_of m) (given : GivesBack took pages commitments door left) where

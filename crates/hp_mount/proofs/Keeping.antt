@@ -5,15 +5,15 @@ use Rattle.std.proofs.lemmas.List.{get_or_default, get_or-set_same}
 use Rattle.hp_mount_door.specs.Door.{with_page, with_granted, with_reserves}
 use Rattle.hp_model.specs.declared.cell.Cell.{Cell}
 use Rattle.hp_model.specs.declared.cell.Cell.TheVariants.{Hole, Entered, Present}
-use Rattle.hp_model.specs.File.{File, Mount, cell_at, with_cell, with_file, new_file}
-use Rattle.hp_model.specs.Grant as grant
-use Rattle.hp_model.specs.Page.{Page}
-use Rattle.hp_model.specs.Promises.{file_in, map_in, no_map}
+use Rattle.hp_model.specs.files.File.{File, Mount, cell_at, with_cell, with_file, new_file}
+use Rattle.hp_model.specs.pool.Grant as grant
+use Rattle.hp_model.specs.files.Page.{Page}
+use Rattle.hp_model.specs.machine.Promises.{file_in, map_in, no_map}
 use Rattle.hp_model.specs.declared.step.Reserving.TheVariants.{Reserve}
 use Rattle.hp_model.specs.declared.step.Sharing.TheVariants.{Shared}
 use Rattle.std.proofs.lemmas.List.Elements.{All-append, All-cons, All-get_or, All-nil, All-set}
-use Rattle.hp_model.specs.MakeMap.{asked, mapped, new_map}
-use Rattle.hp_model.specs.Mapping.{Map, is_shared}
+use Rattle.hp_model.specs.files.MakeMap.{asked, mapped, new_map}
+use Rattle.hp_model.specs.files.Mapping.{Map, is_shared}
 use Rattle.hp_laws.proofs.Maps.{mapped_grows}
 use Rattle.hp_laws.proofs.FileMoves as moves
 use Rattle.hp_laws.proofs.FileMoves.{FileGrows}

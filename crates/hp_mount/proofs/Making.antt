@@ -9,19 +9,19 @@ use Rattle.hp_model.specs.declared.refusal.Refusal.{Refusal}
 use Rattle.hp_model.specs.declared.refusal.Refusal.TheVariants as r
 use Rattle.hp_model.specs.declared.step.Reserving.TheVariants.{Reserve}
 use Rattle.hp_model.specs.declared.step.Sharing.TheVariants.{Shared}
-use Rattle.hp_model.specs.File.{Mount, new_file, with_file}
-use Rattle.hp_model.specs.Grant.{is_full, rise}
-use Rattle.hp_model.specs.LocalRun.{ThroughDoor}
-use Rattle.hp_model.specs.MountCounts.{usage_of}
-use Rattle.hp_model.specs.MakeMap.{asked, mapped, next_number, with_new}
-use Rattle.hp_model.specs.Plan.{Answered, Ask, Choice, Finish, Outcome, Plan, Refused, Reply, Slot, grant, refuse, unless, when_granted, with_value}
+use Rattle.hp_model.specs.files.File.{Mount, new_file, with_file}
+use Rattle.hp_model.specs.pool.Grant.{is_full, rise}
+use Rattle.hp_model.specs.threads.LocalRun.{ThroughDoor}
+use Rattle.hp_model.specs.files.MountCounts.{usage_of}
+use Rattle.hp_model.specs.files.MakeMap.{asked, mapped, next_number, with_new}
+use Rattle.hp_model.specs.machine.Plan.{Answered, Ask, Choice, Finish, Outcome, Plan, Refused, Reply, Slot, grant, refuse, unless, when_granted, with_value}
 use Rattle.hp_model.specs.declared.section.PoolAnswer.{PoolAnswer}
 use Rattle.hp_model.specs.declared.section.Section.{Section}
 use Rattle.hp_model.specs.declared.section.Section.TheVariants.{Grant}
-use Rattle.hp_model.specs.Pool.{granted_at, no_pages}
+use Rattle.hp_model.specs.pool.Pool.{granted_at, no_pages}
 use Rattle.hp_model.specs.Profile.{most_file_pages, most_map_pages}
-use Rattle.hp_model.specs.Promises.{file_in}
-use Rattle.hp_model.specs.SlotEvent.{are_too_many_maps, file_named, map_file, slot_event}
+use Rattle.hp_model.specs.machine.Promises.{file_in}
+use Rattle.hp_model.specs.machine.SlotEvent.{are_too_many_maps, file_named, map_file, slot_event}
 use Rattle.hp_mount_files.specs.Asking.{IsAsked, IsGranted}
 use Rattle.hp_mount_files.specs.Files.{Files}
 use Rattle.hp_mount.specs.Alone.{IsDoneAlone}

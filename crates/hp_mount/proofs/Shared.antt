@@ -7,19 +7,19 @@ use Rattle.hp_model.specs.declared.cell.Cell.{Cell}
 use Rattle.hp_model.specs.declared.cell.Cell.TheVariants.{Hole, Entered, Present}
 use Rattle.hp_model.specs.declared.refusal.Refusal.{Refusal}
 use Rattle.hp_model.specs.declared.refusal.Refusal.TheVariants as r
-use Rattle.hp_model.specs.Access.{shared_access}
-use Rattle.hp_model.specs.Event.{IsFresh}
-use Rattle.hp_model.specs.File.{File, Mount, cell_at, with_cell, with_file, new_file}
-use Rattle.hp_model.specs.Grant.{is_full, rise}
-use Rattle.hp_model.specs.LocalRun.{ThroughDoor}
-use Rattle.hp_model.specs.Page.{Page, zeros}
-use Rattle.hp_model.specs.Plan.{Choice, Outcome, Plan, Reply, Slot, grant_page}
+use Rattle.hp_model.specs.files.Access.{shared_access}
+use Rattle.hp_model.specs.machine.Event.{IsFresh}
+use Rattle.hp_model.specs.files.File.{File, Mount, cell_at, with_cell, with_file, new_file}
+use Rattle.hp_model.specs.pool.Grant.{is_full, rise}
+use Rattle.hp_model.specs.threads.LocalRun.{ThroughDoor}
+use Rattle.hp_model.specs.files.Page.{Page, zeros}
+use Rattle.hp_model.specs.machine.Plan.{Choice, Outcome, Plan, Reply, Slot, grant_page}
 use Rattle.hp_model.specs.declared.section.PoolAnswer.{PoolAnswer}
 use Rattle.hp_model.specs.declared.section.Section.{Section}
 use Rattle.hp_model.specs.declared.section.Section.TheVariants.{GrantPage, TakePage}
-use Rattle.hp_model.specs.Pool.{granted_at, no_pages}
-use Rattle.hp_model.specs.Promises.{file_in}
-use Rattle.hp_model.specs.Spot.{Spot, filled}
+use Rattle.hp_model.specs.pool.Pool.{granted_at, no_pages}
+use Rattle.hp_model.specs.machine.Promises.{file_in}
+use Rattle.hp_model.specs.files.Spot.{Spot, filled}
 use Rattle.hp_mount.specs.Done.{Through, Tried}
 use Rattle.hp_mount.specs.Found.{IsTouched}
 use Rattle.hp_mount.proofs.Ways.{fresh_choice, is_fresh, page_full, page_without_memory, page_denied, page_granted, page_reserved}

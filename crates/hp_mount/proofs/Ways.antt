@@ -6,16 +6,16 @@ use Rattle.std.proofs.lemmas.List.Sums.{sum_by-cons}
 use Rattle.hp_model.specs.declared.answer.Answer.{Answer}
 use Rattle.hp_model.specs.declared.refusal.Refusal.{Refusal}
 use Rattle.hp_model.specs.declared.refusal.Refusal.TheVariants as r
-use Rattle.hp_model.specs.Event.{IsFresh, stamps_in}
-use Rattle.hp_model.specs.File.{Mount}
-use Rattle.hp_model.specs.Grant.{is_full, rise}
+use Rattle.hp_model.specs.machine.Event.{IsFresh, stamps_in}
+use Rattle.hp_model.specs.files.File.{Mount}
+use Rattle.hp_model.specs.pool.Grant.{is_full, rise}
 use Rattle.hp_model.specs.Lists.{is_among}
-use Rattle.hp_model.specs.LocalRun.{ThroughDoor, Gives}
-use Rattle.hp_model.specs.Plan.{Plan, Finish, Ask, Outcome, Refused, Answered, Reply, Slot, Choice, refuse, continued, and_then, grant_page, reserved_page, when_granted}
+use Rattle.hp_model.specs.threads.LocalRun.{ThroughDoor, Gives}
+use Rattle.hp_model.specs.machine.Plan.{Plan, Finish, Ask, Outcome, Refused, Answered, Reply, Slot, Choice, refuse, continued, and_then, grant_page, reserved_page, when_granted}
 use Rattle.hp_model.specs.declared.section.PoolAnswer.{PoolAnswer}
 use Rattle.hp_model.specs.declared.section.Section.{Section}
 use Rattle.hp_model.specs.declared.section.Section.TheVariants.{GrantPage, TakePage}
-use Rattle.hp_model.specs.Pool.{granted_at, no_pages}
+use Rattle.hp_model.specs.pool.Pool.{granted_at, no_pages}
 use Rattle.hp_mount.specs.Alone.{EndsAtOnce}
 use Rattle.hp_mount.specs.Done.{Tried}
 

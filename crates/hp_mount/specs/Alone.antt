@@ -1,10 +1,10 @@
 -- An event that asks nothing of the pool.
 use Rattle.std.specs.Prelude.{◌≡◌, ℕ}
 use Rattle.hp_model.specs.declared.event.SlotEvent.{SlotEvent}
-use Rattle.hp_model.specs.Event.{IsFresh}
-use Rattle.hp_model.specs.LocalRun.{Gives}
-use Rattle.hp_model.specs.Plan.{Choice, Finish, Outcome, Plan, Reply, Slot}
-use Rattle.hp_model.specs.SlotEvent.{slot_event}
+use Rattle.hp_model.specs.machine.Event.{IsFresh}
+use Rattle.hp_model.specs.threads.LocalRun.{Gives}
+use Rattle.hp_model.specs.machine.Plan.{Choice, Finish, Outcome, Plan, Reply, Slot}
+use Rattle.hp_model.specs.machine.SlotEvent.{slot_event}
 
 -- a plan that ends at once, with some fresh stamp
 pub record EndsAtOnce (plan : Choice → Plan) (old : Slot) (reply : Reply) (new : Slot) : Type 0 where

@@ -2,15 +2,15 @@
 use Rattle.std.specs.Prelude.{◌<◌, ◌≤◌, true, ◌≡◌, ℕ, ◌+◌, Bool, Option, None, Some, List, [], ◌∷◌, length, if◌then◌else◌}
 use Rattle.hp_model.specs.declared.refusal.Refusal.{Refusal}
 use Rattle.hp_model.specs.declared.refusal.Refusal.TheVariants.{NoSuchMap}
-use Rattle.hp_model.specs.File.{Mount}
-use Rattle.hp_model.specs.Promises.{file_in, map_in}
-use Rattle.hp_model.specs.SlotEvent.{byte_tests, fault_tests}
-use Rattle.hp_model.specs.Spot.{Spot, spot}
+use Rattle.hp_model.specs.files.File.{Mount}
+use Rattle.hp_model.specs.machine.Promises.{file_in, map_in}
+use Rattle.hp_model.specs.machine.SlotEvent.{byte_tests, fault_tests}
+use Rattle.hp_model.specs.files.Spot.{Spot, spot}
 use Rattle.hp_mount.specs.declared.mount.reach.Asked.{Asked}
 use Rattle.hp_mount.specs.declared.mount.reach.Asked.TheVariants.{Page, Bytes}
 use Rattle.hp_mount.specs.declared.mount.reach.MapAccess.{MapAccess}
 use Rattle.hp_mount_files.specs.declared.files.MapPlace.{MapPlace}
-use Rattle.hp_model.specs.Mapping.{is_map, is_shared}
+use Rattle.hp_model.specs.files.Mapping.{is_map, is_shared}
 
 -- the map at a place of a file's maps
 abbrev pub spot_at : Mount → (file map : ℕ) → Spot

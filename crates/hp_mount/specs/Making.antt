@@ -7,13 +7,13 @@ use Rattle.hp_model.specs.declared.refusal.Refusal.{Refusal}
 use Rattle.hp_model.specs.declared.refusal.Refusal.TheVariants.{BadName, FileExists, NoInodes, OutOfRange, TooMany}
 use Rattle.hp_model.specs.declared.step.Reserving.TheVariants.{Reserve}
 use Rattle.hp_model.specs.declared.step.Sharing.TheVariants.{Shared}
-use Rattle.hp_model.specs.File.{Mount, with_file}
-use Rattle.hp_model.specs.Grant.{is_over}
-use Rattle.hp_model.specs.MakeMap.{asked, mapped}
-use Rattle.hp_model.specs.Plan.{Answered, Choice, Plan, Reply, grant}
+use Rattle.hp_model.specs.files.File.{Mount, with_file}
+use Rattle.hp_model.specs.pool.Grant.{is_over}
+use Rattle.hp_model.specs.files.MakeMap.{asked, mapped}
+use Rattle.hp_model.specs.machine.Plan.{Answered, Choice, Plan, Reply, grant}
 use Rattle.hp_model.specs.Profile.{most_file_pages, most_files, most_map_pages}
-use Rattle.hp_model.specs.Promises.{file_in}
-use Rattle.hp_model.specs.SlotEvent.{are_too_many_maps, file_named, is_name}
+use Rattle.hp_model.specs.machine.Promises.{file_in}
+use Rattle.hp_model.specs.machine.SlotEvent.{are_too_many_maps, file_named, is_name}
 use Rattle.hp_mount_files.specs.declared.next_map.MapRange.{MapRange}
 use Rattle.hp_mount.specs.Found.{first_of}
 

@@ -3,8 +3,8 @@ use Rattle.std.specs.Prelude.{Bool, true, false, not}
 use Rattle.hp_model.specs.declared.event.SlotEvent.{SlotEvent}
 use Rattle.hp_model.specs.declared.event.SlotEvent.TheVariants.{Create, Map, Fault, Load, Store}
 use Rattle.hp_model.specs.declared.step.Intent.TheVariants.{Read, Write}
-use Rattle.hp_model.specs.Plan.{Slot}
-use Rattle.hp_model.specs.Promises.{is_backed, spot_on}
+use Rattle.hp_model.specs.machine.Plan.{Slot}
+use Rattle.hp_model.specs.machine.Promises.{is_backed, spot_on}
 
 -- a file or a map that is made, and an access that no reservation, page or copy backs
 abbrev pub asks_memory : Slot → SlotEvent → Bool

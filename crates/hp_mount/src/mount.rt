@@ -3,11 +3,11 @@ ghost use Rattle.std.specs.Prelude.{◌≡◌, ◌≢◌, ℕ, [], length, true,
 ghost use Rattle.hp_model.specs.declared.refusal.Refusal.TheVariants as Refusal;
 ghost use Rattle.hp_model.specs.declared.answer.Answer.TheVariants.{Done};
 ghost use Rattle.hp_model.specs.declared.event.SlotEvent.TheVariants.{Df};
-ghost use Rattle.hp_model.specs.LocalRun.{ThroughDoor};
-ghost use Rattle.hp_model.specs.Page.{Page as PageValue};
-ghost use Rattle.hp_model.specs.Plan.{gives};
-ghost use Rattle.hp_model.specs.SlotEvent.{has_maps};
-ghost use Rattle.hp_model.specs.Writing.{IsWithinLimit, IsWithinLimits};
+ghost use Rattle.hp_model.specs.threads.LocalRun.{ThroughDoor};
+ghost use Rattle.hp_model.specs.files.Page.{Page as PageValue};
+ghost use Rattle.hp_model.specs.machine.Plan.{gives};
+ghost use Rattle.hp_model.specs.machine.SlotEvent.{has_maps};
+ghost use Rattle.hp_model.specs.text.Writing.{IsWithinLimit, IsWithinLimits};
 ghost use Rattle.hp_store.specs.Store.{Store as StoreValue, page_at};
 ghost use Rattle.hp_subpool.specs.Subpool.{Subpool as ShareValue};
 ghost use Rattle.hp_mount.specs.Alone.{IsDoneAlone};
@@ -44,7 +44,7 @@ pub struct Mount<N: Naming> {
 }
 
 impl<N: Naming> Model for Mount<N> {
-    ghost use Rattle.hp_model.specs.File.{Mount as MountValue};
+    ghost use Rattle.hp_model.specs.files.File.{Mount as MountValue};
     ghost use Rattle.hp_mount.specs.Kept.{IsKept, mount_of};
 
     ghost Value = { MountValue };

@@ -3,12 +3,12 @@ use Rattle.std.specs.Prelude.{◌≡◌, ℕ, ◌+◌, ◌-◌, ◌<◌, ◌≤�
 use Rattle.std.specs.List.{count_by, range_with_len}
 use Rattle.hp_model.specs.declared.refusal.Refusal.{Refusal}
 use Rattle.hp_model.specs.declared.refusal.Refusal.TheVariants.{NoPages, TraceFull}
-use Rattle.hp_model.specs.Page.{Page}
+use Rattle.hp_model.specs.files.Page.{Page}
 use Rattle.hp_model.specs.declared.section.PoolAnswer.{PoolAnswer}
 use Rattle.hp_model.specs.declared.section.Section.{Section}
 use Rattle.hp_model.specs.declared.section.Section.TheVariants.{GiveBack, Grant, GrantPage}
-use Rattle.hp_model.specs.Pool.{granted_at, no_pages}
-use Rattle.hp_model.specs.PoolCounts.{Pool, IsSettled}
+use Rattle.hp_model.specs.pool.Pool.{granted_at, no_pages}
+use Rattle.hp_model.specs.pool.PoolCounts.{Pool, IsSettled}
 use Rattle.hp_subpool.specs.Subpool.{Subpool, rise}
 pub use Rattle.hp_subpool.specs.Subpool.{with_page, with_reserves}
 

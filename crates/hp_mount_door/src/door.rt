@@ -1,10 +1,10 @@
 //! Doors to the pool.
 ghost use Rattle.std.specs.Prelude.{◌≡◌, ℕ, ◌+◌, ◌<◌, ◌≤◌, ◌^◌, false, List, length, IfOk, IfErr, IsOk, OnOk, OnErr};
-ghost use Rattle.hp_model.specs.Page.{Page as PageValue};
+ghost use Rattle.hp_model.specs.files.Page.{Page as PageValue};
 ghost use Rattle.hp_model.specs.declared.section.PoolAnswer.{PoolAnswer};
 ghost use Rattle.hp_model.specs.declared.section.Section.{Section};
 ghost use Rattle.hp_model.specs.declared.section.Section.TheVariants.{TakePage};
-ghost use Rattle.hp_model.specs.Pool.{granted_at};
+ghost use Rattle.hp_model.specs.pool.Pool.{granted_at};
 ghost use Rattle.hp_subpool.specs.Subpool.{Subpool as ShareValue, committed_of, fall, is_full as ShareIsFull, rise, used};
 ghost use Rattle.hp_mount_door.specs.Door.{IsDoorRefusal, IsRefusedAt, GivesBack, grant_for, page_for, with_page, with_granted, with_reserves, with_less};
 

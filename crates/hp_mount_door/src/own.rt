@@ -1,6 +1,6 @@
 //! The pool as its own door: that of one thread, which never lacks room to note a section.
 ghost use Rattle.std.specs.Prelude.{◌≡◌, ℕ, ◌+◌, ◌-◌, ◌≤◌, [], length, None};
-ghost use Rattle.hp_model.specs.Pool.{puts_from, released, section};
+ghost use Rattle.hp_model.specs.pool.Pool.{puts_from, released, section};
 ghost use Rattle.hp_store.specs.Store.{page_at};
 ghost use Rattle.hp_subpool.specs.Subpool.{fall};
 ghost use Rattle.hp_mount_door.specs.Door.{by_node, IsReady};

@@ -8,7 +8,7 @@ use Rattle.std.proofs.lemmas.List.{append-nil, map-append}
 use Rattle.std.proofs.lemmas.List.Sums.{sum_by_push}
 use Rattle.std.proofs.lemmas.Slice.Eq.{bytes_eq-Decides}
 use Rattle.hp_model.specs.Lists.{distinct, found}
-use Rattle.hp_model.specs.SlotEvent.{has_name}
+use Rattle.hp_model.specs.machine.SlotEvent.{has_name}
 use Rattle.hp_store.specs.Store.{Store}
 use Rattle.hp_mount_files.specs.Held.{IsHeld, in_cell, in_cells, in_file, in_files}
 use Rattle.hp_mount_files.specs.Hints.{AreNoted, IsFiles, IsMore, Noted, has_name as has_noted}

@@ -11,10 +11,10 @@ use Rattle.hp_model.specs.declared.cell.Cell.{Cell}
 use Rattle.hp_model.specs.declared.cell.Cell.TheVariants.{Hole, Entered, Present}
 use Rattle.hp_model.specs.declared.place.Place.{Place}
 use Rattle.hp_model.specs.declared.place.Place.TheVariants.{Gone, Live}
-use Rattle.hp_model.specs.File.{has_page, page_of}
+use Rattle.hp_model.specs.files.File.{has_page, page_of}
 use Rattle.hp_model.specs.Lists.{found, one_on, part}
-use Rattle.hp_model.specs.Mapping.{Mapping, copy_of, place_at, without_copy}
-use Rattle.hp_model.specs.Page.{Page}
+use Rattle.hp_model.specs.files.Mapping.{Mapping, copy_of, place_at, without_copy}
+use Rattle.hp_model.specs.files.Page.{Page}
 use Rattle.hp_model.proofs.Counting.{count_cons}
 use Rattle.hp_store.specs.Store as store
 use Rattle.hp_store.specs.Store.{Holding, Store, held_count, held_once_less, holders_of, one_if_held, page_at}

@@ -6,10 +6,10 @@ use Rattle.hp_model.specs.declared.cell.Cell.{Cell}
 use Rattle.hp_model.specs.declared.cell.Cell.TheVariants.{Hole, Entered, Present}
 use Rattle.hp_model.specs.declared.step.Reserving.TheVariants.{Reserve}
 use Rattle.hp_model.specs.declared.step.Sharing.TheVariants.{Shared}
-use Rattle.hp_model.specs.File.{at_least, is_entered, is_hole}
+use Rattle.hp_model.specs.files.File.{at_least, is_entered, is_hole}
 use Rattle.hp_model.specs.Lists.{part}
-use Rattle.hp_model.specs.MakeMap.{asked}
-use Rattle.hp_model.specs.Page.{Page}
+use Rattle.hp_model.specs.files.MakeMap.{asked}
+use Rattle.hp_model.specs.files.Page.{Page}
 use Rattle.hp_model.proofs.Counting.{count_cons}
 use Rattle.hp_store.specs.Store.{Store}
 use Rattle.hp_mount_files.specs.Files.{file_at}

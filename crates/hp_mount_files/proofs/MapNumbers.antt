@@ -8,8 +8,8 @@ use Rattle.std.proofs.lemmas.List.Elements.{filter-append}
 use Rattle.std.proofs.lemmas.List.FromFn.{get_or-range_with_len, length-range_with_len}
 use Rattle.std.proofs.lemmas.List.Sums.{fails_before_first, passes_at_first}
 use Rattle.hp_model.specs.Lists.{distinct, is_among, least_unused}
-use Rattle.hp_model.specs.MakeMap.{numbers_of}
-use Rattle.hp_model.specs.Mapping.{Map, Mapping, is_of}
+use Rattle.hp_model.specs.files.MakeMap.{numbers_of}
+use Rattle.hp_model.specs.files.Mapping.{Map, Mapping, is_of}
 use Rattle.hp_model.proofs.Counting.{count_cons, count_not, count_outside}
 use Rattle.hp_model.proofs.Distinct.{is_among-append, same_members}
 use Rattle.hp_model.proofs.Finding as finding

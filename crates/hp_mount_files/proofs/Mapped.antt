@@ -10,10 +10,10 @@ use Rattle.hp_model.specs.declared.cell.Cell.TheVariants.{Hole, Entered, Present
 use Rattle.hp_model.specs.declared.place.Place.TheVariants.{Live}
 use Rattle.hp_model.specs.declared.step.Reserving.TheVariants.{Reserve}
 use Rattle.hp_model.specs.declared.step.Sharing.TheVariants.{Shared}
-use Rattle.hp_model.specs.File.{at_least, entered}
+use Rattle.hp_model.specs.files.File.{at_least, entered}
 use Rattle.hp_model.specs.Lists.{distinct, edit_range, is_among}
-use Rattle.hp_model.specs.MakeMap.{mapped, new_map, numbers_of}
-use Rattle.hp_model.specs.Mapping.{Map, Mapping, is_of}
+use Rattle.hp_model.specs.files.MakeMap.{mapped, new_map, numbers_of}
+use Rattle.hp_model.specs.files.Mapping.{Map, Mapping, is_of}
 use Rattle.hp_model.proofs.Counting.{count_cons}
 use Rattle.hp_model.proofs.Distinct.{distinct_put, is_among-append}
 use Rattle.hp_store.specs.Store.{Store}

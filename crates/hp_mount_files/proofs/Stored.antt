@@ -12,11 +12,11 @@ use Rattle.hp_model.specs.declared.cell.Cell.{Cell}
 use Rattle.hp_model.specs.declared.cell.Cell.TheVariants.{Hole, Entered, Present}
 use Rattle.hp_model.specs.declared.place.Place.{Place}
 use Rattle.hp_model.specs.declared.place.Place.TheVariants.{Gone, Live}
-use Rattle.hp_model.specs.File.{has_page}
+use Rattle.hp_model.specs.files.File.{has_page}
 use Rattle.hp_model.specs.Lists.{distinct, is_among}
-use Rattle.hp_model.specs.Mapping.{Map, Mapping, copy_of}
-use Rattle.hp_model.specs.MountCounts.{file_pages, file_pages_at, is_page_at, stamp_at}
-use Rattle.hp_model.specs.Page.{Copy}
+use Rattle.hp_model.specs.files.Mapping.{Map, Mapping, copy_of}
+use Rattle.hp_model.specs.files.MountCounts.{file_pages, file_pages_at, is_page_at, stamp_at}
+use Rattle.hp_model.specs.files.Page.{Copy}
 use Rattle.hp_model.proofs.Counting.{count_cons}
 use Rattle.hp_model.proofs.Distinct.{is_among-append}
 use Rattle.hp_store.specs.Store.{Holding, Store, held_count, holders_of, one_if_held, page_at}

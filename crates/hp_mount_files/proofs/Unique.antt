@@ -7,11 +7,11 @@ use Rattle.std.specs.Str.{bytes_eq}
 use Rattle.std.proofs.lemmas.Bool.{ltb-true, ltb-false}
 use Rattle.std.proofs.lemmas.List.{length-append, length-map, map-append}
 use Rattle.std.proofs.lemmas.List.Sums.{sum_by-cons}
-use Rattle.hp_model.specs.File.{File, new_file}
+use Rattle.hp_model.specs.files.File.{File, new_file}
 use Rattle.hp_model.specs.Lists.{found, one_on}
-use Rattle.hp_model.specs.Mapping.{Map, Mapping, is_map}
-use Rattle.hp_model.specs.SlotEvent.{has_name}
-use Rattle.hp_model.specs.Spot.{spot_in}
+use Rattle.hp_model.specs.files.Mapping.{Map, Mapping, is_map}
+use Rattle.hp_model.specs.machine.SlotEvent.{has_name}
+use Rattle.hp_model.specs.files.Spot.{spot_in}
 use Rattle.hp_model.proofs.Counting.{count_alike, count_cons, count_map}
 use Rattle.hp_store.specs.Store.{Store}
 use Rattle.hp_mount_files.specs.Files.{file_at}

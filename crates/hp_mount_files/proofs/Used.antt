@@ -9,11 +9,11 @@ use Rattle.std.proofs.lemmas.List.Elements.{filter-append}
 use Rattle.std.proofs.lemmas.List.FromFn.{get_or-range_with_len, length-range_with_len}
 use Rattle.std.proofs.lemmas.List.Sums.{position_or_len_is}
 use Rattle.hp_model.specs.declared.limits.Limits.{Limits}
-use Rattle.hp_model.specs.File.{File}
+use Rattle.hp_model.specs.files.File.{File}
 use Rattle.hp_model.specs.Lists.{found, is_among, least_unused, one_on}
-use Rattle.hp_model.specs.MakeMap.{numbers_of}
-use Rattle.hp_model.specs.Mapping.{Map, Mapping, is_map, is_of}
-use Rattle.hp_model.specs.Spot.{spot, spot_in}
+use Rattle.hp_model.specs.files.MakeMap.{numbers_of}
+use Rattle.hp_model.specs.files.Mapping.{Map, Mapping, is_map, is_of}
+use Rattle.hp_model.specs.files.Spot.{spot, spot_in}
 use Rattle.hp_model.proofs.Counting.{count_not, count_outside}
 use Rattle.hp_model.proofs.Distinct.{is_among-append}
 use Rattle.hp_store.specs.Store.{Store}

@@ -7,10 +7,10 @@ use Rattle.hp_model.specs.declared.section.Section.{Section}
 use Rattle.hp_model.specs.declared.section.Section.TheVariants.{Grant}
 use Rattle.hp_model.specs.declared.step.Reserving.TheVariants.{Reserve}
 use Rattle.hp_model.specs.declared.step.Sharing.TheVariants.{Shared}
-use Rattle.hp_model.specs.File.{File}
+use Rattle.hp_model.specs.files.File.{File}
 use Rattle.hp_model.specs.Lists.{is_among, least_unused}
-use Rattle.hp_model.specs.MakeMap.{asked, mapped, numbers_of}
-use Rattle.hp_model.specs.Pool.{granted_at, no_pages}
+use Rattle.hp_model.specs.files.MakeMap.{asked, mapped, numbers_of}
+use Rattle.hp_model.specs.pool.Pool.{granted_at, no_pages}
 use Rattle.hp_mount_door.specs.Door.{IsDoorRefusal, with_reserves}
 use Rattle.hp_subpool.specs.Subpool.{Subpool, rise}
 use Rattle.hp_mount_files.specs.declared.next_map.MapRange.{MapRange}

@@ -2,7 +2,7 @@
 use Rattle.std.specs.Prelude.{◌≡◌, ℕ, ◌+◌, ◌==◌, List, length, if◌then◌else◌}
 use Rattle.std.specs.Prelude.{Option, None}
 use Rattle.std.specs.List.{count_by, sum_by}
-use Rattle.hp_model.specs.Page.{Page}
+use Rattle.hp_model.specs.files.Page.{Page}
 use Rattle.hp_store.specs.Store.{Holding, Store, held_count, holders_of, one_if_held, page_at}
 use Rattle.hp_mount_files.specs.Numbered.{page_in}
 

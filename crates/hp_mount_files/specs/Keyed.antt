@@ -3,7 +3,7 @@ use Rattle.std.specs.Prelude.{◌≡◌, ℕ, ◌≤◌, ◌&&◌, ◌==◌, Boo
 use Rattle.std.specs.List.{count_by, filter, flat_map, sum_by}
 use Rattle.std.specs.Str.{bytes_eq}
 use Rattle.hp_model.specs.Lists.{distinct}
-use Rattle.hp_model.specs.Mapping.{Mapping, is_of}
+use Rattle.hp_model.specs.files.Mapping.{Mapping, is_of}
 use Rattle.hp_mount_files.specs.Numbered.{NumberedFile}
 
 -- a file's name, and the task and number of each of its maps

@@ -55,6 +55,7 @@ impl Hints {
     /// Notes where a file is. Refused where memory is, and then nothing changes.
     pub(crate) fn note_file(&mut self, name: Vec<u8>, at: usize) -> Result<(), AllocError>
         ensures more { IsMore self.old self.new }
+        ensures err { OnErr result (self.new ≡ self.old) }
         ensures noted { OnOk result (has_name name.items self.new ≡ true) }
     {
         let Ok(_) = self.files.insert(name, at) else {
@@ -71,6 +72,7 @@ impl Hints {
         at: MapPlace,
     ) -> Result<(), AllocError>
         ensures more { IsMore self.old self.new }
+        ensures err { OnErr result (self.new ≡ self.old) }
         ensures noted { OnOk result (has_key task number self.new ≡ true) }
     {
         let Ok(_) = self.maps.insert((task, number), at) else {

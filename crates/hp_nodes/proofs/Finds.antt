@@ -6,7 +6,7 @@ use Rattle.std.proofs.lemmas.List.Sums.{passes_at_first, fails_before_first, pre
 use Rattle.hp_model.specs.declared.node.NodeRow.{NodeRow}
 use Rattle.hp_model.specs.declared.node.Kind.{Kind}
 use Rattle.hp_model.specs.declared.node.Kind.TheVariants.{FreeSurplus}
-use Rattle.hp_model.specs.NodeRows.{has, lowest, row_at, no_row}
+use Rattle.hp_model.specs.pool.NodeRows.{has, lowest, row_at, no_row}
 
 -- where some node has one, the lowest that has is a node, and has one
 pub has_lowest : (kind : Kind) (rows : List NodeRow) → lowest kind rows < length rows → has kind (row_at rows (lowest kind rows)) ≡ true

@@ -6,7 +6,7 @@ use Rattle.std.proofs.lemmas.List.Elements.{All-set, All-map}
 use Rattle.std.proofs.lemmas.Bool.{cases_eq}
 use Rattle.std.proofs.lemmas.Bool.Decides.{nat_tests}
 use Rattle.hp_model.specs.declared.node.NodeRow.{NodeRow}
-use Rattle.hp_model.specs.NodeRows.{IsRow, row_at, no_row, used, idle_row, put_row, free_of, total_of}
+use Rattle.hp_model.specs.pool.NodeRows.{IsRow, row_at, no_row, used, idle_row, put_row, free_of, total_of}
 use Rattle.hp_model.proofs.Sums.{free_lt_total}
 use Rattle.hp_nodes.specs.Kept.{IsKept}
 

@@ -1,6 +1,6 @@
 //! The frames that pages are made of.
 ghost use Rattle.std.specs.Prelude.{◌≡◌, IfOk, ◌+◌, ◌≤◌, length};
-ghost use Rattle.hp_model.specs.Page.{zeros};
+ghost use Rattle.hp_model.specs.files.Page.{zeros};
 ghost use Rattle.hp_nodes.specs.Frame.{overwritten, rewritten};
 ghost use Rattle.std.specs.Borrow.{Lends, sem, Array, u8 as byte};
 

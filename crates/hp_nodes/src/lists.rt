@@ -1,9 +1,9 @@
 //! The nodes together, and the moves of pages and frames among them.
 ghost use Rattle.std.specs.Prelude.{◌≡◌, ◌+◌, ◌-◌, ◌<◌, ◌≤◌, if◌then◌else◌, length, All, IsTrue, IfOk};
-ghost use Rattle.hp_model.specs.Resize.{node_count};
+ghost use Rattle.hp_model.specs.pool.Resize.{node_count};
 ghost use Rattle.hp_nodes.specs.Kept.{idle_nodes};
 ghost use Rattle.hp_nodes.specs.Ledgers.{AreLedgers};
-ghost use Rattle.hp_model.specs.NodeRows.{has, lowest, near, next_from, some_has, row_at, taken, put_at, surplus_added, grown, shrunk, promoted, demoted, given_back, sum_row, free_of, total_of, take_row, put_row, grow_row, shrink_row, add_surplus_row, give_back_row, promote_row, demote_row};
+ghost use Rattle.hp_model.specs.pool.NodeRows.{has, lowest, near, next_from, some_has, row_at, taken, put_at, surplus_added, grown, shrunk, promoted, demoted, given_back, sum_row, free_of, total_of, take_row, put_row, grow_row, shrink_row, add_surplus_row, give_back_row, promote_row, demote_row};
 
 use crate::blanks::Blanks;
 use crate::marks::Marks;
@@ -33,7 +33,7 @@ pub struct NodeLists<N: Naming> {
 }
 
 impl<N: Naming> Model for NodeLists<N> {
-    ghost use Rattle.hp_model.specs.NodeRows.{NodeRows};
+    ghost use Rattle.hp_model.specs.pool.NodeRows.{NodeRows};
     ghost use Rattle.hp_nodes.specs.Kept.{IsKept};
 
     ghost Value = { NodeRows };

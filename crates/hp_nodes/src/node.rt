@@ -1,6 +1,6 @@
 //! One node: its row, and the frames that nobody holds.
 ghost use Rattle.std.specs.Prelude.{◌≡◌, ◌+◌, ◌-◌, ◌<◌, ◌≤◌, IfOk, vec_len};
-ghost use Rattle.hp_model.specs.NodeRows.{has, used, take_row, put_row, grow_row, shrink_row, add_surplus_row, give_back_row, promote_row, demote_row, IsRow};
+ghost use Rattle.hp_model.specs.pool.NodeRows.{has, used, take_row, put_row, grow_row, shrink_row, add_surplus_row, give_back_row, promote_row, demote_row, IsRow};
 
 use crate::frame::Frame;
 use hp_model::naming::Naming;

@@ -2,7 +2,7 @@
 ghost use Rattle.std.specs.Prelude.{◌≡◌, ◌+◌, ◌<◌, ◌≤◌, length};
 ghost use Rattle.hp_nodes.specs.Frame.{rewritten};
 ghost use Rattle.std.specs.Borrow.{Lends, sem, Array, u8 as byte};
-ghost use Rattle.hp_model.specs.Page.{overwritten, zeros};
+ghost use Rattle.hp_model.specs.files.Page.{overwritten, zeros};
 
 use crate::frame::Frame;
 use crate::marks::Mark;
@@ -21,7 +21,7 @@ pub struct Page<N: Naming> {
 
 impl<N: Naming> Model for Page<N> {
     ghost use Rattle.std.specs.Prelude.{◌<◌};
-    ghost use Rattle.hp_model.specs.Page.{Page};
+    ghost use Rattle.hp_model.specs.files.Page.{Page};
 
     ghost Value = { Page };
 

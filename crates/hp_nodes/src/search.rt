@@ -1,6 +1,6 @@
 //! Which node a move chooses.
 ghost use Rattle.std.specs.Prelude.{◌≡◌, ◌+◌, ◌<◌, ◌≤◌, ◌==◌, if◌then◌else◌, length, IsTrue};
-ghost use Rattle.hp_model.specs.NodeRows.{has, lowest, near, next_from, some_has, row_at};
+ghost use Rattle.hp_model.specs.pool.NodeRows.{has, lowest, near, next_from, some_has, row_at};
 
 use crate::node::Node;
 use hp_model::naming::Naming;

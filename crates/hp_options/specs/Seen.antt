@@ -1,6 +1,6 @@
 -- What was read of the options, in the words of their definition.
 use Rattle.std.specs.Option.{option_map}
-use Rattle.hp_model.specs.Options.{Amount as Said, InBytes as Size, Percent as PartOf, Wanted as AllSaid}
+use Rattle.hp_model.specs.files.Options.{Amount as Said, InBytes as Size, Percent as PartOf, Wanted as AllSaid}
 use Rattle.hp_options.specs.declared.wanted.Amount.{Amount}
 use Rattle.hp_options.specs.declared.wanted.Amount.TheVariants.{InBytes, Percent}
 use Rattle.hp_options.specs.declared.wanted.Wanted.{Wanted}

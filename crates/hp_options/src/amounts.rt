@@ -1,7 +1,7 @@
 //! Sizes and percentages.
 ghost use Rattle.std.specs.Prelude.{◌≡◌, ◌<◌, ◌≤◌, ◌*◌, ◌/◌};
 ghost use Rattle.std.specs.Option.{option_map};
-ghost use Rattle.hp_model.specs.Options.{amount_of, percent_of, pages_for};
+ghost use Rattle.hp_model.specs.files.Options.{amount_of, percent_of, pages_for};
 ghost use Rattle.hp_options.specs.Seen.{amount_seen};
 
 use crate::quantities::{cut_last, quantity_of};

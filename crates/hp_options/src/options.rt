@@ -1,7 +1,7 @@
 //! The text of a mount's options, and the limits that it means.
 ghost use Rattle.std.specs.Prelude.{◌≡◌, ◌<◌};
 ghost use Rattle.std.specs.Option.{option_map};
-ghost use Rattle.hp_model.specs.Options.{after_key, option_of, options_of, nothing_wanted, parts, wanted_of, limits_of, checked, limits, pages_for};
+ghost use Rattle.hp_model.specs.files.Options.{after_key, option_of, options_of, nothing_wanted, parts, wanted_of, limits_of, checked, limits, pages_for};
 ghost use Rattle.hp_options.specs.Seen.{amount_seen, wanted_seen};
 
 use crate::amounts::{amount_of, pages_for};

@@ -1,6 +1,6 @@
 //! Numbers with a suffix that multiplies.
 ghost use Rattle.std.specs.Prelude.{◌≡◌};
-ghost use Rattle.hp_model.specs.Options.{quantity_of, scaled, scale_of, last_of, without_last};
+ghost use Rattle.hp_model.specs.files.Options.{quantity_of, scaled, scale_of, last_of, without_last};
 
 use hp_text::numbers::number_of;
 

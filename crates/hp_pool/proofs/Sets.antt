@@ -1,8 +1,8 @@
 use Rattle.std.proofs.Common.{ℕ, ◌≡◌, ◌+◌, ◌-◌, ◌∙◌, ap, arith}
 use Rattle.std.specs.Prelude.{min}
-use Rattle.hp_model.specs.NodeRows.{NodeRows, frames_of}
-use Rattle.hp_model.specs.PoolCounts.{Pool, used_of}
-use Rattle.hp_model.specs.Resize.{raise_times, lower_times, set_nr}
+use Rattle.hp_model.specs.pool.NodeRows.{NodeRows, frames_of}
+use Rattle.hp_model.specs.pool.PoolCounts.{Pool, used_of}
+use Rattle.hp_model.specs.pool.Resize.{raise_times, lower_times, set_nr}
 
 abbrev pool : ℕ → ℕ → ℕ → NodeRows → Pool
 pool nr overcommit committed nodes = record { nr = nr; overcommit = overcommit; committed = committed; nodes = nodes }

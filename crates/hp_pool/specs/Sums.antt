@@ -1,7 +1,7 @@
 -- What a pool begins with, and how the sums over its nodes move.
 use Rattle.std.specs.Prelude.{◌≡◌, ℕ, ◌+◌, ◌-◌, Bool, if◌then◌else◌, List}
-use Rattle.hp_model.specs.NodeRows.{NodeRows, sum_row, promote_row, grow_row, shrink_row, demote_row}
-use Rattle.hp_model.specs.PoolCounts.{Pool}
+use Rattle.hp_model.specs.pool.NodeRows.{NodeRows, sum_row, promote_row, grow_row, shrink_row, demote_row}
+use Rattle.hp_model.specs.pool.PoolCounts.{Pool}
 use Rattle.hp_model.specs.declared.node.NodeRow.{NodeRow}
 use Rattle.hp_nodes.specs.Kept.{idle_nodes}
 

@@ -1,8 +1,8 @@
 //! Moves among the nodes that are repeated, one for each page that moves.
 ghost use Rattle.std.specs.Prelude.{◌≡◌, ◌+◌, ◌-◌, ◌<◌, ◌≤◌, nat_lt};
-ghost use Rattle.hp_model.specs.Grant.{surplus_times};
-ghost use Rattle.hp_model.specs.Pool.{give_back_times};
-ghost use Rattle.hp_model.specs.Resize.{raise_times, lower_times, raised, lowered};
+ghost use Rattle.hp_model.specs.pool.Grant.{surplus_times};
+ghost use Rattle.hp_model.specs.pool.Pool.{give_back_times};
+ghost use Rattle.hp_model.specs.pool.Resize.{raise_times, lower_times, raised, lowered};
 ghost use Rattle.hp_pool.specs.Sums.{sums, with_surplus, without_surplus, raised_row, lowered_row, MorePersistent, SameUsed};
 
 use hp_model::naming::Naming;

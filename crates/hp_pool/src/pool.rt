@@ -1,10 +1,10 @@
 //! The pool.
 ghost use Rattle.std.specs.Prelude.{◌≡◌, ◌+◌, ◌-◌, ◌<◌, ◌≤◌, length, All, IsTrue, IfOk, IfErr, IsOk, ◌↔◌};
-ghost use Rattle.hp_model.specs.NodeRows.{row_at, frames_of, total_of, free_of, surp_of};
-ghost use Rattle.hp_model.specs.Grant.{can_grant, granted};
-ghost use Rattle.hp_model.specs.Pool.{take_node, page_taken, page_put, page_kept, released, settled};
-ghost use Rattle.hp_model.specs.PoolCounts.{IsSettled, counts_of, rsvd};
-ghost use Rattle.hp_model.specs.Resize.{set_nr, node_count};
+ghost use Rattle.hp_model.specs.pool.NodeRows.{row_at, frames_of, total_of, free_of, surp_of};
+ghost use Rattle.hp_model.specs.pool.Grant.{can_grant, granted};
+ghost use Rattle.hp_model.specs.pool.Pool.{take_node, page_taken, page_put, page_kept, released, settled};
+ghost use Rattle.hp_model.specs.pool.PoolCounts.{IsSettled, counts_of, rsvd};
+ghost use Rattle.hp_model.specs.pool.Resize.{set_nr, node_count};
 ghost use Rattle.hp_pool.specs.Ledgers.{AreLedgers};
 ghost use Rattle.hp_pool.specs.Sums.{idle_pool};
 
@@ -40,9 +40,9 @@ pub struct Pool<N: Naming> {
 
 impl<N: Naming> Model for Pool<N> {
     ghost use Rattle.std.specs.Prelude.{◌+◌};
-    ghost use Rattle.hp_model.specs.NodeRows.{sum_row};
-    ghost use Rattle.hp_model.specs.Pool.{IsPool};
-    ghost use Rattle.hp_model.specs.PoolCounts.{Pool, used_of};
+    ghost use Rattle.hp_model.specs.pool.NodeRows.{sum_row};
+    ghost use Rattle.hp_model.specs.pool.Pool.{IsPool};
+    ghost use Rattle.hp_model.specs.pool.PoolCounts.{Pool, used_of};
 
     ghost Value = { Pool };
 

@@ -3,7 +3,7 @@ use Rattle.std.specs.Prelude.{ℕ, ◌≡◌, ◌+◌, ◌-◌, ◌==◌, List, 
 use Rattle.std.specs.Prelude.{Option, None, Some}
 use Rattle.std.specs.Option.{option_map}
 use Rattle.std.specs.List.{sum_by}
-use Rattle.hp_model.specs.Page.{Page}
+use Rattle.hp_model.specs.files.Page.{Page}
 
 -- a page under a number: its node, its bytes, and how many hold the number
 pub record Holding : Type 0 where

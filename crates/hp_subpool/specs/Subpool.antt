@@ -1,7 +1,7 @@
 -- What a mount may use of the pool, and what it has of it.
 use Rattle.std.specs.Prelude.{ℕ, ◌+◌, ◌-◌, ◌&&◌, not, Bool, Option, max, nat_lt}
-use Rattle.hp_model.specs.Grant.{can_grant, is_over}
-use Rattle.hp_model.specs.PoolCounts.{Pool}
+use Rattle.hp_model.specs.pool.Grant.{can_grant, is_over}
+use Rattle.hp_model.specs.pool.PoolCounts.{Pool}
 
 -- the most pages (None is no limit), the pages that stay committed at least, the pages in use, and the reservations that files and maps hold
 pub record Subpool : Type 0 where

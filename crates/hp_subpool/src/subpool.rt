@@ -1,8 +1,8 @@
 //! The subpool.
 ghost use Rattle.std.specs.Prelude.{◌≡◌, ◌+◌, ◌-◌, ◌<◌, ◌≤◌, ◌^◌, IsTrue, IfOk, IfErr, IsOk, OnOk, OnErr, Err, ◌↔◌};
-ghost use Rattle.hp_model.specs.Grant.{can_grant, granted, is_over};
-ghost use Rattle.hp_model.specs.Pool.{take_node, page_taken, page_kept, released};
-ghost use Rattle.hp_model.specs.PoolCounts.{IsSettled};
+ghost use Rattle.hp_model.specs.pool.Grant.{can_grant, granted, is_over};
+ghost use Rattle.hp_model.specs.pool.Pool.{take_node, page_taken, page_kept, released};
+ghost use Rattle.hp_model.specs.pool.PoolCounts.{IsSettled};
 ghost use Rattle.hp_subpool.specs.Subpool.{used, own_reserve, committed_of, rise, fall, is_full, can_get, lacks_pages, opened, with_reserves, with_page};
 
 use hp_model::naming::Naming;

@@ -7,17 +7,17 @@ use Rattle.hp_model.specs.declared.event.Event.TheVariants.{Slot as OnSlot, Pool
 use Rattle.hp_model.specs.declared.event.PoolEvent.{PoolEvent}
 use Rattle.hp_model.specs.declared.event.SlotEvent.{SlotEvent}
 use Rattle.hp_model.specs.declared.refusal.Refusal.TheVariants as refusal
-use Rattle.hp_model.specs.Event.{CanHappen, IsEvent, IsFresh, after, asked_pool, is_slot_event, planned, settled}
-use Rattle.hp_model.specs.LocalRun.{Gives, ThroughDoor}
-use Rattle.hp_model.specs.Machine.{node_of, pool_of, with_pool}
-use Rattle.hp_model.specs.Plan.{Reply, Slot, Outcome, Refused, Answered, Plan, Finish, Ask, Choice}
-use Rattle.hp_model.specs.Pool.{section}
-use Rattle.hp_model.specs.PoolCounts.{Pool, IsSettled}
-use Rattle.hp_model.specs.Resize.{pool_event}
-use Rattle.hp_model.specs.Settled.{IsSettledState}
-use Rattle.hp_model.specs.SlotEvent.{slot_event}
-use Rattle.hp_model.specs.State.{State}
-use Rattle.hp_model.specs.Table.{Table}
+use Rattle.hp_model.specs.machine.Event.{CanHappen, IsEvent, IsFresh, after, asked_pool, is_slot_event, planned, settled}
+use Rattle.hp_model.specs.threads.LocalRun.{Gives, ThroughDoor}
+use Rattle.hp_model.specs.machine.Machine.{node_of, pool_of, with_pool}
+use Rattle.hp_model.specs.machine.Plan.{Reply, Slot, Outcome, Refused, Answered, Plan, Finish, Ask, Choice}
+use Rattle.hp_model.specs.pool.Pool.{section}
+use Rattle.hp_model.specs.pool.PoolCounts.{Pool, IsSettled}
+use Rattle.hp_model.specs.pool.Resize.{pool_event}
+use Rattle.hp_model.specs.machine.Settled.{IsSettledState}
+use Rattle.hp_model.specs.machine.SlotEvent.{slot_event}
+use Rattle.hp_model.specs.machine.State.{State}
+use Rattle.hp_model.specs.machine.Table.{Table}
 use Rattle.hp_laws.specs.Laws.{pool_after}
 use Rattle.hp_laws.proofs.StaysSettled.{pool_is_tied, event_settled}
 use Rattle.hp_laws.proofs.Tells.{Tells, slot_event_tells}

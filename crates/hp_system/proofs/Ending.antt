@@ -7,20 +7,20 @@ use Rattle.std.proofs.lemmas.List.{append-nil, append_assoc, length-append}
 use Rattle.std.proofs.Math.Seq.{get_or-append_seam, set-append_seam}
 use Rattle.hp_model.specs.declared.answer.Answer.TheVariants.{Done}
 use Rattle.hp_laws.specs.Balance.{Always, IsBalanced, left_by}
-use Rattle.hp_model.specs.File.{Mount}
-use Rattle.hp_model.specs.Machine.{committed_pages, pool_of}
-use Rattle.hp_model.specs.Plan.{Plan, Finish, Ask, Answered, Slot, fall_of, gives, puts_of}
+use Rattle.hp_model.specs.files.File.{Mount}
+use Rattle.hp_model.specs.machine.Machine.{committed_pages, pool_of}
+use Rattle.hp_model.specs.machine.Plan.{Plan, Finish, Ask, Answered, Slot, fall_of, gives, puts_of}
 use Rattle.hp_model.specs.declared.section.Section.TheVariants.{GiveBack}
-use Rattle.hp_model.specs.PoolCounts.{Pool, counts_by, counts_of, used}
-use Rattle.hp_model.specs.Settled.{IsSettledState}
-use Rattle.hp_model.specs.Sound.{IsSound}
-use Rattle.hp_model.specs.State.{State}
-use Rattle.hp_model.specs.Table.{Table}
+use Rattle.hp_model.specs.pool.PoolCounts.{Pool, counts_by, counts_of, used}
+use Rattle.hp_model.specs.machine.Settled.{IsSettledState}
+use Rattle.hp_model.specs.machine.Sound.{IsSound}
+use Rattle.hp_model.specs.machine.State.{State}
+use Rattle.hp_model.specs.machine.Table.{Table}
 use Rattle.hp_laws.proofs.Plans.{balanced_gives}
 use Rattle.hp_model.proofs.RowMoves.{puts_are}
 use Rattle.hp_laws.proofs.SlotShows.{always_gives}
 use Rattle.hp_laws.proofs.Tied.{plan_tied}
-use Rattle.hp_model.specs.LocalRun.{ThroughDoor}
+use Rattle.hp_model.specs.threads.LocalRun.{ThroughDoor}
 use Rattle.hp_laws.proofs.Tells.{tells_gives}
 use Rattle.hp_system.specs.Event.{took}
 use Rattle.hp_system.specs.Kept.{all_free, state_of, IsKept}

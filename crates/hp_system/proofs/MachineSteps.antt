@@ -16,14 +16,14 @@ use Rattle.hp_model.specs.declared.event.TableEvent.{TableEvent}
 use Rattle.hp_model.specs.declared.event.TableEvent.TheVariants as table
 use Rattle.hp_model.specs.declared.refusal.Refusal.TheVariants.{NoSuchTask, NoSuchSlot, BadLine}
 use Rattle.hp_model.specs.declared.step.Step.TheVariants.{Connect, Nr, Meminfo}
-use Rattle.hp_model.specs.Event.{IsEvent, with_table, with_pool_reply, is_slot_event}
-use Rattle.hp_model.specs.Machine.{pool_of, node_of}
-use Rattle.hp_model.specs.Plan.{Reply, Slot}
-use Rattle.hp_model.specs.PoolCounts.{Pool, counts_of}
-use Rattle.hp_model.specs.Resize.{pool_event, set_nr}
-use Rattle.hp_model.specs.State.{State}
-use Rattle.hp_model.specs.Step.{Script, Answer_with, on_slot, only, finding, IsScript, IsStep, IsBuiltStep}
-use Rattle.hp_model.specs.Table.{Table, table_event, home_of, when_known}
+use Rattle.hp_model.specs.machine.Event.{IsEvent, with_table, with_pool_reply, is_slot_event}
+use Rattle.hp_model.specs.machine.Machine.{pool_of, node_of}
+use Rattle.hp_model.specs.machine.Plan.{Reply, Slot}
+use Rattle.hp_model.specs.pool.PoolCounts.{Pool, counts_of}
+use Rattle.hp_model.specs.pool.Resize.{pool_event, set_nr}
+use Rattle.hp_model.specs.machine.State.{State}
+use Rattle.hp_model.specs.machine.Step.{Script, Answer_with, on_slot, only, finding, IsScript, IsStep, IsBuiltStep}
+use Rattle.hp_model.specs.machine.Table.{Table, table_event, home_of, when_known}
 use Rattle.hp_system.specs.Event.{IsCarried}
 use Rattle.hp_system.specs.Kept.{state_of, IsKept}
 use Rattle.hp_system.proofs.Carries.{calm, event_done, slot_in}

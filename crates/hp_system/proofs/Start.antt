@@ -3,12 +3,12 @@ use Rattle.std.proofs.Common.{◌≡◌, ℕ, zero, suc, ◌+◌, ◌-◌, ◌<�
 use Rattle.std.specs.List.{sum_by, All}
 use Rattle.std.proofs.lemmas.List.{replicate-append-replicate}
 use Rattle.std.proofs.lemmas.List.Sums.{sum_by-cons}
-use Rattle.hp_model.specs.Machine.{pool_of, slots_from, start, open_mount, node_of, idle_node, rows_of, used_at, committed_pages}
-use Rattle.hp_model.specs.NodeRows.{idle_row}
-use Rattle.hp_model.specs.Plan.{Slot, slot_committed}
-use Rattle.hp_model.specs.PoolCounts.{Pool}
-use Rattle.hp_model.specs.Settled.{IsSettledState}
-use Rattle.hp_model.specs.State.{State}
+use Rattle.hp_model.specs.machine.Machine.{pool_of, slots_from, start, open_mount, node_of, idle_node, rows_of, used_at, committed_pages}
+use Rattle.hp_model.specs.pool.NodeRows.{idle_row}
+use Rattle.hp_model.specs.machine.Plan.{Slot, slot_committed}
+use Rattle.hp_model.specs.pool.PoolCounts.{Pool}
+use Rattle.hp_model.specs.machine.Settled.{IsSettledState}
+use Rattle.hp_model.specs.machine.State.{State}
 use Rattle.hp_laws.proofs.StaysSettled.{start_is_settled}
 use Rattle.hp_system.specs.Kept.{state_of, IsKept}
 

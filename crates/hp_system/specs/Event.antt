@@ -3,14 +3,14 @@ use Rattle.std.specs.Prelude.{◌≡◌, ℕ, length}
 use Rattle.hp_model.specs.declared.event.SlotEvent.{SlotEvent}
 use Rattle.hp_model.specs.declared.section.PoolAnswer.{PoolAnswer}
 use Rattle.hp_model.specs.declared.section.Section.{Section}
-use Rattle.hp_model.specs.Event.{IsFresh}
-use Rattle.hp_model.specs.LocalRun.{ThroughDoor}
-use Rattle.hp_model.specs.Plan.{Choice, Reply, Slot}
-use Rattle.hp_model.specs.Pool.{section}
-use Rattle.hp_model.specs.PoolCounts.{Pool}
-use Rattle.hp_model.specs.SlotEvent.{slot_event}
-use Rattle.hp_model.specs.State.{State}
-use Rattle.hp_model.specs.Step.{IsScript, finding, on_slot}
+use Rattle.hp_model.specs.machine.Event.{IsFresh}
+use Rattle.hp_model.specs.threads.LocalRun.{ThroughDoor}
+use Rattle.hp_model.specs.machine.Plan.{Choice, Reply, Slot}
+use Rattle.hp_model.specs.pool.Pool.{section}
+use Rattle.hp_model.specs.pool.PoolCounts.{Pool}
+use Rattle.hp_model.specs.machine.SlotEvent.{slot_event}
+use Rattle.hp_model.specs.machine.State.{State}
+use Rattle.hp_model.specs.machine.Step.{IsScript, finding, on_slot}
 
 -- the pool by itself: a section gives its answer, and leaves the pool
 abbrev pub took : Pool → Section → PoolAnswer → Pool → Type 0

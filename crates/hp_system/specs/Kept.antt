@@ -1,12 +1,12 @@
 -- The machine's state by its parts, and what holds of it between steps.
 use Rattle.std.specs.Prelude.{◌≡◌, ℕ, ◌<◌, List, map}
 use Rattle.hp_model.specs.declared.answer.Counts.{Counts}
-use Rattle.hp_model.specs.Machine.{node_of, pool_of}
-use Rattle.hp_model.specs.Plan.{Slot}
-use Rattle.hp_model.specs.PoolCounts.{Pool}
-use Rattle.hp_model.specs.Settled.{IsSettledState}
-use Rattle.hp_model.specs.State.{State}
-use Rattle.hp_model.specs.Table.{Table}
+use Rattle.hp_model.specs.machine.Machine.{node_of, pool_of}
+use Rattle.hp_model.specs.machine.Plan.{Slot}
+use Rattle.hp_model.specs.pool.PoolCounts.{Pool}
+use Rattle.hp_model.specs.machine.Settled.{IsSettledState}
+use Rattle.hp_model.specs.machine.State.{State}
+use Rattle.hp_model.specs.machine.Table.{Table}
 
 -- the machine's state, by a table, slots and a pool
 abbrev pub state_of : (page_size : ℕ) → Table → List Slot → Pool → State

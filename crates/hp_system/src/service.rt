@@ -7,7 +7,7 @@ use hp_model::service::Service;
 use hp_model::step::Step;
 
 impl<N: Naming> Service for System<N> {
-    ghost use Rattle.hp_model.specs.Promises.{IsPromisedStep};
+    ghost use Rattle.hp_model.specs.machine.Promises.{IsPromisedStep};
 
     ghost may_answer = { IsPromisedStep };
 

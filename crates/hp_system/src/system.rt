@@ -1,7 +1,7 @@
 //! The machine.
 ghost use Rattle.std.specs.Prelude.{◌≡◌, ◌<◌, ◌≤◌, [], length, vec_capacity, All, IfOk};
-ghost use Rattle.hp_model.specs.Machine.{slots_from, start};
-ghost use Rattle.hp_model.specs.PoolCounts.{IsSettled};
+ghost use Rattle.hp_model.specs.machine.Machine.{slots_from, start};
+ghost use Rattle.hp_model.specs.pool.PoolCounts.{IsSettled};
 ghost use Rattle.hp_pool.specs.Ledgers.{AreLedgers};
 ghost use Rattle.hp_system.specs.Kept.{all_free};
 
@@ -27,7 +27,7 @@ pub struct System<N: Naming> {
 }
 
 impl<N: Naming> Model for System<N> {
-    ghost use Rattle.hp_model.specs.State.{State};
+    ghost use Rattle.hp_model.specs.machine.State.{State};
     ghost use Rattle.hp_system.specs.Kept.{state_of, IsKept};
 
     ghost Value = { State };

@@ -14,7 +14,7 @@ pub struct TaskTable {
 
 impl Model for TaskTable {
     ghost use Rattle.std.specs.Prelude.{◌≤◌, vec_capacity};
-    ghost use Rattle.hp_model.specs.Table.{Table};
+    ghost use Rattle.hp_model.specs.machine.Table.{Table};
 
     ghost Value = { Table };
 
@@ -24,7 +24,7 @@ impl Model for TaskTable {
 }
 
 ghost use Rattle.std.specs.Prelude.{◌≡◌, ◌<◌, ℕ, length, [], IfOk, Ok, Err, IsTrue, is_some};
-ghost use Rattle.hp_model.specs.Table.{home_of, added, removed, is_known, is_crowded, table_event};
+ghost use Rattle.hp_model.specs.machine.Table.{home_of, added, removed, is_known, is_crowded, table_event};
 
 impl TaskTable {
     /// No task, and room for 256.

@@ -32,7 +32,7 @@ struct Noting<N: Naming> {
 }
 
 impl<N: Naming> PoolDoor for Noting<N> {
-    ghost use Rattle.hp_model.specs.Pool.{section};
+    ghost use Rattle.hp_model.specs.pool.Pool.{section};
     ghost use Rattle.hp_store.specs.Store.{page_at};
     ghost use Rattle.std.specs.Prelude.{None, [], ℕ};
 

@@ -1,6 +1,6 @@
 //! A machine of two nodes of four frames each.
 ghost use Rattle.std.specs.Prelude.{◌≡◌};
-ghost use Rattle.hp_model.specs.PoolCounts.{IsSettled};
+ghost use Rattle.hp_model.specs.pool.PoolCounts.{IsSettled};
 
 use hp_model::naming::Naming;
 use hp_model::refusal::Refusal;

@@ -1,6 +1,6 @@
 //! A mount with a limit of three pages and a minimum of two, on a pool of four.
 ghost use Rattle.std.specs.Prelude.{◌≡◌};
-ghost use Rattle.hp_model.specs.PoolCounts.{IsSettled};
+ghost use Rattle.hp_model.specs.pool.PoolCounts.{IsSettled};
 ghost use Rattle.hp_pool.specs.Ledgers.{AreLedgers};
 
 use hp_model::naming::Naming;

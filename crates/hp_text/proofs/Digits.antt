@@ -6,7 +6,7 @@ use Rattle.std.specs.Char.{is_ascii_digit, digit_value}
 use Rattle.std.specs.Int.{IsInRange}
 use Rattle.std.specs.Str.{all_ascii_digits}
 use Rattle.std.specs.Str.Parse.{digits_value_after}
-use Rattle.hp_model.specs.Options.{number_of, when}
+use Rattle.hp_model.specs.files.Options.{number_of, when}
 
 -- a number, where the test holds and it fits
 abbrev pub made : Bool → ℕ → Option ℕ

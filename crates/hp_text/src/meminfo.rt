@@ -1,6 +1,6 @@
 //! The text of meminfo.
 ghost use Rattle.std.specs.Prelude.{◌≤◌};
-ghost use Rattle.hp_model.specs.Writing.{meminfo_text};
+ghost use Rattle.hp_model.specs.text.Writing.{meminfo_text};
 ghost use Rattle.hp_text.specs.Output.{HasRoom, Adds};
 
 use crate::output::{push, push_columns};

@@ -1,6 +1,6 @@
 //! Numbers in a text.
 ghost use Rattle.std.specs.Prelude.{◌≡◌};
-ghost use Rattle.hp_model.specs.Options.{number_of};
+ghost use Rattle.hp_model.specs.files.Options.{number_of};
 ghost use Rattle.hp_text.specs.Numbers.{IsWithDigit};
 
 /// Reads 1 to 20 digits with a value below 2^64. Any other text is no number.

@@ -1,6 +1,6 @@
 //! Text that is added to what waits to be written. Nothing here asks for memory.
 ghost use Rattle.std.specs.Prelude.{◌≡◌, ◌≤◌, decimal, length};
-ghost use Rattle.hp_model.specs.Writing.{in_columns};
+ghost use Rattle.hp_model.specs.text.Writing.{in_columns};
 ghost use Rattle.hp_text.specs.Output.{HasRoom, Adds};
 
 /// Adds bytes.

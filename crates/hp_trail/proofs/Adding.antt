@@ -10,8 +10,8 @@ use Rattle.hp_model.specs.declared.entry.Part.TheVariants.{Tasks, Slot as AtSlot
 use Rattle.hp_model.specs.declared.entry.PoolEntry.{PoolEntry}
 use Rattle.hp_model.specs.declared.entry.PoolEntry.TheVariants.{OfSlot, OfPool}
 use Rattle.hp_model.specs.declared.entry.Receipt.{Receipt}
-use Rattle.hp_model.specs.Differ.{entry_at, of_pool}
-use Rattle.hp_model.specs.JointRun.{Trails, slot_trail, Entry, InTasks, InSlot, InPool, event_of}
+use Rattle.hp_model.specs.threads.Differ.{entry_at, of_pool}
+use Rattle.hp_model.specs.threads.JointRun.{Trails, slot_trail, Entry, InTasks, InSlot, InPool, event_of}
 use Rattle.hp_trail.specs.Tellers.{Added, AddsPool, AddsSlot, AddsTask, ClaimsSection, Fit, Rows, Stands, asked_of, teller}
 use Rattle.hp_trail.proofs.Indexing.{claim_long, claim_other, claim_same, row_there, some_is}
 

@@ -15,9 +15,9 @@ use Rattle.hp_model.specs.declared.entry.TableEntry.{TableEntry}
 use Rattle.hp_model.specs.declared.event.PoolEvent.{PoolEvent}
 use Rattle.hp_model.specs.declared.section.PoolAnswer.{PoolAnswer}
 use Rattle.hp_model.specs.declared.section.Section.{Section}
-use Rattle.hp_model.specs.Differ.{Asks, Has, HasCircle, InPoolAt, IsBefore, entry_at, of_pool}
-use Rattle.hp_model.specs.JointRun.{Trails, slot_trail, Entry, InTasks, InSlot, InPool}
-use Rattle.hp_model.specs.Plan.{Reply}
+use Rattle.hp_model.specs.threads.Differ.{Asks, Has, HasCircle, InPoolAt, IsBefore, entry_at, of_pool}
+use Rattle.hp_model.specs.threads.JointRun.{Trails, slot_trail, Entry, InTasks, InSlot, InPool}
+use Rattle.hp_model.specs.machine.Plan.{Reply}
 use Rattle.hp_trail.specs.Walk.{Cursors, at, cursor, session}
 
 -- a list that is as long has an element there

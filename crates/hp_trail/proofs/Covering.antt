@@ -7,8 +7,8 @@ use Rattle.std.proofs.lemmas.List.Elements.{Contains-push_cases}
 use Rattle.hp_model.specs.declared.entry.Part.{Part}
 use Rattle.hp_model.specs.declared.entry.Part.TheVariants.{Tasks, Slot as AtSlot, Pool as AtPool}
 use Rattle.hp_model.specs.declared.entry.Receipt.{Receipt}
-use Rattle.hp_model.specs.Differ.{Has, entry_at}
-use Rattle.hp_model.specs.JointRun.{Trails, slot_trail, Entry, InTasks, InSlot, InPool, Item, part_of, receipt_of, slot_entry, task_entry, placed}
+use Rattle.hp_model.specs.threads.Differ.{Has, entry_at}
+use Rattle.hp_model.specs.threads.JointRun.{Trails, slot_trail, Entry, InTasks, InSlot, InPool, Item, part_of, receipt_of, slot_entry, task_entry, placed}
 use Rattle.hp_trail.specs.Tellers.{AreTold, Rows, teller}
 use Rattle.hp_trail.specs.Walk.{AreCovered, Cursors, Goes, GoesOn, IsBlocked, Passes, Took, Waits, at, cursor, receipts_left, session}
 use Rattle.hp_trail.proofs.Indexing.{get_there, row_there, some_is}

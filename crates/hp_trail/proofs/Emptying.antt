@@ -7,7 +7,7 @@ use Rattle.std.proofs.lemmas.List.{get_or-set_same, get_or-set_other, length-set
 use Rattle.std.proofs.lemmas.List.Elements.{All-contains, Contains-append_left, Contains-push}
 use Rattle.hp_model.specs.declared.entry.Receipt.{Receipt}
 use Rattle.hp_model.specs.declared.event.Event.{Event}
-use Rattle.hp_model.specs.JointRun.{Item, IsTold, event_of, keep, option_cons, receipt_of, told}
+use Rattle.hp_model.specs.threads.JointRun.{Item, IsTold, event_of, keep, option_cons, receipt_of, told}
 use Rattle.hp_trail.proofs.Walking.{keep_snoc}
 
 abbrev pub session_of : Item → ℕ

@@ -9,8 +9,8 @@ use Rattle.hp_model.specs.declared.entry.Part.TheVariants.{Tasks, Slot as AtSlot
 use Rattle.hp_model.specs.declared.entry.PoolEntry.{PoolEntry}
 use Rattle.hp_model.specs.declared.entry.PoolEntry.TheVariants.{OfSlot, OfPool}
 use Rattle.hp_model.specs.declared.entry.Receipt.{Receipt}
-use Rattle.hp_model.specs.Differ.{Asks, Differ, Has, HasCircle, InPoolAt, IsBefore, LostSection, SharedSection, ToldTwice, Untold, WrongReceipt, WrongSection, entry_at, of_pool}
-use Rattle.hp_model.specs.JointRun.{Trails, slot_trail, Entry, InTasks, InSlot, InPool, Item, Joins, IsThere, keep, numbered, option_cons, event_of, part_of, placed, pool_entry, pool_part, receipt_of, section_entry, slot_entry, slot_part, task_part, told}
+use Rattle.hp_model.specs.threads.Differ.{Asks, Differ, Has, HasCircle, InPoolAt, IsBefore, LostSection, SharedSection, ToldTwice, Untold, WrongReceipt, WrongSection, entry_at, of_pool}
+use Rattle.hp_model.specs.threads.JointRun.{Trails, slot_trail, Entry, InTasks, InSlot, InPool, Item, Joins, IsThere, keep, numbered, option_cons, event_of, part_of, placed, pool_entry, pool_part, receipt_of, section_entry, slot_entry, slot_part, task_part, told}
 use Rattle.hp_trail.proofs.Indexing.{get_there, row_there, some_is}
 use Rattle.hp_trail.proofs.Passing.{all_at, kept, kept_from, numbered_at, numbered_is, own_slot, pool_is, slot_is, task_is, told_is}
 use Rattle.std.proofs.Math.Seq.{take-length}

@@ -6,7 +6,7 @@ use Rattle.std.proofs.lemmas.List.Elements.{Contains-append_left, Contains-push}
 use Rattle.hp_model.specs.declared.entry.Part.{Part}
 use Rattle.hp_model.specs.declared.entry.Part.TheVariants.{Pool as AtPool}
 use Rattle.hp_model.specs.declared.entry.Receipt.{Receipt}
-use Rattle.hp_model.specs.JointRun.{Trails}
+use Rattle.hp_model.specs.threads.JointRun.{Trails}
 use Rattle.hp_trail.specs.Tellers.{AreTold, Rows, teller}
 use Rattle.hp_trail.specs.Walk.{AreCovered, IsWoken, Passed, Took, Waits, Walking, WalkedBy, at, cursor, receipts_left}
 use Rattle.hp_trail.proofs.Covering.{covered_on, covered_without, one_fewer}

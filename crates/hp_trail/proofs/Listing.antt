@@ -14,8 +14,8 @@ use Rattle.hp_model.specs.declared.entry.SlotEntry.{SlotEntry}
 use Rattle.hp_model.specs.declared.entry.TableEntry.{TableEntry}
 use Rattle.hp_model.specs.declared.section.PoolAnswer.{PoolAnswer}
 use Rattle.hp_model.specs.declared.section.Section.{Section}
-use Rattle.hp_model.specs.Differ.{Asks, Differ, Has, entry_at, of_pool}
-use Rattle.hp_model.specs.JointRun.{Trails, slot_trail, Entry, InTasks, InSlot, InPool}
+use Rattle.hp_model.specs.threads.Differ.{Asks, Differ, Has, entry_at, of_pool}
+use Rattle.hp_model.specs.threads.JointRun.{Trails, slot_trail, Entry, InTasks, InSlot, InPool}
 use Rattle.hp_trail.specs.Tellers.{Added, AreListed, AreTold, Fit, Gap, IsNotFree, IsPast, IsRefused, NoGap, Rows, Source, Stands, Tells, asked_of, blank, no_tellers, row, teller}
 use Rattle.hp_trail.proofs.Indexing.{get_there, row_there, some_is, there_get, zeros_at}
 

@@ -13,8 +13,8 @@ use Rattle.hp_model.specs.declared.entry.SlotEntry.{SlotEntry}
 use Rattle.hp_model.specs.declared.entry.TableEntry.{TableEntry}
 use Rattle.hp_model.specs.declared.section.PoolAnswer.{PoolAnswer}
 use Rattle.hp_model.specs.declared.section.Section.{Section}
-use Rattle.hp_model.specs.Differ.{Asks, Differ, Has, entry_at, of_pool}
-use Rattle.hp_model.specs.JointRun.{Trails, slot_trail, InTasks, InSlot, InPool, Item}
+use Rattle.hp_model.specs.threads.Differ.{Asks, Differ, Has, entry_at, of_pool}
+use Rattle.hp_model.specs.threads.JointRun.{Trails, slot_trail, InTasks, InSlot, InPool, Item}
 use Rattle.hp_trail.specs.Tellers.{AreTold, Rows}
 use Rattle.hp_trail.specs.Walk.{Cursors, HaveEnded, IsLeft, JoinsBy, Waits, Walked, WalkedBy, at, cursor, session}
 use Rattle.hp_trail.proofs.Circle.{IsStuck, circle}

@@ -13,8 +13,8 @@ use Rattle.hp_model.specs.declared.entry.PoolEntry.TheVariants.{OfSlot, OfPool}
 use Rattle.hp_model.specs.declared.entry.Receipt.{Receipt}
 use Rattle.hp_model.specs.declared.entry.SlotEntry.{SlotEntry}
 use Rattle.hp_model.specs.declared.entry.TableEntry.{TableEntry}
-use Rattle.hp_model.specs.Differ.{Has, entry_at, of_pool}
-use Rattle.hp_model.specs.JointRun.{Trails, slot_trail, Entry, InTasks, InSlot, InPool, Item, section_entry, placed, part_of, event_of, receipt_of}
+use Rattle.hp_model.specs.threads.Differ.{Has, entry_at, of_pool}
+use Rattle.hp_model.specs.threads.JointRun.{Trails, slot_trail, Entry, InTasks, InSlot, InPool, Item, section_entry, placed, part_of, event_of, receipt_of}
 use Rattle.hp_trail.specs.Tellers.{AreRight, HaveSections, Stands, Tells, asked_of}
 use Rattle.hp_trail.specs.Walk.{ComesNext, Cursors, Goes, GoesOn, IsBlocked, IsLater, Passes, Waits, SectionStands, Took, at, cursor, next_section, part_length, past, past_section, session}
 use Rattle.hp_trail.proofs.Indexing.{get_there, number_at, row_there, some_is}

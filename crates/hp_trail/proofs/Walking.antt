@@ -4,7 +4,7 @@ use Rattle.std.specs.List.{slice_get}
 use Rattle.std.proofs.lemmas.List.{take_all}
 use Rattle.std.proofs.lemmas.List.Elements.{All-append, All-cons, All-nil}
 use Rattle.hp_model.specs.declared.entry.Receipt.{Receipt}
-use Rattle.hp_model.specs.JointRun.{Trails, slot_trail, Item, option_cons, keep, numbered, task_part, slot_part, pool_part, told, IsThere, Joins}
+use Rattle.hp_model.specs.threads.JointRun.{Trails, slot_trail, Item, option_cons, keep, numbered, task_part, slot_part, pool_part, told, IsThere, Joins}
 use Rattle.hp_model.specs.declared.entry.Part.{Part}
 use Rattle.hp_trail.specs.Walk.{Cursors, at, session, Walked, Goes, GoesOn, Passes, HaveEnded, Took, at_start, WalkedBy}
 use Rattle.hp_trail.proofs.Indexing.{map_snoc, some_is, zeros_at}

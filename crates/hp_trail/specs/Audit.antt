@@ -4,13 +4,13 @@ use Rattle.hp_model.specs.declared.entry.Receipt.{Receipt}
 use Rattle.hp_model.specs.declared.event.Event.{Event}
 use Rattle.hp_model.specs.declared.refusal.Refusal.{Refusal}
 use Rattle.hp_model.specs.declared.refusal.Refusal.TheVariants.{OutOfMemory, TrailsDiffer}
-use Rattle.hp_model.specs.Differ.{Differ}
-use Rattle.hp_model.specs.JointRun.{Trails, Item, event_of, Joins, AreRuns, HasParts, IsJointRun}
-use Rattle.hp_model.specs.Plan.{Slot}
-use Rattle.hp_model.specs.PoolCounts.{Pool}
-use Rattle.hp_model.specs.Settled.{IsSettledState}
-use Rattle.hp_model.specs.State.{State}
-use Rattle.hp_model.specs.Table.{Table}
+use Rattle.hp_model.specs.threads.Differ.{Differ}
+use Rattle.hp_model.specs.threads.JointRun.{Trails, Item, event_of, Joins, AreRuns, HasParts, IsJointRun}
+use Rattle.hp_model.specs.machine.Plan.{Slot}
+use Rattle.hp_model.specs.pool.PoolCounts.{Pool}
+use Rattle.hp_model.specs.machine.Settled.{IsSettledState}
+use Rattle.hp_model.specs.machine.State.{State}
+use Rattle.hp_model.specs.machine.Table.{Table}
 
 -- one order of all events joins the trails and the receipts, and these are its events. Where each
 -- trail is a run of its part from a settled state, that order is a run of the machine from there,

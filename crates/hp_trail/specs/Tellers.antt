@@ -12,8 +12,8 @@ use Rattle.hp_model.specs.declared.entry.SlotEntry.{SlotEntry}
 use Rattle.hp_model.specs.declared.entry.TableEntry.{TableEntry}
 use Rattle.hp_model.specs.declared.section.PoolAnswer.{PoolAnswer}
 use Rattle.hp_model.specs.declared.section.Section.{Section}
-use Rattle.hp_model.specs.Differ.{Asks, Has, entry_at, of_pool}
-use Rattle.hp_model.specs.JointRun.{Trails, slot_trail, Entry, InTasks, InSlot, InPool, event_of}
+use Rattle.hp_model.specs.threads.Differ.{Asks, Has, entry_at, of_pool}
+use Rattle.hp_model.specs.threads.JointRun.{Trails, slot_trail, Entry, InTasks, InSlot, InPool, event_of}
 
 -- for each place of each trail the number of the session that tells of it, plus 1, or 0
 pub record Rows : Type 0 where

@@ -11,8 +11,8 @@ use Rattle.hp_model.specs.declared.entry.PoolEntry.{PoolEntry}
 use Rattle.hp_model.specs.declared.entry.Receipt.{Receipt}
 use Rattle.hp_model.specs.declared.entry.SlotEntry.{SlotEntry}
 use Rattle.hp_model.specs.declared.entry.TableEntry.{TableEntry}
-use Rattle.hp_model.specs.Differ.{Asks, Has, entry_at}
-use Rattle.hp_model.specs.JointRun.{Trails, slot_trail, Item, keep, numbered, task_part, slot_part, pool_part, part_of, told, IsThere, IsTold, Joins}
+use Rattle.hp_model.specs.threads.Differ.{Asks, Has, entry_at}
+use Rattle.hp_model.specs.threads.JointRun.{Trails, slot_trail, Item, keep, numbered, task_part, slot_part, pool_part, part_of, told, IsThere, IsTold, Joins}
 
 abbrev pub lists : {X : Type 0} → List (Vec X) → List (List X)
 lists vs = map (λ v. v.items) vs

@@ -1,6 +1,6 @@
 //! The audit of a finished run.
 ghost use Rattle.std.specs.Prelude.{◌≡◌, List, IfOk, MatchResult, map};
-ghost use Rattle.hp_model.specs.JointRun.{IsTold, Item, event_of};
+ghost use Rattle.hp_model.specs.threads.JointRun.{IsTold, Item, event_of};
 ghost use Rattle.hp_trail.specs.Audit.{IsJointList, IsUnjoined};
 ghost use Rattle.hp_trail.specs.Walk.{AreToldBy, lists, trails_of};
 

@@ -1,6 +1,6 @@
 //! Joining trails and receipts into one order.
 ghost use Rattle.std.specs.Prelude.{IfOk, MatchOption};
-ghost use Rattle.hp_model.specs.Differ.{Differ};
+ghost use Rattle.hp_model.specs.threads.Differ.{Differ};
 ghost use Rattle.hp_trail.specs.Tellers.{teller};
 ghost use Rattle.hp_trail.specs.Walk.{IsWoken, JoinsBy, cursor, lists, trails_of};
 

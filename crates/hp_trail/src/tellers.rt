@@ -2,8 +2,8 @@
 ghost use Rattle.std.specs.Prelude.{◌≡◌, ◌≢◌, ◌<◌, ◌+◌, [], true, false, length, IfOk, MatchOption};
 ghost use Rattle.std.specs.List.{slice_get, slice_index_or, slice_set};
 ghost use Rattle.std.specs.Option.{option_and_then, option_map};
-ghost use Rattle.hp_model.specs.Differ.{Differ, of_pool};
-ghost use Rattle.hp_model.specs.JointRun.{InTasks, InSlot, event_of};
+ghost use Rattle.hp_model.specs.threads.Differ.{Differ, of_pool};
+ghost use Rattle.hp_model.specs.threads.JointRun.{InTasks, InSlot, event_of};
 ghost use Rattle.hp_trail.specs.Walk.{lists, trails_of};
 ghost use Rattle.hp_trail.specs.Tellers.{Added, AddsPool, AddsSlot, AddsTask, AreTold, Claims, ClaimsSection, Fit, Gap, IsNotFree, IsRefused, NoGap, RefusesPool, RefusesSection, RefusesSlot, RefusesTask, no_tellers, teller};
 

@@ -2,8 +2,8 @@
 ghost use Rattle.std.specs.Prelude.{◌≡◌, ◌≢◌, true, false, Some};
 ghost use Rattle.hp_trail.specs.Tellers.{TellsOf};
 ghost use Rattle.hp_model.specs.declared.entry.PoolEntry.TheVariants.{OfSlot};
-ghost use Rattle.hp_model.specs.Differ.{of_pool};
-ghost use Rattle.hp_model.specs.JointRun.{InTasks, InSlot};
+ghost use Rattle.hp_model.specs.threads.Differ.{of_pool};
+ghost use Rattle.hp_model.specs.threads.JointRun.{InTasks, InSlot};
 
 use crate::same::{same_pool_event, same_reply, same_slot_event, same_table_event};
 use hp_model::entry::{Asked, PoolEntry, Receipt, SlotEntry, TableEntry};

@@ -3,13 +3,13 @@ use Rattle.std.proofs.Common.{◌≡◌, ◌≤◌, ℕ, zero, suc, List, [], �
 use Rattle.std.proofs.lemmas.Bool.Decides.{nat_tests}
 use Rattle.std.proofs.lemmas.List.{nil_from_length}
 use Rattle.std.specs.Io.KnownBytes.{Consumes, Appends}
-use Rattle.hp_model.specs.Plan.{Reply}
-use Rattle.hp_model.specs.Lines.{Line, unended, lines, ended_lines, after_lines}
-use Rattle.hp_model.specs.Text.{AnswersLines}
+use Rattle.hp_model.specs.machine.Plan.{Reply}
+use Rattle.hp_model.specs.text.Lines.{Line, unended, lines, ended_lines, after_lines}
+use Rattle.hp_model.specs.text.Text.{AnswersLines}
 use Rattle.hp_model.specs.declared.step.Step.{Step}
 use Rattle.hp_model.specs.declared.refusal.Refusal.{Refusal}
 use Rattle.hp_model.specs.declared.refusal.Refusal.TheVariants.{BadLine, LineTooLong}
-use Rattle.hp_model.specs.Writing.{text, line_of}
+use Rattle.hp_model.specs.text.Writing.{text, line_of}
 use Rattle.hp_wire.specs.Answered.{Ran, RanInPart}
 use Rattle.hp_wire.specs.Sent.{AppendsFront, IsCut}
 use Rattle.hp_wire.specs.Unanswered.{Gets}

@@ -5,11 +5,11 @@ use Rattle.std.proofs.lemmas.List.{take-append-drop}
 use Rattle.std.proofs.Common.{◌-◌, length-drop}
 use Rattle.std.proofs.lemmas.Grind.{flat_map-append}
 use Rattle.std.specs.Io.KnownBytes.{Appends}
-use Rattle.hp_model.specs.Plan.{Reply}
-use Rattle.hp_model.specs.Lines.{Line}
-use Rattle.hp_model.specs.Reading.{step_of, IsReadAs}
-use Rattle.hp_model.specs.Writing.{text, line_of}
-use Rattle.hp_model.specs.Text.{AnswersStep, AnswersLines, IsTextOfReplies}
+use Rattle.hp_model.specs.machine.Plan.{Reply}
+use Rattle.hp_model.specs.text.Lines.{Line}
+use Rattle.hp_model.specs.text.Reading.{step_of, IsReadAs}
+use Rattle.hp_model.specs.text.Writing.{text, line_of}
+use Rattle.hp_model.specs.text.Text.{AnswersStep, AnswersLines, IsTextOfReplies}
 use Rattle.hp_model.specs.declared.refusal.Refusal.{Refusal}
 use Rattle.hp_model.specs.declared.step.Step.{Step}
 use Rattle.hp_wire.specs.Answered.{AnswersRead, Gains, Answered, AnsweredInPart, Ran, RanInPart}

@@ -1,6 +1,6 @@
 -- The lines of bytes that are cut at a newline.
 use Rattle.std.proofs.Common.{◌≡◌, ℕ, List, [], ◌∷◌, ◌++◌, refl, sym, ◌∙◌, ap, ◌==◌, append_assoc}
-use Rattle.hp_model.specs.Lines.{Line, ended, pieces, ended_pieces, last_piece, ended_lines, after_lines}
+use Rattle.hp_model.specs.text.Lines.{Line, ended, pieces, ended_pieces, last_piece, ended_lines, after_lines}
 use Rattle.hp_wire_lines.proofs.Pieces.{first_piece, joined, slice_split-append}
 use Rattle.std.specs.List.{onto_first}
 use Rattle.std.specs.Prelude.{nat_eq, Bool, true, false}

@@ -1,9 +1,9 @@
 -- A run over a whole input that is known.
 use Rattle.std.proofs.Common.{◌≡◌, ℕ, List, [], sym, ◌∙◌, ap, subst, append-nil, ◌++◌, Option, Some, None, Result, Ok, Err, OnOk, IfSome}
 use Rattle.std.specs.Io.KnownBytes.{Appends, Consumes, IsAtEnd}
-use Rattle.hp_model.specs.Plan.{Reply}
-use Rattle.hp_model.specs.Lines.{lines}
-use Rattle.hp_model.specs.Text.{AnswersLines}
+use Rattle.hp_model.specs.machine.Plan.{Reply}
+use Rattle.hp_model.specs.text.Lines.{lines}
+use Rattle.hp_model.specs.text.Text.{AnswersLines}
 use Rattle.hp_model.specs.declared.step.Step.{Step}
 use Rattle.hp_wire.specs.Served.{AnswersInput, Serves}
 use Rattle.hp_wire.specs.declared.fault.RunFault.{RunFault}

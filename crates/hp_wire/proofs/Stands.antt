@@ -3,7 +3,7 @@ use Rattle.std.proofs.Common.{◌≡◌, ℕ, zero, suc, List, [], ◌∷◌, �
 use Rattle.std.proofs.lemmas.Bool.Decides.{nat_tests}
 use Rattle.std.proofs.lemmas.List.Splits.{slice_split-cons_yes, slice_split-cons_no}
 use Rattle.std.specs.List.{onto_first}
-use Rattle.hp_model.specs.Lines.{Line, ended, pieces, ended_pieces, last_piece, ended_lines, after_lines}
+use Rattle.hp_model.specs.text.Lines.{Line, ended, pieces, ended_pieces, last_piece, ended_lines, after_lines}
 use Rattle.hp_model.specs.declared.refusal.Refusal.TheVariants.{LineTooLong}
 use Rattle.hp_wire_lines.proofs.Pieces.{first_piece, joined, slice_split-append}
 use Rattle.hp_wire.proofs.LineCuts.{last_whole}

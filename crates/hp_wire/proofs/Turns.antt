@@ -4,11 +4,11 @@ use Rattle.std.proofs.Common.{◌==◌}
 use Rattle.std.proofs.lemmas.List.{take-append-drop}
 use Rattle.std.proofs.lemmas.List.Sums.{count_by-le-length}
 use Rattle.std.proofs.lemmas.List.Splits.{length-slice_split}
-use Rattle.hp_model.specs.Lines.{pieces, ended_pieces}
+use Rattle.hp_model.specs.text.Lines.{pieces, ended_pieces}
 use Rattle.std.proofs.Math.Seq.{take-append-add, take-append_seam}
 use Rattle.std.specs.Io.KnownBytes.{Consumes}
-use Rattle.hp_model.specs.Plan.{Reply}
-use Rattle.hp_model.specs.Lines.{Line, lines, ended_lines, after_lines, unended}
+use Rattle.hp_model.specs.machine.Plan.{Reply}
+use Rattle.hp_model.specs.text.Lines.{Line, lines, ended_lines, after_lines, unended}
 use Rattle.hp_model.specs.declared.step.Step.{Step}
 use Rattle.hp_wire.specs.Answered.{Ran, RanInPart}
 use Rattle.hp_wire.specs.Unanswered.{CountsLines, Gets}

@@ -1,9 +1,9 @@
 -- Lines that were answered, into what waits to be written.
 use Rattle.std.specs.Prelude.{◌≡◌, ℕ, List, [], ◌++◌, Option, Result, Ok, Err}
 use Rattle.std.specs.Io.KnownBytes.{Appends}
-use Rattle.hp_model.specs.Plan.{Reply}
-use Rattle.hp_model.specs.Lines.{Line}
-use Rattle.hp_model.specs.Text.{IsTextOfReplies}
+use Rattle.hp_model.specs.machine.Plan.{Reply}
+use Rattle.hp_model.specs.text.Lines.{Line}
+use Rattle.hp_model.specs.text.Text.{IsTextOfReplies}
 use Rattle.hp_model.specs.declared.refusal.Refusal.{Refusal}
 use Rattle.hp_model.specs.declared.step.Step.{Step}
 use Rattle.hp_wire.specs.Sent.{AppendsFront}

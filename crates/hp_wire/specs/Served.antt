@@ -2,12 +2,12 @@
 use Rattle.std.specs.Prelude.{◌≡◌, ◌≤◌, ℕ, ◌+◌, List, [], take, length, Option, Result, Ok, Err, zero, suc, ◌∷◌, ◌⊎◌, nat_le, if◌then◌else◌, codes}
 use Rattle.std.specs.List.{flat_map}
 use Rattle.hp_model.specs.Profile.{most_input_bytes, most_line_bytes}
-use Rattle.hp_model.specs.Text.{AnswersLines}
-use Rattle.hp_model.specs.Writing.{line_of, text}
+use Rattle.hp_model.specs.text.Text.{AnswersLines}
+use Rattle.hp_model.specs.text.Writing.{line_of, text}
 use Rattle.hp_model.specs.declared.refusal.Refusal.{Refusal}
 use Rattle.hp_model.specs.declared.refusal.Refusal.TheVariants.{BadLine, LineTooLong}
-use Rattle.hp_model.specs.Plan.{Reply}
-use Rattle.hp_model.specs.Lines.{lines, ended_lines}
+use Rattle.hp_model.specs.machine.Plan.{Reply}
+use Rattle.hp_model.specs.text.Lines.{lines, ended_lines}
 use Rattle.hp_model.specs.declared.step.Step.{Step}
 use Rattle.std.specs.Io.KnownBytes.{Appends, Consumes}
 use Rattle.hp_wire.specs.declared.fault.RunFault.{RunFault}

@@ -1,7 +1,7 @@
 -- Bytes that were read and wait to be answered.
 use Rattle.std.specs.Prelude.{◌≡◌, ◌≤◌, ◌-◌, ℕ, List, ◌++◌, drop, take, length, Option}
 use Rattle.std.specs.Io.KnownBytes.{Consumes, Keeps}
-use Rattle.hp_model.specs.Lines.{after_lines, ended_lines}
+use Rattle.hp_model.specs.text.Lines.{after_lines, ended_lines}
 use Rattle.hp_wire.specs.declared.fault.RunFault.{RunFault}
 use Rattle.hp_wire.specs.declared.fault.RunFault.TheVariants.{Read}
 

@@ -1,9 +1,9 @@
 //! The answers to lines.
 ghost use Rattle.std.specs.Prelude.{◌≡◌, ◌+◌, ◌<◌, ◌^◌, [], ◌∷◌, length, IfErr, IfOk, IsOk, OnOk};
-ghost use Rattle.hp_model.specs.Lines.{ended, ended_lines};
-ghost use Rattle.hp_model.specs.Reading.{step_of};
-ghost use Rattle.hp_model.specs.Text.{AnswersStep};
-ghost use Rattle.hp_model.specs.Writing.{IsWithinLimits};
+ghost use Rattle.hp_model.specs.text.Lines.{ended, ended_lines};
+ghost use Rattle.hp_model.specs.text.Reading.{step_of};
+ghost use Rattle.hp_model.specs.text.Text.{AnswersStep};
+ghost use Rattle.hp_model.specs.text.Writing.{IsWithinLimits};
 ghost use Rattle.hp_wire.specs.Answered.{AnswersAll, AnswersRead, AnswersSome, RunsAll, RunsSome};
 ghost use Rattle.hp_wire.specs.Sent.{Writes, WritesFront};
 ghost use Rattle.hp_wire.specs.Served.{text_of_refusals, unended_by};

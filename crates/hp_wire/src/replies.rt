@@ -1,6 +1,6 @@
 //! The replies that wait to be written.
 ghost use Rattle.std.specs.Prelude.{◌≡◌, ◌≤◌, ◌++◌, [], IfErr, IfOk, IsOk, OnOk};
-ghost use Rattle.hp_model.specs.Writing.{IsWithinLimits, line_of};
+ghost use Rattle.hp_model.specs.text.Writing.{IsWithinLimits, line_of};
 ghost use Rattle.hp_wire.specs.Answered.{LosesNone};
 ghost use Rattle.hp_wire.specs.Sent.{Writes, WritesFront};
 ghost use Rattle.hp_wire.specs.Waiting.{HasRoomForOne};

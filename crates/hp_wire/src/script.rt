@@ -1,6 +1,6 @@
 //! Runs over the lines of a script.
 ghost use Rattle.std.specs.Prelude.{◌≤◌, IfErr, IfSome, OnOk};
-ghost use Rattle.hp_model.specs.Promises.{IsPromisedStep};
+ghost use Rattle.hp_model.specs.machine.Promises.{IsPromisedStep};
 ghost use Rattle.hp_wire.specs.Served.{AnswersInput, IsMemoryOrTooLong, ServesInput};
 
 use crate::ends::{Sink, Source};

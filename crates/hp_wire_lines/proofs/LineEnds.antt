@@ -2,7 +2,7 @@
 use Rattle.std.proofs.Common.{◌≡◌, ℕ, List, sym, ◌∙◌, ap, Option, Some, Err, ◌==◌}
 use Rattle.hp_text.specs.Pieces.{pieces_after}
 use Rattle.hp_wire_lines.proofs.Pieces.{first_piece}
-use Rattle.hp_model.specs.Words.{end_at}
+use Rattle.hp_model.specs.text.Words.{end_at}
 use Rattle.hp_model.specs.declared.refusal.Refusal.TheVariants.{BadLine}
 use denote.Ref.{Bor}
 

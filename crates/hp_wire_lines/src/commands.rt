@@ -1,6 +1,6 @@
 //! The steps of the commands, by what stands after each command's word.
 ghost use Rattle.std.specs.Prelude.{◌≡◌};
-ghost use Rattle.hp_model.specs.Reading.{anon_of, attach_of, connect_of, create_of, df_of, exit_of, fault_of, fork_of, load_of, ls_of, map_of, meminfo_of, mount_of, nodes_of, nr_of, overcommit_of, punch_of, read_of, stat_of, store_of, truncate_of, umount_of, unlink_of, unmap_of, IsReadAs};
+ghost use Rattle.hp_model.specs.text.Reading.{anon_of, attach_of, connect_of, create_of, df_of, exit_of, fault_of, fork_of, load_of, ls_of, map_of, meminfo_of, mount_of, nodes_of, nr_of, overcommit_of, punch_of, read_of, stat_of, store_of, truncate_of, umount_of, unlink_of, unmap_of, IsReadAs};
 
 use crate::parts::{copied, decoded, intent, number, reserving, sharing, word};
 use crate::words::Words;
@@ -8,7 +8,7 @@ use hp_model::refusal::Refusal;
 use hp_model::step::Step;
 use std::alloc::Global;
 
-#[tactic(auto, unfolding(hp_model::specs::Reading::connect_of))]
+#[tactic(auto, unfolding(hp_model::specs::text::Reading::connect_of))]
 pub fn connect(words: Words<'_>) -> Result<Step, Refusal>
     ensures { result ≡ connect_of words.entry }
 {
@@ -18,7 +18,7 @@ pub fn connect(words: Words<'_>) -> Result<Step, Refusal>
     Ok(Step::Connect { task, home })
 }
 
-#[tactic(auto, unfolding(hp_model::specs::Reading::attach_of))]
+#[tactic(auto, unfolding(hp_model::specs::text::Reading::attach_of))]
 pub fn attach(words: Words<'_>) -> Result<Step, Refusal>
     ensures { result ≡ attach_of words.entry }
 {
@@ -27,7 +27,7 @@ pub fn attach(words: Words<'_>) -> Result<Step, Refusal>
     Ok(Step::Attach { task })
 }
 
-#[tactic(auto, unfolding(hp_model::specs::Reading::fork_of))]
+#[tactic(auto, unfolding(hp_model::specs::text::Reading::fork_of))]
 pub fn fork(words: Words<'_>) -> Result<Step, Refusal>
     ensures { result ≡ fork_of words.entry }
 {
@@ -37,7 +37,7 @@ pub fn fork(words: Words<'_>) -> Result<Step, Refusal>
     Ok(Step::Fork { parent, child })
 }
 
-#[tactic(auto, unfolding(hp_model::specs::Reading::exit_of))]
+#[tactic(auto, unfolding(hp_model::specs::text::Reading::exit_of))]
 pub fn exit(words: Words<'_>) -> Result<Step, Refusal>
     ensures { result ≡ exit_of words.entry }
 {
@@ -46,7 +46,7 @@ pub fn exit(words: Words<'_>) -> Result<Step, Refusal>
     Ok(Step::Exit { task })
 }
 
-#[tactic(auto, unfolding(hp_model::specs::Reading::map_of))]
+#[tactic(auto, unfolding(hp_model::specs::text::Reading::map_of))]
 pub fn map(alloc: Global, words: Words<'_>) -> Result<Step, Refusal>
     ensures { IsReadAs result (map_of words.entry) }
 {
@@ -69,7 +69,7 @@ pub fn map(alloc: Global, words: Words<'_>) -> Result<Step, Refusal>
     })
 }
 
-#[tactic(auto, unfolding(hp_model::specs::Reading::anon_of))]
+#[tactic(auto, unfolding(hp_model::specs::text::Reading::anon_of))]
 pub fn anon(words: Words<'_>) -> Result<Step, Refusal>
     ensures { result ≡ anon_of words.entry }
 {
@@ -85,7 +85,7 @@ pub fn anon(words: Words<'_>) -> Result<Step, Refusal>
     })
 }
 
-#[tactic(auto, unfolding(hp_model::specs::Reading::unmap_of))]
+#[tactic(auto, unfolding(hp_model::specs::text::Reading::unmap_of))]
 pub fn unmap(words: Words<'_>) -> Result<Step, Refusal>
     ensures { result ≡ unmap_of words.entry }
 {
@@ -104,7 +104,7 @@ pub fn unmap(words: Words<'_>) -> Result<Step, Refusal>
     })
 }
 
-#[tactic(auto, unfolding(hp_model::specs::Reading::fault_of))]
+#[tactic(auto, unfolding(hp_model::specs::text::Reading::fault_of))]
 pub fn fault(words: Words<'_>) -> Result<Step, Refusal>
     ensures { result ≡ fault_of words.entry }
 {
@@ -123,7 +123,7 @@ pub fn fault(words: Words<'_>) -> Result<Step, Refusal>
     })
 }
 
-#[tactic(auto, unfolding(hp_model::specs::Reading::load_of))]
+#[tactic(auto, unfolding(hp_model::specs::text::Reading::load_of))]
 pub fn load(words: Words<'_>) -> Result<Step, Refusal>
     ensures { result ≡ load_of words.entry }
 {
@@ -144,7 +144,7 @@ pub fn load(words: Words<'_>) -> Result<Step, Refusal>
     })
 }
 
-#[tactic(auto, unfolding(hp_model::specs::Reading::store_of, hp_model::specs::Words::hex_at))]
+#[tactic(auto, unfolding(hp_model::specs::text::Reading::store_of, hp_model::specs::text::Words::hex_at))]
 pub fn store(alloc: Global, words: Words<'_>) -> Result<Step, Refusal>
     ensures { IsReadAs result (store_of words.entry) }
 {
@@ -168,7 +168,7 @@ pub fn store(alloc: Global, words: Words<'_>) -> Result<Step, Refusal>
     })
 }
 
-#[tactic(auto, unfolding(hp_model::specs::Reading::mount_of))]
+#[tactic(auto, unfolding(hp_model::specs::text::Reading::mount_of))]
 pub fn mount(alloc: Global, words: Words<'_>) -> Result<Step, Refusal>
     ensures { IsReadAs result (mount_of words.entry) }
 {
@@ -179,7 +179,7 @@ pub fn mount(alloc: Global, words: Words<'_>) -> Result<Step, Refusal>
     Ok(Step::Mount { slot, options })
 }
 
-#[tactic(auto, unfolding(hp_model::specs::Reading::umount_of))]
+#[tactic(auto, unfolding(hp_model::specs::text::Reading::umount_of))]
 pub fn umount(words: Words<'_>) -> Result<Step, Refusal>
     ensures { result ≡ umount_of words.entry }
 {
@@ -188,7 +188,7 @@ pub fn umount(words: Words<'_>) -> Result<Step, Refusal>
     Ok(Step::Umount { slot })
 }
 
-#[tactic(auto, unfolding(hp_model::specs::Reading::create_of))]
+#[tactic(auto, unfolding(hp_model::specs::text::Reading::create_of))]
 pub fn create(alloc: Global, words: Words<'_>) -> Result<Step, Refusal>
     ensures { IsReadAs result (create_of words.entry) }
 {
@@ -199,7 +199,7 @@ pub fn create(alloc: Global, words: Words<'_>) -> Result<Step, Refusal>
     Ok(Step::Create { slot, name })
 }
 
-#[tactic(auto, unfolding(hp_model::specs::Reading::unlink_of))]
+#[tactic(auto, unfolding(hp_model::specs::text::Reading::unlink_of))]
 pub fn unlink(alloc: Global, words: Words<'_>) -> Result<Step, Refusal>
     ensures { IsReadAs result (unlink_of words.entry) }
 {
@@ -210,7 +210,7 @@ pub fn unlink(alloc: Global, words: Words<'_>) -> Result<Step, Refusal>
     Ok(Step::Unlink { slot, name })
 }
 
-#[tactic(auto, unfolding(hp_model::specs::Reading::truncate_of))]
+#[tactic(auto, unfolding(hp_model::specs::text::Reading::truncate_of))]
 pub fn truncate(alloc: Global, words: Words<'_>) -> Result<Step, Refusal>
     ensures { IsReadAs result (truncate_of words.entry) }
 {
@@ -222,7 +222,7 @@ pub fn truncate(alloc: Global, words: Words<'_>) -> Result<Step, Refusal>
     Ok(Step::Truncate { slot, name, pages })
 }
 
-#[tactic(auto, unfolding(hp_model::specs::Reading::punch_of))]
+#[tactic(auto, unfolding(hp_model::specs::text::Reading::punch_of))]
 pub fn punch(alloc: Global, words: Words<'_>) -> Result<Step, Refusal>
     ensures { IsReadAs result (punch_of words.entry) }
 {
@@ -240,7 +240,7 @@ pub fn punch(alloc: Global, words: Words<'_>) -> Result<Step, Refusal>
     })
 }
 
-#[tactic(auto, unfolding(hp_model::specs::Reading::read_of))]
+#[tactic(auto, unfolding(hp_model::specs::text::Reading::read_of))]
 pub fn read(alloc: Global, words: Words<'_>) -> Result<Step, Refusal>
     ensures { IsReadAs result (read_of words.entry) }
 {
@@ -260,7 +260,7 @@ pub fn read(alloc: Global, words: Words<'_>) -> Result<Step, Refusal>
     })
 }
 
-#[tactic(auto, unfolding(hp_model::specs::Reading::ls_of))]
+#[tactic(auto, unfolding(hp_model::specs::text::Reading::ls_of))]
 pub fn ls(words: Words<'_>) -> Result<Step, Refusal>
     ensures { result ≡ ls_of words.entry }
 {
@@ -269,7 +269,7 @@ pub fn ls(words: Words<'_>) -> Result<Step, Refusal>
     Ok(Step::Ls { slot })
 }
 
-#[tactic(auto, unfolding(hp_model::specs::Reading::stat_of))]
+#[tactic(auto, unfolding(hp_model::specs::text::Reading::stat_of))]
 pub fn stat(alloc: Global, words: Words<'_>) -> Result<Step, Refusal>
     ensures { IsReadAs result (stat_of words.entry) }
 {
@@ -280,7 +280,7 @@ pub fn stat(alloc: Global, words: Words<'_>) -> Result<Step, Refusal>
     Ok(Step::Stat { slot, name })
 }
 
-#[tactic(auto, unfolding(hp_model::specs::Reading::df_of))]
+#[tactic(auto, unfolding(hp_model::specs::text::Reading::df_of))]
 pub fn df(words: Words<'_>) -> Result<Step, Refusal>
     ensures { result ≡ df_of words.entry }
 {
@@ -289,7 +289,7 @@ pub fn df(words: Words<'_>) -> Result<Step, Refusal>
     Ok(Step::Df { slot })
 }
 
-#[tactic(auto, unfolding(hp_model::specs::Reading::nr_of))]
+#[tactic(auto, unfolding(hp_model::specs::text::Reading::nr_of))]
 pub fn nr(words: Words<'_>) -> Result<Step, Refusal>
     ensures { result ≡ nr_of words.entry }
 {
@@ -298,7 +298,7 @@ pub fn nr(words: Words<'_>) -> Result<Step, Refusal>
     Ok(Step::Nr { pages })
 }
 
-#[tactic(auto, unfolding(hp_model::specs::Reading::overcommit_of))]
+#[tactic(auto, unfolding(hp_model::specs::text::Reading::overcommit_of))]
 pub fn overcommit(words: Words<'_>) -> Result<Step, Refusal>
     ensures { result ≡ overcommit_of words.entry }
 {
@@ -307,7 +307,7 @@ pub fn overcommit(words: Words<'_>) -> Result<Step, Refusal>
     Ok(Step::Overcommit { pages })
 }
 
-#[tactic(auto, unfolding(hp_model::specs::Reading::meminfo_of))]
+#[tactic(auto, unfolding(hp_model::specs::text::Reading::meminfo_of))]
 pub fn meminfo(words: Words<'_>) -> Result<Step, Refusal>
     ensures { result ≡ meminfo_of words.entry }
 {
@@ -315,7 +315,7 @@ pub fn meminfo(words: Words<'_>) -> Result<Step, Refusal>
     Ok(Step::Meminfo)
 }
 
-#[tactic(auto, unfolding(hp_model::specs::Reading::nodes_of))]
+#[tactic(auto, unfolding(hp_model::specs::text::Reading::nodes_of))]
 pub fn nodes(words: Words<'_>) -> Result<Step, Refusal>
     ensures { result ≡ nodes_of words.entry }
 {

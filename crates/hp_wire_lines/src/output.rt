@@ -1,7 +1,7 @@
 //! Parts of a reply that are added to what waits to be written. Nothing here asks for memory.
 ghost use Rattle.std.specs.Prelude.{◌≡◌, ◌≤◌, ◌*◌, ◌++◌, codes, decimal, length};
 ghost use Rattle.hex.specs.Hex.{encode_lower};
-ghost use Rattle.hp_model.specs.Writing.{spaced, limit_text};
+ghost use Rattle.hp_model.specs.text.Writing.{spaced, limit_text};
 ghost use Rattle.hp_text.specs.Output.{HasRoom, Adds};
 
 use hp_text::output::{push, push_number};

@@ -1,7 +1,7 @@
 //! What the words of a line say.
 ghost use Rattle.std.specs.Prelude.{◌≡◌, ◌≤◌, length, MatchResult};
 ghost use Rattle.std.specs.List.{list_all};
-ghost use Rattle.hp_model.specs.Words.{number_at, word_at, word_of, is_word, is_word_byte, sharing_at, sharing_of, intent_at, intent_of, reserving_at, bytes_of_hex};
+ghost use Rattle.hp_model.specs.text.Words.{number_at, word_at, word_of, is_word, is_word_byte, sharing_at, sharing_of, intent_at, intent_of, reserving_at, bytes_of_hex};
 ghost use Rattle.hp_wire_lines.specs.Words.{Gives};
 
 use crate::hex_digits::decode;
@@ -12,7 +12,7 @@ use hp_model::step::{Intent, Reserving, Sharing};
 use std::alloc::Global;
 
 /// A number, and the words after it.
-#[tactic(auto, unfolding(hp_model::specs::Words::number_at))]
+#[tactic(auto, unfolding(hp_model::specs::text::Words::number_at))]
 #[inline(always)]
 pub fn number<'a>(words: Words<'a>) -> Result<(u64, Words<'a>), Refusal>
     ensures { result ≡ number_at words.entry }
@@ -22,7 +22,7 @@ pub fn number<'a>(words: Words<'a>) -> Result<(u64, Words<'a>), Refusal>
 }
 
 /// A name or options, and the words after it.
-#[tactic(auto, unfolding(hp_model::specs::Words::word_at))]
+#[tactic(auto, unfolding(hp_model::specs::text::Words::word_at))]
 pub fn word<'a>(words: Words<'a>) -> Result<(&'a [u8], Words<'a>), Refusal>
     ensures { Gives (λ x. (x.0.now, x.1)) result (word_at words.entry) }
 {
@@ -54,7 +54,7 @@ fn is_printed(bytes: &[u8]) -> bool
 }
 
 /// `shared` or `private`, and the words after it.
-#[tactic(auto, unfolding(hp_model::specs::Words::sharing_at))]
+#[tactic(auto, unfolding(hp_model::specs::text::Words::sharing_at))]
 pub fn sharing<'a>(words: Words<'a>) -> Result<(Sharing, Words<'a>), Refusal>
     ensures { result ≡ sharing_at words.entry }
 {
@@ -69,7 +69,7 @@ pub fn sharing<'a>(words: Words<'a>) -> Result<(Sharing, Words<'a>), Refusal>
 }
 
 /// `read` or `write`, and the words after it.
-#[tactic(auto, unfolding(hp_model::specs::Words::intent_at))]
+#[tactic(auto, unfolding(hp_model::specs::text::Words::intent_at))]
 pub fn intent<'a>(words: Words<'a>) -> Result<(Intent, Words<'a>), Refusal>
     ensures { result ≡ intent_at words.entry }
 {

@@ -1,6 +1,6 @@
 //! The step that a line reads as.
 ghost use Rattle.std.specs.Prelude.{◌≡◌, ◌≤◌, length};
-ghost use Rattle.hp_model.specs.Reading.{pool_command, slot_command, step_of_command, step_of_bytes, IsReadAs};
+ghost use Rattle.hp_model.specs.text.Reading.{pool_command, slot_command, step_of_command, step_of_bytes, IsReadAs};
 
 use crate::commands::{
     anon, attach, connect, create, df, exit, fault, fork, load, ls, map, meminfo, mount, nodes, nr,
@@ -16,7 +16,7 @@ pub const LINE_LIMIT: usize = 1024;
 
 /// The step that a line reads as, or `BadLine`. Only a step that carries a name, options or bytes asks for
 /// memory, and only once the whole line was read and found good: `OutOfMemory` is answered for such a line alone.
-#[tactic(auto, unfolding(hp_model::specs::Reading::step_of_bytes))]
+#[tactic(auto, unfolding(hp_model::specs::text::Reading::step_of_bytes))]
 pub fn step_of_line(alloc: Global, line: &[u8]) -> Result<Step, Refusal>
     requires { length line.now ≤ 1024 }
     ensures { IsReadAs result (step_of_bytes line.now) }
@@ -26,7 +26,7 @@ pub fn step_of_line(alloc: Global, line: &[u8]) -> Result<Step, Refusal>
 }
 
 // A command of a task, or another.
-#[tactic(auto, unfolding(hp_model::specs::Reading::step_of_command))]
+#[tactic(auto, unfolding(hp_model::specs::text::Reading::step_of_command))]
 fn step_of_command(alloc: Global, command: &[u8], words: Words<'_>) -> Result<Step, Refusal>
     ensures { IsReadAs result (step_of_command command.now words.entry) }
 {
@@ -56,7 +56,7 @@ fn step_of_command(alloc: Global, command: &[u8], words: Words<'_>) -> Result<St
 }
 
 // A command of a slot, without a task, or another.
-#[tactic(auto, unfolding(hp_model::specs::Reading::slot_command))]
+#[tactic(auto, unfolding(hp_model::specs::text::Reading::slot_command))]
 fn slot_command(alloc: Global, command: &[u8], words: Words<'_>) -> Result<Step, Refusal>
     ensures { IsReadAs result (slot_command command.now words.entry) }
 {
@@ -86,7 +86,7 @@ fn slot_command(alloc: Global, command: &[u8], words: Words<'_>) -> Result<Step,
 }
 
 // A command of the pool.
-#[tactic(auto, unfolding(hp_model::specs::Reading::pool_command))]
+#[tactic(auto, unfolding(hp_model::specs::text::Reading::pool_command))]
 fn pool_command(command: &[u8], words: Words<'_>) -> Result<Step, Refusal>
     ensures { result ≡ pool_command command.now words.entry }
 {

@@ -1,6 +1,6 @@
 //! The pieces of a line.
 ghost use Rattle.std.specs.Prelude.{◌≡◌, ◌≤◌, length};
-ghost use Rattle.hp_model.specs.Words.{number_of, pieces_of_line};
+ghost use Rattle.hp_model.specs.text.Words.{number_of, pieces_of_line};
 
 use hp_model::refusal::Refusal;
 use hp_text::numbers;
@@ -26,7 +26,7 @@ impl<'a> Model for Words<'a> {
 }
 
 impl<'a> Words<'a> {
-    ghost use Rattle.hp_model.specs.Words.{pieces_of_line, piece_at, end_at};
+    ghost use Rattle.hp_model.specs.text.Words.{pieces_of_line, piece_at, end_at};
     ghost use Rattle.hp_wire_lines.specs.Words.{Gives};
     ghost use Rattle.std.specs.Prelude.{◌≡◌, ◌≤◌, length, IfOk};
 
@@ -38,7 +38,7 @@ impl<'a> Words<'a> {
     }
 
     /// The first piece, and the others.
-    #[tactic(auto, unfolding(hp_model::specs::Words::piece_at))]
+    #[tactic(auto, unfolding(hp_model::specs::text::Words::piece_at))]
     #[inline(always)]
     pub fn piece(self) -> Result<(&'a [u8], Words<'a>), Refusal>
         ensures value { Gives (λ x. (x.0.now, x.1)) result (piece_at self.entry) }
@@ -54,7 +54,7 @@ impl<'a> Words<'a> {
     }
 
     /// Whether no piece is left.
-    #[tactic(auto, unfolding(hp_model::specs::Words::end_at))]
+    #[tactic(auto, unfolding(hp_model::specs::text::Words::end_at))]
     pub fn end(self) -> Result<(), Refusal>
         ensures { result ≡ end_at self.entry }
     {

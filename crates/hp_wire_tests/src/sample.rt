@@ -1,5 +1,5 @@
 //! A small service.
-ghost use Rattle.hp_model.specs.Writing.{HasSmallAnswer};
+ghost use Rattle.hp_model.specs.text.Writing.{HasSmallAnswer};
 
 use hp_model::answer::{Answer, Counts, NodeCount, Reply};
 use hp_model::refusal::Refusal;

@@ -2,22 +2,22 @@
 use Rattle.std.proofs.Common.{ℕ, ◌-◌, Bool, true, false, ◌&&◌, ◌==◌, nat_eq, nat_le, List, [], ◌∷◌, max, length}
 use Rattle.std.specs.List.{list_all, flat_map, filter_map, starts_with}
 use Rattle.std.specs.Prelude.{Option, None, Some, Ok, Err}
-use Rattle.hp_model.specs.Lines.{Line, lines}
-use Rattle.hp_model.specs.Reading.{step_of}
+use Rattle.hp_model.specs.text.Lines.{Line, lines}
+use Rattle.hp_model.specs.text.Reading.{step_of}
 use Rattle.hp_model.specs.declared.event.Event.{Event}
 use Rattle.hp_model.specs.declared.event.Event.TheVariants.{Tasks, Slot as OnSlot, Pool as OnPool}
 use Rattle.hp_model.specs.declared.node.NodeRow.{NodeRow}
 use Rattle.hp_model.specs.declared.step.Step.{Step}
-use Rattle.hp_model.specs.Event.{planned, has_maps_of}
-use Rattle.hp_model.specs.Machine.{pool_of, used_pages}
-use Rattle.hp_model.specs.NodeRows.{total_of, surp_of}
-use Rattle.hp_model.specs.Plain.{plain_choice, plain_event, plain_step}
-use Rattle.hp_model.specs.Plan.{Plan, Finish, Ask, Reply}
-use Rattle.hp_model.specs.Pool.{section}
-use Rattle.hp_model.specs.PoolCounts.{Pool, used}
-use Rattle.hp_model.specs.SlotEvent.{slot_event}
-use Rattle.hp_model.specs.State.{State, slot_at}
-use Rattle.hp_model.specs.Step.{Script, Answer_with, Do, Where_mapped, script}
+use Rattle.hp_model.specs.machine.Event.{planned, has_maps_of}
+use Rattle.hp_model.specs.machine.Machine.{pool_of, used_pages}
+use Rattle.hp_model.specs.pool.NodeRows.{total_of, surp_of}
+use Rattle.hp_model.specs.machine.Plain.{plain_choice, plain_event, plain_step}
+use Rattle.hp_model.specs.machine.Plan.{Plan, Finish, Ask, Reply}
+use Rattle.hp_model.specs.pool.Pool.{section}
+use Rattle.hp_model.specs.pool.PoolCounts.{Pool, used}
+use Rattle.hp_model.specs.machine.SlotEvent.{slot_event}
+use Rattle.hp_model.specs.machine.State.{State, slot_at}
+use Rattle.hp_model.specs.machine.Step.{Script, Answer_with, Do, Where_mapped, script}
 
 abbrev row_numbers : NodeRow → List ℕ
 row_numbers r = r.frames ∷ r.total ∷ r.free ∷ r.surp ∷ []

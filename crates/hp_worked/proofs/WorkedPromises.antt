@@ -11,16 +11,16 @@ use Rattle.hp_model.specs.declared.step.Sharing.TheVariants.{Shared, Private}
 use Rattle.hp_model.specs.declared.step.Step.{Step}
 use Rattle.hp_model.specs.declared.step.Step.TheVariants.{Connect, Create, Df, Fork, Load, Map, Meminfo, Mount, Nr, Punch, Store, Truncate, Unmap}
 use Rattle.hp_model.specs.declared.place.Place.TheVariants.{Gone, Live}
-use Rattle.hp_model.specs.File.{File, cell_at, new_file, with_file, with_map}
-use Rattle.hp_model.specs.Machine.{committed_pages, counts_in, pool_of}
-use Rattle.hp_model.specs.Mapping.{Map as MapOf, copy_of, is_shared, no_map, place_at, with_place}
-use Rattle.hp_model.specs.NodeRows.{free_of, total_of}
-use Rattle.hp_model.specs.Plain.{plain_step}
-use Rattle.hp_model.specs.Plan.{Slot}
-use Rattle.hp_model.specs.Promises.{LeavesAll, LosesTo, Makes, SameFiles, SameLimits, Shape, StillMapped, StillNamed, Tells, file_in, is_backed_step, is_cut_off_step, is_ended_number, least_of, map_at, map_named, seen_in, seen_over, shown_in, shown_on, stored_over, named_on, map_in}
-use Rattle.hp_model.specs.Spot.{Spot}
-use Rattle.hp_model.specs.State.{Node, State, slot_at, with_slot}
-use Rattle.hp_model.specs.Value.{shown, value}
+use Rattle.hp_model.specs.files.File.{File, cell_at, new_file, with_file, with_map}
+use Rattle.hp_model.specs.machine.Machine.{committed_pages, counts_in, pool_of}
+use Rattle.hp_model.specs.files.Mapping.{Map as MapOf, copy_of, is_shared, no_map, place_at, with_place}
+use Rattle.hp_model.specs.pool.NodeRows.{free_of, total_of}
+use Rattle.hp_model.specs.machine.Plain.{plain_step}
+use Rattle.hp_model.specs.machine.Plan.{Slot}
+use Rattle.hp_model.specs.machine.Promises.{LeavesAll, LosesTo, Makes, SameFiles, SameLimits, Shape, StillMapped, StillNamed, Tells, file_in, is_backed_step, is_cut_off_step, is_ended_number, least_of, map_at, map_named, seen_in, seen_over, shown_in, shown_on, stored_over, named_on, map_in}
+use Rattle.hp_model.specs.files.Spot.{Spot}
+use Rattle.hp_model.specs.machine.State.{Node, State, slot_at, with_slot}
+use Rattle.hp_model.specs.files.Value.{shown, value}
 use Rattle.hp_worked.proofs.WorkedWords.{machine}
 
 abbrev pub after_all : State → List Step → State

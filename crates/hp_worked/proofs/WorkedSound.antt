@@ -5,14 +5,14 @@ use Rattle.hp_model.specs.declared.place.Place.TheVariants.{Live}
 use Rattle.hp_model.specs.declared.step.Reserving.TheVariants.{Reserve}
 use Rattle.hp_model.specs.declared.step.Sharing.TheVariants.{Private, Shared}
 use Rattle.hp_model.specs.declared.step.Step.TheVariants.{Connect, Create, Fork, Map as MapStep, Nr, Store}
-use Rattle.hp_model.specs.File.{File, Mount, file_in, map_in, new_file, with_file, with_map}
-use Rattle.hp_model.specs.MakeMap.{with_new}
-use Rattle.hp_model.specs.Machine.{open_mount}
-use Rattle.hp_model.specs.Mapping.{Map, copy_of, no_map, place_at, with_place}
-use Rattle.hp_model.specs.Page.{Copy}
-use Rattle.hp_model.specs.Plan.{Slot}
-use Rattle.hp_model.specs.Sound.{HasCopy, IsSoundMount}
-use Rattle.hp_model.specs.State.{slot_at}
+use Rattle.hp_model.specs.files.File.{File, Mount, file_in, map_in, new_file, with_file, with_map}
+use Rattle.hp_model.specs.files.MakeMap.{with_new}
+use Rattle.hp_model.specs.machine.Machine.{open_mount}
+use Rattle.hp_model.specs.files.Mapping.{Map, copy_of, no_map, place_at, with_place}
+use Rattle.hp_model.specs.files.Page.{Copy}
+use Rattle.hp_model.specs.machine.Plan.{Slot}
+use Rattle.hp_model.specs.machine.Sound.{HasCopy, IsSoundMount}
+use Rattle.hp_model.specs.machine.State.{slot_at}
 use Rattle.hp_worked.proofs.WorkedPromises.{after_all}
 use Rattle.hp_worked.proofs.WorkedWords.{machine}
 

@@ -17,18 +17,18 @@ use Rattle.hp_model.specs.declared.event.SlotEvent.TheVariants.{Create, Map as M
 use Rattle.hp_model.specs.declared.event.TableEvent.TheVariants.{Add, Find}
 use Rattle.hp_model.specs.declared.step.Sharing.TheVariants.{Shared}
 use Rattle.hp_model.specs.declared.step.Reserving.TheVariants.{Reserve}
-use Rattle.hp_model.specs.Differ.{IsBefore, Differ, Has, entry_at}
-use Rattle.hp_model.specs.File.{with_file, new_file}
-use Rattle.hp_model.specs.JointRun.{keep, numbered, slot_part, told, Trails, slot_trail, Entry, InTasks, InSlot, InPool, Item, IsThere, Joins, AreRuns, IsJointRun}
-use Rattle.hp_model.specs.LocalRun.{IsLocalRun}
-use Rattle.hp_model.specs.Machine.{start, open_mount, pool_of}
-use Rattle.hp_model.specs.MakeMap.{mapped, with_new}
-use Rattle.hp_model.specs.Plan.{Slot, Choice, Reply}
-use Rattle.hp_model.specs.Pool.{section, granted_at}
+use Rattle.hp_model.specs.threads.Differ.{IsBefore, Differ, Has, entry_at}
+use Rattle.hp_model.specs.files.File.{with_file, new_file}
+use Rattle.hp_model.specs.threads.JointRun.{keep, numbered, slot_part, told, Trails, slot_trail, Entry, InTasks, InSlot, InPool, Item, IsThere, Joins, AreRuns, IsJointRun}
+use Rattle.hp_model.specs.threads.LocalRun.{IsLocalRun}
+use Rattle.hp_model.specs.machine.Machine.{start, open_mount, pool_of}
+use Rattle.hp_model.specs.files.MakeMap.{mapped, with_new}
+use Rattle.hp_model.specs.machine.Plan.{Slot, Choice, Reply}
+use Rattle.hp_model.specs.pool.Pool.{section, granted_at}
 use Rattle.hp_model.specs.declared.section.Section.TheVariants.{Grant}
-use Rattle.hp_model.specs.PoolCounts.{Pool}
-use Rattle.hp_model.specs.Resize.{pool_event}
-use Rattle.hp_model.specs.State.{State, slot_at}
+use Rattle.hp_model.specs.pool.PoolCounts.{Pool}
+use Rattle.hp_model.specs.pool.Resize.{pool_event}
+use Rattle.hp_model.specs.machine.State.{State, slot_at}
 use Rattle.hp_laws.proofs.JoinedRun.{joined_law}
 use Rattle.hp_laws.proofs.StaysSettled.{start_is_settled}
 

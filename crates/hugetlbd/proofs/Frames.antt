@@ -4,7 +4,7 @@ use Rattle.std.proofs.Math.ListN.{get_or-map}
 use Rattle.std.proofs.Math.Seq.{get_or-append_seam}
 use Rattle.std.proofs.lemmas.List.{length-append, length-map}
 use Rattle.std.proofs.lemmas.List.Splits.{length-slice_split}
-use Rattle.hp_model.specs.Words.{number_of}
+use Rattle.hp_model.specs.text.Words.{number_of}
 use Rattle.hp_model.specs.declared.refusal.Refusal.{Refusal}
 use Rattle.hugetlbd.specs.Asked.{CanBeFrames, pieces}
 

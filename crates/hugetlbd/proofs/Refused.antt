@@ -10,7 +10,7 @@ use Rattle.clap.specs.declared.error.Error.{Error}
 use Rattle.clap.specs.declared.error.kind.ErrorKind.{ErrorKind}
 use Rattle.clap.specs.declared.error.kind.ErrorKind.TheVariants.{OutOfMemory}
 use Rattle.hugetlbd.proofs.Commands.{Found}
-use Rattle.hp_model.specs.Words.{number_of}
+use Rattle.hp_model.specs.text.Words.{number_of}
 use Rattle.hugetlbd.specs.Asked.{Asks, CanBeFrames, CanBePage, CanBeSlots, HasBadValue, IsBad, IsRefusedFor, IsWrongIn, IsWrongOf, Sets, has_options, hugetlbd, options_of, pieces}
 use Rattle.hugetlbd.specs.Config.{Choice, IsFrames, IsPage, IsSlots, IsWithinLimits}
 use Rattle.hugetlbd.specs.Program.{IsStatusOfWrong}

@@ -1,8 +1,8 @@
 -- A run of a machine, from the run of one that starts as it.
 use Rattle.std.proofs.Common.{◌≡◌, ℕ, List, arith, subst, Option, Some, None, Result, Ok, Err, OnOk, IfErr, IfSome}
 use Rattle.std.specs.Io.KnownBytes.{Consumes}
-use Rattle.hp_model.specs.Promises.{IsPromisedStep}
-use Rattle.hp_model.specs.State.{State}
+use Rattle.hp_model.specs.machine.Promises.{IsPromisedStep}
+use Rattle.hp_model.specs.machine.State.{State}
 use Rattle.hp_wire.specs.Served.{AnswersInput, Serves, IsMemoryOrTooLong}
 use Rattle.hp_wire.specs.declared.fault.RunFault.{RunFault}
 use Rattle.hugetlbd.specs.Program.{AnswersScript, Run, status_of}

@@ -4,7 +4,7 @@ use Rattle.std.proofs.lemmas.List.{length-map}
 use lib.Count.{ones}
 use Rattle.clap.proofs.OnLiterals.{clap_on_literals}
 use Rattle.clap.specs.Words.{Text}
-use Rattle.hp_model.specs.Machine.{start}
+use Rattle.hp_model.specs.machine.Machine.{start}
 use Rattle.hugetlbd.proofs.Refused.{only_memory, right_is_1}
 use Rattle.hugetlbd.specs.Asked.{Asks, IsRefusedFor, Sets}
 use Rattle.hugetlbd.specs.Config.{Choice, IsWithinLimits, chosen, usual}

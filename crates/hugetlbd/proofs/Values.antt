@@ -4,7 +4,7 @@ use Rattle.std.specs.Borrow.{Bor}
 use Rattle.std.specs.Int.{is_power_of_two}
 use lib.Count.{ones}
 use Rattle.clap.specs.Words.{Text}
-use Rattle.hp_model.specs.Words.{number_of}
+use Rattle.hp_model.specs.text.Words.{number_of}
 use Rattle.hugetlbd.specs.Asked.{CanBePage}
 
 bad_shown : (given : Option (Bor Text)) (CanBe : Text → Type 0) → IsSomeAnd given (λ text. CanBe text.now → ⊥) → IsSomeAnd (option_map (λ s. s.now) given) (λ text. CanBe text → ⊥)

@@ -1,8 +1,8 @@
 -- What a configuration holds, and its limits.
 use Rattle.std.specs.Prelude.{◌≤◌, ℕ, List, [], ◌∷◌, IsTrue, All, length}
 use Rattle.std.specs.Int.{is_power_of_two}
-use Rattle.hp_model.specs.Machine.{start}
-use Rattle.hp_model.specs.State.{State}
+use Rattle.hp_model.specs.machine.Machine.{start}
+use Rattle.hp_model.specs.machine.State.{State}
 use Rattle.hugetlbd.specs.declared.settings.Config.{Config}
 use Rattle.hugetlbd.specs.declared.settings.Config.TheVariants.{Script}
 use Rattle.hugetlbd.specs.declared.settings.Machine.{Machine}

@@ -4,8 +4,8 @@ use Rattle.std.specs.Io.KnownBytes.{Appends, Consumes}
 use Rattle.clap.specs.Values.{kind_of}
 use Rattle.clap.specs.declared.error.Error.{Error}
 use Rattle.clap.specs.declared.error.kind.ErrorKind.TheVariants.{DisplayHelp, DisplayVersion}
-use Rattle.hp_model.specs.State.{State}
-use Rattle.hp_model.specs.Promises.{IsPromisedStep}
+use Rattle.hp_model.specs.machine.State.{State}
+use Rattle.hp_model.specs.machine.Promises.{IsPromisedStep}
 use Rattle.hp_wire.specs.Sent.{AppendsFront}
 use Rattle.hp_wire.specs.Served.{AnswersInput, Serves, IsMemoryOrTooLong, text_of_fault}
 use Rattle.hp_wire.specs.declared.fault.RunFault.{RunFault}

@@ -1,7 +1,7 @@
 //! The command line.
 ghost use Rattle.std.specs.Prelude.{◌≡◌, ◌≤◌, ◌∷◌, [], false, map, option_map, IfErr, IfOk, IsSomeAnd, MatchOption, Ok};
 ghost use Rattle.clap.specs.Words.{app_of, first_of, rule_of};
-ghost use Rattle.hp_model.specs.Words.{number_of};
+ghost use Rattle.hp_model.specs.text.Words.{number_of};
 ghost use Rattle.hugetlbd.specs.Asked.{Asks, IsBadValue, IsNoneWithin, IsNumberOr, IsNumberWithin, IsRefusedFor, IsWrongFrames, IsWrongIn, IsWrongOf, Sets, hugetlbd, option, options_in, has_options, pieces};
 ghost use Rattle.hugetlbd.specs.Config.{IsFrames, IsWithinLimits, choice_in, choice_of};
 

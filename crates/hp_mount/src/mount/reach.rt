@@ -1,18 +1,18 @@
 //! Accesses through maps: each sees to it that there is a page.
 ghost use Rattle.std.specs.Prelude.{◌≡◌, ◌≢◌, ℕ, ◌+◌, ◌<◌, ◌≤◌, ◌^◌, length, Err, IfErr, IfOk, OnOk, OnErr, Some, None, true, false, IfNone, IfSome};
 ghost use Rattle.hp_model.specs.declared.cell.Cell.TheVariants.{Entered, Hole};
-ghost use Rattle.hp_model.specs.Access.{shared_access, access};
+ghost use Rattle.hp_model.specs.files.Access.{shared_access, access};
 ghost use Rattle.hp_model.specs.declared.event.SlotEvent.TheVariants.{Load, Store, Fault};
-ghost use Rattle.hp_model.specs.Mapping.{is_shared};
-ghost use Rattle.hp_model.specs.SlotEvent.{byte_tests, bytes_answer, fault_tests};
-ghost use Rattle.hp_model.specs.Value.{value};
+ghost use Rattle.hp_model.specs.files.Mapping.{is_shared};
+ghost use Rattle.hp_model.specs.machine.SlotEvent.{byte_tests, bytes_answer, fault_tests};
+ghost use Rattle.hp_model.specs.files.Value.{value};
 ghost use Rattle.hp_model.specs.declared.refusal.Refusal.TheVariants as Refusal;
-ghost use Rattle.hp_model.specs.File.{cell_at, is_entered, with_cell, with_file};
-ghost use Rattle.hp_model.specs.MountCounts.{usage_of};
-ghost use Rattle.hp_model.specs.Page.{Page as PageValue, zeros};
-ghost use Rattle.hp_model.specs.Promises.{file_in, is_backed, map_in};
+ghost use Rattle.hp_model.specs.files.File.{cell_at, is_entered, with_cell, with_file};
+ghost use Rattle.hp_model.specs.files.MountCounts.{usage_of};
+ghost use Rattle.hp_model.specs.files.Page.{Page as PageValue, zeros};
+ghost use Rattle.hp_model.specs.machine.Promises.{file_in, is_backed, map_in};
 ghost use Rattle.hp_model.specs.declared.step.Intent.TheVariants.{Read, Write};
-ghost use Rattle.hp_model.specs.Spot.{Spot, cell_written};
+ghost use Rattle.hp_model.specs.files.Spot.{Spot, cell_written};
 ghost use Rattle.hp_subpool.specs.Subpool.{Subpool as ShareValue};
 ghost use Rattle.hp_mount.specs.Done.{IsAccessed, IsDone, IsReached};
 ghost use Rattle.hp_mount.specs.Found.{Fits, IsPlaced, IsTouched, first_of, spot_at, spot_of, tests_of, why_not};

@@ -2,9 +2,9 @@
 ghost use Rattle.std.specs.Prelude.{◌≡◌, ◌≢◌, length, true, false, Err};
 ghost use Rattle.hp_model.specs.declared.refusal.Refusal.TheVariants as Refusal;
 ghost use Rattle.hp_model.specs.declared.event.SlotEvent.TheVariants.{Mount as Mounting, Umount as Umounting};
-ghost use Rattle.hp_model.specs.Options.{limits, wanted_of};
-ghost use Rattle.hp_model.specs.State.{slot_at};
-ghost use Rattle.hp_model.specs.Writing.{IsWithinLimits};
+ghost use Rattle.hp_model.specs.files.Options.{limits, wanted_of};
+ghost use Rattle.hp_model.specs.machine.State.{slot_at};
+ghost use Rattle.hp_model.specs.text.Writing.{IsWithinLimits};
 ghost use Rattle.hp_mount.specs.Event.{event_of, is_usage};
 ghost use Rattle.hp_mount.specs.Memory.{asks_memory};
 ghost use Rattle.hp_system.specs.Event.{DoesOfTask, DoesOnSlot};

@@ -2,12 +2,12 @@
 ghost use Rattle.std.specs.Prelude.{◌≡◌, ◌≢◌, true, false, Err, IfOk, OnErr};
 ghost use Rattle.hp_model.specs.declared.refusal.Refusal.TheVariants as Refusal;
 ghost use Rattle.hp_model.specs.declared.step.Step.TheVariants.{Connect, Map as MapStep, Nr, Meminfo};
-ghost use Rattle.hp_model.specs.Promises.{is_usage, IsPromised, IsPromisedRun};
+ghost use Rattle.hp_model.specs.machine.Promises.{is_usage, IsPromised, IsPromisedRun};
 ghost use Rattle.hp_model.specs.declared.step.Reserving.TheVariants.{Reserve};
 ghost use Rattle.hp_model.specs.declared.step.Sharing.TheVariants.{Shared};
-ghost use Rattle.hp_model.specs.Step.{IsStep};
-ghost use Rattle.hp_model.specs.Writing.{IsWithinLimits};
-ghost use Rattle.hp_model.specs.Promises.{takes_memory};
+ghost use Rattle.hp_model.specs.machine.Step.{IsStep};
+ghost use Rattle.hp_model.specs.text.Writing.{IsWithinLimits};
+ghost use Rattle.hp_model.specs.machine.Promises.{takes_memory};
 
 use super::System;
 use hp_model::answer::{Answer, Reply};
@@ -80,7 +80,7 @@ impl<N: Naming> System<N> {
     }
 
     // Maps indices of a file, shared.
-    #[tactic(auto, unfolding(hp_model::specs::Step::IsStep))]
+    #[tactic(auto, unfolding(hp_model::specs::machine::Step::IsStep))]
     fn map_shared(&mut self, task: u64, slot: u64, name: &Bytes, start: u64, pages: u64) -> Reply
         ensures step { IsStep self.old (MapStep task slot name.now start pages Shared Reserve)
             result self.new }
@@ -96,7 +96,7 @@ impl<N: Naming> System<N> {
     }
 
     // The step's own function.
-    #[tactic(auto, unfolding(hp_model::specs::Step::IsStep))]
+    #[tactic(auto, unfolding(hp_model::specs::machine::Step::IsStep))]
     fn answer(&mut self, step: &Step) -> Reply
         ensures step { IsStep self.old step.now result self.new }
         ensures usage { is_usage step.now ≡ true → IsWithinLimits result }

@@ -1,6 +1,6 @@
 //! Worked sequences: how pages go round the nodes, become surplus and leave the pool.
 ghost use Rattle.std.specs.Prelude.{◌≡◌, ◌≤◌};
-ghost use Rattle.hp_model.specs.PoolCounts.{IsSettled};
+ghost use Rattle.hp_model.specs.pool.PoolCounts.{IsSettled};
 ghost use Rattle.hp_pool.specs.Ledgers.{AreLedgers};
 
 use super::{is_refused, shows};

@@ -19,7 +19,7 @@ struct Core<N: Naming> {
 }
 
 impl<N: Naming> Model for Core<N> {
-    ghost use Rattle.hp_model.specs.PoolCounts.{Pool, IsSettled};
+    ghost use Rattle.hp_model.specs.pool.PoolCounts.{Pool, IsSettled};
 
     ghost Value = { Pool };
 

@@ -1,5 +1,5 @@
 use Rattle.std.proofs.Common.{◌≡◌, take, map, length, vec_len, vec_capacity}
-use Rattle.hp_model.specs.Mapping.{unconsumed}
+use Rattle.hp_model.specs.files.Mapping.{unconsumed}
 use Rattle.hp_mapping.proofs.places.forked.Given as goal
 
 abbrev pub invariant-loop-place : goal.invariant-loop-place

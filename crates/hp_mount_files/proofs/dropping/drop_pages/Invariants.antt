@@ -1,6 +1,6 @@
 use Rattle.std.specs.Prelude.{◌≡◌, length}
 use Rattle.std.specs.List.{count_by, sum_by}
-use Rattle.hp_model.specs.File.{has_page}
+use Rattle.hp_model.specs.files.File.{has_page}
 use Rattle.hp_mount_files.specs.Dropping.{IsDropping}
 use Rattle.hp_mount_files.specs.Held.{in_cell}
 use Rattle.hp_mount_files.proofs.dropping.drop_pages.Given as goal

@@ -1,6 +1,6 @@
 use Rattle.std.proofs.Common.{◌≡◌, ◌+◌}
-use Rattle.hp_model.specs.NodeRows.{sum_row}
-use Rattle.hp_model.specs.Grant.{surplus_times}
+use Rattle.hp_model.specs.pool.NodeRows.{sum_row}
+use Rattle.hp_model.specs.pool.Grant.{surplus_times}
 use Rattle.hp_pool.proofs.moves.add_surplus.Given as goal
 
 abbrev pub invariant-loop-done : goal.invariant-loop-done

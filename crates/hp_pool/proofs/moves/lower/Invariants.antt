@@ -1,6 +1,6 @@
 use Rattle.std.proofs.Common.{◌≡◌, ◌+◌, ◌<◌, ◌≤◌}
-use Rattle.hp_model.specs.NodeRows.{sum_row}
-use Rattle.hp_model.specs.Resize.{lower_times}
+use Rattle.hp_model.specs.pool.NodeRows.{sum_row}
+use Rattle.hp_model.specs.pool.Resize.{lower_times}
 use Rattle.hp_pool.proofs.moves.lower.Given as goal
 
 abbrev pub invariant-loop-done : goal.invariant-loop-done

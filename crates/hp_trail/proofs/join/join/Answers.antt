@@ -4,8 +4,8 @@ use Rattle.std.specs.Prelude.{MatchOption}
 use Rattle.std.proofs.lemmas.Bool.Decides.{eqb_tells}
 use Rattle.std.proofs.lemmas.List.Elements.{Contains-append_left, Contains-push}
 use Rattle.hp_model.specs.declared.entry.Receipt.{Receipt}
-use Rattle.hp_model.specs.Differ.{Differ}
-use Rattle.hp_model.specs.JointRun.{Trails}
+use Rattle.hp_model.specs.threads.Differ.{Differ}
+use Rattle.hp_model.specs.threads.JointRun.{Trails}
 use Rattle.hp_trail.specs.Tellers.{AreRight, AreTold, HaveSections, Rows, teller}
 use Rattle.hp_trail.specs.Walk.{HaveEnded, IsLeft, IsWoken, Walking, cursor, lists, trails_of}
 use Rattle.hp_trail.proofs.Covering.{all_wait}

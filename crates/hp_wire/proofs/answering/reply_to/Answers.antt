@@ -1,7 +1,7 @@
 use Rattle.std.proofs.Common.{◌≡◌, length, nat_le, true, arith, ap, cond, Ok, Err}
 use Rattle.std.proofs.lemmas.Bool.Decides.{nat_tests}
-use Rattle.hp_model.specs.Lines.{Line, ended}
-use Rattle.hp_model.specs.Reading.{step_of, step_of_bytes}
+use Rattle.hp_model.specs.text.Lines.{Line, ended}
+use Rattle.hp_model.specs.text.Reading.{step_of, step_of_bytes}
 use Rattle.hp_model.specs.declared.refusal.Refusal.TheVariants.{LineTooLong}
 use Rattle.hp_wire.proofs.Known.{answers_read}
 use Rattle.hp_wire.proofs.answering.reply_to.Goals as goal

@@ -1,4 +1,4 @@
-use Rattle.hp_model.specs.Promises.{IsPromisedStep}
+use Rattle.hp_model.specs.machine.Promises.{IsPromisedStep}
 use Rattle.hp_wire.proofs.Scripts.{ran_script}
 use Rattle.hp_wire.proofs.script.run_script.Goals as goal
 

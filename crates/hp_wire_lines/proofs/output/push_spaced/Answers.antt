@@ -1,5 +1,5 @@
 use Rattle.std.proofs.Common.{arith, ap, length, drop, get_or, ◌+◌, ◌++◌, length-append, codes, decimal}
-use Rattle.hp_model.specs.Writing.{spaced}
+use Rattle.hp_model.specs.text.Writing.{spaced}
 use Rattle.hp_text.proofs.Added.{adding_more, flat_map_cut}
 use Rattle.hp_wire_lines.proofs.output.push_spaced.Goals as goal
 

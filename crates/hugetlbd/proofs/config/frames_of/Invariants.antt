@@ -1,5 +1,5 @@
 use Rattle.std.proofs.Common.{◌≡◌, ◌≤◌, ◌++◌, length, map, All, Ok}
-use Rattle.hp_model.specs.Words.{number_of}
+use Rattle.hp_model.specs.text.Words.{number_of}
 use Rattle.hugetlbd.specs.Asked.{pieces}
 use Rattle.hugetlbd.proofs.config.frames_of.Given as goal
 

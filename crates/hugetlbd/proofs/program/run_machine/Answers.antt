@@ -1,5 +1,5 @@
 use Rattle.std.proofs.Common.{◌≡◌, ◌∙◌, ℕ, List, ap, rules}
-use Rattle.hp_model.specs.Machine.{start}
+use Rattle.hp_model.specs.machine.Machine.{start}
 use Rattle.hugetlbd.proofs.Runs.{run_ended, script_answered}
 use Rattle.hugetlbd.proofs.program.run_machine.Goals as goal
 

@@ -1,5 +1,5 @@
 use Rattle.std.proofs.Common.{ap, ◌∙◌, arith}
-use Rattle.hp_model.specs.File.{at_least, entered}
+use Rattle.hp_model.specs.files.File.{at_least, entered}
 use Rattle.hp_model.specs.Lists.{edit_range}
 use Rattle.hp_inode.specs.Ready.{Ready}
 use Rattle.hp_inode.proofs.Readying.{few_entered, few_missing, enter_kept, enter_cells}

@@ -1,6 +1,6 @@
 use Rattle.std.proofs.Common.{◌<◌, Ok, Err, Some, length, refl, sym, ap, subst, ◌∙◌}
 use Rattle.hp_model.specs.declared.answer.Answer.TheVariants.{MapNo}
-use Rattle.hp_model.specs.File.{Mount, with_file}
+use Rattle.hp_model.specs.files.File.{Mount, with_file}
 use Rattle.hp_mount_files.specs.Asking.{IsAsked, IsGranted, with_shared}
 use Rattle.hp_mount.specs.Done.{Tried}
 use Rattle.hp_mount.specs.Kept.{mount_of}

@@ -1,7 +1,7 @@
 use Rattle.std.proofs.Common.{◌≡◌, Bool, Ok, Some, true, false, not, refl, sym, subst}
 use Rattle.hp_model.specs.declared.event.SlotEvent.TheVariants.{Create, Df}
-use Rattle.hp_model.specs.Plan.{Choice, Slot}
-use Rattle.hp_model.specs.SlotEvent.{slot_event}
+use Rattle.hp_model.specs.machine.Plan.{Choice, Slot}
+use Rattle.hp_model.specs.machine.SlotEvent.{slot_event}
 use Rattle.hp_mount.specs.declared.event.MountEvent.{MountEvent}
 use Rattle.hp_mount.specs.Done.{IsDone}
 use Rattle.hp_mount.specs.Event.{event_of}

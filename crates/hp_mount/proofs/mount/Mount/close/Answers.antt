@@ -1,9 +1,9 @@
 use Rattle.std.proofs.Common.{List, Ok, None, Some, ap, subst, arith}
 use Rattle.hp_model.specs.declared.answer.Answer.TheVariants.{Done}
-use Rattle.hp_model.specs.File.{Mount}
-use Rattle.hp_model.specs.LocalRun.{ThroughDoor}
-use Rattle.hp_model.specs.Page.{Page}
-use Rattle.hp_model.specs.Plan.{gives}
+use Rattle.hp_model.specs.files.File.{Mount}
+use Rattle.hp_model.specs.threads.LocalRun.{ThroughDoor}
+use Rattle.hp_model.specs.files.Page.{Page}
+use Rattle.hp_model.specs.machine.Plan.{gives}
 use Rattle.hp_mount_door.specs.Door.{GivesBack}
 use Rattle.hp_mount.specs.Kept.{mount_of}
 use Rattle.hp_mount.proofs.Ending.{ended}

@@ -1,11 +1,11 @@
 use Rattle.std.proofs.Common.{◌≡◌, ◌<◌, length, sym, ap, subst, ◌∙◌}
 use Rattle.hp_mount_door.specs.Door.{with_page}
-use Rattle.hp_model.specs.File.{Mount, cell_at, with_cell, with_file}
+use Rattle.hp_model.specs.files.File.{Mount, cell_at, with_cell, with_file}
 use Rattle.hp_model.specs.declared.cell.Cell.TheVariants.{Entered, Present}
-use Rattle.hp_model.specs.Page.{Page}
+use Rattle.hp_model.specs.files.Page.{Page}
 use Rattle.hp_model.specs.declared.section.Section.TheVariants.{TakePage}
-use Rattle.hp_model.specs.Pool.{granted_at}
-use Rattle.hp_model.specs.Promises.{file_in}
+use Rattle.hp_model.specs.pool.Pool.{granted_at}
+use Rattle.hp_model.specs.machine.Promises.{file_in}
 use Rattle.hp_mount.proofs.Keeping.{entry_kept, entry_left}
 use Rattle.hp_mount.proofs.Shared.{shared_entered}
 use Rattle.hp_mount.proofs.mount.Mount.fill_entry.Goals as goal

@@ -1,12 +1,12 @@
 use Rattle.std.proofs.Common.{◌≡◌, ◌<◌, length, refl, sym, ap, subst, ◌∙◌, arith}
 use Rattle.hp_mount_door.specs.Door.{with_granted, IsDoorRefusal}
-use Rattle.hp_model.specs.File.{Mount, cell_at, with_cell, with_file}
+use Rattle.hp_model.specs.files.File.{Mount, cell_at, with_cell, with_file}
 use Rattle.hp_model.specs.declared.cell.Cell.TheVariants.{Hole, Present}
-use Rattle.hp_model.specs.Grant as grant
-use Rattle.hp_model.specs.Page.{Page}
+use Rattle.hp_model.specs.pool.Grant as grant
+use Rattle.hp_model.specs.files.Page.{Page}
 use Rattle.hp_model.specs.declared.section.Section.TheVariants.{GrantPage}
-use Rattle.hp_model.specs.Pool.{granted_at, no_pages}
-use Rattle.hp_model.specs.Promises.{file_in}
+use Rattle.hp_model.specs.pool.Pool.{granted_at, no_pages}
+use Rattle.hp_model.specs.machine.Promises.{file_in}
 use Rattle.hp_mount_files.specs.Files.{filled_at, with_cell_at}
 use Rattle.hp_mount.specs.Kept.{mount_of}
 use Rattle.hp_mount.proofs.Keeping.{full_is, rise_is, hole_kept, hole_keeps, hole_stays, granted_left, room_left}

@@ -1,11 +1,11 @@
 use Rattle.std.proofs.Common.{◌≡◌, Ok, Some, refl, sym, ap, subst, ◌∙◌}
 use Rattle.hp_model.specs.declared.answer.Answer.TheVariants.{Done}
 use Rattle.hp_model.specs.declared.step.Intent.TheVariants.{Read}
-use Rattle.hp_model.specs.LocalRun.{Gives}
-use Rattle.hp_model.specs.Plan.{and_then}
-use Rattle.hp_model.specs.Spot.{Spot}
-use Rattle.hp_model.specs.SlotEvent.{bytes_answer}
-use Rattle.hp_model.specs.Value.{value}
+use Rattle.hp_model.specs.threads.LocalRun.{Gives}
+use Rattle.hp_model.specs.machine.Plan.{and_then}
+use Rattle.hp_model.specs.files.Spot.{Spot}
+use Rattle.hp_model.specs.machine.SlotEvent.{bytes_answer}
+use Rattle.hp_model.specs.files.Value.{value}
 use Rattle.hp_mount.specs.declared.mount.reach.Asked.TheVariants.{Bytes}
 use Rattle.hp_mount.specs.Found.{IsPlaced, spot_at, spot_of, why_not}
 use Rattle.hp_mount.proofs.Commands.{again_is, backed_not_memory, denied, early_not_memory, follows, loads, not_begun, went, why_is_early}

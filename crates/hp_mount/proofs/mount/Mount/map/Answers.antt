@@ -2,11 +2,11 @@ use Rattle.std.proofs.Common.{◌≡◌, Err, None, Some, subst}
 use Rattle.hp_model.specs.declared.answer.Answer.TheVariants.{MapNo}
 use Rattle.hp_model.specs.declared.step.Reserving.TheVariants.{Reserve}
 use Rattle.hp_model.specs.declared.step.Sharing.TheVariants.{Shared}
-use Rattle.hp_model.specs.File.{Mount, with_file}
-use Rattle.hp_model.specs.MakeMap.{asked, mapped}
-use Rattle.hp_model.specs.Plan.{Answered, Choice, grant}
-use Rattle.hp_model.specs.Promises.{file_in}
-use Rattle.hp_model.specs.SlotEvent.{file_named}
+use Rattle.hp_model.specs.files.File.{Mount, with_file}
+use Rattle.hp_model.specs.files.MakeMap.{asked, mapped}
+use Rattle.hp_model.specs.machine.Plan.{Answered, Choice, grant}
+use Rattle.hp_model.specs.machine.Promises.{file_in}
+use Rattle.hp_model.specs.machine.SlotEvent.{file_named}
 use Rattle.hp_mount.specs.Done.{Tried}
 use Rattle.hp_mount.specs.Making.{numbered}
 use Rattle.hp_mount.proofs.Making.{map_nowhere, map_refused, map_went}

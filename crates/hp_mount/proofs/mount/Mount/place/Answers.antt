@@ -1,9 +1,9 @@
 use Rattle.std.proofs.Common.{◌≡◌, ◌<◌, None, Some, length, sym, ap, subst, ◌∙◌}
 use Rattle.hp_model.specs.declared.limits.Limits.{Limits}
-use Rattle.hp_model.specs.File.{Mount}
-use Rattle.hp_model.specs.Mapping.{is_map}
-use Rattle.hp_model.specs.Promises.{file_in}
-use Rattle.hp_model.specs.Spot.{spot}
+use Rattle.hp_model.specs.files.File.{Mount}
+use Rattle.hp_model.specs.files.Mapping.{is_map}
+use Rattle.hp_model.specs.machine.Promises.{file_in}
+use Rattle.hp_model.specs.files.Spot.{spot}
 use Rattle.hp_mount.specs.Found.{IsPlaced, first_of, spot_at, tests_of}
 use Rattle.hp_mount.specs.Kept.{mount_of}
 use Rattle.hp_mount.proofs.Commands.{why_of}

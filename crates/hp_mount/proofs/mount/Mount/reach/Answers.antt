@@ -1,7 +1,7 @@
 use Rattle.std.proofs.Common.{refl, sym, Some}
-use Rattle.hp_model.specs.Access.{access, shared_access}
-use Rattle.hp_model.specs.File.{cell_at}
-use Rattle.hp_model.specs.Plan.{Choice}
+use Rattle.hp_model.specs.files.Access.{access, shared_access}
+use Rattle.hp_model.specs.files.File.{cell_at}
+use Rattle.hp_model.specs.machine.Plan.{Choice}
 use Rattle.hp_mount.specs.Done.{done}
 use Rattle.hp_mount.specs.Found.{spot_at}
 use Rattle.hp_mount.proofs.Commands.{tried_as, shared_is}

@@ -1,7 +1,7 @@
 use Rattle.std.proofs.Common.{◌<◌, ◌≤◌, length, refl, sym, ap, subst, ◌∙◌, arith}
-use Rattle.hp_model.specs.File.{Mount, cell_at, with_cell, with_file}
-use Rattle.hp_model.specs.Promises.{file_in}
-use Rattle.hp_model.specs.Spot.{cell_written}
+use Rattle.hp_model.specs.files.File.{Mount, cell_at, with_cell, with_file}
+use Rattle.hp_model.specs.machine.Promises.{file_in}
+use Rattle.hp_model.specs.files.Spot.{cell_written}
 use Rattle.hp_mount_files.specs.Files.{Files, file_at}
 use Rattle.hp_mount.proofs.Commands.{write_grows}
 use Rattle.hp_mount.proofs.Keeping.{grown, shared_here}

@@ -1,6 +1,6 @@
 use Rattle.std.proofs.Common.{◌≡◌, ◌<◌, ap, refl, subst, sym, ◌∙◌}
 use Rattle.hp_model.specs.declared.section.Section.TheVariants.{Grant}
-use Rattle.hp_model.specs.Pool.{granted_at}
+use Rattle.hp_model.specs.pool.Pool.{granted_at}
 use Rattle.hp_mount_door.specs.Door.{with_reserves}
 use Rattle.hp_subpool.specs.Subpool.{Subpool, rise}
 use Rattle.hp_mount_files.proofs.file.File.add_map.Goals as goal

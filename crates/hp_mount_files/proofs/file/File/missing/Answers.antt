@@ -1,6 +1,6 @@
 use Rattle.std.proofs.Common.{◌+◌, ◌-◌, min, ap, drop, take, ◌∙◌}
 use Rattle.std.specs.List.{count_by}
-use Rattle.hp_model.specs.File.{at_least, is_hole}
+use Rattle.hp_model.specs.files.File.{at_least, is_hole}
 use Rattle.hp_mount_files.specs.Numbered.{NumberedFile}
 use Rattle.hp_mount_files.proofs.Holes.{holes_known}
 use Rattle.hp_mount_files.proofs.file.File.missing.Goals as goal

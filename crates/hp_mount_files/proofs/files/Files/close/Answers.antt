@@ -2,7 +2,7 @@ use Rattle.std.proofs.Common.{◌≡◌, [], ap, sym, ◌∙◌, arith}
 use Rattle.std.specs.List.{sum_by}
 use Rattle.std.proofs.lemmas.List.{nil_from_length}
 use Rattle.std.proofs.lemmas.List.Sums.{sum_by_push}
-use Rattle.hp_model.specs.MountCounts.{file_pages, file_pages_at}
+use Rattle.hp_model.specs.files.MountCounts.{file_pages, file_pages_at}
 use Rattle.hp_mount_files.specs.Files.{Files}
 use Rattle.hp_mount_files.specs.Held.{in_file, in_files}
 use Rattle.hp_mount_files.proofs.Drops.{drop_part, gone_nodes, gone_pages, part_held}

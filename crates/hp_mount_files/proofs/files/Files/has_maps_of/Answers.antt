@@ -2,7 +2,7 @@ use Rattle.std.proofs.Common.{◌∙◌, ap, not, rules, tests}
 use Rattle.std.specs.List.{list_any}
 use Rattle.std.proofs.lemmas.Iterator.{YieldsList-from_slice}
 use Rattle.std.proofs.lemmas.Iterator.Search.{any_from_yields_List}
-use Rattle.hp_model.specs.Mapping.{is_of}
+use Rattle.hp_model.specs.files.Mapping.{is_of}
 use Rattle.hp_mount_files.specs.Asking.{is_first_of}
 use Rattle.hp_mount_files.specs.Files.{Files}
 use Rattle.hp_mount_files.specs.Numbered.{NumberedFile}

@@ -1,6 +1,6 @@
 use Rattle.std.proofs.Common.{◌<◌, not, map, sym, ap, ◌∙◌, arith}
-use Rattle.hp_model.specs.MakeMap.{numbers_of}
-use Rattle.hp_model.specs.Mapping.{Map}
+use Rattle.hp_model.specs.files.MakeMap.{numbers_of}
+use Rattle.hp_model.specs.files.Mapping.{Map}
 use Rattle.hp_mount_files.specs.Places.{all_maps}
 use Rattle.hp_mount_files.proofs.MapNumbers.{among_distinct}
 use Rattle.hp_mount_files.proofs.Used.{least_is, task_of_number, used_next}

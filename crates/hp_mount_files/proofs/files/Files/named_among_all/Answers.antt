@@ -3,7 +3,7 @@ use Rattle.std.specs.Prelude.{IfNone, IfSome, None}
 use Rattle.std.proofs.lemmas.Iterator.{YieldsList-from_slice}
 use Rattle.std.proofs.lemmas.Iterator.Search.{position_from_yields_List}
 use Rattle.hp_model.specs.Lists.{found}
-use Rattle.hp_model.specs.SlotEvent.{has_name}
+use Rattle.hp_model.specs.machine.SlotEvent.{has_name}
 use Rattle.hp_mount_files.specs.Files.{Files}
 use Rattle.hp_mount_files.specs.Keyed.{has_label, label_of}
 use Rattle.hp_mount_files.specs.Places.{IsNamed}

@@ -4,8 +4,8 @@ use Rattle.std.proofs.lemmas.List.{length-map, set-get_or}
 use Rattle.hp_model.specs.declared.step.Reserving.TheVariants.{Reserve}
 use Rattle.hp_model.specs.declared.step.Sharing.TheVariants.{Shared}
 use Rattle.hp_model.specs.Lists.{distinct, is_among}
-use Rattle.hp_model.specs.MakeMap.{mapped, numbers_of}
-use Rattle.hp_model.specs.Mapping.{Map}
+use Rattle.hp_model.specs.files.MakeMap.{mapped, numbers_of}
+use Rattle.hp_model.specs.files.Mapping.{Map}
 use Rattle.hp_mount_files.specs.Asking.{is_first_of, next_of}
 use Rattle.hp_mount_files.specs.Files.{Files, file_at, with_file_at}
 use Rattle.hp_mount_files.specs.Hints.{IsFiles}

@@ -2,8 +2,8 @@ use Rattle.std.proofs.Common.{refl, ◌<◌, ◌+◌, ◌-◌, length, ap, drop,
 use Rattle.std.specs.List.{count_by}
 use Rattle.hp_model.specs.declared.step.Reserving.TheVariants.{Reserve}
 use Rattle.hp_model.specs.declared.step.Sharing.TheVariants.{Shared}
-use Rattle.hp_model.specs.File.{at_least, is_hole}
-use Rattle.hp_model.specs.MakeMap.{asked}
+use Rattle.hp_model.specs.files.File.{at_least, is_hole}
+use Rattle.hp_model.specs.files.MakeMap.{asked}
 use Rattle.hp_mount_files.specs.Files.{Files, file_at}
 use Rattle.hp_mount_files.specs.Numbered.{NumberedFile}
 use Rattle.hp_mount_files.proofs.Holes.{asked_shown}

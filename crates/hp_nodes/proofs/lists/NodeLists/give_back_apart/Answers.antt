@@ -1,7 +1,7 @@
 use Rattle.std.proofs.Common.{rules, ◌≡◌, ◌<◌, length, slice_set, ◌≢◌, ap, ◌∙◌, arith}
 use Rattle.std.proofs.lemmas.Bool.Decides.{nat_tests}
 use Rattle.std.proofs.lemmas.List.{get_or_read, length-set, get_or-set_other}
-use Rattle.hp_model.specs.NodeRows.{row_at, IsRow, used, shrink_row, promote_row, give_back_row, sum_row, no_row}
+use Rattle.hp_model.specs.pool.NodeRows.{row_at, IsRow, used, shrink_row, promote_row, give_back_row, sum_row, no_row}
 use Rattle.hp_model.proofs.Sums.{shrink_sums, promote_sums}
 use Rattle.hp_nodes.proofs.Finds.{no_surplus}
 use Rattle.hp_nodes.proofs.Keeps.{kept_same}

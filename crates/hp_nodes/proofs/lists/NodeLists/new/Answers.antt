@@ -1,6 +1,6 @@
 use Rattle.std.proofs.Common.{◌≡◌, map, arith}
 use Rattle.std.proofs.lemmas.Grind.{common_steps}
-use Rattle.hp_model.specs.NodeRows.{idle_row}
+use Rattle.hp_model.specs.pool.NodeRows.{idle_row}
 use Rattle.hp_nodes.proofs.Keeps.{kept_new}
 use Rattle.hp_nodes.proofs.lists.NodeLists.new.Goals as goal
 

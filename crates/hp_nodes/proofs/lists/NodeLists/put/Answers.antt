@@ -1,7 +1,7 @@
 use Rattle.std.proofs.Common.{rules, ◌<◌, ap, ◌∙◌}
 use Rattle.std.proofs.lemmas.List.{get_or_read}
 use Rattle.std.specs.Prelude.{slice_index}
-use Rattle.hp_model.specs.NodeRows.{put_row, no_row}
+use Rattle.hp_model.specs.pool.NodeRows.{put_row, no_row}
 use Rattle.hp_nodes.proofs.Keeps.{kept_put, out_below, some_in_use}
 use Rattle.hp_nodes.proofs.lists.NodeLists.put.Goals as goal
 

@@ -1,5 +1,5 @@
 use Rattle.std.proofs.Common.{subst}
-use Rattle.hp_model.specs.Settled.{IsSettledState}
+use Rattle.hp_model.specs.machine.Settled.{IsSettledState}
 use Rattle.hp_laws.proofs.Promised.{promised}
 use Rattle.hp_laws.proofs.Small.{within_limits}
 use Rattle.hp_system.proofs.system.System.apply.Goals as goal

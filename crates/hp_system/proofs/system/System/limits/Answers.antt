@@ -1,6 +1,6 @@
 use Rattle.std.proofs.Common.{◌<◌, sym, ap, subst, ◌∙◌}
-use Rattle.hp_model.specs.Options.{limits, wanted_of}
-use Rattle.hp_model.specs.State.{State}
+use Rattle.hp_model.specs.files.Options.{limits, wanted_of}
+use Rattle.hp_model.specs.machine.State.{State}
 use Rattle.hp_system.proofs.system.System.limits.Goals as goal
 
 pub parse_options-requires : goal.parse_options-requires

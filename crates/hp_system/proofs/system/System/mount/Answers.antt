@@ -5,12 +5,12 @@ use Rattle.std.proofs.lemmas.Result.{err_from_is_err_and}
 use Rattle.hp_model.specs.declared.answer.Answer.TheVariants.{Done}
 use Rattle.hp_model.specs.declared.event.SlotEvent.TheVariants.{Mount}
 use Rattle.hp_model.specs.declared.refusal.Refusal.TheVariants.{SlotTaken}
-use Rattle.hp_model.specs.Grant.{can_grant}
-use Rattle.hp_model.specs.NodeRows.{total_of}
-use Rattle.hp_model.specs.Options.{limits, wanted_of}
-use Rattle.hp_model.specs.PoolCounts.{Pool}
-use Rattle.hp_model.specs.State.{State}
-use Rattle.hp_model.specs.Step.{IsScript, on_slot}
+use Rattle.hp_model.specs.pool.Grant.{can_grant}
+use Rattle.hp_model.specs.pool.NodeRows.{total_of}
+use Rattle.hp_model.specs.files.Options.{limits, wanted_of}
+use Rattle.hp_model.specs.pool.PoolCounts.{Pool}
+use Rattle.hp_model.specs.machine.State.{State}
+use Rattle.hp_model.specs.machine.Step.{IsScript, on_slot}
 use Rattle.hp_subpool.specs.Subpool.{Subpool}
 use Rattle.hp_mount.specs.Kept.{mount_of}
 use Rattle.hp_system.specs.Kept.{state_of, IsKept}

@@ -1,6 +1,6 @@
 use Rattle.std.proofs.Common.{◌≡◌, [], sym, ap, subst, ◌∙◌}
-use Rattle.hp_model.specs.Machine.{slots_from}
-use Rattle.hp_model.specs.PoolCounts.{IsSettled, Pool}
+use Rattle.hp_model.specs.machine.Machine.{slots_from}
+use Rattle.hp_model.specs.pool.PoolCounts.{IsSettled, Pool}
 use Rattle.hp_system.specs.Kept.{state_of, IsKept}
 use Rattle.hp_system.proofs.Carries.{ready}
 use Rattle.hp_system.proofs.Start.{start_kept, start_is, first_pool}

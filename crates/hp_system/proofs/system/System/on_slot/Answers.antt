@@ -1,8 +1,8 @@
 use Rattle.std.proofs.Common.{◌<◌, Err, None, Some, length, sym, subst, arith}
 use Rattle.hp_model.specs.declared.refusal.Refusal.TheVariants.{NoSuchSlot}
-use Rattle.hp_model.specs.Plan.{Choice, Slot}
-use Rattle.hp_model.specs.SlotEvent.{slot_event}
-use Rattle.hp_model.specs.Step.{IsScript, on_slot}
+use Rattle.hp_model.specs.machine.Plan.{Choice, Slot}
+use Rattle.hp_model.specs.machine.SlotEvent.{slot_event}
+use Rattle.hp_model.specs.machine.Step.{IsScript, on_slot}
 use Rattle.hp_mount.specs.Event.{event_of}
 use Rattle.hp_system.specs.Event.{IsCarried}
 use Rattle.hp_system.proofs.Carries.{happens, kept_after, never_full, ready, unmounted}

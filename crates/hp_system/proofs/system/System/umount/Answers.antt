@@ -4,9 +4,9 @@ use Rattle.std.proofs.lemmas.Bool.Decides.{nat_tests}
 use Rattle.hp_model.specs.declared.answer.Answer.TheVariants.{Done}
 use Rattle.hp_model.specs.declared.event.SlotEvent.TheVariants.{Umount}
 use Rattle.hp_model.specs.declared.refusal.Refusal.TheVariants.{Busy, NoSuchSlot}
-use Rattle.hp_model.specs.File.{Mount}
-use Rattle.hp_model.specs.SlotEvent.{has_maps}
-use Rattle.hp_model.specs.Step.{IsScript, on_slot}
+use Rattle.hp_model.specs.files.File.{Mount}
+use Rattle.hp_model.specs.machine.SlotEvent.{has_maps}
+use Rattle.hp_model.specs.machine.Step.{IsScript, on_slot}
 use Rattle.hp_system.specs.Kept.{state_of, IsKept}
 use Rattle.hp_system.proofs.Carries.{calm, kept_after, ready}
 use Rattle.hp_system.proofs.MachineSteps.{read_slot, slot_done, slot_same}

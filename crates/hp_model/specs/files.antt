@@ -1,0 +1,15 @@
+-- Files, maps and mounts.
+pub mod Page
+pub mod File
+pub mod Mapping
+pub mod MountCounts
+pub mod Value
+pub mod Ranges
+pub mod Reserved
+pub mod Spot
+pub mod MakeMap
+pub mod Access
+pub mod CopyWrite
+pub mod Fork
+pub mod GiveBack
+pub mod Options

@@ -1,0 +1,434 @@
+-- What the machine promises of each step.
+use Rattle.std.specs.Prelude.{◌≡◌, ◌≢◌, ◌⊎◌, ℕ, ◌+◌, ◌<◌, ◌≤◌, ◌&&◌, ◌||◌, ◌==◌, Bool, true, false, not, Option, None, Some, is_some, option_map, Ok, Err, List, ◌++◌, length, take, drop, if◌then◌else◌, nat_le, nat_lt}
+use Rattle.std.specs.Bool.{MatchBool}
+use Rattle.std.specs.Str.{bytes_eq}
+use Rattle.hp_model.specs.declared.answer.Answer.{Answer}
+use Rattle.hp_model.specs.declared.answer.Answer.TheVariants.{MapNo, Numbers, PerNode, Usage}
+use Rattle.hp_model.specs.declared.event.Event.{Event}
+use Rattle.hp_model.specs.declared.event.Event.TheVariants.{Slot as OnSlot}
+use Rattle.hp_model.specs.declared.event.SlotEvent.TheVariants.{Mount as MountEvent}
+use Rattle.hp_model.specs.declared.refusal.Refusal.{Refusal}
+use Rattle.hp_model.specs.declared.refusal.Refusal.TheVariants.{NoPages, MountFull, OutOfMemory}
+use Rattle.hp_model.specs.declared.step.Intent.{Intent}
+use Rattle.hp_model.specs.declared.step.Intent.TheVariants.{Read, Write}
+use Rattle.hp_model.specs.declared.place.Place.{Place}
+use Rattle.hp_model.specs.declared.step.Sharing.{Sharing}
+use Rattle.hp_model.specs.declared.step.Step.{Step}
+use Rattle.hp_model.specs.declared.step.Step.TheVariants.{Attach, Create as CreateStep, Df, Exit, Fault, Fork, Load, Ls, Map as MapStep, Meminfo, Mount as MountStep, Nodes, Punch as PunchStep, Read as ReadStep, Stat, Store, Truncate as TruncateStep, Umount, Unlink as UnlinkStep, Unmap as UnmapStep}
+use Rattle.hp_model.specs.machine.Plan.{slot_usage, IsWithinLimit}
+use Rattle.hp_model.specs.files.CopyWrite.{holds}
+use Rattle.hp_model.specs.files.File.{File, cell_at, new_file}
+pub use Rattle.hp_model.specs.files.File.{file_in, map_in}
+use Rattle.hp_model.specs.files.GiveBack.{without_task}
+use Rattle.hp_model.specs.machine.Machine.{committed_pages, counts_in, pool_of}
+use Rattle.hp_model.specs.files.MakeMap.{new_map}
+pub use Rattle.hp_model.specs.files.Mapping.{no_map}
+use Rattle.hp_model.specs.files.Mapping.{Map, copy_of, is_map, is_mapped, is_shared, place_at, without_range}
+use Rattle.hp_model.specs.files.MountCounts.{usage_of}
+use Rattle.hp_model.specs.pool.NodeRows.{total_of}
+use Rattle.hp_model.specs.files.Page.{Copy, zeros}
+use Rattle.hp_model.specs.machine.Plan.{Reply, Slot}
+use Rattle.hp_model.specs.files.Reserved.{is_reserved}
+use Rattle.hp_model.specs.pool.Resize.{node_counts}
+use Rattle.hp_model.specs.machine.Run.{RunsBy}
+use Rattle.hp_model.specs.machine.Settled.{AreCounted}
+use Rattle.hp_model.specs.machine.SlotEvent.{bytes_answer, file_named}
+use Rattle.hp_model.specs.files.Spot.{Spot, spot}
+use Rattle.hp_model.specs.machine.State.{State, slot_at, with_slot}
+use Rattle.hp_model.specs.machine.Step.{IsStep}
+use Rattle.hp_model.specs.files.Value.{shown, value}
+
+abbrev pub spot_on : Slot → (task number : ℕ) → Option Spot
+spot_on None task number = None
+spot_on (Some m) task number = spot m (is_map task number)
+
+-- the map of the task with the number, if it is there
+abbrev pub map_named : State → (slot task number : ℕ) → Option Spot
+map_named s slot task number = spot_on (slot_at s slot) task number
+
+-- ---- accesses whose page is kept for them
+
+-- the owner of a private map has a copy there
+abbrev pub owns_copy : Map → ℕ → Bool
+owns_copy m i = not (is_shared m.sharing) && (m.owner && is_some (copy_of (place_at m i)))
+
+-- the index is reserved to the map, or an owner writes into its copy
+abbrev pub is_backed : Intent → Option Spot → ℕ → Bool
+is_backed intent None i = false
+is_backed Read (Some s) i = is_reserved s.file s.map i
+is_backed Write (Some s) i = is_reserved s.file s.map i || owns_copy s.map i
+
+abbrev pub is_backed_step : State → Step → Bool
+is_backed_step s (Fault task slot number i intent) = is_backed intent (map_named s slot task number) i
+is_backed_step s (Load task slot number i offset count) = is_backed Read (map_named s slot task number) i
+is_backed_step s (Store task slot number i offset bytes) = is_backed Write (map_named s slot task number) i
+is_backed_step s other = false
+
+-- a refusal for want of a huge page
+abbrev pub is_for_pages : Refusal → Bool
+is_for_pages NoPages = true
+is_for_pages MountFull = true
+is_for_pages other = false
+
+-- refused so
+abbrev pub wants_page : Reply → Bool
+wants_page (Ok a) = false
+wants_page (Err r) = is_for_pages r
+
+-- ---- accesses that lost their copy to an owner
+
+-- the map is private and marked, and has no copy there
+abbrev pub is_cut_off : Option Spot → ℕ → Bool
+is_cut_off None i = false
+is_cut_off (Some s) i = not (is_shared s.map.sharing) && (s.map.unmapped && not (is_some (copy_of (place_at s.map i))))
+
+abbrev pub is_cut_off_step : State → Step → Bool
+is_cut_off_step s (Fault task slot number i intent) = is_cut_off (map_named s slot task number) i
+is_cut_off_step s (Load task slot number i offset count) = is_cut_off (map_named s slot task number) i
+is_cut_off_step s (Store task slot number i offset bytes) = is_cut_off (map_named s slot task number) i
+is_cut_off_step s other = false
+
+abbrev pub is_refused : Reply → Bool
+is_refused (Ok a) = false
+is_refused (Err r) = true
+
+-- ---- what files show
+
+abbrev pub shown_on : (size : ℕ) → Slot → (file i : ℕ) → List ℕ
+shown_on size None file i = zeros size
+shown_on size (Some m) file i = shown size (cell_at (file_in m file) i)
+
+-- the bytes at an index of the file at this place of the slot; zeros where there is no page
+abbrev pub shown_in : State → (slot file i : ℕ) → List ℕ
+shown_in s slot file i = shown_on s.page_size (slot_at s slot) file i
+
+-- the bytes with others over them from the offset on
+abbrev pub over : (offset : ℕ) → (bytes old : List ℕ) → List ℕ
+over offset bytes old = take offset old ++ bytes ++ drop (offset + length bytes) old
+
+abbrev pub is_shared_of : Option Spot → ℕ → Bool
+is_shared_of None file = false
+is_shared_of (Some s) file = is_shared s.map.sharing && (s.file_no == file)
+
+abbrev pub named_on : Slot → List ℕ → Option (ℕ × File)
+named_on None name = None
+named_on (Some m) name = file_named m name
+
+-- the name means that file
+abbrev pub means_file : Slot → List ℕ → (file : ℕ) → Bool
+means_file slot name file = elim (named_on slot name) [ None ↦ false | Some f ↦ f.0 == file ]
+
+abbrev pub is_in : (a b i : ℕ) → Bool
+is_in a b i = nat_le a i && nat_lt i b
+
+-- what the step makes of the bytes there: a store through a shared map of that file writes them, and what is cut off or punched is zeros
+abbrev pub stored_over : State → Step → Reply → (slot file i : ℕ) → List ℕ → List ℕ
+stored_over s (Store task slot number i offset bytes) (Ok a) k file j old =
+    if (slot == k) && ((i == j) && is_shared_of (map_named s slot task number) file) then over offset bytes old else old
+stored_over s (TruncateStep slot name n) (Ok a) k file j old =
+    if (slot == k) && (means_file (slot_at s k) name file && nat_le n j) then zeros s.page_size else old
+stored_over s (PunchStep slot name from to) (Ok a) k file j old =
+    if (slot == k) && (means_file (slot_at s k) name file && is_in from to j) then zeros s.page_size else old
+stored_over s step reply k file j old = old
+
+-- ---- what maps show
+
+abbrev pub map_on : Slot → (file map : ℕ) → Map
+map_on None file map = no_map
+map_on (Some m) file map = map_in (file_in m file) map
+
+-- the map at this place of the file
+abbrev pub map_at : State → (slot file map : ℕ) → Map
+map_at s slot file map = map_on (slot_at s slot) file map
+
+abbrev pub seen_on : (size : ℕ) → Slot → (file map i : ℕ) → List ℕ
+seen_on size None file map i = zeros size
+seen_on size (Some m) file map i = value size (file_in m file) (map_in (file_in m file) map) i
+
+-- the bytes that it shows at an index of the file
+abbrev pub seen_in : State → (slot file map i : ℕ) → List ℕ
+seen_in s slot file map i = seen_on s.page_size (slot_at s slot) file map i
+
+-- a load answers bytes of what its map shows: its own copy, or else what was stored through the file, or else zeros
+abbrev pub IsLoaded : (size : ℕ) → Slot → Option Spot → (i offset count : ℕ) → Answer → Type 0
+IsLoaded size old None i offset count a = ⊥
+IsLoaded size old (Some s) i offset count a = a ≡ bytes_answer offset count (seen_on size old s.file_no s.map_no i)
+
+abbrev pub ShowsMap : State → Step → Reply → Type 0
+ShowsMap s (Load task slot number i offset count) (Ok a) = IsLoaded s.page_size (slot_at s slot) (map_named s slot task number) i offset count a
+ShowsMap s step reply = Unit {0}
+
+-- a store through a shared map reaches the maps of its file that have no copy there, one through a private map that map alone
+abbrev pub reaches : Option Spot → Map → (file map i : ℕ) → Bool
+reaches None old file map i = false
+reaches (Some s) old file map i = (s.file_no == file) && (if is_shared s.map.sharing then not (is_some (copy_of (place_at old i))) else (s.map_no == map))
+
+-- the map of the task with the number stands there
+abbrev pub is_at : Option Spot → (file map : ℕ) → Bool
+is_at None file map = false
+is_at (Some s) file map = (s.file_no == file) && (s.map_no == map)
+
+-- what the step makes of the bytes that a map shows: a store writes them, what is cut off or punched is zeros, and where a map is unmapped
+-- the file is left
+abbrev pub seen_over : State → Step → Reply → (slot file map i : ℕ) → List ℕ → List ℕ
+seen_over s (Store task slot number i offset bytes) (Ok a) k file map j old =
+    if (slot == k) && ((i == j) && reaches (map_named s slot task number) (map_at s k file map) file map j) then over offset bytes old else old
+seen_over s (TruncateStep slot name n) (Ok a) k file map j old =
+    if (slot == k) && (means_file (slot_at s k) name file && nat_le n j) then zeros s.page_size else old
+seen_over s (PunchStep slot name from to) (Ok a) k file map j old =
+    if (slot == k) && (means_file (slot_at s k) name file && is_in from to j) then zeros s.page_size else old
+seen_over s (UnmapStep task slot number from to) (Ok a) k file map j old =
+    if (slot == k) && (is_at (map_named s slot task number) file map && is_in from to j) then shown_in s k file j else old
+seen_over s step reply k file map j old = old
+
+abbrev pub is_same_copy : Place Copy → Place Copy → Bool
+is_same_copy p q = elim (copy_of p) [ None ↦ false | Some copy ↦ holds copy.stamp q ]
+
+-- a map held the copy that an owner's map, `own` and then `after`, writes into: at the very index of that write
+-- the owner has it still, and the map, which is marked, has none
+pub record IsLost (own after : Map) (i : ℕ) (old new : Map) (j : ℕ) : Type 0 where
+  pub index : j ≡ i
+  pub private : is_shared own.sharing ≡ false
+  pub owner : own.owner ≡ true
+  pub held : is_same_copy (place_at own i) (place_at old j) ≡ true
+  pub kept : is_same_copy (place_at own i) (place_at after i) ≡ true
+  pub lost : copy_of (place_at new j) ≡ None
+  pub marked : new.unmapped ≡ true
+
+-- another map of the owner's file, p before and q after, has lost its copy to it
+abbrev pub IsLostTo : (owner after : Option Spot) → (i : ℕ) (p q : Spot) (j : ℕ) → Type 0
+IsLostTo (Some o) (Some a) i p q j =
+    (o.file_no ≡ p.file_no) × IsLost o.map a.map i p.map q.map j × (p.map_no ≡ o.map_no → ⊥)
+IsLostTo owner after i p q j = ⊥
+
+-- the copy went to the map of the task with the number, as it was and is
+abbrev pub IsTakenBy : State → State → (slot task number i : ℕ) (p q : Spot) (j : ℕ) → Type 0
+IsTakenBy s t slot task number i p q j =
+    IsLostTo (map_named s slot task number) (map_named t slot task number) i p q j
+
+-- only an owner's store and its write fault take copies back
+abbrev pub LosesTo : State → Step → State → (slot : ℕ) (p q : Spot) (j : ℕ) → Type 0
+LosesTo s (Store task slot number i offset bytes) t k p q j = (slot ≡ k) × IsTakenBy s t slot task number i p q j
+LosesTo s (Fault task slot number i Write) t k p q j = (slot ≡ k) × IsTakenBy s t slot task number i p q j
+LosesTo s step t k p q j = ⊥
+
+-- ---- what names and numbers mean afterwards
+
+-- the slot's mount, and all its files, went by this step
+abbrev pub is_unmounted : Step → Reply → ℕ → Bool
+is_unmounted (Umount k) (Ok a) slot = k == slot
+is_unmounted step reply slot = false
+
+-- the name was ended by this step: it was unlinked, or its mount went
+abbrev pub is_ended_name : Step → Reply → (slot : ℕ) → List ℕ → Bool
+is_ended_name (UnlinkStep k gone) (Ok a) slot name = (k == slot) && bytes_eq gone name
+is_ended_name step reply slot name = is_unmounted step reply slot
+
+-- whether an index of the map stays mapped
+abbrev pub stays_mapped : Option Spot → (from to : ℕ) → Bool
+stays_mapped None from to = false
+stays_mapped (Some s) from to = is_mapped (without_range from to s.map)
+
+-- the number was ended by this step: its last index was unmapped, its task left, its mount went; or a fork ended the child's old maps
+abbrev pub is_ended_number : State → Step → Reply → (slot task number : ℕ) → Bool
+is_ended_number s (Exit gone) (Ok a) slot task number = gone == task
+is_ended_number s (Fork parent child) reply slot task number = child == task
+is_ended_number s (UnmapStep owner k gone from to) (Ok a) slot task number =
+    (k == slot) && ((owner == task) && ((gone == number) && not (stays_mapped (map_named s slot task number) from to)))
+is_ended_number s step reply slot task number = is_unmounted step reply slot
+
+-- the name has a file, which shows these bytes at the index
+abbrev pub StillNamed : (size : ℕ) → Slot → List ℕ → (i : ℕ) → List ℕ → Type 0
+StillNamed size slot name i bytes = (g : ℕ × File) × (named_on slot name ≡ Some g) × (shown size (cell_at g.1 i) ≡ bytes)
+
+-- what a map keeps as long as it is there
+pub record Shape : Type 0 where
+  pub task : ℕ
+  pub number : ℕ
+  pub start : ℕ
+  pub pages : ℕ
+  pub sharing : Sharing
+  pub owner : Bool
+
+abbrev pub shape_of : Map → Shape
+shape_of m =
+    record {
+      task = m.task;
+      number = m.number;
+      start = m.start;
+      pages = length m.places;
+      sharing = m.sharing;
+      owner = m.owner;
+    }
+
+-- the name means the file that the map is of
+abbrev pub IsNameOf : Slot → List ℕ → Spot → Type 0
+IsNameOf slot name p = named_on slot name ≡ Some (p.file_no, p.file)
+
+-- the bytes at an index are as they were, but for what the step makes of them
+abbrev pub StillShows : State → Step → Reply → State → (slot : ℕ) (p q : Spot) (i : ℕ) → Type 0
+StillShows s step reply t slot p q i =
+    value t.page_size q.file q.map i ≡ seen_over s step reply slot p.file_no p.map_no i (value s.page_size p.file p.map i)
+
+-- a map, p before and q after, has its range, sharing, ownership and file; marked, it stays marked; it shows what it
+-- showed at the index, or has lost its copy there
+pub record StillMapped (s : State) (step : Step) (reply : Reply) (t : State) (slot : ℕ) (p q : Spot) (i : ℕ) : Type 0 where
+  pub shape : shape_of q.map ≡ shape_of p.map
+  pub file : (name : List ℕ) → is_ended_name step reply slot name ≡ false
+      → IsNameOf (slot_at s slot) name p → IsNameOf (slot_at t slot) name q
+  pub marked : p.map.unmapped ≡ true → q.map.unmapped ≡ true
+  pub shows : StillShows s step reply t slot p q i ⊎ LosesTo s step t slot p q i
+
+-- the task's number, by this pair, means the map, and the step does not end it
+abbrev pub IsKeptMap : State → Step → Reply → (slot : ℕ) → ℕ × ℕ → Spot → Type 0
+IsKeptMap s step reply slot a p =
+    (is_ended_number s step reply slot a.0 a.1 ≡ false) × (map_named s slot a.0 a.1 ≡ Some p)
+
+-- two maps are of one file just where they were
+abbrev pub SameFiles : Bool → Option Spot → Option Spot → Type 0
+SameFiles together (Some p) (Some q) = (p.file_no == q.file_no) ≡ together
+SameFiles together p q = ⊥
+
+-- ---- what is answered
+
+-- the mount's limits, what it uses, and how many files it has
+abbrev pub IsUsage : Slot → Answer → Type 0
+IsUsage None a = ⊥
+IsUsage (Some m) a = a ≡ Usage m.limits.max m.limits.min (usage_of m) m.limits.inodes (length m.files)
+
+-- bytes of the file at the index, or zeros where it has no page
+abbrev pub IsRead : (size : ℕ) → Option (ℕ × File) → (i offset count : ℕ) → Answer → Type 0
+IsRead size None i offset count a = ⊥
+IsRead size (Some f) i offset count a = a ≡ bytes_answer offset count (shown size (cell_at f.1 i))
+
+-- a step that reads answers what there was: the counts, the nodes' rows, a mount's numbers, a file's bytes
+abbrev pub Tells : State → Step → Reply → Type 0
+Tells s Meminfo (Ok a) = a ≡ Numbers (counts_in s)
+Tells s Nodes (Ok a) = a ≡ PerNode (length s.nodes) (node_counts (pool_of s))
+Tells s (Df k) (Ok a) = IsUsage (slot_at s k) a
+Tells s (ReadStep k name i offset count) (Ok a) = IsRead s.page_size (named_on (slot_at s k) name) i offset count a
+Tells s step reply = Unit {0}
+
+-- ---- what is made
+
+-- a map that was not there, of the file that the name means
+abbrev pub IsNewMap : (old new : Slot) → List ℕ → Map → Type 0
+IsNewMap old new name map =
+    (spot_on old map.task map.number ≡ None)
+    × ((s : Spot) × (spot_on new map.task map.number ≡ Some s) × (s.map ≡ map) × (named_on new name ≡ Some (s.file_no, s.file)))
+
+-- a file that was not there, without pages, entries and maps
+abbrev pub IsNewFile : (old new : Slot) → List ℕ → Type 0
+IsNewFile old new name = (named_on old name ≡ None) × ((place : ℕ) × (named_on new name ≡ Some (place, new_file (Some name))))
+
+-- a created file is new and empty; a map's number is one that the task did not use, and means a map of that file, range and sharing
+abbrev pub Makes : State → Step → Reply → State → Type 0
+Makes s (CreateStep k name) (Ok a) t = IsNewFile (slot_at s k) (slot_at t k) name
+Makes s (MapStep task k name a n sharing reserving) (Ok (MapNo number)) t =
+    IsNewMap (slot_at s k) (slot_at t k) name (new_map task number a n sharing reserving)
+Makes s (MapStep task k name a n sharing reserving) (Ok other) t = ⊥
+Makes s step reply t = Unit {0}
+
+-- ---- what a refusal leaves
+
+-- a mount that is refused memory after its grant: the nodes may then be as after the grant and its giving back
+abbrev pub is_late : Event → Refusal → Bool
+is_late (OnSlot k (MountEvent options)) OutOfMemory = true
+is_late e r = false
+
+abbrev pub is_late_step : Step → Refusal → Bool
+is_late_step (MountStep k options) r = is_late (OnSlot k (MountEvent options)) r
+is_late_step step r = false
+
+-- nothing but the nodes has changed
+abbrev pub SameButNodes : State → State → Type 0
+SameButNodes s t = t ≡ record s { nodes = t.nodes; growth = t.growth; release = t.release }
+
+-- a fork that is refused may have ended maps that stood under the child's number, and what went with them
+abbrev pub IsForkLeft : (child : ℕ) → (old new : Slot) → Type 0
+IsForkLeft child old new = (new ≡ old) ⊎ (new ≡ option_map (without_task child) old)
+
+pub record LeavesOthers (s : State) (child : ℕ) (t : State) : Type 0 where
+  pub table : t.table ≡ s.table
+  pub nr : t.nr ≡ s.nr
+  pub overcommit : t.overcommit ≡ s.overcommit
+  pub slots : (slot : ℕ) → IsForkLeft child (slot_at s slot) (slot_at t slot)
+
+-- a refused step leaves everything as it was
+abbrev pub LeavesAll : State → Step → Reply → State → Type 0
+LeavesAll s step (Ok a) t = Unit {0}
+LeavesAll s (Fork parent child) (Err r) t = LeavesOthers s child t
+LeavesAll s step (Err r) t = MatchBool (is_late_step step r) (SameButNodes s t) (t ≡ s)
+
+-- ---- what mounts keep
+
+-- the pages that stay committed to the slot's mount at least
+abbrev pub least_of : Slot → ℕ
+least_of None = 0
+least_of (Some m) = m.limits.min
+
+-- a mount that stays has the limits that its options made
+abbrev pub SameLimits : (old new : Slot) → Type 0
+SameLimits None new = Unit {0}
+SameLimits (Some m) None = ⊥
+SameLimits (Some m) (Some n) = n.limits ≡ m.limits
+
+-- the step answers numbers or names as they stand: of a task, of a file, or of a mount
+abbrev pub is_usage : Step → Bool
+is_usage (Attach task) = true
+is_usage (Ls k) = true
+is_usage (Stat k name) = true
+is_usage (Df k) = true
+is_usage step = false
+
+-- ---- a step
+
+pub record IsPromised (s : State) (step : Step) (reply : Reply) (t : State) : Type 0 where
+  -- an access at an index reserved to its map, and an owner's write into its copy, are never refused for want of a huge page
+  pub reserved : is_backed_step s step ≡ true → wants_page reply ≡ false
+  -- Total, Free, Rsvd and Surp are those of the sums over files and maps, and each promised page is free
+  pub counts : AreCounted t
+  -- a step that raises what a mount uses ends within the mount's limit
+  pub limits : (slot : ℕ) → slot < length s.slots → slot_usage (slot_at s slot) < slot_usage (slot_at t slot) → IsWithinLimit (slot_at t slot)
+  -- a mount and its limits stay until its umount
+  pub mounts : (slot : ℕ) → is_unmounted step reply slot ≡ false → SameLimits (slot_at s slot) (slot_at t slot)
+  -- the pool has the pages of each mount's minimum, beside all that is committed to the other mounts
+  pub minimums : (slot : ℕ) → least_of (slot_at t slot) + committed_pages (with_slot t slot None) ≤ total_of (pool_of t).nodes.rows
+  -- a load answers what its map showed
+  pub loads : ShowsMap s step reply
+  -- and so do the steps that read counts, rows, a mount's numbers or a file
+  pub answers : Tells s step reply
+  -- what a name and a map's number mean, once they are made
+  pub makes : Makes s step reply t
+  -- a refused step leaves the whole machine as it was
+  pub refused : LeavesAll s step reply t
+  -- each name keeps its file, which shows what it showed, but for what a step stores, cuts off or punches
+  pub files : (slot : ℕ) (name : List ℕ) (i : ℕ) (f : ℕ × File) → is_ended_name step reply slot name ≡ false → named_on (slot_at s slot) name ≡ Some f
+      → StillNamed t.page_size (slot_at t slot) name i (stored_over s step reply slot f.0 i (shown s.page_size (cell_at f.1 i)))
+  -- each number of a task keeps its map, with its file, range, sharing and ownership, and the map shows what it showed,
+  -- but for what a store reaches; or it has lost its copy at that index to the owner that stored there
+  pub maps : (slot task number i : ℕ) (p : Spot) → is_ended_number s step reply slot task number ≡ false → map_named s slot task number ≡ Some p
+      → (q : Spot) × (map_named t slot task number ≡ Some q) × StillMapped s step reply t slot p q i
+  -- of the maps that are kept those of one file, with a name or without, are of one file still, and others are not
+  pub together : (slot : ℕ) (a b : ℕ × ℕ) (p o : Spot)
+      → IsKeptMap s step reply slot a p → IsKeptMap s step reply slot b o
+      → SameFiles (p.file_no == o.file_no) (map_named t slot a.0 a.1) (map_named t slot b.0 b.1)
+  -- an access through a marked map is refused where it has no copy
+  pub cut_off : is_cut_off_step s step ≡ true → is_refused reply ≡ true
+
+-- of the steps that are built these may be refused memory: one that makes a file or a map, and an access that nothing backs
+abbrev pub takes_memory : State → Step → Bool
+takes_memory s (CreateStep k name) = true
+takes_memory s (MapStep task k name a n sharing reserving) = true
+takes_memory s (Load task k number i offset count) = not (is_backed Read (map_named s k task number) i)
+takes_memory s (Store task k number i offset bytes) = not (is_backed Write (map_named s k task number) i)
+takes_memory s step = false
+
+-- a step of the machine, as promised; and others are not refused memory
+abbrev pub IsPromisedStep : State → Step → Reply → State → Type 0
+IsPromisedStep s step reply t =
+    IsStep s step reply t × IsPromised s step reply t × (takes_memory s step ≡ false → reply ≢ Err OutOfMemory)
+
+-- the steps are answered by these replies, one after another, each as promised
+abbrev pub IsPromisedRun : State → List Step → List Reply → State → Type 0
+IsPromisedRun s steps replies t = RunsBy IsPromisedStep s steps replies t
