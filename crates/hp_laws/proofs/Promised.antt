@@ -56,31 +56,23 @@ module _ (s : State) (st : IsSettledState s) (reply : Reply) (t : State) where
   stops : (k : ℕ) (e : SlotEvent) → ((c : Choice) → Always Stops (slot_event s.page_size k c (slot_at s k) e)) → IsEvent s (OnSlot k e) reply t → is_refused reply ≡ true
   stops k e all is = let ends = event_ends Stops s k e reply t all is in ap is_refused ends.replied ∙ ends.holds
 
-  event_goes : (e : Event) → IsEvent s e reply t → is_backed_step s (step_of e) ≡ true → wants_page reply ≡ false
-  event_goes (OnSlot k (slot.Fault task home number i intent)) is backed =
-      goes k (slot.Fault task home number i intent) (λ c. fault_goes s.page_size k c task home number i intent (slot_at s k) backed) is
-  event_goes (OnSlot k (slot.Load task home number i offset count)) is backed =
-      goes k (slot.Load task home number i offset count) (λ c. load_goes s.page_size k c task home number i offset (slot_at s k) count backed) is
-  event_goes (OnSlot k (slot.Store task home number i offset bytes)) is backed =
-      goes k (slot.Store task home number i offset bytes) (λ c. store_goes s.page_size k c task home number i offset (slot_at s k) bytes backed) is
-  event_goes (OnSlot k other) is backed = cc
-  event_goes (Tasks (table.Add task home)) is backed = cc
-  event_goes (Tasks other) is backed = cc
-  event_goes (OnPool pool.Meminfo) is backed = cc
-  event_goes (OnPool other) is backed = cc
-
-  event_stops : (e : Event) → IsEvent s e reply t → is_cut_off_step s (step_of e) ≡ true → is_refused reply ≡ true
-  event_stops (OnSlot k (slot.Fault task home number i intent)) is cut =
-      stops k (slot.Fault task home number i intent) (λ c. fault_stops s.page_size k c task home number i intent (slot_at s k) cut) is
-  event_stops (OnSlot k (slot.Load task home number i offset count)) is cut =
-      stops k (slot.Load task home number i offset count) (λ c. load_stops s.page_size k c task home number i offset (slot_at s k) count cut) is
-  event_stops (OnSlot k (slot.Store task home number i offset bytes)) is cut =
-      stops k (slot.Store task home number i offset bytes) (λ c. store_stops s.page_size k c task home number i offset (slot_at s k) bytes cut) is
-  event_stops (OnSlot k other) is cut = cc
-  event_stops (Tasks (table.Add task home)) is cut = cc
-  event_stops (Tasks other) is cut = cc
-  event_stops (OnPool pool.Meminfo) is cut = cc
-  event_stops (OnPool other) is cut = cc
+  -- an access that is backed does not want for a page, and one that was cut off is refused
+  event_reaches : (e : Event) → IsEvent s e reply t
+      → (is_backed_step s (step_of e) ≡ true → wants_page reply ≡ false) × (is_cut_off_step s (step_of e) ≡ true → is_refused reply ≡ true)
+  event_reaches (OnSlot k (slot.Fault task home number i intent)) is =
+      let event = slot.Fault task home number i intent in
+      ((λ backed. goes k event (λ c. fault_goes s.page_size k c task home number i intent (slot_at s k) backed) is), (λ cut. stops k event (λ c. fault_stops s.page_size k c task home number i intent (slot_at s k) cut) is))
+  event_reaches (OnSlot k (slot.Load task home number i offset count)) is =
+      let event = slot.Load task home number i offset count in
+      ((λ backed. goes k event (λ c. load_goes s.page_size k c task home number i offset (slot_at s k) count backed) is), (λ cut. stops k event (λ c. load_stops s.page_size k c task home number i offset (slot_at s k) count cut) is))
+  event_reaches (OnSlot k (slot.Store task home number i offset bytes)) is =
+      let event = slot.Store task home number i offset bytes in
+      ((λ backed. goes k event (λ c. store_goes s.page_size k c task home number i offset (slot_at s k) bytes backed) is), (λ cut. stops k event (λ c. store_stops s.page_size k c task home number i offset (slot_at s k) bytes cut) is))
+  event_reaches (OnSlot k other) is = ((λ e. cc), (λ e. cc))
+  event_reaches (Tasks (table.Add task home)) is = ((λ e. cc), (λ e. cc))
+  event_reaches (Tasks other) is = ((λ e. cc), (λ e. cc))
+  event_reaches (OnPool pool.Meminfo) is = ((λ e. cc), (λ e. cc))
+  event_reaches (OnPool other) is = ((λ e. cc), (λ e. cc))
 
   loaded : (task k number i offset count : ℕ) (o : Outcome) → Loads s.page_size (slot_at s k) (map_named s k task number) i offset count o → ShowsMap s (Load task k number i offset count) (reply_of o)
   loaded task k number i offset count (Refused r) h = tt
@@ -98,7 +90,7 @@ module _ (s : State) (st : IsSettledState s) (reply : Reply) (t : State) where
   event_shows (OnPool other) is = tt
 
   event_kept : (e : Event) → IsEvent s e reply t → Kept s (step_of e) reply t
-  event_kept e is = record { reserved = event_goes e is; limits = λ k l risen. limits_hold s e reply t k l st is risen; loads = event_shows e is; cut_off = event_stops e is }
+  event_kept e is = record { reserved = (event_reaches e is).0; limits = λ k l risen. limits_hold s e reply t k l st is risen; loads = event_shows e is; cut_off = (event_reaches e is).1 }
 
 -- where maps of a task end, no mount uses more
 fade_limits : (s : State) (gone : ℕ) (t : State) → AllFade gone s t → (k : ℕ) → k < length s.slots → slot_usage (slot_at s k) < slot_usage (slot_at t k) → IsWithinLimit (slot_at t k)
