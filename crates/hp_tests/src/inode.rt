@@ -128,20 +128,29 @@ fn a_refusal_changes_nothing(rt: HostRuntime) -> Result<(), Fail> {
     Ok(())
 }
 
+// The range from 4 up to 600 is prepared and left, or memory was refused.
+fn left(inode: Inode) -> Inode {
+    match inode.prepare(4, 600) {
+        Ok(ready) => ready.leave(),
+        Err(inode) => inode,
+    }
+}
+
+// The range from 4 up to 600 is prepared and entered, or memory was refused.
+fn enters<R: Abort>(rt: &R, inode: Inode) {
+    match inode.prepare(4, 600) {
+        Ok(ready) => is_entered(rt, &ready.enter()),
+        Err(inode) => has_len(rt, &inode, 10),
+    }
+}
+
 // Run with each allocation failing in turn.
 #[test]
 fn a_prepared_range_is_entered_or_left(rt: HostRuntime) -> Result<(), Fail> {
-    let inode = sized(&rt, rt.alloc(), 10);
-    let left = match inode.prepare(4, 600) {
-        Ok(ready) => ready.leave(),
-        Err(inode) => inode,
-    };
-    has_len(&rt, &left, 10);
-    shows(&rt, &left, 4, (false, None));
-    match left.prepare(4, 600) {
-        Ok(ready) => is_entered(&rt, &ready.enter()),
-        Err(inode) => has_len(&rt, &inode, 10),
-    }
+    let inode = left(sized(&rt, rt.alloc(), 10));
+    has_len(&rt, &inode, 10);
+    shows(&rt, &inode, 4, (false, None));
+    enters(&rt, inode);
     Ok(())
 }
 
