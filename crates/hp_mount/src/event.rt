@@ -10,6 +10,17 @@ pub enum MountEvent<'a> {
     Create {
         name: &'a [u8],
     },
+    /// Answers a file's length, its pages, its entered indices and its maps.
+    Stat {
+        name: &'a [u8],
+    },
+    /// Answers `count` bytes of a file at an index, from byte `offset` of the page on.
+    Read {
+        name: &'a [u8],
+        index: u64,
+        offset: u64,
+        count: u64,
+    },
     /// Maps `pages` indices of a file, from `start` on, shared, and enters them. A page is reserved for each that was
     /// not entered; the file gets longer where the map ends past its end (`mm/hugetlbfs_reserv.rst`).
     Map {

@@ -112,6 +112,25 @@ impl<N: Naming> System<N> {
                 let name = name.as_slice();
                 self.on_slot(*slot, 0, MountEvent::Create { name })
             }
+            Step::Stat { slot, name } => {
+                let name = name.as_slice();
+                self.on_slot(*slot, 0, MountEvent::Stat { name })
+            }
+            Step::Read {
+                slot,
+                name,
+                index,
+                offset,
+                count,
+            } => {
+                let event = MountEvent::Read {
+                    name: name.as_slice(),
+                    index: *index,
+                    offset: *offset,
+                    count: *count,
+                };
+                self.on_slot(*slot, 0, event)
+            }
             Step::Map {
                 task,
                 slot,
@@ -121,6 +140,21 @@ impl<N: Naming> System<N> {
                 sharing: Sharing::Shared,
                 reserving: Reserving::Reserve,
             } => self.map_shared(*task, *slot, name, *from, *pages),
+            Step::Fault {
+                task,
+                slot,
+                map,
+                index,
+                intent,
+            } => {
+                let event = MountEvent::Fault {
+                    task: *task,
+                    map: *map,
+                    index: *index,
+                    intent: *intent,
+                };
+                self.of_task(*task, *slot, event)
+            }
             Step::Load {
                 task,
                 slot,
