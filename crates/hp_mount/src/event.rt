@@ -1,6 +1,6 @@
 //! What a step asks of a mount.
 
-use hp_model::step::Intent;
+use hp_model::step::{Intent, Reserving};
 
 /// What a step asks of a mount. Names and bytes are the step's own: nothing is copied. An event of a task says nothing of
 /// the task's home, which goes beside it.
@@ -21,13 +21,15 @@ pub enum MountEvent<'a> {
         offset: u64,
         count: u64,
     },
-    /// Maps `pages` indices of a file, from `start` on, shared, and enters them. A page is reserved for each that was
-    /// not entered; the file gets longer where the map ends past its end (`mm/hugetlbfs_reserv.rst`).
+    /// Maps `pages` indices of a file, from `start` on, shared; the file gets longer where the map ends past its end.
+    /// With reservations its indices are entered, and a page is reserved for each that was not
+    /// (`mm/hugetlbfs_reserv.rst`); without, each page is asked for when it is first touched.
     Map {
         task: u64,
         name: &'a [u8],
         start: u64,
         pages: u64,
+        reserving: Reserving,
     },
     /// Sees to it that a map shows a page at an index, or for a write that it has one to write into.
     Fault {

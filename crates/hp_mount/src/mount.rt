@@ -138,7 +138,16 @@ impl<N: Naming> Mount<N> {
                 name,
                 start,
                 pages,
-            } => self.map(door, home, name, &MapRange { task, start, pages }),
+                reserving,
+            } => {
+                let range = MapRange {
+                    task,
+                    start,
+                    pages,
+                    reserving,
+                };
+                self.map(door, home, name, &range)
+            }
             MountEvent::Fault {
                 task,
                 map,

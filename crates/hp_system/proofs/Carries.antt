@@ -133,7 +133,7 @@ pub happens : (home : ℕ) (e : MountEvent) (slot : Slot) → IsTrue (is_slot_ev
 happens home (event.Create name) slot = refl
 happens home (event.Stat name) slot = refl
 happens home (event.Read name index offset count) slot = refl
-happens home (event.Map task name start pages) slot = refl
+happens home (event.Map task name start pages reserving) slot = refl
 happens home (event.Fault task map index intent) slot = refl
 happens home (event.Load task map index offset count) slot = refl
 happens home (event.Store task map index offset bytes) slot = refl
@@ -144,7 +144,7 @@ pub unmounted : (size k home : ℕ) (e : MountEvent) (p : Pool) → IsCarried si
 unmounted size k home (event.Create name) p = (calm, refl, ((refl, refl), refl))
 unmounted size k home (event.Stat name) p = (calm, refl, ((refl, refl), refl))
 unmounted size k home (event.Read name index offset count) p = (calm, refl, ((refl, refl), refl))
-unmounted size k home (event.Map task name start pages) p = (calm, refl, ((refl, refl), refl))
+unmounted size k home (event.Map task name start pages reserving) p = (calm, refl, ((refl, refl), refl))
 unmounted size k home (event.Fault task map index intent) p = (calm, refl, ((refl, refl), refl))
 unmounted size k home (event.Load task map index offset count) p = (calm, refl, ((refl, refl), refl))
 unmounted size k home (event.Store task map index offset bytes) p = (calm, refl, ((refl, refl), refl))
