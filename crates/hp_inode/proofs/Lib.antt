@@ -5,3 +5,4 @@ mod Tables
 mod Taken
 mod Words
 mod Readying
+mod Paged

@@ -28,7 +28,7 @@ pub few_missing : (e : Region) (a b : ℕ) → missing_in e.indices a b ≤ b
 few_missing e a b = omega (arith, count_by-le-length (λ i. not (set.contains e.indices i)) (range_with_len a (b - a)), length-range_with_len a (b - a))
 
 -- made longer, and entered
-module _ (len m : ℕ) (e new : Region) (rows : Rows) (a b long missing : ℕ) (ready : IsReady len m e rows a b) (long_is : long ≡ max len b) (missing_is : missing ≡ missing_in e.indices a b) (union : new.indices ≡ set.union e.indices (range_set a b)) where
+module _ (len m : ℕ) (e new : Region) (rows : Rows) (a b long missing pages : ℕ) (ready : IsReady len m pages e rows a b) (long_is : long ≡ max len b) (missing_is : missing ≡ missing_in e.indices a b) (union : new.indices ≡ set.union e.indices (range_set a b)) where
   past : drop long (cells_of len e.indices rows) ≡ []
   past = (let here = length-cells len e.indices rows in drop_all long (cells_of len e.indices rows) (omega (arith, long_is, here)))
 

@@ -1,10 +1,11 @@
 -- An inode's parts, and the cells that they stand for.
 use Rattle.std.specs.Prelude.{ℕ, ◌≡◌, ◌<◌, ◌≤◌, ◌^◌, Bool, true, false, List, map, Option, None, Some, IsSome}
-use Rattle.std.specs.List.{range_with_len}
+use Rattle.std.specs.List.{count_by, range_with_len}
 use Rattle.std.specs.Ordering.{nat_cmp}
 use Rattle.std.specs.FinSet as set
 use Rattle.hp_model.specs.declared.cell.Cell.{Cell}
 use Rattle.hp_model.specs.declared.cell.Cell.TheVariants.{Hole, Entered, Present}
+use Rattle.hp_model.specs.files.File.{has_page}
 use Rattle.hp_region.specs.Region.{Region, count_in}
 use Rattle.hp_inode.specs.Rows.{Rows, page_in, has_slot}
 
@@ -27,3 +28,8 @@ pub record IsKept (len count : ℕ) (entries : Region) (rows : Rows) : Type 0 wh
   pub paged : (i : ℕ) → IsSome (page_in rows i) → set.contains entries.indices i ≡ true
   pub slots : (i : ℕ) → set.contains entries.indices i ≡ true → has_slot rows i ≡ true
   pub room : count ≤ entries.room
+
+-- and so many have a page
+pub record IsInode (len count pages : ℕ) (entries : Region) (rows : Rows) : Type 0 where
+  pub kept : IsKept len count entries rows
+  pub paged : pages ≡ count_by has_page (cells_of len entries.indices rows)

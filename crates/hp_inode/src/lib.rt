@@ -25,8 +25,9 @@ mod table;
 #[derive(Drop)]
 pub struct Inode {
     len: u64,
-    // how many indices are entered
+    // how many indices are entered, and how many of these have a page
     count: u64,
+    pages: u64,
     entries: RegionList,
     table: PageTable,
 }
@@ -34,13 +35,13 @@ pub struct Inode {
 impl Model for Inode {
     ghost use Rattle.std.specs.Prelude.{List, ℕ};
     ghost use Rattle.hp_model.specs.declared.cell.Cell.{Cell};
-    ghost use Rattle.hp_inode.specs.Kept.{cells_of, IsKept};
+    ghost use Rattle.hp_inode.specs.Kept.{cells_of, IsInode};
 
     ghost Value = { List (Cell ℕ) };
 
     ghost view = { λ f. cells_of f.len f.entries.indices f.table };
 
-    ghost invariant = { λ f. IsKept f.len f.count f.entries f.table };
+    ghost invariant = { λ f. IsInode f.len f.count f.pages f.entries f.table };
 }
 
 impl Inode {
@@ -51,6 +52,7 @@ impl Inode {
         Inode {
             len: 0,
             count: 0,
+            pages: 0,
             entries: RegionList::new(alloc),
             table: PageTable::new(alloc),
         }
@@ -77,6 +79,20 @@ impl Inode {
         self.entries.contains(i)
     }
 
+    /// How many indices are entered, with a page or without.
+    pub fn entry_count(&self) -> u64
+        ensures { result ≡ count_by is_entered self.now }
+    {
+        self.count
+    }
+
+    /// How many indices have a page.
+    pub fn page_count(&self) -> u64
+        ensures { result ≡ count_by has_page self.now }
+    {
+        self.pages
+    }
+
     /// How many indices from `a` up to `b` are holes.
     pub fn missing(&self, a: u64, b: u64) -> u64
         requires { b ≤ length self.now }
@@ -91,6 +107,7 @@ impl Inode {
         ensures { self.new ≡ slice_set self.old i (Present page) }
     {
         self.table.set(i, Some(page));
+        self.pages += 1;
     }
 
     /// Enters the indices from `a` up to `b`, and makes the room for their pages and for every later removal.
@@ -118,6 +135,7 @@ impl Inode {
         let Inode {
             len,
             count,
+            pages,
             mut entries,
             mut table,
         } = self;
@@ -126,6 +144,7 @@ impl Inode {
             return Err(Inode {
                 len,
                 count,
+                pages,
                 entries,
                 table,
             });
@@ -133,6 +152,7 @@ impl Inode {
         Ok(ReadyInode {
             len,
             count,
+            pages,
             entries,
             table,
             from: a,
@@ -165,6 +185,7 @@ impl Inode {
         }
         let page = self.page_at(i);
         self.table.set(i, None);
+        self.pages -= 1;
         self.drop_entries(i, i + 1);
         page
     }

@@ -14,6 +14,7 @@ use std::marker::Model;
 pub struct ReadyInode {
     pub(crate) len: u64,
     pub(crate) count: u64,
+    pub(crate) pages: u64,
     pub(crate) entries: RegionList,
     pub(crate) table: PageTable,
     pub(crate) from: u64,
@@ -28,7 +29,7 @@ impl Model for ReadyInode {
 
     ghost view = { λ f. record { cells = cells_of f.len f.entries.indices f.table; from = f.from; to = f.to } };
 
-    ghost invariant = { λ f. IsReady f.len f.count f.entries f.table f.from f.to };
+    ghost invariant = { λ f. IsReady f.len f.count f.pages f.entries f.table f.from f.to };
 }
 
 impl ReadyInode {
@@ -39,6 +40,7 @@ impl ReadyInode {
         let ReadyInode {
             len,
             count,
+            pages,
             mut entries,
             table,
             from,
@@ -49,6 +51,7 @@ impl ReadyInode {
         Inode {
             len: len.max(to),
             count: count + missing,
+            pages,
             entries,
             table,
         }
@@ -61,6 +64,7 @@ impl ReadyInode {
         let ReadyInode {
             len,
             count,
+            pages,
             entries,
             table,
             from: _,
@@ -69,6 +73,7 @@ impl ReadyInode {
         Inode {
             len,
             count,
+            pages,
             entries,
             table,
         }

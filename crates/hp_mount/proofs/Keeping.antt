@@ -9,7 +9,7 @@ use Rattle.hp_model.specs.files.File.{File, Mount, cell_at, with_cell, with_file
 use Rattle.hp_model.specs.pool.Grant as grant
 use Rattle.hp_model.specs.files.Page.{Page}
 use Rattle.hp_model.specs.machine.Promises.{file_in, map_in, no_map}
-use Rattle.hp_model.specs.declared.step.Reserving.TheVariants.{Reserve}
+use Rattle.hp_model.specs.declared.step.Reserving.{Reserving}
 use Rattle.hp_model.specs.declared.step.Sharing.TheVariants.{Shared}
 use Rattle.std.proofs.lemmas.List.Elements.{All-append, All-cons, All-get_or, All-nil, All-set}
 use Rattle.hp_model.specs.files.MakeMap.{asked, mapped, new_map}
@@ -161,20 +161,20 @@ module _ (s : Subpool) (v : Files) (inodes : Option ℕ) (c : IsKept s v (mount_
 
   -- ---- a shared map more
 
-  module _ (task number a n more : ℕ) (new : Subpool) (w : Files) (more_is : more ≡ asked Shared Reserve a n (file_at v.files k)) (new_is : new ≡ with_reserves more s) (w_is : w ≡ mapped_at k task number a n (max v.room (s.held + more)) v) where
+  module _ (task number a n more : ℕ) (reserving : Reserving) (new : Subpool) (w : Files) (more_is : more ≡ asked Shared reserving a n (file_at v.files k)) (new_is : new ≡ with_reserves more s) (w_is : w ≡ mapped_at k task number a n (max v.room (s.held + more)) reserving v) where
     pub map_kept : IsKept new w (mount_of new inodes w.files)
     map_kept =
         let held_is = ap (λ (x : Subpool). x.held) new_is in
         let pages_is = ap (λ (x : Subpool). x.pages) new_is in
         let room_is = ap (λ (x : Files). x.room) w_is in
         let plain : s.pages ≡ s.pages + 0 = omega arith in
-        let new_one : Map = new_map task number a n Shared Reserve in
+        let new_one : Map = new_map task number a n Shared reserving in
         let one_more = All-append (λ (x : Map). is_shared x.sharing ≡ true) (file_at v.files k).maps (new_one ∷ []) shared_here (All-cons (λ (x : Map). is_shared x.sharing ≡ true) new_one [] refl (All-nil (λ (x : Map). is_shared x.sharing ≡ true))) in
-        grown new w (mapped task number a n Shared Reserve (file_at v.files k)) 0 0 (asked Shared Reserve a n (file_at v.files k)) (mapped_grows task number a n Shared Reserve (file_at v.files k)) one_more (ap (λ (x : Subpool). x.max) new_is) (ap (λ (x : Subpool). x.min) new_is)
+        grown new w (mapped task number a n Shared reserving (file_at v.files k)) 0 0 (asked Shared reserving a n (file_at v.files k)) (mapped_grows task number a n Shared reserving (file_at v.files k)) one_more (ap (λ (x : Subpool). x.max) new_is) (ap (λ (x : Subpool). x.min) new_is)
         (pages_is ∙ plain) (omega (arith, held_is, pages_is, more_is)) (omega (arith, held_is, room_is)) (ap (λ (x : Files). x.going) w_is) (ap (λ (x : Files). x.files) w_is)
 
-    pub map_left : mount_of new inodes w.files ≡ with_file m k (mapped task number a n Shared Reserve (file_in m k))
-    map_left = mount_left s new inodes (slice_set v.files k (mapped task number a n Shared Reserve (file_at v.files k))) w.files (ap (λ (x : Subpool). x.max) new_is) (ap (λ (x : Subpool). x.min) new_is) (ap (λ (x : Files). x.files) w_is)
+    pub map_left : mount_of new inodes w.files ≡ with_file m k (mapped task number a n Shared reserving (file_in m k))
+    map_left = mount_left s new inodes (slice_set v.files k (mapped task number a n Shared reserving (file_at v.files k))) w.files (ap (λ (x : Subpool). x.max) new_is) (ap (λ (x : Subpool). x.min) new_is) (ap (λ (x : Files). x.files) w_is)
 
 -- ---- more room alone
 

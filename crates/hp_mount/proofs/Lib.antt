@@ -3,5 +3,6 @@ pub mod Keeping
 pub mod Shared
 pub mod Commands
 pub mod Zeros
+pub mod Looking
 pub mod Making
 pub mod Ending

@@ -7,7 +7,7 @@ use Rattle.hp_model.specs.declared.answer.Answer.TheVariants.{Done, MapNo, Usage
 use Rattle.hp_model.specs.declared.event.SlotEvent.TheVariants.{Create, Df, Map as MapEvent}
 use Rattle.hp_model.specs.declared.refusal.Refusal.{Refusal}
 use Rattle.hp_model.specs.declared.refusal.Refusal.TheVariants as r
-use Rattle.hp_model.specs.declared.step.Reserving.TheVariants.{Reserve}
+use Rattle.hp_model.specs.declared.step.Reserving.{Reserving}
 use Rattle.hp_model.specs.declared.step.Sharing.TheVariants.{Shared}
 use Rattle.hp_model.specs.files.File.{Mount, new_file, with_file}
 use Rattle.hp_model.specs.pool.Grant.{is_full, rise}
@@ -144,23 +144,23 @@ never_map true b e = cc
 never_map false true e = cc
 never_map false false e = cc
 
-module _ {X : Type 0} (took : X → Section → PoolAnswer → X → Type 0) (full : X → Type 0) (m : Mount) (size slot task home a n : ℕ) (name : List ℕ) (door : X) where
+module _ {X : Type 0} (took : X → Section → PoolAnswer → X → Type 0) (full : X → Type 0) (m : Mount) (size slot task home a n : ℕ) (reserving : Reserving) (name : List ℕ) (door : X) where
   abbrev event : Choice → Plan
-  event c = slot_event size slot c (Some m) (MapEvent task home name a n Shared Reserve)
+  event c = slot_event size slot c (Some m) (MapEvent task home name a n Shared reserving)
 
   pub map_nowhere : file_named m name ≡ None → Tried took full event (Some m) door (Err r.NoSuchFile) (Some m) door
   map_nowhere e = (
     fresh_choice false (Some m),
     is_fresh false (Some m),
-    subst (λ o. ThroughDoor took (with_value o r.NoSuchFile (map_file (fresh_choice false (Some m)) m task home a n Shared Reserve)) (Some m) door (Err r.NoSuchFile) (Some m) door) (sym e) (refused_at took m r.NoSuchFile door),
+    subst (λ o. ThroughDoor took (with_value o r.NoSuchFile (map_file (fresh_choice false (Some m)) m task home a n Shared reserving)) (Some m) door (Err r.NoSuchFile) (Some m) door) (sym e) (refused_at took m r.NoSuchFile door),
   )
 
   module _ (k : ℕ) (named : file_named m name ≡ Some (k, file_in m k)) where
     abbrev grants : Choice → ℕ → Plan
-    grants c number = grant c m home (asked Shared Reserve a n (file_in m k)) (Answered (MapNo number) (Some (with_file m k (mapped task number a n Shared Reserve (file_in m k)))))
+    grants c number = grant c m home (asked Shared reserving a n (file_in m k)) (Answered (MapNo number) (Some (with_file m k (mapped task number a n Shared reserving (file_in m k)))))
 
     of_file : (c : Choice) → event c ≡ unless (map_tests m task a n) (grants c (next_number task m))
-    of_file c = ap (λ o. with_value o r.NoSuchFile (map_file c m task home a n Shared Reserve)) named
+    of_file c = ap (λ o. with_value o r.NoSuchFile (map_file c m task home a n Shared reserving)) named
 
     refused_by : (e : Refusal) → first_of (map_tests m task a n) ≡ Some e → Through took event (Some m) door (Err e) (Some m) door
     refused_by e h =

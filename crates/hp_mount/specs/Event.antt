@@ -2,21 +2,23 @@
 use Rattle.std.specs.Prelude.{ℕ, Bool, true, false}
 use Rattle.hp_model.specs.declared.event.SlotEvent.{SlotEvent}
 use Rattle.hp_model.specs.declared.event.SlotEvent.TheVariants as slot
-use Rattle.hp_model.specs.declared.step.Reserving.TheVariants.{Reserve}
 use Rattle.hp_model.specs.declared.step.Sharing.TheVariants.{Shared}
 use Rattle.hp_mount.specs.declared.event.MountEvent.{MountEvent}
-use Rattle.hp_mount.specs.declared.event.MountEvent.TheVariants.{Create, Map, Fault, Load, Store, Usage}
+use Rattle.hp_mount.specs.declared.event.MountEvent.TheVariants.{Create, Stat, Read, Map, Fault, Load, Store, Usage}
 
 -- the event, of a task with that home
 abbrev pub event_of : (home : ℕ) → MountEvent → SlotEvent
 event_of home (Create name) = slot.Create name.now
-event_of home (Map task name start pages) = slot.Map task home name.now start pages Shared Reserve
+event_of home (Stat name) = slot.Stat name.now
+event_of home (Read name index offset count) = slot.Read name.now index offset count
+event_of home (Map task name start pages reserving) = slot.Map task home name.now start pages Shared reserving
 event_of home (Fault task map index intent) = slot.Fault task home map index intent
 event_of home (Load task map index offset count) = slot.Load task home map index offset count
 event_of home (Store task map index offset bytes) = slot.Store task home map index offset bytes.now
 event_of home Usage = slot.Df
 
--- it answers the mount's numbers
+-- it answers the mount's numbers, or a file's
 abbrev pub is_usage : SlotEvent → Bool
 is_usage slot.Df = true
+is_usage (slot.Stat name) = true
 is_usage other = false

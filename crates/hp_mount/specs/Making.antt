@@ -5,7 +5,6 @@ use Rattle.hp_model.specs.declared.event.SlotEvent.{SlotEvent}
 use Rattle.hp_model.specs.declared.event.SlotEvent.TheVariants.{Map as MapEvent}
 use Rattle.hp_model.specs.declared.refusal.Refusal.{Refusal}
 use Rattle.hp_model.specs.declared.refusal.Refusal.TheVariants.{BadName, FileExists, NoInodes, OutOfRange, TooMany}
-use Rattle.hp_model.specs.declared.step.Reserving.TheVariants.{Reserve}
 use Rattle.hp_model.specs.declared.step.Sharing.TheVariants.{Shared}
 use Rattle.hp_model.specs.files.File.{Mount, with_file}
 use Rattle.hp_model.specs.pool.Grant.{is_over}
@@ -31,13 +30,13 @@ why_no_map m range = first_of (map_tests m range.task range.start range.pages)
 -- the grant of a shared map's pages, and the map
 abbrev pub map_plan : Mount → MapRange → (number home file : ℕ) → Choice → Plan
 map_plan m range number home file c =
-    grant c m home (asked Shared Reserve range.start range.pages (file_in m file))
+    grant c m home (asked Shared range.reserving range.start range.pages (file_in m file))
     (Answered (MapNo number) (Some (with_file m file
-    (mapped range.task number range.start range.pages Shared Reserve (file_in m file)))))
+    (mapped range.task number range.start range.pages Shared range.reserving (file_in m file)))))
 
 -- the event of a shared map
 abbrev pub map_event : (home : ℕ) → (name : List ℕ) → MapRange → SlotEvent
-map_event home name range = MapEvent range.task home name range.start range.pages Shared Reserve
+map_event home name range = MapEvent range.task home name range.start range.pages Shared range.reserving
 
 -- the reply of a map that was made, by its number
 abbrev pub numbered : ℕ → Result (Unit {0}) Refusal → Reply

@@ -1,6 +1,6 @@
 //! What a step asks of a mount.
 
-use hp_model::step::Intent;
+use hp_model::step::{Intent, Reserving};
 
 /// What a step asks of a mount. Names and bytes are the step's own: nothing is copied. An event of a task says nothing of
 /// the task's home, which goes beside it.
@@ -10,13 +10,26 @@ pub enum MountEvent<'a> {
     Create {
         name: &'a [u8],
     },
-    /// Maps `pages` indices of a file, from `start` on, shared, and enters them. A page is reserved for each that was
-    /// not entered; the file gets longer where the map ends past its end (`mm/hugetlbfs_reserv.rst`).
+    /// Answers a file's length, its pages, its entered indices and its maps.
+    Stat {
+        name: &'a [u8],
+    },
+    /// Answers `count` bytes of a file at an index, from byte `offset` of the page on.
+    Read {
+        name: &'a [u8],
+        index: u64,
+        offset: u64,
+        count: u64,
+    },
+    /// Maps `pages` indices of a file, from `start` on, shared; the file gets longer where the map ends past its end.
+    /// With reservations its indices are entered, and a page is reserved for each that was not
+    /// (`mm/hugetlbfs_reserv.rst`); without, each page is asked for when it is first touched.
     Map {
         task: u64,
         name: &'a [u8],
         start: u64,
         pages: u64,
+        reserving: Reserving,
     },
     /// Sees to it that a map shows a page at an index, or for a write that it has one to write into.
     Fault {

@@ -16,6 +16,7 @@ ghost use Rattle.hp_mount.specs.Event.{event_of, is_usage};
 ghost use Rattle.hp_mount.specs.Kept.{mount_of};
 ghost use Rattle.hp_mount.specs.Memory.{asks_memory};
 
+mod looking;
 mod making;
 mod reach;
 
@@ -125,12 +126,28 @@ impl<N: Naming> Mount<N> {
         match event {
             MountEvent::Create { name } => self.create(name),
             MountEvent::Usage => Ok(self.usage()),
+            MountEvent::Stat { name } => self.stat(name),
+            MountEvent::Read {
+                name,
+                index,
+                offset,
+                count,
+            } => self.read(page_bytes, name, index, offset, count),
             MountEvent::Map {
                 task,
                 name,
                 start,
                 pages,
-            } => self.map(door, home, name, &MapRange { task, start, pages }),
+                reserving,
+            } => {
+                let range = MapRange {
+                    task,
+                    start,
+                    pages,
+                    reserving,
+                };
+                self.map(door, home, name, &range)
+            }
             MountEvent::Fault {
                 task,
                 map,

@@ -4,7 +4,8 @@ use Rattle.std.specs.List.{count_by}
 use Rattle.std.proofs.lemmas.List.{drop-replicate, length-append, length-drop, length-map, length-replicate, length-take, take_min}
 use Rattle.hp_model.specs.declared.cell.Cell.{Cell}
 use Rattle.hp_model.specs.declared.cell.Cell.TheVariants.{Hole, Entered, Present}
-use Rattle.hp_model.specs.declared.step.Reserving.TheVariants.{Reserve}
+use Rattle.hp_model.specs.declared.step.Reserving.{Reserving}
+use Rattle.hp_model.specs.declared.step.Reserving.TheVariants.{Reserve, NoReserve}
 use Rattle.hp_model.specs.declared.step.Sharing.TheVariants.{Shared}
 use Rattle.hp_model.specs.files.File.{at_least, is_entered, is_hole}
 use Rattle.hp_model.specs.Lists.{part}
@@ -12,6 +13,7 @@ use Rattle.hp_model.specs.files.MakeMap.{asked}
 use Rattle.hp_model.specs.files.Page.{Page}
 use Rattle.hp_model.proofs.Counting.{count_cons}
 use Rattle.hp_store.specs.Store.{Store}
+use Rattle.hp_mount_files.specs.Asking.{entered_from}
 use Rattle.hp_mount_files.specs.Files.{file_at}
 use Rattle.hp_mount_files.specs.Numbered.{NumberedFile, cell_shown, files_shown, numbered_at}
 use Rattle.hp_mount_files.proofs.Cells.{file_is}
@@ -86,3 +88,11 @@ asked_shown s fs k a n b l e =
     ∙ sym (holes_shown s cells a n (a + n - length cells))
     ∙ ap (λ m. count_by is_hole (take n (drop a (map (cell_shown s) cells ++ replicate (a + n - m) Hole)))) (sym long)
     ∙ ap (λ f. asked Shared Reserve a n f) (sym (file_is s fs k l))
+
+-- what a shared map asks for: nothing, where it reserves nothing
+pub wanted_shown : (reserving : Reserving) (s : Store) (fs : List NumberedFile) (k a n b : ℕ) → k < length fs → b ≡ a + n
+    → count_by is_hole (take (b - entered_from reserving a n) (drop (entered_from reserving a n) (at_least b (numbered_at fs k).cells))) ≡ asked Shared reserving a n (file_at (files_shown s fs) k)
+wanted_shown Reserve s fs k a n b l e = asked_shown s fs k a n b l e
+wanted_shown NoReserve s fs k a n b l e =
+    let none : b - (a + n) ≡ 0 = omega (arith, e) in
+    ap (λ m. count_by is_hole (take m (drop (a + n) (at_least b (numbered_at fs k).cells)))) none

@@ -1,22 +1,25 @@
--- A shared map more, whose indices are entered.
+-- A shared map more, whose indices are entered, unless it reserves nothing.
 use Rattle.std.proofs.Common.{◌≡◌, ℕ, zero, suc, ◌+◌, ◌-◌, ◌<◌, ◌≤◌, Bool, true, false, not, cond, ◌&&◌, ◌||◌, ◌==◌, List, [], ◌∷◌, ◌++◌, length, map, take, drop, replicate, refl, sym, ap, subst, ◌∙◌, arith}
 use Rattle.std.specs.Prelude.{slice_index_or, slice_set, None}
 use Rattle.std.specs.List.{count_by, filter, flat_map, sum_by}
 use Rattle.std.proofs.lemmas.Bool.{and_parts, eqb-true}
-use Rattle.std.proofs.lemmas.List.{append_assoc, length-append, length-map, length-replicate, map-append, map-set}
+use Rattle.std.proofs.lemmas.List.{append-nil, append_assoc, length-append, length-map, length-replicate, map-append, map-set, take-append-drop}
 use Rattle.std.proofs.lemmas.List.Sums.{sum_by-append, sum_by-cons, sum_by-set, sum_by_push}
 use Rattle.hp_model.specs.declared.cell.Cell.{Cell}
 use Rattle.hp_model.specs.declared.cell.Cell.TheVariants.{Hole, Entered, Present}
 use Rattle.hp_model.specs.declared.place.Place.TheVariants.{Live}
-use Rattle.hp_model.specs.declared.step.Reserving.TheVariants.{Reserve}
+use Rattle.hp_model.specs.declared.step.Reserving.{Reserving}
+use Rattle.hp_model.specs.declared.step.Reserving.TheVariants.{Reserve, NoReserve}
 use Rattle.hp_model.specs.declared.step.Sharing.TheVariants.{Shared}
 use Rattle.hp_model.specs.files.File.{at_least, entered}
 use Rattle.hp_model.specs.Lists.{distinct, edit_range, is_among}
-use Rattle.hp_model.specs.files.MakeMap.{mapped, new_map, numbers_of}
+use Rattle.hp_model.specs.files.MakeMap.{cells_mapped, mapped, new_map, numbers_of}
+use Rattle.hp_model.specs.files.Page.{Page}
 use Rattle.hp_model.specs.files.Mapping.{Map, Mapping, is_of}
 use Rattle.hp_model.proofs.Counting.{count_cons}
 use Rattle.hp_model.proofs.Distinct.{distinct_put, is_among-append}
 use Rattle.hp_store.specs.Store.{Store}
+use Rattle.hp_mount_files.specs.Asking.{entered_from}
 use Rattle.hp_mount_files.specs.Files.{file_at, with_file_at}
 use Rattle.hp_mount_files.specs.Held.{IsHeld, in_cell, in_file, in_map, in_place}
 use Rattle.hp_mount_files.specs.Hints.{AreNoted, IsFiles, IsMore, Noted, has_key}
@@ -161,50 +164,75 @@ entered_counts n Hole = refl
 entered_counts n Entered = refl
 entered_counts n (Present k) = refl
 
-module _ (task number a n : ℕ) where
+-- a range without an index
+edit_nothing : {X : Type 0} (f : X → X) (k : ℕ) (xs : List X) → edit_range f k k xs ≡ xs
+edit_nothing f k xs =
+    let none : k - k ≡ 0 = omega arith in
+    ap (λ m. take k xs ++ map f (take m (drop k xs)) ++ drop m (drop k xs)) none ∙ ap (λ ys. take k xs ++ map f ys ++ drop 0 (drop k xs)) (none_taken (drop k xs))
+    ∙ ap (λ ys. take k xs ++ [] ++ ys) (none_dropped (drop k xs)) ∙ ap (λ ys. ys ++ drop k xs) (append-nil (take k xs)) ∙ take-append-drop k xs
+  where
+    none_taken : {X : Type 0} (ys : List X) → take 0 ys ≡ []
+    none_taken [] = refl
+    none_taken (y ∷ ys) = refl
+
+    none_dropped : {X : Type 0} (ys : List X) → drop 0 ys ≡ ys
+    none_dropped [] = refl
+    none_dropped (y ∷ ys) = refl
+
+module _ (task number a n : ℕ) (reserving : Reserving) where
+  abbrev from : ℕ
+  from = entered_from reserving a n
+
+  range_entered : (cells : List (Cell Page)) → edit_range entered from (a + n) (at_least (a + n) cells) ≡ cells_mapped Shared reserving a n cells
+  range_entered cells = elim reserving as (λ r. edit_range entered (entered_from r a n) (a + n) (at_least (a + n) cells) ≡ cells_mapped Shared r a n cells) [
+    | Reserve ↦ refl
+    | NoReserve ↦ edit_nothing entered (a + n) (at_least (a + n) cells)
+  ]
+
   abbrev y : Mapping ℕ
   y = new_mapping task number a n
 
   wide : length y.places ≡ n
   wide = length-replicate n _
 
-  new_shown : (s : Store) → map_shown s y ≡ new_map task number a n Shared Reserve
-  new_shown s = ap (λ ps. record (new_map task number a n Shared Reserve) { places = ps }) (map_replicate (place_shown s) n (Live false None))
+  new_shown : (s : Store) → map_shown s y ≡ new_map task number a n Shared reserving
+  new_shown s = ap (λ ps. record (new_map task number a n Shared reserving) { places = ps }) (map_replicate (place_shown s) n (Live false None))
 
-  mapped_shown : (s : Store) (x : NumberedFile) → file_shown s (with_mapping y x) ≡ mapped task number a n Shared Reserve (file_shown s x)
+  mapped_shown : (s : Store) (x : NumberedFile) → file_shown s (with_mapping from y x) ≡ mapped task number a n Shared reserving (file_shown s x)
   mapped_shown s x =
       let end : ℕ = a + length y.places in
-      let cells : map (cell_shown s) (edit_range entered a end (at_least end x.cells)) ≡ edit_range entered a (a + n) (at_least (a + n) (map (cell_shown s) x.cells)) =
-      map_edited (cell_shown s) entered entered (entered_shown s) a end (at_least end x.cells)
-      ∙ ap (edit_range entered a end) (map-append (cell_shown s) x.cells (replicate (end - length x.cells) Hole) ∙ ap (λ cs. map (cell_shown s) x.cells ++ cs) (map_replicate (cell_shown s) (end - length x.cells) Hole))
-      ∙ ap (λ m. edit_range entered a end (map (cell_shown s) x.cells ++ replicate (end - m) Hole)) (sym (length-map x.cells (cell_shown s)))
-      ∙ ap (λ m. edit_range entered a (a + m) (at_least (a + m) (map (cell_shown s) x.cells))) wide in
+      let cells : map (cell_shown s) (edit_range entered from end (at_least end x.cells)) ≡ cells_mapped Shared reserving a n (map (cell_shown s) x.cells) =
+      map_edited (cell_shown s) entered entered (entered_shown s) from end (at_least end x.cells)
+      ∙ ap (edit_range entered from end) (map-append (cell_shown s) x.cells (replicate (end - length x.cells) Hole) ∙ ap (λ cs. map (cell_shown s) x.cells ++ cs) (map_replicate (cell_shown s) (end - length x.cells) Hole))
+      ∙ ap (λ m. edit_range entered from end (map (cell_shown s) x.cells ++ replicate (end - m) Hole)) (sym (length-map x.cells (cell_shown s)))
+      ∙ ap (λ m. edit_range entered from (a + m) (at_least (a + m) (map (cell_shown s) x.cells))) wide
+      ∙ range_entered (map (cell_shown s) x.cells) in
       ap (λ cs. record { name = x.name; cells = cs; maps = map (map_shown s) (x.maps ++ y ∷ []) }) cells
-      ∙ ap (λ ms. record { name = x.name; cells = edit_range entered a (a + n) (at_least (a + n) (map (cell_shown s) x.cells)); maps = ms }) (map-append (map_shown s) x.maps (y ∷ []) ∙ ap (λ m. map (map_shown s) x.maps ++ m ∷ []) (new_shown s))
+      ∙ ap (λ ms. record { name = x.name; cells = cells_mapped Shared reserving a n (map (cell_shown s) x.cells); maps = ms }) (map-append (map_shown s) x.maps (y ∷ []) ∙ ap (λ m. map (map_shown s) x.maps ++ m ∷ []) (new_shown s))
 
-  cells_count : (m : ℕ) (x : NumberedFile) → sum_by (in_cell m) (with_mapping y x).cells ≡ sum_by (in_cell m) x.cells
+  cells_count : (m : ℕ) (x : NumberedFile) → sum_by (in_cell m) (with_mapping from y x).cells ≡ sum_by (in_cell m) x.cells
   cells_count m x =
       let end : ℕ = a + length y.places in
-      let same = sum_edited (in_cell m) entered (entered_counts m) a end (at_least end x.cells) in
+      let same = sum_edited (in_cell m) entered (entered_counts m) from end (at_least end x.cells) in
       let both = sum_by-append (in_cell m) x.cells (replicate (end - length x.cells) Hole) in
       let none = sum_none (in_cell m) (end - length x.cells) Hole refl in
       omega (arith, same, both, none)
 
-  file_count : (m : ℕ) (x : NumberedFile) → in_file m (with_mapping y x) ≡ in_file m x
+  file_count : (m : ℕ) (x : NumberedFile) → in_file m (with_mapping from y x) ≡ in_file m x
   file_count m x =
       let cells = cells_count m x in
       let maps = sum_by_push (in_map m) x.maps y in
       let none = sum_none (in_place m) n (Live false None) refl in
       omega (arith, cells, maps, none)
 
-  module _ (old : Noted) (s : Store) (more maps tasks : ℕ) (fs : List NumberedFile) (k : ℕ) (is : IsFiles old s more maps tasks fs) (l : k < length fs) (x g : NumberedFile) (read : x ≡ slice_index_or fs k x) (g_is : g ≡ with_mapping y x) where
+  module _ (old : Noted) (s : Store) (more maps tasks : ℕ) (fs : List NumberedFile) (k : ℕ) (is : IsFiles old s more maps tasks fs) (l : k < length fs) (x g : NumberedFile) (read : x ≡ slice_index_or fs k x) (g_is : g ≡ with_mapping from y x) where
     at : x ≡ numbered_at fs k
     at = read_is fs k x l read
 
-    pub map_view : view s more (slice_set fs k g) ≡ with_file_at k (mapped task number a n Shared Reserve (file_at (files_shown s fs) k)) (view s more fs)
+    pub map_view : view s more (slice_set fs k g) ≡ with_file_at k (mapped task number a n Shared reserving (file_at (files_shown s fs) k)) (view s more fs)
     map_view =
         ap (λ xs. record (view s more fs) { files = xs }) (map-set (file_shown s) fs k g
-        ∙ ap (slice_set (files_shown s fs) k) (ap (file_shown s) g_is ∙ mapped_shown s x ∙ ap (mapped task number a n Shared Reserve) (ap (file_shown s) at ∙ sym (file_is s fs k l))))
+        ∙ ap (slice_set (files_shown s fs) k) (ap (file_shown s) g_is ∙ mapped_shown s x ∙ ap (mapped task number a n Shared reserving) (ap (file_shown s) at ∙ sym (file_is s fs k l))))
 
     pub map_held : IsHeld s more (slice_set fs k g)
     map_held = alike_held s more fs is.held k l g

@@ -1,11 +1,12 @@
 -- What a new map asks for, and reservations that are asked for through a door.
-use Rattle.std.specs.Prelude.{◌≡◌, ℕ, ◌<◌, Bool, List, Ok, Err, Result, not}
+use Rattle.std.specs.Prelude.{◌≡◌, ℕ, ◌+◌, ◌<◌, Bool, List, Ok, Err, Result, not}
 use Rattle.hp_model.specs.declared.refusal.Refusal.{Refusal}
 use Rattle.hp_model.specs.declared.refusal.Refusal.TheVariants.{OutOfMemory}
 use Rattle.hp_model.specs.declared.section.PoolAnswer.{PoolAnswer}
 use Rattle.hp_model.specs.declared.section.Section.{Section}
 use Rattle.hp_model.specs.declared.section.Section.TheVariants.{Grant}
-use Rattle.hp_model.specs.declared.step.Reserving.TheVariants.{Reserve}
+use Rattle.hp_model.specs.declared.step.Reserving.{Reserving}
+use Rattle.hp_model.specs.declared.step.Reserving.TheVariants.{Reserve, NoReserve}
 use Rattle.hp_model.specs.declared.step.Sharing.TheVariants.{Shared}
 use Rattle.hp_model.specs.files.File.{File}
 use Rattle.hp_model.specs.Lists.{is_among, least_unused}
@@ -17,14 +18,19 @@ use Rattle.hp_mount_files.specs.declared.next_map.MapRange.{MapRange}
 use Rattle.hp_mount_files.specs.Files.{file_at}
 use Rattle.hp_mount_files.specs.Places.{all_maps, all_tasks}
 
+-- the first index that a shared map of n from a on enters; one that reserves nothing enters none
+abbrev pub entered_from : Reserving → (a n : ℕ) → ℕ
+entered_from Reserve a n = a
+entered_from NoReserve a n = a + n
+
 -- how many pages a shared map of a range of a file asks for
 abbrev pub wants : MapRange → (file : ℕ) → List File → ℕ
-wants range file fs = asked Shared Reserve range.start range.pages (file_at fs file)
+wants range file fs = asked Shared range.reserving range.start range.pages (file_at fs file)
 
 -- the file with a shared map of the range more
 abbrev pub with_shared : MapRange → (number file : ℕ) → List File → File
 with_shared range number file fs =
-    mapped range.task number range.start range.pages Shared Reserve (file_at fs file)
+    mapped range.task number range.start range.pages Shared range.reserving (file_at fs file)
 
 -- the least number that none of the task's maps has
 abbrev pub next_of : (task : ℕ) → List File → ℕ

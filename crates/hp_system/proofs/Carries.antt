@@ -131,7 +131,9 @@ module _ (size bytes : ℕ) (t : Table) where
 -- it is an event of any slot
 pub happens : (home : ℕ) (e : MountEvent) (slot : Slot) → IsTrue (is_slot_event slot (event_of home e))
 happens home (event.Create name) slot = refl
-happens home (event.Map task name start pages) slot = refl
+happens home (event.Stat name) slot = refl
+happens home (event.Read name index offset count) slot = refl
+happens home (event.Map task name start pages reserving) slot = refl
 happens home (event.Fault task map index intent) slot = refl
 happens home (event.Load task map index offset count) slot = refl
 happens home (event.Store task map index offset bytes) slot = refl
@@ -140,7 +142,9 @@ happens home event.Usage slot = refl
 -- a slot that is not mounted answers that it is not there
 pub unmounted : (size k home : ℕ) (e : MountEvent) (p : Pool) → IsCarried size k p None (event_of home e) (Err refusal.NoSuchSlot) None p
 unmounted size k home (event.Create name) p = (calm, refl, ((refl, refl), refl))
-unmounted size k home (event.Map task name start pages) p = (calm, refl, ((refl, refl), refl))
+unmounted size k home (event.Stat name) p = (calm, refl, ((refl, refl), refl))
+unmounted size k home (event.Read name index offset count) p = (calm, refl, ((refl, refl), refl))
+unmounted size k home (event.Map task name start pages reserving) p = (calm, refl, ((refl, refl), refl))
 unmounted size k home (event.Fault task map index intent) p = (calm, refl, ((refl, refl), refl))
 unmounted size k home (event.Load task map index offset count) p = (calm, refl, ((refl, refl), refl))
 unmounted size k home (event.Store task map index offset bytes) p = (calm, refl, ((refl, refl), refl))

@@ -6,7 +6,7 @@ ghost use Rattle.hp_pool.specs.Ledgers.{AreLedgers};
 use hp_model::answer::{Answer, Reply};
 use hp_model::naming::Naming;
 use hp_model::refusal::Refusal;
-use hp_model::step::Intent;
+use hp_model::step::{Intent, Reserving};
 use hp_mount::{MapAccess, MapRange, Mount};
 use hp_pool::{Blanks, Pool};
 use hp_subpool::Subpool;
@@ -29,6 +29,7 @@ fn range(start: u64, pages: u64) -> MapRange {
         task: 7,
         start,
         pages,
+        reserving: Reserving::Reserve,
     }
 }
 

@@ -6,6 +6,7 @@ ghost use Rattle.hp_pool.specs.Ledgers.{AreLedgers};
 use hp_model::answer::{Answer, Reply};
 use hp_model::naming::Naming;
 use hp_model::refusal::Refusal;
+use hp_model::step::Reserving;
 use hp_mount::{MapAccess, MapRange, Mount};
 use hp_mount_door::PoolDoor;
 use hp_nodes::Page;
@@ -123,6 +124,7 @@ const RANGE: MapRange = MapRange {
     task: 7,
     start: 0,
     pages: 2,
+    reserving: Reserving::Reserve,
 };
 
 const ACCESS: MapAccess = MapAccess {

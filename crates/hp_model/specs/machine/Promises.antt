@@ -420,6 +420,7 @@ pub record IsPromised (s : State) (step : Step) (reply : Reply) (t : State) : Ty
 abbrev pub takes_memory : State → Step → Bool
 takes_memory s (CreateStep k name) = true
 takes_memory s (MapStep task k name a n sharing reserving) = true
+takes_memory s (Fault task k number i intent) = not (is_backed intent (map_named s k task number) i)
 takes_memory s (Load task k number i offset count) = not (is_backed Read (map_named s k task number) i)
 takes_memory s (Store task k number i offset bytes) = not (is_backed Write (map_named s k task number) i)
 takes_memory s step = false

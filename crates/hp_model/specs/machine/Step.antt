@@ -12,7 +12,6 @@ use Rattle.hp_model.specs.declared.event.SlotEvent.{SlotEvent}
 use Rattle.hp_model.specs.declared.event.SlotEvent.TheVariants as slot
 use Rattle.hp_model.specs.declared.event.PoolEvent.TheVariants as pool
 use Rattle.hp_model.specs.declared.step.Sharing.TheVariants.{Shared}
-use Rattle.hp_model.specs.declared.step.Reserving.TheVariants.{Reserve}
 use Rattle.hp_model.specs.declared.step.Step.{Step}
 use Rattle.hp_model.specs.declared.step.Step.TheVariants.{Connect, Attach, Fork, Exit, Mount, Umount, Create, Unlink, Truncate, Punch, Read, Ls, Stat, Map, Anon, Unmap, Fault, Load, Store, Nr, Overcommit, Meminfo, Nodes, Df}
 use Rattle.hp_model.specs.machine.Event.{IsEvent, has_maps_of}
@@ -102,7 +101,10 @@ is_unbuilt s (Connect task home) = false
 is_unbuilt s (Mount k options) = false
 is_unbuilt s (Umount k) = false
 is_unbuilt s (Create k name) = false
-is_unbuilt s (Map task k name a pages Shared Reserve) = false
+is_unbuilt s (Read k name i offset count) = false
+is_unbuilt s (Stat k name) = false
+is_unbuilt s (Map task k name a pages Shared reserving) = false
+is_unbuilt s (Fault task k number i intent) = false
 is_unbuilt s (Load task k number i offset count) = false
 is_unbuilt s (Store task k number i offset bytes) = false
 is_unbuilt s Meminfo = false

@@ -163,7 +163,10 @@ impl<N: Naming> Mount<N> {
         Ok(())
     }
 
-    /// Maps indices of a file for a task, shared, and enters them.
+    /// Maps indices of a file for a task, shared. With reservations they are entered; without, nothing is asked of the pool.
+    ///
+    /// Refused as NoSuchFile, OutOfRange, TooMany, MountFull, OutOfMemory or NoPages, the first of these that holds, and
+    /// as TraceFull where the door has no room to note the section; then nothing changes.
     pub fn map<D: PoolDoor<Share = Subpool<N>>>(
         &mut self,
         door: &mut D,

@@ -364,7 +364,7 @@ impl<N: Naming> Mount<N> {
 }
 
 /// The answer with `count` bytes of a page.
-fn bytes_answer(page: &[u8], offset: usize, count: usize) -> Answer
+pub(super) fn bytes_answer(page: &[u8], offset: usize, count: usize) -> Answer
     requires within { offset + count ≤ length page.now }
     requires few { count ≤ 256 }
     ensures { result ≡ bytes_answer offset count page.now }
@@ -381,7 +381,7 @@ fn bytes_answer(page: &[u8], offset: usize, count: usize) -> Answer
 }
 
 /// The answer with `count` zeros.
-fn no_bytes(count: usize) -> Answer
+pub(super) fn no_bytes(count: usize) -> Answer
     ensures { (size offset : ℕ) → offset + count ≤ size → count ≤ 256
         → result ≡ bytes_answer offset count (zeros size) }
 {

@@ -3,7 +3,6 @@ ghost use Rattle.std.specs.Prelude.{◌≡◌, ◌≢◌, true, false, Err, IfOk
 ghost use Rattle.hp_model.specs.declared.refusal.Refusal.TheVariants as Refusal;
 ghost use Rattle.hp_model.specs.declared.step.Step.TheVariants.{Connect, Map as MapStep, Nr, Meminfo};
 ghost use Rattle.hp_model.specs.machine.Promises.{is_usage, IsPromised, IsPromisedRun};
-ghost use Rattle.hp_model.specs.declared.step.Reserving.TheVariants.{Reserve};
 ghost use Rattle.hp_model.specs.declared.step.Sharing.TheVariants.{Shared};
 ghost use Rattle.hp_model.specs.machine.Step.{IsStep};
 ghost use Rattle.hp_model.specs.text.Writing.{IsWithinLimits};
@@ -79,10 +78,18 @@ impl<N: Naming> System<N> {
         self.answer(step)
     }
 
-    // Maps indices of a file, shared.
+    // Maps indices of a file, shared, with reservations or without.
     #[tactic(auto, unfolding(hp_model::specs::machine::Step::IsStep))]
-    fn map_shared(&mut self, task: u64, slot: u64, name: &Bytes, start: u64, pages: u64) -> Reply
-        ensures step { IsStep self.old (MapStep task slot name.now start pages Shared Reserve)
+    fn map_shared(
+        &mut self,
+        task: u64,
+        slot: u64,
+        name: &Bytes,
+        start: u64,
+        pages: u64,
+        reserving: Reserving,
+    ) -> Reply
+        ensures step { IsStep self.old (MapStep task slot name.now start pages Shared reserving)
             result self.new }
         ensures size { self.new.page_size ≡ self.old.page_size }
     {
@@ -91,6 +98,7 @@ impl<N: Naming> System<N> {
             name: name.as_slice(),
             start,
             pages,
+            reserving,
         };
         self.of_task(task, slot, event)
     }
@@ -112,6 +120,25 @@ impl<N: Naming> System<N> {
                 let name = name.as_slice();
                 self.on_slot(*slot, 0, MountEvent::Create { name })
             }
+            Step::Stat { slot, name } => {
+                let name = name.as_slice();
+                self.on_slot(*slot, 0, MountEvent::Stat { name })
+            }
+            Step::Read {
+                slot,
+                name,
+                index,
+                offset,
+                count,
+            } => {
+                let event = MountEvent::Read {
+                    name: name.as_slice(),
+                    index: *index,
+                    offset: *offset,
+                    count: *count,
+                };
+                self.on_slot(*slot, 0, event)
+            }
             Step::Map {
                 task,
                 slot,
@@ -119,8 +146,23 @@ impl<N: Naming> System<N> {
                 from,
                 pages,
                 sharing: Sharing::Shared,
-                reserving: Reserving::Reserve,
-            } => self.map_shared(*task, *slot, name, *from, *pages),
+                reserving,
+            } => self.map_shared(*task, *slot, name, *from, *pages, *reserving),
+            Step::Fault {
+                task,
+                slot,
+                map,
+                index,
+                intent,
+            } => {
+                let event = MountEvent::Fault {
+                    task: *task,
+                    map: *map,
+                    index: *index,
+                    intent: *intent,
+                };
+                self.of_task(*task, *slot, event)
+            }
             Step::Load {
                 task,
                 slot,

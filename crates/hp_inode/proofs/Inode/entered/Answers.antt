@@ -3,4 +3,4 @@ use Rattle.hp_inode.proofs.CellFacts.{entered_at_cell}
 use Rattle.hp_inode.proofs.Inode.entered.Goals as goal
 
 pub returns : goal.returns
-returns c = rw (← c.self.view_is) (c.contains.ensures ∙ entered_at_cell _ _ _ _ c.self.invariant c.args.i)
+returns c = rw (← c.self.view_is) (c.contains.ensures ∙ entered_at_cell _ _ _ _ c.self.invariant.kept c.args.i)

@@ -1,7 +1,10 @@
-use Rattle.std.proofs.Common.{ap, ◌∙◌, arith}
-use Rattle.hp_model.specs.files.File.{at_least, entered}
+use Rattle.std.proofs.Common.{sym, ap, ◌∙◌, arith}
+use Rattle.std.specs.List.{count_by}
+use Rattle.hp_model.specs.files.File.{at_least, entered, has_page}
 use Rattle.hp_model.specs.Lists.{edit_range}
+use Rattle.hp_inode.specs.Kept.{cells_of}
 use Rattle.hp_inode.specs.Ready.{Ready}
+use Rattle.hp_inode.proofs.Paged.{entered_paged, longer_paged}
 use Rattle.hp_inode.proofs.Readying.{few_entered, few_missing, enter_kept, enter_cells}
 use Rattle.hp_inode.proofs.ready.ReadyInode.enter.Goals as goal
 
@@ -14,10 +17,13 @@ overflow_add-result c =
 pub invariant_of-result : goal.invariant_of-result
 invariant_of-result c =
     let s = c.self.inside in
-    enter_kept s.len s.count s.entries c.add.new.self s.table s.from s.to c.max.result c.missing-missing.result c.self.invariant c.max.ensures c.missing-missing.ensures (rw c.unwrap.ensures at c.add.ensures.ok) c.add.ensures.room
+    let kept = enter_kept s.len s.count s.entries c.add.new.self s.table s.from s.to c.max.result c.missing-missing.result s.pages c.self.invariant c.max.ensures c.missing-missing.ensures (rw c.unwrap.ensures at c.add.ensures.ok) c.add.ensures.room in
+    let cells = enter_cells s.len s.count s.entries c.add.new.self s.table s.from s.to c.max.result c.missing-missing.result s.pages c.self.invariant c.max.ensures c.missing-missing.ensures (rw c.unwrap.ensures at c.add.ensures.ok) in
+    let was = cells_of s.len s.entries.indices s.table in
+    record { kept = kept; paged = c.self.invariant.paged ∙ sym (longer_paged s.to was) ∙ sym (entered_paged s.from s.to (at_least s.to was)) ∙ ap (count_by has_page) (sym cells) }
 
 pub returns : goal.returns
 returns c =
     let s = c.self.inside in
-    enter_cells s.len s.count s.entries c.add.new.self s.table s.from s.to c.max.result c.missing-missing.result c.self.invariant c.max.ensures c.missing-missing.ensures (rw c.unwrap.ensures at c.add.ensures.ok)
+    enter_cells s.len s.count s.entries c.add.new.self s.table s.from s.to c.max.result c.missing-missing.result s.pages c.self.invariant c.max.ensures c.missing-missing.ensures (rw c.unwrap.ensures at c.add.ensures.ok)
     ∙ ap (λ (r : Ready). edit_range entered r.from r.to (at_least r.to r.cells)) c.self.view_is

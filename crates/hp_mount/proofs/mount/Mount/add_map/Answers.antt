@@ -20,7 +20,7 @@ invariant_of-self-2 g c =
     let o = c.self.inside in
     let r = c.args.range.now in
     let within = subst (λ (x : Mount). c.args.file < length x.files) (sym c.self.view_is) c.requires.file in
-    map_kept o.share o.files o.inodes c.self.invariant c.args.file within r.task c.args.next.number r.start r.pages _ c.add_map.new.share c.add_map.new.self refl c.in_default.ensures.asked.share c.in_default.ensures.ok
+    map_kept o.share o.files o.inodes c.self.invariant c.args.file within r.task c.args.next.number r.start r.pages _ r.reserving c.add_map.new.share c.add_map.new.self refl c.in_default.ensures.asked.share c.in_default.ensures.ok
 
 pub returns-clause-done : goal.returns-clause-done
 returns-clause-done g c =
@@ -31,7 +31,7 @@ returns-clause-done g c =
     let full = full_as o.share o.files o.inodes m c.self.invariant c.self.view_is k r c.wanted-wanted.result c.is_full.result c.wanted-wanted.ensures c.is_full.ensures in
     let given = subst (λ n. IsGranted g.D.PoolDoor.took g.D.PoolDoor.is_full c.args.home n o.share c.args.door.now c.add_map.new.share c.add_map.new.door) (wants_is o.share o.files o.inodes m c.self.invariant c.self.view_is k r) c.in_default.ensures.asked in
     let within = subst (λ (x : Mount). k < length x.files) (sym c.self.view_is) c.requires.file in
-    let new_is = map_left o.share o.files o.inodes c.self.invariant k within r.task c.args.next.number r.start r.pages _ c.add_map.new.share c.add_map.new.self refl c.in_default.ensures.asked.share c.in_default.ensures.ok
+    let new_is = map_left o.share o.files o.inodes c.self.invariant k within r.task c.args.next.number r.start r.pages _ r.reserving c.add_map.new.share c.add_map.new.self refl c.in_default.ensures.asked.share c.in_default.ensures.ok
     ∙ ap (λ (x : Mount). with_file x k (with_shared r c.args.next.number k x.files)) c.self.view_is in
     subst (λ (x : Mount). Tried g.D.PoolDoor.took g.D.PoolDoor.is_full (map_plan m r c.args.next.number c.args.home k) (Some m) c.args.door.now (Ok (MapNo c.args.next.number)) (Some x) c.add_map.new.door) (sym new_is)
     (grant_given g.D.PoolDoor.took g.D.PoolDoor.is_full m c.args.home _ (MapNo c.args.next.number) _ c.args.door.now (full ∙ c.if-is_full.false) o.share

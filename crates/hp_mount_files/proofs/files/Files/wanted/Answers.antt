@@ -1,12 +1,12 @@
 use Rattle.std.proofs.Common.{refl, ◌<◌, ◌+◌, ◌-◌, length, ap, drop, subst, sym, take, ◌∙◌, arith}
 use Rattle.std.specs.List.{count_by}
-use Rattle.hp_model.specs.declared.step.Reserving.TheVariants.{Reserve}
 use Rattle.hp_model.specs.declared.step.Sharing.TheVariants.{Shared}
 use Rattle.hp_model.specs.files.File.{at_least, is_hole}
 use Rattle.hp_model.specs.files.MakeMap.{asked}
+use Rattle.hp_mount_files.specs.Asking.{entered_from}
 use Rattle.hp_mount_files.specs.Files.{Files, file_at}
 use Rattle.hp_mount_files.specs.Numbered.{NumberedFile}
-use Rattle.hp_mount_files.proofs.Holes.{asked_shown}
+use Rattle.hp_mount_files.proofs.Holes.{wanted_shown}
 use Rattle.hp_mount_files.proofs.Views.{files_len, read_is}
 use Rattle.hp_mount_files.proofs.files.Files.wanted.Goals as goal
 
@@ -15,6 +15,7 @@ returns g c =
     let s = c.self.inside in
     let r = c.args.range.now in
     let end = r.start + r.pages in
+    let from = entered_from r.reserving r.start r.pages in
     let within : c.args.file < length s.list.items = (let same = files_len s.store s.list.items in let inside = subst (λ (v : Files). c.args.file < length v.files) (sym c.self.view_is) c.requires.file in omega (arith, same, inside)) in
-    c.missing.ensures ∙ ap (λ (f : NumberedFile). count_by is_hole (take (end - r.start) (drop r.start (at_least end f.cells)))) (read_is s.list.items c.args.file c.index.result.now within c.index.ensures)
-    ∙ asked_shown s.store s.list.items c.args.file r.start r.pages end within refl ∙ ap (λ (v : Files). asked Shared Reserve r.start r.pages (file_at v.files c.args.file)) c.self.view_is
+    c.missing.ensures ∙ ap (λ k. count_by is_hole (take (end - k) (drop k (at_least end c.index.result.now.cells)))) c.entered_from.ensures.from ∙ ap (λ (f : NumberedFile). count_by is_hole (take (end - from) (drop from (at_least end f.cells)))) (read_is s.list.items c.args.file c.index.result.now within c.index.ensures)
+    ∙ wanted_shown r.reserving s.store s.list.items c.args.file r.start r.pages end within refl ∙ ap (λ (v : Files). asked Shared r.reserving r.start r.pages (file_at v.files c.args.file)) c.self.view_is

@@ -1,0 +1,44 @@
+use Rattle.std.proofs.Common.{◌≡◌, None, Some, refl, sym, subst, ap, ◌∙◌}
+use Rattle.hp_model.specs.declared.event.SlotEvent.TheVariants.{Read}
+use Rattle.hp_model.specs.files.File.{Mount, cell_at}
+use Rattle.hp_model.specs.files.Value.{shown}
+use Rattle.hp_model.specs.machine.Plan.{Answered, Finish}
+use Rattle.hp_model.specs.machine.Promises.{file_in}
+use Rattle.hp_model.specs.machine.SlotEvent.{bytes_answer, file_named, read, read_tests}
+use Rattle.hp_mount.specs.Found.{first_of}
+use Rattle.hp_mount.proofs.Commands.{tests_fail, tests_pass}
+use Rattle.hp_mount.proofs.Looking.{is_answered, is_refused, not_named}
+use Rattle.hp_mount.proofs.mount.Mount.read.Given.{Over}
+use Rattle.hp_mount.proofs.mount.Mount.read.Goals as goal
+
+pub returns-in_default-clause-done : goal.returns-in_default-clause-done
+returns-in_default-clause-done g c k =
+    let m = c.args.self.now in
+    let a = c.args in
+    not_named g.N.Naming.page_bytes k m a.name.now (Read a.name.now a.index a.offset a.count) (read g.N.Naming.page_bytes m a.index a.offset a.count) (λ x. refl)
+    (subst (λ (x : Mount). file_named x a.name.now ≡ None) c.self.view_is c.in_default.ensures.none)
+
+pub returns-in-Some-refused_read-clause-done : goal.returns-in-Some-refused_read-clause-done
+returns-in-Some-refused_read-clause-done g c k =
+    let m = c.args.self.now in
+    let a = c.args in
+    let size = g.N.Naming.page_bytes in
+    let file = c.in-Some.file in
+    let f = file_in m file in
+    let named = subst (λ (x : Mount). file_named x a.name.now ≡ Some (file, file_in x file)) c.self.view_is c.in-Some.ensures.some.is in
+    let why = subst (λ n. first_of (read_tests n a.index a.offset a.count f) ≡ Some c.in-Some-refused_read.refusal) c.requires.page_bytes (sym c.refused_read.ensures.first ∙ c.in-Some-refused_read.is) in
+    is_refused size k m a.name.now (Read a.name.now a.index a.offset a.count) (read size m a.index a.offset a.count) (λ x. refl) (file, f) named c.in-Some-refused_read.refusal
+    (tests_fail (read_tests size a.index a.offset a.count f) (Finish (Answered (bytes_answer a.offset a.count (shown size (cell_at f a.index))) (Some m))) c.in-Some-refused_read.refusal why)
+
+pub returns-in-None-clause-done : goal.returns-in-None-clause-done
+returns-in-None-clause-done g c k =
+    let m = c.args.self.now in
+    let a = c.args in
+    let size = g.N.Naming.page_bytes in
+    let file = c.in-Some.file in
+    let f = file_in m file in
+    let named = subst (λ (x : Mount). file_named x a.name.now ≡ Some (file, file_in x file)) c.self.view_is c.in-Some.ensures.some.is in
+    let pass = subst (λ n. first_of (read_tests n a.index a.offset a.count f) ≡ None) c.requires.page_bytes (sym c.refused_read.ensures.first ∙ c.in-None.is) in
+    let shows = bytes_answer a.offset a.count (shown size (cell_at f a.index)) in
+    is_answered size k m a.name.now (Read a.name.now a.index a.offset a.count) (read size m a.index a.offset a.count) (λ x. refl) (file, f) named _ shows
+    (tests_pass (read_tests size a.index a.offset a.count f) (Finish (Answered shows (Some m))) pass) c.file_bytes.ensures

@@ -1,0 +1,105 @@
+//! What a file is asked by its name.
+ghost use Rattle.std.specs.Prelude.{◌≡◌, ◌≢◌, ℕ, ◌+◌, ◌≤◌, ◌<◌, length, Err, IfNone, IfSome, Some};
+ghost use Rattle.hp_model.specs.declared.event.SlotEvent.TheVariants.{Read, Stat};
+ghost use Rattle.hp_model.specs.declared.refusal.Refusal.TheVariants as Refusal;
+ghost use Rattle.hp_model.specs.files.File.{cell_at};
+ghost use Rattle.hp_model.specs.files.Value.{shown};
+ghost use Rattle.hp_model.specs.machine.Promises.{file_in};
+ghost use Rattle.hp_model.specs.machine.SlotEvent.{bytes_answer, read_tests};
+ghost use Rattle.hp_model.specs.text.Writing.{IsWithinLimits};
+ghost use Rattle.hp_mount.specs.Alone.{IsDoneAlone};
+ghost use Rattle.hp_mount.specs.Found.{first_of};
+
+use super::Mount;
+use super::reach::{bytes_answer, no_bytes};
+use hp_model::answer::{Answer, Reply};
+use hp_model::naming::Naming;
+use hp_model::refusal::Refusal;
+
+impl<N: Naming> Mount<N> {
+    /// A file's length in pages, how many pages it has of its own, how many of its indices are entered, and how many
+    /// maps it has, of all tasks. Refused as NoSuchFile. No index is walked.
+    pub fn stat(&self, name: &[u8]) -> Reply
+        ensures done { (size k : ℕ)
+            → IsDoneAlone size k (Some self.now) (Stat name.now) result (Some self.now) }
+        ensures limits { IsWithinLimits result }
+        ensures memory { result ≢ Err Refusal.OutOfMemory }
+        ensures noted { result ≢ Err Refusal.TraceFull }
+    {
+        let Some(file) = self.files.named(name) else {
+            return Err(Refusal::NoSuchFile);
+        };
+        Ok(Answer::Stat {
+            len: self.files.len(file),
+            pages: self.files.page_count(file),
+            entries: self.files.entry_count(file),
+            maps: self.files.map_count_of(file) as u64,
+        })
+    }
+
+    // What a read of so many bytes of a file is refused, if anything.
+    fn refused_read(
+        &self,
+        page_bytes: u64,
+        file: usize,
+        index: u64,
+        offset: u64,
+        count: u64,
+    ) -> Option<Refusal>
+        requires { file < length self.now.files }
+        ensures first { result
+            ≡ first_of (read_tests page_bytes index offset count (file_in self.now file)) }
+        ensures fits { IfNone result (offset + count ≤ page_bytes) }
+        ensures few { IfNone result (count ≤ 256) }
+        ensures memory { IfSome result (λ r. r ≢ Refusal.OutOfMemory) }
+        ensures noted { IfSome result (λ r. r ≢ Refusal.TraceFull) }
+    {
+        if count == 0 || index >= self.files.len(file) {
+            return Some(Refusal::OutOfRange);
+        }
+        if offset > page_bytes || count > page_bytes - offset {
+            return Some(Refusal::CrossesPage);
+        }
+        if count > 256 {
+            return Some(Refusal::TooMany);
+        }
+        None
+    }
+
+    // The answer with `count` bytes of a file at an index.
+    fn file_bytes(&self, file: usize, index: u64, offset: usize, count: usize) -> Answer
+        requires file { file < length self.now.files }
+        requires within { offset + count ≤ N.page_bytes }
+        requires few { count ≤ 256 }
+        ensures { result
+            ≡ bytes_answer offset count (shown N.page_bytes (cell_at (file_in self.now file) index)) }
+    {
+        match self.files.bytes(file, index) {
+            Some(page) => bytes_answer(page, offset, count),
+            None => no_bytes(count),
+        }
+    }
+
+    /// Answers `count` bytes of a file at an index, from byte `offset` of the page on; where there is no page, zeros.
+    ///
+    /// Refused by the first of these that holds:
+    /// - NoSuchFile: no file has the name.
+    /// - OutOfRange: `count` is 0, or the index is not below the file's length.
+    /// - CrossesPage: the bytes reach past the end of the page.
+    /// - TooMany: `count` is above 256.
+    pub fn read(&self, page_bytes: u64, name: &[u8], index: u64, offset: u64, count: u64) -> Reply
+        requires page_bytes { page_bytes ≡ N.page_bytes }
+        ensures done { (k : ℕ) → IsDoneAlone N.page_bytes k (Some self.now)
+            (Read name.now index offset count) result (Some self.now) }
+        ensures memory { result ≢ Err Refusal.OutOfMemory }
+        ensures noted { result ≢ Err Refusal.TraceFull }
+    {
+        let Some(file) = self.files.named(name) else {
+            return Err(Refusal::NoSuchFile);
+        };
+        match self.refused_read(page_bytes, file, index, offset, count) {
+            Some(refusal) => Err(refusal),
+            None => Ok(self.file_bytes(file, index, offset as usize, count as usize)),
+        }
+    }
+}
