@@ -1,8 +1,7 @@
 -- An inode with the room to enter a range, and as it enters it.
-use Rattle.std.proofs.Common.{◌≡◌, ℕ, ◌+◌, ◌-◌, ◌<◌, ◌≤◌, ◌^◌, ◌++◌, not, List, [], length, take, drop, replicate, max, refl, sym, ap, subst, ◌∙◌, arith}
-use Rattle.std.specs.Prelude.{true}
+use Rattle.std.proofs.Common.{◌≡◌, ℕ, ◌+◌, ◌-◌, ◌≤◌, ◌++◌, not, List, [], length, drop, replicate, max, refl, sym, ap, subst, ◌∙◌, arith}
 use Rattle.std.specs.FinSet as set
-use Rattle.std.specs.List.{All, count_by, range_with_len}
+use Rattle.std.specs.List.{All, range_with_len}
 use Rattle.std.proofs.lemmas.List.{drop_all, take_all}
 use Rattle.std.proofs.lemmas.List.Elements.{All-nil}
 use Rattle.std.proofs.lemmas.List.FromFn.{length-range_with_len}
@@ -14,7 +13,7 @@ use Rattle.hp_model.specs.Lists.{edit_range}
 use Rattle.hp_region.specs.Region.{Region, missing_in, range_set}
 use Rattle.hp_inode.specs.Kept.{IsKept, cells_of}
 use Rattle.hp_inode.specs.Ready.{IsReady}
-use Rattle.hp_inode.specs.Rows.{Rows, page_in, has_slot}
+use Rattle.hp_inode.specs.Rows.{Rows}
 use Rattle.hp_inode.proofs.CellFacts.{length-cells, resized, resized_kept}
 use Rattle.hp_inode.proofs.Reserved.{reserved_cells, reserved_kept}
 

@@ -1,7 +1,7 @@
 -- What a mount keeps, through each change of its files.
 use Rattle.std.proofs.Common.{◌≡◌, ℕ, zero, suc, ◌+◌, ◌<◌, ◌≤◌, max, true, Bool, Option, List, [], ◌∷◌, length, None, refl, sym, ap, subst, ◌∙◌, arith}
 use Rattle.std.specs.Prelude.{slice_set, slice_index_or}
-use Rattle.std.proofs.lemmas.List.{get_or_default, get_or-set_same}
+use Rattle.std.proofs.lemmas.List.{get_or_default, get_or-set_same, length-set}
 use Rattle.hp_mount_door.specs.Door.{with_page, with_granted, with_reserves}
 use Rattle.hp_model.specs.declared.cell.Cell.{Cell}
 use Rattle.hp_model.specs.declared.cell.Cell.TheVariants.{Hole, Entered, Present}
@@ -70,6 +70,7 @@ module _ (s : Subpool) (v : Files) (inodes : Option ℕ) (c : IsKept s v (mount_
         used = used_is ∙ omega (arith, was, raised);
         room = room;
         going = going ∙ c.going;
+        few = (let long = length-set v.files k g in let few = c.few in omega (arith, long, few));
         plain = All-set AreShared v.files k g shared c.plain;
       })
 
@@ -156,6 +157,7 @@ module _ (s : Subpool) (v : Files) (inodes : Option ℕ) (c : IsKept s v (mount_
         used = ap used new_is ∙ c.used;
         room = omega (arith, room_is, room, held_is);
         going = ap (λ (x : Files). x.going) w_is ∙ c.going;
+        few = c.few;
         plain = c.plain;
       })
 
@@ -183,7 +185,7 @@ module _ (s : Subpool) (v w : Files) (inodes : Option ℕ) (c : IsKept s v (moun
   room_left = ap (λ (x : Files). mount_of s inodes x.files) w_is
 
   pub room_kept : v.room ≤ w.room → IsKept s w (mount_of s inodes w.files)
-  room_kept more = (let room = c.room in subst (λ n. IsKept s w n) (sym room_left) (record { pages = c.pages; used = c.used; room = omega (arith, room, more); going = ap (λ (x : Files). x.going) w_is ∙ c.going; plain = c.plain }))
+  room_kept more = (let room = c.room in subst (λ n. IsKept s w n) (sym room_left) (record { pages = c.pages; used = c.used; room = omega (arith, room, more); going = ap (λ (x : Files). x.going) w_is ∙ c.going; few = c.few; plain = c.plain }))
 
 -- a map that is found is shared
 pub found_shared : (s : Subpool) (v : Files) (inodes : Option ℕ) → IsKept s v (mount_of s inodes v.files) → (k j : ℕ) → k < length v.files → j < length (file_at v.files k).maps → is_shared (map_in (file_in (mount_of s inodes v.files) k) j).sharing ≡ true

@@ -1,5 +1,5 @@
 -- Events that ask a file by its name, and end at once.
-use Rattle.std.proofs.Common.{◌≡◌, ℕ, false, Some, None, Ok, Err, List, refl, sym, ap, ◌∙◌}
+use Rattle.std.proofs.Common.{◌≡◌, ℕ, false, Some, None, Ok, Err, List, refl, ap, ◌∙◌}
 use Rattle.hp_model.specs.declared.answer.Answer.{Answer}
 use Rattle.hp_model.specs.declared.event.SlotEvent.{SlotEvent}
 use Rattle.hp_model.specs.declared.refusal.Refusal.{Refusal}

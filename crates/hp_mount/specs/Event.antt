@@ -4,7 +4,7 @@ use Rattle.hp_model.specs.declared.event.SlotEvent.{SlotEvent}
 use Rattle.hp_model.specs.declared.event.SlotEvent.TheVariants as slot
 use Rattle.hp_model.specs.declared.step.Sharing.TheVariants.{Shared}
 use Rattle.hp_mount.specs.declared.event.MountEvent.{MountEvent}
-use Rattle.hp_mount.specs.declared.event.MountEvent.TheVariants.{Create, Stat, Read, Map, Fault, Load, Store, Usage}
+use Rattle.hp_mount.specs.declared.event.MountEvent.TheVariants.{Create, Stat, Read, Map, Fault, Load, Store, Ls, Usage}
 
 -- the event, of a task with that home
 abbrev pub event_of : (home : ℕ) → MountEvent → SlotEvent
@@ -15,10 +15,12 @@ event_of home (Map task name start pages reserving) = slot.Map task home name.no
 event_of home (Fault task map index intent) = slot.Fault task home map index intent
 event_of home (Load task map index offset count) = slot.Load task home map index offset count
 event_of home (Store task map index offset bytes) = slot.Store task home map index offset bytes.now
+event_of home Ls = slot.Ls
 event_of home Usage = slot.Df
 
--- it answers the mount's numbers, or a file's
+-- it answers the mount's numbers or names, or a file's numbers
 abbrev pub is_usage : SlotEvent → Bool
 is_usage slot.Df = true
+is_usage slot.Ls = true
 is_usage (slot.Stat name) = true
 is_usage other = false

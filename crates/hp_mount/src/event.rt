@@ -54,6 +54,8 @@ pub enum MountEvent<'a> {
         offset: u64,
         bytes: &'a [u8],
     },
+    /// Answers the names of the files that have one, in order of creation.
+    Ls,
     /// Answers the mount's limits, its pages in use and reservations, and how many files it has.
     Usage,
 }

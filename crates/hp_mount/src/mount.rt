@@ -125,6 +125,7 @@ impl<N: Naming> Mount<N> {
     {
         match event {
             MountEvent::Create { name } => self.create(name),
+            MountEvent::Ls => self.ls(),
             MountEvent::Usage => Ok(self.usage()),
             MountEvent::Stat { name } => self.stat(name),
             MountEvent::Read {

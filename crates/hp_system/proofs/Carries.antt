@@ -137,6 +137,7 @@ happens home (event.Map task name start pages reserving) slot = refl
 happens home (event.Fault task map index intent) slot = refl
 happens home (event.Load task map index offset count) slot = refl
 happens home (event.Store task map index offset bytes) slot = refl
+happens home event.Ls slot = refl
 happens home event.Usage slot = refl
 
 -- a slot that is not mounted answers that it is not there
@@ -148,6 +149,7 @@ unmounted size k home (event.Map task name start pages reserving) p = (calm, ref
 unmounted size k home (event.Fault task map index intent) p = (calm, refl, ((refl, refl), refl))
 unmounted size k home (event.Load task map index offset count) p = (calm, refl, ((refl, refl), refl))
 unmounted size k home (event.Store task map index offset bytes) p = (calm, refl, ((refl, refl), refl))
+unmounted size k home event.Ls p = (calm, refl, ((refl, refl), refl))
 unmounted size k home event.Usage p = (calm, refl, ((refl, refl), refl))
 
 -- the task table is no part of it

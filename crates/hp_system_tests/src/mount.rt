@@ -33,6 +33,15 @@ fn range(start: u64, pages: u64) -> MapRange {
     }
 }
 
+fn unreserved(start: u64, pages: u64) -> MapRange {
+    MapRange {
+        task: 7,
+        start,
+        pages,
+        reserving: Reserving::NoReserve,
+    }
+}
+
 fn access(map: u64, index: u64) -> MapAccess {
     MapAccess {
         task: 7,
@@ -105,6 +114,23 @@ fn each_call<N: Naming, R: Abort>(rt: &R, pool: &mut Pool<N>, mount: &mut Mount<
         Err(Refusal::NoSuchMap)
     );
     assert_eq!(rt; mount.usage(), usage(2, 1));
+    assert_eq!(rt;
+        mount.map(pool, 0, b"a", &unreserved(2, 2)),
+        Ok(Answer::MapNo(3))
+    );
+    assert_eq!(rt; mount.usage(), usage(2, 1));
+    assert_eq!(rt;
+        mount.stat(b"a"),
+        Ok(Answer::Stat {
+            len: 4,
+            pages: 2,
+            entries: 2,
+            maps: 3
+        })
+    );
+    assert_eq!(rt; mount.read(1024, b"a", 1, 1022, 2), two(120, 121));
+    assert_eq!(rt; mount.read(1024, b"a", 3, 1022, 2), two(0, 0));
+    assert_eq!(rt; mount.ls().err(), None);
 }
 
 fn run<N: Naming, R: Abort>(rt: &R, alloc: Global, blanks: Blanks)

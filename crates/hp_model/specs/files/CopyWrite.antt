@@ -1,9 +1,8 @@
 -- A write into a private copy.
-use Rattle.std.specs.Prelude.{ℕ, ◌&&◌, ◌==◌, Bool, true, false, None, Some, [], ◌∷◌, map, if◌then◌else◌}
+use Rattle.std.specs.Prelude.{ℕ, ◌==◌, Bool, true, false, None, Some, map, if◌then◌else◌}
 use Rattle.std.specs.List.{list_any, count_by}
 use Rattle.hp_model.specs.declared.answer.Answer.TheVariants.{Done}
 use Rattle.hp_model.specs.declared.place.Place.{Place}
-use Rattle.hp_model.specs.declared.refusal.Refusal.TheVariants.{OutOfMemory}
 use Rattle.hp_model.specs.files.File.{File, Mount, with_file, with_map}
 use Rattle.hp_model.specs.pool.Grant.{is_full, rise}
 use Rattle.hp_model.specs.files.Mapping.{Map, copy_of, without_copy}

@@ -416,9 +416,10 @@ pub record IsPromised (s : State) (step : Step) (reply : Reply) (t : State) : Ty
   -- an access through a marked map is refused where it has no copy
   pub cut_off : is_cut_off_step s step ≡ true → is_refused reply ≡ true
 
--- of the steps that are built these may be refused memory: one that makes a file or a map, and an access that nothing backs
+-- of the steps that are built these may be refused memory: one that makes a file, a map or a list of names, and an access that nothing backs
 abbrev pub takes_memory : State → Step → Bool
 takes_memory s (CreateStep k name) = true
+takes_memory s (Ls k) = true
 takes_memory s (MapStep task k name a n sharing reserving) = true
 takes_memory s (Fault task k number i intent) = not (is_backed intent (map_named s k task number) i)
 takes_memory s (Load task k number i offset count) = not (is_backed Read (map_named s k task number) i)

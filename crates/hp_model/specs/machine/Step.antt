@@ -102,6 +102,7 @@ is_unbuilt s (Mount k options) = false
 is_unbuilt s (Umount k) = false
 is_unbuilt s (Create k name) = false
 is_unbuilt s (Read k name i offset count) = false
+is_unbuilt s (Ls k) = false
 is_unbuilt s (Stat k name) = false
 is_unbuilt s (Map task k name a pages Shared reserving) = false
 is_unbuilt s (Fault task k number i intent) = false

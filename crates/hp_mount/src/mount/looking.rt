@@ -1,6 +1,6 @@
-//! What a file is asked by its name.
+//! What files are asked.
 ghost use Rattle.std.specs.Prelude.{◌≡◌, ◌≢◌, ℕ, ◌+◌, ◌≤◌, ◌<◌, length, Err, IfNone, IfSome, Some};
-ghost use Rattle.hp_model.specs.declared.event.SlotEvent.TheVariants.{Read, Stat};
+ghost use Rattle.hp_model.specs.declared.event.SlotEvent.TheVariants.{Ls, Read, Stat};
 ghost use Rattle.hp_model.specs.declared.refusal.Refusal.TheVariants as Refusal;
 ghost use Rattle.hp_model.specs.files.File.{cell_at};
 ghost use Rattle.hp_model.specs.files.Value.{shown};
@@ -15,8 +15,22 @@ use super::reach::{bytes_answer, no_bytes};
 use hp_model::answer::{Answer, Reply};
 use hp_model::naming::Naming;
 use hp_model::refusal::Refusal;
+use std::alloc::AllocError;
 
 impl<N: Naming> Mount<N> {
+    /// The names of the files that have one, in order of creation. Refused as OutOfMemory, where the list has no room.
+    pub fn ls(&self) -> Reply
+        ensures done { (size k : ℕ)
+            → IsDoneAlone size k (Some self.now) Ls result (Some self.now) }
+        ensures limits { IsWithinLimits result }
+        ensures noted { result ≢ Err Refusal.TraceFull }
+    {
+        match self.files.names() {
+            Ok(names) => Ok(Answer::Names(names)),
+            Err(AllocError) => Err(Refusal::OutOfMemory),
+        }
+    }
+
     /// A file's length in pages, how many pages it has of its own, how many of its indices are entered, and how many
     /// maps it has, of all tasks. Refused as NoSuchFile. No index is walked.
     pub fn stat(&self, name: &[u8]) -> Reply

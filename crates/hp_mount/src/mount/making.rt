@@ -1,5 +1,5 @@
 //! Files and maps that are made.
-ghost use Rattle.std.specs.Prelude.{◌≡◌, ◌≢◌, Err, IfSome, ℕ, ◌+◌, ◌<◌, ◌≤◌, length, not, is_some, true, false, IfErr, IfOk, OnOk, OnErr, Some, None};
+ghost use Rattle.std.specs.Prelude.{◌≡◌, ◌≢◌, Err, IfNone, IfSome, IsTrue, ℕ, ◌+◌, ◌<◌, ◌≤◌, length, not, is_some, true, false, IfErr, IfOk, OnOk, OnErr, Some, None};
 ghost use Rattle.hp_model.specs.declared.answer.Answer.TheVariants.{MapNo};
 ghost use Rattle.hp_model.specs.declared.refusal.Refusal.TheVariants as Refusal;
 ghost use Rattle.hp_model.specs.declared.event.SlotEvent.TheVariants.{Create, Map as MapEvent};
@@ -44,7 +44,8 @@ fn is_name_byte(c: u8) -> bool
 
 /// Whether a file may be named so.
 fn is_name(name: &[u8]) -> bool
-    ensures { result ≡ is_name name.now }
+    ensures is { result ≡ is_name name.now }
+    ensures few { IsTrue result → length name.now ≤ 64 }
 {
     if name.len() < 1 {
         return false;
@@ -78,6 +79,8 @@ impl<N: Naming> Mount<N> {
     fn refused_file(&self, name: &[u8]) -> Option<Refusal>
         ensures first { result ≡ first_of (create_tests self.now name.now) }
         ensures noted { IfSome result (λ r. r ≢ Refusal.TraceFull) }
+        ensures short { IfNone result (length name.now ≤ 64) }
+        ensures few { IfNone result (length self.now.files < 1024) }
     {
         if !is_name(name) {
             return Some(Refusal::BadName);

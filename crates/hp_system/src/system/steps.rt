@@ -66,7 +66,8 @@ impl<N: Naming> System<N> {
     /// was stored through its maps, until an umount ends it.
     ///
     /// Refused as the step's own function is, and as BadLine where the step is not built yet. Only a
-    /// step that makes a file or a map, and an access that nothing backs, can be refused memory.
+    /// step that makes a file, a map or a list of names, and an access that nothing backs, can be refused
+    /// memory.
     pub fn apply(&mut self, step: &Step) -> Reply
         ensures step { IsStep self.old step.now result self.new }
         ensures promised { IsPromised self.old step.now result self.new }
@@ -115,6 +116,7 @@ impl<N: Naming> System<N> {
             Step::Connect { task, home } => self.connect(*task, *home),
             Step::Mount { slot, options } => self.mount(*slot, options),
             Step::Umount { slot } => self.umount(*slot),
+            Step::Ls { slot } => self.on_slot(*slot, 0, MountEvent::Ls),
             Step::Df { slot } => self.on_slot(*slot, 0, MountEvent::Usage),
             Step::Create { slot, name } => {
                 let name = name.as_slice();

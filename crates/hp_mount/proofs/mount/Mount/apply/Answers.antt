@@ -1,5 +1,5 @@
 use Rattle.std.proofs.Common.{◌≡◌, Bool, Ok, Some, true, false, not, refl, sym, subst}
-use Rattle.hp_model.specs.declared.event.SlotEvent.TheVariants.{Create, Df, Read, Stat}
+use Rattle.hp_model.specs.declared.event.SlotEvent.TheVariants.{Create, Df, Ls, Read, Stat}
 use Rattle.hp_model.specs.machine.Plan.{Choice, Slot}
 use Rattle.hp_model.specs.machine.SlotEvent.{slot_event}
 use Rattle.hp_mount.specs.declared.event.MountEvent.{MountEvent}
@@ -29,6 +29,16 @@ returns-in-Usage-clause-done g c k =
     let door = c.args.door.now in
     subst (λ (e : MountEvent). IsDone took full size k old door (event_of c.args.home e) (Ok c.usage.result) old door) (sym c.in-Usage.is)
     (alone_is_done took full (λ (x : Choice). slot_event size k x old Df) old old door (Ok c.usage.result) (λ e. cc) (c.usage.ensures.done size k))
+
+pub returns-in-Ls-clause-done : goal.returns-in-Ls-clause-done
+returns-in-Ls-clause-done g c k =
+    let took = g.D.PoolDoor.took in
+    let full = g.D.PoolDoor.is_full in
+    let size = g.N.Naming.page_bytes in
+    let old : Slot = Some c.args.self.now in
+    let door = c.args.door.now in
+    subst (λ (e : MountEvent). IsDone took full size k old door (event_of c.args.home e) c.ls.result old door) (sym c.in-Ls.is)
+    (alone_is_done took full (λ (x : Choice). slot_event size k x old Ls) old old door c.ls.result c.ls.ensures.noted (c.ls.ensures.done size k))
 
 pub returns-in-Stat-clause-done : goal.returns-in-Stat-clause-done
 returns-in-Stat-clause-done g c k =

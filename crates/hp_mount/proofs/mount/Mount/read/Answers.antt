@@ -1,4 +1,4 @@
-use Rattle.std.proofs.Common.{◌≡◌, None, Some, refl, sym, subst, ap, ◌∙◌}
+use Rattle.std.proofs.Common.{◌≡◌, None, Some, refl, sym, subst, ◌∙◌}
 use Rattle.hp_model.specs.declared.event.SlotEvent.TheVariants.{Read}
 use Rattle.hp_model.specs.files.File.{Mount, cell_at}
 use Rattle.hp_model.specs.files.Value.{shown}
@@ -8,7 +8,6 @@ use Rattle.hp_model.specs.machine.SlotEvent.{bytes_answer, file_named, read, rea
 use Rattle.hp_mount.specs.Found.{first_of}
 use Rattle.hp_mount.proofs.Commands.{tests_fail, tests_pass}
 use Rattle.hp_mount.proofs.Looking.{is_answered, is_refused, not_named}
-use Rattle.hp_mount.proofs.mount.Mount.read.Given.{Over}
 use Rattle.hp_mount.proofs.mount.Mount.read.Goals as goal
 
 pub returns-in_default-clause-done : goal.returns-in_default-clause-done
