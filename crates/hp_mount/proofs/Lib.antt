@@ -5,3 +5,4 @@ pub mod Commands
 pub mod Zeros
 pub mod Making
 pub mod Ending
+pub mod Giving

@@ -10,6 +10,17 @@ pub enum MountEvent<'a> {
     Create {
         name: &'a [u8],
     },
+    /// Makes a file `pages` indices long. Pages, reservations and private copies from there on go.
+    Truncate {
+        name: &'a [u8],
+        pages: u64,
+    },
+    /// The pages of a file's indices from `start` up to `end` go with their entries, and so do private copies of them.
+    Punch {
+        name: &'a [u8],
+        start: u64,
+        end: u64,
+    },
     /// Maps `pages` indices of a file, from `start` on, shared, and enters them. A page is reserved for each that was
     /// not entered; the file gets longer where the map ends past its end (`mm/hugetlbfs_reserv.rst`).
     Map {
