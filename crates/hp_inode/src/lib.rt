@@ -60,7 +60,8 @@ impl Inode {
 
     /// The length in indices.
     pub fn len(&self) -> u64
-        ensures { result ≡ length self.now }
+        ensures len { result ≡ length self.now }
+        ensures small { result < 2 ^ 32 }
     {
         self.len
     }

@@ -6,3 +6,4 @@ pub mod Zeros
 pub mod Looking
 pub mod Making
 pub mod Ending
+pub mod Giving

@@ -10,6 +10,17 @@ pub enum MountEvent<'a> {
     Create {
         name: &'a [u8],
     },
+    /// Makes a file `pages` indices long. Pages, reservations and private copies from there on go.
+    Truncate {
+        name: &'a [u8],
+        pages: u64,
+    },
+    /// The pages of a file's indices from `start` up to `end` go with their entries, and so do private copies of them.
+    Punch {
+        name: &'a [u8],
+        start: u64,
+        end: u64,
+    },
     /// Answers a file's length, its pages, its entered indices and its maps.
     Stat {
         name: &'a [u8],

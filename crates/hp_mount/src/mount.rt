@@ -16,6 +16,7 @@ ghost use Rattle.hp_mount.specs.Event.{event_of, is_usage};
 ghost use Rattle.hp_mount.specs.Kept.{mount_of};
 ghost use Rattle.hp_mount.specs.Memory.{asks_memory};
 
+mod giving;
 mod looking;
 mod making;
 mod reach;
@@ -105,7 +106,7 @@ impl<N: Naming> Mount<N> {
     ///
     /// Refused as the definitions say, and then nothing changes; as TraceFull where the door has no room to note a section.
     /// An access at an index that is reserved to its map, or has a page, asks for no memory.
-    pub fn apply<D: PoolDoor<Share = Subpool<N>, Page = Page<N>>>(
+    pub fn apply<D: PoolDoor<Share = Subpool<N>, Page = Page<N>, Going = PageStore<N>>>(
         &mut self,
         door: &mut D,
         page_bytes: u64,
@@ -114,6 +115,8 @@ impl<N: Naming> Mount<N> {
     ) -> Reply
         requires shares { (s : ShareValue) → D.share_of s ≡ s }
         requires pages { (p : PageValue) → D.page_of p ≡ p }
+        requires going { (s : StoreValue) → D.going_of s ≡ s.going }
+        requires emptied { (s : StoreValue) → D.emptied s ≡ record s { going = [] } }
         requires ready { D.is_ready door.old }
         requires page_bytes { page_bytes ≡ N.page_bytes }
         ensures done { (k : ℕ) → IsDone D.took D.is_full N.page_bytes k (Some self.old) door.old
@@ -127,6 +130,8 @@ impl<N: Naming> Mount<N> {
             MountEvent::Create { name } => self.create(name),
             MountEvent::Ls => self.ls(),
             MountEvent::Usage => Ok(self.usage()),
+            MountEvent::Truncate { name, pages } => self.truncate(door, name, pages),
+            MountEvent::Punch { name, start, end } => self.punch(door, name, start, end),
             MountEvent::Stat { name } => self.stat(name),
             MountEvent::Read {
                 name,

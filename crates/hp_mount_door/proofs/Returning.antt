@@ -226,12 +226,20 @@ settled_ready pages k p q ready is q_is =
     ∙ ap (λ (x : Pool). length x.nodes.rows) rows ∙ put_length 4 (λ n. count_by (is_at n) pages) p.nodes.rows in
     record { settled = is; nodes = omega (arith, nodes, same) }
 
+-- at no node is there a page
+no_nodes : (f : ℕ → ℕ) (k a : ℕ) → sum (map f (range_with_len a k)) ≡ 0 → map f (range_with_len a k) ≡ map (λ n. 0) (range_with_len a k)
+no_nodes f zero a e = refl
+no_nodes f (suc k) a e =
+    let parts = sum_by-cons (λ (n : ℕ). n) (f a) (map f (range_with_len (a + 1) k)) in
+    let here : f a ≡ 0 = omega (arith, parts, e) in
+    ap (λ x. x ∷ map f (range_with_len (a + 1) k)) here ∙ ap (λ xs. 0 ∷ xs) (no_nodes f k (a + 1) (omega (arith, parts, e)))
+
 -- nothing goes back
-nothing_given : (pages : List Page) (k : ℕ) (p : Pool) → IsSettled p → pages ≡ [] → k ≡ 0 → settled (released k (puts_from 0 (by_node pages) p)) ≡ p
+nothing_given : (pages : List Page) (k : ℕ) (p : Pool) → IsSettled p → by_node pages ≡ by_node [] → k ≡ 0 → settled (released k (puts_from 0 (by_node pages) p)) ≡ p
 nothing_given pages k p was none nothing =
     let spare : surp_of p.nodes.rows - (p.committed - p.nr) ≡ 0 = omega (arith, was) in
     let empty : List ℕ = by_node [] in
-    ap (λ xs. settled (released k (puts_from 0 (by_node xs) p))) none ∙ ap (λ n. settled (released n (puts_from 0 empty p))) nothing
+    ap (λ xs. settled (released k (puts_from 0 xs p))) none ∙ ap (λ n. settled (released n (puts_from 0 empty p))) nothing
     ∙ ap (λ q. settled (released 0 q)) (puts_are empty p ∙ ap (λ rs. record p { nodes = record p.nodes { rows = rs } }) (put_nothing empty p.nodes.rows refl))
     ∙ ap (λ c. settled (record p { committed = c })) (let same : p.committed - 0 ≡ p.committed = omega arith in same)
     ∙ ap (λ n. record p { nodes = give_back_times n p.nodes }) spare
@@ -239,7 +247,7 @@ nothing_given pages k p was none nothing =
 pub all_given : (pages : List Page) (k : ℕ) (p q : Pool) → IsReady p → q ≡ settled (released k (puts_from 0 (by_node pages) p)) → GivesBack (λ p s a q. section p s ≡ (a, q)) pages k p q
 all_given pages k p q ready is = record {
   some = λ l. ap (λ x. (granted_at 0, x)) (sym is);
-  none = λ e. is ∙ nothing_given pages k p ready.settled (nil_from_length pages (omega (arith, e))) (omega (arith, e));
+  none = λ e. is ∙ nothing_given pages k p ready.settled (no_nodes (λ n. count_by (is_at n) pages) 4 0 (omega (arith, e))) (omega (arith, e));
 }
 
 -- pages and reservations

@@ -1,6 +1,6 @@
 -- What a door answers, and what it does to a share.
 use Rattle.std.specs.Prelude.{◌≡◌, ℕ, ◌+◌, ◌-◌, ◌<◌, ◌≤◌, ◌==◌, List, length, map}
-use Rattle.std.specs.List.{count_by, range_with_len}
+use Rattle.std.specs.List.{count_by, range_with_len, sum}
 use Rattle.hp_model.specs.declared.refusal.Refusal.{Refusal}
 use Rattle.hp_model.specs.declared.refusal.Refusal.TheVariants.{NoPages, TraceFull}
 use Rattle.hp_model.specs.files.Page.{Page}
@@ -41,10 +41,10 @@ with_less pages reserves s = record s { pages = s.pages - pages; held = s.held -
 abbrev pub by_node : List Page → List ℕ
 by_node pages = map (λ n. count_by (λ (page : Page). page.node == n) pages) (range_with_len 0 4)
 
--- a section that puts the pages back and uncommits so many; none where that is nothing
+-- a section that puts the pages back, by node, and uncommits so many; none where that is nothing
 pub record GivesBack {X : Type 0} (took : X → Section → PoolAnswer → X → Type 0) (pages : List Page) (commitments : ℕ) (door left : X) : Type 0 where
-  pub some : 0 < length pages + commitments → took door (GiveBack (by_node pages) commitments) (granted_at 0) left
-  pub none : length pages + commitments ≡ 0 → left ≡ door
+  pub some : 0 < sum (by_node pages) + commitments → took door (GiveBack (by_node pages) commitments) (granted_at 0) left
+  pub none : sum (by_node pages) + commitments ≡ 0 → left ≡ door
 
 -- a pool that nobody works on
 pub record IsReady (p : Pool) : Type 0 where

@@ -5,6 +5,7 @@ use Rattle.std.specs.Str.{bytes_eq}
 use Rattle.std.proofs.lemmas.Bool.{cases_lt}
 use Rattle.std.proofs.lemmas.Grind.{flat_map-append}
 use Rattle.std.proofs.lemmas.List.{append-nil, map-append}
+use Rattle.std.proofs.lemmas.List.Elements.{All-append, All-cons, All-nil}
 use Rattle.std.proofs.lemmas.List.Sums.{sum_by_push}
 use Rattle.std.proofs.lemmas.Slice.Eq.{bytes_eq-Decides}
 use Rattle.hp_model.specs.Lists.{distinct, found}
@@ -12,7 +13,7 @@ use Rattle.hp_model.specs.machine.SlotEvent.{has_name}
 use Rattle.hp_store.specs.Store.{Store}
 use Rattle.hp_mount_files.specs.Held.{IsHeld, in_cell, in_cells, in_file, in_files}
 use Rattle.hp_mount_files.specs.Hints.{AreNoted, IsFiles, IsMore, Noted, has_name as has_noted}
-use Rattle.hp_mount_files.specs.Keyed.{IsKeyed, Label, has_label, keys_in, label_of, labels_of, tasks_in}
+use Rattle.hp_mount_files.specs.Keyed.{IsKeyed, Label, has_label, is_listed, keys_in, label_of, labels_of, tasks_in}
 use Rattle.hp_mount_files.specs.Numbered.{NumberedFile, files_shown, numbered_at}
 use Rattle.hp_mount_files.proofs.Unique.{names_counted, none_found}
 
@@ -71,6 +72,7 @@ module _ (old now : Noted) (s : Store) (more maps tasks : ℕ) (fs : List Number
 
   keyed : IsKeyed maps tasks (labels_of gs)
   keyed = subst (IsKeyed maps tasks) (sym labels) (record {
+    kept = All-append (λ (l : Label). is_listed l ≡ true) (labels_of fs) (label_of (empty_file name) ∷ []) is.keyed.kept (All-cons (λ (l : Label). is_listed l ≡ true) (label_of (empty_file name)) [] refl (All-nil (λ (l : Label). is_listed l ≡ true)));
     names = λ other. (let step = sum_by_push (λ (l : Label). cond {A = ℕ} (has_label other l) 1 0) (labels_of fs) (label_of (empty_file name)) in let most = free other (bytes_eq name other) refl (is.keyed.names other) in omega (arith, step, most));
     keys = λ task number. (let step = sum_by_push (keys_in task number) (labels_of fs) (label_of (empty_file name)) in let most = is.keyed.keys task number in omega (arith, step, most));
     map_count = (let step = sum_by_push (λ (l : Label). length l.keys) (labels_of fs) (label_of (empty_file name)) in let was = is.keyed.map_count in omega (arith, step, was));

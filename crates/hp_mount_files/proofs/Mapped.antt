@@ -1,9 +1,11 @@
 -- A shared map more, whose indices are entered, unless it reserves nothing.
 use Rattle.std.proofs.Common.{◌≡◌, ℕ, zero, suc, ◌+◌, ◌-◌, ◌<◌, ◌≤◌, Bool, true, false, not, cond, ◌&&◌, ◌||◌, ◌==◌, List, [], ◌∷◌, ◌++◌, length, map, take, drop, replicate, refl, sym, ap, subst, ◌∙◌, arith}
-use Rattle.std.specs.Prelude.{slice_index_or, slice_set, None}
-use Rattle.std.specs.List.{count_by, filter, flat_map, sum_by}
+use Rattle.std.specs.Prelude.{is_some, nat_lt, slice_index_or, slice_set, None}
+use Rattle.std.specs.List.{All, count_by, filter, flat_map, sum_by}
 use Rattle.std.proofs.lemmas.Bool.{and_parts, eqb-true}
+use Rattle.std.proofs.lemmas.Bool.Decides.{nat_tests}
 use Rattle.std.proofs.lemmas.List.{append-nil, append_assoc, length-append, length-map, length-replicate, map-append, map-set, take-append-drop}
+use Rattle.std.proofs.lemmas.List.Elements.{All-set}
 use Rattle.std.proofs.lemmas.List.Sums.{sum_by-append, sum_by-cons, sum_by-set, sum_by_push}
 use Rattle.hp_model.specs.declared.cell.Cell.{Cell}
 use Rattle.hp_model.specs.declared.cell.Cell.TheVariants.{Hole, Entered, Present}
@@ -23,7 +25,7 @@ use Rattle.hp_mount_files.specs.Asking.{entered_from}
 use Rattle.hp_mount_files.specs.Files.{file_at, with_file_at}
 use Rattle.hp_mount_files.specs.Held.{IsHeld, in_cell, in_file, in_map, in_place}
 use Rattle.hp_mount_files.specs.Hints.{AreNoted, IsFiles, IsMore, Noted, has_key}
-use Rattle.hp_mount_files.specs.Keyed.{IsKeyed, Label, has_label, is_key, key_of, keys_in, label_of, labels_of, numbers_in, tasks_in}
+use Rattle.hp_mount_files.specs.Keyed.{IsKeyed, Label, has_label, is_key, is_listed, key_of, keys_in, label_of, labels_of, numbers_in, tasks_in}
 use Rattle.hp_mount_files.specs.Numbered.{NumberedFile, cell_shown, file_shown, files_shown, map_shown, new_mapping, numbered_at, place_shown, with_mapping}
 use Rattle.hp_mount_files.specs.Places.{all_maps, all_tasks}
 use Rattle.hp_mount_files.proofs.Alike.{alike_held}
@@ -35,19 +37,19 @@ use Rattle.hp_mount_files.proofs.Views.{read_is, view}
 -- ---- lists
 
 module _ {X Y : Type 0} (g : X → Y) where
-  map_take : (n : ℕ) (xs : List X) → map g (take n xs) ≡ take n (map g xs)
+  pub map_take : (n : ℕ) (xs : List X) → map g (take n xs) ≡ take n (map g xs)
   map_take zero [] = refl
   map_take zero (x ∷ xs) = refl
   map_take (suc n) [] = refl
   map_take (suc n) (x ∷ xs) = ap (λ ys. g x ∷ ys) (map_take n xs)
 
-  map_drop : (n : ℕ) (xs : List X) → map g (drop n xs) ≡ drop n (map g xs)
+  pub map_drop : (n : ℕ) (xs : List X) → map g (drop n xs) ≡ drop n (map g xs)
   map_drop zero [] = refl
   map_drop zero (x ∷ xs) = refl
   map_drop (suc n) [] = refl
   map_drop (suc n) (x ∷ xs) = map_drop n xs
 
-  map_replicate : (n : ℕ) (x : X) → map g (replicate n x) ≡ replicate n (g x)
+  pub map_replicate : (n : ℕ) (x : X) → map g (replicate n x) ≡ replicate n (g x)
   map_replicate zero x = refl
   map_replicate (suc n) x = ap (λ ys. g x ∷ ys) (map_replicate n x)
 
@@ -56,7 +58,7 @@ module _ {X Y : Type 0} (g : X → Y) where
     map_twice [] = refl
     map_twice (x ∷ xs) = ap (λ y. y ∷ map g (map f xs)) (same x) ∙ ap (λ ys. h (g x) ∷ ys) (map_twice xs)
 
-    map_edited : (a b : ℕ) (xs : List X) → map g (edit_range f a b xs) ≡ edit_range h a b (map g xs)
+    pub map_edited : (a b : ℕ) (xs : List X) → map g (edit_range f a b xs) ≡ edit_range h a b (map g xs)
     map_edited a b xs =
         map-append g (take a xs ++ map f (take (b - a) (drop a xs))) (drop (b - a) (drop a xs))
         ∙ ap (λ ys. ys ++ map g (drop (b - a) (drop a xs))) (map-append g (take a xs) (map f (take (b - a) (drop a xs))))
@@ -71,11 +73,11 @@ module _ {X : Type 0} (c : X → ℕ) where
   sum_parts (suc n) [] = refl
   sum_parts (suc n) (x ∷ xs) = (let rest = sum_parts n xs in omega (arith, rest, sum_by-cons c x (take n xs), sum_by-cons c x xs))
 
-  sum_mapped : (f : X → X) → ((x : X) → c (f x) ≡ c x) → (xs : List X) → sum_by c (map f xs) ≡ sum_by c xs
+  pub sum_mapped : (f : X → X) → ((x : X) → c (f x) ≡ c x) → (xs : List X) → sum_by c (map f xs) ≡ sum_by c xs
   sum_mapped f same [] = refl
   sum_mapped f same (x ∷ xs) = (let here = same x in let rest = sum_mapped f same xs in omega (arith, here, rest, sum_by-cons c (f x) (map f xs), sum_by-cons c x xs))
 
-  sum_edited : (f : X → X) → ((x : X) → c (f x) ≡ c x) → (a b : ℕ) (xs : List X) → sum_by c (edit_range f a b xs) ≡ sum_by c xs
+  pub sum_edited : (f : X → X) → ((x : X) → c (f x) ≡ c x) → (a b : ℕ) (xs : List X) → sum_by c (edit_range f a b xs) ≡ sum_by c xs
   sum_edited f same a b xs =
       let front = sum_by-append c (take a xs) (map f (take (b - a) (drop a xs))) in
       let back = sum_by-append c (take a xs ++ map f (take (b - a) (drop a xs))) (drop (b - a) (drop a xs)) in
@@ -242,6 +244,16 @@ module _ (task number a n : ℕ) (reserving : Reserving) where
     label_is : label_of g ≡ record { name = x.name; keys = map key_of x.maps ++ (task, number) ∷ [] }
     label_is = ap label_of g_is ∙ ap (λ ks. record { name = x.name; keys = ks }) (map-append key_of x.maps (y ∷ []))
 
+    listed : is_listed (label_of g) ≡ true
+    listed =
+        let long = ap (λ (q : Label). length q.keys) label_is ∙ length-append (map key_of x.maps) ((task, number) ∷ []) in
+        let some : nat_lt 0 (length (label_of g).keys) ≡ true = grind (arith, nat_tests) in
+        ap (λ b. is_some g.name || b) some ∙ either (is_some g.name)
+      where
+        either : (b : Bool) → (b || true) ≡ true
+        either true = refl
+        either false = refl
+
     keys_more : (t m : ℕ) → keys_in t m (label_of g) ≡ keys_in t m (label_of x) + cond (is_key t m (task, number)) 1 0
     keys_more t m = ap (keys_in t m) label_is ∙ sum_by_push (λ q. cond {A = ℕ} (is_key t m q) 1 0) (map key_of x.maps) (task, number)
 
@@ -257,6 +269,7 @@ module _ (task number a n : ℕ) (reserving : Reserving) where
 
       pub map_keyed : (first : Bool) → first ≡ not (is_among task (all_tasks (files_shown s fs))) → IsKeyed (maps + 1) (tasks + cond first 1 0) (labels_of (slice_set fs k g))
       map_keyed first first_is = record {
+        kept = subst (All (λ (q : Label). is_listed q ≡ true)) (sym (map-set label_of fs k g)) (All-set (λ (q : Label). is_listed q ≡ true) (labels_of fs) k (label_of g) listed is.keyed.kept);
         names = λ name.
             let step = sum_by-set (λ (f : NumberedFile). cond {A = ℕ} (has_label name (label_of f)) 1 0) fs k g no_file l in
             let before = sum_through (λ (q : Label). cond {A = ℕ} (has_label name q) 1 0) label_of fs in

@@ -28,7 +28,7 @@ use hp_subpool::Subpool;
 use std::alloc::AllocError;
 
 /// The most pages that a file may have.
-const MOST_FILE_PAGES: u64 = 1_048_576;
+pub(crate) const MOST_FILE_PAGES: u64 = 1_048_576;
 
 // one of A-Z a-z 0-9 . _ -
 fn is_name_byte(c: u8) -> bool

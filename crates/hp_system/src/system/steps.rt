@@ -122,6 +122,24 @@ impl<N: Naming> System<N> {
                 let name = name.as_slice();
                 self.on_slot(*slot, 0, MountEvent::Create { name })
             }
+            Step::Truncate { slot, name, pages } => {
+                let name = name.as_slice();
+                let pages = *pages;
+                self.on_slot(*slot, 0, MountEvent::Truncate { name, pages })
+            }
+            Step::Punch {
+                slot,
+                name,
+                from,
+                to,
+            } => {
+                let event = MountEvent::Punch {
+                    name: name.as_slice(),
+                    start: *from,
+                    end: *to,
+                };
+                self.on_slot(*slot, 0, event)
+            }
             Step::Stat { slot, name } => {
                 let name = name.as_slice();
                 self.on_slot(*slot, 0, MountEvent::Stat { name })

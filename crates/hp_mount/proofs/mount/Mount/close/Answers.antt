@@ -21,4 +21,4 @@ returns-clause-done g c =
     let committed = ap committed_of (c.requires.shares o.share) in
     let given = subst (λ (pages : List Page). GivesBack took pages (committed_of (g.D.PoolDoor.share_of o.share)) door c.close.new.self) (c.requires.going going) c.close.ensures.given in
     subst (λ (x : Mount). ThroughDoor took (gives Done (Some x) None) (Some x) door (Ok Done) None c.close.new.self) c.self.view_is
-    (ended took m going.going (committed_of (g.D.PoolDoor.share_of o.share)) door c.close.new.self c.close-going.ensures.pages c.close-going.ensures.nodes (omega (arith, committed, inv.used)) given)
+    (ended took m going.going (committed_of (g.D.PoolDoor.share_of o.share)) door c.close.new.self c.close-going.ensures.nodes (omega (arith, committed, inv.used)) given)

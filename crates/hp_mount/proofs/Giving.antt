@@ -1,0 +1,136 @@
+-- A file that gives back, by what code did.
+use Rattle.std.proofs.Common.{◌≡◌, ℕ, zero, suc, ◌+◌, ◌-◌, ◌<◌, ◌≤◌, ◌==◌, ⊎_elim, ◌⊎◌, nat_lt, Bool, true, false, cond, List, [], ◌∷◌, Option, Some, None, Ok, Err, length, map, refl, sym, ap, subst, ◌∙◌, arith}
+use Rattle.std.specs.Prelude.{slice_set}
+use Rattle.std.specs.List.{All, count_by, filter, sum_by}
+use Rattle.std.proofs.lemmas.Bool.Decides.{nat_tests}
+use Rattle.std.proofs.lemmas.List.Elements.{All-cons, All-filter, All-set}
+use Rattle.hp_model.specs.declared.answer.Answer.TheVariants.{Done}
+use Rattle.hp_model.specs.declared.refusal.Refusal.{Refusal}
+use Rattle.hp_model.specs.declared.refusal.Refusal.TheVariants as r
+use Rattle.hp_model.specs.declared.section.PoolAnswer.{PoolAnswer}
+use Rattle.hp_model.specs.declared.section.Section.{Section}
+use Rattle.hp_model.specs.files.File.{File, Mount, new_file, with_file}
+use Rattle.hp_model.specs.files.GiveBack.{is_kept, swept}
+use Rattle.hp_model.specs.files.Mapping.{Map, is_shared, map_punched}
+use Rattle.hp_model.specs.files.MountCounts.{file_pages, file_pages_at, file_reserves, usage_of}
+use Rattle.hp_model.specs.files.Page.{Page}
+use Rattle.hp_model.specs.machine.Plan.{Choice, Plan, fall_of, gives, unless, with_value}
+use Rattle.hp_model.specs.machine.Promises.{file_in}
+use Rattle.hp_model.specs.machine.SlotEvent.{edited, file_named, is_bad_range}
+use Rattle.hp_model.specs.threads.LocalRun.{ThroughDoor}
+use Rattle.hp_mount_door.specs.Door.{GivesBack, with_less}
+use Rattle.hp_mount_files.specs.Dropping.{IsLeft}
+use Rattle.hp_mount_files.specs.Files.{Files, edited_at, file_at}
+use Rattle.hp_mount.specs.Done.{Tried}
+use Rattle.hp_mount.specs.Found.{first_of}
+use Rattle.hp_mount.specs.Kept.{AreShared, IsKept, mount_of}
+use Rattle.hp_mount.proofs.Commands.{tests_fail, tests_pass}
+use Rattle.hp_mount.proofs.Ending.{gave}
+use Rattle.hp_mount.proofs.Keeping.{shared_here}
+use Rattle.hp_mount.proofs.Ways.{fresh_choice, is_fresh, refused_at}
+use Rattle.hp_subpool.specs.Subpool.{Subpool, fall, used}
+
+-- ---- the share and the files that are left: w is what the files are before the pages go back
+
+module _ (s : Subpool) (v w : Files) (inodes : Option ℕ) (c : IsKept s v (mount_of s inodes v.files)) (k : ℕ) (g : File) (reserves : ℕ) (left : IsLeft reserves v w) (w_is : w.files ≡ edited_at k g v.files) where
+  abbrev m : Mount
+  m = mount_of s inodes v.files
+
+  abbrev n : Mount
+  n = mount_of s inodes w.files
+
+  none_going : length v.going ≡ 0
+  none_going = ap length c.going
+
+  pages_are : s.pages ≡ sum_by file_pages w.files + length w.going
+  pages_are = (let all = left.pages in let none = none_going in let had = c.pages in omega (arith, all, none, had))
+
+  held_are : s.held ≡ sum_by file_reserves w.files + reserves
+  held_are = (let all = left.reserved in let had = c.pages in let was = c.used in omega (arith, all, had, was))
+
+  pub enough_pages : length w.going ≤ s.pages
+  enough_pages = (let all = pages_are in omega (arith, all))
+
+  pub enough_held : reserves ≤ s.held
+  enough_held = (let all = held_are in omega (arith, all))
+
+  pub kept : (new : Subpool) (last : Files) → AreShared g → new ≡ with_less (length w.going) reserves s → last ≡ record w { going = [] } → IsKept new last (mount_of new inodes last.files)
+  kept new last shared new_is last_is =
+      let pages = pages_are in
+      let held = held_are in
+      let room = c.room in
+      let more = left.room in
+      subst (λ x. IsKept x last (mount_of x inodes last.files)) (sym new_is) (subst (λ x. IsKept (with_less (length w.going) reserves s) x (mount_of (with_less (length w.going) reserves s) inodes x.files)) (sym last_is) (record {
+        pages = omega (arith, pages);
+        used = omega (arith, pages, held);
+        room = omega (arith, room, more);
+        going = refl;
+        plain = subst (All AreShared) (sym w_is) (All-filter is_kept AreShared (slice_set v.files k g) (All-set AreShared v.files k g shared c.plain));
+      }))
+
+  pub left_is : (new : Subpool) (last : Files) → new ≡ with_less (length w.going) reserves s → last ≡ record w { going = [] } → mount_of new inodes last.files ≡ swept (with_file m k g)
+  left_is new last new_is last_is = ap (λ (x : Subpool). mount_of x inodes last.files) new_is ∙ ap (λ (x : Files). mount_of s inodes x.files) last_is ∙ ap (mount_of s inodes) w_is
+
+  falls : fall s (length w.going + reserves) ≡ fall_of (Some m) (Some n)
+  falls = (let pages = pages_are in let held = held_are in let was = c.used in omega (arith, pages, held, was))
+
+  pub given : {X : Type 0} (took : X → Section → PoolAnswer → X → Type 0) (door left : X) → GivesBack took w.going (fall s (length w.going + reserves)) door left
+      → ThroughDoor took (gives Done (Some m) (Some (swept (with_file m k g)))) (Some m) door (Ok Done) (Some (swept (with_file m k g))) left
+  given took door after back = subst (λ x. ThroughDoor took (gives Done (Some m) (Some x)) (Some m) door (Ok Done) (Some x) after) (ap (mount_of s inodes) w_is)
+      (gave took Done (Some m) (Some n) w.going (fall s (length w.going + reserves)) door after
+      (λ i. (let all = left.nodes i in let none = ap (count_by (λ (page : Page). page.node == i)) c.going in omega (arith, all, none))) falls back)
+
+-- copies that go leave a map shared
+pub shared_punched : (a b : ℕ) (ms : List Map) → All (λ (x : Map). is_shared x.sharing ≡ true) ms → All (λ (x : Map). is_shared x.sharing ≡ true) (map (map_punched a b) ms)
+shared_punched a b [] each = each
+shared_punched a b (x ∷ xs) each = All-cons (λ (x : Map). is_shared x.sharing ≡ true) (map_punched a b x) (map (map_punched a b) xs) (each 0 x (omega arith)) (shared_punched a b xs (λ i d l. each (suc i) d (omega (arith, l))))
+
+-- ---- the plan: a file by its name, tests, and what it gives back
+
+module _ {X : Type 0} (took : X → Section → PoolAnswer → X → Type 0) (full : X → Type 0) (m : Mount) (name : List ℕ) (tests : List (Bool × Refusal)) (change : File → File) (door : X) where
+  abbrev plan : Plan
+  plan = with_value (file_named m name) r.NoSuchFile (λ q. unless tests (gives Done (Some m) (edited m q.0 (change q.1))))
+
+  pub nowhere : file_named m name ≡ None → Tried took full (λ c. plan) (Some m) door (Err r.NoSuchFile) (Some m) door
+  nowhere e = (
+    fresh_choice false (Some m),
+    is_fresh false (Some m),
+    subst (λ o. ThroughDoor took (with_value o r.NoSuchFile (λ q. unless tests (gives Done (Some m) (edited m q.0 (change q.1))))) (Some m) door (Err r.NoSuchFile) (Some m) door) (sym e) (refused_at took m r.NoSuchFile door),
+  )
+
+  module _ (k : ℕ) (named : file_named m name ≡ Some (k, file_in m k)) where
+    abbrev after : Plan
+    after = gives Done (Some m) (edited m k (change (file_in m k)))
+
+    of_file : plan ≡ unless tests after
+    of_file = ap (λ o. with_value o r.NoSuchFile (λ q. unless tests (gives Done (Some m) (edited m q.0 (change q.1))))) named
+
+    pub out_of_range : first_of tests ≡ Some r.OutOfRange → Tried took full (λ c. plan) (Some m) door (Err r.OutOfRange) (Some m) door
+    out_of_range h = (
+      fresh_choice false (Some m),
+      is_fresh false (Some m),
+      subst (λ p. ThroughDoor took p (Some m) door (Err r.OutOfRange) (Some m) door) (sym (of_file ∙ tests_fail tests after r.OutOfRange h)) (refused_at took m r.OutOfRange door),
+    )
+
+    pub gave_back : first_of tests ≡ None → (n : Mount) (left : X) → ThroughDoor took after (Some m) door (Ok Done) (Some n) left → Tried took full (λ c. plan) (Some m) door (Ok Done) (Some n) left
+    gave_back pass n left h = (
+      fresh_choice false (Some m),
+      is_fresh false (Some m),
+      subst (λ p. ThroughDoor took p (Some m) door (Ok Done) (Some n) left) (sym (of_file ∙ tests_pass tests after pass)) h,
+    )
+
+-- ---- tests of a range and of a length
+
+pub bad_range : (a b : ℕ) → (b ≤ a) ⊎ ((a < b) × (1048576 < b)) → first_of ((is_bad_range a b, r.OutOfRange) ∷ []) ≡ Some r.OutOfRange
+bad_range a b bad = ap (λ t. first_of ((t, r.OutOfRange) ∷ [])) (⊎_elim
+    (λ (l : b ≤ a). (let t : is_bad_range a b ≡ true = grind (arith, nat_tests, l) in t))
+    (λ (l : (a < b) × (1048576 < b)). (let past = l.1 in let t : is_bad_range a b ≡ true = grind (arith, nat_tests, past) in t)) bad)
+
+pub good_range : (a b : ℕ) → a < b → b ≤ 1048576 → first_of ((is_bad_range a b, r.OutOfRange) ∷ []) ≡ None
+good_range a b l few = (let t : is_bad_range a b ≡ false = grind (arith, nat_tests, l, few) in ap (λ t. first_of ((t, r.OutOfRange) ∷ [])) t)
+
+pub long_file : (n : ℕ) → 1048576 < n → first_of ((nat_lt 1048576 n, r.OutOfRange) ∷ []) ≡ Some r.OutOfRange
+long_file n l = (let t : nat_lt 1048576 n ≡ true = grind (arith, nat_tests, l) in ap (λ t. first_of ((t, r.OutOfRange) ∷ [])) t)
+
+pub short_file : (n : ℕ) → n ≤ 1048576 → first_of ((nat_lt 1048576 n, r.OutOfRange) ∷ []) ≡ None
+short_file n l = (let t : nat_lt 1048576 n ≡ false = grind (arith, nat_tests, l) in ap (λ t. first_of ((t, r.OutOfRange) ∷ [])) t)

@@ -1,0 +1,83 @@
+//! Files that give back.
+ghost use Rattle.std.specs.Prelude.{◌≡◌, ◌≢◌, Err, ℕ, Some, []};
+ghost use Rattle.hp_model.specs.declared.refusal.Refusal.TheVariants as Refusal;
+ghost use Rattle.hp_model.specs.declared.event.SlotEvent.TheVariants.{Punch, Truncate};
+ghost use Rattle.hp_store.specs.Store.{Store as StoreValue};
+ghost use Rattle.hp_subpool.specs.Subpool.{Subpool as ShareValue};
+ghost use Rattle.hp_mount.specs.Done.{IsDone};
+
+use super::Mount;
+use super::making::MOST_FILE_PAGES;
+use hp_model::answer::{Answer, Reply};
+use hp_model::naming::Naming;
+use hp_model::refusal::Refusal;
+use hp_mount_door::PoolDoor;
+use hp_store::PageStore;
+use hp_subpool::Subpool;
+
+impl<N: Naming> Mount<N> {
+    /// Makes a file `pages` indices long. Pages, entries and private copies from there on go, and go back to the pool,
+    /// as do the reservations of entries without a page, but for what the minimum keeps (`mm/hugetlbfs_reserv.rst`).
+    ///
+    /// Refused, and then nothing changes, by the first of these that holds:
+    /// - NoSuchFile: no file has the name.
+    /// - OutOfRange: `pages` is above 1,048,576 (profile).
+    pub fn truncate<D: PoolDoor<Share = Subpool<N>, Going = PageStore<N>>>(
+        &mut self,
+        door: &mut D,
+        name: &[u8],
+        pages: u64,
+    ) -> Reply
+        requires shares { (s : ShareValue) → D.share_of s ≡ s }
+        requires going { (s : StoreValue) → D.going_of s ≡ s.going }
+        requires emptied { (s : StoreValue) → D.emptied s ≡ record s { going = [] } }
+        requires ready { D.is_ready door.old }
+        ensures done { (size k : ℕ) → IsDone D.took D.is_full size k (Some self.old) door.old
+            (Truncate name.now pages) result (Some self.new) door.new }
+        ensures left { D.is_left door.new }
+        ensures memory { result ≢ Err Refusal.OutOfMemory }
+    {
+        let Some(file) = self.files.named(name) else {
+            return Err(Refusal::NoSuchFile);
+        };
+        if pages > MOST_FILE_PAGES {
+            return Err(Refusal::OutOfRange);
+        }
+        let reserves = self.files.truncate(file, pages);
+        self.files.give_back(door, &mut self.share, reserves);
+        Ok(Answer::Done)
+    }
+
+    /// The pages of a file's indices from `start` up to `end` go with their entries, and so do private copies of them.
+    /// They go back to the pool, but for what the minimum keeps. Entries without a page stay (profile).
+    ///
+    /// Refused, and then nothing changes, by the first of these that holds:
+    /// - NoSuchFile: no file has the name.
+    /// - OutOfRange: the range is empty, or `end` is above 1,048,576 (profile).
+    pub fn punch<D: PoolDoor<Share = Subpool<N>, Going = PageStore<N>>>(
+        &mut self,
+        door: &mut D,
+        name: &[u8],
+        start: u64,
+        end: u64,
+    ) -> Reply
+        requires shares { (s : ShareValue) → D.share_of s ≡ s }
+        requires going { (s : StoreValue) → D.going_of s ≡ s.going }
+        requires emptied { (s : StoreValue) → D.emptied s ≡ record s { going = [] } }
+        requires ready { D.is_ready door.old }
+        ensures done { (size k : ℕ) → IsDone D.took D.is_full size k (Some self.old) door.old
+            (Punch name.now start end) result (Some self.new) door.new }
+        ensures left { D.is_left door.new }
+        ensures memory { result ≢ Err Refusal.OutOfMemory }
+    {
+        let Some(file) = self.files.named(name) else {
+            return Err(Refusal::NoSuchFile);
+        };
+        if end <= start || end > MOST_FILE_PAGES {
+            return Err(Refusal::OutOfRange);
+        }
+        self.files.punch(file, start, end);
+        self.files.give_back(door, &mut self.share, 0);
+        Ok(Answer::Done)
+    }
+}

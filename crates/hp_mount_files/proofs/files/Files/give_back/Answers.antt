@@ -1,0 +1,14 @@
+use Rattle.std.proofs.Common.{[], ◌-◌, refl, ap, ◌∙◌}
+use Rattle.hp_store.specs.Store.{Store}
+use Rattle.hp_mount_files.specs.Files.{Files}
+use Rattle.hp_mount_files.proofs.Staying.{files_stay}
+use Rattle.hp_mount_files.proofs.Views.{view}
+use Rattle.hp_mount_files.proofs.files.Files.give_back.Goals as goal
+
+pub returns-clause-going : goal.returns-clause-going
+returns-clause-going g c =
+    let s = c.self.inside in
+    let empty : Store = record s.store { going = [] } in
+    ap (λ (t : Store). view t s.more s.list.items) (c.put.ensures.going ∙ c.requires.emptied s.store)
+    ∙ ap (λ fs. record { files = fs; going = []; room = empty.room - s.more }) (files_stay s.store empty s.list.items (λ n some. refl))
+    ∙ ap (λ (v : Files). record v { going = [] }) c.self.view_is
