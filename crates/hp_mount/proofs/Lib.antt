@@ -2,6 +2,6 @@ pub mod Ways
 pub mod Keeping
 pub mod Shared
 pub mod Commands
-pub mod Zeros
+pub mod Shown
 pub mod Making
 pub mod Ending

@@ -1,13 +1,15 @@
 //! The answers to lines.
 ghost use Rattle.std.specs.Prelude.{◌≡◌, ◌+◌, ◌<◌, ◌^◌, [], ◌∷◌, length, IfErr, IfOk, IsOk, OnOk};
 ghost use Rattle.hp_model.specs.text.Lines.{ended, ended_lines};
-ghost use Rattle.hp_model.specs.text.Reading.{step_of};
+ghost use Rattle.hp_model.specs.text.Reading.{load_of, step_of, store_of};
 ghost use Rattle.hp_model.specs.text.Text.{AnswersStep};
 ghost use Rattle.hp_model.specs.text.Writing.{IsWithinLimits};
+ghost use Rattle.hp_wire.specs.Added.{AddsReply};
 ghost use Rattle.hp_wire.specs.Answered.{AnswersAll, AnswersRead, AnswersSome, RunsAll, RunsSome};
 ghost use Rattle.hp_wire.specs.Sent.{Writes, WritesFront};
 ghost use Rattle.hp_wire.specs.Served.{text_of_refusals, unended_by};
 ghost use Rattle.hp_wire.specs.Unanswered.{CountsLines};
+ghost use Rattle.hp_wire.specs.Waiting.{HasRoomForOne};
 
 use crate::ends::Sink;
 use crate::fault::RunFault;
@@ -17,7 +19,9 @@ use hp_model::refusal::Refusal;
 use hp_model::service::Service;
 use hp_model::step::Step;
 use hp_text::pieces::first_piece;
-use hp_wire_lines::reading::{LINE_LIMIT, step_of_line};
+use hp_wire_lines::accesses::{loading, storing};
+use hp_wire_lines::reading::{LINE_LIMIT, LineKind, kind_of_line, step_of_line};
+use hp_wire_lines::words::Words;
 use std::alloc::Global;
 
 impl Replies {
@@ -90,9 +94,70 @@ impl Replies {
         ensures stays { W.is_sure writer.old → W.is_sure writer.new }
     {
         self.make_room(writer)?;
+        self.add_reply(alloc, line, service);
+        Ok(())
+    }
+
+    // Answers one line, for whose reply there is room.
+    #[inline(always)]
+    fn add_reply<S: Service>(&mut self, alloc: Global, line: &[u8], service: &mut S)
+        requires room { HasRoomForOne self.old }
+        ensures answered { AddsReply S.may_answer (step_of (ended line.now))
+            service.old service.new self.old self.new }
+    {
+        if line.len() <= LINE_LIMIT {
+            match kind_of_line(line) {
+                LineKind::Load(words) => return self.add_load(words, service),
+                LineKind::Store(words) => return self.add_store(words, service),
+                LineKind::Other => {}
+            }
+        }
+        self.add_other(alloc, line, service);
+    }
+
+    // Does the load of these words.
+    #[inline(always)]
+    fn add_load<S: Service>(&mut self, words: Words<'_>, service: &mut S)
+        requires room { HasRoomForOne self.old }
+        ensures answered { AddsReply S.may_answer (load_of words.entry)
+            service.old service.new self.old self.new }
+    {
+        match loading(words) {
+            Ok((access, count)) => {
+                let mut room = [0u8; 256];
+                let loaded = service.load(&access, count, &mut room);
+                self.add_loaded(loaded);
+            }
+            Err(refusal) => self.add_refusal(refusal),
+        }
+    }
+
+    // Does the store of these words.
+    #[inline(always)]
+    fn add_store<S: Service>(&mut self, words: Words<'_>, service: &mut S)
+        requires room { HasRoomForOne self.old }
+        ensures answered { AddsReply S.may_answer (store_of words.entry)
+            service.old service.new self.old self.new }
+    {
+        let mut room = [0u8; 512];
+        match storing(words, &mut room) {
+            Ok((access, bytes)) => {
+                let stored = service.store(&access, bytes);
+                self.add_stored(stored);
+            }
+            Err(refusal) => self.add_refusal(refusal),
+        }
+    }
+
+    // Answers a line by its step and the whole reply: apart, so that no line pays for these that has none.
+    #[inline(never)]
+    fn add_other<S: Service>(&mut self, alloc: Global, line: &[u8], service: &mut S)
+        requires room { HasRoomForOne self.old }
+        ensures answered { AddsReply S.may_answer (step_of (ended line.now))
+            service.old service.new self.old self.new }
+    {
         let reply = reply_to(alloc, service, line);
         self.add(&reply);
-        Ok(())
     }
 
     /// Answers the line that the input ends in, of which so many bytes are held, where it ends in one, and says how many
