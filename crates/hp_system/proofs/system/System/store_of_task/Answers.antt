@@ -1,5 +1,4 @@
-use Rattle.std.proofs.Common.{Err, sym, ap, ◌∙◌}
-use Rattle.hp_model.specs.declared.refusal.Refusal.TheVariants.{NoSuchTask}
+use Rattle.std.proofs.Common.{sym, ap, ◌∙◌}
 use Rattle.hp_model.specs.machine.Accesses.{done_reply}
 use Rattle.hp_model.specs.machine.State.{State}
 use Rattle.hp_model.specs.machine.Table.{home_of}
