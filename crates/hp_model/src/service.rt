@@ -29,9 +29,14 @@ pub trait Service {
     /// The bytes of a page.
     ghost page: { Self → ℕ };
 
+    /// What each call wants of the service, and keeps.
+    ghost is_ready: { Self → Type 0 };
+
     /// Does the step, or leaves everything as it was, and says which.
     fn call(&mut self, step: &Step) -> Reply
+        requires ready { is_ready self.old }
         ensures answered { may_answer self.old step.now result self.new }
+        ensures ready { is_ready self.new }
         ensures same_page { page self.new ≡ page self.old }
         ensures limits { IsWithinLimits result };
 
@@ -42,14 +47,18 @@ pub trait Service {
         count: u64,
         room: &'a mut [u8],
     ) -> Result<&'a [u8], Refusal>
+        requires ready { is_ready self.old }
         requires room { 256 ≤ length room.old }
         ensures answered { may_answer self.old (load_step access.now count) (bytes_reply result) self.new }
+        ensures ready { is_ready self.new }
         ensures same_page { page self.new ≡ page self.old }
         ensures few { IfOk result (λ bytes. length bytes.now ≤ 256) };
 
     /// Does the step of a store of these bytes.
     fn store(&mut self, access: &Access, bytes: &[u8]) -> Result<(), Refusal>
+        requires ready { is_ready self.old }
         ensures answered { may_answer self.old (store_step access.now bytes.now) (done_reply result) self.new }
+        ensures ready { is_ready self.new }
         ensures same_page { page self.new ≡ page self.old };
 
     /// The bytes of a page.

@@ -14,6 +14,8 @@ impl<N: Naming> Service for System<N> {
 
     ghost page = { λ s. s.page_size };
 
+    ghost is_ready = { λ s. Unit {0} };
+
     fn call(&mut self, step: &Step) -> Reply {
         self.apply(step)
     }

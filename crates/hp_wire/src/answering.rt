@@ -34,7 +34,8 @@ impl Replies {
         service: &mut S,
         writer: &mut W,
     ) -> Result<(usize, u64), RunFault>
-        requires { self.old.text ≡ [] }
+        requires ready { S.is_ready service.old }
+        requires none { self.old.text ≡ [] }
         ensures ran { OnOk result (RunsAll S.may_answer W.contents self.old.page
             (ended_lines chunk.now) service.old service.new writer.old writer.new) }
         ensures cut { IfErr result (RunsSome S.may_answer W.contents self.old.page
@@ -44,6 +45,7 @@ impl Replies {
         ensures page { self.new.page ≡ self.old.page }
         ensures sure { W.is_sure writer.old → IsOk result }
         ensures stays { W.is_sure writer.old → W.is_sure writer.new }
+        ensures ready { S.is_ready service.new }
     {
         let (left, count) = self.answer_lines(alloc, chunk, service, writer)?;
         self.send(writer)?;
@@ -58,6 +60,7 @@ impl Replies {
         service: &mut S,
         writer: &mut W,
     ) -> Result<(usize, u64), RunFault>
+        requires ready { S.is_ready service.old }
         ensures answered { OnOk result (AnswersAll S.may_answer W.contents (ended_lines bytes.now)
             service.old service.new writer.old writer.new self.old self.new) }
         ensures cut { IfErr result (AnswersSome S.may_answer W.contents (ended_lines bytes.now)
@@ -66,6 +69,7 @@ impl Replies {
         ensures page { self.new.page ≡ self.old.page }
         ensures sure { W.is_sure writer.old → IsOk result }
         ensures stays { W.is_sure writer.old → W.is_sure writer.new }
+        ensures ready { S.is_ready service.new }
     {
         let mut rest = bytes;
         let mut count = 0u64;
@@ -85,6 +89,7 @@ impl Replies {
         service: &mut S,
         writer: &mut W,
     ) -> Result<(), RunFault>
+        requires ready { S.is_ready service.old }
         ensures answered { OnOk result (AnswersAll S.may_answer W.contents (ended line.now ∷ [])
             service.old service.new writer.old writer.new self.old self.new) }
         ensures cut { IfErr result (WritesFront W.contents writer.old writer.new self.old.text) }
@@ -92,6 +97,7 @@ impl Replies {
         ensures page { self.new.page ≡ self.old.page }
         ensures sure { W.is_sure writer.old → IsOk result }
         ensures stays { W.is_sure writer.old → W.is_sure writer.new }
+        ensures ready { S.is_ready service.new }
     {
         self.make_room(writer)?;
         self.add_reply(alloc, line, service);
@@ -101,9 +107,11 @@ impl Replies {
     // Answers one line, for whose reply there is room.
     #[inline(always)]
     fn add_reply<S: Service>(&mut self, alloc: Global, line: &[u8], service: &mut S)
+        requires ready { S.is_ready service.old }
         requires room { HasRoomForOne self.old }
         ensures answered { AddsReply S.may_answer (step_of (ended line.now))
             service.old service.new self.old self.new }
+        ensures ready { S.is_ready service.new }
     {
         if line.len() <= LINE_LIMIT {
             match kind_of_line(line) {
@@ -118,9 +126,11 @@ impl Replies {
     // Does the load of these words.
     #[inline(always)]
     fn add_load<S: Service>(&mut self, words: Words<'_>, service: &mut S)
+        requires ready { S.is_ready service.old }
         requires room { HasRoomForOne self.old }
         ensures answered { AddsReply S.may_answer (load_of words.entry)
             service.old service.new self.old self.new }
+        ensures ready { S.is_ready service.new }
     {
         match loading(words) {
             Ok((access, count)) => {
@@ -135,9 +145,11 @@ impl Replies {
     // Does the store of these words.
     #[inline(always)]
     fn add_store<S: Service>(&mut self, words: Words<'_>, service: &mut S)
+        requires ready { S.is_ready service.old }
         requires room { HasRoomForOne self.old }
         ensures answered { AddsReply S.may_answer (store_of words.entry)
             service.old service.new self.old self.new }
+        ensures ready { S.is_ready service.new }
     {
         let mut room = [0u8; 512];
         match storing(words, &mut room) {
@@ -152,9 +164,11 @@ impl Replies {
     // Answers a line by its step and the whole reply: apart, so that no line pays for these that has none.
     #[inline(never)]
     fn add_other<S: Service>(&mut self, alloc: Global, line: &[u8], service: &mut S)
+        requires ready { S.is_ready service.old }
         requires room { HasRoomForOne self.old }
         ensures answered { AddsReply S.may_answer (step_of (ended line.now))
             service.old service.new self.old self.new }
+        ensures ready { S.is_ready service.new }
     {
         let reply = reply_to(alloc, service, line);
         self.add(&reply);
@@ -195,9 +209,11 @@ impl Replies {
 
 #[inline(always)]
 fn reply_to<S: Service>(alloc: Global, service: &mut S, line: &[u8]) -> Reply
+    requires ready { S.is_ready service.old }
     ensures answered { AnswersStep S.may_answer service.old (step_of (ended line.now))
         result service.new }
     ensures limits { IsWithinLimits result }
+    ensures ready { S.is_ready service.new }
 {
     if line.len() > LINE_LIMIT {
         return Err(Refusal::LineTooLong);
@@ -209,8 +225,10 @@ fn reply_to<S: Service>(alloc: Global, service: &mut S, line: &[u8]) -> Reply
 // The machine's reply to the step that was read, or why none was.
 #[inline(always)]
 fn answer<S: Service>(service: &mut S, read: Result<Step, Refusal>) -> Reply
+    requires ready { S.is_ready service.old }
     ensures answered { AnswersRead S.may_answer service.old read result service.new }
     ensures limits { IsWithinLimits result }
+    ensures ready { S.is_ready service.new }
 {
     let step = read?;
     service.call(&step)

@@ -15,6 +15,8 @@ impl Service for Sample {
 
     ghost page = { λ sample. 1024 };
 
+    ghost is_ready = { λ sample. Unit {0} };
+
     fn call(&mut self, step: &Step) -> Reply {
         self.calls = self.calls.saturating_add(1);
         match step {
