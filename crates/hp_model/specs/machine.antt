@@ -6,6 +6,7 @@ pub mod State
 pub mod Machine
 pub mod Event
 pub mod Step
+pub mod Accesses
 pub mod Run
 pub mod Plain
 pub mod Sound

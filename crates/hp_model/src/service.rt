@@ -1,11 +1,25 @@
 //! What answers steps.
-ghost use Rattle.std.specs.Prelude.{◌≡◌, ℕ};
+ghost use Rattle.std.specs.Prelude.{◌≡◌, ◌≤◌, ℕ, length, IfOk};
 ghost use Rattle.hp_model.specs.declared.step.Step.{Step as TheStep};
+ghost use Rattle.hp_model.specs.machine.Accesses.{bytes_reply, done_reply, load_step, store_step};
 ghost use Rattle.hp_model.specs.machine.Plan.{Reply as TheReply};
 ghost use Rattle.hp_model.specs.text.Writing.{IsWithinLimits};
 
 use crate::answer::Reply;
+use crate::refusal::Refusal;
 use crate::step::Step;
+
+/// Where a load or a store begins: at a byte of a page, which a task's map on a slot shows at an index of its file.
+#[derive(Clone, Copy, Debug, PartialEq, Eq)]
+pub struct Access {
+    pub task: u64,
+    pub slot: u64,
+    pub map: u64,
+    /// A page of the file.
+    pub index: u64,
+    /// A byte of the page.
+    pub offset: u64,
+}
 
 /// Answers steps one after another: the machine itself, or a session on it.
 pub trait Service {
@@ -15,11 +29,37 @@ pub trait Service {
     /// The bytes of a page.
     ghost page: { Self → ℕ };
 
+    /// What each call wants of the service, and keeps.
+    ghost is_ready: { Self → Type 0 };
+
     /// Does the step, or leaves everything as it was, and says which.
     fn call(&mut self, step: &Step) -> Reply
+        requires ready { is_ready self.old }
         ensures answered { may_answer self.old step.now result self.new }
+        ensures ready { is_ready self.new }
         ensures same_page { page self.new ≡ page self.old }
         ensures limits { IsWithinLimits result };
+
+    /// Does the step of a load of `count` bytes, and answers them in the front of the room.
+    fn load<'a>(
+        &mut self,
+        access: &Access,
+        count: u64,
+        room: &'a mut [u8],
+    ) -> Result<&'a [u8], Refusal>
+        requires ready { is_ready self.old }
+        requires room { 256 ≤ length room.old }
+        ensures answered { may_answer self.old (load_step access.now count) (bytes_reply result) self.new }
+        ensures ready { is_ready self.new }
+        ensures same_page { page self.new ≡ page self.old }
+        ensures few { IfOk result (λ bytes. length bytes.now ≤ 256) };
+
+    /// Does the step of a store of these bytes.
+    fn store(&mut self, access: &Access, bytes: &[u8]) -> Result<(), Refusal>
+        requires ready { is_ready self.old }
+        ensures answered { may_answer self.old (store_step access.now bytes.now) (done_reply result) self.new }
+        ensures ready { is_ready self.new }
+        ensures same_page { page self.new ≡ page self.old };
 
     /// The bytes of a page.
     fn page_bytes(&self) -> u64

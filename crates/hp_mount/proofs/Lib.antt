@@ -2,7 +2,7 @@ pub mod Ways
 pub mod Keeping
 pub mod Shared
 pub mod Commands
-pub mod Zeros
+pub mod Shown
 pub mod Looking
 pub mod Making
 pub mod Ending

@@ -171,7 +171,7 @@ impl<N: Naming> Mount<N> {
                 count,
             } => {
                 let access = MapAccess { task, map, index };
-                self.load(door, page_bytes, home, &access, offset, count)
+                self.load_answer(door, page_bytes, home, &access, offset, count)
             }
             MountEvent::Store {
                 task,
@@ -181,7 +181,7 @@ impl<N: Naming> Mount<N> {
                 bytes,
             } => {
                 let access = MapAccess { task, map, index };
-                self.store(door, page_bytes, home, &access, offset, bytes)
+                self.store_answer(door, page_bytes, home, &access, offset, bytes)
             }
         }
     }

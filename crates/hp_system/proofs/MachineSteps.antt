@@ -16,6 +16,8 @@ use Rattle.hp_model.specs.declared.event.TableEvent.{TableEvent}
 use Rattle.hp_model.specs.declared.event.TableEvent.TheVariants as table
 use Rattle.hp_model.specs.declared.refusal.Refusal.TheVariants.{NoSuchTask, NoSuchSlot, BadLine}
 use Rattle.hp_model.specs.declared.step.Step.TheVariants.{Connect, Nr, Meminfo}
+use Rattle.hp_model.specs.declared.service.Access.{Access}
+use Rattle.hp_model.specs.machine.Accesses.{load_step, store_step}
 use Rattle.hp_model.specs.machine.Event.{IsEvent, with_table, with_pool_reply, is_slot_event}
 use Rattle.hp_model.specs.machine.Machine.{pool_of, node_of}
 use Rattle.hp_model.specs.machine.Plan.{Reply, Slot}
@@ -24,7 +26,7 @@ use Rattle.hp_model.specs.pool.Resize.{pool_event, set_nr}
 use Rattle.hp_model.specs.machine.State.{State}
 use Rattle.hp_model.specs.machine.Step.{Script, Answer_with, on_slot, only, finding, IsScript, IsStep, IsBuiltStep}
 use Rattle.hp_model.specs.machine.Table.{Table, table_event, home_of, when_known}
-use Rattle.hp_system.specs.Event.{IsCarried}
+use Rattle.hp_system.specs.Event.{IsCarried, DoesOnSlot, load_event, store_event}
 use Rattle.hp_system.specs.Kept.{state_of, IsKept}
 use Rattle.hp_system.proofs.Carries.{calm, event_done, slot_in}
 
@@ -100,6 +102,25 @@ pub task_not_found : (s : State) (task : ℕ) (next : ℕ → Script) → home_o
 task_not_found s task next unknown =
     let gives : table_event (length s.nodes) s.table (table.Find task) ≡ (Err NoSuchTask, s.table) = ap (λ o. when_known s.table o (λ x. (Ok (HomeAnswer x), s.table))) unknown in
     (Err NoSuchTask, s, (calm, tt, ap (with_table s) gives), (refl, refl))
+
+-- ---- loads and stores
+
+pub load_found : (s t : State) (a : Access) (count home : ℕ) (reply : Reply) → home_of s.table a.task ≡ Some home → DoesOnSlot s a.slot (load_event a count home) reply t → IsStep s (load_step a count) reply t
+unfolding IsStep
+load_found s t a count home reply known h = task_found s t a.task home (λ x. on_slot (length s.slots) a.slot (load_event a count x)) reply known h
+
+pub load_not_found : (s : State) (a : Access) (count : ℕ) → home_of s.table a.task ≡ None → IsStep s (load_step a count) (Err NoSuchTask) s
+unfolding IsStep
+load_not_found s a count unknown = task_not_found s a.task (λ x. on_slot (length s.slots) a.slot (load_event a count x)) unknown
+
+pub store_found : (s t : State) (a : Access) (bytes : List ℕ) (home : ℕ) (reply : Reply) → home_of s.table a.task ≡ Some home → DoesOnSlot s a.slot (store_event a bytes home) reply t
+    → IsStep s (store_step a bytes) reply t
+unfolding IsStep
+store_found s t a bytes home reply known h = task_found s t a.task home (λ x. on_slot (length s.slots) a.slot (store_event a bytes x)) reply known h
+
+pub store_not_found : (s : State) (a : Access) (bytes : List ℕ) → home_of s.table a.task ≡ None → IsStep s (store_step a bytes) (Err NoSuchTask) s
+unfolding IsStep
+store_not_found s a bytes unknown = task_not_found s a.task (λ x. on_slot (length s.slots) a.slot (store_event a bytes x)) unknown
 
 -- ---- slots
 

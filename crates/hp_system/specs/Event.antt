@@ -1,8 +1,10 @@
 -- An event on a slot, carried out on the slot and the pool, and as a step of the machine.
-use Rattle.std.specs.Prelude.{◌≡◌, ℕ, length}
+use Rattle.std.specs.Prelude.{◌≡◌, ℕ, List, length}
 use Rattle.hp_model.specs.declared.event.SlotEvent.{SlotEvent}
+use Rattle.hp_model.specs.declared.event.SlotEvent.TheVariants.{Load, Store}
 use Rattle.hp_model.specs.declared.section.PoolAnswer.{PoolAnswer}
 use Rattle.hp_model.specs.declared.section.Section.{Section}
+use Rattle.hp_model.specs.declared.service.Access.{Access}
 use Rattle.hp_model.specs.machine.Event.{IsFresh}
 use Rattle.hp_model.specs.threads.LocalRun.{ThroughDoor}
 use Rattle.hp_model.specs.machine.Plan.{Choice, Reply, Slot}
@@ -28,3 +30,10 @@ DoesOnSlot s k e reply t = IsScript s (on_slot (length s.slots) k e) reply t
 -- and that of a task with its home, if the task is there
 abbrev pub DoesOfTask : State → (task k : ℕ) → (ℕ → SlotEvent) → Reply → State → Type 0
 DoesOfTask s task k e reply t = IsScript s (finding task (λ home. on_slot (length s.slots) k (e home))) reply t
+
+-- the event of a load of so many bytes and of a store, of a task with that home
+abbrev pub load_event : Access → (count home : ℕ) → SlotEvent
+load_event a count home = Load a.task home a.map a.index a.offset count
+
+abbrev pub store_event : Access → List ℕ → (home : ℕ) → SlotEvent
+store_event a bytes home = Store a.task home a.map a.index a.offset bytes

@@ -3,7 +3,8 @@
 use crate::system::System;
 use hp_model::answer::Reply;
 use hp_model::naming::Naming;
-use hp_model::service::Service;
+use hp_model::refusal::Refusal;
+use hp_model::service::{Access, Service};
 use hp_model::step::Step;
 
 impl<N: Naming> Service for System<N> {
@@ -13,8 +14,23 @@ impl<N: Naming> Service for System<N> {
 
     ghost page = { λ s. s.page_size };
 
+    ghost is_ready = { λ s. Unit {0} };
+
     fn call(&mut self, step: &Step) -> Reply {
         self.apply(step)
+    }
+
+    fn load<'a>(
+        &mut self,
+        access: &Access,
+        count: u64,
+        room: &'a mut [u8],
+    ) -> Result<&'a [u8], Refusal> {
+        System::load(self, access, count, room)
+    }
+
+    fn store(&mut self, access: &Access, bytes: &[u8]) -> Result<(), Refusal> {
+        System::store(self, access, bytes)
     }
 
     fn page_bytes(&self) -> u64 {

@@ -5,6 +5,7 @@ ghost use Rattle.hp_model.specs.pool.PoolCounts.{IsSettled};
 ghost use Rattle.hp_pool.specs.Ledgers.{AreLedgers};
 ghost use Rattle.hp_system.specs.Kept.{all_free};
 
+mod accesses;
 mod slots;
 mod steps;
 

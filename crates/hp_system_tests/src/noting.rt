@@ -1,5 +1,5 @@
 //! A mount through another door than the pool: one that notes what is taken, and has few places to note it.
-ghost use Rattle.std.specs.Prelude.{◌≡◌};
+ghost use Rattle.std.specs.Prelude.{◌≡◌, ◌≤◌, length};
 ghost use Rattle.hp_mount_door.specs.Door.{IsReady};
 ghost use Rattle.hp_pool.specs.Ledgers.{AreLedgers};
 
@@ -113,13 +113,6 @@ fn usage(used: u64) -> Answer {
     }
 }
 
-// The answer of a byte.
-fn byte(first: u8) -> Reply {
-    let mut bytes = [0u8; 256];
-    bytes[0] = first;
-    Ok(Answer::Bytes { count: 1, bytes })
-}
-
 const RANGE: MapRange = MapRange {
     task: 7,
     start: 0,
@@ -140,15 +133,20 @@ fn map_pages<N: Naming>(door: &mut Noting<N>, mount: &mut Mount<N>) -> Reply
     mount.map(door, 0, b"a", &RANGE)
 }
 
-fn load_byte<N: Naming>(door: &mut Noting<N>, mount: &mut Mount<N>) -> Reply
+fn load_byte<'a, N: Naming>(
+    door: &mut Noting<N>,
+    mount: &mut Mount<N>,
+    room: &'a mut [u8],
+) -> Result<&'a [u8], Refusal>
     requires ready { IsReady door.old.pool }
     requires bytes { N.page_bytes ≡ 1024 }
+    requires room { 256 ≤ length room.old }
     ensures { IsReady door.new.pool }
 {
-    mount.load(door, 1024, 0, &ACCESS, 0, 1)
+    mount.load(door, 1024, 0, &ACCESS, 0, 1, room)
 }
 
-fn store_byte<N: Naming>(door: &mut Noting<N>, mount: &mut Mount<N>) -> Reply
+fn store_byte<N: Naming>(door: &mut Noting<N>, mount: &mut Mount<N>) -> Result<(), Refusal>
     requires ready { IsReady door.old.pool }
     requires bytes { N.page_bytes ≡ 1024 }
     ensures { IsReady door.new.pool }
@@ -163,6 +161,7 @@ fn in_turn<N: Naming, R: Abort>(rt: &R, door: &mut Noting<N>, mount: &mut Mount<
     requires bytes { N.page_bytes ≡ 1024 }
     ensures { IsReady door.new.pool }
 {
+    let mut room = [0u8; 256];
     assert_eq!(rt; mount.create(b"a"), Ok(Answer::Done));
     assert_eq!(rt; map_pages(door, mount), Err(Refusal::TraceFull));
     assert!(rt; !mount.has_maps());
@@ -170,11 +169,11 @@ fn in_turn<N: Naming, R: Abort>(rt: &R, door: &mut Noting<N>, mount: &mut Mount<
     door.places = 1;
     assert_eq!(rt; map_pages(door, mount), Ok(Answer::MapNo(1)));
     assert_eq!(rt; mount.usage(), usage(2));
-    assert_eq!(rt; load_byte(door, mount), Err(Refusal::TraceFull));
+    assert_eq!(rt; load_byte(door, mount, &mut room), Err(Refusal::TraceFull));
     assert_eq!(rt; store_byte(door, mount), Err(Refusal::TraceFull));
     door.places = 1;
-    assert_eq!(rt; store_byte(door, mount), Ok(Answer::Done));
-    assert_eq!(rt; load_byte(door, mount), byte(120));
+    assert_eq!(rt; store_byte(door, mount), Ok(()));
+    assert_eq!(rt; load_byte(door, mount, &mut room), Ok(b"x".as_slice()));
     assert_eq!(rt; mount.usage(), usage(2));
 }
 

@@ -5,3 +5,4 @@ pub mod Stands
 pub mod Turns
 pub mod Endings
 pub mod Scripts
+pub mod Added

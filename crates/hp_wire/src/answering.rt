@@ -1,13 +1,15 @@
 //! The answers to lines.
 ghost use Rattle.std.specs.Prelude.{◌≡◌, ◌+◌, ◌<◌, ◌^◌, [], ◌∷◌, length, IfErr, IfOk, IsOk, OnOk};
 ghost use Rattle.hp_model.specs.text.Lines.{ended, ended_lines};
-ghost use Rattle.hp_model.specs.text.Reading.{step_of};
+ghost use Rattle.hp_model.specs.text.Reading.{load_of, step_of, store_of};
 ghost use Rattle.hp_model.specs.text.Text.{AnswersStep};
 ghost use Rattle.hp_model.specs.text.Writing.{IsWithinLimits};
+ghost use Rattle.hp_wire.specs.Added.{AddsReply};
 ghost use Rattle.hp_wire.specs.Answered.{AnswersAll, AnswersRead, AnswersSome, RunsAll, RunsSome};
 ghost use Rattle.hp_wire.specs.Sent.{Writes, WritesFront};
 ghost use Rattle.hp_wire.specs.Served.{text_of_refusals, unended_by};
 ghost use Rattle.hp_wire.specs.Unanswered.{CountsLines};
+ghost use Rattle.hp_wire.specs.Waiting.{HasRoomForOne};
 
 use crate::ends::Sink;
 use crate::fault::RunFault;
@@ -17,7 +19,9 @@ use hp_model::refusal::Refusal;
 use hp_model::service::Service;
 use hp_model::step::Step;
 use hp_text::pieces::first_piece;
-use hp_wire_lines::reading::{LINE_LIMIT, step_of_line};
+use hp_wire_lines::accesses::{loading, storing};
+use hp_wire_lines::reading::{LINE_LIMIT, LineKind, kind_of_line, step_of_line};
+use hp_wire_lines::words::Words;
 use std::alloc::Global;
 
 impl Replies {
@@ -30,7 +34,8 @@ impl Replies {
         service: &mut S,
         writer: &mut W,
     ) -> Result<(usize, u64), RunFault>
-        requires { self.old.text ≡ [] }
+        requires ready { S.is_ready service.old }
+        requires none { self.old.text ≡ [] }
         ensures ran { OnOk result (RunsAll S.may_answer W.contents self.old.page
             (ended_lines chunk.now) service.old service.new writer.old writer.new) }
         ensures cut { IfErr result (RunsSome S.may_answer W.contents self.old.page
@@ -40,6 +45,7 @@ impl Replies {
         ensures page { self.new.page ≡ self.old.page }
         ensures sure { W.is_sure writer.old → IsOk result }
         ensures stays { W.is_sure writer.old → W.is_sure writer.new }
+        ensures ready { S.is_ready service.new }
     {
         let (left, count) = self.answer_lines(alloc, chunk, service, writer)?;
         self.send(writer)?;
@@ -54,6 +60,7 @@ impl Replies {
         service: &mut S,
         writer: &mut W,
     ) -> Result<(usize, u64), RunFault>
+        requires ready { S.is_ready service.old }
         ensures answered { OnOk result (AnswersAll S.may_answer W.contents (ended_lines bytes.now)
             service.old service.new writer.old writer.new self.old self.new) }
         ensures cut { IfErr result (AnswersSome S.may_answer W.contents (ended_lines bytes.now)
@@ -62,6 +69,7 @@ impl Replies {
         ensures page { self.new.page ≡ self.old.page }
         ensures sure { W.is_sure writer.old → IsOk result }
         ensures stays { W.is_sure writer.old → W.is_sure writer.new }
+        ensures ready { S.is_ready service.new }
     {
         let mut rest = bytes;
         let mut count = 0u64;
@@ -81,6 +89,7 @@ impl Replies {
         service: &mut S,
         writer: &mut W,
     ) -> Result<(), RunFault>
+        requires ready { S.is_ready service.old }
         ensures answered { OnOk result (AnswersAll S.may_answer W.contents (ended line.now ∷ [])
             service.old service.new writer.old writer.new self.old self.new) }
         ensures cut { IfErr result (WritesFront W.contents writer.old writer.new self.old.text) }
@@ -88,11 +97,81 @@ impl Replies {
         ensures page { self.new.page ≡ self.old.page }
         ensures sure { W.is_sure writer.old → IsOk result }
         ensures stays { W.is_sure writer.old → W.is_sure writer.new }
+        ensures ready { S.is_ready service.new }
     {
         self.make_room(writer)?;
+        self.add_reply(alloc, line, service);
+        Ok(())
+    }
+
+    // Answers one line, for whose reply there is room.
+    #[inline(always)]
+    fn add_reply<S: Service>(&mut self, alloc: Global, line: &[u8], service: &mut S)
+        requires ready { S.is_ready service.old }
+        requires room { HasRoomForOne self.old }
+        ensures answered { AddsReply S.may_answer (step_of (ended line.now))
+            service.old service.new self.old self.new }
+        ensures ready { S.is_ready service.new }
+    {
+        if line.len() <= LINE_LIMIT {
+            match kind_of_line(line) {
+                LineKind::Load(words) => return self.add_load(words, service),
+                LineKind::Store(words) => return self.add_store(words, service),
+                LineKind::Other => {}
+            }
+        }
+        self.add_other(alloc, line, service);
+    }
+
+    // Does the load of these words.
+    #[inline(always)]
+    fn add_load<S: Service>(&mut self, words: Words<'_>, service: &mut S)
+        requires ready { S.is_ready service.old }
+        requires room { HasRoomForOne self.old }
+        ensures answered { AddsReply S.may_answer (load_of words.entry)
+            service.old service.new self.old self.new }
+        ensures ready { S.is_ready service.new }
+    {
+        match loading(words) {
+            Ok((access, count)) => {
+                let mut room = [0u8; 256];
+                let loaded = service.load(&access, count, &mut room);
+                self.add_loaded(loaded);
+            }
+            Err(refusal) => self.add_refusal(refusal),
+        }
+    }
+
+    // Does the store of these words.
+    #[inline(always)]
+    fn add_store<S: Service>(&mut self, words: Words<'_>, service: &mut S)
+        requires ready { S.is_ready service.old }
+        requires room { HasRoomForOne self.old }
+        ensures answered { AddsReply S.may_answer (store_of words.entry)
+            service.old service.new self.old self.new }
+        ensures ready { S.is_ready service.new }
+    {
+        let mut room = [0u8; 512];
+        match storing(words, &mut room) {
+            Ok((access, bytes)) => {
+                let stored = service.store(&access, bytes);
+                self.add_stored(stored);
+            }
+            Err(refusal) => self.add_refusal(refusal),
+        }
+    }
+
+    // Answers a line by its step and the whole reply: apart, so that no line pays for these that has none.
+    #[inline(never)]
+    fn add_other<S: Service>(&mut self, alloc: Global, line: &[u8], service: &mut S)
+        requires ready { S.is_ready service.old }
+        requires room { HasRoomForOne self.old }
+        ensures answered { AddsReply S.may_answer (step_of (ended line.now))
+            service.old service.new self.old self.new }
+        ensures ready { S.is_ready service.new }
+    {
         let reply = reply_to(alloc, service, line);
         self.add(&reply);
-        Ok(())
     }
 
     /// Answers the line that the input ends in, of which so many bytes are held, where it ends in one, and says how many
@@ -130,9 +209,11 @@ impl Replies {
 
 #[inline(always)]
 fn reply_to<S: Service>(alloc: Global, service: &mut S, line: &[u8]) -> Reply
+    requires ready { S.is_ready service.old }
     ensures answered { AnswersStep S.may_answer service.old (step_of (ended line.now))
         result service.new }
     ensures limits { IsWithinLimits result }
+    ensures ready { S.is_ready service.new }
 {
     if line.len() > LINE_LIMIT {
         return Err(Refusal::LineTooLong);
@@ -144,8 +225,10 @@ fn reply_to<S: Service>(alloc: Global, service: &mut S, line: &[u8]) -> Reply
 // The machine's reply to the step that was read, or why none was.
 #[inline(always)]
 fn answer<S: Service>(service: &mut S, read: Result<Step, Refusal>) -> Reply
+    requires ready { S.is_ready service.old }
     ensures answered { AnswersRead S.may_answer service.old read result service.new }
     ensures limits { IsWithinLimits result }
+    ensures ready { S.is_ready service.new }
 {
     let step = read?;
     service.call(&step)

@@ -1,5 +1,6 @@
 //! The replies that wait to be written.
-ghost use Rattle.std.specs.Prelude.{◌≡◌, ◌≤◌, ◌++◌, [], IfErr, IfOk, IsOk, OnOk};
+ghost use Rattle.std.specs.Prelude.{◌≡◌, ◌≤◌, ◌++◌, [], length, Err, IfErr, IfOk, IsOk, OnOk};
+ghost use Rattle.hp_model.specs.machine.Accesses.{bytes_reply, done_reply};
 ghost use Rattle.hp_model.specs.text.Writing.{IsWithinLimits, line_of};
 ghost use Rattle.hp_wire.specs.Answered.{LosesNone};
 ghost use Rattle.hp_wire.specs.Sent.{Writes, WritesFront};
@@ -8,7 +9,10 @@ ghost use Rattle.hp_wire.specs.Waiting.{HasRoomForOne};
 use crate::ends::{Sink, write_whole};
 use crate::fault::RunFault;
 use hp_model::answer::Reply;
-use hp_wire_lines::writing::{LONGEST, line_of_reply};
+use hp_model::refusal::Refusal;
+use hp_wire_lines::writing::{
+    LONGEST, line_of_load, line_of_refusal, line_of_reply, line_of_store,
+};
 use std::alloc::{AllocError, Global};
 use std::marker::Model;
 
@@ -51,6 +55,37 @@ impl Replies {
         ensures text { self.new.text ≡ self.old.text ++ line_of self.old.page reply.now }
     {
         line_of_reply(self.page, reply, &mut self.waiting);
+    }
+
+    /// Adds the text of what a load answered.
+    #[inline(always)]
+    pub fn add_loaded(&mut self, loaded: Result<&[u8], Refusal>)
+        requires few { IfOk loaded (λ bytes. length bytes.now ≤ 256) }
+        requires room { HasRoomForOne self.old }
+        ensures page { self.new.page ≡ self.old.page }
+        ensures text { self.new.text ≡ self.old.text ++ line_of self.old.page (bytes_reply loaded.entry) }
+    {
+        line_of_load(loaded, &mut self.waiting);
+    }
+
+    /// Adds the text of what a store answered.
+    #[inline(always)]
+    pub fn add_stored(&mut self, stored: Result<(), Refusal>)
+        requires room { HasRoomForOne self.old }
+        ensures page { self.new.page ≡ self.old.page }
+        ensures text { self.new.text ≡ self.old.text ++ line_of self.old.page (done_reply stored) }
+    {
+        line_of_store(stored, &mut self.waiting);
+    }
+
+    /// Adds the text of a refusal.
+    #[inline(always)]
+    pub fn add_refusal(&mut self, refusal: Refusal)
+        requires room { HasRoomForOne self.old }
+        ensures page { self.new.page ≡ self.old.page }
+        ensures text { self.new.text ≡ self.old.text ++ line_of self.old.page (Err refusal) }
+    {
+        line_of_refusal(refusal, &mut self.waiting);
     }
 
     /// Makes room for one reply more: where there is none, writes out those that wait.

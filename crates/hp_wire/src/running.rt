@@ -27,12 +27,14 @@ pub fn run_lines<R: Source, W: Sink, S: Service>(
     writer: &mut W,
     service: &mut S,
 ) -> Result<u64, RunFault>
-    requires { S.page service.old ≤ 2097152 }
+    requires page { S.page service.old ≤ 2097152 }
+    requires ready { S.is_ready service.old }
     ensures served { ServesInput S.may_answer S.page R.remaining W.contents
         service.old service.new reader.old reader.new writer.old writer.new result }
     ensures whole { OnOk result (IsAtEnd (R.remaining reader.new)) }
     ensures sure_reader { R.is_sure reader.old → IfErr result (λ e. e ≢ RunFault.Read) }
     ensures sure_writer { W.is_sure writer.old → IfErr result (λ e. e ≢ RunFault.Write) }
+    ensures ready { S.is_ready service.new }
 {
     let Ok((mut unanswered, mut replies)) = rooms(alloc, service.page_bytes()) else {
         return Err(RunFault::Memory);
@@ -67,11 +69,13 @@ fn serve<R: Source, W: Sink, S: Service>(
 ) -> Result<u64, RunFault>
     requires unread { unanswered.old ≡ [] }
     requires none { replies.old.text ≡ [] }
+    requires ready { S.is_ready service.old }
     ensures served { ServesInput S.may_answer (λ _. replies.old.page) R.remaining W.contents
         service.old service.new reader.old reader.new writer.old writer.new result }
     ensures whole { OnOk result (IsAtEnd (R.remaining reader.new)) }
     ensures sure_reader { R.is_sure reader.old → IfErr result (λ e. e ≢ RunFault.Read) }
     ensures sure_writer { W.is_sure writer.old → IfErr result (λ e. e ≢ RunFault.Write) }
+    ensures ready { S.is_ready service.new }
 {
     let mut total = 0u64;
     let mut count = 0u64;

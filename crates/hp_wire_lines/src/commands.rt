@@ -2,9 +2,11 @@
 ghost use Rattle.std.specs.Prelude.{◌≡◌};
 ghost use Rattle.hp_model.specs.text.Reading.{anon_of, attach_of, connect_of, create_of, df_of, exit_of, fault_of, fork_of, load_of, ls_of, map_of, meminfo_of, mount_of, nodes_of, nr_of, overcommit_of, punch_of, read_of, stat_of, store_of, truncate_of, umount_of, unlink_of, unmap_of, IsReadAs};
 
-use crate::parts::{copied, decoded, intent, number, reserving, sharing, word};
+use crate::accesses::{loading, storing};
+use crate::parts::{copied, intent, number, reserving, sharing, word};
 use crate::words::Words;
 use hp_model::refusal::Refusal;
+use hp_model::service::Access;
 use hp_model::step::Step;
 use std::alloc::Global;
 
@@ -123,17 +125,17 @@ pub fn fault(words: Words<'_>) -> Result<Step, Refusal>
     })
 }
 
-#[tactic(auto, unfolding(hp_model::specs::text::Reading::load_of))]
 pub fn load(words: Words<'_>) -> Result<Step, Refusal>
     ensures { result ≡ load_of words.entry }
 {
-    let (task, words) = number(words)?;
-    let (slot, words) = number(words)?;
-    let (map, words) = number(words)?;
-    let (index, words) = number(words)?;
-    let (offset, words) = number(words)?;
-    let (count, words) = number(words)?;
-    words.end()?;
+    let (access, count) = loading(words)?;
+    let Access {
+        task,
+        slot,
+        map,
+        index,
+        offset,
+    } = access;
     Ok(Step::Load {
         task,
         slot,
@@ -144,19 +146,18 @@ pub fn load(words: Words<'_>) -> Result<Step, Refusal>
     })
 }
 
-#[tactic(auto, unfolding(hp_model::specs::text::Reading::store_of, hp_model::specs::text::Words::hex_at))]
 pub fn store(alloc: Global, words: Words<'_>) -> Result<Step, Refusal>
     ensures { IsReadAs result (store_of words.entry) }
 {
-    let (task, words) = number(words)?;
-    let (slot, words) = number(words)?;
-    let (map, words) = number(words)?;
-    let (index, words) = number(words)?;
-    let (offset, words) = number(words)?;
-    let (piece, words) = words.piece()?;
     let mut room = [0u8; 512];
-    let bytes = decoded(piece, &mut room)?;
-    words.end()?;
+    let (access, bytes) = storing(words, &mut room)?;
+    let Access {
+        task,
+        slot,
+        map,
+        index,
+        offset,
+    } = access;
     let bytes = copied(alloc, bytes)?;
     Ok(Step::Store {
         task,

@@ -1,6 +1,7 @@
 //! The step that a line reads as, and the text of a reply.
 #![tactic(auto)]
 
+pub mod accesses;
 mod commands;
 mod hex_digits;
 mod output;

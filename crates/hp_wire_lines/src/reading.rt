@@ -1,5 +1,6 @@
 //! The step that a line reads as.
 ghost use Rattle.std.specs.Prelude.{◌≡◌, ◌≤◌, length};
+ghost use Rattle.hp_wire_lines.specs.Accesses.{IsKind};
 ghost use Rattle.hp_model.specs.text.Reading.{pool_command, slot_command, step_of_command, step_of_bytes, IsReadAs};
 
 use crate::commands::{
@@ -13,6 +14,33 @@ use std::alloc::Global;
 
 /// The most bytes that a line may have.
 pub const LINE_LIMIT: usize = 1024;
+
+/// A line of a load or a store, by the words after its first, or another line.
+#[derive(Drop)]
+pub enum LineKind<'a> {
+    Load(Words<'a>),
+    Store(Words<'a>),
+    Other,
+}
+
+/// Whether a line is a load or a store, whose words can be read with no step made of them.
+#[tactic(auto, unfolding(hp_model::specs::text::Reading::step_of_bytes, hp_model::specs::text::Reading::step_of_command))]
+#[inline(always)]
+pub fn kind_of_line<'a>(line: &'a [u8]) -> LineKind<'a>
+    requires { length line.now ≤ 1024 }
+    ensures { IsKind result (step_of_bytes line.now) }
+{
+    let Ok((command, words)) = Words::new(line).piece() else {
+        return LineKind::Other;
+    };
+    if command == b"load".as_slice() {
+        LineKind::Load(words)
+    } else if command == b"store".as_slice() {
+        LineKind::Store(words)
+    } else {
+        LineKind::Other
+    }
+}
 
 /// The step that a line reads as, or `BadLine`. Only a step that carries a name, options or bytes asks for
 /// memory, and only once the whole line was read and found good: `OutOfMemory` is answered for such a line alone.

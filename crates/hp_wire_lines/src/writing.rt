@@ -1,7 +1,8 @@
 //! The text of a reply.
-ghost use Rattle.std.specs.Prelude.{◌≡◌, ◌≤◌, ◌*◌, ◌++◌, ◌∷◌, [], codes, decimal, length, Err};
+ghost use Rattle.std.specs.Prelude.{◌≡◌, ◌≤◌, ℕ, ◌*◌, ◌++◌, ◌∷◌, [], codes, decimal, length, Err, IfOk};
 ghost use Rattle.std.specs.List.{All};
 ghost use Rattle.hex.specs.Hex.{encode_lower};
+ghost use Rattle.hp_model.specs.machine.Accesses.{bytes_reply, done_reply};
 ghost use Rattle.hp_model.specs.text.Writing.{newline, number_line, spaced, heading, meminfo_text, rows_text, names_text, answer_text, line_of, HasSmallAnswer, IsWithinLimits};
 ghost use Rattle.hp_model.specs.declared.answer.Answer.TheVariants.{Usage as UsageAnswer};
 ghost use Rattle.hp_wire_lines.specs.Rows.{row_line};
@@ -26,7 +27,32 @@ pub fn line_of_reply(page: u64, reply: &Reply, out: &mut Vec<u8>)
 {
     match reply {
         Ok(answer) => push_answer(page, answer, out),
-        Err(refusal) => push_refusal(*refusal, out),
+        Err(refusal) => line_of_refusal(*refusal, out),
+    }
+}
+
+/// Adds the line of what a load answered. It takes no memory.
+#[inline(always)]
+pub fn line_of_load(loaded: Result<&[u8], Refusal>, out: &mut Vec<u8>)
+    requires few { IfOk loaded (λ bytes. length bytes.now ≤ 256) }
+    requires room { HasRoom out.old 1024 }
+    ensures { (page : ℕ) → Adds out.old out.new (line_of page (bytes_reply loaded.entry)) }
+{
+    match loaded {
+        Ok(bytes) => push_bytes(out, bytes),
+        Err(refusal) => line_of_refusal(refusal, out),
+    }
+}
+
+/// Adds the line of what a store answered. It takes no memory.
+#[inline(always)]
+pub fn line_of_store(stored: Result<(), Refusal>, out: &mut Vec<u8>)
+    requires room { HasRoom out.old 64 }
+    ensures { (page : ℕ) → Adds out.old out.new (line_of page (done_reply stored)) }
+{
+    match stored {
+        Ok(()) => push(out, b"ok\n"),
+        Err(refusal) => line_of_refusal(refusal, out),
     }
 }
 
@@ -170,7 +196,8 @@ fn push_counts(page: u64, counts: Counts, out: &mut Vec<u8>)
     meminfo_text(counts, page, out);
 }
 
-fn push_refusal(refusal: Refusal, out: &mut Vec<u8>)
+/// Adds the line of a refusal. It takes no memory.
+pub fn line_of_refusal(refusal: Refusal, out: &mut Vec<u8>)
     requires { HasRoom out.old 64 }
     ensures { Adds out.old out.new (line_of 0 (Err refusal)) }
 {

@@ -1,9 +1,7 @@
 //! A small service.
-ghost use Rattle.hp_model.specs.text.Writing.{HasSmallAnswer};
-
 use hp_model::answer::{Answer, Counts, NodeCount, Reply};
 use hp_model::refusal::Refusal;
-use hp_model::service::Service;
+use hp_model::service::{Access, Service};
 use hp_model::step::Step;
 
 /// Answers by the step alone.
@@ -17,13 +15,14 @@ impl Service for Sample {
 
     ghost page = { λ sample. 1024 };
 
+    ghost is_ready = { λ sample. Unit {0} };
+
     fn call(&mut self, step: &Step) -> Reply {
         self.calls = self.calls.saturating_add(1);
         match step {
             Step::Nr { pages } => Ok(Answer::Number(*pages)),
-            Step::Connect { .. } | Step::Create { .. } | Step::Store { .. } => Ok(Answer::Done),
+            Step::Connect { .. } | Step::Create { .. } => Ok(Answer::Done),
             Step::Map { .. } => Ok(Answer::MapNo(1)),
-            Step::Load { .. } => Ok(loaded()),
             Step::Meminfo => Ok(Answer::Numbers(Counts {
                 total: 4,
                 free: 4,
@@ -57,15 +56,24 @@ impl Service for Sample {
         }
     }
 
+    fn load<'a>(
+        &mut self,
+        _access: &Access,
+        _count: u64,
+        room: &'a mut [u8],
+    ) -> Result<&'a [u8], Refusal> {
+        self.calls = self.calls.saturating_add(1);
+        let (front, _) = room.split_at_mut(2);
+        front.copy_from_slice(&[255, 0]);
+        Ok(front)
+    }
+
+    fn store(&mut self, _access: &Access, _bytes: &[u8]) -> Result<(), Refusal> {
+        self.calls = self.calls.saturating_add(1);
+        Ok(())
+    }
+
     fn page_bytes(&self) -> u64 {
         1024
     }
-}
-
-fn loaded() -> Answer
-    ensures { HasSmallAnswer result }
-{
-    let mut bytes = [0u8; 256];
-    bytes[0] = 255;
-    Answer::Bytes { count: 2, bytes }
 }

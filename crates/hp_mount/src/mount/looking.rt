@@ -11,7 +11,7 @@ ghost use Rattle.hp_mount.specs.Alone.{IsDoneAlone};
 ghost use Rattle.hp_mount.specs.Found.{first_of};
 
 use super::Mount;
-use super::reach::{bytes_answer, no_bytes};
+use super::reach::{bytes_answer, bytes_of, zeros_of};
 use hp_model::answer::{Answer, Reply};
 use hp_model::naming::Naming;
 use hp_model::refusal::Refusal;
@@ -88,10 +88,12 @@ impl<N: Naming> Mount<N> {
         ensures { result
             ≡ bytes_answer offset count (shown N.page_bytes (cell_at (file_in self.now file) index)) }
     {
-        match self.files.bytes(file, index) {
-            Some(page) => bytes_answer(page, offset, count),
-            None => no_bytes(count),
-        }
+        let mut room = [0u8; 256];
+        let bytes = match self.files.bytes(file, index) {
+            Some(page) => bytes_of(page, offset, count, &mut room),
+            None => zeros_of(count, &mut room),
+        };
+        bytes_answer(bytes)
     }
 
     /// Answers `count` bytes of a file at an index, from byte `offset` of the page on; where there is no page, zeros.

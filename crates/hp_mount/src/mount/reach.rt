@@ -1,10 +1,11 @@
 //! Accesses through maps: each sees to it that there is a page.
-ghost use Rattle.std.specs.Prelude.{◌≡◌, ◌≢◌, ℕ, ◌+◌, ◌<◌, ◌≤◌, ◌^◌, length, Err, IfErr, IfOk, OnOk, OnErr, Some, None, true, false, IfNone, IfSome};
+ghost use Rattle.std.specs.Prelude.{◌≡◌, ◌≢◌, ℕ, ◌+◌, ◌<◌, ◌≤◌, ◌^◌, length, take, drop, Ok, Err, IfErr, IfOk, OnOk, OnErr, Some, None, true, false, IfNone, IfSome};
 ghost use Rattle.hp_model.specs.declared.cell.Cell.TheVariants.{Entered, Hole};
 ghost use Rattle.hp_model.specs.files.Access.{shared_access, access};
 ghost use Rattle.hp_model.specs.declared.event.SlotEvent.TheVariants.{Load, Store, Fault};
 ghost use Rattle.hp_model.specs.files.Mapping.{is_shared};
-ghost use Rattle.hp_model.specs.machine.SlotEvent.{byte_tests, bytes_answer, fault_tests};
+ghost use Rattle.hp_model.specs.machine.Accesses.{bytes_reply, done_reply};
+ghost use Rattle.hp_model.specs.machine.SlotEvent.{byte_tests, fault_tests};
 ghost use Rattle.hp_model.specs.files.Value.{value};
 ghost use Rattle.hp_model.specs.declared.refusal.Refusal.TheVariants as Refusal;
 ghost use Rattle.hp_model.specs.files.File.{cell_at, is_entered, with_cell, with_file};
@@ -272,8 +273,45 @@ impl<N: Naming> Mount<N> {
         }
     }
 
-    /// Answers `count` bytes that a map shows at an index, from byte `offset` of the page on.
-    pub fn load<D: PoolDoor<Share = Subpool<N>, Page = Page<N>>>(
+    /// Answers `count` bytes that a map shows at an index, from byte `offset` of the page on, in the front of the room.
+    #[inline(always)]
+    pub fn load<'a, D: PoolDoor<Share = Subpool<N>, Page = Page<N>>>(
+        &mut self,
+        door: &mut D,
+        page_bytes: u64,
+        home: u64,
+        access: &MapAccess,
+        offset: u64,
+        count: u64,
+        room: &'a mut [u8],
+    ) -> Result<&'a [u8], Refusal>
+        requires shares { (s : ShareValue) → D.share_of s ≡ s }
+        requires pages { (p : PageValue) → D.page_of p ≡ p }
+        requires ready { D.is_ready door.old }
+        requires page_bytes { page_bytes ≡ N.page_bytes }
+        requires room { 256 ≤ length room.old }
+        ensures done { (k : ℕ) → IsDone D.took D.is_full N.page_bytes k (Some self.old) door.old
+            (Load access.now.task home access.now.map access.now.index offset count)
+            (bytes_reply result) (Some self.new) door.new }
+        ensures left { D.is_left door.new }
+        ensures memory { is_backed Read (spot_of access.now self.old) access.now.index ≡ true
+            → result ≢ Err Refusal.OutOfMemory }
+        ensures few { IfOk result (λ bytes. length bytes.now ≤ 256) }
+    {
+        let at = match self.place(page_bytes, access, Asked::Bytes { offset, count }) {
+            Ok(at) => at,
+            Err(refusal) => return Err(refusal),
+        };
+        match self.reach(door, home as usize, at, access.index, Intent::Read) {
+            Ok(()) => {
+                Ok(self.shown_bytes(at, access.index, offset as usize, count as usize, room))
+            }
+            Err(refusal) => Err(refusal),
+        }
+    }
+
+    // The answer with the bytes that a load reads.
+    pub(super) fn load_answer<D: PoolDoor<Share = Subpool<N>, Page = Page<N>>>(
         &mut self,
         door: &mut D,
         page_bytes: u64,
@@ -293,18 +331,49 @@ impl<N: Naming> Mount<N> {
         ensures memory { is_backed Read (spot_of access.now self.old) access.now.index ≡ true
             → result ≢ Err Refusal.OutOfMemory }
     {
-        let at = match self.place(page_bytes, access, Asked::Bytes { offset, count }) {
-            Ok(at) => at,
-            Err(refusal) => return Err(refusal),
-        };
-        match self.reach(door, home as usize, at, access.index, Intent::Read) {
-            Ok(()) => Ok(self.shown_bytes(at, access.index, offset as usize, count as usize)),
+        let mut room = [0u8; 256];
+        match self.load(door, page_bytes, home, access, offset, count, &mut room) {
+            Ok(bytes) => Ok(bytes_answer(bytes)),
             Err(refusal) => Err(refusal),
         }
     }
 
     /// Writes bytes through a map at an index, from byte `offset` of the page on.
+    #[inline(always)]
     pub fn store<D: PoolDoor<Share = Subpool<N>, Page = Page<N>>>(
+        &mut self,
+        door: &mut D,
+        page_bytes: u64,
+        home: u64,
+        access: &MapAccess,
+        offset: u64,
+        bytes: &[u8],
+    ) -> Result<(), Refusal>
+        requires shares { (s : ShareValue) → D.share_of s ≡ s }
+        requires pages { (p : PageValue) → D.page_of p ≡ p }
+        requires ready { D.is_ready door.old }
+        requires page_bytes { page_bytes ≡ N.page_bytes }
+        ensures done { (k : ℕ) → IsDone D.took D.is_full N.page_bytes k (Some self.old) door.old
+            (Store access.now.task home access.now.map access.now.index offset bytes.now)
+            (done_reply result) (Some self.new) door.new }
+        ensures left { D.is_left door.new }
+        ensures memory { is_backed Write (spot_of access.now self.old) access.now.index ≡ true
+            → result ≢ Err Refusal.OutOfMemory }
+    {
+        let count = bytes.len() as u64;
+        let at = match self.place(page_bytes, access, Asked::Bytes { offset, count }) {
+            Ok(at) => at,
+            Err(refusal) => return Err(refusal),
+        };
+        if let Err(refusal) = self.reach(door, home as usize, at, access.index, Intent::Write) {
+            return Err(refusal);
+        }
+        self.write(at.file, access.index, offset as usize, bytes);
+        Ok(())
+    }
+
+    // The answer of a store.
+    pub(super) fn store_answer<D: PoolDoor<Share = Subpool<N>, Page = Page<N>>>(
         &mut self,
         door: &mut D,
         page_bytes: u64,
@@ -324,16 +393,10 @@ impl<N: Naming> Mount<N> {
         ensures memory { is_backed Write (spot_of access.now self.old) access.now.index ≡ true
             → result ≢ Err Refusal.OutOfMemory }
     {
-        let count = bytes.len() as u64;
-        let at = match self.place(page_bytes, access, Asked::Bytes { offset, count }) {
-            Ok(at) => at,
-            Err(refusal) => return Err(refusal),
-        };
-        if let Err(refusal) = self.reach(door, home as usize, at, access.index, Intent::Write) {
-            return Err(refusal);
+        match self.store(door, page_bytes, home, access, offset, bytes) {
+            Ok(()) => Ok(Answer::Done),
+            Err(refusal) => Err(refusal),
         }
-        self.write(at.file, access.index, offset as usize, bytes);
-        Ok(Answer::Done)
     }
 
     // Writes bytes into a file's page, if there is one.
@@ -347,46 +410,66 @@ impl<N: Naming> Mount<N> {
         self.files.write(file, index, offset, bytes);
     }
 
-    // The answer with `count` bytes of what a map shows.
-    fn shown_bytes(&self, at: MapPlace, index: u64, offset: usize, count: usize) -> Answer
+    // `count` bytes of what a map shows, in the front of the room.
+    fn shown_bytes<'a>(
+        &self,
+        at: MapPlace,
+        index: u64,
+        offset: usize,
+        count: usize,
+        room: &'a mut [u8],
+    ) -> &'a [u8]
         requires file { at.file < length self.now.files }
         requires map { at.map < length (file_in self.now at.file).maps }
         requires within { offset + count ≤ N.page_bytes }
-        requires few { count ≤ 256 }
-        ensures { result ≡ bytes_answer offset count
-            (value N.page_bytes (file_in self.now at.file) (map_in (file_in self.now at.file) at.map) index) }
+        requires room { count ≤ length room.old }
+        ensures shown { result.now ≡ take count (drop offset
+            (value N.page_bytes (file_in self.now at.file) (map_in (file_in self.now at.file) at.map) index)) }
+        ensures all { length result.now ≡ count }
     {
         match self.files.shown(at, index) {
-            Some(page) => bytes_answer(page, offset, count),
-            None => no_bytes(count),
+            Some(page) => bytes_of(page, offset, count, room),
+            None => zeros_of(count, room),
         }
     }
 }
 
-/// The answer with `count` bytes of a page.
-pub(super) fn bytes_answer(page: &[u8], offset: usize, count: usize) -> Answer
+/// `count` bytes of a page, in the front of the room.
+pub(super) fn bytes_of<'a>(page: &[u8], offset: usize, count: usize, room: &'a mut [u8]) -> &'a [u8]
     requires within { offset + count ≤ length page.now }
-    requires few { count ≤ 256 }
-    ensures { result ≡ bytes_answer offset count page.now }
+    requires room { count ≤ length room.old }
+    ensures bytes { result.now ≡ take count (drop offset page.now) }
+    ensures all { length result.now ≡ count }
 {
-    let mut bytes = [0u8; 256];
-    let (front, _) = bytes.split_at_mut(count);
+    let (front, _) = room.split_at_mut(count);
     let (_, rest) = page.split_at(offset);
     let (wanted, _) = rest.split_at(count);
     front.copy_from_slice(wanted);
-    Answer::Bytes {
-        count: count as u64,
-        bytes,
-    }
+    front
 }
 
-/// The answer with `count` zeros.
-pub(super) fn no_bytes(count: usize) -> Answer
-    ensures { (size offset : ℕ) → offset + count ≤ size → count ≤ 256
-        → result ≡ bytes_answer offset count (zeros size) }
+/// `count` zeros, in the front of the room.
+pub(super) fn zeros_of<'a>(count: usize, room: &'a mut [u8]) -> &'a [u8]
+    requires room { count ≤ length room.old }
+    ensures zeros { (size offset : ℕ) → offset + count ≤ size
+        → result.now ≡ take count (drop offset (zeros size)) }
+    ensures all { length result.now ≡ count }
 {
+    let (front, _) = room.split_at_mut(count);
+    front.fill(0);
+    front
+}
+
+/// The answer with these bytes.
+pub(super) fn bytes_answer(bytes: &[u8]) -> Answer
+    requires { length bytes.now ≤ 256 }
+    ensures { Ok result ≡ bytes_reply (Ok bytes.entry) }
+{
+    let mut all = [0u8; 256];
+    let (front, _) = all.split_at_mut(bytes.len());
+    front.copy_from_slice(bytes);
     Answer::Bytes {
-        count: count as u64,
-        bytes: [0u8; 256],
+        count: bytes.len() as u64,
+        bytes: all,
     }
 }

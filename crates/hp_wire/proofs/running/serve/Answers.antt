@@ -53,6 +53,7 @@ loop-preserved g c =
       held = omega (arith, ap length kept, length-take 1025 (drop (length c.bytes-bytes.result.now - c.in_ok-left.left) c.bytes-bytes.result.now));
       few = few p;
       page = c.answer_chunk-in-loop.ensures.page ∙ i.page;
+      ready = c.answer_chunk-in-loop.ensures.ready;
       none = c.in_ok-left.ensures.none;
       reader = λ s. c.read.ensures.stays (i.reader s);
       writer = λ s. c.answer_chunk-in-loop.ensures.stays (i.writer s);

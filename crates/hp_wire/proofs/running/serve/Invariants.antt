@@ -11,6 +11,7 @@ invariant-loop g l = record {
   held : length l.unanswered ≤ 1025;
   few : l.count ≤ l.total;
   page : l.replies.page ≡ l.fn.replies.page;
+  ready : g.S.Service.is_ready l.service;
   none : l.replies.text ≡ [];
   reader : g.R.Source.is_sure l.fn.reader → g.R.Source.is_sure l.reader;
   writer : g.W.Sink.is_sure l.fn.writer → g.W.Sink.is_sure l.writer;

@@ -71,8 +71,8 @@ returns-in-Fault-clause-memory g c asks =
 
 pub returns-in-Load-clause-memory : goal.returns-in-Load-clause-memory
 returns-in-Load-clause-memory g c asks =
-    c.load.ensures.memory (backed _ (subst (λ (e : MountEvent). asks_memory (Some c.args.self.now) (event_of c.args.home e) ≡ false) c.in-Load.is asks))
+    c.load_answer.ensures.memory (backed _ (subst (λ (e : MountEvent). asks_memory (Some c.args.self.now) (event_of c.args.home e) ≡ false) c.in-Load.is asks))
 
 pub returns-in-Store-clause-memory : goal.returns-in-Store-clause-memory
 returns-in-Store-clause-memory g c asks =
-    c.store.ensures.memory (backed _ (subst (λ (e : MountEvent). asks_memory (Some c.args.self.now) (event_of c.args.home e) ≡ false) c.in-Store.is asks))
+    c.store_answer.ensures.memory (backed _ (subst (λ (e : MountEvent). asks_memory (Some c.args.self.now) (event_of c.args.home e) ≡ false) c.in-Store.is asks))

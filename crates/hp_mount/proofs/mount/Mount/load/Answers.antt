@@ -1,5 +1,6 @@
-use Rattle.std.proofs.Common.{◌≡◌, Ok, Some, refl, sym, ap, subst, ◌∙◌}
+use Rattle.std.proofs.Common.{◌≡◌, Ok, Some, refl, sym, ap, subst}
 use Rattle.hp_model.specs.declared.answer.Answer.TheVariants.{Done}
+use Rattle.hp_model.specs.declared.event.SlotEvent.TheVariants.{Load}
 use Rattle.hp_model.specs.declared.step.Intent.TheVariants.{Read}
 use Rattle.hp_model.specs.threads.LocalRun.{Gives}
 use Rattle.hp_model.specs.machine.Plan.{and_then}
@@ -7,8 +8,10 @@ use Rattle.hp_model.specs.files.Spot.{Spot}
 use Rattle.hp_model.specs.machine.SlotEvent.{bytes_answer}
 use Rattle.hp_model.specs.files.Value.{value}
 use Rattle.hp_mount.specs.declared.mount.reach.Asked.TheVariants.{Bytes}
+use Rattle.hp_mount.specs.Done.{IsDone}
 use Rattle.hp_mount.specs.Found.{IsPlaced, spot_at, spot_of, why_not}
 use Rattle.hp_mount.proofs.Commands.{again_is, backed_not_memory, denied, early_not_memory, follows, loads, not_begun, went, why_is_early}
+use Rattle.hp_mount.proofs.Shown.{bytes_reply_is}
 use Rattle.hp_mount.proofs.Ways.{then_goes}
 use Rattle.hp_mount.proofs.mount.Mount.load.Goals as goal
 
@@ -38,10 +41,12 @@ returns-in-Ok-reach-clause-done g c k =
     let s = spot_at m c.in-Ok.at.file c.in-Ok.at.map in
     let n = c.reach.new.self in
     let same = again_is m n c.in-Ok.at.file c.in-Ok.at.map placed.file placed.map c.reach.ensures.same in
-    let b = c.shown_bytes.result in
-    let shows : Gives (cont s n) (Some m) (Ok b) (Some n) = (ap Ok (c.shown_bytes.ensures ∙ ap (λ (x : Spot). bytes_answer c.args.offset c.args.count (value size x.file x.map a.index)) (sym same)), refl) in
+    let b = bytes_answer c.args.offset c.args.count (value size (spot_at n c.in-Ok.at.file c.in-Ok.at.map).file (spot_at n c.in-Ok.at.file c.in-Ok.at.map).map a.index) in
+    let shows : Gives (cont s n) (Some m) (Ok b) (Some n) = (ap Ok (ap (λ (x : Spot). bytes_answer c.args.offset c.args.count (value size x.file x.map a.index)) (sym same)), refl) in
+    let reply = sym (bytes_reply_is c.shown_bytes.result c.args.offset c.args.count (value size (spot_at n c.in-Ok.at.file c.in-Ok.at.map).file (spot_at n c.in-Ok.at.file c.in-Ok.at.map).map a.index) c.shown_bytes.ensures.all c.shown_bytes.ensures.shown) in
+    subst (λ r. IsDone took g.D.PoolDoor.is_full size k (Some m) c.args.door.now (Load a.task c.args.home a.map a.index c.args.offset c.args.count) r (Some n) c.reach.new.door) reply (
     went took g.D.PoolDoor.is_full m c.args.door.now size c.args.home a Read asked (λ s p. and_then (cont s) p) (follows took g.D.PoolDoor.is_full m c.args.door.now cont) c.in-Ok.at placed
-    c.reach.result n c.reach.new.door b (Some n) c.in-Ok-reach.is (λ p h. then_goes took m (cont s) p c.args.door.now c.reach.new.door Done n (Ok b) (Some n) h shows) c.reach.ensures.done
+    c.reach.result n c.reach.new.door b (Some n) c.in-Ok-reach.is (λ p h. then_goes took m (cont s) p c.args.door.now c.reach.new.door Done n (Ok b) (Some n) h shows) c.reach.ensures.done)
 
 pub returns-in-Err-reach-clause-done : goal.returns-in-Err-reach-clause-done
 returns-in-Err-reach-clause-done g c k =

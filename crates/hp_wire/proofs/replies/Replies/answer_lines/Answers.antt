@@ -6,7 +6,7 @@ use Rattle.hp_wire.proofs.LineCuts.{none_off, one_off}
 use Rattle.hp_wire.proofs.replies.Replies.answer_lines.Goals as goal
 
 pub loop-line-init : goal.loop-line-init
-loop-line-init g c = ([], record { answered = answered_none; cut = none_off c.args.bytes.now; count = refl; few = omega arith; page = refl; sure = λ s. s })
+loop-line-init g c = ([], record { answered = answered_none; cut = none_off c.args.bytes.now; count = refl; few = omega arith; ready = c.requires.ready; page = refl; sure = λ s. s })
 
 pub loop-line-preserved : goal.loop-line-preserved
 loop-line-preserved g c =
@@ -22,6 +22,7 @@ loop-line-preserved g c =
         cut = one_off line next i.1.cut cut whole;
         count = omega (arith, length-append i.0 (ended line ∷ []));
         few = omega (arith, i.1.few, ap length whole, length-append line (10 ∷ next));
+        ready = c.answer_line.ensures.ready;
         page = c.answer_line.ensures.page ∙ i.1.page;
         sure = λ s. c.answer_line.ensures.stays (i.1.sure s);
       },

@@ -10,6 +10,7 @@ invariant-loop-line g l = (done : List Line) × record {
   cut : CutOff l.bytes l.rest done;
   count : l.count ≡ length done;
   few : l.count + length l.rest ≤ length l.bytes;
+  ready : g.S.Service.is_ready l.service;
   page : l.self.page ≡ l.fn.self.page;
   sure : g.W.Sink.is_sure l.fn.writer → g.W.Sink.is_sure l.writer;
 }

@@ -1,0 +1,158 @@
+//! Loads and stores, with no step and no answer made of them.
+ghost use Rattle.std.specs.Prelude.{◌≡◌, ◌≢◌, ◌≤◌, length, false, Err, IfOk};
+ghost use Rattle.hp_model.specs.declared.refusal.Refusal.TheVariants as Refusal;
+ghost use Rattle.hp_model.specs.machine.Accesses.{bytes_reply, done_reply, load_step, store_step};
+ghost use Rattle.hp_model.specs.machine.Promises.{IsPromised, takes_memory};
+ghost use Rattle.hp_model.specs.machine.State.{slot_at};
+ghost use Rattle.hp_model.specs.machine.Step.{IsStep};
+ghost use Rattle.hp_mount.specs.Memory.{asks_memory};
+ghost use Rattle.hp_system.specs.Event.{DoesOnSlot, load_event, store_event};
+
+use super::System;
+use hp_model::naming::Naming;
+use hp_model::refusal::Refusal;
+use hp_model::service::Access;
+use hp_mount::MapAccess;
+
+impl<N: Naming> System<N> {
+    /// Does the step of a load of `count` bytes, as `apply` does, and answers them in the front of the room.
+    ///
+    /// Refused, and then nothing changes, by the first of these that holds: NoSuchTask, NoSuchSlot, NoSuchMap;
+    /// OutOfRange where the index is not mapped or no byte is asked for, CrossesPage, TooMany above 256 bytes, BeyondEnd;
+    /// and where no page is there or reserved, MountFull, OutOfMemory or NoPages.
+    pub fn load<'a>(
+        &mut self,
+        access: &Access,
+        count: u64,
+        room: &'a mut [u8],
+    ) -> Result<&'a [u8], Refusal>
+        requires room { 256 ≤ length room.old }
+        ensures step { IsStep self.old (load_step access.now count) (bytes_reply result) self.new }
+        ensures promised { IsPromised self.old (load_step access.now count) (bytes_reply result) self.new }
+        ensures memory { takes_memory self.old (load_step access.now count) ≡ false
+            → result ≢ Err Refusal.OutOfMemory }
+        ensures size { self.new.page_size ≡ self.old.page_size }
+        ensures few { IfOk result (λ bytes. length bytes.now ≤ 256) }
+    {
+        let _slots = &self.slots;
+        self.load_of_task(access, count, room)
+    }
+
+    /// Does the step of a store of these bytes, as `apply` does. Refused as a load of as many bytes.
+    pub fn store(&mut self, access: &Access, bytes: &[u8]) -> Result<(), Refusal>
+        ensures step { IsStep self.old (store_step access.now bytes.now) (done_reply result) self.new }
+        ensures promised { IsPromised self.old (store_step access.now bytes.now) (done_reply result) self.new }
+        ensures memory { takes_memory self.old (store_step access.now bytes.now) ≡ false
+            → result ≢ Err Refusal.OutOfMemory }
+        ensures size { self.new.page_size ≡ self.old.page_size }
+    {
+        let _slots = &self.slots;
+        self.store_of_task(access, bytes)
+    }
+
+    #[inline(always)]
+    fn load_of_task<'a>(
+        &mut self,
+        access: &Access,
+        count: u64,
+        room: &'a mut [u8],
+    ) -> Result<&'a [u8], Refusal>
+        requires room { 256 ≤ length room.old }
+        ensures step { IsStep self.old (load_step access.now count) (bytes_reply result) self.new }
+        ensures memory { asks_memory (slot_at self.old access.now.slot) (load_event access.now count 0) ≡ false
+            → result ≢ Err Refusal.OutOfMemory }
+        ensures size { self.new.page_size ≡ self.old.page_size }
+        ensures few { IfOk result (λ bytes. length bytes.now ≤ 256) }
+    {
+        match self.table.home(access.task) {
+            Some(home) => self.load_on_slot(home, access, count, room),
+            None => Err(Refusal::NoSuchTask),
+        }
+    }
+
+    #[inline(always)]
+    fn store_of_task(&mut self, access: &Access, bytes: &[u8]) -> Result<(), Refusal>
+        ensures step { IsStep self.old (store_step access.now bytes.now) (done_reply result) self.new }
+        ensures memory { asks_memory (slot_at self.old access.now.slot) (store_event access.now bytes.now 0) ≡ false
+            → result ≢ Err Refusal.OutOfMemory }
+        ensures size { self.new.page_size ≡ self.old.page_size }
+    {
+        match self.table.home(access.task) {
+            Some(home) => self.store_on_slot(home, access, bytes),
+            None => Err(Refusal::NoSuchTask),
+        }
+    }
+
+    // A load for a task with that home node, whose slot is there or not.
+    #[inline(always)]
+    fn load_on_slot<'a>(
+        &mut self,
+        home: u64,
+        access: &Access,
+        count: u64,
+        room: &'a mut [u8],
+    ) -> Result<&'a [u8], Refusal>
+        requires room { 256 ≤ length room.old }
+        ensures done { DoesOnSlot self.old access.now.slot (load_event access.now count home)
+            (bytes_reply result) self.new }
+        ensures memory { asks_memory (slot_at self.old access.now.slot) (load_event access.now count home) ≡ false
+            → result ≢ Err Refusal.OutOfMemory }
+        ensures size { self.new.page_size ≡ self.old.page_size }
+        ensures few { IfOk result (λ bytes. length bytes.now ≤ 256) }
+    {
+        let page_bytes = self.page_bytes();
+        let at = access.slot as usize;
+        if at >= self.slots.len() {
+            return Err(Refusal::NoSuchSlot);
+        }
+        let Some(mount) = &mut self.slots[at] else {
+            return Err(Refusal::NoSuchSlot);
+        };
+        let place = MapAccess {
+            task: access.task,
+            map: access.map,
+            index: access.index,
+        };
+        mount.load(
+            &mut self.pool,
+            page_bytes,
+            home,
+            &place,
+            access.offset,
+            count,
+            room,
+        )
+    }
+
+    // A store for a task with that home node, whose slot is there or not.
+    #[inline(always)]
+    fn store_on_slot(&mut self, home: u64, access: &Access, bytes: &[u8]) -> Result<(), Refusal>
+        ensures done { DoesOnSlot self.old access.now.slot (store_event access.now bytes.now home)
+            (done_reply result) self.new }
+        ensures memory { asks_memory (slot_at self.old access.now.slot) (store_event access.now bytes.now home) ≡ false
+            → result ≢ Err Refusal.OutOfMemory }
+        ensures size { self.new.page_size ≡ self.old.page_size }
+    {
+        let page_bytes = self.page_bytes();
+        let at = access.slot as usize;
+        if at >= self.slots.len() {
+            return Err(Refusal::NoSuchSlot);
+        }
+        let Some(mount) = &mut self.slots[at] else {
+            return Err(Refusal::NoSuchSlot);
+        };
+        let place = MapAccess {
+            task: access.task,
+            map: access.map,
+            index: access.index,
+        };
+        mount.store(
+            &mut self.pool,
+            page_bytes,
+            home,
+            &place,
+            access.offset,
+            bytes,
+        )
+    }
+}

@@ -1,0 +1,26 @@
+-- What the lines of loads and stores are read as.
+use Rattle.std.specs.Prelude.{◌≡◌, ℕ, List, Result, Ok, Err}
+use Rattle.hp_model.specs.declared.refusal.Refusal.{Refusal}
+use Rattle.hp_model.specs.declared.service.Access.{Access}
+use Rattle.hp_model.specs.declared.step.Step.{Step}
+use Rattle.hp_model.specs.machine.Accesses.{load_step, store_step}
+use Rattle.hp_model.specs.text.Reading.{load_of, store_of}
+use Rattle.hp_wire_lines.specs.declared.reading.LineKind.{LineKind}
+use Rattle.hp_wire_lines.specs.declared.reading.LineKind.TheVariants.{Load, Store, Other}
+use denote.Ref.{Bor}
+
+-- the step of a load that was read, by its count of bytes
+abbrev pub read_load : Result (Access × ℕ) Refusal → Result Step Refusal
+read_load (Ok x) = Ok (load_step x.0 x.1)
+read_load (Err refusal) = Err refusal
+
+-- the step of a store that was read, by its bytes
+abbrev pub read_store : Result (Access × Bor (List ℕ)) Refusal → Result Step Refusal
+read_store (Ok x) = Ok (store_step x.0 x.1.now)
+read_store (Err refusal) = Err refusal
+
+-- a line that reads so is a load or a store of these words
+abbrev pub IsKind : LineKind → Result Step Refusal → Type 0
+IsKind (Load words) read = read ≡ load_of words
+IsKind (Store words) read = read ≡ store_of words
+IsKind Other read = Unit {0}
