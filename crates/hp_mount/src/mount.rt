@@ -128,6 +128,7 @@ impl<N: Naming> Mount<N> {
         match event {
             MountEvent::Create { name } => self.create(name),
             MountEvent::Usage => Ok(self.usage()),
+            MountEvent::Unlink { name } => self.unlink(door, name),
             MountEvent::Truncate { name, pages } => self.truncate(door, name, pages),
             MountEvent::Punch { name, start, end } => self.punch(door, name, start, end),
             MountEvent::Map {
