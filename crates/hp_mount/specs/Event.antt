@@ -4,11 +4,12 @@ use Rattle.hp_model.specs.declared.event.SlotEvent.{SlotEvent}
 use Rattle.hp_model.specs.declared.event.SlotEvent.TheVariants as slot
 use Rattle.hp_model.specs.declared.step.Sharing.TheVariants.{Shared}
 use Rattle.hp_mount.specs.declared.event.MountEvent.{MountEvent}
-use Rattle.hp_mount.specs.declared.event.MountEvent.TheVariants.{Create, Truncate, Punch, Stat, Read, Map, Fault, Load, Store, Ls, Usage}
+use Rattle.hp_mount.specs.declared.event.MountEvent.TheVariants.{Create, Unlink, Truncate, Punch, Stat, Read, Map, Fault, Load, Store, Ls, Usage}
 
 -- the event, of a task with that home
 abbrev pub event_of : (home : ℕ) → MountEvent → SlotEvent
 event_of home (Create name) = slot.Create name.now
+event_of home (Unlink name) = slot.Unlink name.now
 event_of home (Truncate name pages) = slot.Truncate name.now pages
 event_of home (Punch name start end) = slot.Punch name.now start end
 event_of home (Stat name) = slot.Stat name.now

@@ -10,6 +10,10 @@ pub enum MountEvent<'a> {
     Create {
         name: &'a [u8],
     },
+    /// Takes a file's name away. Without maps the file goes, with its pages and reservations.
+    Unlink {
+        name: &'a [u8],
+    },
     /// Makes a file `pages` indices long. Pages, reservations and private copies from there on go.
     Truncate {
         name: &'a [u8],

@@ -130,6 +130,7 @@ impl<N: Naming> Mount<N> {
             MountEvent::Create { name } => self.create(name),
             MountEvent::Ls => self.ls(),
             MountEvent::Usage => Ok(self.usage()),
+            MountEvent::Unlink { name } => self.unlink(door, name),
             MountEvent::Truncate { name, pages } => self.truncate(door, name, pages),
             MountEvent::Punch { name, start, end } => self.punch(door, name, start, end),
             MountEvent::Stat { name } => self.stat(name),

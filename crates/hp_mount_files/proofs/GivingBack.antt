@@ -35,6 +35,10 @@ use Rattle.hp_mount_files.proofs.Views.{files_len, read_is, view}
 
 -- ---- one file gives back
 
+pub in_all : (n : ℕ) (fs : List NumberedFile) → in_cells n fs ≤ in_files n fs
+in_all n [] = omega arith
+in_all n (f ∷ fs) = (let rest = in_all n fs in omega (arith, rest, sum_by-cons (in_file n) f fs, sum_by-cons (λ (f : NumberedFile). sum_by (in_cell n) f.cells) f fs))
+
 module _ (s t : Store) (more now : ℕ) (fs : List NumberedFile) (h : IsHeld s more fs) (k : ℕ) (l : k < length fs) (x y : NumberedFile) (x_is : x ≡ numbered_at fs k) (d : IsDropping (λ n. in_file n x) (λ n. in_file n y) s t) (counted : now ≡ more_in t.pages) (fewer : (n : ℕ) → sum_by (in_cell n) y.cells ≤ sum_by (in_cell n) x.cells) where
   abbrev gs : List NumberedFile
   gs = slice_set fs k y
@@ -53,10 +57,6 @@ module _ (s t : Store) (more now : ℕ) (fs : List NumberedFile) (h : IsHeld s m
 
   held : (n : ℕ) → holders_of (page_at t n) ≡ in_files n gs
   held n = (let had = h.held n in let went = d.held n in let all = files_of n in omega (arith, had, went, all))
-
-  in_all : (n : ℕ) (fs : List NumberedFile) → in_cells n fs ≤ in_files n fs
-  in_all n [] = omega arith
-  in_all n (f ∷ fs) = (let rest = in_all n fs in omega (arith, rest, sum_by-cons (in_file n) f fs, sum_by-cons (λ (f : NumberedFile). sum_by (in_cell n) f.cells) f fs))
 
   apart : (n j : ℕ) → j < length gs → 0 < in_file n (numbered_at gs j) → in_files n gs ≡ in_file n (numbered_at gs j)
   apart n j below some =
@@ -114,7 +114,7 @@ module _ (s t : Store) (more now : ℕ) (fs : List NumberedFile) (h : IsHeld s m
 
 -- ---- every file is kept
 
-kept_label : (t : Store) (f : NumberedFile) → is_kept (file_shown t f) ≡ is_listed (label_of f)
+pub kept_label : (t : Store) (f : NumberedFile) → is_kept (file_shown t f) ≡ is_listed (label_of f)
 kept_label t f = ap (λ n. is_some f.name || nat_lt 0 n) (length-map f.maps (map_shown t) ∙ sym (length-map f.maps key_of))
 
 pub all_kept : (t : Store) (fs : List NumberedFile) → All (λ (l : Label). is_listed l ≡ true) (labels_of fs) → filter is_kept (files_shown t fs) ≡ files_shown t fs
@@ -195,7 +195,7 @@ truncated_reserves n f =
     let owners = owners_punched n (n + length f.cells) f.maps in
     omega (arith, both, holes, parts, owners)
 
-waits_shown : (s : Store) (cells : List (Cell ℕ)) → count_by is_waiting (map (cell_shown s) cells) ≡ count_by is_waiting cells
+pub waits_shown : (s : Store) (cells : List (Cell ℕ)) → count_by is_waiting (map (cell_shown s) cells) ≡ count_by is_waiting cells
 waits_shown s cells = count_map is_waiting (cell_shown s) cells ∙ count_alike (λ c. is_waiting (cell_shown s c)) is_waiting same cells
   where
     same : (c : Cell ℕ) → is_waiting (cell_shown s c) ≡ is_waiting c

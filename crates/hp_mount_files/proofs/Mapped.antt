@@ -90,7 +90,7 @@ module _ {X : Type 0} (c : X → ℕ) where
   sum_none zero x e = refl
   sum_none (suc n) x e = (let rest = sum_none n x e in omega (arith, e, rest, sum_by-cons c x (replicate n x)))
 
-  sum_through : {Y : Type 0} (f : Y → X) (ys : List Y) → sum_by c (map f ys) ≡ sum_by (λ y. c (f y)) ys
+  pub sum_through : {Y : Type 0} (f : Y → X) (ys : List Y) → sum_by c (map f ys) ≡ sum_by (λ y. c (f y)) ys
   sum_through f [] = refl
   sum_through f (y ∷ ys) = (let rest = sum_through f ys in omega (arith, rest, sum_by-cons c (f y) (map f ys), sum_by-cons (λ y. c (f y)) y ys))
 

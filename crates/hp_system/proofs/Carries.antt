@@ -131,6 +131,7 @@ module _ (size bytes : ℕ) (t : Table) where
 -- it is an event of any slot
 pub happens : (home : ℕ) (e : MountEvent) (slot : Slot) → IsTrue (is_slot_event slot (event_of home e))
 happens home (event.Create name) slot = refl
+happens home (event.Unlink name) slot = refl
 happens home (event.Truncate name pages) slot = refl
 happens home (event.Punch name start end) slot = refl
 happens home (event.Stat name) slot = refl
@@ -145,6 +146,7 @@ happens home event.Usage slot = refl
 -- a slot that is not mounted answers that it is not there
 pub unmounted : (size k home : ℕ) (e : MountEvent) (p : Pool) → IsCarried size k p None (event_of home e) (Err refusal.NoSuchSlot) None p
 unmounted size k home (event.Create name) p = (calm, refl, ((refl, refl), refl))
+unmounted size k home (event.Unlink name) p = (calm, refl, ((refl, refl), refl))
 unmounted size k home (event.Truncate name pages) p = (calm, refl, ((refl, refl), refl))
 unmounted size k home (event.Punch name start end) p = (calm, refl, ((refl, refl), refl))
 unmounted size k home (event.Stat name) p = (calm, refl, ((refl, refl), refl))

@@ -101,6 +101,7 @@ is_unbuilt s (Connect task home) = false
 is_unbuilt s (Mount k options) = false
 is_unbuilt s (Umount k) = false
 is_unbuilt s (Create k name) = false
+is_unbuilt s (Unlink k name) = false
 is_unbuilt s (Truncate k name pages) = false
 is_unbuilt s (Punch k name a b) = false
 is_unbuilt s (Read k name i offset count) = false

@@ -1,7 +1,7 @@
 //! Files that give back.
 ghost use Rattle.std.specs.Prelude.{◌≡◌, ◌≢◌, Err, ℕ, Some, []};
 ghost use Rattle.hp_model.specs.declared.refusal.Refusal.TheVariants as Refusal;
-ghost use Rattle.hp_model.specs.declared.event.SlotEvent.TheVariants.{Punch, Truncate};
+ghost use Rattle.hp_model.specs.declared.event.SlotEvent.TheVariants.{Punch, Truncate, Unlink};
 ghost use Rattle.hp_store.specs.Store.{Store as StoreValue};
 ghost use Rattle.hp_subpool.specs.Subpool.{Subpool as ShareValue};
 ghost use Rattle.hp_mount.specs.Done.{IsDone};
@@ -16,6 +16,32 @@ use hp_store::PageStore;
 use hp_subpool::Subpool;
 
 impl<N: Naming> Mount<N> {
+    /// Takes a file's name away. While maps of it are left it stays as it is. Without maps it goes, and its pages and the
+    /// reservations of its entries go back to the pool, but for what the minimum keeps.
+    ///
+    /// Refused as NoSuchFile where no file has the name, and then nothing changes.
+    pub fn unlink<D: PoolDoor<Share = Subpool<N>, Going = PageStore<N>>>(
+        &mut self,
+        door: &mut D,
+        name: &[u8],
+    ) -> Reply
+        requires shares { (s : ShareValue) → D.share_of s ≡ s }
+        requires going { (s : StoreValue) → D.going_of s ≡ s.going }
+        requires emptied { (s : StoreValue) → D.emptied s ≡ record s { going = [] } }
+        requires ready { D.is_ready door.old }
+        ensures done { (size k : ℕ) → IsDone D.took D.is_full size k (Some self.old) door.old
+            (Unlink name.now) result (Some self.new) door.new }
+        ensures left { D.is_left door.new }
+        ensures memory { result ≢ Err Refusal.OutOfMemory }
+    {
+        let Some(file) = self.files.named(name) else {
+            return Err(Refusal::NoSuchFile);
+        };
+        let reserves = self.files.unlink(file);
+        self.files.give_back(door, &mut self.share, reserves);
+        Ok(Answer::Done)
+    }
+
     /// Makes a file `pages` indices long. Pages, entries and private copies from there on go, and go back to the pool,
     /// as do the reservations of entries without a page, but for what the minimum keeps (`mm/hugetlbfs_reserv.rst`).
     ///

@@ -122,6 +122,10 @@ impl<N: Naming> System<N> {
                 let name = name.as_slice();
                 self.on_slot(*slot, 0, MountEvent::Create { name })
             }
+            Step::Unlink { slot, name } => {
+                let name = name.as_slice();
+                self.on_slot(*slot, 0, MountEvent::Unlink { name })
+            }
             Step::Truncate { slot, name, pages } => {
                 let name = name.as_slice();
                 let pages = *pages;

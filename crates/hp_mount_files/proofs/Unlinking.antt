@@ -1,0 +1,274 @@
+-- A file that loses its name, and goes where it has no maps.
+use Rattle.std.proofs.Common.{◌≡◌, ℕ, zero, suc, ◌+◌, ◌-◌, ◌<◌, ◌≤◌, ◌||◌, nat_lt, ⊎_elim, Bool, true, false, cond, None, Some, List, [], ◌∷◌, ◌++◌, length, take, drop, map, refl, sym, ap, subst, ◌∙◌, arith}
+use Rattle.std.specs.Prelude.{is_some, slice_set, slice_index_or}
+use Rattle.std.specs.List.{All, count_by, filter, flat_map, remove, sum_by}
+use Rattle.std.proofs.lemmas.Bool.{cases_lt}
+use Rattle.std.proofs.lemmas.Bool.Decides.{nat_tests}
+use Rattle.std.proofs.lemmas.List.{get_or-map, length-map, map-set}
+use Rattle.std.proofs.lemmas.List.Edits.{get_or-remove_above, get_or-remove_below}
+use Rattle.std.proofs.lemmas.List.Elements.{All-cons, All-set}
+use Rattle.std.proofs.lemmas.List.Sums.{sum_by-remove, sum_by-set}
+use Rattle.indexmap.proofs.SetLemmas.{map-remove}
+use Rattle.hp_model.specs.files.File.{File, new_file}
+use Rattle.hp_model.specs.files.GiveBack.{is_kept, unlinked}
+use Rattle.hp_model.specs.files.MountCounts.{file_pages, file_pages_at, file_reserves, is_waiting, owner_reserves}
+use Rattle.hp_model.specs.Lists.{distinct}
+use Rattle.hp_store.specs.Store.{Store, holders_of, page_at}
+use Rattle.hp_mount_files.specs.Dropping.{IsDropping, IsLeft}
+use Rattle.hp_mount_files.specs.Files.{edited_at, file_at}
+use Rattle.hp_mount_files.specs.Held.{IsHeld, in_cell, in_cells, in_file, in_files, more_in}
+use Rattle.hp_mount_files.specs.Hints.{AreNoted, IsFiles, Noted}
+use Rattle.hp_mount_files.specs.Keyed.{IsKeyed, Label, has_label, is_listed, key_of, keys_in, label_of, labels_of, tasks_in}
+use Rattle.hp_mount_files.specs.Numbered.{NumberedFile, cell_shown, file_shown, files_shown, map_shown, numbered_at}
+use Rattle.hp_mount_files.proofs.Alike.{alike_held}
+use Rattle.hp_mount_files.proofs.Cells.{file_is, no_file}
+use Rattle.hp_mount_files.proofs.GivingBack.{all_kept, in_all, kept_label, waits_shown}
+use Rattle.hp_mount_files.proofs.Lifting.{at_most}
+use Rattle.hp_mount_files.proofs.Mapped.{sum_through}
+use Rattle.hp_mount_files.proofs.Staying.{files_stay}
+use Rattle.hp_mount_files.proofs.Stored.{stored_at, stored_pages}
+use Rattle.hp_mount_files.proofs.Views.{files_len, read_is, view}
+
+-- what code read there twice
+pub same_maps : (s : Store) (fs : List NumberedFile) (k : ℕ) → k < length (files_shown s fs) → (x z : NumberedFile) → x ≡ slice_index_or fs k x → z ≡ slice_index_or fs k z → length z.maps ≡ length x.maps
+same_maps s fs k l x z x_read z_read =
+    let same = files_len s fs in
+    let within : k < length fs = omega (arith, l, same) in
+    ap (λ (f : NumberedFile). length f.maps) (read_is fs k z within z_read ∙ sym (read_is fs k x within x_read))
+
+-- ---- lists of which one element goes
+
+module _ {X : Type 0} (d : X) where
+  -- where an element stood that is left
+  stood : (xs : List X) (k j : ℕ) → k < length xs → j < length (remove xs k) → (i : ℕ) × (i < length xs) × (slice_index_or (remove xs k) j d ≡ slice_index_or xs i d)
+  stood xs k j l below =
+      let fewer : length (remove xs k) + 1 ≡ length xs = one_less xs k l in
+      ⊎_elim
+      (λ (low : j < k). (j, omega (arith, low, l), get_or-remove_below xs k d j low l))
+      (λ (high : k ≤ j). (j + 1, omega (arith, below, fewer), get_or-remove_above xs k d j high l))
+      (cases_lt j k)
+    where
+      one_less : (xs : List X) (k : ℕ) → k < length xs → length (remove xs k) + 1 ≡ length xs
+      one_less [] k l = absurd (omega (arith, l))
+      one_less (x ∷ xs) zero l = omega arith
+      one_less (x ∷ xs) (suc k) l = (let rest = one_less xs k (omega (arith, l)) in omega (arith, rest))
+
+  all_left : (P : X → Type 0) (xs : List X) (k : ℕ) → All P xs → All P (remove xs k)
+  all_left P [] zero each = each
+  all_left P [] (suc k) each = each
+  all_left P (x ∷ xs) zero each = λ i e l. each (suc i) e (omega (arith, l))
+  all_left P (x ∷ xs) (suc k) each = All-cons P x (remove xs k) (each 0 x (omega arith)) (all_left P xs k (λ i e l. each (suc i) e (omega (arith, l))))
+
+  flat_left : (f : X → List ℕ) (xs : List X) (k : ℕ) → k < length xs → f (slice_index_or xs k d) ≡ [] → flat_map f (remove xs k) ≡ flat_map f xs
+  flat_left f [] k l e = absurd (omega (arith, l))
+  flat_left f (x ∷ xs) zero l e = ap (λ ys. ys ++ flat_map f xs) (sym e)
+  flat_left f (x ∷ xs) (suc k) l e = ap (λ ys. f x ++ ys) (flat_left f xs k (omega (arith, l)) e)
+
+  -- the one that does not pass is the one that goes
+  filter_out : (test : X → Bool) (xs : List X) (k : ℕ) (y : X) → k < length xs → test y ≡ false → All (λ x. test x ≡ true) xs → filter test (slice_set xs k y) ≡ remove xs k
+  filter_out test [] k y l out each = absurd (omega (arith, l))
+  filter_out test (x ∷ xs) zero y l out each = ap (λ b. cond b (y ∷ filter test xs) (filter test xs)) out ∙ all_pass xs (λ i e m. each (suc i) e (omega (arith, m)))
+    where
+      all_pass : (xs : List X) → All (λ x. test x ≡ true) xs → filter test xs ≡ xs
+      all_pass [] each = refl
+      all_pass (x ∷ xs) each = ap (λ b. cond b (x ∷ filter test xs) (filter test xs)) (each 0 x (omega arith)) ∙ ap (λ ys. x ∷ ys) (all_pass xs (λ i e m. each (suc i) e (omega (arith, m))))
+  filter_out test (x ∷ xs) (suc k) y l out each =
+      ap (λ b. cond b (x ∷ filter test (slice_set xs k y)) (filter test (slice_set xs k y))) (each 0 x (omega arith))
+      ∙ ap (λ ys. x ∷ ys) (filter_out test xs k y (omega (arith, l)) out (λ i e m. each (suc i) e (omega (arith, m))))
+
+-- ---- a file without its name
+
+module _ (n : Noted) (s : Store) (more maps tasks : ℕ) (fs : List NumberedFile) (is : IsFiles n s more maps tasks fs) (k : ℕ) (l : k < length (files_shown s fs)) (x : NumberedFile) (read : x ≡ slice_index_or fs k x) where
+  within : k < length fs
+  within = (let same = files_len s fs in omega (arith, l, same))
+
+  x_is : x ≡ numbered_at fs k
+  x_is = read_is fs k x within read
+
+  x_shown : file_shown s x ≡ file_at (files_shown s fs) k
+  x_shown = ap (file_shown s) x_is ∙ sym (file_is s fs k within)
+
+  module _ (y : NumberedFile) (y_is : y ≡ record x { name = None }) (some : 0 < length x.maps) where
+    abbrev gs : List NumberedFile
+    gs = slice_set fs k y
+
+    named_held : IsHeld s more gs
+    named_held = alike_held s more fs is.held k within y
+        (λ m. ap (λ (f : NumberedFile). sum_by (in_cell m) f.cells) (y_is ∙ ap (λ (f : NumberedFile). record f { name = None }) x_is))
+        (λ m. ap (in_file m) (y_is ∙ ap (λ (f : NumberedFile). record f { name = None }) x_is))
+
+    label_is : label_of y ≡ record (label_of x) { name = None }
+    label_is = ap label_of y_is
+
+    listed : is_listed (label_of y) ≡ true
+    listed =
+        let long = length-map x.maps key_of in
+        let some_keys : nat_lt 0 (length (label_of x).keys) ≡ true = grind (arith, nat_tests) in
+        ap is_listed label_is ∙ some_keys
+
+    names_less : (name : List ℕ) → count_by (has_label name) (labels_of gs) ≤ count_by (has_label name) (labels_of fs)
+    names_less name =
+        let step = sum_by-set (λ (f : NumberedFile). cond {A = ℕ} (has_label name (label_of f)) 1 0) fs k y no_file within in
+        let before = sum_through (λ (q : Label). cond {A = ℕ} (has_label name q) 1 0) label_of fs in
+        let after = sum_through (λ (q : Label). cond {A = ℕ} (has_label name q) 1 0) label_of gs in
+        let none = ap (λ (q : Label). cond {A = ℕ} (has_label name q) 1 0 + 0) label_is in
+        omega (arith, step, before, after, none)
+
+    keys_same : (c : Label → ℕ) → c (label_of y) ≡ c (label_of x) → sum_by c (labels_of gs) ≡ sum_by c (labels_of fs)
+    keys_same c same =
+        let step = sum_by-set (λ (f : NumberedFile). c (label_of f)) fs k y no_file within in
+        let before = sum_through c label_of fs in
+        let after = sum_through c label_of gs in
+        let was = ap (λ (f : NumberedFile). c (label_of f)) x_is in
+        omega (arith, step, before, after, same, was)
+
+    set_flat : (f : NumberedFile → List ℕ) (fs : List NumberedFile) (k : ℕ) → f y ≡ f (slice_index_or fs k no_file) → k < length fs → flat_map f (slice_set fs k y) ≡ flat_map f fs
+    set_flat f [] k e l = absurd (omega (arith, l))
+    set_flat f (z ∷ fs) zero e l = ap (λ ys. ys ++ flat_map f fs) e
+    set_flat f (z ∷ fs) (suc k) e l = ap (λ ys. f z ++ ys) (set_flat f fs k e (omega (arith, l)))
+
+    flat_through : (fs : List NumberedFile) → flat_map (λ f. tasks_in (label_of f)) fs ≡ flat_map tasks_in (labels_of fs)
+    flat_through [] = refl
+    flat_through (f ∷ fs) = ap (λ ts. tasks_in (label_of f) ++ ts) (flat_through fs)
+
+    tasks_same : flat_map tasks_in (labels_of gs) ≡ flat_map tasks_in (labels_of fs)
+    tasks_same =
+        sym (flat_through gs)
+        ∙ set_flat (λ f. tasks_in (label_of f)) fs k (ap tasks_in label_is ∙ ap (λ (f : NumberedFile). tasks_in (label_of f)) x_is) within
+        ∙ flat_through fs
+
+    pub named_keeps : IsFiles n s more maps tasks gs
+    named_keeps = record {
+      held = named_held;
+      keyed = record {
+        kept = subst (All (λ (q : Label). is_listed q ≡ true)) (sym (map-set label_of fs k y)) (All-set (λ (q : Label). is_listed q ≡ true) (labels_of fs) k (label_of y) listed is.keyed.kept);
+        names = λ name. (let less = names_less name in let most = is.keyed.names name in omega (arith, less, most));
+        keys = λ t m. (let same = keys_same (keys_in t m) (ap (keys_in t m) label_is) in let most = is.keyed.keys t m in omega (arith, same, most));
+        map_count = is.keyed.map_count ∙ sym (keys_same (λ (q : Label). length q.keys) (ap (λ (q : Label). length q.keys) label_is));
+        task_count = is.keyed.task_count ∙ ap (λ ts. length (distinct ts)) (sym tasks_same);
+      };
+      noted = record {
+        names = λ name e. (let less = names_less name in let none = is.noted.names name e in omega (arith, less, none));
+        keys = λ t m e. keys_same (keys_in t m) (ap (keys_in t m) label_is) ∙ is.noted.keys t m e;
+      };
+    }
+
+    shows : files_shown s gs ≡ slice_set (files_shown s fs) k (unlinked (file_at (files_shown s fs) k))
+    shows = map-set (file_shown s) fs k y ∙ ap (slice_set (files_shown s fs) k) (ap (file_shown s) y_is ∙ ap unlinked x_shown)
+
+    pub named_files : files_shown s gs ≡ edited_at k (unlinked (file_at (files_shown s fs) k)) (files_shown s fs)
+    named_files = sym (all_kept s gs named_keeps.keyed.kept) ∙ ap (filter is_kept) shows
+
+    pub named_left : IsLeft 0 (view s more fs) (view s more gs)
+    named_left = record {
+      pages = (let old = stored_pages s more fs is.held in let new = stored_pages s more gs named_held in omega (arith, old, new));
+      nodes = λ i. (let old = stored_at s more fs is.held i in let new = stored_at s more gs named_held i in omega (arith, old, new));
+      reserved =
+          let step = sum_by-set file_reserves (files_shown s fs) k (unlinked (file_at (files_shown s fs) k)) (new_file None) l in
+          let same = ap (sum_by file_reserves) shows in
+          omega (arith, step, same);
+      room = omega arith;
+    }
+
+  -- ---- it has no maps, and goes
+
+  module _ (t : Store) (now went : ℕ) (hs : List NumberedFile) (hs_is : hs ≡ remove fs k) (bare : length x.maps ≡ 0) (d : IsDropping (λ m. in_file m x) (λ m. 0) s t) (counted : now ≡ more_in t.pages) (went_is : went ≡ count_by is_waiting x.cells) where
+    left_files : (m : ℕ) → in_files m hs + in_file m x ≡ in_files m fs
+    left_files m = (let step = sum_by-remove (in_file m) fs k no_file within in let here = ap (in_file m) x_is in let same = ap (in_files m) hs_is in omega (arith, step, here, same))
+
+    left_cells : (m : ℕ) → in_cells m hs ≤ in_cells m fs
+    left_cells m = (let step = sum_by-remove (λ (f : NumberedFile). sum_by (in_cell m) f.cells) fs k no_file within in let same = ap (in_cells m) hs_is in omega (arith, step, same))
+
+    held : (m : ℕ) → holders_of (page_at t m) ≡ in_files m hs
+    held m = (let had = is.held.held m in let dropped = d.held m in let all = left_files m in omega (arith, had, dropped, all))
+
+    gone_held : IsHeld t now hs
+    gone_held = record {
+      held = held;
+      some = d.some;
+      alone = λ m some.
+          let few = left_cells m in
+          let had = is.held.alone m (omega (arith, few, some)) in
+          let all = left_files m in
+          let most = in_all m hs in
+          omega (arith, had, all, most, some);
+      apart = λ m j below some.
+          let at = stood no_file fs k j within (subst (λ xs. j < length xs) hs_is below) in
+          let same : in_file m (numbered_at hs j) ≡ in_file m (numbered_at fs at.0) = ap (λ xs. in_file m (numbered_at xs j)) hs_is ∙ ap (in_file m) at.2 in
+          let had = is.held.apart m at.0 at.1 (subst (λ q. 0 < q) same some) in
+          let most = at_most (λ (f : NumberedFile). f) (λ f. f) (in_file m) (λ f q. refl) hs j no_file below in
+          let all = left_files m in
+          omega (arith, same, had, most, all);
+      counted = counted;
+      parts = (let had = is.held.parts in let was = is.held.counted in let room = d.room in let few = d.fewer in omega (arith, had, was, counted, room, few));
+    }
+
+    labels_are : labels_of hs ≡ remove (labels_of fs) k
+    labels_are = ap labels_of hs_is ∙ map-remove label_of fs k
+
+    no_keys : (label_of x).keys ≡ []
+    no_keys = none x.maps bare
+      where
+        none : (ms : List _) → length ms ≡ 0 → map key_of ms ≡ []
+        none [] e = refl
+        none (m ∷ ms) e = absurd (omega (arith, e))
+
+    label_there : slice_index_or (labels_of fs) k (label_of no_file) ≡ label_of x
+    label_there = get_or-map label_of fs k no_file (label_of no_file) within ∙ ap label_of (sym x_is)
+
+    long_labels : k < length (labels_of fs)
+    long_labels = (let same = length-map fs label_of in let below = within in omega (arith, same, below))
+
+    sum_left : (c : Label → ℕ) → sum_by c (labels_of hs) + c (label_of x) ≡ sum_by c (labels_of fs)
+    sum_left c =
+        let step = sum_by-remove c (labels_of fs) k (label_of no_file) long_labels in
+        let here = ap c label_there in
+        let same = ap (sum_by c) labels_are in
+        omega (arith, step, here, same)
+
+    pub gone_keeps : IsFiles n t now maps tasks hs
+    gone_keeps = record {
+      held = gone_held;
+      keyed = record {
+        kept = subst (All (λ (q : Label). is_listed q ≡ true)) (sym labels_are) (all_left (label_of no_file) (λ (q : Label). is_listed q ≡ true) (labels_of fs) k is.keyed.kept);
+        names = λ name. (let less = sum_left (λ (q : Label). cond {A = ℕ} (has_label name q) 1 0) in let most = is.keyed.names name in omega (arith, less, most));
+        keys = λ t m. (let less = sum_left (keys_in t m) in let most = is.keyed.keys t m in omega (arith, less, most));
+        map_count = (let less = sum_left (λ (q : Label). length q.keys) in let none = ap length no_keys in let was = is.keyed.map_count in omega (arith, less, none, was));
+        task_count = is.keyed.task_count
+            ∙ ap (λ ts. length (distinct ts)) (sym (ap (flat_map tasks_in) labels_are ∙ flat_left (label_of no_file) tasks_in (labels_of fs) k long_labels (ap tasks_in label_there ∙ ap (map (λ (q : ℕ × ℕ). q.0)) no_keys)));
+      };
+      noted = record {
+        names = λ name e. (let less = sum_left (λ (q : Label). cond {A = ℕ} (has_label name q) 1 0) in let none = is.noted.names name e in omega (arith, less, none));
+        keys = λ t m e. (let less = sum_left (keys_in t m) in let none = is.noted.keys t m e in omega (arith, less, none));
+      };
+    }
+
+    shown_left : files_shown t hs ≡ remove (files_shown s fs) k
+    shown_left = files_stay s t hs (λ m some. d.same m (let same = held m in omega (arith, same, some))) ∙ ap (files_shown s) hs_is ∙ map-remove (file_shown s) fs k
+
+    pub gone_files : files_shown t hs ≡ edited_at k (unlinked (file_at (files_shown s fs) k)) (files_shown s fs)
+    gone_files =
+        let out : is_kept (unlinked (file_at (files_shown s fs) k)) ≡ false = ap (λ f. is_kept (unlinked f)) (sym x_shown) ∙ ap (λ i. nat_lt 0 i) (length-map x.maps (map_shown s) ∙ bare) in
+        shown_left ∙ sym (filter_out (new_file None) is_kept (files_shown s fs) k (unlinked (file_at (files_shown s fs) k)) l out (each fs is.keyed.kept))
+      where
+        each : (fs : List NumberedFile) → All (λ (q : Label). is_listed q ≡ true) (labels_of fs) → All (λ f. is_kept f ≡ true) (files_shown s fs)
+        each [] all = λ i e m. absurd (omega (arith, m))
+        each (f ∷ fs) all = All-cons (λ f. is_kept f ≡ true) (file_shown s f) (files_shown s fs) (kept_label s f ∙ all 0 (label_of f) (omega arith)) (each fs (λ i e m. all (suc i) e (omega (arith, m))))
+
+    pub gone_left : IsLeft went (view s more fs) (view t now hs)
+    gone_left = record {
+      pages = (let old = stored_pages s more fs is.held in let new = stored_pages t now hs gone_held in let sum = d.pages in omega (arith, old, new, sum));
+      nodes = λ i. (let old = stored_at s more fs is.held i in let new = stored_at t now hs gone_held i in let sum = d.nodes i in omega (arith, old, new, sum));
+      reserved =
+          let step = sum_by-remove file_reserves (files_shown s fs) k (new_file None) l in
+          let same = ap (sum_by file_reserves) shown_left in
+          let here = ap file_reserves (sym x_shown) in
+          let waits = waits_shown s x.cells in
+          let owners : sum_by owner_reserves (map (map_shown s) x.maps) ≡ 0 = none_owned x.maps bare in
+          omega (arith, step, same, here, waits, owners, went_is);
+      room = (let was = is.held.counted in let room = d.room in let few = d.fewer in omega (arith, was, counted, room, few));
+    }
+      where
+        none_owned : (ms : List _) → length ms ≡ 0 → sum_by owner_reserves (map (map_shown s) ms) ≡ 0
+        none_owned [] e = refl
+        none_owned (m ∷ ms) e = absurd (omega (arith, e))
