@@ -1,8 +1,13 @@
 -- What an index of entries says of the keys that were put in.
-use Rattle.std.proofs.Common.{◌≡◌, ◌||◌, Bool, true, false, cond, List, [], ◌∷◌, map, None, Some, refl, sym, ap, ◌∙◌}
-use Rattle.std.specs.List.{list_any}
-use Rattle.std.specs.Map.{lookup}
-use Rattle.indexmap.specs.IndexMap.{insert_entry}
+use Rattle.std.proofs.Common.{◌≡◌, ◌||◌, ℕ, ◌+◌, ◌<◌, Bool, true, false, cond, List, [], ◌∷◌, get_or, length, map, Option, None, Some, refl, sym, ap, ◌∙◌, arith}
+use Rattle.std.specs.Prelude.{position}
+use Rattle.std.specs.List.{list_any, sum_by, swap_remove}
+use Rattle.std.specs.Map.{keys_of as map_keys, lookup}
+use Rattle.std.proofs.lemmas.List.{get_or-map, length-map}
+use Rattle.std.proofs.lemmas.List.Quantifiers.{position-Some}
+use Rattle.std.proofs.lemmas.List.Sums.{sum_by-cons, sum_by-swap_remove}
+use Rattle.indexmap.proofs.MapLemmas.{swap_remove_entry-found, swap_remove_entry-missing}
+use Rattle.indexmap.specs.IndexMap.{insert_entry, swap_remove_entry}
 
 none_of : (a b : Bool) → (a || b) ≡ false → (a ≡ false) × (b ≡ false)
 none_of true b e = cc
@@ -29,6 +34,40 @@ module _ {K Y X : Type 0} (f : K → Y) (test : Y → Bool) where
       at : (b : Bool) → b ≡ test (f x.0) → (lookup own es ≡ None → noted es ≡ false) → cond b (Some x.1) (lookup own es) ≡ None → (test (f x.0) || noted es) ≡ false
       at true is rest e = cc
       at false is rest e = ap (λ b. b || noted es) (sym is) ∙ rest e
+
+  none_noted : (es : List (K × X)) → noted es ≡ false → sum_by (λ e. cond {A = ℕ} (test (f e.0)) 1 0) es ≡ 0
+  none_noted [] e = refl
+  none_noted (x ∷ es) e =
+      let parts = none_of (test (f x.0)) (noted es) e in
+      let here = ap (λ b. cond {A = ℕ} b 1 0 + 0) parts.0 in
+      let rest = none_noted es parts.1 in
+      omega (arith, here, rest, sum_by-cons (λ e. cond {A = ℕ} (test (f e.0)) 1 0) x es)
+
+  noted_none : (es : List (K × X)) → sum_by (λ e. cond {A = ℕ} (test (f e.0)) 1 0) es ≡ 0 → noted es ≡ false
+  noted_none [] e = refl
+  noted_none (x ∷ es) e = (let step = sum_by-cons (λ e. cond {A = ℕ} (test (f e.0)) 1 0) x es in at (test (f x.0)) refl (noted_none es (omega (arith, step, e))) step)
+    where
+      at : (b : Bool) → test (f x.0) ≡ b → noted es ≡ false → sum_by (λ e. cond {A = ℕ} (test (f e.0)) 1 0) (x ∷ es) ≡ cond {A = ℕ} (test (f x.0)) 1 0 + sum_by (λ e. cond {A = ℕ} (test (f e.0)) 1 0) es → (test (f x.0) || noted es) ≡ false
+      at true is rest step = (let here = ap (λ b. cond {A = ℕ} b 1 0 + 0) is in absurd (omega (arith, here, step, e)))
+      at false is rest step = ap (λ b. b || noted es) is ∙ rest
+
+  -- one key goes, and the last entry stands in its place
+  pub others_stay : (own : K → Bool) → ((k : K) → own k ≡ true → test (f k) ≡ false) → (es : List (K × X)) → noted (swap_remove_entry own es) ≡ false → noted es ≡ false
+  others_stay own out [] e = e
+  others_stay own out (x ∷ es) e = by (position own (map_keys (x ∷ es))) refl
+    where
+      by : (o : Option ℕ) → position own (map_keys (x ∷ es)) ≡ o → noted (x ∷ es) ≡ false
+      by None h = sym (ap noted (swap_remove_entry-missing own (x ∷ es) h)) ∙ e
+      by (Some i) h =
+          let at = position-Some own (map_keys (x ∷ es)) i x.0 h in
+          let below = at.0 in
+          let long = length-map (x ∷ es) (λ (p : K × X). p.0) in
+          let inside : i < length (x ∷ es) = omega (arith, below, long) in
+          let key = get_or-map (λ (p : K × X). p.0) (x ∷ es) i x x.0 inside in
+          let gone = ap (λ b. cond {A = ℕ} b 1 0 + 0) (out (get_or (x ∷ es) i x).0 (ap own (sym key) ∙ at.1)) in
+          let step = sum_by-swap_remove (λ e. cond {A = ℕ} (test (f e.0)) 1 0) (x ∷ es) i x inside in
+          let left = none_noted (swap_remove (x ∷ es) i x) (sym (ap noted (swap_remove_entry-found own (x ∷ es) i x h)) ∙ e) in
+          noted_none (x ∷ es) (omega (arith, gone, step, left))
 
   module _ (eq : K → K → Bool) (k : K) (v : X) where
     pub stays : (es : List (K × X)) → noted (insert_entry eq es k v) ≡ false → noted es ≡ false

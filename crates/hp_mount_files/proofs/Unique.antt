@@ -91,7 +91,7 @@ zero_found test (x ∷ xs) e = (let step = count_cons test x xs in at (test x) s
 
 -- ---- files by their names
 
-named_shown : (s : Store) (name : List ℕ) (f : NumberedFile) → has_name name (file_shown s f) ≡ has_label name (label_of f)
+pub named_shown : (s : Store) (name : List ℕ) (f : NumberedFile) → has_name name (file_shown s f) ≡ has_label name (label_of f)
 named_shown s name f = either f.name
   where
     either : (o : Option (List ℕ)) → elim o [ None ↦ false | Some n ↦ bytes_eq n name ] ≡ is_name_of name o

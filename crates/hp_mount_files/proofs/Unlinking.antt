@@ -2,6 +2,8 @@
 use Rattle.std.proofs.Common.{◌≡◌, ℕ, zero, suc, ◌+◌, ◌-◌, ◌<◌, ◌≤◌, ◌||◌, nat_lt, ⊎_elim, Bool, true, false, cond, None, Some, List, [], ◌∷◌, ◌++◌, length, take, drop, map, refl, sym, ap, subst, ◌∙◌, arith}
 use Rattle.std.specs.Prelude.{is_some, slice_set, slice_index_or}
 use Rattle.std.specs.List.{All, count_by, filter, flat_map, remove, sum_by}
+use Rattle.std.specs.Str.{bytes_eq}
+use Rattle.std.proofs.lemmas.Slice.Eq.{bytes_eq-Decides}
 use Rattle.std.proofs.lemmas.Bool.{cases_lt}
 use Rattle.std.proofs.lemmas.Bool.Decides.{nat_tests}
 use Rattle.std.proofs.lemmas.List.{get_or-map, length-map, map-set}
@@ -13,12 +15,15 @@ use Rattle.hp_model.specs.files.File.{File, new_file}
 use Rattle.hp_model.specs.files.GiveBack.{is_kept, unlinked}
 use Rattle.hp_model.specs.files.MountCounts.{file_pages, file_pages_at, file_reserves, is_waiting, owner_reserves}
 use Rattle.hp_model.specs.Lists.{distinct}
+use Rattle.hp_model.specs.machine.SlotEvent.{has_name}
+use Rattle.hp_laws.proofs.Places.{found_place}
 use Rattle.hp_store.specs.Store.{Store, holders_of, page_at}
 use Rattle.hp_mount_files.specs.Dropping.{IsDropping, IsLeft}
 use Rattle.hp_mount_files.specs.Files.{edited_at, file_at}
 use Rattle.hp_mount_files.specs.Held.{IsHeld, in_cell, in_cells, in_file, in_files, more_in}
-use Rattle.hp_mount_files.specs.Hints.{AreNoted, IsFiles, Noted}
+use Rattle.hp_mount_files.specs.Hints.{AreNoted, IsFiles, IsMoreBut, Noted, has_name as has_noted}
 use Rattle.hp_mount_files.specs.Keyed.{IsKeyed, Label, has_label, is_listed, key_of, keys_in, label_of, labels_of, tasks_in}
+use Rattle.hp_mount_files.specs.Places.{IsNamed}
 use Rattle.hp_mount_files.specs.Numbered.{NumberedFile, cell_shown, file_shown, files_shown, map_shown, numbered_at}
 use Rattle.hp_mount_files.proofs.Alike.{alike_held}
 use Rattle.hp_mount_files.proofs.Cells.{file_is, no_file}
@@ -27,13 +32,15 @@ use Rattle.hp_mount_files.proofs.Lifting.{at_most}
 use Rattle.hp_mount_files.proofs.Mapped.{sum_through}
 use Rattle.hp_mount_files.proofs.Staying.{files_stay}
 use Rattle.hp_mount_files.proofs.Stored.{stored_at, stored_pages}
+use Rattle.hp_mount_files.proofs.Unique.{named_shown}
 use Rattle.hp_mount_files.proofs.Views.{files_len, read_is, view}
 
 -- what code read there twice
-pub same_maps : (s : Store) (fs : List NumberedFile) (k : ℕ) → k < length (files_shown s fs) → (x z : NumberedFile) → x ≡ slice_index_or fs k x → z ≡ slice_index_or fs k z → length z.maps ≡ length x.maps
-same_maps s fs k l x z x_read z_read =
+pub same_maps : (s : Store) (fs : List NumberedFile) (k : ℕ) (name : List ℕ) → IsNamed (files_shown s fs) name k → (x z : NumberedFile) → x ≡ slice_index_or fs k x → z ≡ slice_index_or fs k z → length z.maps ≡ length x.maps
+same_maps s fs k name named x z x_read z_read =
     let same = files_len s fs in
-    let within : k < length fs = omega (arith, l, same) in
+    let below = named.within in
+    let within : k < length fs = omega (arith, below, same) in
     ap (λ (f : NumberedFile). length f.maps) (read_is fs k z within z_read ∙ sym (read_is fs k x within x_read))
 
 -- ---- lists of which one element goes
@@ -78,7 +85,10 @@ module _ {X : Type 0} (d : X) where
 
 -- ---- a file without its name
 
-module _ (n : Noted) (s : Store) (more maps tasks : ℕ) (fs : List NumberedFile) (is : IsFiles n s more maps tasks fs) (k : ℕ) (l : k < length (files_shown s fs)) (x : NumberedFile) (read : x ≡ slice_index_or fs k x) where
+module _ (n later : Noted) (name : List ℕ) (grown : IsMoreBut name n later) (s : Store) (more maps tasks : ℕ) (fs : List NumberedFile) (is : IsFiles n s more maps tasks fs) (k : ℕ) (named : IsNamed (files_shown s fs) name k) (x : NumberedFile) (read : x ≡ slice_index_or fs k x) where
+  l : k < length (files_shown s fs)
+  l = named.within
+
   within : k < length fs
   within = (let same = files_len s fs in omega (arith, l, same))
 
@@ -87,6 +97,20 @@ module _ (n : Noted) (s : Store) (more maps tasks : ℕ) (fs : List NumberedFile
 
   x_shown : file_shown s x ≡ file_at (files_shown s fs) k
   x_shown = ap (file_shown s) x_is ∙ sym (file_is s fs k within)
+
+  has_it : has_label name (label_of x) ≡ true
+  has_it = sym (named_shown s name x) ∙ ap (has_name name) x_shown ∙ (found_place (has_name name) (files_shown s fs) (k, file_at (files_shown s fs) k) named.is).passes
+
+  -- the name that is forgotten is there no more
+  still_noted : (ms : List Label) → ((other : List ℕ) → count_by (has_label other) ms ≤ count_by (has_label other) (labels_of fs)) → count_by (has_label name) ms ≡ 0 → ((t m : ℕ) → sum_by (keys_in t m) ms ≤ sum_by (keys_in t m) (labels_of fs)) → AreNoted later ms
+  still_noted ms less gone keys = record {
+    names = λ other e. either other e (bytes_eq name other) refl;
+    keys = λ t m e. (let few = keys t m in let none = is.noted.keys t m (grown.keys t m e) in omega (arith, few, none));
+  }
+    where
+      either : (other : List ℕ) → has_noted other later ≡ false → (b : Bool) → bytes_eq name other ≡ b → count_by (has_label other) ms ≡ 0
+      either other e true same = ap (λ q. count_by (has_label q) ms) (sym ((bytes_eq-Decides name other).0 same)) ∙ gone
+      either other e false apart = (let few = less other in let none = is.noted.names other (grown.names other apart e) in omega (arith, few, none))
 
   module _ (y : NumberedFile) (y_is : y ≡ record x { name = None }) (some : 0 < length x.maps) where
     abbrev gs : List NumberedFile
@@ -106,13 +130,14 @@ module _ (n : Noted) (s : Store) (more maps tasks : ℕ) (fs : List NumberedFile
         let some_keys : nat_lt 0 (length (label_of x).keys) ≡ true = grind (arith, nat_tests) in
         ap is_listed label_is ∙ some_keys
 
-    names_less : (name : List ℕ) → count_by (has_label name) (labels_of gs) ≤ count_by (has_label name) (labels_of fs)
-    names_less name =
-        let step = sum_by-set (λ (f : NumberedFile). cond {A = ℕ} (has_label name (label_of f)) 1 0) fs k y no_file within in
-        let before = sum_through (λ (q : Label). cond {A = ℕ} (has_label name q) 1 0) label_of fs in
-        let after = sum_through (λ (q : Label). cond {A = ℕ} (has_label name q) 1 0) label_of gs in
-        let none = ap (λ (q : Label). cond {A = ℕ} (has_label name q) 1 0 + 0) label_is in
-        omega (arith, step, before, after, none)
+    names_less : (other : List ℕ) → count_by (has_label other) (labels_of gs) + cond (has_label other (label_of x)) 1 0 ≡ count_by (has_label other) (labels_of fs)
+    names_less other =
+        let step = sum_by-set (λ (f : NumberedFile). cond {A = ℕ} (has_label other (label_of f)) 1 0) fs k y no_file within in
+        let before = sum_through (λ (q : Label). cond {A = ℕ} (has_label other q) 1 0) label_of fs in
+        let after = sum_through (λ (q : Label). cond {A = ℕ} (has_label other q) 1 0) label_of gs in
+        let none = ap (λ (q : Label). cond {A = ℕ} (has_label other q) 1 0 + 0) label_is in
+        let was = ap (λ (f : NumberedFile). cond {A = ℕ} (has_label other (label_of f)) 1 0 + 0) x_is in
+        omega (arith, step, before, after, none, was)
 
     keys_same : (c : Label → ℕ) → c (label_of y) ≡ c (label_of x) → sum_by c (labels_of gs) ≡ sum_by c (labels_of fs)
     keys_same c same =
@@ -137,20 +162,19 @@ module _ (n : Noted) (s : Store) (more maps tasks : ℕ) (fs : List NumberedFile
         ∙ set_flat (λ f. tasks_in (label_of f)) fs k (ap tasks_in label_is ∙ ap (λ (f : NumberedFile). tasks_in (label_of f)) x_is) within
         ∙ flat_through fs
 
-    pub named_keeps : IsFiles n s more maps tasks gs
+    pub named_keeps : IsFiles later s more maps tasks gs
     named_keeps = record {
       held = named_held;
       keyed = record {
         kept = subst (All (λ (q : Label). is_listed q ≡ true)) (sym (map-set label_of fs k y)) (All-set (λ (q : Label). is_listed q ≡ true) (labels_of fs) k (label_of y) listed is.keyed.kept);
-        names = λ name. (let less = names_less name in let most = is.keyed.names name in omega (arith, less, most));
+        names = λ other. (let less = names_less other in let most = is.keyed.names other in omega (arith, less, most));
         keys = λ t m. (let same = keys_same (keys_in t m) (ap (keys_in t m) label_is) in let most = is.keyed.keys t m in omega (arith, same, most));
         map_count = is.keyed.map_count ∙ sym (keys_same (λ (q : Label). length q.keys) (ap (λ (q : Label). length q.keys) label_is));
         task_count = is.keyed.task_count ∙ ap (λ ts. length (distinct ts)) (sym tasks_same);
       };
-      noted = record {
-        names = λ name e. (let less = names_less name in let none = is.noted.names name e in omega (arith, less, none));
-        keys = λ t m e. keys_same (keys_in t m) (ap (keys_in t m) label_is) ∙ is.noted.keys t m e;
-      };
+      noted = still_noted (labels_of gs) (λ other. (let less = names_less other in omega (arith, less)))
+          (let less = names_less name in let most = is.keyed.names name in let own = ap (λ b. cond {A = ℕ} b 1 0 + 0) has_it in omega (arith, less, most, own))
+          (λ t m. (let same = keys_same (keys_in t m) (ap (keys_in t m) label_is) in omega (arith, same)));
     }
 
     shows : files_shown s gs ≡ slice_set (files_shown s fs) k (unlinked (file_at (files_shown s fs) k))
@@ -226,21 +250,20 @@ module _ (n : Noted) (s : Store) (more maps tasks : ℕ) (fs : List NumberedFile
         let same = ap (sum_by c) labels_are in
         omega (arith, step, here, same)
 
-    pub gone_keeps : IsFiles n t now maps tasks hs
+    pub gone_keeps : IsFiles later t now maps tasks hs
     gone_keeps = record {
       held = gone_held;
       keyed = record {
         kept = subst (All (λ (q : Label). is_listed q ≡ true)) (sym labels_are) (all_left (label_of no_file) (λ (q : Label). is_listed q ≡ true) (labels_of fs) k is.keyed.kept);
-        names = λ name. (let less = sum_left (λ (q : Label). cond {A = ℕ} (has_label name q) 1 0) in let most = is.keyed.names name in omega (arith, less, most));
+        names = λ other. (let less = sum_left (λ (q : Label). cond {A = ℕ} (has_label other q) 1 0) in let most = is.keyed.names other in omega (arith, less, most));
         keys = λ t m. (let less = sum_left (keys_in t m) in let most = is.keyed.keys t m in omega (arith, less, most));
         map_count = (let less = sum_left (λ (q : Label). length q.keys) in let none = ap length no_keys in let was = is.keyed.map_count in omega (arith, less, none, was));
         task_count = is.keyed.task_count
             ∙ ap (λ ts. length (distinct ts)) (sym (ap (flat_map tasks_in) labels_are ∙ flat_left (label_of no_file) tasks_in (labels_of fs) k long_labels (ap tasks_in label_there ∙ ap (map (λ (q : ℕ × ℕ). q.0)) no_keys)));
       };
-      noted = record {
-        names = λ name e. (let less = sum_left (λ (q : Label). cond {A = ℕ} (has_label name q) 1 0) in let none = is.noted.names name e in omega (arith, less, none));
-        keys = λ t m e. (let less = sum_left (keys_in t m) in let none = is.noted.keys t m e in omega (arith, less, none));
-      };
+      noted = still_noted (labels_of hs) (λ other. (let less = sum_left (λ (q : Label). cond {A = ℕ} (has_label other q) 1 0) in omega (arith, less)))
+          (let less = sum_left (λ (q : Label). cond {A = ℕ} (has_label name q) 1 0) in let most = is.keyed.names name in let own = ap (λ b. cond {A = ℕ} b 1 0 + 0) has_it in omega (arith, less, most, own))
+          (λ t m. (let less = sum_left (keys_in t m) in omega (arith, less)));
     }
 
     shown_left : files_shown t hs ≡ remove (files_shown s fs) k

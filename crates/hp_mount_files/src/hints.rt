@@ -1,6 +1,6 @@
 //! Where files and maps were last seen.
 ghost use Rattle.std.specs.Prelude.{◌≡◌, false, true, IfNone, OnErr, OnOk};
-ghost use Rattle.hp_mount_files.specs.Hints.{IsMore, has_key, has_name};
+ghost use Rattle.hp_mount_files.specs.Hints.{IsMore, IsMoreBut, has_key, has_name};
 
 use crate::files::MapPlace;
 use indexmap::IndexMap;
@@ -8,7 +8,7 @@ use std::alloc::{AllocError, Global};
 use std::marker::Model;
 
 /// Where each file was last seen by its name, and each map by its task and number. Such a place is looked at first, and
-/// never trusted; but what was never noted is not there.
+/// never trusted; but what was never noted, or was forgotten, is not there.
 #[derive(Drop)]
 pub(crate) struct Hints {
     files: IndexMap<Vec<u8>, usize>,
@@ -62,6 +62,13 @@ impl Hints {
             return Err(AllocError);
         };
         Ok(())
+    }
+
+    /// Forgets where the file with the name is.
+    pub(crate) fn forget_file(&mut self, name: &[u8])
+        ensures { IsMoreBut name.now self.old self.new }
+    {
+        let _place = self.files.swap_remove(name);
     }
 
     /// Notes where a map is. Refused where memory is, and then nothing changes.

@@ -37,7 +37,7 @@ impl<N: Naming> Mount<N> {
         let Some(file) = self.files.named(name) else {
             return Err(Refusal::NoSuchFile);
         };
-        let reserves = self.files.unlink(file);
+        let reserves = self.files.unlink(file, name);
         self.files.give_back(door, &mut self.share, reserves);
         Ok(Answer::Done)
     }

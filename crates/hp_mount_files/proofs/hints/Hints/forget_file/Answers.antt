@@ -1,0 +1,29 @@
+use Rattle.std.proofs.Common.{◌≡◌, [], Bool, true, false, refl, subst, sym, ◌∙◌, List, ℕ}
+use Rattle.std.specs.Str.{bytes_eq}
+use Rattle.std.proofs.lemmas.Slice.Eq.{bytes_eq-Decides}
+use Rattle.hp_mount_files.specs.Hints.{IsMoreBut, Noted, has_name, keys_of, names_of}
+use Rattle.hp_mount_files.proofs.Hinted.{others_stay}
+use Rattle.hp_mount_files.proofs.hints.Hints.forget_file.Goals as goal
+
+-- a name is not two
+not_both : (name other key : List ℕ) → bytes_eq name other ≡ false → bytes_eq name key ≡ true → bytes_eq other key ≡ false
+not_both name other key apart own = by (bytes_eq other key) refl
+  where
+    clash : true ≡ false → ⊥
+    clash e = cc
+
+    by : (b : Bool) → bytes_eq other key ≡ b → bytes_eq other key ≡ false
+    by true e = absurd (clash (sym ((bytes_eq-Decides name other).1 ((bytes_eq-Decides name key).0 own ∙ sym ((bytes_eq-Decides other key).0 e))) ∙ apart))
+    by false e = e
+
+pub returns : goal.returns
+returns c =
+    let new = c.swap_remove-place.new.self.entries in
+    let maps = c.self.inside.maps.entries in
+    subst (λ (n : Noted). IsMoreBut c.args.name.now n (record { names = names_of new; keys = keys_of maps })) c.self.view_is
+    (record {
+      names = λ other apart e.
+          others_stay (λ k. k.items) (bytes_eq other) _ (λ k own. not_both c.args.name.now other k.items apart own) c.self.inside.files.entries
+          (subst (λ es. has_name other (record { names = names_of es; keys = [] }) ≡ false) c.swap_remove-place.ensures.entries e);
+      keys = λ task number e. e;
+    })
