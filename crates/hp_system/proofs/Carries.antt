@@ -25,12 +25,27 @@ use Rattle.hp_mount.specs.declared.event.MountEvent.{MountEvent}
 use Rattle.hp_mount.specs.declared.event.MountEvent.TheVariants as event
 use Rattle.hp_mount.specs.Done.{Tried}
 use Rattle.hp_mount.specs.Event.{event_of}
-use Rattle.hp_mount_door.specs.Door.{IsReady}
+use Rattle.hp_mount_door.specs.Door.{IsReady as IsReadyPool}
 use Rattle.hp_system.specs.Event.{IsCarried, took}
-use Rattle.hp_system.specs.Kept.{state_of, IsKept}
+use Rattle.hp_system.specs.Kept.{machine_of, state_of, IsReady, IsSized, Machine}
 
 abbrev pub calm : Choice
 calm = record { stamp = 0; refused = false; after_grant = false }
+
+-- what holds between steps of the parts of a machine
+pub record IsKept (page_size bytes : ℕ) (table : Table) (slots : List Slot) (p : Pool) : Type 0 where
+  pub size : page_size ≡ bytes
+  pub some : 0 < page_size
+  pub tied : pool_of (state_of page_size table slots p) ≡ p
+  pub settled : IsSettledState (state_of page_size table slots p)
+
+pub kept_by : {size bytes : ℕ} {t : Table} {xs : List Slot} {p : Pool} (m : Machine) → IsSized size bytes → machine_of size t xs p ≡ m → IsReady m → IsKept size bytes t xs p
+kept_by m sized is r =
+    let h = subst IsReady (sym is) r in
+    record { size = sized.size; some = sized.some; tied = h.tied; settled = h.settled }
+
+pub ready_by : {size bytes : ℕ} {t : Table} {xs : List Slot} {p : Pool} → IsKept size bytes t xs p → IsReady (machine_of size t xs p)
+ready_by kept = record { tied = kept.tied; settled = kept.settled }
 
 -- the slot of number k
 abbrev pub slot_in : List Slot → ℕ → Slot
@@ -116,7 +131,7 @@ module _ (size bytes : ℕ) (t : Table) where
       }
 
   -- the pool is ready for a section
-  pub ready : (xs : List Slot) (p : Pool) → IsKept size bytes t xs p → IsReady p
+  pub ready : (xs : List Slot) (p : Pool) → IsKept size bytes t xs p → IsReadyPool p
   ready xs p kept =
       let it = kept.settled.pool in
       let total = it.total in

@@ -23,8 +23,8 @@ use Rattle.hp_laws.proofs.Tied.{plan_tied}
 use Rattle.hp_model.specs.threads.LocalRun.{ThroughDoor}
 use Rattle.hp_laws.proofs.Tells.{tells_gives}
 use Rattle.hp_system.specs.Event.{took}
-use Rattle.hp_system.specs.Kept.{all_free, state_of, IsKept}
-use Rattle.hp_system.proofs.Carries.{plan_is, slot_in}
+use Rattle.hp_system.specs.Kept.{all_free, state_of}
+use Rattle.hp_system.proofs.Carries.{plan_is, slot_in, IsKept}
 use Rattle.hp_system.proofs.Start.{sum_none}
 
 -- what is left of n slots: these, and as many without a mount as are done; what is set stays

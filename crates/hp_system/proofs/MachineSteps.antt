@@ -27,8 +27,8 @@ use Rattle.hp_model.specs.machine.State.{State}
 use Rattle.hp_model.specs.machine.Step.{Script, Answer_with, on_slot, only, finding, IsScript, IsStep, IsBuiltStep}
 use Rattle.hp_model.specs.machine.Table.{Table, table_event, home_of, when_known}
 use Rattle.hp_system.specs.Event.{IsCarried, DoesOnSlot, load_event, store_event}
-use Rattle.hp_system.specs.Kept.{state_of, IsKept}
-use Rattle.hp_system.proofs.Carries.{calm, event_done, slot_in}
+use Rattle.hp_system.specs.Kept.{machine_of, state_of, Machine}
+use Rattle.hp_system.proofs.Carries.{calm, event_done, slot_in, IsKept}
 
 same_length : (p : Pool) → length (map node_of p.nodes.rows) ≡ length p.nodes.rows
 same_length p = grind (arith, common_steps)
@@ -140,6 +140,10 @@ put_back xs k x e = ap (slice_set xs k) e ∙ set-get_or xs k x
 -- the state with a slot that was read and put back
 pub state_back : (size : ℕ) (t : Table) (xs : List Slot) (p : Pool) (k : ℕ) (x : Slot) (s : State) → x ≡ slice_index_or xs k x → state_of size t xs p ≡ s → s ≡ state_of size t (slice_set xs k x) p
 state_back size t xs p k x s read s_is = sym s_is ∙ ap (λ ys. state_of size t ys p) (sym (put_back xs k x read))
+
+-- and the machine
+pub machine_back : {size : ℕ} {t : Table} {xs : List Slot} {p : Pool} (k : ℕ) (x : Slot) (m : Machine) → x ≡ slice_index_or xs k x → machine_of size t xs p ≡ m → m ≡ machine_of size t (slice_set xs k x) p
+machine_back {size} {t} {xs} {p} k x m read is = sym is ∙ ap (λ ys. machine_of size t ys p) (sym (put_back xs k x read))
 
 module _ (size bytes : ℕ) (t : Table) (xs : List Slot) (p : Pool) (kept : IsKept size bytes t xs p) (s : State) (s_is : state_of size t xs p ≡ s) (k : ℕ) (within : k < length xs) (old : Slot) (here : slot_in xs k ≡ old)
     (e : SlotEvent) (happens : IsTrue (is_slot_event old e)) where

@@ -22,12 +22,24 @@ state_of size table slots p =
       release = p.nodes.release;
     }
 
--- the pool's numbers are the sums over files and maps, and settled
-pub record IsKept (page_size bytes : ℕ) (table : Table) (slots : List Slot) (p : Pool) : Type 0 where
+-- the machine, with the pool's own numbers
+pub record Machine : Type 0 where
+  pub state : State
+  pub pool : Pool
+
+-- it, by its parts
+abbrev pub machine_of : (page_size : ℕ) → Table → List Slot → Pool → Machine
+machine_of size table slots p = record { state = state_of size table slots p; pool = p }
+
+-- what holds of the bytes of a page
+pub record IsSized (page_size bytes : ℕ) : Type 0 where
   pub size : page_size ≡ bytes
   pub some : 0 < page_size
-  pub tied : pool_of (state_of page_size table slots p) ≡ p
-  pub settled : IsSettledState (state_of page_size table slots p)
+
+-- What each step wants of the machine, and keeps: the pool's own numbers are the sums over files and maps, and settled.
+pub record IsReady (m : Machine) : Type 0 where
+  pub tied : pool_of m.state ≡ m.pool
+  pub settled : IsSettledState m.state
 
 -- the numbers of a pool whose pages are all free and promised to nobody
 abbrev pub all_free : State → Counts

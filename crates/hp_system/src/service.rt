@@ -9,12 +9,13 @@ use hp_model::step::Step;
 
 impl<N: Naming> Service for System<N> {
     ghost use Rattle.hp_model.specs.machine.Promises.{IsPromisedStep};
+    ghost use Rattle.hp_system.specs.Kept.{IsReady};
 
-    ghost may_answer = { IsPromisedStep };
+    ghost may_answer = { λ old step reply new. IsPromisedStep old.state step reply new.state };
 
-    ghost page = { λ s. s.page_size };
+    ghost page = { λ s. s.state.page_size };
 
-    ghost is_ready = { λ s. Unit {0} };
+    ghost is_ready = { IsReady };
 
     fn call(&mut self, step: &Step) -> Reply {
         self.apply(step)

@@ -3,7 +3,7 @@ ghost use Rattle.std.specs.Prelude.{◌≡◌, ◌<◌, ◌≤◌, [], length, v
 ghost use Rattle.hp_model.specs.machine.Machine.{slots_from, start};
 ghost use Rattle.hp_model.specs.pool.PoolCounts.{IsSettled};
 ghost use Rattle.hp_pool.specs.Ledgers.{AreLedgers};
-ghost use Rattle.hp_system.specs.Kept.{all_free};
+ghost use Rattle.hp_system.specs.Kept.{all_free, IsReady};
 
 mod accesses;
 mod slots;
@@ -18,7 +18,8 @@ use hp_subpool::Subpool;
 use std::alloc::{AllocError, Global};
 use std::marker::Model;
 
-/// The machine. Contracts see its state. It can't be dropped: `close` ends it.
+/// The machine. Contracts see its state and the pool's own numbers. Each step wants that these are the sums over files and
+/// maps (`IsReady`), and keeps it. It can't be dropped: `close` ends it.
 pub struct System<N: Naming> {
     page_bytes: usize,
     alloc: Global,
@@ -28,14 +29,13 @@ pub struct System<N: Naming> {
 }
 
 impl<N: Naming> Model for System<N> {
-    ghost use Rattle.hp_model.specs.machine.State.{State};
-    ghost use Rattle.hp_system.specs.Kept.{state_of, IsKept};
+    ghost use Rattle.hp_system.specs.Kept.{IsSized, Machine, machine_of};
 
-    ghost Value = { State };
+    ghost Value = { Machine };
 
-    ghost view = { λ s. state_of s.page_bytes s.table s.slots.items s.pool };
+    ghost view = { λ s. machine_of s.page_bytes s.table s.slots.items s.pool };
 
-    ghost invariant = { λ s. IsKept s.page_bytes N.page_bytes s.table s.slots.items s.pool };
+    ghost invariant = { λ s. IsSized s.page_bytes N.page_bytes };
 }
 
 impl<N: Naming> System<N> {
@@ -59,7 +59,8 @@ impl<N: Naming> System<N> {
         requires bytes { 0 < page_bytes }
         requires page_bytes { page_bytes ≡ N.page_bytes }
         requires ledgers { AreLedgers N.Naming blanks }
-        ensures { IfOk result (λ s. s ≡ start frames.now page_bytes slots) }
+        ensures start { IfOk result (λ s. s.state ≡ start frames.now page_bytes slots) }
+        ensures ready { IfOk result (λ s. IsReady s) }
     {
         let table = TaskTable::new(alloc)?;
         let mut mounts = Vec::with_capacity(alloc, slots as usize)?;
@@ -83,7 +84,7 @@ impl<N: Naming> System<N> {
 
     /// The bytes of a page.
     pub fn page_bytes(&self) -> u64
-        ensures { result ≡ self.now.page_size }
+        ensures { result ≡ self.now.state.page_size }
     {
         self.page_bytes as u64
     }
@@ -92,7 +93,8 @@ impl<N: Naming> System<N> {
     /// (pages), of which all that were persistent are free again, and none is promised or surplus.
     /// Never refused; it takes no memory.
     pub fn close(self) -> Counts
-        ensures { result ≡ all_free self }
+        requires ready { IsReady self }
+        ensures { result ≡ all_free self.state }
     {
         let System {
             page_bytes: _,

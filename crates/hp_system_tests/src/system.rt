@@ -1,6 +1,7 @@
 //! A list of steps at a machine of two nodes of four frames each, and machines that come and go.
 ghost use Rattle.std.specs.Prelude.{◌≡◌};
 ghost use Rattle.hp_pool.specs.Ledgers.{AreLedgers};
+ghost use Rattle.hp_system.specs.Kept.{IsReady};
 
 use hp_model::answer::{Answer, Counts};
 use hp_model::bytes::Bytes;
@@ -30,7 +31,10 @@ fn all_free(pages: u64) -> Counts {
 }
 
 // Steps in a list are answered one after another.
-fn runs<N: Naming, R: Abort>(rt: &R, alloc: Global, system: &mut System<N>) {
+fn runs<N: Naming, R: Abort>(rt: &R, alloc: Global, system: &mut System<N>)
+    requires { IsReady system.old }
+    ensures { IsReady system.new }
+{
     let steps = [
         Step::Connect { task: 9, home: 0 },
         Step::Nr { pages: 2 },

@@ -6,3 +6,4 @@ pub mod Turns
 pub mod Endings
 pub mod Scripts
 pub mod Added
+pub mod Seen

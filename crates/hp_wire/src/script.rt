@@ -1,6 +1,7 @@
 //! Runs over the lines of a script.
 ghost use Rattle.std.specs.Prelude.{◌≤◌, IfErr, IfSome, OnOk};
 ghost use Rattle.hp_model.specs.machine.Promises.{IsPromisedStep};
+ghost use Rattle.hp_system.specs.Kept.{IsReady};
 ghost use Rattle.hp_wire.specs.Served.{AnswersInput, IsMemoryOrTooLong, ServesInput};
 
 use crate::ends::{Sink, Source};
@@ -22,14 +23,16 @@ pub fn run_script<N: Naming, R: Source, W: Sink>(
     writer: &mut W,
     machine: &mut System<N>,
 ) -> Result<u64, RunFault>
-    requires { machine.old.page_size ≤ 2097152 }
+    requires page { machine.old.state.page_size ≤ 2097152 }
+    requires ready { IsReady machine.old }
     ensures served { ServesInput IsPromisedStep (λ state. state.page_size) R.remaining W.contents
-        machine.old machine.new reader.old reader.new writer.old writer.new result }
+        machine.old.state machine.new.state reader.old reader.new writer.old writer.new result }
     ensures script { IfSome (R.remaining reader.old) (λ input. OnOk result
-        (AnswersInput IsPromisedStep machine.old.page_size input machine.old machine.new
+        (AnswersInput IsPromisedStep machine.old.state.page_size input machine.old.state machine.new.state
         (W.contents writer.old) (W.contents writer.new))) }
     ensures never { R.is_sure reader.old → W.is_sure writer.old
         → IfErr result IsMemoryOrTooLong }
+    ensures ready { IsReady machine.new }
 {
     run_lines(alloc, reader, writer, machine)
 }

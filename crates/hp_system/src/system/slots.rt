@@ -8,6 +8,7 @@ ghost use Rattle.hp_model.specs.text.Writing.{IsWithinLimits};
 ghost use Rattle.hp_mount.specs.Event.{event_of, is_usage};
 ghost use Rattle.hp_mount.specs.Memory.{asks_memory};
 ghost use Rattle.hp_system.specs.Event.{DoesOfTask, DoesOnSlot};
+ghost use Rattle.hp_system.specs.Kept.{IsReady};
 
 use super::System;
 use hp_model::answer::{Answer, Reply};
@@ -24,7 +25,7 @@ impl<N: Naming> System<N> {
     // The limits that a mount's options mean at this moment: sizes in percent are of nr
     // (`admin-guide/mm/hugetlbpage.rst`). Refused as BadOption or MinOverSize.
     fn limits(&self, options: &Bytes) -> Result<Limits, Refusal>
-        ensures { result ≡ limits self.now.nr self.now.page_size (wanted_of options.now) }
+        ensures { result ≡ limits self.now.state.nr self.now.state.page_size (wanted_of options.now) }
     {
         parse_options(options.as_slice(), self.pool.nr(), self.page_bytes())
     }
@@ -40,9 +41,11 @@ impl<N: Naming> System<N> {
     // - NoPages: with the minimum more pages would be committed than nr and overcommit together, or
     //   than all frames.
     pub(crate) fn mount(&mut self, slot: u64, options: &Bytes) -> Reply
-        ensures done { DoesOnSlot self.old slot (Mounting options.now) result self.new }
+        requires ready { IsReady self.old }
+        ensures done { DoesOnSlot self.old.state slot (Mounting options.now) result self.new.state }
         ensures memory { result ≢ Err Refusal.OutOfMemory }
-        ensures size { self.new.page_size ≡ self.old.page_size }
+        ensures size { self.new.state.page_size ≡ self.old.state.page_size }
+        ensures ready { IsReady self.new }
     {
         let at = slot as usize;
         if at >= self.slots.len() {
@@ -67,9 +70,11 @@ impl<N: Naming> System<N> {
     // - NoSuchSlot: there is no such slot, or it is not mounted.
     // - Busy: it is slot 0, or a task has a map there.
     pub(crate) fn umount(&mut self, slot: u64) -> Reply
-        ensures done { DoesOnSlot self.old slot Umounting result self.new }
+        requires ready { IsReady self.old }
+        ensures done { DoesOnSlot self.old.state slot Umounting result self.new.state }
         ensures memory { result ≢ Err Refusal.OutOfMemory }
-        ensures size { self.new.page_size ≡ self.old.page_size }
+        ensures size { self.new.state.page_size ≡ self.old.state.page_size }
+        ensures ready { IsReady self.new }
     {
         let at = slot as usize;
         if at >= self.slots.len() {
@@ -94,11 +99,13 @@ impl<N: Naming> System<N> {
     // where there is no such slot or it is not mounted, and else as the mount refuses it; then
     // nothing changes.
     pub(crate) fn on_slot(&mut self, slot: u64, home: u64, event: MountEvent<'_>) -> Reply
-        ensures done { DoesOnSlot self.old slot (event_of home event.entry) result self.new }
-        ensures memory { asks_memory (slot_at self.old slot) (event_of home event.entry) ≡ false
+        requires ready { IsReady self.old }
+        ensures done { DoesOnSlot self.old.state slot (event_of home event.entry) result self.new.state }
+        ensures memory { asks_memory (slot_at self.old.state slot) (event_of home event.entry) ≡ false
             → result ≢ Err Refusal.OutOfMemory }
         ensures limits { is_usage (event_of home event.entry) ≡ true → IsWithinLimits result }
-        ensures size { self.new.page_size ≡ self.old.page_size }
+        ensures size { self.new.state.page_size ≡ self.old.state.page_size }
+        ensures ready { IsReady self.new }
     {
         let page_bytes = self.page_bytes();
         let at = slot as usize;
@@ -113,10 +120,12 @@ impl<N: Naming> System<N> {
 
     // The same for a task. Refused as NoSuchTask where it is not there.
     pub(crate) fn of_task(&mut self, task: u64, slot: u64, event: MountEvent<'_>) -> Reply
-        ensures done { DoesOfTask self.old task slot (λ home. event_of home event.entry) result self.new }
-        ensures memory { asks_memory (slot_at self.old slot) (event_of 0 event.entry) ≡ false
+        requires ready { IsReady self.old }
+        ensures done { DoesOfTask self.old.state task slot (λ home. event_of home event.entry) result self.new.state }
+        ensures memory { asks_memory (slot_at self.old.state slot) (event_of 0 event.entry) ≡ false
             → result ≢ Err Refusal.OutOfMemory }
-        ensures size { self.new.page_size ≡ self.old.page_size }
+        ensures size { self.new.state.page_size ≡ self.old.state.page_size }
+        ensures ready { IsReady self.new }
     {
         match self.table.home(task) {
             Some(home) => self.on_slot(slot, home, event),

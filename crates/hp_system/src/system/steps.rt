@@ -7,6 +7,7 @@ ghost use Rattle.hp_model.specs.declared.step.Sharing.TheVariants.{Shared};
 ghost use Rattle.hp_model.specs.machine.Step.{IsStep};
 ghost use Rattle.hp_model.specs.text.Writing.{IsWithinLimits};
 ghost use Rattle.hp_model.specs.machine.Promises.{takes_memory};
+ghost use Rattle.hp_system.specs.Kept.{IsReady};
 
 use super::System;
 use hp_model::answer::{Answer, Reply};
@@ -26,9 +27,11 @@ impl<N: Naming> System<N> {
     /// - TaskExists: the task is there.
     /// - TooMany: there are 256 tasks.
     pub fn connect(&mut self, task: u64, home: u64) -> Reply
-        ensures step { IsStep self.old (Connect task home) result self.new }
+        requires ready { IsReady self.old }
+        ensures step { IsStep self.old.state (Connect task home) result self.new.state }
         ensures memory { result ≢ Err Refusal.OutOfMemory }
-        ensures size { self.new.page_size ≡ self.old.page_size }
+        ensures size { self.new.state.page_size ≡ self.old.state.page_size }
+        ensures ready { IsReady self.new }
     {
         let nodes = self.pool.len() as u64;
         self.table.apply(nodes, TableEvent::Add { task, home })
@@ -39,9 +42,11 @@ impl<N: Naming> System<N> {
     ///
     /// For now refused as BadLine where `pages` is below the present number, and then nothing changes.
     pub fn set_nr(&mut self, pages: u64) -> Reply
-        ensures step { IsStep self.old (Nr pages) result self.new }
+        requires ready { IsReady self.old }
+        ensures step { IsStep self.old.state (Nr pages) result self.new.state }
         ensures memory { result ≢ Err Refusal.OutOfMemory }
-        ensures size { self.new.page_size ≡ self.old.page_size }
+        ensures size { self.new.state.page_size ≡ self.old.state.page_size }
+        ensures ready { IsReady self.new }
     {
         if pages < self.pool.nr() {
             return Err(Refusal::BadLine);
@@ -52,9 +57,11 @@ impl<N: Naming> System<N> {
     /// Answers Total, Free, Rsvd and Surp, and what nr and overcommit are set to, all in pages
     /// (`admin-guide/mm/hugetlbpage.rst`). Never refused, and changes nothing.
     pub fn meminfo(&mut self) -> Reply
-        ensures step { IsStep self.old Meminfo result self.new }
+        requires ready { IsReady self.old }
+        ensures step { IsStep self.old.state Meminfo result self.new.state }
         ensures memory { result ≢ Err Refusal.OutOfMemory }
-        ensures size { self.new.page_size ≡ self.old.page_size }
+        ensures size { self.new.state.page_size ≡ self.old.state.page_size }
+        ensures ready { IsReady self.new }
     {
         Ok(Answer::Numbers(self.pool.counts()))
     }
@@ -69,13 +76,14 @@ impl<N: Naming> System<N> {
     /// step that makes a file, a map or a list of names, and an access that nothing backs, can be refused
     /// memory.
     pub fn apply(&mut self, step: &Step) -> Reply
-        ensures step { IsStep self.old step.now result self.new }
-        ensures promised { IsPromised self.old step.now result self.new }
-        ensures memory { takes_memory self.old step.now ≡ false → result ≢ Err Refusal.OutOfMemory }
-        ensures size { self.new.page_size ≡ self.old.page_size }
+        requires ready { IsReady self.old }
+        ensures step { IsStep self.old.state step.now result self.new.state }
+        ensures promised { IsPromised self.old.state step.now result self.new.state }
+        ensures memory { takes_memory self.old.state step.now ≡ false → result ≢ Err Refusal.OutOfMemory }
+        ensures size { self.new.state.page_size ≡ self.old.state.page_size }
         ensures limits { IsWithinLimits result }
+        ensures ready { IsReady self.new }
     {
-        let _slots = &self.slots;
         self.answer(step)
     }
 
@@ -90,9 +98,11 @@ impl<N: Naming> System<N> {
         pages: u64,
         reserving: Reserving,
     ) -> Reply
-        ensures step { IsStep self.old (MapStep task slot name.now start pages Shared reserving)
-            result self.new }
-        ensures size { self.new.page_size ≡ self.old.page_size }
+        requires ready { IsReady self.old }
+        ensures step { IsStep self.old.state (MapStep task slot name.now start pages Shared reserving)
+            result self.new.state }
+        ensures size { self.new.state.page_size ≡ self.old.state.page_size }
+        ensures ready { IsReady self.new }
     {
         let event = MountEvent::Map {
             task,
@@ -107,10 +117,12 @@ impl<N: Naming> System<N> {
     // The step's own function.
     #[tactic(auto, unfolding(hp_model::specs::machine::Step::IsStep))]
     fn answer(&mut self, step: &Step) -> Reply
-        ensures step { IsStep self.old step.now result self.new }
+        requires ready { IsReady self.old }
+        ensures step { IsStep self.old.state step.now result self.new.state }
         ensures usage { is_usage step.now ≡ true → IsWithinLimits result }
-        ensures memory { takes_memory self.old step.now ≡ false → result ≢ Err Refusal.OutOfMemory }
-        ensures size { self.new.page_size ≡ self.old.page_size }
+        ensures memory { takes_memory self.old.state step.now ≡ false → result ≢ Err Refusal.OutOfMemory }
+        ensures size { self.new.state.page_size ≡ self.old.state.page_size }
+        ensures ready { IsReady self.new }
     {
         match step {
             Step::Connect { task, home } => self.connect(*task, *home),
@@ -230,9 +242,11 @@ impl<N: Naming> System<N> {
     /// Does steps one after another, and answers their replies, each as `apply` promises. Room for the
     /// replies is made first: where it is refused, nothing is done.
     pub fn run(&mut self, alloc: Global, steps: &[Step]) -> Result<Vec<Reply>, AllocError>
-        ensures run { IfOk result (λ replies. IsPromisedRun self.old steps.now replies.items self.new) }
-        ensures size { self.new.page_size ≡ self.old.page_size }
-        ensures err { OnErr result (self.new ≡ self.old) }
+        requires ready { IsReady self.old }
+        ensures run { IfOk result (λ replies. IsPromisedRun self.old.state steps.now replies.items self.new.state) }
+        ensures size { self.new.state.page_size ≡ self.old.state.page_size }
+        ensures err { OnErr result (self.new.state ≡ self.old.state) }
+        ensures ready { IsReady self.new }
     {
         let mut replies = Vec::with_capacity(alloc, steps.len())?;
         for step in steps {

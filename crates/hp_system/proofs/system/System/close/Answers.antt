@@ -1,37 +1,38 @@
 use Rattle.std.proofs.Common.{◌++◌, length, replicate, None, subst, ap, ◌∙◌, ◌-◌, arith}
 use Rattle.std.proofs.lemmas.List.{nil_from_length}
-use Rattle.hp_system.proofs.Carries.{ready}
+use Rattle.hp_system.proofs.Carries.{ready, kept_by}
 use Rattle.hp_system.proofs.Ending.{all_gone, begins, mount_goes, none_goes, IsEnding}
+use Rattle.hp_system.specs.Kept.{Machine}
 use Rattle.hp_system.proofs.system.System.close.Goals as goal
 
 pub loop-slot-init : goal.loop-slot-init
 loop-slot-init g c =
     let s = c.self.inside in
     let bytes = g.N.Naming.page_bytes in
-    subst (λ x. IsEnding x.page_size bytes (length x.slots) x.table s.pool s.slots.items s.pool) c.self.view_is (begins s.page_bytes bytes s.table s.slots.items s.pool c.self.invariant)
+    subst (λ (x : Machine). IsEnding x.state.page_size bytes (length x.state.slots) x.state.table s.pool s.slots.items s.pool) c.self.view_is (begins s.page_bytes bytes s.table s.slots.items s.pool (kept_by c.args.self c.self.invariant c.self.view_is c.requires.ready))
 
 pub close-requires-clause-ready : goal.close-requires-clause-ready
 close-requires-clause-ready g c =
-    let s = c.args.self in
+    let s = c.args.self.state in
     let xs = c.loop-slot.slots.items in
     ready s.page_size g.N.Naming.page_bytes s.table (xs ++ replicate (length s.slots - length xs) None) c.loop-slot.pool c.loop-slot.invariant.kept
 
 pub loop-slot-preserved-in-Some-slot : goal.loop-slot-preserved-in-Some-slot
 loop-slot-preserved-in-Some-slot g c =
-    let s = c.args.self in
+    let s = c.args.self.state in
     mount_goes s.page_size g.N.Naming.page_bytes (length s.slots) s.table c.self.inside.pool c.loop-slot.slots.items c.pop.new.self.items c.in-Some.slot c.loop-slot.pool
     c.in-Some.ensures.items c.loop-slot.invariant c.in-Some-slot.mount c.close.new.door c.in-Some-slot.is c.close.ensures.done
 
 pub loop-slot-preserved : goal.loop-slot-preserved
 loop-slot-preserved g c =
-    let s = c.args.self in
+    let s = c.args.self.state in
     none_goes s.page_size g.N.Naming.page_bytes (length s.slots) s.table c.self.inside.pool c.loop-slot.slots.items c.pop.new.self.items c.in-Some.slot c.loop-slot.pool
     c.in-Some.ensures.items c.loop-slot.invariant c.in-None.is
 
 pub returns : goal.returns
 returns g c =
-    let s = c.args.self in
+    let s = c.args.self.state in
     let was = c.loop-slot in
     let none = nil_from_length was.slots.items (omega (arith, was.slots.ok.0, c.in_default.ensures.cases.0)) in
     c.close-2.ensures
-    ∙ all_gone s.page_size g.N.Naming.page_bytes (length s.slots) s.table c.self.inside.pool was.pool s was.slots.items none was.invariant (ap (λ x. x.nr) c.self.view_is) (ap (λ x. x.overcommit) c.self.view_is)
+    ∙ all_gone s.page_size g.N.Naming.page_bytes (length s.slots) s.table c.self.inside.pool was.pool s was.slots.items none was.invariant (ap (λ (x : Machine). x.state.nr) c.self.view_is) (ap (λ (x : Machine). x.state.overcommit) c.self.view_is)

@@ -1,8 +1,8 @@
 use Rattle.std.proofs.Common.{◌≡◌, [], sym, ap, subst, ◌∙◌}
 use Rattle.hp_model.specs.machine.Machine.{slots_from}
 use Rattle.hp_model.specs.pool.PoolCounts.{IsSettled, Pool}
-use Rattle.hp_system.specs.Kept.{state_of, IsKept}
-use Rattle.hp_system.proofs.Carries.{ready}
+use Rattle.hp_system.specs.Kept.{state_of}
+use Rattle.hp_system.proofs.Carries.{ready, ready_by, IsKept}
 use Rattle.hp_system.proofs.Start.{start_kept, start_is, first_pool}
 use Rattle.hp_system.proofs.system.System.new.Goals as goal
 
@@ -19,20 +19,20 @@ open_slots-requires g c =
       settled = subst (λ (p : Pool). IsSettled p) (sym c.in-Ok.ensures) (ready size bytes [] (slots_from slots) (first_pool c.args.frames.now) kept).settled;
     }
 
-pub invariant_of-result : goal.invariant_of-result
-invariant_of-result g c =
+pub returns-in-Ok-clause-ready : goal.returns-in-Ok-clause-ready
+returns-in-Ok-clause-ready g c =
     let size = c.args.page_bytes in
     let bytes = g.N.Naming.page_bytes in
     let slots = c.args.slots in
     let frames = c.args.frames.now in
     let fresh : c.open_slots.new.pool ≡ first_pool frames = c.open_slots.ensures.pool ∙ c.in-Ok.ensures in
     let kept = start_kept frames size bytes slots c.requires.page_bytes c.requires.bytes c.requires.few c.requires.small in
-    subst (λ t. IsKept size bytes t c.open_slots.new.slots.items c.open_slots.new.pool) (sym c.in_ok-table.ensures)
+    ready_by (subst (λ t. IsKept size bytes t c.open_slots.new.slots.items c.open_slots.new.pool) (sym c.in_ok-table.ensures)
     (subst (λ xs. IsKept size bytes [] xs c.open_slots.new.pool) (sym c.open_slots.ensures.slots)
-    (subst (λ p. IsKept size bytes [] (slots_from slots) p) (sym fresh) kept))
+    (subst (λ p. IsKept size bytes [] (slots_from slots) p) (sym fresh) kept)))
 
-pub returns-in-Ok : goal.returns-in-Ok
-returns-in-Ok g c =
+pub returns-in-Ok-clause-start : goal.returns-in-Ok-clause-start
+returns-in-Ok-clause-start g c =
     let size = c.args.page_bytes in
     let slots = c.args.slots in
     let frames = c.args.frames.now in

@@ -4,16 +4,17 @@ use Rattle.hp_model.specs.machine.State.{State}
 use Rattle.hp_model.specs.machine.Table.{home_of}
 use Rattle.hp_mount.specs.Event.{event_of}
 use Rattle.hp_system.proofs.MachineSteps.{task_found, task_not_found}
+use Rattle.hp_system.specs.Kept.{Machine}
 use Rattle.hp_system.proofs.system.System.of_task.Goals as goal
 
 pub returns-in-Some-clause-done : goal.returns-in-Some-clause-done
 returns-in-Some-clause-done g c =
-    let s = c.args.self.now in
-    let known = ap (λ (x : State). home_of x.table c.args.task) (sym c.self.view_is) ∙ sym c.home.ensures ∙ c.in-Some.is in
-    task_found s c.on_slot.new.self c.args.task c.in-Some.home (λ home. on_slot (length s.slots) c.args.slot (event_of home c.args.event)) c.on_slot.result known c.on_slot.ensures.done
+    let s = c.args.self.now.state in
+    let known = ap (λ (x : State). home_of x.table c.args.task) (sym (ap (λ (x : Machine). x.state) c.self.view_is)) ∙ sym c.home.ensures ∙ c.in-Some.is in
+    task_found s c.on_slot.new.self.state c.args.task c.in-Some.home (λ home. on_slot (length s.slots) c.args.slot (event_of home c.args.event)) c.on_slot.result known c.on_slot.ensures.done
 
 pub returns-in-None-clause-done : goal.returns-in-None-clause-done
 returns-in-None-clause-done g c =
-    let s = c.args.self.now in
-    let unknown = ap (λ (x : State). home_of x.table c.args.task) (sym c.self.view_is) ∙ sym c.home.ensures ∙ c.in-None.is in
+    let s = c.args.self.now.state in
+    let unknown = ap (λ (x : State). home_of x.table c.args.task) (sym (ap (λ (x : Machine). x.state) c.self.view_is)) ∙ sym c.home.ensures ∙ c.in-None.is in
     task_not_found s c.args.task (λ home. on_slot (length s.slots) c.args.slot (event_of home c.args.event)) unknown
