@@ -56,6 +56,11 @@ fn has_len<R: Abort>(rt: &R, inode: &Inode, len: u64) {
     assert_eq!(rt; inode.len(), len);
 }
 
+// So many indices are entered, and so many have a page.
+fn counts<R: Abort>(rt: &R, inode: &Inode, entries: u64, pages: u64) {
+    assert_eq!(rt; (inode.entry_count(), inode.page_count()), (entries, pages));
+}
+
 fn page(number: u32) -> Option<PageNo> {
     Some(PageNo::new(number))
 }
@@ -86,13 +91,16 @@ fn each_call_once(rt: HostRuntime) -> Result<(), Fail> {
     reserve(&rt, &mut inode, 10, 1010)?;
     fill(&rt, &mut inode, 600, 7);
     fill(&rt, &mut inode, 1009, 8);
+    counts(&rt, &inode, 1000, 2);
     shows(&rt, &inode, 600, (true, page(7)));
     shows(&rt, &inode, 601, (true, None));
     takes(&rt, &mut inode, 0, 600, None);
     takes(&rt, &mut inode, 0, 2000, page(7));
     takes(&rt, &mut inode, 0, 2000, page(8));
     shows(&rt, &inode, 600, (false, None));
+    counts(&rt, &inode, 998, 0);
     drops(&rt, &mut inode, 0, 2000, 998);
+    counts(&rt, &inode, 0, 0);
     Ok(())
 }
 
