@@ -49,7 +49,8 @@ pub trait Service {
     ) -> Result<&'a [u8], Refusal>
         requires ready { is_ready self.old }
         requires room { 256 ≤ length room.old }
-        ensures answered { may_answer self.old (load_step access.now count) (bytes_reply result) self.new }
+        ensures answered { may_answer self.old (load_step access.now count)
+            (bytes_reply result) self.new }
         ensures ready { is_ready self.new }
         ensures same_page { page self.new ≡ page self.old }
         ensures few { IfOk result (λ bytes. length bytes.now ≤ 256) };
@@ -57,7 +58,8 @@ pub trait Service {
     /// Does the step of a store of these bytes.
     fn store(&mut self, access: &Access, bytes: &[u8]) -> Result<(), Refusal>
         requires ready { is_ready self.old }
-        ensures answered { may_answer self.old (store_step access.now bytes.now) (done_reply result) self.new }
+        ensures answered { may_answer self.old (store_step access.now bytes.now)
+            (done_reply result) self.new }
         ensures ready { is_ready self.new }
         ensures same_page { page self.new ≡ page self.old };
 

@@ -63,7 +63,8 @@ impl Replies {
         requires few { IfOk loaded (λ bytes. length bytes.now ≤ 256) }
         requires room { HasRoomForOne self.old }
         ensures page { self.new.page ≡ self.old.page }
-        ensures text { self.new.text ≡ self.old.text ++ line_of self.old.page (bytes_reply loaded.entry) }
+        ensures text { self.new.text ≡ self.old.text
+            ++ line_of self.old.page (bytes_reply loaded.entry) }
     {
         line_of_load(loaded, &mut self.waiting);
     }

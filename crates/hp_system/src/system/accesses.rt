@@ -29,8 +29,10 @@ impl<N: Naming> System<N> {
     ) -> Result<&'a [u8], Refusal>
         requires ready { IsReady self.old }
         requires room { 256 ≤ length room.old }
-        ensures step { IsStep self.old.state (load_step access.now count) (bytes_reply result) self.new.state }
-        ensures promised { IsPromised self.old.state (load_step access.now count) (bytes_reply result) self.new.state }
+        ensures step { IsStep self.old.state (load_step access.now count)
+            (bytes_reply result) self.new.state }
+        ensures promised { IsPromised self.old.state (load_step access.now count)
+            (bytes_reply result) self.new.state }
         ensures memory { takes_memory self.old.state (load_step access.now count) ≡ false
             → result ≢ Err Refusal.OutOfMemory }
         ensures size { self.new.state.page_size ≡ self.old.state.page_size }
@@ -43,8 +45,10 @@ impl<N: Naming> System<N> {
     /// Does the step of a store of these bytes, as `apply` does. Refused as a load of as many bytes.
     pub fn store(&mut self, access: &Access, bytes: &[u8]) -> Result<(), Refusal>
         requires ready { IsReady self.old }
-        ensures step { IsStep self.old.state (store_step access.now bytes.now) (done_reply result) self.new.state }
-        ensures promised { IsPromised self.old.state (store_step access.now bytes.now) (done_reply result) self.new.state }
+        ensures step { IsStep self.old.state (store_step access.now bytes.now)
+            (done_reply result) self.new.state }
+        ensures promised { IsPromised self.old.state (store_step access.now bytes.now)
+            (done_reply result) self.new.state }
         ensures memory { takes_memory self.old.state (store_step access.now bytes.now) ≡ false
             → result ≢ Err Refusal.OutOfMemory }
         ensures size { self.new.state.page_size ≡ self.old.state.page_size }
@@ -62,9 +66,10 @@ impl<N: Naming> System<N> {
     ) -> Result<&'a [u8], Refusal>
         requires ready { IsReady self.old }
         requires room { 256 ≤ length room.old }
-        ensures step { IsStep self.old.state (load_step access.now count) (bytes_reply result) self.new.state }
-        ensures memory { asks_memory (slot_at self.old.state access.now.slot) (load_event access.now count 0) ≡ false
-            → result ≢ Err Refusal.OutOfMemory }
+        ensures step { IsStep self.old.state (load_step access.now count)
+            (bytes_reply result) self.new.state }
+        ensures memory { asks_memory (slot_at self.old.state access.now.slot)
+            (load_event access.now count 0) ≡ false → result ≢ Err Refusal.OutOfMemory }
         ensures size { self.new.state.page_size ≡ self.old.state.page_size }
         ensures few { IfOk result (λ bytes. length bytes.now ≤ 256) }
         ensures ready { IsReady self.new }
@@ -78,9 +83,10 @@ impl<N: Naming> System<N> {
     #[inline(always)]
     fn store_of_task(&mut self, access: &Access, bytes: &[u8]) -> Result<(), Refusal>
         requires ready { IsReady self.old }
-        ensures step { IsStep self.old.state (store_step access.now bytes.now) (done_reply result) self.new.state }
-        ensures memory { asks_memory (slot_at self.old.state access.now.slot) (store_event access.now bytes.now 0) ≡ false
-            → result ≢ Err Refusal.OutOfMemory }
+        ensures step { IsStep self.old.state (store_step access.now bytes.now)
+            (done_reply result) self.new.state }
+        ensures memory { asks_memory (slot_at self.old.state access.now.slot)
+            (store_event access.now bytes.now 0) ≡ false → result ≢ Err Refusal.OutOfMemory }
         ensures size { self.new.state.page_size ≡ self.old.state.page_size }
         ensures ready { IsReady self.new }
     {
@@ -103,8 +109,8 @@ impl<N: Naming> System<N> {
         requires room { 256 ≤ length room.old }
         ensures done { DoesOnSlot self.old.state access.now.slot (load_event access.now count home)
             (bytes_reply result) self.new.state }
-        ensures memory { asks_memory (slot_at self.old.state access.now.slot) (load_event access.now count home) ≡ false
-            → result ≢ Err Refusal.OutOfMemory }
+        ensures memory { asks_memory (slot_at self.old.state access.now.slot)
+            (load_event access.now count home) ≡ false → result ≢ Err Refusal.OutOfMemory }
         ensures size { self.new.state.page_size ≡ self.old.state.page_size }
         ensures few { IfOk result (λ bytes. length bytes.now ≤ 256) }
         ensures ready { IsReady self.new }
@@ -137,10 +143,10 @@ impl<N: Naming> System<N> {
     #[inline(always)]
     fn store_on_slot(&mut self, home: u64, access: &Access, bytes: &[u8]) -> Result<(), Refusal>
         requires ready { IsReady self.old }
-        ensures done { DoesOnSlot self.old.state access.now.slot (store_event access.now bytes.now home)
-            (done_reply result) self.new.state }
-        ensures memory { asks_memory (slot_at self.old.state access.now.slot) (store_event access.now bytes.now home) ≡ false
-            → result ≢ Err Refusal.OutOfMemory }
+        ensures done { DoesOnSlot self.old.state access.now.slot
+            (store_event access.now bytes.now home) (done_reply result) self.new.state }
+        ensures memory { asks_memory (slot_at self.old.state access.now.slot)
+            (store_event access.now bytes.now home) ≡ false → result ≢ Err Refusal.OutOfMemory }
         ensures size { self.new.state.page_size ≡ self.old.state.page_size }
         ensures ready { IsReady self.new }
     {

@@ -25,7 +25,8 @@ impl<N: Naming> System<N> {
     // The limits that a mount's options mean at this moment: sizes in percent are of nr
     // (`admin-guide/mm/hugetlbpage.rst`). Refused as BadOption or MinOverSize.
     fn limits(&self, options: &Bytes) -> Result<Limits, Refusal>
-        ensures { result ≡ limits self.now.state.nr self.now.state.page_size (wanted_of options.now) }
+        ensures { result ≡ limits self.now.state.nr self.now.state.page_size
+            (wanted_of options.now) }
     {
         parse_options(options.as_slice(), self.pool.nr(), self.page_bytes())
     }
@@ -100,9 +101,10 @@ impl<N: Naming> System<N> {
     // nothing changes.
     pub(crate) fn on_slot(&mut self, slot: u64, home: u64, event: MountEvent<'_>) -> Reply
         requires ready { IsReady self.old }
-        ensures done { DoesOnSlot self.old.state slot (event_of home event.entry) result self.new.state }
-        ensures memory { asks_memory (slot_at self.old.state slot) (event_of home event.entry) ≡ false
-            → result ≢ Err Refusal.OutOfMemory }
+        ensures done { DoesOnSlot self.old.state slot (event_of home event.entry)
+            result self.new.state }
+        ensures memory { asks_memory (slot_at self.old.state slot) (event_of home event.entry)
+            ≡ false → result ≢ Err Refusal.OutOfMemory }
         ensures limits { is_usage (event_of home event.entry) ≡ true → IsWithinLimits result }
         ensures size { self.new.state.page_size ≡ self.old.state.page_size }
         ensures ready { IsReady self.new }
@@ -121,7 +123,8 @@ impl<N: Naming> System<N> {
     // The same for a task. Refused as NoSuchTask where it is not there.
     pub(crate) fn of_task(&mut self, task: u64, slot: u64, event: MountEvent<'_>) -> Reply
         requires ready { IsReady self.old }
-        ensures done { DoesOfTask self.old.state task slot (λ home. event_of home event.entry) result self.new.state }
+        ensures done { DoesOfTask self.old.state task slot (λ home. event_of home event.entry)
+            result self.new.state }
         ensures memory { asks_memory (slot_at self.old.state slot) (event_of 0 event.entry) ≡ false
             → result ≢ Err Refusal.OutOfMemory }
         ensures size { self.new.state.page_size ≡ self.old.state.page_size }

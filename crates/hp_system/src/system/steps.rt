@@ -79,7 +79,8 @@ impl<N: Naming> System<N> {
         requires ready { IsReady self.old }
         ensures step { IsStep self.old.state step.now result self.new.state }
         ensures promised { IsPromised self.old.state step.now result self.new.state }
-        ensures memory { takes_memory self.old.state step.now ≡ false → result ≢ Err Refusal.OutOfMemory }
+        ensures memory { takes_memory self.old.state step.now ≡ false
+            → result ≢ Err Refusal.OutOfMemory }
         ensures size { self.new.state.page_size ≡ self.old.state.page_size }
         ensures limits { IsWithinLimits result }
         ensures ready { IsReady self.new }
@@ -120,7 +121,8 @@ impl<N: Naming> System<N> {
         requires ready { IsReady self.old }
         ensures step { IsStep self.old.state step.now result self.new.state }
         ensures usage { is_usage step.now ≡ true → IsWithinLimits result }
-        ensures memory { takes_memory self.old.state step.now ≡ false → result ≢ Err Refusal.OutOfMemory }
+        ensures memory { takes_memory self.old.state step.now ≡ false
+            → result ≢ Err Refusal.OutOfMemory }
         ensures size { self.new.state.page_size ≡ self.old.state.page_size }
         ensures ready { IsReady self.new }
     {
@@ -243,7 +245,8 @@ impl<N: Naming> System<N> {
     /// replies is made first: where it is refused, nothing is done.
     pub fn run(&mut self, alloc: Global, steps: &[Step]) -> Result<Vec<Reply>, AllocError>
         requires ready { IsReady self.old }
-        ensures run { IfOk result (λ replies. IsPromisedRun self.old.state steps.now replies.items self.new.state) }
+        ensures run { IfOk result (λ replies. IsPromisedRun self.old.state steps.now
+            replies.items self.new.state) }
         ensures size { self.new.state.page_size ≡ self.old.state.page_size }
         ensures err { OnErr result (self.new.state ≡ self.old.state) }
         ensures ready { IsReady self.new }
