@@ -1,9 +1,11 @@
 -- A file that gives back, by what code did.
-use Rattle.std.proofs.Common.{◌≡◌, ℕ, zero, suc, ◌+◌, ◌-◌, ◌<◌, ◌≤◌, ◌==◌, ⊎_elim, ◌⊎◌, nat_lt, Bool, true, false, cond, List, [], ◌∷◌, Option, Some, None, Ok, Err, length, map, refl, sym, ap, subst, ◌∙◌, arith}
+use Rattle.std.proofs.Common.{◌≡◌, ℕ, zero, suc, ◌+◌, ◌-◌, ◌<◌, ◌≤◌, ◌==◌, ⊎_elim, ◌⊎◌, nat_lt, Bool, true, false, cond, not, List, [], ◌∷◌, Option, Some, None, Ok, Err, length, map, refl, sym, ap, subst, ◌∙◌, arith}
 use Rattle.std.specs.Prelude.{slice_set}
 use Rattle.std.specs.List.{All, count_by, filter, sum_by}
 use Rattle.std.proofs.lemmas.Bool.Decides.{nat_tests}
+use Rattle.std.proofs.lemmas.List.{length-set}
 use Rattle.std.proofs.lemmas.List.Elements.{All-cons, All-filter, All-set}
+use Rattle.std.proofs.lemmas.List.Filters.{length-filter_both}
 use Rattle.hp_model.specs.declared.answer.Answer.TheVariants.{Done}
 use Rattle.hp_model.specs.declared.refusal.Refusal.{Refusal}
 use Rattle.hp_model.specs.declared.refusal.Refusal.TheVariants as r
@@ -14,6 +16,7 @@ use Rattle.hp_model.specs.files.GiveBack.{is_kept, swept}
 use Rattle.hp_model.specs.files.Mapping.{Map, is_shared, map_punched}
 use Rattle.hp_model.specs.files.MountCounts.{file_pages, file_pages_at, file_reserves, usage_of}
 use Rattle.hp_model.specs.files.Page.{Page}
+use Rattle.hp_model.specs.Profile.{most_files}
 use Rattle.hp_model.specs.machine.Plan.{Choice, Plan, fall_of, gives, unless, with_value}
 use Rattle.hp_model.specs.machine.Promises.{file_in}
 use Rattle.hp_model.specs.machine.SlotEvent.{edited, file_named, is_bad_range}
@@ -65,6 +68,7 @@ module _ (s : Subpool) (v w : Files) (inodes : Option ℕ) (c : IsKept s v (moun
         used = omega (arith, pages, held);
         room = omega (arith, room, more);
         going = refl;
+        few = subst (λ fs. length fs ≤ most_files) (sym w_is) (let both = length-filter_both is_kept (λ x. not (is_kept x)) (λ x. refl) (slice_set v.files k g) in let long = length-set v.files k g in let few = c.few in omega (arith, both, long, few));
         plain = subst (All AreShared) (sym w_is) (All-filter is_kept AreShared (slice_set v.files k g) (All-set AreShared v.files k g shared c.plain));
       }))
 

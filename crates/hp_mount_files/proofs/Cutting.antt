@@ -138,6 +138,45 @@ module _ (n end : ℕ) (cells bare gone : List (Cell ℕ)) (end_is : end ≡ len
       none_there zero = refl
       none_there (suc r) = (let rest = none_there r in omega (arith, rest, sum_by-cons (in_cell k) Hole (replicate r Hole)))
 
+-- ---- what waits for a page, once all pages went
+
+entered_punched : (c : Cell ℕ) → cond {A = ℕ} (is_entered (cell_punched c)) 1 0 ≡ cond (is_waiting c) 1 0
+entered_punched Hole = refl
+entered_punched Entered = refl
+entered_punched (Present k) = refl
+
+waiting_mapped : (cells : List (Cell ℕ)) → count_by is_entered (map cell_punched cells) ≡ count_by is_waiting cells
+waiting_mapped [] = refl
+waiting_mapped (x ∷ xs) =
+    let here = entered_punched x in
+    let rest = waiting_mapped xs in
+    omega (arith, here, rest, count_cons is_entered (cell_punched x) (map cell_punched xs), count_cons is_waiting x xs)
+
+module _ {X : Type 0} (f : X → X) where
+  taken : (xs : List X) → map f (take (length xs) xs) ++ drop (length xs) xs ≡ map f xs
+  taken [] = refl
+  taken (x ∷ xs) = ap (λ ys. f x ∷ ys) (taken xs)
+
+  -- all of a list is edited
+  edited_all : (xs : List X) → take 0 xs ++ map f (take (length xs) (drop 0 xs)) ++ drop (length xs) (drop 0 xs) ≡ map f xs
+  edited_all [] = refl
+  edited_all (x ∷ xs) = ap (λ ys. f x ∷ ys) (taken xs)
+
+  all_taken : (xs : List X) → take (length xs) (map f xs) ≡ map f xs
+  all_taken [] = refl
+  all_taken (x ∷ xs) = ap (λ ys. f x ∷ ys) (all_taken xs)
+
+  all_part : (xs : List X) → take (length xs) (drop 0 (map f xs)) ≡ map f xs
+  all_part [] = refl
+  all_part (x ∷ xs) = ap (λ ys. f x ∷ ys) (all_taken xs)
+
+pub all_waiting : (len : ℕ) (cells bare : List (Cell ℕ)) → len ≡ length cells → bare ≡ edit_range cell_punched 0 len cells → count_by is_entered (part 0 len bare) ≡ count_by is_waiting cells
+all_waiting len cells bare len_is bare_is =
+    let same : len - 0 ≡ length cells = omega (arith, len_is) in
+    let mapped = bare_is ∙ ap (λ m. take 0 cells ++ map cell_punched (take m (drop 0 cells)) ++ drop m (drop 0 cells)) same ∙ edited_all cell_punched cells in
+    ap (λ m. count_by is_entered (take m (drop 0 bare))) same ∙ ap (λ cs. count_by is_entered (take (length cells) (drop 0 cs))) mapped
+    ∙ ap (count_by is_entered) (all_part cell_punched cells) ∙ waiting_mapped cells
+
 pub cut_file : (n end : ℕ) (old left : NumberedFile) (cells : List (Cell ℕ)) → end ≡ length old.cells → left ≡ with_punched n (n + end) old → cells ≡ cells_to n old.cells → record left { cells = cells } ≡ with_truncated n old
 cut_file n end old left cells end_is left_is cells_is =
     ap (λ cs. record left { cells = cs }) cells_is

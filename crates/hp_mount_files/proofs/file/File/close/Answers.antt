@@ -1,11 +1,13 @@
 use Rattle.std.proofs.Common.{◌≡◌, [], ◌+◌, ap, refl, sym, ◌∙◌, arith}
-use Rattle.std.specs.List.{sum_by}
+use Rattle.std.specs.List.{count_by, sum_by}
 use Rattle.std.proofs.lemmas.List.Sums.{sum_by_push}
 use Rattle.hp_model.specs.files.File.{cell_punched}
+use Rattle.hp_model.specs.files.MountCounts.{is_waiting}
 use Rattle.hp_model.specs.Lists.{edit_range}
 use Rattle.hp_mount_files.specs.Held.{in_cell, in_file, in_map}
-use Rattle.hp_mount_files.proofs.Cutting.{bare_pages, no_copies, no_pages}
+use Rattle.hp_mount_files.proofs.Cutting.{all_waiting, bare_pages, no_copies, no_pages}
 use Rattle.hp_mount_files.proofs.Drops.{drop_as, drop_then}
+use Rattle.hp_mount_files.specs.Numbered.{NumberedFile}
 use Rattle.hp_mount_files.proofs.file.File.close.Goals as goal
 
 pub loop-map-init : goal.loop-map-init
@@ -46,3 +48,8 @@ drop_entries-requires-clause-pageless g c =
     let len = c.len-len.result in
     let same : 0 + len ≡ len = omega arith in
     bare_pages 0 len c.self.inside.inode c.drop_pages.new.inode [] c.len-len.ensures.len (c.drop_pages.ensures.cells ∙ ap (λ b. edit_range cell_punched 0 b c.self.inside.inode) (sym same)) 0 (omega arith)
+
+pub returns-clause-entries : goal.returns-clause-entries
+returns-clause-entries g c =
+    c.drop_entries.ensures.count ∙ all_waiting c.len-len.result c.self.inside.inode c.drop_pages.new.inode c.len-len.ensures.len c.drop_pages.ensures.cells
+    ∙ ap (λ (f : NumberedFile). count_by is_waiting f.cells) c.self.view_is
