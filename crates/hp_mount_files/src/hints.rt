@@ -71,6 +71,22 @@ impl Hints {
         let _place = self.files.swap_remove(name);
     }
 
+    /// The places of the files behind `file`, and of their maps, go down by one. Takes a step for each place, and no memory.
+    pub(crate) fn move_down(&mut self, file: usize)
+        ensures { self.new ≡ self.old }
+    {
+        for at in self.files.values_mut() {
+            if *at > file {
+                *at -= 1;
+            }
+        }
+        for at in self.maps.values_mut() {
+            if at.file > file {
+                at.file -= 1;
+            }
+        }
+    }
+
     /// Notes where a map is. Refused where memory is, and then nothing changes.
     pub(crate) fn note_map(
         &mut self,
