@@ -1,5 +1,5 @@
 -- Pages and reservations that go back, by what code did.
-use Rattle.std.proofs.Common.{◌≡◌, ℕ, suc, zero, ◌+◌, ◌-◌, ◌<◌, ◌==◌, ◌&&◌, Bool, true, false, List, [], ◌∷◌, Some, None, Ok, Err, length, map, refl, sym, ap, subst, ◌∙◌, arith}
+use Rattle.std.proofs.Common.{◌≡◌, ℕ, suc, zero, ◌+◌, ◌-◌, ◌<◌, ◌==◌, ◌&&◌, Bool, true, false, List, ◌∷◌, Some, None, Ok, map, refl, sym, ap, subst, ◌∙◌, arith}
 use Rattle.std.specs.List.{count_by, range_with_len, sum}
 use Rattle.std.proofs.lemmas.Bool.{and_parts, cond_both, eqb-true}
 use Rattle.hp_model.specs.declared.answer.Answer.{Answer}

@@ -1,7 +1,7 @@
 -- A file that gives back, by what code did.
-use Rattle.std.proofs.Common.{◌≡◌, ℕ, zero, suc, ◌+◌, ◌-◌, ◌<◌, ◌≤◌, ◌==◌, ⊎_elim, ◌⊎◌, nat_lt, Bool, true, false, cond, not, List, [], ◌∷◌, Option, Some, None, Ok, Err, length, map, refl, sym, ap, subst, ◌∙◌, arith}
+use Rattle.std.proofs.Common.{◌≡◌, ℕ, suc, ◌+◌, ◌<◌, ◌≤◌, ◌==◌, ⊎_elim, ◌⊎◌, nat_lt, Bool, true, false, not, List, [], ◌∷◌, Option, Some, None, Ok, Err, length, map, refl, sym, ap, subst, ◌∙◌, arith}
 use Rattle.std.specs.Prelude.{slice_set}
-use Rattle.std.specs.List.{All, count_by, filter, sum_by}
+use Rattle.std.specs.List.{All, count_by, sum_by}
 use Rattle.std.proofs.lemmas.Bool.Decides.{nat_tests}
 use Rattle.std.proofs.lemmas.List.{length-set}
 use Rattle.std.proofs.lemmas.List.Elements.{All-cons, All-filter, All-set}
@@ -11,27 +11,26 @@ use Rattle.hp_model.specs.declared.refusal.Refusal.{Refusal}
 use Rattle.hp_model.specs.declared.refusal.Refusal.TheVariants as r
 use Rattle.hp_model.specs.declared.section.PoolAnswer.{PoolAnswer}
 use Rattle.hp_model.specs.declared.section.Section.{Section}
-use Rattle.hp_model.specs.files.File.{File, Mount, new_file, with_file}
+use Rattle.hp_model.specs.files.File.{File, Mount, with_file}
 use Rattle.hp_model.specs.files.GiveBack.{is_kept, swept}
 use Rattle.hp_model.specs.files.Mapping.{Map, is_shared, map_punched}
-use Rattle.hp_model.specs.files.MountCounts.{file_pages, file_pages_at, file_reserves, usage_of}
+use Rattle.hp_model.specs.files.MountCounts.{file_pages, file_reserves}
 use Rattle.hp_model.specs.files.Page.{Page}
 use Rattle.hp_model.specs.Profile.{most_files}
-use Rattle.hp_model.specs.machine.Plan.{Choice, Plan, fall_of, gives, unless, with_value}
+use Rattle.hp_model.specs.machine.Plan.{Plan, fall_of, gives, unless, with_value}
 use Rattle.hp_model.specs.machine.Promises.{file_in}
 use Rattle.hp_model.specs.machine.SlotEvent.{edited, file_named, is_bad_range}
 use Rattle.hp_model.specs.threads.LocalRun.{ThroughDoor}
 use Rattle.hp_mount_door.specs.Door.{GivesBack, with_less}
 use Rattle.hp_mount_files.specs.Dropping.{IsLeft}
-use Rattle.hp_mount_files.specs.Files.{Files, edited_at, file_at}
+use Rattle.hp_mount_files.specs.Files.{Files, edited_at}
 use Rattle.hp_mount.specs.Done.{Tried}
 use Rattle.hp_mount.specs.Found.{first_of}
 use Rattle.hp_mount.specs.Kept.{AreShared, IsKept, mount_of}
 use Rattle.hp_mount.proofs.Commands.{tests_fail, tests_pass}
 use Rattle.hp_mount.proofs.Ending.{gave}
-use Rattle.hp_mount.proofs.Keeping.{shared_here}
 use Rattle.hp_mount.proofs.Ways.{fresh_choice, is_fresh, refused_at}
-use Rattle.hp_subpool.specs.Subpool.{Subpool, fall, used}
+use Rattle.hp_subpool.specs.Subpool.{Subpool, fall}
 
 -- ---- the share and the files that are left: w is what the files are before the pages go back
 

@@ -15,7 +15,6 @@ use Rattle.hp_model.specs.files.File.{cell_punched, has_page, page_of}
 use Rattle.hp_model.specs.Lists.{edit_range, found, part}
 use Rattle.hp_model.specs.files.Mapping.{Mapping, copy_of, map_punched, place_at, without_copy}
 use Rattle.hp_model.specs.files.Page.{Page}
-use Rattle.hp_model.proofs.Counting.{count_cons}
 use Rattle.hp_store.specs.Store as store
 use Rattle.hp_store.specs.Store.{Holding, Store, held_count, held_once_less, holders_of, one_if_held, page_at}
 use Rattle.hp_model.specs.machine.Promises.{is_in}

@@ -1,5 +1,5 @@
 -- A file that gives back: pages that it lost go, and the other files keep theirs.
-use Rattle.std.proofs.Common.{◌≡◌, ◌≢◌, ℕ, zero, suc, ◌+◌, ◌-◌, ◌<◌, ◌≤◌, ◌==◌, ◌||◌, nat_lt, ⊎_elim, Bool, true, false, cond, None, Some, List, [], ◌∷◌, ◌++◌, length, take, drop, map, replicate, refl, sym, ap, subst, ◌∙◌, arith}
+use Rattle.std.proofs.Common.{◌≡◌, ◌≢◌, ℕ, zero, suc, ◌+◌, ◌-◌, ◌<◌, ◌≤◌, ◌==◌, ◌||◌, nat_lt, ⊎_elim, true, false, cond, None, Some, List, [], ◌∷◌, ◌++◌, length, take, drop, map, replicate, refl, sym, ap, subst, ◌∙◌, arith}
 use Rattle.std.specs.Prelude.{is_some, slice_set, slice_index_or}
 use Rattle.std.specs.List.{All, count_by, filter, sum_by}
 use Rattle.std.proofs.lemmas.Bool.Decides.{eqb_tells}
@@ -12,16 +12,16 @@ use Rattle.hp_model.specs.declared.place.Place.TheVariants.{Gone, Live}
 use Rattle.hp_model.specs.files.File.{File, cell_punched, cells_to, new_file}
 use Rattle.hp_model.specs.files.GiveBack.{is_kept, punched, truncated}
 use Rattle.hp_model.specs.files.Mapping.{Map, Mapping, is_unconsumed, map_punched, without_copy}
-use Rattle.hp_model.specs.files.MountCounts.{file_pages, file_pages_at, file_reserves, is_waiting, owner_reserves}
+use Rattle.hp_model.specs.files.MountCounts.{file_reserves, is_waiting, owner_reserves}
 use Rattle.hp_model.specs.files.Page.{Copy, Page}
 use Rattle.hp_model.specs.Lists.{edit_range}
 use Rattle.hp_model.proofs.Counting.{count_alike, count_map}
 use Rattle.hp_model.proofs.Editing.{sum_by-edit_range}
 use Rattle.hp_laws.proofs.Places.{sum_by-map_le}
-use Rattle.hp_store.specs.Store.{Store, held_count, holders_of, page_at}
+use Rattle.hp_store.specs.Store.{Store, holders_of, page_at}
 use Rattle.hp_mount_files.specs.Dropping.{IsDropping, IsLeft}
 use Rattle.hp_mount_files.specs.Files.{edited_at, file_at}
-use Rattle.hp_mount_files.specs.Held.{IsHeld, in_cell, in_cells, in_file, in_files, in_map, in_place, more_in}
+use Rattle.hp_mount_files.specs.Held.{IsHeld, in_cell, in_cells, in_file, in_files, more_in}
 use Rattle.hp_mount_files.specs.Hints.{AreNoted, IsFiles, Noted}
 use Rattle.hp_mount_files.specs.Keyed.{IsKeyed, Label, is_listed, key_of, label_of, labels_of}
 use Rattle.hp_mount_files.specs.Numbered.{NumberedFile, cell_shown, file_shown, files_shown, map_shown, numbered_at, place_shown, with_punched, with_truncated}

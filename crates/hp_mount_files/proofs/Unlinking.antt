@@ -1,6 +1,6 @@
 -- A file that loses its name, and goes where it has no maps.
-use Rattle.std.proofs.Common.{◌≡◌, ℕ, zero, suc, ◌+◌, ◌-◌, ◌<◌, ◌≤◌, ◌||◌, nat_lt, ⊎_elim, Bool, true, false, cond, None, Some, List, [], ◌∷◌, ◌++◌, length, take, drop, map, refl, sym, ap, subst, ◌∙◌, arith}
-use Rattle.std.specs.Prelude.{is_some, slice_set, slice_index_or}
+use Rattle.std.proofs.Common.{◌≡◌, ℕ, zero, suc, ◌+◌, ◌<◌, ◌≤◌, nat_lt, ⊎_elim, Bool, true, false, cond, None, List, [], ◌∷◌, ◌++◌, length, map, refl, sym, ap, subst, ◌∙◌, arith}
+use Rattle.std.specs.Prelude.{slice_set, slice_index_or}
 use Rattle.std.specs.List.{All, count_by, filter, flat_map, remove, sum_by}
 use Rattle.std.specs.Str.{bytes_eq}
 use Rattle.std.proofs.lemmas.Slice.Eq.{bytes_eq-Decides}
@@ -11,9 +11,9 @@ use Rattle.std.proofs.lemmas.List.Edits.{get_or-remove_above, get_or-remove_belo
 use Rattle.std.proofs.lemmas.List.Elements.{All-cons, All-set}
 use Rattle.std.proofs.lemmas.List.Sums.{sum_by-remove, sum_by-set}
 use Rattle.indexmap.proofs.SetLemmas.{map-remove}
-use Rattle.hp_model.specs.files.File.{File, new_file}
+use Rattle.hp_model.specs.files.File.{new_file}
 use Rattle.hp_model.specs.files.GiveBack.{is_kept, unlinked}
-use Rattle.hp_model.specs.files.MountCounts.{file_pages, file_pages_at, file_reserves, is_waiting, owner_reserves}
+use Rattle.hp_model.specs.files.MountCounts.{file_reserves, is_waiting, owner_reserves}
 use Rattle.hp_model.specs.Lists.{distinct}
 use Rattle.hp_model.specs.machine.SlotEvent.{has_name}
 use Rattle.hp_laws.proofs.Places.{found_place}
@@ -22,9 +22,9 @@ use Rattle.hp_mount_files.specs.Dropping.{IsDropping, IsLeft}
 use Rattle.hp_mount_files.specs.Files.{edited_at, file_at}
 use Rattle.hp_mount_files.specs.Held.{IsHeld, in_cell, in_cells, in_file, in_files, more_in}
 use Rattle.hp_mount_files.specs.Hints.{AreNoted, IsFiles, IsMoreBut, Noted, has_name as has_noted}
-use Rattle.hp_mount_files.specs.Keyed.{IsKeyed, Label, has_label, is_listed, key_of, keys_in, label_of, labels_of, tasks_in}
+use Rattle.hp_mount_files.specs.Keyed.{Label, has_label, is_listed, key_of, keys_in, label_of, labels_of, tasks_in}
 use Rattle.hp_mount_files.specs.Places.{IsNamed}
-use Rattle.hp_mount_files.specs.Numbered.{NumberedFile, cell_shown, file_shown, files_shown, map_shown, numbered_at}
+use Rattle.hp_mount_files.specs.Numbered.{NumberedFile, file_shown, files_shown, map_shown, numbered_at}
 use Rattle.hp_mount_files.proofs.Alike.{alike_held}
 use Rattle.hp_mount_files.proofs.Cells.{file_is, no_file}
 use Rattle.hp_mount_files.proofs.GivingBack.{all_kept, in_all, kept_label, waits_shown}

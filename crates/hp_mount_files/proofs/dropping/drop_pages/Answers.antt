@@ -1,6 +1,5 @@
 use Rattle.std.proofs.Common.{ℕ, ap, arith, sym, ◌∙◌}
 use Rattle.std.specs.List.{sum_by}
-use Rattle.hp_store.specs.Store.{page_at}
 use Rattle.hp_mount_files.specs.Held.{in_cell}
 use Rattle.hp_mount_files.proofs.Drops.{IsTaken, drop_as, drop_next, still_held, taken, unchanged, untaken}
 use Rattle.hp_mount_files.proofs.dropping.drop_pages.Goals as goal

@@ -5,7 +5,7 @@ use Rattle.hp_model.specs.declared.refusal.Refusal.TheVariants.{NoSuchFile, OutO
 use Rattle.hp_model.specs.files.File.{Mount}
 use Rattle.hp_model.specs.files.GiveBack.{truncated}
 use Rattle.hp_model.specs.machine.Plan.{gives}
-use Rattle.hp_model.specs.machine.SlotEvent.{edited, is_bad_range}
+use Rattle.hp_model.specs.machine.SlotEvent.{edited}
 use Rattle.hp_model.specs.threads.LocalRun.{ThroughDoor}
 use Rattle.hp_mount_files.specs.Files.{file_at}
 use Rattle.hp_mount.specs.Done.{IsDone}

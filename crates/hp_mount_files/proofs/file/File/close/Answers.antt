@@ -1,4 +1,4 @@
-use Rattle.std.proofs.Common.{◌≡◌, [], ◌+◌, ap, refl, sym, ◌∙◌, arith}
+use Rattle.std.proofs.Common.{◌≡◌, [], ◌+◌, ap, sym, ◌∙◌, arith}
 use Rattle.std.specs.List.{count_by, sum_by}
 use Rattle.std.proofs.lemmas.List.Sums.{sum_by_push}
 use Rattle.hp_model.specs.files.File.{cell_punched}

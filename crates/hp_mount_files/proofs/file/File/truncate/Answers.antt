@@ -1,4 +1,4 @@
-use Rattle.std.proofs.Common.{[], ap, refl, sym, ◌∙◌, arith, length}
+use Rattle.std.proofs.Common.{[], ap, ◌∙◌, arith, length}
 use Rattle.std.specs.List.{sum_by}
 use Rattle.hp_mount_files.specs.Held.{in_cell, in_file}
 use Rattle.hp_mount_files.specs.Numbered.{NumberedFile}
