@@ -3,7 +3,7 @@ ghost use Rattle.std.specs.Prelude.{◌≡◌};
 ghost use Rattle.hp_mount_door.specs.Door.{IsReady};
 ghost use Rattle.hp_pool.specs.Ledgers.{AreLedgers};
 
-use hp_model::answer::Answer;
+use hp_model::answer::{Answer, Reply};
 use hp_model::naming::Naming;
 use hp_model::refusal::Refusal;
 use hp_model::step::{Intent, Reserving};
@@ -48,6 +48,14 @@ fn access(map: u64, index: u64) -> MapAccess {
         map,
         index,
     }
+}
+
+// The answer of two bytes.
+fn two(first: u8, second: u8) -> Reply {
+    let mut bytes = [0u8; 256];
+    bytes[0] = first;
+    bytes[1] = second;
+    Ok(Answer::Bytes { count: 2, bytes })
 }
 
 // Whether a load from byte 1022 on answers these bytes.
