@@ -248,7 +248,7 @@ impl<N: Naming> System<N> {
         ensures run { IfOk result (λ replies. IsPromisedRun self.old.state steps.now
             replies.items self.new.state) }
         ensures size { self.new.state.page_size ≡ self.old.state.page_size }
-        ensures err { OnErr result (self.new.state ≡ self.old.state) }
+        ensures err { OnErr result (self.new ≡ self.old) }
         ensures ready { IsReady self.new }
     {
         let mut replies = Vec::with_capacity(alloc, steps.len())?;
