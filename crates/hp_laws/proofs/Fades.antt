@@ -20,7 +20,7 @@ use Rattle.hp_model.specs.machine.SlotEvent.{fork_tests, slot_event}
 use Rattle.hp_model.specs.files.Spot.{Spot}
 use Rattle.hp_model.specs.machine.State.{State, slot_at}
 use Rattle.hp_model.specs.machine.Table.{home_of, removed, when_known}
-use Rattle.hp_model.specs.machine.Step.{Answer_with, Do, IsBuiltStep, IsScript, Script, Where_mapped, exit_slots, fork_slots, or_undone, script, undone, when_done}
+use Rattle.hp_model.specs.machine.Step.{Answer_with, Do, IsScripted, IsScript, Script, Where_mapped, exit_slots, fork_slots, or_undone, script, undone, when_done}
 use Rattle.hp_laws.specs.Balance.{Always, left_by}
 use Rattle.hp_laws.proofs.Changes.{KeptMap, SlotKeeps}
 use Rattle.hp_laws.proofs.Falls.{forked_falls, without_falls}
@@ -220,13 +220,13 @@ module _ (gone : ℕ) where
 
 -- ---- fork and exit
 
-pub fork_fade : (s : State) (parent child : ℕ) (reply : Reply) (t : State) → IsBuiltStep s (Fork parent child) reply t → AllFade child s t
+pub fork_fade : (s : State) (parent child : ℕ) (reply : Reply) (t : State) → IsScripted s (Fork parent child) reply t → AllFade child s t
 fork_fade s parent child reply t is =
     let ks = range_with_len 0 (length s.slots) in
     script_fades child (script (length s.slots) (Fork parent child))
     (tt, λ r. when_of child r (fork_slots ks [] parent child) (forks_of child ks [] parent)) s reply t is
 
-pub exit_fade : (s : State) (task : ℕ) (reply : Reply) (t : State) → IsBuiltStep s (Exit task) reply t → AllFade task s t
+pub exit_fade : (s : State) (task : ℕ) (reply : Reply) (t : State) → IsScripted s (Exit task) reply t → AllFade task s t
 exit_fade s task reply t is =
     let ks = range_with_len 0 (length s.slots) in
     script_fades task (script (length s.slots) (Exit task))
@@ -237,7 +237,7 @@ exits_done task r t [] s is = (let never : Err r ≡ Ok Done = is.0 in cc)
 exits_done task r t (k ∷ ks) s is = either_way (has_maps_of task (slot_at s k)) (λ it. exits_done task r t ks it.1 it.3) (λ it. exits_done task r t ks s it) is
 
 -- what a refused exit left is as it was
-pub exit_refused : (s : State) (task : ℕ) (r : Refusal) (t : State) → IsBuiltStep s (Exit task) (Err r) t → t ≡ s
+pub exit_refused : (s : State) (task : ℕ) (r : Refusal) (t : State) → IsScripted s (Exit task) (Err r) t → t ≡ s
 exit_refused s task r t is = by_home (home_of s.table task) is.0 is.1 is.2.2 is.3
   where
     by_home : (o : Option ℕ) (q : Reply) (mid : State) → with_table s (when_known s.table o (λ home. (Ok Done, removed s.table task))) ≡ (q, mid)

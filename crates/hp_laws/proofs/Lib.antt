@@ -59,6 +59,7 @@ pub mod SlotKept
 pub mod Fades
 pub mod Swept
 pub mod Undone
+pub mod Parents
 pub mod LeavesWalk
 pub mod PlanRules
 pub mod EventsSound

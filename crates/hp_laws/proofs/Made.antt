@@ -1,7 +1,7 @@
 -- A created file and a new map are what their reply says.
 use Rattle.std.proofs.Common.{◌≡◌, subst, ℕ, ◌<◌, ◌||◌, Bool, true, false, not, None, Option, Some, Err, List, [], ◌∷◌, ◌++◌, length, drop, is_some, option_map, refl, sym, ap, ◌∙◌, get_or, if◌then◌else◌}
 use Rattle.std.specs.List.{flat_map, list_any, slice_index_or, slice_set}
-use Rattle.std.proofs.lemmas.Bool.{eq-eqb, false_from_ne_true, ltb-true}
+use Rattle.std.proofs.lemmas.Bool.{eq-eqb, eqb-true, false_from_ne_true, ltb-true}
 use Rattle.std.proofs.lemmas.List.{get_or-set_same}
 use Rattle.std.proofs.lemmas.Slice.Eq.{bytes_eq-Decides}
 use Rattle.std.proofs.lemmas.List.Folds.{list_any_at}
@@ -11,7 +11,7 @@ use Rattle.hp_model.specs.declared.refusal.Refusal.TheVariants.{BadName, FileExi
 use Rattle.hp_model.specs.declared.step.Reserving.{Reserving}
 use Rattle.hp_model.specs.declared.step.Sharing.{Sharing}
 use Rattle.hp_model.specs.declared.step.Step.{Step}
-use Rattle.hp_model.specs.declared.step.Step.TheVariants.{Create as CreateStep, Map as MapStep}
+use Rattle.hp_model.specs.declared.step.Step.TheVariants.{Anon as AnonStep, Create as CreateStep, Map as MapStep}
 use Rattle.hp_model.specs.declared.event.Event.{Event}
 use Rattle.hp_model.specs.declared.event.Event.TheVariants.{Tasks, Slot as OnSlot, Pool as OnPool}
 use Rattle.hp_model.specs.declared.event.PoolEvent.TheVariants as pool
@@ -21,12 +21,12 @@ use Rattle.hp_model.specs.Lists.{found, one_on}
 use Rattle.hp_model.specs.files.MakeMap.{asked, mapped, new_map, next_number, numbers_of, with_new}
 use Rattle.hp_model.specs.files.Mapping.{Map, is_map}
 use Rattle.hp_model.specs.machine.Plan.{Choice, Outcome, Refused, Answered, Finish, Plan, Reply, Slot, grant, unless}
-use Rattle.hp_model.specs.machine.Promises.{IsNewFile, IsNewMap, Makes}
+use Rattle.hp_model.specs.machine.Promises.{IsNewAnon, IsNewFile, IsNewMap, Makes}
 use Rattle.hp_model.specs.machine.State.{State, slot_at}
 use Rattle.hp_model.specs.machine.Step.{IsStep}
 use Rattle.hp_model.specs.machine.Event.{IsEvent}
 use Rattle.hp_laws.specs.Balance.{left_by}
-use Rattle.hp_model.specs.machine.SlotEvent.{create_tests, file_named, has_name, is_name, map_file, map_tests, slot_event}
+use Rattle.hp_model.specs.machine.SlotEvent.{anon_tests, create_tests, file_named, has_name, is_name, map_file, map_tests, slot_event}
 use Rattle.hp_model.specs.declared.event.SlotEvent.TheVariants as slot
 use Rattle.hp_model.specs.files.Spot.{Spot, spot, spot_in}
 use Rattle.hp_model.proofs.Distinct.{or_assoc}
@@ -104,6 +104,23 @@ module _ (m : Mount) (task : ℕ) where
         ),
       )
 
+  pub anon_is_new : (n : ℕ) (sharing : Sharing) (reserving : Reserving)
+      → IsNewAnon (Some m) (Some (with_new m (mapped task number 0 n sharing reserving (new_file None)))) task number n sharing reserving
+  anon_is_new n sharing reserving =
+      let new = new_map task number 0 n sharing reserving in
+      let g = mapped task number 0 n sharing reserving (new_file None) in
+      let passes : is_map task number new ≡ true = rw (eq-eqb task task refl, eq-eqb number number refl) refl in
+      let made : Spot = record { file_no = length m.files; file = g; map_no = 0; map = new } in (
+        number_is_new,
+        (
+          made,
+          spot_some (with_new m g) (is_map task number) (length m.files, g) (0, new) (found_last has_it m.files g unused (rw passes refl))
+              (found_last (is_map task number) [] new refl passes),
+          refl,
+          refl,
+        ),
+      )
+
 -- ---- events
 
 abbrev MapMade : Slot → List ℕ → (task a n : ℕ) → Sharing → Reserving → Outcome → Type 0
@@ -120,6 +137,20 @@ map_made size k c (Some m) task home name a n sharing reserving =
     (λ f is. (let done : Outcome = Answered (MapNo (next_number task m)) (Some (with_file m f.0 (mapped task (next_number task m) a n sharing reserving f.1))) in
     always_unless P (λ r. tt) (map_tests m task a n) (grant c m home (asked sharing reserving a n f.1) done)
     (always_grant P (λ r. tt) c m home (asked sharing reserving a n f.1) done (map_is_new m task name a n sharing reserving f is))))
+
+abbrev AnonMade : Slot → (task n : ℕ) → Sharing → Reserving → Outcome → Type 0
+AnonMade old task n sharing reserving (Refused r) = Unit {0}
+AnonMade old task n sharing reserving (Answered (MapNo number) new) = IsNewAnon old new task number n sharing reserving
+AnonMade old task n sharing reserving (Answered other new) = ⊥
+
+anon_made : (size k : ℕ) (c : Choice) (old : Slot) (task home n : ℕ) (sharing : Sharing) (reserving : Reserving)
+    → Always (AnonMade old task n sharing reserving) (slot_event size k c old (slot.Anon task home n sharing reserving))
+anon_made size k c None task home n sharing reserving = tt
+anon_made size k c (Some m) task home n sharing reserving =
+    let P = AnonMade (Some m) task n sharing reserving in
+    let wanted : ℕ = asked sharing reserving 0 n (new_file None) in
+    let done : Outcome = Answered (MapNo (next_number task m)) (Some (with_new m (mapped task (next_number task m) 0 n sharing reserving (new_file None)))) in
+    always_unless P (λ r. tt) (anon_tests m task n) (grant c m home wanted done) (always_grant P (λ r. tt) c m home wanted done (anon_is_new m task n sharing reserving))
 
 same_name : (name : List ℕ) → has_name name (new_file (Some name)) ≡ true
 same_name name = (bytes_eq-Decides name name).1 refl
@@ -161,6 +192,7 @@ module _ (s : State) where
   makes_none : (t : State) (step : Step) (r : Refusal) → Makes s step (Err r) t
   makes_none t (CreateStep k name) r = tt
   makes_none t (MapStep task k name a n sharing reserving) r = tt
+  makes_none t (AnonStep task n sharing reserving) r = tt
   makes_none t other r = tt
 
   module _ (t : State) (k : ℕ) (l : k < length s.slots) where
@@ -178,6 +210,13 @@ module _ (s : State) where
     map_makes task name a n sharing reserving (Answered (MapNo number) new) h slots = subst (λ x. IsNewMap (slot_at s k) x name (new_map task number a n sharing reserving)) (sym (left_there new slots)) h
     map_makes task name a n sharing reserving (Answered other new) h slots = absurd h
 
+    anon_makes : (task n : ℕ) (sharing : Sharing) (reserving : Reserving) (o : Outcome) → k ≡ 0 → AnonMade (slot_at s k) task n sharing reserving o
+        → t.slots ≡ slice_set s.slots k (left_by (slot_at s k) o) → Makes s (AnonStep task n sharing reserving) (reply_of o) t
+    anon_makes task n sharing reserving (Refused r) first h slots = tt
+    anon_makes task n sharing reserving (Answered (MapNo number) new) first h slots =
+        subst (λ i. IsNewAnon (slot_at s i) (slot_at t i) task number n sharing reserving) first (subst (λ x. IsNewAnon (slot_at s k) x task number n sharing reserving) (sym (left_there new slots)) h)
+    anon_makes task n sharing reserving (Answered other new) first h slots = absurd h
+
   event_makes : (e : Event) (reply : Reply) (t : State) → is_whole e ≡ true → IsEvent s e reply t → Makes s (step_of e) reply t
   event_makes (OnSlot k (slot.Create name)) reply t whole is =
       let ends = event_ends (FileMade (slot_at s k) name) s k (slot.Create name) reply t (λ c. create_made s.page_size k c (slot_at s k) name) is in
@@ -187,6 +226,11 @@ module _ (s : State) where
       let ends = event_ends (MapMade (slot_at s k) name task a n sharing reserving) s k e reply t (λ c. map_made s.page_size k c (slot_at s k) task home name a n sharing reserving) is in
       subst (λ x. Makes s (MapStep task k name a n sharing reserving) x t) (sym ends.replied)
       (map_makes t k (ltb-true k (length s.slots) is.1.0) task name a n sharing reserving ends.outcome ends.holds ends.slots)
+  event_makes (OnSlot k (slot.Anon task home n sharing reserving)) reply t whole is =
+      let e = slot.Anon task home n sharing reserving in
+      let ends = event_ends (AnonMade (slot_at s k) task n sharing reserving) s k e reply t (λ c. anon_made s.page_size k c (slot_at s k) task home n sharing reserving) is in
+      subst (λ x. Makes s (AnonStep task n sharing reserving) x t) (sym ends.replied)
+      (anon_makes t k (ltb-true k (length s.slots) is.1.0) task n sharing reserving ends.outcome (eqb-true k 0 whole) ends.holds ends.slots)
   event_makes (OnSlot k (slot.ForkMaps parent child)) reply t whole is = cc
   event_makes (OnSlot k (slot.ExitMaps task)) reply t whole is = cc
   event_makes (OnSlot k other) reply t whole is = tt

@@ -27,7 +27,7 @@ use Rattle.hp_model.specs.machine.SlotEvent.{slot_event}
 use Rattle.hp_model.specs.machine.Sound.{IsSound}
 use Rattle.hp_model.specs.files.Spot.{Spot}
 use Rattle.hp_model.specs.machine.State.{State, slot_at}
-use Rattle.hp_model.specs.machine.Step.{IsBuiltStep, IsStep}
+use Rattle.hp_model.specs.machine.Step.{IsScripted, IsStep}
 use Rattle.hp_model.specs.files.Value.{shown, value}
 use Rattle.hp_laws.specs.Balance.{left_by}
 use Rattle.hp_laws.proofs.Changes.{KeepsSlot, KeptMap, LosesBy, SlotKeeps, ends_name, ends_number, seen_by, stored_by}
@@ -219,11 +219,11 @@ module _ (s : State) (step : Step) (reply : Reply) (t : State) (gone : ℕ) (fad
         (fade.slots k).keeps.together a b p o (number k a.0 a.1 first.0) (number k b.0 b.1 second.0) first.1 second.1;
   }
 
-fork_meant : (s : State) (parent child : ℕ) (reply : Reply) (t : State) → IsBuiltStep s (Fork parent child) reply t → Meant s (Fork parent child) reply t
+fork_meant : (s : State) (parent child : ℕ) (reply : Reply) (t : State) → IsScripted s (Fork parent child) reply t → Meant s (Fork parent child) reply t
 fork_meant s parent child reply t is =
     fade_meant s (Fork parent child) reply t child (fork_fade s parent child reply t is) (table_idle s (table.FindAndAdd parent child) reply) (λ k task no stays. stays)
 
-exit_meant : (s : State) (task : ℕ) (reply : Reply) (t : State) → IsBuiltStep s (Exit task) reply t → Meant s (Exit task) reply t
+exit_meant : (s : State) (task : ℕ) (reply : Reply) (t : State) → IsScripted s (Exit task) reply t → Meant s (Exit task) reply t
 exit_meant s task (Ok a) t is =
     fade_meant s (Exit task) (Ok a) t task (exit_fade s task (Ok a) t is) (table_idle s (table.Remove task) (Ok a)) (λ k other no stays. stays)
 exit_meant s task (Err r) t is =

@@ -1,6 +1,5 @@
 -- The machine starts settled, and stays so.
-use Rattle.std.proofs.Common.{◌≡◌, replicate, subst, ℕ, zero, suc, ◌+◌, ◌-◌, ◌<◌, ◌≤◌, Bool, true, false, None, Some, Ok, Err, List, [], ◌∷◌, length, map, refl, sym, ap, ◌∙◌, arith, nat_le}
-use Rattle.std.specs.Bool.{MatchBool}
+use Rattle.std.proofs.Common.{◌≡◌, replicate, subst, ℕ, zero, suc, ◌+◌, ◌-◌, ◌<◌, ◌≤◌, None, Some, Ok, Err, List, [], ◌∷◌, length, map, refl, sym, ap, ◌∙◌, arith, nat_le}
 use Rattle.std.specs.List.{sum_by, range_with_len, All}
 use Rattle.std.proofs.lemmas.Bool.{ltb-true, cond_both}
 use Rattle.std.proofs.lemmas.List.{length-map}
@@ -12,7 +11,7 @@ use Rattle.hp_model.specs.declared.event.Event.TheVariants.{Tasks, Slot as OnSlo
 use Rattle.hp_model.specs.declared.event.PoolEvent.{PoolEvent}
 use Rattle.hp_model.specs.declared.event.PoolEvent.TheVariants.{Nr, Overcommit, Meminfo, Nodes}
 use Rattle.hp_model.specs.declared.node.NodeRow.{NodeRow}
-use Rattle.hp_model.specs.declared.refusal.Refusal.TheVariants.{OutOfRange, BadLine}
+use Rattle.hp_model.specs.declared.refusal.Refusal.TheVariants.{OutOfRange}
 use Rattle.hp_model.specs.declared.step.Step.{Step}
 use Rattle.hp_model.specs.machine.Event.{has_maps_of, IsEvent, IsEventRun}
 use Rattle.hp_model.specs.machine.Machine.{pool_of, with_pool, rows_of, row_of, used_at, slots_from, open_mount, start, idle_node}
@@ -27,7 +26,7 @@ use Rattle.hp_laws.specs.Laws.{PoolIsTied, StartIsSettled, RunsAreSettled}
 use Rattle.hp_model.specs.machine.SlotEvent.{slot_event}
 use Rattle.hp_model.specs.machine.Sound.{IsSound}
 use Rattle.hp_model.specs.machine.State.{State, slot_at}
-use Rattle.hp_model.specs.machine.Step.{Script, Answer_with, Do, Where_mapped, script, is_unbuilt, IsScript, IsBuiltStep, IsStep}
+use Rattle.hp_model.specs.machine.Step.{Script, Answer_with, Do, Where_mapped, script, IsScript, IsStep}
 use Rattle.hp_model.specs.machine.Table.{Table, table_event}
 use Rattle.hp_laws.proofs.EventsSound.{empty_sound, slots_stay_sound}
 use Rattle.hp_laws.proofs.SectionTies.{relead}
@@ -145,11 +144,7 @@ script_settled (Where_mapped k task mapped other) s reply t st is =
 
 pub step_settled : (s : State) (step : Step) (reply : Reply) (t : State) → IsSettledState s → IsStep s step reply t → IsSettledState t
 unfolding IsStep
-step_settled s step reply t st is = built_settled (is_unbuilt s step) is
-  where
-    built_settled : (b : Bool) → MatchBool b ((reply ≡ Err BadLine) × (t ≡ s)) (IsBuiltStep s step reply t) → IsSettledState t
-    built_settled true is = subst IsSettledState (sym is.1) st
-    built_settled false is = script_settled (script (length s.slots) step) s reply t st is
+step_settled s step reply t st is = script_settled (script (length s.slots) step) s reply t st is
 
 steps_settled : (s : State) → IsSettledState s → (steps : List Step) (replies : List Reply) (t : State) → IsRun s steps replies t → IsSettledState t
 steps_settled s st [] [] t run = subst IsSettledState run st

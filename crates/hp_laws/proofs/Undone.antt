@@ -27,7 +27,7 @@ use Rattle.hp_model.specs.machine.Promises.{IsForkLeft, LeavesOthers}
 use Rattle.hp_model.specs.machine.Settled.{IsSettledState}
 use Rattle.hp_model.specs.machine.SlotEvent.{fork_tests, slot_event}
 use Rattle.hp_model.specs.machine.State.{State, slot_at}
-use Rattle.hp_model.specs.machine.Step.{Answer_with, Do, IsBuiltStep, IsScript, Script, fork_slots, or_undone, undone, when_done}
+use Rattle.hp_model.specs.machine.Step.{Answer_with, Do, IsScripted, IsScript, Script, fork_slots, or_undone, undone, when_done}
 use Rattle.hp_model.specs.machine.Table.{Table, added, home_of, is_crowded, is_known, or_refused, removed, when_known}
 use Rattle.hp_model.proofs.Distinct.{is_among-append}
 use Rattle.hp_model.proofs.RowMoves.{puts_are}
@@ -298,7 +298,7 @@ same_others s child t same = subst (λ x. LeavesOthers s child x) (sym same) (re
 abbrev rest : State → (parent child : ℕ) → Reply → Script
 rest s parent child q = when_done q (fork_slots (range_with_len 0 (length s.slots)) [] parent child)
 
-pub fork_refused : (s : State) → IsSettledState s → (parent child : ℕ) (r : Refusal) (t : State) → IsBuiltStep s (Fork parent child) (Err r) t → LeavesOthers s child t
+pub fork_refused : (s : State) → IsSettledState s → (parent child : ℕ) (r : Refusal) (t : State) → IsScripted s (Fork parent child) (Err r) t → LeavesOthers s child t
 fork_refused s st parent child r t is =
     by_home (home_of s.table parent) is.0 is.1 is.2.2 (event_settled s (Tasks (table.FindAndAdd parent child)) is.0 is.1 st is.2) is.3
   where

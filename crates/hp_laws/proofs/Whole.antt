@@ -1,6 +1,5 @@
 -- From events to steps: what the one event of a step does is what the step does. A fork and an exit are several events.
-use Rattle.std.proofs.Common.{◌≡◌, ⊎_elim, subst, ℕ, Bool, true, false, Err, length, refl, sym}
-use Rattle.std.specs.Bool.{MatchBool}
+use Rattle.std.proofs.Common.{◌≡◌, ⊎_elim, subst, ℕ, ◌==◌, Bool, true, false, Err, length, refl, sym}
 use Rattle.hp_model.specs.declared.event.Event.{Event}
 use Rattle.hp_model.specs.declared.event.Event.TheVariants.{Tasks, Slot as OnSlot, Pool as OnPool}
 use Rattle.hp_model.specs.declared.event.PoolEvent.TheVariants as pool
@@ -8,24 +7,25 @@ use Rattle.hp_model.specs.declared.event.SlotEvent.{SlotEvent}
 use Rattle.hp_model.specs.declared.event.SlotEvent.TheVariants as slot
 use Rattle.hp_model.specs.declared.event.TableEvent.TheVariants as table
 use Rattle.hp_model.specs.declared.refusal.Refusal.{Refusal}
-use Rattle.hp_model.specs.declared.refusal.Refusal.TheVariants.{BadLine, MountFull, NoPages, NoSuchSlot, NoSuchTask}
+use Rattle.hp_model.specs.declared.refusal.Refusal.TheVariants.{MountFull, NoPages, NoSuchSlot, NoSuchTask}
 use Rattle.hp_model.specs.declared.step.Step.{Step}
 use Rattle.hp_model.specs.declared.step.Step.TheVariants.{Connect, Attach, Fork, Exit, Mount, Umount, Create, Unlink, Truncate, Punch, Read, Ls, Stat, Map, Anon, Unmap, Fault, Load, Store, Nr, Overcommit, Meminfo, Nodes, Df}
 use Rattle.hp_model.specs.machine.Event.{IsEvent}
 use Rattle.hp_model.specs.machine.Plan.{Reply}
 use Rattle.hp_model.specs.machine.Promises.{is_for_pages}
 use Rattle.hp_model.specs.machine.State.{State}
-use Rattle.hp_model.specs.machine.Step.{IsBuiltStep, IsScript, IsStep, finding, is_unbuilt, on_slot, only}
+use Rattle.hp_model.specs.machine.Step.{IsScripted, IsScript, IsStep, finding, on_slot, only}
 use Rattle.hp_laws.proofs.Outcomes.{IsLeft, finding_goes, only_goes, slot_goes}
 
 -- ---- the step of an event
 
--- the event is all of its step
+-- the event is all of its step; the files of anonymous maps are on slot 0
 abbrev pub is_whole : Event → Bool
 is_whole (Tasks (table.FindAndAdd parent child)) = false
 is_whole (Tasks (table.Remove task)) = false
 is_whole (OnSlot k (slot.ForkMaps parent child)) = false
 is_whole (OnSlot k (slot.ExitMaps task)) = false
+is_whole (OnSlot k (slot.Anon task home pages sharing reserving)) = k == 0
 is_whole other = true
 
 abbrev pub slot_step : ℕ → SlotEvent → Step
@@ -63,7 +63,6 @@ step_of (OnPool pool.Nodes) = Nodes
 -- ---- refused before any event changes anything
 
 abbrev pub is_early : Refusal → Bool
-is_early BadLine = true
 is_early NoSuchSlot = true
 is_early NoSuchTask = true
 is_early other = false
@@ -77,8 +76,8 @@ early_pages other early = refl
 
 module _ (s : State) (P : Step → Reply → State → Type 0) (early : (step : Step) (r : Refusal) → is_early r ≡ true → P step (Err r) s)
     (done : (e : Event) (reply : Reply) (t : State) → is_whole e ≡ true → IsEvent s e reply t → P (step_of e) reply t)
-    (forks : (parent child : ℕ) (reply : Reply) (t : State) → IsBuiltStep s (Fork parent child) reply t → P (Fork parent child) reply t)
-    (exits : (task : ℕ) (reply : Reply) (t : State) → IsBuiltStep s (Exit task) reply t → P (Exit task) reply t) (reply : Reply) (t : State) where
+    (forks : (parent child : ℕ) (reply : Reply) (t : State) → IsScripted s (Fork parent child) reply t → P (Fork parent child) reply t)
+    (exits : (task : ℕ) (reply : Reply) (t : State) → IsScripted s (Exit task) reply t → P (Exit task) reply t) (reply : Reply) (t : State) where
   by_left : (step : Step) (r : Refusal) → is_early r ≡ true → IsLeft s r reply t → P step reply t
   by_left step r is left = subst (λ x. P step x t) (sym left.replied) (subst (λ x. P step (Err r) x) (sym left.same) (early step r is))
 
@@ -95,7 +94,7 @@ module _ (s : State) (P : Step → Reply → State → Type 0) (early : (step : 
       ⊎_elim (λ left. by_left step NoSuchTask refl left) (λ found. subst (λ x. P x reply t) (same found.0) (by_slot k (e found.0) (whole found.0) found.1))
       (finding_goes s task (λ home. on_slot (length s.slots) k (e home)) reply t is)
 
-  pub by_script : (step : Step) → IsBuiltStep s step reply t → P step reply t
+  pub by_script : (step : Step) → IsScripted s step reply t → P step reply t
   by_script (Connect task home) is = by_only (Tasks (table.Add task home)) refl is
   by_script (Attach task) is = by_only (Tasks (table.Find task)) refl is
   by_script (Fork parent child) is = forks parent child reply t is
@@ -128,8 +127,4 @@ module _ (s : State) (P : Step → Reply → State → Type 0) (early : (step : 
 
   pub by_event : (step : Step) → IsStep s step reply t → P step reply t
   unfolding IsStep
-  by_event step is = by_test (is_unbuilt s step) is
-    where
-      by_test : (b : Bool) → MatchBool b ((reply ≡ Err BadLine) × (t ≡ s)) (IsBuiltStep s step reply t) → P step reply t
-      by_test true left = by_left step BadLine refl (record { replied = left.0; same = left.1 })
-      by_test false built = by_script step built
+  by_event step is = by_script step is

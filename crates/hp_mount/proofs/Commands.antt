@@ -1,5 +1,5 @@
 -- An event on one map: its tests, its access, and what follows, whichever these are.
-use Rattle.std.proofs.Common.{◌≡◌, ◌≢◌, ℕ, zero, suc, ◌+◌, ◌<◌, Bool, true, false, cond, List, [], ◌∷◌, Option, Some, None, Ok, Err, length, refl, sym, ap, subst, ◌∙◌, arith}
+use Rattle.std.proofs.Common.{◌≡◌, ◌≢◌, ℕ, zero, suc, ◌+◌, ◌-◌, ◌<◌, Bool, true, false, cond, List, [], ◌∷◌, Option, Some, None, Ok, Err, length, refl, sym, ap, subst, ◌∙◌, arith}
 use Rattle.std.specs.Prelude.{Result, slice_index_or, slice_set, nat_lt, not, is_some, ◌&&◌, ◌||◌, ◌==◌}
 use Rattle.std.proofs.lemmas.List.{get_or_default}
 use Rattle.hp_model.specs.declared.answer.Answer.{Answer}
@@ -7,24 +7,26 @@ use Rattle.hp_model.specs.declared.answer.Answer.TheVariants.{Done}
 use Rattle.hp_model.specs.declared.refusal.Refusal.{Refusal}
 use Rattle.hp_model.specs.declared.refusal.Refusal.TheVariants as r
 use Rattle.hp_model.specs.files.Access.{access, shared_access, private_access}
-use Rattle.hp_model.specs.files.File.{Mount, File, cell_at, is_entered, new_file, with_cell, with_file}
+use Rattle.hp_model.specs.files.File.{Mount, File, cell_at, is_entered, new_file, with_cell, with_file, with_map}
 use Rattle.hp_model.specs.declared.cell.Cell.TheVariants.{Hole}
+use Rattle.hp_model.specs.declared.place.Place.TheVariants.{Gone, Live}
+use Rattle.hp_model.specs.files.Page.{Copy}
 use Rattle.hp_model.specs.Lists.{edit_at}
-use Rattle.hp_laws.proofs.FileMoves.{FileGrows}
+use Rattle.hp_laws.proofs.FileMoves.{FileGrows, live_at}
 use Rattle.hp_laws.proofs.CopyWrites.{writes}
 use Rattle.hp_model.specs.threads.LocalRun.{ThroughDoor}
-use Rattle.hp_model.specs.files.Mapping.{copy_of, is_shared, is_unconsumed, place_at}
+use Rattle.hp_model.specs.files.Mapping.{Map, copy_of, is_shared, is_unconsumed, place_at, with_place}
 use Rattle.hp_model.specs.machine.Plan.{Answered, Plan, Outcome, Reply, Slot, Choice, refuse, unless, with_value, and_then}
 use Rattle.hp_model.specs.declared.section.PoolAnswer.{PoolAnswer}
 use Rattle.hp_model.specs.declared.section.Section.{Section}
 use Rattle.hp_model.specs.machine.Promises.{file_in, is_backed, map_in, no_map, owns_copy}
 use Rattle.hp_model.specs.machine.SlotEvent.{bytes_answer, is_unmapped, is_beyond}
-use Rattle.hp_model.specs.files.Spot.{Spot, again, written, file_written, cell_written, map_written}
+use Rattle.hp_model.specs.files.Spot.{Spot, again, written, file_written, cell_written, map_written, place_written}
 use Rattle.hp_model.specs.declared.step.Intent.{Intent}
 use Rattle.hp_model.specs.declared.step.Intent.TheVariants.{Read, Write}
 use Rattle.hp_mount_files.specs.declared.files.MapPlace.{MapPlace}
 use Rattle.hp_mount.specs.Done.{IsAccessed, Tried}
-use Rattle.hp_mount.specs.Found.{IsPlaced, IsTouched, first_of, spot_at, spot_of, tests_of, why_not}
+use Rattle.hp_mount.specs.Found.{IsPlaced, IsTouched, first_of, spot_at, spot_of, tests_of, why_not, with_place_at}
 use Rattle.hp_mount.specs.declared.mount.reach.Asked.{Asked}
 use Rattle.hp_mount.specs.declared.mount.reach.Asked.TheVariants.{Page, Bytes}
 use Rattle.hp_mount.specs.declared.mount.reach.MapAccess.{MapAccess}
@@ -226,19 +228,40 @@ written_is n s i offset bytes shared l below =
     ∙ ap (λ b. slice_set n.files s.file_no (cond b (record f { cells = edit_at (cell_written offset bytes) f.cells i }) (record f { maps = edit_at (map_written i offset bytes) f.maps s.map_no }))) shared
     ∙ ap (λ cs. slice_set n.files s.file_no (record f { cells = cs })) (edit_is_set (cell_written offset bytes) f.cells i Hole below))
 
+map_written_is : (f : File) (j i offset : ℕ) (bytes : List ℕ) (c : Bool) (copy : Copy) → j < length f.maps → place_at (map_in f j) i ≡ Live c (Some copy)
+    → edit_at (map_written i offset bytes) f.maps j ≡ slice_set f.maps j (with_place (map_in f j) i (place_written offset bytes (place_at (map_in f j) i)))
+map_written_is f j i offset bytes c copy jl place =
+    let m : Map = map_in f j in
+    let at = live_at m i c (Some copy) place in
+    edit_is_set (map_written i offset bytes) f.maps j no_map jl
+    ∙ ap (λ ps. slice_set f.maps j (record m { places = ps })) (edit_is_set (place_written offset bytes) m.places (i - m.start) Gone at.within
+    ∙ ap (λ p. slice_set m.places (i - m.start) (place_written offset bytes p)) (at.is ∙ sym place))
+
+-- what a store through a private map writes
+pub private_written : (n : Mount) (s : Spot) (i offset : ℕ) (bytes : List ℕ) (c : Bool) (copy : Copy) → is_shared s.map.sharing ≡ false → s.file_no < length n.files → s.map_no < length (file_in n s.file_no).maps → place_at (map_in (file_in n s.file_no) s.map_no) i ≡ Live c (Some copy)
+    → written n s i offset bytes ≡ with_place_at n s.file_no s.map_no i (place_written offset bytes (place_at (map_in (file_in n s.file_no) s.map_no) i))
+private_written n s i offset bytes c copy private l jl place =
+    let f : File = file_in n s.file_no in
+    ap (λ fs. record n { files = fs }) (edit_is_set (file_written s i offset bytes) n.files s.file_no (new_file None) l
+    ∙ ap (λ b. slice_set n.files s.file_no (cond b (record f { cells = edit_at (cell_written offset bytes) f.cells i }) (record f { maps = edit_at (map_written i offset bytes) f.maps s.map_no }))) private
+    ∙ ap (λ ms. slice_set n.files s.file_no (record f { maps = ms })) (map_written_is f s.map_no i offset bytes c copy jl place))
+
+pub private_grows : (f : File) (j i offset : ℕ) (bytes : List ℕ) (c : Bool) (copy : Copy) → j < length f.maps → place_at (map_in f j) i ≡ Live c (Some copy) → FileGrows f (with_map f j (with_place (map_in f j) i (place_written offset bytes (place_at (map_in f j) i)))) 0 0 0
+private_grows f j i offset bytes c copy jl place = subst (λ ms. FileGrows f (record f { maps = ms }) 0 0 0) (map_written_is f j i offset bytes c copy jl place) (writes false j i offset bytes f)
+
 pub write_grows : (k i offset : ℕ) (bytes : List ℕ) (f : File) → i < length f.cells → FileGrows f (with_cell f i (cell_written offset bytes (cell_at f i))) 0 0 0
 write_grows k i offset bytes f l = subst (λ cs. FileGrows f (record f { cells = cs }) 0 0 0) (edit_is_set (cell_written offset bytes) f.cells i Hole l) (writes true k i offset bytes f)
 
 -- a fault asks the same of a page of any size
 pub page_placed : (m : Mount) (a : MapAccess) (size other : ℕ) (at : MapPlace) → IsPlaced m a Page size at → IsPlaced m a Page other at
-page_placed m a size other at p = record { found = p.found; pass = p.pass; file = p.file; map = p.map; below = p.below; shared = p.shared }
+page_placed m a size other at p = record { found = p.found; pass = p.pass; file = p.file; map = p.map; below = p.below; live = p.live }
 
 -- an access that is backed is not refused memory
 pub backed_not_memory : {B : Type 0} (a : MapAccess) (intent : Intent) (asked : Asked) (size : ℕ) (m : Mount) (at : MapPlace) → IsPlaced m a asked size at
-    → (e : Refusal) (result : Result (Unit {0}) Refusal) → result ≡ Err e → (is_entered (cell_at (file_in m at.file) a.index) ≡ true → result ≢ Err r.OutOfMemory)
+    → (e : Refusal) (result : Result (Unit {0}) Refusal) → result ≡ Err e → (is_backed intent (Some (spot_at m at.file at.map)) a.index ≡ true → result ≢ Err r.OutOfMemory)
     → is_backed intent (spot_of a m) a.index ≡ true → ◌≡◌ {A = Result B Refusal} (Err e) (Err r.OutOfMemory) → ⊥
 backed_not_memory a intent asked size m at placed e result is never backed =
-    not_memory e (subst (λ q. q ≢ Err r.OutOfMemory) is (never (backed_is_entered intent (spot_of a m) (spot_at m at.file at.map) a.index placed.found placed.shared backed)))
+    not_memory e (subst (λ q. q ≢ Err r.OutOfMemory) is (never (ap (λ o. is_backed intent o a.index) (sym placed.found) ∙ backed)))
 
 -- ---- what follows a load and a store
 

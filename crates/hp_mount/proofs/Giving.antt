@@ -1,10 +1,9 @@
 -- A file that gives back, by what code did.
-use Rattle.std.proofs.Common.{◌≡◌, ℕ, suc, ◌+◌, ◌<◌, ◌≤◌, ◌==◌, ⊎_elim, ◌⊎◌, nat_lt, Bool, true, false, not, List, [], ◌∷◌, Option, Some, None, Ok, Err, length, map, refl, sym, ap, subst, ◌∙◌, arith}
+use Rattle.std.proofs.Common.{◌≡◌, ℕ, ◌+◌, ◌<◌, ◌≤◌, ◌==◌, ⊎_elim, ◌⊎◌, nat_lt, Bool, true, false, not, List, [], ◌∷◌, Option, Some, None, Ok, Err, length, refl, sym, ap, subst, ◌∙◌, arith}
 use Rattle.std.specs.Prelude.{slice_set}
-use Rattle.std.specs.List.{All, count_by, sum_by}
+use Rattle.std.specs.List.{count_by, sum_by}
 use Rattle.std.proofs.lemmas.Bool.Decides.{nat_tests}
 use Rattle.std.proofs.lemmas.List.{length-set}
-use Rattle.std.proofs.lemmas.List.Elements.{All-cons, All-filter, All-set}
 use Rattle.std.proofs.lemmas.List.Filters.{length-filter_both}
 use Rattle.hp_model.specs.declared.answer.Answer.TheVariants.{Done}
 use Rattle.hp_model.specs.declared.refusal.Refusal.{Refusal}
@@ -13,7 +12,6 @@ use Rattle.hp_model.specs.declared.section.PoolAnswer.{PoolAnswer}
 use Rattle.hp_model.specs.declared.section.Section.{Section}
 use Rattle.hp_model.specs.files.File.{File, Mount, with_file}
 use Rattle.hp_model.specs.files.GiveBack.{is_kept, swept}
-use Rattle.hp_model.specs.files.Mapping.{Map, is_shared, map_punched}
 use Rattle.hp_model.specs.files.MountCounts.{file_pages, file_reserves}
 use Rattle.hp_model.specs.files.Page.{Page}
 use Rattle.hp_model.specs.Profile.{most_files}
@@ -26,7 +24,7 @@ use Rattle.hp_mount_files.specs.Dropping.{IsLeft}
 use Rattle.hp_mount_files.specs.Files.{Files, edited_at}
 use Rattle.hp_mount.specs.Done.{Tried}
 use Rattle.hp_mount.specs.Found.{first_of}
-use Rattle.hp_mount.specs.Kept.{AreShared, IsKept, mount_of}
+use Rattle.hp_mount.specs.Kept.{IsKept, mount_of}
 use Rattle.hp_mount.proofs.Commands.{tests_fail, tests_pass}
 use Rattle.hp_mount.proofs.Ending.{gave}
 use Rattle.hp_mount.proofs.Ways.{fresh_choice, is_fresh, refused_at}
@@ -34,12 +32,13 @@ use Rattle.hp_subpool.specs.Subpool.{Subpool, fall}
 
 -- ---- the share and the files that are left: w is what the files are before the pages go back
 
-module _ (s : Subpool) (v w : Files) (inodes : Option ℕ) (c : IsKept s v (mount_of s inodes v.files)) (k : ℕ) (g : File) (reserves : ℕ) (left : IsLeft reserves v w) (w_is : w.files ≡ edited_at k g v.files) where
+-- gs are the files that are left
+module _ (s : Subpool) (v w : Files) (inodes : Option ℕ) (c : IsKept s v (mount_of s inodes v.files)) (gs : List File) (reserves : ℕ) (left : IsLeft reserves v w) (w_is : w.files ≡ gs) where
   abbrev m : Mount
   m = mount_of s inodes v.files
 
   abbrev n : Mount
-  n = mount_of s inodes w.files
+  n = mount_of s inodes gs
 
   none_going : length v.going ≡ 0
   none_going = ap length c.going
@@ -56,37 +55,46 @@ module _ (s : Subpool) (v w : Files) (inodes : Option ℕ) (c : IsKept s v (moun
   pub enough_held : reserves ≤ s.held
   enough_held = (let all = held_are in omega (arith, all))
 
-  pub kept : (new : Subpool) (last : Files) → AreShared g → new ≡ with_less (length w.going) reserves s → last ≡ record w { going = [] } → IsKept new last (mount_of new inodes last.files)
-  kept new last shared new_is last_is =
+  pub keeps : (new : Subpool) (last : Files) → length gs ≤ length v.files → new ≡ with_less (length w.going) reserves s → last ≡ record w { going = [] } → IsKept new last (mount_of new inodes last.files)
+  keeps new last fewer new_is last_is =
       let pages = pages_are in
       let held = held_are in
       let room = c.room in
       let more = left.room in
+      let few = c.few in
       subst (λ x. IsKept x last (mount_of x inodes last.files)) (sym new_is) (subst (λ x. IsKept (with_less (length w.going) reserves s) x (mount_of (with_less (length w.going) reserves s) inodes x.files)) (sym last_is) (record {
         pages = omega (arith, pages);
         used = omega (arith, pages, held);
         room = omega (arith, room, more);
         going = refl;
-        few = subst (λ fs. length fs ≤ most_files) (sym w_is) (let both = length-filter_both is_kept (λ x. not (is_kept x)) (λ x. refl) (slice_set v.files k g) in let long = length-set v.files k g in let few = c.few in omega (arith, both, long, few));
-        plain = subst (All AreShared) (sym w_is) (All-filter is_kept AreShared (slice_set v.files k g) (All-set AreShared v.files k g shared c.plain));
+        few = subst (λ fs. length fs ≤ most_files) (sym w_is) (omega (arith, few, fewer));
       }))
 
-  pub left_is : (new : Subpool) (last : Files) → new ≡ with_less (length w.going) reserves s → last ≡ record w { going = [] } → mount_of new inodes last.files ≡ swept (with_file m k g)
-  left_is new last new_is last_is = ap (λ (x : Subpool). mount_of x inodes last.files) new_is ∙ ap (λ (x : Files). mount_of s inodes x.files) last_is ∙ ap (mount_of s inodes) w_is
+  pub leaves : (new : Subpool) (last : Files) → new ≡ with_less (length w.going) reserves s → last ≡ record w { going = [] } → mount_of new inodes last.files ≡ n
+  leaves new last new_is last_is = ap (λ (x : Subpool). mount_of x inodes last.files) new_is ∙ ap (λ (x : Files). mount_of s inodes x.files) last_is ∙ ap (mount_of s inodes) w_is
 
-  falls : fall s (length w.going + reserves) ≡ fall_of (Some m) (Some n)
+  falls : fall s (length w.going + reserves) ≡ fall_of (Some m) (Some (mount_of s inodes w.files))
   falls = (let pages = pages_are in let held = held_are in let was = c.used in omega (arith, pages, held, was))
 
-  pub given : {X : Type 0} (took : X → Section → PoolAnswer → X → Type 0) (door left : X) → GivesBack took w.going (fall s (length w.going + reserves)) door left
-      → ThroughDoor took (gives Done (Some m) (Some (swept (with_file m k g)))) (Some m) door (Ok Done) (Some (swept (with_file m k g))) left
-  given took door after back = subst (λ x. ThroughDoor took (gives Done (Some m) (Some x)) (Some m) door (Ok Done) (Some x) after) (ap (mount_of s inodes) w_is)
-      (gave took Done (Some m) (Some n) w.going (fall s (length w.going + reserves)) door after
+  pub gave_through : {X : Type 0} (took : X → Section → PoolAnswer → X → Type 0) (door left : X) → GivesBack took w.going (fall s (length w.going + reserves)) door left
+      → ThroughDoor took (gives Done (Some m) (Some n)) (Some m) door (Ok Done) (Some n) left
+  gave_through took door after back = subst (λ x. ThroughDoor took (gives Done (Some m) (Some x)) (Some m) door (Ok Done) (Some x) after) (ap (mount_of s inodes) w_is)
+      (gave took Done (Some m) (Some (mount_of s inodes w.files)) w.going (fall s (length w.going + reserves)) door after
       (λ i. (let all = left.nodes i in let none = ap (count_by (λ (page : Page). page.node == i)) c.going in omega (arith, all, none))) falls back)
 
--- copies that go leave a map shared
-pub shared_punched : (a b : ℕ) (ms : List Map) → All (λ (x : Map). is_shared x.sharing ≡ true) ms → All (λ (x : Map). is_shared x.sharing ≡ true) (map (map_punched a b) ms)
-shared_punched a b [] each = each
-shared_punched a b (x ∷ xs) each = All-cons (λ (x : Map). is_shared x.sharing ≡ true) (map_punched a b x) (map (map_punched a b) xs) (each 0 x (omega arith)) (shared_punched a b xs (λ i d l. each (suc i) d (omega (arith, l))))
+-- one file for another, or gone
+module _ (s : Subpool) (v w : Files) (inodes : Option ℕ) (c : IsKept s v (mount_of s inodes v.files)) (k : ℕ) (g : File) (reserves : ℕ) (left : IsLeft reserves v w) (w_is : w.files ≡ edited_at k g v.files) where
+  pub kept : (new : Subpool) (last : Files) → new ≡ with_less (length w.going) reserves s → last ≡ record w { going = [] } → IsKept new last (mount_of new inodes last.files)
+  kept new last new_is last_is =
+      keeps s v w inodes c (edited_at k g v.files) reserves left w_is new last
+      (let both = length-filter_both is_kept (λ x. not (is_kept x)) (λ x. refl) (slice_set v.files k g) in let long = length-set v.files k g in omega (arith, both, long)) new_is last_is
+
+  pub left_is : (new : Subpool) (last : Files) → new ≡ with_less (length w.going) reserves s → last ≡ record w { going = [] } → mount_of new inodes last.files ≡ swept (with_file (mount_of s inodes v.files) k g)
+  left_is = leaves s v w inodes c (edited_at k g v.files) reserves left w_is
+
+  pub given : {X : Type 0} (took : X → Section → PoolAnswer → X → Type 0) (door left : X) → GivesBack took w.going (fall s (length w.going + reserves)) door left
+      → ThroughDoor took (gives Done (Some (mount_of s inodes v.files)) (Some (swept (with_file (mount_of s inodes v.files) k g)))) (Some (mount_of s inodes v.files)) door (Ok Done) (Some (swept (with_file (mount_of s inodes v.files) k g))) left
+  given = gave_through s v w inodes c (edited_at k g v.files) reserves left w_is
 
 -- ---- the plan: a file by its name, tests, and what it gives back
 

@@ -1,27 +1,26 @@
 -- What a mount keeps, through each change of its files.
-use Rattle.std.proofs.Common.{◌≡◌, ℕ, zero, suc, ◌+◌, ◌<◌, ◌≤◌, max, true, Bool, Option, List, [], ◌∷◌, length, None, refl, sym, ap, subst, ◌∙◌, arith}
+use Rattle.std.proofs.Common.{◌≡◌, ℕ, zero, suc, ◌+◌, ◌<◌, ◌≤◌, max, Bool, Option, List, [], ◌∷◌, ◌++◌, length, None, refl, sym, ap, subst, ◌∙◌, arith}
 use Rattle.std.specs.Prelude.{slice_set, slice_index_or}
-use Rattle.std.proofs.lemmas.List.{get_or_default, get_or-set_same, length-set}
+use Rattle.std.proofs.lemmas.List.{get_or_default, get_or-set_same, length-append, length-set}
 use Rattle.hp_mount_door.specs.Door.{with_page, with_granted, with_reserves}
 use Rattle.hp_model.specs.declared.cell.Cell.{Cell}
 use Rattle.hp_model.specs.declared.cell.Cell.TheVariants.{Hole, Entered, Present}
 use Rattle.hp_model.specs.files.File.{File, Mount, cell_at, with_cell, with_file, new_file}
 use Rattle.hp_model.specs.pool.Grant as grant
+use Rattle.hp_model.specs.Profile.{most_files}
 use Rattle.hp_model.specs.files.Page.{Page}
-use Rattle.hp_model.specs.machine.Promises.{file_in, map_in, no_map}
+use Rattle.hp_model.specs.machine.Promises.{file_in}
 use Rattle.hp_model.specs.declared.step.Reserving.{Reserving}
-use Rattle.hp_model.specs.declared.step.Sharing.TheVariants.{Shared}
-use Rattle.std.proofs.lemmas.List.Elements.{All-append, All-cons, All-get_or, All-nil, All-set}
-use Rattle.hp_model.specs.files.MakeMap.{asked, mapped, new_map}
-use Rattle.hp_model.specs.files.Mapping.{Map, is_shared}
+use Rattle.hp_model.specs.declared.step.Sharing.{Sharing}
+use Rattle.hp_model.specs.files.MakeMap.{asked, mapped, with_new}
 use Rattle.hp_laws.proofs.Maps.{mapped_grows}
 use Rattle.hp_laws.proofs.FileMoves as moves
 use Rattle.hp_laws.proofs.FileMoves.{FileGrows}
-use Rattle.hp_laws.proofs.MountMoves.{MountGrows, IsFileAt, file_grows}
+use Rattle.hp_laws.proofs.MountMoves.{MountGrows, IsFileAt, file_grows, new_grows}
 use Rattle.hp_mount_files.specs.declared.next_map.MapRange.{MapRange}
 use Rattle.hp_mount_files.specs.Asking.{wants}
-use Rattle.hp_mount_files.specs.Files.{Files, file_at, filled_at, mapped_at, with_cell_at}
-use Rattle.hp_mount.specs.Kept.{AreShared, IsKept, mount_of}
+use Rattle.hp_mount_files.specs.Files.{Files, file_at, filled_at, mapped_at, with_anon, with_cell_at}
+use Rattle.hp_mount.specs.Kept.{IsKept, mount_of}
 use Rattle.hp_subpool.specs.Subpool as share
 use Rattle.hp_subpool.specs.Subpool.{Subpool, used}
 
@@ -40,6 +39,42 @@ pub mount_left : (s new : Subpool) (inodes : Option ℕ) (fs gs : List File) →
 mount_left s new inodes fs gs max_is min_is files = ap (λ x. record { limits = record { max = x; min = new.min; inodes = inodes }; files = gs }) max_is
     ∙ ap (λ x. record { limits = record { max = s.max; min = x; inodes = inodes }; files = gs }) min_is ∙ ap (λ xs. record { limits = record { max = s.max; min = s.min; inodes = inodes }; files = xs }) files
 
+-- ---- files with so many pages and so much usage more
+
+module _ (s : Subpool) (v : Files) (inodes : Option ℕ) (c : IsKept s v (mount_of s inodes v.files)) where
+  pub raised : (fs : List File) (node p u : ℕ) → MountGrows (mount_of s inodes v.files) (mount_of s inodes fs) node p u → length fs ≤ most_files → (new : Subpool) (w : Files)
+      → new.max ≡ s.max → new.min ≡ s.min → new.pages ≡ s.pages + p → used new ≡ used s + u → new.held ≤ w.room → w.going ≡ v.going → w.files ≡ fs → IsKept new w (mount_of new inodes w.files)
+  raised fs node p u all few new w max_is min_is pages_is used_is room going files =
+      let had = c.pages in
+      let was = c.used in
+      let more = all.pages in
+      let higher = all.usage in
+      subst (λ n. IsKept new w n) (sym (mount_left s new inodes fs w.files max_is min_is files)) (record {
+        pages = pages_is ∙ omega (arith, had, more);
+        used = used_is ∙ omega (arith, was, higher);
+        room = room;
+        going = going ∙ c.going;
+        few = few;
+      })
+
+  -- a file without name more, with one map
+  module _ (task number a n more : ℕ) (sharing : Sharing) (reserving : Reserving) (new : Subpool) (w : Files) (more_is : more ≡ asked sharing reserving a n (new_file None)) (new_is : new ≡ with_reserves more s) (w_is : w ≡ with_anon task number a n (max v.room (s.held + more)) sharing reserving v) where
+    abbrev anon : File
+    anon = mapped task number a n sharing reserving (new_file None)
+
+    pub anon_kept : length v.files < most_files → IsKept new w (mount_of new inodes w.files)
+    anon_kept l =
+        let held_is = ap (λ (x : Subpool). x.held) new_is in
+        let pages_is = ap (λ (x : Subpool). x.pages) new_is in
+        let room_is = ap (λ (x : Files). x.room) w_is in
+        let same : s.pages ≡ s.pages + 0 = omega arith in
+        let all = new_grows (mount_of s inodes v.files) None anon (asked sharing reserving a n (new_file None)) (mapped_grows task number a n sharing reserving (new_file None)) in
+        raised (v.files ++ anon ∷ []) 0 0 (asked sharing reserving a n (new_file None)) all (let long = length-append v.files (anon ∷ []) in omega (arith, long, l)) new w (ap (λ (x : Subpool). x.max) new_is) (ap (λ (x : Subpool). x.min) new_is)
+        (pages_is ∙ same) (omega (arith, held_is, pages_is, more_is)) (omega (arith, held_is, room_is)) (ap (λ (x : Files). x.going) w_is) (ap (λ (x : Files). x.files) w_is)
+
+    pub anon_left : mount_of new inodes w.files ≡ with_new (mount_of s inodes v.files) anon
+    anon_left = mount_left s new inodes (v.files ++ anon ∷ []) w.files (ap (λ (x : Subpool). x.max) new_is) (ap (λ (x : Subpool). x.min) new_is) (ap (λ (x : Files). x.files) w_is)
+
 -- ---- a file for another, with so many pages and so much usage more
 
 module _ (s : Subpool) (v : Files) (inodes : Option ℕ) (c : IsKept s v (mount_of s inodes v.files)) (k : ℕ) (l : k < length v.files) where
@@ -52,27 +87,10 @@ module _ (s : Subpool) (v : Files) (inodes : Option ℕ) (c : IsKept s v (mount_
   pub grows : (g : File) (node p u : ℕ) → FileGrows (file_at v.files k) g node p u → MountGrows m (with_file m k g) node p u
   grows g node p u h = file_grows m k (file_at v.files k) g node p u here h
 
-  -- the file's maps are shared
-  pub shared_here : AreShared (file_at v.files k)
-  shared_here = All-get_or AreShared v.files k (new_file None) l c.plain
-
-  pub grown : (new : Subpool) (w : Files) (g : File) (node p u : ℕ) → FileGrows (file_at v.files k) g node p u → AreShared g → new.max ≡ s.max → new.min ≡ s.min → new.pages ≡ s.pages + p → used new ≡ used s + u
+  pub grown : (new : Subpool) (w : Files) (g : File) (node p u : ℕ) → FileGrows (file_at v.files k) g node p u → new.max ≡ s.max → new.min ≡ s.min → new.pages ≡ s.pages + p → used new ≡ used s + u
       → new.held ≤ w.room → w.going ≡ v.going → w.files ≡ slice_set v.files k g → IsKept new w (mount_of new inodes w.files)
-  grown new w g node p u h shared max_is min_is pages_is used_is room going files =
-      let all = grows g node p u h in
-      let had = c.pages in
-      let was = c.used in
-      let more = all.pages in
-      let raised = all.usage in
-      let same_mount : mount_of new inodes w.files ≡ with_file m k g = mount_left s new inodes (slice_set v.files k g) w.files max_is min_is files in
-      subst (λ n. IsKept new w n) (sym same_mount) (record {
-        pages = pages_is ∙ omega (arith, had, more);
-        used = used_is ∙ omega (arith, was, raised);
-        room = room;
-        going = going ∙ c.going;
-        few = (let long = length-set v.files k g in let few = c.few in omega (arith, long, few));
-        plain = All-set AreShared v.files k g shared c.plain;
-      })
+  grown new w g node p u h max_is min_is pages_is used_is room going files =
+      raised s v inodes c (slice_set v.files k g) node p u (grows g node p u h) (let long = length-set v.files k g in let few = c.few in omega (arith, long, few)) new w max_is min_is pages_is used_is room going files
 
   -- an entry without a page is a reservation that is held
   pub some_held : (i : ℕ) → i < length (file_at v.files k).cells → cell_at (file_at v.files k) i ≡ Entered → 0 < s.held
@@ -95,7 +113,7 @@ module _ (s : Subpool) (v : Files) (inodes : Option ℕ) (c : IsKept s v (mount_
       let held_is = ap (λ (x : Subpool). x.held) new_is in
       let pages_is = ap (λ (x : Subpool). x.pages) new_is in
       let room_is = ap (λ (x : Files). x.room) w_is in
-      grown new w (with_cell (file_at v.files k) i (Present page)) page.node 1 0 (moves.fill_entry (file_at v.files k) i page below entered) shared_here (ap (λ (x : Subpool). x.max) new_is) (ap (λ (x : Subpool). x.min) new_is)
+      grown new w (with_cell (file_at v.files k) i (Present page)) page.node 1 0 (moves.fill_entry (file_at v.files k) i page below entered) (ap (λ (x : Subpool). x.max) new_is) (ap (λ (x : Subpool). x.min) new_is)
       pages_is (omega (arith, held_is, pages_is, held)) (omega (arith, held_is, room_is, room, held)) (ap (λ (x : Files). x.going) w_is) (ap (λ (x : Files). x.files) w_is)
 
   pub entry_left : (i : ℕ) (page : Page) (new : Subpool) (w : Files) → new ≡ with_page s → w ≡ filled_at k i page v → mount_of new inodes w.files ≡ with_file m k (with_cell (file_in m k) i (Present page))
@@ -127,7 +145,7 @@ module _ (s : Subpool) (v : Files) (inodes : Option ℕ) (c : IsKept s v (mount_
       let held_is = ap (λ (x : Subpool). x.held) new_is in
       let pages_is = ap (λ (x : Subpool). x.pages) new_is in
       let room_is = ap (λ (x : Files). x.room) w_is in
-      grown new w (with_cell (file_at v.files k) i (Present page)) page.node 1 1 (moves.fill_hole (file_at v.files k) i page below hole) shared_here (ap (λ (x : Subpool). x.max) new_is) (ap (λ (x : Subpool). x.min) new_is)
+      grown new w (with_cell (file_at v.files k) i (Present page)) page.node 1 1 (moves.fill_hole (file_at v.files k) i page below hole) (ap (λ (x : Subpool). x.max) new_is) (ap (λ (x : Subpool). x.min) new_is)
       pages_is (omega (arith, held_is, pages_is)) (omega (arith, held_is, room_is, enough)) (ap (λ (x : Files). x.going) w_is) (ap (λ (x : Files). x.files) w_is ∙ again_files i spare (Present page))
 
   pub granted_left : (i spare : ℕ) (page : Page) (new : Subpool) (w : Files) → new ≡ with_granted s → w ≡ filled_at k i page (with_cell_at k i Entered (roomier spare)) → mount_of new inodes w.files ≡ with_file m k (with_cell (file_in m k) i (Present page))
@@ -158,25 +176,22 @@ module _ (s : Subpool) (v : Files) (inodes : Option ℕ) (c : IsKept s v (mount_
         room = omega (arith, room_is, room, held_is);
         going = ap (λ (x : Files). x.going) w_is ∙ c.going;
         few = c.few;
-        plain = c.plain;
       })
 
-  -- ---- a shared map more
+  -- ---- a map more
 
-  module _ (task number a n more : ℕ) (reserving : Reserving) (new : Subpool) (w : Files) (more_is : more ≡ asked Shared reserving a n (file_at v.files k)) (new_is : new ≡ with_reserves more s) (w_is : w ≡ mapped_at k task number a n (max v.room (s.held + more)) reserving v) where
+  module _ (task number a n more : ℕ) (sharing : Sharing) (reserving : Reserving) (new : Subpool) (w : Files) (more_is : more ≡ asked sharing reserving a n (file_at v.files k)) (new_is : new ≡ with_reserves more s) (w_is : w ≡ mapped_at k task number a n (max v.room (s.held + more)) sharing reserving v) where
     pub map_kept : IsKept new w (mount_of new inodes w.files)
     map_kept =
         let held_is = ap (λ (x : Subpool). x.held) new_is in
         let pages_is = ap (λ (x : Subpool). x.pages) new_is in
         let room_is = ap (λ (x : Files). x.room) w_is in
         let plain : s.pages ≡ s.pages + 0 = omega arith in
-        let new_one : Map = new_map task number a n Shared reserving in
-        let one_more = All-append (λ (x : Map). is_shared x.sharing ≡ true) (file_at v.files k).maps (new_one ∷ []) shared_here (All-cons (λ (x : Map). is_shared x.sharing ≡ true) new_one [] refl (All-nil (λ (x : Map). is_shared x.sharing ≡ true))) in
-        grown new w (mapped task number a n Shared reserving (file_at v.files k)) 0 0 (asked Shared reserving a n (file_at v.files k)) (mapped_grows task number a n Shared reserving (file_at v.files k)) one_more (ap (λ (x : Subpool). x.max) new_is) (ap (λ (x : Subpool). x.min) new_is)
+        grown new w (mapped task number a n sharing reserving (file_at v.files k)) 0 0 (asked sharing reserving a n (file_at v.files k)) (mapped_grows task number a n sharing reserving (file_at v.files k)) (ap (λ (x : Subpool). x.max) new_is) (ap (λ (x : Subpool). x.min) new_is)
         (pages_is ∙ plain) (omega (arith, held_is, pages_is, more_is)) (omega (arith, held_is, room_is)) (ap (λ (x : Files). x.going) w_is) (ap (λ (x : Files). x.files) w_is)
 
-    pub map_left : mount_of new inodes w.files ≡ with_file m k (mapped task number a n Shared reserving (file_in m k))
-    map_left = mount_left s new inodes (slice_set v.files k (mapped task number a n Shared reserving (file_at v.files k))) w.files (ap (λ (x : Subpool). x.max) new_is) (ap (λ (x : Subpool). x.min) new_is) (ap (λ (x : Files). x.files) w_is)
+    pub map_left : mount_of new inodes w.files ≡ with_file m k (mapped task number a n sharing reserving (file_in m k))
+    map_left = mount_left s new inodes (slice_set v.files k (mapped task number a n sharing reserving (file_at v.files k))) w.files (ap (λ (x : Subpool). x.max) new_is) (ap (λ (x : Subpool). x.min) new_is) (ap (λ (x : Files). x.files) w_is)
 
 -- ---- more room alone
 
@@ -185,20 +200,16 @@ module _ (s : Subpool) (v w : Files) (inodes : Option ℕ) (c : IsKept s v (moun
   room_left = ap (λ (x : Files). mount_of s inodes x.files) w_is
 
   pub room_kept : v.room ≤ w.room → IsKept s w (mount_of s inodes w.files)
-  room_kept more = (let room = c.room in subst (λ n. IsKept s w n) (sym room_left) (record { pages = c.pages; used = c.used; room = omega (arith, room, more); going = ap (λ (x : Files). x.going) w_is ∙ c.going; few = c.few; plain = c.plain }))
+  room_kept more = (let room = c.room in subst (λ n. IsKept s w n) (sym room_left) (record { pages = c.pages; used = c.used; room = omega (arith, room, more); going = ap (λ (x : Files). x.going) w_is ∙ c.going; few = c.few }))
 
--- a map that is found is shared
-pub found_shared : (s : Subpool) (v : Files) (inodes : Option ℕ) → IsKept s v (mount_of s inodes v.files) → (k j : ℕ) → k < length v.files → j < length (file_at v.files k).maps → is_shared (map_in (file_in (mount_of s inodes v.files) k) j).sharing ≡ true
-found_shared s v inodes c k j l jl = All-get_or (λ (x : Map). is_shared x.sharing ≡ true) (file_at v.files k).maps j no_map jl (shared_here s v inodes c k l)
+-- ---- what a new map asks for
 
--- ---- what a shared map of a range asks for
+module _ (s : Subpool) (v : Files) (inodes : Option ℕ) (m : Mount) (c : IsKept s v (mount_of s inodes v.files)) (view : mount_of s inodes v.files ≡ m) where
+  pub wants_is : (k : ℕ) (range : MapRange) → wants range (file_at v.files k) ≡ wants range (file_at m.files k)
+  wants_is k range = ap (λ (x : Mount). wants range (file_at x.files k)) view
 
-module _ (s : Subpool) (v : Files) (inodes : Option ℕ) (m : Mount) (c : IsKept s v (mount_of s inodes v.files)) (view : mount_of s inodes v.files ≡ m) (k : ℕ) (range : MapRange) where
-  pub wants_is : wants range k v.files ≡ wants range k m.files
-  wants_is = ap (λ (x : Mount). wants range k x.files) view
+  pub full_as : (k n : ℕ) (b : Bool) → n ≡ k → b ≡ share.is_full s n → grant.is_full m k ≡ b
+  full_as k n b n_is b_is = ap (grant.is_full m) (sym n_is) ∙ sym (ap (λ (x : Mount). grant.is_full x n) view) ∙ sym (full_is s v (mount_of s inodes v.files) c refl refl n) ∙ sym b_is
 
-  pub full_as : (n : ℕ) (b : Bool) → n ≡ wants range k v.files → b ≡ share.is_full s n → grant.is_full m (wants range k m.files) ≡ b
-  full_as n b n_is b_is = ap (grant.is_full m) (sym (n_is ∙ wants_is)) ∙ sym (ap (λ (x : Mount). grant.is_full x n) view) ∙ sym (full_is s v (mount_of s inodes v.files) c refl refl n) ∙ sym b_is
-
-  pub rise_as : share.rise s (wants range k m.files) ≡ grant.rise m (wants range k m.files)
-  rise_as = rise_is s v (mount_of s inodes v.files) c refl refl (wants range k m.files) ∙ ap (λ (x : Mount). grant.rise x (wants range k m.files)) view
+  pub rise_as : (k : ℕ) → share.rise s k ≡ grant.rise m k
+  rise_as k = rise_is s v (mount_of s inodes v.files) c refl refl k ∙ ap (λ (x : Mount). grant.rise x k) view

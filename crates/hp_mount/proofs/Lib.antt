@@ -1,9 +1,13 @@
 pub mod Ways
 pub mod Keeping
 pub mod Shared
+pub mod Private
+pub mod Copying
 pub mod Commands
 pub mod Shown
 pub mod Looking
 pub mod Making
 pub mod Ending
 pub mod Giving
+pub mod Leaving
+pub mod Forking

@@ -1,16 +1,16 @@
 -- Files and maps that are made, by what code did.
 use Rattle.std.proofs.Common.{◌≡◌, ℕ, ◌+◌, ◌<◌, ◌==◌, Bool, true, false, cond, List, [], ◌∷◌, Option, Some, None, Ok, Err, length, refl, sym, ap, subst, ◌∙◌, arith}
-use Rattle.std.specs.Prelude.{◌||◌, nat_lt}
+use Rattle.std.specs.Prelude.{◌||◌, nat_le, nat_lt}
 use Rattle.std.proofs.lemmas.Bool.Decides.{nat_tests}
 use Rattle.hp_model.specs.declared.answer.Answer.{Answer}
 use Rattle.hp_model.specs.declared.answer.Answer.TheVariants.{Done, MapNo, Usage as UsageAnswer}
-use Rattle.hp_model.specs.declared.event.SlotEvent.TheVariants.{Create, Df, Map as MapEvent}
+use Rattle.hp_model.specs.declared.event.SlotEvent.TheVariants.{Anon, Create, Df, Map as MapEvent}
 use Rattle.hp_model.specs.declared.refusal.Refusal.{Refusal}
 use Rattle.hp_model.specs.declared.refusal.Refusal.TheVariants as r
 use Rattle.hp_model.specs.declared.step.Reserving.{Reserving}
-use Rattle.hp_model.specs.declared.step.Sharing.TheVariants.{Shared}
+use Rattle.hp_model.specs.declared.step.Sharing.{Sharing}
 use Rattle.hp_model.specs.files.File.{Mount, new_file, with_file}
-use Rattle.hp_model.specs.pool.Grant.{is_full, rise}
+use Rattle.hp_model.specs.pool.Grant.{is_full, is_over, rise}
 use Rattle.hp_model.specs.threads.LocalRun.{ThroughDoor}
 use Rattle.hp_model.specs.files.MountCounts.{usage_of}
 use Rattle.hp_model.specs.files.MakeMap.{asked, mapped, next_number, with_new}
@@ -19,9 +19,9 @@ use Rattle.hp_model.specs.declared.section.PoolAnswer.{PoolAnswer}
 use Rattle.hp_model.specs.declared.section.Section.{Section}
 use Rattle.hp_model.specs.declared.section.Section.TheVariants.{Grant}
 use Rattle.hp_model.specs.pool.Pool.{granted_at, no_pages}
-use Rattle.hp_model.specs.Profile.{most_file_pages, most_map_pages}
+use Rattle.hp_model.specs.Profile.{most_file_pages, most_files, most_map_pages}
 use Rattle.hp_model.specs.machine.Promises.{file_in}
-use Rattle.hp_model.specs.machine.SlotEvent.{are_too_many_maps, file_named, map_file, slot_event}
+use Rattle.hp_model.specs.machine.SlotEvent.{anon_tests, are_too_many_maps, file_named, map_file, slot_event}
 use Rattle.hp_mount_files.specs.Asking.{IsAsked, IsGranted}
 use Rattle.hp_mount_files.specs.Files.{Files}
 use Rattle.hp_mount.specs.Alone.{IsDoneAlone}
@@ -144,23 +144,23 @@ never_map true b e = cc
 never_map false true e = cc
 never_map false false e = cc
 
-module _ {X : Type 0} (took : X → Section → PoolAnswer → X → Type 0) (full : X → Type 0) (m : Mount) (size slot task home a n : ℕ) (reserving : Reserving) (name : List ℕ) (door : X) where
+module _ {X : Type 0} (took : X → Section → PoolAnswer → X → Type 0) (full : X → Type 0) (m : Mount) (size slot task home a n : ℕ) (sharing : Sharing) (reserving : Reserving) (name : List ℕ) (door : X) where
   abbrev event : Choice → Plan
-  event c = slot_event size slot c (Some m) (MapEvent task home name a n Shared reserving)
+  event c = slot_event size slot c (Some m) (MapEvent task home name a n sharing reserving)
 
   pub map_nowhere : file_named m name ≡ None → Tried took full event (Some m) door (Err r.NoSuchFile) (Some m) door
   map_nowhere e = (
     fresh_choice false (Some m),
     is_fresh false (Some m),
-    subst (λ o. ThroughDoor took (with_value o r.NoSuchFile (map_file (fresh_choice false (Some m)) m task home a n Shared reserving)) (Some m) door (Err r.NoSuchFile) (Some m) door) (sym e) (refused_at took m r.NoSuchFile door),
+    subst (λ o. ThroughDoor took (with_value o r.NoSuchFile (map_file (fresh_choice false (Some m)) m task home a n sharing reserving)) (Some m) door (Err r.NoSuchFile) (Some m) door) (sym e) (refused_at took m r.NoSuchFile door),
   )
 
   module _ (k : ℕ) (named : file_named m name ≡ Some (k, file_in m k)) where
     abbrev grants : Choice → ℕ → Plan
-    grants c number = grant c m home (asked Shared reserving a n (file_in m k)) (Answered (MapNo number) (Some (with_file m k (mapped task number a n Shared reserving (file_in m k)))))
+    grants c number = grant c m home (asked sharing reserving a n (file_in m k)) (Answered (MapNo number) (Some (with_file m k (mapped task number a n sharing reserving (file_in m k)))))
 
     of_file : (c : Choice) → event c ≡ unless (map_tests m task a n) (grants c (next_number task m))
-    of_file c = ap (λ o. with_value o r.NoSuchFile (map_file c m task home a n Shared reserving)) named
+    of_file c = ap (λ o. with_value o r.NoSuchFile (map_file c m task home a n sharing reserving)) named
 
     refused_by : (e : Refusal) → first_of (map_tests m task a n) ≡ Some e → Through took event (Some m) door (Err e) (Some m) door
     refused_by e h =
@@ -174,3 +174,31 @@ module _ {X : Type 0} (took : X → Section → PoolAnswer → X → Type 0) (fu
     pub map_went : (number : ℕ) → first_of (map_tests m task a n) ≡ None → number ≡ next_number task m → (reply : Reply) (new : Slot) (left : X) → Tried took full (λ c. grants c number) (Some m) door reply new left → Tried took full event (Some m) door reply new left
     map_went number pass number_is reply new left h =
         tried_as took full (λ c. grants c number) event (λ c. ap (grants c) number_is ∙ sym (tests_pass (map_tests m task a n) (grants c (next_number task m)) pass) ∙ sym (of_file c)) (Some m) door reply new left h
+
+-- ---- a file without name, with one map
+
+never_anon : (a b d : Bool) → cond a (Some r.OutOfRange) (cond b (Some r.TooMany) (cond d (Some r.NoInodes) None)) ≡ Some r.TraceFull → ⊥
+never_anon true b d e = cc
+never_anon false true d e = cc
+never_anon false false true e = cc
+never_anon false false false e = cc
+
+module _ {X : Type 0} (took : X → Section → PoolAnswer → X → Type 0) (full : X → Type 0) (m : Mount) (size slot task home n : ℕ) (sharing : Sharing) (reserving : Reserving) (door : X) where
+  abbrev anon_event : Choice → Plan
+  anon_event c = slot_event size slot c (Some m) (Anon task home n sharing reserving)
+
+  abbrev anon_grants : Choice → ℕ → Plan
+  anon_grants c number = grant c m home (asked sharing reserving 0 n (new_file None)) (Answered (MapNo number) (Some (with_new m (mapped task number 0 n sharing reserving (new_file None)))))
+
+  anon_refused_by : (e : Refusal) → first_of (anon_tests m task n) ≡ Some e → Through took anon_event (Some m) door (Err e) (Some m) door
+  anon_refused_by e h =
+      let c : Choice = fresh_choice false (Some m) in
+      (c, is_fresh false (Some m), subst (λ p. ThroughDoor took p (Some m) door (Err e) (Some m) door) (sym (tests_fail (anon_tests m task n) (anon_grants c (next_number task m)) e h)) (refused_at took m e door))
+
+  pub anon_refused : (e : Refusal) → first_of (anon_tests m task n) ≡ Some e → Tried took full anon_event (Some m) door (Err e) (Some m) door
+  anon_refused r.TraceFull h = absurd (never_anon ((n == 0) || nat_lt most_file_pages n) (nat_lt most_map_pages n || are_too_many_maps m task || nat_le most_files (length m.files)) (is_over m.limits.inodes (length m.files + 1)) h)
+  anon_refused other h = anon_refused_by other h
+
+  pub anon_went : (number : ℕ) → first_of (anon_tests m task n) ≡ None → number ≡ next_number task m → (reply : Reply) (new : Slot) (left : X) → Tried took full (λ c. anon_grants c number) (Some m) door reply new left → Tried took full anon_event (Some m) door reply new left
+  anon_went number pass number_is reply new left h =
+      tried_as took full (λ c. anon_grants c number) anon_event (λ c. ap (anon_grants c) number_is ∙ sym (tests_pass (anon_tests m task n) (anon_grants c (next_number task m)) pass)) (Some m) door reply new left h

@@ -2,9 +2,8 @@
 use Rattle.std.specs.Prelude.{ℕ, Bool, true, false}
 use Rattle.hp_model.specs.declared.event.SlotEvent.{SlotEvent}
 use Rattle.hp_model.specs.declared.event.SlotEvent.TheVariants as slot
-use Rattle.hp_model.specs.declared.step.Sharing.TheVariants.{Shared}
 use Rattle.hp_mount.specs.declared.event.MountEvent.{MountEvent}
-use Rattle.hp_mount.specs.declared.event.MountEvent.TheVariants.{Create, Unlink, Truncate, Punch, Stat, Read, Map, Fault, Load, Store, Ls, Usage}
+use Rattle.hp_mount.specs.declared.event.MountEvent.TheVariants.{Create, Unlink, Truncate, Punch, Stat, Read, Map, Anon, Unmap, Fault, Load, Store, Ls, Usage}
 
 -- the event, of a task with that home
 abbrev pub event_of : (home : ℕ) → MountEvent → SlotEvent
@@ -14,7 +13,9 @@ event_of home (Truncate name pages) = slot.Truncate name.now pages
 event_of home (Punch name start end) = slot.Punch name.now start end
 event_of home (Stat name) = slot.Stat name.now
 event_of home (Read name index offset count) = slot.Read name.now index offset count
-event_of home (Map task name start pages reserving) = slot.Map task home name.now start pages Shared reserving
+event_of home (Map task name start pages sharing reserving) = slot.Map task home name.now start pages sharing reserving
+event_of home (Anon task pages sharing reserving) = slot.Anon task home pages sharing reserving
+event_of home (Unmap task map start end) = slot.Unmap task map start end
 event_of home (Fault task map index intent) = slot.Fault task home map index intent
 event_of home (Load task map index offset count) = slot.Load task home map index offset count
 event_of home (Store task map index offset bytes) = slot.Store task home map index offset bytes.now

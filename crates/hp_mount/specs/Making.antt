@@ -1,18 +1,18 @@
 -- What making a file or a map asks first.
-use Rattle.std.specs.Prelude.{ℕ, ◌+◌, ◌||◌, ◌==◌, Bool, not, is_some, Option, Some, List, [], ◌∷◌, length, nat_le, nat_lt, Ok, Err, Result}
+use Rattle.std.specs.Prelude.{ℕ, ◌+◌, ◌||◌, ◌==◌, Bool, not, is_some, Option, None, Some, List, [], ◌∷◌, length, nat_le, nat_lt, Ok, Err, Result}
 use Rattle.hp_model.specs.declared.answer.Answer.TheVariants.{MapNo}
 use Rattle.hp_model.specs.declared.event.SlotEvent.{SlotEvent}
 use Rattle.hp_model.specs.declared.event.SlotEvent.TheVariants.{Map as MapEvent}
 use Rattle.hp_model.specs.declared.refusal.Refusal.{Refusal}
 use Rattle.hp_model.specs.declared.refusal.Refusal.TheVariants.{BadName, FileExists, NoInodes, OutOfRange, TooMany}
-use Rattle.hp_model.specs.declared.step.Sharing.TheVariants.{Shared}
-use Rattle.hp_model.specs.files.File.{Mount, with_file}
+use Rattle.hp_model.specs.files.File.{Mount, new_file, with_file}
 use Rattle.hp_model.specs.pool.Grant.{is_over}
-use Rattle.hp_model.specs.files.MakeMap.{asked, mapped}
+use Rattle.hp_model.specs.files.MakeMap.{with_new}
 use Rattle.hp_model.specs.machine.Plan.{Answered, Choice, Plan, Reply, grant}
 use Rattle.hp_model.specs.Profile.{most_file_pages, most_files, most_map_pages}
 use Rattle.hp_model.specs.machine.Promises.{file_in}
-use Rattle.hp_model.specs.machine.SlotEvent.{are_too_many_maps, file_named, is_name}
+use Rattle.hp_model.specs.machine.SlotEvent.{anon_tests, are_too_many_maps, file_named, is_name}
+use Rattle.hp_mount_files.specs.Asking.{wants, with_range}
 use Rattle.hp_mount_files.specs.declared.next_map.MapRange.{MapRange}
 use Rattle.hp_mount.specs.Found.{first_of}
 
@@ -27,16 +27,25 @@ map_tests m task a n = ((n == 0) || nat_lt most_file_pages (a + n), OutOfRange) 
 abbrev pub why_no_map : Mount → MapRange → Option Refusal
 why_no_map m range = first_of (map_tests m range.task range.start range.pages)
 
--- the grant of a shared map's pages, and the map
+-- the grant of a map's pages, and the map
 abbrev pub map_plan : Mount → MapRange → (number home file : ℕ) → Choice → Plan
 map_plan m range number home file c =
-    grant c m home (asked Shared range.reserving range.start range.pages (file_in m file))
-    (Answered (MapNo number) (Some (with_file m file
-    (mapped range.task number range.start range.pages Shared range.reserving (file_in m file)))))
+    grant c m home (wants range (file_in m file))
+    (Answered (MapNo number) (Some (with_file m file (with_range range number (file_in m file)))))
 
--- the event of a shared map
+-- the event of a map
 abbrev pub map_event : (home : ℕ) → (name : List ℕ) → MapRange → SlotEvent
-map_event home name range = MapEvent range.task home name range.start range.pages Shared range.reserving
+map_event home name range = MapEvent range.task home name range.start range.pages range.sharing range.reserving
+
+-- why a task may not make a file without name with a map of n, if anything
+abbrev pub why_no_anon : Mount → (task n : ℕ) → Option Refusal
+why_no_anon m task n = first_of (anon_tests m task n)
+
+-- the grant of its pages, and the file
+abbrev pub anon_plan : Mount → MapRange → (number home : ℕ) → Choice → Plan
+anon_plan m range number home c =
+    grant c m home (wants range (new_file None))
+    (Answered (MapNo number) (Some (with_new m (with_range range number (new_file None)))))
 
 -- the reply of a map that was made, by its number
 abbrev pub numbered : ℕ → Result (Unit {0}) Refusal → Reply

@@ -1,7 +1,7 @@
 -- What may be refused memory.
 use Rattle.std.specs.Prelude.{Bool, true, false, not}
 use Rattle.hp_model.specs.declared.event.SlotEvent.{SlotEvent}
-use Rattle.hp_model.specs.declared.event.SlotEvent.TheVariants.{Create, Ls, Map, Fault, Load, Store}
+use Rattle.hp_model.specs.declared.event.SlotEvent.TheVariants.{Create, Ls, Map, Anon, Fault, Load, Store}
 use Rattle.hp_model.specs.declared.step.Intent.TheVariants.{Read, Write}
 use Rattle.hp_model.specs.machine.Plan.{Slot}
 use Rattle.hp_model.specs.machine.Promises.{is_backed, spot_on}
@@ -11,6 +11,7 @@ abbrev pub asks_memory : Slot → SlotEvent → Bool
 asks_memory slot (Create name) = true
 asks_memory slot Ls = true
 asks_memory slot (Map task home name a n sharing reserving) = true
+asks_memory slot (Anon task home n sharing reserving) = true
 asks_memory slot (Fault task home number i intent) = not (is_backed intent (spot_on slot task number) i)
 asks_memory slot (Load task home number i offset count) = not (is_backed Read (spot_on slot task number) i)
 asks_memory slot (Store task home number i offset bytes) = not (is_backed Write (spot_on slot task number) i)

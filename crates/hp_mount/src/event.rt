@@ -1,6 +1,6 @@
 //! What a step asks of a mount.
 
-use hp_model::step::{Intent, Reserving};
+use hp_model::step::{Intent, Reserving, Sharing};
 
 /// What a step asks of a mount. Names and bytes are the step's own: nothing is copied. An event of a task says nothing of
 /// the task's home, which goes beside it.
@@ -36,15 +36,32 @@ pub enum MountEvent<'a> {
         offset: u64,
         count: u64,
     },
-    /// Maps `pages` indices of a file, from `start` on, shared; the file gets longer where the map ends past its end.
-    /// With reservations its indices are entered, and a page is reserved for each that was not
-    /// (`mm/hugetlbfs_reserv.rst`); without, each page is asked for when it is first touched.
+    /// Maps `pages` indices of a file, from `start` on; the file gets longer where the map ends past its end. With
+    /// reservations a page is reserved for each index of a private map, and for each of a shared one that was not
+    /// entered, and those of the shared one are entered (`mm/hugetlbfs_reserv.rst`); without, each page is asked for
+    /// when it is first touched.
     Map {
         task: u64,
         name: &'a [u8],
         start: u64,
         pages: u64,
+        sharing: Sharing,
         reserving: Reserving,
+    },
+    /// Maps all of a new file without name, which has `pages` indices. With reservations a page is reserved for each.
+    Anon {
+        task: u64,
+        pages: u64,
+        sharing: Sharing,
+        reserving: Reserving,
+    },
+    /// The file's indices from `start` up to `end` leave a map, with its private copies and an owner's unused reservations
+    /// there. A map without indices goes, and a file without name and maps.
+    Unmap {
+        task: u64,
+        map: u64,
+        start: u64,
+        end: u64,
     },
     /// Sees to it that a map shows a page at an index, or for a write that it has one to write into.
     Fault {

@@ -1,5 +1,5 @@
 //! A mount.
-ghost use Rattle.std.specs.Prelude.{◌≡◌, ◌≢◌, ℕ, [], length, true, false, None, Ok, Err, Some};
+ghost use Rattle.std.specs.Prelude.{◌≡◌, ◌≢◌, ℕ, [], length, true, false, None, Ok, Err, Some, IfErr, OnErr, OnOk};
 ghost use Rattle.hp_model.specs.declared.refusal.Refusal.TheVariants as Refusal;
 ghost use Rattle.hp_model.specs.declared.answer.Answer.TheVariants.{Done};
 ghost use Rattle.hp_model.specs.declared.event.SlotEvent.TheVariants.{Df};
@@ -16,9 +16,12 @@ ghost use Rattle.hp_mount.specs.Event.{event_of, is_usage};
 ghost use Rattle.hp_mount.specs.Kept.{mount_of};
 ghost use Rattle.hp_mount.specs.Memory.{asks_memory};
 
+mod forking;
 mod giving;
+mod leaving;
 mod looking;
 mod making;
+mod private;
 mod reach;
 
 use crate::event::MountEvent;
@@ -81,13 +84,6 @@ impl<N: Naming> Mount<N> {
         }
     }
 
-    /// Whether there is a map.
-    pub fn has_maps(&self) -> bool
-        ensures { result ≡ has_maps self.now }
-    {
-        self.files.map_count() > 0
-    }
-
     /// The mount's limits, its pages in use and reservations, and how many files it has. Never refused.
     pub fn usage(&self) -> Answer
         ensures done { (size k : ℕ) → IsDoneAlone size k (Some self.now) Df (Ok result) (Some self.now) }
@@ -145,16 +141,30 @@ impl<N: Naming> Mount<N> {
                 name,
                 start,
                 pages,
+                sharing,
                 reserving,
             } => {
                 let range = MapRange {
                     task,
                     start,
                     pages,
+                    sharing,
                     reserving,
                 };
                 self.map(door, home, name, &range)
             }
+            MountEvent::Anon {
+                task,
+                pages,
+                sharing,
+                reserving,
+            } => self.anon(door, home, task, pages, sharing, reserving),
+            MountEvent::Unmap {
+                task,
+                map,
+                start,
+                end,
+            } => self.unmap(door, task, map, start, end),
             MountEvent::Fault {
                 task,
                 map,
@@ -187,17 +197,29 @@ impl<N: Naming> Mount<N> {
         }
     }
 
-    /// Ends the mount with its files and maps. Their pages and reservations go back to the pool, and the minimum with
-    /// them; pages that became unneeded surplus leave the pool. Never refused.
-    pub fn close<D: PoolDoor<Share = Subpool<N>, Going = PageStore<N>>>(self, door: &mut D)
+    /// Ends a mount without maps, with its files. Their pages and reservations go back to the pool, and the minimum with
+    /// them; pages that became unneeded surplus leave the pool.
+    ///
+    /// While a map is left the mount is busy: it is handed back as it was.
+    pub fn close<D: PoolDoor<Share = Subpool<N>, Going = PageStore<N>>>(
+        self,
+        door: &mut D,
+    ) -> Result<(), Self>
         requires shares { (s : ShareValue) → D.share_of s ≡ s }
         requires going { (s : StoreValue) → D.going_of s ≡ s.going }
         requires spent { (s : StoreValue) → ((n : ℕ) → page_at s n ≡ None) → D.is_spent s }
         requires ready { D.is_ready door.old }
-        ensures done { ThroughDoor D.took (gives Done (Some self) None)
-            (Some self) door.old (Ok Done) None door.new }
+        ensures free { OnOk result (has_maps self ≡ false) }
+        ensures done { OnOk result (ThroughDoor D.took (gives Done (Some self) None)
+            (Some self) door.old (Ok Done) None door.new) }
+        ensures busy { OnErr result (has_maps self ≡ true) }
+        ensures same { IfErr result (λ m. m ≡ self) }
+        ensures door { OnErr result (door.new ≡ door.old) }
         ensures left { D.is_left door.new }
     {
+        if self.files.map_count() > 0 {
+            return Err(self);
+        }
         let Mount {
             share,
             inodes: _,
@@ -205,5 +227,6 @@ impl<N: Naming> Mount<N> {
         } = self;
         let going = files.close();
         door.close(share, going);
+        Ok(())
     }
 }

@@ -24,7 +24,7 @@ use Rattle.hp_mount_files.proofs.Punched.{in_from, in_parts}
 -- ---- nothing counts from a place on
 
 module _ {X : Type 0} (c : X → ℕ) (f : X → X) (none : (x : X) → c (f x) ≡ 0) where
-  none_mapped : (xs : List X) → sum_by c (map f xs) ≡ 0
+  pub none_mapped : (xs : List X) → sum_by c (map f xs) ≡ 0
   none_mapped [] = refl
   none_mapped (x ∷ xs) = (let here = none x in let rest = none_mapped xs in omega (arith, here, rest, sum_by-cons c (f x) (map f xs)))
 
@@ -50,7 +50,7 @@ punched_cell n Hole = refl
 punched_cell n Entered = refl
 punched_cell n (Present k) = refl
 
-punched_place : (n : ℕ) (p : Place ℕ) → in_place n (without_copy p) ≡ 0
+pub punched_place : (n : ℕ) (p : Place ℕ) → in_place n (without_copy p) ≡ 0
 punched_place n Gone = refl
 punched_place n (Live c o) = refl
 

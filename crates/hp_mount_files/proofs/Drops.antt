@@ -6,7 +6,7 @@ use Rattle.std.proofs.lemmas.Bool.Decides.{eqb_tells, nat_tests}
 use Rattle.std.proofs.lemmas.Bool.{cases_lt, eqb-false, eqb-true, ltb-false}
 use Rattle.std.proofs.lemmas.List.{get_or-drop, get_or-set_same, get_or-set_other, get_or-take, get_or_past, length-append, length-drop, length-take}
 use Rattle.std.proofs.lemmas.List.Sums.{sum_by-cons, sum_by-set, sum_by_push}
-use Rattle.hp_mapping.specs.Mapped.{IsClear, TakesLowest, has_copy}
+use Rattle.hp_mapping.specs.Mapped.{IsClear, TakesLowest, at_place, has_copy}
 use Rattle.hp_model.specs.declared.cell.Cell.{Cell}
 use Rattle.hp_model.specs.declared.cell.Cell.TheVariants.{Hole, Entered, Present}
 use Rattle.hp_model.specs.declared.place.Place.{Place}
@@ -278,7 +278,7 @@ pub record IsCopyTaken (a b : ℕ) (old new : Mapping ℕ) (number : ℕ) : Type
   pub fewer : count_by has_copy new.places < count_by has_copy old.places
   pub same : map_punched a b new ≡ map_punched a b old
 
-place_inside : (m : Mapping ℕ) (i k : ℕ) → copy_of (place_at m i) ≡ Some k → (i - m.start < length m.places) × (copy_of (slice_index_or m.places (i - m.start) Gone) ≡ Some k) × (m.start ≤ i)
+pub place_inside : (m : Mapping ℕ) (i k : ℕ) → copy_of (place_at m i) ≡ Some k → (i - m.start < length m.places) × (copy_of (slice_index_or m.places (i - m.start) Gone) ≡ Some k) × (m.start ≤ i)
 place_inside m i k e = either (nat_lt i m.start) refl e
   where
     inside : (ps : List (Place ℕ)) (j : ℕ) → copy_of (slice_index_or ps j Gone) ≡ Some k → j < length ps
@@ -290,13 +290,25 @@ place_inside m i k e = either (nat_lt i m.start) refl e
     either true from e = cc
     either false from e = (inside m.places (i - m.start) e, e, ltb-false i m.start from)
 
-place_here : (m : Mapping ℕ) (i : ℕ) → m.start ≤ i → place_at m i ≡ slice_index_or m.places (i - m.start) Gone
+pub place_here : (m : Mapping ℕ) (i : ℕ) → m.start ≤ i → place_at m i ≡ slice_index_or m.places (i - m.start) Gone
 place_here m i low = (let past : nat_lt i m.start ≡ false = grind (arith, nat_tests) in ap (λ b. cond b Gone (slice_index_or m.places (i - m.start) Gone)) past)
 
-live_copy : (p : Place ℕ) (k : ℕ) → copy_of p ≡ Some k → (consumed : Bool) × (p ≡ Live consumed (Some k))
+pub live_copy : (p : Place ℕ) (k : ℕ) → copy_of p ≡ Some k → (consumed : Bool) × (p ≡ Live consumed (Some k))
 live_copy Gone k e = cc
 live_copy (Live c None) k e = cc
 live_copy (Live c (Some q)) k e = (c, ap (λ o. Live c o) e)
+
+-- a copy less
+pub less_copy : (m : Mapping ℕ) (i number : ℕ) (places : List (Place ℕ)) → copy_of (place_at m i) ≡ Some number → places ≡ (at_place without_copy i m).places → (n : ℕ) → in_map n m ≡ sum_by (in_place n) places + one_at number n
+less_copy m i number places e places_is n =
+    let j : ℕ = i - m.start in
+    let seen = place_inside m i number e in
+    let was = live_copy (slice_index_or m.places j Gone) number seen.1 in
+    let step = sum_by-set (in_place n) m.places j (without_copy (place_at m i)) Gone seen.0 in
+    let none = ap (λ p. in_place n (without_copy p)) (place_here m i seen.2 ∙ was.1) in
+    let before = ap (in_place n) was.1 in
+    let same = ap (sum_by (in_place n)) places_is in
+    omega (arith, step, none, before, same)
 
 pub copy_taken : (a b : ℕ) (number : ℕ) (old new : Mapping ℕ) → TakesLowest a b number old new → IsCopyTaken a b old new number
 copy_taken a b number old new t =
@@ -307,7 +319,7 @@ copy_taken a b number old new t =
     let l = seen.0 in
     let new_is : new ≡ record old { places = slice_set old.places j (Live was.0 None) } = t.after ∙ ap (λ p. record old { places = slice_set old.places j (without_copy p) }) (place_here old i seen.2 ∙ was.1) in
     record {
-      parts = λ n. (let step = sum_by-set (in_place n) old.places j (Live was.0 None) Gone l in let before = ap (in_place n) was.1 in let same = ap (in_map n) new_is in omega (arith, step, before, same));
+      parts = less_copy old i number new.places t.page_is (ap (λ (m : Mapping ℕ). m.places) t.after);
       fewer = (let step = sum_by-set (λ (p : Place ℕ). cond {A = ℕ} (has_copy p) 1 0) old.places j (Live was.0 None) Gone l in let before = ap (λ p. cond {A = ℕ} (has_copy p) 1 0 + 0) was.1 in let same = ap (λ (m : Mapping ℕ). count_by has_copy m.places) new_is in omega (arith, step, before, same));
       same =
           let low = seen.2 in

@@ -24,9 +24,11 @@ use Rattle.hp_mount_files.specs.Files.{edited_at, file_at}
 use Rattle.hp_mount_files.specs.Held.{IsHeld, in_cell, in_cells, in_file, in_files, more_in}
 use Rattle.hp_mount_files.specs.Hints.{AreNoted, IsFiles, Noted}
 use Rattle.hp_mount_files.specs.Keyed.{IsKeyed, Label, is_listed, key_of, label_of, labels_of}
+use Rattle.hp_mount_files.specs.Level.{AreLevel}
 use Rattle.hp_mount_files.specs.Numbered.{NumberedFile, cell_shown, file_shown, files_shown, map_shown, numbered_at, place_shown, with_punched, with_truncated}
 use Rattle.hp_mount_files.proofs.Cells.{file_is, no_file}
 use Rattle.hp_mount_files.proofs.Keys.{labels_stay}
+use Rattle.hp_mount_files.proofs.Level.{level_set, punched_level, same_level}
 use Rattle.hp_mount_files.proofs.Lifting.{at_most}
 use Rattle.hp_mount_files.proofs.Mapped.{map_drop, map_edited, map_replicate, map_take, sum_edited, sum_mapped}
 use Rattle.hp_mount_files.proofs.Staying.{files_stay}
@@ -219,11 +221,12 @@ module _ (n : Noted) (s t : Store) (more now maps tasks : ℕ) (fs : List Number
     stay : labels_of (slice_set fs k y) ≡ labels_of fs
     stay = labels_stay fs k x y read same
 
-    keeps : IsFiles n t now maps tasks (slice_set fs k y)
-    keeps = record {
+    pub keeps : (AreLevel x.maps → AreLevel y.maps) → IsFiles n t now maps tasks (slice_set fs k y)
+    keeps level = record {
       held = given_held s t more now fs is.held k within x y x_is d counted fewer;
       keyed = subst (IsKeyed maps tasks) (sym stay) is.keyed;
       noted = subst (AreNoted n) (sym stay) is.noted;
+      level = level_set fs k x y within read level is.level;
     }
 
     shows : (g : File) → file_shown s y ≡ g → files_shown t (slice_set fs k y) ≡ edited_at k g (files_shown s fs)
@@ -231,7 +234,7 @@ module _ (n : Noted) (s t : Store) (more now maps tasks : ℕ) (fs : List Number
         sym (all_kept t (slice_set fs k y) (subst (All (λ (l : Label). is_listed l ≡ true)) (sym stay) is.keyed.kept))
         ∙ ap (filter is_kept) (given_shows s t more now fs is.held k within x y x_is d counted fewer ∙ ap (slice_set (files_shown s fs) k) e)
 
-    leaves : (reserves : ℕ) → file_reserves (file_shown s y) + reserves ≡ file_reserves (file_shown s x) → IsLeft reserves (view s more fs) (view t now (slice_set fs k y))
+    pub leaves : (reserves : ℕ) → file_reserves (file_shown s y) + reserves ≡ file_reserves (file_shown s x) → IsLeft reserves (view s more fs) (view t now (slice_set fs k y))
     leaves reserves went = given_left s t more now fs is.held k within x y x_is d counted fewer reserves went
 
   keys_punched : (a b : ℕ) (ms : List (Mapping ℕ)) → map key_of (map (map_punched a b) ms) ≡ map key_of ms
@@ -258,7 +261,7 @@ module _ (n : Noted) (s t : Store) (more now maps tasks : ℕ) (fs : List Number
         omega (arith, is, all, mid, front, back)
 
     pub punch_keeps : IsFiles n t now maps tasks (slice_set fs k y)
-    punch_keeps = keeps same_label fewer
+    punch_keeps = keeps same_label fewer (λ h. same_level (map (map_punched a b) x.maps) y.maps (ap (λ (f : NumberedFile). f.maps) y_is) (punched_level a b x.maps h))
 
     pub punch_files : files_shown t (slice_set fs k y) ≡ edited_at k (punched a b (file_at (files_shown s fs) k)) (files_shown s fs)
     punch_files = shows same_label fewer (punched a b (file_at (files_shown s fs) k)) (ap (file_shown s) y_is ∙ punched_shown s a b x ∙ ap (punched a b) x_shown)
@@ -284,7 +287,7 @@ module _ (n : Noted) (s t : Store) (more now maps tasks : ℕ) (fs : List Number
         omega (arith, is, both, holes, front)
 
     pub cut_keeps : IsFiles n t now maps tasks (slice_set fs k y)
-    cut_keeps = keeps label_same less_left
+    cut_keeps = keeps label_same less_left (λ h. same_level (map (map_punched len (len + length x.cells)) x.maps) y.maps (ap (λ (f : NumberedFile). f.maps) y_is) (punched_level len (len + length x.cells) x.maps h))
 
     pub cut_files : files_shown t (slice_set fs k y) ≡ edited_at k (truncated len (file_at (files_shown s fs) k)) (files_shown s fs)
     cut_files = shows label_same less_left (truncated len (file_at (files_shown s fs) k)) (ap (file_shown s) y_is ∙ truncated_shown s len x ∙ ap (truncated len) x_shown)

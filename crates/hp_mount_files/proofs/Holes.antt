@@ -1,13 +1,14 @@
 -- How many indices of a range have no entry. Past the end none has.
-use Rattle.std.proofs.Common.{◌≡◌, ℕ, zero, suc, ◌+◌, ◌-◌, ◌<◌, ◌≤◌, cond, List, [], ◌∷◌, ◌++◌, length, map, max, min, take, drop, replicate, refl, sym, ap, ◌∙◌, arith}
+use Rattle.std.proofs.Common.{◌≡◌, ℕ, zero, suc, ◌+◌, ◌-◌, ◌<◌, ◌≤◌, cond, Option, List, [], ◌∷◌, ◌++◌, length, map, max, min, take, drop, replicate, refl, sym, ap, ◌∙◌, arith}
 use Rattle.std.specs.List.{count_by}
-use Rattle.std.proofs.lemmas.List.{drop-replicate, length-append, length-drop, length-map, length-replicate, length-take, take_min}
+use Rattle.std.proofs.lemmas.List.{drop-replicate, take-replicate, length-append, length-drop, length-map, length-replicate, length-take, take_min}
 use Rattle.hp_model.specs.declared.cell.Cell.{Cell}
 use Rattle.hp_model.specs.declared.cell.Cell.TheVariants.{Hole, Entered, Present}
 use Rattle.hp_model.specs.declared.step.Reserving.{Reserving}
 use Rattle.hp_model.specs.declared.step.Reserving.TheVariants.{Reserve, NoReserve}
-use Rattle.hp_model.specs.declared.step.Sharing.TheVariants.{Shared}
-use Rattle.hp_model.specs.files.File.{at_least, is_entered, is_hole}
+use Rattle.hp_model.specs.declared.step.Sharing.{Sharing}
+use Rattle.hp_model.specs.declared.step.Sharing.TheVariants.{Private, Shared}
+use Rattle.hp_model.specs.files.File.{new_file, at_least, is_entered, is_hole}
 use Rattle.hp_model.specs.Lists.{part}
 use Rattle.hp_model.specs.files.MakeMap.{asked}
 use Rattle.hp_model.specs.files.Page.{Page}
@@ -91,8 +92,21 @@ asked_shown s fs k a n b l e =
 
 -- what a shared map asks for: nothing, where it reserves nothing
 pub wanted_shown : (reserving : Reserving) (s : Store) (fs : List NumberedFile) (k a n b : ℕ) → k < length fs → b ≡ a + n
-    → count_by is_hole (take (b - entered_from reserving a n) (drop (entered_from reserving a n) (at_least b (numbered_at fs k).cells))) ≡ asked Shared reserving a n (file_at (files_shown s fs) k)
+    → count_by is_hole (take (b - entered_from Shared reserving a n) (drop (entered_from Shared reserving a n) (at_least b (numbered_at fs k).cells))) ≡ asked Shared reserving a n (file_at (files_shown s fs) k)
 wanted_shown Reserve s fs k a n b l e = asked_shown s fs k a n b l e
 wanted_shown NoReserve s fs k a n b l e =
     let none : b - (a + n) ≡ 0 = omega (arith, e) in
     ap (λ m. count_by is_hole (take m (drop (a + n) (at_least b (numbered_at fs k).cells)))) none
+
+-- what a map asks for in a file without entries
+pub asked_alone : (sharing : Sharing) (name : Option (List ℕ)) (a n : ℕ) → asked sharing Reserve a n (new_file name) ≡ n
+asked_alone Private name a n = refl
+asked_alone Shared name a n =
+    let wide : n ≤ a + n - a = omega arith in
+    let all : a + n - 0 ≡ a + n = omega arith in
+    ap (λ m. count_by is_hole (take n (drop a (replicate {A = Cell Page} m Hole)))) all
+    ∙ ap (λ (xs : List (Cell Page)). count_by is_hole (take n xs)) (drop-replicate a (a + n) Hole) ∙ ap (count_by is_hole) (take-replicate n (a + n - a) Hole wide) ∙ all_holes n
+  where
+    all_holes : (n : ℕ) → count_by is_hole (replicate {A = Cell Page} n Hole) ≡ n
+    all_holes zero = refl
+    all_holes (suc n) = (let rest = all_holes n in omega (arith, rest, count_cons is_hole Hole (replicate {A = Cell Page} n Hole)))

@@ -1,13 +1,15 @@
 -- What files and maps are called, through each change.
-use Rattle.std.proofs.Common.{◌≡◌, ℕ, zero, suc, List, [], ◌∷◌, map, refl, sym, ap, subst, ◌∙◌}
+use Rattle.std.proofs.Common.{◌≡◌, ℕ, zero, suc, ◌<◌, List, [], ◌∷◌, length, map, refl, sym, ap, subst, ◌∙◌, arith}
 use Rattle.std.specs.Prelude.{slice_set, slice_index_or}
-use Rattle.std.proofs.lemmas.List.{map-set, set-get_or}
+use Rattle.std.proofs.lemmas.List.{length-map, map-set, set-get_or}
 use Rattle.hp_model.specs.files.Mapping.{Mapping}
 use Rattle.hp_store.specs.Store.{Store}
 use Rattle.hp_mount_files.specs.Held.{IsHeld}
 use Rattle.hp_mount_files.specs.Hints.{AreNoted, IsFiles, IsMore, Noted}
 use Rattle.hp_mount_files.specs.Keyed.{IsKeyed, Label, key_of, label_of, labels_of}
-use Rattle.hp_mount_files.specs.Numbered.{NumberedFile, mapping_at, no_mapping}
+use Rattle.hp_mount_files.specs.Level.{AreLevel}
+use Rattle.hp_mount_files.specs.Numbered.{NumberedFile, file_shown, files_shown, mapping_at, no_mapping}
+use Rattle.hp_mount_files.proofs.Level.{level_set}
 
 pub set_read : {Y : Type 0} (xs : List Y) (j : ℕ) (d : Y) → slice_set xs j (slice_index_or xs j d) ≡ xs
 set_read [] j d = refl
@@ -25,14 +27,15 @@ labels_stay fs k x g read same =
     map-set label_of fs k g ∙ ap (slice_set (labels_of fs) k) same ∙ sym (map-set label_of fs k x) ∙ ap labels_of (ap (slice_set fs k) read ∙ set-get_or fs k x)
 
 -- a file that keeps its label keeps what holds of all
-pub files_same : (n : Noted) (s t : Store) (more maps tasks : ℕ) (fs : List NumberedFile) (k : ℕ) (x g : NumberedFile) → x ≡ slice_index_or fs k x → label_of g ≡ label_of x
-    → IsFiles n s more maps tasks fs → IsHeld t more (slice_set fs k g) → IsFiles n t more maps tasks (slice_set fs k g)
-files_same n s t more maps tasks fs k x g read same is held =
+pub files_same : (n : Noted) (s t : Store) (more now maps tasks : ℕ) (fs : List NumberedFile) (k : ℕ) (x g : NumberedFile) → k < length (files_shown s fs) → x ≡ slice_index_or fs k x → label_of g ≡ label_of x → (AreLevel x.maps → AreLevel g.maps)
+    → IsFiles n s more maps tasks fs → IsHeld t now (slice_set fs k g) → IsFiles n t now maps tasks (slice_set fs k g)
+files_same n s t more now maps tasks fs k x g l read same level is held =
     let stay = sym (labels_stay fs k x g read same) in
     record {
       held = held;
       keyed = subst (IsKeyed maps tasks) stay is.keyed;
       noted = subst (AreNoted n) stay is.noted;
+      level = level_set fs k x g (let long = length-map fs (file_shown s) in omega (arith, l, long)) read level is.level;
     }
 
 -- as much was noted as before, or more
@@ -42,4 +45,4 @@ noted_more old new ls more are =
 
 pub files_noted : (old new : Noted) (s : Store) (more maps tasks : ℕ) (fs : List NumberedFile) → IsMore old new → IsFiles old s more maps tasks fs → IsFiles new s more maps tasks fs
 files_noted old new s more maps tasks fs grown is =
-    record { held = is.held; keyed = is.keyed; noted = noted_more old new (labels_of fs) grown is.noted }
+    record { held = is.held; keyed = is.keyed; noted = noted_more old new (labels_of fs) grown is.noted; level = is.level }

@@ -1,8 +1,7 @@
--- A shared map more, whose indices are entered, unless it reserves nothing.
-use Rattle.std.proofs.Common.{◌≡◌, ℕ, zero, suc, ◌+◌, ◌-◌, ◌<◌, ◌≤◌, Bool, true, false, not, cond, ◌&&◌, ◌||◌, ◌==◌, List, [], ◌∷◌, ◌++◌, length, map, take, drop, replicate, refl, sym, ap, subst, ◌∙◌, arith}
+-- A map more. The indices of a shared one that reserves are entered.
+use Rattle.std.proofs.Common.{◌≡◌, ℕ, zero, suc, ◌+◌, ◌-◌, ◌<◌, Bool, true, false, not, cond, ◌||◌, List, [], ◌∷◌, ◌++◌, length, map, take, drop, replicate, refl, sym, ap, subst, ◌∙◌, arith}
 use Rattle.std.specs.Prelude.{is_some, nat_lt, slice_index_or, slice_set, None}
-use Rattle.std.specs.List.{All, count_by, filter, flat_map, sum_by}
-use Rattle.std.proofs.lemmas.Bool.{and_parts, eqb-true}
+use Rattle.std.specs.List.{All, flat_map, sum_by}
 use Rattle.std.proofs.lemmas.Bool.Decides.{nat_tests}
 use Rattle.std.proofs.lemmas.List.{append-nil, append_assoc, length-append, length-map, length-replicate, map-append, map-set, take-append-drop}
 use Rattle.std.proofs.lemmas.List.Elements.{All-set}
@@ -12,26 +11,25 @@ use Rattle.hp_model.specs.declared.cell.Cell.TheVariants.{Hole, Entered, Present
 use Rattle.hp_model.specs.declared.place.Place.TheVariants.{Live}
 use Rattle.hp_model.specs.declared.step.Reserving.{Reserving}
 use Rattle.hp_model.specs.declared.step.Reserving.TheVariants.{Reserve, NoReserve}
-use Rattle.hp_model.specs.declared.step.Sharing.TheVariants.{Shared}
+use Rattle.hp_model.specs.declared.step.Sharing.{Sharing}
+use Rattle.hp_model.specs.declared.step.Sharing.TheVariants.{Private, Shared}
 use Rattle.hp_model.specs.files.File.{at_least, entered}
 use Rattle.hp_model.specs.Lists.{distinct, edit_range, is_among}
 use Rattle.hp_model.specs.files.MakeMap.{cells_mapped, mapped, new_map, numbers_of}
 use Rattle.hp_model.specs.files.Page.{Page}
-use Rattle.hp_model.specs.files.Mapping.{Map, Mapping, is_of}
-use Rattle.hp_model.proofs.Counting.{count_cons}
-use Rattle.hp_model.proofs.Distinct.{distinct_put, is_among-append}
+use Rattle.hp_model.specs.files.Mapping.{Mapping}
 use Rattle.hp_store.specs.Store.{Store}
 use Rattle.hp_mount_files.specs.Asking.{entered_from}
 use Rattle.hp_mount_files.specs.Files.{file_at, with_file_at}
 use Rattle.hp_mount_files.specs.Held.{IsHeld, in_cell, in_file, in_map, in_place}
 use Rattle.hp_mount_files.specs.Hints.{AreNoted, IsFiles, IsMore, Noted, has_key}
-use Rattle.hp_mount_files.specs.Keyed.{IsKeyed, Label, has_label, is_key, is_listed, key_of, keys_in, label_of, labels_of, numbers_in, tasks_in}
+use Rattle.hp_mount_files.specs.Keyed.{IsKeyed, Label, has_label, is_key, is_listed, key_of, keys_in, label_of, labels_of, tasks_in}
+use Rattle.hp_mount_files.proofs.Level.{level_set, more_level, same_level}
 use Rattle.hp_mount_files.specs.Numbered.{NumberedFile, cell_shown, file_shown, files_shown, map_shown, new_mapping, numbered_at, place_shown, with_mapping}
 use Rattle.hp_mount_files.specs.Places.{all_maps, all_tasks}
 use Rattle.hp_mount_files.proofs.Alike.{alike_held}
 use Rattle.hp_mount_files.proofs.Cells.{file_is, no_file}
-use Rattle.hp_mount_files.proofs.MapNumbers.{among_distinct, distinct_again, numbers_append, numbers_shown}
-use Rattle.hp_mount_files.proofs.Unique.{tasks_counted}
+use Rattle.hp_mount_files.proofs.NewKey.{IsPut, keys_few, other_key, put_distinct, task_known}
 use Rattle.hp_mount_files.proofs.Views.{read_is, view}
 
 -- ---- lists
@@ -96,12 +94,6 @@ module _ {X : Type 0} (c : X → ℕ) where
 
 -- ---- a list of which one part has one element more
 
-record IsPut (xs ys : List ℕ) (n : ℕ) : Type 0 where
-  front : List ℕ
-  back : List ℕ
-  before : xs ≡ front ++ back
-  after : ys ≡ front ++ n ∷ back
-
 put_in : {X : Type 0} (part : X → List ℕ) (d : X) (xs : List X) (k : ℕ) (x : X) (n : ℕ) → k < length xs → part x ≡ part (slice_index_or xs k d) ++ n ∷ [] → IsPut (flat_map part xs) (flat_map part (slice_set xs k x)) n
 put_in part d [] k x n l e = absurd (omega (arith, l))
 put_in part d (z ∷ xs) zero x n l e = record { front = part z; back = flat_map part xs; before = refl; after = ap (λ ys. ys ++ flat_map part xs) e ∙ append_assoc (part z) (n ∷ []) (flat_map part xs) }
@@ -113,46 +105,6 @@ put_in part d (z ∷ xs) (suc k) x n l e =
       before = ap (λ ys. part z ++ ys) rest.before ∙ sym (append_assoc (part z) rest.front rest.back);
       after = ap (λ ys. part z ++ ys) rest.after ∙ sym (append_assoc (part z) rest.front (n ∷ rest.back));
     }
-
-put_distinct : (xs ys : List ℕ) (n : ℕ) (b : Bool) → IsPut xs ys n → is_among n xs ≡ not b → length (distinct ys) ≡ length (distinct xs) + cond b 1 0
-put_distinct xs ys n b p known =
-    let there : is_among n (p.front ++ p.back) ≡ not b = ap (is_among n) (sym p.before) ∙ known in
-    let left = ap (λ zs. length (distinct zs)) p.before in
-    let right = ap (λ zs. length (distinct zs)) p.after in
-    elim b as (λ c. is_among n (p.front ++ p.back) ≡ not c → length (distinct ys) ≡ length (distinct xs) + cond c 1 0) [
-      | true ↦ λ e. (let step = distinct_put n p.front p.back e in omega (arith, step, left, right))
-      | false ↦ λ e. (let step = distinct_again n p.front p.back e in omega (arith, step, left, right))
-    ] there
-
--- ---- a number that the task's maps do not have
-
-neither : (b c : Bool) → (b || c) ≡ false → (b ≡ false) × (c ≡ false)
-neither true c e = cc
-neither false c e = (refl, e)
-
-none_in_maps : (task number : ℕ) (ms : List (Mapping ℕ)) → is_among number (numbers_in task ms) ≡ false → count_by (is_key task number) (map key_of ms) ≡ 0
-none_in_maps task number [] e = refl
-none_in_maps task number (m ∷ ms) e = (let step = count_cons (is_key task number) (key_of m) (map key_of ms) in either (m.task == task) step e (none_in_maps task number ms))
-  where
-    either : (b : Bool) → count_by (is_key task number) (map key_of (m ∷ ms)) ≡ cond {A = ℕ} (b && (m.number == number)) 1 0 + count_by (is_key task number) (map key_of ms)
-        → is_among number (map (λ (x : Mapping ℕ). x.number) (cond b (m ∷ filter (is_of task) ms) (filter (is_of task) ms))) ≡ false
-        → (is_among number (numbers_in task ms) ≡ false → count_by (is_key task number) (map key_of ms) ≡ 0) → count_by (is_key task number) (map key_of (m ∷ ms)) ≡ 0
-    either true step e rest =
-        let parts = neither (m.number == number) (is_among number (numbers_in task ms)) e in
-        let here = ap (λ b. cond {A = ℕ} b 1 0 + 0) parts.0 in
-        let there = rest parts.1 in
-        omega (arith, step, here, there)
-    either false step e rest = (let there = rest e in omega (arith, step, there))
-
-none_in_files : (task number : ℕ) (fs : List NumberedFile) → is_among number (numbers_in task (flat_map (λ (f : NumberedFile). f.maps) fs)) ≡ false → sum_by (keys_in task number) (labels_of fs) ≡ 0
-none_in_files task number [] e = refl
-none_in_files task number (f ∷ fs) e =
-    let rest = flat_map (λ (f : NumberedFile). f.maps) fs in
-    let split = sym (is_among-append number (numbers_in task f.maps) (numbers_in task rest)) ∙ ap (is_among number) (sym (numbers_append task f.maps rest)) ∙ e in
-    let parts = neither (is_among number (numbers_in task f.maps)) (is_among number (numbers_in task rest)) split in
-    let here = none_in_maps task number f.maps parts.0 in
-    let there = none_in_files task number fs parts.1 in
-    omega (arith, here, there, sum_by-cons (keys_in task number) (label_of f) (labels_of fs))
 
 -- ---- what is shown
 
@@ -181,36 +133,38 @@ edit_nothing f k xs =
     none_dropped [] = refl
     none_dropped (y ∷ ys) = refl
 
-module _ (task number a n : ℕ) (reserving : Reserving) where
+module _ (task number a n : ℕ) (sharing : Sharing) (reserving : Reserving) where
   abbrev from : ℕ
-  from = entered_from reserving a n
+  from = entered_from sharing reserving a n
 
-  range_entered : (cells : List (Cell Page)) → edit_range entered from (a + n) (at_least (a + n) cells) ≡ cells_mapped Shared reserving a n cells
-  range_entered cells = elim reserving as (λ r. edit_range entered (entered_from r a n) (a + n) (at_least (a + n) cells) ≡ cells_mapped Shared r a n cells) [
-    | Reserve ↦ refl
-    | NoReserve ↦ edit_nothing entered (a + n) (at_least (a + n) cells)
-  ]
+  range_entered : (cells : List (Cell Page)) → edit_range entered from (a + n) (at_least (a + n) cells) ≡ cells_mapped sharing reserving a n cells
+  range_entered cells = by_kind sharing reserving
+    where
+      by_kind : (k : Sharing) (r : Reserving) → edit_range entered (entered_from k r a n) (a + n) (at_least (a + n) cells) ≡ cells_mapped k r a n cells
+      by_kind Shared Reserve = refl
+      by_kind Shared NoReserve = edit_nothing entered (a + n) (at_least (a + n) cells)
+      by_kind Private other = edit_nothing entered (a + n) (at_least (a + n) cells)
 
   abbrev y : Mapping ℕ
-  y = new_mapping task number a n
+  y = new_mapping task number a n sharing reserving
 
   wide : length y.places ≡ n
   wide = length-replicate n _
 
-  new_shown : (s : Store) → map_shown s y ≡ new_map task number a n Shared reserving
-  new_shown s = ap (λ ps. record (new_map task number a n Shared reserving) { places = ps }) (map_replicate (place_shown s) n (Live false None))
+  new_shown : (s : Store) → map_shown s y ≡ new_map task number a n sharing reserving
+  new_shown s = ap (λ ps. record (new_map task number a n sharing reserving) { places = ps }) (map_replicate (place_shown s) n (Live false None))
 
-  mapped_shown : (s : Store) (x : NumberedFile) → file_shown s (with_mapping from y x) ≡ mapped task number a n Shared reserving (file_shown s x)
+  pub mapped_shown : (s : Store) (x : NumberedFile) → file_shown s (with_mapping from y x) ≡ mapped task number a n sharing reserving (file_shown s x)
   mapped_shown s x =
       let end : ℕ = a + length y.places in
-      let cells : map (cell_shown s) (edit_range entered from end (at_least end x.cells)) ≡ cells_mapped Shared reserving a n (map (cell_shown s) x.cells) =
+      let cells : map (cell_shown s) (edit_range entered from end (at_least end x.cells)) ≡ cells_mapped sharing reserving a n (map (cell_shown s) x.cells) =
       map_edited (cell_shown s) entered entered (entered_shown s) from end (at_least end x.cells)
       ∙ ap (edit_range entered from end) (map-append (cell_shown s) x.cells (replicate (end - length x.cells) Hole) ∙ ap (λ cs. map (cell_shown s) x.cells ++ cs) (map_replicate (cell_shown s) (end - length x.cells) Hole))
       ∙ ap (λ m. edit_range entered from end (map (cell_shown s) x.cells ++ replicate (end - m) Hole)) (sym (length-map x.cells (cell_shown s)))
       ∙ ap (λ m. edit_range entered from (a + m) (at_least (a + m) (map (cell_shown s) x.cells))) wide
       ∙ range_entered (map (cell_shown s) x.cells) in
       ap (λ cs. record { name = x.name; cells = cs; maps = map (map_shown s) (x.maps ++ y ∷ []) }) cells
-      ∙ ap (λ ms. record { name = x.name; cells = cells_mapped Shared reserving a n (map (cell_shown s) x.cells); maps = ms }) (map-append (map_shown s) x.maps (y ∷ []) ∙ ap (λ m. map (map_shown s) x.maps ++ m ∷ []) (new_shown s))
+      ∙ ap (λ ms. record { name = x.name; cells = cells_mapped sharing reserving a n (map (cell_shown s) x.cells); maps = ms }) (map-append (map_shown s) x.maps (y ∷ []) ∙ ap (λ m. map (map_shown s) x.maps ++ m ∷ []) (new_shown s))
 
   cells_count : (m : ℕ) (x : NumberedFile) → sum_by (in_cell m) (with_mapping from y x).cells ≡ sum_by (in_cell m) x.cells
   cells_count m x =
@@ -220,7 +174,7 @@ module _ (task number a n : ℕ) (reserving : Reserving) where
       let none = sum_none (in_cell m) (end - length x.cells) Hole refl in
       omega (arith, same, both, none)
 
-  file_count : (m : ℕ) (x : NumberedFile) → in_file m (with_mapping from y x) ≡ in_file m x
+  pub file_count : (m : ℕ) (x : NumberedFile) → in_file m (with_mapping from y x) ≡ in_file m x
   file_count m x =
       let cells = cells_count m x in
       let maps = sum_by_push (in_map m) x.maps y in
@@ -231,10 +185,10 @@ module _ (task number a n : ℕ) (reserving : Reserving) where
     at : x ≡ numbered_at fs k
     at = read_is fs k x l read
 
-    pub map_view : view s more (slice_set fs k g) ≡ with_file_at k (mapped task number a n Shared reserving (file_at (files_shown s fs) k)) (view s more fs)
+    pub map_view : view s more (slice_set fs k g) ≡ with_file_at k (mapped task number a n sharing reserving (file_at (files_shown s fs) k)) (view s more fs)
     map_view =
         ap (λ xs. record (view s more fs) { files = xs }) (map-set (file_shown s) fs k g
-        ∙ ap (slice_set (files_shown s fs) k) (ap (file_shown s) g_is ∙ mapped_shown s x ∙ ap (mapped task number a n Shared reserving) (ap (file_shown s) at ∙ sym (file_is s fs k l))))
+        ∙ ap (slice_set (files_shown s fs) k) (ap (file_shown s) g_is ∙ mapped_shown s x ∙ ap (mapped task number a n sharing reserving) (ap (file_shown s) at ∙ sym (file_is s fs k l))))
 
     pub map_held : IsHeld s more (slice_set fs k g)
     map_held = alike_held s more fs is.held k l g
@@ -258,15 +212,6 @@ module _ (task number a n : ℕ) (reserving : Reserving) where
     keys_more t m = ap (keys_in t m) label_is ∙ sum_by_push (λ q. cond {A = ℕ} (is_key t m q) 1 0) (map key_of x.maps) (task, number)
 
     module _ (fresh : is_among number (numbers_of task (all_maps (files_shown s fs))) ≡ false) where
-      keys_few : (t m : ℕ) (b : Bool) → is_key t m (task, number) ≡ b → sum_by (keys_in t m) (labels_of fs) ≤ 1 → sum_by (keys_in t m) (labels_of fs) + cond {A = ℕ} b 1 0 ≤ 1
-      keys_few t m true e most =
-          let parts = and_parts (task == t) (number == m) e in
-          let none = none_in_files task number fs (ap (is_among number) (numbers_shown s task fs) ∙ fresh) in
-          let same = ap (λ q. sum_by (keys_in q m) (labels_of fs)) (eqb-true task t parts.0) in
-          let also = ap (λ q. sum_by (keys_in task q) (labels_of fs)) (eqb-true number m parts.1) in
-          omega (arith, none, same, also)
-      keys_few t m false e most = omega (arith, most)
-
       pub map_keyed : (first : Bool) → first ≡ not (is_among task (all_tasks (files_shown s fs))) → IsKeyed (maps + 1) (tasks + cond first 1 0) (labels_of (slice_set fs k g))
       map_keyed first first_is = record {
         kept = subst (All (λ (q : Label). is_listed q ≡ true)) (sym (map-set label_of fs k g)) (All-set (λ (q : Label). is_listed q ≡ true) (labels_of fs) k (label_of g) listed is.keyed.kept);
@@ -284,7 +229,7 @@ module _ (task number a n : ℕ) (reserving : Reserving) where
             let after = sum_through (keys_in t m) label_of (slice_set fs k g) in
             let more = keys_more t m in
             let here = ap (λ (f : NumberedFile). keys_in t m (label_of f)) at in
-            let few = keys_few t m (is_key t m (task, number)) refl (is.keyed.keys t m) in
+            let few = keys_few task number s fs fresh t m (is_key t m (task, number)) refl (is.keyed.keys t m) in
             omega (arith, step, before, after, more, here, few);
         map_count =
             let step = sum_by-set (λ (f : NumberedFile). length (label_of f).keys) fs k g no_file l in
@@ -299,7 +244,7 @@ module _ (task number a n : ℕ) (reserving : Reserving) where
             let more : tasks_at g ≡ tasks_at (numbered_at fs k) ++ task ∷ [] = ap tasks_in label_is ∙ map-append (λ (q : ℕ × ℕ). q.0) (map key_of x.maps) ((task, number) ∷ []) ∙ ap (λ f. tasks_at f ++ task ∷ []) at in
             let before : flat_map tasks_at fs ≡ flat_map tasks_in (labels_of fs) = flat_through fs in
             let after : flat_map tasks_at (slice_set fs k g) ≡ flat_map tasks_in (labels_of (slice_set fs k g)) = flat_through (slice_set fs k g) in
-            let known : is_among task (flat_map tasks_at fs) ≡ not first = ap (is_among task) (before ∙ tasks_counted s fs) ∙ sym (among_distinct task (map (λ (m : Map). m.task) (all_maps (files_shown s fs)))) ∙ flip (is_among task (all_tasks (files_shown s fs))) first first_is in
+            let known : is_among task (flat_map tasks_at fs) ≡ not first = ap (is_among task) before ∙ task_known task s fs first first_is in
             let count = put_distinct (flat_map tasks_at fs) (flat_map tasks_at (slice_set fs k g)) task first (put_in tasks_at no_file fs k g task l more) known in
             let left = ap (λ ts. length (distinct ts)) before in
             let right = ap (λ ts. length (distinct ts)) after in
@@ -311,19 +256,7 @@ module _ (task number a n : ℕ) (reserving : Reserving) where
           flat_through [] = refl
           flat_through (f ∷ fs) = ap (λ ts. tasks_in (label_of f) ++ ts) (flat_through fs)
 
-          flip : (a b : Bool) → b ≡ not a → a ≡ not b
-          flip true b e = ap not (sym e)
-          flip false b e = ap not (sym e)
-
       module _ (now : Noted) (grown : IsMore old now) (own : has_key task number now ≡ true) where
-        -- a key that was not noted is another
-        other_key : (t m : ℕ) (b : Bool) → is_key t m (task, number) ≡ b → has_key t m now ≡ false → b ≡ false
-        other_key t m true e none =
-            let parts = and_parts (task == t) (number == m) e in
-            let known = subst (λ q. has_key q m now ≡ true) (eqb-true task t parts.0) (subst (λ q. has_key task q now ≡ true) (eqb-true number m parts.1) own) in
-            cc
-        other_key t m false e none = refl
-
         map_noted : AreNoted now (labels_of (slice_set fs k g))
         map_noted = record {
           names = λ name e.
@@ -341,9 +274,14 @@ module _ (task number a n : ℕ) (reserving : Reserving) where
               let more = keys_more t m in
               let here = ap (λ (f : NumberedFile). keys_in t m (label_of f)) at in
               let none = is.noted.keys t m (grown.keys t m e) in
-              let other = ap (λ b. cond {A = ℕ} b 1 0) (other_key t m (is_key t m (task, number)) refl e) in
+              let other = ap (λ b. cond {A = ℕ} b 1 0) (other_key task number now own t m (is_key t m (task, number)) refl e) in
               omega (arith, step, before, after, more, here, none, other);
         }
 
         pub map_files : (first : Bool) → first ≡ not (is_among task (all_tasks (files_shown s fs))) → IsFiles now s more (maps + 1) (tasks + cond first 1 0) (slice_set fs k g)
-        map_files first first_is = record { held = map_held; keyed = map_keyed first first_is; noted = map_noted }
+        map_files first first_is = record {
+          held = map_held;
+          keyed = map_keyed first first_is;
+          noted = map_noted;
+          level = level_set fs k x g l read (λ h. same_level (x.maps ++ y ∷ []) g.maps (ap (λ (f : NumberedFile). f.maps) g_is) (more_level x.maps y n refl h)) is.level;
+        }

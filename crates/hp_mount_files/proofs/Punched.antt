@@ -3,7 +3,7 @@ use Rattle.std.proofs.Common.{◌≡◌, ◌≢◌, ℕ, zero, suc, ◌+◌, ◌
 use Rattle.std.specs.Prelude.{slice_index_or, slice_set}
 use Rattle.std.proofs.lemmas.Bool.{and_parts, leb-true, ltb-true}
 use Rattle.std.proofs.lemmas.Bool.Decides.{eqb_tells, nat_tests}
-use Rattle.std.proofs.lemmas.List.{get_or_default, get_or-set_other, get_or-set_same, length-set, same_lists}
+use Rattle.std.proofs.lemmas.List.{get_or_default, get_or-set_other, get_or-set_same, length-set, same_lists, set-set, set_comm}
 use Rattle.hp_model.specs.Lists.{edit_range}
 use Rattle.hp_model.specs.machine.Promises.{is_in}
 use Rattle.hp_model.proofs.Editing.{length-edit_range}
@@ -86,3 +86,15 @@ module _ {X : Type 0} (f : X → X) where
       let more : suc i ≡ i + 1 = omega arith in
       ap (λ ys. slice_set ys i n) was_is ∙ ap (slice_set (first_mapped i xs) i) (n_is ∙ ap f (ap (λ ys. slice_index_or ys i d) was_is ∙ first_next i xs d l))
       ∙ first_more i xs d l ∙ ap (λ k. first_mapped k xs) more
+
+  -- all but one, which stays
+  module _ (k : ℕ) (m d : X) where
+    pub kept_one : (xs : List X) → k < length xs → slice_set (first_mapped (k + 1) xs) k m ≡ slice_set (first_mapped k xs) k m
+    kept_one xs l =
+        let more : suc k ≡ k + 1 = omega arith in
+        ap (λ i. slice_set (first_mapped i xs) k m) (sym more) ∙ ap (λ ys. slice_set ys k m) (sym (first_more k xs d l)) ∙ set-set (first_mapped k xs) k (f (slice_index_or xs k d)) m
+
+    pub next_but_one : (i : ℕ) (xs was : List X) (n : X) → i < length xs → i ≢ k → was ≡ slice_set (first_mapped i xs) k m → n ≡ f (slice_index_or was i d) → slice_set was i n ≡ slice_set (first_mapped (i + 1) xs) k m
+    next_but_one i xs was n l other was_is n_is =
+        let read : n ≡ f (slice_index_or (first_mapped i xs) i d) = n_is ∙ ap f (ap (λ ys. slice_index_or ys i d) was_is ∙ get_or-set_other (first_mapped i xs) k i m d other) in
+        ap (λ ys. slice_set ys i n) was_is ∙ set_comm (first_mapped i xs) k i m n (λ e. other (sym e)) ∙ ap (λ ys. slice_set ys k m) (first_step i xs (first_mapped i xs) d n l refl read)

@@ -24,10 +24,12 @@ use Rattle.hp_mount_files.specs.Held.{IsHeld, in_cell, in_cells, in_file, in_fil
 use Rattle.hp_mount_files.specs.Hints.{AreNoted, IsFiles, IsMoreBut, Noted, has_name as has_noted}
 use Rattle.hp_mount_files.specs.Keyed.{Label, has_label, is_listed, key_of, keys_in, label_of, labels_of, tasks_in}
 use Rattle.hp_mount_files.specs.Places.{IsNamed}
+use Rattle.hp_mount_files.specs.Level.{AreLevel}
 use Rattle.hp_mount_files.specs.Numbered.{NumberedFile, file_shown, files_shown, map_shown, numbered_at}
 use Rattle.hp_mount_files.proofs.Alike.{alike_held}
 use Rattle.hp_mount_files.proofs.Cells.{file_is, no_file}
 use Rattle.hp_mount_files.proofs.GivingBack.{all_kept, in_all, kept_label, waits_shown}
+use Rattle.hp_mount_files.proofs.Level.{level_set, same_level}
 use Rattle.hp_mount_files.proofs.Lifting.{at_most}
 use Rattle.hp_mount_files.proofs.Mapped.{sum_through}
 use Rattle.hp_mount_files.proofs.Staying.{files_stay}
@@ -175,6 +177,7 @@ module _ (n later : Noted) (name : List ℕ) (grown : IsMoreBut name n later) (s
       noted = still_noted (labels_of gs) (λ other. (let less = names_less other in omega (arith, less)))
           (let less = names_less name in let most = is.keyed.names name in let own = ap (λ b. cond {A = ℕ} b 1 0 + 0) has_it in omega (arith, less, most, own))
           (λ t m. (let same = keys_same (keys_in t m) (ap (keys_in t m) label_is) in omega (arith, same)));
+      level = level_set fs k x y within read (same_level x.maps y.maps (ap (λ (f : NumberedFile). f.maps) y_is)) is.level;
     }
 
     shows : files_shown s gs ≡ slice_set (files_shown s fs) k (unlinked (file_at (files_shown s fs) k))
@@ -264,6 +267,7 @@ module _ (n later : Noted) (name : List ℕ) (grown : IsMoreBut name n later) (s
       noted = still_noted (labels_of hs) (λ other. (let less = sum_left (λ (q : Label). cond {A = ℕ} (has_label other q) 1 0) in omega (arith, less)))
           (let less = sum_left (λ (q : Label). cond {A = ℕ} (has_label name q) 1 0) in let most = is.keyed.names name in let own = ap (λ b. cond {A = ℕ} b 1 0 + 0) has_it in omega (arith, less, most, own))
           (λ t m. (let less = sum_left (keys_in t m) in omega (arith, less)));
+      level = subst (All (λ (f : NumberedFile). AreLevel f.maps)) (sym hs_is) (all_left no_file (λ (f : NumberedFile). AreLevel f.maps) fs k is.level);
     }
 
     shown_left : files_shown t hs ≡ remove (files_shown s fs) k

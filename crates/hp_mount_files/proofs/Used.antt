@@ -149,7 +149,7 @@ tasks_among : (task : ℕ) (ms : List (Mapping ℕ)) → is_among task (map (λ 
 tasks_among task [] = refl
 tasks_among task (m ∷ ms) = ap (λ b. (m.task == task) || b) (tasks_among task ms)
 
-any_of_task : (task : ℕ) (fs : List NumberedFile) → is_among task (flat_map tasks_in (labels_of fs)) ≡ list_any (λ (f : NumberedFile). list_any (is_of task) f.maps) fs
+pub any_of_task : (task : ℕ) (fs : List NumberedFile) → is_among task (flat_map tasks_in (labels_of fs)) ≡ list_any (λ (f : NumberedFile). list_any (is_of task) f.maps) fs
 any_of_task task [] = refl
 any_of_task task (f ∷ fs) =
     is_among-append task (tasks_in (label_of f)) (flat_map tasks_in (labels_of fs)) ∙ ap (λ b. b || is_among task (flat_map tasks_in (labels_of fs))) (tasks_among task f.maps)

@@ -7,7 +7,8 @@ use Rattle.hp_model.specs.declared.section.Section.{Section}
 use Rattle.hp_model.specs.declared.section.Section.TheVariants.{Grant}
 use Rattle.hp_model.specs.declared.step.Reserving.{Reserving}
 use Rattle.hp_model.specs.declared.step.Reserving.TheVariants.{Reserve, NoReserve}
-use Rattle.hp_model.specs.declared.step.Sharing.TheVariants.{Shared}
+use Rattle.hp_model.specs.declared.step.Sharing.{Sharing}
+use Rattle.hp_model.specs.declared.step.Sharing.TheVariants.{Shared, Private}
 use Rattle.hp_model.specs.files.File.{File}
 use Rattle.hp_model.specs.Lists.{is_among, least_unused}
 use Rattle.hp_model.specs.files.MakeMap.{asked, mapped, numbers_of}
@@ -15,22 +16,21 @@ use Rattle.hp_model.specs.pool.Pool.{granted_at, no_pages}
 use Rattle.hp_mount_door.specs.Door.{IsDoorRefusal, with_reserves}
 use Rattle.hp_subpool.specs.Subpool.{Subpool, rise}
 use Rattle.hp_mount_files.specs.declared.next_map.MapRange.{MapRange}
-use Rattle.hp_mount_files.specs.Files.{file_at}
 use Rattle.hp_mount_files.specs.Places.{all_maps, all_tasks}
 
--- the first index that a shared map of n from a on enters; one that reserves nothing enters none
-abbrev pub entered_from : Reserving → (a n : ℕ) → ℕ
-entered_from Reserve a n = a
-entered_from NoReserve a n = a + n
+-- the first index that a map of n from a on enters; only a shared one that reserves enters any
+abbrev pub entered_from : Sharing → Reserving → (a n : ℕ) → ℕ
+entered_from Shared Reserve a n = a
+entered_from Shared NoReserve a n = a + n
+entered_from Private reserving a n = a + n
 
--- how many pages a shared map of a range of a file asks for
-abbrev pub wants : MapRange → (file : ℕ) → List File → ℕ
-wants range file fs = asked Shared range.reserving range.start range.pages (file_at fs file)
+-- how many pages a map of a range of the file asks for
+abbrev pub wants : MapRange → File → ℕ
+wants range f = asked range.sharing range.reserving range.start range.pages f
 
--- the file with a shared map of the range more
-abbrev pub with_shared : MapRange → (number file : ℕ) → List File → File
-with_shared range number file fs =
-    mapped range.task number range.start range.pages Shared range.reserving (file_at fs file)
+-- the file with a map of the range more
+abbrev pub with_range : MapRange → (number : ℕ) → File → File
+with_range range number f = mapped range.task number range.start range.pages range.sharing range.reserving f
 
 -- the least number that none of the task's maps has
 abbrev pub next_of : (task : ℕ) → List File → ℕ

@@ -1,11 +1,12 @@
 -- What was noted of files and maps, and what holds of files. No public clause cites this module.
 use Rattle.std.specs.Prelude.{◌≡◌, ℕ, ◌==◌, ◌&&◌, Bool, false, List, map}
 use Rattle.std.specs.Global.{Vec}
-use Rattle.std.specs.List.{count_by, list_any, sum_by}
+use Rattle.std.specs.List.{All, count_by, list_any, sum_by}
 use Rattle.std.specs.Str.{bytes_eq}
 use Rattle.hp_store.specs.Store.{Store}
 use Rattle.hp_mount_files.specs.Held.{IsHeld}
 use Rattle.hp_mount_files.specs.Keyed.{IsKeyed, Label, has_label, keys_in, labels_of}
+use Rattle.hp_mount_files.specs.Level.{AreLevel}
 use Rattle.hp_mount_files.specs.Numbered.{NumberedFile}
 
 -- the names of files, and the tasks and numbers of maps, that were ever noted
@@ -48,3 +49,4 @@ pub record IsFiles (n : Noted) (s : Store) (more maps tasks : ℕ) (fs : List Nu
   pub held : IsHeld s more fs
   pub keyed : IsKeyed maps tasks (labels_of fs)
   pub noted : AreNoted n (labels_of fs)
+  pub level : All (λ (f : NumberedFile). AreLevel f.maps) fs

@@ -1,21 +1,26 @@
 //! What files and maps hold goes.
-ghost use Rattle.std.specs.Prelude.{◌≡◌, ℕ, ◌<◌, ◌≤◌, List, map};
+ghost use Rattle.std.specs.Prelude.{◌≡◌, ℕ, ◌+◌, ◌<◌, ◌≤◌, ◌^◌, List, length, map, slice_index_or, slice_set};
 ghost use Rattle.std.specs.List.{sum_by};
 ghost use Rattle.hp_model.specs.files.File.{cell_punched};
-ghost use Rattle.hp_model.specs.files.Mapping.{map_punched};
+ghost use Rattle.hp_model.specs.files.Mapping.{map_punched, without_range};
+ghost use Rattle.hp_mapping.specs.Mapped.{reserves_in};
 ghost use Rattle.hp_model.specs.Lists.{edit_range};
 ghost use Rattle.hp_store.specs.Store.{dropped, holders_of, page_at};
 ghost use Rattle.hp_mount_files.specs.Dropping.{HasHolders, IsDropping};
 ghost use Rattle.hp_mount_files.specs.Held.{in_cell, in_map, more_in};
+ghost use Rattle.hp_mount_files.specs.Numbered.{no_mapping};
+ghost use Rattle.hp_mount_files.specs.Taking.{robbed_at};
+ghost use Rattle.hp_mount_files.specs.Leaving.{IsMoreButTask, ended_for, owed};
 
+use crate::hints::Hints;
 use hp_inode::Inode;
 use hp_mapping::Mapping;
 use hp_model::naming::Naming;
 use hp_model::page_no::PageNo;
 use hp_store::PageStore;
 
-// A holder of a page goes, and with its last one the page. `more` counts holders beyond the first of each page.
-fn drop_holder<N: Naming>(number: PageNo, store: &mut PageStore<N>, more: &mut usize)
+/// A holder of a page goes, and with its last one the page. `more` counts holders beyond the first of each page.
+pub(crate) fn drop_holder<N: Naming>(number: PageNo, store: &mut PageStore<N>, more: &mut usize)
     requires held { 0 < holders_of (page_at store.old number) }
     requires counted { more.old ≡ more_in store.old.pages }
     ensures dropped { store.new ≡ dropped number store.old }
@@ -88,4 +93,128 @@ pub(crate) fn drop_all_copies<N: Naming>(
     for map in maps.iter_mut() {
         drop_copies(map, a, b, store, more);
     }
+}
+
+// A map that has the page as its copy at an index loses it, and is marked.
+fn take_from<N: Naming>(
+    map: &mut Mapping,
+    index: u64,
+    number: PageNo,
+    store: &mut PageStore<N>,
+    more: &mut usize,
+)
+    requires held { (n : ℕ) → in_map n map.old ≤ holders_of (page_at store.old n) }
+    requires some { HasHolders store.old }
+    requires counted { more.old ≡ more_in store.old.pages }
+    ensures map { map.new ≡ robbed_at number index map.old }
+    ensures dropping { IsDropping (λ n. in_map n map.old) (λ n. in_map n map.new) store.old store.new }
+    ensures counted { more.new ≡ more_in store.new.pages }
+{
+    if map.copy_at(index) != Some(number) {
+        return;
+    }
+    map.take_away(index);
+    drop_holder(number, store, more);
+}
+
+/// All maps but one lose the page as their copy at an index, and are marked. It takes a step for each.
+pub(crate) fn take_from_others<N: Naming>(
+    maps: &mut [Mapping],
+    keeper: usize,
+    index: u64,
+    number: PageNo,
+    store: &mut PageStore<N>,
+    more: &mut usize,
+)
+    requires keeper { keeper < length maps.old }
+    requires held { (n : ℕ) → sum_by (in_map n) maps.old ≤ holders_of (page_at store.old n) }
+    requires some { HasHolders store.old }
+    requires counted { more.old ≡ more_in store.old.pages }
+    ensures maps { maps.new ≡ slice_set (map (robbed_at number index) maps.old) keeper
+        (slice_index_or maps.old keeper no_mapping) }
+    ensures dropping { IsDropping (λ n. sum_by (in_map n) maps.old) (λ n. sum_by (in_map n) maps.new)
+        store.old store.new }
+    ensures counted { more.new ≡ more_in store.new.pages }
+{
+    for (at, map) in maps.iter_mut().enumerate() {
+        if at == keeper {
+            continue;
+        }
+        take_from(map, index, number, store, more);
+    }
+}
+
+/// A file's indices from `a` up to `b` leave a map, with its copies of them. Answers how many reservations that frees. It
+/// takes a step for each index that was there.
+pub(crate) fn leave_range<N: Naming>(
+    map: &mut Mapping,
+    a: u64,
+    b: u64,
+    store: &mut PageStore<N>,
+    more: &mut usize,
+) -> u64
+    requires order { a ≤ b }
+    requires held { (n : ℕ) → in_map n map.old ≤ holders_of (page_at store.old n) }
+    requires some { HasHolders store.old }
+    requires counted { more.old ≡ more_in store.old.pages }
+    ensures map { map.new ≡ without_range a b map.old }
+    ensures dropping { IsDropping (λ n. in_map n map.old) (λ n. in_map n map.new) store.old store.new }
+    ensures counted { more.new ≡ more_in store.new.pages }
+    ensures freed { result ≡ reserves_in a b map.old }
+{
+    drop_copies(map, a, b, store, more);
+    map.unmap(a, b)
+}
+
+// A map of the task loses all its indices, with what it holds, and is noted no more. Answers how many reservations went.
+fn end_map_of<N: Naming>(
+    task: u64,
+    map: &mut Mapping,
+    hints: &mut Hints,
+    store: &mut PageStore<N>,
+    more: &mut usize,
+) -> u64
+    requires held { (n : ℕ) → in_map n map.old ≤ holders_of (page_at store.old n) }
+    requires some { HasHolders store.old }
+    requires counted { more.old ≡ more_in store.old.pages }
+    ensures map { map.new ≡ ended_for task map.old }
+    ensures dropping { IsDropping (λ n. in_map n map.old) (λ n. in_map n map.new) store.old store.new }
+    ensures counted { more.new ≡ more_in store.new.pages }
+    ensures reserves { result + owed map.new ≡ owed map.old }
+    ensures hints { IsMoreButTask task hints.old hints.new }
+{
+    if map.task() != task {
+        return 0;
+    }
+    hints.forget_map(task, map.number());
+    let start = map.start();
+    let end = map.end();
+    leave_range(map, start, end, store, more)
+}
+
+/// The maps of a task lose all their indices, with what they hold, and are noted no more. Answers how many reservations
+/// went.
+pub(crate) fn end_maps_of<N: Naming>(
+    task: u64,
+    maps: &mut [Mapping],
+    hints: &mut Hints,
+    store: &mut PageStore<N>,
+    more: &mut usize,
+) -> u64
+    requires held { (n : ℕ) → sum_by (in_map n) maps.old ≤ holders_of (page_at store.old n) }
+    requires some { HasHolders store.old }
+    requires counted { more.old ≡ more_in store.old.pages }
+    requires few { sum_by owed maps.old < 2 ^ 64 }
+    ensures maps { maps.new ≡ map (ended_for task) maps.old }
+    ensures dropping { IsDropping (λ n. sum_by (in_map n) maps.old) (λ n. sum_by (in_map n) maps.new)
+        store.old store.new }
+    ensures counted { more.new ≡ more_in store.new.pages }
+    ensures reserves { result + sum_by owed maps.new ≡ sum_by owed maps.old }
+    ensures hints { IsMoreButTask task hints.old hints.new }
+{
+    let mut reserves = 0;
+    for map in maps.iter_mut() {
+        reserves += end_map_of(task, map, hints, store, more);
+    }
+    reserves
 }

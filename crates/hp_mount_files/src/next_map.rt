@@ -1,29 +1,77 @@
 //! The map that a task may make next.
-ghost use Rattle.std.specs.Prelude.{◌≡◌, ◌+◌, ◌<◌, ◌≤◌, ◌^◌};
-ghost use Rattle.hp_mount_files.specs.Asking.{entered_from};
+ghost use Rattle.std.specs.Prelude.{◌≡◌, ◌+◌, ◌<◌, ◌≤◌, ◌^◌, ◌&&◌, not, false, IfOk, None};
+ghost use Rattle.hp_mapping.specs.Flags.{has_owner, has_unmapped, sharing_of};
+ghost use Rattle.hp_model.specs.declared.step.Sharing.TheVariants.{Private};
+ghost use Rattle.hp_model.specs.files.File.{File, new_file};
+ghost use Rattle.hp_model.specs.files.MakeMap.{reserves};
+ghost use Rattle.hp_model.specs.files.Mapping.{is_shared};
+ghost use Rattle.hp_mount_files.specs.Asking.{entered_from, wants};
+ghost use Rattle.hp_mount_files.specs.Numbered.{new_mapping};
 
-use hp_model::step::Reserving;
+use hp_mapping::{MapFlags, Mapping};
+use hp_model::step::{Reserving, Sharing};
+use std::alloc::{AllocError, Global};
 
-/// The indices that a task asks to map: so many `pages` of a file, from index `start` on, with reservations or without.
+/// The indices that a task asks to map: so many `pages` of a file, from index `start` on, shared or private, with
+/// reservations or without.
 #[derive(Clone, Copy, PartialEq, Eq)]
 pub struct MapRange {
     pub task: u64,
     pub start: u64,
     pub pages: u64,
+    pub sharing: Sharing,
     pub reserving: Reserving,
 }
 
 impl MapRange {
-    /// The first index that is entered. A map that reserves nothing enters none.
+    /// The first index that is entered. A private map enters none, nor does one that reserves nothing.
     pub(crate) fn entered_from(&self) -> u64
         requires { self.now.start + self.now.pages < 2 ^ 64 }
-        ensures from { result ≡ entered_from self.now.reserving self.now.start self.now.pages }
+        ensures from { result
+            ≡ entered_from self.now.sharing self.now.reserving self.now.start self.now.pages }
         ensures within { result ≤ self.now.start + self.now.pages }
     {
-        match self.reserving {
-            Reserving::Reserve => self.start,
-            Reserving::NoReserve => self.start + self.pages,
+        match (self.sharing, self.reserving) {
+            (Sharing::Shared, Reserving::Reserve) => self.start,
+            _ => self.start + self.pages,
         }
+    }
+
+    /// The pages that the map asks for in a file that has no entry in the range. A private map asks for as many in every
+    /// file.
+    pub fn wanted_alone(&self) -> u64
+        ensures alone { result ≡ wants self.now (new_file None) }
+        ensures private { (f : File) → self.now.sharing ≡ Private → result ≡ wants self.now f }
+    {
+        match self.reserving {
+            Reserving::Reserve => self.pages,
+            Reserving::NoReserve => 0,
+        }
+    }
+
+    // A private map with reservations is their owner.
+    fn flags(&self) -> MapFlags
+        ensures sharing { sharing_of result.0 ≡ self.now.sharing }
+        ensures owner { has_owner result.0
+            ≡ not (is_shared self.now.sharing) && reserves self.now.reserving }
+        ensures unmapped { has_unmapped result.0 ≡ false }
+    {
+        match (self.sharing, self.reserving) {
+            (Sharing::Shared, _) => MapFlags::SHARED,
+            (Sharing::Private, Reserving::Reserve) => MapFlags::OWNER,
+            (Sharing::Private, Reserving::NoReserve) => MapFlags::NORESERVE,
+        }
+    }
+
+    /// The map, which has no copy yet.
+    pub(crate) fn mapping(&self, alloc: Global, number: u64) -> Result<Mapping, AllocError>
+        requires { self.now.start + self.now.pages < 2 ^ 64 }
+        ensures { IfOk result (λ map. map ≡ new_mapping self.now.task number self.now.start
+            self.now.pages self.now.sharing self.now.reserving) }
+    {
+        let end = self.start + self.pages;
+        let map = Mapping::new(alloc, self.task, number, self.start, end, self.flags())?;
+        Ok(map)
     }
 }
 

@@ -96,7 +96,8 @@ impl<N: Naming> PageStore<N> {
 
     /// How many hold a number: 0 where it is free.
     pub fn holders(&self, number: PageNo) -> u64
-        ensures { result ≡ holders_of (page_at self.now number) }
+        ensures holders { result ≡ holders_of (page_at self.now number) }
+        ensures few { held_count self.now.pages + self.now.room ≤ 2 ^ 32 }
     {
         self.slots.holders(number)
     }

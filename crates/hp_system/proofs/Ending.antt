@@ -1,5 +1,5 @@
 -- The end of the machine: slot after slot goes, with all that it has.
-use Rattle.std.proofs.Common.{◌≡◌, ℕ, suc, ◌+◌, ◌-◌, ◌<◌, ◌≤◌, ◌&&◌, ◌==◌, None, Some, Ok, List, [], ◌∷◌, ◌++◌, length, replicate, refl, sym, ap, subst, ◌∙◌, arith}
+use Rattle.std.proofs.Common.{◌≡◌, ℕ, suc, ◌+◌, ◌-◌, ◌<◌, ◌≤◌, ◌&&◌, ◌==◌, None, Some, Ok, List, [], ◌∷◌, ◌++◌, length, replicate, refl, sym, ap, subst, ◌∙◌, arith, IsTrue}
 use Rattle.std.specs.Prelude.{max, slice_set}
 use Rattle.std.specs.List.{sum}
 use Rattle.std.proofs.lemmas.Bool.{cond_both}
@@ -7,9 +7,12 @@ use Rattle.std.proofs.lemmas.List.{append-nil, append_assoc, length-append}
 use Rattle.std.proofs.Math.Seq.{get_or-append_seam, set-append_seam}
 use Rattle.hp_model.specs.declared.answer.Answer.TheVariants.{Done}
 use Rattle.hp_laws.specs.Balance.{Always, IsBalanced, left_by}
+use Rattle.hp_model.specs.declared.event.SlotEvent.TheVariants.{ExitMaps}
 use Rattle.hp_model.specs.files.File.{Mount}
+use Rattle.hp_model.specs.files.GiveBack.{without_task}
+use Rattle.hp_model.specs.machine.Event.{has_maps_of}
 use Rattle.hp_model.specs.machine.Machine.{committed_pages, pool_of}
-use Rattle.hp_model.specs.machine.Plan.{Plan, Finish, Ask, Answered, Slot, fall_of, gives, puts_of}
+use Rattle.hp_model.specs.machine.Plan.{Plan, Finish, Ask, Answered, Reply, Slot, fall_of, gives, puts_of}
 use Rattle.hp_model.specs.declared.section.Section.TheVariants.{GiveBack}
 use Rattle.hp_model.specs.pool.PoolCounts.{Pool, counts_by, counts_of, used}
 use Rattle.hp_model.specs.machine.Settled.{IsSettledState}
@@ -22,9 +25,9 @@ use Rattle.hp_laws.proofs.SlotShows.{always_gives}
 use Rattle.hp_laws.proofs.Tied.{plan_tied}
 use Rattle.hp_model.specs.threads.LocalRun.{ThroughDoor}
 use Rattle.hp_laws.proofs.Tells.{tells_gives}
-use Rattle.hp_system.specs.Event.{took}
+use Rattle.hp_system.specs.Event.{Exits, IsExit, took}
 use Rattle.hp_system.specs.Kept.{all_free, state_of}
-use Rattle.hp_system.proofs.Carries.{plan_is, slot_in, IsKept}
+use Rattle.hp_system.proofs.Carries.{kept_after, plan_is, slot_in, IsKept}
 use Rattle.hp_system.proofs.Start.{sum_none}
 
 -- what is left of n slots: these, and as many without a mount as are done; what is set stays
@@ -40,12 +43,12 @@ begins size bytes t xs p kept =
     record { kept = subst (λ ys. IsKept size bytes t ys p) (sym (ap (λ k. xs ++ replicate {A = Slot} k None) none ∙ append-nil xs)) kept; few = omega arith; nr = refl; overcommit = refl }
 
 -- giving back changes nothing that is set
-given_nr : (p q : Pool) (m : Mount) → ThroughDoor took (gives Done (Some m) None) (Some m) p (Ok Done) None q → (q.nr ≡ p.nr) × (q.overcommit ≡ p.overcommit)
-given_nr p q m h =
-    let ks = puts_of (Some m) None in
-    let back : Plan = Ask (λ nr. GiveBack ks (fall_of (Some m) None)) (λ answer. Answered Done None) in
-    cond_both ((sum ks == 0) && (fall_of (Some m) None == 0)) (Finish (Answered Done None)) back
-    (λ plan. ThroughDoor took plan (Some m) p (Ok Done) None q → (q.nr ≡ p.nr) × (q.overcommit ≡ p.overcommit))
+given_nr : (p q : Pool) (old new left : Slot) (reply : Reply) → ThroughDoor took (gives Done old new) old p reply left q → (q.nr ≡ p.nr) × (q.overcommit ≡ p.overcommit)
+given_nr p q old new left reply h =
+    let ks = puts_of old new in
+    let back : Plan = Ask (λ nr. GiveBack ks (fall_of old new)) (λ answer. Answered Done new) in
+    cond_both ((sum ks == 0) && (fall_of old new == 0)) (Finish (Answered Done new)) back
+    (λ plan. ThroughDoor took plan old p reply left q → (q.nr ≡ p.nr) × (q.overcommit ≡ p.overcommit))
     (λ none h. (ap (λ x. x.nr) h.1, ap (λ x. x.overcommit) h.1))
     (λ some h. (ap (λ x. x.1.nr) (sym h.1) ∙ ap (λ x. x.nr) (puts_are ks p), ap (λ x. x.1.overcommit) (sym h.1) ∙ ap (λ x. x.overcommit) (puts_are ks p))) h
 
@@ -98,8 +101,45 @@ module _ (size bytes n : ℕ) (t : Table) (start : Pool) (xs rest : List Slot) (
       let kept = subst (λ zs. IsKept size bytes t zs p) laid was.kept in
       let within : length rest < length ys = omega (arith, length-append rest (x ∷ replicate tail None)) in
       let here = get_or-append_seam rest x (replicate tail None) None ∙ e in
-      let same = given_nr p q m given in
+      let same = given_nr p q (Some m) None None (Ok Done) given in
       ended_with q (subst (λ zs. IsKept size bytes t zs q) (set-append_seam rest x (replicate tail None) None) (gone_kept size bytes t ys (length rest) m p q kept within here given)) same.0 same.1
+
+-- a mount's maps went, those of one task after those of another, and the mount stays as the last
+module _ (size bytes n : ℕ) (t : Table) (start : Pool) (rest : List Slot) where
+  exit_goes : (task : ℕ) (m left : Mount) (p q : Pool) → IsExit task m p left q → IsEnding size bytes n t start (rest ++ Some m ∷ []) p → IsEnding size bytes n t start (rest ++ Some left ∷ []) q
+  exit_goes task m left p q exit was =
+      let ys : List Slot = rest ++ Some m ∷ [] in
+      let zs : List Slot = rest ++ Some left ∷ [] in
+      let tail : ℕ = n - length ys in
+      let more : List Slot = replicate tail None in
+      let kept = subst (λ xs. IsKept size bytes t xs p) (append_assoc rest (Some m ∷ []) more) was.kept in
+      let within : length rest < length (rest ++ Some m ∷ more) = omega (arith, length-append rest (Some m ∷ more)) in
+      let here = get_or-append_seam rest (Some m) more None in
+      let happens : IsTrue (has_maps_of task (Some m)) = rw (exit.some) refl in
+      let carried = exit.carried size (length rest) in
+      let now = kept_after size bytes t (rest ++ Some m ∷ more) (length rest) (Some m) (Some left) p q (ExitMaps task) (Ok Done) kept within here happens carried in
+      let laid : slice_set (rest ++ Some m ∷ more) (length rest) (Some left) ≡ zs ++ more =
+      set-append_seam rest (Some m) more (Some left) ∙ sym (append_assoc rest (Some left ∷ []) more) in
+      let same : length zs ≡ length ys = length-append rest (Some left ∷ []) ∙ sym (length-append rest (Some m ∷ [])) in
+      let set = given_nr p q (Some m) (Some (without_task task m)) (Some left) (Ok Done) carried.2 in
+      let few = was.few in
+      record {
+        kept = subst (λ k. IsKept size bytes t (zs ++ replicate (n - k) None) q) (sym same) (subst (λ xs. IsKept size bytes t xs q) laid now);
+        few = omega (arith, few, same);
+        nr = set.0 ∙ was.nr;
+        overcommit = set.1 ∙ was.overcommit;
+      }
+
+  pub exits_go : (tasks : List ℕ) (m left : Mount) (p q : Pool) → Exits tasks m p left q → IsEnding size bytes n t start (rest ++ Some m ∷ []) p → IsEnding size bytes n t start (rest ++ Some left ∷ []) q
+  exits_go [] m left p q went was =
+      subst (λ x. IsEnding size bytes n t start (rest ++ Some x ∷ []) q) (sym went.0) (subst (λ x. IsEnding size bytes n t start (rest ++ Some m ∷ []) x) (sym went.1) was)
+  exits_go (task ∷ tasks) m left p q went was = exits_go tasks went.0 left went.1 q went.3 (exit_goes task m went.0 p went.1 went.2 was)
+
+-- one task after others
+pub exits_more : (tasks : List ℕ) (task : ℕ) (m n o : Mount) (p q r : Pool) → Exits tasks m p n q → IsExit task n q o r → Exits (tasks ++ task ∷ []) m p o r
+exits_more [] task m n o p q r went next =
+    (o, r, subst (λ x. IsExit task x p o r) went.0 (subst (λ x. IsExit task n x o r) went.1 next), (refl, refl))
+exits_more (first ∷ tasks) task m n o p q r went next = (went.0, went.1, went.2, exits_more tasks task went.0 n o went.1 q r went.3 next)
 
 -- nothing is committed any more
 pub all_gone : (size bytes n : ℕ) (t : Table) (start p : Pool) (s : State) (xs : List Slot) → xs ≡ [] → IsEnding size bytes n t start xs p → start.nr ≡ s.nr → start.overcommit ≡ s.overcommit → counts_of p ≡ all_free s

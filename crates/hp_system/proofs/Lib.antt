@@ -3,3 +3,4 @@ mod Ending
 mod MachineSteps
 mod Mounting
 mod Start
+mod Forking

@@ -1,32 +1,40 @@
 -- Steps of the machine, by what its parts do. The code's values enter as variables with equations.
-use Rattle.std.proofs.Common.{◌≡◌, ℕ, ◌<◌, ◌≤◌, true, false, cond, List, Ok, Err, None, Some, length, map, refl, sym, ◌∙◌, ap, subst, arith, IsTrue}
+use Rattle.std.proofs.Common.{◌≡◌, ℕ, zero, suc, ◌+◌, ◌-◌, ◌<◌, ◌≤◌, take, replicate, true, false, cond, List, [], ◌∷◌, ◌++◌, Option, Ok, Err, None, Some, length, map, not, ◌==◌, Bool, refl, sym, ◌∙◌, ap, subst, arith, IsTrue}
 use Rattle.std.specs.Bool.{MatchBool}
-use Rattle.std.specs.Prelude.{nat_lt, slice_index_or, slice_set}
-use Rattle.std.proofs.lemmas.List.{get_or_default, set-get_or}
+use Rattle.std.specs.List.{find, range_with_len}
+use Rattle.std.specs.Option.{option_map}
+use Rattle.std.specs.Prelude.{nat_le, nat_lt, slice_index_or, slice_set}
+use Rattle.std.proofs.lemmas.List.{get_or_default, length-map, set-get_or, take-replicate, take_all}
+use Rattle.std.proofs.Math.Seq.{take-append-add}
 use Rattle.std.proofs.lemmas.Bool.Decides.{nat_tests}
 use Rattle.std.proofs.lemmas.Grind.{common_steps}
-use Rattle.hp_model.specs.declared.answer.Answer.TheVariants.{Number, Numbers, Home as HomeAnswer}
-use Rattle.hp_model.specs.declared.answer.Counts.{Counts}
+use Rattle.hp_model.specs.declared.answer.Answer.{Answer}
+use Rattle.hp_model.specs.declared.answer.Answer.TheVariants.{Done, Number, Home as HomeAnswer}
 use Rattle.hp_model.specs.declared.event.Event.{Event}
 use Rattle.hp_model.specs.declared.event.Event.TheVariants.{Tasks, Slot as OnSlot, Pool as OnPool}
 use Rattle.hp_model.specs.declared.event.PoolEvent.{PoolEvent}
 use Rattle.hp_model.specs.declared.event.PoolEvent.TheVariants as pool
 use Rattle.hp_model.specs.declared.event.SlotEvent.{SlotEvent}
+use Rattle.hp_model.specs.declared.event.SlotEvent.TheVariants as slot
 use Rattle.hp_model.specs.declared.event.TableEvent.{TableEvent}
 use Rattle.hp_model.specs.declared.event.TableEvent.TheVariants as table
-use Rattle.hp_model.specs.declared.refusal.Refusal.TheVariants.{NoSuchTask, NoSuchSlot, BadLine}
-use Rattle.hp_model.specs.declared.step.Step.TheVariants.{Connect, Nr, Meminfo}
+use Rattle.hp_model.specs.declared.refusal.Refusal.{Refusal}
+use Rattle.hp_model.specs.declared.refusal.Refusal.TheVariants.{NoSuchTask, NoSuchSlot, OutOfRange}
+use Rattle.hp_model.specs.declared.step.Step.TheVariants.{Attach, Connect, Exit, Overcommit}
 use Rattle.hp_model.specs.declared.service.Access.{Access}
 use Rattle.hp_model.specs.machine.Accesses.{load_step, store_step}
-use Rattle.hp_model.specs.machine.Event.{IsEvent, with_table, with_pool_reply, is_slot_event}
+use Rattle.hp_model.specs.machine.Event.{IsEvent, has_maps_of, with_table, with_pool_reply, is_slot_event}
 use Rattle.hp_model.specs.machine.Machine.{pool_of, node_of}
 use Rattle.hp_model.specs.machine.Plan.{Reply, Slot}
-use Rattle.hp_model.specs.pool.PoolCounts.{Pool, counts_of}
-use Rattle.hp_model.specs.pool.Resize.{pool_event, set_nr}
-use Rattle.hp_model.specs.machine.State.{State}
-use Rattle.hp_model.specs.machine.Step.{Script, Answer_with, on_slot, only, finding, IsScript, IsStep, IsBuiltStep}
-use Rattle.hp_model.specs.machine.Table.{Table, table_event, home_of, when_known}
-use Rattle.hp_system.specs.Event.{IsCarried, DoesOnSlot, load_event, store_event}
+use Rattle.hp_model.specs.Profile.{most_overcommit}
+use Rattle.hp_model.specs.pool.PoolCounts.{Pool}
+use Rattle.hp_model.specs.pool.Resize.{no_count, node_count, node_counts, pool_event, set_nr}
+use Rattle.hp_laws.proofs.Tied.{pool_back}
+use Rattle.hp_model.specs.declared.answer.NodeCount.{NodeCount}
+use Rattle.hp_model.specs.machine.State.{State, slot_at}
+use Rattle.hp_model.specs.machine.Step.{Script, Answer_with, Do, exit_slot, exit_slots, on_slot, only, finding, IsScript, IsStep}
+use Rattle.hp_model.specs.machine.Table.{Table, table_event, home_of, removed, when_known}
+use Rattle.hp_system.specs.Event.{AreExited, IsCarried, DoesOnSlot, load_event, store_event}
 use Rattle.hp_system.specs.Kept.{machine_of, state_of, Machine}
 use Rattle.hp_system.proofs.Carries.{calm, event_done, slot_in, IsKept}
 
@@ -44,36 +52,23 @@ module _ (size : ℕ) (t : Table) (slots : List Slot) (p : Pool) where
       let s : State = state_of size t slots p in
       (calm, tt, subst (λ x. with_pool_reply s (pool_event x e) ≡ (reply, state_of size t slots q)) (sym tie) (ap (λ x. (x.0, state_of size t slots x.1)) h))
 
+  -- an event of the pool, which is the whole of its step
+  pub pool_goes : (e : PoolEvent) (reply : Reply) (q : Pool) (s : State) → pool_of (state_of size t slots p) ≡ p → pool_event p e ≡ (reply, q)
+      → state_of size t slots p ≡ s → IsScript s (only (OnPool e)) reply (state_of size t slots q)
+  pool_goes e reply q s tie h s_is =
+      subst (λ x. IsScript x (only (OnPool e)) reply (state_of size t slots q)) s_is (only_is (state_of size t slots p) (state_of size t slots q) (OnPool e) reply (pool_event_is e reply q tie h))
+
+  pub pool_told : (e : PoolEvent) (reply : Reply) (s : State) → pool_of (state_of size t slots p) ≡ p → pool_event p e ≡ (reply, p)
+      → state_of size t slots p ≡ s → IsScript s (only (OnPool e)) reply s
+  pool_told e reply s tie h s_is = subst (λ x. IsScript s (only (OnPool e)) reply x) s_is (pool_goes e reply p s tie h s_is)
+
   pub nr_event : (n : ℕ) (q : Pool) (r : ℕ) → q ≡ set_nr n p → r ≡ q.nr → pool_event p (pool.Nr n) ≡ (Ok (Number r), q)
   nr_event n q r q_is r_is = ap (λ x. (Ok (Number x.nr), x)) (sym q_is) ∙ ap (λ x. (Ok (Number x), q)) (sym r_is)
 
-  pub nr_step : (n : ℕ) → pool_of (state_of size t slots p) ≡ p → p.nr ≤ n → (q : Pool) (r : ℕ) (s : State) → q ≡ set_nr n p → r ≡ q.nr → state_of size t slots p ≡ s → IsStep s (Nr n) (Ok (Number r)) (state_of size t slots q)
-  unfolding IsStep
-  nr_step n tie up q r s q_is r_is s_is =
-      let old : State = state_of size t slots p in
-      let new : State = state_of size t slots q in
-      let reply : Reply = Ok (Number r) in
-      let rises : nat_lt n p.nr ≡ false = grind (arith, nat_tests, up) in
-      let built : IsBuiltStep old (Nr n) reply new = only_is old new (OnPool (pool.Nr n)) reply (pool_event_is (pool.Nr n) reply q tie (nr_event n q r q_is r_is)) in
-      subst (λ x. IsStep x (Nr n) reply new) s_is
-      (subst (λ b. MatchBool b ((reply ≡ Err BadLine) × (new ≡ old)) (IsBuiltStep old (Nr n) reply new)) (sym rises) built)
-
-  pub falling_step : (n : ℕ) → n < p.nr → (s : State) → state_of size t slots p ≡ s → IsStep s (Nr n) (Err BadLine) s
-  unfolding IsStep
-  falling_step n down s s_is =
-      let old : State = state_of size t slots p in
-      let reply : Reply = Err BadLine in
-      let falls : nat_lt n p.nr ≡ true = grind (arith, nat_tests, down) in
-      subst (λ x. IsStep x (Nr n) reply x) s_is
-      (subst (λ b. MatchBool b ((reply ≡ Err BadLine) × (old ≡ old)) (IsBuiltStep old (Nr n) reply old)) (sym falls) (refl, refl))
-
-  pub meminfo_step : pool_of (state_of size t slots p) ≡ p → (k : Counts) (s : State) → k ≡ counts_of p → state_of size t slots p ≡ s → IsStep s Meminfo (Ok (Numbers k)) s
-  unfolding IsStep
-  meminfo_step tie k s k_is s_is =
-      let old : State = state_of size t slots p in
-      let reply : Reply = Ok (Numbers k) in
-      let gives : pool_event p pool.Meminfo ≡ (reply, p) = ap (λ x. (Ok (Numbers x), p)) (sym k_is) in
-      subst (λ x. IsStep x Meminfo reply x) s_is (only_is old old (OnPool pool.Meminfo) reply (pool_event_is pool.Meminfo reply p tie gives))
+  pub overcommit_event : (n : ℕ) (q : Pool) → n ≤ most_overcommit → q ≡ record p { overcommit = n } → pool_event p (pool.Overcommit n) ≡ (Ok Done, q)
+  overcommit_event n q few q_is =
+      let within : nat_le n most_overcommit ≡ true = grind (arith, nat_tests, few) in
+      ap (λ b. cond b (Ok Done, record p { overcommit = n }) (Err OutOfRange, p)) within ∙ ap (λ x. (Ok Done, x)) (sym q_is)
 
   -- ---- the task table
 
@@ -82,32 +77,134 @@ module _ (size : ℕ) (t : Table) (slots : List Slot) (p : Pool) where
       let s : State = state_of size t slots p in
       (calm, tt, subst (λ n. with_table s (table_event n t e) ≡ (reply, state_of size u slots p)) (sym (same_length p)) (ap (λ x. (x.0, state_of size x.1 slots p)) h))
 
-  pub connect_step : (task home : ℕ) (reply : Reply) (u : Table) (nodes : ℕ) (s : State) → nodes ≡ length p.nodes.rows → table_event nodes t (table.Add task home) ≡ (reply, u)
-      → state_of size t slots p ≡ s → IsStep s (Connect task home) reply (state_of size u slots p)
-  unfolding IsStep
-  connect_step task home reply u nodes s count h s_is =
-      let old : State = state_of size t slots p in
-      let new : State = state_of size u slots p in
-      let gives = subst (λ n. table_event n t (table.Add task home) ≡ (reply, u)) count h in
-      subst (λ x. IsStep x (Connect task home) reply new) s_is (only_is old new (Tasks (table.Add task home)) reply (table_event_is (table.Add task home) reply u gives))
+  -- an event of the task table, as a script's first
+  pub table_goes : (e : TableEvent) (reply : Reply) (u : Table) (nodes : ℕ) (s : State) → nodes ≡ length p.nodes.rows → table_event nodes t e ≡ (reply, u)
+      → state_of size t slots p ≡ s → IsEvent s (Tasks e) reply (state_of size u slots p)
+  table_goes e reply u nodes s count h s_is =
+      subst (λ x. IsEvent x (Tasks e) reply (state_of size u slots p)) s_is (table_event_is e reply u (subst (λ n. table_event n t e ≡ (reply, u)) count h))
+
+-- ---- the pool
+
+pub overcommit_refused : (s : State) (n : ℕ) → most_overcommit < n → IsStep s (Overcommit n) (Err OutOfRange) s
+unfolding IsStep
+overcommit_refused s n past =
+    let p : Pool = pool_of s in
+    let outside : nat_le n most_overcommit ≡ false = grind (arith, nat_tests, past) in
+    let refuses : pool_event p (pool.Overcommit n) ≡ (Err OutOfRange, p) = ap (λ b. cond b (Ok Done, record p { overcommit = n }) (Err OutOfRange, p)) outside in
+    only_is s s (OnPool (pool.Overcommit n)) (Err OutOfRange) (calm, tt, ap (with_pool_reply s) refuses ∙ ap (λ x. (Err OutOfRange, x)) (pool_back s))
+
+-- rows with those of zeros past them
+pub padded : (p : Pool) (rows : List NodeCount) (n : ℕ) → length p.nodes.rows ≤ 4 → n ≡ length p.nodes.rows
+    → rows ≡ map node_count (take n p.nodes.rows) ++ replicate (4 - n) no_count → rows ≡ node_counts p
+padded p rows n few whole is =
+    let xs = map node_count p.nodes.rows in
+    let k = length p.nodes.rows in
+    let long : length xs ≡ k = length-map p.nodes.rows node_count in
+    let parts : length xs + (4 - k) ≡ 4 = omega (arith, few, long) in
+    is ∙ ap (λ m. map node_count (take m p.nodes.rows) ++ replicate (4 - m) no_count) whole
+    ∙ ap (λ ys. map node_count ys ++ replicate (4 - k) no_count) (take_all k p.nodes.rows (omega arith))
+    ∙ ap (λ ys. xs ++ ys) (sym (take-replicate (4 - k) 4 no_count (omega arith)))
+    ∙ sym (take-append-add xs (replicate 4 no_count) (4 - k)) ∙ ap (λ m. take m (xs ++ replicate 4 no_count)) parts
+
+-- ---- the task table
+
+pub connect_step : (s t : State) (task home : ℕ) (reply : Reply) → IsEvent s (Tasks (table.Add task home)) reply t → IsStep s (Connect task home) reply t
+unfolding IsStep
+connect_step s t task home reply h = only_is s t (Tasks (table.Add task home)) reply h
+
+-- ---- a task that exits
+
+pub exit_refused : (s t : State) (task : ℕ) (e : Refusal) → IsEvent s (Tasks (table.Remove task)) (Err e) t → IsStep s (Exit task) (Err e) t
+unfolding IsStep
+exit_refused s t task e h = (Err e, t, h, (refl, refl))
+
+pub exit_done : (s mid t : State) (task : ℕ) (a : Answer) → IsEvent s (Tasks (table.Remove task)) (Ok a) mid → length mid.slots ≡ length s.slots
+    → AreExited mid (range_with_len 0 (length mid.slots)) task t → IsStep s (Exit task) (Ok Done) t
+unfolding IsStep
+exit_done s mid t task a h same exited =
+    (Ok a, mid, h, subst (λ n. IsScript mid (exit_slots (range_with_len 0 n) task (Answer_with (Ok Done))) (Ok Done) t) same (exited (Answer_with (Ok Done)) (Ok Done) t (refl, refl)))
+
+-- a task that goes is answered so
+pub gone_is_done : (nodes task : ℕ) (t u : Table) (a : Answer) → table_event nodes t (table.Remove task) ≡ (Ok a, u) → a ≡ Done
+gone_is_done nodes task t u a h = by_home (home_of t task) (ap (λ (q : Reply × Table). q.0) h)
+  where
+    by_home : (o : Option ℕ) → (when_known t o (λ home. (Ok Done, removed t task))).0 ≡ Ok a → a ≡ Done
+    by_home None e = cc
+    by_home (Some home) e = cc
+
+-- a task that is taken out went, or was not there
+module _ (task : ℕ) where
+  all_stay : (t : Table) → home_of t task ≡ None → removed t task ≡ t
+  all_stay [] e = refl
+  all_stay (x ∷ xs) e = by_test (x.0 == task) refl e (all_stay xs)
+    where
+      by_test : (b : Bool) → (x.0 == task) ≡ b → option_map (λ (e : ℕ × ℕ). e.1) (cond b (Some x) (find (λ e. e.0 == task) xs)) ≡ None → (home_of xs task ≡ None → removed xs task ≡ xs)
+          → cond (not b) (x ∷ removed xs task) (removed xs task) ≡ x ∷ xs
+      by_test true is none rest = cc
+      by_test false is none rest = ap (λ ys. x ∷ ys) (rest none)
+
+  pub taken_out : (nodes : ℕ) (t : Table) → (reply : Reply) × (table_event nodes t (table.Remove task) ≡ (reply, removed t task))
+  taken_out nodes t = by_home (home_of t task) refl
+    where
+      by_home : (o : Option ℕ) → home_of t task ≡ o → (reply : Reply) × (table_event nodes t (table.Remove task) ≡ (reply, removed t task))
+      by_home None none = (Err NoSuchTask, ap (λ o. when_known t o (λ home. (Ok Done, removed t task))) none ∙ ap (λ u. (Err NoSuchTask, u)) (sym (all_stay t none)))
+      by_home (Some home) some = (Ok Done, ap (λ o. when_known t o (λ home. (Ok Done, removed t task))) some)
+
+-- a slot where the task has no map
+pub stays_there : (s : State) (k task : ℕ) → has_maps_of task (slot_at s k) ≡ false → AreExited s (k ∷ []) task s
+stays_there s k task none next reply u h =
+    subst (λ b. MatchBool b (IsScript s (Do (OnSlot k (slot.ExitMaps task)) (λ r. next)) reply u) (IsScript s next reply u)) (sym none) h
+
+-- and one that it leaves
+pub leaves_there : (s t : State) (k task : ℕ) (r : Reply) → has_maps_of task (slot_at s k) ≡ true → IsEvent s (OnSlot k (slot.ExitMaps task)) r t → AreExited s (k ∷ []) task t
+leaves_there s t k task r some goes next reply u h =
+    subst (λ b. MatchBool b (IsScript s (Do (OnSlot k (slot.ExitMaps task)) (λ r. next)) reply u) (IsScript s next reply u)) (sym some) (r, t, goes, h)
+
+-- one number after others
+range_more : (a n : ℕ) → range_with_len a (suc n) ≡ range_with_len a n ++ (a + n) ∷ []
+range_more a zero = ap (λ k. k ∷ []) {x = a} {y = a + 0} (omega arith)
+range_more a (suc n) =
+    let next : a + 1 + n ≡ a + suc n = omega arith in
+    ap (λ ks. a ∷ ks) (range_more (a + 1) n ∙ ap (λ k. range_with_len (a + 1) n ++ k ∷ []) next)
+
+pub first_more : (n : ℕ) → range_with_len 0 (n + 1) ≡ range_with_len 0 n ++ n ∷ []
+first_more n = ap (range_with_len 0) {x = n + 1} {y = suc n} (omega arith) ∙ range_more 0 n ∙ ap (λ k. range_with_len 0 n ++ k ∷ []) {x = 0 + n} {y = n} (omega arith)
+
+-- one slot after others
+pub exited_more : (s mid t : State) (ks : List ℕ) (k task : ℕ) → AreExited s ks task mid → AreExited mid (k ∷ []) task t → AreExited s (ks ++ k ∷ []) task t
+exited_more s mid t ks k task first then next reply u h =
+    subst (λ x. IsScript s x reply u) (joined ks) (first (exit_slots (k ∷ []) task next) reply u (then next reply u h))
+  where
+    joined : (xs : List ℕ) → exit_slots xs task (exit_slots (k ∷ []) task next) ≡ exit_slots (xs ++ k ∷ []) task next
+    joined [] = refl
+    joined (x ∷ xs) = ap (exit_slot x task) (joined xs)
 
 -- ---- a step that finds its task first
 
-pub task_found : (s t : State) (task home : ℕ) (next : ℕ → Script) (reply : Reply) → home_of s.table task ≡ Some home → IsScript s (next home) reply t → IsScript s (finding task next) reply t
-task_found s t task home next reply known h =
-    let gives : table_event (length s.nodes) s.table (table.Find task) ≡ (Ok (HomeAnswer home), s.table) = ap (λ o. when_known s.table o (λ x. (Ok (HomeAnswer x), s.table))) known in
-    (Ok (HomeAnswer home), s, (calm, tt, ap (with_table s) gives), h)
+module _ (s : State) (task : ℕ) where
+  find_is : (o : Option ℕ) → home_of s.table task ≡ o → IsEvent s (Tasks (table.Find task)) (when_known s.table o (λ x. (Ok (HomeAnswer x), s.table))).0 s
+  find_is None unknown = (calm, tt, ap (λ o. with_table s (when_known s.table o (λ x. (Ok (HomeAnswer x), s.table)))) unknown)
+  find_is (Some home) known = (calm, tt, ap (λ o. with_table s (when_known s.table o (λ x. (Ok (HomeAnswer x), s.table)))) known)
 
-pub task_not_found : (s : State) (task : ℕ) (next : ℕ → Script) → home_of s.table task ≡ None → IsScript s (finding task next) (Err NoSuchTask) s
-task_not_found s task next unknown =
-    let gives : table_event (length s.nodes) s.table (table.Find task) ≡ (Err NoSuchTask, s.table) = ap (λ o. when_known s.table o (λ x. (Ok (HomeAnswer x), s.table))) unknown in
-    (Err NoSuchTask, s, (calm, tt, ap (with_table s) gives), (refl, refl))
+  pub attach_found : (home : ℕ) → home_of s.table task ≡ Some home → IsStep s (Attach task) (Ok (HomeAnswer home)) s
+  unfolding IsStep
+  attach_found home known = only_is s s (Tasks (table.Find task)) (Ok (HomeAnswer home)) (find_is (Some home) known)
+
+  pub attach_not_found : home_of s.table task ≡ None → IsStep s (Attach task) (Err NoSuchTask) s
+  unfolding IsStep
+  attach_not_found unknown = only_is s s (Tasks (table.Find task)) (Err NoSuchTask) (find_is None unknown)
+
+  pub task_found : (t : State) (home : ℕ) (next : ℕ → Script) (reply : Reply) → home_of s.table task ≡ Some home → IsScript s (next home) reply t → IsScript s (finding task next) reply t
+  task_found t home next reply known h = (Ok (HomeAnswer home), s, find_is (Some home) known, h)
+
+  pub task_not_found : (next : ℕ → Script) → home_of s.table task ≡ None → IsScript s (finding task next) (Err NoSuchTask) s
+  task_not_found next unknown = (Err NoSuchTask, s, find_is None unknown, (refl, refl))
 
 -- ---- loads and stores
 
 pub load_found : (s t : State) (a : Access) (count home : ℕ) (reply : Reply) → home_of s.table a.task ≡ Some home → DoesOnSlot s a.slot (load_event a count home) reply t → IsStep s (load_step a count) reply t
 unfolding IsStep
-load_found s t a count home reply known h = task_found s t a.task home (λ x. on_slot (length s.slots) a.slot (load_event a count x)) reply known h
+load_found s t a count home reply known h = task_found s a.task t home (λ x. on_slot (length s.slots) a.slot (load_event a count x)) reply known h
 
 pub load_not_found : (s : State) (a : Access) (count : ℕ) → home_of s.table a.task ≡ None → IsStep s (load_step a count) (Err NoSuchTask) s
 unfolding IsStep
@@ -116,7 +213,7 @@ load_not_found s a count unknown = task_not_found s a.task (λ x. on_slot (lengt
 pub store_found : (s t : State) (a : Access) (bytes : List ℕ) (home : ℕ) (reply : Reply) → home_of s.table a.task ≡ Some home → DoesOnSlot s a.slot (store_event a bytes home) reply t
     → IsStep s (store_step a bytes) reply t
 unfolding IsStep
-store_found s t a bytes home reply known h = task_found s t a.task home (λ x. on_slot (length s.slots) a.slot (store_event a bytes x)) reply known h
+store_found s t a bytes home reply known h = task_found s a.task t home (λ x. on_slot (length s.slots) a.slot (store_event a bytes x)) reply known h
 
 pub store_not_found : (s : State) (a : Access) (bytes : List ℕ) → home_of s.table a.task ≡ None → IsStep s (store_step a bytes) (Err NoSuchTask) s
 unfolding IsStep
@@ -147,7 +244,11 @@ machine_back {size} {t} {xs} {p} k x m read is = sym is ∙ ap (λ ys. machine_o
 
 module _ (size bytes : ℕ) (t : Table) (xs : List Slot) (p : Pool) (kept : IsKept size bytes t xs p) (s : State) (s_is : state_of size t xs p ≡ s) (k : ℕ) (within : k < length xs) (old : Slot) (here : slot_in xs k ≡ old)
     (e : SlotEvent) (happens : IsTrue (is_slot_event old e)) where
-  -- what an event on the slot leaves, as a script
+  -- what an event on the slot leaves, as an event
+  pub slot_went : (new : Slot) (q : Pool) (reply : Reply) → IsCarried size k p old e reply new q → IsEvent s (OnSlot k e) reply (state_of size t (slice_set xs k new) q)
+  slot_went new q reply h = subst (λ x. IsEvent x (OnSlot k e) reply (state_of size t (slice_set xs k new) q)) s_is (event_done size bytes t xs k old new p q e reply kept within here happens h)
+
+  -- what it leaves, as a script
   pub slot_done : (new : Slot) (q : Pool) (reply : Reply) → IsCarried size k p old e reply new q → IsScript s (on_slot (length s.slots) k e) reply (state_of size t (slice_set xs k new) q)
   slot_done new q reply h =
       let before : State = state_of size t xs p in

@@ -1,18 +1,24 @@
 -- An event on a slot, carried out on the slot and the pool, and as a step of the machine.
-use Rattle.std.specs.Prelude.{◌≡◌, ℕ, List, length}
+use Rattle.std.specs.Prelude.{◌≡◌, ℕ, true, List, [], ◌∷◌, length, Ok, Err, Result, Some}
+use Rattle.std.specs.Bool.{MatchBool}
+use Rattle.std.specs.List.{filter, range_with_len}
+use Rattle.hp_model.specs.declared.refusal.Refusal.{Refusal}
+use Rattle.hp_model.specs.declared.event.Event.TheVariants.{Slot as OnSlot}
+use Rattle.hp_model.specs.declared.answer.Answer.TheVariants.{Done}
 use Rattle.hp_model.specs.declared.event.SlotEvent.{SlotEvent}
-use Rattle.hp_model.specs.declared.event.SlotEvent.TheVariants.{Load, Store}
+use Rattle.hp_model.specs.declared.event.SlotEvent.TheVariants.{ExitMaps, ForkMaps, Load, Store}
 use Rattle.hp_model.specs.declared.section.PoolAnswer.{PoolAnswer}
 use Rattle.hp_model.specs.declared.section.Section.{Section}
 use Rattle.hp_model.specs.declared.service.Access.{Access}
-use Rattle.hp_model.specs.machine.Event.{IsFresh}
+use Rattle.hp_model.specs.files.File.{Mount}
+use Rattle.hp_model.specs.machine.Event.{IsEvent, IsFresh, has_maps_of}
 use Rattle.hp_model.specs.threads.LocalRun.{ThroughDoor}
 use Rattle.hp_model.specs.machine.Plan.{Choice, Reply, Slot}
 use Rattle.hp_model.specs.pool.Pool.{section}
 use Rattle.hp_model.specs.pool.PoolCounts.{Pool}
 use Rattle.hp_model.specs.machine.SlotEvent.{slot_event}
-use Rattle.hp_model.specs.machine.State.{State}
-use Rattle.hp_model.specs.machine.Step.{IsScript, finding, on_slot}
+use Rattle.hp_model.specs.machine.State.{State, slot_at}
+use Rattle.hp_model.specs.machine.Step.{IsScript, Script, exit_slots, finding, fork_slots, on_slot, undone}
 
 -- the pool by itself: a section gives its answer, and leaves the pool
 abbrev pub took : Pool → Section → PoolAnswer → Pool → Type 0
@@ -30,6 +36,38 @@ DoesOnSlot s k e reply t = IsScript s (on_slot (length s.slots) k e) reply t
 -- and that of a task with its home, if the task is there
 abbrev pub DoesOfTask : State → (task k : ℕ) → (ℕ → SlotEvent) → Reply → State → Type 0
 DoesOfTask s task k e reply t = IsScript s (finding task (λ home. on_slot (length s.slots) k (e home))) reply t
+
+-- the task's maps on these slots went, slot after slot: whatever follows that, follows here
+abbrev pub AreExited : State → List ℕ → (task : ℕ) → State → Type 0
+AreExited s ks task t = (next : Script) (reply : Reply) (u : State) → IsScript t next reply u → IsScript s (exit_slots ks task next) reply u
+
+-- the slots below n where the task has maps
+abbrev pub mapped_slots : State → (n task : ℕ) → List ℕ
+mapped_slots s n task = filter (λ k. has_maps_of task (slot_at s k)) (range_with_len 0 n)
+
+-- the parent's maps on a slot, if it has any there, are the child's as well
+abbrev pub IsForkedOn : State → (k parent child : ℕ) → Reply → State → Type 0
+IsForkedOn s k parent child reply t =
+    MatchBool (has_maps_of parent (slot_at s k)) (IsEvent s (OnSlot k (ForkMaps parent child)) reply t) ((reply ≡ Ok Done) × (t ≡ s))
+
+-- a fork on all slots; refused, the child's maps are gone again, and only the child is left to go
+abbrev pub AreForked : State → (parent child : ℕ) → Result (Unit {0}) Refusal → State → Type 0
+AreForked s parent child (Ok forked) t = IsScript s (fork_slots (range_with_len 0 (length s.slots)) [] parent child) (Ok Done) t
+AreForked s parent child (Err r) t =
+    (reply : Reply) (u : State) → IsScript t (undone [] child r) reply u → IsScript s (fork_slots (range_with_len 0 (length s.slots)) [] parent child) reply u
+
+-- the maps of a task, which had some, went from a mount and through the pool by itself
+pub record IsExit (task : ℕ) (m : Mount) (p : Pool) (n : Mount) (q : Pool) : Type 0 where
+  pub some : has_maps_of task (Some m) ≡ true
+  pub carried : (size k : ℕ) → IsCarried size k p (Some m) (ExitMaps task) (Ok Done) (Some n) q
+
+-- and those of these tasks, one task after another
+abbrev pub Exits : List ℕ → (m : Mount) (p : Pool) (n : Mount) (q : Pool) → Type 0
+Exits [] m p n q = (n ≡ m) × (q ≡ p)
+Exits (task ∷ tasks) m p n q = (mid : Mount) × (r : Pool) × IsExit task m p mid r × Exits tasks mid r n q
+
+abbrev pub AllExit : (m : Mount) (p : Pool) (n : Mount) (q : Pool) → Type 0
+AllExit m p n q = (tasks : List ℕ) × Exits tasks m p n q
 
 -- the event of a load of so many bytes and of a store, of a task with that home
 abbrev pub load_event : Access → (count home : ℕ) → SlotEvent

@@ -1,8 +1,11 @@
 //! The machine.
-ghost use Rattle.std.specs.Prelude.{◌≡◌, ◌<◌, ◌≤◌, [], length, vec_capacity, All, IfOk};
+ghost use Rattle.std.specs.Prelude.{false, ◌≡◌, ◌<◌, ◌≤◌, [], length, vec_capacity, All, IfOk};
 ghost use Rattle.hp_model.specs.machine.Machine.{slots_from, start};
 ghost use Rattle.hp_model.specs.pool.PoolCounts.{IsSettled};
 ghost use Rattle.hp_pool.specs.Ledgers.{AreLedgers};
+ghost use Rattle.hp_model.specs.machine.SlotEvent.{has_maps};
+ghost use Rattle.hp_mount_door.specs.Door.{IsReady as IsReadyPool};
+ghost use Rattle.hp_system.specs.Event.{AllExit};
 ghost use Rattle.hp_system.specs.Kept.{all_free, IsReady};
 
 mod accesses;
@@ -104,13 +107,29 @@ impl<N: Naming> System<N> {
             mut pool,
         } = self;
         while let Some(slot) = slots.pop() {
-            match slot {
-                Some(mount) => mount.close(&mut pool),
-                None => {}
+            if let Some(mount) = slot {
+                let mut last = mount;
+                exit_all(&mut last, &mut pool);
+                match last.close(&mut pool) {
+                    Ok(()) => {}
+                    Err(_mount) => unreachable!(),
+                }
             }
         }
         slots.destroy_empty();
         pool.close()
+    }
+}
+
+// The maps of all tasks go from a mount, those of one task after those of another.
+fn exit_all<N: Naming>(mount: &mut Mount<N>, pool: &mut Pool<N>)
+    requires { IsReadyPool pool.old }
+    ensures none { has_maps mount.new ≡ false }
+    ensures gone { AllExit mount.old pool.old mount.new pool.new }
+    ensures ready { IsReadyPool pool.new }
+{
+    while let Some(task) = mount.first_task() {
+        mount.exit_maps(pool, task);
     }
 }
 

@@ -24,6 +24,8 @@ impl Model for TaskTable {
 }
 
 ghost use Rattle.std.specs.Prelude.{◌≡◌, ◌<◌, ℕ, length, [], IfOk, Ok, Err, IsTrue, is_some};
+ghost use Rattle.hp_model.specs.declared.event.TableEvent.TheVariants.{FindAndAdd};
+ghost use Rattle.hp_mount.specs.Done.{done};
 ghost use Rattle.hp_model.specs.machine.Table.{home_of, added, removed, is_known, is_crowded, table_event};
 
 impl TaskTable {
@@ -58,7 +60,25 @@ impl TaskTable {
         }
     }
 
-    fn remove(&mut self, task: u64)
+    /// Adds a child of a task, with its home node. Refused as NoSuchTask, TaskExists or TooMany; then nothing changes.
+    pub fn add_child(&mut self, parent: u64, child: u64) -> Result<(), Refusal>
+        ensures { (nodes : ℕ) → table_event nodes self.old (FindAndAdd parent child) ≡ (done result, self.new) }
+    {
+        let Some(home) = self.home(parent) else {
+            return Err(Refusal::NoSuchTask);
+        };
+        if self.home(child).is_some() {
+            return Err(Refusal::TaskExists);
+        }
+        if self.is_full() {
+            return Err(Refusal::TooMany);
+        }
+        self.add(child, home);
+        Ok(())
+    }
+
+    /// Takes a task out, if it is there.
+    pub fn remove(&mut self, task: u64)
         ensures { self.new ≡ removed self.old task }
     {
         self.tasks.retain(|e| e.0 != task);
@@ -86,18 +106,9 @@ impl TaskTable {
                 None => Err(Refusal::NoSuchTask),
                 Some(home) => Ok(Answer::Home(home)),
             },
-            TableEvent::FindAndAdd { parent, child } => match self.home(parent) {
-                None => Err(Refusal::NoSuchTask),
-                Some(home) => {
-                    if self.home(child).is_some() {
-                        return Err(Refusal::TaskExists);
-                    }
-                    if self.is_full() {
-                        return Err(Refusal::TooMany);
-                    }
-                    self.add(child, home);
-                    Ok(Answer::Done)
-                }
+            TableEvent::FindAndAdd { parent, child } => match self.add_child(parent, child) {
+                Ok(()) => Ok(Answer::Done),
+                Err(refusal) => Err(refusal),
             },
             TableEvent::Remove { task } => {
                 if self.home(task).is_none() {

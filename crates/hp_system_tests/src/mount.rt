@@ -6,7 +6,7 @@ ghost use Rattle.hp_pool.specs.Ledgers.{AreLedgers};
 use hp_model::answer::{Answer, Reply};
 use hp_model::naming::Naming;
 use hp_model::refusal::Refusal;
-use hp_model::step::{Intent, Reserving};
+use hp_model::step::{Intent, Reserving, Sharing};
 use hp_mount::{MapAccess, MapRange, Mount};
 use hp_pool::{Blanks, Pool};
 use hp_subpool::Subpool;
@@ -29,6 +29,17 @@ fn range(start: u64, pages: u64) -> MapRange {
         task: 7,
         start,
         pages,
+        sharing: Sharing::Shared,
+        reserving: Reserving::Reserve,
+    }
+}
+
+fn private(start: u64, pages: u64) -> MapRange {
+    MapRange {
+        task: 7,
+        start,
+        pages,
+        sharing: Sharing::Private,
         reserving: Reserving::Reserve,
     }
 }
@@ -38,6 +49,7 @@ fn unreserved(start: u64, pages: u64) -> MapRange {
         task: 7,
         start,
         pages,
+        sharing: Sharing::Shared,
         reserving: Reserving::NoReserve,
     }
 }
@@ -83,7 +95,7 @@ fn each_call<N: Naming, R: Abort>(rt: &R, pool: &mut Pool<N>, mount: &mut Mount<
 {
     assert_eq!(rt; mount.create(b"a"), Ok(Answer::Done));
     assert_eq!(rt; mount.create(b"a"), Err(Refusal::FileExists));
-    assert!(rt; !mount.has_maps());
+    assert!(rt; !mount.has_maps(7));
     assert_eq!(rt;
         mount.map(pool, 0, b"b", &range(0, 1)),
         Err(Refusal::NoSuchFile)
@@ -100,7 +112,7 @@ fn each_call<N: Naming, R: Abort>(rt: &R, pool: &mut Pool<N>, mount: &mut Mount<
         mount.map(pool, 0, b"a", &range(2, 2)),
         Err(Refusal::MountFull)
     );
-    assert!(rt; mount.has_maps());
+    assert!(rt; mount.has_maps(7));
     assert_eq!(rt; mount.usage(), usage(2, 1));
     assert_eq!(rt; loads(pool, mount, &access(1, 1), 2, b"\0\0"), Ok(true));
     assert_eq!(rt;
@@ -144,6 +156,96 @@ fn each_call<N: Naming, R: Abort>(rt: &R, pool: &mut Pool<N>, mount: &mut Mount<
     assert_eq!(rt; mount.ls().err(), None);
 }
 
+// A private map asks for its whole range, whatever its file has. A file without name is one of the files.
+fn private_maps<N: Naming, R: Abort>(rt: &R, pool: &mut Pool<N>, mount: &mut Mount<N>)
+    requires ready { IsReady pool.old }
+    requires bytes { N.page_bytes ≡ 1024 }
+    ensures { IsReady pool.new }
+{
+    assert_eq!(rt; mount.create(b"a"), Ok(Answer::Done));
+    assert_eq!(rt;
+        mount.map(pool, 0, b"a", &range(1, 1)),
+        Ok(Answer::MapNo(1))
+    );
+    assert_eq!(rt;
+        mount.map(pool, 0, b"a", &private(0, 3)),
+        Err(Refusal::MountFull)
+    );
+    assert_eq!(rt;
+        mount.map(pool, 0, b"a", &private(1, 2)),
+        Ok(Answer::MapNo(2))
+    );
+    assert_eq!(rt; mount.usage(), usage(3, 1));
+    assert_eq!(rt;
+        mount.stat(b"a"),
+        Ok(Answer::Stat {
+            len: 3,
+            pages: 0,
+            entries: 1,
+            maps: 2
+        })
+    );
+    assert_eq!(rt;
+        mount.map(pool, 0, b"a", &range(1, 1)),
+        Ok(Answer::MapNo(3))
+    );
+    assert_eq!(rt;
+        mount.anon(pool, 0, 7, 65_536, Sharing::Private, Reserving::Reserve),
+        Err(Refusal::MountFull)
+    );
+    assert_eq!(rt;
+        mount.anon(pool, 0, 7, 65_537, Sharing::Private, Reserving::NoReserve),
+        Err(Refusal::TooMany)
+    );
+    assert_eq!(rt;
+        mount.anon(pool, 0, 7, 0, Sharing::Shared, Reserving::Reserve),
+        Err(Refusal::OutOfRange)
+    );
+    assert_eq!(rt;
+        mount.anon(pool, 0, 8, 5, Sharing::Private, Reserving::NoReserve),
+        Ok(Answer::MapNo(1))
+    );
+    assert_eq!(rt; mount.usage(), usage(3, 2));
+    assert_eq!(rt;
+        mount.anon(pool, 0, 8, 1, Sharing::Shared, Reserving::NoReserve),
+        Err(Refusal::NoInodes)
+    );
+}
+
+// Indices leave a map, and the map with its last one. What the file has stays.
+fn unmaps<N: Naming, R: Abort>(rt: &R, pool: &mut Pool<N>, mount: &mut Mount<N>)
+    requires { IsReady pool.old }
+    ensures { IsReady pool.new }
+{
+    assert_eq!(rt; mount.unmap(pool, 7, 4, 0, 1), Err(Refusal::NoSuchMap));
+    assert_eq!(rt; mount.unmap(pool, 7, 1, 1, 1), Err(Refusal::OutOfRange));
+    assert_eq!(rt; mount.unmap(pool, 7, 1, 0, 1), Ok(Answer::Done));
+    assert_eq!(rt;
+        mount.fault(pool, 0, &access(1, 0), Intent::Read),
+        Err(Refusal::OutOfRange)
+    );
+    assert_eq!(rt;
+        mount.fault(pool, 0, &access(1, 1), Intent::Read),
+        Ok(Answer::Done)
+    );
+    assert_eq!(rt; mount.unmap(pool, 7, 1, 0, 4), Ok(Answer::Done));
+    assert_eq!(rt;
+        mount.fault(pool, 0, &access(1, 1), Intent::Read),
+        Err(Refusal::NoSuchMap)
+    );
+    assert_eq!(rt;
+        mount.stat(b"a"),
+        Ok(Answer::Stat {
+            len: 4,
+            pages: 2,
+            entries: 2,
+            maps: 2
+        })
+    );
+    assert_eq!(rt; mount.usage(), usage(2, 1));
+    assert_eq!(rt; mount.first_task(), Some(7));
+}
+
 fn run<N: Naming, R: Abort>(rt: &R, alloc: Global, blanks: Blanks)
     requires ledgers { AreLedgers N.Naming blanks }
     requires bytes { N.page_bytes ≡ 1024 }
@@ -153,7 +255,27 @@ fn run<N: Naming, R: Abort>(rt: &R, alloc: Global, blanks: Blanks)
     let share = Subpool::open(&mut pool, Some(3), 0).expect(rt, "fits");
     let mut mount = Mount::new(alloc, share, Some(2));
     each_call(rt, &mut pool, &mut mount);
-    mount.close(&mut pool);
+    unmaps(rt, &mut pool, &mut mount);
+    let Err(mut mount) = mount.close(&mut pool) else {
+        panic!(rt; "a task has maps");
+    };
+    mount.exit_maps(&mut pool, 7);
+    assert!(rt; !mount.has_maps(7));
+    assert_eq!(rt; mount.first_task(), None);
+    match mount.close(&mut pool) {
+        Ok(()) => {}
+        Err(_mount) => panic!(rt; "no task has maps"),
+    }
+    let share = Subpool::open(&mut pool, Some(3), 0).expect(rt, "fits");
+    let mut mount = Mount::new(alloc, share, Some(2));
+    private_maps(rt, &mut pool, &mut mount);
+    mount.exit_maps(&mut pool, 8);
+    mount.exit_maps(&mut pool, 7);
+    assert_eq!(rt; mount.usage(), usage(1, 1));
+    match mount.close(&mut pool) {
+        Ok(()) => {}
+        Err(_mount) => panic!(rt; "no task has maps"),
+    }
     let counts = pool.close();
     assert_eq!(rt;
         [counts.total, counts.free, counts.rsvd, counts.surp],

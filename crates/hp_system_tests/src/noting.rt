@@ -6,7 +6,7 @@ ghost use Rattle.hp_pool.specs.Ledgers.{AreLedgers};
 use hp_model::answer::{Answer, Reply};
 use hp_model::naming::Naming;
 use hp_model::refusal::Refusal;
-use hp_model::step::Reserving;
+use hp_model::step::{Reserving, Sharing};
 use hp_mount::{MapAccess, MapRange, Mount};
 use hp_mount_door::PoolDoor;
 use hp_nodes::Page;
@@ -103,13 +103,13 @@ impl<N: Naming> PoolDoor for Noting<N> {
     }
 }
 
-fn usage(used: u64) -> Answer {
+fn usage(used: u64, files: u64) -> Answer {
     Answer::Usage {
         max: Some(3),
         min: 0,
         used,
         inodes: None,
-        files: 1,
+        files,
     }
 }
 
@@ -117,6 +117,7 @@ const RANGE: MapRange = MapRange {
     task: 7,
     start: 0,
     pages: 2,
+    sharing: Sharing::Shared,
     reserving: Reserving::Reserve,
 };
 
@@ -154,6 +155,14 @@ fn store_byte<N: Naming>(door: &mut Noting<N>, mount: &mut Mount<N>) -> Result<(
     mount.store(door, 1024, 0, &ACCESS, 0, b"x")
 }
 
+// A page for the one index of a private map of a new file without name.
+fn map_anon<N: Naming>(door: &mut Noting<N>, mount: &mut Mount<N>) -> Reply
+    requires { IsReady door.old.pool }
+    ensures { IsReady door.new.pool }
+{
+    mount.anon(door, 0, 7, 1, Sharing::Private, Reserving::Reserve)
+}
+
 // A map and an access are refused where the door has no place, change nothing, and go through with one. What
 // has its page asks for no section.
 fn in_turn<N: Naming, R: Abort>(rt: &R, door: &mut Noting<N>, mount: &mut Mount<N>)
@@ -164,17 +173,23 @@ fn in_turn<N: Naming, R: Abort>(rt: &R, door: &mut Noting<N>, mount: &mut Mount<
     let mut room = [0u8; 256];
     assert_eq!(rt; mount.create(b"a"), Ok(Answer::Done));
     assert_eq!(rt; map_pages(door, mount), Err(Refusal::TraceFull));
-    assert!(rt; !mount.has_maps());
-    assert_eq!(rt; mount.usage(), usage(0));
+    assert!(rt; !mount.has_maps(7));
+    assert_eq!(rt; mount.usage(), usage(0, 1));
     door.places = 1;
     assert_eq!(rt; map_pages(door, mount), Ok(Answer::MapNo(1)));
-    assert_eq!(rt; mount.usage(), usage(2));
+    assert_eq!(rt; mount.usage(), usage(2, 1));
     assert_eq!(rt; load_byte(door, mount, &mut room), Err(Refusal::TraceFull));
     assert_eq!(rt; store_byte(door, mount), Err(Refusal::TraceFull));
     door.places = 1;
     assert_eq!(rt; store_byte(door, mount), Ok(()));
     assert_eq!(rt; load_byte(door, mount, &mut room), Ok(b"x".as_slice()));
-    assert_eq!(rt; mount.usage(), usage(2));
+    assert_eq!(rt; mount.usage(), usage(2, 1));
+    assert_eq!(rt; map_anon(door, mount), Err(Refusal::TraceFull));
+    assert_eq!(rt; mount.usage(), usage(2, 1));
+    door.places = 1;
+    assert_eq!(rt; map_anon(door, mount), Ok(Answer::MapNo(2)));
+    assert_eq!(rt; map_anon(door, mount), Err(Refusal::MountFull));
+    assert_eq!(rt; mount.usage(), usage(3, 2));
 }
 
 // A page by a grant, which no map of today asks for, is refused without a place.
@@ -214,7 +229,11 @@ fn run<N: Naming, R: Abort>(rt: &R, alloc: Global, blanks: Blanks)
     };
     in_turn(rt, &mut door, &mut mount);
     a_page_by_a_grant(rt, &mut door);
-    mount.close(&mut door);
+    mount.exit_maps(&mut door, 7);
+    match mount.close(&mut door) {
+        Ok(()) => {}
+        Err(_mount) => panic!(rt; "no task has maps"),
+    }
     let Noting {
         pool,
         places: _,
@@ -223,7 +242,7 @@ fn run<N: Naming, R: Abort>(rt: &R, alloc: Global, blanks: Blanks)
     assert_eq!(rt;
         taken,
         Taken {
-            reserves: 2,
+            reserves: 3,
             granted: 0,
             reserved: 1
         }

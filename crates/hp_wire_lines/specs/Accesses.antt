@@ -1,10 +1,12 @@
 -- What the lines of loads and stores are read as.
-use Rattle.std.specs.Prelude.{◌≡◌, ℕ, List, Result, Ok, Err}
+use Rattle.std.specs.Prelude.{◌≡◌, ℕ, ◌||◌, Bool, false, codes, List, Result, Ok, Err}
+use Rattle.std.specs.Str.{bytes_eq}
 use Rattle.hp_model.specs.declared.refusal.Refusal.{Refusal}
 use Rattle.hp_model.specs.declared.service.Access.{Access}
 use Rattle.hp_model.specs.declared.step.Step.{Step}
 use Rattle.hp_model.specs.machine.Accesses.{load_step, store_step}
-use Rattle.hp_model.specs.text.Reading.{load_of, store_of}
+use Rattle.hp_model.specs.text.Reading.{load_of, step_of_bytes, store_of}
+use Rattle.hp_model.specs.text.Words.{piece_at, pieces_of_line}
 use Rattle.hp_wire_lines.specs.declared.reading.LineKind.{LineKind}
 use Rattle.hp_wire_lines.specs.declared.reading.LineKind.TheVariants.{Load, Store, Other}
 use denote.Ref.{Bor}
@@ -19,8 +21,13 @@ abbrev pub read_store : Result (Access × Bor (List ℕ)) Refusal → Result Ste
 read_store (Ok x) = Ok (store_step x.0 x.1.now)
 read_store (Err refusal) = Err refusal
 
--- a line that reads so is a load or a store of these words
-abbrev pub IsKind : LineKind → Result Step Refusal → Type 0
-IsKind (Load words) read = read ≡ load_of words
-IsKind (Store words) read = read ≡ store_of words
-IsKind Other read = Unit {0}
+-- the line's first word is that of a load or a store
+abbrev pub is_access_line : List ℕ → Bool
+is_access_line line =
+    elim (piece_at (pieces_of_line line)) [ Ok command ↦ bytes_eq command.0 (codes "load") || bytes_eq command.0 (codes "store") | Err refusal ↦ false ]
+
+-- a line that reads so is a load or a store of these words; or it is neither
+abbrev pub IsKind : LineKind → List ℕ → Type 0
+IsKind (Load words) line = step_of_bytes line ≡ load_of words
+IsKind (Store words) line = step_of_bytes line ≡ store_of words
+IsKind Other line = is_access_line line ≡ false

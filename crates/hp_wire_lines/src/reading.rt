@@ -24,11 +24,11 @@ pub enum LineKind<'a> {
 }
 
 /// Whether a line is a load or a store, whose words can be read with no step made of them.
-#[tactic(auto, unfolding(hp_model::specs::text::Reading::step_of_bytes, hp_model::specs::text::Reading::step_of_command))]
+#[tactic(auto, unfolding(hp_model::specs::text::Reading::step_of_bytes, hp_model::specs::text::Reading::step_of_command, hp_model::specs::text::Words::piece_at))]
 #[inline(always)]
 pub fn kind_of_line<'a>(line: &'a [u8]) -> LineKind<'a>
     requires { length line.now ≤ 1024 }
-    ensures { IsKind result (step_of_bytes line.now) }
+    ensures { IsKind result line.now }
 {
     let Ok((command, words)) = Words::new(line).piece() else {
         return LineKind::Other;

@@ -1,15 +1,15 @@
 -- What is promised of some steps, by computation: the tests and the bytes that the promises speak of.
-use Rattle.std.proofs.Common.{◌≡◌, ⊎_elim, subst, ℕ, ◌+◌, ◌==◌, ◌∙◌, true, false, None, Option, Some, Ok, Err, List, [], ◌∷◌, length, take, map, nat_le, refl, ap, arith, option_map, ◌++◌}
+use Rattle.std.proofs.Common.{◌≡◌, ⊎_elim, subst, ℕ, ◌+◌, ◌==◌, ◌∙◌, true, false, None, Option, Some, Ok, Err, List, [], ◌∷◌, length, take, map, nat_le, refl, sym, ap, arith, option_map, ◌++◌}
 use Rattle.std.specs.List.{slice_index_or}
 use Rattle.std.specs.Prelude.{codes, is_some}
 use Rattle.hp_model.specs.declared.answer.Answer.{Answer}
-use Rattle.hp_model.specs.declared.answer.Answer.TheVariants.{Done, MapNo, Numbers, Usage}
+use Rattle.hp_model.specs.declared.answer.Answer.TheVariants.{Done, Home, MapNo, Names, Numbers, Stat as StatAnswer, Usage}
 use Rattle.hp_model.specs.declared.limits.Limits.{Limits}
 use Rattle.hp_model.specs.declared.refusal.Refusal.TheVariants.{BadName, NoPages, TakenByOwner}
 use Rattle.hp_model.specs.declared.step.Reserving.TheVariants.{Reserve, NoReserve}
 use Rattle.hp_model.specs.declared.step.Sharing.TheVariants.{Shared, Private}
 use Rattle.hp_model.specs.declared.step.Step.{Step}
-use Rattle.hp_model.specs.declared.step.Step.TheVariants.{Connect, Create, Df, Fork, Load, Map, Meminfo, Mount, Nr, Punch, Store, Truncate, Unmap}
+use Rattle.hp_model.specs.declared.step.Step.TheVariants.{Anon, Attach, Connect, Create, Df, Fork, Load, Ls, Map, Meminfo, Mount, Nr, Punch, Stat, Store, Truncate, Unmap}
 use Rattle.hp_model.specs.declared.place.Place.TheVariants.{Gone, Live}
 use Rattle.hp_model.specs.files.File.{File, cell_at, new_file, with_file, with_map}
 use Rattle.hp_model.specs.machine.Machine.{committed_pages, counts_in, pool_of}
@@ -138,6 +138,36 @@ usage_told_as_less e = (let wrong : false ≡ true = subst (λ a. (used_in a == 
 usage_of_no_mount : Tells mounted (Df 3) (Ok (Usage None 0 0 None 0)) → ⊥
 usage_of_no_mount e = e
 
+abbrev names_in : Answer → ℕ
+names_in (Names names) = length names
+names_in other = 99
+
+abbrev pages_in : Answer → ℕ
+pages_in (StatAnswer len pages entries maps) = pages
+pages_in other = 99
+
+abbrev home_in : Answer → ℕ
+home_in (Home home) = home
+home_in other = 99
+
+names_told_without_one : Tells mounted (Ls 2) (Ok (Names [])) → ⊥
+names_told_without_one e = (let wrong : false ≡ true = subst (λ a. (names_in a == 1) ≡ true) (sym e) refl in cc)
+
+names_of_no_mount : Tells mounted (Ls 3) (Ok (Names [])) → ⊥
+names_of_no_mount e = e
+
+holes_told_as_pages : Tells mounted (Stat 2 (codes "a")) (Ok (StatAnswer 3 3 3 1)) → ⊥
+holes_told_as_pages e = (let wrong : false ≡ true = subst (λ a. (pages_in a == 0) ≡ true) (sym e) refl in cc)
+
+numbers_of_no_file : Tells mounted (Stat 2 (codes "b")) (Ok (StatAnswer 0 0 0 0)) → ⊥
+numbers_of_no_file e = e
+
+another_home_told : Tells mounted (Attach 1) (Ok (Home 1)) → ⊥
+another_home_told e = (let wrong : false ≡ true = subst (λ a. (home_in a == 0) ≡ true) (sym e) refl in cc)
+
+home_of_no_task : Tells mounted (Attach 2) (Ok (Home 0)) → ⊥
+home_of_no_task e = e
+
 refused_create_makes_a_file : LeavesAll mounted (Create 2 (codes "a/b")) (Err BadName) (plain_step mounted (Create 2 (codes "b"))).1 → ⊥
 refused_create_makes_a_file e = (let wrong : false ≡ true = subst (λ x. (files_on (slot_at x 2) == 2) ≡ true) e refl in cc)
 
@@ -166,6 +196,20 @@ mapped_on_another_file e =
 
 number_in_use : Makes shared (Map 1 0 (codes "a") 0 1 Shared NoReserve) (Ok (MapNo 2)) (plain_step shared (Map 1 0 (codes "a") 0 1 Shared NoReserve)).1 → ⊥
 number_in_use e = (let there : 1 ≡ 99 = ap file_of_spot e.0 in absurd (omega (arith, there)))
+
+-- an anonymous map that is not made, that has the number of another, and that is made of a file with a name
+anon_and_forgotten : Makes shared (Anon 1 1 Private NoReserve) (Ok (MapNo 4)) shared → ⊥
+anon_and_forgotten e = (let wrong : false ≡ true = ap is_some e.1.1 in cc)
+
+anon_of_a_number_in_use : Makes shared (Anon 1 1 Private NoReserve) (Ok (MapNo 2)) (plain_step shared (Anon 1 1 Private NoReserve)).1 → ⊥
+anon_of_a_number_in_use e = (let there : 1 ≡ 99 = ap file_of_spot e.0 in absurd (omega (arith, there)))
+
+abbrev file_in_spot : Option Spot → File
+file_in_spot None = new_file None
+file_in_spot (Some s) = s.file
+
+anon_of_a_named_file : Makes shared (Anon 1 1 Private NoReserve) (Ok (MapNo 4)) (plain_step shared (Map 1 0 (codes "b") 0 1 Private NoReserve)).1 → ⊥
+anon_of_a_named_file e = (let wrong : true ≡ false = ap is_some (ap (λ (f : File). f.name) (ap file_in_spot e.1.1 ∙ e.1.3)) in cc)
 
 created_and_forgotten : Makes shared (Create 0 (codes "c")) (Ok Done) shared → ⊥
 created_and_forgotten e = (let wrong : false ≡ true = ap is_some e.1.1 in cc)

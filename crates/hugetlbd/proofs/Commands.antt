@@ -1,19 +1,28 @@
 -- The program's command line, as clap builds it.
-use Rattle.std.proofs.Common.{◌≡◌, ◌∙◌, ◌&&◌, refl, sym, ap, ap₂, subst, true, false, List, [], Option, Some, None, is_some, option_map}
+use Rattle.std.proofs.Common.{◌≡◌, ◌∙◌, ◌&&◌, Bool, refl, sym, ap, ap₂, subst, true, false, List, [], Option, Some, None, is_some, option_map}
+use Rattle.std.specs.Borrow.{Bor}
 use Rattle.std.specs.Option.{option_map_or}
 use Rattle.clap.specs.Built.{AddsArg}
 use Rattle.clap.specs.Words.{App, HasMatchesOf, Row, Rule, Text, app_of, found_of, rows_of, rule_of, subcommand_of, subcommand_rows_of, with_rule}
+use Rattle.clap.specs.Simple.{app_of_fields}
 use Rattle.clap.specs.Faults.{fault_of, is_simple_and_free}
 use Rattle.clap.specs.declared.builder.arg.Arg.{Arg}
 use Rattle.clap.specs.declared.builder.command.Command.{Command}
+use Rattle.clap.specs.declared.builder.command.Command.TheViews.{out-Command}
 use Rattle.clap.specs.declared.parser.matches.ArgMatches.{ArgMatches}
-use Rattle.hugetlbd.specs.Asked.{Asks, Sets, has_option_first, has_options, hugetlbd, options_of}
+use Rattle.hugetlbd.specs.Asked.{Asks, Sets, has_option_first, has_options, hugetlbd, options_of, with_version}
 use Rattle.hugetlbd.specs.Config.{Choice}
 
 -- an argument was added
 pub adds_rule : (a b : Command) (x : Arg) (app : App) (rule : Rule) → AddsArg a x b → x.global ≡ false → app_of a ≡ app → rule_of x ≡ rule
     → app_of b ≡ with_rule app rule
 adds_rule a b x app rule h local before same = h.shape local ∙ ap₂ with_rule before same
+
+-- a command that was given a version
+pub adds_version : (a b : Command) (text : Option (Bor Text)) (app : App) → out-Command b ≡ record (out-Command a) { version = text } → is_some text ≡ true → app_of a ≡ app
+    → app_of b ≡ with_version app
+adds_version a b text app h some before =
+    ap app_of_fields h ∙ ap (λ (yes : Bool). record (app_of a) { top = record (app_of a).top { has_version = yes } }) some ∙ ap with_version before
 
 -- what a parse found, where it took the words: the options at the top, and those of the subcommand
 pub record Found (words : List Text) (top : List Row) (inner : Option (List Row)) : Type 0 where

@@ -13,7 +13,7 @@ use Rattle.hugetlbd.proofs.Commands.{Found}
 use Rattle.hp_model.specs.text.Words.{number_of}
 use Rattle.hugetlbd.specs.Asked.{Asks, CanBeFrames, CanBePage, CanBeSlots, HasBadValue, IsBad, IsRefusedFor, IsWrongIn, IsWrongOf, Sets, has_options, hugetlbd, options_of, pieces}
 use Rattle.hugetlbd.specs.Config.{Choice, IsFrames, IsPage, IsSlots, IsWithinLimits}
-use Rattle.hugetlbd.specs.Program.{IsStatusOfWrong}
+use Rattle.hugetlbd.specs.Program.{AsksForText, IsStatusOfWrong, text_asked, text_for}
 use Rattle.hugetlbd.specs.declared.settings.Wrong.{Wrong}
 use Rattle.hugetlbd.specs.declared.settings.Wrong.TheVariants.{Memory, Parse, BadValue, OptionFirst}
 
@@ -73,6 +73,18 @@ only_memory words (BadValue name) c refused a fits = absurd (none_bad (options_o
 -- so they end in status 1
 pub right_is_1 : (words : List Text) (w : Wrong) (status : ℕ) (c : Choice) → IsRefusedFor words w → IsStatusOfWrong w status → Asks words c → IsWithinLimits c → status ≡ 1
 right_is_1 words w status c refused is a fits = subst (λ (x : Wrong). IsStatusOfWrong x status) (only_memory words w c refused a fits) is
+
+told_by : (words : List Text) (Told : Text → Type 0) (kind : ErrorKind) (asked : Option Text) → text_for kind ≡ asked → IsAmong kind (fault_of hugetlbd words) → IsSomeAnd asked Told
+    → (text : Text) × AsksForText words text × Told text
+told_by words Told kind None same one told = absurd told
+told_by words Told kind (Some text) same one told = (text, (kind, one, same), told)
+
+-- a text that was told is one that they ask for
+pub told_as_asked : (words : List Text) (w : Wrong) (Told : Text → Type 0) → IsRefusedFor words w → IsSomeAnd (text_asked w) Told → (text : Text) × AsksForText words text × Told text
+told_as_asked words Memory Told refused told = absurd told
+told_as_asked words (Parse error) Told refused told = told_by words Told (kind_of error) (text_for (kind_of error)) refl refused.1 told
+told_as_asked words (BadValue name) Told refused told = absurd told
+told_as_asked words OptionFirst Told refused told = absurd told
 
 -- status 0 says that clap doesn't take them
 pub not_taken : (words : List Text) (w : Wrong) (status : ℕ) → IsRefusedFor words w → IsStatusOfWrong w status → status ≡ 0 → takes hugetlbd words ≡ false

@@ -1,16 +1,15 @@
 -- What is said where something went wrong.
-use Rattle.std.proofs.Common.{◌≡◌, ◌++◌, ℕ, List, codes, refl, sym, ap, append_assoc, Option, Result, Ok, Err, OnOk, IfErr, IsOk, true, false, arith, IsTrue, ◌↔◌, ◌≢◌, inl, inr}
+use Rattle.std.proofs.Common.{◌≡◌, ◌++◌, ℕ, List, codes, refl, sym, ap, append_assoc, ◌∙◌, Option, Some, Result, Ok, Err, OnOk, IfErr, IsOk, true, false, arith}
+use Rattle.std.proofs.lemmas.Option.{none-some}
 use Rattle.std.specs.Io.KnownBytes.{Appends}
 use Rattle.clap.specs.Values.{kind_of}
 use Rattle.clap.specs.declared.error.Error.{Error}
-use Rattle.clap.specs.declared.error.kind.ErrorKind.TheVariants.{DisplayHelp, DisplayVersion}
 use Rattle.hp_wire.specs.Sent.{AppendsFront, IsCut}
 use Rattle.hp_wire.specs.Served.{text_of_fault}
 use Rattle.hp_wire.specs.declared.fault.RunFault.{RunFault}
 use Rattle.hp_wire.specs.declared.fault.RunFault.TheVariants as fault
 use Rattle.hp_wire.proofs.Known.{appends_then, front_whole, front_then, front_more}
-use Rattle.hugetlbd.specs.Program.{IsHelp, Refuses, Says, named}
-use Rattle.hugetlbd.specs.declared.config.TheConstants.{HELP}
+use Rattle.hugetlbd.specs.Program.{Refuses, Says, named, text_for}
 use Rattle.hugetlbd.specs.declared.settings.Wrong.TheVariants.{Parse}
 
 -- a text that is written part after part is cut within one of them
@@ -39,30 +38,27 @@ pub says_of : {X : Type 0} (sure : Type 0) (a b : Option (List ℕ)) (text : Lis
 says_of sure a b text (Ok x) h k s = (front_whole a b text h, λ i. h)
 says_of sure a b text (Err e) h k s = (k.1, λ i. (let never : false ≡ true = s i in cc))
 
-asked_for : (error : Error) → (IsTrue false ↔ ((kind_of error ≢ DisplayHelp) × (kind_of error ≢ DisplayVersion))) → (IsHelp error → ⊥) → ⊥
-asked_for error asked not = (let never : false ≡ true = asked.1 (λ help. not (inl help), λ version. not (inr version)) in cc)
-
--- the help was written
-pub shown : {W : Type 0} (contents : W → Option (List ℕ)) (is_sure : W → Type 0) (old new : W) (said : Type 0) (before : Option (List ℕ)) (error : Error)
-    → (IsTrue false ↔ ((kind_of error ≢ DisplayHelp) × (kind_of error ≢ DisplayVersion))) → Appends (contents old) (contents new) HELP.now → Refuses contents is_sure old new said before before (Parse error) 0
-shown contents is_sure old new said before error asked h = record {
-  ends = (λ is. omega arith, λ not. absurd (asked_for error asked not));
-  quiet = λ not. absurd (asked_for error asked not);
-  help = λ zero. h;
-  cut = λ is. front_whole (contents old) (contents new) HELP.now h;
+-- the text that the words ask for was written
+pub shown : {W : Type 0} (contents : W → Option (List ℕ)) (is_sure : W → Type 0) (old new : W) (said : Type 0) (before : Option (List ℕ)) (error : Error) (text : List ℕ)
+    → text_for (kind_of error) ≡ Some text → Appends (contents old) (contents new) text → Refuses contents is_sure old new said before before (Parse error) 0
+shown contents is_sure old new said before error text asked h = record {
+  ends = rw asked (omega arith);
+  quiet = λ not. absurd (none-some text (sym not ∙ asked));
+  told = λ zero. rw asked h;
+  cut = rw asked (front_whole (contents old) (contents new) text h);
   sure = λ is sure. refl;
-  says = λ is. (λ zero. refl, λ one. absurd (omega (arith, one)));
+  says = rw asked (λ zero. refl, λ one. absurd (omega (arith, one)));
 }
 
--- a write of the help failed
-pub not_shown : {W : Type 0} (contents : W → Option (List ℕ)) (is_sure : W → Type 0) (old new : W) (said : Type 0) (before after : Option (List ℕ)) (error : Error)
-    → (IsTrue false ↔ ((kind_of error ≢ DisplayHelp) × (kind_of error ≢ DisplayVersion))) → AppendsFront (contents old) (contents new) HELP.now → (is_sure old → ⊥) → Says said before after (named (text_of_fault fault.Write))
+-- a write of it failed
+pub not_shown : {W : Type 0} (contents : W → Option (List ℕ)) (is_sure : W → Type 0) (old new : W) (said : Type 0) (before after : Option (List ℕ)) (error : Error) (text : List ℕ)
+    → text_for (kind_of error) ≡ Some text → AppendsFront (contents old) (contents new) text → (is_sure old → ⊥) → Says said before after (named (text_of_fault fault.Write))
     → Refuses contents is_sure old new said before after (Parse error) 1
-not_shown contents is_sure old new said before after error asked h failed says = record {
-  ends = (λ is. omega arith, λ not. absurd (asked_for error asked not));
-  quiet = λ not. absurd (asked_for error asked not);
-  help = λ one. absurd (omega (arith, one));
-  cut = λ is. h;
+not_shown contents is_sure old new said before after error text asked h failed says = record {
+  ends = rw asked (omega arith);
+  quiet = λ not. absurd (none-some text (sym not ∙ asked));
+  told = λ one. absurd (omega (arith, one));
+  cut = rw asked h;
   sure = λ is sure. absurd (failed sure);
-  says = λ is. (λ one. absurd (omega (arith, one)), λ one. says);
+  says = rw asked (λ one. absurd (omega (arith, one)), λ one. says);
 }

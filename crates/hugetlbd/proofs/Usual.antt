@@ -1,5 +1,5 @@
 -- A command line with no words after the program's name asks for the usual machine.
-use Rattle.std.proofs.Common.{◌≡◌, ◌∷◌, ◌∙◌, ◌≤◌, ℕ, List, [], length, map, refl, sym, ap, subst, arith, rules}
+use Rattle.std.proofs.Common.{◌≡◌, ◌∷◌, ◌∙◌, ◌≤◌, ℕ, List, [], length, map, None, refl, sym, ap, subst, arith, rules}
 use Rattle.std.proofs.lemmas.List.{length-map}
 use lib.Count.{ones}
 use Rattle.clap.proofs.OnLiterals.{clap_on_literals}
@@ -8,7 +8,7 @@ use Rattle.hp_model.specs.machine.Machine.{start}
 use Rattle.hugetlbd.proofs.Refused.{only_memory, right_is_1}
 use Rattle.hugetlbd.specs.Asked.{Asks, IsRefusedFor, Sets}
 use Rattle.hugetlbd.specs.Config.{Choice, IsWithinLimits, chosen, usual}
-use Rattle.hugetlbd.specs.Program.{AsksForHelp, IsStatusOfWrong}
+use Rattle.hugetlbd.specs.Program.{IsStatusOfWrong, text_asked}
 use Rattle.hugetlbd.specs.declared.settings.Wrong.{Wrong}
 
 sets_usual : (c : Choice) → Sets [] c → chosen c ≡ chosen usual
@@ -37,8 +37,9 @@ usual_fits = record { frames = search rules; page = search rules; slots = search
 pub few_is_1 : (words : List Text) (w : Wrong) (status : ℕ) → length words ≤ 1 → IsRefusedFor words w → IsStatusOfWrong w status → status ≡ 1
 few_is_1 words w status few refused is = right_is_1 words w status usual refused is (usual_asked words few) usual_fits
 
-pub few_is_no_help : (words : List Text) (w : Wrong) → length words ≤ 1 → IsRefusedFor words w → AsksForHelp w → ⊥
-few_is_no_help words w few refused asks = subst AsksForHelp (only_memory words w usual refused (usual_asked words few) usual_fits) asks
+-- and ask for no text
+pub few_ask_no_text : (words : List Text) (w : Wrong) → length words ≤ 1 → IsRefusedFor words w → text_asked w ≡ None
+few_ask_no_text words w few refused = ap text_asked (only_memory words w usual refused (usual_asked words few) usual_fits)
 
 pub few_texts : {X : Type 0} (text : X → Text) (words : List X) → length words ≤ 1 → length (map text words) ≤ 1
 few_texts text words few = subst (λ (n : ℕ). n ≤ 1) (sym (length-map words text)) few

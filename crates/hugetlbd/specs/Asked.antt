@@ -31,9 +31,13 @@ with_options a = with_rule (with_rule (with_rule a (option (codes "frames"))) (o
 abbrev pub script : App
 script = with_options (new_app (codes "script"))
 
--- the program's options, and its subcommand with the same options
+-- it can be asked for its version
+abbrev pub with_version : App → App
+with_version a = record a { top = record a.top { has_version = true } }
+
+-- the program's options and its version, and its subcommand with the same options
 abbrev pub hugetlbd : App
-hugetlbd = with_subcommand (with_options (new_app (codes "hugetlbd"))) script.top
+hugetlbd = with_subcommand (with_options (with_version (new_app (codes "hugetlbd")))) script.top
 
 -- the options that clap found, at the top or of the subcommand
 abbrev pub options_in : ArgMatches → List Row

@@ -1,8 +1,11 @@
 -- A run of the program.
-use Rattle.std.specs.Prelude.{◌≡◌, ◌≤◌, ◌⊎◌, ◌++◌, ℕ, List, Option, Result, Ok, Err, IfErr, IfSome, codes}
+use Rattle.std.specs.Prelude.{◌≡◌, ◌≤◌, ◌++◌, ℕ, List, Option, Some, None, is_some, true, Result, Ok, Err, IfErr, IfSome, IsSomeAnd, MatchOption, codes}
 use Rattle.std.specs.Io.KnownBytes.{Appends, Consumes}
+use Rattle.clap.specs.Faults.{fault_of}
+use Rattle.clap.specs.Kinds.{IsAmong}
 use Rattle.clap.specs.Values.{kind_of}
-use Rattle.clap.specs.declared.error.Error.{Error}
+use Rattle.clap.specs.Words.{Text}
+use Rattle.clap.specs.declared.error.kind.ErrorKind.{ErrorKind}
 use Rattle.clap.specs.declared.error.kind.ErrorKind.TheVariants.{DisplayHelp, DisplayVersion}
 use Rattle.hp_model.specs.machine.State.{State}
 use Rattle.hp_model.specs.machine.Promises.{IsPromisedStep}
@@ -10,7 +13,8 @@ use Rattle.hp_wire.specs.Sent.{AppendsFront}
 use Rattle.hp_wire.specs.Served.{AnswersInput, Serves, IsMemoryOrTooLong, text_of_fault}
 use Rattle.hp_wire.specs.declared.fault.RunFault.{RunFault}
 use Rattle.hp_wire.specs.declared.fault.RunFault.TheVariants as fault
-use Rattle.hugetlbd.specs.declared.config.TheConstants.{HELP}
+use Rattle.hugetlbd.specs.Asked.{hugetlbd}
+use Rattle.hugetlbd.specs.declared.config.TheConstants.{HELP, VERSION}
 use Rattle.hugetlbd.specs.declared.settings.Wrong.{Wrong}
 use Rattle.hugetlbd.specs.declared.settings.Wrong.TheVariants.{Memory, Parse, BadValue, OptionFirst}
 
@@ -41,19 +45,26 @@ abbrev pub RunsOn : {R W : Type 0} → State → (R → Option (List ℕ)) → (
 RunsOn machine remaining contents sure unread left before after ended =
     Run machine (remaining unread) (remaining left) sure (contents before) (contents after) ended
 
--- clap's refusal is the help that was asked for
-abbrev pub IsHelp : Error → Type 0
-IsHelp error = (kind_of error ≡ DisplayHelp) ⊎ (kind_of error ≡ DisplayVersion)
+-- the program's own text that words ask for where clap refuses them by this kind
+abbrev pub text_for : ErrorKind → Option (List ℕ)
+text_for DisplayHelp = Some HELP.now
+text_for DisplayVersion = Some VERSION.now
+text_for other = None
 
--- the words ask for help
-abbrev pub AsksForHelp : Wrong → Type 0
-AsksForHelp (Parse error) = IsHelp error
-AsksForHelp other = ⊥
+-- the text that the words ask for
+abbrev pub text_asked : Wrong → Option (List ℕ)
+text_asked (Parse error) = text_for (kind_of error)
+text_asked other = None
 
--- what a process may end with where its words give no configuration: after help 0, or 1 where that can't be written
+-- clap finds that the words ask for this text
+abbrev pub AsksForText : List Text → Text → Type 0
+AsksForText words text = (kind : ErrorKind) × IsAmong kind (fault_of hugetlbd words) × (text_for kind ≡ Some text)
+
+-- what a process may end with where its words give no configuration: after a text that they ask for 0,
+-- or 1 where that can't be written
 abbrev pub IsStatusOfWrong : Wrong → ℕ → Type 0
 IsStatusOfWrong Memory status = status ≡ 1
-IsStatusOfWrong (Parse error) status = (IsHelp error → status ≤ 1) × ((IsHelp error → ⊥) → status ≡ 2)
+IsStatusOfWrong (Parse error) status = MatchOption (text_for (kind_of error)) (status ≡ 2) (λ text. status ≤ 1)
 IsStatusOfWrong (BadValue name) status = status ≡ 2
 IsStatusOfWrong OptionFirst status = status ≡ 2
 
@@ -72,26 +83,26 @@ abbrev pub SaysEnd : Type 0 → Option (List ℕ) → Option (List ℕ) → Resu
 SaysEnd sure before after (Ok count) = after ≡ before
 SaysEnd sure before after (Err fault) = Says sure before after (named (text_of_fault fault))
 
--- of words that give no configuration: the line of what is wrong with them, and of help that can't be
--- written; clap's refusal has a text of its own
+-- of words that give no configuration: the line of what is wrong with them, and of a text asked for
+-- that can't be written; clap's refusal has a text of its own
 abbrev pub SaysWrong : Type 0 → Option (List ℕ) → Option (List ℕ) → Wrong → ℕ → Type 0
 SaysWrong sure before after Memory status =
     Says sure before after (named (text_of_fault fault.Memory))
 SaysWrong sure before after (Parse error) status =
-    IsHelp error → (status ≡ 0 → after ≡ before)
-    × (status ≡ 1 → Says sure before after (named (text_of_fault fault.Write)))
+    IfSome (text_for (kind_of error)) (λ text. (status ≡ 0 → after ≡ before)
+    × (status ≡ 1 → Says sure before after (named (text_of_fault fault.Write))))
 SaysWrong sure before after (BadValue name) status =
     Says sure before after (named (codes "bad value for --" ++ name.now))
 SaysWrong sure before after OptionFirst status =
     Says sure before after (named (codes "option before subcommand"))
 
--- Words that give no configuration end in this status. The output is as it was, but for help: that is
--- written at status 0, and a front of it else; a sure end takes it.
+-- Words that give no configuration end in this status. The output is as it was, but for the help or the
+-- version that they ask for: that is written at status 0, and a front of it else; a sure end takes it.
 pub record Refuses {W : Type 0} (contents : W → Option (List ℕ)) (is_sure : W → Type 0) (old new : W)
     (said : Type 0) (before after : Option (List ℕ)) (wrong : Wrong) (status : ℕ) : Type 0 where
   pub ends : IsStatusOfWrong wrong status
-  pub quiet : (AsksForHelp wrong → ⊥) → new ≡ old
-  pub help : status ≡ 0 → Appends (contents old) (contents new) HELP.now
-  pub cut : AsksForHelp wrong → AppendsFront (contents old) (contents new) HELP.now
-  pub sure : AsksForHelp wrong → is_sure old → status ≡ 0
+  pub quiet : text_asked wrong ≡ None → new ≡ old
+  pub told : status ≡ 0 → IsSomeAnd (text_asked wrong) (Appends (contents old) (contents new))
+  pub cut : IfSome (text_asked wrong) (AppendsFront (contents old) (contents new))
+  pub sure : is_some (text_asked wrong) ≡ true → is_sure old → status ≡ 0
   pub says : SaysWrong said before after wrong status

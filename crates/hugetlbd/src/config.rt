@@ -17,19 +17,29 @@ use std::convert::AsStr;
 pub const HELP: &str = "\
 Usage: hugetlbd [script] [OPTIONS]
 
-Answers the lines on standard input on a new machine, one reply for each, on standard output.
+A HugeTLB service: it answers the lines on standard input on a new machine, with
+one reply for each, on standard output.
+
+Subcommands:
+  script               answer the script on standard input; the word may be left
+                       out, and options stand after it
+  help                 print this help
 
 Options:
       --frames <N,..>  frames of each node: 1 to 4 nodes of 1 to 65,536 [default: 4,4]
       --page <BYTES>   bytes of a page: a power of two from 1,024 to 2,097,152 [default: 1024]
       --slots <N>      slots for mounts: 1 to 64, the first of them mounted [default: 4]
   -h, --help           print this help
+  -V, --version        print the version
 ";
+
+/// What is printed where the words ask for the version.
+pub const VERSION: &str = "hugetlbd 0.1.0\n";
 
 /// What the words ask for. The first word is the program's name.
 ///
 /// Refused, by the first of these that holds:
-/// - `Parse`: `clap` refuses the words, or they ask for help.
+/// - `Parse`: `clap` refuses the words, or they ask for help or the version.
 /// - `OptionFirst`: an option stands before the subcommand.
 /// - `BadValue`: an option has a value that it can't have, the first in the order frames, page, slots.
 /// - `Memory`: memory was refused. This one may stand in place of any answer.
@@ -59,7 +69,7 @@ fn wrong_of(error: Error) -> Wrong
     }
 }
 
-// The program's options, and its subcommand with the same options.
+// The program's options, and its subcommand with the same options. `clap` only finds that the version is asked for.
 fn command<'a>(alloc: Global) -> Result<Command<'a>, AllocError>
     ensures { IfOk result (λ c. app_of c ≡ hugetlbd) }
 {
@@ -68,6 +78,7 @@ fn command<'a>(alloc: Global) -> Result<Command<'a>, AllocError>
         .arg(option(alloc, "page"))?
         .arg(option(alloc, "slots"))?;
     Command::new(alloc, "hugetlbd")
+        .version(VERSION)
         .arg(option(alloc, "frames"))?
         .arg(option(alloc, "page"))?
         .arg(option(alloc, "slots"))?

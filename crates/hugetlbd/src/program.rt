@@ -1,16 +1,20 @@
 //! The program: what the words ask for, the machine, a script on it, and a status.
-ghost use Rattle.std.specs.Prelude.{◌≡◌, ◌≢◌, ◌≤◌, ◌⊎◌, ◌++◌, ℕ, Result, false, map, length, IfErr, IsOk, OnOk};
+ghost use Rattle.std.specs.Prelude.{◌≡◌, ◌≢◌, ◌≤◌, ◌⊎◌, ◌++◌, ℕ, Result, false, map, length, option_map, IfErr, IsOk, OnOk};
 ghost use Rattle.clap.specs.Takes.{takes};
+ghost use Rattle.clap.specs.Values.{kind_of};
+ghost use Rattle.clap.specs.Words.{Text};
 ghost use Rattle.hp_wire.specs.Sent.{Writes, WritesFront};
 ghost use Rattle.hp_wire.specs.declared.fault.RunFault.{RunFault as TheFault};
 ghost use Rattle.hp_pool.specs.Ledgers.{AreLedgers};
 ghost use Rattle.hugetlbd.specs.Asked.{Asks, IsRefusedFor, hugetlbd};
 ghost use Rattle.hugetlbd.specs.Config.{Choice, IsWithinLimits, chosen, choice_of, usual};
-ghost use Rattle.hugetlbd.specs.Program.{AnswersKnown, Refuses, RunsOn, Says, SaysEnd, named, status_of};
+ghost use Rattle.hugetlbd.specs.Program.{AnswersKnown, AsksForText, Refuses, RunsOn, Says, SaysEnd, named, status_of, text_for};
 ghost use Rattle.hugetlbd.specs.declared.settings.Wrong.{Wrong as TheWrong};
 
-use crate::config::{HELP, config};
+use crate::config::{HELP, VERSION, config};
 use crate::settings::{Machine, Wrong};
+use clap::Error;
+use clap::error::ErrorKind;
 use hp_model::naming::Naming;
 use hp_pool::Blanks;
 use hp_system::System;
@@ -26,8 +30,8 @@ use std::marker::Brand;
 /// the process ends with.
 ///
 /// A script on `input` is answered on `output` by the machine of the words: 0, or 1 with the reason
-/// on `faults`. Help is written to `output`, with 0. A wrong command line is named on `faults`, with
-/// 2. Where no script runs and no help is asked for, `output` is as it was.
+/// on `faults`. Help and the version are written to `output`, with 0. A wrong command line is named on
+/// `faults`, with 2. Where no script runs and neither is asked for, `output` is as it was.
 pub fn program<'a, S: AsStr, R: Source, W: Sink, E: Sink>(
     alloc: Global,
     words: &'a [S],
@@ -49,7 +53,7 @@ pub fn program<'a, S: AsStr, R: Source, W: Sink, E: Sink>(
         → result ≢ 2 }
     ensures script { let asked = map S.text words.entry.now in
         result ≡ 0 → ((input.new ≡ input.old) × (takes hugetlbd asked ≡ false)
-        × Writes W.contents output.old output.new HELP.now)
+        × (text : Text) × AsksForText asked text × Writes W.contents output.old output.new text)
         ⊎ ((c : Choice) × Asks asked c
         × AnswersKnown (chosen c) R.remaining W.contents input.old output.old output.new) }
     ensures usual { length words.entry.now ≤ 1 → result ≡ 0
@@ -119,21 +123,23 @@ pub fn report<E: Sink>(ended: Result<u64, RunFault>, faults: &mut E) -> u8
     }
 }
 
-/// Says why the words give no configuration, and gives the status. Help goes to `output`, and
-/// anything else to `faults`; where `faults` fails, the status alone tells.
+/// Says why the words give no configuration, and gives the status. Help and the version go to
+/// `output`, and anything else to `faults`; where `faults` fails, the status alone tells.
 pub fn refuse<W: Sink, E: Sink>(wrong: &Wrong, output: &mut W, faults: &mut E) -> u8
     ensures { Refuses W.contents W.is_sure output.old output.new
         (E.is_sure faults.old) (E.contents faults.old) (E.contents faults.new) wrong.now result }
 {
     match wrong {
         Wrong::Memory => report(Err(RunFault::Memory), faults),
-        Wrong::Parse(error) if error.use_stderr() => {
-            let _ = write!(faults, "{error}");
-            2
-        }
-        Wrong::Parse(_) => match write_whole(output, HELP.as_bytes()) {
-            Ok(()) => 0,
-            Err(fault) => report(Err(fault), faults),
+        Wrong::Parse(error) => match text_asked(error) {
+            Some(text) => match write_whole(output, text.as_bytes()) {
+                Ok(()) => 0,
+                Err(fault) => report(Err(fault), faults),
+            },
+            None => {
+                let _ = write!(faults, "{error}");
+                2
+            }
         },
         Wrong::BadValue(option) => {
             name("bad value for --", option, faults);
@@ -143,6 +149,17 @@ pub fn refuse<W: Sink, E: Sink>(wrong: &Wrong, output: &mut W, faults: &mut E) -
             name("option before subcommand", "", faults);
             2
         }
+    }
+}
+
+// The text of the program's own that the words ask for.
+fn text_asked(error: &Error) -> Option<&'static str>
+    ensures { option_map (λ s. s.now) result ≡ text_for (kind_of error.now) }
+{
+    match error.kind() {
+        ErrorKind::DisplayHelp => Some(HELP),
+        ErrorKind::DisplayVersion => Some(VERSION),
+        _ => None,
     }
 }
 

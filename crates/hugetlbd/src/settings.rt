@@ -40,7 +40,7 @@ impl Config {
 pub enum Wrong {
     /// Memory for reading them was refused.
     Memory,
-    /// `clap` refuses them, or they ask for help.
+    /// `clap` refuses them, or they ask for help or the version.
     Parse(Error),
     /// The option of this name has a value that it can't have.
     BadValue(&'static str),

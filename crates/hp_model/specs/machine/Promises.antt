@@ -1,9 +1,10 @@
 -- What the machine promises of each step.
 use Rattle.std.specs.Prelude.{◌≡◌, ◌≢◌, ◌⊎◌, ℕ, ◌+◌, ◌<◌, ◌≤◌, ◌&&◌, ◌||◌, ◌==◌, Bool, true, false, not, Option, None, Some, is_some, option_map, Ok, Err, List, ◌++◌, length, take, drop, if◌then◌else◌, nat_le, nat_lt}
 use Rattle.std.specs.Bool.{MatchBool}
+use Rattle.std.specs.List.{count_by, filter_map}
 use Rattle.std.specs.Str.{bytes_eq}
 use Rattle.hp_model.specs.declared.answer.Answer.{Answer}
-use Rattle.hp_model.specs.declared.answer.Answer.TheVariants.{MapNo, Numbers, PerNode, Usage}
+use Rattle.hp_model.specs.declared.answer.Answer.TheVariants.{Home, MapNo, Names, Numbers, PerNode, Stat as StatAnswer, Usage}
 use Rattle.hp_model.specs.declared.event.Event.{Event}
 use Rattle.hp_model.specs.declared.event.Event.TheVariants.{Slot as OnSlot}
 use Rattle.hp_model.specs.declared.event.SlotEvent.TheVariants.{Mount as MountEvent}
@@ -12,16 +13,17 @@ use Rattle.hp_model.specs.declared.refusal.Refusal.TheVariants.{NoPages, MountFu
 use Rattle.hp_model.specs.declared.step.Intent.{Intent}
 use Rattle.hp_model.specs.declared.step.Intent.TheVariants.{Read, Write}
 use Rattle.hp_model.specs.declared.place.Place.{Place}
+use Rattle.hp_model.specs.declared.step.Reserving.{Reserving}
 use Rattle.hp_model.specs.declared.step.Sharing.{Sharing}
 use Rattle.hp_model.specs.declared.step.Step.{Step}
-use Rattle.hp_model.specs.declared.step.Step.TheVariants.{Attach, Create as CreateStep, Df, Exit, Fault, Fork, Load, Ls, Map as MapStep, Meminfo, Mount as MountStep, Nodes, Punch as PunchStep, Read as ReadStep, Stat, Store, Truncate as TruncateStep, Umount, Unlink as UnlinkStep, Unmap as UnmapStep}
+use Rattle.hp_model.specs.declared.step.Step.TheVariants.{Anon, Attach, Create as CreateStep, Df, Exit, Fault, Fork, Load, Ls, Map as MapStep, Meminfo, Mount as MountStep, Nodes, Punch as PunchStep, Read as ReadStep, Stat, Store, Truncate as TruncateStep, Umount, Unlink as UnlinkStep, Unmap as UnmapStep}
 use Rattle.hp_model.specs.machine.Plan.{slot_usage, IsWithinLimit}
 use Rattle.hp_model.specs.files.CopyWrite.{holds}
-use Rattle.hp_model.specs.files.File.{File, cell_at, new_file}
+use Rattle.hp_model.specs.files.File.{File, cell_at, has_page, is_entered, new_file}
 pub use Rattle.hp_model.specs.files.File.{file_in, map_in}
 use Rattle.hp_model.specs.files.GiveBack.{without_task}
 use Rattle.hp_model.specs.machine.Machine.{committed_pages, counts_in, pool_of}
-use Rattle.hp_model.specs.files.MakeMap.{new_map}
+use Rattle.hp_model.specs.files.MakeMap.{mapped, new_map}
 pub use Rattle.hp_model.specs.files.Mapping.{no_map}
 use Rattle.hp_model.specs.files.Mapping.{Map, copy_of, is_map, is_mapped, is_shared, place_at, without_range}
 use Rattle.hp_model.specs.files.MountCounts.{usage_of}
@@ -36,6 +38,7 @@ use Rattle.hp_model.specs.machine.SlotEvent.{bytes_answer, file_named}
 use Rattle.hp_model.specs.files.Spot.{Spot, spot}
 use Rattle.hp_model.specs.machine.State.{State, slot_at, with_slot}
 use Rattle.hp_model.specs.machine.Step.{IsStep}
+use Rattle.hp_model.specs.machine.Table.{home_of}
 use Rattle.hp_model.specs.files.Value.{shown, value}
 
 abbrev pub spot_on : Slot → (task number : ℕ) → Option Spot
@@ -301,11 +304,29 @@ abbrev pub IsRead : (size : ℕ) → Option (ℕ × File) → (i offset count : 
 IsRead size None i offset count a = ⊥
 IsRead size (Some f) i offset count a = a ≡ bytes_answer offset count (shown size (cell_at f.1 i))
 
--- a step that reads answers what there was: the counts, the nodes' rows, a mount's numbers, a file's bytes
+-- the file's length, its pages and entries, and its maps
+abbrev pub IsStat : Option (ℕ × File) → Answer → Type 0
+IsStat None a = ⊥
+IsStat (Some f) a = a ≡ StatAnswer (length f.1.cells) (count_by has_page f.1.cells) (count_by is_entered f.1.cells) (length f.1.maps)
+
+-- the names of the mount's files, in order of creation
+abbrev pub IsListed : Slot → Answer → Type 0
+IsListed None a = ⊥
+IsListed (Some m) a = a ≡ Names (filter_map (λ f. f.name) m.files)
+
+-- the task's home node
+abbrev pub IsHome : Option ℕ → Answer → Type 0
+IsHome None a = ⊥
+IsHome (Some home) a = a ≡ Home home
+
+-- a step that reads answers what there was: the counts, the nodes' rows, a mount's numbers and names, a file's numbers and bytes, a task's home
 abbrev pub Tells : State → Step → Reply → Type 0
+Tells s (Attach task) (Ok a) = IsHome (home_of s.table task) a
 Tells s Meminfo (Ok a) = a ≡ Numbers (counts_in s)
 Tells s Nodes (Ok a) = a ≡ PerNode (length s.nodes) (node_counts (pool_of s))
 Tells s (Df k) (Ok a) = IsUsage (slot_at s k) a
+Tells s (Ls k) (Ok a) = IsListed (slot_at s k) a
+Tells s (Stat k name) (Ok a) = IsStat (named_on (slot_at s k) name) a
 Tells s (ReadStep k name i offset count) (Ok a) = IsRead s.page_size (named_on (slot_at s k) name) i offset count a
 Tells s step reply = Unit {0}
 
@@ -317,16 +338,26 @@ IsNewMap old new name map =
     (spot_on old map.task map.number ≡ None)
     × ((s : Spot) × (spot_on new map.task map.number ≡ Some s) × (s.map ≡ map) × (named_on new name ≡ Some (s.file_no, s.file)))
 
+-- a map that was not there, the only one of this file, which has no name
+abbrev pub IsNewAnon : (old new : Slot) → (task number n : ℕ) → Sharing → Reserving → Type 0
+IsNewAnon old new task number n sharing reserving =
+    (spot_on old task number ≡ None)
+    × ((s : Spot) × (spot_on new task number ≡ Some s)
+    × (s.map ≡ new_map task number 0 n sharing reserving) × (s.file ≡ mapped task number 0 n sharing reserving (new_file None)))
+
 -- a file that was not there, without pages, entries and maps
 abbrev pub IsNewFile : (old new : Slot) → List ℕ → Type 0
 IsNewFile old new name = (named_on old name ≡ None) × ((place : ℕ) × (named_on new name ≡ Some (place, new_file (Some name))))
 
--- a created file is new and empty; a map's number is one that the task did not use, and means a map of that file, range and sharing
+-- a created file is new and empty; a map's number is one that the task did not use, and means a map of that file, range and sharing,
+-- or of a file of its own
 abbrev pub Makes : State → Step → Reply → State → Type 0
 Makes s (CreateStep k name) (Ok a) t = IsNewFile (slot_at s k) (slot_at t k) name
 Makes s (MapStep task k name a n sharing reserving) (Ok (MapNo number)) t =
     IsNewMap (slot_at s k) (slot_at t k) name (new_map task number a n sharing reserving)
 Makes s (MapStep task k name a n sharing reserving) (Ok other) t = ⊥
+Makes s (Anon task n sharing reserving) (Ok (MapNo number)) t = IsNewAnon (slot_at s 0) (slot_at t 0) task number n sharing reserving
+Makes s (Anon task n sharing reserving) (Ok other) t = ⊥
 Makes s step reply t = Unit {0}
 
 -- ---- what a refusal leaves
@@ -416,11 +447,13 @@ pub record IsPromised (s : State) (step : Step) (reply : Reply) (t : State) : Ty
   -- an access through a marked map is refused where it has no copy
   pub cut_off : is_cut_off_step s step ≡ true → is_refused reply ≡ true
 
--- of the steps that are built these may be refused memory: one that makes a file, a map or a list of names, and an access that nothing backs
+-- these steps may be refused memory: one that makes a file, a map or a list of names, a fork, and an access that nothing backs
 abbrev pub takes_memory : State → Step → Bool
 takes_memory s (CreateStep k name) = true
 takes_memory s (Ls k) = true
 takes_memory s (MapStep task k name a n sharing reserving) = true
+takes_memory s (Anon task n sharing reserving) = true
+takes_memory s (Fork parent child) = true
 takes_memory s (Fault task k number i intent) = not (is_backed intent (map_named s k task number) i)
 takes_memory s (Load task k number i offset count) = not (is_backed Read (map_named s k task number) i)
 takes_memory s (Store task k number i offset bytes) = not (is_backed Write (map_named s k task number) i)

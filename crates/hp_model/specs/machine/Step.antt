@@ -1,17 +1,16 @@
 -- A step as its events, one after another, and the reply that follows.
-use Rattle.std.specs.Prelude.{◌≡◌, ℕ, Bool, true, false, Ok, Err, List, [], ◌∷◌, ◌++◌, length, if◌then◌else◌, nat_lt}
+use Rattle.std.specs.Prelude.{◌≡◌, ℕ, Ok, Err, List, [], ◌∷◌, ◌++◌, length, if◌then◌else◌, nat_lt}
 use Rattle.std.specs.Bool.{MatchBool}
 use Rattle.std.specs.List.{range_with_len}
 use Rattle.hp_model.specs.declared.answer.Answer.TheVariants.{Done, Home as HomeAnswer}
 use Rattle.hp_model.specs.declared.refusal.Refusal.{Refusal}
-use Rattle.hp_model.specs.declared.refusal.Refusal.TheVariants.{NoSuchSlot, BadLine}
+use Rattle.hp_model.specs.declared.refusal.Refusal.TheVariants.{NoSuchSlot}
 use Rattle.hp_model.specs.declared.event.Event.{Event}
 use Rattle.hp_model.specs.declared.event.Event.TheVariants.{Tasks, Slot as OnSlot, Pool as OnPool}
 use Rattle.hp_model.specs.declared.event.TableEvent.TheVariants as table
 use Rattle.hp_model.specs.declared.event.SlotEvent.{SlotEvent}
 use Rattle.hp_model.specs.declared.event.SlotEvent.TheVariants as slot
 use Rattle.hp_model.specs.declared.event.PoolEvent.TheVariants as pool
-use Rattle.hp_model.specs.declared.step.Sharing.TheVariants.{Shared}
 use Rattle.hp_model.specs.declared.step.Step.{Step}
 use Rattle.hp_model.specs.declared.step.Step.TheVariants.{Connect, Attach, Fork, Exit, Mount, Umount, Create, Unlink, Truncate, Punch, Read, Ls, Stat, Map, Anon, Unmap, Fault, Load, Store, Nr, Overcommit, Meminfo, Nodes, Df}
 use Rattle.hp_model.specs.machine.Event.{IsEvent, has_maps_of}
@@ -93,28 +92,6 @@ script n Meminfo = only (OnPool pool.Meminfo)
 script n Nodes = only (OnPool pool.Nodes)
 script n (Df k) = on_slot n k slot.Df
 
--- ---- which steps are built. A step that is not is answered as a bad line and does nothing. Each stage takes its lines away, and the last takes the whole part
-
-abbrev pub is_unbuilt : State → Step → Bool
-is_unbuilt s (Nr pages) = nat_lt pages s.nr
-is_unbuilt s (Connect task home) = false
-is_unbuilt s (Mount k options) = false
-is_unbuilt s (Umount k) = false
-is_unbuilt s (Create k name) = false
-is_unbuilt s (Unlink k name) = false
-is_unbuilt s (Truncate k name pages) = false
-is_unbuilt s (Punch k name a b) = false
-is_unbuilt s (Read k name i offset count) = false
-is_unbuilt s (Ls k) = false
-is_unbuilt s (Stat k name) = false
-is_unbuilt s (Map task k name a pages Shared reserving) = false
-is_unbuilt s (Fault task k number i intent) = false
-is_unbuilt s (Load task k number i offset count) = false
-is_unbuilt s (Store task k number i offset bytes) = false
-is_unbuilt s Meminfo = false
-is_unbuilt s (Df k) = false
-is_unbuilt s other = true
-
 -- ---- a step of one thread
 
 abbrev pub IsScript : State → Script → Reply → State → Type 0
@@ -122,8 +99,9 @@ IsScript s (Answer_with r) reply t = (reply ≡ r) × (t ≡ s)
 IsScript s (Do e next) reply t = (r : Reply) × (mid : State) × IsEvent s e r mid × IsScript mid (next r) reply t
 IsScript s (Where_mapped k task mapped other) reply t = MatchBool (has_maps_of task (slot_at s k)) (IsScript s mapped reply t) (IsScript s other reply t)
 
-abbrev pub IsBuiltStep : State → Step → Reply → State → Type 0
-IsBuiltStep s step reply t = IsScript s (script (length s.slots) step) reply t
+-- the step's script was carried out
+abbrev pub IsScripted : State → Step → Reply → State → Type 0
+IsScripted s step reply t = IsScript s (script (length s.slots) step) reply t
 
 unfoldable pub IsStep : State → Step → Reply → State → Type 0
-IsStep s step reply t = MatchBool (is_unbuilt s step) ((reply ≡ Err BadLine) × (t ≡ s)) (IsBuiltStep s step reply t)
+IsStep s step reply t = IsScripted s step reply t

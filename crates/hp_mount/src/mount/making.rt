@@ -2,9 +2,7 @@
 ghost use Rattle.std.specs.Prelude.{◌≡◌, ◌≢◌, Err, IfNone, IfSome, IsTrue, ℕ, ◌+◌, ◌<◌, ◌≤◌, length, not, is_some, true, false, IfErr, IfOk, OnOk, OnErr, Some, None};
 ghost use Rattle.hp_model.specs.declared.answer.Answer.TheVariants.{MapNo};
 ghost use Rattle.hp_model.specs.declared.refusal.Refusal.TheVariants as Refusal;
-ghost use Rattle.hp_model.specs.declared.event.SlotEvent.TheVariants.{Create, Map as MapEvent};
-ghost use Rattle.hp_model.specs.declared.step.Reserving.TheVariants.{Reserve};
-ghost use Rattle.hp_model.specs.declared.step.Sharing.TheVariants.{Shared};
+ghost use Rattle.hp_model.specs.declared.event.SlotEvent.TheVariants.{Anon, Create};
 ghost use Rattle.hp_model.specs.files.File.{maps_of, with_file};
 ghost use Rattle.hp_model.specs.pool.Grant.{is_over};
 ghost use Rattle.hp_model.specs.Lists.{is_among};
@@ -16,12 +14,13 @@ ghost use Rattle.hp_subpool.specs.Subpool.{Subpool as ShareValue};
 ghost use Rattle.hp_mount.specs.Alone.{IsDoneAlone};
 ghost use Rattle.hp_mount.specs.Done.{Tried, IsDone};
 ghost use Rattle.hp_mount.specs.Found.{first_of};
-ghost use Rattle.hp_mount.specs.Making.{create_tests, map_event, map_plan, numbered, why_no_map};
+ghost use Rattle.hp_mount.specs.Making.{anon_plan, create_tests, map_event, map_plan, numbered, why_no_anon, why_no_map};
 
 use super::Mount;
 use hp_model::answer::{Answer, Reply};
 use hp_model::naming::Naming;
 use hp_model::refusal::Refusal;
+use hp_model::step::{Reserving, Sharing};
 use hp_mount_door::PoolDoor;
 use hp_mount_files::{MapRange, NextMap};
 use hp_subpool::Subpool;
@@ -29,6 +28,16 @@ use std::alloc::AllocError;
 
 /// The most pages that a file may have.
 pub(crate) const MOST_FILE_PAGES: u64 = 1_048_576;
+
+// The most pages that a map may have.
+const MOST_MAP_PAGES: u64 = 65_536;
+
+// The most files, maps and tasks with maps on a mount.
+const MOST_FILES: usize = 1024;
+
+pub(super) const MOST_MAPS: u64 = 4096;
+
+pub(super) const MOST_TASKS: u64 = 256;
 
 // one of A-Z a-z 0-9 . _ -
 fn is_name_byte(c: u8) -> bool
@@ -88,7 +97,7 @@ impl<N: Naming> Mount<N> {
         if self.is_taken(name) {
             return Some(Refusal::FileExists);
         }
-        if self.files.count() >= 1024 {
+        if self.files.count() >= MOST_FILES {
             return Some(Refusal::TooMany);
         }
         if self.is_without_inodes() {
@@ -125,11 +134,11 @@ impl<N: Naming> Mount<N> {
         if pages == 0 || range.start > MOST_FILE_PAGES || pages > MOST_FILE_PAGES - range.start {
             return Err(Refusal::OutOfRange);
         }
-        if pages > 65_536 || self.files.map_count() >= 4096 {
+        if pages > MOST_MAP_PAGES || self.files.map_count() >= MOST_MAPS {
             return Err(Refusal::TooMany);
         }
         let next = self.files.next_map(range.task);
-        if next.is_first && self.files.task_count() >= 256 {
+        if next.is_first && self.files.task_count() >= MOST_TASKS {
             return Err(Refusal::TooMany);
         }
         Ok(next)
@@ -166,7 +175,8 @@ impl<N: Naming> Mount<N> {
         Ok(())
     }
 
-    /// Maps indices of a file for a task, shared. With reservations they are entered; without, nothing is asked of the pool.
+    /// Maps indices of a file for a task. Without reservations nothing is asked of the pool; with, a page for each index if
+    /// the map is private, and for each without an entry if it is shared, whose indices are then entered.
     ///
     /// Refused as NoSuchFile, OutOfRange, TooMany, MountFull, OutOfMemory or NoPages, the first of these that holds, and
     /// as TraceFull where the door has no room to note the section; then nothing changes.
@@ -191,6 +201,96 @@ impl<N: Naming> Mount<N> {
             Err(refusal) => return Err(refusal),
         };
         match self.add_map(door, home as usize, file, range, next) {
+            Ok(()) => Ok(Answer::MapNo(next.number)),
+            Err(refusal) => Err(refusal),
+        }
+    }
+
+    // The map that the task may make next of a new file without name, or why it may not.
+    fn next_anon(&self, range: &MapRange) -> Result<NextMap, Refusal>
+        requires { range.now.start ≡ 0 }
+        ensures number { IfOk result (λ next. next.number ≡ next_number range.now.task self.now) }
+        ensures first { IfOk result (λ next. next.is_first ≡ not (is_among range.now.task (tasks_of self.now))) }
+        ensures pass { OnOk result (why_no_anon self.now range.now.task range.now.pages ≡ None) }
+        ensures few { OnOk result (length (maps_of self.now) < 4096) }
+        ensures files { OnOk result (length self.now.files < 1024) }
+        ensures reach { OnOk result (range.now.start + range.now.pages ≤ 1048576) }
+        ensures err { IfErr result (λ e. why_no_anon self.now range.now.task range.now.pages ≡ Some e) }
+    {
+        let next = match self.next_map(range) {
+            Ok(next) => next,
+            Err(refusal) => return Err(refusal),
+        };
+        if self.files.count() >= MOST_FILES {
+            return Err(Refusal::TooMany);
+        }
+        if self.is_without_inodes() {
+            return Err(Refusal::NoInodes);
+        }
+        Ok(next)
+    }
+
+    // Adds a file without name with the map, and reserves its pages through the door.
+    fn add_anon<D: PoolDoor<Share = Subpool<N>>>(
+        &mut self,
+        door: &mut D,
+        home: usize,
+        range: &MapRange,
+        next: NextMap,
+    ) -> Result<(), Refusal>
+        requires shares { (s : ShareValue) → D.share_of s ≡ s }
+        requires ready { D.is_ready door.old }
+        requires reach { range.now.start + range.now.pages ≤ 1048576 }
+        requires few { length (maps_of self.old) < 4096 }
+        requires files { length self.old.files < 1024 }
+        requires number { next.number ≡ next_number range.now.task self.old }
+        requires first { next.is_first ≡ not (is_among range.now.task (tasks_of self.old)) }
+        ensures done { Tried D.took D.is_full (anon_plan self.old range.now next.number home)
+            (Some self.old) door.old (numbered next.number result) (Some self.new) door.new }
+        ensures left { D.is_left door.new }
+    {
+        if self.share.is_full(range.wanted_alone()) {
+            return Err(Refusal::MountFull);
+        }
+        let files = &mut self.files;
+        if let Err(refusal) = files.add_anon(door, &mut self.share, home, range, next) {
+            return Err(refusal);
+        }
+        Ok(())
+    }
+
+    /// Maps all of a new file without name for a task: `pages` indices. Without reservations nothing is asked of the pool,
+    /// with them a page for each index. The file goes with its last map.
+    ///
+    /// Refused as OutOfRange, TooMany, NoInodes, MountFull, OutOfMemory or NoPages, the first of these that holds, and as
+    /// TraceFull where the door has no room to note the section; then nothing changes.
+    pub fn anon<D: PoolDoor<Share = Subpool<N>>>(
+        &mut self,
+        door: &mut D,
+        home: u64,
+        task: u64,
+        pages: u64,
+        sharing: Sharing,
+        reserving: Reserving,
+    ) -> Reply
+        requires shares { (s : ShareValue) → D.share_of s ≡ s }
+        requires ready { D.is_ready door.old }
+        ensures done { (size k : ℕ) → IsDone D.took D.is_full size k (Some self.old) door.old
+            (Anon task home pages sharing reserving) result (Some self.new) door.new }
+        ensures left { D.is_left door.new }
+    {
+        let range = MapRange {
+            task,
+            start: 0,
+            pages,
+            sharing,
+            reserving,
+        };
+        let next = match self.next_anon(&range) {
+            Ok(next) => next,
+            Err(refusal) => return Err(refusal),
+        };
+        match self.add_anon(door, home as usize, &range, next) {
             Ok(()) => Ok(Answer::MapNo(next.number)),
             Err(refusal) => Err(refusal),
         }

@@ -3,7 +3,7 @@ ghost use Rattle.std.specs.Prelude.{◌≡◌, ◌≢◌, ℕ, ◌+◌, ◌<◌,
 ghost use Rattle.hp_model.specs.declared.cell.Cell.TheVariants.{Entered, Hole};
 ghost use Rattle.hp_model.specs.files.Access.{shared_access, access};
 ghost use Rattle.hp_model.specs.declared.event.SlotEvent.TheVariants.{Load, Store, Fault};
-ghost use Rattle.hp_model.specs.files.Mapping.{is_shared};
+ghost use Rattle.hp_model.specs.files.Mapping.{is_live, is_shared, place_at};
 ghost use Rattle.hp_model.specs.machine.Accesses.{bytes_reply, done_reply};
 ghost use Rattle.hp_model.specs.machine.SlotEvent.{byte_tests, fault_tests};
 ghost use Rattle.hp_model.specs.files.Value.{value};
@@ -13,10 +13,12 @@ ghost use Rattle.hp_model.specs.files.MountCounts.{usage_of};
 ghost use Rattle.hp_model.specs.files.Page.{Page as PageValue, zeros};
 ghost use Rattle.hp_model.specs.machine.Promises.{file_in, is_backed, map_in};
 ghost use Rattle.hp_model.specs.declared.step.Intent.TheVariants.{Read, Write};
-ghost use Rattle.hp_model.specs.files.Spot.{Spot, cell_written};
+ghost use Rattle.hp_model.specs.files.Spot.{Spot, cell_written, place_written};
+ghost use Rattle.hp_mount_files.specs.declared.copy_state.CopyState.TheVariants as CopyState;
+ghost use Rattle.hp_mount_files.specs.States.{IsCopyState};
 ghost use Rattle.hp_subpool.specs.Subpool.{Subpool as ShareValue};
 ghost use Rattle.hp_mount.specs.Done.{IsAccessed, IsDone, IsReached};
-ghost use Rattle.hp_mount.specs.Found.{Fits, IsPlaced, IsTouched, first_of, spot_at, spot_of, tests_of, why_not};
+ghost use Rattle.hp_mount.specs.Found.{Fits, with_place_at, IsPlaced, IsTouched, first_of, spot_at, spot_of, tests_of, why_not};
 
 use super::Mount;
 use hp_model::answer::{Answer, Reply};
@@ -151,17 +153,25 @@ impl<N: Naming> Mount<N> {
         requires pages { (p : PageValue) → D.page_of p ≡ p }
         requires ready { D.is_ready door.old }
         requires file { at.file < length self.old.files }
+        requires map { at.map < length (file_in self.old at.file).maps }
         requires below { index < length (file_in self.old at.file).cells }
-        requires shared { is_shared (spot_at self.old at.file at.map).map.sharing ≡ true }
+        requires live { is_live (place_at (map_in (file_in self.old at.file) at.map) index) ≡ true }
         ensures done { IsAccessed D.took D.is_full N.page_bytes home at index intent
             self.old door.old result self.new door.new }
         ensures left { D.is_left door.new }
-        ensures memory { is_entered (cell_at (file_in self.old at.file) index) ≡ true
+        ensures memory { is_backed intent (Some (spot_at self.old at.file at.map)) index ≡ true
             → result ≢ Err Refusal.OutOfMemory }
         ensures same { IsTouched self.old self.new at.file }
+        ensures once { intent ≡ Write → result ≡ Ok tt
+            → is_shared (map_in (file_in self.old at.file) at.map).sharing ≡ false
+            → IsCopyState CopyState.HeldOnce (file_in self.new at.file)
+            (place_at (map_in (file_in self.new at.file) at.map) index) }
     {
-        let _intent = intent;
-        self.reach_shared(door, home, at.file, index)
+        if self.files.is_shared(at) {
+            self.reach_shared(door, home, at.file, index)
+        } else {
+            self.reach_private(door, home, at, index, intent)
+        }
     }
 
     // What a load or a store of so many bytes is refused before its access, if anything.
@@ -178,6 +188,8 @@ impl<N: Naming> Mount<N> {
         ensures refused { result
             ≡ first_of (byte_tests page_bytes index offset count (spot_at self.now at.file at.map)) }
         ensures below { IfNone result (index < length (file_in self.now at.file).cells) }
+        ensures live { IfNone result
+            (is_live (place_at (map_in (file_in self.now at.file) at.map) index) ≡ true) }
         ensures fits { IfNone result (offset + count ≤ page_bytes) }
         ensures few { IfNone result (count ≤ 256) }
     {
@@ -203,6 +215,8 @@ impl<N: Naming> Mount<N> {
         requires map { at.map < length (file_in self.now at.file).maps }
         ensures refused { result ≡ first_of (fault_tests index (spot_at self.now at.file at.map)) }
         ensures below { IfNone result (index < length (file_in self.now at.file).cells) }
+        ensures live { IfNone result
+            (is_live (place_at (map_in (file_in self.now at.file) at.map) index) ≡ true) }
     {
         if !self.files.is_live(at, index) {
             return Some(Refusal::OutOfRange);
@@ -220,6 +234,8 @@ impl<N: Naming> Mount<N> {
         ensures refused { result
             ≡ first_of (tests_of page_bytes index asked (spot_at self.now at.file at.map)) }
         ensures below { IfNone result (index < length (file_in self.now at.file).cells) }
+        ensures live { IfNone result
+            (is_live (place_at (map_in (file_in self.now at.file) at.map) index) ≡ true) }
         ensures fits { IfNone result (Fits page_bytes asked) }
     {
         match asked {
@@ -365,8 +381,13 @@ impl<N: Naming> Mount<N> {
             Ok(at) => at,
             Err(refusal) => return Err(refusal),
         };
+        let is_shared = self.files.is_shared(at);
         if let Err(refusal) = self.reach(door, home as usize, at, access.index, Intent::Write) {
             return Err(refusal);
+        }
+        if !is_shared {
+            self.write_copy(at, access.index, offset as usize, bytes);
+            return Ok(());
         }
         self.write(at.file, access.index, offset as usize, bytes);
         Ok(())
@@ -408,6 +429,19 @@ impl<N: Naming> Mount<N> {
             (cell_written offset bytes.now (cell_at (file_in self.old file) index))) }
     {
         self.files.write(file, index, offset, bytes);
+    }
+
+    // Writes bytes into a copy that the map alone holds.
+    fn write_copy(&mut self, at: MapPlace, index: u64, offset: usize, bytes: &[u8])
+        requires file { at.file < length self.old.files }
+        requires map { at.map < length (file_in self.old at.file).maps }
+        requires once { IsCopyState CopyState.HeldOnce (file_in self.old at.file)
+            (place_at (map_in (file_in self.old at.file) at.map) index) }
+        requires fits { offset + length bytes.now ≤ N.page_bytes }
+        ensures { self.new ≡ with_place_at self.old at.file at.map index (place_written offset bytes.now
+            (place_at (map_in (file_in self.old at.file) at.map) index)) }
+    {
+        self.files.write_copy(at, index, offset, bytes);
     }
 
     // `count` bytes of what a map shows, in the front of the room.

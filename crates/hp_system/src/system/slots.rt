@@ -1,13 +1,16 @@
 //! Events on slots.
-ghost use Rattle.std.specs.Prelude.{◌≡◌, ◌≢◌, length, true, false, Err};
+ghost use Rattle.std.specs.Prelude.{◌≡◌, ◌≢◌, ◌<◌, ◌≤◌, ◌∷◌, [], length, true, false, Err, ℕ};
+ghost use Rattle.hp_model.specs.machine.Event.{has_maps_of};
+ghost use Rattle.std.specs.List.{range_with_len};
 ghost use Rattle.hp_model.specs.declared.refusal.Refusal.TheVariants as Refusal;
 ghost use Rattle.hp_model.specs.declared.event.SlotEvent.TheVariants.{Mount as Mounting, Umount as Umounting};
 ghost use Rattle.hp_model.specs.files.Options.{limits, wanted_of};
 ghost use Rattle.hp_model.specs.machine.State.{slot_at};
 ghost use Rattle.hp_model.specs.text.Writing.{IsWithinLimits};
+ghost use Rattle.hp_mount.specs.Done.{done};
 ghost use Rattle.hp_mount.specs.Event.{event_of, is_usage};
 ghost use Rattle.hp_mount.specs.Memory.{asks_memory};
-ghost use Rattle.hp_system.specs.Event.{DoesOfTask, DoesOnSlot};
+ghost use Rattle.hp_system.specs.Event.{AreExited, AreForked, DoesOfTask, DoesOnSlot, IsForkedOn, mapped_slots};
 ghost use Rattle.hp_system.specs.Kept.{IsReady};
 
 use super::System;
@@ -81,19 +84,22 @@ impl<N: Naming> System<N> {
         if at >= self.slots.len() {
             return Err(Refusal::NoSuchSlot);
         }
-        match &self.slots[at] {
-            None => return Err(Refusal::NoSuchSlot),
-            Some(mount) => {
-                if at == 0 || mount.has_maps() {
-                    return Err(Refusal::Busy);
-                }
-            }
+        if self.slots[at].is_none() {
+            return Err(Refusal::NoSuchSlot);
         }
-        match mem::replace(&mut self.slots[at], None) {
-            None => unreachable!(),
-            Some(mount) => mount.close(&mut self.pool),
+        if at == 0 {
+            return Err(Refusal::Busy);
         }
-        Ok(Answer::Done)
+        let Some(mount) = mem::replace(&mut self.slots[at], None) else {
+            unreachable!()
+        };
+        match mount.close(&mut self.pool) {
+            Ok(()) => Ok(Answer::Done),
+            Err(mount) => match mem::replace(&mut self.slots[at], Some(mount)) {
+                None => Err(Refusal::Busy),
+                Some(_other) => unreachable!(),
+            },
+        }
     }
 
     // What a step asks of the mount of a slot, for a task with that home node. Refused as NoSuchSlot
@@ -134,5 +140,101 @@ impl<N: Naming> System<N> {
             Some(home) => self.on_slot(slot, home, event),
             None => Err(Refusal::NoSuchTask),
         }
+    }
+
+    // A task's maps on a slot go, if it has any there.
+    fn exit_slot(&mut self, at: usize, task: u64)
+        requires ready { IsReady self.old }
+        requires within { at < length self.old.state.slots }
+        ensures done { AreExited self.old.state (at ∷ []) task self.new.state }
+        ensures others { (k : ℕ) → k ≢ at → slot_at self.new.state k ≡ slot_at self.old.state k }
+        ensures slots { length self.new.state.slots ≡ length self.old.state.slots }
+        ensures size { self.new.state.page_size ≡ self.old.state.page_size }
+        ensures ready { IsReady self.new }
+    {
+        if let Some(mount) = &mut self.slots[at] {
+            if mount.has_maps(task) {
+                mount.exit_maps(&mut self.pool, task);
+            }
+        }
+    }
+
+    // A task's maps on all slots go, slot after slot.
+    pub(crate) fn exit_slots(&mut self, task: u64)
+        requires ready { IsReady self.old }
+        ensures done { AreExited self.old.state (range_with_len 0 (length self.old.state.slots)) task
+            self.new.state }
+        ensures size { self.new.state.page_size ≡ self.old.state.page_size }
+        ensures ready { IsReady self.new }
+    {
+        for at in 0..self.slots.len() {
+            self.exit_slot(at, task);
+        }
+    }
+
+    // Whether a task has a map on a slot.
+    fn has_maps(&self, at: usize, task: u64) -> bool
+        requires { at < length self.now.state.slots }
+        ensures { result ≡ has_maps_of task (slot_at self.now.state at) }
+    {
+        match &self.slots[at] {
+            Some(mount) => mount.has_maps(task),
+            None => false,
+        }
+    }
+
+    // Gives a child the maps that its parent has on a slot. Refused as TooMany or OutOfMemory, and then nothing changes.
+    fn fork_slot(&mut self, at: usize, parent: u64, child: u64) -> Result<(), Refusal>
+        requires ready { IsReady self.old }
+        requires within { at < length self.old.state.slots }
+        requires apart { parent ≢ child }
+        ensures done { IsForkedOn self.old.state at parent child (done result) self.new.state }
+        ensures slots { length self.new.state.slots ≡ length self.old.state.slots }
+        ensures size { self.new.state.page_size ≡ self.old.state.page_size }
+        ensures ready { IsReady self.new }
+    {
+        let Some(mount) = &mut self.slots[at] else {
+            return Ok(());
+        };
+        if !mount.has_maps(parent) {
+            return Ok(());
+        }
+        match mount.fork_maps(&mut self.pool, parent, child) {
+            Ok(_done) => Ok(()),
+            Err(refusal) => Err(refusal),
+        }
+    }
+
+    // The maps of a child go again, on the slots below `count` where its parent has maps.
+    fn undo_fork(&mut self, count: usize, parent: u64, child: u64)
+        requires ready { IsReady self.old }
+        requires within { count ≤ length self.old.state.slots }
+        ensures done { AreExited self.old.state (mapped_slots self.old.state count parent) child
+            self.new.state }
+        ensures size { self.new.state.page_size ≡ self.old.state.page_size }
+        ensures ready { IsReady self.new }
+    {
+        for at in 0..count {
+            if self.has_maps(at, parent) {
+                self.exit_slot(at, child);
+            }
+        }
+    }
+
+    // Gives a child the maps that its parent has on all slots. Where a slot refuses, those that were made go again.
+    pub(crate) fn fork_slots(&mut self, parent: u64, child: u64) -> Result<(), Refusal>
+        requires ready { IsReady self.old }
+        requires apart { parent ≢ child }
+        ensures done { AreForked self.old.state parent child result self.new.state }
+        ensures size { self.new.state.page_size ≡ self.old.state.page_size }
+        ensures ready { IsReady self.new }
+    {
+        for at in 0..self.slots.len() {
+            if let Err(refusal) = self.fork_slot(at, parent, child) {
+                self.undo_fork(at, parent, child);
+                return Err(refusal);
+            }
+        }
+        Ok(())
     }
 }

@@ -1,16 +1,16 @@
 //! Steps of all kinds.
 ghost use Rattle.std.specs.Prelude.{◌≡◌, ◌≢◌, true, false, Err, IfOk, OnErr};
 ghost use Rattle.hp_model.specs.declared.refusal.Refusal.TheVariants as Refusal;
-ghost use Rattle.hp_model.specs.declared.step.Step.TheVariants.{Connect, Map as MapStep, Nr, Meminfo};
+ghost use Rattle.hp_model.specs.declared.step.Step.TheVariants.{Attach, Connect, Exit, Fork, Map as MapStep, Nr, Overcommit, Meminfo, Nodes};
 ghost use Rattle.hp_model.specs.machine.Promises.{is_usage, IsPromised, IsPromisedRun};
-ghost use Rattle.hp_model.specs.declared.step.Sharing.TheVariants.{Shared};
 ghost use Rattle.hp_model.specs.machine.Step.{IsStep};
+ghost use Rattle.hp_model.specs.pool.Resize.{node_counts};
 ghost use Rattle.hp_model.specs.text.Writing.{IsWithinLimits};
 ghost use Rattle.hp_model.specs.machine.Promises.{takes_memory};
 ghost use Rattle.hp_system.specs.Kept.{IsReady};
 
 use super::System;
-use hp_model::answer::{Answer, Reply};
+use hp_model::answer::{Answer, NodeCount, Reply};
 use hp_model::bytes::Bytes;
 use hp_model::event::TableEvent;
 use hp_model::naming::Naming;
@@ -18,6 +18,9 @@ use hp_model::refusal::Refusal;
 use hp_model::step::{Reserving, Sharing, Step};
 use hp_mount::MountEvent;
 use std::alloc::{AllocError, Global};
+
+/// The most that overcommit may be set to, in pages.
+const MOST_OVERCOMMIT: u64 = 4_294_967_295;
 
 impl<N: Naming> System<N> {
     /// Adds a task with its home node, from which its pages come first.
@@ -37,10 +40,73 @@ impl<N: Naming> System<N> {
         self.table.apply(nodes, TableEvent::Add { task, home })
     }
 
-    /// Sets how many persistent pages there are, or all frames where `pages` is more, and answers
-    /// the new number. Surplus pages become persistent first (`admin-guide/mm/hugetlbpage.rst`).
+    /// Answers the home node of a task. Changes nothing.
     ///
-    /// For now refused as BadLine where `pages` is below the present number, and then nothing changes.
+    /// Refused as NoSuchTask where the task is not there.
+    pub fn attach(&mut self, task: u64) -> Reply
+        requires ready { IsReady self.old }
+        ensures step { IsStep self.old.state (Attach task) result self.new.state }
+        ensures memory { result ≢ Err Refusal.OutOfMemory }
+        ensures limits { IsWithinLimits result }
+        ensures size { self.new.state.page_size ≡ self.old.state.page_size }
+        ensures ready { IsReady self.new }
+    {
+        match self.table.home(task) {
+            Some(home) => Ok(Answer::Home(home)),
+            None => Err(Refusal::NoSuchTask),
+        }
+    }
+
+    /// Adds a child of a task, with its home node. The child gets a map for each map of its parent, of the same number, range
+    /// and copies, which owns nothing (`mm/hugetlbfs_reserv.rst`). Maps that still stand under the child's number go first.
+    ///
+    /// Refused, and then the child is not there and has no map, by the first of these that holds (profile):
+    /// - NoSuchTask: the parent is not there.
+    /// - TaskExists: the child is there.
+    /// - TooMany: there are 256 tasks; or with the child a slot would have more than 4,096 maps, or maps of more than 256 tasks.
+    /// - OutOfMemory: memory for the child's maps is refused.
+    pub fn fork(&mut self, parent: u64, child: u64) -> Reply
+        requires ready { IsReady self.old }
+        ensures step { IsStep self.old.state (Fork parent child) result self.new.state }
+        ensures size { self.new.state.page_size ≡ self.old.state.page_size }
+        ensures ready { IsReady self.new }
+    {
+        if let Err(refusal) = self.table.add_child(parent, child) {
+            return Err(refusal);
+        }
+        match self.fork_slots(parent, child) {
+            Ok(()) => Ok(Answer::Done),
+            Err(refusal) => {
+                self.table.remove(child);
+                Err(refusal)
+            }
+        }
+    }
+
+    /// Ends a task. Its maps on all slots go with what they hold, and files that are left without name and maps; their
+    /// pages and reservations go back to the pool, but for what minimums keep.
+    ///
+    /// Refused as NoSuchTask where the task is not there, and then nothing changes. It takes no memory.
+    pub fn exit(&mut self, task: u64) -> Reply
+        requires ready { IsReady self.old }
+        ensures step { IsStep self.old.state (Exit task) result self.new.state }
+        ensures memory { result ≢ Err Refusal.OutOfMemory }
+        ensures size { self.new.state.page_size ≡ self.old.state.page_size }
+        ensures ready { IsReady self.new }
+    {
+        let nodes = self.pool.len() as u64;
+        match self.table.apply(nodes, TableEvent::Remove { task }) {
+            Ok(done) => {
+                self.exit_slots(task);
+                Ok(done)
+            }
+            Err(refusal) => Err(refusal),
+        }
+    }
+
+    /// Sets how many persistent pages there are, or all frames where `pages` is more, and answers the new number. Where it
+    /// rises, surplus pages become persistent first, and then frames are taken; where it falls, free pages that nobody is
+    /// promised leave, and of the others as many become surplus (`admin-guide/mm/hugetlbpage.rst`). Never refused.
     pub fn set_nr(&mut self, pages: u64) -> Reply
         requires ready { IsReady self.old }
         ensures step { IsStep self.old.state (Nr pages) result self.new.state }
@@ -48,10 +114,55 @@ impl<N: Naming> System<N> {
         ensures size { self.new.state.page_size ≡ self.old.state.page_size }
         ensures ready { IsReady self.new }
     {
-        if pages < self.pool.nr() {
-            return Err(Refusal::BadLine);
-        }
         Ok(Answer::Number(self.pool.set_nr(pages)))
+    }
+
+    /// Sets how many surplus pages there may be (`admin-guide/mm/hugetlbpage.rst`). Those that there are stay.
+    ///
+    /// Refused as OutOfRange where `pages` is above 4,294,967,295 (profile), and then nothing changes.
+    pub fn set_overcommit(&mut self, pages: u64) -> Reply
+        requires ready { IsReady self.old }
+        ensures step { IsStep self.old.state (Overcommit pages) result self.new.state }
+        ensures memory { result ≢ Err Refusal.OutOfMemory }
+        ensures size { self.new.state.page_size ≡ self.old.state.page_size }
+        ensures ready { IsReady self.new }
+    {
+        if pages > MOST_OVERCOMMIT {
+            return Err(Refusal::OutOfRange);
+        }
+        self.pool.set_overcommit(pages);
+        Ok(Answer::Done)
+    }
+
+    // A row for each node, and rows of zeros past the last.
+    fn node_counts(&self) -> [NodeCount; 4]
+        requires { IsReady self.now }
+        ensures { result ≡ node_counts self.now.pool }
+    {
+        let none = NodeCount {
+            total: 0,
+            free: 0,
+            surp: 0,
+        };
+        let mut rows = [none; 4];
+        for node in 0..self.pool.len() {
+            rows[node] = self.pool.node(node);
+        }
+        rows
+    }
+
+    /// Answers how many nodes there are, and of each its pages, those that are free, and its surplus. Never refused, and
+    /// changes nothing.
+    pub fn nodes(&mut self) -> Reply
+        requires ready { IsReady self.old }
+        ensures step { IsStep self.old.state Nodes result self.new.state }
+        ensures memory { result ≢ Err Refusal.OutOfMemory }
+        ensures size { self.new.state.page_size ≡ self.old.state.page_size }
+        ensures ready { IsReady self.new }
+    {
+        let nodes = self.pool.len() as u64;
+        let rows = self.node_counts();
+        Ok(Answer::PerNode { nodes, rows })
     }
 
     /// Answers Total, Free, Rsvd and Surp, and what nr and overcommit are set to, all in pages
@@ -72,9 +183,8 @@ impl<N: Naming> System<N> {
     /// its limit, and minimums stay committed; a load answers what its map shows, and a file shows what
     /// was stored through its maps, until an umount ends it.
     ///
-    /// Refused as the step's own function is, and as BadLine where the step is not built yet. Only a
-    /// step that makes a file, a map or a list of names, and an access that nothing backs, can be refused
-    /// memory.
+    /// Refused as the step's own function is. Only a step that makes a file, a map or a list of names, a fork, and an
+    /// access that nothing backs, can be refused memory.
     pub fn apply(&mut self, step: &Step) -> Reply
         requires ready { IsReady self.old }
         ensures step { IsStep self.old.state step.now result self.new.state }
@@ -88,19 +198,20 @@ impl<N: Naming> System<N> {
         self.answer(step)
     }
 
-    // Maps indices of a file, shared, with reservations or without.
+    // Maps indices of a file.
     #[tactic(auto, unfolding(hp_model::specs::machine::Step::IsStep))]
-    fn map_shared(
+    fn map_file(
         &mut self,
         task: u64,
         slot: u64,
         name: &Bytes,
         start: u64,
         pages: u64,
+        sharing: Sharing,
         reserving: Reserving,
     ) -> Reply
         requires ready { IsReady self.old }
-        ensures step { IsStep self.old.state (MapStep task slot name.now start pages Shared reserving)
+        ensures step { IsStep self.old.state (MapStep task slot name.now start pages sharing reserving)
             result self.new.state }
         ensures size { self.new.state.page_size ≡ self.old.state.page_size }
         ensures ready { IsReady self.new }
@@ -110,6 +221,7 @@ impl<N: Naming> System<N> {
             name: name.as_slice(),
             start,
             pages,
+            sharing,
             reserving,
         };
         self.of_task(task, slot, event)
@@ -128,6 +240,9 @@ impl<N: Naming> System<N> {
     {
         match step {
             Step::Connect { task, home } => self.connect(*task, *home),
+            Step::Attach { task } => self.attach(*task),
+            Step::Fork { parent, child } => self.fork(*parent, *child),
+            Step::Exit { task } => self.exit(*task),
             Step::Mount { slot, options } => self.mount(*slot, options),
             Step::Umount { slot } => self.umount(*slot),
             Step::Ls { slot } => self.on_slot(*slot, 0, MountEvent::Ls),
@@ -183,9 +298,38 @@ impl<N: Naming> System<N> {
                 name,
                 from,
                 pages,
-                sharing: Sharing::Shared,
+                sharing,
                 reserving,
-            } => self.map_shared(*task, *slot, name, *from, *pages, *reserving),
+            } => self.map_file(*task, *slot, name, *from, *pages, *sharing, *reserving),
+            Step::Anon {
+                task,
+                pages,
+                sharing,
+                reserving,
+            } => {
+                let event = MountEvent::Anon {
+                    task: *task,
+                    pages: *pages,
+                    sharing: *sharing,
+                    reserving: *reserving,
+                };
+                self.of_task(*task, 0, event)
+            }
+            Step::Unmap {
+                task,
+                slot,
+                map,
+                from,
+                to,
+            } => {
+                let event = MountEvent::Unmap {
+                    task: *task,
+                    map: *map,
+                    start: *from,
+                    end: *to,
+                };
+                self.of_task(*task, *slot, event)
+            }
             Step::Fault {
                 task,
                 slot,
@@ -236,8 +380,9 @@ impl<N: Naming> System<N> {
                 self.of_task(*task, *slot, event)
             }
             Step::Nr { pages } => self.set_nr(*pages),
+            Step::Overcommit { pages } => self.set_overcommit(*pages),
             Step::Meminfo => self.meminfo(),
-            _ => Err(Refusal::BadLine),
+            Step::Nodes => self.nodes(),
         }
     }
 

@@ -2,8 +2,8 @@ use Rattle.std.proofs.Common.{◌∙◌, ap, map, inl, inr, refl, subst, sym, ar
 use Rattle.hugetlbd.specs.Asked.{Asks}
 use Rattle.hugetlbd.specs.Config.{Choice, choice_of, chosen, usual}
 use Rattle.hugetlbd.proofs.Runs.{answered_well, answered_as, ends_below_2, ran_as}
-use Rattle.hugetlbd.proofs.Refused.{not_taken, right_is_1}
-use Rattle.hugetlbd.proofs.Usual.{few_is_1, few_is_no_help, few_texts, no_words}
+use Rattle.hugetlbd.proofs.Refused.{not_taken, right_is_1, told_as_asked}
+use Rattle.hugetlbd.proofs.Usual.{few_is_1, few_ask_no_text, few_texts, no_words}
 use Rattle.hugetlbd.proofs.program.program.Goals as goal
 
 pub returns-in-Ok-clause-script : goal.returns-in-Ok-clause-script
@@ -40,10 +40,13 @@ returns-in-Err-clause-right g c choice asked fits two =
 pub returns-in-Err-clause-script : goal.returns-in-Err-clause-script
 returns-in-Err-clause-script g c zero =
     let words = map g.S.AsStr.text c.args.words.now in
+    let told = told_as_asked words c.in-Err.wrong _ c.in-Err.ensures.refused (c.refuse.ensures.told zero) in
     inl (
       refl,
       not_taken words c.in-Err.wrong c.refuse.result c.in-Err.ensures.refused c.refuse.ensures.ends zero,
-      c.refuse.ensures.help zero,
+      told.0,
+      told.1,
+      told.2,
     )
 
 pub returns-in-Err-clause-usual : goal.returns-in-Err-clause-usual
@@ -56,5 +59,5 @@ returns-in-Err-clause-alone g c few =
     inr (
       few_is_1 _ c.in-Err.wrong c.refuse.result texts c.in-Err.ensures.refused c.refuse.ensures.ends,
       refl,
-      c.refuse.ensures.quiet (few_is_no_help _ c.in-Err.wrong texts c.in-Err.ensures.refused),
+      c.refuse.ensures.quiet (few_ask_no_text _ c.in-Err.wrong texts c.in-Err.ensures.refused),
     )

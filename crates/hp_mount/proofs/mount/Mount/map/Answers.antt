@@ -1,6 +1,5 @@
 use Rattle.std.proofs.Common.{◌≡◌, Err, None, Some, subst}
 use Rattle.hp_model.specs.declared.answer.Answer.TheVariants.{MapNo}
-use Rattle.hp_model.specs.declared.step.Sharing.TheVariants.{Shared}
 use Rattle.hp_model.specs.files.File.{Mount, with_file}
 use Rattle.hp_model.specs.files.MakeMap.{asked, mapped}
 use Rattle.hp_model.specs.machine.Plan.{Answered, Choice, grant}
@@ -15,7 +14,7 @@ pub returns-in_default-clause-done : goal.returns-in_default-clause-done
 returns-in_default-clause-done g c size k =
     let r = c.args.range.now in
     let m = c.args.self.now in
-    map_nowhere g.D.PoolDoor.took g.D.PoolDoor.is_full m size k r.task c.args.home r.start r.pages r.reserving c.args.name.now c.args.door.now
+    map_nowhere g.D.PoolDoor.took g.D.PoolDoor.is_full m size k r.task c.args.home r.start r.pages r.sharing r.reserving c.args.name.now c.args.door.now
     (subst (λ (x : Mount). file_named x c.args.name.now ≡ None) c.self.view_is c.in_default.ensures.none)
 
 pub returns-in-Err-clause-done : goal.returns-in-Err-clause-done
@@ -24,7 +23,7 @@ returns-in-Err-clause-done g c size k =
     let m = c.args.self.now in
     let file = c.in-Some.file in
     let named = subst (λ (x : Mount). file_named x c.args.name.now ≡ Some (file, file_in x file)) c.self.view_is c.in-Some.ensures.some.is in
-    map_refused g.D.PoolDoor.took g.D.PoolDoor.is_full m size k r.task c.args.home r.start r.pages r.reserving c.args.name.now c.args.door.now file named c.in-Err.refusal c.in-Err.ensures.err
+    map_refused g.D.PoolDoor.took g.D.PoolDoor.is_full m size k r.task c.args.home r.start r.pages r.sharing r.reserving c.args.name.now c.args.door.now file named c.in-Err.refusal c.in-Err.ensures.err
 
 pub returns-in-Err-add_map-clause-done : goal.returns-in-Err-add_map-clause-done
 returns-in-Err-add_map-clause-done g c size k =
@@ -33,6 +32,6 @@ returns-in-Err-add_map-clause-done g c size k =
     let file = c.in-Some.file in
     let number = c.in-Ok.next.number in
     let named = subst (λ (x : Mount). file_named x c.args.name.now ≡ Some (file, file_in x file)) c.self.view_is c.in-Some.ensures.some.is in
-    let plan = λ (p : Choice). grant p m c.args.home (asked Shared r.reserving r.start r.pages (file_in m file)) (Answered (MapNo number) (Some (with_file m file (mapped r.task number r.start r.pages Shared r.reserving (file_in m file))))) in
-    map_went g.D.PoolDoor.took g.D.PoolDoor.is_full m size k r.task c.args.home r.start r.pages r.reserving c.args.name.now c.args.door.now file named number c.in-Ok.ensures.pass c.in-Ok.ensures.number (Err c.in-Err-add_map.refusal) (Some c.add_map.new.self) c.add_map.new.door
+    let plan = λ (p : Choice). grant p m c.args.home (asked r.sharing r.reserving r.start r.pages (file_in m file)) (Answered (MapNo number) (Some (with_file m file (mapped r.task number r.start r.pages r.sharing r.reserving (file_in m file))))) in
+    map_went g.D.PoolDoor.took g.D.PoolDoor.is_full m size k r.task c.args.home r.start r.pages r.sharing r.reserving c.args.name.now c.args.door.now file named number c.in-Ok.ensures.pass c.in-Ok.ensures.number (Err c.in-Err-add_map.refusal) (Some c.add_map.new.self) c.add_map.new.door
     (subst (λ q. Tried g.D.PoolDoor.took g.D.PoolDoor.is_full plan (Some m) c.args.door.now (numbered number q) (Some c.add_map.new.self) c.add_map.new.door) c.in-Err-add_map.is c.add_map.ensures.done)

@@ -1,13 +1,12 @@
-use Rattle.std.proofs.Common.{◌≡◌, ◌<◌, None, Some, length, sym, ap, subst, ◌∙◌}
+use Rattle.std.proofs.Common.{◌≡◌, ◌<◌, true, None, Some, length, sym, ap, subst, ◌∙◌}
 use Rattle.hp_model.specs.declared.limits.Limits.{Limits}
 use Rattle.hp_model.specs.files.File.{Mount}
-use Rattle.hp_model.specs.files.Mapping.{is_map}
-use Rattle.hp_model.specs.machine.Promises.{file_in}
+use Rattle.hp_model.specs.files.Mapping.{is_live, is_map, place_at}
+use Rattle.hp_model.specs.machine.Promises.{file_in, map_in}
 use Rattle.hp_model.specs.files.Spot.{spot}
 use Rattle.hp_mount.specs.Found.{IsPlaced, first_of, spot_at, tests_of}
 use Rattle.hp_mount.specs.Kept.{mount_of}
 use Rattle.hp_mount.proofs.Commands.{why_of}
-use Rattle.hp_mount.proofs.Keeping.{found_shared}
 use Rattle.hp_mount.proofs.mount.Mount.place.Goals as goal
 
 pub returns-in_default-clause-refused : goal.returns-in_default-clause-refused
@@ -40,5 +39,5 @@ returns-in-None-clause-placed g c =
       file = there.file_within;
       map = there.map_within;
       below = subst (λ (x : Mount). a.index < length (file_in x at.file).cells) (sym c.self.view_is) c.in-None.ensures.below;
-      shared = found_shared o.share o.files o.inodes c.self.invariant at.file at.map there.file_within there.map_within;
+      live = subst (λ (x : Mount). is_live (place_at (map_in (file_in x at.file) at.map) a.index) ≡ true) (sym c.self.view_is) c.in-None.ensures.live;
     })

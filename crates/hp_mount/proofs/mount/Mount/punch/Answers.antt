@@ -10,8 +10,7 @@ use Rattle.hp_model.specs.threads.LocalRun.{ThroughDoor}
 use Rattle.hp_mount_files.specs.Files.{file_at}
 use Rattle.hp_mount.specs.Done.{IsDone}
 use Rattle.hp_mount.specs.Kept.{mount_of}
-use Rattle.hp_mount.proofs.Giving.{bad_range, gave_back, given, good_range, kept, left_is, nowhere, out_of_range, shared_punched}
-use Rattle.hp_mount.proofs.Keeping.{shared_here}
+use Rattle.hp_mount.proofs.Giving.{bad_range, gave_back, given, good_range, kept, left_is, nowhere, out_of_range}
 use Rattle.hp_mount.proofs.mount.Mount.punch.Goals as goal
 
 pub returns-in_default-clause-done : goal.returns-in_default-clause-done
@@ -37,7 +36,6 @@ invariant_of-self g c =
     let o = c.self.inside in
     let file = c.in-Some.file in
     kept o.share o.files c.punch.new.self o.inodes c.self.invariant file (punched c.args.start c.args.end (file_at o.files.files file)) 0 c.punch.ensures.left c.punch.ensures.files c.give_back.new.share c.give_back.new.self
-    (shared_punched c.args.start c.args.end (file_at o.files.files file).maps (shared_here o.share o.files o.inodes c.self.invariant file c.in-Some.ensures.some.within))
     c.give_back.ensures.share c.give_back.ensures.going
 
 pub returns-clause-done : goal.returns-clause-done

@@ -1,10 +1,13 @@
-use Rattle.std.proofs.Common.{◌≡◌, Ok, Some, length, refl, sym, ap, subst, ◌∙◌, arith}
+use Rattle.std.proofs.Common.{◌≡◌, false, Ok, Some, length, refl, sym, ap, subst, ◌∙◌, arith}
 use Rattle.hp_model.specs.declared.answer.Answer.TheVariants.{Done}
 use Rattle.hp_model.specs.declared.step.Intent.TheVariants.{Write}
+use Rattle.hp_laws.proofs.Copies.{live_of}
+use Rattle.hp_model.specs.files.File.{Mount, file_in, map_in}
+use Rattle.hp_model.specs.files.Mapping.{is_shared, place_at}
 use Rattle.hp_model.specs.machine.Plan.{and_then}
 use Rattle.hp_mount.specs.declared.mount.reach.Asked.TheVariants.{Bytes}
 use Rattle.hp_mount.specs.Found.{IsPlaced, spot_at, spot_of, why_not}
-use Rattle.hp_mount.proofs.Commands.{backed_not_memory, denied, early_not_memory, follows, not_begun, stores, went, why_is_early, written_is}
+use Rattle.hp_mount.proofs.Commands.{backed_not_memory, denied, early_not_memory, follows, not_begun, private_written, stores, went, why_is_early, written_is}
 use Rattle.hp_mount.proofs.Ways.{then_goes}
 use Rattle.hp_mount.proofs.mount.Mount.store.Goals as goal
 
@@ -37,8 +40,31 @@ returns-clause-done g c k =
     let cells = c.reach.ensures.same.cells in
     let file = placed.file in
     let below = placed.below in
-    let wrote = c.write.ensures ∙ sym (written_is n s a.index c.args.offset c.args.bytes.now placed.shared (omega (arith, file, files)) (omega (arith, below, cells))) in
+    let wrote = c.write.ensures ∙ sym (written_is n s a.index c.args.offset c.args.bytes.now (sym (ap (λ (x : Mount). is_shared (map_in (file_in x c.in-Ok.at.file) c.in-Ok.at.map).sharing) c.self.view_is) ∙ sym c.is_shared-is_shared.ensures ∙ c.if-not-is_shared.false) (omega (arith, file, files)) (omega (arith, below, cells))) in
     let new = Some c.write.new.self in
+    went took g.D.PoolDoor.is_full m c.args.door.now size c.args.home a Write asked (λ s p. and_then (cont s) p) (follows took g.D.PoolDoor.is_full m c.args.door.now cont) c.in-Ok.at placed
+    c.reach.result n c.reach.new.door Done new c.in_default.is (λ p h. then_goes took m (cont s) p c.args.door.now c.reach.new.door Done n (Ok Done) new h (refl, ap Some wrote)) c.reach.ensures.done
+
+pub returns-then-not-is_shared-clause-done : goal.returns-then-not-is_shared-clause-done
+returns-then-not-is_shared-clause-done g c k =
+    let took = g.D.PoolDoor.took in
+    let size = g.N.Naming.page_bytes in
+    let m = c.args.self.now in
+    let a = c.args.access.now in
+    let asked = Bytes c.args.offset (length c.args.bytes.now) in
+    let cont = stores size a.index c.args.offset c.args.bytes.now in
+    let placed = subst (λ n. IsPlaced m a asked n c.in-Ok.at) c.requires.page_bytes c.in-Ok.ensures.placed in
+    let s = spot_at m c.in-Ok.at.file c.in-Ok.at.map in
+    let n = c.reach.new.self in
+    let private : is_shared s.map.sharing ≡ false = (sym (ap (λ (x : Mount). is_shared (map_in (file_in x c.in-Ok.at.file) c.in-Ok.at.map).sharing) c.self.view_is) ∙ sym c.is_shared-is_shared.ensures ∙ c.if-not-is_shared.true) in
+    let files = c.reach.ensures.same.files in
+    let maps = c.reach.ensures.same.maps in
+    let map = placed.map in
+    let file = placed.file in
+    let once = c.reach.ensures.once refl c.in_default.is private in
+    let live = live_of (place_at (map_in (file_in n c.in-Ok.at.file) c.in-Ok.at.map) a.index) once.0 once.1 in
+    let wrote = c.write_copy.ensures ∙ sym (private_written n s a.index c.args.offset c.args.bytes.now live.0 once.0 private (omega (arith, file, files)) (omega (arith, map, maps)) live.1) in
+    let new = Some c.write_copy.new.self in
     went took g.D.PoolDoor.is_full m c.args.door.now size c.args.home a Write asked (λ s p. and_then (cont s) p) (follows took g.D.PoolDoor.is_full m c.args.door.now cont) c.in-Ok.at placed
     c.reach.result n c.reach.new.door Done new c.in_default.is (λ p h. then_goes took m (cont s) p c.args.door.now c.reach.new.door Done n (Ok Done) new h (refl, ap Some wrote)) c.reach.ensures.done
 

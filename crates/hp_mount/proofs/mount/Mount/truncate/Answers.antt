@@ -1,4 +1,4 @@
-use Rattle.std.proofs.Common.{[], ◌∷◌, ◌+◌, Err, Ok, Some, length, nat_lt, sym, subst}
+use Rattle.std.proofs.Common.{[], ◌∷◌, Err, Ok, Some, nat_lt, sym, subst}
 use Rattle.hp_model.specs.declared.answer.Answer.TheVariants.{Done}
 use Rattle.hp_model.specs.declared.event.SlotEvent.TheVariants.{Truncate}
 use Rattle.hp_model.specs.declared.refusal.Refusal.TheVariants.{NoSuchFile, OutOfRange}
@@ -10,8 +10,7 @@ use Rattle.hp_model.specs.threads.LocalRun.{ThroughDoor}
 use Rattle.hp_mount_files.specs.Files.{file_at}
 use Rattle.hp_mount.specs.Done.{IsDone}
 use Rattle.hp_mount.specs.Kept.{mount_of}
-use Rattle.hp_mount.proofs.Giving.{gave_back, given, kept, left_is, long_file, nowhere, out_of_range, shared_punched, short_file}
-use Rattle.hp_mount.proofs.Keeping.{shared_here}
+use Rattle.hp_mount.proofs.Giving.{gave_back, given, kept, left_is, long_file, nowhere, out_of_range, short_file}
 use Rattle.hp_mount.proofs.mount.Mount.truncate.Goals as goal
 
 pub returns-in_default-clause-done : goal.returns-in_default-clause-done
@@ -37,7 +36,6 @@ invariant_of-self g c =
     let o = c.self.inside in
     let file = c.in-Some.file in
     kept o.share o.files c.truncate-reserves.new.self o.inodes c.self.invariant file (truncated c.args.pages (file_at o.files.files file)) c.truncate-reserves.result c.truncate-reserves.ensures.left c.truncate-reserves.ensures.files c.give_back.new.share c.give_back.new.self
-    (shared_punched c.args.pages (c.args.pages + length (file_at o.files.files file).cells) (file_at o.files.files file).maps (shared_here o.share o.files o.inodes c.self.invariant file c.in-Some.ensures.some.within))
     c.give_back.ensures.share c.give_back.ensures.going
 
 pub returns-clause-done : goal.returns-clause-done

@@ -11,7 +11,6 @@ use Rattle.hp_mount_files.specs.Files.{file_at}
 use Rattle.hp_mount.specs.Done.{IsDone}
 use Rattle.hp_mount.specs.Kept.{mount_of}
 use Rattle.hp_mount.proofs.Giving.{gave_back, given, kept, left_is, nowhere}
-use Rattle.hp_mount.proofs.Keeping.{shared_here}
 use Rattle.hp_mount.proofs.mount.Mount.unlink.Goals as goal
 
 pub returns-in_default-clause-done : goal.returns-in_default-clause-done
@@ -28,7 +27,6 @@ invariant_of-self g c =
     let o = c.self.inside in
     let file = c.in-Some.file in
     kept o.share o.files c.unlink-reserves.new.self o.inodes c.self.invariant file (unlinked (file_at o.files.files file)) c.unlink-reserves.result c.unlink-reserves.ensures.left c.unlink-reserves.ensures.files c.give_back.new.share c.give_back.new.self
-    (shared_here o.share o.files o.inodes c.self.invariant file c.in-Some.ensures.some.within)
     c.give_back.ensures.share c.give_back.ensures.going
 
 pub returns-clause-done : goal.returns-clause-done

@@ -1,30 +1,19 @@
-use Rattle.std.proofs.Common.{◌≡◌, ℕ, ◌+◌, ◌-◌, ◌<◌, ◌≤◌, List, Bool, true, false, cond, refl, length, map, slice_set, ap, subst, sym, ◌∙◌, arith}
-use mir.Val.{bool_byte}
-use Rattle.std.proofs.lemmas.List.{length-map, set-get_or}
-use Rattle.hp_model.specs.declared.step.Sharing.TheVariants.{Shared}
-use Rattle.hp_model.specs.Lists.{distinct, is_among}
+use Rattle.std.proofs.Common.{◌≡◌, ℕ, ◌+◌, ◌<◌, List, length, slice_set, ap, subst, sym, ◌∙◌, arith}
+use Rattle.std.proofs.lemmas.List.{set-get_or}
+use Rattle.hp_model.specs.Lists.{is_among}
 use Rattle.hp_model.specs.files.MakeMap.{mapped, numbers_of}
-use Rattle.hp_model.specs.files.Mapping.{Map}
 use Rattle.hp_mount_files.specs.Asking.{entered_from, is_first_of, next_of}
 use Rattle.hp_mount_files.specs.Files.{Files, file_at, with_file_at}
 use Rattle.hp_mount_files.specs.Hints.{IsFiles}
 use Rattle.hp_mount_files.specs.Numbered.{files_shown, new_mapping, with_mapping}
-use Rattle.hp_mount_files.specs.Places.{all_maps, all_tasks}
+use Rattle.hp_mount_files.specs.Places.{all_maps}
 use Rattle.hp_mount_files.proofs.Keys.{files_noted}
 use Rattle.hp_mount_files.proofs.Mapped.{map_files, map_view}
-use Rattle.hp_mount_files.proofs.MapNumbers.{distinct_few, unused_is_new}
-use Rattle.hp_mount_files.proofs.Unique.{maps_counted, tasks_counted}
+use Rattle.hp_mount_files.proofs.NewKey.{byte_few, byte_is, maps_few, tasks_few}
+use Rattle.hp_mount_files.proofs.MapNumbers.{unused_is_new}
 use Rattle.hp_mount_files.proofs.Views.{files_len}
 use Rattle.hp_mount_files.proofs.files.Files.put_map.Given.{Over}
 use Rattle.hp_mount_files.proofs.files.Files.put_map.Goals as goal
-
-byte_is : (b : Bool) → bool_byte b ≡ cond {A = ℕ} b 1 0
-byte_is true = refl
-byte_is false = refl
-
-one_at_most : (b : Bool) → bool_byte b ≤ 1
-one_at_most true = omega arith
-one_at_most false = omega arith
 
 pub invariant_of-self : goal.invariant_of-self
 invariant_of-self g c =
@@ -42,25 +31,24 @@ invariant_of-self-in_err-add_map g c =
 pub overflow_add-self : goal.overflow_add-self
 overflow_add-self g c =
     let s = c.self.inside in
-    let few = c.self.invariant.keyed.map_count ∙ maps_counted s.store s.list.items ∙ ap (λ (v : Files). length (all_maps v.files)) c.self.view_is in
-    omega (arith, few, c.requires.maps)
+    let few = maps_few s.hints s.store s.more s.maps s.tasks s.list.items c.self.invariant (subst (λ (v : Files). length (all_maps v.files) < 4096) (sym c.self.view_is) c.requires.maps) in
+    omega (arith, few)
 
 pub overflow_add-self-2 : goal.overflow_add-self-2
 overflow_add-self-2 g c =
     let s = c.self.inside in
-    let maps = all_maps c.args.self.now.files in
-    let few = c.self.invariant.keyed.task_count ∙ ap (λ ts. length (distinct ts)) (tasks_counted s.store s.list.items) ∙ ap (λ (v : Files). length (all_tasks v.files)) c.self.view_is in
-    let most = one_at_most c.args.next.is_first in
-    omega (arith, few, c.requires.maps, distinct_few (map (λ (m : Map). m.task) maps), length-map maps (λ (m : Map). m.task), most)
+    let few = tasks_few s.hints s.store s.more s.maps s.tasks s.list.items c.self.invariant (subst (λ (v : Files). length (all_maps v.files) < 4096) (sym c.self.view_is) c.requires.maps) in
+    let one = byte_few c.args.next.is_first in
+    omega (arith, few, one)
 
 -- the map that was added
 module _ (g : Over) (c : goal.After-self-3-1 g) where
-  range_is : c.add_map.new.self ≡ with_mapping (entered_from c.args.range.now.reserving c.args.range.now.start c.args.range.now.pages) (new_mapping c.args.range.now.task c.args.next.number c.args.range.now.start c.args.range.now.pages) c.index_mut-at.result.now
+  range_is : c.add_map.new.self ≡ with_mapping (entered_from c.args.range.now.sharing c.args.range.now.reserving c.args.range.now.start c.args.range.now.pages)
+      (new_mapping c.args.range.now.task c.args.next.number c.args.range.now.start c.args.range.now.pages c.args.range.now.sharing c.args.range.now.reserving) c.index_mut-at.result.now
   range_is =
       let r = c.args.range.now in
-      let wide : r.start + r.pages - r.start ≡ r.pages = omega arith in
       c.in_ok-add_map.ensures.ok ∙ ap (λ k. with_mapping k c.in-Ok.map c.index_mut-at.result.now) c.entered_from.ensures.from
-      ∙ ap (λ m. with_mapping (entered_from r.reserving r.start r.pages) m c.index_mut-at.result.now) (c.in-Ok.ensures ∙ ap (λ m. new_mapping r.task c.args.next.number r.start m) wide)
+      ∙ ap (λ m. with_mapping (entered_from r.sharing r.reserving r.start r.pages) m c.index_mut-at.result.now) c.in-Ok.ensures
 
   within : c.args.file < length c.self.inside.list.items
   within = (let same = files_len c.self.inside.store c.self.inside.list.items in let inside = subst (λ (v : Files). c.args.file < length v.files) (sym c.self.view_is) c.requires.file in omega (arith, same, inside))
@@ -74,12 +62,12 @@ invariant_of-self-2 g c =
     let fresh = ap (λ n. is_among n numbers) number ∙ unused_is_new numbers in
     let first = subst (λ (v : Files). c.args.next.is_first ≡ is_first_of r.task v.files) (sym c.self.view_is) c.requires.first in
     subst (λ t. IsFiles c.note_map.new.self s.store s.more (s.maps + 1) (s.tasks + t) (slice_set s.list.items c.args.file c.add_map.new.self)) (sym (byte_is c.args.next.is_first))
-    (map_files r.task c.args.next.number r.start r.pages r.reserving s.hints s.store s.more s.maps s.tasks s.list.items c.args.file c.self.invariant (within g c) c.index_mut-at.result.now c.add_map.new.self c.index_mut-at.ensures.value (range_is g c)
+    (map_files r.task c.args.next.number r.start r.pages r.sharing r.reserving s.hints s.store s.more s.maps s.tasks s.list.items c.args.file c.self.invariant (within g c) c.index_mut-at.result.now c.add_map.new.self c.index_mut-at.ensures.value (range_is g c)
     fresh c.note_map.new.self c.note_map.ensures.more c.in-Ok-note_map.ensures.noted c.args.next.is_first first)
 
 pub returns-clause-ok : goal.returns-clause-ok
 returns-clause-ok g c =
     let s = c.self.inside in
     let r = c.args.range.now in
-    map_view r.task c.args.next.number r.start r.pages r.reserving s.hints s.store s.more s.maps s.tasks s.list.items c.args.file c.self.invariant (within g c) c.index_mut-at.result.now c.add_map.new.self c.index_mut-at.ensures.value (range_is g c)
-    ∙ ap (λ (v : Files). with_file_at c.args.file (mapped r.task c.args.next.number r.start r.pages Shared r.reserving (file_at v.files c.args.file)) v) c.self.view_is
+    map_view r.task c.args.next.number r.start r.pages r.sharing r.reserving s.hints s.store s.more s.maps s.tasks s.list.items c.args.file c.self.invariant (within g c) c.index_mut-at.result.now c.add_map.new.self c.index_mut-at.ensures.value (range_is g c)
+    ∙ ap (λ (v : Files). with_file_at c.args.file (mapped r.task c.args.next.number r.start r.pages r.sharing r.reserving (file_at v.files c.args.file)) v) c.self.view_is

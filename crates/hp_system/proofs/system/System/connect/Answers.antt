@@ -1,7 +1,8 @@
 use Rattle.std.proofs.Common.{ap}
+use Rattle.hp_model.specs.declared.event.TableEvent.TheVariants.{Add}
 use Rattle.hp_system.proofs.Carries.{kept_with_table, kept_by, ready_by}
-use Rattle.hp_system.proofs.MachineSteps.{connect_step}
-use Rattle.hp_system.specs.Kept.{Machine}
+use Rattle.hp_system.proofs.MachineSteps.{connect_step, table_goes}
+use Rattle.hp_system.specs.Kept.{Machine, state_of}
 use Rattle.hp_system.proofs.system.System.connect.Goals as goal
 
 pub returns-clause-ready : goal.returns-clause-ready
@@ -12,4 +13,6 @@ returns-clause-ready g c =
 pub returns-clause-step : goal.returns-clause-step
 returns-clause-step g c =
     let s = c.self.inside in
-    connect_step s.page_bytes s.table s.slots.items s.pool c.args.task c.args.home c.apply.result c.apply.new.self c.len-nodes.result c.args.self.now.state c.len-nodes.ensures c.apply.ensures (ap (λ (x : Machine). x.state) c.self.view_is)
+    let was = c.args.self.now.state in
+    connect_step was (state_of s.page_bytes c.apply.new.self s.slots.items s.pool) c.args.task c.args.home c.apply.result
+    (table_goes s.page_bytes s.table s.slots.items s.pool (Add c.args.task c.args.home) c.apply.result c.apply.new.self c.len-nodes.result was c.len-nodes.ensures c.apply.ensures (ap (λ (x : Machine). x.state) c.self.view_is))

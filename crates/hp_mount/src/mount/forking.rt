@@ -1,0 +1,62 @@
+//! A child gets maps on a mount.
+ghost use Rattle.std.specs.Prelude.{◌≡◌, ◌==◌, false, ℕ, Some, []};
+ghost use Rattle.hp_model.specs.declared.event.SlotEvent.TheVariants.{ForkMaps};
+ghost use Rattle.hp_store.specs.Store.{Store as StoreValue};
+ghost use Rattle.hp_subpool.specs.Subpool.{Subpool as ShareValue};
+ghost use Rattle.hp_mount.specs.Done.{IsDone};
+
+use super::Mount;
+use super::making::{MOST_MAPS, MOST_TASKS};
+use hp_model::answer::{Answer, Reply};
+use hp_model::naming::Naming;
+use hp_model::refusal::Refusal;
+use hp_mount_door::PoolDoor;
+use hp_store::PageStore;
+use hp_subpool::Subpool;
+
+impl<N: Naming> Mount<N> {
+    /// A child gets a map for each of its parent's: the same number, range, copies and mark; it owns nothing, and no page is
+    /// copied. Maps that stand under the child's number go first, as by `exit_maps`; what they held goes back to the pool,
+    /// but for what the minimum keeps.
+    ///
+    /// Refused, and then nothing changes, by the first of these that holds:
+    /// - TooMany: after it there are more than 4,096 maps, or maps of more than 256 tasks (profile).
+    /// - OutOfMemory: memory for the child's maps is refused.
+    ///
+    /// It takes a step for each place of the parent's maps, and for each file and map.
+    pub fn fork_maps<D: PoolDoor<Share = Subpool<N>, Going = PageStore<N>>>(
+        &mut self,
+        door: &mut D,
+        parent: u64,
+        child: u64,
+    ) -> Reply
+        requires shares { (s : ShareValue) → D.share_of s ≡ s }
+        requires going { (s : StoreValue) → D.going_of s ≡ s.going }
+        requires emptied { (s : StoreValue) → D.emptied s ≡ record s { going = [] } }
+        requires ready { D.is_ready door.old }
+        requires apart { (parent == child) ≡ false }
+        ensures done { (size k : ℕ) → IsDone D.took D.is_full size k (Some self.old) door.old
+            (ForkMaps parent child) result (Some self.new) door.new }
+        ensures left { D.is_left door.new }
+    {
+        let of_parent = self.files.map_count_for(parent);
+        let of_child = self.files.map_count_for(child);
+        let maps = self.files.map_count().saturating_sub(of_child);
+        let tasks = self
+            .files
+            .task_count()
+            .saturating_add((of_parent > 0) as u64);
+        if maps.saturating_add(of_parent) > MOST_MAPS {
+            return Err(Refusal::TooMany);
+        }
+        if tasks.saturating_sub((of_child > 0) as u64) > MOST_TASKS {
+            return Err(Refusal::TooMany);
+        }
+        let held = self.share.held();
+        let Ok(reserves) = self.files.fork(parent, child, held) else {
+            return Err(Refusal::OutOfMemory);
+        };
+        self.files.give_back(door, &mut self.share, reserves);
+        Ok(Answer::Done)
+    }
+}

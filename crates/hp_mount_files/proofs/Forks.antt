@@ -1,0 +1,282 @@
+-- A fork as code leaves the files: maps of the child's number gone, and then the child's maps behind their parent's.
+use Rattle.std.proofs.Common.{◌≡◌, ℕ, ◌+◌, ◌-◌, ◌≤◌, ◌==◌, ◌||◌, nat_lt, Bool, true, false, not, cond, List, [], ◌∷◌, ◌++◌, length, take, drop, map, refl, sym, ap, subst, ◌∙◌, arith}
+use Rattle.std.specs.Global.{Vec}
+use Rattle.std.specs.Prelude.{is_some}
+use Rattle.std.specs.List.{filter, flat_map, list_any, sum_by}
+use Rattle.std.proofs.lemmas.Bool.Decides.{nat_tests}
+use Rattle.std.proofs.lemmas.List.{length-map}
+use Rattle.std.proofs.lemmas.List.Sums.{sum_by-cons}
+use Rattle.hp_model.specs.files.File.{File}
+use Rattle.hp_model.specs.files.Fork.{file_forked}
+use Rattle.hp_model.specs.files.GiveBack.{file_without, is_kept}
+use Rattle.hp_model.specs.files.Mapping.{Map, Mapping, is_of, map_for, map_punched}
+use Rattle.hp_model.specs.Lists.{distinct, is_among}
+use Rattle.hp_store.specs.Store.{Store, holders_of, page_at}
+use Rattle.hp_mount_files.specs.Dropping.{IsDropping, IsLeft, count_at}
+use Rattle.hp_mount_files.specs.Forking.{AreReady, HaveRoom, IsNotedFor, IsSharing, children_of, in_list, in_lists, joined, with_children}
+use Rattle.hp_mount_files.specs.Held.{in_files, in_map, more_in}
+use Rattle.hp_mount_files.specs.Hints.{IsFiles, Noted}
+use Rattle.hp_mount_files.specs.Keyed.{keys_in, labels_of, tasks_in}
+use Rattle.hp_mount_files.specs.Leaving.{IsMoreButTask, emptied, file_owed, is_used, left_by, map_sum}
+use Rattle.hp_mount_files.specs.Numbered.{NumberedFile, files_shown, with_truncated}
+use Rattle.hp_mount_files.specs.Places.{all_maps}
+use Rattle.hp_mount_files.proofs.Exiting.{among_none, exit_files, exit_keeps, exit_keys, exit_left, exit_tasks, keys_gone, maps_in}
+use Rattle.hp_mount_files.proofs.FileLeaves.{empty_file, written_back}
+use Rattle.hp_mount_files.proofs.Forked.{among_parent, few_kids, fork_held, fork_keeps, fork_shows, in_kids, maps_more, owed_same}
+use Rattle.hp_mount_files.proofs.Leaving.{files_owe}
+use Rattle.hp_mount_files.proofs.MapNumbers.{distinct_few}
+use Rattle.hp_mount_files.proofs.Stored.{stored_at, stored_pages}
+use Rattle.hp_mount_files.proofs.Unique.{maps_counted, tasks_counted}
+use Rattle.hp_mount_files.proofs.Used.{any_of_task}
+use Rattle.hp_mount_files.proofs.Views.{view}
+
+-- ---- a parent's maps are no child's
+
+module _ (parent child : ℕ) (apart : (parent == child) ≡ false) where
+  either_task : (k : ℕ) → (k == child) ≡ true → (k == parent) ≡ false
+  either_task k e = grind (arith, nat_tests, e, apart)
+
+  clash : true ≡ false → ⊥
+  clash e = cc
+
+  module _ {C : Type 0} where
+    parents_stay : (ms : List (Mapping C)) → filter (is_of parent) (filter (λ m. not (is_of child m)) ms) ≡ filter (is_of parent) ms
+    parents_stay [] = refl
+    parents_stay (m ∷ ms) = at (is_of child m) refl (is_of parent m) refl (parents_stay ms)
+      where
+        at : (b : Bool) → is_of child m ≡ b → (c : Bool) → is_of parent m ≡ c → filter (is_of parent) (filter (λ m. not (is_of child m)) ms) ≡ filter (is_of parent) ms
+            → filter (is_of parent) (cond (not b) (m ∷ filter (λ m. not (is_of child m)) ms) (filter (λ m. not (is_of child m)) ms)) ≡ cond c (m ∷ filter (is_of parent) ms) (filter (is_of parent) ms)
+        at true e true f rest = absurd (clash (sym f ∙ either_task m.task e))
+        at true e false f rest = rest
+        at false e c f rest = ap (λ b. cond b (m ∷ filter (is_of parent) (filter (λ m. not (is_of child m)) ms)) (filter (is_of parent) (filter (λ m. not (is_of child m)) ms))) f ∙ ap (λ xs. cond c (m ∷ xs) xs) rest
+
+  -- ---- the files of the machine
+
+  abbrev grown_by : File → File
+  grown_by f = record f { maps = f.maps ++ map (map_for child) (filter (is_of parent) f.maps) }
+
+  kept_same : (f : File) → is_kept (grown_by f) ≡ is_kept f
+  kept_same f = at f.maps
+    where
+      some : (m : Map) (ms : List Map) → nat_lt 0 (length (m ∷ ms)) ≡ true
+      some m ms = grind (arith, nat_tests)
+
+      at : (ms : List Map) → (is_some f.name || nat_lt 0 (length (ms ++ map (map_for child) (filter (is_of parent) ms)))) ≡ (is_some f.name || nat_lt 0 (length ms))
+      at [] = refl
+      at (m ∷ ms) = ap (λ b. is_some f.name || b) (some m (ms ++ map (map_for child) (filter (is_of parent) (m ∷ ms))) ∙ sym (some m ms))
+
+  forked_is : (fs : List File) → map (λ f. grown_by f) (filter is_kept (map (file_without child) fs)) ≡ filter is_kept (map (file_forked parent child) fs)
+  forked_is [] = refl
+  forked_is (f ∷ fs) =
+      at (is_kept (file_without child f)) (is_kept (file_forked parent child f)) (sym (kept_same (file_without child f)) ∙ ap is_kept same) (forked_is fs)
+    where
+      same : grown_by (file_without child f) ≡ file_forked parent child f
+      same = ap (λ ms. record (file_without child f) { maps = (file_without child f).maps ++ map (map_for child) ms }) (parents_stay f.maps)
+
+      at : (b c : Bool) → b ≡ c → map (λ f. grown_by f) (filter is_kept (map (file_without child) fs)) ≡ filter is_kept (map (file_forked parent child) fs)
+          → map (λ f. grown_by f) (cond b (file_without child f ∷ filter is_kept (map (file_without child) fs)) (filter is_kept (map (file_without child) fs))) ≡ cond c (file_forked parent child f ∷ filter is_kept (map (file_forked parent child) fs)) (filter is_kept (map (file_forked parent child) fs))
+      at true true e rest = ap (λ g. g ∷ map (λ f. grown_by f) (filter is_kept (map (file_without child) fs))) same ∙ ap (λ gs. file_forked parent child f ∷ gs) rest
+      at true false e rest = absurd (clash e)
+      at false true e rest = absurd (clash (sym e))
+      at false false e rest = rest
+
+  -- ---- lists that are ready
+
+  ended_children : (f : NumberedFile) → (children_of parent child (emptied (left_by child f)).maps ≡ children_of parent child f.maps) × (length (emptied (left_by child f)).maps ≤ length f.maps)
+  ended_children f = at (is_used (left_by child f)) refl
+    where
+      few_left : (ms : List (Mapping ℕ)) → length (filter (λ m. not (is_of child m)) ms) ≤ length ms
+      few_left [] = omega arith
+      few_left (m ∷ ms) = by (is_of child m) (few_left ms)
+        where
+          by : (b : Bool) → length (filter (λ m. not (is_of child m)) ms) ≤ length ms → length (cond (not b) (m ∷ filter (λ m. not (is_of child m)) ms) (filter (λ m. not (is_of child m)) ms)) ≤ length (m ∷ ms)
+          by true rest = omega (arith, rest)
+          by false rest = omega (arith, rest)
+
+      at : (b : Bool) → is_used (left_by child f) ≡ b → (children_of parent child (cond b (left_by child f) (with_truncated 0 (left_by child f))).maps ≡ children_of parent child f.maps) × (length (cond b (left_by child f) (with_truncated 0 (left_by child f))).maps ≤ length f.maps)
+      at true e = (ap (map (map_for child)) (parents_stay f.maps), few_left f.maps)
+      at false e =
+          let bare : (left_by child f).maps ≡ [] = (empty_file (left_by child f) e).0 in
+          let none : map (map_punched 0 (0 + length f.cells)) (left_by child f).maps ≡ [] = ap (map (map_punched 0 (0 + length f.cells))) bare in (
+            ap (children_of parent child) none ∙ sym (ap (children_of parent child) bare) ∙ ap (map (map_for child)) (parents_stay f.maps),
+            (let short = ap length none in omega (arith, short)),
+          )
+
+  ready_ended : (fs : List NumberedFile) (lists : List (Vec (Mapping ℕ))) → AreReady parent child fs lists → AreReady parent child (map (λ f. emptied (left_by child f)) fs) lists
+  ready_ended [] [] all = tt
+  ready_ended [] (v ∷ vs) all = absurd all
+  ready_ended (f ∷ fs) [] all = absurd all
+  ready_ended (f ∷ fs) (v ∷ vs) all =
+      let same = ended_children f in (
+        record { children = all.0.children ∙ sym same.0; room = λ some. (let room = all.0.room some in let few = same.1 in omega (arith, room, few)) },
+        ready_ended fs vs all.1,
+      )
+
+  ready_room : (fs : List NumberedFile) (lists : List (Vec (Mapping ℕ))) → AreReady parent child fs lists → HaveRoom fs lists
+  ready_room [] [] all = tt
+  ready_room [] (v ∷ vs) all = absurd all
+  ready_room (f ∷ fs) [] all = absurd all
+  ready_room (f ∷ fs) (v ∷ vs) all = (all.0.room, ready_room fs vs all.1)
+
+  ready_joined : (fs : List NumberedFile) (lists : List (Vec (Mapping ℕ))) → AreReady parent child fs lists → joined fs lists ≡ map (λ f. with_children parent child f) fs
+  ready_joined [] lists all = refl
+  ready_joined (f ∷ fs) [] all = absurd all
+  ready_joined (f ∷ fs) (v ∷ vs) all = ap (λ ms. record f { maps = f.maps ++ ms } ∷ joined fs vs) all.0.children ∙ ap (λ gs. with_children parent child f ∷ gs) (ready_joined fs vs all.1)
+
+  ready_in : (n : ℕ) (fs : List NumberedFile) (lists : List (Vec (Mapping ℕ))) → AreReady parent child fs lists → in_lists n lists ≡ in_kids parent child apart n fs
+  ready_in n [] [] all = refl
+  ready_in n [] (v ∷ vs) all = absurd all
+  ready_in n (f ∷ fs) [] all = absurd all
+  ready_in n (f ∷ fs) (v ∷ vs) all =
+      let here = ap (sum_by (in_map n)) all.0.children in
+      let rest = ready_in n fs vs all.1 in
+      omega (arith, here, rest, sum_by-cons (in_list n) v vs, sum_by-cons (λ (f : NumberedFile). sum_by (in_map n) (children_of parent child f.maps)) f fs)
+
+  used_in : (n : ℕ) (fs : List NumberedFile) → in_kids parent child apart n (filter is_used fs) ≡ in_kids parent child apart n fs
+  used_in n [] = refl
+  used_in n (f ∷ fs) = at (is_used f) refl (used_in n fs)
+    where
+      at : (b : Bool) → is_used f ≡ b → in_kids parent child apart n (filter is_used fs) ≡ in_kids parent child apart n fs → in_kids parent child apart n (cond b (f ∷ filter is_used fs) (filter is_used fs)) ≡ in_kids parent child apart n (f ∷ fs)
+      at true e rest = (let left = sum_by-cons (λ (f : NumberedFile). sum_by (in_map n) (children_of parent child f.maps)) f (filter is_used fs) in let right = sum_by-cons (λ (f : NumberedFile). sum_by (in_map n) (children_of parent child f.maps)) f fs in omega (arith, rest, left, right))
+      at false e rest = (let none = ap (λ ms. sum_by (in_map n) (children_of parent child ms)) (empty_file f e).0 in let right = sum_by-cons (λ (f : NumberedFile). sum_by (in_map n) (children_of parent child f.maps)) f fs in omega (arith, rest, none, right))
+
+  used_grown : (f : NumberedFile) → is_used (with_children parent child f) ≡ is_used f
+  used_grown f = at f.maps
+    where
+      some : (m : Mapping ℕ) (ms : List (Mapping ℕ)) → nat_lt 0 (length (m ∷ ms)) ≡ true
+      some m ms = grind (arith, nat_tests)
+
+      at : (ms : List (Mapping ℕ)) → (is_some f.name || nat_lt 0 (length (ms ++ children_of parent child ms))) ≡ (is_some f.name || nat_lt 0 (length ms))
+      at [] = refl
+      at (m ∷ ms) = ap (λ b. is_some f.name || b) (some m (ms ++ children_of parent child (m ∷ ms)) ∙ sym (some m ms))
+
+  pub used_all : (fs : List NumberedFile) → filter is_used (map (λ f. with_children parent child f) fs) ≡ map (λ f. with_children parent child f) (filter is_used fs)
+  used_all [] = refl
+  used_all (f ∷ fs) = at (is_used (with_children parent child f)) (is_used f) (used_grown f) (used_all fs)
+    where
+      at : (b c : Bool) → b ≡ c → filter is_used (map (λ f. with_children parent child f) fs) ≡ map (λ f. with_children parent child f) (filter is_used fs)
+          → cond b (with_children parent child f ∷ filter is_used (map (λ f. with_children parent child f) fs)) (filter is_used (map (λ f. with_children parent child f) fs)) ≡ map (λ f. with_children parent child f) (cond c (f ∷ filter is_used fs) (filter is_used fs))
+      at true true e rest = ap (λ gs. with_children parent child f ∷ gs) rest
+      at true false e rest = absurd (clash e)
+      at false true e rest = absurd (clash (sym e))
+      at false false e rest = rest
+
+-- ---- the maps of the child's number are gone
+
+module _ (n dropped : Noted) (s t : Store) (more now maps tasks : ℕ) (fs raw ended : List NumberedFile) (len : ℕ) (few : length fs ≡ len) (is : IsFiles n s more maps tasks fs) (parent child : ℕ) (apart : (parent == child) ≡ false) (raw_is : raw ≡ fs) (ended_from : ended ≡ map (λ f. emptied (left_by child f)) raw)
+    (drops : IsDropping (λ m. in_files m raw) (λ m. in_files m ended) s t) (counted : now ≡ more_in t.pages) (grown : IsMoreButTask child n dropped) (r k : ℕ) (reserves : r + sum_by file_owed ended ≡ sum_by file_owed raw) (gone : k + map_sum ended ≡ map_sum raw) (lists : List (Vec (Mapping ℕ))) (ready : AreReady parent child fs lists) where
+  ended_is : ended ≡ map (λ f. emptied (left_by child f)) fs
+  ended_is = ended_from ∙ ap (map (λ f. emptied (left_by child f))) raw_is
+
+  abbrev K : List NumberedFile
+  K = filter is_used ended
+
+  abbrev back : List NumberedFile
+  back = take len (ended ++ drop (length ended) fs)
+
+  long : length ended ≡ len
+  long = ap length ended_is ∙ length-map fs (λ f. emptied (left_by child f)) ∙ few
+
+  back_is : back ≡ ended
+  back_is = written_back len ended fs long
+
+  K_is : K ≡ filter is_used back
+  K_is = sym (ap (filter is_used) back_is)
+
+  left : IsFiles dropped t now (maps - k) (tasks - cond (nat_lt 0 k) 1 0) K
+  left = exit_keeps n dropped s t more now maps tasks fs raw ended K len few is child raw_is ended_from K_is drops counted grown r k reserves gone (maps - k) (tasks - cond (nat_lt 0 k) 1 0) refl refl
+
+  pub stale_tasks : cond (nat_lt 0 k) 1 0 ≤ tasks
+  stale_tasks = exit_tasks n dropped s t more now maps tasks fs raw ended K len few is child raw_is ended_from K_is drops counted grown r k reserves gone
+
+  ready_now : AreReady parent child ended lists
+  ready_now = subst (λ gs. AreReady parent child gs lists) (sym ended_is) (ready_ended parent child apart fs lists ready)
+
+  lists_in : (m : ℕ) → in_lists m lists ≡ in_kids parent child apart m K
+  lists_in m = ready_in parent child apart m ended lists ready_now ∙ sym (used_in parent child apart m ended)
+
+  module _ (raw2 : List NumberedFile) (raw2_is : raw2 ≡ back) where
+    pub join_room : HaveRoom raw2 lists
+    join_room = subst (λ gs. HaveRoom gs lists) (sym (raw2_is ∙ back_is)) (ready_room parent child apart ended lists ready_now)
+
+    pub join_held : (m : ℕ) → in_lists m lists ≤ holders_of (page_at t m)
+    join_held m = (let all = lists_in m in let few = few_kids parent child apart m K in let held = left.held.held m in omega (arith, all, few, held))
+
+    module _ (joint kept : List NumberedFile) (u : Store) (more2 : ℕ) (joint_is : joint ≡ joined raw2 lists) (kept_is : kept ≡ filter is_used (take len (joint ++ drop (length joint) back))) (shares : IsSharing (λ m. in_lists m lists) t u) (counted2 : more2 ≡ more_in u.pages) (parts : more2 ≤ u.room) where
+      joint_all : joint ≡ map (λ f. with_children parent child f) ended
+      joint_all = joint_is ∙ ap (λ gs. joined gs lists) (raw2_is ∙ back_is) ∙ ready_joined parent child apart ended lists ready_now
+
+      kept_all : kept ≡ map (λ f. with_children parent child f) K
+      kept_all =
+          kept_is ∙ ap (filter is_used) (written_back len joint back (ap length joint_all ∙ length-map ended (λ f. with_children parent child f) ∙ long) ∙ joint_all)
+          ∙ used_all parent child apart ended
+
+      sharing : IsSharing (λ m. in_kids parent child apart m K) t u
+      sharing = record {
+        held = λ m. (let came = shares.held m in let all = lists_in m in omega (arith, came, all));
+        some = shares.some;
+        same = shares.same;
+        pages = shares.pages;
+        nodes = shares.nodes;
+        going = shares.going;
+        room = shares.room;
+      }
+
+      pub forked_shows : files_shown u kept ≡ filter is_kept (map (file_forked parent child) (files_shown s fs))
+      forked_shows =
+          ap (files_shown u) kept_all ∙ fork_shows parent child apart dropped t u now more2 (maps - k) (tasks - cond (nat_lt 0 k) 1 0) K left sharing counted2 parts
+          ∙ ap (map (λ f. grown_by parent child apart f)) (exit_files n dropped s t more now maps tasks fs raw ended K len few is child raw_is ended_from K_is drops counted grown r k reserves gone)
+          ∙ forked_is parent child apart (files_shown s fs)
+
+      pub forked_left : (held : ℕ) → held + more2 ≤ u.room → IsLeft r (record (view s more fs) { room = held }) (view u more2 kept)
+      forked_left held room =
+          let gave = exit_left n dropped s t more now maps tasks fs raw ended K len few is child raw_is ended_from K_is drops counted grown r k reserves gone in
+          let now_held = fork_held parent child apart dropped t u now more2 (maps - k) (tasks - cond (nat_lt 0 k) 1 0) K left sharing counted2 parts in
+          let hs : List NumberedFile = map (λ f. with_children parent child f) K in
+          subst (λ gs. IsLeft r (record (view s more fs) { room = held }) (view u more2 gs)) (sym kept_all)
+          (record {
+            pages = (let mid = stored_pages t now K left.held in let new = stored_pages u more2 hs now_held in let sum = gave.pages in let same = shares.pages in let going = ap length shares.going in omega (arith, mid, new, sum, same, going));
+            nodes = λ i. (let mid = stored_at t now K left.held i in let new = stored_at u more2 hs now_held i in let sum = gave.nodes i in let same = shares.nodes i in let going = ap (count_at i) shares.going in omega (arith, mid, new, sum, same, going));
+            reserved = (let mid = files_owe t K in let new = files_owe u hs in let sum = gave.reserved in let same = owed_same parent child apart K in omega (arith, mid, new, sum, same));
+            room = omega (arith, room);
+          })
+
+      pub forked_maps : map_sum kept ≡ length (all_maps (files_shown u kept))
+      forked_maps = sym (maps_in kept) ∙ maps_counted u kept
+
+      module _ (table : Noted) (noted : IsNotedFor parent child n table) (has : Bool) (has_is : has ≡ list_any (λ (f : NumberedFile). list_any (is_of parent) f.maps) kept) where
+        gone_keys : (q : ℕ) → sum_by (keys_in child q) (labels_of K) ≡ 0
+        gone_keys q = keys_gone n dropped s t more now maps tasks fs raw ended K len few is child raw_is ended_from K_is drops counted grown r k reserves gone q
+
+        gone_task : is_among child (flat_map tasks_in (labels_of K)) ≡ false
+        gone_task = among_none n dropped s t more now maps tasks fs raw ended K len few is child raw_is ended_from K_is drops counted grown r k reserves gone
+
+        fewer : (q m : ℕ) → sum_by (keys_in q m) (labels_of K) ≤ sum_by (keys_in q m) (labels_of fs)
+        fewer q m = exit_keys n dropped s t more now maps tasks fs raw ended K len few is child raw_is ended_from K_is drops counted grown r k reserves gone q m
+
+        parent_is : is_among parent (flat_map tasks_in (labels_of K)) ≡ has
+        parent_is = sym (has_is ∙ sym (any_of_task parent kept) ∙ ap (λ gs. is_among parent (flat_map tasks_in (labels_of gs))) kept_all ∙ among_parent parent child apart dropped t u now more2 (maps - k) (tasks - cond (nat_lt 0 k) 1 0) K left sharing counted2 parts gone_keys gone_task)
+
+        pub forked_keeps : IsFiles (record dropped { keys = table.keys }) u more2 (map_sum kept) (tasks - cond (nat_lt 0 k) 1 0 + cond has 1 0) kept
+        forked_keeps =
+            subst (λ gs. IsFiles (record dropped { keys = table.keys }) u more2 (map_sum gs) (tasks - cond (nat_lt 0 k) 1 0 + cond has 1 0) gs) (sym kept_all)
+            (fork_keeps parent child apart dropped t u now more2 (maps - k) (tasks - cond (nat_lt 0 k) 1 0) K left sharing counted2 parts gone_keys gone_task
+            (record dropped { keys = table.keys }) (λ name e. e)
+            (λ q m other e. (let none = is.noted.keys q m (noted.others q m other e) in let less = fewer q m in omega (arith, none, less)))
+            (λ q e. (let none = is.noted.keys parent q (noted.children q e) in let less = fewer parent q in omega (arith, none, less)))
+            (map_sum (map (λ f. with_children parent child f) K)) (tasks - cond (nat_lt 0 k) 1 0 + cond has 1 0) has parent_is
+            (let all = maps_more parent child apart dropped t u now more2 (maps - k) (tasks - cond (nat_lt 0 k) 1 0) K left sharing counted2 parts gone_keys gone_task K in let count = left.keyed.map_count in let same = maps_in K in omega (arith, all, count, same))
+            refl)
+
+        pub forked_tasks : tasks - cond (nat_lt 0 k) 1 0 + cond has 1 0 ≤ length (all_maps (files_shown u kept))
+        forked_tasks =
+            let ms = all_maps (files_shown u kept) in
+            let count = forked_keeps.keyed.task_count ∙ ap (λ ts. length (distinct ts)) (tasks_counted u kept) in
+            omega (arith, count, distinct_few (map (λ (m : Map). m.task) ms), length-map ms (λ (m : Map). m.task))
+
+-- the same, as code counts
+pub files_as : (h g : Noted) (u : Store) (more k i q p : ℕ) (gs : List NumberedFile) → g ≡ h → i ≡ k → p ≡ q → IsFiles h u more k q gs → IsFiles g u more i p gs
+files_as h g u more k i q p gs noted maps tasks is = subst (λ x. IsFiles x u more i p gs) (sym noted) (subst (λ x. IsFiles h u more x p gs) (sym maps) (subst (λ x. IsFiles h u more k x gs) (sym tasks) is))
+
+pub count_as : (tasks : ℕ) {a b c d : ℕ} → a ≡ b → c ≡ d → tasks - a + c ≡ tasks - b + d
+count_as tasks {a} {b} {c} {d} left right = ap (λ k. tasks - k + c) left ∙ ap (λ k. tasks - b + k) right

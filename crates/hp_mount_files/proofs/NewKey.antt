@@ -1,0 +1,116 @@
+-- A task and number that no map has.
+use Rattle.std.proofs.Common.{◌≡◌, ℕ, ◌+◌, ◌<◌, ◌≤◌, Bool, true, false, not, cond, ◌&&◌, ◌||◌, ◌==◌, List, [], ◌∷◌, ◌++◌, length, map, refl, sym, ap, subst, ◌∙◌, arith}
+use mir.Val.{bool_byte}
+use Rattle.std.specs.List.{count_by, filter, flat_map, sum_by}
+use Rattle.std.proofs.lemmas.Bool.{and_parts, eqb-true}
+use Rattle.std.proofs.lemmas.List.{length-map}
+use Rattle.std.proofs.lemmas.List.Sums.{sum_by-cons}
+use Rattle.hp_model.specs.Lists.{distinct, is_among}
+use Rattle.hp_model.specs.files.MakeMap.{numbers_of}
+use Rattle.hp_model.specs.files.Mapping.{Map, Mapping, is_of}
+use Rattle.hp_model.proofs.Counting.{count_cons}
+use Rattle.hp_model.proofs.Distinct.{distinct_put, is_among-append}
+use Rattle.hp_store.specs.Store.{Store}
+use Rattle.hp_mount_files.specs.Hints.{IsFiles, Noted, has_key}
+use Rattle.hp_mount_files.specs.Keyed.{is_key, key_of, keys_in, label_of, labels_of, numbers_in, tasks_in}
+use Rattle.hp_mount_files.specs.Numbered.{NumberedFile, files_shown}
+use Rattle.hp_mount_files.specs.Places.{all_maps, all_tasks}
+use Rattle.hp_mount_files.proofs.MapNumbers.{among_distinct, distinct_again, distinct_few, numbers_append, numbers_shown}
+use Rattle.hp_mount_files.proofs.Unique.{maps_counted, tasks_counted}
+
+-- ---- a list with one element more
+
+pub record IsPut (xs ys : List ℕ) (n : ℕ) : Type 0 where
+  pub front : List ℕ
+  pub back : List ℕ
+  pub before : xs ≡ front ++ back
+  pub after : ys ≡ front ++ n ∷ back
+
+pub put_distinct : (xs ys : List ℕ) (n : ℕ) (b : Bool) → IsPut xs ys n → is_among n xs ≡ not b → length (distinct ys) ≡ length (distinct xs) + cond b 1 0
+put_distinct xs ys n b p known =
+    let there : is_among n (p.front ++ p.back) ≡ not b = ap (is_among n) (sym p.before) ∙ known in
+    let left = ap (λ zs. length (distinct zs)) p.before in
+    let right = ap (λ zs. length (distinct zs)) p.after in
+    elim b as (λ c. is_among n (p.front ++ p.back) ≡ not c → length (distinct ys) ≡ length (distinct xs) + cond c 1 0) [
+      | true ↦ λ e. (let step = distinct_put n p.front p.back e in omega (arith, step, left, right))
+      | false ↦ λ e. (let step = distinct_again n p.front p.back e in omega (arith, step, left, right))
+    ] there
+
+-- ---- a number that the task's maps do not have
+
+neither : (b c : Bool) → (b || c) ≡ false → (b ≡ false) × (c ≡ false)
+neither true c e = cc
+neither false c e = (refl, e)
+
+none_in_maps : (task number : ℕ) (ms : List (Mapping ℕ)) → is_among number (numbers_in task ms) ≡ false → count_by (is_key task number) (map key_of ms) ≡ 0
+none_in_maps task number [] e = refl
+none_in_maps task number (m ∷ ms) e = (let step = count_cons (is_key task number) (key_of m) (map key_of ms) in either (m.task == task) step e (none_in_maps task number ms))
+  where
+    either : (b : Bool) → count_by (is_key task number) (map key_of (m ∷ ms)) ≡ cond {A = ℕ} (b && (m.number == number)) 1 0 + count_by (is_key task number) (map key_of ms)
+        → is_among number (map (λ (x : Mapping ℕ). x.number) (cond b (m ∷ filter (is_of task) ms) (filter (is_of task) ms))) ≡ false
+        → (is_among number (numbers_in task ms) ≡ false → count_by (is_key task number) (map key_of ms) ≡ 0) → count_by (is_key task number) (map key_of (m ∷ ms)) ≡ 0
+    either true step e rest =
+        let parts = neither (m.number == number) (is_among number (numbers_in task ms)) e in
+        let here = ap (λ b. cond {A = ℕ} b 1 0 + 0) parts.0 in
+        let there = rest parts.1 in
+        omega (arith, step, here, there)
+    either false step e rest = (let there = rest e in omega (arith, step, there))
+
+none_in_files : (task number : ℕ) (fs : List NumberedFile) → is_among number (numbers_in task (flat_map (λ (f : NumberedFile). f.maps) fs)) ≡ false → sum_by (keys_in task number) (labels_of fs) ≡ 0
+none_in_files task number [] e = refl
+none_in_files task number (f ∷ fs) e =
+    let rest = flat_map (λ (f : NumberedFile). f.maps) fs in
+    let split = sym (is_among-append number (numbers_in task f.maps) (numbers_in task rest)) ∙ ap (is_among number) (sym (numbers_append task f.maps rest)) ∙ e in
+    let parts = neither (is_among number (numbers_in task f.maps)) (is_among number (numbers_in task rest)) split in
+    let here = none_in_maps task number f.maps parts.0 in
+    let there = none_in_files task number fs parts.1 in
+    omega (arith, here, there, sum_by-cons (keys_in task number) (label_of f) (labels_of fs))
+
+module _ (task number : ℕ) where
+  module _ (s : Store) (fs : List NumberedFile) (fresh : is_among number (numbers_of task (all_maps (files_shown s fs))) ≡ false) where
+    pub keys_few : (t m : ℕ) (b : Bool) → is_key t m (task, number) ≡ b → sum_by (keys_in t m) (labels_of fs) ≤ 1 → sum_by (keys_in t m) (labels_of fs) + cond {A = ℕ} b 1 0 ≤ 1
+    keys_few t m true e most =
+        let parts = and_parts (task == t) (number == m) e in
+        let none = none_in_files task number fs (ap (is_among number) (numbers_shown s task fs) ∙ fresh) in
+        let same = ap (λ q. sum_by (keys_in q m) (labels_of fs)) (eqb-true task t parts.0) in
+        let also = ap (λ q. sum_by (keys_in task q) (labels_of fs)) (eqb-true number m parts.1) in
+        omega (arith, none, same, also)
+    keys_few t m false e most = omega (arith, most)
+
+  -- a key that was not noted is another
+  module _ (now : Noted) (own : has_key task number now ≡ true) where
+    pub other_key : (t m : ℕ) (b : Bool) → is_key t m (task, number) ≡ b → has_key t m now ≡ false → b ≡ false
+    other_key t m true e none =
+        let parts = and_parts (task == t) (number == m) e in
+        let known = subst (λ q. has_key q m now ≡ true) (eqb-true task t parts.0) (subst (λ q. has_key task q now ≡ true) (eqb-true number m parts.1) own) in
+        cc
+    other_key t m false e none = refl
+
+-- ---- whether it is the task's first
+
+pub task_known : (task : ℕ) (s : Store) (fs : List NumberedFile) (first : Bool) → first ≡ not (is_among task (all_tasks (files_shown s fs))) → is_among task (flat_map tasks_in (labels_of fs)) ≡ not first
+task_known task s fs first first_is = ap (is_among task) (tasks_counted s fs) ∙ sym (among_distinct task (map (λ (m : Map). m.task) (all_maps (files_shown s fs)))) ∙ flip (is_among task (all_tasks (files_shown s fs))) first first_is
+  where
+    flip : (a b : Bool) → b ≡ not a → a ≡ not b
+    flip true b e = ap not (sym e)
+    flip false b e = ap not (sym e)
+
+-- ---- one more fits
+
+module _ (n : Noted) (s : Store) (more maps tasks : ℕ) (fs : List NumberedFile) (is : IsFiles n s more maps tasks fs) (few : length (all_maps (files_shown s fs)) < 4096) where
+  pub maps_few : maps < 4096
+  maps_few = (let count = is.keyed.map_count ∙ maps_counted s fs in omega (arith, count, few))
+
+  pub tasks_few : tasks < 4096
+  tasks_few =
+      let ms = all_maps (files_shown s fs) in
+      let count = is.keyed.task_count ∙ ap (λ ts. length (distinct ts)) (tasks_counted s fs) in
+      omega (arith, count, few, distinct_few (map (λ (m : Map). m.task) ms), length-map ms (λ (m : Map). m.task))
+
+pub byte_is : (b : Bool) → bool_byte b ≡ cond {A = ℕ} b 1 0
+byte_is true = refl
+byte_is false = refl
+
+pub byte_few : (b : Bool) → bool_byte b ≤ 1
+byte_few true = omega arith
+byte_few false = omega arith

@@ -1,0 +1,116 @@
+-- One place of a map gets another number, or none: at how many places each number stands then.
+use Rattle.std.proofs.Common.{◌≡◌, ◌≢◌, ℕ, zero, suc, ◌+◌, ◌<◌, ◌≤◌, ◌==◌, ⊎_elim, ◌⊎◌, inl, inr, true, false, List, length, refl, ap, subst, ◌∙◌, arith}
+use Rattle.std.specs.Prelude.{slice_index_or, slice_set}
+use Rattle.std.specs.List.{sum_by}
+use Rattle.std.proofs.lemmas.Bool.Decides.{eqb_tells}
+use Rattle.std.proofs.lemmas.List.{get_or-set_other, get_or-set_same, length-set}
+use Rattle.std.proofs.lemmas.List.Sums.{sum_by-set}
+use Rattle.hp_model.specs.declared.place.Place.{Place}
+use Rattle.hp_model.specs.declared.place.Place.TheVariants.{Gone}
+use Rattle.hp_model.specs.files.Mapping.{Mapping}
+use Rattle.hp_store.specs.Store.{Store, holders_of, page_at}
+use Rattle.hp_mount_files.specs.Dropping.{HasHolders}
+use Rattle.hp_mount_files.specs.Held.{IsHeld, in_cell, in_cells, in_file, in_files, in_map, in_place, more_in}
+use Rattle.hp_mount_files.specs.Numbered.{NumberedFile, mapping_at, no_mapping, numbered_at}
+use Rattle.hp_mount_files.proofs.Cells.{no_file}
+use Rattle.hp_mount_files.proofs.GivingBack.{in_all}
+use Rattle.hp_mount_files.proofs.Lifting.{at_most}
+
+pub none_or_some : (n : ℕ) → (n ≡ 0) ⊎ (0 < n)
+none_or_some zero = inl refl
+none_or_some (suc n) = inr (omega arith)
+
+module _ (fs : List NumberedFile) (k j o : ℕ) (l : k < length fs) (jl : j < length (numbered_at fs k).maps) where
+  abbrev f : NumberedFile
+  f = numbered_at fs k
+
+  abbrev y : Mapping ℕ
+  y = mapping_at f j
+
+  abbrev was : Place ℕ
+  was = slice_index_or y.places o Gone
+
+  -- the number of the place stands in its file
+  pub stands : o < length y.places → (m : ℕ) → in_place m was ≤ in_file m f
+  stands below m =
+      let places = at_most (λ (p : Place ℕ). p) (λ p. p) (in_place m) (λ p h. refl) y.places o Gone below in
+      let maps = at_most (λ (m : Mapping ℕ). m) (λ m. m) (in_map m) (λ m h. refl) f.maps j no_mapping jl in
+      omega (arith, places, maps)
+
+  -- beside it, no more stand in another file than are left
+  apart_from : (m q : ℕ) → q < length fs → q ≢ k → in_file m f + in_file m (numbered_at fs q) ≤ in_files m fs
+  apart_from m q lq other =
+      let step = sum_by-set (in_file m) fs k no_file no_file l in
+      let long = length-set fs k no_file in
+      let most = at_most (λ (f : NumberedFile). f) (λ f. f) (in_file m) (λ f h. refl) (slice_set fs k no_file) q no_file (omega (arith, lq, long)) in
+      let same = ap (in_file m) (get_or-set_other fs k q no_file no_file other) in
+      omega (arith, step, most, same)
+
+  module _ (below : o < length y.places) (p : Place ℕ) where
+    abbrev g : NumberedFile
+    g = record f { maps = slice_set f.maps j (record y { places = slice_set y.places o p }) }
+
+    abbrev gs : List NumberedFile
+    gs = slice_set fs k g
+
+    file_counts : (m : ℕ) → in_file m g + in_place m was ≡ in_file m f + in_place m p
+    file_counts m =
+        let places = sum_by-set (in_place m) y.places o p Gone below in
+        let maps = sum_by-set (in_map m) f.maps j (record y { places = slice_set y.places o p }) no_mapping jl in
+        omega (arith, places, maps)
+
+    counts : (m : ℕ) → in_files m gs + in_place m was ≡ in_files m fs + in_place m p
+    counts m = (let step = sum_by-set (in_file m) fs k g no_file l in let one = file_counts m in omega (arith, step, one))
+
+    own : (m : ℕ) → in_cells m gs ≡ in_cells m fs
+    own m = (let step = sum_by-set (λ (x : NumberedFile). sum_by (in_cell m) x.cells) fs k g no_file l in omega (arith, step))
+
+    -- a number that is put there stands in no cell and in no other file
+    module _ (s t : Store) (more now : ℕ) (h : IsHeld s more fs) (holders : (m : ℕ) → holders_of (page_at t m) + in_place m was ≡ holders_of (page_at s m) + in_place m p)
+        (some : HasHolders t) (free : (m : ℕ) → 0 < in_place m p → (in_cells m fs ≡ 0) × (in_files m fs ≡ in_file m f)) (counted : now ≡ more_in t.pages) (parts : now ≤ t.room) where
+      held : (m : ℕ) → holders_of (page_at t m) ≡ in_files m gs
+      held m = (let one = holders m in let all = counts m in let had = h.held m in omega (arith, one, all, had))
+
+      alone : (m : ℕ) → 0 < in_cells m gs → in_files m gs ≡ 1
+      alone m own_some =
+          let same = own m in
+          let had = h.alone m (omega (arith, same, own_some)) in
+          let all = counts m in
+          let most = in_all m gs in
+          ⊎_elim
+          (λ (none : in_place m p ≡ 0). omega (arith, own_some, had, all, most, none))
+          (λ (put : 0 < in_place m p). (let bare = (free m put).0 in omega (arith, own_some, same, bare)))
+          (none_or_some (in_place m p))
+
+      here : (m : ℕ) → 0 < in_file m g → in_files m fs ≡ in_file m f
+      here m in_g =
+          let one = file_counts m in
+          ⊎_elim
+          (λ (none : in_place m p ≡ 0). h.apart m k l (omega (arith, one, none, in_g)))
+          (λ (put : 0 < in_place m p). (free m put).1)
+          (none_or_some (in_place m p))
+
+      apart : (m q : ℕ) → q < length gs → 0 < in_file m (numbered_at gs q) → in_files m gs ≡ in_file m (numbered_at gs q)
+      apart m q below_q stood =
+          let long = length-set fs k g in
+          let all = counts m in
+          let one = file_counts m in
+          ⊎_elim
+          (λ (e : ((q == k) ≡ true) × (q ≡ k)).
+          (let at : in_file m (numbered_at gs q) ≡ in_file m g = ap (λ x. in_file m (numbered_at gs x)) e.1 ∙ ap (in_file m) (get_or-set_same fs k g no_file l) in
+          let had = here m (subst (λ x. 0 < x) at stood) in
+          omega (arith, all, one, at, had)))
+          (λ (e : ((q == k) ≡ false) × (q ≢ k)).
+          (let at : in_file m (numbered_at gs q) ≡ in_file m (numbered_at fs q) = ap (in_file m) (get_or-set_other fs k q g no_file e.1) in
+          let lq : q < length fs = omega (arith, below_q, long) in
+          let had = h.apart m q lq (subst (λ x. 0 < x) at stood) in
+          let two = apart_from m q lq e.1 in
+          let inside = stands below m in
+          ⊎_elim
+          (λ (none : in_place m p ≡ 0). omega (arith, all, at, had, two, inside, none))
+          (λ (put : 0 < in_place m p). (let only = (free m put).1 in omega (arith, at, had, two, only, stood)))
+          (none_or_some (in_place m p))))
+          (eqb_tells q k)
+
+      pub place_held : IsHeld t now gs
+      place_held = record { held = held; some = some; alone = alone; apart = apart; counted = counted; parts = parts }

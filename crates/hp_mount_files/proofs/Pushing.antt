@@ -1,0 +1,101 @@
+-- A file more, at which no number stands.
+use Rattle.std.proofs.Common.{◌≡◌, ℕ, zero, suc, ◌+◌, ◌<◌, ◌≤◌, true, false, cond, ⊎_elim, List, [], ◌∷◌, ◌++◌, length, refl, sym, ap, subst, ◌∙◌, arith}
+use Rattle.std.specs.List.{All, count_by, flat_map, sum_by}
+use Rattle.std.proofs.lemmas.Bool.{cases_lt}
+use Rattle.std.proofs.lemmas.Grind.{flat_map-append}
+use Rattle.std.proofs.lemmas.List.{append-nil, map-append}
+use Rattle.std.proofs.lemmas.List.Elements.{All-append, All-cons, All-nil}
+use Rattle.std.proofs.lemmas.List.Sums.{sum_by_push}
+use Rattle.hp_model.specs.Lists.{distinct}
+use Rattle.hp_store.specs.Store.{Store}
+use Rattle.hp_mount_files.specs.Held.{IsHeld, in_cell, in_cells, in_file, in_files}
+use Rattle.hp_mount_files.specs.Hints.{AreNoted, IsFiles, IsMore, Noted, has_key, has_name as has_noted}
+use Rattle.hp_mount_files.specs.Keyed.{IsKeyed, Label, has_label, is_listed, keys_in, label_of, labels_of, tasks_in}
+use Rattle.hp_mount_files.specs.Level.{AreLevel}
+use Rattle.hp_mount_files.specs.Numbered.{NumberedFile, numbered_at}
+
+module _ (old now : Noted) (s : Store) (more maps tasks : ℕ) (fs : List NumberedFile) (is : IsFiles old s more maps tasks fs) (f : NumberedFile) (bare : (n : ℕ) → in_file n f ≡ 0) where
+  abbrev gs : List NumberedFile
+  gs = fs ++ f ∷ []
+
+  same_holders : (n : ℕ) → in_files n gs ≡ in_files n fs
+  same_holders n = (let step = sum_by_push (in_file n) fs f in let none = bare n in omega (arith, step, none))
+
+  same_cells : (n : ℕ) → in_cells n gs ≡ in_cells n fs
+  same_cells n = (let step = sum_by_push (λ (x : NumberedFile). sum_by (in_cell n) x.cells) fs f in let none = bare n in omega (arith, step, none))
+
+  at_front : (xs : List NumberedFile) (j : ℕ) → j < length xs → numbered_at (xs ++ f ∷ []) j ≡ numbered_at xs j
+  at_front [] j l = absurd (none j l)
+    where
+      none : (j : ℕ) → j < 0 → ⊥
+      none j l = omega (arith, l)
+  at_front (x ∷ xs) zero l = refl
+  at_front (x ∷ xs) (suc j) l = at_front xs j (omega (arith, l))
+
+  at_end : (xs : List NumberedFile) (n j : ℕ) → length xs ≤ j → in_file n (numbered_at (xs ++ f ∷ []) j) ≡ 0
+  at_end [] n zero l = bare n
+  at_end [] n (suc j) l = refl
+  at_end (x ∷ xs) n zero l = absurd (omega (arith, l))
+  at_end (x ∷ xs) n (suc j) l = at_end xs n j (omega (arith, l))
+
+  apart : (n j : ℕ) → j < length gs → 0 < in_file n (numbered_at gs j) → in_files n gs ≡ in_file n (numbered_at gs j)
+  apart n j l some = ⊎_elim
+      (λ (inside : j < length fs). same_holders n ∙ is.held.apart n j inside (subst (λ x. 0 < in_file n x) (at_front fs j inside) some) ∙ sym (ap (in_file n) (at_front fs j inside)))
+      (λ (past : length fs ≤ j). (let none = at_end fs n j past in absurd (omega (arith, some, none))))
+      (cases_lt j (length fs))
+
+  held : IsHeld s more gs
+  held = record {
+    held = λ n. is.held.held n ∙ sym (same_holders n);
+    some = is.held.some;
+    alone = λ n some. same_holders n ∙ is.held.alone n (subst (λ k. 0 < k) (same_cells n) some);
+    apart = apart;
+    counted = is.held.counted;
+    parts = is.held.parts;
+  }
+
+  abbrev own : Label
+  own = label_of f
+
+  labels : labels_of gs ≡ labels_of fs ++ own ∷ []
+  labels = map-append label_of fs (f ∷ [])
+
+  -- its name and its maps' keys are new, and so many tasks
+  module _ (listed : is_listed own ≡ true) (name_few : (name : List ℕ) → count_by (has_label name) (labels_of fs) ≤ 1 → count_by (has_label name) (labels_of fs) + cond {A = ℕ} (has_label name own) 1 0 ≤ 1)
+      (keys_few : (t m : ℕ) → sum_by (keys_in t m) (labels_of fs) ≤ 1 → sum_by (keys_in t m) (labels_of fs) + keys_in t m own ≤ 1)
+      (first : ℕ) (tasks_more : length (distinct (flat_map tasks_in (labels_of fs) ++ tasks_in own)) ≡ length (distinct (flat_map tasks_in (labels_of fs))) + first) where
+    keyed : IsKeyed (maps + length own.keys) (tasks + first) (labels_of gs)
+    keyed = subst (IsKeyed (maps + length own.keys) (tasks + first)) (sym labels) (record {
+      kept = All-append (λ (l : Label). is_listed l ≡ true) (labels_of fs) (own ∷ []) is.keyed.kept (All-cons (λ (l : Label). is_listed l ≡ true) own [] listed (All-nil (λ (l : Label). is_listed l ≡ true)));
+      names = λ name. (let step = sum_by_push (λ (l : Label). cond {A = ℕ} (has_label name l) 1 0) (labels_of fs) own in let few = name_few name (is.keyed.names name) in omega (arith, step, few));
+      keys = λ t m. (let step = sum_by_push (keys_in t m) (labels_of fs) own in let few = keys_few t m (is.keyed.keys t m) in omega (arith, step, few));
+      map_count = (let step = sum_by_push (λ (l : Label). length l.keys) (labels_of fs) own in let was = is.keyed.map_count in omega (arith, step, was));
+      task_count =
+          let parts = flat_map-append tasks_in (labels_of fs) (own ∷ []) ∙ ap (λ ts. flat_map tasks_in (labels_of fs) ++ ts) (append-nil (tasks_in own)) in
+          let all = ap (λ ts. length (distinct ts)) parts in
+          let was = is.keyed.task_count in
+          omega (arith, all, was, tasks_more);
+    })
+
+    -- and they are noted
+    module _ (grown : IsMore old now) (name_known : (name : List ℕ) → has_noted name now ≡ false → has_label name own ≡ false) (keys_known : (t m : ℕ) → has_key t m now ≡ false → keys_in t m own ≡ 0)
+        (own_level : AreLevel f.maps) where
+      noted : AreNoted now (labels_of gs)
+      noted = subst (AreNoted now) (sym labels) (record {
+        names = λ name e.
+            let step = sum_by_push (λ (l : Label). cond {A = ℕ} (has_label name l) 1 0) (labels_of fs) own in
+            let before = is.noted.names name (grown.names name e) in
+            let last = ap (λ b. cond {A = ℕ} b 1 0) (name_known name e) in
+            omega (arith, step, before, last);
+        keys = λ t m e.
+            let step = sum_by_push (keys_in t m) (labels_of fs) own in
+            let before = is.noted.keys t m (grown.keys t m e) in
+            let last = keys_known t m e in
+            omega (arith, step, before, last);
+      })
+
+      level : All (λ (x : NumberedFile). AreLevel x.maps) gs
+      level = All-append (λ (x : NumberedFile). AreLevel x.maps) fs (f ∷ []) is.level (All-cons (λ (x : NumberedFile). AreLevel x.maps) f [] own_level (All-nil (λ (x : NumberedFile). AreLevel x.maps)))
+
+      pub pushed : IsFiles now s more (maps + length own.keys) (tasks + first) gs
+      pushed = record { held = held; keyed = keyed; noted = noted; level = level }

@@ -1,0 +1,27 @@
+use Rattle.std.proofs.Common.{arith, ◌<◌, length}
+use Rattle.std.specs.Prelude.{slice_index_or, slice_set}
+use Rattle.std.specs.List.{sum_by}
+use Rattle.std.proofs.lemmas.List.Sums.{sum_by-set}
+use Rattle.hp_mount_files.specs.Held.{in_map}
+use Rattle.hp_mount_files.specs.Leaving.{ended_for, owed}
+use Rattle.hp_mount_files.proofs.Drops.{drop_then}
+use Rattle.hp_mount_files.proofs.Leaves.{more_then}
+use Rattle.hp_mount_files.proofs.Punched.{first_step}
+use Rattle.hp_mount_files.proofs.dropping.end_maps_of.Goals as goal
+
+pub loop-map-preserved : goal.loop-map-preserved
+loop-map-preserved g c =
+    let was = c.loop-map in
+    let i = was.map-index in
+    let m = slice_index_or was.maps i c.map-item.result in
+    let one = c.end_map_of-reserves in
+    let n = one.new.map in
+    let inside : i < length was.maps = omega (arith, c.loop-map-test.true, was.auto.maps) in (
+      drop_then (λ k. sum_by (in_map k) c.args.maps.now) (λ k. sum_by (in_map k) was.maps) (λ k. in_map k m) (λ k. in_map k n) (λ k. sum_by (in_map k) c.args.maps.now) (λ k. sum_by (in_map k) (slice_set was.maps i n))
+          c.args.store.now was.store one.new.store was.invariant.0 one.ensures.dropping
+          (λ k. (let step = sum_by-set (in_map k) was.maps i n c.map-item.result inside in omega (arith, step))),
+      first_step (ended_for c.args.task) i c.args.maps.now was.maps c.map-item.result n c.loop-map-test.true was.invariant.1 one.ensures.map,
+      one.ensures.counted,
+      (let step = sum_by-set owed was.maps i n c.map-item.result inside in let had = was.invariant.3 in let left = one.ensures.reserves in omega (arith, step, had, left)),
+      more_then c.args.task c.args.hints.now was.hints one.new.hints was.invariant.4 one.ensures.hints,
+    )

@@ -1,0 +1,15 @@
+use Rattle.std.specs.Prelude.{◌≡◌, ◌+◌}
+use Rattle.std.specs.List.{sum_by}
+use Rattle.hp_mount_files.specs.Dropping.{IsDropping}
+use Rattle.hp_mount_files.specs.Held.{in_files, more_in}
+use Rattle.hp_mount_files.specs.Leaving.{IsMoreButTask, emptied, file_owed, left_by, map_sum}
+use Rattle.hp_mount_files.specs.Numbered.{NumberedFile}
+use Rattle.hp_mount_files.proofs.Punched.{first_mapped}
+use Rattle.hp_mount_files.proofs.files.leaving.drop_maps_of.Given as goal
+
+abbrev pub invariant-loop-file : goal.invariant-loop-file
+invariant-loop-file g l =
+    IsDropping (λ n. in_files n l.initial.files) (λ n. in_files n l.files) l.initial.store l.store
+    × (l.files ≡ first_mapped (λ (f : NumberedFile). emptied (left_by l.task f)) l.file-index l.initial.files) × (l.more ≡ more_in l.store.pages)
+    × (l.reserves + sum_by file_owed l.files ≡ sum_by file_owed l.initial.files) × (l.maps + map_sum l.files ≡ map_sum l.initial.files)
+    × IsMoreButTask l.task l.initial.hints l.hints

@@ -1,0 +1,22 @@
+use Rattle.std.proofs.Common.{◌≡◌, [], ℕ, true, false, subst, arith}
+use Rattle.std.proofs.lemmas.Bool.Decides.{nat_tests}
+use Rattle.hp_mount_files.specs.Hints.{Noted, has_key, is_pair, keys_of, names_of}
+use Rattle.hp_mount_files.specs.Leaving.{IsMoreButMap}
+use Rattle.hp_mount_files.proofs.Hinted.{others_stay}
+use Rattle.hp_mount_files.proofs.hints.Hints.forget_map.Goals as goal
+
+-- a key is not two
+not_both : (t n task number : ℕ) (k : ℕ × ℕ) → is_pair t n (task, number) ≡ false → is_pair task number k ≡ true → is_pair t n k ≡ false
+not_both t n task number k apart own = grind (arith, nat_tests, apart, own)
+
+pub returns : goal.returns
+returns c =
+    let new = c.swap_remove-place.new.self.entries in
+    let files = c.self.inside.files.entries in
+    subst (λ (n : Noted). IsMoreButMap c.args.task c.args.number n (record { names = names_of files; keys = keys_of new })) c.self.view_is
+    (record {
+      names = λ name e. e;
+      keys = λ t n apart e.
+          others_stay (λ (k : ℕ × ℕ). k) (is_pair t n) _ (λ k own. not_both t n c.args.task c.args.number k apart own) c.self.inside.maps.entries
+          (subst (λ es. has_key t n (record { names = []; keys = keys_of es }) ≡ false) c.swap_remove-place.ensures.entries e);
+    })

@@ -1,0 +1,79 @@
+-- A child's maps. No public clause cites this module.
+use Rattle.std.specs.Prelude.{◌≡◌, ℕ, ◌+◌, ◌++◌, ◌<◌, ◌≤◌, ◌==◌, List, [], ◌∷◌, false, length, map, vec_capacity}
+use Rattle.std.specs.Global.{Vec}
+use Rattle.std.specs.List.{count_by, filter, sum_by}
+use Rattle.hp_mapping.specs.Mapped.{has_copy}
+use Rattle.hp_model.specs.files.Mapping.{Mapping, is_of, map_for}
+use Rattle.hp_store.specs.Store.{Store, held_count, holders_of, page_at}
+use Rattle.hp_mount_files.specs.Dropping.{HasHolders, at_node}
+use Rattle.hp_mount_files.specs.Held.{in_map}
+use Rattle.hp_mount_files.specs.Hints.{Noted, has_key}
+use Rattle.hp_mount_files.specs.Numbered.{NumberedFile, page_in}
+
+-- how many copies a map has
+abbrev pub copies_in : Mapping ℕ → ℕ
+copies_in m = count_by has_copy m.places
+
+-- so many holders of each number are more, and nothing else changed
+pub record IsSharing (added : ℕ → ℕ) (old now : Store) : Type 0 where
+  pub held : (n : ℕ) → holders_of (page_at now n) ≡ holders_of (page_at old n) + added n
+  pub some : HasHolders now
+  pub same : (n : ℕ) → page_in (page_at now n) ≡ page_in (page_at old n)
+  pub pages : held_count now.pages ≡ held_count old.pages
+  pub nodes : (n : ℕ) → sum_by (at_node n) now.pages ≡ sum_by (at_node n) old.pages
+  pub going : now.going ≡ old.going
+  pub room : now.room ≡ old.room
+
+-- a parent's maps as the child's
+abbrev pub children_of : (parent child : ℕ) → List (Mapping ℕ) → List (Mapping ℕ)
+children_of parent child ms = map (map_for child) (filter (is_of parent) ms)
+
+-- the file with them behind its maps
+abbrev pub with_children : (parent child : ℕ) → NumberedFile → NumberedFile
+with_children parent child f = record f { maps = f.maps ++ children_of parent child f.maps }
+
+-- the file with a list of maps behind its own
+abbrev pub with_list : NumberedFile → Vec (Mapping ℕ) → NumberedFile
+with_list f list = record f { maps = f.maps ++ list.items }
+
+-- each file with its list, as far as there are lists
+abbrev pub joined : List NumberedFile → List (Vec (Mapping ℕ)) → List NumberedFile
+joined [] vs = []
+joined (f ∷ fs) [] = f ∷ fs
+joined (f ∷ fs) (v ∷ vs) = with_list f v ∷ joined fs vs
+
+-- a list that has maps has room for its file's
+abbrev pub HasRoom : NumberedFile → Vec (Mapping ℕ) → Type 0
+HasRoom f list = 0 < length list.items → length list.items + length f.maps ≤ vec_capacity list
+
+abbrev pub HaveRoom : List NumberedFile → List (Vec (Mapping ℕ)) → Type 0
+HaveRoom [] [] = Unit {0}
+HaveRoom [] (v ∷ vs) = ⊥
+HaveRoom (f ∷ fs) [] = Unit {0}
+HaveRoom (f ∷ fs) (v ∷ vs) = HasRoom f v × HaveRoom fs vs
+
+-- a list of the child's maps of a file, with room for all its maps
+pub record IsReady (parent child : ℕ) (f : NumberedFile) (list : Vec (Mapping ℕ)) : Type 0 where
+  pub children : list.items ≡ children_of parent child f.maps
+  pub room : HasRoom f list
+
+abbrev pub AreReady : (parent child : ℕ) → List NumberedFile → List (Vec (Mapping ℕ)) → Type 0
+AreReady parent child [] [] = Unit {0}
+AreReady parent child [] (v ∷ vs) = ⊥
+AreReady parent child (f ∷ fs) [] = ⊥
+AreReady parent child (f ∷ fs) (v ∷ vs) = IsReady parent child f v × AreReady parent child fs vs
+
+-- at how many places of lists a number stands, and how many copies they have
+abbrev pub in_list : ℕ → Vec (Mapping ℕ) → ℕ
+in_list n list = sum_by (in_map n) list.items
+
+abbrev pub in_lists : ℕ → List (Vec (Mapping ℕ)) → ℕ
+in_lists n lists = sum_by (in_list n) lists
+
+abbrev pub list_copies : Vec (Mapping ℕ) → ℕ
+list_copies list = sum_by copies_in list.items
+
+-- the keys of maps that stay or come are noted
+pub record IsNotedFor (parent child : ℕ) (old new : Noted) : Type 0 where
+  pub others : (t n : ℕ) → (t == child) ≡ false → has_key t n new ≡ false → has_key t n old ≡ false
+  pub children : (n : ℕ) → has_key child n new ≡ false → has_key parent n old ≡ false

@@ -1,0 +1,130 @@
+//! Maps that leave a file.
+ghost use Rattle.std.specs.Prelude.{◌≡◌, ◌^◌, ◌+◌, ◌<◌, ◌≤◌, ℕ, length, map};
+ghost use Rattle.std.specs.List.{remove};
+ghost use Rattle.hp_store.specs.Store.{holders_of, page_at};
+ghost use Rattle.hp_mount_files.specs.Dropping.{HasHolders, IsDropping};
+ghost use Rattle.hp_mount_files.specs.Held.{in_file, more_in};
+ghost use Rattle.hp_mount_files.specs.Leaving.{IsMoreButTask, cut_at, emptied, file_owed, is_used, least_among, least_of, left_by};
+
+use super::File;
+use crate::departed::Departed;
+use crate::dropping::{end_maps_of, leave_range};
+use crate::files::MapPlace;
+use crate::hints::Hints;
+use hp_model::naming::Naming;
+use hp_store::PageStore;
+
+// The lesser of a task and one that is known, if any.
+fn lesser(known: Option<u64>, task: u64) -> u64
+    ensures { result ≡ least_of known task }
+{
+    match known {
+        Some(known) => known.min(task),
+        None => task,
+    }
+}
+
+impl File {
+    /// The least of a task that is known, if any, and those that have maps of the file.
+    pub(crate) fn least_task(&self, known: Option<u64>) -> Option<u64>
+        ensures { result ≡ least_among known (map (λ m. m.task) self.now.maps) }
+    {
+        let maps = self.maps.as_slice();
+        let mut least = known;
+        for map in maps {
+            least = Some(lesser(least, map.task()));
+        }
+        least
+    }
+
+    /// Whether it has a name or a map.
+    pub(crate) fn is_used(&self) -> bool
+        ensures { result ≡ is_used self.now }
+    {
+        self.name.is_some() || !self.maps.is_empty()
+    }
+
+    /// All maps of a task go, with what they hold. A file that is left without name and maps loses its pages and entries.
+    pub(crate) fn drop_maps_of<N: Naming>(
+        &mut self,
+        task: u64,
+        hints: &mut Hints,
+        store: &mut PageStore<N>,
+        more: &mut usize,
+    ) -> Departed
+        requires held { (n : ℕ) → in_file n self.old ≤ holders_of (page_at store.old n) }
+        requires some { HasHolders store.old }
+        requires counted { more.old ≡ more_in store.old.pages }
+        requires few { file_owed self.old < 2 ^ 64 }
+        ensures file { self.new ≡ emptied (left_by task self.old) }
+        ensures dropping { IsDropping (λ n. in_file n self.old) (λ n. in_file n self.new)
+            store.old store.new }
+        ensures counted { more.new ≡ more_in store.new.pages }
+        ensures reserves { result.reserves + file_owed self.new ≡ file_owed self.old }
+        ensures maps { result.maps + length self.new.maps ≡ length self.old.maps }
+        ensures hints { IsMoreButTask task hints.old hints.new }
+    {
+        let before = self.maps.len();
+        let reserves = end_maps_of(task, &mut self.maps, hints, store, more);
+        self.maps.retain(|m| m.task() != task);
+        let maps = (before - self.maps.len()) as u64;
+        if self.is_used() {
+            return Departed { maps, reserves };
+        }
+        let entries = self.truncate(0, store, more);
+        Departed {
+            maps,
+            reserves: reserves + entries,
+        }
+    }
+
+    /// The file's indices from `a` up to `b` leave a map, with its copies of them. Answers how many reservations went.
+    pub(crate) fn unmap<N: Naming>(
+        &mut self,
+        map: usize,
+        a: u64,
+        b: u64,
+        store: &mut PageStore<N>,
+        more: &mut usize,
+    ) -> u64
+        requires within { map < length self.old.maps }
+        requires order { a ≤ b }
+        requires held { (n : ℕ) → in_file n self.old ≤ holders_of (page_at store.old n) }
+        requires some { HasHolders store.old }
+        requires counted { more.old ≡ more_in store.old.pages }
+        ensures file { self.new ≡ cut_at map a b self.old }
+        ensures dropping { IsDropping (λ n. in_file n self.old) (λ n. in_file n self.new)
+            store.old store.new }
+        ensures counted { more.new ≡ more_in store.new.pages }
+        ensures reserves { result + file_owed self.new ≡ file_owed self.old }
+    {
+        let at = &mut self.maps[map];
+        leave_range(at, a, b, store, more)
+    }
+
+    /// A map goes, and those behind it move down.
+    pub(crate) fn remove_map(&mut self, map: usize)
+        requires { map < length self.old.maps }
+        ensures { self.new ≡ record self.old { maps = remove self.old.maps map } }
+    {
+        let _gone = self.maps.remove(map);
+    }
+
+    /// The file stands at a place: it and its maps are noted there, if they were noted. Takes a step for each map.
+    pub(crate) fn note_place(&self, file: usize, hints: &mut Hints)
+        ensures { hints.new ≡ hints.old }
+    {
+        self.note_name(file, hints);
+        for (map, at) in self.maps.iter().enumerate() {
+            hints.move_map(at.task(), at.number(), MapPlace { file, map });
+        }
+    }
+
+    fn note_name(&self, file: usize, hints: &mut Hints)
+        ensures { hints.new ≡ hints.old }
+    {
+        if let Some(name) = &self.name {
+            hints.move_file(name.as_slice(), file);
+        }
+    }
+}

@@ -1,0 +1,149 @@
+//! A child gets maps.
+ghost use Rattle.std.specs.Prelude.{◌≡◌, ◌^◌, ◌+◌, ◌-◌, ◌<◌, ◌≤◌, ◌==◌, false, length, map, ℕ, IfOk, OnOk, OnErr};
+ghost use Rattle.std.specs.List.{count_by, filter, sum_by};
+ghost use Rattle.hp_store.specs.Store.{holders_of, page_at};
+ghost use Rattle.hp_mount_files.specs.Dropping.{HasHolders, IsLeft};
+ghost use Rattle.hp_mount_files.specs.Forking.{AreReady, HaveRoom, IsSharing, in_lists, joined, list_copies};
+ghost use Rattle.hp_mount_files.specs.Held.{more_in};
+ghost use Rattle.hp_mount_files.specs.Leaving.{map_sum};
+ghost use Rattle.hp_mount_files.specs.Places.{all_maps};
+ghost use Rattle.hp_model.specs.files.Fork.{file_forked};
+ghost use Rattle.hp_model.specs.files.GiveBack.{is_kept};
+ghost use Rattle.hp_model.specs.files.Mapping.{is_of};
+ghost use Rattle.hp_model.specs.files.MountCounts.{file_reserves};
+
+use super::Files;
+use super::leaving::{drop_maps_of, has_task, note_places};
+use crate::file::File;
+use crate::forking::copies_of;
+use hp_mapping::Mapping;
+use hp_model::naming::Naming;
+use hp_store::PageStore;
+use std::alloc::{AllocError, Global};
+
+// The maps that a child gets of each file for those of a parent.
+fn children(
+    files: &[File],
+    alloc: Global,
+    parent: u64,
+    child: u64,
+) -> Result<Vec<Vec<Mapping>>, AllocError>
+    ensures { IfOk result (λ lists. AreReady parent child files.now lists.items) }
+{
+    let mut lists = Vec::new(alloc);
+    for file in files {
+        let Ok(()) = lists.push(file.children(alloc, parent, child)?) else {
+            return Err(AllocError);
+        };
+    }
+    Ok(lists)
+}
+
+// How many copies the maps of some lists have, or the greatest number where they have more.
+fn all_copies(lists: &[Vec<Mapping>]) -> u64
+    ensures { result < 2 ^ 64 - 1 → result ≡ sum_by list_copies lists.now }
+{
+    let mut count: u64 = 0;
+    for list in lists {
+        count = count.saturating_add(copies_of(list));
+    }
+    count
+}
+
+// Each file gets the maps of its list, and each of their copies has a holder more.
+fn join_all<N: Naming>(
+    files: &mut [File],
+    mut lists: Vec<Vec<Mapping>>,
+    store: &mut PageStore<N>,
+    more: &mut usize,
+)
+    requires room { HaveRoom files.old lists.items }
+    requires held { (n : ℕ) → in_lists n lists.items ≤ holders_of (page_at store.old n) }
+    requires some { HasHolders store.old }
+    requires counted { more.old ≡ more_in store.old.pages }
+    requires few { more.old + sum_by list_copies lists.items ≤ 2 ^ 32 }
+    ensures files { files.new ≡ joined files.old lists.items }
+    ensures sharing { IsSharing (λ n. in_lists n lists.items) store.old store.new }
+    ensures counted { more.new ≡ more_in store.new.pages }
+    ensures more { more.new ≡ more.old + sum_by list_copies lists.items }
+{
+    while let Some(list) = lists.pop() {
+        let at = lists.len();
+        files[at].join(list, store, more);
+    }
+}
+
+// How many maps of some files are a task's.
+fn map_total_of(files: &[File], task: u64) -> u64
+    requires { map_sum files.now < 2 ^ 64 }
+    ensures { result ≡ sum_by (λ f. count_by (is_of task) f.maps) files.now }
+{
+    let mut count = 0;
+    for file in files {
+        count += file.map_count_for(task) as u64;
+    }
+    count
+}
+
+// How many maps some files have.
+fn map_total(files: &[File]) -> u64
+    requires { map_sum files.now < 2 ^ 64 }
+    ensures { result ≡ map_sum files.now }
+{
+    let mut count = 0;
+    for file in files {
+        count += file.map_count() as u64;
+    }
+    count
+}
+
+impl<N: Naming> Files<N> {
+    /// How many maps a task has. It takes a step for each file and map.
+    pub fn map_count_for(&self, task: u64) -> u64
+        ensures { result ≡ count_by (is_of task) (all_maps self.now.files) }
+    {
+        // 64 bits count all maps
+        let _all = self.map_count();
+        map_total_of(&self.list, task)
+    }
+
+    /// A child gets a map for each of its parent's: the same number, range, copies and mark; it owns nothing. Maps that
+    /// stand under the child's number go first, as by `exit`. Answers how many reservations went with them. Afterwards there
+    /// is room for `held` pages, beside those for copies that several maps hold.
+    ///
+    /// Refused where memory is, before anything else changes but the room. It takes a step for each place of the parent's
+    /// maps, and for each file and map.
+    pub fn fork(&mut self, parent: u64, child: u64, held: u64) -> Result<u64, AllocError>
+        requires apart { (parent == child) ≡ false }
+        requires few { sum_by file_reserves self.old.files < 2 ^ 64 }
+        requires maps { length (all_maps (filter is_kept (map (file_forked parent child) self.old.files)))
+            ≤ 4096 }
+        ensures files { OnOk result (self.new.files
+            ≡ filter is_kept (map (file_forked parent child) self.old.files)) }
+        ensures left { IfOk result (λ reserves.
+            IsLeft reserves (record self.old { room = held }) self.new) }
+        ensures err { OnErr result (self.new ≡ record self.old { room = self.new.room }) }
+        ensures more { OnErr result (self.old.room ≤ self.new.room) }
+    {
+        let lists = children(&self.list, self.alloc, parent, child)?;
+        let hints = self.hints.forked(self.alloc, parent, child)?;
+        let room = held.saturating_add(all_copies(&lists));
+        let all = room.saturating_add(self.more as u64);
+        self.store.make_room(all as usize)?;
+        let gone = drop_maps_of(
+            child,
+            &mut self.list,
+            &mut self.hints,
+            &mut self.store,
+            &mut self.more,
+        );
+        join_all(&mut self.list, lists, &mut self.store, &mut self.more);
+        self.list.retain(|f| f.is_used());
+        self.hints.take_maps(hints);
+        note_places(&self.list, &mut self.hints);
+        self.maps = map_total(&self.list);
+        self.tasks -= (gone.maps > 0) as u64;
+        self.tasks += has_task(&self.list, parent) as u64;
+        Ok(gone.reserves)
+    }
+}

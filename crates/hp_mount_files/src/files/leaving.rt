@@ -1,0 +1,162 @@
+//! Maps that leave the files.
+ghost use Rattle.std.specs.Prelude.{◌≡◌, ◌^◌, ◌+◌, ◌<◌, ◌≤◌, ℕ, [], length, map, IfNone, IfSome};
+ghost use Rattle.std.specs.List.{filter, list_any, sum_by};
+ghost use Rattle.hp_model.specs.files.GiveBack.{file_unmapped, file_without, is_kept};
+ghost use Rattle.hp_model.specs.files.Mapping.{is_map, is_of};
+ghost use Rattle.hp_model.specs.files.MountCounts.{file_reserves};
+ghost use Rattle.hp_store.specs.Store.{holders_of, page_at};
+ghost use Rattle.hp_mount_files.specs.Dropping.{HasHolders, IsDropping, IsLeft};
+ghost use Rattle.hp_mount_files.specs.Places.{IsFirstTask, IsFound, all_maps};
+ghost use Rattle.hp_mount_files.specs.Held.{in_files, more_in};
+ghost use Rattle.hp_mount_files.specs.Leaving.{IsMoreButTask, emptied, file_owed, left_by, map_sum, swept_at};
+
+use super::{Files, MapPlace};
+use crate::departed::Departed;
+use crate::file::File;
+use crate::hints::Hints;
+use hp_model::naming::Naming;
+use hp_store::PageStore;
+
+// All maps of a task go from each of some files. A file that is left without name and maps loses its pages and entries.
+pub(super) fn drop_maps_of<N: Naming>(
+    task: u64,
+    files: &mut [File],
+    hints: &mut Hints,
+    store: &mut PageStore<N>,
+    more: &mut usize,
+) -> Departed
+    requires held { (n : ℕ) → in_files n files.old ≤ holders_of (page_at store.old n) }
+    requires some { HasHolders store.old }
+    requires counted { more.old ≡ more_in store.old.pages }
+    requires few { sum_by file_owed files.old < 2 ^ 64 }
+    requires few_maps { map_sum files.old < 2 ^ 64 }
+    ensures files { files.new ≡ map (λ f. emptied (left_by task f)) files.old }
+    ensures dropping { IsDropping (λ n. in_files n files.old) (λ n. in_files n files.new)
+        store.old store.new }
+    ensures counted { more.new ≡ more_in store.new.pages }
+    ensures reserves { result.reserves + sum_by file_owed files.new ≡ sum_by file_owed files.old }
+    ensures maps { result.maps + map_sum files.new ≡ map_sum files.old }
+    ensures hints { IsMoreButTask task hints.old hints.new }
+{
+    let mut maps = 0;
+    let mut reserves = 0;
+    for file in files.iter_mut() {
+        let gone = file.drop_maps_of(task, hints, store, more);
+        maps += gone.maps;
+        reserves += gone.reserves;
+    }
+    Departed { maps, reserves }
+}
+
+// A file without name and maps goes, with its pages and entries, and those behind it move down. Answers how many of its
+// entries had no page.
+fn sweep_file<N: Naming>(
+    files: &mut Vec<File>,
+    at: usize,
+    hints: &mut Hints,
+    store: &mut PageStore<N>,
+    more: &mut usize,
+) -> u64
+    requires within { at < length files.old.items }
+    requires held { (n : ℕ) → in_files n files.old.items ≤ holders_of (page_at store.old n) }
+    requires some { HasHolders store.old }
+    requires counted { more.old ≡ more_in store.old.pages }
+    ensures files { files.new.items ≡ swept_at at files.old.items }
+    ensures dropping { IsDropping (λ n. in_files n files.old.items) (λ n. in_files n files.new.items)
+        store.old store.new }
+    ensures counted { more.new ≡ more_in store.new.pages }
+    ensures reserves { result + sum_by file_owed files.new.items ≡ sum_by file_owed files.old.items }
+    ensures hints { hints.new ≡ hints.old }
+{
+    if files[at].is_used() {
+        return 0;
+    }
+    let gone = files.remove(at);
+    hints.move_down(at);
+    gone.close(store, more)
+}
+
+// Notes again where files and their maps are.
+pub(super) fn note_places(files: &[File], hints: &mut Hints)
+    ensures { hints.new ≡ hints.old }
+{
+    for (at, file) in files.iter().enumerate() {
+        file.note_place(at, hints);
+    }
+}
+
+// Whether a task has a map of one of the files.
+pub(super) fn has_task(files: &[File], task: u64) -> bool
+    ensures { result ≡ list_any (λ f. list_any (is_of task) f.maps) files.now }
+{
+    files.iter().any(|f| f.has_task(task))
+}
+
+impl<N: Naming> Files<N> {
+    /// The least number of a task that has a map, if there is a map. It takes a step for each file and map.
+    pub fn first_task(&self) -> Option<u64>
+        ensures some { IfSome result (λ task. IsFirstTask self.now.files task) }
+        ensures none { IfNone result (all_maps self.now.files ≡ []) }
+    {
+        let files = self.list.as_slice();
+        let mut least = None;
+        for file in files {
+            least = file.least_task(least);
+        }
+        least
+    }
+
+    /// All maps of a task go, with their private copies and what their owners have not consumed. Files that are left
+    /// without name and maps go, with their pages and entries, and the others move down. Answers how many reservations
+    /// went. It takes a step for each file and map, and for each page and copy that went; and no memory.
+    pub fn exit(&mut self, task: u64) -> u64
+        requires { sum_by file_reserves self.old.files < 2 ^ 64 }
+        ensures files { self.new.files ≡ filter is_kept (map (file_without task) self.old.files) }
+        ensures left { IsLeft result self.old self.new }
+    {
+        let gone = drop_maps_of(
+            task,
+            &mut self.list,
+            &mut self.hints,
+            &mut self.store,
+            &mut self.more,
+        );
+        self.list.retain(|f| f.is_used());
+        note_places(&self.list, &mut self.hints);
+        self.maps -= gone.maps;
+        self.tasks -= (gone.maps > 0) as u64;
+        gone.reserves
+    }
+
+    /// The file's indices from `a` up to `b` leave a task's map, with its private copies of them and what its owner has not
+    /// consumed there. A map without indices goes; so does a file that is left without name and maps, with its pages and
+    /// entries. Answers how many reservations went. It takes a step for each index of the range that the map had, and for
+    /// each page that went; where the map goes, one for each file and map. It takes no memory.
+    pub fn unmap(&mut self, at: MapPlace, task: u64, number: u64, a: u64, b: u64) -> u64
+        requires found { IsFound self.old.files task number at.file at.map }
+        requires order { a ≤ b }
+        requires few { sum_by file_reserves self.old.files < 2 ^ 64 }
+        ensures files { self.new.files
+            ≡ filter is_kept (map (file_unmapped (is_map task number) a b) self.old.files) }
+        ensures left { IsLeft result self.old self.new }
+    {
+        let file = &mut self.list[at.file];
+        let reserves = file.unmap(at.map, a, b, &mut self.store, &mut self.more);
+        if file.map(at.map).is_mapped() {
+            return reserves;
+        }
+        file.remove_map(at.map);
+        self.hints.forget_map(task, number);
+        self.hints.move_maps_down(at);
+        let entries = sweep_file(
+            &mut self.list,
+            at.file,
+            &mut self.hints,
+            &mut self.store,
+            &mut self.more,
+        );
+        self.maps -= 1;
+        self.tasks -= !has_task(&self.list, task) as u64;
+        reserves + entries
+    }
+}

@@ -1,0 +1,111 @@
+//! A child's maps.
+ghost use Rattle.std.specs.Prelude.{◌≡◌, ◌==◌, if◌then◌else◌, ℕ, ◌+◌, ◌-◌, ◌<◌, ◌≤◌, ◌^◌, length, vec_capacity, IfOk};
+ghost use Rattle.std.specs.List.{sum_by};
+ghost use Rattle.hp_store.specs.Store.{holders_of, page_at};
+ghost use Rattle.hp_mount_files.specs.Dropping.{HasHolders};
+ghost use Rattle.hp_mount_files.specs.Forking.{IsSharing, children_of, copies_in};
+ghost use Rattle.hp_mount_files.specs.Held.{in_map, more_in};
+
+use hp_mapping::Mapping;
+use hp_model::naming::Naming;
+use hp_model::page_no::PageNo;
+use hp_store::PageStore;
+use std::alloc::{AllocError, Global};
+
+/// How many copies a map has. It takes a step for each.
+pub(crate) fn copy_count(map: &Mapping) -> u64
+    ensures { result ≡ copies_in map.now }
+{
+    let mut count = 0;
+    let mut from = map.start();
+    let end = map.end();
+    while let Some(at) = map.lowest_copy(from, end) {
+        count += 1;
+        from = at + 1;
+    }
+    count
+}
+
+// A page has a holder more.
+fn add_holder<N: Naming>(number: PageNo, store: &mut PageStore<N>, more: &mut usize)
+    requires held { 0 < holders_of (page_at store.old number) }
+    requires some { HasHolders store.old }
+    requires counted { more.old ≡ more_in store.old.pages }
+    requires few { more.old < 2 ^ 32 }
+    ensures sharing { IsSharing (λ n. if number == n then 1 else 0) store.old store.new }
+    ensures counted { more.new ≡ more_in store.new.pages }
+    ensures more { more.new ≡ more.old + 1 }
+{
+    store.share(number);
+    *more += 1;
+}
+
+/// Each copy of a map has a holder more. It takes a step for each.
+pub(crate) fn share_copies<N: Naming>(map: &Mapping, store: &mut PageStore<N>, more: &mut usize)
+    requires held { (n : ℕ) → in_map n map.now ≤ holders_of (page_at store.old n) }
+    requires some { HasHolders store.old }
+    requires counted { more.old ≡ more_in store.old.pages }
+    requires few { more.old + copies_in map.now ≤ 2 ^ 32 }
+    ensures sharing { IsSharing (λ n. in_map n map.now) store.old store.new }
+    ensures counted { more.new ≡ more_in store.new.pages }
+    ensures more { more.new ≡ more.old + copies_in map.now }
+{
+    let mut from = map.start();
+    let end = map.end();
+    while let Some(at) = map.lowest_copy(from, end) {
+        let number = map.copy_at(at).unwrap();
+        add_holder(number, store, more);
+        from = at + 1;
+    }
+}
+
+/// How many copies some maps have, or the greatest number where they have more.
+pub(crate) fn copies_of(maps: &[Mapping]) -> u64
+    ensures { result < 2 ^ 64 - 1 → result ≡ sum_by copies_in maps.now }
+{
+    let mut count: u64 = 0;
+    for map in maps {
+        count = count.saturating_add(copy_count(map));
+    }
+    count
+}
+
+/// Each copy of some maps has a holder more. It takes a step for each map and copy.
+pub(crate) fn share_all<N: Naming>(maps: &[Mapping], store: &mut PageStore<N>, more: &mut usize)
+    requires held { (n : ℕ) → sum_by (in_map n) maps.now ≤ holders_of (page_at store.old n) }
+    requires some { HasHolders store.old }
+    requires counted { more.old ≡ more_in store.old.pages }
+    requires few { more.old + sum_by copies_in maps.now ≤ 2 ^ 32 }
+    ensures sharing { IsSharing (λ n. sum_by (in_map n) maps.now) store.old store.new }
+    ensures counted { more.new ≡ more_in store.new.pages }
+    ensures more { more.new ≡ more.old + sum_by copies_in maps.now }
+{
+    for map in maps {
+        share_copies(map, store, more);
+    }
+}
+
+/// The maps that a child gets for those of a parent among some maps, in a list that has room for these as well.
+pub(crate) fn children(
+    maps: &[Mapping],
+    alloc: Global,
+    parent: u64,
+    child: u64,
+) -> Result<Vec<Mapping>, AllocError>
+    ensures list { IfOk result (λ list. list.items ≡ children_of parent child maps.now) }
+    ensures room { IfOk result (λ list. 0 < length list.items
+        → length list.items + length maps.now ≤ vec_capacity list) }
+{
+    let mut list = Vec::new(alloc);
+    for map in maps {
+        if map.task() == parent {
+            let Ok(()) = list.push(map.fork_for(child)?) else {
+                return Err(AllocError);
+            };
+        }
+    }
+    if !list.is_empty() {
+        list.reserve(maps.len())?;
+    }
+    Ok(list)
+}
