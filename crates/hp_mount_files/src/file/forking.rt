@@ -9,6 +9,7 @@ ghost use Rattle.hp_mount_files.specs.Held.{more_in};
 
 use super::File;
 use crate::forking::{children, share_all};
+use crate::tags::Tags;
 use hp_mapping::Mapping;
 use hp_model::naming::Naming;
 use hp_store::PageStore;
@@ -34,12 +35,13 @@ impl File {
     pub(crate) fn children(
         &self,
         alloc: Global,
+        tags: &mut Tags,
         parent: u64,
         child: u64,
     ) -> Result<Vec<Mapping>, AllocError>
         ensures { IfOk result (IsReady parent child self.now) }
     {
-        let list = children(&self.maps, alloc, parent, child)?;
+        let list = children(&self.maps, alloc, tags, parent, child)?;
         Ok(list)
     }
 

@@ -13,9 +13,11 @@ ghost use Rattle.hp_model.specs.files.Mapping.{is_of};
 ghost use Rattle.hp_model.specs.files.MountCounts.{file_reserves};
 
 use super::Files;
-use super::leaving::{drop_maps_of, has_task, note_places};
+use super::leaving::{drop_maps_of, has_task};
 use crate::file::File;
 use crate::forking::copies_of;
+use crate::hints::Hints;
+use crate::tags::Tags;
 use hp_mapping::Mapping;
 use hp_model::naming::Naming;
 use hp_store::PageStore;
@@ -25,6 +27,7 @@ use std::alloc::{AllocError, Global};
 fn children(
     files: &[File],
     alloc: Global,
+    tags: &mut Tags,
     parent: u64,
     child: u64,
 ) -> Result<Vec<Vec<Mapping>>, AllocError>
@@ -32,7 +35,7 @@ fn children(
 {
     let mut lists = Vec::new(alloc);
     for file in files {
-        let Ok(()) = lists.push(file.children(alloc, parent, child)?) else {
+        let Ok(()) = lists.push(file.children(alloc, tags, parent, child)?) else {
             return Err(AllocError);
         };
     }
@@ -97,6 +100,15 @@ fn map_total(files: &[File]) -> u64
     count
 }
 
+// Notes the tags of all maps again.
+fn retag_maps(files: &[File], hints: &mut Hints)
+    ensures { hints.new ≡ hints.old }
+{
+    for file in files {
+        file.retag_maps(hints);
+    }
+}
+
 impl<N: Naming> Files<N> {
     /// How many maps a task has. It takes a step for each file and map.
     pub fn map_count_for(&self, task: u64) -> u64
@@ -125,7 +137,7 @@ impl<N: Naming> Files<N> {
         ensures err { OnErr result (self.new ≡ record self.old { room = self.new.room }) }
         ensures more { OnErr result (self.old.room ≤ self.new.room) }
     {
-        let lists = children(&self.list, self.alloc, parent, child)?;
+        let lists = children(&self.list, self.alloc, &mut self.tags, parent, child)?;
         let hints = self.hints.forked(self.alloc, parent, child)?;
         let room = held.saturating_add(all_copies(&lists));
         let all = room.saturating_add(self.more as u64);
@@ -140,7 +152,7 @@ impl<N: Naming> Files<N> {
         join_all(&mut self.list, lists, &mut self.store, &mut self.more);
         self.list.retain(|f| f.is_used());
         self.hints.take_maps(hints);
-        note_places(&self.list, &mut self.hints);
+        retag_maps(&self.list, &mut self.hints);
         self.maps = map_total(&self.list);
         self.tasks -= (gone.maps > 0) as u64;
         self.tasks += has_task(&self.list, parent) as u64;

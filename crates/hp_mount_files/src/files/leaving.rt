@@ -53,7 +53,6 @@ pub(super) fn drop_maps_of<N: Naming>(
 fn sweep_file<N: Naming>(
     files: &mut Vec<File>,
     at: usize,
-    hints: &mut Hints,
     store: &mut PageStore<N>,
     more: &mut usize,
 ) -> u64
@@ -66,23 +65,12 @@ fn sweep_file<N: Naming>(
         store.old store.new }
     ensures counted { more.new ≡ more_in store.new.pages }
     ensures reserves { result + sum_by file_owed files.new.items ≡ sum_by file_owed files.old.items }
-    ensures hints { hints.new ≡ hints.old }
 {
     if files[at].is_used() {
         return 0;
     }
     let gone = files.remove(at);
-    hints.move_down(at);
     gone.close(store, more)
-}
-
-// Notes again where files and their maps are.
-pub(super) fn note_places(files: &[File], hints: &mut Hints)
-    ensures { hints.new ≡ hints.old }
-{
-    for (at, file) in files.iter().enumerate() {
-        file.note_place(at, hints);
-    }
 }
 
 // Whether a task has a map of one of the files.
@@ -122,7 +110,6 @@ impl<N: Naming> Files<N> {
             &mut self.more,
         );
         self.list.retain(|f| f.is_used());
-        note_places(&self.list, &mut self.hints);
         self.maps -= gone.maps;
         self.tasks -= (gone.maps > 0) as u64;
         gone.reserves
@@ -147,14 +134,7 @@ impl<N: Naming> Files<N> {
         }
         file.remove_map(at.map);
         self.hints.forget_map(task, number);
-        self.hints.move_maps_down(at);
-        let entries = sweep_file(
-            &mut self.list,
-            at.file,
-            &mut self.hints,
-            &mut self.store,
-            &mut self.more,
-        );
+        let entries = sweep_file(&mut self.list, at.file, &mut self.store, &mut self.more);
         self.maps -= 1;
         self.tasks -= !has_task(&self.list, task) as u64;
         reserves + entries

@@ -201,7 +201,7 @@ invariant_of-self-2 g c =
     let enough : c.args.held + more2 ≤ u.room = omega (arith, wide, room, sums, less, was, one.ensures.counted, c.join_all.ensures.more) in
     let parts : more2 ≤ u.room = omega (arith, enough) in
     let keeps = forked_keeps s.hints one.new.hints u0 one.new.store s.more one.new.more s.maps s.tasks fs c.deref_mut.result.now one.new.files _ few is c.args.parent c.args.child c.requires.apart c.deref_mut.ensures.value one.ensures.files one.ensures.dropping one.ensures.counted one.ensures.hints one.result.reserves one.result.maps one.ensures.reserves one.ensures.maps lists ready raw2 c.deref_mut-2.ensures.value c.join_all.new.files c.retain.new.self.items u more2 c.join_all.ensures.files kept_is c.join_all.ensures.sharing c.join_all.ensures.counted parts c.in_ok-hints.hints c.in_ok-hints.ensures c.has_task.result (c.has_task.ensures ∙ ap (list_any (λ (f : NumberedFile). list_any (is_of c.args.parent) f.maps)) c.deref-5.ensures.value) in
-    let hints = c.note_places.ensures ∙ c.take_maps.ensures in
+    let hints = c.retag_maps.ensures ∙ c.take_maps.ensures in
     let total : c.map_total-self-inside.result ≡ map_sum c.retain.new.self.items = c.map_total-self-inside.ensures ∙ ap map_sum c.deref-4.ensures.value in
     files_as _ _ u more2 _ _ _ _ c.retain.new.self.items hints total (count_as s.tasks (byte_is (nat_lt 0 one.result.maps)) (byte_is c.has_task.result)) keeps
 

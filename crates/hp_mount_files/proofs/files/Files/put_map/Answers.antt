@@ -15,8 +15,8 @@ use Rattle.hp_mount_files.proofs.Views.{files_len}
 use Rattle.hp_mount_files.proofs.files.Files.put_map.Given.{Over}
 use Rattle.hp_mount_files.proofs.files.Files.put_map.Goals as goal
 
-pub invariant_of-self : goal.invariant_of-self
-invariant_of-self g c =
+pub invariant_of-self-in_default-note_map : goal.invariant_of-self-in_default-note_map
+invariant_of-self-in_default-note_map g c =
     let s = c.self.inside in
     files_noted s.hints c.note_map.new.self s.store s.more s.maps s.tasks s.list.items c.note_map.ensures.more c.self.invariant
 

@@ -6,7 +6,7 @@ use Rattle.hp_model.specs.files.Mapping.{is_map, is_mapped, is_of, without_range
 use Rattle.hp_model.specs.files.MountCounts.{file_reserves}
 use Rattle.hp_mount_files.specs.Dropping.{IsLeft}
 use Rattle.hp_mount_files.specs.Files.{Files}
-use Rattle.hp_mount_files.specs.Leaving.{IsMoreButMap, file_owed}
+use Rattle.hp_mount_files.specs.Leaving.{file_owed}
 use Rattle.hp_mount_files.specs.Numbered.{NumberedFile, files_shown, mapping_at}
 use Rattle.hp_mount_files.specs.Places.{IsFound}
 use Rattle.hp_mount_files.proofs.Leaving.{files_owe}
@@ -83,7 +83,7 @@ overflow_sub-self-2 g c =
     let one = c.unmap-reserves in
     let mapped = left g found c.if-is_mapped.false in
     let last = c.sweep_file-entries in
-    few_tasks s.hints c.sweep_file-entries.new.hints s.store one.new.store s.more one.new.more s.maps s.tasks s.list.items c.self.invariant c.args.task c.args.number c.args.a c.args.b c.args.at.file c.args.at.map (there g found) c.index_mut-file.result.now one.new.self c.index_mut-file.ensures.value one.ensures.file one.ensures.dropping one.result one.ensures.reserves mapped c.remove_map.new.self c.remove_map.ensures last.new.store last.new.more last.new.files.items last.ensures.files last.ensures.dropping last.ensures.counted last.result last.ensures.reserves (few g found) c.has_task.result (c.has_task.ensures ∙ ap (list_any (λ (f : NumberedFile). list_any (is_of c.args.task) f.maps)) c.deref.ensures.value)
+    few_tasks s.hints c.forget_map.new.self s.store one.new.store s.more one.new.more s.maps s.tasks s.list.items c.self.invariant c.args.task c.args.number c.args.a c.args.b c.args.at.file c.args.at.map (there g found) c.index_mut-file.result.now one.new.self c.index_mut-file.ensures.value one.ensures.file one.ensures.dropping one.result one.ensures.reserves mapped c.remove_map.new.self c.remove_map.ensures last.new.store last.new.more last.new.files.items last.ensures.files last.ensures.dropping last.ensures.counted last.result last.ensures.reserves (few g found) c.has_task.result (c.has_task.ensures ∙ ap (list_any (λ (f : NumberedFile). list_any (is_of c.args.task) f.maps)) c.deref.ensures.value)
 
 pub overflow_add-result : goal.overflow_add-result
 overflow_add-result g c =
@@ -92,7 +92,7 @@ overflow_add-result g c =
     let one = c.unmap-reserves in
     let mapped = left g found c.if-is_mapped.false in
     let last = c.sweep_file-entries in
-    let few = few_reserves s.hints c.sweep_file-entries.new.hints s.store one.new.store s.more one.new.more s.maps s.tasks s.list.items c.self.invariant c.args.task c.args.number c.args.a c.args.b c.args.at.file c.args.at.map (there g found) c.index_mut-file.result.now one.new.self c.index_mut-file.ensures.value one.ensures.file one.ensures.dropping one.result one.ensures.reserves mapped c.remove_map.new.self c.remove_map.ensures last.new.store last.new.more last.new.files.items last.ensures.files last.ensures.dropping last.ensures.counted last.result last.ensures.reserves (few g found) in
+    let few = few_reserves s.hints c.forget_map.new.self s.store one.new.store s.more one.new.more s.maps s.tasks s.list.items c.self.invariant c.args.task c.args.number c.args.a c.args.b c.args.at.file c.args.at.map (there g found) c.index_mut-file.result.now one.new.self c.index_mut-file.ensures.value one.ensures.file one.ensures.dropping one.result one.ensures.reserves mapped c.remove_map.new.self c.remove_map.ensures last.new.store last.new.more last.new.files.items last.ensures.files last.ensures.dropping last.ensures.counted last.result last.ensures.reserves (few g found) in
     omega (arith, few)
 
 pub invariant_of-self-2 : goal.invariant_of-self-2
@@ -102,8 +102,8 @@ invariant_of-self-2 g c =
     let one = c.unmap-reserves in
     let mapped = left g found c.if-is_mapped.false in
     let last = c.sweep_file-entries in
-    went_keeps s.hints c.sweep_file-entries.new.hints s.store one.new.store s.more one.new.more s.maps s.tasks s.list.items c.self.invariant c.args.task c.args.number c.args.a c.args.b c.args.at.file c.args.at.map (there g found) c.index_mut-file.result.now one.new.self c.index_mut-file.ensures.value one.ensures.file one.ensures.dropping one.result one.ensures.reserves mapped c.remove_map.new.self c.remove_map.ensures last.new.store last.new.more last.new.files.items last.ensures.files last.ensures.dropping last.ensures.counted last.result last.ensures.reserves (few g found) c.has_task.result (c.has_task.ensures ∙ ap (list_any (λ (f : NumberedFile). list_any (is_of c.args.task) f.maps)) c.deref.ensures.value)
-    (subst (IsMoreButMap c.args.task c.args.number s.hints) (sym (last.ensures.hints ∙ c.move_maps_down.ensures)) c.forget_map.ensures)
+    went_keeps s.hints c.forget_map.new.self s.store one.new.store s.more one.new.more s.maps s.tasks s.list.items c.self.invariant c.args.task c.args.number c.args.a c.args.b c.args.at.file c.args.at.map (there g found) c.index_mut-file.result.now one.new.self c.index_mut-file.ensures.value one.ensures.file one.ensures.dropping one.result one.ensures.reserves mapped c.remove_map.new.self c.remove_map.ensures last.new.store last.new.more last.new.files.items last.ensures.files last.ensures.dropping last.ensures.counted last.result last.ensures.reserves (few g found) c.has_task.result (c.has_task.ensures ∙ ap (list_any (λ (f : NumberedFile). list_any (is_of c.args.task) f.maps)) c.deref.ensures.value)
+    c.forget_map.ensures
 
 pub returns-clause-files : goal.returns-clause-files
 returns-clause-files g c =
@@ -112,7 +112,7 @@ returns-clause-files g c =
     let one = c.unmap-reserves in
     let mapped = left g found c.if-is_mapped.false in
     let last = c.sweep_file-entries in
-    went_files s.hints c.sweep_file-entries.new.hints s.store one.new.store s.more one.new.more s.maps s.tasks s.list.items c.self.invariant c.args.task c.args.number c.args.a c.args.b c.args.at.file c.args.at.map (there g found) c.index_mut-file.result.now one.new.self c.index_mut-file.ensures.value one.ensures.file one.ensures.dropping one.result one.ensures.reserves mapped c.remove_map.new.self c.remove_map.ensures last.new.store last.new.more last.new.files.items last.ensures.files last.ensures.dropping last.ensures.counted last.result last.ensures.reserves (few g found)
+    went_files s.hints c.forget_map.new.self s.store one.new.store s.more one.new.more s.maps s.tasks s.list.items c.self.invariant c.args.task c.args.number c.args.a c.args.b c.args.at.file c.args.at.map (there g found) c.index_mut-file.result.now one.new.self c.index_mut-file.ensures.value one.ensures.file one.ensures.dropping one.result one.ensures.reserves mapped c.remove_map.new.self c.remove_map.ensures last.new.store last.new.more last.new.files.items last.ensures.files last.ensures.dropping last.ensures.counted last.result last.ensures.reserves (few g found)
     ∙ ap (λ (v : Files). filter is_kept (map (file_unmapped (is_map c.args.task c.args.number) c.args.a c.args.b) v.files)) c.self.view_is
 
 pub returns-clause-left : goal.returns-clause-left
@@ -123,4 +123,4 @@ returns-clause-left g c =
     let mapped = left g found c.if-is_mapped.false in
     let last = c.sweep_file-entries in
     subst (λ v. IsLeft (one.result + last.result) v (view last.new.store last.new.more last.new.files.items)) c.self.view_is
-    (went_left s.hints c.sweep_file-entries.new.hints s.store one.new.store s.more one.new.more s.maps s.tasks s.list.items c.self.invariant c.args.task c.args.number c.args.a c.args.b c.args.at.file c.args.at.map (there g found) c.index_mut-file.result.now one.new.self c.index_mut-file.ensures.value one.ensures.file one.ensures.dropping one.result one.ensures.reserves mapped c.remove_map.new.self c.remove_map.ensures last.new.store last.new.more last.new.files.items last.ensures.files last.ensures.dropping last.ensures.counted last.result last.ensures.reserves (few g found))
+    (went_left s.hints c.forget_map.new.self s.store one.new.store s.more one.new.more s.maps s.tasks s.list.items c.self.invariant c.args.task c.args.number c.args.a c.args.b c.args.at.file c.args.at.map (there g found) c.index_mut-file.result.now one.new.self c.index_mut-file.ensures.value one.ensures.file one.ensures.dropping one.result one.ensures.reserves mapped c.remove_map.new.self c.remove_map.ensures last.new.store last.new.more last.new.files.items last.ensures.files last.ensures.dropping last.ensures.counted last.result last.ensures.reserves (few g found))
