@@ -13,7 +13,7 @@ ghost use Rattle.hp_model.specs.files.Mapping.{is_of};
 ghost use Rattle.hp_model.specs.files.MountCounts.{file_reserves};
 
 use super::Files;
-use super::leaving::{drop_maps_of, has_task};
+use super::leaving::drop_maps_of;
 use crate::file::File;
 use crate::forking::copies_of;
 use crate::hints::Hints;
@@ -76,18 +76,6 @@ fn join_all<N: Naming>(
     }
 }
 
-// How many maps of some files are a task's.
-fn map_total_of(files: &[File], task: u64) -> u64
-    requires { map_sum files.now < 2 ^ 64 }
-    ensures { result ≡ sum_by (λ f. count_by (is_of task) f.maps) files.now }
-{
-    let mut count = 0;
-    for file in files {
-        count += file.map_count_for(task) as u64;
-    }
-    count
-}
-
 // How many maps some files have.
 fn map_total(files: &[File]) -> u64
     requires { map_sum files.now < 2 ^ 64 }
@@ -110,13 +98,11 @@ fn retag_maps(files: &[File], hints: &mut Hints)
 }
 
 impl<N: Naming> Files<N> {
-    /// How many maps a task has. It takes a step for each file and map.
+    /// How many maps a task has.
     pub fn map_count_for(&self, task: u64) -> u64
         ensures { result ≡ count_by (is_of task) (all_maps self.now.files) }
     {
-        // 64 bits count all maps
-        let _all = self.map_count();
-        map_total_of(&self.list, task)
+        self.counts.count(task)
     }
 
     /// A child gets a map for each of its parent's: the same number, range, copies and mark; it owns nothing. Maps that
@@ -139,6 +125,7 @@ impl<N: Naming> Files<N> {
     {
         let lists = children(&self.list, self.alloc, &mut self.tags, parent, child)?;
         let hints = self.hints.forked(self.alloc, parent, child)?;
+        self.counts.make_room()?;
         let room = held.saturating_add(all_copies(&lists));
         let all = room.saturating_add(self.more as u64);
         self.store.make_room(all as usize)?;
@@ -154,8 +141,8 @@ impl<N: Naming> Files<N> {
         self.hints.take_maps(hints);
         retag_maps(&self.list, &mut self.hints);
         self.maps = map_total(&self.list);
-        self.tasks -= (gone.maps > 0) as u64;
-        self.tasks += has_task(&self.list, parent) as u64;
+        let count = self.counts.count(parent);
+        self.counts.set(child, count);
         Ok(gone.reserves)
     }
 }

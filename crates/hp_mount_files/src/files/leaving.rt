@@ -1,8 +1,8 @@
 //! Maps that leave the files.
 ghost use Rattle.std.specs.Prelude.{◌≡◌, ◌^◌, ◌+◌, ◌<◌, ◌≤◌, ℕ, [], length, map, IfNone, IfSome};
-ghost use Rattle.std.specs.List.{filter, list_any, sum_by};
+ghost use Rattle.std.specs.List.{filter, sum_by};
 ghost use Rattle.hp_model.specs.files.GiveBack.{file_unmapped, file_without, is_kept};
-ghost use Rattle.hp_model.specs.files.Mapping.{is_map, is_of};
+ghost use Rattle.hp_model.specs.files.Mapping.{is_map};
 ghost use Rattle.hp_model.specs.files.MountCounts.{file_reserves};
 ghost use Rattle.hp_store.specs.Store.{holders_of, page_at};
 ghost use Rattle.hp_mount_files.specs.Dropping.{HasHolders, IsDropping, IsLeft};
@@ -73,13 +73,6 @@ fn sweep_file<N: Naming>(
     gone.close(store, more)
 }
 
-// Whether a task has a map of one of the files.
-pub(super) fn has_task(files: &[File], task: u64) -> bool
-    ensures { result ≡ list_any (λ f. list_any (is_of task) f.maps) files.now }
-{
-    files.iter().any(|f| f.has_task(task))
-}
-
 impl<N: Naming> Files<N> {
     /// The least number of a task that has a map, if there is a map. It takes a step for each file and map.
     pub fn first_task(&self) -> Option<u64>
@@ -111,14 +104,14 @@ impl<N: Naming> Files<N> {
         );
         self.list.retain(|f| f.is_used());
         self.maps -= gone.maps;
-        self.tasks -= (gone.maps > 0) as u64;
+        self.counts.set(task, 0);
         gone.reserves
     }
 
     /// The file's indices from `a` up to `b` leave a task's map, with its private copies of them and what its owner has not
     /// consumed there. A map without indices goes; so does a file that is left without name and maps, with its pages and
     /// entries. Answers how many reservations went. It takes a step for each index of the range that the map had, and for
-    /// each page that went; where the map goes, one for each file and map. It takes no memory.
+    /// each page that went; and no memory.
     pub fn unmap(&mut self, at: MapPlace, task: u64, number: u64, a: u64, b: u64) -> u64
         requires found { IsFound self.old.files task number at.file at.map }
         requires order { a ≤ b }
@@ -136,7 +129,8 @@ impl<N: Naming> Files<N> {
         self.hints.forget_map(task, number);
         let entries = sweep_file(&mut self.list, at.file, &mut self.store, &mut self.more);
         self.maps -= 1;
-        self.tasks -= !has_task(&self.list, task) as u64;
+        let count = self.counts.count(task);
+        self.counts.set(task, count - 1);
         reserves + entries
     }
 }
