@@ -1,7 +1,7 @@
 -- A file that loses its name, and goes where it has no maps.
-use Rattle.std.proofs.Common.{◌≡◌, ◌==◌, ℕ, zero, suc, ◌+◌, ◌<◌, ◌≤◌, nat_lt, ⊎_elim, Bool, true, false, cond, None, List, [], ◌∷◌, ◌++◌, length, map, refl, sym, ap, subst, ◌∙◌, arith}
+use Rattle.std.proofs.Common.{◌≡◌, ◌==◌, ℕ, zero, suc, ◌+◌, ◌<◌, ◌≤◌, nat_lt, ⊎_elim, Bool, true, false, cond, None, List, [], ◌∷◌, length, map, refl, sym, ap, subst, ◌∙◌, arith}
 use Rattle.std.specs.Prelude.{slice_set, slice_index_or}
-use Rattle.std.specs.List.{All, count_by, filter, flat_map, remove, sum_by}
+use Rattle.std.specs.List.{All, count_by, filter, remove, sum_by}
 use Rattle.std.specs.Str.{bytes_eq}
 use Rattle.std.proofs.lemmas.Slice.Eq.{bytes_eq-Decides}
 use Rattle.std.proofs.lemmas.Bool.{cases_lt}
@@ -66,11 +66,6 @@ module _ {X : Type 0} (d : X) where
   all_left P [] (suc k) each = each
   all_left P (x ∷ xs) zero each = λ i e l. each (suc i) e (omega (arith, l))
   all_left P (x ∷ xs) (suc k) each = All-cons P x (remove xs k) (each 0 x (omega arith)) (all_left P xs k (λ i e l. each (suc i) e (omega (arith, l))))
-
-  flat_left : (f : X → List ℕ) (xs : List X) (k : ℕ) → k < length xs → f (slice_index_or xs k d) ≡ [] → flat_map f (remove xs k) ≡ flat_map f xs
-  flat_left f [] k l e = absurd (omega (arith, l))
-  flat_left f (x ∷ xs) zero l e = ap (λ ys. ys ++ flat_map f xs) (sym e)
-  flat_left f (x ∷ xs) (suc k) l e = ap (λ ys. f x ++ ys) (flat_left f xs k (omega (arith, l)) e)
 
   -- the one that does not pass is the one that goes
   filter_out : (test : X → Bool) (xs : List X) (k : ℕ) (y : X) → k < length xs → test y ≡ false → All (λ x. test x ≡ true) xs → filter test (slice_set xs k y) ≡ remove xs k

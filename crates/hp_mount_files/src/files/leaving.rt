@@ -17,6 +17,9 @@ use crate::hints::Hints;
 use hp_model::naming::Naming;
 use hp_store::PageStore;
 
+// A mount has no more maps, so no map has a greater number.
+const MOST_MAPS: u64 = 4096;
+
 // All maps of a task go from each of some files. A file that is left without name and maps loses its pages and entries.
 pub(super) fn drop_maps_of<N: Naming>(
     task: u64,
@@ -87,14 +90,15 @@ impl<N: Naming> Files<N> {
         least
     }
 
-    /// All maps of a task go, with their private copies and what their owners have not consumed. Files that are left
-    /// without name and maps go, with their pages and entries, and the others move down. Answers how many reservations
-    /// went. It takes a step for each file and map, and for each page and copy that went; and no memory.
-    pub fn exit(&mut self, task: u64) -> u64
+    // The task's maps go, found by going over the files, as by `exit`.
+    fn exit_among_all(&mut self, task: u64) -> u64
         requires { sum_by file_reserves self.old.files < 2 ^ 64 }
         ensures files { self.new.files ≡ filter is_kept (map (file_without task) self.old.files) }
         ensures left { IsLeft result self.old self.new }
     {
+        if !self.has_maps(task) {
+            return 0;
+        }
         let gone = drop_maps_of(
             task,
             &mut self.list,
@@ -106,6 +110,40 @@ impl<N: Naming> Files<N> {
         self.maps -= gone.maps;
         self.counts.set(task, 0);
         gone.reserves
+    }
+
+    // The task's map of that number goes, if there is one. What the task leaves behind in the end is the same.
+    fn exit_map(&mut self, task: u64, number: u64) -> u64
+        requires { sum_by file_reserves self.old.files < 2 ^ 64 }
+        ensures files { filter is_kept (map (file_without task) self.new.files)
+            ≡ filter is_kept (map (file_without task) self.old.files) }
+        ensures left { IsLeft result self.old self.new }
+    {
+        let Some(at) = self.find(task, number) else {
+            return 0;
+        };
+        let map = self.list[at.file].map(at.map);
+        let start = map.start();
+        let end = map.end();
+        self.unmap(at, task, number, start, end)
+    }
+
+    /// All maps of a task go, with their private copies and what their owners have not consumed. Files that are left
+    /// without name and maps go, with their pages and entries, and the others move down. Answers how many reservations
+    /// went. It takes a step for each number up to the greatest of the task's maps, for each index that they had, and for
+    /// each page that went; and no memory.
+    pub fn exit(&mut self, task: u64) -> u64
+        requires { sum_by file_reserves self.old.files < 2 ^ 64 }
+        ensures files { self.new.files ≡ filter is_kept (map (file_without task) self.old.files) }
+        ensures left { IsLeft result self.old self.new }
+    {
+        let mut reserves = 0;
+        let mut number = 1;
+        while number <= MOST_MAPS && self.has_maps(task) {
+            reserves += self.exit_map(task, number);
+            number += 1;
+        }
+        reserves + self.exit_among_all(task)
     }
 
     /// The file's indices from `a` up to `b` leave a task's map, with its private copies of them and what its owner has not

@@ -1,4 +1,4 @@
-use Rattle.std.proofs.Common.{◌≡◌, length, map, ap, subst, refl, rules, ◌∙◌, arith}
+use Rattle.std.proofs.Common.{◌≡◌, length, map, ap, subst, sym, refl, rules, ◌∙◌, arith}
 use Rattle.std.specs.Prelude.{vec_len}
 use Rattle.std.specs.List.{filter, sum_by}
 use Rattle.std.proofs.lemmas.Fn.{filter_same}
@@ -9,9 +9,11 @@ use Rattle.hp_mount_files.specs.Dropping.{IsLeft}
 use Rattle.hp_mount_files.specs.Files.{Files}
 use Rattle.hp_mount_files.specs.Leaving.{file_owed, is_used}
 use Rattle.hp_mount_files.proofs.Exiting.{exit_files, exit_keeps, exit_left}
+use Rattle.hp_mount_files.proofs.GivingBack.{all_kept}
 use Rattle.hp_mount_files.proofs.Leaving.{files_owe}
+use Rattle.hp_mount_files.proofs.OneByOne.{none_leaves}
 use Rattle.hp_mount_files.proofs.Views.{view}
-use Rattle.hp_mount_files.proofs.files.Files.exit.Goals as goal
+use Rattle.hp_mount_files.proofs.files.Files.exit_among_all.Goals as goal
 
 pub drop_maps_of-gone-requires-clause-few : goal.drop_maps_of-gone-requires-clause-few
 drop_maps_of-gone-requires-clause-few g c =
@@ -46,3 +48,9 @@ returns-clause-left g c =
     let kept = filter_same _ is_used _ (λ x b f' k. search rules) _ _ c.retain.ensures.filtered in
     subst (λ v. IsLeft one.result.reserves v (view one.new.store one.new.more c.retain.new.self.items)) c.self.view_is
     (exit_left s.hints one.new.hints s.store one.new.store s.more one.new.more s.maps (count_of s.counts) s.list.items c.deref_mut.result.now one.new.files c.retain.new.self.items _ few c.self.invariant c.args.task c.deref_mut.ensures.value one.ensures.files kept one.ensures.dropping one.ensures.counted one.ensures.hints one.result.reserves one.result.maps one.ensures.reserves one.ensures.maps)
+
+pub returns-then-not-has_maps-clause-files : goal.returns-then-not-has_maps-clause-files
+returns-then-not-has_maps-clause-files g c =
+    let s = c.self.inside in
+    none_leaves c.args.task c.args.self.now.files (sym c.has_maps.ensures ∙ c.if-not-has_maps.true)
+    (subst (λ (v : Files). filter is_kept v.files ≡ v.files) c.self.view_is (all_kept s.store s.list.items c.self.invariant.keyed.kept))
