@@ -6,7 +6,7 @@ use Rattle.std.proofs.lemmas.Bool.{eqb-true, eq-eqb}
 use Rattle.std.proofs.lemmas.Bool.Decides.{nat_tests}
 use Rattle.std.proofs.lemmas.List.{get_or-map, length-append, length-map, map-append}
 use Rattle.std.proofs.lemmas.List.Elements.{All-cons}
-use Rattle.std.proofs.lemmas.List.Sums.{sum_by-append, sum_by-cons}
+use Rattle.std.proofs.lemmas.List.Sums.{length-filter, sum_by-append, sum_by-cons}
 use Rattle.hp_laws.proofs.Places.{sum_by-filter_le}
 use Rattle.hp_model.specs.declared.place.Place.{Place}
 use Rattle.hp_model.specs.declared.place.Place.TheVariants.{Gone, Live}
@@ -273,10 +273,20 @@ module _ (parent child : ℕ) (apart : (parent == child) ≡ false) where
       levels (f ∷ fs) all = All-cons (λ (f : NumberedFile). AreLevel f.maps) (more_of f) (all_of fs) (kids_level f.maps (all 0 f (omega arith))) (levels fs (λ i e l. all (suc i) e (omega (arith, l))))
 
       -- how many maps come
-      pub added_of : List NumberedFile → ℕ
+      added_of : List NumberedFile → ℕ
       added_of fs = sum_by (λ (f : NumberedFile). length (kids f.maps)) fs
 
-      pub maps_more : (fs : List NumberedFile) → map_sum (all_of fs) ≡ map_sum fs + added_of fs
+      added_is : (fs : List NumberedFile) → added_of fs ≡ sum_by (maps_for parent) (labels_of fs)
+      unfolding added_of
+      added_is [] = refl
+      added_is (f ∷ fs) =
+          let rest = added_is fs in
+          let here = length-map (filter (is_of parent) f.maps) (map_for child) in
+          let some = length-filter (is_of parent) f.maps in
+          let own = own_maps parent f in
+          omega (arith, rest, here, some, own, sum_by-cons (λ (f : NumberedFile). length (kids f.maps)) f fs, sum_by-cons (maps_for parent) (label_of f) (labels_of fs))
+
+      maps_more : (fs : List NumberedFile) → map_sum (all_of fs) ≡ map_sum fs + added_of fs
       unfolding added_of
       maps_more [] = refl
       maps_more (f ∷ fs) =
@@ -308,14 +318,14 @@ module _ (parent child : ℕ) (apart : (parent == child) ≡ false) where
           split false x y = refl
 
       pub fork_keeps : (later : Noted) → ((name : List ℕ) → has_noted name later ≡ false → has_noted name n ≡ false) → ((t q : ℕ) → (t == child) ≡ false → has_key t q later ≡ false → sum_by (keys_in t q) (labels_of fs) ≡ 0) → ((q : ℕ) → has_key child q later ≡ false → sum_by (keys_in parent q) (labels_of fs) ≡ 0)
-          → (left : ℕ) (next : ℕ → ℕ) → left ≡ maps + added_of fs → ((q : ℕ) → next q ≡ tally q + cond (child == q) (tally parent) 0) → IsFiles later u more left next (all_of fs)
+          → (left : ℕ) (next : ℕ → ℕ) → left ≡ maps + tally parent → ((q : ℕ) → next q ≡ tally q + cond (child == q) (tally parent) 0) → IsFiles later u more left next (all_of fs)
       fork_keeps later names others mine left next left_is next_is = record {
         held = fork_held;
         keyed = record {
           kept = listed fs is.keyed.kept;
           names = λ name. (let same = names_same name fs in let most = is.keyed.names name in omega (arith, same, most));
           keys = λ t q. at t q (t == child) refl;
-          map_count = (let was = is.keyed.map_count in let old = maps_in fs in let new = maps_in (all_of fs) in let more = maps_more fs in omega (arith, was, old, new, more, left_is));
+          map_count = (let was = is.keyed.map_count in let old = maps_in fs in let new = maps_in (all_of fs) in let more = maps_more fs in let came = added_is fs in let own = is.keyed.tallied parent in omega (arith, was, old, new, more, came, own, left_is));
           tallied = λ q. next_is q ∙ ap (λ n. n + cond (child == q) (tally parent) 0) (is.keyed.tallied q) ∙ ap (λ n. sum_by (maps_for q) (labels_of fs) + cond (child == q) n 0) (is.keyed.tallied parent) ∙ sym (tally_more q fs);
         };
         noted = record {

@@ -19,9 +19,9 @@ use Rattle.hp_mount_files.specs.Keyed.{keys_in, labels_of}
 use Rattle.hp_mount_files.specs.Leaving.{IsMoreButTask, emptied, file_owed, is_used, left_by, map_sum}
 use Rattle.hp_mount_files.specs.Numbered.{NumberedFile, files_shown, with_truncated}
 use Rattle.hp_mount_files.specs.Places.{all_maps}
-use Rattle.hp_mount_files.proofs.Exiting.{exit_files, exit_keeps, exit_keys, exit_left, keys_gone, maps_in}
+use Rattle.hp_mount_files.proofs.Exiting.{exit_files, exit_keeps, exit_keys, exit_left, keys_gone}
 use Rattle.hp_mount_files.proofs.FileLeaves.{empty_file, written_back}
-use Rattle.hp_mount_files.proofs.Forked.{few_kids, fork_held, fork_keeps, fork_shows, in_kids, maps_more, owed_same}
+use Rattle.hp_mount_files.proofs.Forked.{few_kids, fork_held, fork_keeps, fork_shows, in_kids, owed_same}
 use Rattle.hp_mount_files.proofs.Leaving.{files_owe}
 use Rattle.hp_mount_files.proofs.Stored.{stored_at, stored_pages}
 use Rattle.hp_mount_files.proofs.Unique.{maps_counted}
@@ -235,9 +235,6 @@ module _ (n dropped : Noted) (s t : Store) (more now maps : ℕ) (tally : ℕ �
             room = omega (arith, room);
           })
 
-      pub forked_maps : map_sum kept ≡ length (all_maps (files_shown u kept))
-      forked_maps = sym (maps_in kept) ∙ maps_counted u kept
-
       module _ (table : Noted) (noted : IsNotedFor parent child n table) where
         gone_keys : (q : ℕ) → sum_by (keys_in child q) (labels_of K) ≡ 0
         gone_keys q = keys_gone n dropped s t more now maps tally fs raw ended K len few is child raw_is ended_from K_is drops counted grown r k reserves gone q
@@ -245,20 +242,26 @@ module _ (n dropped : Noted) (s t : Store) (more now maps : ℕ) (tally : ℕ �
         fewer : (q m : ℕ) → sum_by (keys_in q m) (labels_of K) ≤ sum_by (keys_in q m) (labels_of fs)
         fewer q m = exit_keys n dropped s t more now maps tally fs raw ended K len few is child raw_is ended_from K_is drops counted grown r k reserves gone q m
 
-        pub forked_keeps : (next : ℕ → ℕ) → ((q : ℕ) → next q ≡ cond (child == q) (tally parent) (tally q)) → IsFiles (record dropped { keys = table.keys }) u more2 (map_sum kept) next kept
+        pub forked_keeps : (next : ℕ → ℕ) → ((q : ℕ) → next q ≡ cond (child == q) (tally parent) (tally q)) → IsFiles (record dropped { keys = table.keys }) u more2 (maps - k + tally parent) next kept
         forked_keeps next next_is =
-            subst (λ gs. IsFiles (record dropped { keys = table.keys }) u more2 (map_sum gs) next gs) (sym kept_all)
+            subst (IsFiles (record dropped { keys = table.keys }) u more2 (maps - k + tally parent) next) (sym kept_all)
             (fork_keeps parent child apart dropped t u now more2 (maps - k) (λ q. cond (child == q) 0 (tally q)) K left sharing counted2 parts gone_keys
             (record dropped { keys = table.keys }) (λ name e. e)
             (λ q m other e. (let none = is.noted.keys q m (noted.others q m other e) in let less = fewer q m in omega (arith, none, less)))
             (λ q e. (let none = is.noted.keys parent q (noted.children q e) in let less = fewer parent q in omega (arith, none, less)))
-            (map_sum (map (λ f. with_children parent child f) K)) next
-            (let all = maps_more parent child apart dropped t u now more2 (maps - k) (λ q. cond (child == q) 0 (tally q)) K left sharing counted2 parts gone_keys K in let count = left.keyed.map_count in let same = maps_in K in omega (arith, all, count, same))
+            (maps - k + tally parent) next (ap (λ b. maps - k + cond b 0 (tally parent)) (sym flip))
             (λ q. next_is q ∙ at q (child == q)))
           where
+            flip : (child == parent) ≡ false
+            flip = grind (arith, nat_tests, apart)
+
             at : (q : ℕ) (b : Bool) → cond b (tally parent) (tally q) ≡ cond b 0 (tally q) + cond b (cond (child == parent) 0 (tally parent)) 0
-            at q true = (let flip : (child == parent) ≡ false = grind (arith, nat_tests, apart) in let own = ap (λ b. cond b 0 (tally parent)) flip in omega (arith, own))
+            at q true = (let own = ap (λ b. cond b 0 (tally parent)) flip in omega (arith, own))
             at q false = omega arith
+
+        -- and they are counted
+        pub forked_few : (next : ℕ → ℕ) → ((q : ℕ) → next q ≡ cond (child == q) (tally parent) (tally q)) → maps - k + tally parent ≡ length (all_maps (files_shown u kept))
+        forked_few next next_is = (forked_keeps next next_is).keyed.map_count ∙ maps_counted u kept
 
 -- the same, as code counts
 pub files_as : (h g : Noted) (u : Store) (more k i : ℕ) (tally : ℕ → ℕ) (gs : List NumberedFile) → g ≡ h → i ≡ k → IsFiles h u more k tally gs → IsFiles g u more i tally gs

@@ -110,16 +110,18 @@ impl File {
         let _gone = self.maps.remove(map);
     }
 
-    /// Notes the tags of its maps, where they were noted. Takes a step for each.
-    pub(crate) fn retag_maps(&self, hints: &mut Hints)
+    /// Notes the tags of a task's maps, where they were noted. Takes a step for each map.
+    pub(crate) fn retag_maps(&self, task: u64, hints: &mut Hints)
         ensures { hints.new ≡ hints.old }
     {
         for map in &self.maps {
-            let tag = MapTag {
-                file: self.tag,
-                map: map.tag(),
-            };
-            hints.retag_map(map.task(), map.number(), tag);
+            if map.task() == task {
+                let tag = MapTag {
+                    file: self.tag,
+                    map: map.tag(),
+                };
+                hints.retag_map(task, map.number(), tag);
+            }
         }
     }
 }

@@ -76,24 +76,12 @@ fn join_all<N: Naming>(
     }
 }
 
-// How many maps some files have.
-fn map_total(files: &[File]) -> u64
-    requires { map_sum files.now < 2 ^ 64 }
-    ensures { result ≡ map_sum files.now }
-{
-    let mut count = 0;
-    for file in files {
-        count += file.map_count() as u64;
-    }
-    count
-}
-
-// Notes the tags of all maps again.
-fn retag_maps(files: &[File], hints: &mut Hints)
+// Notes the tags of a task's maps again.
+fn retag_maps(task: u64, files: &[File], hints: &mut Hints)
     ensures { hints.new ≡ hints.old }
 {
     for file in files {
-        file.retag_maps(hints);
+        file.retag_maps(task, hints);
     }
 }
 
@@ -139,9 +127,10 @@ impl<N: Naming> Files<N> {
         join_all(&mut self.list, lists, &mut self.store, &mut self.more);
         self.list.retain(|f| f.is_used());
         self.hints.take_maps(hints);
-        retag_maps(&self.list, &mut self.hints);
-        self.maps = map_total(&self.list);
+        retag_maps(child, &self.list, &mut self.hints);
         let count = self.counts.count(parent);
+        self.maps -= gone.maps;
+        self.maps += count;
         self.counts.set(child, count);
         Ok(gone.reserves)
     }

@@ -1,4 +1,4 @@
-use Rattle.std.proofs.Common.{◌≡◌, ◌==◌, cond, ℕ, ◌+◌, ◌-◌, ◌<◌, ◌≤◌, ◌^◌, max, length, map, ap, subst, rules, ◌∙◌, arith}
+use Rattle.std.proofs.Common.{◌≡◌, refl, ◌==◌, cond, ℕ, ◌+◌, ◌-◌, ◌<◌, ◌≤◌, ◌^◌, max, length, map, ap, subst, rules, ◌∙◌, arith}
 use Rattle.std.specs.Prelude.{vec_len}
 use Rattle.std.specs.List.{filter, sum_by}
 use Rattle.std.proofs.lemmas.Fn.{filter_same}
@@ -15,7 +15,7 @@ use Rattle.hp_mount_files.specs.Leaving.{file_owed, is_used, map_sum}
 use Rattle.hp_mount_files.specs.Numbered.{files_shown}
 use Rattle.hp_mount_files.specs.Places.{all_maps}
 use Rattle.hp_mount_files.proofs.Entering.{room_keeps, room_view}
-use Rattle.hp_mount_files.proofs.Forks.{files_as, forked_keeps, forked_left, forked_maps, forked_shows, join_held, join_room}
+use Rattle.hp_mount_files.proofs.Forks.{files_as, forked_few, forked_keeps, forked_left, forked_shows, join_held, join_room}
 use Rattle.hp_mount_files.proofs.Leaving.{files_owe}
 use Rattle.hp_mount_files.proofs.Exiting.{maps_in}
 use Rattle.hp_mount_files.proofs.Views.{view}
@@ -86,8 +86,15 @@ join_all-requires-clause-few g c =
     let sums : s.more + c.args.held + sum_by list_copies lists ≤ all = omega (arith, copies, c.saturating_add-room.ensures, c.saturating_add-all.ensures, c.in_ok-make_room-2.ensures.few) in
     omega (arith, sums, less, was, one.ensures.counted, c.in_ok-make_room-2.ensures.few)
 
-pub map_total-self-inside-requires : goal.map_total-self-inside-requires
-map_total-self-inside-requires g c =
+pub overflow_sub-self : goal.overflow_sub-self
+overflow_sub-self g c =
+    let s = c.self.inside in
+    let all = c.self.invariant.keyed.map_count ∙ maps_in s.list.items in
+    let raw = ap map_sum c.deref_mut.ensures.value in
+    omega (arith, all, raw, c.drop_maps_of-gone.ensures.maps)
+
+pub overflow_add-self : goal.overflow_add-self
+overflow_add-self g c =
     let s = c.self.inside in
     let fs = s.list.items in
     let u0 = c.make_room-2.new.self in
@@ -116,10 +123,10 @@ map_total-self-inside-requires g c =
     let shows : files_shown u c.retain.new.self.items ≡ filter is_kept (map (file_forked c.args.parent c.args.child) c.args.self.now.files) =
     forked_shows s.hints one.new.hints u0 one.new.store s.more one.new.more s.maps (count_of s.counts) fs c.deref_mut.result.now one.new.files _ few is c.args.parent c.args.child c.requires.apart c.deref_mut.ensures.value one.ensures.files one.ensures.dropping one.ensures.counted one.ensures.hints one.result.reserves one.result.maps one.ensures.reserves one.ensures.maps lists ready raw2 c.deref_mut-2.ensures.value c.join_all.new.files c.retain.new.self.items u more2 c.join_all.ensures.files kept_is c.join_all.ensures.sharing c.join_all.ensures.counted parts
     ∙ ap (λ (v : Files). filter is_kept (map (file_forked c.args.parent c.args.child) v.files)) (was_view ∙ ap (λ (v : Files). record v { room = max v.room count }) c.self.view_is) in
-    let total = forked_maps s.hints one.new.hints u0 one.new.store s.more one.new.more s.maps (count_of s.counts) fs c.deref_mut.result.now one.new.files _ few is c.args.parent c.args.child c.requires.apart c.deref_mut.ensures.value one.ensures.files one.ensures.dropping one.ensures.counted one.ensures.hints one.result.reserves one.result.maps one.ensures.reserves one.ensures.maps lists ready raw2 c.deref_mut-2.ensures.value c.join_all.new.files c.retain.new.self.items u more2 c.join_all.ensures.files kept_is c.join_all.ensures.sharing c.join_all.ensures.counted parts in
+    let few_maps = forked_few s.hints one.new.hints u0 one.new.store s.more one.new.more s.maps (count_of s.counts) fs c.deref_mut.result.now one.new.files _ few is c.args.parent c.args.child c.requires.apart c.deref_mut.ensures.value one.ensures.files one.ensures.dropping one.ensures.counted one.ensures.hints one.result.reserves one.result.maps one.ensures.reserves one.ensures.maps lists ready raw2 c.deref_mut-2.ensures.value c.join_all.new.files c.retain.new.self.items u more2 c.join_all.ensures.files kept_is c.join_all.ensures.sharing c.join_all.ensures.counted parts c.in_ok-hints.hints c.in_ok-hints.ensures (λ q. cond (c.args.child == q) (count_of s.counts c.args.parent) (count_of s.counts q)) (λ q. refl) in
     let shown = ap (λ gs. length (all_maps gs)) shows in
-    let read = ap map_sum c.deref-4.ensures.value in
-    omega (arith, read, total, shown, c.requires.maps)
+    let known = c.count-count.ensures ∙ c.make_room.ensures.same c.args.parent in
+    omega (arith, few_maps, shown, known, c.requires.maps)
 
 pub invariant_of-self-2 : goal.invariant_of-self-2
 invariant_of-self-2 g c =
@@ -151,7 +158,7 @@ invariant_of-self-2 g c =
     λ q. c.set.ensures q ∙ ap (λ n. cond (c.args.child == q) n ((count_of c.make_room.new.self) q)) (c.count-count.ensures ∙ c.make_room.ensures.same c.args.parent) ∙ ap (cond (c.args.child == q) ((count_of s.counts) c.args.parent)) (c.make_room.ensures.same q) in
     let keeps = forked_keeps s.hints one.new.hints u0 one.new.store s.more one.new.more s.maps (count_of s.counts) fs c.deref_mut.result.now one.new.files _ few is c.args.parent c.args.child c.requires.apart c.deref_mut.ensures.value one.ensures.files one.ensures.dropping one.ensures.counted one.ensures.hints one.result.reserves one.result.maps one.ensures.reserves one.ensures.maps lists ready raw2 c.deref_mut-2.ensures.value c.join_all.new.files c.retain.new.self.items u more2 c.join_all.ensures.files kept_is c.join_all.ensures.sharing c.join_all.ensures.counted parts c.in_ok-hints.hints c.in_ok-hints.ensures (count_of c.set.new.self) next_is in
     let hints = c.retag_maps.ensures ∙ c.take_maps.ensures in
-    let total : c.map_total-self-inside.result ≡ map_sum c.retain.new.self.items = c.map_total-self-inside.ensures ∙ ap map_sum c.deref-4.ensures.value in
+    let total = ap (λ n. s.maps - one.result.maps + n) (c.count-count.ensures ∙ c.make_room.ensures.same c.args.parent) in
     files_as _ _ u more2 _ _ (count_of c.set.new.self) c.retain.new.self.items hints total keeps
 
 pub returns-clause-files : goal.returns-clause-files
@@ -184,8 +191,6 @@ returns-clause-files g c =
     let shows : files_shown u c.retain.new.self.items ≡ filter is_kept (map (file_forked c.args.parent c.args.child) c.args.self.now.files) =
     forked_shows s.hints one.new.hints u0 one.new.store s.more one.new.more s.maps (count_of s.counts) fs c.deref_mut.result.now one.new.files _ few is c.args.parent c.args.child c.requires.apart c.deref_mut.ensures.value one.ensures.files one.ensures.dropping one.ensures.counted one.ensures.hints one.result.reserves one.result.maps one.ensures.reserves one.ensures.maps lists ready raw2 c.deref_mut-2.ensures.value c.join_all.new.files c.retain.new.self.items u more2 c.join_all.ensures.files kept_is c.join_all.ensures.sharing c.join_all.ensures.counted parts
     ∙ ap (λ (v : Files). filter is_kept (map (file_forked c.args.parent c.args.child) v.files)) (was_view ∙ ap (λ (v : Files). record v { room = max v.room count }) c.self.view_is) in
-    let total = forked_maps s.hints one.new.hints u0 one.new.store s.more one.new.more s.maps (count_of s.counts) fs c.deref_mut.result.now one.new.files _ few is c.args.parent c.args.child c.requires.apart c.deref_mut.ensures.value one.ensures.files one.ensures.dropping one.ensures.counted one.ensures.hints one.result.reserves one.result.maps one.ensures.reserves one.ensures.maps lists ready raw2 c.deref_mut-2.ensures.value c.join_all.new.files c.retain.new.self.items u more2 c.join_all.ensures.files kept_is c.join_all.ensures.sharing c.join_all.ensures.counted parts in
-    let shown = ap (λ gs. length (all_maps gs)) shows in
     shows
 
 pub returns-clause-left : goal.returns-clause-left
