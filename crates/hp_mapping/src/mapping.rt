@@ -12,9 +12,12 @@ use std::alloc::{AllocError, Global};
 use std::marker::Model;
 
 /// A task's map of a range of a file. Indices are the file's, in pages.
+///
+/// Its tag is its maker's own, to find it by among others. No contract speaks of it.
 #[derive(Drop)]
 pub struct Mapping {
     alloc: Global,
+    tag: u64,
     task: u64,
     number: u64,
     start: u64,
@@ -47,6 +50,7 @@ impl Mapping {
     /// the memory that the map will ever need but for a fork's.
     pub fn new(
         alloc: Global,
+        tag: u64,
         task: u64,
         number: u64,
         a: u64,
@@ -67,12 +71,17 @@ impl Mapping {
         let places = Places::new(alloc, (b - a) as usize)?;
         Ok(Mapping {
             alloc,
+            tag,
             task,
             number,
             start: a,
             flags,
             places,
         })
+    }
+
+    pub fn tag(&self) -> u64 {
+        self.tag
     }
 
     pub fn task(&self) -> u64
@@ -235,12 +244,13 @@ impl Mapping {
 
     /// The map of a child: of the same number, range, copies and mark. It owns nothing. It takes all the memory that
     /// the child's map will ever need but for a fork's.
-    pub fn fork_for(&self, task: u64) -> Result<Self, AllocError>
+    pub fn fork_for(&self, tag: u64, task: u64) -> Result<Self, AllocError>
         ensures { IfOk result (λ m. m ≡ map_for task self.now) }
     {
         let places = self.places.forked(self.alloc)?;
         Ok(Mapping {
             alloc: self.alloc,
+            tag,
             task,
             number: self.number,
             start: self.start,

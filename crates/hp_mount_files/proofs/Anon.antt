@@ -1,7 +1,6 @@
 -- A file without name more, which has one map.
-use Rattle.std.proofs.Common.{◌≡◌, ℕ, ◌+◌, ◌∷◌, ◌++◌, Bool, true, false, cond, List, [], None, not, refl, sym, ap, subst, ◌∙◌, arith}
-use Rattle.std.specs.List.{flat_map}
-use Rattle.std.proofs.lemmas.List.{append-nil, map-append}
+use Rattle.std.proofs.Common.{◌≡◌, ◌==◌, ℕ, ◌+◌, ◌∷◌, ◌++◌, true, false, cond, List, [], None, refl, sym, ap, subst, ◌∙◌, arith}
+use Rattle.std.proofs.lemmas.List.{map-append}
 use Rattle.hp_model.specs.declared.step.Reserving.{Reserving}
 use Rattle.hp_model.specs.declared.step.Sharing.{Sharing}
 use Rattle.hp_model.specs.files.File.{new_file}
@@ -10,12 +9,12 @@ use Rattle.hp_model.specs.Lists.{is_among}
 use Rattle.hp_store.specs.Store.{Store}
 use Rattle.hp_mount_files.specs.Asking.{entered_from}
 use Rattle.hp_mount_files.specs.Hints.{IsFiles, IsMore, Noted, has_key}
-use Rattle.hp_mount_files.specs.Keyed.{is_key, labels_of, tasks_in}
+use Rattle.hp_mount_files.specs.Keyed.{is_key}
 use Rattle.hp_mount_files.specs.Numbered.{NumberedFile, file_shown, files_shown, new_mapping, with_mapping}
-use Rattle.hp_mount_files.specs.Places.{all_maps, all_tasks}
+use Rattle.hp_mount_files.specs.Places.{all_maps}
 use Rattle.hp_mount_files.proofs.Level.{more_level, none_level}
 use Rattle.hp_mount_files.proofs.Mapped.{file_count, mapped_shown}
-use Rattle.hp_mount_files.proofs.NewKey.{keys_few, other_key, put_distinct, task_known}
+use Rattle.hp_mount_files.proofs.NewKey.{keys_few, other_key}
 use Rattle.hp_mount_files.proofs.Pushing.{pushed}
 use Rattle.hp_mount_files.proofs.Views.{view}
 
@@ -26,21 +25,18 @@ module _ (task number a n : ℕ) (sharing : Sharing) (reserving : Reserving) whe
   abbrev pub anon : NumberedFile
   anon = with_mapping (entered_from sharing reserving a n) (new_mapping task number a n sharing reserving) nameless
 
-  module _ (old : Noted) (s : Store) (more maps tasks : ℕ) (fs : List NumberedFile) (is : IsFiles old s more maps tasks fs) (f : NumberedFile) (gs : List NumberedFile) (f_is : f ≡ anon) (gs_is : gs ≡ fs ++ f ∷ []) where
+  module _ (old : Noted) (s : Store) (more maps : ℕ) (tally : ℕ → ℕ) (fs : List NumberedFile) (is : IsFiles old s more maps tally fs) (f : NumberedFile) (gs : List NumberedFile) (f_is : f ≡ anon) (gs_is : gs ≡ fs ++ f ∷ []) where
     pub anon_view : view s more gs ≡ record (view s more fs) { files = files_shown s fs ++ mapped task number a n sharing reserving (new_file None) ∷ [] }
     anon_view =
         ap (λ xs. record (view s more fs) { files = xs }) (ap (files_shown s) gs_is ∙ map-append (file_shown s) fs (f ∷ [])
         ∙ ap (λ x. files_shown s fs ++ x ∷ []) (ap (file_shown s) f_is ∙ mapped_shown task number a n sharing reserving s nameless))
 
-    pub anon_files : is_among number (numbers_of task (all_maps (files_shown s fs))) ≡ false → (now : Noted) → IsMore old now → has_key task number now ≡ true → (first : Bool) → first ≡ not (is_among task (all_tasks (files_shown s fs)))
-        → IsFiles now s more (maps + 1) (tasks + cond first 1 0) gs
-    anon_files fresh now grown own first first_is =
-        let ts = flat_map tasks_in (labels_of fs) in
-        let known = task_known task s fs first first_is in
-        let put = put_distinct ts (ts ++ task ∷ []) task first (record { front = ts; back = []; before = sym (append-nil ts); after = refl }) known in
-        subst (IsFiles now s more (maps + 1) (tasks + cond first 1 0)) (sym (gs_is ∙ ap (λ x. fs ++ x ∷ []) f_is))
-        (pushed old now s more maps tasks fs is anon (λ m. file_count task number a n sharing reserving m nameless) refl (λ name most. omega (arith, most))
+    pub anon_files : is_among number (numbers_of task (all_maps (files_shown s fs))) ≡ false → (now : Noted) → IsMore old now → has_key task number now ≡ true → (next : ℕ → ℕ) → ((q : ℕ) → next q ≡ tally q + cond (task == q) 1 0)
+        → IsFiles now s more (maps + 1) next gs
+    anon_files fresh now grown own next one_more =
+        subst (IsFiles now s more (maps + 1) next) (sym (gs_is ∙ ap (λ x. fs ++ x ∷ []) f_is))
+        (pushed old now s more maps tally fs is anon (λ m. file_count task number a n sharing reserving m nameless) refl (λ name most. omega (arith, most))
         (λ t m most. (let few = keys_few task number s fs fresh t m (is_key t m (task, number)) refl most in omega (arith, few)))
-        (cond first 1 0) put grown (λ name e. refl)
+        next (λ q. (let more = one_more q in omega (arith, more))) grown (λ name e. refl)
         (λ t m e. (let none = ap (λ b. cond {A = ℕ} b 1 0 + 0) (other_key task number now own t m (is_key t m (task, number)) refl e) in omega (arith, none)))
         (more_level [] (new_mapping task number a n sharing reserving) n refl none_level))

@@ -1,14 +1,13 @@
 -- A file more, which is empty.
-use Rattle.std.proofs.Common.{◌≡◌, ℕ, ◌+◌, ◌≤◌, Bool, true, false, cond, List, [], ◌∷◌, ◌++◌, length, Some, None, refl, sym, ap, subst, ◌∙◌, arith}
-use Rattle.std.specs.List.{count_by, flat_map}
+use Rattle.std.proofs.Common.{◌≡◌, ℕ, ◌+◌, ◌≤◌, Bool, true, false, cond, List, [], ◌∷◌, ◌++◌, Some, None, refl, sym, ap, subst, ◌∙◌, arith}
+use Rattle.std.specs.List.{count_by}
 use Rattle.std.specs.Str.{bytes_eq}
-use Rattle.std.proofs.lemmas.List.{append-nil}
 use Rattle.std.proofs.lemmas.Slice.Eq.{bytes_eq-Decides}
-use Rattle.hp_model.specs.Lists.{distinct, found}
+use Rattle.hp_model.specs.Lists.{found}
 use Rattle.hp_model.specs.machine.SlotEvent.{has_name}
 use Rattle.hp_store.specs.Store.{Store}
 use Rattle.hp_mount_files.specs.Hints.{IsFiles, IsMore, Noted, has_name as has_noted}
-use Rattle.hp_mount_files.specs.Keyed.{has_label, labels_of, tasks_in}
+use Rattle.hp_mount_files.specs.Keyed.{has_label, labels_of}
 use Rattle.hp_mount_files.specs.Numbered.{NumberedFile, files_shown}
 use Rattle.hp_mount_files.proofs.Level.{none_level}
 use Rattle.hp_mount_files.proofs.Pushing.{pushed}
@@ -17,7 +16,7 @@ use Rattle.hp_mount_files.proofs.Unique.{names_counted, none_found}
 abbrev pub empty_file : List ℕ → NumberedFile
 empty_file name = record { name = Some name; cells = []; maps = [] }
 
-module _ (old now : Noted) (s : Store) (more maps tasks : ℕ) (fs : List NumberedFile) (name : List ℕ) (is : IsFiles old s more maps tasks fs) (new : found (has_name name) (files_shown s fs) ≡ None) where
+module _ (old now : Noted) (s : Store) (more maps : ℕ) (tally : ℕ → ℕ) (fs : List NumberedFile) (name : List ℕ) (is : IsFiles old s more maps tally fs) (new : found (has_name name) (files_shown s fs) ≡ None) where
   free : (other : List ℕ) (b : Bool) → bytes_eq name other ≡ b → count_by (has_label other) (labels_of fs) ≤ 1 → count_by (has_label other) (labels_of fs) + cond b 1 0 ≤ 1
   free other true e most =
       let same : name ≡ other = (bytes_eq-Decides name other).0 e in
@@ -34,13 +33,10 @@ module _ (old now : Noted) (s : Store) (more maps tasks : ℕ) (fs : List Number
         cc
     other_name other false e none = refl
 
-    pub created : (f : NumberedFile) (hs : List NumberedFile) → f ≡ empty_file name → hs ≡ fs ++ f ∷ [] → IsFiles now s more maps tasks hs
+    pub created : (f : NumberedFile) (hs : List NumberedFile) → f ≡ empty_file name → hs ≡ fs ++ f ∷ [] → IsFiles now s more maps tally hs
     created f hs f_is hs_is =
         let same_maps : maps + 0 ≡ maps = omega arith in
-        let same_tasks : tasks + 0 ≡ tasks = omega arith in
-        let ts = flat_map tasks_in (labels_of fs) in
-        let none_more : length (distinct (ts ++ [])) ≡ length (distinct ts) + 0 = (let same = ap (λ xs. length (distinct xs)) (append-nil ts) in omega (arith, same)) in
-        subst (IsFiles now s more maps tasks) (sym (hs_is ∙ ap (λ x. fs ++ x ∷ []) f_is))
-        (subst (λ n. IsFiles now s more n tasks (fs ++ empty_file name ∷ [])) same_maps (subst (λ n. IsFiles now s more (maps + 0) n (fs ++ empty_file name ∷ [])) same_tasks
-        (pushed old now s more maps tasks fs is (empty_file name) (λ n. refl) refl (λ other most. free other (bytes_eq name other) refl most) (λ t m most. omega (arith, most)) 0 none_more
-        grown (λ other e. other_name other (bytes_eq name other) refl e) (λ t m e. refl) none_level)))
+        subst (IsFiles now s more maps tally) (sym (hs_is ∙ ap (λ x. fs ++ x ∷ []) f_is))
+        (subst (λ n. IsFiles now s more n tally (fs ++ empty_file name ∷ [])) same_maps
+        (pushed old now s more maps tally fs is (empty_file name) (λ n. refl) refl (λ other most. free other (bytes_eq name other) refl most) (λ t m most. omega (arith, most)) tally (λ q. omega arith)
+        grown (λ other e. other_name other (bytes_eq name other) refl e) (λ t m e. refl) none_level))

@@ -1,27 +1,23 @@
 -- Files whose maps of a parent are followed by a child's.
 use Rattle.std.proofs.Common.{◌≡◌, ℕ, zero, suc, ◌+◌, ◌-◌, ◌<◌, ◌≤◌, ◌==◌, ◌||◌, ◌&&◌, ⊎_elim, ◌⊎◌, inl, inr, nat_lt, Bool, true, false, cond, Some, None, List, [], ◌∷◌, ◌++◌, length, map, refl, sym, ap, ◌∙◌, arith}
 use Rattle.std.specs.Prelude.{is_some, slice_index_or}
-use Rattle.std.specs.List.{All, count_by, filter, flat_map, list_any, sum_by}
+use Rattle.std.specs.List.{All, count_by, filter, sum_by}
 use Rattle.std.proofs.lemmas.Bool.{eqb-true, eq-eqb}
 use Rattle.std.proofs.lemmas.Bool.Decides.{nat_tests}
 use Rattle.std.proofs.lemmas.List.{get_or-map, length-append, length-map, map-append}
 use Rattle.std.proofs.lemmas.List.Elements.{All-cons}
-use Rattle.std.proofs.lemmas.List.Folds.{list_any-append}
-use Rattle.std.proofs.lemmas.List.Sums.{sum_by-append, sum_by-cons}
-use Rattle.hp_laws.proofs.Holding.{one_more_member}
+use Rattle.std.proofs.lemmas.List.Sums.{length-filter, sum_by-append, sum_by-cons}
 use Rattle.hp_laws.proofs.Places.{sum_by-filter_le}
 use Rattle.hp_model.specs.declared.place.Place.{Place}
 use Rattle.hp_model.specs.declared.place.Place.TheVariants.{Gone, Live}
 use Rattle.hp_model.specs.files.File.{File}
 use Rattle.hp_model.specs.files.Mapping.{Mapping, copy_of, is_map, is_of, map_for, place_at, unconsumed}
-use Rattle.hp_model.specs.Lists.{distinct, is_among}
-use Rattle.hp_model.proofs.Counting.{count_cons}
-use Rattle.hp_model.proofs.Distinct.{same_members}
+use Rattle.hp_model.proofs.Counting.{count_cons, count_map}
 use Rattle.hp_store.specs.Store.{Store}
 use Rattle.hp_mount_files.specs.Forking.{IsSharing, children_of, with_children}
 use Rattle.hp_mount_files.specs.Held.{IsHeld, in_cell, in_cells, in_file, in_files, in_map, in_place, more_in}
 use Rattle.hp_mount_files.specs.Hints.{IsFiles, Noted, has_key, has_name as has_noted}
-use Rattle.hp_mount_files.specs.Keyed.{Label, has_label, is_listed, key_of, keys_in, label_of, labels_of, tasks_in}
+use Rattle.hp_mount_files.specs.Keyed.{Label, has_label, is_listed, key_of, keys_in, label_of, labels_of, maps_for}
 use Rattle.hp_mount_files.specs.Leaving.{file_owed, map_sum, owed}
 use Rattle.hp_mount_files.specs.Level.{AreLevel, copy_in}
 use Rattle.hp_mount_files.specs.Numbered.{NumberedFile, file_shown, files_shown, map_shown, numbered_at, place_shown}
@@ -31,7 +27,7 @@ use Rattle.hp_mount_files.proofs.Exiting.{keys_are, maps_in}
 use Rattle.hp_mount_files.proofs.Level.{fewer_level, kept_copy, mapped_copy}
 use Rattle.hp_mount_files.proofs.Mapped.{sum_mapped, sum_through}
 use Rattle.hp_mount_files.proofs.Staying.{files_stay}
-use Rattle.hp_mount_files.proofs.Used.{any_of_task}
+use Rattle.hp_mount_files.proofs.Tallies.{own_maps}
 
 -- ---- one map of a child
 
@@ -93,21 +89,26 @@ module _ (parent child : ℕ) (apart : (parent == child) ≡ false) where
   kids_of_other : (t q : ℕ) → (child == t) ≡ false → (ms : List (Mapping ℕ)) → count_by (is_map t q) (kids ms) ≡ 0
   kids_of_other t q other ms = none_mapped (λ m. cond {A = ℕ} (is_map t q m) 1 0) (map_for child) (λ m. ap (λ b. cond {A = ℕ} (b && (m.number == q)) 1 0) other) (filter (is_of parent) ms)
 
-  kids_any : (t : ℕ) (ms : List (Mapping ℕ)) → list_any (is_of t) (kids ms) ≡ ((child == t) && list_any (is_of parent) ms)
-  kids_any t [] = nothing (child == t)
+  -- the child has as many as the parent
+  kids_count : (q : ℕ) (ms : List (Mapping ℕ)) → count_by (is_of q) (kids ms) ≡ cond (child == q) (count_by (is_of parent) ms) 0
+  kids_count q ms = count_map (is_of q) (map_for child) (filter (is_of parent) ms) ∙ by (child == q)
     where
-      nothing : (b : Bool) → false ≡ (b && false)
-      nothing true = refl
-      nothing false = refl
-  kids_any t (m ∷ ms) = at (is_of parent m) (kids_any t ms)
-    where
-      at : (b : Bool) → list_any (is_of t) (kids ms) ≡ ((child == t) && list_any (is_of parent) ms) → list_any (is_of t) (map (map_for child) (cond b (m ∷ filter (is_of parent) ms) (filter (is_of parent) ms))) ≡ ((child == t) && (b || list_any (is_of parent) ms))
-      at true rest = ap (λ c. (child == t) || c) rest ∙ absorbed (child == t) (list_any (is_of parent) ms)
+      by : (b : Bool) → count_by (λ (m : Mapping ℕ). b) (filter (is_of parent) ms) ≡ cond b (count_by (is_of parent) ms) 0
+      by true = all ms
         where
-          absorbed : (a b : Bool) → (a || (a && b)) ≡ (a && true)
-          absorbed true b = refl
-          absorbed false b = refl
-      at false rest = rest
+          all : (ms : List (Mapping ℕ)) → count_by (λ (m : Mapping ℕ). true) (filter (is_of parent) ms) ≡ count_by (is_of parent) ms
+          all [] = refl
+          all (m ∷ ms) = at (is_of parent m) refl (all ms) (count_cons (is_of parent) m ms)
+            where
+              at : (b : Bool) → is_of parent m ≡ b → count_by (λ (m : Mapping ℕ). true) (filter (is_of parent) ms) ≡ count_by (is_of parent) ms → count_by (is_of parent) (m ∷ ms) ≡ cond (is_of parent m) 1 0 + count_by (is_of parent) ms
+                  → count_by (λ (m : Mapping ℕ). true) (cond b (m ∷ filter (is_of parent) ms) (filter (is_of parent) ms)) ≡ count_by (is_of parent) (m ∷ ms)
+              at true e rest step = (let here = ap (λ b. cond {A = ℕ} b 1 0 + 0) e in let one = count_cons (λ (m : Mapping ℕ). true) m (filter (is_of parent) ms) in omega (arith, rest, step, here, one))
+              at false e rest step = (let here = ap (λ b. cond {A = ℕ} b 1 0 + 0) e in omega (arith, rest, step, here))
+      by false = none (filter (is_of parent) ms)
+        where
+          none : (ms : List (Mapping ℕ)) → count_by (λ (m : Mapping ℕ). false) ms ≡ 0
+          none [] = refl
+          none (m ∷ ms) = (let rest = none ms in let step = count_cons (λ (m : Mapping ℕ). false) m ms in omega (arith, rest, step))
 
   kids_shown : (s : Store) (ms : List (Mapping ℕ)) → map (map_shown s) (kids ms) ≡ map (map_for child) (filter (is_of parent) (map (map_shown s) ms))
   kids_shown s [] = refl
@@ -184,7 +185,7 @@ module _ (parent child : ℕ) (apart : (parent == child) ≡ false) where
   pub owed_same : (fs : List NumberedFile) → sum_by file_owed (all_of fs) ≡ sum_by file_owed fs
   owed_same fs = sum_mapped file_owed (λ f. more_of f) (λ f. (let both = sum_by-append owed f.maps (kids f.maps) in let none = kids_owed f.maps in omega (arith, both, none))) fs
 
-  module _ (n : Noted) (t u : Store) (now more maps tasks : ℕ) (fs : List NumberedFile) (is : IsFiles n t now maps tasks fs) (sharing : IsSharing (λ m. in_kids m fs) t u) (counted : more ≡ more_in u.pages) (parts : more ≤ u.room) where
+  module _ (n : Noted) (t u : Store) (now more maps : ℕ) (tally : ℕ → ℕ) (fs : List NumberedFile) (is : IsFiles n t now maps tally fs) (sharing : IsSharing (λ m. in_kids m fs) t u) (counted : more ≡ more_in u.pages) (parts : more ≤ u.room) where
     pub fork_held : IsHeld u more (all_of fs)
     fork_held = record {
       held = λ m. (let had = is.held.held m in let came = sharing.held m in let all = files_more m fs in omega (arith, had, came, all));
@@ -224,7 +225,7 @@ module _ (parent child : ℕ) (apart : (parent == child) ≡ false) where
 
     -- ---- what they are called
 
-    module _ (gone : (q : ℕ) → sum_by (keys_in child q) (labels_of fs) ≡ 0) (no_task : is_among child (flat_map tasks_in (labels_of fs)) ≡ false) where
+    module _ (gone : (q : ℕ) → sum_by (keys_in child q) (labels_of fs) ≡ 0) where
       keys_more : (t q : ℕ) (f : NumberedFile) → keys_in t q (label_of (more_of f)) ≡ keys_in t q (label_of f) + count_by (is_map t q) (kids f.maps)
       keys_more t q f =
           let all = keys_are child t q (more_of f) in
@@ -272,10 +273,20 @@ module _ (parent child : ℕ) (apart : (parent == child) ≡ false) where
       levels (f ∷ fs) all = All-cons (λ (f : NumberedFile). AreLevel f.maps) (more_of f) (all_of fs) (kids_level f.maps (all 0 f (omega arith))) (levels fs (λ i e l. all (suc i) e (omega (arith, l))))
 
       -- how many maps come
-      pub added_of : List NumberedFile → ℕ
+      added_of : List NumberedFile → ℕ
       added_of fs = sum_by (λ (f : NumberedFile). length (kids f.maps)) fs
 
-      pub maps_more : (fs : List NumberedFile) → map_sum (all_of fs) ≡ map_sum fs + added_of fs
+      added_is : (fs : List NumberedFile) → added_of fs ≡ sum_by (maps_for parent) (labels_of fs)
+      unfolding added_of
+      added_is [] = refl
+      added_is (f ∷ fs) =
+          let rest = added_is fs in
+          let here = length-map (filter (is_of parent) f.maps) (map_for child) in
+          let some = length-filter (is_of parent) f.maps in
+          let own = own_maps parent f in
+          omega (arith, rest, here, some, own, sum_by-cons (λ (f : NumberedFile). length (kids f.maps)) f fs, sum_by-cons (maps_for parent) (label_of f) (labels_of fs))
+
+      maps_more : (fs : List NumberedFile) → map_sum (all_of fs) ≡ map_sum fs + added_of fs
       unfolding added_of
       maps_more [] = refl
       maps_more (f ∷ fs) =
@@ -283,59 +294,39 @@ module _ (parent child : ℕ) (apart : (parent == child) ≡ false) where
           let both = length-append f.maps (kids f.maps) in
           omega (arith, rest, both, sum_by-cons (λ (f : NumberedFile). length f.maps) (more_of f) (all_of fs), sum_by-cons (λ (f : NumberedFile). length f.maps) f fs, sum_by-cons (λ (f : NumberedFile). length (kids f.maps)) f fs)
 
-      abbrev tasks_of : List NumberedFile → List ℕ
-      tasks_of gs = flat_map tasks_in (labels_of gs)
-
-      among_more : (q : ℕ) → is_among q (tasks_of (all_of fs)) ≡ (is_among q (tasks_of fs) || ((child == q) && is_among parent (tasks_of fs)))
-      among_more q = any_of_task q (all_of fs) ∙ each fs ∙ sym (ap (λ b. b || ((child == q) && is_among parent (tasks_of fs))) (any_of_task q fs) ∙ ap (λ b. list_any (λ (f : NumberedFile). list_any (is_of q) f.maps) fs || ((child == q) && b)) (any_of_task parent fs))
+      -- how many maps each task has
+      tally_more : (q : ℕ) (fs : List NumberedFile) → sum_by (maps_for q) (labels_of (all_of fs)) ≡ sum_by (maps_for q) (labels_of fs) + cond (child == q) (sum_by (maps_for parent) (labels_of fs)) 0
+      tally_more q [] = none (child == q)
         where
-          mix : (a b c d e : Bool) → ((a || (c && b)) || (d || (c && e))) ≡ ((a || d) || (c && (b || e)))
-          mix true b c d e = refl
-          mix false true true true e = refl
-          mix false true true false e = refl
-          mix false true false d e = refl
-          mix false false true d e = refl
-          mix false false false d e = refl
-
-          each : (fs : List NumberedFile) → list_any (λ (f : NumberedFile). list_any (is_of q) f.maps) (all_of fs) ≡ (list_any (λ (f : NumberedFile). list_any (is_of q) f.maps) fs || ((child == q) && list_any (λ (f : NumberedFile). list_any (is_of parent) f.maps) fs))
-          each [] = kids_any q []
-          each (f ∷ fs) =
-              ap (λ b. b || list_any (λ (f : NumberedFile). list_any (is_of q) f.maps) (all_of fs)) (list_any-append (is_of q) f.maps (kids f.maps) ∙ ap (λ b. list_any (is_of q) f.maps || b) (kids_any q f.maps))
-              ∙ ap (λ b. (list_any (is_of q) f.maps || ((child == q) && list_any (is_of parent) f.maps)) || b) (each fs)
-              ∙ mix (list_any (is_of q) f.maps) (list_any (is_of parent) f.maps) (child == q) (list_any (λ (f : NumberedFile). list_any (is_of q) f.maps) fs) (list_any (λ (f : NumberedFile). list_any (is_of parent) f.maps) fs)
-
-      pub among_parent : is_among parent (tasks_of (all_of fs)) ≡ is_among parent (tasks_of fs)
-      among_parent = among_more parent ∙ ap (λ b. is_among parent (tasks_of fs) || (b && is_among parent (tasks_of fs))) (let flip : (child == parent) ≡ false = grind (arith, nat_tests, apart) in flip) ∙ no_more (is_among parent (tasks_of fs))
+          none : (b : Bool) → sum_by (maps_for q) [] ≡ sum_by (maps_for q) [] + cond {A = ℕ} b 0 0
+          none true = refl
+          none false = refl
+      tally_more q (f ∷ fs) =
+          let here = own_maps q (more_of f) in
+          let both = sum_by-append (λ (m : Mapping ℕ). cond {A = ℕ} (is_of q m) 1 0) f.maps (kids f.maps) in
+          let its = kids_count q f.maps in
+          let old = own_maps q f in
+          let from = own_maps parent f in
+          let rest = tally_more q fs in
+          let sum = split (child == q) (maps_for parent (label_of f)) (sum_by (maps_for parent) (labels_of fs)) in
+          let own = ap (λ n. cond (child == q) n 0) from in
+          let all = ap (λ n. cond (child == q) n 0) (sum_by-cons (maps_for parent) (label_of f) (labels_of fs)) in
+          omega (arith, here, both, its, old, rest, sum, own, all, sum_by-cons (maps_for q) (label_of (more_of f)) (labels_of (all_of fs)), sum_by-cons (maps_for q) (label_of f) (labels_of fs))
         where
-          no_more : (b : Bool) → (b || false) ≡ b
-          no_more true = refl
-          no_more false = refl
-
-      tasks_more : (b : Bool) → is_among parent (tasks_of fs) ≡ b → length (distinct (tasks_of (all_of fs))) ≡ length (distinct (tasks_of fs)) + cond b 1 0
-      tasks_more true there = one_more_member child (tasks_of fs) (tasks_of (all_of fs)) (λ q. among_more q ∙ ap (λ b. is_among q (tasks_of fs) || ((child == q) && b)) there ∙ swap (is_among q (tasks_of fs)) (child == q)) no_task
-        where
-          swap : (a b : Bool) → (a || (b && true)) ≡ (b || a)
-          swap true true = refl
-          swap true false = refl
-          swap false true = refl
-          swap false false = refl
-      tasks_more false none = (let same = same_members (tasks_of (all_of fs)) (tasks_of fs) (λ q. among_more q ∙ ap (λ b. is_among q (tasks_of fs) || ((child == q) && b)) none ∙ drop_it (is_among q (tasks_of fs)) (child == q)) in omega (arith, same))
-        where
-          drop_it : (a b : Bool) → (a || (b && false)) ≡ a
-          drop_it true b = refl
-          drop_it false true = refl
-          drop_it false false = refl
+          split : (b : Bool) (x y : ℕ) → cond b (x + y) 0 ≡ cond b x 0 + cond b y 0
+          split true x y = refl
+          split false x y = refl
 
       pub fork_keeps : (later : Noted) → ((name : List ℕ) → has_noted name later ≡ false → has_noted name n ≡ false) → ((t q : ℕ) → (t == child) ≡ false → has_key t q later ≡ false → sum_by (keys_in t q) (labels_of fs) ≡ 0) → ((q : ℕ) → has_key child q later ≡ false → sum_by (keys_in parent q) (labels_of fs) ≡ 0)
-          → (left left_tasks : ℕ) (b : Bool) → is_among parent (tasks_of fs) ≡ b → left ≡ maps + added_of fs → left_tasks ≡ tasks + cond b 1 0 → IsFiles later u more left left_tasks (all_of fs)
-      fork_keeps later names others mine left left_tasks b there left_is tasks_are = record {
+          → (left : ℕ) (next : ℕ → ℕ) → left ≡ maps + tally parent → ((q : ℕ) → next q ≡ tally q + cond (child == q) (tally parent) 0) → IsFiles later u more left next (all_of fs)
+      fork_keeps later names others mine left next left_is next_is = record {
         held = fork_held;
         keyed = record {
           kept = listed fs is.keyed.kept;
           names = λ name. (let same = names_same name fs in let most = is.keyed.names name in omega (arith, same, most));
           keys = λ t q. at t q (t == child) refl;
-          map_count = (let was = is.keyed.map_count in let old = maps_in fs in let new = maps_in (all_of fs) in let more = maps_more fs in omega (arith, was, old, new, more, left_is));
-          task_count = (let was = is.keyed.task_count in let more = tasks_more b there in omega (arith, was, more, tasks_are));
+          map_count = (let was = is.keyed.map_count in let old = maps_in fs in let new = maps_in (all_of fs) in let more = maps_more fs in let came = added_is fs in let own = is.keyed.tallied parent in omega (arith, was, old, new, more, came, own, left_is));
+          tallied = λ q. next_is q ∙ ap (λ n. n + cond (child == q) (tally parent) 0) (is.keyed.tallied q) ∙ ap (λ n. sum_by (maps_for q) (labels_of fs) + cond (child == q) n 0) (is.keyed.tallied parent) ∙ sym (tally_more q fs);
         };
         noted = record {
           names = λ name e. (let same = names_same name fs in let none = is.noted.names name (names name e) in omega (arith, same, none));

@@ -2,7 +2,7 @@
 use Rattle.std.proofs.Common.{◌≡◌, ℕ, ◌+◌, ◌-◌, ◌≤◌, ◌==◌, ◌||◌, nat_lt, Bool, true, false, not, cond, List, [], ◌∷◌, ◌++◌, length, take, drop, map, refl, sym, ap, subst, ◌∙◌, arith}
 use Rattle.std.specs.Global.{Vec}
 use Rattle.std.specs.Prelude.{is_some}
-use Rattle.std.specs.List.{filter, flat_map, list_any, sum_by}
+use Rattle.std.specs.List.{filter, sum_by}
 use Rattle.std.proofs.lemmas.Bool.Decides.{nat_tests}
 use Rattle.std.proofs.lemmas.List.{length-map}
 use Rattle.std.proofs.lemmas.List.Sums.{sum_by-cons}
@@ -10,24 +10,21 @@ use Rattle.hp_model.specs.files.File.{File}
 use Rattle.hp_model.specs.files.Fork.{file_forked}
 use Rattle.hp_model.specs.files.GiveBack.{file_without, is_kept}
 use Rattle.hp_model.specs.files.Mapping.{Map, Mapping, is_of, map_for, map_punched}
-use Rattle.hp_model.specs.Lists.{distinct, is_among}
 use Rattle.hp_store.specs.Store.{Store, holders_of, page_at}
 use Rattle.hp_mount_files.specs.Dropping.{IsDropping, IsLeft, count_at}
 use Rattle.hp_mount_files.specs.Forking.{AreReady, HaveRoom, IsNotedFor, IsSharing, children_of, in_list, in_lists, joined, with_children}
 use Rattle.hp_mount_files.specs.Held.{in_files, in_map, more_in}
 use Rattle.hp_mount_files.specs.Hints.{IsFiles, Noted}
-use Rattle.hp_mount_files.specs.Keyed.{keys_in, labels_of, tasks_in}
+use Rattle.hp_mount_files.specs.Keyed.{keys_in, labels_of}
 use Rattle.hp_mount_files.specs.Leaving.{IsMoreButTask, emptied, file_owed, is_used, left_by, map_sum}
 use Rattle.hp_mount_files.specs.Numbered.{NumberedFile, files_shown, with_truncated}
 use Rattle.hp_mount_files.specs.Places.{all_maps}
-use Rattle.hp_mount_files.proofs.Exiting.{among_none, exit_files, exit_keeps, exit_keys, exit_left, exit_tasks, keys_gone, maps_in}
+use Rattle.hp_mount_files.proofs.Exiting.{exit_files, exit_keeps, exit_keys, exit_left, keys_gone}
 use Rattle.hp_mount_files.proofs.FileLeaves.{empty_file, written_back}
-use Rattle.hp_mount_files.proofs.Forked.{among_parent, few_kids, fork_held, fork_keeps, fork_shows, in_kids, maps_more, owed_same}
+use Rattle.hp_mount_files.proofs.Forked.{few_kids, fork_held, fork_keeps, fork_shows, in_kids, owed_same}
 use Rattle.hp_mount_files.proofs.Leaving.{files_owe}
-use Rattle.hp_mount_files.proofs.MapNumbers.{distinct_few}
 use Rattle.hp_mount_files.proofs.Stored.{stored_at, stored_pages}
-use Rattle.hp_mount_files.proofs.Unique.{maps_counted, tasks_counted}
-use Rattle.hp_mount_files.proofs.Used.{any_of_task}
+use Rattle.hp_mount_files.proofs.Unique.{maps_counted}
 use Rattle.hp_mount_files.proofs.Views.{view}
 
 -- ---- a parent's maps are no child's
@@ -163,7 +160,7 @@ module _ (parent child : ℕ) (apart : (parent == child) ≡ false) where
 
 -- ---- the maps of the child's number are gone
 
-module _ (n dropped : Noted) (s t : Store) (more now maps tasks : ℕ) (fs raw ended : List NumberedFile) (len : ℕ) (few : length fs ≡ len) (is : IsFiles n s more maps tasks fs) (parent child : ℕ) (apart : (parent == child) ≡ false) (raw_is : raw ≡ fs) (ended_from : ended ≡ map (λ f. emptied (left_by child f)) raw)
+module _ (n dropped : Noted) (s t : Store) (more now maps : ℕ) (tally : ℕ → ℕ) (fs raw ended : List NumberedFile) (len : ℕ) (few : length fs ≡ len) (is : IsFiles n s more maps tally fs) (parent child : ℕ) (apart : (parent == child) ≡ false) (raw_is : raw ≡ fs) (ended_from : ended ≡ map (λ f. emptied (left_by child f)) raw)
     (drops : IsDropping (λ m. in_files m raw) (λ m. in_files m ended) s t) (counted : now ≡ more_in t.pages) (grown : IsMoreButTask child n dropped) (r k : ℕ) (reserves : r + sum_by file_owed ended ≡ sum_by file_owed raw) (gone : k + map_sum ended ≡ map_sum raw) (lists : List (Vec (Mapping ℕ))) (ready : AreReady parent child fs lists) where
   ended_is : ended ≡ map (λ f. emptied (left_by child f)) fs
   ended_is = ended_from ∙ ap (map (λ f. emptied (left_by child f))) raw_is
@@ -183,11 +180,8 @@ module _ (n dropped : Noted) (s t : Store) (more now maps tasks : ℕ) (fs raw e
   K_is : K ≡ filter is_used back
   K_is = sym (ap (filter is_used) back_is)
 
-  left : IsFiles dropped t now (maps - k) (tasks - cond (nat_lt 0 k) 1 0) K
-  left = exit_keeps n dropped s t more now maps tasks fs raw ended K len few is child raw_is ended_from K_is drops counted grown r k reserves gone (maps - k) (tasks - cond (nat_lt 0 k) 1 0) refl refl
-
-  pub stale_tasks : cond (nat_lt 0 k) 1 0 ≤ tasks
-  stale_tasks = exit_tasks n dropped s t more now maps tasks fs raw ended K len few is child raw_is ended_from K_is drops counted grown r k reserves gone
+  left : IsFiles dropped t now (maps - k) (λ q. cond (child == q) 0 (tally q)) K
+  left = exit_keeps n dropped s t more now maps tally fs raw ended K len few is child raw_is ended_from K_is drops counted grown r k reserves gone (maps - k) (λ q. cond (child == q) 0 (tally q)) refl (λ q. refl)
 
   ready_now : AreReady parent child ended lists
   ready_now = subst (λ gs. AreReady parent child gs lists) (sym ended_is) (ready_ended parent child apart fs lists ready)
@@ -224,14 +218,14 @@ module _ (n dropped : Noted) (s t : Store) (more now maps tasks : ℕ) (fs raw e
 
       pub forked_shows : files_shown u kept ≡ filter is_kept (map (file_forked parent child) (files_shown s fs))
       forked_shows =
-          ap (files_shown u) kept_all ∙ fork_shows parent child apart dropped t u now more2 (maps - k) (tasks - cond (nat_lt 0 k) 1 0) K left sharing counted2 parts
-          ∙ ap (map (λ f. grown_by parent child apart f)) (exit_files n dropped s t more now maps tasks fs raw ended K len few is child raw_is ended_from K_is drops counted grown r k reserves gone)
+          ap (files_shown u) kept_all ∙ fork_shows parent child apart dropped t u now more2 (maps - k) (λ q. cond (child == q) 0 (tally q)) K left sharing counted2 parts
+          ∙ ap (map (λ f. grown_by parent child apart f)) (exit_files n dropped s t more now maps tally fs raw ended K len few is child raw_is ended_from K_is drops counted grown r k reserves gone)
           ∙ forked_is parent child apart (files_shown s fs)
 
       pub forked_left : (held : ℕ) → held + more2 ≤ u.room → IsLeft r (record (view s more fs) { room = held }) (view u more2 kept)
       forked_left held room =
-          let gave = exit_left n dropped s t more now maps tasks fs raw ended K len few is child raw_is ended_from K_is drops counted grown r k reserves gone in
-          let now_held = fork_held parent child apart dropped t u now more2 (maps - k) (tasks - cond (nat_lt 0 k) 1 0) K left sharing counted2 parts in
+          let gave = exit_left n dropped s t more now maps tally fs raw ended K len few is child raw_is ended_from K_is drops counted grown r k reserves gone in
+          let now_held = fork_held parent child apart dropped t u now more2 (maps - k) (λ q. cond (child == q) 0 (tally q)) K left sharing counted2 parts in
           let hs : List NumberedFile = map (λ f. with_children parent child f) K in
           subst (λ gs. IsLeft r (record (view s more fs) { room = held }) (view u more2 gs)) (sym kept_all)
           (record {
@@ -241,42 +235,34 @@ module _ (n dropped : Noted) (s t : Store) (more now maps tasks : ℕ) (fs raw e
             room = omega (arith, room);
           })
 
-      pub forked_maps : map_sum kept ≡ length (all_maps (files_shown u kept))
-      forked_maps = sym (maps_in kept) ∙ maps_counted u kept
-
-      module _ (table : Noted) (noted : IsNotedFor parent child n table) (has : Bool) (has_is : has ≡ list_any (λ (f : NumberedFile). list_any (is_of parent) f.maps) kept) where
+      module _ (table : Noted) (noted : IsNotedFor parent child n table) where
         gone_keys : (q : ℕ) → sum_by (keys_in child q) (labels_of K) ≡ 0
-        gone_keys q = keys_gone n dropped s t more now maps tasks fs raw ended K len few is child raw_is ended_from K_is drops counted grown r k reserves gone q
-
-        gone_task : is_among child (flat_map tasks_in (labels_of K)) ≡ false
-        gone_task = among_none n dropped s t more now maps tasks fs raw ended K len few is child raw_is ended_from K_is drops counted grown r k reserves gone
+        gone_keys q = keys_gone n dropped s t more now maps tally fs raw ended K len few is child raw_is ended_from K_is drops counted grown r k reserves gone q
 
         fewer : (q m : ℕ) → sum_by (keys_in q m) (labels_of K) ≤ sum_by (keys_in q m) (labels_of fs)
-        fewer q m = exit_keys n dropped s t more now maps tasks fs raw ended K len few is child raw_is ended_from K_is drops counted grown r k reserves gone q m
+        fewer q m = exit_keys n dropped s t more now maps tally fs raw ended K len few is child raw_is ended_from K_is drops counted grown r k reserves gone q m
 
-        parent_is : is_among parent (flat_map tasks_in (labels_of K)) ≡ has
-        parent_is = sym (has_is ∙ sym (any_of_task parent kept) ∙ ap (λ gs. is_among parent (flat_map tasks_in (labels_of gs))) kept_all ∙ among_parent parent child apart dropped t u now more2 (maps - k) (tasks - cond (nat_lt 0 k) 1 0) K left sharing counted2 parts gone_keys gone_task)
-
-        pub forked_keeps : IsFiles (record dropped { keys = table.keys }) u more2 (map_sum kept) (tasks - cond (nat_lt 0 k) 1 0 + cond has 1 0) kept
-        forked_keeps =
-            subst (λ gs. IsFiles (record dropped { keys = table.keys }) u more2 (map_sum gs) (tasks - cond (nat_lt 0 k) 1 0 + cond has 1 0) gs) (sym kept_all)
-            (fork_keeps parent child apart dropped t u now more2 (maps - k) (tasks - cond (nat_lt 0 k) 1 0) K left sharing counted2 parts gone_keys gone_task
+        pub forked_keeps : (next : ℕ → ℕ) → ((q : ℕ) → next q ≡ cond (child == q) (tally parent) (tally q)) → IsFiles (record dropped { keys = table.keys }) u more2 (maps - k + tally parent) next kept
+        forked_keeps next next_is =
+            subst (IsFiles (record dropped { keys = table.keys }) u more2 (maps - k + tally parent) next) (sym kept_all)
+            (fork_keeps parent child apart dropped t u now more2 (maps - k) (λ q. cond (child == q) 0 (tally q)) K left sharing counted2 parts gone_keys
             (record dropped { keys = table.keys }) (λ name e. e)
             (λ q m other e. (let none = is.noted.keys q m (noted.others q m other e) in let less = fewer q m in omega (arith, none, less)))
             (λ q e. (let none = is.noted.keys parent q (noted.children q e) in let less = fewer parent q in omega (arith, none, less)))
-            (map_sum (map (λ f. with_children parent child f) K)) (tasks - cond (nat_lt 0 k) 1 0 + cond has 1 0) has parent_is
-            (let all = maps_more parent child apart dropped t u now more2 (maps - k) (tasks - cond (nat_lt 0 k) 1 0) K left sharing counted2 parts gone_keys gone_task K in let count = left.keyed.map_count in let same = maps_in K in omega (arith, all, count, same))
-            refl)
+            (maps - k + tally parent) next (ap (λ b. maps - k + cond b 0 (tally parent)) (sym flip))
+            (λ q. next_is q ∙ at q (child == q)))
+          where
+            flip : (child == parent) ≡ false
+            flip = grind (arith, nat_tests, apart)
 
-        pub forked_tasks : tasks - cond (nat_lt 0 k) 1 0 + cond has 1 0 ≤ length (all_maps (files_shown u kept))
-        forked_tasks =
-            let ms = all_maps (files_shown u kept) in
-            let count = forked_keeps.keyed.task_count ∙ ap (λ ts. length (distinct ts)) (tasks_counted u kept) in
-            omega (arith, count, distinct_few (map (λ (m : Map). m.task) ms), length-map ms (λ (m : Map). m.task))
+            at : (q : ℕ) (b : Bool) → cond b (tally parent) (tally q) ≡ cond b 0 (tally q) + cond b (cond (child == parent) 0 (tally parent)) 0
+            at q true = (let own = ap (λ b. cond b 0 (tally parent)) flip in omega (arith, own))
+            at q false = omega arith
+
+        -- and they are counted
+        pub forked_few : (next : ℕ → ℕ) → ((q : ℕ) → next q ≡ cond (child == q) (tally parent) (tally q)) → maps - k + tally parent ≡ length (all_maps (files_shown u kept))
+        forked_few next next_is = (forked_keeps next next_is).keyed.map_count ∙ maps_counted u kept
 
 -- the same, as code counts
-pub files_as : (h g : Noted) (u : Store) (more k i q p : ℕ) (gs : List NumberedFile) → g ≡ h → i ≡ k → p ≡ q → IsFiles h u more k q gs → IsFiles g u more i p gs
-files_as h g u more k i q p gs noted maps tasks is = subst (λ x. IsFiles x u more i p gs) (sym noted) (subst (λ x. IsFiles h u more x p gs) (sym maps) (subst (λ x. IsFiles h u more k x gs) (sym tasks) is))
-
-pub count_as : (tasks : ℕ) {a b c d : ℕ} → a ≡ b → c ≡ d → tasks - a + c ≡ tasks - b + d
-count_as tasks {a} {b} {c} {d} left right = ap (λ k. tasks - k + c) left ∙ ap (λ k. tasks - b + k) right
+pub files_as : (h g : Noted) (u : Store) (more k i : ℕ) (tally : ℕ → ℕ) (gs : List NumberedFile) → g ≡ h → i ≡ k → IsFiles h u more k tally gs → IsFiles g u more i tally gs
+files_as h g u more k i tally gs noted maps is = subst (λ x. IsFiles x u more i tally gs) (sym noted) (subst (λ x. IsFiles h u more x tally gs) (sym maps) is)

@@ -207,7 +207,7 @@ waits_shown s cells = count_map is_waiting (cell_shown s) cells ∙ count_alike 
 
 -- ---- as code leaves it: x is what it read, and y what it left there
 
-module _ (n : Noted) (s t : Store) (more now maps tasks : ℕ) (fs : List NumberedFile) (is : IsFiles n s more maps tasks fs) (k : ℕ) (l : k < length (files_shown s fs)) (x y : NumberedFile) (read : x ≡ slice_index_or fs k x) (d : IsDropping (λ n. in_file n x) (λ n. in_file n y) s t) (counted : now ≡ more_in t.pages) where
+module _ (n : Noted) (s t : Store) (more now maps : ℕ) (tally : ℕ → ℕ) (fs : List NumberedFile) (is : IsFiles n s more maps tally fs) (k : ℕ) (l : k < length (files_shown s fs)) (x y : NumberedFile) (read : x ≡ slice_index_or fs k x) (d : IsDropping (λ n. in_file n x) (λ n. in_file n y) s t) (counted : now ≡ more_in t.pages) where
   within : k < length fs
   within = (let same = files_len s fs in omega (arith, l, same))
 
@@ -221,10 +221,10 @@ module _ (n : Noted) (s t : Store) (more now maps tasks : ℕ) (fs : List Number
     stay : labels_of (slice_set fs k y) ≡ labels_of fs
     stay = labels_stay fs k x y read same
 
-    pub keeps : (AreLevel x.maps → AreLevel y.maps) → IsFiles n t now maps tasks (slice_set fs k y)
+    pub keeps : (AreLevel x.maps → AreLevel y.maps) → IsFiles n t now maps tally (slice_set fs k y)
     keeps level = record {
       held = given_held s t more now fs is.held k within x y x_is d counted fewer;
-      keyed = subst (IsKeyed maps tasks) (sym stay) is.keyed;
+      keyed = subst (IsKeyed maps tally) (sym stay) is.keyed;
       noted = subst (AreNoted n) (sym stay) is.noted;
       level = level_set fs k x y within read level is.level;
     }
@@ -260,7 +260,7 @@ module _ (n : Noted) (s t : Store) (more now maps tasks : ℕ) (fs : List Number
         let back = sum_by-take-drop (in_cell n) (drop a x.cells) (b - a) in
         omega (arith, is, all, mid, front, back)
 
-    pub punch_keeps : IsFiles n t now maps tasks (slice_set fs k y)
+    pub punch_keeps : IsFiles n t now maps tally (slice_set fs k y)
     punch_keeps = keeps same_label fewer (λ h. same_level (map (map_punched a b) x.maps) y.maps (ap (λ (f : NumberedFile). f.maps) y_is) (punched_level a b x.maps h))
 
     pub punch_files : files_shown t (slice_set fs k y) ≡ edited_at k (punched a b (file_at (files_shown s fs) k)) (files_shown s fs)
@@ -286,7 +286,7 @@ module _ (n : Noted) (s t : Store) (more now maps tasks : ℕ) (fs : List Number
         let front = sum_by-take-drop (in_cell n) x.cells len in
         omega (arith, is, both, holes, front)
 
-    pub cut_keeps : IsFiles n t now maps tasks (slice_set fs k y)
+    pub cut_keeps : IsFiles n t now maps tally (slice_set fs k y)
     cut_keeps = keeps label_same less_left (λ h. same_level (map (map_punched len (len + length x.cells)) x.maps) y.maps (ap (λ (f : NumberedFile). f.maps) y_is) (punched_level len (len + length x.cells) x.maps h))
 
     pub cut_files : files_shown t (slice_set fs k y) ≡ edited_at k (truncated len (file_at (files_shown s fs) k)) (files_shown s fs)

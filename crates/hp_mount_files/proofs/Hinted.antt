@@ -6,9 +6,6 @@ use Rattle.std.specs.Map.{keys_of as map_keys, lookup}
 use Rattle.std.proofs.lemmas.List.{get_or-map, length-map}
 use Rattle.std.proofs.lemmas.List.Quantifiers.{position-Some}
 use Rattle.std.proofs.lemmas.List.Sums.{sum_by-cons, sum_by-swap_remove}
-use Rattle.std.specs.Global.{Vec}
-use Rattle.std.proofs.lemmas.Simd.{map-map}
-use Rattle.hp_mount_files.specs.Hints.{Noted, names_of}
 use Rattle.indexmap.proofs.MapLemmas.{swap_remove_entry-found, swap_remove_entry-missing}
 use Rattle.indexmap.specs.IndexMap.{insert_entry, swap_remove_entry}
 
@@ -88,18 +85,3 @@ module _ {K Y X : Type 0} (f : K → Y) (test : Y → Bool) where
         at : (b : Bool) → eq k x.0 ≡ b → noted (insert_entry eq es k v) ≡ true → noted (cond b ((x.0, v) ∷ es) (x ∷ insert_entry eq es k v)) ≡ true
         at true e rest = or_left (test (f x.0)) (noted es) (alike x.0 e)
         at false e rest = or_right (test (f x.0)) (noted (insert_entry eq es k v)) rest
-
--- ---- what is noted, by the keys alone
-
--- the names are those of the keys
-pub names_same : {X : Type 0} (old new : List (Vec ℕ × X)) → map_keys new ≡ map_keys old → names_of new ≡ names_of old
-names_same {X = X} old new e =
-    let key = λ (p : Vec ℕ × X). p.0 in
-    sym (map-map (λ k. k.items) key new) ∙ ap (map (λ k. k.items)) e ∙ map-map (λ k. k.items) key old
-
--- what is noted, in one word
-abbrev pub noted_as : List (List ℕ) → List (ℕ × ℕ) → Noted
-noted_as names keys = record { names = names; keys = keys }
-
-pub both_same : (a b : List (List ℕ)) (p q : List (ℕ × ℕ)) → a ≡ b → p ≡ q → noted_as a p ≡ noted_as b q
-both_same a b p q names keys = ap (λ n. noted_as n p) names ∙ ap (noted_as b) keys

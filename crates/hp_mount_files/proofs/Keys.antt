@@ -27,13 +27,13 @@ labels_stay fs k x g read same =
     map-set label_of fs k g ∙ ap (slice_set (labels_of fs) k) same ∙ sym (map-set label_of fs k x) ∙ ap labels_of (ap (slice_set fs k) read ∙ set-get_or fs k x)
 
 -- a file that keeps its label keeps what holds of all
-pub files_same : (n : Noted) (s t : Store) (more now maps tasks : ℕ) (fs : List NumberedFile) (k : ℕ) (x g : NumberedFile) → k < length (files_shown s fs) → x ≡ slice_index_or fs k x → label_of g ≡ label_of x → (AreLevel x.maps → AreLevel g.maps)
-    → IsFiles n s more maps tasks fs → IsHeld t now (slice_set fs k g) → IsFiles n t now maps tasks (slice_set fs k g)
-files_same n s t more now maps tasks fs k x g l read same level is held =
+pub files_same : (n : Noted) (s t : Store) (more now maps : ℕ) (tally : ℕ → ℕ) (fs : List NumberedFile) (k : ℕ) (x g : NumberedFile) → k < length (files_shown s fs) → x ≡ slice_index_or fs k x → label_of g ≡ label_of x → (AreLevel x.maps → AreLevel g.maps)
+    → IsFiles n s more maps tally fs → IsHeld t now (slice_set fs k g) → IsFiles n t now maps tally (slice_set fs k g)
+files_same n s t more now maps tally fs k x g l read same level is held =
     let stay = sym (labels_stay fs k x g read same) in
     record {
       held = held;
-      keyed = subst (IsKeyed maps tasks) stay is.keyed;
+      keyed = subst (IsKeyed maps tally) stay is.keyed;
       noted = subst (AreNoted n) stay is.noted;
       level = level_set fs k x g (let long = length-map fs (file_shown s) in omega (arith, l, long)) read level is.level;
     }
@@ -43,6 +43,15 @@ pub noted_more : (old new : Noted) (ls : List Label) → IsMore old new → AreN
 noted_more old new ls more are =
     record { names = λ name e. are.names name (more.names name e); keys = λ task number e. are.keys task number (more.keys task number e) }
 
-pub files_noted : (old new : Noted) (s : Store) (more maps tasks : ℕ) (fs : List NumberedFile) → IsMore old new → IsFiles old s more maps tasks fs → IsFiles new s more maps tasks fs
-files_noted old new s more maps tasks fs grown is =
+pub files_noted : (old new : Noted) (s : Store) (more maps : ℕ) (tally : ℕ → ℕ) (fs : List NumberedFile) → IsMore old new → IsFiles old s more maps tally fs → IsFiles new s more maps tally fs
+files_noted old new s more maps tally fs grown is =
     record { held = is.held; keyed = is.keyed; noted = noted_more old new (labels_of fs) grown is.noted; level = is.level }
+
+-- each task has as many maps
+pub files_recounted : (n : Noted) (s : Store) (more maps : ℕ) (tally next : ℕ → ℕ) (fs : List NumberedFile) → ((q : ℕ) → next q ≡ tally q) → IsFiles n s more maps tally fs → IsFiles n s more maps next fs
+files_recounted n s more maps tally next fs same is = record {
+  held = is.held;
+  keyed = record { kept = is.keyed.kept; names = is.keyed.names; keys = is.keyed.keys; map_count = is.keyed.map_count; tallied = λ q. same q ∙ is.keyed.tallied q };
+  noted = is.noted;
+  level = is.level;
+}

@@ -1,7 +1,7 @@
 -- Files that lose maps, and those that go with their last one.
 use Rattle.std.proofs.Common.{◌≡◌, ℕ, zero, suc, ◌+◌, ◌<◌, ◌≤◌, ◌||◌, nat_lt, Bool, true, false, cond, List, [], ◌∷◌, length, map, refl, sym, ap, subst, ◌∙◌, arith}
 use Rattle.std.specs.Prelude.{is_some, slice_index_or, None, Some}
-use Rattle.std.specs.List.{All, count_by, filter, flat_map, sum_by}
+use Rattle.std.specs.List.{All, count_by, filter, sum_by}
 use Rattle.std.proofs.lemmas.List.{length-map}
 use Rattle.std.proofs.lemmas.List.Elements.{All-cons, All-filter, filter_passes}
 use Rattle.std.proofs.lemmas.List.Sums.{sum_by-cons}
@@ -11,13 +11,12 @@ use Rattle.hp_model.specs.files.File.{File}
 use Rattle.hp_model.specs.files.GiveBack.{is_kept}
 use Rattle.hp_model.specs.files.Mapping.{Mapping, is_unconsumed}
 use Rattle.hp_model.specs.files.MountCounts.{file_reserves, owner_reserves}
-use Rattle.hp_model.specs.Lists.{distinct}
 use Rattle.hp_model.proofs.Counting.{count_alike, count_map}
 use Rattle.hp_store.specs.Store.{Store, holders_of, page_at}
 use Rattle.hp_mount_files.specs.Dropping.{IsDropping, IsLeft}
 use Rattle.hp_mount_files.specs.Held.{IsHeld, in_cell, in_cells, in_file, in_files, in_map, more_in}
 use Rattle.hp_mount_files.specs.Hints.{AreNoted, IsFiles, Noted, has_key, has_name as has_noted}
-use Rattle.hp_mount_files.specs.Keyed.{Label, has_label, is_listed, key_of, keys_in, label_of, labels_of, tasks_in}
+use Rattle.hp_mount_files.specs.Keyed.{Label, has_label, is_listed, key_of, keys_in, label_of, labels_of, maps_for}
 use Rattle.hp_mount_files.specs.Leaving.{file_owed, is_used, owed}
 use Rattle.hp_mount_files.specs.Level.{AreLevel}
 use Rattle.hp_mount_files.specs.Numbered.{NumberedFile, file_shown, files_shown, map_shown, numbered_at, place_shown}
@@ -107,7 +106,7 @@ used_label f = ap (λ k. is_some f.name || nat_lt 0 k) (length-map f.maps key_of
 
 -- ---- as many holders, pages and reservations as are left
 
-module _ (n : Noted) (s t : Store) (more now maps tasks : ℕ) (fs hs : List NumberedFile) (is : IsFiles n s more maps tasks fs) (g : NumberedFile → NumberedFile) (hs_is : hs ≡ filter is_used (map g fs)) (d : IsDropping (λ m. in_files m fs) (λ m. in_files m hs) s t) (counted : now ≡ more_in t.pages)
+module _ (n : Noted) (s t : Store) (more now maps : ℕ) (tally : ℕ → ℕ) (fs hs : List NumberedFile) (is : IsFiles n s more maps tally fs) (g : NumberedFile → NumberedFile) (hs_is : hs ≡ filter is_used (map g fs)) (d : IsDropping (λ m. in_files m fs) (λ m. in_files m hs) s t) (counted : now ≡ more_in t.pages)
     (cells : (f : NumberedFile) → (g f).cells ≡ f.cells) (less : (m : ℕ) (f : NumberedFile) → sum_by (in_map m) (g f).maps ≤ sum_by (in_map m) f.maps) where
   held : (m : ℕ) → holders_of (page_at t m) ≡ in_files m hs
   held m = (let had = is.held.held m in let went = d.held m in omega (arith, had, went))
@@ -205,15 +204,15 @@ module _ (n : Noted) (s t : Store) (more now maps tasks : ℕ) (fs hs : List Num
       keys = keyed;
     }
 
-    pub left_keeps : ((f : NumberedFile) → AreLevel f.maps → AreLevel (g f).maps) → (later : Noted) (left left_tasks : ℕ) → AreNoted later (labels_of hs) → left ≡ sum_by (λ (q : Label). length q.keys) (labels_of hs) → left_tasks ≡ length (distinct (flat_map tasks_in (labels_of hs))) → IsFiles later t now left left_tasks hs
-    left_keeps levels later left left_tasks noted maps_are tasks_are = record {
+    pub left_keeps : ((f : NumberedFile) → AreLevel f.maps → AreLevel (g f).maps) → (later : Noted) (left : ℕ) (next : ℕ → ℕ) → AreNoted later (labels_of hs) → left ≡ sum_by (λ (q : Label). length q.keys) (labels_of hs) → ((q : ℕ) → next q ≡ sum_by (maps_for q) (labels_of hs)) → IsFiles later t now left next hs
+    left_keeps levels later left next noted maps_are tallied = record {
       held = left_held;
       keyed = record {
         kept = listed;
         names = λ name. (let few = names_less name in let most = is.keyed.names name in omega (arith, few, most));
         keys = λ k m. (let few = keys_less k m in let most = is.keyed.keys k m in omega (arith, few, most));
         map_count = maps_are;
-        task_count = tasks_are;
+        tallied = tallied;
       };
       noted = noted;
       level = subst (All (λ (f : NumberedFile). AreLevel f.maps)) (sym hs_is) (All-filter is_used (λ (f : NumberedFile). AreLevel f.maps) (map g fs) (each fs is.level));

@@ -11,7 +11,6 @@ use Rattle.hp_model.specs.Lists.{distinct, is_among, least_unused}
 use Rattle.hp_model.specs.files.MakeMap.{numbers_of}
 use Rattle.hp_model.specs.files.Mapping.{Map, Mapping, is_of}
 use Rattle.hp_model.proofs.Counting.{count_cons, count_not, count_outside}
-use Rattle.hp_model.proofs.Distinct.{is_among-append, same_members}
 use Rattle.hp_model.proofs.Finding as finding
 use Rattle.hp_store.specs.Store.{Store}
 use Rattle.hp_mount_files.specs.Keyed.{numbers_in}
@@ -41,21 +40,6 @@ among_distinct q (x ∷ xs) =
           among_distinct q xs ∙ sym (or_same (x == q) (is_among q xs) (λ same. (let one : x ≡ q = grind (arith, nat_tests, same) in subst (λ k. is_among k xs ≡ true) one e)))
       | false ↦ λ e. ap (λ b. (x == q) || b) (among_distinct q xs)
     ] refl
-
--- a number that is there already counts no more
-pub distinct_again : (n : ℕ) (xs ys : List ℕ) → is_among n (xs ++ ys) ≡ true → length (distinct (xs ++ n ∷ ys)) ≡ length (distinct (xs ++ ys))
-distinct_again n xs ys known =
-    same_members (xs ++ n ∷ ys) (xs ++ ys) (λ q.
-    is_among-append q xs (n ∷ ys) ∙ swap (is_among q xs) (n == q) (is_among q ys)
-    ∙ or_same (n == q) (is_among q xs || is_among q ys) (λ same.
-    let one : n ≡ q = grind (arith, nat_tests, same) in
-    sym (is_among-append q xs ys) ∙ subst (λ k. is_among k (xs ++ ys) ≡ true) one known)
-    ∙ sym (is_among-append q xs ys))
-  where
-    swap : (a b c : Bool) → (a || (b || c)) ≡ (b || (a || c))
-    swap true true c = refl
-    swap true false c = refl
-    swap false b c = refl
 
 -- ---- as the machine shows them
 

@@ -1,9 +1,9 @@
 -- A map more. The indices of a shared one that reserves are entered.
-use Rattle.std.proofs.Common.{◌≡◌, ℕ, zero, suc, ◌+◌, ◌-◌, ◌<◌, Bool, true, false, not, cond, ◌||◌, List, [], ◌∷◌, ◌++◌, length, map, take, drop, replicate, refl, sym, ap, subst, ◌∙◌, arith}
+use Rattle.std.proofs.Common.{◌≡◌, ◌==◌, ℕ, zero, suc, ◌+◌, ◌-◌, ◌<◌, Bool, true, false, cond, ◌||◌, List, [], ◌∷◌, ◌++◌, length, map, take, drop, replicate, refl, sym, ap, subst, ◌∙◌, arith}
 use Rattle.std.specs.Prelude.{is_some, nat_lt, slice_index_or, slice_set, None}
-use Rattle.std.specs.List.{All, flat_map, sum_by}
+use Rattle.std.specs.List.{All, sum_by}
 use Rattle.std.proofs.lemmas.Bool.Decides.{nat_tests}
-use Rattle.std.proofs.lemmas.List.{append-nil, append_assoc, length-append, length-map, length-replicate, map-append, map-set, take-append-drop}
+use Rattle.std.proofs.lemmas.List.{append-nil, length-append, length-map, length-replicate, map-append, map-set, take-append-drop}
 use Rattle.std.proofs.lemmas.List.Elements.{All-set}
 use Rattle.std.proofs.lemmas.List.Sums.{sum_by-append, sum_by-cons, sum_by-set, sum_by_push}
 use Rattle.hp_model.specs.declared.cell.Cell.{Cell}
@@ -14,7 +14,7 @@ use Rattle.hp_model.specs.declared.step.Reserving.TheVariants.{Reserve, NoReserv
 use Rattle.hp_model.specs.declared.step.Sharing.{Sharing}
 use Rattle.hp_model.specs.declared.step.Sharing.TheVariants.{Private, Shared}
 use Rattle.hp_model.specs.files.File.{at_least, entered}
-use Rattle.hp_model.specs.Lists.{distinct, edit_range, is_among}
+use Rattle.hp_model.specs.Lists.{edit_range, is_among}
 use Rattle.hp_model.specs.files.MakeMap.{cells_mapped, mapped, new_map, numbers_of}
 use Rattle.hp_model.specs.files.Page.{Page}
 use Rattle.hp_model.specs.files.Mapping.{Mapping}
@@ -23,13 +23,13 @@ use Rattle.hp_mount_files.specs.Asking.{entered_from}
 use Rattle.hp_mount_files.specs.Files.{file_at, with_file_at}
 use Rattle.hp_mount_files.specs.Held.{IsHeld, in_cell, in_file, in_map, in_place}
 use Rattle.hp_mount_files.specs.Hints.{AreNoted, IsFiles, IsMore, Noted, has_key}
-use Rattle.hp_mount_files.specs.Keyed.{IsKeyed, Label, has_label, is_key, is_listed, key_of, keys_in, label_of, labels_of, tasks_in}
+use Rattle.hp_mount_files.specs.Keyed.{IsKeyed, Label, has_label, is_key, is_listed, key_of, keys_in, label_of, labels_of, maps_for}
 use Rattle.hp_mount_files.proofs.Level.{level_set, more_level, same_level}
 use Rattle.hp_mount_files.specs.Numbered.{NumberedFile, cell_shown, file_shown, files_shown, map_shown, new_mapping, numbered_at, place_shown, with_mapping}
-use Rattle.hp_mount_files.specs.Places.{all_maps, all_tasks}
+use Rattle.hp_mount_files.specs.Places.{all_maps}
 use Rattle.hp_mount_files.proofs.Alike.{alike_held}
 use Rattle.hp_mount_files.proofs.Cells.{file_is, no_file}
-use Rattle.hp_mount_files.proofs.NewKey.{IsPut, keys_few, other_key, put_distinct, task_known}
+use Rattle.hp_mount_files.proofs.NewKey.{keys_few, other_key}
 use Rattle.hp_mount_files.proofs.Views.{read_is, view}
 
 -- ---- lists
@@ -91,20 +91,6 @@ module _ {X : Type 0} (c : X → ℕ) where
   pub sum_through : {Y : Type 0} (f : Y → X) (ys : List Y) → sum_by c (map f ys) ≡ sum_by (λ y. c (f y)) ys
   sum_through f [] = refl
   sum_through f (y ∷ ys) = (let rest = sum_through f ys in omega (arith, rest, sum_by-cons c (f y) (map f ys), sum_by-cons (λ y. c (f y)) y ys))
-
--- ---- a list of which one part has one element more
-
-put_in : {X : Type 0} (part : X → List ℕ) (d : X) (xs : List X) (k : ℕ) (x : X) (n : ℕ) → k < length xs → part x ≡ part (slice_index_or xs k d) ++ n ∷ [] → IsPut (flat_map part xs) (flat_map part (slice_set xs k x)) n
-put_in part d [] k x n l e = absurd (omega (arith, l))
-put_in part d (z ∷ xs) zero x n l e = record { front = part z; back = flat_map part xs; before = refl; after = ap (λ ys. ys ++ flat_map part xs) e ∙ append_assoc (part z) (n ∷ []) (flat_map part xs) }
-put_in part d (z ∷ xs) (suc k) x n l e =
-    let rest = put_in part d xs k x n (omega (arith, l)) e in
-    record {
-      front = part z ++ rest.front;
-      back = rest.back;
-      before = ap (λ ys. part z ++ ys) rest.before ∙ sym (append_assoc (part z) rest.front rest.back);
-      after = ap (λ ys. part z ++ ys) rest.after ∙ sym (append_assoc (part z) rest.front (n ∷ rest.back));
-    }
 
 -- ---- what is shown
 
@@ -181,7 +167,7 @@ module _ (task number a n : ℕ) (sharing : Sharing) (reserving : Reserving) whe
       let none = sum_none (in_place m) n (Live false None) refl in
       omega (arith, cells, maps, none)
 
-  module _ (old : Noted) (s : Store) (more maps tasks : ℕ) (fs : List NumberedFile) (k : ℕ) (is : IsFiles old s more maps tasks fs) (l : k < length fs) (x g : NumberedFile) (read : x ≡ slice_index_or fs k x) (g_is : g ≡ with_mapping from y x) where
+  module _ (old : Noted) (s : Store) (more maps : ℕ) (tally : ℕ → ℕ) (fs : List NumberedFile) (k : ℕ) (is : IsFiles old s more maps tally fs) (l : k < length fs) (x g : NumberedFile) (read : x ≡ slice_index_or fs k x) (g_is : g ≡ with_mapping from y x) where
     at : x ≡ numbered_at fs k
     at = read_is fs k x l read
 
@@ -212,8 +198,8 @@ module _ (task number a n : ℕ) (sharing : Sharing) (reserving : Reserving) whe
     keys_more t m = ap (keys_in t m) label_is ∙ sum_by_push (λ q. cond {A = ℕ} (is_key t m q) 1 0) (map key_of x.maps) (task, number)
 
     module _ (fresh : is_among number (numbers_of task (all_maps (files_shown s fs))) ≡ false) where
-      pub map_keyed : (first : Bool) → first ≡ not (is_among task (all_tasks (files_shown s fs))) → IsKeyed (maps + 1) (tasks + cond first 1 0) (labels_of (slice_set fs k g))
-      map_keyed first first_is = record {
+      pub map_keyed : (next : ℕ → ℕ) → ((q : ℕ) → next q ≡ tally q + cond (task == q) 1 0) → IsKeyed (maps + 1) next (labels_of (slice_set fs k g))
+      map_keyed next one_more = record {
         kept = subst (All (λ (q : Label). is_listed q ≡ true)) (sym (map-set label_of fs k g)) (All-set (λ (q : Label). is_listed q ≡ true) (labels_of fs) k (label_of g) listed is.keyed.kept);
         names = λ name.
             let step = sum_by-set (λ (f : NumberedFile). cond {A = ℕ} (has_label name (label_of f)) 1 0) fs k g no_file l in
@@ -239,22 +225,16 @@ module _ (task number a n : ℕ) (sharing : Sharing) (reserving : Reserving) whe
             let here = ap (λ (f : NumberedFile). length (label_of f).keys) at in
             let was = is.keyed.map_count in
             omega (arith, step, before, after, more, here, was);
-        task_count =
-            let tasks_at : NumberedFile → List ℕ = λ f. tasks_in (label_of f) in
-            let more : tasks_at g ≡ tasks_at (numbered_at fs k) ++ task ∷ [] = ap tasks_in label_is ∙ map-append (λ (q : ℕ × ℕ). q.0) (map key_of x.maps) ((task, number) ∷ []) ∙ ap (λ f. tasks_at f ++ task ∷ []) at in
-            let before : flat_map tasks_at fs ≡ flat_map tasks_in (labels_of fs) = flat_through fs in
-            let after : flat_map tasks_at (slice_set fs k g) ≡ flat_map tasks_in (labels_of (slice_set fs k g)) = flat_through (slice_set fs k g) in
-            let known : is_among task (flat_map tasks_at fs) ≡ not first = ap (is_among task) before ∙ task_known task s fs first first_is in
-            let count = put_distinct (flat_map tasks_at fs) (flat_map tasks_at (slice_set fs k g)) task first (put_in tasks_at no_file fs k g task l more) known in
-            let left = ap (λ ts. length (distinct ts)) before in
-            let right = ap (λ ts. length (distinct ts)) after in
-            let was = is.keyed.task_count in
-            omega (arith, count, left, right, was);
+        tallied = λ q.
+            let step = sum_by-set (λ (f : NumberedFile). maps_for q (label_of f)) fs k g no_file l in
+            let before = sum_through (maps_for q) label_of fs in
+            let after = sum_through (maps_for q) label_of (slice_set fs k g) in
+            let more = ap (maps_for q) label_is ∙ sum_by_push (λ (k : ℕ × ℕ). cond {A = ℕ} (k.0 == q) 1 0) (map key_of x.maps) (task, number) in
+            let here = ap (λ (f : NumberedFile). maps_for q (label_of f)) at in
+            let was = is.keyed.tallied q in
+            let one = one_more q in
+            omega (arith, step, before, after, more, here, was, one);
       }
-        where
-          flat_through : (fs : List NumberedFile) → flat_map (λ f. tasks_in (label_of f)) fs ≡ flat_map tasks_in (labels_of fs)
-          flat_through [] = refl
-          flat_through (f ∷ fs) = ap (λ ts. tasks_in (label_of f) ++ ts) (flat_through fs)
 
       module _ (now : Noted) (grown : IsMore old now) (own : has_key task number now ≡ true) where
         map_noted : AreNoted now (labels_of (slice_set fs k g))
@@ -278,10 +258,10 @@ module _ (task number a n : ℕ) (sharing : Sharing) (reserving : Reserving) whe
               omega (arith, step, before, after, more, here, none, other);
         }
 
-        pub map_files : (first : Bool) → first ≡ not (is_among task (all_tasks (files_shown s fs))) → IsFiles now s more (maps + 1) (tasks + cond first 1 0) (slice_set fs k g)
-        map_files first first_is = record {
+        pub map_files : (next : ℕ → ℕ) → ((q : ℕ) → next q ≡ tally q + cond (task == q) 1 0) → IsFiles now s more (maps + 1) next (slice_set fs k g)
+        map_files next one_more = record {
           held = map_held;
-          keyed = map_keyed first first_is;
+          keyed = map_keyed next one_more;
           noted = map_noted;
           level = level_set fs k x g l read (λ h. same_level (x.maps ++ y ∷ []) g.maps (ap (λ (f : NumberedFile). f.maps) g_is) (more_level x.maps y n refl h)) is.level;
         }

@@ -1,40 +1,21 @@
 -- A task and number that no map has.
-use Rattle.std.proofs.Common.{◌≡◌, ℕ, ◌+◌, ◌<◌, ◌≤◌, Bool, true, false, not, cond, ◌&&◌, ◌||◌, ◌==◌, List, [], ◌∷◌, ◌++◌, length, map, refl, sym, ap, subst, ◌∙◌, arith}
+use Rattle.std.proofs.Common.{◌≡◌, ℕ, ◌+◌, ◌<◌, ◌≤◌, Bool, true, false, cond, ◌&&◌, ◌||◌, ◌==◌, List, [], ◌∷◌, length, map, refl, sym, ap, subst, ◌∙◌, arith}
 use mir.Val.{bool_byte}
 use Rattle.std.specs.List.{count_by, filter, flat_map, sum_by}
 use Rattle.std.proofs.lemmas.Bool.{and_parts, eqb-true}
-use Rattle.std.proofs.lemmas.List.{length-map}
 use Rattle.std.proofs.lemmas.List.Sums.{sum_by-cons}
-use Rattle.hp_model.specs.Lists.{distinct, is_among}
+use Rattle.hp_model.specs.Lists.{is_among}
 use Rattle.hp_model.specs.files.MakeMap.{numbers_of}
-use Rattle.hp_model.specs.files.Mapping.{Map, Mapping, is_of}
+use Rattle.hp_model.specs.files.Mapping.{Mapping, is_of}
 use Rattle.hp_model.proofs.Counting.{count_cons}
-use Rattle.hp_model.proofs.Distinct.{distinct_put, is_among-append}
+use Rattle.hp_model.proofs.Distinct.{is_among-append}
 use Rattle.hp_store.specs.Store.{Store}
 use Rattle.hp_mount_files.specs.Hints.{IsFiles, Noted, has_key}
-use Rattle.hp_mount_files.specs.Keyed.{is_key, key_of, keys_in, label_of, labels_of, numbers_in, tasks_in}
+use Rattle.hp_mount_files.specs.Keyed.{is_key, key_of, keys_in, label_of, labels_of, numbers_in}
 use Rattle.hp_mount_files.specs.Numbered.{NumberedFile, files_shown}
-use Rattle.hp_mount_files.specs.Places.{all_maps, all_tasks}
-use Rattle.hp_mount_files.proofs.MapNumbers.{among_distinct, distinct_again, distinct_few, numbers_append, numbers_shown}
-use Rattle.hp_mount_files.proofs.Unique.{maps_counted, tasks_counted}
-
--- ---- a list with one element more
-
-pub record IsPut (xs ys : List ℕ) (n : ℕ) : Type 0 where
-  pub front : List ℕ
-  pub back : List ℕ
-  pub before : xs ≡ front ++ back
-  pub after : ys ≡ front ++ n ∷ back
-
-pub put_distinct : (xs ys : List ℕ) (n : ℕ) (b : Bool) → IsPut xs ys n → is_among n xs ≡ not b → length (distinct ys) ≡ length (distinct xs) + cond b 1 0
-put_distinct xs ys n b p known =
-    let there : is_among n (p.front ++ p.back) ≡ not b = ap (is_among n) (sym p.before) ∙ known in
-    let left = ap (λ zs. length (distinct zs)) p.before in
-    let right = ap (λ zs. length (distinct zs)) p.after in
-    elim b as (λ c. is_among n (p.front ++ p.back) ≡ not c → length (distinct ys) ≡ length (distinct xs) + cond c 1 0) [
-      | true ↦ λ e. (let step = distinct_put n p.front p.back e in omega (arith, step, left, right))
-      | false ↦ λ e. (let step = distinct_again n p.front p.back e in omega (arith, step, left, right))
-    ] there
+use Rattle.hp_mount_files.specs.Places.{all_maps}
+use Rattle.hp_mount_files.proofs.MapNumbers.{numbers_append, numbers_shown}
+use Rattle.hp_mount_files.proofs.Unique.{maps_counted}
 
 -- ---- a number that the task's maps do not have
 
@@ -86,26 +67,19 @@ module _ (task number : ℕ) where
         cc
     other_key t m false e none = refl
 
--- ---- whether it is the task's first
-
-pub task_known : (task : ℕ) (s : Store) (fs : List NumberedFile) (first : Bool) → first ≡ not (is_among task (all_tasks (files_shown s fs))) → is_among task (flat_map tasks_in (labels_of fs)) ≡ not first
-task_known task s fs first first_is = ap (is_among task) (tasks_counted s fs) ∙ sym (among_distinct task (map (λ (m : Map). m.task) (all_maps (files_shown s fs)))) ∙ flip (is_among task (all_tasks (files_shown s fs))) first first_is
-  where
-    flip : (a b : Bool) → b ≡ not a → a ≡ not b
-    flip true b e = ap not (sym e)
-    flip false b e = ap not (sym e)
-
 -- ---- one more fits
 
-module _ (n : Noted) (s : Store) (more maps tasks : ℕ) (fs : List NumberedFile) (is : IsFiles n s more maps tasks fs) (few : length (all_maps (files_shown s fs)) < 4096) where
+module _ (n : Noted) (s : Store) (more maps : ℕ) (tally : ℕ → ℕ) (fs : List NumberedFile) (is : IsFiles n s more maps tally fs) (few : length (all_maps (files_shown s fs)) < 4096) where
   pub maps_few : maps < 4096
   maps_few = (let count = is.keyed.map_count ∙ maps_counted s fs in omega (arith, count, few))
 
-  pub tasks_few : tasks < 4096
-  tasks_few =
-      let ms = all_maps (files_shown s fs) in
-      let count = is.keyed.task_count ∙ ap (λ ts. length (distinct ts)) (tasks_counted s fs) in
-      omega (arith, count, few, distinct_few (map (λ (m : Map). m.task) ms), length-map ms (λ (m : Map). m.task))
+-- as code counts one more of the task
+pub counted_up : (task count : ℕ) (old wide new : ℕ → ℕ) → ((q : ℕ) → wide q ≡ old q) → count ≡ wide task → ((q : ℕ) → new q ≡ cond (task == q) (count + 1) (wide q)) → (q : ℕ) → new q ≡ old q + cond (task == q) 1 0
+counted_up task count old wide new same known set q = at (task == q) refl
+  where
+    at : (b : Bool) → (task == q) ≡ b → new q ≡ old q + cond b 1 0
+    at true e = (let now = set q ∙ ap (λ b. cond b (count + 1) (wide q)) e in let was = known ∙ same task ∙ ap old (eqb-true task q e) in omega (arith, now, was))
+    at false e = (let now = set q ∙ ap (λ b. cond b (count + 1) (wide q)) e in let was = same q in omega (arith, now, was))
 
 pub byte_is : (b : Bool) → bool_byte b ≡ cond {A = ℕ} b 1 0
 byte_is true = refl

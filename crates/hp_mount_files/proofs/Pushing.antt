@@ -1,20 +1,18 @@
 -- A file more, at which no number stands.
 use Rattle.std.proofs.Common.{◌≡◌, ℕ, zero, suc, ◌+◌, ◌<◌, ◌≤◌, true, false, cond, ⊎_elim, List, [], ◌∷◌, ◌++◌, length, refl, sym, ap, subst, ◌∙◌, arith}
-use Rattle.std.specs.List.{All, count_by, flat_map, sum_by}
+use Rattle.std.specs.List.{All, count_by, sum_by}
 use Rattle.std.proofs.lemmas.Bool.{cases_lt}
-use Rattle.std.proofs.lemmas.Grind.{flat_map-append}
-use Rattle.std.proofs.lemmas.List.{append-nil, map-append}
+use Rattle.std.proofs.lemmas.List.{map-append}
 use Rattle.std.proofs.lemmas.List.Elements.{All-append, All-cons, All-nil}
 use Rattle.std.proofs.lemmas.List.Sums.{sum_by_push}
-use Rattle.hp_model.specs.Lists.{distinct}
 use Rattle.hp_store.specs.Store.{Store}
 use Rattle.hp_mount_files.specs.Held.{IsHeld, in_cell, in_cells, in_file, in_files}
 use Rattle.hp_mount_files.specs.Hints.{AreNoted, IsFiles, IsMore, Noted, has_key, has_name as has_noted}
-use Rattle.hp_mount_files.specs.Keyed.{IsKeyed, Label, has_label, is_listed, keys_in, label_of, labels_of, tasks_in}
+use Rattle.hp_mount_files.specs.Keyed.{IsKeyed, Label, has_label, is_listed, keys_in, label_of, labels_of, maps_for}
 use Rattle.hp_mount_files.specs.Level.{AreLevel}
 use Rattle.hp_mount_files.specs.Numbered.{NumberedFile, numbered_at}
 
-module _ (old now : Noted) (s : Store) (more maps tasks : ℕ) (fs : List NumberedFile) (is : IsFiles old s more maps tasks fs) (f : NumberedFile) (bare : (n : ℕ) → in_file n f ≡ 0) where
+module _ (old now : Noted) (s : Store) (more maps : ℕ) (tally : ℕ → ℕ) (fs : List NumberedFile) (is : IsFiles old s more maps tally fs) (f : NumberedFile) (bare : (n : ℕ) → in_file n f ≡ 0) where
   abbrev gs : List NumberedFile
   gs = fs ++ f ∷ []
 
@@ -60,21 +58,17 @@ module _ (old now : Noted) (s : Store) (more maps tasks : ℕ) (fs : List Number
   labels : labels_of gs ≡ labels_of fs ++ own ∷ []
   labels = map-append label_of fs (f ∷ [])
 
-  -- its name and its maps' keys are new, and so many tasks
+  -- its name and its maps' keys are new, and so many maps each task then has
   module _ (listed : is_listed own ≡ true) (name_few : (name : List ℕ) → count_by (has_label name) (labels_of fs) ≤ 1 → count_by (has_label name) (labels_of fs) + cond {A = ℕ} (has_label name own) 1 0 ≤ 1)
       (keys_few : (t m : ℕ) → sum_by (keys_in t m) (labels_of fs) ≤ 1 → sum_by (keys_in t m) (labels_of fs) + keys_in t m own ≤ 1)
-      (first : ℕ) (tasks_more : length (distinct (flat_map tasks_in (labels_of fs) ++ tasks_in own)) ≡ length (distinct (flat_map tasks_in (labels_of fs))) + first) where
-    keyed : IsKeyed (maps + length own.keys) (tasks + first) (labels_of gs)
-    keyed = subst (IsKeyed (maps + length own.keys) (tasks + first)) (sym labels) (record {
+      (next : ℕ → ℕ) (tallied : (q : ℕ) → next q ≡ tally q + maps_for q own) where
+    keyed : IsKeyed (maps + length own.keys) next (labels_of gs)
+    keyed = subst (IsKeyed (maps + length own.keys) next) (sym labels) (record {
       kept = All-append (λ (l : Label). is_listed l ≡ true) (labels_of fs) (own ∷ []) is.keyed.kept (All-cons (λ (l : Label). is_listed l ≡ true) own [] listed (All-nil (λ (l : Label). is_listed l ≡ true)));
       names = λ name. (let step = sum_by_push (λ (l : Label). cond {A = ℕ} (has_label name l) 1 0) (labels_of fs) own in let few = name_few name (is.keyed.names name) in omega (arith, step, few));
       keys = λ t m. (let step = sum_by_push (keys_in t m) (labels_of fs) own in let few = keys_few t m (is.keyed.keys t m) in omega (arith, step, few));
       map_count = (let step = sum_by_push (λ (l : Label). length l.keys) (labels_of fs) own in let was = is.keyed.map_count in omega (arith, step, was));
-      task_count =
-          let parts = flat_map-append tasks_in (labels_of fs) (own ∷ []) ∙ ap (λ ts. flat_map tasks_in (labels_of fs) ++ ts) (append-nil (tasks_in own)) in
-          let all = ap (λ ts. length (distinct ts)) parts in
-          let was = is.keyed.task_count in
-          omega (arith, all, was, tasks_more);
+      tallied = λ q. (let step = sum_by_push (maps_for q) (labels_of fs) own in let was = is.keyed.tallied q in let more = tallied q in omega (arith, step, was, more));
     })
 
     -- and they are noted
@@ -97,5 +91,5 @@ module _ (old now : Noted) (s : Store) (more maps tasks : ℕ) (fs : List Number
       level : All (λ (x : NumberedFile). AreLevel x.maps) gs
       level = All-append (λ (x : NumberedFile). AreLevel x.maps) fs (f ∷ []) is.level (All-cons (λ (x : NumberedFile). AreLevel x.maps) f [] own_level (All-nil (λ (x : NumberedFile). AreLevel x.maps)))
 
-      pub pushed : IsFiles now s more (maps + length own.keys) (tasks + first) gs
+      pub pushed : IsFiles now s more (maps + length own.keys) next gs
       pushed = record { held = held; keyed = keyed; noted = noted; level = level }

@@ -261,7 +261,7 @@ module _ (s : Store) (x : NumberedFile) (j i q : ℕ) (jl : j < length x.maps) (
 
 -- ---- as code leaves it: x is what it read, and y what it left there
 
-module _ (n : Noted) (s t : Store) (more now maps tasks : ℕ) (fs : List NumberedFile) (is : IsFiles n s more maps tasks fs) (k j i : ℕ) (l : k < length (files_shown s fs)) (jl : j < length (file_at (files_shown s fs) k).maps) (x y : NumberedFile) (read : x ≡ slice_index_or fs k x)
+module _ (n : Noted) (s t : Store) (more now maps : ℕ) (tally : ℕ → ℕ) (fs : List NumberedFile) (is : IsFiles n s more maps tally fs) (k j i : ℕ) (l : k < length (files_shown s fs)) (jl : j < length (file_at (files_shown s fs) k).maps) (x y : NumberedFile) (read : x ≡ slice_index_or fs k x)
     (y_is : (q : ℕ) → copy_of (place_at (mapping_at x j) i) ≡ Some q → y ≡ with_taken_back q j i x) (d : IsDropping (λ r. in_file r x) (λ r. in_file r y) s t) (counted : now ≡ more_in t.pages) (copy : Copy) (there : copy_of (place_at (map_at (files_shown s fs) k j) i) ≡ Some copy) where
   found : (q : ℕ) × (copy_of (place_at (mapping_at x j) i) ≡ Some q)
   found = number_there s more fs is.held k j i l jl x read copy there
@@ -281,8 +281,8 @@ module _ (n : Noted) (s t : Store) (more now maps tasks : ℕ) (fs : List Number
   cells : (r : ℕ) → sum_by (in_cell r) y.cells ≤ sum_by (in_cell r) x.cells
   cells r = (let same = ap (λ (f : NumberedFile). sum_by (in_cell r) f.cells) left in omega (arith, same))
 
-  pub back_keeps : IsFiles n t now maps tasks (slice_set fs k y)
-  back_keeps = keeps n s t more now maps tasks fs is k l x y read d counted label cells
+  pub back_keeps : IsFiles n t now maps tally (slice_set fs k y)
+  back_keeps = keeps n s t more now maps tally fs is k l x y read d counted label cells
       (λ level. same_level (with_taken_back found.0 j i x).maps y.maps (ap (λ (f : NumberedFile). f.maps) left) (back_level s x j i found.0 jl_x found.1 level))
 
   pub back_files : files_shown t (slice_set fs k y) ≡ taken_back_at k j copy.stamp (files_shown s fs)
@@ -293,7 +293,7 @@ module _ (n : Noted) (s t : Store) (more now maps tasks : ℕ) (fs : List Number
       ∙ ap (λ r. taken_back_at k j r (files_shown s fs)) (sym (stamp_there s more fs is.held k j i l jl x read (mapping_at x j) (map_reads s more fs is.held k j i l jl x read) found.0 found.1 copy there))
 
   pub back_left : IsLeft 0 (view s more fs) (view t now (slice_set fs k y))
-  back_left = leaves n s t more now maps tasks fs is k l x y read d counted label cells 0
+  back_left = leaves n s t more now maps tally fs is k l x y read d counted label cells 0
       (ap (λ (f : NumberedFile). file_reserves (file_shown s f) + 0) left ∙ back_reserves s x j i found.0 jl_x found.1 (level_read fs k x within read is.level))
 
   -- the others hold it no more

@@ -102,7 +102,7 @@ pub names_counted : (s : Store) (name : List ℕ) (fs : List NumberedFile) → c
 names_counted s name fs =
     count_map (has_name name) (file_shown s) fs ∙ count_alike (λ f. has_name name (file_shown s f)) (λ f. has_label name (label_of f)) (named_shown s name) fs ∙ sym (count_map (has_label name) label_of fs)
 
-module _ (s : Store) (maps tasks : ℕ) (fs : List NumberedFile) (keyed : IsKeyed maps tasks (labels_of fs)) where
+module _ (s : Store) (maps : ℕ) (tally : ℕ → ℕ) (fs : List NumberedFile) (keyed : IsKeyed maps tally (labels_of fs)) where
   pub named_here : (name : List ℕ) (k : ℕ) (x : NumberedFile) → k < length fs → x ≡ slice_index_or fs k x → is_name_of name x.name ≡ true → IsNamed (files_shown s fs) name k
   named_here name k x l read is =
       let long = length-map fs (file_shown s) in

@@ -1,7 +1,7 @@
 -- A file that loses its name, and goes where it has no maps.
-use Rattle.std.proofs.Common.{◌≡◌, ℕ, zero, suc, ◌+◌, ◌<◌, ◌≤◌, nat_lt, ⊎_elim, Bool, true, false, cond, None, List, [], ◌∷◌, ◌++◌, length, map, refl, sym, ap, subst, ◌∙◌, arith}
+use Rattle.std.proofs.Common.{◌≡◌, ◌==◌, ℕ, zero, suc, ◌+◌, ◌<◌, ◌≤◌, nat_lt, ⊎_elim, Bool, true, false, cond, None, List, [], ◌∷◌, length, map, refl, sym, ap, subst, ◌∙◌, arith}
 use Rattle.std.specs.Prelude.{slice_set, slice_index_or}
-use Rattle.std.specs.List.{All, count_by, filter, flat_map, remove, sum_by}
+use Rattle.std.specs.List.{All, count_by, filter, remove, sum_by}
 use Rattle.std.specs.Str.{bytes_eq}
 use Rattle.std.proofs.lemmas.Slice.Eq.{bytes_eq-Decides}
 use Rattle.std.proofs.lemmas.Bool.{cases_lt}
@@ -14,7 +14,6 @@ use Rattle.indexmap.proofs.SetLemmas.{map-remove}
 use Rattle.hp_model.specs.files.File.{new_file}
 use Rattle.hp_model.specs.files.GiveBack.{is_kept, unlinked}
 use Rattle.hp_model.specs.files.MountCounts.{file_reserves, is_waiting, owner_reserves}
-use Rattle.hp_model.specs.Lists.{distinct}
 use Rattle.hp_model.specs.machine.SlotEvent.{has_name}
 use Rattle.hp_laws.proofs.Places.{found_place}
 use Rattle.hp_store.specs.Store.{Store, holders_of, page_at}
@@ -22,7 +21,7 @@ use Rattle.hp_mount_files.specs.Dropping.{IsDropping, IsLeft}
 use Rattle.hp_mount_files.specs.Files.{edited_at, file_at}
 use Rattle.hp_mount_files.specs.Held.{IsHeld, in_cell, in_cells, in_file, in_files, more_in}
 use Rattle.hp_mount_files.specs.Hints.{AreNoted, IsFiles, IsMoreBut, Noted, has_name as has_noted}
-use Rattle.hp_mount_files.specs.Keyed.{Label, has_label, is_listed, key_of, keys_in, label_of, labels_of, tasks_in}
+use Rattle.hp_mount_files.specs.Keyed.{Label, has_label, is_listed, key_of, keys_in, label_of, labels_of, maps_for}
 use Rattle.hp_mount_files.specs.Places.{IsNamed}
 use Rattle.hp_mount_files.specs.Level.{AreLevel}
 use Rattle.hp_mount_files.specs.Numbered.{NumberedFile, file_shown, files_shown, map_shown, numbered_at}
@@ -68,11 +67,6 @@ module _ {X : Type 0} (d : X) where
   all_left P (x ∷ xs) zero each = λ i e l. each (suc i) e (omega (arith, l))
   all_left P (x ∷ xs) (suc k) each = All-cons P x (remove xs k) (each 0 x (omega arith)) (all_left P xs k (λ i e l. each (suc i) e (omega (arith, l))))
 
-  flat_left : (f : X → List ℕ) (xs : List X) (k : ℕ) → k < length xs → f (slice_index_or xs k d) ≡ [] → flat_map f (remove xs k) ≡ flat_map f xs
-  flat_left f [] k l e = absurd (omega (arith, l))
-  flat_left f (x ∷ xs) zero l e = ap (λ ys. ys ++ flat_map f xs) (sym e)
-  flat_left f (x ∷ xs) (suc k) l e = ap (λ ys. f x ++ ys) (flat_left f xs k (omega (arith, l)) e)
-
   -- the one that does not pass is the one that goes
   filter_out : (test : X → Bool) (xs : List X) (k : ℕ) (y : X) → k < length xs → test y ≡ false → All (λ x. test x ≡ true) xs → filter test (slice_set xs k y) ≡ remove xs k
   filter_out test [] k y l out each = absurd (omega (arith, l))
@@ -87,7 +81,7 @@ module _ {X : Type 0} (d : X) where
 
 -- ---- a file without its name
 
-module _ (n later : Noted) (name : List ℕ) (grown : IsMoreBut name n later) (s : Store) (more maps tasks : ℕ) (fs : List NumberedFile) (is : IsFiles n s more maps tasks fs) (k : ℕ) (named : IsNamed (files_shown s fs) name k) (x : NumberedFile) (read : x ≡ slice_index_or fs k x) where
+module _ (n later : Noted) (name : List ℕ) (grown : IsMoreBut name n later) (s : Store) (more maps : ℕ) (tally : ℕ → ℕ) (fs : List NumberedFile) (is : IsFiles n s more maps tally fs) (k : ℕ) (named : IsNamed (files_shown s fs) name k) (x : NumberedFile) (read : x ≡ slice_index_or fs k x) where
   l : k < length (files_shown s fs)
   l = named.within
 
@@ -149,22 +143,7 @@ module _ (n later : Noted) (name : List ℕ) (grown : IsMoreBut name n later) (s
         let was = ap (λ (f : NumberedFile). c (label_of f)) x_is in
         omega (arith, step, before, after, same, was)
 
-    set_flat : (f : NumberedFile → List ℕ) (fs : List NumberedFile) (k : ℕ) → f y ≡ f (slice_index_or fs k no_file) → k < length fs → flat_map f (slice_set fs k y) ≡ flat_map f fs
-    set_flat f [] k e l = absurd (omega (arith, l))
-    set_flat f (z ∷ fs) zero e l = ap (λ ys. ys ++ flat_map f fs) e
-    set_flat f (z ∷ fs) (suc k) e l = ap (λ ys. f z ++ ys) (set_flat f fs k e (omega (arith, l)))
-
-    flat_through : (fs : List NumberedFile) → flat_map (λ f. tasks_in (label_of f)) fs ≡ flat_map tasks_in (labels_of fs)
-    flat_through [] = refl
-    flat_through (f ∷ fs) = ap (λ ts. tasks_in (label_of f) ++ ts) (flat_through fs)
-
-    tasks_same : flat_map tasks_in (labels_of gs) ≡ flat_map tasks_in (labels_of fs)
-    tasks_same =
-        sym (flat_through gs)
-        ∙ set_flat (λ f. tasks_in (label_of f)) fs k (ap tasks_in label_is ∙ ap (λ (f : NumberedFile). tasks_in (label_of f)) x_is) within
-        ∙ flat_through fs
-
-    pub named_keeps : IsFiles later s more maps tasks gs
+    pub named_keeps : IsFiles later s more maps tally gs
     named_keeps = record {
       held = named_held;
       keyed = record {
@@ -172,7 +151,7 @@ module _ (n later : Noted) (name : List ℕ) (grown : IsMoreBut name n later) (s
         names = λ other. (let less = names_less other in let most = is.keyed.names other in omega (arith, less, most));
         keys = λ t m. (let same = keys_same (keys_in t m) (ap (keys_in t m) label_is) in let most = is.keyed.keys t m in omega (arith, same, most));
         map_count = is.keyed.map_count ∙ sym (keys_same (λ (q : Label). length q.keys) (ap (λ (q : Label). length q.keys) label_is));
-        task_count = is.keyed.task_count ∙ ap (λ ts. length (distinct ts)) (sym tasks_same);
+        tallied = λ q. is.keyed.tallied q ∙ sym (keys_same (maps_for q) (ap (maps_for q) label_is));
       };
       noted = still_noted (labels_of gs) (λ other. (let less = names_less other in omega (arith, less)))
           (let less = names_less name in let most = is.keyed.names name in let own = ap (λ b. cond {A = ℕ} b 1 0 + 0) has_it in omega (arith, less, most, own))
@@ -253,7 +232,7 @@ module _ (n later : Noted) (name : List ℕ) (grown : IsMoreBut name n later) (s
         let same = ap (sum_by c) labels_are in
         omega (arith, step, here, same)
 
-    pub gone_keeps : IsFiles later t now maps tasks hs
+    pub gone_keeps : IsFiles later t now maps tally hs
     gone_keeps = record {
       held = gone_held;
       keyed = record {
@@ -261,8 +240,7 @@ module _ (n later : Noted) (name : List ℕ) (grown : IsMoreBut name n later) (s
         names = λ other. (let less = sum_left (λ (q : Label). cond {A = ℕ} (has_label other q) 1 0) in let most = is.keyed.names other in omega (arith, less, most));
         keys = λ t m. (let less = sum_left (keys_in t m) in let most = is.keyed.keys t m in omega (arith, less, most));
         map_count = (let less = sum_left (λ (q : Label). length q.keys) in let none = ap length no_keys in let was = is.keyed.map_count in omega (arith, less, none, was));
-        task_count = is.keyed.task_count
-            ∙ ap (λ ts. length (distinct ts)) (sym (ap (flat_map tasks_in) labels_are ∙ flat_left (label_of no_file) tasks_in (labels_of fs) k long_labels (ap tasks_in label_there ∙ ap (map (λ (q : ℕ × ℕ). q.0)) no_keys)));
+        tallied = λ q. (let less = sum_left (maps_for q) in let none = ap (count_by (λ (k : ℕ × ℕ). k.0 == q)) no_keys in let was = is.keyed.tallied q in omega (arith, less, none, was));
       };
       noted = still_noted (labels_of hs) (λ other. (let less = sum_left (λ (q : Label). cond {A = ℕ} (has_label other q) 1 0) in omega (arith, less)))
           (let less = sum_left (λ (q : Label). cond {A = ℕ} (has_label name q) 1 0) in let most = is.keyed.names name in let own = ap (λ b. cond {A = ℕ} b 1 0 + 0) has_it in omega (arith, less, most, own))

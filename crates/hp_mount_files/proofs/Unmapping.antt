@@ -1,15 +1,13 @@
 -- Indices of one map leave it, and the map goes with its last one.
 use Rattle.std.proofs.Common.{◌≡◌, ◌≢◌, ℕ, zero, suc, ◌+◌, ◌-◌, ◌<◌, ◌≤◌, ◌^◌, ◌==◌, ◌||◌, nat_lt, Bool, true, false, not, cond, Option, None, Some, List, [], ◌∷◌, length, map, refl, sym, ap, subst, ◌∙◌, arith}
-use mir.Val.{bool_byte}
 use Rattle.std.specs.Prelude.{is_some, slice_index_or, slice_set}
-use Rattle.std.specs.List.{count_by, filter, flat_map, list_any, remove, sum_by}
+use Rattle.std.specs.List.{count_by, filter, list_any, remove, sum_by}
 use Rattle.std.specs.Option.{option_map}
 use Rattle.std.proofs.lemmas.Bool.{and_parts, eqb-true}
 use Rattle.std.proofs.lemmas.Bool.Decides.{nat_tests}
 use Rattle.std.proofs.lemmas.List.{get_or-map, get_or-set_same, length-map, length-set}
 use Rattle.std.proofs.lemmas.List.Edits.{length-remove}
 use Rattle.std.proofs.lemmas.List.Sums.{sum_by-cons, sum_by-remove, sum_by-set}
-use Rattle.hp_laws.proofs.Holding.{one_more_member}
 use Rattle.hp_laws.proofs.Places.{found_place, sum_by-filter_le, sum_by-map_le}
 use Rattle.hp_model.specs.declared.limits.Limits.{Limits}
 use Rattle.hp_model.specs.declared.place.Place.{Place}
@@ -19,23 +17,21 @@ use Rattle.hp_model.specs.files.GiveBack.{file_unmapped, is_kept, is_left, map_u
 use Rattle.hp_model.specs.files.Mapping.{Map, Mapping, copy_of, place_at, is_live, is_map, is_mapped, is_of, is_unconsumed, no_map, without_range}
 use Rattle.hp_model.specs.files.MountCounts.{is_waiting}
 use Rattle.hp_model.specs.files.Spot.{Spot, spot, spot_in}
-use Rattle.hp_model.specs.Lists.{distinct, found, is_among}
+use Rattle.hp_model.specs.Lists.{found}
 use Rattle.hp_model.proofs.Counting.{count_cons}
-use Rattle.hp_model.proofs.Distinct.{same_members}
 use Rattle.hp_store.specs.Store.{Store, holders_of, page_at}
 use Rattle.hp_mount_files.specs.Dropping.{IsDropping, IsLeft}
 use Rattle.hp_mount_files.specs.Files.{file_at}
 use Rattle.hp_mount_files.specs.Held.{in_cell, in_file, in_files, in_map, in_place, more_in}
 use Rattle.hp_mount_files.specs.Hints.{AreNoted, IsFiles, Noted, has_key, is_pair}
-use Rattle.hp_mount_files.specs.Keyed.{Label, is_listed, keys_in, label_of, labels_of, tasks_in}
+use Rattle.hp_mount_files.specs.Keyed.{Label, is_listed, key_of, keys_in, label_of, labels_of, maps_for}
 use Rattle.hp_mount_files.specs.Level.{AreLevel}
 use Rattle.hp_mount_files.specs.Leaving.{IsMoreButMap, cut_at, cut_map, file_owed, is_used, left_from, map_sum, owed, stays, swept_at}
 use Rattle.hp_mount_files.specs.Numbered.{NumberedFile, file_shown, files_shown, map_shown, mapping_at, no_mapping, numbered_at, place_shown}
 use Rattle.hp_mount_files.specs.Places.{IsFound, mount_with, spot_of}
 use Rattle.hp_mount_files.proofs.Cells.{file_is, no_file}
 use Rattle.hp_mount_files.proofs.Drops.{drop_as, drop_then}
-use Rattle.hp_mount_files.proofs.Exiting.{emptied_any, keys_are, maps_in}
-use Rattle.hp_mount_files.proofs.NewKey.{byte_is}
+use Rattle.hp_mount_files.proofs.Exiting.{keys_are, maps_in}
 use Rattle.hp_mount_files.proofs.FileLeaves.{empty_file}
 use Rattle.hp_mount_files.proofs.Finding.{any_shown}
 use Rattle.hp_mount_files.proofs.Keys.{labels_stay, same_label}
@@ -44,8 +40,8 @@ use Rattle.hp_mount_files.proofs.Level.{cut_less, filtered_level, mapped_level}
 use Rattle.hp_mount_files.proofs.Leaving.{keys_less, left_gives, left_keeps, left_noted, left_shows, used_label}
 use Rattle.hp_mount_files.proofs.Lifting.{at_most, map_but}
 use Rattle.hp_mount_files.proofs.Mapped.{map_edited, sum_through}
-use Rattle.hp_mount_files.proofs.Unique.{alone_at, any_at, some_pass}
-use Rattle.hp_mount_files.proofs.Used.{any_of_task}
+use Rattle.hp_mount_files.proofs.Tallies.{own_maps}
+use Rattle.hp_mount_files.proofs.Unique.{alone_at, some_pass}
 use Rattle.hp_mount_files.proofs.Views.{files_len, read_is, view}
 
 -- ---- lists of which one element changes, and may go
@@ -203,33 +199,9 @@ module _ (task number a b : ℕ) where
               either true = refl
               either false = refl
 
-  -- the maps of other tasks stay
-  other_tasks : (q : ℕ) → (q == task) ≡ false → (ms : List (Mapping ℕ)) → list_any (is_of q) (rest_of ms) ≡ list_any (is_of q) ms
-  other_tasks q apart [] = refl
-  other_tasks q apart (m ∷ ms) = at (test m) refl (other_tasks q apart ms)
-    where
-      not_it : test m ≡ true → is_of q m ≡ false
-      not_it is = (let own : (m.task == task) ≡ true = (and_parts (m.task == task) (m.number == number) is).0 in other m.task own)
-        where
-          other : (k : ℕ) → (k == task) ≡ true → (k == q) ≡ false
-          other k own = grind (arith, nat_tests, own, apart)
-
-      at : (t : Bool) → test m ≡ t → list_any (is_of q) (rest_of ms) ≡ list_any (is_of q) ms
-          → list_any (is_of q) (cond (is_mapped (cond t (without_range a b m) m) || not (test (cond t (without_range a b m) m))) (cond t (without_range a b m) m ∷ rest_of ms) (rest_of ms)) ≡ (is_of q m || list_any (is_of q) ms)
-      at true is rest = either (is_mapped (without_range a b m) || not (test m)) ∙ rest ∙ sym (ap (λ t. t || list_any (is_of q) ms) (not_it is))
-        where
-          either : (t : Bool) → list_any (is_of q) (cond t (without_range a b m ∷ rest_of ms) (rest_of ms)) ≡ list_any (is_of q) (rest_of ms)
-          either true = ap (λ t. t || list_any (is_of q) (rest_of ms)) (not_it is)
-          either false = refl
-      at false is rest = ap (λ t. list_any (is_of q) (cond (is_mapped m || not t) (m ∷ rest_of ms) (rest_of ms))) is ∙ either (is_mapped m) ∙ ap (λ t. is_of q m || t) rest
-        where
-          either : (t : Bool) → list_any (is_of q) (cond (t || true) (m ∷ rest_of ms) (rest_of ms)) ≡ (is_of q m || list_any (is_of q) (rest_of ms))
-          either true = refl
-          either false = refl
-
 -- ---- as code leaves the files: x is the file that it read, y what it left there once indices of the map went
 
-module _ (n later : Noted) (s t : Store) (more now maps tasks : ℕ) (fs : List NumberedFile) (is : IsFiles n s more maps tasks fs) (task number a b : ℕ) (k j : ℕ) (there : IsFound (files_shown s fs) task number k j) (x y : NumberedFile) (read : x ≡ slice_index_or fs k x) (y_is : y ≡ cut_at j a b x)
+module _ (n later : Noted) (s t : Store) (more now maps : ℕ) (tally : ℕ → ℕ) (fs : List NumberedFile) (is : IsFiles n s more maps tally fs) (task number a b : ℕ) (k j : ℕ) (there : IsFound (files_shown s fs) task number k j) (x y : NumberedFile) (read : x ≡ slice_index_or fs k x) (y_is : y ≡ cut_at j a b x)
     (drops : IsDropping (λ m. in_file m x) (λ m. in_file m y) s t) (r : ℕ) (reserves : r + file_owed y ≡ file_owed x) where
   g : NumberedFile → NumberedFile
   g = left_from task number a b
@@ -359,22 +331,22 @@ module _ (n later : Noted) (s t : Store) (more now maps tasks : ℕ) (fs : List 
 
     pub stays_files : files_shown t hs ≡ filter is_kept (map (file_unmapped (is_map task number) a b) (files_shown s fs))
     unfolding g
-    stays_files = left_shows n s t more now maps tasks fs hs is g hs_is dropping counted (λ f. refl) (less task number a b) (file_unmapped (is_map task number) a b) (left_shown task number a b s)
+    stays_files = left_shows n s t more now maps tally fs hs is g hs_is dropping counted (λ f. refl) (less task number a b) (file_unmapped (is_map task number) a b) (left_shown task number a b s)
 
     pub stays_left : IsLeft r (view s more fs) (view t now hs)
     unfolding g
-    stays_left = left_gives n s t more now maps tasks fs hs is g hs_is dropping counted (λ f. refl) (less task number a b) r
+    stays_left = left_gives n s t more now maps tally fs hs is g hs_is dropping counted (λ f. refl) (less task number a b) r
         (let step = sum_by-set file_owed fs k y no_file l in let was = ap file_owed x_is in omega (arith, step, was, reserves))
 
     same_keys : label_of y ≡ label_of x
     same_keys = ap label_of y_is ∙ same_label x j z refl
 
-    pub stays_keeps : IsFiles n t now maps tasks hs
+    pub stays_keeps : IsFiles n t now maps tally hs
     unfolding g
     stays_keeps =
         let same = sym (labels_stay fs k x y read same_keys) in
-        left_keeps n s t more now maps tasks fs hs is g hs_is dropping counted (λ f. refl) (less task number a b) (λ f. refl) (keys_fewer task number a b) (left_level task number a b) n maps tasks
-        (subst (AreNoted n) same is.noted) (subst (λ ls. maps ≡ sum_by (λ (q : Label). length q.keys) ls) same is.keyed.map_count) (subst (λ ls. tasks ≡ length (distinct (flat_map tasks_in ls))) same is.keyed.task_count)
+        left_keeps n s t more now maps tally fs hs is g hs_is dropping counted (λ f. refl) (less task number a b) (λ f. refl) (keys_fewer task number a b) (left_level task number a b) n maps tally
+        (subst (AreNoted n) same is.noted) (subst (λ ls. maps ≡ sum_by (λ (q : Label). length q.keys) ls) same is.keyed.map_count) (λ q. subst (λ ls. tally q ≡ sum_by (maps_for q) ls) same (is.keyed.tallied q))
 
   -- ---- no index is left: u is the store, and hs are the files, once the file went if nothing is left of it
 
@@ -450,11 +422,11 @@ module _ (n later : Noted) (s t : Store) (more now maps tasks : ℕ) (fs : List 
 
       pub went_files : files_shown u hs ≡ filter is_kept (map (file_unmapped (is_map task number) a b) (files_shown s fs))
       unfolding g
-      went_files = left_shows n s u more last maps tasks fs hs is g went_is went_dropping counted (λ f. refl) (less task number a b) (file_unmapped (is_map task number) a b) (left_shown task number a b s)
+      went_files = left_shows n s u more last maps tally fs hs is g went_is went_dropping counted (λ f. refl) (less task number a b) (file_unmapped (is_map task number) a b) (left_shown task number a b s)
 
       pub went_left : IsLeft (r + e) (view s more fs) (view u last hs)
       unfolding g
-      went_left = left_gives n s u more last maps tasks fs hs is g went_is went_dropping counted (λ f. refl) (less task number a b) (r + e) owed_all
+      went_left = left_gives n s u more last maps tally fs hs is g went_is went_dropping counted (λ f. refl) (less task number a b) (r + e) owed_all
 
       -- a file that goes has no map
       hs_sum : (c : NumberedFile → ℕ) → ((f : NumberedFile) → is_used f ≡ false → c f ≡ 0) → sum_by c hs ≡ sum_by c gs
@@ -480,72 +452,65 @@ module _ (n later : Noted) (s t : Store) (more now maps tasks : ℕ) (fs : List 
           let was = maps_in fs in
           omega (arith, left, same, one, all, was)
 
-      abbrev tasks_of : List NumberedFile → List ℕ
-      tasks_of xs = flat_map tasks_in (labels_of xs)
+      -- one map less of the task
+      tally_left : (q : ℕ) → sum_by (maps_for q) (labels_of hs) + cond (task == q) 1 0 ≡ tally q
+      tally_left q =
+          let through = sum_through (maps_for q) label_of hs in
+          let same = hs_sum (λ (f : NumberedFile). maps_for q (label_of f)) (λ f out. ap (λ ms. maps_for q (record { name = None; keys = map key_of ms })) (empty_file f out).0) in
+          let step = sum_by-set (λ (f : NumberedFile). maps_for q (label_of f)) fs k rest no_file l in
+          let was = is.keyed.tallied q in
+          let before = sum_through (maps_for q) label_of fs in
+          let here = ap (λ (f : NumberedFile). maps_for q (label_of f)) x_is in
+          let all = own_maps q x in
+          let left = own_maps q rest in
+          let bare = ap (λ (f : NumberedFile). count_by (is_of q) f.maps) (sym rest_left ∙ g_is ∙ ap (λ c. record x { maps = cond c (slice_set x.maps j z) (remove x.maps j) }) mapped) in
+          let fewer = sum_by-remove (λ (m : Mapping ℕ). cond {A = ℕ} (is_of q m) 1 0) x.maps j no_mapping jl in
+          let its = ap (λ i. cond {A = ℕ} (i == q) 1 0 + 0) (eqb-true m.task task (and_parts (m.task == task) (m.number == number) m_is).0) in
+          omega (arith, through, same, step, was, before, here, all, left, bare, fewer, its)
 
-      among_other : (q : ℕ) → (q == task) ≡ false → is_among q (tasks_of fs) ≡ is_among q (tasks_of hs)
+      -- and so many it had
+      pub some_tally : 1 ≤ tally task
+      some_tally = (let left = tally_left task in let own : (task == task) ≡ true = grind (arith, nat_tests) in let one = ap (λ c. cond {A = ℕ} c 1 0 + 0) own in omega (arith, left, one))
+
+      keys_gone : sum_by (keys_in task number) (labels_of hs) ≡ 0
+      keys_gone =
+          let through = sum_through (keys_in task number) label_of hs in
+          let same = hs_sum count (λ f out. keys_are task task number f ∙ ap (count_by (is_map task number)) (empty_file f out).0) in
+          let step = sum_by-set count fs k rest no_file l in
+          let all = few in
+          let here = one_here in
+          let was = count_here in
+          let one = one_map in
+          let left = keys_are task task number rest in
+          let bare = ap (λ (f : NumberedFile). count_by (is_map task number) f.maps) (sym rest_left ∙ g_is ∙ ap (λ c. record x { maps = cond c (slice_set x.maps j z) (remove x.maps j) }) mapped) in
+          let fewer = sum_by-remove (λ (q : Mapping ℕ). cond {A = ℕ} (is_map task number q) 1 0) x.maps j no_mapping jl in
+          let own = ap (λ c. cond {A = ℕ} c 1 0 + 0) m_is in
+          omega (arith, through, same, step, all, here, was, one, left, bare, fewer, own)
+
+      pub went_keeps : IsMoreButMap task number n later → (next : ℕ → ℕ) → ((q : ℕ) → next q ≡ cond (task == q) (tally task - 1) (tally q)) → IsFiles later u last (maps - 1) next hs
       unfolding g
-      among_other q apart =
-          any_of_task q fs ∙ each fs
-          ∙ sym (any_of_task q hs ∙ ap (list_any (λ (f : NumberedFile). list_any (is_of q) f.maps)) went_is ∙ emptied_any g (is_of q) fs)
+      went_keeps grown next next_is =
+          left_keeps n s u more last maps tally fs hs is g went_is went_dropping counted (λ f. refl) (less task number a b) (λ f. refl) (keys_fewer task number a b) (left_level task number a b) later (maps - 1) next
+          (left_noted n s u more last maps tally fs hs is g went_is went_dropping counted (λ f. refl) (less task number a b) (λ f. refl) (keys_fewer task number a b) later grown.names (λ q i e. at q i e (is_pair q i (task, number)) refl))
+          maps_left (λ q. tallied q (task == q) refl)
         where
-          each : (fs : List NumberedFile) → list_any (λ (f : NumberedFile). list_any (is_of q) f.maps) fs ≡ list_any (λ (f : NumberedFile). list_any (is_of q) (rest_of task number a b f.maps)) fs
-          each [] = refl
-          each (f ∷ fs) = ap (λ c. c || list_any (λ (f : NumberedFile). list_any (is_of q) f.maps) fs) (sym (other_tasks task number a b q apart f.maps)) ∙ ap (λ c. list_any (is_of q) (rest_of task number a b f.maps) || c) (each fs)
+          tallied : (q : ℕ) (c : Bool) → (task == q) ≡ c → next q ≡ sum_by (maps_for q) (labels_of hs)
+          tallied q true e =
+              let left = tally_left q in
+              let one = ap (λ c. cond {A = ℕ} c 1 0 + 0) e in
+              let is = next_is q ∙ ap (λ c. cond c (tally task - 1) (tally q)) e ∙ ap (λ i. tally i - 1) (eqb-true task q e) in
+              omega (arith, left, one, is)
+          tallied q false e =
+              let left = tally_left q in
+              let none = ap (λ c. cond {A = ℕ} c 1 0 + 0) e in
+              let is = next_is q ∙ ap (λ c. cond c (tally task - 1) (tally q)) e in
+              omega (arith, left, none, is)
 
-      among_here : is_among task (tasks_of fs) ≡ true
-      among_here = any_of_task task fs ∙ any_at (λ (f : NumberedFile). list_any (is_of task) f.maps) fs k no_file l
-          (ap (λ (f : NumberedFile). list_any (is_of task) f.maps) (sym x_is) ∙ any_at (is_of task) x.maps j no_mapping jl (and_parts (m.task == task) (m.number == number) m_is).0)
-
-      module _ (has : Bool) (has_is : has ≡ list_any (λ (f : NumberedFile). list_any (is_of task) f.maps) hs) where
-        tasks_left : length (distinct (tasks_of hs)) + cond (not has) 1 0 ≡ tasks
-        tasks_left = (let was = is.keyed.task_count in let step = by has (any_of_task task hs ∙ sym has_is) in omega (arith, was, step))
-          where
-            by : (c : Bool) → is_among task (tasks_of hs) ≡ c → length (distinct (tasks_of hs)) + cond (not c) 1 0 ≡ length (distinct (tasks_of fs))
-            by true still = (let same = same_members (tasks_of hs) (tasks_of fs) (λ q. at q (q == task) refl) in omega (arith, same))
-              where
-                at : (q : ℕ) (c : Bool) → (q == task) ≡ c → is_among q (tasks_of hs) ≡ is_among q (tasks_of fs)
-                at q true same = (let it : q ≡ task = eqb-true q task same in ap (λ i. is_among i (tasks_of hs)) it ∙ still ∙ sym (ap (λ i. is_among i (tasks_of fs)) it ∙ among_here))
-                at q false apart = sym (among_other q apart)
-            by false none = sym (one_more_member task (tasks_of hs) (tasks_of fs) (λ q. at q (q == task) refl) none)
-              where
-                at : (q : ℕ) (c : Bool) → (q == task) ≡ c → is_among q (tasks_of fs) ≡ ((task == q) || is_among q (tasks_of hs))
-                at q true same =
-                    let it : q ≡ task = eqb-true q task same in
-                    let back : (task == q) ≡ true = grind (arith, nat_tests, same) in
-                    ap (λ i. is_among i (tasks_of fs)) it ∙ among_here ∙ sym (ap (λ c. c || is_among q (tasks_of hs)) back)
-                at q false apart = (let back : (task == q) ≡ false = grind (arith, nat_tests, apart) in among_other q apart ∙ sym (ap (λ c. c || is_among q (tasks_of hs)) back))
-
-        pub few_tasks : bool_byte (not has) ≤ tasks
-        few_tasks = (let left = tasks_left in let is = byte_is (not has) in omega (arith, left, is))
-
-        keys_gone : sum_by (keys_in task number) (labels_of hs) ≡ 0
-        keys_gone =
-            let through = sum_through (keys_in task number) label_of hs in
-            let same = hs_sum count (λ f out. keys_are task task number f ∙ ap (count_by (is_map task number)) (empty_file f out).0) in
-            let step = sum_by-set count fs k rest no_file l in
-            let all = few in
-            let here = one_here in
-            let was = count_here in
-            let one = one_map in
-            let left = keys_are task task number rest in
-            let bare = ap (λ (f : NumberedFile). count_by (is_map task number) f.maps) (sym rest_left ∙ g_is ∙ ap (λ c. record x { maps = cond c (slice_set x.maps j z) (remove x.maps j) }) mapped) in
-            let fewer = sum_by-remove (λ (q : Mapping ℕ). cond {A = ℕ} (is_map task number q) 1 0) x.maps j no_mapping jl in
-            let own = ap (λ c. cond {A = ℕ} c 1 0 + 0) m_is in
-            omega (arith, through, same, step, all, here, was, one, left, bare, fewer, own)
-
-        pub went_keeps : IsMoreButMap task number n later → IsFiles later u last (maps - 1) (tasks - bool_byte (not has)) hs
-        unfolding g
-        went_keeps grown =
-            left_keeps n s u more last maps tasks fs hs is g went_is went_dropping counted (λ f. refl) (less task number a b) (λ f. refl) (keys_fewer task number a b) (left_level task number a b) later (maps - 1) (tasks - bool_byte (not has))
-            (left_noted n s u more last maps tasks fs hs is g went_is went_dropping counted (λ f. refl) (less task number a b) (λ f. refl) (keys_fewer task number a b) later grown.names (λ q i e. at q i e (is_pair q i (task, number)) refl))
-            maps_left (let left = tasks_left in let is = byte_is (not has) in omega (arith, left, is))
-          where
-            at : (q i : ℕ) → has_key q i later ≡ false → (c : Bool) → is_pair q i (task, number) ≡ c → sum_by (keys_in q i) (labels_of hs) ≡ 0
-            at q i e true same =
-                let parts = and_parts (q == task) (i == number) same in
-                ap (λ w. sum_by (keys_in w i) (labels_of hs)) (eqb-true q task parts.0) ∙ ap (λ w. sum_by (keys_in task w) (labels_of hs)) (eqb-true i number parts.1) ∙ keys_gone
-            at q i e false apart =
-                let fewer = keys_less n s u more last maps tasks fs hs is g went_is went_dropping counted (λ f. refl) (less task number a b) (λ f. refl) (keys_fewer task number a b) q i in
-                let none = is.noted.keys q i (grown.keys q i apart e) in
-                omega (arith, fewer, none)
+          at : (q i : ℕ) → has_key q i later ≡ false → (c : Bool) → is_pair q i (task, number) ≡ c → sum_by (keys_in q i) (labels_of hs) ≡ 0
+          at q i e true same =
+              let parts = and_parts (q == task) (i == number) same in
+              ap (λ w. sum_by (keys_in w i) (labels_of hs)) (eqb-true q task parts.0) ∙ ap (λ w. sum_by (keys_in task w) (labels_of hs)) (eqb-true i number parts.1) ∙ keys_gone
+          at q i e false apart =
+              let fewer = keys_less n s u more last maps tally fs hs is g went_is went_dropping counted (λ f. refl) (less task number a b) (λ f. refl) (keys_fewer task number a b) q i in
+              let none = is.noted.keys q i (grown.keys q i apart e) in
+              omega (arith, fewer, none)

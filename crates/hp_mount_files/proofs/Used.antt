@@ -1,7 +1,7 @@
 -- The least number that is not used, and which numbers a task's maps have.
 use Rattle.std.proofs.Common.{◌≡◌, ℕ, ◌+◌, ◌-◌, ◌<◌, ◌≤◌, ◌==◌, ◌&&◌, ◌||◌, ⊎_elim, subst, Bool, true, false, not, cond, Option, None, Some, List, [], ◌∷◌, ◌++◌, length, map, refl, sym, ap, ◌∙◌, arith}
 use Rattle.std.specs.Prelude.{is_some, IfNone, IfSome}
-use Rattle.std.specs.List.{filter, flat_map, list_any, position_or_len, range_with_len}
+use Rattle.std.specs.List.{filter, list_any, position_or_len, range_with_len}
 use Rattle.std.specs.Option.{option_map}
 use Rattle.std.proofs.lemmas.Bool.{cases_lt}
 use Rattle.std.proofs.lemmas.List.{map-append}
@@ -12,18 +12,13 @@ use Rattle.hp_model.specs.declared.limits.Limits.{Limits}
 use Rattle.hp_model.specs.files.File.{File}
 use Rattle.hp_model.specs.Lists.{found, is_among, least_unused, one_on}
 use Rattle.hp_model.specs.files.MakeMap.{numbers_of}
-use Rattle.hp_model.specs.files.Mapping.{Map, Mapping, is_map, is_of}
+use Rattle.hp_model.specs.files.Mapping.{Map, is_map, is_of}
 use Rattle.hp_model.specs.files.Spot.{spot, spot_in}
 use Rattle.hp_model.proofs.Counting.{count_not, count_outside}
 use Rattle.hp_model.proofs.Distinct.{is_among-append}
-use Rattle.hp_store.specs.Store.{Store}
 use Rattle.hp_mount_files.specs.declared.files.MapPlace.{MapPlace}
-use Rattle.hp_mount_files.specs.Asking.{is_first_of}
-use Rattle.hp_mount_files.specs.Keyed.{key_of, label_of, labels_of, tasks_in}
-use Rattle.hp_mount_files.specs.Numbered.{NumberedFile, files_shown}
-use Rattle.hp_mount_files.specs.Places.{all_maps, all_tasks, has_it, mount_with, IsFound, IsMissing}
-use Rattle.hp_mount_files.proofs.MapNumbers.{among_distinct, few_among}
-use Rattle.hp_mount_files.proofs.Unique.{tasks_counted}
+use Rattle.hp_mount_files.specs.Places.{all_maps, has_it, mount_with, IsFound, IsMissing}
+use Rattle.hp_mount_files.proofs.MapNumbers.{few_among}
 
 -- ---- the numbers below n are used
 
@@ -144,22 +139,3 @@ task_of_number task number (m ∷ ms) e = at (m.task == task) (task_of_number ta
         → is_among number (map (λ (x : Map). x.number) (cond b (m ∷ filter (is_of task) ms) (filter (is_of task) ms))) ≡ true → (b || is_among task (map (λ x. x.task) ms)) ≡ true
     at true rest e = refl
     at false rest e = rest e
-
-tasks_among : (task : ℕ) (ms : List (Mapping ℕ)) → is_among task (map (λ (k : ℕ × ℕ). k.0) (map key_of ms)) ≡ list_any (is_of task) ms
-tasks_among task [] = refl
-tasks_among task (m ∷ ms) = ap (λ b. (m.task == task) || b) (tasks_among task ms)
-
-pub any_of_task : (task : ℕ) (fs : List NumberedFile) → is_among task (flat_map tasks_in (labels_of fs)) ≡ list_any (λ (f : NumberedFile). list_any (is_of task) f.maps) fs
-any_of_task task [] = refl
-any_of_task task (f ∷ fs) =
-    is_among-append task (tasks_in (label_of f)) (flat_map tasks_in (labels_of fs)) ∙ ap (λ b. b || is_among task (flat_map tasks_in (labels_of fs))) (tasks_among task f.maps)
-    ∙ ap (λ b. list_any (is_of task) f.maps || b) (any_of_task task fs)
-
-pub has_maps_if : (s : Store) (task : ℕ) (fs : List NumberedFile) → list_any (λ (f : NumberedFile). list_any (is_of task) f.maps) fs ≡ not (is_first_of task (files_shown s fs))
-has_maps_if s task fs =
-    sym (any_of_task task fs) ∙ ap (is_among task) (tasks_counted s fs) ∙ sym (among_distinct task (map (λ (m : Map). m.task) (all_maps (files_shown s fs))))
-    ∙ twice (is_among task (all_tasks (files_shown s fs)))
-  where
-    twice : (b : Bool) → b ≡ not (not b)
-    twice true = refl
-    twice false = refl

@@ -45,8 +45,8 @@ pub record AreNoted (n : Noted) (ls : List Label) : Type 0 where
   pub keys : (task number : ℕ) → has_key task number n ≡ false → sum_by (keys_in task number) ls ≡ 0
 
 -- what holds of the files of a mount
-pub record IsFiles (n : Noted) (s : Store) (more maps tasks : ℕ) (fs : List NumberedFile) : Type 0 where
+pub record IsFiles (n : Noted) (s : Store) (more maps : ℕ) (tally : ℕ → ℕ) (fs : List NumberedFile) : Type 0 where
   pub held : IsHeld s more fs
-  pub keyed : IsKeyed maps tasks (labels_of fs)
+  pub keyed : IsKeyed maps tally (labels_of fs)
   pub noted : AreNoted n (labels_of fs)
   pub level : All (λ (f : NumberedFile). AreLevel f.maps) fs

@@ -1,8 +1,7 @@
 -- What files and maps are called. No public clause cites this module.
 use Rattle.std.specs.Prelude.{◌≡◌, ℕ, ◌≤◌, ◌&&◌, ◌||◌, ◌==◌, Bool, true, false, is_some, nat_lt, Option, None, Some, List, length, map}
-use Rattle.std.specs.List.{All, count_by, filter, flat_map, sum_by}
+use Rattle.std.specs.List.{All, count_by, filter, sum_by}
 use Rattle.std.specs.Str.{bytes_eq}
-use Rattle.hp_model.specs.Lists.{distinct}
 use Rattle.hp_model.specs.files.Mapping.{Mapping, is_of}
 use Rattle.hp_mount_files.specs.Numbered.{NumberedFile}
 
@@ -40,14 +39,18 @@ numbers_in task ms = map (λ m. m.number) (filter (is_of task) ms)
 abbrev pub tasks_in : Label → List ℕ
 tasks_in l = map (λ k. k.0) l.keys
 
+-- how many of them are a task's
+abbrev pub maps_for : ℕ → Label → ℕ
+maps_for task l = count_by (λ (k : ℕ × ℕ). k.0 == task) l.keys
+
 -- a file without a name and without maps is gone
 abbrev pub is_listed : Label → Bool
 is_listed l = is_some l.name || nat_lt 0 (length l.keys)
 
--- no file is gone, no two have one name, nor two maps one task and number; and so many maps there are, of so many tasks
-pub record IsKeyed (maps tasks : ℕ) (ls : List Label) : Type 0 where
+-- no file is gone, no two have one name, nor two maps one task and number; and so many maps there are, and so many of each task
+pub record IsKeyed (maps : ℕ) (tally : ℕ → ℕ) (ls : List Label) : Type 0 where
   pub kept : All (λ (l : Label). is_listed l ≡ true) ls
   pub names : (name : List ℕ) → count_by (has_label name) ls ≤ 1
   pub keys : (task number : ℕ) → sum_by (keys_in task number) ls ≤ 1
   pub map_count : maps ≡ sum_by (λ (l : Label). length l.keys) ls
-  pub task_count : tasks ≡ length (distinct (flat_map tasks_in ls))
+  pub tallied : (task : ℕ) → tally task ≡ sum_by (maps_for task) ls

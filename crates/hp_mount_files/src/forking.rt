@@ -6,6 +6,7 @@ ghost use Rattle.hp_mount_files.specs.Dropping.{HasHolders};
 ghost use Rattle.hp_mount_files.specs.Forking.{IsSharing, children_of, copies_in};
 ghost use Rattle.hp_mount_files.specs.Held.{in_map, more_in};
 
+use crate::tags::Tags;
 use hp_mapping::Mapping;
 use hp_model::naming::Naming;
 use hp_model::page_no::PageNo;
@@ -89,6 +90,7 @@ pub(crate) fn share_all<N: Naming>(maps: &[Mapping], store: &mut PageStore<N>, m
 pub(crate) fn children(
     maps: &[Mapping],
     alloc: Global,
+    tags: &mut Tags,
     parent: u64,
     child: u64,
 ) -> Result<Vec<Mapping>, AllocError>
@@ -99,7 +101,7 @@ pub(crate) fn children(
     let mut list = Vec::new(alloc);
     for map in maps {
         if map.task() == parent {
-            let Ok(()) = list.push(map.fork_for(child)?) else {
+            let Ok(()) = list.push(map.fork_for(tags.take(), child)?) else {
                 return Err(AllocError);
             };
         }

@@ -64,13 +64,18 @@ impl MapRange {
     }
 
     /// The map, which has no copy yet.
-    pub(crate) fn mapping(&self, alloc: Global, number: u64) -> Result<Mapping, AllocError>
+    pub(crate) fn mapping(
+        &self,
+        alloc: Global,
+        tag: u64,
+        number: u64,
+    ) -> Result<Mapping, AllocError>
         requires { self.now.start + self.now.pages < 2 ^ 64 }
         ensures { IfOk result (λ map. map ≡ new_mapping self.now.task number self.now.start
             self.now.pages self.now.sharing self.now.reserving) }
     {
         let end = self.start + self.pages;
-        let map = Mapping::new(alloc, self.task, number, self.start, end, self.flags())?;
+        let map = Mapping::new(alloc, tag, self.task, number, self.start, end, self.flags())?;
         Ok(map)
     }
 }

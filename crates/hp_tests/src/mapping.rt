@@ -11,7 +11,7 @@ use std::test::Fail;
 fn owned(alloc: Global, a: u64, b: u64) -> Result<Mapping, AllocError>
     requires { a ≤ b }
 {
-    Mapping::new(alloc, 7, 3, a, b, MapFlags::OWNER)
+    Mapping::new(alloc, 0, 7, 3, a, b, MapFlags::OWNER)
 }
 
 // The same, tried again where memory is refused.
@@ -26,18 +26,18 @@ fn owned_at_last(alloc: Global, a: u64, b: u64) -> Result<Mapping, AllocError>
 
 // A fork that refused memory leaves the map as it was.
 fn forked_at_last<R: Abort>(rt: &R, map: &Mapping) -> Result<Mapping, AllocError> {
-    match map.fork_for(8) {
+    match map.fork_for(1, 8) {
         Ok(child) => Ok(child),
         Err(_) => {
             shows(rt, map, 150, (true, true, page(5)));
             shows(rt, map, 199, (true, true, None));
-            map.fork_for(8)
+            map.fork_for(1, 8)
         }
     }
 }
 
 fn forked(map: &Mapping) -> Result<Mapping, AllocError> {
-    map.fork_for(8)
+    map.fork_for(1, 8)
 }
 
 fn page(number: u32) -> Option<PageNo> {

@@ -1,7 +1,5 @@
 //! A child's maps of a file.
 ghost use Rattle.std.specs.Prelude.{◌≡◌, ◌++◌, ◌^◌, ◌+◌, ◌≤◌, ℕ, length, IfOk};
-ghost use Rattle.std.specs.List.{count_by};
-ghost use Rattle.hp_model.specs.files.Mapping.{is_of};
 ghost use Rattle.hp_store.specs.Store.{holders_of, page_at};
 ghost use Rattle.hp_mount_files.specs.Dropping.{HasHolders};
 ghost use Rattle.hp_mount_files.specs.Forking.{HasRoom, IsReady, IsSharing, in_list, list_copies, with_list};
@@ -9,37 +7,24 @@ ghost use Rattle.hp_mount_files.specs.Held.{more_in};
 
 use super::File;
 use crate::forking::{children, share_all};
+use crate::tags::Tags;
 use hp_mapping::Mapping;
 use hp_model::naming::Naming;
 use hp_store::PageStore;
 use std::alloc::{AllocError, Global};
 
 impl File {
-    /// How many maps a task has of it.
-    pub(crate) fn map_count_for(&self, task: u64) -> usize
-        ensures count { result ≡ count_by (is_of task) self.now.maps }
-        ensures few { result ≤ length self.now.maps }
-    {
-        let maps = self.maps.as_slice();
-        let mut count = 0;
-        for map in maps {
-            if map.task() == task {
-                count += 1;
-            }
-        }
-        count
-    }
-
     /// The maps that a child gets for those of a parent, in a list that has room for all the file's maps.
     pub(crate) fn children(
         &self,
         alloc: Global,
+        tags: &mut Tags,
         parent: u64,
         child: u64,
     ) -> Result<Vec<Mapping>, AllocError>
         ensures { IfOk result (IsReady parent child self.now) }
     {
-        let list = children(&self.maps, alloc, parent, child)?;
+        let list = children(&self.maps, alloc, tags, parent, child)?;
         Ok(list)
     }
 

@@ -9,8 +9,8 @@ ghost use Rattle.hp_mount_files.specs.Leaving.{IsMoreButTask, cut_at, emptied, f
 use super::File;
 use crate::departed::Departed;
 use crate::dropping::{end_maps_of, leave_range};
-use crate::files::MapPlace;
 use crate::hints::Hints;
+use crate::map_tag::MapTag;
 use hp_model::naming::Naming;
 use hp_store::PageStore;
 
@@ -110,21 +110,18 @@ impl File {
         let _gone = self.maps.remove(map);
     }
 
-    /// The file stands at a place: it and its maps are noted there, if they were noted. Takes a step for each map.
-    pub(crate) fn note_place(&self, file: usize, hints: &mut Hints)
+    /// Notes the tags of a task's maps, where they were noted. Takes a step for each map.
+    pub(crate) fn retag_maps(&self, task: u64, hints: &mut Hints)
         ensures { hints.new ≡ hints.old }
     {
-        self.note_name(file, hints);
-        for (map, at) in self.maps.iter().enumerate() {
-            hints.move_map(at.task(), at.number(), MapPlace { file, map });
-        }
-    }
-
-    fn note_name(&self, file: usize, hints: &mut Hints)
-        ensures { hints.new ≡ hints.old }
-    {
-        if let Some(name) = &self.name {
-            hints.move_file(name.as_slice(), file);
+        for map in &self.maps {
+            if map.task() == task {
+                let tag = MapTag {
+                    file: self.tag,
+                    map: map.tag(),
+                };
+                hints.retag_map(task, map.number(), tag);
+            }
         }
     }
 }

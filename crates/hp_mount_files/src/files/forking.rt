@@ -13,9 +13,11 @@ ghost use Rattle.hp_model.specs.files.Mapping.{is_of};
 ghost use Rattle.hp_model.specs.files.MountCounts.{file_reserves};
 
 use super::Files;
-use super::leaving::{drop_maps_of, has_task, note_places};
+use super::leaving::drop_maps_of;
 use crate::file::File;
 use crate::forking::copies_of;
+use crate::hints::Hints;
+use crate::tags::Tags;
 use hp_mapping::Mapping;
 use hp_model::naming::Naming;
 use hp_store::PageStore;
@@ -25,6 +27,7 @@ use std::alloc::{AllocError, Global};
 fn children(
     files: &[File],
     alloc: Global,
+    tags: &mut Tags,
     parent: u64,
     child: u64,
 ) -> Result<Vec<Vec<Mapping>>, AllocError>
@@ -32,7 +35,7 @@ fn children(
 {
     let mut lists = Vec::new(alloc);
     for file in files {
-        let Ok(()) = lists.push(file.children(alloc, parent, child)?) else {
+        let Ok(()) = lists.push(file.children(alloc, tags, parent, child)?) else {
             return Err(AllocError);
         };
     }
@@ -73,38 +76,21 @@ fn join_all<N: Naming>(
     }
 }
 
-// How many maps of some files are a task's.
-fn map_total_of(files: &[File], task: u64) -> u64
-    requires { map_sum files.now < 2 ^ 64 }
-    ensures { result ≡ sum_by (λ f. count_by (is_of task) f.maps) files.now }
+// Notes the tags of a task's maps again.
+fn retag_maps(task: u64, files: &[File], hints: &mut Hints)
+    ensures { hints.new ≡ hints.old }
 {
-    let mut count = 0;
     for file in files {
-        count += file.map_count_for(task) as u64;
+        file.retag_maps(task, hints);
     }
-    count
-}
-
-// How many maps some files have.
-fn map_total(files: &[File]) -> u64
-    requires { map_sum files.now < 2 ^ 64 }
-    ensures { result ≡ map_sum files.now }
-{
-    let mut count = 0;
-    for file in files {
-        count += file.map_count() as u64;
-    }
-    count
 }
 
 impl<N: Naming> Files<N> {
-    /// How many maps a task has. It takes a step for each file and map.
+    /// How many maps a task has.
     pub fn map_count_for(&self, task: u64) -> u64
         ensures { result ≡ count_by (is_of task) (all_maps self.now.files) }
     {
-        // 64 bits count all maps
-        let _all = self.map_count();
-        map_total_of(&self.list, task)
+        self.counts.count(task)
     }
 
     /// A child gets a map for each of its parent's: the same number, range, copies and mark; it owns nothing. Maps that
@@ -125,8 +111,9 @@ impl<N: Naming> Files<N> {
         ensures err { OnErr result (self.new ≡ record self.old { room = self.new.room }) }
         ensures more { OnErr result (self.old.room ≤ self.new.room) }
     {
-        let lists = children(&self.list, self.alloc, parent, child)?;
+        let lists = children(&self.list, self.alloc, &mut self.tags, parent, child)?;
         let hints = self.hints.forked(self.alloc, parent, child)?;
+        self.counts.make_room()?;
         let room = held.saturating_add(all_copies(&lists));
         let all = room.saturating_add(self.more as u64);
         self.store.make_room(all as usize)?;
@@ -140,10 +127,11 @@ impl<N: Naming> Files<N> {
         join_all(&mut self.list, lists, &mut self.store, &mut self.more);
         self.list.retain(|f| f.is_used());
         self.hints.take_maps(hints);
-        note_places(&self.list, &mut self.hints);
-        self.maps = map_total(&self.list);
-        self.tasks -= (gone.maps > 0) as u64;
-        self.tasks += has_task(&self.list, parent) as u64;
+        retag_maps(child, &self.list, &mut self.hints);
+        let count = self.counts.count(parent);
+        self.maps -= gone.maps;
+        self.maps += count;
+        self.counts.set(child, count);
         Ok(gone.reserves)
     }
 }

@@ -1,8 +1,8 @@
 //! Maps that leave the files.
 ghost use Rattle.std.specs.Prelude.{◌≡◌, ◌^◌, ◌+◌, ◌<◌, ◌≤◌, ℕ, [], length, map, IfNone, IfSome};
-ghost use Rattle.std.specs.List.{filter, list_any, sum_by};
+ghost use Rattle.std.specs.List.{filter, sum_by};
 ghost use Rattle.hp_model.specs.files.GiveBack.{file_unmapped, file_without, is_kept};
-ghost use Rattle.hp_model.specs.files.Mapping.{is_map, is_of};
+ghost use Rattle.hp_model.specs.files.Mapping.{is_map};
 ghost use Rattle.hp_model.specs.files.MountCounts.{file_reserves};
 ghost use Rattle.hp_store.specs.Store.{holders_of, page_at};
 ghost use Rattle.hp_mount_files.specs.Dropping.{HasHolders, IsDropping, IsLeft};
@@ -16,6 +16,9 @@ use crate::file::File;
 use crate::hints::Hints;
 use hp_model::naming::Naming;
 use hp_store::PageStore;
+
+// A mount has no more maps, so no map has a greater number.
+const MOST_MAPS: u64 = 4096;
 
 // All maps of a task go from each of some files. A file that is left without name and maps loses its pages and entries.
 pub(super) fn drop_maps_of<N: Naming>(
@@ -53,7 +56,6 @@ pub(super) fn drop_maps_of<N: Naming>(
 fn sweep_file<N: Naming>(
     files: &mut Vec<File>,
     at: usize,
-    hints: &mut Hints,
     store: &mut PageStore<N>,
     more: &mut usize,
 ) -> u64
@@ -66,30 +68,12 @@ fn sweep_file<N: Naming>(
         store.old store.new }
     ensures counted { more.new ≡ more_in store.new.pages }
     ensures reserves { result + sum_by file_owed files.new.items ≡ sum_by file_owed files.old.items }
-    ensures hints { hints.new ≡ hints.old }
 {
     if files[at].is_used() {
         return 0;
     }
     let gone = files.remove(at);
-    hints.move_down(at);
     gone.close(store, more)
-}
-
-// Notes again where files and their maps are.
-pub(super) fn note_places(files: &[File], hints: &mut Hints)
-    ensures { hints.new ≡ hints.old }
-{
-    for (at, file) in files.iter().enumerate() {
-        file.note_place(at, hints);
-    }
-}
-
-// Whether a task has a map of one of the files.
-pub(super) fn has_task(files: &[File], task: u64) -> bool
-    ensures { result ≡ list_any (λ f. list_any (is_of task) f.maps) files.now }
-{
-    files.iter().any(|f| f.has_task(task))
 }
 
 impl<N: Naming> Files<N> {
@@ -106,14 +90,15 @@ impl<N: Naming> Files<N> {
         least
     }
 
-    /// All maps of a task go, with their private copies and what their owners have not consumed. Files that are left
-    /// without name and maps go, with their pages and entries, and the others move down. Answers how many reservations
-    /// went. It takes a step for each file and map, and for each page and copy that went; and no memory.
-    pub fn exit(&mut self, task: u64) -> u64
+    // The task's maps go, found by going over the files, as by `exit`.
+    fn exit_among_all(&mut self, task: u64) -> u64
         requires { sum_by file_reserves self.old.files < 2 ^ 64 }
         ensures files { self.new.files ≡ filter is_kept (map (file_without task) self.old.files) }
         ensures left { IsLeft result self.old self.new }
     {
+        if !self.has_maps(task) {
+            return 0;
+        }
         let gone = drop_maps_of(
             task,
             &mut self.list,
@@ -122,16 +107,49 @@ impl<N: Naming> Files<N> {
             &mut self.more,
         );
         self.list.retain(|f| f.is_used());
-        note_places(&self.list, &mut self.hints);
         self.maps -= gone.maps;
-        self.tasks -= (gone.maps > 0) as u64;
+        self.counts.set(task, 0);
         gone.reserves
+    }
+
+    // The task's map of that number goes, if there is one. What the task leaves behind in the end is the same.
+    fn exit_map(&mut self, task: u64, number: u64) -> u64
+        requires { sum_by file_reserves self.old.files < 2 ^ 64 }
+        ensures files { filter is_kept (map (file_without task) self.new.files)
+            ≡ filter is_kept (map (file_without task) self.old.files) }
+        ensures left { IsLeft result self.old self.new }
+    {
+        let Some(at) = self.find(task, number) else {
+            return 0;
+        };
+        let map = self.list[at.file].map(at.map);
+        let start = map.start();
+        let end = map.end();
+        self.unmap(at, task, number, start, end)
+    }
+
+    /// All maps of a task go, with their private copies and what their owners have not consumed. Files that are left
+    /// without name and maps go, with their pages and entries, and the others move down. Answers how many reservations
+    /// went. It takes a step for each number up to the greatest of the task's maps, for each index that they had, and for
+    /// each page that went; and no memory.
+    pub fn exit(&mut self, task: u64) -> u64
+        requires { sum_by file_reserves self.old.files < 2 ^ 64 }
+        ensures files { self.new.files ≡ filter is_kept (map (file_without task) self.old.files) }
+        ensures left { IsLeft result self.old self.new }
+    {
+        let mut reserves = 0;
+        let mut number = 1;
+        while number <= MOST_MAPS && self.has_maps(task) {
+            reserves += self.exit_map(task, number);
+            number += 1;
+        }
+        reserves + self.exit_among_all(task)
     }
 
     /// The file's indices from `a` up to `b` leave a task's map, with its private copies of them and what its owner has not
     /// consumed there. A map without indices goes; so does a file that is left without name and maps, with its pages and
     /// entries. Answers how many reservations went. It takes a step for each index of the range that the map had, and for
-    /// each page that went; where the map goes, one for each file and map. It takes no memory.
+    /// each page that went; and no memory.
     pub fn unmap(&mut self, at: MapPlace, task: u64, number: u64, a: u64, b: u64) -> u64
         requires found { IsFound self.old.files task number at.file at.map }
         requires order { a ≤ b }
@@ -147,16 +165,10 @@ impl<N: Naming> Files<N> {
         }
         file.remove_map(at.map);
         self.hints.forget_map(task, number);
-        self.hints.move_maps_down(at);
-        let entries = sweep_file(
-            &mut self.list,
-            at.file,
-            &mut self.hints,
-            &mut self.store,
-            &mut self.more,
-        );
+        let entries = sweep_file(&mut self.list, at.file, &mut self.store, &mut self.more);
         self.maps -= 1;
-        self.tasks -= !has_task(&self.list, task) as u64;
+        let count = self.counts.count(task);
+        self.counts.set(task, count - 1);
         reserves + entries
     }
 }

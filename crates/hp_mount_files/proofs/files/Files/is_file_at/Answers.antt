@@ -1,4 +1,5 @@
 use Rattle.std.proofs.Common.{subst, sym, ◌∙◌, arith}
+use Rattle.hp_mount_files.specs.Tally.{count_of}
 use Rattle.hp_mount_files.specs.Files.{Files}
 use Rattle.hp_mount_files.specs.Places.{IsNamed}
 use Rattle.hp_mount_files.proofs.Unique.{named_here}
@@ -8,4 +9,4 @@ pub returns : goal.returns
 returns g c is =
     let s = c.self.inside in
     subst (λ (v : Files). IsNamed v.files c.args.name.now c.args.at) c.self.view_is
-    (named_here s.store s.maps s.tasks s.list.items c.self.invariant.keyed c.args.name.now c.args.at c.index.result.now (omega (arith, c.if-at-len.false, c.len.ensures)) c.index.ensures (sym c.is_named.ensures ∙ is))
+    (named_here s.store s.maps (count_of s.counts) s.list.items c.self.invariant.keyed c.args.name.now c.args.at c.index.result.now (omega (arith, c.if-at-len.false, c.len.ensures)) c.index.ensures (sym c.is_named.ensures ∙ is))

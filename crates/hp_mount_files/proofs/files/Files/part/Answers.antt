@@ -5,6 +5,7 @@ use Rattle.hp_mapping.specs.Mapped.{at_place, with_copy}
 use Rattle.hp_model.specs.files.Mapping.{place_at}
 use Rattle.hp_model.specs.files.MountCounts.{stamps_of}
 use Rattle.hp_model.specs.Lists.{is_among}
+use Rattle.hp_mount_files.specs.Tally.{count_of}
 use Rattle.hp_mount_files.specs.declared.copy_state.CopyState.TheVariants as state
 use Rattle.hp_mount_files.specs.Files.{Files, parted_at}
 use Rattle.hp_mount_files.specs.Keyed.{label_of}
@@ -40,7 +41,7 @@ invariant_of-self g c =
     let several = (state_here c.self.view_is c.args.at.file c.args.at.map c.args.index state.HeldBySeveral c.requires.several) in
     let live = live_of (place_at (map_at (files_shown s.store s.list.items) c.args.at.file c.args.at.map) c.args.index) several.0 several.1 in
     let is = c.self.invariant in
-    files_same s.hints s.store c.drop_holder.new.store s.more c.drop_holder.new.more s.maps s.tasks s.list.items c.args.at.file x c.replace_copy-old.new.self (file_here c.self.view_is c.args.at.file c.requires.file) c.index_mut-file.ensures.value
+    files_same s.hints s.store c.drop_holder.new.store s.more c.drop_holder.new.more s.maps (count_of s.counts) s.list.items c.args.at.file x c.replace_copy-old.new.self (file_here c.self.view_is c.args.at.file c.requires.file) c.index_mut-file.ensures.value
     (ap label_of c.replace_copy-old.ensures.file ∙ same_label x c.args.at.map (at_place (with_copy n) c.args.index (mapping_at x c.args.at.map)) refl)
     (part_levels s.store s.more s.list.items c.self.invariant.held c.args.at.file c.args.at.map c.args.index (file_here c.self.view_is c.args.at.file c.requires.file) (map_here c.self.view_is c.args.at.file c.args.at.map c.requires.map) c.index_mut-file.result.now c.index_mut-file.ensures.value (state_here c.self.view_is c.args.at.file c.args.at.map c.args.index state.HeldBySeveral c.requires.several) c.replace_copy-old.result c.replace_copy-old.ensures.old c.insert-number.result c.args.page c.insert-number.new.self c.insert-number.ensures.fresh c.insert-number.ensures.within c.insert-number.ensures.inserted c.replace_copy-old.new.self c.replace_copy-old.ensures.file c.drop_holder.new.store c.drop_holder.ensures.dropped c.drop_holder.new.more c.drop_holder.ensures.counted live.0 several.0 live.1) is (part_keeps s.store s.more s.list.items c.self.invariant.held c.args.at.file c.args.at.map c.args.index (file_here c.self.view_is c.args.at.file c.requires.file) (map_here c.self.view_is c.args.at.file c.args.at.map c.requires.map) c.index_mut-file.result.now c.index_mut-file.ensures.value (state_here c.self.view_is c.args.at.file c.args.at.map c.args.index state.HeldBySeveral c.requires.several) c.replace_copy-old.result c.replace_copy-old.ensures.old c.insert-number.result c.args.page c.insert-number.new.self c.insert-number.ensures.fresh c.insert-number.ensures.within c.insert-number.ensures.inserted c.replace_copy-old.new.self c.replace_copy-old.ensures.file c.drop_holder.new.store c.drop_holder.ensures.dropped c.drop_holder.new.more c.drop_holder.ensures.counted live.0 several.0 live.1)
 

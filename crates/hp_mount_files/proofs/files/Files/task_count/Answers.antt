@@ -1,11 +1,16 @@
 use Rattle.std.proofs.Common.{ap, length, ◌∙◌}
+use Rattle.std.specs.List.{flat_map}
 use Rattle.hp_model.specs.Lists.{distinct}
 use Rattle.hp_mount_files.specs.Files.{Files}
+use Rattle.hp_mount_files.specs.Keyed.{labels_of, tasks_in}
 use Rattle.hp_mount_files.specs.Places.{all_tasks}
+use Rattle.hp_mount_files.proofs.Tallies.{tasks_tallied}
 use Rattle.hp_mount_files.proofs.Unique.{tasks_counted}
 use Rattle.hp_mount_files.proofs.files.Files.task_count.Goals as goal
 
 pub returns : goal.returns
 returns g c =
     let s = c.self.inside in
-    c.self.invariant.keyed.task_count ∙ ap (λ ts. length (distinct ts)) (tasks_counted s.store s.list.items) ∙ ap (λ (v : Files). length (all_tasks v.files)) c.self.view_is
+    let ls = labels_of s.list.items in
+    c.len.ensures (flat_map tasks_in ls) (λ q. c.self.invariant.keyed.tallied q ∙ tasks_tallied q ls)
+    ∙ ap (λ ts. length (distinct ts)) (tasks_counted s.store s.list.items) ∙ ap (λ (v : Files). length (all_tasks v.files)) c.self.view_is

@@ -1,9 +1,9 @@
 use Rattle.std.proofs.Common.{◌≡◌, arith, ◌<◌, length, ap, subst, sym, ◌∙◌}
 use Rattle.std.specs.Prelude.{slice_set}
 use Rattle.hp_model.specs.files.GiveBack.{unlinked}
+use Rattle.hp_mount_files.specs.Tally.{count_of}
 use Rattle.hp_mount_files.specs.Dropping.{IsLeft}
 use Rattle.hp_mount_files.specs.Files.{Files, edited_at, file_at}
-use Rattle.hp_mount_files.specs.Hints.{IsMoreBut}
 use Rattle.hp_mount_files.specs.Places.{IsNamed}
 use Rattle.hp_mount_files.proofs.Unlinking.{gone_files, gone_keeps, gone_left, named_files, named_keeps, named_left, same_maps}
 use Rattle.hp_mount_files.proofs.Views.{view}
@@ -15,7 +15,7 @@ invariant_of-self g c =
     let k = c.args.file in
     let same = same_maps s.store s.list.items k c.args.name.now (subst (λ v. IsNamed v.files c.args.name.now k) (sym c.self.view_is) c.requires) c.index.result.now c.index_mut-at.result.now c.index.ensures c.index_mut-at.ensures.value in
     let some : 0 < length c.index_mut-at.result.now.maps = omega (arith, same, c.map_count.ensures, c.if-map_count-gt0.true) in
-    named_keeps s.hints c.forget_file.new.self c.args.name.now c.forget_file.ensures s.store s.more s.maps s.tasks s.list.items c.self.invariant k (subst (λ v. IsNamed v.files c.args.name.now k) (sym c.self.view_is) c.requires) c.index_mut-at.result.now c.index_mut-at.ensures.value c.drop_name.new.self c.drop_name.ensures some
+    named_keeps s.hints c.forget_file.new.self c.args.name.now c.forget_file.ensures s.store s.more s.maps (count_of s.counts) s.list.items c.self.invariant k (subst (λ v. IsNamed v.files c.args.name.now k) (sym c.self.view_is) c.requires) c.index_mut-at.result.now c.index_mut-at.ensures.value c.drop_name.new.self c.drop_name.ensures some
 
 pub returns-then-map_count-gt0-clause-files : goal.returns-then-map_count-gt0-clause-files
 returns-then-map_count-gt0-clause-files g c =
@@ -23,7 +23,7 @@ returns-then-map_count-gt0-clause-files g c =
     let k = c.args.file in
     let same = same_maps s.store s.list.items k c.args.name.now (subst (λ v. IsNamed v.files c.args.name.now k) (sym c.self.view_is) c.requires) c.index.result.now c.index_mut-at.result.now c.index.ensures c.index_mut-at.ensures.value in
     let some : 0 < length c.index_mut-at.result.now.maps = omega (arith, same, c.map_count.ensures, c.if-map_count-gt0.true) in
-    named_files s.hints c.forget_file.new.self c.args.name.now c.forget_file.ensures s.store s.more s.maps s.tasks s.list.items c.self.invariant k (subst (λ v. IsNamed v.files c.args.name.now k) (sym c.self.view_is) c.requires) c.index_mut-at.result.now c.index_mut-at.ensures.value c.drop_name.new.self c.drop_name.ensures some
+    named_files s.hints c.forget_file.new.self c.args.name.now c.forget_file.ensures s.store s.more s.maps (count_of s.counts) s.list.items c.self.invariant k (subst (λ v. IsNamed v.files c.args.name.now k) (sym c.self.view_is) c.requires) c.index_mut-at.result.now c.index_mut-at.ensures.value c.drop_name.new.self c.drop_name.ensures some
     ∙ ap (λ (v : Files). edited_at k (unlinked (file_at v.files k)) v.files) c.self.view_is
 
 pub returns-then-map_count-gt0-clause-left : goal.returns-then-map_count-gt0-clause-left
@@ -33,26 +33,24 @@ returns-then-map_count-gt0-clause-left g c =
     let same = same_maps s.store s.list.items k c.args.name.now (subst (λ v. IsNamed v.files c.args.name.now k) (sym c.self.view_is) c.requires) c.index.result.now c.index_mut-at.result.now c.index.ensures c.index_mut-at.ensures.value in
     let some : 0 < length c.index_mut-at.result.now.maps = omega (arith, same, c.map_count.ensures, c.if-map_count-gt0.true) in
     subst (λ v. IsLeft 0 v (view s.store s.more (slice_set s.list.items k c.drop_name.new.self))) c.self.view_is
-    (named_left s.hints c.forget_file.new.self c.args.name.now c.forget_file.ensures s.store s.more s.maps s.tasks s.list.items c.self.invariant k (subst (λ v. IsNamed v.files c.args.name.now k) (sym c.self.view_is) c.requires) c.index_mut-at.result.now c.index_mut-at.ensures.value c.drop_name.new.self c.drop_name.ensures some)
+    (named_left s.hints c.forget_file.new.self c.args.name.now c.forget_file.ensures s.store s.more s.maps (count_of s.counts) s.list.items c.self.invariant k (subst (λ v. IsNamed v.files c.args.name.now k) (sym c.self.view_is) c.requires) c.index_mut-at.result.now c.index_mut-at.ensures.value c.drop_name.new.self c.drop_name.ensures some)
 
 pub invariant_of-self-2 : goal.invariant_of-self-2
 invariant_of-self-2 g c =
     let s = c.self.inside in
     let k = c.args.file in
-    let forgets = subst (IsMoreBut c.args.name.now s.hints) (sym c.move_down.ensures) c.forget_file.ensures in
     let same = same_maps s.store s.list.items k c.args.name.now (subst (λ v. IsNamed v.files c.args.name.now k) (sym c.self.view_is) c.requires) c.index.result.now c.remove-gone.result c.index.ensures c.remove-gone.ensures.value in
     let bare : length c.remove-gone.result.maps ≡ 0 = omega (arith, same, c.map_count.ensures, c.if-map_count-gt0.false) in
-    gone_keeps s.hints c.move_down.new.self c.args.name.now forgets s.store s.more s.maps s.tasks s.list.items c.self.invariant k (subst (λ v. IsNamed v.files c.args.name.now k) (sym c.self.view_is) c.requires) c.remove-gone.result c.remove-gone.ensures.value
+    gone_keeps s.hints c.forget_file.new.self c.args.name.now c.forget_file.ensures s.store s.more s.maps (count_of s.counts) s.list.items c.self.invariant k (subst (λ v. IsNamed v.files c.args.name.now k) (sym c.self.view_is) c.requires) c.remove-gone.result c.remove-gone.ensures.value
     c.close.new.store c.close.new.more c.close.result c.remove-gone.new.self.items c.remove-gone.ensures.items bare c.close.ensures.dropping c.close.ensures.counted c.close.ensures.entries
 
 pub returns-clause-files : goal.returns-clause-files
 returns-clause-files g c =
     let s = c.self.inside in
     let k = c.args.file in
-    let forgets = subst (IsMoreBut c.args.name.now s.hints) (sym c.move_down.ensures) c.forget_file.ensures in
     let same = same_maps s.store s.list.items k c.args.name.now (subst (λ v. IsNamed v.files c.args.name.now k) (sym c.self.view_is) c.requires) c.index.result.now c.remove-gone.result c.index.ensures c.remove-gone.ensures.value in
     let bare : length c.remove-gone.result.maps ≡ 0 = omega (arith, same, c.map_count.ensures, c.if-map_count-gt0.false) in
-    gone_files s.hints c.move_down.new.self c.args.name.now forgets s.store s.more s.maps s.tasks s.list.items c.self.invariant k (subst (λ v. IsNamed v.files c.args.name.now k) (sym c.self.view_is) c.requires) c.remove-gone.result c.remove-gone.ensures.value
+    gone_files s.hints c.forget_file.new.self c.args.name.now c.forget_file.ensures s.store s.more s.maps (count_of s.counts) s.list.items c.self.invariant k (subst (λ v. IsNamed v.files c.args.name.now k) (sym c.self.view_is) c.requires) c.remove-gone.result c.remove-gone.ensures.value
     c.close.new.store c.close.new.more c.close.result c.remove-gone.new.self.items c.remove-gone.ensures.items bare c.close.ensures.dropping c.close.ensures.counted c.close.ensures.entries
     ∙ ap (λ (v : Files). edited_at k (unlinked (file_at v.files k)) v.files) c.self.view_is
 
@@ -60,9 +58,8 @@ pub returns-clause-left : goal.returns-clause-left
 returns-clause-left g c =
     let s = c.self.inside in
     let k = c.args.file in
-    let forgets = subst (IsMoreBut c.args.name.now s.hints) (sym c.move_down.ensures) c.forget_file.ensures in
     let same = same_maps s.store s.list.items k c.args.name.now (subst (λ v. IsNamed v.files c.args.name.now k) (sym c.self.view_is) c.requires) c.index.result.now c.remove-gone.result c.index.ensures c.remove-gone.ensures.value in
     let bare : length c.remove-gone.result.maps ≡ 0 = omega (arith, same, c.map_count.ensures, c.if-map_count-gt0.false) in
     subst (λ v. IsLeft c.close.result v (view c.close.new.store c.close.new.more c.remove-gone.new.self.items)) c.self.view_is
-    (gone_left s.hints c.move_down.new.self c.args.name.now forgets s.store s.more s.maps s.tasks s.list.items c.self.invariant k (subst (λ v. IsNamed v.files c.args.name.now k) (sym c.self.view_is) c.requires) c.remove-gone.result c.remove-gone.ensures.value
+    (gone_left s.hints c.forget_file.new.self c.args.name.now c.forget_file.ensures s.store s.more s.maps (count_of s.counts) s.list.items c.self.invariant k (subst (λ v. IsNamed v.files c.args.name.now k) (sym c.self.view_is) c.requires) c.remove-gone.result c.remove-gone.ensures.value
     c.close.new.store c.close.new.more c.close.result c.remove-gone.new.self.items c.remove-gone.ensures.items bare c.close.ensures.dropping c.close.ensures.counted c.close.ensures.entries)

@@ -1,20 +1,21 @@
-use Rattle.std.proofs.Common.{◌≡◌, Bool, ◌+◌, ◌<◌, ◌^◌, map, ap, subst, sym, ◌∙◌, arith}
+use Rattle.std.proofs.Common.{◌≡◌, ◌==◌, Bool, cond, ◌+◌, ◌-◌, ◌<◌, ◌^◌, map, ap, subst, sym, ◌∙◌, arith}
 use Rattle.std.specs.Prelude.{slice_set}
-use Rattle.std.specs.List.{filter, list_any, sum_by}
+use Rattle.std.specs.List.{filter, sum_by}
 use Rattle.hp_model.specs.files.GiveBack.{file_unmapped, is_kept}
-use Rattle.hp_model.specs.files.Mapping.{is_map, is_mapped, is_of, without_range}
+use Rattle.hp_model.specs.files.Mapping.{is_map, is_mapped, without_range}
 use Rattle.hp_model.specs.files.MountCounts.{file_reserves}
+use Rattle.hp_mount_files.specs.Tally.{count_of}
 use Rattle.hp_mount_files.specs.Dropping.{IsLeft}
 use Rattle.hp_mount_files.specs.Files.{Files}
-use Rattle.hp_mount_files.specs.Leaving.{IsMoreButMap, file_owed}
-use Rattle.hp_mount_files.specs.Numbered.{NumberedFile, files_shown, mapping_at}
+use Rattle.hp_mount_files.specs.Leaving.{file_owed}
+use Rattle.hp_mount_files.specs.Numbered.{files_shown, mapping_at}
 use Rattle.hp_mount_files.specs.Places.{IsFound}
 use Rattle.hp_mount_files.proofs.Leaving.{files_owe}
-use Rattle.hp_mount_files.proofs.Unmapping.{enough_held, few_reserves, few_tasks, read_again, some_maps, stays_files, stays_keeps, stays_left, went_files, went_keeps, went_left}
+use Rattle.hp_mount_files.proofs.Unmapping.{enough_held, few_reserves, read_again, some_maps, some_tally, stays_files, stays_keeps, stays_left, went_files, went_keeps, went_left}
 use Rattle.hp_mount_files.proofs.Views.{view}
 use Rattle.hp_mount_files.proofs.files.Files.unmap.Given.{Over}
 use Rattle.hp_mount_files.proofs.files.Files.unmap.Goals as goal
-use Rattle.hp_mount_files.proofs.files.Files.unmap.Goals.{After-has_task, After-is_mapped, After-sweep_file-entries}
+use Rattle.hp_mount_files.proofs.files.Files.unmap.Goals.{After-is_mapped, After-sweep_file-entries}
 
 -- the map that was found, and whether something of it is left
 module _ (g : Over) (c : After-is_mapped g) where
@@ -25,7 +26,7 @@ module _ (g : Over) (c : After-is_mapped g) where
   left e =
       let s = c.self.inside in
       let one = c.unmap-reserves in
-      read_again s.hints s.hints s.store one.new.store s.more one.new.more s.maps s.tasks s.list.items c.self.invariant c.args.task c.args.number c.args.a c.args.b c.args.at.file c.args.at.map there c.index_mut-file.result.now one.new.self
+      read_again s.hints s.hints s.store one.new.store s.more one.new.more s.maps (count_of s.counts) s.list.items c.self.invariant c.args.task c.args.number c.args.a c.args.b c.args.at.file c.args.at.map there c.index_mut-file.result.now one.new.self
       c.index_mut-file.ensures.value one.ensures.file one.ensures.dropping one.result one.ensures.reserves c.map.result.now c.map.ensures ∙ sym c.is_mapped.ensures ∙ e
 
   few : sum_by file_owed c.self.inside.list.items < 2 ^ 64
@@ -40,7 +41,7 @@ invariant_of-self g c =
     let s = c.self.inside in
     let one = c.unmap-reserves in
     let mapped = left g found c.if-is_mapped.true in
-    stays_keeps s.hints s.hints s.store one.new.store s.more one.new.more s.maps s.tasks s.list.items c.self.invariant c.args.task c.args.number c.args.a c.args.b c.args.at.file c.args.at.map (there g found) c.index_mut-file.result.now one.new.self c.index_mut-file.ensures.value one.ensures.file one.ensures.dropping one.result one.ensures.reserves mapped one.ensures.counted
+    stays_keeps s.hints s.hints s.store one.new.store s.more one.new.more s.maps (count_of s.counts) s.list.items c.self.invariant c.args.task c.args.number c.args.a c.args.b c.args.at.file c.args.at.map (there g found) c.index_mut-file.result.now one.new.self c.index_mut-file.ensures.value one.ensures.file one.ensures.dropping one.result one.ensures.reserves mapped one.ensures.counted
 
 pub returns-then-is_mapped-clause-files : goal.returns-then-is_mapped-clause-files
 returns-then-is_mapped-clause-files g c =
@@ -48,7 +49,7 @@ returns-then-is_mapped-clause-files g c =
     let s = c.self.inside in
     let one = c.unmap-reserves in
     let mapped = left g found c.if-is_mapped.true in
-    stays_files s.hints s.hints s.store one.new.store s.more one.new.more s.maps s.tasks s.list.items c.self.invariant c.args.task c.args.number c.args.a c.args.b c.args.at.file c.args.at.map (there g found) c.index_mut-file.result.now one.new.self c.index_mut-file.ensures.value one.ensures.file one.ensures.dropping one.result one.ensures.reserves mapped one.ensures.counted
+    stays_files s.hints s.hints s.store one.new.store s.more one.new.more s.maps (count_of s.counts) s.list.items c.self.invariant c.args.task c.args.number c.args.a c.args.b c.args.at.file c.args.at.map (there g found) c.index_mut-file.result.now one.new.self c.index_mut-file.ensures.value one.ensures.file one.ensures.dropping one.result one.ensures.reserves mapped one.ensures.counted
     ∙ ap (λ (v : Files). filter is_kept (map (file_unmapped (is_map c.args.task c.args.number) c.args.a c.args.b) v.files)) c.self.view_is
 
 pub returns-then-is_mapped-clause-left : goal.returns-then-is_mapped-clause-left
@@ -58,7 +59,7 @@ returns-then-is_mapped-clause-left g c =
     let one = c.unmap-reserves in
     let mapped = left g found c.if-is_mapped.true in
     subst (λ v. IsLeft one.result v (view one.new.store one.new.more (slice_set s.list.items c.args.at.file one.new.self))) c.self.view_is
-    (stays_left s.hints s.hints s.store one.new.store s.more one.new.more s.maps s.tasks s.list.items c.self.invariant c.args.task c.args.number c.args.a c.args.b c.args.at.file c.args.at.map (there g found) c.index_mut-file.result.now one.new.self c.index_mut-file.ensures.value one.ensures.file one.ensures.dropping one.result one.ensures.reserves mapped one.ensures.counted)
+    (stays_left s.hints s.hints s.store one.new.store s.more one.new.more s.maps (count_of s.counts) s.list.items c.self.invariant c.args.task c.args.number c.args.a c.args.b c.args.at.file c.args.at.map (there g found) c.index_mut-file.result.now one.new.self c.index_mut-file.ensures.value one.ensures.file one.ensures.dropping one.result one.ensures.reserves mapped one.ensures.counted)
 
 pub sweep_file-entries-requires-clause-held : goal.sweep_file-entries-requires-clause-held
 sweep_file-entries-requires-clause-held g c =
@@ -66,7 +67,7 @@ sweep_file-entries-requires-clause-held g c =
     let s = c.self.inside in
     let one = c.unmap-reserves in
     let mapped = left g found c.if-is_mapped.false in
-    enough_held s.hints s.hints s.store one.new.store s.more one.new.more s.maps s.tasks s.list.items c.self.invariant c.args.task c.args.number c.args.a c.args.b c.args.at.file c.args.at.map (there g found) c.index_mut-file.result.now one.new.self c.index_mut-file.ensures.value one.ensures.file one.ensures.dropping one.result one.ensures.reserves mapped c.remove_map.new.self c.remove_map.ensures
+    enough_held s.hints s.hints s.store one.new.store s.more one.new.more s.maps (count_of s.counts) s.list.items c.self.invariant c.args.task c.args.number c.args.a c.args.b c.args.at.file c.args.at.map (there g found) c.index_mut-file.result.now one.new.self c.index_mut-file.ensures.value one.ensures.file one.ensures.dropping one.result one.ensures.reserves mapped c.remove_map.new.self c.remove_map.ensures
 
 pub overflow_sub-self : goal.overflow_sub-self
 overflow_sub-self g c =
@@ -74,16 +75,17 @@ overflow_sub-self g c =
     let s = c.self.inside in
     let one = c.unmap-reserves in
     let mapped = left g found c.if-is_mapped.false in
-    some_maps s.hints s.hints s.store one.new.store s.more one.new.more s.maps s.tasks s.list.items c.self.invariant c.args.task c.args.number c.args.a c.args.b c.args.at.file c.args.at.map (there g found) c.index_mut-file.result.now one.new.self c.index_mut-file.ensures.value one.ensures.file one.ensures.dropping one.result one.ensures.reserves mapped c.remove_map.new.self c.remove_map.ensures
+    some_maps s.hints s.hints s.store one.new.store s.more one.new.more s.maps (count_of s.counts) s.list.items c.self.invariant c.args.task c.args.number c.args.a c.args.b c.args.at.file c.args.at.map (there g found) c.index_mut-file.result.now one.new.self c.index_mut-file.ensures.value one.ensures.file one.ensures.dropping one.result one.ensures.reserves mapped c.remove_map.new.self c.remove_map.ensures
 
-pub overflow_sub-self-2 : goal.overflow_sub-self-2
-overflow_sub-self-2 g c =
-    let found = (goal.at.overflow_sub-self-2 g c).After-is_mapped in
+pub overflow_sub-count : goal.overflow_sub-count
+overflow_sub-count g c =
+    let found = (goal.at.overflow_sub-count g c).After-is_mapped in
     let s = c.self.inside in
     let one = c.unmap-reserves in
     let mapped = left g found c.if-is_mapped.false in
     let last = c.sweep_file-entries in
-    few_tasks s.hints c.sweep_file-entries.new.hints s.store one.new.store s.more one.new.more s.maps s.tasks s.list.items c.self.invariant c.args.task c.args.number c.args.a c.args.b c.args.at.file c.args.at.map (there g found) c.index_mut-file.result.now one.new.self c.index_mut-file.ensures.value one.ensures.file one.ensures.dropping one.result one.ensures.reserves mapped c.remove_map.new.self c.remove_map.ensures last.new.store last.new.more last.new.files.items last.ensures.files last.ensures.dropping last.ensures.counted last.result last.ensures.reserves (few g found) c.has_task.result (c.has_task.ensures ∙ ap (list_any (λ (f : NumberedFile). list_any (is_of c.args.task) f.maps)) c.deref.ensures.value)
+    let some = some_tally s.hints c.forget_map.new.self s.store one.new.store s.more one.new.more s.maps (count_of s.counts) s.list.items c.self.invariant c.args.task c.args.number c.args.a c.args.b c.args.at.file c.args.at.map (there g found) c.index_mut-file.result.now one.new.self c.index_mut-file.ensures.value one.ensures.file one.ensures.dropping one.result one.ensures.reserves mapped c.remove_map.new.self c.remove_map.ensures last.new.store last.new.more last.new.files.items last.ensures.files last.ensures.dropping last.ensures.counted last.result last.ensures.reserves (few g found) in
+    omega (arith, some, c.count-count.ensures)
 
 pub overflow_add-result : goal.overflow_add-result
 overflow_add-result g c =
@@ -92,7 +94,7 @@ overflow_add-result g c =
     let one = c.unmap-reserves in
     let mapped = left g found c.if-is_mapped.false in
     let last = c.sweep_file-entries in
-    let few = few_reserves s.hints c.sweep_file-entries.new.hints s.store one.new.store s.more one.new.more s.maps s.tasks s.list.items c.self.invariant c.args.task c.args.number c.args.a c.args.b c.args.at.file c.args.at.map (there g found) c.index_mut-file.result.now one.new.self c.index_mut-file.ensures.value one.ensures.file one.ensures.dropping one.result one.ensures.reserves mapped c.remove_map.new.self c.remove_map.ensures last.new.store last.new.more last.new.files.items last.ensures.files last.ensures.dropping last.ensures.counted last.result last.ensures.reserves (few g found) in
+    let few = few_reserves s.hints c.forget_map.new.self s.store one.new.store s.more one.new.more s.maps (count_of s.counts) s.list.items c.self.invariant c.args.task c.args.number c.args.a c.args.b c.args.at.file c.args.at.map (there g found) c.index_mut-file.result.now one.new.self c.index_mut-file.ensures.value one.ensures.file one.ensures.dropping one.result one.ensures.reserves mapped c.remove_map.new.self c.remove_map.ensures last.new.store last.new.more last.new.files.items last.ensures.files last.ensures.dropping last.ensures.counted last.result last.ensures.reserves (few g found) in
     omega (arith, few)
 
 pub invariant_of-self-2 : goal.invariant_of-self-2
@@ -102,8 +104,8 @@ invariant_of-self-2 g c =
     let one = c.unmap-reserves in
     let mapped = left g found c.if-is_mapped.false in
     let last = c.sweep_file-entries in
-    went_keeps s.hints c.sweep_file-entries.new.hints s.store one.new.store s.more one.new.more s.maps s.tasks s.list.items c.self.invariant c.args.task c.args.number c.args.a c.args.b c.args.at.file c.args.at.map (there g found) c.index_mut-file.result.now one.new.self c.index_mut-file.ensures.value one.ensures.file one.ensures.dropping one.result one.ensures.reserves mapped c.remove_map.new.self c.remove_map.ensures last.new.store last.new.more last.new.files.items last.ensures.files last.ensures.dropping last.ensures.counted last.result last.ensures.reserves (few g found) c.has_task.result (c.has_task.ensures ∙ ap (list_any (λ (f : NumberedFile). list_any (is_of c.args.task) f.maps)) c.deref.ensures.value)
-    (subst (IsMoreButMap c.args.task c.args.number s.hints) (sym (last.ensures.hints ∙ c.move_maps_down.ensures)) c.forget_map.ensures)
+    went_keeps s.hints c.forget_map.new.self s.store one.new.store s.more one.new.more s.maps (count_of s.counts) s.list.items c.self.invariant c.args.task c.args.number c.args.a c.args.b c.args.at.file c.args.at.map (there g found) c.index_mut-file.result.now one.new.self c.index_mut-file.ensures.value one.ensures.file one.ensures.dropping one.result one.ensures.reserves mapped c.remove_map.new.self c.remove_map.ensures last.new.store last.new.more last.new.files.items last.ensures.files last.ensures.dropping last.ensures.counted last.result last.ensures.reserves (few g found)
+    c.forget_map.ensures (count_of c.set.new.self) (λ q. c.set.ensures q ∙ ap (λ n. cond (c.args.task == q) (n - 1) ((count_of s.counts) q)) c.count-count.ensures)
 
 pub returns-clause-files : goal.returns-clause-files
 returns-clause-files g c =
@@ -112,7 +114,7 @@ returns-clause-files g c =
     let one = c.unmap-reserves in
     let mapped = left g found c.if-is_mapped.false in
     let last = c.sweep_file-entries in
-    went_files s.hints c.sweep_file-entries.new.hints s.store one.new.store s.more one.new.more s.maps s.tasks s.list.items c.self.invariant c.args.task c.args.number c.args.a c.args.b c.args.at.file c.args.at.map (there g found) c.index_mut-file.result.now one.new.self c.index_mut-file.ensures.value one.ensures.file one.ensures.dropping one.result one.ensures.reserves mapped c.remove_map.new.self c.remove_map.ensures last.new.store last.new.more last.new.files.items last.ensures.files last.ensures.dropping last.ensures.counted last.result last.ensures.reserves (few g found)
+    went_files s.hints c.forget_map.new.self s.store one.new.store s.more one.new.more s.maps (count_of s.counts) s.list.items c.self.invariant c.args.task c.args.number c.args.a c.args.b c.args.at.file c.args.at.map (there g found) c.index_mut-file.result.now one.new.self c.index_mut-file.ensures.value one.ensures.file one.ensures.dropping one.result one.ensures.reserves mapped c.remove_map.new.self c.remove_map.ensures last.new.store last.new.more last.new.files.items last.ensures.files last.ensures.dropping last.ensures.counted last.result last.ensures.reserves (few g found)
     ∙ ap (λ (v : Files). filter is_kept (map (file_unmapped (is_map c.args.task c.args.number) c.args.a c.args.b) v.files)) c.self.view_is
 
 pub returns-clause-left : goal.returns-clause-left
@@ -123,4 +125,4 @@ returns-clause-left g c =
     let mapped = left g found c.if-is_mapped.false in
     let last = c.sweep_file-entries in
     subst (λ v. IsLeft (one.result + last.result) v (view last.new.store last.new.more last.new.files.items)) c.self.view_is
-    (went_left s.hints c.sweep_file-entries.new.hints s.store one.new.store s.more one.new.more s.maps s.tasks s.list.items c.self.invariant c.args.task c.args.number c.args.a c.args.b c.args.at.file c.args.at.map (there g found) c.index_mut-file.result.now one.new.self c.index_mut-file.ensures.value one.ensures.file one.ensures.dropping one.result one.ensures.reserves mapped c.remove_map.new.self c.remove_map.ensures last.new.store last.new.more last.new.files.items last.ensures.files last.ensures.dropping last.ensures.counted last.result last.ensures.reserves (few g found))
+    (went_left s.hints c.forget_map.new.self s.store one.new.store s.more one.new.more s.maps (count_of s.counts) s.list.items c.self.invariant c.args.task c.args.number c.args.a c.args.b c.args.at.file c.args.at.map (there g found) c.index_mut-file.result.now one.new.self c.index_mut-file.ensures.value one.ensures.file one.ensures.dropping one.result one.ensures.reserves mapped c.remove_map.new.self c.remove_map.ensures last.new.store last.new.more last.new.files.items last.ensures.files last.ensures.dropping last.ensures.counted last.result last.ensures.reserves (few g found))

@@ -18,12 +18,12 @@ not_both name other key apart own = by (bytes_eq other key) refl
 
 pub returns : goal.returns
 returns c =
-    let new = c.swap_remove-place.new.self.entries in
+    let new = c.swap_remove-tag.new.self.entries in
     let maps = c.self.inside.maps.entries in
     subst (λ (n : Noted). IsMoreBut c.args.name.now n (record { names = names_of new; keys = keys_of maps })) c.self.view_is
     (record {
       names = λ other apart e.
           others_stay (λ k. k.items) (bytes_eq other) _ (λ k own. not_both c.args.name.now other k.items apart own) c.self.inside.files.entries
-          (subst (λ es. has_name other (record { names = names_of es; keys = [] }) ≡ false) c.swap_remove-place.ensures.entries e);
+          (subst (λ es. has_name other (record { names = names_of es; keys = [] }) ≡ false) c.swap_remove-tag.ensures.entries e);
       keys = λ task number e. e;
     })

@@ -11,12 +11,12 @@ not_both t n task number k apart own = grind (arith, nat_tests, apart, own)
 
 pub returns : goal.returns
 returns c =
-    let new = c.swap_remove-place.new.self.entries in
+    let new = c.swap_remove-tag.new.self.entries in
     let files = c.self.inside.files.entries in
     subst (λ (n : Noted). IsMoreButMap c.args.task c.args.number n (record { names = names_of files; keys = keys_of new })) c.self.view_is
     (record {
       names = λ name e. e;
       keys = λ t n apart e.
           others_stay (λ (k : ℕ × ℕ). k) (is_pair t n) _ (λ k own. not_both t n c.args.task c.args.number k apart own) c.self.inside.maps.entries
-          (subst (λ es. has_key t n (record { names = []; keys = keys_of es }) ≡ false) c.swap_remove-place.ensures.entries e);
+          (subst (λ es. has_key t n (record { names = []; keys = keys_of es }) ≡ false) c.swap_remove-tag.ensures.entries e);
     })

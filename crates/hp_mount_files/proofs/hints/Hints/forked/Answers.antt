@@ -24,8 +24,8 @@ loop-at-preserved c =
           let made = w.in_ok-note_forked.ensures in
           subst (Next parent child (keys_of es) (at + 1)) (sym w.forked-is)
           (record {
-            others = λ t n apart none. others_next parent child es at (w.in-Some.key.now, w.in-Some.place.now) (sym w.in-Some.ensures.entry) w.note_forked.new.self t n apart made.stays (was.others t n apart (made.more.keys t n none)) none;
-            children = λ n none. children_next parent child es at (w.in-Some.key.now, w.in-Some.place.now) (sym w.in-Some.ensures.entry) w.note_forked.new.self n made.comes (was.children n (made.more.keys child n none)) none;
+            others = λ t n apart none. others_next parent child es at (w.in-Some.key.now, w.in-Some.tag.now) (sym w.in-Some.ensures.entry) w.note_forked.new.self t n apart made.stays (was.others t n apart (made.more.keys t n none)) none;
+            children = λ n none. children_next parent child es at (w.in-Some.key.now, w.in-Some.tag.now) (sym w.in-Some.ensures.entry) w.note_forked.new.self n made.comes (was.children n (made.more.keys child n none)) none;
           })
       | in_default w ↦ absurd (search rules)
     ])

@@ -11,11 +11,11 @@ returns-clause-more c =
     let maps = c.self.inside.maps.entries in
     subst (λ (n : Noted). IsMore n (record { names = names_of new; keys = keys_of maps })) c.self.view_is
     (record {
-      names = λ name e. stays (λ k. k.items) (bytes_eq name) _ c.args.name c.args.at c.self.inside.files.entries (subst (λ es. has_name name (record { names = names_of es; keys = [] }) ≡ false) c.in-Ok.ensures.entries e);
+      names = λ name e. stays (λ k. k.items) (bytes_eq name) _ c.args.name c.args.tag c.self.inside.files.entries (subst (λ es. has_name name (record { names = names_of es; keys = [] }) ≡ false) c.in-Ok.ensures.entries e);
       keys = λ task number e. e;
     })
 
 pub returns-clause-noted : goal.returns-clause-noted
 returns-clause-noted c =
     subst (λ es. has_name c.args.name.items (record { names = names_of es; keys = [] }) ≡ true) (sym c.in-Ok.ensures.entries)
-    (put_in (λ k. k.items) (bytes_eq c.args.name.items) _ c.args.name c.args.at (λ y e. e) ((bytes_eq-Decides c.args.name.items c.args.name.items).1 refl) c.self.inside.files.entries)
+    (put_in (λ k. k.items) (bytes_eq c.args.name.items) _ c.args.name c.args.tag (λ y e. e) ((bytes_eq-Decides c.args.name.items c.args.name.items).1 refl) c.self.inside.files.entries)

@@ -11,10 +11,10 @@ returns-clause-more c =
     subst (λ (n : Noted). IsMore n (record { names = names_of files; keys = keys_of new })) c.self.view_is
     (record {
       names = λ name e. e;
-      keys = λ task number e. stays (λ (k : ℕ × ℕ). k) (is_pair task number) _ (c.args.task, c.args.number) c.args.at c.self.inside.maps.entries (subst (λ es. has_key task number (record { names = []; keys = keys_of es }) ≡ false) c.in-Ok.ensures.entries e);
+      keys = λ task number e. stays (λ (k : ℕ × ℕ). k) (is_pair task number) _ (c.args.task, c.args.number) c.args.tag c.self.inside.maps.entries (subst (λ es. has_key task number (record { names = []; keys = keys_of es }) ≡ false) c.in-Ok.ensures.entries e);
     })
 
 pub returns-clause-noted : goal.returns-clause-noted
 returns-clause-noted c =
     subst (λ es. has_key c.args.task c.args.number (record { names = []; keys = keys_of es }) ≡ true) (sym c.in-Ok.ensures.entries)
-    (put_in (λ (k : ℕ × ℕ). k) (is_pair c.args.task c.args.number) _ (c.args.task, c.args.number) c.args.at (λ y e. e) (grind (arith, nat_tests)) c.self.inside.maps.entries)
+    (put_in (λ (k : ℕ × ℕ). k) (is_pair c.args.task c.args.number) _ (c.args.task, c.args.number) c.args.tag (λ y e. e) (grind (arith, nat_tests)) c.self.inside.maps.entries)

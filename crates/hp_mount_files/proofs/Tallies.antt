@@ -1,0 +1,105 @@
+-- How many maps each task has, by what files are called, and how many tasks there are.
+use Rattle.std.proofs.Common.{◌≡◌, ◌≢◌, ℕ, zero, suc, ◌+◌, ◌<◌, ◌==◌, ◌||◌, nat_eq, nat_lt, Bool, true, false, not, cond, List, [], ◌∷◌, length, map, Option, None, Some, is_some, refl, sym, ap, ◌∙◌, arith}
+use Rattle.std.specs.List.{AllByRecursion, IsDistinct, count_by, flat_map, sum_by}
+use Rattle.std.specs.Map.{keys_of, lookup}
+use Rattle.std.specs.Option.{unwrap_or}
+use Rattle.std.proofs.lemmas.Bool.Decides.{nat_tests}
+use Rattle.std.proofs.lemmas.List.{length-map}
+use Rattle.std.proofs.lemmas.List.Sums.{count_by-le-length, sum_by-append, sum_by-cons}
+use Rattle.std.proofs.lemmas.Map.Keys.{IsDistinct-head, IsDistinct-tail}
+use Rattle.hp_model.specs.files.Mapping.{Map, is_of}
+use Rattle.hp_model.specs.Lists.{distinct, is_among}
+use Rattle.hp_model.proofs.Counting.{count_cons, count_map}
+use Rattle.hp_model.proofs.Distinct.{same_members}
+use Rattle.hp_store.specs.Store.{Store}
+use Rattle.hp_mount_files.specs.Asking.{is_first_of}
+use Rattle.hp_mount_files.specs.Hints.{IsFiles, Noted}
+use Rattle.hp_mount_files.specs.Keyed.{Label, key_of, label_of, labels_of, maps_for, tasks_in}
+use Rattle.hp_mount_files.specs.Numbered.{NumberedFile, files_shown}
+use Rattle.hp_mount_files.specs.Places.{all_maps, all_tasks}
+use Rattle.hp_mount_files.proofs.ForkCounts.{task_maps}
+use Rattle.hp_mount_files.proofs.Mapped.{sum_through}
+use Rattle.hp_mount_files.proofs.MapNumbers.{among_distinct}
+use Rattle.hp_mount_files.proofs.Unique.{tasks_counted}
+
+pub own_maps : (task : ℕ) (f : NumberedFile) → maps_for task (label_of f) ≡ count_by (is_of task) f.maps
+own_maps task f = count_map (λ (k : ℕ × ℕ). k.0 == task) key_of f.maps
+
+pub maps_tallied : (task : ℕ) (s : Store) (fs : List NumberedFile) → sum_by (maps_for task) (labels_of fs) ≡ count_by (is_of task) (all_maps (files_shown s fs))
+maps_tallied task s fs = sum_through (maps_for task) label_of fs ∙ each fs ∙ task_maps task s fs
+  where
+    each : (fs : List NumberedFile) → sum_by (λ (f : NumberedFile). maps_for task (label_of f)) fs ≡ sum_by (λ (f : NumberedFile). count_by (is_of task) f.maps) fs
+    each [] = refl
+    each (f ∷ fs) = (let here = own_maps task f in let rest = each fs in omega (arith, here, rest, sum_by-cons (λ (f : NumberedFile). maps_for task (label_of f)) f fs, sum_by-cons (λ (f : NumberedFile). count_by (is_of task) f.maps) f fs))
+
+pub tasks_tallied : (task : ℕ) (ls : List Label) → sum_by (maps_for task) ls ≡ count_by (λ t. t == task) (flat_map tasks_in ls)
+tasks_tallied task [] = refl
+tasks_tallied task (l ∷ ls) =
+    let here = count_map (λ t. t == task) (λ (k : ℕ × ℕ). k.0) l.keys in
+    let both = sum_by-append (λ t. cond {A = ℕ} (t == task) 1 0) (tasks_in l) (flat_map tasks_in ls) in
+    let rest = tasks_tallied task ls in
+    omega (arith, here, both, rest, sum_by-cons (maps_for task) l ls)
+
+-- one more fits
+pub tally_few : (task : ℕ) (n : Noted) (s : Store) (more maps : ℕ) (tally : ℕ → ℕ) (fs : List NumberedFile) → IsFiles n s more maps tally fs → length (all_maps (files_shown s fs)) < 4096 → tally task < 4096
+tally_few task n s more maps tally fs is few =
+    let count = is.keyed.tallied task ∙ maps_tallied task s fs in
+    let most = count_by-le-length (is_of task) (all_maps (files_shown s fs)) in
+    omega (arith, count, most, few)
+
+-- ---- whether there is one
+
+positive : (n : ℕ) → 0 < n → nat_lt 0 n ≡ true
+positive n l = grind (arith, nat_tests)
+
+pub among_count : (q : ℕ) (xs : List ℕ) → is_among q xs ≡ nat_lt 0 (count_by (λ x. x == q) xs)
+among_count q [] = refl
+among_count q (x ∷ xs) = at (x == q) refl (count_cons (λ x. x == q) x xs) (among_count q xs)
+  where
+    at : (b : Bool) → (x == q) ≡ b → count_by (λ x. x == q) (x ∷ xs) ≡ cond (x == q) 1 0 + count_by (λ x. x == q) xs → is_among q xs ≡ nat_lt 0 (count_by (λ x. x == q) xs) → ((x == q) || is_among q xs) ≡ nat_lt 0 (count_by (λ x. x == q) (x ∷ xs))
+    at true e step rest = ap (λ b. b || is_among q xs) e ∙ sym (positive (count_by (λ x. x == q) (x ∷ xs)) (let here = ap (λ b. cond {A = ℕ} b 1 0 + 0) e in omega (arith, step, here)))
+    at false e step rest = ap (λ b. b || is_among q xs) e ∙ rest ∙ ap (λ n. nat_lt 0 n) (let here = ap (λ b. cond {A = ℕ} b 1 0 + 0) e in omega (arith, step, here))
+
+pub has_some : (task count : ℕ) (s : Store) (fs : List NumberedFile) → count ≡ sum_by (maps_for task) (labels_of fs) → nat_lt 0 count ≡ not (is_first_of task (files_shown s fs))
+has_some task count s fs is =
+    ap (λ n. nat_lt 0 n) (is ∙ tasks_tallied task (labels_of fs)) ∙ sym (among_count task (flat_map tasks_in (labels_of fs)))
+    ∙ ap (is_among task) (tasks_counted s fs) ∙ sym (among_distinct task (map (λ (m : Map). m.task) (all_maps (files_shown s fs))))
+    ∙ twice (is_among task (all_tasks (files_shown s fs)))
+  where
+    twice : (b : Bool) → b ≡ not (not b)
+    twice true = refl
+    twice false = refl
+
+-- ---- a task with a count has one entry
+
+turned : (a b : ℕ) → (a == b) ≡ (b == a)
+turned a b = grind (arith, nat_tests)
+
+module _ {X : Type 0} where
+  key_found : (q : ℕ) (es : List (ℕ × X)) → is_among q (keys_of es) ≡ is_some (lookup (nat_eq q) es)
+  key_found q [] = refl
+  key_found q (e ∷ es) = ap (λ b. b || is_among q (keys_of es)) (turned e.0 q) ∙ at (q == e.0) (key_found q es)
+    where
+      at : (b : Bool) → is_among q (keys_of es) ≡ is_some (lookup (nat_eq q) es) → (b || is_among q (keys_of es)) ≡ is_some (cond b (Some e.1) (lookup (nat_eq q) es))
+      at true rest = refl
+      at false rest = rest
+
+not_found : (x : ℕ) (xs : List ℕ) → AllByRecursion (λ y. nat_eq x y ≡ false) xs → is_among x xs ≡ false
+not_found x [] all = refl
+not_found x (y ∷ ys) all = ap (λ b. b || is_among x ys) (turned y x ∙ all.0) ∙ not_found x ys all.1
+
+once : (xs : List ℕ) → IsDistinct nat_eq xs → length (distinct xs) ≡ length xs
+once [] d = refl
+once (x ∷ xs) d =
+    ap (λ b. length (cond b (distinct xs) (x ∷ distinct xs))) (not_found x xs (IsDistinct-head nat_eq x xs d))
+    ∙ (let rest = once xs (IsDistinct-tail nat_eq x xs d) in omega (arith, rest))
+
+pub tasks_once : (es : List (ℕ × ℕ)) (tasks : List ℕ) → IsDistinct nat_eq (keys_of es) → ((q : ℕ) → lookup (nat_eq q) es ≢ Some 0) → ((q : ℕ) → unwrap_or (lookup (nat_eq q) es) 0 ≡ count_by (λ t. t == q) tasks) → length es ≡ length (distinct tasks)
+tasks_once es tasks distinct_keys some counts =
+    sym (length-map es (λ (e : ℕ × ℕ). e.0)) ∙ sym (once (keys_of es) distinct_keys)
+    ∙ same_members (keys_of es) tasks (λ q. key_found q es ∙ counted (lookup (nat_eq q) es) (some q) ∙ ap (λ n. nat_lt 0 n) (counts q) ∙ sym (among_count q tasks))
+  where
+    counted : (o : Option ℕ) → o ≢ Some 0 → is_some o ≡ nat_lt 0 (unwrap_or o 0)
+    counted None some = refl
+    counted (Some zero) some = absurd (some refl)
+    counted (Some (suc n)) some = sym (positive (suc n) (omega arith))

@@ -1,0 +1,8 @@
+use Rattle.std.proofs.Common.{map, ap, ◌∙◌}
+use Rattle.std.specs.List.{filter}
+use Rattle.hp_model.specs.files.GiveBack.{file_without, is_kept}
+use Rattle.hp_mount_files.proofs.OneByOne.{leaves_same}
+use Rattle.hp_mount_files.proofs.files.Files.exit_map.Goals as goal
+
+pub returns-clause-files : goal.returns-clause-files
+returns-clause-files g c = ap (λ fs. filter is_kept (map (file_without c.args.task) fs)) c.unmap.ensures.files ∙ leaves_same c.args.task c.args.number _ _ c.args.self.now.files
