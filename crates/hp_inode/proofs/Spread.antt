@@ -110,12 +110,12 @@ module _ (words left old : List ℕ) (a b at next bits : ℕ) (le : at ≤ next)
   left_rest k from = others k (λ this. omega (arith, this, from)) ∙ rest k (omega (arith, le, from))
 
 -- with none left to clear
-pub left_end : (words old : List ℕ) (a b at : ℕ) → ((k : ℕ) → k < 64 * at → marked words k ≡ (marked old k && not (within a b k))) → ((k : ℕ) → 64 * at ≤ k → marked words k ≡ marked old k) → IsBlank words (64 * at) b → (k : ℕ) → marked words k ≡ (marked old k && not (within a b k))
-left_end words old a b at done rest blank k = ⊎_elim
+pub left_end : (words old : List ℕ) (a b at end : ℕ) → end ≡ b / 64 + min 1 (b % 64) → ((k : ℕ) → k < 64 * at → marked words k ≡ (marked old k && not (within a b k))) → ((k : ℕ) → 64 * at ≤ k → marked words k ≡ marked old k) → IsBlank words (64 * at) (64 * end) → (k : ℕ) → marked words k ≡ (marked old k && not (within a b k))
+left_end words old a b at end end_is done rest blank k = ⊎_elim
     (λ (early : k < 64 * at). done k early)
     (λ (from : 64 * at ≤ k). ⊎_elim
     (λ (below : k < b).
-    let none = blank k from below in
+    let none = blank k from (omega (arith, below, end_is)) in
     none ∙ ap (λ t. t && not (within a b k)) (sym none ∙ rest k from))
     (λ (past : b ≤ k). rest k from ∙ sym (ap (λ t. marked old k && not t) (within-past a b k past) ∙ and-true (marked old k)))
     (cases_lt k b))
@@ -180,9 +180,9 @@ module _ (words : List ℕ) (a b : ℕ) where
       omega (arith, further, skipped)
 
   -- with none left
-  pub counted_end : (at : ℕ) → IsBlank words (64 * at) b → count_by ours (range_with_len 0 (64 * at)) ≡ count_in words a b
-  counted_end at blank =
-      sym (counted_blank (64 * at) (64 * at + b) (omega arith) (λ k low high below. blank k low below)) ∙ counted_all (64 * at + b) (omega arith)
+  pub counted_end : (at end : ℕ) → end ≡ b / 64 + min 1 (b % 64) → IsBlank words (64 * at) (64 * end) → count_by ours (range_with_len 0 (64 * at)) ≡ count_in words a b
+  counted_end at end end_is blank =
+      sym (counted_blank (64 * at) (64 * at + b) (omega arith) (λ k low high below. blank k low (omega (arith, below, end_is)))) ∙ counted_all (64 * at + b) (omega arith)
 
 -- ---- the first word with a mark, of some of the words
 
@@ -199,23 +199,23 @@ module _ (marks : List ℕ) (n : ℕ) where
       (λ (le : length marks ≤ k / 64). unmarked_past marks k (omega (arith, le)))
       where'
 
-module _ (words marks : List ℕ) (is : IsEntries words marks) (at b end searched : ℕ) (end_is : end ≡ b / 64 + min 1 (b % 64)) (searched_is : searched ≡ min (end / 64 + min 1 (end % 64)) (length marks)) where
-  unmarked_word : (k : ℕ) → k < b → marked (take searched marks) (k / 64) ≡ false → marked words k ≡ false
+module _ (words marks : List ℕ) (is : IsEntries words marks) (at end searched : ℕ) (searched_is : searched ≡ min (end / 64 + min 1 (end % 64)) (length marks)) where
+  unmarked_word : (k : ℕ) → k < 64 * end → marked (take searched marks) (k / 64) ≡ false → marked words k ≡ false
   unmarked_word k lt off = is.none k (unmarked_taken marks searched (k / 64) side off)
     where
       side : k / 64 / 64 < searched ⊎ length marks ≤ k / 64 / 64
-      side = ⊎_elim (λ (less : k / 64 / 64 < length marks). inl (omega (arith, less, lt, end_is, searched_is))) (λ (past : length marks ≤ k / 64 / 64). inr past) (cases_lt (k / 64 / 64) (length marks))
+      side = ⊎_elim (λ (less : k / 64 / 64 < length marks). inl (omega (arith, less, lt, searched_is))) (λ (past : length marks ≤ k / 64 / 64). inr past) (cases_lt (k / 64 / 64) (length marks))
 
-  pub blank_from : ((j : ℕ) → at ≤ j → marked (take searched marks) j ≡ false) → IsBlank words (64 * at) b
+  pub blank_from : ((j : ℕ) → at ≤ j → marked (take searched marks) j ≡ false) → IsBlank words (64 * at) (64 * end)
   blank_from none k low high = unmarked_word k high (none (k / 64) (omega (arith, low)))
 
-  pub blank_past : (w : ℕ) → IsFirstFrom (take searched marks) at w → end ≤ w → IsBlank words (64 * at) b
-  blank_past w first past k low high = unmarked_word k high (first.none_before (k / 64) (omega (arith, low)) (omega (arith, high, past, end_is)))
+  pub blank_past : (w : ℕ) → IsFirstFrom (take searched marks) at w → end ≤ w → IsBlank words (64 * at) (64 * end)
+  blank_past w first past k low high = unmarked_word k high (first.none_before (k / 64) (omega (arith, low)) (omega (arith, high, past)))
 
-  pub next_is : (w : ℕ) → IsFirstFrom (take searched marks) at w → w < end → IsNextWord words at b w
+  pub next_is : (w : ℕ) → IsFirstFrom (take searched marks) at w → w < end → IsNextWord words at end w
   next_is w first lt = record {
     from = first.from;
     within = is.within w (marked_taken marks searched w first.here);
-    below = omega (arith, lt, end_is);
-    none_before = λ k low high. unmarked_word k (omega (arith, high, lt, end_is)) (first.none_before (k / 64) (omega (arith, low)) (omega (arith, high)));
+    below = lt;
+    none_before = λ k low high. unmarked_word k (omega (arith, high, lt)) (first.none_before (k / 64) (omega (arith, low)) (omega (arith, high)));
   }

@@ -21,12 +21,12 @@ pub record IsEntries (words marks : List ℕ) : Type 0 where
 abbrev pub IsBlank : List ℕ → ℕ → ℕ → Type 0
 IsBlank words low high = (k : ℕ) → low ≤ k → k < high → marked words k ≡ false
 
--- of the words from one on, the first that may have a mark below b
-pub record IsNextWord (words : List ℕ) (at b w : ℕ) : Type 0 where
+-- of the words from at up to end, the first that may have a mark
+pub record IsNextWord (words : List ℕ) (at end w : ℕ) : Type 0 where
   pub from : at ≤ w
   pub within : w < length words
-  pub below : 64 * w < b
+  pub below : w < end
   pub none_before : IsBlank words (64 * at) (64 * w)
 
 abbrev pub FindsWord : List ℕ → ℕ → ℕ → Option ℕ → Type 0
-FindsWord words at b found = MatchOption found (IsBlank words (64 * at) b) (IsNextWord words at b)
+FindsWord words at end found = MatchOption found (IsBlank words (64 * at) (64 * end)) (IsNextWord words at end)

@@ -52,9 +52,10 @@ impl Entries {
         ensures { result ≡ count_in self.now a b }
     {
         let (a, b) = (a as usize, b as usize);
+        let end = b.div_ceil(WORD);
         let mut count = 0;
         let mut at = a / WORD;
-        while let Some(next) = self.next_word(at, b) {
+        while let Some(next) = self.next_word(at, end) {
             count += u64::from((self.words[next] & bits_within(next, a, b)).count_ones());
             at = next + 1;
         }
@@ -95,8 +96,9 @@ impl Entries {
         ensures { (k : ℕ) → marked self.new k ≡ (marked self.old k && not (within a b k)) }
     {
         let (a, b) = (a as usize, b as usize);
+        let end = b.div_ceil(WORD);
         let mut at = a / WORD;
-        while let Some(next) = self.next_word(at, b) {
+        while let Some(next) = self.next_word(at, end) {
             self.clear(next, bits_within(next, a, b));
             at = next + 1;
         }
@@ -115,11 +117,13 @@ impl Entries {
         set_mark(&mut self.marks, at, left != 0);
     }
 
-    // The first word with an index, of those from the word `from` on that have indices below `b`.
-    fn next_word(&self, from: usize, b: usize) -> Option<usize>
-        ensures { FindsWord self.now from b result }
+    // The first of the words from `from` up to `end` that has an index.
+    fn next_word(&self, from: usize, end: usize) -> Option<usize>
+        ensures { FindsWord self.now from end result }
     {
-        let end = b.div_ceil(WORD);
+        if from >= end {
+            return None;
+        }
         let searched = end.div_ceil(WORD).min(self.marks.len());
         let next = first_from(&self.marks[..searched], from)?;
         if next < end { Some(next) } else { None }

@@ -24,4 +24,4 @@ pub loop-next-preserved : goal.loop-next-preserved
 loop-next-preserved c = record { from = omega (arith, c.loop-next.invariant.from, c.in-Some.ensures.from); counted = more c }
 
 pub returns : goal.returns
-returns c = c.loop-next.invariant.counted ∙ counted_end c.args.self.now c.args.a c.args.b c.loop-next.at c.in_default.ensures
+returns c = c.loop-next.invariant.counted ∙ counted_end c.args.self.now c.args.a c.args.b c.loop-next.at c.div_ceil-end.result c.div_ceil-end.ensures c.in_default.ensures

@@ -20,4 +20,4 @@ loop-next-preserved c = record {
 }
 
 pub returns : goal.returns
-returns c = left_end c.loop-next.self c.args.self.now c.args.a c.args.b c.loop-next.at c.loop-next.invariant.done c.loop-next.invariant.rest c.in_default.ensures
+returns c = left_end c.loop-next.self c.args.self.now c.args.a c.args.b c.loop-next.at c.div_ceil-end.result c.div_ceil-end.ensures c.loop-next.invariant.done c.loop-next.invariant.rest c.in_default.ensures
