@@ -121,6 +121,13 @@ left_end words old a b at end end_is done rest blank k = ⊎_elim
     (cases_lt k b))
     (cases_lt k (64 * at))
 
+-- the bits of a word are its marks
+pub bit_marked : (words : List ℕ) (at i : ℕ) → i < 64 → eqb (bit_at (get_or words at 0) i) 1 ≡ marked words (64 * at + i)
+bit_marked words at i lt =
+    let q : at ≡ (64 * at + i) / 64 = omega (arith, lt) in
+    let r : i ≡ (64 * at + i) % 64 = omega (arith, lt) in
+    ap (λ j. eqb (bit_at (get_or words j 0) i) 1) q ∙ ap (λ j. eqb (bit_at (get_or words ((64 * at + i) / 64) 0) j) 1) r
+
 -- ---- how many of a range
 
 module _ (words : List ℕ) (a b : ℕ) where
@@ -159,25 +166,15 @@ module _ (words : List ℕ) (a b : ℕ) where
       let whole : n + (m - n) ≡ m = omega (arith, le) in
       omega (arith, count_split ours 0 n (m - n), ap (λ j. count_by ours (range_with_len 0 j)) whole, rest)
 
-  counted_word : (at bits : ℕ) → bit_and (get_or words at 0) bits < 2 ^ 64 → ((i : ℕ) → i < 64 → eqb (bit_at bits i) 1 ≡ within a b (64 * at + i)) → count_by ours (range_with_len 0 (64 * (at + 1))) ≡ count_by ours (range_with_len 0 (64 * at)) + count_ones (bit_and (get_or words at 0) bits)
-  counted_word at bits small of_range =
-      let here = word_counted ours (0 + 64 * at) (bit_and (get_or words at 0) bits) small (λ i lt.
-      let q : (0 + 64 * at + i) / 64 ≡ at = omega (arith, lt) in
-      let r : (0 + 64 * at + i) % 64 ≡ i = omega (arith, lt) in
-      let from : 64 * at + i ≡ 0 + 64 * at + i = omega arith in
-      ap (λ j. eqb (bit_at (get_or words j 0) ((0 + 64 * at + i) % 64)) 1 && within a b (0 + 64 * at + i)) q
-      ∙ ap (λ j. eqb (bit_at (get_or words at 0) j) 1 && within a b (0 + 64 * at + i)) r
-      ∙ ap (λ t. eqb (bit_at (get_or words at 0) i) 1 && t) (ap (within a b) (sym from) ∙ sym (of_range i lt))
-      ∙ sym (has_and (get_or words at 0) bits i)) in
-      let next : 64 * at + 64 ≡ 64 * (at + 1) = omega arith in
-      omega (arith, count_split ours 0 (64 * at) 64, ap (λ j. count_by ours (range_with_len 0 j)) next, here)
-
   -- with a further word, after some without marks
-  pub counted_next : (at next bits : ℕ) → at ≤ next → IsBlank words (64 * at) (64 * next) → bits < 2 ^ 64 → ((i : ℕ) → i < 64 → eqb (bit_at bits i) 1 ≡ within a b (64 * next + i)) → count_by ours (range_with_len 0 (64 * (next + 1))) ≡ count_by ours (range_with_len 0 (64 * at)) + count_ones (bit_and (get_or words next 0) bits)
-  counted_next at next bits le blank small of_range =
-      let further = counted_word next bits (omega (arith, small, and_le_r (get_or words next 0) bits)) of_range in
+  pub counted_next : (at next word bits : ℕ) → at ≤ next → IsBlank words (64 * at) (64 * next) → bits < 2 ^ 64 → ((i : ℕ) → i < 64 → eqb (bit_at word i) 1 ≡ marked words (64 * next + i)) → ((i : ℕ) → i < 64 → eqb (bit_at bits i) 1 ≡ within a b (64 * next + i)) → count_by ours (range_with_len 0 (64 * (next + 1))) ≡ count_by ours (range_with_len 0 (64 * at)) + count_ones (bit_and word bits)
+  counted_next at next word bits le blank small is_word of_range =
+      let from : 64 * next ≡ 0 + 64 * next = omega arith in
+      let here = word_counted ours (64 * next) (bit_and word bits) (omega (arith, small, and_le_r word bits)) (λ i lt.
+      sym (has_and word bits i ∙ ap (λ t. t && eqb (bit_at bits i) 1) (is_word i lt) ∙ ap (λ t. marked words (64 * next + i) && t) (of_range i lt))) in
+      let past : 64 * next + 64 ≡ 64 * (next + 1) = omega arith in
       let skipped = counted_blank (64 * at) (64 * next) (omega (arith, le)) (λ k low high below. blank k low high) in
-      omega (arith, further, skipped)
+      omega (arith, count_split ours 0 (64 * next) 64, ap (λ j. count_by ours (range_with_len 0 j)) past, ap (λ j. count_by ours (range_with_len j 64)) from, here, skipped)
 
   -- with none left
   pub counted_end : (at end : ℕ) → end ≡ b / 64 + min 1 (b % 64) → IsBlank words (64 * at) (64 * end) → count_by ours (range_with_len 0 (64 * at)) ≡ count_in words a b

@@ -1,5 +1,6 @@
 //! Which indices are entered, a bit for each: a range takes a step for each word of 64 indices.
-ghost use Rattle.std.specs.Prelude.{ℕ, ◌≡◌, ◌==◌, ◌*◌, ◌/◌, ◌%◌, ◌<◌, ◌≤◌, ◌^◌, ◌&&◌, ◌||◌, [], not, length, OnOk, OnErr};
+ghost use Rattle.std.specs.Prelude.{ℕ, ◌≡◌, ◌==◌, ◌*◌, ◌/◌, ◌%◌, ◌<◌, ◌≤◌, ◌^◌, ◌&&◌, ◌||◌, [], not, bit_and, count_ones, length, OnOk, OnErr};
+ghost use Rattle.std.specs.List.{slice_index_or};
 ghost use Rattle.std.specs.Int.{bit_at};
 ghost use Rattle.hp_model.specs.files.Ranges.{within};
 ghost use Rattle.hp_inode.specs.Entries.{count_in, missing_in, FindsWord};
@@ -47,8 +48,8 @@ impl Entries {
         at < self.words.len() && self.words[at] >> (i as usize % WORD) & 1 == 1
     }
 
-    /// How many indices from `a` up to `b` are in the set.
-    pub fn count(&self, a: u64, b: u64) -> u64
+    // How many indices from `a` up to `b` are in the set.
+    fn count(&self, a: u64, b: u64) -> u64
         ensures { result ≡ count_in self.now a b }
     {
         let (a, b) = (a as usize, b as usize);
@@ -91,30 +92,36 @@ impl Entries {
         set_marks(&mut self.marks, a / WORD, b.div_ceil(WORD));
     }
 
-    /// Takes the indices from `a` up to `b` out.
-    pub fn remove(&mut self, a: u64, b: u64)
-        ensures { (k : ℕ) → marked self.new k ≡ (marked self.old k && not (within a b k)) }
+    /// Takes the indices from `a` up to `b` out, and answers how many there were.
+    pub fn remove(&mut self, a: u64, b: u64) -> u64
+        ensures count { result ≡ count_in self.old a b }
+        ensures left { (k : ℕ) → marked self.new k ≡ (marked self.old k && not (within a b k)) }
     {
         let (a, b) = (a as usize, b as usize);
         let end = b.div_ceil(WORD);
+        let mut count = 0;
         let mut at = a / WORD;
         while let Some(next) = self.next_word(at, end) {
-            self.clear(next, bits_within(next, a, b));
+            count += self.clear(next, bits_within(next, a, b));
             at = next + 1;
         }
+        count
     }
 
-    // Takes the indices with these bits of a word out.
-    fn clear(&mut self, at: usize, bits: u64)
+    // Takes the indices with these bits of a word out, and answers how many there were.
+    fn clear(&mut self, at: usize, bits: u64) -> u64
         requires { at < length self.old }
+        ensures count { result ≡ count_ones (bit_and (slice_index_or self.old at 0) bits) }
         ensures here { (k : ℕ) → k / 64 ≡ at →
             marked self.new k ≡ (marked self.old k && not (bit_at bits (k % 64) == 1)) }
         ensures others { (k : ℕ) → (k / 64 ≡ at → ⊥) → marked self.new k ≡ marked self.old k }
         ensures len { length self.new ≡ length self.old }
     {
-        let left = self.words[at] & !bits;
+        let word = self.words[at];
+        let left = word & !bits;
         self.words[at] = left;
         set_mark(&mut self.marks, at, left != 0);
+        u64::from((word & bits).count_ones())
     }
 
     // The first of the words from `from` up to `end` that has an index.

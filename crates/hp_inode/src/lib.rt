@@ -198,8 +198,7 @@ impl Inode {
         ensures count { result ≡ count_by is_entered (part a b self.old) }
         ensures cells { self.new ≡ edit_range (λ cell. Hole) a b self.old }
     {
-        let count = self.entries.count(a, b);
-        self.entries.remove(a, b);
+        let count = self.entries.remove(a, b);
         self.count -= count;
         count
     }

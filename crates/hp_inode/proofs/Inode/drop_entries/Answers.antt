@@ -13,7 +13,7 @@ pub overflow_sub-self : goal.overflow_sub-self
 overflow_sub-self c =
     let long = length-cells c.self.inside.len c.self.inside.entries c.self.inside.table in
     let within = rw (← c.self.view_is, long) at c.requires.within in
-    omega (arith, count_few _ _ _ _ c.args.a c.args.b c.self.invariant.kept within, c.count-count.ensures)
+    omega (arith, count_few _ _ _ _ c.args.a c.args.b c.self.invariant.kept within, c.remove-count.ensures.count)
 
 pub invariant_of-self : goal.invariant_of-self
 invariant_of-self c =
@@ -21,16 +21,16 @@ invariant_of-self c =
     let within = rw (← c.self.view_is, length-cells s.len s.entries s.table) at c.requires.within in
     let none : All (λ (c : Cell ℕ). has_page c ≡ false) (part c.args.a c.args.b (cells_of s.len s.entries s.table)) = rw c.self.view_is c.requires.pageless in
     record {
-      kept = dropped_kept _ _ _ _ _ c.args.a c.args.b c.self.invariant.kept within c.remove.ensures none c.count-count.result c.count-count.ensures;
-      paged = c.self.invariant.paged ∙ sym (dropped_paged c.args.a c.args.b (cells_of s.len s.entries s.table) none) ∙ ap (count_by has_page) (sym (dropped_cells _ _ _ c.remove.new.self _ c.args.a c.args.b c.self.invariant.kept within c.remove.ensures));
+      kept = dropped_kept _ _ _ _ _ c.args.a c.args.b c.self.invariant.kept within c.remove-count.ensures.left none c.remove-count.result c.remove-count.ensures.count;
+      paged = c.self.invariant.paged ∙ sym (dropped_paged c.args.a c.args.b (cells_of s.len s.entries s.table) none) ∙ ap (count_by has_page) (sym (dropped_cells _ _ _ c.remove-count.new.self _ c.args.a c.args.b c.self.invariant.kept within c.remove-count.ensures.left));
     }
 
 pub returns-clause-count : goal.returns-clause-count
 returns-clause-count c =
     let within = rw (← c.self.view_is, length-cells c.self.inside.len c.self.inside.entries c.self.inside.table) at c.requires.within in
-    rw (← c.self.view_is) (c.count-count.ensures ∙ entered_cells _ _ _ c.args.a c.args.b within)
+    rw (← c.self.view_is) (c.remove-count.ensures.count ∙ entered_cells _ _ _ c.args.a c.args.b within)
 
 pub returns-clause-cells : goal.returns-clause-cells
 returns-clause-cells c =
     let within = rw (← c.self.view_is, length-cells c.self.inside.len c.self.inside.entries c.self.inside.table) at c.requires.within in
-    rw (← c.self.view_is) (dropped_cells _ _ _ c.remove.new.self _ c.args.a c.args.b c.self.invariant.kept within c.remove.ensures)
+    rw (← c.self.view_is) (dropped_cells _ _ _ c.remove-count.new.self _ c.args.a c.args.b c.self.invariant.kept within c.remove-count.ensures.left)

@@ -24,6 +24,6 @@ returns-clause-here c k this =
     let words = c.self.inside.words.items in
     let within : c.args.at < length words = rw c.self.view_is c.requires in
     let small : c.args.bits < 2 ^ 64 = omega arith in
-    let read : c.index.result.now ≡ get_or words c.args.at 0 = get_or_read words c.args.at c.index.result.now within c.index.ensures 0 in
+    let read : c.index-word.result.now ≡ get_or words c.args.at 0 = get_or_read words c.args.at c.index-word.result.now within c.index-word.ensures 0 in
     ap (λ w. marked (set words c.args.at (bit_and w (18446744073709551615 - c.args.bits))) k) read
     ∙ cleared_here words c.args.at c.args.bits within small k this ∙ ap (λ ws. marked ws k && not (eqb (bit_at c.args.bits (k % 64)) 1)) c.self.view_is
