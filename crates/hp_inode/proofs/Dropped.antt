@@ -2,8 +2,6 @@
 use Rattle.std.proofs.Common.{◌≡◌, ℕ, ◌+◌, ◌-◌, ◌<◌, ◌≤◌, Bool, true, false, not, ◌&&◌, List, drop, get_or, Option, sym, refl, ap, ◌∙◌, arith, ⊎_elim}
 use Rattle.std.specs.List.{range_with_len, count_by, All}
 use Rattle.std.specs.Prelude.{IsSome}
-use Rattle.std.specs.FinSet as set
-use Rattle.std.specs.Cmp.{nat_cmp_total}
 use Rattle.std.proofs.lemmas.Bool.{cases_lt, and_parts, and_from, not_from_false, false_from_ne_true, true≢false}
 use Rattle.std.proofs.lemmas.List.{get_or-take, get_or-drop, length-take, length-drop}
 use Rattle.std.proofs.lemmas.List.FromFn.{fill_by_all}
@@ -13,9 +11,10 @@ use Rattle.hp_model.specs.files.File.{cell_in, has_page}
 use Rattle.hp_model.specs.Lists.{edit_range, part}
 use Rattle.hp_model.specs.files.Ranges.{within}
 use Rattle.hp_model.proofs.Counting.{count_alike, count_parted, count_within, alike_in}
-use Rattle.hp_model.proofs.Ranges.{contains-range, within-in, within-true, within-below, within-past}
+use Rattle.hp_model.proofs.Ranges.{within-in, within-true, within-below, within-past}
 use Rattle.hp_model.proofs.Editing.{length-edit_range, get_or-edit_below, get_or-edit_within, get_or-edit_past}
-use Rattle.hp_region.specs.Region.{Region, range_set, count_in}
+use Rattle.hp_inode.specs.Entries.{count_in}
+use Rattle.hp_inode.specs.Marks.{marked}
 use Rattle.hp_inode.specs.Rows.{Rows, page_in}
 use Rattle.hp_inode.specs.Kept.{cell_by, cell_of, cells_of, IsKept}
 use Rattle.hp_inode.proofs.CellFacts.{length-cells, cell_in-cells, has_page_cell}
@@ -37,11 +36,8 @@ count_less p a b n le =
 pub part_cell : (xs : List (Cell ℕ)) (a b j : ℕ) → j < b - a → get_or (part a b xs) j Hole ≡ cell_in xs (a + j)
 part_cell xs a b j lt = get_or-take (b - a) (drop a xs) j Hole lt ∙ get_or-drop a xs j Hole
 
-module _ (len m : ℕ) (e new : Region) (rows : Rows) (a b : ℕ) (kept : IsKept len m e rows) (le : b ≤ len) (diff : new.indices ≡ set.difference e.indices (range_set a b)) where
-  gone : (k : ℕ) → set.contains new.indices k ≡ (set.contains e.indices k && not (within a b k))
-  gone k = ap (λ s. set.contains s k) diff ∙ set.contains-difference nat_cmp_total e.indices (range_set a b) k ∙ ap (λ t. set.contains e.indices k && not t) (contains-range a b k)
-
-  here : (k : ℕ) → cell_of new.indices rows k ≡ cell_by (set.contains e.indices k && not (within a b k)) (page_in rows k)
+module _ (len m : ℕ) (e new : List ℕ) (rows : Rows) (a b : ℕ) (kept : IsKept len m e rows) (le : b ≤ len) (gone : (k : ℕ) → marked new k ≡ (marked e k && not (within a b k))) where
+  here : (k : ℕ) → cell_of new rows k ≡ cell_by (marked e k && not (within a b k)) (page_in rows k)
   here k = ap (λ t. cell_by t (page_in rows k)) (gone k)
 
   in_by : (x w : Bool) (o : Option ℕ) → w ≡ true → cell_by (x && not w) o ≡ Hole
@@ -52,47 +48,46 @@ module _ (len m : ℕ) (e new : Region) (rows : Rows) (a b : ℕ) (kept : IsKept
   out_by true w o is = rw is refl
   out_by false w o is = refl
 
-  untouched : (k : ℕ) → within a b k ≡ false → cell_of new.indices rows k ≡ cell_in (cells_of len e.indices rows) k
-  untouched k out = here k ∙ out_by (set.contains e.indices k) (within a b k) (page_in rows k) out ∙ sym (cell_in-cells len m e rows kept k)
+  untouched : (k : ℕ) → within a b k ≡ false → cell_of new rows k ≡ cell_in (cells_of len e rows) k
+  untouched k out = here k ∙ out_by (marked e k) (within a b k) (page_in rows k) out ∙ sym (cell_in-cells len m e rows kept k)
 
-  pub dropped_cells : cells_of len new.indices rows ≡ edit_range (λ cell. Hole) a b (cells_of len e.indices rows)
+  pub dropped_cells : cells_of len new rows ≡ edit_range (λ cell. Hole) a b (cells_of len e rows)
   dropped_cells =
-      let xs = cells_of len e.indices rows in
-      let long = length-cells len e.indices rows in
+      let xs = cells_of len e rows in
+      let long = length-cells len e rows in
       let f : Cell ℕ → Cell ℕ = λ cell. Hole in
-      sym (fill_by_all (cell_of new.indices rows) (edit_range f a b xs) len Hole (length-edit_range f a b xs ∙ long) (λ k lt.
+      sym (fill_by_all (cell_of new rows) (edit_range f a b xs) len Hole (length-edit_range f a b xs ∙ long) (λ k lt.
       ⊎_elim (λ (below : k < a). get_or-edit_below f a b xs k Hole below (omega (arith, lt, long)) ∙ sym (untouched k (within-below a b k below)))
       (λ (from : a ≤ k). ⊎_elim
-      (λ (high : k < b). get_or-edit_within f a b xs k Hole from high (omega (arith, le, long)) ∙ sym (here k ∙ in_by (set.contains e.indices k) (within a b k) (page_in rows k) (within-true a b k from high)))
+      (λ (high : k < b). get_or-edit_within f a b xs k Hole from high (omega (arith, le, long)) ∙ sym (here k ∙ in_by (marked e k) (within a b k) (page_in rows k) (within-true a b k from high)))
       (λ (past : b ≤ k). get_or-edit_past f a b xs k Hole from past (omega (arith, lt, long)) ∙ sym (untouched k (within-past a b k past)))
       (cases_lt k b))
       (cases_lt k a)))
 
-  pub count_gone : count_in new.indices 0 len + count_in e.indices a b ≡ m
-  count_gone = omega (arith, count_alike (set.contains new.indices) (λ i. set.contains e.indices i && not (within a b i)) gone (range_with_len 0 (len - 0)), count_less (set.contains e.indices) a b (len - 0) (omega (arith, le)), kept.counted)
+  pub count_gone : count_in new 0 len + count_in e a b ≡ m
+  count_gone = omega (arith, count_alike (marked new) (λ i. marked e i && not (within a b i)) gone (range_with_len 0 (len - 0)), count_less (marked e) a b (len - 0) (omega (arith, le)), kept.counted)
 
-  pub dropped_kept : All (λ (cell : Cell ℕ). has_page cell ≡ false) (part a b (cells_of len e.indices rows)) → (taken : ℕ) → taken ≡ count_in e.indices a b → m - taken ≤ new.room → IsKept len (m - taken) new rows
-  dropped_kept pageless taken is room = record {
+  pub dropped_kept : All (λ (cell : Cell ℕ). has_page cell ≡ false) (part a b (cells_of len e rows)) → (taken : ℕ) → taken ≡ count_in e a b → IsKept len (m - taken) new rows
+  dropped_kept pageless taken is = record {
     small = kept.small;
     below = λ i in'. kept.below i (was i in');
     counted = omega (arith, count_gone, is);
     paged = λ i page. gone i ∙ and_from _ _ (kept.paged i page) (not_from_false (within a b i) (false_from_ne_true (within a b i) (clash i page)));
     slots = λ i in'. kept.slots i (was i in');
-    room = room;
   }
     where
-      was : (i : ℕ) → set.contains new.indices i ≡ true → set.contains e.indices i ≡ true
-      was i in' = (and_parts (set.contains e.indices i) (not (within a b i)) (sym (gone i) ∙ in')).0
+      was : (i : ℕ) → marked new i ≡ true → marked e i ≡ true
+      was i in' = (and_parts (marked e i) (not (within a b i)) (sym (gone i) ∙ in')).0
 
       clash : (i : ℕ) → IsSome (page_in rows i) → within a b i ≡ true → ⊥
       clash i page inside =
           let low : a ≤ i = (within-in a b i inside).0 in
           let high : i < b = (within-in a b i inside).1 in
-          let xs = cells_of len e.indices rows in
-          let test : has_page (get_or (part a b xs) (i - a) Hole) ≡ false = pageless (i - a) Hole (omega (arith, low, high, le, length-take (b - a) (drop a xs), length-drop a xs, length-cells len e.indices rows)) in
+          let xs = cells_of len e rows in
+          let test : has_page (get_or (part a b xs) (i - a) Hole) ≡ false = pageless (i - a) Hole (omega (arith, low, high, le, length-take (b - a) (drop a xs), length-drop a xs, length-cells len e rows)) in
           let read : get_or (part a b xs) (i - a) Hole ≡ cell_in xs i = part_cell xs a b (i - a) (omega (arith, low, high)) ∙ ap (cell_in xs) {x = a + (i - a)} {y = i} (omega (arith, low)) in
           true≢false (sym (has_page_cell len m e rows kept i ∙ page) ∙ ap has_page (sym read) ∙ test)
 
 -- as many as a range has are entered in all
-pub count_few : (len m : ℕ) (e : Region) (rows : Rows) (a b : ℕ) → IsKept len m e rows → b ≤ len → count_in e.indices a b ≤ m
-count_few len m e rows a b kept le = omega (arith, count_less (set.contains e.indices) a b (len - 0) (omega (arith, le)), kept.counted)
+pub count_few : (len m : ℕ) (e : List ℕ) (rows : Rows) (a b : ℕ) → IsKept len m e rows → b ≤ len → count_in e a b ≤ m
+count_few len m e rows a b kept le = omega (arith, count_less (marked e) a b (len - 0) (omega (arith, le)), kept.counted)

@@ -3,6 +3,8 @@ mod Dropped
 mod Reserved
 mod Tables
 mod Taken
+mod Bits
 mod Words
+mod Spread
 mod Readying
 mod Paged

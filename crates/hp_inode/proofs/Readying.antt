@@ -1,6 +1,7 @@
 -- An inode with the room to enter a range, and as it enters it.
-use Rattle.std.proofs.Common.{◌≡◌, ℕ, ◌+◌, ◌-◌, ◌≤◌, ◌++◌, not, List, [], length, drop, replicate, max, refl, sym, ap, subst, ◌∙◌, arith}
-use Rattle.std.specs.FinSet as set
+use Rattle.hp_model.proofs.Counting.{count_alike}
+use Rattle.hp_model.specs.files.Ranges.{within}
+use Rattle.std.proofs.Common.{◌≡◌, ℕ, ◌+◌, ◌-◌, ◌≤◌, ◌++◌, not, List, [], length, drop, replicate, max, refl, sym, ap, subst, ◌∙◌, arith, ◌||◌, true, rules, IsSome}
 use Rattle.std.specs.List.{All, range_with_len}
 use Rattle.std.proofs.lemmas.List.{drop_all, take_all}
 use Rattle.std.proofs.lemmas.List.Elements.{All-nil}
@@ -10,47 +11,60 @@ use Rattle.hp_model.specs.declared.cell.Cell.{Cell}
 use Rattle.hp_model.specs.declared.cell.Cell.TheVariants.{Hole}
 use Rattle.hp_model.specs.files.File.{at_least, cells_to, entered}
 use Rattle.hp_model.specs.Lists.{edit_range}
-use Rattle.hp_region.specs.Region.{Region, missing_in, range_set}
+use Rattle.hp_inode.specs.Entries.{missing_in}
 use Rattle.hp_inode.specs.Kept.{IsKept, cells_of}
 use Rattle.hp_inode.specs.Ready.{IsReady}
-use Rattle.hp_inode.specs.Rows.{Rows}
+use Rattle.hp_inode.specs.Marks.{marked}
+use Rattle.hp_inode.specs.Rows.{Rows, page_in, has_slot}
 use Rattle.hp_inode.proofs.CellFacts.{length-cells, resized, resized_kept}
 use Rattle.hp_inode.proofs.Reserved.{reserved_cells, reserved_kept}
 
 -- no more are entered than the length, nor missing than the range has
-pub few_entered : (len m : ℕ) (e : Region) (rows : Rows) → IsKept len m e rows → m ≤ len
+pub few_entered : (len m : ℕ) (e : List ℕ) (rows : Rows) → IsKept len m e rows → m ≤ len
 few_entered len m e rows kept =
     let counted = kept.counted in
-    omega (arith, counted, count_by-le-length (set.contains e.indices) (range_with_len 0 (len - 0)), length-range_with_len 0 (len - 0))
+    omega (arith, counted, count_by-le-length (marked e) (range_with_len 0 (len - 0)), length-range_with_len 0 (len - 0))
 
-pub few_missing : (e : Region) (a b : ℕ) → missing_in e.indices a b ≤ b
-few_missing e a b = omega (arith, count_by-le-length (λ i. not (set.contains e.indices i)) (range_with_len a (b - a)), length-range_with_len a (b - a))
+pub few_missing : (e : List ℕ) (a b : ℕ) → missing_in e a b ≤ b
+few_missing e a b = omega (arith, count_by-le-length (λ i. not (marked e i)) (range_with_len a (b - a)), length-range_with_len a (b - a))
+
+-- with the same entries in more words, the same pages, and more slots
+module _ (len m : ℕ) (e new : List ℕ) (rows made : Rows) (same : (k : ℕ) → marked new k ≡ marked e k) (pages : (k : ℕ) → page_in made k ≡ page_in rows k) where
+  pub same_cells : cells_of len new made ≡ cells_of len e rows
+  same_cells = search rules
+
+  pub same_kept : IsKept len m e rows → ((k : ℕ) → has_slot rows k ≡ true → has_slot made k ≡ true) → IsKept len m new made
+  same_kept kept stay = record {
+    small = kept.small;
+    below = λ i in'. kept.below i (sym (same i) ∙ in');
+    counted = count_alike (marked new) (marked e) same (range_with_len 0 (len - 0)) ∙ kept.counted;
+    paged = λ i some. same i ∙ kept.paged i (subst IsSome (pages i) some);
+    slots = λ i in'. stay i (kept.slots i (sym (same i) ∙ in'));
+  }
 
 -- made longer, and entered
-module _ (len m : ℕ) (e new : Region) (rows : Rows) (a b long missing pages : ℕ) (ready : IsReady len m pages e rows a b) (long_is : long ≡ max len b) (missing_is : missing ≡ missing_in e.indices a b) (union : new.indices ≡ set.union e.indices (range_set a b)) where
-  past : drop long (cells_of len e.indices rows) ≡ []
-  past = (let here = length-cells len e.indices rows in drop_all long (cells_of len e.indices rows) (omega (arith, long_is, here)))
+module _ (len m : ℕ) (e new : List ℕ) (rows : Rows) (a b long missing pages : ℕ) (ready : IsReady len m pages e rows a b) (long_is : long ≡ max len b) (missing_is : missing ≡ missing_in e a b) (holds_new : (k : ℕ) → marked new k ≡ (marked e k || within a b k)) where
+  past : drop long (cells_of len e rows) ≡ []
+  past = (let here = length-cells len e rows in drop_all long (cells_of len e rows) (omega (arith, long_is, here)))
 
-  holes : All (λ (cell : Cell ℕ). cell ≡ Hole) (drop long (cells_of len e.indices rows))
+  holes : All (λ (cell : Cell ℕ). cell ≡ Hole) (drop long (cells_of len e rows))
   holes = subst (All (λ (cell : Cell ℕ). cell ≡ Hole)) (sym past) (All-nil (λ (cell : Cell ℕ). cell ≡ Hole))
 
   longer : IsKept long m e rows
   longer = (let small = ready.small in let was = ready.kept.small in resized_kept len m e rows ready.kept long holes (omega (arith, long_is, small, was)))
 
-  pub enter_kept : e.room ≤ new.room + 1 → IsKept long (m + missing) new rows
-  enter_kept room =
-      let had = ready.room in
-      subst (λ n. IsKept long (m + n) new rows) (sym missing_is)
-      (reserved_kept long m e new rows rows a b longer (omega (arith, long_is)) union (λ k. refl) (λ k has. has) ready.slots (omega (arith, had, room)))
+  pub enter_kept : IsKept long (m + missing) new rows
+  enter_kept = subst (λ n. IsKept long (m + n) new rows) (sym missing_is)
+      (reserved_kept long m e new rows rows a b longer (omega (arith, long_is)) holds_new (λ k. refl) (λ k has. has) ready.slots)
 
-  lengthened : cells_to long (cells_of len e.indices rows) ≡ at_least b (cells_of len e.indices rows)
+  lengthened : cells_to long (cells_of len e rows) ≡ at_least b (cells_of len e rows)
   lengthened =
-      let cells : List (Cell ℕ) = cells_of len e.indices rows in
-      let here = length-cells len e.indices rows in
+      let cells : List (Cell ℕ) = cells_of len e rows in
+      let here = length-cells len e rows in
       ap (λ xs. xs ++ replicate (long - length cells) Hole) (take_all long cells (omega (arith, here, long_is)))
       ∙ ap (λ n. cells ++ replicate n Hole) (let same : long - length cells ≡ b - length cells = omega (arith, here, long_is) in same)
 
-  pub enter_cells : cells_of long new.indices rows ≡ edit_range entered a b (at_least b (cells_of len e.indices rows))
+  pub enter_cells : cells_of long new rows ≡ edit_range entered a b (at_least b (cells_of len e rows))
   enter_cells =
-      reserved_cells long m e new rows rows a b longer (omega (arith, long_is)) union (λ k. refl)
+      reserved_cells long m e new rows rows a b longer (omega (arith, long_is)) holds_new (λ k. refl)
       ∙ ap (edit_range entered a b) (resized len m e rows ready.kept long holes ∙ lengthened)

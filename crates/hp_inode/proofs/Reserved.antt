@@ -1,21 +1,20 @@
 -- An inode after a range was entered.
-use Rattle.std.proofs.Common.{◌≡◌, ℕ, ◌+◌, ◌-◌, ◌<◌, ◌≤◌, Bool, true, false, not, ◌&&◌, ◌||◌, Option, None, Some, sym, refl, ap, ◌∙◌, subst, arith, ⊎_elim}
+use Rattle.std.proofs.Common.{◌≡◌, ℕ, ◌+◌, ◌-◌, ◌<◌, ◌≤◌, Bool, true, false, not, ◌&&◌, ◌||◌, Option, None, Some, sym, refl, ap, ◌∙◌, subst, arith, ⊎_elim, List}
 use Rattle.std.specs.List.{range_with_len, count_by}
 use Rattle.std.specs.Prelude.{IsSome}
-use Rattle.std.specs.FinSet as set
-use Rattle.std.specs.Cmp.{nat_cmp_total}
 use Rattle.std.proofs.lemmas.Bool.{cases_lt, or_cases, or_left, and_parts, and_right}
 use Rattle.std.proofs.lemmas.List.FromFn.{fill_by_all}
 use Rattle.std.proofs.lemmas.List.FromFn.{length-range_with_len}
 use Rattle.std.proofs.lemmas.List.Sums.{count_by-le-length}
-use Rattle.hp_region.specs.Region.{Region, range_set, count_in, missing_in}
+use Rattle.hp_inode.specs.Entries.{count_in, missing_in}
 use Rattle.hp_model.specs.files.Ranges.{within}
 use Rattle.hp_model.proofs.Counting.{count_alike, count_or, count_within, alike_in}
-use Rattle.hp_model.proofs.Ranges.{contains-range, within-in, within-true, within-below, within-past}
+use Rattle.hp_model.proofs.Ranges.{within-in, within-true, within-below, within-past}
 use Rattle.hp_model.proofs.Editing.{length-edit_range, get_or-edit_below, get_or-edit_within, get_or-edit_past}
 use Rattle.hp_model.specs.declared.cell.Cell.TheVariants.{Hole}
 use Rattle.hp_model.specs.files.File.{entered, cell_in}
 use Rattle.hp_model.specs.Lists.{edit_range}
+use Rattle.hp_inode.specs.Marks.{marked}
 use Rattle.hp_inode.specs.Rows.{Rows, page_in, has_slot}
 use Rattle.hp_inode.specs.Kept.{cell_by, cell_of, cells_of, IsKept}
 use Rattle.hp_inode.proofs.CellFacts.{length-cells, cell_in-cells}
@@ -40,29 +39,25 @@ count_more p a b n le =
     omega (arith, split, same, there, fresh)
 
 -- those entered, with those missing in a range, are no more than the length
-pub few_after : (len m : ℕ) (e : Region) (rows : Rows) (a b : ℕ) → IsKept len m e rows → b ≤ len → m + missing_in e.indices a b ≤ len
+pub few_after : (len m : ℕ) (e : List ℕ) (rows : Rows) (a b : ℕ) → IsKept len m e rows → b ≤ len → m + missing_in e a b ≤ len
 few_after len m e rows a b kept le =
-    let more = count_more (set.contains e.indices) a b (len - 0) (omega (arith, le)) in
-    omega (arith, more, kept.counted, count_by-le-length (λ i. set.contains e.indices i || within a b i) (range_with_len 0 (len - 0)), length-range_with_len 0 (len - 0))
+    let more = count_more (marked e) a b (len - 0) (omega (arith, le)) in
+    omega (arith, more, kept.counted, count_by-le-length (λ i. marked e i || within a b i) (range_with_len 0 (len - 0)), length-range_with_len 0 (len - 0))
 
-module _ (len m : ℕ) (e new : Region) (rows made : Rows) (a b : ℕ) (kept : IsKept len m e rows) (le : b ≤ len) (union : new.indices ≡ set.union e.indices (range_set a b)) (pages : (k : ℕ) → page_in made k ≡ page_in rows k) where
-  holds_new : (k : ℕ) → set.contains new.indices k ≡ (set.contains e.indices k || within a b k)
-  holds_new k = ap (λ s. set.contains s k) union ∙ set.contains-union nat_cmp_total e.indices (range_set a b) k ∙ ap (λ t. set.contains e.indices k || t) (contains-range a b k)
+module _ (len m : ℕ) (e new : List ℕ) (rows made : Rows) (a b : ℕ) (kept : IsKept len m e rows) (le : b ≤ len) (holds_new : (k : ℕ) → marked new k ≡ (marked e k || within a b k)) (pages : (k : ℕ) → page_in made k ≡ page_in rows k) where
+  cases_new : (k : ℕ) (P : Type 0) → (marked e k ≡ true → P) → (a ≤ k → k < b → P) → marked new k ≡ true → P
+  cases_new k P was now p = ⊎_elim was (λ w. now (within-in a b k w).0 (within-in a b k w).1) (or_cases (marked e k) (within a b k) (sym (holds_new k) ∙ p))
 
-  cases_new : (k : ℕ) (P : Type 0) → (set.contains e.indices k ≡ true → P) → (a ≤ k → k < b → P) → set.contains new.indices k ≡ true → P
-  cases_new k P was now p = ⊎_elim was (λ w. now (within-in a b k w).0 (within-in a b k w).1) (or_cases (set.contains e.indices k) (within a b k) (sym (holds_new k) ∙ p))
+  pub count_new : count_in new 0 len ≡ m + missing_in e a b
+  count_new = omega (arith, count_alike (marked new) (λ i. marked e i || within a b i) holds_new (range_with_len 0 (len - 0)), count_more (marked e) a b (len - 0) (omega (arith, le)), kept.counted)
 
-  pub count_new : count_in new.indices 0 len ≡ m + missing_in e.indices a b
-  count_new = omega (arith, count_alike (set.contains new.indices) (λ i. set.contains e.indices i || within a b i) holds_new (range_with_len 0 (len - 0)), count_more (set.contains e.indices) a b (len - 0) (omega (arith, le)), kept.counted)
-
-  pub reserved_kept : ((k : ℕ) → has_slot rows k ≡ true → has_slot made k ≡ true) → ((k : ℕ) → a ≤ k → k < b → has_slot made k ≡ true) → m + missing_in e.indices a b ≤ new.room → IsKept len (m + missing_in e.indices a b) new made
-  reserved_kept stay fresh room = record {
+  pub reserved_kept : ((k : ℕ) → has_slot rows k ≡ true → has_slot made k ≡ true) → ((k : ℕ) → a ≤ k → k < b → has_slot made k ≡ true) → IsKept len (m + missing_in e a b) new made
+  reserved_kept stay fresh = record {
     small = kept.small;
     counted = count_new;
     below = λ i in'. cases_new i (i < len) (kept.below i) (λ low high. omega (arith, high, le)) in';
     paged = λ i some. holds_new i ∙ or_left _ _ (kept.paged i (subst IsSome (pages i) some));
     slots = λ i in'. cases_new i (has_slot made i ≡ true) (λ was. stay i (kept.slots i was)) (fresh i) in';
-    room = room;
   }
 
   entered_by : (x w : Bool) (o : Option ℕ) → (IsSome o → x ≡ true) → w ≡ true → cell_by (x || w) o ≡ entered (cell_by x o)
@@ -78,22 +73,22 @@ module _ (len m : ℕ) (e new : Region) (rows made : Rows) (a b : ℕ) (kept : I
   same_by true w o e = refl
   same_by false w o e = rw e refl
 
-  here : (k : ℕ) → cell_of new.indices made k ≡ cell_by (set.contains e.indices k || within a b k) (page_in rows k)
-  here k = ap (λ t. cell_by t (page_in made k)) (holds_new k) ∙ ap (cell_by (set.contains e.indices k || within a b k)) (pages k)
+  here : (k : ℕ) → cell_of new made k ≡ cell_by (marked e k || within a b k) (page_in rows k)
+  here k = ap (λ t. cell_by t (page_in made k)) (holds_new k) ∙ ap (cell_by (marked e k || within a b k)) (pages k)
 
   -- where the range has the index, and where it doesn't
-  touched : (k : ℕ) → a ≤ k → k < b → cell_of new.indices made k ≡ entered (cell_in (cells_of len e.indices rows) k)
-  touched k low high = here k ∙ entered_by (set.contains e.indices k) (within a b k) (page_in rows k) (kept.paged k) (within-true a b k low high) ∙ ap entered (sym (cell_in-cells len m e rows kept k))
+  touched : (k : ℕ) → a ≤ k → k < b → cell_of new made k ≡ entered (cell_in (cells_of len e rows) k)
+  touched k low high = here k ∙ entered_by (marked e k) (within a b k) (page_in rows k) (kept.paged k) (within-true a b k low high) ∙ ap entered (sym (cell_in-cells len m e rows kept k))
 
-  untouched : (k : ℕ) → within a b k ≡ false → cell_of new.indices made k ≡ cell_in (cells_of len e.indices rows) k
-  untouched k out = here k ∙ same_by (set.contains e.indices k) (within a b k) (page_in rows k) out ∙ sym (cell_in-cells len m e rows kept k)
+  untouched : (k : ℕ) → within a b k ≡ false → cell_of new made k ≡ cell_in (cells_of len e rows) k
+  untouched k out = here k ∙ same_by (marked e k) (within a b k) (page_in rows k) out ∙ sym (cell_in-cells len m e rows kept k)
 
-  pub reserved_cells : cells_of len new.indices made ≡ edit_range entered a b (cells_of len e.indices rows)
-  reserved_cells = sym (fill_by_all (cell_of new.indices made) (edit_range entered a b (cells_of len e.indices rows)) len Hole (length-edit_range entered a b (cells_of len e.indices rows) ∙ length-cells len e.indices rows) (λ k lt.
-      let long = length-cells len e.indices rows in
-      ⊎_elim (λ (below : k < a). get_or-edit_below entered a b (cells_of len e.indices rows) k Hole below (omega (arith, lt, long)) ∙ sym (untouched k (within-below a b k below)))
+  pub reserved_cells : cells_of len new made ≡ edit_range entered a b (cells_of len e rows)
+  reserved_cells = sym (fill_by_all (cell_of new made) (edit_range entered a b (cells_of len e rows)) len Hole (length-edit_range entered a b (cells_of len e rows) ∙ length-cells len e rows) (λ k lt.
+      let long = length-cells len e rows in
+      ⊎_elim (λ (below : k < a). get_or-edit_below entered a b (cells_of len e rows) k Hole below (omega (arith, lt, long)) ∙ sym (untouched k (within-below a b k below)))
       (λ (from : a ≤ k). ⊎_elim
-      (λ (high : k < b). get_or-edit_within entered a b (cells_of len e.indices rows) k Hole from high (omega (arith, le, long)) ∙ sym (touched k from high))
-      (λ (past : b ≤ k). get_or-edit_past entered a b (cells_of len e.indices rows) k Hole from past (omega (arith, lt, long)) ∙ sym (untouched k (within-past a b k past)))
+      (λ (high : k < b). get_or-edit_within entered a b (cells_of len e rows) k Hole from high (omega (arith, le, long)) ∙ sym (touched k from high))
+      (λ (past : b ≤ k). get_or-edit_past entered a b (cells_of len e rows) k Hole from past (omega (arith, lt, long)) ∙ sym (untouched k (within-past a b k past)))
       (cases_lt k b))
       (cases_lt k a)))

@@ -1,9 +1,8 @@
 -- An inode with the room to enter a range.
-use Rattle.std.specs.Prelude.{ℕ, ◌≡◌, ◌+◌, ◌<◌, ◌≤◌, ◌^◌, true, List}
+use Rattle.std.specs.Prelude.{ℕ, ◌≡◌, ◌*◌, ◌<◌, ◌≤◌, ◌^◌, true, List, length}
 use Rattle.std.specs.List.{count_by}
 use Rattle.hp_model.specs.declared.cell.Cell.{Cell}
 use Rattle.hp_model.specs.files.File.{has_page}
-use Rattle.hp_region.specs.Region.{Region, missing_in}
 use Rattle.hp_inode.specs.Kept.{IsKept, cells_of}
 use Rattle.hp_inode.specs.Rows.{Rows, has_slot}
 
@@ -13,10 +12,10 @@ pub record Ready : Type 0 where
   pub from : ℕ
   pub to : ℕ
 
--- the indices from a up to b have their slots, and room for the removal of each
-pub record IsReady (len count pages : ℕ) (entries : Region) (rows : Rows) (a b : ℕ) : Type 0 where
+-- the indices from a up to b have their slots, and those below b a place among the entries
+pub record IsReady (len count pages : ℕ) (entries : List ℕ) (rows : Rows) (a b : ℕ) : Type 0 where
   pub kept : IsKept len count entries rows
-  pub paged : pages ≡ count_by has_page (cells_of len entries.indices rows)
+  pub paged : pages ≡ count_by has_page (cells_of len entries rows)
   pub small : b < 2 ^ 32
   pub slots : (k : ℕ) → a ≤ k → k < b → has_slot rows k ≡ true
-  pub room : count + missing_in entries.indices a b < entries.room
+  pub room : b ≤ 64 * length entries

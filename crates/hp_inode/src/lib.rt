@@ -7,14 +7,15 @@ ghost use Rattle.hp_model.specs.files.File.{is_entered, is_hole, has_page, page_
 ghost use Rattle.hp_model.specs.Lists.{edit_range, part, found};
 ghost use Rattle.hp_model.specs.declared.cell.Cell.TheVariants.{Hole, Entered, Present};
 
+use entries::Entries;
 use hp_model::page_no::PageNo;
-use hp_region::RegionList;
 pub use ready::ReadyInode;
 use std::alloc::{AllocError, Global};
 use std::marker::Model;
 use table::PageTable;
 
 mod chunk;
+mod entries;
 mod marks;
 mod ready;
 mod table;
@@ -28,7 +29,7 @@ pub struct Inode {
     // how many indices are entered, and how many of these have a page
     count: u64,
     pages: u64,
-    entries: RegionList,
+    entries: Entries,
     table: PageTable,
 }
 
@@ -39,7 +40,7 @@ impl Model for Inode {
 
     ghost Value = { List (Cell ℕ) };
 
-    ghost view = { λ f. cells_of f.len f.entries.indices f.table };
+    ghost view = { λ f. cells_of f.len f.entries f.table };
 
     ghost invariant = { λ f. IsInode f.len f.count f.pages f.entries f.table };
 }
@@ -53,7 +54,7 @@ impl Inode {
             len: 0,
             count: 0,
             pages: 0,
-            entries: RegionList::new(alloc),
+            entries: Entries::new(alloc),
             table: PageTable::new(alloc),
         }
     }
@@ -111,18 +112,18 @@ impl Inode {
         self.pages += 1;
     }
 
-    /// Enters the indices from `a` up to `b`, and makes the room for their pages and for every later removal.
+    /// Enters the indices from `a` up to `b`, and makes the room for their pages.
     /// At an error the cells are as they were.
     pub fn reserve_range(&mut self, a: u64, b: u64) -> Result<(), AllocError>
         requires { b ≤ length self.old }
         ensures ok { OnOk result (self.new ≡ edit_range entered a b self.old) }
         ensures err { OnErr result (self.new ≡ self.old) }
     {
-        let count = self.count + self.entries.missing(a, b);
+        let missing = self.entries.missing(a, b);
         self.table.make_slots(a, b)?;
-        self.entries.make_room(count as usize + 1)?;
-        self.entries.add(a, b)?;
-        self.count = count;
+        self.entries.make_room(b)?;
+        self.entries.add(a, b);
+        self.count += missing;
         Ok(())
     }
 
@@ -140,8 +141,7 @@ impl Inode {
             mut entries,
             mut table,
         } = self;
-        let wanted = count + entries.missing(a, b);
-        if table.make_slots(a, b).is_err() || entries.make_room(wanted as usize + 1).is_err() {
+        if table.make_slots(a, b).is_err() || entries.make_room(b).is_err() {
             return Err(Inode {
                 len,
                 count,
@@ -198,7 +198,7 @@ impl Inode {
         ensures count { result ≡ count_by is_entered (part a b self.old) }
         ensures cells { self.new ≡ edit_range (λ cell. Hole) a b self.old }
     {
-        let count = self.entries.remove(a, b).unwrap();
+        let count = self.entries.remove(a, b);
         self.count -= count;
         count
     }

@@ -1,5 +1,7 @@
 //! Marks on numbers, a bit for each: the first mark from a number on is found a word at a time.
-ghost use Rattle.std.specs.Prelude.{ℕ, ◌≡◌, ◌*◌, ◌<◌, ◌≤◌, ◌^◌, length, OnOk, vec_len};
+ghost use Rattle.std.specs.Prelude.{ℕ, ◌≡◌, ◌==◌, ◌+◌, ◌*◌, ◌<◌, ◌≤◌, ◌^◌, ◌||◌, max, length, OnOk, OnErr, vec_len};
+ghost use Rattle.std.specs.Int.{bit_at};
+ghost use Rattle.hp_model.specs.files.Ranges.{within};
 ghost use Rattle.hp_inode.specs.Marks.{marked, FindsFrom};
 
 use std::alloc::AllocError;
@@ -43,19 +45,40 @@ pub fn first_from(words: &[u64], n: usize) -> Option<usize>
     None
 }
 
-/// Makes a place for the mark of `k`, the next number without one at most.
-pub fn make_place(words: &mut Vec<u64>, k: usize) -> Result<(), AllocError>
-    requires next { k ≤ 64 * vec_len words.old }
-    requires small { k < 2 ^ 32 }
-    requires few { vec_len words.old < 2 ^ 32 }
-    ensures ok { OnOk result (k < 64 * vec_len words.new) }
-    ensures marks { (j : ℕ) → marked words.new.items j ≡ marked words.old.items j }
-    ensures more { vec_len words.old ≤ vec_len words.new }
-    ensures few { vec_len words.new < 2 ^ 32 }
+/// The bits of the word `at` whose numbers lie from `a` up to `b`.
+pub fn bits_within(at: usize, a: usize, b: usize) -> u64
+    requires from { a < 64 * at + 64 }
+    requires to { 64 * at < b }
+    ensures { (i : ℕ) → i < 64 → (bit_at result i == 1) ≡ within a b (64 * at + i) }
 {
-    if k / WORD < words.len() {
+    let start = WORD * at;
+    let low = a.saturating_sub(start);
+    let high = (b - start).min(WORD);
+    u64::MAX << low & u64::MAX >> (WORD - high)
+}
+
+/// Sets the marks from `a` up to `b`.
+pub fn set_marks(words: &mut [u64], a: usize, b: usize)
+    requires { b ≤ 64 * length words.old }
+    ensures { (k : ℕ) → marked words.new k ≡ (marked words.old k || within a b k) }
+{
+    for at in a / WORD..b.div_ceil(WORD) {
+        words[at] |= bits_within(at, a, b);
+    }
+}
+
+/// Makes places for the marks of all numbers below `count`.
+pub fn make_places(words: &mut Vec<u64>, count: usize) -> Result<(), AllocError>
+    ensures ok { OnOk result (count ≤ 64 * vec_len words.new) }
+    ensures marks { (k : ℕ) → marked words.new.items k ≡ marked words.old.items k }
+    ensures more { vec_len words.old ≤ vec_len words.new }
+    ensures err { OnErr result (words.new.items ≡ words.old.items) }
+    ensures few { 64 * vec_len words.new ≤ max (64 * vec_len words.old) (count + 63) }
+{
+    let wanted = count.div_ceil(WORD);
+    if wanted <= words.len() {
         return Ok(());
     }
-    words.push(0)?;
+    words.resize(wanted, 0)?;
     Ok(())
 }

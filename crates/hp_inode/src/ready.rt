@@ -4,8 +4,8 @@ ghost use Rattle.hp_model.specs.files.File.{at_least, entered};
 ghost use Rattle.hp_model.specs.Lists.{edit_range};
 
 use crate::Inode;
+use crate::entries::Entries;
 use crate::table::PageTable;
-use hp_region::RegionList;
 use std::marker::Model;
 
 /// A file's indices, and a range of them that can be entered with no memory. Contracts see its cells, which are as they
@@ -15,7 +15,7 @@ pub struct ReadyInode {
     pub(crate) len: u64,
     pub(crate) count: u64,
     pub(crate) pages: u64,
-    pub(crate) entries: RegionList,
+    pub(crate) entries: Entries,
     pub(crate) table: PageTable,
     pub(crate) from: u64,
     pub(crate) to: u64,
@@ -27,7 +27,7 @@ impl Model for ReadyInode {
 
     ghost Value = { Ready };
 
-    ghost view = { λ f. record { cells = cells_of f.len f.entries.indices f.table; from = f.from; to = f.to } };
+    ghost view = { λ f. record { cells = cells_of f.len f.entries f.table; from = f.from; to = f.to } };
 
     ghost invariant = { λ f. IsReady f.len f.count f.pages f.entries f.table f.from f.to };
 }
@@ -47,7 +47,7 @@ impl ReadyInode {
             to,
         } = self;
         let missing = entries.missing(from, to);
-        entries.add(from, to).unwrap();
+        entries.add(from, to);
         Inode {
             len: len.max(to),
             count: count + missing,

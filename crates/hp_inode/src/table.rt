@@ -4,7 +4,7 @@ ghost use Rattle.std.specs.List.{slice_index_or};
 ghost use Rattle.hp_inode.specs.Rows.{page_in, has_slot, FindsSlot, FindsPage};
 
 use crate::chunk::{CHUNK, Chunk};
-use crate::marks::{first_from, make_place, set_mark};
+use crate::marks::{first_from, make_places, set_mark};
 use hp_model::page_no::PageNo;
 use std::alloc::{AllocError, Global};
 use std::marker::Model;
@@ -125,7 +125,7 @@ impl PageTable {
         ensures ok { OnOk result (self.new ≡ self.old ++ [] ∷ []) }
         ensures err { OnErr result (self.new ≡ self.old) }
     {
-        make_place(&mut self.marks, self.chunks.len())?;
+        make_places(&mut self.marks, self.chunks.len() + 1)?;
         self.chunks.push(Chunk::new(self.alloc))?;
         Ok(())
     }

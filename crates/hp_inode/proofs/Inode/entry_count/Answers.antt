@@ -9,7 +9,7 @@ use Rattle.hp_inode.proofs.Inode.entry_count.Goals as goal
 pub returns : goal.returns
 returns c =
     let s = c.self.inside in
-    let cells = cells_of s.len s.entries.indices s.table in
-    let long = length-cells s.len s.entries.indices s.table in
-    rw (← c.self.view_is) (sym c.self.invariant.kept.counted ∙ entered_cells s.len s.entries.indices s.table 0 s.len (omega arith)
+    let cells = cells_of s.len s.entries s.table in
+    let long = length-cells s.len s.entries s.table in
+    rw (← c.self.view_is) (sym c.self.invariant.kept.counted ∙ entered_cells s.len s.entries s.table 0 s.len (omega arith)
     ∙ ap (count_by is_entered) (take_all (s.len - 0) cells (omega (arith, long))))

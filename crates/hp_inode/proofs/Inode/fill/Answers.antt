@@ -17,13 +17,13 @@ invariant_of-self c =
     let new = changed _ _ _ _ c.self.invariant.kept c.args.i (Some c.args.page) _ entered c.set.ensures.here c.set.ensures.others in
     record {
       kept = changed_kept _ _ _ _ c.self.invariant.kept c.args.i (Some c.args.page) _ entered c.set.ensures.here c.set.ensures.others c.set.ensures.slots;
-      paged = ap (λ n. n + 1) c.self.invariant.paged ∙ sym (filled_paged (cells_of s.len s.entries.indices s.table) c.args.i c.args.page (rw c.self.view_is c.requires)) ∙ ap (count_by has_page) (sym new);
+      paged = ap (λ n. n + 1) c.self.invariant.paged ∙ sym (filled_paged (cells_of s.len s.entries s.table) c.args.i c.args.page (rw c.self.view_is c.requires)) ∙ ap (count_by has_page) (sym new);
     }
 
 pub overflow_add-self : goal.overflow_add-self
 overflow_add-self c =
     let s = c.self.inside in
-    omega (arith, c.self.invariant.paged, c.self.invariant.kept.small, count_by-le-length has_page (cells_of s.len s.entries.indices s.table), length-cells s.len s.entries.indices s.table)
+    omega (arith, c.self.invariant.paged, c.self.invariant.kept.small, count_by-le-length has_page (cells_of s.len s.entries s.table), length-cells s.len s.entries s.table)
 
 pub returns : goal.returns
 returns c =

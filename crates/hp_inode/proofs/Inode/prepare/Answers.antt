@@ -1,28 +1,38 @@
-use Rattle.std.proofs.Common.{rules, arith, ◌≡◌, sym, ap, ◌∙◌}
+use Rattle.std.proofs.Common.{ℕ, ◌≡◌, false, Result, Ok, Err, OnOk, sym, ap, ◌∙◌}
+use Rattle.std.specs.Result.{is_err}
 use Rattle.std.specs.List.{count_by}
+use Rattle.std.proofs.lemmas.Bool.{false≢true}
 use Rattle.hp_model.specs.files.File.{has_page}
-use Rattle.hp_inode.specs.Kept.{cells_of}
-use Rattle.hp_inode.proofs.Readying.{few_entered, few_missing}
+use Rattle.hp_inode.specs.Marks.{marked}
+use Rattle.hp_inode.proofs.Readying.{same_kept, same_cells}
 use Rattle.hp_inode.proofs.Inode.prepare.Goals as goal
+use Rattle.hp_inode.proofs.Inode.prepare.Goals.{then-is_err-via-then-is_err, then-is_err-via-else-is_err+then-is_err-2}
 
-pub overflow_add-wanted : goal.overflow_add-wanted
-overflow_add-wanted c =
-    let s = c.self.inside in
-    omega (arith, few_entered s.len s.count s.entries s.table c.self.invariant.kept, few_missing s.entries c.args.a c.args.b, c.requires, c.self.invariant.kept.small, c.missing.ensures)
+went : {T E P : Type 0} (r : Result T E) → false ≡ is_err r → OnOk r P → P
+went (Ok x) not_err p = p
+went (Err e) not_err p = absurd (false≢true not_err)
 
-pub overflow_add-wanted-else-is_err : goal.overflow_add-wanted-else-is_err
-overflow_add-wanted-else-is_err c =
+-- with memory refused, there are the same entries
+pub invariant_of-result : goal.invariant_of-result
+invariant_of-result c =
     let s = c.self.inside in
-    omega (arith, few_entered s.len s.count s.entries s.table c.self.invariant.kept, few_missing s.entries c.args.a c.args.b, c.requires, c.self.invariant.kept.small, c.missing.ensures)
+    let same : (k : ℕ) → marked c.then-is_err.entries k ≡ marked s.entries k = elim c.then-is_err.branch as (λ _. (k : ℕ) → marked c.then-is_err.entries k ≡ marked c.self.inside.entries k) [
+      | then-is_err-via-then-is_err w ↦ λ k. ap (λ e. marked e k) w.entries-is
+      | then-is_err-via-else-is_err+then-is_err-2 w ↦ λ k. ap (λ e. marked e k) w.entries-is ∙ w.make_room.ensures.same k
+    ] in
+    record {
+      kept = same_kept s.len s.count s.entries c.then-is_err.entries s.table c.make_slots.new.self same c.make_slots.ensures.pages c.self.invariant.kept c.make_slots.ensures.kept;
+      paged = c.self.invariant.paged ∙ ap (count_by has_page) (sym (same_cells s.len s.count s.entries c.then-is_err.entries s.table c.make_slots.new.self same c.make_slots.ensures.pages));
+    }
 
 pub invariant_of-result-2 : goal.invariant_of-result-2
 invariant_of-result-2 c =
     let s = c.self.inside in
-    let cells : cells_of s.len c.make_room.new.self.indices c.make_slots.new.self ≡ cells_of s.len s.entries.indices s.table = search rules in
+    let same = c.make_room.ensures.same in
     record {
-      kept = search rules;
-      paged = c.self.invariant.paged ∙ ap (count_by has_page) (sym cells);
+      kept = same_kept s.len s.count s.entries c.make_room.new.self s.table c.make_slots.new.self same c.make_slots.ensures.pages c.self.invariant.kept c.make_slots.ensures.kept;
+      paged = c.self.invariant.paged ∙ ap (count_by has_page) (sym (same_cells s.len s.count s.entries c.make_room.new.self s.table c.make_slots.new.self same c.make_slots.ensures.pages));
       small = c.requires;
-      slots = search rules;
-      room = search rules;
+      slots = went c.make_slots.result c.if-is_err.ensures.value c.make_slots.ensures.made;
+      room = went c.make_room.result c.if-is_err-2.ensures.value c.make_room.ensures.ok;
     }

@@ -11,10 +11,10 @@ use Rattle.hp_inode.proofs.Inode.set_len.Goals as goal
 pub invariant_of-self : goal.invariant_of-self
 invariant_of-self c =
     let s = c.self.inside in
-    let holes : All (λ (c : Cell ℕ). c ≡ Hole) (drop c.args.len (cells_of s.len s.entries.indices s.table)) = rw c.self.view_is c.requires.holes in
+    let holes : All (λ (c : Cell ℕ). c ≡ Hole) (drop c.args.len (cells_of s.len s.entries s.table)) = rw c.self.view_is c.requires.holes in
     record {
       kept = resized_kept _ _ _ _ c.self.invariant.kept c.args.len holes c.requires.small;
-      paged = c.self.invariant.paged ∙ sym (resized_paged c.args.len (cells_of s.len s.entries.indices s.table) holes) ∙ ap (count_by has_page) (sym (resized _ _ _ _ c.self.invariant.kept c.args.len holes));
+      paged = c.self.invariant.paged ∙ sym (resized_paged c.args.len (cells_of s.len s.entries s.table) holes) ∙ ap (count_by has_page) (sym (resized _ _ _ _ c.self.invariant.kept c.args.len holes));
     }
 
 pub returns : goal.returns

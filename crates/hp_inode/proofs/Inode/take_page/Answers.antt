@@ -52,7 +52,7 @@ invariant_of-self c =
     let emptied = changed _ _ _ _ c.self.invariant.kept c.in_ok-i.i None _ here c.set.ensures.here c.set.ensures.others in
     let there = has_page_cell _ _ _ _ c.self.invariant.kept c.in_ok-i.i ∙ c.in_ok-i.ensures.here in
     let below = paged_below _ _ _ _ c.self.invariant.kept c.args.a c.args.b c.in_ok-i.i c.in_ok-i.ensures.here in
-    let fewer = taken_paged (cells_of s.len s.entries.indices s.table) c.in_ok-i.i there (omega (arith, below, length-cells s.len s.entries.indices s.table)) in
+    let fewer = taken_paged (cells_of s.len s.entries s.table) c.in_ok-i.i there (omega (arith, below, length-cells s.len s.entries s.table)) in
     let same = ap (count_by has_page) emptied in
     record {
       kept = changed_kept _ _ _ _ c.self.invariant.kept c.in_ok-i.i None _ here c.set.ensures.here c.set.ensures.others c.set.ensures.slots;
@@ -64,18 +64,18 @@ overflow_sub-self c =
     let s = c.self.inside in
     let there = has_page_cell _ _ _ _ c.self.invariant.kept c.in_ok-i.i ∙ c.in_ok-i.ensures.here in
     let below = paged_below _ _ _ _ c.self.invariant.kept c.args.a c.args.b c.in_ok-i.i c.in_ok-i.ensures.here in
-    omega (arith, c.self.invariant.paged, taken_paged (cells_of s.len s.entries.indices s.table) c.in_ok-i.i there (omega (arith, below, length-cells s.len s.entries.indices s.table)))
+    omega (arith, c.self.invariant.paged, taken_paged (cells_of s.len s.entries s.table) c.in_ok-i.i there (omega (arith, below, length-cells s.len s.entries s.table)))
 
 pub drop_entries-requires-clause-within : goal.drop_entries-requires-clause-within
 drop_entries-requires-clause-within c =
     let below = paged_below _ _ _ _ c.self.invariant.kept c.args.a c.args.b c.in_ok-i.i c.in_ok-i.ensures.here in
-    omega (arith, below, length-cells c.self.inside.len c.self.inside.entries.indices c.set.new.self)
+    omega (arith, below, length-cells c.self.inside.len c.self.inside.entries c.set.new.self)
 
 pub drop_entries-requires-clause-pageless : goal.drop_entries-requires-clause-pageless
 drop_entries-requires-clause-pageless c =
     let below = paged_below _ _ _ _ c.self.invariant.kept c.args.a c.args.b c.in_ok-i.i c.in_ok-i.ensures.here in
     let emptied = changed _ _ _ _ c.self.invariant.kept c.in_ok-i.i None _ (c.self.invariant.kept.paged c.in_ok-i.i c.in_ok-i.ensures.here) c.set.ensures.here c.set.ensures.others in
-    entered_alone _ _ c.in_ok-i.i emptied (omega (arith, below, length-cells c.self.inside.len c.self.inside.entries.indices c.self.inside.table))
+    entered_alone _ _ c.in_ok-i.i emptied (omega (arith, below, length-cells c.self.inside.len c.self.inside.entries c.self.inside.table))
 
 pub returns-clause-page : goal.returns-clause-page
 returns-clause-page c =
@@ -84,12 +84,12 @@ returns-clause-page c =
 
 pub returns-clause-cells : goal.returns-clause-cells
 returns-clause-cells c =
-    let xs = cells_of c.self.inside.len c.self.inside.entries.indices c.self.inside.table in
+    let xs = cells_of c.self.inside.len c.self.inside.entries c.self.inside.table in
     let there = found_page _ _ _ _ c.self.invariant.kept c.args.a c.args.b c.in_ok-i.i c.in_ok-i.ensures (omega arith) in
     let below = paged_below _ _ _ _ c.self.invariant.kept c.args.a c.args.b c.in_ok-i.i c.in_ok-i.ensures.here in
     let emptied = changed _ _ _ _ c.self.invariant.kept c.in_ok-i.i None _ (c.self.invariant.kept.paged c.in_ok-i.i c.in_ok-i.ensures.here) c.set.ensures.here c.set.ensures.others in
     let back : c.in_ok-i.i ≡ c.args.a + (c.in_ok-i.i - c.args.a) = omega (arith, c.in_ok-i.ensures.from) in
     rw (← c.self.view_is, there)
     (c.drop_entries.ensures.cells ∙ ap (edit_range (λ cell. Hole) c.in_ok-i.i (c.in_ok-i.i + 1)) emptied
-    ∙ edit_one xs c.in_ok-i.i Entered Hole (omega (arith, below, length-cells c.self.inside.len c.self.inside.entries.indices c.self.inside.table))
+    ∙ edit_one xs c.in_ok-i.i Entered Hole (omega (arith, below, length-cells c.self.inside.len c.self.inside.entries c.self.inside.table))
     ∙ ap (λ k. set xs k Hole) back)

@@ -17,13 +17,13 @@ overflow_add-result c =
 pub invariant_of-result : goal.invariant_of-result
 invariant_of-result c =
     let s = c.self.inside in
-    let kept = enter_kept s.len s.count s.entries c.add.new.self s.table s.from s.to c.max.result c.missing-missing.result s.pages c.self.invariant c.max.ensures c.missing-missing.ensures (rw c.unwrap.ensures at c.add.ensures.ok) c.add.ensures.room in
-    let cells = enter_cells s.len s.count s.entries c.add.new.self s.table s.from s.to c.max.result c.missing-missing.result s.pages c.self.invariant c.max.ensures c.missing-missing.ensures (rw c.unwrap.ensures at c.add.ensures.ok) in
-    let was = cells_of s.len s.entries.indices s.table in
+    let kept = enter_kept s.len s.count s.entries c.add.new.self s.table s.from s.to c.max.result c.missing-missing.result s.pages c.self.invariant c.max.ensures c.missing-missing.ensures c.add.ensures in
+    let cells = enter_cells s.len s.count s.entries c.add.new.self s.table s.from s.to c.max.result c.missing-missing.result s.pages c.self.invariant c.max.ensures c.missing-missing.ensures c.add.ensures in
+    let was = cells_of s.len s.entries s.table in
     record { kept = kept; paged = c.self.invariant.paged ∙ sym (longer_paged s.to was) ∙ sym (entered_paged s.from s.to (at_least s.to was)) ∙ ap (count_by has_page) (sym cells) }
 
 pub returns : goal.returns
 returns c =
     let s = c.self.inside in
-    enter_cells s.len s.count s.entries c.add.new.self s.table s.from s.to c.max.result c.missing-missing.result s.pages c.self.invariant c.max.ensures c.missing-missing.ensures (rw c.unwrap.ensures at c.add.ensures.ok)
+    enter_cells s.len s.count s.entries c.add.new.self s.table s.from s.to c.max.result c.missing-missing.result s.pages c.self.invariant c.max.ensures c.missing-missing.ensures c.add.ensures
     ∙ ap (λ (r : Ready). edit_range entered r.from r.to (at_least r.to r.cells)) c.self.view_is

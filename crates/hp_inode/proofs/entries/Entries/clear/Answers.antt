@@ -1,0 +1,29 @@
+use Rattle.std.proofs.Common.{arith, rules, sym, ap, ◌∙◌, ◌<◌, ◌^◌, ◌≡◌, ◌%◌, ℕ, false, eqb, get_or, length, not, ◌&&◌, bit_and, ◌-◌, set}
+use Rattle.std.proofs.lemmas.List.{get_or_read}
+use Rattle.std.specs.Int.{bit_at}
+use Rattle.std.proofs.lemmas.Bool.Decides.{nat_tests}
+use Rattle.hp_inode.specs.Marks.{marked}
+use Rattle.hp_inode.proofs.Spread.{cleared_here, cleared_entries}
+use Rattle.hp_inode.proofs.Tables.{written_back}
+use Rattle.hp_inode.proofs.entries.Entries.clear.Goals as goal
+
+zero_of : (n : ℕ) → not (eqb n 0) ≡ false → n ≡ 0
+zero_of n off = grind (arith, nat_tests)
+
+pub invariant_of-self : goal.invariant_of-self
+invariant_of-self c =
+    let words = c.self.inside.words.items in
+    let marks = c.self.inside.marks.items in
+    let within : c.args.at < length words = rw c.self.view_is c.requires in
+    let long : length c.set_mark.new.words ≡ length marks = search rules in
+    rw (written_back marks c.set_mark.new.words c.self.inside.marks.len long (search rules))
+    (cleared_entries words marks c.set_mark.new.words c.args.at _ c.self.invariant within long (λ j other. c.set_mark.ensures.others j other ∙ ap (λ ws. marked ws j) c.deref_mut.ensures.value) (λ off. zero_of _ (sym c.set_mark.ensures.here ∙ off)))
+
+pub returns-clause-here : goal.returns-clause-here
+returns-clause-here c k this =
+    let words = c.self.inside.words.items in
+    let within : c.args.at < length words = rw c.self.view_is c.requires in
+    let small : c.args.bits < 2 ^ 64 = omega arith in
+    let read : c.index-word.result.now ≡ get_or words c.args.at 0 = get_or_read words c.args.at c.index-word.result.now within c.index-word.ensures 0 in
+    ap (λ w. marked (set words c.args.at (bit_and w (18446744073709551615 - c.args.bits))) k) read
+    ∙ cleared_here words c.args.at c.args.bits within small k this ∙ ap (λ ws. marked ws k && not (eqb (bit_at c.args.bits (k % 64)) 1)) c.self.view_is

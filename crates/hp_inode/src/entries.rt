@@ -1,0 +1,138 @@
+//! Which indices are entered, a bit for each: a range takes a step for each word of 64 indices.
+ghost use Rattle.std.specs.Prelude.{ℕ, ◌≡◌, ◌==◌, ◌*◌, ◌/◌, ◌%◌, ◌<◌, ◌≤◌, ◌^◌, ◌&&◌, ◌||◌, [], not, bit_and, count_ones, length, OnOk, OnErr};
+ghost use Rattle.std.specs.List.{slice_index_or};
+ghost use Rattle.std.specs.Int.{bit_at};
+ghost use Rattle.hp_model.specs.files.Ranges.{within};
+ghost use Rattle.hp_inode.specs.Entries.{count_in, missing_in, FindsWord};
+ghost use Rattle.hp_inode.specs.Marks.{marked};
+
+use crate::marks::{WORD, bits_within, first_from, make_places, set_mark, set_marks};
+use std::alloc::{AllocError, Global};
+use std::marker::Model;
+
+/// A set of indices, and a mark at each word of it that has one, so that words with none are passed 64 at a step.
+/// Contracts see the words. Only `make_room` asks for memory.
+#[derive(Drop)]
+pub struct Entries {
+    words: Vec<u64>,
+    marks: Vec<u64>,
+}
+
+impl Model for Entries {
+    ghost use Rattle.std.specs.Prelude.{List, ℕ};
+    ghost use Rattle.hp_inode.specs.Entries.{IsEntries};
+
+    ghost Value = { List ℕ };
+
+    ghost view = { λ e. e.words.items };
+
+    ghost invariant = { λ e. IsEntries e.words.items e.marks.items };
+}
+
+impl Entries {
+    /// The empty set.
+    pub fn new(alloc: Global) -> Self
+        ensures { result ≡ [] }
+    {
+        Entries {
+            words: Vec::new(alloc),
+            marks: Vec::new(alloc),
+        }
+    }
+
+    /// Whether the index `i` is in the set.
+    pub fn contains(&self, i: u64) -> bool
+        ensures { result ≡ marked self.now i }
+    {
+        let at = i as usize / WORD;
+        at < self.words.len() && self.words[at] >> (i as usize % WORD) & 1 == 1
+    }
+
+    // How many indices from `a` up to `b` are in the set.
+    fn count(&self, a: u64, b: u64) -> u64
+        ensures { result ≡ count_in self.now a b }
+    {
+        let (a, b) = (a as usize, b as usize);
+        let end = b.div_ceil(WORD);
+        let mut count = 0;
+        let mut at = a / WORD;
+        while let Some(next) = self.next_word(at, end) {
+            count += u64::from((self.words[next] & bits_within(next, a, b)).count_ones());
+            at = next + 1;
+        }
+        count
+    }
+
+    /// How many indices from `a` up to `b` are not in the set.
+    pub fn missing(&self, a: u64, b: u64) -> u64
+        ensures { result ≡ missing_in self.now a b }
+    {
+        b.saturating_sub(a) - self.count(a, b)
+    }
+
+    /// Makes room for the indices below `b`.
+    pub fn make_room(&mut self, b: u64) -> Result<(), AllocError>
+        requires { b < 2 ^ 32 }
+        ensures ok { OnOk result (b ≤ 64 * length self.new) }
+        ensures same { (k : ℕ) → marked self.new k ≡ marked self.old k }
+        ensures err { OnErr result (self.new ≡ self.old) }
+    {
+        make_places(&mut self.marks, (b as usize).div_ceil(WORD))?;
+        make_places(&mut self.words, b as usize)?;
+        Ok(())
+    }
+
+    /// Puts the indices from `a` up to `b` in.
+    pub fn add(&mut self, a: u64, b: u64)
+        requires { b ≤ 64 * length self.old }
+        ensures { (k : ℕ) → marked self.new k ≡ (marked self.old k || within a b k) }
+    {
+        let (a, b) = (a as usize, b as usize);
+        set_marks(&mut self.words, a, b);
+        set_marks(&mut self.marks, a / WORD, b.div_ceil(WORD));
+    }
+
+    /// Takes the indices from `a` up to `b` out, and answers how many there were.
+    pub fn remove(&mut self, a: u64, b: u64) -> u64
+        ensures count { result ≡ count_in self.old a b }
+        ensures left { (k : ℕ) → marked self.new k ≡ (marked self.old k && not (within a b k)) }
+    {
+        let (a, b) = (a as usize, b as usize);
+        let end = b.div_ceil(WORD);
+        let mut count = 0;
+        let mut at = a / WORD;
+        while let Some(next) = self.next_word(at, end) {
+            count += self.clear(next, bits_within(next, a, b));
+            at = next + 1;
+        }
+        count
+    }
+
+    // Takes the indices with these bits of a word out, and answers how many there were.
+    fn clear(&mut self, at: usize, bits: u64) -> u64
+        requires { at < length self.old }
+        ensures count { result ≡ count_ones (bit_and (slice_index_or self.old at 0) bits) }
+        ensures here { (k : ℕ) → k / 64 ≡ at →
+            marked self.new k ≡ (marked self.old k && not (bit_at bits (k % 64) == 1)) }
+        ensures others { (k : ℕ) → (k / 64 ≡ at → ⊥) → marked self.new k ≡ marked self.old k }
+        ensures len { length self.new ≡ length self.old }
+    {
+        let word = self.words[at];
+        let left = word & !bits;
+        self.words[at] = left;
+        set_mark(&mut self.marks, at, left != 0);
+        u64::from((word & bits).count_ones())
+    }
+
+    // The first of the words from `from` up to `end` that has an index.
+    fn next_word(&self, from: usize, end: usize) -> Option<usize>
+        ensures { FindsWord self.now from end result }
+    {
+        if from >= end {
+            return None;
+        }
+        let searched = end.div_ceil(WORD).min(self.marks.len());
+        let next = first_from(&self.marks[..searched], from)?;
+        if next < end { Some(next) } else { None }
+    }
+}
