@@ -70,6 +70,112 @@ fn two(first: u8, second: u8) -> Reply {
     Ok(Answer::Bytes { count: 2, bytes })
 }
 
+// The mount's calls, of which each is asked for one thing: what they promise is not carried through a whole test.
+
+fn create<N: Naming>(mount: &mut Mount<N>, name: &[u8]) -> Reply {
+    mount.create(name)
+}
+
+fn used<N: Naming>(mount: &Mount<N>) -> Answer {
+    mount.usage()
+}
+
+fn has_maps<N: Naming>(mount: &Mount<N>, task: u64) -> bool {
+    mount.has_maps(task)
+}
+
+fn first_task<N: Naming>(mount: &Mount<N>) -> Option<u64> {
+    mount.first_task()
+}
+
+fn read<N: Naming>(mount: &Mount<N>, index: u64) -> Reply
+    requires { N.page_bytes ≡ 1024 }
+{
+    mount.read(1024, b"a", index, 1022, 2)
+}
+
+fn stat<N: Naming>(mount: &Mount<N>) -> Reply {
+    mount.stat(b"a")
+}
+
+fn lists<N: Naming>(mount: &Mount<N>) -> bool {
+    mount.ls().is_ok()
+}
+
+fn map<N: Naming>(pool: &mut Pool<N>, mount: &mut Mount<N>, name: &[u8], range: &MapRange) -> Reply
+    requires { IsReady pool.old }
+    ensures { IsReady pool.new }
+{
+    mount.map(pool, 0, name, range)
+}
+
+fn anon<N: Naming>(
+    pool: &mut Pool<N>,
+    mount: &mut Mount<N>,
+    task: u64,
+    pages: u64,
+    sharing: Sharing,
+    reserving: Reserving,
+) -> Reply
+    requires { IsReady pool.old }
+    ensures { IsReady pool.new }
+{
+    mount.anon(pool, 0, task, pages, sharing, reserving)
+}
+
+fn unmap<N: Naming>(
+    pool: &mut Pool<N>,
+    mount: &mut Mount<N>,
+    number: u64,
+    from: u64,
+    to: u64,
+) -> Reply
+    requires { IsReady pool.old }
+    ensures { IsReady pool.new }
+{
+    mount.unmap(pool, 7, number, from, to)
+}
+
+fn fault<N: Naming>(
+    pool: &mut Pool<N>,
+    mount: &mut Mount<N>,
+    access: &MapAccess,
+    intent: Intent,
+) -> Reply
+    requires { IsReady pool.old }
+    ensures { IsReady pool.new }
+{
+    mount.fault(pool, 0, access, intent)
+}
+
+fn store<N: Naming>(
+    pool: &mut Pool<N>,
+    mount: &mut Mount<N>,
+    access: &MapAccess,
+    bytes: &[u8],
+) -> Result<(), Refusal>
+    requires ready { IsReady pool.old }
+    requires bytes { N.page_bytes ≡ 1024 }
+    ensures { IsReady pool.new }
+{
+    mount.store(pool, 1024, 0, access, 1022, bytes)
+}
+
+fn exit<N: Naming>(pool: &mut Pool<N>, mount: &mut Mount<N>, task: u64)
+    requires { IsReady pool.old }
+    ensures { IsReady pool.new }
+{
+    mount.exit_maps(pool, task);
+}
+
+// Ends a mount without maps, or hands it back.
+fn close<N: Naming>(pool: &mut Pool<N>, mount: Mount<N>) -> Result<(), Mount<N>>
+    requires { IsReady pool.old }
+    ensures { IsReady pool.new }
+{
+    mount.close(pool)
+}
+
 // Whether a load from byte 1022 on answers these bytes.
 fn loads<N: Naming>(
     pool: &mut Pool<N>,
@@ -93,32 +199,23 @@ fn each_call<N: Naming, R: Abort>(rt: &R, pool: &mut Pool<N>, mount: &mut Mount<
     requires bytes { N.page_bytes ≡ 1024 }
     ensures { IsReady pool.new }
 {
-    assert_eq!(rt; mount.create(b"a"), Ok(Answer::Done));
-    assert_eq!(rt; mount.create(b"a"), Err(Refusal::FileExists));
-    assert!(rt; !mount.has_maps(7));
+    assert_eq!(rt; create(mount, b"a"), Ok(Answer::Done));
+    assert_eq!(rt; create(mount, b"a"), Err(Refusal::FileExists));
+    assert!(rt; !has_maps(mount, 7));
     assert_eq!(rt;
-        mount.map(pool, 0, b"b", &range(0, 1)),
+        map(pool, mount, b"b", &range(0, 1)),
         Err(Refusal::NoSuchFile)
     );
+    assert_eq!(rt; map(pool, mount, b"a", &range(0, 2)), Ok(Answer::MapNo(1)));
+    assert_eq!(rt; map(pool, mount, b"a", &range(1, 1)), Ok(Answer::MapNo(2)));
     assert_eq!(rt;
-        mount.map(pool, 0, b"a", &range(0, 2)),
-        Ok(Answer::MapNo(1))
-    );
-    assert_eq!(rt;
-        mount.map(pool, 0, b"a", &range(1, 1)),
-        Ok(Answer::MapNo(2))
-    );
-    assert_eq!(rt;
-        mount.map(pool, 0, b"a", &range(2, 2)),
+        map(pool, mount, b"a", &range(2, 2)),
         Err(Refusal::MountFull)
     );
-    assert!(rt; mount.has_maps(7));
-    assert_eq!(rt; mount.usage(), usage(2, 1));
+    assert!(rt; has_maps(mount, 7));
+    assert_eq!(rt; used(mount), usage(2, 1));
     assert_eq!(rt; loads(pool, mount, &access(1, 1), 2, b"\0\0"), Ok(true));
-    assert_eq!(rt;
-        mount.store(pool, 1024, 0, &access(1, 1), 1022, b"xy"),
-        Ok(())
-    );
+    assert_eq!(rt; store(pool, mount, &access(1, 1), b"xy"), Ok(()));
     assert_eq!(rt; loads(pool, mount, &access(2, 1), 2, b"xy"), Ok(true));
     assert_eq!(rt;
         loads(pool, mount, &access(2, 0), 2, b"xy"),
@@ -129,21 +226,21 @@ fn each_call<N: Naming, R: Abort>(rt: &R, pool: &mut Pool<N>, mount: &mut Mount<
         Err(Refusal::CrossesPage)
     );
     assert_eq!(rt;
-        mount.fault(pool, 0, &access(1, 0), Intent::Write),
+        fault(pool, mount, &access(1, 0), Intent::Write),
         Ok(Answer::Done)
     );
     assert_eq!(rt;
-        mount.fault(pool, 0, &access(3, 0), Intent::Read),
+        fault(pool, mount, &access(3, 0), Intent::Read),
         Err(Refusal::NoSuchMap)
     );
-    assert_eq!(rt; mount.usage(), usage(2, 1));
+    assert_eq!(rt; used(mount), usage(2, 1));
     assert_eq!(rt;
-        mount.map(pool, 0, b"a", &unreserved(2, 2)),
+        map(pool, mount, b"a", &unreserved(2, 2)),
         Ok(Answer::MapNo(3))
     );
-    assert_eq!(rt; mount.usage(), usage(2, 1));
+    assert_eq!(rt; used(mount), usage(2, 1));
     assert_eq!(rt;
-        mount.stat(b"a"),
+        stat(mount),
         Ok(Answer::Stat {
             len: 4,
             pages: 2,
@@ -151,9 +248,9 @@ fn each_call<N: Naming, R: Abort>(rt: &R, pool: &mut Pool<N>, mount: &mut Mount<
             maps: 3
         })
     );
-    assert_eq!(rt; mount.read(1024, b"a", 1, 1022, 2), two(120, 121));
-    assert_eq!(rt; mount.read(1024, b"a", 3, 1022, 2), two(0, 0));
-    assert_eq!(rt; mount.ls().err(), None);
+    assert_eq!(rt; read(mount, 1), two(120, 121));
+    assert_eq!(rt; read(mount, 3), two(0, 0));
+    assert!(rt; lists(mount));
 }
 
 // A private map asks for its whole range, whatever its file has. A file without name is one of the files.
@@ -162,22 +259,19 @@ fn private_maps<N: Naming, R: Abort>(rt: &R, pool: &mut Pool<N>, mount: &mut Mou
     requires bytes { N.page_bytes ≡ 1024 }
     ensures { IsReady pool.new }
 {
-    assert_eq!(rt; mount.create(b"a"), Ok(Answer::Done));
+    assert_eq!(rt; create(mount, b"a"), Ok(Answer::Done));
+    assert_eq!(rt; map(pool, mount, b"a", &range(1, 1)), Ok(Answer::MapNo(1)));
     assert_eq!(rt;
-        mount.map(pool, 0, b"a", &range(1, 1)),
-        Ok(Answer::MapNo(1))
-    );
-    assert_eq!(rt;
-        mount.map(pool, 0, b"a", &private(0, 3)),
+        map(pool, mount, b"a", &private(0, 3)),
         Err(Refusal::MountFull)
     );
     assert_eq!(rt;
-        mount.map(pool, 0, b"a", &private(1, 2)),
+        map(pool, mount, b"a", &private(1, 2)),
         Ok(Answer::MapNo(2))
     );
-    assert_eq!(rt; mount.usage(), usage(3, 1));
+    assert_eq!(rt; used(mount), usage(3, 1));
     assert_eq!(rt;
-        mount.stat(b"a"),
+        stat(mount),
         Ok(Answer::Stat {
             len: 3,
             pages: 0,
@@ -185,29 +279,33 @@ fn private_maps<N: Naming, R: Abort>(rt: &R, pool: &mut Pool<N>, mount: &mut Mou
             maps: 2
         })
     );
+    assert_eq!(rt; map(pool, mount, b"a", &range(1, 1)), Ok(Answer::MapNo(3)));
     assert_eq!(rt;
-        mount.map(pool, 0, b"a", &range(1, 1)),
-        Ok(Answer::MapNo(3))
-    );
-    assert_eq!(rt;
-        mount.anon(pool, 0, 7, 65_536, Sharing::Private, Reserving::Reserve),
+        anon(pool, mount, 7, 65_536, Sharing::Private, Reserving::Reserve),
         Err(Refusal::MountFull)
     );
     assert_eq!(rt;
-        mount.anon(pool, 0, 7, 65_537, Sharing::Private, Reserving::NoReserve),
+        anon(
+            pool,
+            mount,
+            7,
+            65_537,
+            Sharing::Private,
+            Reserving::NoReserve
+        ),
         Err(Refusal::TooMany)
     );
     assert_eq!(rt;
-        mount.anon(pool, 0, 7, 0, Sharing::Shared, Reserving::Reserve),
+        anon(pool, mount, 7, 0, Sharing::Shared, Reserving::Reserve),
         Err(Refusal::OutOfRange)
     );
     assert_eq!(rt;
-        mount.anon(pool, 0, 8, 5, Sharing::Private, Reserving::NoReserve),
+        anon(pool, mount, 8, 5, Sharing::Private, Reserving::NoReserve),
         Ok(Answer::MapNo(1))
     );
-    assert_eq!(rt; mount.usage(), usage(3, 2));
+    assert_eq!(rt; used(mount), usage(3, 2));
     assert_eq!(rt;
-        mount.anon(pool, 0, 8, 1, Sharing::Shared, Reserving::NoReserve),
+        anon(pool, mount, 8, 1, Sharing::Shared, Reserving::NoReserve),
         Err(Refusal::NoInodes)
     );
 }
@@ -217,24 +315,24 @@ fn unmaps<N: Naming, R: Abort>(rt: &R, pool: &mut Pool<N>, mount: &mut Mount<N>)
     requires { IsReady pool.old }
     ensures { IsReady pool.new }
 {
-    assert_eq!(rt; mount.unmap(pool, 7, 4, 0, 1), Err(Refusal::NoSuchMap));
-    assert_eq!(rt; mount.unmap(pool, 7, 1, 1, 1), Err(Refusal::OutOfRange));
-    assert_eq!(rt; mount.unmap(pool, 7, 1, 0, 1), Ok(Answer::Done));
+    assert_eq!(rt; unmap(pool, mount, 4, 0, 1), Err(Refusal::NoSuchMap));
+    assert_eq!(rt; unmap(pool, mount, 1, 1, 1), Err(Refusal::OutOfRange));
+    assert_eq!(rt; unmap(pool, mount, 1, 0, 1), Ok(Answer::Done));
     assert_eq!(rt;
-        mount.fault(pool, 0, &access(1, 0), Intent::Read),
+        fault(pool, mount, &access(1, 0), Intent::Read),
         Err(Refusal::OutOfRange)
     );
     assert_eq!(rt;
-        mount.fault(pool, 0, &access(1, 1), Intent::Read),
+        fault(pool, mount, &access(1, 1), Intent::Read),
         Ok(Answer::Done)
     );
-    assert_eq!(rt; mount.unmap(pool, 7, 1, 0, 4), Ok(Answer::Done));
+    assert_eq!(rt; unmap(pool, mount, 1, 0, 4), Ok(Answer::Done));
     assert_eq!(rt;
-        mount.fault(pool, 0, &access(1, 1), Intent::Read),
+        fault(pool, mount, &access(1, 1), Intent::Read),
         Err(Refusal::NoSuchMap)
     );
     assert_eq!(rt;
-        mount.stat(b"a"),
+        stat(mount),
         Ok(Answer::Stat {
             len: 4,
             pages: 2,
@@ -242,8 +340,8 @@ fn unmaps<N: Naming, R: Abort>(rt: &R, pool: &mut Pool<N>, mount: &mut Mount<N>)
             maps: 2
         })
     );
-    assert_eq!(rt; mount.usage(), usage(2, 1));
-    assert_eq!(rt; mount.first_task(), Some(7));
+    assert_eq!(rt; used(mount), usage(2, 1));
+    assert_eq!(rt; first_task(mount), Some(7));
 }
 
 fn run<N: Naming, R: Abort>(rt: &R, alloc: Global, blanks: Blanks)
@@ -256,23 +354,23 @@ fn run<N: Naming, R: Abort>(rt: &R, alloc: Global, blanks: Blanks)
     let mut mount = Mount::new(alloc, share, Some(2));
     each_call(rt, &mut pool, &mut mount);
     unmaps(rt, &mut pool, &mut mount);
-    let Err(mut mount) = mount.close(&mut pool) else {
+    let Err(mut mount) = close(&mut pool, mount) else {
         panic!(rt; "a task has maps");
     };
-    mount.exit_maps(&mut pool, 7);
-    assert!(rt; !mount.has_maps(7));
-    assert_eq!(rt; mount.first_task(), None);
-    match mount.close(&mut pool) {
+    exit(&mut pool, &mut mount, 7);
+    assert!(rt; !has_maps(&mount, 7));
+    assert_eq!(rt; first_task(&mount), None);
+    match close(&mut pool, mount) {
         Ok(()) => {}
         Err(_mount) => panic!(rt; "no task has maps"),
     }
     let share = Subpool::open(&mut pool, Some(3), 0).expect(rt, "fits");
     let mut mount = Mount::new(alloc, share, Some(2));
     private_maps(rt, &mut pool, &mut mount);
-    mount.exit_maps(&mut pool, 8);
-    mount.exit_maps(&mut pool, 7);
-    assert_eq!(rt; mount.usage(), usage(1, 1));
-    match mount.close(&mut pool) {
+    exit(&mut pool, &mut mount, 8);
+    exit(&mut pool, &mut mount, 7);
+    assert_eq!(rt; used(&mount), usage(1, 1));
+    match close(&mut pool, mount) {
         Ok(()) => {}
         Err(_mount) => panic!(rt; "no task has maps"),
     }

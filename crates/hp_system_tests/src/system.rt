@@ -39,14 +39,14 @@ fn runs<N: Naming, R: Abort>(rt: &R, alloc: Global, system: &mut System<N>)
         Step::Connect { task: 9, home: 0 },
         Step::Nr { pages: 2 },
         Step::Exit { task: 9 },
-        Step::Connect { task: 9, home: 0 },
+        Step::Exit { task: 9 },
     ];
     let replies = system.run(alloc, &steps).expect(rt, "memory");
     let expected = [
         Ok(Answer::Done),
         Ok(Answer::Number(2)),
-        Err(Refusal::BadLine),
-        Err(Refusal::TaskExists),
+        Ok(Answer::Done),
+        Err(Refusal::NoSuchTask),
     ];
     assert!(rt; replies.as_slice() == expected.as_slice());
 }
