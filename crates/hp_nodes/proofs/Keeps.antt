@@ -1,10 +1,9 @@
-use Rattle.std.proofs.Common.{ℕ, ◌≡◌, ◌-◌, ◌<◌, ◌≤◌, ◌^◌, List, length, ◌⊎◌, inl, inr, ltb, true, false, ap, refl, sym, subst, ◌∙◌, zero, suc, [], ◌∷◌, map, arith}
+use Rattle.std.proofs.Common.{ℕ, ◌≡◌, ◌-◌, ◌<◌, ◌≤◌, ◌^◌, List, length, inl, inr, ap, refl, sym, subst, ◌∙◌, zero, suc, [], ◌∷◌, map, arith}
 use Rattle.std.specs.Prelude.{slice_set, slice_index, All}
 use Rattle.std.proofs.lemmas.Grind.{common_steps}
 use Rattle.std.proofs.lemmas.List.{get_or-set_same, get_or-set_other, length-set, get_or_past}
 use Rattle.std.proofs.lemmas.List.Elements.{All-set, All-map}
-use Rattle.std.proofs.lemmas.Bool.{cases_eq}
-use Rattle.std.proofs.lemmas.Bool.Decides.{nat_tests}
+use Rattle.std.proofs.lemmas.Bool.{cases_eq, cases_lt}
 use Rattle.hp_model.specs.declared.node.NodeRow.{NodeRow}
 use Rattle.hp_model.specs.pool.NodeRows.{IsRow, row_at, no_row, used, idle_row, put_row, free_of, total_of}
 use Rattle.hp_model.proofs.Sums.{free_lt_total}
@@ -24,13 +23,9 @@ kept_set rows growth release out at y h in_rows sound =
       counted = λ k below. let c = h.counted k below in grind (arith, get_or-set_same, get_or-set_other, cases_eq k at, common_steps);
     }
 
--- a number is below another or not
-lt-or-le : (a b : ℕ) → (a < b) ⊎ (b ≤ a)
-lt-or-le a b = elim (ltb a b) as (λ t. ltb a b ≡ t → (a < b) ⊎ (b ≤ a)) [ true ↦ (λ h. inl (grind (arith, nat_tests))) | false ↦ (λ h. inr (grind (arith, nat_tests))) ] refl
-
 used_few : (rows : List NodeRow) (k : ℕ) → All IsRow rows → used (row_at rows k) ≤ 65536
 used_few rows k h =
-    elim (lt-or-le k (length rows)) as (λ _. used (row_at rows k) ≤ 65536) [
+    elim (cases_lt k (length rows)) as (λ _. used (row_at rows k) ≤ 65536) [
       | inl here ↦ let r : IsRow (row_at rows k) = h k no_row here in omega (arith, r.total_in, r.few)
       | inr past ↦ let e : used (row_at rows k) ≡ 0 = ap used (get_or_past rows k no_row past) in omega arith
     ]
@@ -46,7 +41,7 @@ out_few rows growth release out h = λ k d below.
 -- where a mark is out, the node is there
 pub out_below : (rows : List NodeRow) (growth release : ℕ) (out : List ℕ) (at : ℕ) → IsKept rows growth release out → at < 4 → 0 < slice_index out at → at < length rows
 out_below rows growth release out at h below some =
-    elim (lt-or-le at (length rows)) as (λ _. at < length rows) [
+    elim (cases_lt at (length rows)) as (λ _. at < length rows) [
       | inl here ↦ here
       | inr past ↦ let c = h.counted at below in let e : used (row_at rows at) ≡ 0 = ap used (get_or_past rows at no_row past) in absurd (omega arith)
     ]

@@ -1,3 +1,4 @@
 pub mod Frame
 pub mod Kept
 pub mod Ledgers
+pub mod Moves

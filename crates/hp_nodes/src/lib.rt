@@ -7,6 +7,7 @@ mod lists;
 mod marks;
 mod node;
 mod page;
+mod rounds;
 mod search;
 
 pub use blanks::Blanks;

@@ -3,12 +3,15 @@ ghost use Rattle.std.specs.Prelude.{◌≡◌, ◌+◌, ◌-◌, ◌<◌, ◌≤
 ghost use Rattle.hp_model.specs.pool.Resize.{node_count};
 ghost use Rattle.hp_nodes.specs.Kept.{idle_nodes};
 ghost use Rattle.hp_nodes.specs.Ledgers.{AreLedgers};
-ghost use Rattle.hp_model.specs.pool.NodeRows.{has, lowest, near, next_from, some_has, row_at, taken, put_at, surplus_added, grown, shrunk, promoted, demoted, given_back, sum_row, free_of, total_of, take_row, put_row, grow_row, shrink_row, add_surplus_row, give_back_row, promote_row, demote_row};
+ghost use Rattle.hp_nodes.specs.Moves.{grow_by, shrink_by, add_surplus_by, give_back_by, promote_by, demote_by};
+ghost use Rattle.std.specs.Fn.{iterate};
+ghost use Rattle.hp_model.specs.pool.NodeRows.{has, after, lowest, near, next_from, some_has, row_at, taken, put_at, surplus_added, grown, shrunk, promoted, demoted, given_back, sum_row, free_of, total_of, take_row, put_row, grow_row, shrink_row};
 
 use crate::blanks::Blanks;
 use crate::marks::Marks;
 use crate::node::Node;
 use crate::page::Page;
+use crate::rounds::{grow_each, having, least, shrink_each};
 use crate::search::{after, lowest, near, next_from};
 use hp_model::answer::NodeCount;
 use hp_model::naming::Naming;
@@ -160,104 +163,255 @@ impl<N: Naming> NodeLists<N> {
         node.put(frame);
     }
 
-    /// An idle frame becomes a persistent page: of the first node that has one, from the growth
-    /// cursor on and round. The cursor then stands at the node after it.
-    #[tactic(auto, using(hp_model::proofs::Sums::grow_sums))]
-    pub fn grow(&mut self)
+    /// So many idle frames become persistent pages, one after another: of the first node that has
+    /// one, from the growth cursor on and round. The cursor then stands at the node after it.
+    #[tactic(auto, using(hp_model::proofs::Sums::some_idle, crate::proofs::Repeats::times_add, crate::proofs::Repeats::first_of))]
+    pub fn grow(&mut self, count: u64)
+        requires { (sum_row self.old.rows).total + count ≤ (sum_row self.old.rows).frames }
+        ensures moved { self.new ≡ iterate grown count self.old }
+        ensures sums { sum_row self.new.rows ≡ grow_by count (sum_row self.old.rows) }
+    {
+        let mut done = 0;
+        while done < count {
+            let at = self.grow_one();
+            done += 1;
+            done += self.grow_rounds(at, count - done);
+        }
+    }
+
+    // Answers the node.
+    #[tactic(auto, using(crate::proofs::Sums::grow_sums))]
+    fn grow_one(&mut self) -> usize
         requires { IsTrue (some_has Kind.Idle self.old.rows) }
         ensures moved { self.new ≡ grown self.old }
-        ensures sums { sum_row self.new.rows ≡ grow_row (sum_row self.old.rows) }
+        ensures sums { sum_row self.new.rows ≡ grow_by 1 (sum_row self.old.rows) }
+        ensures behind { self.new.growth ≡ after result self.new.rows }
+        ensures within { result < length self.new.rows }
     {
         let at = next_from(&self.nodes, Kind::Idle, self.growth);
         let node = &mut self.nodes[at];
-        node.grow();
+        node.grow(1);
         self.growth = after(at, self.nodes.len());
+        at
     }
 
-    /// A free page becomes an idle frame: of the first node that has one, from the release cursor
-    /// on and round. The cursor then stands at the node after it.
-    #[tactic(auto, using(hp_model::proofs::Sums::shrink_sums))]
-    pub fn shrink(&mut self)
+    // Whole rounds, of up to so many frames, from behind a node that still has one. They end where
+    // they begin.
+    fn grow_rounds(&mut self, at: usize, most: u64) -> u64
+        requires behind { self.old.growth ≡ after at self.old.rows }
+        requires within { at < length self.old.rows }
+        ensures moved { self.new ≡ iterate grown result self.old }
+        ensures sums { sum_row self.new.rows ≡ grow_by result (sum_row self.old.rows) }
+        ensures within { result ≤ most }
+    {
+        if !self.nodes[at].has(Kind::Idle) {
+            return 0;
+        }
+        let round = having(&self.nodes, Kind::Idle);
+        let rounds = least(&self.nodes, Kind::Idle).min(most / round);
+        grow_each(&mut self.nodes, rounds);
+        rounds * round
+    }
+
+    /// So many free pages become idle frames, one after another: of the first node that has one,
+    /// from the release cursor on and round. The cursor then stands at the node after it.
+    #[tactic(auto, using(hp_model::proofs::Sums::some_free, hp_model::proofs::Sums::none_surplus, crate::proofs::Repeats::times_add, crate::proofs::Repeats::first_of))]
+    pub fn shrink(&mut self, count: u64)
+        requires free { count ≤ (sum_row self.old.rows).free }
+        requires no_surplus { 0 < count → (sum_row self.old.rows).surp ≡ 0 }
+        ensures moved { self.new ≡ iterate shrunk count self.old }
+        ensures sums { sum_row self.new.rows ≡ shrink_by count (sum_row self.old.rows) }
+    {
+        let mut done = 0;
+        while done < count {
+            let at = self.shrink_one();
+            done += 1;
+            done += self.shrink_rounds(at, count - done);
+        }
+    }
+
+    // Answers the node.
+    #[tactic(auto, using(crate::proofs::Sums::shrink_sums))]
+    fn shrink_one(&mut self) -> usize
         requires free { IsTrue (some_has Kind.Free self.old.rows) }
         requires no_surplus { All (λ r. r.surp ≡ 0) self.old.rows }
         ensures moved { self.new ≡ shrunk self.old }
-        ensures sums { sum_row self.new.rows ≡ shrink_row (sum_row self.old.rows) }
+        ensures sums { sum_row self.new.rows ≡ shrink_by 1 (sum_row self.old.rows) }
+        ensures behind { self.new.release ≡ after result self.new.rows }
+        ensures within { result < length self.new.rows }
     {
         let at = next_from(&self.nodes, Kind::Free, self.release);
         let node = &mut self.nodes[at];
-        node.shrink();
+        node.shrink(1);
         self.release = after(at, self.nodes.len());
+        at
     }
 
-    /// An idle frame becomes a surplus page: of the home node if it has one, else of the lowest
-    /// node that has.
-    #[tactic(auto, using(hp_model::proofs::Sums::add_surplus_sums))]
-    pub fn add_surplus(&mut self, home: usize)
-        requires { IsTrue (some_has Kind.Idle self.old.rows) }
-        ensures moved { self.new ≡ surplus_added home self.old }
-        ensures sums { sum_row self.new.rows ≡ add_surplus_row (sum_row self.old.rows) }
+    // Whole rounds, of up to so many pages, from behind a node that still has one. They end where
+    // they begin.
+    fn shrink_rounds(&mut self, at: usize, most: u64) -> u64
+        requires behind { self.old.release ≡ after at self.old.rows }
+        requires within { at < length self.old.rows }
+        requires no_surplus { All (λ r. r.surp ≡ 0) self.old.rows }
+        ensures moved { self.new ≡ iterate shrunk result self.old }
+        ensures sums { sum_row self.new.rows ≡ shrink_by result (sum_row self.old.rows) }
+        ensures within { result ≤ most }
+    {
+        if !self.nodes[at].has(Kind::Free) {
+            return 0;
+        }
+        let round = having(&self.nodes, Kind::Free);
+        let rounds = least(&self.nodes, Kind::Free).min(most / round);
+        shrink_each(&mut self.nodes, rounds);
+        rounds * round
+    }
+
+    /// So many idle frames become surplus pages, one after another: of the home node while it has
+    /// one, else of the lowest node that has.
+    #[tactic(auto, using(hp_model::proofs::Sums::some_idle, crate::proofs::Repeats::times_add))]
+    pub fn add_surplus(&mut self, home: usize, count: u64)
+        requires { (sum_row self.old.rows).total + count ≤ (sum_row self.old.rows).frames }
+        ensures moved { self.new ≡ iterate (surplus_added home) count self.old }
+        ensures sums { sum_row self.new.rows ≡ add_surplus_by count (sum_row self.old.rows) }
+    {
+        let mut done = 0;
+        while done < count {
+            done += self.add_some_surplus(home, count - done);
+        }
+    }
+
+    // Up to so many, at one node. So are the next four.
+    #[tactic(auto, using(crate::proofs::Repeats::added_at, crate::proofs::Sums::add_surplus_sums))]
+    fn add_some_surplus(&mut self, home: usize, most: u64) -> u64
+        requires some { 0 < most }
+        requires idle { IsTrue (some_has Kind.Idle self.old.rows) }
+        ensures moved { self.new ≡ iterate (surplus_added home) result self.old }
+        ensures sums { sum_row self.new.rows ≡ add_surplus_by result (sum_row self.old.rows) }
+        ensures some { 0 < result }
+        ensures within { result ≤ most }
     {
         let at = near(&self.nodes, Kind::Idle, home);
         let node = &mut self.nodes[at];
-        node.add_surplus();
+        let count = most.min(node.amount(Kind::Idle));
+        node.add_surplus(count);
+        count
     }
 
-    /// A surplus page that is free becomes an idle frame: of the lowest node that has both. Where
-    /// no node has, a free page of the lowest node leaves the pool, and a surplus page of the
-    /// lowest node becomes persistent.
-    #[tactic(auto, using(hp_model::proofs::Sums::give_back_sums))]
-    pub fn give_back(&mut self)
+    /// So many surplus pages that are free become idle frames, one after another: of the lowest
+    /// node that has both. Where no node has, a free page of the lowest node leaves the pool, and a
+    /// surplus page of the lowest node becomes persistent.
+    #[tactic(auto, using(hp_model::proofs::Sums::some_free, hp_model::proofs::Sums::some_surplus, crate::proofs::Repeats::times_add))]
+    pub fn give_back(&mut self, count: u64)
+        requires free { count ≤ (sum_row self.old.rows).free }
+        requires surplus { count ≤ (sum_row self.old.rows).surp }
+        ensures moved { self.new ≡ iterate given_back count self.old }
+        ensures sums { sum_row self.new.rows ≡ give_back_by count (sum_row self.old.rows) }
+    {
+        let mut done = 0;
+        while done < count {
+            done += self.give_some_back(count - done);
+        }
+    }
+
+    #[tactic(auto, using(crate::proofs::Repeats::both_at, crate::proofs::Sums::give_back_sums))]
+    fn give_some_back(&mut self, most: u64) -> u64
+        requires some { 0 < most }
         requires free { IsTrue (some_has Kind.Free self.old.rows) }
         requires surplus { IsTrue (some_has Kind.Surplus self.old.rows) }
-        ensures moved { self.new ≡ given_back self.old }
-        ensures sums { sum_row self.new.rows ≡ give_back_row (sum_row self.old.rows) }
+        ensures moved { self.new ≡ iterate given_back result self.old }
+        ensures sums { sum_row self.new.rows ≡ give_back_by result (sum_row self.old.rows) }
+        ensures some { 0 < result }
+        ensures within { result ≤ most }
     {
         let both = lowest(&self.nodes, Kind::FreeSurplus);
         if both < self.nodes.len() {
             let node = &mut self.nodes[both];
-            node.give_back();
+            let count = most.min(node.amount(Kind::FreeSurplus));
+            node.give_back(count);
+            count
         } else {
-            self.give_back_apart();
+            self.give_some_back_apart(most)
         }
     }
 
-    // A free page leaves the pool at one node, and a surplus page becomes persistent at another.
-    fn give_back_apart(&mut self)
+    // Free pages leave the pool at one node, and surplus pages become persistent at another.
+    fn give_some_back_apart(&mut self, most: u64) -> u64
+        requires some { 0 < most }
         requires free { IsTrue (some_has Kind.Free self.old.rows) }
         requires surplus { IsTrue (some_has Kind.Surplus self.old.rows) }
         requires apart { lowest Kind.FreeSurplus self.old.rows ≡ length self.old.rows }
-        ensures moved { self.new ≡ given_back self.old }
-        ensures sums { sum_row self.new.rows ≡ give_back_row (sum_row self.old.rows) }
+        ensures moved { self.new ≡ iterate given_back result self.old }
+        ensures sums { sum_row self.new.rows ≡ give_back_by result (sum_row self.old.rows) }
+        ensures some { 0 < result }
+        ensures within { result ≤ most }
     {
         let free = lowest(&self.nodes, Kind::Free);
         let surplus = lowest(&self.nodes, Kind::Surplus);
+        let count = most
+            .min(self.nodes[free].amount(Kind::Free))
+            .min(self.nodes[surplus].amount(Kind::Surplus));
         let node = &mut self.nodes[free];
-        node.shrink();
+        node.shrink(count);
         let node = &mut self.nodes[surplus];
-        node.promote();
+        node.promote(count);
+        count
     }
 
-    /// A surplus page of the lowest node that has one becomes persistent.
-    #[tactic(auto, using(hp_model::proofs::Sums::promote_sums))]
-    pub fn promote(&mut self)
-        requires { IsTrue (some_has Kind.Surplus self.old.rows) }
-        ensures moved { self.new ≡ promoted self.old }
-        ensures sums { sum_row self.new.rows ≡ promote_row (sum_row self.old.rows) }
+    /// So many surplus pages become persistent, one after another, of the lowest node that has one.
+    #[tactic(auto, using(hp_model::proofs::Sums::some_surplus, crate::proofs::Repeats::times_add))]
+    pub fn promote(&mut self, count: u64)
+        requires { count ≤ (sum_row self.old.rows).surp }
+        ensures moved { self.new ≡ iterate promoted count self.old }
+        ensures sums { sum_row self.new.rows ≡ promote_by count (sum_row self.old.rows) }
+    {
+        let mut done = 0;
+        while done < count {
+            done += self.promote_some(count - done);
+        }
+    }
+
+    #[tactic(auto, using(crate::proofs::Repeats::promoted_at, crate::proofs::Sums::promote_sums))]
+    fn promote_some(&mut self, most: u64) -> u64
+        requires some { 0 < most }
+        requires surplus { IsTrue (some_has Kind.Surplus self.old.rows) }
+        ensures moved { self.new ≡ iterate promoted result self.old }
+        ensures sums { sum_row self.new.rows ≡ promote_by result (sum_row self.old.rows) }
+        ensures some { 0 < result }
+        ensures within { result ≤ most }
     {
         let at = lowest(&self.nodes, Kind::Surplus);
         let node = &mut self.nodes[at];
-        node.promote();
+        let count = most.min(node.amount(Kind::Surplus));
+        node.promote(count);
+        count
     }
 
-    /// A persistent page of the lowest node that has one becomes surplus.
-    #[tactic(auto, using(hp_model::proofs::Sums::demote_sums))]
-    pub fn demote(&mut self)
-        requires { IsTrue (some_has Kind.Persistent self.old.rows) }
-        ensures moved { self.new ≡ demoted self.old }
-        ensures sums { sum_row self.new.rows ≡ demote_row (sum_row self.old.rows) }
+    /// So many persistent pages become surplus, one after another, of the lowest node that has one.
+    #[tactic(auto, using(hp_model::proofs::Sums::some_persistent, crate::proofs::Repeats::times_add))]
+    pub fn demote(&mut self, count: u64)
+        requires { (sum_row self.old.rows).surp + count ≤ (sum_row self.old.rows).total }
+        ensures moved { self.new ≡ iterate demoted count self.old }
+        ensures sums { sum_row self.new.rows ≡ demote_by count (sum_row self.old.rows) }
+    {
+        let mut done = 0;
+        while done < count {
+            done += self.demote_some(count - done);
+        }
+    }
+
+    #[tactic(auto, using(crate::proofs::Repeats::demoted_at, crate::proofs::Sums::demote_sums))]
+    fn demote_some(&mut self, most: u64) -> u64
+        requires some { 0 < most }
+        requires persistent { IsTrue (some_has Kind.Persistent self.old.rows) }
+        ensures moved { self.new ≡ iterate demoted result self.old }
+        ensures sums { sum_row self.new.rows ≡ demote_by result (sum_row self.old.rows) }
+        ensures some { 0 < result }
+        ensures within { result ≤ most }
     {
         let at = lowest(&self.nodes, Kind::Persistent);
         let node = &mut self.nodes[at];
-        node.demote();
+        let count = most.min(node.amount(Kind::Persistent));
+        node.demote(count);
+        count
     }
 }

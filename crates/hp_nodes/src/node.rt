@@ -1,6 +1,7 @@
 //! One node: its row, and the frames that nobody holds.
 ghost use Rattle.std.specs.Prelude.{◌≡◌, ◌+◌, ◌-◌, ◌<◌, ◌≤◌, IfOk, vec_len};
-ghost use Rattle.hp_model.specs.pool.NodeRows.{has, used, take_row, put_row, grow_row, shrink_row, add_surplus_row, give_back_row, promote_row, demote_row, IsRow};
+ghost use Rattle.hp_model.specs.pool.NodeRows.{has, used, take_row, put_row, IsRow};
+ghost use Rattle.hp_nodes.specs.Moves.{amount, grow_by, shrink_by, add_surplus_by, give_back_by, promote_by, demote_by};
 
 use crate::frame::Frame;
 use hp_model::naming::Naming;
@@ -56,16 +57,23 @@ impl<N: Naming> Node<N> {
         self.row
     }
 
+    /// How many of a kind the node has.
+    pub fn amount(&self, kind: Kind) -> u64
+        ensures { result ≡ amount kind self.now }
+    {
+        match kind {
+            Kind::Free => self.row.free,
+            Kind::Idle => self.row.frames - self.row.total,
+            Kind::Surplus => self.row.surp,
+            Kind::Persistent => self.row.total - self.row.surp,
+            Kind::FreeSurplus => self.row.free.min(self.row.surp),
+        }
+    }
+
     pub fn has(&self, kind: Kind) -> bool
         ensures { result ≡ has kind self.now }
     {
-        match kind {
-            Kind::Free => 0 < self.row.free,
-            Kind::Idle => self.row.total < self.row.frames,
-            Kind::Surplus => 0 < self.row.surp,
-            Kind::Persistent => self.row.surp < self.row.total,
-            Kind::FreeSurplus => 0 < self.row.free && 0 < self.row.surp,
-        }
+        self.amount(kind) > 0
     }
 
     pub fn take(&mut self) -> Frame<N>
@@ -87,59 +95,58 @@ impl<N: Naming> Node<N> {
         self.present.push_reserved(frame);
     }
 
-    pub fn grow(&mut self)
-        requires { self.old.total < self.old.frames }
-        ensures row { self.new ≡ grow_row self.old }
+    pub fn grow(&mut self, count: u64)
+        requires { count ≤ amount Kind.Idle self.old }
+        ensures row { self.new ≡ grow_by count self.old }
         ensures sound { IsRow self.new }
     {
-        self.row.total += 1;
-        self.row.free += 1;
+        self.row.total += count;
+        self.row.free += count;
     }
 
-    pub fn shrink(&mut self)
-        requires free { 0 < self.old.free }
-        requires persistent { self.old.surp < self.old.total }
-        ensures row { self.new ≡ shrink_row self.old }
+    pub fn shrink(&mut self, count: u64)
+        requires free { count ≤ self.old.free }
+        requires no_surplus { self.old.surp ≡ 0 }
+        ensures row { self.new ≡ shrink_by count self.old }
         ensures sound { IsRow self.new }
     {
-        self.row.total -= 1;
-        self.row.free -= 1;
+        self.row.total -= count;
+        self.row.free -= count;
     }
 
-    pub fn add_surplus(&mut self)
-        requires { self.old.total < self.old.frames }
-        ensures row { self.new ≡ add_surplus_row self.old }
+    pub fn add_surplus(&mut self, count: u64)
+        requires { count ≤ amount Kind.Idle self.old }
+        ensures row { self.new ≡ add_surplus_by count self.old }
         ensures sound { IsRow self.new }
     {
-        self.row.total += 1;
-        self.row.free += 1;
-        self.row.surp += 1;
+        self.row.total += count;
+        self.row.free += count;
+        self.row.surp += count;
     }
 
-    pub fn give_back(&mut self)
-        requires free { 0 < self.old.free }
-        requires surplus { 0 < self.old.surp }
-        ensures row { self.new ≡ give_back_row self.old }
+    pub fn give_back(&mut self, count: u64)
+        requires { count ≤ amount Kind.FreeSurplus self.old }
+        ensures row { self.new ≡ give_back_by count self.old }
         ensures sound { IsRow self.new }
     {
-        self.row.total -= 1;
-        self.row.free -= 1;
-        self.row.surp -= 1;
+        self.row.total -= count;
+        self.row.free -= count;
+        self.row.surp -= count;
     }
 
-    pub fn promote(&mut self)
-        requires { 0 < self.old.surp }
-        ensures row { self.new ≡ promote_row self.old }
+    pub fn promote(&mut self, count: u64)
+        requires { count ≤ self.old.surp }
+        ensures row { self.new ≡ promote_by count self.old }
         ensures sound { IsRow self.new }
     {
-        self.row.surp -= 1;
+        self.row.surp -= count;
     }
 
-    pub fn demote(&mut self)
-        requires { self.old.surp < self.old.total }
-        ensures row { self.new ≡ demote_row self.old }
+    pub fn demote(&mut self, count: u64)
+        requires { count ≤ amount Kind.Persistent self.old }
+        ensures row { self.new ≡ demote_by count self.old }
         ensures sound { IsRow self.new }
     {
-        self.row.surp += 1;
+        self.row.surp += count;
     }
 }

@@ -1,6 +1,7 @@
 //! Which node a move chooses.
 ghost use Rattle.std.specs.Prelude.{◌≡◌, ◌+◌, ◌<◌, ◌≤◌, ◌==◌, if◌then◌else◌, length, IsTrue};
-ghost use Rattle.hp_model.specs.pool.NodeRows.{has, lowest, near, next_from, some_has, row_at};
+ghost use Rattle.hp_model.specs.pool.NodeRows.{lowest, near, next_from, some_has, row_at};
+ghost use Rattle.hp_nodes.specs.Moves.{amount};
 
 use crate::node::Node;
 use hp_model::naming::Naming;
@@ -11,7 +12,7 @@ use hp_model::node::Kind;
 pub fn lowest<N: Naming>(nodes: &[Node<N>], kind: Kind) -> usize
     ensures node { result ≡ lowest kind nodes.now }
     ensures within { result ≤ length nodes.now }
-    ensures has { result < length nodes.now → IsTrue (has kind (row_at nodes.now result)) }
+    ensures has { result < length nodes.now → 0 < amount kind (row_at nodes.now result) }
 {
     nodes
         .iter()
@@ -25,7 +26,7 @@ pub fn near<N: Naming>(nodes: &[Node<N>], kind: Kind, home: usize) -> usize
     requires { IsTrue (some_has kind nodes.now) }
     ensures node { result ≡ near kind home nodes.now }
     ensures below { result < length nodes.now }
-    ensures has { IsTrue (has kind (row_at nodes.now result)) }
+    ensures has { 0 < amount kind (row_at nodes.now result) }
 {
     if home < nodes.len() && nodes[home].has(kind) {
         home
@@ -41,7 +42,7 @@ pub fn next_from<N: Naming>(nodes: &[Node<N>], kind: Kind, from: usize) -> usize
     requires some { IsTrue (some_has kind nodes.now) }
     ensures node { result ≡ next_from kind from nodes.now }
     ensures below { result < length nodes.now }
-    ensures has { IsTrue (has kind (row_at nodes.now result)) }
+    ensures has { 0 < amount kind (row_at nodes.now result) }
 {
     let count = nodes.len();
     let (_, rest) = nodes.split_at(from);

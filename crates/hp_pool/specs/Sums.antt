@@ -1,6 +1,6 @@
 -- What a pool begins with, and how the sums over its nodes move.
-use Rattle.std.specs.Prelude.{◌≡◌, ℕ, ◌+◌, ◌-◌, Bool, if◌then◌else◌, List}
-use Rattle.hp_model.specs.pool.NodeRows.{NodeRows, sum_row, promote_row, grow_row, shrink_row, demote_row}
+use Rattle.std.specs.Prelude.{◌≡◌, ℕ, ◌+◌, List}
+use Rattle.hp_model.specs.pool.NodeRows.{NodeRows, sum_row}
 use Rattle.hp_model.specs.pool.PoolCounts.{Pool}
 use Rattle.hp_model.specs.declared.node.NodeRow.{NodeRow}
 use Rattle.hp_nodes.specs.Kept.{idle_nodes}
@@ -11,20 +11,6 @@ idle_pool frames = record { nr = 0; overcommit = 0; committed = 0; nodes = idle_
 
 abbrev pub sums : NodeRows → NodeRow
 sums lists = sum_row lists.rows
-
--- so many free pages of the surplus more, and less
-abbrev pub with_surplus : ℕ → NodeRow → NodeRow
-with_surplus count s = record s { total = s.total + count; free = s.free + count; surp = s.surp + count }
-
-abbrev pub without_surplus : ℕ → NodeRow → NodeRow
-without_surplus count s = record s { total = s.total - count; free = s.free - count; surp = s.surp - count }
-
--- one more page persistent: a surplus page, or else a frame; and one less: a free page leaves, or else one becomes surplus
-abbrev pub raised_row : Bool → NodeRow → NodeRow
-raised_row surplus s = if surplus then promote_row s else grow_row s
-
-abbrev pub lowered_row : Bool → NodeRow → NodeRow
-lowered_row spare s = if spare then shrink_row s else demote_row s
 
 -- so many more pages are persistent (no surplus) in the second than in the first
 abbrev pub MorePersistent : ℕ → NodeRow → NodeRow → Type 0

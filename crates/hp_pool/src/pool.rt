@@ -85,6 +85,7 @@ impl<N: Naming> Pool<N> {
     ///
     /// Refused as NoPages where more than nr and overcommit together, or more than all frames, would
     /// be committed. Nothing is always granted, and changes nothing.
+    #[tactic(auto, using(crate::proofs::Runs::added_are))]
     pub fn reserve(&mut self, home: usize, k: u64) -> Result<Permit<N>, Refusal>
         requires { IsSettled self.old }
         ensures granted { IsOk result ↔ IsTrue (can_grant k self.old) }
@@ -101,7 +102,7 @@ impl<N: Naming> Pool<N> {
         }
         let needed = committed + k;
         if sums.total < needed {
-            moves::add_surplus(&mut self.lists, home, needed - sums.total);
+            self.lists.add_surplus(home, needed - sums.total);
         }
         Ok(self.book.issue(k))
     }
@@ -146,13 +147,14 @@ impl<N: Naming> Pool<N> {
 
     /// Gives the unneeded surplus pages back, so that they leave the pool
     /// (`admin-guide/mm/hugetlbpage.rst`).
+    #[tactic(auto, using(crate::proofs::Runs::given_back_are))]
     pub fn settle(&mut self)
         ensures moved { self.new ≡ settled self.old }
         ensures settled { IsSettled self.new }
     {
         let sums = self.lists.sums();
         let spare = (sums.free - self.book.outstanding()).min(sums.surp);
-        moves::give_back(&mut self.lists, spare);
+        self.lists.give_back(spare);
     }
 
     /// Sets nr to n, or to the number of frames where n is more, whatever is in use, and answers it.

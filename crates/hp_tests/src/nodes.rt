@@ -39,13 +39,10 @@ fn goes_home<N: Naming, R: Abort>(rt: &R, lists: &mut NodeLists<N>)
     lists.put(page);
 }
 
-#[tactic(auto, using(hp_model::proofs::Sums::some_idle))]
 fn grows<N: Naming, R: Abort>(rt: &R, lists: &mut NodeLists<N>) {
-    for _page in 0..3 {
-        let sums = lists.sums();
-        assert!(rt; sums.total < sums.frames);
-        lists.grow();
-    }
+    let sums = lists.sums();
+    assert_eq!(rt; sums.frames - sums.total, 3);
+    lists.grow(3);
     assert_eq!(rt; lists.len(), 2);
     let counts = [lists.count(0), lists.count(1)];
     assert_eq!(rt;

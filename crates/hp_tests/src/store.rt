@@ -59,7 +59,7 @@ fn worked<N: Naming>(alloc: Global, blanks: Blanks) -> Result<([u64; 4], u64), A
             return Err(refused);
         }
     }
-    nodes.grow();
+    nodes.grow(1);
     let number = store.insert(nodes.take(0));
     // Whether or not there is memory for more, what stands in the store stays.
     let _ = store.make_room(100);

@@ -1,0 +1,63 @@
+use Rattle.std.proofs.Common.{◌≡◌, ◌*◌, ◌<◌, ◌++◌, true, length, map, take, drop, sym, subst, ap, ◌∙◌, rules, tests, arith}
+use Rattle.std.specs.Prelude.{All}
+use Rattle.std.proofs.lemmas.List.{get_or_read}
+use Rattle.std.specs.Fn.{iterate}
+use Rattle.std.specs.List.{count_by}
+use Rattle.hp_model.specs.declared.node.Kind.TheVariants.{Idle}
+use Rattle.hp_model.specs.pool.NodeRows.{NodeRows, row_at, no_row, has, sum_row, after, grown}
+use Rattle.hp_nodes.specs.Moves.{amount, HasMany, where_has, grow_by}
+use Rattle.hp_nodes.proofs.Each.{kept_grow_each, grow_each_sums, written}
+use Rattle.hp_nodes.proofs.Finds.{has_amount}
+use Rattle.hp_nodes.proofs.Turns.{rounds_grown}
+use Rattle.hp_nodes.proofs.lists.NodeLists.grow_rounds.Goals as goal
+
+pub invariant_of-self : goal.invariant_of-self
+invariant_of-self g c =
+    let s = c.self.inside in
+    let rows = s.nodes.items in
+    let r = c.min-rounds.result in
+    let new = c.grow_each.new.nodes in
+    let left : take s.nodes.len (new ++ drop (length new) rows) ≡ map (where_has Idle (grow_by r)) rows =
+    written s.nodes.len new rows (omega (arith, c.grow_each.auto.nodes, c.deref_mut.ensures.len)) ∙ c.grow_each.ensures ∙ ap (map (where_has Idle (grow_by r))) c.deref_mut.ensures.value
+    in
+    let least : All (HasMany Idle c.least.result) rows = subst (All (HasMany Idle c.least.result)) c.deref-2.ensures.value c.least.ensures in
+    let enough : All (HasMany Idle r) rows = λ k d below e. (let h = least k d below e in omega (arith, h, c.min-rounds.ensures)) in
+    rw left (kept_grow_each rows s.growth s.release s.marks r c.self.invariant enough)
+
+pub returns-clause-moved : goal.returns-clause-moved
+returns-clause-moved g c =
+    let s = c.self.inside in
+    let rows = s.nodes.items in
+    let r = c.min-rounds.result in
+    let new = c.grow_each.new.nodes in
+    let left : take s.nodes.len (new ++ drop (length new) rows) ≡ map (where_has Idle (grow_by r)) rows =
+    written s.nodes.len new rows (omega (arith, c.grow_each.auto.nodes, c.deref_mut.ensures.len)) ∙ c.grow_each.ensures ∙ ap (map (where_has Idle (grow_by r))) c.deref_mut.ensures.value
+    in
+    let least : All (HasMany Idle c.least.result) rows = subst (All (HasMany Idle c.least.result)) c.deref-2.ensures.value c.least.ensures in
+    let enough : All (HasMany Idle r) rows = λ k d below e. (let h = least k d below e in omega (arith, h, c.min-rounds.ensures)) in
+    let count : c.having-round.result ≡ count_by (has Idle) rows = c.having-round.ensures.count ∙ ap (count_by (has Idle)) c.deref.ensures.value in
+    let lists : NodeRows = record { rows = rows; growth = s.growth; release = s.release } in
+    let behind : s.growth ≡ after c.args.at rows = ap (λ v. v.growth) c.self.view_is ∙ c.requires.behind ∙ ap (λ v. after c.args.at v.rows) (sym c.self.view_is) in
+    let below : c.args.at < length rows = subst (λ v. c.args.at < length v.rows) (sym c.self.view_is) c.requires.within in
+    let is : c.index.result.now ≡ row_at rows c.args.at = get_or_read rows _ _ below c.index.ensures no_row in
+    let passes : c.has.result ≡ true = search (rules, tests) in
+    let some : 0 < amount Idle (row_at rows c.args.at) = has_amount Idle (row_at rows c.args.at) (ap (has Idle) (sym is) ∙ sym c.has.ensures ∙ passes) in
+    let all : record lists { rows = take s.nodes.len (new ++ drop (length new) rows) } ≡ iterate grown (r * c.having-round.result) lists =
+    ap (λ l. record lists { rows = l }) left ∙ sym (rounds_grown lists r c.args.at behind below some enough) ∙ ap (λ k. iterate grown (r * k) lists) (sym count)
+    in
+    rw (← c.self.view_is) all
+
+pub returns-clause-sums : goal.returns-clause-sums
+returns-clause-sums g c =
+    let s = c.self.inside in
+    let rows = s.nodes.items in
+    let r = c.min-rounds.result in
+    let new = c.grow_each.new.nodes in
+    let left : take s.nodes.len (new ++ drop (length new) rows) ≡ map (where_has Idle (grow_by r)) rows =
+    written s.nodes.len new rows (omega (arith, c.grow_each.auto.nodes, c.deref_mut.ensures.len)) ∙ c.grow_each.ensures ∙ ap (map (where_has Idle (grow_by r))) c.deref_mut.ensures.value
+    in
+    let count : c.having-round.result ≡ count_by (has Idle) rows = c.having-round.ensures.count ∙ ap (count_by (has Idle)) c.deref.ensures.value in
+    let all : sum_row (take s.nodes.len (new ++ drop (length new) rows)) ≡ grow_by (r * c.having-round.result) (sum_row rows) =
+    ap sum_row left ∙ grow_each_sums rows r ∙ ap (λ k. grow_by (r * k) (sum_row rows)) (sym count)
+    in
+    rw (← c.self.view_is) all

@@ -1,0 +1,8 @@
+use Rattle.std.proofs.Common.{◌≡◌}
+use Rattle.hp_model.specs.declared.node.Kind.TheVariants.{Idle}
+use Rattle.hp_nodes.specs.Moves.{where_has, grow_by}
+use Rattle.hp_nodes.proofs.Each.{changed_before}
+use Rattle.hp_nodes.proofs.rounds.grow_each.Given as goal
+
+abbrev pub invariant-loop-node : goal.invariant-loop-node
+invariant-loop-node g l = l.nodes ≡ changed_before l.node-index (where_has Idle (grow_by l.count)) l.initial.nodes
