@@ -157,10 +157,17 @@ two_stay kind rows i k x y apart x_has y_has =
     let other : has kind y ≡ has kind (row_at (slice_set rows i x) k) = y_has ∙ ap (has kind) (sym (get_or-set_other rows i k x no_row apart)) in
     position_or_len-set (has kind) (slice_set rows i x) k y no_row other ∙ position_or_len-set (has kind) rows i x no_row x_has
 
+-- where no node has both, the node of the free pages is not that of the surplus
+pub apart_still : (rows : List NodeRow) (n i k : ℕ) → (row_at rows i).surp ≡ 0 → 0 < n → n ≤ (row_at rows k).surp → n ≤ (row_at (at_row (shrink_by n) i rows) k).surp
+apart_still rows n i k bare some enough =
+    let apart : k ≢ i = λ e. (let same = ap (λ m. (row_at rows m).surp) e in absurd (omega (arith, same, bare, some, enough))) in
+    let stays : row_at (at_row (shrink_by n) i rows) k ≡ row_at rows k = get_or-set_other rows i k (shrink_by n (row_at rows i)) no_row apart in
+    omega (arith, enough, ap (λ r. r.surp) stays)
+
 -- where no node has both, one gives its free pages back, and another's surplus pages become persistent
-pub apart_at : (s : NodeRows) (n i k : ℕ) (x y : NodeRow) → i ≡ lowest Free s.rows → k ≡ lowest Surplus s.rows → lowest FreeSurplus s.rows ≡ length s.rows → i < length s.rows → k < length s.rows
-    → n ≤ (row_at s.rows i).free → n ≤ (row_at s.rows k).surp → x ≡ shrink_by n (row_at s.rows i) → y ≡ promote_by n (row_at s.rows k) → iterate given_back n s ≡ with_rows s i x k y
-apart_at s n i k x y i_at k_at none f u free_enough surplus_enough x_is y_is =
+pub apart_at : (s : NodeRows) (n i k : ℕ) → i ≡ lowest Free s.rows → k ≡ lowest Surplus s.rows → lowest FreeSurplus s.rows ≡ length s.rows → i < length s.rows → k < length s.rows
+    → n ≤ (row_at s.rows i).free → n ≤ (row_at s.rows k).surp → iterate given_back n s ≡ record s { rows = at_row (promote_by n) k (at_row (shrink_by n) i s.rows) }
+apart_at s n i k i_at k_at none f u free_enough surplus_enough =
     let rows = s.rows in
     let r = row_at rows i in
     let q = row_at rows k in
@@ -187,4 +194,4 @@ apart_at s n i k x y i_at k_at none f u free_enough surplus_enough x_is y_is =
     let a_next : shrink_row a ≡ shrink_by (j + 1) r = same_row _ _ _ _ _ _ _ _ refl (omega arith) (omega arith) refl in
     let b_next : promote_row b ≡ promote_by (j + 1) q = same_row _ _ _ _ _ _ _ _ refl refl refl (omega arith) in
     ap given_back e ∙ apart_once s i k a b f u apart no_both i_is k_is ∙ ap (λ z. with_rows s i z k (promote_row b)) a_next ∙ ap (with_rows s i (shrink_by (j + 1) r) k) b_next)
-    ∙ ap (λ z. with_rows s i z k (promote_by n q)) (sym x_is) ∙ ap (with_rows s i x k) (sym y_is)
+    ∙ ap (λ z. with_rows s i (shrink_by n r) k (promote_by n z)) (sym (get_or-set_other rows i k (shrink_by n r) no_row apart))

@@ -5,7 +5,7 @@ ghost use Rattle.hp_nodes.specs.Kept.{idle_nodes};
 ghost use Rattle.hp_nodes.specs.Ledgers.{AreLedgers};
 ghost use Rattle.hp_nodes.specs.Moves.{grow_by, shrink_by, add_surplus_by, give_back_by, promote_by, demote_by};
 ghost use Rattle.std.specs.Fn.{iterate};
-ghost use Rattle.hp_model.specs.pool.NodeRows.{has, after, lowest, near, next_from, some_has, row_at, taken, put_at, surplus_added, grown, shrunk, promoted, demoted, given_back, sum_row, free_of, total_of, take_row, put_row, grow_row, shrink_row};
+ghost use Rattle.hp_model.specs.pool.NodeRows.{after, at_row, lowest, near, some_has, row_at, taken, put_at, surplus_added, grown, shrunk, promoted, demoted, given_back, sum_row, free_of, total_of, take_row, put_row};
 
 use crate::blanks::Blanks;
 use crate::marks::Marks;
@@ -179,7 +179,7 @@ impl<N: Naming> NodeLists<N> {
         }
     }
 
-    // Answers the node.
+    // One, and which node it is of.
     #[tactic(auto, using(crate::proofs::Sums::grow_sums))]
     fn grow_one(&mut self) -> usize
         requires { IsTrue (some_has Kind.Idle self.old.rows) }
@@ -195,8 +195,8 @@ impl<N: Naming> NodeLists<N> {
         at
     }
 
-    // Whole rounds, of up to so many frames, from behind a node that still has one. They end where
-    // they begin.
+    // Up to so many, in whole rounds: none where the node before the cursor has no more, and else as
+    // many as each node can go along with. The cursor ends where it was.
     fn grow_rounds(&mut self, at: usize, most: u64) -> u64
         requires behind { self.old.growth ≡ after at self.old.rows }
         requires within { at < length self.old.rows }
@@ -230,7 +230,7 @@ impl<N: Naming> NodeLists<N> {
         }
     }
 
-    // Answers the node.
+    // One, and which node it is of.
     #[tactic(auto, using(crate::proofs::Sums::shrink_sums))]
     fn shrink_one(&mut self) -> usize
         requires free { IsTrue (some_has Kind.Free self.old.rows) }
@@ -247,8 +247,8 @@ impl<N: Naming> NodeLists<N> {
         at
     }
 
-    // Whole rounds, of up to so many pages, from behind a node that still has one. They end where
-    // they begin.
+    // Up to so many, in whole rounds: none where the node before the cursor has no more, and else as
+    // many as each node can go along with. The cursor ends where it was.
     fn shrink_rounds(&mut self, at: usize, most: u64) -> u64
         requires behind { self.old.release ≡ after at self.old.rows }
         requires within { at < length self.old.rows }
@@ -280,7 +280,7 @@ impl<N: Naming> NodeLists<N> {
         }
     }
 
-    // Up to so many, at one node. So are the next four.
+    // Up to so many, of one node.
     #[tactic(auto, using(crate::proofs::Repeats::added_at, crate::proofs::Sums::add_surplus_sums))]
     fn add_some_surplus(&mut self, home: usize, most: u64) -> u64
         requires some { 0 < most }
@@ -313,6 +313,7 @@ impl<N: Naming> NodeLists<N> {
         }
     }
 
+    // Up to so many, of one node or of two.
     #[tactic(auto, using(crate::proofs::Repeats::both_at, crate::proofs::Sums::give_back_sums))]
     fn give_some_back(&mut self, most: u64) -> u64
         requires some { 0 < most }
@@ -335,6 +336,7 @@ impl<N: Naming> NodeLists<N> {
     }
 
     // Free pages leave the pool at one node, and surplus pages become persistent at another.
+    #[tactic(auto, using(crate::proofs::Finds::no_surplus, crate::proofs::Repeats::apart_still, crate::proofs::Repeats::apart_at))]
     fn give_some_back_apart(&mut self, most: u64) -> u64
         requires some { 0 < most }
         requires free { IsTrue (some_has Kind.Free self.old.rows) }
@@ -350,11 +352,32 @@ impl<N: Naming> NodeLists<N> {
         let count = most
             .min(self.nodes[free].amount(Kind::Free))
             .min(self.nodes[surplus].amount(Kind::Surplus));
-        let node = &mut self.nodes[free];
-        node.shrink(count);
-        let node = &mut self.nodes[surplus];
-        node.promote(count);
+        self.shrink_at(free, count);
+        self.promote_at(surplus, count);
         count
+    }
+
+    #[tactic(auto, using(crate::proofs::Sums::shrink_sums))]
+    fn shrink_at(&mut self, at: usize, count: u64)
+        requires within { at < length self.old.rows }
+        requires free { count ≤ (row_at self.old.rows at).free }
+        requires no_surplus { (row_at self.old.rows at).surp ≡ 0 }
+        ensures moved { self.new ≡ record self.old { rows = at_row (shrink_by count) at self.old.rows } }
+        ensures sums { sum_row self.new.rows ≡ shrink_by count (sum_row self.old.rows) }
+    {
+        let node = &mut self.nodes[at];
+        node.shrink(count);
+    }
+
+    #[tactic(auto, using(crate::proofs::Sums::promote_sums))]
+    fn promote_at(&mut self, at: usize, count: u64)
+        requires within { at < length self.old.rows }
+        requires surplus { count ≤ (row_at self.old.rows at).surp }
+        ensures moved { self.new ≡ record self.old { rows = at_row (promote_by count) at self.old.rows } }
+        ensures sums { sum_row self.new.rows ≡ promote_by count (sum_row self.old.rows) }
+    {
+        let node = &mut self.nodes[at];
+        node.promote(count);
     }
 
     /// So many surplus pages become persistent, one after another, of the lowest node that has one.
@@ -370,6 +393,7 @@ impl<N: Naming> NodeLists<N> {
         }
     }
 
+    // Up to so many, of one node.
     #[tactic(auto, using(crate::proofs::Repeats::promoted_at, crate::proofs::Sums::promote_sums))]
     fn promote_some(&mut self, most: u64) -> u64
         requires some { 0 < most }
@@ -399,6 +423,7 @@ impl<N: Naming> NodeLists<N> {
         }
     }
 
+    // Up to so many, of one node.
     #[tactic(auto, using(crate::proofs::Repeats::demoted_at, crate::proofs::Sums::demote_sums))]
     fn demote_some(&mut self, most: u64) -> u64
         requires some { 0 < most }

@@ -22,7 +22,7 @@ pub fn having<N: Naming>(nodes: &[Node<N>], kind: Kind) -> u64
     count
 }
 
-/// So many each node has that has any.
+/// The least that a node has, of those that have any.
 pub fn least<N: Naming>(nodes: &[Node<N>], kind: Kind) -> u64
     ensures { All (HasMany kind result) nodes.now }
 {
