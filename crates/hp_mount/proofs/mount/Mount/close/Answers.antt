@@ -22,3 +22,6 @@ returns-clause-done g c =
     let given = subst (λ (pages : List Page). GivesBack took pages (committed_of (g.D.PoolDoor.share_of o.share)) door c.close.new.self) (c.requires.going going) c.close.ensures.given in
     subst (λ (x : Mount). ThroughDoor took (gives Done (Some x) None) (Some x) door (Ok Done) None c.close.new.self) c.self.view_is
     (ended took m going.going (committed_of (g.D.PoolDoor.share_of o.share)) door c.close.new.self c.close-going.ensures.nodes (omega (arith, committed, inv.used)) given)
+
+pub returns-then-map_count-gt0-clause-left : goal.returns-then-map_count-gt0-clause-left
+returns-then-map_count-gt0-clause-left g c = g.D.PoolDoor.stays c.args.door.now c.requires.ready
