@@ -23,7 +23,8 @@ fn main() -> io::Result<()> {
         _ => (8, 16, 32),
     };
     let mut out = BufWriter::new(io::stdout().lock());
-    writeln!(out, "nr 8")?;
+    let mut nr = 8;
+    writeln!(out, "nr {nr}")?;
     for task in 1..=tasks {
         writeln!(out, "connect {task} {}", task % 2)?;
     }
@@ -53,7 +54,11 @@ fn main() -> io::Result<()> {
                 writeln!(out, "load {task} 0 {number} {index} {offset} {count}")?;
             }
             80..85 => writeln!(out, "meminfo")?,
-            85..90 => writeln!(out, "nr {}", 4 + dice.below(8))?,
+            85..90 => {
+                // (the plain program knows no falling nr)
+                nr = nr.max(4 + dice.below(8));
+                writeln!(out, "nr {nr}")?
+            }
             90..94 => writeln!(out, "connect {} {}", 1 + dice.below(tasks), dice.below(3))?,
             94..97 => writeln!(out, "create 0 file{}", dice.below(files))?,
             _ => writeln!(out, "map {task} 0 file{} {} 9 shared", dice.below(files + 1), dice.below(20))?,
