@@ -4,16 +4,17 @@ ghost use Rattle.hp_mount_files.specs.Hints.{IsMore, IsMoreBut, has_key, has_nam
 ghost use Rattle.hp_mount_files.specs.Forking.{IsNotedFor};
 ghost use Rattle.hp_mount_files.specs.Leaving.{IsMoreButMap};
 
+use crate::file_tag::FileTag;
 use crate::map_tag::MapTag;
 use indexmap::IndexMap;
 use std::alloc::{AllocError, Global};
 use std::marker::Model;
 
-/// The tag of each file by its name, and of each map by its task and number. What is found by a tag is looked at, and never
-/// trusted; but what was never noted, or was forgotten, is not there.
+/// Where each file stood, with its tag, by its name, and each map by its task and number. What is found so is looked at, and
+/// never trusted; but what was never noted, or was forgotten, is not there.
 #[derive(Drop)]
 pub(crate) struct Hints {
-    files: IndexMap<Vec<u8>, u64>,
+    files: IndexMap<Vec<u8>, FileTag>,
     maps: IndexMap<(u64, u64), MapTag>,
 }
 
@@ -35,7 +36,7 @@ impl Hints {
     }
 
     /// The tag of the file with the name, if it was noted.
-    pub(crate) fn file(&self, name: &[u8]) -> Option<u64>
+    pub(crate) fn file(&self, name: &[u8]) -> Option<FileTag>
         ensures { IfNone result (has_name name.now self.now ≡ false) }
     {
         match self.files.get(name) {
@@ -55,7 +56,7 @@ impl Hints {
     }
 
     /// Notes a file's tag. Refused where memory is, and then nothing changes.
-    pub(crate) fn note_file(&mut self, name: Vec<u8>, tag: u64) -> Result<(), AllocError>
+    pub(crate) fn note_file(&mut self, name: Vec<u8>, tag: FileTag) -> Result<(), AllocError>
         ensures more { IsMore self.old self.new }
         ensures err { OnErr result (self.new ≡ self.old) }
         ensures noted { OnOk result (has_name name.items self.new ≡ true) }

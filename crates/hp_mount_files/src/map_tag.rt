@@ -1,8 +1,11 @@
-//! The tag of a map, with its file's.
+//! What a map is found by.
 
-/// The tags of a map and of its file.
+use crate::files::MapPlace;
+
+/// Where a map stood when it was noted, as most still do, and its tag and its file's, which stay.
 #[derive(Clone, Copy)]
 pub(crate) struct MapTag {
+    pub(crate) at: MapPlace,
     pub(crate) file: u64,
     pub(crate) map: u64,
 }

@@ -9,6 +9,7 @@ ghost use Rattle.hp_mount_files.specs.Leaving.{IsMoreButTask, cut_at, emptied, f
 use super::File;
 use crate::departed::Departed;
 use crate::dropping::{end_maps_of, leave_range};
+use crate::files::MapPlace;
 use crate::hints::Hints;
 use crate::map_tag::MapTag;
 use hp_model::naming::Naming;
@@ -110,17 +111,19 @@ impl File {
         let _gone = self.maps.remove(map);
     }
 
-    /// Notes the tags of a task's maps, where they were noted. Takes a step for each map.
-    pub(crate) fn retag_maps(&self, task: u64, hints: &mut Hints)
+    /// The file stands at a place: notes where a task's maps stand, and their tags, where they were noted. Takes a step for
+    /// each map.
+    pub(crate) fn retag_maps(&self, task: u64, file: usize, hints: &mut Hints)
         ensures { hints.new ≡ hints.old }
     {
-        for map in &self.maps {
-            if map.task() == task {
+        for (map, mapping) in self.maps.iter().enumerate() {
+            if mapping.task() == task {
                 let tag = MapTag {
+                    at: MapPlace { file, map },
                     file: self.tag,
-                    map: map.tag(),
+                    map: mapping.tag(),
                 };
-                hints.retag_map(task, map.number(), tag);
+                hints.retag_map(task, mapping.number(), tag);
             }
         }
     }

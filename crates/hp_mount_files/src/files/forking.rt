@@ -76,12 +76,12 @@ fn join_all<N: Naming>(
     }
 }
 
-// Notes the tags of a task's maps again.
+// Notes again where a task's maps stand, and their tags.
 fn retag_maps(task: u64, files: &[File], hints: &mut Hints)
     ensures { hints.new ≡ hints.old }
 {
-    for file in files {
-        file.retag_maps(task, hints);
+    for (at, file) in files.iter().enumerate() {
+        file.retag_maps(task, at, hints);
     }
 }
 

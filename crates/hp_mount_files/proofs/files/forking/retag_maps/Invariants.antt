@@ -1,5 +1,5 @@
 use Rattle.std.specs.Prelude.{◌≡◌}
 use Rattle.hp_mount_files.proofs.files.forking.retag_maps.Given as goal
 
-abbrev pub invariant-loop-file : goal.invariant-loop-file
-invariant-loop-file l = l.hints ≡ l.initial.hints
+abbrev pub invariant-loop-at : goal.invariant-loop-at
+invariant-loop-at l = l.hints ≡ l.initial.hints
