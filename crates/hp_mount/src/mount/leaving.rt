@@ -29,7 +29,7 @@ impl<N: Naming> Mount<N> {
         self.files.first_task()
     }
 
-    /// Whether the task has a map. It takes a step for each file and map.
+    /// Whether the task has a map. It walks over no file or map.
     pub fn has_maps(&self, task: u64) -> bool
         ensures { result ≡ has_maps_of task (Some self.now) }
     {
@@ -38,7 +38,7 @@ impl<N: Naming> Mount<N> {
 
     /// All maps of a task go, with their private copies and what their owners have reserved and not consumed; and files
     /// that are left without name and maps, with their pages and entries. All that goes back to the pool, but for what the
-    /// minimum keeps. Never refused. It takes a step for each file and map, and for each page that goes; and no memory.
+    /// minimum keeps. Never refused. It takes a step for each map of the task and each page that goes, and no memory.
     pub fn exit_maps<D: PoolDoor<Share = Subpool<N>, Going = PageStore<N>>>(
         &mut self,
         door: &mut D,
