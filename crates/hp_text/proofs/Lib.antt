@@ -2,3 +2,4 @@ pub mod Added
 mod Columns
 pub mod Cuts
 mod Digits
+mod Firsts

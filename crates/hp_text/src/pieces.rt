@@ -3,6 +3,8 @@ ghost use Rattle.std.specs.Prelude.{◌≡◌, ◌∷◌, ◌++◌, ◌==◌};
 ghost use Rattle.std.specs.List.{position};
 ghost use Rattle.hp_text.specs.Pieces.{pieces, pieces_after, from_separator};
 
+use memchr::memchr;
+
 /// What stands before the first separator, and what stands after it. With no separator the whole text is the one piece.
 #[inline(always)]
 pub fn first_piece(separator: u8, text: &[u8]) -> (&[u8], Option<&[u8]>)
@@ -10,10 +12,38 @@ pub fn first_piece(separator: u8, text: &[u8]) -> (&[u8], Option<&[u8]>)
         ≡ result.0.now ∷ pieces_after separator result.1 }
     ensures whole { text.now ≡ result.0.now ++ from_separator separator result.1 }
 {
-    match place_of(separator, text) {
+    cut_at(separator, text, place_of(separator, text))
+}
+
+/// As `first_piece`, for pieces that may be long: the separator is looked for in many bytes at a time.
+#[inline(always)]
+pub fn first_long_piece(separator: u8, text: &[u8]) -> (&[u8], Option<&[u8]>)
+    ensures pieces { pieces separator text.now
+        ≡ result.0.now ∷ pieces_after separator result.1 }
+    ensures whole { text.now ≡ result.0.now ++ from_separator separator result.1 }
+{
+    cut_at(separator, text, far_place_of(separator, text))
+}
+
+// A text cut at the place of its first separator, if it has one.
+#[inline(always)]
+fn cut_at(separator: u8, text: &[u8], place: Option<usize>) -> (&[u8], Option<&[u8]>)
+    requires first { place ≡ position (λ b. b == separator) text.now }
+    ensures pieces { pieces separator text.now
+        ≡ result.0.now ∷ pieces_after separator result.1 }
+    ensures whole { text.now ≡ result.0.now ++ from_separator separator result.1 }
+{
+    match place {
         None => (text, None),
         Some(at) => (&text[..at], Some(&text[at + 1..])),
     }
+}
+
+#[inline(always)]
+fn far_place_of(byte: u8, bytes: &[u8]) -> Option<usize>
+    ensures { result ≡ position (λ b. b == byte) bytes.now }
+{
+    memchr(byte, bytes)
 }
 
 #[inline(always)]
