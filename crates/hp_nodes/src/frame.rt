@@ -1,11 +1,10 @@
 //! The frames that pages are made of.
-ghost use Rattle.std.specs.Prelude.{◌≡◌, IfOk, ◌+◌, ◌≤◌, length};
+ghost use Rattle.std.specs.Prelude.{◌≡◌, ◌+◌, ◌≤◌, length};
 ghost use Rattle.hp_model.specs.files.Page.{zeros};
 ghost use Rattle.hp_nodes.specs.Frame.{overwritten, rewritten};
 ghost use Rattle.std.specs.Borrow.{Lends, sem, Array, u8 as byte};
 
 use hp_model::naming::Naming;
-use std::alloc::{AllocError, Global};
 use std::marker::{Model, PhantomData};
 
 /// The memory of one huge page. Contracts see its bytes, always as many as the type's naming says.
@@ -28,15 +27,22 @@ impl<N: Naming> Model for Frame<N> {
 impl<N: Naming> Frame<N> {
     ghost use Rattle.hp_nodes.specs.contracts.frame.Frame.{the_row};
 
-    pub fn new(alloc: Global, page_bytes: usize) -> Result<Self, AllocError>
-        requires { page_bytes ≡ N.page_bytes }
-        ensures { IfOk result (λ f. f ≡ zeros N.page_bytes) }
+    pub fn from_bytes(bytes: Vec<u8>) -> Self
+        requires { length bytes.items ≡ N.page_bytes }
+        ensures { result ≡ bytes.items }
     {
-        let bytes = vec![in alloc; 0u8; page_bytes]?;
-        Ok(Frame {
+        Frame {
             bytes,
             of: PhantomData,
-        })
+        }
+    }
+
+    pub fn into_bytes(self) -> Vec<u8>
+        ensures bytes { result.items ≡ self }
+        ensures length { length result.items ≡ N.page_bytes }
+    {
+        let Frame { bytes, of: _ } = self;
+        bytes
     }
 
     pub fn bytes(&self) -> &[u8]

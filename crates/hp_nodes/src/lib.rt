@@ -9,6 +9,7 @@ mod node;
 mod page;
 mod rounds;
 mod search;
+mod spare;
 
 pub use blanks::Blanks;
 pub use lists::NodeLists;

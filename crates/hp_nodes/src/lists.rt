@@ -144,9 +144,9 @@ impl<N: Naming> NodeLists<N> {
     {
         let at = near(&self.nodes, Kind::Free, home);
         let node = &mut self.nodes[at];
-        let frame = node.take();
+        let (frame, blank) = node.take();
         let mark = self.marks.issue(at);
-        Page::new(frame, mark)
+        Page::new(frame, mark, blank)
     }
 
     /// Puts a page back at its own node. Never refused, and takes no memory.
@@ -156,11 +156,11 @@ impl<N: Naming> NodeLists<N> {
         ensures sums { sum_row self.new.rows ≡ put_row (sum_row self.old.rows) }
         ensures in_use { free_of self.old.rows < total_of self.old.rows }
     {
-        let (frame, mark) = page.into_parts();
+        let (frame, mark, blank) = page.into_parts();
         let at = mark.node();
         self.marks.retire(mark);
         let node = &mut self.nodes[at];
-        node.put(frame);
+        node.put(frame, blank);
     }
 
     /// So many idle frames become persistent pages, one after another: of the first node that has

@@ -10,7 +10,7 @@ use std::sync::ledger::Ledger;
 
 /// One unit of the ledger of its node. Contracts see the node.
 pub struct Mark<N: Naming> {
-    node: usize,
+    node: u8,
     zero: Units<Pages0<N>>,
     one: Units<Pages1<N>>,
     two: Units<Pages2<N>>,
@@ -63,7 +63,7 @@ impl<N: Naming> Mark<N> {
         ensures node { result ≡ self.now }
         ensures below { result < 4 }
     {
-        self.node
+        usize::from(self.node)
     }
 }
 
@@ -93,7 +93,7 @@ impl<N: Naming> Marks<N> {
         ensures mark { result ≡ node }
     {
         Mark {
-            node,
+            node: node as u8,
             zero: issue_if(&mut self.zero, node == 0),
             one: issue_if(&mut self.one, node == 1),
             two: issue_if(&mut self.two, node == 2),

@@ -1,9 +1,11 @@
 //! One node: its row, and the frames that nobody holds.
-ghost use Rattle.std.specs.Prelude.{◌≡◌, ◌+◌, ◌-◌, ◌<◌, ◌≤◌, IfOk, vec_len};
+ghost use Rattle.std.specs.Prelude.{◌≡◌, ◌+◌, ◌-◌, ◌<◌, ◌≤◌, IfOk, IsTrue, vec_len};
+ghost use Rattle.hp_model.specs.files.Page.{zeros};
 ghost use Rattle.hp_model.specs.pool.NodeRows.{has, used, take_row, put_row, IsRow};
 ghost use Rattle.hp_nodes.specs.Moves.{amount, grow_by, shrink_by, add_surplus_by, give_back_by, promote_by, demote_by};
 
 use crate::frame::Frame;
+use crate::spare::Spare;
 use hp_model::naming::Naming;
 use hp_model::node::{Kind, NodeRow};
 use std::alloc::{AllocError, Global};
@@ -13,11 +15,12 @@ use std::marker::Model;
 #[derive(Drop)]
 pub struct Node<N: Naming> {
     row: NodeRow,
-    present: Vec<Frame<N>>,
+    present: Vec<Spare<N>>,
+    page_bytes: usize,
 }
 
 impl<N: Naming> Model for Node<N> {
-    ghost use Rattle.std.specs.Prelude.{vec_len, vec_capacity};
+    ghost use Rattle.std.specs.Prelude.{◌≡◌, vec_len, vec_capacity};
     ghost use Rattle.hp_model.specs.declared.node.NodeRow.{NodeRow};
     ghost use Rattle.hp_nodes.specs.Kept.{IsNode};
 
@@ -25,7 +28,8 @@ impl<N: Naming> Model for Node<N> {
 
     ghost view = { λ n. n.row };
 
-    ghost invariant = { λ n. IsNode n.row (vec_len n.present) (vec_capacity n.present) };
+    ghost invariant = { λ n.
+        IsNode n.row (vec_len n.present) (vec_capacity n.present) × (n.page_bytes ≡ N.page_bytes) };
 }
 
 impl<N: Naming> Node<N> {
@@ -37,7 +41,7 @@ impl<N: Naming> Node<N> {
     {
         let mut present = Vec::with_capacity(alloc, frames as usize)?;
         for _frame in 0..frames {
-            present.push_reserved(Frame::new(alloc, page_bytes)?);
+            present.push_reserved(Spare::new(alloc, page_bytes)?);
         }
         Ok(Node {
             row: NodeRow {
@@ -47,6 +51,7 @@ impl<N: Naming> Node<N> {
                 surp: 0,
             },
             present,
+            page_bytes,
         })
     }
 
@@ -76,23 +81,27 @@ impl<N: Naming> Node<N> {
         self.amount(kind) > 0
     }
 
-    pub fn take(&mut self) -> Frame<N>
+    /// A frame, and whether it is blank: its first holder has zeros, and the others what was left in it.
+    pub fn take(&mut self) -> (Frame<N>, bool)
         requires { 0 < self.old.free }
         ensures row { self.new ≡ take_row self.old }
         ensures sound { IsRow self.new }
+        ensures blank { IsTrue result.1 → result.0 ≡ zeros N.page_bytes }
     {
         self.row.free -= 1;
-        self.present.pop().unwrap()
+        let spare = self.present.pop().unwrap();
+        spare.into_frame(self.page_bytes)
     }
 
     /// Takes no memory: the list was made with room for all frames.
-    pub fn put(&mut self, frame: Frame<N>)
-        requires { 0 < used self.old }
+    pub fn put(&mut self, frame: Frame<N>, blank: bool)
+        requires used { 0 < used self.old }
+        requires blank { IsTrue blank → frame ≡ zeros N.page_bytes }
         ensures row { self.new ≡ put_row self.old }
         ensures sound { IsRow self.new }
     {
         self.row.free += 1;
-        self.present.push_reserved(frame);
+        self.present.push_reserved(Spare::from_frame(frame, blank));
     }
 
     pub fn grow(&mut self, count: u64)

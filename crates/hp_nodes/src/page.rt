@@ -1,5 +1,5 @@
 //! Pages that somebody holds.
-ghost use Rattle.std.specs.Prelude.{◌≡◌, ◌+◌, ◌<◌, ◌≤◌, length};
+ghost use Rattle.std.specs.Prelude.{◌≡◌, ◌+◌, ◌<◌, ◌≤◌, length, IsTrue};
 ghost use Rattle.hp_nodes.specs.Frame.{rewritten};
 ghost use Rattle.std.specs.Borrow.{Lends, sem, Array, u8 as byte};
 ghost use Rattle.hp_model.specs.files.Page.{overwritten, zeros};
@@ -9,42 +9,46 @@ use crate::marks::Mark;
 use hp_model::naming::Naming;
 use std::marker::Model;
 
-/// A page of the pool that somebody holds: a frame, and a mark in its node's ledger. Contracts
-/// see its node and its bytes.
+/// A page of the pool that somebody holds: a frame, a mark in its node's ledger, and whether the
+/// frame is known to be blank: all its bytes are zeros. Contracts see its node and its bytes.
 ///
 /// It can't be dropped: `NodeLists::put` takes it back, by way of the pool. Its type names the
 /// ledgers, so it can only go back where it came from.
 pub struct Page<N: Naming> {
     frame: Frame<N>,
     mark: Mark<N>,
+    blank: bool,
 }
 
 impl<N: Naming> Model for Page<N> {
-    ghost use Rattle.std.specs.Prelude.{◌<◌};
-    ghost use Rattle.hp_model.specs.files.Page.{Page};
+    ghost use Rattle.std.specs.Prelude.{◌≡◌, ◌<◌, IsTrue};
+    ghost use Rattle.hp_model.specs.files.Page.{Page, zeros};
 
     ghost Value = { Page };
 
     ghost view = { λ p. record { node = p.mark; bytes = p.frame } };
 
-    ghost invariant = { λ p. p.mark < 4 };
+    ghost invariant = { λ p.
+        (p.mark < 4) × (IsTrue p.blank → p.frame ≡ zeros N.page_bytes) };
 }
 
 impl<N: Naming> Page<N> {
     ghost use Rattle.hp_nodes.specs.contracts.page.Page.{the_row};
 
-    pub(crate) fn new(frame: Frame<N>, mark: Mark<N>) -> Self
+    pub(crate) fn new(frame: Frame<N>, mark: Mark<N>, blank: bool) -> Self
+        requires { IsTrue blank → frame ≡ zeros N.page_bytes }
         ensures node { result.node ≡ mark }
     {
         let _node = mark.node();
-        Page { frame, mark }
+        Page { frame, mark, blank }
     }
 
-    pub(crate) fn into_parts(self) -> (Frame<N>, Mark<N>)
+    pub(crate) fn into_parts(self) -> (Frame<N>, Mark<N>, bool)
         ensures node { result.1 ≡ self.node }
+        ensures blank { IsTrue result.2 → result.0 ≡ zeros N.page_bytes }
     {
-        let Page { frame, mark } = self;
-        (frame, mark)
+        let Page { frame, mark, blank } = self;
+        (frame, mark, blank)
     }
 
     /// The node that the page goes back to.
@@ -71,6 +75,7 @@ impl<N: Naming> Page<N> {
             (Lends (the_row N.row N.Naming) (Array byte 0) self.entry result
             (λ w. record self.old { bytes = rewritten self.old.bytes w })) }
     {
+        self.blank = false;
         self.frame.bytes_mut()
     }
 
@@ -79,6 +84,7 @@ impl<N: Naming> Page<N> {
         requires { offset + length bytes.now ≤ N.page_bytes }
         ensures { self.new ≡ overwritten offset bytes.now self.old }
     {
+        self.blank = false;
         self.frame.write(offset, bytes);
     }
 
@@ -86,6 +92,9 @@ impl<N: Naming> Page<N> {
     pub fn zero(&mut self)
         ensures { self.new ≡ record self.old { bytes = zeros N.page_bytes } }
     {
-        self.frame.zero();
+        if !self.blank {
+            self.frame.zero();
+            self.blank = true;
+        }
     }
 }
