@@ -32,10 +32,10 @@ table_marked rows marks new is few more same = record {
 }
 
 pub page_in_pushed : (rows : Rows) (k : ℕ) → page_in (rows ++ [] ∷ []) k ≡ page_in rows k
-page_in_pushed rows k = ap (λ r. get_or r (k % 512) None) (get_or_pushed rows [] (k / 512))
+page_in_pushed rows k = ap (λ r. get_or r (k % 64) None) (get_or_pushed rows [] (k / 64))
 
 pub has_slot_pushed : (rows : Rows) (k : ℕ) → has_slot (rows ++ [] ∷ []) k ≡ has_slot rows k
-has_slot_pushed rows k = ap (λ r. ltb (k % 512) (length r)) (get_or_pushed rows [] (k / 512))
+has_slot_pushed rows k = ap (λ r. ltb (k % 64) (length r)) (get_or_pushed rows [] (k / 64))
 
 -- what a write through a slice of a whole list leaves
 pub written_back : {X : Type 0} (xs ws : List X) (n : ℕ) → length ws ≡ length xs → length xs ≡ n → take n (ws ++ drop (length ws) xs) ≡ ws
@@ -46,26 +46,26 @@ written_back xs ws n same long = rw (drop_all (length ws) xs (omega (arith, same
 get_or_replicated : {X : Type 0} (n k : ℕ) (d : X) → get_or (replicate n d) k d ≡ d
 get_or_replicated n k d = ⊎_elim (λ (lt : k < n). get_or-replicate n k d d lt) (λ (le : n ≤ k). get_or_past (replicate n d) k d (omega (arith, le, length-replicate n d))) (cases_lt k n)
 
-module _ (rows : Rows) (at : ℕ) (row : List (Option ℕ)) (lt : at < length rows) (empty : length (get_or rows at []) ≡ 0) (is : row ≡ replicate 512 None) where
+module _ (rows : Rows) (at : ℕ) (row : List (Option ℕ)) (lt : at < length rows) (empty : length (get_or rows at []) ≡ 0) (is : row ≡ replicate 64 None) where
   slot_in_made : (j k : ℕ) → slot_in (set rows at row) j k ≡ slot_in rows j k
   slot_in_made j k = ⊎_elim
       (λ (here : j ≡ at).
       ap (λ r. get_or r k None) (ap (λ n. get_or (set rows at row) n []) here ∙ get_or-set_same rows at row [] lt ∙ is)
-      ∙ get_or_replicated 512 k None
+      ∙ get_or_replicated 64 k None
       ∙ sym (ap (λ r. get_or r k None) (ap (λ n. get_or rows n []) here ∙ nil_from_length (get_or rows at []) empty)))
       (λ (other : j ≡ at → ⊥). ap (λ r. get_or r k None) (get_or-set_other rows at j row [] other))
       (cases_eq j at)
 
   pub page_in_made : (k : ℕ) → page_in (set rows at row) k ≡ page_in rows k
-  page_in_made k = slot_in_made (k / 512) (k % 512)
+  page_in_made k = slot_in_made (k / 64) (k % 64)
 
-  pub has_slot_made : (k : ℕ) → k / 512 ≡ at → has_slot (set rows at row) k ≡ true
+  pub has_slot_made : (k : ℕ) → k / 64 ≡ at → has_slot (set rows at row) k ≡ true
   has_slot_made k here =
-      let long : length (get_or (set rows at row) (k / 512) []) ≡ 512 = ap length (ap (λ n. get_or (set rows at row) n []) here ∙ get_or-set_same rows at row [] lt ∙ is) ∙ length-replicate {A = Option ℕ} 512 None in
-      lt-ltb (k % 512) (length (get_or (set rows at row) (k / 512) [])) (omega arith)
+      let long : length (get_or (set rows at row) (k / 64) []) ≡ 64 = ap length (ap (λ n. get_or (set rows at row) n []) here ∙ get_or-set_same rows at row [] lt ∙ is) ∙ length-replicate {A = Option ℕ} 64 None in
+      lt-ltb (k % 64) (length (get_or (set rows at row) (k / 64) [])) (omega arith)
 
-  pub has_slot_elsewhere : (k : ℕ) → (k / 512 ≡ at → ⊥) → has_slot (set rows at row) k ≡ has_slot rows k
-  has_slot_elsewhere k other = ap (λ r. ltb (k % 512) (length r)) (get_or-set_other rows at (k / 512) row [] other)
+  pub has_slot_elsewhere : (k : ℕ) → (k / 64 ≡ at → ⊥) → has_slot (set rows at row) k ≡ has_slot rows k
+  has_slot_elsewhere k other = ap (λ r. ltb (k % 64) (length r)) (get_or-set_other rows at (k / 64) row [] other)
 
   pub table_made : (marks : List ℕ) → IsTable rows marks → IsTable (set rows at row) marks
   table_made marks was = record {
@@ -78,68 +78,68 @@ module _ (rows : Rows) (at : ℕ) (row : List (Option ℕ)) (lt : at < length ro
 pub read_empty : (rows : Rows) (at : ℕ) (r : List (Option ℕ)) → at < length rows → r ≡ get_or rows at r → length r ≡ 0 → length (get_or rows at []) ≡ 0
 read_empty rows at r lt read empty = ap length (sym (get_or_read rows at r lt read [])) ∙ empty
 
-pub has_slot_whole : (rows : Rows) (at k : ℕ) (r : List (Option ℕ)) → at < length rows → r ≡ get_or rows at r → length r ≡ 512 → k / 512 ≡ at → has_slot rows k ≡ true
+pub has_slot_whole : (rows : Rows) (at k : ℕ) (r : List (Option ℕ)) → at < length rows → r ≡ get_or rows at r → length r ≡ 64 → k / 64 ≡ at → has_slot rows k ≡ true
 has_slot_whole rows at k r lt read whole here =
-    let long : length (get_or rows (k / 512) []) ≡ 512 = ap (λ j. length (get_or rows j [])) here ∙ ap length (sym (get_or_read rows at r lt read [])) ∙ whole in
-    lt-ltb (k % 512) (length (get_or rows (k / 512) [])) (omega arith)
+    let long : length (get_or rows (k / 64) []) ≡ 64 = ap (λ j. length (get_or rows j [])) here ∙ ap length (sym (get_or_read rows at r lt read [])) ∙ whole in
+    lt-ltb (k % 64) (length (get_or rows (k / 64) [])) (omega arith)
 
 -- ---- a slot written
 
-module _ (rows : Rows) (i : ℕ) (o : Option ℕ) (row old : List (Option ℕ)) (slot : has_slot rows i ≡ true) (read : old ≡ get_or rows (i / 512) old) (is : row ≡ set old (i % 512) o) where
-  pub chunk_there : i / 512 < length rows
-  chunk_there = ⊎_elim (λ (lt : i / 512 < length rows). lt)
-      (λ (le : length rows ≤ i / 512).
-      let none : length (get_or rows (i / 512) []) ≡ 0 = ap length (get_or_past rows (i / 512) [] le) in
-      absurd (omega (arith, ltb-true (i % 512) (length (get_or rows (i / 512) [])) slot, none)))
-      (cases_lt (i / 512) (length rows))
+module _ (rows : Rows) (i : ℕ) (o : Option ℕ) (row old : List (Option ℕ)) (slot : has_slot rows i ≡ true) (read : old ≡ get_or rows (i / 64) old) (is : row ≡ set old (i % 64) o) where
+  pub chunk_there : i / 64 < length rows
+  chunk_there = ⊎_elim (λ (lt : i / 64 < length rows). lt)
+      (λ (le : length rows ≤ i / 64).
+      let none : length (get_or rows (i / 64) []) ≡ 0 = ap length (get_or_past rows (i / 64) [] le) in
+      absurd (omega (arith, ltb-true (i % 64) (length (get_or rows (i / 64) [])) slot, none)))
+      (cases_lt (i / 64) (length rows))
 
-  was : get_or rows (i / 512) [] ≡ old
-  was = sym (get_or_read rows (i / 512) old chunk_there read [])
+  was : get_or rows (i / 64) [] ≡ old
+  was = sym (get_or_read rows (i / 64) old chunk_there read [])
 
-  pub slot_there : i % 512 < length old
-  slot_there = omega (arith, ltb-true (i % 512) (length (get_or rows (i / 512) [])) slot, ap length was)
+  pub slot_there : i % 64 < length old
+  slot_there = omega (arith, ltb-true (i % 64) (length (get_or rows (i / 64) [])) slot, ap length was)
 
-  row_here : get_or (set rows (i / 512) row) (i / 512) [] ≡ row
-  row_here = get_or-set_same rows (i / 512) row [] chunk_there
+  row_here : get_or (set rows (i / 64) row) (i / 64) [] ≡ row
+  row_here = get_or-set_same rows (i / 64) row [] chunk_there
 
-  pub page_in_set : page_in (set rows (i / 512) row) i ≡ o
-  page_in_set = ap (λ r. get_or r (i % 512) None) (row_here ∙ is) ∙ get_or-set_same old (i % 512) o None slot_there
+  pub page_in_set : page_in (set rows (i / 64) row) i ≡ o
+  page_in_set = ap (λ r. get_or r (i % 64) None) (row_here ∙ is) ∙ get_or-set_same old (i % 64) o None slot_there
 
-  pub page_in_others : (k : ℕ) → (k ≡ i → ⊥) → page_in (set rows (i / 512) row) k ≡ page_in rows k
+  pub page_in_others : (k : ℕ) → (k ≡ i → ⊥) → page_in (set rows (i / 64) row) k ≡ page_in rows k
   page_in_others k differs = ⊎_elim
-      (λ (here : k / 512 ≡ i / 512).
-      let place : k % 512 ≡ i % 512 → ⊥ = λ e. differs (omega (arith, here, e)) in
-      ap (λ r. get_or r (k % 512) None) (ap (λ n. get_or (set rows (i / 512) row) n []) here ∙ row_here ∙ is)
-      ∙ get_or-set_other old (i % 512) (k % 512) o None place
-      ∙ sym (ap (λ r. get_or r (k % 512) None) (ap (λ n. get_or rows n []) here ∙ was)))
-      (λ (other : k / 512 ≡ i / 512 → ⊥). ap (λ r. get_or r (k % 512) None) (get_or-set_other rows (i / 512) (k / 512) row [] other))
-      (cases_eq (k / 512) (i / 512))
+      (λ (here : k / 64 ≡ i / 64).
+      let place : k % 64 ≡ i % 64 → ⊥ = λ e. differs (omega (arith, here, e)) in
+      ap (λ r. get_or r (k % 64) None) (ap (λ n. get_or (set rows (i / 64) row) n []) here ∙ row_here ∙ is)
+      ∙ get_or-set_other old (i % 64) (k % 64) o None place
+      ∙ sym (ap (λ r. get_or r (k % 64) None) (ap (λ n. get_or rows n []) here ∙ was)))
+      (λ (other : k / 64 ≡ i / 64 → ⊥). ap (λ r. get_or r (k % 64) None) (get_or-set_other rows (i / 64) (k / 64) row [] other))
+      (cases_eq (k / 64) (i / 64))
 
-  pub has_slot_set : (k : ℕ) → has_slot (set rows (i / 512) row) k ≡ has_slot rows k
+  pub has_slot_set : (k : ℕ) → has_slot (set rows (i / 64) row) k ≡ has_slot rows k
   has_slot_set k = ⊎_elim
-      (λ (here : k / 512 ≡ i / 512).
-      ap (λ r. ltb (k % 512) (length r)) (ap (λ n. get_or (set rows (i / 512) row) n []) here ∙ row_here ∙ is)
-      ∙ ap (ltb (k % 512)) (length-set old (i % 512) o)
-      ∙ sym (ap (λ r. ltb (k % 512) (length r)) (ap (λ n. get_or rows n []) here ∙ was)))
-      (λ (other : k / 512 ≡ i / 512 → ⊥). ap (λ r. ltb (k % 512) (length r)) (get_or-set_other rows (i / 512) (k / 512) row [] other))
-      (cases_eq (k / 512) (i / 512))
+      (λ (here : k / 64 ≡ i / 64).
+      ap (λ r. ltb (k % 64) (length r)) (ap (λ n. get_or (set rows (i / 64) row) n []) here ∙ row_here ∙ is)
+      ∙ ap (ltb (k % 64)) (length-set old (i % 64) o)
+      ∙ sym (ap (λ r. ltb (k % 64) (length r)) (ap (λ n. get_or rows n []) here ∙ was)))
+      (λ (other : k / 64 ≡ i / 64 → ⊥). ap (λ r. ltb (k % 64) (length r)) (get_or-set_other rows (i / 64) (k / 64) row [] other))
+      (cases_eq (k / 64) (i / 64))
 
-  pub table_set : (marks new : List ℕ) (some : Bool) → IsTable rows marks → length new ≡ length marks → marked new (i / 512) ≡ some → ((j : ℕ) → (j ≡ i / 512 → ⊥) → marked new j ≡ marked marks j) → (some ≡ true → ((k : ℕ) → get_or row k None ≡ None) → ⊥) → (some ≡ false → (k : ℕ) → get_or row k None ≡ None) → IsTable (set rows (i / 512) row) new
+  pub table_set : (marks new : List ℕ) (some : Bool) → IsTable rows marks → length new ≡ length marks → marked new (i / 64) ≡ some → ((j : ℕ) → (j ≡ i / 64 → ⊥) → marked new j ≡ marked marks j) → (some ≡ true → ((k : ℕ) → get_or row k None ≡ None) → ⊥) → (some ≡ false → (k : ℕ) → get_or row k None ≡ None) → IsTable (set rows (i / 64) row) new
   table_set marks new some table same here others on off = record {
     few = omega (arith, table.few, same);
-    places = omega (arith, table.places, same, length-set rows (i / 512) row);
+    places = omega (arith, table.places, same, length-set rows (i / 64) row);
     some = λ j mark none. ⊎_elim
-        (λ (this : j ≡ i / 512). on (sym here ∙ ap (marked new) (sym this) ∙ mark) (λ k. sym (slot_here j this k) ∙ none k))
-        (λ (other : j ≡ i / 512 → ⊥). table.some j (sym (others j other) ∙ mark) (λ k. sym (slot_other j other k) ∙ none k))
-        (cases_eq j (i / 512));
+        (λ (this : j ≡ i / 64). on (sym here ∙ ap (marked new) (sym this) ∙ mark) (λ k. sym (slot_here j this k) ∙ none k))
+        (λ (other : j ≡ i / 64 → ⊥). table.some j (sym (others j other) ∙ mark) (λ k. sym (slot_other j other k) ∙ none k))
+        (cases_eq j (i / 64));
     none = λ j k mark. ⊎_elim
-        (λ (this : j ≡ i / 512). slot_here j this k ∙ off (sym here ∙ ap (marked new) (sym this) ∙ mark) k)
-        (λ (other : j ≡ i / 512 → ⊥). slot_other j other k ∙ table.none j k (sym (others j other) ∙ mark))
-        (cases_eq j (i / 512));
+        (λ (this : j ≡ i / 64). slot_here j this k ∙ off (sym here ∙ ap (marked new) (sym this) ∙ mark) k)
+        (λ (other : j ≡ i / 64 → ⊥). slot_other j other k ∙ table.none j k (sym (others j other) ∙ mark))
+        (cases_eq j (i / 64));
   }
     where
-      slot_here : (j : ℕ) → j ≡ i / 512 → (k : ℕ) → slot_in (set rows (i / 512) row) j k ≡ get_or row k None
-      slot_here j this k = ap (λ r. get_or r k None) (ap (λ n. get_or (set rows (i / 512) row) n []) this ∙ row_here)
+      slot_here : (j : ℕ) → j ≡ i / 64 → (k : ℕ) → slot_in (set rows (i / 64) row) j k ≡ get_or row k None
+      slot_here j this k = ap (λ r. get_or r k None) (ap (λ n. get_or (set rows (i / 64) row) n []) this ∙ row_here)
 
-      slot_other : (j : ℕ) → (j ≡ i / 512 → ⊥) → (k : ℕ) → slot_in (set rows (i / 512) row) j k ≡ slot_in rows j k
-      slot_other j other k = ap (λ r. get_or r k None) (get_or-set_other rows (i / 512) j row [] other)
+      slot_other : (j : ℕ) → (j ≡ i / 64 → ⊥) → (k : ℕ) → slot_in (set rows (i / 64) row) j k ≡ slot_in rows j k
+      slot_other j other k = ap (λ r. get_or r k None) (get_or-set_other rows (i / 64) j row [] other)

@@ -1,4 +1,4 @@
--- The rows of a page table: for each chunk of 512 indices no slot yet, or one slot for each.
+-- The rows of a page table: for each chunk of 64 indices no slot yet, or one slot for each.
 --     slot_in rows j k      the page in slot k of chunk j
 --     page_in rows i, has_slot rows i      the page of an index, and whether there is a slot for it
 --     IsFirstSlot row n k, IsFirstPage rows a i      the first with a page, of those from a place on
@@ -15,14 +15,14 @@ abbrev pub slot_in : Rows → ℕ → ℕ → Option ℕ
 slot_in rows j k = slice_index_or (slice_index_or rows j []) k None
 
 abbrev pub page_in : Rows → ℕ → Option ℕ
-page_in rows i = slot_in rows (i / 512) (i % 512)
+page_in rows i = slot_in rows (i / 64) (i % 64)
 
 abbrev pub has_slot : Rows → ℕ → Bool
-has_slot rows i = nat_lt (i % 512) (length (slice_index_or rows (i / 512) []))
+has_slot rows i = nat_lt (i % 64) (length (slice_index_or rows (i / 64) []))
 
 pub record IsFirstSlot (row : List (Option ℕ)) (n k : ℕ) : Type 0 where
   pub from : n ≤ k
-  pub within : k < 512
+  pub within : k < 64
   pub here : IsSome (slice_index_or row k None)
   pub none_before : (j : ℕ) → n ≤ j → j < k → slice_index_or row j None ≡ None
 
@@ -33,7 +33,7 @@ pub record IsFirstPage (rows : Rows) (a i : ℕ) : Type 0 where
 
 -- a chunk has no slots or all, and a mark at each with a page
 pub record IsChunk (row : List (Option ℕ)) (marks : List ℕ) : Type 0 where
-  pub whole : 0 < length row → length row ≡ 512
+  pub whole : 0 < length row → length row ≡ 64
   pub pages : (k : ℕ) → marked marks k ≡ is_some (slice_index_or row k None)
 
 -- a table has a place for the mark of each chunk, and a mark at those with a page

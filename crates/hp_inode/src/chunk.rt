@@ -1,4 +1,4 @@
-//! The pages of 512 indices.
+//! The pages of 64 indices.
 ghost use Rattle.std.specs.Prelude.{ℕ, ◌≡◌, ◌==◌, ◌<◌, [], length, replicate, IfOk, true, false, None};
 ghost use Rattle.std.specs.Option.{is_some};
 ghost use Rattle.std.specs.List.{slice_index_or, slice_set};
@@ -10,13 +10,13 @@ use std::alloc::{AllocError, Global};
 use std::marker::Model;
 
 /// How many indices a chunk is for.
-pub const CHUNK: u64 = 512;
+pub const CHUNK: u64 = 64;
 
-/// The pages of 512 indices, with a mark at each slot that has one; or no slots yet.
+/// The pages of 64 indices, with a mark at each slot that has one; or no slots yet.
 #[derive(Drop)]
 pub struct Chunk {
     slots: Vec<Option<PageNo>>,
-    marks: [u64; 8],
+    marks: [u64; 1],
 }
 
 impl Model for Chunk {
@@ -36,22 +36,22 @@ impl Chunk {
     {
         Chunk {
             slots: Vec::new(alloc),
-            marks: [0; 8],
+            marks: [0; 1],
         }
     }
 
     pub fn with_slots(alloc: Global) -> Result<Self, AllocError>
-        ensures { IfOk result (λ chunk. chunk ≡ replicate 512 None) }
+        ensures { IfOk result (λ chunk. chunk ≡ replicate 64 None) }
     {
         Ok(Chunk {
-            slots: vec![in alloc; None; 512]?,
-            marks: [0; 8],
+            slots: vec![in alloc; None; 64]?,
+            marks: [0; 1],
         })
     }
 
     pub fn is_empty(&self) -> bool
         ensures empty { result ≡ (length self.now == 0) }
-        ensures whole { result ≡ false → length self.now ≡ 512 }
+        ensures whole { result ≡ false → length self.now ≡ 64 }
     {
         self.slots.is_empty()
     }

@@ -1,4 +1,4 @@
-//! Pages by index, in chunks of 512 slots: an index's slot is found in one step, and so is a chunk with pages.
+//! Pages by index, in chunks of 64 slots: an index's slot is found in one step, and so is a chunk with pages.
 ghost use Rattle.std.specs.Prelude.{ℕ, ◌≡◌, ◌/◌, ◌<◌, ◌≤◌, ◌^◌, ◌++◌, ◌∷◌, [], length, OnOk, OnErr, true, None};
 ghost use Rattle.std.specs.List.{slice_index_or};
 ghost use Rattle.hp_inode.specs.Rows.{page_in, has_slot, FindsSlot, FindsPage};
@@ -91,7 +91,7 @@ impl PageTable {
         ensures pages { (k : ℕ) → page_in self.new k ≡ page_in self.old k }
         ensures kept { (k : ℕ) → has_slot self.old k ≡ true → has_slot self.new k ≡ true }
         ensures made { OnOk result ((k : ℕ) → a ≤ k → k < b → has_slot self.new k ≡ true) }
-        ensures below { (k : ℕ) → k / 512 < a / 512 → has_slot self.new k ≡ has_slot self.old k }
+        ensures below { (k : ℕ) → k / 64 < a / 64 → has_slot self.new k ≡ has_slot self.old k }
     {
         if a < b {
             for at in a / CHUNK..(b - 1) / CHUNK + 1 {
@@ -106,8 +106,8 @@ impl PageTable {
         requires { at < 2 ^ 32 }
         ensures pages { (k : ℕ) → page_in self.new k ≡ page_in self.old k }
         ensures kept { (k : ℕ) → has_slot self.old k ≡ true → has_slot self.new k ≡ true }
-        ensures made { OnOk result ((k : ℕ) → k / 512 ≡ at → has_slot self.new k ≡ true) }
-        ensures others { (k : ℕ) → (k / 512 ≡ at → ⊥) → has_slot self.new k ≡ has_slot self.old k }
+        ensures made { OnOk result ((k : ℕ) → k / 64 ≡ at → has_slot self.new k ≡ true) }
+        ensures others { (k : ℕ) → (k / 64 ≡ at → ⊥) → has_slot self.new k ≡ has_slot self.old k }
     {
         while self.chunks.len() <= at {
             self.push_chunk()?;

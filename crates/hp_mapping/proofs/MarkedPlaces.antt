@@ -1,13 +1,16 @@
 -- Places with their marks, after a change of one place.
-use Rattle.std.proofs.Common.{refl, zero, suc, [], ◌∷◌, ◌||◌, replicate, map, Option, None, Some, IfSome, IfNone, is_some, ◌≡◌, ℕ, ◌*◌, ◌<◌, ◌≤◌, inl, inr, Bool, true, false, List, length, slice_index_or, slice_set, sym, ◌∙◌, ap, arith}
+use mir.Val.{bool_byte}
+use Rattle.std.proofs.Common.{refl, zero, suc, [], ◌∷◌, ◌||◌, replicate, map, Option, None, Some, IfSome, IfNone, is_some, not, ◌≡◌, ℕ, ◌*◌, ◌<◌, ◌≤◌, ◌-◌, inl, inr, Bool, true, false, List, length, slice_index_or, slice_set, sym, ◌∙◌, ap, cond, ◌+◌, arith}
 use Rattle.std.proofs.lemmas.Bool.{cases_eq, cases_lt}
 use Rattle.std.proofs.lemmas.List.{get_or-set_same, get_or-set_other, length-set, get_or-replicate, get_or_past, length-replicate, length-map, get_or_default}
-use Rattle.std.specs.List.{list_any}
+use Rattle.std.specs.List.{count_by, list_any}
+use Rattle.std.proofs.lemmas.List.Sums.{sum_by-cons, sum_by-set}
+use Rattle.std.proofs.lemmas.List.Folds.{sum_by-replicate}
 use Rattle.hp_model.specs.declared.place.Place.{Place}
 use Rattle.hp_model.specs.declared.place.Place.TheVariants.{Gone, Live}
-use Rattle.hp_model.specs.files.Mapping.{is_live, unconsumed}
+use Rattle.hp_model.specs.files.Mapping.{copy_of, is_live, unconsumed, without_copy}
 use Rattle.hp_mapping.specs.Mapped.{has_copy, with_copy}
-use Rattle.hp_mapping.specs.Marks.{mark_at, one_if, ChangesMark, IsPlaced, IsBlankFrom, IsLowest}
+use Rattle.hp_mapping.specs.Marks.{mark_at, one_if, AreCounted, ChangesMark, IsPlaced, IsBlankFrom, IsLowest}
 
 unmarked : (b : Bool) → one_if b ≡ 0 → b ≡ false
 unmarked true e = absurd (omega arith)
@@ -146,3 +149,99 @@ pub some_live : (found : Option ℕ) (places : List (Place ℕ)) (live copies : 
     → IfSome found (λ at. IsLowest 0 at live) → IfNone found (IsBlankFrom 0 live) → is_some found ≡ list_any is_live places
 some_live None places live copies s some none = sym (any_none places (λ k. unmarked (is_live (slice_index_or places k Gone)) (sym (s.live_is k) ∙ none k (omega arith))))
 some_live (Some at) places live copies s some none = sym (any_at places at (marked (is_live (slice_index_or places at Gone)) (sym (s.live_is at) ∙ some.marked)))
+
+-- ---- how many have a copy
+
+module _ (places : List (Place ℕ)) (at : ℕ) (p : Place ℕ) (within : at < length places) where
+  abbrev was : Place ℕ
+  was = slice_index_or places at Gone
+
+  step : count_by has_copy (slice_set places at p) + cond (has_copy was) 1 0 ≡ count_by has_copy places + cond (has_copy p) 1 0
+  step = sum_by-set (λ q. cond (has_copy q) 1 0) places at p Gone within
+
+  pub count_same : has_copy p ≡ has_copy was → count_by has_copy (slice_set places at p) ≡ count_by has_copy places
+  count_same e = (let same = ap (λ b. cond {A = ℕ} b 1 0) e in omega (arith, step, same))
+
+  pub count_more : has_copy p ≡ true → has_copy was ≡ false → count_by has_copy (slice_set places at p) ≡ count_by has_copy places + 1
+  count_more e none = (let one = ap (λ b. cond {A = ℕ} b 1 0) e in let zero_is = ap (λ b. cond {A = ℕ} b 1 0) none in omega (arith, step, one, zero_is))
+
+  pub count_less : has_copy p ≡ false → has_copy was ≡ true → count_by has_copy (slice_set places at p) + 1 ≡ count_by has_copy places
+  count_less e some = (let zero_is = ap (λ b. cond {A = ℕ} b 1 0) e in let one = ap (λ b. cond {A = ℕ} b 1 0) some in omega (arith, step, one, zero_is))
+
+pub count_fresh : (n : ℕ) → count_by has_copy (replicate n (Live false None)) ≡ 0
+count_fresh n = omega (arith, sum_by-replicate (λ q. cond {A = ℕ} (has_copy q) 1 0) n (Live false None))
+
+pub count_forked : (places : List (Place ℕ)) → count_by has_copy (map unconsumed places) ≡ count_by has_copy places
+count_forked [] = refl
+count_forked (p ∷ places) =
+    let same = ap (λ b. cond {A = ℕ} b 1 0) (copy_forked p) in
+    let rest = count_forked places in
+    omega (arith, same, rest, sum_by-cons (λ q. cond {A = ℕ} (has_copy q) 1 0) (unconsumed p) (map unconsumed places), sum_by-cons (λ q. cond {A = ℕ} (has_copy q) 1 0) p places)
+
+-- ---- places with their marks and their count
+
+pub counted_fresh : (n : ℕ) (live copies : List ℕ) → ((k : ℕ) → k < n → mark_at live k ≡ 1) → IsBlankFrom n live → IsBlankFrom 0 copies → n ≤ 64 * length live → n ≤ 64 * length copies
+    → AreCounted 0 (replicate n (Live false None)) live copies
+counted_fresh n live copies marked rest blank live_room copies_room = record { placed = placed_fresh n live copies marked rest blank live_room copies_room; count_is = sym (count_fresh n) }
+
+pub counted_forked : (count : ℕ) (places : List (Place ℕ)) (live copies : List ℕ) → AreCounted count places live copies → AreCounted count (map unconsumed places) live copies
+counted_forked count places live copies s = record { placed = placed_forked places live copies s.placed; count_is = s.count_is ∙ sym (count_forked places) }
+
+copy_none : (p : Place ℕ) → copy_of p ≡ None → has_copy p ≡ false
+copy_none p e = ap (λ (o : Option ℕ). is_some o) e
+
+-- a place got a copy: it had none, or it had another
+pub counted_copied : (count more : ℕ) (places : List (Place ℕ)) (live copies new : List ℕ) (at page : ℕ) (d : Place ℕ) (none : Bool) → AreCounted count places live copies
+    → is_live (slice_index_or places at Gone) ≡ true → ChangesMark at 1 copies new → more ≡ bool_byte none → has_copy (slice_index_or places at d) ≡ not none
+    → AreCounted (count + more) (slice_set places at (with_copy page (slice_index_or places at d))) live new
+counted_copied count more places live copies new at page d none s here changes more_is none_is = record {
+  placed = placed_copied places live copies new at page d s.placed here changes;
+  count_is = rw same (by none more_is (ap has_copy (sym same) ∙ none_is));
+}
+  where
+    within : at < length places
+    within = live_within places at here
+
+    same : slice_index_or places at d ≡ slice_index_or places at Gone
+    same = get_or_default places at d Gone within
+
+    some : has_copy (with_copy page (slice_index_or places at Gone)) ≡ true
+    some = marked (has_copy (with_copy page (slice_index_or places at Gone))) (sym (copy_some page (slice_index_or places at Gone) here))
+
+    by : (b : Bool) → more ≡ bool_byte b → has_copy (slice_index_or places at Gone) ≡ not b → count + more ≡ count_by has_copy (slice_set places at (with_copy page (slice_index_or places at Gone)))
+    by true one e = (let step = count_more places at (with_copy page (slice_index_or places at Gone)) within some e in omega (arith, one, step, s.count_is))
+    by false one e = (let step = count_same places at (with_copy page (slice_index_or places at Gone)) within (some ∙ sym e) in omega (arith, one, step, s.count_is))
+
+-- a copy went
+pub counted_bare : (count : ℕ) (places : List (Place ℕ)) (live copies new : List ℕ) (at : ℕ) (d : Place ℕ) → AreCounted count places live copies
+    → is_some (copy_of (slice_index_or places at Gone)) ≡ true → ChangesMark at 0 copies new → AreCounted (count - 1) (slice_set places at (without_copy (slice_index_or places at d))) live new
+counted_bare count places live copies new at d s here changes =
+    let within = live_within places at (copied_live (slice_index_or places at Gone) here) in
+    let same : slice_index_or places at d ≡ slice_index_or places at Gone = get_or_default places at d Gone within in
+    let step = count_less places at (without_copy (slice_index_or places at Gone)) within (bare_copy (slice_index_or places at Gone)) here in
+    rw same (
+    record {
+      placed = placed_copy places live copies new at 0 (without_copy (slice_index_or places at Gone)) s.placed within (bare_live (slice_index_or places at Gone)) changes (ap one_if (sym (bare_copy (slice_index_or places at Gone))));
+      count_is = omega (arith, step, s.count_is);
+    }
+    )
+  where
+    copied_live : (p : Place ℕ) → has_copy p ≡ true → is_live p ≡ true
+    copied_live Gone e = e
+    copied_live (Live was copy) e = refl
+
+    bare_copy : (p : Place ℕ) → has_copy (without_copy p) ≡ false
+    bare_copy Gone = refl
+    bare_copy (Live was copy) = refl
+
+    bare_live : (p : Place ℕ) → is_live (without_copy p) ≡ is_live p
+    bare_live Gone = refl
+    bare_live (Live was copy) = refl
+
+-- a place without a copy left
+pub counted_left : (count : ℕ) (places : List (Place ℕ)) (live copies new : List ℕ) (at : ℕ) → AreCounted count places live copies
+    → is_live (slice_index_or places at Gone) ≡ true → copy_of (slice_index_or places at Gone) ≡ None → ChangesMark at 0 live new → AreCounted count (slice_set places at Gone) new copies
+counted_left count places live copies new at s here clear changes =
+    let within = live_within places at here in
+    let none = sym (copy_none (slice_index_or places at Gone) clear) in
+    record { placed = placed_live places live copies new at 0 Gone s.placed within none changes refl; count_is = s.count_is ∙ sym (count_same places at Gone within none) }

@@ -1,7 +1,7 @@
 -- Bits of a word, and marks in words.
-use Rattle.std.proofs.Common.{w64, ◌≡◌, ℕ, ◌+◌, ◌-◌, ◌*◌, ◌/◌, ◌%◌, ◌^◌, ◌<◌, ◌≤◌, inl, inr, List, length, slice_index, slice_index_or, sym, ◌∙◌, ap, arith}
+use Rattle.std.proofs.Common.{w64, ◌≡◌, ℕ, ◌+◌, ◌-◌, ◌*◌, ◌/◌, ◌%◌, ◌^◌, ◌<◌, ◌≤◌, inl, inr, List, length, slice_index, sym, ◌∙◌, ap, arith}
 use Rattle.std.proofs.lemmas.Bool.{cases_lt, cases_eq}
-use Rattle.std.proofs.lemmas.List.{get_or_past, get_or_default}
+use Rattle.std.proofs.lemmas.List.{get_or_past}
 use Rattle.std.proofs.lemmas.Nat.{pow-add}
 use Rattle.std.proofs.lemmas.Nat.Bits.{bit_at-zero, bit_at_above, bit_at-trailing_zeros, bit_at-lt}
 use Rattle.std.proofs.Math.Nat.{div-div-eq-div-mul, div-le_self}
@@ -50,7 +50,7 @@ some_bit n i set =
 
 -- ---- marks
 
-mark_in : (words : List ℕ) (w b : ℕ) → b < 64 → mark_at words (64 * w + b) ≡ bit_at (slice_index words w) b
+pub mark_in : (words : List ℕ) (w b : ℕ) → b < 64 → mark_at words (64 * w + b) ≡ bit_at (slice_index words w) b
 mark_in words w b small =
     let q : (64 * w + b) / 64 ≡ w = omega arith in
     let r : (64 * w + b) % 64 ≡ b = omega arith in
@@ -80,14 +80,13 @@ some_within words w some =
       | inr past ↦ let none = get_or_past words w 0 past in absurd (omega arith)
     ]
 
--- the lowest bit of the word at w, read with any default
-pub lowest_read : (words : List ℕ) (w n : ℕ) → 0 < slice_index words w → n < 2 ^ 64 → n ≡ slice_index_or words w n → length words ≤ 2 ^ 58
-    → (64 * w + trailing_zeros w64 n < 2 ^ 64) × IsLowest (64 * w) (64 * w + trailing_zeros w64 n) words
-lowest_read words w n some small read few =
+-- the lowest bit of a word
+pub lowest_read : (words : List ℕ) (w : ℕ) → 0 < slice_index words w → slice_index words w < 2 ^ 64 → length words ≤ 2 ^ 58
+    → (64 * w + trailing_zeros w64 (slice_index words w) < 2 ^ 64) × IsLowest (64 * w) (64 * w + trailing_zeros w64 (slice_index words w)) words
+lowest_read words w some small few =
     let within = some_within words w some in
-    let same : n ≡ slice_index words w = read ∙ get_or_default words w n 0 within in
-    let bits = bit_at-trailing_zeros w64 n (rw same some) small in
-    (omega (arith, bits.0), rw same (lowest_of_word words w some (rw same at small)))
+    let bits = bit_at-trailing_zeros w64 (slice_index words w) some small in
+    (omega (arith, bits.0), lowest_of_word words w some small)
 
 -- no mark up to a word, nor in the word
 pub blank_more : (words : List ℕ) (a w : ℕ) → IsBlank a (64 * w) words → slice_index words w ≡ 0 → IsBlank a (64 * (w + 1)) words

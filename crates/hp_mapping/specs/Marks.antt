@@ -1,6 +1,7 @@
 -- Marks, 64 in a word: the mark of the number k is a bit of the word k / 64.
 use Rattle.std.specs.Prelude.{◌≡◌, ◌≢◌, ℕ, ◌*◌, ◌/◌, ◌%◌, ◌<◌, ◌≤◌, Bool, true, false, List, length, slice_index, slice_index_or}
 use Rattle.std.specs.Int.{bit_at}
+use Rattle.std.specs.List.{count_by}
 use Rattle.hp_model.specs.declared.place.Place.{Place}
 use Rattle.hp_model.specs.declared.place.Place.TheVariants.{Gone}
 use Rattle.hp_model.specs.files.Mapping.{is_live}
@@ -49,3 +50,8 @@ pub record IsPlaced (places : List (Place ℕ)) (live copies : List ℕ) : Type 
   pub copies_is : (k : ℕ) → mark_at copies k ≡ one_if (has_copy (slice_index_or places k Gone))
   pub live_room : length places ≤ 64 * length live
   pub copies_room : length places ≤ 64 * length copies
+
+-- and so many have a copy
+pub record AreCounted (count : ℕ) (places : List (Place ℕ)) (live copies : List ℕ) : Type 0 where
+  pub placed : IsPlaced places live copies
+  pub count_is : count ≡ count_by has_copy places

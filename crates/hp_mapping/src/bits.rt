@@ -1,5 +1,5 @@
 //! The bits of a word.
-ghost use Rattle.std.specs.Prelude.{◌≡◌, ◌≢◌, ℕ, ◌<◌, ◌≤◌, IfSome, IfNone};
+ghost use Rattle.std.specs.Prelude.{◌≡◌, ◌≢◌, ℕ, ◌-◌, ◌^◌, ◌<◌, ◌≤◌, IfSome, IfNone};
 ghost use Rattle.std.specs.Int.{bit_at};
 
 /// The word with this bit.
@@ -20,6 +20,14 @@ pub(crate) fn without_bit(word: u64, bit: usize) -> u64
     ensures fewer { result ≤ word }
 {
     word & !(1 << bit)
+}
+
+/// The word with the bits below this one, and no other.
+pub(crate) fn bits_below(bit: usize) -> u64
+    requires { bit < 64 }
+    ensures { result ≡ 2 ^ bit - 1 }
+{
+    (1 << bit) - 1
 }
 
 /// The lowest bit of the word that is not below `from`.

@@ -1,13 +1,15 @@
 //! The map.
-ghost use Rattle.std.specs.Prelude.{◌≡◌, ℕ, ◌+◌, ◌-◌, ◌<◌, ◌≤◌, true, false, length, replicate, IsTrue, IsSome, min, IfOk, IfSome, IfNone, None};
+ghost use Rattle.std.specs.Prelude.{◌≡◌, ℕ, ◌+◌, ◌-◌, ◌<◌, ◌≤◌, true, false, length, replicate, if◌then◌else◌, IsTrue, IsSome, min, IfOk, IfSome, IfNone, None};
+ghost use Rattle.std.specs.List.{count_by};
 ghost use Rattle.hp_model.specs.declared.place.Place.TheVariants.{Gone, Live};
-ghost use Rattle.hp_model.specs.files.Mapping.{place_at, is_live, is_mapped, is_shared, copy_of, without_copy, without_range, map_for};
+ghost use Rattle.hp_model.specs.files.Mapping.{place_at, is_live, is_mapped, is_shared, is_unconsumed, copy_of, without_copy, without_range, map_for};
 ghost use Rattle.hp_mapping.specs.Flags.{has_owner, has_unmapped, sharing_of};
-ghost use Rattle.hp_mapping.specs.Mapped.{at_place, consumed, with_copy, has_reserve, IsClear, reserves_in, TakesLowest};
+ghost use Rattle.hp_mapping.specs.Mapped.{at_place, consumed, with_copy, has_copy, has_reserve, IsClear, reserves_in, TakesLowest};
 
 use crate::flags::MapFlags;
 use crate::places::Places;
 use hp_model::page_no::PageNo;
+use hp_model::place::Place;
 use std::alloc::{AllocError, Global};
 use std::marker::Model;
 
@@ -128,6 +130,31 @@ impl Mapping {
         ensures { result ≡ self.now.unmapped }
     {
         self.flags.is_unmapped()
+    }
+
+    /// The places of the range, in order.
+    pub fn places(&self) -> &[Place<PageNo>]
+        ensures { result.now ≡ self.now.places }
+    {
+        self.places.as_slice()
+    }
+
+    /// How many copies the map has. No place is walked.
+    pub fn copy_count(&self) -> u64
+        ensures { result ≡ count_by has_copy self.now.places }
+    {
+        self.places.copy_count()
+    }
+
+    /// How many reservations the map holds itself. It takes a step for each place of an owner.
+    pub fn reserve_count(&self) -> u64
+        ensures { result ≡ (if self.now.owner then count_by is_unconsumed self.now.places else 0) }
+    {
+        if self.flags.is_owner() {
+            self.places.reserve_count() as u64
+        } else {
+            0
+        }
     }
 
     /// Whether an index is left in the map.

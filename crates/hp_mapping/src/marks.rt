@@ -42,11 +42,9 @@ impl Marks {
         ensures blank { IfOk result (λ m. IsBlankFrom count m) }
         ensures room { IfOk result (λ m. count ≤ 64 * length m) }
     {
-        let mut marks = Marks::new(alloc, count)?;
-        for at in 0..count {
-            marks.mark(at);
-        }
-        Ok(marks)
+        let words = Words::all(alloc, count)?;
+        let above = Words::all(alloc, count.div_ceil(64))?;
+        Ok(Marks { words, above })
     }
 
     /// The same marks in memory of their own.

@@ -4,7 +4,7 @@ ghost use Rattle.std.specs.List.{count_by, list_any};
 ghost use Rattle.hp_model.specs.declared.place.Place.TheVariants.{Gone, Live};
 ghost use Rattle.hp_model.specs.Lists.{edit_range, part};
 ghost use Rattle.hp_model.specs.files.Mapping.{is_live, copy_of, is_unconsumed, without_copy, unconsumed};
-ghost use Rattle.hp_mapping.specs.Mapped.{at_index, consumed, with_copy, HasNoCopy, IsGone};
+ghost use Rattle.hp_mapping.specs.Mapped.{at_index, consumed, has_copy, with_copy, HasNoCopy, IsGone};
 
 use crate::marks::Marks;
 use crate::place;
@@ -23,18 +23,20 @@ pub(crate) struct Places {
     places: Vec<Place<PageNo>>,
     live: Marks,
     copies: Marks,
+    // how many have a copy
+    copy_count: u64,
 }
 
 impl Model for Places {
     ghost use Rattle.std.specs.Prelude.{ℕ, List};
     ghost use Rattle.hp_model.specs.declared.place.Place.{Place};
-    ghost use Rattle.hp_mapping.specs.Marks.{IsPlaced};
+    ghost use Rattle.hp_mapping.specs.Marks.{AreCounted};
 
     ghost Value = { List (Place ℕ) };
 
     ghost view = { λ p. p.places.items };
 
-    ghost invariant = { λ p. IsPlaced p.places.items p.live p.copies };
+    ghost invariant = { λ p. AreCounted p.copy_count p.places.items p.live p.copies };
 }
 
 impl Places {
@@ -49,6 +51,7 @@ impl Places {
             places,
             live,
             copies,
+            copy_count: 0,
         })
     }
 
@@ -63,6 +66,7 @@ impl Places {
             places,
             live,
             copies,
+            copy_count: self.copy_count,
         })
     }
 
@@ -70,6 +74,27 @@ impl Places {
         ensures { result ≡ length self.now }
     {
         self.places.len()
+    }
+
+    pub(crate) fn as_slice(&self) -> &[Place<PageNo>]
+        ensures { result.now ≡ self.now }
+    {
+        self.places.as_slice()
+    }
+
+    /// How many have a copy. No place is walked.
+    pub(crate) fn copy_count(&self) -> u64
+        ensures { result ≡ count_by has_copy self.now }
+    {
+        self.copy_count
+    }
+
+    /// How many reservations are there. It takes a step for each place.
+    pub(crate) fn reserve_count(&self) -> usize
+        ensures { result ≡ count_by is_unconsumed self.now }
+    {
+        let places = self.places.as_slice();
+        places.iter().filter(|p| place::is_unconsumed(p)).count()
     }
 
     pub(crate) fn is_live(&self, at: usize) -> bool
@@ -116,7 +141,9 @@ impl Places {
         requires { IsTrue (is_live (slice_index_or self.old at Gone)) }
         ensures { self.new ≡ at_index (with_copy page) at self.old }
     {
-        place::set_copy(&mut self.places[at], page);
+        let place = &mut self.places[at];
+        self.copy_count += u64::from(place::copy(place).is_none());
+        place::set_copy(place, page);
         self.copies.mark(at);
     }
 
@@ -126,6 +153,7 @@ impl Places {
     {
         place::drop_copy(&mut self.places[at]);
         self.copies.unmark(at);
+        self.copy_count -= 1;
     }
 
     /// The lowest place from `from` up to `to` that has a copy.

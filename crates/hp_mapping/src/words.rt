@@ -1,15 +1,16 @@
 //! Marks in words.
-ghost use Rattle.std.specs.Prelude.{◌≡◌, ℕ, ◌+◌, ◌*◌, ◌/◌, ◌<◌, ◌≤◌, ◌↔◌, length, slice_index, IsTrue, IfOk, IfSome, IfNone};
+ghost use Rattle.std.specs.Prelude.{◌≡◌, ℕ, ◌+◌, ◌*◌, ◌/◌, ◌<◌, ◌≤◌, ◌↔◌, length, slice_index, slice_set, IsTrue, IfOk, IfSome, IfNone};
 ghost use Rattle.hp_mapping.specs.Marks.{mark_at, IsBlank, IsBlankFrom, IsLowest, ChangesMark, KeepsWords};
 
-use crate::bits::{lowest_from, with_bit, without_bit};
+use crate::bits::{bits_below, lowest_from, with_bit, without_bit};
+use smallvec::SmallVec;
 use std::alloc::{AllocError, Global};
 use std::marker::Model;
 
-/// A mark for each number below a limit, 64 in a word. Contracts see the words.
+/// A mark for each number below a limit, 64 in a word. One word needs no memory of its own. Contracts see the words.
 #[derive(Drop)]
 pub(crate) struct Words {
-    words: Vec<u64>,
+    words: SmallVec<u64, 1>,
 }
 
 impl Model for Words {
@@ -29,15 +30,36 @@ impl Words {
         ensures zero { IfOk result (λ m. (w : ℕ) → slice_index m w ≡ 0) }
         ensures room { IfOk result (λ m. count ≤ 64 * length m) }
     {
-        let words = vec![in alloc; 0u64; count / 64 + 1]?;
+        let words = SmallVec::from_elem(alloc, 0, count / 64 + 1)?;
         Ok(Words { words })
+    }
+
+    /// Words for the numbers below `count`, which all have a mark.
+    pub(crate) fn all(alloc: Global, count: usize) -> Result<Self, AllocError>
+        ensures marked { IfOk result (λ m. (k : ℕ) → k < count → mark_at m k ≡ 1) }
+        ensures blank { IfOk result (λ m. IsBlankFrom count m) }
+        ensures zero { IfOk result (λ m. (w : ℕ) → count ≤ 64 * w → slice_index m w ≡ 0) }
+        ensures len { IfOk result (λ m. length m ≡ count / 64 + 1) }
+    {
+        let words = SmallVec::from_elem(alloc, u64::MAX, count / 64 + 1)?;
+        let mut all = Words { words };
+        all.set_word(count / 64, bits_below(count % 64));
+        Ok(all)
+    }
+
+    // A word is another.
+    fn set_word(&mut self, at: usize, word: u64)
+        requires { at < length self.old }
+        ensures { self.new ≡ slice_set self.old at word }
+    {
+        self.words.as_mut_slice()[at] = word;
     }
 
     /// The same marks in words of their own.
     pub(crate) fn copied(&self) -> Result<Self, AllocError>
         ensures { IfOk result (λ m. m ≡ self.now) }
     {
-        let words = self.words.clone()?;
+        let words = SmallVec::from_slice(*self.words.allocator(), self.words.as_slice())?;
         Ok(Words { words })
     }
 
@@ -54,7 +76,7 @@ impl Words {
         ensures some { 0 < slice_index self.new (at / 64) }
         ensures kept { KeepsWords (at / 64) self.old self.new }
     {
-        let word = &mut self.words[at / 64];
+        let word = &mut self.words.as_mut_slice()[at / 64];
         *word = with_bit(*word, at % 64);
     }
 
@@ -66,7 +88,7 @@ impl Words {
         ensures fewer { slice_index self.new (at / 64) ≤ slice_index self.old (at / 64) }
         ensures kept { KeepsWords (at / 64) self.old self.new }
     {
-        let word = &mut self.words[at / 64];
+        let word = &mut self.words.as_mut_slice()[at / 64];
         *word = without_bit(*word, at % 64);
         *word == 0
     }
@@ -77,7 +99,7 @@ impl Words {
         ensures none { IfNone result (IsBlank from (64 * (from / 64) + 64) self.now) }
     {
         let index = from / 64;
-        let word = *self.words.get(index)?;
+        let word = *self.words.as_slice().get(index)?;
         let bit = lowest_from(word, from % 64)?;
         Some(64 * index + bit)
     }
@@ -87,7 +109,7 @@ impl Words {
         requires { 0 < slice_index self.now word }
         ensures lowest { IsLowest (64 * word) result self.now }
     {
-        let bit = self.words[word].trailing_zeros() as usize;
+        let bit = self.words.as_slice()[word].trailing_zeros() as usize;
         64 * word + bit
     }
 
@@ -99,8 +121,9 @@ impl Words {
         if let Some(at) = self.next_in_word(from) {
             return Some(at);
         }
-        for word in from / 64 + 1..self.words.len() {
-            if self.words[word] != 0 {
+        let words = self.words.as_slice();
+        for word in from / 64 + 1..words.len() {
+            if words[word] != 0 {
                 return Some(self.lowest_in(word));
             }
         }

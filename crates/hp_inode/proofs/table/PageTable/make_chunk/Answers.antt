@@ -18,4 +18,4 @@ returns-clause-pages c k =
     let none : length c.index.result.now ≡ 0 = eqb-true _ _ (sym c.if-not-is_empty.ensures.empty) in
     let empty = read_empty rows c.args.at c.index.result.now lt c.index.ensures none in
     page_in_made rows c.args.at c.in_ok-self-inside.field-0 lt empty c.in_ok-self-inside.ensures k
-    ∙ ap (λ r. get_or r (k % 512) None) (ap (λ rs. get_or rs (k / 512) []) c.self-2.view_is ∙ c.loop-self.invariant (k / 512))
+    ∙ ap (λ r. get_or r (k % 64) None) (ap (λ rs. get_or rs (k / 64) []) c.self-2.view_is ∙ c.loop-self.invariant (k / 64))

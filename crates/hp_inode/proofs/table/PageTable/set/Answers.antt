@@ -10,7 +10,7 @@ invariant_of-self c =
     let rows = c.self.inside.chunks.items in
     let slot : has_slot rows c.args.i ≡ true = rw c.self.view_is c.requires in
     let there = chunk_there rows c.args.i c.args.page c.set.new.self c.index_mut.result.now slot c.index_mut.ensures.value c.set.ensures in
-    let same : c.index.result.now ≡ c.set.new.self = c.index.ensures ∙ get_or-set_same rows (c.args.i / 512) c.set.new.self c.index.result.now there in
+    let same : c.index.result.now ≡ c.set.new.self = c.index.ensures ∙ get_or-set_same rows (c.args.i / 64) c.set.new.self c.index.result.now there in
     let long : length c.set_mark.new.words ≡ length c.self.inside.marks.items = search rules in
     rw (written_back c.self.inside.marks.items c.set_mark.new.words c.self.inside.marks.len long (search rules))
     (table_set rows c.args.i c.args.page c.set.new.self c.index_mut.result.now slot c.index_mut.ensures.value c.set.ensures c.self.inside.marks.items c.set_mark.new.words c.has_page-some.result c.self.invariant long c.set_mark.ensures.here
