@@ -26,11 +26,12 @@ use Rattle.hp_mount_files.specs.Held.{in_cell, in_file, in_files, in_map, in_pla
 use Rattle.hp_mount_files.specs.Hints.{AreNoted, IsFiles, Noted, has_key, is_pair}
 use Rattle.hp_mount_files.specs.Keyed.{Label, is_listed, key_of, keys_in, label_of, labels_of, maps_for}
 use Rattle.hp_mount_files.specs.Level.{AreLevel}
-use Rattle.hp_mount_files.specs.Leaving.{IsMoreButMap, cut_at, cut_map, file_owed, is_used, left_from, map_sum, owed, stays, swept_at}
+use Rattle.hp_mount_files.specs.Leaving.{IsMoreButMap, cut_map, file_owed, is_used, left_at, left_from, map_sum, owed, stays, swept_at}
 use Rattle.hp_mount_files.specs.Numbered.{NumberedFile, file_shown, files_shown, map_shown, mapping_at, no_mapping, numbered_at, place_shown}
 use Rattle.hp_mount_files.specs.Places.{IsFound, mount_with, spot_of}
 use Rattle.hp_mount_files.proofs.Cells.{file_is, no_file}
 use Rattle.hp_mount_files.proofs.Drops.{drop_as, drop_then}
+use Rattle.hp_mount_files.proofs.Ended.{removed_set}
 use Rattle.hp_mount_files.proofs.Exiting.{keys_are, maps_in}
 use Rattle.hp_mount_files.proofs.FileLeaves.{empty_file}
 use Rattle.hp_mount_files.proofs.Finding.{any_shown}
@@ -86,23 +87,6 @@ spot_passes m test s e = by (found (λ (f : File). list_any test f.maps) m.files
     by : (o : Option (ℕ × File)) → (elim o [ None ↦ None | Some f ↦ option_map (spot_in f) (found test f.1.maps) ]) ≡ Some s → test s.map ≡ true
     by None e = cc
     by (Some f) e = of_map f (found test f.1.maps) refl e
-
--- ---- a map that has no index left
-
-bare_places : (c : Place ℕ → ℕ) → c Gone ≡ 0 → (ps : List (Place ℕ)) → list_any is_live ps ≡ false → sum_by c ps ≡ 0
-bare_places c none [] e = refl
-bare_places c none (Gone ∷ ps) e = (let rest = bare_places c none ps e in omega (arith, none, rest, sum_by-cons c Gone ps))
-bare_places c none (Live t o ∷ ps) e = cc
-
-bare_holds : (n : ℕ) (m : Mapping ℕ) → is_mapped m ≡ false → in_map n m ≡ 0
-bare_holds n m e = bare_places (in_place n) refl m.places e
-
-bare_owes : (m : Mapping ℕ) → is_mapped m ≡ false → owed m ≡ 0
-bare_owes m e = either m.owner
-  where
-    either : (t : Bool) → cond t (count_by is_unconsumed m.places) 0 ≡ 0
-    either true = bare_places (λ (p : Place ℕ). cond {A = ℕ} (is_unconsumed p) 1 0) refl m.places e
-    either false = refl
 
 -- ---- a file that loses indices of one map
 
@@ -199,9 +183,9 @@ module _ (task number a b : ℕ) where
               either true = refl
               either false = refl
 
--- ---- as code leaves the files: x is the file that it read, y what it left there once indices of the map went
+-- ---- as code leaves the files: x is the file that it read, y what it left there once indices of the map went, and the map with its last one
 
-module _ (n later : Noted) (s t : Store) (more now maps : ℕ) (tally : ℕ → ℕ) (fs : List NumberedFile) (is : IsFiles n s more maps tally fs) (task number a b : ℕ) (k j : ℕ) (there : IsFound (files_shown s fs) task number k j) (x y : NumberedFile) (read : x ≡ slice_index_or fs k x) (y_is : y ≡ cut_at j a b x)
+module _ (n later : Noted) (s t : Store) (more now maps : ℕ) (tally : ℕ → ℕ) (fs : List NumberedFile) (is : IsFiles n s more maps tally fs) (task number a b : ℕ) (k j : ℕ) (there : IsFound (files_shown s fs) task number k j) (x y : NumberedFile) (read : x ≡ slice_index_or fs k x) (y_is : y ≡ left_at j a b x)
     (drops : IsDropping (λ m. in_file m x) (λ m. in_file m y) s t) (r : ℕ) (reserves : r + file_owed y ≡ file_owed x) where
   g : NumberedFile → NumberedFile
   g = left_from task number a b
@@ -299,9 +283,8 @@ module _ (n later : Noted) (s t : Store) (more now maps : ℕ) (tally : ℕ → 
           let inside : i < length (labels_of fs) = omega (arith, li, long) in
           sym (used_label (numbered_at fs i)) ∙ ap is_listed (sym (get_or-map label_of fs i no_file (label_of no_file) li)) ∙ is.keyed.kept i (label_of no_file) inside
 
-  -- the map as it is read afterwards
-  pub read_again : (w : Mapping ℕ) → w ≡ slice_index_or y.maps j w → is_mapped z ≡ is_mapped w
-  read_again w w_is = sym (ap is_mapped (w_is ∙ ap (λ (f : NumberedFile). slice_index_or f.maps j w) y_is ∙ get_or-set_same x.maps j z w jl))
+  y_left : g x ≡ y
+  y_left = g_is ∙ sym y_is
 
   x_used : is_used x ≡ true
   x_used = some (is_some x.name) (length x.maps) (omega (arith, jl))
@@ -316,11 +299,11 @@ module _ (n later : Noted) (s t : Store) (more now maps : ℕ) (tally : ℕ → 
     abbrev hs : List NumberedFile
     hs = slice_set fs k y
 
-    y_left : g x ≡ y
-    y_left = g_is ∙ ap (λ c. record x { maps = cond c (slice_set x.maps j z) (remove x.maps j) }) mapped ∙ sym y_is
+    y_set : y ≡ record x { maps = slice_set x.maps j z }
+    y_set = y_is ∙ ap (λ c. record x { maps = cond c (slice_set x.maps j z) (remove x.maps j) }) mapped
 
     y_used : is_used y ≡ true
-    y_used = ap is_used y_is ∙ ap (λ i. is_some x.name || nat_lt 0 i) (length-set x.maps j z) ∙ x_used
+    y_used = ap is_used y_set ∙ ap (λ i. is_some x.name || nat_lt 0 i) (length-set x.maps j z) ∙ x_used
 
     hs_is : hs ≡ filter is_used (map g fs)
     hs_is = sym (left_files ∙ ap (λ f. cond (is_used f) (slice_set fs k f) (remove fs k)) y_left ∙ ap (λ c. cond c (slice_set fs k y) (remove fs k)) y_used)
@@ -339,7 +322,7 @@ module _ (n later : Noted) (s t : Store) (more now maps : ℕ) (tally : ℕ → 
         (let step = sum_by-set file_owed fs k y no_file l in let was = ap file_owed x_is in omega (arith, step, was, reserves))
 
     same_keys : label_of y ≡ label_of x
-    same_keys = ap label_of y_is ∙ same_label x j z refl
+    same_keys = ap label_of y_set ∙ same_label x j z refl
 
     pub stays_keeps : IsFiles n t now maps tally hs
     unfolding g
@@ -350,72 +333,45 @@ module _ (n later : Noted) (s t : Store) (more now maps : ℕ) (tally : ℕ → 
 
   -- ---- no index is left: u is the store, and hs are the files, once the file went if nothing is left of it
 
-  module _ (mapped : is_mapped z ≡ false) (rest : NumberedFile) (rest_is : rest ≡ record y { maps = remove y.maps j }) where
+  module _ (mapped : is_mapped z ≡ false) where
     abbrev gs : List NumberedFile
-    gs = slice_set fs k rest
+    gs = slice_set fs k y
 
-    removed_set : {X : Type 0} (xs : List X) (i : ℕ) (v : X) → remove (slice_set xs i v) i ≡ remove xs i
-    removed_set [] i v = refl
-    removed_set (x ∷ xs) zero v = refl
-    removed_set (x ∷ xs) (suc i) v = ap (λ ys. x ∷ ys) (removed_set xs i v)
-
-    rest_left : g x ≡ rest
-    rest_left =
-        g_is ∙ ap (λ c. record x { maps = cond c (slice_set x.maps j z) (remove x.maps j) }) mapped ∙ ap (λ ms. record x { maps = ms }) (sym (removed_set x.maps j z))
-        ∙ sym (rest_is ∙ ap (λ (f : NumberedFile). record f { maps = remove f.maps j }) y_is)
-
-    -- what is counted of the file does not go with the map
-    rest_sum : (c : Mapping ℕ → ℕ) → c z ≡ 0 → sum_by c rest.maps ≡ sum_by c y.maps
-    rest_sum c none =
-        let long = length-set x.maps j z in
-        let step = sum_by-remove c (slice_set x.maps j z) j no_mapping (omega (arith, jl, long)) in
-        let here = ap c (get_or-set_same x.maps j z no_mapping jl) in
-        let left = ap (λ (f : NumberedFile). sum_by c f.maps) (rest_is ∙ ap (λ (f : NumberedFile). record f { maps = remove f.maps j }) y_is) in
-        let was = ap (λ (f : NumberedFile). sum_by c f.maps) y_is in
-        omega (arith, step, here, left, was, none)
-
-    cells_same : rest.cells ≡ y.cells
-    cells_same = ap (λ (f : NumberedFile). f.cells) rest_is
-
-    rest_holds : (i : ℕ) → in_file i rest ≡ in_file i y
-    rest_holds i = (let maps = rest_sum (in_map i) (bare_holds i z mapped) in let cells = ap (sum_by (in_cell i)) cells_same in omega (arith, maps, cells))
-
-    rest_owes : file_owed rest ≡ file_owed y
-    rest_owes = (let maps = rest_sum owed (bare_owes z mapped) in let cells = ap (count_by is_waiting) cells_same in omega (arith, maps, cells))
+    y_removed : y ≡ record x { maps = remove x.maps j }
+    y_removed = y_is ∙ ap (λ c. record x { maps = cond c (slice_set x.maps j z) (remove x.maps j) }) mapped
 
     pub enough_held : (i : ℕ) → in_files i gs ≤ holders_of (page_at t i)
     enough_held i =
         let had = is.held.held i in
         let went = drops.held i in
-        let step = sum_by-set (in_file i) fs k rest no_file l in
+        let step = sum_by-set (in_file i) fs k y no_file l in
         let was = ap (in_file i) x_is in
-        let same = rest_holds i in
-        omega (arith, had, went, step, was, same)
+        omega (arith, had, went, step, was)
 
-    rest_maps : map_sum gs + 1 ≡ map_sum fs
-    rest_maps =
-        let step = sum_by-set (λ (f : NumberedFile). length f.maps) fs k rest no_file l in
+    fewer_maps : map_sum gs + 1 ≡ map_sum fs
+    fewer_maps =
+        let step = sum_by-set (λ (f : NumberedFile). length f.maps) fs k y no_file l in
         let was = ap (λ (f : NumberedFile). length f.maps) x_is in
-        let left = ap (λ (f : NumberedFile). length f.maps) (sym rest_left ∙ g_is ∙ ap (λ c. record x { maps = cond c (slice_set x.maps j z) (remove x.maps j) }) mapped) in
+        let left = ap (λ (f : NumberedFile). length f.maps) y_removed in
         let fewer = length-remove x.maps j jl in
         omega (arith, step, was, left, fewer)
 
     pub some_maps : 1 ≤ maps
-    some_maps = (let left = rest_maps in let all = is.keyed.map_count in let same = maps_in fs in omega (arith, left, all, same))
+    some_maps = (let left = fewer_maps in let all = is.keyed.map_count in let same = maps_in fs in omega (arith, left, all, same))
 
     module _ (u : Store) (last : ℕ) (hs : List NumberedFile) (hs_from : hs ≡ swept_at k gs) (after : IsDropping (λ i. in_files i gs) (λ i. in_files i hs) t u) (counted : last ≡ more_in u.pages) (e : ℕ) (entries : e + sum_by file_owed hs ≡ sum_by file_owed gs)
         (small : sum_by file_owed fs < 2 ^ 64) where
       went_is : hs ≡ filter is_used (map g fs)
       went_is =
-          hs_from ∙ ap (λ f. cond (is_used f) gs (remove gs k)) (get_or-set_same fs k rest no_file l) ∙ ap (cond (is_used rest) gs) (removed_set fs k rest)
-          ∙ sym (left_files ∙ ap (λ f. cond (is_used f) (slice_set fs k f) (remove fs k)) rest_left)
+          hs_from ∙ ap (λ f. cond (is_used f) gs (remove gs k)) (get_or-set_same fs k y no_file l) ∙ ap (cond (is_used y) gs) (removed_set fs k y)
+          ∙ sym (left_files ∙ ap (λ f. cond (is_used f) (slice_set fs k f) (remove fs k)) y_left)
 
       went_dropping : IsDropping (λ i. in_files i fs) (λ i. in_files i hs) s u
       went_dropping = drop_then (λ i. in_file i x) (λ i. in_file i y) (λ i. in_files i gs) (λ i. in_files i hs) (λ i. in_files i fs) (λ i. in_files i hs) s t u drops after
-          (λ i. (let step = sum_by-set (in_file i) fs k rest no_file l in let was = ap (in_file i) x_is in let same = rest_holds i in omega (arith, step, was, same)))
+          (λ i. (let step = sum_by-set (in_file i) fs k y no_file l in let was = ap (in_file i) x_is in omega (arith, step, was)))
 
       owed_all : r + e + sum_by file_owed hs ≡ sum_by file_owed fs
-      owed_all = (let step = sum_by-set file_owed fs k rest no_file l in let was = ap file_owed x_is in let same = rest_owes in omega (arith, step, was, same, entries, reserves))
+      owed_all = (let step = sum_by-set file_owed fs k y no_file l in let was = ap file_owed x_is in omega (arith, step, was, entries, reserves))
 
       pub few_reserves : r + e < 2 ^ 64
       few_reserves = (let all = owed_all in omega (arith, all, small))
@@ -431,23 +387,23 @@ module _ (n later : Noted) (s t : Store) (more now maps : ℕ) (tally : ℕ → 
       -- a file that goes has no map
       hs_sum : (c : NumberedFile → ℕ) → ((f : NumberedFile) → is_used f ≡ false → c f ≡ 0) → sum_by c hs ≡ sum_by c gs
       hs_sum c none =
-          let same = ap (sum_by c) (hs_from ∙ ap (λ f. cond (is_used f) gs (remove gs k)) (get_or-set_same fs k rest no_file l)) in
-          same ∙ by (is_used rest) refl
+          let same = ap (sum_by c) (hs_from ∙ ap (λ f. cond (is_used f) gs (remove gs k)) (get_or-set_same fs k y no_file l)) in
+          same ∙ by (is_used y) refl
         where
-          by : (t : Bool) → is_used rest ≡ t → sum_by c (cond t gs (remove gs k)) ≡ sum_by c gs
+          by : (t : Bool) → is_used y ≡ t → sum_by c (cond t gs (remove gs k)) ≡ sum_by c gs
           by true is = refl
           by false is =
-              let long = length-set fs k rest in
+              let long = length-set fs k y in
               let step = sum_by-remove c gs k no_file (omega (arith, l, long)) in
-              let here = ap c (get_or-set_same fs k rest no_file l) in
-              let zero_here = none rest is in
+              let here = ap c (get_or-set_same fs k y no_file l) in
+              let zero_here = none y is in
               omega (arith, step, here, zero_here)
 
       maps_left : maps - 1 ≡ sum_by (λ (q : Label). length q.keys) (labels_of hs)
       maps_left =
           let left = maps_in hs in
           let same = hs_sum (λ (f : NumberedFile). length f.maps) (λ f out. ap length (empty_file f out).0) in
-          let one = rest_maps in
+          let one = fewer_maps in
           let all = is.keyed.map_count in
           let was = maps_in fs in
           omega (arith, left, same, one, all, was)
@@ -457,13 +413,13 @@ module _ (n later : Noted) (s t : Store) (more now maps : ℕ) (tally : ℕ → 
       tally_left q =
           let through = sum_through (maps_for q) label_of hs in
           let same = hs_sum (λ (f : NumberedFile). maps_for q (label_of f)) (λ f out. ap (λ ms. maps_for q (record { name = None; keys = map key_of ms })) (empty_file f out).0) in
-          let step = sum_by-set (λ (f : NumberedFile). maps_for q (label_of f)) fs k rest no_file l in
+          let step = sum_by-set (λ (f : NumberedFile). maps_for q (label_of f)) fs k y no_file l in
           let was = is.keyed.tallied q in
           let before = sum_through (maps_for q) label_of fs in
           let here = ap (λ (f : NumberedFile). maps_for q (label_of f)) x_is in
           let all = own_maps q x in
-          let left = own_maps q rest in
-          let bare = ap (λ (f : NumberedFile). count_by (is_of q) f.maps) (sym rest_left ∙ g_is ∙ ap (λ c. record x { maps = cond c (slice_set x.maps j z) (remove x.maps j) }) mapped) in
+          let left = own_maps q y in
+          let bare = ap (λ (f : NumberedFile). count_by (is_of q) f.maps) y_removed in
           let fewer = sum_by-remove (λ (m : Mapping ℕ). cond {A = ℕ} (is_of q m) 1 0) x.maps j no_mapping jl in
           let its = ap (λ i. cond {A = ℕ} (i == q) 1 0 + 0) (eqb-true m.task task (and_parts (m.task == task) (m.number == number) m_is).0) in
           omega (arith, through, same, step, was, before, here, all, left, bare, fewer, its)
@@ -476,13 +432,13 @@ module _ (n later : Noted) (s t : Store) (more now maps : ℕ) (tally : ℕ → 
       keys_gone =
           let through = sum_through (keys_in task number) label_of hs in
           let same = hs_sum count (λ f out. keys_are task task number f ∙ ap (count_by (is_map task number)) (empty_file f out).0) in
-          let step = sum_by-set count fs k rest no_file l in
+          let step = sum_by-set count fs k y no_file l in
           let all = few in
           let here = one_here in
           let was = count_here in
           let one = one_map in
-          let left = keys_are task task number rest in
-          let bare = ap (λ (f : NumberedFile). count_by (is_map task number) f.maps) (sym rest_left ∙ g_is ∙ ap (λ c. record x { maps = cond c (slice_set x.maps j z) (remove x.maps j) }) mapped) in
+          let left = keys_are task task number y in
+          let bare = ap (λ (f : NumberedFile). count_by (is_map task number) f.maps) y_removed in
           let fewer = sum_by-remove (λ (q : Mapping ℕ). cond {A = ℕ} (is_map task number q) 1 0) x.maps j no_mapping jl in
           let own = ap (λ c. cond {A = ℕ} c 1 0 + 0) m_is in
           omega (arith, through, same, step, all, here, was, one, left, bare, fewer, own)

@@ -57,6 +57,12 @@ left_from task number a b f = record f { maps = filter (stays task number) (map 
 abbrev pub cut_at : (map a b : ℕ) → NumberedFile → NumberedFile
 cut_at map a b f = record f { maps = slice_set f.maps map (without_range a b (mapping_at f map)) }
 
+-- and is gone if it has none left
+abbrev pub left_at : (map a b : ℕ) → NumberedFile → NumberedFile
+left_at map a b f =
+    let m = without_range a b (mapping_at f map) in
+    record f { maps = if is_mapped m then slice_set f.maps map m else remove f.maps map }
+
 -- the files without the one at a place, if that has neither name nor maps
 abbrev pub swept_at : ℕ → List NumberedFile → List NumberedFile
 swept_at k fs = if is_used (numbered_at fs k) then fs else remove fs k

@@ -7,7 +7,7 @@ ghost use Rattle.hp_mapping.specs.Mapped.{reserves_in};
 ghost use Rattle.hp_model.specs.Lists.{edit_range};
 ghost use Rattle.hp_store.specs.Store.{dropped, holders_of, page_at};
 ghost use Rattle.hp_mount_files.specs.Dropping.{HasHolders, IsDropping};
-ghost use Rattle.hp_mount_files.specs.Held.{in_cell, in_map, more_in};
+ghost use Rattle.hp_mount_files.specs.Held.{in_cell, in_map, in_place, more_in};
 ghost use Rattle.hp_mount_files.specs.Numbered.{no_mapping};
 ghost use Rattle.hp_mount_files.specs.Taking.{robbed_at};
 ghost use Rattle.hp_mount_files.specs.Leaving.{IsMoreButTask, ended_for, owed};
@@ -17,6 +17,7 @@ use hp_inode::Inode;
 use hp_mapping::Mapping;
 use hp_model::naming::Naming;
 use hp_model::page_no::PageNo;
+use hp_model::place::Place;
 use hp_store::PageStore;
 
 /// A holder of a page goes, and with its last one the page. `more` counts holders beyond the first of each page.
@@ -51,6 +52,40 @@ pub(crate) fn drop_pages<N: Naming>(
 {
     while let Some(number) = inode.take_page(a, b) {
         drop_holder(number, store, more);
+    }
+}
+
+// A place's copy goes.
+fn drop_place<N: Naming>(place: &Place<PageNo>, store: &mut PageStore<N>, more: &mut usize)
+    requires held { (n : ℕ) → in_place n place.now ≤ holders_of (page_at store.old n) }
+    requires some { HasHolders store.old }
+    requires counted { more.old ≡ more_in store.old.pages }
+    ensures dropping { IsDropping (λ n. in_place n place.now) (λ n. 0) store.old store.new }
+    ensures counted { more.new ≡ more_in store.new.pages }
+{
+    if let Place::Live {
+        consumed: _,
+        copy: Some(number),
+    } = place
+    {
+        drop_holder(*number, store, more);
+    }
+}
+
+/// The copies of some places go. It takes a step for each place.
+pub(crate) fn drop_places<N: Naming>(
+    places: &[Place<PageNo>],
+    store: &mut PageStore<N>,
+    more: &mut usize,
+)
+    requires held { (n : ℕ) → sum_by (in_place n) places.now ≤ holders_of (page_at store.old n) }
+    requires some { HasHolders store.old }
+    requires counted { more.old ≡ more_in store.old.pages }
+    ensures dropping { IsDropping (λ n. sum_by (in_place n) places.now) (λ n. 0) store.old store.new }
+    ensures counted { more.new ≡ more_in store.new.pages }
+{
+    for place in places {
+        drop_place(place, store, more);
     }
 }
 

@@ -1,31 +1,19 @@
 //! A child's maps.
 ghost use Rattle.std.specs.Prelude.{◌≡◌, ◌==◌, if◌then◌else◌, ℕ, ◌+◌, ◌-◌, ◌<◌, ◌≤◌, ◌^◌, length, vec_capacity, IfOk};
-ghost use Rattle.std.specs.List.{sum_by};
+ghost use Rattle.std.specs.List.{count_by, sum_by};
+ghost use Rattle.hp_mapping.specs.Mapped.{has_copy};
 ghost use Rattle.hp_store.specs.Store.{holders_of, page_at};
 ghost use Rattle.hp_mount_files.specs.Dropping.{HasHolders};
 ghost use Rattle.hp_mount_files.specs.Forking.{IsSharing, children_of, copies_in};
-ghost use Rattle.hp_mount_files.specs.Held.{in_map, more_in};
+ghost use Rattle.hp_mount_files.specs.Held.{in_map, in_place, more_in};
 
 use crate::tags::Tags;
 use hp_mapping::Mapping;
 use hp_model::naming::Naming;
 use hp_model::page_no::PageNo;
+use hp_model::place::Place;
 use hp_store::PageStore;
 use std::alloc::{AllocError, Global};
-
-/// How many copies a map has. It takes a step for each.
-pub(crate) fn copy_count(map: &Mapping) -> u64
-    ensures { result ≡ copies_in map.now }
-{
-    let mut count = 0;
-    let mut from = map.start();
-    let end = map.end();
-    while let Some(at) = map.lowest_copy(from, end) {
-        count += 1;
-        from = at + 1;
-    }
-    count
-}
 
 // A page has a holder more.
 fn add_holder<N: Naming>(number: PageNo, store: &mut PageStore<N>, more: &mut usize)
@@ -41,22 +29,37 @@ fn add_holder<N: Naming>(number: PageNo, store: &mut PageStore<N>, more: &mut us
     *more += 1;
 }
 
-/// Each copy of a map has a holder more. It takes a step for each.
-pub(crate) fn share_copies<N: Naming>(map: &Mapping, store: &mut PageStore<N>, more: &mut usize)
-    requires held { (n : ℕ) → in_map n map.now ≤ holders_of (page_at store.old n) }
+// A place's copy has a holder more.
+fn share_place<N: Naming>(place: &Place<PageNo>, store: &mut PageStore<N>, more: &mut usize)
+    requires held { (n : ℕ) → in_place n place.now ≤ holders_of (page_at store.old n) }
     requires some { HasHolders store.old }
     requires counted { more.old ≡ more_in store.old.pages }
-    requires few { more.old + copies_in map.now ≤ 2 ^ 32 }
-    ensures sharing { IsSharing (λ n. in_map n map.now) store.old store.new }
+    requires few { more.old + (if has_copy place.now then 1 else 0) ≤ 2 ^ 32 }
+    ensures sharing { IsSharing (λ n. in_place n place.now) store.old store.new }
     ensures counted { more.new ≡ more_in store.new.pages }
-    ensures more { more.new ≡ more.old + copies_in map.now }
+    ensures more { more.new ≡ more.old + (if has_copy place.now then 1 else 0) }
 {
-    let mut from = map.start();
-    let end = map.end();
-    while let Some(at) = map.lowest_copy(from, end) {
-        let number = map.copy_at(at).unwrap();
-        add_holder(number, store, more);
-        from = at + 1;
+    if let Place::Live {
+        consumed: _,
+        copy: Some(number),
+    } = place
+    {
+        add_holder(*number, store, more);
+    }
+}
+
+/// Each copy of some places has a holder more. It takes a step for each place.
+fn share_places<N: Naming>(places: &[Place<PageNo>], store: &mut PageStore<N>, more: &mut usize)
+    requires held { (n : ℕ) → sum_by (in_place n) places.now ≤ holders_of (page_at store.old n) }
+    requires some { HasHolders store.old }
+    requires counted { more.old ≡ more_in store.old.pages }
+    requires few { more.old + count_by has_copy places.now ≤ 2 ^ 32 }
+    ensures sharing { IsSharing (λ n. sum_by (in_place n) places.now) store.old store.new }
+    ensures counted { more.new ≡ more_in store.new.pages }
+    ensures more { more.new ≡ more.old + count_by has_copy places.now }
+{
+    for place in places {
+        share_place(place, store, more);
     }
 }
 
@@ -66,12 +69,12 @@ pub(crate) fn copies_of(maps: &[Mapping]) -> u64
 {
     let mut count: u64 = 0;
     for map in maps {
-        count = count.saturating_add(copy_count(map));
+        count = count.saturating_add(map.copy_count());
     }
     count
 }
 
-/// Each copy of some maps has a holder more. It takes a step for each map and copy.
+/// Each copy of some maps has a holder more. It takes a step for each map and each place of one that has copies.
 pub(crate) fn share_all<N: Naming>(maps: &[Mapping], store: &mut PageStore<N>, more: &mut usize)
     requires held { (n : ℕ) → sum_by (in_map n) maps.now ≤ holders_of (page_at store.old n) }
     requires some { HasHolders store.old }
@@ -82,7 +85,7 @@ pub(crate) fn share_all<N: Naming>(maps: &[Mapping], store: &mut PageStore<N>, m
     ensures more { more.new ≡ more.old + sum_by copies_in maps.now }
 {
     for map in maps {
-        share_copies(map, store, more);
+        share_places(map.places(), store, more);
     }
 }
 

@@ -24,7 +24,7 @@ impl File {
     ) -> Result<Vec<Mapping>, AllocError>
         ensures { IfOk result (IsReady parent child self.now) }
     {
-        let list = children(&self.maps, alloc, tags, parent, child)?;
+        let list = children(&self.parts.maps, alloc, tags, parent, child)?;
         Ok(list)
     }
 
@@ -50,8 +50,8 @@ impl File {
         }
         share_all(&list, store, more);
         let added = list.len();
-        list.append(&mut self.maps).unwrap();
+        list.append(&mut self.parts.maps).unwrap();
         list.rotate_left(added);
-        self.maps = list;
+        self.parts.maps = list;
     }
 }

@@ -1,14 +1,16 @@
 //! Maps that leave a file.
-ghost use Rattle.std.specs.Prelude.{◌≡◌, ◌^◌, ◌+◌, ◌<◌, ◌≤◌, ℕ, length, map};
+ghost use Rattle.std.specs.Prelude.{◌≡◌, ◌^◌, ◌+◌, ◌<◌, ◌≤◌, ℕ, length, map, if◌then◌else◌};
 ghost use Rattle.std.specs.List.{remove};
+ghost use Rattle.hp_model.specs.files.Mapping.{is_mapped, without_range};
 ghost use Rattle.hp_store.specs.Store.{holders_of, page_at};
 ghost use Rattle.hp_mount_files.specs.Dropping.{HasHolders, IsDropping};
 ghost use Rattle.hp_mount_files.specs.Held.{in_file, more_in};
-ghost use Rattle.hp_mount_files.specs.Leaving.{IsMoreButTask, cut_at, emptied, file_owed, is_used, least_among, least_of, left_by};
+ghost use Rattle.hp_mount_files.specs.Numbered.{mapping_at};
+ghost use Rattle.hp_mount_files.specs.Leaving.{IsMoreButTask, cut_at, emptied, file_owed, is_used, least_among, least_of, left_at, left_by};
 
 use super::File;
 use crate::departed::Departed;
-use crate::dropping::{end_maps_of, leave_range};
+use crate::dropping::{drop_places, end_maps_of, leave_range};
 use crate::files::MapPlace;
 use crate::hints::Hints;
 use crate::map_tag::MapTag;
@@ -30,7 +32,7 @@ impl File {
     pub(crate) fn least_task(&self, known: Option<u64>) -> Option<u64>
         ensures { result ≡ least_among known (map (λ m. m.task) self.now.maps) }
     {
-        let maps = self.maps.as_slice();
+        let maps = self.parts.maps.as_slice();
         let mut least = known;
         for map in maps {
             least = Some(lesser(least, map.task()));
@@ -42,7 +44,7 @@ impl File {
     pub(crate) fn is_used(&self) -> bool
         ensures { result ≡ is_used self.now }
     {
-        self.name.is_some() || !self.maps.is_empty()
+        self.parts.name.is_some() || !self.parts.maps.is_empty()
     }
 
     /// All maps of a task go, with what they hold. A file that is left without name and maps loses its pages and entries.
@@ -65,10 +67,11 @@ impl File {
         ensures maps { result.maps + length self.new.maps ≡ length self.old.maps }
         ensures hints { IsMoreButTask task hints.old hints.new }
     {
-        let before = self.maps.len();
-        let reserves = end_maps_of(task, &mut self.maps, hints, store, more);
-        self.maps.retain(|m| m.task() != task);
-        let maps = (before - self.maps.len()) as u64;
+        let list = &mut self.parts.maps;
+        let before = list.len();
+        let reserves = end_maps_of(task, list, hints, store, more);
+        list.retain(|m| m.task() != task);
+        let maps = (before - list.len()) as u64;
         if self.is_used() {
             return Departed { maps, reserves };
         }
@@ -79,8 +82,25 @@ impl File {
         }
     }
 
-    /// The file's indices from `a` up to `b` leave a map, with its copies of them. Answers how many reservations went.
-    pub(crate) fn unmap<N: Naming>(
+    // A map goes, with its copies. Answers how many reservations went. It takes a step for each place of its range.
+    fn end_map<N: Naming>(&mut self, map: usize, store: &mut PageStore<N>, more: &mut usize) -> u64
+        requires within { map < length self.old.maps }
+        requires held { (n : ℕ) → in_file n self.old ≤ holders_of (page_at store.old n) }
+        requires some { HasHolders store.old }
+        requires counted { more.old ≡ more_in store.old.pages }
+        ensures file { self.new ≡ record self.old { maps = remove self.old.maps map } }
+        ensures dropping { IsDropping (λ n. in_file n self.old) (λ n. in_file n self.new)
+            store.old store.new }
+        ensures counted { more.new ≡ more_in store.new.pages }
+        ensures reserves { result + file_owed self.new ≡ file_owed self.old }
+    {
+        let gone = self.parts.maps.remove(map);
+        drop_places(gone.places(), store, more);
+        gone.reserve_count()
+    }
+
+    // The file's indices from `a` up to `b` leave a map, with its copies of them. Answers how many reservations went.
+    fn cut_map<N: Naming>(
         &mut self,
         map: usize,
         a: u64,
@@ -99,16 +119,52 @@ impl File {
         ensures counted { more.new ≡ more_in store.new.pages }
         ensures reserves { result + file_owed self.new ≡ file_owed self.old }
     {
-        let at = &mut self.maps[map];
+        let at = &mut self.parts.maps[map];
         leave_range(at, a, b, store, more)
     }
 
-    /// A map goes, and those behind it move down.
-    pub(crate) fn remove_map(&mut self, map: usize)
+    /// The file's indices from `a` up to `b` leave a map, with its copies of them. A map without indices goes, and those
+    /// behind it move down.
+    pub(crate) fn unmap<N: Naming>(
+        &mut self,
+        map: usize,
+        a: u64,
+        b: u64,
+        store: &mut PageStore<N>,
+        more: &mut usize,
+    ) -> Departed
+        requires within { map < length self.old.maps }
+        requires order { a ≤ b }
+        requires held { (n : ℕ) → in_file n self.old ≤ holders_of (page_at store.old n) }
+        requires some { HasHolders store.old }
+        requires counted { more.old ≡ more_in store.old.pages }
+        ensures file { self.new ≡ left_at map a b self.old }
+        ensures maps { result.maps
+            ≡ (if is_mapped (without_range a b (mapping_at self.old map)) then 0 else 1) }
+        ensures dropping { IsDropping (λ n. in_file n self.old) (λ n. in_file n self.new)
+            store.old store.new }
+        ensures counted { more.new ≡ more_in store.new.pages }
+        ensures reserves { result.reserves + file_owed self.new ≡ file_owed self.old }
+    {
+        let at = &self.parts.maps[map];
+        if a <= at.start() && at.end() <= b {
+            let reserves = self.end_map(map, store, more);
+            return Departed { maps: 1, reserves };
+        }
+        let reserves = self.cut_map(map, a, b, store, more);
+        if self.parts.maps[map].is_mapped() {
+            return Departed { maps: 0, reserves };
+        }
+        self.remove_map(map);
+        Departed { maps: 1, reserves }
+    }
+
+    // A map goes, and those behind it move down.
+    fn remove_map(&mut self, map: usize)
         requires { map < length self.old.maps }
         ensures { self.new ≡ record self.old { maps = remove self.old.maps map } }
     {
-        let _gone = self.maps.remove(map);
+        let _gone = self.parts.maps.remove(map);
     }
 
     /// The file stands at a place: notes where a task's maps stand, and their tags, where they were noted. Takes a step for
@@ -116,7 +172,7 @@ impl File {
     pub(crate) fn retag_maps(&self, task: u64, file: usize, hints: &mut Hints)
         ensures { hints.new ≡ hints.old }
     {
-        for (map, mapping) in self.maps.iter().enumerate() {
+        for (map, mapping) in self.parts.maps.iter().enumerate() {
             if mapping.task() == task {
                 let tag = MapTag {
                     at: MapPlace { file, map },

@@ -159,16 +159,15 @@ impl<N: Naming> Files<N> {
         ensures left { IsLeft result self.old self.new }
     {
         let file = &mut self.list[at.file];
-        let reserves = file.unmap(at.map, a, b, &mut self.store, &mut self.more);
-        if file.map(at.map).is_mapped() {
-            return reserves;
+        let gone = file.unmap(at.map, a, b, &mut self.store, &mut self.more);
+        if gone.maps == 0 {
+            return gone.reserves;
         }
-        file.remove_map(at.map);
         self.hints.forget_map(task, number);
         let entries = sweep_file(&mut self.list, at.file, &mut self.store, &mut self.more);
         self.maps -= 1;
         let count = self.counts.count(task);
         self.counts.set(task, count - 1);
-        reserves + entries
+        gone.reserves + entries
     }
 }

@@ -7,7 +7,7 @@ use Rattle.hp_model.specs.files.File.{File}
 use Rattle.hp_mount_files.specs.Files.{Files}
 use Rattle.hp_mount_files.proofs.Listing.{AreShort, names_in, names_more, names_none, names_same, names_shown, short_more}
 use Rattle.hp_mount_files.proofs.Views.{files_len}
-use Rattle.hp_mount_files.proofs.files.Files.names.Goals.{in-Some+in_ok-from_slice, in_default}
+use Rattle.hp_mount_files.proofs.files.Files.names.Goals.{in-Some+in_ok-copied, in_default}
 use Rattle.hp_mount_files.proofs.files.Files.names.Goals as goal
 
 pub loop-file-init : goal.loop-file-init
@@ -34,9 +34,9 @@ loop-file-preserved g c =
     let inv = c.loop-file.invariant in
     let taken : take i files ++ file ∷ [] ≡ take (i + 1) files = ap (λ x. take i files ++ x ∷ []) c.file-item.is ∙ sym (take_more files i file c.loop-file-test.true) in
     elim c.match-name.branch [
-      | in-Some+in_ok-from_slice w ↦
+      | in-Some+in_ok-copied w ↦
           let name = w.in-Some.name.now in
-          let told = w.new.ensures ∙ w.in_ok-from_slice.ensures.items in
+          let told = w.in_ok-copied.ensures.copy in
           let items : c.match-name.names.items ≡ c.loop-file.names.items ++ name ∷ [] = ap (λ v. v.items) w.names-is ∙ w.push_reserved.ensures.items ∙ ap (λ x. c.loop-file.names.items ++ x ∷ []) told in
           let long = ap length items in
           let one_more = length-append c.loop-file.names.items (name ∷ []) in
@@ -68,14 +68,14 @@ returns-clause-names g c =
     let s = c.self.inside in
     let files = c.as_slice-files.result.now in
     let inv = c.loop-file.invariant in
-    c.new-2.ensures ∙ inv.named ∙ ap names_in (take_all c.loop-file.file-index files (omega (arith, c.loop-file-test.false)) ∙ c.as_slice-files.ensures.value)
+    c.new.ensures ∙ inv.named ∙ ap names_in (take_all c.loop-file.file-index files (omega (arith, c.loop-file-test.false)) ∙ c.as_slice-files.ensures.value)
     ∙ sym (names_shown s.store s.list.items) ∙ ap (λ (v : Files). filter_map (λ (f : File). f.name) v.files) c.self.view_is
 
 pub returns-clause-few : goal.returns-clause-few
 returns-clause-few g c =
     let s = c.self.inside in
     let inv = c.loop-file.invariant in
-    let told = ap length c.new-2.ensures in
+    let told = ap length c.new.ensures in
     let few = inv.few in
     let within = c.loop-file.auto.file-index-end in
     let same = ap length c.as_slice-files.ensures.value in
@@ -84,4 +84,4 @@ returns-clause-few g c =
     omega (arith, told, few, within, same, shown, here)
 
 pub returns-clause-short : goal.returns-clause-short
-returns-clause-short g c = subst AreShort (sym c.new-2.ensures) c.loop-file.invariant.short
+returns-clause-short g c = subst AreShort (sym c.new.ensures) c.loop-file.invariant.short

@@ -55,7 +55,7 @@ module _ (g : Over) (c : goal.After-set g) where
   file_is : c.add_map.new.self ≡ anon c.args.range.now.task c.args.next.number c.args.range.now.start c.args.range.now.pages c.args.range.now.sharing c.args.range.now.reserving
   file_is =
       let r = c.args.range.now in
-      c.in_ok-add_map.ensures.ok ∙ ap (λ f. with_mapping c.entered_from.result c.in-Ok.map f) c.new-file.ensures ∙ ap (λ k. with_mapping k c.in-Ok.map nameless) c.entered_from.ensures.from
+      c.in_ok-add_map.ensures.ok ∙ ap (λ f. with_mapping c.entered_from.result c.in-Ok.map f) c.in-Ok-new.ensures ∙ ap (λ k. with_mapping k c.in-Ok.map nameless) c.entered_from.ensures.from
       ∙ ap (λ m. with_mapping (entered_from r.sharing r.reserving r.start r.pages) m nameless) c.in-Ok.ensures
 
   files_are : c.push_reserved.new.self.items ≡ c.self.inside.list.items ++ c.add_map.new.self ∷ []

@@ -1,8 +1,8 @@
-use Rattle.std.proofs.Common.{◌≡◌, ◌==◌, Bool, cond, ◌+◌, ◌-◌, ◌<◌, ◌^◌, map, ap, subst, sym, ◌∙◌, arith}
+use Rattle.std.proofs.Common.{◌≡◌, ◌==◌, Bool, cond, ◌+◌, ◌-◌, ◌<◌, ◌^◌, ◌≢◌, ℕ, true, false, refl, map, ap, subst, sym, ◌∙◌, arith}
 use Rattle.std.specs.Prelude.{slice_set}
 use Rattle.std.specs.List.{filter, sum_by}
 use Rattle.hp_model.specs.files.GiveBack.{file_unmapped, is_kept}
-use Rattle.hp_model.specs.files.Mapping.{is_map, is_mapped, without_range}
+use Rattle.hp_model.specs.files.Mapping.{Mapping, is_map, is_mapped, without_range}
 use Rattle.hp_model.specs.files.MountCounts.{file_reserves}
 use Rattle.hp_mount_files.specs.Tally.{count_of}
 use Rattle.hp_mount_files.specs.Dropping.{IsLeft}
@@ -11,23 +11,33 @@ use Rattle.hp_mount_files.specs.Leaving.{file_owed}
 use Rattle.hp_mount_files.specs.Numbered.{files_shown, mapping_at}
 use Rattle.hp_mount_files.specs.Places.{IsFound}
 use Rattle.hp_mount_files.proofs.Leaving.{files_owe}
-use Rattle.hp_mount_files.proofs.Unmapping.{enough_held, few_reserves, read_again, some_maps, some_tally, stays_files, stays_keeps, stays_left, went_files, went_keeps, went_left}
+use Rattle.hp_mount_files.proofs.Unmapping.{enough_held, few_reserves, some_maps, some_tally, stays_files, stays_keeps, stays_left, went_files, went_keeps, went_left}
 use Rattle.hp_mount_files.proofs.Views.{view}
 use Rattle.hp_mount_files.proofs.files.Files.unmap.Given.{Over}
 use Rattle.hp_mount_files.proofs.files.Files.unmap.Goals as goal
-use Rattle.hp_mount_files.proofs.files.Files.unmap.Goals.{After-is_mapped, After-sweep_file-entries}
+use Rattle.hp_mount_files.proofs.files.Files.unmap.Goals.{After-unmap-gone, After-sweep_file-entries}
 
 -- the map that was found, and whether something of it is left
-module _ (g : Over) (c : After-is_mapped g) where
+module _ (g : Over) (c : After-unmap-gone g) where
   there : IsFound (files_shown c.self.inside.store c.self.inside.list.items) c.args.task c.args.number c.args.at.file c.args.at.map
   there = subst (λ (v : Files). IsFound v.files c.args.task c.args.number c.args.at.file c.args.at.map) (sym c.self.view_is) c.requires.found
 
-  left : {b : Bool} → c.is_mapped.result ≡ b → is_mapped (without_range c.args.a c.args.b (mapping_at c.index_mut-file.result.now c.args.at.map)) ≡ b
-  left e =
-      let s = c.self.inside in
-      let one = c.unmap-reserves in
-      read_again s.hints s.hints s.store one.new.store s.more one.new.more s.maps (count_of s.counts) s.list.items c.self.invariant c.args.task c.args.number c.args.a c.args.b c.args.at.file c.args.at.map there c.index_mut-file.result.now one.new.self
-      c.index_mut-file.ensures.value one.ensures.file one.ensures.dropping one.result one.ensures.reserves c.map.result.now c.map.ensures ∙ sym c.is_mapped.ensures ∙ e
+  abbrev z : Mapping ℕ
+  z = without_range c.args.a c.args.b (mapping_at c.index_mut-file.result.now c.args.at.map)
+
+  stays : c.unmap-gone.result.maps ≡ 0 → is_mapped z ≡ true
+  stays none = by (is_mapped z) (sym c.unmap-gone.ensures.maps ∙ none)
+    where
+      by : (b : Bool) → cond {A = ℕ} b 0 1 ≡ 0 → b ≡ true
+      by true e = refl
+      by false e = absurd (omega (arith, e))
+
+  goes : c.unmap-gone.result.maps ≢ 0 → is_mapped z ≡ false
+  goes some = by (is_mapped z) c.unmap-gone.ensures.maps
+    where
+      by : (b : Bool) → c.unmap-gone.result.maps ≡ cond {A = ℕ} b 0 1 → b ≡ false
+      by true e = absurd (some e)
+      by false e = refl
 
   few : sum_by file_owed c.self.inside.list.items < 2 ^ 64
   few =
@@ -37,92 +47,92 @@ module _ (g : Over) (c : After-is_mapped g) where
 
 pub invariant_of-self : goal.invariant_of-self
 invariant_of-self g c =
-    let found = (goal.at.invariant_of-self g c).After-is_mapped in
+    let found = (goal.at.invariant_of-self g c).After-unmap-gone in
     let s = c.self.inside in
-    let one = c.unmap-reserves in
-    let mapped = left g found c.if-is_mapped.true in
-    stays_keeps s.hints s.hints s.store one.new.store s.more one.new.more s.maps (count_of s.counts) s.list.items c.self.invariant c.args.task c.args.number c.args.a c.args.b c.args.at.file c.args.at.map (there g found) c.index_mut-file.result.now one.new.self c.index_mut-file.ensures.value one.ensures.file one.ensures.dropping one.result one.ensures.reserves mapped one.ensures.counted
+    let one = c.unmap-gone in
+    let mapped = stays g found c.if-gone-eq0.true in
+    stays_keeps s.hints s.hints s.store one.new.store s.more one.new.more s.maps (count_of s.counts) s.list.items c.self.invariant c.args.task c.args.number c.args.a c.args.b c.args.at.file c.args.at.map (there g found) c.index_mut-file.result.now one.new.self c.index_mut-file.ensures.value one.ensures.file one.ensures.dropping one.result.reserves one.ensures.reserves mapped one.ensures.counted
 
-pub returns-then-is_mapped-clause-files : goal.returns-then-is_mapped-clause-files
-returns-then-is_mapped-clause-files g c =
-    let found = (goal.at.returns-then-is_mapped-clause-files g c).After-is_mapped in
+pub returns-then-gone-eq0-clause-files : goal.returns-then-gone-eq0-clause-files
+returns-then-gone-eq0-clause-files g c =
+    let found = (goal.at.returns-then-gone-eq0-clause-files g c).After-unmap-gone in
     let s = c.self.inside in
-    let one = c.unmap-reserves in
-    let mapped = left g found c.if-is_mapped.true in
-    stays_files s.hints s.hints s.store one.new.store s.more one.new.more s.maps (count_of s.counts) s.list.items c.self.invariant c.args.task c.args.number c.args.a c.args.b c.args.at.file c.args.at.map (there g found) c.index_mut-file.result.now one.new.self c.index_mut-file.ensures.value one.ensures.file one.ensures.dropping one.result one.ensures.reserves mapped one.ensures.counted
+    let one = c.unmap-gone in
+    let mapped = stays g found c.if-gone-eq0.true in
+    stays_files s.hints s.hints s.store one.new.store s.more one.new.more s.maps (count_of s.counts) s.list.items c.self.invariant c.args.task c.args.number c.args.a c.args.b c.args.at.file c.args.at.map (there g found) c.index_mut-file.result.now one.new.self c.index_mut-file.ensures.value one.ensures.file one.ensures.dropping one.result.reserves one.ensures.reserves mapped one.ensures.counted
     ∙ ap (λ (v : Files). filter is_kept (map (file_unmapped (is_map c.args.task c.args.number) c.args.a c.args.b) v.files)) c.self.view_is
 
-pub returns-then-is_mapped-clause-left : goal.returns-then-is_mapped-clause-left
-returns-then-is_mapped-clause-left g c =
-    let found = (goal.at.returns-then-is_mapped-clause-left g c).After-is_mapped in
+pub returns-then-gone-eq0-clause-left : goal.returns-then-gone-eq0-clause-left
+returns-then-gone-eq0-clause-left g c =
+    let found = (goal.at.returns-then-gone-eq0-clause-left g c).After-unmap-gone in
     let s = c.self.inside in
-    let one = c.unmap-reserves in
-    let mapped = left g found c.if-is_mapped.true in
-    subst (λ v. IsLeft one.result v (view one.new.store one.new.more (slice_set s.list.items c.args.at.file one.new.self))) c.self.view_is
-    (stays_left s.hints s.hints s.store one.new.store s.more one.new.more s.maps (count_of s.counts) s.list.items c.self.invariant c.args.task c.args.number c.args.a c.args.b c.args.at.file c.args.at.map (there g found) c.index_mut-file.result.now one.new.self c.index_mut-file.ensures.value one.ensures.file one.ensures.dropping one.result one.ensures.reserves mapped one.ensures.counted)
+    let one = c.unmap-gone in
+    let mapped = stays g found c.if-gone-eq0.true in
+    subst (λ v. IsLeft one.result.reserves v (view one.new.store one.new.more (slice_set s.list.items c.args.at.file one.new.self))) c.self.view_is
+    (stays_left s.hints s.hints s.store one.new.store s.more one.new.more s.maps (count_of s.counts) s.list.items c.self.invariant c.args.task c.args.number c.args.a c.args.b c.args.at.file c.args.at.map (there g found) c.index_mut-file.result.now one.new.self c.index_mut-file.ensures.value one.ensures.file one.ensures.dropping one.result.reserves one.ensures.reserves mapped one.ensures.counted)
 
 pub sweep_file-entries-requires-clause-held : goal.sweep_file-entries-requires-clause-held
 sweep_file-entries-requires-clause-held g c =
-    let found = (goal.at.sweep_file-entries-requires-clause-held g c).After-is_mapped in
+    let found = (goal.at.sweep_file-entries-requires-clause-held g c).After-unmap-gone in
     let s = c.self.inside in
-    let one = c.unmap-reserves in
-    let mapped = left g found c.if-is_mapped.false in
-    enough_held s.hints s.hints s.store one.new.store s.more one.new.more s.maps (count_of s.counts) s.list.items c.self.invariant c.args.task c.args.number c.args.a c.args.b c.args.at.file c.args.at.map (there g found) c.index_mut-file.result.now one.new.self c.index_mut-file.ensures.value one.ensures.file one.ensures.dropping one.result one.ensures.reserves mapped c.remove_map.new.self c.remove_map.ensures
+    let one = c.unmap-gone in
+    let mapped = goes g found c.if-gone-eq0.false in
+    enough_held s.hints s.hints s.store one.new.store s.more one.new.more s.maps (count_of s.counts) s.list.items c.self.invariant c.args.task c.args.number c.args.a c.args.b c.args.at.file c.args.at.map (there g found) c.index_mut-file.result.now one.new.self c.index_mut-file.ensures.value one.ensures.file one.ensures.dropping one.result.reserves one.ensures.reserves mapped
 
 pub overflow_sub-self : goal.overflow_sub-self
 overflow_sub-self g c =
-    let found = (goal.at.overflow_sub-self g c).After-is_mapped in
+    let found = (goal.at.overflow_sub-self g c).After-unmap-gone in
     let s = c.self.inside in
-    let one = c.unmap-reserves in
-    let mapped = left g found c.if-is_mapped.false in
-    some_maps s.hints s.hints s.store one.new.store s.more one.new.more s.maps (count_of s.counts) s.list.items c.self.invariant c.args.task c.args.number c.args.a c.args.b c.args.at.file c.args.at.map (there g found) c.index_mut-file.result.now one.new.self c.index_mut-file.ensures.value one.ensures.file one.ensures.dropping one.result one.ensures.reserves mapped c.remove_map.new.self c.remove_map.ensures
+    let one = c.unmap-gone in
+    let mapped = goes g found c.if-gone-eq0.false in
+    some_maps s.hints s.hints s.store one.new.store s.more one.new.more s.maps (count_of s.counts) s.list.items c.self.invariant c.args.task c.args.number c.args.a c.args.b c.args.at.file c.args.at.map (there g found) c.index_mut-file.result.now one.new.self c.index_mut-file.ensures.value one.ensures.file one.ensures.dropping one.result.reserves one.ensures.reserves mapped
 
 pub overflow_sub-count : goal.overflow_sub-count
 overflow_sub-count g c =
-    let found = (goal.at.overflow_sub-count g c).After-is_mapped in
+    let found = (goal.at.overflow_sub-count g c).After-unmap-gone in
     let s = c.self.inside in
-    let one = c.unmap-reserves in
-    let mapped = left g found c.if-is_mapped.false in
+    let one = c.unmap-gone in
+    let mapped = goes g found c.if-gone-eq0.false in
     let last = c.sweep_file-entries in
-    let some = some_tally s.hints c.forget_map.new.self s.store one.new.store s.more one.new.more s.maps (count_of s.counts) s.list.items c.self.invariant c.args.task c.args.number c.args.a c.args.b c.args.at.file c.args.at.map (there g found) c.index_mut-file.result.now one.new.self c.index_mut-file.ensures.value one.ensures.file one.ensures.dropping one.result one.ensures.reserves mapped c.remove_map.new.self c.remove_map.ensures last.new.store last.new.more last.new.files.items last.ensures.files last.ensures.dropping last.ensures.counted last.result last.ensures.reserves (few g found) in
+    let some = some_tally s.hints c.forget_map.new.self s.store one.new.store s.more one.new.more s.maps (count_of s.counts) s.list.items c.self.invariant c.args.task c.args.number c.args.a c.args.b c.args.at.file c.args.at.map (there g found) c.index_mut-file.result.now one.new.self c.index_mut-file.ensures.value one.ensures.file one.ensures.dropping one.result.reserves one.ensures.reserves mapped last.new.store last.new.more last.new.files.items last.ensures.files last.ensures.dropping last.ensures.counted last.result last.ensures.reserves (few g found) in
     omega (arith, some, c.count-count.ensures)
 
 pub overflow_add-result : goal.overflow_add-result
 overflow_add-result g c =
-    let found = (goal.at.overflow_add-result g c).After-is_mapped in
+    let found = (goal.at.overflow_add-result g c).After-unmap-gone in
     let s = c.self.inside in
-    let one = c.unmap-reserves in
-    let mapped = left g found c.if-is_mapped.false in
+    let one = c.unmap-gone in
+    let mapped = goes g found c.if-gone-eq0.false in
     let last = c.sweep_file-entries in
-    let few = few_reserves s.hints c.forget_map.new.self s.store one.new.store s.more one.new.more s.maps (count_of s.counts) s.list.items c.self.invariant c.args.task c.args.number c.args.a c.args.b c.args.at.file c.args.at.map (there g found) c.index_mut-file.result.now one.new.self c.index_mut-file.ensures.value one.ensures.file one.ensures.dropping one.result one.ensures.reserves mapped c.remove_map.new.self c.remove_map.ensures last.new.store last.new.more last.new.files.items last.ensures.files last.ensures.dropping last.ensures.counted last.result last.ensures.reserves (few g found) in
+    let few = few_reserves s.hints c.forget_map.new.self s.store one.new.store s.more one.new.more s.maps (count_of s.counts) s.list.items c.self.invariant c.args.task c.args.number c.args.a c.args.b c.args.at.file c.args.at.map (there g found) c.index_mut-file.result.now one.new.self c.index_mut-file.ensures.value one.ensures.file one.ensures.dropping one.result.reserves one.ensures.reserves mapped last.new.store last.new.more last.new.files.items last.ensures.files last.ensures.dropping last.ensures.counted last.result last.ensures.reserves (few g found) in
     omega (arith, few)
 
 pub invariant_of-self-2 : goal.invariant_of-self-2
 invariant_of-self-2 g c =
-    let found = (goal.at.invariant_of-self-2 g c).After-is_mapped in
+    let found = (goal.at.invariant_of-self-2 g c).After-unmap-gone in
     let s = c.self.inside in
-    let one = c.unmap-reserves in
-    let mapped = left g found c.if-is_mapped.false in
+    let one = c.unmap-gone in
+    let mapped = goes g found c.if-gone-eq0.false in
     let last = c.sweep_file-entries in
-    went_keeps s.hints c.forget_map.new.self s.store one.new.store s.more one.new.more s.maps (count_of s.counts) s.list.items c.self.invariant c.args.task c.args.number c.args.a c.args.b c.args.at.file c.args.at.map (there g found) c.index_mut-file.result.now one.new.self c.index_mut-file.ensures.value one.ensures.file one.ensures.dropping one.result one.ensures.reserves mapped c.remove_map.new.self c.remove_map.ensures last.new.store last.new.more last.new.files.items last.ensures.files last.ensures.dropping last.ensures.counted last.result last.ensures.reserves (few g found)
+    went_keeps s.hints c.forget_map.new.self s.store one.new.store s.more one.new.more s.maps (count_of s.counts) s.list.items c.self.invariant c.args.task c.args.number c.args.a c.args.b c.args.at.file c.args.at.map (there g found) c.index_mut-file.result.now one.new.self c.index_mut-file.ensures.value one.ensures.file one.ensures.dropping one.result.reserves one.ensures.reserves mapped last.new.store last.new.more last.new.files.items last.ensures.files last.ensures.dropping last.ensures.counted last.result last.ensures.reserves (few g found)
     c.forget_map.ensures (count_of c.set.new.self) (λ q. c.set.ensures q ∙ ap (λ n. cond (c.args.task == q) (n - 1) ((count_of s.counts) q)) c.count-count.ensures)
 
 pub returns-clause-files : goal.returns-clause-files
 returns-clause-files g c =
-    let found = (goal.at.returns-clause-files g c).After-is_mapped in
+    let found = (goal.at.returns-clause-files g c).After-unmap-gone in
     let s = c.self.inside in
-    let one = c.unmap-reserves in
-    let mapped = left g found c.if-is_mapped.false in
+    let one = c.unmap-gone in
+    let mapped = goes g found c.if-gone-eq0.false in
     let last = c.sweep_file-entries in
-    went_files s.hints c.forget_map.new.self s.store one.new.store s.more one.new.more s.maps (count_of s.counts) s.list.items c.self.invariant c.args.task c.args.number c.args.a c.args.b c.args.at.file c.args.at.map (there g found) c.index_mut-file.result.now one.new.self c.index_mut-file.ensures.value one.ensures.file one.ensures.dropping one.result one.ensures.reserves mapped c.remove_map.new.self c.remove_map.ensures last.new.store last.new.more last.new.files.items last.ensures.files last.ensures.dropping last.ensures.counted last.result last.ensures.reserves (few g found)
+    went_files s.hints c.forget_map.new.self s.store one.new.store s.more one.new.more s.maps (count_of s.counts) s.list.items c.self.invariant c.args.task c.args.number c.args.a c.args.b c.args.at.file c.args.at.map (there g found) c.index_mut-file.result.now one.new.self c.index_mut-file.ensures.value one.ensures.file one.ensures.dropping one.result.reserves one.ensures.reserves mapped last.new.store last.new.more last.new.files.items last.ensures.files last.ensures.dropping last.ensures.counted last.result last.ensures.reserves (few g found)
     ∙ ap (λ (v : Files). filter is_kept (map (file_unmapped (is_map c.args.task c.args.number) c.args.a c.args.b) v.files)) c.self.view_is
 
 pub returns-clause-left : goal.returns-clause-left
 returns-clause-left g c =
-    let found = (goal.at.returns-clause-left g c).After-is_mapped in
+    let found = (goal.at.returns-clause-left g c).After-unmap-gone in
     let s = c.self.inside in
-    let one = c.unmap-reserves in
-    let mapped = left g found c.if-is_mapped.false in
+    let one = c.unmap-gone in
+    let mapped = goes g found c.if-gone-eq0.false in
     let last = c.sweep_file-entries in
-    subst (λ v. IsLeft (one.result + last.result) v (view last.new.store last.new.more last.new.files.items)) c.self.view_is
-    (went_left s.hints c.forget_map.new.self s.store one.new.store s.more one.new.more s.maps (count_of s.counts) s.list.items c.self.invariant c.args.task c.args.number c.args.a c.args.b c.args.at.file c.args.at.map (there g found) c.index_mut-file.result.now one.new.self c.index_mut-file.ensures.value one.ensures.file one.ensures.dropping one.result one.ensures.reserves mapped c.remove_map.new.self c.remove_map.ensures last.new.store last.new.more last.new.files.items last.ensures.files last.ensures.dropping last.ensures.counted last.result last.ensures.reserves (few g found))
+    subst (λ v. IsLeft (one.result.reserves + last.result) v (view last.new.store last.new.more last.new.files.items)) c.self.view_is
+    (went_left s.hints c.forget_map.new.self s.store one.new.store s.more one.new.more s.maps (count_of s.counts) s.list.items c.self.invariant c.args.task c.args.number c.args.a c.args.b c.args.at.file c.args.at.map (there g found) c.index_mut-file.result.now one.new.self c.index_mut-file.ensures.value one.ensures.file one.ensures.dropping one.result.reserves one.ensures.reserves mapped last.new.store last.new.more last.new.files.items last.ensures.files last.ensures.dropping last.ensures.counted last.result last.ensures.reserves (few g found))
