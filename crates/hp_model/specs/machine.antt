@@ -7,6 +7,7 @@ pub mod Machine
 pub mod Event
 pub mod Step
 pub mod Accesses
+pub mod Told
 pub mod Run
 pub mod Plain
 pub mod Sound

@@ -13,5 +13,6 @@ pub mod refusal;
 pub mod section;
 pub mod service;
 pub mod step;
+pub mod told;
 
 pub use hp_values::{bytes, names, page_no};

@@ -3,11 +3,13 @@ ghost use Rattle.std.specs.Prelude.{◌≡◌, ◌≤◌, ℕ, length, IfOk};
 ghost use Rattle.hp_model.specs.declared.step.Step.{Step as TheStep};
 ghost use Rattle.hp_model.specs.machine.Accesses.{bytes_reply, done_reply, load_step, store_step};
 ghost use Rattle.hp_model.specs.machine.Plan.{Reply as TheReply};
+ghost use Rattle.hp_model.specs.machine.Told.{told_reply};
 ghost use Rattle.hp_model.specs.text.Writing.{IsWithinLimits};
 
 use crate::answer::Reply;
 use crate::refusal::Refusal;
 use crate::step::Step;
+use crate::told::Told;
 
 /// Where a load or a store begins: at a byte of a page, which a task's map on a slot shows at an index of its file.
 #[derive(Clone, Copy, Debug, PartialEq, Eq)]
@@ -39,6 +41,15 @@ pub trait Service {
         ensures ready { is_ready self.new }
         ensures same_page { page self.new ≡ page self.old }
         ensures limits { IsWithinLimits result };
+
+    /// Does the step as `call` does. Where it answers bytes, they are in the front of the room.
+    fn answer<'a>(&mut self, step: &Step, room: &'a mut [u8]) -> Result<Told<'a>, Refusal>
+        requires ready { is_ready self.old }
+        requires room { 256 ≤ length room.old }
+        ensures answered { may_answer self.old step.now (told_reply result) self.new }
+        ensures ready { is_ready self.new }
+        ensures same_page { page self.new ≡ page self.old }
+        ensures limits { IsWithinLimits (told_reply result) };
 
     /// Does the step of a load of `count` bytes, and answers them in the front of the room.
     fn load<'a>(

@@ -16,6 +16,7 @@ use Rattle.hp_laws.proofs.FileMoves.{FileGrows, live_at}
 use Rattle.hp_laws.proofs.CopyWrites.{writes}
 use Rattle.hp_model.specs.threads.LocalRun.{ThroughDoor}
 use Rattle.hp_model.specs.files.Mapping.{Map, copy_of, is_shared, is_unconsumed, place_at, with_place}
+use Rattle.hp_model.specs.machine.Accesses.{done_reply}
 use Rattle.hp_model.specs.machine.Plan.{Answered, Plan, Outcome, Reply, Slot, Choice, refuse, unless, with_value, and_then}
 use Rattle.hp_model.specs.declared.section.PoolAnswer.{PoolAnswer}
 use Rattle.hp_model.specs.declared.section.Section.{Section}
@@ -186,6 +187,12 @@ module _ {X : Type 0} (took : X → Section → PoolAnswer → X → Type 0) (fu
   -- nothing follows
   pub nothing_follows : KeepsRefusals (λ s p. p)
   nothing_follows s p left e new h = h
+
+  pub ended : (size home : ℕ) (a : MapAccess) (intent : Intent) (asked : Asked) (at : MapPlace) → IsPlaced m a asked size at
+      → (result : Result (Unit {0}) Refusal) (n : Mount) (left : X) → IsAccessed took full size home at a.index intent m door result n left
+      → Tried took full (plan size home a intent asked (λ s p. p) nothing_follows) (Some m) door (done_reply result) (Some n) left
+  ended size home a intent asked at placed (Ok done) n left h = went size home a intent asked (λ s p. p) nothing_follows at placed (Ok done) n left Done (Some n) refl (λ p x. x) h
+  ended size home a intent asked at placed (Err e) n left h = denied size home a intent asked (λ s p. p) nothing_follows at placed e (Err e) n left refl h
 
   pub follows : (cont : Spot → Mount → Outcome) → KeepsRefusals (λ s p. and_then (cont s) p)
   follows cont s p left e new h = then_refused took m (cont s) p door left e new h

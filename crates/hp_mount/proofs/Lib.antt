@@ -1,4 +1,5 @@
 pub mod Ways
+pub mod Replies
 pub mod Keeping
 pub mod Shared
 pub mod Private

@@ -1,5 +1,5 @@
 //! A mount.
-ghost use Rattle.std.specs.Prelude.{◌≡◌, ◌≢◌, ℕ, [], length, true, false, None, Ok, Err, Some, IfErr, OnErr, OnOk};
+ghost use Rattle.std.specs.Prelude.{◌≡◌, ◌≢◌, ◌≤◌, ℕ, [], length, true, false, None, Ok, Err, Some, IfErr, OnErr, OnOk};
 ghost use Rattle.hp_model.specs.declared.refusal.Refusal.TheVariants as Refusal;
 ghost use Rattle.hp_model.specs.declared.answer.Answer.TheVariants.{Done};
 ghost use Rattle.hp_model.specs.declared.event.SlotEvent.TheVariants.{Df};
@@ -7,6 +7,7 @@ ghost use Rattle.hp_model.specs.threads.LocalRun.{ThroughDoor};
 ghost use Rattle.hp_model.specs.files.Page.{Page as PageValue};
 ghost use Rattle.hp_model.specs.machine.Plan.{gives};
 ghost use Rattle.hp_model.specs.machine.SlotEvent.{has_maps};
+ghost use Rattle.hp_model.specs.machine.Told.{told_reply};
 ghost use Rattle.hp_model.specs.text.Writing.{IsWithinLimit, IsWithinLimits};
 ghost use Rattle.hp_store.specs.Store.{Store as StoreValue, page_at};
 ghost use Rattle.hp_subpool.specs.Subpool.{Subpool as ShareValue};
@@ -25,9 +26,9 @@ mod private;
 mod reach;
 
 use crate::event::MountEvent;
-use hp_model::answer::{Answer, Reply};
 use hp_model::naming::Naming;
 use hp_model::refusal::Refusal;
+use hp_model::told::Told;
 use hp_mount_door::PoolDoor;
 use hp_mount_files::{Files, MapRange};
 use hp_nodes::Page;
@@ -85,11 +86,12 @@ impl<N: Naming> Mount<N> {
     }
 
     /// The mount's limits, its pages in use and reservations, and how many files it has. Never refused.
-    pub fn usage(&self) -> Answer
-        ensures done { (size k : ℕ) → IsDoneAlone size k (Some self.now) Df (Ok result) (Some self.now) }
-        ensures limits { IsWithinLimits (Ok result) }
+    pub fn usage(&self) -> Told<'static>
+        ensures done { (size k : ℕ)
+            → IsDoneAlone size k (Some self.now) Df (told_reply (Ok result)) (Some self.now) }
+        ensures limits { IsWithinLimits (told_reply (Ok result)) }
     {
-        Answer::Usage {
+        Told::Usage {
             max: told(self.share.max()),
             min: self.share.min(),
             used: self.share.used(),
@@ -101,41 +103,47 @@ impl<N: Naming> Mount<N> {
     /// What a step asks of the mount, for a task with that home node. It is done in one section of the pool at most.
     ///
     /// Refused as the definitions say, and then nothing changes; as TraceFull where the door has no room to note a section.
-    /// An access at an index that is reserved to its map, or has a page, asks for no memory.
-    pub fn apply<D: PoolDoor<Share = Subpool<N>, Page = Page<N>, Going = PageStore<N>>>(
+    /// An access at an index that is reserved to its map, or has a page, asks for no memory. Bytes are answered in the
+    /// front of the room.
+    pub fn apply<'a, D: PoolDoor<Share = Subpool<N>, Page = Page<N>, Going = PageStore<N>>>(
         &mut self,
         door: &mut D,
         page_bytes: u64,
         home: u64,
         event: MountEvent<'_>,
-    ) -> Reply
+        room: &'a mut [u8],
+    ) -> Result<Told<'a>, Refusal>
         requires shares { (s : ShareValue) → D.share_of s ≡ s }
         requires pages { (p : PageValue) → D.page_of p ≡ p }
         requires going { (s : StoreValue) → D.going_of s ≡ s.going }
         requires emptied { (s : StoreValue) → D.emptied s ≡ record s { going = [] } }
         requires ready { D.is_ready door.old }
         requires page_bytes { page_bytes ≡ N.page_bytes }
+        requires room { 256 ≤ length room.old }
         ensures done { (k : ℕ) → IsDone D.took D.is_full N.page_bytes k (Some self.old) door.old
-            (event_of home event.entry) result (Some self.new) door.new }
+            (event_of home event.entry) (told_reply result) (Some self.new) door.new }
         ensures left { D.is_left door.new }
         ensures memory { asks_memory (Some self.old) (event_of home event.entry) ≡ false
-            → result ≢ Err Refusal.OutOfMemory }
-        ensures limits { is_usage (event_of home event.entry) ≡ true → IsWithinLimits result }
+            → told_reply result ≢ Err Refusal.OutOfMemory }
+        ensures limits { is_usage (event_of home event.entry) ≡ true
+            → IsWithinLimits (told_reply result) }
     {
         match event {
-            MountEvent::Create { name } => self.create(name),
+            MountEvent::Create { name } => Told::done(self.create(name)),
             MountEvent::Ls => self.ls(),
             MountEvent::Usage => Ok(self.usage()),
-            MountEvent::Unlink { name } => self.unlink(door, name),
-            MountEvent::Truncate { name, pages } => self.truncate(door, name, pages),
-            MountEvent::Punch { name, start, end } => self.punch(door, name, start, end),
+            MountEvent::Unlink { name } => Told::done(self.unlink(door, name)),
+            MountEvent::Truncate { name, pages } => Told::done(self.truncate(door, name, pages)),
+            MountEvent::Punch { name, start, end } => {
+                Told::done(self.punch(door, name, start, end))
+            }
             MountEvent::Stat { name } => self.stat(name),
             MountEvent::Read {
                 name,
                 index,
                 offset,
                 count,
-            } => self.read(page_bytes, name, index, offset, count),
+            } => Told::bytes(self.read(page_bytes, name, index, offset, count, room)),
             MountEvent::Map {
                 task,
                 name,
@@ -151,20 +159,20 @@ impl<N: Naming> Mount<N> {
                     sharing,
                     reserving,
                 };
-                self.map(door, home, name, &range)
+                Told::map_no(self.map(door, home, name, &range))
             }
             MountEvent::Anon {
                 task,
                 pages,
                 sharing,
                 reserving,
-            } => self.anon(door, home, task, pages, sharing, reserving),
+            } => Told::map_no(self.anon(door, home, task, pages, sharing, reserving)),
             MountEvent::Unmap {
                 task,
                 map,
                 start,
                 end,
-            } => self.unmap(door, task, map, start, end),
+            } => Told::done(self.unmap(door, task, map, start, end)),
             MountEvent::Fault {
                 task,
                 map,
@@ -172,7 +180,7 @@ impl<N: Naming> Mount<N> {
                 intent,
             } => {
                 let access = MapAccess { task, map, index };
-                self.fault(door, home, &access, intent)
+                Told::done(self.fault(door, home, &access, intent))
             }
             MountEvent::Load {
                 task,
@@ -182,7 +190,7 @@ impl<N: Naming> Mount<N> {
                 count,
             } => {
                 let access = MapAccess { task, map, index };
-                self.load_answer(door, page_bytes, home, &access, offset, count)
+                Told::bytes(self.load(door, page_bytes, home, &access, offset, count, room))
             }
             MountEvent::Store {
                 task,
@@ -192,7 +200,7 @@ impl<N: Naming> Mount<N> {
                 bytes,
             } => {
                 let access = MapAccess { task, map, index };
-                self.store_answer(door, page_bytes, home, &access, offset, bytes)
+                Told::done(self.store(door, page_bytes, home, &access, offset, bytes))
             }
         }
     }

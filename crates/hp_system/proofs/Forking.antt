@@ -102,25 +102,6 @@ module _ (parent child : ℕ) (apart : parent ≡ child → ⊥) where
       by_outcome (Refused r) h replied slots = cc
       by_outcome (Answered x new) h replied slots = ap (has_maps_of parent) (ap (λ (xs : List Slot). slice_index_or xs k None) slots ∙ get_or-set_same s.slots k new None within) ∙ h
 
-  abbrev IsMade : Outcome → Type 0
-  IsMade (Refused r) = Unit {0}
-  IsMade (Answered a new) = a ≡ Done
-
-  made : (size k : ℕ) (c : Choice) (old : Slot) → Always IsMade (slot_event size k c old (ForkMaps parent child))
-  made size k c None = tt
-  made size k c (Some m) = always_unless IsMade (λ r. tt) (fork_tests c m parent child) (gives Done (Some m) (Some (forked parent child m))) (always_gives IsMade Done (Some m) (Some (forked parent child m)) refl)
-
-  pub forked_is_done : (s t : State) (k : ℕ) (a : Answer) → IsEvent s (OnSlot k (ForkMaps parent child)) (Ok a) t → a ≡ Done
-  forked_is_done s t k a is = (let ends = event_ends IsMade s k (ForkMaps parent child) (Ok a) t (λ c. made s.page_size k c (slot_at s k)) is in by_outcome ends.outcome ends.holds ends.replied)
-    where
-      by_outcome : (o : Outcome) → IsMade o → Ok a ≡ reply_of o → a ≡ Done
-      by_outcome (Refused r) h replied = cc
-      by_outcome (Answered x new) h replied = (let same : a ≡ x = cc in same ∙ h)
-
-  -- answered, it is done
-  pub answers : (s t : State) (k : ℕ) (reply : Reply) → IsEvent s (OnSlot k (ForkMaps parent child)) reply t → (a : Answer) → reply ≡ Ok a → reply ≡ Ok Done
-  answers s t k reply is a e = e ∙ ap (λ x. Ok x) (forked_is_done s t k a (subst (λ r. IsEvent s (OnSlot k (ForkMaps parent child)) r t) e is))
-
   -- one slot more of a fork, as the rest of its script sees it
   abbrev rest_at : State → (at n : ℕ) → Script
   rest_at s at n = fork_slots (range_with_len at n) (mapped_slots s at parent) parent child

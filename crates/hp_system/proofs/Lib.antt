@@ -3,4 +3,5 @@ mod Ending
 mod MachineSteps
 mod Mounting
 mod Start
+mod Tasks
 mod Forking

@@ -124,14 +124,6 @@ unfolding IsStep
 exit_done s mid t task a h same exited =
     (Ok a, mid, h, subst (λ n. IsScript mid (exit_slots (range_with_len 0 n) task (Answer_with (Ok Done))) (Ok Done) t) same (exited (Answer_with (Ok Done)) (Ok Done) t (refl, refl)))
 
--- a task that goes is answered so
-pub gone_is_done : (nodes task : ℕ) (t u : Table) (a : Answer) → table_event nodes t (table.Remove task) ≡ (Ok a, u) → a ≡ Done
-gone_is_done nodes task t u a h = by_home (home_of t task) (ap (λ (q : Reply × Table). q.0) h)
-  where
-    by_home : (o : Option ℕ) → (when_known t o (λ home. (Ok Done, removed t task))).0 ≡ Ok a → a ≡ Done
-    by_home None e = cc
-    by_home (Some home) e = cc
-
 -- a task that is taken out went, or was not there
 module _ (task : ℕ) where
   all_stay : (t : Table) → home_of t task ≡ None → removed t task ≡ t

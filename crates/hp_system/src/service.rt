@@ -6,6 +6,7 @@ use hp_model::naming::Naming;
 use hp_model::refusal::Refusal;
 use hp_model::service::{Access, Service};
 use hp_model::step::Step;
+use hp_model::told::Told;
 
 impl<N: Naming> Service for System<N> {
     ghost use Rattle.hp_model.specs.machine.Promises.{IsPromisedStep};
@@ -19,6 +20,10 @@ impl<N: Naming> Service for System<N> {
 
     fn call(&mut self, step: &Step) -> Reply {
         self.apply(step)
+    }
+
+    fn answer<'a>(&mut self, step: &Step, room: &'a mut [u8]) -> Result<Told<'a>, Refusal> {
+        self.do_step(step, room)
     }
 
     fn load<'a>(

@@ -1,31 +1,38 @@
 //! A task table over a `Vec`.
 
-use hp_model::answer::{Answer, Reply};
-use hp_model::event::TableEvent;
 use hp_model::refusal::Refusal;
 use std::alloc::{AllocError, Global};
 use std::marker::Model;
 
-/// The tasks with their home nodes, in order of adding. There is room for all of them.
+// How many numbers stand for tasks' places: four for each task that there may be.
+const NOTED: usize = 1024;
+
+/// The tasks with their home nodes, in order of adding, each once. There is room for all of them.
+///
+/// By the last bits of a task's number it is noted where the task stood. That is looked at first, and never trusted.
 #[derive(Drop)]
 pub struct TaskTable {
     tasks: Vec<(u64, u64)>,
+    noted: [u8; NOTED],
 }
 
 impl Model for TaskTable {
     ghost use Rattle.std.specs.Prelude.{◌≤◌, vec_capacity};
     ghost use Rattle.hp_model.specs.machine.Table.{Table};
+    ghost use Rattle.hp_system.specs.Table.{IsTable};
 
     ghost Value = { Table };
 
     ghost view = { λ a. a.tasks.items };
 
-    ghost invariant = { λ a. 256 ≤ vec_capacity a.tasks };
+    ghost invariant = { λ a. IsTable a.tasks.items (vec_capacity a.tasks) };
 }
 
-ghost use Rattle.std.specs.Prelude.{◌≡◌, ◌<◌, ℕ, length, [], IfOk, Ok, Err, IsTrue, is_some};
-ghost use Rattle.hp_model.specs.declared.event.TableEvent.TheVariants.{FindAndAdd};
+ghost use Rattle.std.specs.Prelude.{◌≡◌, ◌≢◌, ◌<◌, ℕ, length, [], IfOk, Ok, Err, IsTrue, is_some, None};
+ghost use Rattle.hp_model.specs.declared.event.TableEvent.TheVariants.{Add, FindAndAdd, Remove};
+ghost use Rattle.hp_model.specs.declared.refusal.Refusal.TheVariants as Refusal;
 ghost use Rattle.hp_mount.specs.Done.{done};
+ghost use Rattle.hp_model.specs.machine.Accesses.{done_reply};
 ghost use Rattle.hp_model.specs.machine.Table.{home_of, added, removed, is_known, is_crowded, table_event};
 
 impl TaskTable {
@@ -35,11 +42,22 @@ impl TaskTable {
     {
         Ok(TaskTable {
             tasks: Vec::with_capacity(alloc, 256)?,
+            noted: [0; NOTED],
         })
     }
 
     /// The home node of a task.
     pub fn home(&self, task: u64) -> Option<u64>
+        ensures { result ≡ home_of self.now task }
+    {
+        match self.tasks.get(self.noted[place_of(task)] as usize) {
+            Some(entry) if entry.0 == task => Some(entry.1),
+            _ => self.home_among_all(task),
+        }
+    }
+
+    // The home node of a task, found by going over all tasks.
+    fn home_among_all(&self, task: u64) -> Option<u64>
         ensures { result ≡ home_of self.now task }
     {
         self.tasks.iter().find(|e| e.0 == task).map(|e| e.1)
@@ -52,12 +70,12 @@ impl TaskTable {
     }
 
     fn add(&mut self, task: u64, home: u64)
-        requires { length self.old < 256 }
+        requires room { length self.old < 256 }
+        requires absent { home_of self.old task ≡ None }
         ensures { self.new ≡ added self.old task home }
     {
-        if self.tasks.push((task, home)).is_err() {
-            unreachable!()
-        }
+        note(&mut self.noted, task, self.tasks.len());
+        self.tasks.push_reserved((task, home));
     }
 
     /// Adds a child of a task, with its home node. Refused as NoSuchTask, TaskExists or TooMany; then nothing changes.
@@ -82,41 +100,56 @@ impl TaskTable {
         ensures { self.new ≡ removed self.old task }
     {
         self.tasks.retain(|e| e.0 != task);
+        note_all(&mut self.noted, &self.tasks);
     }
 
-    /// What the event is answered, and what it leaves. It asks for no memory.
-    pub fn apply(&mut self, nodes: u64, event: TableEvent) -> Reply
-        ensures { table_event nodes self.old event ≡ (result, self.new) }
+    /// Adds a task with its home, which is one of so many nodes. Refused as NoSuchNode, TaskExists or TooMany; then nothing
+    /// changes. It asks for no memory.
+    pub fn add_task(&mut self, nodes: u64, task: u64, home: u64) -> Result<(), Refusal>
+        ensures { table_event nodes self.old (Add task home) ≡ (done_reply result, self.new) }
     {
-        match event {
-            TableEvent::Add { task, home } => {
-                if home >= nodes {
-                    return Err(Refusal::NoSuchNode);
-                }
-                if self.home(task).is_some() {
-                    return Err(Refusal::TaskExists);
-                }
-                if self.is_full() {
-                    return Err(Refusal::TooMany);
-                }
-                self.add(task, home);
-                Ok(Answer::Done)
-            }
-            TableEvent::Find { task } => match self.home(task) {
-                None => Err(Refusal::NoSuchTask),
-                Some(home) => Ok(Answer::Home(home)),
-            },
-            TableEvent::FindAndAdd { parent, child } => match self.add_child(parent, child) {
-                Ok(()) => Ok(Answer::Done),
-                Err(refusal) => Err(refusal),
-            },
-            TableEvent::Remove { task } => {
-                if self.home(task).is_none() {
-                    return Err(Refusal::NoSuchTask);
-                }
-                self.remove(task);
-                Ok(Answer::Done)
-            }
+        if home >= nodes {
+            return Err(Refusal::NoSuchNode);
         }
+        if self.home(task).is_some() {
+            return Err(Refusal::TaskExists);
+        }
+        if self.is_full() {
+            return Err(Refusal::TooMany);
+        }
+        self.add(task, home);
+        Ok(())
+    }
+
+    /// Takes a task out. Refused as NoSuchTask where it is not there, and then nothing changes. It asks for no memory.
+    pub fn remove_task(&mut self, task: u64) -> Result<(), Refusal>
+        ensures event { (nodes : ℕ) → table_event nodes self.old (Remove task)
+            ≡ (done_reply result, self.new) }
+        ensures memory { result ≢ Err Refusal.OutOfMemory }
+    {
+        if self.home(task).is_none() {
+            return Err(Refusal::NoSuchTask);
+        }
+        self.remove(task);
+        Ok(())
+    }
+}
+
+// Which number stands for a task's place.
+fn place_of(task: u64) -> usize
+    ensures { result < 1024 }
+{
+    (task % NOTED as u64) as usize
+}
+
+// Notes where a task stands.
+fn note(noted: &mut [u8; NOTED], task: u64, at: usize) {
+    noted[place_of(task)] = (at % 256) as u8;
+}
+
+// Notes where each task stands.
+fn note_all(noted: &mut [u8; NOTED], tasks: &[(u64, u64)]) {
+    for (at, entry) in tasks.iter().enumerate() {
+        note(noted, entry.0, at);
     }
 }

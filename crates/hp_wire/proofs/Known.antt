@@ -1,5 +1,5 @@
 -- Known bytes that grow again, and replies to lines after lines.
-use Rattle.std.proofs.Common.{◌≡◌, ℕ, List, [], ◌∷◌, ◌++◌, ◌+◌, ◌≤◌, length, take, drop, refl, sym, ◌∙◌, ap, subst, arith, append_assoc, Option, Some, None, take-add, append-nil, Result, Ok, Err, inl, inr, true, false}
+use Rattle.std.proofs.Common.{◌≡◌, ℕ, List, [], ◌∷◌, ◌++◌, ◌+◌, ◌≤◌, length, take, drop, refl, sym, ◌∙◌, ap, subst, arith, append_assoc, Option, Some, None, take-add, append-nil}
 use Rattle.std.proofs.Math.Seq.{take-append-add, take-append_seam, take-length}
 use Rattle.std.proofs.lemmas.List.{take-append-drop}
 use Rattle.std.proofs.Common.{◌-◌, length-drop}
@@ -7,12 +7,11 @@ use Rattle.std.proofs.lemmas.Grind.{flat_map-append}
 use Rattle.std.specs.Io.KnownBytes.{Appends}
 use Rattle.hp_model.specs.machine.Plan.{Reply}
 use Rattle.hp_model.specs.text.Lines.{Line}
-use Rattle.hp_model.specs.text.Reading.{step_of, IsReadAs}
+use Rattle.hp_model.specs.text.Reading.{step_of}
 use Rattle.hp_model.specs.text.Writing.{text, line_of}
 use Rattle.hp_model.specs.text.Text.{AnswersStep, AnswersLines, IsTextOfReplies}
-use Rattle.hp_model.specs.declared.refusal.Refusal.{Refusal}
 use Rattle.hp_model.specs.declared.step.Step.{Step}
-use Rattle.hp_wire.specs.Answered.{AnswersRead, Gains, Answered, AnsweredInPart, Ran, RanInPart}
+use Rattle.hp_wire.specs.Answered.{Gains, Answered, AnsweredInPart, Ran, RanInPart}
 use Rattle.hp_wire.specs.Sent.{AppendsFront}
 use Rattle.hp_text.proofs.Cuts.{rest_is}
 
@@ -100,16 +99,6 @@ answered_cut {may_answer} {page} {s} {ls} {a} {b} {c} {p} ks h whole same k = re
   replies = rw same h.replies;
   written = subst (λ (zs : List ℕ). AppendsFront a c zs) (sym h.gained.same) (front_then a b c h.gained.sent p h.gained.written k);
 }
-
--- the answer to what a line was read as answers the line
-pub answers_read : {S : Type 0} (may_answer : S → Step → Reply → S → Type 0) (s : S) (line read : Result Step Refusal) (reply : Reply) (t : S)
-    → IsReadAs read line → AnswersRead may_answer s read reply t → AnswersStep may_answer s line reply t
-answers_read {S} may_answer s (Ok step) read reply t (inl same) h = inl (subst (λ (r : Result Step Refusal). AnswersRead may_answer s r reply t) same h)
-answers_read {S} may_answer s (Ok step) read reply t (inr lacks) h =
-    let left = subst (λ (r : Result Step Refusal). AnswersRead may_answer s r reply t) lacks.2 h in
-    inr (lacks.0, left.0, left.1)
-answers_read {S} may_answer s (Err refusal) read reply t (inl same) h = subst (λ (r : Result Step Refusal). AnswersRead may_answer s r reply t) same h
-answers_read may_answer s (Err refusal) read reply t (inr lacks) h = (let never : false ≡ true = lacks.1 in cc)
 
 -- a line that was answered, after room was made
 pub answered_one : {S : Type 0} {may_answer : S → Step → Reply → S → Type 0} {page here : ℕ} {s t : S} {line : Line} {a b : Option (List ℕ)} {o p q : List ℕ} (reply : Reply)

@@ -13,3 +13,10 @@ pub record AddsReply {S : Type 0} (may_answer : S → Step → Reply → S → T
   pub answered : AnswersStep may_answer old read reply new
   pub text : left.text ≡ waiting.text ++ line_of waiting.page reply
   pub page : left.page ≡ waiting.page
+
+-- a step is answered by the service alone, and the line of the reply is added
+pub record AddsAnswer {S : Type 0} (may_answer : S → Step → Reply → S → Type 0) (step : Step) (old new : S) (waiting left : Waiting) : Type 0 where
+  pub reply : Reply
+  pub answered : may_answer old step reply new
+  pub text : left.text ≡ waiting.text ++ line_of waiting.page reply
+  pub page : left.page ≡ waiting.page

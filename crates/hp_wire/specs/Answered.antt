@@ -1,20 +1,14 @@
 -- Lines that were answered, into what waits to be written.
-use Rattle.std.specs.Prelude.{◌≡◌, ℕ, List, [], ◌++◌, Option, Result, Ok, Err}
+use Rattle.std.specs.Prelude.{◌≡◌, ℕ, List, [], ◌++◌, Option}
 use Rattle.std.specs.Io.KnownBytes.{Appends}
 use Rattle.hp_model.specs.machine.Plan.{Reply}
 use Rattle.hp_model.specs.text.Lines.{Line}
 use Rattle.hp_model.specs.text.Text.{IsTextOfReplies}
-use Rattle.hp_model.specs.declared.refusal.Refusal.{Refusal}
 use Rattle.hp_model.specs.declared.step.Step.{Step}
 use Rattle.hp_wire.specs.Sent.{AppendsFront}
 use Rattle.hp_wire.specs.Waiting.{Waiting}
 use Rattle.hp_wire.specs.declared.fault.RunFault.{RunFault}
 use Rattle.hp_wire.specs.declared.fault.RunFault.TheVariants.{Write}
-
--- a step that was read is answered by the machine alone, and what was read as none leaves it as it was
-abbrev pub AnswersRead : {S : Type 0} → (S → Step → Reply → S → Type 0) → S → Result Step Refusal → Reply → S → Type 0
-AnswersRead may_answer old (Ok step) reply new = may_answer old step reply new
-AnswersRead may_answer old (Err refusal) reply new = (reply ≡ Err refusal) × (new ≡ old)
 
 -- what is written and what waits, in this order, gained these bytes
 pub record Gains (old : Option (List ℕ)) (waiting : List ℕ) (new : Option (List ℕ)) (left : List ℕ) (added : List ℕ) : Type 0 where

@@ -2,10 +2,8 @@
 ghost use Rattle.std.specs.Prelude.{◌≡◌, ◌+◌, ◌<◌, ◌^◌, [], ◌∷◌, length, IfErr, IfOk, IsOk, OnOk};
 ghost use Rattle.hp_model.specs.text.Lines.{ended, ended_lines};
 ghost use Rattle.hp_model.specs.text.Reading.{load_of, step_of, store_of};
-ghost use Rattle.hp_model.specs.text.Text.{AnswersStep};
-ghost use Rattle.hp_model.specs.text.Writing.{IsWithinLimits};
-ghost use Rattle.hp_wire.specs.Added.{AddsReply};
-ghost use Rattle.hp_wire.specs.Answered.{AnswersAll, AnswersRead, AnswersSome, RunsAll, RunsSome};
+ghost use Rattle.hp_wire.specs.Added.{AddsAnswer, AddsReply};
+ghost use Rattle.hp_wire.specs.Answered.{AnswersAll, AnswersSome, RunsAll, RunsSome};
 ghost use Rattle.hp_wire.specs.Sent.{Writes, WritesFront};
 ghost use Rattle.hp_wire.specs.Served.{text_of_refusals, unended_by};
 ghost use Rattle.hp_wire.specs.Unanswered.{CountsLines};
@@ -14,11 +12,10 @@ ghost use Rattle.hp_wire.specs.Waiting.{HasRoomForOne};
 use crate::ends::Sink;
 use crate::fault::RunFault;
 use crate::replies::Replies;
-use hp_model::answer::Reply;
 use hp_model::refusal::Refusal;
 use hp_model::service::Service;
 use hp_model::step::Step;
-use hp_text::pieces::first_piece;
+use hp_text::pieces::first_long_piece;
 use hp_wire_lines::accesses::{loading, storing};
 use hp_wire_lines::reading::{LINE_LIMIT, LineKind, kind_of_line, step_of_line};
 use hp_wire_lines::words::Words;
@@ -73,7 +70,7 @@ impl Replies {
     {
         let mut rest = bytes;
         let mut count = 0u64;
-        while let (line, Some(after)) = first_piece(b'\n', rest) {
+        while let (line, Some(after)) = first_long_piece(b'\n', rest) {
             self.answer_line(alloc, line, service, writer)?;
             count += 1;
             rest = after;
@@ -161,7 +158,7 @@ impl Replies {
         }
     }
 
-    // Answers a line by its step and the whole reply: apart, so that no line pays for these that has none.
+    // Answers a line by its step: apart, so that no line pays for this that has none.
     #[inline(never)]
     fn add_other<S: Service>(&mut self, alloc: Global, line: &[u8], service: &mut S)
         requires ready { S.is_ready service.old }
@@ -170,7 +167,26 @@ impl Replies {
             service.old service.new self.old self.new }
         ensures ready { S.is_ready service.new }
     {
-        let reply = reply_to(alloc, service, line);
+        if line.len() > LINE_LIMIT {
+            return self.add_refusal(Refusal::LineTooLong);
+        }
+        match step_of_line(alloc, line) {
+            Ok(step) => self.add_answer(&step, service),
+            Err(refusal) => self.add_refusal(refusal),
+        }
+    }
+
+    // Does a step, and adds the line of its reply.
+    #[inline(always)]
+    fn add_answer<S: Service>(&mut self, step: &Step, service: &mut S)
+        requires ready { S.is_ready service.old }
+        requires room { HasRoomForOne self.old }
+        ensures answered { AddsAnswer S.may_answer step.now
+            service.old service.new self.old self.new }
+        ensures ready { S.is_ready service.new }
+    {
+        let mut room = [0u8; 256];
+        let reply = service.answer(step, &mut room);
         self.add(&reply);
     }
 
@@ -199,37 +215,10 @@ impl Replies {
             } else {
                 Refusal::LineTooLong
             };
-            self.add(&Err(refusal));
+            self.add_refusal(refusal);
             lines += 1;
         }
         self.send(writer)?;
         Ok(lines)
     }
-}
-
-#[inline(always)]
-fn reply_to<S: Service>(alloc: Global, service: &mut S, line: &[u8]) -> Reply
-    requires ready { S.is_ready service.old }
-    ensures answered { AnswersStep S.may_answer service.old (step_of (ended line.now))
-        result service.new }
-    ensures limits { IsWithinLimits result }
-    ensures ready { S.is_ready service.new }
-{
-    if line.len() > LINE_LIMIT {
-        return Err(Refusal::LineTooLong);
-    }
-    let read = step_of_line(alloc, line);
-    answer(service, read)
-}
-
-// The machine's reply to the step that was read, or why none was.
-#[inline(always)]
-fn answer<S: Service>(service: &mut S, read: Result<Step, Refusal>) -> Reply
-    requires ready { S.is_ready service.old }
-    ensures answered { AnswersRead S.may_answer service.old read result service.new }
-    ensures limits { IsWithinLimits result }
-    ensures ready { S.is_ready service.new }
-{
-    let step = read?;
-    service.call(&step)
 }

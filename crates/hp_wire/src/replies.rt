@@ -1,6 +1,7 @@
 //! The replies that wait to be written.
 ghost use Rattle.std.specs.Prelude.{◌≡◌, ◌≤◌, ◌++◌, [], length, Err, IfErr, IfOk, IsOk, OnOk};
 ghost use Rattle.hp_model.specs.machine.Accesses.{bytes_reply, done_reply};
+ghost use Rattle.hp_model.specs.machine.Told.{told_reply};
 ghost use Rattle.hp_model.specs.text.Writing.{IsWithinLimits, line_of};
 ghost use Rattle.hp_wire.specs.Answered.{LosesNone};
 ghost use Rattle.hp_wire.specs.Sent.{Writes, WritesFront};
@@ -8,8 +9,8 @@ ghost use Rattle.hp_wire.specs.Waiting.{HasRoomForOne};
 
 use crate::ends::{Sink, write_whole};
 use crate::fault::RunFault;
-use hp_model::answer::Reply;
 use hp_model::refusal::Refusal;
+use hp_model::told::Told;
 use hp_wire_lines::writing::{
     LONGEST, line_of_load, line_of_refusal, line_of_reply, line_of_store,
 };
@@ -48,11 +49,12 @@ impl Replies {
 
     /// Adds the text of a reply.
     #[inline(always)]
-    pub fn add(&mut self, reply: &Reply)
-        requires limits { IsWithinLimits reply.now }
+    pub fn add(&mut self, reply: &Result<Told<'_>, Refusal>)
+        requires limits { IsWithinLimits (told_reply reply.now) }
         requires room { HasRoomForOne self.old }
         ensures page { self.new.page ≡ self.old.page }
-        ensures text { self.new.text ≡ self.old.text ++ line_of self.old.page reply.now }
+        ensures text { self.new.text ≡ self.old.text
+            ++ line_of self.old.page (told_reply reply.now) }
     {
         line_of_reply(self.page, reply, &mut self.waiting);
     }

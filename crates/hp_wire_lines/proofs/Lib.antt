@@ -1,4 +1,6 @@
 pub mod Pieces
 mod LineEnds
+mod Fronts
+mod LastHex
 mod Keywords
 mod HexValues

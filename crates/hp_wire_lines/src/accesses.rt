@@ -3,7 +3,7 @@ ghost use Rattle.std.specs.Prelude.{◌≡◌, length};
 ghost use Rattle.hp_model.specs.text.Reading.{load_of, store_of};
 ghost use Rattle.hp_wire_lines.specs.Accesses.{read_load, read_store};
 
-use crate::parts::{decoded, number};
+use crate::parts::last_hex;
 use crate::words::Words;
 use hp_model::refusal::Refusal;
 use hp_model::service::Access;
@@ -11,15 +11,15 @@ use hp_model::service::Access;
 /// Reads a load and its count of bytes, or answers `BadLine`.
 #[tactic(auto, unfolding(hp_model::specs::text::Reading::load_of))]
 #[inline(always)]
-pub fn loading(words: Words<'_>) -> Result<(Access, u64), Refusal>
+pub fn loading(mut words: Words<'_>) -> Result<(Access, u64), Refusal>
     ensures { read_load result ≡ load_of words.entry }
 {
-    let (task, words) = number(words)?;
-    let (slot, words) = number(words)?;
-    let (map, words) = number(words)?;
-    let (index, words) = number(words)?;
-    let (offset, words) = number(words)?;
-    let (count, words) = number(words)?;
+    let task = words.number()?;
+    let slot = words.number()?;
+    let map = words.number()?;
+    let index = words.number()?;
+    let offset = words.number()?;
+    let count = words.number()?;
     words.end()?;
     let access = Access {
         task,
@@ -32,20 +32,18 @@ pub fn loading(words: Words<'_>) -> Result<(Access, u64), Refusal>
 }
 
 /// Reads a store and its bytes, into the front of the room, or answers `BadLine`.
-#[tactic(auto, unfolding(hp_model::specs::text::Reading::store_of, hp_model::specs::text::Words::hex_at))]
+#[tactic(auto, unfolding(hp_model::specs::text::Reading::store_of), using(crate::proofs::LastHex::then_last))]
 #[inline(always)]
-pub fn storing<'a>(words: Words<'_>, room: &'a mut [u8]) -> Result<(Access, &'a [u8]), Refusal>
+pub fn storing<'a>(mut words: Words<'_>, room: &'a mut [u8]) -> Result<(Access, &'a [u8]), Refusal>
     requires { length room.old ≡ 512 }
     ensures { read_store result ≡ store_of words.entry }
 {
-    let (task, words) = number(words)?;
-    let (slot, words) = number(words)?;
-    let (map, words) = number(words)?;
-    let (index, words) = number(words)?;
-    let (offset, words) = number(words)?;
-    let (piece, words) = words.piece()?;
-    let bytes = decoded(piece, room)?;
-    words.end()?;
+    let task = words.number()?;
+    let slot = words.number()?;
+    let map = words.number()?;
+    let index = words.number()?;
+    let offset = words.number()?;
+    let bytes = last_hex(&words, room)?;
     let access = Access {
         task,
         slot,

@@ -3,7 +3,7 @@ ghost use Rattle.std.specs.Prelude.{◌≡◌};
 ghost use Rattle.hp_model.specs.text.Reading.{anon_of, attach_of, connect_of, create_of, df_of, exit_of, fault_of, fork_of, load_of, ls_of, map_of, meminfo_of, mount_of, nodes_of, nr_of, overcommit_of, punch_of, read_of, stat_of, store_of, truncate_of, umount_of, unlink_of, unmap_of, IsReadAs};
 
 use crate::accesses::{loading, storing};
-use crate::parts::{copied, intent, number, reserving, sharing, word};
+use crate::parts::{copied, intent, reserving, sharing, word};
 use crate::words::Words;
 use hp_model::refusal::Refusal;
 use hp_model::service::Access;
@@ -11,53 +11,53 @@ use hp_model::step::Step;
 use std::alloc::Global;
 
 #[tactic(auto, unfolding(hp_model::specs::text::Reading::connect_of))]
-pub fn connect(words: Words<'_>) -> Result<Step, Refusal>
-    ensures { result ≡ connect_of words.entry }
+pub fn connect(words: &mut Words<'_>) -> Result<Step, Refusal>
+    ensures { result ≡ connect_of words.old }
 {
-    let (task, words) = number(words)?;
-    let (home, words) = number(words)?;
+    let task = words.number()?;
+    let home = words.number()?;
     words.end()?;
     Ok(Step::Connect { task, home })
 }
 
 #[tactic(auto, unfolding(hp_model::specs::text::Reading::attach_of))]
-pub fn attach(words: Words<'_>) -> Result<Step, Refusal>
-    ensures { result ≡ attach_of words.entry }
+pub fn attach(words: &mut Words<'_>) -> Result<Step, Refusal>
+    ensures { result ≡ attach_of words.old }
 {
-    let (task, words) = number(words)?;
+    let task = words.number()?;
     words.end()?;
     Ok(Step::Attach { task })
 }
 
 #[tactic(auto, unfolding(hp_model::specs::text::Reading::fork_of))]
-pub fn fork(words: Words<'_>) -> Result<Step, Refusal>
-    ensures { result ≡ fork_of words.entry }
+pub fn fork(words: &mut Words<'_>) -> Result<Step, Refusal>
+    ensures { result ≡ fork_of words.old }
 {
-    let (parent, words) = number(words)?;
-    let (child, words) = number(words)?;
+    let parent = words.number()?;
+    let child = words.number()?;
     words.end()?;
     Ok(Step::Fork { parent, child })
 }
 
 #[tactic(auto, unfolding(hp_model::specs::text::Reading::exit_of))]
-pub fn exit(words: Words<'_>) -> Result<Step, Refusal>
-    ensures { result ≡ exit_of words.entry }
+pub fn exit(words: &mut Words<'_>) -> Result<Step, Refusal>
+    ensures { result ≡ exit_of words.old }
 {
-    let (task, words) = number(words)?;
+    let task = words.number()?;
     words.end()?;
     Ok(Step::Exit { task })
 }
 
 #[tactic(auto, unfolding(hp_model::specs::text::Reading::map_of))]
-pub fn map(alloc: Global, words: Words<'_>) -> Result<Step, Refusal>
-    ensures { IsReadAs result (map_of words.entry) }
+pub fn map(alloc: Global, words: &mut Words<'_>) -> Result<Step, Refusal>
+    ensures { IsReadAs result (map_of words.old) }
 {
-    let (task, words) = number(words)?;
-    let (slot, words) = number(words)?;
-    let (name, words) = word(words)?;
-    let (from, words) = number(words)?;
-    let (pages, words) = number(words)?;
-    let (sharing, words) = sharing(words)?;
+    let task = words.number()?;
+    let slot = words.number()?;
+    let name = word(words)?;
+    let from = words.number()?;
+    let pages = words.number()?;
+    let sharing = sharing(words)?;
     let reserving = reserving(words)?;
     let name = copied(alloc, name)?;
     Ok(Step::Map {
@@ -72,12 +72,12 @@ pub fn map(alloc: Global, words: Words<'_>) -> Result<Step, Refusal>
 }
 
 #[tactic(auto, unfolding(hp_model::specs::text::Reading::anon_of))]
-pub fn anon(words: Words<'_>) -> Result<Step, Refusal>
-    ensures { result ≡ anon_of words.entry }
+pub fn anon(words: &mut Words<'_>) -> Result<Step, Refusal>
+    ensures { result ≡ anon_of words.old }
 {
-    let (task, words) = number(words)?;
-    let (pages, words) = number(words)?;
-    let (sharing, words) = sharing(words)?;
+    let task = words.number()?;
+    let pages = words.number()?;
+    let sharing = sharing(words)?;
     let reserving = reserving(words)?;
     Ok(Step::Anon {
         task,
@@ -88,14 +88,14 @@ pub fn anon(words: Words<'_>) -> Result<Step, Refusal>
 }
 
 #[tactic(auto, unfolding(hp_model::specs::text::Reading::unmap_of))]
-pub fn unmap(words: Words<'_>) -> Result<Step, Refusal>
-    ensures { result ≡ unmap_of words.entry }
+pub fn unmap(words: &mut Words<'_>) -> Result<Step, Refusal>
+    ensures { result ≡ unmap_of words.old }
 {
-    let (task, words) = number(words)?;
-    let (slot, words) = number(words)?;
-    let (map, words) = number(words)?;
-    let (from, words) = number(words)?;
-    let (to, words) = number(words)?;
+    let task = words.number()?;
+    let slot = words.number()?;
+    let map = words.number()?;
+    let from = words.number()?;
+    let to = words.number()?;
     words.end()?;
     Ok(Step::Unmap {
         task,
@@ -107,14 +107,14 @@ pub fn unmap(words: Words<'_>) -> Result<Step, Refusal>
 }
 
 #[tactic(auto, unfolding(hp_model::specs::text::Reading::fault_of))]
-pub fn fault(words: Words<'_>) -> Result<Step, Refusal>
-    ensures { result ≡ fault_of words.entry }
+pub fn fault(words: &mut Words<'_>) -> Result<Step, Refusal>
+    ensures { result ≡ fault_of words.old }
 {
-    let (task, words) = number(words)?;
-    let (slot, words) = number(words)?;
-    let (map, words) = number(words)?;
-    let (index, words) = number(words)?;
-    let (intent, words) = intent(words)?;
+    let task = words.number()?;
+    let slot = words.number()?;
+    let map = words.number()?;
+    let index = words.number()?;
+    let intent = intent(words)?;
     words.end()?;
     Ok(Step::Fault {
         task,
@@ -170,67 +170,67 @@ pub fn store(alloc: Global, words: Words<'_>) -> Result<Step, Refusal>
 }
 
 #[tactic(auto, unfolding(hp_model::specs::text::Reading::mount_of))]
-pub fn mount(alloc: Global, words: Words<'_>) -> Result<Step, Refusal>
-    ensures { IsReadAs result (mount_of words.entry) }
+pub fn mount(alloc: Global, words: &mut Words<'_>) -> Result<Step, Refusal>
+    ensures { IsReadAs result (mount_of words.old) }
 {
-    let (slot, words) = number(words)?;
-    let (options, words) = word(words)?;
+    let slot = words.number()?;
+    let options = word(words)?;
     words.end()?;
     let options = copied(alloc, options)?;
     Ok(Step::Mount { slot, options })
 }
 
 #[tactic(auto, unfolding(hp_model::specs::text::Reading::umount_of))]
-pub fn umount(words: Words<'_>) -> Result<Step, Refusal>
-    ensures { result ≡ umount_of words.entry }
+pub fn umount(words: &mut Words<'_>) -> Result<Step, Refusal>
+    ensures { result ≡ umount_of words.old }
 {
-    let (slot, words) = number(words)?;
+    let slot = words.number()?;
     words.end()?;
     Ok(Step::Umount { slot })
 }
 
 #[tactic(auto, unfolding(hp_model::specs::text::Reading::create_of))]
-pub fn create(alloc: Global, words: Words<'_>) -> Result<Step, Refusal>
-    ensures { IsReadAs result (create_of words.entry) }
+pub fn create(alloc: Global, words: &mut Words<'_>) -> Result<Step, Refusal>
+    ensures { IsReadAs result (create_of words.old) }
 {
-    let (slot, words) = number(words)?;
-    let (name, words) = word(words)?;
+    let slot = words.number()?;
+    let name = word(words)?;
     words.end()?;
     let name = copied(alloc, name)?;
     Ok(Step::Create { slot, name })
 }
 
 #[tactic(auto, unfolding(hp_model::specs::text::Reading::unlink_of))]
-pub fn unlink(alloc: Global, words: Words<'_>) -> Result<Step, Refusal>
-    ensures { IsReadAs result (unlink_of words.entry) }
+pub fn unlink(alloc: Global, words: &mut Words<'_>) -> Result<Step, Refusal>
+    ensures { IsReadAs result (unlink_of words.old) }
 {
-    let (slot, words) = number(words)?;
-    let (name, words) = word(words)?;
+    let slot = words.number()?;
+    let name = word(words)?;
     words.end()?;
     let name = copied(alloc, name)?;
     Ok(Step::Unlink { slot, name })
 }
 
 #[tactic(auto, unfolding(hp_model::specs::text::Reading::truncate_of))]
-pub fn truncate(alloc: Global, words: Words<'_>) -> Result<Step, Refusal>
-    ensures { IsReadAs result (truncate_of words.entry) }
+pub fn truncate(alloc: Global, words: &mut Words<'_>) -> Result<Step, Refusal>
+    ensures { IsReadAs result (truncate_of words.old) }
 {
-    let (slot, words) = number(words)?;
-    let (name, words) = word(words)?;
-    let (pages, words) = number(words)?;
+    let slot = words.number()?;
+    let name = word(words)?;
+    let pages = words.number()?;
     words.end()?;
     let name = copied(alloc, name)?;
     Ok(Step::Truncate { slot, name, pages })
 }
 
 #[tactic(auto, unfolding(hp_model::specs::text::Reading::punch_of))]
-pub fn punch(alloc: Global, words: Words<'_>) -> Result<Step, Refusal>
-    ensures { IsReadAs result (punch_of words.entry) }
+pub fn punch(alloc: Global, words: &mut Words<'_>) -> Result<Step, Refusal>
+    ensures { IsReadAs result (punch_of words.old) }
 {
-    let (slot, words) = number(words)?;
-    let (name, words) = word(words)?;
-    let (from, words) = number(words)?;
-    let (to, words) = number(words)?;
+    let slot = words.number()?;
+    let name = word(words)?;
+    let from = words.number()?;
+    let to = words.number()?;
     words.end()?;
     let name = copied(alloc, name)?;
     Ok(Step::Punch {
@@ -242,14 +242,14 @@ pub fn punch(alloc: Global, words: Words<'_>) -> Result<Step, Refusal>
 }
 
 #[tactic(auto, unfolding(hp_model::specs::text::Reading::read_of))]
-pub fn read(alloc: Global, words: Words<'_>) -> Result<Step, Refusal>
-    ensures { IsReadAs result (read_of words.entry) }
+pub fn read(alloc: Global, words: &mut Words<'_>) -> Result<Step, Refusal>
+    ensures { IsReadAs result (read_of words.old) }
 {
-    let (slot, words) = number(words)?;
-    let (name, words) = word(words)?;
-    let (index, words) = number(words)?;
-    let (offset, words) = number(words)?;
-    let (count, words) = number(words)?;
+    let slot = words.number()?;
+    let name = word(words)?;
+    let index = words.number()?;
+    let offset = words.number()?;
+    let count = words.number()?;
     words.end()?;
     let name = copied(alloc, name)?;
     Ok(Step::Read {
@@ -262,63 +262,63 @@ pub fn read(alloc: Global, words: Words<'_>) -> Result<Step, Refusal>
 }
 
 #[tactic(auto, unfolding(hp_model::specs::text::Reading::ls_of))]
-pub fn ls(words: Words<'_>) -> Result<Step, Refusal>
-    ensures { result ≡ ls_of words.entry }
+pub fn ls(words: &mut Words<'_>) -> Result<Step, Refusal>
+    ensures { result ≡ ls_of words.old }
 {
-    let (slot, words) = number(words)?;
+    let slot = words.number()?;
     words.end()?;
     Ok(Step::Ls { slot })
 }
 
 #[tactic(auto, unfolding(hp_model::specs::text::Reading::stat_of))]
-pub fn stat(alloc: Global, words: Words<'_>) -> Result<Step, Refusal>
-    ensures { IsReadAs result (stat_of words.entry) }
+pub fn stat(alloc: Global, words: &mut Words<'_>) -> Result<Step, Refusal>
+    ensures { IsReadAs result (stat_of words.old) }
 {
-    let (slot, words) = number(words)?;
-    let (name, words) = word(words)?;
+    let slot = words.number()?;
+    let name = word(words)?;
     words.end()?;
     let name = copied(alloc, name)?;
     Ok(Step::Stat { slot, name })
 }
 
 #[tactic(auto, unfolding(hp_model::specs::text::Reading::df_of))]
-pub fn df(words: Words<'_>) -> Result<Step, Refusal>
-    ensures { result ≡ df_of words.entry }
+pub fn df(words: &mut Words<'_>) -> Result<Step, Refusal>
+    ensures { result ≡ df_of words.old }
 {
-    let (slot, words) = number(words)?;
+    let slot = words.number()?;
     words.end()?;
     Ok(Step::Df { slot })
 }
 
 #[tactic(auto, unfolding(hp_model::specs::text::Reading::nr_of))]
-pub fn nr(words: Words<'_>) -> Result<Step, Refusal>
-    ensures { result ≡ nr_of words.entry }
+pub fn nr(words: &mut Words<'_>) -> Result<Step, Refusal>
+    ensures { result ≡ nr_of words.old }
 {
-    let (pages, words) = number(words)?;
+    let pages = words.number()?;
     words.end()?;
     Ok(Step::Nr { pages })
 }
 
 #[tactic(auto, unfolding(hp_model::specs::text::Reading::overcommit_of))]
-pub fn overcommit(words: Words<'_>) -> Result<Step, Refusal>
-    ensures { result ≡ overcommit_of words.entry }
+pub fn overcommit(words: &mut Words<'_>) -> Result<Step, Refusal>
+    ensures { result ≡ overcommit_of words.old }
 {
-    let (pages, words) = number(words)?;
+    let pages = words.number()?;
     words.end()?;
     Ok(Step::Overcommit { pages })
 }
 
 #[tactic(auto, unfolding(hp_model::specs::text::Reading::meminfo_of))]
-pub fn meminfo(words: Words<'_>) -> Result<Step, Refusal>
-    ensures { result ≡ meminfo_of words.entry }
+pub fn meminfo(words: &Words<'_>) -> Result<Step, Refusal>
+    ensures { result ≡ meminfo_of words.now }
 {
     words.end()?;
     Ok(Step::Meminfo)
 }
 
 #[tactic(auto, unfolding(hp_model::specs::text::Reading::nodes_of))]
-pub fn nodes(words: Words<'_>) -> Result<Step, Refusal>
-    ensures { result ≡ nodes_of words.entry }
+pub fn nodes(words: &Words<'_>) -> Result<Step, Refusal>
+    ensures { result ≡ nodes_of words.now }
 {
     words.end()?;
     Ok(Step::Nodes)

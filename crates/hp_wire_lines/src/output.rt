@@ -45,8 +45,7 @@ pub fn push_hex(out: &mut Vec<u8>, bytes: &[u8])
     ensures adds { Adds out.old out.new (encode_lower bytes.now) }
     ensures short { length (encode_lower bytes.now) ≤ 512 }
 {
-    let mut digits = [0u8; 512];
-    let part = &mut digits[..2 * bytes.len()];
-    hex::encode_to_slice(bytes, part).unwrap();
-    push(out, part);
+    let from = out.len();
+    out.resize(from + 2 * bytes.len(), 0).unwrap();
+    hex::encode_to_slice(bytes, &mut out[from..]).unwrap();
 }

@@ -1,33 +1,23 @@
 //! What the words of a line say.
 ghost use Rattle.std.specs.Prelude.{◌≡◌, ◌≤◌, length, MatchResult};
 ghost use Rattle.std.specs.List.{list_all};
-ghost use Rattle.hp_model.specs.text.Words.{number_at, word_at, word_of, is_word, is_word_byte, sharing_at, sharing_of, intent_at, intent_of, reserving_at, bytes_of_hex};
-ghost use Rattle.hp_wire_lines.specs.Words.{Gives};
+ghost use Rattle.hp_model.specs.text.Words.{word_at, word_of, is_word, is_word_byte, sharing_at, sharing_of, intent_at, intent_of, reserving_at, bytes_of_hex};
+ghost use Rattle.hp_wire_lines.specs.Words.{Gives, Takes, last_hex};
 
 use crate::hex_digits::decode;
-use crate::words::{Words, number_of};
+use crate::words::Words;
 use hp_model::bytes::Bytes;
 use hp_model::refusal::Refusal;
 use hp_model::step::{Intent, Reserving, Sharing};
 use std::alloc::Global;
 
-/// A number, and the words after it.
-#[tactic(auto, unfolding(hp_model::specs::text::Words::number_at))]
-#[inline(always)]
-pub fn number<'a>(words: Words<'a>) -> Result<(u64, Words<'a>), Refusal>
-    ensures { result ≡ number_at words.entry }
-{
-    let (piece, words) = words.piece()?;
-    Ok((number_of(piece)?, words))
-}
-
-/// A name or options, and the words after it.
+/// Takes a name or options.
 #[tactic(auto, unfolding(hp_model::specs::text::Words::word_at))]
-pub fn word<'a>(words: Words<'a>) -> Result<(&'a [u8], Words<'a>), Refusal>
-    ensures { Gives (λ x. (x.0.now, x.1)) result (word_at words.entry) }
+pub fn word<'a>(words: &mut Words<'a>) -> Result<&'a [u8], Refusal>
+    ensures { Takes (λ x. x.now) result words.new (word_at words.old) }
 {
-    let (piece, words) = words.piece()?;
-    Ok((word_of(piece)?, words))
+    let piece = words.piece()?;
+    word_of(piece)
 }
 
 // A piece of one or more printed characters.
@@ -53,41 +43,41 @@ fn is_printed(bytes: &[u8]) -> bool
     bytes.iter().all(|b| *b >= 33 && *b <= 126)
 }
 
-/// `shared` or `private`, and the words after it.
+/// Takes `shared` or `private`.
 #[tactic(auto, unfolding(hp_model::specs::text::Words::sharing_at))]
-pub fn sharing<'a>(words: Words<'a>) -> Result<(Sharing, Words<'a>), Refusal>
-    ensures { result ≡ sharing_at words.entry }
+pub fn sharing(words: &mut Words<'_>) -> Result<Sharing, Refusal>
+    ensures { Takes (λ x. x) result words.new (sharing_at words.old) }
 {
-    let (piece, words) = words.piece()?;
+    let piece = words.piece()?;
     if piece == b"shared".as_slice() {
-        Ok((Sharing::Shared, words))
+        Ok(Sharing::Shared)
     } else if piece == b"private".as_slice() {
-        Ok((Sharing::Private, words))
+        Ok(Sharing::Private)
     } else {
         Err(Refusal::BadLine)
     }
 }
 
-/// `read` or `write`, and the words after it.
+/// Takes `read` or `write`.
 #[tactic(auto, unfolding(hp_model::specs::text::Words::intent_at))]
-pub fn intent<'a>(words: Words<'a>) -> Result<(Intent, Words<'a>), Refusal>
-    ensures { result ≡ intent_at words.entry }
+pub fn intent(words: &mut Words<'_>) -> Result<Intent, Refusal>
+    ensures { Takes (λ x. x) result words.new (intent_at words.old) }
 {
-    let (piece, words) = words.piece()?;
+    let piece = words.piece()?;
     if piece == b"read".as_slice() {
-        Ok((Intent::Read, words))
+        Ok(Intent::Read)
     } else if piece == b"write".as_slice() {
-        Ok((Intent::Write, words))
+        Ok(Intent::Write)
     } else {
         Err(Refusal::BadLine)
     }
 }
 
 /// Nothing, or `noreserve` as the last word.
-pub fn reserving(words: Words<'_>) -> Result<Reserving, Refusal>
-    ensures { result ≡ reserving_at words.entry }
+pub fn reserving(words: &mut Words<'_>) -> Result<Reserving, Refusal>
+    ensures { result ≡ reserving_at words.old }
 {
-    let Ok((piece, words)) = words.piece() else {
+    let Ok(piece) = words.piece() else {
         return Ok(Reserving::Reserve);
     };
     words.end()?;
@@ -98,8 +88,18 @@ pub fn reserving(words: Words<'_>) -> Result<Reserving, Refusal>
     }
 }
 
-/// The bytes of hex digits, in the front of the room. At least two digits.
-pub fn decoded<'a>(piece: &[u8], room: &'a mut [u8]) -> Result<&'a [u8], Refusal>
+/// The bytes of hex digits that are the last word, in the front of the room. At least two digits.
+pub fn last_hex<'a>(words: &Words<'_>, room: &'a mut [u8]) -> Result<&'a [u8], Refusal>
+    requires { length room.old ≡ 512 }
+    ensures { Gives (λ x. x.now) result (last_hex words.now) }
+{
+    // A space is no digit, so the digits need not be cut off first.
+    let rest = words.rest()?;
+    decoded(rest, room)
+}
+
+// The bytes of hex digits, in the front of the room. At least two digits.
+fn decoded<'a>(piece: &[u8], room: &'a mut [u8]) -> Result<&'a [u8], Refusal>
     requires { (length piece.now ≤ 1024) × (length room.old ≡ 512) }
     ensures { Gives (λ x. x.now) result (bytes_of_hex piece.now) }
 {
@@ -119,8 +119,8 @@ pub fn decoded<'a>(piece: &[u8], room: &'a mut [u8]) -> Result<&'a [u8], Refusal
 pub fn copied(alloc: Global, bytes: &[u8]) -> Result<Bytes, Refusal>
     ensures { MatchResult result (λ copy. copy ≡ bytes.now) (λ e. e ≡ Refusal.OutOfMemory) }
 {
-    match Vec::from_slice(alloc, bytes) {
-        Ok(copy) => Ok(Bytes::new(copy)),
+    match Bytes::copied(alloc, bytes) {
+        Ok(copy) => Ok(copy),
         Err(_) => Err(Refusal::OutOfMemory),
     }
 }

@@ -1,8 +1,9 @@
 //! The step that a line reads as.
 ghost use Rattle.std.specs.Prelude.{◌≡◌, ◌≤◌, length};
 ghost use Rattle.hp_wire_lines.specs.Accesses.{IsKind};
-ghost use Rattle.hp_model.specs.text.Reading.{pool_command, slot_command, step_of_command, step_of_bytes, IsReadAs};
+ghost use Rattle.hp_model.specs.text.Reading.{step_of_bytes, IsReadAs};
 
+use crate::command::{Command, command_of};
 use crate::commands::{
     anon, attach, connect, create, df, exit, fault, fork, load, ls, map, meminfo, mount, nodes, nr,
     overcommit, punch, read, stat, store, truncate, umount, unlink, unmap,
@@ -30,7 +31,8 @@ pub fn kind_of_line<'a>(line: &'a [u8]) -> LineKind<'a>
     requires { length line.now ≤ 1024 }
     ensures { IsKind result line.now }
 {
-    let Ok((command, words)) = Words::new(line).piece() else {
+    let mut words = Words::new(line);
+    let Ok(command) = words.piece() else {
         return LineKind::Other;
     };
     if command == b"load".as_slice() {
@@ -49,84 +51,33 @@ pub fn step_of_line(alloc: Global, line: &[u8]) -> Result<Step, Refusal>
     requires { length line.now ≤ 1024 }
     ensures { IsReadAs result (step_of_bytes line.now) }
 {
-    let (command, words) = Words::new(line).piece()?;
-    step_of_command(alloc, command, words)
-}
-
-// A command of a task, or another.
-#[tactic(auto, unfolding(hp_model::specs::text::Reading::step_of_command))]
-fn step_of_command(alloc: Global, command: &[u8], words: Words<'_>) -> Result<Step, Refusal>
-    ensures { IsReadAs result (step_of_command command.now words.entry) }
-{
-    if command == b"connect".as_slice() {
-        connect(words)
-    } else if command == b"attach".as_slice() {
-        attach(words)
-    } else if command == b"fork".as_slice() {
-        fork(words)
-    } else if command == b"exit".as_slice() {
-        exit(words)
-    } else if command == b"map".as_slice() {
-        map(alloc, words)
-    } else if command == b"anon".as_slice() {
-        anon(words)
-    } else if command == b"unmap".as_slice() {
-        unmap(words)
-    } else if command == b"fault".as_slice() {
-        fault(words)
-    } else if command == b"load".as_slice() {
-        load(words)
-    } else if command == b"store".as_slice() {
-        store(alloc, words)
-    } else {
-        slot_command(alloc, command, words)
-    }
-}
-
-// A command of a slot, without a task, or another.
-#[tactic(auto, unfolding(hp_model::specs::text::Reading::slot_command))]
-fn slot_command(alloc: Global, command: &[u8], words: Words<'_>) -> Result<Step, Refusal>
-    ensures { IsReadAs result (slot_command command.now words.entry) }
-{
-    if command == b"mount".as_slice() {
-        mount(alloc, words)
-    } else if command == b"umount".as_slice() {
-        umount(words)
-    } else if command == b"create".as_slice() {
-        create(alloc, words)
-    } else if command == b"unlink".as_slice() {
-        unlink(alloc, words)
-    } else if command == b"truncate".as_slice() {
-        truncate(alloc, words)
-    } else if command == b"punch".as_slice() {
-        punch(alloc, words)
-    } else if command == b"read".as_slice() {
-        read(alloc, words)
-    } else if command == b"ls".as_slice() {
-        ls(words)
-    } else if command == b"stat".as_slice() {
-        stat(alloc, words)
-    } else if command == b"df".as_slice() {
-        df(words)
-    } else {
-        pool_command(command, words)
-    }
-}
-
-// A command of the pool.
-#[tactic(auto, unfolding(hp_model::specs::text::Reading::pool_command))]
-fn pool_command(command: &[u8], words: Words<'_>) -> Result<Step, Refusal>
-    ensures { result ≡ pool_command command.now words.entry }
-{
-    if command == b"nr".as_slice() {
-        nr(words)
-    } else if command == b"overcommit".as_slice() {
-        overcommit(words)
-    } else if command == b"meminfo".as_slice() {
-        meminfo(words)
-    } else if command == b"nodes".as_slice() {
-        nodes(words)
-    } else {
-        Err(Refusal::BadLine)
+    let mut words = Words::new(line);
+    let word = words.piece()?;
+    match command_of(word) {
+        Some(Command::Connect) => connect(&mut words),
+        Some(Command::Attach) => attach(&mut words),
+        Some(Command::Fork) => fork(&mut words),
+        Some(Command::Exit) => exit(&mut words),
+        Some(Command::Map) => map(alloc, &mut words),
+        Some(Command::Anon) => anon(&mut words),
+        Some(Command::Unmap) => unmap(&mut words),
+        Some(Command::Fault) => fault(&mut words),
+        Some(Command::Load) => load(words),
+        Some(Command::Store) => store(alloc, words),
+        Some(Command::Mount) => mount(alloc, &mut words),
+        Some(Command::Umount) => umount(&mut words),
+        Some(Command::Create) => create(alloc, &mut words),
+        Some(Command::Unlink) => unlink(alloc, &mut words),
+        Some(Command::Truncate) => truncate(alloc, &mut words),
+        Some(Command::Punch) => punch(alloc, &mut words),
+        Some(Command::Read) => read(alloc, &mut words),
+        Some(Command::Ls) => ls(&mut words),
+        Some(Command::Stat) => stat(alloc, &mut words),
+        Some(Command::Df) => df(&mut words),
+        Some(Command::Nr) => nr(&mut words),
+        Some(Command::Overcommit) => overcommit(&mut words),
+        Some(Command::Meminfo) => meminfo(&words),
+        Some(Command::Nodes) => nodes(&words),
+        None => Err(Refusal::BadLine),
     }
 }

@@ -1,72 +1,142 @@
 //! The pieces of a line.
-ghost use Rattle.std.specs.Prelude.{◌≡◌, ◌≤◌, length};
-ghost use Rattle.hp_model.specs.text.Words.{number_of, pieces_of_line};
+ghost use Rattle.std.specs.Prelude.{◌≡◌, ◌+◌, ◌-◌, ◌<◌, ◌≤◌, length};
+ghost use Rattle.hp_model.specs.text.Words.{number_at, number_of, pieces_of_line};
+ghost use Rattle.hp_wire_lines.specs.Words.{number_after, pieces_from};
 
 use hp_model::refusal::Refusal;
 use hp_text::numbers;
 use hp_text::pieces::first_piece;
 use std::marker::Model;
 
-/// The pieces of a line that aren't read yet.
+/// The pieces of a line that aren't read yet: the line, and the place where the next of them begins.
+/// Past the end of the line none is left.
 #[derive(Drop)]
 pub struct Words<'a> {
-    rest: Option<&'a [u8]>,
+    line: &'a [u8],
+    at: usize,
 }
 
 impl<'a> Model for Words<'a> {
-    ghost use Rattle.std.specs.Prelude.{ℕ, ◌≤◌, List, length, IfSome};
-    ghost use Rattle.hp_text.specs.Pieces.{pieces_after};
+    ghost use Rattle.std.specs.Prelude.{ℕ, ◌≤◌, List, length};
+    ghost use Rattle.hp_wire_lines.specs.Words.{pieces_from};
 
     ghost Value = { List (List ℕ) };
 
     // The pieces between the spaces.
-    ghost view = { λ w. pieces_after 32 w.rest };
+    ghost view = { λ w. pieces_from w.at w.line.now };
 
-    ghost invariant = { λ w. IfSome w.rest (λ rest. length rest.now ≤ 1024) };
+    ghost invariant = { λ w. (length w.line.now ≤ 1024) × (w.at ≤ 1025) };
 }
 
 impl<'a> Words<'a> {
-    ghost use Rattle.hp_model.specs.text.Words.{pieces_of_line, piece_at, end_at};
-    ghost use Rattle.hp_wire_lines.specs.Words.{Gives};
-    ghost use Rattle.std.specs.Prelude.{◌≡◌, ◌≤◌, length, IfOk};
+    ghost use Rattle.hp_model.specs.text.Words.{pieces_of_line, piece_at, number_at, end_at};
+    ghost use Rattle.hp_wire_lines.specs.Words.{Takes};
+    ghost use Rattle.std.specs.Prelude.{◌≡◌, ◌≤◌, [], length, IfOk, MatchResult};
 
+    #[inline(always)]
     pub fn new(line: &'a [u8]) -> Words<'a>
         requires { length line.now ≤ 1024 }
         ensures { result ≡ pieces_of_line line.entry.now }
     {
-        Words { rest: Some(line) }
+        Words { line, at: 0 }
     }
 
-    /// The first piece, and the others.
-    #[tactic(auto, unfolding(hp_model::specs::text::Words::piece_at))]
+    /// Takes the next piece.
     #[inline(always)]
-    pub fn piece(self) -> Result<(&'a [u8], Words<'a>), Refusal>
-        ensures value { Gives (λ x. (x.0.now, x.1)) result (piece_at self.entry) }
-        ensures short { IfOk result (λ x. length x.0.now ≤ 1024) }
+    pub fn piece(&mut self) -> Result<&'a [u8], Refusal>
+        ensures value { Takes (λ x. x.now) result self.new (piece_at self.old) }
+        ensures short { IfOk result (λ x. length x.now ≤ 1024) }
     {
-        match self.rest {
-            None => Err(Refusal::BadLine),
-            Some(rest) => {
-                let (piece, rest) = first_piece(b' ', rest);
-                Ok((piece, Words { rest }))
-            }
+        let line = self.line;
+        let from = self.at;
+        if from > line.len() {
+            return Err(Refusal::BadLine);
         }
+        let (piece, _) = first_piece(b' ', &line[from..]);
+        self.at = from + piece.len() + 1;
+        Ok(piece)
+    }
+
+    /// Takes the next piece, as a number.
+    #[inline(always)]
+    pub fn number(&mut self) -> Result<u64, Refusal>
+        ensures { Takes (λ n. n) result self.new (number_at self.old) }
+    {
+        let line = self.line;
+        let from = self.at;
+        let (value, at) = front_number(line, from);
+        if at == from {
+            return self.any_number();
+        }
+        if at < line.len() && line[at] != b' ' {
+            return self.any_number();
+        }
+        self.at = at + 1;
+        Ok(value)
+    }
+
+    // A number of 20 digits, or what is no number.
+    #[cold]
+    #[inline(never)]
+    fn any_number(&mut self) -> Result<u64, Refusal>
+        ensures { Takes (λ n. n) result self.new (number_at self.old) }
+    {
+        let piece = self.piece()?;
+        number_of(piece)
+    }
+
+    /// What is left of the line, as it stands.
+    #[inline(always)]
+    pub fn rest(&self) -> Result<&'a [u8], Refusal>
+        ensures { MatchResult result
+            (λ rest. (self.now ≡ pieces_of_line rest.now) × (length rest.now ≤ 1024))
+            (λ e. (self.now ≡ []) × (e ≡ Refusal.BadLine)) }
+    {
+        if self.at > self.line.len() {
+            return Err(Refusal::BadLine);
+        }
+        Ok(&self.line[self.at..])
     }
 
     /// Whether no piece is left.
     #[tactic(auto, unfolding(hp_model::specs::text::Words::end_at))]
-    pub fn end(self) -> Result<(), Refusal>
-        ensures { result ≡ end_at self.entry }
+    #[inline(always)]
+    pub fn end(&self) -> Result<(), Refusal>
+        ensures { result ≡ end_at self.now }
     {
-        match self.rest {
-            None => Ok(()),
-            Some(_) => Err(Refusal::BadLine),
+        if self.at > self.line.len() {
+            Ok(())
+        } else {
+            Err(Refusal::BadLine)
         }
     }
 }
 
-/// Reads a piece as a number.
+// Numbers of so many digits are below 2^64.
+const DIGITS: usize = 19;
+
+// The number of the first digits from a place on, and where they end.
 #[inline(always)]
+fn front_number(line: &[u8], from: usize) -> (u64, usize)
+    requires line { length line.now ≤ 1024 }
+    requires from { from ≤ 1025 }
+    ensures behind { from ≤ result.1 }
+    ensures within { from < result.1 → result.1 ≤ length line.now }
+    ensures few { result.1 ≤ from + DIGITS }
+    ensures number { number_after result.0 (result.1 - from) (pieces_from result.1 line.now)
+        ≡ number_at (pieces_from from line.now) }
+{
+    let end = line.len().min(from + DIGITS);
+    let mut value = 0u64;
+    let mut at = from;
+    while at < end && line[at].is_ascii_digit() {
+        value = value * 10 + u64::from(line[at] - b'0');
+        at += 1;
+    }
+    (value, at)
+}
+
+/// Reads a piece as a number.
 pub fn number_of(piece: &[u8]) -> Result<u64, Refusal>
     ensures { result ≡ number_of piece.now }
 {

@@ -3,15 +3,17 @@ ghost use Rattle.std.specs.Prelude.{◌≡◌, ◌≤◌, ℕ, ◌*◌, ◌++◌
 ghost use Rattle.std.specs.List.{All};
 ghost use Rattle.hex.specs.Hex.{encode_lower};
 ghost use Rattle.hp_model.specs.machine.Accesses.{bytes_reply, done_reply};
+ghost use Rattle.hp_model.specs.machine.Told.{told_answer, told_reply};
 ghost use Rattle.hp_model.specs.text.Writing.{newline, number_line, spaced, heading, meminfo_text, rows_text, names_text, answer_text, line_of, HasSmallAnswer, IsWithinLimits};
 ghost use Rattle.hp_model.specs.declared.answer.Answer.TheVariants.{Usage as UsageAnswer};
 ghost use Rattle.hp_wire_lines.specs.Rows.{row_line};
 ghost use Rattle.hp_text.specs.Output.{HasRoom, Adds};
 
 use crate::output::{push_hex, push_limit, push_spaced};
-use hp_model::answer::{Answer, Counts, NodeCount, Reply};
+use hp_model::answer::{Counts, NodeCount};
 use hp_model::bytes::Bytes;
 use hp_model::refusal::Refusal;
+use hp_model::told::Told;
 use hp_text::meminfo::meminfo_text;
 use hp_text::output::{push, push_number};
 
@@ -19,14 +21,14 @@ use hp_text::output::{push, push_number};
 pub const LONGEST: usize = 66_586;
 
 /// Adds the lines of a reply to what waits to be written, where a page has `page` bytes. It takes no memory.
-pub fn line_of_reply(page: u64, reply: &Reply, out: &mut Vec<u8>)
+pub fn line_of_reply(page: u64, reply: &Result<Told<'_>, Refusal>, out: &mut Vec<u8>)
     requires page { page ≤ 2097152 }
-    requires limits { IsWithinLimits reply.now }
+    requires limits { IsWithinLimits (told_reply reply.now) }
     requires room { HasRoom out.old 66586 }
-    ensures { Adds out.old out.new (line_of page reply.now) }
+    ensures { Adds out.old out.new (line_of page (told_reply reply.now)) }
 {
     match reply {
-        Ok(answer) => push_answer(page, answer, out),
+        Ok(told) => push_told(page, told, out),
         Err(refusal) => line_of_refusal(*refusal, out),
     }
 }
@@ -56,32 +58,32 @@ pub fn line_of_store(stored: Result<(), Refusal>, out: &mut Vec<u8>)
     }
 }
 
-fn push_answer(page: u64, answer: &Answer, out: &mut Vec<u8>)
+fn push_told(page: u64, told: &Told<'_>, out: &mut Vec<u8>)
     requires page { page ≤ 2097152 }
-    requires limits { HasSmallAnswer answer.now }
+    requires limits { HasSmallAnswer (told_answer told.now) }
     requires room { HasRoom out.old 66586 }
-    ensures { Adds out.old out.new (answer_text page answer.now) }
+    ensures { Adds out.old out.new (answer_text page (told_answer told.now)) }
 {
-    match answer {
-        Answer::Done => push(out, b"ok\n"),
-        Answer::Home(n) | Answer::MapNo(n) | Answer::Number(n) => push_numbers(out, &[*n]),
-        Answer::Bytes { count, bytes } => push_bytes(out, &bytes[..*count as usize]),
-        Answer::Stat {
+    match told {
+        Told::Done => push(out, b"ok\n"),
+        Told::Home(n) | Told::MapNo(n) | Told::Number(n) => push_numbers(out, &[*n]),
+        Told::Bytes(bytes) => push_bytes(out, bytes),
+        Told::Stat {
             len,
             pages,
             entries,
             maps,
         } => push_numbers(out, &[*len, *pages, *entries, *maps]),
-        Answer::Usage {
+        Told::Usage {
             max,
             min,
             used,
             inodes,
             files,
         } => push_usage(out, *max, *min, *used, *inodes, *files),
-        Answer::Names(names) => push_names(out, names.as_slice()),
-        Answer::Numbers(counts) => push_counts(page, *counts, out),
-        Answer::PerNode { nodes, rows } => push_nodes(out, *nodes, &rows[..*nodes as usize]),
+        Told::Names(names) => push_names(out, names.as_slice()),
+        Told::Numbers(counts) => push_counts(page, *counts, out),
+        Told::PerNode { nodes, rows } => push_nodes(out, *nodes, &rows[..*nodes as usize]),
     }
 }
 

@@ -1,13 +1,13 @@
 //! A child gets maps on a mount.
 ghost use Rattle.std.specs.Prelude.{◌≡◌, ◌==◌, false, ℕ, Some, []};
 ghost use Rattle.hp_model.specs.declared.event.SlotEvent.TheVariants.{ForkMaps};
+ghost use Rattle.hp_model.specs.machine.Accesses.{done_reply};
 ghost use Rattle.hp_store.specs.Store.{Store as StoreValue};
 ghost use Rattle.hp_subpool.specs.Subpool.{Subpool as ShareValue};
 ghost use Rattle.hp_mount.specs.Done.{IsDone};
 
 use super::Mount;
 use super::making::{MOST_MAPS, MOST_TASKS};
-use hp_model::answer::{Answer, Reply};
 use hp_model::naming::Naming;
 use hp_model::refusal::Refusal;
 use hp_mount_door::PoolDoor;
@@ -29,14 +29,14 @@ impl<N: Naming> Mount<N> {
         door: &mut D,
         parent: u64,
         child: u64,
-    ) -> Reply
+    ) -> Result<(), Refusal>
         requires shares { (s : ShareValue) → D.share_of s ≡ s }
         requires going { (s : StoreValue) → D.going_of s ≡ s.going }
         requires emptied { (s : StoreValue) → D.emptied s ≡ record s { going = [] } }
         requires ready { D.is_ready door.old }
         requires apart { (parent == child) ≡ false }
         ensures done { (size k : ℕ) → IsDone D.took D.is_full size k (Some self.old) door.old
-            (ForkMaps parent child) result (Some self.new) door.new }
+            (ForkMaps parent child) (done_reply result) (Some self.new) door.new }
         ensures left { D.is_left door.new }
     {
         let of_parent = self.files.map_count_for(parent);
@@ -57,6 +57,6 @@ impl<N: Naming> Mount<N> {
             return Err(Refusal::OutOfMemory);
         };
         self.files.give_back(door, &mut self.share, reserves);
-        Ok(Answer::Done)
+        Ok(())
     }
 }

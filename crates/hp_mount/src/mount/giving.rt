@@ -2,13 +2,13 @@
 ghost use Rattle.std.specs.Prelude.{◌≡◌, ◌≢◌, Err, ℕ, Some, []};
 ghost use Rattle.hp_model.specs.declared.refusal.Refusal.TheVariants as Refusal;
 ghost use Rattle.hp_model.specs.declared.event.SlotEvent.TheVariants.{Punch, Truncate, Unlink};
+ghost use Rattle.hp_model.specs.machine.Accesses.{done_reply};
 ghost use Rattle.hp_store.specs.Store.{Store as StoreValue};
 ghost use Rattle.hp_subpool.specs.Subpool.{Subpool as ShareValue};
 ghost use Rattle.hp_mount.specs.Done.{IsDone};
 
 use super::Mount;
 use super::making::MOST_FILE_PAGES;
-use hp_model::answer::{Answer, Reply};
 use hp_model::naming::Naming;
 use hp_model::refusal::Refusal;
 use hp_mount_door::PoolDoor;
@@ -24,22 +24,22 @@ impl<N: Naming> Mount<N> {
         &mut self,
         door: &mut D,
         name: &[u8],
-    ) -> Reply
+    ) -> Result<(), Refusal>
         requires shares { (s : ShareValue) → D.share_of s ≡ s }
         requires going { (s : StoreValue) → D.going_of s ≡ s.going }
         requires emptied { (s : StoreValue) → D.emptied s ≡ record s { going = [] } }
         requires ready { D.is_ready door.old }
         ensures done { (size k : ℕ) → IsDone D.took D.is_full size k (Some self.old) door.old
-            (Unlink name.now) result (Some self.new) door.new }
+            (Unlink name.now) (done_reply result) (Some self.new) door.new }
         ensures left { D.is_left door.new }
-        ensures memory { result ≢ Err Refusal.OutOfMemory }
+        ensures memory { done_reply result ≢ Err Refusal.OutOfMemory }
     {
         let Some(file) = self.files.named(name) else {
             return Err(Refusal::NoSuchFile);
         };
         let reserves = self.files.unlink(file, name);
         self.files.give_back(door, &mut self.share, reserves);
-        Ok(Answer::Done)
+        Ok(())
     }
 
     /// Makes a file `pages` indices long. Pages, entries and private copies from there on go, and go back to the pool,
@@ -53,15 +53,15 @@ impl<N: Naming> Mount<N> {
         door: &mut D,
         name: &[u8],
         pages: u64,
-    ) -> Reply
+    ) -> Result<(), Refusal>
         requires shares { (s : ShareValue) → D.share_of s ≡ s }
         requires going { (s : StoreValue) → D.going_of s ≡ s.going }
         requires emptied { (s : StoreValue) → D.emptied s ≡ record s { going = [] } }
         requires ready { D.is_ready door.old }
         ensures done { (size k : ℕ) → IsDone D.took D.is_full size k (Some self.old) door.old
-            (Truncate name.now pages) result (Some self.new) door.new }
+            (Truncate name.now pages) (done_reply result) (Some self.new) door.new }
         ensures left { D.is_left door.new }
-        ensures memory { result ≢ Err Refusal.OutOfMemory }
+        ensures memory { done_reply result ≢ Err Refusal.OutOfMemory }
     {
         let Some(file) = self.files.named(name) else {
             return Err(Refusal::NoSuchFile);
@@ -71,7 +71,7 @@ impl<N: Naming> Mount<N> {
         }
         let reserves = self.files.truncate(file, pages);
         self.files.give_back(door, &mut self.share, reserves);
-        Ok(Answer::Done)
+        Ok(())
     }
 
     /// The pages of a file's indices from `start` up to `end` go with their entries, and so do private copies of them.
@@ -86,15 +86,15 @@ impl<N: Naming> Mount<N> {
         name: &[u8],
         start: u64,
         end: u64,
-    ) -> Reply
+    ) -> Result<(), Refusal>
         requires shares { (s : ShareValue) → D.share_of s ≡ s }
         requires going { (s : StoreValue) → D.going_of s ≡ s.going }
         requires emptied { (s : StoreValue) → D.emptied s ≡ record s { going = [] } }
         requires ready { D.is_ready door.old }
         ensures done { (size k : ℕ) → IsDone D.took D.is_full size k (Some self.old) door.old
-            (Punch name.now start end) result (Some self.new) door.new }
+            (Punch name.now start end) (done_reply result) (Some self.new) door.new }
         ensures left { D.is_left door.new }
-        ensures memory { result ≢ Err Refusal.OutOfMemory }
+        ensures memory { done_reply result ≢ Err Refusal.OutOfMemory }
     {
         let Some(file) = self.files.named(name) else {
             return Err(Refusal::NoSuchFile);
@@ -104,6 +104,6 @@ impl<N: Naming> Mount<N> {
         }
         self.files.punch(file, start, end);
         self.files.give_back(door, &mut self.share, 0);
-        Ok(Answer::Done)
+        Ok(())
     }
 }

@@ -6,6 +6,7 @@ ghost use Rattle.hp_model.specs.declared.refusal.Refusal.TheVariants as Refusal;
 ghost use Rattle.hp_model.specs.files.File.{maps_of};
 ghost use Rattle.hp_model.specs.files.GiveBack.{without_task};
 ghost use Rattle.hp_model.specs.machine.Event.{has_maps_of};
+ghost use Rattle.hp_model.specs.machine.Accesses.{done_reply};
 ghost use Rattle.hp_store.specs.Store.{Store as StoreValue};
 ghost use Rattle.hp_subpool.specs.Subpool.{Subpool as ShareValue};
 ghost use Rattle.hp_mount_files.specs.Places.{IsFirstTask};
@@ -13,7 +14,6 @@ ghost use Rattle.hp_mount.specs.Done.{IsDone};
 
 use super::Mount;
 use super::making::MOST_FILE_PAGES;
-use hp_model::answer::{Answer, Reply};
 use hp_model::naming::Naming;
 use hp_model::refusal::Refusal;
 use hp_mount_door::PoolDoor;
@@ -76,15 +76,15 @@ impl<N: Naming> Mount<N> {
         map: u64,
         start: u64,
         end: u64,
-    ) -> Reply
+    ) -> Result<(), Refusal>
         requires shares { (s : ShareValue) → D.share_of s ≡ s }
         requires going { (s : StoreValue) → D.going_of s ≡ s.going }
         requires emptied { (s : StoreValue) → D.emptied s ≡ record s { going = [] } }
         requires ready { D.is_ready door.old }
         ensures done { (size k : ℕ) → IsDone D.took D.is_full size k (Some self.old) door.old
-            (Unmap task map start end) result (Some self.new) door.new }
+            (Unmap task map start end) (done_reply result) (Some self.new) door.new }
         ensures left { D.is_left door.new }
-        ensures memory { result ≢ Err Refusal.OutOfMemory }
+        ensures memory { done_reply result ≢ Err Refusal.OutOfMemory }
     {
         let Some(at) = self.files.find(task, map) else {
             return Err(Refusal::NoSuchMap);
@@ -96,6 +96,6 @@ impl<N: Naming> Mount<N> {
         let _held = self.share.held();
         let reserves = self.files.unmap(at, task, map, start, end);
         self.files.give_back(door, &mut self.share, reserves);
-        Ok(Answer::Done)
+        Ok(())
     }
 }

@@ -1,49 +1,51 @@
 //! What files are asked.
-ghost use Rattle.std.specs.Prelude.{◌≡◌, ◌≢◌, ℕ, ◌+◌, ◌≤◌, ◌<◌, length, Err, IfNone, IfSome, Some};
+ghost use Rattle.std.specs.Prelude.{◌≡◌, ◌≢◌, ℕ, ◌+◌, ◌≤◌, ◌<◌, length, take, drop, Err, IfNone, IfSome, Some};
 ghost use Rattle.hp_model.specs.declared.event.SlotEvent.TheVariants.{Ls, Read, Stat};
 ghost use Rattle.hp_model.specs.declared.refusal.Refusal.TheVariants as Refusal;
 ghost use Rattle.hp_model.specs.files.File.{cell_at};
 ghost use Rattle.hp_model.specs.files.Value.{shown};
 ghost use Rattle.hp_model.specs.machine.Promises.{file_in};
-ghost use Rattle.hp_model.specs.machine.SlotEvent.{bytes_answer, read_tests};
+ghost use Rattle.hp_model.specs.machine.Accesses.{bytes_reply};
+ghost use Rattle.hp_model.specs.machine.SlotEvent.{read_tests};
+ghost use Rattle.hp_model.specs.machine.Told.{told_reply};
 ghost use Rattle.hp_model.specs.text.Writing.{IsWithinLimits};
 ghost use Rattle.hp_mount.specs.Alone.{IsDoneAlone};
 ghost use Rattle.hp_mount.specs.Found.{first_of};
 
 use super::Mount;
-use super::reach::{bytes_answer, bytes_of, zeros_of};
-use hp_model::answer::{Answer, Reply};
+use super::reach::{bytes_of, zeros_of};
 use hp_model::naming::Naming;
 use hp_model::refusal::Refusal;
+use hp_model::told::Told;
 use std::alloc::AllocError;
 
 impl<N: Naming> Mount<N> {
     /// The names of the files that have one, in order of creation. Refused as OutOfMemory, where the list has no room.
-    pub fn ls(&self) -> Reply
+    pub fn ls(&self) -> Result<Told<'static>, Refusal>
         ensures done { (size k : ℕ)
-            → IsDoneAlone size k (Some self.now) Ls result (Some self.now) }
-        ensures limits { IsWithinLimits result }
-        ensures noted { result ≢ Err Refusal.TraceFull }
+            → IsDoneAlone size k (Some self.now) Ls (told_reply result) (Some self.now) }
+        ensures limits { IsWithinLimits (told_reply result) }
+        ensures noted { told_reply result ≢ Err Refusal.TraceFull }
     {
         match self.files.names() {
-            Ok(names) => Ok(Answer::Names(names)),
+            Ok(names) => Ok(Told::Names(names)),
             Err(AllocError) => Err(Refusal::OutOfMemory),
         }
     }
 
     /// A file's length in pages, how many pages it has of its own, how many of its indices are entered, and how many
     /// maps it has, of all tasks. Refused as NoSuchFile. No index is walked.
-    pub fn stat(&self, name: &[u8]) -> Reply
+    pub fn stat(&self, name: &[u8]) -> Result<Told<'static>, Refusal>
         ensures done { (size k : ℕ)
-            → IsDoneAlone size k (Some self.now) (Stat name.now) result (Some self.now) }
-        ensures limits { IsWithinLimits result }
-        ensures memory { result ≢ Err Refusal.OutOfMemory }
-        ensures noted { result ≢ Err Refusal.TraceFull }
+            → IsDoneAlone size k (Some self.now) (Stat name.now) (told_reply result) (Some self.now) }
+        ensures limits { IsWithinLimits (told_reply result) }
+        ensures memory { told_reply result ≢ Err Refusal.OutOfMemory }
+        ensures noted { told_reply result ≢ Err Refusal.TraceFull }
     {
         let Some(file) = self.files.named(name) else {
             return Err(Refusal::NoSuchFile);
         };
-        Ok(Answer::Stat {
+        Ok(Told::Stat {
             len: self.files.len(file),
             pages: self.files.page_count(file),
             entries: self.files.entry_count(file),
@@ -80,42 +82,58 @@ impl<N: Naming> Mount<N> {
         None
     }
 
-    // The answer with `count` bytes of a file at an index.
-    fn file_bytes(&self, file: usize, index: u64, offset: usize, count: usize) -> Answer
+    // `count` bytes of a file at an index, in the front of the room.
+    fn file_bytes<'a>(
+        &self,
+        file: usize,
+        index: u64,
+        offset: usize,
+        count: usize,
+        room: &'a mut [u8],
+    ) -> &'a [u8]
         requires file { file < length self.now.files }
         requires within { offset + count ≤ N.page_bytes }
-        requires few { count ≤ 256 }
-        ensures { result
-            ≡ bytes_answer offset count (shown N.page_bytes (cell_at (file_in self.now file) index)) }
+        requires room { count ≤ length room.old }
+        ensures shown { result.now
+            ≡ take count (drop offset (shown N.page_bytes (cell_at (file_in self.now file) index))) }
+        ensures all { length result.now ≡ count }
     {
-        let mut room = [0u8; 256];
-        let bytes = match self.files.bytes(file, index) {
-            Some(page) => bytes_of(page, offset, count, &mut room),
-            None => zeros_of(count, &mut room),
-        };
-        bytes_answer(bytes)
+        match self.files.bytes(file, index) {
+            Some(page) => bytes_of(page, offset, count, room),
+            None => zeros_of(count, room),
+        }
     }
 
-    /// Answers `count` bytes of a file at an index, from byte `offset` of the page on; where there is no page, zeros.
+    /// Answers `count` bytes of a file at an index, from byte `offset` of the page on, in the front of the room; where
+    /// there is no page, zeros.
     ///
     /// Refused by the first of these that holds:
     /// - NoSuchFile: no file has the name.
     /// - OutOfRange: `count` is 0, or the index is not below the file's length.
     /// - CrossesPage: the bytes reach past the end of the page.
     /// - TooMany: `count` is above 256.
-    pub fn read(&self, page_bytes: u64, name: &[u8], index: u64, offset: u64, count: u64) -> Reply
+    pub fn read<'a>(
+        &self,
+        page_bytes: u64,
+        name: &[u8],
+        index: u64,
+        offset: u64,
+        count: u64,
+        room: &'a mut [u8],
+    ) -> Result<&'a [u8], Refusal>
         requires page_bytes { page_bytes ≡ N.page_bytes }
+        requires room { 256 ≤ length room.old }
         ensures done { (k : ℕ) → IsDoneAlone N.page_bytes k (Some self.now)
-            (Read name.now index offset count) result (Some self.now) }
-        ensures memory { result ≢ Err Refusal.OutOfMemory }
-        ensures noted { result ≢ Err Refusal.TraceFull }
+            (Read name.now index offset count) (bytes_reply result) (Some self.now) }
+        ensures memory { bytes_reply result ≢ Err Refusal.OutOfMemory }
+        ensures noted { bytes_reply result ≢ Err Refusal.TraceFull }
     {
         let Some(file) = self.files.named(name) else {
             return Err(Refusal::NoSuchFile);
         };
         match self.refused_read(page_bytes, file, index, offset, count) {
             Some(refusal) => Err(refusal),
-            None => Ok(self.file_bytes(file, index, offset as usize, count as usize)),
+            None => Ok(self.file_bytes(file, index, offset as usize, count as usize, room)),
         }
     }
 }

@@ -7,9 +7,11 @@ ghost use Rattle.hp_model.specs.files.File.{maps_of, with_file};
 ghost use Rattle.hp_model.specs.pool.Grant.{is_over};
 ghost use Rattle.hp_model.specs.Lists.{is_among};
 ghost use Rattle.hp_model.specs.files.MakeMap.{asked, mapped, next_number, tasks_of};
+ghost use Rattle.hp_model.specs.machine.Accesses.{done_reply};
 ghost use Rattle.hp_model.specs.machine.Plan.{Answered, grant};
 ghost use Rattle.hp_model.specs.machine.Promises.{file_in};
 ghost use Rattle.hp_model.specs.machine.SlotEvent.{file_named, is_name, is_name_byte};
+ghost use Rattle.hp_model.specs.machine.Told.{map_reply};
 ghost use Rattle.hp_subpool.specs.Subpool.{Subpool as ShareValue};
 ghost use Rattle.hp_mount.specs.Alone.{IsDoneAlone};
 ghost use Rattle.hp_mount.specs.Done.{Tried, IsDone};
@@ -17,7 +19,6 @@ ghost use Rattle.hp_mount.specs.Found.{first_of};
 ghost use Rattle.hp_mount.specs.Making.{anon_plan, create_tests, map_event, map_plan, numbered, why_no_anon, why_no_map};
 
 use super::Mount;
-use hp_model::answer::{Answer, Reply};
 use hp_model::naming::Naming;
 use hp_model::refusal::Refusal;
 use hp_model::step::{Reserving, Sharing};
@@ -108,9 +109,10 @@ impl<N: Naming> Mount<N> {
 
     /// Makes a file of length 0. Refused as BadName, FileExists, TooMany, NoInodes or OutOfMemory, the first of these
     /// that holds, and then nothing changes.
-    pub fn create(&mut self, name: &[u8]) -> Reply
-        ensures done { (size k : ℕ) → IsDoneAlone size k (Some self.old) (Create name.now) result (Some self.new) }
-        ensures noted { result ≢ Err Refusal.TraceFull }
+    pub fn create(&mut self, name: &[u8]) -> Result<(), Refusal>
+        ensures done { (size k : ℕ)
+            → IsDoneAlone size k (Some self.old) (Create name.now) (done_reply result) (Some self.new) }
+        ensures noted { done_reply result ≢ Err Refusal.TraceFull }
     {
         if let Some(refusal) = self.refused_file(name) {
             return Err(refusal);
@@ -118,7 +120,7 @@ impl<N: Naming> Mount<N> {
         if let Err(AllocError) = self.files.create(name) {
             return Err(Refusal::OutOfMemory);
         }
-        Ok(Answer::Done)
+        Ok(())
     }
 
     // The map that the task may make next, or why it may not.
@@ -186,11 +188,11 @@ impl<N: Naming> Mount<N> {
         home: u64,
         name: &[u8],
         range: &MapRange,
-    ) -> Reply
+    ) -> Result<u64, Refusal>
         requires shares { (s : ShareValue) → D.share_of s ≡ s }
         requires ready { D.is_ready door.old }
         ensures done { (size k : ℕ) → IsDone D.took D.is_full size k (Some self.old) door.old
-            (map_event home name.now range.now) result (Some self.new) door.new }
+            (map_event home name.now range.now) (map_reply result) (Some self.new) door.new }
         ensures left { D.is_left door.new }
     {
         let Some(file) = self.files.named(name) else {
@@ -201,7 +203,7 @@ impl<N: Naming> Mount<N> {
             Err(refusal) => return Err(refusal),
         };
         match self.add_map(door, home as usize, file, range, next) {
-            Ok(()) => Ok(Answer::MapNo(next.number)),
+            Ok(()) => Ok(next.number),
             Err(refusal) => Err(refusal),
         }
     }
@@ -272,11 +274,11 @@ impl<N: Naming> Mount<N> {
         pages: u64,
         sharing: Sharing,
         reserving: Reserving,
-    ) -> Reply
+    ) -> Result<u64, Refusal>
         requires shares { (s : ShareValue) → D.share_of s ≡ s }
         requires ready { D.is_ready door.old }
         ensures done { (size k : ℕ) → IsDone D.took D.is_full size k (Some self.old) door.old
-            (Anon task home pages sharing reserving) result (Some self.new) door.new }
+            (Anon task home pages sharing reserving) (map_reply result) (Some self.new) door.new }
         ensures left { D.is_left door.new }
     {
         let range = MapRange {
@@ -291,7 +293,7 @@ impl<N: Naming> Mount<N> {
             Err(refusal) => return Err(refusal),
         };
         match self.add_anon(door, home as usize, &range, next) {
-            Ok(()) => Ok(Answer::MapNo(next.number)),
+            Ok(()) => Ok(next.number),
             Err(refusal) => Err(refusal),
         }
     }

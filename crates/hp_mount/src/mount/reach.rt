@@ -21,7 +21,6 @@ ghost use Rattle.hp_mount.specs.Done.{IsAccessed, IsDone, IsReached};
 ghost use Rattle.hp_mount.specs.Found.{Fits, with_place_at, IsPlaced, IsTouched, first_of, spot_at, spot_of, tests_of, why_not};
 
 use super::Mount;
-use hp_model::answer::{Answer, Reply};
 use hp_model::naming::Naming;
 use hp_model::refusal::Refusal;
 use hp_model::step::Intent;
@@ -268,13 +267,13 @@ impl<N: Naming> Mount<N> {
         home: u64,
         access: &MapAccess,
         intent: Intent,
-    ) -> Reply
+    ) -> Result<(), Refusal>
         requires shares { (s : ShareValue) → D.share_of s ≡ s }
         requires pages { (p : PageValue) → D.page_of p ≡ p }
         requires ready { D.is_ready door.old }
         ensures done { (k : ℕ) → IsDone D.took D.is_full N.page_bytes k (Some self.old) door.old
             (Fault access.now.task home access.now.map access.now.index intent)
-            result (Some self.new) door.new }
+            (done_reply result) (Some self.new) door.new }
         ensures left { D.is_left door.new }
         ensures memory { is_backed intent (spot_of access.now self.old) access.now.index ≡ true
             → result ≢ Err Refusal.OutOfMemory }
@@ -283,10 +282,7 @@ impl<N: Naming> Mount<N> {
             Ok(at) => at,
             Err(refusal) => return Err(refusal),
         };
-        match self.reach(door, home as usize, at, access.index, intent) {
-            Ok(()) => Ok(Answer::Done),
-            Err(refusal) => Err(refusal),
-        }
+        self.reach(door, home as usize, at, access.index, intent)
     }
 
     /// Answers `count` bytes that a map shows at an index, from byte `offset` of the page on, in the front of the room.
@@ -322,34 +318,6 @@ impl<N: Naming> Mount<N> {
             Ok(()) => {
                 Ok(self.shown_bytes(at, access.index, offset as usize, count as usize, room))
             }
-            Err(refusal) => Err(refusal),
-        }
-    }
-
-    // The answer with the bytes that a load reads.
-    pub(super) fn load_answer<D: PoolDoor<Share = Subpool<N>, Page = Page<N>>>(
-        &mut self,
-        door: &mut D,
-        page_bytes: u64,
-        home: u64,
-        access: &MapAccess,
-        offset: u64,
-        count: u64,
-    ) -> Reply
-        requires shares { (s : ShareValue) → D.share_of s ≡ s }
-        requires pages { (p : PageValue) → D.page_of p ≡ p }
-        requires ready { D.is_ready door.old }
-        requires page_bytes { page_bytes ≡ N.page_bytes }
-        ensures done { (k : ℕ) → IsDone D.took D.is_full N.page_bytes k (Some self.old) door.old
-            (Load access.now.task home access.now.map access.now.index offset count)
-            result (Some self.new) door.new }
-        ensures left { D.is_left door.new }
-        ensures memory { is_backed Read (spot_of access.now self.old) access.now.index ≡ true
-            → result ≢ Err Refusal.OutOfMemory }
-    {
-        let mut room = [0u8; 256];
-        match self.load(door, page_bytes, home, access, offset, count, &mut room) {
-            Ok(bytes) => Ok(bytes_answer(bytes)),
             Err(refusal) => Err(refusal),
         }
     }
@@ -391,33 +359,6 @@ impl<N: Naming> Mount<N> {
         }
         self.write(at.file, access.index, offset as usize, bytes);
         Ok(())
-    }
-
-    // The answer of a store.
-    pub(super) fn store_answer<D: PoolDoor<Share = Subpool<N>, Page = Page<N>>>(
-        &mut self,
-        door: &mut D,
-        page_bytes: u64,
-        home: u64,
-        access: &MapAccess,
-        offset: u64,
-        bytes: &[u8],
-    ) -> Reply
-        requires shares { (s : ShareValue) → D.share_of s ≡ s }
-        requires pages { (p : PageValue) → D.page_of p ≡ p }
-        requires ready { D.is_ready door.old }
-        requires page_bytes { page_bytes ≡ N.page_bytes }
-        ensures done { (k : ℕ) → IsDone D.took D.is_full N.page_bytes k (Some self.old) door.old
-            (Store access.now.task home access.now.map access.now.index offset bytes.now)
-            result (Some self.new) door.new }
-        ensures left { D.is_left door.new }
-        ensures memory { is_backed Write (spot_of access.now self.old) access.now.index ≡ true
-            → result ≢ Err Refusal.OutOfMemory }
-    {
-        match self.store(door, page_bytes, home, access, offset, bytes) {
-            Ok(()) => Ok(Answer::Done),
-            Err(refusal) => Err(refusal),
-        }
     }
 
     // Writes bytes into a file's page, if there is one.
@@ -492,18 +433,4 @@ pub(super) fn zeros_of<'a>(count: usize, room: &'a mut [u8]) -> &'a [u8]
     let (front, _) = room.split_at_mut(count);
     front.fill(0);
     front
-}
-
-/// The answer with these bytes.
-pub(super) fn bytes_answer(bytes: &[u8]) -> Answer
-    requires { length bytes.now ≤ 256 }
-    ensures { Ok result ≡ bytes_reply (Ok bytes.entry) }
-{
-    let mut all = [0u8; 256];
-    let (front, _) = all.split_at_mut(bytes.len());
-    front.copy_from_slice(bytes);
-    Answer::Bytes {
-        count: bytes.len() as u64,
-        bytes: all,
-    }
 }

@@ -5,20 +5,21 @@ ghost use Rattle.std.specs.List.{range_with_len};
 ghost use Rattle.hp_model.specs.declared.refusal.Refusal.TheVariants as Refusal;
 ghost use Rattle.hp_model.specs.declared.event.SlotEvent.TheVariants.{Mount as Mounting, Umount as Umounting};
 ghost use Rattle.hp_model.specs.files.Options.{limits, wanted_of};
+ghost use Rattle.hp_model.specs.machine.Accesses.{done_reply};
 ghost use Rattle.hp_model.specs.machine.State.{slot_at};
+ghost use Rattle.hp_model.specs.machine.Told.{told_reply};
 ghost use Rattle.hp_model.specs.text.Writing.{IsWithinLimits};
-ghost use Rattle.hp_mount.specs.Done.{done};
 ghost use Rattle.hp_mount.specs.Event.{event_of, is_usage};
 ghost use Rattle.hp_mount.specs.Memory.{asks_memory};
 ghost use Rattle.hp_system.specs.Event.{AreExited, AreForked, DoesOfTask, DoesOnSlot, IsForkedOn, mapped_slots};
 ghost use Rattle.hp_system.specs.Kept.{IsReady};
 
 use super::System;
-use hp_model::answer::{Answer, Reply};
 use hp_model::bytes::Bytes;
 use hp_model::limits::Limits;
 use hp_model::naming::Naming;
 use hp_model::refusal::Refusal;
+use hp_model::told::Told;
 use hp_mount::{Mount, MountEvent};
 use hp_options::options::parse_options;
 use hp_subpool::Subpool;
@@ -44,10 +45,12 @@ impl<N: Naming> System<N> {
     // - MinOverSize: the minimum is above the limit, in pages.
     // - NoPages: with the minimum more pages would be committed than nr and overcommit together, or
     //   than all frames.
-    pub(crate) fn mount(&mut self, slot: u64, options: &Bytes) -> Reply
+    #[inline(never)]
+    pub(crate) fn mount(&mut self, slot: u64, options: &Bytes) -> Result<(), Refusal>
         requires ready { IsReady self.old }
-        ensures done { DoesOnSlot self.old.state slot (Mounting options.now) result self.new.state }
-        ensures memory { result ≢ Err Refusal.OutOfMemory }
+        ensures done { DoesOnSlot self.old.state slot (Mounting options.now)
+            (done_reply result) self.new.state }
+        ensures memory { done_reply result ≢ Err Refusal.OutOfMemory }
         ensures size { self.new.state.page_size ≡ self.old.state.page_size }
         ensures ready { IsReady self.new }
     {
@@ -62,7 +65,7 @@ impl<N: Naming> System<N> {
         let share = Subpool::open(&mut self.pool, limits.max, limits.min)?;
         let mount = Mount::new(self.alloc, share, limits.inodes);
         match mem::replace(&mut self.slots[at], Some(mount)) {
-            None => Ok(Answer::Done),
+            None => Ok(()),
             Some(_old) => unreachable!(),
         }
     }
@@ -73,10 +76,11 @@ impl<N: Naming> System<N> {
     // Refused, and then nothing changes, by the first of these that holds (profile):
     // - NoSuchSlot: there is no such slot, or it is not mounted.
     // - Busy: it is slot 0, or a task has a map there.
-    pub(crate) fn umount(&mut self, slot: u64) -> Reply
+    #[inline(never)]
+    pub(crate) fn umount(&mut self, slot: u64) -> Result<(), Refusal>
         requires ready { IsReady self.old }
-        ensures done { DoesOnSlot self.old.state slot Umounting result self.new.state }
-        ensures memory { result ≢ Err Refusal.OutOfMemory }
+        ensures done { DoesOnSlot self.old.state slot Umounting (done_reply result) self.new.state }
+        ensures memory { done_reply result ≢ Err Refusal.OutOfMemory }
         ensures size { self.new.state.page_size ≡ self.old.state.page_size }
         ensures ready { IsReady self.new }
     {
@@ -94,7 +98,7 @@ impl<N: Naming> System<N> {
             unreachable!()
         };
         match mount.close(&mut self.pool) {
-            Ok(()) => Ok(Answer::Done),
+            Ok(()) => Ok(()),
             Err(mount) => match mem::replace(&mut self.slots[at], Some(mount)) {
                 None => Err(Refusal::Busy),
                 Some(_other) => unreachable!(),
@@ -104,14 +108,22 @@ impl<N: Naming> System<N> {
 
     // What a step asks of the mount of a slot, for a task with that home node. Refused as NoSuchSlot
     // where there is no such slot or it is not mounted, and else as the mount refuses it; then
-    // nothing changes.
-    pub(crate) fn on_slot(&mut self, slot: u64, home: u64, event: MountEvent<'_>) -> Reply
+    // nothing changes. Bytes are answered in the front of the room.
+    pub(crate) fn on_slot<'a>(
+        &mut self,
+        slot: u64,
+        home: u64,
+        event: MountEvent<'_>,
+        room: &'a mut [u8],
+    ) -> Result<Told<'a>, Refusal>
         requires ready { IsReady self.old }
+        requires room { 256 ≤ length room.old }
         ensures done { DoesOnSlot self.old.state slot (event_of home event.entry)
-            result self.new.state }
+            (told_reply result) self.new.state }
         ensures memory { asks_memory (slot_at self.old.state slot) (event_of home event.entry)
-            ≡ false → result ≢ Err Refusal.OutOfMemory }
-        ensures limits { is_usage (event_of home event.entry) ≡ true → IsWithinLimits result }
+            ≡ false → told_reply result ≢ Err Refusal.OutOfMemory }
+        ensures limits { is_usage (event_of home event.entry) ≡ true
+            → IsWithinLimits (told_reply result) }
         ensures size { self.new.state.page_size ≡ self.old.state.page_size }
         ensures ready { IsReady self.new }
     {
@@ -123,21 +135,28 @@ impl<N: Naming> System<N> {
         let Some(mount) = &mut self.slots[at] else {
             return Err(Refusal::NoSuchSlot);
         };
-        mount.apply(&mut self.pool, page_bytes, home, event)
+        mount.apply(&mut self.pool, page_bytes, home, event, room)
     }
 
     // The same for a task. Refused as NoSuchTask where it is not there.
-    pub(crate) fn of_task(&mut self, task: u64, slot: u64, event: MountEvent<'_>) -> Reply
+    pub(crate) fn of_task<'a>(
+        &mut self,
+        task: u64,
+        slot: u64,
+        event: MountEvent<'_>,
+        room: &'a mut [u8],
+    ) -> Result<Told<'a>, Refusal>
         requires ready { IsReady self.old }
+        requires room { 256 ≤ length room.old }
         ensures done { DoesOfTask self.old.state task slot (λ home. event_of home event.entry)
-            result self.new.state }
+            (told_reply result) self.new.state }
         ensures memory { asks_memory (slot_at self.old.state slot) (event_of 0 event.entry) ≡ false
-            → result ≢ Err Refusal.OutOfMemory }
+            → told_reply result ≢ Err Refusal.OutOfMemory }
         ensures size { self.new.state.page_size ≡ self.old.state.page_size }
         ensures ready { IsReady self.new }
     {
         match self.table.home(task) {
-            Some(home) => self.on_slot(slot, home, event),
+            Some(home) => self.on_slot(slot, home, event, room),
             None => Err(Refusal::NoSuchTask),
         }
     }
@@ -188,7 +207,8 @@ impl<N: Naming> System<N> {
         requires ready { IsReady self.old }
         requires within { at < length self.old.state.slots }
         requires apart { parent ≢ child }
-        ensures done { IsForkedOn self.old.state at parent child (done result) self.new.state }
+        ensures done { IsForkedOn self.old.state at parent child (done_reply result)
+            self.new.state }
         ensures slots { length self.new.state.slots ≡ length self.old.state.slots }
         ensures size { self.new.state.page_size ≡ self.old.state.page_size }
         ensures ready { IsReady self.new }
@@ -199,10 +219,7 @@ impl<N: Naming> System<N> {
         if !mount.has_maps(parent) {
             return Ok(());
         }
-        match mount.fork_maps(&mut self.pool, parent, child) {
-            Ok(_done) => Ok(()),
-            Err(refusal) => Err(refusal),
-        }
+        mount.fork_maps(&mut self.pool, parent, child)
     }
 
     // The maps of a child go again, on the slots below `count` where its parent has maps.

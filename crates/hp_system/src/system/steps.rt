@@ -1,21 +1,24 @@
 //! Steps of all kinds.
-ghost use Rattle.std.specs.Prelude.{◌≡◌, ◌≢◌, true, false, Err, IfOk, OnErr};
+ghost use Rattle.std.specs.Prelude.{◌≡◌, ◌≢◌, ◌≤◌, true, false, length, Err, IfOk, Ok, OnErr};
+ghost use Rattle.hp_model.specs.declared.answer.Answer.TheVariants.{Number, Numbers};
 ghost use Rattle.hp_model.specs.declared.refusal.Refusal.TheVariants as Refusal;
 ghost use Rattle.hp_model.specs.declared.step.Step.TheVariants.{Attach, Connect, Exit, Fork, Map as MapStep, Nr, Overcommit, Meminfo, Nodes};
 ghost use Rattle.hp_model.specs.machine.Promises.{is_usage, IsPromised, IsPromisedRun};
+ghost use Rattle.hp_model.specs.machine.Accesses.{done_reply};
 ghost use Rattle.hp_model.specs.machine.Step.{IsStep};
+ghost use Rattle.hp_model.specs.machine.Told.{told_reply};
 ghost use Rattle.hp_model.specs.pool.Resize.{node_counts};
 ghost use Rattle.hp_model.specs.text.Writing.{IsWithinLimits};
 ghost use Rattle.hp_model.specs.machine.Promises.{takes_memory};
 ghost use Rattle.hp_system.specs.Kept.{IsReady};
 
 use super::System;
-use hp_model::answer::{Answer, NodeCount, Reply};
+use hp_model::answer::{Counts, NodeCount, Reply};
 use hp_model::bytes::Bytes;
-use hp_model::event::TableEvent;
 use hp_model::naming::Naming;
 use hp_model::refusal::Refusal;
 use hp_model::step::{Reserving, Sharing, Step};
+use hp_model::told::Told;
 use hp_mount::MountEvent;
 use std::alloc::{AllocError, Global};
 
@@ -29,30 +32,30 @@ impl<N: Naming> System<N> {
     /// - NoSuchNode: there is no node `home`.
     /// - TaskExists: the task is there.
     /// - TooMany: there are 256 tasks.
-    pub fn connect(&mut self, task: u64, home: u64) -> Reply
+    pub fn connect(&mut self, task: u64, home: u64) -> Result<(), Refusal>
         requires ready { IsReady self.old }
-        ensures step { IsStep self.old.state (Connect task home) result self.new.state }
-        ensures memory { result ≢ Err Refusal.OutOfMemory }
+        ensures step { IsStep self.old.state (Connect task home) (done_reply result) self.new.state }
+        ensures memory { done_reply result ≢ Err Refusal.OutOfMemory }
         ensures size { self.new.state.page_size ≡ self.old.state.page_size }
         ensures ready { IsReady self.new }
     {
         let nodes = self.pool.len() as u64;
-        self.table.apply(nodes, TableEvent::Add { task, home })
+        self.table.add_task(nodes, task, home)
     }
 
     /// Answers the home node of a task. Changes nothing.
     ///
     /// Refused as NoSuchTask where the task is not there.
-    pub fn attach(&mut self, task: u64) -> Reply
+    pub fn attach(&mut self, task: u64) -> Result<Told<'static>, Refusal>
         requires ready { IsReady self.old }
-        ensures step { IsStep self.old.state (Attach task) result self.new.state }
-        ensures memory { result ≢ Err Refusal.OutOfMemory }
-        ensures limits { IsWithinLimits result }
+        ensures step { IsStep self.old.state (Attach task) (told_reply result) self.new.state }
+        ensures memory { told_reply result ≢ Err Refusal.OutOfMemory }
+        ensures limits { IsWithinLimits (told_reply result) }
         ensures size { self.new.state.page_size ≡ self.old.state.page_size }
         ensures ready { IsReady self.new }
     {
         match self.table.home(task) {
-            Some(home) => Ok(Answer::Home(home)),
+            Some(home) => Ok(Told::Home(home)),
             None => Err(Refusal::NoSuchTask),
         }
     }
@@ -65,9 +68,10 @@ impl<N: Naming> System<N> {
     /// - TaskExists: the child is there.
     /// - TooMany: there are 256 tasks; or with the child a slot would have more than 4,096 maps, or maps of more than 256 tasks.
     /// - OutOfMemory: memory for the child's maps is refused.
-    pub fn fork(&mut self, parent: u64, child: u64) -> Reply
+    #[inline(never)]
+    pub fn fork(&mut self, parent: u64, child: u64) -> Result<(), Refusal>
         requires ready { IsReady self.old }
-        ensures step { IsStep self.old.state (Fork parent child) result self.new.state }
+        ensures step { IsStep self.old.state (Fork parent child) (done_reply result) self.new.state }
         ensures size { self.new.state.page_size ≡ self.old.state.page_size }
         ensures ready { IsReady self.new }
     {
@@ -75,7 +79,7 @@ impl<N: Naming> System<N> {
             return Err(refusal);
         }
         match self.fork_slots(parent, child) {
-            Ok(()) => Ok(Answer::Done),
+            Ok(()) => Ok(()),
             Err(refusal) => {
                 self.table.remove(child);
                 Err(refusal)
@@ -87,43 +91,40 @@ impl<N: Naming> System<N> {
     /// pages and reservations go back to the pool, but for what minimums keep.
     ///
     /// Refused as NoSuchTask where the task is not there, and then nothing changes. It takes no memory.
-    pub fn exit(&mut self, task: u64) -> Reply
+    #[inline(never)]
+    pub fn exit(&mut self, task: u64) -> Result<(), Refusal>
         requires ready { IsReady self.old }
-        ensures step { IsStep self.old.state (Exit task) result self.new.state }
-        ensures memory { result ≢ Err Refusal.OutOfMemory }
+        ensures step { IsStep self.old.state (Exit task) (done_reply result) self.new.state }
+        ensures memory { done_reply result ≢ Err Refusal.OutOfMemory }
         ensures size { self.new.state.page_size ≡ self.old.state.page_size }
         ensures ready { IsReady self.new }
     {
-        let nodes = self.pool.len() as u64;
-        match self.table.apply(nodes, TableEvent::Remove { task }) {
-            Ok(done) => {
-                self.exit_slots(task);
-                Ok(done)
-            }
-            Err(refusal) => Err(refusal),
+        if let Err(refusal) = self.table.remove_task(task) {
+            return Err(refusal);
         }
+        self.exit_slots(task);
+        Ok(())
     }
 
     /// Sets how many persistent pages there are, or all frames where `pages` is more, and answers the new number. Where it
     /// rises, surplus pages become persistent first, and then frames are taken; where it falls, free pages that nobody is
     /// promised leave, and of the others as many become surplus (`admin-guide/mm/hugetlbpage.rst`). Never refused.
-    pub fn set_nr(&mut self, pages: u64) -> Reply
+    pub fn set_nr(&mut self, pages: u64) -> u64
         requires ready { IsReady self.old }
-        ensures step { IsStep self.old.state (Nr pages) result self.new.state }
-        ensures memory { result ≢ Err Refusal.OutOfMemory }
+        ensures step { IsStep self.old.state (Nr pages) (Ok (Number result)) self.new.state }
         ensures size { self.new.state.page_size ≡ self.old.state.page_size }
         ensures ready { IsReady self.new }
     {
-        Ok(Answer::Number(self.pool.set_nr(pages)))
+        self.pool.set_nr(pages)
     }
 
     /// Sets how many surplus pages there may be (`admin-guide/mm/hugetlbpage.rst`). Those that there are stay.
     ///
     /// Refused as OutOfRange where `pages` is above 4,294,967,295 (profile), and then nothing changes.
-    pub fn set_overcommit(&mut self, pages: u64) -> Reply
+    pub fn set_overcommit(&mut self, pages: u64) -> Result<(), Refusal>
         requires ready { IsReady self.old }
-        ensures step { IsStep self.old.state (Overcommit pages) result self.new.state }
-        ensures memory { result ≢ Err Refusal.OutOfMemory }
+        ensures step { IsStep self.old.state (Overcommit pages) (done_reply result) self.new.state }
+        ensures memory { done_reply result ≢ Err Refusal.OutOfMemory }
         ensures size { self.new.state.page_size ≡ self.old.state.page_size }
         ensures ready { IsReady self.new }
     {
@@ -131,7 +132,7 @@ impl<N: Naming> System<N> {
             return Err(Refusal::OutOfRange);
         }
         self.pool.set_overcommit(pages);
-        Ok(Answer::Done)
+        Ok(())
     }
 
     // A row for each node, and rows of zeros past the last.
@@ -153,28 +154,27 @@ impl<N: Naming> System<N> {
 
     /// Answers how many nodes there are, and of each its pages, those that are free, and its surplus. Never refused, and
     /// changes nothing.
-    pub fn nodes(&mut self) -> Reply
+    #[inline(never)]
+    pub fn nodes(&mut self) -> Told<'static>
         requires ready { IsReady self.old }
-        ensures step { IsStep self.old.state Nodes result self.new.state }
-        ensures memory { result ≢ Err Refusal.OutOfMemory }
+        ensures step { IsStep self.old.state Nodes (told_reply (Ok result)) self.new.state }
         ensures size { self.new.state.page_size ≡ self.old.state.page_size }
         ensures ready { IsReady self.new }
     {
         let nodes = self.pool.len() as u64;
         let rows = self.node_counts();
-        Ok(Answer::PerNode { nodes, rows })
+        Told::PerNode { nodes, rows }
     }
 
     /// Answers Total, Free, Rsvd and Surp, and what nr and overcommit are set to, all in pages
     /// (`admin-guide/mm/hugetlbpage.rst`). Never refused, and changes nothing.
-    pub fn meminfo(&mut self) -> Reply
+    pub fn meminfo(&mut self) -> Counts
         requires ready { IsReady self.old }
-        ensures step { IsStep self.old.state Meminfo result self.new.state }
-        ensures memory { result ≢ Err Refusal.OutOfMemory }
+        ensures step { IsStep self.old.state Meminfo (Ok (Numbers result)) self.new.state }
         ensures size { self.new.state.page_size ≡ self.old.state.page_size }
         ensures ready { IsReady self.new }
     {
-        Ok(Answer::Numbers(self.pool.counts()))
+        self.pool.counts()
     }
 
     /// Answers a step, or leaves everything as it was and says why. What is promised of each step
@@ -195,12 +195,13 @@ impl<N: Naming> System<N> {
         ensures limits { IsWithinLimits result }
         ensures ready { IsReady self.new }
     {
-        self.answer(step)
+        let mut room = [0u8; 256];
+        whole(self.do_step(step, &mut room))
     }
 
     // Maps indices of a file.
     #[tactic(auto, unfolding(hp_model::specs::machine::Step::IsStep))]
-    fn map_file(
+    fn map_file<'a>(
         &mut self,
         task: u64,
         slot: u64,
@@ -209,10 +210,12 @@ impl<N: Naming> System<N> {
         pages: u64,
         sharing: Sharing,
         reserving: Reserving,
-    ) -> Reply
+        room: &'a mut [u8],
+    ) -> Result<Told<'a>, Refusal>
         requires ready { IsReady self.old }
+        requires room { 256 ≤ length room.old }
         ensures step { IsStep self.old.state (MapStep task slot name.now start pages sharing reserving)
-            result self.new.state }
+            (told_reply result) self.new.state }
         ensures size { self.new.state.page_size ≡ self.old.state.page_size }
         ensures ready { IsReady self.new }
     {
@@ -224,41 +227,46 @@ impl<N: Naming> System<N> {
             sharing,
             reserving,
         };
-        self.of_task(task, slot, event)
+        self.of_task(task, slot, event, room)
     }
 
-    // The step's own function.
+    // The step's own function. Bytes are answered in the front of the room.
     #[tactic(auto, unfolding(hp_model::specs::machine::Step::IsStep))]
-    fn answer(&mut self, step: &Step) -> Reply
+    pub(crate) fn do_step<'a>(
+        &mut self,
+        step: &Step,
+        room: &'a mut [u8],
+    ) -> Result<Told<'a>, Refusal>
         requires ready { IsReady self.old }
-        ensures step { IsStep self.old.state step.now result self.new.state }
-        ensures usage { is_usage step.now ≡ true → IsWithinLimits result }
+        requires room { 256 ≤ length room.old }
+        ensures step { IsStep self.old.state step.now (told_reply result) self.new.state }
+        ensures usage { is_usage step.now ≡ true → IsWithinLimits (told_reply result) }
         ensures memory { takes_memory self.old.state step.now ≡ false
-            → result ≢ Err Refusal.OutOfMemory }
+            → told_reply result ≢ Err Refusal.OutOfMemory }
         ensures size { self.new.state.page_size ≡ self.old.state.page_size }
         ensures ready { IsReady self.new }
     {
         match step {
-            Step::Connect { task, home } => self.connect(*task, *home),
+            Step::Connect { task, home } => Told::done(self.connect(*task, *home)),
             Step::Attach { task } => self.attach(*task),
-            Step::Fork { parent, child } => self.fork(*parent, *child),
-            Step::Exit { task } => self.exit(*task),
-            Step::Mount { slot, options } => self.mount(*slot, options),
-            Step::Umount { slot } => self.umount(*slot),
-            Step::Ls { slot } => self.on_slot(*slot, 0, MountEvent::Ls),
-            Step::Df { slot } => self.on_slot(*slot, 0, MountEvent::Usage),
+            Step::Fork { parent, child } => Told::done(self.fork(*parent, *child)),
+            Step::Exit { task } => Told::done(self.exit(*task)),
+            Step::Mount { slot, options } => Told::done(self.mount(*slot, options)),
+            Step::Umount { slot } => Told::done(self.umount(*slot)),
+            Step::Ls { slot } => self.on_slot(*slot, 0, MountEvent::Ls, room),
+            Step::Df { slot } => self.on_slot(*slot, 0, MountEvent::Usage, room),
             Step::Create { slot, name } => {
                 let name = name.as_slice();
-                self.on_slot(*slot, 0, MountEvent::Create { name })
+                self.on_slot(*slot, 0, MountEvent::Create { name }, room)
             }
             Step::Unlink { slot, name } => {
                 let name = name.as_slice();
-                self.on_slot(*slot, 0, MountEvent::Unlink { name })
+                self.on_slot(*slot, 0, MountEvent::Unlink { name }, room)
             }
             Step::Truncate { slot, name, pages } => {
                 let name = name.as_slice();
                 let pages = *pages;
-                self.on_slot(*slot, 0, MountEvent::Truncate { name, pages })
+                self.on_slot(*slot, 0, MountEvent::Truncate { name, pages }, room)
             }
             Step::Punch {
                 slot,
@@ -271,11 +279,11 @@ impl<N: Naming> System<N> {
                     start: *from,
                     end: *to,
                 };
-                self.on_slot(*slot, 0, event)
+                self.on_slot(*slot, 0, event, room)
             }
             Step::Stat { slot, name } => {
                 let name = name.as_slice();
-                self.on_slot(*slot, 0, MountEvent::Stat { name })
+                self.on_slot(*slot, 0, MountEvent::Stat { name }, room)
             }
             Step::Read {
                 slot,
@@ -290,7 +298,7 @@ impl<N: Naming> System<N> {
                     offset: *offset,
                     count: *count,
                 };
-                self.on_slot(*slot, 0, event)
+                self.on_slot(*slot, 0, event, room)
             }
             Step::Map {
                 task,
@@ -300,7 +308,9 @@ impl<N: Naming> System<N> {
                 pages,
                 sharing,
                 reserving,
-            } => self.map_file(*task, *slot, name, *from, *pages, *sharing, *reserving),
+            } => self.map_file(
+                *task, *slot, name, *from, *pages, *sharing, *reserving, room,
+            ),
             Step::Anon {
                 task,
                 pages,
@@ -313,7 +323,7 @@ impl<N: Naming> System<N> {
                     sharing: *sharing,
                     reserving: *reserving,
                 };
-                self.of_task(*task, 0, event)
+                self.of_task(*task, 0, event, room)
             }
             Step::Unmap {
                 task,
@@ -328,7 +338,7 @@ impl<N: Naming> System<N> {
                     start: *from,
                     end: *to,
                 };
-                self.of_task(*task, *slot, event)
+                self.of_task(*task, *slot, event, room)
             }
             Step::Fault {
                 task,
@@ -343,7 +353,7 @@ impl<N: Naming> System<N> {
                     index: *index,
                     intent: *intent,
                 };
-                self.of_task(*task, *slot, event)
+                self.of_task(*task, *slot, event, room)
             }
             Step::Load {
                 task,
@@ -360,7 +370,7 @@ impl<N: Naming> System<N> {
                     offset: *offset,
                     count: *count,
                 };
-                self.of_task(*task, *slot, event)
+                self.of_task(*task, *slot, event, room)
             }
             Step::Store {
                 task,
@@ -377,12 +387,12 @@ impl<N: Naming> System<N> {
                     offset: *offset,
                     bytes: bytes.as_slice(),
                 };
-                self.of_task(*task, *slot, event)
+                self.of_task(*task, *slot, event, room)
             }
-            Step::Nr { pages } => self.set_nr(*pages),
-            Step::Overcommit { pages } => self.set_overcommit(*pages),
-            Step::Meminfo => self.meminfo(),
-            Step::Nodes => self.nodes(),
+            Step::Nr { pages } => Ok(Told::Number(self.set_nr(*pages))),
+            Step::Overcommit { pages } => Told::done(self.set_overcommit(*pages)),
+            Step::Meminfo => Ok(Told::Numbers(self.meminfo())),
+            Step::Nodes => Ok(self.nodes()),
         }
     }
 
@@ -402,5 +412,16 @@ impl<N: Naming> System<N> {
             replies.push_reserved(reply);
         }
         Ok(replies)
+    }
+}
+
+// The reply with a copy of its bytes.
+fn whole(told: Result<Told<'_>, Refusal>) -> Reply
+    requires { IsWithinLimits (told_reply told) }
+    ensures { result ≡ told_reply told.entry }
+{
+    match told {
+        Ok(told) => Ok(told.into_answer()),
+        Err(refusal) => Err(refusal),
     }
 }

@@ -7,19 +7,19 @@ use Rattle.hp_wire_lines.proofs.Keywords.{reserving_none, reserving_last, reserv
 use Rattle.hp_wire_lines.proofs.parts.reserving.Goals as goal
 
 pub returns-in_default : goal.returns-in_default
-returns-in_default c = sym (reserving_none c.args.words c.in_default.field-0 c.in_default.ensures.value)
+returns-in_default c = sym (reserving_none c.args.words.now c.in_default.field-0 c.in_default.ensures.value)
 
 pub returns-in_err-end : goal.returns-in_err-end
 returns-in_err-end c =
     let p = err_from_is_err_and c.from_residual.result c.from_residual.ensures.1 in
-    rw (p.1, p.2) (sym (reserving_more c.args.words c.in-Ok.piece.now c.in-Ok.words c.in_err-end.field-0.0 c.in-Ok.ensures.value (sym c.in_err-end.ensures)))
+    rw (p.1, p.2) (sym (reserving_more c.args.words.now c.in-Ok.piece.now c.piece.new.self c.in_err-end.field-0.0 c.in-Ok.ensures.value (sym c.in_err-end.ensures)))
 
 pub returns-then-eq : goal.returns-then-eq
 returns-then-eq c =
     let test : bytes_eq c.in-Ok.piece.now (codes "noreserve") ≡ true = ap (bytes_eq c.in-Ok.piece.now) (sym c.as_slice.ensures) ∙ sym c.eq.ensures ∙ c.if-eq.true in
-    sym (reserving_last c.args.words c.in-Ok.piece.now c.in-Ok.words c.in-Ok.ensures.value (sym c.in_ok-end.ensures) ∙ ap (λ (b : Bool). if b then Ok NoReserve else Err BadLine) test)
+    sym (reserving_last c.args.words.now c.in-Ok.piece.now c.piece.new.self c.in-Ok.ensures.value (sym c.in_ok-end.ensures) ∙ ap (λ (b : Bool). if b then Ok NoReserve else Err BadLine) test)
 
 pub returns-else-eq : goal.returns-else-eq
 returns-else-eq c =
     let test : bytes_eq c.in-Ok.piece.now (codes "noreserve") ≡ false = ap (bytes_eq c.in-Ok.piece.now) (sym c.as_slice.ensures) ∙ sym c.eq.ensures ∙ c.if-eq.false in
-    sym (reserving_last c.args.words c.in-Ok.piece.now c.in-Ok.words c.in-Ok.ensures.value (sym c.in_ok-end.ensures) ∙ ap (λ (b : Bool). if b then Ok NoReserve else Err BadLine) test)
+    sym (reserving_last c.args.words.now c.in-Ok.piece.now c.piece.new.self c.in-Ok.ensures.value (sym c.in_ok-end.ensures) ∙ ap (λ (b : Bool). if b then Ok NoReserve else Err BadLine) test)

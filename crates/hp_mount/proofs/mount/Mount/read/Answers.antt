@@ -2,12 +2,14 @@ use Rattle.std.proofs.Common.{◌≡◌, None, Some, refl, sym, subst, ◌∙◌
 use Rattle.hp_model.specs.declared.event.SlotEvent.TheVariants.{Read}
 use Rattle.hp_model.specs.files.File.{Mount, cell_at}
 use Rattle.hp_model.specs.files.Value.{shown}
-use Rattle.hp_model.specs.machine.Plan.{Answered, Finish}
+use Rattle.hp_model.specs.machine.Plan.{Answered, Finish, Reply}
 use Rattle.hp_model.specs.machine.Promises.{file_in}
 use Rattle.hp_model.specs.machine.SlotEvent.{bytes_answer, file_named, read, read_tests}
+use Rattle.hp_mount.specs.Alone.{IsDoneAlone}
 use Rattle.hp_mount.specs.Found.{first_of}
 use Rattle.hp_mount.proofs.Commands.{tests_fail, tests_pass}
 use Rattle.hp_mount.proofs.Looking.{is_answered, is_refused, not_named}
+use Rattle.hp_mount.proofs.Shown.{bytes_reply_is}
 use Rattle.hp_mount.proofs.mount.Mount.read.Goals as goal
 
 pub returns-in_default-clause-done : goal.returns-in_default-clause-done
@@ -39,5 +41,7 @@ returns-in-None-clause-done g c k =
     let named = subst (λ (x : Mount). file_named x a.name.now ≡ Some (file, file_in x file)) c.self.view_is c.in-Some.ensures.some.is in
     let pass = subst (λ n. first_of (read_tests n a.index a.offset a.count f) ≡ None) c.requires.page_bytes (sym c.refused_read.ensures.first ∙ c.in-None.is) in
     let shows = bytes_answer a.offset a.count (shown size (cell_at f a.index)) in
-    is_answered size k m a.name.now (Read a.name.now a.index a.offset a.count) (read size m a.index a.offset a.count) (λ x. refl) (file, f) named _ shows
-    (tests_pass (read_tests size a.index a.offset a.count f) (Finish (Answered shows (Some m))) pass) c.file_bytes.ensures
+    subst (λ (r : Reply). IsDoneAlone size k (Some m) (Read a.name.now a.index a.offset a.count) r (Some m))
+    (sym (bytes_reply_is c.file_bytes.result a.offset a.count (shown size (cell_at f a.index)) c.file_bytes.ensures.all c.file_bytes.ensures.shown))
+    (is_answered size k m a.name.now (Read a.name.now a.index a.offset a.count) (read size m a.index a.offset a.count) (λ x. refl) (file, f) named shows shows
+    (tests_pass (read_tests size a.index a.offset a.count f) (Finish (Answered shows (Some m))) pass) refl)

@@ -2,6 +2,7 @@ use Rattle.std.proofs.Common.{length, sym, ap, ◌∙◌}
 use Rattle.hp_model.specs.machine.Step.{on_slot}
 use Rattle.hp_model.specs.machine.State.{State}
 use Rattle.hp_model.specs.machine.Table.{home_of}
+use Rattle.hp_model.specs.machine.Told.{told_reply}
 use Rattle.hp_mount.specs.Event.{event_of}
 use Rattle.hp_system.proofs.MachineSteps.{task_found, task_not_found}
 use Rattle.hp_system.specs.Kept.{Machine}
@@ -11,7 +12,7 @@ pub returns-in-Some-clause-done : goal.returns-in-Some-clause-done
 returns-in-Some-clause-done g c =
     let s = c.args.self.now.state in
     let known = ap (λ (x : State). home_of x.table c.args.task) (sym (ap (λ (x : Machine). x.state) c.self.view_is)) ∙ sym c.home.ensures ∙ c.in-Some.is in
-    task_found s c.args.task c.on_slot.new.self.state c.in-Some.home (λ home. on_slot (length s.slots) c.args.slot (event_of home c.args.event)) c.on_slot.result known c.on_slot.ensures.done
+    task_found s c.args.task c.on_slot.new.self.state c.in-Some.home (λ home. on_slot (length s.slots) c.args.slot (event_of home c.args.event)) (told_reply c.on_slot.result) known c.on_slot.ensures.done
 
 pub returns-in-None-clause-done : goal.returns-in-None-clause-done
 returns-in-None-clause-done g c =

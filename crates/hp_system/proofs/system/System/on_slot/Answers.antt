@@ -3,6 +3,7 @@ use Rattle.hp_model.specs.declared.refusal.Refusal.TheVariants.{NoSuchSlot}
 use Rattle.hp_model.specs.machine.Plan.{Choice, Slot}
 use Rattle.hp_model.specs.machine.SlotEvent.{slot_event}
 use Rattle.hp_model.specs.machine.Step.{IsScript, on_slot}
+use Rattle.hp_model.specs.machine.Told.{told_reply}
 use Rattle.hp_mount.specs.Event.{event_of}
 use Rattle.hp_system.specs.Event.{IsCarried}
 use Rattle.hp_system.proofs.Carries.{happens, kept_after, never_full, ready, unmounted, kept_by, ready_by}
@@ -38,9 +39,9 @@ returns-clause-ready g c =
     let e = event_of c.args.home c.args.event in
     let within : c.args.slot < length s.slots.items = omega (arith, c.if-at-len.false, c.len.ensures) in
     let here = read_slot s.slots.items c.args.slot c.index_mut.result.now old within c.index_mut.ensures.value c.in-Some.is in
-    let done = never_full (λ (x : Choice). slot_event g.N.Naming.page_bytes c.args.slot x old e) old new s.pool c.apply.new.door c.apply.result (c.apply.ensures.done c.args.slot) in
-    ready_by (kept_after s.page_bytes g.N.Naming.page_bytes s.table s.slots.items c.args.slot old new s.pool c.apply.new.door e c.apply.result (kept_by c.args.self.now c.self.invariant c.self.view_is c.requires.ready) within here (happens c.args.home c.args.event old)
-    (subst (λ n. IsCarried n c.args.slot s.pool old e c.apply.result new c.apply.new.door) (sym (kept_by c.args.self.now c.self.invariant c.self.view_is c.requires.ready).size) done))
+    let done = never_full (λ (x : Choice). slot_event g.N.Naming.page_bytes c.args.slot x old e) old new s.pool c.apply.new.door (told_reply c.apply.result) (c.apply.ensures.done c.args.slot) in
+    ready_by (kept_after s.page_bytes g.N.Naming.page_bytes s.table s.slots.items c.args.slot old new s.pool c.apply.new.door e (told_reply c.apply.result) (kept_by c.args.self.now c.self.invariant c.self.view_is c.requires.ready) within here (happens c.args.home c.args.event old)
+    (subst (λ n. IsCarried n c.args.slot s.pool old e (told_reply c.apply.result) new c.apply.new.door) (sym (kept_by c.args.self.now c.self.invariant c.self.view_is c.requires.ready).size) done))
 
 pub returns-clause-done : goal.returns-clause-done
 returns-clause-done g c =
@@ -50,6 +51,6 @@ returns-clause-done g c =
     let e = event_of c.args.home c.args.event in
     let within : c.args.slot < length s.slots.items = omega (arith, c.if-at-len.false, c.len.ensures) in
     let here = read_slot s.slots.items c.args.slot c.index_mut.result.now old within c.index_mut.ensures.value c.in-Some.is in
-    let done = never_full (λ (x : Choice). slot_event g.N.Naming.page_bytes c.args.slot x old e) old new s.pool c.apply.new.door c.apply.result (c.apply.ensures.done c.args.slot) in
-    slot_done s.page_bytes g.N.Naming.page_bytes s.table s.slots.items s.pool (kept_by c.args.self.now c.self.invariant c.self.view_is c.requires.ready) c.args.self.now.state (ap (λ (x : Machine). x.state) c.self.view_is) c.args.slot within old here e (happens c.args.home c.args.event old) new c.apply.new.door c.apply.result
-    (subst (λ n. IsCarried n c.args.slot s.pool old e c.apply.result new c.apply.new.door) (sym (kept_by c.args.self.now c.self.invariant c.self.view_is c.requires.ready).size) done)
+    let done = never_full (λ (x : Choice). slot_event g.N.Naming.page_bytes c.args.slot x old e) old new s.pool c.apply.new.door (told_reply c.apply.result) (c.apply.ensures.done c.args.slot) in
+    slot_done s.page_bytes g.N.Naming.page_bytes s.table s.slots.items s.pool (kept_by c.args.self.now c.self.invariant c.self.view_is c.requires.ready) c.args.self.now.state (ap (λ (x : Machine). x.state) c.self.view_is) c.args.slot within old here e (happens c.args.home c.args.event old) new c.apply.new.door (told_reply c.apply.result)
+    (subst (λ n. IsCarried n c.args.slot s.pool old e (told_reply c.apply.result) new c.apply.new.door) (sym (kept_by c.args.self.now c.self.invariant c.self.view_is c.requires.ready).size) done)

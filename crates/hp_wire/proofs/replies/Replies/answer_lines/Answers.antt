@@ -11,10 +11,10 @@ loop-line-init g c = ([], record { answered = answered_none; cut = none_off c.ar
 pub loop-line-preserved : goal.loop-line-preserved
 loop-line-preserved g c =
     let i = c.loop-line.invariant in
-    let line = c.first_piece.result.0.now in
+    let line = c.first_long_piece.result.0.now in
     let next = c.in_default-Some.after.now in
-    let cut : pieces c.loop-line.rest.now ≡ line ∷ pieces next = rw c.in_default-Some.is-1 at c.first_piece.ensures.pieces in
-    let whole : c.loop-line.rest.now ≡ line ++ 10 ∷ next = rw c.in_default-Some.is-1 at c.first_piece.ensures.whole in
+    let cut : pieces c.loop-line.rest.now ≡ line ∷ pieces next = rw c.in_default-Some.is-1 at c.first_long_piece.ensures.pieces in
+    let whole : c.loop-line.rest.now ≡ line ++ 10 ∷ next = rw c.in_default-Some.is-1 at c.first_long_piece.ensures.whole in
     rw c.in_default-Some.is-1 (
       i.0 ++ ended line ∷ [],
       record {

@@ -1,0 +1,35 @@
+-- Short replies, as those that they stand for.
+use Rattle.std.proofs.Common.{◌≡◌, ℕ, List, Ok, Err, ap, subst, sym}
+use Rattle.std.specs.Prelude.{Result}
+use Rattle.hp_model.specs.declared.refusal.Refusal.{Refusal}
+use Rattle.hp_model.specs.declared.refusal.Refusal.TheVariants as r
+use Rattle.hp_model.specs.declared.section.PoolAnswer.{PoolAnswer}
+use Rattle.hp_model.specs.declared.section.Section.{Section}
+use Rattle.hp_model.specs.machine.Accesses.{bytes_reply, done_reply}
+use Rattle.hp_model.specs.machine.Plan.{Reply, Slot}
+use Rattle.hp_mount.specs.declared.event.MountEvent.{MountEvent}
+use Rattle.hp_mount.specs.Done.{IsDone}
+use Rattle.hp_mount.specs.Event.{event_of}
+use denote.Ref.{Bor}
+
+-- an event with its reply, by other words for both
+pub told_as : {X : Type 0} (took : X → Section → PoolAnswer → X → Type 0) (full : X → Type 0) (size k home : ℕ) (old new : Slot) (door left : X) {e f : MountEvent} {a b : Reply} → e ≡ f → a ≡ b
+    → IsDone took full size k old door (event_of home f) b new left → IsDone took full size k old door (event_of home e) a new left
+told_as took full size k home old new door left {e} {f} {a} {b} event reply h =
+    subst (λ (x : MountEvent). IsDone took full size k old door (event_of home x) a new left) (sym event)
+    (subst (λ (x : Reply). IsDone took full size k old door (event_of home f) x new left) (sym reply) h)
+
+refusal_is : {A B : Type 0} {e x : Refusal} → ◌≡◌ {A = Result A Refusal} (Err e) (Err x) → ◌≡◌ {A = Result B Refusal} (Err e) (Err x)
+refusal_is {B} {e} {x} h = ap Err err_is
+  where
+    err_is : e ≡ x
+    err_is = cc
+
+-- it is not for want of memory
+pub done_not_memory : (result : Result (Unit {0}) Refusal) → (result ≡ Err r.OutOfMemory → ⊥) → done_reply result ≡ Err r.OutOfMemory → ⊥
+done_not_memory (Ok done) never e = cc
+done_not_memory (Err e) never same = never (refusal_is same)
+
+pub bytes_not_memory : (result : Result (Bor (List ℕ)) Refusal) → (result ≡ Err r.OutOfMemory → ⊥) → bytes_reply result ≡ Err r.OutOfMemory → ⊥
+bytes_not_memory (Ok bytes) never e = cc
+bytes_not_memory (Err e) never same = never (refusal_is same)

@@ -1,0 +1,10 @@
+use Rattle.hp_model.specs.machine.Told.{told_reply}
+use Rattle.hp_wire.proofs.replies.Replies.add_answer.Goals as goal
+
+pub returns-clause-answered : goal.returns-clause-answered
+returns-clause-answered g c = record {
+  reply = told_reply c.answer-reply.result;
+  answered = c.answer-reply.ensures.answered;
+  text = c.add.ensures.text;
+  page = c.add.ensures.page;
+}
