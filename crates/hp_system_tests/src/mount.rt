@@ -62,22 +62,14 @@ fn access(map: u64, index: u64) -> MapAccess {
     }
 }
 
-// The answer of two bytes.
-fn two(first: u8, second: u8) -> Reply {
-    let mut bytes = [0u8; 256];
-    bytes[0] = first;
-    bytes[1] = second;
-    Ok(Answer::Bytes { count: 2, bytes })
-}
-
 // The mount's calls, of which each is asked for one thing: what they promise is not carried through a whole test.
 
-fn create<N: Naming>(mount: &mut Mount<N>, name: &[u8]) -> Reply {
+fn create<N: Naming>(mount: &mut Mount<N>, name: &[u8]) -> Result<(), Refusal> {
     mount.create(name)
 }
 
 fn used<N: Naming>(mount: &Mount<N>) -> Answer {
-    mount.usage()
+    mount.usage().into_answer()
 }
 
 fn has_maps<N: Naming>(mount: &Mount<N>, task: u64) -> bool {
@@ -88,14 +80,20 @@ fn first_task<N: Naming>(mount: &Mount<N>) -> Option<u64> {
     mount.first_task()
 }
 
-fn read<N: Naming>(mount: &Mount<N>, index: u64) -> Reply
+// Whether a read from byte 1022 on answers these bytes.
+fn reads<N: Naming>(mount: &Mount<N>, index: u64, wanted: &[u8]) -> Result<bool, Refusal>
     requires { N.page_bytes ≡ 1024 }
 {
-    mount.read(1024, b"a", index, 1022, 2)
+    let mut room = [0u8; 256];
+    let bytes = mount.read(1024, b"a", index, 1022, 2, &mut room)?;
+    Ok(bytes == wanted)
 }
 
 fn stat<N: Naming>(mount: &Mount<N>) -> Reply {
-    mount.stat(b"a")
+    match mount.stat(b"a") {
+        Ok(told) => Ok(told.into_answer()),
+        Err(refusal) => Err(refusal),
+    }
 }
 
 // Why the names are not answered, if they are not.
@@ -103,7 +101,12 @@ fn unlisted<N: Naming>(mount: &Mount<N>) -> Option<Refusal> {
     mount.ls().err()
 }
 
-fn map<N: Naming>(pool: &mut Pool<N>, mount: &mut Mount<N>, name: &[u8], range: &MapRange) -> Reply
+fn map<N: Naming>(
+    pool: &mut Pool<N>,
+    mount: &mut Mount<N>,
+    name: &[u8],
+    range: &MapRange,
+) -> Result<u64, Refusal>
     requires { IsReady pool.old }
     ensures { IsReady pool.new }
 {
@@ -117,7 +120,7 @@ fn anon<N: Naming>(
     pages: u64,
     sharing: Sharing,
     reserving: Reserving,
-) -> Reply
+) -> Result<u64, Refusal>
     requires { IsReady pool.old }
     ensures { IsReady pool.new }
 {
@@ -130,7 +133,7 @@ fn unmap<N: Naming>(
     number: u64,
     from: u64,
     to: u64,
-) -> Reply
+) -> Result<(), Refusal>
     requires { IsReady pool.old }
     ensures { IsReady pool.new }
 {
@@ -142,7 +145,7 @@ fn fault<N: Naming>(
     mount: &mut Mount<N>,
     access: &MapAccess,
     intent: Intent,
-) -> Reply
+) -> Result<(), Refusal>
     requires { IsReady pool.old }
     ensures { IsReady pool.new }
 {
@@ -200,15 +203,15 @@ fn each_call<N: Naming, R: Abort>(rt: &R, pool: &mut Pool<N>, mount: &mut Mount<
     requires bytes { N.page_bytes ≡ 1024 }
     ensures { IsReady pool.new }
 {
-    assert_eq!(rt; create(mount, b"a"), Ok(Answer::Done));
+    assert_eq!(rt; create(mount, b"a"), Ok(()));
     assert_eq!(rt; create(mount, b"a"), Err(Refusal::FileExists));
     assert!(rt; !has_maps(mount, 7));
     assert_eq!(rt;
         map(pool, mount, b"b", &range(0, 1)),
         Err(Refusal::NoSuchFile)
     );
-    assert_eq!(rt; map(pool, mount, b"a", &range(0, 2)), Ok(Answer::MapNo(1)));
-    assert_eq!(rt; map(pool, mount, b"a", &range(1, 1)), Ok(Answer::MapNo(2)));
+    assert_eq!(rt; map(pool, mount, b"a", &range(0, 2)), Ok(1));
+    assert_eq!(rt; map(pool, mount, b"a", &range(1, 1)), Ok(2));
     assert_eq!(rt;
         map(pool, mount, b"a", &range(2, 2)),
         Err(Refusal::MountFull)
@@ -226,19 +229,13 @@ fn each_call<N: Naming, R: Abort>(rt: &R, pool: &mut Pool<N>, mount: &mut Mount<
         loads(pool, mount, &access(2, 1), 3, b"xy"),
         Err(Refusal::CrossesPage)
     );
-    assert_eq!(rt;
-        fault(pool, mount, &access(1, 0), Intent::Write),
-        Ok(Answer::Done)
-    );
+    assert_eq!(rt; fault(pool, mount, &access(1, 0), Intent::Write), Ok(()));
     assert_eq!(rt;
         fault(pool, mount, &access(3, 0), Intent::Read),
         Err(Refusal::NoSuchMap)
     );
     assert_eq!(rt; used(mount), usage(2, 1));
-    assert_eq!(rt;
-        map(pool, mount, b"a", &unreserved(2, 2)),
-        Ok(Answer::MapNo(3))
-    );
+    assert_eq!(rt; map(pool, mount, b"a", &unreserved(2, 2)), Ok(3));
     assert_eq!(rt; used(mount), usage(2, 1));
     assert_eq!(rt;
         stat(mount),
@@ -249,8 +246,8 @@ fn each_call<N: Naming, R: Abort>(rt: &R, pool: &mut Pool<N>, mount: &mut Mount<
             maps: 3
         })
     );
-    assert_eq!(rt; read(mount, 1), two(120, 121));
-    assert_eq!(rt; read(mount, 3), two(0, 0));
+    assert_eq!(rt; reads(mount, 1, b"xy"), Ok(true));
+    assert_eq!(rt; reads(mount, 3, b"\0\0"), Ok(true));
     assert_eq!(rt; unlisted(mount), None);
 }
 
@@ -260,16 +257,13 @@ fn private_maps<N: Naming, R: Abort>(rt: &R, pool: &mut Pool<N>, mount: &mut Mou
     requires bytes { N.page_bytes ≡ 1024 }
     ensures { IsReady pool.new }
 {
-    assert_eq!(rt; create(mount, b"a"), Ok(Answer::Done));
-    assert_eq!(rt; map(pool, mount, b"a", &range(1, 1)), Ok(Answer::MapNo(1)));
+    assert_eq!(rt; create(mount, b"a"), Ok(()));
+    assert_eq!(rt; map(pool, mount, b"a", &range(1, 1)), Ok(1));
     assert_eq!(rt;
         map(pool, mount, b"a", &private(0, 3)),
         Err(Refusal::MountFull)
     );
-    assert_eq!(rt;
-        map(pool, mount, b"a", &private(1, 2)),
-        Ok(Answer::MapNo(2))
-    );
+    assert_eq!(rt; map(pool, mount, b"a", &private(1, 2)), Ok(2));
     assert_eq!(rt; used(mount), usage(3, 1));
     assert_eq!(rt;
         stat(mount),
@@ -280,7 +274,7 @@ fn private_maps<N: Naming, R: Abort>(rt: &R, pool: &mut Pool<N>, mount: &mut Mou
             maps: 2
         })
     );
-    assert_eq!(rt; map(pool, mount, b"a", &range(1, 1)), Ok(Answer::MapNo(3)));
+    assert_eq!(rt; map(pool, mount, b"a", &range(1, 1)), Ok(3));
     assert_eq!(rt;
         anon(pool, mount, 7, 65_536, Sharing::Private, Reserving::Reserve),
         Err(Refusal::MountFull)
@@ -302,7 +296,7 @@ fn private_maps<N: Naming, R: Abort>(rt: &R, pool: &mut Pool<N>, mount: &mut Mou
     );
     assert_eq!(rt;
         anon(pool, mount, 8, 5, Sharing::Private, Reserving::NoReserve),
-        Ok(Answer::MapNo(1))
+        Ok(1)
     );
     assert_eq!(rt; used(mount), usage(3, 2));
     assert_eq!(rt;
@@ -318,16 +312,13 @@ fn unmaps<N: Naming, R: Abort>(rt: &R, pool: &mut Pool<N>, mount: &mut Mount<N>)
 {
     assert_eq!(rt; unmap(pool, mount, 4, 0, 1), Err(Refusal::NoSuchMap));
     assert_eq!(rt; unmap(pool, mount, 1, 1, 1), Err(Refusal::OutOfRange));
-    assert_eq!(rt; unmap(pool, mount, 1, 0, 1), Ok(Answer::Done));
+    assert_eq!(rt; unmap(pool, mount, 1, 0, 1), Ok(()));
     assert_eq!(rt;
         fault(pool, mount, &access(1, 0), Intent::Read),
         Err(Refusal::OutOfRange)
     );
-    assert_eq!(rt;
-        fault(pool, mount, &access(1, 1), Intent::Read),
-        Ok(Answer::Done)
-    );
-    assert_eq!(rt; unmap(pool, mount, 1, 0, 4), Ok(Answer::Done));
+    assert_eq!(rt; fault(pool, mount, &access(1, 1), Intent::Read), Ok(()));
+    assert_eq!(rt; unmap(pool, mount, 1, 0, 4), Ok(()));
     assert_eq!(rt;
         fault(pool, mount, &access(1, 1), Intent::Read),
         Err(Refusal::NoSuchMap)

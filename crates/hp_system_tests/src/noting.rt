@@ -3,7 +3,7 @@ ghost use Rattle.std.specs.Prelude.{◌≡◌, ◌≤◌, length};
 ghost use Rattle.hp_mount_door.specs.Door.{IsReady};
 ghost use Rattle.hp_pool.specs.Ledgers.{AreLedgers};
 
-use hp_model::answer::{Answer, Reply};
+use hp_model::answer::Answer;
 use hp_model::naming::Naming;
 use hp_model::refusal::Refusal;
 use hp_model::step::{Reserving, Sharing};
@@ -127,7 +127,7 @@ const ACCESS: MapAccess = MapAccess {
     index: 1,
 };
 
-fn map_pages<N: Naming>(door: &mut Noting<N>, mount: &mut Mount<N>) -> Reply
+fn map_pages<N: Naming>(door: &mut Noting<N>, mount: &mut Mount<N>) -> Result<u64, Refusal>
     requires { IsReady door.old.pool }
     ensures { IsReady door.new.pool }
 {
@@ -156,7 +156,7 @@ fn store_byte<N: Naming>(door: &mut Noting<N>, mount: &mut Mount<N>) -> Result<(
 }
 
 // A page for the one index of a private map of a new file without name.
-fn map_anon<N: Naming>(door: &mut Noting<N>, mount: &mut Mount<N>) -> Reply
+fn map_anon<N: Naming>(door: &mut Noting<N>, mount: &mut Mount<N>) -> Result<u64, Refusal>
     requires { IsReady door.old.pool }
     ensures { IsReady door.new.pool }
 {
@@ -171,25 +171,25 @@ fn in_turn<N: Naming, R: Abort>(rt: &R, door: &mut Noting<N>, mount: &mut Mount<
     ensures { IsReady door.new.pool }
 {
     let mut room = [0u8; 256];
-    assert_eq!(rt; mount.create(b"a"), Ok(Answer::Done));
+    assert_eq!(rt; mount.create(b"a"), Ok(()));
     assert_eq!(rt; map_pages(door, mount), Err(Refusal::TraceFull));
     assert!(rt; !mount.has_maps(7));
-    assert_eq!(rt; mount.usage(), usage(0, 1));
+    assert_eq!(rt; mount.usage().into_answer(), usage(0, 1));
     door.places = 1;
-    assert_eq!(rt; map_pages(door, mount), Ok(Answer::MapNo(1)));
-    assert_eq!(rt; mount.usage(), usage(2, 1));
+    assert_eq!(rt; map_pages(door, mount), Ok(1));
+    assert_eq!(rt; mount.usage().into_answer(), usage(2, 1));
     assert_eq!(rt; load_byte(door, mount, &mut room), Err(Refusal::TraceFull));
     assert_eq!(rt; store_byte(door, mount), Err(Refusal::TraceFull));
     door.places = 1;
     assert_eq!(rt; store_byte(door, mount), Ok(()));
     assert_eq!(rt; load_byte(door, mount, &mut room), Ok(b"x".as_slice()));
-    assert_eq!(rt; mount.usage(), usage(2, 1));
+    assert_eq!(rt; mount.usage().into_answer(), usage(2, 1));
     assert_eq!(rt; map_anon(door, mount), Err(Refusal::TraceFull));
-    assert_eq!(rt; mount.usage(), usage(2, 1));
+    assert_eq!(rt; mount.usage().into_answer(), usage(2, 1));
     door.places = 1;
-    assert_eq!(rt; map_anon(door, mount), Ok(Answer::MapNo(2)));
+    assert_eq!(rt; map_anon(door, mount), Ok(2));
     assert_eq!(rt; map_anon(door, mount), Err(Refusal::MountFull));
-    assert_eq!(rt; mount.usage(), usage(3, 2));
+    assert_eq!(rt; mount.usage().into_answer(), usage(3, 2));
 }
 
 // A page by a grant, which no map of today asks for, is refused without a place.

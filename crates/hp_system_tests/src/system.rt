@@ -3,11 +3,13 @@ ghost use Rattle.std.specs.Prelude.{◌≡◌};
 ghost use Rattle.hp_pool.specs.Ledgers.{AreLedgers};
 ghost use Rattle.hp_system.specs.Kept.{IsReady};
 
-use hp_model::answer::{Answer, Counts};
+use hp_model::answer::{Answer, Counts, Reply};
 use hp_model::bytes::Bytes;
 use hp_model::naming::Naming;
 use hp_model::refusal::Refusal;
+use hp_model::service::Service;
 use hp_model::step::Step;
+use hp_model::told::Told;
 use hp_pool::Blanks;
 use hp_system::System;
 use std::alloc::Global;
@@ -65,6 +67,73 @@ fn steps(rt: HostRuntime) {
     run::<Brand, HostRuntime>(&rt, rt.alloc(), Blanks::new());
 }
 
+// The machine's calls, of which each is asked for one thing: what they promise is not carried through a whole test.
+
+fn apply<N: Naming>(system: &mut System<N>, step: &Step) -> Reply
+    requires { IsReady system.old }
+    ensures { IsReady system.new }
+{
+    system.apply(step)
+}
+
+fn call<N: Naming>(system: &mut System<N>, step: &Step) -> Reply
+    requires { IsReady system.old }
+    ensures { IsReady system.new }
+{
+    system.call(step)
+}
+
+// Whether the step is answered with these bytes, in the caller's room.
+fn shows<N: Naming>(system: &mut System<N>, step: &Step, wanted: &[u8]) -> bool
+    requires { IsReady system.old }
+    ensures { IsReady system.new }
+{
+    let mut room = [255u8; 256];
+    match system.answer(step, &mut room) {
+        Ok(Told::Bytes(shown)) => shown == wanted,
+        _ => false,
+    }
+}
+
+// How many names are answered, or why none is.
+fn names<N: Naming>(system: &mut System<N>) -> Result<usize, Refusal>
+    requires { IsReady system.old }
+    ensures { IsReady system.new }
+{
+    let mut room = [255u8; 256];
+    match system.answer(&Step::Ls { slot: 0 }, &mut room) {
+        Ok(Told::Names(names)) => Ok(names.as_slice().len()),
+        Ok(_other) => Ok(0),
+        Err(refusal) => Err(refusal),
+    }
+}
+
+// Bytes of a file are answered in the caller's room, and in the answer itself.
+fn shows_zeros<N: Naming, R: Abort>(rt: &R, alloc: Global, system: &mut System<N>)
+    requires { IsReady system.old }
+    ensures { IsReady system.new }
+{
+    let truncate = Step::Truncate {
+        slot: 0,
+        name: bytes(rt, alloc, b"Data_0.a-z"),
+        pages: 1,
+    };
+    assert_eq!(rt; call(system, &truncate), Ok(Answer::Done));
+    let read = Step::Read {
+        slot: 0,
+        name: bytes(rt, alloc, b"Data_0.a-z"),
+        index: 0,
+        offset: 0,
+        count: 2,
+    };
+    assert!(rt; shows(system, &read, b"\0\0"));
+    let zeros = Answer::Bytes {
+        count: 2,
+        bytes: [0u8; 256],
+    };
+    assert_eq!(rt; call(system, &read), Ok(zeros));
+}
+
 // Machines that are made, used and closed give back all that they held.
 fn come_and_go<N: Naming, R: Abort>(rt: &R, alloc: Global, blanks: Blanks)
     requires ledgers { AreLedgers N.Naming blanks }
@@ -73,7 +142,9 @@ fn come_and_go<N: Naming, R: Abort>(rt: &R, alloc: Global, blanks: Blanks)
     let mut system = System::<N>::new(alloc, &[4, 4], 1024, 2, blanks).expect(rt, "memory");
     let name = bytes(rt, alloc, b"Data_0.a-z");
     let create = Step::Create { slot: 0, name };
-    assert_eq!(rt; system.apply(&create), Ok(Answer::Done));
+    assert_eq!(rt; apply(&mut system, &create), Ok(Answer::Done));
+    assert_eq!(rt; names(&mut system), Ok(1));
+    shows_zeros(rt, alloc, &mut system);
     system.close();
 }
 

@@ -1,8 +1,9 @@
 //! A small service.
-use hp_model::answer::{Answer, Counts, NodeCount, Reply};
+use hp_model::answer::{Counts, NodeCount, Reply};
 use hp_model::refusal::Refusal;
 use hp_model::service::{Access, Service};
 use hp_model::step::Step;
+use hp_model::told::Told;
 
 /// Answers by the step alone.
 #[derive(Drop)]
@@ -18,12 +19,20 @@ impl Service for Sample {
     ghost is_ready = { λ sample. Unit {0} };
 
     fn call(&mut self, step: &Step) -> Reply {
+        let mut room = [0u8; 256];
+        match self.answer(step, &mut room) {
+            Ok(told) => Ok(told.into_answer()),
+            Err(refusal) => Err(refusal),
+        }
+    }
+
+    fn answer<'a>(&mut self, step: &Step, _room: &'a mut [u8]) -> Result<Told<'a>, Refusal> {
         self.calls = self.calls.saturating_add(1);
         match step {
-            Step::Nr { pages } => Ok(Answer::Number(*pages)),
-            Step::Connect { .. } | Step::Create { .. } => Ok(Answer::Done),
-            Step::Map { .. } => Ok(Answer::MapNo(1)),
-            Step::Meminfo => Ok(Answer::Numbers(Counts {
+            Step::Nr { pages } => Ok(Told::Number(*pages)),
+            Step::Connect { .. } | Step::Create { .. } => Ok(Told::Done),
+            Step::Map { .. } => Ok(Told::MapNo(1)),
+            Step::Meminfo => Ok(Told::Numbers(Counts {
                 total: 4,
                 free: 4,
                 rsvd: 0,
@@ -31,7 +40,7 @@ impl Service for Sample {
                 nr: 4,
                 overcommit: 0,
             })),
-            Step::Nodes => Ok(Answer::PerNode {
+            Step::Nodes => Ok(Told::PerNode {
                 nodes: 2,
                 rows: [NodeCount {
                     total: 2,
@@ -39,14 +48,14 @@ impl Service for Sample {
                     surp: 0,
                 }; 4],
             }),
-            Step::Df { .. } => Ok(Answer::Usage {
+            Step::Df { .. } => Ok(Told::Usage {
                 max: Some(3),
                 min: 2,
                 used: 3,
                 inodes: None,
                 files: 1,
             }),
-            Step::Stat { .. } => Ok(Answer::Stat {
+            Step::Stat { .. } => Ok(Told::Stat {
                 len: 3,
                 pages: 1,
                 entries: 1,

@@ -1,9 +1,9 @@
 //! A line read, and a reply written.
 
-use hp_model::answer::Answer;
 use hp_model::bytes::Bytes;
 use hp_model::names::Names;
 use hp_model::step::Step;
+use hp_model::told::Told;
 use hp_wire::reading::step_of_line;
 use hp_wire::writing::{LONGEST, line_of_reply};
 use std::test::Fail;
@@ -15,7 +15,7 @@ fn writes_names(rt: HostRuntime) -> Result<(), Fail> {
     names.push(Bytes::new(Vec::from_slice(alloc, b"a.b")?))?;
     names.push(Bytes::new(Vec::from_slice(alloc, b"C-1")?))?;
     let mut out = Vec::with_capacity(alloc, LONGEST)?;
-    let reply = Ok(Answer::Names(Names::new(names)));
+    let reply = Ok(Told::Names(Names::new(names)));
     line_of_reply(1024, &reply, &mut out);
     assert_eq!(rt; out.as_slice(), b"text 2\na.b\nC-1\n".as_slice());
     Ok(())
