@@ -9,7 +9,7 @@ use crate::answer::{Answer, Counts, NodeCount};
 use crate::names::Names;
 use crate::refusal::Refusal;
 
-/// An `Answer` of a tenth of the size: bytes lie in the caller's room.
+/// An `Answer` of less than half the size: bytes lie in the caller's room.
 #[derive(Drop)]
 pub enum Told<'a> {
     /// Nothing but that it is done.
