@@ -29,6 +29,10 @@ has_reserve m i = m.owner && is_unconsumed (place_at m i)
 abbrev pub IsClear : ℕ → ℕ → Mapping ℕ → Type 0
 IsClear a b m = (k : ℕ) → a ≤ k → k < b → copy_of (place_at m k) ≡ None
 
+-- the reservations of all places, if the map owns them
+abbrev pub reserves_of : Bool → List (Place ℕ) → ℕ
+reserves_of owner places = if owner then count_by is_unconsumed places else 0
+
 -- the reservations from a up to b
 abbrev pub reserves_in : ℕ → ℕ → Mapping ℕ → ℕ
 reserves_in a b m =

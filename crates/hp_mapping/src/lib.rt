@@ -11,3 +11,4 @@ mod words;
 
 pub use flags::MapFlags;
 pub use mapping::Mapping;
+pub use place::copy_in;

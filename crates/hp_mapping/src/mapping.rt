@@ -1,10 +1,10 @@
 //! The map.
-ghost use Rattle.std.specs.Prelude.{◌≡◌, ℕ, ◌+◌, ◌-◌, ◌<◌, ◌≤◌, true, false, length, replicate, if◌then◌else◌, IsTrue, IsSome, min, IfOk, IfSome, IfNone, None};
+ghost use Rattle.std.specs.Prelude.{◌≡◌, ℕ, ◌+◌, ◌-◌, ◌<◌, ◌≤◌, true, false, length, replicate, IsTrue, IsSome, min, IfOk, IfSome, IfNone, None};
 ghost use Rattle.std.specs.List.{count_by};
 ghost use Rattle.hp_model.specs.declared.place.Place.TheVariants.{Gone, Live};
-ghost use Rattle.hp_model.specs.files.Mapping.{place_at, is_live, is_mapped, is_shared, is_unconsumed, copy_of, without_copy, without_range, map_for};
+ghost use Rattle.hp_model.specs.files.Mapping.{place_at, is_live, is_mapped, is_shared, copy_of, without_copy, without_range, map_for};
 ghost use Rattle.hp_mapping.specs.Flags.{has_owner, has_unmapped, sharing_of};
-ghost use Rattle.hp_mapping.specs.Mapped.{at_place, consumed, with_copy, has_copy, has_reserve, IsClear, reserves_in, TakesLowest};
+ghost use Rattle.hp_mapping.specs.Mapped.{at_place, consumed, with_copy, has_copy, has_reserve, IsClear, reserves_in, reserves_of, TakesLowest};
 
 use crate::flags::MapFlags;
 use crate::places::Places;
@@ -25,12 +25,15 @@ pub struct Mapping {
     start: u64,
     flags: MapFlags,
     places: Places,
+    // how many reservations an owner has not consumed
+    reserves: u64,
 }
 
 impl Model for Mapping {
-    ghost use Rattle.std.specs.Prelude.{ℕ, length, ◌+◌, ◌<◌, ◌^◌};
+    ghost use Rattle.std.specs.Prelude.{ℕ, length, ◌≡◌, ◌+◌, ◌<◌, ◌^◌};
     ghost use Rattle.hp_model.specs.files.Mapping.{Mapping};
     ghost use Rattle.hp_mapping.specs.Flags.{has_owner, has_unmapped, sharing_of};
+    ghost use Rattle.hp_mapping.specs.Mapped.{reserves_of};
 
     ghost Value = { Mapping ℕ };
 
@@ -44,7 +47,8 @@ impl Model for Mapping {
       places = m.places;
     } };
 
-    ghost invariant = { λ m. m.start + length m.places < 2 ^ 64 };
+    ghost invariant = { λ m. m.start + length m.places < 2 ^ 64
+        × m.reserves ≡ reserves_of (has_owner m.flags.0) m.places };
 }
 
 impl Mapping {
@@ -79,6 +83,7 @@ impl Mapping {
             start: a,
             flags,
             places,
+            reserves: if flags.is_owner() { b - a } else { 0 },
         })
     }
 
@@ -146,15 +151,11 @@ impl Mapping {
         self.places.copy_count()
     }
 
-    /// How many reservations the map holds itself. It takes a step for each place of an owner.
+    /// How many reservations the map holds itself. No place is walked.
     pub fn reserve_count(&self) -> u64
-        ensures { result ≡ (if self.now.owner then count_by is_unconsumed self.now.places else 0) }
+        ensures { result ≡ reserves_of self.now.owner self.now.places }
     {
-        if self.flags.is_owner() {
-            self.places.reserve_count() as u64
-        } else {
-            0
-        }
+        self.reserves
     }
 
     /// Whether an index is left in the map.
@@ -193,6 +194,9 @@ impl Mapping {
         requires { IsTrue (is_live (place_at self.old i)) }
         ensures { self.new ≡ at_place consumed i self.old }
     {
+        if self.has_reserve(i) {
+            self.reserves -= 1;
+        }
         self.places.consume((i - self.start) as usize);
     }
 
@@ -258,7 +262,11 @@ impl Mapping {
         let from = self.offset(a);
         let to = self.offset(b);
         let freed = self.places.leave_range(from, to);
-        if self.flags.is_owner() { freed } else { 0 }
+        if !self.flags.is_owner() {
+            return 0;
+        }
+        self.reserves -= freed;
+        freed
     }
 
     // Where the file's index lies among the places, at most past the last.
@@ -283,6 +291,7 @@ impl Mapping {
             start: self.start,
             flags: self.flags.without_owner(),
             places,
+            reserves: 0,
         })
     }
 }

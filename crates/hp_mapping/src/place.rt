@@ -28,7 +28,9 @@ pub(crate) fn is_unconsumed(place: &Place<PageNo>) -> bool
     }
 }
 
-pub(crate) fn copy(place: &Place<PageNo>) -> Option<PageNo>
+/// The copy at a place, if it has one.
+#[inline(always)]
+pub fn copy_in(place: &Place<PageNo>) -> Option<PageNo>
     ensures { result ≡ copy_of place.now }
 {
     match place {

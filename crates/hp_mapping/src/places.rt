@@ -89,14 +89,6 @@ impl Places {
         self.copy_count
     }
 
-    /// How many reservations are there. It takes a step for each place.
-    pub(crate) fn reserve_count(&self) -> usize
-        ensures { result ≡ count_by is_unconsumed self.now }
-    {
-        let places = self.places.as_slice();
-        places.iter().filter(|p| place::is_unconsumed(p)).count()
-    }
-
     pub(crate) fn is_live(&self, at: usize) -> bool
         ensures { result ≡ is_live (slice_index_or self.now at Gone) }
     {
@@ -121,7 +113,7 @@ impl Places {
     pub(crate) fn copy_at(&self, at: usize) -> Option<PageNo>
         ensures { result ≡ copy_of (slice_index_or self.now at Gone) }
     {
-        place::copy(self.places.get(at)?)
+        place::copy_in(self.places.get(at)?)
     }
 
     pub(crate) fn has_live(&self) -> bool
@@ -142,7 +134,7 @@ impl Places {
         ensures { self.new ≡ at_index (with_copy page) at self.old }
     {
         let place = &mut self.places[at];
-        self.copy_count += u64::from(place::copy(place).is_none());
+        self.copy_count += u64::from(place::copy_in(place).is_none());
         place::set_copy(place, page);
         self.copies.mark(at);
     }
@@ -164,6 +156,9 @@ impl Places {
         ensures clear { IfSome result (λ at. HasNoCopy from at self.now) }
         ensures none { IfNone result (HasNoCopy from to self.now) }
     {
+        if from < to && self.copy_at(from).is_some() {
+            return Some(from);
+        }
         let at = self.copies.next(from)?;
         if at < to { Some(at) } else { None }
     }

@@ -5,6 +5,7 @@ pub mod answer;
 pub mod cell;
 pub mod entry;
 pub mod event;
+pub mod lent;
 pub mod limits;
 pub mod naming;
 pub mod node;

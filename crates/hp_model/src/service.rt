@@ -35,21 +35,26 @@ pub trait Service {
     ghost is_ready: { Self → Type 0 };
 
     /// Does the step, or leaves everything as it was, and says which.
-    fn call(&mut self, step: &Step) -> Reply
+    fn call(&mut self, step: &Step<'_>) -> Reply
         requires ready { is_ready self.old }
         ensures answered { may_answer self.old step.now result self.new }
         ensures ready { is_ready self.new }
         ensures same_page { page self.new ≡ page self.old }
         ensures limits { IsWithinLimits result };
 
-    /// Does the step as `call` does. Where it answers bytes, they are in the front of the room.
-    fn answer<'a>(&mut self, step: &Step, room: &'a mut [u8]) -> Result<Told<'a>, Refusal>
+    /// Does the step as `call` does, and puts the reply in its place. Where it is bytes, they are in the front of the room.
+    fn answer<'a>(
+        &mut self,
+        step: &Step<'_>,
+        room: &'a mut [u8],
+        reply: &mut Result<Told<'a>, Refusal>,
+    )
         requires ready { is_ready self.old }
         requires room { 256 ≤ length room.old }
-        ensures answered { may_answer self.old step.now (told_reply result) self.new }
+        ensures answered { may_answer self.old step.now (told_reply reply.new) self.new }
         ensures ready { is_ready self.new }
         ensures same_page { page self.new ≡ page self.old }
-        ensures limits { IsWithinLimits (told_reply result) };
+        ensures limits { IsWithinLimits (told_reply reply.new) };
 
     /// Does the step of a load of `count` bytes, and answers them in the front of the room.
     fn load<'a>(

@@ -1,6 +1,6 @@
 //! The steps that a caller may ask for: one variant for each command.
 
-use crate::bytes::Bytes;
+use crate::lent::Lent;
 
 /// Whether the pages of a map belong to its file or to the map.
 #[derive(Clone, Copy, PartialEq, Eq)]
@@ -23,9 +23,9 @@ pub enum Intent {
     Write,
 }
 
-/// One command with its numbers, names and bytes.
+/// One command with its numbers, and with names and bytes that lie elsewhere.
 #[derive(Drop)]
-pub enum Step {
+pub enum Step<'a> {
     /// Adds a task whose home is a node. Answers `Done`.
     Connect {
         task: u64,
@@ -47,7 +47,7 @@ pub enum Step {
     /// Opens a slot with options. Answers `Done`.
     Mount {
         slot: u64,
-        options: Bytes,
+        options: Lent<'a>,
     },
     /// Closes a slot without maps, with its files. Answers `Done`.
     Umount {
@@ -56,30 +56,30 @@ pub enum Step {
     /// Makes an empty file. Answers `Done`.
     Create {
         slot: u64,
-        name: Bytes,
+        name: Lent<'a>,
     },
     /// Takes a file's name; with its last map the file goes. Answers `Done`.
     Unlink {
         slot: u64,
-        name: Bytes,
+        name: Lent<'a>,
     },
     /// Sets a file's length, in pages. Answers `Done`.
     Truncate {
         slot: u64,
-        name: Bytes,
+        name: Lent<'a>,
         pages: u64,
     },
     /// Takes the pages from index `from` up to, not including, `to` out of a file. Answers `Done`.
     Punch {
         slot: u64,
-        name: Bytes,
+        name: Lent<'a>,
         from: u64,
         to: u64,
     },
     /// Answers `count` bytes from byte `offset` of the page at `index` of a file.
     Read {
         slot: u64,
-        name: Bytes,
+        name: Lent<'a>,
         index: u64,
         offset: u64,
         count: u64,
@@ -91,13 +91,13 @@ pub enum Step {
     /// Answers a file's length, pages present, indices entered, and maps.
     Stat {
         slot: u64,
-        name: Bytes,
+        name: Lent<'a>,
     },
     /// Maps `pages` pages of a file from index `from` on. Answers the map's number.
     Map {
         task: u64,
         slot: u64,
-        name: Bytes,
+        name: Lent<'a>,
         from: u64,
         pages: u64,
         sharing: Sharing,
@@ -142,7 +142,7 @@ pub enum Step {
         map: u64,
         index: u64,
         offset: u64,
-        bytes: Bytes,
+        bytes: Lent<'a>,
     },
     /// Sets nr, in pages. Answers the value set.
     Nr {

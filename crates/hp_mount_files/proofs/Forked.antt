@@ -17,7 +17,7 @@ use Rattle.hp_store.specs.Store.{Store}
 use Rattle.hp_mount_files.specs.Forking.{IsSharing, children_of, with_children}
 use Rattle.hp_mount_files.specs.Held.{IsHeld, in_cell, in_cells, in_file, in_files, in_map, in_place, more_in}
 use Rattle.hp_mount_files.specs.Hints.{IsFiles, Noted, has_key, has_name as has_noted}
-use Rattle.hp_mount_files.specs.Keyed.{Label, has_label, is_listed, key_of, keys_in, label_of, labels_of, maps_for}
+use Rattle.hp_mount_files.specs.Keyed.{IsKeyed, Label, has_label, is_listed, key_of, keys_in, label_of, labels_of, maps_for}
 use Rattle.hp_mount_files.specs.Leaving.{file_owed, map_sum, owed}
 use Rattle.hp_mount_files.specs.Level.{AreLevel, copy_in}
 use Rattle.hp_mount_files.specs.Numbered.{NumberedFile, file_shown, files_shown, map_shown, numbered_at, place_shown}
@@ -317,17 +317,28 @@ module _ (parent child : ℕ) (apart : (parent == child) ≡ false) where
           split true x y = refl
           split false x y = refl
 
-      pub fork_keeps : (later : Noted) → ((name : List ℕ) → has_noted name later ≡ false → has_noted name n ≡ false) → ((t q : ℕ) → (t == child) ≡ false → has_key t q later ≡ false → sum_by (keys_in t q) (labels_of fs) ≡ 0) → ((q : ℕ) → has_key child q later ≡ false → sum_by (keys_in parent q) (labels_of fs) ≡ 0)
-          → (left : ℕ) (next : ℕ → ℕ) → left ≡ maps + tally parent → ((q : ℕ) → next q ≡ tally q + cond (child == q) (tally parent) 0) → IsFiles later u more left next (all_of fs)
-      fork_keeps later names others mine left next left_is next_is = record {
+      flip : (t : ℕ) → (t == child) ≡ false → (child == t) ≡ false
+      flip t e = grind (arith, nat_tests, e)
+
+      pub fork_keyed : (left : ℕ) (next : ℕ → ℕ) → left ≡ maps + tally parent → ((q : ℕ) → next q ≡ tally q + cond (child == q) (tally parent) 0) → IsKeyed left next (labels_of (all_of fs))
+      fork_keyed left next left_is next_is = record {
+        kept = listed fs is.keyed.kept;
+        names = λ name. (let same = names_same name fs in let most = is.keyed.names name in omega (arith, same, most));
+        keys = λ t q. at t q (t == child) refl;
+        map_count = (let was = is.keyed.map_count in let old = maps_in fs in let new = maps_in (all_of fs) in let more = maps_more fs in let came = added_is fs in let own = is.keyed.tallied parent in omega (arith, was, old, new, more, came, own, left_is));
+        tallied = λ q. next_is q ∙ ap (λ n. n + cond (child == q) (tally parent) 0) (is.keyed.tallied q) ∙ ap (λ n. sum_by (maps_for q) (labels_of fs) + cond (child == q) n 0) (is.keyed.tallied parent) ∙ sym (tally_more q fs);
+      }
+        where
+          at : (t q : ℕ) (b : Bool) → (t == child) ≡ b → sum_by (keys_in t q) (labels_of (all_of fs)) ≤ 1
+          at t q true e = (let same = ap (λ i. sum_by (keys_in i q) (labels_of (all_of fs))) (eqb-true t child e) in let all = keys_child q in let most = is.keyed.keys parent q in omega (arith, same, all, most))
+          at t q false e = (let all = keys_other t q (flip t e) fs in let most = is.keyed.keys t q in omega (arith, all, most))
+
+      -- what is noted then may lack names and keys that were not noted, and those that the child has no map of
+      pub fork_keeps : (later : Noted) → ((name : List ℕ) → has_noted name later ≡ false → has_noted name n ≡ false) → ((t q : ℕ) → (t == child) ≡ false → has_key t q later ≡ false → sum_by (keys_in t q) (labels_of fs) ≡ 0)
+          → ((q : ℕ) → has_key child q later ≡ false → sum_by (keys_in child q) (labels_of (all_of fs)) ≡ 0) → (left : ℕ) (next : ℕ → ℕ) → IsKeyed left next (labels_of (all_of fs)) → IsFiles later u more left next (all_of fs)
+      fork_keeps later names others mine left next keyed_now = record {
         held = fork_held;
-        keyed = record {
-          kept = listed fs is.keyed.kept;
-          names = λ name. (let same = names_same name fs in let most = is.keyed.names name in omega (arith, same, most));
-          keys = λ t q. at t q (t == child) refl;
-          map_count = (let was = is.keyed.map_count in let old = maps_in fs in let new = maps_in (all_of fs) in let more = maps_more fs in let came = added_is fs in let own = is.keyed.tallied parent in omega (arith, was, old, new, more, came, own, left_is));
-          tallied = λ q. next_is q ∙ ap (λ n. n + cond (child == q) (tally parent) 0) (is.keyed.tallied q) ∙ ap (λ n. sum_by (maps_for q) (labels_of fs) + cond (child == q) n 0) (is.keyed.tallied parent) ∙ sym (tally_more q fs);
-        };
+        keyed = keyed_now;
         noted = record {
           names = λ name e. (let same = names_same name fs in let none = is.noted.names name (names name e) in omega (arith, same, none));
           keys = λ t q e. keyed t q (t == child) refl e;
@@ -335,13 +346,6 @@ module _ (parent child : ℕ) (apart : (parent == child) ≡ false) where
         level = levels fs is.level;
       }
         where
-          flip : (t : ℕ) → (t == child) ≡ false → (child == t) ≡ false
-          flip t e = grind (arith, nat_tests, e)
-
-          at : (t q : ℕ) (b : Bool) → (t == child) ≡ b → sum_by (keys_in t q) (labels_of (all_of fs)) ≤ 1
-          at t q true e = (let same = ap (λ i. sum_by (keys_in i q) (labels_of (all_of fs))) (eqb-true t child e) in let all = keys_child q in let most = is.keyed.keys parent q in omega (arith, same, all, most))
-          at t q false e = (let all = keys_other t q (flip t e) fs in let most = is.keyed.keys t q in omega (arith, all, most))
-
           keyed : (t q : ℕ) (b : Bool) → (t == child) ≡ b → has_key t q later ≡ false → sum_by (keys_in t q) (labels_of (all_of fs)) ≡ 0
-          keyed t q true same e = (let is_t = eqb-true t child same in let moved = ap (λ i. sum_by (keys_in i q) (labels_of (all_of fs))) is_t in let all = keys_child q in let none = mine q (sym (ap (λ i. has_key i q later) is_t) ∙ e) in omega (arith, moved, all, none))
+          keyed t q true same e = (let is_t = eqb-true t child same in ap (λ i. sum_by (keys_in i q) (labels_of (all_of fs))) is_t ∙ mine q (sym (ap (λ i. has_key i q later) is_t) ∙ e))
           keyed t q false other e = (let all = keys_other t q (flip t other) fs in let none = others t q other e in omega (arith, all, none))

@@ -12,18 +12,20 @@ use Rattle.hp_model.specs.files.GiveBack.{file_without, is_kept}
 use Rattle.hp_model.specs.files.Mapping.{Map, Mapping, is_of, map_for, map_punched}
 use Rattle.hp_store.specs.Store.{Store, holders_of, page_at}
 use Rattle.hp_mount_files.specs.Dropping.{IsDropping, IsLeft, count_at}
-use Rattle.hp_mount_files.specs.Forking.{AreReady, HaveRoom, IsNotedFor, IsSharing, children_of, in_list, in_lists, joined, with_children}
+use Rattle.hp_mount_files.specs.Forking.{AreReady, HaveRoom, IsNoted, IsSharing, children_of, in_list, in_lists, joined, maps_named, maps_of, with_children}
 use Rattle.hp_mount_files.specs.Held.{in_files, in_map, more_in}
 use Rattle.hp_mount_files.specs.Hints.{IsFiles, Noted}
-use Rattle.hp_mount_files.specs.Keyed.{keys_in, labels_of}
+use Rattle.hp_mount_files.specs.Keyed.{IsKeyed, keys_in, labels_of, maps_for}
 use Rattle.hp_mount_files.specs.Leaving.{IsMoreButTask, emptied, file_owed, is_used, left_by, map_sum}
 use Rattle.hp_mount_files.specs.Numbered.{NumberedFile, files_shown, with_truncated}
 use Rattle.hp_mount_files.specs.Places.{all_maps}
 use Rattle.hp_mount_files.proofs.Exiting.{exit_files, exit_keeps, exit_keys, exit_left, keys_gone}
 use Rattle.hp_mount_files.proofs.FileLeaves.{empty_file, written_back}
-use Rattle.hp_mount_files.proofs.Forked.{few_kids, fork_held, fork_keeps, fork_shows, in_kids, owed_same}
+use Rattle.hp_mount_files.proofs.Forked.{few_kids, fork_held, fork_keeps, fork_keyed, fork_shows, in_kids, owed_same}
 use Rattle.hp_mount_files.proofs.Leaving.{files_owe}
+use Rattle.hp_mount_files.proofs.Noting.{named_labelled}
 use Rattle.hp_mount_files.proofs.Stored.{stored_at, stored_pages}
+use Rattle.hp_mount_files.proofs.Tallies.{maps_labelled}
 use Rattle.hp_mount_files.proofs.Unique.{maps_counted}
 use Rattle.hp_mount_files.proofs.Views.{view}
 
@@ -235,22 +237,18 @@ module _ (n dropped : Noted) (s t : Store) (more now maps : ℕ) (tally : ℕ �
             room = omega (arith, room);
           })
 
-      module _ (table : Noted) (noted : IsNotedFor parent child n table) where
-        gone_keys : (q : ℕ) → sum_by (keys_in child q) (labels_of K) ≡ 0
-        gone_keys q = keys_gone n dropped s t more now maps tally fs raw ended K len few is child raw_is ended_from K_is drops counted grown r k reserves gone q
+      gone_keys : (q : ℕ) → sum_by (keys_in child q) (labels_of K) ≡ 0
+      gone_keys q = keys_gone n dropped s t more now maps tally fs raw ended K len few is child raw_is ended_from K_is drops counted grown r k reserves gone q
 
-        fewer : (q m : ℕ) → sum_by (keys_in q m) (labels_of K) ≤ sum_by (keys_in q m) (labels_of fs)
-        fewer q m = exit_keys n dropped s t more now maps tally fs raw ended K len few is child raw_is ended_from K_is drops counted grown r k reserves gone q m
+      fewer : (q m : ℕ) → sum_by (keys_in q m) (labels_of K) ≤ sum_by (keys_in q m) (labels_of fs)
+      fewer q m = exit_keys n dropped s t more now maps tally fs raw ended K len few is child raw_is ended_from K_is drops counted grown r k reserves gone q m
 
-        pub forked_keeps : (next : ℕ → ℕ) → ((q : ℕ) → next q ≡ cond (child == q) (tally parent) (tally q)) → IsFiles (record dropped { keys = table.keys }) u more2 (maps - k + tally parent) next kept
-        forked_keeps next next_is =
-            subst (IsFiles (record dropped { keys = table.keys }) u more2 (maps - k + tally parent) next) (sym kept_all)
-            (fork_keeps parent child apart dropped t u now more2 (maps - k) (λ q. cond (child == q) 0 (tally q)) K left sharing counted2 parts gone_keys
-            (record dropped { keys = table.keys }) (λ name e. e)
-            (λ q m other e. (let none = is.noted.keys q m (noted.others q m other e) in let less = fewer q m in omega (arith, none, less)))
-            (λ q e. (let none = is.noted.keys parent q (noted.children q e) in let less = fewer parent q in omega (arith, none, less)))
+      module _ (next : ℕ → ℕ) (next_is : (q : ℕ) → next q ≡ cond (child == q) (tally parent) (tally q)) where
+        keyed_all : IsKeyed (maps - k + tally parent) next (labels_of (map (λ f. with_children parent child f) K))
+        keyed_all =
+            fork_keyed parent child apart dropped t u now more2 (maps - k) (λ q. cond (child == q) 0 (tally q)) K left sharing counted2 parts gone_keys
             (maps - k + tally parent) next (ap (λ b. maps - k + cond b 0 (tally parent)) (sym flip))
-            (λ q. next_is q ∙ at q (child == q)))
+            (λ q. next_is q ∙ at q (child == q))
           where
             flip : (child == parent) ≡ false
             flip = grind (arith, nat_tests, apart)
@@ -259,9 +257,25 @@ module _ (n dropped : Noted) (s t : Store) (more now maps : ℕ) (tally : ℕ �
             at q true = (let own = ap (λ b. cond b 0 (tally parent)) flip in omega (arith, own))
             at q false = omega arith
 
-        -- and they are counted
-        pub forked_few : (next : ℕ → ℕ) → ((q : ℕ) → next q ≡ cond (child == q) (tally parent) (tally q)) → maps - k + tally parent ≡ length (all_maps (files_shown u kept))
-        forked_few next next_is = (forked_keeps next next_is).keyed.map_count ∙ maps_counted u kept
+        -- they are counted
+        pub forked_few : maps - k + tally parent ≡ length (all_maps (files_shown u kept))
+        forked_few = (subst (λ gs. IsKeyed (maps - k + tally parent) next (labels_of gs)) (sym kept_all) keyed_all).map_count ∙ maps_counted u kept
+
+        -- and the child has as many as its parent
+        pub forked_of : sum_by (maps_of child) kept ≡ tally parent
+        forked_of = sym (maps_labelled child kept) ∙ ap (λ gs. sum_by (maps_for child) (labels_of gs)) kept_all ∙ sym (keyed_all.tallied child) ∙ next_is child ∙ ap (λ b. cond b (tally parent) (tally child)) (own_task child)
+          where
+            own_task : (q : ℕ) → (q == q) ≡ true
+            own_task q = grind (arith, nat_tests)
+
+        pub forked_keeps : (table : Noted) (m : ℕ) → IsNoted child dropped table m (λ q. sum_by (maps_named child q) kept) → IsFiles table u more2 (maps - k + tally parent) next kept
+        forked_keeps table m noted =
+            subst (IsFiles table u more2 (maps - k + tally parent) next) (sym kept_all)
+            (fork_keeps parent child apart dropped t u now more2 (maps - k) (λ q. cond (child == q) 0 (tally q)) K left sharing counted2 parts gone_keys
+            table noted.more.names
+            (λ q m other e. (let none = is.noted.keys q m (grown.keys q m other (noted.more.keys q m e)) in let less = fewer q m in omega (arith, none, less)))
+            (λ q e. ap (λ gs. sum_by (keys_in child q) (labels_of gs)) (sym kept_all) ∙ named_labelled child q kept ∙ noted.noted q e)
+            (maps - k + tally parent) next keyed_all)
 
 -- the same, as code counts
 pub files_as : (h g : Noted) (u : Store) (more k i : ℕ) (tally : ℕ → ℕ) (gs : List NumberedFile) → g ≡ h → i ≡ k → IsFiles h u more k tally gs → IsFiles g u more i tally gs

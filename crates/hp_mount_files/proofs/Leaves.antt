@@ -101,4 +101,4 @@ left_fewer n a b m =
 
 pub more_then : (task : ℕ) (old mid new : Noted) → IsMoreButTask task old mid → IsMoreButTask task mid new → IsMoreButTask task old new
 more_then task old mid new first then =
-    record { names = λ name e. first.names name (then.names name e); keys = λ other number apart e. first.keys other number apart (then.keys other number apart e) }
+    record { names = λ name e. first.names name (then.names name e); keys = λ other number apart e. first.keys other number apart (then.keys other number apart e); room = (let one = first.room in let two = then.room in omega (arith, one, two)) }

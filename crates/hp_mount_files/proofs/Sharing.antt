@@ -1,6 +1,6 @@
 -- Holders that come, one by one.
 use Rattle.std.proofs.Common.{◌≡◌, ◌≢◌, ℕ, zero, suc, ◌+◌, ◌-◌, ◌<◌, ◌≤◌, ◌==◌, ⊎_elim, true, false, cond, Option, Some, None, List, [], ◌∷◌, length, drop, refl, sym, ap, subst, ◌∙◌, arith}
-use Rattle.std.specs.Prelude.{IsSome, is_some, slice_index_or, slice_set}
+use Rattle.std.specs.Prelude.{is_some, slice_index_or, slice_set}
 use Rattle.std.specs.List.{sum_by}
 use Rattle.std.specs.Option.{option_map}
 use Rattle.std.proofs.lemmas.Bool.Decides.{eqb_tells, nat_tests}
@@ -14,7 +14,7 @@ use Rattle.hp_model.specs.files.Mapping.{Mapping, copy_of, place_at}
 use Rattle.hp_store.specs.Store as store
 use Rattle.hp_store.specs.Store.{Holding, Store, held_count, held_once_more, holders_of, one_if_held, page_at}
 use Rattle.hp_mount_files.specs.Dropping.{HasHolders, at_node}
-use Rattle.hp_mount_files.specs.Forking.{IsSharing}
+use Rattle.hp_mount_files.specs.Forking.{IsShared, IsSharing}
 use Rattle.hp_mount_files.specs.Held.{in_place, more_in, more_of}
 use Rattle.hp_mount_files.specs.Numbered.{page_in}
 use Rattle.hp_mount_files.proofs.Drops.{one_at}
@@ -133,6 +133,15 @@ module _ (c : Place ℕ → ℕ) (bare : (p : Place ℕ) → copy_of p ≡ None 
     pub no_copy : IsClear from (m.start + length m.places) m → sum_by c (drop (from - m.start) m.places) ≡ 0
     no_copy clear = rest_in m.places (from - m.start) (λ i low high. sym (ap copy_of (at_start m i)) ∙ clear (m.start + i) (omega (arith, low)) (omega (arith, high)))
 
+module _ (c : Place ℕ → ℕ) (bare : (p : Place ℕ) → copy_of p ≡ None → c p ≡ 0) where
+  -- what stands before the next copy counts for nothing
+  pub to_copy : (m : Mapping ℕ) (from at : ℕ) → m.start ≤ from → from ≤ at → at < m.start + length m.places → IsClear from at m → sum_by c (drop (from - m.start) m.places) ≡ sum_by c (drop (at - m.start) m.places)
+  to_copy m from at start le below clear =
+      next_copy c bare m from start at le below clear ∙ sym (next_copy c bare m at (omega (arith, start, le)) at (omega arith) below (λ k low high. absurd (omega (arith, low, high))))
+
+pub stands_at : (m : Mapping ℕ) (at k : ℕ) → at ≡ m.start + k → place_at m at ≡ slice_index_or m.places k Gone
+stands_at m at k e = ap (place_at m) e ∙ at_start m k
+
 -- ---- a place with a copy, and one without
 
 abbrev pub has_one : Place ℕ → ℕ
@@ -141,10 +150,8 @@ has_one p = cond (has_copy p) 1 0
 pub bare_one : (p : Place ℕ) → copy_of p ≡ None → has_one p ≡ 0
 bare_one p e = ap (λ (o : Option ℕ). cond {A = ℕ} (is_some o) 1 0) e
 
-pub copied_one : (p : Place ℕ) → IsSome (copy_of p) → has_one p ≡ 1
-copied_one Gone e = cc
-copied_one (Live c None) e = cc
-copied_one (Live c (Some k)) e = refl
+pub some_one : (p : Place ℕ) (k : ℕ) → copy_of p ≡ Some k → has_one p ≡ 1
+some_one p k e = ap (λ (o : Option ℕ). cond {A = ℕ} (is_some o) 1 0) e
 
 pub bare_in : (n : ℕ) (p : Place ℕ) → copy_of p ≡ None → in_place n p ≡ 0
 bare_in n Gone e = refl
@@ -166,3 +173,37 @@ sum_read c xs i x l read = drop_read (sum_by c) xs i x l read ∙ sum_by-cons c 
 
 pub sum_end : {X : Type 0} (c : X → ℕ) (xs : List X) (i : ℕ) → length xs ≤ i → sum_by c (drop i xs) ≡ 0
 sum_end c xs i l = ap (sum_by c) (drop_all i xs l)
+
+-- ---- the copies of places, one after another
+
+pub shared_none : (xs : List (Place ℕ)) (s : Store) → HasHolders s → IsShared xs xs s s
+shared_none xs s some = record {
+  less = λ n. omega arith;
+  sharing = share_then (λ n. 0) (λ n. 0) (λ n. sum_by (in_place n) xs - sum_by (in_place n) xs) s s s (share_none s some) (share_none s some) (λ n. omega arith);
+}
+
+pub shared_then : (xs ys zs : List (Place ℕ)) (s t u : Store) → IsShared xs ys s t → IsShared ys zs t u → IsShared xs zs s u
+shared_then xs ys zs s t u first then = record {
+  less = λ n. (let one = first.less n in let two = then.less n in omega (arith, one, two));
+  sharing = share_then (λ n. sum_by (in_place n) xs - sum_by (in_place n) ys) (λ n. sum_by (in_place n) ys - sum_by (in_place n) zs) (λ n. sum_by (in_place n) xs - sum_by (in_place n) zs) s t u first.sharing then.sharing
+      (λ n. (let one = first.less n in let two = then.less n in omega (arith, one, two)));
+}
+
+-- counted otherwise
+pub shared_as : (ws xs ys zs : List (Place ℕ)) (s t : Store) → IsShared xs ys s t → ((n : ℕ) → sum_by (in_place n) ws ≡ sum_by (in_place n) xs) → ((n : ℕ) → sum_by (in_place n) zs ≡ sum_by (in_place n) ys) → IsShared ws zs s t
+shared_as ws xs ys zs s t shared all last = record {
+  less = λ n. (let one = shared.less n in let whole = all n in let rest = last n in omega (arith, one, whole, rest));
+  sharing = share_then (λ n. sum_by (in_place n) xs - sum_by (in_place n) ys) (λ n. 0) (λ n. sum_by (in_place n) ws - sum_by (in_place n) zs) s t t shared.sharing (share_none t shared.sharing.some)
+      (λ n. (let whole = all n in let rest = last n in omega (arith, whole, rest)));
+}
+
+pub shared_one : (p : Place ℕ) (ys : List (Place ℕ)) (number : ℕ) (s t : Store) → copy_of p ≡ Some number → IsSharing (one_at number) s t → IsShared (p ∷ ys) ys s t
+shared_one p ys number s t is sharing = record {
+  less = λ n. (let step = sum_by-cons (in_place n) p ys in omega (arith, step));
+  sharing = share_then (one_at number) (λ n. 0) (λ n. sum_by (in_place n) (p ∷ ys) - sum_by (in_place n) ys) s t t sharing (share_none t sharing.some)
+      (λ n. (let step = sum_by-cons (in_place n) p ys in let here = copied_in n number p is in omega (arith, step, here)));
+}
+
+pub shared_all : (xs ys : List (Place ℕ)) (s t : Store) → IsShared xs ys s t → ((n : ℕ) → sum_by (in_place n) ys ≡ 0) → IsSharing (λ n. sum_by (in_place n) xs) s t
+shared_all xs ys s t shared none =
+    share_then (λ n. sum_by (in_place n) xs - sum_by (in_place n) ys) (λ n. 0) (λ n. sum_by (in_place n) xs) s t t shared.sharing (share_none t shared.sharing.some) (λ n. (let rest = none n in omega (arith, rest)))

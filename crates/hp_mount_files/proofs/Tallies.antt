@@ -1,36 +1,57 @@
 -- How many maps each task has, by what files are called, and how many tasks there are.
 use Rattle.std.proofs.Common.{◌≡◌, ◌≢◌, ℕ, zero, suc, ◌+◌, ◌<◌, ◌==◌, ◌||◌, nat_eq, nat_lt, Bool, true, false, not, cond, List, [], ◌∷◌, length, map, Option, None, Some, is_some, refl, sym, ap, ◌∙◌, arith}
-use Rattle.std.specs.List.{AllByRecursion, IsDistinct, count_by, flat_map, sum_by}
+use Rattle.std.specs.List.{All, AllByRecursion, IsDistinct, count_by, filter, flat_map, sum_by}
 use Rattle.std.specs.Map.{keys_of, lookup}
 use Rattle.std.specs.Option.{unwrap_or}
 use Rattle.std.proofs.lemmas.Bool.Decides.{nat_tests}
 use Rattle.std.proofs.lemmas.List.{length-map}
 use Rattle.std.proofs.lemmas.List.Sums.{count_by-le-length, sum_by-append, sum_by-cons}
 use Rattle.std.proofs.lemmas.Map.Keys.{IsDistinct-head, IsDistinct-tail}
-use Rattle.hp_model.specs.files.Mapping.{Map, is_of}
+use Rattle.hp_model.specs.files.Mapping.{Map, Mapping, is_of}
 use Rattle.hp_model.specs.Lists.{distinct, is_among}
 use Rattle.hp_model.proofs.Counting.{count_cons, count_map}
 use Rattle.hp_model.proofs.Distinct.{same_members}
 use Rattle.hp_store.specs.Store.{Store}
 use Rattle.hp_mount_files.specs.Asking.{is_first_of}
+use Rattle.hp_mount_files.specs.Forking.{maps_of}
 use Rattle.hp_mount_files.specs.Hints.{IsFiles, Noted}
-use Rattle.hp_mount_files.specs.Keyed.{Label, key_of, label_of, labels_of, maps_for, tasks_in}
-use Rattle.hp_mount_files.specs.Numbered.{NumberedFile, files_shown}
+use Rattle.hp_mount_files.specs.Keyed.{Label, is_listed, key_of, label_of, labels_of, maps_for, tasks_in}
+use Rattle.hp_mount_files.specs.Numbered.{NumberedFile, files_shown, with_truncated}
+use Rattle.hp_mount_files.specs.Leaving.{emptied, is_used, left_by}
 use Rattle.hp_mount_files.specs.Places.{all_maps, all_tasks}
 use Rattle.hp_mount_files.proofs.ForkCounts.{task_maps}
-use Rattle.hp_mount_files.proofs.Mapped.{sum_through}
+use Rattle.hp_mount_files.proofs.Leaving.{used_label}
 use Rattle.hp_mount_files.proofs.MapNumbers.{among_distinct}
 use Rattle.hp_mount_files.proofs.Unique.{tasks_counted}
 
 pub own_maps : (task : ℕ) (f : NumberedFile) → maps_for task (label_of f) ≡ count_by (is_of task) f.maps
 own_maps task f = count_map (λ (k : ℕ × ℕ). k.0 == task) key_of f.maps
 
-pub maps_tallied : (task : ℕ) (s : Store) (fs : List NumberedFile) → sum_by (maps_for task) (labels_of fs) ≡ count_by (is_of task) (all_maps (files_shown s fs))
-maps_tallied task s fs = sum_through (maps_for task) label_of fs ∙ each fs ∙ task_maps task s fs
+pub maps_labelled : (task : ℕ) (fs : List NumberedFile) → sum_by (maps_for task) (labels_of fs) ≡ sum_by (maps_of task) fs
+maps_labelled task [] = refl
+maps_labelled task (f ∷ fs) = (let here = own_maps task f in let rest = maps_labelled task fs in omega (arith, here, rest, sum_by-cons (maps_for task) (label_of f) (labels_of fs), sum_by-cons (maps_of task) f fs))
+
+-- files whose maps are none of the task's stay as they are when its maps go
+pub none_leave : (task : ℕ) (fs : List NumberedFile) → sum_by (maps_for task) (labels_of fs) ≡ 0 → All (λ (l : Label). is_listed l ≡ true) (labels_of fs) → map (λ f. emptied (left_by task f)) fs ≡ fs
+none_leave task [] none all = refl
+none_leave task (f ∷ fs) none all =
+    let step = sum_by-cons (maps_for task) (label_of f) (labels_of fs) in
+    let own = own_maps task f in
+    let rest = none_leave task fs (omega (arith, none, step)) (λ i e l. all (suc i) e (omega (arith, l))) in
+    let same : left_by task f ≡ f = ap (λ ms. record f { maps = ms }) (others_all f.maps (omega (arith, none, step, own))) in
+    let used : is_used f ≡ true = sym (used_label f) ∙ all 0 (label_of f) (omega arith) in
+    ap (λ g. g ∷ map (λ f. emptied (left_by task f)) fs) (ap emptied same ∙ ap (λ b. cond b f (with_truncated 0 f)) used) ∙ ap (λ gs. f ∷ gs) rest
   where
-    each : (fs : List NumberedFile) → sum_by (λ (f : NumberedFile). maps_for task (label_of f)) fs ≡ sum_by (λ (f : NumberedFile). count_by (is_of task) f.maps) fs
-    each [] = refl
-    each (f ∷ fs) = (let here = own_maps task f in let rest = each fs in omega (arith, here, rest, sum_by-cons (λ (f : NumberedFile). maps_for task (label_of f)) f fs, sum_by-cons (λ (f : NumberedFile). count_by (is_of task) f.maps) f fs))
+    others_all : (ms : List (Mapping ℕ)) → count_by (is_of task) ms ≡ 0 → filter (λ m. not (is_of task m)) ms ≡ ms
+    others_all [] e = refl
+    others_all (m ∷ ms) e = at (is_of task m) refl (count_cons (is_of task) m ms) (others_all ms)
+      where
+        at : (b : Bool) → is_of task m ≡ b → count_by (is_of task) (m ∷ ms) ≡ cond {A = ℕ} (is_of task m) 1 0 + count_by (is_of task) ms → (count_by (is_of task) ms ≡ 0 → filter (λ m. not (is_of task m)) ms ≡ ms) → cond (not b) (m ∷ filter (λ m. not (is_of task m)) ms) (filter (λ m. not (is_of task m)) ms) ≡ m ∷ ms
+        at true is step rest = (let one = ap (λ b. cond {A = ℕ} b 1 0 + 0) is in absurd (omega (arith, one, step, e)))
+        at false is step rest = ap (λ qs. m ∷ qs) (rest (omega (arith, step, e)))
+
+pub maps_tallied : (task : ℕ) (s : Store) (fs : List NumberedFile) → sum_by (maps_for task) (labels_of fs) ≡ count_by (is_of task) (all_maps (files_shown s fs))
+maps_tallied task s fs = maps_labelled task fs ∙ task_maps task s fs
 
 pub tasks_tallied : (task : ℕ) (ls : List Label) → sum_by (maps_for task) ls ≡ count_by (λ t. t == task) (flat_map tasks_in ls)
 tasks_tallied task [] = refl

@@ -7,26 +7,25 @@ use Rattle.std.proofs.lemmas.Bool.{and_parts, eqb-true}
 use Rattle.std.proofs.lemmas.Bool.Decides.{nat_tests}
 use Rattle.std.proofs.lemmas.List.{get_or-map, get_or-set_same, length-map, length-set}
 use Rattle.std.proofs.lemmas.List.Edits.{length-remove}
-use Rattle.std.proofs.lemmas.List.Sums.{sum_by-cons, sum_by-remove, sum_by-set}
+use Rattle.std.proofs.lemmas.List.Sums.{sum_by-remove, sum_by-set}
 use Rattle.hp_laws.proofs.Places.{found_place, sum_by-filter_le, sum_by-map_le}
 use Rattle.hp_model.specs.declared.limits.Limits.{Limits}
 use Rattle.hp_model.specs.declared.place.Place.{Place}
 use Rattle.hp_model.specs.declared.place.Place.TheVariants.{Gone, Live}
 use Rattle.hp_model.specs.files.File.{File, Mount}
 use Rattle.hp_model.specs.files.GiveBack.{file_unmapped, is_kept, is_left, map_unmapped}
-use Rattle.hp_model.specs.files.Mapping.{Map, Mapping, copy_of, place_at, is_live, is_map, is_mapped, is_of, is_unconsumed, no_map, without_range}
-use Rattle.hp_model.specs.files.MountCounts.{is_waiting}
+use Rattle.hp_model.specs.files.Mapping.{Map, Mapping, copy_of, place_at, is_live, is_map, is_mapped, is_of, no_map, without_range}
 use Rattle.hp_model.specs.files.Spot.{Spot, spot, spot_in}
 use Rattle.hp_model.specs.Lists.{found}
 use Rattle.hp_model.proofs.Counting.{count_cons}
 use Rattle.hp_store.specs.Store.{Store, holders_of, page_at}
 use Rattle.hp_mount_files.specs.Dropping.{IsDropping, IsLeft}
 use Rattle.hp_mount_files.specs.Files.{file_at}
-use Rattle.hp_mount_files.specs.Held.{in_cell, in_file, in_files, in_map, in_place, more_in}
+use Rattle.hp_mount_files.specs.Held.{in_file, in_files, in_map, more_in}
 use Rattle.hp_mount_files.specs.Hints.{AreNoted, IsFiles, Noted, has_key, is_pair}
 use Rattle.hp_mount_files.specs.Keyed.{Label, is_listed, key_of, keys_in, label_of, labels_of, maps_for}
 use Rattle.hp_mount_files.specs.Level.{AreLevel}
-use Rattle.hp_mount_files.specs.Leaving.{IsMoreButMap, cut_map, file_owed, is_used, left_at, left_from, map_sum, owed, stays, swept_at}
+use Rattle.hp_mount_files.specs.Leaving.{IsMoreButMap, cut_map, file_owed, is_used, left_at, left_from, map_sum, stays, swept_at}
 use Rattle.hp_mount_files.specs.Numbered.{NumberedFile, file_shown, files_shown, map_shown, mapping_at, no_mapping, numbered_at, place_shown}
 use Rattle.hp_mount_files.specs.Places.{IsFound, mount_with, spot_of}
 use Rattle.hp_mount_files.proofs.Cells.{file_is, no_file}

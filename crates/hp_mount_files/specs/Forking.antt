@@ -1,13 +1,14 @@
 -- A child's maps. No public clause cites this module.
-use Rattle.std.specs.Prelude.{◌≡◌, ℕ, ◌+◌, ◌++◌, ◌<◌, ◌≤◌, ◌==◌, List, [], ◌∷◌, false, length, map, vec_capacity}
+use Rattle.std.specs.Prelude.{◌≡◌, ℕ, ◌+◌, ◌-◌, ◌++◌, ◌<◌, ◌≤◌, List, [], ◌∷◌, false, length, map, vec_capacity}
 use Rattle.std.specs.Global.{Vec}
 use Rattle.std.specs.List.{count_by, filter, sum_by}
 use Rattle.hp_mapping.specs.Mapped.{has_copy}
-use Rattle.hp_model.specs.files.Mapping.{Mapping, is_of, map_for}
+use Rattle.hp_model.specs.declared.place.Place.{Place}
+use Rattle.hp_model.specs.files.Mapping.{Mapping, is_map, is_of, map_for}
 use Rattle.hp_store.specs.Store.{Store, held_count, holders_of, page_at}
 use Rattle.hp_mount_files.specs.Dropping.{HasHolders, at_node}
-use Rattle.hp_mount_files.specs.Held.{in_map}
-use Rattle.hp_mount_files.specs.Hints.{Noted, has_key}
+use Rattle.hp_mount_files.specs.Held.{in_map, in_place}
+use Rattle.hp_mount_files.specs.Hints.{IsMore, Noted, has_key}
 use Rattle.hp_mount_files.specs.Numbered.{NumberedFile, page_in}
 
 -- how many copies a map has
@@ -23,6 +24,11 @@ pub record IsSharing (added : ℕ → ℕ) (old now : Store) : Type 0 where
   pub nodes : (n : ℕ) → sum_by (at_node n) now.pages ≡ sum_by (at_node n) old.pages
   pub going : now.going ≡ old.going
   pub room : now.room ≡ old.room
+
+-- the copies of some places, all but those of the last ones, have a holder more
+pub record IsShared (places last : List (Place ℕ)) (old now : Store) : Type 0 where
+  pub less : (n : ℕ) → sum_by (in_place n) last ≤ sum_by (in_place n) places
+  pub sharing : IsSharing (λ n. sum_by (in_place n) places - sum_by (in_place n) last) old now
 
 -- a parent's maps as the child's
 abbrev pub children_of : (parent child : ℕ) → List (Mapping ℕ) → List (Mapping ℕ)
@@ -73,7 +79,15 @@ in_lists n lists = sum_by (in_list n) lists
 abbrev pub list_copies : Vec (Mapping ℕ) → ℕ
 list_copies list = sum_by copies_in list.items
 
--- the keys of maps that stay or come are noted
-pub record IsNotedFor (parent child : ℕ) (old new : Noted) : Type 0 where
-  pub others : (t n : ℕ) → (t == child) ≡ false → has_key t n new ≡ false → has_key t n old ≡ false
-  pub children : (n : ℕ) → has_key child n new ≡ false → has_key parent n old ≡ false
+-- how many maps of a task a file has, and how many of its one number
+abbrev pub maps_of : ℕ → NumberedFile → ℕ
+maps_of task f = count_by (is_of task) f.maps
+
+abbrev pub maps_named : (task number : ℕ) → NumberedFile → ℕ
+maps_named task number f = count_by (is_map task number) f.maps
+
+-- so many maps of a task were noted
+pub record IsNoted (task : ℕ) (old new : Noted) (maps : ℕ) (named : ℕ → ℕ) : Type 0 where
+  pub more : IsMore old new
+  pub room : old.room ≤ new.room + maps
+  pub noted : (number : ℕ) → has_key task number new ≡ false → named number ≡ 0

@@ -9,10 +9,11 @@ use Rattle.hp_mount_files.specs.Keyed.{IsKeyed, Label, has_label, keys_in, label
 use Rattle.hp_mount_files.specs.Level.{AreLevel}
 use Rattle.hp_mount_files.specs.Numbered.{NumberedFile}
 
--- the names of files, and the tasks and numbers of maps, that were ever noted
+-- the names of files, and the tasks and numbers of maps, that were ever noted; and for how many maps more there is room
 pub record Noted : Type 0 where
   pub names : List (List ℕ)
   pub keys : List (ℕ × ℕ)
+  pub room : ℕ
 
 abbrev pub names_of : {X : Type 0} → List (Vec ℕ × X) → List (List ℕ)
 names_of es = map (λ e. e.0.items) es

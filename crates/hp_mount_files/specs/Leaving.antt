@@ -1,5 +1,5 @@
 -- Maps that leave files with their pages by number. No public clause cites this module.
-use Rattle.std.specs.Prelude.{◌≡◌, ℕ, ◌+◌, ◌||◌, ◌==◌, Bool, false, not, is_some, slice_set, min, Option, None, Some, List, length, map, if◌then◌else◌, nat_lt}
+use Rattle.std.specs.Prelude.{◌≡◌, ℕ, ◌+◌, ◌≤◌, ◌||◌, ◌==◌, Bool, false, not, is_some, slice_set, min, Option, None, Some, List, length, map, if◌then◌else◌, nat_lt}
 use Rattle.std.specs.List.{count_by, filter, fold, remove, sum_by}
 use Rattle.hp_model.specs.files.Mapping.{Mapping, is_mapped, is_map, is_of, is_unconsumed, without_range}
 use Rattle.hp_model.specs.files.MountCounts.{is_waiting}
@@ -67,11 +67,13 @@ left_at map a b f =
 abbrev pub swept_at : ℕ → List NumberedFile → List NumberedFile
 swept_at k fs = if is_used (numbered_at fs k) then fs else remove fs k
 
--- of what was noted only maps of one task may be forgotten; or only one map
+-- of what was noted only maps of one task may be forgotten; or only one map. There is no less room
 pub record IsMoreButTask (task : ℕ) (old new : Noted) : Type 0 where
   pub names : (name : List ℕ) → has_name name new ≡ false → has_name name old ≡ false
   pub keys : (other number : ℕ) → (other == task) ≡ false → has_key other number new ≡ false → has_key other number old ≡ false
+  pub room : old.room ≤ new.room
 
 pub record IsMoreButMap (task number : ℕ) (old new : Noted) : Type 0 where
   pub names : (name : List ℕ) → has_name name new ≡ false → has_name name old ≡ false
   pub keys : (t n : ℕ) → is_pair t n (task, number) ≡ false → has_key t n new ≡ false → has_key t n old ≡ false
+  pub room : old.room ≤ new.room

@@ -1,8 +1,9 @@
 //! What files and maps hold goes.
-ghost use Rattle.std.specs.Prelude.{◌≡◌, ℕ, ◌+◌, ◌<◌, ◌≤◌, ◌^◌, List, length, map, slice_index_or, slice_set};
+ghost use Rattle.std.specs.Prelude.{◌≡◌, ℕ, ◌+◌, ◌<◌, ◌≤◌, ◌^◌, List, IsSome, drop, length, map, slice_index_or, slice_set};
 ghost use Rattle.std.specs.List.{sum_by};
 ghost use Rattle.hp_model.specs.files.File.{cell_punched};
-ghost use Rattle.hp_model.specs.files.Mapping.{map_punched, without_range};
+ghost use Rattle.hp_model.specs.declared.place.Place.TheVariants.{Gone};
+ghost use Rattle.hp_model.specs.files.Mapping.{copy_of, map_punched, without_range};
 ghost use Rattle.hp_mapping.specs.Mapped.{reserves_in};
 ghost use Rattle.hp_model.specs.Lists.{edit_range};
 ghost use Rattle.hp_store.specs.Store.{dropped, holders_of, page_at};
@@ -14,7 +15,7 @@ ghost use Rattle.hp_mount_files.specs.Leaving.{IsMoreButTask, ended_for, owed};
 
 use crate::hints::Hints;
 use hp_inode::Inode;
-use hp_mapping::Mapping;
+use hp_mapping::{Mapping, copy_in};
 use hp_model::naming::Naming;
 use hp_model::page_no::PageNo;
 use hp_model::place::Place;
@@ -27,10 +28,9 @@ pub(crate) fn drop_holder<N: Naming>(number: PageNo, store: &mut PageStore<N>, m
     ensures dropped { store.new ≡ dropped number store.old }
     ensures counted { more.new ≡ more_in store.new.pages }
 {
-    if store.holders(number) > 1 {
+    if !store.drop_one(number) {
         *more -= 1;
     }
-    store.drop_one(number);
 }
 
 /// Takes the pages of a file's indices from `a` up to `b`, with their entries. Entries without a page stay. It takes a
@@ -55,37 +55,49 @@ pub(crate) fn drop_pages<N: Naming>(
     }
 }
 
-// A place's copy goes.
-fn drop_place<N: Naming>(place: &Place<PageNo>, store: &mut PageStore<N>, more: &mut usize)
-    requires held { (n : ℕ) → in_place n place.now ≤ holders_of (page_at store.old n) }
-    requires some { HasHolders store.old }
-    requires counted { more.old ≡ more_in store.old.pages }
-    ensures dropping { IsDropping (λ n. in_place n place.now) (λ n. 0) store.old store.new }
-    ensures counted { more.new ≡ more_in store.new.pages }
-{
-    if let Place::Live {
-        consumed: _,
-        copy: Some(number),
-    } = place
-    {
-        drop_holder(*number, store, more);
-    }
-}
-
-/// The copies of some places go. It takes a step for each place.
-pub(crate) fn drop_places<N: Naming>(
+// The copies of some places go from one place on, up to the next place without a copy, which is answered.
+fn drop_run<N: Naming>(
     places: &[Place<PageNo>],
+    from: usize,
     store: &mut PageStore<N>,
     more: &mut usize,
-)
-    requires held { (n : ℕ) → sum_by (in_place n) places.now ≤ holders_of (page_at store.old n) }
+) -> usize
+    requires within { from ≤ length places.now }
+    requires held { (n : ℕ) → sum_by (in_place n) (drop from places.now) ≤ holders_of (page_at store.old n) }
     requires some { HasHolders store.old }
     requires counted { more.old ≡ more_in store.old.pages }
-    ensures dropping { IsDropping (λ n. sum_by (in_place n) places.now) (λ n. 0) store.old store.new }
+    ensures past { IsSome (copy_of (slice_index_or places.now from Gone)) → from < result }
+    ensures within { result ≤ length places.now }
+    ensures dropping { IsDropping (λ n. sum_by (in_place n) (drop from places.now))
+        (λ n. sum_by (in_place n) (drop result places.now)) store.old store.new }
     ensures counted { more.new ≡ more_in store.new.pages }
 {
-    for place in places {
-        drop_place(place, store, more);
+    let mut at = from;
+    while at < places.len() {
+        let Some(number) = copy_in(&places[at]) else {
+            return at;
+        };
+        drop_holder(number, store, more);
+        at += 1;
+    }
+    at
+}
+
+/// The copies of a map that is gone go. It takes a step for each.
+pub(crate) fn drop_map<N: Naming>(map: &Mapping, store: &mut PageStore<N>, more: &mut usize)
+    requires held { (n : ℕ) → in_map n map.now ≤ holders_of (page_at store.old n) }
+    requires some { HasHolders store.old }
+    requires counted { more.old ≡ more_in store.old.pages }
+    ensures dropping { IsDropping (λ n. in_map n map.now) (λ n. 0) store.old store.new }
+    ensures counted { more.new ≡ more_in store.new.pages }
+{
+    let places = map.places();
+    let start = map.start();
+    let end = map.end();
+    let mut from = start;
+    while let Some(at) = map.lowest_copy(from, end) {
+        let past = drop_run(places, (at - start) as usize, store, more);
+        from = start + past as u64;
     }
 }
 

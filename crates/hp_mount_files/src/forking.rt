@@ -1,14 +1,16 @@
 //! A child's maps.
-ghost use Rattle.std.specs.Prelude.{◌≡◌, ◌==◌, if◌then◌else◌, ℕ, ◌+◌, ◌-◌, ◌<◌, ◌≤◌, ◌^◌, length, vec_capacity, IfOk};
+ghost use Rattle.std.specs.Prelude.{◌≡◌, ◌==◌, if◌then◌else◌, ℕ, ◌+◌, ◌-◌, ◌<◌, ◌≤◌, ◌^◌, IsSome, drop, length, slice_index_or, vec_capacity, IfOk};
 ghost use Rattle.std.specs.List.{count_by, sum_by};
 ghost use Rattle.hp_mapping.specs.Mapped.{has_copy};
+ghost use Rattle.hp_model.specs.declared.place.Place.TheVariants.{Gone};
+ghost use Rattle.hp_model.specs.files.Mapping.{copy_of};
 ghost use Rattle.hp_store.specs.Store.{holders_of, page_at};
 ghost use Rattle.hp_mount_files.specs.Dropping.{HasHolders};
-ghost use Rattle.hp_mount_files.specs.Forking.{IsSharing, children_of, copies_in};
+ghost use Rattle.hp_mount_files.specs.Forking.{IsShared, IsSharing, children_of, copies_in};
 ghost use Rattle.hp_mount_files.specs.Held.{in_map, in_place, more_in};
 
 use crate::tags::Tags;
-use hp_mapping::Mapping;
+use hp_mapping::{Mapping, copy_in};
 use hp_model::naming::Naming;
 use hp_model::page_no::PageNo;
 use hp_model::place::Place;
@@ -29,37 +31,53 @@ fn add_holder<N: Naming>(number: PageNo, store: &mut PageStore<N>, more: &mut us
     *more += 1;
 }
 
-// A place's copy has a holder more.
-fn share_place<N: Naming>(place: &Place<PageNo>, store: &mut PageStore<N>, more: &mut usize)
-    requires held { (n : ℕ) → in_place n place.now ≤ holders_of (page_at store.old n) }
+// The copies of some places have a holder more, from one place on up to the next without a copy, which is answered.
+fn share_run<N: Naming>(
+    places: &[Place<PageNo>],
+    from: usize,
+    store: &mut PageStore<N>,
+    more: &mut usize,
+) -> usize
+    requires within { from ≤ length places.now }
+    requires held { (n : ℕ) → sum_by (in_place n) (drop from places.now) ≤ holders_of (page_at store.old n) }
     requires some { HasHolders store.old }
     requires counted { more.old ≡ more_in store.old.pages }
-    requires few { more.old + (if has_copy place.now then 1 else 0) ≤ 2 ^ 32 }
-    ensures sharing { IsSharing (λ n. in_place n place.now) store.old store.new }
+    requires few { more.old + count_by has_copy (drop from places.now) ≤ 2 ^ 32 }
+    ensures past { IsSome (copy_of (slice_index_or places.now from Gone)) → from < result }
+    ensures within { result ≤ length places.now }
+    ensures shared { IsShared (drop from places.now) (drop result places.now) store.old store.new }
     ensures counted { more.new ≡ more_in store.new.pages }
-    ensures more { more.new ≡ more.old + (if has_copy place.now then 1 else 0) }
+    ensures more { more.new + count_by has_copy (drop result places.now)
+        ≡ more.old + count_by has_copy (drop from places.now) }
 {
-    if let Place::Live {
-        consumed: _,
-        copy: Some(number),
-    } = place
-    {
-        add_holder(*number, store, more);
+    let mut at = from;
+    while at < places.len() {
+        let Some(number) = copy_in(&places[at]) else {
+            return at;
+        };
+        add_holder(number, store, more);
+        at += 1;
     }
+    at
 }
 
-/// Each copy of some places has a holder more. It takes a step for each place.
-fn share_places<N: Naming>(places: &[Place<PageNo>], store: &mut PageStore<N>, more: &mut usize)
-    requires held { (n : ℕ) → sum_by (in_place n) places.now ≤ holders_of (page_at store.old n) }
+// Each copy of a map has a holder more. It takes a step for each.
+fn share_map<N: Naming>(map: &Mapping, store: &mut PageStore<N>, more: &mut usize)
+    requires held { (n : ℕ) → in_map n map.now ≤ holders_of (page_at store.old n) }
     requires some { HasHolders store.old }
     requires counted { more.old ≡ more_in store.old.pages }
-    requires few { more.old + count_by has_copy places.now ≤ 2 ^ 32 }
-    ensures sharing { IsSharing (λ n. sum_by (in_place n) places.now) store.old store.new }
+    requires few { more.old + copies_in map.now ≤ 2 ^ 32 }
+    ensures sharing { IsSharing (λ n. in_map n map.now) store.old store.new }
     ensures counted { more.new ≡ more_in store.new.pages }
-    ensures more { more.new ≡ more.old + count_by has_copy places.now }
+    ensures more { more.new ≡ more.old + copies_in map.now }
 {
-    for place in places {
-        share_place(place, store, more);
+    let places = map.places();
+    let start = map.start();
+    let end = map.end();
+    let mut from = start;
+    while let Some(at) = map.lowest_copy(from, end) {
+        let past = share_run(places, (at - start) as usize, store, more);
+        from = start + past as u64;
     }
 }
 
@@ -74,7 +92,7 @@ pub(crate) fn copies_of(maps: &[Mapping]) -> u64
     count
 }
 
-/// Each copy of some maps has a holder more. It takes a step for each map and each place of one that has copies.
+/// Each copy of some maps has a holder more. It takes a step for each map and copy.
 pub(crate) fn share_all<N: Naming>(maps: &[Mapping], store: &mut PageStore<N>, more: &mut usize)
     requires held { (n : ℕ) → sum_by (in_map n) maps.now ≤ holders_of (page_at store.old n) }
     requires some { HasHolders store.old }
@@ -85,7 +103,7 @@ pub(crate) fn share_all<N: Naming>(maps: &[Mapping], store: &mut PageStore<N>, m
     ensures more { more.new ≡ more.old + sum_by copies_in maps.now }
 {
     for map in maps {
-        share_places(map.places(), store, more);
+        share_map(map, store, more);
     }
 }
 

@@ -1,29 +1,34 @@
 //! What files and maps are found by.
-ghost use Rattle.std.specs.Prelude.{◌≡◌, ◌==◌, false, true, IfNone, IfOk, OnErr, OnOk};
+ghost use Rattle.std.specs.Prelude.{◌≡◌, ◌+◌, ◌<◌, ◌≤◌, false, true, IfNone, IsOk, OnErr, OnOk};
 ghost use Rattle.hp_mount_files.specs.Hints.{IsMore, IsMoreBut, has_key, has_name};
-ghost use Rattle.hp_mount_files.specs.Forking.{IsNotedFor};
 ghost use Rattle.hp_mount_files.specs.Leaving.{IsMoreButMap};
 
 use crate::file_tag::FileTag;
 use crate::map_tag::MapTag;
 use indexmap::IndexMap;
 use std::alloc::{AllocError, Global};
+use std::cell::Cell;
 use std::marker::Model;
 
 /// Where each file stood, with its tag, by its name, and each map by its task and number. What is found so is looked at, and
-/// never trusted; but what was never noted, or was forgotten, is not there.
+/// never trusted; but what was never noted, or was forgotten, is not there. Contracts see for how many maps more there is room.
 #[derive(Drop)]
 pub(crate) struct Hints {
     files: IndexMap<Vec<u8>, FileTag>,
-    maps: IndexMap<(u64, u64), MapTag>,
+    maps: IndexMap<(u64, u64), Cell<MapTag>>,
 }
 
 impl Model for Hints {
+    ghost use Rattle.indexmap.specs.IndexMap.{spare};
     ghost use Rattle.hp_mount_files.specs.Hints.{Noted, keys_of, names_of};
 
     ghost Value = { Noted };
 
-    ghost view = { λ h. record { names = names_of h.files.entries; keys = keys_of h.maps.entries } };
+    ghost view = { λ h. record {
+      names = names_of h.files.entries;
+      keys = keys_of h.maps.entries;
+      room = spare h.maps;
+    } };
 }
 
 impl Hints {
@@ -45,14 +50,11 @@ impl Hints {
         }
     }
 
-    /// The tag of the task's map of that number, if it was noted.
-    pub(crate) fn map(&self, task: u64, number: u64) -> Option<MapTag>
+    /// The tag of the task's map of that number, if it was noted. Whoever finds the map elsewhere may set it right.
+    pub(crate) fn map(&self, task: u64, number: u64) -> Option<&Cell<MapTag>>
         ensures { IfNone result (has_key task number self.now ≡ false) }
     {
-        match self.maps.get(&(task, number)) {
-            Some(tag) => Some(*tag),
-            None => None,
-        }
+        self.maps.get(&(task, number))
     }
 
     /// Notes a file's tag. Refused where memory is, and then nothing changes.
@@ -74,13 +76,15 @@ impl Hints {
         let _tag = self.files.swap_remove(name);
     }
 
-    /// Notes a map's tag. Refused where memory is, and then nothing changes.
+    /// Notes a map's tag. Refused where memory is, and then nothing changes but the room; never where there is room.
     pub(crate) fn note_map(&mut self, task: u64, number: u64, tag: MapTag) -> Result<(), AllocError>
         ensures more { IsMore self.old self.new }
-        ensures err { OnErr result (self.new ≡ self.old) }
+        ensures err { OnErr result (self.new ≡ record self.old { room = self.new.room }) }
         ensures noted { OnOk result (has_key task number self.new ≡ true) }
+        ensures succeeds { 0 < self.old.room → IsOk result }
+        ensures room { self.old.room ≤ self.new.room + 1 }
     {
-        let Ok(_) = self.maps.insert((task, number), tag) else {
+        let Ok(_) = self.maps.insert((task, number), Cell::new(tag)) else {
             return Err(AllocError);
         };
         Ok(())
@@ -93,57 +97,12 @@ impl Hints {
         let _tag = self.maps.swap_remove(&(task, number));
     }
 
-    /// A map that was noted has this tag. Takes no memory.
-    pub(crate) fn retag_map(&mut self, task: u64, number: u64, tag: MapTag)
-        ensures { self.new ≡ self.old }
-    {
-        let Some(noted) = self.maps.get_mut(&(task, number)) else {
-            return;
-        };
-        *noted = tag;
-    }
-
-    // Notes a map's tag again, and a parent's as the child's too.
-    fn note_forked(
-        &mut self,
-        parent: u64,
-        child: u64,
-        key: (u64, u64),
-        tag: MapTag,
-    ) -> Result<(), AllocError>
+    /// Makes room for so many maps more. Refused where memory is.
+    pub(crate) fn reserve(&mut self, maps: u64) -> Result<(), AllocError>
         ensures more { IsMore self.old self.new }
-        ensures stays { OnOk result ((key.0 == child) ≡ false → has_key key.0 key.1 self.new ≡ true) }
-        ensures comes { OnOk result ((key.0 == parent) ≡ true → has_key child key.1 self.new ≡ true) }
+        ensures ok { OnOk result (maps ≤ self.new.room) }
     {
-        let (task, number) = key;
-        if task != child {
-            self.note_map(task, number, tag)?;
-        }
-        if task == parent {
-            self.note_map(child, number, tag)?;
-        }
+        self.maps.reserve(maps as usize)?;
         Ok(())
-    }
-
-    /// What is noted of maps when a child has those of its parent, and no other. Takes a step for each map. Refused where
-    /// memory is.
-    pub(crate) fn forked(&self, alloc: Global, parent: u64, child: u64) -> Result<Self, AllocError>
-        ensures { IfOk result (IsNotedFor parent child self.now) }
-    {
-        let mut forked = Hints::new(alloc);
-        for at in 0..self.maps.len() {
-            if let Some((key, tag)) = self.maps.get_index(at) {
-                forked.note_forked(parent, child, *key, *tag)?;
-            }
-        }
-        Ok(forked)
-    }
-
-    /// Takes over what another has noted of maps.
-    pub(crate) fn take_maps(&mut self, other: Hints)
-        ensures { self.new ≡ record self.old { keys = other.keys } }
-    {
-        let Hints { files: _, maps } = other;
-        self.maps = maps;
     }
 }

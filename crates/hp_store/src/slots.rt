@@ -1,5 +1,5 @@
 //! Slots for pages, and the numbers of those that are free.
-ghost use Rattle.std.specs.Prelude.{◌≡◌, ℕ, ◌+◌, ◌-◌, ◌<◌, ◌≤◌, ◌^◌, List, [], ◌∷◌, ◌++◌, length, replicate, slice_index_or, slice_set, None, Some, IsSome, OnOk, OnErr, vec_len, vec_capacity};
+ghost use Rattle.std.specs.Prelude.{◌≡◌, ℕ, ◌+◌, ◌-◌, ◌<◌, ◌≤◌, ◌^◌, ◌==◌, not, false, IsTrue, List, [], ◌∷◌, ◌++◌, length, replicate, slice_index_or, slice_set, None, Some, IsSome, OnOk, OnErr, vec_len, vec_capacity};
 ghost use Rattle.std.specs.Option.{option_map};
 ghost use Rattle.hp_store.specs.Store.{Holding, holders_of, bytes_of, first_held, held_once_more, held_once_less, page_of, written, held_count, at_slot, Lengthens};
 ghost use Rattle.hp_store.specs.Kept.{IsFree};
@@ -114,13 +114,17 @@ impl<N: Naming> Slots<N> {
         }
     }
 
-    pub(crate) fn drop_one(&mut self, at: PageNo)
-        requires { 1 < holders_of (slice_index_or self.old at None) }
-        ensures dropped { self.new ≡ at_slot held_once_less at self.old }
+    /// One holder less where there are several. Says whether there were.
+    pub(crate) fn drop_shared(&mut self, at: PageNo) -> bool
+        requires { IsSome (slice_index_or self.old at None) }
+        ensures several { result ≡ not (holders_of (slice_index_or self.old at None) == 1) }
+        ensures dropped { IsTrue result → self.new ≡ at_slot held_once_less at self.old }
+        ensures same { result ≡ false → self.new ≡ self.old }
         ensures held { held_count self.new ≡ held_count self.old }
     {
-        if let Some(kept) = &mut self.pages[at.number() as usize] {
-            kept.drop_one();
+        match &mut self.pages[at.number() as usize] {
+            Some(kept) => kept.drop_shared(),
+            None => unreachable!(),
         }
     }
 

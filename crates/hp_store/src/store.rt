@@ -1,5 +1,5 @@
 //! The store.
-ghost use Rattle.std.specs.Prelude.{◌≡◌, ℕ, ◌+◌, ◌-◌, ◌<◌, ◌≤◌, ◌^◌, ◌↔◌, [], ◌∷◌, ◌++◌, length, max, None, IsSome, OnOk, OnErr, option_to_list};
+ghost use Rattle.std.specs.Prelude.{◌≡◌, ℕ, ◌+◌, ◌-◌, ◌<◌, ◌≤◌, ◌^◌, ◌↔◌, ◌==◌, [], ◌∷◌, ◌++◌, length, max, None, IsSome, OnOk, OnErr, option_to_list};
 ghost use Rattle.hp_store.specs.Store.{Store, page_at, holders_of, bytes_of, held_count, inserted, shared, dropped, overwritten, Lengthens};
 
 use crate::slots::Slots;
@@ -81,17 +81,18 @@ impl<N: Naming> PageStore<N> {
         self.slots.share(number);
     }
 
-    /// One holder less. The page of the last one goes.
-    pub fn drop_one(&mut self, number: PageNo)
+    /// One holder less. The page of the last one goes. Says whether it went.
+    pub fn drop_one(&mut self, number: PageNo) -> bool
         requires { IsSome (page_at self.old number) }
-        ensures { self.new ≡ dropped number self.old }
+        ensures dropped { self.new ≡ dropped number self.old }
+        ensures went { result ≡ (holders_of (page_at self.old number) == 1) }
     {
-        if self.slots.holders(number) == 1 {
-            let page = self.slots.remove(number);
-            self.going.push_reserved(page);
-        } else {
-            self.slots.drop_one(number);
+        if self.slots.drop_shared(number) {
+            return false;
         }
+        let page = self.slots.remove(number);
+        self.going.push_reserved(page);
+        true
     }
 
     /// How many hold a number: 0 where it is free.

@@ -1,6 +1,6 @@
 -- A task that is in the table once.
-use Rattle.std.proofs.Common.{◌≡◌, ℕ, zero, suc, ◌+◌, ◌<◌, ◌≤◌, ◌==◌, Bool, true, false, not, eqb-true, eq-eqb, Option, None, Some, List, [], ◌∷◌, ◌++◌, length, get_or, cond, arith, refl, ap, sym, subst, ◌∙◌}
-use Rattle.std.specs.List.{count_by, filter, find}
+use Rattle.std.proofs.Common.{◌≡◌, ℕ, zero, suc, ◌+◌, ◌<◌, ◌≤◌, ◌==◌, Bool, true, false, not, eqb-true, eq-eqb, None, Some, List, [], ◌∷◌, length, get_or, cond, arith, refl, ap, sym, subst, ◌∙◌}
+use Rattle.std.specs.List.{count_by, find}
 use Rattle.std.specs.Option.{option_map}
 use Rattle.std.proofs.lemmas.Bool.{false_from_ne_true}
 use Rattle.std.proofs.lemmas.List.Sums.{sum_by-append}

@@ -18,12 +18,17 @@ impl<N: Naming> Service for System<N> {
 
     ghost is_ready = { IsReady };
 
-    fn call(&mut self, step: &Step) -> Reply {
+    fn call(&mut self, step: &Step<'_>) -> Reply {
         self.apply(step)
     }
 
-    fn answer<'a>(&mut self, step: &Step, room: &'a mut [u8]) -> Result<Told<'a>, Refusal> {
-        self.do_step(step, room)
+    fn answer<'a>(
+        &mut self,
+        step: &Step<'_>,
+        room: &'a mut [u8],
+        reply: &mut Result<Told<'a>, Refusal>,
+    ) {
+        self.do_step(step, room, reply);
     }
 
     fn load<'a>(

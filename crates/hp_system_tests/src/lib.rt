@@ -6,4 +6,6 @@ mod mount;
 #[cfg(test)]
 mod noting;
 #[cfg(test)]
+mod same;
+#[cfg(test)]
 mod system;

@@ -3,6 +3,7 @@ ghost use Rattle.std.specs.Prelude.{◌≡◌};
 ghost use Rattle.hp_mount_door.specs.Door.{IsReady};
 ghost use Rattle.hp_pool.specs.Ledgers.{AreLedgers};
 
+use crate::same::same;
 use hp_model::answer::{Answer, Reply};
 use hp_model::naming::Naming;
 use hp_model::refusal::Refusal;
@@ -203,41 +204,41 @@ fn each_call<N: Naming, R: Abort>(rt: &R, pool: &mut Pool<N>, mount: &mut Mount<
     requires bytes { N.page_bytes ≡ 1024 }
     ensures { IsReady pool.new }
 {
-    assert_eq!(rt; create(mount, b"a"), Ok(()));
-    assert_eq!(rt; create(mount, b"a"), Err(Refusal::FileExists));
+    same!(rt; create(mount, b"a"), Ok(()));
+    same!(rt; create(mount, b"a"), Err(Refusal::FileExists));
     assert!(rt; !has_maps(mount, 7));
-    assert_eq!(rt;
+    same!(rt;
         map(pool, mount, b"b", &range(0, 1)),
         Err(Refusal::NoSuchFile)
     );
-    assert_eq!(rt; map(pool, mount, b"a", &range(0, 2)), Ok(1));
-    assert_eq!(rt; map(pool, mount, b"a", &range(1, 1)), Ok(2));
-    assert_eq!(rt;
+    same!(rt; map(pool, mount, b"a", &range(0, 2)), Ok(1));
+    same!(rt; map(pool, mount, b"a", &range(1, 1)), Ok(2));
+    same!(rt;
         map(pool, mount, b"a", &range(2, 2)),
         Err(Refusal::MountFull)
     );
     assert!(rt; has_maps(mount, 7));
-    assert_eq!(rt; used(mount), usage(2, 1));
-    assert_eq!(rt; loads(pool, mount, &access(1, 1), 2, b"\0\0"), Ok(true));
-    assert_eq!(rt; store(pool, mount, &access(1, 1), b"xy"), Ok(()));
-    assert_eq!(rt; loads(pool, mount, &access(2, 1), 2, b"xy"), Ok(true));
-    assert_eq!(rt;
+    same!(rt; used(mount), usage(2, 1));
+    same!(rt; loads(pool, mount, &access(1, 1), 2, b"\0\0"), Ok(true));
+    same!(rt; store(pool, mount, &access(1, 1), b"xy"), Ok(()));
+    same!(rt; loads(pool, mount, &access(2, 1), 2, b"xy"), Ok(true));
+    same!(rt;
         loads(pool, mount, &access(2, 0), 2, b"xy"),
         Err(Refusal::OutOfRange)
     );
-    assert_eq!(rt;
+    same!(rt;
         loads(pool, mount, &access(2, 1), 3, b"xy"),
         Err(Refusal::CrossesPage)
     );
-    assert_eq!(rt; fault(pool, mount, &access(1, 0), Intent::Write), Ok(()));
-    assert_eq!(rt;
+    same!(rt; fault(pool, mount, &access(1, 0), Intent::Write), Ok(()));
+    same!(rt;
         fault(pool, mount, &access(3, 0), Intent::Read),
         Err(Refusal::NoSuchMap)
     );
-    assert_eq!(rt; used(mount), usage(2, 1));
-    assert_eq!(rt; map(pool, mount, b"a", &unreserved(2, 2)), Ok(3));
-    assert_eq!(rt; used(mount), usage(2, 1));
-    assert_eq!(rt;
+    same!(rt; used(mount), usage(2, 1));
+    same!(rt; map(pool, mount, b"a", &unreserved(2, 2)), Ok(3));
+    same!(rt; used(mount), usage(2, 1));
+    same!(rt;
         stat(mount),
         Ok(Answer::Stat {
             len: 4,
@@ -246,9 +247,9 @@ fn each_call<N: Naming, R: Abort>(rt: &R, pool: &mut Pool<N>, mount: &mut Mount<
             maps: 3
         })
     );
-    assert_eq!(rt; reads(mount, 1, b"xy"), Ok(true));
-    assert_eq!(rt; reads(mount, 3, b"\0\0"), Ok(true));
-    assert_eq!(rt; unlisted(mount), None);
+    same!(rt; reads(mount, 1, b"xy"), Ok(true));
+    same!(rt; reads(mount, 3, b"\0\0"), Ok(true));
+    same!(rt; unlisted(mount), None);
 }
 
 // A private map asks for its whole range, whatever its file has. A file without name is one of the files.
@@ -257,15 +258,15 @@ fn private_maps<N: Naming, R: Abort>(rt: &R, pool: &mut Pool<N>, mount: &mut Mou
     requires bytes { N.page_bytes ≡ 1024 }
     ensures { IsReady pool.new }
 {
-    assert_eq!(rt; create(mount, b"a"), Ok(()));
-    assert_eq!(rt; map(pool, mount, b"a", &range(1, 1)), Ok(1));
-    assert_eq!(rt;
+    same!(rt; create(mount, b"a"), Ok(()));
+    same!(rt; map(pool, mount, b"a", &range(1, 1)), Ok(1));
+    same!(rt;
         map(pool, mount, b"a", &private(0, 3)),
         Err(Refusal::MountFull)
     );
-    assert_eq!(rt; map(pool, mount, b"a", &private(1, 2)), Ok(2));
-    assert_eq!(rt; used(mount), usage(3, 1));
-    assert_eq!(rt;
+    same!(rt; map(pool, mount, b"a", &private(1, 2)), Ok(2));
+    same!(rt; used(mount), usage(3, 1));
+    same!(rt;
         stat(mount),
         Ok(Answer::Stat {
             len: 3,
@@ -274,12 +275,12 @@ fn private_maps<N: Naming, R: Abort>(rt: &R, pool: &mut Pool<N>, mount: &mut Mou
             maps: 2
         })
     );
-    assert_eq!(rt; map(pool, mount, b"a", &range(1, 1)), Ok(3));
-    assert_eq!(rt;
+    same!(rt; map(pool, mount, b"a", &range(1, 1)), Ok(3));
+    same!(rt;
         anon(pool, mount, 7, 65_536, Sharing::Private, Reserving::Reserve),
         Err(Refusal::MountFull)
     );
-    assert_eq!(rt;
+    same!(rt;
         anon(
             pool,
             mount,
@@ -290,16 +291,16 @@ fn private_maps<N: Naming, R: Abort>(rt: &R, pool: &mut Pool<N>, mount: &mut Mou
         ),
         Err(Refusal::TooMany)
     );
-    assert_eq!(rt;
+    same!(rt;
         anon(pool, mount, 7, 0, Sharing::Shared, Reserving::Reserve),
         Err(Refusal::OutOfRange)
     );
-    assert_eq!(rt;
+    same!(rt;
         anon(pool, mount, 8, 5, Sharing::Private, Reserving::NoReserve),
         Ok(1)
     );
-    assert_eq!(rt; used(mount), usage(3, 2));
-    assert_eq!(rt;
+    same!(rt; used(mount), usage(3, 2));
+    same!(rt;
         anon(pool, mount, 8, 1, Sharing::Shared, Reserving::NoReserve),
         Err(Refusal::NoInodes)
     );
@@ -310,20 +311,20 @@ fn unmaps<N: Naming, R: Abort>(rt: &R, pool: &mut Pool<N>, mount: &mut Mount<N>)
     requires { IsReady pool.old }
     ensures { IsReady pool.new }
 {
-    assert_eq!(rt; unmap(pool, mount, 4, 0, 1), Err(Refusal::NoSuchMap));
-    assert_eq!(rt; unmap(pool, mount, 1, 1, 1), Err(Refusal::OutOfRange));
-    assert_eq!(rt; unmap(pool, mount, 1, 0, 1), Ok(()));
-    assert_eq!(rt;
+    same!(rt; unmap(pool, mount, 4, 0, 1), Err(Refusal::NoSuchMap));
+    same!(rt; unmap(pool, mount, 1, 1, 1), Err(Refusal::OutOfRange));
+    same!(rt; unmap(pool, mount, 1, 0, 1), Ok(()));
+    same!(rt;
         fault(pool, mount, &access(1, 0), Intent::Read),
         Err(Refusal::OutOfRange)
     );
-    assert_eq!(rt; fault(pool, mount, &access(1, 1), Intent::Read), Ok(()));
-    assert_eq!(rt; unmap(pool, mount, 1, 0, 4), Ok(()));
-    assert_eq!(rt;
+    same!(rt; fault(pool, mount, &access(1, 1), Intent::Read), Ok(()));
+    same!(rt; unmap(pool, mount, 1, 0, 4), Ok(()));
+    same!(rt;
         fault(pool, mount, &access(1, 1), Intent::Read),
         Err(Refusal::NoSuchMap)
     );
-    assert_eq!(rt;
+    same!(rt;
         stat(mount),
         Ok(Answer::Stat {
             len: 4,
@@ -332,8 +333,8 @@ fn unmaps<N: Naming, R: Abort>(rt: &R, pool: &mut Pool<N>, mount: &mut Mount<N>)
             maps: 2
         })
     );
-    assert_eq!(rt; used(mount), usage(2, 1));
-    assert_eq!(rt; first_task(mount), Some(7));
+    same!(rt; used(mount), usage(2, 1));
+    same!(rt; first_task(mount), Some(7));
 }
 
 fn run<N: Naming, R: Abort>(rt: &R, alloc: Global, blanks: Blanks)
@@ -351,7 +352,7 @@ fn run<N: Naming, R: Abort>(rt: &R, alloc: Global, blanks: Blanks)
     };
     exit(&mut pool, &mut mount, 7);
     assert!(rt; !has_maps(&mount, 7));
-    assert_eq!(rt; first_task(&mount), None);
+    same!(rt; first_task(&mount), None);
     match close(&mut pool, mount) {
         Ok(()) => {}
         Err(_mount) => panic!(rt; "no task has maps"),
@@ -361,13 +362,13 @@ fn run<N: Naming, R: Abort>(rt: &R, alloc: Global, blanks: Blanks)
     private_maps(rt, &mut pool, &mut mount);
     exit(&mut pool, &mut mount, 8);
     exit(&mut pool, &mut mount, 7);
-    assert_eq!(rt; used(&mount), usage(1, 1));
+    same!(rt; used(&mount), usage(1, 1));
     match close(&mut pool, mount) {
         Ok(()) => {}
         Err(_mount) => panic!(rt; "no task has maps"),
     }
     let counts = pool.close();
-    assert_eq!(rt;
+    same!(rt;
         [counts.total, counts.free, counts.rsvd, counts.surp],
         [0, 0, 0, 0]
     );

@@ -3,6 +3,7 @@ ghost use Rattle.std.specs.Prelude.{◌≡◌, ◌≤◌, length};
 ghost use Rattle.hp_mount_door.specs.Door.{IsReady};
 ghost use Rattle.hp_pool.specs.Ledgers.{AreLedgers};
 
+use crate::same::same;
 use hp_model::answer::Answer;
 use hp_model::naming::Naming;
 use hp_model::refusal::Refusal;
@@ -171,25 +172,25 @@ fn in_turn<N: Naming, R: Abort>(rt: &R, door: &mut Noting<N>, mount: &mut Mount<
     ensures { IsReady door.new.pool }
 {
     let mut room = [0u8; 256];
-    assert_eq!(rt; mount.create(b"a"), Ok(()));
-    assert_eq!(rt; map_pages(door, mount), Err(Refusal::TraceFull));
+    same!(rt; mount.create(b"a"), Ok(()));
+    same!(rt; map_pages(door, mount), Err(Refusal::TraceFull));
     assert!(rt; !mount.has_maps(7));
-    assert_eq!(rt; mount.usage().into_answer(), usage(0, 1));
+    same!(rt; mount.usage().into_answer(), usage(0, 1));
     door.places = 1;
-    assert_eq!(rt; map_pages(door, mount), Ok(1));
-    assert_eq!(rt; mount.usage().into_answer(), usage(2, 1));
-    assert_eq!(rt; load_byte(door, mount, &mut room), Err(Refusal::TraceFull));
-    assert_eq!(rt; store_byte(door, mount), Err(Refusal::TraceFull));
+    same!(rt; map_pages(door, mount), Ok(1));
+    same!(rt; mount.usage().into_answer(), usage(2, 1));
+    same!(rt; load_byte(door, mount, &mut room), Err(Refusal::TraceFull));
+    same!(rt; store_byte(door, mount), Err(Refusal::TraceFull));
     door.places = 1;
-    assert_eq!(rt; store_byte(door, mount), Ok(()));
-    assert_eq!(rt; load_byte(door, mount, &mut room), Ok(b"x".as_slice()));
-    assert_eq!(rt; mount.usage().into_answer(), usage(2, 1));
-    assert_eq!(rt; map_anon(door, mount), Err(Refusal::TraceFull));
-    assert_eq!(rt; mount.usage().into_answer(), usage(2, 1));
+    same!(rt; store_byte(door, mount), Ok(()));
+    same!(rt; load_byte(door, mount, &mut room), Ok(b"x".as_slice()));
+    same!(rt; mount.usage().into_answer(), usage(2, 1));
+    same!(rt; map_anon(door, mount), Err(Refusal::TraceFull));
+    same!(rt; mount.usage().into_answer(), usage(2, 1));
     door.places = 1;
-    assert_eq!(rt; map_anon(door, mount), Ok(2));
-    assert_eq!(rt; map_anon(door, mount), Err(Refusal::MountFull));
-    assert_eq!(rt; mount.usage().into_answer(), usage(3, 2));
+    same!(rt; map_anon(door, mount), Ok(2));
+    same!(rt; map_anon(door, mount), Err(Refusal::MountFull));
+    same!(rt; mount.usage().into_answer(), usage(3, 2));
 }
 
 // A page by a grant, which no map of today asks for, is refused without a place.
@@ -204,7 +205,7 @@ fn a_page_by_a_grant<N: Naming, R: Abort>(rt: &R, door: &mut Noting<N>)
             share.put_page(&mut door.pool, page);
             assert!(rt; false);
         }
-        Err(refusal) => assert_eq!(rt; refusal, Refusal::TraceFull),
+        Err(refusal) => same!(rt; refusal, Refusal::TraceFull),
     }
     share.close(&mut door.pool);
     door.pool.settle();
@@ -239,7 +240,7 @@ fn run<N: Naming, R: Abort>(rt: &R, alloc: Global, blanks: Blanks)
         places: _,
         taken,
     } = door;
-    assert_eq!(rt;
+    same!(rt;
         taken,
         Taken {
             reserves: 3,
@@ -248,7 +249,7 @@ fn run<N: Naming, R: Abort>(rt: &R, alloc: Global, blanks: Blanks)
         }
     );
     let counts = pool.close();
-    assert_eq!(rt;
+    same!(rt;
         [counts.total, counts.free, counts.rsvd, counts.surp],
         [0, 0, 0, 0]
     );

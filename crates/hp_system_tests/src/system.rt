@@ -3,8 +3,9 @@ ghost use Rattle.std.specs.Prelude.{◌≡◌};
 ghost use Rattle.hp_pool.specs.Ledgers.{AreLedgers};
 ghost use Rattle.hp_system.specs.Kept.{IsReady};
 
+use crate::same::same;
 use hp_model::answer::{Answer, Counts, Reply};
-use hp_model::bytes::Bytes;
+use hp_model::lent::Lent;
 use hp_model::naming::Naming;
 use hp_model::refusal::Refusal;
 use hp_model::service::Service;
@@ -15,10 +16,6 @@ use hp_system::System;
 use std::alloc::Global;
 use std::marker::Brand;
 use std::process::Abort;
-
-fn bytes<R: Abort>(rt: &R, alloc: Global, text: &[u8]) -> Bytes {
-    Bytes::new(Vec::from_slice(alloc, text).expect(rt, "memory"))
-}
 
 // A pool with all its pages free.
 fn all_free(pages: u64) -> Counts {
@@ -59,7 +56,7 @@ fn run<N: Naming, R: Abort>(rt: &R, alloc: Global, blanks: Blanks)
 {
     let mut system = System::<N>::new(alloc, &[4, 4], 1024, 2, blanks).expect(rt, "memory");
     runs(rt, alloc, &mut system);
-    assert_eq!(rt; system.close(), all_free(2));
+    same!(rt; system.close(), all_free(2));
 }
 
 #[test]
@@ -69,14 +66,14 @@ fn steps(rt: HostRuntime) {
 
 // The machine's calls, of which each is asked for one thing: what they promise is not carried through a whole test.
 
-fn apply<N: Naming>(system: &mut System<N>, step: &Step) -> Reply
+fn apply<N: Naming>(system: &mut System<N>, step: &Step<'_>) -> Reply
     requires { IsReady system.old }
     ensures { IsReady system.new }
 {
     system.apply(step)
 }
 
-fn call<N: Naming>(system: &mut System<N>, step: &Step) -> Reply
+fn call<N: Naming>(system: &mut System<N>, step: &Step<'_>) -> Reply
     requires { IsReady system.old }
     ensures { IsReady system.new }
 {
@@ -84,12 +81,14 @@ fn call<N: Naming>(system: &mut System<N>, step: &Step) -> Reply
 }
 
 // Whether the step is answered with these bytes, in the caller's room.
-fn shows<N: Naming>(system: &mut System<N>, step: &Step, wanted: &[u8]) -> bool
+fn shows<N: Naming>(system: &mut System<N>, step: &Step<'_>, wanted: &[u8]) -> bool
     requires { IsReady system.old }
     ensures { IsReady system.new }
 {
     let mut room = [255u8; 256];
-    match system.answer(step, &mut room) {
+    let mut reply = Ok(Told::Done);
+    system.answer(step, &mut room, &mut reply);
+    match reply {
         Ok(Told::Bytes(shown)) => shown == wanted,
         _ => false,
     }
@@ -101,7 +100,9 @@ fn names<N: Naming>(system: &mut System<N>) -> Result<usize, Refusal>
     ensures { IsReady system.new }
 {
     let mut room = [255u8; 256];
-    match system.answer(&Step::Ls { slot: 0 }, &mut room) {
+    let mut reply = Ok(Told::Done);
+    system.answer(&Step::Ls { slot: 0 }, &mut room, &mut reply);
+    match reply {
         Ok(Told::Names(names)) => Ok(names.as_slice().len()),
         Ok(_other) => Ok(0),
         Err(refusal) => Err(refusal),
@@ -109,19 +110,19 @@ fn names<N: Naming>(system: &mut System<N>) -> Result<usize, Refusal>
 }
 
 // Bytes of a file are answered in the caller's room, and in the answer itself.
-fn shows_zeros<N: Naming, R: Abort>(rt: &R, alloc: Global, system: &mut System<N>)
+fn shows_zeros<N: Naming, R: Abort>(rt: &R, system: &mut System<N>)
     requires { IsReady system.old }
     ensures { IsReady system.new }
 {
     let truncate = Step::Truncate {
         slot: 0,
-        name: bytes(rt, alloc, b"Data_0.a-z"),
+        name: Lent::new(b"Data_0.a-z"),
         pages: 1,
     };
-    assert_eq!(rt; call(system, &truncate), Ok(Answer::Done));
+    same!(rt; call(system, &truncate), Ok(Answer::Done));
     let read = Step::Read {
         slot: 0,
-        name: bytes(rt, alloc, b"Data_0.a-z"),
+        name: Lent::new(b"Data_0.a-z"),
         index: 0,
         offset: 0,
         count: 2,
@@ -131,7 +132,7 @@ fn shows_zeros<N: Naming, R: Abort>(rt: &R, alloc: Global, system: &mut System<N
         count: 2,
         bytes: [0u8; 256],
     };
-    assert_eq!(rt; call(system, &read), Ok(zeros));
+    same!(rt; call(system, &read), Ok(zeros));
 }
 
 // Machines that are made, used and closed give back all that they held.
@@ -140,11 +141,11 @@ fn come_and_go<N: Naming, R: Abort>(rt: &R, alloc: Global, blanks: Blanks)
     requires bytes { N.page_bytes ≡ 1024 }
 {
     let mut system = System::<N>::new(alloc, &[4, 4], 1024, 2, blanks).expect(rt, "memory");
-    let name = bytes(rt, alloc, b"Data_0.a-z");
+    let name = Lent::new(b"Data_0.a-z");
     let create = Step::Create { slot: 0, name };
-    assert_eq!(rt; apply(&mut system, &create), Ok(Answer::Done));
-    assert_eq!(rt; names(&mut system), Ok(1));
-    shows_zeros(rt, alloc, &mut system);
+    same!(rt; apply(&mut system, &create), Ok(Answer::Done));
+    same!(rt; names(&mut system), Ok(1));
+    shows_zeros(rt, &mut system);
     system.close();
 }
 

@@ -1,6 +1,7 @@
 //! The indices of a file.
 ghost use Rattle.std.specs.Prelude.{◌<◌, ◌^◌};
 
+use crate::same::same;
 use hp_inode::Inode;
 use hp_model::page_no::PageNo;
 use std::alloc::{AllocError, Global};
@@ -13,19 +14,19 @@ fn sized<R: Abort>(rt: &R, alloc: Global, len: u64) -> Inode
 {
     let mut inode = Inode::new(alloc);
     inode.set_len(len);
-    assert_eq!(rt; inode.len(), len);
+    same!(rt; inode.len(), len);
     inode
 }
 
 // So many indices of a range have no entry.
 fn lacks<R: Abort>(rt: &R, inode: &Inode, a: u64, b: u64, count: u64) {
     assert!(rt; b <= inode.len());
-    assert_eq!(rt; inode.missing(a, b), count);
+    same!(rt; inode.missing(a, b), count);
 }
 
 // Whether an index is entered, and its page.
 fn shows<R: Abort>(rt: &R, inode: &Inode, i: u64, cell: (bool, Option<PageNo>)) {
-    assert_eq!(rt; (inode.entered(i), inode.page_at(i)), cell);
+    same!(rt; (inode.entered(i), inode.page_at(i)), cell);
 }
 
 fn reserve<R: Abort>(rt: &R, inode: &mut Inode, a: u64, b: u64) -> Result<(), AllocError> {
@@ -53,12 +54,12 @@ fn reserve_at_last<R: Abort>(
 }
 
 fn has_len<R: Abort>(rt: &R, inode: &Inode, len: u64) {
-    assert_eq!(rt; inode.len(), len);
+    same!(rt; inode.len(), len);
 }
 
 // So many indices are entered, and so many have a page.
 fn counts<R: Abort>(rt: &R, inode: &Inode, entries: u64, pages: u64) {
-    assert_eq!(rt; (inode.entry_count(), inode.page_count()), (entries, pages));
+    same!(rt; (inode.entry_count(), inode.page_count()), (entries, pages));
 }
 
 fn page(number: u32) -> Option<PageNo> {
@@ -74,14 +75,14 @@ fn fill<R: Abort>(rt: &R, inode: &mut Inode, i: u64, page: u32) {
 
 // The lowest page of a range goes.
 fn takes<R: Abort>(rt: &R, inode: &mut Inode, a: u64, b: u64, page: Option<PageNo>) {
-    assert_eq!(rt; inode.take_page(a, b), page);
+    same!(rt; inode.take_page(a, b), page);
 }
 
 // The entries of a range that has no page go.
 fn drops<R: Abort>(rt: &R, inode: &mut Inode, a: u64, b: u64, count: u64) {
     assert!(rt; b <= inode.len());
     assert!(rt; inode.take_page(a, b).is_none());
-    assert_eq!(rt; inode.drop_entries(a, b), count);
+    same!(rt; inode.drop_entries(a, b), count);
 }
 
 #[test]

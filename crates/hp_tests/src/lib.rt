@@ -16,6 +16,8 @@ mod pool;
 #[cfg(test)]
 mod region;
 #[cfg(test)]
+mod same;
+#[cfg(test)]
 mod store;
 #[cfg(test)]
 mod subpool;

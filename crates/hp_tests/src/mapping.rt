@@ -1,6 +1,7 @@
 //! The map of a task. With each allocation refused in turn `a_second_try_after_refused_memory` passes.
 ghost use Rattle.std.specs.Prelude.{◌≤◌};
 
+use crate::same::same;
 use hp_mapping::{MapFlags, Mapping};
 use hp_model::page_no::PageNo;
 use std::alloc::{AllocError, Global};
@@ -46,12 +47,12 @@ fn page(number: u32) -> Option<PageNo> {
 
 // The map's task, number, start and end.
 fn is_named<R: Abort>(rt: &R, map: &Mapping, named: [u64; 4]) {
-    assert_eq!(rt; [map.task(), map.number(), map.start(), map.end()], named);
+    same!(rt; [map.task(), map.number(), map.start(), map.end()], named);
 }
 
 // Whether the map is its owner's, shared, marked, and mapped at all.
 fn is_flagged<R: Abort>(rt: &R, map: &Mapping, flags: [bool; 4]) {
-    assert_eq!(rt;
+    same!(rt;
         [
             map.is_owner(),
             map.is_shared(),
@@ -64,7 +65,7 @@ fn is_flagged<R: Abort>(rt: &R, map: &Mapping, flags: [bool; 4]) {
 
 // Whether an index is in the map and has its reservation, and its copy.
 fn shows<R: Abort>(rt: &R, map: &Mapping, i: u64, place: (bool, bool, Option<PageNo>)) {
-    assert_eq!(rt; (map.is_live(i), map.has_reserve(i), map.copy_at(i)), place);
+    same!(rt; (map.is_live(i), map.has_reserve(i), map.copy_at(i)), place);
 }
 
 // The reservation of an index in the map is used up.
@@ -81,7 +82,7 @@ fn set_copy<R: Abort>(rt: &R, map: &mut Mapping, i: u64, page: u32) {
 
 // The lowest copy of a range goes.
 fn takes<R: Abort>(rt: &R, map: &mut Mapping, a: u64, b: u64, page: Option<PageNo>) {
-    assert_eq!(rt; map.take_copy(a, b), page);
+    same!(rt; map.take_copy(a, b), page);
 }
 
 // The copy of an index is taken away.
@@ -95,7 +96,7 @@ fn frees<R: Abort>(rt: &R, map: &mut Mapping, a: u64, b: u64, freed: u64)
     requires { a ≤ b }
 {
     assert!(rt; map.lowest_copy(a, b).is_none());
-    assert_eq!(rt; map.unmap(a, b), freed);
+    same!(rt; map.unmap(a, b), freed);
 }
 
 #[test]
@@ -110,7 +111,7 @@ fn a_map_of_four_pages(rt: HostRuntime) -> Result<(), Fail> {
     shows(&rt, &map, 12, (true, true, page(5)));
     shows(&rt, &map, 13, (true, true, None));
     shows(&rt, &map, 14, (false, false, None));
-    assert_eq!(rt; map.lowest_copy(0, u64::MAX), Some(12));
+    same!(rt; map.lowest_copy(0, u64::MAX), Some(12));
     takes(&rt, &mut map, 0, 12, None);
     takes(&rt, &mut map, 0, 13, page(5));
     shows(&rt, &map, 12, (true, true, None));

@@ -2,6 +2,7 @@
 ghost use Rattle.std.specs.Prelude.{◌≡◌};
 ghost use Rattle.hp_nodes.specs.Ledgers.{AreLedgers};
 
+use crate::same::same;
 use hp_model::answer::NodeCount;
 use hp_model::naming::Naming;
 use hp_nodes::{Blanks, NodeLists, Page};
@@ -16,9 +17,9 @@ fn writes<N: Naming, R: Abort>(rt: &R, page: &mut Page<N>)
     page.zero();
     page.write(2, &[5, 6]);
     page.bytes_mut()[7] = 9;
-    assert_eq!(rt; page.bytes(), [0, 0, 5, 6, 0, 0, 0, 9].as_slice());
+    same!(rt; page.bytes(), [0, 0, 5, 6, 0, 0, 0, 9].as_slice());
     page.zero();
-    assert_eq!(rt; page.bytes(), [0; 8].as_slice());
+    same!(rt; page.bytes(), [0; 8].as_slice());
     page.write(0, &[1]);
 }
 
@@ -29,13 +30,13 @@ fn goes_home<N: Naming, R: Abort>(rt: &R, lists: &mut NodeLists<N>)
     let sums = lists.sums();
     assert!(rt; sums.free > 0);
     let mut page = lists.take(1);
-    assert_eq!(rt; page.node(), 1);
+    same!(rt; page.node(), 1);
     writes(rt, &mut page);
     lists.put(page);
     let sums = lists.sums();
     assert!(rt; sums.free > 0);
     let page = lists.take(1);
-    assert_eq!(rt; page.bytes(), [1, 0, 0, 0, 0, 0, 0, 0].as_slice());
+    same!(rt; page.bytes(), [1, 0, 0, 0, 0, 0, 0, 0].as_slice());
     lists.put(page);
 }
 
@@ -45,7 +46,7 @@ fn grows<N: Naming, R: Abort>(rt: &R, lists: &mut NodeLists<N>) {
     lists.grow(3);
     assert_eq!(rt; lists.len(), 2);
     let counts = [lists.count(0), lists.count(1)];
-    assert_eq!(rt;
+    same!(rt;
         counts[0],
         NodeCount {
             total: 2,
@@ -53,7 +54,7 @@ fn grows<N: Naming, R: Abort>(rt: &R, lists: &mut NodeLists<N>) {
             surp: 0
         }
     );
-    assert_eq!(rt;
+    same!(rt;
         counts[1],
         NodeCount {
             total: 1,

@@ -1,6 +1,7 @@
 //! A book, and permits that are split, joined and handed on.
 ghost use Rattle.std.specs.Prelude.{◌≡◌};
 
+use crate::same::same;
 use hp_model::naming::Naming;
 use hp_permit::{Book, Permit};
 use std::marker::Brand;
@@ -69,7 +70,7 @@ fn share_out<N: Naming + Send + Sync, R: Threads + Wait + Sync>(rt: &R, blank: B
 
 #[test]
 fn crosses_threads(rt: HostRuntime) {
-    assert_eq!(rt;
+    same!(rt;
         share_out::<Brand, HostRuntime>(&rt, Blank::new(u64::MAX)),
         0
     );
@@ -77,5 +78,5 @@ fn crosses_threads(rt: HostRuntime) {
 
 #[test]
 fn splits(rt: HostRuntime) {
-    assert_eq!(rt; halves::<Brand>(Blank::new(u64::MAX)), 7);
+    same!(rt; halves::<Brand>(Blank::new(u64::MAX)), 7);
 }

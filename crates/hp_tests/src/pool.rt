@@ -2,6 +2,7 @@
 ghost use Rattle.std.specs.Prelude.{◌≡◌};
 ghost use Rattle.hp_model.specs.pool.PoolCounts.{IsSettled};
 
+use crate::same::same;
 use hp_model::naming::Naming;
 use hp_model::refusal::Refusal;
 use hp_pool::Pool;
@@ -15,12 +16,12 @@ fn shows<N: Naming, R: Abort>(rt: &R, pool: &Pool<N>, counts: [u64; 4], nodes: [
     requires { IsSettled pool.now }
 {
     let now = pool.counts();
-    assert_eq!(rt; [now.total, now.free, now.rsvd, now.surp], counts);
+    same!(rt; [now.total, now.free, now.rsvd, now.surp], counts);
     assert_eq!(rt; pool.len(), 2);
     let zero = pool.node(0);
-    assert_eq!(rt; [zero.total, zero.free, zero.surp], nodes[0]);
+    same!(rt; [zero.total, zero.free, zero.surp], nodes[0]);
     let one = pool.node(1);
-    assert_eq!(rt; [one.total, one.free, one.surp], nodes[1]);
+    same!(rt; [one.total, one.free, one.surp], nodes[1]);
 }
 
 fn is_refused<N: Naming>(pool: &mut Pool<N>, home: usize, k: u64) -> bool

@@ -1,6 +1,7 @@
 //! A set of indices.
 ghost use Rattle.std.specs.Prelude.{◌<◌};
 
+use crate::same::same;
 use hp_region::RegionList;
 use std::alloc::AllocError;
 use std::process::Abort;
@@ -8,11 +9,11 @@ use std::test::Fail;
 
 // So many indices of a range are in the set.
 fn has<R: Abort>(rt: &R, list: &RegionList, a: u64, b: u64, count: u64) {
-    assert_eq!(rt; list.count(a, b), count);
+    same!(rt; list.count(a, b), count);
 }
 
 fn shows<R: Abort>(rt: &R, list: &RegionList, i: u64, is_in: bool) {
-    assert_eq!(rt; list.contains(i), is_in);
+    same!(rt; list.contains(i), is_in);
 }
 
 // So many indices go.
@@ -23,7 +24,7 @@ fn removes<R: Abort>(
     b: u64,
     count: u64,
 ) -> Result<(), AllocError> {
-    assert_eq!(rt; list.remove(a, b)?, count);
+    same!(rt; list.remove(a, b)?, count);
     Ok(())
 }
 
@@ -36,7 +37,7 @@ fn each_call_once(rt: HostRuntime) -> Result<(), Fail> {
         removes(&rt, &mut list, 2 * i, 2 * i + 1, if i == 1 { 0 } else { 1 })?;
     }
     has(&rt, &list, 0, 20, 5);
-    assert_eq!(rt; list.missing(0, 11), 6);
+    same!(rt; list.missing(0, 11), 6);
     shows(&rt, &list, 9, true);
     shows(&rt, &list, 8, false);
     list.add(4, 9)?;

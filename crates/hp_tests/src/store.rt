@@ -3,6 +3,7 @@ ghost use Rattle.std.specs.Prelude.{◌≡◌, ◌≢◌, ℕ, [], None};
 ghost use Rattle.hp_nodes.specs.Ledgers.{AreLedgers};
 ghost use Rattle.hp_store.specs.Store.{page_at, holders_of};
 
+use crate::same::same;
 use hp_model::naming::Naming;
 use hp_model::page_no::PageNo;
 use hp_nodes::{Blanks, NodeLists};
@@ -72,7 +73,7 @@ fn worked<N: Naming>(alloc: Global, blanks: Blanks) -> Result<([u64; 4], u64), A
 #[test]
 fn a_page_is_shared_and_dropped(rt: HostRuntime) -> Result<(), Fail> {
     let (seen, went) = worked::<Brand>(rt.alloc(), Blanks::new())?;
-    assert_eq!(rt; seen.as_slice(), [1, 9, 2, 1].as_slice());
-    assert_eq!(rt; went, 1);
+    same!(rt; seen.as_slice(), [1, 9, 2, 1].as_slice());
+    same!(rt; went, 1);
     Ok(())
 }

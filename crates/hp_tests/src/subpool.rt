@@ -3,6 +3,7 @@ ghost use Rattle.std.specs.Prelude.{◌≡◌};
 ghost use Rattle.hp_model.specs.pool.PoolCounts.{IsSettled};
 ghost use Rattle.hp_pool.specs.Ledgers.{AreLedgers};
 
+use crate::same::same;
 use hp_model::naming::Naming;
 use hp_model::refusal::Refusal;
 use hp_nodes::Page;
@@ -17,7 +18,7 @@ fn shows<N: Naming, R: Abort>(rt: &R, pool: &Pool<N>, counts: [u64; 4])
     requires { IsSettled pool.now }
 {
     let now = pool.counts();
-    assert_eq!(rt; [now.total, now.free, now.rsvd, now.surp], counts);
+    same!(rt; [now.total, now.free, now.rsvd, now.surp], counts);
 }
 
 // A mount's subpool whose minimum the pool can commit.
@@ -35,7 +36,7 @@ fn is_refused<N: Naming, R: Abort>(rt: &R, pool: &mut Pool<N>, min: u64)
 {
     match Subpool::open(pool, None, min) {
         Ok(sub) => sub.close(pool),
-        Err(refusal) => assert_eq!(rt; refusal, Refusal::NoPages),
+        Err(refusal) => same!(rt; refusal, Refusal::NoPages),
     }
     pool.settle();
 }
@@ -53,11 +54,11 @@ fn gets<N: Naming, R: Abort>(
 {
     assert!(rt; sub.used() < 8);
     assert!(rt; k < 8);
-    assert_eq!(rt; sub.get(pool, 1, k), reply);
+    same!(rt; sub.get(pool, 1, k), reply);
 }
 
 fn uses<N: Naming, R: Abort>(rt: &R, sub: &Subpool<N>, used: u64, own: u64) {
-    assert_eq!(rt; [sub.used(), sub.own_reserve()], [used, own]);
+    same!(rt; [sub.used(), sub.own_reserve()], [used, own]);
 }
 
 fn take<N: Naming, R: Abort>(rt: &R, sub: &mut Subpool<N>, pool: &mut Pool<N>) -> Page<N>

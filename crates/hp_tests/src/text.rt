@@ -1,5 +1,6 @@
 //! Numbers, pieces, and the text of meminfo.
 
+use crate::same::same;
 use hp_model::answer::Counts;
 use hp_text::meminfo::meminfo_text;
 use hp_text::numbers::number_of;
@@ -8,7 +9,7 @@ use std::process::Abort;
 use std::test::Fail;
 
 fn means<R: Abort>(rt: &R, text: &[u8], number: Option<u64>) {
-    assert_eq!(rt; number_of(text), number);
+    same!(rt; number_of(text), number);
 }
 
 #[test]
@@ -31,7 +32,7 @@ fn reads_numbers(rt: HostRuntime) {
 
 // The piece before the first comma, and what stands behind it.
 fn cuts<R: Abort>(rt: &R, text: &[u8], cut: (&[u8], Option<&[u8]>)) {
-    assert_eq!(rt; first_piece(b',', text), cut);
+    same!(rt; first_piece(b',', text), cut);
 }
 
 #[test]
@@ -60,13 +61,13 @@ fn writes_meminfo(rt: HostRuntime) -> Result<(), Fail> {
     };
     let mut small = Vec::with_capacity(rt.alloc(), 256)?;
     meminfo_text(counts, 1024, &mut small);
-    assert_eq!(rt; small.as_slice(), SMALL);
+    same!(rt; small.as_slice(), SMALL);
     counts.total = 262_144;
     counts.free = 262_144;
     counts.rsvd = 0;
     counts.surp = 0;
     let mut greatest = Vec::with_capacity(rt.alloc(), 256)?;
     meminfo_text(counts, 2_097_152, &mut greatest);
-    assert_eq!(rt; greatest.as_slice(), GREATEST);
+    same!(rt; greatest.as_slice(), GREATEST);
     Ok(())
 }

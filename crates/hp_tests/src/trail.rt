@@ -1,5 +1,6 @@
 //! Trails and receipts made by hand: some join, and some don't.
 
+use crate::same::same;
 use hp_model::answer::{Answer, Reply};
 use hp_model::bytes::Bytes;
 use hp_model::entry::{Asked, Part, PoolEntry, Receipt, SlotEntry, TableEntry};
@@ -295,14 +296,14 @@ fn nothing_joins(rt: HostRuntime) -> Result<(), Fail> {
 #[test]
 fn closing_entries_have_places_of_their_own(rt: HostRuntime) -> Result<(), Fail> {
     let mut trail = Kept::open(rt.alloc(), 1, 1)?;
-    assert_eq!(rt; trail.place(), 0);
-    assert_eq!(rt; trail.has_room(false), true);
+    same!(rt; trail.place(), 0);
+    same!(rt; trail.has_room(false), true);
     trail.push(7u64);
-    assert_eq!(rt; trail.has_room(false), false);
-    assert_eq!(rt; trail.has_room(true), true);
+    same!(rt; trail.has_room(false), false);
+    same!(rt; trail.has_room(true), true);
     trail.push(8u64);
-    assert_eq!(rt; trail.has_room(true), false);
-    assert_eq!(rt; trail.place(), 2);
+    same!(rt; trail.has_room(true), false);
+    same!(rt; trail.place(), 2);
     assert!(rt; trail.into_entries().as_slice() == [7, 8].as_slice());
     Ok(())
 }
@@ -311,8 +312,8 @@ fn closing_entries_have_places_of_their_own(rt: HostRuntime) -> Result<(), Fail>
 fn a_trail_that_keeps_nothing_has_room(rt: HostRuntime) -> Result<(), Fail> {
     let mut trail = Unkept {};
     trail.push(7u64);
-    assert_eq!(rt; Trail::<u64>::has_room(&trail, false), true);
-    assert_eq!(rt; Trail::<u64>::place(&trail), 0);
-    assert_eq!(rt; Trail::<u64>::is_kept(&trail), false);
+    same!(rt; Trail::<u64>::has_room(&trail, false), true);
+    same!(rt; Trail::<u64>::place(&trail), 0);
+    same!(rt; Trail::<u64>::is_kept(&trail), false);
     Ok(())
 }

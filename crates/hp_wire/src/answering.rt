@@ -1,13 +1,14 @@
 //! The answers to lines.
-ghost use Rattle.std.specs.Prelude.{◌≡◌, ◌+◌, ◌<◌, ◌^◌, [], ◌∷◌, length, IfErr, IfOk, IsOk, OnOk};
+ghost use Rattle.std.specs.Prelude.{◌≡◌, ◌+◌, ◌<◌, ◌^◌, [], ◌∷◌, length, IfErr, IfOk, IsOk, OnOk, false};
 ghost use Rattle.hp_model.specs.text.Lines.{ended, ended_lines};
-ghost use Rattle.hp_model.specs.text.Reading.{load_of, step_of, store_of};
+ghost use Rattle.hp_model.specs.text.Reading.{load_of, step_of, step_of_command, store_of};
 ghost use Rattle.hp_wire.specs.Added.{AddsAnswer, AddsReply};
 ghost use Rattle.hp_wire.specs.Answered.{AnswersAll, AnswersSome, RunsAll, RunsSome};
 ghost use Rattle.hp_wire.specs.Sent.{Writes, WritesFront};
 ghost use Rattle.hp_wire.specs.Served.{text_of_refusals, unended_by};
 ghost use Rattle.hp_wire.specs.Unanswered.{CountsLines};
 ghost use Rattle.hp_wire.specs.Waiting.{HasRoomForOne};
+ghost use Rattle.hp_wire_lines.specs.Accesses.{is_access};
 
 use crate::ends::Sink;
 use crate::fault::RunFault;
@@ -15,18 +16,20 @@ use crate::replies::Replies;
 use hp_model::refusal::Refusal;
 use hp_model::service::Service;
 use hp_model::step::Step;
+use hp_model::told::Told;
 use hp_text::pieces::first_long_piece;
 use hp_wire_lines::accesses::{loading, storing};
-use hp_wire_lines::reading::{LINE_LIMIT, LineKind, kind_of_line, step_of_line};
+use hp_wire_lines::reading::{LINE_LIMIT, LineKind, kind_of_line, step_of_word};
 use hp_wire_lines::words::Words;
-use std::alloc::Global;
+
+// The room for the bytes of a store that is read, or of a page that is shown: made once for many lines.
+const ROOM: usize = 512;
 
 impl Replies {
     /// Answers the lines that end in these bytes, and writes out their replies. It says how many bytes follow the last of
     /// the lines, and how many lines there were.
     pub fn answer_chunk<W: Sink, S: Service>(
         &mut self,
-        alloc: Global,
         chunk: &[u8],
         service: &mut S,
         writer: &mut W,
@@ -44,7 +47,7 @@ impl Replies {
         ensures stays { W.is_sure writer.old → W.is_sure writer.new }
         ensures ready { S.is_ready service.new }
     {
-        let (left, count) = self.answer_lines(alloc, chunk, service, writer)?;
+        let (left, count) = self.answer_lines(chunk, service, writer)?;
         self.send(writer)?;
         Ok((left, count))
     }
@@ -52,7 +55,6 @@ impl Replies {
     // Answers the lines that end in these bytes, and says how many bytes follow the last of them, and how many they were.
     fn answer_lines<W: Sink, S: Service>(
         &mut self,
-        alloc: Global,
         bytes: &[u8],
         service: &mut S,
         writer: &mut W,
@@ -68,10 +70,11 @@ impl Replies {
         ensures stays { W.is_sure writer.old → W.is_sure writer.new }
         ensures ready { S.is_ready service.new }
     {
+        let mut room = [0u8; ROOM];
         let mut rest = bytes;
         let mut count = 0u64;
         while let (line, Some(after)) = first_long_piece(b'\n', rest) {
-            self.answer_line(alloc, line, service, writer)?;
+            self.answer_line(line, &mut room, service, writer)?;
             count += 1;
             rest = after;
         }
@@ -81,8 +84,8 @@ impl Replies {
     // Answers one line, for which room is made first.
     fn answer_line<W: Sink, S: Service>(
         &mut self,
-        alloc: Global,
         line: &[u8],
+        room: &mut [u8; ROOM],
         service: &mut S,
         writer: &mut W,
     ) -> Result<(), RunFault>
@@ -97,70 +100,13 @@ impl Replies {
         ensures ready { S.is_ready service.new }
     {
         self.make_room(writer)?;
-        self.add_reply(alloc, line, service);
+        self.add_reply(line, room, service);
         Ok(())
     }
 
     // Answers one line, for whose reply there is room.
     #[inline(always)]
-    fn add_reply<S: Service>(&mut self, alloc: Global, line: &[u8], service: &mut S)
-        requires ready { S.is_ready service.old }
-        requires room { HasRoomForOne self.old }
-        ensures answered { AddsReply S.may_answer (step_of (ended line.now))
-            service.old service.new self.old self.new }
-        ensures ready { S.is_ready service.new }
-    {
-        if line.len() <= LINE_LIMIT {
-            match kind_of_line(line) {
-                LineKind::Load(words) => return self.add_load(words, service),
-                LineKind::Store(words) => return self.add_store(words, service),
-                LineKind::Other => {}
-            }
-        }
-        self.add_other(alloc, line, service);
-    }
-
-    // Does the load of these words.
-    #[inline(always)]
-    fn add_load<S: Service>(&mut self, words: Words<'_>, service: &mut S)
-        requires ready { S.is_ready service.old }
-        requires room { HasRoomForOne self.old }
-        ensures answered { AddsReply S.may_answer (load_of words.entry)
-            service.old service.new self.old self.new }
-        ensures ready { S.is_ready service.new }
-    {
-        match loading(words) {
-            Ok((access, count)) => {
-                let mut room = [0u8; 256];
-                let loaded = service.load(&access, count, &mut room);
-                self.add_loaded(loaded);
-            }
-            Err(refusal) => self.add_refusal(refusal),
-        }
-    }
-
-    // Does the store of these words.
-    #[inline(always)]
-    fn add_store<S: Service>(&mut self, words: Words<'_>, service: &mut S)
-        requires ready { S.is_ready service.old }
-        requires room { HasRoomForOne self.old }
-        ensures answered { AddsReply S.may_answer (store_of words.entry)
-            service.old service.new self.old self.new }
-        ensures ready { S.is_ready service.new }
-    {
-        let mut room = [0u8; 512];
-        match storing(words, &mut room) {
-            Ok((access, bytes)) => {
-                let stored = service.store(&access, bytes);
-                self.add_stored(stored);
-            }
-            Err(refusal) => self.add_refusal(refusal),
-        }
-    }
-
-    // Answers a line by its step: apart, so that no line pays for this that has none.
-    #[inline(never)]
-    fn add_other<S: Service>(&mut self, alloc: Global, line: &[u8], service: &mut S)
+    fn add_reply<S: Service>(&mut self, line: &[u8], room: &mut [u8; ROOM], service: &mut S)
         requires ready { S.is_ready service.old }
         requires room { HasRoomForOne self.old }
         ensures answered { AddsReply S.may_answer (step_of (ended line.now))
@@ -170,23 +116,84 @@ impl Replies {
         if line.len() > LINE_LIMIT {
             return self.add_refusal(Refusal::LineTooLong);
         }
-        match step_of_line(alloc, line) {
-            Ok(step) => self.add_answer(&step, service),
+        match kind_of_line(line) {
+            Ok(LineKind::Load(words)) => self.add_load(words, room, service),
+            Ok(LineKind::Store(words)) => self.add_store(words, room, service),
+            Ok(LineKind::Other { word, words }) => self.add_other(word, words, room, service),
+            Err(refusal) => self.add_refusal(refusal),
+        }
+    }
+
+    // Does the load of these words.
+    #[inline(always)]
+    fn add_load<S: Service>(&mut self, words: Words<'_>, room: &mut [u8; ROOM], service: &mut S)
+        requires ready { S.is_ready service.old }
+        requires room { HasRoomForOne self.old }
+        ensures answered { AddsReply S.may_answer (load_of words.entry)
+            service.old service.new self.old self.new }
+        ensures ready { S.is_ready service.new }
+    {
+        match loading(words) {
+            Ok((access, count)) => {
+                let loaded = service.load(&access, count, room);
+                self.add_loaded(loaded);
+            }
+            Err(refusal) => self.add_refusal(refusal),
+        }
+    }
+
+    // Does the store of these words.
+    #[inline(always)]
+    fn add_store<S: Service>(&mut self, words: Words<'_>, room: &mut [u8; ROOM], service: &mut S)
+        requires ready { S.is_ready service.old }
+        requires room { HasRoomForOne self.old }
+        ensures answered { AddsReply S.may_answer (store_of words.entry)
+            service.old service.new self.old self.new }
+        ensures ready { S.is_ready service.new }
+    {
+        match storing(words, room) {
+            Ok((access, bytes)) => {
+                let stored = service.store(&access, bytes);
+                self.add_stored(stored);
+            }
+            Err(refusal) => self.add_refusal(refusal),
+        }
+    }
+
+    // Answers a line by its step, which this word and these words after it make: apart, so that no line pays for this
+    // that has none.
+    #[inline(never)]
+    fn add_other<S: Service>(
+        &mut self,
+        word: &[u8],
+        mut words: Words<'_>,
+        room: &mut [u8; ROOM],
+        service: &mut S,
+    )
+        requires ready { S.is_ready service.old }
+        requires room { HasRoomForOne self.old }
+        requires other { is_access word.now ≡ false }
+        ensures answered { AddsReply S.may_answer (step_of_command word.now words.entry)
+            service.old service.new self.old self.new }
+        ensures ready { S.is_ready service.new }
+    {
+        match step_of_word(word, &mut words) {
+            Ok(step) => self.add_answer(&step, room, service),
             Err(refusal) => self.add_refusal(refusal),
         }
     }
 
     // Does a step, and adds the line of its reply.
     #[inline(always)]
-    fn add_answer<S: Service>(&mut self, step: &Step, service: &mut S)
+    fn add_answer<S: Service>(&mut self, step: &Step<'_>, room: &mut [u8; ROOM], service: &mut S)
         requires ready { S.is_ready service.old }
         requires room { HasRoomForOne self.old }
         ensures answered { AddsAnswer S.may_answer step.now
             service.old service.new self.old self.new }
         ensures ready { S.is_ready service.new }
     {
-        let mut room = [0u8; 256];
-        let reply = service.answer(step, &mut room);
+        let mut reply = Ok(Told::Done);
+        service.answer(step, room, &mut reply);
         self.add(&reply);
     }
 

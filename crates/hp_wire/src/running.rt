@@ -15,8 +15,8 @@ pub const INPUT_LIMIT: u64 = 1_073_741_824;
 
 /// Answers the lines of the reader on the writer, one reply for each, and says how many lines there were.
 ///
-/// All memory but that of a step with a name, options or bytes is asked for before the first read, and all replies
-/// to the lines that were read are written before the next read. A line has at most 1,024 bytes, the input
+/// All memory but the service's is asked for before the first read, and all replies to the lines that were read are
+/// written before the next read. A line has at most 1,024 bytes, the input
 /// 1,073,741,824. `Memory` leaves everything as it was. After `Read` the lines that had ended are answered, and so
 /// after `TooLong` those that had ended within the limit. After `Write` the steps that were done stand, and a front
 /// of the text of their replies is written. A reader or a writer that cannot fail is never answered `Read` or
@@ -39,14 +39,7 @@ pub fn run_lines<R: Source, W: Sink, S: Service>(
     let Ok((mut unanswered, mut replies)) = rooms(alloc, service.page_bytes()) else {
         return Err(RunFault::Memory);
     };
-    serve(
-        alloc,
-        reader,
-        writer,
-        service,
-        &mut unanswered,
-        &mut replies,
-    )
+    serve(reader, writer, service, &mut unanswered, &mut replies)
 }
 
 // The room for what is read and for the replies.
@@ -60,7 +53,6 @@ fn rooms(alloc: Global, page: u64) -> Result<(Unanswered, Replies), AllocError>
 }
 
 fn serve<R: Source, W: Sink, S: Service>(
-    alloc: Global,
     reader: &mut R,
     writer: &mut W,
     service: &mut S,
@@ -87,10 +79,10 @@ fn serve<R: Source, W: Sink, S: Service>(
         }
         total += n as u64;
         if total > INPUT_LIMIT {
-            replies.answer_chunk(alloc, &bytes[..bytes.len() - 1], service, writer)?;
+            replies.answer_chunk(&bytes[..bytes.len() - 1], service, writer)?;
             return Err(RunFault::TooLong);
         }
-        let (left, more) = replies.answer_chunk(alloc, bytes, service, writer)?;
+        let (left, more) = replies.answer_chunk(bytes, service, writer)?;
         unanswered.keep_last(left);
         count += more;
     }

@@ -5,8 +5,7 @@ use Rattle.hp_model.specs.declared.refusal.Refusal.{Refusal}
 use Rattle.hp_model.specs.declared.service.Access.{Access}
 use Rattle.hp_model.specs.declared.step.Step.{Step}
 use Rattle.hp_model.specs.machine.Accesses.{load_step, store_step}
-use Rattle.hp_model.specs.text.Reading.{load_of, step_of_bytes, store_of}
-use Rattle.hp_model.specs.text.Words.{piece_at, pieces_of_line}
+use Rattle.hp_model.specs.text.Reading.{load_of, step_of_bytes, step_of_command, store_of}
 use Rattle.hp_wire_lines.specs.declared.reading.LineKind.{LineKind}
 use Rattle.hp_wire_lines.specs.declared.reading.LineKind.TheVariants.{Load, Store, Other}
 use denote.Ref.{Bor}
@@ -21,13 +20,13 @@ abbrev pub read_store : Result (Access × Bor (List ℕ)) Refusal → Result Ste
 read_store (Ok x) = Ok (store_step x.0 x.1.now)
 read_store (Err refusal) = Err refusal
 
--- the line's first word is that of a load or a store
-abbrev pub is_access_line : List ℕ → Bool
-is_access_line line =
-    elim (piece_at (pieces_of_line line)) [ Ok command ↦ bytes_eq command.0 (codes "load") || bytes_eq command.0 (codes "store") | Err refusal ↦ false ]
+-- the word is that of a load or a store
+abbrev pub is_access : List ℕ → Bool
+is_access word = bytes_eq word (codes "load") || bytes_eq word (codes "store")
 
--- a line that reads so is a load or a store of these words; or it is neither
-abbrev pub IsKind : LineKind → List ℕ → Type 0
-IsKind (Load words) line = step_of_bytes line ≡ load_of words
-IsKind (Store words) line = step_of_bytes line ≡ store_of words
-IsKind Other line = is_access_line line ≡ false
+-- a line that reads so is a load or a store of these words, or neither, by that word and these, or it is refused
+abbrev pub IsKind : Result LineKind Refusal → List ℕ → Type 0
+IsKind (Ok (Load words)) line = step_of_bytes line ≡ load_of words
+IsKind (Ok (Store words)) line = step_of_bytes line ≡ store_of words
+IsKind (Ok (Other word words)) line = (step_of_bytes line ≡ step_of_command word.now words) × (is_access word.now ≡ false)
+IsKind (Err refusal) line = step_of_bytes line ≡ Err refusal

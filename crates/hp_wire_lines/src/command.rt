@@ -1,9 +1,10 @@
 //! The commands, and their words.
-ghost use Rattle.std.specs.Prelude.{◌≡◌, ℕ, List};
+ghost use Rattle.std.specs.Prelude.{◌≡◌, ℕ, List, false};
 ghost use Rattle.hp_model.specs.text.Reading.{pool_command, slot_command, step_of_command};
+ghost use Rattle.hp_wire_lines.specs.Accesses.{is_access};
 ghost use Rattle.hp_wire_lines.specs.Commands.{step_as};
 
-/// What the first word of a line asks for.
+/// What the first word of a line asks for that is no load or store.
 #[derive(Clone, Copy)]
 pub enum Command {
     Connect,
@@ -14,8 +15,6 @@ pub enum Command {
     Anon,
     Unmap,
     Fault,
-    Load,
-    Store,
     Mount,
     Umount,
     Create,
@@ -32,9 +31,10 @@ pub enum Command {
     Nodes,
 }
 
-/// The command of a word, if it is one.
+/// The command of a word that is not that of a load or a store, if it is one.
 #[tactic(auto, unfolding(hp_model::specs::text::Reading::step_of_command))]
 pub fn command_of(word: &[u8]) -> Option<Command>
+    requires { is_access word.now ≡ false }
     ensures { (words : List (List ℕ)) → step_of_command word.now words ≡ step_as result words }
 {
     if word == b"connect".as_slice() {
@@ -53,10 +53,6 @@ pub fn command_of(word: &[u8]) -> Option<Command>
         Some(Command::Unmap)
     } else if word == b"fault".as_slice() {
         Some(Command::Fault)
-    } else if word == b"load".as_slice() {
-        Some(Command::Load)
-    } else if word == b"store".as_slice() {
-        Some(Command::Store)
     } else {
         slot_command(word)
     }

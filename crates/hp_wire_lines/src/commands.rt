@@ -1,17 +1,17 @@
 //! The steps of the commands, by what stands after each command's word.
-ghost use Rattle.std.specs.Prelude.{◌≡◌};
-ghost use Rattle.hp_model.specs.text.Reading.{anon_of, attach_of, connect_of, create_of, df_of, exit_of, fault_of, fork_of, load_of, ls_of, map_of, meminfo_of, mount_of, nodes_of, nr_of, overcommit_of, punch_of, read_of, stat_of, store_of, truncate_of, umount_of, unlink_of, unmap_of, IsReadAs};
+ghost use Rattle.std.specs.Prelude.{◌≡◌, length};
+ghost use Rattle.hp_model.specs.text.Reading.{anon_of, attach_of, connect_of, create_of, df_of, exit_of, fault_of, fork_of, load_of, ls_of, map_of, meminfo_of, mount_of, nodes_of, nr_of, overcommit_of, punch_of, read_of, stat_of, store_of, truncate_of, umount_of, unlink_of, unmap_of};
 
 use crate::accesses::{loading, storing};
-use crate::parts::{copied, intent, reserving, sharing, word};
+use crate::parts::{intent, reserving, sharing, word};
 use crate::words::Words;
+use hp_model::lent::Lent;
 use hp_model::refusal::Refusal;
 use hp_model::service::Access;
 use hp_model::step::Step;
-use std::alloc::Global;
 
 #[tactic(auto, unfolding(hp_model::specs::text::Reading::connect_of))]
-pub fn connect(words: &mut Words<'_>) -> Result<Step, Refusal>
+pub fn connect(words: &mut Words<'_>) -> Result<Step<'static>, Refusal>
     ensures { result ≡ connect_of words.old }
 {
     let task = words.number()?;
@@ -21,7 +21,7 @@ pub fn connect(words: &mut Words<'_>) -> Result<Step, Refusal>
 }
 
 #[tactic(auto, unfolding(hp_model::specs::text::Reading::attach_of))]
-pub fn attach(words: &mut Words<'_>) -> Result<Step, Refusal>
+pub fn attach(words: &mut Words<'_>) -> Result<Step<'static>, Refusal>
     ensures { result ≡ attach_of words.old }
 {
     let task = words.number()?;
@@ -30,7 +30,7 @@ pub fn attach(words: &mut Words<'_>) -> Result<Step, Refusal>
 }
 
 #[tactic(auto, unfolding(hp_model::specs::text::Reading::fork_of))]
-pub fn fork(words: &mut Words<'_>) -> Result<Step, Refusal>
+pub fn fork(words: &mut Words<'_>) -> Result<Step<'static>, Refusal>
     ensures { result ≡ fork_of words.old }
 {
     let parent = words.number()?;
@@ -40,7 +40,7 @@ pub fn fork(words: &mut Words<'_>) -> Result<Step, Refusal>
 }
 
 #[tactic(auto, unfolding(hp_model::specs::text::Reading::exit_of))]
-pub fn exit(words: &mut Words<'_>) -> Result<Step, Refusal>
+pub fn exit(words: &mut Words<'_>) -> Result<Step<'static>, Refusal>
     ensures { result ≡ exit_of words.old }
 {
     let task = words.number()?;
@@ -49,8 +49,8 @@ pub fn exit(words: &mut Words<'_>) -> Result<Step, Refusal>
 }
 
 #[tactic(auto, unfolding(hp_model::specs::text::Reading::map_of))]
-pub fn map(alloc: Global, words: &mut Words<'_>) -> Result<Step, Refusal>
-    ensures { IsReadAs result (map_of words.old) }
+pub fn map<'a>(words: &mut Words<'a>) -> Result<Step<'a>, Refusal>
+    ensures { result ≡ map_of words.old }
 {
     let task = words.number()?;
     let slot = words.number()?;
@@ -59,7 +59,6 @@ pub fn map(alloc: Global, words: &mut Words<'_>) -> Result<Step, Refusal>
     let pages = words.number()?;
     let sharing = sharing(words)?;
     let reserving = reserving(words)?;
-    let name = copied(alloc, name)?;
     Ok(Step::Map {
         task,
         slot,
@@ -72,7 +71,7 @@ pub fn map(alloc: Global, words: &mut Words<'_>) -> Result<Step, Refusal>
 }
 
 #[tactic(auto, unfolding(hp_model::specs::text::Reading::anon_of))]
-pub fn anon(words: &mut Words<'_>) -> Result<Step, Refusal>
+pub fn anon(words: &mut Words<'_>) -> Result<Step<'static>, Refusal>
     ensures { result ≡ anon_of words.old }
 {
     let task = words.number()?;
@@ -88,7 +87,7 @@ pub fn anon(words: &mut Words<'_>) -> Result<Step, Refusal>
 }
 
 #[tactic(auto, unfolding(hp_model::specs::text::Reading::unmap_of))]
-pub fn unmap(words: &mut Words<'_>) -> Result<Step, Refusal>
+pub fn unmap(words: &mut Words<'_>) -> Result<Step<'static>, Refusal>
     ensures { result ≡ unmap_of words.old }
 {
     let task = words.number()?;
@@ -107,7 +106,7 @@ pub fn unmap(words: &mut Words<'_>) -> Result<Step, Refusal>
 }
 
 #[tactic(auto, unfolding(hp_model::specs::text::Reading::fault_of))]
-pub fn fault(words: &mut Words<'_>) -> Result<Step, Refusal>
+pub fn fault(words: &mut Words<'_>) -> Result<Step<'static>, Refusal>
     ensures { result ≡ fault_of words.old }
 {
     let task = words.number()?;
@@ -125,7 +124,7 @@ pub fn fault(words: &mut Words<'_>) -> Result<Step, Refusal>
     })
 }
 
-pub fn load(words: Words<'_>) -> Result<Step, Refusal>
+pub fn load(words: Words<'_>) -> Result<Step<'static>, Refusal>
     ensures { result ≡ load_of words.entry }
 {
     let (access, count) = loading(words)?;
@@ -146,11 +145,12 @@ pub fn load(words: Words<'_>) -> Result<Step, Refusal>
     })
 }
 
-pub fn store(alloc: Global, words: Words<'_>) -> Result<Step, Refusal>
-    ensures { IsReadAs result (store_of words.entry) }
+pub fn store<'a>(words: Words<'_>, room: &'a mut [u8]) -> Result<Step<'a>, Refusal>
+    requires { length room.old ≡ 512 }
+    ensures { result ≡ store_of words.entry }
 {
-    let mut room = [0u8; 512];
-    let (access, bytes) = storing(words, &mut room)?;
+    let (access, bytes) = storing(words, room)?;
+    let bytes = Lent::new(bytes);
     let Access {
         task,
         slot,
@@ -158,7 +158,6 @@ pub fn store(alloc: Global, words: Words<'_>) -> Result<Step, Refusal>
         index,
         offset,
     } = access;
-    let bytes = copied(alloc, bytes)?;
     Ok(Step::Store {
         task,
         slot,
@@ -170,18 +169,17 @@ pub fn store(alloc: Global, words: Words<'_>) -> Result<Step, Refusal>
 }
 
 #[tactic(auto, unfolding(hp_model::specs::text::Reading::mount_of))]
-pub fn mount(alloc: Global, words: &mut Words<'_>) -> Result<Step, Refusal>
-    ensures { IsReadAs result (mount_of words.old) }
+pub fn mount<'a>(words: &mut Words<'a>) -> Result<Step<'a>, Refusal>
+    ensures { result ≡ mount_of words.old }
 {
     let slot = words.number()?;
     let options = word(words)?;
     words.end()?;
-    let options = copied(alloc, options)?;
     Ok(Step::Mount { slot, options })
 }
 
 #[tactic(auto, unfolding(hp_model::specs::text::Reading::umount_of))]
-pub fn umount(words: &mut Words<'_>) -> Result<Step, Refusal>
+pub fn umount(words: &mut Words<'_>) -> Result<Step<'static>, Refusal>
     ensures { result ≡ umount_of words.old }
 {
     let slot = words.number()?;
@@ -190,49 +188,45 @@ pub fn umount(words: &mut Words<'_>) -> Result<Step, Refusal>
 }
 
 #[tactic(auto, unfolding(hp_model::specs::text::Reading::create_of))]
-pub fn create(alloc: Global, words: &mut Words<'_>) -> Result<Step, Refusal>
-    ensures { IsReadAs result (create_of words.old) }
+pub fn create<'a>(words: &mut Words<'a>) -> Result<Step<'a>, Refusal>
+    ensures { result ≡ create_of words.old }
 {
     let slot = words.number()?;
     let name = word(words)?;
     words.end()?;
-    let name = copied(alloc, name)?;
     Ok(Step::Create { slot, name })
 }
 
 #[tactic(auto, unfolding(hp_model::specs::text::Reading::unlink_of))]
-pub fn unlink(alloc: Global, words: &mut Words<'_>) -> Result<Step, Refusal>
-    ensures { IsReadAs result (unlink_of words.old) }
+pub fn unlink<'a>(words: &mut Words<'a>) -> Result<Step<'a>, Refusal>
+    ensures { result ≡ unlink_of words.old }
 {
     let slot = words.number()?;
     let name = word(words)?;
     words.end()?;
-    let name = copied(alloc, name)?;
     Ok(Step::Unlink { slot, name })
 }
 
 #[tactic(auto, unfolding(hp_model::specs::text::Reading::truncate_of))]
-pub fn truncate(alloc: Global, words: &mut Words<'_>) -> Result<Step, Refusal>
-    ensures { IsReadAs result (truncate_of words.old) }
+pub fn truncate<'a>(words: &mut Words<'a>) -> Result<Step<'a>, Refusal>
+    ensures { result ≡ truncate_of words.old }
 {
     let slot = words.number()?;
     let name = word(words)?;
     let pages = words.number()?;
     words.end()?;
-    let name = copied(alloc, name)?;
     Ok(Step::Truncate { slot, name, pages })
 }
 
 #[tactic(auto, unfolding(hp_model::specs::text::Reading::punch_of))]
-pub fn punch(alloc: Global, words: &mut Words<'_>) -> Result<Step, Refusal>
-    ensures { IsReadAs result (punch_of words.old) }
+pub fn punch<'a>(words: &mut Words<'a>) -> Result<Step<'a>, Refusal>
+    ensures { result ≡ punch_of words.old }
 {
     let slot = words.number()?;
     let name = word(words)?;
     let from = words.number()?;
     let to = words.number()?;
     words.end()?;
-    let name = copied(alloc, name)?;
     Ok(Step::Punch {
         slot,
         name,
@@ -242,8 +236,8 @@ pub fn punch(alloc: Global, words: &mut Words<'_>) -> Result<Step, Refusal>
 }
 
 #[tactic(auto, unfolding(hp_model::specs::text::Reading::read_of))]
-pub fn read(alloc: Global, words: &mut Words<'_>) -> Result<Step, Refusal>
-    ensures { IsReadAs result (read_of words.old) }
+pub fn read<'a>(words: &mut Words<'a>) -> Result<Step<'a>, Refusal>
+    ensures { result ≡ read_of words.old }
 {
     let slot = words.number()?;
     let name = word(words)?;
@@ -251,7 +245,6 @@ pub fn read(alloc: Global, words: &mut Words<'_>) -> Result<Step, Refusal>
     let offset = words.number()?;
     let count = words.number()?;
     words.end()?;
-    let name = copied(alloc, name)?;
     Ok(Step::Read {
         slot,
         name,
@@ -262,7 +255,7 @@ pub fn read(alloc: Global, words: &mut Words<'_>) -> Result<Step, Refusal>
 }
 
 #[tactic(auto, unfolding(hp_model::specs::text::Reading::ls_of))]
-pub fn ls(words: &mut Words<'_>) -> Result<Step, Refusal>
+pub fn ls(words: &mut Words<'_>) -> Result<Step<'static>, Refusal>
     ensures { result ≡ ls_of words.old }
 {
     let slot = words.number()?;
@@ -271,18 +264,17 @@ pub fn ls(words: &mut Words<'_>) -> Result<Step, Refusal>
 }
 
 #[tactic(auto, unfolding(hp_model::specs::text::Reading::stat_of))]
-pub fn stat(alloc: Global, words: &mut Words<'_>) -> Result<Step, Refusal>
-    ensures { IsReadAs result (stat_of words.old) }
+pub fn stat<'a>(words: &mut Words<'a>) -> Result<Step<'a>, Refusal>
+    ensures { result ≡ stat_of words.old }
 {
     let slot = words.number()?;
     let name = word(words)?;
     words.end()?;
-    let name = copied(alloc, name)?;
     Ok(Step::Stat { slot, name })
 }
 
 #[tactic(auto, unfolding(hp_model::specs::text::Reading::df_of))]
-pub fn df(words: &mut Words<'_>) -> Result<Step, Refusal>
+pub fn df(words: &mut Words<'_>) -> Result<Step<'static>, Refusal>
     ensures { result ≡ df_of words.old }
 {
     let slot = words.number()?;
@@ -291,7 +283,7 @@ pub fn df(words: &mut Words<'_>) -> Result<Step, Refusal>
 }
 
 #[tactic(auto, unfolding(hp_model::specs::text::Reading::nr_of))]
-pub fn nr(words: &mut Words<'_>) -> Result<Step, Refusal>
+pub fn nr(words: &mut Words<'_>) -> Result<Step<'static>, Refusal>
     ensures { result ≡ nr_of words.old }
 {
     let pages = words.number()?;
@@ -300,7 +292,7 @@ pub fn nr(words: &mut Words<'_>) -> Result<Step, Refusal>
 }
 
 #[tactic(auto, unfolding(hp_model::specs::text::Reading::overcommit_of))]
-pub fn overcommit(words: &mut Words<'_>) -> Result<Step, Refusal>
+pub fn overcommit(words: &mut Words<'_>) -> Result<Step<'static>, Refusal>
     ensures { result ≡ overcommit_of words.old }
 {
     let pages = words.number()?;
@@ -309,7 +301,7 @@ pub fn overcommit(words: &mut Words<'_>) -> Result<Step, Refusal>
 }
 
 #[tactic(auto, unfolding(hp_model::specs::text::Reading::meminfo_of))]
-pub fn meminfo(words: &Words<'_>) -> Result<Step, Refusal>
+pub fn meminfo(words: &Words<'_>) -> Result<Step<'static>, Refusal>
     ensures { result ≡ meminfo_of words.now }
 {
     words.end()?;
@@ -317,7 +309,7 @@ pub fn meminfo(words: &Words<'_>) -> Result<Step, Refusal>
 }
 
 #[tactic(auto, unfolding(hp_model::specs::text::Reading::nodes_of))]
-pub fn nodes(words: &Words<'_>) -> Result<Step, Refusal>
+pub fn nodes(words: &Words<'_>) -> Result<Step<'static>, Refusal>
     ensures { result ≡ nodes_of words.now }
 {
     words.end()?;

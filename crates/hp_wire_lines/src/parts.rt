@@ -1,31 +1,30 @@
 //! What the words of a line say.
-ghost use Rattle.std.specs.Prelude.{◌≡◌, ◌≤◌, length, MatchResult};
+ghost use Rattle.std.specs.Prelude.{◌≡◌, ◌≤◌, length};
 ghost use Rattle.std.specs.List.{list_all};
 ghost use Rattle.hp_model.specs.text.Words.{word_at, word_of, is_word, is_word_byte, sharing_at, sharing_of, intent_at, intent_of, reserving_at, bytes_of_hex};
 ghost use Rattle.hp_wire_lines.specs.Words.{Gives, Takes, last_hex};
 
 use crate::hex_digits::decode;
 use crate::words::Words;
-use hp_model::bytes::Bytes;
+use hp_model::lent::Lent;
 use hp_model::refusal::Refusal;
 use hp_model::step::{Intent, Reserving, Sharing};
-use std::alloc::Global;
 
 /// Takes a name or options.
 #[tactic(auto, unfolding(hp_model::specs::text::Words::word_at))]
-pub fn word<'a>(words: &mut Words<'a>) -> Result<&'a [u8], Refusal>
-    ensures { Takes (λ x. x.now) result words.new (word_at words.old) }
+pub fn word<'a>(words: &mut Words<'a>) -> Result<Lent<'a>, Refusal>
+    ensures { Takes (λ x. x) result words.new (word_at words.old) }
 {
     let piece = words.piece()?;
     word_of(piece)
 }
 
 // A piece of one or more printed characters.
-fn word_of(piece: &[u8]) -> Result<&[u8], Refusal>
-    ensures { Gives (λ x. x.now) result (word_of piece.now) }
+fn word_of(piece: &[u8]) -> Result<Lent<'_>, Refusal>
+    ensures { Gives (λ x. x) result (word_of piece.now) }
 {
     if is_word(piece) {
-        Ok(piece)
+        Ok(Lent::new(piece))
     } else {
         Err(Refusal::BadLine)
     }
@@ -112,15 +111,5 @@ fn decoded<'a>(piece: &[u8], room: &'a mut [u8]) -> Result<&'a [u8], Refusal>
         Ok(part)
     } else {
         Err(Refusal::BadLine)
-    }
-}
-
-/// A copy of a word's bytes, or `OutOfMemory`.
-pub fn copied(alloc: Global, bytes: &[u8]) -> Result<Bytes, Refusal>
-    ensures { MatchResult result (λ copy. copy ≡ bytes.now) (λ e. e ≡ Refusal.OutOfMemory) }
-{
-    match Bytes::copied(alloc, bytes) {
-        Ok(copy) => Ok(copy),
-        Err(_) => Err(Refusal::OutOfMemory),
     }
 }

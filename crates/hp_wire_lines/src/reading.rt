@@ -1,7 +1,7 @@
 //! The step that a line reads as.
-ghost use Rattle.std.specs.Prelude.{◌≡◌, ◌≤◌, length};
-ghost use Rattle.hp_wire_lines.specs.Accesses.{IsKind};
-ghost use Rattle.hp_model.specs.text.Reading.{step_of_bytes, IsReadAs};
+ghost use Rattle.std.specs.Prelude.{◌≡◌, ◌≤◌, length, false};
+ghost use Rattle.hp_wire_lines.specs.Accesses.{is_access, IsKind};
+ghost use Rattle.hp_model.specs.text.Reading.{step_of_bytes, step_of_command};
 
 use crate::command::{Command, command_of};
 use crate::commands::{
@@ -11,73 +11,78 @@ use crate::commands::{
 use crate::words::Words;
 use hp_model::refusal::Refusal;
 use hp_model::step::Step;
-use std::alloc::Global;
 
 /// The most bytes that a line may have.
 pub const LINE_LIMIT: usize = 1024;
 
-/// A line of a load or a store, by the words after its first, or another line.
+/// A load or a store, by the words after the line's first, or a line of another word.
 #[derive(Drop)]
 pub enum LineKind<'a> {
     Load(Words<'a>),
     Store(Words<'a>),
-    Other,
+    Other { word: &'a [u8], words: Words<'a> },
 }
 
-/// Whether a line is a load or a store, whose words can be read with no step made of them.
-#[tactic(auto, unfolding(hp_model::specs::text::Reading::step_of_bytes, hp_model::specs::text::Reading::step_of_command, hp_model::specs::text::Words::piece_at))]
+/// What a line's first word asks for. The words of a load or a store can be read with no step made of them.
+#[tactic(auto, unfolding(hp_model::specs::text::Reading::step_of_bytes, hp_model::specs::text::Reading::step_of_command))]
 #[inline(always)]
-pub fn kind_of_line<'a>(line: &'a [u8]) -> LineKind<'a>
+pub fn kind_of_line<'a>(line: &'a [u8]) -> Result<LineKind<'a>, Refusal>
     requires { length line.now ≤ 1024 }
     ensures { IsKind result line.now }
 {
     let mut words = Words::new(line);
-    let Ok(command) = words.piece() else {
-        return LineKind::Other;
-    };
-    if command == b"load".as_slice() {
-        LineKind::Load(words)
-    } else if command == b"store".as_slice() {
-        LineKind::Store(words)
+    let word = words.piece()?;
+    if word == b"load".as_slice() {
+        Ok(LineKind::Load(words))
+    } else if word == b"store".as_slice() {
+        Ok(LineKind::Store(words))
     } else {
-        LineKind::Other
+        Ok(LineKind::Other { word, words })
     }
 }
 
-/// The step that a line reads as, or `BadLine`. Only a step that carries a name, options or bytes asks for
-/// memory, and only once the whole line was read and found good: `OutOfMemory` is answered for such a line alone.
+/// The step that a line reads as, or `BadLine`. The bytes of a store lie in the room, and other bytes in the line.
 #[tactic(auto, unfolding(hp_model::specs::text::Reading::step_of_bytes))]
-pub fn step_of_line(alloc: Global, line: &[u8]) -> Result<Step, Refusal>
-    requires { length line.now ≤ 1024 }
-    ensures { IsReadAs result (step_of_bytes line.now) }
+pub fn step_of_line<'a>(line: &'a [u8], room: &'a mut [u8]) -> Result<Step<'a>, Refusal>
+    requires line { length line.now ≤ 1024 }
+    requires room { length room.old ≡ 512 }
+    ensures { result ≡ step_of_bytes line.now }
 {
-    let mut words = Words::new(line);
-    let word = words.piece()?;
+    match kind_of_line(line)? {
+        LineKind::Load(words) => load(words),
+        LineKind::Store(words) => store(words, room),
+        LineKind::Other { word, mut words } => step_of_word(word, &mut words),
+    }
+}
+
+/// The step of a line's first word, which is not that of a load or a store, and the words after it, or `BadLine`.
+pub fn step_of_word<'a>(word: &[u8], words: &mut Words<'a>) -> Result<Step<'a>, Refusal>
+    requires { is_access word.now ≡ false }
+    ensures { result ≡ step_of_command word.now words.old }
+{
     match command_of(word) {
-        Some(Command::Connect) => connect(&mut words),
-        Some(Command::Attach) => attach(&mut words),
-        Some(Command::Fork) => fork(&mut words),
-        Some(Command::Exit) => exit(&mut words),
-        Some(Command::Map) => map(alloc, &mut words),
-        Some(Command::Anon) => anon(&mut words),
-        Some(Command::Unmap) => unmap(&mut words),
-        Some(Command::Fault) => fault(&mut words),
-        Some(Command::Load) => load(words),
-        Some(Command::Store) => store(alloc, words),
-        Some(Command::Mount) => mount(alloc, &mut words),
-        Some(Command::Umount) => umount(&mut words),
-        Some(Command::Create) => create(alloc, &mut words),
-        Some(Command::Unlink) => unlink(alloc, &mut words),
-        Some(Command::Truncate) => truncate(alloc, &mut words),
-        Some(Command::Punch) => punch(alloc, &mut words),
-        Some(Command::Read) => read(alloc, &mut words),
-        Some(Command::Ls) => ls(&mut words),
-        Some(Command::Stat) => stat(alloc, &mut words),
-        Some(Command::Df) => df(&mut words),
-        Some(Command::Nr) => nr(&mut words),
-        Some(Command::Overcommit) => overcommit(&mut words),
-        Some(Command::Meminfo) => meminfo(&words),
-        Some(Command::Nodes) => nodes(&words),
+        Some(Command::Connect) => connect(words),
+        Some(Command::Attach) => attach(words),
+        Some(Command::Fork) => fork(words),
+        Some(Command::Exit) => exit(words),
+        Some(Command::Map) => map(words),
+        Some(Command::Anon) => anon(words),
+        Some(Command::Unmap) => unmap(words),
+        Some(Command::Fault) => fault(words),
+        Some(Command::Mount) => mount(words),
+        Some(Command::Umount) => umount(words),
+        Some(Command::Create) => create(words),
+        Some(Command::Unlink) => unlink(words),
+        Some(Command::Truncate) => truncate(words),
+        Some(Command::Punch) => punch(words),
+        Some(Command::Read) => read(words),
+        Some(Command::Ls) => ls(words),
+        Some(Command::Stat) => stat(words),
+        Some(Command::Df) => df(words),
+        Some(Command::Nr) => nr(words),
+        Some(Command::Overcommit) => overcommit(words),
+        Some(Command::Meminfo) => meminfo(words),
+        Some(Command::Nodes) => nodes(words),
         None => Err(Refusal::BadLine),
     }
 }

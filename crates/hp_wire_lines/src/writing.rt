@@ -203,9 +203,38 @@ pub fn line_of_refusal(refusal: Refusal, out: &mut Vec<u8>)
     requires { HasRoom out.old 64 }
     ensures { Adds out.old out.new (line_of 0 (Err refusal)) }
 {
-    push(out, b"error ");
-    push_number(out, refusal.number());
-    push(out, b" ");
-    push(out, refusal.name().as_bytes());
-    push(out, b"\n");
+    push(out, refusal_line(refusal));
+}
+
+fn refusal_line(refusal: Refusal) -> &'static [u8]
+    ensures line { result.now ≡ line_of 0 (Err refusal) }
+    ensures short { length result.now ≤ 64 }
+{
+    match refusal {
+        Refusal::OutOfMemory => b"error 1 OutOfMemory\n",
+        Refusal::NoPages => b"error 2 NoPages\n",
+        Refusal::MountFull => b"error 3 MountFull\n",
+        Refusal::BeyondEnd => b"error 4 BeyondEnd\n",
+        Refusal::TakenByOwner => b"error 5 TakenByOwner\n",
+        Refusal::NoSuchTask => b"error 6 NoSuchTask\n",
+        Refusal::TaskExists => b"error 7 TaskExists\n",
+        Refusal::NoSuchSlot => b"error 8 NoSuchSlot\n",
+        Refusal::SlotTaken => b"error 9 SlotTaken\n",
+        Refusal::MinOverSize => b"error 10 MinOverSize\n",
+        Refusal::BadOption => b"error 11 BadOption\n",
+        Refusal::NoSuchFile => b"error 12 NoSuchFile\n",
+        Refusal::FileExists => b"error 13 FileExists\n",
+        Refusal::NoInodes => b"error 14 NoInodes\n",
+        Refusal::BadName => b"error 15 BadName\n",
+        Refusal::NoSuchMap => b"error 16 NoSuchMap\n",
+        Refusal::OutOfRange => b"error 17 OutOfRange\n",
+        Refusal::CrossesPage => b"error 18 CrossesPage\n",
+        Refusal::Busy => b"error 19 Busy\n",
+        Refusal::TooMany => b"error 20 TooMany\n",
+        Refusal::BadLine => b"error 21 BadLine\n",
+        Refusal::LineTooLong => b"error 22 LineTooLong\n",
+        Refusal::TraceFull => b"error 23 TraceFull\n",
+        Refusal::TrailsDiffer => b"error 24 TrailsDiffer\n",
+        Refusal::NoSuchNode => b"error 25 NoSuchNode\n",
+    }
 }

@@ -6,6 +6,8 @@ mod ends;
 #[cfg(test)]
 mod runs;
 #[cfg(test)]
+mod same;
+#[cfg(test)]
 mod sample;
 #[cfg(test)]
 mod texts;

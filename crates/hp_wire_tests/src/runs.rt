@@ -1,6 +1,7 @@
 //! Runs on a small service.
 
 use crate::ends::{Client, Counter, Nowhere, Reader, Writer};
+use crate::same::same;
 use crate::sample::Sample;
 use hp_wire::fault::RunFault;
 use hp_wire::running::run_lines;
@@ -26,8 +27,8 @@ fn replies_to(alloc: Global, input: &[u8]) -> Result<(Vec<u8>, u64), RunFault> {
 #[test]
 fn answers_each_line(rt: HostRuntime) -> Result<(), Fail> {
     let (text, count) = replies_to(rt.alloc(), SCRIPT)?;
-    assert_eq!(rt; text.as_slice(), REPLIES);
-    assert_eq!(rt; count, 11);
+    same!(rt; text.as_slice(), REPLIES);
+    same!(rt; count, 11);
     Ok(())
 }
 
@@ -55,14 +56,14 @@ fn refuses_broken_lines(rt: HostRuntime) -> Result<(), Fail> {
         b"\x00\xff\n",
     ] {
         let (text, count) = replies_to(rt.alloc(), line)?;
-        assert_eq!(rt; text.as_slice(), bad, "at {line:?}");
-        assert_eq!(rt; count, 1);
+        same!(rt; text.as_slice(), bad, "at {line:?}");
+        same!(rt; count, 1);
     }
     let (text, count) = replies_to(rt.alloc(), b"")?;
     assert!(rt; text.is_empty() && count == 0);
     let good = b"nr 00000000000000000004\nstore 1 0 1 0 0 fF\nmap 1 0 a 0 3 private noreserve\n";
     let (text, _) = replies_to(rt.alloc(), good.as_slice())?;
-    assert_eq!(rt; text.as_slice(), b"ok 4\nok\nok 1\n".as_slice());
+    same!(rt; text.as_slice(), b"ok 4\nok\nok 1\n".as_slice());
     Ok(())
 }
 
@@ -83,7 +84,7 @@ fn refuses_long_lines(rt: HostRuntime) -> Result<(), Fail> {
             input.extend_from_slice(b"\nnr 7\n")?;
         }
         let (text, _) = replies_to(alloc, input.as_slice())?;
-        assert_eq!(rt; text.as_slice(), want, "at {len}");
+        same!(rt; text.as_slice(), want, "at {len}");
     }
     Ok(())
 }
@@ -100,12 +101,12 @@ fn answers_what_ended_before_a_read_fails(rt: HostRuntime) -> Result<(), Fail> {
         let mut text = Vec::new(alloc);
         let mut sample = Sample { calls: 0 };
         let result = run_lines(alloc, &mut reader, &mut text, &mut sample);
-        assert_eq!(rt; result, Err(RunFault::Read), "at {reads}");
+        same!(rt; result, Err(RunFault::Read), "at {reads}");
         let read = SCRIPT.len() - reader.rest.len().min(SCRIPT.len());
         let ended = SCRIPT[..read].iter().filter(|b| **b == b'\n').count();
-        assert_eq!(rt; sample.calls, ended as u64, "at {reads}");
-        assert!(rt; REPLIES.starts_with(text.as_slice()), "at {reads}");
-        assert!(rt; ended == 0 || text.ends_with(b"\n"), "at {reads}");
+        same!(rt; sample.calls, ended as u64, "at {reads}");
+        same!(rt; REPLIES.starts_with(text.as_slice()), true, "at {reads}");
+        same!(rt; ended == 0 || text.ends_with(b"\n"), true, "at {reads}");
     }
     Ok(())
 }
@@ -122,9 +123,9 @@ fn writes_a_front_before_a_write_fails(rt: HostRuntime) -> Result<(), Fail> {
         };
         let mut sample = Sample { calls: 0 };
         let result = run_lines(alloc, &mut rest, &mut writer, &mut sample);
-        assert_eq!(rt; result, Err(RunFault::Write), "at {writes}");
-        assert_eq!(rt; writer.text.len() as u64, 5 * writes);
-        assert!(rt; REPLIES.starts_with(writer.text.as_slice()), "at {writes}");
+        same!(rt; result, Err(RunFault::Write), "at {writes}");
+        same!(rt; writer.text.len() as u64, 5 * writes);
+        same!(rt; REPLIES.starts_with(writer.text.as_slice()), true, "at {writes}");
     }
     Ok(())
 }
@@ -134,7 +135,7 @@ fn runs_over_a_sure_writer(rt: HostRuntime) -> Result<(), Fail> {
     let mut rest = SCRIPT;
     let mut sample = Sample { calls: 0 };
     let count = run_lines(rt.alloc(), &mut rest, &mut Nowhere, &mut sample)?;
-    assert_eq!(rt; count, 11);
+    same!(rt; count, 11);
     Ok(())
 }
 
@@ -157,8 +158,8 @@ fn all_replies_are_written_before_the_next_read(rt: HostRuntime) -> Result<(), F
     let mut replies = Counter { written: &written };
     let mut sample = Sample { calls: 0 };
     let count = run_lines(rt.alloc(), &mut client, &mut replies, &mut sample)?;
-    assert_eq!(rt; count, 7);
+    same!(rt; count, 7);
     assert!(rt; !client.hangs);
-    assert_eq!(rt; written.get(), 57);
+    same!(rt; written.get(), 57);
     Ok(())
 }

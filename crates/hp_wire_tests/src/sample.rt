@@ -1,4 +1,7 @@
 //! A small service.
+ghost use Rattle.hp_model.specs.machine.Told.{told_reply};
+ghost use Rattle.hp_model.specs.text.Writing.{IsWithinLimits};
+
 use hp_model::answer::{Counts, NodeCount, Reply};
 use hp_model::refusal::Refusal;
 use hp_model::service::{Access, Service};
@@ -11,22 +14,10 @@ pub struct Sample {
     pub calls: u64,
 }
 
-impl Service for Sample {
-    ghost may_answer = { λ old step reply new. Unit {0} };
-
-    ghost page = { λ sample. 1024 };
-
-    ghost is_ready = { λ sample. Unit {0} };
-
-    fn call(&mut self, step: &Step) -> Reply {
-        let mut room = [0u8; 256];
-        match self.answer(step, &mut room) {
-            Ok(told) => Ok(told.into_answer()),
-            Err(refusal) => Err(refusal),
-        }
-    }
-
-    fn answer<'a>(&mut self, step: &Step, _room: &'a mut [u8]) -> Result<Told<'a>, Refusal> {
+impl Sample {
+    fn told(&mut self, step: &Step<'_>) -> Result<Told<'static>, Refusal>
+        ensures { IsWithinLimits (told_reply result) }
+    {
         self.calls = self.calls.saturating_add(1);
         match step {
             Step::Nr { pages } => Ok(Told::Number(*pages)),
@@ -63,6 +54,30 @@ impl Service for Sample {
             }),
             _ => Err(Refusal::NoSuchSlot),
         }
+    }
+}
+
+impl Service for Sample {
+    ghost may_answer = { λ old step reply new. Unit {0} };
+
+    ghost page = { λ sample. 1024 };
+
+    ghost is_ready = { λ sample. Unit {0} };
+
+    fn call(&mut self, step: &Step<'_>) -> Reply {
+        match self.told(step) {
+            Ok(told) => Ok(told.into_answer()),
+            Err(refusal) => Err(refusal),
+        }
+    }
+
+    fn answer<'a>(
+        &mut self,
+        step: &Step<'_>,
+        _room: &'a mut [u8],
+        reply: &mut Result<Told<'a>, Refusal>,
+    ) {
+        *reply = self.told(step);
     }
 
     fn load<'a>(

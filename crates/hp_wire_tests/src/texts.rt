@@ -1,5 +1,6 @@
 //! A line read, and a reply written.
 
+use crate::same::same;
 use hp_model::bytes::Bytes;
 use hp_model::names::Names;
 use hp_model::step::Step;
@@ -17,13 +18,14 @@ fn writes_names(rt: HostRuntime) -> Result<(), Fail> {
     let mut out = Vec::with_capacity(alloc, LONGEST)?;
     let reply = Ok(Told::Names(Names::new(names)));
     line_of_reply(1024, &reply, &mut out);
-    assert_eq!(rt; out.as_slice(), b"text 2\na.b\nC-1\n".as_slice());
+    same!(rt; out.as_slice(), b"text 2\na.b\nC-1\n".as_slice());
     Ok(())
 }
 
 #[test]
 fn reads_a_step(rt: HostRuntime) -> Result<(), Fail> {
-    let step = step_of_line(rt.alloc(), b"fork 1 20");
+    let mut room = [0u8; 512];
+    let step = step_of_line(b"fork 1 20", &mut room);
     let is_fork = matches!(
         step,
         Ok(Step::Fork {

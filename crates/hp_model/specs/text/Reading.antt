@@ -1,8 +1,8 @@
 -- The step that a line reads as.
-use Rattle.std.specs.Prelude.{ℕ, List, Result, Ok, Err, codes, ◌≡◌, ◌⊎◌, IfOk, IsOk, if◌then◌else◌}
+use Rattle.std.specs.Prelude.{ℕ, List, Result, Ok, Err, codes, if◌then◌else◌}
 use Rattle.std.specs.Str.{bytes_eq}
 use Rattle.hp_model.specs.declared.refusal.Refusal.{Refusal}
-use Rattle.hp_model.specs.declared.refusal.Refusal.TheVariants.{BadLine, OutOfMemory}
+use Rattle.hp_model.specs.declared.refusal.Refusal.TheVariants.{BadLine}
 use Rattle.hp_model.specs.declared.step.Step.{Step}
 use Rattle.hp_model.specs.declared.step.Step.TheVariants as step
 use Rattle.hp_model.specs.text.Lines.{Line}
@@ -258,7 +258,3 @@ CarriesBytes (step.Stat slot name) = Unit {0}
 CarriesBytes (step.Map task slot name from pages sharing reserving) = Unit {0}
 CarriesBytes (step.Store task slot map index offset bytes) = Unit {0}
 CarriesBytes other = ⊥
-
--- what was read is what the line reads as, or the step carries bytes for which there was no memory
-abbrev pub IsReadAs : Result Step Refusal → Result Step Refusal → Type 0
-IsReadAs read line = (read ≡ line) ⊎ (IfOk line CarriesBytes × IsOk line × (read ≡ Err OutOfMemory))

@@ -2,11 +2,14 @@
 ghost use Rattle.std.specs.Prelude.{◌≡◌, ◌++◌, ◌^◌, ◌+◌, ◌≤◌, ℕ, length, IfOk};
 ghost use Rattle.hp_store.specs.Store.{holders_of, page_at};
 ghost use Rattle.hp_mount_files.specs.Dropping.{HasHolders};
-ghost use Rattle.hp_mount_files.specs.Forking.{HasRoom, IsReady, IsSharing, in_list, list_copies, with_list};
+ghost use Rattle.hp_mount_files.specs.Forking.{HasRoom, IsNoted, IsReady, IsSharing, in_list, list_copies, maps_named, maps_of, with_list};
 ghost use Rattle.hp_mount_files.specs.Held.{more_in};
 
 use super::File;
+use crate::files::MapPlace;
 use crate::forking::{children, share_all};
+use crate::hints::Hints;
+use crate::map_tag::MapTag;
 use crate::tags::Tags;
 use hp_mapping::Mapping;
 use hp_model::naming::Naming;
@@ -53,5 +56,22 @@ impl File {
         list.append(&mut self.parts.maps).unwrap();
         list.rotate_left(added);
         self.parts.maps = list;
+    }
+    /// The file stands at a place: notes where a task's maps stand, and their tags. There is room for them. Takes a step for
+    /// each map.
+    pub(crate) fn note_maps(&self, task: u64, file: usize, hints: &mut Hints)
+        requires { maps_of task self.now ≤ hints.old.room }
+        ensures { IsNoted task hints.old hints.new (maps_of task self.now) (λ n. maps_named task n self.now) }
+    {
+        for (map, mapping) in self.parts.maps.iter().enumerate() {
+            if mapping.task() == task {
+                let tag = MapTag {
+                    at: MapPlace { file, map },
+                    file: self.tag,
+                    map: mapping.tag(),
+                };
+                hints.note_map(task, mapping.number(), tag).unwrap();
+            }
+        }
     }
 }

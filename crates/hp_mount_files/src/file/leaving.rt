@@ -10,10 +10,8 @@ ghost use Rattle.hp_mount_files.specs.Leaving.{IsMoreButTask, cut_at, emptied, f
 
 use super::File;
 use crate::departed::Departed;
-use crate::dropping::{drop_places, end_maps_of, leave_range};
-use crate::files::MapPlace;
+use crate::dropping::{drop_map, end_maps_of, leave_range};
 use crate::hints::Hints;
-use crate::map_tag::MapTag;
 use hp_model::naming::Naming;
 use hp_store::PageStore;
 
@@ -82,7 +80,7 @@ impl File {
         }
     }
 
-    // A map goes, with its copies. Answers how many reservations went. It takes a step for each place of its range.
+    // A map goes, with its copies. Answers how many reservations went. It takes a step for each copy.
     fn end_map<N: Naming>(&mut self, map: usize, store: &mut PageStore<N>, more: &mut usize) -> u64
         requires within { map < length self.old.maps }
         requires held { (n : ℕ) → in_file n self.old ≤ holders_of (page_at store.old n) }
@@ -95,7 +93,7 @@ impl File {
         ensures reserves { result + file_owed self.new ≡ file_owed self.old }
     {
         let gone = self.parts.maps.remove(map);
-        drop_places(gone.places(), store, more);
+        drop_map(&gone, store, more);
         gone.reserve_count()
     }
 
@@ -165,22 +163,5 @@ impl File {
         ensures { self.new ≡ record self.old { maps = remove self.old.maps map } }
     {
         let _gone = self.parts.maps.remove(map);
-    }
-
-    /// The file stands at a place: notes where a task's maps stand, and their tags, where they were noted. Takes a step for
-    /// each map.
-    pub(crate) fn retag_maps(&self, task: u64, file: usize, hints: &mut Hints)
-        ensures { hints.new ≡ hints.old }
-    {
-        for (map, mapping) in self.parts.maps.iter().enumerate() {
-            if mapping.task() == task {
-                let tag = MapTag {
-                    at: MapPlace { file, map },
-                    file: self.tag,
-                    map: mapping.tag(),
-                };
-                hints.retag_map(task, mapping.number(), tag);
-            }
-        }
     }
 }

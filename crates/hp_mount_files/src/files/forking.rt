@@ -3,7 +3,7 @@ ghost use Rattle.std.specs.Prelude.{◌≡◌, ◌^◌, ◌+◌, ◌-◌, ◌<�
 ghost use Rattle.std.specs.List.{count_by, filter, sum_by};
 ghost use Rattle.hp_store.specs.Store.{holders_of, page_at};
 ghost use Rattle.hp_mount_files.specs.Dropping.{HasHolders, IsLeft};
-ghost use Rattle.hp_mount_files.specs.Forking.{AreReady, HaveRoom, IsSharing, in_lists, joined, list_copies};
+ghost use Rattle.hp_mount_files.specs.Forking.{AreReady, HaveRoom, IsNoted, IsSharing, in_lists, joined, list_copies, maps_named, maps_of};
 ghost use Rattle.hp_mount_files.specs.Held.{more_in};
 ghost use Rattle.hp_mount_files.specs.Leaving.{map_sum};
 ghost use Rattle.hp_mount_files.specs.Places.{all_maps};
@@ -13,7 +13,7 @@ ghost use Rattle.hp_model.specs.files.Mapping.{is_of};
 ghost use Rattle.hp_model.specs.files.MountCounts.{file_reserves};
 
 use super::Files;
-use super::leaving::drop_maps_of;
+use super::leaving::drop_some_maps_of;
 use crate::file::File;
 use crate::forking::copies_of;
 use crate::hints::Hints;
@@ -76,12 +76,14 @@ fn join_all<N: Naming>(
     }
 }
 
-// Notes again where a task's maps stand, and their tags.
-fn retag_maps(task: u64, files: &[File], hints: &mut Hints)
-    ensures { hints.new ≡ hints.old }
+// Notes where a task's maps stand, and their tags. There is room for them.
+fn note_maps(task: u64, files: &[File], hints: &mut Hints)
+    requires { sum_by (maps_of task) files.now ≤ hints.old.room }
+    ensures { IsNoted task hints.old hints.new (sum_by (maps_of task) files.now)
+        (λ n. sum_by (maps_named task n) files.now) }
 {
     for (at, file) in files.iter().enumerate() {
-        file.retag_maps(task, at, hints);
+        file.note_maps(task, at, hints);
     }
 }
 
@@ -112,13 +114,15 @@ impl<N: Naming> Files<N> {
         ensures more { OnErr result (self.old.room ≤ self.new.room) }
     {
         let lists = children(&self.list, self.alloc, &mut self.tags, parent, child)?;
-        let hints = self.hints.forked(self.alloc, parent, child)?;
+        let count = self.counts.count(parent);
+        self.hints.reserve(count)?;
         self.counts.make_room()?;
         let room = held.saturating_add(all_copies(&lists));
         let all = room.saturating_add(self.more as u64);
         self.store.make_room(all as usize)?;
-        let gone = drop_maps_of(
+        let gone = drop_some_maps_of(
             child,
+            self.counts.count(child),
             &mut self.list,
             &mut self.hints,
             &mut self.store,
@@ -126,9 +130,7 @@ impl<N: Naming> Files<N> {
         );
         join_all(&mut self.list, lists, &mut self.store, &mut self.more);
         self.list.retain(|f| f.is_used());
-        self.hints.take_maps(hints);
-        retag_maps(child, &self.list, &mut self.hints);
-        let count = self.counts.count(parent);
+        note_maps(child, &self.list, &mut self.hints);
         self.maps -= gone.maps;
         self.maps += count;
         self.counts.set(child, count);

@@ -1,6 +1,6 @@
 //! Maps that leave the files.
-ghost use Rattle.std.specs.Prelude.{◌≡◌, ◌^◌, ◌+◌, ◌<◌, ◌≤◌, ℕ, [], length, map, IfNone, IfSome};
-ghost use Rattle.std.specs.List.{filter, sum_by};
+ghost use Rattle.std.specs.Prelude.{◌≡◌, ◌^◌, ◌+◌, ◌<◌, ◌≤◌, ℕ, [], length, map, true, IfNone, IfSome};
+ghost use Rattle.std.specs.List.{All, filter, sum_by};
 ghost use Rattle.hp_model.specs.files.GiveBack.{file_unmapped, file_without, is_kept};
 ghost use Rattle.hp_model.specs.files.Mapping.{is_map};
 ghost use Rattle.hp_model.specs.files.MountCounts.{file_reserves};
@@ -8,6 +8,7 @@ ghost use Rattle.hp_store.specs.Store.{holders_of, page_at};
 ghost use Rattle.hp_mount_files.specs.Dropping.{HasHolders, IsDropping, IsLeft};
 ghost use Rattle.hp_mount_files.specs.Places.{IsFirstTask, IsFound, all_maps};
 ghost use Rattle.hp_mount_files.specs.Held.{in_files, more_in};
+ghost use Rattle.hp_mount_files.specs.Keyed.{is_listed, labels_of, maps_for};
 ghost use Rattle.hp_mount_files.specs.Leaving.{IsMoreButTask, emptied, file_owed, left_by, map_sum, swept_at};
 
 use super::{Files, MapPlace};
@@ -49,6 +50,39 @@ pub(super) fn drop_maps_of<N: Naming>(
         reserves += gone.reserves;
     }
     Departed { maps, reserves }
+}
+
+// The same for a task that has so many maps. No file is walked where it has none.
+pub(super) fn drop_some_maps_of<N: Naming>(
+    task: u64,
+    count: u64,
+    files: &mut [File],
+    hints: &mut Hints,
+    store: &mut PageStore<N>,
+    more: &mut usize,
+) -> Departed
+    requires count { count ≡ sum_by (maps_for task) (labels_of files.old) }
+    requires listed { All (λ label. is_listed label ≡ true) (labels_of files.old) }
+    requires held { (n : ℕ) → in_files n files.old ≤ holders_of (page_at store.old n) }
+    requires some { HasHolders store.old }
+    requires counted { more.old ≡ more_in store.old.pages }
+    requires few { sum_by file_owed files.old < 2 ^ 64 }
+    requires few_maps { map_sum files.old < 2 ^ 64 }
+    ensures files { files.new ≡ map (λ f. emptied (left_by task f)) files.old }
+    ensures dropping { IsDropping (λ n. in_files n files.old) (λ n. in_files n files.new)
+        store.old store.new }
+    ensures counted { more.new ≡ more_in store.new.pages }
+    ensures reserves { result.reserves + sum_by file_owed files.new ≡ sum_by file_owed files.old }
+    ensures maps { result.maps + map_sum files.new ≡ map_sum files.old }
+    ensures hints { IsMoreButTask task hints.old hints.new }
+{
+    if count == 0 {
+        return Departed {
+            maps: 0,
+            reserves: 0,
+        };
+    }
+    drop_maps_of(task, files, hints, store, more)
 }
 
 // A file without name and maps goes, with its pages and entries, and those behind it move down. Answers how many of its

@@ -15,7 +15,7 @@ ghost use Rattle.hp_system.specs.Event.{AreExited, AreForked, DoesOfTask, DoesOn
 ghost use Rattle.hp_system.specs.Kept.{IsReady};
 
 use super::System;
-use hp_model::bytes::Bytes;
+use hp_model::lent::Lent;
 use hp_model::limits::Limits;
 use hp_model::naming::Naming;
 use hp_model::refusal::Refusal;
@@ -28,7 +28,7 @@ use std::mem;
 impl<N: Naming> System<N> {
     // The limits that a mount's options mean at this moment: sizes in percent are of nr
     // (`admin-guide/mm/hugetlbpage.rst`). Refused as BadOption or MinOverSize.
-    fn limits(&self, options: &Bytes) -> Result<Limits, Refusal>
+    fn limits(&self, options: &Lent<'_>) -> Result<Limits, Refusal>
         ensures { result ≡ limits self.now.state.nr self.now.state.page_size
             (wanted_of options.now) }
     {
@@ -46,7 +46,7 @@ impl<N: Naming> System<N> {
     // - NoPages: with the minimum more pages would be committed than nr and overcommit together, or
     //   than all frames.
     #[inline(never)]
-    pub(crate) fn mount(&mut self, slot: u64, options: &Bytes) -> Result<(), Refusal>
+    pub(crate) fn mount(&mut self, slot: u64, options: &Lent<'_>) -> Result<(), Refusal>
         requires ready { IsReady self.old }
         ensures done { DoesOnSlot self.old.state slot (Mounting options.now)
             (done_reply result) self.new.state }
@@ -108,34 +108,37 @@ impl<N: Naming> System<N> {
 
     // What a step asks of the mount of a slot, for a task with that home node. Refused as NoSuchSlot
     // where there is no such slot or it is not mounted, and else as the mount refuses it; then
-    // nothing changes. Bytes are answered in the front of the room.
+    // nothing changes. The reply is put in its place, and bytes in the front of the room.
     pub(crate) fn on_slot<'a>(
         &mut self,
         slot: u64,
         home: u64,
-        event: MountEvent<'_>,
+        event: &MountEvent<'_>,
         room: &'a mut [u8],
-    ) -> Result<Told<'a>, Refusal>
+        reply: &mut Result<Told<'a>, Refusal>,
+    )
         requires ready { IsReady self.old }
         requires room { 256 ≤ length room.old }
-        ensures done { DoesOnSlot self.old.state slot (event_of home event.entry)
-            (told_reply result) self.new.state }
-        ensures memory { asks_memory (slot_at self.old.state slot) (event_of home event.entry)
-            ≡ false → told_reply result ≢ Err Refusal.OutOfMemory }
-        ensures limits { is_usage (event_of home event.entry) ≡ true
-            → IsWithinLimits (told_reply result) }
+        ensures done { DoesOnSlot self.old.state slot (event_of home event.now)
+            (told_reply reply.new) self.new.state }
+        ensures memory { asks_memory (slot_at self.old.state slot) (event_of home event.now)
+            ≡ false → told_reply reply.new ≢ Err Refusal.OutOfMemory }
+        ensures limits { is_usage (event_of home event.now) ≡ true
+            → IsWithinLimits (told_reply reply.new) }
         ensures size { self.new.state.page_size ≡ self.old.state.page_size }
         ensures ready { IsReady self.new }
     {
         let page_bytes = self.page_bytes();
         let at = slot as usize;
         if at >= self.slots.len() {
-            return Err(Refusal::NoSuchSlot);
+            *reply = Err(Refusal::NoSuchSlot);
+            return;
         }
         let Some(mount) = &mut self.slots[at] else {
-            return Err(Refusal::NoSuchSlot);
+            *reply = Err(Refusal::NoSuchSlot);
+            return;
         };
-        mount.apply(&mut self.pool, page_bytes, home, event, room)
+        *reply = mount.apply(&mut self.pool, page_bytes, home, *event, room);
     }
 
     // The same for a task. Refused as NoSuchTask where it is not there.
@@ -143,21 +146,22 @@ impl<N: Naming> System<N> {
         &mut self,
         task: u64,
         slot: u64,
-        event: MountEvent<'_>,
+        event: &MountEvent<'_>,
         room: &'a mut [u8],
-    ) -> Result<Told<'a>, Refusal>
+        reply: &mut Result<Told<'a>, Refusal>,
+    )
         requires ready { IsReady self.old }
         requires room { 256 ≤ length room.old }
-        ensures done { DoesOfTask self.old.state task slot (λ home. event_of home event.entry)
-            (told_reply result) self.new.state }
-        ensures memory { asks_memory (slot_at self.old.state slot) (event_of 0 event.entry) ≡ false
-            → told_reply result ≢ Err Refusal.OutOfMemory }
+        ensures done { DoesOfTask self.old.state task slot (λ home. event_of home event.now)
+            (told_reply reply.new) self.new.state }
+        ensures memory { asks_memory (slot_at self.old.state slot) (event_of 0 event.now) ≡ false
+            → told_reply reply.new ≢ Err Refusal.OutOfMemory }
         ensures size { self.new.state.page_size ≡ self.old.state.page_size }
         ensures ready { IsReady self.new }
     {
         match self.table.home(task) {
-            Some(home) => self.on_slot(slot, home, event, room),
-            None => Err(Refusal::NoSuchTask),
+            Some(home) => self.on_slot(slot, home, event, room, reply),
+            None => *reply = Err(Refusal::NoSuchTask),
         }
     }
 

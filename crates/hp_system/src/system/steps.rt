@@ -2,7 +2,7 @@
 ghost use Rattle.std.specs.Prelude.{◌≡◌, ◌≢◌, ◌≤◌, true, false, length, Err, IfOk, Ok, OnErr};
 ghost use Rattle.hp_model.specs.declared.answer.Answer.TheVariants.{Number, Numbers};
 ghost use Rattle.hp_model.specs.declared.refusal.Refusal.TheVariants as Refusal;
-ghost use Rattle.hp_model.specs.declared.step.Step.TheVariants.{Attach, Connect, Exit, Fork, Map as MapStep, Nr, Overcommit, Meminfo, Nodes};
+ghost use Rattle.hp_model.specs.declared.step.Step.TheVariants.{Attach, Connect, Exit, Fork, Nr, Overcommit, Meminfo, Nodes};
 ghost use Rattle.hp_model.specs.machine.Promises.{is_usage, IsPromised, IsPromisedRun};
 ghost use Rattle.hp_model.specs.machine.Accesses.{done_reply};
 ghost use Rattle.hp_model.specs.machine.Step.{IsStep};
@@ -14,10 +14,9 @@ ghost use Rattle.hp_system.specs.Kept.{IsReady};
 
 use super::System;
 use hp_model::answer::{Counts, NodeCount, Reply};
-use hp_model::bytes::Bytes;
 use hp_model::naming::Naming;
 use hp_model::refusal::Refusal;
-use hp_model::step::{Reserving, Sharing, Step};
+use hp_model::step::Step;
 use hp_model::told::Told;
 use hp_mount::MountEvent;
 use std::alloc::{AllocError, Global};
@@ -185,7 +184,7 @@ impl<N: Naming> System<N> {
     ///
     /// Refused as the step's own function is. Only a step that makes a file, a map or a list of names, a fork, and an
     /// access that nothing backs, can be refused memory.
-    pub fn apply(&mut self, step: &Step) -> Reply
+    pub fn apply(&mut self, step: &Step<'_>) -> Reply
         requires ready { IsReady self.old }
         ensures step { IsStep self.old.state step.now result self.new.state }
         ensures promised { IsPromised self.old.state step.now result self.new.state }
@@ -196,77 +195,98 @@ impl<N: Naming> System<N> {
         ensures ready { IsReady self.new }
     {
         let mut room = [0u8; 256];
-        whole(self.do_step(step, &mut room))
+        let mut reply = Ok(Told::Done);
+        self.do_step(step, &mut room, &mut reply);
+        whole(reply)
     }
 
-    // Maps indices of a file.
+    // The reply of `Nodes`: apart, so that no other step pays for the rows.
+    #[inline(never)]
     #[tactic(auto, unfolding(hp_model::specs::machine::Step::IsStep))]
-    fn map_file<'a>(
-        &mut self,
-        task: u64,
-        slot: u64,
-        name: &Bytes,
-        start: u64,
-        pages: u64,
-        sharing: Sharing,
-        reserving: Reserving,
-        room: &'a mut [u8],
-    ) -> Result<Told<'a>, Refusal>
+    fn tell_nodes(&mut self, reply: &mut Result<Told<'_>, Refusal>)
         requires ready { IsReady self.old }
-        requires room { 256 ≤ length room.old }
-        ensures step { IsStep self.old.state (MapStep task slot name.now start pages sharing reserving)
-            (told_reply result) self.new.state }
+        ensures step { IsStep self.old.state Nodes (told_reply reply.new) self.new.state }
+        ensures memory { told_reply reply.new ≢ Err Refusal.OutOfMemory }
         ensures size { self.new.state.page_size ≡ self.old.state.page_size }
         ensures ready { IsReady self.new }
     {
-        let event = MountEvent::Map {
-            task,
-            name: name.as_slice(),
-            start,
-            pages,
-            sharing,
-            reserving,
-        };
-        self.of_task(task, slot, event, room)
+        *reply = Ok(self.nodes());
     }
 
-    // The step's own function. Bytes are answered in the front of the room.
+    // The reply of `Meminfo`, apart.
+    #[inline(never)]
+    fn tell_meminfo(&mut self, reply: &mut Result<Told<'_>, Refusal>)
+        requires ready { IsReady self.old }
+        ensures step { IsStep self.old.state Meminfo (told_reply reply.new) self.new.state }
+        ensures memory { told_reply reply.new ≢ Err Refusal.OutOfMemory }
+        ensures size { self.new.state.page_size ≡ self.old.state.page_size }
+        ensures ready { IsReady self.new }
+    {
+        *reply = Ok(Told::Numbers(self.meminfo()));
+    }
+
+    // The reply of `Attach`, apart.
+    #[inline(never)]
+    fn tell_home(&mut self, task: u64, reply: &mut Result<Told<'_>, Refusal>)
+        requires ready { IsReady self.old }
+        ensures step { IsStep self.old.state (Attach task) (told_reply reply.new) self.new.state }
+        ensures memory { told_reply reply.new ≢ Err Refusal.OutOfMemory }
+        ensures limits { IsWithinLimits (told_reply reply.new) }
+        ensures size { self.new.state.page_size ≡ self.old.state.page_size }
+        ensures ready { IsReady self.new }
+    {
+        *reply = self.attach(task);
+    }
+
+    // The step's own function. The reply is put in its place, and bytes in the front of the room.
     #[tactic(auto, unfolding(hp_model::specs::machine::Step::IsStep))]
     pub(crate) fn do_step<'a>(
         &mut self,
-        step: &Step,
+        step: &Step<'_>,
         room: &'a mut [u8],
-    ) -> Result<Told<'a>, Refusal>
+        reply: &mut Result<Told<'a>, Refusal>,
+    )
         requires ready { IsReady self.old }
         requires room { 256 ≤ length room.old }
-        ensures step { IsStep self.old.state step.now (told_reply result) self.new.state }
-        ensures usage { is_usage step.now ≡ true → IsWithinLimits (told_reply result) }
+        ensures step { IsStep self.old.state step.now (told_reply reply.new) self.new.state }
+        ensures usage { is_usage step.now ≡ true → IsWithinLimits (told_reply reply.new) }
         ensures memory { takes_memory self.old.state step.now ≡ false
-            → told_reply result ≢ Err Refusal.OutOfMemory }
+            → told_reply reply.new ≢ Err Refusal.OutOfMemory }
         ensures size { self.new.state.page_size ≡ self.old.state.page_size }
         ensures ready { IsReady self.new }
     {
+        // One place for what is asked, in all arms: a place of its own for each would be cleared for every step.
+        let mut event = MountEvent::Ls;
         match step {
-            Step::Connect { task, home } => Told::done(self.connect(*task, *home)),
-            Step::Attach { task } => self.attach(*task),
-            Step::Fork { parent, child } => Told::done(self.fork(*parent, *child)),
-            Step::Exit { task } => Told::done(self.exit(*task)),
-            Step::Mount { slot, options } => Told::done(self.mount(*slot, options)),
-            Step::Umount { slot } => Told::done(self.umount(*slot)),
-            Step::Ls { slot } => self.on_slot(*slot, 0, MountEvent::Ls, room),
-            Step::Df { slot } => self.on_slot(*slot, 0, MountEvent::Usage, room),
+            Step::Connect { task, home } => *reply = Told::done(self.connect(*task, *home)),
+            Step::Attach { task } => self.tell_home(*task, reply),
+            Step::Fork { parent, child } => *reply = Told::done(self.fork(*parent, *child)),
+            Step::Exit { task } => *reply = Told::done(self.exit(*task)),
+            Step::Mount { slot, options } => *reply = Told::done(self.mount(*slot, options)),
+            Step::Umount { slot } => *reply = Told::done(self.umount(*slot)),
+            Step::Ls { slot } => {
+                event = MountEvent::Ls;
+                self.on_slot(*slot, 0, &event, room, reply)
+            }
+            Step::Df { slot } => {
+                event = MountEvent::Usage;
+                self.on_slot(*slot, 0, &event, room, reply)
+            }
             Step::Create { slot, name } => {
                 let name = name.as_slice();
-                self.on_slot(*slot, 0, MountEvent::Create { name }, room)
+                event = MountEvent::Create { name };
+                self.on_slot(*slot, 0, &event, room, reply)
             }
             Step::Unlink { slot, name } => {
                 let name = name.as_slice();
-                self.on_slot(*slot, 0, MountEvent::Unlink { name }, room)
+                event = MountEvent::Unlink { name };
+                self.on_slot(*slot, 0, &event, room, reply)
             }
             Step::Truncate { slot, name, pages } => {
                 let name = name.as_slice();
                 let pages = *pages;
-                self.on_slot(*slot, 0, MountEvent::Truncate { name, pages }, room)
+                event = MountEvent::Truncate { name, pages };
+                self.on_slot(*slot, 0, &event, room, reply)
             }
             Step::Punch {
                 slot,
@@ -274,16 +294,17 @@ impl<N: Naming> System<N> {
                 from,
                 to,
             } => {
-                let event = MountEvent::Punch {
+                event = MountEvent::Punch {
                     name: name.as_slice(),
                     start: *from,
                     end: *to,
                 };
-                self.on_slot(*slot, 0, event, room)
+                self.on_slot(*slot, 0, &event, room, reply)
             }
             Step::Stat { slot, name } => {
                 let name = name.as_slice();
-                self.on_slot(*slot, 0, MountEvent::Stat { name }, room)
+                event = MountEvent::Stat { name };
+                self.on_slot(*slot, 0, &event, room, reply)
             }
             Step::Read {
                 slot,
@@ -292,13 +313,13 @@ impl<N: Naming> System<N> {
                 offset,
                 count,
             } => {
-                let event = MountEvent::Read {
+                event = MountEvent::Read {
                     name: name.as_slice(),
                     index: *index,
                     offset: *offset,
                     count: *count,
                 };
-                self.on_slot(*slot, 0, event, room)
+                self.on_slot(*slot, 0, &event, room, reply)
             }
             Step::Map {
                 task,
@@ -308,22 +329,30 @@ impl<N: Naming> System<N> {
                 pages,
                 sharing,
                 reserving,
-            } => self.map_file(
-                *task, *slot, name, *from, *pages, *sharing, *reserving, room,
-            ),
+            } => {
+                event = MountEvent::Map {
+                    task: *task,
+                    name: name.as_slice(),
+                    start: *from,
+                    pages: *pages,
+                    sharing: *sharing,
+                    reserving: *reserving,
+                };
+                self.of_task(*task, *slot, &event, room, reply)
+            }
             Step::Anon {
                 task,
                 pages,
                 sharing,
                 reserving,
             } => {
-                let event = MountEvent::Anon {
+                event = MountEvent::Anon {
                     task: *task,
                     pages: *pages,
                     sharing: *sharing,
                     reserving: *reserving,
                 };
-                self.of_task(*task, 0, event, room)
+                self.of_task(*task, 0, &event, room, reply)
             }
             Step::Unmap {
                 task,
@@ -332,13 +361,13 @@ impl<N: Naming> System<N> {
                 from,
                 to,
             } => {
-                let event = MountEvent::Unmap {
+                event = MountEvent::Unmap {
                     task: *task,
                     map: *map,
                     start: *from,
                     end: *to,
                 };
-                self.of_task(*task, *slot, event, room)
+                self.of_task(*task, *slot, &event, room, reply)
             }
             Step::Fault {
                 task,
@@ -347,13 +376,13 @@ impl<N: Naming> System<N> {
                 index,
                 intent,
             } => {
-                let event = MountEvent::Fault {
+                event = MountEvent::Fault {
                     task: *task,
                     map: *map,
                     index: *index,
                     intent: *intent,
                 };
-                self.of_task(*task, *slot, event, room)
+                self.of_task(*task, *slot, &event, room, reply)
             }
             Step::Load {
                 task,
@@ -363,14 +392,14 @@ impl<N: Naming> System<N> {
                 offset,
                 count,
             } => {
-                let event = MountEvent::Load {
+                event = MountEvent::Load {
                     task: *task,
                     map: *map,
                     index: *index,
                     offset: *offset,
                     count: *count,
                 };
-                self.of_task(*task, *slot, event, room)
+                self.of_task(*task, *slot, &event, room, reply)
             }
             Step::Store {
                 task,
@@ -380,25 +409,25 @@ impl<N: Naming> System<N> {
                 offset,
                 bytes,
             } => {
-                let event = MountEvent::Store {
+                event = MountEvent::Store {
                     task: *task,
                     map: *map,
                     index: *index,
                     offset: *offset,
                     bytes: bytes.as_slice(),
                 };
-                self.of_task(*task, *slot, event, room)
+                self.of_task(*task, *slot, &event, room, reply)
             }
-            Step::Nr { pages } => Ok(Told::Number(self.set_nr(*pages))),
-            Step::Overcommit { pages } => Told::done(self.set_overcommit(*pages)),
-            Step::Meminfo => Ok(Told::Numbers(self.meminfo())),
-            Step::Nodes => Ok(self.nodes()),
+            Step::Nr { pages } => *reply = Ok(Told::Number(self.set_nr(*pages))),
+            Step::Overcommit { pages } => *reply = Told::done(self.set_overcommit(*pages)),
+            Step::Meminfo => self.tell_meminfo(reply),
+            Step::Nodes => self.tell_nodes(reply),
         }
     }
 
     /// Does steps one after another, and answers their replies, each as `apply` promises. Room for the
     /// replies is made first: where it is refused, nothing is done.
-    pub fn run(&mut self, alloc: Global, steps: &[Step]) -> Result<Vec<Reply>, AllocError>
+    pub fn run(&mut self, alloc: Global, steps: &[Step<'_>]) -> Result<Vec<Reply>, AllocError>
         requires ready { IsReady self.old }
         ensures run { IfOk result (λ replies. IsPromisedRun self.old.state steps.now
             replies.items self.new.state) }

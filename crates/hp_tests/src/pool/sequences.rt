@@ -4,6 +4,7 @@ ghost use Rattle.hp_model.specs.pool.PoolCounts.{IsSettled};
 ghost use Rattle.hp_pool.specs.Ledgers.{AreLedgers};
 
 use super::{is_refused, shows};
+use crate::same::same;
 use hp_model::naming::Naming;
 use hp_nodes::Page;
 use hp_permit::Permit;
@@ -16,7 +17,7 @@ fn sets_nr<N: Naming, R: Abort>(rt: &R, pool: &mut Pool<N>, n: u64, nr: u64)
     requires { IsSettled pool.old }
     ensures { IsSettled pool.new }
 {
-    assert_eq!(rt; pool.set_nr(n), nr);
+    same!(rt; pool.set_nr(n), nr);
 }
 
 fn sets_overcommit<N: Naming>(pool: &mut Pool<N>, n: u64)

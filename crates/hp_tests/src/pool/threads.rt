@@ -2,6 +2,7 @@
 ghost use Rattle.std.specs.Prelude.{◌≡◌, IfSome};
 ghost use Rattle.hp_pool.specs.Ledgers.{AreLedgers};
 
+use crate::same::same;
 use hp_model::naming::Naming;
 use hp_nodes::Page;
 use hp_permit::Permit;
@@ -141,12 +142,12 @@ fn run<N: Naming + Send + Sync, R: Threads + Wait + Abort + Sync>(
         None => {}
     }
     let now = pool.counts();
-    assert_eq!(rt; [now.total, now.free, now.rsvd, now.surp], [4, 4, 4, 0]);
-    assert_eq!(rt; permit.amount(), 4);
+    same!(rt; [now.total, now.free, now.rsvd, now.surp], [4, 4, 4, 0]);
+    same!(rt; permit.amount(), 4);
     pool.release(permit);
     pool.settle();
     let now = pool.close();
-    assert_eq!(rt; [now.total, now.free, now.rsvd, now.surp], [4, 4, 0, 0]);
+    same!(rt; [now.total, now.free, now.rsvd, now.surp], [4, 4, 0, 0]);
 }
 
 #[test]

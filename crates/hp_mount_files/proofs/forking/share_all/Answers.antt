@@ -1,38 +1,35 @@
-use Rattle.std.proofs.Common.{◌≡◌, ◌+◌, ◌-◌, ℕ, drop, ap, arith}
-use Rattle.std.specs.List.{count_by, sum_by}
-use Rattle.hp_mapping.specs.Mapped.{has_copy}
+use Rattle.std.proofs.Common.{◌≡◌, ◌+◌, ◌-◌, ℕ, drop, arith}
+use Rattle.std.specs.List.{sum_by}
 use Rattle.hp_mount_files.specs.Forking.{IsSharing, copies_in}
-use Rattle.hp_mount_files.specs.Held.{in_map, in_place}
+use Rattle.hp_mount_files.specs.Held.{in_map}
 use Rattle.hp_mount_files.proofs.Sharing.{share_none, share_then, sum_end, sum_read}
 use Rattle.hp_mount_files.proofs.forking.share_all.Goals as goal
 
-pub share_places-requires-clause-held : goal.share_places-requires-clause-held
-share_places-requires-clause-held g c n =
+pub share_map-requires-clause-held : goal.share_map-requires-clause-held
+share_map-requires-clause-held g c n =
     let was = c.loop-map in
     let sharing : IsSharing (λ n. sum_by (in_map n) c.args.maps.now - sum_by (in_map n) (drop was.map-index c.args.maps.now)) c.args.store.now was.store = was.invariant.sharing in
     let step = sum_read (in_map n) c.args.maps.now was.map-index c.map-item.result c.loop-map-test.true c.map-item.is in
     let less = was.invariant.less n in
     let held = sharing.held n in
     let all = c.requires.held n in
-    let its = ap (sum_by (in_place n)) c.places.ensures in
-    omega (arith, step, less, held, all, its)
+    omega (arith, step, less, held, all)
 
-pub share_places-requires-clause-some : goal.share_places-requires-clause-some
-share_places-requires-clause-some g c =
+pub share_map-requires-clause-some : goal.share_map-requires-clause-some
+share_map-requires-clause-some g c =
     let was = c.loop-map in
     let sharing : IsSharing (λ n. sum_by (in_map n) c.args.maps.now - sum_by (in_map n) (drop was.map-index c.args.maps.now)) c.args.store.now was.store = was.invariant.sharing in
     sharing.some
 
-pub share_places-requires-clause-counted : goal.share_places-requires-clause-counted
-share_places-requires-clause-counted g c = c.loop-map.invariant.counted
+pub share_map-requires-clause-counted : goal.share_map-requires-clause-counted
+share_map-requires-clause-counted g c = c.loop-map.invariant.counted
 
-pub share_places-requires-clause-few : goal.share_places-requires-clause-few
-share_places-requires-clause-few g c =
+pub share_map-requires-clause-few : goal.share_map-requires-clause-few
+share_map-requires-clause-few g c =
     let was = c.loop-map in
     let step = sum_read copies_in c.args.maps.now was.map-index c.map-item.result c.loop-map-test.true c.map-item.is in
     let more = was.invariant.more in
-    let its = ap (count_by has_copy) c.places.ensures in
-    omega (arith, step, more, its, c.requires.few)
+    omega (arith, step, more, c.requires.few)
 
 pub loop-map-init : goal.loop-map-init
 loop-map-init g c = record {
@@ -51,11 +48,11 @@ loop-map-preserved g c =
     let more = was.invariant.more in
     let each : (n : ℕ) → sum_by (in_map n) (drop i c.args.maps.now) ≡ in_map n m + sum_by (in_map n) (drop (i + 1) c.args.maps.now) = λ n. sum_read (in_map n) c.args.maps.now i m c.loop-map-test.true c.map-item.is in
     record {
-      sharing = share_then (λ n. sum_by (in_map n) c.args.maps.now - sum_by (in_map n) (drop i c.args.maps.now)) (λ n. sum_by (in_place n) c.places.result.now) (λ n. sum_by (in_map n) c.args.maps.now - sum_by (in_map n) (drop (i + 1) c.args.maps.now)) c.args.store.now was.store c.share_places.new.store was.invariant.sharing c.share_places.ensures.sharing
-          (λ n. (let here = each n in let less = was.invariant.less n in let its = ap (sum_by (in_place n)) c.places.ensures in omega (arith, here, less, its)));
+      sharing = share_then (λ n. sum_by (in_map n) c.args.maps.now - sum_by (in_map n) (drop i c.args.maps.now)) (λ n. in_map n m) (λ n. sum_by (in_map n) c.args.maps.now - sum_by (in_map n) (drop (i + 1) c.args.maps.now)) c.args.store.now was.store c.share_map.new.store was.invariant.sharing c.share_map.ensures.sharing
+          (λ n. (let here = each n in let less = was.invariant.less n in omega (arith, here, less)));
       less = λ n. (let here = each n in let less = was.invariant.less n in omega (arith, here, less));
-      counted = c.share_places.ensures.counted;
-      more = (let its = ap (count_by has_copy) c.places.ensures in omega (arith, step, more, its, c.share_places.ensures.more));
+      counted = c.share_map.ensures.counted;
+      more = omega (arith, step, more, c.share_map.ensures.more);
     }
 
 pub returns-clause-sharing : goal.returns-clause-sharing

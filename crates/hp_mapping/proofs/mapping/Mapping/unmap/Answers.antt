@@ -1,19 +1,38 @@
-use Rattle.std.proofs.Common.{◌≡◌, sym, ap, ◌∙◌}
-use Rattle.hp_mapping.proofs.Ranges.{clear_places, freed_reserves}
+use Rattle.std.proofs.Common.{◌≡◌, true, length, sym, ap, arith, ◌∙◌}
+use Rattle.std.specs.List.{count_by}
+use Rattle.hp_model.specs.declared.place.Place.TheVariants.{Gone}
+use Rattle.hp_model.specs.files.Mapping.{is_unconsumed}
+use Rattle.hp_model.proofs.Editing.{length-edit_range}
+use Rattle.hp_mapping.specs.Mapped.{reserves_of}
+use Rattle.hp_mapping.proofs.Ranges.{clear_places, freed_range, freed_reserves}
 use Rattle.hp_mapping.proofs.mapping.Mapping.unmap.Goals as goal
-use Rattle.hp_mapping.proofs.mapping.Mapping.unmap.Goals.{then-is_owner, else-is_owner}
 
 pub leave_range-freed-requires-clause-clear : goal.leave_range-freed-requires-clause-clear
 leave_range-freed-requires-clause-clear c =
     clear_places c.args.a c.args.b c.offset-from.result c.offset-to.result c.args.self.now c.self.inside.places (ap (λ s. s.places) (sym c.self.view_is)) c.requires.clear c.offset-from.ensures c.offset-to.ensures
 
+pub overflow_sub-self : goal.overflow_sub-self
+overflow_sub-self c =
+    let s = c.self.inside in
+    let whole = c.self.invariant.1 ∙ ap (λ o. reserves_of o s.places) (sym c.if-not-is_owner.ensures) in
+    let parts = freed_range c.offset-from.result c.offset-to.result s.places in
+    omega (arith, whole, parts, c.leave_range-freed.ensures.freed)
+
+pub invariant_of-self-2 : goal.invariant_of-self-2
+invariant_of-self-2 c =
+    let s = c.self.inside in
+    let new = c.leave_range-freed.new.self in
+    let owned = ap (λ o. reserves_of o new) (sym c.if-not-is_owner.ensures) in
+    let whole = c.self.invariant.1 ∙ ap (λ o. reserves_of o s.places) (sym c.if-not-is_owner.ensures) in
+    let parts = freed_range c.offset-from.result c.offset-to.result s.places in
+    let left = ap (count_by is_unconsumed) c.leave_range-freed.ensures.left in
+    let long = ap length c.leave_range-freed.ensures.left ∙ length-edit_range (λ p. Gone) c.offset-from.result c.offset-to.result s.places in
+    let few = c.self.invariant.0 in
+    (omega (arith, long, few), omega (arith, owned, whole, parts, left, c.leave_range-freed.ensures.freed))
+
 pub returns-clause-freed : goal.returns-clause-freed
 returns-clause-freed c =
     let m = c.args.self.now in
     let same : m.places ≡ c.self.inside.places = ap (λ s. s.places) (sym c.self.view_is) in
-    let owner : m.owner ≡ c.is_owner.result = ap (λ s. s.owner) (sym c.self.view_is) ∙ sym c.is_owner.ensures in
-    let reserves = freed_reserves c.args.a c.args.b c.offset-from.result c.offset-to.result m c.self.inside.places c.is_owner.result same owner c.offset-from.ensures c.offset-to.ensures in
-    elim c.if-is_owner.branch [
-      | then-is_owner w ↦ w.result-is ∙ c.leave_range-freed.ensures.freed ∙ sym (rw w.if-is_owner.true at reserves)
-      | else-is_owner w ↦ w.result-is ∙ sym (rw w.if-is_owner.false at reserves)
-    ]
+    let owner = ap (λ s. s.owner) (sym c.self.view_is) ∙ sym c.if-not-is_owner.ensures in
+    c.leave_range-freed.ensures.freed ∙ sym (freed_reserves c.args.a c.args.b c.offset-from.result c.offset-to.result m c.self.inside.places true same owner c.offset-from.ensures c.offset-to.ensures)

@@ -4,7 +4,7 @@ use Rattle.std.proofs.lemmas.List.Sums.{sum_by_push}
 use Rattle.hp_model.specs.files.File.{cell_punched}
 use Rattle.hp_model.specs.files.MountCounts.{is_waiting}
 use Rattle.hp_model.specs.Lists.{edit_range}
-use Rattle.hp_mount_files.specs.Held.{in_cell, in_file, in_map, in_place}
+use Rattle.hp_mount_files.specs.Held.{in_cell, in_file, in_map}
 use Rattle.hp_mount_files.proofs.Cutting.{all_waiting, bare_pages, no_pages}
 use Rattle.hp_mount_files.proofs.Drops.{drop_as, drop_then}
 use Rattle.hp_mount_files.specs.Numbered.{NumberedFile}
@@ -22,27 +22,25 @@ loop-map-init g c =
       c.drop_pages.ensures.counted,
     )
 
-pub drop_places-requires-clause-held : goal.drop_places-requires-clause-held
-drop_places-requires-clause-held g c n =
+pub drop_map-requires-clause-held : goal.drop_map-requires-clause-held
+drop_map-requires-clause-held g c n =
     let was = c.loop-map in
     let had = was.invariant.0.held n in
     let few = c.requires.held n in
     let split = ap (sum_by (in_map n)) c.in-Some.ensures.items ∙ sum_by_push (in_map n) c.pop.new.self.items c.in-Some.map in
-    let its = ap (sum_by (in_place n)) c.places.ensures in
-    omega (arith, had, few, split, its)
+    omega (arith, had, few, split)
 
 pub loop-map-preserved : goal.loop-map-preserved
 loop-map-preserved g c =
     let was = c.loop-map in
     let rest = c.pop.new.self.items in
     let map = c.in-Some.map in (
-      drop_then (λ n. in_file n c.args.self) (λ n. sum_by (in_map n) was.maps.items) (λ n. sum_by (in_place n) c.places.result.now) (λ n. 0) (λ n. in_file n c.args.self) (λ n. sum_by (in_map n) rest)
-          c.args.store.now was.store c.drop_places.new.store was.invariant.0 c.drop_places.ensures.dropping
+      drop_then (λ n. in_file n c.args.self) (λ n. sum_by (in_map n) was.maps.items) (λ n. in_map n c.in-Some.map) (λ n. 0) (λ n. in_file n c.args.self) (λ n. sum_by (in_map n) rest)
+          c.args.store.now was.store c.drop_map.new.store was.invariant.0 c.drop_map.ensures.dropping
           (λ n.
           let split = ap (sum_by (in_map n)) c.in-Some.ensures.items ∙ sum_by_push (in_map n) rest map in
-          let its = ap (sum_by (in_place n)) c.places.ensures in
-          omega (arith, split, its)),
-      c.drop_places.ensures.counted,
+          omega (arith, split)),
+      c.drop_map.ensures.counted,
     )
 
 pub loop-map-preserved-in-Some : goal.loop-map-preserved-in-Some
@@ -50,13 +48,12 @@ loop-map-preserved-in-Some g c =
     let was = c.loop-map in
     let rest = c.pop.new.self.items in
     let map = c.in-Some.map in (
-      drop_then (λ n. in_file n c.args.self) (λ n. sum_by (in_map n) was.maps.items) (λ n. sum_by (in_place n) c.places.result.now) (λ n. 0) (λ n. in_file n c.args.self) (λ n. sum_by (in_map n) rest)
-          c.args.store.now was.store c.drop_places.new.store was.invariant.0 c.drop_places.ensures.dropping
+      drop_then (λ n. in_file n c.args.self) (λ n. sum_by (in_map n) was.maps.items) (λ n. in_map n c.in-Some.map) (λ n. 0) (λ n. in_file n c.args.self) (λ n. sum_by (in_map n) rest)
+          c.args.store.now was.store c.drop_map.new.store was.invariant.0 c.drop_map.ensures.dropping
           (λ n.
           let split = ap (sum_by (in_map n)) c.in-Some.ensures.items ∙ sum_by_push (in_map n) rest map in
-          let its = ap (sum_by (in_place n)) c.places.ensures in
-          omega (arith, split, its)),
-      c.drop_places.ensures.counted,
+          omega (arith, split)),
+      c.drop_map.ensures.counted,
     )
 
 pub drop_entries-requires-clause-pageless : goal.drop_entries-requires-clause-pageless

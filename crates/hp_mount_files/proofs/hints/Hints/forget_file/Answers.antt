@@ -1,6 +1,7 @@
 use Rattle.std.proofs.Common.{◌≡◌, [], Bool, true, false, refl, subst, sym, ◌∙◌, List, ℕ}
 use Rattle.std.specs.Str.{bytes_eq}
 use Rattle.std.proofs.lemmas.Slice.Eq.{bytes_eq-Decides}
+use Rattle.indexmap.specs.IndexMap.{spare}
 use Rattle.hp_mount_files.specs.Hints.{IsMoreBut, Noted, has_name, keys_of, names_of}
 use Rattle.hp_mount_files.proofs.Hinted.{others_stay}
 use Rattle.hp_mount_files.proofs.hints.Hints.forget_file.Goals as goal
@@ -19,11 +20,10 @@ not_both name other key apart own = by (bytes_eq other key) refl
 pub returns : goal.returns
 returns c =
     let new = c.swap_remove-tag.new.self.entries in
-    let maps = c.self.inside.maps.entries in
-    subst (λ (n : Noted). IsMoreBut c.args.name.now n (record { names = names_of new; keys = keys_of maps })) c.self.view_is
+    subst (λ (n : Noted). IsMoreBut c.args.name.now n (record { names = names_of new; keys = keys_of c.self.inside.maps.entries; room = spare c.self.inside.maps })) c.self.view_is
     (record {
       names = λ other apart e.
           others_stay (λ k. k.items) (bytes_eq other) _ (λ k own. not_both c.args.name.now other k.items apart own) c.self.inside.files.entries
-          (subst (λ es. has_name other (record { names = names_of es; keys = [] }) ≡ false) c.swap_remove-tag.ensures.entries e);
+          (subst (λ es. has_name other (record { names = names_of es; keys = []; room = 0 }) ≡ false) c.swap_remove-tag.ensures.entries e);
       keys = λ task number e. e;
     })

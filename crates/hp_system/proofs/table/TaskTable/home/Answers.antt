@@ -1,4 +1,4 @@
-use Rattle.std.proofs.Common.{◌≡◌, ℕ, ◌<◌, Some, length, get_or, ltb-true, sym, subst, ap, ◌∙◌}
+use Rattle.std.proofs.Common.{◌≡◌, ℕ, ◌<◌, Some, length, get_or, ltb-true, sym, subst}
 use Rattle.hp_model.specs.machine.Table.{home_of}
 use Rattle.hp_system.proofs.Tasks.{home_at}
 use Rattle.hp_system.proofs.table.TaskTable.home.Goals as goal

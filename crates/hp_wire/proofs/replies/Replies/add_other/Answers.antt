@@ -1,28 +1,8 @@
-use Rattle.std.proofs.Common.{◌≡◌, length, nat_le, true, false, arith, ap, sym, cond, Ok, Err}
-use Rattle.std.proofs.lemmas.Bool.Decides.{nat_tests}
-use Rattle.hp_model.specs.declared.refusal.Refusal.TheVariants.{LineTooLong}
-use Rattle.hp_model.specs.text.Lines.{Line, ended}
-use Rattle.hp_model.specs.text.Reading.{step_of, step_of_bytes}
-use Rattle.hp_wire.proofs.Added.{as_read, not_read, refused}
+use Rattle.hp_wire.proofs.Added.{as_read, not_read}
 use Rattle.hp_wire.proofs.replies.Replies.add_other.Goals as goal
 
-pub returns-then-line-gt-LINE_LIMIT-clause-answered : goal.returns-then-line-gt-LINE_LIMIT-clause-answered
-returns-then-line-gt-LINE_LIMIT-clause-answered g c =
-    let line = c.args.line.now in
-    let long : nat_le (length line) 1024 ≡ false = grind (arith, nat_tests) in
-    let same : step_of (ended line) ≡ Err LineTooLong = ap (λ b. step_of (cond {A = Line} b (Ok line) (Err LineTooLong))) long in
-    not_read LineTooLong (sym same) c.add_refusal.ensures.text c.add_refusal.ensures.page
-
 pub returns-in-Ok-clause-answered : goal.returns-in-Ok-clause-answered
-returns-in-Ok-clause-answered g c =
-    let line = c.args.line.now in
-    let short : nat_le (length line) 1024 ≡ true = grind (arith, nat_tests) in
-    let same : step_of (ended line) ≡ step_of_bytes line = ap (λ b. step_of (cond {A = Line} b (Ok line) (Err LineTooLong))) short in
-    rw same (as_read c.in-Ok.step (step_of_bytes line) c.in-Ok.ensures c.add_answer.ensures.answered)
+returns-in-Ok-clause-answered g c = as_read c.in-Ok.step c.in-Ok.ensures c.add_answer.ensures.answered
 
 pub returns-in-Err-clause-answered : goal.returns-in-Err-clause-answered
-returns-in-Err-clause-answered g c =
-    let line = c.args.line.now in
-    let short : nat_le (length line) 1024 ≡ true = grind (arith, nat_tests) in
-    let same : step_of (ended line) ≡ step_of_bytes line = ap (λ b. step_of (cond {A = Line} b (Ok line) (Err LineTooLong))) short in
-    rw same (refused c.in-Err.refusal (step_of_bytes line) c.in-Err.ensures c.add_refusal-in-Err.ensures.text c.add_refusal-in-Err.ensures.page)
+returns-in-Err-clause-answered g c = not_read c.in-Err.refusal c.in-Err.ensures c.add_refusal.ensures.text c.add_refusal.ensures.page

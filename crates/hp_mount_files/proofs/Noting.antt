@@ -1,0 +1,56 @@
+-- A task's maps are noted, one after another.
+use Rattle.std.proofs.Common.{◌≡◌, ◌≢◌, ℕ, ◌+◌, ◌≤◌, ◌==◌, ◌&&◌, Bool, true, false, cond, List, [], ◌∷◌, refl, sym, ap, subst, ◌∙◌, arith}
+use Rattle.std.specs.List.{sum_by}
+use Rattle.std.proofs.lemmas.Bool.{eqb-true}
+use Rattle.std.proofs.lemmas.Bool.Decides.{nat_tests}
+use Rattle.std.proofs.lemmas.List.Sums.{sum_by-cons}
+use Rattle.hp_model.specs.files.Mapping.{Mapping, is_map, is_of}
+use Rattle.hp_mount_files.specs.Forking.{IsNoted, maps_named}
+use Rattle.hp_mount_files.specs.Hints.{IsMore, Noted, has_key}
+use Rattle.hp_mount_files.specs.Keyed.{keys_in, label_of, labels_of}
+use Rattle.hp_mount_files.specs.Numbered.{NumberedFile}
+use Rattle.hp_mount_files.proofs.Exiting.{keys_are}
+
+module _ (task : ℕ) where
+  pub noted_none : (n : Noted) → IsNoted task n n 0 (λ q. 0)
+  noted_none n = record { more = record { names = λ name e. e; keys = λ t q e. e }; room = omega arith; noted = λ q e. omega arith }
+
+  pub noted_then : (x y z : ℕ) (f g h : ℕ → ℕ) (old mid new : Noted) → IsNoted task old mid x f → IsNoted task mid new y g → x + y ≡ z → ((q : ℕ) → f q + g q ≡ h q) → IsNoted task old new z h
+  noted_then x y z f g h old mid new first then all each = record {
+    more = record { names = λ name e. first.more.names name (then.more.names name e); keys = λ t q e. first.more.keys t q (then.more.keys t q e) };
+    room = (let one = first.room in let two = then.room in omega (arith, one, two, all));
+    noted = λ q e. (let one = first.noted q (then.more.keys task q e) in let two = then.noted q e in let sum = each q in omega (arith, one, two, sum));
+  }
+
+  module _ (m : Mapping ℕ) (old new : Noted) where
+    pub noted_other : is_of task m ≡ false → new ≡ old → IsNoted task old new (cond (is_of task m) 1 0) (λ q. cond (is_map task q m) 1 0)
+    noted_other other same =
+        noted_then 0 0 (cond (is_of task m) 1 0) (λ q. 0) (λ q. 0) (λ q. cond (is_map task q m) 1 0) old old new (noted_none old) (subst (λ n. IsNoted task old n 0 (λ q. 0)) (sym same) (noted_none old))
+        (ap (λ b. cond {A = ℕ} b 1 0) (sym other)) (λ q. ap (λ b. cond {A = ℕ} (b && (m.number == q)) 1 0) (sym other))
+
+    pub noted_one : is_of task m ≡ true → IsMore old new → old.room ≤ new.room + 1 → has_key task m.number new ≡ true → IsNoted task old new (cond (is_of task m) 1 0) (λ q. cond (is_map task q m) 1 0)
+    noted_one own more room key = record {
+      more = more;
+      room = (let one = ap (λ b. cond {A = ℕ} b 1 0 + 0) own in omega (arith, one, room));
+      noted = λ q e. at q e (m.number == q) refl;
+    }
+      where
+        at : (q : ℕ) → has_key task q new ≡ false → (b : Bool) → (m.number == q) ≡ b → cond {A = ℕ} (is_of task m && b) 1 0 ≡ 0
+        at q e true same = absurd (clash (sym key ∙ ap (λ i. has_key task i new) (eqb-true m.number q same) ∙ e))
+          where
+            clash : true ≡ false → ⊥
+            clash e = cc
+        at q e false other = (let none = ap (λ b. cond {A = ℕ} (b && false) 1 0 + 0) own in omega (arith, none))
+
+  -- as code compares
+  pub task_yes : (m : Mapping ℕ) → m.task ≡ task → is_of task m ≡ true
+  task_yes m e = grind (arith, nat_tests, e)
+
+  pub task_no : (m : Mapping ℕ) → m.task ≢ task → is_of task m ≡ false
+  task_no m e = grind (arith, nat_tests, e)
+
+-- ---- as labels tell
+
+pub named_labelled : (task number : ℕ) (fs : List NumberedFile) → sum_by (keys_in task number) (labels_of fs) ≡ sum_by (maps_named task number) fs
+named_labelled task number [] = refl
+named_labelled task number (f ∷ fs) = (let here = keys_are task task number f in let rest = named_labelled task number fs in omega (arith, here, rest, sum_by-cons (keys_in task number) (label_of f) (labels_of fs), sum_by-cons (maps_named task number) f fs))

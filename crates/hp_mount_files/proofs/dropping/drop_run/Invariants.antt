@@ -1,0 +1,16 @@
+use Rattle.std.proofs.Common.{◌≡◌, ◌-◌, ◌≤◌, drop, length}
+use Rattle.std.specs.List.{sum_by}
+use Rattle.hp_mount_files.specs.Dropping.{IsDropping}
+use Rattle.hp_mount_files.specs.Held.{in_place, more_in}
+use Rattle.hp_mount_files.proofs.dropping.drop_run.Given as goal
+
+abbrev pub invariant-loop-at : goal.invariant-loop-at
+invariant-loop-at g l = record {
+  low : l.from ≤ l.at;
+  high : l.at ≤ length l.places;
+  dropping : IsDropping (λ n. sum_by (in_place n) (drop l.from l.places)) (λ n. sum_by (in_place n) (drop l.at l.places)) l.initial.store l.store;
+  counted : l.more ≡ more_in l.store.pages;
+}
+
+abbrev pub decreases-loop-at : goal.decreases-loop-at
+decreases-loop-at g l = length l.places - l.at

@@ -1,0 +1,18 @@
+use Rattle.std.proofs.Common.{◌≡◌, ◌+◌, ◌-◌, ◌≤◌, drop, length}
+use Rattle.std.specs.List.{count_by}
+use Rattle.hp_mapping.specs.Mapped.{has_copy}
+use Rattle.hp_mount_files.specs.Forking.{IsShared}
+use Rattle.hp_mount_files.specs.Held.{more_in}
+use Rattle.hp_mount_files.proofs.forking.share_run.Given as goal
+
+abbrev pub invariant-loop-at : goal.invariant-loop-at
+invariant-loop-at g l = record {
+  low : l.from ≤ l.at;
+  high : l.at ≤ length l.places;
+  shared : IsShared (drop l.from l.places) (drop l.at l.places) l.initial.store l.store;
+  counted : l.more ≡ more_in l.store.pages;
+  more : l.more + count_by has_copy (drop l.at l.places) ≡ l.initial.more + count_by has_copy (drop l.from l.places);
+}
+
+abbrev pub decreases-loop-at : goal.decreases-loop-at
+decreases-loop-at g l = length l.places - l.at
