@@ -32,7 +32,7 @@ close-requires-clause-pages g c = λ n.
     let d = last_drop s at (page_at s at) c.requires.alone in
     let went : List Page = c.next_going.new.self.going in
     let emptied : Store → Store = λ t. record t { going = went } in
-    let now : c.next_going.new.self ≡ emptied (dropped at s) = c.next_going.ensures.rest ∙ ap emptied c.drop_one.ensures in
+    let now : c.next_going.new.self ≡ emptied (dropped at s) = c.next_going.ensures.rest ∙ ap emptied c.drop_one.ensures.dropped in
     let rest : page_at c.next_going.new.self n ≡ page_at (with_page at None s) n = ap (λ t. page_at t n) now ∙ ap (λ t. page_at (emptied t) n) d.1 in
     elim (cases_eq n at) as (λ _. page_at c.next_going.new.self n ≡ None) [
       | inl same ↦ rest ∙ ap (λ k. page_at (with_page at None s) k) same ∙ free_set s.pages at
@@ -44,5 +44,5 @@ close-requires-clause-going g c =
     let s = c.args.store in
     let at = c.args.number in
     let d = last_drop s at (page_at s at) c.requires.alone in
-    let one : c.drop_one.new.self.going ≡ page_of d.0 ∷ [] = ap (λ t. t.going) (c.drop_one.ensures ∙ d.1) ∙ ap (λ xs. xs ++ page_of d.0 ∷ []) c.requires.going in
+    let one : c.drop_one.new.self.going ≡ page_of d.0 ∷ [] = ap (λ t. t.going) (c.drop_one.ensures.dropped ∙ d.1) ∙ ap (λ xs. xs ++ page_of d.0 ∷ []) c.requires.going in
     pops_all c.next_going.new.self.going c.next_going.result (page_of d.0) (rw one at c.next_going.ensures.some) (rw one at c.next_going.ensures.going)
