@@ -118,18 +118,22 @@ fn a_map_of_four_pages(rt: HostRuntime) -> Result<(), Fail> {
     Ok(())
 }
 
+// A child shows what its parent's map showed, owns nothing, and may lose its copy.
+fn is_a_child<R: Abort>(rt: &R, mut child: Mapping) {
+    is_named(rt, &child, [8, 3, 10, 14]);
+    is_flagged(rt, &child, [false, false, false, true]);
+    shows(rt, &child, 11, (true, false, None));
+    shows(rt, &child, 12, (true, false, page(5)));
+    take_away(rt, &mut child, 12);
+    shows(rt, &child, 12, (true, false, None));
+    is_flagged(rt, &child, [false, false, true, true]);
+}
+
 #[test]
 fn a_child_of_a_map(rt: HostRuntime) -> Result<(), Fail> {
     let mut map = owned(rt.alloc(), 10, 14)?;
     set_copy(&rt, &mut map, 12, 5);
-    let mut child = forked(&map)?;
-    is_named(&rt, &child, [8, 3, 10, 14]);
-    is_flagged(&rt, &child, [false, false, false, true]);
-    shows(&rt, &child, 11, (true, false, None));
-    shows(&rt, &child, 12, (true, false, page(5)));
-    take_away(&rt, &mut child, 12);
-    shows(&rt, &child, 12, (true, false, None));
-    is_flagged(&rt, &child, [false, false, true, true]);
+    is_a_child(&rt, forked(&map)?);
     shows(&rt, &map, 12, (true, true, page(5)));
     is_flagged(&rt, &map, [true, false, false, true]);
     Ok(())
