@@ -1,5 +1,5 @@
 -- Replies that are added, by what was read.
-use Rattle.std.proofs.Common.{◌≡◌, ◌++◌, Result, Ok, Err, refl, subst, inl}
+use Rattle.std.proofs.Common.{◌≡◌, ◌++◌, Result, Ok, Err, refl, subst}
 use Rattle.hp_model.specs.declared.refusal.Refusal.{Refusal}
 use Rattle.hp_model.specs.declared.step.Step.{Step}
 use Rattle.hp_model.specs.machine.Plan.{Reply}
@@ -14,7 +14,7 @@ pub done : {S : Type 0} {may_answer : S → Step → Reply → S → Type 0} {re
     → AddsReply may_answer read old new waiting left
 done {may_answer} {old} {new} step reply is answered text page = record {
   reply = reply;
-  answered = subst (λ r. AnswersStep may_answer old r reply new) is (inl answered);
+  answered = subst (λ r. AnswersStep may_answer old r reply new) is answered;
   text = text;
   page = page;
 }

@@ -1,5 +1,5 @@
 -- A run of what is seen of a service is a run of what it shows.
-use Rattle.std.proofs.Common.{ℕ, List, [], ◌∷◌, Option, Result, Ok, Err, ap, inl, inr}
+use Rattle.std.proofs.Common.{ℕ, List, [], ◌∷◌, Option, Result, Ok, Err, ap}
 use Rattle.hp_model.specs.declared.refusal.Refusal.{Refusal}
 use Rattle.hp_model.specs.declared.step.Step.{Step}
 use Rattle.hp_model.specs.machine.Plan.{Reply}
@@ -17,8 +17,7 @@ module _ {S T : Type 0} (shown : S → T) (may_answer : T → Step → Reply →
   Shows old step reply new = may_answer (shown old) step reply (shown new)
 
   step_seen : (old : S) (read : Result Step Refusal) (reply : Reply) (new : S) → AnswersStep Shows old read reply new → AnswersStep may_answer (shown old) read reply (shown new)
-  step_seen old (Ok step) reply new (inl h) = inl h
-  step_seen old (Ok step) reply new (inr h) = inr (h.0, h.1, ap shown h.2)
+  step_seen old (Ok step) reply new h = h
   step_seen old (Err refusal) reply new h = (h.0, ap shown h.1)
 
   lines_seen : (old : S) (ls : List Line) (rs : List Reply) (new : S) → AnswersLines Shows old ls rs new → AnswersLines may_answer (shown old) ls rs (shown new)

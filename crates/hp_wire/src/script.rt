@@ -14,8 +14,8 @@ use std::alloc::Global;
 /// Answers the lines of a script on a machine, one reply for each, and says how many lines there were.
 ///
 /// The script is the reader's input up to its end, at most 1,073,741,824 bytes. All replies to the lines that were read
-/// are written before the next read, and no memory is asked for but before the first read and for a step with a name,
-/// options or bytes. The faults leave what `run_lines` says: `Memory` everything as it was, `Read` and `TooLong` the
+/// are written before the next read, and no memory is asked for but before the first read and by the steps that may be
+/// refused it. The faults leave what `run_lines` says: `Memory` everything as it was, `Read` and `TooLong` the
 /// lines answered that had ended, `Write` a front of the text of the replies written.
 pub fn run_script<N: Naming, R: Source, W: Sink>(
     alloc: Global,

@@ -245,16 +245,3 @@ step_of_bytes line = do
 abbrev pub step_of : Line → Result Step Refusal
 step_of (Ok bytes) = step_of_bytes bytes
 step_of (Err refusal) = Err refusal
-
--- a step that carries a name, options or bytes may be answered out of memory as it is read
-abbrev pub CarriesBytes : Step → Type 0
-CarriesBytes (step.Mount slot options) = Unit {0}
-CarriesBytes (step.Create slot name) = Unit {0}
-CarriesBytes (step.Unlink slot name) = Unit {0}
-CarriesBytes (step.Truncate slot name pages) = Unit {0}
-CarriesBytes (step.Punch slot name from to) = Unit {0}
-CarriesBytes (step.Read slot name index offset count) = Unit {0}
-CarriesBytes (step.Stat slot name) = Unit {0}
-CarriesBytes (step.Map task slot name from pages sharing reserving) = Unit {0}
-CarriesBytes (step.Store task slot map index offset bytes) = Unit {0}
-CarriesBytes other = ⊥

@@ -1,16 +1,15 @@
 -- A run over the lines of an input.
-use Rattle.std.specs.Prelude.{◌≡◌, ℕ, List, [], ◌∷◌, Result, Ok, Err, ◌⊎◌}
+use Rattle.std.specs.Prelude.{◌≡◌, ℕ, List, [], ◌∷◌, Result, Ok, Err}
 use Rattle.hp_model.specs.declared.refusal.Refusal.{Refusal}
-use Rattle.hp_model.specs.declared.refusal.Refusal.TheVariants.{OutOfMemory}
 use Rattle.hp_model.specs.declared.step.Step.{Step}
 use Rattle.hp_model.specs.text.Lines.{Line}
 use Rattle.hp_model.specs.machine.Plan.{Reply}
-use Rattle.hp_model.specs.text.Reading.{step_of, CarriesBytes}
+use Rattle.hp_model.specs.text.Reading.{step_of}
 use Rattle.hp_model.specs.text.Writing.{text}
 
 -- what a line reads as is answered: a step by the machine, which it may change, and a refusal by itself
 abbrev pub AnswersStep : {S : Type 0} → (S → Step → Reply → S → Type 0) → S → Result Step Refusal → Reply → S → Type 0
-AnswersStep may_answer old (Ok step) reply new = may_answer old step reply new ⊎ (CarriesBytes step × (reply ≡ Err OutOfMemory) × (new ≡ old))
+AnswersStep may_answer old (Ok step) reply new = may_answer old step reply new
 AnswersStep may_answer old (Err refusal) reply new = (reply ≡ Err refusal) × (new ≡ old)
 
 -- the lines are answered by these replies, one after another, from old to new
