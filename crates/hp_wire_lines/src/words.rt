@@ -64,6 +64,11 @@ impl<'a> Words<'a> {
     {
         let line = self.line;
         let from = self.at;
+        // Most numbers have one digit and are not the last word.
+        if from + 1 < line.len() && line[from].is_ascii_digit() && line[from + 1] == b' ' {
+            self.at = from + 2;
+            return Ok(u64::from(line[from] - b'0'));
+        }
         let (value, at) = front_number(line, from);
         if at == from {
             return self.any_number();
