@@ -258,12 +258,12 @@ impl<N: Naming> System<N> {
         // One place for what is asked, in all arms: a place of its own for each would be cleared for every step.
         let mut event = MountEvent::Ls;
         match step {
-            Step::Connect { task, home } => *reply = Told::done(self.connect(*task, *home)),
+            Step::Connect { task, home } => tell_done(self.connect(*task, *home), reply),
             Step::Attach { task } => self.tell_home(*task, reply),
-            Step::Fork { parent, child } => *reply = Told::done(self.fork(*parent, *child)),
-            Step::Exit { task } => *reply = Told::done(self.exit(*task)),
-            Step::Mount { slot, options } => *reply = Told::done(self.mount(*slot, options)),
-            Step::Umount { slot } => *reply = Told::done(self.umount(*slot)),
+            Step::Fork { parent, child } => tell_done(self.fork(*parent, *child), reply),
+            Step::Exit { task } => tell_done(self.exit(*task), reply),
+            Step::Mount { slot, options } => tell_done(self.mount(*slot, options), reply),
+            Step::Umount { slot } => tell_done(self.umount(*slot), reply),
             Step::Ls { slot } => {
                 event = MountEvent::Ls;
                 self.on_slot(*slot, 0, &event, room, reply)
@@ -418,8 +418,8 @@ impl<N: Naming> System<N> {
                 };
                 self.of_task(*task, *slot, &event, room, reply)
             }
-            Step::Nr { pages } => *reply = Ok(Told::Number(self.set_nr(*pages))),
-            Step::Overcommit { pages } => *reply = Told::done(self.set_overcommit(*pages)),
+            Step::Nr { pages } => tell_number(self.set_nr(*pages), reply),
+            Step::Overcommit { pages } => tell_done(self.set_overcommit(*pages), reply),
             Step::Meminfo => self.tell_meminfo(reply),
             Step::Nodes => self.tell_nodes(reply),
         }
@@ -442,6 +442,23 @@ impl<N: Naming> System<N> {
         }
         Ok(replies)
     }
+}
+
+// The reply that something is done, or its refusal, put in its place: apart, so that no step pays for this that doesn't
+// need it.
+#[inline(never)]
+fn tell_done(ended: Result<(), Refusal>, reply: &mut Result<Told<'_>, Refusal>)
+    ensures { told_reply reply.new ≡ done_reply ended }
+{
+    *reply = Told::done(ended);
+}
+
+// The reply of a number of pages, put in its place.
+#[inline(never)]
+fn tell_number(pages: u64, reply: &mut Result<Told<'_>, Refusal>)
+    ensures { told_reply reply.new ≡ Ok (Number pages) }
+{
+    *reply = Ok(Told::Number(pages));
 }
 
 // The reply with a copy of its bytes.
