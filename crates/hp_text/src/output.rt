@@ -1,5 +1,5 @@
 //! Text that is added to what waits to be written. Nothing here asks for memory.
-ghost use Rattle.std.specs.Prelude.{◌≡◌, ◌≤◌, decimal, length};
+ghost use Rattle.std.specs.Prelude.{◌≡◌, ◌≤◌, ◌∷◌, [], decimal, length};
 ghost use Rattle.hp_model.specs.text.Writing.{in_columns};
 ghost use Rattle.hp_text.specs.Output.{HasRoom, Adds};
 
@@ -12,6 +12,15 @@ pub fn push(out: &mut Vec<u8>, bytes: &[u8])
     out.extend_from_slice(bytes).unwrap();
 }
 
+/// Adds a byte.
+#[inline(always)]
+pub fn push_byte(out: &mut Vec<u8>, byte: u8)
+    requires { HasRoom out.old 1 }
+    ensures { Adds out.old out.new (byte ∷ []) }
+{
+    out.push_reserved(byte);
+}
+
 /// Adds a number.
 pub fn push_number(out: &mut Vec<u8>, n: u64)
     requires { HasRoom out.old 20 }
@@ -19,8 +28,7 @@ pub fn push_number(out: &mut Vec<u8>, n: u64)
     ensures short { length (decimal n) ≤ 20 }
 {
     if n < 10 {
-        out.push_reserved(b'0' + n as u8);
-        return;
+        return push_byte(out, b'0' + n as u8);
     }
     let mut digits = itoa::Buffer::new();
     push(out, digits.format(n).as_bytes());

@@ -167,6 +167,7 @@ impl<N: Naming> System<N> {
 
     /// Answers Total, Free, Rsvd and Surp, and what nr and overcommit are set to, all in pages
     /// (`admin-guide/mm/hugetlbpage.rst`). Never refused, and changes nothing.
+    #[inline(never)]
     pub fn meminfo(&mut self) -> Counts
         requires ready { IsReady self.old }
         ensures step { IsStep self.old.state Meminfo (Ok (Numbers result)) self.new.state }
@@ -200,8 +201,8 @@ impl<N: Naming> System<N> {
         whole(reply)
     }
 
-    // The reply of `Nodes`: apart, so that no other step pays for the rows.
-    #[inline(never)]
+    // The reply of `Nodes`.
+    #[inline(always)]
     #[tactic(auto, unfolding(hp_model::specs::machine::Step::IsStep))]
     fn tell_nodes(&mut self, reply: &mut Result<Told<'_>, Refusal>)
         requires ready { IsReady self.old }
@@ -213,8 +214,8 @@ impl<N: Naming> System<N> {
         *reply = Ok(self.nodes());
     }
 
-    // The reply of `Meminfo`, apart.
-    #[inline(never)]
+    // The reply of `Meminfo`.
+    #[inline(always)]
     fn tell_meminfo(&mut self, reply: &mut Result<Told<'_>, Refusal>)
         requires ready { IsReady self.old }
         ensures step { IsStep self.old.state Meminfo (told_reply reply.new) self.new.state }
@@ -225,8 +226,8 @@ impl<N: Naming> System<N> {
         *reply = Ok(Told::Numbers(self.meminfo()));
     }
 
-    // The reply of `Attach`, apart.
-    #[inline(never)]
+    // The reply of `Attach`.
+    #[inline(always)]
     fn tell_home(&mut self, task: u64, reply: &mut Result<Told<'_>, Refusal>)
         requires ready { IsReady self.old }
         ensures step { IsStep self.old.state (Attach task) (told_reply reply.new) self.new.state }
@@ -444,9 +445,8 @@ impl<N: Naming> System<N> {
     }
 }
 
-// The reply that something is done, or its refusal, put in its place: apart, so that no step pays for this that doesn't
-// need it.
-#[inline(never)]
+// The reply that something is done, or its refusal, put in its place.
+#[inline(always)]
 fn tell_done(ended: Result<(), Refusal>, reply: &mut Result<Told<'_>, Refusal>)
     ensures { told_reply reply.new ≡ done_reply ended }
 {
@@ -454,7 +454,7 @@ fn tell_done(ended: Result<(), Refusal>, reply: &mut Result<Told<'_>, Refusal>)
 }
 
 // The reply of a number of pages, put in its place.
-#[inline(never)]
+#[inline(always)]
 fn tell_number(pages: u64, reply: &mut Result<Told<'_>, Refusal>)
     ensures { told_reply reply.new ≡ Ok (Number pages) }
 {

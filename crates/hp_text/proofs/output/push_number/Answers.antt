@@ -6,8 +6,7 @@ use Rattle.hp_text.proofs.output.push_number.Goals as goal
 
 pub returns-then-n-lt10-clause-adds : goal.returns-then-n-lt10-clause-adds
 returns-then-n-lt10-clause-adds c =
-    subst (λ (digits : List ℕ). Adds c.args.out.now c.push_reserved.new.self digits) (sym (decimal_digit c.args.n c.if-n-lt10.true))
-    (record { bytes = c.push_reserved.ensures.items; len = c.push_reserved.ensures.len; capacity = omega (arith, c.push_reserved.ensures.capacity) })
+    subst (λ (digits : List ℕ). Adds c.args.out.now c.push_byte.new.out digits) (sym (decimal_digit c.args.n c.if-n-lt10.true)) c.push_byte.ensures
 
 pub returns-then-n-lt10-clause-short : goal.returns-then-n-lt10-clause-short
 returns-then-n-lt10-clause-short c = omega (arith, length_digit c.args.n c.if-n-lt10.true)
