@@ -105,6 +105,7 @@ impl<N: Naming> Mount<N> {
     /// Refused as the definitions say, and then nothing changes; as TraceFull where the door has no room to note a section.
     /// An access at an index that is reserved to its map, or has a page, asks for no memory. Bytes are answered in the
     /// front of the room.
+    #[inline(always)]
     pub fn apply<'a, D: PoolDoor<Share = Subpool<N>, Page = Page<N>, Going = PageStore<N>>>(
         &mut self,
         door: &mut D,

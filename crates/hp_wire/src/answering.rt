@@ -119,7 +119,9 @@ impl Replies {
         match kind_of_line(line) {
             Ok(LineKind::Load(words)) => self.add_load(words, room, service),
             Ok(LineKind::Store(words)) => self.add_store(words, room, service),
-            Ok(LineKind::Other { word, words }) => self.add_other(word, words, room, service),
+            Ok(LineKind::Other { word, mut words }) => {
+                self.add_other(word, &mut words, room, service)
+            }
             Err(refusal) => self.add_refusal(refusal),
         }
     }
@@ -166,18 +168,18 @@ impl Replies {
     fn add_other<S: Service>(
         &mut self,
         word: &[u8],
-        mut words: Words<'_>,
+        words: &mut Words<'_>,
         room: &mut [u8; ROOM],
         service: &mut S,
     )
         requires ready { S.is_ready service.old }
         requires room { HasRoomForOne self.old }
         requires other { is_access word.now ≡ false }
-        ensures answered { AddsReply S.may_answer (step_of_command word.now words.entry)
+        ensures answered { AddsReply S.may_answer (step_of_command word.now words.old)
             service.old service.new self.old self.new }
         ensures ready { S.is_ready service.new }
     {
-        match step_of_word(word, &mut words) {
+        match step_of_word(word, words) {
             Ok(step) => self.add_answer(&step, room, service),
             Err(refusal) => self.add_refusal(refusal),
         }

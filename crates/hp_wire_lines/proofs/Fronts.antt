@@ -102,6 +102,16 @@ taken_at_space line value n at short space some few fits =
     ∙ ends_here value n (pieces_of_line (drop (at + 1) line)) some few fits
     ∙ ap (λ more. Ok (value, more)) (sym (within (at + 1) line (omega arith)))
 
+-- a digit with a space behind it
+pub taken_digit : (line : List ℕ) (from digit : ℕ) → from + 1 < length line → IsInRange 48 57 (get_or line from 0) → digit ≡ get_or line from 0 - 48 → get_or line (from + 1) 0 ≡ 32
+    → number_at (pieces_from from line) ≡ Ok (digit, pieces_from (from + 2) line)
+taken_digit line from digit short is value space =
+    let next : from + 1 + 1 ≡ from + 2 = omega arith in
+    sym (at_start (pieces_from from line))
+    ∙ sym (next_digit line 0 0 from digit (omega arith) is (omega (arith, value)))
+    ∙ taken_at_space line digit 1 (from + 1) short space (omega arith) (omega arith) (omega (arith, is, value))
+    ∙ ap (λ at. Ok (digit, pieces_from at line)) next
+
 pub taken_none : number_at [] ≡ Err BadLine
 unfolding number_at piece_at
 taken_none = refl

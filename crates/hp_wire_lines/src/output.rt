@@ -4,7 +4,7 @@ ghost use Rattle.hex.specs.Hex.{encode_lower};
 ghost use Rattle.hp_model.specs.text.Writing.{spaced, limit_text};
 ghost use Rattle.hp_text.specs.Output.{HasRoom, Adds};
 
-use hp_text::output::{push, push_number};
+use hp_text::output::{push_byte, push_number};
 
 /// Adds numbers with a space before each.
 pub fn push_spaced(out: &mut Vec<u8>, numbers: &[u64])
@@ -22,7 +22,7 @@ fn push_after_space(out: &mut Vec<u8>, n: u64)
     ensures adds { Adds out.old out.new (codes " " ++ decimal n) }
     ensures short { length (codes " " ++ decimal n) ≤ 21 }
 {
-    push(out, b" ");
+    push_byte(out, b' ');
     push_number(out, n);
 }
 
@@ -33,7 +33,7 @@ pub fn push_limit(out: &mut Vec<u8>, limit: Option<u64>)
     ensures short { length (limit_text limit) ≤ 20 }
 {
     match limit {
-        None => push(out, b"-"),
+        None => push_byte(out, b'-'),
         Some(n) => push_number(out, n),
     }
 }

@@ -56,6 +56,7 @@ pub fn step_of_line<'a>(line: &'a [u8], room: &'a mut [u8]) -> Result<Step<'a>, 
 }
 
 /// The step of a line's first word, which is not that of a load or a store, and the words after it, or `BadLine`.
+#[inline(always)]
 pub fn step_of_word<'a>(word: &[u8], words: &mut Words<'a>) -> Result<Step<'a>, Refusal>
     requires { is_access word.now ≡ false }
     ensures { result ≡ step_of_command word.now words.old }

@@ -1,5 +1,6 @@
 //! The pieces of a line.
-ghost use Rattle.std.specs.Prelude.{◌≡◌, ◌+◌, ◌-◌, ◌<◌, ◌≤◌, length};
+ghost use Rattle.std.specs.Prelude.{◌≡◌, ◌+◌, ◌-◌, ◌<◌, ◌≤◌, length, slice_index};
+ghost use Rattle.std.specs.Int.{IsInRange};
 ghost use Rattle.hp_model.specs.text.Words.{number_at, number_of, pieces_of_line};
 ghost use Rattle.hp_wire_lines.specs.Words.{number_after, pieces_from};
 
@@ -64,10 +65,15 @@ impl<'a> Words<'a> {
     {
         let line = self.line;
         let from = self.at;
-        let (value, at) = front_number(line, from);
-        if at == from {
+        if from >= line.len() || !line[from].is_ascii_digit() {
             return self.any_number();
         }
+        // Most numbers have one digit.
+        if from + 1 < line.len() && line[from + 1] == b' ' {
+            self.at = from + 2;
+            return Ok(u64::from(line[from] - b'0'));
+        }
+        let (value, at) = front_number(line, from);
         if at < line.len() && line[at] != b' ' {
             return self.any_number();
         }
@@ -115,20 +121,21 @@ impl<'a> Words<'a> {
 // Numbers of so many digits are below 2^64.
 const DIGITS: usize = 19;
 
-// The number of the first digits from a place on, and where they end.
+// The number of the digits from a place on, where there is one, and where they end.
 #[inline(always)]
 fn front_number(line: &[u8], from: usize) -> (u64, usize)
     requires line { length line.now ≤ 1024 }
-    requires from { from ≤ 1025 }
-    ensures behind { from ≤ result.1 }
-    ensures within { from < result.1 → result.1 ≤ length line.now }
+    requires from { from < length line.now }
+    requires digit { IsInRange 48 57 (slice_index line.now from) }
+    ensures behind { from < result.1 }
+    ensures within { result.1 ≤ length line.now }
     ensures few { result.1 ≤ from + DIGITS }
     ensures number { number_after result.0 (result.1 - from) (pieces_from result.1 line.now)
         ≡ number_at (pieces_from from line.now) }
 {
     let end = line.len().min(from + DIGITS);
-    let mut value = 0u64;
-    let mut at = from;
+    let mut value = u64::from(line[from] - b'0');
+    let mut at = from + 1;
     while at < end && line[at].is_ascii_digit() {
         value = value * 10 + u64::from(line[at] - b'0');
         at += 1;

@@ -15,7 +15,7 @@ use hp_model::bytes::Bytes;
 use hp_model::refusal::Refusal;
 use hp_model::told::Told;
 use hp_text::meminfo::meminfo_text;
-use hp_text::output::{push, push_number};
+use hp_text::output::{push, push_byte, push_number};
 
 /// No reply has more bytes: a heading of at most 26, and 1,024 names of 64 bytes with a newline each.
 pub const LONGEST: usize = 66_586;
@@ -94,7 +94,7 @@ fn push_numbers(out: &mut Vec<u8>, numbers: &[u64])
 {
     push(out, b"ok");
     push_spaced(out, numbers);
-    push(out, b"\n");
+    push_byte(out, b'\n');
 }
 
 fn push_bytes(out: &mut Vec<u8>, bytes: &[u8])
@@ -104,7 +104,7 @@ fn push_bytes(out: &mut Vec<u8>, bytes: &[u8])
 {
     push(out, b"ok ");
     push_hex(out, bytes);
-    push(out, b"\n");
+    push_byte(out, b'\n');
 }
 
 fn push_usage(
@@ -121,10 +121,10 @@ fn push_usage(
     push(out, b"ok ");
     push_limit(out, max);
     push_spaced(out, &[min, used]);
-    push(out, b" ");
+    push_byte(out, b' ');
     push_limit(out, inodes);
     push_spaced(out, &[files]);
-    push(out, b"\n");
+    push_byte(out, b'\n');
 }
 
 fn push_names(out: &mut Vec<u8>, names: &[Bytes])
@@ -143,7 +143,7 @@ fn push_name_lines(out: &mut Vec<u8>, names: &[Bytes])
 {
     for name in names {
         push(out, name.as_slice());
-        push(out, b"\n");
+        push_byte(out, b'\n');
     }
 }
 
@@ -154,7 +154,7 @@ fn push_heading(out: &mut Vec<u8>, lines: u64)
 {
     push(out, b"text ");
     push_number(out, lines);
-    push(out, b"\n");
+    push_byte(out, b'\n');
 }
 
 fn push_nodes(out: &mut Vec<u8>, nodes: u64, rows: &[NodeCount])
@@ -185,7 +185,7 @@ fn push_row(out: &mut Vec<u8>, node: u64, row: NodeCount)
 {
     push_number(out, node);
     push_spaced(out, &[row.total, row.free, row.surp]);
-    push(out, b"\n");
+    push_byte(out, b'\n');
 }
 
 fn push_counts(page: u64, counts: Counts, out: &mut Vec<u8>)

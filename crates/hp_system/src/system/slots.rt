@@ -109,6 +109,7 @@ impl<N: Naming> System<N> {
     // What a step asks of the mount of a slot, for a task with that home node. Refused as NoSuchSlot
     // where there is no such slot or it is not mounted, and else as the mount refuses it; then
     // nothing changes. The reply is put in its place, and bytes in the front of the room.
+    #[inline(always)]
     pub(crate) fn on_slot<'a>(
         &mut self,
         slot: u64,
@@ -142,6 +143,7 @@ impl<N: Naming> System<N> {
     }
 
     // The same for a task. Refused as NoSuchTask where it is not there.
+    #[inline(always)]
     pub(crate) fn of_task<'a>(
         &mut self,
         task: u64,

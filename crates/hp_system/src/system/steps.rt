@@ -167,6 +167,7 @@ impl<N: Naming> System<N> {
 
     /// Answers Total, Free, Rsvd and Surp, and what nr and overcommit are set to, all in pages
     /// (`admin-guide/mm/hugetlbpage.rst`). Never refused, and changes nothing.
+    #[inline(never)]
     pub fn meminfo(&mut self) -> Counts
         requires ready { IsReady self.old }
         ensures step { IsStep self.old.state Meminfo (Ok (Numbers result)) self.new.state }
@@ -200,8 +201,8 @@ impl<N: Naming> System<N> {
         whole(reply)
     }
 
-    // The reply of `Nodes`: apart, so that no other step pays for the rows.
-    #[inline(never)]
+    // The reply of `Nodes`.
+    #[inline(always)]
     #[tactic(auto, unfolding(hp_model::specs::machine::Step::IsStep))]
     fn tell_nodes(&mut self, reply: &mut Result<Told<'_>, Refusal>)
         requires ready { IsReady self.old }
@@ -213,8 +214,8 @@ impl<N: Naming> System<N> {
         *reply = Ok(self.nodes());
     }
 
-    // The reply of `Meminfo`, apart.
-    #[inline(never)]
+    // The reply of `Meminfo`.
+    #[inline(always)]
     fn tell_meminfo(&mut self, reply: &mut Result<Told<'_>, Refusal>)
         requires ready { IsReady self.old }
         ensures step { IsStep self.old.state Meminfo (told_reply reply.new) self.new.state }
@@ -225,8 +226,8 @@ impl<N: Naming> System<N> {
         *reply = Ok(Told::Numbers(self.meminfo()));
     }
 
-    // The reply of `Attach`, apart.
-    #[inline(never)]
+    // The reply of `Attach`.
+    #[inline(always)]
     fn tell_home(&mut self, task: u64, reply: &mut Result<Told<'_>, Refusal>)
         requires ready { IsReady self.old }
         ensures step { IsStep self.old.state (Attach task) (told_reply reply.new) self.new.state }
@@ -258,12 +259,12 @@ impl<N: Naming> System<N> {
         // One place for what is asked, in all arms: a place of its own for each would be cleared for every step.
         let mut event = MountEvent::Ls;
         match step {
-            Step::Connect { task, home } => *reply = Told::done(self.connect(*task, *home)),
+            Step::Connect { task, home } => tell_done(self.connect(*task, *home), reply),
             Step::Attach { task } => self.tell_home(*task, reply),
-            Step::Fork { parent, child } => *reply = Told::done(self.fork(*parent, *child)),
-            Step::Exit { task } => *reply = Told::done(self.exit(*task)),
-            Step::Mount { slot, options } => *reply = Told::done(self.mount(*slot, options)),
-            Step::Umount { slot } => *reply = Told::done(self.umount(*slot)),
+            Step::Fork { parent, child } => tell_done(self.fork(*parent, *child), reply),
+            Step::Exit { task } => tell_done(self.exit(*task), reply),
+            Step::Mount { slot, options } => tell_done(self.mount(*slot, options), reply),
+            Step::Umount { slot } => tell_done(self.umount(*slot), reply),
             Step::Ls { slot } => {
                 event = MountEvent::Ls;
                 self.on_slot(*slot, 0, &event, room, reply)
@@ -418,8 +419,8 @@ impl<N: Naming> System<N> {
                 };
                 self.of_task(*task, *slot, &event, room, reply)
             }
-            Step::Nr { pages } => *reply = Ok(Told::Number(self.set_nr(*pages))),
-            Step::Overcommit { pages } => *reply = Told::done(self.set_overcommit(*pages)),
+            Step::Nr { pages } => tell_number(self.set_nr(*pages), reply),
+            Step::Overcommit { pages } => tell_done(self.set_overcommit(*pages), reply),
             Step::Meminfo => self.tell_meminfo(reply),
             Step::Nodes => self.tell_nodes(reply),
         }
@@ -442,6 +443,22 @@ impl<N: Naming> System<N> {
         }
         Ok(replies)
     }
+}
+
+// The reply that something is done, or its refusal, put in its place.
+#[inline(always)]
+fn tell_done(ended: Result<(), Refusal>, reply: &mut Result<Told<'_>, Refusal>)
+    ensures { told_reply reply.new ≡ done_reply ended }
+{
+    *reply = Told::done(ended);
+}
+
+// The reply of a number of pages, put in its place.
+#[inline(always)]
+fn tell_number(pages: u64, reply: &mut Result<Told<'_>, Refusal>)
+    ensures { told_reply reply.new ≡ Ok (Number pages) }
+{
+    *reply = Ok(Told::Number(pages));
 }
 
 // The reply with a copy of its bytes.

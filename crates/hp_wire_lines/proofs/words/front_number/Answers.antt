@@ -6,12 +6,15 @@ use Rattle.hp_wire_lines.proofs.words.front_number.Goals as goal
 
 pub loop-at-init : goal.loop-at-init
 loop-at-init c =
-    let none : c.args.from - c.args.from ≡ 0 = omega arith in
+    let line = c.args.line.now in
+    let from = c.args.from in
+    let one : from + 1 - from ≡ 1 = omega arith in
     record {
       behind = omega arith;
-      within = λ h. omega arith;
-      small = omega (arith, ap (λ k. 10 ^ k) none);
-      so_far = ap (λ k. number_after 0 k (pieces_from c.args.from c.args.line.now)) none ∙ at_start (pieces_from c.args.from c.args.line.now);
+      within = omega arith;
+      small = omega (arith, c.requires.digit, c.from-value.ensures, ap (λ k. 10 ^ k) one);
+      so_far = ap (λ k. number_after c.from-value.result k (pieces_from (from + 1) line)) one
+          ∙ next_digit line 0 0 from c.from-value.result c.requires.from c.requires.digit (omega (arith, c.from-value.ensures)) ∙ at_start (pieces_from from line);
     }
 
 pub overflow_mul-value : goal.overflow_mul-value
@@ -36,7 +39,7 @@ loop-at-preserved c =
     let places : at + 1 - c.args.from ≡ n + 1 = omega arith in
     record {
       behind = omega arith;
-      within = λ h. omega arith;
+      within = omega arith;
       small = rw places ((one_more value n c.from.result c.loop-at.invariant.small (omega arith) (omega arith)).0);
       so_far = ap (λ k. number_after more k (pieces_from (at + 1) line)) places
           ∙ next_digit line value n at more (omega arith) digit (ap (λ d. value * 10 + d) c.from.ensures) ∙ c.loop-at.invariant.so_far;

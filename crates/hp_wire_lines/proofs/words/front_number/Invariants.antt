@@ -5,8 +5,8 @@ use Rattle.hp_wire_lines.proofs.words.front_number.Given as goal
 
 abbrev pub invariant-loop-at : goal.invariant-loop-at
 invariant-loop-at l = record {
-  behind : l.from ≤ l.at;
-  within : l.from < l.at → l.at ≤ l.end;
+  behind : l.from < l.at;
+  within : l.at ≤ l.end;
   small : l.value < 10 ^ (l.at - l.from);
   so_far : number_after l.value (l.at - l.from) (pieces_from l.at l.line) ≡ number_at (pieces_from l.from l.line);
 }
