@@ -12,10 +12,10 @@ pub record Ready : Type 0 where
   pub from : ℕ
   pub to : ℕ
 
--- the indices from a up to b have their slots, and those below b a place among the entries
+-- the indices from a up to b have their slots, and a place among the entries
 pub record IsReady (len count pages : ℕ) (entries : List ℕ) (rows : Rows) (a b : ℕ) : Type 0 where
   pub kept : IsKept len count entries rows
   pub paged : pages ≡ count_by has_page (cells_of len entries rows)
   pub small : b < 2 ^ 32
   pub slots : (k : ℕ) → a ≤ k → k < b → has_slot rows k ≡ true
-  pub room : b ≤ 64 * length entries
+  pub room : a < b → b ≤ 64 * length entries

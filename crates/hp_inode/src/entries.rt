@@ -70,13 +70,16 @@ impl Entries {
         b.saturating_sub(a) - self.count(a, b)
     }
 
-    /// Makes room for the indices below `b`.
-    pub fn make_room(&mut self, b: u64) -> Result<(), AllocError>
+    /// Makes room for the indices from `a` up to `b`. For none it takes no memory.
+    pub fn make_room(&mut self, a: u64, b: u64) -> Result<(), AllocError>
         requires { b < 2 ^ 32 }
-        ensures ok { OnOk result (b ≤ 64 * length self.new) }
+        ensures ok { OnOk result (a < b → b ≤ 64 * length self.new) }
         ensures same { (k : ℕ) → marked self.new k ≡ marked self.old k }
         ensures err { OnErr result (self.new ≡ self.old) }
     {
+        if a >= b {
+            return Ok(());
+        }
         make_places(&mut self.marks, (b as usize).div_ceil(WORD))?;
         make_places(&mut self.words, b as usize)?;
         Ok(())
@@ -84,9 +87,12 @@ impl Entries {
 
     /// Puts the indices from `a` up to `b` in.
     pub fn add(&mut self, a: u64, b: u64)
-        requires { b ≤ 64 * length self.old }
+        requires { a < b → b ≤ 64 * length self.old }
         ensures { (k : ℕ) → marked self.new k ≡ (marked self.old k || within a b k) }
     {
+        if a >= b {
+            return;
+        }
         let (a, b) = (a as usize, b as usize);
         set_marks(&mut self.words, a, b);
         set_marks(&mut self.marks, a / WORD, b.div_ceil(WORD));

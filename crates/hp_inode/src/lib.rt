@@ -121,7 +121,7 @@ impl Inode {
     {
         let missing = self.entries.missing(a, b);
         self.table.make_slots(a, b)?;
-        self.entries.make_room(b)?;
+        self.entries.make_room(a, b)?;
         self.entries.add(a, b);
         self.count += missing;
         Ok(())
@@ -141,7 +141,7 @@ impl Inode {
             mut entries,
             mut table,
         } = self;
-        if table.make_slots(a, b).is_err() || entries.make_room(b).is_err() {
+        if table.make_slots(a, b).is_err() || entries.make_room(a, b).is_err() {
             return Err(Inode {
                 len,
                 count,

@@ -1,5 +1,5 @@
 //! Marks in words.
-ghost use Rattle.std.specs.Prelude.{◌≡◌, ℕ, ◌+◌, ◌*◌, ◌/◌, ◌<◌, ◌≤◌, ◌↔◌, length, slice_index, slice_set, IsTrue, IfOk, IfSome, IfNone};
+ghost use Rattle.std.specs.Prelude.{◌≡◌, ℕ, ◌+◌, ◌*◌, ◌/◌, ◌<◌, ◌≤◌, ◌↔◌, length, replicate, slice_index, slice_set, IsTrue, IfOk, IfSome, IfNone};
 ghost use Rattle.hp_mapping.specs.Marks.{mark_at, IsBlank, IsBlankFrom, IsLowest, ChangesMark, KeepsWords};
 
 use crate::bits::{bits_below, lowest_from, with_bit, without_bit};
@@ -30,7 +30,7 @@ impl Words {
         ensures zero { IfOk result (λ m. (w : ℕ) → slice_index m w ≡ 0) }
         ensures room { IfOk result (λ m. count ≤ 64 * length m) }
     {
-        let words = SmallVec::from_elem(alloc, 0, count / 64 + 1)?;
+        let words = filled(alloc, 0, count / 64 + 1)?;
         Ok(Words { words })
     }
 
@@ -41,7 +41,7 @@ impl Words {
         ensures zero { IfOk result (λ m. (w : ℕ) → count ≤ 64 * w → slice_index m w ≡ 0) }
         ensures len { IfOk result (λ m. length m ≡ count / 64 + 1) }
     {
-        let words = SmallVec::from_elem(alloc, u64::MAX, count / 64 + 1)?;
+        let words = filled(alloc, u64::MAX, count / 64 + 1)?;
         let mut all = Words { words };
         all.set_word(count / 64, bits_below(count % 64));
         Ok(all)
@@ -129,4 +129,15 @@ impl Words {
         }
         None
     }
+}
+
+// So many words alike. Most maps have one.
+fn filled(alloc: Global, word: u64, count: usize) -> Result<SmallVec<u64, 1>, AllocError>
+    ensures { IfOk result (λ words. words.items ≡ replicate count word) }
+{
+    if count == 1 {
+        return Ok(SmallVec::from_buf(alloc, [word; 1]));
+    }
+    let words = SmallVec::from_elem(alloc, word, count)?;
+    Ok(words)
 }

@@ -8,6 +8,7 @@ pub mod Commands
 pub mod Shown
 pub mod Looking
 pub mod Making
+pub mod NameBytes
 pub mod Ending
 pub mod Giving
 pub mod Leaving

@@ -10,7 +10,7 @@ use Rattle.std.proofs.lemmas.List.FromFn.{get_or-range_with_len, length-range_wi
 use Rattle.std.proofs.lemmas.List.Sums.{position_or_len_is}
 use Rattle.hp_model.specs.declared.limits.Limits.{Limits}
 use Rattle.hp_model.specs.files.File.{File}
-use Rattle.hp_model.specs.Lists.{found, is_among, least_unused, one_on}
+use Rattle.hp_model.specs.Lists.{distinct, found, is_among, least_unused, one_on}
 use Rattle.hp_model.specs.files.MakeMap.{numbers_of}
 use Rattle.hp_model.specs.files.Mapping.{Map, is_map, is_of}
 use Rattle.hp_model.specs.files.Spot.{spot, spot_in}
@@ -18,7 +18,7 @@ use Rattle.hp_model.proofs.Counting.{count_not, count_outside}
 use Rattle.hp_model.proofs.Distinct.{is_among-append}
 use Rattle.hp_mount_files.specs.declared.files.MapPlace.{MapPlace}
 use Rattle.hp_mount_files.specs.Places.{all_maps, has_it, mount_with, IsFound, IsMissing}
-use Rattle.hp_mount_files.proofs.MapNumbers.{few_among}
+use Rattle.hp_mount_files.proofs.MapNumbers.{among_distinct, few_among}
 
 -- ---- the numbers below n are used
 
@@ -139,3 +139,15 @@ task_of_number task number (m ∷ ms) e = at (m.task == task) (task_of_number ta
         → is_among number (map (λ (x : Map). x.number) (cond b (m ∷ filter (is_of task) ms) (filter (is_of task) ms))) ≡ true → (b || is_among task (map (λ x. x.task) ms)) ≡ true
     at true rest e = refl
     at false rest e = rest e
+
+-- a task without maps gets the first number
+pub first_number : (task : ℕ) (ms : List Map) → is_among task (distinct (map (λ x. x.task) ms)) ≡ false → 1 ≡ least_unused (numbers_of task ms)
+first_number task ms none =
+    least_is (numbers_of task ms) 1 (omega arith) (λ k low high. absurd (omega (arith, low, high))) (by (is_among 1 (numbers_of task ms)) refl)
+  where
+    clash : true ≡ false → ⊥
+    clash e = cc
+
+    by : (b : Bool) → is_among 1 (numbers_of task ms) ≡ b → is_among 1 (numbers_of task ms) ≡ false
+    by true e = absurd (clash (sym (among_distinct task (map (λ x. x.task) ms) ∙ task_of_number task 1 ms e) ∙ none))
+    by false e = e

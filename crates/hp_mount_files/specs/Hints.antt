@@ -1,6 +1,5 @@
 -- What was noted of files and maps, and what holds of files. No public clause cites this module.
 use Rattle.std.specs.Prelude.{◌≡◌, ℕ, ◌==◌, ◌&&◌, Bool, false, List, map}
-use Rattle.std.specs.Global.{Vec}
 use Rattle.std.specs.List.{All, count_by, list_any, sum_by}
 use Rattle.std.specs.Str.{bytes_eq}
 use Rattle.hp_store.specs.Store.{Store}
@@ -15,8 +14,8 @@ pub record Noted : Type 0 where
   pub keys : List (ℕ × ℕ)
   pub room : ℕ
 
-abbrev pub names_of : {X : Type 0} → List (Vec ℕ × X) → List (List ℕ)
-names_of es = map (λ e. e.0.items) es
+abbrev pub names_of : {X : Type 0} → List (List ℕ × X) → List (List ℕ)
+names_of es = map (λ e. e.0) es
 
 abbrev pub keys_of : {X : Type 0} → List ((ℕ × ℕ) × X) → List (ℕ × ℕ)
 keys_of es = map (λ e. e.0) es

@@ -1,10 +1,11 @@
 //! What files and maps are found by.
-ghost use Rattle.std.specs.Prelude.{◌≡◌, ◌+◌, ◌<◌, ◌≤◌, false, true, IfNone, IsOk, OnErr, OnOk};
+ghost use Rattle.std.specs.Prelude.{◌≡◌, ◌+◌, ◌<◌, ◌≤◌, false, true, IfNone, IfOk, IsOk, OnErr, OnOk};
 ghost use Rattle.hp_mount_files.specs.Hints.{IsMore, IsMoreBut, has_key, has_name};
 ghost use Rattle.hp_mount_files.specs.Leaving.{IsMoreButMap};
 
 use crate::file_tag::FileTag;
 use crate::map_tag::MapTag;
+use crate::name_key::NameKey;
 use indexmap::IndexMap;
 use std::alloc::{AllocError, Global};
 use std::cell::Cell;
@@ -14,7 +15,8 @@ use std::marker::Model;
 /// never trusted; but what was never noted, or was forgotten, is not there. Contracts see for how many maps more there is room.
 #[derive(Drop)]
 pub(crate) struct Hints {
-    files: IndexMap<Vec<u8>, FileTag>,
+    alloc: Global,
+    files: IndexMap<NameKey, FileTag>,
     maps: IndexMap<(u64, u64), Cell<MapTag>>,
 }
 
@@ -35,18 +37,20 @@ impl Hints {
     /// Nothing is noted. Takes no memory.
     pub(crate) fn new(alloc: Global) -> Self {
         Hints {
+            alloc,
             files: IndexMap::new(alloc),
             maps: IndexMap::new(alloc),
         }
     }
 
-    /// The tag of the file with the name, if it was noted.
-    pub(crate) fn file(&self, name: &[u8]) -> Option<FileTag>
-        ensures { IfNone result (has_name name.now self.now ≡ false) }
+    /// The tag of the file with the name, if it was noted. Refused where memory is, and never up to 64 bytes.
+    pub(crate) fn file(&self, name: &[u8]) -> Result<Option<FileTag>, AllocError>
+        ensures { IfOk result (λ tag. IfNone tag (has_name name.now self.now ≡ false)) }
     {
-        match self.files.get(name) {
-            Some(tag) => Some(*tag),
-            None => None,
+        let key = NameKey::new(self.alloc, name)?;
+        match self.files.get(&key) {
+            Some(tag) => Ok(Some(*tag)),
+            None => Ok(None),
         }
     }
 
@@ -58,22 +62,26 @@ impl Hints {
     }
 
     /// Notes a file's tag. Refused where memory is, and then nothing changes.
-    pub(crate) fn note_file(&mut self, name: Vec<u8>, tag: FileTag) -> Result<(), AllocError>
+    pub(crate) fn note_file(&mut self, name: &[u8], tag: FileTag) -> Result<(), AllocError>
         ensures more { IsMore self.old self.new }
         ensures err { OnErr result (self.new ≡ self.old) }
-        ensures noted { OnOk result (has_name name.items self.new ≡ true) }
+        ensures noted { OnOk result (has_name name.now self.new ≡ true) }
     {
-        let Ok(_) = self.files.insert(name, tag) else {
+        let key = NameKey::new(self.alloc, name)?;
+        let Ok(_) = self.files.insert(key, tag) else {
             return Err(AllocError);
         };
         Ok(())
     }
 
-    /// Forgets the file with the name.
+    /// Forgets the file with the name. It may stay noted where memory is refused, and never up to 64 bytes.
     pub(crate) fn forget_file(&mut self, name: &[u8])
         ensures { IsMoreBut name.now self.old self.new }
     {
-        let _tag = self.files.swap_remove(name);
+        let Ok(key) = NameKey::new(self.alloc, name) else {
+            return;
+        };
+        let _tag = self.files.swap_remove(&key);
     }
 
     /// Notes a map's tag. Refused where memory is, and then nothing changes but the room; never where there is room.

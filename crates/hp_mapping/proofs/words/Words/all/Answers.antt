@@ -1,12 +1,11 @@
-use Rattle.std.proofs.Common.{rules}
 use Rattle.hp_mapping.proofs.FilledWords.{all_blank, all_marked, all_zero}
 use Rattle.hp_mapping.proofs.words.Words.all.Goals as goal
 
 pub returns-clause-marked : goal.returns-clause-marked
-returns-clause-marked c = rw c.set_word.ensures (all_marked c.args.count c.bits_below.result c.in_ok-words.words.items (c.in_ok-words.ensures.items_if_clones_equal (λ y q. search rules)) c.bits_below.ensures)
+returns-clause-marked c = rw c.set_word.ensures (all_marked c.args.count c.bits_below.result c.in_ok-words.words.items c.in_ok-words.ensures c.bits_below.ensures)
 
 pub returns-clause-blank : goal.returns-clause-blank
-returns-clause-blank c = rw c.set_word.ensures (all_blank c.args.count c.bits_below.result c.in_ok-words.words.items (c.in_ok-words.ensures.items_if_clones_equal (λ y q. search rules)) c.bits_below.ensures)
+returns-clause-blank c = rw c.set_word.ensures (all_blank c.args.count c.bits_below.result c.in_ok-words.words.items c.in_ok-words.ensures c.bits_below.ensures)
 
 pub returns-clause-zero : goal.returns-clause-zero
-returns-clause-zero c = rw c.set_word.ensures (all_zero c.args.count c.bits_below.result c.in_ok-words.words.items (c.in_ok-words.ensures.items_if_clones_equal (λ y q. search rules)) c.bits_below.ensures)
+returns-clause-zero c = rw c.set_word.ensures (all_zero c.args.count c.bits_below.result c.in_ok-words.words.items c.in_ok-words.ensures c.bits_below.ensures)

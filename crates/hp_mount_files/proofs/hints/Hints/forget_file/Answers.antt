@@ -20,10 +20,11 @@ not_both name other key apart own = by (bytes_eq other key) refl
 pub returns : goal.returns
 returns c =
     let new = c.swap_remove-tag.new.self.entries in
+    let key = c.in-Ok.key in
     subst (λ (n : Noted). IsMoreBut c.args.name.now n (record { names = names_of new; keys = keys_of c.self.inside.maps.entries; room = spare c.self.inside.maps })) c.self.view_is
     (record {
       names = λ other apart e.
-          others_stay (λ k. k.items) (bytes_eq other) _ (λ k own. not_both c.args.name.now other k.items apart own) c.self.inside.files.entries
+          others_stay (λ (k : List ℕ). k) (bytes_eq other) _ (λ k own. not_both key other k (subst (λ name. bytes_eq name other ≡ false) (sym c.in-Ok.ensures) apart) own) c.self.inside.files.entries
           (subst (λ es. has_name other (record { names = names_of es; keys = []; room = 0 }) ≡ false) c.swap_remove-tag.ensures.entries e);
       keys = λ task number e. e;
     })
