@@ -4,3 +4,4 @@ mod Fronts
 mod LastHex
 mod Keywords
 mod HexValues
+mod SameWords

@@ -4,6 +4,8 @@ ghost use Rattle.hp_model.specs.text.Reading.{pool_command, slot_command, step_o
 ghost use Rattle.hp_wire_lines.specs.Accesses.{is_access};
 ghost use Rattle.hp_wire_lines.specs.Commands.{step_as};
 
+use crate::known::is_known;
+
 /// What the first word of a line asks for that is no load or store.
 #[derive(Clone, Copy)]
 pub enum Command {
@@ -37,21 +39,21 @@ pub fn command_of(word: &[u8]) -> Option<Command>
     requires { is_access word.now ≡ false }
     ensures { (words : List (List ℕ)) → step_of_command word.now words ≡ step_as result words }
 {
-    if word == b"connect".as_slice() {
+    if is_known(word, b"connect") {
         Some(Command::Connect)
-    } else if word == b"attach".as_slice() {
+    } else if is_known(word, b"attach") {
         Some(Command::Attach)
-    } else if word == b"fork".as_slice() {
+    } else if is_known(word, b"fork") {
         Some(Command::Fork)
-    } else if word == b"exit".as_slice() {
+    } else if is_known(word, b"exit") {
         Some(Command::Exit)
-    } else if word == b"map".as_slice() {
+    } else if is_known(word, b"map") {
         Some(Command::Map)
-    } else if word == b"anon".as_slice() {
+    } else if is_known(word, b"anon") {
         Some(Command::Anon)
-    } else if word == b"unmap".as_slice() {
+    } else if is_known(word, b"unmap") {
         Some(Command::Unmap)
-    } else if word == b"fault".as_slice() {
+    } else if is_known(word, b"fault") {
         Some(Command::Fault)
     } else {
         slot_command(word)
@@ -63,25 +65,25 @@ pub fn command_of(word: &[u8]) -> Option<Command>
 fn slot_command(word: &[u8]) -> Option<Command>
     ensures { (words : List (List ℕ)) → slot_command word.now words ≡ step_as result words }
 {
-    if word == b"mount".as_slice() {
+    if is_known(word, b"mount") {
         Some(Command::Mount)
-    } else if word == b"umount".as_slice() {
+    } else if is_known(word, b"umount") {
         Some(Command::Umount)
-    } else if word == b"create".as_slice() {
+    } else if is_known(word, b"create") {
         Some(Command::Create)
-    } else if word == b"unlink".as_slice() {
+    } else if is_known(word, b"unlink") {
         Some(Command::Unlink)
-    } else if word == b"truncate".as_slice() {
+    } else if is_known(word, b"truncate") {
         Some(Command::Truncate)
-    } else if word == b"punch".as_slice() {
+    } else if is_known(word, b"punch") {
         Some(Command::Punch)
-    } else if word == b"read".as_slice() {
+    } else if is_known(word, b"read") {
         Some(Command::Read)
-    } else if word == b"ls".as_slice() {
+    } else if is_known(word, b"ls") {
         Some(Command::Ls)
-    } else if word == b"stat".as_slice() {
+    } else if is_known(word, b"stat") {
         Some(Command::Stat)
-    } else if word == b"df".as_slice() {
+    } else if is_known(word, b"df") {
         Some(Command::Df)
     } else {
         pool_command(word)
@@ -93,13 +95,13 @@ fn slot_command(word: &[u8]) -> Option<Command>
 fn pool_command(word: &[u8]) -> Option<Command>
     ensures { (words : List (List ℕ)) → pool_command word.now words ≡ step_as result words }
 {
-    if word == b"nr".as_slice() {
+    if is_known(word, b"nr") {
         Some(Command::Nr)
-    } else if word == b"overcommit".as_slice() {
+    } else if is_known(word, b"overcommit") {
         Some(Command::Overcommit)
-    } else if word == b"meminfo".as_slice() {
+    } else if is_known(word, b"meminfo") {
         Some(Command::Meminfo)
-    } else if word == b"nodes".as_slice() {
+    } else if is_known(word, b"nodes") {
         Some(Command::Nodes)
     } else {
         None

@@ -5,6 +5,7 @@ pub mod accesses;
 mod command;
 mod commands;
 mod hex_digits;
+mod known;
 mod output;
 mod parts;
 pub mod reading;

@@ -5,6 +5,7 @@ ghost use Rattle.hp_model.specs.text.Words.{word_at, word_of, is_word, is_word_b
 ghost use Rattle.hp_wire_lines.specs.Words.{Gives, Takes, last_hex};
 
 use crate::hex_digits::decode;
+use crate::known::is_known;
 use crate::words::Words;
 use hp_model::lent::Lent;
 use hp_model::refusal::Refusal;
@@ -48,9 +49,9 @@ pub fn sharing(words: &mut Words<'_>) -> Result<Sharing, Refusal>
     ensures { Takes (λ x. x) result words.new (sharing_at words.old) }
 {
     let piece = words.piece()?;
-    if piece == b"shared".as_slice() {
+    if is_known(piece, b"shared") {
         Ok(Sharing::Shared)
-    } else if piece == b"private".as_slice() {
+    } else if is_known(piece, b"private") {
         Ok(Sharing::Private)
     } else {
         Err(Refusal::BadLine)
@@ -63,9 +64,9 @@ pub fn intent(words: &mut Words<'_>) -> Result<Intent, Refusal>
     ensures { Takes (λ x. x) result words.new (intent_at words.old) }
 {
     let piece = words.piece()?;
-    if piece == b"read".as_slice() {
+    if is_known(piece, b"read") {
         Ok(Intent::Read)
-    } else if piece == b"write".as_slice() {
+    } else if is_known(piece, b"write") {
         Ok(Intent::Write)
     } else {
         Err(Refusal::BadLine)
@@ -80,7 +81,7 @@ pub fn reserving(words: &mut Words<'_>) -> Result<Reserving, Refusal>
         return Ok(Reserving::Reserve);
     };
     words.end()?;
-    if piece == b"noreserve".as_slice() {
+    if is_known(piece, b"noreserve") {
         Ok(Reserving::NoReserve)
     } else {
         Err(Refusal::BadLine)

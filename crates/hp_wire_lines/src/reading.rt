@@ -8,6 +8,7 @@ use crate::commands::{
     anon, attach, connect, create, df, exit, fault, fork, load, ls, map, meminfo, mount, nodes, nr,
     overcommit, punch, read, stat, store, truncate, umount, unlink, unmap,
 };
+use crate::known::is_known;
 use crate::words::Words;
 use hp_model::refusal::Refusal;
 use hp_model::step::Step;
@@ -32,9 +33,9 @@ pub fn kind_of_line<'a>(line: &'a [u8]) -> Result<LineKind<'a>, Refusal>
 {
     let mut words = Words::new(line);
     let word = words.piece()?;
-    if word == b"load".as_slice() {
+    if is_known(word, b"load") {
         Ok(LineKind::Load(words))
-    } else if word == b"store".as_slice() {
+    } else if is_known(word, b"store") {
         Ok(LineKind::Store(words))
     } else {
         Ok(LineKind::Other { word, words })

@@ -1,5 +1,5 @@
 //! The text of a reply.
-ghost use Rattle.std.specs.Prelude.{◌≡◌, ◌≤◌, ℕ, ◌*◌, ◌++◌, ◌∷◌, [], codes, decimal, length, Err, IfOk};
+ghost use Rattle.std.specs.Prelude.{◌≡◌, ◌≤◌, ℕ, ◌*◌, ◌++◌, ◌∷◌, [], codes, decimal, length, take, Err, IfOk};
 ghost use Rattle.std.specs.List.{All};
 ghost use Rattle.hex.specs.Hex.{encode_lower};
 ghost use Rattle.hp_model.specs.machine.Accesses.{bytes_reply, done_reply};
@@ -83,7 +83,7 @@ fn push_told(page: u64, told: &Told<'_>, out: &mut Vec<u8>)
         } => push_usage(out, *max, *min, *used, *inodes, *files),
         Told::Names(names) => push_names(out, names.as_slice()),
         Told::Numbers(counts) => push_counts(page, *counts, out),
-        Told::PerNode { nodes, rows } => push_nodes(out, *nodes, &rows[..*nodes as usize]),
+        Told::PerNode { nodes, rows } => push_nodes(out, *nodes, *rows),
     }
 }
 
@@ -157,13 +157,15 @@ fn push_heading(out: &mut Vec<u8>, lines: u64)
     push_byte(out, b'\n');
 }
 
-fn push_nodes(out: &mut Vec<u8>, nodes: u64, rows: &[NodeCount])
-    requires few { length rows.now ≤ 4 }
+// The rows of the first so many nodes. They are copied, so that no other reply has to stand in memory.
+#[inline(never)]
+fn push_nodes(out: &mut Vec<u8>, nodes: u64, rows: [NodeCount; 4])
+    requires few { nodes ≤ 4 }
     requires room { HasRoom out.old 512 }
-    ensures { Adds out.old out.new (heading nodes ++ rows_text 0 rows.now) }
+    ensures { Adds out.old out.new (heading nodes ++ rows_text 0 (take nodes rows)) }
 {
     push_heading(out, nodes);
-    push_rows(out, rows);
+    push_rows(out, &rows[..nodes as usize]);
 }
 
 fn push_rows(out: &mut Vec<u8>, rows: &[NodeCount])

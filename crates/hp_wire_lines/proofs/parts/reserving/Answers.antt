@@ -14,12 +14,12 @@ returns-in_err-end c =
     let p = err_from_is_err_and c.from_residual.result c.from_residual.ensures.1 in
     rw (p.1, p.2) (sym (reserving_more c.args.words.now c.in-Ok.piece.now c.piece.new.self c.in_err-end.field-0.0 c.in-Ok.ensures.value (sym c.in_err-end.ensures)))
 
-pub returns-then-eq : goal.returns-then-eq
-returns-then-eq c =
-    let test : bytes_eq c.in-Ok.piece.now (codes "noreserve") ≡ true = ap (bytes_eq c.in-Ok.piece.now) (sym c.as_slice.ensures) ∙ sym c.eq.ensures ∙ c.if-eq.true in
+pub returns-then-is_known : goal.returns-then-is_known
+returns-then-is_known c =
+    let test : bytes_eq c.in-Ok.piece.now (codes "noreserve") ≡ true = sym c.is_known.ensures ∙ c.if-is_known.true in
     sym (reserving_last c.args.words.now c.in-Ok.piece.now c.piece.new.self c.in-Ok.ensures.value (sym c.in_ok-end.ensures) ∙ ap (λ (b : Bool). if b then Ok NoReserve else Err BadLine) test)
 
-pub returns-else-eq : goal.returns-else-eq
-returns-else-eq c =
-    let test : bytes_eq c.in-Ok.piece.now (codes "noreserve") ≡ false = ap (bytes_eq c.in-Ok.piece.now) (sym c.as_slice.ensures) ∙ sym c.eq.ensures ∙ c.if-eq.false in
+pub returns-else-is_known : goal.returns-else-is_known
+returns-else-is_known c =
+    let test : bytes_eq c.in-Ok.piece.now (codes "noreserve") ≡ false = sym c.is_known.ensures ∙ c.if-is_known.false in
     sym (reserving_last c.args.words.now c.in-Ok.piece.now c.piece.new.self c.in-Ok.ensures.value (sym c.in_ok-end.ensures) ∙ ap (λ (b : Bool). if b then Ok NoReserve else Err BadLine) test)
