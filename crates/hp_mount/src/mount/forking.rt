@@ -1,6 +1,7 @@
 //! A child gets maps on a mount.
-ghost use Rattle.std.specs.Prelude.{◌≡◌, ◌==◌, false, ℕ, Some, []};
+ghost use Rattle.std.specs.Prelude.{◌≡◌, ◌≢◌, ◌==◌, false, ℕ, Err, Some, []};
 ghost use Rattle.hp_model.specs.declared.event.SlotEvent.TheVariants.{ForkMaps};
+ghost use Rattle.hp_model.specs.declared.refusal.Refusal.TheVariants as Refusal;
 ghost use Rattle.hp_model.specs.machine.Accesses.{done_reply};
 ghost use Rattle.hp_store.specs.Store.{Store as StoreValue};
 ghost use Rattle.hp_subpool.specs.Subpool.{Subpool as ShareValue};
@@ -38,6 +39,7 @@ impl<N: Naming> Mount<N> {
         ensures done { (size k : ℕ) → IsDone D.took D.is_full size k (Some self.old) door.old
             (ForkMaps parent child) (done_reply result) (Some self.new) door.new }
         ensures left { D.is_left door.new }
+        ensures noted { done_reply result ≢ Err Refusal.TraceFull }
     {
         let of_parent = self.files.map_count_for(parent);
         let of_child = self.files.map_count_for(child);

@@ -33,6 +33,7 @@ impl<N: Naming> Mount<N> {
             (Unlink name.now) (done_reply result) (Some self.new) door.new }
         ensures left { D.is_left door.new }
         ensures memory { done_reply result ≢ Err Refusal.OutOfMemory }
+        ensures noted { done_reply result ≢ Err Refusal.TraceFull }
     {
         let Some(file) = self.files.named(name) else {
             return Err(Refusal::NoSuchFile);
@@ -62,6 +63,7 @@ impl<N: Naming> Mount<N> {
             (Truncate name.now pages) (done_reply result) (Some self.new) door.new }
         ensures left { D.is_left door.new }
         ensures memory { done_reply result ≢ Err Refusal.OutOfMemory }
+        ensures noted { done_reply result ≢ Err Refusal.TraceFull }
     {
         let Some(file) = self.files.named(name) else {
             return Err(Refusal::NoSuchFile);
@@ -95,6 +97,7 @@ impl<N: Naming> Mount<N> {
             (Punch name.now start end) (done_reply result) (Some self.new) door.new }
         ensures left { D.is_left door.new }
         ensures memory { done_reply result ≢ Err Refusal.OutOfMemory }
+        ensures noted { done_reply result ≢ Err Refusal.TraceFull }
     {
         let Some(file) = self.files.named(name) else {
             return Err(Refusal::NoSuchFile);

@@ -85,6 +85,7 @@ impl<N: Naming> Mount<N> {
             (Unmap task map start end) (done_reply result) (Some self.new) door.new }
         ensures left { D.is_left door.new }
         ensures memory { done_reply result ≢ Err Refusal.OutOfMemory }
+        ensures noted { done_reply result ≢ Err Refusal.TraceFull }
     {
         let Some(at) = self.files.find(task, map) else {
             return Err(Refusal::NoSuchMap);
