@@ -1,7 +1,7 @@
 -- An inode with the room to enter a range, and as it enters it.
 use Rattle.hp_model.proofs.Counting.{count_alike}
 use Rattle.hp_model.specs.files.Ranges.{within}
-use Rattle.std.proofs.Common.{◌≡◌, ℕ, ◌+◌, ◌-◌, ◌≤◌, ◌++◌, not, List, [], length, drop, replicate, max, refl, sym, ap, subst, ◌∙◌, arith, ◌||◌, true, rules, IsSome}
+use Rattle.std.proofs.Common.{◌≡◌, ℕ, ◌+◌, ◌-◌, ◌<◌, ◌≤◌, ◌^◌, ◌++◌, not, List, [], length, drop, replicate, max, refl, sym, ap, subst, ◌∙◌, arith, ◌||◌, true, rules, IsSome}
 use Rattle.std.specs.List.{All, range_with_len}
 use Rattle.std.proofs.lemmas.List.{drop_all, take_all}
 use Rattle.std.proofs.lemmas.List.Elements.{All-nil}
@@ -42,20 +42,16 @@ module _ (len m : ℕ) (e new : List ℕ) (rows made : Rows) (same : (k : ℕ) �
     slots = λ i in'. stay i (kept.slots i (sym (same i) ∙ in'));
   }
 
--- made longer, and entered
-module _ (len m : ℕ) (e new : List ℕ) (rows : Rows) (a b long missing pages : ℕ) (ready : IsReady len m pages e rows a b) (long_is : long ≡ max len b) (missing_is : missing ≡ missing_in e a b) (holds_new : (k : ℕ) → marked new k ≡ (marked e k || within a b k)) where
+-- made longer
+module _ (len m : ℕ) (e : List ℕ) (rows : Rows) (b long : ℕ) (kept : IsKept len m e rows) (small : b < 2 ^ 32) (long_is : long ≡ max len b) where
   past : drop long (cells_of len e rows) ≡ []
   past = (let here = length-cells len e rows in drop_all long (cells_of len e rows) (omega (arith, long_is, here)))
 
   holes : All (λ (cell : Cell ℕ). cell ≡ Hole) (drop long (cells_of len e rows))
   holes = subst (All (λ (cell : Cell ℕ). cell ≡ Hole)) (sym past) (All-nil (λ (cell : Cell ℕ). cell ≡ Hole))
 
-  longer : IsKept long m e rows
-  longer = (let small = ready.small in let was = ready.kept.small in resized_kept len m e rows ready.kept long holes (omega (arith, long_is, small, was)))
-
-  pub enter_kept : IsKept long (m + missing) new rows
-  enter_kept = subst (λ n. IsKept long (m + n) new rows) (sym missing_is)
-      (reserved_kept long m e new rows rows a b longer (omega (arith, long_is)) holds_new (λ k. refl) (λ k has. has) ready.slots)
+  pub longer_kept : IsKept long m e rows
+  longer_kept = (let was = kept.small in resized_kept len m e rows kept long holes (omega (arith, long_is, small, was)))
 
   lengthened : cells_to long (cells_of len e rows) ≡ at_least b (cells_of len e rows)
   lengthened =
@@ -64,7 +60,19 @@ module _ (len m : ℕ) (e new : List ℕ) (rows : Rows) (a b long missing pages 
       ap (λ xs. xs ++ replicate (long - length cells) Hole) (take_all long cells (omega (arith, here, long_is)))
       ∙ ap (λ n. cells ++ replicate n Hole) (let same : long - length cells ≡ b - length cells = omega (arith, here, long_is) in same)
 
+  pub longer_cells : cells_of long e rows ≡ at_least b (cells_of len e rows)
+  longer_cells = resized len m e rows kept long holes ∙ lengthened
+
+-- made longer, and entered
+module _ (len m : ℕ) (e new : List ℕ) (rows : Rows) (a b long missing pages : ℕ) (ready : IsReady len m pages e rows a b) (long_is : long ≡ max len b) (missing_is : missing ≡ missing_in e a b) (holds_new : (k : ℕ) → marked new k ≡ (marked e k || within a b k)) where
+  longer : IsKept long m e rows
+  longer = longer_kept len m e rows b long ready.kept ready.small long_is
+
+  pub enter_kept : IsKept long (m + missing) new rows
+  enter_kept = subst (λ n. IsKept long (m + n) new rows) (sym missing_is)
+      (reserved_kept long m e new rows rows a b longer (omega (arith, long_is)) holds_new (λ k. refl) (λ k has. has) ready.slots)
+
   pub enter_cells : cells_of long new rows ≡ edit_range entered a b (at_least b (cells_of len e rows))
   enter_cells =
       reserved_cells long m e new rows rows a b longer (omega (arith, long_is)) holds_new (λ k. refl)
-      ∙ ap (edit_range entered a b) (resized len m e rows ready.kept long holes ∙ lengthened)
+      ∙ ap (edit_range entered a b) (longer_cells len m e rows b long ready.kept ready.small long_is)

@@ -1,5 +1,6 @@
 -- The rows of a page table and their marks, after a change.
 use Rattle.std.proofs.Common.{◌≡◌, ℕ, zero, suc, ◌*◌, ◌<◌, ◌≤◌, ◌/◌, ◌%◌, ◌^◌, Bool, true, false, List, [], ◌∷◌, ◌++◌, length, replicate, take, drop, get_or, set, ltb, Option, None, sym, refl, ap, ◌∙◌, arith, ⊎_elim}
+use Rattle.std.specs.List.{refill}
 use Rattle.std.proofs.lemmas.Bool.{cases_eq, cases_lt, lt-ltb, ltb-true}
 use Rattle.std.proofs.lemmas.List.{get_or-set_same, get_or-set_other, get_or-replicate, get_or_past, nil_from_length, get_or_read, length-set, length-append, length-replicate, drop_all, take_all, append-nil}
 use Rattle.hp_inode.specs.Marks.{marked}
@@ -38,8 +39,8 @@ pub has_slot_pushed : (rows : Rows) (k : ℕ) → has_slot (rows ++ [] ∷ []) k
 has_slot_pushed rows k = ap (λ r. ltb (k % 64) (length r)) (get_or_pushed rows [] (k / 64))
 
 -- what a write through a slice of a whole list leaves
-pub written_back : {X : Type 0} (xs ws : List X) (n : ℕ) → length ws ≡ length xs → length xs ≡ n → take n (ws ++ drop (length ws) xs) ≡ ws
-written_back xs ws n same long = rw (drop_all (length ws) xs (omega (arith, same)), append-nil ws) (take_all n ws (omega (arith, same, long)))
+pub written_back : {X : Type 0} (xs ws : List X) → length ws ≡ length xs → refill (length xs) xs ws ≡ ws
+written_back xs ws same = rw (drop_all (length ws) xs (omega (arith, same)), append-nil ws) (take_all (length xs) ws (omega (arith, same)))
 
 -- ---- a chunk that gets its slots
 

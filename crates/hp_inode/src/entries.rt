@@ -7,15 +7,16 @@ ghost use Rattle.hp_inode.specs.Entries.{count_in, missing_in, FindsWord};
 ghost use Rattle.hp_inode.specs.Marks.{marked};
 
 use crate::marks::{WORD, bits_within, first_from, make_places, set_mark, set_marks};
+use smallvec::SmallVec;
 use std::alloc::{AllocError, Global};
 use std::marker::Model;
 
 /// A set of indices, and a mark at each word of it that has one, so that words with none are passed 64 at a step.
-/// Contracts see the words. Only `make_room` asks for memory.
+/// Contracts see the words. Only `make_room` asks for memory, and for the first 64 indices it takes none.
 #[derive(Drop)]
 pub struct Entries {
-    words: Vec<u64>,
-    marks: Vec<u64>,
+    words: SmallVec<u64, 1>,
+    marks: SmallVec<u64, 1>,
 }
 
 impl Model for Entries {
@@ -35,8 +36,8 @@ impl Entries {
         ensures { result ≡ [] }
     {
         Entries {
-            words: Vec::new(alloc),
-            marks: Vec::new(alloc),
+            words: SmallVec::new(alloc),
+            marks: SmallVec::new(alloc),
         }
     }
 
@@ -44,8 +45,9 @@ impl Entries {
     pub fn contains(&self, i: u64) -> bool
         ensures { result ≡ marked self.now i }
     {
+        let words = self.words.as_slice();
         let at = i as usize / WORD;
-        at < self.words.len() && self.words[at] >> (i as usize % WORD) & 1 == 1
+        at < words.len() && words[at] >> (i as usize % WORD) & 1 == 1
     }
 
     // How many indices from `a` up to `b` are in the set.
@@ -57,7 +59,9 @@ impl Entries {
         let mut count = 0;
         let mut at = a / WORD;
         while let Some(next) = self.next_word(at, end) {
-            count += u64::from((self.words[next] & bits_within(next, a, b)).count_ones());
+            count += u64::from(
+                (self.words.as_slice()[next] & bits_within(next, a, b)).count_ones(),
+            );
             at = next + 1;
         }
         count
@@ -94,8 +98,8 @@ impl Entries {
             return;
         }
         let (a, b) = (a as usize, b as usize);
-        set_marks(&mut self.words, a, b);
-        set_marks(&mut self.marks, a / WORD, b.div_ceil(WORD));
+        set_marks(self.words.as_mut_slice(), a, b);
+        set_marks(self.marks.as_mut_slice(), a / WORD, b.div_ceil(WORD));
     }
 
     /// Takes the indices from `a` up to `b` out, and answers how many there were.
@@ -123,10 +127,10 @@ impl Entries {
         ensures others { (k : ℕ) → (k / 64 ≡ at → ⊥) → marked self.new k ≡ marked self.old k }
         ensures len { length self.new ≡ length self.old }
     {
-        let word = self.words[at];
+        let word = self.words.as_slice()[at];
         let left = word & !bits;
-        self.words[at] = left;
-        set_mark(&mut self.marks, at, left != 0);
+        self.words.as_mut_slice()[at] = left;
+        set_mark(self.marks.as_mut_slice(), at, left != 0);
         u64::from((word & bits).count_ones())
     }
 
@@ -137,8 +141,9 @@ impl Entries {
         if from >= end {
             return None;
         }
-        let searched = end.div_ceil(WORD).min(self.marks.len());
-        let next = first_from(&self.marks[..searched], from)?;
+        let marks = self.marks.as_slice();
+        let searched = end.div_ceil(WORD).min(marks.len());
+        let next = first_from(&marks[..searched], from)?;
         if next < end { Some(next) } else { None }
     }
 }

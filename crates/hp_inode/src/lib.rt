@@ -3,7 +3,7 @@
 
 ghost use Rattle.std.specs.Prelude.{ℕ, ◌≡◌, ◌+◌, ◌<◌, ◌≤◌, ◌^◌, [], length, drop, OnOk, OnErr, IfOk, IfErr, MatchOption, None, false};
 ghost use Rattle.std.specs.List.{slice_set, count_by, All};
-ghost use Rattle.hp_model.specs.files.File.{is_entered, is_hole, has_page, page_of, entered, cell_in, cells_to};
+ghost use Rattle.hp_model.specs.files.File.{is_entered, is_hole, has_page, page_of, entered, at_least, cell_in, cells_to};
 ghost use Rattle.hp_model.specs.Lists.{edit_range, part, found};
 ghost use Rattle.hp_model.specs.declared.cell.Cell.TheVariants.{Hole, Entered, Present};
 
@@ -168,6 +168,14 @@ impl Inode {
         ensures { self.new ≡ cells_to len self.old }
     {
         self.len = len;
+    }
+
+    /// Makes the file at least `len` indices long, by holes.
+    pub fn lengthen(&mut self, len: u64)
+        requires { len < 2 ^ 32 }
+        ensures { self.new ≡ at_least len self.old }
+    {
+        self.len = self.len.max(len);
     }
 
     /// Takes the lowest page of the indices from `a` up to `b` out, with its entry. Entries without a page stay.

@@ -1,9 +1,10 @@
 //! Marks on numbers, a bit for each: the first mark from a number on is found a word at a time.
-ghost use Rattle.std.specs.Prelude.{ℕ, ◌≡◌, ◌==◌, ◌+◌, ◌*◌, ◌<◌, ◌≤◌, ◌^◌, ◌||◌, max, length, OnOk, OnErr, vec_len};
+ghost use Rattle.std.specs.Prelude.{ℕ, ◌≡◌, ◌==◌, ◌+◌, ◌*◌, ◌<◌, ◌≤◌, ◌^◌, ◌||◌, max, length, OnOk, OnErr};
 ghost use Rattle.std.specs.Int.{bit_at};
 ghost use Rattle.hp_model.specs.files.Ranges.{within};
 ghost use Rattle.hp_inode.specs.Marks.{marked, FindsFrom};
 
+use smallvec::SmallVec;
 use std::alloc::AllocError;
 
 /// How many marks a word has.
@@ -68,12 +69,12 @@ pub fn set_marks(words: &mut [u64], a: usize, b: usize)
 }
 
 /// Makes places for the marks of all numbers below `count`.
-pub fn make_places(words: &mut Vec<u64>, count: usize) -> Result<(), AllocError>
-    ensures ok { OnOk result (count ≤ 64 * vec_len words.new) }
+pub fn make_places(words: &mut SmallVec<u64, 1>, count: usize) -> Result<(), AllocError>
+    ensures ok { OnOk result (count ≤ 64 * length words.new.items) }
     ensures marks { (k : ℕ) → marked words.new.items k ≡ marked words.old.items k }
-    ensures more { vec_len words.old ≤ vec_len words.new }
+    ensures more { length words.old.items ≤ length words.new.items }
     ensures err { OnErr result (words.new.items ≡ words.old.items) }
-    ensures few { 64 * vec_len words.new ≤ max (64 * vec_len words.old) (count + 63) }
+    ensures few { 64 * length words.new.items ≤ max (64 * length words.old.items) (count + 63) }
 {
     let wanted = count.div_ceil(WORD);
     if wanted <= words.len() {

@@ -6,6 +6,7 @@ ghost use Rattle.hp_inode.specs.Rows.{page_in, has_slot, FindsSlot, FindsPage};
 use crate::chunk::{CHUNK, Chunk};
 use crate::marks::{first_from, make_places, set_mark};
 use hp_model::page_no::PageNo;
+use smallvec::SmallVec;
 use std::alloc::{AllocError, Global};
 use std::marker::Model;
 
@@ -13,7 +14,7 @@ use std::marker::Model;
 #[derive(Drop)]
 pub struct PageTable {
     chunks: Vec<Chunk>,
-    marks: Vec<u64>,
+    marks: SmallVec<u64, 1>,
     alloc: Global,
 }
 
@@ -33,7 +34,7 @@ impl PageTable {
     {
         PageTable {
             chunks: Vec::new(alloc),
-            marks: Vec::new(alloc),
+            marks: SmallVec::new(alloc),
             alloc,
         }
     }
@@ -58,7 +59,7 @@ impl PageTable {
         let at = (i / CHUNK) as usize;
         self.chunks[at].set((i % CHUNK) as usize, page);
         let some = self.chunks[at].has_page();
-        set_mark(&mut self.marks, at, some);
+        set_mark(self.marks.as_mut_slice(), at, some);
     }
 
     /// The first index with a page, of those from `a` on.
@@ -69,7 +70,7 @@ impl PageTable {
         if let Some(k) = self.slot_from(at, (a % CHUNK) as usize) {
             return Some(at as u64 * CHUNK + k as u64);
         }
-        let next = first_from(&self.marks, at + 1)?;
+        let next = first_from(self.marks.as_slice(), at + 1)?;
         let k = self.slot_from(next, 0)?;
         Some(next as u64 * CHUNK + k as u64)
     }

@@ -64,6 +64,8 @@ impl MapRange {
     }
 
     /// The map, which has no copy yet.
+    // Inlined, so that it is not moved on the way.
+    #[inline(always)]
     pub(crate) fn mapping(
         &self,
         alloc: Global,

@@ -1,5 +1,5 @@
 use Rattle.std.proofs.Common.{arith, rules, sym, ap, ◌∙◌, ◌<◌, ◌^◌, ◌≡◌, ◌%◌, ℕ, false, eqb, get_or, length, not, ◌&&◌, bit_and, ◌-◌, set}
-use Rattle.std.proofs.lemmas.List.{get_or_read}
+use Rattle.std.proofs.lemmas.List.{length-set}
 use Rattle.std.specs.Int.{bit_at}
 use Rattle.std.proofs.lemmas.Bool.Decides.{nat_tests}
 use Rattle.hp_inode.specs.Marks.{marked}
@@ -14,16 +14,18 @@ pub invariant_of-self : goal.invariant_of-self
 invariant_of-self c =
     let words = c.self.inside.words.items in
     let marks = c.self.inside.marks.items in
+    let left = bit_and (get_or c.as_slice.result.now c.args.at 0) (18446744073709551615 - c.args.bits) in
     let within : c.args.at < length words = rw c.self.view_is c.requires in
     let long : length c.set_mark.new.words ≡ length marks = search rules in
-    rw (written_back marks c.set_mark.new.words c.self.inside.marks.len long (search rules))
-    (cleared_entries words marks c.set_mark.new.words c.args.at _ c.self.invariant within long (λ j other. c.set_mark.ensures.others j other ∙ ap (λ ws. marked ws j) c.deref_mut.ensures.value) (λ off. zero_of _ (sym c.set_mark.ensures.here ∙ off)))
+    rw (c.as_mut_slice.ensures.value, written_back words (set words c.args.at left) (length-set words c.args.at left), written_back marks c.set_mark.new.words long)
+    (cleared_entries words marks c.set_mark.new.words c.args.at left c.self.invariant within long (λ j other. c.set_mark.ensures.others j other ∙ ap (λ ws. marked ws j) c.as_mut_slice-2.ensures.value) (λ off. zero_of _ (sym c.set_mark.ensures.here ∙ off)))
 
 pub returns-clause-here : goal.returns-clause-here
 returns-clause-here c k this =
     let words = c.self.inside.words.items in
+    let left = bit_and (get_or c.as_slice.result.now c.args.at 0) (18446744073709551615 - c.args.bits) in
     let within : c.args.at < length words = rw c.self.view_is c.requires in
     let small : c.args.bits < 2 ^ 64 = omega arith in
-    let read : c.index-word.result.now ≡ get_or words c.args.at 0 = get_or_read words c.args.at c.index-word.result.now within c.index-word.ensures 0 in
-    ap (λ w. marked (set words c.args.at (bit_and w (18446744073709551615 - c.args.bits))) k) read
-    ∙ cleared_here words c.args.at c.args.bits within small k this ∙ ap (λ ws. marked ws k && not (eqb (bit_at c.args.bits (k % 64)) 1)) c.self.view_is
+    rw (c.as_mut_slice.ensures.value, written_back words (set words c.args.at left) (length-set words c.args.at left))
+    (ap (λ ws. marked (set words c.args.at (bit_and (get_or ws c.args.at 0) (18446744073709551615 - c.args.bits))) k) c.as_slice.ensures
+    ∙ cleared_here words c.args.at c.args.bits within small k this ∙ ap (λ ws. marked ws k && not (eqb (bit_at c.args.bits (k % 64)) 1)) c.self.view_is)

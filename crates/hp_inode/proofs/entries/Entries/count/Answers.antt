@@ -1,5 +1,4 @@
 use Rattle.std.proofs.Common.{arith, sym, ap, ◌∙◌, ◌<◌, ◌^◌, ◌*◌, ◌+◌, ◌/◌, ◌≡◌, bit_and, get_or, count_ones, length}
-use Rattle.std.proofs.lemmas.List.{get_or_read}
 use Rattle.std.specs.List.{count_by, range_with_len}
 use Rattle.hp_inode.proofs.Spread.{ours, counted_none, counted_few, counted_next, counted_end, bit_marked}
 use Rattle.hp_inode.proofs.entries.Entries.count.Goals as goal
@@ -9,9 +8,7 @@ loop-next-init c = record { from = omega arith; counted = sym (counted_none c.ar
 
 more : (c : goal.After-from-count) → c.loop-next.count + c.from-count.result ≡ count_by (ours c.args.self.now c.args.a c.args.b) (range_with_len 0 (64 * (c.in-Some.next + 1)))
 more c =
-    let items = c.self.inside.words.items in
-    let within : c.in-Some.next < length items = rw c.self.view_is c.in-Some.ensures.within in
-    let read : c.index.result.now ≡ get_or c.args.self.now c.in-Some.next 0 = get_or_read items c.in-Some.next c.index.result.now within c.index.ensures 0 ∙ ap (λ ws. get_or ws c.in-Some.next 0) c.self.view_is in
+    let read : get_or c.as_slice.result.now c.in-Some.next 0 ≡ get_or c.args.self.now c.in-Some.next 0 = ap (λ ws. get_or ws c.in-Some.next 0) (c.as_slice.ensures ∙ c.self.view_is) in
     let small : c.bits_within.result < 2 ^ 64 = omega arith in
     let next = counted_next c.args.self.now c.args.a c.args.b c.loop-next.at c.in-Some.next (get_or c.args.self.now c.in-Some.next 0) c.bits_within.result c.in-Some.ensures.from c.in-Some.ensures.none_before small (bit_marked c.args.self.now c.in-Some.next) c.bits_within.ensures in
     let ones = c.from-count.ensures ∙ ap (λ w. count_ones (bit_and w c.bits_within.result)) read in

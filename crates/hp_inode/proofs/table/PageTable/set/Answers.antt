@@ -12,9 +12,9 @@ invariant_of-self c =
     let there = chunk_there rows c.args.i c.args.page c.set.new.self c.index_mut.result.now slot c.index_mut.ensures.value c.set.ensures in
     let same : c.index.result.now ≡ c.set.new.self = c.index.ensures ∙ get_or-set_same rows (c.args.i / 64) c.set.new.self c.index.result.now there in
     let long : length c.set_mark.new.words ≡ length c.self.inside.marks.items = search rules in
-    rw (written_back c.self.inside.marks.items c.set_mark.new.words c.self.inside.marks.len long (search rules))
+    rw (written_back c.self.inside.marks.items c.set_mark.new.words long)
     (table_set rows c.args.i c.args.page c.set.new.self c.index_mut.result.now slot c.index_mut.ensures.value c.set.ensures c.self.inside.marks.items c.set_mark.new.words c.has_page-some.result c.self.invariant long c.set_mark.ensures.here
-    (λ j other. c.set_mark.ensures.others j other ∙ ap (λ ws. marked ws j) c.deref_mut.ensures.value)
+    (λ j other. c.set_mark.ensures.others j other ∙ ap (λ ws. marked ws j) c.as_mut_slice.ensures.value)
     (λ on none. c.has_page-some.ensures.some on (λ k. ap (λ r. get_or r k None) same ∙ none k))
     (λ off k. ap (λ r. get_or r k None) (sym same) ∙ c.has_page-some.ensures.none off k))
 

@@ -1,17 +1,12 @@
-use Rattle.std.proofs.Common.{◌≡◌, ◌<◌, ap, refl, subst, sym, ◌∙◌}
-use Rattle.hp_model.specs.declared.section.Section.TheVariants.{Grant}
-use Rattle.hp_model.specs.pool.Pool.{granted_at}
-use Rattle.hp_mount_door.specs.Door.{with_reserves}
-use Rattle.hp_subpool.specs.Subpool.{Subpool, rise}
+use Rattle.std.proofs.Common.{◌≡◌, ◌+◌, ◌++◌, ◌∷◌, [], OnOk, length, subst, sym, arith}
+use Rattle.hp_model.specs.files.File.{at_least, entered}
+use Rattle.hp_mount_files.proofs.Bare.{none_edited}
 use Rattle.hp_mount_files.proofs.file.File.add_map.Goals as goal
 
-pub returns-in-Ok-get-clause-asked : goal.returns-in-Ok-get-clause-asked
-returns-in-Ok-get-clause-asked g c =
-    let is = c.requires.shares in
-    let k = c.args.wanted in
-    let old = c.args.share.now in
-    record {
-      share = sym (is c.get.new.share) ∙ c.in-Ok-get.ensures.share ∙ ap (with_reserves k) (is old);
-      none = subst (λ (s : Subpool). rise s k ≡ 0 → c.get.new.self ≡ c.args.door.now) (is old) c.get.ensures.same;
-      some = subst (λ (s : Subpool). 0 < rise s k → g.D.PoolDoor.took c.args.door.now (Grant c.args.home (rise s k)) (granted_at 0) c.get.new.self) (is old) (c.in-Ok-get.ensures.ok refl);
-    }
+pub returns-then-from-end-clause-ok : goal.returns-then-from-end-clause-ok
+returns-then-from-end-clause-ok g c =
+    let old = c.args.self.now in
+    let m = c.args.map in
+    let end = m.start + length m.places in
+    subst (λ cells. OnOk c.add_bare_map.result (c.add_bare_map.new.self ≡ record old { cells = cells; maps = old.maps ++ m ∷ [] }))
+    (sym (none_edited entered c.args.from end (at_least end old.cells) (omega (arith, c.if-from-end.true, c.end.ensures)))) c.add_bare_map.ensures.ok
