@@ -265,3 +265,16 @@ pub(crate) fn end_maps_of<N: Naming>(
     }
     reserves
 }
+
+/// The copies of maps that are gone go. It takes a step for each map and copy.
+pub(crate) fn drop_maps<N: Naming>(maps: &[Mapping], store: &mut PageStore<N>, more: &mut usize)
+    requires held { (n : ℕ) → sum_by (in_map n) maps.now ≤ holders_of (page_at store.old n) }
+    requires some { HasHolders store.old }
+    requires counted { more.old ≡ more_in store.old.pages }
+    ensures dropping { IsDropping (λ n. sum_by (in_map n) maps.now) (λ n. 0) store.old store.new }
+    ensures counted { more.new ≡ more_in store.new.pages }
+{
+    for map in maps {
+        drop_map(map, store, more);
+    }
+}

@@ -122,9 +122,8 @@ pub(crate) fn children(
     let mut list = Vec::new(alloc);
     for map in maps {
         if map.task() == parent {
-            let Ok(()) = list.push(map.fork_for(tags.take(), child)?) else {
-                return Err(AllocError);
-            };
+            list.reserve(1)?;
+            list.push_reserved(map.fork_for(tags.take(), child)?);
         }
     }
     if !list.is_empty() {

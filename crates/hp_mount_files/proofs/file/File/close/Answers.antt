@@ -11,50 +11,26 @@ use Rattle.hp_mount_files.specs.Numbered.{NumberedFile}
 use Rattle.hp_mount_files.proofs.Parts.{file_of}
 use Rattle.hp_mount_files.proofs.file.File.close.Goals as goal
 
-pub loop-map-init : goal.loop-map-init
-loop-map-init g c =
-    let inside = c.into_inner-inode.result in (
-      drop_as (λ n. sum_by (in_cell n) inside.inode) (λ n. sum_by (in_cell n) c.drop_pages.new.inode) (λ n. in_file n c.args.self) (λ n. sum_by (in_map n) inside.maps.items) c.args.store.now c.drop_pages.new.store c.drop_pages.ensures.dropping
-          (λ n.
-          let whole = ap (in_file n) (ap file_of c.into_inner-inode.ensures ∙ c.self.view_is) in
-          let none = ap (sum_by (in_cell n)) c.drop_pages.ensures.cells ∙ no_pages n c.len-len.result inside.inode c.len-len.ensures.len in
-          omega (arith, whole, none)),
-      c.drop_pages.ensures.counted,
-    )
+pub drop_maps-requires-clause-held : goal.drop_maps-requires-clause-held
+drop_maps-requires-clause-held g c n =
+    let inside = c.into_inner-inode.result in
+    let whole = ap (in_file n) (ap file_of c.into_inner-inode.ensures ∙ c.self.view_is) in
+    let none = ap (sum_by (in_cell n)) c.drop_pages.ensures.cells ∙ no_pages n c.len-len.result inside.inode c.len-len.ensures.len in
+    let held = c.drop_pages.ensures.dropping.held n in
+    let all = c.requires.held n in
+    let same = ap (sum_by (in_map n)) c.deref.ensures.value in
+    omega (arith, whole, none, held, all, same)
 
-pub drop_map-requires-clause-held : goal.drop_map-requires-clause-held
-drop_map-requires-clause-held g c n =
-    let was = c.loop-map in
-    let had = was.invariant.0.held n in
-    let few = c.requires.held n in
-    let split = ap (sum_by (in_map n)) c.in-Some.ensures.items ∙ sum_by_push (in_map n) c.pop.new.self.items c.in-Some.map in
-    omega (arith, had, few, split)
-
-pub loop-map-preserved : goal.loop-map-preserved
-loop-map-preserved g c =
-    let was = c.loop-map in
-    let rest = c.pop.new.self.items in
-    let map = c.in-Some.map in (
-      drop_then (λ n. in_file n c.args.self) (λ n. sum_by (in_map n) was.maps.items) (λ n. in_map n c.in-Some.map) (λ n. 0) (λ n. in_file n c.args.self) (λ n. sum_by (in_map n) rest)
-          c.args.store.now was.store c.drop_map.new.store was.invariant.0 c.drop_map.ensures.dropping
-          (λ n.
-          let split = ap (sum_by (in_map n)) c.in-Some.ensures.items ∙ sum_by_push (in_map n) rest map in
-          omega (arith, split)),
-      c.drop_map.ensures.counted,
-    )
-
-pub loop-map-preserved-in-Some : goal.loop-map-preserved-in-Some
-loop-map-preserved-in-Some g c =
-    let was = c.loop-map in
-    let rest = c.pop.new.self.items in
-    let map = c.in-Some.map in (
-      drop_then (λ n. in_file n c.args.self) (λ n. sum_by (in_map n) was.maps.items) (λ n. in_map n c.in-Some.map) (λ n. 0) (λ n. in_file n c.args.self) (λ n. sum_by (in_map n) rest)
-          c.args.store.now was.store c.drop_map.new.store was.invariant.0 c.drop_map.ensures.dropping
-          (λ n.
-          let split = ap (sum_by (in_map n)) c.in-Some.ensures.items ∙ sum_by_push (in_map n) rest map in
-          omega (arith, split)),
-      c.drop_map.ensures.counted,
-    )
+pub returns-clause-dropping : goal.returns-clause-dropping
+returns-clause-dropping g c =
+    let inside = c.into_inner-inode.result in
+    drop_then (λ n. sum_by (in_cell n) inside.inode) (λ n. sum_by (in_cell n) c.drop_pages.new.inode) (λ n. sum_by (in_map n) c.deref.result.now) (λ n. 0) (λ n. in_file n c.args.self) (λ n. 0)
+        c.args.store.now c.drop_pages.new.store c.drop_maps.new.store c.drop_pages.ensures.dropping c.drop_maps.ensures.dropping
+        (λ n.
+        let whole = ap (in_file n) (ap file_of c.into_inner-inode.ensures ∙ c.self.view_is) in
+        let none = ap (sum_by (in_cell n)) c.drop_pages.ensures.cells ∙ no_pages n c.len-len.result inside.inode c.len-len.ensures.len in
+        let same = ap (sum_by (in_map n)) c.deref.ensures.value in
+        omega (arith, whole, none, same))
 
 pub drop_entries-requires-clause-pageless : goal.drop_entries-requires-clause-pageless
 drop_entries-requires-clause-pageless g c =

@@ -17,13 +17,14 @@ use Rattle.hp_mount_files.proofs.Views.{files_len}
 use Rattle.hp_mount_files.proofs.files.Files.put_map.Given.{Over}
 use Rattle.hp_mount_files.proofs.files.Files.put_map.Goals as goal
 
-pub invariant_of-self-then-is_err : goal.invariant_of-self-then-is_err
-invariant_of-self-then-is_err g c =
+pub invariant_of-self-in_default : goal.invariant_of-self-in_default
+invariant_of-self-in_default g c =
     let s = c.self.inside in
-    files_recounted s.hints s.store s.more s.maps (count_of s.counts) (count_of c.make_room.new.self) s.list.items c.make_room.ensures.same c.self.invariant
+    files_recounted c.note_map.new.self s.store s.more s.maps (count_of s.counts) (count_of c.make_room.new.self) s.list.items c.make_room.ensures.same
+    (files_noted s.hints c.note_map.new.self s.store s.more s.maps (count_of s.counts) s.list.items c.note_map.ensures.more c.self.invariant)
 
-pub invariant_of-self-in_default-note_map : goal.invariant_of-self-in_default-note_map
-invariant_of-self-in_default-note_map g c =
+pub invariant_of-self-in_default-mapping : goal.invariant_of-self-in_default-mapping
+invariant_of-self-in_default-mapping g c =
     let s = c.self.inside in
     files_recounted c.note_map.new.self s.store s.more s.maps (count_of s.counts) (count_of c.make_room.new.self) s.list.items c.make_room.ensures.same
     (files_noted s.hints c.note_map.new.self s.store s.more s.maps (count_of s.counts) s.list.items c.note_map.ensures.more c.self.invariant)
@@ -57,8 +58,8 @@ module _ (g : Over) (c : goal.After-set g) where
       (new_mapping c.args.range.now.task c.args.next.number c.args.range.now.start c.args.range.now.pages c.args.range.now.sharing c.args.range.now.reserving) c.index_mut-at.result.now
   range_is =
       let r = c.args.range.now in
-      c.in_ok-add_map.ensures.ok ∙ ap (λ k. with_mapping k c.in-Ok.map c.index_mut-at.result.now) c.entered_from.ensures.from
-      ∙ ap (λ m. with_mapping (entered_from r.sharing r.reserving r.start r.pages) m c.index_mut-at.result.now) c.in-Ok.ensures
+      c.in_ok-add_map.ensures.ok ∙ ap (λ k. with_mapping k c.in-Ok-mapping.map c.index_mut-at.result.now) c.entered_from.ensures.from
+      ∙ ap (λ m. with_mapping (entered_from r.sharing r.reserving r.start r.pages) m c.index_mut-at.result.now) c.in-Ok-mapping.ensures
 
   within : c.args.file < length c.self.inside.list.items
   within = (let same = files_len c.self.inside.store c.self.inside.list.items in let inside = subst (λ (v : Files). c.args.file < length v.files) (sym c.self.view_is) c.requires.file in omega (arith, same, inside))
@@ -74,7 +75,7 @@ invariant_of-self-2 g c =
     let number = subst (λ (v : Files). c.args.next.number ≡ next_of r.task v.files) (sym c.self.view_is) c.requires.number in
     let fresh = ap (λ n. is_among n numbers) number ∙ unused_is_new numbers in
     map_files r.task c.args.next.number r.start r.pages r.sharing r.reserving s.hints s.store s.more s.maps (count_of s.counts) s.list.items c.args.file c.self.invariant (within g c) c.index_mut-at.result.now c.add_map.new.self c.index_mut-at.ensures.value (range_is g c)
-    fresh c.note_map.new.self c.note_map.ensures.more c.in-Ok-note_map.ensures.noted (count_of c.set.new.self) (one_more g c)
+    fresh c.note_map.new.self c.note_map.ensures.more c.in-Ok.ensures.noted (count_of c.set.new.self) (one_more g c)
 
 pub returns-clause-ok : goal.returns-clause-ok
 returns-clause-ok g c =
