@@ -1,7 +1,7 @@
 use Rattle.std.proofs.Common.{arith, ◌<◌, length}
 use Rattle.std.specs.Prelude.{slice_index_or, slice_set}
 use Rattle.std.specs.List.{sum_by}
-use Rattle.std.proofs.lemmas.List.Sums.{sum_by-set}
+use Rattle.std.proofs.lemmas.List.Sums.{get_or-le-sum_by, sum_by-set}
 use Rattle.hp_mount_files.specs.Held.{in_map}
 use Rattle.hp_mount_files.specs.Leaving.{ended_for, owed}
 use Rattle.hp_mount_files.proofs.Drops.{drop_then}
@@ -25,3 +25,21 @@ loop-map-preserved g c =
       (let step = sum_by-set owed was.maps i n c.map-item.result inside in let had = was.invariant.3 in let left = one.ensures.reserves in omega (arith, step, had, left)),
       more_then c.args.task c.args.hints.now was.hints one.new.hints was.invariant.4 one.ensures.hints,
     )
+
+pub end_map_of-reserves-requires-clause-held : goal.end_map_of-reserves-requires-clause-held
+end_map_of-reserves-requires-clause-held g c n =
+    let was = c.loop-map in
+    let inside : was.map-index < length was.maps = omega (arith, c.loop-map-test.true, was.auto.maps) in
+    let part = get_or-le-sum_by (in_map n) was.maps was.map-index c.map-item.result inside in
+    let had = was.invariant.0.held n in
+    let all = c.requires.held n in
+    omega (arith, part, had, all)
+
+pub overflow_add-reserves : goal.overflow_add-reserves
+overflow_add-reserves g c =
+    let was = c.loop-map in
+    let inside : was.map-index < length was.maps = omega (arith, c.loop-map-test.true, was.auto.maps) in
+    let step = sum_by-set owed was.maps was.map-index c.end_map_of-reserves.new.map c.map-item.result inside in
+    let had = was.invariant.3 in
+    let left = c.end_map_of-reserves.ensures.reserves in
+    omega (arith, step, had, left, c.requires.few)
