@@ -17,6 +17,11 @@ use Rattle.hp_mount_files.proofs.Views.{files_len}
 use Rattle.hp_mount_files.proofs.files.Files.put_map.Given.{Over}
 use Rattle.hp_mount_files.proofs.files.Files.put_map.Goals as goal
 
+pub invariant_of-self : goal.invariant_of-self
+invariant_of-self g c =
+    let s = c.self.inside in
+    files_recounted s.hints s.store s.more s.maps (count_of s.counts) (count_of c.make_room.new.self) s.list.items c.make_room.ensures.same c.self.invariant
+
 pub invariant_of-self-in_default : goal.invariant_of-self-in_default
 invariant_of-self-in_default g c =
     let s = c.self.inside in

@@ -1,9 +1,11 @@
-use Rattle.std.proofs.Common.{◌≡◌, ◌==◌, Bool, cond, ◌+◌, ◌-◌, ◌<◌, ◌^◌, ◌≢◌, ℕ, true, false, refl, map, ap, subst, sym, ◌∙◌, arith}
+use Rattle.std.proofs.Common.{◌≡◌, ◌==◌, Bool, cond, ◌+◌, ◌-◌, ◌<◌, ◌^◌, ◌≢◌, ℕ, true, false, length, refl, map, ap, subst, sym, ◌∙◌, arith}
 use Rattle.std.specs.Prelude.{slice_set}
 use Rattle.std.specs.List.{filter, sum_by}
 use Rattle.hp_model.specs.files.GiveBack.{file_unmapped, is_kept}
 use Rattle.hp_model.specs.files.Mapping.{Mapping, is_map, is_mapped, without_range}
 use Rattle.hp_model.specs.files.MountCounts.{file_reserves}
+use Rattle.std.proofs.lemmas.List.Sums.{get_or-le-sum_by}
+use Rattle.hp_mount_files.specs.Held.{in_file}
 use Rattle.hp_mount_files.specs.Tally.{count_of}
 use Rattle.hp_mount_files.specs.Dropping.{IsLeft}
 use Rattle.hp_mount_files.specs.Files.{Files}
@@ -12,7 +14,7 @@ use Rattle.hp_mount_files.specs.Numbered.{files_shown, mapping_at}
 use Rattle.hp_mount_files.specs.Places.{IsFound}
 use Rattle.hp_mount_files.proofs.Leaving.{files_owe}
 use Rattle.hp_mount_files.proofs.Unmapping.{enough_held, few_reserves, some_maps, some_tally, stays_files, stays_keeps, stays_left, went_files, went_keeps, went_left}
-use Rattle.hp_mount_files.proofs.Views.{view}
+use Rattle.hp_mount_files.proofs.Views.{files_len, view}
 use Rattle.hp_mount_files.proofs.files.Files.unmap.Given.{Over}
 use Rattle.hp_mount_files.proofs.files.Files.unmap.Goals as goal
 use Rattle.hp_mount_files.proofs.files.Files.unmap.Goals.{After-unmap-gone, After-sweep_file-entries}
@@ -44,6 +46,16 @@ module _ (g : Over) (c : After-unmap-gone g) where
       let all = files_owe c.self.inside.store c.self.inside.list.items in
       let same = ap (λ (v : Files). sum_by file_reserves v.files) c.self.view_is in
       omega (arith, all, same, c.requires.few)
+
+pub unmap-gone-requires-clause-held : goal.unmap-gone-requires-clause-held
+unmap-gone-requires-clause-held g c n =
+    let s = c.self.inside in
+    let found : IsFound (files_shown s.store s.list.items) c.args.task c.args.number c.args.at.file c.args.at.map = subst (λ (v : Files). IsFound v.files c.args.task c.args.number c.args.at.file c.args.at.map) (sym c.self.view_is) c.requires.found in
+    let inside : c.args.at.file < length s.list.items = omega (arith, found.file_within, files_len s.store s.list.items) in
+    let part = get_or-le-sum_by (in_file n) s.list.items c.args.at.file c.index_mut-file.result.now inside in
+    let its = ap (in_file n) c.index_mut-file.ensures.value in
+    let all = c.self.invariant.held.held n in
+    omega (arith, part, its, all)
 
 pub invariant_of-self : goal.invariant_of-self
 invariant_of-self g c =
