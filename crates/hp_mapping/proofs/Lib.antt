@@ -2,3 +2,4 @@ pub mod FilledWords
 pub mod MarkedPlaces
 pub mod MarkedWords
 pub mod Ranges
+pub mod Untouched

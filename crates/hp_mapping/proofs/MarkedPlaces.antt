@@ -2,7 +2,7 @@
 use mir.Val.{bool_byte}
 use Rattle.std.proofs.Common.{refl, zero, suc, [], ◌∷◌, ◌||◌, replicate, map, Option, None, Some, IfSome, IfNone, is_some, not, ◌≡◌, ℕ, ◌*◌, ◌<◌, ◌≤◌, ◌-◌, inl, inr, Bool, true, false, List, length, slice_index_or, slice_set, sym, ◌∙◌, ap, cond, ◌+◌, arith}
 use Rattle.std.proofs.lemmas.Bool.{cases_eq, cases_lt}
-use Rattle.std.proofs.lemmas.List.{get_or-set_same, get_or-set_other, length-set, get_or-replicate, get_or_past, length-replicate, length-map, get_or_default}
+use Rattle.std.proofs.lemmas.List.{get_or-set_same, get_or-set_other, length-set, get_or-replicate, get_or_past, length-replicate, length-map}
 use Rattle.std.specs.List.{count_by, list_any}
 use Rattle.std.proofs.lemmas.List.Sums.{sum_by-cons, sum_by-set}
 use Rattle.std.proofs.lemmas.List.Folds.{sum_by-replicate}
@@ -85,12 +85,10 @@ live_within (p ∷ places) zero live = omega arith
 live_within (p ∷ places) (suc at) live = let rest = live_within places at live in omega arith
 
 -- a live place got a copy
-pub placed_copied : (places : List (Place ℕ)) (live copies new : List ℕ) (at page : ℕ) (d : Place ℕ) → IsPlaced places live copies
-    → is_live (slice_index_or places at Gone) ≡ true → ChangesMark at 1 copies new → IsPlaced (slice_set places at (with_copy page (slice_index_or places at d))) live new
-placed_copied places live copies new at page d s here changes =
-    let within = live_within places at here in
-    let same : slice_index_or places at d ≡ slice_index_or places at Gone = get_or_default places at d Gone within in
-    rw same (placed_copy places live copies new at 1 (with_copy page (slice_index_or places at Gone)) s within (copy_live page (slice_index_or places at Gone)) changes (copy_some page (slice_index_or places at Gone) here))
+pub placed_copied : (places : List (Place ℕ)) (live copies new : List ℕ) (at page : ℕ) → IsPlaced places live copies
+    → is_live (slice_index_or places at Gone) ≡ true → ChangesMark at 1 copies new → IsPlaced (slice_set places at (with_copy page (slice_index_or places at Gone))) live new
+placed_copied places live copies new at page s here changes =
+    placed_copy places live copies new at 1 (with_copy page (slice_index_or places at Gone)) s (live_within places at here) (copy_live page (slice_index_or places at Gone)) changes (copy_some page (slice_index_or places at Gone) here)
 
 -- ---- all places
 
@@ -190,41 +188,39 @@ counted_forked count places live copies s = record { placed = placed_forked plac
 copy_none : (p : Place ℕ) → copy_of p ≡ None → has_copy p ≡ false
 copy_none p e = ap (λ (o : Option ℕ). is_some o) e
 
--- a place got a copy: it had none, or it had another
-pub counted_copied : (count more : ℕ) (places : List (Place ℕ)) (live copies new : List ℕ) (at page : ℕ) (d : Place ℕ) (none : Bool) → AreCounted count places live copies
-    → is_live (slice_index_or places at Gone) ≡ true → ChangesMark at 1 copies new → more ≡ bool_byte none → has_copy (slice_index_or places at d) ≡ not none
-    → AreCounted (count + more) (slice_set places at (with_copy page (slice_index_or places at d))) live new
-counted_copied count more places live copies new at page d none s here changes more_is none_is = record {
-  placed = placed_copied places live copies new at page d s.placed here changes;
-  count_is = rw same (by none more_is (ap has_copy (sym same) ∙ none_is));
+pub one_at_most : (b : Bool) → bool_byte b ≤ 1
+one_at_most true = omega arith
+one_at_most false = omega arith
+
+-- a place got a copy: it was bare, or it had another
+pub counted_copied : (count more : ℕ) (places : List (Place ℕ)) (live copies new : List ℕ) (at page : ℕ) (bare : Bool) → AreCounted count places live copies
+    → is_live (slice_index_or places at Gone) ≡ true → ChangesMark at 1 copies new → more ≡ bool_byte bare → bare ≡ not (has_copy (slice_index_or places at Gone))
+    → AreCounted (count + more) (slice_set places at (with_copy page (slice_index_or places at Gone))) live new
+counted_copied count more places live copies new at page bare s here changes more_is bare_is = record {
+  placed = placed_copied places live copies new at page s.placed here changes;
+  count_is = by (has_copy (slice_index_or places at Gone)) refl (more_is ∙ ap bool_byte bare_is);
 }
   where
     within : at < length places
     within = live_within places at here
 
-    same : slice_index_or places at d ≡ slice_index_or places at Gone
-    same = get_or_default places at d Gone within
-
     some : has_copy (with_copy page (slice_index_or places at Gone)) ≡ true
     some = marked (has_copy (with_copy page (slice_index_or places at Gone))) (sym (copy_some page (slice_index_or places at Gone) here))
 
-    by : (b : Bool) → more ≡ bool_byte b → has_copy (slice_index_or places at Gone) ≡ not b → count + more ≡ count_by has_copy (slice_set places at (with_copy page (slice_index_or places at Gone)))
-    by true one e = (let step = count_more places at (with_copy page (slice_index_or places at Gone)) within some e in omega (arith, one, step, s.count_is))
-    by false one e = (let step = count_same places at (with_copy page (slice_index_or places at Gone)) within (some ∙ sym e) in omega (arith, one, step, s.count_is))
+    by : (b : Bool) → has_copy (slice_index_or places at Gone) ≡ b → more ≡ bool_byte (not (has_copy (slice_index_or places at Gone))) → count + more ≡ count_by has_copy (slice_set places at (with_copy page (slice_index_or places at Gone)))
+    by false e more_is = (let one = more_is ∙ ap (λ b. bool_byte (not b)) e in let step = count_more places at (with_copy page (slice_index_or places at Gone)) within some e in omega (arith, one, step, s.count_is))
+    by true e more_is = (let none = more_is ∙ ap (λ b. bool_byte (not b)) e in let step = count_same places at (with_copy page (slice_index_or places at Gone)) within (some ∙ sym e) in omega (arith, none, step, s.count_is))
 
 -- a copy went
-pub counted_bare : (count : ℕ) (places : List (Place ℕ)) (live copies new : List ℕ) (at : ℕ) (d : Place ℕ) → AreCounted count places live copies
-    → is_some (copy_of (slice_index_or places at Gone)) ≡ true → ChangesMark at 0 copies new → AreCounted (count - 1) (slice_set places at (without_copy (slice_index_or places at d))) live new
-counted_bare count places live copies new at d s here changes =
+pub counted_bare : (count : ℕ) (places : List (Place ℕ)) (live copies new : List ℕ) (at : ℕ) → AreCounted count places live copies
+    → is_some (copy_of (slice_index_or places at Gone)) ≡ true → ChangesMark at 0 copies new → AreCounted (count - 1) (slice_set places at (without_copy (slice_index_or places at Gone))) live new
+counted_bare count places live copies new at s here changes =
     let within = live_within places at (copied_live (slice_index_or places at Gone) here) in
-    let same : slice_index_or places at d ≡ slice_index_or places at Gone = get_or_default places at d Gone within in
     let step = count_less places at (without_copy (slice_index_or places at Gone)) within (bare_copy (slice_index_or places at Gone)) here in
-    rw same (
     record {
       placed = placed_copy places live copies new at 0 (without_copy (slice_index_or places at Gone)) s.placed within (bare_live (slice_index_or places at Gone)) changes (ap one_if (sym (bare_copy (slice_index_or places at Gone))));
       count_is = omega (arith, step, s.count_is);
     }
-    )
   where
     copied_live : (p : Place ℕ) → has_copy p ≡ true → is_live p ≡ true
     copied_live Gone e = e

@@ -1,11 +1,19 @@
 -- What contracts see of a mapping.
-use Rattle.std.specs.Prelude.{◌≡◌, ℕ, ◌-◌, ◌<◌, ◌≤◌, ◌&&◌, Bool, true, is_some, if◌then◌else◌, List, slice_index_or, slice_set}
+use Rattle.std.specs.Prelude.{◌≡◌, ℕ, ◌-◌, ◌<◌, ◌≤◌, ◌&&◌, ◌++◌, Bool, true, false, is_some, if◌then◌else◌, List, length, replicate, slice_index_or, slice_set}
 use Rattle.std.specs.Prelude.{None, Some}
 use Rattle.std.specs.List.{count_by}
 use Rattle.hp_model.specs.declared.place.Place.{Place}
 use Rattle.hp_model.specs.declared.place.Place.TheVariants.{Gone, Live}
 use Rattle.hp_model.specs.Lists.{part}
 use Rattle.hp_model.specs.files.Mapping.{Mapping, place_at, with_place, copy_of, is_unconsumed, without_copy}
+
+-- a place that was never touched
+abbrev pub fresh : Place ℕ
+fresh = Live false None
+
+-- so many places: these come first, and those behind are fresh
+abbrev pub with_fresh : ℕ → List (Place ℕ) → List (Place ℕ)
+with_fresh count first = first ++ replicate (count - length first) fresh
 
 -- the place of the file's index i is changed
 abbrev pub at_place : (Place ℕ → Place ℕ) → ℕ → Mapping ℕ → Mapping ℕ

@@ -7,6 +7,7 @@ mod mapping;
 mod marks;
 mod place;
 mod places;
+mod row;
 mod words;
 
 pub use flags::MapFlags;

@@ -4,7 +4,7 @@ ghost use Rattle.std.specs.List.{count_by};
 ghost use Rattle.hp_model.specs.declared.place.Place.TheVariants.{Gone, Live};
 ghost use Rattle.hp_model.specs.files.Mapping.{place_at, is_live, is_mapped, is_shared, copy_of, without_copy, without_range, map_for};
 ghost use Rattle.hp_mapping.specs.Flags.{has_owner, has_unmapped, sharing_of};
-ghost use Rattle.hp_mapping.specs.Mapped.{at_place, consumed, with_copy, has_copy, has_reserve, IsClear, reserves_in, reserves_of, TakesLowest};
+ghost use Rattle.hp_mapping.specs.Mapped.{at_place, consumed, with_copy, with_fresh, has_copy, has_reserve, IsClear, reserves_in, reserves_of, TakesLowest};
 
 use crate::flags::MapFlags;
 use crate::places::Places;
@@ -137,11 +137,11 @@ impl Mapping {
         self.flags.is_unmapped()
     }
 
-    /// The places of the range, in order.
-    pub fn places(&self) -> &[Place<PageNo>]
-        ensures { result.now ≡ self.now.places }
+    /// The places of the range, in order, up to the last one that was ever touched. Those behind are fresh.
+    pub fn touched(&self) -> &[Place<PageNo>]
+        ensures { self.now.places ≡ with_fresh (length self.now.places) result.now }
     {
-        self.places.as_slice()
+        self.places.touched()
     }
 
     /// How many copies the map has. No place is walked.

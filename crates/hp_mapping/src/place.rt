@@ -1,6 +1,6 @@
 //! One place of a map, with the number of a page as its copy.
 ghost use Rattle.std.specs.Prelude.{◌≡◌};
-ghost use Rattle.hp_model.specs.files.Mapping.{copy_of, is_unconsumed, without_copy, unconsumed};
+ghost use Rattle.hp_model.specs.files.Mapping.{copy_of, is_live, is_unconsumed, without_copy, unconsumed};
 ghost use Rattle.hp_mapping.specs.Mapped.{consumed, with_copy};
 
 use hp_model::page_no::PageNo;
@@ -17,6 +17,18 @@ pub(crate) fn forked(place: &Place<PageNo>) -> Place<PageNo>
             copy: *copy,
         },
     }
+}
+
+pub(crate) fn is_live(place: &Place<PageNo>) -> bool
+    ensures { result ≡ is_live place.now }
+{
+    matches!(
+        place,
+        Place::Live {
+            consumed: _,
+            copy: _
+        }
+    )
 }
 
 pub(crate) fn is_unconsumed(place: &Place<PageNo>) -> bool

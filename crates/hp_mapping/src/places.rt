@@ -4,23 +4,19 @@ ghost use Rattle.std.specs.List.{count_by, list_any};
 ghost use Rattle.hp_model.specs.declared.place.Place.TheVariants.{Gone, Live};
 ghost use Rattle.hp_model.specs.Lists.{edit_range, part};
 ghost use Rattle.hp_model.specs.files.Mapping.{is_live, copy_of, is_unconsumed, without_copy, unconsumed};
-ghost use Rattle.hp_mapping.specs.Mapped.{at_index, consumed, has_copy, with_copy, HasNoCopy, IsGone};
+ghost use Rattle.hp_mapping.specs.Mapped.{at_index, consumed, has_copy, with_copy, with_fresh, HasNoCopy, IsGone};
 
 use crate::marks::Marks;
-use crate::place;
+use crate::row::Row;
 use hp_model::page_no::PageNo;
 use hp_model::place::Place;
 use std::alloc::{AllocError, Global};
 use std::marker::Model;
-use std::mem::size_of;
-
-// A page of a map costs this, and a bit for each of the two marks.
-const _: () = prove!(size_of::<Place<PageNo>>() <= 12);
 
 /// Places, counted from 0. Contracts see them alone.
 #[derive(Drop)]
 pub(crate) struct Places {
-    places: Vec<Place<PageNo>>,
+    places: Row,
     live: Marks,
     copies: Marks,
     // how many have a copy
@@ -34,9 +30,9 @@ impl Model for Places {
 
     ghost Value = { List (Place ℕ) };
 
-    ghost view = { λ p. p.places.items };
+    ghost view = { λ p. p.places };
 
-    ghost invariant = { λ p. AreCounted p.copy_count p.places.items p.live p.copies };
+    ghost invariant = { λ p. AreCounted p.copy_count p.places p.live p.copies };
 }
 
 impl Places {
@@ -44,7 +40,7 @@ impl Places {
     pub(crate) fn new(alloc: Global, count: usize) -> Result<Self, AllocError>
         ensures { IfOk result (λ p. p ≡ replicate count (Live false None)) }
     {
-        let places = fresh(alloc, count)?;
+        let places = Row::new(alloc, count)?;
         let live = Marks::all(alloc, count)?;
         let copies = Marks::new(alloc, count)?;
         Ok(Places {
@@ -59,7 +55,7 @@ impl Places {
     pub(crate) fn forked(&self, alloc: Global) -> Result<Self, AllocError>
         ensures { IfOk result (λ p. p ≡ map unconsumed self.now) }
     {
-        let places = forked(alloc, &self.places)?;
+        let places = self.places.forked(alloc)?;
         let live = self.live.copied()?;
         let copies = self.copies.copied()?;
         Ok(Places {
@@ -76,10 +72,11 @@ impl Places {
         self.places.len()
     }
 
-    pub(crate) fn as_slice(&self) -> &[Place<PageNo>]
-        ensures { result.now ≡ self.now }
+    /// The places up to the last one that was ever touched.
+    pub(crate) fn touched(&self) -> &[Place<PageNo>]
+        ensures { self.now ≡ with_fresh (length self.now) result.now }
     {
-        self.places.as_slice()
+        self.places.touched()
     }
 
     /// How many have a copy. No place is walked.
@@ -92,28 +89,19 @@ impl Places {
     pub(crate) fn is_live(&self, at: usize) -> bool
         ensures { result ≡ is_live (slice_index_or self.now at Gone) }
     {
-        matches!(
-            self.places.get(at),
-            Some(Place::Live {
-                consumed: _,
-                copy: _
-            })
-        )
+        self.places.is_live(at)
     }
 
     pub(crate) fn is_unconsumed(&self, at: usize) -> bool
         ensures { result ≡ is_unconsumed (slice_index_or self.now at Gone) }
     {
-        match self.places.get(at) {
-            Some(place) => place::is_unconsumed(place),
-            None => false,
-        }
+        self.places.is_unconsumed(at)
     }
 
     pub(crate) fn copy_at(&self, at: usize) -> Option<PageNo>
         ensures { result ≡ copy_of (slice_index_or self.now at Gone) }
     {
-        place::copy_in(self.places.get(at)?)
+        self.places.copy_at(at)
     }
 
     pub(crate) fn has_live(&self) -> bool
@@ -126,16 +114,15 @@ impl Places {
         requires { at < length self.old }
         ensures { self.new ≡ at_index consumed at self.old }
     {
-        place::consume(&mut self.places[at]);
+        self.places.consume(at);
     }
 
     pub(crate) fn set_copy(&mut self, at: usize, page: PageNo)
         requires { IsTrue (is_live (slice_index_or self.old at Gone)) }
         ensures { self.new ≡ at_index (with_copy page) at self.old }
     {
-        let place = &mut self.places[at];
-        self.copy_count += u64::from(place::copy_in(place).is_none());
-        place::set_copy(place, page);
+        let bare = self.places.set_copy(at, page);
+        self.copy_count += u64::from(bare);
         self.copies.mark(at);
     }
 
@@ -143,7 +130,7 @@ impl Places {
         requires { IsSome (copy_of (slice_index_or self.old at Gone)) }
         ensures { self.new ≡ at_index without_copy at self.old }
     {
-        place::drop_copy(&mut self.places[at]);
+        self.places.drop_copy(at);
         self.copies.unmark(at);
         self.copy_count -= 1;
     }
@@ -182,9 +169,7 @@ impl Places {
         ensures left { self.new ≡ slice_set self.old at Gone }
         ensures freed { result ≡ is_unconsumed (slice_index_or self.old at Gone) }
     {
-        let place = &mut self.places[at];
-        let freed = place::is_unconsumed(place);
-        *place = Place::Gone;
+        let freed = self.places.leave(at);
         self.live.unmark(at);
         freed
     }
@@ -206,29 +191,4 @@ impl Places {
         }
         freed
     }
-}
-
-// So many live places.
-fn fresh(alloc: Global, count: usize) -> Result<Vec<Place<PageNo>>, AllocError>
-    ensures { IfOk result (λ v. v.items ≡ replicate count (Live false None)) }
-{
-    let mut places = Vec::with_capacity(alloc, count)?;
-    for _at in 0..count {
-        places.push_reserved(Place::Live {
-            consumed: false,
-            copy: None,
-        });
-    }
-    Ok(places)
-}
-
-// The places of a child's map.
-fn forked(alloc: Global, places: &[Place<PageNo>]) -> Result<Vec<Place<PageNo>>, AllocError>
-    ensures { IfOk result (λ v. v.items ≡ map unconsumed places.now) }
-{
-    let mut copies = Vec::with_capacity(alloc, places.len())?;
-    for place in places {
-        copies.push_reserved(place::forked(place));
-    }
-    Ok(copies)
 }

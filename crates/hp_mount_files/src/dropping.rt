@@ -91,7 +91,7 @@ pub(crate) fn drop_map<N: Naming>(map: &Mapping, store: &mut PageStore<N>, more:
     ensures dropping { IsDropping (λ n. in_map n map.now) (λ n. 0) store.old store.new }
     ensures counted { more.new ≡ more_in store.new.pages }
 {
-    let places = map.places();
+    let places = map.touched();
     let start = map.start();
     let end = map.end();
     let mut from = start;

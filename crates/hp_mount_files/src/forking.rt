@@ -71,7 +71,7 @@ fn share_map<N: Naming>(map: &Mapping, store: &mut PageStore<N>, more: &mut usiz
     ensures counted { more.new ≡ more_in store.new.pages }
     ensures more { more.new ≡ more.old + copies_in map.now }
 {
-    let places = map.places();
+    let places = map.touched();
     let start = map.start();
     let end = map.end();
     let mut from = start;

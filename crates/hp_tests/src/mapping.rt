@@ -169,3 +169,16 @@ fn each_second_page_of_many_unmapped(rt: HostRuntime) -> Result<(), Fail> {
     assert!(rt; !map.is_mapped());
     Ok(())
 }
+
+#[test]
+fn places_are_written_up_to_the_last_one_touched(rt: HostRuntime) -> Result<(), Fail> {
+    let mut map = owned(rt.alloc(), 10, 1000)?;
+    same!(rt; map.touched().len(), 0);
+    shows(&rt, &map, 999, (true, true, None));
+    set_copy(&rt, &mut map, 12, 5);
+    consume(&rt, &mut map, 11);
+    same!(rt; map.touched().len(), 3);
+    same!(rt; forked(&map)?.touched().len(), 3);
+    shows(&rt, &map, 13, (true, true, None));
+    Ok(())
+}

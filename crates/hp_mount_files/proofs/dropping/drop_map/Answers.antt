@@ -1,4 +1,4 @@
-use Rattle.std.proofs.Common.{◌≡◌, ◌+◌, ◌-◌, ap, drop, length, subst, sym, arith}
+use Rattle.std.proofs.Common.{◌≡◌, ◌+◌, ◌-◌, ap, drop, subst, arith}
 use Rattle.std.specs.Prelude.{IsSome, slice_index_or}
 use Rattle.std.specs.List.{sum_by}
 use Rattle.hp_mapping.specs.Mapped.{IsClear}
@@ -7,6 +7,7 @@ use Rattle.hp_model.specs.files.Mapping.{copy_of, place_at}
 use Rattle.hp_mount_files.specs.Held.{in_map, in_place}
 use Rattle.hp_mount_files.proofs.Drops.{drop_as, drop_start, drop_then}
 use Rattle.hp_mount_files.proofs.Sharing.{bare_in, no_copy, stands_at, to_copy}
+use Rattle.hp_mount_files.proofs.Touched.{some_touched, touched_few, touched_some, touched_sum}
 use Rattle.hp_mount_files.proofs.dropping.drop_map.Goals as goal
 
 pub loop-at-init : goal.loop-at-init
@@ -23,8 +24,12 @@ loop-at-init g c =
 
 pub drop_run-past-requires-clause-within : goal.drop_run-past-requires-clause-within
 drop_run-past-requires-clause-within g c =
-    let long = ap length c.places-places.ensures in
-    omega (arith, long, c.start-start.ensures, c.end-end.ensures, c.in-Some.ensures.below)
+    let m = c.args.map.now in
+    let e = c.in-Some.ensures in
+    let at = c.in-Some.at in
+    let here : place_at m at ≡ slice_index_or m.places (at - c.start-start.result) Gone = stands_at m at (at - c.start-start.result) (omega (arith, c.loop-at.invariant.start, e.from, c.start-start.ensures)) in
+    let less = some_touched m.places c.touched-places.result.now c.touched-places.ensures (at - c.start-start.result) (subst (λ p. IsSome (copy_of p)) here e.copy) in
+    omega (arith, less)
 
 pub drop_run-past-requires-clause-held : goal.drop_run-past-requires-clause-held
 drop_run-past-requires-clause-held g c n =
@@ -33,7 +38,7 @@ drop_run-past-requires-clause-held g c n =
     let e = c.in-Some.ensures in
     let from = c.loop-at.from in
     let at = c.in-Some.at in
-    let its = ap (λ xs. sum_by (in_place n) (drop (at - c.start-start.result) xs)) c.places-places.ensures in
+    let its = touched_sum (in_place n) (bare_in n) m.places c.touched-places.result.now c.touched-places.ensures (at - c.start-start.result) in
     let moved = ap (λ k. sum_by (in_place n) (drop (at - k) m.places)) c.start-start.ensures in
     let left = ap (λ k. sum_by (in_place n) (drop (from - k) m.places)) c.start-start.ensures in
     let same = to_copy (in_place n) (bare_in n) m from at (omega (arith, was.start, c.start-start.ensures)) e.from (omega (arith, e.below, c.end-end.ensures)) e.clear in
@@ -48,21 +53,21 @@ loop-at-smaller g c =
     let at = c.in-Some.at in
     let was = c.loop-at.invariant in
     let here : place_at m at ≡ slice_index_or m.places (at - c.start-start.result) Gone = stands_at m at (at - c.start-start.result) (omega (arith, was.start, e.from, c.start-start.ensures)) in
-    let some = subst (λ xs. IsSome (copy_of (slice_index_or xs (at - c.start-start.result) Gone))) (sym c.places-places.ensures) (subst (λ p. IsSome (copy_of p)) here e.copy) in
+    let some = touched_some m.places c.touched-places.result.now c.touched-places.ensures (at - c.start-start.result) (subst (λ p. IsSome (copy_of p)) here e.copy) in
     let past = c.drop_run-past.ensures.past some in
     omega (arith, past, e.from, e.below, was.start)
 
 pub loop-at-preserved : goal.loop-at-preserved
 loop-at-preserved g c =
     let m = c.args.map.now in
-    let ps = c.places-places.result.now in
+    let ps = c.touched-places.result.now in
     let start = c.start-start.result in
     let was = c.loop-at.invariant in
     let e = c.in-Some.ensures in
     let from = c.loop-at.from in
     let at = c.in-Some.at in
     let past = c.drop_run-past.result in
-    let long = ap length c.places-places.ensures in
+    let long = touched_few m.places ps c.touched-places.ensures in
     let back : start + past - start ≡ past = omega arith in
     record {
       start = omega arith;
@@ -70,8 +75,8 @@ loop-at-preserved g c =
       dropping = drop_then (λ n. in_map n m) (λ n. sum_by (in_place n) (drop (from - start) m.places)) (λ n. sum_by (in_place n) (drop (at - start) ps)) (λ n. sum_by (in_place n) (drop past ps)) (λ n. in_map n m) (λ n. sum_by (in_place n) (drop (start + past - start) m.places))
           c.args.store.now c.loop-at.store c.drop_run-past.new.store was.dropping c.drop_run-past.ensures.dropping
           (λ n.
-          let its = ap (λ xs. sum_by (in_place n) (drop (at - start) xs)) c.places-places.ensures in
-          let rest = ap (λ xs. sum_by (in_place n) (drop past xs)) c.places-places.ensures in
+          let its = touched_sum (in_place n) (bare_in n) m.places ps c.touched-places.ensures (at - start) in
+          let rest = touched_sum (in_place n) (bare_in n) m.places ps c.touched-places.ensures past in
           let moved = ap (λ k. sum_by (in_place n) (drop (at - k) m.places)) c.start-start.ensures in
           let left = ap (λ k. sum_by (in_place n) (drop (from - k) m.places)) c.start-start.ensures in
           let same = to_copy (in_place n) (bare_in n) m from at (omega (arith, was.start, c.start-start.ensures)) e.from (omega (arith, e.below, c.end-end.ensures)) e.clear in

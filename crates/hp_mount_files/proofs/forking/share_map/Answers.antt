@@ -1,4 +1,4 @@
-use Rattle.std.proofs.Common.{◌≡◌, ◌<◌, ◌≤◌, ◌+◌, ◌-◌, ap, drop, length, refl, subst, sym, arith}
+use Rattle.std.proofs.Common.{◌≡◌, ◌<◌, ◌≤◌, ◌+◌, ◌-◌, ap, drop, length, refl, subst, arith}
 use Rattle.std.specs.Prelude.{IsSome, slice_index_or}
 use Rattle.std.specs.List.{count_by, sum_by}
 use Rattle.hp_mapping.specs.Mapped.{IsClear, has_copy}
@@ -6,6 +6,7 @@ use Rattle.hp_model.specs.declared.place.Place.TheVariants.{Gone}
 use Rattle.hp_model.specs.files.Mapping.{copy_of, place_at}
 use Rattle.hp_mount_files.specs.Held.{in_place}
 use Rattle.hp_mount_files.proofs.Sharing.{bare_in, bare_one, has_one, no_copy, shared_all, shared_as, shared_none, shared_then, stands_at, to_copy}
+use Rattle.hp_mount_files.proofs.Touched.{some_touched, touched_few, touched_some, touched_sum}
 use Rattle.hp_mount_files.proofs.forking.share_map.Goals as goal
 
 pub loop-at-init : goal.loop-at-init
@@ -24,8 +25,12 @@ loop-at-init g c =
 
 pub share_run-past-requires-clause-within : goal.share_run-past-requires-clause-within
 share_run-past-requires-clause-within g c =
-    let long = ap length c.places-places.ensures in
-    omega (arith, long, c.start-start.ensures, c.end-end.ensures, c.in-Some.ensures.below)
+    let m = c.args.map.now in
+    let e = c.in-Some.ensures in
+    let at = c.in-Some.at in
+    let here : place_at m at ≡ slice_index_or m.places (at - c.start-start.result) Gone = stands_at m at (at - c.start-start.result) (omega (arith, c.loop-at.invariant.start, e.from, c.start-start.ensures)) in
+    let less = some_touched m.places c.touched-places.result.now c.touched-places.ensures (at - c.start-start.result) (subst (λ p. IsSome (copy_of p)) here e.copy) in
+    omega (arith, less)
 
 pub share_run-past-requires-clause-held : goal.share_run-past-requires-clause-held
 share_run-past-requires-clause-held g c n =
@@ -34,7 +39,7 @@ share_run-past-requires-clause-held g c n =
     let e = c.in-Some.ensures in
     let from = c.loop-at.from in
     let at = c.in-Some.at in
-    let its = ap (λ xs. sum_by (in_place n) (drop (at - c.start-start.result) xs)) c.places-places.ensures in
+    let its = touched_sum (in_place n) (bare_in n) m.places c.touched-places.result.now c.touched-places.ensures (at - c.start-start.result) in
     let moved = ap (λ k. sum_by (in_place n) (drop (at - k) m.places)) c.start-start.ensures in
     let left = ap (λ k. sum_by (in_place n) (drop (from - k) m.places)) c.start-start.ensures in
     let same = to_copy (in_place n) (bare_in n) m from at (omega (arith, was.start, c.start-start.ensures)) e.from (omega (arith, e.below, c.end-end.ensures)) e.clear in
@@ -53,7 +58,7 @@ share_run-past-requires-clause-few g c =
     let e = c.in-Some.ensures in
     let from = c.loop-at.from in
     let at = c.in-Some.at in
-    let its = ap (λ xs. count_by has_copy (drop (at - c.start-start.result) xs)) c.places-places.ensures in
+    let its = touched_sum has_one bare_one m.places c.touched-places.result.now c.touched-places.ensures (at - c.start-start.result) in
     let moved = ap (λ k. count_by has_copy (drop (at - k) m.places)) c.start-start.ensures in
     let left = ap (λ k. count_by has_copy (drop (from - k) m.places)) c.start-start.ensures in
     let same = to_copy has_one bare_one m from at (omega (arith, was.start, c.start-start.ensures)) e.from (omega (arith, e.below, c.end-end.ensures)) e.clear in
@@ -67,21 +72,21 @@ loop-at-smaller g c =
     let at = c.in-Some.at in
     let was = c.loop-at.invariant in
     let here : place_at m at ≡ slice_index_or m.places (at - c.start-start.result) Gone = stands_at m at (at - c.start-start.result) (omega (arith, was.start, e.from, c.start-start.ensures)) in
-    let some = subst (λ xs. IsSome (copy_of (slice_index_or xs (at - c.start-start.result) Gone))) (sym c.places-places.ensures) (subst (λ p. IsSome (copy_of p)) here e.copy) in
+    let some = touched_some m.places c.touched-places.result.now c.touched-places.ensures (at - c.start-start.result) (subst (λ p. IsSome (copy_of p)) here e.copy) in
     let past = c.share_run-past.ensures.past some in
     omega (arith, past, e.from, e.below, was.start)
 
 pub loop-at-preserved : goal.loop-at-preserved
 loop-at-preserved g c =
     let m = c.args.map.now in
-    let ps = c.places-places.result.now in
+    let ps = c.touched-places.result.now in
     let start = c.start-start.result in
     let was = c.loop-at.invariant in
     let e = c.in-Some.ensures in
     let from = c.loop-at.from in
     let at = c.in-Some.at in
     let past = c.share_run-past.result in
-    let long = ap length c.places-places.ensures in
+    let long = touched_few m.places ps c.touched-places.ensures in
     let back : start + past - start ≡ past = omega arith in
     let low : m.start ≤ from = omega (arith, was.start, c.start-start.ensures) in
     let below : at < m.start + length m.places = omega (arith, e.below, c.end-end.ensures) in
@@ -91,18 +96,18 @@ loop-at-preserved g c =
       shared = shared_then m.places (drop (from - start) m.places) (drop (start + past - start) m.places) c.args.store.now c.loop-at.store c.share_run-past.new.store was.shared
           (shared_as (drop (from - start) m.places) (drop (at - start) ps) (drop past ps) (drop (start + past - start) m.places) c.loop-at.store c.share_run-past.new.store c.share_run-past.ensures.shared
           (λ n.
-          let its = ap (λ xs. sum_by (in_place n) (drop (at - start) xs)) c.places-places.ensures in
+          let its = touched_sum (in_place n) (bare_in n) m.places ps c.touched-places.ensures (at - start) in
           let moved = ap (λ k. sum_by (in_place n) (drop (at - k) m.places)) c.start-start.ensures in
           let left = ap (λ k. sum_by (in_place n) (drop (from - k) m.places)) c.start-start.ensures in
           let same = to_copy (in_place n) (bare_in n) m from at low e.from below e.clear in
           omega (arith, its, moved, left, same))
-          (λ n. (let rest = ap (λ xs. sum_by (in_place n) (drop past xs)) c.places-places.ensures in let end = ap (λ k. sum_by (in_place n) (drop k m.places)) back in omega (arith, rest, end))));
+          (λ n. (let rest = touched_sum (in_place n) (bare_in n) m.places ps c.touched-places.ensures past in let end = ap (λ k. sum_by (in_place n) (drop k m.places)) back in omega (arith, rest, end))));
       counted = c.share_run-past.ensures.counted;
-      more = (let its = ap (λ xs. count_by has_copy (drop (at - start) xs)) c.places-places.ensures in
+      more = (let its = touched_sum has_one bare_one m.places ps c.touched-places.ensures (at - start) in
           let moved = ap (λ k. count_by has_copy (drop (at - k) m.places)) c.start-start.ensures in
           let left = ap (λ k. count_by has_copy (drop (from - k) m.places)) c.start-start.ensures in
           let same = to_copy has_one bare_one m from at low e.from below e.clear in
-          let rest = ap (λ xs. count_by has_copy (drop past xs)) c.places-places.ensures in
+          let rest = touched_sum has_one bare_one m.places ps c.touched-places.ensures past in
           let end = ap (λ k. count_by has_copy (drop k m.places)) back in
           let more = was.more in
           omega (arith, its, moved, left, same, rest, end, more, c.share_run-past.ensures.more));

@@ -1,10 +1,10 @@
-use Rattle.std.proofs.Common.{◌≡◌, take, map, length, vec_len, vec_capacity}
+use Rattle.std.proofs.Common.{◌≡◌, take, map, vec_len, vec_capacity}
 use Rattle.hp_model.specs.files.Mapping.{unconsumed}
-use Rattle.hp_mapping.proofs.places.forked.Given as goal
+use Rattle.hp_mapping.proofs.row.forked.Given as goal
 
 abbrev pub invariant-loop-place : goal.invariant-loop-place
 invariant-loop-place l = record {
   items : l.copies.items ≡ map unconsumed (take l.place-index l.places);
   len : vec_len l.copies ≡ l.place-index;
-  capacity : vec_capacity l.copies ≡ length l.places;
+  capacity : vec_capacity l.copies ≡ l.room;
 }
