@@ -1,4 +1,4 @@
-//! The map of a task. With each allocation refused in turn `a_second_try_after_refused_memory` passes.
+//! The map of a task. With each allocation refused in turn `a_child_of_a_map` passes.
 ghost use Rattle.std.specs.Prelude.{◌≤◌};
 
 use crate::same::same;
@@ -35,10 +35,6 @@ fn forked_at_last<R: Abort>(rt: &R, map: &Mapping) -> Result<Mapping, AllocError
             map.fork_for(1, 8)
         }
     }
-}
-
-fn forked(map: &Mapping) -> Result<Mapping, AllocError> {
-    map.fork_for(1, 8)
 }
 
 fn page(number: u32) -> Option<PageNo> {
@@ -115,38 +111,38 @@ fn a_map_of_four_pages(rt: HostRuntime) -> Result<(), Fail> {
     takes(&rt, &mut map, 0, 12, None);
     takes(&rt, &mut map, 0, 13, page(5));
     shows(&rt, &map, 12, (true, true, None));
+    drop(map);
     Ok(())
 }
 
-// A child shows what its parent's map showed, owns nothing, and may lose its copy.
-fn is_a_child<R: Abort>(rt: &R, mut child: Mapping) {
-    is_named(rt, &child, [8, 3, 10, 14]);
-    is_flagged(rt, &child, [false, false, false, true]);
-    shows(rt, &child, 11, (true, false, None));
-    shows(rt, &child, 12, (true, false, page(5)));
-    take_away(rt, &mut child, 12);
-    shows(rt, &child, 12, (true, false, None));
-    is_flagged(rt, &child, [false, false, true, true]);
+// A child shows what its parent's map shows, owns nothing, and may lose its copy.
+fn is_a_child<R: Abort>(rt: &R, child: &mut Mapping) {
+    is_named(rt, child, [8, 3, 0, 200]);
+    is_flagged(rt, child, [false, false, false, true]);
+    shows(rt, child, 149, (true, false, None));
+    shows(rt, child, 150, (true, false, page(5)));
+    take_away(rt, child, 150);
+    shows(rt, child, 150, (true, false, None));
+    is_flagged(rt, child, [false, false, true, true]);
+}
+
+// A map has a child, and stays as it is.
+fn has_a_child<R: Abort>(rt: &R, map: &mut Mapping) -> Result<(), AllocError> {
+    set_copy(rt, map, 150, 5);
+    let mut child = forked_at_last(rt, map)?;
+    is_a_child(rt, &mut child);
+    shows(rt, map, 150, (true, true, page(5)));
+    is_flagged(rt, map, [true, false, false, true]);
+    drop(child);
+    Ok(())
 }
 
 #[test]
 fn a_child_of_a_map(rt: HostRuntime) -> Result<(), Fail> {
-    let mut map = owned(rt.alloc(), 10, 14)?;
-    set_copy(&rt, &mut map, 12, 5);
-    is_a_child(&rt, forked(&map)?);
-    shows(&rt, &map, 12, (true, true, page(5)));
-    is_flagged(&rt, &map, [true, false, false, true]);
-    Ok(())
-}
-
-#[test]
-fn a_second_try_after_refused_memory(rt: HostRuntime) -> Result<(), Fail> {
     let mut map = owned_at_last(rt.alloc(), 0, 200)?;
-    set_copy(&rt, &mut map, 150, 5);
-    let child = forked_at_last(&rt, &map)?;
-    shows(&rt, &child, 150, (true, false, page(5)));
-    shows(&rt, &map, 150, (true, true, page(5)));
-    Ok(())
+    let ended = has_a_child(&rt, &mut map);
+    drop(map);
+    Ok(ended?)
 }
 
 #[test]
@@ -167,6 +163,7 @@ fn each_second_page_of_many_unmapped(rt: HostRuntime) -> Result<(), Fail> {
     assert!(rt; map.is_mapped());
     frees(&rt, &mut map, 0, 65536, 32768);
     assert!(rt; !map.is_mapped());
+    drop(map);
     Ok(())
 }
 
