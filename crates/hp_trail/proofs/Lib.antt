@@ -12,3 +12,4 @@ pub mod Covering
 pub mod Joining
 pub mod Emptying
 pub mod Exact
+pub mod Claiming
