@@ -1,14 +1,17 @@
 -- A receipt's entry, looked up in its trail, and the place of its session, noted or not.
-use Rattle.std.proofs.Common.{◌≡◌, ◌≢◌, inl, inr, ℕ, ◌<◌, false, Option, Some, List, length, ltb, sym, ap, subst, ◌∙◌}
+use Rattle.std.proofs.Common.{◌≡◌, ◌≢◌, inl, inr, ℕ, ◌<◌, false, Option, Some, List, length, ltb, sym, ap, subst, ◌∙◌, [], arith}
+use Rattle.std.specs.Global.{Vec}
 use Rattle.std.specs.List.{slice_get, slice_index_or}
 use Rattle.std.proofs.lemmas.Bool.{false≢true, lt-ltb}
 use Rattle.hp_model.specs.declared.entry.Asked.{Asked}
 use Rattle.hp_model.specs.declared.entry.PoolEntry.{PoolEntry}
 use Rattle.hp_model.specs.declared.entry.PoolEntry.TheVariants.{OfSlot}
 use Rattle.hp_model.specs.declared.entry.Receipt.{Receipt}
+use Rattle.hp_model.specs.declared.entry.SlotEntry.{SlotEntry}
 use Rattle.hp_model.specs.threads.JointRun.{Entry}
-use Rattle.hp_trail.specs.Tellers.{Adds, Claims, ClaimsSection, Finds, Misses, Refuses, RefusesSection, Stands, TellsOf}
-use Rattle.hp_trail.proofs.Indexing.{element_at, get_there, some_is}
+use Rattle.hp_trail.specs.Tellers.{Adds, Claims, ClaimsSection, Finds, Misses, Refuses, RefusesSection, Stands, TellsOf, slot_event}
+use Rattle.hp_trail.specs.Walk.{lists}
+use Rattle.hp_trail.proofs.Indexing.{element_at, get_there, lists_long, lists_read, row_there, some_is}
 
 -- nothing is past the end
 pub none_past : {X : Type 0} (xs : List X) (i : ℕ) (x : X) → false ≡ ltb i (length xs) → slice_get xs i ≡ Some x → ⊥
@@ -49,3 +52,17 @@ module _ (pool : List PoolEntry) (row : List ℕ) (asked : Option Asked) (a : As
 
     pub section_other : x ≢ OfSlot a.section a.answer → RefusesSection pool row asked
     section_other other = subst (RefusesSection pool row) (sym is) (inl (λ at. other (some_is x (OfSlot a.section a.answer) (sym (element_at pool a.place x below read) ∙ at))))
+
+-- ---- a trail among the slots'
+
+pub no_trail : (slots : List (Vec SlotEntry)) (k : ℕ) (r : Receipt) → false ≡ ltb k (length slots) → Misses (slot_event k) (slice_index_or (lists slots) k []) r
+no_trail slots k r past e at same =
+    let there = row_there (lists slots) k r.place (get_there (slice_index_or (lists slots) k []) r.place e at) in
+    false≢true (past ∙ lt-ltb k (length slots) (omega (arith, there, lists_long slots)))
+
+module _ {X : Type 0} (vs : List (Vec X)) (k : ℕ) (v : Vec X) (xs : List X) (below : k < length vs) (read : v ≡ slice_index_or vs k v) (is : xs ≡ v.items) where
+  pub list_read : xs ≡ slice_index_or (lists vs) k []
+  list_read = is ∙ sym (lists_read vs k v below read)
+
+  pub moved : (P : List X → Type 0) → P xs → P (slice_index_or (lists vs) k [])
+  moved P p = subst P list_read p
