@@ -1,5 +1,5 @@
 -- The rows of a page table and their marks, after a change.
-use Rattle.std.proofs.Common.{◌≡◌, ℕ, zero, suc, ◌*◌, ◌<◌, ◌≤◌, ◌/◌, ◌%◌, ◌^◌, Bool, true, false, List, [], ◌∷◌, ◌++◌, length, replicate, take, drop, get_or, set, ltb, Option, None, sym, refl, ap, ◌∙◌, arith, ⊎_elim}
+use Rattle.std.proofs.Common.{◌≡◌, ℕ, zero, suc, ◌*◌, ◌<◌, ◌≤◌, ◌/◌, ◌%◌, ◌^◌, Bool, true, false, List, [], ◌∷◌, ◌++◌, length, replicate, get_or, set, ltb, Option, None, sym, refl, ap, ◌∙◌, arith, ⊎_elim}
 use Rattle.std.specs.Int.{bit_at}
 use Rattle.std.specs.Option.{is_some}
 use Rattle.std.specs.List.{refill}
@@ -92,6 +92,9 @@ module _ (rows : Rows) (at : ℕ) (row : List (Option ℕ)) (lt : at < length ro
 
   pub has_slot_elsewhere : (k : ℕ) → (k / 64 ≡ at → ⊥) → has_slot (set rows at row) k ≡ has_slot rows k
   has_slot_elsewhere k other = ap (λ r. ltb (k % 64) (length r)) (get_or-set_other rows at (k / 64) row [] other)
+
+  pub has_slot_kept : (k : ℕ) → has_slot rows k ≡ true → has_slot (set rows at row) k ≡ true
+  has_slot_kept k has = ⊎_elim (λ (here : k / 64 ≡ at). has_slot_made k here) (λ (other : k / 64 ≡ at → ⊥). has_slot_elsewhere k other ∙ has) (cases_eq (k / 64) at)
 
   pub table_made : (marks : List ℕ) → IsTable rows marks → IsTable (set rows at row) marks
   table_made marks was = record {
