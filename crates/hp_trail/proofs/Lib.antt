@@ -13,3 +13,4 @@ pub mod Joining
 pub mod Emptying
 pub mod Exact
 pub mod Claiming
+pub mod Fetching
