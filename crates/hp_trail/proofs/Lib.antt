@@ -14,3 +14,4 @@ pub mod Emptying
 pub mod Exact
 pub mod Claiming
 pub mod Fetching
+pub mod VariantsSame
