@@ -25,6 +25,7 @@ number_last = last_field number
 abbrev three_numbers : Test (ℕ × (ℕ × (ℕ × Unit {0})))
 three_numbers = field_then number (field_then number number_last)
 
+-- each variant in its place
 abbrev slot_event : Test SlotEvent.enum.D
 slot_event =
     let mapped = field_then number (field_then number (field_then sharing (last_field reserving))) in
