@@ -8,3 +8,4 @@ mod Words
 mod Spread
 mod Readying
 mod Paged
+mod Finding

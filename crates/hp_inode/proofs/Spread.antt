@@ -2,7 +2,7 @@
 use Rattle.std.proofs.Common.{◌≡◌, ℕ, ◌+◌, ◌-◌, ◌*◌, ◌/◌, ◌%◌, ◌^◌, ◌<◌, ◌≤◌, min, Bool, true, false, not, ◌&&◌, ◌||◌, eqb, List, length, get_or, set, take, sym, ap, ◌∙◌, arith, ◌⊎◌, inl, inr, ⊎_elim, bit_and, bit_or, count_ones}
 use Rattle.std.specs.Int.{bit_at, bit_not, w64}
 use Rattle.std.specs.List.{range_with_len, count_by}
-use Rattle.std.proofs.Math.Bool.{and-true, and-false}
+use Rattle.std.proofs.Math.Bool.{or-false, and-true, and-false}
 use Rattle.std.proofs.lemmas.Bool.{cases_lt, cases_eq, and_parts, or_cases, or_parts, or_from, true≢false, false_from_ne_true}
 use Rattle.std.proofs.lemmas.List.{get_or-set_same, get_or-set_other, get_or-take, length-take, length-set}
 use Rattle.std.proofs.lemmas.List.FromFn.{length-range_with_len}
@@ -44,6 +44,17 @@ module _ (words old : List ℕ) (a b at bits : ℕ) (lt : at < length words) (sm
 
   pub set_rest : ((k : ℕ) → 64 * at ≤ k → marked words k ≡ marked old k) → (word k : ℕ) → 64 * (at + 1) ≤ k → marked (set words at word) k ≡ marked old k
   set_rest rest word k from = marked_elsewhere words at word lt k (λ here. omega (arith, here, from)) ∙ rest k (omega (arith, from))
+
+module _ (words old : List ℕ) (a b : ℕ) where
+  -- before the first word of the range there is nothing to mark, and after the last one
+  pub set_begun : (k : ℕ) → k < 64 * (a / 64) → marked old k ≡ (marked old k || within a b k)
+  set_begun k below = sym (ap (λ t. marked old k || t) (within-below a b k (omega (arith, below))) ∙ or-false (marked old k))
+
+  pub set_all : (at : ℕ) → b ≤ 64 * at → ((k : ℕ) → k < 64 * at → marked words k ≡ (marked old k || within a b k)) → ((k : ℕ) → 64 * at ≤ k → marked words k ≡ marked old k) → (k : ℕ) → marked words k ≡ (marked old k || within a b k)
+  set_all at end done rest k = ⊎_elim
+      (λ (below : k < 64 * at). done k below)
+      (λ (past : 64 * at ≤ k). rest k past ∙ sym (ap (λ t. marked old k || t) (within-past a b k (omega (arith, past, end))) ∙ or-false (marked old k)))
+      (cases_lt k (64 * at))
 
 -- the words of a range are marked with it
 pub spread_entries : (words marks new news : List ℕ) (a b : ℕ) → IsEntries words marks → b ≤ 64 * length words → length new ≡ length words → length news ≡ length marks → ((k : ℕ) → marked new k ≡ (marked words k || within a b k)) → ((k : ℕ) → marked news k ≡ (marked marks k || within (a / 64) (b / 64 + min 1 (b % 64)) k)) → IsEntries new news

@@ -1,13 +1,17 @@
 -- The rows of a page table and their marks, after a change.
-use Rattle.std.proofs.Common.{◌≡◌, ℕ, zero, suc, ◌*◌, ◌<◌, ◌≤◌, ◌/◌, ◌%◌, ◌^◌, Bool, true, false, List, [], ◌∷◌, ◌++◌, length, replicate, take, drop, get_or, set, ltb, Option, None, sym, refl, ap, ◌∙◌, arith, ⊎_elim}
+use Rattle.std.proofs.Common.{◌≡◌, ℕ, zero, suc, ◌*◌, ◌<◌, ◌≤◌, ◌/◌, ◌%◌, ◌^◌, Bool, true, false, List, [], ◌∷◌, ◌++◌, length, replicate, get_or, set, ltb, Option, None, sym, refl, ap, ◌∙◌, arith, ⊎_elim}
+use Rattle.std.specs.Int.{bit_at}
+use Rattle.std.specs.Option.{is_some}
 use Rattle.std.specs.List.{refill}
 use Rattle.std.proofs.lemmas.Bool.{cases_eq, cases_lt, lt-ltb, ltb-true}
 use Rattle.std.proofs.lemmas.List.{get_or-set_same, get_or-set_other, get_or-replicate, get_or_past, nil_from_length, get_or_read, length-set, length-append, length-replicate, drop_all, take_all, append-nil}
+use Rattle.std.proofs.lemmas.Nat.Bits.{bit_at-zero}
+use Rattle.hp_inode.proofs.Words.{unmarked_in}
 use Rattle.hp_inode.specs.Marks.{marked}
-use Rattle.hp_inode.specs.Rows.{Rows, slot_in, page_in, has_slot, IsTable}
+use Rattle.hp_inode.specs.Rows.{Rows, slot_in, page_in, has_slot, IsChunk, IsTable}
 
 -- the default past the end stays the default
-get_or_pushed : {X : Type 0} (xs : List X) (d : X) (k : ℕ) → get_or (xs ++ d ∷ []) k d ≡ get_or xs k d
+pub get_or_pushed : {X : Type 0} (xs : List X) (d : X) (k : ℕ) → get_or (xs ++ d ∷ []) k d ≡ get_or xs k d
 get_or_pushed [] d zero = refl
 get_or_pushed [] d (suc k) = refl
 get_or_pushed (x ∷ xs) d zero = refl
@@ -42,10 +46,31 @@ has_slot_pushed rows k = ap (λ r. ltb (k % 64) (length r)) (get_or_pushed rows 
 pub written_back : {X : Type 0} (xs ws : List X) → length ws ≡ length xs → refill (length xs) xs ws ≡ ws
 written_back xs ws same = rw (drop_all (length ws) xs (omega (arith, same)), append-nil ws) (take_all (length xs) ws (omega (arith, same)))
 
+-- the same rows, each at its place
+module _ (rows made : Rows) (same : (j : ℕ) → get_or made j [] ≡ get_or rows j []) where
+  pub pages_alike : (k : ℕ) → page_in made k ≡ page_in rows k
+  pages_alike k = ap (λ r. get_or r (k % 64) None) (same (k / 64))
+
+  pub slots_alike : (k : ℕ) → has_slot made k ≡ has_slot rows k
+  slots_alike k = ap (λ r. ltb (k % 64) (length r)) (same (k / 64))
+
 -- ---- a chunk that gets its slots
 
 get_or_replicated : {X : Type 0} (n k : ℕ) (d : X) → get_or (replicate n d) k d ≡ d
 get_or_replicated n k d = ⊎_elim (λ (lt : k < n). get_or-replicate n k d d lt) (λ (le : n ≤ k). get_or_past (replicate n d) k d (omega (arith, le, length-replicate n d))) (cases_lt k n)
+
+unmarked : (k : ℕ) → marked (0 ∷ []) k ≡ false
+unmarked k = unmarked_in (0 ∷ []) k (ap (λ w. bit_at w (k % 64)) (zero_at (k / 64)) ∙ bit_at-zero (k % 64))
+  where
+    zero_at : (j : ℕ) → ◌≡◌ {A = ℕ} (get_or (0 ∷ []) j 0) 0
+    zero_at zero = refl
+    zero_at (suc j) = refl
+
+pub chunk_made : (row : List (Option ℕ)) → row ≡ replicate 64 None → IsChunk row (0 ∷ [])
+chunk_made row is = record {
+  whole = λ some. ap length is ∙ length-replicate {A = Option ℕ} 64 None;
+  pages = λ k. unmarked k ∙ sym (ap is_some (ap (λ r. get_or r k None) is ∙ get_or_replicated 64 k None));
+}
 
 module _ (rows : Rows) (at : ℕ) (row : List (Option ℕ)) (lt : at < length rows) (empty : length (get_or rows at []) ≡ 0) (is : row ≡ replicate 64 None) where
   slot_in_made : (j k : ℕ) → slot_in (set rows at row) j k ≡ slot_in rows j k
@@ -67,6 +92,9 @@ module _ (rows : Rows) (at : ℕ) (row : List (Option ℕ)) (lt : at < length ro
 
   pub has_slot_elsewhere : (k : ℕ) → (k / 64 ≡ at → ⊥) → has_slot (set rows at row) k ≡ has_slot rows k
   has_slot_elsewhere k other = ap (λ r. ltb (k % 64) (length r)) (get_or-set_other rows at (k / 64) row [] other)
+
+  pub has_slot_kept : (k : ℕ) → has_slot rows k ≡ true → has_slot (set rows at row) k ≡ true
+  has_slot_kept k has = ⊎_elim (λ (here : k / 64 ≡ at). has_slot_made k here) (λ (other : k / 64 ≡ at → ⊥). has_slot_elsewhere k other ∙ has) (cases_eq (k / 64) at)
 
   pub table_made : (marks : List ℕ) → IsTable rows marks → IsTable (set rows at row) marks
   table_made marks was = record {

@@ -12,3 +12,6 @@ pub mod Covering
 pub mod Joining
 pub mod Emptying
 pub mod Exact
+pub mod Claiming
+pub mod Fetching
+pub mod VariantsSame

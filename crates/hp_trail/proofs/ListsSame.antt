@@ -15,7 +15,7 @@ same_list R h (x ∷ xs) (y ∷ ys) e =
 pub same_names : (xs ys : List (List ℕ)) → pointwise (pointwise nat_eq) xs ys ≡ true → xs ≡ ys
 same_names = same_list (pointwise nat_eq) (same_list nat_eq (λ x y e. eqb-true x y e))
 
-own_list : {X : Type 0} (R : X → X → Bool) → ((x : X) → R x x ≡ true) → (xs : List X) → pointwise R xs xs ≡ true
+pub own_list : {X : Type 0} (R : X → X → Bool) → ((x : X) → R x x ≡ true) → (xs : List X) → pointwise R xs xs ≡ true
 own_list R h [] = refl
 own_list R h (x ∷ xs) = (λ i. h x i && own_list R h xs i)
 

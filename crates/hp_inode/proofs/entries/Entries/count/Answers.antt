@@ -1,4 +1,4 @@
-use Rattle.std.proofs.Common.{arith, sym, ap, ◌∙◌, ◌<◌, ◌^◌, ◌*◌, ◌+◌, ◌/◌, ◌≡◌, bit_and, get_or, count_ones, length}
+use Rattle.std.proofs.Common.{arith, sym, ap, ◌∙◌, ◌<◌, ◌^◌, ◌*◌, ◌+◌, ◌/◌, ◌≡◌, bit_and, get_or, count_ones}
 use Rattle.std.specs.List.{count_by, range_with_len}
 use Rattle.hp_inode.proofs.Spread.{ours, counted_none, counted_few, counted_next, counted_end, bit_marked}
 use Rattle.hp_inode.proofs.entries.Entries.count.Goals as goal
