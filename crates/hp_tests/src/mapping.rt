@@ -167,15 +167,24 @@ fn each_second_page_of_many_unmapped(rt: HostRuntime) -> Result<(), Fail> {
     Ok(())
 }
 
+// A map and its child write their places up to the last one touched.
+fn is_touched<R: Abort>(rt: &R, map: &mut Mapping) -> Result<(), AllocError> {
+    same!(rt; map.touched().len(), 0);
+    shows(rt, map, 999, (true, true, None));
+    set_copy(rt, map, 12, 5);
+    consume(rt, map, 11);
+    same!(rt; map.touched().len(), 3);
+    shows(rt, map, 13, (true, true, None));
+    let child = map.fork_for(1, 8)?;
+    same!(rt; child.touched().len(), 3);
+    drop(child);
+    Ok(())
+}
+
 #[test]
 fn places_are_written_up_to_the_last_one_touched(rt: HostRuntime) -> Result<(), Fail> {
     let mut map = owned(rt.alloc(), 10, 1000)?;
-    same!(rt; map.touched().len(), 0);
-    shows(&rt, &map, 999, (true, true, None));
-    set_copy(&rt, &mut map, 12, 5);
-    consume(&rt, &mut map, 11);
-    same!(rt; map.touched().len(), 3);
-    same!(rt; forked(&map)?.touched().len(), 3);
-    shows(&rt, &map, 13, (true, true, None));
-    Ok(())
+    let ended = is_touched(&rt, &mut map);
+    drop(map);
+    Ok(ended?)
 }
