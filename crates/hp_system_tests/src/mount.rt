@@ -198,10 +198,9 @@ fn loads<N: Naming>(
     Ok(bytes == wanted)
 }
 
-// Each call once. What is stored through one map is loaded through another of the same file.
-fn each_call<N: Naming, R: Abort>(rt: &R, pool: &mut Pool<N>, mount: &mut Mount<N>)
-    requires ready { IsReady pool.old }
-    requires bytes { N.page_bytes ≡ 1024 }
+// Files and maps are made, and refused by name, limit and place.
+fn maps<N: Naming, R: Abort>(rt: &R, pool: &mut Pool<N>, mount: &mut Mount<N>)
+    requires { IsReady pool.old }
     ensures { IsReady pool.new }
 {
     same!(rt; create(mount, b"a"), Ok(()));
@@ -219,6 +218,14 @@ fn each_call<N: Naming, R: Abort>(rt: &R, pool: &mut Pool<N>, mount: &mut Mount<
     );
     assert!(rt; has_maps(mount, 7));
     same!(rt; used(mount), usage(2, 1));
+}
+
+// What is stored through one map is loaded through another of the same file.
+fn accesses<N: Naming, R: Abort>(rt: &R, pool: &mut Pool<N>, mount: &mut Mount<N>)
+    requires ready { IsReady pool.old }
+    requires bytes { N.page_bytes ≡ 1024 }
+    ensures { IsReady pool.new }
+{
     same!(rt; loads(pool, mount, &access(1, 1), 2, b"\0\0"), Ok(true));
     same!(rt; store(pool, mount, &access(1, 1), b"xy"), Ok(()));
     same!(rt; loads(pool, mount, &access(2, 1), 2, b"xy"), Ok(true));
@@ -235,6 +242,14 @@ fn each_call<N: Naming, R: Abort>(rt: &R, pool: &mut Pool<N>, mount: &mut Mount<
         fault(pool, mount, &access(3, 0), Intent::Read),
         Err(Refusal::NoSuchMap)
     );
+}
+
+// A map without reservations asks for no page. The file shows what was stored.
+fn looks<N: Naming, R: Abort>(rt: &R, pool: &mut Pool<N>, mount: &mut Mount<N>)
+    requires ready { IsReady pool.old }
+    requires bytes { N.page_bytes ≡ 1024 }
+    ensures { IsReady pool.new }
+{
     same!(rt; used(mount), usage(2, 1));
     same!(rt; map(pool, mount, b"a", &unreserved(2, 2)), Ok(3));
     same!(rt; used(mount), usage(2, 1));
@@ -252,10 +267,9 @@ fn each_call<N: Naming, R: Abort>(rt: &R, pool: &mut Pool<N>, mount: &mut Mount<
     same!(rt; unlisted(mount), None);
 }
 
-// A private map asks for its whole range, whatever its file has. A file without name is one of the files.
+// A private map asks for its whole range, whatever its file has.
 fn private_maps<N: Naming, R: Abort>(rt: &R, pool: &mut Pool<N>, mount: &mut Mount<N>)
-    requires ready { IsReady pool.old }
-    requires bytes { N.page_bytes ≡ 1024 }
+    requires { IsReady pool.old }
     ensures { IsReady pool.new }
 {
     same!(rt; create(mount, b"a"), Ok(()));
@@ -276,6 +290,13 @@ fn private_maps<N: Naming, R: Abort>(rt: &R, pool: &mut Pool<N>, mount: &mut Mou
         })
     );
     same!(rt; map(pool, mount, b"a", &range(1, 1)), Ok(3));
+}
+
+// A file without name is one of the files.
+fn files_without_name<N: Naming, R: Abort>(rt: &R, pool: &mut Pool<N>, mount: &mut Mount<N>)
+    requires { IsReady pool.old }
+    ensures { IsReady pool.new }
+{
     same!(rt;
         anon(pool, mount, 7, 65_536, Sharing::Private, Reserving::Reserve),
         Err(Refusal::MountFull)
@@ -337,6 +358,17 @@ fn unmaps<N: Naming, R: Abort>(rt: &R, pool: &mut Pool<N>, mount: &mut Mount<N>)
     same!(rt; first_task(mount), Some(7));
 }
 
+// A mount without maps ends.
+fn ends<N: Naming, R: Abort>(rt: &R, pool: &mut Pool<N>, mount: Mount<N>)
+    requires { IsReady pool.old }
+    ensures { IsReady pool.new }
+{
+    match close(pool, mount) {
+        Ok(()) => {}
+        Err(_mount) => panic!(rt; "no task has maps"),
+    }
+}
+
 fn run<N: Naming, R: Abort>(rt: &R, alloc: Global, blanks: Blanks)
     requires ledgers { AreLedgers N.Naming blanks }
     requires bytes { N.page_bytes ≡ 1024 }
@@ -345,7 +377,9 @@ fn run<N: Naming, R: Abort>(rt: &R, alloc: Global, blanks: Blanks)
     pool.set_overcommit(4);
     let share = Subpool::open(&mut pool, Some(3), 0).expect(rt, "fits");
     let mut mount = Mount::new(alloc, share, Some(2));
-    each_call(rt, &mut pool, &mut mount);
+    maps(rt, &mut pool, &mut mount);
+    accesses(rt, &mut pool, &mut mount);
+    looks(rt, &mut pool, &mut mount);
     unmaps(rt, &mut pool, &mut mount);
     let Err(mut mount) = close(&mut pool, mount) else {
         panic!(rt; "a task has maps");
@@ -353,20 +387,15 @@ fn run<N: Naming, R: Abort>(rt: &R, alloc: Global, blanks: Blanks)
     exit(&mut pool, &mut mount, 7);
     assert!(rt; !has_maps(&mount, 7));
     same!(rt; first_task(&mount), None);
-    match close(&mut pool, mount) {
-        Ok(()) => {}
-        Err(_mount) => panic!(rt; "no task has maps"),
-    }
+    ends(rt, &mut pool, mount);
     let share = Subpool::open(&mut pool, Some(3), 0).expect(rt, "fits");
     let mut mount = Mount::new(alloc, share, Some(2));
     private_maps(rt, &mut pool, &mut mount);
+    files_without_name(rt, &mut pool, &mut mount);
     exit(&mut pool, &mut mount, 8);
     exit(&mut pool, &mut mount, 7);
     same!(rt; used(&mount), usage(1, 1));
-    match close(&mut pool, mount) {
-        Ok(()) => {}
-        Err(_mount) => panic!(rt; "no task has maps"),
-    }
+    ends(rt, &mut pool, mount);
     let counts = pool.close();
     same!(rt;
         [counts.total, counts.free, counts.rsvd, counts.surp],

@@ -85,42 +85,67 @@ fn drops<R: Abort>(rt: &R, inode: &mut Inode, a: u64, b: u64, count: u64) {
     same!(rt; inode.drop_entries(a, b), count);
 }
 
+// The calls on a file of 2,000 indices.
+fn calls<R: Abort>(rt: &R, inode: &mut Inode) -> Result<(), AllocError> {
+    lacks(rt, inode, 10, 1010, 1000);
+    reserve(rt, inode, 10, 1010)?;
+    fill(rt, inode, 600, 7);
+    fill(rt, inode, 1009, 8);
+    counts(rt, inode, 1000, 2);
+    shows(rt, inode, 600, (true, page(7)));
+    shows(rt, inode, 601, (true, None));
+    takes(rt, inode, 0, 600, None);
+    takes(rt, inode, 0, 2000, page(7));
+    takes(rt, inode, 0, 2000, page(8));
+    shows(rt, inode, 600, (false, None));
+    counts(rt, inode, 998, 0);
+    drops(rt, inode, 0, 2000, 998);
+    counts(rt, inode, 0, 0);
+    Ok(())
+}
+
 #[test]
 fn each_call_once(rt: HostRuntime) -> Result<(), Fail> {
     let mut inode = sized(&rt, rt.alloc(), 2000);
-    lacks(&rt, &inode, 10, 1010, 1000);
-    reserve(&rt, &mut inode, 10, 1010)?;
-    fill(&rt, &mut inode, 600, 7);
-    fill(&rt, &mut inode, 1009, 8);
-    counts(&rt, &inode, 1000, 2);
-    shows(&rt, &inode, 600, (true, page(7)));
-    shows(&rt, &inode, 601, (true, None));
-    takes(&rt, &mut inode, 0, 600, None);
-    takes(&rt, &mut inode, 0, 2000, page(7));
-    takes(&rt, &mut inode, 0, 2000, page(8));
-    shows(&rt, &inode, 600, (false, None));
-    counts(&rt, &inode, 998, 0);
-    drops(&rt, &mut inode, 0, 2000, 998);
-    counts(&rt, &inode, 0, 0);
+    let ended = calls(&rt, &mut inode);
+    drop(inode);
+    Ok(ended?)
+}
+
+// Each index of a file of 65,536 gets its page, and every second goes.
+fn takes_every_second<R: Abort>(rt: &R, inode: &mut Inode) -> Result<(), AllocError> {
+    reserve(rt, inode, 0, 65536)?;
+    for i in 0..65536u32 {
+        fill(rt, inode, u64::from(i), i);
+    }
+    for i in 0..32768u32 {
+        let at = 2 * u64::from(i);
+        takes(rt, inode, at, at + 2, page(2 * i));
+    }
+    for i in 0..32768u32 {
+        let at = 2 * u64::from(i);
+        shows(rt, inode, at, (false, None));
+        shows(rt, inode, at + 1, (true, page(2 * i + 1)));
+    }
     Ok(())
 }
 
 #[test]
 fn every_second_page_is_taken(rt: HostRuntime) -> Result<(), Fail> {
     let mut inode = sized(&rt, rt.alloc(), 65536);
-    reserve(&rt, &mut inode, 0, 65536)?;
-    for i in 0..65536u32 {
-        fill(&rt, &mut inode, u64::from(i), i);
-    }
-    for i in 0..32768u32 {
-        let at = 2 * u64::from(i);
-        takes(&rt, &mut inode, at, at + 2, page(2 * i));
-    }
-    for i in 0..32768u32 {
-        let at = 2 * u64::from(i);
-        shows(&rt, &inode, at, (false, None));
-        shows(&rt, &inode, at + 1, (true, page(2 * i + 1)));
-    }
+    let ended = takes_every_second(&rt, &mut inode);
+    drop(inode);
+    Ok(ended?)
+}
+
+// Two ranges that overlap are entered, where need be at the second try.
+fn reserves_at_last<R: Abort>(rt: &R, inode: &mut Inode) -> Result<(), AllocError> {
+    reserve_at_last(rt, inode, 0, 1000, 2000)?;
+    fill(rt, inode, 5, 9);
+    reserve_at_last(rt, inode, 600, 2000, 1000)?;
+    shows(rt, inode, 5, (true, page(9)));
+    has_len(rt, inode, 2000);
+    lacks(rt, inode, 0, 2000, 0);
     Ok(())
 }
 
@@ -128,13 +153,21 @@ fn every_second_page_is_taken(rt: HostRuntime) -> Result<(), Fail> {
 #[test]
 fn a_refusal_changes_nothing(rt: HostRuntime) -> Result<(), Fail> {
     let mut inode = sized(&rt, rt.alloc(), 2000);
-    reserve_at_last(&rt, &mut inode, 0, 1000, 2000)?;
-    fill(&rt, &mut inode, 5, 9);
-    reserve_at_last(&rt, &mut inode, 600, 2000, 1000)?;
-    shows(&rt, &inode, 5, (true, page(9)));
-    has_len(&rt, &inode, 2000);
-    lacks(&rt, &inode, 0, 2000, 0);
-    Ok(())
+    let ended = reserves_at_last(&rt, &mut inode);
+    drop(inode);
+    Ok(ended?)
+}
+
+// A file gets longer, and no shorter.
+#[test]
+fn a_file_gets_longer_and_no_shorter(rt: HostRuntime) {
+    let mut inode = sized(&rt, rt.alloc(), 5);
+    inode.lengthen(3);
+    has_len(&rt, &inode, 5);
+    inode.lengthen(9);
+    has_len(&rt, &inode, 9);
+    shows(&rt, &inode, 8, (false, None));
+    drop(inode);
 }
 
 // The range from 4 up to 600 is prepared and left, or memory was refused.
@@ -148,8 +181,15 @@ fn left(inode: Inode) -> Inode {
 // The range from 4 up to 600 is prepared and entered, or memory was refused.
 fn enters<R: Abort>(rt: &R, inode: Inode) {
     match inode.prepare(4, 600) {
-        Ok(ready) => is_entered(rt, &ready.enter()),
-        Err(inode) => has_len(rt, &inode, 10),
+        Ok(ready) => {
+            let inode = ready.enter();
+            is_entered(rt, &inode);
+            drop(inode);
+        }
+        Err(inode) => {
+            has_len(rt, &inode, 10);
+            drop(inode);
+        }
     }
 }
 
