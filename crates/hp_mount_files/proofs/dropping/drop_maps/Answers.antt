@@ -33,4 +33,4 @@ returns-clause-dropping g c =
     let was = c.loop-map in
     let maps = c.args.maps.now in
     drop_as (λ n. sum_by (in_map n) maps) (λ n. sum_by (in_map n) (drop was.map-index maps)) (λ n. sum_by (in_map n) maps) (λ n. 0) c.args.store.now was.store was.invariant.0
-        (λ n. (let none = sum_end (in_map n) maps was.map-index c.loop-map-test.false in omega (arith, none)))
+    (λ n. (let none = sum_end (in_map n) maps was.map-index c.loop-map-test.false in omega (arith, none)))

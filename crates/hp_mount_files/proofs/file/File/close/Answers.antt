@@ -25,12 +25,12 @@ pub returns-clause-dropping : goal.returns-clause-dropping
 returns-clause-dropping g c =
     let inside = c.into_inner-inode.result in
     drop_then (λ n. sum_by (in_cell n) inside.inode) (λ n. sum_by (in_cell n) c.drop_pages.new.inode) (λ n. sum_by (in_map n) c.deref.result.now) (λ n. 0) (λ n. in_file n c.args.self) (λ n. 0)
-        c.args.store.now c.drop_pages.new.store c.drop_maps.new.store c.drop_pages.ensures.dropping c.drop_maps.ensures.dropping
-        (λ n.
-        let whole = ap (in_file n) (ap file_of c.into_inner-inode.ensures ∙ c.self.view_is) in
-        let none = ap (sum_by (in_cell n)) c.drop_pages.ensures.cells ∙ no_pages n c.len-len.result inside.inode c.len-len.ensures.len in
-        let same = ap (sum_by (in_map n)) c.deref.ensures.value in
-        omega (arith, whole, none, same))
+    c.args.store.now c.drop_pages.new.store c.drop_maps.new.store c.drop_pages.ensures.dropping c.drop_maps.ensures.dropping
+    (λ n.
+    let whole = ap (in_file n) (ap file_of c.into_inner-inode.ensures ∙ c.self.view_is) in
+    let none = ap (sum_by (in_cell n)) c.drop_pages.ensures.cells ∙ no_pages n c.len-len.result inside.inode c.len-len.ensures.len in
+    let same = ap (sum_by (in_map n)) c.deref.ensures.value in
+    omega (arith, whole, none, same))
 
 pub drop_entries-requires-clause-pageless : goal.drop_entries-requires-clause-pageless
 drop_entries-requires-clause-pageless g c =

@@ -18,8 +18,8 @@ returns-clause-dropping g c =
     let gone = c.remove-gone.result in
     let files = c.args.files.now.items in
     drop_as (λ n. in_file n gone) (λ n. 0) (λ n. in_files n files) (λ n. in_files n c.remove-gone.new.self.items) c.args.store.now c.close.new.store c.close.ensures.dropping
-        (λ n.
-        let split = sum_by-remove (in_file n) files c.args.at gone c.requires.within in
-        let rest = ap (in_files n) c.remove-gone.ensures.items in
-        let its = ap (in_file n) c.remove-gone.ensures.value in
-        omega (arith, split, rest, its))
+    (λ n.
+    let split = sum_by-remove (in_file n) files c.args.at gone c.requires.within in
+    let rest = ap (in_files n) c.remove-gone.ensures.items in
+    let its = ap (in_file n) c.remove-gone.ensures.value in
+    omega (arith, split, rest, its))
