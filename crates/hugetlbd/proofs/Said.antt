@@ -32,6 +32,13 @@ pub cut_fourth : (a b c d e : Option (List ℕ)) (what of : List ℕ) → Append
 cut_fourth a b c d e what of h k m n =
     front_then a d e (codes "hugetlbd: " ++ what ++ of) (codes "\n") (appends_then a c d (codes "hugetlbd: " ++ what) of (appends_then a b c (codes "hugetlbd: ") what h k) m) n
 
+-- it is whole where the last write is
+pub sent_fourth : {X : Type 0} (a b c d e : Option (List ℕ)) (what of : List ℕ) (result : Result X RunFault) → Appends a b (codes "hugetlbd: ") → Appends b c what → Appends c d of
+    → OnOk result (Appends d e (codes "\n")) → OnOk result (Appends a e (named (what ++ of)))
+sent_fourth a b c d e what of (Ok x) h k m n =
+    appends_then a d e (codes "hugetlbd: " ++ what ++ of) (codes "\n") (appends_then a c d (codes "hugetlbd: " ++ what) of (appends_then a b c (codes "hugetlbd: ") what h k) m) n
+sent_fourth a b c d e what of (Err f) h k m n = n
+
 -- and it is whole where no write fails
 pub says_of : {X : Type 0} (sure : Type 0) (a b : Option (List ℕ)) (text : List ℕ) (result : Result X RunFault) → OnOk result (Appends a b text) → IfErr result (IsCut a b text)
     → (sure → IsOk result) → Says sure a b text
