@@ -77,8 +77,8 @@ returns-clause-sent g c =
     let what : c.as_bytes.result.now ≡ c.args.what.now = search rules in
     let of : c.as_bytes-2.result.now ≡ c.args.of.now = search rules in
     sent_fourth (g.E.Write.contents c.args.faults.now) (g.E.Write.contents c.write_whole.new.writer) (g.E.Write.contents c.write_whole-2.new.writer)
-        (g.E.Write.contents c.write_whole-3.new.writer) (g.E.Write.contents c.write_whole-4.new.writer) c.args.what.now c.args.of.now c.write_whole-4.result
-        c.in_ok-write_whole.ensures.sent (rw what at c.in_ok-write_whole-2.ensures.sent) (rw of at c.in_ok-write_whole-3.ensures.sent) c.write_whole-4.ensures.sent
+    (g.E.Write.contents c.write_whole-3.new.writer) (g.E.Write.contents c.write_whole-4.new.writer) c.args.what.now c.args.of.now c.write_whole-4.result
+    c.in_ok-write_whole.ensures.sent (rw what at c.in_ok-write_whole-2.ensures.sent) (rw of at c.in_ok-write_whole-3.ensures.sent) c.write_whole-4.ensures.sent
 
 pub returns-clause-sure : goal.returns-clause-sure
 returns-clause-sure g c = λ s.
