@@ -12,10 +12,10 @@ use Rattle.hp_model.specs.files.Mapping.{Map, Mapping, is_map, is_of, map_punche
 use Rattle.hp_model.proofs.Counting.{count_cons, count_map}
 use Rattle.hp_store.specs.Store.{Store}
 use Rattle.hp_mount_files.specs.Dropping.{IsDropping, IsLeft}
-use Rattle.hp_mount_files.specs.Held.{in_file, in_files, in_map, more_in}
+use Rattle.hp_mount_files.specs.Held.{in_file, in_files, in_map}
 use Rattle.hp_mount_files.specs.Hints.{IsFiles, Noted, has_key}
 use Rattle.hp_mount_files.specs.Keyed.{Label, is_key, key_of, keys_in, label_of, labels_of, maps_for}
-use Rattle.hp_mount_files.specs.Leaving.{IsMoreButTask, emptied, file_owed, is_used, left_by, map_sum}
+use Rattle.hp_mount_files.specs.Leaving.{HasLeft, emptied, file_owed, is_used, left_by, map_sum}
 use Rattle.hp_mount_files.specs.Numbered.{NumberedFile, file_shown, files_shown, map_shown, with_truncated}
 use Rattle.hp_mount_files.proofs.Cutting.{none_mapped}
 use Rattle.hp_mount_files.proofs.Drops.{drop_as}
@@ -112,33 +112,33 @@ maps_in gs = sum_through (λ (q : Label). length q.keys) label_of gs ∙ each gs
 
 -- ---- as code leaves the files: those that it went over, as it left them, and those that it kept
 
-module _ (n later : Noted) (s t : Store) (more now maps : ℕ) (tally : ℕ → ℕ) (fs raw ended kept : List NumberedFile) (len : ℕ) (few : length fs ≡ len) (is : IsFiles n s more maps tally fs) (task : ℕ) (raw_is : raw ≡ fs) (ended_from : ended ≡ map (λ f. emptied (left_by task f)) raw)
-    (kept_is : kept ≡ filter is_used (take len (ended ++ drop (length ended) fs))) (drops : IsDropping (λ m. in_files m raw) (λ m. in_files m ended) s t) (counted : now ≡ more_in t.pages) (grown : IsMoreButTask task n later) (r k : ℕ) (reserves : r + sum_by file_owed ended ≡ sum_by file_owed raw) (gone : k + map_sum ended ≡ map_sum raw) where
+module _ {n later : Noted} {s t : Store} {more now maps : ℕ} {tally : ℕ → ℕ} {fs raw ended kept : List NumberedFile} {len task r k : ℕ} (few : length fs ≡ len) (is : IsFiles n s more maps tally fs) (raw_is : raw ≡ fs)
+    (went : HasLeft task raw ended n later s t now k r) (kept_is : kept ≡ filter is_used (take len (ended ++ drop (length ended) fs))) where
   ended_is : ended ≡ map (λ f. emptied (left_by task f)) fs
-  ended_is = ended_from ∙ ap (map (λ f. emptied (left_by task f))) raw_is
+  ended_is = went.left ∙ ap (map (λ f. emptied (left_by task f))) raw_is
 
   hs_is : kept ≡ filter is_used (map (left_by task) fs)
   hs_is =
-      let long = ap length ended_from ∙ length-map raw (λ f. emptied (left_by task f)) ∙ ap length raw_is ∙ few in
+      let long = ap length went.left ∙ length-map raw (λ f. emptied (left_by task f)) ∙ ap length raw_is ∙ few in
       kept_is ∙ ap (filter is_used) (written_back len ended fs long ∙ ended_is) ∙ emptied_gone (left_by task) fs
 
   sum_kept : (c : NumberedFile → ℕ) → ((f : NumberedFile) → is_used f ≡ false → c (with_truncated 0 f) ≡ 0) → sum_by c ended ≡ sum_by c kept
   sum_kept c none = ap (sum_by c) ended_is ∙ emptied_sum (left_by task) c none fs ∙ sym (ap (sum_by c) hs_is)
 
   dropping : IsDropping (λ m. in_files m fs) (λ m. in_files m kept) s t
-  dropping = drop_as (λ m. in_files m raw) (λ m. in_files m ended) (λ m. in_files m fs) (λ m. in_files m kept) s t drops
+  dropping = drop_as (λ m. in_files m raw) (λ m. in_files m ended) (λ m. in_files m fs) (λ m. in_files m kept) s t went.dropping
       (λ m. (let same = ap (in_files m) raw_is in let left = sum_kept (in_file m) (λ f out. ap (in_file m) (empty_file f out).1) in omega (arith, same, left)))
 
   less : (m : ℕ) (f : NumberedFile) → sum_by (in_map m) (others task f.maps) ≤ sum_by (in_map m) f.maps
   less m f = sum_by-filter_le (in_map m) (λ (x : Mapping ℕ). not (is_of task x)) f.maps
 
   pub exit_files : files_shown t kept ≡ filter is_kept (map (file_without task) (files_shown s fs))
-  exit_files = left_shows n s t more now maps tally fs kept is (left_by task) hs_is dropping counted (λ f. refl) less (file_without task)
+  exit_files = left_shows n s t more now maps tally fs kept is (left_by task) hs_is dropping went.counted (λ f. refl) less (file_without task)
       (λ f. ap (λ ms. record (file_shown s f) { maps = ms }) (others_shown task s f.maps))
 
   pub exit_left : IsLeft r (view s more fs) (view t now kept)
-  exit_left = left_gives n s t more now maps tally fs kept is (left_by task) hs_is dropping counted (λ f. refl) less r
-      (let left = sum_kept file_owed (λ f out. ap file_owed (empty_file f out).1) in let was = ap (sum_by file_owed) raw_is in omega (arith, reserves, left, was))
+  exit_left = left_gives n s t more now maps tally fs kept is (left_by task) hs_is dropping went.counted (λ f. refl) less r
+      (let left = sum_kept file_owed (λ f out. ap file_owed (empty_file f out).1) in let was = ap (sum_by file_owed) raw_is in (let gave = went.waiting in omega (arith, gave, left, was)))
 
   -- ---- how many maps
 
@@ -146,7 +146,7 @@ module _ (n later : Noted) (s t : Store) (more now maps : ℕ) (tally : ℕ → 
   all_maps_are = is.keyed.map_count ∙ maps_in fs
 
   pub exit_few : k ≤ maps
-  exit_few = (let all = all_maps_are in let was = ap map_sum raw_is in omega (arith, all, gone, was))
+  exit_few = (let all = all_maps_are in let was = ap map_sum raw_is in let gone = went.gone in omega (arith, all, gone, was))
 
   maps_left : maps - k ≡ sum_by (λ (q : Label). length q.keys) (labels_of kept)
   maps_left =
@@ -154,6 +154,7 @@ module _ (n later : Noted) (s t : Store) (more now maps : ℕ) (tally : ℕ → 
       let was = ap map_sum raw_is in
       let left = maps_in kept in
       let same = sum_kept (λ (f : NumberedFile). length f.maps) (λ f out. ap (λ (f : NumberedFile). length f.maps) (empty_file f out).1) in
+      let gone = went.gone in
       omega (arith, all, was, left, same, gone)
 
   -- the task has none left, the others what they had
@@ -197,17 +198,17 @@ module _ (n later : Noted) (s t : Store) (more now maps : ℕ) (tally : ℕ → 
       omega (arith, through, same, few, none)
 
   pub exit_keys : (q m : ℕ) → sum_by (keys_in q m) (labels_of kept) ≤ sum_by (keys_in q m) (labels_of fs)
-  exit_keys q m = keys_less n s t more now maps tally fs kept is (left_by task) hs_is dropping counted (λ f. refl) less (λ f. refl) keys_same q m
+  exit_keys q m = keys_less n s t more now maps tally fs kept is (left_by task) hs_is dropping went.counted (λ f. refl) less (λ f. refl) keys_same q m
 
   pub exit_keeps : (left : ℕ) (next : ℕ → ℕ) → left ≡ maps - k → ((q : ℕ) → next q ≡ cond (task == q) 0 (tally q)) → IsFiles later t now left next kept
   exit_keeps left next left_is next_is =
-      left_keeps n s t more now maps tally fs kept is (left_by task) hs_is dropping counted (λ f. refl) less (λ f. refl) keys_same (λ f. filtered_level (λ m. not (is_of task m)) f.maps) later left next
-      (left_noted n s t more now maps tally fs kept is (left_by task) hs_is dropping counted (λ f. refl) less (λ f. refl) keys_same later grown.names (λ q m e. at q m e (q == task) refl))
+      left_keeps n s t more now maps tally fs kept is (left_by task) hs_is dropping went.counted (λ f. refl) less (λ f. refl) keys_same (λ f. filtered_level (λ m. not (is_of task m)) f.maps) later left next
+      (left_noted n s t more now maps tally fs kept is (left_by task) hs_is dropping went.counted (λ f. refl) less (λ f. refl) keys_same later went.noted.names (λ q m e. at q m e (q == task) refl))
       (left_is ∙ maps_left) (λ q. next_is q ∙ sym (tally_left q))
     where
       at : (q m : ℕ) → has_key q m later ≡ false → (b : Bool) → (q == task) ≡ b → sum_by (keys_in q m) (labels_of kept) ≡ 0
       at q m e true same = ap (λ i. sum_by (keys_in i m) (labels_of kept)) (eqb-true q task same) ∙ keys_gone m
       at q m e false apart =
-          let few = keys_less n s t more now maps tally fs kept is (left_by task) hs_is dropping counted (λ f. refl) less (λ f. refl) keys_same q m in
-          let none = is.noted.keys q m (grown.keys q m apart e) in
+          let few = keys_less n s t more now maps tally fs kept is (left_by task) hs_is dropping went.counted (λ f. refl) less (λ f. refl) keys_same q m in
+          let none = is.noted.keys q m (went.noted.keys q m apart e) in
           omega (arith, few, none)

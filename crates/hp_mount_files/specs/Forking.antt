@@ -7,7 +7,7 @@ use Rattle.hp_model.specs.declared.place.Place.{Place}
 use Rattle.hp_model.specs.files.Mapping.{Mapping, is_map, is_of, map_for}
 use Rattle.hp_store.specs.Store.{Store, held_count, holders_of, page_at}
 use Rattle.hp_mount_files.specs.Dropping.{HasHolders, at_node}
-use Rattle.hp_mount_files.specs.Held.{in_map, in_place}
+use Rattle.hp_mount_files.specs.Held.{in_map, in_place, more_in}
 use Rattle.hp_mount_files.specs.Hints.{IsMore, Noted, has_key}
 use Rattle.hp_mount_files.specs.Numbered.{NumberedFile, page_in}
 
@@ -78,6 +78,13 @@ in_lists n lists = sum_by (in_list n) lists
 
 abbrev pub list_copies : Vec (Mapping ℕ) → ℕ
 list_copies list = sum_by copies_in list.items
+
+-- files got the maps of their lists, and each of their copies has a holder more
+pub record HaveJoined (lists : List (Vec (Mapping ℕ))) (files grown : List NumberedFile) (store now : Store) (more later : ℕ) : Type 0 where
+  pub files_are : grown ≡ joined files lists
+  pub sharing : IsSharing (λ n. in_lists n lists) store now
+  pub counted : later ≡ more_in now.pages
+  pub more_are : later ≡ more + sum_by list_copies lists
 
 -- how many maps of a task a file has, and how many of its one number
 abbrev pub maps_of : ℕ → NumberedFile → ℕ

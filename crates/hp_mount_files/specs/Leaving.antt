@@ -3,6 +3,9 @@ use Rattle.std.specs.Prelude.{◌≡◌, ℕ, ◌+◌, ◌≤◌, ◌||◌, ◌=
 use Rattle.std.specs.List.{count_by, filter, fold, remove, sum_by}
 use Rattle.hp_model.specs.files.Mapping.{Mapping, is_mapped, is_map, is_of, is_unconsumed, without_range}
 use Rattle.hp_model.specs.files.MountCounts.{is_waiting}
+use Rattle.hp_store.specs.Store.{Store}
+use Rattle.hp_mount_files.specs.Dropping.{IsDropping}
+use Rattle.hp_mount_files.specs.Held.{in_files, more_in}
 use Rattle.hp_mount_files.specs.Hints.{Noted, has_key, has_name, is_pair}
 use Rattle.hp_mount_files.specs.Numbered.{NumberedFile, mapping_at, numbered_at, with_truncated}
 
@@ -77,3 +80,12 @@ pub record IsMoreButMap (task number : ℕ) (old new : Noted) : Type 0 where
   pub names : (name : List ℕ) → has_name name new ≡ false → has_name name old ≡ false
   pub keys : (t n : ℕ) → is_pair t n (task, number) ≡ false → has_key t n new ≡ false → has_key t n old ≡ false
   pub room : old.room ≤ new.room
+
+-- all maps of a task left some files: so many maps and reservations went, and pages of which they were the last holders
+pub record HasLeft (task : ℕ) (files ended : List NumberedFile) (old new : Noted) (store now : Store) (more maps reserves : ℕ) : Type 0 where
+  pub left : ended ≡ map (λ f. emptied (left_by task f)) files
+  pub dropping : IsDropping (λ n. in_files n files) (λ n. in_files n ended) store now
+  pub counted : more ≡ more_in now.pages
+  pub waiting : reserves + sum_by file_owed ended ≡ sum_by file_owed files
+  pub gone : maps + map_sum ended ≡ map_sum files
+  pub noted : IsMoreButTask task old new

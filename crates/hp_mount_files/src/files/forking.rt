@@ -3,7 +3,7 @@ ghost use Rattle.std.specs.Prelude.{◌≡◌, ◌^◌, ◌+◌, ◌-◌, ◌<�
 ghost use Rattle.std.specs.List.{count_by, filter, sum_by};
 ghost use Rattle.hp_store.specs.Store.{holders_of, page_at};
 ghost use Rattle.hp_mount_files.specs.Dropping.{HasHolders, IsLeft};
-ghost use Rattle.hp_mount_files.specs.Forking.{AreReady, HaveRoom, IsNoted, IsSharing, in_lists, joined, list_copies, maps_named, maps_of};
+ghost use Rattle.hp_mount_files.specs.Forking.{AreReady, HaveJoined, HaveRoom, IsNoted, in_lists, list_copies, maps_named, maps_of};
 ghost use Rattle.hp_mount_files.specs.Held.{more_in};
 ghost use Rattle.hp_mount_files.specs.Leaving.{map_sum};
 ghost use Rattle.hp_mount_files.specs.Places.{all_maps};
@@ -53,6 +53,15 @@ fn all_copies(lists: &[Vec<Mapping>]) -> u64
     count
 }
 
+// Room for `held` pages beside those for copies that several maps hold, once the copies of some lists are among them; or
+// more than can be.
+fn room_for(held: u64, more: usize, lists: &[Vec<Mapping>]) -> usize
+    ensures { result < 2 ^ 64 - 1 → result ≡ held + more + sum_by list_copies lists.now }
+{
+    let room = held.saturating_add(more as u64);
+    room.saturating_add(all_copies(lists)) as usize
+}
+
 // Each file gets the maps of its list, and each of their copies has a holder more.
 fn join_all<N: Naming>(
     files: &mut [File],
@@ -65,10 +74,7 @@ fn join_all<N: Naming>(
     requires some { HasHolders store.old }
     requires counted { more.old ≡ more_in store.old.pages }
     requires few { more.old + sum_by list_copies lists.items ≤ 2 ^ 32 }
-    ensures files { files.new ≡ joined files.old lists.items }
-    ensures sharing { IsSharing (λ n. in_lists n lists.items) store.old store.new }
-    ensures counted { more.new ≡ more_in store.new.pages }
-    ensures more { more.new ≡ more.old + sum_by list_copies lists.items }
+    ensures { HaveJoined lists.items files.old files.new store.old store.new more.old more.new }
 {
     while let Some(list) = lists.pop() {
         let at = lists.len();
@@ -117,9 +123,8 @@ impl<N: Naming> Files<N> {
         let count = self.counts.count(parent);
         self.hints.reserve(count)?;
         self.counts.make_room()?;
-        let room = held.saturating_add(all_copies(&lists));
-        let all = room.saturating_add(self.more as u64);
-        self.store.make_room(all as usize)?;
+        let room = room_for(held, self.more, &lists);
+        self.store.make_room(room)?;
         let gone = drop_some_maps_of(
             child,
             self.counts.count(child),

@@ -9,7 +9,7 @@ ghost use Rattle.hp_mount_files.specs.Dropping.{HasHolders, IsDropping, IsLeft};
 ghost use Rattle.hp_mount_files.specs.Places.{IsFirstTask, IsFound, all_maps};
 ghost use Rattle.hp_mount_files.specs.Held.{in_files, more_in};
 ghost use Rattle.hp_mount_files.specs.Keyed.{is_listed, labels_of, maps_for};
-ghost use Rattle.hp_mount_files.specs.Leaving.{IsMoreButTask, emptied, file_owed, left_by, map_sum, swept_at};
+ghost use Rattle.hp_mount_files.specs.Leaving.{HasLeft, file_owed, map_sum, swept_at};
 
 use super::{Files, MapPlace};
 use crate::departed::Departed;
@@ -34,13 +34,8 @@ pub(super) fn drop_maps_of<N: Naming>(
     requires counted { more.old ≡ more_in store.old.pages }
     requires few { sum_by file_owed files.old < 2 ^ 64 }
     requires few_maps { map_sum files.old < 2 ^ 64 }
-    ensures files { files.new ≡ map (λ f. emptied (left_by task f)) files.old }
-    ensures dropping { IsDropping (λ n. in_files n files.old) (λ n. in_files n files.new)
-        store.old store.new }
-    ensures counted { more.new ≡ more_in store.new.pages }
-    ensures reserves { result.reserves + sum_by file_owed files.new ≡ sum_by file_owed files.old }
-    ensures maps { result.maps + map_sum files.new ≡ map_sum files.old }
-    ensures hints { IsMoreButTask task hints.old hints.new }
+    ensures { HasLeft task files.old files.new hints.old hints.new store.old store.new more.new
+        result.maps result.reserves }
 {
     let mut maps = 0;
     let mut reserves = 0;
@@ -68,13 +63,8 @@ pub(super) fn drop_some_maps_of<N: Naming>(
     requires counted { more.old ≡ more_in store.old.pages }
     requires few { sum_by file_owed files.old < 2 ^ 64 }
     requires few_maps { map_sum files.old < 2 ^ 64 }
-    ensures files { files.new ≡ map (λ f. emptied (left_by task f)) files.old }
-    ensures dropping { IsDropping (λ n. in_files n files.old) (λ n. in_files n files.new)
-        store.old store.new }
-    ensures counted { more.new ≡ more_in store.new.pages }
-    ensures reserves { result.reserves + sum_by file_owed files.new ≡ sum_by file_owed files.old }
-    ensures maps { result.maps + map_sum files.new ≡ map_sum files.old }
-    ensures hints { IsMoreButTask task hints.old hints.new }
+    ensures { HasLeft task files.old files.new hints.old hints.new store.old store.new more.new
+        result.maps result.reserves }
 {
     if count == 0 {
         return Departed {

@@ -1,12 +1,11 @@
 use Rattle.std.proofs.Common.{◌≡◌, [], ◌+◌, ap, sym, ◌∙◌, arith}
 use Rattle.std.specs.List.{count_by, sum_by}
-use Rattle.std.proofs.lemmas.List.Sums.{sum_by_push}
 use Rattle.hp_model.specs.files.File.{cell_punched}
 use Rattle.hp_model.specs.files.MountCounts.{is_waiting}
 use Rattle.hp_model.specs.Lists.{edit_range}
 use Rattle.hp_mount_files.specs.Held.{in_cell, in_file, in_map}
 use Rattle.hp_mount_files.proofs.Cutting.{all_waiting, bare_pages, no_pages}
-use Rattle.hp_mount_files.proofs.Drops.{drop_as, drop_then}
+use Rattle.hp_mount_files.proofs.Drops.{drop_then}
 use Rattle.hp_mount_files.specs.Numbered.{NumberedFile}
 use Rattle.hp_mount_files.proofs.Parts.{file_of}
 use Rattle.hp_mount_files.proofs.file.File.close.Goals as goal

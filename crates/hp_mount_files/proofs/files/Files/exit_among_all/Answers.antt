@@ -4,7 +4,6 @@ use Rattle.std.specs.List.{filter, sum_by}
 use Rattle.std.proofs.lemmas.Fn.{filter_same}
 use Rattle.hp_model.specs.files.GiveBack.{file_without, is_kept}
 use Rattle.hp_model.specs.files.MountCounts.{file_reserves}
-use Rattle.hp_mount_files.specs.Tally.{count_of}
 use Rattle.hp_mount_files.specs.Dropping.{IsLeft}
 use Rattle.hp_mount_files.specs.Files.{Files}
 use Rattle.hp_mount_files.specs.Leaving.{file_owed, is_used}
@@ -25,29 +24,24 @@ drop_maps_of-gone-requires-clause-few g c =
 
 pub invariant_of-self : goal.invariant_of-self
 invariant_of-self g c =
-    let s = c.self.inside in
-    let one = c.drop_maps_of-gone in
-    let few : length s.list.items ≡ vec_len s.list = search rules in
+    let few : length c.self.inside.list.items ≡ vec_len c.self.inside.list = search rules in
     let kept = filter_same _ is_used _ (λ x b f' k. search rules) _ _ c.retain.ensures.filtered in
-    exit_keeps s.hints one.new.hints s.store one.new.store s.more one.new.more s.maps (count_of s.counts) s.list.items c.deref_mut.result.now one.new.files c.retain.new.self.items _ few c.self.invariant c.args.task c.deref_mut.ensures.value one.ensures.files kept one.ensures.dropping one.ensures.counted one.ensures.hints one.result.reserves one.result.maps one.ensures.reserves one.ensures.maps _ _ refl c.set.ensures
+    exit_keeps few c.self.invariant c.deref_mut.ensures.value c.drop_maps_of-gone.ensures kept _ _ refl c.set.ensures
 
 pub returns-clause-files : goal.returns-clause-files
 returns-clause-files g c =
-    let s = c.self.inside in
-    let one = c.drop_maps_of-gone in
-    let few : length s.list.items ≡ vec_len s.list = search rules in
+    let few : length c.self.inside.list.items ≡ vec_len c.self.inside.list = search rules in
     let kept = filter_same _ is_used _ (λ x b f' k. search rules) _ _ c.retain.ensures.filtered in
-    exit_files s.hints one.new.hints s.store one.new.store s.more one.new.more s.maps (count_of s.counts) s.list.items c.deref_mut.result.now one.new.files c.retain.new.self.items _ few c.self.invariant c.args.task c.deref_mut.ensures.value one.ensures.files kept one.ensures.dropping one.ensures.counted one.ensures.hints one.result.reserves one.result.maps one.ensures.reserves one.ensures.maps
+    exit_files few c.self.invariant c.deref_mut.ensures.value c.drop_maps_of-gone.ensures kept
     ∙ ap (λ (v : Files). filter is_kept (map (file_without c.args.task) v.files)) c.self.view_is
 
 pub returns-clause-left : goal.returns-clause-left
 returns-clause-left g c =
-    let s = c.self.inside in
     let one = c.drop_maps_of-gone in
-    let few : length s.list.items ≡ vec_len s.list = search rules in
+    let few : length c.self.inside.list.items ≡ vec_len c.self.inside.list = search rules in
     let kept = filter_same _ is_used _ (λ x b f' k. search rules) _ _ c.retain.ensures.filtered in
     subst (λ v. IsLeft one.result.reserves v (view one.new.store one.new.more c.retain.new.self.items)) c.self.view_is
-    (exit_left s.hints one.new.hints s.store one.new.store s.more one.new.more s.maps (count_of s.counts) s.list.items c.deref_mut.result.now one.new.files c.retain.new.self.items _ few c.self.invariant c.args.task c.deref_mut.ensures.value one.ensures.files kept one.ensures.dropping one.ensures.counted one.ensures.hints one.result.reserves one.result.maps one.ensures.reserves one.ensures.maps)
+    (exit_left few c.self.invariant c.deref_mut.ensures.value one.ensures kept)
 
 pub returns-then-not-has_maps-clause-files : goal.returns-then-not-has_maps-clause-files
 returns-then-not-has_maps-clause-files g c =

@@ -52,8 +52,24 @@ loop-list-preserved g c =
       more = omega (arith, copies, more, c.join.ensures.more);
     }
 
-pub returns-clause-files : goal.returns-clause-files
-returns-clause-files g c =
+pub returns : goal.returns
+returns g c =
     let was = c.loop-list in
     let none : was.lists.items ≡ [] = nil_from_length was.lists.items (omega (arith, was.lists.ok.0, c.in_default.ensures.cases.0)) in
-    sym (none_joined was.files) ∙ ap (joined was.files) (sym none) ∙ was.invariant.files
+    let copies = ap (sum_by list_copies) none in
+    let more = was.invariant.more in
+    let shared = was.invariant.sharing in
+    record {
+      files_are = sym (none_joined was.files) ∙ ap (joined was.files) (sym none) ∙ was.invariant.files;
+      sharing = record {
+        held = λ n. (let came = shared.held n in let rest = ap (in_lists n) none in omega (arith, came, rest));
+        some = shared.some;
+        same = shared.same;
+        pages = shared.pages;
+        nodes = shared.nodes;
+        going = shared.going;
+        room = shared.room;
+      };
+      counted = was.invariant.counted;
+      more_are = omega (arith, copies, more);
+    }

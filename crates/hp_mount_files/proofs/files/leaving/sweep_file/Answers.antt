@@ -1,5 +1,4 @@
-use Rattle.std.proofs.Common.{◌<◌, length, ap, arith}
-use Rattle.std.specs.List.{sum_by}
+use Rattle.std.proofs.Common.{ap, arith}
 use Rattle.std.proofs.lemmas.List.Sums.{get_or-le-sum_by, sum_by-remove}
 use Rattle.hp_mount_files.specs.Held.{in_file, in_files}
 use Rattle.hp_mount_files.proofs.Drops.{drop_as}
