@@ -27,6 +27,7 @@ use Rattle.hp_mount_files.proofs.Forked.{few_kids, fork_held, fork_keeps, fork_k
 use Rattle.hp_mount_files.proofs.Keys.{noted_more}
 use Rattle.hp_mount_files.proofs.Leaving.{files_owe}
 use Rattle.hp_mount_files.proofs.Noting.{named_labelled}
+use Rattle.hp_mount_files.proofs.Sharing.{share_as}
 use Rattle.hp_mount_files.proofs.Stored.{stored_at, stored_pages}
 use Rattle.hp_mount_files.proofs.Tallies.{maps_labelled}
 use Rattle.hp_mount_files.proofs.Unique.{maps_counted}
@@ -261,15 +262,7 @@ module _ {n dropped : Noted} {s t : Store} {more now maps held : ℕ} {tally : �
           ∙ used_all parent child apart ended
 
       sharing : IsSharing (λ m. in_kids parent child apart m K) t u
-      sharing = record {
-        held = λ m. (let came = shares.held m in let all = lists_in m in omega (arith, came, all));
-        some = shares.some;
-        same = shares.same;
-        pages = shares.pages;
-        nodes = shares.nodes;
-        going = shares.going;
-        room = shares.room;
-      }
+      sharing = share_as (λ m. in_lists m lists) (λ m. in_kids parent child apart m K) t u shares (λ m. sym (lists_in m))
 
       pub forked_shows : files_shown u kept ≡ filter is_kept (map (file_forked parent child) v.files)
       forked_shows =

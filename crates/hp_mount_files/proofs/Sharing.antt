@@ -82,6 +82,18 @@ few_holders s number = by (page_at s number) refl
 pub share_none : (s : Store) → HasHolders s → IsSharing (λ n. 0) s s
 share_none s some = record { held = λ n. omega arith; some = some; same = λ n. refl; pages = refl; nodes = λ n. refl; going = refl; room = refl }
 
+-- counted otherwise
+pub share_as : (a b : ℕ → ℕ) (s t : Store) → IsSharing a s t → ((n : ℕ) → b n ≡ a n) → IsSharing b s t
+share_as a b s t shared same = record {
+  held = λ n. (let came = shared.held n in let is = same n in omega (arith, came, is));
+  some = shared.some;
+  same = shared.same;
+  pages = shared.pages;
+  nodes = shared.nodes;
+  going = shared.going;
+  room = shared.room;
+}
+
 pub share_then : (a b all : ℕ → ℕ) (s t u : Store) → IsSharing a s t → IsSharing b t u → ((n : ℕ) → a n + b n ≡ all n) → IsSharing all s u
 share_then a b all s t u first then sum = record {
   held = λ n. (let one = first.held n in let two = then.held n in let both = sum n in omega (arith, one, two, both));
@@ -206,4 +218,4 @@ shared_one p ys number s t is sharing = record {
 
 pub shared_all : (xs ys : List (Place ℕ)) (s t : Store) → IsShared xs ys s t → ((n : ℕ) → sum_by (in_place n) ys ≡ 0) → IsSharing (λ n. sum_by (in_place n) xs) s t
 shared_all xs ys s t shared none =
-    share_then (λ n. sum_by (in_place n) xs - sum_by (in_place n) ys) (λ n. 0) (λ n. sum_by (in_place n) xs) s t t shared.sharing (share_none t shared.sharing.some) (λ n. (let rest = none n in omega (arith, rest)))
+    share_as (λ n. sum_by (in_place n) xs - sum_by (in_place n) ys) (λ n. sum_by (in_place n) xs) s t shared.sharing (λ n. (let rest = none n in omega (arith, rest)))

@@ -2,7 +2,7 @@ use Rattle.std.proofs.Common.{◌≡◌, ◌+◌, ◌-◌, ℕ, drop, arith}
 use Rattle.std.specs.List.{sum_by}
 use Rattle.hp_mount_files.specs.Forking.{IsSharing, copies_in}
 use Rattle.hp_mount_files.specs.Held.{in_map}
-use Rattle.hp_mount_files.proofs.Sharing.{share_none, share_then, sum_end, sum_read}
+use Rattle.hp_mount_files.proofs.Sharing.{share_as, share_none, share_then, sum_end, sum_read}
 use Rattle.hp_mount_files.proofs.forking.share_all.Goals as goal
 
 pub share_map-requires-clause-held : goal.share_map-requires-clause-held
@@ -58,16 +58,8 @@ loop-map-preserved g c =
 pub returns-clause-sharing : goal.returns-clause-sharing
 returns-clause-sharing g c =
     let was = c.loop-map in
-    let sharing : IsSharing (λ n. sum_by (in_map n) c.args.maps.now - sum_by (in_map n) (drop was.map-index c.args.maps.now)) c.args.store.now was.store = was.invariant.sharing in
-    record {
-      held = λ n. (let none = sum_end (in_map n) c.args.maps.now was.map-index c.loop-map-test.false in let held = sharing.held n in omega (arith, none, held));
-      some = sharing.some;
-      same = sharing.same;
-      pages = sharing.pages;
-      nodes = sharing.nodes;
-      going = sharing.going;
-      room = sharing.room;
-    }
+    share_as (λ n. sum_by (in_map n) c.args.maps.now - sum_by (in_map n) (drop was.map-index c.args.maps.now)) (λ n. sum_by (in_map n) c.args.maps.now) c.args.store.now was.store was.invariant.sharing
+    (λ n. (let none = sum_end (in_map n) c.args.maps.now was.map-index c.loop-map-test.false in omega (arith, none)))
 
 pub returns-clause-counted : goal.returns-clause-counted
 returns-clause-counted g c = c.loop-map.invariant.counted

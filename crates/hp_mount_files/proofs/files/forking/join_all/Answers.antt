@@ -5,7 +5,7 @@ use Rattle.std.proofs.lemmas.List.{nil_from_length}
 use Rattle.std.proofs.lemmas.List.Sums.{sum_by_push}
 use Rattle.hp_mount_files.specs.Forking.{HasRoom, HaveRoom, in_list, in_lists, joined, list_copies, with_list}
 use Rattle.hp_mount_files.proofs.Joining.{last_joined, last_room, last_within, none_joined, rest_room}
-use Rattle.hp_mount_files.proofs.Sharing.{share_then}
+use Rattle.hp_mount_files.proofs.Sharing.{share_as, share_then}
 use Rattle.hp_mount_files.proofs.files.forking.join_all.Goals as goal
 
 pub bounds-files-at : goal.bounds-files-at
@@ -58,18 +58,10 @@ returns g c =
     let none : was.lists.items ≡ [] = nil_from_length was.lists.items (omega (arith, was.lists.ok.0, c.in_default.ensures.cases.0)) in
     let copies = ap (sum_by list_copies) none in
     let more = was.invariant.more in
-    let shared = was.invariant.sharing in
     record {
       files_are = sym (none_joined was.files) ∙ ap (joined was.files) (sym none) ∙ was.invariant.files;
-      sharing = record {
-        held = λ n. (let came = shared.held n in let rest = ap (in_lists n) none in omega (arith, came, rest));
-        some = shared.some;
-        same = shared.same;
-        pages = shared.pages;
-        nodes = shared.nodes;
-        going = shared.going;
-        room = shared.room;
-      };
+      sharing = share_as (λ n. in_lists n c.args.lists.items - in_lists n was.lists.items) (λ n. in_lists n c.args.lists.items) c.args.store.now was.store was.invariant.sharing
+          (λ n. (let rest = ap (in_lists n) none in omega (arith, rest)));
       counted = was.invariant.counted;
       more_are = omega (arith, copies, more);
     }
