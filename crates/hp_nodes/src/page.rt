@@ -28,8 +28,7 @@ impl<N: Naming> Model for Page<N> {
 
     ghost view = { λ p. record { node = p.mark; bytes = p.frame } };
 
-    ghost invariant = { λ p.
-        (p.mark < 4) × (IsTrue p.blank → p.frame ≡ zeros N.page_bytes) };
+    ghost invariant = { λ p. IsTrue p.blank → p.frame ≡ zeros N.page_bytes };
 }
 
 impl<N: Naming> Page<N> {
@@ -39,7 +38,6 @@ impl<N: Naming> Page<N> {
         requires { IsTrue blank → frame ≡ zeros N.page_bytes }
         ensures node { result.node ≡ mark }
     {
-        let _node = mark.node();
         Page { frame, mark, blank }
     }
 

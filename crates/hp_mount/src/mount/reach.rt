@@ -131,7 +131,6 @@ impl<N: Naming> Mount<N> {
             → result ≢ Err Refusal.OutOfMemory }
         ensures same { IsTouched self.old self.new file }
     {
-        let _files = &self.files;
         match self.files.cell(file, index) {
             CellState::Present => Ok(()),
             CellState::Entered => self.fill_entry(door, home, file, index),
