@@ -73,13 +73,15 @@ fn drop_run<N: Naming>(
     ensures counted { more.new ≡ more_in store.new.pages }
 {
     let mut at = from;
+    let mut count = *more;
     while at < places.len() {
         let Some(number) = copy_in(&places[at]) else {
-            return at;
+            break;
         };
-        drop_holder(number, store, more);
+        drop_holder(number, store, &mut count);
         at += 1;
     }
+    *more = count;
     at
 }
 

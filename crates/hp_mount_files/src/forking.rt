@@ -51,13 +51,15 @@ fn share_run<N: Naming>(
         ≡ more.old + count_by has_copy (drop from places.now) }
 {
     let mut at = from;
+    let mut count = *more;
     while at < places.len() {
         let Some(number) = copy_in(&places[at]) else {
-            return at;
+            break;
         };
-        add_holder(number, store, more);
+        add_holder(number, store, &mut count);
         at += 1;
     }
+    *more = count;
     at
 }
 

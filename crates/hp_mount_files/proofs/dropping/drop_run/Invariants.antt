@@ -9,7 +9,7 @@ invariant-loop-at g l = record {
   low : l.from ≤ l.at;
   high : l.at ≤ length l.places;
   dropping : IsDropping (λ n. sum_by (in_place n) (drop l.from l.places)) (λ n. sum_by (in_place n) (drop l.at l.places)) l.initial.store l.store;
-  counted : l.more ≡ more_in l.store.pages;
+  counted : l.count ≡ more_in l.store.pages;
 }
 
 abbrev pub decreases-loop-at : goal.decreases-loop-at

@@ -10,8 +10,8 @@ invariant-loop-at g l = record {
   low : l.from ≤ l.at;
   high : l.at ≤ length l.places;
   shared : IsShared (drop l.from l.places) (drop l.at l.places) l.initial.store l.store;
-  counted : l.more ≡ more_in l.store.pages;
-  more : l.more + count_by has_copy (drop l.at l.places) ≡ l.initial.more + count_by has_copy (drop l.from l.places);
+  counted : l.count ≡ more_in l.store.pages;
+  more : l.count + count_by has_copy (drop l.at l.places) ≡ l.initial.more + count_by has_copy (drop l.from l.places);
 }
 
 abbrev pub decreases-loop-at : goal.decreases-loop-at
