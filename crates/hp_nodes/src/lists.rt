@@ -150,7 +150,6 @@ impl<N: Naming> NodeLists<N> {
     }
 
     /// Puts a page back at its own node. Never refused, and takes no memory.
-    #[tactic(auto, using(hp_model::proofs::Sums::put_sums))]
     pub fn put(&mut self, page: Page<N>)
         ensures moved { self.new ≡ put_at page.node self.old }
         ensures sums { sum_row self.new.rows ≡ put_row (sum_row self.old.rows) }
