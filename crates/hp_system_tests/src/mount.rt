@@ -64,6 +64,7 @@ fn access(map: u64, index: u64) -> MapAccess {
 }
 
 // The mount's calls, of which each is asked for one thing: what they promise is not carried through a whole test.
+// Each part of a test asks for a few things alone, since the proof of a function grows faster than its length.
 
 fn create<N: Naming>(mount: &mut Mount<N>, name: &[u8]) -> Result<(), Refusal> {
     mount.create(name)
@@ -198,14 +199,18 @@ fn loads<N: Naming>(
     Ok(bytes == wanted)
 }
 
-// Files and maps are made, and refused by name, limit and place.
+// A file is made, and refused by its name.
+fn creates<N: Naming, R: Abort>(rt: &R, mount: &mut Mount<N>) {
+    same!(rt; create(mount, b"a"), Ok(()));
+    same!(rt; create(mount, b"a"), Err(Refusal::FileExists));
+    assert!(rt; !has_maps(mount, 7));
+}
+
+// Maps are made, and refused by name, limit and place.
 fn maps<N: Naming, R: Abort>(rt: &R, pool: &mut Pool<N>, mount: &mut Mount<N>)
     requires { IsReady pool.old }
     ensures { IsReady pool.new }
 {
-    same!(rt; create(mount, b"a"), Ok(()));
-    same!(rt; create(mount, b"a"), Err(Refusal::FileExists));
-    assert!(rt; !has_maps(mount, 7));
     same!(rt;
         map(pool, mount, b"b", &range(0, 1)),
         Err(Refusal::NoSuchFile)
@@ -229,6 +234,15 @@ fn accesses<N: Naming, R: Abort>(rt: &R, pool: &mut Pool<N>, mount: &mut Mount<N
     same!(rt; loads(pool, mount, &access(1, 1), 2, b"\0\0"), Ok(true));
     same!(rt; store(pool, mount, &access(1, 1), b"xy"), Ok(()));
     same!(rt; loads(pool, mount, &access(2, 1), 2, b"xy"), Ok(true));
+    same!(rt; fault(pool, mount, &access(1, 0), Intent::Write), Ok(()));
+}
+
+// An access is refused by its index, its bytes and its map.
+fn refuses_accesses<N: Naming, R: Abort>(rt: &R, pool: &mut Pool<N>, mount: &mut Mount<N>)
+    requires ready { IsReady pool.old }
+    requires bytes { N.page_bytes ≡ 1024 }
+    ensures { IsReady pool.new }
+{
     same!(rt;
         loads(pool, mount, &access(2, 0), 2, b"xy"),
         Err(Refusal::OutOfRange)
@@ -237,17 +251,15 @@ fn accesses<N: Naming, R: Abort>(rt: &R, pool: &mut Pool<N>, mount: &mut Mount<N
         loads(pool, mount, &access(2, 1), 3, b"xy"),
         Err(Refusal::CrossesPage)
     );
-    same!(rt; fault(pool, mount, &access(1, 0), Intent::Write), Ok(()));
     same!(rt;
         fault(pool, mount, &access(3, 0), Intent::Read),
         Err(Refusal::NoSuchMap)
     );
 }
 
-// A map without reservations asks for no page. The file shows what was stored.
-fn looks<N: Naming, R: Abort>(rt: &R, pool: &mut Pool<N>, mount: &mut Mount<N>)
-    requires ready { IsReady pool.old }
-    requires bytes { N.page_bytes ≡ 1024 }
+// A map without reservations asks for no page.
+fn maps_unreserved<N: Naming, R: Abort>(rt: &R, pool: &mut Pool<N>, mount: &mut Mount<N>)
+    requires { IsReady pool.old }
     ensures { IsReady pool.new }
 {
     same!(rt; used(mount), usage(2, 1));
@@ -262,6 +274,12 @@ fn looks<N: Naming, R: Abort>(rt: &R, pool: &mut Pool<N>, mount: &mut Mount<N>)
             maps: 3
         })
     );
+}
+
+// The file shows what was stored.
+fn looks<N: Naming, R: Abort>(rt: &R, mount: &Mount<N>)
+    requires { N.page_bytes ≡ 1024 }
+{
     same!(rt; reads(mount, 1, b"xy"), Ok(true));
     same!(rt; reads(mount, 3, b"\0\0"), Ok(true));
     same!(rt; unlisted(mount), None);
@@ -279,6 +297,13 @@ fn private_maps<N: Naming, R: Abort>(rt: &R, pool: &mut Pool<N>, mount: &mut Mou
         Err(Refusal::MountFull)
     );
     same!(rt; map(pool, mount, b"a", &private(1, 2)), Ok(2));
+}
+
+// What a private map asked for is used, and its file is as long as it.
+fn private_maps_are_used<N: Naming, R: Abort>(rt: &R, pool: &mut Pool<N>, mount: &mut Mount<N>)
+    requires { IsReady pool.old }
+    ensures { IsReady pool.new }
+{
     same!(rt; used(mount), usage(3, 1));
     same!(rt;
         stat(mount),
@@ -292,8 +317,8 @@ fn private_maps<N: Naming, R: Abort>(rt: &R, pool: &mut Pool<N>, mount: &mut Mou
     same!(rt; map(pool, mount, b"a", &range(1, 1)), Ok(3));
 }
 
-// A file without name is one of the files.
-fn files_without_name<N: Naming, R: Abort>(rt: &R, pool: &mut Pool<N>, mount: &mut Mount<N>)
+// A file without name is refused by its pages.
+fn refuses_files_without_name<N: Naming, R: Abort>(rt: &R, pool: &mut Pool<N>, mount: &mut Mount<N>)
     requires { IsReady pool.old }
     ensures { IsReady pool.new }
 {
@@ -316,6 +341,13 @@ fn files_without_name<N: Naming, R: Abort>(rt: &R, pool: &mut Pool<N>, mount: &m
         anon(pool, mount, 7, 0, Sharing::Shared, Reserving::Reserve),
         Err(Refusal::OutOfRange)
     );
+}
+
+// A file without name is one of the files.
+fn files_without_name<N: Naming, R: Abort>(rt: &R, pool: &mut Pool<N>, mount: &mut Mount<N>)
+    requires { IsReady pool.old }
+    ensures { IsReady pool.new }
+{
     same!(rt;
         anon(pool, mount, 8, 5, Sharing::Private, Reserving::NoReserve),
         Ok(1)
@@ -327,7 +359,7 @@ fn files_without_name<N: Naming, R: Abort>(rt: &R, pool: &mut Pool<N>, mount: &m
     );
 }
 
-// Indices leave a map, and the map with its last one. What the file has stays.
+// Indices leave a map.
 fn unmaps<N: Naming, R: Abort>(rt: &R, pool: &mut Pool<N>, mount: &mut Mount<N>)
     requires { IsReady pool.old }
     ensures { IsReady pool.new }
@@ -340,6 +372,13 @@ fn unmaps<N: Naming, R: Abort>(rt: &R, pool: &mut Pool<N>, mount: &mut Mount<N>)
         Err(Refusal::OutOfRange)
     );
     same!(rt; fault(pool, mount, &access(1, 1), Intent::Read), Ok(()));
+}
+
+// A map leaves with its last index. What the file has stays.
+fn unmaps_all<N: Naming, R: Abort>(rt: &R, pool: &mut Pool<N>, mount: &mut Mount<N>)
+    requires { IsReady pool.old }
+    ensures { IsReady pool.new }
+{
     same!(rt; unmap(pool, mount, 1, 0, 4), Ok(()));
     same!(rt;
         fault(pool, mount, &access(1, 1), Intent::Read),
@@ -369,33 +408,70 @@ fn ends<N: Naming, R: Abort>(rt: &R, pool: &mut Pool<N>, mount: Mount<N>)
     }
 }
 
+fn opened<N: Naming, R: Abort>(rt: &R, alloc: Global, pool: &mut Pool<N>) -> Mount<N>
+    requires { IsReady pool.old }
+    ensures { IsReady pool.new }
+{
+    let share = Subpool::open(pool, Some(3), 0).expect(rt, "fits");
+    Mount::new(alloc, share, Some(2))
+}
+
+// A mount whose maps are shared, to its end.
+fn with_shared_maps<N: Naming, R: Abort>(rt: &R, alloc: Global, pool: &mut Pool<N>)
+    requires ready { IsReady pool.old }
+    requires bytes { N.page_bytes ≡ 1024 }
+    ensures { IsReady pool.new }
+{
+    let mut mount = opened(rt, alloc, pool);
+    creates(rt, &mut mount);
+    maps(rt, pool, &mut mount);
+    accesses(rt, pool, &mut mount);
+    refuses_accesses(rt, pool, &mut mount);
+    maps_unreserved(rt, pool, &mut mount);
+    looks(rt, &mount);
+    unmaps(rt, pool, &mut mount);
+    unmaps_all(rt, pool, &mut mount);
+    exits(rt, pool, mount);
+}
+
+// A mount with maps does not end before their task does.
+fn exits<N: Naming, R: Abort>(rt: &R, pool: &mut Pool<N>, mount: Mount<N>)
+    requires { IsReady pool.old }
+    ensures { IsReady pool.new }
+{
+    let Err(mut mount) = close(pool, mount) else {
+        panic!(rt; "a task has maps");
+    };
+    exit(pool, &mut mount, 7);
+    assert!(rt; !has_maps(&mount, 7));
+    same!(rt; first_task(&mount), None);
+    ends(rt, pool, mount);
+}
+
+// A mount with private maps and files without name, to its end.
+fn with_private_maps<N: Naming, R: Abort>(rt: &R, alloc: Global, pool: &mut Pool<N>)
+    requires { IsReady pool.old }
+    ensures { IsReady pool.new }
+{
+    let mut mount = opened(rt, alloc, pool);
+    private_maps(rt, pool, &mut mount);
+    private_maps_are_used(rt, pool, &mut mount);
+    refuses_files_without_name(rt, pool, &mut mount);
+    files_without_name(rt, pool, &mut mount);
+    exit(pool, &mut mount, 8);
+    exit(pool, &mut mount, 7);
+    same!(rt; used(&mount), usage(1, 1));
+    ends(rt, pool, mount);
+}
+
 fn run<N: Naming, R: Abort>(rt: &R, alloc: Global, blanks: Blanks)
     requires ledgers { AreLedgers N.Naming blanks }
     requires bytes { N.page_bytes ≡ 1024 }
 {
     let mut pool = Pool::<N>::new(alloc, &[4, 4], 1024, blanks).expect(rt, "memory");
     pool.set_overcommit(4);
-    let share = Subpool::open(&mut pool, Some(3), 0).expect(rt, "fits");
-    let mut mount = Mount::new(alloc, share, Some(2));
-    maps(rt, &mut pool, &mut mount);
-    accesses(rt, &mut pool, &mut mount);
-    looks(rt, &mut pool, &mut mount);
-    unmaps(rt, &mut pool, &mut mount);
-    let Err(mut mount) = close(&mut pool, mount) else {
-        panic!(rt; "a task has maps");
-    };
-    exit(&mut pool, &mut mount, 7);
-    assert!(rt; !has_maps(&mount, 7));
-    same!(rt; first_task(&mount), None);
-    ends(rt, &mut pool, mount);
-    let share = Subpool::open(&mut pool, Some(3), 0).expect(rt, "fits");
-    let mut mount = Mount::new(alloc, share, Some(2));
-    private_maps(rt, &mut pool, &mut mount);
-    files_without_name(rt, &mut pool, &mut mount);
-    exit(&mut pool, &mut mount, 8);
-    exit(&mut pool, &mut mount, 7);
-    same!(rt; used(&mount), usage(1, 1));
-    ends(rt, &mut pool, mount);
+    with_shared_maps(rt, alloc, &mut pool);
+    with_private_maps(rt, alloc, &mut pool);
     let counts = pool.close();
     same!(rt;
         [counts.total, counts.free, counts.rsvd, counts.surp],

@@ -164,33 +164,50 @@ fn map_anon<N: Naming>(door: &mut Noting<N>, mount: &mut Mount<N>) -> Result<u64
     mount.anon(door, 0, 7, 1, Sharing::Private, Reserving::Reserve)
 }
 
-// A map and an access are refused where the door has no place, change nothing, and go through with one. What
-// has its page asks for no section.
-fn in_turn<N: Naming, R: Abort>(rt: &R, door: &mut Noting<N>, mount: &mut Mount<N>)
+fn used<N: Naming>(mount: &Mount<N>) -> Answer {
+    mount.usage().into_answer()
+}
+
+// A map is refused where the door has no place, changes nothing, and goes through with one.
+fn maps_in_turn<N: Naming, R: Abort>(rt: &R, door: &mut Noting<N>, mount: &mut Mount<N>)
+    requires { IsReady door.old.pool }
+    ensures { IsReady door.new.pool }
+{
+    same!(rt; mount.create(b"a"), Ok(()));
+    same!(rt; map_pages(door, mount), Err(Refusal::TraceFull));
+    assert!(rt; !mount.has_maps(7));
+    same!(rt; used(mount), usage(0, 1));
+    door.places = 1;
+    same!(rt; map_pages(door, mount), Ok(1));
+    same!(rt; used(mount), usage(2, 1));
+}
+
+// An access is refused where the door has no place, and goes through with one. What has its page asks for no section.
+fn accesses_in_turn<N: Naming, R: Abort>(rt: &R, door: &mut Noting<N>, mount: &mut Mount<N>)
     requires ready { IsReady door.old.pool }
     requires bytes { N.page_bytes ≡ 1024 }
     ensures { IsReady door.new.pool }
 {
     let mut room = [0u8; 256];
-    same!(rt; mount.create(b"a"), Ok(()));
-    same!(rt; map_pages(door, mount), Err(Refusal::TraceFull));
-    assert!(rt; !mount.has_maps(7));
-    same!(rt; mount.usage().into_answer(), usage(0, 1));
-    door.places = 1;
-    same!(rt; map_pages(door, mount), Ok(1));
-    same!(rt; mount.usage().into_answer(), usage(2, 1));
     same!(rt; load_byte(door, mount, &mut room), Err(Refusal::TraceFull));
     same!(rt; store_byte(door, mount), Err(Refusal::TraceFull));
     door.places = 1;
     same!(rt; store_byte(door, mount), Ok(()));
     same!(rt; load_byte(door, mount, &mut room), Ok(b"x".as_slice()));
-    same!(rt; mount.usage().into_answer(), usage(2, 1));
+    same!(rt; used(mount), usage(2, 1));
+}
+
+// A private map of a new file is refused where the door has no place, and goes through with one.
+fn anon_in_turn<N: Naming, R: Abort>(rt: &R, door: &mut Noting<N>, mount: &mut Mount<N>)
+    requires { IsReady door.old.pool }
+    ensures { IsReady door.new.pool }
+{
     same!(rt; map_anon(door, mount), Err(Refusal::TraceFull));
-    same!(rt; mount.usage().into_answer(), usage(2, 1));
+    same!(rt; used(mount), usage(2, 1));
     door.places = 1;
     same!(rt; map_anon(door, mount), Ok(2));
     same!(rt; map_anon(door, mount), Err(Refusal::MountFull));
-    same!(rt; mount.usage().into_answer(), usage(3, 2));
+    same!(rt; used(mount), usage(3, 2));
 }
 
 // A page by a grant, which no map of today asks for, is refused without a place.
@@ -228,7 +245,9 @@ fn run<N: Naming, R: Abort>(rt: &R, alloc: Global, blanks: Blanks)
             reserved: 0,
         },
     };
-    in_turn(rt, &mut door, &mut mount);
+    maps_in_turn(rt, &mut door, &mut mount);
+    accesses_in_turn(rt, &mut door, &mut mount);
+    anon_in_turn(rt, &mut door, &mut mount);
     a_page_by_a_grant(rt, &mut door);
     mount.exit_maps(&mut door, 7);
     match mount.close(&mut door) {
