@@ -64,13 +64,12 @@ fn access(map: u64, index: u64) -> MapAccess {
 }
 
 // The mount's calls, of which each is asked for one thing: what they promise is not carried through a whole test.
-// Each part of a test asks for a few things alone, since the proof of a function grows faster than its length.
 
 fn create<N: Naming>(mount: &mut Mount<N>, name: &[u8]) -> Result<(), Refusal> {
     mount.create(name)
 }
 
-fn used<N: Naming>(mount: &Mount<N>) -> Answer {
+pub(crate) fn used<N: Naming>(mount: &Mount<N>) -> Answer {
     mount.usage().into_answer()
 }
 
@@ -199,6 +198,8 @@ fn loads<N: Naming>(
     Ok(bytes == wanted)
 }
 
+// The parts of the test. Each asks for a few things alone, since the proof of a function grows faster than its length.
+
 // A file is made, and refused by its name.
 fn creates<N: Naming, R: Abort>(rt: &R, mount: &mut Mount<N>) {
     same!(rt; create(mount, b"a"), Ok(()));
@@ -299,7 +300,7 @@ fn private_maps<N: Naming, R: Abort>(rt: &R, pool: &mut Pool<N>, mount: &mut Mou
     same!(rt; map(pool, mount, b"a", &private(1, 2)), Ok(2));
 }
 
-// What a private map asked for is used, and its file is as long as it.
+// What a private map asked for is used, and its file is as long as it. An index that is entered is asked for once.
 fn private_maps_are_used<N: Naming, R: Abort>(rt: &R, pool: &mut Pool<N>, mount: &mut Mount<N>)
     requires { IsReady pool.old }
     ensures { IsReady pool.new }

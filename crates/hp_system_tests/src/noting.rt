@@ -3,6 +3,7 @@ ghost use Rattle.std.specs.Prelude.{◌≡◌, ◌≤◌, length};
 ghost use Rattle.hp_mount_door.specs.Door.{IsReady};
 ghost use Rattle.hp_pool.specs.Ledgers.{AreLedgers};
 
+use crate::mount::used;
 use crate::same::same;
 use hp_model::answer::Answer;
 use hp_model::naming::Naming;
@@ -162,10 +163,6 @@ fn map_anon<N: Naming>(door: &mut Noting<N>, mount: &mut Mount<N>) -> Result<u64
     ensures { IsReady door.new.pool }
 {
     mount.anon(door, 0, 7, 1, Sharing::Private, Reserving::Reserve)
-}
-
-fn used<N: Naming>(mount: &Mount<N>) -> Answer {
-    mount.usage().into_answer()
 }
 
 // A map is refused where the door has no place, changes nothing, and goes through with one.
