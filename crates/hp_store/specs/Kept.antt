@@ -1,7 +1,34 @@
 -- How a store keeps its numbers and its pages. No public clause cites this module.
-use Rattle.std.specs.Prelude.{◌≡◌, ◌≢◌, ℕ, ◌+◌, ◌<◌, ◌≤◌, ◌^◌, List, length, slice_index, slice_index_or}
+use Rattle.std.specs.Prelude.{◌≡◌, ◌≢◌, ℕ, ◌+◌, ◌-◌, ◌<◌, ◌≤◌, ◌^◌, List, [], ◌∷◌, ◌++◌, length, map, replicate, slice_index, slice_index_or, is_some, nat_lt}
 use Rattle.std.specs.Prelude.{Option, None}
+use Rattle.std.specs.Option.{option_map}
+use Rattle.hp_model.specs.files.Page.{Page}
 use Rattle.hp_store.specs.Store.{Holding, held_count}
+
+-- the slots that were ever used, and how many slots there is room for
+pub record Used : Type 0 where
+  pub slots : List (Option Holding)
+  pub room : ℕ
+
+-- so many slots: these come first, and those behind are free
+abbrev pub with_free : ℕ → List (Option Holding) → List (Option Holding)
+with_free count first = first ++ replicate (count - length first) None
+
+abbrev pub held_by : ℕ → Page → Holding
+held_by holders p = record { node = p.node; bytes = p.bytes; holders = holders }
+
+-- the pages with their holders
+abbrev pub holdings : List (Option Page) → List ℕ → List (Option Holding)
+holdings [] hs = []
+holdings (p ∷ ps) [] = []
+holdings (p ∷ ps) (h ∷ hs) = option_map (held_by h) p ∷ holdings ps hs
+
+-- a page that is there has a holder, and there is room for pages and holders
+pub record IsCounted (pages : List (Option Page)) (holders : List ℕ) (room pages_capacity holders_capacity : ℕ) : Type 0 where
+  pub counted : map is_some pages ≡ map (nat_lt 0) holders
+  pub within : length pages ≤ room
+  pub pages_room : room ≤ pages_capacity
+  pub holders_room : room ≤ holders_capacity
 
 -- the list has each slot without a page once
 pub record IsFree (slots : List (Option Holding)) (free : List ℕ) : Type 0 where
@@ -10,11 +37,12 @@ pub record IsFree (slots : List (Option Holding)) (free : List ℕ) : Type 0 whe
   pub apart : (j k : ℕ) → j < k → k < length free → slice_index free j ≢ slice_index free k
   pub counted : length free + held_count slots ≡ length slots
 
--- each number of a slot has a place on the list of free numbers, and fits 32 bits
-pub record IsNumbered (slots : List (Option Holding)) (free : List ℕ) (free_capacity : ℕ) : Type 0 where
-  pub listed : IsFree slots free
-  pub free_room : length slots ≤ free_capacity
-  pub few : length slots ≤ 2 ^ 32
+-- each slot that was used and is free is listed; each number has a place on that list, and fits 32 bits
+pub record IsNumbered (used : Used) (free : List ℕ) (free_capacity : ℕ) : Type 0 where
+  pub listed : IsFree used.slots free
+  pub within : length used.slots ≤ used.room
+  pub free_room : used.room ≤ free_capacity
+  pub few : used.room ≤ 2 ^ 32
 
 -- there is room for the pages that may still come, also in the list of those that go
 pub record HasRoom (slots : List (Option Holding)) (going going_capacity room : ℕ) : Type 0 where

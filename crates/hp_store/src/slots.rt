@@ -1,36 +1,35 @@
 //! Slots for pages, and the numbers of those that are free.
-ghost use Rattle.std.specs.Prelude.{◌≡◌, ℕ, ◌+◌, ◌-◌, ◌<◌, ◌≤◌, ◌^◌, ◌==◌, not, false, IsTrue, List, [], ◌∷◌, ◌++◌, length, replicate, slice_index_or, slice_set, None, Some, IsSome, OnOk, OnErr, vec_len, vec_capacity};
+ghost use Rattle.std.specs.Prelude.{◌≡◌, ℕ, ◌+◌, ◌-◌, ◌<◌, ◌≤◌, ◌^◌, ◌==◌, not, false, IsTrue, [], length, slice_index_or, slice_set, None, Some, IsSome, OnOk, OnErr};
 ghost use Rattle.std.specs.Option.{option_map};
-ghost use Rattle.hp_store.specs.Store.{Holding, holders_of, bytes_of, first_held, held_once_more, held_once_less, page_of, written, held_count, at_slot, Lengthens};
-ghost use Rattle.hp_store.specs.Kept.{IsFree};
+ghost use Rattle.hp_store.specs.Store.{holders_of, bytes_of, first_held, held_once_more, held_once_less, page_of, written, held_count, at_slot, Lengthens};
 
-use crate::kept::Kept;
+use crate::holdings::Holdings;
 use hp_model::naming::Naming;
 use hp_model::page_no::PageNo;
 use hp_nodes::Page;
 use std::alloc::{AllocError, Global};
 use std::marker::Model;
-use std::mem;
 
 // How many numbers there are.
 const NUMBERS: usize = 1 << 32;
 
-/// A slot for each number. Contracts see what each has.
+/// A slot for each number. Contracts see what each has. Only those up to the last one that was ever used are written: of
+/// these the free ones are listed, and those behind are free.
 pub(crate) struct Slots<N: Naming> {
-    pages: Vec<Option<Kept<N>>>,
+    used: Holdings<N>,
     free: Vec<PageNo>,
 }
 
 impl<N: Naming> Model for Slots<N> {
     ghost use Rattle.std.specs.Prelude.{List, Option, vec_capacity};
     ghost use Rattle.hp_store.specs.Store.{Holding};
-    ghost use Rattle.hp_store.specs.Kept.{IsNumbered};
+    ghost use Rattle.hp_store.specs.Kept.{IsNumbered, with_free};
 
     ghost Value = { List (Option Holding) };
 
-    ghost view = { λ s. s.pages.items };
+    ghost view = { λ s. with_free s.used.room s.used.slots };
 
-    ghost invariant = { λ s. IsNumbered s.pages.items s.free.items (vec_capacity s.free) };
+    ghost invariant = { λ s. IsNumbered s.used s.free.items (vec_capacity s.free) };
 }
 
 impl<N: Naming> Slots<N> {
@@ -39,7 +38,7 @@ impl<N: Naming> Slots<N> {
         ensures { result ≡ [] }
     {
         Slots {
-            pages: Vec::new(alloc),
+            used: Holdings::new(alloc),
             free: Vec::new(alloc),
         }
     }
@@ -54,17 +53,16 @@ impl<N: Naming> Slots<N> {
         ensures err { OnErr result (self.new ≡ self.old) }
     {
         let free = self.free.len();
-        if count <= free {
-            return Ok(());
-        }
-        let more = count - free;
-        if more > NUMBERS - self.pages.len() {
+        let held = self.used.used() - free;
+        if count > NUMBERS - held {
             return Err(AllocError);
         }
-        self.pages.reserve(more)?;
-        let numbers = self.pages.len() - free + more;
-        self.free.reserve(numbers)?;
-        widen(&mut self.pages, &mut self.free, more);
+        let room = held + count;
+        if room <= self.used.room() {
+            return Ok(());
+        }
+        self.free.reserve(room - free)?;
+        self.used.widen(room)?;
         Ok(())
     }
 
@@ -73,7 +71,7 @@ impl<N: Naming> Slots<N> {
         ensures held { result ≡ held_count self.now }
         ensures within { result ≤ length self.now }
     {
-        self.pages.len() - self.free.len()
+        self.used.used() - self.free.len()
     }
 
     /// Puts a page into a free slot.
@@ -84,37 +82,44 @@ impl<N: Naming> Slots<N> {
         ensures inserted { self.new ≡ slice_set self.old result (Some (first_held page)) }
         ensures held { held_count self.new ≡ held_count self.old + 1 }
     {
-        let at = self.free.pop().unwrap();
-        let slot = &mut self.pages[at.number() as usize];
-        fill(slot, page);
-        at
+        match self.free.pop() {
+            Some(at) => {
+                self.used.fill(at.number() as usize, page);
+                at
+            }
+            None => {
+                let at = PageNo::new(self.used.used() as u32);
+                self.used.push(page);
+                at
+            }
+        }
     }
 
     /// Takes the page of one holder out.
+    #[inline(never)]
     pub(crate) fn remove(&mut self, at: PageNo) -> Page<N>
         requires { holders_of (slice_index_or self.old at None) ≡ 1 }
         ensures page { option_map page_of (slice_index_or self.old at None) ≡ Some result }
         ensures removed { self.new ≡ slice_set self.old at None }
         ensures held { held_count self.new + 1 ≡ held_count self.old }
     {
-        let slot = &mut self.pages[at.number() as usize];
-        let kept = slot.take().unwrap();
+        let page = self.used.take(at.number() as usize);
         self.free.push_reserved(at);
-        kept.into_page()
+        page
     }
 
+    #[inline(always)]
     pub(crate) fn share(&mut self, at: PageNo)
         requires held { IsSome (slice_index_or self.old at None) }
         requires few { holders_of (slice_index_or self.old at None) + 1 < 2 ^ 64 }
         ensures shared { self.new ≡ at_slot held_once_more at self.old }
         ensures held { held_count self.new ≡ held_count self.old }
     {
-        if let Some(kept) = &mut self.pages[at.number() as usize] {
-            kept.share();
-        }
+        self.used.share(at.number() as usize);
     }
 
     /// One holder less where there are several. Says whether there were.
+    #[inline(always)]
     pub(crate) fn drop_shared(&mut self, at: PageNo) -> bool
         requires { IsSome (slice_index_or self.old at None) }
         ensures several { result ≡ not (holders_of (slice_index_or self.old at None) == 1) }
@@ -122,10 +127,7 @@ impl<N: Naming> Slots<N> {
         ensures same { result ≡ false → self.new ≡ self.old }
         ensures held { held_count self.new ≡ held_count self.old }
     {
-        match &mut self.pages[at.number() as usize] {
-            Some(kept) => kept.drop_shared(),
-            None => unreachable!(),
-        }
+        self.used.drop_shared(at.number() as usize)
     }
 
     pub(crate) fn write(&mut self, at: PageNo, offset: usize, bytes: &[u8])
@@ -134,19 +136,14 @@ impl<N: Naming> Slots<N> {
         ensures written { self.new ≡ at_slot (written offset bytes.now) at self.old }
         ensures held { held_count self.new ≡ held_count self.old }
     {
-        if let Some(kept) = &mut self.pages[at.number() as usize] {
-            kept.write(offset, bytes);
-        }
+        self.used.write(at.number() as usize, offset, bytes);
     }
 
+    #[inline(always)]
     pub(crate) fn holders(&self, at: PageNo) -> u64
-        ensures holders { result ≡ holders_of (slice_index_or self.now at None) }
-        ensures some { IsSome (slice_index_or self.now at None) → 0 < result }
+        ensures { result ≡ holders_of (slice_index_or self.now at None) }
     {
-        match self.pages.get(at.number() as usize) {
-            Some(Some(kept)) => kept.holders(),
-            _ => 0,
-        }
+        self.used.holders(at.number() as usize)
     }
 
     pub(crate) fn bytes(&self, at: PageNo) -> &[u8]
@@ -154,60 +151,14 @@ impl<N: Naming> Slots<N> {
         ensures bytes { result.now ≡ bytes_of (slice_index_or self.now at None) }
         ensures length { length result.now ≡ N.page_bytes }
     {
-        match &self.pages[at.number() as usize] {
-            Some(kept) => kept.bytes(),
-            None => unreachable!(),
-        }
+        self.used.bytes(at.number() as usize)
     }
 
     /// Ends slots without a page.
     pub(crate) fn close(self)
         requires { (n : ℕ) → slice_index_or self n None ≡ None }
     {
-        let Slots { pages, free: _ } = self;
-        close_pages(pages);
+        let Slots { used, free: _ } = self;
+        used.close();
     }
-}
-
-// So many numbers more, all free.
-fn widen<N: Naming>(pages: &mut Vec<Option<Kept<N>>>, free: &mut Vec<PageNo>, more: usize)
-    requires free { IsFree pages.old.items free.old.items }
-    requires pages_room { vec_len pages.old + more ≤ vec_capacity pages.old }
-    requires free_room { vec_len pages.old + more ≤ vec_capacity free.old }
-    requires few { vec_len pages.old + more ≤ 2 ^ 32 }
-    ensures slots { pages.new.items ≡ pages.old.items ++ replicate more None }
-    ensures same { (n : ℕ)
-        → slice_index_or pages.new.items n None ≡ slice_index_or pages.old.items n None }
-    ensures free { IsFree pages.new.items free.new.items }
-    ensures free_len { vec_len free.new ≡ vec_len free.old + more }
-    ensures pages_len { vec_len pages.new ≡ vec_len pages.old + more }
-    ensures capacity { vec_capacity free.new ≡ vec_capacity free.old }
-{
-    for _i in 0..more {
-        free.push_reserved(PageNo::new(pages.len() as u32));
-        pages.push_reserved(None);
-    }
-}
-
-// Puts a page where there is none.
-fn fill<N: Naming>(slot: &mut Option<Kept<N>>, page: Page<N>)
-    requires { slot.old ≡ None }
-    ensures { slot.new ≡ Some (first_held page) }
-{
-    match mem::replace(slot, Some(Kept::new(page))) {
-        None => {}
-        Some(_) => unreachable!(),
-    }
-}
-
-fn close_pages<N: Naming>(mut pages: Vec<Option<Kept<N>>>)
-    requires { (n : ℕ) → slice_index_or pages.items n None ≡ None }
-{
-    while let Some(slot) = pages.pop() {
-        match slot {
-            None => {}
-            Some(_) => unreachable!(),
-        }
-    }
-    pages.destroy_empty();
 }

@@ -73,6 +73,7 @@ impl<N: Naming> PageStore<N> {
     }
 
     /// One holder more.
+    #[inline(always)]
     pub fn share(&mut self, number: PageNo)
         requires held { IsSome (page_at self.old number) }
         requires few { holders_of (page_at self.old number) + 1 < 2 ^ 64 }
@@ -82,6 +83,7 @@ impl<N: Naming> PageStore<N> {
     }
 
     /// One holder less. The page of the last one goes. Says whether it went.
+    #[inline(always)]
     pub fn drop_one(&mut self, number: PageNo) -> bool
         requires { IsSome (page_at self.old number) }
         ensures dropped { self.new ≡ dropped number self.old }

@@ -1,17 +1,25 @@
-use Rattle.std.proofs.Common.{◌≡◌, ◌<◌, length, slice_index_or, Some, None, arith}
-use Rattle.std.proofs.lemmas.Grind.{common_steps}
+use Rattle.std.proofs.Common.{None}
+use Rattle.std.proofs.Common.{arith, ap, sym, ◌∙◌, is_some}
 use Rattle.std.proofs.lemmas.List.{length-set}
 use Rattle.hp_store.proofs.Free.{free_given}
+use Rattle.hp_store.proofs.Room.{held_some, same, set_used, used_within}
 use Rattle.hp_store.proofs.slots.Slots.remove.Goals as goal
+
+pub returns-clause-removed : goal.returns-clause-removed
+returns-clause-removed g c =
+    let room = c.self.inside.used.room in
+    let slots = c.self.inside.used.slots in
+    let within = used_within room slots c.args.at (held_some _ (rw (← c.self.view_is) at c.requires)) in
+    rw (← c.self.view_is, c.take-page.ensures.taken, c.number.ensures) (set_used room slots c.args.at None within)
 
 pub invariant_of-self : goal.invariant_of-self
 invariant_of-self g c =
-    let within : c.args.at < length c.self.inside.pages.items = grind (arith, common_steps) in
-    let e : slice_index_or c.self.inside.pages.items c.args.at None ≡ Some c.unwrap-kept.result = grind (arith, common_steps) in
-    let f = free_given c.self.inside.pages.items c.self.inside.free.items c.args.at c.unwrap-kept.result c.self.invariant.listed within e in
-    let len = length-set c.self.inside.pages.items c.args.at None in
-    rw (c.take.ensures.after, c.push_reserved.ensures.items, c.number.ensures) (record {
-      listed = f;
-      free_room = omega (arith, len, c.self.invariant.free_room, c.push_reserved.ensures.capacity);
-      few = omega (arith, len, c.self.invariant.few);
+    let room = c.self.inside.used.room in
+    let slots = c.self.inside.used.slots in
+    let some = ap is_some (sym (same room slots c.args.at)) ∙ held_some _ (rw (← c.self.view_is) at c.requires) in
+    rw (c.take-page.ensures.taken, c.push_reserved.ensures.items, c.number.ensures) (record {
+      listed = free_given slots c.self.inside.free.items c.args.at c.self.invariant.listed some;
+      within = omega (arith, length-set slots c.args.at None, c.self.invariant.within);
+      free_room = omega (arith, c.self.invariant.free_room, c.push_reserved.ensures.capacity);
+      few = c.self.invariant.few;
     })

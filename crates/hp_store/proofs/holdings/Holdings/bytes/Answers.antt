@@ -1,0 +1,19 @@
+use Rattle.std.proofs.Common.{◌≡◌, length, vec_len, arith, rules}
+use Rattle.hp_store.proofs.Counted.{held_within, page_read, page_there}
+use Rattle.hp_store.proofs.holdings.Holdings.bytes.Goals as goal
+
+pub index-requires : goal.index-requires
+index-requires g c =
+    let e : length c.self.inside.pages.items ≡ vec_len c.self.inside.pages = search rules in
+    omega (arith, e, held_within _ _ c.self.invariant.counted c.args.at (rw (← c.self.view_is) at c.requires))
+
+pub unreachable-requires : goal.unreachable-requires
+unreachable-requires g c =
+    let some = rw (← c.self.view_is) at c.requires in
+    let there = rw c.in-None.is at (page_there _ _ c.self.invariant.counted c.args.at c.index.result.now some c.index.ensures) in
+    cc
+
+pub returns-clause-bytes : goal.returns-clause-bytes
+returns-clause-bytes g c =
+    let some = rw (← c.self.view_is) at c.requires in
+    rw (← c.self.view_is, page_read _ _ c.self.invariant.counted c.args.at c.index.result.now some c.index.ensures c.in-Some.page c.in-Some.is) c.bytes.ensures.bytes

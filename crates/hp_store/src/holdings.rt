@@ -1,0 +1,189 @@
+//! Pages with their holders, by number.
+ghost use Rattle.std.specs.Prelude.{◌≡◌, ℕ, ◌+◌, ◌<◌, ◌≤◌, ◌^◌, ◌==◌, not, false, IsTrue, IsSome, [], ◌∷◌, ◌++◌, length, slice_index_or, slice_set, None, Some, OnOk, OnErr};
+ghost use Rattle.std.specs.Option.{option_map};
+ghost use Rattle.hp_store.specs.Store.{holders_of, bytes_of, first_held, held_once_more, held_once_less, page_of, written, at_slot};
+ghost use Rattle.hp_store.specs.Kept.{Used};
+
+use hp_model::naming::Naming;
+use hp_nodes::Page;
+use std::alloc::{AllocError, Global};
+use std::marker::Model;
+use std::mem;
+
+/// The slots that were ever used, each with a page and its holders or with none, and room for more. How many hold a page
+/// stands apart from the page, so that those who share many pages touch little memory.
+pub(crate) struct Holdings<N: Naming> {
+    pages: Vec<Option<Page<N>>>,
+    // 0 where there is no page
+    holders: Vec<u64>,
+    // how many slots there is memory for
+    room: usize,
+}
+
+impl<N: Naming> Model for Holdings<N> {
+    ghost use Rattle.std.specs.Prelude.{vec_capacity};
+    ghost use Rattle.hp_store.specs.Kept.{Used, IsCounted, holdings};
+
+    ghost Value = { Used };
+
+    ghost view = { λ h. record { slots = holdings h.pages.items h.holders.items; room = h.room } };
+
+    ghost invariant = { λ h.
+        IsCounted h.pages.items h.holders.items h.room (vec_capacity h.pages) (vec_capacity h.holders) };
+}
+
+impl<N: Naming> Holdings<N> {
+    /// Takes no memory.
+    pub(crate) fn new(alloc: Global) -> Self
+        ensures { result ≡ record { slots = []; room = 0 } }
+    {
+        Holdings {
+            pages: Vec::new(alloc),
+            holders: Vec::new(alloc),
+            room: 0,
+        }
+    }
+
+    /// Room for so many slots in all. Writes none.
+    pub(crate) fn widen(&mut self, room: usize) -> Result<(), AllocError>
+        requires { self.old.room ≤ room }
+        ensures ok { OnOk result (self.new ≡ record self.old { room = room }) }
+        ensures err { OnErr result (self.new ≡ self.old) }
+    {
+        let more = room - self.pages.len();
+        self.pages.reserve(more)?;
+        self.holders.reserve(more)?;
+        self.room = room;
+        Ok(())
+    }
+
+    pub(crate) fn room(&self) -> usize
+        ensures room { result ≡ self.now.room }
+    {
+        self.room
+    }
+
+    /// How many slots were ever used.
+    pub(crate) fn used(&self) -> usize
+        ensures used { result ≡ length self.now.slots }
+        ensures within { result ≤ self.now.room }
+    {
+        self.pages.len()
+    }
+
+    /// Puts a page into the next slot that was never used.
+    pub(crate) fn push(&mut self, page: Page<N>)
+        requires { length self.old.slots < self.old.room }
+        ensures { self.new ≡ record self.old { slots = self.old.slots ++ Some (first_held page) ∷ [] } }
+    {
+        self.pages.push_reserved(Some(page));
+        self.holders.push_reserved(1);
+    }
+
+    /// Puts a page into a slot that has none.
+    pub(crate) fn fill(&mut self, at: usize, page: Page<N>)
+        requires within { at < length self.old.slots }
+        requires empty { slice_index_or self.old.slots at None ≡ None }
+        ensures { self.new ≡ record self.old { slots = slice_set self.old.slots at (Some (first_held page)) } }
+    {
+        match mem::replace(&mut self.pages[at], Some(page)) {
+            None => {}
+            Some(_) => unreachable!(),
+        }
+        self.holders[at] = 1;
+    }
+
+    /// Takes a page out.
+    pub(crate) fn take(&mut self, at: usize) -> Page<N>
+        requires { IsSome (slice_index_or self.old.slots at None) }
+        ensures page { option_map page_of (slice_index_or self.old.slots at None) ≡ Some result }
+        ensures taken { self.new ≡ record self.old { slots = slice_set self.old.slots at None } }
+    {
+        self.holders[at] = 0;
+        let slot = &mut self.pages[at];
+        slot.take().unwrap()
+    }
+
+    #[inline(always)]
+    pub(crate) fn share(&mut self, at: usize)
+        requires held { IsSome (slice_index_or self.old.slots at None) }
+        requires few { holders_of (slice_index_or self.old.slots at None) + 1 < 2 ^ 64 }
+        ensures { self.new ≡ record self.old { slots = at_slot held_once_more at self.old.slots } }
+    {
+        let holders = &mut self.holders[at];
+        *holders += 1;
+    }
+
+    /// One holder less where there are several. Says whether there were.
+    #[inline(always)]
+    pub(crate) fn drop_shared(&mut self, at: usize) -> bool
+        requires { IsSome (slice_index_or self.old.slots at None) }
+        ensures several { result ≡ not (holders_of (slice_index_or self.old.slots at None) == 1) }
+        ensures dropped { IsTrue result
+            → self.new ≡ record self.old { slots = at_slot held_once_less at self.old.slots } }
+        ensures same { result ≡ false → self.new ≡ self.old }
+    {
+        let holders = self.holders[at];
+        if holders == 1 {
+            return false;
+        }
+        self.holders[at] = holders - 1;
+        true
+    }
+
+    pub(crate) fn write(&mut self, at: usize, offset: usize, bytes: &[u8])
+        requires held { IsSome (slice_index_or self.old.slots at None) }
+        requires fits { offset + length bytes.now ≤ N.page_bytes }
+        ensures { self.new ≡ record self.old { slots = at_slot (written offset bytes.now) at self.old.slots } }
+    {
+        match &mut self.pages[at] {
+            Some(page) => page.write(offset, bytes),
+            None => unreachable!(),
+        }
+    }
+
+    #[inline(always)]
+    pub(crate) fn holders(&self, at: usize) -> u64
+        ensures { result ≡ holders_of (slice_index_or self.now.slots at None) }
+    {
+        match self.holders.get(at) {
+            Some(holders) => *holders,
+            None => 0,
+        }
+    }
+
+    pub(crate) fn bytes(&self, at: usize) -> &[u8]
+        requires { IsSome (slice_index_or self.now.slots at None) }
+        ensures bytes { result.now ≡ bytes_of (slice_index_or self.now.slots at None) }
+        ensures length { length result.now ≡ N.page_bytes }
+    {
+        match &self.pages[at] {
+            Some(page) => page.bytes(),
+            None => unreachable!(),
+        }
+    }
+
+    /// Ends slots without a page.
+    pub(crate) fn close(self)
+        requires { (n : ℕ) → slice_index_or self.slots n None ≡ None }
+    {
+        let Holdings {
+            pages,
+            holders: _,
+            room: _,
+        } = self;
+        close_pages(pages);
+    }
+}
+
+fn close_pages<N: Naming>(mut pages: Vec<Option<Page<N>>>)
+    requires { (n : ℕ) → slice_index_or pages.items n None ≡ None }
+{
+    while let Some(slot) = pages.pop() {
+        match slot {
+            None => {}
+            Some(_) => unreachable!(),
+        }
+    }
+    pages.destroy_empty();
+}
