@@ -1,3 +1,4 @@
+pub mod Chunked
 pub mod FilledWords
 pub mod MarkedPlaces
 pub mod MarkedWords

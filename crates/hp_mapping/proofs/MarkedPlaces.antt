@@ -120,7 +120,7 @@ copy_forked : (p : Place ℕ) → has_copy (unconsumed p) ≡ has_copy p
 copy_forked Gone = refl
 copy_forked (Live was copy) = refl
 
-forked_at : (places : List (Place ℕ)) (k : ℕ) → slice_index_or (map unconsumed places) k Gone ≡ unconsumed (slice_index_or places k Gone)
+pub forked_at : (places : List (Place ℕ)) (k : ℕ) → slice_index_or (map unconsumed places) k Gone ≡ unconsumed (slice_index_or places k Gone)
 forked_at [] k = refl
 forked_at (p ∷ places) zero = refl
 forked_at (p ∷ places) (suc k) = forked_at places k

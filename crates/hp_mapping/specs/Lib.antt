@@ -1,3 +1,5 @@
+pub mod Chunks
+pub mod Forms
 pub mod Mapped
 pub mod Flags
 pub mod Marks

@@ -1,5 +1,5 @@
 -- What contracts see of a mapping.
-use Rattle.std.specs.Prelude.{◌≡◌, ℕ, ◌-◌, ◌<◌, ◌≤◌, ◌&&◌, ◌++◌, Bool, true, false, is_some, if◌then◌else◌, List, length, replicate, slice_index_or, slice_set}
+use Rattle.std.specs.Prelude.{◌≡◌, ℕ, ◌-◌, ◌<◌, ◌≤◌, ◌&&◌, ◌++◌, Bool, true, false, is_some, if◌then◌else◌, List, drop, length, replicate, slice_index_or, slice_set, take}
 use Rattle.std.specs.Prelude.{None, Some}
 use Rattle.std.specs.List.{count_by}
 use Rattle.hp_model.specs.declared.place.Place.{Place}
@@ -14,6 +14,11 @@ fresh = Live false None
 -- so many places: these come first, and those behind are fresh
 abbrev pub with_fresh : ℕ → List (Place ℕ) → List (Place ℕ)
 with_fresh count first = first ++ replicate (count - length first) fresh
+
+-- some of the places, from one on
+pub record IsRun (at : ℕ) (places run : List (Place ℕ)) : Type 0 where
+  pub some : 0 < length run
+  pub run_is : run ≡ take (length run) (drop at places)
 
 -- the place of the file's index i is changed
 abbrev pub at_place : (Place ℕ → Place ℕ) → ℕ → Mapping ℕ → Mapping ℕ

@@ -2,12 +2,14 @@
 #![tactic(auto)]
 
 mod bits;
+mod dense;
 mod flags;
 mod mapping;
 mod marks;
 mod place;
 mod places;
 mod row;
+mod sparse;
 mod words;
 
 pub use flags::MapFlags;

@@ -4,7 +4,7 @@ ghost use Rattle.std.specs.List.{count_by};
 ghost use Rattle.hp_model.specs.declared.place.Place.TheVariants.{Gone, Live};
 ghost use Rattle.hp_model.specs.files.Mapping.{place_at, is_live, is_mapped, is_shared, copy_of, without_copy, without_range, map_for};
 ghost use Rattle.hp_mapping.specs.Flags.{has_owner, has_unmapped, sharing_of};
-ghost use Rattle.hp_mapping.specs.Mapped.{at_place, consumed, with_copy, with_fresh, has_copy, has_reserve, IsClear, reserves_in, reserves_of, TakesLowest};
+ghost use Rattle.hp_mapping.specs.Mapped.{at_place, consumed, with_copy, has_copy, has_reserve, IsClear, IsRun, reserves_in, reserves_of, TakesLowest};
 
 use crate::flags::MapFlags;
 use crate::places::Places;
@@ -137,11 +137,13 @@ impl Mapping {
         self.flags.is_unmapped()
     }
 
-    /// The places of the range, in order, up to the last one that was ever touched. Those behind are fresh.
-    pub fn touched(&self) -> &[Place<PageNo>]
-        ensures { self.now.places ≡ with_fresh (length self.now.places) result.now }
+    /// The places from the file's index on that stand one behind another: of a small map up to the last one that was
+    /// ever touched, of a large one the rest of its chunk. They go no step beyond the range.
+    pub fn run_from(&self, i: u64) -> &[Place<PageNo>]
+        requires { IsSome (copy_of (place_at self.now i)) }
+        ensures { IsRun (i - self.now.start) self.now.places result.now }
     {
-        self.places.touched()
+        self.places.run_from((i - self.start) as usize)
     }
 
     /// How many copies the map has. No place is walked.

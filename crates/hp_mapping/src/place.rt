@@ -1,10 +1,11 @@
 //! One place of a map, with the number of a page as its copy.
-ghost use Rattle.std.specs.Prelude.{◌≡◌};
+ghost use Rattle.std.specs.Prelude.{◌≡◌, ◌≤◌, length, map, vec_capacity, IfOk};
 ghost use Rattle.hp_model.specs.files.Mapping.{copy_of, is_live, is_unconsumed, without_copy, unconsumed};
 ghost use Rattle.hp_mapping.specs.Mapped.{consumed, with_copy};
 
 use hp_model::page_no::PageNo;
 use hp_model::place::Place;
+use std::alloc::{AllocError, Global};
 
 /// The place of a child's map.
 pub(crate) fn forked(place: &Place<PageNo>) -> Place<PageNo>
@@ -17,6 +18,23 @@ pub(crate) fn forked(place: &Place<PageNo>) -> Place<PageNo>
             copy: *copy,
         },
     }
+}
+
+/// The places of a child's map, with room for so many.
+pub(crate) fn all_forked(
+    alloc: Global,
+    places: &[Place<PageNo>],
+    room: usize,
+) -> Result<Vec<Place<PageNo>>, AllocError>
+    requires { length places.now ≤ room }
+    ensures items { IfOk result (λ v. v.items ≡ map unconsumed places.now) }
+    ensures room { IfOk result (λ v. vec_capacity v ≡ room) }
+{
+    let mut copies = Vec::with_capacity(alloc, room)?;
+    for place in places {
+        copies.push_reserved(forked(place));
+    }
+    Ok(copies)
 }
 
 pub(crate) fn is_live(place: &Place<PageNo>) -> bool

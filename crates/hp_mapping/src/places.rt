@@ -4,7 +4,7 @@ ghost use Rattle.std.specs.List.{count_by, list_any};
 ghost use Rattle.hp_model.specs.declared.place.Place.TheVariants.{Gone, Live};
 ghost use Rattle.hp_model.specs.Lists.{edit_range, part};
 ghost use Rattle.hp_model.specs.files.Mapping.{is_live, copy_of, is_unconsumed, without_copy, unconsumed};
-ghost use Rattle.hp_mapping.specs.Mapped.{at_index, consumed, has_copy, with_copy, with_fresh, HasNoCopy, IsGone};
+ghost use Rattle.hp_mapping.specs.Mapped.{at_index, consumed, has_copy, with_copy, HasNoCopy, IsGone, IsRun};
 
 use crate::marks::Marks;
 use crate::row::Row;
@@ -72,11 +72,12 @@ impl Places {
         self.places.len()
     }
 
-    /// The places up to the last one that was ever touched.
-    pub(crate) fn touched(&self) -> &[Place<PageNo>]
-        ensures { self.now ≡ with_fresh (length self.now) result.now }
+    /// Places that stand one behind another, from one that has a copy on.
+    pub(crate) fn run_from(&self, at: usize) -> &[Place<PageNo>]
+        requires { IsSome (copy_of (slice_index_or self.now at Gone)) }
+        ensures { IsRun at self.now result.now }
     {
-        self.places.touched()
+        self.places.run_from(at)
     }
 
     /// How many have a copy. No place is walked.

@@ -1,38 +1,39 @@
-//! Places that are written once they are touched.
-ghost use Rattle.std.specs.Prelude.{◌≡◌, ◌+◌, ◌-◌, ◌^◌, ◌<◌, ◌≤◌, ◌++◌, length, map, not, replicate, slice_index_or, slice_set, vec_capacity, vec_len, IsTrue, IsSome, IfOk};
+//! The places of a map, small or large.
+ghost use Rattle.std.specs.Prelude.{◌≡◌, ◌^◌, ◌<◌, length, map, not, replicate, slice_index_or, slice_set, IsSome, IfOk};
 ghost use Rattle.hp_model.specs.declared.place.Place.TheVariants.{Gone};
 ghost use Rattle.hp_model.specs.files.Mapping.{is_live, copy_of, is_unconsumed, without_copy, unconsumed};
-ghost use Rattle.hp_mapping.specs.Mapped.{at_index, consumed, fresh, has_copy, with_copy, with_fresh};
+ghost use Rattle.hp_mapping.specs.Mapped.{at_index, consumed, fresh, has_copy, with_copy, IsRun};
 
-use crate::place;
+use crate::dense::Dense;
+use crate::sparse::Sparse;
 use hp_model::page_no::PageNo;
 use hp_model::place::Place;
 use std::alloc::{AllocError, Global};
 use std::marker::Model;
-use std::mem::size_of;
 
-// A page of a map costs this, once it or one behind it is touched, and a bit for each of the two marks.
-const _: () = prove!(size_of::<Place<PageNo>>() <= 12);
+// From so many places on a touch writes a chunk, and not all that stand before it.
+const LARGE: usize = 4096;
 
-/// Places, counted from 0. There is memory for all of them, but only those up to the last one that was ever touched
-/// stand in it: those behind are fresh. Contracts see all.
+/// Places, counted from 0. Contracts see them alone.
 #[derive(Drop)]
 pub(crate) struct Row {
-    touched: Vec<Place<PageNo>>,
-    // how many places there are
-    count: usize,
+    form: Form,
+}
+
+#[derive(Drop)]
+enum Form {
+    Dense(Dense),
+    Sparse(Sparse),
 }
 
 impl Model for Row {
-    ghost use Rattle.std.specs.Prelude.{ℕ, List, length, ◌≤◌, vec_capacity};
+    ghost use Rattle.std.specs.Prelude.{ℕ, List};
     ghost use Rattle.hp_model.specs.declared.place.Place.{Place};
-    ghost use Rattle.hp_mapping.specs.Mapped.{with_fresh};
+    ghost use Rattle.hp_mapping.specs.Forms.{places_of};
 
     ghost Value = { List (Place ℕ) };
 
-    ghost view = { λ r. with_fresh r.count r.touched.items };
-
-    ghost invariant = { λ r. (length r.touched.items ≤ r.count) × (r.count ≤ vec_capacity r.touched) };
+    ghost view = { λ r. places_of r.form };
 }
 
 impl Row {
@@ -40,64 +41,81 @@ impl Row {
     pub(crate) fn new(alloc: Global, count: usize) -> Result<Self, AllocError>
         ensures { IfOk result (λ r. r ≡ replicate count fresh) }
     {
-        let touched = Vec::with_capacity(alloc, count)?;
-        Ok(Row { touched, count })
+        let is_large = LARGE < count && count <= u32::MAX as usize;
+        let form = if is_large {
+            Form::Sparse(Sparse::new(alloc, count)?)
+        } else {
+            Form::Dense(Dense::new(alloc, count)?)
+        };
+        Ok(Row { form })
     }
 
     /// The places of a child's map.
     pub(crate) fn forked(&self, alloc: Global) -> Result<Self, AllocError>
         ensures { IfOk result (λ r. r ≡ map unconsumed self.now) }
     {
-        let touched = forked(alloc, &self.touched, self.count)?;
-        Ok(Row {
-            touched,
-            count: self.count,
-        })
+        let form = match &self.form {
+            Form::Dense(dense) => Form::Dense(dense.forked(alloc)?),
+            Form::Sparse(sparse) => Form::Sparse(sparse.forked(alloc)?),
+        };
+        Ok(Row { form })
     }
 
     pub(crate) fn len(&self) -> usize
         ensures { result ≡ length self.now }
     {
-        self.count
+        match &self.form {
+            Form::Dense(dense) => dense.len(),
+            Form::Sparse(sparse) => sparse.len(),
+        }
     }
 
-    /// The places up to the last one that was ever touched.
-    pub(crate) fn touched(&self) -> &[Place<PageNo>]
-        ensures { self.now ≡ with_fresh (length self.now) result.now }
+    /// Places that stand one behind another, from one that has a copy on.
+    pub(crate) fn run_from(&self, at: usize) -> &[Place<PageNo>]
+        requires { IsSome (copy_of (slice_index_or self.now at Gone)) }
+        ensures { IsRun at self.now result.now }
     {
-        self.touched.as_slice()
+        match &self.form {
+            Form::Dense(dense) => dense.run_from(at),
+            Form::Sparse(sparse) => sparse.run_from(at),
+        }
     }
 
     pub(crate) fn is_live(&self, at: usize) -> bool
         ensures { result ≡ is_live (slice_index_or self.now at Gone) }
     {
-        match self.touched.get(at) {
-            Some(place) => place::is_live(place),
-            None => at < self.count,
+        match &self.form {
+            Form::Dense(dense) => dense.is_live(at),
+            Form::Sparse(sparse) => sparse.is_live(at),
         }
     }
 
     pub(crate) fn is_unconsumed(&self, at: usize) -> bool
         ensures { result ≡ is_unconsumed (slice_index_or self.now at Gone) }
     {
-        match self.touched.get(at) {
-            Some(place) => place::is_unconsumed(place),
-            None => at < self.count,
+        match &self.form {
+            Form::Dense(dense) => dense.is_unconsumed(at),
+            Form::Sparse(sparse) => sparse.is_unconsumed(at),
         }
     }
 
     pub(crate) fn copy_at(&self, at: usize) -> Option<PageNo>
         ensures { result ≡ copy_of (slice_index_or self.now at Gone) }
     {
-        place::copy_in(self.touched.get(at)?)
+        match &self.form {
+            Form::Dense(dense) => dense.copy_at(at),
+            Form::Sparse(sparse) => sparse.copy_at(at),
+        }
     }
 
     pub(crate) fn consume(&mut self, at: usize)
         requires { at < length self.old }
         ensures { self.new ≡ at_index consumed at self.old }
     {
-        touch(&mut self.touched, at);
-        place::consume(&mut self.touched[at]);
+        match &mut self.form {
+            Form::Dense(dense) => dense.consume(at),
+            Form::Sparse(sparse) => sparse.consume(at),
+        }
     }
 
     /// Says whether the place had no copy.
@@ -107,18 +125,20 @@ impl Row {
         ensures bare { result ≡ not (has_copy (slice_index_or self.old at Gone)) }
         ensures few { length self.old < 2 ^ 63 }
     {
-        touch(&mut self.touched, at);
-        let place = &mut self.touched[at];
-        let bare = place::copy_in(place).is_none();
-        place::set_copy(place, page);
-        bare
+        match &mut self.form {
+            Form::Dense(dense) => dense.set_copy(at, page),
+            Form::Sparse(sparse) => sparse.set_copy(at, page),
+        }
     }
 
     pub(crate) fn drop_copy(&mut self, at: usize)
         requires { IsSome (copy_of (slice_index_or self.old at Gone)) }
         ensures { self.new ≡ at_index without_copy at self.old }
     {
-        place::drop_copy(&mut self.touched[at]);
+        match &mut self.form {
+            Form::Dense(dense) => dense.drop_copy(at),
+            Form::Sparse(sparse) => sparse.drop_copy(at),
+        }
     }
 
     /// Says whether the place's reservation was there.
@@ -127,42 +147,9 @@ impl Row {
         ensures left { self.new ≡ slice_set self.old at Gone }
         ensures freed { result ≡ is_unconsumed (slice_index_or self.old at Gone) }
     {
-        touch(&mut self.touched, at);
-        let place = &mut self.touched[at];
-        let freed = place::is_unconsumed(place);
-        *place = Place::Gone;
-        freed
+        match &mut self.form {
+            Form::Dense(dense) => dense.leave(at),
+            Form::Sparse(sparse) => sparse.leave(at),
+        }
     }
-}
-
-// The places up to this one are written.
-fn touch(places: &mut Vec<Place<PageNo>>, at: usize)
-    requires { at < vec_capacity places.old }
-    ensures items { places.new.items ≡ places.old.items ++ replicate (at + 1 - length places.old.items) fresh }
-    ensures within { at < vec_len places.new }
-    ensures capacity { vec_capacity places.new ≡ vec_capacity places.old }
-{
-    while places.len() <= at {
-        places.push_reserved(Place::Live {
-            consumed: false,
-            copy: None,
-        });
-    }
-}
-
-// The places of a child's map that were touched, with room for so many.
-fn forked(
-    alloc: Global,
-    places: &[Place<PageNo>],
-    room: usize,
-) -> Result<Vec<Place<PageNo>>, AllocError>
-    requires { length places.now ≤ room }
-    ensures items { IfOk result (λ v. v.items ≡ map unconsumed places.now) }
-    ensures room { IfOk result (λ v. vec_capacity v ≡ room) }
-{
-    let mut copies = Vec::with_capacity(alloc, room)?;
-    for place in places {
-        copies.push_reserved(place::forked(place));
-    }
-    Ok(copies)
 }

@@ -55,24 +55,22 @@ pub(crate) fn drop_pages<N: Naming>(
     }
 }
 
-// The copies of some places go from one place on, up to the next place without a copy, which is answered.
+// The copies of some places go, up to the first place without a copy, which is answered.
 fn drop_run<N: Naming>(
     places: &[Place<PageNo>],
-    from: usize,
     store: &mut PageStore<N>,
     more: &mut usize,
 ) -> usize
-    requires within { from ≤ length places.now }
-    requires held { (n : ℕ) → sum_by (in_place n) (drop from places.now) ≤ holders_of (page_at store.old n) }
+    requires held { (n : ℕ) → sum_by (in_place n) places.now ≤ holders_of (page_at store.old n) }
     requires some { HasHolders store.old }
     requires counted { more.old ≡ more_in store.old.pages }
-    ensures past { IsSome (copy_of (slice_index_or places.now from Gone)) → from < result }
+    ensures past { IsSome (copy_of (slice_index_or places.now 0 Gone)) → 0 < result }
     ensures within { result ≤ length places.now }
-    ensures dropping { IsDropping (λ n. sum_by (in_place n) (drop from places.now))
+    ensures dropping { IsDropping (λ n. sum_by (in_place n) places.now)
         (λ n. sum_by (in_place n) (drop result places.now)) store.old store.new }
     ensures counted { more.new ≡ more_in store.new.pages }
 {
-    let mut at = from;
+    let mut at = 0;
     let mut count = *more;
     while at < places.len() {
         let Some(number) = copy_in(&places[at]) else {
@@ -93,13 +91,11 @@ pub(crate) fn drop_map<N: Naming>(map: &Mapping, store: &mut PageStore<N>, more:
     ensures dropping { IsDropping (λ n. in_map n map.now) (λ n. 0) store.old store.new }
     ensures counted { more.new ≡ more_in store.new.pages }
 {
-    let places = map.touched();
-    let start = map.start();
     let end = map.end();
-    let mut from = start;
+    let mut from = map.start();
     while let Some(at) = map.lowest_copy(from, end) {
-        let past = drop_run(places, (at - start) as usize, store, more);
-        from = start + past as u64;
+        let past = drop_run(map.run_from(at), store, more);
+        from = at + past as u64;
     }
 }
 

@@ -31,26 +31,23 @@ fn add_holder<N: Naming>(number: PageNo, store: &mut PageStore<N>, more: &mut us
     *more += 1;
 }
 
-// The copies of some places have a holder more, from one place on up to the next without a copy, which is answered.
+// The copies of some places have a holder more, up to the first place without a copy, which is answered.
 fn share_run<N: Naming>(
     places: &[Place<PageNo>],
-    from: usize,
     store: &mut PageStore<N>,
     more: &mut usize,
 ) -> usize
-    requires within { from ≤ length places.now }
-    requires held { (n : ℕ) → sum_by (in_place n) (drop from places.now) ≤ holders_of (page_at store.old n) }
+    requires held { (n : ℕ) → sum_by (in_place n) places.now ≤ holders_of (page_at store.old n) }
     requires some { HasHolders store.old }
     requires counted { more.old ≡ more_in store.old.pages }
-    requires few { more.old + count_by has_copy (drop from places.now) ≤ 2 ^ 32 }
-    ensures past { IsSome (copy_of (slice_index_or places.now from Gone)) → from < result }
+    requires few { more.old + count_by has_copy places.now ≤ 2 ^ 32 }
+    ensures past { IsSome (copy_of (slice_index_or places.now 0 Gone)) → 0 < result }
     ensures within { result ≤ length places.now }
-    ensures shared { IsShared (drop from places.now) (drop result places.now) store.old store.new }
+    ensures shared { IsShared places.now (drop result places.now) store.old store.new }
     ensures counted { more.new ≡ more_in store.new.pages }
-    ensures more { more.new + count_by has_copy (drop result places.now)
-        ≡ more.old + count_by has_copy (drop from places.now) }
+    ensures more { more.new + count_by has_copy (drop result places.now) ≡ more.old + count_by has_copy places.now }
 {
-    let mut at = from;
+    let mut at = 0;
     let mut count = *more;
     while at < places.len() {
         let Some(number) = copy_in(&places[at]) else {
@@ -73,13 +70,11 @@ fn share_map<N: Naming>(map: &Mapping, store: &mut PageStore<N>, more: &mut usiz
     ensures counted { more.new ≡ more_in store.new.pages }
     ensures more { more.new ≡ more.old + copies_in map.now }
 {
-    let places = map.touched();
-    let start = map.start();
     let end = map.end();
-    let mut from = start;
+    let mut from = map.start();
     while let Some(at) = map.lowest_copy(from, end) {
-        let past = share_run(places, (at - start) as usize, store, more);
-        from = start + past as u64;
+        let past = share_run(map.run_from(at), store, more);
+        from = at + past as u64;
     }
 }
 

@@ -167,16 +167,22 @@ fn each_second_page_of_many_unmapped(rt: HostRuntime) -> Result<(), Fail> {
     Ok(())
 }
 
-// A map and its child write their places up to the last one touched.
-fn is_touched<R: Abort>(rt: &R, map: &mut Mapping) -> Result<(), AllocError> {
-    same!(rt; map.touched().len(), 0);
+// How many places stand together from an index that has a copy on.
+fn runs<R: Abort>(rt: &R, map: &Mapping, i: u64, len: usize) {
+    assert!(rt; map.copy_at(i).is_some());
+    same!(rt; map.run_from(i).len(), len);
+}
+
+// A small map and its child write their places up to the last one touched.
+fn is_small<R: Abort>(rt: &R, map: &mut Mapping) -> Result<(), AllocError> {
     shows(rt, map, 999, (true, true, None));
     set_copy(rt, map, 12, 5);
-    consume(rt, map, 11);
-    same!(rt; map.touched().len(), 3);
-    shows(rt, map, 13, (true, true, None));
+    runs(rt, map, 12, 1);
+    consume(rt, map, 14);
+    runs(rt, map, 12, 3);
+    shows(rt, map, 15, (true, true, None));
     let child = map.fork_for(1, 8)?;
-    same!(rt; child.touched().len(), 3);
+    runs(rt, &child, 12, 3);
     drop(child);
     Ok(())
 }
@@ -184,7 +190,36 @@ fn is_touched<R: Abort>(rt: &R, map: &mut Mapping) -> Result<(), AllocError> {
 #[test]
 fn places_are_written_up_to_the_last_one_touched(rt: HostRuntime) -> Result<(), Fail> {
     let mut map = owned(rt.alloc(), 10, 1000)?;
-    let ended = is_touched(&rt, &mut map);
+    let ended = is_small(&rt, &mut map);
+    drop(map);
+    Ok(ended?)
+}
+
+// A large map and its child have chunks of 64 places, of which the last is cut short.
+fn is_large<R: Abort>(rt: &R, map: &mut Mapping) -> Result<(), AllocError> {
+    set_copy(rt, map, 59_999, 5);
+    consume(rt, map, 130);
+    set_copy(rt, map, 191, 6);
+    set_copy(rt, map, 129, 7);
+    runs(rt, map, 59_999, 6);
+    runs(rt, map, 191, 6);
+    runs(rt, map, 129, 4);
+    let mut child = map.fork_for(1, 8)?;
+    takes(rt, &mut child, 0, 60_000, page(7));
+    runs(rt, &child, 191, 6);
+    shows(rt, map, 129, (true, true, page(7)));
+    shows(rt, map, 130, (true, false, None));
+    shows(rt, map, 131, (true, true, None));
+    shows(rt, map, 60_005, (false, false, None));
+    frees(rt, map, 130, 191, 60);
+    drop(child);
+    Ok(())
+}
+
+#[test]
+fn places_of_a_large_map_are_written_by_chunks(rt: HostRuntime) -> Result<(), Fail> {
+    let mut map = owned(rt.alloc(), 5, 60_005)?;
+    let ended = is_large(&rt, &mut map);
     drop(map);
     Ok(ended?)
 }

@@ -6,9 +6,9 @@ use Rattle.hp_mount_files.proofs.dropping.drop_map.Given as goal
 
 abbrev pub invariant-loop-at : goal.invariant-loop-at
 invariant-loop-at g l = record {
-  start : l.start ≤ l.from;
+  start : l.map.start ≤ l.from;
   up_to : l.from ≤ l.end;
-  dropping : IsDropping (λ n. in_map n l.map) (λ n. sum_by (in_place n) (drop (l.from - l.start) l.map.places)) l.initial.store l.store;
+  dropping : IsDropping (λ n. in_map n l.map) (λ n. sum_by (in_place n) (drop (l.from - l.map.start) l.map.places)) l.initial.store l.store;
   counted : l.more ≡ more_in l.store.pages;
 }
 

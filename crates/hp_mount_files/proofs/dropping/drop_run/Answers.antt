@@ -7,9 +7,8 @@ use Rattle.hp_mount_files.proofs.dropping.drop_run.Goals as goal
 
 pub loop-at-init : goal.loop-at-init
 loop-at-init g c = record {
-  low = omega arith;
-  high = c.requires.within;
-  dropping = drop_start (λ n. sum_by (in_place n) (drop c.args.from c.args.places.now)) c.args.store.now c.requires.some;
+  high = omega arith;
+  dropping = drop_start (λ n. sum_by (in_place n) c.args.places.now) c.args.store.now c.requires.some;
   counted = c.requires.counted;
 }
 
@@ -20,7 +19,7 @@ drop_holder-requires-clause-held g c =
     let i = c.loop-at.at in
     let p = c.index-places-at.result in
     let number = c.in-Some.number in
-    still_held (λ n. sum_by (in_place n) (drop c.args.from ps)) (λ n. sum_by (in_place n) (drop i ps)) (λ n. sum_by (in_place n) (drop (i + 1) ps)) c.args.store.now c.loop-at.store was.dropping number (c.requires.held number)
+    still_held (λ n. sum_by (in_place n) ps) (λ n. sum_by (in_place n) (drop i ps)) (λ n. sum_by (in_place n) (drop (i + 1) ps)) c.args.store.now c.loop-at.store was.dropping number (c.requires.held number)
     (λ n. (let step = sum_read (in_place n) ps i p c.loop-at-test.true c.index-places-at.is in let here = copied_in n number p (sym c.copy_in.ensures ∙ c.in-Some.is) in omega (arith, step, here)))
 
 pub loop-at-preserved : goal.loop-at-preserved
@@ -31,9 +30,8 @@ loop-at-preserved g c =
     let p = c.index-places-at.result in
     let number = c.in-Some.number in
     record {
-      low = (let low = was.low in omega (arith, low));
       high = omega (arith, c.loop-at-test.true);
-      dropping = drop_next (λ n. sum_by (in_place n) (drop c.args.from ps)) (λ n. sum_by (in_place n) (drop i ps)) (λ n. sum_by (in_place n) (drop (i + 1) ps)) c.args.store.now c.loop-at.store was.dropping number (c.requires.held number)
+      dropping = drop_next (λ n. sum_by (in_place n) ps) (λ n. sum_by (in_place n) (drop i ps)) (λ n. sum_by (in_place n) (drop (i + 1) ps)) c.args.store.now c.loop-at.store was.dropping number (c.requires.held number)
           (λ n. (let step = sum_read (in_place n) ps i p c.loop-at-test.true c.index-places-at.is in let here = copied_in n number p (sym c.copy_in.ensures ∙ c.in-Some.is) in omega (arith, step, here))) c.drop_holder.new.store c.drop_holder.ensures.dropped;
       counted = c.drop_holder.ensures.counted;
     }

@@ -6,9 +6,8 @@ use Rattle.hp_mount_files.proofs.dropping.drop_run.Given as goal
 
 abbrev pub invariant-loop-at : goal.invariant-loop-at
 invariant-loop-at g l = record {
-  low : l.from ≤ l.at;
   high : l.at ≤ length l.places;
-  dropping : IsDropping (λ n. sum_by (in_place n) (drop l.from l.places)) (λ n. sum_by (in_place n) (drop l.at l.places)) l.initial.store l.store;
+  dropping : IsDropping (λ n. sum_by (in_place n) l.places) (λ n. sum_by (in_place n) (drop l.at l.places)) l.initial.store l.store;
   counted : l.count ≡ more_in l.store.pages;
 }
 

@@ -7,11 +7,11 @@ use Rattle.hp_mount_files.proofs.forking.share_map.Given as goal
 
 abbrev pub invariant-loop-at : goal.invariant-loop-at
 invariant-loop-at g l = record {
-  start : l.start ≤ l.from;
+  start : l.map.start ≤ l.from;
   up_to : l.from ≤ l.end;
-  shared : IsShared l.map.places (drop (l.from - l.start) l.map.places) l.initial.store l.store;
+  shared : IsShared l.map.places (drop (l.from - l.map.start) l.map.places) l.initial.store l.store;
   counted : l.more ≡ more_in l.store.pages;
-  more : l.more + count_by has_copy (drop (l.from - l.start) l.map.places) ≡ l.initial.more + copies_in l.map;
+  more : l.more + count_by has_copy (drop (l.from - l.map.start) l.map.places) ≡ l.initial.more + copies_in l.map;
 }
 
 abbrev pub decreases-loop-at : goal.decreases-loop-at

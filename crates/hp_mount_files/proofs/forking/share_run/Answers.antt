@@ -7,9 +7,8 @@ use Rattle.hp_mount_files.proofs.forking.share_run.Goals as goal
 
 pub loop-at-init : goal.loop-at-init
 loop-at-init g c = record {
-  low = omega arith;
-  high = c.requires.within;
-  shared = shared_none (drop c.args.from c.args.places.now) c.args.store.now c.requires.some;
+  high = omega arith;
+  shared = shared_none c.args.places.now c.args.store.now c.requires.some;
   counted = c.requires.counted;
   more = omega arith;
 }
@@ -53,9 +52,8 @@ loop-at-preserved g c =
     let one = some_one p number is in
     let more = was.more in
     record {
-      low = (let low = was.low in omega (arith, low));
       high = omega (arith, c.loop-at-test.true);
-      shared = shared_then (drop c.args.from ps) (drop i ps) (drop (i + 1) ps) c.args.store.now c.loop-at.store c.add_holder.new.store was.shared
+      shared = shared_then ps (drop i ps) (drop (i + 1) ps) c.args.store.now c.loop-at.store c.add_holder.new.store was.shared
           (shared_as (drop i ps) (p ∷ drop (i + 1) ps) (drop (i + 1) ps) (drop (i + 1) ps) c.loop-at.store c.add_holder.new.store (shared_one p (drop (i + 1) ps) number c.loop-at.store c.add_holder.new.store is c.add_holder.ensures.sharing)
           (λ n. drop_read (sum_by (in_place n)) ps i p c.loop-at-test.true c.index-places-at.is) (λ n. refl));
       counted = c.add_holder.ensures.counted;

@@ -7,11 +7,10 @@ use Rattle.hp_mount_files.proofs.forking.share_run.Given as goal
 
 abbrev pub invariant-loop-at : goal.invariant-loop-at
 invariant-loop-at g l = record {
-  low : l.from ≤ l.at;
   high : l.at ≤ length l.places;
-  shared : IsShared (drop l.from l.places) (drop l.at l.places) l.initial.store l.store;
+  shared : IsShared l.places (drop l.at l.places) l.initial.store l.store;
   counted : l.count ≡ more_in l.store.pages;
-  more : l.count + count_by has_copy (drop l.at l.places) ≡ l.initial.more + count_by has_copy (drop l.from l.places);
+  more : l.count + count_by has_copy (drop l.at l.places) ≡ l.initial.more + count_by has_copy l.places;
 }
 
 abbrev pub decreases-loop-at : goal.decreases-loop-at

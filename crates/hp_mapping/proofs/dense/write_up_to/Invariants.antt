@@ -1,6 +1,6 @@
 use Rattle.std.proofs.Common.{◌≡◌, ◌+◌, ◌-◌, ◌≤◌, ◌++◌, length, max, replicate, vec_len, vec_capacity}
 use Rattle.hp_mapping.specs.Mapped.{fresh}
-use Rattle.hp_mapping.proofs.row.touch.Given as goal
+use Rattle.hp_mapping.proofs.dense.write_up_to.Given as goal
 
 abbrev pub invariant-loop-places : goal.invariant-loop-places
 invariant-loop-places l = record {

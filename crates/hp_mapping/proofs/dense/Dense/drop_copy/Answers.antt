@@ -3,7 +3,7 @@ use Rattle.hp_model.specs.declared.place.Place.TheVariants.{Gone}
 use Rattle.hp_model.specs.files.Mapping.{copy_of, without_copy}
 use Rattle.hp_mapping.specs.Mapped.{with_fresh}
 use Rattle.hp_mapping.proofs.Untouched.{copied_touched, get_touched, set_touched}
-use Rattle.hp_mapping.proofs.row.Row.drop_copy.Goals as goal
+use Rattle.hp_mapping.proofs.dense.Dense.drop_copy.Goals as goal
 
 pub returns : goal.returns
 returns c =

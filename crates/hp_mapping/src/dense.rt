@@ -1,0 +1,152 @@
+//! Places that are written from the first one up to the last one that is touched.
+ghost use Rattle.std.specs.Prelude.{◌≡◌, ◌+◌, ◌-◌, ◌^◌, ◌<◌, ◌≤◌, ◌++◌, length, map, not, replicate, slice_index_or, slice_set, vec_capacity, vec_len, IsTrue, IsSome, IfOk};
+ghost use Rattle.hp_model.specs.declared.place.Place.TheVariants.{Gone};
+ghost use Rattle.hp_model.specs.files.Mapping.{is_live, copy_of, is_unconsumed, without_copy, unconsumed};
+ghost use Rattle.hp_mapping.specs.Mapped.{at_index, consumed, fresh, has_copy, with_copy, with_fresh, IsRun};
+
+use crate::place;
+use hp_model::page_no::PageNo;
+use hp_model::place::Place;
+use std::alloc::{AllocError, Global};
+use std::marker::Model;
+use std::mem::size_of;
+
+// A page of a map costs this, once it or one behind it is touched, and a bit for each of the two marks.
+const _: () = prove!(size_of::<Place<PageNo>>() <= 12);
+
+/// Places, counted from 0. There is memory for all of them, but only those up to the last one that was ever touched
+/// stand in it: those behind are fresh. Contracts see all.
+#[derive(Drop)]
+pub(crate) struct Dense {
+    touched: Vec<Place<PageNo>>,
+    // how many places there are
+    count: usize,
+}
+
+impl Model for Dense {
+    ghost use Rattle.std.specs.Prelude.{ℕ, List, length, ◌≤◌, vec_capacity};
+    ghost use Rattle.hp_model.specs.declared.place.Place.{Place};
+    ghost use Rattle.hp_mapping.specs.Mapped.{with_fresh};
+
+    ghost Value = { List (Place ℕ) };
+
+    ghost view = { λ r. with_fresh r.count r.touched.items };
+
+    ghost invariant = { λ r. (length r.touched.items ≤ r.count) × (r.count ≤ vec_capacity r.touched) };
+}
+
+impl Dense {
+    /// So many fresh places.
+    pub(crate) fn new(alloc: Global, count: usize) -> Result<Self, AllocError>
+        ensures { IfOk result (λ r. r ≡ replicate count fresh) }
+    {
+        let touched = Vec::with_capacity(alloc, count)?;
+        Ok(Dense { touched, count })
+    }
+
+    /// The places of a child's map.
+    pub(crate) fn forked(&self, alloc: Global) -> Result<Self, AllocError>
+        ensures { IfOk result (λ r. r ≡ map unconsumed self.now) }
+    {
+        let touched = place::all_forked(alloc, &self.touched, self.count)?;
+        Ok(Dense {
+            touched,
+            count: self.count,
+        })
+    }
+
+    pub(crate) fn len(&self) -> usize
+        ensures { result ≡ length self.now }
+    {
+        self.count
+    }
+
+    /// The places from one that has a copy up to the last one that was ever touched.
+    pub(crate) fn run_from(&self, at: usize) -> &[Place<PageNo>]
+        requires { IsSome (copy_of (slice_index_or self.now at Gone)) }
+        ensures { IsRun at self.now result.now }
+    {
+        &self.touched[at..]
+    }
+
+    pub(crate) fn is_live(&self, at: usize) -> bool
+        ensures { result ≡ is_live (slice_index_or self.now at Gone) }
+    {
+        match self.touched.get(at) {
+            Some(place) => place::is_live(place),
+            None => at < self.count,
+        }
+    }
+
+    pub(crate) fn is_unconsumed(&self, at: usize) -> bool
+        ensures { result ≡ is_unconsumed (slice_index_or self.now at Gone) }
+    {
+        match self.touched.get(at) {
+            Some(place) => place::is_unconsumed(place),
+            None => at < self.count,
+        }
+    }
+
+    pub(crate) fn copy_at(&self, at: usize) -> Option<PageNo>
+        ensures { result ≡ copy_of (slice_index_or self.now at Gone) }
+    {
+        place::copy_in(self.touched.get(at)?)
+    }
+
+    pub(crate) fn consume(&mut self, at: usize)
+        requires { at < length self.old }
+        ensures { self.new ≡ at_index consumed at self.old }
+    {
+        write_up_to(&mut self.touched, at);
+        place::consume(&mut self.touched[at]);
+    }
+
+    /// Says whether the place had no copy.
+    pub(crate) fn set_copy(&mut self, at: usize, page: PageNo) -> bool
+        requires { at < length self.old }
+        ensures set { self.new ≡ at_index (with_copy page) at self.old }
+        ensures bare { result ≡ not (has_copy (slice_index_or self.old at Gone)) }
+        ensures few { length self.old < 2 ^ 63 }
+    {
+        write_up_to(&mut self.touched, at);
+        let place = &mut self.touched[at];
+        let bare = place::copy_in(place).is_none();
+        place::set_copy(place, page);
+        bare
+    }
+
+    pub(crate) fn drop_copy(&mut self, at: usize)
+        requires { IsSome (copy_of (slice_index_or self.old at Gone)) }
+        ensures { self.new ≡ at_index without_copy at self.old }
+    {
+        place::drop_copy(&mut self.touched[at]);
+    }
+
+    /// Says whether the place's reservation was there.
+    pub(crate) fn leave(&mut self, at: usize) -> bool
+        requires { at < length self.old }
+        ensures left { self.new ≡ slice_set self.old at Gone }
+        ensures freed { result ≡ is_unconsumed (slice_index_or self.old at Gone) }
+    {
+        write_up_to(&mut self.touched, at);
+        let place = &mut self.touched[at];
+        let freed = place::is_unconsumed(place);
+        *place = Place::Gone;
+        freed
+    }
+}
+
+// The places up to this one are written.
+fn write_up_to(places: &mut Vec<Place<PageNo>>, at: usize)
+    requires { at < vec_capacity places.old }
+    ensures items { places.new.items ≡ places.old.items ++ replicate (at + 1 - length places.old.items) fresh }
+    ensures within { at < vec_len places.new }
+    ensures capacity { vec_capacity places.new ≡ vec_capacity places.old }
+{
+    while places.len() <= at {
+        places.push_reserved(Place::Live {
+            consumed: false,
+            copy: None,
+        });
+    }
+}
