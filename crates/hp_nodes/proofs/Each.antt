@@ -12,6 +12,8 @@ use Rattle.hp_model.specs.declared.node.Kind.{Kind}
 use Rattle.hp_model.specs.declared.node.Kind.TheVariants.{Free, Idle}
 use Rattle.hp_model.specs.declared.node.NodeRow.{NodeRow}
 use Rattle.hp_model.specs.pool.NodeRows.{IsRow, row_at, no_row, has, used, sum_row}
+use Rattle.linked_list_allocator.specs.Region.{Region}
+use Rattle.hp_frames.specs.Stock.{Stock}
 use Rattle.hp_nodes.specs.Kept.{IsKept}
 use Rattle.hp_nodes.specs.Moves.{HasMany, where_has, grow_by, shrink_by}
 use Rattle.hp_nodes.proofs.Sums.{same_row}
@@ -55,9 +57,11 @@ shrink_each_sums rows r sound enough =
 record Stays (x y : NodeRow) : Type 0 where
   sound : IsRow y
   same : used y ≡ used x
+  as_many : y.frames ≡ x.frames
 
-kept_each : (rows : List NodeRow) (growth release : ℕ) (out : List ℕ) (f : NodeRow → NodeRow) → IsKept rows growth release out → All (λ x. Stays x (f x)) rows → IsKept (map f rows) growth release out
-kept_each rows growth release out f h stays =
+kept_each : {m : ℕ → Region} {b : ℕ} (rows : List NodeRow) (growth release : ℕ) (out : List ℕ) (stocks : List Stock) (f : NodeRow → NodeRow) → IsKept m b rows growth release out stocks → All (λ x. Stays x (f x)) rows
+    → IsKept m b (map f rows) growth release out stocks
+kept_each rows growth release out stocks f h stays =
     let as_long : length (map f rows) ≡ length rows = length-map rows f in
     record {
       some = omega (arith, as_long, h.some);
@@ -67,6 +71,9 @@ kept_each rows growth release out f h stays =
       sound = All-map IsRow f rows (λ k d below. (stays k d below).sound);
       four = h.four;
       counted = λ k below. h.counted k below ∙ sym (same_used k);
+      stocked = omega (arith, as_long, h.stocked);
+      framed = λ k below. same_frames k ∙ h.framed k below;
+      home = h.home;
     }
   where
     same_used : (k : ℕ) → used (row_at (map f rows) k) ≡ used (row_at rows k)
@@ -76,27 +83,35 @@ kept_each rows growth release out f h stays =
           | inr past ↦ ap used (get_or_past (map f rows) k no_row (omega (arith, length-map rows f))) ∙ sym (ap used (get_or_past rows k no_row past))
         ]
 
-pub kept_grow_each : (rows : List NodeRow) (growth release : ℕ) (out : List ℕ) (r : ℕ) → IsKept rows growth release out → All (HasMany Idle r) rows → IsKept (map (where_has Idle (grow_by r)) rows) growth release out
-kept_grow_each rows growth release out r h enough =
-    kept_each rows growth release out (where_has Idle (grow_by r)) h
+    same_frames : (k : ℕ) → (row_at (map f rows) k).frames ≡ (row_at rows k).frames
+    same_frames k =
+        elim (cases_lt k (length rows)) as (λ _. (row_at (map f rows) k).frames ≡ (row_at rows k).frames) [
+          | inl here ↦ ap (λ r. r.frames) (get_or-map f rows k no_row no_row here) ∙ (stays k no_row here).as_many
+          | inr past ↦ ap (λ r. r.frames) (get_or_past (map f rows) k no_row (omega (arith, length-map rows f)) ∙ sym (get_or_past rows k no_row past))
+        ]
+
+pub kept_grow_each : {m : ℕ → Region} {b : ℕ} (rows : List NodeRow) (growth release : ℕ) (out : List ℕ) (stocks : List Stock) (r : ℕ) → IsKept m b rows growth release out stocks → All (HasMany Idle r) rows
+    → IsKept m b (map (where_has Idle (grow_by r)) rows) growth release out stocks
+kept_grow_each rows growth release out stocks r h enough =
+    kept_each rows growth release out stocks (where_has Idle (grow_by r)) h
     (λ k d below. (let x : NodeRow = get_or rows k d in
     let row : IsRow x = h.sound k d below in
     cond_both (has Idle x) (grow_by r x) x (Stays x)
     (λ e. (let some = enough k d below e in
-    record { sound = record { free_in = omega (arith, row.free_in); surp_in = omega (arith, row.surp_in); total_in = omega (arith, some, row.total_in); few = row.few }; same = omega arith }))
-    (λ e. record { sound = row; same = refl })))
+    record { sound = record { free_in = omega (arith, row.free_in); surp_in = omega (arith, row.surp_in); total_in = omega (arith, some, row.total_in); few = row.few }; same = omega arith; as_many = refl }))
+    (λ e. record { sound = row; same = refl; as_many = refl })))
 
-pub kept_shrink_each : (rows : List NodeRow) (growth release : ℕ) (out : List ℕ) (r : ℕ) → IsKept rows growth release out → All (HasMany Free r) rows → All (λ x. x.surp ≡ 0) rows
-    → IsKept (map (where_has Free (shrink_by r)) rows) growth release out
-kept_shrink_each rows growth release out r h enough bare =
-    kept_each rows growth release out (where_has Free (shrink_by r)) h
+pub kept_shrink_each : {m : ℕ → Region} {b : ℕ} (rows : List NodeRow) (growth release : ℕ) (out : List ℕ) (stocks : List Stock) (r : ℕ) → IsKept m b rows growth release out stocks → All (HasMany Free r) rows → All (λ x. x.surp ≡ 0) rows
+    → IsKept m b (map (where_has Free (shrink_by r)) rows) growth release out stocks
+kept_shrink_each rows growth release out stocks r h enough bare =
+    kept_each rows growth release out stocks (where_has Free (shrink_by r)) h
     (λ k d below. (let x : NodeRow = get_or rows k d in
     let row : IsRow x = h.sound k d below in
     let none : x.surp ≡ 0 = bare k d below in
     cond_both (has Free x) (shrink_by r x) x (Stays x)
     (λ e. (let some = enough k d below e in
-    record { sound = record { free_in = omega (arith, row.free_in); surp_in = omega (arith, none); total_in = omega (arith, row.total_in); few = row.few }; same = omega (arith, some, row.free_in) }))
-    (λ e. record { sound = row; same = refl })))
+    record { sound = record { free_in = omega (arith, row.free_in); surp_in = omega (arith, none); total_in = omega (arith, row.total_in); few = row.few }; same = omega (arith, some, row.free_in); as_many = refl }))
+    (λ e. record { sound = row; same = refl; as_many = refl })))
 
 -- ---- the loop over the nodes
 

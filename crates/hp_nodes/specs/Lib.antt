@@ -1,4 +1,3 @@
-pub mod Frame
 pub mod Kept
 pub mod Ledgers
 pub mod Moves

@@ -2,14 +2,12 @@
 #![tactic(auto)]
 
 mod blanks;
-mod frame;
 mod lists;
 mod marks;
 mod node;
 mod page;
 mod rounds;
 mod search;
-mod spare;
 
 pub use blanks::Blanks;
 pub use lists::NodeLists;

@@ -2,7 +2,7 @@
 ghost use Rattle.std.specs.Prelude.{◌≡◌, ◌+◌, ◌-◌, ◌<◌, ◌≤◌, if◌then◌else◌, length, All, IsTrue, IfOk};
 ghost use Rattle.hp_model.specs.pool.Resize.{node_count};
 ghost use Rattle.hp_nodes.specs.Kept.{idle_nodes};
-ghost use Rattle.hp_nodes.specs.Ledgers.{AreLedgers};
+ghost use Rattle.hp_nodes.specs.Ledgers.{AreLedgers, node_frames};
 ghost use Rattle.hp_nodes.specs.Moves.{grow_by, shrink_by, add_surplus_by, give_back_by, promote_by, demote_by};
 ghost use Rattle.std.specs.Fn.{iterate};
 ghost use Rattle.hp_model.specs.pool.NodeRows.{after, at_row, lowest, near, some_has, row_at, taken, put_at, surplus_added, grown, shrunk, promoted, demoted, given_back, sum_row, free_of, total_of, take_row, put_row};
@@ -13,6 +13,7 @@ use crate::node::Node;
 use crate::page::Page;
 use crate::rounds::{grow_each, having, least, shrink_each};
 use crate::search::{after, lowest, near, next_from};
+use hp_frames::Stock;
 use hp_model::answer::NodeCount;
 use hp_model::naming::Naming;
 use hp_model::node::{Kind, NodeRow};
@@ -27,9 +28,10 @@ use std::marker::Model;
 /// By the invariant, at all times a node's pages in use (total - free) are the pages of that node
 /// that are out, whoever holds them: each has one unit of its node's ledger, which only `take`
 /// issues and only `put` retires. So `put` needs no condition. No call but `new` takes memory:
-/// each node's list was made with room for all its frames.
+/// each node's stock of frames was made with room for all of them.
 pub struct NodeLists<N: Naming> {
-    nodes: Vec<Node<N>>,
+    nodes: Vec<Node>,
+    stocks: Vec<Stock>,
     marks: Marks<N>,
     growth: usize,
     release: usize,
@@ -43,34 +45,31 @@ impl<N: Naming> Model for NodeLists<N> {
 
     ghost view = { λ s. record { rows = s.nodes.items; growth = s.growth; release = s.release } };
 
-    ghost invariant = { λ s. IsKept s.nodes.items s.growth s.release s.marks };
+    ghost invariant = { λ s. IsKept N.memory N.page_bytes s.nodes.items s.growth s.release s.marks s.stocks.items };
 }
 
 impl<N: Naming> NodeLists<N> {
-    /// Lists of 1 to 4 nodes with so many frames each, of `page_bytes` bytes. Every frame is idle.
+    /// Lists of 1 to 4 nodes with so many frames each, which the blanks have. Every frame is idle.
     ///
-    /// Takes all the memory that the lists and their pages will ever need. Where some is refused,
-    /// the rest is given back before the error is answered.
-    pub fn new(
-        alloc: Global,
-        frames: &[u64],
-        page_bytes: usize,
-        blanks: Blanks,
-    ) -> Result<Self, AllocError>
+    /// Takes no memory but that of the lists: that of the pages was taken for the blanks. Where it is refused, all is
+    /// given back before the error is answered.
+    pub fn new(alloc: Global, frames: &[u64], blanks: Blanks) -> Result<Self, AllocError>
         requires some { 0 < length frames.now }
         requires few { length frames.now ≤ 4 }
         requires small { All (λ f. f ≤ 65536) frames.now }
-        requires page_bytes { page_bytes ≡ N.page_bytes }
         requires ledgers { AreLedgers N.Naming blanks }
+        requires frames { node_frames blanks.stocks.items ≡ frames.now }
         ensures { IfOk result (λ s. s ≡ idle_nodes frames.now) }
     {
         let mut nodes = Vec::with_capacity(alloc, frames.len())?;
         for count in frames {
-            nodes.push_reserved(Node::new(alloc, *count, page_bytes)?);
+            nodes.push_reserved(Node::new(*count));
         }
+        let (marks, stocks) = Marks::new(blanks);
         Ok(NodeLists {
             nodes,
-            marks: Marks::new(blanks),
+            stocks,
+            marks,
             growth: 0,
             release: 0,
         })
@@ -124,6 +123,7 @@ impl<N: Naming> NodeLists<N> {
     pub fn close(self) {
         let NodeLists {
             nodes: _,
+            stocks: _,
             marks,
             growth: _,
             release: _,
@@ -143,10 +143,9 @@ impl<N: Naming> NodeLists<N> {
         ensures free { 0 < (row_at self.old.rows result.node).free }
     {
         let at = near(&self.nodes, Kind::Free, home);
-        let node = &mut self.nodes[at];
-        let (frame, blank) = node.take();
-        let mark = self.marks.issue(at);
-        Page::new(frame, mark, blank)
+        self.nodes[at].take();
+        let frame = self.stocks[at].take();
+        Page::new(frame, self.marks.issue(at))
     }
 
     /// Puts a page back at its own node. Never refused, and takes no memory.
@@ -155,11 +154,11 @@ impl<N: Naming> NodeLists<N> {
         ensures sums { sum_row self.new.rows ≡ put_row (sum_row self.old.rows) }
         ensures in_use { free_of self.old.rows < total_of self.old.rows }
     {
-        let (frame, mark, blank) = page.into_parts();
-        let at = mark.node();
-        self.marks.retire(mark);
-        let node = &mut self.nodes[at];
-        node.put(frame, blank);
+        let (frame, mark) = page.into_parts();
+        let at = frame.node();
+        self.marks.retire(mark, at);
+        self.nodes[at].put();
+        self.stocks[at].put(frame);
     }
 
     /// So many idle frames become persistent pages, one after another: of the first node that has

@@ -3,6 +3,7 @@ ghost use Rattle.std.specs.Prelude.{◌≡◌, ℕ, ◌+◌, ◌-◌, ◌<◌, �
 ghost use Rattle.hp_nodes.specs.Ledgers.{AreLedgers};
 
 use crate::blanks::Blanks;
+use hp_frames::Stock;
 use hp_model::naming::{Naming, Pages0, Pages1, Pages2, Pages3};
 use hp_units::{Issuer, Units};
 use std::marker::Model;
@@ -10,7 +11,6 @@ use std::sync::ledger::Ledger;
 
 /// One unit of the ledger of its node. Contracts see the node.
 pub struct Mark<N: Naming> {
-    node: u8,
     zero: Units<Pages0<N>>,
     one: Units<Pages1<N>>,
     two: Units<Pages2<N>>,
@@ -19,13 +19,13 @@ pub struct Mark<N: Naming> {
 
 impl<N: Naming> Model for Mark<N> {
     ghost use Rattle.std.specs.Prelude.{ℕ};
-    ghost use Rattle.hp_nodes.specs.Kept.{IsMark};
+    ghost use Rattle.hp_nodes.specs.Kept.{IsMark, node_of};
 
     ghost Value = { ℕ };
 
-    ghost view = { λ m. m.node };
+    ghost view = { λ m. node_of m.zero m.one m.two m.three };
 
-    ghost invariant = { λ m. IsMark m.node m.zero m.one m.two m.three };
+    ghost invariant = { λ m. IsMark m.zero m.one m.two m.three };
 }
 
 /// Issues the marks. Contracts see how many are out, node by node.
@@ -58,32 +58,27 @@ fn retire_if<L: Ledger>(issuer: &mut Issuer<L>, units: Units<L>, wanted: bool)
     issuer.retire(units, u64::from(wanted));
 }
 
-impl<N: Naming> Mark<N> {
-    pub fn node(&self) -> usize
-        ensures node { result ≡ self.now }
-        ensures below { result < 4 }
-    {
-        usize::from(self.node)
-    }
-}
-
 impl<N: Naming> Marks<N> {
-    pub fn new(blanks: Blanks) -> Self
+    /// The marks, and the frames beside them.
+    pub fn new(blanks: Blanks) -> (Self, Vec<Stock>)
         requires { AreLedgers N.Naming blanks }
-        ensures { result ≡ 0 ∷ 0 ∷ 0 ∷ 0 ∷ [] }
+        ensures none { result.0 ≡ 0 ∷ 0 ∷ 0 ∷ 0 ∷ [] }
+        ensures stocks { result.1.items ≡ blanks.stocks.items }
     {
         let Blanks {
             zero,
             one,
             two,
             three,
+            stocks,
         } = blanks;
-        Marks {
+        let marks = Marks {
             zero: Issuer::open(zero),
             one: Issuer::open(one),
             two: Issuer::open(two),
             three: Issuer::open(three),
-        }
+        };
+        (marks, stocks)
     }
 
     pub fn issue(&mut self, node: usize) -> Mark<N>
@@ -93,7 +88,6 @@ impl<N: Naming> Marks<N> {
         ensures mark { result ≡ node }
     {
         Mark {
-            node: node as u8,
             zero: issue_if(&mut self.zero, node == 0),
             one: issue_if(&mut self.one, node == 1),
             two: issue_if(&mut self.two, node == 2),
@@ -101,14 +95,14 @@ impl<N: Naming> Marks<N> {
         }
     }
 
-    /// Never fails: a mark is out as long as it is held.
-    pub fn retire(&mut self, mark: Mark<N>)
-        ensures node { mark < 4 }
+    /// Takes back a mark of this node. Never fails: a mark is out as long as it is held.
+    pub fn retire(&mut self, mark: Mark<N>, node: usize)
+        requires { node ≡ mark }
+        ensures below { mark < 4 }
         ensures was_out { 0 < slice_index self.old mark }
         ensures out { self.new ≡ slice_set self.old mark (slice_index self.old mark - 1) }
     {
         let Mark {
-            node,
             zero,
             one,
             two,

@@ -1,58 +1,42 @@
-//! One node: its row, and the frames that nobody holds.
-ghost use Rattle.std.specs.Prelude.{◌≡◌, ◌+◌, ◌-◌, ◌<◌, ◌≤◌, IfOk, IsTrue, vec_len};
-ghost use Rattle.hp_model.specs.files.Page.{zeros};
+//! One node: its row.
+ghost use Rattle.std.specs.Prelude.{◌≡◌, ◌+◌, ◌-◌, ◌<◌, ◌≤◌};
 ghost use Rattle.hp_model.specs.pool.NodeRows.{has, used, take_row, put_row, IsRow};
 ghost use Rattle.hp_nodes.specs.Moves.{amount, grow_by, shrink_by, add_surplus_by, give_back_by, promote_by, demote_by};
 
-use crate::frame::Frame;
-use crate::spare::Spare;
-use hp_model::naming::Naming;
 use hp_model::node::{Kind, NodeRow};
-use std::alloc::{AllocError, Global};
 use std::marker::Model;
 
-/// A node. The frames that nobody holds, free or idle, lie in one list. Contracts see the row.
+/// The numbers of a node. Contracts see the row.
 #[derive(Drop)]
-pub struct Node<N: Naming> {
+pub struct Node {
     row: NodeRow,
-    present: Vec<Spare<N>>,
-    page_bytes: usize,
 }
 
-impl<N: Naming> Model for Node<N> {
-    ghost use Rattle.std.specs.Prelude.{◌≡◌, vec_len, vec_capacity};
+impl Model for Node {
     ghost use Rattle.hp_model.specs.declared.node.NodeRow.{NodeRow};
-    ghost use Rattle.hp_nodes.specs.Kept.{IsNode};
+    ghost use Rattle.hp_model.specs.pool.NodeRows.{IsRow};
 
     ghost Value = { NodeRow };
 
     ghost view = { λ n. n.row };
 
-    ghost invariant = { λ n.
-        IsNode n.row (vec_len n.present) (vec_capacity n.present) × (n.page_bytes ≡ N.page_bytes) };
+    ghost invariant = { λ n. IsRow n.row };
 }
 
-impl<N: Naming> Node<N> {
+impl Node {
     /// All frames are idle.
-    pub fn new(alloc: Global, frames: u64, page_bytes: usize) -> Result<Self, AllocError>
-        requires frames { frames ≤ 65536 }
-        requires page_bytes { page_bytes ≡ N.page_bytes }
-        ensures { IfOk result (λ n. n ≡ record { frames = frames; total = 0; free = 0; surp = 0 }) }
+    pub fn new(frames: u64) -> Self
+        requires { frames ≤ 65536 }
+        ensures { result ≡ record { frames = frames; total = 0; free = 0; surp = 0 } }
     {
-        let mut present = Vec::with_capacity(alloc, frames as usize)?;
-        for _frame in 0..frames {
-            present.push_reserved(Spare::new(alloc, page_bytes)?);
-        }
-        Ok(Node {
+        Node {
             row: NodeRow {
                 frames,
                 total: 0,
                 free: 0,
                 surp: 0,
             },
-            present,
-            page_bytes,
-        })
+        }
     }
 
     pub fn row(&self) -> NodeRow
@@ -81,27 +65,21 @@ impl<N: Naming> Node<N> {
         self.amount(kind) > 0
     }
 
-    /// A frame, and whether it is blank: its first holder has zeros, and the others what was left in it.
-    pub fn take(&mut self) -> (Frame<N>, bool)
+    /// A free page is in use now.
+    pub fn take(&mut self)
         requires { 0 < self.old.free }
         ensures row { self.new ≡ take_row self.old }
         ensures sound { IsRow self.new }
-        ensures blank { IsTrue result.1 → result.0 ≡ zeros N.page_bytes }
     {
         self.row.free -= 1;
-        let spare = self.present.pop().unwrap();
-        spare.into_frame(self.page_bytes)
     }
 
-    /// Takes no memory: the list was made with room for all frames.
-    pub fn put(&mut self, frame: Frame<N>, blank: bool)
-        requires used { 0 < used self.old }
-        requires blank { IsTrue blank → frame ≡ zeros N.page_bytes }
+    pub fn put(&mut self)
+        requires { 0 < used self.old }
         ensures row { self.new ≡ put_row self.old }
         ensures sound { IsRow self.new }
     {
         self.row.free += 1;
-        self.present.push_reserved(Spare::from_frame(frame, blank));
     }
 
     pub fn grow(&mut self, count: u64)

@@ -1,52 +1,51 @@
 //! Pages that somebody holds.
-ghost use Rattle.std.specs.Prelude.{◌≡◌, ◌+◌, ◌<◌, ◌≤◌, length, IsTrue};
-ghost use Rattle.hp_nodes.specs.Frame.{rewritten};
+ghost use Rattle.std.specs.Prelude.{◌≡◌, ◌+◌, ◌<◌, ◌≤◌, length};
 ghost use Rattle.std.specs.Borrow.{Lends, sem, Array, u8 as byte};
+ghost use Rattle.hp_frames.specs.Frame.{rewritten};
 ghost use Rattle.hp_model.specs.files.Page.{overwritten, zeros};
+ghost use Rattle.hp_nodes.specs.Kept.{IsPage};
 
-use crate::frame::Frame;
 use crate::marks::Mark;
+use hp_frames::Frame;
 use hp_model::naming::Naming;
 use std::marker::Model;
 
-/// A page of the pool that somebody holds: a frame, a mark in its node's ledger, and whether the
-/// frame is known to be blank: all its bytes are zeros. Contracts see its node and its bytes.
+/// A page of the pool that somebody holds: a frame, and a mark in its node's ledger. Contracts see its node and its bytes.
 ///
 /// It can't be dropped: `NodeLists::put` takes it back, by way of the pool. Its type names the
 /// ledgers, so it can only go back where it came from.
 pub struct Page<N: Naming> {
-    frame: Frame<N>,
+    frame: Frame,
     mark: Mark<N>,
-    blank: bool,
 }
 
 impl<N: Naming> Model for Page<N> {
-    ghost use Rattle.std.specs.Prelude.{◌≡◌, ◌<◌, IsTrue};
-    ghost use Rattle.hp_model.specs.files.Page.{Page, zeros};
+    ghost use Rattle.hp_model.specs.files.Page.{Page};
+    ghost use Rattle.hp_nodes.specs.Kept.{IsPage};
 
     ghost Value = { Page };
 
-    ghost view = { λ p. record { node = p.mark; bytes = p.frame } };
+    ghost view = { λ p. record { node = p.mark; bytes = p.frame.bytes } };
 
-    ghost invariant = { λ p. IsTrue p.blank → p.frame ≡ zeros N.page_bytes };
+    ghost invariant = { λ p. IsPage N.memory N.page_bytes p.mark p.frame };
 }
 
 impl<N: Naming> Page<N> {
     ghost use Rattle.hp_nodes.specs.contracts.page.Page.{the_row};
 
-    pub(crate) fn new(frame: Frame<N>, mark: Mark<N>, blank: bool) -> Self
-        requires { IsTrue blank → frame ≡ zeros N.page_bytes }
-        ensures node { result.node ≡ mark }
+    pub(crate) fn new(frame: Frame, mark: Mark<N>) -> Self
+        requires { IsPage N.memory N.page_bytes mark frame }
+        ensures { result.node ≡ mark }
     {
-        Page { frame, mark, blank }
+        Page { frame, mark }
     }
 
-    pub(crate) fn into_parts(self) -> (Frame<N>, Mark<N>, bool)
+    pub(crate) fn into_parts(self) -> (Frame, Mark<N>)
         ensures node { result.1 ≡ self.node }
-        ensures blank { IsTrue result.2 → result.0 ≡ zeros N.page_bytes }
+        ensures kept { IsPage N.memory N.page_bytes result.1 result.0 }
     {
-        let Page { frame, mark, blank } = self;
-        (frame, mark, blank)
+        let Page { frame, mark } = self;
+        (frame, mark)
     }
 
     /// The node that the page goes back to.
@@ -54,7 +53,7 @@ impl<N: Naming> Page<N> {
         ensures node { result ≡ self.now.node }
         ensures below { result < 4 }
     {
-        self.mark.node()
+        self.frame.node()
     }
 
     /// The bytes, as many as the machine's pages have.
@@ -73,7 +72,6 @@ impl<N: Naming> Page<N> {
             (Lends (the_row N.row N.Naming) (Array byte 0) self.entry result
             (λ w. record self.old { bytes = rewritten self.old.bytes w })) }
     {
-        self.blank = false;
         self.frame.bytes_mut()
     }
 
@@ -82,7 +80,6 @@ impl<N: Naming> Page<N> {
         requires { offset + length bytes.now ≤ N.page_bytes }
         ensures { self.new ≡ overwritten offset bytes.now self.old }
     {
-        self.blank = false;
         self.frame.write(offset, bytes);
     }
 
@@ -90,9 +87,6 @@ impl<N: Naming> Page<N> {
     pub fn zero(&mut self)
         ensures { self.new ≡ record self.old { bytes = zeros N.page_bytes } }
     {
-        if !self.blank {
-            self.frame.zero();
-            self.blank = true;
-        }
+        self.frame.zero();
     }
 }

@@ -5,11 +5,10 @@ ghost use Rattle.hp_model.specs.pool.NodeRows.{has};
 ghost use Rattle.hp_nodes.specs.Moves.{HasMany, where_has, grow_by, shrink_by};
 
 use crate::node::Node;
-use hp_model::naming::Naming;
 use hp_model::node::Kind;
 
 /// How many nodes have one.
-pub fn having<N: Naming>(nodes: &[Node<N>], kind: Kind) -> u64
+pub fn having(nodes: &[Node], kind: Kind) -> u64
     ensures count { result ≡ count_by (has kind) nodes.now }
     ensures within { result ≤ length nodes.now }
 {
@@ -23,7 +22,7 @@ pub fn having<N: Naming>(nodes: &[Node<N>], kind: Kind) -> u64
 }
 
 /// The least that a node has, of those that have any.
-pub fn least<N: Naming>(nodes: &[Node<N>], kind: Kind) -> u64
+pub fn least(nodes: &[Node], kind: Kind) -> u64
     ensures { All (HasMany kind result) nodes.now }
 {
     let mut least = u64::MAX;
@@ -36,7 +35,7 @@ pub fn least<N: Naming>(nodes: &[Node<N>], kind: Kind) -> u64
 }
 
 /// So many idle frames of each node that has any become pages.
-pub fn grow_each<N: Naming>(nodes: &mut [Node<N>], count: u64)
+pub fn grow_each(nodes: &mut [Node], count: u64)
     requires { All (HasMany Kind.Idle count) nodes.old }
     ensures { nodes.new ≡ map (where_has Kind.Idle (grow_by count)) nodes.old }
 {
@@ -48,7 +47,7 @@ pub fn grow_each<N: Naming>(nodes: &mut [Node<N>], count: u64)
 }
 
 /// So many free pages of each node that has any become idle frames.
-pub fn shrink_each<N: Naming>(nodes: &mut [Node<N>], count: u64)
+pub fn shrink_each(nodes: &mut [Node], count: u64)
     requires free { All (HasMany Kind.Free count) nodes.old }
     requires no_surplus { All (λ r. r.surp ≡ 0) nodes.old }
     ensures { nodes.new ≡ map (where_has Kind.Free (shrink_by count)) nodes.old }

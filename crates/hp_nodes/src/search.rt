@@ -4,12 +4,11 @@ ghost use Rattle.hp_model.specs.pool.NodeRows.{lowest, near, next_from, some_has
 ghost use Rattle.hp_nodes.specs.Moves.{amount};
 
 use crate::node::Node;
-use hp_model::naming::Naming;
 use hp_model::node::Kind;
 
 /// The lowest node that has one, or how many nodes there are.
 #[tactic(auto, using(crate::proofs::Finds::has_lowest))]
-pub fn lowest<N: Naming>(nodes: &[Node<N>], kind: Kind) -> usize
+pub fn lowest(nodes: &[Node], kind: Kind) -> usize
     ensures node { result ≡ lowest kind nodes.now }
     ensures within { result ≤ length nodes.now }
     ensures has { result < length nodes.now → 0 < amount kind (row_at nodes.now result) }
@@ -22,7 +21,7 @@ pub fn lowest<N: Naming>(nodes: &[Node<N>], kind: Kind) -> usize
 
 /// Home where it has one, else the lowest node that has.
 #[tactic(auto, using(crate::proofs::Finds::has_lowest))]
-pub fn near<N: Naming>(nodes: &[Node<N>], kind: Kind, home: usize) -> usize
+pub fn near(nodes: &[Node], kind: Kind, home: usize) -> usize
     requires { IsTrue (some_has kind nodes.now) }
     ensures node { result ≡ near kind home nodes.now }
     ensures below { result < length nodes.now }
@@ -37,7 +36,7 @@ pub fn near<N: Naming>(nodes: &[Node<N>], kind: Kind, home: usize) -> usize
 
 /// The first node that has one, from a place on and round.
 #[tactic(auto, using(crate::proofs::Finds::has_lowest, crate::proofs::Finds::has_ahead))]
-pub fn next_from<N: Naming>(nodes: &[Node<N>], kind: Kind, from: usize) -> usize
+pub fn next_from(nodes: &[Node], kind: Kind, from: usize) -> usize
     requires from { from < length nodes.now }
     requires some { IsTrue (some_has kind nodes.now) }
     ensures node { result ≡ next_from kind from nodes.now }

@@ -1,5 +1,5 @@
--- The ledgers that a machine begins with.
-use Rattle.std.specs.Prelude.{ℕ}
+-- The ledgers and the frames that a machine begins with.
+use Rattle.std.specs.Prelude.{ℕ, List}
 use Rattle.hp_model.specs.declared.naming.Naming.{Ghosts}
 use Rattle.hp_nodes.specs.Ledgers.{IsWhole, IsLedger}
 use Rattle.hp_nodes.specs.Ledgers as of_pages
@@ -9,11 +9,15 @@ use Rattle.hp_pool.specs.declared.blanks.Blanks.{Blanks}
 abbrev pub AreWhole : Blanks → Type 0
 AreWhole b = IsWhole b.permits × of_pages.AreWhole b.pages
 
--- the whole ledgers that a machine names
+-- how many frames each node has
+abbrev pub node_frames : Blanks → List ℕ
+node_frames b = of_pages.node_frames b.pages.stocks.items
+
+-- the whole ledgers that a machine names, and its memory
 abbrev pub AreLedgers : {N : Type 0} → Ghosts N → Blanks → Type 0
 AreLedgers names b = IsLedger names.permits b.permits × of_pages.AreLedgers names b.pages
 
--- the names of a machine over these ledgers, with pages of so many bytes
+-- the names of a machine over these ledgers and this memory, with pages of so many bytes
 abbrev pub names_of : {N : Type 0} → Blanks → ℕ → Ghosts N
 names_of b page_bytes = record {
   permits = b.permits.name;
@@ -22,4 +26,5 @@ names_of b page_bytes = record {
   pages_2 = b.pages.two.name;
   pages_3 = b.pages.three.name;
   page_bytes = page_bytes;
+  memory = of_pages.memory_of b.pages.stocks.items;
 }

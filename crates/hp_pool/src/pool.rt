@@ -5,7 +5,7 @@ ghost use Rattle.hp_model.specs.pool.Grant.{can_grant, granted};
 ghost use Rattle.hp_model.specs.pool.Pool.{take_node, page_taken, page_put, page_kept, released, settled};
 ghost use Rattle.hp_model.specs.pool.PoolCounts.{IsSettled, counts_of, rsvd};
 ghost use Rattle.hp_model.specs.pool.Resize.{set_nr, node_count};
-ghost use Rattle.hp_pool.specs.Ledgers.{AreLedgers};
+ghost use Rattle.hp_pool.specs.Ledgers.{AreLedgers, node_frames};
 ghost use Rattle.hp_pool.specs.Sums.{idle_pool};
 
 use crate::blanks::Blanks;
@@ -52,27 +52,22 @@ impl<N: Naming> Model for Pool<N> {
 }
 
 impl<N: Naming> Pool<N> {
-    /// A pool over 1 to 4 nodes with so many frames each, of `page_bytes` bytes; no frame is in the
+    /// A pool over 1 to 4 nodes with so many frames each, which the blanks have; no frame is in the
     /// pool yet, and nr and overcommit are 0.
     ///
-    /// Takes all the memory that the pool and its pages will ever need. Where some is refused, the
-    /// rest is given back before the error is answered.
+    /// Takes no memory but that of the lists: that of the pages was taken for the blanks. Where it is refused, all is
+    /// given back before the error is answered.
     #[tactic(auto, using(hp_model::proofs::Sums::idle_total, hp_model::proofs::Sums::idle_surp))]
-    pub fn new(
-        alloc: Global,
-        frames: &[u64],
-        page_bytes: usize,
-        blanks: Blanks,
-    ) -> Result<Self, AllocError>
+    pub fn new(alloc: Global, frames: &[u64], blanks: Blanks) -> Result<Self, AllocError>
         requires some { 0 < length frames.now }
         requires few { length frames.now ≤ 4 }
         requires small { All (λ f. f ≤ 65536) frames.now }
-        requires page_bytes { page_bytes ≡ N.page_bytes }
         requires ledgers { AreLedgers N.Naming blanks }
+        requires frames { node_frames blanks ≡ frames.now }
         ensures { IfOk result (λ p. p ≡ idle_pool frames.now) }
     {
         let Blanks { permits, pages } = blanks;
-        let lists = NodeLists::new(alloc, frames, page_bytes, pages)?;
+        let lists = NodeLists::new(alloc, frames, pages)?;
         Ok(Pool {
             nr: 0,
             overcommit: 0,

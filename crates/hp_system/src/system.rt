@@ -2,7 +2,7 @@
 ghost use Rattle.std.specs.Prelude.{false, ◌≡◌, ◌<◌, ◌≤◌, [], length, vec_capacity, All, IfOk};
 ghost use Rattle.hp_model.specs.machine.Machine.{slots_from, start};
 ghost use Rattle.hp_model.specs.pool.PoolCounts.{IsSettled};
-ghost use Rattle.hp_pool.specs.Ledgers.{AreLedgers};
+ghost use Rattle.hp_pool.specs.Ledgers.{AreLedgers, node_frames};
 ghost use Rattle.hp_model.specs.machine.SlotEvent.{has_maps};
 ghost use Rattle.hp_mount_door.specs.Door.{IsReady as IsReadyPool};
 ghost use Rattle.hp_system.specs.Event.{AllExit};
@@ -42,12 +42,12 @@ impl<N: Naming> Model for System<N> {
 }
 
 impl<N: Naming> System<N> {
-    /// A machine of 1 to 4 nodes with so many frames each, of `page_bytes` bytes, and with so many
+    /// A machine of 1 to 4 nodes with so many frames each, of `page_bytes` bytes, which the blanks have, and with so many
     /// slots. Slot 0 is mounted without limits, and no other slot is. There is no task, no file and
     /// no page in the pool.
     ///
-    /// Takes the memory of all pages, of the slots and of the task table at once. Where some is
-    /// refused, the rest is given back before the error is answered.
+    /// Takes the memory of the slots and of the task table at once; that of the pages was taken for the blanks. Where some
+    /// is refused, all is given back before the error is answered.
     pub fn new(
         alloc: Global,
         frames: &[u64],
@@ -62,12 +62,13 @@ impl<N: Naming> System<N> {
         requires bytes { 0 < page_bytes }
         requires page_bytes { page_bytes ≡ N.page_bytes }
         requires ledgers { AreLedgers N.Naming blanks }
+        requires frames { node_frames blanks ≡ frames.now }
         ensures start { IfOk result (λ s. s.state ≡ start frames.now page_bytes slots) }
         ensures ready { IfOk result (λ s. IsReady s) }
     {
         let table = TaskTable::new(alloc)?;
         let mut mounts = Vec::with_capacity(alloc, slots as usize)?;
-        match Pool::new(alloc, frames, page_bytes, blanks) {
+        match Pool::new(alloc, frames, blanks) {
             Err(error) => {
                 mounts.destroy_empty();
                 Err(error)

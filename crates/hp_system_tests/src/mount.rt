@@ -1,7 +1,7 @@
 //! A mount of three pages at most on a pool of four, through the pool as its own door.
-ghost use Rattle.std.specs.Prelude.{◌≡◌};
+ghost use Rattle.std.specs.Prelude.{◌≡◌, ◌∷◌, []};
 ghost use Rattle.hp_mount_door.specs.Door.{IsReady};
-ghost use Rattle.hp_pool.specs.Ledgers.{AreLedgers};
+ghost use Rattle.hp_pool.specs.Ledgers.{AreLedgers, node_frames};
 
 use crate::same::same;
 use hp_model::answer::{Answer, Reply};
@@ -467,9 +467,10 @@ fn with_private_maps<N: Naming, R: Abort>(rt: &R, alloc: Global, pool: &mut Pool
 
 fn run<N: Naming, R: Abort>(rt: &R, alloc: Global, blanks: Blanks)
     requires ledgers { AreLedgers N.Naming blanks }
+    requires frames { node_frames blanks ≡ 4 ∷ 4 ∷ [] }
     requires bytes { N.page_bytes ≡ 1024 }
 {
-    let mut pool = Pool::<N>::new(alloc, &[4, 4], 1024, blanks).expect(rt, "memory");
+    let mut pool = Pool::<N>::new(alloc, &[4, 4], blanks).expect(rt, "memory");
     pool.set_overcommit(4);
     with_shared_maps(rt, alloc, &mut pool);
     with_private_maps(rt, alloc, &mut pool);
@@ -482,5 +483,6 @@ fn run<N: Naming, R: Abort>(rt: &R, alloc: Global, blanks: Blanks)
 
 #[test]
 fn a_mount_through_the_pool(rt: HostRuntime) {
-    run::<Brand, HostRuntime>(&rt, rt.alloc(), Blanks::new());
+    let blanks = Blanks::new(rt.alloc(), &[4, 4], 1024).expect(&rt, "memory");
+    run::<Brand, HostRuntime>(&rt, rt.alloc(), blanks);
 }

@@ -1,7 +1,7 @@
 //! A mount through another door than the pool: one that notes what is taken, and has few places to note it.
-ghost use Rattle.std.specs.Prelude.{◌≡◌, ◌≤◌, length};
+ghost use Rattle.std.specs.Prelude.{◌≡◌, ◌≤◌, length, ◌∷◌, []};
 ghost use Rattle.hp_mount_door.specs.Door.{IsReady};
-ghost use Rattle.hp_pool.specs.Ledgers.{AreLedgers};
+ghost use Rattle.hp_pool.specs.Ledgers.{AreLedgers, node_frames};
 
 use crate::mount::used;
 use crate::same::same;
@@ -227,9 +227,10 @@ fn a_page_by_a_grant<N: Naming, R: Abort>(rt: &R, door: &mut Noting<N>)
 
 fn run<N: Naming, R: Abort>(rt: &R, alloc: Global, blanks: Blanks)
     requires ledgers { AreLedgers N.Naming blanks }
+    requires frames { node_frames blanks ≡ 4 ∷ 4 ∷ [] }
     requires bytes { N.page_bytes ≡ 1024 }
 {
-    let mut pool = Pool::<N>::new(alloc, &[4, 4], 1024, blanks).expect(rt, "memory");
+    let mut pool = Pool::<N>::new(alloc, &[4, 4], blanks).expect(rt, "memory");
     pool.set_overcommit(4);
     let share = Subpool::open(&mut pool, Some(3), 0).expect(rt, "fits");
     let mut mount = Mount::new(alloc, share, None);
@@ -273,5 +274,6 @@ fn run<N: Naming, R: Abort>(rt: &R, alloc: Global, blanks: Blanks)
 
 #[test]
 fn a_mount_through_a_door_with_few_places(rt: HostRuntime) {
-    run::<Brand, HostRuntime>(&rt, rt.alloc(), Blanks::new());
+    let blanks = Blanks::new(rt.alloc(), &[4, 4], 1024).expect(&rt, "memory");
+    run::<Brand, HostRuntime>(&rt, rt.alloc(), blanks);
 }

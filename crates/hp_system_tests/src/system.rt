@@ -1,6 +1,6 @@
 //! A list of steps at a machine of two nodes of four frames each, and machines that come and go.
-ghost use Rattle.std.specs.Prelude.{◌≡◌};
-ghost use Rattle.hp_pool.specs.Ledgers.{AreLedgers};
+ghost use Rattle.std.specs.Prelude.{◌≡◌, ◌∷◌, []};
+ghost use Rattle.hp_pool.specs.Ledgers.{AreLedgers, node_frames};
 ghost use Rattle.hp_system.specs.Kept.{IsReady};
 
 use crate::same::same;
@@ -52,6 +52,7 @@ fn runs<N: Naming, R: Abort>(rt: &R, alloc: Global, system: &mut System<N>)
 
 fn run<N: Naming, R: Abort>(rt: &R, alloc: Global, blanks: Blanks)
     requires ledgers { AreLedgers N.Naming blanks }
+    requires frames { node_frames blanks ≡ 4 ∷ 4 ∷ [] }
     requires bytes { N.page_bytes ≡ 1024 }
 {
     let mut system = System::<N>::new(alloc, &[4, 4], 1024, 2, blanks).expect(rt, "memory");
@@ -61,7 +62,8 @@ fn run<N: Naming, R: Abort>(rt: &R, alloc: Global, blanks: Blanks)
 
 #[test]
 fn steps(rt: HostRuntime) {
-    run::<Brand, HostRuntime>(&rt, rt.alloc(), Blanks::new());
+    let blanks = Blanks::new(rt.alloc(), &[4, 4], 1024).expect(&rt, "memory");
+    run::<Brand, HostRuntime>(&rt, rt.alloc(), blanks);
 }
 
 // The machine's calls, of which each is asked for one thing: what they promise is not carried through a whole test.
@@ -138,6 +140,7 @@ fn shows_zeros<N: Naming, R: Abort>(rt: &R, system: &mut System<N>)
 // Machines that are made, used and closed give back all that they held.
 fn come_and_go<N: Naming, R: Abort>(rt: &R, alloc: Global, blanks: Blanks)
     requires ledgers { AreLedgers N.Naming blanks }
+    requires frames { node_frames blanks ≡ 4 ∷ 4 ∷ [] }
     requires bytes { N.page_bytes ≡ 1024 }
 {
     let mut system = System::<N>::new(alloc, &[4, 4], 1024, 2, blanks).expect(rt, "memory");
@@ -152,6 +155,7 @@ fn come_and_go<N: Naming, R: Abort>(rt: &R, alloc: Global, blanks: Blanks)
 #[test]
 fn machines_come_and_go(rt: HostRuntime) {
     for _ in 0..8 {
-        come_and_go::<Brand, HostRuntime>(&rt, rt.alloc(), Blanks::new());
+        let blanks = Blanks::new(rt.alloc(), &[4, 4], 1024).expect(&rt, "memory");
+        come_and_go::<Brand, HostRuntime>(&rt, rt.alloc(), blanks);
     }
 }

@@ -2,6 +2,8 @@
 #![tactic(auto)]
 
 #[cfg(test)]
+mod frames;
+#[cfg(test)]
 mod inode;
 #[cfg(test)]
 mod mapping;

@@ -1,6 +1,6 @@
 //! Two nodes of two frames and one.
-ghost use Rattle.std.specs.Prelude.{◌≡◌};
-ghost use Rattle.hp_nodes.specs.Ledgers.{AreLedgers};
+ghost use Rattle.std.specs.Prelude.{◌≡◌, ◌∷◌, []};
+ghost use Rattle.hp_nodes.specs.Ledgers.{AreLedgers, node_frames};
 
 use crate::same::same;
 use hp_model::answer::NodeCount;
@@ -64,30 +64,25 @@ fn grows<N: Naming, R: Abort>(rt: &R, lists: &mut NodeLists<N>) {
     );
 }
 
-fn opens<N: Naming, R: Abort>(
-    rt: &R,
-    alloc: Global,
-    blanks: Blanks,
-    page_bytes: usize,
-) -> Result<(), AllocError>
-    requires page_bytes { page_bytes ≡ N.page_bytes }
+fn opens<N: Naming, R: Abort>(rt: &R, alloc: Global, blanks: Blanks) -> Result<(), AllocError>
+    requires bytes { N.page_bytes ≡ 8 }
     requires ledgers { AreLedgers N.Naming blanks }
+    requires frames { node_frames blanks.stocks.items ≡ 2 ∷ 1 ∷ [] }
 {
-    let mut lists = NodeLists::<N>::new(alloc, &[2, 1], page_bytes, blanks)?;
+    let mut lists = NodeLists::<N>::new(alloc, &[2, 1], blanks)?;
     grows(rt, &mut lists);
-    if page_bytes == 8 {
-        goes_home(rt, &mut lists);
-    }
+    goes_home(rt, &mut lists);
     lists.close();
     Ok(())
 }
 
 #[test]
 fn pages_go_home(rt: HostRuntime) -> Result<(), AllocError> {
-    opens::<Brand, HostRuntime>(&rt, rt.alloc(), Blanks::new(), 8)
+    let blanks = Blanks::new(rt.alloc(), &[2, 1], 8)?;
+    opens::<Brand, HostRuntime>(&rt, rt.alloc(), blanks)
 }
 
 #[test]
 fn too_much_memory_is_refused(rt: HostRuntime) {
-    assert!(rt; opens::<Brand, HostRuntime>(&rt, rt.alloc(), Blanks::new(), 1 << 62).is_err());
+    assert!(rt; Blanks::new(rt.alloc(), &[2, 1], 1 << 62).is_err());
 }

@@ -1,6 +1,6 @@
 //! Pages by number. The test passes with each allocation refused but the nodes' own.
-ghost use Rattle.std.specs.Prelude.{◌≡◌, ◌≢◌, ℕ, [], None};
-ghost use Rattle.hp_nodes.specs.Ledgers.{AreLedgers};
+ghost use Rattle.std.specs.Prelude.{◌≡◌, ◌≢◌, ℕ, [], ◌∷◌, None};
+ghost use Rattle.hp_nodes.specs.Ledgers.{AreLedgers, node_frames};
 ghost use Rattle.hp_store.specs.Store.{page_at, holders_of};
 
 use crate::same::same;
@@ -49,9 +49,10 @@ fn emptied<N: Naming>(mut store: PageStore<N>, number: PageNo, nodes: &mut NodeL
 // One page of eight bytes, from its node and back.
 fn worked<N: Naming>(alloc: Global, blanks: Blanks) -> Result<([u64; 4], u64), AllocError>
     requires ledgers { AreLedgers N.Naming blanks }
+    requires frames { node_frames blanks.stocks.items ≡ 2 ∷ [] }
     requires bytes { N.page_bytes ≡ 8 }
 {
-    let mut nodes = NodeLists::<N>::new(alloc, &[2], 8, blanks)?;
+    let mut nodes = NodeLists::<N>::new(alloc, &[2], blanks)?;
     let mut store = PageStore::<N>::new(alloc);
     if let Err(_) = store.make_room(1) {
         if let Err(refused) = store.make_room(1) {
@@ -72,7 +73,8 @@ fn worked<N: Naming>(alloc: Global, blanks: Blanks) -> Result<([u64; 4], u64), A
 
 #[test]
 fn a_page_is_shared_and_dropped(rt: HostRuntime) -> Result<(), Fail> {
-    let (seen, went) = worked::<Brand>(rt.alloc(), Blanks::new())?;
+    let blanks = Blanks::new(rt.alloc(), &[2], 8)?;
+    let (seen, went) = worked::<Brand>(rt.alloc(), blanks)?;
     same!(rt; seen.as_slice(), [1, 9, 2, 1].as_slice());
     same!(rt; went, 1);
     Ok(())

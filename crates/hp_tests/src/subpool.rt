@@ -1,7 +1,7 @@
 //! A mount with a limit of three pages and a minimum of two, on a pool of four.
-ghost use Rattle.std.specs.Prelude.{◌≡◌};
+ghost use Rattle.std.specs.Prelude.{◌≡◌, ◌∷◌, []};
 ghost use Rattle.hp_model.specs.pool.PoolCounts.{IsSettled};
-ghost use Rattle.hp_pool.specs.Ledgers.{AreLedgers};
+ghost use Rattle.hp_pool.specs.Ledgers.{AreLedgers, node_frames};
 
 use crate::same::same;
 use hp_model::naming::Naming;
@@ -131,9 +131,10 @@ fn asks_the_minimum_first<N: Naming, R: Abort>(rt: &R, pool: &mut Pool<N>)
 
 fn run<N: Naming, R: Abort>(rt: &R, alloc: Global, blanks: Blanks)
     requires ledgers { AreLedgers N.Naming blanks }
+    requires frames { node_frames blanks ≡ 4 ∷ 4 ∷ [] }
     requires bytes { N.page_bytes ≡ 1024 }
 {
-    let mut pool = Pool::<N>::new(alloc, &[4, 4], 1024, blanks).expect(rt, "memory");
+    let mut pool = Pool::<N>::new(alloc, &[4, 4], blanks).expect(rt, "memory");
     pool.set_nr(4);
     fills_the_minimum_again(rt, &mut pool);
     asks_the_minimum_first(rt, &mut pool);
@@ -142,5 +143,6 @@ fn run<N: Naming, R: Abort>(rt: &R, alloc: Global, blanks: Blanks)
 
 #[test]
 fn minimum_and_limit(rt: HostRuntime) {
-    run::<Brand, HostRuntime>(&rt, rt.alloc(), Blanks::new());
+    let blanks = Blanks::new(rt.alloc(), &[4, 4], 1024).expect(&rt, "memory");
+    run::<Brand, HostRuntime>(&rt, rt.alloc(), blanks);
 }

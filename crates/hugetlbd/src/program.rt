@@ -5,7 +5,7 @@ ghost use Rattle.clap.specs.Values.{kind_of};
 ghost use Rattle.clap.specs.Words.{Text};
 ghost use Rattle.hp_wire.specs.Sent.{Writes, WritesFront};
 ghost use Rattle.hp_wire.specs.declared.fault.RunFault.{RunFault as TheFault};
-ghost use Rattle.hp_pool.specs.Ledgers.{AreLedgers};
+ghost use Rattle.hp_pool.specs.Ledgers.{AreLedgers, node_frames};
 ghost use Rattle.hugetlbd.specs.Asked.{Asks, IsRefusedFor, hugetlbd};
 ghost use Rattle.hugetlbd.specs.Config.{Choice, IsWithinLimits, chosen, choice_of, usual};
 ghost use Rattle.hugetlbd.specs.Program.{AnswersKnown, AsksForText, Refuses, RunsOn, Says, SaysEnd, named, status_of, text_for};
@@ -68,11 +68,31 @@ pub fn program<'a, S: AsStr, R: Source, W: Sink, E: Sink>(
     match config(alloc, words) {
         Ok(config) => {
             let machine = config.machine();
-            let ended = run_machine::<Brand, R, W>(alloc, &machine, Blanks::new(), input, output);
+            let ended = run_on(alloc, &machine, input, output);
             report(ended, faults)
         }
         Err(wrong) => refuse(&wrong, output, faults),
     }
+}
+
+// Takes the memory of the machine's pages, and runs the script on it.
+fn run_on<R: Source, W: Sink>(
+    alloc: Global,
+    config: &Machine,
+    input: &mut R,
+    output: &mut W,
+) -> Result<u64, RunFault>
+    requires limits { IsWithinLimits (choice_of config.now) }
+    ensures run { RunsOn (chosen (choice_of config.now)) R.remaining W.contents
+        (R.is_sure input.old × W.is_sure output.old)
+        input.old input.new output.old output.new result }
+    ensures script { OnOk result (AnswersKnown (chosen (choice_of config.now))
+        R.remaining W.contents input.old output.old output.new) }
+{
+    let Ok(blanks) = Blanks::new(alloc, &config.frames, config.page as usize) else {
+        return Err(RunFault::Memory);
+    };
+    run_machine::<Brand, R, W>(alloc, config, blanks, input, output)
 }
 
 // Makes the machine, runs the script on it and closes it.
@@ -86,6 +106,7 @@ fn run_machine<N: Naming, R: Source, W: Sink>(
     requires limits { IsWithinLimits (choice_of config.now) }
     requires bytes { N.page_bytes ≡ config.now.page }
     requires ledgers { AreLedgers N.Naming blanks }
+    requires frames { node_frames blanks ≡ config.now.frames.items }
     ensures run { RunsOn (chosen (choice_of config.now)) R.remaining W.contents
         (R.is_sure input.old × W.is_sure output.old)
         input.old input.new output.old output.new result }

@@ -1,7 +1,7 @@
 //! Worked sequences: how pages go round the nodes, become surplus and leave the pool.
-ghost use Rattle.std.specs.Prelude.{◌≡◌, ◌≤◌};
+ghost use Rattle.std.specs.Prelude.{◌≡◌, ◌≤◌, ◌∷◌, []};
 ghost use Rattle.hp_model.specs.pool.PoolCounts.{IsSettled};
-ghost use Rattle.hp_pool.specs.Ledgers.{AreLedgers};
+ghost use Rattle.hp_pool.specs.Ledgers.{AreLedgers, node_frames};
 
 use super::{is_refused, shows};
 use crate::same::same;
@@ -164,9 +164,10 @@ fn gives_back_apart<N: Naming, R: Abort>(rt: &R, mut pool: Pool<N>)
 
 fn run<N: Naming, R: Abort>(rt: &R, alloc: Global, blanks: Blanks, number: u32)
     requires ledgers { AreLedgers N.Naming blanks }
+    requires frames { node_frames blanks ≡ 4 ∷ 4 ∷ [] }
     requires bytes { N.page_bytes ≡ 1024 }
 {
-    let pool = Pool::<N>::new(alloc, &[4, 4], 1024, blanks).expect(rt, "memory");
+    let pool = Pool::<N>::new(alloc, &[4, 4], blanks).expect(rt, "memory");
     match number {
         0 => goes_round(rt, pool),
         1 => promotes_surplus(rt, pool),
@@ -178,16 +179,18 @@ fn run<N: Naming, R: Abort>(rt: &R, alloc: Global, blanks: Blanks, number: u32)
 #[test]
 fn sequences(rt: HostRuntime) {
     for number in 0..4 {
-        run::<Brand, HostRuntime>(&rt, rt.alloc(), Blanks::new(), number);
+        let blanks = Blanks::new(rt.alloc(), &[4, 4], 1024).expect(&rt, "memory");
+        run::<Brand, HostRuntime>(&rt, rt.alloc(), blanks, number);
     }
 }
 
 // Whether the memory is there.
 fn opens<N: Naming>(alloc: Global, blanks: Blanks) -> bool
     requires ledgers { AreLedgers N.Naming blanks }
+    requires frames { node_frames blanks ≡ 4 ∷ 4 ∷ [] }
     requires bytes { N.page_bytes ≡ 1024 }
 {
-    match Pool::<N>::new(alloc, &[4, 4], 1024, blanks) {
+    match Pool::<N>::new(alloc, &[4, 4], blanks) {
         Ok(pool) => {
             pool.close();
             true
@@ -199,5 +202,7 @@ fn opens<N: Naming>(alloc: Global, blanks: Blanks) -> bool
 // Must also pass where an allocation is refused: what was made is given back.
 #[test]
 fn refused_memory_is_given_back(rt: HostRuntime) {
-    let _made = opens::<Brand>(rt.alloc(), Blanks::new());
+    if let Ok(blanks) = Blanks::new(rt.alloc(), &[4, 4], 1024) {
+        let _made = opens::<Brand>(rt.alloc(), blanks);
+    }
 }

@@ -1,6 +1,6 @@
 //! Two threads that hand permits and pages on to each other.
-ghost use Rattle.std.specs.Prelude.{◌≡◌, IfSome};
-ghost use Rattle.hp_pool.specs.Ledgers.{AreLedgers};
+ghost use Rattle.std.specs.Prelude.{◌≡◌, IfSome, ◌∷◌, []};
+ghost use Rattle.hp_pool.specs.Ledgers.{AreLedgers, node_frames};
 
 use crate::same::same;
 use hp_model::naming::Naming;
@@ -114,9 +114,10 @@ fn run<N: Naming + Send + Sync, R: Threads + Wait + Abort + Sync>(
     blanks: Blanks,
 )
     requires ledgers { AreLedgers N.Naming blanks }
+    requires frames { node_frames blanks ≡ 4 ∷ 4 ∷ [] }
     requires bytes { N.page_bytes ≡ 1024 }
 {
-    let mut pool = Pool::<N>::new(alloc, &[4, 4], 1024, blanks).expect(rt, "memory");
+    let mut pool = Pool::<N>::new(alloc, &[4, 4], blanks).expect(rt, "memory");
     pool.set_nr(4);
     pool.set_overcommit(2);
     let mut all = pool.reserve(0, 4).expect(rt, "fits");
@@ -152,5 +153,6 @@ fn run<N: Naming + Send + Sync, R: Threads + Wait + Abort + Sync>(
 
 #[test]
 fn threads_hand_on_permits_and_pages(rt: HostRuntime) {
-    run::<Brand, HostRuntime>(&rt, rt.alloc(), Blanks::new());
+    let blanks = Blanks::new(rt.alloc(), &[4, 4], 1024).expect(&rt, "memory");
+    run::<Brand, HostRuntime>(&rt, rt.alloc(), blanks);
 }

@@ -4,4 +4,4 @@ use Rattle.hp_model.specs.pool.NodeRows.{has}
 use Rattle.hp_nodes.proofs.rounds.having.Given as goal
 
 abbrev pub invariant-loop-node : goal.invariant-loop-node
-invariant-loop-node g l = (l.count ≡ count_by (has l.kind) (take l.node-index l.nodes)) × (l.count ≤ l.node-index)
+invariant-loop-node l = (l.count ≡ count_by (has l.kind) (take l.node-index l.nodes)) × (l.count ≤ l.node-index)

@@ -19,7 +19,7 @@ next kind rows i least now x below is le here before k d h =
     ]
 
 pub loop-node-preserved : goal.loop-node-preserved
-loop-node-preserved g c =
+loop-node-preserved c =
     let rows = c.args.nodes.now in
     let i = c.loop-node.node-index in
     let x = c.node-item.result in

@@ -4,4 +4,4 @@ use Rattle.hp_nodes.specs.Moves.{HasMany}
 use Rattle.hp_nodes.proofs.rounds.least.Given as goal
 
 abbrev pub invariant-loop-node : goal.invariant-loop-node
-invariant-loop-node g l = (k : ℕ) (d : NodeRow) → k < l.node-index → HasMany l.kind l.least (slice_index_or l.nodes k d)
+invariant-loop-node l = (k : ℕ) (d : NodeRow) → k < l.node-index → HasMany l.kind l.least (slice_index_or l.nodes k d)

@@ -8,7 +8,7 @@ use Rattle.hp_nodes.proofs.rounds.shrink_each.Goals as goal
 use Rattle.hp_nodes.proofs.rounds.shrink_each.Goals.{then-has, else-has}
 
 pub loop-node-preserved : goal.loop-node-preserved
-loop-node-preserved g c =
+loop-node-preserved c =
     let rows = c.args.nodes.now in
     let now = c.loop-node.nodes in
     let i = c.loop-node.node-index in

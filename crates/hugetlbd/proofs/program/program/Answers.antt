@@ -11,24 +11,24 @@ returns-in-Ok-clause-script g c zero =
     inr (
       choice_of c.machine-machine.result,
       subst (λ (k : Choice). Asks (map g.S.AsStr.text c.args.words.now) k) (sym c.machine-machine.ensures) c.in-Ok.ensures.asked,
-      answered_well _ (g.R.Read.remaining c.args.input.now) (g.W.Write.contents c.args.output.now) (g.W.Write.contents c.run_machine-ended.new.output)
-          c.run_machine-ended.result c.report.result c.report.ensures.status c.run_machine-ended.ensures.script zero,
+      answered_well _ (g.R.Read.remaining c.args.input.now) (g.W.Write.contents c.args.output.now) (g.W.Write.contents c.run_on-ended.new.output)
+          c.run_on-ended.result c.report.result c.report.ensures.status c.run_on-ended.ensures.script zero,
     )
 
 pub returns-in-Ok-clause-usual : goal.returns-in-Ok-clause-usual
 returns-in-Ok-clause-usual g c few zero =
     let same = ap chosen c.machine-machine.ensures ∙ no_words (map g.S.AsStr.text c.args.words.now) _ (few_texts _ _ few) c.in-Ok.ensures.asked in
-    answered_as _ (chosen usual) (g.R.Read.remaining c.args.input.now) (g.W.Write.contents c.args.output.now) (g.W.Write.contents c.run_machine-ended.new.output)
-    same (answered_well _ (g.R.Read.remaining c.args.input.now) (g.W.Write.contents c.args.output.now) (g.W.Write.contents c.run_machine-ended.new.output)
-    c.run_machine-ended.result c.report.result c.report.ensures.status c.run_machine-ended.ensures.script zero)
+    answered_as _ (chosen usual) (g.R.Read.remaining c.args.input.now) (g.W.Write.contents c.args.output.now) (g.W.Write.contents c.run_on-ended.new.output)
+    same (answered_well _ (g.R.Read.remaining c.args.input.now) (g.W.Write.contents c.args.output.now) (g.W.Write.contents c.run_on-ended.new.output)
+    c.run_on-ended.result c.report.result c.report.ensures.status c.run_on-ended.ensures.script zero)
 
 pub returns-in-Ok-clause-right : goal.returns-in-Ok-clause-right
-returns-in-Ok-clause-right g c choice asked fits = ends_below_2 c.run_machine-ended.result c.report.result c.report.ensures.status
+returns-in-Ok-clause-right g c choice asked fits = ends_below_2 c.run_on-ended.result c.report.result c.report.ensures.status
 
 pub returns-in-Ok-clause-alone : goal.returns-in-Ok-clause-alone
 returns-in-Ok-clause-alone g c few =
     let same = ap chosen c.machine-machine.ensures ∙ no_words (map g.S.AsStr.text c.args.words.now) _ (few_texts _ _ few) c.in-Ok.ensures.asked in
-    inl (c.run_machine-ended.result, c.report.ensures.status, ran_as same c.run_machine-ended.ensures.run)
+    inl (c.run_on-ended.result, c.report.ensures.status, ran_as same c.run_on-ended.ensures.run)
 
 pub returns-in-Err-clause-ended : goal.returns-in-Err-clause-ended
 returns-in-Err-clause-ended g c = inr (c.in-Err.wrong, c.in-Err.ensures.refused, refl, c.refuse.ensures)

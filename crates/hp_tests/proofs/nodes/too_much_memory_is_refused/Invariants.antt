@@ -1,5 +1,0 @@
-use Rattle.hp_nodes.specs.Ledgers.{names_of}
-use Rattle.hp_tests.proofs.nodes.too_much_memory_is_refused.Given as goal
-
-abbrev pub ghosts-opens : goal.ghosts-opens
-ghosts-opens g a = names_of a.blanks a.page_bytes
