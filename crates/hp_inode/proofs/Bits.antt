@@ -4,9 +4,10 @@ use Rattle.std.specs.Int.{bit_at, bit_not, w64}
 use Rattle.std.specs.List.{range_with_len, count_by}
 use Rattle.std.proofs.lemmas.Bool.{cases_lt}
 use Rattle.std.proofs.lemmas.Bool.Decides.{nat_tests}
+use Rattle.std.proofs.lemmas.List.FromFn.{length-range_with_len}
 use Rattle.std.proofs.lemmas.Nat.{ones_cat, ones-le, div-add-mod', zero_from_ones}
 use Rattle.std.proofs.lemmas.Nat.Bits.{bit_at-lt, bit_at_and, bit_at_or, bit_at_not, bit_at_ones, bit_at_ones_above, bit_at_mask_inside, bit_at_mask_below, bit_at_cat_low, bit_at_cat_high, bit_at_lowest}
-use Rattle.hp_model.proofs.Counting.{count_cons, count_split, alike_in}
+use Rattle.hp_model.proofs.Counting.{count_cons, count_split, count_not, count_outside, alike_in}
 use Rattle.hp_model.proofs.Ranges.{within-true, within-below, within-past}
 use Rattle.hp_model.specs.files.Ranges.{within}
 
@@ -96,3 +97,9 @@ word_counted p s n lt same = ap (λ m. count_by p (range_with_len m 64)) (start 
   where
     start : (s : ℕ) → s ≡ s + 0
     start s = omega arith
+
+pub full_ones : (n : ℕ) → n ≡ 2 ^ 64 - 1 → count_ones n ≡ 64
+full_ones n n_is =
+    let one : ℕ → Bool = λ i. eqb (bit_at n i) 1 in
+    let none = count_outside (λ i. not (one i)) 0 64 (λ i low high. ap (λ m. not (eqb (bit_at m i) 1)) n_is ∙ ap (λ m. not (eqb m 1)) (bit_at_ones 64 i (omega (arith, high)))) in
+    omega (arith, ones_counted 64 n (omega (arith, n_is)), none, count_not one (range_with_len 0 64), length-range_with_len 0 64)

@@ -9,3 +9,5 @@ mod Spread
 mod Readying
 mod Paged
 mod Finding
+mod Cleared
+mod Removed

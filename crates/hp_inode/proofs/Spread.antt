@@ -1,5 +1,5 @@
 -- Marks of a range, set or cleared a word at a time, and how many of a range are set.
-use Rattle.std.proofs.Common.{◌≡◌, ℕ, ◌+◌, ◌-◌, ◌*◌, ◌/◌, ◌%◌, ◌^◌, ◌<◌, ◌≤◌, min, Bool, true, false, not, ◌&&◌, ◌||◌, eqb, List, length, get_or, set, take, sym, ap, ◌∙◌, arith, ◌⊎◌, inl, inr, ⊎_elim, bit_and, bit_or, count_ones}
+use Rattle.std.proofs.Common.{◌≡◌, ℕ, ◌+◌, ◌-◌, ◌*◌, ◌/◌, ◌%◌, ◌^◌, ◌<◌, ◌≤◌, min, Bool, true, false, not, ◌&&◌, ◌||◌, eqb, List, length, get_or, set, take, sym, ap, ◌∙◌, arith, ◌⊎◌, inl, inr, ⊎_elim, Option, None, Some, bit_and, bit_or, count_ones}
 use Rattle.std.specs.Int.{bit_at, bit_not, w64}
 use Rattle.std.specs.List.{range_with_len, count_by}
 use Rattle.std.proofs.Math.Bool.{or-false, and-true, and-false}
@@ -12,8 +12,8 @@ use Rattle.std.proofs.lemmas.Nat.Bits.{bit_at-zero}
 use Rattle.hp_model.proofs.Counting.{count_split, count_outside, count_within, alike_in}
 use Rattle.hp_model.proofs.Ranges.{within-in, within-true, within-below, within-past}
 use Rattle.hp_model.specs.files.Ranges.{within}
-use Rattle.hp_inode.specs.Entries.{count_in, IsBlank, IsEntries, IsNextWord}
-use Rattle.hp_inode.specs.Marks.{marked, IsFirstFrom}
+use Rattle.hp_inode.specs.Entries.{count_in, IsBlank, IsEntries, FindsWord}
+use Rattle.hp_inode.specs.Marks.{marked, IsFirstFrom, IsFirstWithin, FindsWithin}
 use Rattle.hp_inode.proofs.Bits.{has_and, has_or, has_not, word_counted}
 use Rattle.hp_inode.proofs.Words.{unmarked_past}
 
@@ -104,34 +104,6 @@ cleared_entries words marks new at left is lt same others off = record {
       (cases_eq (k / 64) at);
 }
 
-module _ (words left old : List ℕ) (a b at next bits : ℕ) (le : at ≤ next) (blank : IsBlank words (64 * at) (64 * next)) (of_range : (i : ℕ) → i < 64 → eqb (bit_at bits i) 1 ≡ within a b (64 * next + i)) (rest : (k : ℕ) → 64 * at ≤ k → marked words k ≡ marked old k) (others : (k : ℕ) → (k / 64 ≡ next → ⊥) → marked left k ≡ marked words k) where
-  pub left_done : ((k : ℕ) → k < 64 * at → marked words k ≡ (marked old k && not (within a b k))) → ((k : ℕ) → k / 64 ≡ next → marked left k ≡ (marked words k && not (eqb (bit_at bits (k % 64)) 1))) → (k : ℕ) → k < 64 * (next + 1) → marked left k ≡ (marked old k && not (within a b k))
-  left_done done here k below = ⊎_elim
-      (λ (this : k / 64 ≡ next). here k this ∙ ap (λ t. t && not (eqb (bit_at bits (k % 64)) 1)) (rest k (omega (arith, le, this)))
-      ∙ ap (λ t. marked old k && not t) (of_range (k % 64) (omega arith) ∙ ap (within a b) {x = 64 * next + k % 64} {y = k} (omega (arith, this))))
-      (λ (other : k / 64 ≡ next → ⊥). others k other ∙ ⊎_elim
-      (λ (early : k < 64 * at). done k early)
-      (λ (from : 64 * at ≤ k).
-      let none = blank k from (omega (arith, below, other)) in
-      none ∙ ap (λ t. t && not (within a b k)) (sym none ∙ rest k from))
-      (cases_lt k (64 * at)))
-      (cases_eq (k / 64) next)
-
-  pub left_rest : (k : ℕ) → 64 * (next + 1) ≤ k → marked left k ≡ marked old k
-  left_rest k from = others k (λ this. omega (arith, this, from)) ∙ rest k (omega (arith, le, from))
-
--- with none left to clear
-pub left_end : (words old : List ℕ) (a b at end : ℕ) → end ≡ b / 64 + min 1 (b % 64) → ((k : ℕ) → k < 64 * at → marked words k ≡ (marked old k && not (within a b k))) → ((k : ℕ) → 64 * at ≤ k → marked words k ≡ marked old k) → IsBlank words (64 * at) (64 * end) → (k : ℕ) → marked words k ≡ (marked old k && not (within a b k))
-left_end words old a b at end end_is done rest blank k = ⊎_elim
-    (λ (early : k < 64 * at). done k early)
-    (λ (from : 64 * at ≤ k). ⊎_elim
-    (λ (below : k < b).
-    let none = blank k from (omega (arith, below, end_is)) in
-    none ∙ ap (λ t. t && not (within a b k)) (sym none ∙ rest k from))
-    (λ (past : b ≤ k). rest k from ∙ sym (ap (λ t. marked old k && not t) (within-past a b k past) ∙ and-true (marked old k)))
-    (cases_lt k b))
-    (cases_lt k (64 * at))
-
 -- the bits of a word are its marks
 pub bit_marked : (words : List ℕ) (at i : ℕ) → i < 64 → eqb (bit_at (get_or words at 0) i) 1 ≡ marked words (64 * at + i)
 bit_marked words at i lt =
@@ -155,7 +127,7 @@ module _ (words : List ℕ) (a b : ℕ) where
   same_inside k low high = ap (λ t. marked words k && t) (within-true a b k low high) ∙ and-true (marked words k)
 
   -- those below a place from b on are all
-  counted_all : (n : ℕ) → b ≤ n → count_by ours (range_with_len 0 n) ≡ count_in words a b
+  pub counted_all : (n : ℕ) → b ≤ n → count_by ours (range_with_len 0 n) ≡ count_in words a b
   counted_all n le =
       count_within ours a b n le (λ k lt is. in_range k is)
       ∙ alike_in ours (marked words) a (b - a) (λ k low high. same_inside k low (omega (arith, low, high)))
@@ -207,23 +179,38 @@ module _ (marks : List ℕ) (n : ℕ) where
       (λ (le : length marks ≤ k / 64). unmarked_past marks k (omega (arith, le)))
       where'
 
-module _ (words marks : List ℕ) (is : IsEntries words marks) (at end searched : ℕ) (searched_is : searched ≡ min (end / 64 + min 1 (end % 64)) (length marks)) where
-  unmarked_word : (k : ℕ) → k < 64 * end → marked (take searched marks) (k / 64) ≡ false → marked words k ≡ false
-  unmarked_word k lt off = is.none k (unmarked_taken marks searched (k / 64) side off)
+module _ (marks : List ℕ) (from end searched : ℕ) (searched_is : searched ≡ min (end / 64 + min 1 (end % 64)) (length marks)) where
+  unmarked_before : (k : ℕ) → k < end → marked (take searched marks) k ≡ false → marked marks k ≡ false
+  unmarked_before k lt off = unmarked_taken marks searched k side off
     where
-      side : k / 64 / 64 < searched ⊎ length marks ≤ k / 64 / 64
-      side = ⊎_elim (λ (less : k / 64 / 64 < length marks). inl (omega (arith, less, lt, searched_is))) (λ (past : length marks ≤ k / 64 / 64). inr past) (cases_lt (k / 64 / 64) (length marks))
+      side : k / 64 < searched ⊎ length marks ≤ k / 64
+      side = ⊎_elim (λ (less : k / 64 < length marks). inl (omega (arith, less, lt, searched_is))) (λ (past : length marks ≤ k / 64). inr past) (cases_lt (k / 64) (length marks))
 
-  pub blank_from : ((j : ℕ) → at ≤ j → marked (take searched marks) j ≡ false) → IsBlank words (64 * at) (64 * end)
-  blank_from none k low high = unmarked_word k high (none (k / 64) (omega (arith, low)))
+  pub none_within : ((k : ℕ) → from ≤ k → marked (take searched marks) k ≡ false) → (k : ℕ) → from ≤ k → k < end → marked marks k ≡ false
+  none_within none k low high = unmarked_before k high (none k low)
 
-  pub blank_past : (w : ℕ) → IsFirstFrom (take searched marks) at w → end ≤ w → IsBlank words (64 * at) (64 * end)
-  blank_past w first past k low high = unmarked_word k high (first.none_before (k / 64) (omega (arith, low)) (omega (arith, high, past)))
+  pub none_within_past : (i : ℕ) → IsFirstFrom (take searched marks) from i → end ≤ i → (k : ℕ) → from ≤ k → k < end → marked marks k ≡ false
+  none_within_past i first past k low high = unmarked_before k high (first.none_before k low (omega (arith, high, past)))
 
-  pub next_is : (w : ℕ) → IsFirstFrom (take searched marks) at w → w < end → IsNextWord words at end w
-  next_is w first lt = record {
-    from = first.from;
-    within = is.within w (marked_taken marks searched w first.here);
+  pub first_within_is : (i : ℕ) → IsFirstFrom (take searched marks) from i → i < end → IsFirstWithin marks from end i
+  first_within_is i first lt = record {
     below = lt;
-    none_before = λ k low high. unmarked_word k (omega (arith, high, lt)) (first.none_before (k / 64) (omega (arith, low)) (omega (arith, high)));
+    first = record {
+      from = first.from;
+      here = marked_taken marks searched i first.here;
+      none_before = λ k low high. unmarked_before k (omega (arith, high, lt)) (first.none_before k low high);
+    };
+  }
+
+module _ (words marks : List ℕ) (is : IsEntries words marks) where
+  pub blank_words : (at end : ℕ) → ((j : ℕ) → at ≤ j → j < end → marked marks j ≡ false) → IsBlank words (64 * at) (64 * end)
+  blank_words at end none k low high = is.none k (none (k / 64) (omega (arith, low)) (omega (arith, high)))
+
+  pub finds_word : (at end : ℕ) (found : Option ℕ) → FindsWithin marks at end found → FindsWord words at end found
+  finds_word at end None none = blank_words at end none
+  finds_word at end (Some w) is_first = record {
+    from = is_first.first.from;
+    within = is.within w is_first.first.here;
+    below = is_first.below;
+    none_before = blank_words at w is_first.first.none_before;
   }

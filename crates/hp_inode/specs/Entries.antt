@@ -1,8 +1,9 @@
 -- The indices that are entered, as marks in words.
 --     count_in words a b, missing_in words a b      how many from a up to b are marked, and how many aren't
 --     IsEntries words marks      the marks say which words may have a bit
-use Rattle.std.specs.Prelude.{ℕ, ◌≡◌, ◌-◌, ◌*◌, ◌/◌, ◌<◌, ◌≤◌, ◌^◌, true, false, not, List, length, Option, MatchOption}
+use Rattle.std.specs.Prelude.{ℕ, ◌≡◌, ◌-◌, ◌*◌, ◌/◌, ◌<◌, ◌≤◌, ◌^◌, true, false, ◌&&◌, not, List, length, Option, MatchOption}
 use Rattle.std.specs.List.{range_with_len, count_by}
+use Rattle.hp_model.specs.files.Ranges.{within}
 use Rattle.hp_inode.specs.Marks.{marked}
 
 abbrev pub count_in : List ℕ → ℕ → ℕ → ℕ
@@ -30,3 +31,8 @@ pub record IsNextWord (words : List ℕ) (at end w : ℕ) : Type 0 where
 
 abbrev pub FindsWord : List ℕ → ℕ → ℕ → Option ℕ → Type 0
 FindsWord words at end found = MatchOption found (IsBlank words (64 * at) (64 * end)) (IsNextWord words at end)
+
+-- so many of the indices from a up to b were taken out of the old words, and no others
+pub record IsRemoved (a b : ℕ) (old new : List ℕ) (count : ℕ) : Type 0 where
+  pub counted : count ≡ count_in old a b
+  pub left : (k : ℕ) → marked new k ≡ (marked old k && not (within a b k))

@@ -16,3 +16,11 @@ pub record IsFirstFrom (words : List ℕ) (n i : ℕ) : Type 0 where
 -- the first of those from n on, or none where there is none
 abbrev pub FindsFrom : List ℕ → ℕ → Option ℕ → Type 0
 FindsFrom words n found = MatchOption found ((k : ℕ) → n ≤ k → marked words k ≡ false) (IsFirstFrom words n)
+
+-- the first of those from one number up to another, or none where there is none
+pub record IsFirstWithin (words : List ℕ) (from end i : ℕ) : Type 0 where
+  pub below : i < end
+  pub first : IsFirstFrom words from i
+
+abbrev pub FindsWithin : List ℕ → ℕ → ℕ → Option ℕ → Type 0
+FindsWithin words from end found = MatchOption found ((k : ℕ) → from ≤ k → k < end → marked words k ≡ false) (IsFirstWithin words from end)

@@ -1,12 +1,12 @@
 //! Which indices are entered, a bit for each: a range takes a step for each word of 64 indices.
-ghost use Rattle.std.specs.Prelude.{ℕ, ◌≡◌, ◌==◌, ◌*◌, ◌/◌, ◌%◌, ◌<◌, ◌≤◌, ◌^◌, ◌&&◌, ◌||◌, [], not, bit_and, count_ones, length, OnOk, OnErr};
-ghost use Rattle.std.specs.List.{slice_index_or};
-ghost use Rattle.std.specs.Int.{bit_at};
+ghost use Rattle.std.specs.Prelude.{ℕ, ◌≡◌, ◌+◌, ◌-◌, ◌*◌, ◌/◌, ◌<◌, ◌≤◌, ◌^◌, ◌&&◌, ◌||◌, [], not, length, OnOk, OnErr};
 ghost use Rattle.hp_model.specs.files.Ranges.{within};
-ghost use Rattle.hp_inode.specs.Entries.{count_in, missing_in, FindsWord};
+ghost use Rattle.hp_inode.specs.Entries.{count_in, missing_in, FindsWord, IsEntries, IsRemoved};
 ghost use Rattle.hp_inode.specs.Marks.{marked};
 
-use crate::marks::{WORD, bits_within, first_from, make_places, set_mark, set_marks};
+use crate::marks::{
+    WORD, bits_within, clear_marks, first_within, make_places, set_mark, set_marks,
+};
 use smallvec::SmallVec;
 use std::alloc::{AllocError, Global};
 use std::marker::Model;
@@ -107,26 +107,29 @@ impl Entries {
         ensures count { result ≡ count_in self.old a b }
         ensures left { (k : ℕ) → marked self.new k ≡ (marked self.old k && not (within a b k)) }
     {
-        let (a, b) = (a as usize, b as usize);
-        let end = b.div_ceil(WORD);
-        let mut count = 0;
-        let mut at = a / WORD;
-        while let Some(next) = self.next_word(at, end) {
-            count += self.clear(next, bits_within(next, a, b));
-            at = next + 1;
+        let (a, b) = (a as usize, (b as usize).min(WORD * self.words.len()));
+        if a >= b {
+            return 0;
         }
-        count
+        let (first, last) = (a / WORD, (b - 1) / WORD);
+        if first == last {
+            return self.remove_in_word(a, b);
+        }
+        let head = self.remove_in_word(a, WORD * (first + 1));
+        let middle = self.remove_words(first + 1, last);
+        head + middle + self.remove_in_word(WORD * last, b)
     }
 
-    // Takes the indices with these bits of a word out, and answers how many there were.
-    fn clear(&mut self, at: usize, bits: u64) -> u64
-        requires { at < length self.old }
-        ensures count { result ≡ count_ones (bit_and (slice_index_or self.old at 0) bits) }
-        ensures here { (k : ℕ) → k / 64 ≡ at →
-            marked self.new k ≡ (marked self.old k && not (bit_at bits (k % 64) == 1)) }
-        ensures others { (k : ℕ) → (k / 64 ≡ at → ⊥) → marked self.new k ≡ marked self.old k }
+    // Takes the indices of one word from `a` up to `b` out, and answers how many there were.
+    fn remove_in_word(&mut self, a: usize, b: usize) -> u64
+        requires some { a < b }
+        requires one { b ≤ 64 * (a / 64) + 64 }
+        requires within { b ≤ 64 * length self.old }
+        ensures removed { IsRemoved a b self.old self.new result }
         ensures len { length self.new ≡ length self.old }
     {
+        let at = a / WORD;
+        let bits = bits_within(at, a, b);
         let word = self.words.as_slice()[at];
         let left = word & !bits;
         self.words.as_mut_slice()[at] = left;
@@ -134,16 +137,61 @@ impl Entries {
         u64::from((word & bits).count_ones())
     }
 
+    // Takes the indices of the words from `from` up to `end` out, and answers how many there were.
+    fn remove_words(&mut self, from: usize, end: usize) -> u64
+        requires order { from ≤ end }
+        requires within { end ≤ length self.old }
+        ensures removed { IsRemoved (64 * from) (64 * end) self.old self.new result }
+        ensures len { length self.new ≡ length self.old }
+    {
+        let count = clear_words(self.words.as_mut_slice(), self.marks.as_slice(), from, end);
+        clear_marks(self.marks.as_mut_slice(), from, end);
+        count
+    }
+
     // The first of the words from `from` up to `end` that has an index.
     fn next_word(&self, from: usize, end: usize) -> Option<usize>
         ensures { FindsWord self.now from end result }
     {
-        if from >= end {
-            return None;
-        }
-        let marks = self.marks.as_slice();
-        let searched = end.div_ceil(WORD).min(marks.len());
-        let next = first_from(&marks[..searched], from)?;
-        if next < end { Some(next) } else { None }
+        first_within(self.marks.as_slice(), from, end)
     }
+}
+
+// Clears the words from `from` up to `end`, and answers how many bits they had. Those with no mark are passed.
+fn clear_words(words: &mut [u64], marks: &[u64], from: usize, end: usize) -> u64
+    requires entries { IsEntries words.old marks.now }
+    requires order { from ≤ end }
+    requires within { end ≤ length words.old }
+    ensures { IsRemoved (64 * from) (64 * end) words.old words.new result }
+{
+    let mut count = 0;
+    let mut at = from;
+    while at < end {
+        let word = words[at];
+        if word == 0 {
+            at = first_within(marks, at + 1, end).unwrap_or(end);
+        } else {
+            words[at] = 0;
+            let next = clear_full(words, at + 1, end);
+            count += u64::from(word.count_ones()) + 64 * (next - at - 1) as u64;
+            at = next;
+        }
+    }
+    count
+}
+
+// Clears the full words from `from` on, up to `end` at most, and answers where they end.
+fn clear_full(words: &mut [u64], from: usize, end: usize) -> usize
+    requires order { from ≤ end }
+    requires within { end ≤ length words.old }
+    ensures from { from ≤ result }
+    ensures to { result ≤ end }
+    ensures removed { IsRemoved (64 * from) (64 * result) words.old words.new (64 * (result - from)) }
+{
+    let mut at = from;
+    while at < end && words[at] == u64::MAX {
+        words[at] = 0;
+        at += 1;
+    }
+    at
 }

@@ -1,8 +1,8 @@
 //! Marks on numbers, a bit for each: the first mark from a number on is found a word at a time.
-ghost use Rattle.std.specs.Prelude.{ℕ, ◌≡◌, ◌==◌, ◌+◌, ◌*◌, ◌<◌, ◌≤◌, ◌^◌, ◌||◌, max, length, OnOk, OnErr};
+ghost use Rattle.std.specs.Prelude.{ℕ, ◌≡◌, ◌==◌, ◌+◌, ◌*◌, ◌<◌, ◌≤◌, ◌^◌, ◌&&◌, ◌||◌, not, max, length, OnOk, OnErr};
 ghost use Rattle.std.specs.Int.{bit_at};
 ghost use Rattle.hp_model.specs.files.Ranges.{within};
-ghost use Rattle.hp_inode.specs.Marks.{marked, FindsFrom};
+ghost use Rattle.hp_inode.specs.Marks.{marked, FindsFrom, FindsWithin};
 
 use smallvec::SmallVec;
 use std::alloc::AllocError;
@@ -46,6 +46,19 @@ pub fn first_from(words: &[u64], n: usize) -> Option<usize>
     None
 }
 
+/// The first number with a mark, of those from `from` up to `end`.
+pub fn first_within(words: &[u64], from: usize, end: usize) -> Option<usize>
+    requires { length words.now < 2 ^ 32 }
+    ensures { FindsWithin words.now from end result }
+{
+    if from >= end {
+        return None;
+    }
+    let searched = end.div_ceil(WORD).min(words.len());
+    let next = first_from(&words[..searched], from)?;
+    if next < end { Some(next) } else { None }
+}
+
 /// The bits of the word `at` whose numbers lie from `a` up to `b`.
 pub fn bits_within(at: usize, a: usize, b: usize) -> u64
     requires from { a < 64 * at + 64 }
@@ -65,6 +78,16 @@ pub fn set_marks(words: &mut [u64], a: usize, b: usize)
 {
     for at in a / WORD..b.div_ceil(WORD) {
         words[at] |= bits_within(at, a, b);
+    }
+}
+
+/// Clears the marks from `a` up to `b`.
+pub fn clear_marks(words: &mut [u64], a: usize, b: usize)
+    requires { b ≤ 64 * length words.old }
+    ensures { (k : ℕ) → marked words.new k ≡ (marked words.old k && not (within a b k)) }
+{
+    for at in a / WORD..b.div_ceil(WORD) {
+        words[at] &= !bits_within(at, a, b);
     }
 }
 

@@ -1,45 +1,40 @@
-use Rattle.std.proofs.Common.{arith, refl, sym, ap, ◌∙◌, ◌<◌, ◌^◌, ◌*◌, ◌+◌, ◌/◌, ◌≡◌, ◌&&◌, not, get_or}
-use Rattle.std.proofs.Math.Bool.{and-true}
-use Rattle.std.specs.List.{count_by, range_with_len}
-use Rattle.hp_model.proofs.Ranges.{within-below}
-use Rattle.hp_inode.specs.Marks.{marked}
-use Rattle.hp_inode.proofs.Spread.{ours, bit_marked, counted_none, counted_few, counted_next, counted_end, left_done, left_rest, left_end}
+use Rattle.std.proofs.Common.{arith, ap, ◌-◌, ◌/◌, ◌*◌, ◌+◌, length}
+use Rattle.hp_inode.specs.Entries.{IsRemoved}
+use Rattle.hp_inode.proofs.Removed.{joined, none_past, removed_past, few_removed}
 use Rattle.hp_inode.proofs.entries.Entries.remove.Goals as goal
 
-pub loop-next-init : goal.loop-next-init
-loop-next-init c = record {
-  from = omega arith;
-  counted = sym (counted_none c.args.self.now c.args.a c.args.b (64 * (c.args.a / 64)) (omega arith));
-  done = λ k below. sym (ap (λ t. marked c.args.self.now k && not t) (within-below c.args.a c.args.b k (omega (arith, below))) ∙ and-true (marked c.args.self.now k));
-  rest = λ k from. refl;
-}
+none : (c : goal.Then-a-b) → IsRemoved c.args.a c.args.b c.args.self.now c.args.self.now 0
+none c = none_past c.args.self.now c.args.a c.args.b c.min-b.result (omega (arith, c.min-b.ensures, c.len.ensures.value, ap length c.self.view_is)) c.if-a-b.true
 
-more : (c : goal.After-clear-count) → c.loop-next.count + c.clear-count.result ≡ count_by (ours c.args.self.now c.args.a c.args.b) (range_with_len 0 (64 * (c.in-Some.next + 1)))
-more c =
-    let old = c.args.self.now in
-    let next = c.in-Some.next in
-    let rest = c.loop-next.invariant.rest in
-    let small : c.bits_within.result < 2 ^ 64 = omega arith in
-    let further = counted_next old c.args.a c.args.b c.loop-next.at next (get_or c.loop-next.self next 0) c.bits_within.result c.in-Some.ensures.from
-    (λ k low high. sym (rest k low) ∙ c.in-Some.ensures.none_before k low high) small
-    (λ i lt. bit_marked c.loop-next.self next i lt ∙ rest (64 * next + i) (omega (arith, c.in-Some.ensures.from))) c.bits_within.ensures in
-    omega (arith, further, c.clear-count.ensures.count, c.loop-next.invariant.counted)
+pub returns-then-a-b-clause-count : goal.returns-then-a-b-clause-count
+returns-then-a-b-clause-count c = (none c).counted
 
-pub overflow_add-count : goal.overflow_add-count
-overflow_add-count c = omega (arith, more c, counted_few c.args.self.now c.args.a c.args.b (64 * (c.in-Some.next + 1)))
+one : (c : goal.After-remove_in_word) → IsRemoved c.args.a c.args.b c.args.self.now c.remove_in_word.new.self c.remove_in_word.result
+one c = removed_past c.args.self.now c.remove_in_word.new.self c.args.a c.min-b.result c.args.b c.remove_in_word.result (omega (arith, c.min-b.ensures, c.len.ensures.value, ap length c.self.view_is)) (omega arith) c.remove_in_word.ensures.removed
 
-pub loop-next-preserved : goal.loop-next-preserved
-loop-next-preserved c = record {
-  from = omega (arith, c.loop-next.invariant.from, c.in-Some.ensures.from);
-  counted = more c;
-  done = left_done c.loop-next.self c.clear-count.new.self c.args.self.now c.args.a c.args.b c.loop-next.at c.in-Some.next c.bits_within.result c.in-Some.ensures.from c.in-Some.ensures.none_before c.bits_within.ensures c.loop-next.invariant.rest c.clear-count.ensures.others c.loop-next.invariant.done c.clear-count.ensures.here;
-  rest = left_rest c.loop-next.self c.clear-count.new.self c.args.self.now c.args.a c.args.b c.loop-next.at c.in-Some.next c.bits_within.result c.in-Some.ensures.from c.in-Some.ensures.none_before c.bits_within.ensures c.loop-next.invariant.rest c.clear-count.ensures.others;
-}
+pub returns-then-first-last-clause-count : goal.returns-then-first-last-clause-count
+returns-then-first-last-clause-count c = (one c).counted
+
+pub returns-then-first-last-clause-left : goal.returns-then-first-last-clause-left
+returns-then-first-last-clause-left c = (one c).left
+
+pub overflow_add-result : goal.overflow_add-result
+overflow_add-result c = omega (arith, few_removed _ _ _ _ _ c.remove_in_word-head.ensures.removed, few_removed _ _ _ _ _ c.remove_words-middle.ensures.removed)
+
+all : (c : goal.After-remove_in_word-2) → IsRemoved c.args.a c.args.b c.args.self.now c.remove_in_word-2.new.self (c.remove_in_word-head.result + c.remove_words-middle.result + c.remove_in_word-2.result)
+all c =
+    let b = c.min-b.result in
+    let last = (b - 1) / 64 in
+    let most : IsRemoved c.args.a (64 * last) c.args.self.now c.remove_words-middle.new.self (c.remove_in_word-head.result + c.remove_words-middle.result) =
+    joined c.args.self.now c.remove_in_word-head.new.self c.remove_words-middle.new.self c.args.a (64 * (c.args.a / 64 + 1)) (64 * last) _ _ _ (omega arith) (omega arith) (omega arith) c.remove_in_word-head.ensures.removed c.remove_words-middle.ensures.removed in
+    removed_past c.args.self.now c.remove_in_word-2.new.self c.args.a b c.args.b _ (omega (arith, c.min-b.ensures, c.len.ensures.value, ap length c.self.view_is)) (omega arith)
+    (joined c.args.self.now c.remove_words-middle.new.self c.remove_in_word-2.new.self c.args.a (64 * last) b _ _ _ (omega arith) (omega arith) (omega arith) most c.remove_in_word-2.ensures.removed)
+
+pub overflow_add-result-2 : goal.overflow_add-result-2
+overflow_add-result-2 c = omega (arith, few_removed _ _ _ _ _ (all c))
 
 pub returns-clause-count : goal.returns-clause-count
-returns-clause-count c =
-    let rest = c.loop-next.invariant.rest in
-    c.loop-next.invariant.counted ∙ counted_end c.args.self.now c.args.a c.args.b c.loop-next.at c.div_ceil-end.result c.div_ceil-end.ensures (λ k low high. sym (rest k low) ∙ c.in_default.ensures k low high)
+returns-clause-count c = (all c).counted
 
 pub returns-clause-left : goal.returns-clause-left
-returns-clause-left c = left_end c.loop-next.self c.args.self.now c.args.a c.args.b c.loop-next.at c.div_ceil-end.result c.div_ceil-end.ensures c.loop-next.invariant.done c.loop-next.invariant.rest c.in_default.ensures
+returns-clause-left c = (all c).left
