@@ -139,6 +139,6 @@ fn filled(alloc: Global, word: u64, count: usize) -> Result<SmallVec<u64, 1>, Al
     if count == 1 {
         return Ok(SmallVec::from_buf(alloc, [word; 1]));
     }
-    let words = SmallVec::from_elem(alloc, word, count)?;
-    Ok(words)
+    let words = vec![in alloc; word; count]?;
+    Ok(SmallVec::from_vec(words))
 }
