@@ -3,3 +3,4 @@ pub mod Forms
 pub mod Mapped
 pub mod Flags
 pub mod Marks
+pub mod Packed

@@ -4,21 +4,16 @@ ghost use Rattle.hp_model.specs.declared.place.Place.TheVariants.{Gone};
 ghost use Rattle.hp_model.specs.files.Mapping.{is_live, copy_of, is_unconsumed, without_copy, unconsumed};
 ghost use Rattle.hp_mapping.specs.Mapped.{at_index, consumed, fresh, has_copy, with_copy, with_fresh, IsRun};
 
-use crate::place;
+use crate::packed_place::{PackedPlace, all_forked, copy_in};
 use hp_model::page_no::PageNo;
-use hp_model::place::Place;
 use std::alloc::{AllocError, Global};
 use std::marker::Model;
-use std::mem::size_of;
-
-// A page of a map costs this, once it or one behind it is touched, and a bit for each of the two marks.
-const _: () = prove!(size_of::<Place<PageNo>>() <= 12);
 
 /// Places, counted from 0. There is memory for all of them, but only those up to the last one that was ever touched
 /// stand in it: those behind are fresh. Contracts see all.
 #[derive(Drop)]
 pub(crate) struct Dense {
-    touched: Vec<Place<PageNo>>,
+    touched: Vec<PackedPlace>,
     // how many places there are
     count: usize,
 }
@@ -48,7 +43,7 @@ impl Dense {
     pub(crate) fn forked(&self, alloc: Global) -> Result<Self, AllocError>
         ensures { IfOk result (λ r. r ≡ map unconsumed self.now) }
     {
-        let touched = place::all_forked(alloc, &self.touched, self.count)?;
+        let touched = all_forked(alloc, &self.touched, self.count)?;
         Ok(Dense {
             touched,
             count: self.count,
@@ -62,7 +57,7 @@ impl Dense {
     }
 
     /// The places from one that has a copy up to the last one that was ever touched.
-    pub(crate) fn run_from(&self, at: usize) -> &[Place<PageNo>]
+    pub(crate) fn run_from(&self, at: usize) -> &[PackedPlace]
         requires { IsSome (copy_of (slice_index_or self.now at Gone)) }
         ensures { IsRun at self.now result.now }
     {
@@ -73,7 +68,7 @@ impl Dense {
         ensures { result ≡ is_live (slice_index_or self.now at Gone) }
     {
         match self.touched.get(at) {
-            Some(place) => place::is_live(place),
+            Some(place) => place.is_live(),
             None => at < self.count,
         }
     }
@@ -82,7 +77,7 @@ impl Dense {
         ensures { result ≡ is_unconsumed (slice_index_or self.now at Gone) }
     {
         match self.touched.get(at) {
-            Some(place) => place::is_unconsumed(place),
+            Some(place) => place.is_unconsumed(),
             None => at < self.count,
         }
     }
@@ -90,7 +85,7 @@ impl Dense {
     pub(crate) fn copy_at(&self, at: usize) -> Option<PageNo>
         ensures { result ≡ copy_of (slice_index_or self.now at Gone) }
     {
-        place::copy_in(self.touched.get(at)?)
+        copy_in(self.touched.get(at)?)
     }
 
     pub(crate) fn consume(&mut self, at: usize)
@@ -98,7 +93,7 @@ impl Dense {
         ensures { self.new ≡ at_index consumed at self.old }
     {
         write_up_to(&mut self.touched, at);
-        place::consume(&mut self.touched[at]);
+        self.touched[at].consume();
     }
 
     /// Says whether the place had no copy.
@@ -110,8 +105,8 @@ impl Dense {
     {
         write_up_to(&mut self.touched, at);
         let place = &mut self.touched[at];
-        let bare = place::copy_in(place).is_none();
-        place::set_copy(place, page);
+        let bare = copy_in(place).is_none();
+        place.set_copy(page);
         bare
     }
 
@@ -119,7 +114,7 @@ impl Dense {
         requires { IsSome (copy_of (slice_index_or self.old at Gone)) }
         ensures { self.new ≡ at_index without_copy at self.old }
     {
-        place::drop_copy(&mut self.touched[at]);
+        self.touched[at].drop_copy();
     }
 
     /// Says whether the place's reservation was there.
@@ -130,23 +125,20 @@ impl Dense {
     {
         write_up_to(&mut self.touched, at);
         let place = &mut self.touched[at];
-        let freed = place::is_unconsumed(place);
-        *place = Place::Gone;
+        let freed = place.is_unconsumed();
+        *place = PackedPlace::gone();
         freed
     }
 }
 
 // The places up to this one are written.
-fn write_up_to(places: &mut Vec<Place<PageNo>>, at: usize)
+fn write_up_to(places: &mut Vec<PackedPlace>, at: usize)
     requires { at < vec_capacity places.old }
     ensures items { places.new.items ≡ places.old.items ++ replicate (at + 1 - length places.old.items) fresh }
     ensures within { at < vec_len places.new }
     ensures capacity { vec_capacity places.new ≡ vec_capacity places.old }
 {
     while places.len() <= at {
-        places.push_reserved(Place::Live {
-            consumed: false,
-            copy: None,
-        });
+        places.push_reserved(PackedPlace::fresh());
     }
 }

@@ -6,7 +6,7 @@ mod dense;
 mod flags;
 mod mapping;
 mod marks;
-mod place;
+mod packed_place;
 mod places;
 mod row;
 mod sparse;
@@ -14,4 +14,4 @@ mod words;
 
 pub use flags::MapFlags;
 pub use mapping::Mapping;
-pub use place::copy_in;
+pub use packed_place::{PackedPlace, copy_in};

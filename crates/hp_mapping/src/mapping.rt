@@ -7,9 +7,9 @@ ghost use Rattle.hp_mapping.specs.Flags.{has_owner, has_unmapped, sharing_of};
 ghost use Rattle.hp_mapping.specs.Mapped.{at_place, consumed, with_copy, has_copy, has_reserve, IsClear, IsRun, reserves_in, reserves_of, TakesLowest};
 
 use crate::flags::MapFlags;
+use crate::packed_place::PackedPlace;
 use crate::places::Places;
 use hp_model::page_no::PageNo;
-use hp_model::place::Place;
 use std::alloc::{AllocError, Global};
 use std::marker::Model;
 
@@ -139,7 +139,7 @@ impl Mapping {
 
     /// The places from the file's index on that stand one behind another: of a small map up to the last one that was
     /// ever touched, of a large one the rest of its chunk. They go no step beyond the range.
-    pub fn run_from(&self, i: u64) -> &[Place<PageNo>]
+    pub fn run_from(&self, i: u64) -> &[PackedPlace]
         requires { IsSome (copy_of (place_at self.now i)) }
         ensures { IsRun (i - self.now.start) self.now.places result.now }
     {

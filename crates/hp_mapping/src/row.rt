@@ -5,9 +5,9 @@ ghost use Rattle.hp_model.specs.files.Mapping.{is_live, copy_of, is_unconsumed, 
 ghost use Rattle.hp_mapping.specs.Mapped.{at_index, consumed, fresh, has_copy, with_copy, IsRun};
 
 use crate::dense::Dense;
+use crate::packed_place::PackedPlace;
 use crate::sparse::Sparse;
 use hp_model::page_no::PageNo;
-use hp_model::place::Place;
 use std::alloc::{AllocError, Global};
 use std::marker::Model;
 
@@ -71,7 +71,7 @@ impl Row {
     }
 
     /// Places that stand one behind another, from one that has a copy on.
-    pub(crate) fn run_from(&self, at: usize) -> &[Place<PageNo>]
+    pub(crate) fn run_from(&self, at: usize) -> &[PackedPlace]
         requires { IsSome (copy_of (slice_index_or self.now at Gone)) }
         ensures { IsRun at self.now result.now }
     {

@@ -5,9 +5,8 @@ ghost use Rattle.hp_model.specs.files.Mapping.{is_live, copy_of, is_unconsumed, 
 ghost use Rattle.hp_mapping.specs.Mapped.{at_index, consumed, fresh, has_copy, with_copy, IsRun};
 ghost use Rattle.hp_mapping.specs.Chunks.{slot_of, IsChunked, HasRoom, IsSame};
 
-use crate::place;
+use crate::packed_place::{PackedPlace, all_forked, copy_in};
 use hp_model::page_no::PageNo;
-use hp_model::place::Place;
 use std::alloc::{AllocError, Global};
 use std::marker::Model;
 
@@ -19,7 +18,7 @@ const CHUNK: usize = 64;
 #[derive(Drop)]
 pub(crate) struct Sparse {
     // the chunks, one behind another: the fresh one, and then those that were touched, in the order of the first touch
-    places: Vec<Place<PageNo>>,
+    places: Vec<PackedPlace>,
     // for each chunk's worth of places which chunk they have
     homes: Vec<u32>,
     // how many places there are
@@ -61,7 +60,7 @@ impl Sparse {
         ensures { IfOk result (λ r. r ≡ map unconsumed self.now) }
     {
         let room = CHUNK * (self.homes.len() + 1);
-        let places = place::all_forked(alloc, &self.places, room)?;
+        let places = all_forked(alloc, &self.places, room)?;
         let homes = Vec::from_slice(alloc, &self.homes)?;
         Ok(Sparse {
             places,
@@ -76,7 +75,7 @@ impl Sparse {
         self.count
     }
 
-    fn get(&self, at: usize) -> Option<&Place<PageNo>>
+    fn get(&self, at: usize) -> Option<&PackedPlace>
         ensures some { IfSome result (λ p. p.now ≡ slice_index_or self.now at Gone) }
         ensures none { IfNone result (slice_index_or self.now at Gone ≡ Gone) }
     {
@@ -90,7 +89,7 @@ impl Sparse {
         ensures { result ≡ is_live (slice_index_or self.now at Gone) }
     {
         match self.get(at) {
-            Some(place) => place::is_live(place),
+            Some(place) => place.is_live(),
             None => false,
         }
     }
@@ -99,7 +98,7 @@ impl Sparse {
         ensures { result ≡ is_unconsumed (slice_index_or self.now at Gone) }
     {
         match self.get(at) {
-            Some(place) => place::is_unconsumed(place),
+            Some(place) => place.is_unconsumed(),
             None => false,
         }
     }
@@ -107,11 +106,11 @@ impl Sparse {
     pub(crate) fn copy_at(&self, at: usize) -> Option<PageNo>
         ensures { result ≡ copy_of (slice_index_or self.now at Gone) }
     {
-        place::copy_in(self.get(at)?)
+        copy_in(self.get(at)?)
     }
 
     /// The places of a chunk from one that has a copy on.
-    pub(crate) fn run_from(&self, at: usize) -> &[Place<PageNo>]
+    pub(crate) fn run_from(&self, at: usize) -> &[PackedPlace]
         requires { IsSome (copy_of (slice_index_or self.now at Gone)) }
         ensures { IsRun at self.now result.now }
     {
@@ -125,7 +124,7 @@ impl Sparse {
         ensures { self.new ≡ at_index consumed at self.old }
     {
         let slot = touch(&mut self.homes, &mut self.places, at);
-        place::consume(&mut self.places[slot]);
+        self.places[slot].consume();
     }
 
     /// Says whether the place had no copy.
@@ -137,8 +136,8 @@ impl Sparse {
     {
         let slot = touch(&mut self.homes, &mut self.places, at);
         let place = &mut self.places[slot];
-        let bare = place::copy_in(place).is_none();
-        place::set_copy(place, page);
+        let bare = copy_in(place).is_none();
+        place.set_copy(page);
         bare
     }
 
@@ -147,7 +146,7 @@ impl Sparse {
         ensures { self.new ≡ at_index without_copy at self.old }
     {
         let slot = slot_of(&self.homes, at);
-        place::drop_copy(&mut self.places[slot]);
+        self.places[slot].drop_copy();
     }
 
     /// Says whether the place's reservation was there.
@@ -158,8 +157,8 @@ impl Sparse {
     {
         let slot = touch(&mut self.homes, &mut self.places, at);
         let place = &mut self.places[slot];
-        let freed = place::is_unconsumed(place);
-        *place = Place::Gone;
+        let freed = place.is_unconsumed();
+        *place = PackedPlace::gone();
         freed
     }
 }
@@ -173,21 +172,18 @@ fn slot_of(homes: &[u32], at: usize) -> usize
 }
 
 // A chunk of fresh places comes.
-fn push_fresh(places: &mut Vec<Place<PageNo>>)
+fn push_fresh(places: &mut Vec<PackedPlace>)
     requires { vec_len places.old + 64 ≤ vec_capacity places.old }
     ensures items { places.new.items ≡ places.old.items ++ replicate 64 fresh }
     ensures capacity { vec_capacity places.new ≡ vec_capacity places.old }
 {
     for _ in 0..CHUNK {
-        places.push_reserved(Place::Live {
-            consumed: false,
-            copy: None,
-        });
+        places.push_reserved(PackedPlace::fresh());
     }
 }
 
 // A chunk comes for the places that have none of their own, which are fresh.
-fn add_chunk(homes: &mut Vec<u32>, places: &mut Vec<Place<PageNo>>, index: usize)
+fn add_chunk(homes: &mut Vec<u32>, places: &mut Vec<PackedPlace>, index: usize)
     requires chunked { IsChunked homes.old.items places.old.items }
     requires room { HasRoom homes.old.items places.old }
     requires few { length homes.old.items ≤ 2 ^ 26 }
@@ -204,7 +200,7 @@ fn add_chunk(homes: &mut Vec<u32>, places: &mut Vec<Place<PageNo>>, index: usize
 }
 
 // The place comes into a chunk of its own. Answers where it stands.
-fn touch(homes: &mut Vec<u32>, places: &mut Vec<Place<PageNo>>, at: usize) -> usize
+fn touch(homes: &mut Vec<u32>, places: &mut Vec<PackedPlace>, at: usize) -> usize
     requires chunked { IsChunked homes.old.items places.old.items }
     requires room { HasRoom homes.old.items places.old }
     requires few { length homes.old.items ≤ 2 ^ 26 }

@@ -9,4 +9,4 @@ returns-clause-left c =
     let first = s.touched.items in
     let fits = c.self.invariant.0 in
     let less : c.args.at < s.count = omega (arith, c.requires, ap length c.self.view_is, long s.count first fits) in
-    rw (← c.self.view_is) (set_after s.count first c.write_up_to.new.places.items c.args.at fits less c.write_up_to.ensures.items Gone)
+    rw (← c.self.view_is, c.gone.ensures) (set_after s.count first c.write_up_to.new.places.items c.args.at fits less c.write_up_to.ensures.items Gone)

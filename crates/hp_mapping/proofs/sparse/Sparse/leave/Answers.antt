@@ -19,7 +19,7 @@ returns-clause-left c =
     let new = c.touch-slot.new in
     let did = c.touch-slot.ensures in
     let less : at < s.count = omega (arith, c.requires, ap length c.self.view_is, long s.count s.homes.items s.places.items) in
-    rw (← c.self.view_is) (set_touched s.count s.homes.items s.places.items new.homes.items new.places.items at c.touch-slot.result did.chunked did.same less did.slot Gone did.own)
+    rw (← c.self.view_is, c.gone.ensures) (set_touched s.count s.homes.items s.places.items new.homes.items new.places.items at c.touch-slot.result did.chunked did.same less did.slot Gone did.own)
 
 pub returns-clause-freed : goal.returns-clause-freed
 returns-clause-freed c =

@@ -1,6 +1,6 @@
 use Rattle.std.proofs.Common.{◌≡◌, take, map, vec_len, vec_capacity}
 use Rattle.hp_model.specs.files.Mapping.{unconsumed}
-use Rattle.hp_mapping.proofs.place.all_forked.Given as goal
+use Rattle.hp_mapping.proofs.packed_place.all_forked.Given as goal
 
 abbrev pub invariant-loop-place : goal.invariant-loop-place
 invariant-loop-place l = record {
