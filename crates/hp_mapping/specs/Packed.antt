@@ -15,4 +15,4 @@ place_with zero (suc n) consumed number = Live (is_set consumed) None
 place_with zero zero consumed number = Gone
 
 abbrev pub place_in : ℕ → Place ℕ
-place_in code = place_with (bit_at code 32) (bit_at code 33) (bit_at code 34) (code % 2 ^ 32)
+place_in code = place_with (bit_at code 34) (bit_at code 33) (bit_at code 32) (code % 2 ^ 32)

@@ -12,18 +12,20 @@ use std::mem::size_of;
 // A page of a map costs this, once it or one behind it is touched, and a bit for each of the two marks.
 const _: () = prove!(size_of::<PackedPlace>() <= 8);
 
-// The place is live, with a copy.
-const COPIED: u64 = 1 << 32;
+// How many numbers pages can have.
+const NUMBERS: u64 = 1 << 32;
+// The place's reservation was consumed.
+const CONSUMED: u64 = 1 << 32;
 // The place is live, without a copy.
 const BARE: u64 = 1 << 33;
-// The place's reservation was consumed.
-const CONSUMED: u64 = 1 << 34;
+// The place is live, with a copy.
+const COPIED: u64 = 1 << 34;
 
 /// An index of a map: not mapped any more; or mapped, with whether its reservation was consumed, and its private copy.
 /// Contracts see that place.
 #[derive(Drop)]
 pub struct PackedPlace {
-    // the copy's number in the lower half, and the marks above it
+    // the copy's number in the lower half, and marks above it
     code: u64,
 }
 
@@ -104,7 +106,7 @@ pub fn copy_in(place: &PackedPlace) -> Option<PageNo>
     if place.code & COPIED == 0 {
         return None;
     }
-    Some(PageNo::new((place.code % COPIED) as u32))
+    Some(PageNo::new((place.code % NUMBERS) as u32))
 }
 
 /// The places of a child's map, with room for so many.
