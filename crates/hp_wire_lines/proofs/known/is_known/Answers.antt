@@ -1,6 +1,8 @@
-use Rattle.std.proofs.Common.{◌∙◌, arith}
-use Rattle.hp_wire_lines.proofs.SameWords.{front_is}
+use Rattle.std.proofs.Common.{arith, sym, ◌∙◌}
+use Rattle.hp_wire_lines.proofs.SameWords.{after_four}
 use Rattle.hp_wire_lines.proofs.known.is_known.Goals as goal
 
-pub returns : goal.returns
-returns c = c.starts_with.ensures.value ∙ front_is c.args.word.now c.args.known.now (omega arith)
+pub fours-preserved : goal.fours-preserved
+fours-preserved c =
+    let same = sym c.four_at.ensures ∙ c.if-four_at.false ∙ c.four_at-in-fours.ensures in
+    record { within = omega arith; left = after_four c.args.word.now c.args.known.now c.fours.at (omega arith) (omega arith) (λ i. (c.type_inv.word i).fits) (λ i. (c.type_inv.known i).fits) same ∙ c.fours.invariant.left }
