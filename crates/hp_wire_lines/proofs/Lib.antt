@@ -5,3 +5,4 @@ mod LastHex
 mod Keywords
 mod HexValues
 mod SameWords
+mod WordEnds

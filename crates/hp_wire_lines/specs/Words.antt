@@ -1,5 +1,5 @@
 -- What is read of a line.
-use Rattle.std.specs.Prelude.{◌≡◌, ℕ, ◌+◌, ◌^◌, ◌&&◌, nat_lt, nat_le, if◌then◌else◌, List, [], ◌∷◌, length, drop, Result, Ok, Err}
+use Rattle.std.specs.Prelude.{◌≡◌, ℕ, ◌+◌, ◌-◌, ◌^◌, ◌++◌, ◌&&◌, nat_lt, nat_le, if◌then◌else◌, List, [], ◌∷◌, length, take, drop, Result, Ok, Err}
 use Rattle.std.specs.Option.{ok_or}
 use Rattle.std.specs.Str.{all_ascii_digits}
 use Rattle.std.specs.Str.Parse.{digits_value_after}
@@ -21,6 +21,15 @@ Takes view (Err e) left read = read ≡ Err e
 -- the pieces of what stands from a place on, and none past the end
 abbrev pub pieces_from : ℕ → List ℕ → List (List ℕ)
 pieces_from at line = if nat_le at (length line) then pieces_of_line (drop at line) else []
+
+-- the bytes from a place to another
+abbrev pub between : (from to : ℕ) → List ℕ → List ℕ
+between from to line = take (to - from) (drop from line)
+
+-- the pieces whose first begins with these bytes, and goes on in the first of these
+abbrev pub piece_with : List ℕ → List (List ℕ) → List (List ℕ)
+piece_with front [] = front ∷ []
+piece_with front (piece ∷ more) = (front ++ piece) ∷ more
 
 -- the number whose first so many digits have this value, and whose others are the first of these pieces
 abbrev pub number_with : (value digits : ℕ) → List ℕ → List (List ℕ) → Read ℕ

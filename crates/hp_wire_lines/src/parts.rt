@@ -16,31 +16,8 @@ use hp_model::step::{Intent, Reserving, Sharing};
 pub fn word<'a>(words: &mut Words<'a>) -> Result<Lent<'a>, Refusal>
     ensures { Takes (λ x. x) result words.new (word_at words.old) }
 {
-    let piece = words.piece()?;
-    word_of(piece)
-}
-
-// A piece of one or more printed characters.
-fn word_of(piece: &[u8]) -> Result<Lent<'_>, Refusal>
-    ensures { Gives (λ x. x) result (word_of piece.now) }
-{
-    if is_word(piece) {
-        Ok(Lent::new(piece))
-    } else {
-        Err(Refusal::BadLine)
-    }
-}
-
-fn is_word(piece: &[u8]) -> bool
-    ensures { result ≡ is_word piece.now }
-{
-    !piece.is_empty() && is_printed(piece)
-}
-
-fn is_printed(bytes: &[u8]) -> bool
-    ensures { result ≡ list_all is_word_byte bytes.now }
-{
-    bytes.iter().all(|b| *b >= 33 && *b <= 126)
+    let word = words.word()?;
+    Ok(Lent::new(word))
 }
 
 /// Takes `shared` or `private`.

@@ -32,7 +32,7 @@ pub fn kind_of_line<'a>(line: &'a [u8]) -> Result<LineKind<'a>, Refusal>
     ensures { IsKind result line.now }
 {
     let mut words = Words::new(line);
-    let word = words.piece()?;
+    let word = words.short_piece()?;
     if is_known(word, b"load") {
         Ok(LineKind::Load(words))
     } else if is_known(word, b"store") {

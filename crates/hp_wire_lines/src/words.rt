@@ -1,8 +1,9 @@
 //! The pieces of a line.
-ghost use Rattle.std.specs.Prelude.{◌≡◌, ◌+◌, ◌-◌, ◌<◌, ◌≤◌, length, slice_index};
+ghost use Rattle.std.specs.Prelude.{◌≡◌, ◌+◌, ◌-◌, ◌<◌, ◌≤◌, length, slice_index, true, false, IfSome, Ok};
 ghost use Rattle.std.specs.Int.{IsInRange};
-ghost use Rattle.hp_model.specs.text.Words.{number_at, number_of, pieces_of_line};
-ghost use Rattle.hp_wire_lines.specs.Words.{number_after, pieces_from};
+ghost use Rattle.std.specs.List.{list_all};
+ghost use Rattle.hp_model.specs.text.Words.{is_word_byte, number_at, number_of, piece_at, pieces_of_line};
+ghost use Rattle.hp_wire_lines.specs.Words.{between, number_after, piece_with, pieces_from};
 
 use hp_model::refusal::Refusal;
 use hp_text::numbers;
@@ -30,7 +31,7 @@ impl<'a> Model for Words<'a> {
 }
 
 impl<'a> Words<'a> {
-    ghost use Rattle.hp_model.specs.text.Words.{pieces_of_line, piece_at, number_at, end_at};
+    ghost use Rattle.hp_model.specs.text.Words.{pieces_of_line, piece_at, number_at, word_at, end_at};
     ghost use Rattle.hp_wire_lines.specs.Words.{Takes};
     ghost use Rattle.std.specs.Prelude.{◌≡◌, ◌≤◌, [], length, IfOk, MatchResult};
 
@@ -56,6 +57,39 @@ impl<'a> Words<'a> {
         let (piece, _) = first_piece(b' ', &line[from..]);
         self.at = from + piece.len() + 1;
         Ok(piece)
+    }
+
+    /// Takes the next piece, which is likely short: the first bytes are looked at with no walk.
+    #[inline(always)]
+    pub fn short_piece(&mut self) -> Result<&'a [u8], Refusal>
+        ensures value { Takes (λ x. x.now) result self.new (piece_at self.old) }
+        ensures short { IfOk result (λ x. length x.now ≤ 1024) }
+    {
+        let line = self.line;
+        let from = self.at;
+        let Some(end) = near_end(line, from) else {
+            return self.piece();
+        };
+        self.at = end + 1;
+        Ok(&line[from..end])
+    }
+
+    /// Takes the next piece, as a name or options.
+    #[inline(always)]
+    pub fn word(&mut self) -> Result<&'a [u8], Refusal>
+        ensures { Takes (λ x. x.now) result self.new (word_at self.old) }
+    {
+        let line = self.line;
+        let from = self.at;
+        if from >= line.len() || !is_word_byte(line[from]) {
+            return Err(Refusal::BadLine);
+        }
+        let end = end_of_word(line, from);
+        if end < line.len() && line[end] != b' ' {
+            return Err(Refusal::BadLine);
+        }
+        self.at = end + 1;
+        Ok(&line[from..end])
     }
 
     /// Takes the next piece, as a number.
@@ -116,6 +150,57 @@ impl<'a> Words<'a> {
             Err(Refusal::BadLine)
         }
     }
+}
+
+// Most first words of a line, each with the space behind it, have no more bytes.
+const SHORT: usize = 8;
+
+// Where the piece from a place on ends, if a space ends it that is near.
+#[inline(always)]
+fn near_end(line: &[u8], from: usize) -> Option<usize>
+    requires { (length line.now ≤ 1024) × (from ≤ 1025) }
+    ensures { IfSome result (λ end. (from ≤ end) × (end < length line.now)
+        × (piece_at (pieces_from from line.now)
+            ≡ Ok (between from end line.now, pieces_from (end + 1) line.now))) }
+{
+    if line.len() < from + SHORT {
+        return None;
+    }
+    'near: for i in 0..SHORT {
+        if line[from + i] == b' ' {
+            return Some(from + i);
+        }
+    }
+    None
+}
+
+// Where the printed characters from a place on end. One stands there.
+#[inline(always)]
+fn end_of_word(line: &[u8], from: usize) -> usize
+    requires line { length line.now ≤ 1024 }
+    requires from { from < length line.now }
+    requires printed { is_word_byte (slice_index line.now from) ≡ true }
+    ensures behind { from < result }
+    ensures within { result ≤ length line.now }
+    ensures printed { list_all is_word_byte (between from result line.now) ≡ true }
+    ensures front { pieces_from from line.now
+        ≡ piece_with (between from result line.now) (pieces_from result line.now) }
+    ensures stops { result < length line.now
+        → is_word_byte (slice_index line.now result) ≡ false }
+{
+    let mut end = from + 1;
+    while end < line.len() && is_word_byte(line[end]) {
+        end += 1;
+    }
+    end
+}
+
+// A printed character.
+#[inline(always)]
+fn is_word_byte(b: u8) -> bool
+    ensures { result ≡ is_word_byte b }
+{
+    b >= 33 && b <= 126
 }
 
 // Numbers of so many digits are below 2^64.

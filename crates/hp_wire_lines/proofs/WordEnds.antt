@@ -1,0 +1,136 @@
+-- Pieces whose first bytes were looked at.
+use Rattle.std.proofs.Common.{◌≡◌, ℕ, List, [], ◌∷◌, ◌++◌, ◌+◌, ◌-◌, ◌<◌, ◌≤◌, length, refl, sym, ◌∙◌, ap, arith, Bool, true, false, ◌&&◌, ◌==◌, nat_lt, if◌then◌else◌, Ok, Err, take, drop, get_or, append-nil, append_assoc, length-drop, drop_of_length-le}
+use Rattle.std.proofs.lemmas.Bool.Decides.{nat_tests}
+use Rattle.std.proofs.lemmas.List.{drop_more, get_or-drop, take_more}
+use Rattle.std.proofs.lemmas.List.Folds.{list_all-append}
+use Rattle.std.proofs.lemmas.List.Splits.{slice_split-cons_no, slice_split-cons_yes}
+use Rattle.std.specs.List.{list_all, onto_first}
+use Rattle.hp_model.specs.text.Words.{is_word, is_word_byte, piece_at, pieces_of_line, word_at, word_of, ◌>>=◌}
+use Rattle.hp_model.specs.declared.refusal.Refusal.TheVariants.{BadLine}
+use Rattle.hp_wire_lines.proofs.Fronts.{past, within}
+use Rattle.hp_wire_lines.proofs.Pieces.{first_piece}
+use Rattle.hp_wire_lines.specs.Words.{between, piece_with, pieces_from}
+
+-- one byte more
+pub between_more : (line : List ℕ) (from at : ℕ) → from ≤ at → at < length line → between from (at + 1) line ≡ between from at line ++ get_or line at 0 ∷ []
+between_more line from at h short =
+    let n : ℕ = at - from in
+    let next : at + 1 - from ≡ n + 1 = omega arith in
+    let here : from + n ≡ at = omega arith in
+    ap (λ k. take k (drop from line)) next ∙ take_more (drop from line) n 0 (omega (arith, length-drop from line))
+    ∙ ap (λ b. take n (drop from line) ++ b ∷ []) (get_or-drop from line n 0 ∙ ap (λ i. get_or line i 0) here)
+
+with_more : (front : List ℕ) (c : ℕ) (ps : List (List ℕ)) → piece_with front (onto_first c ps) ≡ piece_with (front ++ c ∷ []) ps
+with_more front c [] = refl
+with_more front c (p ∷ more) = ap (λ x. x ∷ more) (sym (append_assoc front (c ∷ []) p))
+
+-- a byte that is no space stands before the first of the pieces after it
+onto : (line : List ℕ) (at : ℕ) → at < length line → (get_or line at 0 == 32) ≡ false → pieces_from at line ≡ onto_first (get_or line at 0) (pieces_from (at + 1) line)
+onto line at short other =
+    within at line (omega arith) ∙ ap pieces_of_line (drop_more line at 0 short)
+    ∙ slice_split-cons_no (λ b. b == 32) (get_or line at 0) (drop (at + 1) line) other
+    ∙ ap (onto_first (get_or line at 0)) (sym (within (at + 1) line (omega arith)))
+
+pub front_none : (line : List ℕ) (from : ℕ) → from ≤ length line → pieces_from from line ≡ piece_with (between from from line) (pieces_from from line)
+front_none line from h =
+    let f = first_piece (λ b. b == 32) (drop from line) in
+    let is : pieces_from from line ≡ f.0 ∷ f.1 = within from line h ∙ f.2 in
+    let none : from - from ≡ 0 = omega arith in
+    is ∙ sym (ap (piece_with (between from from line)) is ∙ ap (λ k. (take k (drop from line) ++ f.0) ∷ f.1) none)
+
+pub front_more : (line : List ℕ) (from at : ℕ) → from ≤ at → at < length line → (get_or line at 0 == 32) ≡ false
+    → pieces_from from line ≡ piece_with (between from at line) (pieces_from at line) → pieces_from from line ≡ piece_with (between from (at + 1) line) (pieces_from (at + 1) line)
+front_more line from at h short other so =
+    so ∙ ap (piece_with (between from at line)) (onto line at short other) ∙ with_more (between from at line) (get_or line at 0) (pieces_from (at + 1) line)
+    ∙ ap (λ f. piece_with f (pieces_from (at + 1) line)) (sym (between_more line from at h short))
+
+pub ends_at_end : (line : List ℕ) (at : ℕ) → at ≡ length line → pieces_from at line ≡ [] ∷ pieces_from (at + 1) line
+ends_at_end line at is =
+    within at line (omega arith) ∙ ap pieces_of_line (drop_of_length-le line (omega arith)) ∙ ap (λ more. [] ∷ more) (sym (past (at + 1) line (omega arith)))
+
+pub ends_at_space : (line : List ℕ) (at : ℕ) → at < length line → get_or line at 0 ≡ 32 → pieces_from at line ≡ [] ∷ pieces_from (at + 1) line
+ends_at_space line at short space =
+    let yes : (get_or line at 0 == 32) ≡ true = grind (arith, nat_tests, space) in
+    within at line (omega arith) ∙ ap pieces_of_line (drop_more line at 0 short) ∙ slice_split-cons_yes (λ b. b == 32) (get_or line at 0) (drop (at + 1) line) yes
+    ∙ ap (λ more. [] ∷ more) (sym (within (at + 1) line (omega arith)))
+
+-- a piece that ends
+pub ended_piece : (front : List ℕ) (pieces left more : List (List ℕ)) → pieces ≡ piece_with front left → left ≡ [] ∷ more → piece_at pieces ≡ Ok (front, more)
+unfolding piece_at
+ended_piece front pieces left more so end =
+    ap piece_at (so ∙ ap (piece_with front) end) ∙ ap (λ f. Ok (f, more)) (append-nil front)
+
+-- ---- words
+
+not_space : (c : ℕ) → is_word_byte c ≡ true → (c == 32) ≡ false
+not_space c printed = grind (arith, nat_tests, printed)
+
+printed_by : (front : List ℕ) (c : ℕ) → list_all is_word_byte front ≡ true → is_word_byte c ≡ true → list_all is_word_byte (front ++ c ∷ []) ≡ true
+printed_by front c h printed =
+    list_all-append is_word_byte front (c ∷ []) ∙ ap (λ b. b && list_all is_word_byte (c ∷ [])) h ∙ ap (λ b. b && true) printed
+
+-- one printed character more
+pub word_more : (line : List ℕ) (from at : ℕ) → from ≤ at → at < length line → is_word_byte (get_or line at 0) ≡ true
+    → list_all is_word_byte (between from at line) ≡ true → pieces_from from line ≡ piece_with (between from at line) (pieces_from at line)
+    → (list_all is_word_byte (between from (at + 1) line) ≡ true) × (pieces_from from line ≡ piece_with (between from (at + 1) line) (pieces_from (at + 1) line))
+word_more line from at h short printed all so =
+    (ap (list_all is_word_byte) (between_more line from at h short) ∙ printed_by (between from at line) (get_or line at 0) all printed,
+    front_more line from at h short (not_space (get_or line at 0) printed) so)
+
+pub word_start : (line : List ℕ) (from : ℕ) → from < length line → is_word_byte (get_or line from 0) ≡ true
+    → (list_all is_word_byte (between from (from + 1) line) ≡ true) × (pieces_from from line ≡ piece_with (between from (from + 1) line) (pieces_from (from + 1) line))
+word_start line from short printed =
+    let none : from - from ≡ 0 = omega arith in
+    word_more line from from (omega arith) short printed (ap (λ k. list_all is_word_byte (take k (drop from line))) none) (front_none line from (omega arith))
+
+pub word_ends : (front : List ℕ) (pieces left more : List (List ℕ)) → pieces ≡ piece_with front left → left ≡ [] ∷ more → 0 < length front → list_all is_word_byte front ≡ true
+    → word_at pieces ≡ Ok (front, more)
+unfolding word_at
+word_ends front pieces left more so end some printed =
+    let long : nat_lt 0 (length front) ≡ true = grind (arith, nat_tests, some) in
+    ap (λ x. x >>= (λ piece. word_of piece.0 >>= (λ word. Ok (word, piece.1)))) (ended_piece front pieces left more so end)
+    ∙ ap (λ t. (if t && list_all is_word_byte front then Ok front else Err BadLine) >>= (λ word. Ok (word, more))) long
+    ∙ ap (λ t. (if t then Ok front else Err BadLine) >>= (λ word. Ok (word, more))) printed
+
+no_word : (piece : List ℕ) (pieces more : List (List ℕ)) → pieces ≡ piece ∷ more → is_word piece ≡ false → word_at pieces ≡ Err BadLine
+unfolding word_at piece_at
+no_word piece pieces more is bad =
+    ap word_at is ∙ ap (λ t. (if t then Ok piece else Err BadLine) >>= (λ word. Ok (word, more))) bad
+
+and_no : (a b : Bool) → b ≡ false → (a && b) ≡ false
+and_no true b h = h
+and_no false b h = refl
+
+-- a byte that is no space and not printed
+pub word_bad : (line : List ℕ) (from at : ℕ) → at < length line → (get_or line at 0 == 32) ≡ false → is_word_byte (get_or line at 0) ≡ false
+    → pieces_from from line ≡ piece_with (between from at line) (pieces_from at line) → word_at (pieces_from from line) ≡ Err BadLine
+word_bad line from at short other bad so =
+    let c = get_or line at 0 in
+    let front = between from at line in
+    let f = first_piece (λ b. b == 32) (drop (at + 1) line) in
+    let left : pieces_from at line ≡ (c ∷ f.0) ∷ f.1 = onto line at short other ∙ ap (onto_first c) (within (at + 1) line (omega arith) ∙ f.2) in
+    let all : list_all is_word_byte (front ++ c ∷ f.0) ≡ false =
+        list_all-append is_word_byte front (c ∷ f.0) ∙ and_no (list_all is_word_byte front) _ (ap (λ b. b && list_all is_word_byte f.0) bad) in
+    no_word (front ++ c ∷ f.0) (pieces_from from line) f.1 (so ∙ ap (piece_with front) left) (and_no (nat_lt 0 (length (front ++ c ∷ f.0))) _ all)
+
+no_piece_word : word_at [] ≡ Err BadLine
+unfolding word_at piece_at
+no_piece_word = refl
+
+none_by : (line : List ℕ) (from : ℕ) (past_end : Bool) → nat_lt (length line) from ≡ past_end → length line ≤ from → word_at (pieces_from from line) ≡ Err BadLine
+none_by line from true t h = let beyond : length line < from = grind (arith, nat_tests) in ap word_at (past from line beyond) ∙ no_piece_word
+none_by line from false t h = let is : from ≡ length line = grind (arith, nat_tests) in no_word [] (pieces_from from line) (pieces_from (from + 1) line) (ends_at_end line from is) refl
+
+-- nothing is left
+pub word_none : (line : List ℕ) (from : ℕ) → length line ≤ from → word_at (pieces_from from line) ≡ Err BadLine
+word_none line from h = none_by line from (nat_lt (length line) from) refl h
+
+start_by : (line : List ℕ) (from : ℕ) (space : Bool) → (get_or line from 0 == 32) ≡ space → from < length line → is_word_byte (get_or line from 0) ≡ false
+    → word_at (pieces_from from line) ≡ Err BadLine
+start_by line from true t short bad =
+    let space : get_or line from 0 ≡ 32 = grind (arith, nat_tests) in
+    no_word [] (pieces_from from line) (pieces_from (from + 1) line) (ends_at_space line from short space) refl
+start_by line from false t short bad = word_bad line from from short t bad (front_none line from (omega arith))
+
+pub word_not_here : (line : List ℕ) (from : ℕ) → from < length line → is_word_byte (get_or line from 0) ≡ false → word_at (pieces_from from line) ≡ Err BadLine
+word_not_here line from short bad = start_by line from (get_or line from 0 == 32) refl short bad
