@@ -104,8 +104,9 @@ impl<'a> Words<'a> {
         }
         // Most numbers have one digit.
         if from + 1 < line.len() && line[from + 1] == b' ' {
+            let digit = u64::from(line[from] - b'0');
             self.at = from + 2;
-            return Ok(u64::from(line[from] - b'0'));
+            return Ok(digit);
         }
         let (value, at) = front_number(line, from);
         if at < line.len() && line[at] != b' ' {

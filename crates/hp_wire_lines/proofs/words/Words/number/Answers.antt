@@ -9,4 +9,4 @@ returns-then-line-from-eq32 c =
     let line = c.self.inside.line.now in
     let at = c.self.inside.at in
     let digit : IsInRange 48 57 (get_or line at 0) = c.if-not-is_ascii_digit.ensures.cases in
-    ap number_at (sym c.self.view_is) ∙ taken_digit line at c.from.result (omega arith) digit c.from.ensures c.if-line-from-eq32.true
+    ap number_at (sym c.self.view_is) ∙ taken_digit line at c.from-digit.result (omega arith) digit c.from-digit.ensures c.if-line-from-eq32.true
