@@ -26,11 +26,11 @@ mod table;
 #[derive(Drop)]
 pub struct Inode {
     len: u64,
+    table: PageTable,
     // how many indices are entered, and how many of these have a page
     count: u64,
     pages: u64,
     entries: Entries,
-    table: PageTable,
 }
 
 impl Model for Inode {

@@ -18,8 +18,6 @@ use std::marker::Model;
 /// Its tag is its maker's own, to find it by among others. No contract speaks of it.
 #[derive(Drop)]
 pub struct Mapping {
-    alloc: Global,
-    tag: u64,
     task: u64,
     number: u64,
     start: u64,
@@ -27,6 +25,8 @@ pub struct Mapping {
     places: Places,
     // how many reservations an owner has not consumed
     reserves: u64,
+    tag: u64,
+    alloc: Global,
 }
 
 impl Model for Mapping {
