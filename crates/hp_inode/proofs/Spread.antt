@@ -1,14 +1,14 @@
 -- Marks of a range, set or cleared a word at a time, and how many of a range are set.
-use Rattle.std.proofs.Common.{◌≡◌, ℕ, ◌+◌, ◌-◌, ◌*◌, ◌/◌, ◌%◌, ◌^◌, ◌<◌, ◌≤◌, min, Bool, true, false, not, ◌&&◌, ◌||◌, eqb, List, length, get_or, set, take, sym, ap, ◌∙◌, arith, ◌⊎◌, inl, inr, ⊎_elim, Option, None, Some, bit_and, bit_or, count_ones}
+use Rattle.std.proofs.Common.{◌≡◌, ℕ, ◌+◌, ◌-◌, ◌*◌, ◌/◌, ◌%◌, ◌^◌, ◌<◌, ◌≤◌, min, Bool, true, false, not, ◌&&◌, ◌||◌, eqb, List, length, get_or, set, take, sym, refl, ap, ◌∙◌, arith, ◌⊎◌, inl, inr, ⊎_elim, Option, None, Some, bit_and, bit_or, count_ones}
 use Rattle.std.specs.Int.{bit_at, bit_not, w64}
 use Rattle.std.specs.List.{range_with_len, count_by}
-use Rattle.std.proofs.Math.Bool.{or-false, and-true, and-false}
+use Rattle.std.proofs.Math.Bool.{or-false, or-true, and-true, and-false}
 use Rattle.std.proofs.lemmas.Bool.{cases_lt, cases_eq, and_parts, or_cases, or_parts, or_from, true≢false, false_from_ne_true}
 use Rattle.std.proofs.lemmas.List.{get_or-set_same, get_or-set_other, get_or-take, length-take, length-set}
 use Rattle.std.proofs.lemmas.List.FromFn.{length-range_with_len}
 use Rattle.std.proofs.lemmas.List.Sums.{count_by-le-length}
 use Rattle.std.proofs.lemmas.Nat.{and_le_r}
-use Rattle.std.proofs.lemmas.Nat.Bits.{bit_at-zero}
+use Rattle.std.proofs.lemmas.Nat.Bits.{bit_at-zero, bit_at_ones}
 use Rattle.hp_model.proofs.Counting.{count_split, count_outside, count_within, alike_in}
 use Rattle.hp_model.proofs.Ranges.{within-in, within-true, within-below, within-past}
 use Rattle.hp_model.specs.files.Ranges.{within}
@@ -42,14 +42,25 @@ module _ (words old : List ℕ) (a b at bits : ℕ) (lt : at < length words) (sm
       (λ (other : k / 64 ≡ at → ⊥). marked_elsewhere words at _ lt k other ∙ done k (omega (arith, below, other)))
       (cases_eq (k / 64) at)
 
-  pub set_rest : ((k : ℕ) → 64 * at ≤ k → marked words k ≡ marked old k) → (word k : ℕ) → 64 * (at + 1) ≤ k → marked (set words at word) k ≡ marked old k
-  set_rest rest word k from = marked_elsewhere words at word lt k (λ here. omega (arith, here, from)) ∙ rest k (omega (arith, from))
+pub set_rest : (words old : List ℕ) (at word : ℕ) → at < length words → ((k : ℕ) → 64 * at ≤ k → marked words k ≡ marked old k) → (k : ℕ) → 64 * (at + 1) ≤ k → marked (set words at word) k ≡ marked old k
+set_rest words old at word lt rest k from = marked_elsewhere words at word lt k (λ here. omega (arith, here, from)) ∙ rest k (omega (arith, from))
+
+-- a word whose indices are all in the range
+pub set_full : (words old : List ℕ) (a b at word : ℕ) → at < length words → word ≡ 2 ^ 64 - 1 → a ≤ 64 * at → 64 * (at + 1) ≤ b → ((k : ℕ) → k < 64 * at → marked words k ≡ (marked old k || within a b k)) → (k : ℕ) → k < 64 * (at + 1) → marked (set words at word) k ≡ (marked old k || within a b k)
+set_full words old a b at word lt full low high done k below = ⊎_elim
+    (λ (here : k / 64 ≡ at).
+    marked_in_word words at word lt k here ∙ ap (λ n. eqb (bit_at n (k % 64)) 1) full ∙ ap (λ x. eqb x 1) (bit_at_ones 64 (k % 64) (omega arith))
+    ∙ sym (ap (λ t. marked old k || t) (within-true a b k (omega (arith, here, low)) (omega (arith, here, high))) ∙ or-true (marked old k)))
+    (λ (other : k / 64 ≡ at → ⊥). marked_elsewhere words at word lt k other ∙ done k (omega (arith, below, other)))
+    (cases_eq (k / 64) at)
+
+-- before the first word of the range there is nothing to mark
+pub set_first : (old : List ℕ) (a b bits : ℕ) → a / 64 < length old → bits < 2 ^ 64 → ((i : ℕ) → i < 64 → eqb (bit_at bits i) 1 ≡ within a b (64 * (a / 64) + i)) → (k : ℕ) → k < 64 * (a / 64 + 1) → marked (set old (a / 64) (bit_or (get_or old (a / 64) 0) bits)) k ≡ (marked old k || within a b k)
+set_first old a b bits lt small of_range =
+    set_done old old a b (a / 64) bits lt small of_range (λ k below. sym (ap (λ t. marked old k || t) (within-below a b k (omega (arith, below))) ∙ or-false (marked old k))) (λ k from. refl)
 
 module _ (words old : List ℕ) (a b : ℕ) where
-  -- before the first word of the range there is nothing to mark, and after the last one
-  pub set_begun : (k : ℕ) → k < 64 * (a / 64) → marked old k ≡ (marked old k || within a b k)
-  set_begun k below = sym (ap (λ t. marked old k || t) (within-below a b k (omega (arith, below))) ∙ or-false (marked old k))
-
+  -- after the last word of the range there is nothing to mark
   pub set_all : (at : ℕ) → b ≤ 64 * at → ((k : ℕ) → k < 64 * at → marked words k ≡ (marked old k || within a b k)) → ((k : ℕ) → 64 * at ≤ k → marked words k ≡ marked old k) → (k : ℕ) → marked words k ≡ (marked old k || within a b k)
   set_all at end done rest k = ⊎_elim
       (λ (below : k < 64 * at). done k below)

@@ -76,9 +76,18 @@ pub fn set_marks(words: &mut [u64], a: usize, b: usize)
     requires { b ≤ 64 * length words.old }
     ensures { (k : ℕ) → marked words.new k ≡ (marked words.old k || within a b k) }
 {
-    for at in a / WORD..b.div_ceil(WORD) {
-        words[at] |= bits_within(at, a, b);
+    if a >= b {
+        return;
     }
+    let (first, last) = (a / WORD, (b - 1) / WORD);
+    words[first] |= bits_within(first, a, b);
+    if first == last {
+        return;
+    }
+    for at in first + 1..last {
+        words[at] = u64::MAX;
+    }
+    words[last] |= bits_within(last, a, b);
 }
 
 /// Clears the marks from `a` up to `b`.

@@ -95,11 +95,27 @@ impl PageTable {
         ensures below { (k : ℕ) → k / 64 < a / 64 → has_slot self.new k ≡ has_slot self.old k }
     {
         if a < b {
-            for at in a / CHUNK..(b - 1) / CHUNK + 1 {
-                self.make_chunk(at as usize)?;
+            let (from, end) = ((a / CHUNK) as usize, ((b - 1) / CHUNK + 1) as usize);
+            for at in self.made_to(from, end)..end {
+                self.make_chunk(at)?;
             }
         }
         Ok(())
+    }
+
+    // Passes the chunks from `from` up to `end` that have their slots, and answers where they end.
+    fn made_to(&self, from: usize, end: usize) -> usize
+        requires { from ≤ end }
+        ensures from { from ≤ result }
+        ensures to { result ≤ end }
+        ensures made { (k : ℕ) → from ≤ k / 64 → k / 64 < result → has_slot self.now k ≡ true }
+    {
+        let chunks = self.chunks.as_slice();
+        let mut at = from;
+        while at < end.min(chunks.len()) && !chunks[at].is_empty() {
+            at += 1;
+        }
+        at
     }
 
     // Makes the slots of one chunk.

@@ -12,7 +12,7 @@ loop-at-preserved c =
     let small : c.bits_within.result < 2 ^ 64 = omega arith in
     record {
       done = clear_done words c.args.words.now c.args.a c.args.b c.loop-at.at c.bits_within.result (omega arith) small c.bits_within.ensures c.loop-at.invariant.done c.loop-at.invariant.rest;
-      rest = set_rest words c.args.words.now c.args.a c.args.b c.loop-at.at c.bits_within.result (omega arith) small c.bits_within.ensures c.loop-at.invariant.rest _;
+      rest = set_rest words c.args.words.now c.loop-at.at _ (omega arith) c.loop-at.invariant.rest;
     }
 
 pub returns : goal.returns
