@@ -73,9 +73,10 @@ printed_by front c h printed =
 pub word_more : (line : List ℕ) (from at : ℕ) → from ≤ at → at < length line → is_word_byte (get_or line at 0) ≡ true
     → list_all is_word_byte (between from at line) ≡ true → pieces_from from line ≡ piece_with (between from at line) (pieces_from at line)
     → (list_all is_word_byte (between from (at + 1) line) ≡ true) × (pieces_from from line ≡ piece_with (between from (at + 1) line) (pieces_from (at + 1) line))
-word_more line from at h short printed all so =
-    (ap (list_all is_word_byte) (between_more line from at h short) ∙ printed_by (between from at line) (get_or line at 0) all printed,
-    front_more line from at h short (not_space (get_or line at 0) printed) so)
+word_more line from at h short printed all so = (
+  ap (list_all is_word_byte) (between_more line from at h short) ∙ printed_by (between from at line) (get_or line at 0) all printed,
+  front_more line from at h short (not_space (get_or line at 0) printed) so,
+)
 
 pub word_start : (line : List ℕ) (from : ℕ) → from < length line → is_word_byte (get_or line from 0) ≡ true
     → (list_all is_word_byte (between from (from + 1) line) ≡ true) × (pieces_from from line ≡ piece_with (between from (from + 1) line) (pieces_from (from + 1) line))
@@ -110,7 +111,7 @@ word_bad line from at short other bad so =
     let f = first_piece (λ b. b == 32) (drop (at + 1) line) in
     let left : pieces_from at line ≡ (c ∷ f.0) ∷ f.1 = onto line at short other ∙ ap (onto_first c) (within (at + 1) line (omega arith) ∙ f.2) in
     let all : list_all is_word_byte (front ++ c ∷ f.0) ≡ false =
-        list_all-append is_word_byte front (c ∷ f.0) ∙ and_no (list_all is_word_byte front) _ (ap (λ b. b && list_all is_word_byte f.0) bad) in
+    list_all-append is_word_byte front (c ∷ f.0) ∙ and_no (list_all is_word_byte front) _ (ap (λ b. b && list_all is_word_byte f.0) bad) in
     no_word (front ++ c ∷ f.0) (pieces_from from line) f.1 (so ∙ ap (piece_with front) left) (and_no (nat_lt 0 (length (front ++ c ∷ f.0))) _ all)
 
 no_piece_word : word_at [] ≡ Err BadLine

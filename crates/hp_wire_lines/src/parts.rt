@@ -22,6 +22,7 @@ pub fn word<'a>(words: &mut Words<'a>) -> Result<Lent<'a>, Refusal>
 
 /// Takes `shared` or `private`.
 #[tactic(auto, unfolding(hp_model::specs::text::Words::sharing_at))]
+#[inline(always)]
 pub fn sharing(words: &mut Words<'_>) -> Result<Sharing, Refusal>
     ensures { Takes (λ x. x) result words.new (sharing_at words.old) }
 {
@@ -37,6 +38,7 @@ pub fn sharing(words: &mut Words<'_>) -> Result<Sharing, Refusal>
 
 /// Takes `read` or `write`.
 #[tactic(auto, unfolding(hp_model::specs::text::Words::intent_at))]
+#[inline(always)]
 pub fn intent(words: &mut Words<'_>) -> Result<Intent, Refusal>
     ensures { Takes (λ x. x) result words.new (intent_at words.old) }
 {
@@ -51,6 +53,7 @@ pub fn intent(words: &mut Words<'_>) -> Result<Intent, Refusal>
 }
 
 /// Nothing, or `noreserve` as the last word.
+#[inline(always)]
 pub fn reserving(words: &mut Words<'_>) -> Result<Reserving, Refusal>
     ensures { result ≡ reserving_at words.old }
 {
@@ -66,6 +69,7 @@ pub fn reserving(words: &mut Words<'_>) -> Result<Reserving, Refusal>
 }
 
 /// The bytes of hex digits that are the last word, in the front of the room. At least two digits.
+#[inline(always)]
 pub fn last_hex<'a>(words: &Words<'_>, room: &'a mut [u8]) -> Result<&'a [u8], Refusal>
     requires { length room.old ≡ 512 }
     ensures { Gives (λ x. x.now) result (last_hex words.now) }

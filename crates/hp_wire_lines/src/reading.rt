@@ -62,6 +62,8 @@ pub fn step_of_word<'a>(word: &[u8], words: &mut Words<'a>) -> Result<Step<'a>, 
     requires { is_access word.now ≡ false }
     ensures { result ≡ step_of_command word.now words.old }
 {
+    // A copy need not stand in memory.
+    let words = &mut words.copied();
     match command_of(word) {
         Some(Command::Connect) => connect(words),
         Some(Command::Attach) => attach(words),

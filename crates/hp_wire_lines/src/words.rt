@@ -100,7 +100,7 @@ impl<'a> Words<'a> {
         let line = self.line;
         let from = self.at;
         if from >= line.len() || !line[from].is_ascii_digit() {
-            return self.any_number();
+            return self.far_number();
         }
         // Most numbers have one digit.
         if from + 1 < line.len() && line[from + 1] == b' ' {
@@ -110,10 +110,32 @@ impl<'a> Words<'a> {
         }
         let (value, at) = front_number(line, from);
         if at < line.len() && line[at] != b' ' {
-            return self.any_number();
+            return self.far_number();
         }
         self.at = at + 1;
         Ok(value)
+    }
+
+    // As `any_number`, by a copy: the place need not stand in memory for the numbers that are read with no call.
+    #[inline(always)]
+    fn far_number(&mut self) -> Result<u64, Refusal>
+        ensures { Takes (λ n. n) result self.new (number_at self.old) }
+    {
+        let mut words = self.copied();
+        let number = words.any_number()?;
+        *self = words;
+        Ok(number)
+    }
+
+    /// The same pieces.
+    #[inline(always)]
+    pub fn copied(&self) -> Words<'a>
+        ensures { result ≡ self.now }
+    {
+        Words {
+            line: self.line,
+            at: self.at,
+        }
     }
 
     // A number of 20 digits, or what is no number.
@@ -162,7 +184,7 @@ fn near_end(line: &[u8], from: usize) -> Option<usize>
     requires { (length line.now ≤ 1024) × (from ≤ 1025) }
     ensures { IfSome result (λ end. (from ≤ end) × (end < length line.now)
         × (piece_at (pieces_from from line.now)
-            ≡ Ok (between from end line.now, pieces_from (end + 1) line.now))) }
+        ≡ Ok (between from end line.now, pieces_from (end + 1) line.now))) }
 {
     if line.len() < from + SHORT {
         return None;

@@ -201,6 +201,7 @@ fn push_counts(page: u64, counts: Counts, out: &mut Vec<u8>)
 }
 
 /// Adds the line of a refusal. It takes no memory.
+#[inline(always)]
 pub fn line_of_refusal(refusal: Refusal, out: &mut Vec<u8>)
     requires { HasRoom out.old 64 }
     ensures { Adds out.old out.new (line_of 0 (Err refusal)) }

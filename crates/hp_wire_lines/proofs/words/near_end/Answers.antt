@@ -1,4 +1,4 @@
-use Rattle.std.proofs.Common.{◌≡◌, ◌==◌, ◌+◌, false, get_or, arith, sym, ap, ◌∙◌}
+use Rattle.std.proofs.Common.{◌≡◌, ◌==◌, ◌+◌, false, get_or, arith, ap, ◌∙◌}
 use Rattle.std.proofs.lemmas.Bool.Decides.{nat_tests}
 use Rattle.hp_wire_lines.proofs.WordEnds.{ended_piece, ends_at_space, front_more, front_none}
 use Rattle.hp_wire_lines.specs.Words.{between, piece_with, pieces_from}
