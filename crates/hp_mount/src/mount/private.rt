@@ -124,6 +124,7 @@ impl<N: Naming> Mount<N> {
     }
 
     // Sees to it that a map without a copy at an index shows a page there, or has a copy to write into.
+    #[inline(never)]
     fn reach_bare<D: PoolDoor<Share = Subpool<N>, Page = Page<N>>>(
         &mut self,
         door: &mut D,
@@ -164,6 +165,7 @@ impl<N: Naming> Mount<N> {
 
     // A page of its own for a map that writes into a copy that several hold, by a grant of one. Where that is refused for
     // want of a page, an owner takes the copy from all others.
+    #[inline(never)]
     fn reach_own<D: PoolDoor<Share = Subpool<N>, Page = Page<N>>>(
         &mut self,
         door: &mut D,
@@ -219,6 +221,7 @@ impl<N: Naming> Mount<N> {
     }
 
     // Sees to it that a private map shows a page at an index, or has a copy of its own to write into.
+    #[inline(always)]
     pub(super) fn reach_private<D: PoolDoor<Share = Subpool<N>, Page = Page<N>>>(
         &mut self,
         door: &mut D,

@@ -46,6 +46,7 @@ pub enum Asked {
 
 impl<N: Naming> Mount<N> {
     // The page of an entered index, by the reservation that its entry holds.
+    #[inline(never)]
     fn fill_entry<D: PoolDoor<Share = Subpool<N>, Page = Page<N>>>(
         &mut self,
         door: &mut D,
@@ -72,6 +73,7 @@ impl<N: Naming> Mount<N> {
     }
 
     // The page of an index without an entry, by a grant of one.
+    #[inline(never)]
     fn fill_hole<D: PoolDoor<Share = Subpool<N>, Page = Page<N>>>(
         &mut self,
         door: &mut D,
@@ -112,6 +114,7 @@ impl<N: Naming> Mount<N> {
     }
 
     // Sees to it that the index of a shared map has a page: by its entry, else by a grant of one.
+    #[inline(always)]
     fn reach_shared<D: PoolDoor<Share = Subpool<N>, Page = Page<N>>>(
         &mut self,
         door: &mut D,
@@ -139,6 +142,7 @@ impl<N: Naming> Mount<N> {
     }
 
     // Sees to it that the map shows a page at an index, or for a write that it has one to write into.
+    #[inline(always)]
     fn reach<D: PoolDoor<Share = Subpool<N>, Page = Page<N>>>(
         &mut self,
         door: &mut D,
@@ -173,6 +177,7 @@ impl<N: Naming> Mount<N> {
     }
 
     // What a load or a store of so many bytes is refused before its access, if anything.
+    #[inline(always)]
     fn refused_bytes(
         &self,
         page_bytes: u64,
@@ -226,6 +231,7 @@ impl<N: Naming> Mount<N> {
     }
 
     // What an access is refused before it begins, if anything.
+    #[inline(always)]
     fn refused(&self, page_bytes: u64, at: MapPlace, index: u64, asked: Asked) -> Option<Refusal>
         requires file { at.file < length self.now.files }
         requires map { at.map < length (file_in self.now at.file).maps }
@@ -245,6 +251,7 @@ impl<N: Naming> Mount<N> {
     }
 
     // Where the map of an access stands, or why the access does not begin.
+    #[inline(always)]
     fn place(&self, page_bytes: u64, access: &MapAccess, asked: Asked) -> Result<MapPlace, Refusal>
         ensures placed { IfOk result (λ at. IsPlaced self.now access.now asked page_bytes at) }
         ensures fits { OnOk result (Fits page_bytes asked) }
@@ -260,6 +267,7 @@ impl<N: Naming> Mount<N> {
     }
 
     /// Sees to it that a map shows a page at an index, or for a write that it has one to write into.
+    #[inline(never)]
     pub fn fault<D: PoolDoor<Share = Subpool<N>, Page = Page<N>>>(
         &mut self,
         door: &mut D,
