@@ -1,7 +1,6 @@
 //! What the words of a line say.
 ghost use Rattle.std.specs.Prelude.{◌≡◌, ◌≤◌, length};
-ghost use Rattle.std.specs.List.{list_all};
-ghost use Rattle.hp_model.specs.text.Words.{word_at, word_of, is_word, is_word_byte, sharing_at, sharing_of, intent_at, intent_of, reserving_at, bytes_of_hex};
+ghost use Rattle.hp_model.specs.text.Words.{word_at, sharing_at, intent_at, reserving_at, bytes_of_hex};
 ghost use Rattle.hp_wire_lines.specs.Words.{Gives, Takes, last_hex};
 
 use crate::hex_digits::decode;

@@ -211,11 +211,12 @@ fn end_of_word(line: &[u8], from: usize) -> usize
     ensures stops { result < length line.now
         → is_word_byte (slice_index line.now result) ≡ false }
 {
-    let mut end = from + 1;
-    while end < line.len() && is_word_byte(line[end]) {
-        end += 1;
+    let rest = &line[from..];
+    let mut n = 1;
+    while n < rest.len() && is_word_byte(rest[n]) {
+        n += 1;
     }
-    end
+    from + n
 }
 
 // A printed character.

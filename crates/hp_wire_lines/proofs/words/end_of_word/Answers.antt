@@ -1,14 +1,22 @@
-use Rattle.std.proofs.Common.{arith, sym, ◌∙◌}
+use Rattle.std.proofs.Common.{◌≡◌, ◌+◌, get_or, true, arith, sym, ap, ◌∙◌}
+use Rattle.std.proofs.lemmas.List.{get_or-drop, take_rest}
+use Rattle.hp_model.specs.text.Words.{is_word_byte}
 use Rattle.hp_wire_lines.proofs.WordEnds.{word_more, word_start}
 use Rattle.hp_wire_lines.proofs.words.end_of_word.Goals as goal
 
-pub loop-end-init : goal.loop-end-init
-loop-end-init c =
+pub loop-n-init : goal.loop-n-init
+loop-n-init c =
     let one = word_start c.args.line.now c.args.from c.requires.from c.requires.printed in
-    record { behind = omega arith; within = omega arith; printed = one.0; front = one.1 }
+    record { some = omega arith; within = omega arith; printed = one.0; front = one.1 }
 
-pub loop-end-preserved : goal.loop-end-preserved
-loop-end-preserved c =
-    let l = c.loop-end in
-    let more = word_more c.args.line.now c.args.from l.end (omega arith) (omega arith) (sym c.is_word_byte.ensures ∙ c.if-is_word_byte.true) l.invariant.printed l.invariant.front in
-    record { behind = omega arith; within = omega arith; printed = more.0; front = more.1 }
+pub loop-n-preserved : goal.loop-n-preserved
+loop-n-preserved c =
+    let l = c.loop-n in
+    let line = c.args.line.now in
+    let from = c.args.from in
+    let next : from + (l.n + 1) ≡ from + l.n + 1 = omega arith in
+    let printed : is_word_byte (get_or line (from + l.n) 0) ≡ true =
+    sym (ap (λ xs. is_word_byte (get_or xs l.n 0)) (take_rest line from) ∙ ap is_word_byte (get_or-drop from line l.n 0))
+    ∙ sym c.is_word_byte.ensures ∙ c.if-is_word_byte.true in
+    let more = word_more line from (from + l.n) (omega arith) (omega arith) printed l.invariant.printed l.invariant.front in
+    record { some = omega arith; within = omega arith; printed = rw next more.0; front = rw next more.1 }
