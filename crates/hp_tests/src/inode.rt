@@ -138,6 +138,29 @@ fn every_second_page_is_taken(rt: HostRuntime) -> Result<(), Fail> {
     Ok(ended?)
 }
 
+// Entries go in the middle of full words; then some on both sides of that hole; then all, past the last that there was.
+fn drops_in_parts<R: Abort>(rt: &R, inode: &mut Inode) -> Result<(), AllocError> {
+    reserve(rt, inode, 0, 12800)?;
+    drops(rt, inode, 100, 4485, 4385);
+    shows(rt, inode, 99, (true, None));
+    shows(rt, inode, 100, (false, None));
+    shows(rt, inode, 4484, (false, None));
+    shows(rt, inode, 4485, (true, None));
+    drops(rt, inode, 50, 4600, 165);
+    counts(rt, inode, 8250, 0);
+    drops(rt, inode, 0, 20000, 8250);
+    lacks(rt, inode, 0, 20000, 20000);
+    Ok(())
+}
+
+#[test]
+fn entries_are_dropped_in_parts(rt: HostRuntime) -> Result<(), Fail> {
+    let mut inode = sized(&rt, rt.alloc(), 20000);
+    let ended = drops_in_parts(&rt, &mut inode);
+    drop(inode);
+    Ok(ended?)
+}
+
 // Two ranges that overlap are entered, where need be at the second try.
 fn reserves_at_last<R: Abort>(rt: &R, inode: &mut Inode) -> Result<(), AllocError> {
     reserve_at_last(rt, inode, 0, 1000, 2000)?;
