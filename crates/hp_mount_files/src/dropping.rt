@@ -15,10 +15,9 @@ ghost use Rattle.hp_mount_files.specs.Leaving.{IsMoreButTask, ended_for, owed};
 
 use crate::hints::Hints;
 use hp_inode::Inode;
-use hp_mapping::{Mapping, copy_in};
+use hp_mapping::{Mapping, PackedPlace, copy_in};
 use hp_model::naming::Naming;
 use hp_model::page_no::PageNo;
-use hp_model::place::Place;
 use hp_store::PageStore;
 
 /// A holder of a page goes, and with its last one the page. `more` counts holders beyond the first of each page.
@@ -55,12 +54,21 @@ pub(crate) fn drop_pages<N: Naming>(
     }
 }
 
+// A holder of a page goes, and with its last one the page. `gone` counts the pages that went.
+fn drop_counting<N: Naming>(number: PageNo, store: &mut PageStore<N>, gone: &mut usize)
+    requires held { 0 < holders_of (page_at store.old number) }
+    requires few { gone.old < 2 ^ 63 }
+    ensures dropped { store.new ≡ dropped number store.old }
+    ensures counted { more_in store.new.pages + gone.old + 1 ≡ more_in store.old.pages + gone.new }
+    ensures one { gone.new ≤ gone.old + 1 }
+{
+    if store.drop_one(number) {
+        *gone += 1;
+    }
+}
+
 // The copies of some places go, up to the first place without a copy, which is answered.
-fn drop_run<N: Naming>(
-    places: &[Place<PageNo>],
-    store: &mut PageStore<N>,
-    more: &mut usize,
-) -> usize
+fn drop_run<N: Naming>(places: &[PackedPlace], store: &mut PageStore<N>, more: &mut usize) -> usize
     requires held { (n : ℕ) → sum_by (in_place n) places.now ≤ holders_of (page_at store.old n) }
     requires some { HasHolders store.old }
     requires counted { more.old ≡ more_in store.old.pages }
@@ -71,15 +79,15 @@ fn drop_run<N: Naming>(
     ensures counted { more.new ≡ more_in store.new.pages }
 {
     let mut at = 0;
-    let mut count = *more;
+    let mut gone = 0;
     while at < places.len() {
         let Some(number) = copy_in(&places[at]) else {
             break;
         };
-        drop_holder(number, store, &mut count);
+        drop_counting(number, store, &mut gone);
         at += 1;
     }
-    *more = count;
+    *more -= at - gone;
     at
 }
 

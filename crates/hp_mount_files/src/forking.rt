@@ -10,33 +10,25 @@ ghost use Rattle.hp_mount_files.specs.Forking.{IsShared, IsSharing, children_of,
 ghost use Rattle.hp_mount_files.specs.Held.{in_map, in_place, more_in};
 
 use crate::tags::Tags;
-use hp_mapping::{Mapping, copy_in};
+use hp_mapping::{Mapping, PackedPlace, copy_in};
 use hp_model::naming::Naming;
 use hp_model::page_no::PageNo;
-use hp_model::place::Place;
 use hp_store::PageStore;
 use std::alloc::{AllocError, Global};
 
 // A page has a holder more.
-fn add_holder<N: Naming>(number: PageNo, store: &mut PageStore<N>, more: &mut usize)
+fn add_holder<N: Naming>(number: PageNo, store: &mut PageStore<N>)
     requires held { 0 < holders_of (page_at store.old number) }
     requires some { HasHolders store.old }
-    requires counted { more.old ≡ more_in store.old.pages }
-    requires few { more.old < 2 ^ 32 }
+    requires few { more_in store.old.pages < 2 ^ 32 }
     ensures sharing { IsSharing (λ n. if number == n then 1 else 0) store.old store.new }
-    ensures counted { more.new ≡ more_in store.new.pages }
-    ensures more { more.new ≡ more.old + 1 }
+    ensures counted { more_in store.new.pages ≡ more_in store.old.pages + 1 }
 {
     store.share(number);
-    *more += 1;
 }
 
 // The copies of some places have a holder more, up to the first place without a copy, which is answered.
-fn share_run<N: Naming>(
-    places: &[Place<PageNo>],
-    store: &mut PageStore<N>,
-    more: &mut usize,
-) -> usize
+fn share_run<N: Naming>(places: &[PackedPlace], store: &mut PageStore<N>, more: &mut usize) -> usize
     requires held { (n : ℕ) → sum_by (in_place n) places.now ≤ holders_of (page_at store.old n) }
     requires some { HasHolders store.old }
     requires counted { more.old ≡ more_in store.old.pages }
@@ -48,15 +40,14 @@ fn share_run<N: Naming>(
     ensures more { more.new + count_by has_copy (drop result places.now) ≡ more.old + count_by has_copy places.now }
 {
     let mut at = 0;
-    let mut count = *more;
     while at < places.len() {
         let Some(number) = copy_in(&places[at]) else {
             break;
         };
-        add_holder(number, store, &mut count);
+        add_holder(number, store);
         at += 1;
     }
-    *more = count;
+    *more += at;
     at
 }
 

@@ -1,4 +1,4 @@
-use Rattle.std.proofs.Common.{◌≡◌, ◌-◌, ◌≤◌, drop, length}
+use Rattle.std.proofs.Common.{◌≡◌, ◌+◌, ◌-◌, ◌≤◌, drop, length}
 use Rattle.std.specs.List.{sum_by}
 use Rattle.hp_mount_files.specs.Dropping.{IsDropping}
 use Rattle.hp_mount_files.specs.Held.{in_place, more_in}
@@ -8,7 +8,8 @@ abbrev pub invariant-loop-at : goal.invariant-loop-at
 invariant-loop-at g l = record {
   high : l.at ≤ length l.places;
   dropping : IsDropping (λ n. sum_by (in_place n) l.places) (λ n. sum_by (in_place n) (drop l.at l.places)) l.initial.store l.store;
-  counted : l.count ≡ more_in l.store.pages;
+  counted : l.more + l.gone ≡ more_in l.store.pages + l.at;
+  fewer : l.gone ≤ l.at;
 }
 
 abbrev pub decreases-loop-at : goal.decreases-loop-at

@@ -9,8 +9,8 @@ pub loop-at-init : goal.loop-at-init
 loop-at-init g c = record {
   high = omega arith;
   shared = shared_none c.args.places.now c.args.store.now c.requires.some;
-  counted = c.requires.counted;
-  more = omega arith;
+  counted = omega (arith, c.requires.counted);
+  copies = omega arith;
 }
 
 pub add_holder-requires-clause-held : goal.add_holder-requires-clause-held
@@ -37,8 +37,7 @@ add_holder-requires-clause-few g c =
     let p = c.index-places-at.result in
     let step = sum_read has_one ps c.loop-at.at p c.loop-at-test.true c.index-places-at.is in
     let one = some_one p c.in-Some.number (sym c.copy_in.ensures ∙ c.in-Some.is) in
-    let more = was.more in
-    omega (arith, step, one, more, c.requires.few)
+    omega (arith, step, one, was.counted, was.copies, c.requires.few)
 
 pub loop-at-preserved : goal.loop-at-preserved
 loop-at-preserved g c =
@@ -50,12 +49,11 @@ loop-at-preserved g c =
     let is = sym c.copy_in.ensures ∙ c.in-Some.is in
     let step = sum_read has_one ps i p c.loop-at-test.true c.index-places-at.is in
     let one = some_one p number is in
-    let more = was.more in
     record {
       high = omega (arith, c.loop-at-test.true);
       shared = shared_then ps (drop i ps) (drop (i + 1) ps) c.args.store.now c.loop-at.store c.add_holder.new.store was.shared
           (shared_as (drop i ps) (p ∷ drop (i + 1) ps) (drop (i + 1) ps) (drop (i + 1) ps) c.loop-at.store c.add_holder.new.store (shared_one p (drop (i + 1) ps) number c.loop-at.store c.add_holder.new.store is c.add_holder.ensures.sharing)
           (λ n. drop_read (sum_by (in_place n)) ps i p c.loop-at-test.true c.index-places-at.is) (λ n. refl));
-      counted = c.add_holder.ensures.counted;
-      more = omega (arith, step, one, more, c.add_holder.ensures.more);
+      counted = omega (arith, was.counted, c.add_holder.ensures.counted);
+      copies = omega (arith, step, one, was.copies);
     }

@@ -9,8 +9,8 @@ abbrev pub invariant-loop-at : goal.invariant-loop-at
 invariant-loop-at g l = record {
   high : l.at ≤ length l.places;
   shared : IsShared l.places (drop l.at l.places) l.initial.store l.store;
-  counted : l.count ≡ more_in l.store.pages;
-  more : l.count + count_by has_copy (drop l.at l.places) ≡ l.initial.more + count_by has_copy l.places;
+  counted : l.more + l.at ≡ more_in l.store.pages;
+  copies : l.at + count_by has_copy (drop l.at l.places) ≡ count_by has_copy l.places;
 }
 
 abbrev pub decreases-loop-at : goal.decreases-loop-at
