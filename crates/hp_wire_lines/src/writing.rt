@@ -53,9 +53,20 @@ pub fn line_of_store(stored: Result<(), Refusal>, out: &mut Vec<u8>)
     ensures { (page : ℕ) → Adds out.old out.new (line_of page (done_reply stored)) }
 {
     match stored {
-        Ok(()) => push(out, b"ok\n"),
+        Ok(()) => push_ok(out),
         Err(refusal) => line_of_refusal(refusal, out),
     }
+}
+
+// Adds the line of what was done, byte by byte, with no call.
+#[inline(always)]
+fn push_ok(out: &mut Vec<u8>)
+    requires { HasRoom out.old 3 }
+    ensures { Adds out.old out.new (codes "ok\n") }
+{
+    push_byte(out, b'o');
+    push_byte(out, b'k');
+    push_byte(out, b'\n');
 }
 
 fn push_told(page: u64, told: &Told<'_>, out: &mut Vec<u8>)
@@ -65,7 +76,7 @@ fn push_told(page: u64, told: &Told<'_>, out: &mut Vec<u8>)
     ensures { Adds out.old out.new (answer_text page (told_answer told.now)) }
 {
     match told {
-        Told::Done => push(out, b"ok\n"),
+        Told::Done => push_ok(out),
         Told::Home(n) | Told::MapNo(n) | Told::Number(n) => push_numbers(out, &[*n]),
         Told::Bytes(bytes) => push_bytes(out, bytes),
         Told::Stat {
