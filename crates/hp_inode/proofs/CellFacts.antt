@@ -1,10 +1,10 @@
 -- What the cells of an inode say of its parts, and what a change of a part does to the cells.
-use Rattle.std.proofs.Common.{◌≡◌, ℕ, ◌+◌, ◌-◌, ◌<◌, ◌≤◌, ◌^◌, Bool, true, false, not, List, [], ◌++◌, length, take, drop, map, replicate, get_or, set, Option, None, Some, sym, refl, ap, ◌∙◌, subst, arith, ⊎_elim}
+use Rattle.std.proofs.Common.{◌≡◌, ℕ, ◌+◌, ◌-◌, ◌<◌, ◌≤◌, ◌^◌, Bool, true, false, not, List, ◌++◌, length, take, drop, map, replicate, get_or, set, Option, None, Some, sym, refl, ap, ◌∙◌, subst, arith, ⊎_elim}
 use Rattle.std.specs.List.{range_with_len, count_by, All}
 use Rattle.std.specs.Prelude.{IsSome}
 use Rattle.std.specs.Option.{is_some}
 use Rattle.std.proofs.lemmas.Bool.{cases_lt, cases_eq, cases_Bool, true≢false, false≢true}
-use Rattle.std.proofs.lemmas.List.{get_or_past, get_or-set_same, get_or-set_other, length-set, length-take, length-drop, length-append, length-replicate, get_or-drop, get_or-take, get_or_append_left, get_or-append_right, get_or-replicate, ext_get_or}
+use Rattle.std.proofs.lemmas.List.{take_all, get_or_past, get_or-set_same, get_or-set_other, length-set, length-take, length-drop, length-append, length-replicate, get_or-drop, get_or-take, get_or_append_left, get_or-append_right, get_or-replicate, ext_get_or}
 use Rattle.hp_model.proofs.Counting.{count_alike, count_map, count_within}
 use Rattle.std.proofs.lemmas.List.FromFn.{get_or-map-range_with_len, length-map-range_with_len, fill_by_all}
 use Rattle.hp_inode.specs.Entries.{count_in, missing_in}
@@ -14,7 +14,6 @@ use Rattle.hp_model.specs.files.File.{is_entered, is_hole, has_page, page_of, ce
 use Rattle.hp_model.specs.Lists.{part}
 use Rattle.hp_inode.specs.Marks.{marked}
 use Rattle.hp_inode.specs.Rows.{Rows, page_in, has_slot}
-use Rattle.hp_inode.proofs.Words.{unmarked_past}
 use Rattle.hp_inode.specs.Kept.{cell_by, cell_of, cells_of, IsKept}
 
 pub length-cells : (len : ℕ) (s : List ℕ) (rows : Rows) → length (cells_of len s rows) ≡ len
@@ -149,22 +148,6 @@ missing_cells len s rows a b le =
     sym (ap (count_by is_hole) (part_is len s rows a b le) ∙ count_map is_hole (cell_of s rows) (range_with_len a (b - a))
     ∙ count_alike (λ i. is_hole (cell_of s rows i)) (λ i. not (marked s i)) (λ i. hole_test (marked s i) (page_in rows i)) (range_with_len a (b - a)))
 
--- an inode without indices
-pub none_kept : IsKept 0 0 [] []
-none_kept = record {
-  small = omega arith;
-  below = λ i in'. absurd (nowhere i in');
-  counted = refl;
-  paged = λ i some. absurd (no_page i some);
-  slots = λ i in'. absurd (nowhere i in');
-}
-  where
-    nowhere : (i : ℕ) → marked [] i ≡ true → ⊥
-    nowhere i in' = let out = unmarked_past [] i (omega arith) in cc
-
-    no_page : (i : ℕ) → IsSome (page_in [] i) → ⊥
-    no_page i some = cc
-
 entered_test : (b : Bool) (o : Option ℕ) → is_entered (cell_by b o) ≡ b
 entered_test true None = refl
 entered_test true (Some page) = refl
@@ -174,3 +157,9 @@ pub entered_cells : (len : ℕ) (s : List ℕ) (rows : Rows) (a b : ℕ) → b �
 entered_cells len s rows a b le =
     sym (ap (count_by is_entered) (part_is len s rows a b le) ∙ count_map is_entered (cell_of s rows) (range_with_len a (b - a))
     ∙ count_alike (λ i. is_entered (cell_of s rows i)) (marked s) (λ i. entered_test (marked s i) (page_in rows i)) (range_with_len a (b - a)))
+
+pub entered_in_all : (len m : ℕ) (e : List ℕ) (rows : Rows) → IsKept len m e rows → m ≡ count_by is_entered (cells_of len e rows)
+entered_in_all len m e rows kept =
+    let cells = cells_of len e rows in
+    let long = length-cells len e rows in
+    sym kept.counted ∙ entered_cells len e rows 0 len (omega arith) ∙ ap (count_by is_entered) (take_all (len - 0) cells (omega (arith, long)))

@@ -1,3 +1,4 @@
+mod Bare
 mod CellFacts
 mod Dropped
 mod Reserved

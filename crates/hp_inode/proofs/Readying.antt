@@ -2,14 +2,14 @@
 use Rattle.hp_model.proofs.Counting.{count_alike}
 use Rattle.hp_model.specs.files.Ranges.{within}
 use Rattle.std.proofs.Common.{◌≡◌, ℕ, ◌+◌, ◌-◌, ◌<◌, ◌≤◌, ◌^◌, ◌++◌, not, List, [], length, drop, replicate, max, refl, sym, ap, subst, ◌∙◌, arith, ◌||◌, true, rules, IsSome}
-use Rattle.std.specs.List.{All, range_with_len}
-use Rattle.std.proofs.lemmas.List.{drop_all, take_all}
+use Rattle.std.specs.List.{All, range_with_len, count_by}
+use Rattle.std.proofs.lemmas.List.{append-nil, drop_all, take_all}
 use Rattle.std.proofs.lemmas.List.Elements.{All-nil}
 use Rattle.std.proofs.lemmas.List.FromFn.{length-range_with_len}
 use Rattle.std.proofs.lemmas.List.Sums.{count_by-le-length}
 use Rattle.hp_model.specs.declared.cell.Cell.{Cell}
 use Rattle.hp_model.specs.declared.cell.Cell.TheVariants.{Hole}
-use Rattle.hp_model.specs.files.File.{at_least, cells_to, entered}
+use Rattle.hp_model.specs.files.File.{at_least, cells_to, entered, has_page}
 use Rattle.hp_model.specs.Lists.{edit_range}
 use Rattle.hp_inode.specs.Entries.{missing_in}
 use Rattle.hp_inode.specs.Kept.{IsKept, cells_of}
@@ -28,12 +28,22 @@ few_entered len m e rows kept =
 pub few_missing : (e : List ℕ) (a b : ℕ) → missing_in e a b ≤ b
 few_missing e a b = omega (arith, count_by-le-length (λ i. not (marked e i)) (range_with_len a (b - a)), length-range_with_len a (b - a))
 
+-- with no range
+pub unready : (len m pages : ℕ) (e : List ℕ) (rows : Rows) (a : ℕ) → IsKept len m e rows → pages ≡ count_by has_page (cells_of len e rows) → IsReady len m pages e rows a 0
+unready len m pages e rows a kept paged = record {
+  kept = kept;
+  paged = paged;
+  small = omega arith;
+  slots = λ k low high. absurd (omega (arith, high));
+  room = λ some. absurd (omega (arith, some));
+}
+
 -- with the same entries in more words, the same pages, and more slots
 module _ (len m : ℕ) (e new : List ℕ) (rows made : Rows) (same : (k : ℕ) → marked new k ≡ marked e k) (pages : (k : ℕ) → page_in made k ≡ page_in rows k) where
   pub same_cells : cells_of len new made ≡ cells_of len e rows
   same_cells = search rules
 
-  pub same_kept : IsKept len m e rows → ((k : ℕ) → has_slot rows k ≡ true → has_slot made k ≡ true) → IsKept len m new made
+  same_kept : IsKept len m e rows → ((k : ℕ) → has_slot rows k ≡ true → has_slot made k ≡ true) → IsKept len m new made
   same_kept kept stay = record {
     small = kept.small;
     below = λ i in'. kept.below i (sym (same i) ∙ in');
@@ -41,6 +51,13 @@ module _ (len m : ℕ) (e new : List ℕ) (rows made : Rows) (same : (k : ℕ) �
     paged = λ i some. same i ∙ kept.paged i (subst IsSome (pages i) some);
     slots = λ i in'. stay i (kept.slots i (sym (same i) ∙ in'));
   }
+
+  pub same_unready : {paged low high : ℕ} → IsReady len m paged e rows low high → ((k : ℕ) → has_slot rows k ≡ true → has_slot made k ≡ true) → (a : ℕ) → IsReady len m paged new made a 0
+  same_unready ready stay a = unready _ _ _ _ _ a (same_kept ready.kept stay) (ready.paged ∙ ap (count_by has_page) (sym same_cells))
+
+-- a list with the length asked for
+pub long_enough : (b : ℕ) (cells : List (Cell ℕ)) → b ≤ length cells → at_least b cells ≡ cells
+long_enough b cells le = ap (λ n. cells ++ replicate n Hole) {x = b - length cells} {y = 0} (omega (arith, le)) ∙ append-nil cells
 
 -- made longer
 module _ (len m : ℕ) (e : List ℕ) (rows : Rows) (b long : ℕ) (kept : IsKept len m e rows) (small : b < 2 ^ 32) (long_is : long ≡ max len b) where

@@ -4,8 +4,6 @@ use Rattle.std.specs.List.{range_with_len, count_by}
 use Rattle.std.specs.Prelude.{IsSome}
 use Rattle.std.proofs.lemmas.Bool.{cases_lt, or_cases, or_left, and_parts, and_right}
 use Rattle.std.proofs.lemmas.List.FromFn.{fill_by_all}
-use Rattle.std.proofs.lemmas.List.FromFn.{length-range_with_len}
-use Rattle.std.proofs.lemmas.List.Sums.{count_by-le-length}
 use Rattle.hp_inode.specs.Entries.{count_in, missing_in}
 use Rattle.hp_model.specs.files.Ranges.{within}
 use Rattle.hp_model.proofs.Counting.{count_alike, count_or, count_within, alike_in}
@@ -37,12 +35,6 @@ count_more p a b n le =
     let there = count_within more a b n le (λ i lt is. in_range a b i (not (p i)) is) in
     let fresh = alike_in more (λ i. not (p i)) a (b - a) (λ i low high. rw (within-true a b i low (omega (arith, low, high))) refl) in
     omega (arith, split, same, there, fresh)
-
--- those entered, with those missing in a range, are no more than the length
-pub few_after : (len m : ℕ) (e : List ℕ) (rows : Rows) (a b : ℕ) → IsKept len m e rows → b ≤ len → m + missing_in e a b ≤ len
-few_after len m e rows a b kept le =
-    let more = count_more (marked e) a b (len - 0) (omega (arith, le)) in
-    omega (arith, more, kept.counted, count_by-le-length (λ i. marked e i || within a b i) (range_with_len 0 (len - 0)), length-range_with_len 0 (len - 0))
 
 module _ (len m : ℕ) (e new : List ℕ) (rows made : Rows) (a b : ℕ) (kept : IsKept len m e rows) (le : b ≤ len) (holds_new : (k : ℕ) → marked new k ≡ (marked e k || within a b k)) (pages : (k : ℕ) → page_in made k ≡ page_in rows k) where
   cases_new : (k : ℕ) (P : Type 0) → (marked e k ≡ true → P) → (a ≤ k → k < b → P) → marked new k ≡ true → P

@@ -1,9 +1,8 @@
 -- An inode's parts, and the cells that they stand for.
 use Rattle.std.specs.Prelude.{ℕ, ◌≡◌, ◌<◌, ◌^◌, Bool, true, false, List, map, Option, None, Some, IsSome}
-use Rattle.std.specs.List.{count_by, range_with_len}
+use Rattle.std.specs.List.{range_with_len}
 use Rattle.hp_model.specs.declared.cell.Cell.{Cell}
 use Rattle.hp_model.specs.declared.cell.Cell.TheVariants.{Hole, Entered, Present}
-use Rattle.hp_model.specs.files.File.{has_page}
 use Rattle.hp_inode.specs.Entries.{count_in}
 use Rattle.hp_inode.specs.Marks.{marked}
 use Rattle.hp_inode.specs.Rows.{Rows, page_in, has_slot}
@@ -26,8 +25,3 @@ pub record IsKept (len count : ℕ) (entries : List ℕ) (rows : Rows) : Type 0 
   pub counted : count_in entries 0 len ≡ count
   pub paged : (i : ℕ) → IsSome (page_in rows i) → marked entries i ≡ true
   pub slots : (i : ℕ) → marked entries i ≡ true → has_slot rows i ≡ true
-
--- and so many have a page
-pub record IsInode (len count pages : ℕ) (entries : List ℕ) (rows : Rows) : Type 0 where
-  pub kept : IsKept len count entries rows
-  pub paged : pages ≡ count_by has_page (cells_of len entries rows)

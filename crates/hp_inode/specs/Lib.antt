@@ -1,4 +1,5 @@
 pub mod Entries
+pub mod Form
 pub mod Kept
 pub mod Marks
 pub mod Rows

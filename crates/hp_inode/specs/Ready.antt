@@ -1,4 +1,4 @@
--- An inode with the room to enter a range.
+-- Indices, and a range of them that can be entered with no memory.
 use Rattle.std.specs.Prelude.{ℕ, ◌≡◌, ◌*◌, ◌<◌, ◌≤◌, ◌^◌, true, List, length}
 use Rattle.std.specs.List.{count_by}
 use Rattle.hp_model.specs.declared.cell.Cell.{Cell}
@@ -12,7 +12,7 @@ pub record Ready : Type 0 where
   pub from : ℕ
   pub to : ℕ
 
--- the indices from a up to b have their slots, and a place among the entries
+-- so many have a page; the indices from a up to b have their slots, and a place among the entries
 pub record IsReady (len count pages : ℕ) (entries : List ℕ) (rows : Rows) (a b : ℕ) : Type 0 where
   pub kept : IsKept len count entries rows
   pub paged : pages ≡ count_by has_page (cells_of len entries rows)

@@ -7,42 +7,42 @@ ghost use Rattle.hp_model.specs.files.File.{is_entered, is_hole, has_page, page_
 ghost use Rattle.hp_model.specs.Lists.{edit_range, part, found};
 ghost use Rattle.hp_model.specs.declared.cell.Cell.TheVariants.{Hole, Entered, Present};
 
-use entries::Entries;
+use form::Form;
 use hp_model::page_no::PageNo;
+use indices::Indices;
 pub use ready::ReadyInode;
 use std::alloc::{AllocError, Global};
 use std::marker::Model;
-use table::PageTable;
 
 mod chunk;
 mod entries;
+mod form;
+mod indices;
 mod marks;
 mod ready;
 mod table;
 
 /// The indices of a file, each a hole, entered (a page is reserved for it), or entered with its page.
 ///
-/// Contracts see the list of its cells. Only `reserve_range` asks for memory.
+/// A file takes 16 bytes until its first entry, with which its tables are made. Contracts see the list of its cells.
+/// Only `reserve_range` and `prepare` ask for memory.
 #[derive(Drop)]
 pub struct Inode {
-    len: u64,
-    table: PageTable,
-    // how many indices are entered, and how many of these have a page
-    count: u64,
-    pages: u64,
-    entries: Entries,
+    alloc: Global,
+    form: Form,
 }
 
 impl Model for Inode {
     ghost use Rattle.std.specs.Prelude.{List, ℕ};
     ghost use Rattle.hp_model.specs.declared.cell.Cell.{Cell};
-    ghost use Rattle.hp_inode.specs.Kept.{cells_of, IsInode};
 
     ghost Value = { List (Cell ℕ) };
 
-    ghost view = { λ f. cells_of f.len f.entries f.table };
+    ghost use Rattle.hp_inode.specs.Form.{cells_in, IsForm};
 
-    ghost invariant = { λ f. IsInode f.len f.count f.pages f.entries f.table };
+    ghost view = { λ f. cells_in f.form };
+
+    ghost invariant = { λ f. IsForm f.form };
 }
 
 impl Inode {
@@ -51,48 +51,61 @@ impl Inode {
         ensures { result ≡ [] }
     {
         Inode {
-            len: 0,
-            count: 0,
-            pages: 0,
-            entries: Entries::new(alloc),
-            table: PageTable::new(alloc),
+            alloc,
+            form: Form::Holes(0),
         }
     }
 
     /// The length in indices.
+    #[inline(always)]
     pub fn len(&self) -> u64
         ensures len { result ≡ length self.now }
         ensures small { result < 2 ^ 32 }
     {
-        self.len
+        match &self.form {
+            Form::Holes(len) => *len,
+            Form::Kept(indices) => indices.len(),
+        }
     }
 
     /// The page of the index `i`, if it has one.
     pub fn page_at(&self, i: u64) -> Option<PageNo>
         ensures { result ≡ page_of (cell_in self.now i) }
     {
-        self.table.page_at(i)
+        match &self.form {
+            Form::Holes(_) => None,
+            Form::Kept(indices) => indices.page_at(i),
+        }
     }
 
     /// Whether the index `i` is entered, with a page or without.
     pub fn entered(&self, i: u64) -> bool
         ensures { result ≡ is_entered (cell_in self.now i) }
     {
-        self.entries.contains(i)
+        match &self.form {
+            Form::Holes(_) => false,
+            Form::Kept(indices) => indices.entered(i),
+        }
     }
 
     /// How many indices are entered, with a page or without.
     pub fn entry_count(&self) -> u64
         ensures { result ≡ count_by is_entered self.now }
     {
-        self.count
+        match &self.form {
+            Form::Holes(_) => 0,
+            Form::Kept(indices) => indices.entry_count(),
+        }
     }
 
     /// How many indices have a page.
     pub fn page_count(&self) -> u64
         ensures { result ≡ count_by has_page self.now }
     {
-        self.pages
+        match &self.form {
+            Form::Holes(_) => 0,
+            Form::Kept(indices) => indices.page_count(),
+        }
     }
 
     /// How many indices from `a` up to `b` are holes.
@@ -100,7 +113,10 @@ impl Inode {
         requires { b ≤ length self.now }
         ensures { result ≡ count_by is_hole (part a b self.now) }
     {
-        self.entries.missing(a, b)
+        match &self.form {
+            Form::Holes(_) => b.saturating_sub(a),
+            Form::Kept(indices) => indices.missing(a, b),
+        }
     }
 
     /// Gives an entered index without a page its page.
@@ -108,8 +124,10 @@ impl Inode {
         requires { cell_in self.old i ≡ Entered }
         ensures { self.new ≡ slice_set self.old i (Present page) }
     {
-        self.table.set(i, Some(page));
-        self.pages += 1;
+        let Form::Kept(indices) = &mut self.form else {
+            return;
+        };
+        indices.fill(i, page);
     }
 
     /// Enters the indices from `a` up to `b`, and makes the room for their pages.
@@ -119,12 +137,15 @@ impl Inode {
         ensures ok { OnOk result (self.new ≡ edit_range entered a b self.old) }
         ensures err { OnErr result (self.new ≡ self.old) }
     {
-        let missing = self.entries.missing(a, b);
-        self.table.make_slots(a, b)?;
-        self.entries.make_room(a, b)?;
-        self.entries.add(a, b);
-        self.count += missing;
-        Ok(())
+        match &mut self.form {
+            Form::Holes(len) => {
+                let mut indices = Box::new(self.alloc, Indices::new(self.alloc, *len))?;
+                indices.reserve_range(a, b)?;
+                self.form = Form::Kept(indices);
+                Ok(())
+            }
+            Form::Kept(indices) => indices.reserve_range(a, b),
+        }
     }
 
     /// Makes the room to enter the indices from `a` up to `b`, past the end too. Where memory is refused, the inode is
@@ -134,31 +155,18 @@ impl Inode {
         ensures ok { IfOk result (λ ready. ready ≡ record { cells = self; from = a; to = b }) }
         ensures err { IfErr result (λ inode. inode ≡ self) }
     {
-        let Inode {
-            len,
-            count,
-            pages,
-            mut entries,
-            mut table,
-        } = self;
-        if table.make_slots(a, b).is_err() || entries.make_room(a, b).is_err() {
+        let Inode { alloc, form } = self;
+        let mut indices = match form.kept(alloc) {
+            Ok(indices) => indices,
+            Err(form) => return Err(Inode { alloc, form }),
+        };
+        if indices.prepare(a, b).is_err() {
             return Err(Inode {
-                len,
-                count,
-                pages,
-                entries,
-                table,
+                alloc,
+                form: Form::Kept(indices),
             });
         }
-        Ok(ReadyInode {
-            len,
-            count,
-            pages,
-            entries,
-            table,
-            from: a,
-            to: b,
-        })
+        Ok(ReadyInode { alloc, indices })
     }
 
     /// Makes the file `len` indices long: longer by holes, or shorter by holes alone.
@@ -167,7 +175,10 @@ impl Inode {
         requires holes { All (λ cell. cell ≡ Hole) (drop len self.old) }
         ensures { self.new ≡ cells_to len self.old }
     {
-        self.len = len;
+        match &mut self.form {
+            Form::Holes(own) => *own = len,
+            Form::Kept(indices) => indices.set_len(len),
+        }
     }
 
     /// Makes the file at least `len` indices long, by holes.
@@ -175,7 +186,10 @@ impl Inode {
         requires { len < 2 ^ 32 }
         ensures { self.new ≡ at_least len self.old }
     {
-        self.len = self.len.max(len);
+        match &mut self.form {
+            Form::Holes(own) => *own = (*own).max(len),
+            Form::Kept(indices) => indices.lengthen(len),
+        }
     }
 
     /// Takes the lowest page of the indices from `a` up to `b` out, with its entry. Entries without a page stay.
@@ -188,15 +202,10 @@ impl Inode {
             (λ p. self.new ≡ slice_set self.old (a + p.0) Hole) }
         ensures none { result ≡ None → All (λ cell. has_page cell ≡ false) (part a b self.new) }
     {
-        let i = self.table.first_from(a)?;
-        if i >= b {
+        let Form::Kept(indices) = &mut self.form else {
             return None;
-        }
-        let page = self.page_at(i);
-        self.table.set(i, None);
-        self.pages -= 1;
-        self.drop_entries(i, i + 1);
-        page
+        };
+        indices.take_page(a, b)
     }
 
     /// Makes the indices from `a` up to `b` holes, and answers how many were entered. None of them has a page.
@@ -206,8 +215,9 @@ impl Inode {
         ensures count { result ≡ count_by is_entered (part a b self.old) }
         ensures cells { self.new ≡ edit_range (λ cell. Hole) a b self.old }
     {
-        let count = self.entries.remove(a, b);
-        self.count -= count;
-        count
+        let Form::Kept(indices) = &mut self.form else {
+            return 0;
+        };
+        indices.drop_entries(a, b)
     }
 }

@@ -1,36 +1,18 @@
-use Rattle.std.proofs.Common.{ap, sym, ◌∙◌, ◌≡◌, ℕ, false, arith}
-use Rattle.std.specs.List.{All, count_by}
-use Rattle.hp_model.specs.declared.cell.Cell.{Cell}
-use Rattle.hp_model.specs.Lists.{part}
-use Rattle.hp_model.specs.files.File.{has_page}
-use Rattle.hp_inode.specs.Kept.{cells_of}
-use Rattle.hp_inode.proofs.Paged.{dropped_paged}
-use Rattle.hp_inode.proofs.CellFacts.{length-cells, entered_cells}
-use Rattle.hp_inode.proofs.Dropped.{dropped_cells, dropped_kept, count_few}
+use Rattle.std.proofs.Common.{sym, ◌∙◌, []}
+use Rattle.hp_inode.proofs.Bare.{holes_kept, none_in, none_left}
+use Rattle.hp_inode.proofs.CellFacts.{entered_cells, length-cells}
+use Rattle.hp_inode.proofs.Dropped.{dropped_cells}
 use Rattle.hp_inode.proofs.Inode.drop_entries.Goals as goal
 
-pub overflow_sub-self : goal.overflow_sub-self
-overflow_sub-self c =
-    let long = length-cells c.self.inside.len c.self.inside.entries c.self.inside.table in
-    let within = rw (← c.self.view_is, long) at c.requires.within in
-    omega (arith, count_few _ _ _ _ c.args.a c.args.b c.self.invariant.kept within, c.remove-count.ensures.count)
+pub returns-in_default-clause-count : goal.returns-in_default-clause-count
+returns-in_default-clause-count c =
+    let len = c.in_default.field-0 in
+    let within = rw (← c.self.view_is, c.in_default.is, length-cells len [] []) at c.requires.within in
+    rw (← c.self.view_is, c.in_default.is) (sym (none_in c.args.a c.args.b) ∙ entered_cells len [] [] c.args.a c.args.b within)
 
-pub invariant_of-self : goal.invariant_of-self
-invariant_of-self c =
-    let s = c.self.inside in
-    let within = rw (← c.self.view_is, length-cells s.len s.entries s.table) at c.requires.within in
-    let none : All (λ (c : Cell ℕ). has_page c ≡ false) (part c.args.a c.args.b (cells_of s.len s.entries s.table)) = rw c.self.view_is c.requires.pageless in
-    record {
-      kept = dropped_kept _ _ _ _ _ c.args.a c.args.b c.self.invariant.kept within c.remove-count.ensures.left none c.remove-count.result c.remove-count.ensures.count;
-      paged = c.self.invariant.paged ∙ sym (dropped_paged c.args.a c.args.b (cells_of s.len s.entries s.table) none) ∙ ap (count_by has_page) (sym (dropped_cells _ _ _ c.remove-count.new.self _ c.args.a c.args.b c.self.invariant.kept within c.remove-count.ensures.left));
-    }
-
-pub returns-clause-count : goal.returns-clause-count
-returns-clause-count c =
-    let within = rw (← c.self.view_is, length-cells c.self.inside.len c.self.inside.entries c.self.inside.table) at c.requires.within in
-    rw (← c.self.view_is) (c.remove-count.ensures.count ∙ entered_cells _ _ _ c.args.a c.args.b within)
-
-pub returns-clause-cells : goal.returns-clause-cells
-returns-clause-cells c =
-    let within = rw (← c.self.view_is, length-cells c.self.inside.len c.self.inside.entries c.self.inside.table) at c.requires.within in
-    rw (← c.self.view_is) (dropped_cells _ _ _ c.remove-count.new.self _ c.args.a c.args.b c.self.invariant.kept within c.remove-count.ensures.left)
+pub returns-in_default-clause-cells : goal.returns-in_default-clause-cells
+returns-in_default-clause-cells c =
+    let len = c.in_default.field-0 in
+    let within = rw (← c.self.view_is, c.in_default.is, length-cells len [] []) at c.requires.within in
+    rw (← c.self.view_is, c.in_default.is)
+    (dropped_cells len 0 [] [] [] c.args.a c.args.b (holes_kept c.in_default.is c.self.invariant) within (none_left c.args.a c.args.b))

@@ -1,21 +1,14 @@
-use Rattle.std.proofs.Common.{sym, ap, ◌∙◌}
-use Rattle.std.specs.List.{count_by}
-use Rattle.hp_model.specs.files.File.{at_least, has_page}
-use Rattle.hp_inode.specs.Kept.{cells_of}
-use Rattle.hp_inode.proofs.Paged.{longer_paged}
-use Rattle.hp_inode.proofs.Readying.{longer_cells, longer_kept}
+use Rattle.std.proofs.Common.{◌≡◌, []}
+use Rattle.hp_model.specs.files.File.{at_least}
+use Rattle.hp_inode.specs.Form.{cells_in}
+use Rattle.hp_inode.proofs.Bare.{holes_kept}
+use Rattle.hp_inode.proofs.Readying.{longer_cells}
 use Rattle.hp_inode.proofs.Inode.lengthen.Goals as goal
-
-pub invariant_of-self : goal.invariant_of-self
-invariant_of-self c =
-    let s = c.self.inside in
-    let kept = c.self.invariant.kept in
-    record {
-      kept = longer_kept s.len s.count s.entries s.table c.args.len c.max-self-inside.result kept c.requires c.max-self-inside.ensures;
-      paged = c.self.invariant.paged ∙ sym (longer_paged c.args.len (cells_of s.len s.entries s.table)) ∙ ap (count_by has_page) (sym (longer_cells s.len s.count s.entries s.table c.args.len c.max-self-inside.result kept c.requires c.max-self-inside.ensures));
-    }
+use Rattle.hp_inode.proofs.Inode.lengthen.Goals.{in-Holes, in-Kept}
 
 pub returns : goal.returns
-returns c =
-    let s = c.self.inside in
-    longer_cells s.len s.count s.entries s.table c.args.len c.max-self-inside.result c.self.invariant.kept c.requires c.max-self-inside.ensures ∙ ap (at_least c.args.len) c.self.view_is
+returns c = elim c.match-self.branch as (λ _. cells_in c.match-self.self-inside.form ≡ at_least c.args.len c.args.self.now) [
+  | in-Holes w ↦ rw (w.self-inside-is, ← c.self.view_is, w.in-Holes.is)
+      (longer_cells w.in-Holes.own 0 [] [] c.args.len w.max.result (holes_kept w.in-Holes.is c.self.invariant) c.requires w.max.ensures)
+  | in-Kept w ↦ rw (w.self-inside-is, ← c.self.view_is, w.in-Kept.is, ← w.deref_mut.ensures.value) w.lengthen.ensures
+]

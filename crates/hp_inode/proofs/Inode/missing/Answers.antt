@@ -1,9 +1,10 @@
-use Rattle.std.proofs.Common.{◌∙◌}
+use Rattle.std.proofs.Common.{sym, ◌∙◌, []}
+use Rattle.hp_inode.proofs.Bare.{all_missing}
 use Rattle.hp_inode.proofs.CellFacts.{missing_cells, length-cells}
 use Rattle.hp_inode.proofs.Inode.missing.Goals as goal
 
-pub returns : goal.returns
-returns c =
-    let long = length-cells c.self.inside.len c.self.inside.entries c.self.inside.table in
-    let within = rw (← c.self.view_is, long) at c.requires in
-    rw (← c.self.view_is) (c.missing.ensures ∙ missing_cells _ _ _ c.args.a c.args.b within)
+pub returns-in-Holes : goal.returns-in-Holes
+returns-in-Holes c =
+    let len = c.in-Holes.field-0 in
+    let within = rw (← c.self.view_is, c.in-Holes.is, length-cells len [] []) at c.requires in
+    rw (← c.self.view_is, c.in-Holes.is) (c.saturating_sub.ensures ∙ sym (all_missing c.args.a c.args.b) ∙ missing_cells len [] [] c.args.a c.args.b within)

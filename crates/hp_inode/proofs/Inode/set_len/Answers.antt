@@ -1,21 +1,14 @@
-use Rattle.std.proofs.Common.{◌≡◌, ℕ, drop, sym, ap, ◌∙◌}
-use Rattle.std.specs.List.{All, count_by}
-use Rattle.hp_model.specs.declared.cell.Cell.{Cell}
-use Rattle.hp_model.specs.declared.cell.Cell.TheVariants.{Hole}
-use Rattle.hp_model.specs.files.File.{has_page}
-use Rattle.hp_inode.specs.Kept.{cells_of}
-use Rattle.hp_inode.proofs.CellFacts.{resized, resized_kept}
-use Rattle.hp_inode.proofs.Paged.{resized_paged}
+use Rattle.std.proofs.Common.{◌≡◌}
+use Rattle.hp_model.specs.files.File.{cells_to}
+use Rattle.hp_inode.specs.Form.{cells_in}
+use Rattle.hp_inode.proofs.Bare.{holes_kept}
+use Rattle.hp_inode.proofs.CellFacts.{resized}
 use Rattle.hp_inode.proofs.Inode.set_len.Goals as goal
-
-pub invariant_of-self : goal.invariant_of-self
-invariant_of-self c =
-    let s = c.self.inside in
-    let holes : All (λ (c : Cell ℕ). c ≡ Hole) (drop c.args.len (cells_of s.len s.entries s.table)) = rw c.self.view_is c.requires.holes in
-    record {
-      kept = resized_kept _ _ _ _ c.self.invariant.kept c.args.len holes c.requires.small;
-      paged = c.self.invariant.paged ∙ sym (resized_paged c.args.len (cells_of s.len s.entries s.table) holes) ∙ ap (count_by has_page) (sym (resized _ _ _ _ c.self.invariant.kept c.args.len holes));
-    }
+use Rattle.hp_inode.proofs.Inode.set_len.Goals.{in-Holes, in-Kept}
 
 pub returns : goal.returns
-returns c = rw (← c.self.view_is) (resized _ _ _ _ c.self.invariant.kept c.args.len (rw c.self.view_is c.requires.holes))
+returns c = elim c.match-self.branch as (λ _. cells_in c.match-self.self-inside.form ≡ cells_to c.args.len c.args.self.now) [
+  | in-Holes w ↦ rw (w.self-inside-is, ← c.self.view_is, w.in-Holes.is)
+      (resized _ _ _ _ (holes_kept w.in-Holes.is c.self.invariant) c.args.len (rw (← c.self.view_is, w.in-Holes.is) at c.requires.holes))
+  | in-Kept w ↦ rw (w.self-inside-is, ← c.self.view_is, w.in-Kept.is, ← w.deref_mut.ensures.value) w.set_len.ensures
+]

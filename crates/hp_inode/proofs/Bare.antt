@@ -1,0 +1,51 @@
+-- Holes alone: no entries, and no pages.
+use Rattle.std.proofs.Common.{◌≡◌, ℕ, ◌-◌, ◌<◌, ◌^◌, ◌&&◌, true, false, not, [], None, refl, sym, ap, ◌∙◌, arith}
+use Rattle.std.specs.List.{range_with_len, count_by}
+use Rattle.std.proofs.lemmas.Bool.{false≢true}
+use Rattle.std.proofs.lemmas.List.FromFn.{length-range_with_len}
+use Rattle.hp_model.specs.files.File.{has_page}
+use Rattle.hp_model.specs.files.Ranges.{within}
+use Rattle.hp_model.proofs.Counting.{count_map, count_not, count_outside}
+use Rattle.hp_inode.specs.declared.form.Form.{Form}
+use Rattle.hp_inode.specs.declared.form.Form.TheVariants.{Holes}
+use Rattle.hp_inode.specs.Entries.{count_in, missing_in}
+use Rattle.hp_inode.specs.Form.{IsForm}
+use Rattle.hp_inode.specs.Kept.{IsKept, cell_by, cell_of, cells_of}
+use Rattle.hp_inode.specs.Marks.{marked}
+use Rattle.hp_inode.specs.Rows.{page_in}
+use Rattle.hp_inode.proofs.Words.{unmarked_past}
+
+-- in the empty lists there is no mark, and no page
+pub unmarked : (i : ℕ) → marked [] i ≡ false
+unmarked i = unmarked_past [] i (omega arith)
+
+pub nowhere : (i : ℕ) → marked [] i ≡ true → ⊥
+nowhere i in' = false≢true (sym (unmarked i) ∙ in')
+
+pub pageless : (i : ℕ) → page_in [] i ≡ None
+pageless i = refl
+
+pub none_left : (a b k : ℕ) → marked [] k ≡ (marked [] k && not (within a b k))
+none_left a b k = rw (unmarked k) refl
+
+pub none_in : (a b : ℕ) → count_in [] a b ≡ 0
+none_in a b = count_outside (marked []) a (b - a) (λ i low high. unmarked i)
+
+pub all_missing : (a b : ℕ) → missing_in [] a b ≡ b - a
+all_missing a b = omega (arith, count_not (marked []) (range_with_len a (b - a)), none_in a b, length-range_with_len a (b - a))
+
+-- so many holes are an inode's parts
+pub bare_kept : (len : ℕ) → len < 2 ^ 32 → IsKept len 0 [] []
+bare_kept len small = record {
+  small = small;
+  below = λ i in'. absurd (nowhere i in');
+  counted = none_in 0 len;
+  paged = λ i some. absurd (false≢true some);
+  slots = λ i in'. absurd (nowhere i in');
+}
+
+pub bare_paged : (len : ℕ) → 0 ≡ count_by has_page (cells_of len [] [])
+bare_paged len = sym (count_map has_page (cell_of [] []) (range_with_len 0 len) ∙ count_outside (λ i. has_page (cell_of [] [] i)) 0 len (λ i low high. ap (λ t. has_page (cell_by t (page_in [] i))) (unmarked i)))
+
+pub holes_kept : {form : Form} {len : ℕ} → form ≡ Holes len → IsForm form → IsKept len 0 [] []
+holes_kept {form} {len} is small = bare_kept len (rw is at small)

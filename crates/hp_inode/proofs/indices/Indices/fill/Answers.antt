@@ -1,0 +1,34 @@
+use Rattle.std.proofs.Common.{◌+◌, Some, sym, ap, ◌∙◌, arith}
+use Rattle.std.specs.List.{count_by}
+use Rattle.std.proofs.lemmas.List.Sums.{count_by-le-length}
+use Rattle.hp_model.specs.files.File.{has_page}
+use Rattle.hp_inode.specs.Kept.{cells_of}
+use Rattle.hp_inode.proofs.CellFacts.{entered_cell, changed, changed_kept, length-cells}
+use Rattle.hp_inode.proofs.Paged.{filled_paged}
+use Rattle.hp_inode.proofs.indices.Indices.fill.Goals as goal
+
+pub set-requires : goal.set-requires
+set-requires c = c.self.invariant.kept.slots c.args.i (entered_cell _ _ _ _ c.self.invariant.kept c.args.i (rw (← c.self.view_is) at c.requires))
+
+pub invariant_of-self : goal.invariant_of-self
+invariant_of-self c =
+    let entered = entered_cell _ _ _ _ c.self.invariant.kept c.args.i (rw (← c.self.view_is) at c.requires) in
+    let s = c.self.inside in
+    let new = changed _ _ _ _ c.self.invariant.kept c.args.i (Some c.args.page) _ entered c.set.ensures.here c.set.ensures.others in
+    record {
+      kept = changed_kept _ _ _ _ c.self.invariant.kept c.args.i (Some c.args.page) _ entered c.set.ensures.here c.set.ensures.others c.set.ensures.slots;
+      paged = ap (λ n. n + 1) c.self.invariant.paged ∙ sym (filled_paged (cells_of s.len s.entries s.table) c.args.i c.args.page (rw (← c.self.view_is) at c.requires)) ∙ ap (count_by has_page) (sym new);
+      small = c.self.invariant.small;
+      slots = λ k low high. c.set.ensures.slots k ∙ c.self.invariant.slots k low high;
+      room = c.self.invariant.room;
+    }
+
+pub overflow_add-self : goal.overflow_add-self
+overflow_add-self c =
+    let s = c.self.inside in
+    omega (arith, c.self.invariant.paged, c.self.invariant.kept.small, count_by-le-length has_page (cells_of s.len s.entries s.table), length-cells s.len s.entries s.table)
+
+pub returns : goal.returns
+returns c =
+    let entered = entered_cell _ _ _ _ c.self.invariant.kept c.args.i (rw (← c.self.view_is) at c.requires) in
+    rw (← c.self.view_is) (changed _ _ _ _ c.self.invariant.kept c.args.i (Some c.args.page) _ entered c.set.ensures.here c.set.ensures.others)

@@ -1,0 +1,188 @@
+//! The indices of a file that has entries, or was to have some.
+ghost use Rattle.std.specs.Prelude.{ℕ, ◌≡◌, ◌+◌, ◌<◌, ◌≤◌, ◌^◌, [], length, drop, OnOk, OnErr, MatchOption, None, false};
+ghost use Rattle.std.specs.List.{slice_set, count_by, All};
+ghost use Rattle.hp_model.specs.files.File.{is_entered, is_hole, has_page, page_of, entered, at_least, cell_in, cells_to};
+ghost use Rattle.hp_model.specs.Lists.{edit_range, part, found};
+ghost use Rattle.hp_model.specs.declared.cell.Cell.TheVariants.{Hole, Entered, Present};
+ghost use Rattle.hp_inode.specs.Kept.{cells_of};
+
+use crate::entries::Entries;
+use crate::table::PageTable;
+use hp_model::page_no::PageNo;
+use std::alloc::{AllocError, Global};
+use std::marker::Model;
+
+/// A file's length, which of its indices are entered, and their pages; and a range that can be entered with no memory.
+/// Contracts see the list of its cells, and the range. The methods that `Inode` has are as it says of them.
+#[derive(Drop)]
+pub(crate) struct Indices {
+    len: u64,
+    table: PageTable,
+    // how many indices are entered, and how many of these have a page
+    count: u64,
+    pages: u64,
+    entries: Entries,
+    // the range that can be entered: none after a change of the entries
+    from: u64,
+    to: u64,
+}
+
+impl Model for Indices {
+    ghost use Rattle.hp_inode.specs.Kept.{cells_of};
+    ghost use Rattle.hp_inode.specs.Ready.{Ready, IsReady};
+
+    ghost Value = { Ready };
+
+    ghost view = { λ f. record { cells = cells_of f.len f.entries f.table; from = f.from; to = f.to } };
+
+    ghost invariant = { λ f. IsReady f.len f.count f.pages f.entries f.table f.from f.to };
+}
+
+impl Indices {
+    /// `len` holes.
+    pub fn new(alloc: Global, len: u64) -> Self
+        requires { len < 2 ^ 32 }
+        ensures { result.cells ≡ cells_of len [] [] }
+    {
+        Indices {
+            len,
+            count: 0,
+            pages: 0,
+            entries: Entries::new(alloc),
+            table: PageTable::new(alloc),
+            from: 0,
+            to: 0,
+        }
+    }
+
+    pub fn len(&self) -> u64
+        ensures len { result ≡ length self.now.cells }
+        ensures small { result < 2 ^ 32 }
+    {
+        self.len
+    }
+
+    pub fn page_at(&self, i: u64) -> Option<PageNo>
+        ensures { result ≡ page_of (cell_in self.now.cells i) }
+    {
+        self.table.page_at(i)
+    }
+
+    pub fn entered(&self, i: u64) -> bool
+        ensures { result ≡ is_entered (cell_in self.now.cells i) }
+    {
+        self.entries.contains(i)
+    }
+
+    pub fn entry_count(&self) -> u64
+        ensures { result ≡ count_by is_entered self.now.cells }
+    {
+        self.count
+    }
+
+    pub fn page_count(&self) -> u64
+        ensures { result ≡ count_by has_page self.now.cells }
+    {
+        self.pages
+    }
+
+    pub fn missing(&self, a: u64, b: u64) -> u64
+        requires { b ≤ length self.now.cells }
+        ensures { result ≡ count_by is_hole (part a b self.now.cells) }
+    {
+        self.entries.missing(a, b)
+    }
+
+    pub fn fill(&mut self, i: u64, page: PageNo)
+        requires { cell_in self.old.cells i ≡ Entered }
+        ensures { self.new.cells ≡ slice_set self.old.cells i (Present page) }
+    {
+        self.table.set(i, Some(page));
+        self.pages += 1;
+    }
+
+    pub fn reserve_range(&mut self, a: u64, b: u64) -> Result<(), AllocError>
+        requires { b ≤ length self.old.cells }
+        ensures ok { OnOk result (self.new.cells ≡ edit_range entered a b self.old.cells) }
+        ensures err { OnErr result (self.new.cells ≡ self.old.cells) }
+    {
+        // it is below 2^32, and so is b
+        let _ = &self.len;
+        self.prepare(a, b)?;
+        self.enter();
+        Ok(())
+    }
+
+    /// Makes the room to enter the indices from `a` up to `b`, past the end too. At an error the cells are as they were.
+    pub fn prepare(&mut self, a: u64, b: u64) -> Result<(), AllocError>
+        requires { b < 2 ^ 32 }
+        ensures ok { OnOk result (self.new ≡ record { cells = self.old.cells; from = a; to = b }) }
+        ensures err { OnErr result (self.new.cells ≡ self.old.cells) }
+    {
+        self.to = 0;
+        self.table.make_slots(a, b)?;
+        self.entries.make_room(a, b)?;
+        self.from = a;
+        self.to = b;
+        Ok(())
+    }
+
+    /// Enters the range, which makes the file longer where it reaches past the end.
+    pub fn enter(&mut self)
+        ensures { self.new.cells ≡ edit_range entered self.old.from self.old.to (at_least self.old.to self.old.cells) }
+    {
+        let (from, to) = (self.from, self.to);
+        self.to = 0;
+        let missing = self.entries.missing(from, to);
+        self.entries.add(from, to);
+        self.len = self.len.max(to);
+        self.count += missing;
+    }
+
+    pub fn set_len(&mut self, len: u64)
+        requires small { len < 2 ^ 32 }
+        requires holes { All (λ cell. cell ≡ Hole) (drop len self.old.cells) }
+        ensures { self.new.cells ≡ cells_to len self.old.cells }
+    {
+        self.len = len;
+    }
+
+    pub fn lengthen(&mut self, len: u64)
+        requires { len < 2 ^ 32 }
+        ensures { self.new.cells ≡ at_least len self.old.cells }
+    {
+        self.len = self.len.max(len);
+    }
+
+    pub fn take_page(&mut self, a: u64, b: u64) -> Option<PageNo>
+        ensures page { MatchOption (found has_page (part a b self.old.cells))
+            (result ≡ None)
+            (λ p. result ≡ page_of p.1) }
+        ensures cells { MatchOption (found has_page (part a b self.old.cells))
+            (self.new.cells ≡ self.old.cells)
+            (λ p. self.new.cells ≡ slice_set self.old.cells (a + p.0) Hole) }
+        ensures none { result ≡ None → All (λ cell. has_page cell ≡ false) (part a b self.new.cells) }
+    {
+        let i = self.table.first_from(a)?;
+        if i >= b {
+            return None;
+        }
+        let page = self.page_at(i);
+        self.table.set(i, None);
+        self.pages -= 1;
+        self.drop_entries(i, i + 1);
+        page
+    }
+
+    pub fn drop_entries(&mut self, a: u64, b: u64) -> u64
+        requires within { b ≤ length self.old.cells }
+        requires pageless { All (λ cell. has_page cell ≡ false) (part a b self.old.cells) }
+        ensures count { result ≡ count_by is_entered (part a b self.old.cells) }
+        ensures cells { self.new.cells ≡ edit_range (λ cell. Hole) a b self.old.cells }
+    {
+        self.to = 0;
+        let count = self.entries.remove(a, b);
+        self.count -= count;
+        count
+    }
+}
