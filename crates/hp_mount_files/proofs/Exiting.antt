@@ -1,5 +1,5 @@
 -- All maps of a task leave the files.
-use Rattle.std.proofs.Common.{◌≡◌, ℕ, ◌+◌, ◌-◌, ◌≤◌, ◌==◌, ◌||◌, ◌&&◌, nat_lt, Bool, true, false, not, cond, List, [], ◌∷◌, ◌++◌, length, take, drop, map, refl, sym, ap, ◌∙◌, arith}
+use Rattle.std.proofs.Common.{◌≡◌, ℕ, ◌+◌, ◌-◌, ◌≤◌, ◌==◌, ◌||◌, ◌&&◌, nat_lt, Bool, true, false, not, cond, List, [], ◌∷◌, length, map, refl, sym, ap, ◌∙◌, arith}
 use Rattle.std.specs.Prelude.{is_some}
 use Rattle.std.specs.List.{count_by, filter, sum_by}
 use Rattle.std.proofs.lemmas.Bool.{eqb-true}
@@ -19,7 +19,7 @@ use Rattle.hp_mount_files.specs.Leaving.{HasLeft, emptied, file_owed, is_used, l
 use Rattle.hp_mount_files.specs.Numbered.{NumberedFile, file_shown, files_shown, map_shown, with_truncated}
 use Rattle.hp_mount_files.proofs.Cutting.{none_mapped}
 use Rattle.hp_mount_files.proofs.Drops.{drop_as}
-use Rattle.hp_mount_files.proofs.FileLeaves.{empty_file, others, written_back}
+use Rattle.hp_mount_files.proofs.FileLeaves.{empty_file, others}
 use Rattle.hp_mount_files.proofs.Level.{filtered_level}
 use Rattle.hp_mount_files.proofs.Leaving.{left_gives, left_keeps, left_noted, left_shows, keys_less}
 use Rattle.hp_mount_files.proofs.Mapped.{sum_through}
@@ -112,22 +112,19 @@ maps_in gs = sum_through (λ (q : Label). length q.keys) label_of gs ∙ each gs
 
 -- ---- as code leaves the files: those that it went over, as it left them, and those that it kept
 
-module _ {n later : Noted} {s t : Store} {more now maps : ℕ} {tally : ℕ → ℕ} {fs raw ended kept : List NumberedFile} {len task r k : ℕ} (few : length fs ≡ len) (is : IsFiles n s more maps tally fs) (raw_is : raw ≡ fs)
-    (went : HasLeft task raw ended n later s t now k r) (kept_is : kept ≡ filter is_used (take len (ended ++ drop (length ended) fs))) where
+module _ {n later : Noted} {s t : Store} {more now maps : ℕ} {tally : ℕ → ℕ} {fs ended kept : List NumberedFile} {task r k : ℕ} (is : IsFiles n s more maps tally fs) (went : HasLeft task fs ended n later s t now k r) (kept_is : kept ≡ filter is_used ended) where
   ended_is : ended ≡ map (λ f. emptied (left_by task f)) fs
-  ended_is = went.left ∙ ap (map (λ f. emptied (left_by task f))) raw_is
+  ended_is = went.left
 
   hs_is : kept ≡ filter is_used (map (left_by task) fs)
-  hs_is =
-      let long = ap length went.left ∙ length-map raw (λ f. emptied (left_by task f)) ∙ ap length raw_is ∙ few in
-      kept_is ∙ ap (filter is_used) (written_back len ended fs long ∙ ended_is) ∙ emptied_gone (left_by task) fs
+  hs_is = kept_is ∙ ap (filter is_used) ended_is ∙ emptied_gone (left_by task) fs
 
   sum_kept : (c : NumberedFile → ℕ) → ((f : NumberedFile) → is_used f ≡ false → c (with_truncated 0 f) ≡ 0) → sum_by c ended ≡ sum_by c kept
   sum_kept c none = ap (sum_by c) ended_is ∙ emptied_sum (left_by task) c none fs ∙ sym (ap (sum_by c) hs_is)
 
   dropping : IsDropping (λ m. in_files m fs) (λ m. in_files m kept) s t
-  dropping = drop_as (λ m. in_files m raw) (λ m. in_files m ended) (λ m. in_files m fs) (λ m. in_files m kept) s t went.dropping
-      (λ m. (let same = ap (in_files m) raw_is in let left = sum_kept (in_file m) (λ f out. ap (in_file m) (empty_file f out).1) in omega (arith, same, left)))
+  dropping = drop_as (λ m. in_files m fs) (λ m. in_files m ended) (λ m. in_files m fs) (λ m. in_files m kept) s t went.dropping
+      (λ m. (let left = sum_kept (in_file m) (λ f out. ap (in_file m) (empty_file f out).1) in omega (arith, left)))
 
   less : (m : ℕ) (f : NumberedFile) → sum_by (in_map m) (others task f.maps) ≤ sum_by (in_map m) f.maps
   less m f = sum_by-filter_le (in_map m) (λ (x : Mapping ℕ). not (is_of task x)) f.maps
@@ -138,7 +135,7 @@ module _ {n later : Noted} {s t : Store} {more now maps : ℕ} {tally : ℕ → 
 
   pub exit_left : IsLeft r (view s more fs) (view t now kept)
   exit_left = left_gives n s t more now maps tally fs kept is (left_by task) hs_is dropping went.counted (λ f. refl) less r
-      (let left = sum_kept file_owed (λ f out. ap file_owed (empty_file f out).1) in let was = ap (sum_by file_owed) raw_is in (let gave = went.waiting in omega (arith, gave, left, was)))
+      (let left = sum_kept file_owed (λ f out. ap file_owed (empty_file f out).1) in let gave = went.waiting in omega (arith, gave, left))
 
   -- ---- how many maps
 
@@ -146,16 +143,15 @@ module _ {n later : Noted} {s t : Store} {more now maps : ℕ} {tally : ℕ → 
   all_maps_are = is.keyed.map_count ∙ maps_in fs
 
   pub exit_few : k ≤ maps
-  exit_few = (let all = all_maps_are in let was = ap map_sum raw_is in let gone = went.gone in omega (arith, all, gone, was))
+  exit_few = (let all = all_maps_are in let gone = went.gone in omega (arith, all, gone))
 
   maps_left : maps - k ≡ sum_by (λ (q : Label). length q.keys) (labels_of kept)
   maps_left =
       let all = all_maps_are in
-      let was = ap map_sum raw_is in
       let left = maps_in kept in
       let same = sum_kept (λ (f : NumberedFile). length f.maps) (λ f out. ap (λ (f : NumberedFile). length f.maps) (empty_file f out).1) in
       let gone = went.gone in
-      omega (arith, all, was, left, same, gone)
+      omega (arith, all, left, same, gone)
 
   -- the task has none left, the others what they had
   tally_left : (q : ℕ) → sum_by (maps_for q) (labels_of kept) ≡ cond (task == q) 0 (tally q)

@@ -1,10 +1,9 @@
 -- A fork as code leaves the files: maps of the child's number gone, and then the child's maps behind their parent's.
-use Rattle.std.proofs.Common.{◌≡◌, ℕ, ◌+◌, ◌-◌, ◌<◌, ◌≤◌, ◌^◌, ◌==◌, ◌||◌, nat_lt, Bool, true, false, not, cond, None, max, replicate, List, [], ◌∷◌, ◌++◌, length, take, drop, map, refl, sym, ap, subst, ◌∙◌, arith}
+use Rattle.std.proofs.Common.{◌≡◌, ℕ, ◌+◌, ◌-◌, ◌<◌, ◌≤◌, ◌^◌, ◌==◌, ◌||◌, nat_lt, Bool, true, false, not, cond, None, max, replicate, List, [], ◌∷◌, ◌++◌, length, map, refl, sym, ap, subst, ◌∙◌, arith}
 use Rattle.std.specs.Global.{Vec}
 use Rattle.std.specs.Prelude.{is_some}
 use Rattle.std.specs.List.{filter, sum_by}
 use Rattle.std.proofs.lemmas.Bool.Decides.{nat_tests}
-use Rattle.std.proofs.lemmas.List.{length-map}
 use Rattle.std.proofs.lemmas.List.Sums.{sum_by-cons}
 use Rattle.hp_model.specs.files.File.{File}
 use Rattle.hp_model.specs.files.Fork.{file_forked}
@@ -22,7 +21,7 @@ use Rattle.hp_mount_files.specs.Numbered.{NumberedFile, files_shown, with_trunca
 use Rattle.hp_mount_files.specs.Places.{all_maps}
 use Rattle.hp_mount_files.proofs.Entering.{room_keeps, room_view}
 use Rattle.hp_mount_files.proofs.Exiting.{exit_files, exit_keeps, exit_keys, exit_left, keys_gone}
-use Rattle.hp_mount_files.proofs.FileLeaves.{empty_file, written_back}
+use Rattle.hp_mount_files.proofs.FileLeaves.{empty_file}
 use Rattle.hp_mount_files.proofs.Forked.{few_kids, fork_held, fork_keeps, fork_keyed, fork_shows, in_kids, owed_same}
 use Rattle.hp_mount_files.proofs.Keys.{noted_more}
 use Rattle.hp_mount_files.proofs.Leaving.{files_owe}
@@ -174,11 +173,11 @@ pub record IsSet (parent child held : ℕ) (v : Files) (n : Noted) (s : Store) (
   pub few : held + more + sum_by list_copies lists ≤ 2 ^ 32
   pub shown : record (view s more fs) { room = held } ≡ record v { room = held }
 
-pub set_out : {parent child held all maps : ℕ} {v : Files} {old n : Noted} {s t : Store} {more : ℕ} {tally : ℕ → ℕ} {fs walked : List NumberedFile} {lists counted : List (Vec (Mapping ℕ))} → IsFiles old s more maps tally fs → view s more fs ≡ v → IsMore old n
-    → walked ≡ fs → AreReady parent child walked lists → counted ≡ lists → (all < 2 ^ 64 - 1 → all ≡ held + more + sum_by list_copies counted) → held_count s.pages + all ≤ 2 ^ 32
+pub set_out : {parent child held all maps : ℕ} {v : Files} {old n : Noted} {s t : Store} {more : ℕ} {tally : ℕ → ℕ} {fs : List NumberedFile} {lists counted : List (Vec (Mapping ℕ))} → IsFiles old s more maps tally fs → view s more fs ≡ v → IsMore old n
+    → AreReady parent child fs lists → counted ≡ lists → (all < 2 ^ 64 - 1 → all ≡ held + more + sum_by list_copies counted) → held_count s.pages + all ≤ 2 ^ 32
     → t ≡ record s { pages = t.pages; room = max s.room all } → t.pages ≡ s.pages ++ replicate (length t.pages - length s.pages) None → ((m : ℕ) → page_at t m ≡ page_at s m)
     → IsSet parent child held v n t more maps tally fs lists
-set_out {parent} {child} {held} {all} {maps} {v} {old} {n} {s} {t} {more} {tally} {fs} {walked} {lists} is view_is grown walk ready list room few made pages same =
+set_out {parent} {child} {held} {all} {maps} {v} {old} {n} {s} {t} {more} {tally} {fs} {lists} is view_is grown ready list room few made pages same =
     let copies = ap (sum_by list_copies) list in
     let all_is = room (omega (arith, few)) in
     let parts : all ≡ more + (held + sum_by list_copies lists) = omega (arith, all_is, copies) in
@@ -190,7 +189,7 @@ set_out {parent} {child} {held} {all} {maps} {v} {old} {n} {s} {t} {more} {tally
         noted = noted_more old n (labels_of fs) grown is.noted;
         level = is.level;
       };
-      ready = subst (λ gs. AreReady parent child gs lists) walk ready;
+      ready = ready;
       room = omega (arith, wide, parts);
       few = omega (arith, parts, few);
       shown = ap (λ (x : Files). record x { room = held }) (room_view s t more (held + sum_by list_copies lists) all fs is.held parts made pages same) ∙ ap (λ (x : Files). record x { room = held }) view_is;
@@ -198,28 +197,16 @@ set_out {parent} {child} {held} {all} {maps} {v} {old} {n} {s} {t} {more} {tally
 
 -- ---- the maps of the child's number are gone
 
-module _ {n dropped : Noted} {s t : Store} {more now maps held : ℕ} {tally : ℕ → ℕ} {fs raw ended : List NumberedFile} {len parent child r k : ℕ} {lists : List (Vec (Mapping ℕ))} {v : Files} (few : length fs ≡ len) (set : IsSet parent child held v n s more maps tally fs lists)
-    (apart : (parent == child) ≡ false) (raw_is : raw ≡ fs) (went : HasLeft child raw ended n dropped s t now k r) where
+module _ {n dropped : Noted} {s t : Store} {more now maps held : ℕ} {tally : ℕ → ℕ} {fs ended : List NumberedFile} {parent child r k : ℕ} {lists : List (Vec (Mapping ℕ))} {v : Files} (set : IsSet parent child held v n s more maps tally fs lists)
+    (apart : (parent == child) ≡ false) (went : HasLeft child fs ended n dropped s t now k r) where
   ended_is : ended ≡ map (λ f. emptied (left_by child f)) fs
-  ended_is = went.left ∙ ap (map (λ f. emptied (left_by child f))) raw_is
+  ended_is = went.left
 
   abbrev K : List NumberedFile
   K = filter is_used ended
 
-  abbrev back : List NumberedFile
-  back = take len (ended ++ drop (length ended) fs)
-
-  long : length ended ≡ len
-  long = ap length ended_is ∙ length-map fs (λ f. emptied (left_by child f)) ∙ few
-
-  back_is : back ≡ ended
-  back_is = written_back len ended fs long
-
-  K_is : K ≡ filter is_used back
-  K_is = sym (ap (filter is_used) back_is)
-
   left : IsFiles dropped t now (maps - k) (λ q. cond (child == q) 0 (tally q)) K
-  left = exit_keeps few set.is raw_is went K_is (maps - k) (λ q. cond (child == q) 0 (tally q)) refl (λ q. refl)
+  left = exit_keeps set.is went refl (maps - k) (λ q. cond (child == q) 0 (tally q)) refl (λ q. refl)
 
   ready_now : AreReady parent child ended lists
   ready_now = subst (λ gs. AreReady parent child gs lists) (sym ended_is) (ready_ended parent child apart fs lists set.ready)
@@ -227,109 +214,106 @@ module _ {n dropped : Noted} {s t : Store} {more now maps held : ℕ} {tally : �
   lists_in : (m : ℕ) → in_lists m lists ≡ in_kids parent child apart m K
   lists_in m = ready_in parent child apart m ended lists ready_now ∙ sym (used_in parent child apart m ended)
 
-  module _ {raw2 : List NumberedFile} (raw2_is : raw2 ≡ back) where
-    pub join_room : HaveRoom raw2 lists
-    join_room = subst (λ gs. HaveRoom gs lists) (sym (raw2_is ∙ back_is)) (ready_room parent child apart ended lists ready_now)
+  pub join_room : HaveRoom ended lists
+  join_room = ready_room parent child apart ended lists ready_now
 
-    pub join_held : (m : ℕ) → in_lists m lists ≤ holders_of (page_at t m)
-    join_held m = (let all = lists_in m in let few = few_kids parent child apart m K in let held = left.held.held m in omega (arith, all, few, held))
+  pub join_held : (m : ℕ) → in_lists m lists ≤ holders_of (page_at t m)
+  join_held m = (let all = lists_in m in let few = few_kids parent child apart m K in let held = left.held.held m in omega (arith, all, few, held))
 
-    pub join_few : now + sum_by list_copies lists ≤ 2 ^ 32
-    join_few = (let was = set.is.held.counted in let less = went.dropping.fewer in let few = set.few in omega (arith, was, less, few, went.counted))
+  pub join_few : now + sum_by list_copies lists ≤ 2 ^ 32
+  join_few = (let was = set.is.held.counted in let less = went.dropping.fewer in let few = set.few in omega (arith, was, less, few, went.counted))
 
-    module _ {joint kept : List NumberedFile} {u : Store} {more2 : ℕ} (came : HaveJoined lists raw2 joint t u now more2) (kept_is : kept ≡ filter is_used (take len (joint ++ drop (length joint) back))) where
-      abbrev shares : IsSharing (λ m. in_lists m lists) t u
-      shares = came.sharing
+  module _ {joint kept : List NumberedFile} {u : Store} {more2 : ℕ} (came : HaveJoined lists ended joint t u now more2) (kept_is : kept ≡ filter is_used joint) where
+    abbrev shares : IsSharing (λ m. in_lists m lists) t u
+    shares = came.sharing
 
-      enough : held + more2 ≤ u.room
-      enough =
-          let was = set.is.held.counted in
-          let less = went.dropping.fewer in
-          let room = set.room in
-          let same = shares.room in
-          let before = went.dropping.room in
-          omega (arith, was, less, room, same, before, went.counted, came.more_are)
+    enough : held + more2 ≤ u.room
+    enough =
+        let was = set.is.held.counted in
+        let less = went.dropping.fewer in
+        let room = set.room in
+        let same = shares.room in
+        let before = went.dropping.room in
+        omega (arith, was, less, room, same, before, went.counted, came.more_are)
 
-      parts : more2 ≤ u.room
-      parts = (let all = enough in omega (arith, all))
+    parts : more2 ≤ u.room
+    parts = (let all = enough in omega (arith, all))
 
-      joint_all : joint ≡ map (λ f. with_children parent child f) ended
-      joint_all = came.files_are ∙ ap (λ gs. joined gs lists) (raw2_is ∙ back_is) ∙ ready_joined parent child apart ended lists ready_now
+    joint_all : joint ≡ map (λ f. with_children parent child f) ended
+    joint_all = came.files_are ∙ ready_joined parent child apart ended lists ready_now
 
-      kept_all : kept ≡ map (λ f. with_children parent child f) K
-      kept_all =
-          kept_is ∙ ap (filter is_used) (written_back len joint back (ap length joint_all ∙ length-map ended (λ f. with_children parent child f) ∙ long) ∙ joint_all)
-          ∙ used_all parent child apart ended
+    kept_all : kept ≡ map (λ f. with_children parent child f) K
+    kept_all = kept_is ∙ ap (filter is_used) joint_all ∙ used_all parent child apart ended
 
-      sharing : IsSharing (λ m. in_kids parent child apart m K) t u
-      sharing = share_as (λ m. in_lists m lists) (λ m. in_kids parent child apart m K) t u shares (λ m. sym (lists_in m))
+    sharing : IsSharing (λ m. in_kids parent child apart m K) t u
+    sharing = share_as (λ m. in_lists m lists) (λ m. in_kids parent child apart m K) t u shares (λ m. sym (lists_in m))
 
-      pub forked_shows : files_shown u kept ≡ filter is_kept (map (file_forked parent child) v.files)
-      forked_shows =
-          ap (files_shown u) kept_all ∙ fork_shows parent child apart dropped t u now more2 (maps - k) (λ q. cond (child == q) 0 (tally q)) K left sharing came.counted parts
-          ∙ ap (map (λ f. grown_by parent child apart f)) (exit_files few set.is raw_is went K_is)
-          ∙ forked_is parent child apart (files_shown s fs) ∙ ap (λ (x : Files). filter is_kept (map (file_forked parent child) x.files)) set.shown
+    pub forked_shows : files_shown u kept ≡ filter is_kept (map (file_forked parent child) v.files)
+    forked_shows =
+        ap (files_shown u) kept_all ∙ fork_shows parent child apart dropped t u now more2 (maps - k) (λ q. cond (child == q) 0 (tally q)) K left sharing came.counted parts
+        ∙ ap (map (λ f. grown_by parent child apart f)) (exit_files set.is went refl)
+        ∙ forked_is parent child apart (files_shown s fs) ∙ ap (λ (x : Files). filter is_kept (map (file_forked parent child) x.files)) set.shown
 
-      pub forked_left : IsLeft r (record v { room = held }) (view u more2 kept)
-      forked_left =
-          let gave = exit_left few set.is raw_is went K_is in
-          let now_held = fork_held parent child apart dropped t u now more2 (maps - k) (λ q. cond (child == q) 0 (tally q)) K left sharing came.counted parts in
-          let hs : List NumberedFile = map (λ f. with_children parent child f) K in
-          subst (λ x. IsLeft r x (view u more2 kept)) set.shown
-          (subst (λ gs. IsLeft r (record (view s more fs) { room = held }) (view u more2 gs)) (sym kept_all)
-          (record {
-            pages = (let mid = stored_pages t now K left.held in let new = stored_pages u more2 hs now_held in let sum = gave.pages in let same = shares.pages in let going = ap length shares.going in omega (arith, mid, new, sum, same, going));
-            nodes = λ i. (let mid = stored_at t now K left.held i in let new = stored_at u more2 hs now_held i in let sum = gave.nodes i in let same = shares.nodes i in let going = ap (count_at i) shares.going in omega (arith, mid, new, sum, same, going));
-            reserved = (let mid = files_owe t K in let new = files_owe u hs in let sum = gave.reserved in let same = owed_same parent child apart K in omega (arith, mid, new, sum, same));
-            room = (let room = enough in omega (arith, room));
-          }))
+    pub forked_left : IsLeft r (record v { room = held }) (view u more2 kept)
+    forked_left =
+        let gave = exit_left set.is went refl in
+        let now_held = fork_held parent child apart dropped t u now more2 (maps - k) (λ q. cond (child == q) 0 (tally q)) K left sharing came.counted parts in
+        let hs : List NumberedFile = map (λ f. with_children parent child f) K in
+        subst (λ x. IsLeft r x (view u more2 kept)) set.shown
+        (subst (λ gs. IsLeft r (record (view s more fs) { room = held }) (view u more2 gs)) (sym kept_all)
+        (record {
+          pages = (let mid = stored_pages t now K left.held in let new = stored_pages u more2 hs now_held in let sum = gave.pages in let same = shares.pages in let going = ap length shares.going in omega (arith, mid, new, sum, same, going));
+          nodes = λ i. (let mid = stored_at t now K left.held i in let new = stored_at u more2 hs now_held i in let sum = gave.nodes i in let same = shares.nodes i in let going = ap (count_at i) shares.going in omega (arith, mid, new, sum, same, going));
+          reserved = (let mid = files_owe t K in let new = files_owe u hs in let sum = gave.reserved in let same = owed_same parent child apart K in omega (arith, mid, new, sum, same));
+          room = (let room = enough in omega (arith, room));
+        }))
 
-      gone_keys : (q : ℕ) → sum_by (keys_in child q) (labels_of K) ≡ 0
-      gone_keys q = keys_gone few set.is raw_is went K_is q
+    gone_keys : (q : ℕ) → sum_by (keys_in child q) (labels_of K) ≡ 0
+    gone_keys q = keys_gone set.is went refl q
 
-      fewer : (q m : ℕ) → sum_by (keys_in q m) (labels_of K) ≤ sum_by (keys_in q m) (labels_of fs)
-      fewer q m = exit_keys few set.is raw_is went K_is q m
+    fewer : (q m : ℕ) → sum_by (keys_in q m) (labels_of K) ≤ sum_by (keys_in q m) (labels_of fs)
+    fewer q m = exit_keys set.is went refl q m
 
-      module _ (next : ℕ → ℕ) (next_is : (q : ℕ) → next q ≡ cond (child == q) (tally parent) (tally q)) where
-        keyed_all : IsKeyed (maps - k + tally parent) next (labels_of (map (λ f. with_children parent child f) K))
-        keyed_all =
-            fork_keyed parent child apart dropped t u now more2 (maps - k) (λ q. cond (child == q) 0 (tally q)) K left sharing came.counted parts gone_keys
-            (maps - k + tally parent) next (ap (λ b. maps - k + cond b 0 (tally parent)) (sym flip))
-            (λ q. next_is q ∙ at q (child == q))
-          where
-            flip : (child == parent) ≡ false
-            flip = grind (arith, nat_tests, apart)
-
-            at : (q : ℕ) (b : Bool) → cond b (tally parent) (tally q) ≡ cond b 0 (tally q) + cond b (cond (child == parent) 0 (tally parent)) 0
-            at q true = (let own = ap (λ b. cond b 0 (tally parent)) flip in omega (arith, own))
-            at q false = omega arith
-
-        pub forked_keeps : (table : Noted) (m : ℕ) → IsNoted child dropped table m (λ q. sum_by (maps_named child q) kept) → IsFiles table u more2 (maps - k + tally parent) next kept
-        forked_keeps table m noted =
-            subst (IsFiles table u more2 (maps - k + tally parent) next) (sym kept_all)
-            (fork_keeps parent child apart dropped t u now more2 (maps - k) (λ q. cond (child == q) 0 (tally q)) K left sharing came.counted parts gone_keys
-            table noted.more.names
-            (λ q m other e. (let none = set.is.noted.keys q m (went.noted.keys q m other (noted.more.keys q m e)) in let less = fewer q m in omega (arith, none, less)))
-            (λ q e. ap (λ gs. sum_by (keys_in child q) (labels_of gs)) (sym kept_all) ∙ named_labelled child q kept ∙ noted.noted q e)
-            (maps - k + tally parent) next keyed_all)
-
-      abbrev next_tally : ℕ → ℕ
-      next_tally q = cond (child == q) (tally parent) (tally q)
-
-      -- they are counted
-      pub forked_few : maps - k + tally parent ≡ length (all_maps (filter is_kept (map (file_forked parent child) v.files)))
-      forked_few =
-          (subst (λ gs. IsKeyed (maps - k + tally parent) next_tally (labels_of gs)) (sym kept_all) (keyed_all next_tally (λ q. refl))).map_count ∙ maps_counted u kept
-          ∙ ap (λ fs. length (all_maps fs)) forked_shows
-
-      -- and the child has as many as its parent
-      pub forked_of : sum_by (maps_of child) kept ≡ tally parent
-      forked_of =
-          sym (maps_labelled child kept) ∙ ap (λ gs. sum_by (maps_for child) (labels_of gs)) kept_all ∙ sym ((keyed_all next_tally (λ q. refl)).tallied child)
-          ∙ ap (λ b. cond b (tally parent) (tally child)) (own_task child)
+    module _ (next : ℕ → ℕ) (next_is : (q : ℕ) → next q ≡ cond (child == q) (tally parent) (tally q)) where
+      keyed_all : IsKeyed (maps - k + tally parent) next (labels_of (map (λ f. with_children parent child f) K))
+      keyed_all =
+          fork_keyed parent child apart dropped t u now more2 (maps - k) (λ q. cond (child == q) 0 (tally q)) K left sharing came.counted parts gone_keys
+          (maps - k + tally parent) next (ap (λ b. maps - k + cond b 0 (tally parent)) (sym flip))
+          (λ q. next_is q ∙ at q (child == q))
         where
-          own_task : (q : ℕ) → (q == q) ≡ true
-          own_task q = grind (arith, nat_tests)
+          flip : (child == parent) ≡ false
+          flip = grind (arith, nat_tests, apart)
+
+          at : (q : ℕ) (b : Bool) → cond b (tally parent) (tally q) ≡ cond b 0 (tally q) + cond b (cond (child == parent) 0 (tally parent)) 0
+          at q true = (let own = ap (λ b. cond b 0 (tally parent)) flip in omega (arith, own))
+          at q false = omega arith
+
+      pub forked_keeps : (table : Noted) (m : ℕ) → IsNoted child dropped table m (λ q. sum_by (maps_named child q) kept) → IsFiles table u more2 (maps - k + tally parent) next kept
+      forked_keeps table m noted =
+          subst (IsFiles table u more2 (maps - k + tally parent) next) (sym kept_all)
+          (fork_keeps parent child apart dropped t u now more2 (maps - k) (λ q. cond (child == q) 0 (tally q)) K left sharing came.counted parts gone_keys
+          table noted.more.names
+          (λ q m other e. (let none = set.is.noted.keys q m (went.noted.keys q m other (noted.more.keys q m e)) in let less = fewer q m in omega (arith, none, less)))
+          (λ q e. ap (λ gs. sum_by (keys_in child q) (labels_of gs)) (sym kept_all) ∙ named_labelled child q kept ∙ noted.noted q e)
+          (maps - k + tally parent) next keyed_all)
+
+    abbrev next_tally : ℕ → ℕ
+    next_tally q = cond (child == q) (tally parent) (tally q)
+
+    -- they are counted
+    pub forked_few : maps - k + tally parent ≡ length (all_maps (filter is_kept (map (file_forked parent child) v.files)))
+    forked_few =
+        (subst (λ gs. IsKeyed (maps - k + tally parent) next_tally (labels_of gs)) (sym kept_all) (keyed_all next_tally (λ q. refl))).map_count ∙ maps_counted u kept
+        ∙ ap (λ fs. length (all_maps fs)) forked_shows
+
+    -- and the child has as many as its parent
+    pub forked_of : sum_by (maps_of child) kept ≡ tally parent
+    forked_of =
+        sym (maps_labelled child kept) ∙ ap (λ gs. sum_by (maps_for child) (labels_of gs)) kept_all ∙ sym ((keyed_all next_tally (λ q. refl)).tallied child)
+        ∙ ap (λ b. cond b (tally parent) (tally child)) (own_task child)
+      where
+        own_task : (q : ℕ) → (q == q) ≡ true
+        own_task q = grind (arith, nat_tests)
 
 -- the same, as code counts
 pub files_as : (h g : Noted) (u : Store) (more k i : ℕ) (tally : ℕ → ℕ) (gs : List NumberedFile) → g ≡ h → i ≡ k → IsFiles h u more k tally gs → IsFiles g u more i tally gs

@@ -1,10 +1,8 @@
 -- Where names and maps are found, since no two are called the same; and how many maps and tasks there are.
-use Rattle.std.specs.Prelude.{IfNone, IfSome}
-use Rattle.std.proofs.Common.{◌≡◌, ℕ, zero, suc, ◌+◌, ◌<◌, ◌≤◌, Bool, true, false, not, cond, ltb, ◌||◌, List, [], ◌∷◌, ◌++◌, length, map, Option, Some, None, refl, sym, ap, subst, ◌∙◌, arith}
+use Rattle.std.proofs.Common.{◌≡◌, ℕ, zero, suc, ◌+◌, ◌<◌, ◌≤◌, Bool, true, false, not, cond, ◌||◌, List, [], ◌∷◌, ◌++◌, length, map, Option, Some, None, refl, sym, ap, ◌∙◌, arith}
 use Rattle.std.specs.List.{count_by, flat_map, list_any, position_or_len, slice_index_or, sum_by}
 use Rattle.std.specs.Option.{option_map}
 use Rattle.std.specs.Str.{bytes_eq}
-use Rattle.std.proofs.lemmas.Bool.{ltb-true, ltb-false}
 use Rattle.std.proofs.lemmas.List.{length-append, length-map, map-append}
 use Rattle.std.proofs.lemmas.List.Sums.{sum_by-cons}
 use Rattle.hp_model.specs.files.File.{File, new_file}
@@ -206,31 +204,17 @@ module _ (s : Store) (fs : List NumberedFile) (name : List ℕ) where
   shown_place : position_or_len (has_name name) (files_shown s fs) ≡ position_or_len own fs
   shown_place = position_shown (file_shown s) own (has_name name) (named_shown s name) fs
 
-  pub named_search : (r : Option ℕ) → r ≡ cond (ltb (position_or_len own fs) (length fs)) (Some (position_or_len own fs)) None → IfSome r (λ at. IsNamed (files_shown s fs) name at)
-  named_search r e =
-      elim (ltb (position_or_len own fs) (length fs)) as (λ b. ltb (position_or_len own fs) (length fs) ≡ b → r ≡ cond b (Some (position_or_len own fs)) None → IfSome r (λ at. IsNamed (files_shown s fs) name at)) [
-        | true ↦ λ t some. subst (λ (o : Option ℕ). IfSome o (λ at. IsNamed (files_shown s fs) name at)) (sym some) (here (ltb-true (position_or_len own fs) (length fs) t))
-        | false ↦ λ t none. subst (λ (o : Option ℕ). IfSome o (λ at. IsNamed (files_shown s fs) name at)) (sym none) tt
-      ] refl e
-    where
-      here : position_or_len own fs < length fs → IsNamed (files_shown s fs) name (position_or_len own fs)
-      here l =
-          let long = length-map fs (file_shown s) in
-          let same = shown_place in
-          record {
-            is = found_at (has_name name) (files_shown s fs) (new_file None) (omega (arith, l, long, same)) ∙ ap (λ i. Some (i, file_at (files_shown s fs) i)) same;
-            within = omega (arith, l, long);
-          }
+  pub named_first : position_or_len own fs < length fs → IsNamed (files_shown s fs) name (position_or_len own fs)
+  named_first l =
+      let long = length-map fs (file_shown s) in
+      let same = shown_place in
+      record {
+        is = found_at (has_name name) (files_shown s fs) (new_file None) (omega (arith, l, long, same)) ∙ ap (λ i. Some (i, file_at (files_shown s fs) i)) same;
+        within = omega (arith, l, long);
+      }
 
-  pub named_nowhere : (r : Option ℕ) → r ≡ cond (ltb (position_or_len own fs) (length fs)) (Some (position_or_len own fs)) None → IfNone r (found (has_name name) (files_shown s fs) ≡ None)
-  named_nowhere r e =
-      elim (ltb (position_or_len own fs) (length fs)) as (λ b. ltb (position_or_len own fs) (length fs) ≡ b → r ≡ cond b (Some (position_or_len own fs)) None → IfNone r (found (has_name name) (files_shown s fs) ≡ None)) [
-        | true ↦ λ t some. subst (λ (o : Option ℕ). IfNone o (found (has_name name) (files_shown s fs) ≡ None)) (sym some) tt
-        | false ↦ λ t none. subst (λ (o : Option ℕ). IfNone o (found (has_name name) (files_shown s fs) ≡ None)) (sym none) (gone (ltb-false (position_or_len own fs) (length fs) t))
-      ] refl e
-    where
-      gone : length fs ≤ position_or_len own fs → found (has_name name) (files_shown s fs) ≡ None
-      gone l =
-          let long = length-map fs (file_shown s) in
-          let same = shown_place in
-          found_none (has_name name) (files_shown s fs) (new_file None) (omega (arith, l, long, same))
+  pub named_nowhere : length fs ≤ position_or_len own fs → found (has_name name) (files_shown s fs) ≡ None
+  named_nowhere l =
+      let long = length-map fs (file_shown s) in
+      let same = shown_place in
+      found_none (has_name name) (files_shown s fs) (new_file None) (omega (arith, l, long, same))

@@ -34,8 +34,9 @@ pub record IsMore (old new : Noted) : Type 0 where
   pub names : (name : List ℕ) → has_name name new ≡ false → has_name name old ≡ false
   pub keys : (task number : ℕ) → has_key task number new ≡ false → has_key task number old ≡ false
 
--- nothing is forgotten but one name
+-- one name is forgotten, and nothing else
 pub record IsMoreBut (name : List ℕ) (old new : Noted) : Type 0 where
+  pub gone : has_name name new ≡ false
   pub names : (other : List ℕ) → bytes_eq name other ≡ false → has_name other new ≡ false → has_name other old ≡ false
   pub keys : (task number : ℕ) → has_key task number new ≡ false → has_key task number old ≡ false
 

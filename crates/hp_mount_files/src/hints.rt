@@ -1,11 +1,12 @@
 //! What files and maps are found by.
-ghost use Rattle.std.specs.Prelude.{◌≡◌, ◌+◌, ◌<◌, ◌≤◌, false, true, IfNone, IfOk, IsOk, OnErr, OnOk};
+ghost use Rattle.std.specs.Prelude.{◌≡◌, ◌+◌, ◌<◌, ◌≤◌, false, length, true, IfNone, IsOk, OnErr, OnOk};
 ghost use Rattle.hp_mount_files.specs.Hints.{IsMore, IsMoreBut, has_key, has_name};
 ghost use Rattle.hp_mount_files.specs.Leaving.{IsMoreButMap};
 
 use crate::file_tag::FileTag;
 use crate::map_tag::MapTag;
-use crate::name_key::NameKey;
+use crate::name::FileName;
+use crate::name_query::NameQuery;
 use indexmap::IndexMap;
 use std::alloc::{AllocError, Global};
 use std::cell::Cell;
@@ -16,7 +17,7 @@ use std::marker::Model;
 #[derive(Drop)]
 pub(crate) struct Hints {
     alloc: Global,
-    files: IndexMap<NameKey, FileTag>,
+    files: IndexMap<FileName, FileTag>,
     maps: IndexMap<(u64, u64), Cell<MapTag>>,
 }
 
@@ -43,14 +44,13 @@ impl Hints {
         }
     }
 
-    /// The tag of the file with the name, if it was noted. Refused where memory is, and never up to 64 bytes.
-    pub(crate) fn file(&self, name: &[u8]) -> Result<Option<FileTag>, AllocError>
-        ensures { IfOk result (λ tag. IfNone tag (has_name name.now self.now ≡ false)) }
+    /// The tag of the file with the name, if it was noted. No memory is asked for.
+    pub(crate) fn file(&self, name: &[u8]) -> Option<FileTag>
+        ensures { IfNone result (has_name name.now self.now ≡ false) }
     {
-        let key = NameKey::new(self.alloc, name)?;
-        match self.files.get(&key) {
-            Some(tag) => Ok(Some(*tag)),
-            None => Ok(None),
+        match self.files.get(NameQuery { name }) {
+            Some(tag) => Some(*tag),
+            None => None,
         }
     }
 
@@ -63,25 +63,23 @@ impl Hints {
 
     /// Notes a file's tag. Refused where memory is, and then nothing changes.
     pub(crate) fn note_file(&mut self, name: &[u8], tag: FileTag) -> Result<(), AllocError>
+        requires { length name.now ≤ 64 }
         ensures more { IsMore self.old self.new }
         ensures err { OnErr result (self.new ≡ self.old) }
         ensures noted { OnOk result (has_name name.now self.new ≡ true) }
     {
-        let key = NameKey::new(self.alloc, name)?;
+        let key = FileName::new(self.alloc, name)?;
         let Ok(_) = self.files.insert(key, tag) else {
             return Err(AllocError);
         };
         Ok(())
     }
 
-    /// Forgets the file with the name. It may stay noted where memory is refused, and never up to 64 bytes.
+    /// Forgets the file with the name: it is noted no more. No memory is asked for.
     pub(crate) fn forget_file(&mut self, name: &[u8])
         ensures { IsMoreBut name.now self.old self.new }
     {
-        let Ok(key) = NameKey::new(self.alloc, name) else {
-            return;
-        };
-        let _tag = self.files.swap_remove(&key);
+        let _tag = self.files.swap_remove(NameQuery { name });
     }
 
     /// Notes a map's tag. Refused where memory is, and then nothing changes but the room; never where there is room.

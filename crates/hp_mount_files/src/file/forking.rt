@@ -6,6 +6,7 @@ ghost use Rattle.hp_mount_files.specs.Forking.{HasRoom, IsNoted, IsReady, IsShar
 ghost use Rattle.hp_mount_files.specs.Held.{more_in};
 
 use super::File;
+use crate::file_tag::FileTag;
 use crate::files::MapPlace;
 use crate::forking::{children, share_all};
 use crate::hints::Hints;
@@ -27,7 +28,7 @@ impl File {
     ) -> Result<Vec<Mapping>, AllocError>
         ensures { IfOk result (IsReady parent child self.now) }
     {
-        let list = children(&self.parts.maps, alloc, tags, parent, child)?;
+        let list = children(&self.maps, alloc, tags, parent, child)?;
         Ok(list)
     }
 
@@ -53,21 +54,21 @@ impl File {
         }
         share_all(&list, store, more);
         let added = list.len();
-        list.append(&mut self.parts.maps).unwrap();
+        list.append(&mut self.maps).unwrap();
         list.rotate_left(added);
-        self.parts.maps = list;
+        self.maps = list;
     }
     /// The file stands at a place: notes where a task's maps stand, and their tags. There is room for them. Takes a step for
     /// each map.
-    pub(crate) fn note_maps(&self, task: u64, file: usize, hints: &mut Hints)
+    pub(crate) fn note_maps(&self, task: u64, file: FileTag, hints: &mut Hints)
         requires { maps_of task self.now ≤ hints.old.room }
         ensures { IsNoted task hints.old hints.new (maps_of task self.now) (λ n. maps_named task n self.now) }
     {
-        for (map, mapping) in self.parts.maps.iter().enumerate() {
+        for (map, mapping) in self.maps.iter().enumerate() {
             if mapping.task() == task {
                 let tag = MapTag {
-                    at: MapPlace { file, map },
-                    file: self.tag,
+                    at: MapPlace { file: file.at, map },
+                    file: file.tag,
                     map: mapping.tag(),
                 };
                 hints.note_map(task, mapping.number(), tag).unwrap();

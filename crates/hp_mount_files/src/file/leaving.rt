@@ -30,7 +30,7 @@ impl File {
     pub(crate) fn least_task(&self, known: Option<u64>) -> Option<u64>
         ensures { result ≡ least_among known (map (λ m. m.task) self.now.maps) }
     {
-        let maps = self.parts.maps.as_slice();
+        let maps = self.maps.as_slice();
         let mut least = known;
         for map in maps {
             least = Some(lesser(least, map.task()));
@@ -42,7 +42,7 @@ impl File {
     pub(crate) fn is_used(&self) -> bool
         ensures { result ≡ is_used self.now }
     {
-        self.parts.name.is_some() || !self.parts.maps.is_empty()
+        self.name.is_some() || !self.maps.is_empty()
     }
 
     /// All maps of a task go, with what they hold. A file that is left without name and maps loses its pages and entries.
@@ -65,7 +65,7 @@ impl File {
         ensures maps { result.maps + length self.new.maps ≡ length self.old.maps }
         ensures hints { IsMoreButTask task hints.old hints.new }
     {
-        let list = &mut self.parts.maps;
+        let list = &mut self.maps;
         let before = list.len();
         let reserves = end_maps_of(task, list, hints, store, more);
         list.retain(|m| m.task() != task);
@@ -92,7 +92,7 @@ impl File {
         ensures counted { more.new ≡ more_in store.new.pages }
         ensures reserves { result + file_owed self.new ≡ file_owed self.old }
     {
-        let gone = self.parts.maps.remove(map);
+        let gone = self.maps.remove(map);
         drop_map(&gone, store, more);
         gone.reserve_count()
     }
@@ -117,7 +117,7 @@ impl File {
         ensures counted { more.new ≡ more_in store.new.pages }
         ensures reserves { result + file_owed self.new ≡ file_owed self.old }
     {
-        let at = &mut self.parts.maps[map];
+        let at = &mut self.maps[map];
         leave_range(at, a, b, store, more)
     }
 
@@ -144,13 +144,13 @@ impl File {
         ensures counted { more.new ≡ more_in store.new.pages }
         ensures reserves { result.reserves + file_owed self.new ≡ file_owed self.old }
     {
-        let at = &self.parts.maps[map];
+        let at = &self.maps[map];
         if a <= at.start() && at.end() <= b {
             let reserves = self.end_map(map, store, more);
             return Departed { maps: 1, reserves };
         }
         let reserves = self.cut_map(map, a, b, store, more);
-        if self.parts.maps[map].is_mapped() {
+        if self.maps[map].is_mapped() {
             return Departed { maps: 0, reserves };
         }
         self.remove_map(map);
@@ -162,6 +162,6 @@ impl File {
         requires { map < length self.old.maps }
         ensures { self.new ≡ record self.old { maps = remove self.old.maps map } }
     {
-        let _gone = self.parts.maps.remove(map);
+        let _gone = self.maps.remove(map);
     }
 }

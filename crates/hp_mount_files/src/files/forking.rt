@@ -14,7 +14,8 @@ ghost use Rattle.hp_model.specs.files.MountCounts.{file_reserves};
 
 use super::Files;
 use super::leaving::drop_some_maps_of;
-use crate::file::File;
+use crate::file_list::FileList;
+use crate::file_tag::FileTag;
 use crate::forking::copies_of;
 use crate::hints::Hints;
 use crate::tags::Tags;
@@ -25,17 +26,17 @@ use std::alloc::{AllocError, Global};
 
 // The maps that a child gets of each file for those of a parent.
 fn children(
-    files: &[File],
+    files: &FileList,
     alloc: Global,
     tags: &mut Tags,
     parent: u64,
     child: u64,
 ) -> Result<Vec<Vec<Mapping>>, AllocError>
-    ensures { IfOk result (λ lists. AreReady parent child files.now lists.items) }
+    ensures { IfOk result (λ lists. AreReady parent child files.now.files lists.items) }
 {
     let mut lists = Vec::new(alloc);
-    for file in files {
-        let Ok(()) = lists.push(file.children(alloc, tags, parent, child)?) else {
+    for at in 0..files.len() {
+        let Ok(()) = lists.push(files[at].children(alloc, tags, parent, child)?) else {
             return Err(AllocError);
         };
     }
@@ -64,17 +65,17 @@ fn room_for(held: u64, more: usize, lists: &[Vec<Mapping>]) -> usize
 
 // Each file gets the maps of its list, and each of their copies has a holder more.
 fn join_all<N: Naming>(
-    files: &mut [File],
+    files: &mut FileList,
     mut lists: Vec<Vec<Mapping>>,
     store: &mut PageStore<N>,
     more: &mut usize,
 )
-    requires room { HaveRoom files.old lists.items }
+    requires room { HaveRoom files.old.files lists.items }
     requires held { (n : ℕ) → in_lists n lists.items ≤ holders_of (page_at store.old n) }
     requires some { HasHolders store.old }
     requires counted { more.old ≡ more_in store.old.pages }
     requires few { more.old + sum_by list_copies lists.items ≤ 2 ^ 32 }
-    ensures { HaveJoined lists.items files.old files.new store.old store.new more.old more.new }
+    ensures { HaveJoined lists.items files.old.files files.new.files store.old store.new more.old more.new }
 {
     while let Some(list) = lists.pop() {
         let at = lists.len();
@@ -83,13 +84,14 @@ fn join_all<N: Naming>(
 }
 
 // Notes where a task's maps stand, and their tags. There is room for them.
-fn note_maps(task: u64, files: &[File], hints: &mut Hints)
-    requires { sum_by (maps_of task) files.now ≤ hints.old.room }
-    ensures { IsNoted task hints.old hints.new (sum_by (maps_of task) files.now)
-        (λ n. sum_by (maps_named task n) files.now) }
+fn note_maps(task: u64, files: &FileList, hints: &mut Hints)
+    requires { sum_by (maps_of task) files.now.files ≤ hints.old.room }
+    ensures { IsNoted task hints.old hints.new (sum_by (maps_of task) files.now.files)
+        (λ n. sum_by (maps_named task n) files.now.files) }
 {
-    for (at, file) in files.iter().enumerate() {
-        file.note_maps(task, at, hints);
+    for at in 0..files.len() {
+        let tag = files.tag(at);
+        files[at].note_maps(task, FileTag { at, tag }, hints);
     }
 }
 
@@ -134,7 +136,7 @@ impl<N: Naming> Files<N> {
             &mut self.more,
         );
         join_all(&mut self.list, lists, &mut self.store, &mut self.more);
-        self.list.retain(|f| f.is_used());
+        self.list.retain_used();
         note_maps(child, &self.list, &mut self.hints);
         self.maps -= gone.maps;
         self.maps += count;

@@ -13,7 +13,7 @@ ghost use Rattle.hp_mount_files.specs.Leaving.{HasLeft, file_owed, map_sum, swep
 
 use super::{Files, MapPlace};
 use crate::departed::Departed;
-use crate::file::File;
+use crate::file_list::FileList;
 use crate::hints::Hints;
 use hp_model::naming::Naming;
 use hp_store::PageStore;
@@ -24,23 +24,23 @@ const MOST_MAPS: u64 = 4096;
 // All maps of a task go from each of some files. A file that is left without name and maps loses its pages and entries.
 pub(super) fn drop_maps_of<N: Naming>(
     task: u64,
-    files: &mut [File],
+    files: &mut FileList,
     hints: &mut Hints,
     store: &mut PageStore<N>,
     more: &mut usize,
 ) -> Departed
-    requires held { (n : ℕ) → in_files n files.old ≤ holders_of (page_at store.old n) }
+    requires held { (n : ℕ) → in_files n files.old.files ≤ holders_of (page_at store.old n) }
     requires some { HasHolders store.old }
     requires counted { more.old ≡ more_in store.old.pages }
-    requires few { sum_by file_owed files.old < 2 ^ 64 }
-    requires few_maps { map_sum files.old < 2 ^ 64 }
-    ensures { HasLeft task files.old files.new hints.old hints.new store.old store.new more.new
+    requires few { sum_by file_owed files.old.files < 2 ^ 64 }
+    requires few_maps { map_sum files.old.files < 2 ^ 64 }
+    ensures { HasLeft task files.old.files files.new.files hints.old hints.new store.old store.new more.new
         result.maps result.reserves }
 {
     let mut maps = 0;
     let mut reserves = 0;
-    for file in files.iter_mut() {
-        let gone = file.drop_maps_of(task, hints, store, more);
+    for at in 0..files.len() {
+        let gone = files[at].drop_maps_of(task, hints, store, more);
         maps += gone.maps;
         reserves += gone.reserves;
     }
@@ -51,19 +51,19 @@ pub(super) fn drop_maps_of<N: Naming>(
 pub(super) fn drop_some_maps_of<N: Naming>(
     task: u64,
     count: u64,
-    files: &mut [File],
+    files: &mut FileList,
     hints: &mut Hints,
     store: &mut PageStore<N>,
     more: &mut usize,
 ) -> Departed
-    requires count { count ≡ sum_by (maps_for task) (labels_of files.old) }
-    requires listed { All (λ label. is_listed label ≡ true) (labels_of files.old) }
-    requires held { (n : ℕ) → in_files n files.old ≤ holders_of (page_at store.old n) }
+    requires count { count ≡ sum_by (maps_for task) (labels_of files.old.files) }
+    requires listed { All (λ label. is_listed label ≡ true) (labels_of files.old.files) }
+    requires held { (n : ℕ) → in_files n files.old.files ≤ holders_of (page_at store.old n) }
     requires some { HasHolders store.old }
     requires counted { more.old ≡ more_in store.old.pages }
-    requires few { sum_by file_owed files.old < 2 ^ 64 }
-    requires few_maps { map_sum files.old < 2 ^ 64 }
-    ensures { HasLeft task files.old files.new hints.old hints.new store.old store.new more.new
+    requires few { sum_by file_owed files.old.files < 2 ^ 64 }
+    requires few_maps { map_sum files.old.files < 2 ^ 64 }
+    ensures { HasLeft task files.old.files files.new.files hints.old hints.new store.old store.new more.new
         result.maps result.reserves }
 {
     if count == 0 {
@@ -78,20 +78,20 @@ pub(super) fn drop_some_maps_of<N: Naming>(
 // A file without name and maps goes, with its pages and entries, and those behind it move down. Answers how many of its
 // entries had no page.
 fn sweep_file<N: Naming>(
-    files: &mut Vec<File>,
+    files: &mut FileList,
     at: usize,
     store: &mut PageStore<N>,
     more: &mut usize,
 ) -> u64
-    requires within { at < length files.old.items }
-    requires held { (n : ℕ) → in_files n files.old.items ≤ holders_of (page_at store.old n) }
+    requires within { at < length files.old.files }
+    requires held { (n : ℕ) → in_files n files.old.files ≤ holders_of (page_at store.old n) }
     requires some { HasHolders store.old }
     requires counted { more.old ≡ more_in store.old.pages }
-    ensures files { files.new.items ≡ swept_at at files.old.items }
-    ensures dropping { IsDropping (λ n. in_files n files.old.items) (λ n. in_files n files.new.items)
+    ensures files { files.new.files ≡ swept_at at files.old.files }
+    ensures dropping { IsDropping (λ n. in_files n files.old.files) (λ n. in_files n files.new.files)
         store.old store.new }
     ensures counted { more.new ≡ more_in store.new.pages }
-    ensures reserves { result + sum_by file_owed files.new.items ≡ sum_by file_owed files.old.items }
+    ensures reserves { result + sum_by file_owed files.new.files ≡ sum_by file_owed files.old.files }
 {
     if files[at].is_used() {
         return 0;
@@ -106,10 +106,10 @@ impl<N: Naming> Files<N> {
         ensures some { IfSome result (λ task. IsFirstTask self.now.files task) }
         ensures none { IfNone result (all_maps self.now.files ≡ []) }
     {
-        let files = self.list.as_slice();
+        let files = &self.list;
         let mut least = None;
-        for file in files {
-            least = file.least_task(least);
+        for at in 0..files.len() {
+            least = files[at].least_task(least);
         }
         least
     }
@@ -130,7 +130,7 @@ impl<N: Naming> Files<N> {
             &mut self.store,
             &mut self.more,
         );
-        self.list.retain(|f| f.is_used());
+        self.list.retain_used();
         self.maps -= gone.maps;
         self.counts.set(task, 0);
         gone.reserves

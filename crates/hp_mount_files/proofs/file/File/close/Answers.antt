@@ -7,13 +7,12 @@ use Rattle.hp_mount_files.specs.Held.{in_cell, in_file, in_map}
 use Rattle.hp_mount_files.proofs.Cutting.{all_waiting, bare_pages, no_pages}
 use Rattle.hp_mount_files.proofs.Drops.{drop_then}
 use Rattle.hp_mount_files.specs.Numbered.{NumberedFile}
-use Rattle.hp_mount_files.proofs.Parts.{file_of}
 use Rattle.hp_mount_files.proofs.file.File.close.Goals as goal
 
 pub drop_maps-requires-clause-held : goal.drop_maps-requires-clause-held
 drop_maps-requires-clause-held g c n =
-    let inside = c.into_inner-maps.result in
-    let whole = ap (in_file n) (ap file_of c.into_inner-maps.ensures ∙ c.self.view_is) in
+    let inside = c.self.inside in
+    let whole = ap (in_file n) c.self.view_is in
     let none = ap (sum_by (in_cell n)) c.drop_pages.ensures.cells ∙ no_pages n c.len-len.result inside.inode c.len-len.ensures.len in
     let held = c.drop_pages.ensures.dropping.held n in
     let all = c.requires.held n in
@@ -22,11 +21,11 @@ drop_maps-requires-clause-held g c n =
 
 pub returns-clause-dropping : goal.returns-clause-dropping
 returns-clause-dropping g c =
-    let inside = c.into_inner-maps.result in
+    let inside = c.self.inside in
     drop_then (λ n. sum_by (in_cell n) inside.inode) (λ n. sum_by (in_cell n) c.drop_pages.new.inode) (λ n. sum_by (in_map n) c.deref.result.now) (λ n. 0) (λ n. in_file n c.args.self) (λ n. 0)
     c.args.store.now c.drop_pages.new.store c.drop_maps.new.store c.drop_pages.ensures.dropping c.drop_maps.ensures.dropping
     (λ n.
-    let whole = ap (in_file n) (ap file_of c.into_inner-maps.ensures ∙ c.self.view_is) in
+    let whole = ap (in_file n) c.self.view_is in
     let none = ap (sum_by (in_cell n)) c.drop_pages.ensures.cells ∙ no_pages n c.len-len.result inside.inode c.len-len.ensures.len in
     let same = ap (sum_by (in_map n)) c.deref.ensures.value in
     omega (arith, whole, none, same))
@@ -35,9 +34,9 @@ pub drop_entries-requires-clause-pageless : goal.drop_entries-requires-clause-pa
 drop_entries-requires-clause-pageless g c =
     let len = c.len-len.result in
     let same : 0 + len ≡ len = omega arith in
-    bare_pages 0 len c.into_inner-maps.result.inode c.drop_pages.new.inode [] c.len-len.ensures.len (c.drop_pages.ensures.cells ∙ ap (λ b. edit_range cell_punched 0 b c.into_inner-maps.result.inode) (sym same)) 0 (omega arith)
+    bare_pages 0 len c.self.inside.inode c.drop_pages.new.inode [] c.len-len.ensures.len (c.drop_pages.ensures.cells ∙ ap (λ b. edit_range cell_punched 0 b c.self.inside.inode) (sym same)) 0 (omega arith)
 
 pub returns-clause-entries : goal.returns-clause-entries
 returns-clause-entries g c =
-    c.drop_entries.ensures.count ∙ all_waiting c.len-len.result c.into_inner-maps.result.inode c.drop_pages.new.inode c.len-len.ensures.len c.drop_pages.ensures.cells
-    ∙ ap (λ (f : NumberedFile). count_by is_waiting f.cells) (ap file_of c.into_inner-maps.ensures ∙ c.self.view_is)
+    c.drop_entries.ensures.count ∙ all_waiting c.len-len.result c.self.inside.inode c.drop_pages.new.inode c.len-len.ensures.len c.drop_pages.ensures.cells
+    ∙ ap (λ (f : NumberedFile). count_by is_waiting f.cells) c.self.view_is

@@ -3,7 +3,6 @@ use Rattle.hp_mount_files.specs.Leaving.{least_among, least_of}
 use Rattle.hp_mount_files.specs.Numbered.{NumberedFile}
 use Rattle.std.proofs.lemmas.List.{take_all}
 use Rattle.hp_mount_files.proofs.FirstTask.{next_map, none_yet}
-use Rattle.hp_mount_files.proofs.Parts.{file_of}
 use Rattle.hp_mount_files.proofs.file.File.least_task.Goals as goal
 
 pub loop-map-init : goal.loop-map-init
@@ -21,4 +20,4 @@ returns c =
     let maps = c.as_slice-maps.result.now in
     c.loop-map.invariant
     ∙ ap (λ ms. least_among c.args.known (map (λ m. m.task) ms)) (take_all c.loop-map.map-index maps c.loop-map-test.false ∙ c.as_slice-maps.ensures.value)
-    ∙ ap (λ (f : NumberedFile). least_among c.args.known (map (λ m. m.task) f.maps)) (ap file_of c.deref.ensures ∙ c.self.view_is)
+    ∙ ap (λ (f : NumberedFile). least_among c.args.known (map (λ m. m.task) f.maps)) c.self.view_is

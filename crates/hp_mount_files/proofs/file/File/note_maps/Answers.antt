@@ -6,7 +6,6 @@ use Rattle.hp_model.specs.files.Mapping.{Mapping, is_map, is_of}
 use Rattle.hp_mount_files.specs.Forking.{IsNoted}
 use Rattle.hp_mount_files.specs.Numbered.{NumberedFile}
 use Rattle.hp_mount_files.proofs.Noting.{noted_none, noted_one, noted_other, noted_then, task_yes, task_no}
-use Rattle.hp_mount_files.proofs.Parts.{file_of}
 use Rattle.hp_mount_files.proofs.file.File.note_maps.Goals.{then-task, else-task}
 use Rattle.hp_mount_files.proofs.file.File.note_maps.Goals as goal
 
@@ -18,7 +17,7 @@ unwrap-requires c =
     let ms = c.deref-mapping-items.result.now in
     let i = c.loop-map.map in
     let m = c.mapping-item.result in
-    let all = ap (count_by (is_of c.args.task)) (c.deref-mapping-items.ensures.value ∙ ap (λ (f : NumberedFile). f.maps) (ap file_of c.deref.ensures ∙ c.self.view_is)) in
+    let all = ap (count_by (is_of c.args.task)) (c.deref-mapping-items.ensures.value ∙ ap (λ (f : NumberedFile). f.maps) c.self.view_is) in
     let own = ap (λ b. cond {A = ℕ} b 1 0 + 0) (task_yes c.args.task m (sym c.task.ensures ∙ c.if-task.true)) in
     let one = ap (λ (q : Mapping ℕ). cond {A = ℕ} (is_of c.args.task q) 1 0) c.mapping-item.is in
     let most = sum_by_more_le (λ (q : Mapping ℕ). cond {A = ℕ} (is_of c.args.task q) 1 0) ms i m c.loop-map-test.true in
@@ -45,5 +44,5 @@ loop-map-preserved c =
 pub returns : goal.returns
 returns c =
     let task = c.args.task in
-    let all = take_all c.loop-map.map c.deref-mapping-items.result.now c.loop-map-test.false ∙ c.deref-mapping-items.ensures.value ∙ ap (λ (f : NumberedFile). f.maps) (ap file_of c.deref.ensures ∙ c.self.view_is) in
+    let all = take_all c.loop-map.map c.deref-mapping-items.result.now c.loop-map-test.false ∙ c.deref-mapping-items.ensures.value ∙ ap (λ (f : NumberedFile). f.maps) c.self.view_is in
     subst (λ ms. IsNoted task c.args.hints.now c.loop-map.hints (count_by (is_of task) ms) (λ n. count_by (is_map task n) ms)) all c.loop-map.invariant

@@ -9,6 +9,6 @@ use Rattle.hp_mount_files.proofs.files.Files.create.Goals as goal
 pub invariant_of-self-2 : goal.invariant_of-self-2
 invariant_of-self-2 g c =
     let s = c.self.inside in
-    let bytes = c.new.ensures ∙ c.in_ok-own.ensures.copy in
-    created s.hints c.note_file.new.self s.store s.more s.maps (count_of s.counts) s.list.items c.args.name.now c.self.invariant (subst (λ (v : Files). found (has_name c.args.name.now) v.files ≡ None) (sym c.self.view_is) c.requires.new) c.note_file.ensures.more c.in_ok-note_file.ensures.noted
-    c.in_ok-file.file c.push_reserved.new.self.items (c.in_ok-file.ensures ∙ ap (λ n. record { name = Some n; cells = []; maps = [] }) bytes) (c.push_reserved.ensures.items ∙ ap (λ xs. xs ++ c.in_ok-file.file ∷ []) c.reserve.ensures.items)
+    let bytes = c.in_ok-own.ensures.copy in
+    created s.hints c.note_file.new.self s.store s.more s.maps (count_of s.counts) s.list.files c.args.name.now c.self.invariant (subst (λ (v : Files). found (has_name c.args.name.now) v.files ≡ None) (sym c.self.view_is) c.requires.new) c.note_file.ensures.more c.in_ok-note_file.ensures.noted
+    c.new-2.result c.push.new.self.files (c.new-2.ensures ∙ ap (λ n. record { name = Some n; cells = []; maps = [] }) bytes) (c.push.ensures ∙ ap (λ xs. xs ++ c.new-2.result ∷ []) c.make_room.ensures.same)

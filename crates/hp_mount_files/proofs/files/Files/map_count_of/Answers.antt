@@ -12,5 +12,5 @@ returns g c =
     let k = c.args.file in
     let x = c.index.result.now in
     c.map_count.ensures ∙ sym (length-map x.maps (map_shown s.store))
-    ∙ sym (ap (λ (f : File). length f.maps) (file_read s.store s.list.items k (subst (λ (v : Files). k < length v.files) (sym c.self.view_is) c.requires) x c.index.ensures))
+    ∙ sym (ap (λ (f : File). length f.maps) (file_read s.store s.list.files k (subst (λ (v : Files). k < length v.files) (sym c.self.view_is) c.requires) x c.index.ensures))
     ∙ ap (λ (v : Files). length (file_at v.files k).maps) c.self.view_is

@@ -1,5 +1,4 @@
-use Rattle.std.proofs.Common.{◌≡◌, Option, None, Some, subst}
-use Rattle.std.specs.Prelude.{IfNone}
+use Rattle.std.proofs.Common.{◌≡◌, None, subst}
 use Rattle.hp_model.specs.Lists.{found}
 use Rattle.hp_model.specs.machine.SlotEvent.{has_name}
 use Rattle.hp_mount_files.specs.Tally.{count_of}
@@ -7,12 +6,8 @@ use Rattle.hp_mount_files.specs.Files.{Files}
 use Rattle.hp_mount_files.proofs.Unique.{no_name_here}
 use Rattle.hp_mount_files.proofs.files.Files.named.Goals as goal
 
-told : {X P : Type 0} (o : Option X) → o ≡ None → IfNone o P → P
-told None e p = p
-told (Some x) e p = cc
-
-pub returns-in_default-noted-clause-none : goal.returns-in_default-noted-clause-none
-returns-in_default-noted-clause-none g c =
+pub returns-in_default-clause-none : goal.returns-in_default-clause-none
+returns-in_default-clause-none g c =
     let s = c.self.inside in
     subst (λ (v : Files). found (has_name c.args.name.now) v.files ≡ None) c.self.view_is
-    (no_name_here s.store s.maps (count_of s.counts) s.list.items c.self.invariant.keyed c.args.name.now (c.self.invariant.noted.names c.args.name.now (told c.in-Ok.noted c.in_default-noted.is c.in-Ok.ensures)))
+    (no_name_here s.store s.maps (count_of s.counts) s.list.files c.self.invariant.keyed c.args.name.now (c.self.invariant.noted.names c.args.name.now c.in_default.ensures))

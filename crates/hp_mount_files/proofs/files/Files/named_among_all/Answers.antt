@@ -1,25 +1,33 @@
-use Rattle.std.proofs.Common.{rules, tests, ◌≡◌, ◌∙◌, subst}
-use Rattle.std.specs.Prelude.{IfNone, IfSome, None}
-use Rattle.std.proofs.lemmas.Iterator.{YieldsList-from_slice}
-use Rattle.std.proofs.lemmas.Iterator.Search.{position_from_yields_List}
+use Rattle.std.proofs.Common.{◌≡◌, ◌∙◌, ◌<◌, ◌≤◌, None, ap, arith, length, subst, sym}
+use Rattle.std.proofs.lemmas.List.Sums.{position_or_len_is}
 use Rattle.hp_model.specs.Lists.{found}
 use Rattle.hp_model.specs.machine.SlotEvent.{has_name}
 use Rattle.hp_mount_files.specs.Files.{Files}
 use Rattle.hp_mount_files.specs.Keyed.{has_label, label_of}
+use Rattle.hp_mount_files.specs.Numbered.{NumberedFile}
 use Rattle.hp_mount_files.specs.Places.{IsNamed}
-use Rattle.hp_mount_files.proofs.Unique.{named_search, named_nowhere}
+use Rattle.hp_mount_files.proofs.Cells.{no_file}
+use Rattle.hp_mount_files.proofs.Unique.{named_first, named_nowhere}
 use Rattle.hp_mount_files.proofs.files.Files.named_among_all.Goals as goal
 
-pub returns-clause-some : goal.returns-clause-some
-returns-clause-some g c =
+pub returns-then-is_named-clause-some : goal.returns-then-is_named-clause-some
+returns-then-is_named-clause-some g c =
     let s = c.self.inside in
-    let files = s.list.items in
-    let found = position_from_yields_List (λ f. has_label c.args.name.now (label_of f)) _ _ c.position.result c.position.ensures.ran (YieldsList-from_slice files (c.iter.ensures.rest ∙ c.deref.ensures.value)) (λ x b q k. search (rules, tests)) in
-    subst (λ (v : Files). IfSome c.position.result (λ at. IsNamed v.files c.args.name.now at)) c.self.view_is (named_search s.store files c.args.name.now c.position.result found)
+    let files = s.list.files in
+    let name = c.args.name.now in
+    let file = c.index.result.now in
+    let own = λ (f : NumberedFile). has_label name (label_of f) in
+    let within : c.loop-at.at < length files = omega (arith, c.loop-at-test.true, c.len-at-end.ensures) in
+    let at_is = position_or_len_is own files c.loop-at.at file (omega (arith, within)) (λ k less. c.loop-at.invariant k file less) (λ l. ap own (sym c.index.ensures) ∙ sym c.is_named.ensures ∙ c.if-is_named.true) in
+    subst (λ (v : Files). IsNamed v.files name c.loop-at.at) c.self.view_is
+    (subst (IsNamed _ name) at_is (named_first s.store files name (subst (λ n. n < length files) (sym at_is) within)))
 
 pub returns-clause-none : goal.returns-clause-none
 returns-clause-none g c =
     let s = c.self.inside in
-    let files = s.list.items in
-    let found_at = position_from_yields_List (λ f. has_label c.args.name.now (label_of f)) _ _ c.position.result c.position.ensures.ran (YieldsList-from_slice files (c.iter.ensures.rest ∙ c.deref.ensures.value)) (λ x b q k. search (rules, tests)) in
-    subst (λ (v : Files). IfNone c.position.result (found (has_name c.args.name.now) v.files ≡ None)) c.self.view_is (named_nowhere s.store files c.args.name.now c.position.result found_at)
+    let files = s.list.files in
+    let name = c.args.name.now in
+    let own = λ (f : NumberedFile). has_label name (label_of f) in
+    let past : length files ≤ c.loop-at.at = omega (arith, c.loop-at-test.false, c.len-at-end.ensures) in
+    let none = position_or_len_is own files (length files) no_file (omega arith) (λ k less. c.loop-at.invariant k no_file (omega (arith, less, past))) (λ l. absurd (omega (arith, l))) in
+    subst (λ (v : Files). found (has_name name) v.files ≡ None) c.self.view_is (named_nowhere s.store files name (omega (arith, none)))

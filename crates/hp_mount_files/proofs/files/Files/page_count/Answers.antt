@@ -11,5 +11,5 @@ returns g c =
     let k = c.args.file in
     let x = c.index.result.now in
     c.page_count.ensures ∙ sym (pages_shown s.store x.cells)
-    ∙ sym (ap (λ (f : File). count_by has_page f.cells) (file_read s.store s.list.items k (subst (λ (v : Files). k < length v.files) (sym c.self.view_is) c.requires) x c.index.ensures))
+    ∙ sym (ap (λ (f : File). count_by has_page f.cells) (file_read s.store s.list.files k (subst (λ (v : Files). k < length v.files) (sym c.self.view_is) c.requires) x c.index.ensures))
     ∙ ap (λ (v : Files). count_by has_page (file_at v.files k).cells) c.self.view_is

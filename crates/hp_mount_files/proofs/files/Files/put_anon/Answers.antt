@@ -19,49 +19,42 @@ use Rattle.hp_mount_files.proofs.files.Files.put_anon.Goals as goal
 pub invariant_of-self-then-is_err-2 : goal.invariant_of-self-then-is_err-2
 invariant_of-self-then-is_err-2 g c =
     let s = c.self.inside in
-    subst (IsFiles s.hints s.store s.more s.maps (count_of c.make_room.new.self)) (sym c.reserve.ensures.items)
-    (files_recounted s.hints s.store s.more s.maps (count_of s.counts) (count_of c.make_room.new.self) s.list.items c.make_room.ensures.same c.self.invariant)
+    subst (IsFiles s.hints s.store s.more s.maps (count_of c.make_room-2.new.self)) (sym c.make_room.ensures.same)
+    (files_recounted s.hints s.store s.more s.maps (count_of s.counts) (count_of c.make_room-2.new.self) s.list.files c.make_room-2.ensures.same c.self.invariant)
 
 pub invariant_of-self-in_default : goal.invariant_of-self-in_default
 invariant_of-self-in_default g c =
     let s = c.self.inside in
-    subst (IsFiles c.note_map.new.self s.store s.more s.maps (count_of c.make_room.new.self)) (sym c.reserve.ensures.items)
-    (files_recounted c.note_map.new.self s.store s.more s.maps (count_of s.counts) (count_of c.make_room.new.self) s.list.items c.make_room.ensures.same
-    (files_noted s.hints c.note_map.new.self s.store s.more s.maps (count_of s.counts) s.list.items c.note_map.ensures.more c.self.invariant))
-
-pub invariant_of-self-in_default-new : goal.invariant_of-self-in_default-new
-invariant_of-self-in_default-new g c =
-    let s = c.self.inside in
-    subst (IsFiles c.note_map.new.self s.store s.more s.maps (count_of c.make_room.new.self)) (sym c.reserve.ensures.items)
-    (files_recounted c.note_map.new.self s.store s.more s.maps (count_of s.counts) (count_of c.make_room.new.self) s.list.items c.make_room.ensures.same
-    (files_noted s.hints c.note_map.new.self s.store s.more s.maps (count_of s.counts) s.list.items c.note_map.ensures.more c.self.invariant))
+    subst (IsFiles c.note_map.new.self s.store s.more s.maps (count_of c.make_room-2.new.self)) (sym c.make_room.ensures.same)
+    (files_recounted c.note_map.new.self s.store s.more s.maps (count_of s.counts) (count_of c.make_room-2.new.self) s.list.files c.make_room-2.ensures.same
+    (files_noted s.hints c.note_map.new.self s.store s.more s.maps (count_of s.counts) s.list.files c.note_map.ensures.more c.self.invariant))
 
 pub invariant_of-self-in_default-mapping : goal.invariant_of-self-in_default-mapping
 invariant_of-self-in_default-mapping g c =
     let s = c.self.inside in
-    subst (IsFiles c.note_map.new.self s.store s.more s.maps (count_of c.make_room.new.self)) (sym c.reserve.ensures.items)
-    (files_recounted c.note_map.new.self s.store s.more s.maps (count_of s.counts) (count_of c.make_room.new.self) s.list.items c.make_room.ensures.same
-    (files_noted s.hints c.note_map.new.self s.store s.more s.maps (count_of s.counts) s.list.items c.note_map.ensures.more c.self.invariant))
+    subst (IsFiles c.note_map.new.self s.store s.more s.maps (count_of c.make_room-2.new.self)) (sym c.make_room.ensures.same)
+    (files_recounted c.note_map.new.self s.store s.more s.maps (count_of s.counts) (count_of c.make_room-2.new.self) s.list.files c.make_room-2.ensures.same
+    (files_noted s.hints c.note_map.new.self s.store s.more s.maps (count_of s.counts) s.list.files c.note_map.ensures.more c.self.invariant))
 
 pub invariant_of-self-in-Err : goal.invariant_of-self-in-Err
 invariant_of-self-in-Err g c =
     let s = c.self.inside in
-    subst (IsFiles c.note_map.new.self s.store s.more s.maps (count_of c.make_room.new.self)) (sym c.reserve.ensures.items)
-    (files_recounted c.note_map.new.self s.store s.more s.maps (count_of s.counts) (count_of c.make_room.new.self) s.list.items c.make_room.ensures.same
-    (files_noted s.hints c.note_map.new.self s.store s.more s.maps (count_of s.counts) s.list.items c.note_map.ensures.more c.self.invariant))
+    subst (IsFiles c.note_map.new.self s.store s.more s.maps (count_of c.make_room-2.new.self)) (sym c.make_room.ensures.same)
+    (files_recounted c.note_map.new.self s.store s.more s.maps (count_of s.counts) (count_of c.make_room-2.new.self) s.list.files c.make_room-2.ensures.same
+    (files_noted s.hints c.note_map.new.self s.store s.more s.maps (count_of s.counts) s.list.files c.note_map.ensures.more c.self.invariant))
 
 pub overflow_add-self : goal.overflow_add-self
 overflow_add-self g c =
     let s = c.self.inside in
-    let few = maps_few s.hints s.store s.more s.maps (count_of s.counts) s.list.items c.self.invariant (subst (λ (v : Files). length (all_maps v.files) < 4096) (sym c.self.view_is) c.requires.maps) in
+    let few = maps_few s.hints s.store s.more s.maps (count_of s.counts) s.list.files c.self.invariant (subst (λ (v : Files). length (all_maps v.files) < 4096) (sym c.self.view_is) c.requires.maps) in
     omega (arith, few)
 
 pub overflow_add-count : goal.overflow_add-count
 overflow_add-count g c =
     let s = c.self.inside in
-    let few = tally_few c.args.range.now.task s.hints s.store s.more s.maps (count_of s.counts) s.list.items c.self.invariant (subst (λ (v : Files). length (all_maps v.files) < 4096) (sym c.self.view_is) c.requires.maps) in
+    let few = tally_few c.args.range.now.task s.hints s.store s.more s.maps (count_of s.counts) s.list.files c.self.invariant (subst (λ (v : Files). length (all_maps v.files) < 4096) (sym c.self.view_is) c.requires.maps) in
     let known = c.count-count.ensures in
-    let same = c.make_room.ensures.same c.args.range.now.task in
+    let same = c.make_room-2.ensures.same c.args.range.now.task in
     omega (arith, few, known, same)
 
 -- the file that was added
@@ -69,28 +62,28 @@ module _ (g : Over) (c : goal.After-set g) where
   file_is : c.add_map-added.new.self ≡ anon c.args.range.now.task c.args.next.number c.args.range.now.start c.args.range.now.pages c.args.range.now.sharing c.args.range.now.reserving
   file_is =
       let r = c.args.range.now in
-      c.in_default-added.ensures.ok ∙ ap (λ f. with_mapping c.entered_from.result c.in-Ok-mapping.map f) c.in-Ok-new.ensures ∙ ap (λ k. with_mapping k c.in-Ok-mapping.map nameless) c.entered_from.ensures.from
+      c.in_default-added.ensures.ok ∙ ap (λ f. with_mapping c.entered_from.result c.in-Ok-mapping.map f) c.new-file.ensures ∙ ap (λ k. with_mapping k c.in-Ok-mapping.map nameless) c.entered_from.ensures.from
       ∙ ap (λ m. with_mapping (entered_from r.sharing r.reserving r.start r.pages) m nameless) c.in-Ok-mapping.ensures
 
-  files_are : c.push_reserved.new.self.items ≡ c.self.inside.list.items ++ c.add_map-added.new.self ∷ []
-  files_are = c.push_reserved.ensures.items ∙ ap (λ fs. fs ++ c.add_map-added.new.self ∷ []) c.reserve.ensures.items
+  files_are : c.push.new.self.files ≡ c.self.inside.list.files ++ c.add_map-added.new.self ∷ []
+  files_are = c.push.ensures ∙ ap (λ fs. fs ++ c.add_map-added.new.self ∷ []) c.make_room.ensures.same
 
   one_more : (q : ℕ) → (count_of c.set.new.self) q ≡ (count_of c.self.inside.counts) q + cond (c.args.range.now.task == q) 1 0
-  one_more = counted_up c.args.range.now.task c.count-count.result (count_of c.self.inside.counts) (count_of c.make_room.new.self) (count_of c.set.new.self) c.make_room.ensures.same c.count-count.ensures c.set.ensures
+  one_more = counted_up c.args.range.now.task c.count-count.result (count_of c.self.inside.counts) (count_of c.make_room-2.new.self) (count_of c.set.new.self) c.make_room-2.ensures.same c.count-count.ensures c.set.ensures
 
 pub invariant_of-self-2 : goal.invariant_of-self-2
 invariant_of-self-2 g c =
     let s = c.self.inside in
     let r = c.args.range.now in
-    let numbers : List ℕ = numbers_of r.task (all_maps (files_shown s.store s.list.items)) in
+    let numbers : List ℕ = numbers_of r.task (all_maps (files_shown s.store s.list.files)) in
     let number = subst (λ (v : Files). c.args.next.number ≡ next_of r.task v.files) (sym c.self.view_is) c.requires.number in
     let fresh = ap (λ n. is_among n numbers) number ∙ unused_is_new numbers in
-    anon_files r.task c.args.next.number r.start r.pages r.sharing r.reserving s.hints s.store s.more s.maps (count_of s.counts) s.list.items c.self.invariant c.add_map-added.new.self c.push_reserved.new.self.items (file_is g c) (files_are g c)
+    anon_files r.task c.args.next.number r.start r.pages r.sharing r.reserving s.hints s.store s.more s.maps (count_of s.counts) s.list.files c.self.invariant c.add_map-added.new.self c.push.new.self.files (file_is g c) (files_are g c)
     fresh c.note_map.new.self c.note_map.ensures.more c.in-Ok.ensures.noted (count_of c.set.new.self) (one_more g c)
 
 pub returns-clause-ok : goal.returns-clause-ok
 returns-clause-ok g c =
     let s = c.self.inside in
     let r = c.args.range.now in
-    anon_view r.task c.args.next.number r.start r.pages r.sharing r.reserving s.hints s.store s.more s.maps (count_of s.counts) s.list.items c.self.invariant c.add_map-added.new.self c.push_reserved.new.self.items (file_is g c) (files_are g c)
+    anon_view r.task c.args.next.number r.start r.pages r.sharing r.reserving s.hints s.store s.more s.maps (count_of s.counts) s.list.files c.self.invariant c.add_map-added.new.self c.push.new.self.files (file_is g c) (files_are g c)
     ∙ ap (λ (v : Files). record v { files = v.files ++ mapped r.task c.args.next.number r.start r.pages r.sharing r.reserving (new_file None) ∷ [] }) c.self.view_is

@@ -20,39 +20,39 @@ use Rattle.hp_mount_files.proofs.files.Files.put_map.Goals as goal
 pub invariant_of-self : goal.invariant_of-self
 invariant_of-self g c =
     let s = c.self.inside in
-    files_recounted s.hints s.store s.more s.maps (count_of s.counts) (count_of c.make_room.new.self) s.list.items c.make_room.ensures.same c.self.invariant
+    files_recounted s.hints s.store s.more s.maps (count_of s.counts) (count_of c.make_room.new.self) s.list.files c.make_room.ensures.same c.self.invariant
 
 pub invariant_of-self-in_default : goal.invariant_of-self-in_default
 invariant_of-self-in_default g c =
     let s = c.self.inside in
-    files_recounted c.note_map.new.self s.store s.more s.maps (count_of s.counts) (count_of c.make_room.new.self) s.list.items c.make_room.ensures.same
-    (files_noted s.hints c.note_map.new.self s.store s.more s.maps (count_of s.counts) s.list.items c.note_map.ensures.more c.self.invariant)
+    files_recounted c.note_map.new.self s.store s.more s.maps (count_of s.counts) (count_of c.make_room.new.self) s.list.files c.make_room.ensures.same
+    (files_noted s.hints c.note_map.new.self s.store s.more s.maps (count_of s.counts) s.list.files c.note_map.ensures.more c.self.invariant)
 
 pub invariant_of-self-in_default-mapping : goal.invariant_of-self-in_default-mapping
 invariant_of-self-in_default-mapping g c =
     let s = c.self.inside in
-    files_recounted c.note_map.new.self s.store s.more s.maps (count_of s.counts) (count_of c.make_room.new.self) s.list.items c.make_room.ensures.same
-    (files_noted s.hints c.note_map.new.self s.store s.more s.maps (count_of s.counts) s.list.items c.note_map.ensures.more c.self.invariant)
+    files_recounted c.note_map.new.self s.store s.more s.maps (count_of s.counts) (count_of c.make_room.new.self) s.list.files c.make_room.ensures.same
+    (files_noted s.hints c.note_map.new.self s.store s.more s.maps (count_of s.counts) s.list.files c.note_map.ensures.more c.self.invariant)
 
 pub invariant_of-self-in_err-add_map : goal.invariant_of-self-in_err-add_map
 invariant_of-self-in_err-add_map g c =
     let s = c.self.inside in
-    let same : slice_set s.list.items c.args.file c.add_map.new.self ≡ s.list.items =
-    ap (slice_set s.list.items c.args.file) (c.in_err-add_map.ensures.err ∙ c.index_mut-at.ensures.value) ∙ set-get_or s.list.items c.args.file c.index_mut-at.result.now in
+    let same : slice_set s.list.files c.args.file c.add_map.new.self ≡ s.list.files =
+    ap (slice_set s.list.files c.args.file) (c.in_err-add_map.ensures.err ∙ c.index_mut-at.ensures.value) ∙ set-get_or s.list.files c.args.file c.index_mut-at.result.now in
     subst (IsFiles c.note_map.new.self s.store s.more s.maps (count_of c.make_room.new.self)) (sym same)
-    (files_recounted c.note_map.new.self s.store s.more s.maps (count_of s.counts) (count_of c.make_room.new.self) s.list.items c.make_room.ensures.same
-    (files_noted s.hints c.note_map.new.self s.store s.more s.maps (count_of s.counts) s.list.items c.note_map.ensures.more c.self.invariant))
+    (files_recounted c.note_map.new.self s.store s.more s.maps (count_of s.counts) (count_of c.make_room.new.self) s.list.files c.make_room.ensures.same
+    (files_noted s.hints c.note_map.new.self s.store s.more s.maps (count_of s.counts) s.list.files c.note_map.ensures.more c.self.invariant))
 
 pub overflow_add-self : goal.overflow_add-self
 overflow_add-self g c =
     let s = c.self.inside in
-    let few = maps_few s.hints s.store s.more s.maps (count_of s.counts) s.list.items c.self.invariant (subst (λ (v : Files). length (all_maps v.files) < 4096) (sym c.self.view_is) c.requires.maps) in
+    let few = maps_few s.hints s.store s.more s.maps (count_of s.counts) s.list.files c.self.invariant (subst (λ (v : Files). length (all_maps v.files) < 4096) (sym c.self.view_is) c.requires.maps) in
     omega (arith, few)
 
 pub overflow_add-count : goal.overflow_add-count
 overflow_add-count g c =
     let s = c.self.inside in
-    let few = tally_few c.args.range.now.task s.hints s.store s.more s.maps (count_of s.counts) s.list.items c.self.invariant (subst (λ (v : Files). length (all_maps v.files) < 4096) (sym c.self.view_is) c.requires.maps) in
+    let few = tally_few c.args.range.now.task s.hints s.store s.more s.maps (count_of s.counts) s.list.files c.self.invariant (subst (λ (v : Files). length (all_maps v.files) < 4096) (sym c.self.view_is) c.requires.maps) in
     let known = c.count-count.ensures in
     let same = c.make_room.ensures.same c.args.range.now.task in
     omega (arith, few, known, same)
@@ -66,8 +66,8 @@ module _ (g : Over) (c : goal.After-set g) where
       c.in_ok-add_map.ensures.ok ∙ ap (λ k. with_mapping k c.in-Ok-mapping.map c.index_mut-at.result.now) c.entered_from.ensures.from
       ∙ ap (λ m. with_mapping (entered_from r.sharing r.reserving r.start r.pages) m c.index_mut-at.result.now) c.in-Ok-mapping.ensures
 
-  within : c.args.file < length c.self.inside.list.items
-  within = (let same = files_len c.self.inside.store c.self.inside.list.items in let inside = subst (λ (v : Files). c.args.file < length v.files) (sym c.self.view_is) c.requires.file in omega (arith, same, inside))
+  within : c.args.file < length c.self.inside.list.files
+  within = (let same = files_len c.self.inside.store c.self.inside.list.files in let inside = subst (λ (v : Files). c.args.file < length v.files) (sym c.self.view_is) c.requires.file in omega (arith, same, inside))
 
   one_more : (q : ℕ) → (count_of c.set.new.self) q ≡ (count_of c.self.inside.counts) q + cond (c.args.range.now.task == q) 1 0
   one_more = counted_up c.args.range.now.task c.count-count.result (count_of c.self.inside.counts) (count_of c.make_room.new.self) (count_of c.set.new.self) c.make_room.ensures.same c.count-count.ensures c.set.ensures
@@ -76,15 +76,15 @@ pub invariant_of-self-2 : goal.invariant_of-self-2
 invariant_of-self-2 g c =
     let s = c.self.inside in
     let r = c.args.range.now in
-    let numbers : List ℕ = numbers_of r.task (all_maps (files_shown s.store s.list.items)) in
+    let numbers : List ℕ = numbers_of r.task (all_maps (files_shown s.store s.list.files)) in
     let number = subst (λ (v : Files). c.args.next.number ≡ next_of r.task v.files) (sym c.self.view_is) c.requires.number in
     let fresh = ap (λ n. is_among n numbers) number ∙ unused_is_new numbers in
-    map_files r.task c.args.next.number r.start r.pages r.sharing r.reserving s.hints s.store s.more s.maps (count_of s.counts) s.list.items c.args.file c.self.invariant (within g c) c.index_mut-at.result.now c.add_map.new.self c.index_mut-at.ensures.value (range_is g c)
+    map_files r.task c.args.next.number r.start r.pages r.sharing r.reserving s.hints s.store s.more s.maps (count_of s.counts) s.list.files c.args.file c.self.invariant (within g c) c.index_mut-at.result.now c.add_map.new.self c.index_mut-at.ensures.value (range_is g c)
     fresh c.note_map.new.self c.note_map.ensures.more c.in-Ok.ensures.noted (count_of c.set.new.self) (one_more g c)
 
 pub returns-clause-ok : goal.returns-clause-ok
 returns-clause-ok g c =
     let s = c.self.inside in
     let r = c.args.range.now in
-    map_view r.task c.args.next.number r.start r.pages r.sharing r.reserving s.hints s.store s.more s.maps (count_of s.counts) s.list.items c.args.file c.self.invariant (within g c) c.index_mut-at.result.now c.add_map.new.self c.index_mut-at.ensures.value (range_is g c)
+    map_view r.task c.args.next.number r.start r.pages r.sharing r.reserving s.hints s.store s.more s.maps (count_of s.counts) s.list.files c.args.file c.self.invariant (within g c) c.index_mut-at.result.now c.add_map.new.self c.index_mut-at.ensures.value (range_is g c)
     ∙ ap (λ (v : Files). with_file_at c.args.file (mapped r.task c.args.next.number r.start r.pages r.sharing r.reserving (file_at v.files c.args.file)) v) c.self.view_is

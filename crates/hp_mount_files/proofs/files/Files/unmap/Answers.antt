@@ -21,7 +21,7 @@ use Rattle.hp_mount_files.proofs.files.Files.unmap.Goals.{After-unmap-gone, Afte
 
 -- the map that was found, and whether something of it is left
 module _ (g : Over) (c : After-unmap-gone g) where
-  there : IsFound (files_shown c.self.inside.store c.self.inside.list.items) c.args.task c.args.number c.args.at.file c.args.at.map
+  there : IsFound (files_shown c.self.inside.store c.self.inside.list.files) c.args.task c.args.number c.args.at.file c.args.at.map
   there = subst (λ (v : Files). IsFound v.files c.args.task c.args.number c.args.at.file c.args.at.map) (sym c.self.view_is) c.requires.found
 
   abbrev z : Mapping ℕ
@@ -41,18 +41,18 @@ module _ (g : Over) (c : After-unmap-gone g) where
       by true e = absurd (some e)
       by false e = refl
 
-  few : sum_by file_owed c.self.inside.list.items < 2 ^ 64
+  few : sum_by file_owed c.self.inside.list.files < 2 ^ 64
   few =
-      let all = files_owe c.self.inside.store c.self.inside.list.items in
+      let all = files_owe c.self.inside.store c.self.inside.list.files in
       let same = ap (λ (v : Files). sum_by file_reserves v.files) c.self.view_is in
       omega (arith, all, same, c.requires.few)
 
 pub unmap-gone-requires-clause-held : goal.unmap-gone-requires-clause-held
 unmap-gone-requires-clause-held g c n =
     let s = c.self.inside in
-    let found : IsFound (files_shown s.store s.list.items) c.args.task c.args.number c.args.at.file c.args.at.map = subst (λ (v : Files). IsFound v.files c.args.task c.args.number c.args.at.file c.args.at.map) (sym c.self.view_is) c.requires.found in
-    let inside : c.args.at.file < length s.list.items = omega (arith, found.file_within, files_len s.store s.list.items) in
-    let part = get_or-le-sum_by (in_file n) s.list.items c.args.at.file c.index_mut-file.result.now inside in
+    let found : IsFound (files_shown s.store s.list.files) c.args.task c.args.number c.args.at.file c.args.at.map = subst (λ (v : Files). IsFound v.files c.args.task c.args.number c.args.at.file c.args.at.map) (sym c.self.view_is) c.requires.found in
+    let inside : c.args.at.file < length s.list.files = omega (arith, found.file_within, files_len s.store s.list.files) in
+    let part = get_or-le-sum_by (in_file n) s.list.files c.args.at.file c.index_mut-file.result.now inside in
     let its = ap (in_file n) c.index_mut-file.ensures.value in
     let all = c.self.invariant.held.held n in
     omega (arith, part, its, all)
@@ -63,7 +63,7 @@ invariant_of-self g c =
     let s = c.self.inside in
     let one = c.unmap-gone in
     let mapped = stays g found c.if-gone-eq0.true in
-    stays_keeps s.hints s.hints s.store one.new.store s.more one.new.more s.maps (count_of s.counts) s.list.items c.self.invariant c.args.task c.args.number c.args.a c.args.b c.args.at.file c.args.at.map (there g found) c.index_mut-file.result.now one.new.self c.index_mut-file.ensures.value one.ensures.file one.ensures.dropping one.result.reserves one.ensures.reserves mapped one.ensures.counted
+    stays_keeps s.hints s.hints s.store one.new.store s.more one.new.more s.maps (count_of s.counts) s.list.files c.self.invariant c.args.task c.args.number c.args.a c.args.b c.args.at.file c.args.at.map (there g found) c.index_mut-file.result.now one.new.self c.index_mut-file.ensures.value one.ensures.file one.ensures.dropping one.result.reserves one.ensures.reserves mapped one.ensures.counted
 
 pub returns-then-gone-eq0-clause-files : goal.returns-then-gone-eq0-clause-files
 returns-then-gone-eq0-clause-files g c =
@@ -71,7 +71,7 @@ returns-then-gone-eq0-clause-files g c =
     let s = c.self.inside in
     let one = c.unmap-gone in
     let mapped = stays g found c.if-gone-eq0.true in
-    stays_files s.hints s.hints s.store one.new.store s.more one.new.more s.maps (count_of s.counts) s.list.items c.self.invariant c.args.task c.args.number c.args.a c.args.b c.args.at.file c.args.at.map (there g found) c.index_mut-file.result.now one.new.self c.index_mut-file.ensures.value one.ensures.file one.ensures.dropping one.result.reserves one.ensures.reserves mapped one.ensures.counted
+    stays_files s.hints s.hints s.store one.new.store s.more one.new.more s.maps (count_of s.counts) s.list.files c.self.invariant c.args.task c.args.number c.args.a c.args.b c.args.at.file c.args.at.map (there g found) c.index_mut-file.result.now one.new.self c.index_mut-file.ensures.value one.ensures.file one.ensures.dropping one.result.reserves one.ensures.reserves mapped one.ensures.counted
     ∙ ap (λ (v : Files). filter is_kept (map (file_unmapped (is_map c.args.task c.args.number) c.args.a c.args.b) v.files)) c.self.view_is
 
 pub returns-then-gone-eq0-clause-left : goal.returns-then-gone-eq0-clause-left
@@ -80,8 +80,8 @@ returns-then-gone-eq0-clause-left g c =
     let s = c.self.inside in
     let one = c.unmap-gone in
     let mapped = stays g found c.if-gone-eq0.true in
-    subst (λ v. IsLeft one.result.reserves v (view one.new.store one.new.more (slice_set s.list.items c.args.at.file one.new.self))) c.self.view_is
-    (stays_left s.hints s.hints s.store one.new.store s.more one.new.more s.maps (count_of s.counts) s.list.items c.self.invariant c.args.task c.args.number c.args.a c.args.b c.args.at.file c.args.at.map (there g found) c.index_mut-file.result.now one.new.self c.index_mut-file.ensures.value one.ensures.file one.ensures.dropping one.result.reserves one.ensures.reserves mapped one.ensures.counted)
+    subst (λ v. IsLeft one.result.reserves v (view one.new.store one.new.more (slice_set s.list.files c.args.at.file one.new.self))) c.self.view_is
+    (stays_left s.hints s.hints s.store one.new.store s.more one.new.more s.maps (count_of s.counts) s.list.files c.self.invariant c.args.task c.args.number c.args.a c.args.b c.args.at.file c.args.at.map (there g found) c.index_mut-file.result.now one.new.self c.index_mut-file.ensures.value one.ensures.file one.ensures.dropping one.result.reserves one.ensures.reserves mapped one.ensures.counted)
 
 pub sweep_file-entries-requires-clause-held : goal.sweep_file-entries-requires-clause-held
 sweep_file-entries-requires-clause-held g c =
@@ -89,7 +89,7 @@ sweep_file-entries-requires-clause-held g c =
     let s = c.self.inside in
     let one = c.unmap-gone in
     let mapped = goes g found c.if-gone-eq0.false in
-    enough_held s.hints s.hints s.store one.new.store s.more one.new.more s.maps (count_of s.counts) s.list.items c.self.invariant c.args.task c.args.number c.args.a c.args.b c.args.at.file c.args.at.map (there g found) c.index_mut-file.result.now one.new.self c.index_mut-file.ensures.value one.ensures.file one.ensures.dropping one.result.reserves one.ensures.reserves mapped
+    enough_held s.hints s.hints s.store one.new.store s.more one.new.more s.maps (count_of s.counts) s.list.files c.self.invariant c.args.task c.args.number c.args.a c.args.b c.args.at.file c.args.at.map (there g found) c.index_mut-file.result.now one.new.self c.index_mut-file.ensures.value one.ensures.file one.ensures.dropping one.result.reserves one.ensures.reserves mapped
 
 pub overflow_sub-self : goal.overflow_sub-self
 overflow_sub-self g c =
@@ -97,7 +97,7 @@ overflow_sub-self g c =
     let s = c.self.inside in
     let one = c.unmap-gone in
     let mapped = goes g found c.if-gone-eq0.false in
-    some_maps s.hints s.hints s.store one.new.store s.more one.new.more s.maps (count_of s.counts) s.list.items c.self.invariant c.args.task c.args.number c.args.a c.args.b c.args.at.file c.args.at.map (there g found) c.index_mut-file.result.now one.new.self c.index_mut-file.ensures.value one.ensures.file one.ensures.dropping one.result.reserves one.ensures.reserves mapped
+    some_maps s.hints s.hints s.store one.new.store s.more one.new.more s.maps (count_of s.counts) s.list.files c.self.invariant c.args.task c.args.number c.args.a c.args.b c.args.at.file c.args.at.map (there g found) c.index_mut-file.result.now one.new.self c.index_mut-file.ensures.value one.ensures.file one.ensures.dropping one.result.reserves one.ensures.reserves mapped
 
 pub overflow_sub-count : goal.overflow_sub-count
 overflow_sub-count g c =
@@ -106,7 +106,7 @@ overflow_sub-count g c =
     let one = c.unmap-gone in
     let mapped = goes g found c.if-gone-eq0.false in
     let last = c.sweep_file-entries in
-    let some = some_tally s.hints c.forget_map.new.self s.store one.new.store s.more one.new.more s.maps (count_of s.counts) s.list.items c.self.invariant c.args.task c.args.number c.args.a c.args.b c.args.at.file c.args.at.map (there g found) c.index_mut-file.result.now one.new.self c.index_mut-file.ensures.value one.ensures.file one.ensures.dropping one.result.reserves one.ensures.reserves mapped last.new.store last.new.more last.new.files.items last.ensures.files last.ensures.dropping last.ensures.counted last.result last.ensures.reserves (few g found) in
+    let some = some_tally s.hints c.forget_map.new.self s.store one.new.store s.more one.new.more s.maps (count_of s.counts) s.list.files c.self.invariant c.args.task c.args.number c.args.a c.args.b c.args.at.file c.args.at.map (there g found) c.index_mut-file.result.now one.new.self c.index_mut-file.ensures.value one.ensures.file one.ensures.dropping one.result.reserves one.ensures.reserves mapped last.new.store last.new.more last.new.files.files last.ensures.files last.ensures.dropping last.ensures.counted last.result last.ensures.reserves (few g found) in
     omega (arith, some, c.count-count.ensures)
 
 pub overflow_add-result : goal.overflow_add-result
@@ -116,7 +116,7 @@ overflow_add-result g c =
     let one = c.unmap-gone in
     let mapped = goes g found c.if-gone-eq0.false in
     let last = c.sweep_file-entries in
-    let few = few_reserves s.hints c.forget_map.new.self s.store one.new.store s.more one.new.more s.maps (count_of s.counts) s.list.items c.self.invariant c.args.task c.args.number c.args.a c.args.b c.args.at.file c.args.at.map (there g found) c.index_mut-file.result.now one.new.self c.index_mut-file.ensures.value one.ensures.file one.ensures.dropping one.result.reserves one.ensures.reserves mapped last.new.store last.new.more last.new.files.items last.ensures.files last.ensures.dropping last.ensures.counted last.result last.ensures.reserves (few g found) in
+    let few = few_reserves s.hints c.forget_map.new.self s.store one.new.store s.more one.new.more s.maps (count_of s.counts) s.list.files c.self.invariant c.args.task c.args.number c.args.a c.args.b c.args.at.file c.args.at.map (there g found) c.index_mut-file.result.now one.new.self c.index_mut-file.ensures.value one.ensures.file one.ensures.dropping one.result.reserves one.ensures.reserves mapped last.new.store last.new.more last.new.files.files last.ensures.files last.ensures.dropping last.ensures.counted last.result last.ensures.reserves (few g found) in
     omega (arith, few)
 
 pub invariant_of-self-2 : goal.invariant_of-self-2
@@ -126,7 +126,7 @@ invariant_of-self-2 g c =
     let one = c.unmap-gone in
     let mapped = goes g found c.if-gone-eq0.false in
     let last = c.sweep_file-entries in
-    went_keeps s.hints c.forget_map.new.self s.store one.new.store s.more one.new.more s.maps (count_of s.counts) s.list.items c.self.invariant c.args.task c.args.number c.args.a c.args.b c.args.at.file c.args.at.map (there g found) c.index_mut-file.result.now one.new.self c.index_mut-file.ensures.value one.ensures.file one.ensures.dropping one.result.reserves one.ensures.reserves mapped last.new.store last.new.more last.new.files.items last.ensures.files last.ensures.dropping last.ensures.counted last.result last.ensures.reserves (few g found)
+    went_keeps s.hints c.forget_map.new.self s.store one.new.store s.more one.new.more s.maps (count_of s.counts) s.list.files c.self.invariant c.args.task c.args.number c.args.a c.args.b c.args.at.file c.args.at.map (there g found) c.index_mut-file.result.now one.new.self c.index_mut-file.ensures.value one.ensures.file one.ensures.dropping one.result.reserves one.ensures.reserves mapped last.new.store last.new.more last.new.files.files last.ensures.files last.ensures.dropping last.ensures.counted last.result last.ensures.reserves (few g found)
     c.forget_map.ensures (count_of c.set.new.self) (λ q. c.set.ensures q ∙ ap (λ n. cond (c.args.task == q) (n - 1) ((count_of s.counts) q)) c.count-count.ensures)
 
 pub returns-clause-files : goal.returns-clause-files
@@ -136,7 +136,7 @@ returns-clause-files g c =
     let one = c.unmap-gone in
     let mapped = goes g found c.if-gone-eq0.false in
     let last = c.sweep_file-entries in
-    went_files s.hints c.forget_map.new.self s.store one.new.store s.more one.new.more s.maps (count_of s.counts) s.list.items c.self.invariant c.args.task c.args.number c.args.a c.args.b c.args.at.file c.args.at.map (there g found) c.index_mut-file.result.now one.new.self c.index_mut-file.ensures.value one.ensures.file one.ensures.dropping one.result.reserves one.ensures.reserves mapped last.new.store last.new.more last.new.files.items last.ensures.files last.ensures.dropping last.ensures.counted last.result last.ensures.reserves (few g found)
+    went_files s.hints c.forget_map.new.self s.store one.new.store s.more one.new.more s.maps (count_of s.counts) s.list.files c.self.invariant c.args.task c.args.number c.args.a c.args.b c.args.at.file c.args.at.map (there g found) c.index_mut-file.result.now one.new.self c.index_mut-file.ensures.value one.ensures.file one.ensures.dropping one.result.reserves one.ensures.reserves mapped last.new.store last.new.more last.new.files.files last.ensures.files last.ensures.dropping last.ensures.counted last.result last.ensures.reserves (few g found)
     ∙ ap (λ (v : Files). filter is_kept (map (file_unmapped (is_map c.args.task c.args.number) c.args.a c.args.b) v.files)) c.self.view_is
 
 pub returns-clause-left : goal.returns-clause-left
@@ -146,5 +146,5 @@ returns-clause-left g c =
     let one = c.unmap-gone in
     let mapped = goes g found c.if-gone-eq0.false in
     let last = c.sweep_file-entries in
-    subst (λ v. IsLeft (one.result.reserves + last.result) v (view last.new.store last.new.more last.new.files.items)) c.self.view_is
-    (went_left s.hints c.forget_map.new.self s.store one.new.store s.more one.new.more s.maps (count_of s.counts) s.list.items c.self.invariant c.args.task c.args.number c.args.a c.args.b c.args.at.file c.args.at.map (there g found) c.index_mut-file.result.now one.new.self c.index_mut-file.ensures.value one.ensures.file one.ensures.dropping one.result.reserves one.ensures.reserves mapped last.new.store last.new.more last.new.files.items last.ensures.files last.ensures.dropping last.ensures.counted last.result last.ensures.reserves (few g found))
+    subst (λ v. IsLeft (one.result.reserves + last.result) v (view last.new.store last.new.more last.new.files.files)) c.self.view_is
+    (went_left s.hints c.forget_map.new.self s.store one.new.store s.more one.new.more s.maps (count_of s.counts) s.list.files c.self.invariant c.args.task c.args.number c.args.a c.args.b c.args.at.file c.args.at.map (there g found) c.index_mut-file.result.now one.new.self c.index_mut-file.ensures.value one.ensures.file one.ensures.dropping one.result.reserves one.ensures.reserves mapped last.new.store last.new.more last.new.files.files last.ensures.files last.ensures.dropping last.ensures.counted last.result last.ensures.reserves (few g found))

@@ -6,8 +6,8 @@ use Rattle.hp_mount_files.proofs.files.forking.join_all.Given as goal
 
 abbrev pub invariant-loop-list : goal.invariant-loop-list
 invariant-loop-list g l = record {
-  room : HaveRoom l.files l.lists.items;
-  files : joined l.files l.lists.items ≡ joined l.initial.files l.initial.lists.items;
+  room : HaveRoom l.files.files l.lists.items;
+  files : joined l.files.files l.lists.items ≡ joined l.initial.files.files l.initial.lists.items;
   sharing : IsSharing (λ n. in_lists n l.initial.lists.items - in_lists n l.lists.items) l.initial.store l.store;
   less : (n : ℕ) → in_lists n l.lists.items ≤ in_lists n l.initial.lists.items;
   counted : l.more ≡ more_in l.store.pages;

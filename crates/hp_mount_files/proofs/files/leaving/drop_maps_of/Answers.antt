@@ -1,5 +1,6 @@
-use Rattle.std.proofs.Common.{arith, ◌<◌, length}
-use Rattle.std.specs.Prelude.{slice_index_or, slice_set}
+use Rattle.std.proofs.Common.{arith, ap, ◌<◌, length, ◌∙◌}
+use Rattle.std.specs.Prelude.{slice_set}
+use Rattle.std.proofs.lemmas.List.{length-set}
 use Rattle.std.proofs.lemmas.List.Sums.{get_or-le-sum_by, sum_by-set}
 use Rattle.hp_mount_files.specs.Held.{in_file, in_files}
 use Rattle.hp_mount_files.specs.Leaving.{emptied, file_owed, left_by}
@@ -9,55 +10,67 @@ use Rattle.hp_mount_files.proofs.Leaves.{more_then}
 use Rattle.hp_mount_files.proofs.Punched.{first_step}
 use Rattle.hp_mount_files.proofs.files.leaving.drop_maps_of.Goals as goal
 
-pub loop-file-preserved : goal.loop-file-preserved
-loop-file-preserved g c =
-    let was = c.loop-file in
-    let i = was.file-index in
-    let f = slice_index_or was.files i c.file-item.result in
+pub loop-at-preserved : goal.loop-at-preserved
+loop-at-preserved g c =
+    let was = c.loop-at in
+    let fs = was.files.files in
+    let i = was.at in
+    let f = c.index_mut.result.now in
+    let read = c.index_mut.ensures.value in
     let one = c.drop_maps_of-gone in
     let n = one.new.self in
-    let inside : i < length was.files = omega (arith, c.loop-file-test.true, was.auto.files) in (
-      drop_then (λ k. in_files k c.args.files.now) (λ k. in_files k was.files) (λ k. in_file k f) (λ k. in_file k n) (λ k. in_files k c.args.files.now) (λ k. in_files k (slice_set was.files i n))
+    let within : i < length c.args.files.now.files = omega (arith, c.loop-at-test.true, c.len-at-end.ensures) in
+    let inside : i < length fs = omega (arith, within, was.invariant.6) in (
+      drop_then (λ k. in_files k c.args.files.now.files) (λ k. in_files k fs) (λ k. in_file k f) (λ k. in_file k n) (λ k. in_files k c.args.files.now.files) (λ k. in_files k (slice_set fs i n))
           c.args.store.now was.store one.new.store was.invariant.0 one.ensures.dropping
-          (λ k. (let step = sum_by-set (in_file k) was.files i n c.file-item.result inside in omega (arith, step))),
-      first_step (λ (f : NumberedFile). emptied (left_by c.args.task f)) i c.args.files.now was.files c.file-item.result n c.loop-file-test.true was.invariant.1 one.ensures.file,
+          (λ k. (let step = sum_by-set (in_file k) fs i n f inside in let same = ap (in_file k) read in omega (arith, step, same))),
+      first_step (λ (f : NumberedFile). emptied (left_by c.args.task f)) i c.args.files.now.files fs f n within was.invariant.1 (one.ensures.file ∙ ap (λ (f : NumberedFile). emptied (left_by c.args.task f)) read),
       one.ensures.counted,
-      (let step = sum_by-set file_owed was.files i n c.file-item.result inside in let had = was.invariant.3 in let left = one.ensures.reserves in omega (arith, step, had, left)),
-      (let step = sum_by-set (λ (f : NumberedFile). length f.maps) was.files i n c.file-item.result inside in let had = was.invariant.4 in let left = one.ensures.maps in omega (arith, step, had, left)),
+      (let step = sum_by-set file_owed fs i n f inside in let same = ap file_owed read in let had = was.invariant.3 in let left = one.ensures.reserves in omega (arith, step, same, had, left)),
+      (let step = sum_by-set (λ (f : NumberedFile). length f.maps) fs i n f inside in let same = ap (λ (f : NumberedFile). length f.maps) read in let had = was.invariant.4 in let left = one.ensures.maps in omega (arith, step, same, had, left)),
       more_then c.args.task c.args.hints.now was.hints one.new.hints was.invariant.5 one.ensures.hints,
+      length-set fs i n ∙ was.invariant.6,
     )
 
 pub overflow_add-maps : goal.overflow_add-maps
 overflow_add-maps g c =
-    let was = c.loop-file in
-    let inside : was.file-index < length was.files = omega (arith, c.loop-file-test.true, was.auto.files) in
-    let step = sum_by-set (λ (f : NumberedFile). length f.maps) was.files was.file-index c.drop_maps_of-gone.new.self c.file-item.result inside in
+    let was = c.loop-at in
+    let f = c.index_mut.result.now in
+    let inside : was.at < length was.files.files = omega (arith, c.loop-at-test.true, c.len-at-end.ensures, was.invariant.6) in
+    let step = sum_by-set (λ (f : NumberedFile). length f.maps) was.files.files was.at c.drop_maps_of-gone.new.self f inside in
+    let same = ap (λ (f : NumberedFile). length f.maps) c.index_mut.ensures.value in
     let had = was.invariant.4 in
     let left = c.drop_maps_of-gone.ensures.maps in
-    omega (arith, step, had, left, c.requires.few_maps)
+    omega (arith, step, same, had, left, c.requires.few_maps)
 
 pub overflow_add-reserves : goal.overflow_add-reserves
 overflow_add-reserves g c =
-    let was = c.loop-file in
-    let inside : was.file-index < length was.files = omega (arith, c.loop-file-test.true, was.auto.files) in
-    let step = sum_by-set file_owed was.files was.file-index c.drop_maps_of-gone.new.self c.file-item.result inside in
+    let was = c.loop-at in
+    let f = c.index_mut.result.now in
+    let inside : was.at < length was.files.files = omega (arith, c.loop-at-test.true, c.len-at-end.ensures, was.invariant.6) in
+    let step = sum_by-set file_owed was.files.files was.at c.drop_maps_of-gone.new.self f inside in
+    let same = ap file_owed c.index_mut.ensures.value in
     let had = was.invariant.3 in
     let left = c.drop_maps_of-gone.ensures.reserves in
-    omega (arith, step, had, left, c.requires.few)
+    omega (arith, step, same, had, left, c.requires.few)
 
 pub drop_maps_of-gone-requires-clause-held : goal.drop_maps_of-gone-requires-clause-held
 drop_maps_of-gone-requires-clause-held g c n =
-    let was = c.loop-file in
-    let inside : was.file-index < length was.files = omega (arith, c.loop-file-test.true, was.auto.files) in
-    let part = get_or-le-sum_by (in_file n) was.files was.file-index c.file-item.result inside in
+    let was = c.loop-at in
+    let f = c.index_mut.result.now in
+    let inside : was.at < length was.files.files = omega (arith, c.loop-at-test.true, c.len-at-end.ensures, was.invariant.6) in
+    let part = get_or-le-sum_by (in_file n) was.files.files was.at f inside in
+    let same = ap (in_file n) c.index_mut.ensures.value in
     let had = was.invariant.0.held n in
     let all = c.requires.held n in
-    omega (arith, part, had, all)
+    omega (arith, part, same, had, all)
 
 pub drop_maps_of-gone-requires-clause-few : goal.drop_maps_of-gone-requires-clause-few
 drop_maps_of-gone-requires-clause-few g c =
-    let was = c.loop-file in
-    let inside : was.file-index < length was.files = omega (arith, c.loop-file-test.true, was.auto.files) in
-    let part = get_or-le-sum_by file_owed was.files was.file-index c.file-item.result inside in
+    let was = c.loop-at in
+    let f = c.index_mut.result.now in
+    let inside : was.at < length was.files.files = omega (arith, c.loop-at-test.true, c.len-at-end.ensures, was.invariant.6) in
+    let part = get_or-le-sum_by file_owed was.files.files was.at f inside in
+    let same = ap file_owed c.index_mut.ensures.value in
     let had = was.invariant.3 in
-    omega (arith, part, had, c.requires.few)
+    omega (arith, part, same, had, c.requires.few)

@@ -1,4 +1,4 @@
-use Rattle.std.specs.Prelude.{◌≡◌, ◌+◌}
+use Rattle.std.specs.Prelude.{◌≡◌, ◌+◌, length}
 use Rattle.std.specs.List.{sum_by}
 use Rattle.hp_mount_files.specs.Dropping.{IsDropping}
 use Rattle.hp_mount_files.specs.Held.{in_files, more_in}
@@ -7,9 +7,9 @@ use Rattle.hp_mount_files.specs.Numbered.{NumberedFile}
 use Rattle.hp_mount_files.proofs.Punched.{first_mapped}
 use Rattle.hp_mount_files.proofs.files.leaving.drop_maps_of.Given as goal
 
-abbrev pub invariant-loop-file : goal.invariant-loop-file
-invariant-loop-file g l =
-    IsDropping (λ n. in_files n l.initial.files) (λ n. in_files n l.files) l.initial.store l.store
-    × (l.files ≡ first_mapped (λ (f : NumberedFile). emptied (left_by l.task f)) l.file-index l.initial.files) × (l.more ≡ more_in l.store.pages)
-    × (l.reserves + sum_by file_owed l.files ≡ sum_by file_owed l.initial.files) × (l.maps + map_sum l.files ≡ map_sum l.initial.files)
-    × IsMoreButTask l.task l.initial.hints l.hints
+abbrev pub invariant-loop-at : goal.invariant-loop-at
+invariant-loop-at g l =
+    IsDropping (λ n. in_files n l.initial.files.files) (λ n. in_files n l.files.files) l.initial.store l.store
+    × (l.files.files ≡ first_mapped (λ (f : NumberedFile). emptied (left_by l.task f)) l.at l.initial.files.files) × (l.more ≡ more_in l.store.pages)
+    × (l.reserves + sum_by file_owed l.files.files ≡ sum_by file_owed l.initial.files.files) × (l.maps + map_sum l.files.files ≡ map_sum l.initial.files.files)
+    × IsMoreButTask l.task l.initial.hints l.hints × (length l.files.files ≡ length l.initial.files.files)

@@ -21,4 +21,4 @@ returns-clause-noted c =
     let key = c.in_ok-key.key in
     let own = put_in (λ (k : List ℕ). k) (bytes_eq key) _ key c.args.tag (λ y e. e) ((bytes_eq-Decides key key).1 refl) c.self.inside.files.entries in
     subst (λ es. has_name c.args.name.now (record { names = names_of es; keys = []; room = 0 }) ≡ true) (sym c.in-Ok.ensures.entries)
-    (subst (λ (name : List ℕ). list_any (bytes_eq name) (names_of (insert_entry bytes_eq c.self.inside.files.entries key c.args.tag)) ≡ true) c.in_ok-key.ensures own)
+    (subst (λ (name : List ℕ). list_any (bytes_eq name) (names_of (insert_entry bytes_eq c.self.inside.files.entries key c.args.tag)) ≡ true) c.in_ok-key.ensures.copy own)

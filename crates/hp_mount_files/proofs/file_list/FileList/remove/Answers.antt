@@ -1,0 +1,30 @@
+use Rattle.std.proofs.Common.{ℕ, ◌<◌, None, ap, length, subst, sym, ◌∙◌}
+use Rattle.std.specs.Prelude.{slice_index_or}
+use Rattle.std.specs.List.{remove}
+use Rattle.std.proofs.lemmas.Grind.{get_or_default_zero}
+use Rattle.std.proofs.lemmas.List.{length-map}
+use Rattle.slab.specs.Slab.{Updates}
+use Rattle.hp_mount_files.specs.FileList.{IsOrder, Listed, files_in}
+use Rattle.hp_mount_files.proofs.Listed.{removed_files, removed_order}
+use Rattle.hp_mount_files.proofs.file_list.FileList.remove.Goals as goal
+
+module _ (c : goal.After-remove) where
+  inside : c.args.at < length c.self.inside.order.items
+  inside = subst (λ (n : ℕ). c.args.at < n) (ap (λ l. length l.files) (sym c.self.view_is) ∙ length-map c.self.inside.order.items _) c.requires
+
+  gone : Updates c.self.inside.files c.remove.new.self (slice_index_or c.self.inside.order.items c.args.at 0) None
+  gone = subst (λ key. Updates c.self.inside.files c.remove.new.self key None) (c.remove-key.ensures.value ∙ get_or_default_zero c.self.inside.order.items c.args.at c.remove-key.result inside) c.remove.ensures.updates
+
+pub invariant_of-self : goal.invariant_of-self
+invariant_of-self c =
+    let s = c.self.inside in
+    subst (λ keys. IsOrder c.remove.new.self keys c.remove-tag.new.self.items) (sym c.remove-key.ensures.items)
+    (subst (IsOrder c.remove.new.self (remove s.order.items c.args.at)) (sym c.remove-tag.ensures.items)
+    (removed_order s.files c.remove.new.self s.order.items s.tags.items c.self.invariant c.args.at (inside c) (gone c)))
+
+pub returns-clause-files : goal.returns-clause-files
+returns-clause-files c =
+    let s = c.self.inside in
+    ap (files_in c.remove.new.self) c.remove-key.ensures.items
+    ∙ removed_files s.files c.remove.new.self s.order.items s.tags.items c.self.invariant c.args.at (inside c) (gone c)
+    ∙ ap (λ (l : Listed). remove l.files c.args.at) c.self.view_is

@@ -1,0 +1,7 @@
+use Rattle.std.specs.Prelude.{◌≡◌, ℕ, ◌<◌, false, slice_index_or}
+use Rattle.hp_mount_files.specs.Keyed.{has_label, label_of}
+use Rattle.hp_mount_files.specs.Numbered.{NumberedFile}
+use Rattle.hp_mount_files.proofs.files.Files.named_among_all.Given as goal
+
+abbrev pub invariant-loop-at : goal.invariant-loop-at
+invariant-loop-at g l = (k : ℕ) (d : NumberedFile) → k < l.at → has_label l.name (label_of (slice_index_or l.files.files k d)) ≡ false

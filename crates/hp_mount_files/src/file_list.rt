@@ -1,0 +1,171 @@
+//! Files in their order.
+ghost use Rattle.std.specs.Prelude.{◌≡◌, ◌+◌, ◌<◌, ◌++◌, ◌∷◌, [], length, slice_index_or, IfNone, IfSome, OnOk, OnErr};
+ghost use Rattle.std.specs.Borrow.{sem};
+ghost use Rattle.std.specs.List.{filter, remove, slice_set};
+ghost use Rattle.hp_mount_files.specs.Leaving.{is_used};
+
+use crate::file::File;
+use slab::Slab;
+use std::alloc::{AllocError, Global};
+use std::marker::Model;
+use std::ops::{Index, IndexMut};
+
+// A file is looked for at so many places, from the one where it stood down, before it is searched for.
+const NEAR: usize = 16;
+
+/// Files in order of creation. Each lies in a place that it keeps, so where a file goes, the numbers of the places and the tags
+/// close up, and no other file is moved. A file that was made later has a greater tag, so that it is found by a binary search.
+/// Contracts see the files, and for how many more there is room.
+#[derive(Drop)]
+pub(crate) struct FileList {
+    files: Slab<File>,
+    order: Vec<u32>,
+    tags: Vec<u64>,
+}
+
+impl Model for FileList {
+    ghost use Rattle.hp_mount_files.specs.FileList.{Listed, IsOrder, files_in, room_in};
+    ghost use Rattle.std.specs.Prelude.{vec_capacity};
+
+    ghost Value = { Listed };
+
+    ghost view = { λ l. record {
+      files = files_in l.files l.order.items;
+      room = room_in l.files (vec_capacity l.order) (vec_capacity l.tags) l.order.items;
+    } };
+
+    ghost invariant = { λ l. IsOrder l.files l.order.items l.tags.items };
+}
+
+impl FileList {
+    /// No file. Takes no memory.
+    pub(crate) fn new(alloc: Global) -> Self
+        ensures { result.files ≡ [] }
+    {
+        FileList {
+            files: Slab::new(alloc),
+            order: Vec::new(alloc),
+            tags: Vec::new(alloc),
+        }
+    }
+
+    /// How many files there are.
+    pub(crate) fn len(&self) -> usize
+        ensures { result ≡ length self.now.files }
+    {
+        self.order.len()
+    }
+
+    /// Makes room for a file more. Refused where memory is.
+    pub(crate) fn make_room(&mut self) -> Result<(), AllocError>
+        ensures same { self.new.files ≡ self.old.files }
+        ensures ok { OnOk result (0 < self.new.room) }
+    {
+        if self.files.vacant_key() > u32::MAX as usize {
+            return Err(AllocError);
+        }
+        self.files.reserve(1)?;
+        self.order.reserve(1)?;
+        self.tags.reserve(1)?;
+        Ok(())
+    }
+
+    /// Adds a file behind the others. It takes no memory: there is room.
+    pub(crate) fn push(&mut self, file: File, tag: u64)
+        requires { 0 < self.old.room }
+        ensures { self.new.files ≡ self.old.files ++ file ∷ [] }
+    {
+        let key = self.files.insert_reserved(file);
+        self.order.push_reserved(key as u32);
+        self.tags.push_reserved(tag);
+    }
+
+    /// The tag of the file at a place.
+    pub(crate) fn tag(&self, at: usize) -> u64
+        requires { at < length self.now.files }
+    {
+        self.tags[at]
+    }
+
+    /// Whether the file with the tag stands at a place. The file itself is not looked at.
+    pub(crate) fn is_tagged(&self, at: usize, tag: u64) -> bool {
+        match self.tags.get(at) {
+            Some(own) => *own == tag,
+            None => false,
+        }
+    }
+
+    /// Where a file with the tag stands, if it is there.
+    pub(crate) fn tagged(&self, tag: u64) -> usize {
+        self.tags.partition_point(|own| *own < tag)
+    }
+
+    /// Where the file with a tag stands, if it is there, that stood at a place: files move down alone, and most by a few places.
+    pub(crate) fn tagged_near(&self, at: usize, tag: u64) -> usize {
+        let tags = self.tags.as_slice();
+        let end = tags.len().min(at.saturating_add(1));
+        for near in (end.saturating_sub(NEAR)..end).rev() {
+            if tags[near] <= tag {
+                return near;
+            }
+        }
+        self.tagged(tag)
+    }
+
+    /// Takes a file out, and those behind it move down.
+    pub(crate) fn remove(&mut self, at: usize) -> File
+        requires { at < length self.old.files }
+        ensures value { result ≡ slice_index_or self.old.files at result }
+        ensures files { self.new.files ≡ remove self.old.files at }
+    {
+        let _tag = self.tags.remove(at);
+        let key = self.order.remove(at);
+        self.files.remove(key as usize)
+    }
+
+    /// Takes the last file out, if there is one.
+    pub(crate) fn pop(&mut self) -> Option<File>
+        ensures some { IfSome result (λ file. self.old.files ≡ self.new.files ++ file ∷ []) }
+        ensures none { IfNone result (self.old.files ≡ []) }
+    {
+        let last = self.len().checked_sub(1)?;
+        Some(self.remove(last))
+    }
+
+    /// Files without name and maps go, and the others move down.
+    pub(crate) fn retain_used(&mut self)
+        ensures { self.new.files ≡ filter is_used self.old.files }
+    {
+        let mut at = self.len();
+        while at > 0 {
+            at -= 1;
+            if !self[at].is_used() {
+                drop(self.remove(at));
+            }
+        }
+    }
+}
+
+impl Index<usize> for FileList {
+    type Output = File;
+
+    ghost can_index = { λ l at. at < length l.files };
+
+    ghost index_gives = { λ l at file. file ≡ slice_index_or l.files at file };
+
+    fn index(&self, at: usize) -> &File {
+        &self.files[self.order[at] as usize]
+    }
+}
+
+impl IndexMut<usize> for FileList {
+    ghost use Rattle.hp_mount_files.specs.Lends.{LendsFile};
+
+    fn index_mut(&mut self, at: usize) -> &mut File
+        requires { at < length self.old.files }
+        ensures* writes_back { sem 𝓛 (LendsFile self.entry at result) }
+        ensures value { result.now ≡ slice_index_or self.old.files at result.now }
+    {
+        &mut self.files[self.order[at] as usize]
+    }
+}
