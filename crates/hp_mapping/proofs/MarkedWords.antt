@@ -1,9 +1,9 @@
 -- Bits of a word, and marks in words.
-use Rattle.std.proofs.Common.{w64, ◌≡◌, ℕ, ◌+◌, ◌-◌, ◌*◌, ◌/◌, ◌%◌, ◌^◌, ◌<◌, ◌≤◌, inl, inr, List, length, slice_index, sym, ◌∙◌, ap, arith}
+use Rattle.std.proofs.Common.{w64, ◌≡◌, ℕ, ◌+◌, ◌-◌, ◌*◌, ◌/◌, ◌%◌, ◌^◌, ◌<◌, ◌≤◌, inl, inr, [], ◌∷◌, List, length, slice_index, sym, ◌∙◌, ap, arith}
 use Rattle.std.proofs.lemmas.Bool.{cases_lt, cases_eq}
 use Rattle.std.proofs.lemmas.List.{get_or_past}
 use Rattle.std.proofs.lemmas.Nat.{pow-add}
-use Rattle.std.proofs.lemmas.Nat.Bits.{bit_at-zero, bit_at_above, bit_at-trailing_zeros, bit_at-lt}
+use Rattle.std.proofs.lemmas.Nat.Bits.{bit_at-zero, bit_at_above, bit_at_ones_above, bit_at-trailing_zeros, bit_at-lt}
 use Rattle.std.proofs.Math.Nat.{div-div-eq-div-mul, div-le_self}
 use Rattle.std.specs.Int.{bit_at, trailing_zeros}
 use Rattle.hp_mapping.specs.Marks.{mark_at, IsBlank, IsBlankFrom, IsLowest, IsSummed, KeepsWords}
@@ -59,8 +59,24 @@ mark_in words w b small =
 zero_mark : (words : List ℕ) (k : ℕ) → slice_index words (k / 64) ≡ 0 → mark_at words k ≡ 0
 zero_mark words k e = ap (λ n. bit_at n (k % 64)) e ∙ bit_at-zero (k % 64)
 
-past_mark : (words : List ℕ) (k : ℕ) → 64 * length words ≤ k → mark_at words k ≡ 0
+pub past_mark : (words : List ℕ) (k : ℕ) → 64 * length words ≤ k → mark_at words k ≡ 0
 past_mark words k past = zero_mark words k (get_or_past words (k / 64) 0 (omega arith))
+
+-- ---- the only word of a list
+
+pub mark_in_word : (word k : ℕ) → k < 64 → mark_at (word ∷ []) k ≡ bit_at word k
+mark_in_word word k small =
+    let q : k / 64 ≡ 0 = omega arith in
+    let r : k % 64 ≡ k = omega arith in
+    ap (λ w. bit_at (slice_index (word ∷ []) w) (k % 64)) q ∙ ap (bit_at word) r
+
+-- a word with the bits below one
+pub ones_blank : (bit : ℕ) → IsBlankFrom bit ((2 ^ bit - 1) ∷ [])
+ones_blank bit k from =
+    elim (cases_lt k 64) as (λ _. mark_at ((2 ^ bit - 1) ∷ []) k ≡ 0) [
+      | inl small ↦ mark_in_word (2 ^ bit - 1) k small ∙ bit_at_ones_above bit k from
+      | inr past ↦ past_mark ((2 ^ bit - 1) ∷ []) k past
+    ]
 
 pub lowest_of_word : (words : List ℕ) (w : ℕ) → 0 < slice_index words w → slice_index words w < 2 ^ 64 → IsLowest (64 * w) (64 * w + trailing_zeros w64 (slice_index words w)) words
 lowest_of_word words w some small =

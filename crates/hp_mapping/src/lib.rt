@@ -10,6 +10,8 @@ mod packed_place;
 mod places;
 mod row;
 mod sparse;
+mod summed;
+mod word;
 mod words;
 
 pub use flags::MapFlags;

@@ -1,28 +1,34 @@
-//! Marks that are found without a step for each number that has none.
+//! The marks of a map, few or many.
 ghost use Rattle.std.specs.Prelude.{◌≡◌, ℕ, ◌*◌, ◌<◌, ◌≤◌, length, IfOk, IfSome, IfNone};
 ghost use Rattle.hp_mapping.specs.Marks.{mark_at, IsBlankFrom, IsLowest, ChangesMark};
 
-use crate::words::Words;
+use crate::summed::Summed;
+use crate::word::Word;
 use std::alloc::{AllocError, Global};
 use std::marker::Model;
 
-/// A mark for each number below a limit, and a mark for each word of them that has one. So a search passes over
-/// 4,096 numbers at a step. Contracts see the words.
+// Fewer marks than that stand in a word.
+const MANY: usize = 64;
+
+/// A mark for each number below a limit. Few take no memory of their own. Contracts see the words.
 #[derive(Drop)]
 pub(crate) struct Marks {
-    words: Words,
-    above: Words,
+    form: Form,
+}
+
+#[derive(Drop)]
+enum Form {
+    Few(Word),
+    Many(Box<Summed>),
 }
 
 impl Model for Marks {
     ghost use Rattle.std.specs.Prelude.{ℕ, List};
-    ghost use Rattle.hp_mapping.specs.Marks.{IsSummed};
+    ghost use Rattle.hp_mapping.specs.Forms.{words_of};
 
     ghost Value = { List ℕ };
 
-    ghost view = { λ m. m.words };
-
-    ghost invariant = { λ m. IsSummed m.words m.above };
+    ghost view = { λ m. words_of m.form };
 }
 
 impl Marks {
@@ -31,9 +37,12 @@ impl Marks {
         ensures blank { IfOk result (λ m. IsBlankFrom 0 m) }
         ensures room { IfOk result (λ m. count ≤ 64 * length m) }
     {
-        let words = Words::new(alloc, count)?;
-        let above = Words::new(alloc, words.len())?;
-        Ok(Marks { words, above })
+        let form = if count < MANY {
+            Form::Few(Word::all(0))
+        } else {
+            Form::Many(Box::new(alloc, Summed::new(alloc, count)?)?)
+        };
+        Ok(Marks { form })
     }
 
     /// Marks of all numbers below `count`.
@@ -42,34 +51,42 @@ impl Marks {
         ensures blank { IfOk result (λ m. IsBlankFrom count m) }
         ensures room { IfOk result (λ m. count ≤ 64 * length m) }
     {
-        let words = Words::all(alloc, count)?;
-        let above = Words::all(alloc, count.div_ceil(64))?;
-        Ok(Marks { words, above })
+        let form = if count < MANY {
+            Form::Few(Word::all(count))
+        } else {
+            Form::Many(Box::new(alloc, Summed::all(alloc, count)?)?)
+        };
+        Ok(Marks { form })
     }
 
     /// The same marks in memory of their own.
-    pub(crate) fn copied(&self) -> Result<Self, AllocError>
+    pub(crate) fn copied(&self, alloc: Global) -> Result<Self, AllocError>
         ensures { IfOk result (λ m. m ≡ self.now) }
     {
-        let words = self.words.copied()?;
-        let above = self.above.copied()?;
-        Ok(Marks { words, above })
+        let form = match &self.form {
+            Form::Few(word) => Form::Few(word.copied()),
+            Form::Many(marks) => Form::Many(Box::new(alloc, marks.copied()?)?),
+        };
+        Ok(Marks { form })
     }
 
     pub(crate) fn mark(&mut self, at: usize)
         requires { at < 64 * length self.old }
         ensures { ChangesMark at 1 self.old self.new }
     {
-        self.words.mark(at);
-        self.above.mark(at / 64);
+        match &mut self.form {
+            Form::Few(word) => word.mark(at),
+            Form::Many(marks) => marks.mark(at),
+        }
     }
 
     pub(crate) fn unmark(&mut self, at: usize)
         requires { at < 64 * length self.old }
         ensures { ChangesMark at 0 self.old self.new }
     {
-        if self.words.unmark(at) {
-            self.above.unmark(at / 64);
+        match &mut self.form {
+            Form::Few(word) => word.unmark(at),
+            Form::Many(marks) => marks.unmark(at),
         }
     }
 
@@ -78,10 +95,9 @@ impl Marks {
         ensures some { IfSome result (λ at. IsLowest from at self.now) }
         ensures none { IfNone result (IsBlankFrom from self.now) }
     {
-        if let Some(at) = self.words.next_in_word(from) {
-            return Some(at);
+        match &self.form {
+            Form::Few(word) => word.next(from),
+            Form::Many(marks) => marks.next(from),
         }
-        let word = self.above.next(from / 64 + 1)?;
-        Some(self.words.lowest_in(word))
     }
 }

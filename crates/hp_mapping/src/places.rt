@@ -56,8 +56,8 @@ impl Places {
         ensures { IfOk result (λ p. p ≡ map unconsumed self.now) }
     {
         let places = self.places.forked(alloc)?;
-        let live = self.live.copied()?;
-        let copies = self.copies.copied()?;
+        let live = self.live.copied(alloc)?;
+        let copies = self.copies.copied(alloc)?;
         Ok(Places {
             places,
             live,

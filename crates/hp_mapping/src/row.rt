@@ -23,7 +23,7 @@ pub(crate) struct Row {
 #[derive(Drop)]
 enum Form {
     Dense(Dense),
-    Sparse(Sparse),
+    Sparse(Box<Sparse>),
 }
 
 impl Model for Row {
@@ -43,7 +43,7 @@ impl Row {
     {
         let is_large = LARGE < count && count <= u32::MAX as usize;
         let form = if is_large {
-            Form::Sparse(Sparse::new(alloc, count)?)
+            Form::Sparse(Box::new(alloc, Sparse::new(alloc, count)?)?)
         } else {
             Form::Dense(Dense::new(alloc, count)?)
         };
@@ -56,7 +56,7 @@ impl Row {
     {
         let form = match &self.form {
             Form::Dense(dense) => Form::Dense(dense.forked(alloc)?),
-            Form::Sparse(sparse) => Form::Sparse(sparse.forked(alloc)?),
+            Form::Sparse(sparse) => Form::Sparse(Box::new(alloc, sparse.forked(alloc)?)?),
         };
         Ok(Row { form })
     }

@@ -1,5 +1,5 @@
 use Rattle.hp_mapping.proofs.FilledWords.{summed_all}
-use Rattle.hp_mapping.proofs.marks.Marks.all.Goals as goal
+use Rattle.hp_mapping.proofs.summed.Summed.all.Goals as goal
 
 pub invariant_of-result : goal.invariant_of-result
 invariant_of-result c =

@@ -1,7 +1,7 @@
 use Rattle.std.proofs.Common.{◌+◌, ◌*◌, ◌/◌, arith}
 use Rattle.hp_mapping.specs.Marks.{IsBlank}
 use Rattle.hp_mapping.proofs.MarkedWords.{blank_words, lowest_after}
-use Rattle.hp_mapping.proofs.marks.Marks.next.Goals as goal
+use Rattle.hp_mapping.proofs.summed.Summed.next.Goals as goal
 
 pub returns-clause-some : goal.returns-clause-some
 returns-clause-some c =

@@ -1,7 +1,7 @@
 use Rattle.std.proofs.Common.{arith, ◌/◌, ◌<◌, slice_index}
 use Rattle.std.proofs.lemmas.Bool.Decides.{nat_tests}
 use Rattle.hp_mapping.proofs.MarkedWords.{summed_kept}
-use Rattle.hp_mapping.proofs.marks.Marks.unmark.Goals as goal
+use Rattle.hp_mapping.proofs.summed.Summed.unmark.Goals as goal
 
 pub invariant_of-self-else-unmark : goal.invariant_of-self-else-unmark
 invariant_of-self-else-unmark c =
