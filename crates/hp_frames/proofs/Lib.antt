@@ -1,3 +1,4 @@
 pub mod Crossing
 pub mod Cuts
 pub mod Leasing
+pub mod Zeros

@@ -1,5 +1,6 @@
 -- What contracts see of a frame.
-use Rattle.std.specs.Prelude.{ℕ, ◌+◌, List, ◌++◌, length, take, drop}
+use Rattle.std.specs.Prelude.{◌≡◌, ℕ, ◌+◌, ◌-◌, List, ◌++◌, length, take, drop}
+use Rattle.hp_model.specs.files.Page.{zeros}
 use Rattle.linked_list_allocator.specs.Region.{Region}
 
 -- the node that it is of, the block that it lies in, and its bytes
@@ -15,3 +16,7 @@ rewritten old new = take (length old) (new ++ drop (length new) old)
 -- the frame with these bytes from the offset on
 abbrev pub overwritten : ℕ → List ℕ → Frame → Frame
 overwritten offset bytes f = record f { bytes = take offset f.bytes ++ bytes ++ drop (offset + length bytes) f.bytes }
+
+-- the bytes from a place on are zeros
+abbrev pub AreZerosFrom : ℕ → List ℕ → Type 0
+AreZerosFrom from bytes = drop from bytes ≡ zeros (length bytes - from)

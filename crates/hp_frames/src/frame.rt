@@ -1,9 +1,9 @@
 //! A frame: the memory of one huge page.
-ghost use Rattle.std.specs.Prelude.{◌≡◌, ◌+◌, ◌≤◌, length, vec_capacity};
+ghost use Rattle.std.specs.Prelude.{◌≡◌, ◌+◌, ◌≤◌, ◌++◌, drop, length, take, vec_capacity};
 ghost use Rattle.std_alloc.specs.Vec.{vec_ptr};
 ghost use Rattle.std.specs.Borrow.{Lends, sem, Array, u8 as byte};
 ghost use Rattle.hp_model.specs.files.Page.{zeros};
-ghost use Rattle.hp_frames.specs.Frame.{overwritten, rewritten};
+ghost use Rattle.hp_frames.specs.Frame.{AreZerosFrom, overwritten, rewritten};
 
 use crate::lodging::{Lease, house, vacate};
 use linked_list_allocator::Block;
@@ -19,22 +19,21 @@ pub struct Frame {
     // how many frames of the block were cut before
     number: u32,
     node: u8,
-    // whether all bytes are known to be zeros
-    blank: bool,
+    // the bytes from here on are known to be zeros
+    written: usize,
 }
 
 impl Model for Frame {
-    ghost use Rattle.std.specs.Prelude.{◌≡◌, IsTrue, length, vec_capacity};
+    ghost use Rattle.std.specs.Prelude.{◌≡◌, ◌≤◌, length, vec_capacity};
     ghost use Rattle.std_alloc.specs.Vec.{vec_ptr};
-    ghost use Rattle.hp_model.specs.files.Page.{zeros};
-    ghost use Rattle.hp_frames.specs.Frame.{Frame};
+    ghost use Rattle.hp_frames.specs.Frame.{Frame, AreZerosFrom};
 
     ghost Value = { Frame };
 
     ghost view = { λ f. record { node = f.node; memory = f.lease.region; bytes = f.bytes.items } };
 
     ghost invariant = { λ f. (vec_ptr f.bytes ≡ f.lease.ptr) × (vec_capacity f.bytes ≡ f.lease.size)
-        × (IsTrue f.blank → f.bytes.items ≡ zeros (length f.bytes.items)) };
+        × (f.written ≤ length f.bytes.items) × AreZerosFrom f.written f.bytes.items };
 }
 
 impl Frame {
@@ -54,7 +53,7 @@ impl Frame {
             lease,
             number,
             node,
-            blank: true,
+            written: 0,
         }
     }
 
@@ -66,7 +65,7 @@ impl Frame {
             lease,
             number: _,
             node: _,
-            blank: _,
+            written: _,
         } = self;
         vacate(bytes, lease)
     }
@@ -95,7 +94,7 @@ impl Frame {
             (Lends the_row (Array byte 0) self.entry result
             (λ w. record self.old { bytes = rewritten self.old.bytes w })) }
     {
-        self.blank = false;
+        self.written = self.bytes.len();
         &mut self.bytes
     }
 
@@ -104,17 +103,59 @@ impl Frame {
         requires { offset + length bytes.now ≤ length self.old.bytes }
         ensures { self.new ≡ overwritten offset bytes.now self.old }
     {
-        self.blank = false;
-        self.bytes[offset..offset + bytes.len()].copy_from_slice(bytes);
+        self.written = overwrite(&mut self.bytes, offset, bytes, self.written);
+    }
+
+    /// The bytes of another frame in place of its own. Bytes that are known to be zeros in both are not written again.
+    #[tactic(auto, using(crate::proofs::Zeros::zeros_behind))]
+    pub fn copy_from(&mut self, other: &Frame)
+        requires { length other.now.bytes ≡ length self.old.bytes }
+        ensures { self.new ≡ record self.old { bytes = other.now.bytes } }
+    {
+        let end = self.written.max(other.written);
+        copy_front(&mut self.bytes, &other.bytes, end);
+        self.written = other.written;
     }
 
     /// Zeros in place of all bytes. Bytes that are known to be zeros are not written again.
     pub fn zero(&mut self)
         ensures { self.new ≡ record self.old { bytes = zeros (length self.old.bytes) } }
     {
-        if !self.blank {
-            self.bytes[..].fill(0);
-            self.blank = true;
-        }
+        zero_front(&mut self.bytes, self.written);
+        self.written = 0;
     }
+}
+
+// Other bytes from an offset on. Answers from where on all are zeros then.
+fn overwrite(to: &mut [u8], offset: usize, from: &[u8], written: usize) -> usize
+    requires fits { offset + length from.now ≤ length to.old }
+    requires within { written ≤ length to.old }
+    requires zeros { AreZerosFrom written to.old }
+    ensures bytes { to.new ≡ take offset to.old ++ from.now ++ drop (offset + length from.now) to.old }
+    ensures within { result ≤ length to.new }
+    ensures zeros { AreZerosFrom result to.new }
+{
+    let end = offset + from.len();
+    to[offset..end].copy_from_slice(from);
+    written.max(end)
+}
+
+// The bytes of another list, both of which are zeros behind a front.
+fn copy_front(to: &mut [u8], from: &[u8], front: usize)
+    requires same { length from.now ≡ length to.old }
+    requires within { front ≤ length to.old }
+    requires to { AreZerosFrom front to.old }
+    requires from { AreZerosFrom front from.now }
+    ensures { to.new ≡ from.now }
+{
+    to[..front].copy_from_slice(&from[..front]);
+}
+
+// Zeros, where all behind a front are.
+fn zero_front(bytes: &mut [u8], front: usize)
+    requires within { front ≤ length bytes.old }
+    requires zeros { AreZerosFrom front bytes.old }
+    ensures { bytes.new ≡ zeros (length bytes.old) }
+{
+    bytes[..front].fill(0);
 }
