@@ -83,6 +83,13 @@ impl<N: Naming> Page<N> {
         self.frame.write(offset, bytes);
     }
 
+    /// The bytes of another page in place of its own. What is known to be zeros in both is not written again.
+    pub fn copy_from(&mut self, other: &Page<N>)
+        ensures { self.new ≡ record self.old { bytes = other.now.bytes } }
+    {
+        self.frame.copy_from(&other.frame);
+    }
+
     /// Zeros in place of what the last holder wrote. A page that was taken has its last holder's bytes.
     pub fn zero(&mut self)
         ensures { self.new ≡ record self.old { bytes = zeros N.page_bytes } }

@@ -1,7 +1,7 @@
 //! Pages with their holders, by number.
 ghost use Rattle.std.specs.Prelude.{◌≡◌, ℕ, ◌+◌, ◌<◌, ◌≤◌, ◌^◌, ◌==◌, not, false, IsTrue, IsSome, [], ◌∷◌, ◌++◌, length, slice_index_or, slice_set, None, Some, OnOk, OnErr};
 ghost use Rattle.std.specs.Option.{option_map};
-ghost use Rattle.hp_store.specs.Store.{holders_of, bytes_of, first_held, held_once_more, held_once_less, page_of, written, at_slot};
+ghost use Rattle.hp_store.specs.Store.{holders_of, first_held, held_once_more, held_once_less, page_of, written, at_slot};
 ghost use Rattle.hp_store.specs.Kept.{Used};
 
 use hp_model::naming::Naming;
@@ -152,13 +152,12 @@ impl<N: Naming> Holdings<N> {
         }
     }
 
-    pub(crate) fn bytes(&self, at: usize) -> &[u8]
+    pub(crate) fn page(&self, at: usize) -> &Page<N>
         requires { IsSome (slice_index_or self.now.slots at None) }
-        ensures bytes { result.now ≡ bytes_of (slice_index_or self.now.slots at None) }
-        ensures length { length result.now ≡ N.page_bytes }
+        ensures { option_map page_of (slice_index_or self.now.slots at None) ≡ Some result.now }
     {
         match &self.pages[at] {
-            Some(page) => page.bytes(),
+            Some(page) => page,
             None => unreachable!(),
         }
     }

@@ -1,7 +1,7 @@
 //! Slots for pages, and the numbers of those that are free.
 ghost use Rattle.std.specs.Prelude.{◌≡◌, ℕ, ◌+◌, ◌-◌, ◌<◌, ◌≤◌, ◌^◌, ◌==◌, not, false, IsTrue, [], length, slice_index_or, slice_set, None, Some, IsSome, OnOk, OnErr};
 ghost use Rattle.std.specs.Option.{option_map};
-ghost use Rattle.hp_store.specs.Store.{holders_of, bytes_of, first_held, held_once_more, held_once_less, page_of, written, held_count, at_slot, Lengthens};
+ghost use Rattle.hp_store.specs.Store.{holders_of, first_held, held_once_more, held_once_less, page_of, written, held_count, at_slot, Lengthens};
 
 use crate::holdings::Holdings;
 use hp_model::naming::Naming;
@@ -146,12 +146,11 @@ impl<N: Naming> Slots<N> {
         self.used.holders(at.number() as usize)
     }
 
-    pub(crate) fn bytes(&self, at: PageNo) -> &[u8]
+    pub(crate) fn page(&self, at: PageNo) -> &Page<N>
         requires { IsSome (slice_index_or self.now at None) }
-        ensures bytes { result.now ≡ bytes_of (slice_index_or self.now at None) }
-        ensures length { length result.now ≡ N.page_bytes }
+        ensures { option_map page_of (slice_index_or self.now at None) ≡ Some result.now }
     {
-        self.used.bytes(at.number() as usize)
+        self.used.page(at.number() as usize)
     }
 
     /// Ends slots without a page.

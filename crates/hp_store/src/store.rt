@@ -1,6 +1,7 @@
 //! The store.
-ghost use Rattle.std.specs.Prelude.{◌≡◌, ℕ, ◌+◌, ◌-◌, ◌<◌, ◌≤◌, ◌^◌, ◌↔◌, ◌==◌, [], ◌∷◌, ◌++◌, length, max, None, IsSome, OnOk, OnErr, option_to_list};
-ghost use Rattle.hp_store.specs.Store.{Store, page_at, holders_of, bytes_of, held_count, inserted, shared, dropped, overwritten, Lengthens};
+ghost use Rattle.std.specs.Prelude.{◌≡◌, ℕ, ◌+◌, ◌-◌, ◌<◌, ◌≤◌, ◌^◌, ◌↔◌, ◌==◌, [], ◌∷◌, ◌++◌, length, max, None, Some, IsSome, OnOk, OnErr, option_to_list};
+ghost use Rattle.std.specs.Option.{option_map};
+ghost use Rattle.hp_store.specs.Store.{Store, page_at, page_of, holders_of, bytes_of, held_count, inserted, shared, dropped, overwritten, Lengthens};
 
 use crate::slots::Slots;
 use hp_model::naming::Naming;
@@ -105,12 +106,21 @@ impl<N: Naming> PageStore<N> {
         self.slots.holders(number)
     }
 
+    /// The page under a number.
+    pub fn page(&self, number: PageNo) -> &Page<N>
+        requires { IsSome (page_at self.now number) }
+        ensures { option_map page_of (page_at self.now number) ≡ Some result.now }
+    {
+        self.slots.page(number)
+    }
+
+    /// The bytes of the page under a number.
     pub fn bytes(&self, number: PageNo) -> &[u8]
         requires { IsSome (page_at self.now number) }
         ensures bytes { result.now ≡ bytes_of (page_at self.now number) }
         ensures length { length result.now ≡ N.page_bytes }
     {
-        self.slots.bytes(number)
+        self.page(number).bytes()
     }
 
     /// Writes over some of the bytes of a page with one holder.

@@ -46,7 +46,7 @@ fn with_shown<N: Naming>(files: &Files<N>, at: MapPlace, index: u64, page: Page<
 {
     let mut page = page;
     match files.shown(at, index) {
-        Some(bytes) => page.bytes_mut().copy_from_slice(bytes),
+        Some(shown) => page.copy_from(shown),
         None => page.zero(),
     }
     page

@@ -410,7 +410,7 @@ impl<N: Naming> Mount<N> {
         ensures all { length result.now ≡ count }
     {
         match self.files.shown(at, index) {
-            Some(page) => bytes_of(page, offset, count, room),
+            Some(page) => bytes_of(page.bytes(), offset, count, room),
             None => zeros_of(count, room),
         }
     }

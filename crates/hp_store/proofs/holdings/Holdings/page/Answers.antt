@@ -1,6 +1,8 @@
-use Rattle.std.proofs.Common.{◌≡◌, length, vec_len, arith, rules}
+use Rattle.std.proofs.Common.{◌≡◌, ap, length, vec_len, arith, rules}
+use Rattle.std.specs.Option.{option_map}
+use Rattle.hp_store.specs.Store.{page_of}
 use Rattle.hp_store.proofs.Counted.{held_within, page_read, page_there}
-use Rattle.hp_store.proofs.holdings.Holdings.bytes.Goals as goal
+use Rattle.hp_store.proofs.holdings.Holdings.page.Goals as goal
 
 pub index-requires : goal.index-requires
 index-requires g c =
@@ -13,7 +15,7 @@ unreachable-requires g c =
     let there = rw c.in-None.is at (page_there _ _ c.self.invariant.counted c.args.at c.index.result.now some c.index.ensures) in
     cc
 
-pub returns-clause-bytes : goal.returns-clause-bytes
-returns-clause-bytes g c =
+pub returns : goal.returns
+returns g c =
     let some = rw (← c.self.view_is) at c.requires in
-    rw (← c.self.view_is, page_read _ _ c.self.invariant.counted c.args.at c.index.result.now some c.index.ensures c.in-Some.page c.in-Some.is) c.bytes.ensures.bytes
+    rw (← c.self.view_is) (ap (option_map page_of) (page_read _ _ c.self.invariant.counted c.args.at c.index.result.now some c.index.ensures c.in-Some.page c.in-Some.is))
