@@ -73,14 +73,6 @@ module _ (n : Noted) (s : Store) (more maps : ℕ) (tally : ℕ → ℕ) (fs : L
   pub maps_few : maps < 4096
   maps_few = (let count = is.keyed.map_count ∙ maps_counted s fs in omega (arith, count, few))
 
--- as code counts one more of the task
-pub counted_up : (task count : ℕ) (old wide new : ℕ → ℕ) → ((q : ℕ) → wide q ≡ old q) → count ≡ wide task → ((q : ℕ) → new q ≡ cond (task == q) (count + 1) (wide q)) → (q : ℕ) → new q ≡ old q + cond (task == q) 1 0
-counted_up task count old wide new same known set q = at (task == q) refl
-  where
-    at : (b : Bool) → (task == q) ≡ b → new q ≡ old q + cond b 1 0
-    at true e = (let now = set q ∙ ap (λ b. cond b (count + 1) (wide q)) e in let was = known ∙ same task ∙ ap old (eqb-true task q e) in omega (arith, now, was))
-    at false e = (let now = set q ∙ ap (λ b. cond b (count + 1) (wide q)) e in let was = same q in omega (arith, now, was))
-
 pub byte_is : (b : Bool) → bool_byte b ≡ cond {A = ℕ} b 1 0
 byte_is true = refl
 byte_is false = refl

@@ -1,11 +1,13 @@
 -- How many maps each task has, by what files are called, and how many tasks there are.
-use Rattle.std.proofs.Common.{◌≡◌, ◌≢◌, ℕ, zero, suc, ◌+◌, ◌<◌, ◌==◌, ◌||◌, nat_eq, nat_lt, Bool, true, false, not, cond, List, [], ◌∷◌, length, map, Option, None, Some, is_some, refl, sym, ap, ◌∙◌, arith}
+use Rattle.std.proofs.Common.{◌≡◌, ◌≢◌, ℕ, zero, suc, ◌+◌, ◌-◌, ◌<◌, ◌==◌, ◌||◌, nat_eq, nat_lt, Bool, true, false, not, cond, List, [], ◌∷◌, length, map, Option, None, Some, is_some, slice_get, refl, sym, ap, ◌∙◌, arith}
 use Rattle.std.specs.List.{All, AllByRecursion, IsDistinct, count_by, filter, flat_map, sum_by}
-use Rattle.std.specs.Map.{keys_of, lookup}
+use Rattle.std.specs.Map.{keys_of, lookup, lookup_key}
 use Rattle.std.specs.Option.{unwrap_or}
-use Rattle.std.proofs.lemmas.Bool.Decides.{nat_tests}
+use Rattle.std.proofs.lemmas.Bool.{eqb-true}
+use Rattle.std.proofs.lemmas.Bool.Decides.{Decides-eqb, nat_tests}
 use Rattle.std.proofs.lemmas.List.{length-map}
 use Rattle.std.proofs.lemmas.List.Sums.{count_by-le-length, sum_by-append, sum_by-cons}
+use Rattle.std.proofs.lemmas.Map.Made.{lookup_key_same}
 use Rattle.std.proofs.lemmas.Map.Keys.{IsDistinct-head, IsDistinct-tail}
 use Rattle.hp_model.specs.files.Mapping.{Map, Mapping, is_of}
 use Rattle.hp_model.specs.Lists.{distinct, is_among}
@@ -124,3 +126,23 @@ tasks_once es tasks distinct_keys some counts =
     counted None some = refl
     counted (Some zero) some = absurd (some refl)
     counted (Some (suc n)) some = sym (positive (suc n) (omega arith))
+
+-- what a look-up found is the entry of what it looked for
+pub entry_found : {X : Type 0} (q : ℕ) (es : List (ℕ × X)) (i key : ℕ) (x : X) → Some key ≡ lookup_key (nat_eq q) es → slice_get es i ≡ Some (key, x) → slice_get es i ≡ Some (q, x)
+entry_found q es i key x is at = at ∙ ap (λ k. Some (k, x)) (sym (lookup_key_same Decides-eqb q es key (sym is)))
+
+-- the entry of one task changes, or goes, so that it counts one less
+pub one_fewer : (task count : ℕ) (left : Option ℕ) (old new : ℕ → Option ℕ) → old task ≡ Some count → unwrap_or left 0 ≡ count - 1 → ((q : ℕ) → new q ≡ cond (task == q) left (old q)) → (q : ℕ) → unwrap_or (new q) 0 ≡ unwrap_or (old q) 0 - cond (task == q) 1 0
+one_fewer task count left old new had less set q = ap (λ o. unwrap_or o 0) (set q) ∙ at (task == q) refl
+  where
+    at : (b : Bool) → (task == q) ≡ b → unwrap_or (cond b left (old q)) 0 ≡ unwrap_or (old q) 0 - cond b 1 0
+    at true e = less ∙ ap (λ o. unwrap_or o 0 - 1) (sym had ∙ ap old (eqb-true task q e))
+    at false e = omega arith
+
+-- no entry is 0 where the one that changes is not
+pub stay_positive : (task : ℕ) (left : Option ℕ) (old new : ℕ → Option ℕ) → left ≢ Some 0 → ((q : ℕ) → old q ≢ Some 0) → ((q : ℕ) → new q ≡ cond (task == q) left (old q)) → (q : ℕ) → new q ≢ Some 0
+stay_positive task left old new some all set q e = at (task == q) (sym (set q) ∙ e)
+  where
+    at : (b : Bool) → cond b left (old q) ≡ Some 0 → ⊥
+    at true e = some e
+    at false e = all q e

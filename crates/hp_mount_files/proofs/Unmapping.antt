@@ -423,10 +423,6 @@ module _ (n later : Noted) (s t : Store) (more now maps : ℕ) (tally : ℕ → 
           let its = ap (λ i. cond {A = ℕ} (i == q) 1 0 + 0) (eqb-true m.task task (and_parts (m.task == task) (m.number == number) m_is).0) in
           omega (arith, through, same, step, was, before, here, all, left, bare, fewer, its)
 
-      -- and so many it had
-      pub some_tally : 1 ≤ tally task
-      some_tally = (let left = tally_left task in let own : (task == task) ≡ true = grind (arith, nat_tests) in let one = ap (λ c. cond {A = ℕ} c 1 0 + 0) own in omega (arith, left, one))
-
       keys_gone : sum_by (keys_in task number) (labels_of hs) ≡ 0
       keys_gone =
           let through = sum_through (keys_in task number) label_of hs in
@@ -442,25 +438,13 @@ module _ (n later : Noted) (s t : Store) (more now maps : ℕ) (tally : ℕ → 
           let own = ap (λ c. cond {A = ℕ} c 1 0 + 0) m_is in
           omega (arith, through, same, step, all, here, was, one, left, bare, fewer, own)
 
-      pub went_keeps : IsMoreButMap task number n later → (next : ℕ → ℕ) → ((q : ℕ) → next q ≡ cond (task == q) (tally task - 1) (tally q)) → IsFiles later u last (maps - 1) next hs
+      pub went_keeps : IsMoreButMap task number n later → (next : ℕ → ℕ) → ((q : ℕ) → next q ≡ tally q - cond (task == q) 1 0) → IsFiles later u last (maps - 1) next hs
       unfolding g
       went_keeps grown next next_is =
           left_keeps n s u more last maps tally fs hs is g went_is went_dropping counted (λ f. refl) (less task number a b) (λ f. refl) (keys_fewer task number a b) (left_level task number a b) later (maps - 1) next
           (left_noted n s u more last maps tally fs hs is g went_is went_dropping counted (λ f. refl) (less task number a b) (λ f. refl) (keys_fewer task number a b) later grown.names (λ q i e. at q i e (is_pair q i (task, number)) refl))
-          maps_left (λ q. tallied q (task == q) refl)
+          maps_left (λ q. (let left = tally_left q in let is = next_is q in omega (arith, left, is)))
         where
-          tallied : (q : ℕ) (c : Bool) → (task == q) ≡ c → next q ≡ sum_by (maps_for q) (labels_of hs)
-          tallied q true e =
-              let left = tally_left q in
-              let one = ap (λ c. cond {A = ℕ} c 1 0 + 0) e in
-              let is = next_is q ∙ ap (λ c. cond c (tally task - 1) (tally q)) e ∙ ap (λ i. tally i - 1) (eqb-true task q e) in
-              omega (arith, left, one, is)
-          tallied q false e =
-              let left = tally_left q in
-              let none = ap (λ c. cond {A = ℕ} c 1 0 + 0) e in
-              let is = next_is q ∙ ap (λ c. cond c (tally task - 1) (tally q)) e in
-              omega (arith, left, none, is)
-
           at : (q i : ℕ) → has_key q i later ≡ false → (c : Bool) → is_pair q i (task, number) ≡ c → sum_by (keys_in q i) (labels_of hs) ≡ 0
           at q i e true same =
               let parts = and_parts (q == task) (i == number) same in

@@ -1,5 +1,5 @@
 //! How many maps each task has.
-ghost use Rattle.std.specs.Prelude.{◌≡◌, ◌==◌, ℕ, List, ◌<◌, length, if◌then◌else◌, OnOk};
+ghost use Rattle.std.specs.Prelude.{◌≡◌, ◌==◌, ℕ, List, ◌+◌, ◌-◌, ◌^◌, ◌<◌, length, if◌then◌else◌, OnOk};
 ghost use Rattle.std.specs.List.{count_by};
 ghost use Rattle.hp_model.specs.Lists.{distinct};
 ghost use Rattle.hp_mount_files.specs.Tally.{count_of};
@@ -61,6 +61,30 @@ impl TaskCounts {
     {
         self.counts.reserve(1)?;
         Ok(())
+    }
+
+    /// A task has one map more. It takes no memory: there is room for a task that had none.
+    pub(crate) fn add_one(&mut self, task: u64)
+        requires room { count_of self.old task ≡ 0 → 0 < self.old.room }
+        requires few { count_of self.old task < 2 ^ 64 - 1 }
+        ensures { (t : ℕ) → count_of self.new t ≡ count_of self.old t + (if task == t then 1 else 0) }
+    {
+        *self.counts.entry(task).unwrap().or_insert(0) += 1;
+    }
+
+    /// A task that has maps has one less.
+    pub(crate) fn remove_one(&mut self, task: u64)
+        ensures { (t : ℕ) → count_of self.new t ≡ count_of self.old t - (if task == t then 1 else 0) }
+    {
+        let Some((at, _, count)) = self.counts.get_full(&task) else {
+            return;
+        };
+        if *count > 1 {
+            let (_, count) = self.counts.pair_mut(at);
+            *count -= 1;
+        } else {
+            let _entry = self.counts.swap_remove_index(at);
+        }
     }
 
     /// A task has so many maps. It takes no memory: there is room for a task that had none.

@@ -190,8 +190,7 @@ impl<N: Naming> Files<N> {
         self.hints.forget_map(task, number);
         let entries = sweep_file(&mut self.list, at.file, &mut self.store, &mut self.more);
         self.maps -= 1;
-        let count = self.counts.count(task);
-        self.counts.set(task, count - 1);
+        self.counts.remove_one(task);
         gone.reserves + entries
     }
 }

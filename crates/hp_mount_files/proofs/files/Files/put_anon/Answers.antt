@@ -10,7 +10,7 @@ use Rattle.hp_mount_files.specs.Numbered.{files_shown, with_mapping}
 use Rattle.hp_mount_files.specs.Places.{all_maps}
 use Rattle.hp_mount_files.proofs.Anon.{anon, anon_files, anon_view, nameless}
 use Rattle.hp_mount_files.proofs.Keys.{files_noted, files_recounted}
-use Rattle.hp_mount_files.proofs.NewKey.{counted_up, maps_few}
+use Rattle.hp_mount_files.proofs.NewKey.{maps_few}
 use Rattle.hp_mount_files.proofs.MapNumbers.{unused_is_new}
 use Rattle.hp_mount_files.proofs.Tallies.{tally_few}
 use Rattle.hp_mount_files.proofs.files.Files.put_anon.Given.{Over}
@@ -49,16 +49,15 @@ overflow_add-self g c =
     let few = maps_few s.hints s.store s.more s.maps (count_of s.counts) s.list.files c.self.invariant (subst (λ (v : Files). length (all_maps v.files) < 4096) (sym c.self.view_is) c.requires.maps) in
     omega (arith, few)
 
-pub overflow_add-count : goal.overflow_add-count
-overflow_add-count g c =
+pub add_one-requires-clause-few : goal.add_one-requires-clause-few
+add_one-requires-clause-few g c =
     let s = c.self.inside in
     let few = tally_few c.args.range.now.task s.hints s.store s.more s.maps (count_of s.counts) s.list.files c.self.invariant (subst (λ (v : Files). length (all_maps v.files) < 4096) (sym c.self.view_is) c.requires.maps) in
-    let known = c.count-count.ensures in
     let same = c.make_room-2.ensures.same c.args.range.now.task in
-    omega (arith, few, known, same)
+    omega (arith, few, same)
 
 -- the file that was added
-module _ (g : Over) (c : goal.After-set g) where
+module _ (g : Over) (c : goal.After-add_one g) where
   file_is : c.add_map-added.new.self ≡ anon c.args.range.now.task c.args.next.number c.args.range.now.start c.args.range.now.pages c.args.range.now.sharing c.args.range.now.reserving
   file_is =
       let r = c.args.range.now in
@@ -68,8 +67,8 @@ module _ (g : Over) (c : goal.After-set g) where
   files_are : c.push.new.self.files ≡ c.self.inside.list.files ++ c.add_map-added.new.self ∷ []
   files_are = c.push.ensures ∙ ap (λ fs. fs ++ c.add_map-added.new.self ∷ []) c.make_room.ensures.same
 
-  one_more : (q : ℕ) → (count_of c.set.new.self) q ≡ (count_of c.self.inside.counts) q + cond (c.args.range.now.task == q) 1 0
-  one_more = counted_up c.args.range.now.task c.count-count.result (count_of c.self.inside.counts) (count_of c.make_room-2.new.self) (count_of c.set.new.self) c.make_room-2.ensures.same c.count-count.ensures c.set.ensures
+  one_more : (q : ℕ) → (count_of c.add_one.new.self) q ≡ (count_of c.self.inside.counts) q + cond (c.args.range.now.task == q) 1 0
+  one_more q = c.add_one.ensures q ∙ ap (λ n. n + cond (c.args.range.now.task == q) 1 0) (c.make_room-2.ensures.same q)
 
 pub invariant_of-self-2 : goal.invariant_of-self-2
 invariant_of-self-2 g c =
@@ -79,7 +78,7 @@ invariant_of-self-2 g c =
     let number = subst (λ (v : Files). c.args.next.number ≡ next_of r.task v.files) (sym c.self.view_is) c.requires.number in
     let fresh = ap (λ n. is_among n numbers) number ∙ unused_is_new numbers in
     anon_files r.task c.args.next.number r.start r.pages r.sharing r.reserving s.hints s.store s.more s.maps (count_of s.counts) s.list.files c.self.invariant c.add_map-added.new.self c.push.new.self.files (file_is g c) (files_are g c)
-    fresh c.note_map.new.self c.note_map.ensures.more c.in-Ok.ensures.noted (count_of c.set.new.self) (one_more g c)
+    fresh c.note_map.new.self c.note_map.ensures.more c.in-Ok.ensures.noted (count_of c.add_one.new.self) (one_more g c)
 
 pub returns-clause-ok : goal.returns-clause-ok
 returns-clause-ok g c =

@@ -10,7 +10,7 @@ use Rattle.hp_mount_files.specs.Numbered.{files_shown, new_mapping, with_mapping
 use Rattle.hp_mount_files.specs.Places.{all_maps}
 use Rattle.hp_mount_files.proofs.Keys.{files_noted, files_recounted}
 use Rattle.hp_mount_files.proofs.Mapped.{map_files, map_view}
-use Rattle.hp_mount_files.proofs.NewKey.{counted_up, maps_few}
+use Rattle.hp_mount_files.proofs.NewKey.{maps_few}
 use Rattle.hp_mount_files.proofs.MapNumbers.{unused_is_new}
 use Rattle.hp_mount_files.proofs.Tallies.{tally_few}
 use Rattle.hp_mount_files.proofs.Views.{files_len}
@@ -49,16 +49,15 @@ overflow_add-self g c =
     let few = maps_few s.hints s.store s.more s.maps (count_of s.counts) s.list.files c.self.invariant (subst (λ (v : Files). length (all_maps v.files) < 4096) (sym c.self.view_is) c.requires.maps) in
     omega (arith, few)
 
-pub overflow_add-count : goal.overflow_add-count
-overflow_add-count g c =
+pub add_one-requires-clause-few : goal.add_one-requires-clause-few
+add_one-requires-clause-few g c =
     let s = c.self.inside in
     let few = tally_few c.args.range.now.task s.hints s.store s.more s.maps (count_of s.counts) s.list.files c.self.invariant (subst (λ (v : Files). length (all_maps v.files) < 4096) (sym c.self.view_is) c.requires.maps) in
-    let known = c.count-count.ensures in
     let same = c.make_room.ensures.same c.args.range.now.task in
-    omega (arith, few, known, same)
+    omega (arith, few, same)
 
 -- the map that was added
-module _ (g : Over) (c : goal.After-set g) where
+module _ (g : Over) (c : goal.After-add_one g) where
   range_is : c.add_map.new.self ≡ with_mapping (entered_from c.args.range.now.sharing c.args.range.now.reserving c.args.range.now.start c.args.range.now.pages)
       (new_mapping c.args.range.now.task c.args.next.number c.args.range.now.start c.args.range.now.pages c.args.range.now.sharing c.args.range.now.reserving) c.index_mut-at.result.now
   range_is =
@@ -69,8 +68,8 @@ module _ (g : Over) (c : goal.After-set g) where
   within : c.args.file < length c.self.inside.list.files
   within = (let same = files_len c.self.inside.store c.self.inside.list.files in let inside = subst (λ (v : Files). c.args.file < length v.files) (sym c.self.view_is) c.requires.file in omega (arith, same, inside))
 
-  one_more : (q : ℕ) → (count_of c.set.new.self) q ≡ (count_of c.self.inside.counts) q + cond (c.args.range.now.task == q) 1 0
-  one_more = counted_up c.args.range.now.task c.count-count.result (count_of c.self.inside.counts) (count_of c.make_room.new.self) (count_of c.set.new.self) c.make_room.ensures.same c.count-count.ensures c.set.ensures
+  one_more : (q : ℕ) → (count_of c.add_one.new.self) q ≡ (count_of c.self.inside.counts) q + cond (c.args.range.now.task == q) 1 0
+  one_more q = c.add_one.ensures q ∙ ap (λ n. n + cond (c.args.range.now.task == q) 1 0) (c.make_room.ensures.same q)
 
 pub invariant_of-self-2 : goal.invariant_of-self-2
 invariant_of-self-2 g c =
@@ -80,7 +79,7 @@ invariant_of-self-2 g c =
     let number = subst (λ (v : Files). c.args.next.number ≡ next_of r.task v.files) (sym c.self.view_is) c.requires.number in
     let fresh = ap (λ n. is_among n numbers) number ∙ unused_is_new numbers in
     map_files r.task c.args.next.number r.start r.pages r.sharing r.reserving s.hints s.store s.more s.maps (count_of s.counts) s.list.files c.args.file c.self.invariant (within g c) c.index_mut-at.result.now c.add_map.new.self c.index_mut-at.ensures.value (range_is g c)
-    fresh c.note_map.new.self c.note_map.ensures.more c.in-Ok.ensures.noted (count_of c.set.new.self) (one_more g c)
+    fresh c.note_map.new.self c.note_map.ensures.more c.in-Ok.ensures.noted (count_of c.add_one.new.self) (one_more g c)
 
 pub returns-clause-ok : goal.returns-clause-ok
 returns-clause-ok g c =

@@ -1,4 +1,4 @@
-use Rattle.std.proofs.Common.{◌≡◌, ◌==◌, Bool, cond, ◌+◌, ◌-◌, ◌<◌, ◌^◌, ◌≢◌, ℕ, true, false, length, refl, map, ap, subst, sym, ◌∙◌, arith}
+use Rattle.std.proofs.Common.{◌≡◌, Bool, cond, ◌+◌, ◌<◌, ◌^◌, ◌≢◌, ℕ, true, false, length, refl, map, ap, subst, sym, ◌∙◌, arith}
 use Rattle.std.specs.Prelude.{slice_set}
 use Rattle.std.specs.List.{filter, sum_by}
 use Rattle.hp_model.specs.files.GiveBack.{file_unmapped, is_kept}
@@ -13,7 +13,7 @@ use Rattle.hp_mount_files.specs.Leaving.{file_owed}
 use Rattle.hp_mount_files.specs.Numbered.{files_shown, mapping_at}
 use Rattle.hp_mount_files.specs.Places.{IsFound}
 use Rattle.hp_mount_files.proofs.Leaving.{files_owe}
-use Rattle.hp_mount_files.proofs.Unmapping.{enough_held, few_reserves, some_maps, some_tally, stays_files, stays_keeps, stays_left, went_files, went_keeps, went_left}
+use Rattle.hp_mount_files.proofs.Unmapping.{enough_held, few_reserves, some_maps, stays_files, stays_keeps, stays_left, went_files, went_keeps, went_left}
 use Rattle.hp_mount_files.proofs.Views.{files_len, view}
 use Rattle.hp_mount_files.proofs.files.Files.unmap.Given.{Over}
 use Rattle.hp_mount_files.proofs.files.Files.unmap.Goals as goal
@@ -99,16 +99,6 @@ overflow_sub-self g c =
     let mapped = goes g found c.if-gone-eq0.false in
     some_maps s.hints s.hints s.store one.new.store s.more one.new.more s.maps (count_of s.counts) s.list.files c.self.invariant c.args.task c.args.number c.args.a c.args.b c.args.at.file c.args.at.map (there g found) c.index_mut-file.result.now one.new.self c.index_mut-file.ensures.value one.ensures.file one.ensures.dropping one.result.reserves one.ensures.reserves mapped
 
-pub overflow_sub-count : goal.overflow_sub-count
-overflow_sub-count g c =
-    let found = (goal.at.overflow_sub-count g c).After-unmap-gone in
-    let s = c.self.inside in
-    let one = c.unmap-gone in
-    let mapped = goes g found c.if-gone-eq0.false in
-    let last = c.sweep_file-entries in
-    let some = some_tally s.hints c.forget_map.new.self s.store one.new.store s.more one.new.more s.maps (count_of s.counts) s.list.files c.self.invariant c.args.task c.args.number c.args.a c.args.b c.args.at.file c.args.at.map (there g found) c.index_mut-file.result.now one.new.self c.index_mut-file.ensures.value one.ensures.file one.ensures.dropping one.result.reserves one.ensures.reserves mapped last.new.store last.new.more last.new.files.files last.ensures.files last.ensures.dropping last.ensures.counted last.result last.ensures.reserves (few g found) in
-    omega (arith, some, c.count-count.ensures)
-
 pub overflow_add-result : goal.overflow_add-result
 overflow_add-result g c =
     let found = (goal.at.overflow_add-result g c).After-unmap-gone in
@@ -127,7 +117,7 @@ invariant_of-self-2 g c =
     let mapped = goes g found c.if-gone-eq0.false in
     let last = c.sweep_file-entries in
     went_keeps s.hints c.forget_map.new.self s.store one.new.store s.more one.new.more s.maps (count_of s.counts) s.list.files c.self.invariant c.args.task c.args.number c.args.a c.args.b c.args.at.file c.args.at.map (there g found) c.index_mut-file.result.now one.new.self c.index_mut-file.ensures.value one.ensures.file one.ensures.dropping one.result.reserves one.ensures.reserves mapped last.new.store last.new.more last.new.files.files last.ensures.files last.ensures.dropping last.ensures.counted last.result last.ensures.reserves (few g found)
-    c.forget_map.ensures (count_of c.set.new.self) (λ q. c.set.ensures q ∙ ap (λ n. cond (c.args.task == q) (n - 1) ((count_of s.counts) q)) c.count-count.ensures)
+    c.forget_map.ensures (count_of c.remove_one.new.self) c.remove_one.ensures
 
 pub returns-clause-files : goal.returns-clause-files
 returns-clause-files g c =
