@@ -4,8 +4,6 @@ use Rattle.std.proofs.Common.{cond, is_some, ◌≡◌, ◌≢◌, ℕ, ◌<◌,
 use Rattle.std.specs.Prelude.{slice_index_or, slice_set}
 use Rattle.std.specs.List.{All, remove}
 use Rattle.std.proofs.lemmas.Bool.{false≢true}
-use Rattle.std.proofs.lemmas.List.{length-append}
-use Rattle.std.proofs.lemmas.List.Edits.{length-remove}
 use Rattle.std.proofs.lemmas.List.Elements.{All-append}
 use Rattle.std.proofs.lemmas.List.Sums.{sum_by-set}
 use Rattle.std.proofs.lemmas.List.Quantifiers.{all_pairs_push, all_pairs_remove}
@@ -14,7 +12,7 @@ use Rattle.hp_mount_files.specs.FileList.{IsOrder, file_or_bare, files_in}
 use Rattle.hp_mount_files.specs.Numbered.{NumberedFile}
 use Rattle.hp_mount_files.proofs.Ordered.{all_remove, others, push_map, remove_map, set_map}
 
-module _ (s t : Slab NumberedFile) (keys tags : List ℕ) (is : IsOrder s keys tags) where
+module _ (s t : Slab NumberedFile) (keys : List ℕ) (is : IsOrder s keys) where
   abbrev file_was : ℕ → NumberedFile
   file_was key = file_or_bare (get s key)
 
@@ -25,13 +23,12 @@ module _ (s t : Slab NumberedFile) (keys tags : List ℕ) (is : IsOrder s keys t
     new_key : All (λ (k : ℕ). k ≢ key) keys
     new_key k d l e = false≢true (subst IsSome (ap (get s) e ∙ vacant) (is.there k d l))
 
-    pub pushed_order : (tag : ℕ) → IsOrder t (keys ++ key ∷ []) (tags ++ tag ∷ [])
-    pushed_order tag = record {
+    pub pushed_order : IsOrder t (keys ++ key ∷ [])
+    pushed_order = record {
       there = All-append (ContainsKey t) keys (key ∷ [])
           (λ k d l. subst IsSome (sym (u.others (slice_index_or keys k d) (new_key k d l))) (is.there k d l))
           (λ k d l. one k d l);
       apart = all_pairs_push (λ (x : ℕ) (y : ℕ). x ≢ y) keys key is.apart new_key;
-      tagged = (let long = length-append tags (tag ∷ []) in let keyed = length-append keys (key ∷ []) in omega (arith, long, keyed, is.tagged));
     }
       where
         one : (k d : ℕ) → k < 1 → ContainsKey t (slice_index_or (key ∷ []) k d)
@@ -43,17 +40,16 @@ module _ (s t : Slab NumberedFile) (keys tags : List ℕ) (is : IsOrder s keys t
         ∙ ap (λ o. files_in s keys ++ file_or_bare o ∷ []) u.changed
 
   module _ (at : ℕ) (inside : at < length keys) (u : Updates s t (slice_index_or keys at 0) None) where
-    pub removed_order : IsOrder t (remove keys at) (remove tags at)
+    pub removed_order : IsOrder t (remove keys at)
     removed_order = record {
       there = λ k d l. subst IsSome (sym (u.others (slice_index_or (remove keys at) k d) (others keys is.apart at inside k d l))) (all_remove (ContainsKey s) keys at is.there k d l);
       apart = all_pairs_remove (λ (x : ℕ) (y : ℕ). x ≢ y) keys at inside is.apart;
-      tagged = (let long = length-remove tags at (omega (arith, inside, is.tagged)) in let keyed = length-remove keys at inside in omega (arith, long, keyed, is.tagged));
     }
 
     pub removed_files : files_in t (remove keys at) ≡ remove (files_in s keys) at
     removed_files = remove_map file_was file_is keys is.apart at inside (λ k other. ap file_or_bare (u.others k other))
 
-module _ (s : Slab NumberedFile) (keys tags : List ℕ) (is : IsOrder s keys tags) (at : ℕ) (inside : at < length keys) (f : NumberedFile) where
+module _ (s : Slab NumberedFile) (keys : List ℕ) (is : IsOrder s keys) (at : ℕ) (inside : at < length keys) (f : NumberedFile) where
   pub set_files : files_in (with_value s (slice_index_or keys at 0) f) keys ≡ slice_set (files_in s keys) at f
   set_files =
       let key = slice_index_or keys at 0 in

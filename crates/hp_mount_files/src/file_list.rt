@@ -5,6 +5,7 @@ ghost use Rattle.std.specs.List.{filter, remove, slice_set};
 ghost use Rattle.hp_mount_files.specs.Leaving.{is_used};
 
 use crate::file::File;
+use crate::spot::Spot;
 use slab::Slab;
 use std::alloc::{AllocError, Global};
 use std::marker::Model;
@@ -13,14 +14,13 @@ use std::ops::{Index, IndexMut};
 // A file is looked for at so many places, from the one where it stood down, before it is searched for.
 const NEAR: usize = 16;
 
-/// Files in order of creation. Each lies in a place that it keeps, so where a file goes, the numbers of the places and the tags
+/// Files in order of creation. Each lies in a place that it keeps, so where a file goes, the words that say where the others lie
 /// close up, and no other file is moved. A file that was made later has a greater tag, so that it is found by a binary search.
 /// Contracts see the files, and for how many more there is room.
 #[derive(Drop)]
 pub(crate) struct FileList {
     files: Slab<File>,
-    order: Vec<u32>,
-    tags: Vec<u64>,
+    order: Vec<Spot>,
 }
 
 impl Model for FileList {
@@ -31,10 +31,10 @@ impl Model for FileList {
 
     ghost view = { λ l. record {
       files = files_in l.files l.order.items;
-      room = room_in l.files (vec_capacity l.order) (vec_capacity l.tags) l.order.items;
+      room = room_in l.files (vec_capacity l.order) l.order.items;
     } };
 
-    ghost invariant = { λ l. IsOrder l.files l.order.items l.tags.items };
+    ghost invariant = { λ l. IsOrder l.files l.order.items };
 }
 
 impl FileList {
@@ -45,7 +45,6 @@ impl FileList {
         FileList {
             files: Slab::new(alloc),
             order: Vec::new(alloc),
-            tags: Vec::new(alloc),
         }
     }
 
@@ -61,12 +60,11 @@ impl FileList {
         ensures same { self.new.files ≡ self.old.files }
         ensures ok { OnOk result (0 < self.new.room) }
     {
-        if self.files.vacant_key() > u32::MAX as usize {
+        if self.files.vacant_key() > u16::MAX as usize {
             return Err(AllocError);
         }
         self.files.reserve(1)?;
         self.order.reserve(1)?;
-        self.tags.reserve(1)?;
         Ok(())
     }
 
@@ -76,36 +74,35 @@ impl FileList {
         ensures { self.new.files ≡ self.old.files ++ file ∷ [] }
     {
         let key = self.files.insert_reserved(file);
-        self.order.push_reserved(key as u32);
-        self.tags.push_reserved(tag);
+        self.order.push_reserved(Spot::new(tag, key as u16));
     }
 
     /// The tag of the file at a place.
     pub(crate) fn tag(&self, at: usize) -> u64
         requires { at < length self.now.files }
     {
-        self.tags[at]
+        self.order[at].tag()
     }
 
     /// Whether the file with the tag stands at a place. The file itself is not looked at.
     pub(crate) fn is_tagged(&self, at: usize, tag: u64) -> bool {
-        match self.tags.get(at) {
-            Some(own) => *own == tag,
+        match self.order.get(at) {
+            Some(spot) => spot.tag() == tag,
             None => false,
         }
     }
 
     /// Where a file with the tag stands, if it is there.
     pub(crate) fn tagged(&self, tag: u64) -> usize {
-        self.tags.partition_point(|own| *own < tag)
+        self.order.partition_point(|spot| spot.tag() < tag)
     }
 
     /// Where the file with a tag stands, if it is there, that stood at a place: files move down alone, and most by a few places.
     pub(crate) fn tagged_near(&self, at: usize, tag: u64) -> usize {
-        let tags = self.tags.as_slice();
-        let end = tags.len().min(at.saturating_add(1));
+        let order = self.order.as_slice();
+        let end = order.len().min(at.saturating_add(1));
         for near in (end.saturating_sub(NEAR)..end).rev() {
-            if tags[near] <= tag {
+            if order[near].tag() <= tag {
                 return near;
             }
         }
@@ -118,9 +115,8 @@ impl FileList {
         ensures value { result ≡ slice_index_or self.old.files at result }
         ensures files { self.new.files ≡ remove self.old.files at }
     {
-        let _tag = self.tags.remove(at);
-        let key = self.order.remove(at);
-        self.files.remove(key as usize)
+        let spot = self.order.remove(at);
+        self.files.remove(spot.number() as usize)
     }
 
     /// Takes the last file out, if there is one.
@@ -154,7 +150,7 @@ impl Index<usize> for FileList {
     ghost index_gives = { λ l at file. file ≡ slice_index_or l.files at file };
 
     fn index(&self, at: usize) -> &File {
-        &self.files[self.order[at] as usize]
+        &self.files[self.order[at].number() as usize]
     }
 }
 
@@ -166,6 +162,6 @@ impl IndexMut<usize> for FileList {
         ensures* writes_back { sem 𝓛 (LendsFile self.entry at result) }
         ensures value { result.now ≡ slice_index_or self.old.files at result.now }
     {
-        &mut self.files[self.order[at] as usize]
+        &mut self.files[self.order[at].number() as usize]
     }
 }

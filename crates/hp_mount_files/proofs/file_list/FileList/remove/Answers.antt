@@ -13,18 +13,17 @@ module _ (c : goal.After-remove) where
   inside = subst (λ (n : ℕ). c.args.at < n) (ap (λ l. length l.files) (sym c.self.view_is) ∙ length-map c.self.inside.order.items _) c.requires
 
   gone : Updates c.self.inside.files c.remove.new.self (slice_index_or c.self.inside.order.items c.args.at 0) None
-  gone = subst (λ key. Updates c.self.inside.files c.remove.new.self key None) (c.remove-key.ensures.value ∙ get_or_default_zero c.self.inside.order.items c.args.at c.remove-key.result inside) c.remove.ensures.updates
+  gone = subst (λ key. Updates c.self.inside.files c.remove.new.self key None) (c.number.ensures ∙ c.remove-spot.ensures.value ∙ get_or_default_zero c.self.inside.order.items c.args.at c.remove-spot.result inside) c.remove.ensures.updates
 
 pub invariant_of-self : goal.invariant_of-self
 invariant_of-self c =
     let s = c.self.inside in
-    subst (λ keys. IsOrder c.remove.new.self keys c.remove-tag.new.self.items) (sym c.remove-key.ensures.items)
-    (subst (IsOrder c.remove.new.self (remove s.order.items c.args.at)) (sym c.remove-tag.ensures.items)
-    (removed_order s.files c.remove.new.self s.order.items s.tags.items c.self.invariant c.args.at (inside c) (gone c)))
+    subst (IsOrder c.remove.new.self) (sym c.remove-spot.ensures.items)
+    (removed_order s.files c.remove.new.self s.order.items c.self.invariant c.args.at (inside c) (gone c))
 
 pub returns-clause-files : goal.returns-clause-files
 returns-clause-files c =
     let s = c.self.inside in
-    ap (files_in c.remove.new.self) c.remove-key.ensures.items
-    ∙ removed_files s.files c.remove.new.self s.order.items s.tags.items c.self.invariant c.args.at (inside c) (gone c)
+    ap (files_in c.remove.new.self) c.remove-spot.ensures.items
+    ∙ removed_files s.files c.remove.new.self s.order.items c.self.invariant c.args.at (inside c) (gone c)
     ∙ ap (λ (l : Listed). remove l.files c.args.at) c.self.view_is

@@ -1,0 +1,45 @@
+//! Where a file lies, with its tag.
+ghost use Rattle.std.specs.Prelude.{◌≡◌};
+
+use std::marker::Model;
+
+// So many places have a number of 16 bits.
+const PLACES: u64 = 65_536;
+
+// So many tags fit above it.
+const TAGS: u64 = 1 << 48;
+
+/// The number of the place where a file lies, of 16 bits, and above it 48 bits of the file's tag, in one word. Contracts see the
+/// number.
+#[derive(Drop)]
+pub(crate) struct Spot {
+    word: u64,
+}
+
+impl Model for Spot {
+    ghost use Rattle.std.specs.Prelude.{ℕ, ◌%◌};
+
+    ghost Value = { ℕ };
+
+    ghost view = { λ s. s.word % 65536 };
+}
+
+impl Spot {
+    pub(crate) fn new(tag: u64, number: u16) -> Self
+        ensures { result ≡ number }
+    {
+        Spot {
+            word: tag % TAGS * PLACES + number as u64,
+        }
+    }
+
+    pub(crate) fn number(&self) -> u16
+        ensures { result ≡ self.now }
+    {
+        (self.word % PLACES) as u16
+    }
+
+    pub(crate) fn tag(&self) -> u64 {
+        self.word / PLACES
+    }
+}
