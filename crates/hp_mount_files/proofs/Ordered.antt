@@ -66,8 +66,8 @@ module _ {X : Type 0} (was is : ℕ → X) where
           (eqb_tells k at)
 
   -- a key more
-  pub push_map : (keys : List ℕ) (key : ℕ) → All (λ (k : ℕ). k ≢ key) keys → ((k : ℕ) → k ≢ key → is k ≡ was k) → map is (keys ++ key ∷ []) ≡ map was keys ++ is key ∷ []
-  push_map keys key apart same = map-append is keys (key ∷ []) ∙ ap (λ xs. xs ++ is key ∷ []) (same_map keys (λ k d l. same (slice_index_or keys k d) (apart k d l)))
+  pub push_map : (keys : List ℕ) (key : ℕ) → All (λ (k : ℕ). is k ≡ was k) keys → map is (keys ++ key ∷ []) ≡ map was keys ++ is key ∷ []
+  push_map keys key same = map-append is keys (key ∷ []) ∙ ap (λ xs. xs ++ is key ∷ []) (same_map keys same)
 
   -- a key less
   pub remove_map : (keys : List ℕ) → AllPairs (λ (x : ℕ) (y : ℕ). x ≢ y) keys → (at : ℕ) → at < length keys → ((key : ℕ) → key ≢ slice_index_or keys at 0 → is key ≡ was key) → map is (remove keys at) ≡ remove (map was keys) at

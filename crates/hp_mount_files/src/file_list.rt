@@ -6,9 +6,9 @@ ghost use Rattle.hp_mount_files.specs.Leaving.{is_used};
 
 use crate::file::File;
 use crate::spot::Spot;
-use slab::Slab;
 use std::alloc::{AllocError, Global};
 use std::marker::Model;
+use std::mem;
 use std::ops::{Index, IndexMut};
 
 // A file is looked for at so many places, from the one where it stood down, before it is searched for.
@@ -16,25 +16,28 @@ const NEAR: usize = 16;
 
 /// Files in order of creation. Each lies in a place that it keeps, so where a file goes, the words that say where the others lie
 /// close up, and no other file is moved. A file that was made later has a greater tag, so that it is found by a binary search.
-/// Contracts see the files, and for how many more there is room.
+/// In a vacant place lies a bare file. Contracts see the files, and for how many more there is room.
 #[derive(Drop)]
 pub(crate) struct FileList {
-    files: Slab<File>,
+    alloc: Global,
+    files: Vec<File>,
     order: Vec<Spot>,
+    vacant: Vec<u16>,
 }
 
 impl Model for FileList {
     ghost use Rattle.hp_mount_files.specs.FileList.{Listed, IsOrder, files_in, room_in};
-    ghost use Rattle.std.specs.Prelude.{vec_capacity};
+    ghost use Rattle.std.specs.Prelude.{vec_capacity, vec_len};
 
     ghost Value = { Listed };
 
     ghost view = { λ l. record {
-      files = files_in l.files l.order.items;
-      room = room_in l.files (vec_capacity l.order) l.order.items;
+      files = files_in l.files.items l.order.items;
+      room = room_in (vec_len l.files) (vec_capacity l.files) (vec_len l.order) (vec_capacity l.order)
+          (vec_len l.vacant) (vec_capacity l.vacant);
     } };
 
-    ghost invariant = { λ l. IsOrder l.files l.order.items };
+    ghost invariant = { λ l. IsOrder (vec_len l.files) l.order.items l.vacant.items (vec_capacity l.vacant) };
 }
 
 impl FileList {
@@ -43,8 +46,10 @@ impl FileList {
         ensures { result.files ≡ [] }
     {
         FileList {
-            files: Slab::new(alloc),
+            alloc,
+            files: Vec::new(alloc),
             order: Vec::new(alloc),
+            vacant: Vec::new(alloc),
         }
     }
 
@@ -55,16 +60,19 @@ impl FileList {
         self.order.len()
     }
 
-    /// Makes room for a file more. Refused where memory is.
+    /// Makes room for a file more. Refused where memory is, or where the places' numbers end.
     pub(crate) fn make_room(&mut self) -> Result<(), AllocError>
         ensures same { self.new.files ≡ self.old.files }
         ensures ok { OnOk result (0 < self.new.room) }
     {
-        if self.files.vacant_key() > u16::MAX as usize {
-            return Err(AllocError);
+        if self.vacant.is_empty() {
+            if self.files.len() > u16::MAX as usize {
+                return Err(AllocError);
+            }
+            self.files.reserve(1)?;
         }
-        self.files.reserve(1)?;
         self.order.reserve(1)?;
+        self.vacant.reserve(self.order.len() + 1)?;
         Ok(())
     }
 
@@ -73,8 +81,17 @@ impl FileList {
         requires { 0 < self.old.room }
         ensures { self.new.files ≡ self.old.files ++ file ∷ [] }
     {
-        let key = self.files.insert_reserved(file);
-        self.order.push_reserved(Spot::new(tag, key as u16));
+        match self.vacant.pop() {
+            Some(number) => {
+                self.files[number as usize] = file;
+                self.order.push_reserved(Spot::new(tag, number));
+            }
+            None => {
+                let number = self.files.len() as u16;
+                self.files.push_reserved(file);
+                self.order.push_reserved(Spot::new(tag, number));
+            }
+        }
     }
 
     /// The tag of the file at a place.
@@ -116,7 +133,12 @@ impl FileList {
         ensures files { self.new.files ≡ remove self.old.files at }
     {
         let spot = self.order.remove(at);
-        self.files.remove(spot.number() as usize)
+        let number = spot.number();
+        self.vacant.push_reserved(number);
+        mem::replace(
+            &mut self.files[number as usize],
+            File::new(self.alloc, None),
+        )
     }
 
     /// Takes the last file out, if there is one.
