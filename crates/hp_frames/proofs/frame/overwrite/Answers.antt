@@ -8,4 +8,4 @@ returns-clause-zeros c =
     let size : a.offset + length a.from.now - a.offset ≡ length a.from.now = omega arith in
     let fits = c.requires.fits in
     zeros_overwritten a.to.now c.copy_from_slice.new.self a.offset _ a.written c.max.result (ap length c.copy_from_slice.ensures.after ∙ sym size)
-        (omega (arith, fits)) (omega (arith, c.max.ensures)) (omega (arith, c.max.ensures)) c.requires.zeros
+    (omega (arith, fits)) (omega (arith, c.max.ensures)) (omega (arith, c.max.ensures)) c.requires.zeros
