@@ -185,6 +185,29 @@ module _ (parent child : ℕ) (apart : (parent == child) ≡ false) where
   pub owed_same : (fs : List NumberedFile) → sum_by file_owed (all_of fs) ≡ sum_by file_owed fs
   owed_same fs = sum_mapped file_owed (λ f. more_of f) (λ f. (let both = sum_by-append owed f.maps (kids f.maps) in let none = kids_owed f.maps in omega (arith, both, none))) fs
 
+  -- how many maps each task has
+  pub tally_more : (q : ℕ) (fs : List NumberedFile) → sum_by (maps_for q) (labels_of (all_of fs)) ≡ sum_by (maps_for q) (labels_of fs) + cond (child == q) (sum_by (maps_for parent) (labels_of fs)) 0
+  tally_more q [] = none (child == q)
+    where
+      none : (b : Bool) → sum_by (maps_for q) [] ≡ sum_by (maps_for q) [] + cond {A = ℕ} b 0 0
+      none true = refl
+      none false = refl
+  tally_more q (f ∷ fs) =
+      let here = own_maps q (more_of f) in
+      let both = sum_by-append (λ (m : Mapping ℕ). cond {A = ℕ} (is_of q m) 1 0) f.maps (kids f.maps) in
+      let its = kids_count q f.maps in
+      let old = own_maps q f in
+      let from = own_maps parent f in
+      let rest = tally_more q fs in
+      let sum = split (child == q) (maps_for parent (label_of f)) (sum_by (maps_for parent) (labels_of fs)) in
+      let own = ap (λ n. cond (child == q) n 0) from in
+      let all = ap (λ n. cond (child == q) n 0) (sum_by-cons (maps_for parent) (label_of f) (labels_of fs)) in
+      omega (arith, here, both, its, old, rest, sum, own, all, sum_by-cons (maps_for q) (label_of (more_of f)) (labels_of (all_of fs)), sum_by-cons (maps_for q) (label_of f) (labels_of fs))
+    where
+      split : (b : Bool) (x y : ℕ) → cond b (x + y) 0 ≡ cond b x 0 + cond b y 0
+      split true x y = refl
+      split false x y = refl
+
   module _ (n : Noted) (t u : Store) (now more maps : ℕ) (tally : ℕ → ℕ) (fs : List NumberedFile) (is : IsFiles n t now maps tally fs) (sharing : IsSharing (λ m. in_kids m fs) t u) (counted : more ≡ more_in u.pages) (parts : more ≤ u.room) where
     pub fork_held : IsHeld u more (all_of fs)
     fork_held = record {
@@ -293,29 +316,6 @@ module _ (parent child : ℕ) (apart : (parent == child) ≡ false) where
           let rest = maps_more fs in
           let both = length-append f.maps (kids f.maps) in
           omega (arith, rest, both, sum_by-cons (λ (f : NumberedFile). length f.maps) (more_of f) (all_of fs), sum_by-cons (λ (f : NumberedFile). length f.maps) f fs, sum_by-cons (λ (f : NumberedFile). length (kids f.maps)) f fs)
-
-      -- how many maps each task has
-      tally_more : (q : ℕ) (fs : List NumberedFile) → sum_by (maps_for q) (labels_of (all_of fs)) ≡ sum_by (maps_for q) (labels_of fs) + cond (child == q) (sum_by (maps_for parent) (labels_of fs)) 0
-      tally_more q [] = none (child == q)
-        where
-          none : (b : Bool) → sum_by (maps_for q) [] ≡ sum_by (maps_for q) [] + cond {A = ℕ} b 0 0
-          none true = refl
-          none false = refl
-      tally_more q (f ∷ fs) =
-          let here = own_maps q (more_of f) in
-          let both = sum_by-append (λ (m : Mapping ℕ). cond {A = ℕ} (is_of q m) 1 0) f.maps (kids f.maps) in
-          let its = kids_count q f.maps in
-          let old = own_maps q f in
-          let from = own_maps parent f in
-          let rest = tally_more q fs in
-          let sum = split (child == q) (maps_for parent (label_of f)) (sum_by (maps_for parent) (labels_of fs)) in
-          let own = ap (λ n. cond (child == q) n 0) from in
-          let all = ap (λ n. cond (child == q) n 0) (sum_by-cons (maps_for parent) (label_of f) (labels_of fs)) in
-          omega (arith, here, both, its, old, rest, sum, own, all, sum_by-cons (maps_for q) (label_of (more_of f)) (labels_of (all_of fs)), sum_by-cons (maps_for q) (label_of f) (labels_of fs))
-        where
-          split : (b : Bool) (x y : ℕ) → cond b (x + y) 0 ≡ cond b x 0 + cond b y 0
-          split true x y = refl
-          split false x y = refl
 
       flip : (t : ℕ) → (t == child) ≡ false → (child == t) ≡ false
       flip t e = grind (arith, nat_tests, e)

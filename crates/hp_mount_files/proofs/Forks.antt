@@ -1,36 +1,73 @@
 -- A fork as code leaves the files: maps of the child's number gone, and then the child's maps behind their parent's.
-use Rattle.std.proofs.Common.{◌≡◌, ℕ, ◌+◌, ◌-◌, ◌<◌, ◌≤◌, ◌^◌, ◌==◌, ◌||◌, nat_lt, Bool, true, false, not, cond, None, max, replicate, List, [], ◌∷◌, ◌++◌, length, map, refl, sym, ap, subst, ◌∙◌, arith}
+use Rattle.std.proofs.Common.{◌≡◌, ℕ, suc, ◌+◌, ◌-◌, ◌<◌, ◌≤◌, ◌^◌, ◌==◌, ◌||◌, nat_lt, Bool, true, false, not, cond, None, max, replicate, List, [], ◌∷◌, ◌++◌, length, map, refl, sym, ap, subst, ◌∙◌, arith}
 use Rattle.std.specs.Global.{Vec}
 use Rattle.std.specs.Prelude.{is_some}
-use Rattle.std.specs.List.{filter, sum_by}
+use Rattle.std.specs.List.{All, count_by, filter, sum_by}
 use Rattle.std.proofs.lemmas.Bool.Decides.{nat_tests}
-use Rattle.std.proofs.lemmas.List.Sums.{sum_by-cons}
+use Rattle.std.proofs.lemmas.List.{length-map}
+use Rattle.std.proofs.lemmas.List.Sums.{length-filter, sum_by-cons}
 use Rattle.hp_model.specs.files.File.{File}
 use Rattle.hp_model.specs.files.Fork.{file_forked}
 use Rattle.hp_model.specs.files.GiveBack.{file_without, is_kept}
-use Rattle.hp_model.specs.files.Mapping.{Map, Mapping, is_of, map_for, map_punched}
+use Rattle.hp_model.specs.files.Mapping.{Map, Mapping, is_map, is_of, map_for, map_punched}
+use Rattle.hp_model.proofs.Counting.{count_not}
 use Rattle.hp_store.specs.Store.{Store, held_count, holders_of, page_at}
 use Rattle.hp_mount_files.specs.Dropping.{IsLeft, count_at}
 use Rattle.hp_mount_files.specs.Files.{Files}
-use Rattle.hp_mount_files.specs.Forking.{AreReady, HaveJoined, HaveRoom, IsNoted, IsSharing, children_of, in_list, in_lists, joined, list_copies, maps_named, maps_of, with_children}
+use Rattle.hp_mount_files.specs.Forking.{AreReady, HaveJoined, HaveNoted, HaveRoom, IsSharing, children_of, in_list, in_lists, joined, list_copies, maps_named, maps_of, with_children}
 use Rattle.hp_mount_files.specs.Held.{in_map}
 use Rattle.hp_mount_files.specs.Hints.{IsFiles, IsMore, Noted}
-use Rattle.hp_mount_files.specs.Keyed.{IsKeyed, keys_in, labels_of, maps_for}
-use Rattle.hp_mount_files.specs.Leaving.{HasLeft, emptied, is_used, left_by}
+use Rattle.hp_mount_files.specs.Keyed.{IsKeyed, Label, is_listed, keys_in, label_of, labels_of, maps_for}
+use Rattle.hp_mount_files.specs.Leaving.{HasLeft, emptied, is_used, left_by, map_sum}
 use Rattle.hp_mount_files.specs.Numbered.{NumberedFile, files_shown, with_truncated}
 use Rattle.hp_mount_files.specs.Places.{all_maps}
 use Rattle.hp_mount_files.proofs.Entering.{room_keeps, room_view}
 use Rattle.hp_mount_files.proofs.Exiting.{exit_files, exit_keeps, exit_keys, exit_left, keys_gone}
 use Rattle.hp_mount_files.proofs.FileLeaves.{empty_file}
-use Rattle.hp_mount_files.proofs.Forked.{few_kids, fork_held, fork_keeps, fork_keyed, fork_shows, in_kids, owed_same}
+use Rattle.hp_mount_files.proofs.Forked.{few_kids, fork_held, fork_keeps, fork_keyed, fork_shows, in_kids, owed_same, tally_more}
 use Rattle.hp_mount_files.proofs.Keys.{noted_more}
-use Rattle.hp_mount_files.proofs.Leaving.{files_owe}
+use Rattle.hp_mount_files.proofs.Leaving.{files_owe, used_label}
 use Rattle.hp_mount_files.proofs.Noting.{named_labelled}
 use Rattle.hp_mount_files.proofs.Sharing.{share_as}
 use Rattle.hp_mount_files.proofs.Stored.{stored_at, stored_pages}
-use Rattle.hp_mount_files.proofs.Tallies.{maps_labelled}
+use Rattle.hp_mount_files.proofs.Tallies.{maps_labelled, none_leave}
 use Rattle.hp_mount_files.proofs.Unique.{maps_counted}
 use Rattle.hp_mount_files.proofs.Views.{view}
+
+-- ---- files that are used
+
+-- what is counted of files is of those that are used
+used_sum : (c : NumberedFile → ℕ) → ((f : NumberedFile) → is_used f ≡ false → c f ≡ 0) → (fs : List NumberedFile) → sum_by c (filter is_used fs) ≡ sum_by c fs
+used_sum c none [] = refl
+used_sum c none (f ∷ fs) = at (is_used f) refl (used_sum c none fs)
+  where
+    at : (b : Bool) → is_used f ≡ b → sum_by c (filter is_used fs) ≡ sum_by c fs → sum_by c (cond b (f ∷ filter is_used fs) (filter is_used fs)) ≡ sum_by c (f ∷ fs)
+    at true e rest = omega (arith, rest, sum_by-cons c f (filter is_used fs), sum_by-cons c f fs)
+    at false e rest = (let bare = none f e in omega (arith, rest, bare, sum_by-cons c f fs))
+
+-- as the maps of a task
+used_maps : (task : ℕ) (fs : List NumberedFile) → sum_by (maps_of task) (filter is_used fs) ≡ sum_by (maps_of task) fs
+used_maps task = used_sum (maps_of task) (λ f out. ap (count_by (is_of task)) (empty_file f out).0)
+
+used_still : (fs : List NumberedFile) → All (λ (l : Label). is_listed l ≡ true) (labels_of fs) → filter is_used fs ≡ fs
+used_still [] all = refl
+used_still (f ∷ fs) all =
+    ap (λ b. cond b (f ∷ filter is_used fs) (filter is_used fs)) (sym (used_label f) ∙ all 0 (label_of f) (omega arith))
+    ∙ ap (λ gs. f ∷ gs) (used_still fs (λ i e l. all (suc i) e (omega (arith, l))))
+
+-- as many maps go as the task had
+maps_leave : (task : ℕ) (fs : List NumberedFile) → map_sum (map (λ f. emptied (left_by task f)) fs) + sum_by (maps_of task) fs ≡ map_sum fs
+maps_leave task [] = refl
+maps_leave task (f ∷ fs) =
+    let here = long (is_used (left_by task f)) in
+    let few = length-filter (λ m. not (is_of task m)) f.maps in
+    let both = count_not (is_of task) f.maps in
+    let rest = maps_leave task fs in
+    omega (arith, here, few, both, rest, sum_by-cons (λ (f : NumberedFile). length f.maps) (emptied (left_by task f)) (map (λ f. emptied (left_by task f)) fs), sum_by-cons (maps_of task) f fs, sum_by-cons (λ (f : NumberedFile). length f.maps) f fs)
+  where
+    long : (b : Bool) → length (cond b (left_by task f) (with_truncated 0 (left_by task f))).maps ≡ length (left_by task f).maps
+    long true = refl
+    long false = length-map (left_by task f).maps _
 
 -- ---- a parent's maps are no child's
 
@@ -135,12 +172,7 @@ module _ (parent child : ℕ) (apart : (parent == child) ≡ false) where
       omega (arith, here, rest, sum_by-cons (in_list n) v vs, sum_by-cons (λ (f : NumberedFile). sum_by (in_map n) (children_of parent child f.maps)) f fs)
 
   used_in : (n : ℕ) (fs : List NumberedFile) → in_kids parent child apart n (filter is_used fs) ≡ in_kids parent child apart n fs
-  used_in n [] = refl
-  used_in n (f ∷ fs) = at (is_used f) refl (used_in n fs)
-    where
-      at : (b : Bool) → is_used f ≡ b → in_kids parent child apart n (filter is_used fs) ≡ in_kids parent child apart n fs → in_kids parent child apart n (cond b (f ∷ filter is_used fs) (filter is_used fs)) ≡ in_kids parent child apart n (f ∷ fs)
-      at true e rest = (let left = sum_by-cons (λ (f : NumberedFile). sum_by (in_map n) (children_of parent child f.maps)) f (filter is_used fs) in let right = sum_by-cons (λ (f : NumberedFile). sum_by (in_map n) (children_of parent child f.maps)) f fs in omega (arith, rest, left, right))
-      at false e rest = (let none = ap (λ ms. sum_by (in_map n) (children_of parent child ms)) (empty_file f e).0 in let right = sum_by-cons (λ (f : NumberedFile). sum_by (in_map n) (children_of parent child f.maps)) f fs in omega (arith, rest, none, right))
+  used_in n fs = used_sum (λ f. sum_by (in_map n) (children_of parent child f.maps)) (λ f out. ap (λ ms. sum_by (in_map n) (children_of parent child ms)) (empty_file f out).0) fs
 
   used_grown : (f : NumberedFile) → is_used (with_children parent child f) ≡ is_used f
   used_grown f = at f.maps
@@ -223,6 +255,42 @@ module _ {n dropped : Noted} {s t : Store} {more now maps held : ℕ} {tally : �
   pub join_few : now + sum_by list_copies lists ≤ 2 ^ 32
   join_few = (let was = set.is.held.counted in let less = went.dropping.fewer in let few = set.few in omega (arith, was, less, few, went.counted))
 
+  own_task : (child == child) ≡ true
+  own_task = grind (arith, nat_tests)
+
+  other_task : (child == parent) ≡ false
+  other_task = grind (arith, nat_tests, apart)
+
+  none_left : sum_by (maps_for child) (labels_of K) ≡ 0
+  none_left = sym (left.keyed.tallied child) ∙ ap (λ b. cond b 0 (tally child)) own_task
+
+  pub join_none : sum_by (maps_of child) ended ≡ 0
+  join_none = sym (used_maps child ended) ∙ sym (maps_labelled child K) ∙ none_left
+
+  -- the child gets as many as its parent has
+  pub join_keys : sum_by (maps_of child) (joined ended lists) ≡ tally parent
+  join_keys =
+      let hs : List NumberedFile = map (λ f. with_children parent child f) K in
+      let all : filter is_used (joined ended lists) ≡ hs = ap (filter is_used) (ready_joined parent child apart ended lists ready_now) ∙ used_all parent child apart ended in
+      let labelled = sym (used_maps child (joined ended lists)) ∙ ap (sum_by (maps_of child)) all ∙ sym (maps_labelled child hs) in
+      let came = tally_more parent child apart child K ∙ ap (λ b. sum_by (maps_for child) (labels_of K) + cond b (sum_by (maps_for parent) (labels_of K)) 0) own_task in
+      let its = sym (left.keyed.tallied parent) ∙ ap (λ b. cond b 0 (tally parent)) other_task in
+      let none = none_left in
+      omega (arith, labelled, came, its, none)
+
+  module _ {joint : List NumberedFile} {u : Store} {more2 : ℕ} (came : HaveJoined lists ended joint t u now more2) where
+    joint_all : joint ≡ map (λ f. with_children parent child f) ended
+    joint_all = came.files_are ∙ ready_joined parent child apart ended lists ready_now
+
+    -- where no map went each file is used still
+    pub all_used : k ≡ 0 → filter is_used joint ≡ joint
+    all_used none =
+        let left_all = ap map_sum ended_is in
+        let bare : sum_by (maps_of child) fs ≡ 0 = (let gone = went.gone in let all = maps_leave child fs in omega (arith, none, gone, all, left_all)) in
+        let same : ended ≡ fs = ended_is ∙ none_leave child fs (maps_labelled child fs ∙ bare) set.is.keyed.kept in
+        let still : K ≡ ended = ap (filter is_used) same ∙ used_still fs set.is.keyed.kept ∙ sym same in
+        ap (filter is_used) joint_all ∙ used_all parent child apart ended ∙ ap (map (λ f. with_children parent child f)) still ∙ sym joint_all
+
   module _ {joint kept : List NumberedFile} {u : Store} {more2 : ℕ} (came : HaveJoined lists ended joint t u now more2) (kept_is : kept ≡ filter is_used joint) where
     abbrev shares : IsSharing (λ m. in_lists m lists) t u
     shares = came.sharing
@@ -239,11 +307,8 @@ module _ {n dropped : Noted} {s t : Store} {more now maps held : ℕ} {tally : �
     parts : more2 ≤ u.room
     parts = (let all = enough in omega (arith, all))
 
-    joint_all : joint ≡ map (λ f. with_children parent child f) ended
-    joint_all = came.files_are ∙ ready_joined parent child apart ended lists ready_now
-
     kept_all : kept ≡ map (λ f. with_children parent child f) K
-    kept_all = kept_is ∙ ap (filter is_used) joint_all ∙ used_all parent child apart ended
+    kept_all = kept_is ∙ ap (filter is_used) (joint_all came) ∙ used_all parent child apart ended
 
     sharing : IsSharing (λ m. in_kids parent child apart m K) t u
     sharing = share_as (λ m. in_lists m lists) (λ m. in_kids parent child apart m K) t u shares (λ m. sym (lists_in m))
@@ -274,27 +339,27 @@ module _ {n dropped : Noted} {s t : Store} {more now maps held : ℕ} {tally : �
     fewer : (q m : ℕ) → sum_by (keys_in q m) (labels_of K) ≤ sum_by (keys_in q m) (labels_of fs)
     fewer q m = exit_keys set.is went refl q m
 
+    named_kept : (q : ℕ) → sum_by (maps_named child q) kept ≡ sum_by (maps_named child q) joint
+    named_kept q = ap (sum_by (maps_named child q)) kept_is ∙ used_sum (maps_named child q) (λ f out. ap (count_by (is_map child q)) (empty_file f out).0) joint
+
     module _ (next : ℕ → ℕ) (next_is : (q : ℕ) → next q ≡ cond (child == q) (tally parent) (tally q)) where
       keyed_all : IsKeyed (maps - k + tally parent) next (labels_of (map (λ f. with_children parent child f) K))
       keyed_all =
           fork_keyed parent child apart dropped t u now more2 (maps - k) (λ q. cond (child == q) 0 (tally q)) K left sharing came.counted parts gone_keys
-          (maps - k + tally parent) next (ap (λ b. maps - k + cond b 0 (tally parent)) (sym flip))
+          (maps - k + tally parent) next (ap (λ b. maps - k + cond b 0 (tally parent)) (sym other_task))
           (λ q. next_is q ∙ at q (child == q))
         where
-          flip : (child == parent) ≡ false
-          flip = grind (arith, nat_tests, apart)
-
           at : (q : ℕ) (b : Bool) → cond b (tally parent) (tally q) ≡ cond b 0 (tally q) + cond b (cond (child == parent) 0 (tally parent)) 0
-          at q true = (let own = ap (λ b. cond b 0 (tally parent)) flip in omega (arith, own))
+          at q true = (let own = ap (λ b. cond b 0 (tally parent)) other_task in omega (arith, own))
           at q false = omega arith
 
-      pub forked_keeps : (table : Noted) (m : ℕ) → IsNoted child dropped table m (λ q. sum_by (maps_named child q) kept) → IsFiles table u more2 (maps - k + tally parent) next kept
-      forked_keeps table m noted =
+      pub forked_keeps : (table : Noted) → HaveNoted child joint dropped table → IsFiles table u more2 (maps - k + tally parent) next kept
+      forked_keeps table noted =
           subst (IsFiles table u more2 (maps - k + tally parent) next) (sym kept_all)
           (fork_keeps parent child apart dropped t u now more2 (maps - k) (λ q. cond (child == q) 0 (tally q)) K left sharing came.counted parts gone_keys
           table noted.more.names
           (λ q m other e. (let none = set.is.noted.keys q m (went.noted.keys q m other (noted.more.keys q m e)) in let less = fewer q m in omega (arith, none, less)))
-          (λ q e. ap (λ gs. sum_by (keys_in child q) (labels_of gs)) (sym kept_all) ∙ named_labelled child q kept ∙ noted.noted q e)
+          (λ q e. ap (λ gs. sum_by (keys_in child q) (labels_of gs)) (sym kept_all) ∙ named_labelled child q kept ∙ named_kept q ∙ noted.noted q e)
           (maps - k + tally parent) next keyed_all)
 
     abbrev next_tally : ℕ → ℕ
@@ -305,15 +370,6 @@ module _ {n dropped : Noted} {s t : Store} {more now maps held : ℕ} {tally : �
     forked_few =
         (subst (λ gs. IsKeyed (maps - k + tally parent) next_tally (labels_of gs)) (sym kept_all) (keyed_all next_tally (λ q. refl))).map_count ∙ maps_counted u kept
         ∙ ap (λ fs. length (all_maps fs)) forked_shows
-
-    -- and the child has as many as its parent
-    pub forked_of : sum_by (maps_of child) kept ≡ tally parent
-    forked_of =
-        sym (maps_labelled child kept) ∙ ap (λ gs. sum_by (maps_for child) (labels_of gs)) kept_all ∙ sym ((keyed_all next_tally (λ q. refl)).tallied child)
-        ∙ ap (λ b. cond b (tally parent) (tally child)) (own_task child)
-      where
-        own_task : (q : ℕ) → (q == q) ≡ true
-        own_task q = grind (arith, nat_tests)
 
 -- the same, as code counts
 pub files_as : (h g : Noted) (u : Store) (more k i : ℕ) (tally : ℕ → ℕ) (gs : List NumberedFile) → g ≡ h → i ≡ k → IsFiles h u more k tally gs → IsFiles g u more i tally gs

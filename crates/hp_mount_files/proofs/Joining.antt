@@ -1,10 +1,14 @@
 -- Lists of maps that come behind those of files.
-use Rattle.std.proofs.Common.{◌≡◌, ℕ, ◌<◌, ◌++◌, List, [], ◌∷◌, length, refl, ap, arith}
+use Rattle.std.proofs.Common.{◌≡◌, ℕ, ◌+◌, ◌<◌, ◌≤◌, ◌++◌, cond, List, [], ◌∷◌, length, take, refl, ap, ◌∙◌, arith}
 use Rattle.std.specs.Global.{Vec}
 use Rattle.std.specs.Prelude.{slice_index_or, slice_set}
-use Rattle.hp_model.specs.files.Mapping.{Mapping}
-use Rattle.hp_mount_files.specs.Forking.{AreReady, HasRoom, HaveRoom, IsReady, joined, with_list}
-use Rattle.hp_mount_files.specs.Numbered.{NumberedFile}
+use Rattle.std.specs.List.{sum_by}
+use Rattle.std.proofs.lemmas.List.{length-append, take-set}
+use Rattle.std.proofs.lemmas.List.Sums.{sum_by-append, sum_by-cons, sum_by-set, sum_by_more}
+use Rattle.hp_model.specs.files.Mapping.{Mapping, is_of}
+use Rattle.hp_mount_files.specs.Forking.{AreReady, HasRoom, HaveRoom, IsReady, joined, joined_at, maps_of, with_list}
+use Rattle.hp_mount_files.specs.Numbered.{NumberedFile, numbered_at}
+use Rattle.hp_mount_files.proofs.Cells.{no_file}
 
 module _ (parent child : ℕ) where
   -- a list more
@@ -44,3 +48,36 @@ last_joined (f ∷ fs) (w ∷ vs) v d room = ap (λ gs. with_list f w ∷ gs) (l
 pub none_joined : (fs : List NumberedFile) → joined fs [] ≡ fs
 none_joined [] = refl
 none_joined (f ∷ fs) = refl
+
+-- ---- maps of a task in files that get lists
+
+joined_more : (task : ℕ) (fs : List NumberedFile) (vs : List (Vec (Mapping ℕ))) → sum_by (maps_of task) fs ≤ sum_by (maps_of task) (joined fs vs)
+joined_more task [] vs = omega arith
+joined_more task (f ∷ fs) [] = omega arith
+joined_more task (f ∷ fs) (v ∷ vs) =
+    let rest = joined_more task fs vs in
+    let here = sum_by-append (λ (m : Mapping ℕ). cond {A = ℕ} (is_of task m) 1 0) f.maps v.items in
+    omega (arith, rest, here, sum_by-cons (maps_of task) f fs, sum_by-cons (maps_of task) (with_list f v) (joined fs vs))
+
+-- the files up to the last that has a list have none
+module _ (task : ℕ) (fs : List NumberedFile) (vs : List (Vec (Mapping ℕ))) (v : Vec (Mapping ℕ)) (room : HaveRoom fs (vs ++ v ∷ [])) (none : sum_by (maps_of task) (take (length (vs ++ v ∷ [])) fs) ≡ 0) where
+  both_none : sum_by (maps_of task) (take (length vs) fs) + maps_of task (numbered_at fs (length vs)) ≡ 0
+  both_none =
+      let all = ap (λ n. sum_by (maps_of task) (take n fs)) (length-append vs (v ∷ [])) in
+      let step = sum_by_more (maps_of task) fs (length vs) no_file (last_within fs vs v room) in
+      omega (arith, all, step, none)
+
+  pub last_none : maps_of task (numbered_at fs (length vs)) ≡ 0
+  last_none = omega (arith, both_none)
+
+  pub rest_none : sum_by (maps_of task) (take (length vs) (joined_at (length vs) v fs)) ≡ 0
+  rest_none = ap (sum_by (maps_of task)) (take-set fs (length vs) (with_list (numbered_at fs (length vs)) v)) ∙ (omega (arith, both_none))
+
+  -- with those of its list there are no more than in the end
+  pub last_keys : sum_by (maps_of task) fs + maps_of task (with_list (numbered_at fs (length vs)) v) ≤ sum_by (maps_of task) (joined fs (vs ++ v ∷ []))
+  last_keys =
+      let step = sum_by-set (maps_of task) fs (length vs) (with_list (numbered_at fs (length vs)) v) no_file (last_within fs vs v room) in
+      let most = joined_more task (joined_at (length vs) v fs) vs in
+      let same = ap (sum_by (maps_of task)) (last_joined fs vs v no_file room) in
+      let own = last_none in
+      omega (arith, step, most, same, own)

@@ -1,14 +1,16 @@
 -- A task's maps are noted, one after another.
-use Rattle.std.proofs.Common.{◌≡◌, ◌≢◌, ℕ, ◌+◌, ◌≤◌, ◌==◌, ◌&&◌, Bool, true, false, cond, List, [], ◌∷◌, refl, sym, ap, subst, ◌∙◌, arith}
+use Rattle.std.proofs.Common.{◌≡◌, ◌≢◌, ℕ, ◌+◌, ◌<◌, ◌≤◌, ◌==◌, ◌&&◌, Bool, true, false, cond, List, [], ◌∷◌, length, refl, sym, ap, subst, ◌∙◌, arith}
+use Rattle.std.specs.Prelude.{slice_set}
 use Rattle.std.specs.List.{sum_by}
 use Rattle.std.proofs.lemmas.Bool.{eqb-true}
 use Rattle.std.proofs.lemmas.Bool.Decides.{nat_tests}
-use Rattle.std.proofs.lemmas.List.Sums.{sum_by-cons}
+use Rattle.std.proofs.lemmas.List.Sums.{sum_by-cons, sum_by-le-sum_by, sum_by-set}
 use Rattle.hp_model.specs.files.Mapping.{Mapping, is_map, is_of}
-use Rattle.hp_mount_files.specs.Forking.{IsNoted, maps_named}
+use Rattle.hp_mount_files.specs.Forking.{HasNoted, HaveNoted, IsNoted, maps_named, maps_of}
 use Rattle.hp_mount_files.specs.Hints.{IsMore, Noted, has_key}
 use Rattle.hp_mount_files.specs.Keyed.{keys_in, label_of, labels_of}
-use Rattle.hp_mount_files.specs.Numbered.{NumberedFile}
+use Rattle.hp_mount_files.specs.Numbered.{NumberedFile, numbered_at}
+use Rattle.hp_mount_files.proofs.Cells.{no_file}
 use Rattle.hp_mount_files.proofs.Exiting.{keys_are}
 
 module _ (task : ℕ) where
@@ -21,6 +23,36 @@ module _ (task : ℕ) where
     room = (let one = first.room in let two = then.room in omega (arith, one, two, all));
     noted = λ q e. (let one = first.noted q (then.more.keys task q e) in let two = then.noted q e in let sum = each q in omega (arith, one, two, sum));
   }
+
+  -- ---- a file or files without maps of the task
+
+  pub named_few : (q : ℕ) (f : NumberedFile) → maps_named task q f ≤ maps_of task f
+  named_few q f = sum_by-le-sum_by (λ (m : Mapping ℕ). cond {A = ℕ} (is_map task q m) 1 0) (λ m. cond {A = ℕ} (is_of task m) 1 0) f.maps (λ m. fewer (is_of task m) (m.number == q))
+    where
+      fewer : (b c : Bool) → cond {A = ℕ} (b && c) 1 0 ≤ cond {A = ℕ} b 1 0
+      fewer true true = omega arith
+      fewer true false = omega arith
+      fewer false c = omega arith
+
+  pub named_none : (q : ℕ) (f : NumberedFile) → maps_of task f ≡ 0 → maps_named task q f ≡ 0
+  named_none q f none = (let few = named_few q f in omega (arith, few, none))
+
+  pub noted_bare : (f : NumberedFile) (n : Noted) → maps_of task f ≡ 0 → HasNoted task f n n
+  noted_bare f n none = noted_then 0 0 (maps_of task f) (λ q. 0) (λ q. 0) (λ q. maps_named task q f) n n n (noted_none n) (noted_none n) (omega (arith, none)) (λ q. (let bare = named_none q f none in omega (arith, bare)))
+
+  pub noted_all_bare : (fs : List NumberedFile) (n : Noted) → sum_by (maps_of task) fs ≡ 0 → HaveNoted task fs n n
+  noted_all_bare fs n none =
+      noted_then 0 0 (sum_by (maps_of task) fs) (λ q. 0) (λ q. 0) (λ q. sum_by (maps_named task q) fs) n n n (noted_none n) (noted_none n) (omega (arith, none))
+      (λ q. (let few = sum_by-le-sum_by (maps_named task q) (maps_of task) fs (named_few q) in omega (arith, few, none)))
+
+  -- a file that had none and has some now, among files that were noted
+  pub noted_at : (fs : List NumberedFile) (k : ℕ) (y : NumberedFile) (old mid new : Noted) → k < length fs → maps_of task (numbered_at fs k) ≡ 0 → HaveNoted task fs old mid → HasNoted task y mid new → HaveNoted task (slice_set fs k y) old new
+  noted_at fs k y old mid new within none first then =
+      noted_then (sum_by (maps_of task) fs) (maps_of task y) (sum_by (maps_of task) (slice_set fs k y)) (λ q. sum_by (maps_named task q) fs) (λ q. maps_named task q y) (λ q. sum_by (maps_named task q) (slice_set fs k y)) old mid new first then
+      (let step = sum_by-set (maps_of task) fs k y no_file within in omega (arith, step, none))
+      (λ q. (let step = sum_by-set (maps_named task q) fs k y no_file within in let bare = named_none q (numbered_at fs k) none in omega (arith, step, bare)))
+
+  -- ---- one map
 
   module _ (m : Mapping ℕ) (old new : Noted) where
     pub noted_other : is_of task m ≡ false → new ≡ old → IsNoted task old new (cond (is_of task m) 1 0) (λ q. cond (is_map task q m) 1 0)

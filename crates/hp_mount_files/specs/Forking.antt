@@ -1,5 +1,5 @@
 -- A child's maps. No public clause cites this module.
-use Rattle.std.specs.Prelude.{◌≡◌, ℕ, ◌+◌, ◌-◌, ◌++◌, ◌<◌, ◌≤◌, List, [], ◌∷◌, false, length, map, vec_capacity}
+use Rattle.std.specs.Prelude.{◌≡◌, ℕ, ◌+◌, ◌-◌, ◌++◌, ◌<◌, ◌≤◌, List, [], ◌∷◌, false, length, map, slice_set, vec_capacity}
 use Rattle.std.specs.Global.{Vec}
 use Rattle.std.specs.List.{count_by, filter, sum_by}
 use Rattle.hp_mapping.specs.Mapped.{has_copy}
@@ -9,7 +9,7 @@ use Rattle.hp_store.specs.Store.{Store, held_count, holders_of, page_at}
 use Rattle.hp_mount_files.specs.Dropping.{HasHolders, at_node}
 use Rattle.hp_mount_files.specs.Held.{in_map, in_place, more_in}
 use Rattle.hp_mount_files.specs.Hints.{IsMore, Noted, has_key}
-use Rattle.hp_mount_files.specs.Numbered.{NumberedFile, page_in}
+use Rattle.hp_mount_files.specs.Numbered.{NumberedFile, numbered_at, page_in}
 
 -- how many copies a map has
 abbrev pub copies_in : Mapping ℕ → ℕ
@@ -47,6 +47,10 @@ abbrev pub joined : List NumberedFile → List (Vec (Mapping ℕ)) → List Numb
 joined [] vs = []
 joined (f ∷ fs) [] = f ∷ fs
 joined (f ∷ fs) (v ∷ vs) = with_list f v ∷ joined fs vs
+
+-- the files, of which the one at a place got a list
+abbrev pub joined_at : ℕ → Vec (Mapping ℕ) → List NumberedFile → List NumberedFile
+joined_at at list fs = slice_set fs at (with_list (numbered_at fs at) list)
 
 -- a list that has maps has room for its file's
 abbrev pub HasRoom : NumberedFile → Vec (Mapping ℕ) → Type 0
@@ -98,3 +102,10 @@ pub record IsNoted (task : ℕ) (old new : Noted) (maps : ℕ) (named : ℕ → 
   pub more : IsMore old new
   pub room : old.room ≤ new.room + maps
   pub noted : (number : ℕ) → has_key task number new ≡ false → named number ≡ 0
+
+-- a task's maps of a file were noted, or those of files
+abbrev pub HasNoted : ℕ → NumberedFile → Noted → Noted → Type 0
+HasNoted task f old new = IsNoted task old new (maps_of task f) (λ number. maps_named task number f)
+
+abbrev pub HaveNoted : ℕ → List NumberedFile → Noted → Noted → Type 0
+HaveNoted task fs old new = IsNoted task old new (sum_by (maps_of task) fs) (λ number. sum_by (maps_named task number) fs)

@@ -1,8 +1,8 @@
 //! A child's maps of a file.
-ghost use Rattle.std.specs.Prelude.{◌≡◌, ◌++◌, ◌^◌, ◌+◌, ◌≤◌, ℕ, length, IfOk};
+ghost use Rattle.std.specs.Prelude.{◌≡◌, ◌++◌, ◌^◌, ◌+◌, ◌≤◌, ℕ, length, vec_capacity, IfOk};
 ghost use Rattle.hp_store.specs.Store.{holders_of, page_at};
 ghost use Rattle.hp_mount_files.specs.Dropping.{HasHolders};
-ghost use Rattle.hp_mount_files.specs.Forking.{HasRoom, IsNoted, IsReady, IsSharing, in_list, list_copies, maps_named, maps_of, with_list};
+ghost use Rattle.hp_mount_files.specs.Forking.{HasNoted, IsReady, IsSharing, in_list, list_copies, maps_of, with_list};
 ghost use Rattle.hp_mount_files.specs.Held.{more_in};
 
 use super::File;
@@ -39,7 +39,7 @@ impl File {
         store: &mut PageStore<N>,
         more: &mut usize,
     )
-        requires room { HasRoom self.old list }
+        requires room { length list.items + length self.old.maps ≤ vec_capacity list }
         requires held { (n : ℕ) → in_list n list ≤ holders_of (page_at store.old n) }
         requires some { HasHolders store.old }
         requires counted { more.old ≡ more_in store.old.pages }
@@ -49,20 +49,18 @@ impl File {
         ensures counted { more.new ≡ more_in store.new.pages }
         ensures more { more.new ≡ more.old + list_copies list }
     {
-        if list.is_empty() {
-            return;
-        }
         share_all(&list, store, more);
         let added = list.len();
         list.append(&mut self.maps).unwrap();
         list.rotate_left(added);
         self.maps = list;
     }
+
     /// The file stands at a place: notes where a task's maps stand, and their tags. There is room for them. Takes a step for
     /// each map.
     pub(crate) fn note_maps(&self, task: u64, file: FileTag, hints: &mut Hints)
         requires { maps_of task self.now ≤ hints.old.room }
-        ensures { IsNoted task hints.old hints.new (maps_of task self.now) (λ n. maps_named task n self.now) }
+        ensures { HasNoted task self.now hints.old hints.new }
     {
         for (map, mapping) in self.maps.iter().enumerate() {
             if mapping.task() == task {

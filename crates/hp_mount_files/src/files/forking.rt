@@ -3,9 +3,10 @@ ghost use Rattle.std.specs.Prelude.{◌≡◌, ◌^◌, ◌+◌, ◌-◌, ◌<�
 ghost use Rattle.std.specs.List.{count_by, filter, sum_by};
 ghost use Rattle.hp_store.specs.Store.{holders_of, page_at};
 ghost use Rattle.hp_mount_files.specs.Dropping.{HasHolders, IsLeft};
-ghost use Rattle.hp_mount_files.specs.Forking.{AreReady, HaveJoined, HaveRoom, IsNoted, in_lists, list_copies, maps_named, maps_of};
+ghost use Rattle.hp_mount_files.specs.Forking.{AreReady, HasNoted, HasRoom, HaveJoined, HaveNoted, HaveRoom, IsSharing, in_list, in_lists, joined, joined_at, list_copies, maps_of, with_list};
 ghost use Rattle.hp_mount_files.specs.Held.{more_in};
-ghost use Rattle.hp_mount_files.specs.Leaving.{map_sum};
+ghost use Rattle.hp_mount_files.specs.Leaving.{is_used};
+ghost use Rattle.hp_mount_files.specs.Numbered.{numbered_at};
 ghost use Rattle.hp_mount_files.specs.Places.{all_maps};
 ghost use Rattle.hp_model.specs.files.Fork.{file_forked};
 ghost use Rattle.hp_model.specs.files.GiveBack.{is_kept};
@@ -34,11 +35,9 @@ fn children(
 ) -> Result<Vec<Vec<Mapping>>, AllocError>
     ensures { IfOk result (λ lists. AreReady parent child files.now.files lists.items) }
 {
-    let mut lists = Vec::new(alloc);
+    let mut lists = Vec::with_capacity(alloc, files.len())?;
     for at in 0..files.len() {
-        let Ok(()) = lists.push(files[at].children(alloc, tags, parent, child)?) else {
-            return Err(AllocError);
-        };
+        lists.push_reserved(files[at].children(alloc, tags, parent, child)?);
     }
     Ok(lists)
 }
@@ -63,35 +62,72 @@ fn room_for(held: u64, more: usize, lists: &[Vec<Mapping>]) -> usize
     room.saturating_add(all_copies(lists)) as usize
 }
 
-// Each file gets the maps of its list, and each of their copies has a holder more.
-fn join_all<N: Naming>(
+// The file at a place, which has no map of a child, gets the child's maps of a list: each of their copies has a holder more,
+// and they are noted, for which there is room. No file is looked at where the list is empty.
+fn join_at<N: Naming>(
+    child: u64,
+    at: usize,
+    list: Vec<Mapping>,
     files: &mut FileList,
+    hints: &mut Hints,
+    store: &mut PageStore<N>,
+    more: &mut usize,
+)
+    requires within { at < length files.old.files }
+    requires room { HasRoom (numbered_at files.old.files at) list }
+    requires none { maps_of child (numbered_at files.old.files at) ≡ 0 }
+    requires keys { maps_of child (with_list (numbered_at files.old.files at) list) ≤ hints.old.room }
+    requires held { (n : ℕ) → in_list n list ≤ holders_of (page_at store.old n) }
+    requires some { HasHolders store.old }
+    requires counted { more.old ≡ more_in store.old.pages }
+    requires few { more.old + list_copies list ≤ 2 ^ 32 }
+    ensures files { files.new.files ≡ joined_at at list files.old.files }
+    ensures noted { HasNoted child (numbered_at files.new.files at) hints.old hints.new }
+    ensures sharing { IsSharing (λ n. in_list n list) store.old store.new }
+    ensures counted { more.new ≡ more_in store.new.pages }
+    ensures more { more.new ≡ more.old + list_copies list }
+{
+    if list.is_empty() {
+        return;
+    }
+    files[at].join(list, store, more);
+    let tag = files.tag(at);
+    files[at].note_maps(child, FileTag { at, tag }, hints);
+}
+
+// Each file gets the maps of its list, and each of their copies has a holder more. Where they stand is noted, and their
+// tags: there is room for them, and the files have no other map of the child.
+fn join_all<N: Naming>(
+    child: u64,
     mut lists: Vec<Vec<Mapping>>,
+    files: &mut FileList,
+    hints: &mut Hints,
     store: &mut PageStore<N>,
     more: &mut usize,
 )
     requires room { HaveRoom files.old.files lists.items }
+    requires none { sum_by (maps_of child) files.old.files ≡ 0 }
+    requires keys { sum_by (maps_of child) (joined files.old.files lists.items) ≤ hints.old.room }
     requires held { (n : ℕ) → in_lists n lists.items ≤ holders_of (page_at store.old n) }
     requires some { HasHolders store.old }
     requires counted { more.old ≡ more_in store.old.pages }
     requires few { more.old + sum_by list_copies lists.items ≤ 2 ^ 32 }
-    ensures { HaveJoined lists.items files.old.files files.new.files store.old store.new more.old more.new }
+    ensures joined { HaveJoined lists.items files.old.files files.new.files store.old store.new more.old more.new }
+    ensures noted { HaveNoted child files.new.files hints.old hints.new }
 {
     while let Some(list) = lists.pop() {
         let at = lists.len();
-        files[at].join(list, store, more);
+        join_at(child, at, list, files, hints, store, more);
     }
 }
 
-// Notes where a task's maps stand, and their tags. There is room for them.
-fn note_maps(task: u64, files: &FileList, hints: &mut Hints)
-    requires { sum_by (maps_of task) files.now.files ≤ hints.old.room }
-    ensures { IsNoted task hints.old hints.new (sum_by (maps_of task) files.now.files)
-        (λ n. sum_by (maps_named task n) files.now.files) }
+// Files without name and maps go, and the others move down. Where no map went, each is used, and none is looked at.
+fn retain_some_used(gone: u64, files: &mut FileList)
+    requires { gone ≡ 0 → filter is_used files.old.files ≡ files.old.files }
+    ensures { files.new.files ≡ filter is_used files.old.files }
 {
-    for at in 0..files.len() {
-        let tag = files.tag(at);
-        files[at].note_maps(task, FileTag { at, tag }, hints);
+    if gone > 0 {
+        files.retain_used();
     }
 }
 
@@ -135,9 +171,15 @@ impl<N: Naming> Files<N> {
             &mut self.store,
             &mut self.more,
         );
-        join_all(&mut self.list, lists, &mut self.store, &mut self.more);
-        self.list.retain_used();
-        note_maps(child, &self.list, &mut self.hints);
+        join_all(
+            child,
+            lists,
+            &mut self.list,
+            &mut self.hints,
+            &mut self.store,
+            &mut self.more,
+        );
+        retain_some_used(gone.maps, &mut self.list);
         self.maps -= gone.maps;
         self.maps += count;
         self.counts.set(child, count);
