@@ -4,7 +4,7 @@ use Rattle.std.specs.Global.{Vec}
 use Rattle.std.specs.Prelude.{is_some}
 use Rattle.std.specs.List.{All, count_by, filter, sum_by}
 use Rattle.std.proofs.lemmas.Bool.Decides.{nat_tests}
-use Rattle.std.proofs.lemmas.List.{length-map}
+use Rattle.std.proofs.lemmas.List.{append-nil, length-map}
 use Rattle.std.proofs.lemmas.List.Sums.{length-filter, sum_by-cons}
 use Rattle.hp_model.specs.files.File.{File}
 use Rattle.hp_model.specs.files.Fork.{file_forked}
@@ -25,6 +25,7 @@ use Rattle.hp_mount_files.proofs.Entering.{room_keeps, room_view}
 use Rattle.hp_mount_files.proofs.Exiting.{exit_files, exit_keeps, exit_keys, exit_left, keys_gone}
 use Rattle.hp_mount_files.proofs.FileLeaves.{empty_file}
 use Rattle.hp_mount_files.proofs.Forked.{few_kids, fork_held, fork_keeps, fork_keyed, fork_shows, in_kids, owed_same, tally_more}
+use Rattle.hp_mount_files.proofs.Joining.{none_joined}
 use Rattle.hp_mount_files.proofs.Keys.{noted_more}
 use Rattle.hp_mount_files.proofs.Leaving.{files_owe, used_label}
 use Rattle.hp_mount_files.proofs.Noting.{named_labelled}
@@ -144,7 +145,7 @@ module _ (parent child : ℕ) (apart : (parent == child) ≡ false) where
   ready_ended : (fs : List NumberedFile) (lists : List (Vec (Mapping ℕ))) → AreReady parent child fs lists → AreReady parent child (map (λ f. emptied (left_by child f)) fs) lists
   ready_ended [] [] all = tt
   ready_ended [] (v ∷ vs) all = absurd all
-  ready_ended (f ∷ fs) [] all = absurd all
+  ready_ended (f ∷ fs) [] all = ((ended_children f).0 ∙ all.0, ready_ended fs [] all.1)
   ready_ended (f ∷ fs) (v ∷ vs) all =
       let same = ended_children f in (
         record { children = all.0.children ∙ sym same.0; room = λ some. (let room = all.0.room some in let few = same.1 in omega (arith, room, few)) },
@@ -154,18 +155,23 @@ module _ (parent child : ℕ) (apart : (parent == child) ≡ false) where
   ready_room : (fs : List NumberedFile) (lists : List (Vec (Mapping ℕ))) → AreReady parent child fs lists → HaveRoom fs lists
   ready_room [] [] all = tt
   ready_room [] (v ∷ vs) all = absurd all
-  ready_room (f ∷ fs) [] all = absurd all
+  ready_room (f ∷ fs) [] all = tt
   ready_room (f ∷ fs) (v ∷ vs) all = (all.0.room, ready_room fs vs all.1)
 
   ready_joined : (fs : List NumberedFile) (lists : List (Vec (Mapping ℕ))) → AreReady parent child fs lists → joined fs lists ≡ map (λ f. with_children parent child f) fs
   ready_joined [] lists all = refl
-  ready_joined (f ∷ fs) [] all = absurd all
+  ready_joined (f ∷ fs) [] all =
+      let same : with_children parent child f ≡ f = ap (λ ms. record f { maps = f.maps ++ ms }) all.0 ∙ ap (λ ms. record f { maps = ms }) (append-nil f.maps) in
+      ap (λ g. g ∷ fs) (sym same) ∙ ap (λ gs. with_children parent child f ∷ gs) (sym (none_joined fs) ∙ ready_joined fs [] all.1)
   ready_joined (f ∷ fs) (v ∷ vs) all = ap (λ ms. record f { maps = f.maps ++ ms } ∷ joined fs vs) all.0.children ∙ ap (λ gs. with_children parent child f ∷ gs) (ready_joined fs vs all.1)
 
   ready_in : (n : ℕ) (fs : List NumberedFile) (lists : List (Vec (Mapping ℕ))) → AreReady parent child fs lists → in_lists n lists ≡ in_kids parent child apart n fs
   ready_in n [] [] all = refl
   ready_in n [] (v ∷ vs) all = absurd all
-  ready_in n (f ∷ fs) [] all = absurd all
+  ready_in n (f ∷ fs) [] all =
+      let here = ap (sum_by (in_map n)) all.0 in
+      let rest = ready_in n fs [] all.1 in
+      omega (arith, here, rest, sum_by-cons (λ (f : NumberedFile). sum_by (in_map n) (children_of parent child f.maps)) f fs)
   ready_in n (f ∷ fs) (v ∷ vs) all =
       let here = ap (sum_by (in_map n)) all.0.children in
       let rest = ready_in n fs vs all.1 in

@@ -1,22 +1,54 @@
 -- Lists of maps that come behind those of files.
-use Rattle.std.proofs.Common.{◌≡◌, ℕ, ◌+◌, ◌<◌, ◌≤◌, ◌++◌, cond, List, [], ◌∷◌, length, take, refl, ap, ◌∙◌, arith}
+use Rattle.std.proofs.Common.{◌≡◌, ⊎_elim, ℕ, ◌+◌, ◌<◌, ◌≤◌, ◌++◌, cond, List, [], ◌∷◌, drop, length, take, refl, ap, ◌∙◌, arith}
 use Rattle.std.specs.Global.{Vec}
 use Rattle.std.specs.Prelude.{slice_index_or, slice_set}
-use Rattle.std.specs.List.{sum_by}
-use Rattle.std.proofs.lemmas.List.{length-append, take-set}
-use Rattle.std.proofs.lemmas.List.Sums.{sum_by-append, sum_by-cons, sum_by-set, sum_by_more}
-use Rattle.hp_model.specs.files.Mapping.{Mapping, is_of}
-use Rattle.hp_mount_files.specs.Forking.{AreReady, HasRoom, HaveRoom, IsReady, joined, joined_at, maps_of, with_list}
+use Rattle.std.specs.List.{filter, sum_by}
+use Rattle.std.proofs.lemmas.Bool.{cases_lt}
+use Rattle.std.proofs.lemmas.List.{length-append, length-map, nil_from_length, take-set}
+use Rattle.std.proofs.lemmas.List.Sums.{length-filter, sum_by-append, sum_by-cons, sum_by-drop_more, sum_by-set, sum_by_more}
+use Rattle.hp_model.specs.files.Mapping.{Mapping, is_of, map_for}
+use Rattle.hp_mount_files.specs.Forking.{AreReady, children_of, HasRoom, HaveRoom, IsReady, joined, joined_at, maps_of, with_list}
 use Rattle.hp_mount_files.specs.Numbered.{NumberedFile, numbered_at}
 use Rattle.hp_mount_files.proofs.Cells.{no_file}
+use Rattle.hp_mount_files.proofs.Sharing.{sum_end}
 
 module _ (parent child : ℕ) where
   -- a list more
-  pub ready_push : (fs : List NumberedFile) (vs : List (Vec (Mapping ℕ))) (f : NumberedFile) (v : Vec (Mapping ℕ)) → AreReady parent child fs vs → IsReady parent child f v → AreReady parent child (fs ++ f ∷ []) (vs ++ v ∷ [])
-  ready_push [] [] f v all one = (one, tt)
-  ready_push [] (w ∷ vs) f v all one = absurd all
-  ready_push (x ∷ fs) [] f v all one = absurd all
-  ready_push (x ∷ fs) (w ∷ vs) f v all one = (all.0, ready_push fs vs f v all.1 one)
+  pub ready_push : (fs : List NumberedFile) (vs : List (Vec (Mapping ℕ))) (f : NumberedFile) (v : Vec (Mapping ℕ)) → length fs ≡ length vs → AreReady parent child fs vs → IsReady parent child f v → AreReady parent child (fs ++ f ∷ []) (vs ++ v ∷ [])
+  ready_push [] [] f v long all one = (one, tt)
+  ready_push [] (w ∷ vs) f v long all one = absurd all
+  ready_push (x ∷ fs) [] f v long all one = absurd (omega (arith, long))
+  ready_push (x ∷ fs) (w ∷ vs) f v long all one = (all.0, ready_push fs vs f v (omega (arith, long)) all.1 one)
+
+  children_long : (f : NumberedFile) → length (children_of parent child f.maps) ≡ maps_of parent f
+  children_long f = length-map (filter (is_of parent) f.maps) (map_for child) ∙ length-filter (is_of parent) f.maps
+
+  ready_none : (fs : List NumberedFile) → sum_by (maps_of parent) fs ≡ 0 → AreReady parent child fs []
+  ready_none [] none = tt
+  ready_none (f ∷ fs) none =
+      let step = sum_by-cons (maps_of parent) f fs in
+      let long = children_long f in
+      (nil_from_length (children_of parent child f.maps) (omega (arith, step, none, long)), ready_none fs (omega (arith, step, none)))
+
+  -- no more lists are needed where the files behind have no map of the parent
+  pub ready_rest : (fs : List NumberedFile) (vs : List (Vec (Mapping ℕ))) → AreReady parent child (take (length vs) fs) vs → sum_by (maps_of parent) (drop (length vs) fs) ≡ 0 → AreReady parent child fs vs
+  ready_rest [] [] all none = tt
+  ready_rest [] (v ∷ vs) all none = absurd all
+  ready_rest (f ∷ fs) [] all none = ready_none (f ∷ fs) none
+  ready_rest (f ∷ fs) (v ∷ vs) all none = (all.0, ready_rest fs vs all.1 none)
+
+  -- some are needed where those behind have some
+  pub more_within : (fs : List NumberedFile) (vs : List (Vec (Mapping ℕ))) → 0 < sum_by (maps_of parent) (drop (length vs) fs) → length vs < length fs
+  more_within fs vs some = ⊎_elim (λ (l : length vs < length fs). l) (λ past. (let none = sum_end (maps_of parent) fs (length vs) past in absurd (omega (arith, some, none)))) (cases_lt (length vs) (length fs))
+
+  -- and then fewer by the next list
+  pub fewer_behind : (fs : List NumberedFile) (vs : List (Vec (Mapping ℕ))) (f : NumberedFile) (v : Vec (Mapping ℕ)) → length vs < length fs → f ≡ slice_index_or fs (length vs) f → IsReady parent child f v → length v.items + sum_by (maps_of parent) (drop (length vs + 1) fs) ≡ sum_by (maps_of parent) (drop (length vs) fs)
+  fewer_behind fs vs f v within read one =
+      let step = sum_by-drop_more (maps_of parent) fs (length vs) f within in
+      let own = ap (maps_of parent) read in
+      let long = ap length one.children in
+      let count = children_long f in
+      omega (arith, step, own, long, count)
 
 -- ---- the last list
 

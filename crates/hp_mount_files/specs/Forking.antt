@@ -67,10 +67,11 @@ pub record IsReady (parent child : ℕ) (f : NumberedFile) (list : Vec (Mapping 
   pub children : list.items ≡ children_of parent child f.maps
   pub room : HasRoom f list
 
+-- files have such lists, and those behind the last list no map of the parent
 abbrev pub AreReady : (parent child : ℕ) → List NumberedFile → List (Vec (Mapping ℕ)) → Type 0
 AreReady parent child [] [] = Unit {0}
 AreReady parent child [] (v ∷ vs) = ⊥
-AreReady parent child (f ∷ fs) [] = ⊥
+AreReady parent child (f ∷ fs) [] = (children_of parent child f.maps ≡ []) × AreReady parent child fs []
 AreReady parent child (f ∷ fs) (v ∷ vs) = IsReady parent child f v × AreReady parent child fs vs
 
 -- at how many places of lists a number stands, and how many copies they have

@@ -25,19 +25,26 @@ use hp_model::naming::Naming;
 use hp_store::PageStore;
 use std::alloc::{AllocError, Global};
 
-// The maps that a child gets of each file for those of a parent.
+// The maps that a child gets of each file for those of a parent, which are so many: a list for each of the files up to the
+// last that has any. No file behind it is looked at.
 fn children(
     files: &FileList,
     alloc: Global,
     tags: &mut Tags,
     parent: u64,
     child: u64,
+    count: u64,
 ) -> Result<Vec<Vec<Mapping>>, AllocError>
+    requires { count ≡ sum_by (maps_of parent) files.now.files }
     ensures { IfOk result (λ lists. AreReady parent child files.now.files lists.items) }
 {
     let mut lists = Vec::with_capacity(alloc, files.len())?;
-    for at in 0..files.len() {
-        lists.push_reserved(files[at].children(alloc, tags, parent, child)?);
+    let mut left = count;
+    while left > 0 {
+        let at = lists.len();
+        let list = files[at].children(alloc, tags, parent, child)?;
+        left -= list.len() as u64;
+        lists.push_reserved(list);
     }
     Ok(lists)
 }
@@ -157,8 +164,8 @@ impl<N: Naming> Files<N> {
         ensures err { OnErr result (self.new ≡ record self.old { room = self.new.room }) }
         ensures more { OnErr result (self.old.room ≤ self.new.room) }
     {
-        let lists = children(&self.list, self.alloc, &mut self.tags, parent, child)?;
         let count = self.counts.count(parent);
+        let lists = children(&self.list, self.alloc, &mut self.tags, parent, child, count)?;
         self.hints.reserve(count)?;
         self.counts.make_room()?;
         let room = room_for(held, self.more, &lists);

@@ -8,7 +8,12 @@ use Rattle.hp_mount_files.proofs.Exiting.{maps_in}
 use Rattle.hp_mount_files.proofs.Forks.{all_used, files_as, forked_few, forked_keeps, forked_left, forked_shows, join_few, join_held, join_keys, join_none, join_room, set_out}
 use Rattle.hp_mount_files.proofs.Keys.{files_noted, files_recounted}
 use Rattle.hp_mount_files.proofs.Leaving.{files_owe}
+use Rattle.hp_mount_files.proofs.Tallies.{maps_labelled}
 use Rattle.hp_mount_files.proofs.files.Files.fork.Goals as goal
+
+pub children-requires : goal.children-requires
+children-requires g c =
+    c.count-count.ensures ∙ c.self.invariant.keyed.tallied c.args.parent ∙ maps_labelled c.args.parent c.self.inside.list.files
 
 pub drop_some_maps_of-gone-requires-clause-count : goal.drop_some_maps_of-gone-requires-clause-count
 drop_some_maps_of-gone-requires-clause-count g c =
