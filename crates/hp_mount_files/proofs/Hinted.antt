@@ -1,8 +1,9 @@
 -- What an index of entries says of the keys that were put in.
-use Rattle.std.proofs.Common.{◌≡◌, ◌||◌, ℕ, ◌+◌, ◌<◌, Bool, true, false, cond, List, [], ◌∷◌, get_or, length, map, Option, None, Some, refl, sym, ap, ◌∙◌, arith}
+use Rattle.std.proofs.Common.{◌≡◌, ◌||◌, ℕ, zero, suc, ◌+◌, ◌<◌, Bool, true, false, cond, List, [], ◌∷◌, get_or, length, map, slice_get, Option, None, Some, refl, sym, ap, ◌∙◌, arith}
 use Rattle.std.specs.Prelude.{position}
 use Rattle.std.specs.List.{list_any, sum_by, swap_remove}
 use Rattle.std.specs.Map.{keys_of as map_keys, lookup}
+use Rattle.std.specs.Option.{unwrap_or}
 use Rattle.std.proofs.lemmas.List.{get_or-map, length-map}
 use Rattle.std.proofs.lemmas.List.Quantifiers.{position-Some}
 use Rattle.std.proofs.lemmas.List.Sums.{sum_by-cons, sum_by-swap_remove}
@@ -51,7 +52,15 @@ module _ {K Y X : Type 0} (f : K → Y) (test : Y → Bool) where
       at true is rest step = (let here = ap (λ b. cond {A = ℕ} b 1 0 + 0) is in absurd (omega (arith, here, step, e)))
       at false is rest step = ap (λ b. b || noted es) is ∙ rest
 
-  -- one key goes, and the last entry stands in its place
+  -- an entry goes, and the last one stands in its place
+  pub rest_stay : (es : List (K × X)) (i : ℕ) (d : K × X) → i < length es → test (f (get_or es i d).0) ≡ false → noted (swap_remove es i d) ≡ false → noted es ≡ false
+  rest_stay es i d inside out e =
+      let gone = ap (λ b. cond {A = ℕ} b 1 0 + 0) out in
+      let step = sum_by-swap_remove (λ e. cond {A = ℕ} (test (f e.0)) 1 0) es i d inside in
+      let left = none_noted (swap_remove es i d) e in
+      noted_none es (omega (arith, gone, step, left))
+
+  -- the same of a key
   pub others_stay : (own : K → Bool) → ((k : K) → own k ≡ true → test (f k) ≡ false) → (es : List (K × X)) → noted (swap_remove_entry own es) ≡ false → noted es ≡ false
   others_stay own out [] e = e
   others_stay own out (x ∷ es) e = by (position own (map_keys (x ∷ es))) refl
@@ -64,10 +73,7 @@ module _ {K Y X : Type 0} (f : K → Y) (test : Y → Bool) where
           let long = length-map (x ∷ es) (λ (p : K × X). p.0) in
           let inside : i < length (x ∷ es) = omega (arith, below, long) in
           let key = get_or-map (λ (p : K × X). p.0) (x ∷ es) i x x.0 inside in
-          let gone = ap (λ b. cond {A = ℕ} b 1 0 + 0) (out (get_or (x ∷ es) i x).0 (ap own (sym key) ∙ at.1)) in
-          let step = sum_by-swap_remove (λ e. cond {A = ℕ} (test (f e.0)) 1 0) (x ∷ es) i x inside in
-          let left = none_noted (swap_remove (x ∷ es) i x) (sym (ap noted (swap_remove_entry-found own (x ∷ es) i x h)) ∙ e) in
-          noted_none (x ∷ es) (omega (arith, gone, step, left))
+          rest_stay (x ∷ es) i x inside (out (get_or (x ∷ es) i x).0 (ap own (sym key) ∙ at.1)) (sym (ap noted (swap_remove_entry-found own (x ∷ es) i x h)) ∙ e)
 
   module _ (eq : K → K → Bool) (k : K) (v : X) where
     pub stays : (es : List (K × X)) → noted (insert_entry eq es k v) ≡ false → noted es ≡ false
@@ -85,3 +91,9 @@ module _ {K Y X : Type 0} (f : K → Y) (test : Y → Bool) where
         at : (b : Bool) → eq k x.0 ≡ b → noted (insert_entry eq es k v) ≡ true → noted (cond b ((x.0, v) ∷ es) (x ∷ insert_entry eq es k v)) ≡ true
         at true e rest = or_left (test (f x.0)) (noted es) (alike x.0 e)
         at false e rest = or_right (test (f x.0)) (noted (insert_entry eq es k v)) rest
+
+-- what stands at the place of a key
+pub keyed_at : {K X : Type 0} (es : List (K × X)) (i : ℕ) (k : K) → slice_get (map (λ e. e.0) es) i ≡ Some k → (x : X) × (slice_get es i ≡ Some (k, x))
+keyed_at [] i k e = cc
+keyed_at (x ∷ es) zero k e = (x.1, ap (λ k. Some (k, x.1)) (ap (λ o. unwrap_or o x.0) e))
+keyed_at (x ∷ es) (suc i) k e = keyed_at es i k e

@@ -1,5 +1,5 @@
 //! What files and maps are found by.
-ghost use Rattle.std.specs.Prelude.{◌≡◌, ◌+◌, ◌<◌, ◌≤◌, false, length, true, IfNone, IsOk, OnErr, OnOk};
+ghost use Rattle.std.specs.Prelude.{◌≡◌, ◌+◌, ◌<◌, ◌≤◌, false, slice_get, true, IfNone, IsOk, IsTrue, OnErr, OnOk, Some};
 ghost use Rattle.hp_mount_files.specs.Hints.{IsMore, IsMoreBut, has_key, has_name};
 ghost use Rattle.hp_mount_files.specs.Leaving.{IsMoreButMap};
 
@@ -16,8 +16,9 @@ use std::marker::Model;
 /// never trusted; but what was never noted, or was forgotten, is not there. Contracts see for how many maps more there is room.
 #[derive(Drop)]
 pub(crate) struct Hints {
-    alloc: Global,
     files: IndexMap<FileName, FileTag>,
+    // where the name stands that was found last, as one that is forgotten was just found
+    found: Cell<usize>,
     maps: IndexMap<(u64, u64), Cell<MapTag>>,
 }
 
@@ -38,8 +39,8 @@ impl Hints {
     /// Nothing is noted. Takes no memory.
     pub(crate) fn new(alloc: Global) -> Self {
         Hints {
-            alloc,
             files: IndexMap::new(alloc),
+            found: Cell::new(0),
             maps: IndexMap::new(alloc),
         }
     }
@@ -48,8 +49,11 @@ impl Hints {
     pub(crate) fn file(&self, name: &[u8]) -> Option<FileTag>
         ensures { IfNone result (has_name name.now self.now ≡ false) }
     {
-        match self.files.get(NameQuery { name }) {
-            Some(tag) => Some(*tag),
+        match self.files.get_full(NameQuery { name }) {
+            Some((at, _, tag)) => {
+                self.found.set(at);
+                Some(*tag)
+            }
             None => None,
         }
     }
@@ -62,24 +66,37 @@ impl Hints {
     }
 
     /// Notes a file's tag. Refused where memory is, and then nothing changes.
-    pub(crate) fn note_file(&mut self, name: &[u8], tag: FileTag) -> Result<(), AllocError>
-        requires { length name.now ≤ 64 }
+    pub(crate) fn note_file(&mut self, name: FileName, tag: FileTag) -> Result<(), AllocError>
         ensures more { IsMore self.old self.new }
         ensures err { OnErr result (self.new ≡ self.old) }
-        ensures noted { OnOk result (has_name name.now self.new ≡ true) }
+        ensures noted { OnOk result (has_name name self.new ≡ true) }
     {
-        let key = FileName::new(self.alloc, name)?;
-        let Ok(_) = self.files.insert(key, tag) else {
+        let Ok(_) = self.files.insert(name, tag) else {
             return Err(AllocError);
         };
         Ok(())
+    }
+
+    // Whether the name stands at a place.
+    fn is_noted_at(&self, at: usize, name: &[u8]) -> bool
+        ensures { IsTrue result → slice_get self.now.names at ≡ Some name.now }
+    {
+        match self.files.get_index(at) {
+            Some((noted, _)) => noted.as_slice() == name,
+            None => false,
+        }
     }
 
     /// Forgets the file with the name: it is noted no more. No memory is asked for.
     pub(crate) fn forget_file(&mut self, name: &[u8])
         ensures { IsMoreBut name.now self.old self.new }
     {
-        let _tag = self.files.swap_remove(NameQuery { name });
+        let at = self.found.get();
+        if self.is_noted_at(at, name) {
+            let _entry = self.files.swap_remove_index(at);
+        } else {
+            let _tag = self.files.swap_remove(NameQuery { name });
+        }
     }
 
     /// Notes a map's tag. Refused where memory is, and then nothing changes but the room; never where there is room.

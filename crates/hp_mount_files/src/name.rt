@@ -39,6 +39,15 @@ impl FileName {
         Ok(FileName { bytes })
     }
 
+    /// The same name once more. Refused where memory is.
+    #[inline(always)]
+    pub(crate) fn copy(&self, alloc: Global) -> Result<Self, AllocError>
+        ensures { IfOk result (λ copy. copy ≡ self.now) }
+    {
+        let bytes = self.bytes.copy(alloc)?;
+        Ok(FileName { bytes })
+    }
+
     #[inline(always)]
     pub(crate) fn as_slice(&self) -> &[u8]
         ensures name { result.now ≡ self.now }

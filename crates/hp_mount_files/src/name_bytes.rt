@@ -31,6 +31,19 @@ impl NameBytes {
         Ok(NameBytes::Few(count as u8, few))
     }
 
+    /// The same bytes once more. Memory is asked for where they are more than 30.
+    #[inline(always)]
+    pub(crate) fn copy(&self, alloc: Global) -> Result<Self, AllocError>
+        requires { HasRoom self.now }
+        ensures copy { IfOk result (λ copy. bytes_of copy ≡ bytes_of self.now) }
+        ensures room { IfOk result HasRoom }
+    {
+        match self {
+            NameBytes::Few(count, few) => Ok(NameBytes::Few(*count, *few)),
+            NameBytes::Many(many) => Ok(NameBytes::Many(Vec::from_slice(alloc, many)?)),
+        }
+    }
+
     #[inline(always)]
     pub(crate) fn as_slice(&self) -> &[u8]
         requires { HasRoom self.now }
