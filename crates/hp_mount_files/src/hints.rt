@@ -17,7 +17,7 @@ use std::marker::Model;
 #[derive(Drop)]
 pub(crate) struct Hints {
     files: IndexMap<FileName, FileTag>,
-    // where the name stands that was found last, as one that is forgotten was just found
+    // the place of the name that was found last: a name is looked for right before it is forgotten
     found: Cell<usize>,
     maps: IndexMap<(u64, u64), Cell<MapTag>>,
 }
