@@ -26,7 +26,7 @@ module _ (task : ℕ) where
 
   -- ---- a file or files without maps of the task
 
-  pub named_few : (q : ℕ) (f : NumberedFile) → maps_named task q f ≤ maps_of task f
+  named_few : (q : ℕ) (f : NumberedFile) → maps_named task q f ≤ maps_of task f
   named_few q f = sum_by-le-sum_by (λ (m : Mapping ℕ). cond {A = ℕ} (is_map task q m) 1 0) (λ m. cond {A = ℕ} (is_of task m) 1 0) f.maps (λ m. fewer (is_of task m) (m.number == q))
     where
       fewer : (b c : Bool) → cond {A = ℕ} (b && c) 1 0 ≤ cond {A = ℕ} b 1 0
@@ -34,14 +34,14 @@ module _ (task : ℕ) where
       fewer true false = omega arith
       fewer false c = omega arith
 
-  pub named_none : (q : ℕ) (f : NumberedFile) → maps_of task f ≡ 0 → maps_named task q f ≡ 0
+  named_none : (q : ℕ) (f : NumberedFile) → maps_of task f ≡ 0 → maps_named task q f ≡ 0
   named_none q f none = (let few = named_few q f in omega (arith, few, none))
 
   pub noted_bare : (f : NumberedFile) (n : Noted) → maps_of task f ≡ 0 → HasNoted task f n n
   noted_bare f n none = noted_then 0 0 (maps_of task f) (λ q. 0) (λ q. 0) (λ q. maps_named task q f) n n n (noted_none n) (noted_none n) (omega (arith, none)) (λ q. (let bare = named_none q f none in omega (arith, bare)))
 
-  pub noted_all_bare : (fs : List NumberedFile) (n : Noted) → sum_by (maps_of task) fs ≡ 0 → HaveNoted task fs n n
-  noted_all_bare fs n none =
+  pub noted_bare_all : (fs : List NumberedFile) (n : Noted) → sum_by (maps_of task) fs ≡ 0 → HaveNoted task fs n n
+  noted_bare_all fs n none =
       noted_then 0 0 (sum_by (maps_of task) fs) (λ q. 0) (λ q. 0) (λ q. sum_by (maps_named task q) fs) n n n (noted_none n) (noted_none n) (omega (arith, none))
       (λ q. (let few = sum_by-le-sum_by (maps_named task q) (maps_of task) fs (named_few q) in omega (arith, few, none)))
 

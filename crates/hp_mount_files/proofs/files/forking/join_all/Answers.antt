@@ -6,7 +6,7 @@ use Rattle.hp_mount_files.specs.Forking.{HasNoted, HasRoom, HaveNoted, HaveRoom,
 use Rattle.hp_mount_files.specs.Numbered.{numbered_at}
 use Rattle.hp_mount_files.proofs.Cells.{no_file}
 use Rattle.hp_mount_files.proofs.Joining.{last_joined, last_keys, last_none, last_room, last_within, none_joined, rest_none, rest_room}
-use Rattle.hp_mount_files.proofs.Noting.{noted_all_bare, noted_at}
+use Rattle.hp_mount_files.proofs.Noting.{noted_bare_all, noted_at}
 use Rattle.hp_mount_files.proofs.Sharing.{share_as, share_then}
 use Rattle.hp_mount_files.proofs.files.forking.join_all.Goals as goal
 
@@ -17,7 +17,7 @@ loop-list-init g c =
       room = c.requires.room;
       files = search rules;
       none = omega (arith, few, c.requires.none);
-      noted = noted_all_bare c.args.child c.args.files.now.files c.args.hints.now c.requires.none;
+      noted = noted_bare_all c.args.child c.args.files.now.files c.args.hints.now c.requires.none;
       sharing = search rules;
       less = search rules;
       counted = search rules;
@@ -41,16 +41,6 @@ join_at-requires-clause-room g c =
     let room = subst (HaveRoom fs) c.in-Some.ensures.items c.loop-list.invariant.room in
     let long : c.len-at.result ≡ length vs = search rules in
     subst (λ k. HasRoom (numbered_at fs k) v) (sym long) (last_room fs vs v no_file room)
-
-pub join_at-requires-clause-none : goal.join_at-requires-clause-none
-join_at-requires-clause-none g c =
-    let fs = c.loop-list.files.files in
-    let vs = c.pop.new.self.items in
-    let v = c.in-Some.list in
-    let room = subst (HaveRoom fs) c.in-Some.ensures.items c.loop-list.invariant.room in
-    let none = subst (λ ws. sum_by (maps_of c.args.child) (take (length ws) fs) ≡ 0) c.in-Some.ensures.items c.loop-list.invariant.none in
-    let long : c.len-at.result ≡ length vs = search rules in
-    ap (λ k. maps_of c.args.child (numbered_at fs k)) long ∙ last_none c.args.child fs vs v room none
 
 pub join_at-requires-clause-keys : goal.join_at-requires-clause-keys
 join_at-requires-clause-keys g c =
