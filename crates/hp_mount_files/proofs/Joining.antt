@@ -1,5 +1,5 @@
 -- Lists of maps that come behind those of files.
-use Rattle.std.proofs.Common.{◌≡◌, ⊎_elim, ℕ, ◌+◌, ◌<◌, ◌≤◌, ◌++◌, cond, List, [], ◌∷◌, drop, length, take, refl, ap, ◌∙◌, arith}
+use Rattle.std.proofs.Common.{◌≡◌, ⊎_elim, ℕ, zero, suc, ◌+◌, ◌<◌, ◌≤◌, ◌++◌, cond, List, [], ◌∷◌, drop, length, take, refl, sym, ap, subst, ◌∙◌, arith}
 use Rattle.std.specs.Global.{Vec}
 use Rattle.std.specs.Prelude.{slice_index_or, slice_set}
 use Rattle.std.specs.List.{filter, sum_by}
@@ -7,7 +7,7 @@ use Rattle.std.proofs.lemmas.Bool.{cases_lt}
 use Rattle.std.proofs.lemmas.List.{length-append, length-map, nil_from_length, take-set}
 use Rattle.std.proofs.lemmas.List.Sums.{length-filter, sum_by-append, sum_by-cons, sum_by-drop_more, sum_by-set, sum_by_more}
 use Rattle.hp_model.specs.files.Mapping.{Mapping, is_of, map_for}
-use Rattle.hp_mount_files.specs.Forking.{AreReady, children_of, HasRoom, HaveRoom, IsReady, joined, joined_at, maps_of, with_list}
+use Rattle.hp_mount_files.specs.Forking.{AreFilled, AreReady, children_of, HasRoom, HaveRoom, IsReady, joined, joined_at, list_length, maps_of, with_list}
 use Rattle.hp_mount_files.specs.Numbered.{NumberedFile, numbered_at}
 use Rattle.hp_mount_files.proofs.Cells.{no_file}
 use Rattle.hp_mount_files.proofs.Sharing.{sum_end}
@@ -49,6 +49,65 @@ module _ (parent child : ℕ) where
       let long = ap length one.children in
       let count = children_long f in
       omega (arith, step, own, long, count)
+
+  -- ---- lists that are empty still
+
+  pub none_filled : (fs : List NumberedFile) (vs : List (Vec (Mapping ℕ))) → length vs ≤ length fs → sum_by list_length vs ≡ 0 → AreFilled parent child fs vs
+  none_filled [] [] long none = tt
+  none_filled [] (v ∷ vs) long none = absurd (omega (arith, long))
+  none_filled (f ∷ fs) [] long none = tt
+  none_filled (f ∷ fs) (v ∷ vs) long none =
+      let step = sum_by-cons list_length v vs in
+      ((λ some. absurd (omega (arith, step, none, some))), none_filled fs vs (omega (arith, long)) (omega (arith, step, none)))
+
+  pub filled_long : (fs : List NumberedFile) (vs : List (Vec (Mapping ℕ))) → AreFilled parent child fs vs → length vs ≤ length fs
+  filled_long [] [] all = omega arith
+  filled_long [] (v ∷ vs) all = absurd all
+  filled_long (f ∷ fs) [] all = omega arith
+  filled_long (f ∷ fs) (v ∷ vs) all = (let rest = filled_long fs vs all.1 in omega (arith, rest))
+
+  -- a list more is filled
+  pub filled_set : (fs : List NumberedFile) (vs : List (Vec (Mapping ℕ))) (at : ℕ) (f : NumberedFile) (v : Vec (Mapping ℕ)) → at < length vs → f ≡ slice_index_or fs at f → AreFilled parent child fs vs → IsReady parent child f v → AreFilled parent child fs (slice_set vs at v)
+  filled_set [] [] at f v within read all one = absurd (omega (arith, within))
+  filled_set [] (w ∷ vs) at f v within read all one = absurd all
+  filled_set (x ∷ fs) [] at f v within read all one = absurd (omega (arith, within))
+  filled_set (x ∷ fs) (w ∷ vs) zero f v within read all one = ((λ some. subst (λ g. IsReady parent child g v) read one), all.1)
+  filled_set (x ∷ fs) (w ∷ vs) (suc at) f v within read all one = (all.0, filled_set fs vs at f v (omega (arith, within)) read all.1 one)
+
+  own_few : (f : NumberedFile) (v : Vec (Mapping ℕ)) → (0 < length v.items → IsReady parent child f v) → length v.items ≤ maps_of parent f
+  own_few f v ready =
+      ⊎_elim (λ (some : 0 < length v.items). (let own = ap length (ready some).children in let long = children_long f in omega (arith, own, long)))
+      (λ none. omega (arith, none)) (cases_lt 0 (length v.items))
+
+  pub filled_few : (fs : List NumberedFile) (vs : List (Vec (Mapping ℕ))) → AreFilled parent child fs vs → sum_by list_length vs ≤ sum_by (maps_of parent) fs
+  filled_few [] [] all = omega arith
+  filled_few [] (v ∷ vs) all = absurd all
+  filled_few (f ∷ fs) [] all = omega arith
+  filled_few (f ∷ fs) (v ∷ vs) all =
+      let here = own_few f v all.0 in
+      let rest = filled_few fs vs all.1 in
+      omega (arith, here, rest, sum_by-cons (maps_of parent) f fs, sum_by-cons list_length v vs)
+
+  own_ready : (f : NumberedFile) (v : Vec (Mapping ℕ)) → (0 < length v.items → IsReady parent child f v) → maps_of parent f ≤ length v.items → IsReady parent child f v
+  own_ready f v ready most =
+      ⊎_elim (λ (some : 0 < length v.items). ready some)
+      (λ none. (let long = children_long f in record {
+        children = nil_from_length v.items (omega (arith, none)) ∙ sym (nil_from_length (children_of parent child f.maps) (omega (arith, none, most, long)));
+        room = λ some. absurd (omega (arith, none, some));
+      }))
+      (cases_lt 0 (length v.items))
+
+  -- where they have all maps that the child gets, each is its file's
+  pub filled_ready : (fs : List NumberedFile) (vs : List (Vec (Mapping ℕ))) → AreFilled parent child fs vs → sum_by (maps_of parent) fs ≤ sum_by list_length vs → AreReady parent child fs vs
+  filled_ready [] [] all most = tt
+  filled_ready [] (v ∷ vs) all most = absurd all
+  filled_ready (f ∷ fs) [] all most = ready_none (f ∷ fs) (omega (arith, most))
+  filled_ready (f ∷ fs) (v ∷ vs) all most =
+      let here = own_few f v all.0 in
+      let rest = filled_few fs vs all.1 in
+      let files = sum_by-cons (maps_of parent) f fs in
+      let lists = sum_by-cons list_length v vs in
+      (own_ready f v all.0 (omega (arith, most, rest, files, lists)), filled_ready fs vs all.1 (omega (arith, most, here, files, lists)))
 
 -- ---- the last list
 

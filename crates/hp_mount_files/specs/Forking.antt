@@ -74,6 +74,17 @@ AreReady parent child [] (v ∷ vs) = ⊥
 AreReady parent child (f ∷ fs) [] = (children_of parent child f.maps ≡ []) × AreReady parent child fs []
 AreReady parent child (f ∷ fs) (v ∷ vs) = IsReady parent child f v × AreReady parent child fs vs
 
+-- a list that has maps is its file's
+abbrev pub AreFilled : (parent child : ℕ) → List NumberedFile → List (Vec (Mapping ℕ)) → Type 0
+AreFilled parent child [] [] = Unit {0}
+AreFilled parent child [] (v ∷ vs) = ⊥
+AreFilled parent child (f ∷ fs) [] = Unit {0}
+AreFilled parent child (f ∷ fs) (v ∷ vs) = (0 < length v.items → IsReady parent child f v) × AreFilled parent child fs vs
+
+-- how many maps a list has
+abbrev pub list_length : Vec (Mapping ℕ) → ℕ
+list_length list = length list.items
+
 -- at how many places of lists a number stands, and how many copies they have
 abbrev pub in_list : ℕ → Vec (Mapping ℕ) → ℕ
 in_list n list = sum_by (in_map n) list.items

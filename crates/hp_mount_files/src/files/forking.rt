@@ -3,7 +3,7 @@ ghost use Rattle.std.specs.Prelude.{◌≡◌, ◌^◌, ◌+◌, ◌-◌, ◌<�
 ghost use Rattle.std.specs.List.{count_by, filter, sum_by};
 ghost use Rattle.hp_store.specs.Store.{holders_of, page_at};
 ghost use Rattle.hp_mount_files.specs.Dropping.{HasHolders, IsLeft};
-ghost use Rattle.hp_mount_files.specs.Forking.{AreReady, HasNoted, HasRoom, HaveJoined, HaveNoted, HaveRoom, IsSharing, in_list, in_lists, joined, joined_at, list_copies, maps_of, with_list};
+ghost use Rattle.hp_mount_files.specs.Forking.{AreFilled, AreReady, HasNoted, HasRoom, HaveJoined, HaveNoted, HaveRoom, IsSharing, in_list, in_lists, joined, joined_at, list_copies, list_length, maps_of, with_list};
 ghost use Rattle.hp_mount_files.specs.Held.{more_in};
 ghost use Rattle.hp_mount_files.specs.Leaving.{is_used};
 ghost use Rattle.hp_mount_files.specs.Numbered.{numbered_at};
@@ -25,9 +25,61 @@ use hp_model::naming::Naming;
 use hp_store::PageStore;
 use std::alloc::{AllocError, Global};
 
-// The maps that a child gets of each file for those of a parent, which are so many: a list for each of the files up to the
-// last that has any. No file behind it is looked at.
-fn children(
+// A mount has no more maps, so no map has a greater number.
+const MOST_MAPS: u64 = 4096;
+
+// So many empty lists.
+fn empty_lists(alloc: Global, count: usize) -> Result<Vec<Vec<Mapping>>, AllocError>
+    ensures long { IfOk result (λ lists. length lists.items ≡ count) }
+    ensures empty { IfOk result (λ lists. sum_by list_length lists.items ≡ 0) }
+{
+    let mut lists = Vec::with_capacity(alloc, count)?;
+    while lists.len() < count {
+        lists.push_reserved(Vec::new(alloc));
+    }
+    Ok(lists)
+}
+
+// Where the file with the task's map of that number stands, as far as the table of hints tells, or how many files there are.
+fn hinted_at(task: u64, number: u64, files: &FileList, hints: &Hints) -> usize {
+    let Some(hint) = hints.map(task, number) else {
+        return files.len();
+    };
+    let tag = hint.get();
+    if files.is_tagged(tag.at.file, tag.file) {
+        return tag.at.file;
+    }
+    files.tagged_near(tag.at.file, tag.file)
+}
+
+// The list of the file at a place, where there is one that is empty still, gets the maps that a child gets for a parent's.
+// Answers how many.
+fn fill_at(
+    at: usize,
+    files: &FileList,
+    alloc: Global,
+    tags: &mut Tags,
+    parent: u64,
+    child: u64,
+    lists: &mut Vec<Vec<Mapping>>,
+) -> Result<u64, AllocError>
+    requires { AreFilled parent child files.now.files lists.old.items }
+    ensures filled { OnOk result (AreFilled parent child files.now.files lists.new.items) }
+    ensures count { IfOk result (λ count.
+        sum_by list_length lists.new.items ≡ sum_by list_length lists.old.items + count) }
+{
+    if at >= lists.len() || !lists[at].is_empty() {
+        return Ok(0);
+    }
+    let list = files[at].children(alloc, tags, parent, child)?;
+    let count = list.len() as u64;
+    lists[at] = list;
+    Ok(count)
+}
+
+// The maps that a child gets of each file for those of a parent, which are so many, found by going over the files: a list for
+// each of them up to the last that has any.
+fn children_among_all(
     files: &FileList,
     alloc: Global,
     tags: &mut Tags,
@@ -45,6 +97,34 @@ fn children(
         let list = files[at].children(alloc, tags, parent, child)?;
         left -= list.len() as u64;
         lists.push_reserved(list);
+    }
+    Ok(lists)
+}
+
+// The maps that a child gets of each file for those of a parent, which are so many: a list for each file, or none where there
+// are none. The files are found by the numbers of the parent's maps, so that no other file is looked at.
+fn children(
+    files: &FileList,
+    hints: &Hints,
+    alloc: Global,
+    tags: &mut Tags,
+    parent: u64,
+    child: u64,
+    count: u64,
+) -> Result<Vec<Vec<Mapping>>, AllocError>
+    requires { count ≡ sum_by (maps_of parent) files.now.files }
+    ensures { IfOk result (λ lists. AreReady parent child files.now.files lists.items) }
+{
+    let mut lists = empty_lists(alloc, if count > 0 { files.len() } else { 0 })?;
+    let mut left = count;
+    let mut number: u64 = 1;
+    while left > 0 && number <= MOST_MAPS {
+        let at = hinted_at(parent, number, files, hints);
+        left -= fill_at(at, files, alloc, tags, parent, child, &mut lists)?;
+        number += 1;
+    }
+    if left > 0 {
+        return children_among_all(files, alloc, tags, parent, child, count);
     }
     Ok(lists)
 }
@@ -165,7 +245,15 @@ impl<N: Naming> Files<N> {
         ensures more { OnErr result (self.old.room ≤ self.new.room) }
     {
         let count = self.counts.count(parent);
-        let lists = children(&self.list, self.alloc, &mut self.tags, parent, child, count)?;
+        let lists = children(
+            &self.list,
+            &self.hints,
+            self.alloc,
+            &mut self.tags,
+            parent,
+            child,
+            count,
+        )?;
         self.hints.reserve(count)?;
         self.counts.make_room()?;
         let room = room_for(held, self.more, &lists);
