@@ -102,7 +102,7 @@ fn children_among_all(
 }
 
 // The maps that a child gets of each file for those of a parent, which are so many: a list for each file, or none where there
-// are none. The files are found by the numbers of the parent's maps, so that no other file is looked at.
+// are none. The files are found by the numbers of the parent's maps, and no other is looked at unless some are not found so.
 fn children(
     files: &FileList,
     hints: &Hints,
@@ -117,7 +117,7 @@ fn children(
 {
     let mut lists = empty_lists(alloc, if count > 0 { files.len() } else { 0 })?;
     let mut left = count;
-    let mut number: u64 = 1;
+    let mut number = 1;
     while left > 0 && number <= MOST_MAPS {
         let at = hinted_at(parent, number, files, hints);
         left -= fill_at(at, files, alloc, tags, parent, child, &mut lists)?;
