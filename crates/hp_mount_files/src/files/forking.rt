@@ -14,7 +14,7 @@ ghost use Rattle.hp_model.specs.files.Mapping.{is_of};
 ghost use Rattle.hp_model.specs.files.MountCounts.{file_reserves};
 
 use super::Files;
-use super::leaving::drop_some_maps_of;
+use super::leaving::{MOST_MAPS, drop_some_maps_of};
 use crate::file_list::FileList;
 use crate::file_tag::FileTag;
 use crate::forking::copies_of;
@@ -24,9 +24,6 @@ use hp_mapping::Mapping;
 use hp_model::naming::Naming;
 use hp_store::PageStore;
 use std::alloc::{AllocError, Global};
-
-// A mount has no more maps, so no map has a greater number.
-const MOST_MAPS: u64 = 4096;
 
 // So many empty lists.
 fn empty_lists(alloc: Global, count: usize) -> Result<Vec<Vec<Mapping>>, AllocError>
@@ -231,7 +228,7 @@ impl<N: Naming> Files<N> {
     /// is room for `held` pages, beside those for copies that several maps hold.
     ///
     /// Refused where memory is, before anything else changes but the room. It takes a step for each place of the parent's
-    /// maps, and for each file and map.
+    /// maps, for each map of their files, and for each file; but a file without any of them is not looked at.
     pub fn fork(&mut self, parent: u64, child: u64, held: u64) -> Result<u64, AllocError>
         requires apart { (parent == child) ≡ false }
         requires few { sum_by file_reserves self.old.files < 2 ^ 64 }

@@ -19,7 +19,7 @@ use hp_model::naming::Naming;
 use hp_store::PageStore;
 
 // A mount has no more maps, so no map has a greater number.
-const MOST_MAPS: u64 = 4096;
+pub(super) const MOST_MAPS: u64 = 4096;
 
 // All maps of a task go from each of some files. A file that is left without name and maps loses its pages and entries.
 pub(super) fn drop_maps_of<N: Naming>(
