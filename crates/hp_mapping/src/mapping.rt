@@ -171,14 +171,17 @@ impl Mapping {
     pub fn is_live(&self, i: u64) -> bool
         ensures { result ≡ is_live (place_at self.now i) }
     {
-        i >= self.start && self.places.is_live(self.offset(i))
+        i >= self.start && self.places.is_live((i - self.start) as usize)
     }
 
     /// Whether the map holds a reservation at the file's index.
     pub fn has_reserve(&self, i: u64) -> bool
         ensures { result ≡ has_reserve self.now i }
     {
-        i >= self.start && self.flags.is_owner() && self.places.is_unconsumed(self.offset(i))
+        if i < self.start || !self.flags.is_owner() {
+            return false;
+        }
+        self.places.is_unconsumed((i - self.start) as usize)
     }
 
     /// The copy at the file's index.

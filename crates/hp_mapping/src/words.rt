@@ -131,7 +131,7 @@ impl Words {
     }
 }
 
-// So many words alike. Most maps have one.
+// So many words alike. One stands in its place.
 #[inline(always)]
 fn filled(alloc: Global, word: u64, count: usize) -> Result<SmallVec<u64, 1>, AllocError>
     ensures { IfOk result (λ words. words.items ≡ replicate count word) }

@@ -7,6 +7,7 @@ use crate::file_tag::FileTag;
 use crate::map_tag::MapTag;
 use crate::name::FileName;
 use crate::name_query::NameQuery;
+use crate::tagged::Tagged;
 use indexmap::IndexMap;
 use std::alloc::{AllocError, Global};
 use std::cell::Cell;
@@ -19,7 +20,7 @@ pub(crate) struct Hints {
     files: IndexMap<FileName, FileTag>,
     // the place of the name that was found last: a name is looked for right before it is forgotten
     found: Cell<usize>,
-    maps: IndexMap<(u64, u64), Cell<MapTag>>,
+    maps: IndexMap<Tagged<(u64, u64)>, ()>,
 }
 
 impl Model for Hints {
@@ -62,7 +63,11 @@ impl Hints {
     pub(crate) fn map(&self, task: u64, number: u64) -> Option<&Cell<MapTag>>
         ensures { IfNone result (has_key task number self.now ≡ false) }
     {
-        self.maps.get(&(task, number))
+        let key = Tagged::new((task, number), MapTag::NONE);
+        match self.maps.get_key_value(&key) {
+            Some((found, _)) => Some(found.tag()),
+            None => None,
+        }
     }
 
     /// Notes a file's tag. Refused where memory is, and then nothing changes.
@@ -99,6 +104,13 @@ impl Hints {
         }
     }
 
+    // Sets a map's tag, which may have been noted before.
+    fn set_tag(&self, at: usize, tag: MapTag) {
+        if let Some((noted, _)) = self.maps.get_index(at) {
+            noted.tag().set(tag);
+        }
+    }
+
     /// Notes a map's tag. Refused where memory is, and then nothing changes but the room; never where there is room.
     pub(crate) fn note_map(&mut self, task: u64, number: u64, tag: MapTag) -> Result<(), AllocError>
         ensures more { IsMore self.old self.new }
@@ -107,9 +119,11 @@ impl Hints {
         ensures succeeds { 0 < self.old.room → IsOk result }
         ensures room { self.old.room ≤ self.new.room + 1 }
     {
-        let Ok(_) = self.maps.insert((task, number), Cell::new(tag)) else {
+        let key = Tagged::new((task, number), tag);
+        let Ok((at, _)) = self.maps.insert_full(key, ()) else {
             return Err(AllocError);
         };
+        self.set_tag(at, tag);
         Ok(())
     }
 
@@ -117,7 +131,8 @@ impl Hints {
     pub(crate) fn forget_map(&mut self, task: u64, number: u64)
         ensures { IsMoreButMap task number self.old self.new }
     {
-        let _tag = self.maps.swap_remove(&(task, number));
+        let key = Tagged::new((task, number), MapTag::NONE);
+        let _noted = self.maps.swap_remove(&key);
     }
 
     /// Makes room for so many maps more. Refused where memory is.

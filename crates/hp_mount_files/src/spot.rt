@@ -1,5 +1,5 @@
 //! Where a file lies, with its tag.
-ghost use Rattle.std.specs.Prelude.{◌≡◌};
+ghost use Rattle.std.specs.Prelude.{◌≡◌, ◌%◌};
 
 use std::marker::Model;
 
@@ -8,6 +8,23 @@ const PLACES: u64 = 65_536;
 
 // So many tags fit above it.
 const TAGS: u64 = 1 << 48;
+
+/// A tag's last 48 bits above a number's last 16.
+pub(crate) fn word_of(tag: u64, number: u64) -> u64
+    ensures { result % 65536 ≡ number % 65536 }
+{
+    tag % TAGS * PLACES + number % PLACES
+}
+
+pub(crate) fn number_in(word: u64) -> u16
+    ensures { result ≡ word % 65536 }
+{
+    (word % PLACES) as u16
+}
+
+pub(crate) fn tag_in(word: u64) -> u64 {
+    word / PLACES
+}
 
 /// The number of the place where a file lies, of 16 bits, and above it 48 bits of the file's tag, in one word. Contracts see the
 /// number.
@@ -29,17 +46,17 @@ impl Spot {
         ensures { result ≡ number }
     {
         Spot {
-            word: tag % TAGS * PLACES + number as u64,
+            word: word_of(tag, number as u64),
         }
     }
 
     pub(crate) fn number(&self) -> u16
         ensures { result ≡ self.now }
     {
-        (self.word % PLACES) as u16
+        number_in(self.word)
     }
 
     pub(crate) fn tag(&self) -> u64 {
-        self.word / PLACES
+        tag_in(self.word)
     }
 }

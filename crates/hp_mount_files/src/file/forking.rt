@@ -64,11 +64,8 @@ impl File {
     {
         for (map, mapping) in self.maps.iter().enumerate() {
             if mapping.task() == task {
-                let tag = MapTag {
-                    at: MapPlace { file: file.at, map },
-                    file: file.tag,
-                    map: mapping.tag(),
-                };
+                let at = MapPlace { file: file.at, map };
+                let tag = MapTag::new(at, file.tag, mapping.tag());
                 hints.note_map(task, mapping.number(), tag).unwrap();
             }
         }

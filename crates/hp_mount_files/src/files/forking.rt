@@ -43,10 +43,11 @@ fn hinted_at(task: u64, number: u64, files: &FileList, hints: &Hints) -> usize {
         return files.len();
     };
     let tag = hint.get();
-    if files.is_tagged(tag.at.file, tag.file) {
-        return tag.at.file;
+    let at = tag.place().file;
+    if files.is_tagged(at, tag.file()) {
+        return at;
     }
-    files.tagged_near(tag.at.file, tag.file)
+    files.tagged_near(at, tag.file())
 }
 
 // The list of the file at a place, where there is one that is empty still, gets the maps that a child gets for a parent's.

@@ -1,4 +1,4 @@
-use Rattle.std.proofs.Common.{◌≡◌, [], ℕ, true, false, subst, arith}
+use Rattle.std.proofs.Common.{◌≡◌, [], ℕ, true, false, subst, sym, arith}
 use Rattle.std.proofs.lemmas.Bool.Decides.{nat_tests}
 use Rattle.indexmap.specs.IndexMap.{spare}
 use Rattle.hp_mount_files.specs.Hints.{Noted, has_key, is_pair, keys_of, names_of}
@@ -12,13 +12,13 @@ not_both t n task number k apart own = grind (arith, nat_tests, apart, own)
 
 pub returns : goal.returns
 returns c =
-    let new = c.swap_remove-tag.new.self.entries in
+    let new = c.swap_remove-noted.new.self.entries in
     let files = c.self.inside.files.entries in
-    subst (λ (n : Noted). IsMoreButMap c.args.task c.args.number n (record { names = names_of files; keys = keys_of new; room = spare c.swap_remove-tag.new.self })) c.self.view_is
+    subst (λ (n : Noted). IsMoreButMap c.args.task c.args.number n (record { names = names_of files; keys = keys_of new; room = spare c.swap_remove-noted.new.self })) c.self.view_is
     (record {
       names = λ name e. e;
       keys = λ t n apart e.
-          others_stay (λ (k : ℕ × ℕ). k) (is_pair t n) _ (λ k own. not_both t n c.args.task c.args.number k apart own) c.self.inside.maps.entries
-          (subst (λ es. has_key t n (record { names = []; keys = keys_of es; room = 0 }) ≡ false) c.swap_remove-tag.ensures.entries e);
-      room = c.swap_remove-tag.ensures.room.0;
+          others_stay (λ (k : ℕ × ℕ). k) (is_pair t n) _ (λ k own. not_both t n c.new-key.result.0 c.new-key.result.1 k (subst (λ q. is_pair t n q ≡ false) (sym c.new-key.ensures) apart) own) c.self.inside.maps.entries
+          (subst (λ es. has_key t n (record { names = []; keys = keys_of es; room = 0 }) ≡ false) c.swap_remove-noted.ensures.entries e);
+      room = c.swap_remove-noted.ensures.room.0;
     })
