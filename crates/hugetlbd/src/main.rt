@@ -6,9 +6,8 @@ mod program;
 mod settings;
 
 use settings::Wrong;
-use std::alloc::Global;
+use std::alloc::{AllocError, Global};
 use std::env::{self, Env};
-use std::alloc::AllocError;
 use std::io::{self, ErrorKind, Write};
 use std::process::ExitCode;
 
@@ -39,15 +38,15 @@ fn main(rt: HostRuntime) -> ExitCode {
     ExitCode::from(status)
 }
 
-// So many bytes of memory that are asked for and given back at once, before any other.
-const FIRST: usize = 512 * 1024;
+// The bytes of a block that is asked for and given back before any other.
+const FIRST_BLOCK: usize = 512 * 1024;
 
-// The C library's malloc gives memory that is free at the end of its heap back to the system where that is more than 128 KB, or
-// twice as much as the largest block that it had mapped by itself and was given back. A map of 60,000 pages that comes and goes
-// takes nearly as much, so each would be given back and asked for again.
+// The C library's malloc hands the end of its heap back to the system when more than 128 KB of it are free; but once a block that
+// it had mapped by itself was given back, when twice that block's size is. One that nobody writes to has it keep 1 MB, so that
+// two maps of 60,000 pages that come and go find their memory where it was.
 #[inline(never)]
 fn keep_freed_memory(alloc: Global) {
-    let _first: Result<Vec<u8>, AllocError> = Vec::with_capacity(alloc, FIRST);
+    let _block: Result<Vec<u8>, AllocError> = Vec::with_capacity(alloc, FIRST_BLOCK);
 }
 
 // The words of the process, the first of which is the program's name.
