@@ -11,8 +11,11 @@ use std::marker::Model;
 use std::mem;
 use std::ops::{Index, IndexMut};
 
-// A file is looked for at so many places, from the one where it stood down, before it is searched for.
+// A file is looked for at so many places, from the one where it stood down, and searched for in so many below these, before it
+// is searched for in all.
 const NEAR: usize = 16;
+
+const FAR: usize = 64;
 
 /// Files in order of creation. Each lies in a place that it keeps, so where a file goes, the words that say where the others lie
 /// close up, and no other file is moved. A file that was made later has a greater tag, so that it is found by a binary search.
@@ -123,7 +126,21 @@ impl FileList {
                 return near;
             }
         }
-        self.tagged(tag)
+        let near = end.saturating_sub(NEAR);
+        let far = near.saturating_sub(FAR);
+        if self.is_up_to(far, tag) {
+            far + self.order[far..near].partition_point(|spot| spot.tag() < tag)
+        } else {
+            self.tagged(tag)
+        }
+    }
+
+    // Whether there is a file at a place, whose tag is this one or less.
+    fn is_up_to(&self, at: usize, tag: u64) -> bool {
+        match self.order.get(at) {
+            Some(spot) => spot.tag() <= tag,
+            None => false,
+        }
     }
 
     /// Takes a file out, and those behind it move down.

@@ -11,16 +11,17 @@ use crate::tagged::Tagged;
 use indexmap::IndexMap;
 use std::alloc::{AllocError, Global};
 use std::cell::Cell;
+use std::hash::Hash;
 use std::marker::Model;
 
 /// Where each file stood, with its tag, by its name, and each map by its task and number. What is found so is looked at, and
 /// never trusted; but what was never noted, or was forgotten, is not there. Contracts see for how many maps more there is room.
 #[derive(Drop)]
 pub(crate) struct Hints {
-    files: IndexMap<FileName, FileTag>,
+    files: IndexMap<Tagged<FileName, FileTag>, ()>,
     // the place of the name that was found last: a name is looked for right before it is forgotten
     found: Cell<usize>,
-    maps: IndexMap<Tagged<(u64, u64)>, ()>,
+    maps: IndexMap<Tagged<(u64, u64), MapTag>, ()>,
 }
 
 impl Model for Hints {
@@ -36,6 +37,13 @@ impl Model for Hints {
     } };
 }
 
+// Sets the tag of the key at a place of a table, which may have stood there before with another.
+fn set_tag<K: Eq + Hash, T: Copy>(table: &IndexMap<Tagged<K, T>, ()>, at: usize, tag: T) {
+    if let Some((noted, _)) = table.get_index(at) {
+        noted.tag().set(tag);
+    }
+}
+
 impl Hints {
     /// Nothing is noted. Takes no memory.
     pub(crate) fn new(alloc: Global) -> Self {
@@ -46,14 +54,15 @@ impl Hints {
         }
     }
 
-    /// The tag of the file with the name, if it was noted. No memory is asked for.
-    pub(crate) fn file(&self, name: &[u8]) -> Option<FileTag>
+    /// The tag of the file with the name, if it was noted. Whoever finds the file elsewhere may set it right. No memory is asked
+    /// for.
+    pub(crate) fn file(&self, name: &[u8]) -> Option<&Cell<FileTag>>
         ensures { IfNone result (has_name name.now self.now ≡ false) }
     {
         match self.files.get_full(NameQuery { name }) {
-            Some((at, _, tag)) => {
+            Some((at, noted, _)) => {
                 self.found.set(at);
-                Some(*tag)
+                Some(noted.tag())
             }
             None => None,
         }
@@ -65,7 +74,7 @@ impl Hints {
     {
         let key = Tagged::new((task, number), MapTag::NONE);
         match self.maps.get_key_value(&key) {
-            Some((found, _)) => Some(found.tag()),
+            Some((noted, _)) => Some(noted.tag()),
             None => None,
         }
     }
@@ -76,9 +85,11 @@ impl Hints {
         ensures err { OnErr result (self.new ≡ self.old) }
         ensures noted { OnOk result (has_name name self.new ≡ true) }
     {
-        let Ok(_) = self.files.insert(name, tag) else {
+        let key = Tagged::new(name, tag);
+        let Ok((at, _)) = self.files.insert_full(key, ()) else {
             return Err(AllocError);
         };
+        set_tag(&self.files, at, tag);
         Ok(())
     }
 
@@ -87,7 +98,7 @@ impl Hints {
         ensures { IsTrue result → slice_get self.now.names at ≡ Some name.now }
     {
         match self.files.get_index(at) {
-            Some((noted, _)) => noted.as_slice() == name,
+            Some((noted, _)) => noted.key().as_slice() == name,
             None => false,
         }
     }
@@ -100,14 +111,7 @@ impl Hints {
         if self.is_noted_at(at, name) {
             let _entry = self.files.swap_remove_index(at);
         } else {
-            let _tag = self.files.swap_remove(NameQuery { name });
-        }
-    }
-
-    // Sets a map's tag, which may have been noted before.
-    fn set_tag(&self, at: usize, tag: MapTag) {
-        if let Some((noted, _)) = self.maps.get_index(at) {
-            noted.tag().set(tag);
+            let _noted = self.files.swap_remove(NameQuery { name });
         }
     }
 
@@ -123,7 +127,7 @@ impl Hints {
         let Ok((at, _)) = self.maps.insert_full(key, ()) else {
             return Err(AllocError);
         };
-        self.set_tag(at, tag);
+        set_tag(&self.maps, at, tag);
         Ok(())
     }
 

@@ -5,6 +5,7 @@ ghost use Rattle.std.specs.Cmp.Rules.{hashing};
 ghost use Rattle.std.proofs.Common.{ap, rules};
 
 use crate::name::FileName;
+use crate::tagged::Tagged;
 use indexmap::Equivalent;
 use std::hash::{Hash, Hasher};
 
@@ -24,14 +25,14 @@ impl<'a> Hash for NameQuery<'a> {
     }
 }
 
-impl<'a> Equivalent<FileName> for NameQuery<'a> {
+impl<'a, T> Equivalent<Tagged<FileName, T>> for NameQuery<'a> {
     ghost equivalent = { λ q k. pointwise nat_eq q.name.now k };
 
     ghost respects_hash = { λ q k h. ap (λ b. b ∷ []) ((bytes_decides q.name.now k).0 h) };
 
     ghost respects_eq = { λ q x y. nat_list_eq_equiv.congr q.name.now x y };
 
-    fn equivalent(&self, key: &FileName) -> bool {
-        self.name == key.as_slice()
+    fn equivalent(&self, noted: &Tagged<FileName, T>) -> bool {
+        self.name == noted.key().as_slice()
     }
 }

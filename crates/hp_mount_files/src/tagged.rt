@@ -1,7 +1,6 @@
 //! A key with its tag.
 ghost use Rattle.std.specs.Prelude.{◌≡◌};
 
-use crate::map_tag::MapTag;
 use std::cell::Cell;
 use std::hash::{Hash, Hasher};
 use std::marker::Model;
@@ -9,19 +8,19 @@ use std::marker::Model;
 /// A key of a table, and beside it, so that both are read at once, a tag that may be set anew. It is found by the key alone, and
 /// contracts see that alone.
 #[derive(Drop)]
-pub(crate) struct Tagged<K> {
+pub(crate) struct Tagged<K, T> {
     key: K,
-    tag: Cell<MapTag>,
+    tag: Cell<T>,
 }
 
-impl<K> Model for Tagged<K> {
+impl<K, T> Model for Tagged<K, T> {
     ghost Value = { K };
 
     ghost view = { λ t. t.key };
 }
 
-impl<K> Tagged<K> {
-    pub(crate) fn new(key: K, tag: MapTag) -> Self
+impl<K, T> Tagged<K, T> {
+    pub(crate) fn new(key: K, tag: T) -> Self
         ensures { result ≡ key }
     {
         Tagged {
@@ -30,12 +29,18 @@ impl<K> Tagged<K> {
         }
     }
 
-    pub(crate) fn tag(&self) -> &Cell<MapTag> {
+    pub(crate) fn key(&self) -> &K
+        ensures { result.now ≡ self.now }
+    {
+        &self.key
+    }
+
+    pub(crate) fn tag(&self) -> &Cell<T> {
         &self.tag
     }
 }
 
-impl<K: PartialEq> PartialEq for Tagged<K> {
+impl<K: PartialEq, T> PartialEq for Tagged<K, T> {
     ghost eq = { K.eq };
 
     ghost laws = { K.laws };
@@ -45,11 +50,11 @@ impl<K: PartialEq> PartialEq for Tagged<K> {
     }
 }
 
-impl<K: Eq> Eq for Tagged<K> {
+impl<K: Eq, T> Eq for Tagged<K, T> {
     ghost laws = { K.Eq.laws };
 }
 
-impl<K: Hash> Hash for Tagged<K> {
+impl<K: Hash, T> Hash for Tagged<K, T> {
     ghost hash_input = { K.hash_input };
 
     ghost respects_eq = { K.respects_eq };

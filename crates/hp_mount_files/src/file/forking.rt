@@ -64,8 +64,11 @@ impl File {
     {
         for (map, mapping) in self.maps.iter().enumerate() {
             if mapping.task() == task {
-                let at = MapPlace { file: file.at, map };
-                let tag = MapTag::new(at, file.tag, mapping.tag());
+                let at = MapPlace {
+                    file: file.at(),
+                    map,
+                };
+                let tag = MapTag::new(at, file.tag(), mapping.tag());
                 hints.note_map(task, mapping.number(), tag).unwrap();
             }
         }

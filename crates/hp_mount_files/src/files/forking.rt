@@ -177,7 +177,7 @@ fn join_at<N: Naming>(
     }
     files[at].join(list, store, more);
     let tag = files.tag(at);
-    files[at].note_maps(child, FileTag { at, tag }, hints);
+    files[at].note_maps(child, FileTag::new(at, tag), hints);
 }
 
 // Each file gets the maps of its list, and each of their copies has a holder more. Where they stand is noted, and their

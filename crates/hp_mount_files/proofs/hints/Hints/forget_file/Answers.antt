@@ -1,10 +1,10 @@
 use Rattle.std.proofs.Common.{rules, ◌≡◌, [], Bool, true, false, None, Some, IfSome, slice_get, refl, ap, subst, sym, ◌∙◌, List, ℕ}
+use Rattle.std.specs.Bool.{⊤}
 use Rattle.std.specs.Str.{bytes_eq}
 use Rattle.std.proofs.lemmas.Slice.Eq.{bytes_eq-Decides}
 use Rattle.std.specs.List.{swap_remove}
 use Rattle.std.proofs.lemmas.Option.{get_or_from_slice_get, slice_get_within}
 use Rattle.indexmap.specs.IndexMap.{Updates, spare}
-use Rattle.hp_mount_files.specs.declared.file_tag.FileTag.{FileTag}
 use Rattle.hp_mount_files.specs.Hints.{IsMoreBut, Noted, has_name, keys_of, names_of}
 use Rattle.hp_mount_files.proofs.Hinted.{keyed_at, not_found, others_stay, rest_stay}
 use Rattle.hp_mount_files.proofs.hints.Hints.forget_file.Goals as goal
@@ -27,7 +27,7 @@ returns-then-is_noted_at c =
     let name = c.args.name.now in
     let at = c.get-at.result in
     let noted = keyed_at old at name (subst (λ (n : Noted). slice_get n.names at ≡ Some name) (sym c.self.view_is) (c.is_noted_at.ensures c.if-is_noted_at.true)) in
-    let entry : List ℕ × FileTag = (name, noted.0) in
+    let entry : List ℕ × ⊤ = (name, noted.0) in
     let is = c.swap_remove_index-entry.ensures.entry ∙ noted.1 in
     let gone = subst (λ o. IfSome o (λ p. Updates bytes_eq c.self.inside.files c.swap_remove_index-entry.new.self p.0 None)) is c.swap_remove_index-entry.ensures.updates in
     let left = subst (λ o. IfSome o (λ p. new ≡ swap_remove old at p)) is c.swap_remove_index-entry.ensures.entries in
@@ -46,12 +46,12 @@ returns-then-is_noted_at c =
 
 pub returns-else-is_noted_at : goal.returns-else-is_noted_at
 returns-else-is_noted_at c =
-    let new = c.swap_remove-tag.new.self.entries in
+    let new = c.swap_remove-noted.new.self.entries in
     subst (λ (n : Noted). IsMoreBut c.args.name.now n (record { names = names_of new; keys = keys_of c.self.inside.maps.entries; room = spare c.self.inside.maps })) c.self.view_is
     (record {
-      gone = not_found (λ (k : List ℕ). k) (bytes_eq c.args.name.now) _ (λ k. refl) new c.swap_remove-tag.ensures.updates.1;
+      gone = not_found (λ (k : List ℕ). k) (bytes_eq c.args.name.now) _ (λ k. refl) new c.swap_remove-noted.ensures.updates.1;
       names = λ other apart e.
           others_stay (λ (k : List ℕ). k) (bytes_eq other) _ (λ k own. not_both c.args.name.now other k apart own) c.self.inside.files.entries
-          (subst (λ es. has_name other (record { names = names_of es; keys = []; room = 0 }) ≡ false) c.swap_remove-tag.ensures.entries e);
+          (subst (λ es. has_name other (record { names = names_of es; keys = []; room = 0 }) ≡ false) c.swap_remove-noted.ensures.entries e);
       keys = λ task number e. e;
     })
