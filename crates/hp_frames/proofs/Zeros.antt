@@ -1,6 +1,6 @@
 -- Bytes that are zeros from a place on.
 use Rattle.std.proofs.Common.{◌≡◌, ℕ, ◌+◌, ◌-◌, ◌≤◌, ◌++◌, List, arith, ap, drop, length, sym, take, ◌∙◌}
-use Rattle.std.proofs.lemmas.List.{drop-drop, drop-replicate, length-append, length-drop, length-take}
+use Rattle.std.proofs.lemmas.List.{drop-drop, drop-replicate, length-append, length-drop, length-take, take-replicate}
 use Rattle.std.proofs.lemmas.Slice.{drop-put_mid}
 use borrow.Rule.Slice.PartMut.{put_mid}
 use Rattle.hp_model.specs.files.Page.{zeros}
@@ -16,6 +16,10 @@ zeros_behind xs a b le z =
 
     rest : length xs - a - (b - a) ≡ length xs - b
     rest = omega (arith, le)
+
+-- a part behind it is zeros
+pub zeros_part : (xs : List ℕ) (a b k : ℕ) → AreZerosFrom a xs → a ≤ b → b + k ≤ length xs → take k (drop b xs) ≡ zeros k
+zeros_part xs a b k z le within = ap (take k) (zeros_behind xs a b le z) ∙ take-replicate k (length xs - b) 0 (omega (arith, within))
 
 -- where others are written over a part of them, they are from that part's end on
 pub zeros_overwritten : (xs ys : List ℕ) (a k written n : ℕ) → length ys ≡ k → a + k ≤ length xs → a + k ≤ n → written ≤ n → AreZerosFrom written xs → AreZerosFrom n (put_mid a k xs ys)

@@ -117,6 +117,19 @@ impl Frame {
         self.written = other.written;
     }
 
+    /// The bytes from an offset on fill a room. Where all of them are known to be zeros, none is read.
+    #[tactic(auto, using(crate::proofs::Zeros::zeros_part))]
+    pub fn copy_to(&self, offset: usize, room: &mut [u8])
+        requires { offset + length room.old ≤ length self.now.bytes }
+        ensures { room.new ≡ take (length room.old) (drop offset self.now.bytes) }
+    {
+        if offset < self.written {
+            room.copy_from_slice(&self.bytes[offset..offset + room.len()]);
+        } else {
+            room.fill(0);
+        }
+    }
+
     /// Zeros in place of all bytes. Bytes that are known to be zeros are not written again.
     pub fn zero(&mut self)
         ensures { self.new ≡ record self.old { bytes = zeros (length self.old.bytes) } }

@@ -1,5 +1,5 @@
 //! Pages that somebody holds.
-ghost use Rattle.std.specs.Prelude.{◌≡◌, ◌+◌, ◌<◌, ◌≤◌, length};
+ghost use Rattle.std.specs.Prelude.{◌≡◌, ◌+◌, ◌<◌, ◌≤◌, drop, length, take};
 ghost use Rattle.std.specs.Borrow.{Lends, sem, Array, u8 as byte};
 ghost use Rattle.hp_frames.specs.Frame.{rewritten};
 ghost use Rattle.hp_model.specs.files.Page.{overwritten, zeros};
@@ -88,6 +88,14 @@ impl<N: Naming> Page<N> {
         ensures { self.new ≡ record self.old { bytes = other.now.bytes } }
     {
         self.frame.copy_from(&other.frame);
+    }
+
+    /// The bytes from an offset on fill a room. Where all of them are known to be zeros, none is read.
+    pub fn copy_to(&self, offset: usize, room: &mut [u8])
+        requires { offset + length room.old ≤ N.page_bytes }
+        ensures { room.new ≡ take (length room.old) (drop offset self.now.bytes) }
+    {
+        self.frame.copy_to(offset, room);
     }
 
     /// Zeros in place of what the last holder wrote. A page that was taken has its last holder's bytes.

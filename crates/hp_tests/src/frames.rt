@@ -50,6 +50,22 @@ fn a_frame_is_copied(rt: HostRuntime) -> Result<(), AllocError> {
     Ok(())
 }
 
+// A part of a frame is as it was written, also past the end of what was written and behind it.
+#[test]
+fn a_part_is_copied(rt: HostRuntime) -> Result<(), AllocError> {
+    let mut stock = Stock::new(rt.alloc(), 1, 1, 8)?;
+    let mut frame = stock.take();
+    frame.write(1, &[1, 2]);
+    let mut part = [7; 3];
+    frame.copy_to(2, &mut part);
+    assert!(rt; part == [2, 0, 0]);
+    part[0] = 7;
+    frame.copy_to(3, &mut part);
+    assert!(rt; part == [0; 3]);
+    stock.put(frame);
+    Ok(())
+}
+
 // A stock of which one frame was never taken gives its memory back too.
 #[test]
 fn a_stock_is_dropped(rt: HostRuntime) -> Result<(), AllocError> {

@@ -410,7 +410,11 @@ impl<N: Naming> Mount<N> {
         ensures all { length result.now ≡ count }
     {
         match self.files.shown(at, index) {
-            Some(page) => bytes_of(page.bytes(), offset, count, room),
+            Some(page) => {
+                let (front, _) = room.split_at_mut(count);
+                page.copy_to(offset, front);
+                front
+            }
             None => zeros_of(count, room),
         }
     }
