@@ -20,3 +20,7 @@ overwritten offset bytes f = record f { bytes = take offset f.bytes ++ bytes ++ 
 -- the bytes from a place on are zeros
 abbrev pub AreZerosFrom : ℕ → List ℕ → Type 0
 AreZerosFrom from bytes = drop from bytes ≡ zeros (length bytes - from)
+
+-- the bytes up to a place are zeros
+abbrev pub AreZerosUpTo : ℕ → List ℕ → Type 0
+AreZerosUpTo to bytes = take to bytes ≡ zeros to

@@ -1,9 +1,9 @@
 //! A frame: the memory of one huge page.
-ghost use Rattle.std.specs.Prelude.{◌≡◌, ◌+◌, ◌≤◌, ◌++◌, drop, length, take, vec_capacity};
+ghost use Rattle.std.specs.Prelude.{◌≡◌, ◌+◌, ◌≤◌, ◌++◌, drop, length, min, take, vec_capacity, IsTrue};
 ghost use Rattle.std_alloc.specs.Vec.{vec_ptr};
 ghost use Rattle.std.specs.Borrow.{Lends, sem, Array, u8 as byte};
 ghost use Rattle.hp_model.specs.files.Page.{zeros};
-ghost use Rattle.hp_frames.specs.Frame.{AreZerosFrom, overwritten, rewritten};
+ghost use Rattle.hp_frames.specs.Frame.{AreZerosFrom, AreZerosUpTo, overwritten, rewritten};
 
 use crate::lodging::{Lease, house, vacate};
 use linked_list_allocator::Block;
@@ -19,21 +19,23 @@ pub struct Frame {
     // how many frames of the block were cut before
     number: u32,
     node: u8,
-    // the bytes from here on are known to be zeros
+    // the bytes before the first of these and from the second on are known to be zeros
+    start: usize,
     written: usize,
 }
 
 impl Model for Frame {
     ghost use Rattle.std.specs.Prelude.{◌≡◌, ◌≤◌, length, vec_capacity};
     ghost use Rattle.std_alloc.specs.Vec.{vec_ptr};
-    ghost use Rattle.hp_frames.specs.Frame.{Frame, AreZerosFrom};
+    ghost use Rattle.hp_frames.specs.Frame.{Frame, AreZerosFrom, AreZerosUpTo};
 
     ghost Value = { Frame };
 
     ghost view = { λ f. record { node = f.node; memory = f.lease.region; bytes = f.bytes.items } };
 
     ghost invariant = { λ f. (vec_ptr f.bytes ≡ f.lease.ptr) × (vec_capacity f.bytes ≡ f.lease.size)
-        × (f.written ≤ length f.bytes.items) × AreZerosFrom f.written f.bytes.items };
+        × (f.written ≤ length f.bytes.items) × AreZerosFrom f.written f.bytes.items
+        × AreZerosUpTo f.start f.bytes.items };
 }
 
 impl Frame {
@@ -53,6 +55,7 @@ impl Frame {
             lease,
             number,
             node,
+            start: page_bytes,
             written: 0,
         }
     }
@@ -65,6 +68,7 @@ impl Frame {
             lease,
             number: _,
             node: _,
+            start: _,
             written: _,
         } = self;
         vacate(bytes, lease)
@@ -94,6 +98,7 @@ impl Frame {
             (Lends the_row (Array byte 0) self.entry result
             (λ w. record self.old { bytes = rewritten self.old.bytes w })) }
     {
+        self.start = 0;
         self.written = self.bytes.len();
         &mut self.bytes
     }
@@ -103,7 +108,8 @@ impl Frame {
         requires { offset + length bytes.now ≤ length self.old.bytes }
         ensures { self.new ≡ overwritten offset bytes.now self.old }
     {
-        self.written = overwrite(&mut self.bytes, offset, bytes, self.written);
+        self.written = overwrite(&mut self.bytes, offset, bytes, self.start, self.written);
+        self.start = self.start.min(offset);
     }
 
     /// The bytes of another frame in place of its own. Bytes that are known to be zeros in both are not written again.
@@ -113,20 +119,30 @@ impl Frame {
         ensures { self.new ≡ record self.old { bytes = other.now.bytes } }
     {
         let end = self.written.max(other.written);
-        copy_front(&mut self.bytes, &other.bytes, end);
+        let start = self.start.min(other.start).min(end);
+        copy_between(&mut self.bytes, &other.bytes, start, end);
+        self.start = other.start;
         self.written = other.written;
     }
 
+    // Whether so many bytes from an offset on are known to be zeros.
+    #[tactic(auto, using(crate::proofs::Zeros::zeros_part, crate::proofs::Zeros::zeros_early))]
+    fn are_zeros(&self, offset: usize, count: usize) -> bool
+        requires { offset + count ≤ length self.now.bytes }
+        ensures { IsTrue result → take count (drop offset self.now.bytes) ≡ zeros count }
+    {
+        self.written <= offset || offset + count <= self.start
+    }
+
     /// The bytes from an offset on fill a room. Where all of them are known to be zeros, none is read.
-    #[tactic(auto, using(crate::proofs::Zeros::zeros_part))]
     pub fn copy_to(&self, offset: usize, room: &mut [u8])
         requires { offset + length room.old ≤ length self.now.bytes }
         ensures { room.new ≡ take (length room.old) (drop offset self.now.bytes) }
     {
-        if offset < self.written {
-            room.copy_from_slice(&self.bytes[offset..offset + room.len()]);
-        } else {
+        if self.are_zeros(offset, room.len()) {
             room.fill(0);
+        } else {
+            room.copy_from_slice(&self.bytes[offset..offset + room.len()]);
         }
     }
 
@@ -134,18 +150,21 @@ impl Frame {
     pub fn zero(&mut self)
         ensures { self.new ≡ record self.old { bytes = zeros (length self.old.bytes) } }
     {
-        zero_front(&mut self.bytes, self.written);
+        zero_between(&mut self.bytes, self.start.min(self.written), self.written);
+        self.start = self.bytes.len();
         self.written = 0;
     }
 }
 
-// Other bytes from an offset on. Answers from where on all are zeros then.
-fn overwrite(to: &mut [u8], offset: usize, from: &[u8], written: usize) -> usize
+// Other bytes from an offset on. Answers from where on all are zeros then; those before the offset that were zeros still are.
+fn overwrite(to: &mut [u8], offset: usize, from: &[u8], start: usize, written: usize) -> usize
     requires fits { offset + length from.now ≤ length to.old }
     requires within { written ≤ length to.old }
+    requires early { AreZerosUpTo start to.old }
     requires zeros { AreZerosFrom written to.old }
     ensures bytes { to.new ≡ take offset to.old ++ from.now ++ drop (offset + length from.now) to.old }
     ensures within { result ≤ length to.new }
+    ensures early { AreZerosUpTo (min start offset) to.new }
     ensures zeros { AreZerosFrom result to.new }
 {
     let end = offset + from.len();
@@ -153,22 +172,27 @@ fn overwrite(to: &mut [u8], offset: usize, from: &[u8], written: usize) -> usize
     written.max(end)
 }
 
-// The bytes of another list, both of which are zeros behind a front.
-fn copy_front(to: &mut [u8], from: &[u8], front: usize)
+// The bytes of another list, both of which are zeros before a part and behind it.
+fn copy_between(to: &mut [u8], from: &[u8], start: usize, end: usize)
     requires same { length from.now ≡ length to.old }
-    requires within { front ≤ length to.old }
-    requires to { AreZerosFrom front to.old }
-    requires from { AreZerosFrom front from.now }
+    requires order { start ≤ end }
+    requires within { end ≤ length to.old }
+    requires to_early { AreZerosUpTo start to.old }
+    requires to { AreZerosFrom end to.old }
+    requires from_early { AreZerosUpTo start from.now }
+    requires from { AreZerosFrom end from.now }
     ensures { to.new ≡ from.now }
 {
-    to[..front].copy_from_slice(&from[..front]);
+    to[start..end].copy_from_slice(&from[start..end]);
 }
 
-// Zeros, where all behind a front are.
-fn zero_front(bytes: &mut [u8], front: usize)
-    requires within { front ≤ length bytes.old }
-    requires zeros { AreZerosFrom front bytes.old }
+// Zeros, where all before a part and behind it are.
+fn zero_between(bytes: &mut [u8], start: usize, end: usize)
+    requires order { start ≤ end }
+    requires within { end ≤ length bytes.old }
+    requires early { AreZerosUpTo start bytes.old }
+    requires zeros { AreZerosFrom end bytes.old }
     ensures { bytes.new ≡ zeros (length bytes.old) }
 {
-    bytes[..front].fill(0);
+    bytes[start..end].fill(0);
 }

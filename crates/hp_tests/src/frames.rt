@@ -50,16 +50,17 @@ fn a_frame_is_copied(rt: HostRuntime) -> Result<(), AllocError> {
     Ok(())
 }
 
-// A part of a frame is as it was written, also past the end of what was written and behind it.
+// A part of a frame is as it was written, also where what was written begins and ends in it, and behind it.
 #[test]
 fn a_part_is_copied(rt: HostRuntime) -> Result<(), AllocError> {
     let mut stock = Stock::new(rt.alloc(), 1, 1, 8)?;
     let mut frame = stock.take();
     frame.write(1, &[1, 2]);
     let mut part = [7; 3];
+    frame.copy_to(0, &mut part);
+    assert!(rt; part == [0, 1, 2]);
     frame.copy_to(2, &mut part);
     assert!(rt; part == [2, 0, 0]);
-    part[0] = 7;
     frame.copy_to(3, &mut part);
     assert!(rt; part == [0; 3]);
     stock.put(frame);
