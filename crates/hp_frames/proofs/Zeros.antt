@@ -1,7 +1,7 @@
 -- Bytes that are zeros from a place on, or up to one.
 use Rattle.std.proofs.Common.{◌≡◌, ℕ, ◌+◌, ◌-◌, ◌≤◌, ◌++◌, List, arith, ap, drop, length, sym, take, ◌∙◌}
 use Rattle.std.proofs.lemmas.List.{drop-drop, drop-replicate, drop-take, length-append, length-drop, length-replicate, length-take, take-replicate, take-take}
-use Rattle.std.proofs.lemmas.Slice.{drop-put_mid, take-put_mid_below}
+use Rattle.std.proofs.lemmas.Slice.{drop-put_mid}
 use borrow.Rule.Slice.PartMut.{mid_of, put_mid, put_same}
 use Rattle.hp_model.specs.files.Page.{zeros}
 use Rattle.hp_frames.specs.Frame.{AreZerosFrom, AreZerosUpTo}
@@ -37,10 +37,6 @@ zeros_before xs a b le z = sym (take-take a b xs le) ∙ ap (take a) z ∙ take-
 -- a part before it is zeros
 pub zeros_early : (xs : List ℕ) (a b k : ℕ) → AreZerosUpTo b xs → a + k ≤ b → take k (drop a xs) ≡ zeros k
 zeros_early xs a b k z within = sym (drop-take a k xs) ∙ ap (drop a) (zeros_before xs (a + k) b within z) ∙ drop-replicate a (a + k) 0 ∙ ap zeros (omega arith)
-
--- where others are written over a part of them, they are up to that part
-pub zeros_kept : (xs ys : List ℕ) (a k start n : ℕ) → a ≤ length xs → n ≤ a → n ≤ start → AreZerosUpTo start xs → AreZerosUpTo n (put_mid a k xs ys)
-zeros_kept xs ys a k start n within le less z = take-put_mid_below a k xs ys n le within ∙ zeros_before xs n start less z
 
 -- a part of one list in another, where both are zeros before it and behind it
 pub zeros_around : (xs zs : List ℕ) (a e : ℕ) → a ≤ e → length zs ≡ length xs → AreZerosUpTo a xs → AreZerosFrom e xs → AreZerosUpTo a zs → AreZerosFrom e zs → put_mid a (e - a) xs (mid_of a (e - a) zs) ≡ zs

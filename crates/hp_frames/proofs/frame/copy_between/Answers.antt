@@ -1,4 +1,4 @@
-use Rattle.std.proofs.Common.{◌≡◌, ◌-◌, ◌∙◌, ap}
+use Rattle.std.proofs.Common.{◌-◌, ◌∙◌, ap}
 use borrow.Rule.Slice.PartMut.{put_mid}
 use Rattle.hp_frames.proofs.Zeros.{zeros_around}
 use Rattle.hp_frames.proofs.frame.copy_between.Goals as goal

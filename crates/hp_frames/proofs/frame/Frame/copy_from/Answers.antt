@@ -1,4 +1,4 @@
-use Rattle.std.proofs.Common.{◌≡◌, ◌≤◌, arith, subst, sym}
+use Rattle.std.proofs.Common.{arith, subst, sym}
 use Rattle.hp_frames.specs.Frame.{AreZerosUpTo}
 use Rattle.hp_frames.proofs.Zeros.{zeros_before}
 use Rattle.hp_frames.proofs.frame.Frame.copy_from.Goals as goal
