@@ -1,2 +1,4 @@
+pub mod Drafts
+pub mod Drawn
 pub mod Frame
 pub mod Stock

@@ -2,9 +2,11 @@
 //! written before the frame is first used.
 #![tactic(auto)]
 
+mod draft;
 mod frame;
 mod lodging;
 mod stock;
 
+pub use draft::{Draft, Fresh};
 pub use frame::Frame;
 pub use stock::Stock;

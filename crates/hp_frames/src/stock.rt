@@ -1,8 +1,10 @@
 //! The frames of a node that nobody holds.
 ghost use Rattle.std.specs.Prelude.{◌≡◌, ◌+◌, ◌-◌, ◌<◌, ◌≤◌, ◌*◌, ◌^◌, IfOk, IfSome, length};
 ghost use Rattle.linked_list_allocator.specs.Region.{block_size};
+ghost use Rattle.hp_frames.specs.Drafts.{drawn};
 ghost use Rattle.hp_frames.specs.Stock.{with_here};
 
+use crate::draft::{Draft, Fresh};
 use crate::frame::Frame;
 use linked_list_allocator::Heap;
 use std::alloc::{AllocError, Global, Layout};
@@ -71,6 +73,27 @@ impl Stock {
         })
     }
 
+    /// A frame that nobody holds. No byte is written.
+    pub fn draw(&mut self) -> Draft
+        requires { 0 < self.old.here }
+        ensures left { self.new ≡ with_here (self.old.here - 1) self.old }
+        ensures draft { drawn result ≡ record {
+          node = self.old.node;
+          memory = self.old.memory;
+          page_bytes = self.old.page_bytes;
+        } }
+    {
+        if let Some(frame) = self.returned.pop() {
+            return Draft::Used(frame);
+        }
+        let number = (self.all - self.fresh) as u32;
+        let layout = Layout::from_size_align(self.page_bytes, 1).unwrap();
+        let heap = &mut self.heap;
+        let block = heap.allocate_first_fit(layout).unwrap();
+        self.fresh -= 1;
+        Draft::Fresh(Fresh::new(block, number, self.node, self.page_bytes))
+    }
+
     /// A frame, with what its last holder left in it, and zeros if it had none.
     pub fn take(&mut self) -> Frame
         requires { 0 < self.old.here }
@@ -78,15 +101,7 @@ impl Stock {
         ensures frame { (result.node ≡ self.old.node) × (result.memory ≡ self.old.memory) }
         ensures bytes { length result.bytes ≡ self.old.page_bytes }
     {
-        if let Some(frame) = self.returned.pop() {
-            return frame;
-        }
-        let number = (self.all - self.fresh) as u32;
-        let layout = Layout::from_size_align(self.page_bytes, 1).unwrap();
-        let heap = &mut self.heap;
-        let block = heap.allocate_first_fit(layout).unwrap();
-        self.fresh -= 1;
-        Frame::new(block, number, self.node, self.page_bytes)
+        self.draw().into_frame()
     }
 
     /// Takes a frame back. Never refused, and takes no memory.

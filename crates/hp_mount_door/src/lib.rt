@@ -5,3 +5,4 @@ mod door;
 mod own;
 
 pub use door::PoolDoor;
+pub use own::OwnPool;

@@ -12,8 +12,6 @@ use Rattle.hp_model.specs.declared.node.Kind.{Kind}
 use Rattle.hp_model.specs.declared.node.Kind.TheVariants.{Free, Idle}
 use Rattle.hp_model.specs.declared.node.NodeRow.{NodeRow}
 use Rattle.hp_model.specs.pool.NodeRows.{IsRow, row_at, no_row, has, used, sum_row}
-use Rattle.linked_list_allocator.specs.Region.{Region}
-use Rattle.hp_frames.specs.Stock.{Stock}
 use Rattle.hp_nodes.specs.Kept.{IsKept}
 use Rattle.hp_nodes.specs.Moves.{HasMany, where_has, grow_by, shrink_by}
 use Rattle.hp_nodes.proofs.Sums.{same_row}
@@ -59,9 +57,9 @@ record Stays (x y : NodeRow) : Type 0 where
   same : used y ≡ used x
   as_many : y.frames ≡ x.frames
 
-kept_each : {m : ℕ → Region} {b : ℕ} (rows : List NodeRow) (growth release : ℕ) (out : List ℕ) (stocks : List Stock) (f : NodeRow → NodeRow) → IsKept m b rows growth release out stocks → All (λ x. Stays x (f x)) rows
-    → IsKept m b (map f rows) growth release out stocks
-kept_each rows growth release out stocks f h stays =
+kept_each : {m : ℕ → ℕ} (rows : List NodeRow) (growth release : ℕ) (claims : List ℕ) (f : NodeRow → NodeRow) → IsKept m rows growth release claims → All (λ x. Stays x (f x)) rows
+    → IsKept m (map f rows) growth release claims
+kept_each rows growth release claims f h stays =
     let as_long : length (map f rows) ≡ length rows = length-map rows f in
     record {
       some = omega (arith, as_long, h.some);
@@ -70,10 +68,8 @@ kept_each rows growth release out stocks f h stays =
       release_in = omega (arith, as_long, h.release_in);
       sound = All-map IsRow f rows (λ k d below. (stays k d below).sound);
       four = h.four;
-      counted = λ k below. h.counted k below ∙ sym (same_used k);
-      stocked = omega (arith, as_long, h.stocked);
+      counted = λ k below. omega (arith, same_used k, h.counted k below);
       framed = λ k below. same_frames k ∙ h.framed k below;
-      home = h.home;
     }
   where
     same_used : (k : ℕ) → used (row_at (map f rows) k) ≡ used (row_at rows k)
@@ -90,10 +86,10 @@ kept_each rows growth release out stocks f h stays =
           | inr past ↦ ap (λ r. r.frames) (get_or_past (map f rows) k no_row (omega (arith, length-map rows f)) ∙ sym (get_or_past rows k no_row past))
         ]
 
-pub kept_grow_each : {m : ℕ → Region} {b : ℕ} (rows : List NodeRow) (growth release : ℕ) (out : List ℕ) (stocks : List Stock) (r : ℕ) → IsKept m b rows growth release out stocks → All (HasMany Idle r) rows
-    → IsKept m b (map (where_has Idle (grow_by r)) rows) growth release out stocks
-kept_grow_each rows growth release out stocks r h enough =
-    kept_each rows growth release out stocks (where_has Idle (grow_by r)) h
+pub kept_grow_each : {m : ℕ → ℕ} (rows : List NodeRow) (growth release : ℕ) (claims : List ℕ) (r : ℕ) → IsKept m rows growth release claims → All (HasMany Idle r) rows
+    → IsKept m (map (where_has Idle (grow_by r)) rows) growth release claims
+kept_grow_each rows growth release claims r h enough =
+    kept_each rows growth release claims (where_has Idle (grow_by r)) h
     (λ k d below. (let x : NodeRow = get_or rows k d in
     let row : IsRow x = h.sound k d below in
     cond_both (has Idle x) (grow_by r x) x (Stays x)
@@ -101,10 +97,10 @@ kept_grow_each rows growth release out stocks r h enough =
     record { sound = record { free_in = omega (arith, row.free_in); surp_in = omega (arith, row.surp_in); total_in = omega (arith, some, row.total_in); few = row.few }; same = omega arith; as_many = refl }))
     (λ e. record { sound = row; same = refl; as_many = refl })))
 
-pub kept_shrink_each : {m : ℕ → Region} {b : ℕ} (rows : List NodeRow) (growth release : ℕ) (out : List ℕ) (stocks : List Stock) (r : ℕ) → IsKept m b rows growth release out stocks → All (HasMany Free r) rows → All (λ x. x.surp ≡ 0) rows
-    → IsKept m b (map (where_has Free (shrink_by r)) rows) growth release out stocks
-kept_shrink_each rows growth release out stocks r h enough bare =
-    kept_each rows growth release out stocks (where_has Free (shrink_by r)) h
+pub kept_shrink_each : {m : ℕ → ℕ} (rows : List NodeRow) (growth release : ℕ) (claims : List ℕ) (r : ℕ) → IsKept m rows growth release claims → All (HasMany Free r) rows → All (λ x. x.surp ≡ 0) rows
+    → IsKept m (map (where_has Free (shrink_by r)) rows) growth release claims
+kept_shrink_each rows growth release claims r h enough bare =
+    kept_each rows growth release claims (where_has Free (shrink_by r)) h
     (λ k d below. (let x : NodeRow = get_or rows k d in
     let row : IsRow x = h.sound k d below in
     let none : x.surp ≡ 0 = bare k d below in

@@ -1,48 +1,56 @@
--- The ledgers that the pages of a machine count in, as they are before any page is counted, and the memory of its frames.
-use Rattle.std.specs.Prelude.{◌≡◌, ℕ, ◌<◌, List, length, map}
-use Rattle.linked_list_allocator.specs.Region.{Region}
-use Rattle.std.specs.declared.sync.ledger.Blank.{Blank}
+-- What the pages of a machine begin with.
+use Rattle.std.specs.Prelude.{◌≡◌, ℕ, ◌<◌, ◌≤◌, ◌==◌, List, [], ◌∷◌, if◌then◌else◌, slice_index}
 use Rattle.hp_model.specs.declared.naming.Naming.{Ghosts}
-use Rattle.hp_frames.specs.Stock.{Stock}
-use Rattle.hp_nodes.specs.Kept.{IsHome, stock_at}
 use Rattle.hp_nodes.specs.declared.blanks.Blanks.{Blanks}
+use Rattle.hp_nodes.specs.declared.blanks.NodeBlanks.{NodeBlanks}
 
--- cut into as many parts as there can be units
-abbrev pub IsWhole : Blank → Type 0
-IsWhole b = b.parts ≡ 18446744073709551615
+-- claims on all frames of each node
+abbrev pub AreAll : (ℕ → ℕ) → List ℕ → Type 0
+AreAll frames claims = claims ≡ frames 0 ∷ frames 1 ∷ frames 2 ∷ frames 3 ∷ []
 
-abbrev pub AreWhole : Blanks → Type 0
-AreWhole b = IsWhole b.zero × IsWhole b.one × IsWhole b.two × IsWhole b.three
+-- so many frames of each node, and none of a node that is not there
+abbrev pub AreFrames : (ℕ → ℕ) → List ℕ → Type 0
+AreFrames frames counts = (k : ℕ) → k < 4 → frames k ≡ slice_index counts k
 
--- how many frames each node has
-abbrev pub node_frames : List Stock → List ℕ
-node_frames stocks = map (λ s. s.all) stocks
+-- ledgers with a part for each frame of a node, and all those frames, of so many bytes
+pub record IsNode (node count page_bytes : ℕ) (b : NodeBlanks) : Type 0 where
+  pub count_is : b.count ≡ count
+  pub few : count ≤ 65536
+  pub claims_are : b.claims.parts ≡ count
+  pub pages_are : b.pages.parts ≡ count
+  pub node_is : b.stock.node ≡ node
+  pub page_bytes_are : b.stock.page_bytes ≡ page_bytes
+  pub all_are : b.stock.all ≡ count
+  pub here_are : b.stock.here ≡ count
 
--- the memory of each node
-abbrev pub memory_of : List Stock → ℕ → Region
-memory_of stocks k = (stock_at stocks k).memory
+abbrev pub node_at : Blanks → ℕ → NodeBlanks
+node_at b k = if k == 0 then b.zero else if k == 1 then b.one else if k == 2 then b.two else b.three
 
--- a stock for each node in turn, of pages of so many bytes, with all its frames
-abbrev pub AreFull : (ℕ → Region) → ℕ → List Stock → Type 0
-AreFull memory page_bytes stocks = (k : ℕ) → k < length stocks → IsHome memory page_bytes k 0 (stock_at stocks k)
+abbrev pub counts_of : Blanks → ℕ → ℕ
+counts_of b k = (node_at b k).count
 
--- whole, and of this name
-abbrev pub IsLedger : ℕ → Blank → Type 0
-IsLedger name b = (b.name ≡ name) × IsWhole b
+-- all frames of each node, of so many bytes
+abbrev pub AreFull : ℕ → Blanks → Type 0
+AreFull page_bytes b = IsNode 0 b.zero.count page_bytes b.zero × IsNode 1 b.one.count page_bytes b.one
+    × IsNode 2 b.two.count page_bytes b.two × IsNode 3 b.three.count page_bytes b.three
 
--- the ledgers and the memory of a machine's pages, by the machine's names
+-- what a machine names a node's
+pub record IsNamed {N : Type 0} (names : Ghosts N) (k : ℕ) (b : NodeBlanks) : Type 0 where
+  pub claims_named : b.claims.name ≡ names.claims k
+  pub pages_named : b.pages.name ≡ names.pages k
+  pub memory_is : b.stock.memory ≡ names.memory k
+  pub full : IsNode k (names.frames k) names.page_bytes b
+
 abbrev pub AreLedgers : {N : Type 0} → Ghosts N → Blanks → Type 0
-AreLedgers names b = IsLedger names.pages_0 b.zero × IsLedger names.pages_1 b.one
-    × IsLedger names.pages_2 b.two × IsLedger names.pages_3 b.three × AreFull names.memory names.page_bytes b.stocks.items
+AreLedgers names b = IsNamed names 0 b.zero × IsNamed names 1 b.one × IsNamed names 2 b.two × IsNamed names 3 b.three
 
--- the names of a machine over these ledgers and this memory, with pages of so many bytes and no ledger of permits
+-- the names of a machine over these, with pages of so many bytes and no ledger of permits
 abbrev pub names_of : {N : Type 0} → Blanks → ℕ → Ghosts N
 names_of b page_bytes = record {
   permits = 0;
-  pages_0 = b.zero.name;
-  pages_1 = b.one.name;
-  pages_2 = b.two.name;
-  pages_3 = b.three.name;
+  pages = λ k. (node_at b k).pages.name;
+  claims = λ k. (node_at b k).claims.name;
+  frames = counts_of b;
   page_bytes = page_bytes;
-  memory = memory_of b.stocks.items;
+  memory = λ k. (node_at b k).stock.memory;
 }

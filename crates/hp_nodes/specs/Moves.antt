@@ -3,7 +3,7 @@ use Rattle.std.specs.Prelude.{◌≡◌, ◌≤◌, ℕ, true, ◌+◌, ◌-◌,
 use Rattle.hp_model.specs.declared.node.Kind.{Kind}
 use Rattle.hp_model.specs.declared.node.Kind.TheVariants.{Free, Idle, Surplus, Persistent, FreeSurplus}
 use Rattle.hp_model.specs.declared.node.NodeRow.{NodeRow}
-use Rattle.hp_model.specs.pool.NodeRows.{has}
+use Rattle.hp_model.specs.pool.NodeRows.{NodeRows, at_row, has}
 
 -- how many a node has: free pages, idle frames, surplus pages, pages that are no surplus, or pairs of a free and a surplus page
 abbrev pub amount : Kind → NodeRow → ℕ
@@ -12,6 +12,13 @@ amount Idle r = r.frames - r.total
 amount Surplus r = r.surp
 amount Persistent r = r.total - r.surp
 amount FreeSurplus r = min r.free r.surp
+
+abbrev pub put_by : ℕ → NodeRow → NodeRow
+put_by k r = record r { free = r.free + k }
+
+-- so many pages are put at a node
+abbrev pub puts_at : (node k : ℕ) → NodeRows → NodeRows
+puts_at node k s = record s { rows = at_row (put_by k) node s.rows }
 
 abbrev pub grow_by : ℕ → NodeRow → NodeRow
 grow_by k r = record r { total = r.total + k; free = r.free + k }

@@ -1,45 +1,73 @@
 //! What the pages of a machine are made of and count in.
-ghost use Rattle.std.specs.Prelude.{◌≡◌, ◌≤◌, length, All, IfOk};
-ghost use Rattle.hp_nodes.specs.Ledgers.{AreFull, AreWhole, node_frames, memory_of};
+ghost use Rattle.std.specs.Prelude.{◌≡◌, ◌≤◌, length, slice_index, All, IfOk};
+ghost use Rattle.hp_nodes.specs.Ledgers.{AreFrames, AreFull, IsNode, counts_of};
 
 use hp_frames::Stock;
 use std::alloc::{AllocError, Global};
 use std::sync::ledger::Blank;
 
-/// The ledgers of the four nodes, used or not, and the frames of the nodes that there are.
+/// The ledgers of a node, with a part for each frame, and its frames.
+#[derive(Drop)]
+pub struct NodeBlanks {
+    pub count: u64,
+    pub claims: Blank,
+    pub pages: Blank,
+    pub stock: Stock,
+}
+
+/// What there is of the four nodes, used or not.
 #[derive(Drop)]
 pub struct Blanks {
-    pub zero: Blank,
-    pub one: Blank,
-    pub two: Blank,
-    pub three: Blank,
-    pub stocks: Vec<Stock>,
+    pub zero: NodeBlanks,
+    pub one: NodeBlanks,
+    pub two: NodeBlanks,
+    pub three: NodeBlanks,
+}
+
+impl NodeBlanks {
+    fn new(alloc: Global, node: u8, count: u64, page_bytes: usize) -> Result<Self, AllocError>
+        requires { count ≤ 65536 }
+        ensures { IfOk result (λ b. IsNode node count page_bytes b) }
+    {
+        let stock = Stock::new(alloc, node, count, page_bytes)?;
+        Ok(NodeBlanks {
+            count,
+            claims: Blank::new(count),
+            pages: Blank::new(count),
+            stock,
+        })
+    }
+}
+
+// The frames of a node, and none where there is no such node.
+fn count_at(frames: &[u64], node: usize) -> u64
+    requires { All (λ f. f ≤ 65536) frames.now }
+    ensures count { result ≡ slice_index frames.now node }
+    ensures few { result ≤ 65536 }
+{
+    if node < frames.len() {
+        frames[node]
+    } else {
+        0
+    }
 }
 
 impl Blanks {
-    /// Ledgers that are each cut into as many parts as there can be units, and nodes with so many frames each, of
-    /// `page_bytes` bytes.
+    /// Nodes with so many frames each, of `page_bytes` bytes.
     ///
     /// Takes all the memory that the pages will ever need. Where some is refused, the rest is given back before the
     /// error is answered.
     pub fn new(alloc: Global, frames: &[u64], page_bytes: usize) -> Result<Self, AllocError>
         requires few { length frames.now ≤ 4 }
         requires small { All (λ f. f ≤ 65536) frames.now }
-        ensures whole { IfOk result (λ b. AreWhole b) }
-        ensures frames { IfOk result (λ b. node_frames b.stocks.items ≡ frames.now) }
-        ensures full { IfOk result (λ b. AreFull (memory_of b.stocks.items) page_bytes b.stocks.items) }
+        ensures frames { IfOk result (λ b. AreFrames (counts_of b) frames.now) }
+        ensures full { IfOk result (λ b. AreFull page_bytes b) }
     {
-        let mut stocks = Vec::with_capacity(alloc, frames.len())?;
-        for count in frames {
-            let stock = Stock::new(alloc, stocks.len() as u8, *count, page_bytes)?;
-            stocks.push_reserved(stock);
-        }
         Ok(Blanks {
-            zero: Blank::new(u64::MAX),
-            one: Blank::new(u64::MAX),
-            two: Blank::new(u64::MAX),
-            three: Blank::new(u64::MAX),
-            stocks,
+            zero: NodeBlanks::new(alloc, 0, count_at(frames, 0), page_bytes)?,
+            one: NodeBlanks::new(alloc, 1, count_at(frames, 1), page_bytes)?,
+            two: NodeBlanks::new(alloc, 2, count_at(frames, 2), page_bytes)?,
+            three: NodeBlanks::new(alloc, 3, count_at(frames, 3), page_bytes)?,
         })
     }
 }

@@ -2,13 +2,14 @@
 #![tactic(auto)]
 
 mod blanks;
+mod frames;
 mod lists;
-mod marks;
 mod node;
 mod page;
 mod rounds;
 mod search;
 
-pub use blanks::Blanks;
+pub use blanks::{Blanks, NodeBlanks};
+pub use frames::{Frames, NodeFrames};
 pub use lists::NodeLists;
 pub use page::Page;

@@ -2,21 +2,18 @@
 ghost use Rattle.std.specs.Prelude.{◌≡◌, ◌+◌, ◌-◌, ◌<◌, ◌≤◌, if◌then◌else◌, length, All, IsTrue, IfOk};
 ghost use Rattle.hp_model.specs.pool.Resize.{node_count};
 ghost use Rattle.hp_nodes.specs.Kept.{idle_nodes};
-ghost use Rattle.hp_nodes.specs.Ledgers.{AreLedgers, node_frames};
-ghost use Rattle.hp_nodes.specs.Moves.{grow_by, shrink_by, add_surplus_by, give_back_by, promote_by, demote_by};
+ghost use Rattle.hp_nodes.specs.Ledgers.{AreAll, AreFrames};
+ghost use Rattle.hp_nodes.specs.Moves.{put_by, puts_at, grow_by, shrink_by, add_surplus_by, give_back_by, promote_by, demote_by};
 ghost use Rattle.std.specs.Fn.{iterate};
-ghost use Rattle.hp_model.specs.pool.NodeRows.{after, at_row, lowest, near, some_has, row_at, taken, put_at, surplus_added, grown, shrunk, promoted, demoted, given_back, sum_row, free_of, total_of, take_row, put_row};
+ghost use Rattle.hp_model.specs.pool.NodeRows.{after, at_row, lowest, near, some_has, row_at, taken, surplus_added, grown, shrunk, promoted, demoted, given_back, sum_row, free_of, total_of, take_row};
 
-use crate::blanks::Blanks;
-use crate::marks::Marks;
 use crate::node::Node;
-use crate::page::Page;
 use crate::rounds::{grow_each, having, least, shrink_each};
 use crate::search::{after, lowest, near, next_from};
-use hp_frames::Stock;
 use hp_model::answer::NodeCount;
 use hp_model::naming::Naming;
 use hp_model::node::{Kind, NodeRow};
+use hp_permit::{Claim, ClaimSet};
 use std::alloc::{AllocError, Global};
 use std::marker::Model;
 
@@ -31,8 +28,7 @@ use std::marker::Model;
 /// each node's stock of frames was made with room for all of them.
 pub struct NodeLists<N: Naming> {
     nodes: Vec<Node>,
-    stocks: Vec<Stock>,
-    marks: Marks<N>,
+    claims: ClaimSet<N>,
     growth: usize,
     release: usize,
 }
@@ -45,31 +41,30 @@ impl<N: Naming> Model for NodeLists<N> {
 
     ghost view = { λ s. record { rows = s.nodes.items; growth = s.growth; release = s.release } };
 
-    ghost invariant = { λ s. IsKept N.memory N.page_bytes s.nodes.items s.growth s.release s.marks s.stocks.items };
+    ghost invariant = { λ s. IsKept N.frames s.nodes.items s.growth s.release s.claims };
 }
 
 impl<N: Naming> NodeLists<N> {
-    /// Lists of 1 to 4 nodes with so many frames each, which the blanks have. Every frame is idle.
-    ///
-    /// Takes no memory but that of the lists: that of the pages was taken for the blanks. Where it is refused, all is
-    /// given back before the error is answered.
-    pub fn new(alloc: Global, frames: &[u64], blanks: Blanks) -> Result<Self, AllocError>
+    /// Lists of 1 to 4 nodes with so many frames each, on which there are these claims. Every frame is idle. Where memory is
+    /// refused, the claims are spent.
+    pub fn new(alloc: Global, frames: &[u64], claims: ClaimSet<N>) -> Result<Self, AllocError>
         requires some { 0 < length frames.now }
         requires few { length frames.now ≤ 4 }
         requires small { All (λ f. f ≤ 65536) frames.now }
-        requires ledgers { AreLedgers N.Naming blanks }
-        requires frames { node_frames blanks.stocks.items ≡ frames.now }
+        requires claims { AreAll N.frames claims }
+        requires frames { AreFrames N.frames frames.now }
         ensures { IfOk result (λ s. s ≡ idle_nodes frames.now) }
     {
-        let mut nodes = Vec::with_capacity(alloc, frames.len())?;
+        let Ok(mut nodes) = Vec::with_capacity(alloc, frames.len()) else {
+            claims.close();
+            return Err(AllocError);
+        };
         for count in frames {
             nodes.push_reserved(Node::new(*count));
         }
-        let (marks, stocks) = Marks::new(blanks);
         Ok(NodeLists {
             nodes,
-            stocks,
-            marks,
+            claims,
             growth: 0,
             release: 0,
         })
@@ -123,42 +118,39 @@ impl<N: Naming> NodeLists<N> {
     pub fn close(self) {
         let NodeLists {
             nodes: _,
-            stocks: _,
-            marks,
+            claims,
             growth: _,
             release: _,
         } = self;
-        marks.close();
+        claims.close();
     }
 
-    /// A free page: of the home node if it has one, else of the lowest node that has. It has the
-    /// bytes that its last holder left.
+    /// The claim of a free page: of the home node if it has one, else of the lowest node that has.
     #[tactic(auto, using(hp_model::proofs::Sums::take_sums, hp_model::proofs::Sums::free_le_total))]
-    pub fn take(&mut self, home: usize) -> Page<N>
+    pub fn take(&mut self, home: usize) -> Claim<N>
         requires { IsTrue (some_has Kind.Free self.old.rows) }
         ensures moved { self.new ≡ taken home self.old }
         ensures sums { sum_row self.new.rows ≡ take_row (sum_row self.old.rows) }
         ensures sound { free_of self.old.rows ≤ total_of self.old.rows }
-        ensures node { result.node ≡ near Kind.Free home self.old.rows }
+        ensures node { result ≡ record { node = near Kind.Free home self.old.rows; amount = 1 } }
         ensures free { 0 < (row_at self.old.rows result.node).free }
     {
         let at = near(&self.nodes, Kind::Free, home);
         self.nodes[at].take();
-        let frame = self.stocks[at].take();
-        Page::new(frame, self.marks.issue(at))
+        self.claims.take(at, 1)
     }
 
-    /// Puts a page back at its own node. Never refused, and takes no memory.
-    pub fn put(&mut self, page: Page<N>)
-        ensures moved { self.new ≡ put_at page.node self.old }
-        ensures sums { sum_row self.new.rows ≡ put_row (sum_row self.old.rows) }
-        ensures in_use { free_of self.old.rows < total_of self.old.rows }
+    /// So many pages come back to their node, by their claim. Never refused, and takes no memory.
+    pub fn put(&mut self, claim: Claim<N>)
+        requires { 0 < claim.amount }
+        ensures moved { self.new ≡ puts_at claim.node claim.amount self.old }
+        ensures sums { sum_row self.new.rows ≡ put_by claim.amount (sum_row self.old.rows) }
+        ensures in_use { free_of self.old.rows + claim.amount ≤ total_of self.old.rows }
     {
-        let (frame, mark) = page.into_parts();
-        let at = frame.node();
-        self.marks.retire(mark, at);
-        self.nodes[at].put();
-        self.stocks[at].put(frame);
+        let at = claim.node();
+        let count = claim.amount();
+        self.claims.put(claim);
+        self.nodes[at].put(count);
     }
 
     /// So many idle frames become persistent pages, one after another: of the first node that has

@@ -1,7 +1,7 @@
 //! One node: its row.
 ghost use Rattle.std.specs.Prelude.{◌≡◌, ◌+◌, ◌-◌, ◌<◌, ◌≤◌};
-ghost use Rattle.hp_model.specs.pool.NodeRows.{has, used, take_row, put_row, IsRow};
-ghost use Rattle.hp_nodes.specs.Moves.{amount, grow_by, shrink_by, add_surplus_by, give_back_by, promote_by, demote_by};
+ghost use Rattle.hp_model.specs.pool.NodeRows.{has, used, take_row, IsRow};
+ghost use Rattle.hp_nodes.specs.Moves.{amount, put_by, grow_by, shrink_by, add_surplus_by, give_back_by, promote_by, demote_by};
 
 use hp_model::node::{Kind, NodeRow};
 use std::marker::Model;
@@ -74,12 +74,13 @@ impl Node {
         self.row.free -= 1;
     }
 
-    pub fn put(&mut self)
-        requires { 0 < used self.old }
-        ensures row { self.new ≡ put_row self.old }
+    /// So many pages in use are free now.
+    pub fn put(&mut self, count: u64)
+        requires { count ≤ used self.old }
+        ensures row { self.new ≡ put_by count self.old }
         ensures sound { IsRow self.new }
     {
-        self.row.free += 1;
+        self.row.free += count;
     }
 
     pub fn grow(&mut self, count: u64)

@@ -5,10 +5,12 @@ ghost use Rattle.hp_frames.specs.Frame.{rewritten};
 ghost use Rattle.hp_model.specs.files.Page.{overwritten, zeros};
 ghost use Rattle.hp_nodes.specs.Kept.{IsPage};
 
-use crate::marks::Mark;
 use hp_frames::Frame;
-use hp_model::naming::Naming;
+use hp_model::naming::{Naming, Pages};
+use hp_units::Quad;
 use std::marker::Model;
+
+pub(crate) type Marks<N> = Quad<Pages<N, 0>, Pages<N, 1>, Pages<N, 2>, Pages<N, 3>>;
 
 /// A page of the pool that somebody holds: a frame, and a mark in its node's ledger. Contracts see its node and its bytes.
 ///
@@ -16,7 +18,7 @@ use std::marker::Model;
 /// ledgers, so it can only go back where it came from.
 pub struct Page<N: Naming> {
     frame: Frame,
-    mark: Mark<N>,
+    mark: Marks<N>,
 }
 
 impl<N: Naming> Model for Page<N> {
@@ -25,24 +27,24 @@ impl<N: Naming> Model for Page<N> {
 
     ghost Value = { Page };
 
-    ghost view = { λ p. record { node = p.mark; bytes = p.frame.bytes } };
+    ghost view = { λ p. record { node = p.frame.node; bytes = p.frame.bytes } };
 
-    ghost invariant = { λ p. IsPage N.memory N.page_bytes p.mark p.frame };
+    ghost invariant = { λ p. IsPage N.memory N.page_bytes p.frame p.mark };
 }
 
 impl<N: Naming> Page<N> {
     ghost use Rattle.hp_nodes.specs.contracts.page.Page.{the_row};
 
-    pub(crate) fn new(frame: Frame, mark: Mark<N>) -> Self
-        requires { IsPage N.memory N.page_bytes mark frame }
-        ensures { result.node ≡ mark }
+    pub(crate) fn new(frame: Frame, mark: Marks<N>) -> Self
+        requires { IsPage N.memory N.page_bytes frame mark }
+        ensures { result.node ≡ frame.node }
     {
         Page { frame, mark }
     }
 
-    pub(crate) fn into_parts(self) -> (Frame, Mark<N>)
-        ensures node { result.1 ≡ self.node }
-        ensures kept { IsPage N.memory N.page_bytes result.1 result.0 }
+    pub(crate) fn into_parts(self) -> (Frame, Marks<N>)
+        ensures node { result.0.node ≡ self.node }
+        ensures kept { IsPage N.memory N.page_bytes result.0 result.1 }
     {
         let Page { frame, mark } = self;
         (frame, mark)

@@ -1,7 +1,7 @@
 -- Moves of many pages, as the definitions say them: one page after another.
 use Rattle.std.proofs.Common.{ℕ, zero, suc, ◌≡◌, ◌+◌, ◌-◌, ◌<◌, ◌≤◌, refl, sym, ap, ◌∙◌, arith}
 use Rattle.std.specs.Fn.{iterate}
-use Rattle.std.specs.Prelude.{min, List}
+use Rattle.std.specs.Prelude.{min, List, [], ◌∷◌, slice_set}
 use Rattle.std.specs.List.{sum, sum_by}
 use Rattle.std.proofs.Math.Seq.{map-set_same}
 use Rattle.std.proofs.lemmas.Bool.{cond-true, cond-false, lt-ltb, le-ltb, ltb-true}
@@ -9,11 +9,13 @@ use Rattle.std.proofs.lemmas.List.Sums.{sum-map}
 use Rattle.hp_model.specs.declared.node.Kind.TheVariants.{Free, Idle, Surplus, Persistent}
 use Rattle.hp_model.specs.declared.node.NodeRow.{NodeRow}
 use Rattle.hp_model.specs.pool.Grant.{surplus_times}
-use Rattle.hp_model.specs.pool.NodeRows.{NodeRows, at_row, row_at, no_row, lowest, next_from, free_of, surp_of, surplus_added, given_back, grown, shrunk, promoted, demoted, grow_row, shrink_row, promote_row, demote_row}
-use Rattle.hp_model.specs.pool.Pool.{give_back_times}
+use Rattle.hp_model.specs.pool.NodeRows.{NodeRows, at_row, row_at, no_row, lowest, next_from, free_of, surp_of, total_of, sum_row, surplus_added, given_back, grown, shrunk, promoted, demoted, put_row, grow_row, shrink_row, promote_row, demote_row}
+use Rattle.hp_model.specs.pool.Pool.{give_back_times, kept_times, page_kept, released}
+use Rattle.hp_model.specs.pool.PoolCounts.{Pool, used_of}
 use Rattle.hp_model.specs.pool.Resize.{raised, lowered, raise_times, lower_times}
 use Rattle.hp_model.proofs.Picks.{edit, lowest_pick, next_pick}
 use Rattle.hp_model.proofs.Sums.{some_free, some_surplus}
+use Rattle.hp_nodes.specs.Moves.{put_by, puts_at}
 use Rattle.hp_nodes.proofs.Repeats.{keeps, once_more, times_add}
 
 pub added_are : (home n : ℕ) (s : NodeRows) → iterate (surplus_added home) n s ≡ surplus_times home n s
@@ -104,3 +106,50 @@ lowered_are reserved count spare s is =
     in
     let parts : spare + (count - spare) ≡ count = omega arith in
     sym (each_lowered reserved count s ∙ ap (λ n. iterate lower n s) (sym parts) ∙ times_add lower spare (count - spare) s ∙ ap (iterate lower (count - spare)) first ∙ then')
+
+-- ---- pages go back
+
+abbrev with_nodes : NodeRows → Pool → Pool
+with_nodes nodes p = record p { nodes = nodes }
+
+-- one after another, or so many at once
+pub put_are : (node k : ℕ) (p : Pool) → record p { nodes = puts_at node k p.nodes } ≡ kept_times node k p
+put_are node zero p =
+    ap (λ r. with_nodes (record p.nodes { rows = slice_set p.nodes.rows node r }) p) (ap (λ n. record (row_at p.nodes.rows node) { free = n }) (omega arith))
+    ∙ ap (λ rs. with_nodes (record p.nodes { rows = rs }) p) (set_own p.nodes.rows node)
+  where
+    set_own : (rows : List NodeRow) (n : ℕ) → slice_set rows n (row_at rows n) ≡ rows
+    set_own [] n = refl
+    set_own (r ∷ rows) zero = refl
+    set_own (r ∷ rows) (suc n) = ap (λ rs. r ∷ rs) (set_own rows n)
+put_are node (suc k) p =
+    ap (λ rs. with_nodes (record p.nodes { rows = rs }) p) (sym (once p.nodes.rows node)) ∙ ap (page_kept node) (put_are node k p)
+  where
+    once : (rows : List NodeRow) (n : ℕ) → at_row put_row n (at_row (put_by k) n rows) ≡ at_row (put_by (suc k)) n rows
+    once [] n = refl
+    once (r ∷ rows) zero = ap (λ f. record r { free = f } ∷ rows) (omega arith)
+    once (r ∷ rows) (suc n) = ap (λ rs. r ∷ rs) (once rows n)
+
+abbrev pool : ℕ → ℕ → ℕ → NodeRows → Pool
+pool nr overcommit committed nodes = record { nr = nr; overcommit = overcommit; committed = committed; nodes = nodes }
+
+-- the pages in use of rows of which so many became free
+pub less_used : (s t : NodeRows) (k : ℕ) → sum_row t.rows ≡ put_by k (sum_row s.rows) → free_of s.rows + k ≤ total_of s.rows → used_of t.rows + k ≡ used_of s.rows
+less_used s t k sums within =
+    let free : free_of t.rows ≡ free_of s.rows + k = ap (λ (r : NodeRow). r.free) sums in
+    let total : total_of t.rows ≡ total_of s.rows = ap (λ (r : NodeRow). r.total) sums in
+    omega (arith, free, total, within)
+
+pub put_is : (nr overcommit book node k : ℕ) (s t : NodeRows) → t ≡ puts_at node k s → sum_row t.rows ≡ put_by k (sum_row s.rows) → free_of s.rows + k ≤ total_of s.rows
+    → pool nr overcommit (book + used_of t.rows) t ≡ released k (kept_times node k (pool nr overcommit (book + used_of s.rows) s))
+put_is nr overcommit book node k s t is sums within =
+    let used = less_used s t k sums within in
+    let committed : book + used_of t.rows ≡ book + used_of s.rows - k = omega (arith, used) in
+    ap (λ c. pool nr overcommit c t) committed ∙ ap (pool nr overcommit (book + used_of s.rows - k)) is ∙ ap (released k) (put_are node k (pool nr overcommit (book + used_of s.rows) s))
+
+pub kept_is : (nr overcommit book kept node k : ℕ) (s t : NodeRows) → kept ≡ book + k → t ≡ puts_at node k s → sum_row t.rows ≡ put_by k (sum_row s.rows) → free_of s.rows + k ≤ total_of s.rows
+    → pool nr overcommit (kept + used_of t.rows) t ≡ kept_times node k (pool nr overcommit (book + used_of s.rows) s)
+kept_is nr overcommit book kept node k s t more is sums within =
+    let used = less_used s t k sums within in
+    let committed : kept + used_of t.rows ≡ book + used_of s.rows = omega (arith, used, more) in
+    ap (λ c. pool nr overcommit c t) committed ∙ ap (pool nr overcommit (book + used_of s.rows)) is ∙ put_are node k (pool nr overcommit (book + used_of s.rows) s)

@@ -2,21 +2,22 @@
 ghost use Rattle.std.specs.Prelude.{◌≡◌, ◌+◌, ◌-◌, ◌<◌, ◌≤◌, length, All, IsTrue, IfOk, IfErr, IsOk, ◌↔◌};
 ghost use Rattle.hp_model.specs.pool.NodeRows.{row_at, frames_of, total_of, free_of, surp_of};
 ghost use Rattle.hp_model.specs.pool.Grant.{can_grant, granted};
-ghost use Rattle.hp_model.specs.pool.Pool.{take_node, page_taken, page_put, page_kept, released, settled};
+ghost use Rattle.hp_model.specs.pool.Pool.{take_node, page_taken, kept_times, released, settled};
 ghost use Rattle.hp_model.specs.pool.PoolCounts.{IsSettled, counts_of, rsvd};
 ghost use Rattle.hp_model.specs.pool.Resize.{set_nr, node_count};
-ghost use Rattle.hp_pool.specs.Ledgers.{AreLedgers, node_frames};
+ghost use Rattle.hp_nodes.specs.Ledgers.{AreAll, AreFrames};
+ghost use Rattle.hp_pool.specs.Ledgers.{IsLedger};
 ghost use Rattle.hp_pool.specs.Sums.{idle_pool};
 
-use crate::blanks::Blanks;
 use crate::moves;
 use hp_model::answer::{Counts, NodeCount};
 use hp_model::naming::Naming;
 use hp_model::refusal::Refusal;
-use hp_nodes::{NodeLists, Page};
-use hp_permit::{Book, Permit};
+use hp_nodes::NodeLists;
+use hp_permit::{Book, Claim, ClaimSet, Permit};
 use std::alloc::{AllocError, Global};
 use std::marker::Model;
+use std::sync::ledger::Blank;
 
 /// The pool of huge pages (`admin-guide/mm/hugetlbpage.rst`). All numbers are pages.
 ///
@@ -52,22 +53,26 @@ impl<N: Naming> Model for Pool<N> {
 }
 
 impl<N: Naming> Pool<N> {
-    /// A pool over 1 to 4 nodes with so many frames each, which the blanks have; no frame is in the
+    /// A pool over 1 to 4 nodes with so many frames each, on which there are these claims; no frame is in the
     /// pool yet, and nr and overcommit are 0.
     ///
-    /// Takes no memory but that of the lists: that of the pages was taken for the blanks. Where it is refused, all is
-    /// given back before the error is answered.
+    /// Takes no memory but that of the lists. Where it is refused, the claims are spent.
     #[tactic(auto, using(hp_model::proofs::Sums::idle_total, hp_model::proofs::Sums::idle_surp))]
-    pub fn new(alloc: Global, frames: &[u64], blanks: Blanks) -> Result<Self, AllocError>
+    pub fn new(
+        alloc: Global,
+        frames: &[u64],
+        permits: Blank,
+        claims: ClaimSet<N>,
+    ) -> Result<Self, AllocError>
         requires some { 0 < length frames.now }
         requires few { length frames.now ≤ 4 }
         requires small { All (λ f. f ≤ 65536) frames.now }
-        requires ledgers { AreLedgers N.Naming blanks }
-        requires frames { node_frames blanks ≡ frames.now }
+        requires permits { IsLedger N.permits permits }
+        requires claims { AreAll N.frames claims }
+        requires frames { AreFrames N.frames frames.now }
         ensures { IfOk result (λ p. p ≡ idle_pool frames.now) }
     {
-        let Blanks { permits, pages } = blanks;
-        let lists = NodeLists::new(alloc, frames, pages)?;
+        let lists = NodeLists::new(alloc, frames, claims)?;
         Ok(Pool {
             nr: 0,
             overcommit: 0,
@@ -102,13 +107,13 @@ impl<N: Naming> Pool<N> {
         Ok(self.book.issue(k))
     }
 
-    /// Takes a page by a permit of 1: of the home node where it has a free page, else of the lowest
-    /// node that has. Never refused. The page has the bytes that its last holder left.
+    /// Takes the claim of a page by a permit of 1: of the home node where it has a free page, else of the lowest
+    /// node that has. Never refused.
     #[tactic(auto, using(hp_model::proofs::Sums::some_free))]
-    pub fn take(&mut self, home: usize, permit: Permit<N>) -> Page<N>
+    pub fn take(&mut self, home: usize, permit: Permit<N>) -> Claim<N>
         requires { permit ≡ 1 }
         ensures moved { self.new ≡ page_taken home self.old }
-        ensures node { result.node ≡ take_node home self.old }
+        ensures claim { result ≡ record { node = take_node home self.old; amount = 1 } }
         ensures free { 0 < (row_at self.old.nodes.rows result.node).free }
         ensures settled { IsSettled self.old → IsSettled self.new }
     {
@@ -116,21 +121,24 @@ impl<N: Naming> Pool<N> {
         self.lists.take(home)
     }
 
-    /// Puts a page back at its node, and commits one page less. Never refused.
-    pub fn put(&mut self, page: Page<N>)
-        ensures { self.new ≡ page_put page.node self.old }
+    /// Puts pages back at their node, by their claim, and commits so many less. Never refused.
+    pub fn put(&mut self, claim: Claim<N>)
+        requires { 0 < claim.amount }
+        ensures { self.new ≡ released claim.amount (kept_times claim.node claim.amount self.old) }
     {
-        self.lists.put(page);
+        self.lists.put(claim);
     }
 
-    /// Puts a page back at its node, and keeps a page promised. Never refused.
-    pub fn put_keep(&mut self, page: Page<N>) -> Permit<N>
-        ensures moved { self.new ≡ page_kept page.node self.old }
-        ensures one { result ≡ 1 }
+    /// Puts pages back at their node, by their claim, and keeps so many promised. Never refused.
+    pub fn put_keep(&mut self, claim: Claim<N>) -> Permit<N>
+        requires { 0 < claim.amount }
+        ensures moved { self.new ≡ kept_times claim.node claim.amount self.old }
+        ensures kept { result ≡ claim.amount }
         ensures settled { IsSettled self.old → IsSettled self.new }
     {
-        self.lists.put(page);
-        self.book.issue(1)
+        let count = claim.amount();
+        self.lists.put(claim);
+        self.book.issue(count)
     }
 
     /// Commits so many pages less as the permit promises.

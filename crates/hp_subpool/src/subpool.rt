@@ -1,14 +1,13 @@
 //! The subpool.
 ghost use Rattle.std.specs.Prelude.{◌≡◌, ◌+◌, ◌-◌, ◌<◌, ◌≤◌, ◌^◌, IsTrue, IfOk, IfErr, IsOk, OnOk, OnErr, Err, ◌↔◌};
 ghost use Rattle.hp_model.specs.pool.Grant.{can_grant, granted, is_over};
-ghost use Rattle.hp_model.specs.pool.Pool.{take_node, page_taken, page_kept, released};
+ghost use Rattle.hp_model.specs.pool.Pool.{take_node, page_taken, kept_times, released};
 ghost use Rattle.hp_model.specs.pool.PoolCounts.{IsSettled};
 ghost use Rattle.hp_subpool.specs.Subpool.{used, own_reserve, committed_of, rise, fall, is_full, can_get, lacks_pages, opened, with_reserves, with_page};
 
 use hp_model::naming::Naming;
 use hp_model::refusal::Refusal;
-use hp_nodes::Page;
-use hp_permit::Permit;
+use hp_permit::{Claim, Permit};
 use hp_pool::Pool;
 use std::marker::Model;
 
@@ -98,13 +97,13 @@ impl<N: Naming> Subpool<N> {
         }
     }
 
-    /// Takes the page of a reservation that is held: of the home node where it has a free page,
+    /// Takes the claim of a page for a reservation that is held: of the home node where it has a free page,
     /// else of the lowest node that has. Never refused.
-    pub fn take_one(&mut self, pool: &mut Pool<N>, home: usize) -> Page<N>
+    pub fn take_one(&mut self, pool: &mut Pool<N>, home: usize) -> Claim<N>
         requires { 0 < self.old.held }
         ensures sub { self.new ≡ with_page self.old }
         ensures pool { pool.new ≡ page_taken home pool.old }
-        ensures node { result.node ≡ take_node home pool.old }
+        ensures claim { result ≡ record { node = take_node home pool.old; amount = 1 } }
         ensures settled { IsSettled pool.old → IsSettled pool.new }
     {
         self.pages += 1;
@@ -112,21 +111,22 @@ impl<N: Naming> Subpool<N> {
         pool.take(home, permit)
     }
 
-    /// Puts a page back at its node. What the minimum asks for stays promised.
+    /// Puts pages back at their node, by their claim. What the minimum asks for stays promised.
     /// The pool may then have surplus pages that it doesn't need, until it is settled.
-    pub fn put_page(&mut self, pool: &mut Pool<N>, page: Page<N>)
-        requires { 0 < self.old.pages }
-        ensures sub { self.new ≡ record self.old { pages = self.old.pages - 1 } }
-        ensures pool { pool.new ≡ released (fall self.old 1) (page_kept page.node pool.old) }
+    pub fn put_pages(&mut self, pool: &mut Pool<N>, claim: Claim<N>)
+        requires some { 0 < claim.amount }
+        requires within { claim.amount ≤ self.old.pages }
+        ensures sub { self.new ≡ record self.old { pages = self.old.pages - claim.amount } }
+        ensures pool { pool.new
+            ≡ released (fall self.old claim.amount) (kept_times claim.node claim.amount pool.old) }
     {
-        let used = self.used();
-        self.pages -= 1;
-        if used <= self.min {
-            let permit = pool.put_keep(page);
-            self.own.join(permit);
-        } else {
-            pool.put(page);
-        }
+        let count = claim.amount();
+        let own = self.min.saturating_sub(self.used() - count);
+        let mut part = pool.put_keep(claim);
+        let kept = part.split(own - self.own.amount());
+        self.pages -= count;
+        self.own.join(kept);
+        pool.release(part);
     }
 
     /// Gives k reservations back. What the minimum asks for stays promised.

@@ -9,6 +9,8 @@ use Rattle.std.specs.contracts.sync.ledger.Book as Book
 use Rattle.std.specs.contracts.sync.ledger.Share as Share
 use Rattle.hp_units.specs.contracts.Issuer as Issuer
 use Rattle.hp_units.specs.contracts.Units as Units
+use Rattle.hp_units.specs.contracts.parts.Parts as Parts
+use Rattle.hp_units.specs.contracts.quad.Quad as Quad
 
 chain-keyless : (rows : List (ℕ × ℕ)) (name : ℕ) → Keyless (chain rows name)
 chain-keyless [] name = (tt, tt)
@@ -41,3 +43,10 @@ module _ (L : RattleType) (g : Ghosts L.Denot) where
 
   pub units_send : IsSend (Units.the_row L g)
   units_send = search (sendable, share_send) depth 20
+
+  pub parts_send : IsSend (Parts.the_row L g)
+  parts_send = search (sendable, share_send) depth 20
+
+module _ (A B C D : RattleType) (a : Ghosts A.Denot) (b : Ghosts B.Denot) (c : Ghosts C.Denot) (d : Ghosts D.Denot) where
+  pub quad_send : IsSend (Quad.the_row A B C D a b c d)
+  quad_send = search (sendable, parts_send) depth 20

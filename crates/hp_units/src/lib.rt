@@ -3,6 +3,11 @@
 
 ghost use Rattle.std.specs.Prelude.{◌≡◌, ℕ, ◌+◌, ◌<◌, ◌≤◌, ◌^◌};
 
+mod parts;
+mod quad;
+
+pub use parts::Parts;
+pub use quad::Quad;
 use std::marker::Model;
 use std::sync::ledger::{Blank, Book, Ledger, Share};
 

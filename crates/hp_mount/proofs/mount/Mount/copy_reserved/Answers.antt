@@ -1,4 +1,4 @@
-use Rattle.std.proofs.Common.{◌≡◌, ℕ, ◌<◌, ◌||◌, Bool, true, false, None, Some, sym, ap, subst, ◌∙◌}
+use Rattle.std.proofs.Common.{◌≡◌, ℕ, ◌<◌, ◌||◌, Bool, true, false, None, Some, sym, ap, subst, ◌∙◌, arith}
 use Rattle.hp_model.specs.declared.place.Place.TheVariants.{Live}
 use Rattle.hp_model.specs.declared.section.Section.TheVariants.{TakePage}
 use Rattle.hp_model.specs.files.File.{Mount}
@@ -51,6 +51,14 @@ take_page-requires-clause-held g c =
     let a = (goal.at.take_page-requires-clause-held g c).After-self in
     subst (λ (x : share.Subpool). 0 < x.held) (sym (c.requires.shares c.self.inside.share))
     (keeps.owner_held c.self.inside.share c.self.inside.files c.self.inside.inodes c.args.self.now c.self.invariant c.self.view_is c.args.at.file c.args.at.map c.args.index c.requires.file c.requires.map c.requires.needs.consumed (place g a) (reserved g a))
+
+pub put_copy-requires-clause-room : goal.put_copy-requires-clause-room
+put_copy-requires-clause-room g c =
+    let a = (goal.at.put_copy-requires-clause-room g c).After-self in
+    let held =
+    keeps.owner_held c.self.inside.share c.self.inside.files c.self.inside.inodes c.args.self.now c.self.invariant c.self.view_is c.args.at.file c.args.at.map c.args.index c.requires.file c.requires.map c.requires.needs.consumed (place g a) (reserved g a)
+    in
+    omega (arith, held, c.self.invariant.room)
 
 pub invariant_of-self-2 : goal.invariant_of-self-2
 invariant_of-self-2 g c = kept g (goal.at.invariant_of-self-2 g c).After-self c.put_copy.result c.with_shown-page.result c.take_page.new.share c.put_copy.new.self c.put_copy.ensures.fresh c.in_ok-got.ensures.share c.put_copy.ensures.copied

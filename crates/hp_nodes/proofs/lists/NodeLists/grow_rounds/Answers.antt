@@ -22,7 +22,7 @@ invariant_of-self g c =
     in
     let least : All (HasMany Idle c.least.result) rows = subst (All (HasMany Idle c.least.result)) c.deref-2.ensures.value c.least.ensures in
     let enough : All (HasMany Idle r) rows = λ k d below e. (let h = least k d below e in omega (arith, h, c.min-rounds.ensures)) in
-    rw left (kept_grow_each rows s.growth s.release s.marks s.stocks.items r c.self.invariant enough)
+    rw left (kept_grow_each rows s.growth s.release s.claims r c.self.invariant enough)
 
 pub returns-clause-moved : goal.returns-clause-moved
 returns-clause-moved g c =

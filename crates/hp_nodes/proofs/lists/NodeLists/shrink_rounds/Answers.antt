@@ -23,7 +23,7 @@ invariant_of-self g c =
     let least : All (HasMany Free c.least.result) rows = subst (All (HasMany Free c.least.result)) c.deref-2.ensures.value c.least.ensures in
     let enough : All (HasMany Free r) rows = λ k d below e. (let h = least k d below e in omega (arith, h, c.min-rounds.ensures)) in
     let bare : All (λ x. x.surp ≡ 0) rows = subst (λ v. All (λ x. x.surp ≡ 0) v.rows) (sym c.self.view_is) c.requires.no_surplus in
-    rw left (kept_shrink_each rows s.growth s.release s.marks s.stocks.items r c.self.invariant enough bare)
+    rw left (kept_shrink_each rows s.growth s.release s.claims r c.self.invariant enough bare)
 
 pub returns-clause-moved : goal.returns-clause-moved
 returns-clause-moved g c =

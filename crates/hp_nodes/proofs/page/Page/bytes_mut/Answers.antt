@@ -8,4 +8,4 @@ invariant_of-self-lent g c = λ w.
     let h = c.self.invariant in
     let old = c.self.inside.frame.bytes in
     let long : length (rewritten old w) ≡ length old = grind (arith, common_steps) in
-    record { below = h.below; node_is = h.node_is; memory_is = h.memory_is; length_is = long ∙ h.length_is }
+    record { below = h.below; marked = h.marked; memory_is = h.memory_is; length_is = long ∙ h.length_is }

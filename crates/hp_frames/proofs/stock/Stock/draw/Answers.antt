@@ -6,7 +6,7 @@ use Rattle.linked_list_allocator.specs.Holes.{taken}
 use Rattle.linked_list_allocator.specs.Region.{block_size}
 use Rattle.hp_frames.specs.Stock.{IsOf}
 use Rattle.hp_frames.proofs.Cuts.{cut, some_units}
-use Rattle.hp_frames.proofs.stock.Stock.take.Goals as goal
+use Rattle.hp_frames.proofs.stock.Stock.draw.Goals as goal
 
 pub unwrap-layout-requires : goal.unwrap-layout-requires
 unfolding lib.Count.ones

@@ -1,5 +1,0 @@
-use Rattle.hp_mount_door.proofs.Returning.{granted_ready}
-use Rattle.hp_mount_door.proofs.own.PoolPoolDoor.get.Goals as goal
-
-pub returns-clause-left : goal.returns-clause-left
-returns-clause-left g c = granted_ready c.get.result _ _ _ _ c.args.self.now c.get.new.pool c.get.ensures.ok c.get.ensures.err c.get.ensures.settled c.requires.ready

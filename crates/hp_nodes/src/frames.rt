@@ -1,0 +1,183 @@
+//! The frames of a node that nobody holds.
+ghost use Rattle.std.specs.Prelude.{◌≡◌, ◌+◌, ◌<◌, ◌≤◌};
+ghost use Rattle.hp_units.specs.Quad.{at, plus};
+ghost use Rattle.hp_nodes.specs.Kept.{IsHome};
+ghost use Rattle.hp_nodes.specs.Ledgers.{AreAll, AreLedgers};
+
+use crate::blanks::{Blanks, NodeBlanks};
+use crate::page::{Marks, Page};
+use hp_frames::Stock;
+use hp_model::naming::Naming;
+use hp_permit::{Claim, ClaimSet};
+use hp_units::Quad;
+use std::marker::Model;
+
+/// The frames of node K that nobody holds, and the claims of those that somebody holds. Contracts see how many are here.
+pub struct NodeFrames<N: Naming, const K: usize> {
+    stock: Stock,
+    marks: Marks<N>,
+    kept: Claim<N>,
+}
+
+impl<N: Naming, const K: usize> Model for NodeFrames<N, K> {
+    ghost use Rattle.std.specs.Prelude.{ℕ, ◌≡◌, ◌<◌};
+    ghost use Rattle.hp_nodes.specs.Kept.{IsHome};
+
+    ghost Value = { ℕ };
+
+    ghost view = { λ f. f.stock.here };
+
+    ghost invariant = { λ f. (f.stock.node ≡ K) × (K < 4) × IsHome N.frames N.memory N.page_bytes f.stock f.marks f.kept };
+}
+
+// Adds marks. There are no more of a node than it has frames.
+fn join_marks<N: Naming>(marks: &mut Marks<N>, mark: Marks<N>, node: usize)
+    requires { node < 4 }
+    ensures sum { marks.new ≡ plus marks.old mark }
+    ensures within { at node marks.new ≤ N.frames node }
+{
+    marks.join(mark);
+}
+
+impl<N: Naming, const K: usize> NodeFrames<N, K> {
+    // All frames of the node are here.
+    fn new(stock: Stock, marks: Marks<N>, kept: Claim<N>) -> Self
+        requires node { stock.node ≡ K }
+        requires below { K < 4 }
+        requires home { IsHome N.frames N.memory N.page_bytes stock marks kept }
+    {
+        NodeFrames { stock, marks, kept }
+    }
+
+    /// Ends them. A page that is still out can't come back any more.
+    pub fn close(self) {
+        let NodeFrames {
+            stock: _,
+            marks,
+            kept,
+        } = self;
+        marks.close();
+        kept.close();
+    }
+
+    /// The page of a claim, with the bytes that its last holder left. Never refused.
+    pub fn redeem(&mut self, claim: Claim<N>) -> Page<N>
+        requires own { claim.node ≡ K }
+        requires one { claim.amount ≡ 1 }
+        ensures node { result.node ≡ K }
+        ensures left { self.new + 1 ≡ self.old }
+    {
+        self.kept.join(claim);
+        let frame = self.stock.take();
+        let node = frame.node();
+        Page::new(frame, self.marks.split(node, 1))
+    }
+
+    /// The claim of a page that comes back. Never refused.
+    pub fn give(&mut self, page: Page<N>) -> Claim<N>
+        requires own { page.node ≡ K }
+        ensures claim { result ≡ record { node = K; amount = 1 } }
+        ensures left { self.new ≡ self.old + 1 }
+    {
+        let (frame, mark) = page.into_parts();
+        join_marks::<N>(&mut self.marks, mark, frame.node());
+        self.stock.put(frame);
+        self.kept.split(1)
+    }
+}
+
+/// The frames of all nodes that nobody holds, for one thread. It can't be dropped: `close` ends it.
+pub struct Frames<N: Naming> {
+    zero: NodeFrames<N, 0>,
+    one: NodeFrames<N, 1>,
+    two: NodeFrames<N, 2>,
+    three: NodeFrames<N, 3>,
+}
+
+impl<N: Naming> Frames<N> {
+    /// All frames, and the claims on them.
+    pub fn new(blanks: Blanks) -> (Self, ClaimSet<N>)
+        requires { AreLedgers N.Naming blanks }
+        ensures { AreAll N.frames result.1 }
+    {
+        let Blanks {
+            zero,
+            one,
+            two,
+            three,
+        } = blanks;
+        let NodeBlanks {
+            count: count_0,
+            claims: claims_0,
+            pages: pages_0,
+            stock: stock_0,
+        } = zero;
+        let NodeBlanks {
+            count: count_1,
+            claims: claims_1,
+            pages: pages_1,
+            stock: stock_1,
+        } = one;
+        let NodeBlanks {
+            count: count_2,
+            claims: claims_2,
+            pages: pages_2,
+            stock: stock_2,
+        } = two;
+        let NodeBlanks {
+            count: count_3,
+            claims: claims_3,
+            pages: pages_3,
+            stock: stock_3,
+        } = three;
+        let mut claims = ClaimSet::all(claims_0, claims_1, claims_2, claims_3);
+        let mut marks: Marks<N> = Quad::all(pages_0, pages_1, pages_2, pages_3);
+        let frames = Frames {
+            zero: NodeFrames::new(stock_0, marks.split(0, count_0), claims.none(0)),
+            one: NodeFrames::new(stock_1, marks.split(1, count_1), claims.none(1)),
+            two: NodeFrames::new(stock_2, marks.split(2, count_2), claims.none(2)),
+            three: NodeFrames::new(stock_3, marks.split(3, count_3), claims.none(3)),
+        };
+        marks.close();
+        (frames, claims)
+    }
+
+    /// The page of a claim, with the bytes that its last holder left. Never refused.
+    pub fn redeem(&mut self, claim: Claim<N>) -> Page<N>
+        requires { claim.amount ≡ 1 }
+        ensures { result.node ≡ claim.node }
+    {
+        match claim.node() {
+            0 => self.zero.redeem(claim),
+            1 => self.one.redeem(claim),
+            2 => self.two.redeem(claim),
+            _ => self.three.redeem(claim),
+        }
+    }
+
+    /// The claim of a page that comes back. Never refused.
+    pub fn give(&mut self, page: Page<N>) -> Claim<N>
+        ensures { result ≡ record { node = page.node; amount = 1 } }
+    {
+        match page.node() {
+            0 => self.zero.give(page),
+            1 => self.one.give(page),
+            2 => self.two.give(page),
+            _ => self.three.give(page),
+        }
+    }
+
+    /// Ends them. A page that is still out can't come back any more.
+    pub fn close(self) {
+        let Frames {
+            zero,
+            one,
+            two,
+            three,
+        } = self;
+        zero.close();
+        one.close();
+        two.close();
+        three.close();
+    }
+}

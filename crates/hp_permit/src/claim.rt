@@ -1,0 +1,103 @@
+//! A claim on frames of a node.
+ghost use Rattle.std.specs.Prelude.{◌≡◌, ℕ, ◌+◌, ◌<◌, ◌≤◌, ◌^◌};
+ghost use Rattle.hp_units.specs.Quad.{alone};
+
+use hp_model::naming::{Claims, Naming};
+use hp_units::Quad;
+use std::marker::Model;
+
+pub(crate) type ClaimParts<N> = Quad<Claims<N, 0>, Claims<N, 1>, Claims<N, 2>, Claims<N, 3>>;
+
+/// So many frames of one node, which nobody else has. It can't be dropped. Contracts see the node and the number.
+pub struct Claim<N: Naming> {
+    node: usize,
+    amount: u64,
+    parts: ClaimParts<N>,
+}
+
+impl<N: Naming> Model for Claim<N> {
+    ghost use Rattle.std.specs.Prelude.{◌≡◌, ◌<◌};
+    ghost use Rattle.hp_permit.specs.Claim.{Claim};
+    ghost use Rattle.hp_units.specs.Quad.{alone};
+
+    ghost Value = { Claim };
+
+    ghost view = { λ c. record { node = c.node; amount = c.amount } };
+
+    ghost invariant = { λ c. (c.node < 4) × (c.parts ≡ alone c.node c.amount) };
+}
+
+impl<N: Naming> Claim<N> {
+    pub(crate) fn new(node: usize, amount: u64, parts: ClaimParts<N>) -> Self
+        requires node { node < 4 }
+        requires parts { parts ≡ alone node amount }
+        ensures { result ≡ record { node = node; amount = amount } }
+    {
+        Claim {
+            node,
+            amount,
+            parts,
+        }
+    }
+
+    pub(crate) fn into_parts(self) -> (usize, u64, ClaimParts<N>)
+        ensures node { (result.0 ≡ self.node) × (result.0 < 4) }
+        ensures amount { result.1 ≡ self.amount }
+        ensures parts { result.2 ≡ alone self.node self.amount }
+    {
+        let Claim {
+            node,
+            amount,
+            parts,
+        } = self;
+        (node, amount, parts)
+    }
+
+    pub fn node(&self) -> usize
+        ensures node { result ≡ self.now.node }
+        ensures below { result < 4 }
+    {
+        self.node
+    }
+
+    /// How many frames.
+    pub fn amount(&self) -> u64
+        ensures { result ≡ self.now.amount }
+    {
+        self.amount
+    }
+
+    pub fn split(&mut self, amount: u64) -> Self
+        requires { amount ≤ self.old.amount }
+        ensures node { self.new.node ≡ self.old.node }
+        ensures left { self.new.amount + amount ≡ self.old.amount }
+        ensures given { result ≡ record { node = self.old.node; amount = amount } }
+    {
+        let parts = self.parts.split(self.node, amount);
+        self.amount -= amount;
+        Claim {
+            node: self.node,
+            amount,
+            parts,
+        }
+    }
+
+    /// Adds a claim of the same node. All claims of a node together are its frames.
+    pub fn join(&mut self, other: Self)
+        requires node { other.node ≡ self.old.node }
+        requires few { N.frames self.old.node < 2 ^ 64 }
+        ensures node { self.new.node ≡ self.old.node }
+        ensures sum { self.new.amount ≡ self.old.amount + other.amount }
+        ensures within { self.new.amount ≤ N.frames self.old.node }
+    {
+        let (_, amount, parts) = other.into_parts();
+        self.parts.join(parts);
+        self.amount += amount;
+    }
+
+    /// Spends it.
+    pub fn close(self) {
+        let (_, _, parts) = self.into_parts();
+        parts.close();
+    }
+}
