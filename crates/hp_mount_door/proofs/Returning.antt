@@ -1,6 +1,6 @@
 -- Pages that go back in parts go back as they do at once.
-use Rattle.std.proofs.Common.{◌≡◌, ℕ, zero, suc, ◌+◌, ◌-◌, ◌≤◌, Bool, cond, eqb, List, [], ◌∷◌, ◌++◌, length, map, max, refl, sym, ap, subst, ◌∙◌, arith}
-use Rattle.std.specs.Prelude.{◌==◌, nat_lt, OnErr, OnOk, Result, Ok, Err}
+use Rattle.std.proofs.Common.{◌≡◌, ℕ, zero, suc, ◌+◌, ◌-◌, ◌<◌, ◌≤◌, Bool, cond, eqb, List, [], ◌∷◌, ◌++◌, length, map, max, refl, sym, ap, subst, ◌∙◌, arith}
+use Rattle.std.specs.Prelude.{◌==◌, nat_lt, slice_index, slice_set, OnErr, OnOk, Result, Ok, Err}
 use Rattle.std.specs.List.{count_by, range_with_len, sum}
 use Rattle.std.proofs.lemmas.Bool.{cond_both}
 use Rattle.std.proofs.lemmas.Bool.Decides.{nat_tests}
@@ -12,7 +12,7 @@ use Rattle.hp_model.specs.pool.NodeRows.{NodeRows, at_row, give_back_row, given_
 use Rattle.hp_model.specs.declared.node.Kind.TheVariants.{Free, FreeSurplus, Surplus}
 use Rattle.hp_model.specs.declared.refusal.Refusal.{Refusal}
 use Rattle.hp_model.specs.files.Page.{Page}
-use Rattle.hp_model.specs.pool.Pool.{give_back_times, page_kept, page_taken, granted_at, puts_from, released, section, settled}
+use Rattle.hp_model.specs.pool.Pool.{give_back_times, kept_times, page_kept, page_taken, granted_at, puts_from, released, section, settled}
 use Rattle.hp_model.specs.pool.PoolCounts.{IsSettled, Pool}
 use Rattle.hp_model.proofs.RowMoves.{page_in, put_rows, puts_are}
 use Rattle.hp_subpool.specs.Subpool.{Subpool, committed_of, fall, used}
@@ -73,30 +73,7 @@ firsts_same (suc k) f g h = ap (λ x. x ∷ firsts k (λ n. f (suc n))) (h 0) �
 put_none : (k : ℕ) (f : ℕ → ℕ) (rows : List NodeRow) → ((n : ℕ) → f n ≡ 0) → put_rows (firsts k f) rows ≡ rows
 put_none k f rows h = put_nothing (firsts k f) rows (firsts_none k f h)
 
--- one page, at a node
-put_one : (k node : ℕ) (f : ℕ → ℕ) (rows : List NodeRow) → length rows ≤ k → ((n : ℕ) → f n ≡ cond (eqb node n) 1 0) → put_rows (firsts k f) rows ≡ at_row put_row node rows
-put_one zero node f [] l h = refl
-put_one zero node f (r ∷ rows) l h = absurd (omega (arith, l))
-put_one (suc k) node f [] l h = refl
-put_one (suc k) zero f (r ∷ rows) l h =
-    ap (λ x. page_in x r ∷ put_rows (firsts k (λ n. f (suc n))) rows) (h 0) ∙ ap (λ rs. put_row r ∷ rs) (put_none k (λ n. f (suc n)) rows (λ n. let e = h (suc n) in grind (arith, nat_tests)))
-put_one (suc k) (suc node) f (r ∷ rows) l h =
-    let first : f 0 ≡ 0 = (let e = h 0 in grind (arith, nat_tests)) in
-    ap (λ x. page_in x r ∷ put_rows (firsts k (λ n. f (suc n))) rows) first ∙ ap (λ x. record r { free = x } ∷ put_rows (firsts k (λ n. f (suc n))) rows) (omega arith)
-    ∙ ap (λ rs. r ∷ rs) (put_one k node (λ n. f (suc n)) rows (omega (arith, l)) (λ n. let e = h (suc n) in grind (arith, nat_tests)))
-
-put_both : (k : ℕ) (f g h : ℕ → ℕ) (rows : List NodeRow) → ((n : ℕ) → h n ≡ f n + g n) → put_rows (firsts k f) (put_rows (firsts k g) rows) ≡ put_rows (firsts k h) rows
-put_both zero f g h rows e = refl
-put_both (suc k) f g h [] e = refl
-put_both (suc k) f g h (r ∷ rows) e =
-    ap (λ x. record r { free = x } ∷ put_rows (firsts k (λ n. f (suc n))) (put_rows (firsts k (λ n. g (suc n))) rows)) (let first = e 0 in omega (arith, first))
-    ∙ ap (λ rs. page_in (h 0) r ∷ rs) (put_both k (λ n. f (suc n)) (λ n. g (suc n)) (λ n. h (suc n)) rows (λ n. e (suc n)))
-
 -- ---- the pool
-
--- so many pages go back, and so many of them at each node; what the minimum asks for stays promised
-abbrev pub returned : Subpool → (pages : ℕ) → (at : ℕ → ℕ) → Pool → Pool
-returned s k at p = released (fall s k) (puts_from 0 (map at (range_with_len 0 4)) p)
 
 falls_both : (x y z c : ℕ) → z ≤ y → y ≤ x → c - (x - y) - (y - z) ≡ c - (x - z)
 falls_both x y z c l h = omega (arith, l, h)
@@ -110,94 +87,105 @@ falls_are s k r c l =
     ap (λ v. c - fall s k - (max v s.min - max (v - r) s.min)) first ∙ ap (λ v. c - fall s k - (max (u - k) s.min - max v s.min)) second
     ∙ falls_both (max u s.min) (max (u - k) s.min) (max (u - (k + r)) s.min) c (omega arith) (omega arith)
 
-returned_both : (s next : Subpool) (k r : ℕ) (f g h : ℕ → ℕ) (p : Pool) → next ≡ record s { pages = s.pages - k } → k ≤ s.pages → ((n : ℕ) → h n ≡ f n + g n)
-    → returned next r f (returned s k g p) ≡ returned s (k + r) h p
-returned_both s next k r f g h p is l e =
-    let fs = map f (range_with_len 0 4) in
-    let gs = map g (range_with_len 0 4) in
-    let hs = map h (range_with_len 0 4) in
-    let mid : Subpool = record s { pages = s.pages - k } in
-    let first : Pool = record p { committed = p.committed - fall s k; nodes = record p.nodes { rows = put_rows gs p.nodes.rows } } in
-    ap (λ x. returned x r f (returned s k g p)) is
-    ∙ ap (λ q. released (fall mid r) (puts_from 0 fs (released (fall s k) q))) (puts_are gs p)
-    ∙ ap (released (fall mid r)) (puts_are fs first)
-    ∙ ap (λ rs. record p { committed = p.committed - fall s k - fall mid r; nodes = record p.nodes { rows = rs } }) (put_both 4 f g h p.nodes.rows e)
-    ∙ ap (λ c. record p { committed = c; nodes = record p.nodes { rows = put_rows hs p.nodes.rows } }) (falls_are s k r p.committed l)
-    ∙ ap (released (fall s (k + r))) (sym (puts_are hs p))
+-- pages that are put before a release, or after it
+kept_released : (node k c : ℕ) (p : Pool) → kept_times node k (released c p) ≡ released c (kept_times node k p)
+kept_released node zero c p = refl
+kept_released node (suc k) c p = ap (page_kept node) (kept_released node k c p)
 
-returned_one : (s : Subpool) (page : Page) (p : Pool) → length p.nodes.rows ≤ 4 → released (fall s 1) (page_kept page.node p) ≡ returned s 1 (λ n. cond (eqb page.node n) 1 0) p
-returned_one s page p l =
-    let ks = map (λ n. cond (eqb page.node n) 1 0) (range_with_len 0 4) in
-    ap (released (fall s 1)) (ap (λ rs. record p { nodes = record p.nodes { rows = rs } }) (sym (put_one 4 page.node (λ n. cond (eqb page.node n) 1 0) p.nodes.rows l (λ n. refl))) ∙ sym (puts_are ks p))
+-- what is put at one more node
+more_put : (s now next : Subpool) (base p q : Pool) (done k node : ℕ) → done ≤ s.pages → (now ≡ record s { pages = s.pages - done }) × (p ≡ released (fall s done) base)
+    → next ≡ record now { pages = now.pages - k } → q ≡ released (fall now k) (kept_times node k p)
+    → (next ≡ record s { pages = s.pages - (done + k) }) × (q ≡ released (fall s (done + k)) (kept_times node k base))
+more_put s now next base p q done k node within was next_is q_is =
+    let less : s.pages - done - k ≡ s.pages - (done + k) = omega arith in
+    let mid : Subpool = record s { pages = s.pages - done } in
+    let put : Pool = kept_times node k base in (
+      next_is ∙ ap (λ (x : Subpool). record x { pages = x.pages - k }) was.0 ∙ ap (λ n. record s { pages = n }) less,
+      q_is ∙ ap (λ x. released (fall x k) (kept_times node k p)) was.0 ∙ ap (λ x. released (fall mid k) (kept_times node k x)) was.1
+          ∙ ap (released (fall mid k)) (kept_released node k (fall s done) base) ∙ ap (λ c. record put { committed = c }) (falls_are s done k put.committed within),
+    )
 
-returned_none : (s : Subpool) (k : ℕ) (at : ℕ → ℕ) (p : Pool) → k ≡ 0 → ((n : ℕ) → at n ≡ 0) → returned s k at p ≡ p
-returned_none s k at p none each =
-    let falls : p.committed - fall s k ≡ p.committed = omega (arith, none) in
-    ap (released (fall s k)) (puts_are (map at (range_with_len 0 4)) p)
-    ∙ ap (λ rs. record p { committed = p.committed - fall s k; nodes = record p.nodes { rows = rs } }) (put_none 4 at p.nodes.rows each)
-    ∙ ap (λ c. record p { committed = c }) falls
+-- so many at each of four nodes, one node after another
+pub four_put : (s s1 s2 s3 s4 : Subpool) (p p1 p2 p3 p4 : Pool) (a b c d : ℕ) → sum (a ∷ b ∷ c ∷ d ∷ []) ≤ s.pages
+    → s1 ≡ record s { pages = s.pages - a } → p1 ≡ released (fall s a) (kept_times 0 a p)
+    → s2 ≡ record s1 { pages = s1.pages - b } → p2 ≡ released (fall s1 b) (kept_times 1 b p1)
+    → s3 ≡ record s2 { pages = s2.pages - c } → p3 ≡ released (fall s2 c) (kept_times 2 c p2)
+    → s4 ≡ record s3 { pages = s3.pages - d } → p4 ≡ released (fall s3 d) (kept_times 3 d p3)
+    → (s4 ≡ record s { pages = s.pages - sum (a ∷ b ∷ c ∷ d ∷ []) }) × (p4 ≡ released (fall s (sum (a ∷ b ∷ c ∷ d ∷ []))) (puts_from 0 (a ∷ b ∷ c ∷ d ∷ []) p))
+four_put s s1 s2 s3 s4 p p1 p2 p3 p4 a b c d within e1 q1 e2 q2 e3 q3 e4 q4 =
+    let all : sum (a ∷ b ∷ c ∷ d ∷ []) ≡ a + b + c + d = omega arith in
+    let two = more_put s s1 s2 (kept_times 0 a p) p1 p2 a b 1 (omega (arith, within, all)) (e1, q1) e2 q2 in
+    let three = more_put s s2 s3 (kept_times 1 b (kept_times 0 a p)) p2 p3 (a + b) c 2 (omega (arith, within, all)) two e3 q3 in
+    let four = more_put s s3 s4 (kept_times 2 c (kept_times 1 b (kept_times 0 a p))) p3 p4 (a + b + c) d 3 (omega (arith, within, all)) three e4 q4 in
+    (four.0 ∙ ap (λ n. record s { pages = s.pages - n }) (sym all), four.1 ∙ ap (λ n. released (fall s n) (puts_from 0 (a ∷ b ∷ c ∷ d ∷ []) p)) (sym all))
 
 put_length : (k : ℕ) (f : ℕ → ℕ) (rows : List NodeRow) → length (put_rows (firsts k f) rows) ≡ length rows
 put_length zero f rows = refl
 put_length (suc k) f [] = refl
 put_length (suc k) f (r ∷ rows) = ap suc (put_length k (λ n. f (suc n)) rows)
 
--- ---- a loop that gives pages back
-
--- what is left to give back, k pages and so many of them at each node, leads to the end to which all of them led at the start
-pub record IsLeading (start : Subpool) (all : ℕ) (all_at : ℕ → ℕ) (base : Pool) (s : Subpool) (k : ℕ) (at : ℕ → ℕ) (p : Pool) : Type 0 where
-  pub within : k ≤ s.pages
-  pub nodes : length p.nodes.rows ≤ 4
-  pub share : record s { pages = s.pages - k } ≡ record start { pages = start.pages - all }
-  pub pool : returned s k at p ≡ returned start all all_at base
-
-module _ (start : Subpool) (all : ℕ) (all_at : ℕ → ℕ) (base : Pool) (s : Subpool) (k : ℕ) (at : ℕ → ℕ) (p : Pool) (leads : IsLeading start all all_at base s k at p) where
-  leads_last : k ≡ 0 → ((n : ℕ) → at n ≡ 0) → (s ≡ record start { pages = start.pages - all }) × (p ≡ returned start all all_at base)
-  leads_last none each =
-      let pages : s.pages - k ≡ s.pages = omega (arith, none) in
-      (ap (λ n. record s { pages = n }) (sym pages) ∙ leads.share, sym (returned_none s k at p none each) ∙ leads.pool)
-
-  -- a part of the pages goes back
-  leads_on : (next : Subpool) (q : Pool) (part r : ℕ) (f g : ℕ → ℕ) → k ≡ part + r → ((n : ℕ) → at n ≡ f n + g n) → next ≡ record s { pages = s.pages - part } → q ≡ returned s part g p
-      → IsLeading start all all_at base next r f q
-  leads_on next q part r f g sums each next_is q_is =
-      let within = leads.within in
-      let nodes = leads.nodes in
-      let pages = ap (λ x. x.pages + 0) next_is in
-      let gs = map g (range_with_len 0 4) in
-      let rows : length q.nodes.rows ≡ length p.nodes.rows = ap (λ x. length x.nodes.rows) (q_is ∙ ap (released (fall s part)) (puts_are gs p)) ∙ put_length 4 g p.nodes.rows in
-      let left : s.pages - part - r ≡ s.pages - k = omega (arith, sums) in
-      let left_of : (a b : Subpool) → a ≡ b → record a { pages = a.pages - r } ≡ record b { pages = b.pages - r } = λ a b e. ap {A = Subpool} (λ x. record x { pages = x.pages - r }) e in
-      record {
-        within = omega (arith, within, pages, sums);
-        nodes = omega (arith, nodes, rows);
-        share = left_of next (record s { pages = s.pages - part }) next_is ∙ ap (λ n. record s { pages = n }) left ∙ leads.share;
-        pool = ap (returned next r f) q_is ∙ returned_both s next part r f g at p next_is (omega (arith, within, sums)) each ∙ ap (λ n. returned s n at p) (sym sums) ∙ leads.pool;
-      }
-
--- ---- pages
+-- ---- pages are counted
 
 abbrev is_at : ℕ → Page → Bool
 is_at n page = page.node == n
 
-abbrev pub LeadsPages : Subpool → List Page → Pool → Subpool → List Page → Pool → Type 0
-LeadsPages start all base s pages p = IsLeading start (length all) (λ n. count_by (is_at n) all) base s (length pages) (λ n. count_by (is_at n) pages) p
+-- what is counted by node, and what still is to be
+pub record AreCounted (all pages : List Page) (counts : List ℕ) : Type 0 where
+  pub four : length counts ≡ 4
+  pub each : (n : ℕ) → n < 4 → slice_index counts n + count_by (is_at n) pages ≡ count_by (is_at n) all
+  pub sums : sum counts + length pages ≡ length all
 
-pub none_put : (s : Subpool) (pages : List Page) (p : Pool) → length pages ≤ s.pages → length p.nodes.rows ≤ 4 → LeadsPages s pages p s pages p
-none_put s pages p within nodes = record { within = within; nodes = nodes; share = refl; pool = refl }
+pub none_counted : (pages : List Page) → AreCounted pages pages (0 ∷ 0 ∷ 0 ∷ 0 ∷ [])
+none_counted pages = record { four = refl; each = λ n below. none n below; sums = refl }
+  where
+    none : (n : ℕ) → n < 4 → slice_index (0 ∷ 0 ∷ 0 ∷ 0 ∷ []) n + count_by (is_at n) pages ≡ count_by (is_at n) pages
+    none zero l = omega arith
+    none (suc zero) l = omega arith
+    none (suc (suc zero)) l = omega arith
+    none (suc (suc (suc zero))) l = omega arith
+    none (suc (suc (suc (suc n)))) l = absurd (omega (arith, l))
 
-pub page_put : (start : Subpool) (all : List Page) (base : Pool) (s : Subpool) (pages rest : List Page) (p : Pool) (page : Page) (next : Subpool) (q : Pool) → pages ≡ rest ++ page ∷ []
-    → next ≡ record s { pages = s.pages - 1 } → q ≡ released (fall s 1) (page_kept page.node p) → LeadsPages start all base s pages p → LeadsPages start all base next rest q
-page_put start all base s pages rest p page next q is next_is q_is leads =
+bumped : (counts : List ℕ) (node n : ℕ) → node < length counts → slice_index (slice_set counts node (slice_index counts node + 1)) n ≡ slice_index counts n + cond (eqb node n) 1 0
+bumped [] node n l = absurd (omega (arith, l))
+bumped (c ∷ cs) zero zero l = refl
+bumped (c ∷ cs) zero (suc n) l = grind (arith, nat_tests)
+bumped (c ∷ cs) (suc node) zero l = grind (arith, nat_tests)
+bumped (c ∷ cs) (suc node) (suc n) l = (let rest = bumped cs node n (omega (arith, l)) in grind (arith, nat_tests))
+
+bumped_sum : (counts : List ℕ) (node : ℕ) → node < length counts → sum (slice_set counts node (slice_index counts node + 1)) ≡ sum counts + 1
+bumped_sum [] node l = absurd (omega (arith, l))
+bumped_sum (c ∷ cs) zero l = omega (arith, sum_by-cons (λ x. x) (c + 1) cs, sum_by-cons (λ x. x) c cs)
+bumped_sum (c ∷ cs) (suc node) l =
+    (let rest = bumped_sum cs node (omega (arith, l)) in omega (arith, rest, sum_by-cons (λ x. x) c (slice_set cs node (slice_index cs node + 1)), sum_by-cons (λ x. x) c cs))
+
+pub one_counted : (all pages rest : List Page) (counts next : List ℕ) (page : Page) → pages ≡ rest ++ page ∷ [] → page.node < 4 → next ≡ slice_set counts page.node (slice_index counts page.node + 1) → AreCounted all pages counts
+    → AreCounted all rest next
+one_counted all pages rest counts next page is below next_is h =
     let long = ap length is ∙ length-append rest (page ∷ []) in
-    leads_on start (length all) (λ n. count_by (is_at n) all) base s (length pages) (λ n. count_by (is_at n) pages) p leads
-    next q 1 (length rest) (λ n. count_by (is_at n) rest) (λ n. cond (eqb page.node n) 1 0) (omega (arith, long))
-    (λ n. ap (count_by (is_at n)) is ∙ sum_by_push (λ x. cond (is_at n x) 1 0) rest page) next_is (q_is ∙ returned_one s page p leads.nodes)
+    let within : page.node < length counts = omega (arith, below, h.four) in
+    record {
+      four = ap length next_is ∙ length-set counts page.node _ ∙ h.four;
+      each = λ n l.
+          (let more = ap (λ xs. slice_index xs n) next_is ∙ bumped counts page.node n within in
+          let pushed = ap (count_by (is_at n)) is ∙ sum_by_push (λ x. cond (is_at n x) 1 0) rest page in
+          let was = h.each n l in
+          omega (arith, more, pushed, was));
+      sums = (let more = ap sum next_is ∙ bumped_sum counts page.node within in omega (arith, more, long, h.sums));
+    }
 
-pub all_put : (start : Subpool) (all : List Page) (base : Pool) (s : Subpool) (pages : List Page) (p : Pool) → LeadsPages start all base s pages p → pages ≡ []
-    → (s ≡ record start { pages = start.pages - length all }) × (p ≡ released (fall start (length all)) (puts_from 0 (by_node all) base))
-all_put start all base s pages p leads none =
-    leads_last start (length all) (λ n. count_by (is_at n) all) base s (length pages) (λ n. count_by (is_at n) pages) p leads (ap length none) (λ n. ap (count_by (is_at n)) none)
+four_are : (counts : List ℕ) (f : ℕ → ℕ) → length counts ≡ 4 → ((n : ℕ) → n < 4 → slice_index counts n ≡ f n) → counts ≡ map f (range_with_len 0 4)
+four_are [] f l h = absurd (omega (arith, l))
+four_are (a ∷ []) f l h = absurd (omega (arith, l))
+four_are (a ∷ b ∷ []) f l h = absurd (omega (arith, l))
+four_are (a ∷ b ∷ c ∷ []) f l h = absurd (omega (arith, l))
+four_are (a ∷ b ∷ c ∷ d ∷ []) f l h =
+    ap (λ x. x ∷ b ∷ c ∷ d ∷ []) (h 0 (omega arith)) ∙ ap (λ x. f 0 ∷ x ∷ c ∷ d ∷ []) (h 1 (omega arith)) ∙ ap (λ x. f 0 ∷ f 1 ∷ x ∷ d ∷ []) (h 2 (omega arith)) ∙ ap (λ x. f 0 ∷ f 1 ∷ f 2 ∷ x ∷ []) (h 3 (omega arith))
+four_are (a ∷ b ∷ c ∷ d ∷ e ∷ rest) f l h = absurd (omega (arith, l))
+
+pub all_counted : (all pages : List Page) (counts : List ℕ) → pages ≡ [] → AreCounted all pages counts → (counts ≡ by_node all) × (sum (by_node all) ≡ length all)
+all_counted all pages counts none h =
+    let are : counts ≡ by_node all = four_are counts (λ n. count_by (is_at n) all) h.four (λ n l. (let no = ap (count_by (is_at n)) none in omega (arith, no, h.each n l))) in
+    (are, ap sum (sym are) ∙ (let no = ap length none in omega (arith, no, h.sums)))
 
 -- ---- a share that ends
 

@@ -2,6 +2,7 @@
 #![tactic(auto)]
 
 mod door;
+mod moving;
 mod own;
 
 pub use door::PoolDoor;

@@ -45,11 +45,7 @@ fn count_at(frames: &[u64], node: usize) -> u64
     ensures count { result ≡ slice_index frames.now node }
     ensures few { result ≤ 65536 }
 {
-    if node < frames.len() {
-        frames[node]
-    } else {
-        0
-    }
+    if node < frames.len() { frames[node] } else { 0 }
 }
 
 impl Blanks {

@@ -1,5 +1,5 @@
 //! The frames of a node that nobody holds.
-ghost use Rattle.std.specs.Prelude.{◌≡◌, ◌+◌, ◌<◌, ◌≤◌};
+ghost use Rattle.std.specs.Prelude.{◌≡◌, ◌+◌, ◌<◌, ◌≤◌, ◌^◌};
 ghost use Rattle.hp_units.specs.Quad.{at, plus};
 ghost use Rattle.hp_nodes.specs.Kept.{IsHome};
 ghost use Rattle.hp_nodes.specs.Ledgers.{AreAll, AreLedgers};
@@ -77,6 +77,7 @@ impl<N: Naming, const K: usize> NodeFrames<N, K> {
     pub fn give(&mut self, page: Page<N>) -> Claim<N>
         requires own { page.node ≡ K }
         ensures claim { result ≡ record { node = K; amount = 1 } }
+        ensures few { N.frames K < 2 ^ 64 }
         ensures left { self.new ≡ self.old + 1 }
     {
         let (frame, mark) = page.into_parts();
@@ -157,7 +158,8 @@ impl<N: Naming> Frames<N> {
 
     /// The claim of a page that comes back. Never refused.
     pub fn give(&mut self, page: Page<N>) -> Claim<N>
-        ensures { result ≡ record { node = page.node; amount = 1 } }
+        ensures claim { result ≡ record { node = page.node; amount = 1 } }
+        ensures few { N.frames page.node < 2 ^ 64 }
     {
         match page.node() {
             0 => self.zero.give(page),

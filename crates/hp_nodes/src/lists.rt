@@ -22,10 +22,9 @@ use std::marker::Model;
 /// its pages in the pool, which of them are free, and its share of the surplus) and the cursors.
 /// Which node each move chooses is a rule of this project's profile.
 ///
-/// By the invariant, at all times a node's pages in use (total - free) are the pages of that node
-/// that are out, whoever holds them: each has one unit of its node's ledger, which only `take`
-/// issues and only `put` retires. So `put` needs no condition. No call but `new` takes memory:
-/// each node's stock of frames was made with room for all of them.
+/// By the invariant, at all times a node's pages in use (total - free) are the claims on its frames that
+/// are not here, whoever holds them: only `take` gives them out and only `put` takes them back. So `put`
+/// is never refused. No call but `new` takes memory.
 pub struct NodeLists<N: Naming> {
     nodes: Vec<Node>,
     claims: ClaimSet<N>,

@@ -28,8 +28,8 @@ use std::sync::ledger::Blank;
 ///
 /// By the invariants of this type, of `Book` and of `NodeLists`, whenever nobody works on the pool
 /// (its lock is free), what is promised is the sum of all permits that are out, and the pages in use
-/// are the pages that are out, whoever holds them; and there are at least as many free pages as are
-/// promised. So whoever holds a permit of 1 gets a page from `take`, whatever others do.
+/// are the claims that are out, whoever holds them; and there are at least as many free pages as are
+/// promised. So whoever holds a permit of 1 gets a claim from `take`, whatever others do.
 ///
 /// No call but `new` takes memory. It can't be dropped: `close` ends it.
 pub struct Pool<N: Naming> {

@@ -2,7 +2,8 @@
 ghost use Rattle.std.specs.Prelude.{false, ◌≡◌, ◌<◌, ◌≤◌, [], length, vec_capacity, All, IfOk};
 ghost use Rattle.hp_model.specs.machine.Machine.{slots_from, start};
 ghost use Rattle.hp_model.specs.pool.PoolCounts.{IsSettled};
-ghost use Rattle.hp_pool.specs.Ledgers.{AreLedgers, node_frames};
+ghost use Rattle.hp_nodes.specs.Ledgers.{AreFrames};
+ghost use Rattle.hp_pool.specs.Ledgers.{AreLedgers};
 ghost use Rattle.hp_model.specs.machine.SlotEvent.{has_maps};
 ghost use Rattle.hp_mount_door.specs.Door.{IsReady as IsReadyPool};
 ghost use Rattle.hp_system.specs.Event.{AllExit};
@@ -16,8 +17,8 @@ use crate::table::TaskTable;
 use hp_model::answer::Counts;
 use hp_model::naming::Naming;
 use hp_mount::Mount;
-use hp_pool::{Blanks, Pool};
-use hp_subpool::Subpool;
+use hp_mount_door::OwnPool;
+use hp_pool::Blanks;
 use std::alloc::{AllocError, Global};
 use std::marker::Model;
 
@@ -28,7 +29,7 @@ pub struct System<N: Naming> {
     alloc: Global,
     slots: Vec<Option<Mount<N>>>,
     table: TaskTable,
-    pool: Pool<N>,
+    pool: OwnPool<N>,
 }
 
 impl<N: Naming> Model for System<N> {
@@ -62,13 +63,13 @@ impl<N: Naming> System<N> {
         requires bytes { 0 < page_bytes }
         requires page_bytes { page_bytes ≡ N.page_bytes }
         requires ledgers { AreLedgers N.Naming blanks }
-        requires frames { node_frames blanks ≡ frames.now }
+        requires frames { AreFrames N.frames frames.now }
         ensures start { IfOk result (λ s. s.state ≡ start frames.now page_bytes slots) }
         ensures ready { IfOk result (λ s. IsReady s) }
     {
         let table = TaskTable::new(alloc)?;
         let mut mounts = Vec::with_capacity(alloc, slots as usize)?;
-        match Pool::new(alloc, frames, blanks) {
+        match OwnPool::new(alloc, frames, blanks) {
             Err(error) => {
                 mounts.destroy_empty();
                 Err(error)
@@ -123,7 +124,7 @@ impl<N: Naming> System<N> {
 }
 
 // The maps of all tasks go from a mount, those of one task after those of another.
-fn exit_all<N: Naming>(mount: &mut Mount<N>, pool: &mut Pool<N>)
+fn exit_all<N: Naming>(mount: &mut Mount<N>, pool: &mut OwnPool<N>)
     requires { IsReadyPool pool.old }
     ensures none { has_maps mount.new ≡ false }
     ensures gone { AllExit mount.old pool.old mount.new pool.new }
@@ -139,7 +140,7 @@ fn open_slots<N: Naming>(
     alloc: Global,
     slots: &mut Vec<Option<Mount<N>>>,
     count: usize,
-    pool: &mut Pool<N>,
+    pool: &mut OwnPool<N>,
 )
     requires none { slots.old.items ≡ [] }
     requires some { 0 < count }
@@ -148,7 +149,7 @@ fn open_slots<N: Naming>(
     ensures slots { slots.new.items ≡ slots_from count }
     ensures pool { pool.new ≡ pool.old }
 {
-    match Subpool::open(pool, None, 0) {
+    match pool.open(None, 0) {
         Ok(share) => slots.push_reserved(Some(Mount::new(alloc, share, None))),
         Err(_refusal) => unreachable!(),
     }

@@ -22,7 +22,6 @@ use hp_model::refusal::Refusal;
 use hp_model::told::Told;
 use hp_mount::{Mount, MountEvent};
 use hp_options::options::parse_options;
-use hp_subpool::Subpool;
 use std::mem;
 
 impl<N: Naming> System<N> {
@@ -62,7 +61,7 @@ impl<N: Naming> System<N> {
             return Err(Refusal::SlotTaken);
         }
         let limits = self.limits(options)?;
-        let share = Subpool::open(&mut self.pool, limits.max, limits.min)?;
+        let share = self.pool.open(limits.max, limits.min)?;
         let mount = Mount::new(self.alloc, share, limits.inodes);
         match mem::replace(&mut self.slots[at], Some(mount)) {
             None => Ok(()),

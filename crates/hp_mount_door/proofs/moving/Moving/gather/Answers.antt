@@ -1,0 +1,16 @@
+use Rattle.std.proofs.Common.{ap, subst, ◌∙◌, ◌+◌, ◌<◌, []}
+use Rattle.std.specs.Prelude.{slice_index, slice_set}
+use Rattle.hp_permit.specs.Claim.{Claim}
+use Rattle.hp_store.specs.Store.{Store}
+use Rattle.hp_mount_door.proofs.Returning.{one_counted}
+use Rattle.hp_mount_door.proofs.moving.Moving.gather.Goals as goal
+
+pub loop-page-preserved : goal.loop-page-preserved
+loop-page-preserved g c =
+    let was = c.loop-page in
+    let claim = c.give-claim.ensures.claim in (
+      one_counted c.args.going.now.going was.going.going c.next_going.new.self.going was.self c.add.new.self c.in-Some.page c.in-Some.ensures.going
+          (subst (λ (x : Claim). x.node < 4) claim c.add.ensures.below)
+          (c.add.ensures.added ∙ ap (λ (x : Claim). slice_set was.self x.node (slice_index was.self x.node + x.amount)) claim) was.invariant.0,
+      ap (λ (s : Store). record s { going = [] }) c.next_going.ensures.rest ∙ was.invariant.1,
+    )
