@@ -5,7 +5,7 @@ ghost use Rattle.hp_nodes.specs.Kept.{idle_nodes};
 ghost use Rattle.hp_nodes.specs.Ledgers.{AreAll, AreFrames};
 ghost use Rattle.hp_nodes.specs.Moves.{put_by, puts_at, grow_by, shrink_by, add_surplus_by, give_back_by, promote_by, demote_by};
 ghost use Rattle.std.specs.Fn.{iterate};
-ghost use Rattle.hp_model.specs.pool.NodeRows.{after, at_row, lowest, near, some_has, row_at, taken, surplus_added, grown, shrunk, promoted, demoted, given_back, sum_row, free_of, total_of, take_row};
+ghost use Rattle.hp_model.specs.pool.NodeRows.{IsRow, after, at_row, lowest, near, some_has, row_at, taken, surplus_added, grown, shrunk, promoted, demoted, given_back, sum_row, free_of, total_of, take_row};
 
 use crate::node::Node;
 use crate::rounds::{grow_each, having, least, shrink_each};
@@ -87,6 +87,13 @@ impl<N: Naming> NodeLists<N> {
             free: row.free,
             surp: row.surp,
         }
+    }
+
+    /// Shows that each row is sound. It does nothing.
+    pub fn law(&self)
+        ensures { All IsRow self.now.rows }
+    {
+        let _len = self.nodes.len();
     }
 
     /// The sums over all nodes, of frames and pages.

@@ -1,9 +1,10 @@
 //! The pool.
 ghost use Rattle.std.specs.Prelude.{◌≡◌, ◌+◌, ◌-◌, ◌<◌, ◌≤◌, length, All, IsTrue, IfOk, IfErr, IsOk, ◌↔◌};
-ghost use Rattle.hp_model.specs.pool.NodeRows.{row_at, frames_of, total_of, free_of, surp_of};
+ghost use Rattle.hp_model.specs.machine.Settled.{IsSettledPool};
+ghost use Rattle.hp_model.specs.pool.NodeRows.{IsRow, row_at, frames_of, total_of, free_of, surp_of};
 ghost use Rattle.hp_model.specs.pool.Grant.{can_grant, granted};
 ghost use Rattle.hp_model.specs.pool.Pool.{take_node, page_taken, kept_times, released, settled};
-ghost use Rattle.hp_model.specs.pool.PoolCounts.{IsSettled, counts_of, rsvd};
+ghost use Rattle.hp_model.specs.pool.PoolCounts.{IsSettled, counts_of, rsvd, used};
 ghost use Rattle.hp_model.specs.pool.Resize.{set_nr, node_count};
 ghost use Rattle.hp_nodes.specs.Ledgers.{AreAll, AreFrames};
 ghost use Rattle.hp_pool.specs.Ledgers.{IsLedger};
@@ -124,7 +125,9 @@ impl<N: Naming> Pool<N> {
     /// Puts pages back at their node, by their claim, and commits so many less. Never refused.
     pub fn put(&mut self, claim: Claim<N>)
         requires { 0 < claim.amount }
-        ensures { self.new ≡ released claim.amount (kept_times claim.node claim.amount self.old) }
+        ensures moved { self.new
+            ≡ released claim.amount (kept_times claim.node claim.amount self.old) }
+        ensures used { used self.new + claim.amount ≡ used self.old }
     {
         self.lists.put(claim);
     }
@@ -133,6 +136,7 @@ impl<N: Naming> Pool<N> {
     pub fn put_keep(&mut self, claim: Claim<N>) -> Permit<N>
         requires { 0 < claim.amount }
         ensures moved { self.new ≡ kept_times claim.node claim.amount self.old }
+        ensures used { used self.new + claim.amount ≡ used self.old }
         ensures kept { result ≡ claim.amount }
         ensures settled { IsSettled self.old → IsSettled self.new }
     {
@@ -143,7 +147,8 @@ impl<N: Naming> Pool<N> {
 
     /// Commits so many pages less as the permit promises.
     pub fn release(&mut self, permit: Permit<N>)
-        ensures { self.new ≡ released permit self.old }
+        ensures moved { self.new ≡ released permit self.old }
+        ensures covered { permit ≤ self.old.committed }
     {
         self.book.retire(permit);
     }
@@ -153,6 +158,7 @@ impl<N: Naming> Pool<N> {
     #[tactic(auto, using(crate::proofs::Runs::given_back_are))]
     pub fn settle(&mut self)
         ensures moved { self.new ≡ settled self.old }
+        ensures used { used self.new ≡ used self.old }
         ensures settled { IsSettled self.new }
     {
         let sums = self.lists.sums();
@@ -209,6 +215,17 @@ impl<N: Naming> Pool<N> {
             nr: self.nr,
             overcommit: self.overcommit,
         }
+    }
+
+    /// Shows what holds of the numbers whenever nobody works on the pool, and of the rows at all times.
+    /// It does nothing.
+    pub fn law(&self)
+        ensures rows { All IsRow self.now.nodes.rows }
+        ensures used { used self.now ≤ self.now.committed }
+        ensures settled { IsSettled self.now → IsSettledPool self.now }
+    {
+        let _sums = self.lists.sums();
+        self.lists.law();
     }
 
     /// Shows that a permit's amount is promised. It changes nothing.

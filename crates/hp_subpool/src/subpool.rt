@@ -2,7 +2,7 @@
 ghost use Rattle.std.specs.Prelude.{◌≡◌, ◌+◌, ◌-◌, ◌<◌, ◌≤◌, ◌^◌, IsTrue, IfOk, IfErr, IsOk, OnOk, OnErr, Err, ◌↔◌};
 ghost use Rattle.hp_model.specs.pool.Grant.{can_grant, granted, is_over};
 ghost use Rattle.hp_model.specs.pool.Pool.{take_node, page_taken, kept_times, released};
-ghost use Rattle.hp_model.specs.pool.PoolCounts.{IsSettled};
+ghost use Rattle.hp_model.specs.pool.PoolCounts.{IsSettled, rsvd, used as in_use};
 ghost use Rattle.hp_subpool.specs.Subpool.{used, own_reserve, committed_of, rise, fall, is_full, can_get, lacks_pages, opened, with_reserves, with_page};
 
 use hp_model::naming::Naming;
@@ -97,6 +97,17 @@ impl<N: Naming> Subpool<N> {
         }
     }
 
+    /// Shows that what the share holds is promised. It changes nothing.
+    pub fn check_held(&mut self, pool: &mut Pool<N>)
+        ensures sub { self.new ≡ self.old }
+        ensures pool { pool.new ≡ pool.old }
+        ensures held { self.old.held ≤ rsvd pool.old }
+        ensures own { own_reserve self.old ≤ rsvd pool.old }
+    {
+        pool.check(&mut self.held);
+        pool.check(&mut self.own);
+    }
+
     /// Takes the claim of a page for a reservation that is held: of the home node where it has a free page,
     /// else of the lowest node that has. Never refused.
     pub fn take_one(&mut self, pool: &mut Pool<N>, home: usize) -> Claim<N>
@@ -119,6 +130,7 @@ impl<N: Naming> Subpool<N> {
         ensures sub { self.new ≡ record self.old { pages = self.old.pages - claim.amount } }
         ensures pool { pool.new
             ≡ released (fall self.old claim.amount) (kept_times claim.node claim.amount pool.old) }
+        ensures used { in_use pool.new + claim.amount ≡ in_use pool.old }
     {
         let count = claim.amount();
         let own = self.min.saturating_sub(self.used() - count);
@@ -135,6 +147,7 @@ impl<N: Naming> Subpool<N> {
         requires { k ≤ self.old.held }
         ensures sub { self.new ≡ record self.old { held = self.old.held - k } }
         ensures pool { pool.new ≡ released (fall self.old k) pool.old }
+        ensures covered { fall self.old k ≤ pool.old.committed }
     {
         let own = self.min.saturating_sub(self.used() - k);
         let mut part = self.held.split(k);
@@ -182,7 +195,8 @@ impl<N: Naming> Subpool<N> {
     /// Ends the subpool, and its minimum with it.
     pub fn close(self, pool: &mut Pool<N>)
         requires { used self ≡ 0 }
-        ensures { pool.new ≡ released self.min pool.old }
+        ensures pool { pool.new ≡ released self.min pool.old }
+        ensures covered { self.min ≤ pool.old.committed }
     {
         let Subpool {
             max: _,
