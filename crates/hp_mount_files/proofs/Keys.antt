@@ -38,6 +38,11 @@ files_same n s t more now maps tally fs k x g l read same level is held =
       level = level_set fs k x g (let long = length-map fs (file_shown s) in omega (arith, l, long)) read level is.level;
     }
 
+-- what was noted at two times
+pub more_then : (old mid new : Noted) → IsMore old mid → IsMore mid new → IsMore old new
+more_then old mid new first then =
+    record { names = λ name e. first.names name (then.names name e); keys = λ task number e. first.keys task number (then.keys task number e) }
+
 -- as much was noted as before, or more
 pub noted_more : (old new : Noted) (ls : List Label) → IsMore old new → AreNoted old ls → AreNoted new ls
 noted_more old new ls more are =

@@ -1,7 +1,8 @@
 //! A mount of three pages at most on a pool of four, through the pool as its own door.
 ghost use Rattle.std.specs.Prelude.{◌≡◌, ◌∷◌, []};
 ghost use Rattle.hp_mount_door.specs.Door.{IsReady};
-ghost use Rattle.hp_pool.specs.Ledgers.{AreLedgers, node_frames};
+ghost use Rattle.hp_nodes.specs.Ledgers.{AreFrames};
+ghost use Rattle.hp_pool.specs.Ledgers.{AreLedgers};
 
 use crate::same::same;
 use hp_model::answer::{Answer, Reply};
@@ -9,8 +10,8 @@ use hp_model::naming::Naming;
 use hp_model::refusal::Refusal;
 use hp_model::step::{Intent, Reserving, Sharing};
 use hp_mount::{MapAccess, MapRange, Mount};
-use hp_pool::{Blanks, Pool};
-use hp_subpool::Subpool;
+use hp_mount_door::OwnPool;
+use hp_pool::Blanks;
 use std::alloc::Global;
 use std::marker::Brand;
 use std::process::Abort;
@@ -103,7 +104,7 @@ fn unlisted<N: Naming>(mount: &Mount<N>) -> Option<Refusal> {
 }
 
 fn map<N: Naming>(
-    pool: &mut Pool<N>,
+    pool: &mut OwnPool<N>,
     mount: &mut Mount<N>,
     name: &[u8],
     range: &MapRange,
@@ -115,7 +116,7 @@ fn map<N: Naming>(
 }
 
 fn anon<N: Naming>(
-    pool: &mut Pool<N>,
+    pool: &mut OwnPool<N>,
     mount: &mut Mount<N>,
     task: u64,
     pages: u64,
@@ -129,7 +130,7 @@ fn anon<N: Naming>(
 }
 
 fn unmap<N: Naming>(
-    pool: &mut Pool<N>,
+    pool: &mut OwnPool<N>,
     mount: &mut Mount<N>,
     number: u64,
     from: u64,
@@ -142,7 +143,7 @@ fn unmap<N: Naming>(
 }
 
 fn fault<N: Naming>(
-    pool: &mut Pool<N>,
+    pool: &mut OwnPool<N>,
     mount: &mut Mount<N>,
     access: &MapAccess,
     intent: Intent,
@@ -154,7 +155,7 @@ fn fault<N: Naming>(
 }
 
 fn store<N: Naming>(
-    pool: &mut Pool<N>,
+    pool: &mut OwnPool<N>,
     mount: &mut Mount<N>,
     access: &MapAccess,
     bytes: &[u8],
@@ -166,7 +167,7 @@ fn store<N: Naming>(
     mount.store(pool, 1024, 0, access, 1022, bytes)
 }
 
-fn exit<N: Naming>(pool: &mut Pool<N>, mount: &mut Mount<N>, task: u64)
+fn exit<N: Naming>(pool: &mut OwnPool<N>, mount: &mut Mount<N>, task: u64)
     requires { IsReady pool.old }
     ensures { IsReady pool.new }
 {
@@ -174,7 +175,7 @@ fn exit<N: Naming>(pool: &mut Pool<N>, mount: &mut Mount<N>, task: u64)
 }
 
 // Ends a mount without maps, or hands it back.
-fn close<N: Naming>(pool: &mut Pool<N>, mount: Mount<N>) -> Result<(), Mount<N>>
+fn close<N: Naming>(pool: &mut OwnPool<N>, mount: Mount<N>) -> Result<(), Mount<N>>
     requires { IsReady pool.old }
     ensures { IsReady pool.new }
 {
@@ -183,7 +184,7 @@ fn close<N: Naming>(pool: &mut Pool<N>, mount: Mount<N>) -> Result<(), Mount<N>>
 
 // Whether a load from byte 1022 on answers these bytes.
 fn loads<N: Naming>(
-    pool: &mut Pool<N>,
+    pool: &mut OwnPool<N>,
     mount: &mut Mount<N>,
     access: &MapAccess,
     count: u64,
@@ -208,7 +209,7 @@ fn creates<N: Naming, R: Abort>(rt: &R, mount: &mut Mount<N>) {
 }
 
 // Maps are made, and refused by name, limit and place.
-fn maps<N: Naming, R: Abort>(rt: &R, pool: &mut Pool<N>, mount: &mut Mount<N>)
+fn maps<N: Naming, R: Abort>(rt: &R, pool: &mut OwnPool<N>, mount: &mut Mount<N>)
     requires { IsReady pool.old }
     ensures { IsReady pool.new }
 {
@@ -227,7 +228,7 @@ fn maps<N: Naming, R: Abort>(rt: &R, pool: &mut Pool<N>, mount: &mut Mount<N>)
 }
 
 // What is stored through one map is loaded through another of the same file.
-fn accesses<N: Naming, R: Abort>(rt: &R, pool: &mut Pool<N>, mount: &mut Mount<N>)
+fn accesses<N: Naming, R: Abort>(rt: &R, pool: &mut OwnPool<N>, mount: &mut Mount<N>)
     requires ready { IsReady pool.old }
     requires bytes { N.page_bytes ≡ 1024 }
     ensures { IsReady pool.new }
@@ -239,7 +240,7 @@ fn accesses<N: Naming, R: Abort>(rt: &R, pool: &mut Pool<N>, mount: &mut Mount<N
 }
 
 // An access is refused by its index, its bytes and its map.
-fn refuses_accesses<N: Naming, R: Abort>(rt: &R, pool: &mut Pool<N>, mount: &mut Mount<N>)
+fn refuses_accesses<N: Naming, R: Abort>(rt: &R, pool: &mut OwnPool<N>, mount: &mut Mount<N>)
     requires ready { IsReady pool.old }
     requires bytes { N.page_bytes ≡ 1024 }
     ensures { IsReady pool.new }
@@ -259,7 +260,7 @@ fn refuses_accesses<N: Naming, R: Abort>(rt: &R, pool: &mut Pool<N>, mount: &mut
 }
 
 // A map without reservations asks for no page.
-fn maps_unreserved<N: Naming, R: Abort>(rt: &R, pool: &mut Pool<N>, mount: &mut Mount<N>)
+fn maps_unreserved<N: Naming, R: Abort>(rt: &R, pool: &mut OwnPool<N>, mount: &mut Mount<N>)
     requires { IsReady pool.old }
     ensures { IsReady pool.new }
 {
@@ -287,7 +288,7 @@ fn looks<N: Naming, R: Abort>(rt: &R, mount: &Mount<N>)
 }
 
 // A private map asks for its whole range, whatever its file has.
-fn private_maps<N: Naming, R: Abort>(rt: &R, pool: &mut Pool<N>, mount: &mut Mount<N>)
+fn private_maps<N: Naming, R: Abort>(rt: &R, pool: &mut OwnPool<N>, mount: &mut Mount<N>)
     requires { IsReady pool.old }
     ensures { IsReady pool.new }
 {
@@ -301,7 +302,7 @@ fn private_maps<N: Naming, R: Abort>(rt: &R, pool: &mut Pool<N>, mount: &mut Mou
 }
 
 // What a private map asked for is used, and its file is as long as it. An index that is entered is asked for once.
-fn private_maps_are_used<N: Naming, R: Abort>(rt: &R, pool: &mut Pool<N>, mount: &mut Mount<N>)
+fn private_maps_are_used<N: Naming, R: Abort>(rt: &R, pool: &mut OwnPool<N>, mount: &mut Mount<N>)
     requires { IsReady pool.old }
     ensures { IsReady pool.new }
 {
@@ -319,7 +320,11 @@ fn private_maps_are_used<N: Naming, R: Abort>(rt: &R, pool: &mut Pool<N>, mount:
 }
 
 // A file without name is refused by its pages.
-fn refuses_files_without_name<N: Naming, R: Abort>(rt: &R, pool: &mut Pool<N>, mount: &mut Mount<N>)
+fn refuses_files_without_name<N: Naming, R: Abort>(
+    rt: &R,
+    pool: &mut OwnPool<N>,
+    mount: &mut Mount<N>,
+)
     requires { IsReady pool.old }
     ensures { IsReady pool.new }
 {
@@ -345,7 +350,7 @@ fn refuses_files_without_name<N: Naming, R: Abort>(rt: &R, pool: &mut Pool<N>, m
 }
 
 // A file without name is one of the files.
-fn files_without_name<N: Naming, R: Abort>(rt: &R, pool: &mut Pool<N>, mount: &mut Mount<N>)
+fn files_without_name<N: Naming, R: Abort>(rt: &R, pool: &mut OwnPool<N>, mount: &mut Mount<N>)
     requires { IsReady pool.old }
     ensures { IsReady pool.new }
 {
@@ -361,7 +366,7 @@ fn files_without_name<N: Naming, R: Abort>(rt: &R, pool: &mut Pool<N>, mount: &m
 }
 
 // Indices leave a map.
-fn unmaps<N: Naming, R: Abort>(rt: &R, pool: &mut Pool<N>, mount: &mut Mount<N>)
+fn unmaps<N: Naming, R: Abort>(rt: &R, pool: &mut OwnPool<N>, mount: &mut Mount<N>)
     requires { IsReady pool.old }
     ensures { IsReady pool.new }
 {
@@ -376,7 +381,7 @@ fn unmaps<N: Naming, R: Abort>(rt: &R, pool: &mut Pool<N>, mount: &mut Mount<N>)
 }
 
 // A map leaves with its last index. What the file has stays.
-fn unmaps_all<N: Naming, R: Abort>(rt: &R, pool: &mut Pool<N>, mount: &mut Mount<N>)
+fn unmaps_all<N: Naming, R: Abort>(rt: &R, pool: &mut OwnPool<N>, mount: &mut Mount<N>)
     requires { IsReady pool.old }
     ensures { IsReady pool.new }
 {
@@ -399,7 +404,7 @@ fn unmaps_all<N: Naming, R: Abort>(rt: &R, pool: &mut Pool<N>, mount: &mut Mount
 }
 
 // A mount without maps ends.
-fn ends<N: Naming, R: Abort>(rt: &R, pool: &mut Pool<N>, mount: Mount<N>)
+fn ends<N: Naming, R: Abort>(rt: &R, pool: &mut OwnPool<N>, mount: Mount<N>)
     requires { IsReady pool.old }
     ensures { IsReady pool.new }
 {
@@ -409,16 +414,16 @@ fn ends<N: Naming, R: Abort>(rt: &R, pool: &mut Pool<N>, mount: Mount<N>)
     }
 }
 
-fn opened<N: Naming, R: Abort>(rt: &R, alloc: Global, pool: &mut Pool<N>) -> Mount<N>
+fn opened<N: Naming, R: Abort>(rt: &R, alloc: Global, pool: &mut OwnPool<N>) -> Mount<N>
     requires { IsReady pool.old }
     ensures { IsReady pool.new }
 {
-    let share = Subpool::open(pool, Some(3), 0).expect(rt, "fits");
+    let share = pool.open(Some(3), 0).expect(rt, "fits");
     Mount::new(alloc, share, Some(2))
 }
 
 // A mount whose maps are shared, to its end.
-fn with_shared_maps<N: Naming, R: Abort>(rt: &R, alloc: Global, pool: &mut Pool<N>)
+fn with_shared_maps<N: Naming, R: Abort>(rt: &R, alloc: Global, pool: &mut OwnPool<N>)
     requires ready { IsReady pool.old }
     requires bytes { N.page_bytes ≡ 1024 }
     ensures { IsReady pool.new }
@@ -436,7 +441,7 @@ fn with_shared_maps<N: Naming, R: Abort>(rt: &R, alloc: Global, pool: &mut Pool<
 }
 
 // A mount with maps does not end before their task does.
-fn exits<N: Naming, R: Abort>(rt: &R, pool: &mut Pool<N>, mount: Mount<N>)
+fn exits<N: Naming, R: Abort>(rt: &R, pool: &mut OwnPool<N>, mount: Mount<N>)
     requires { IsReady pool.old }
     ensures { IsReady pool.new }
 {
@@ -450,7 +455,7 @@ fn exits<N: Naming, R: Abort>(rt: &R, pool: &mut Pool<N>, mount: Mount<N>)
 }
 
 // A mount with private maps and files without name, to its end.
-fn with_private_maps<N: Naming, R: Abort>(rt: &R, alloc: Global, pool: &mut Pool<N>)
+fn with_private_maps<N: Naming, R: Abort>(rt: &R, alloc: Global, pool: &mut OwnPool<N>)
     requires { IsReady pool.old }
     ensures { IsReady pool.new }
 {
@@ -467,10 +472,10 @@ fn with_private_maps<N: Naming, R: Abort>(rt: &R, alloc: Global, pool: &mut Pool
 
 fn run<N: Naming, R: Abort>(rt: &R, alloc: Global, blanks: Blanks)
     requires ledgers { AreLedgers N.Naming blanks }
-    requires frames { node_frames blanks ≡ 4 ∷ 4 ∷ [] }
+    requires frames { AreFrames N.frames (4 ∷ 4 ∷ []) }
     requires bytes { N.page_bytes ≡ 1024 }
 {
-    let mut pool = Pool::<N>::new(alloc, &[4, 4], blanks).expect(rt, "memory");
+    let mut pool = OwnPool::<N>::new(alloc, &[4, 4], blanks).expect(rt, "memory");
     pool.set_overcommit(4);
     with_shared_maps(rt, alloc, &mut pool);
     with_private_maps(rt, alloc, &mut pool);

@@ -1,7 +1,8 @@
 //! A mount through another door than the pool: one that notes what is taken, and has few places to note it.
 ghost use Rattle.std.specs.Prelude.{◌≡◌, ◌≤◌, length, ◌∷◌, []};
 ghost use Rattle.hp_mount_door.specs.Door.{IsReady};
-ghost use Rattle.hp_pool.specs.Ledgers.{AreLedgers, node_frames};
+ghost use Rattle.hp_nodes.specs.Ledgers.{AreFrames};
+ghost use Rattle.hp_pool.specs.Ledgers.{AreLedgers};
 
 use crate::mount::used;
 use crate::same::same;
@@ -10,9 +11,9 @@ use hp_model::naming::Naming;
 use hp_model::refusal::Refusal;
 use hp_model::step::{Reserving, Sharing};
 use hp_mount::{MapAccess, MapRange, Mount};
-use hp_mount_door::PoolDoor;
+use hp_mount_door::{OwnPool, PoolDoor};
 use hp_nodes::Page;
-use hp_pool::{Blanks, Pool};
+use hp_pool::Blanks;
 use hp_store::PageStore;
 use hp_subpool::Subpool;
 use std::alloc::Global;
@@ -29,7 +30,7 @@ struct Taken {
 
 // A door that refuses what asks for a section where it has no place left to note it. Giving back needs none.
 struct Noting<N: Naming> {
-    pool: Pool<N>,
+    pool: OwnPool<N>,
     places: u64,
     taken: Taken,
 }
@@ -208,31 +209,27 @@ fn anon_in_turn<N: Naming, R: Abort>(rt: &R, door: &mut Noting<N>, mount: &mut M
 }
 
 // A page by a grant, which no map of today asks for, is refused without a place.
-fn a_page_by_a_grant<N: Naming, R: Abort>(rt: &R, door: &mut Noting<N>)
+fn a_page_by_a_grant<N: Naming, R: Abort>(rt: &R, alloc: Global, door: &mut Noting<N>)
     requires ready { IsReady door.old.pool }
     ensures { IsReady door.new.pool }
 {
-    let mut share = Subpool::open(&mut door.pool, Some(1), 0).expect(rt, "fits");
+    let mut share = door.pool.open(Some(1), 0).expect(rt, "fits");
     door.places = 0;
     match door.get_page(&mut share, 0) {
-        Ok(page) => {
-            share.put_page(&mut door.pool, page);
-            assert!(rt; false);
-        }
+        Ok(_page) => panic!(rt; "there is no place"),
         Err(refusal) => same!(rt; refusal, Refusal::TraceFull),
     }
-    share.close(&mut door.pool);
-    door.pool.settle();
+    PoolDoor::close(&mut door.pool, share, PageStore::new(alloc));
 }
 
 fn run<N: Naming, R: Abort>(rt: &R, alloc: Global, blanks: Blanks)
     requires ledgers { AreLedgers N.Naming blanks }
-    requires frames { node_frames blanks ≡ 4 ∷ 4 ∷ [] }
+    requires frames { AreFrames N.frames (4 ∷ 4 ∷ []) }
     requires bytes { N.page_bytes ≡ 1024 }
 {
-    let mut pool = Pool::<N>::new(alloc, &[4, 4], blanks).expect(rt, "memory");
+    let mut pool = OwnPool::<N>::new(alloc, &[4, 4], blanks).expect(rt, "memory");
     pool.set_overcommit(4);
-    let share = Subpool::open(&mut pool, Some(3), 0).expect(rt, "fits");
+    let share = pool.open(Some(3), 0).expect(rt, "fits");
     let mut mount = Mount::new(alloc, share, None);
     let mut door = Noting {
         pool,
@@ -246,7 +243,7 @@ fn run<N: Naming, R: Abort>(rt: &R, alloc: Global, blanks: Blanks)
     maps_in_turn(rt, &mut door, &mut mount);
     accesses_in_turn(rt, &mut door, &mut mount);
     anon_in_turn(rt, &mut door, &mut mount);
-    a_page_by_a_grant(rt, &mut door);
+    a_page_by_a_grant(rt, alloc, &mut door);
     mount.exit_maps(&mut door, 7);
     match mount.close(&mut door) {
         Ok(()) => {}

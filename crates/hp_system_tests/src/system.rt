@@ -1,6 +1,7 @@
 //! A list of steps at a machine of two nodes of four frames each, and machines that come and go.
 ghost use Rattle.std.specs.Prelude.{◌≡◌, ◌∷◌, []};
-ghost use Rattle.hp_pool.specs.Ledgers.{AreLedgers, node_frames};
+ghost use Rattle.hp_nodes.specs.Ledgers.{AreFrames};
+ghost use Rattle.hp_pool.specs.Ledgers.{AreLedgers};
 ghost use Rattle.hp_system.specs.Kept.{IsReady};
 
 use crate::same::same;
@@ -52,7 +53,7 @@ fn runs<N: Naming, R: Abort>(rt: &R, alloc: Global, system: &mut System<N>)
 
 fn run<N: Naming, R: Abort>(rt: &R, alloc: Global, blanks: Blanks)
     requires ledgers { AreLedgers N.Naming blanks }
-    requires frames { node_frames blanks ≡ 4 ∷ 4 ∷ [] }
+    requires frames { AreFrames N.frames (4 ∷ 4 ∷ []) }
     requires bytes { N.page_bytes ≡ 1024 }
 {
     let mut system = System::<N>::new(alloc, &[4, 4], 1024, 2, blanks).expect(rt, "memory");
@@ -140,7 +141,7 @@ fn shows_zeros<N: Naming, R: Abort>(rt: &R, system: &mut System<N>)
 // Machines that are made, used and closed give back all that they held.
 fn come_and_go<N: Naming, R: Abort>(rt: &R, alloc: Global, blanks: Blanks)
     requires ledgers { AreLedgers N.Naming blanks }
-    requires frames { node_frames blanks ≡ 4 ∷ 4 ∷ [] }
+    requires frames { AreFrames N.frames (4 ∷ 4 ∷ []) }
     requires bytes { N.page_bytes ≡ 1024 }
 {
     let mut system = System::<N>::new(alloc, &[4, 4], 1024, 2, blanks).expect(rt, "memory");

@@ -1,11 +1,12 @@
 //! Two nodes of two frames and one.
 ghost use Rattle.std.specs.Prelude.{◌≡◌, ◌∷◌, []};
-ghost use Rattle.hp_nodes.specs.Ledgers.{AreLedgers, node_frames};
+ghost use Rattle.hp_nodes.specs.Ledgers.{AreAll, AreFrames, AreLedgers};
 
 use crate::same::same;
 use hp_model::answer::NodeCount;
 use hp_model::naming::Naming;
-use hp_nodes::{Blanks, NodeLists, Page};
+use hp_nodes::{Blanks, Frames, NodeLists, Page};
+use hp_permit::ClaimSet;
 use std::alloc::{AllocError, Global};
 use std::marker::Brand;
 use std::process::Abort;
@@ -24,20 +25,20 @@ fn writes<N: Naming, R: Abort>(rt: &R, page: &mut Page<N>)
 }
 
 #[tactic(auto, using(hp_model::proofs::Sums::some_free))]
-fn goes_home<N: Naming, R: Abort>(rt: &R, lists: &mut NodeLists<N>)
+fn goes_home<N: Naming, R: Abort>(rt: &R, lists: &mut NodeLists<N>, frames: &mut Frames<N>)
     requires { N.page_bytes ≡ 8 }
 {
     let sums = lists.sums();
     assert!(rt; sums.free > 0);
-    let mut page = lists.take(1);
+    let mut page = frames.redeem(lists.take(1));
     same!(rt; page.node(), 1);
     writes(rt, &mut page);
-    lists.put(page);
+    lists.put(frames.give(page));
     let sums = lists.sums();
     assert!(rt; sums.free > 0);
-    let page = lists.take(1);
+    let page = frames.redeem(lists.take(1));
     same!(rt; page.bytes(), [1, 0, 0, 0, 0, 0, 0, 0].as_slice());
-    lists.put(page);
+    lists.put(frames.give(page));
 }
 
 fn grows<N: Naming, R: Abort>(rt: &R, lists: &mut NodeLists<N>) {
@@ -64,16 +65,41 @@ fn grows<N: Naming, R: Abort>(rt: &R, lists: &mut NodeLists<N>) {
     );
 }
 
+// A claim is split, joined and put back among the others.
+fn claims_join<N: Naming, R: Abort>(rt: &R, claims: &mut ClaimSet<N>)
+    requires frames { N.frames 0 ≡ 2 }
+    requires all { AreAll N.frames claims.old }
+    ensures { claims.new ≡ claims.old }
+{
+    let mut rest = claims.take(0, 2);
+    let one = rest.split(1);
+    same!(rt; [rest.amount(), one.amount()], [1, 1]);
+    same!(rt; [rest.node(), one.node()], [0, 0]);
+    rest.join(one);
+    same!(rt; rest.amount(), 2);
+    claims.put(rest);
+}
+
 fn opens<N: Naming, R: Abort>(rt: &R, alloc: Global, blanks: Blanks) -> Result<(), AllocError>
     requires bytes { N.page_bytes ≡ 8 }
     requires ledgers { AreLedgers N.Naming blanks }
-    requires frames { node_frames blanks.stocks.items ≡ 2 ∷ 1 ∷ [] }
+    requires frames { AreFrames N.frames (2 ∷ 1 ∷ []) }
 {
-    let mut lists = NodeLists::<N>::new(alloc, &[2, 1], blanks)?;
-    grows(rt, &mut lists);
-    goes_home(rt, &mut lists);
-    lists.close();
-    Ok(())
+    let (mut frames, mut claims) = Frames::<N>::new(blanks);
+    claims_join(rt, &mut claims);
+    match NodeLists::new(alloc, &[2, 1], claims) {
+        Ok(mut lists) => {
+            grows(rt, &mut lists);
+            goes_home(rt, &mut lists, &mut frames);
+            lists.close();
+            frames.close();
+            Ok(())
+        }
+        Err(refused) => {
+            frames.close();
+            Err(refused)
+        }
+    }
 }
 
 #[test]

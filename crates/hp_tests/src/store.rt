@@ -1,12 +1,12 @@
 //! Pages by number. The test passes with each allocation refused but the nodes' own.
 ghost use Rattle.std.specs.Prelude.{◌≡◌, ◌≢◌, ℕ, [], ◌∷◌, None};
-ghost use Rattle.hp_nodes.specs.Ledgers.{AreLedgers, node_frames};
+ghost use Rattle.hp_nodes.specs.Ledgers.{AreFrames, AreLedgers};
 ghost use Rattle.hp_store.specs.Store.{page_at, holders_of};
 
 use crate::same::same;
 use hp_model::naming::Naming;
 use hp_model::page_no::PageNo;
-use hp_nodes::{Blanks, NodeLists};
+use hp_nodes::{Blanks, Frames, NodeLists};
 use hp_store::PageStore;
 use std::alloc::{AllocError, Global};
 use std::marker::Brand;
@@ -31,7 +31,12 @@ fn used<N: Naming>(store: &mut PageStore<N>, number: PageNo) -> [u64; 4]
 }
 
 // The only page goes, and the store ends. Says how many pages went.
-fn emptied<N: Naming>(mut store: PageStore<N>, number: PageNo, nodes: &mut NodeLists<N>) -> u64
+fn emptied<N: Naming>(
+    mut store: PageStore<N>,
+    number: PageNo,
+    nodes: &mut NodeLists<N>,
+    frames: &mut Frames<N>,
+) -> u64
     requires alone { holders_of (page_at store number) ≡ 1 }
     requires others { (n : ℕ) → n ≢ number → page_at store n ≡ None }
     requires going { store.going ≡ [] }
@@ -40,7 +45,7 @@ fn emptied<N: Naming>(mut store: PageStore<N>, number: PageNo, nodes: &mut NodeL
     let mut went = 0;
     if let Some(page) = store.next_going() {
         went = 1;
-        nodes.put(page);
+        nodes.put(frames.give(page));
     }
     store.close();
     went
@@ -49,25 +54,31 @@ fn emptied<N: Naming>(mut store: PageStore<N>, number: PageNo, nodes: &mut NodeL
 // One page of eight bytes, from its node and back.
 fn worked<N: Naming>(alloc: Global, blanks: Blanks) -> Result<([u64; 4], u64), AllocError>
     requires ledgers { AreLedgers N.Naming blanks }
-    requires frames { node_frames blanks.stocks.items ≡ 2 ∷ [] }
+    requires frames { AreFrames N.frames (2 ∷ []) }
     requires bytes { N.page_bytes ≡ 8 }
 {
-    let mut nodes = NodeLists::<N>::new(alloc, &[2], blanks)?;
+    let (mut frames, claims) = Frames::<N>::new(blanks);
+    let Ok(mut nodes) = NodeLists::new(alloc, &[2], claims) else {
+        frames.close();
+        return Err(AllocError);
+    };
     let mut store = PageStore::<N>::new(alloc);
     if let Err(_) = store.make_room(1) {
         if let Err(refused) = store.make_room(1) {
             nodes.close();
+            frames.close();
             store.close();
             return Err(refused);
         }
     }
     nodes.grow(1);
-    let number = store.insert(nodes.take(0));
+    let number = store.insert(frames.redeem(nodes.take(0)));
     // Whether or not there is memory for more, what stands in the store stays.
     let _ = store.make_room(100);
     let seen = used(&mut store, number);
-    let went = emptied(store, number, &mut nodes);
+    let went = emptied(store, number, &mut nodes, &mut frames);
     nodes.close();
+    frames.close();
     Ok((seen, went))
 }
 

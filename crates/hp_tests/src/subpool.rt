@@ -1,12 +1,14 @@
 //! A mount with a limit of three pages and a minimum of two, on a pool of four.
 ghost use Rattle.std.specs.Prelude.{◌≡◌, ◌∷◌, []};
 ghost use Rattle.hp_model.specs.pool.PoolCounts.{IsSettled};
-ghost use Rattle.hp_pool.specs.Ledgers.{AreLedgers, node_frames};
+ghost use Rattle.hp_nodes.specs.Ledgers.{AreFrames};
+ghost use Rattle.hp_pool.specs.Ledgers.{AreLedgers};
 
 use crate::same::same;
 use hp_model::naming::Naming;
 use hp_model::refusal::Refusal;
-use hp_nodes::Page;
+use hp_nodes::Frames;
+use hp_permit::Claim;
 use hp_pool::{Blanks, Pool};
 use hp_subpool::Subpool;
 use std::alloc::Global;
@@ -61,7 +63,7 @@ fn uses<N: Naming, R: Abort>(rt: &R, sub: &Subpool<N>, used: u64, own: u64) {
     same!(rt; [sub.used(), sub.own_reserve()], [used, own]);
 }
 
-fn take<N: Naming, R: Abort>(rt: &R, sub: &mut Subpool<N>, pool: &mut Pool<N>) -> Page<N>
+fn take<N: Naming, R: Abort>(rt: &R, sub: &mut Subpool<N>, pool: &mut Pool<N>) -> Claim<N>
     requires { IsSettled pool.old }
     ensures { IsSettled pool.new }
 {
@@ -69,9 +71,10 @@ fn take<N: Naming, R: Abort>(rt: &R, sub: &mut Subpool<N>, pool: &mut Pool<N>) -
     sub.take_one(pool, 0)
 }
 
-fn put<N: Naming, R: Abort>(rt: &R, sub: &mut Subpool<N>, pool: &mut Pool<N>, page: Page<N>) {
+fn put<N: Naming, R: Abort>(rt: &R, sub: &mut Subpool<N>, pool: &mut Pool<N>, claim: Claim<N>) {
+    assert_eq!(rt; claim.amount(), 1);
     assert!(rt; sub.used() > sub.held());
-    sub.put_page(pool, page);
+    sub.put_pages(pool, claim);
 }
 
 // A subpool that nothing is used of ends.
@@ -131,14 +134,17 @@ fn asks_the_minimum_first<N: Naming, R: Abort>(rt: &R, pool: &mut Pool<N>)
 
 fn run<N: Naming, R: Abort>(rt: &R, alloc: Global, blanks: Blanks)
     requires ledgers { AreLedgers N.Naming blanks }
-    requires frames { node_frames blanks ≡ 4 ∷ 4 ∷ [] }
+    requires frames { AreFrames N.frames (4 ∷ 4 ∷ []) }
     requires bytes { N.page_bytes ≡ 1024 }
 {
-    let mut pool = Pool::<N>::new(alloc, &[4, 4], blanks).expect(rt, "memory");
+    let Blanks { permits, nodes } = blanks;
+    let (frames, claims) = Frames::<N>::new(nodes);
+    let mut pool = Pool::new(alloc, &[4, 4], permits, claims).expect(rt, "memory");
     pool.set_nr(4);
     fills_the_minimum_again(rt, &mut pool);
     asks_the_minimum_first(rt, &mut pool);
     pool.close();
+    frames.close();
 }
 
 #[test]

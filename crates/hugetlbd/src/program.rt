@@ -5,7 +5,8 @@ ghost use Rattle.clap.specs.Values.{kind_of};
 ghost use Rattle.clap.specs.Words.{Text};
 ghost use Rattle.hp_wire.specs.Sent.{Writes, WritesFront};
 ghost use Rattle.hp_wire.specs.declared.fault.RunFault.{RunFault as TheFault};
-ghost use Rattle.hp_pool.specs.Ledgers.{AreLedgers, node_frames};
+ghost use Rattle.hp_nodes.specs.Ledgers.{AreFrames};
+ghost use Rattle.hp_pool.specs.Ledgers.{AreLedgers};
 ghost use Rattle.hugetlbd.specs.Asked.{Asks, IsRefusedFor, hugetlbd};
 ghost use Rattle.hugetlbd.specs.Config.{Choice, IsWithinLimits, chosen, choice_of, usual};
 ghost use Rattle.hugetlbd.specs.Program.{AnswersKnown, AsksForText, Refuses, RunsOn, Says, SaysEnd, named, status_of, text_for};
@@ -106,7 +107,7 @@ fn run_machine<N: Naming, R: Source, W: Sink>(
     requires limits { IsWithinLimits (choice_of config.now) }
     requires bytes { N.page_bytes ≡ config.now.page }
     requires ledgers { AreLedgers N.Naming blanks }
-    requires frames { node_frames blanks ≡ config.now.frames.items }
+    requires frames { AreFrames N.frames config.now.frames.items }
     ensures run { RunsOn (chosen (choice_of config.now)) R.remaining W.contents
         (R.is_sure input.old × W.is_sure output.old)
         input.old input.new output.old output.new result }

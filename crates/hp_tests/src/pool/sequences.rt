@@ -1,13 +1,14 @@
 //! Worked sequences: how pages go round the nodes, become surplus and leave the pool.
 ghost use Rattle.std.specs.Prelude.{◌≡◌, ◌≤◌, ◌∷◌, []};
 ghost use Rattle.hp_model.specs.pool.PoolCounts.{IsSettled};
-ghost use Rattle.hp_pool.specs.Ledgers.{AreLedgers, node_frames};
+ghost use Rattle.hp_nodes.specs.Ledgers.{AreFrames};
+ghost use Rattle.hp_pool.specs.Ledgers.{AreLedgers};
 
 use super::{is_refused, shows};
 use crate::same::same;
 use hp_model::naming::Naming;
-use hp_nodes::Page;
-use hp_permit::Permit;
+use hp_nodes::Frames;
+use hp_permit::{Claim, Permit};
 use hp_pool::{Blanks, Pool};
 use std::alloc::Global;
 use std::marker::Brand;
@@ -35,13 +36,13 @@ fn reserve<N: Naming, R: Abort>(rt: &R, pool: &mut Pool<N>, home: usize, k: u64)
     pool.reserve(home, k).expect(rt, "fits")
 }
 
-// Takes a page for one of those that the permit promises.
+// Takes the claim of a page for one of those that the permit promises.
 fn take<N: Naming, R: Abort>(
     rt: &R,
     pool: &mut Pool<N>,
     home: usize,
     permit: &mut Permit<N>,
-) -> Page<N>
+) -> Claim<N>
     requires { IsSettled pool.old }
     ensures { IsSettled pool.new }
 {
@@ -49,8 +50,9 @@ fn take<N: Naming, R: Abort>(
     pool.take(home, permit.split(1))
 }
 
-fn put<N: Naming>(pool: &mut Pool<N>, page: Page<N>) {
-    pool.put(page);
+fn put<N: Naming, R: Abort>(rt: &R, pool: &mut Pool<N>, claim: Claim<N>) {
+    assert_eq!(rt; claim.amount(), 1);
+    pool.put(claim);
 }
 
 fn settle<N: Naming>(pool: &mut Pool<N>)
@@ -103,7 +105,7 @@ fn promotes_surplus<N: Naming, R: Abort>(rt: &R, mut pool: Pool<N>)
     shows(rt, &pool, [6, 5, 4, 0], [[3, 2, 0], [3, 3, 0]]);
     a.join(reserve(rt, &mut pool, 1, 1));
     shows(rt, &pool, [6, 5, 5, 0], [[3, 2, 0], [3, 3, 0]]);
-    put(&mut pool, page);
+    put(rt, &mut pool, page);
     a.join(b);
     release(&mut pool, a);
     pool.close();
@@ -128,13 +130,13 @@ fn surplus_leaves<N: Naming, R: Abort>(rt: &R, mut pool: Pool<N>)
     assert!(rt; is_refused(&mut pool, 0, 1));
     sets_nr(rt, &mut pool, 0, 0);
     shows(rt, &pool, [5, 0, 0, 5], [[2, 0, 2], [3, 0, 3]]);
-    put(&mut pool, first);
-    put(&mut pool, second);
-    put(&mut pool, third);
+    put(rt, &mut pool, first);
+    put(rt, &mut pool, second);
+    put(rt, &mut pool, third);
     settle(&mut pool);
     shows(rt, &pool, [2, 0, 0, 2], [[0, 0, 0], [2, 0, 2]]);
-    put(&mut pool, fourth);
-    put(&mut pool, fifth);
+    put(rt, &mut pool, fourth);
+    put(rt, &mut pool, fifth);
     settle(&mut pool);
     shows(rt, &pool, [0, 0, 0, 0], [[0, 0, 0], [0, 0, 0]]);
     pool.close();
@@ -153,8 +155,8 @@ fn gives_back_apart<N: Naming, R: Abort>(rt: &R, mut pool: Pool<N>)
     shows(rt, &pool, [3, 1, 1, 1], [[1, 1, 0], [2, 0, 1]]);
     release(&mut pool, a);
     shows(rt, &pool, [2, 0, 0, 0], [[0, 0, 0], [2, 0, 0]]);
-    put(&mut pool, first);
-    put(&mut pool, second);
+    put(rt, &mut pool, first);
+    put(rt, &mut pool, second);
     settle(&mut pool);
     shows(rt, &pool, [2, 2, 0, 0], [[0, 0, 0], [2, 2, 0]]);
     sets_nr(rt, &mut pool, 3, 3);
@@ -164,16 +166,19 @@ fn gives_back_apart<N: Naming, R: Abort>(rt: &R, mut pool: Pool<N>)
 
 fn run<N: Naming, R: Abort>(rt: &R, alloc: Global, blanks: Blanks, number: u32)
     requires ledgers { AreLedgers N.Naming blanks }
-    requires frames { node_frames blanks ≡ 4 ∷ 4 ∷ [] }
+    requires frames { AreFrames N.frames (4 ∷ 4 ∷ []) }
     requires bytes { N.page_bytes ≡ 1024 }
 {
-    let pool = Pool::<N>::new(alloc, &[4, 4], blanks).expect(rt, "memory");
+    let Blanks { permits, nodes } = blanks;
+    let (frames, claims) = Frames::<N>::new(nodes);
+    let pool = Pool::new(alloc, &[4, 4], permits, claims).expect(rt, "memory");
     match number {
         0 => goes_round(rt, pool),
         1 => promotes_surplus(rt, pool),
         2 => surplus_leaves(rt, pool),
         _ => gives_back_apart(rt, pool),
     }
+    frames.close();
 }
 
 #[test]
@@ -187,16 +192,20 @@ fn sequences(rt: HostRuntime) {
 // Whether the memory is there.
 fn opens<N: Naming>(alloc: Global, blanks: Blanks) -> bool
     requires ledgers { AreLedgers N.Naming blanks }
-    requires frames { node_frames blanks ≡ 4 ∷ 4 ∷ [] }
+    requires frames { AreFrames N.frames (4 ∷ 4 ∷ []) }
     requires bytes { N.page_bytes ≡ 1024 }
 {
-    match Pool::<N>::new(alloc, &[4, 4], blanks) {
+    let Blanks { permits, nodes } = blanks;
+    let (frames, claims) = Frames::<N>::new(nodes);
+    let made = match Pool::new(alloc, &[4, 4], permits, claims) {
         Ok(pool) => {
             pool.close();
             true
         }
         Err(_) => false,
-    }
+    };
+    frames.close();
+    made
 }
 
 // Must also pass where an allocation is refused: what was made is given back.

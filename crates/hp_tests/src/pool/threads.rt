@@ -1,11 +1,12 @@
-//! Two threads that hand permits and pages on to each other.
+//! Two threads that hand permits and pages on to each other. The pool and the frames stand under a lock each.
 ghost use Rattle.std.specs.Prelude.{◌≡◌, IfSome, ◌∷◌, []};
-ghost use Rattle.hp_pool.specs.Ledgers.{AreLedgers, node_frames};
+ghost use Rattle.hp_nodes.specs.Ledgers.{AreFrames};
+ghost use Rattle.hp_pool.specs.Ledgers.{AreLedgers};
 
 use crate::same::same;
 use hp_model::naming::Naming;
-use hp_nodes::Page;
-use hp_permit::Permit;
+use hp_nodes::{Frames, Page};
+use hp_permit::{Claim, Permit};
 use hp_pool::{Blanks, Pool};
 use std::alloc::Global;
 use std::marker::{Brand, Model};
@@ -38,14 +39,17 @@ impl<N: Naming> Core<N> {
         }
     }
 
-    fn take(&mut self, home: usize, permit: Permit<N>) -> Page<N>
+    fn take(&mut self, home: usize, permit: Permit<N>) -> Claim<N>
         requires { permit ≡ 1 }
+        ensures { result.amount ≡ 1 }
     {
         self.pool.take(home, permit)
     }
 
-    fn put_keep(&mut self, page: Page<N>) -> Permit<N> {
-        self.pool.put_keep(page)
+    fn put_keep(&mut self, claim: Claim<N>) -> Permit<N>
+        requires { claim.amount ≡ 1 }
+    {
+        self.pool.put_keep(claim)
     }
 
     fn release(&mut self, permit: Permit<N>) {
@@ -57,6 +61,7 @@ impl<N: Naming> Core<N> {
 // What two threads work on: permits of each, and a shelf that a page can lie on.
 struct Shared<N: Naming> {
     core: Mutex<Core<N>>,
+    frames: Mutex<Frames<N>>,
     left: Mutex<Permit<N>>,
     right: Mutex<Permit<N>>,
     shelf: Mutex<Option<Page<N>>>,
@@ -83,11 +88,13 @@ fn turn<N: Naming, R: Wait>(
 ) {
     let more = shared.core.lock(rt).reserve(home);
     if let Some(permit) = split_one(rt, mine) {
-        let mut page = shared.core.lock(rt).take(home, permit);
+        let claim = shared.core.lock(rt).take(home, permit);
+        let mut page = shared.frames.lock(rt).redeem(claim);
         page.zero();
         let last = mem::replace(&mut *shared.shelf.lock(rt), Some(page));
         if let Some(page) = last {
-            let permit = shared.core.lock(rt).put_keep(page);
+            let claim = shared.frames.lock(rt).give(page);
+            let permit = shared.core.lock(rt).put_keep(claim);
             other.lock(rt).join(permit);
         }
     }
@@ -114,15 +121,18 @@ fn run<N: Naming + Send + Sync, R: Threads + Wait + Abort + Sync>(
     blanks: Blanks,
 )
     requires ledgers { AreLedgers N.Naming blanks }
-    requires frames { node_frames blanks ≡ 4 ∷ 4 ∷ [] }
+    requires frames { AreFrames N.frames (4 ∷ 4 ∷ []) }
     requires bytes { N.page_bytes ≡ 1024 }
 {
-    let mut pool = Pool::<N>::new(alloc, &[4, 4], blanks).expect(rt, "memory");
+    let Blanks { permits, nodes } = blanks;
+    let (frames, claims) = Frames::<N>::new(nodes);
+    let mut pool = Pool::new(alloc, &[4, 4], permits, claims).expect(rt, "memory");
     pool.set_nr(4);
     pool.set_overcommit(2);
     let mut all = pool.reserve(0, 4).expect(rt, "fits");
     let shared = Shared {
         core: Mutex::new(Core { pool }),
+        frames: Mutex::new(frames),
         left: Mutex::new(all.split(2)),
         right: Mutex::new(all),
         shelf: Mutex::new(None),
@@ -131,15 +141,17 @@ fn run<N: Naming + Send + Sync, R: Threads + Wait + Abort + Sync>(
     thread::join(rt, move || left(rt, lent), move || right(rt, lent));
     let Shared {
         core,
+        frames,
         left,
         right,
         shelf,
     } = shared;
     let Core { mut pool } = core.into_inner();
+    let mut frames = frames.into_inner();
     let mut permit = left.into_inner();
     permit.join(right.into_inner());
     match shelf.into_inner() {
-        Some(page) => permit.join(pool.put_keep(page)),
+        Some(page) => permit.join(pool.put_keep(frames.give(page))),
         None => {}
     }
     let now = pool.counts();
@@ -147,6 +159,7 @@ fn run<N: Naming + Send + Sync, R: Threads + Wait + Abort + Sync>(
     same!(rt; permit.amount(), 4);
     pool.release(permit);
     pool.settle();
+    frames.close();
     let now = pool.close();
     same!(rt; [now.total, now.free, now.rsvd, now.surp], [4, 4, 0, 0]);
 }
