@@ -1,4 +1,4 @@
-use Rattle.std.proofs.Common.{◌≡◌, ◌==◌, ℕ, ◌+◌, ◌<◌, cond, List, ◌∷◌, ◌++◌, [], None, length, ap, subst, sym, ◌∙◌, arith}
+use Rattle.std.proofs.Common.{◌≡◌, ◌==◌, ℕ, ◌+◌, ◌<◌, cond, List, ◌∷◌, ◌++◌, [], None, length, ap, subst, sym, ◌∙◌, rules, arith}
 use Rattle.hp_model.specs.Lists.{is_among}
 use Rattle.hp_model.specs.files.File.{new_file}
 use Rattle.hp_model.specs.files.MakeMap.{mapped, numbers_of}
@@ -81,7 +81,7 @@ invariant_of-self-2 g c =
     let number = subst (λ (v : Files). c.args.next.number ≡ next_of r.task v.files) (sym c.self.view_is) c.requires.number in
     let fresh = ap (λ n. is_among n numbers) number ∙ unused_is_new numbers in
     anon_files r.task c.args.next.number r.start r.pages r.sharing r.reserving s.hints s.store s.more s.maps (count_of s.counts) s.list.files c.self.invariant c.add_map-added.new.self c.push.new.self.files (file_is g c) (files_are g c)
-    fresh c.note_map.new.self (more_then s.hints c.reserve.new.self c.note_map.new.self c.reserve.ensures.more c.note_map.ensures.more) ? (count_of c.add_one.new.self) (one_more g c)
+    fresh c.note_map.new.self (more_then s.hints c.reserve.new.self c.note_map.new.self c.reserve.ensures.more c.note_map.ensures.more) (search rules) (count_of c.add_one.new.self) (one_more g c)
 
 pub returns-clause-ok : goal.returns-clause-ok
 returns-clause-ok g c =

@@ -1,4 +1,4 @@
-use Rattle.std.proofs.Common.{◌≡◌, ◌==◌, ℕ, ◌+◌, ◌<◌, cond, List, length, slice_set, ap, subst, sym, ◌∙◌, arith}
+use Rattle.std.proofs.Common.{◌≡◌, ◌==◌, ℕ, ◌+◌, ◌<◌, cond, List, length, slice_set, ap, subst, sym, ◌∙◌, rules, arith}
 use Rattle.std.proofs.lemmas.List.{set-get_or}
 use Rattle.hp_model.specs.Lists.{is_among}
 use Rattle.hp_model.specs.files.MakeMap.{mapped, numbers_of}
@@ -82,7 +82,7 @@ invariant_of-self-2 g c =
     let number = subst (λ (v : Files). c.args.next.number ≡ next_of r.task v.files) (sym c.self.view_is) c.requires.number in
     let fresh = ap (λ n. is_among n numbers) number ∙ unused_is_new numbers in
     map_files r.task c.args.next.number r.start r.pages r.sharing r.reserving s.hints s.store s.more s.maps (count_of s.counts) s.list.files c.args.file c.self.invariant (within g c) c.index_mut-at.result.now c.add_map.new.self c.index_mut-at.ensures.value (range_is g c)
-    fresh c.note_map.new.self (more_then s.hints c.reserve.new.self c.note_map.new.self c.reserve.ensures.more c.note_map.ensures.more) ? (count_of c.add_one.new.self) (one_more g c)
+    fresh c.note_map.new.self (more_then s.hints c.reserve.new.self c.note_map.new.self c.reserve.ensures.more c.note_map.ensures.more) (search rules) (count_of c.add_one.new.self) (one_more g c)
 
 pub returns-clause-ok : goal.returns-clause-ok
 returns-clause-ok g c =
