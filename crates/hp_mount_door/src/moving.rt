@@ -101,7 +101,7 @@ impl<N: Naming> Moving<N> {
         put_claim(pool, share, &mut self.three);
     }
 
-    /// Spends them.
+    /// Ends them. Their frames can't be claimed any more.
     pub fn close(self) {
         let Moving {
             zero,

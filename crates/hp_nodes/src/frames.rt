@@ -94,7 +94,7 @@ impl<N: Naming, const K: usize> NodeFrames<N, K> {
         let (frame, mark) = page.into_parts();
         join_marks::<N>(&mut self.marks, mark, frame.node());
         self.stock.put(frame);
-        self.kept.split(1)
+        self.kept.split_at(K, 1)
     }
 }
 

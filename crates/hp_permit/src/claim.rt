@@ -53,6 +53,7 @@ impl<N: Naming> Claim<N> {
         (node, amount, parts)
     }
 
+    /// The node that the frames are of.
     pub fn node(&self) -> usize
         ensures node { result ≡ self.now.node }
         ensures below { result < 4 }
@@ -67,16 +68,28 @@ impl<N: Naming> Claim<N> {
         self.amount
     }
 
+    /// Splits so many frames off into a claim of their own.
     pub fn split(&mut self, amount: u64) -> Self
         requires { amount ≤ self.old.amount }
         ensures node { self.new.node ≡ self.old.node }
         ensures left { self.new.amount + amount ≡ self.old.amount }
         ensures given { result ≡ record { node = self.old.node; amount = amount } }
     {
-        let parts = self.parts.split(self.node, amount);
+        self.split_at(self.node, amount)
+    }
+
+    /// As `split`, where the caller knows the node, so that nobody has to read it.
+    pub fn split_at(&mut self, node: usize, amount: u64) -> Self
+        requires node { node ≡ self.old.node }
+        requires amount { amount ≤ self.old.amount }
+        ensures node { self.new.node ≡ self.old.node }
+        ensures left { self.new.amount + amount ≡ self.old.amount }
+        ensures given { result ≡ record { node = node; amount = amount } }
+    {
+        let parts = self.parts.split(node, amount);
         self.amount -= amount;
         Claim {
-            node: self.node,
+            node,
             amount,
             parts,
         }
@@ -95,7 +108,7 @@ impl<N: Naming> Claim<N> {
         self.amount += amount;
     }
 
-    /// Spends it.
+    /// Ends it. Its frames can't be claimed any more.
     pub fn close(self) {
         let (_, _, parts) = self.into_parts();
         parts.close();

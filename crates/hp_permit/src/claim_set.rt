@@ -53,12 +53,13 @@ impl<N: Naming> ClaimSet<N> {
         Claim::new(node, 0, self.parts.split(node, 0))
     }
 
-    /// Spends them.
+    /// Ends them. Their frames can't be claimed any more.
     pub fn close(self) {
         let ClaimSet { parts } = self;
         parts.close();
     }
 
+    /// Takes a claim on so many frames of a node out of them.
     pub fn take(&mut self, node: usize, amount: u64) -> Claim<N>
         requires node { node < 4 }
         requires enough { amount ≤ slice_index self.old node }

@@ -1,5 +1,6 @@
 //! Two threads that hand permits and pages on to each other. The pool and the frames stand under a lock each.
 ghost use Rattle.std.specs.Prelude.{◌≡◌, IfSome, ◌∷◌, []};
+ghost use Rattle.hp_model.specs.pool.PoolCounts.{IsSettled};
 ghost use Rattle.hp_nodes.specs.Ledgers.{AreFrames};
 ghost use Rattle.hp_pool.specs.Ledgers.{AreLedgers};
 
@@ -115,6 +116,22 @@ fn right<N: Naming, R: Wait>(rt: &R, shared: &Shared<N>) {
     }
 }
 
+// The page that lies on the shelf goes back, if there is one.
+fn clear<N: Naming>(
+    pool: &mut Pool<N>,
+    frames: &mut Frames<N>,
+    shelf: Option<Page<N>>,
+    permit: &mut Permit<N>,
+)
+    requires { IsSettled pool.old }
+    ensures { IsSettled pool.new }
+{
+    match shelf {
+        Some(page) => permit.join(pool.put_keep(frames.give(page))),
+        None => {}
+    }
+}
+
 fn run<N: Naming + Send + Sync, R: Threads + Wait + Abort + Sync>(
     rt: &R,
     alloc: Global,
@@ -150,10 +167,7 @@ fn run<N: Naming + Send + Sync, R: Threads + Wait + Abort + Sync>(
     let mut frames = frames.into_inner();
     let mut permit = left.into_inner();
     permit.join(right.into_inner());
-    match shelf.into_inner() {
-        Some(page) => permit.join(pool.put_keep(frames.give(page))),
-        None => {}
-    }
+    clear(&mut pool, &mut frames, shelf.into_inner(), &mut permit);
     let now = pool.counts();
     same!(rt; [now.total, now.free, now.rsvd, now.surp], [4, 4, 4, 0]);
     same!(rt; permit.amount(), 4);
