@@ -136,7 +136,7 @@ pub record AreCounted (all pages : List Page) (counts : List ℕ) : Type 0 where
   pub sums : sum counts + length pages ≡ length all
 
 pub none_counted : (pages : List Page) → AreCounted pages pages (0 ∷ 0 ∷ 0 ∷ 0 ∷ [])
-none_counted pages = record { four = refl; each = λ n below. none n below; sums = refl }
+none_counted pages = record { four = refl; each = λ n below. none n below; sums = (let nothing : sum (0 ∷ 0 ∷ 0 ∷ 0 ∷ []) ≡ 0 = refl in omega (arith, nothing)) }
   where
     none : (n : ℕ) → n < 4 → slice_index (0 ∷ 0 ∷ 0 ∷ 0 ∷ []) n + count_by (is_at n) pages ≡ count_by (is_at n) pages
     none zero l = omega arith

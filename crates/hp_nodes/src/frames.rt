@@ -5,6 +5,7 @@ ghost use Rattle.hp_nodes.specs.Kept.{IsHome};
 ghost use Rattle.hp_nodes.specs.Ledgers.{AreAll, AreLedgers};
 
 use crate::blanks::{Blanks, NodeBlanks};
+use crate::draft::PageDraft;
 use crate::page::{Marks, Page};
 use hp_frames::Stock;
 use hp_model::naming::Naming;
@@ -60,6 +61,19 @@ impl<N: Naming, const K: usize> NodeFrames<N, K> {
         kept.close();
     }
 
+    /// What a claim is worth: a page, of which no byte is written yet. Never refused.
+    pub fn draw(&mut self, claim: Claim<N>) -> PageDraft<N>
+        requires own { claim.node ≡ K }
+        requires one { claim.amount ≡ 1 }
+        ensures node { result ≡ K }
+        ensures left { self.new + 1 ≡ self.old }
+    {
+        let node = claim.node();
+        self.kept.join(claim);
+        let draft = self.stock.draw();
+        PageDraft::new(draft, self.marks.split(node, 1))
+    }
+
     /// The page of a claim, with the bytes that its last holder left. Never refused.
     pub fn redeem(&mut self, claim: Claim<N>) -> Page<N>
         requires own { claim.node ≡ K }
@@ -67,10 +81,7 @@ impl<N: Naming, const K: usize> NodeFrames<N, K> {
         ensures node { result.node ≡ K }
         ensures left { self.new + 1 ≡ self.old }
     {
-        self.kept.join(claim);
-        let frame = self.stock.take();
-        let node = frame.node();
-        Page::new(frame, self.marks.split(node, 1))
+        self.draw(claim).into_page()
     }
 
     /// The claim of a page that comes back. Never refused.

@@ -2,6 +2,7 @@
 #![tactic(auto)]
 
 mod blanks;
+mod draft;
 mod frames;
 mod lists;
 mod node;
@@ -10,6 +11,7 @@ mod rounds;
 mod search;
 
 pub use blanks::{Blanks, NodeBlanks};
+pub use draft::PageDraft;
 pub use frames::{Frames, NodeFrames};
 pub use lists::NodeLists;
 pub use page::Page;

@@ -1,8 +1,9 @@
-use Rattle.std.proofs.Common.{ap, subst, ◌∙◌, ◌+◌, ◌<◌, []}
+use Rattle.std.proofs.Common.{◌≡◌, ap, arith, subst, ◌∙◌, ◌+◌, ◌<◌, []}
 use Rattle.std.specs.Prelude.{slice_index, slice_set}
 use Rattle.hp_permit.specs.Claim.{Claim}
 use Rattle.hp_store.specs.Store.{Store}
-use Rattle.hp_mount_door.proofs.Returning.{one_counted}
+use Rattle.std.proofs.lemmas.List.{nil_from_length}
+use Rattle.hp_mount_door.proofs.Returning.{all_counted, one_counted}
 use Rattle.hp_mount_door.proofs.moving.Moving.gather.Goals as goal
 
 pub loop-page-preserved : goal.loop-page-preserved
@@ -14,3 +15,8 @@ loop-page-preserved g c =
           (c.add.ensures.added ∙ ap (λ (x : Claim). slice_set was.self x.node (slice_index was.self x.node + x.amount)) claim) was.invariant.0,
       ap (λ (s : Store). record s { going = [] }) c.next_going.ensures.rest ∙ was.invariant.1,
     )
+
+pub returns-clause-claims : goal.returns-clause-claims
+returns-clause-claims g c =
+    let none : c.loop-page.going.going ≡ [] = nil_from_length c.loop-page.going.going (let some = c.in_default.ensures.some in grind (arith, some)) in
+    (all_counted c.args.going.now.going c.loop-page.going.going c.loop-page.self none c.loop-page.invariant.0).0
