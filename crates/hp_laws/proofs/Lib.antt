@@ -63,3 +63,7 @@ pub mod Parents
 pub mod LeavesWalk
 pub mod PlanRules
 pub mod EventsSound
+pub mod SectionFrames
+pub mod FewTasks
+pub mod Closing
+pub mod Telling

@@ -1,6 +1,7 @@
 //! What holds of the machine, whatever its steps. Each law is the contract of a function that does nothing.
 #![tactic(auto)]
 
+ghost use Rattle.hp_laws.specs.Closing.{PoolPlaces, ReceiptsAreFew, SlotPlaces, TablePlaces};
 ghost use Rattle.hp_laws.specs.Laws.{CountsAreSums, JoinedLaw, LimitsHold, OwnerWrites, PoolIsTied, PromisesAreKept, RefusalsChangeNothing, ReservedAccess, RunsAreSettled, SlotsAreBalanced, SlotsStaySound, StartIsSettled};
 
 /// An access at an index that is reserved to its map is never refused for want of a huge page, whatever the pool answers.
@@ -64,4 +65,25 @@ pub fn promises_are_kept()
 /// machine, with the recorded replies, and ends where the trails end.
 pub fn trails_join()
     ensures { JoinedLaw }
+{}
+
+/// In the table, 256 places are enough for the removals of tasks that may yet come, whatever else is done.
+pub fn table_places_are_enough()
+    ensures { TablePlaces }
+{}
+
+/// In a slot, 256 places are enough for the exits of tasks with maps that may yet come.
+pub fn slot_places_are_enough()
+    ensures { SlotPlaces }
+{}
+
+/// In the pool, twice as many places as there are frames are enough for the sections that only give back. No section
+/// and no event changes how many frames there are.
+pub fn pool_places_are_enough()
+    ensures { PoolPlaces }
+{}
+
+/// A step is told by no more receipts than a session asks room for before it.
+pub fn receipts_are_few()
+    ensures { ReceiptsAreFew }
 {}

@@ -13,3 +13,4 @@ pub mod Plain
 pub mod Sound
 pub mod Settled
 pub mod Promises
+pub mod Copying

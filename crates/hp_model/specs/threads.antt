@@ -4,3 +4,5 @@ pub mod LocalRun
 pub mod PoolRun
 pub mod JointRun
 pub mod Differ
+pub mod Closing
+pub mod Telling

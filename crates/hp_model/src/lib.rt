@@ -3,6 +3,7 @@
 
 pub mod answer;
 pub mod cell;
+pub mod copying;
 pub mod entry;
 pub mod event;
 pub mod lent;

@@ -26,7 +26,7 @@ use Rattle.hp_model.specs.files.Spot.{Spot, again, written, file_written, cell_w
 use Rattle.hp_model.specs.declared.step.Intent.{Intent}
 use Rattle.hp_model.specs.declared.step.Intent.TheVariants.{Read, Write}
 use Rattle.hp_mount_files.specs.declared.files.MapPlace.{MapPlace}
-use Rattle.hp_mount.specs.Done.{IsAccessed, Tried}
+use Rattle.hp_mount.specs.Done.{Enters, IsAccessed, Tried}
 use Rattle.hp_mount.specs.Found.{IsPlaced, IsTouched, first_of, spot_at, spot_of, tests_of, why_not, with_place_at}
 use Rattle.hp_mount.specs.declared.mount.reach.Asked.{Asked}
 use Rattle.hp_mount.specs.declared.mount.reach.Asked.TheVariants.{Page, Bytes}
@@ -34,7 +34,7 @@ use Rattle.hp_mount.specs.declared.mount.reach.MapAccess.{MapAccess}
 use Rattle.hp_model.specs.files.Value.{value}
 use Rattle.hp_model.specs.Profile.{most_bytes}
 use Rattle.hp_model.specs.files.Reserved.{is_reserved}
-use Rattle.hp_mount.proofs.Ways.{fresh_choice, is_fresh, refused_at, then_refused}
+use Rattle.hp_mount.proofs.Ways.{fresh_choice, is_fresh, refused_at, then_enters, then_refused}
 
 -- ---- tests
 
@@ -137,7 +137,8 @@ module _ {X : Type 0} (took : X → Section → PoolAnswer → X → Type 0) (fu
   -- what makes a plan of an access leaves a refusal as it is
   abbrev pub KeepsRefusals : (Spot → Plan → Plan) → Type 0
   KeepsRefusals then =
-      (s : Spot) (p : Plan) (left : X) (e : Refusal) (new : Slot) → ThroughDoor took p (Some m) door (Err e) new left → ThroughDoor took (then s p) (Some m) door (Err e) new left
+      ((s : Spot) (p : Plan) (left : X) (e : Refusal) (new : Slot) → ThroughDoor took p (Some m) door (Err e) new left → ThroughDoor took (then s p) (Some m) door (Err e) new left)
+      × ((s : Spot) (p : Plan) → Enters p → Enters (then s p))
 
   module _ (size home : ℕ) (a : MapAccess) (intent : Intent) (asked : Asked) (then : Spot → Plan → Plan) (keeps : KeepsRefusals then) where
     abbrev act : Choice → Spot → Plan
@@ -151,7 +152,7 @@ module _ {X : Type 0} (took : X → Section → PoolAnswer → X → Type 0) (fu
         → ThroughDoor took (with_value o r.NoSuchMap (λ s. then s (unless (tests_of size a.index asked s) (act c s)))) (Some m) door (Err e) (Some m) door
     begun c e None h = subst (λ x. ThroughDoor took (refuse r.NoSuchMap) (Some m) door (Err x) (Some m) door) (some_same h) (refused_at took m r.NoSuchMap door)
     begun c e (Some s) h =
-        keeps s (unless (tests_of size a.index asked s) (act c s)) door e (Some m)
+        keeps.0 s (unless (tests_of size a.index asked s) (act c s)) door e (Some m)
         (subst (λ p. ThroughDoor took p (Some m) door (Err e) (Some m) door) (sym (tests_fail (tests_of size a.index asked s) (act c s) e h)) (refused_at took m e door))
 
     pub not_begun : (e : Refusal) → why_not m a asked size ≡ Some e → Tried took full plan (Some m) door (Err e) (Some m) door
@@ -169,8 +170,8 @@ module _ {X : Type 0} (took : X → Section → PoolAnswer → X → Type 0) (fu
 
       -- it was refused
       refusal_kept : (e : Refusal) (new : Slot) (left : X) → Tried took full (λ c. act c here) (Some m) door (Err e) new left → Tried took full plan (Some m) door (Err e) new left
-      refusal_kept r.TraceFull new left h = h
-      refusal_kept other new left h = (h.0, h.1, subst (λ p. ThroughDoor took p (Some m) door (Err other) new left) (plan_is h.0) (keeps here (act h.0 here) left other new h.2))
+      refusal_kept r.TraceFull new left h = (h.0, h.1, (h.2.0, h.2.1, subst Enters (plan_is h.2.0) (keeps.1 here (act h.2.0 here) h.2.2)))
+      refusal_kept other new left h = (h.0, h.1, subst (λ p. ThroughDoor took p (Some m) door (Err other) new left) (plan_is h.0) (keeps.0 here (act h.0 here) left other new h.2))
 
       pub denied : (e : Refusal) (result : Result (Unit {0}) Refusal) (new : Mount) (left : X) → result ≡ Err e → IsAccessed took full size home at a.index intent m door result new left
           → Tried took full plan (Some m) door (Err e) (Some new) left
@@ -186,7 +187,7 @@ module _ {X : Type 0} (took : X → Section → PoolAnswer → X → Type 0) (fu
 
   -- nothing follows
   pub nothing_follows : KeepsRefusals (λ s p. p)
-  nothing_follows s p left e new h = h
+  nothing_follows = ((λ s p left e new h. h), (λ s p h. h))
 
   pub ended : (size home : ℕ) (a : MapAccess) (intent : Intent) (asked : Asked) (at : MapPlace) → IsPlaced m a asked size at
       → (result : Result (Unit {0}) Refusal) (n : Mount) (left : X) → IsAccessed took full size home at a.index intent m door result n left
@@ -195,7 +196,7 @@ module _ {X : Type 0} (took : X → Section → PoolAnswer → X → Type 0) (fu
   ended size home a intent asked at placed (Err e) n left h = denied size home a intent asked (λ s p. p) nothing_follows at placed e (Err e) n left refl h
 
   pub follows : (cont : Spot → Mount → Outcome) → KeepsRefusals (λ s p. and_then (cont s) p)
-  follows cont s p left e new h = then_refused took m (cont s) p door left e new h
+  follows cont = ((λ s p left e new h. then_refused took m (cont s) p door left e new h), (λ s p h. then_enters (cont s) p h))
 
 -- ---- the same map after an access
 
@@ -213,7 +214,7 @@ shared_is c size m s home i intent e = ap (λ b. cond b (shared_access c size m 
 
 -- plans that are the same at each choice
 pub tried_as : {X : Type 0} (took : X → Section → PoolAnswer → X → Type 0) (full : X → Type 0) (p q : Choice → Plan) → ((c : Choice) → p c ≡ q c) → (old : Slot) (door : X) (reply : Reply) (new : Slot) (left : X) → Tried took full p old door reply new left → Tried took full q old door reply new left
-tried_as took full p q same old door (Err r.TraceFull) new left h = h
+tried_as took full p q same old door (Err r.TraceFull) new left h = (h.0, h.1, (h.2.0, h.2.1, subst Enters (same h.2.0) h.2.2))
 tried_as took full p q same old door (Ok a) new left h = (h.0, h.1, subst (λ x. ThroughDoor took x old door (Ok a) new left) (same h.0) h.2)
 tried_as took full p q same old door (Err other) new left h = (h.0, h.1, subst (λ x. ThroughDoor took x old door (Err other) new left) (same h.0) h.2)
 

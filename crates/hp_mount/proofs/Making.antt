@@ -25,7 +25,7 @@ use Rattle.hp_model.specs.machine.SlotEvent.{anon_tests, are_too_many_maps, file
 use Rattle.hp_mount_files.specs.Asking.{IsAsked, IsGranted}
 use Rattle.hp_mount_files.specs.Files.{Files}
 use Rattle.hp_mount.specs.Alone.{IsDoneAlone}
-use Rattle.hp_mount.specs.Done.{Through, Tried}
+use Rattle.hp_mount.specs.Done.{Enters, Through, Tried}
 use Rattle.hp_mount.specs.Found.{first_of}
 use Rattle.hp_mount.specs.Kept.{IsKept, mount_of}
 use Rattle.hp_mount.specs.Making.{create_tests, map_tests}
@@ -116,6 +116,9 @@ module _ {X : Type 0} (took : X → Section → PoolAnswer → X → Type 0) (fu
             let section = subst (λ d. took door (Grant home d) (granted_at 0) left) rise_is (given.some (subst (λ d. 0 < d) (sym rise_is) some)) in
             subst (λ b. ThroughDoor took (goes b) (Some m) door (Ok a) (Some n) left) (sym e) (granted_at 0, section, (refl, refl))
 
+    asks_one : 0 < rise m k → Enters (plan (fresh_choice false (Some m)))
+    asks_one some = subst (λ b. Enters (cond b (refuse r.MountFull) (goes (rise m k == 0)))) (sym room) (subst (λ b. Enters (goes b)) (sym (some_rise some)) tt)
+
     pub grant_denied : (e : Refusal) (new : Subpool) (left : X) (after : Mount) → IsAsked took full home k s door (Err e) new left → after ≡ m → Tried took full plan (Some m) door (Err e) (Some after) left
     grant_denied r.OutOfMemory new left after none same =
         let c : Choice = fresh_choice true (Some m) in
@@ -129,7 +132,7 @@ module _ {X : Type 0} (took : X → Section → PoolAnswer → X → Type 0) (fu
           tests c false false room refl (Err r.NoPages) (Some after) left
               (subst (λ b. ThroughDoor took (goes b) (Some m) door (Err r.NoPages) (Some after) left) (sym (some_rise some)) (no_pages, section, (refl, ap Some same))),
         )
-    grant_denied r.TraceFull new left after denied same = (ap Some same, denied.why)
+    grant_denied r.TraceFull new left after denied same = (ap Some same, denied.why, (fresh_choice false (Some m), is_fresh false (Some m), asks_one (subst (λ d. 0 < d) rise_is denied.some)))
     grant_denied other new left after denied same = absurd denied.why
 
 -- refused, the share is as it was

@@ -27,9 +27,9 @@ use Rattle.hp_model.specs.machine.Plan.{Answered, Ask, Choice, Finish, Outcome, 
 use Rattle.hp_model.specs.pool.Grant.{is_full, rise}
 use Rattle.hp_model.specs.pool.Pool.{granted_at, no_pages}
 use Rattle.hp_model.specs.threads.LocalRun.{Gives, ThroughDoor}
-use Rattle.hp_mount.specs.Done.{Through, Tried}
+use Rattle.hp_mount.specs.Done.{Enters, MayEnter, Through, Tried}
 use Rattle.hp_mount.specs.Found.{IsTouched, NeedsCopy, has_reserve, shows_page, spot_at, with_place_at}
-use Rattle.hp_mount.proofs.Ways.{fresh_choice, is_fresh, page_denied, page_full, page_granted, page_reserved, page_without_memory}
+use Rattle.hp_mount.proofs.Ways.{fresh_choice, is_fresh, page_asks, page_denied, page_full, page_granted, page_reserved, page_without_memory}
 
 -- a choice of this stamp
 abbrev pub stamped : ℕ → Choice
@@ -64,6 +64,9 @@ module _ {X : Type 0} (took : X → Section → PoolAnswer → X → Type 0) (fu
   -- the plan goes so, with this choice
   goes_so : (c : Choice) (reply : Reply) (new : Slot) (left : X) → IsFresh c (Some m) → (p : Plan) → p ≡ plan c → ThroughDoor took p (Some m) door reply new left → Through took plan (Some m) door reply new left
   goes_so c reply new left fresh p e h = (c, fresh, subst (λ x. ThroughDoor took x (Some m) door reply new left) e h)
+
+  enters_so : (c : Choice) → IsFresh c (Some m) → (p : Plan) → p ≡ plan c → Enters p → MayEnter plan (Some m)
+  enters_so c fresh p e h = (c, fresh, subst Enters e h)
 
   module _ (private : is_shared s.map.sharing ≡ false) where
     place_plan : (p : Place Copy) → place_at s.map i ≡ p → (c : Choice) → private_access c size m s home i p intent ≡ plan c
@@ -144,6 +147,18 @@ module _ {X : Type 0} (took : X → Section → PoolAnswer → X → Type 0) (fu
         (ap (λ b. cond b (reserved_page home (λ node. copied m s i true (fresh_copy c node))) (grant_page c m home (λ node. copied m s i need.consumed (fresh_copy c node)))) (sym owns) ∙ new_plan c)
         (page_reserved took m c home (λ node. copied m s i true (fresh_copy c node)) door left page.node (Ok Done) (Some n) t (given_copy stamp true page n bytes n_is))
 
+    -- refused by the door, as TraceFull alone
+    pub reserved_full : (left : X) (n : Mount) (x : Refusal) → has_reserve s.map i ≡ true → IsDoorRefusal x ⊥ ((left ≡ door) × full left) → n ≡ m → Tried took full plan (Some m) door (Err x) (Some n) left
+    reserved_full left n r.TraceFull reserved t same =
+        let c : Choice = fresh_choice false (Some m) in
+        let owns : (s.map.owner && not need.consumed) ≡ true = ap (λ b. s.map.owner && b) (sym (unconsumed need.consumed)) ∙ ap (λ p. s.map.owner && is_unconsumed p) (sym need.place) ∙ reserved in (
+          ap Some same,
+          t,
+          enters_so c (is_fresh false (Some m)) (reserved_page home (λ node. copied m s i true (fresh_copy c node)))
+              (ap (λ b. cond b (reserved_page home (λ node. copied m s i true (fresh_copy c node))) (grant_page c m home (λ node. copied m s i need.consumed (fresh_copy c node)))) (sym owns) ∙ new_plan c) tt,
+        )
+    reserved_full left n other reserved t same = absurd t
+
     -- by a grant
     module _ (unreserved : has_reserve s.map i ≡ false) where
       abbrev put_copy : Choice → ℕ → Outcome
@@ -171,7 +186,11 @@ module _ {X : Type 0} (took : X → Section → PoolAnswer → X → Type 0) (fu
       pub copy_denied : (left : X) (n : Mount) (x : Refusal) → is_full m 1 ≡ false → IsDoorRefusal x (took door (GrantPage home (rise m 1)) no_pages left) ((left ≡ door) × full left) → n ≡ m → Tried took full plan (Some m) door (Err x) (Some n) left
       copy_denied left n r.NoPages e t same = subst (λ y. Through took plan (Some m) door (Err r.NoPages) (Some y) left) (sym same)
           (let c : Choice = fresh_choice false (Some m) in goes_so c (Err r.NoPages) (Some m) left (is_fresh false (Some m)) (grant_page c m home (put_copy c)) (grant_plan c) (page_denied took m c home (put_copy c) door left e refl t))
-      copy_denied left n r.TraceFull e t same = (ap Some same, t)
+      copy_denied left n r.TraceFull e t same = (
+        ap Some same,
+        t,
+        (let c : Choice = fresh_choice false (Some m) in enters_so c (is_fresh false (Some m)) (grant_page c m home (put_copy c)) (grant_plan c) (page_asks took m c home (put_copy c) door e refl)),
+      )
       copy_denied left n other e t same = absurd t
 
   -- ---- a copy that several maps hold
@@ -210,12 +229,19 @@ module _ {X : Type 0} (took : X → Section → PoolAnswer → X → Type 0) (fu
         goes_so c (Err r.MountFull) (Some m) door (is_fresh false (Some m)) (grant_page c m home (own c))
         (ap (λ b. cond b (owner_write m s home copy.stamp (own c)) (grant_page c m home (own c))) (sym other) ∙ several_plan c) (page_full took m c home (own c) door e)
 
+    own_enters : is_full m 1 ≡ false → (b : Bool) → s.map.owner ≡ b → MayEnter plan (Some m)
+    own_enters e true owner = (let c : Choice = fresh_choice false (Some m) in enters_so c (is_fresh false (Some m)) (asks_owner c) (owner_plan owner c false e) tt)
+    own_enters e false other =
+        let c : Choice = fresh_choice false (Some m) in
+        enters_so c (is_fresh false (Some m)) (grant_page c m home (own c))
+        (ap (λ b. cond b (owner_write m s home copy.stamp (own c)) (grant_page c m home (own c))) (sym other) ∙ several_plan c) (page_asks took m c home (own c) door e refl)
+
     -- refused by the door: an owner is so as TraceFull alone
     pub own_denied : (left : X) (n : Mount) (x : Refusal) → is_full m 1 ≡ false → (x ≡ r.NoPages → s.map.owner ≡ false) → IsDoorRefusal x (took door (GrantPage home (rise m 1)) no_pages left) ((left ≡ door) × full left) → n ≡ m → Tried took full plan (Some m) door (Err x) (Some n) left
     own_denied left n r.NoPages e other t same = subst (λ y. Through took plan (Some m) door (Err r.NoPages) (Some y) left) (sym same)
         (let c : Choice = fresh_choice false (Some m) in goes_so c (Err r.NoPages) (Some m) left (is_fresh false (Some m)) (grant_page c m home (own c))
         (ap (λ b. cond b (owner_write m s home copy.stamp (own c)) (grant_page c m home (own c))) (sym (other refl)) ∙ several_plan c) (page_denied took m c home (own c) door left e refl t))
-    own_denied left n r.TraceFull e other t same = (ap Some same, t)
+    own_denied left n r.TraceFull e other t same = (ap Some same, t, own_enters e s.map.owner refl)
     own_denied left n x e other t same = absurd t
 
     pub own_granted : (stamp : ℕ) (left : X) (page : Page) (n : Mount) → is_full m 1 ≡ false → IsFresh (stamped stamp) (Some m) → took door (GrantPage home (rise m 1)) (granted_at page.node) left → page.bytes ≡ copy.page.bytes

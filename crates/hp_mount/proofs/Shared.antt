@@ -20,9 +20,9 @@ use Rattle.hp_model.specs.declared.section.Section.TheVariants.{GrantPage, TakeP
 use Rattle.hp_model.specs.pool.Pool.{granted_at, no_pages}
 use Rattle.hp_model.specs.machine.Promises.{file_in}
 use Rattle.hp_model.specs.files.Spot.{Spot, filled}
-use Rattle.hp_mount.specs.Done.{Through, Tried}
+use Rattle.hp_mount.specs.Done.{Enters, Through, Tried}
 use Rattle.hp_mount.specs.Found.{IsTouched}
-use Rattle.hp_mount.proofs.Ways.{fresh_choice, is_fresh, page_full, page_without_memory, page_denied, page_granted, page_reserved}
+use Rattle.hp_mount.proofs.Ways.{fresh_choice, is_fresh, page_full, page_without_memory, page_asks, page_denied, page_granted, page_reserved}
 
 module _ {X : Type 0} (took : X → Section → PoolAnswer → X → Type 0) (full : X → Type 0) (size : ℕ) (m : Mount) (home k i : ℕ) (s : Spot) (no : s.file_no ≡ k) (file : s.file ≡ file_in m k) (door : X) where
   abbrev f : File
@@ -57,6 +57,15 @@ module _ {X : Type 0} (took : X → Section → PoolAnswer → X → Type 0) (fu
             (refl, ap Some (n_is ∙ sym (filled_is page) ∙ ap (λ b. with_file m s.file_no (with_cell s.file i (Present (record { node = page.node; bytes = b })))) bytes))),
       )
 
+  -- refused by the door, as TraceFull alone
+  pub entered_full : (left : X) (n : Mount) (x : Refusal) → cell_at f i ≡ Entered → IsDoorRefusal x ⊥ ((left ≡ door) × full left) → n ≡ m → Tried took full plan (Some m) door (Err x) (Some n) left
+  entered_full left n r.TraceFull e t same = (
+    ap Some same,
+    t,
+    (fresh_choice false (Some m), is_fresh false (Some m), subst (λ x. Enters (shared_access (fresh_choice false (Some m)) size m s home i x)) (sym (cell_here Entered e)) tt),
+  )
+  entered_full left n other e t same = absurd t
+
   abbrev made : ℕ → Outcome
   made node = filled m s i (record { node = node; bytes = zeros size })
 
@@ -81,7 +90,11 @@ module _ {X : Type 0} (took : X → Section → PoolAnswer → X → Type 0) (fu
     pub shared_denied : (left : X) (n : Mount) (x : Refusal) → is_full m 1 ≡ false → IsDoorRefusal x (took door (GrantPage home (rise m 1)) no_pages left) ((left ≡ door) × full left) → n ≡ m → Tried took full plan (Some m) door (Err x) (Some n) left
     shared_denied left n r.NoPages e t same = subst (λ y. Through took plan (Some m) door (Err r.NoPages) (Some y) left) (sym same)
         (goes_as (fresh_choice false (Some m)) (Err r.NoPages) (Some m) left (is_fresh false (Some m)) (page_denied took m (fresh_choice false (Some m)) home made door left e refl t))
-    shared_denied left n r.TraceFull e t same = (ap Some same, t)
+    shared_denied left n r.TraceFull e t same = (
+      ap Some same,
+      t,
+      (fresh_choice false (Some m), is_fresh false (Some m), subst (λ x. Enters (shared_access (fresh_choice false (Some m)) size m s home i x)) (sym (cell_here Hole hole)) (page_asks took m (fresh_choice false (Some m)) home made door e refl)),
+    )
     shared_denied left n other e t same = absurd t
 
 -- ---- the file has as many indices, and the same maps

@@ -17,7 +17,7 @@ use Rattle.hp_model.specs.declared.section.Section.{Section}
 use Rattle.hp_model.specs.declared.section.Section.TheVariants.{GrantPage, TakePage}
 use Rattle.hp_model.specs.pool.Pool.{granted_at, no_pages}
 use Rattle.hp_mount.specs.Alone.{EndsAtOnce}
-use Rattle.hp_mount.specs.Done.{Tried}
+use Rattle.hp_mount.specs.Done.{Enters, Tried}
 
 -- ---- a fresh stamp
 
@@ -66,6 +66,12 @@ module _ {X : Type 0} (took : X → Section → PoolAnswer → X → Type 0) (m 
     pub page_without_memory : is_full m 1 ≡ false → c.refused ≡ true → goes (grant_page c m home f) door (Err r.OutOfMemory) (Some m) door
     page_without_memory e z = tests false true e z (Err r.OutOfMemory) (Some m) door (refused_at r.OutOfMemory door)
 
+    -- it asks for one
+    pub page_asks : is_full m 1 ≡ false → c.refused ≡ false → Enters (grant_page c m home f)
+    page_asks e z =
+        subst (λ a. Enters (cond a (refuse r.MountFull) (cond c.refused (refuse r.OutOfMemory) asks))) (sym e)
+        (subst (λ b. Enters (cond false (refuse r.MountFull) (cond b (refuse r.OutOfMemory) asks))) (sym z) tt)
+
     pub page_denied : (left : X) → is_full m 1 ≡ false → c.refused ≡ false → took door (GrantPage home (rise m 1)) no_pages left → goes (grant_page c m home f) door (Err r.NoPages) (Some m) left
     page_denied left e z t = tests false false e z (Err r.NoPages) (Some m) left (no_pages, t, (refl, refl))
 
@@ -108,6 +114,11 @@ module _ {X : Type 0} (took : X → Section → PoolAnswer → X → Type 0) (m 
   pub then_refused : (f : Mount → Outcome) (p : Plan) (door left : X) (e : Refusal) (new : Slot) → goes p door (Err e) new left → goes (and_then f p) door (Err e) new left
   then_refused f (Finish o) door left e new h = (gives_no f o e new h.0, h.1)
   then_refused f (Ask s k) door left e new h = (h.0, h.1, gives_no f (k h.0) e new h.2)
+
+-- what follows a plan enters a section where the plan does
+pub then_enters : (f : Mount → Outcome) (p : Plan) → Enters p → Enters (and_then f p)
+then_enters f (Finish o) h = absurd h
+then_enters f (Ask s k) h = tt
 
 -- an event that asks nothing of the pool leaves the door as it was, whichever it is
 pub alone_is_done : {X : Type 0} (took : X → Section → PoolAnswer → X → Type 0) (full : X → Type 0) (plan : Choice → Plan) (old new : Slot) (door : X) (reply : Reply)

@@ -194,3 +194,32 @@ impl<N: Naming> Frames<N> {
         three.close();
     }
 }
+
+/// The frames of each node, by themselves.
+impl<N: Naming> Frames<N> {
+    /// The frames of nodes 0 to 3.
+    pub fn into_nodes(self) -> (NodeFrames<N, 0>, NodeFrames<N, 1>, NodeFrames<N, 2>, NodeFrames<N, 3>) {
+        let Frames {
+            zero,
+            one,
+            two,
+            three,
+        } = self;
+        (zero, one, two, three)
+    }
+
+    /// The frames of nodes 0 to 3 together.
+    pub fn from_nodes(
+        zero: NodeFrames<N, 0>,
+        one: NodeFrames<N, 1>,
+        two: NodeFrames<N, 2>,
+        three: NodeFrames<N, 3>,
+    ) -> Self {
+        Frames {
+            zero,
+            one,
+            two,
+            three,
+        }
+    }
+}

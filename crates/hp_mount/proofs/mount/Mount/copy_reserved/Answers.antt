@@ -7,7 +7,9 @@ use Rattle.hp_model.specs.files.Page.{Page}
 use Rattle.hp_model.specs.files.Value.{value}
 use Rattle.hp_model.specs.machine.Promises.{file_in, map_in}
 use Rattle.hp_model.specs.pool.Pool.{granted_at}
-use Rattle.hp_mount_door.specs.Door.{with_page}
+use Rattle.hp_mount_door.specs.Door.{IsDoorRefusal, with_page}
+use Rattle.hp_mount.specs.Done.{IsAccessed}
+use Rattle.std.proofs.lemmas.Result.{err_from_is_err_and}
 use Rattle.hp_mount.specs.Found.{has_reserve, with_place_at}
 use Rattle.hp_mount.proofs.Copying as keeps
 use Rattle.hp_mount.proofs.Private as private
@@ -79,3 +81,14 @@ returns-clause-same g c =
     let a = (goal.at.returns-clause-same g c).After-self in
     place_touched c.args.self.now _ c.args.at.file c.args.at.map c.args.index _ c.requires.file
     (left g a c.put_copy.result c.with_shown-page.result c.take_page.new.share c.put_copy.new.self c.put_copy.ensures.fresh c.in_ok-got.ensures.share c.put_copy.ensures.copied)
+
+pub returns-in_err-got-clause-done : goal.returns-in_err-got-clause-done
+returns-in_err-got-clause-done g c =
+    let o = c.self.inside in
+    let m = c.args.self.now in
+    let back = err_from_is_err_and c.from_residual.result c.from_residual.ensures.1 in
+    let now : Mount = mount_of c.take_page.new.share o.inodes o.files.files in
+    subst (λ q. IsAccessed g.D.PoolDoor.took g.D.PoolDoor.is_full g.N.Naming.page_bytes c.args.home c.args.at c.args.index c.args.intent m c.args.door.now q now c.take_page.new.self) (sym back.1)
+    (private.reserved_full g.D.PoolDoor.took g.D.PoolDoor.is_full g.N.Naming.page_bytes m c.args.home c.args.at.file c.args.at.map c.args.index c.args.intent c.args.door.now c.requires.needs c.take_page.new.self now back.0 c.requires.reserved
+    (subst (λ x. IsDoorRefusal x ⊥ ((c.take_page.new.self ≡ c.args.door.now) × g.D.PoolDoor.is_full c.take_page.new.self)) (sym back.2) c.in_err-got.ensures.err)
+    (ap (λ (x : share.Subpool). mount_of x o.inodes o.files.files) c.in_err-got.ensures.unchanged ∙ c.self.view_is))

@@ -1,0 +1,5 @@
+use Rattle.hp_laws.proofs.Closing.{slot_places}
+use Rattle.hp_laws.proofs.slot_places_are_enough.Goals as goal
+
+pub returns : goal.returns
+returns c = slot_places

@@ -1,0 +1,2 @@
+pub mod Parcel
+pub mod Views

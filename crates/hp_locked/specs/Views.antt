@@ -1,0 +1,85 @@
+-- What the pool under its lock is to a contract.
+use Rattle.std.specs.Prelude.{[], ◌∷◌, ◌≡◌, ℕ, ◌+◌, ◌*◌, ◌<◌, ◌≤◌, Option, None, Some, List, length, nat_lt}
+use Rattle.std.specs.Bool.{MatchBool}
+use Rattle.std.specs.List.{filter, sum}
+use Rattle.hp_model.specs.declared.entry.Asked.{Asked}
+use Rattle.hp_model.specs.declared.entry.PoolEntry.{PoolEntry}
+use Rattle.hp_model.specs.declared.entry.PoolEntry.TheVariants.{OfSlot}
+use Rattle.hp_model.specs.declared.section.PoolAnswer.{PoolAnswer}
+use Rattle.hp_model.specs.declared.section.Section.{Section}
+use Rattle.hp_model.specs.declared.section.Section.TheVariants.{GiveBack}
+use Rattle.hp_model.specs.machine.Settled.{IsSettledPool}
+use Rattle.hp_model.specs.pool.NodeRows.{frames_of}
+use Rattle.hp_model.specs.pool.Pool.{granted_at, no_pages, section}
+use Rattle.hp_model.specs.pool.PoolCounts.{Pool}
+use Rattle.hp_model.specs.threads.Closing.{to_return}
+use Rattle.hp_model.specs.threads.PoolRun.{IsPoolRun}
+use Rattle.hp_mount_door.specs.Door.{IsReady}
+use Rattle.hp_subpool.specs.Subpool.{Subpool, rise, with_reserves}
+use Rattle.hp_trail.specs.Keeping.{added}
+
+-- the frames of each node that a machine has: of its four names of nodes those with some
+abbrev pub frames_list : (ℕ → ℕ) → List ℕ
+frames_list frames = filter (λ n. nat_lt 0 n) (frames 0 ∷ frames 1 ∷ frames 2 ∷ frames 3 ∷ [])
+
+-- the pool's numbers, with its trail if that is kept and the places left there
+pub record CoreView : Type 0 where
+  pub pool : Pool
+  pub entries : Option (List PoolEntry)
+  pub left : Option ℕ
+  pub extra : ℕ
+
+-- from the start the trail is a run of the pool that ends in these numbers
+abbrev pub IsPoolTrail : Pool → Option (List PoolEntry) → Pool → Type 0
+IsPoolTrail start None p = Unit {0}
+IsPoolTrail start (Some es) p = IsPoolRun start es p
+
+-- so many places are left, where they are counted
+abbrev pub HasPlaces : Option ℕ → ℕ → Type 0
+HasPlaces None n = Unit {0}
+HasPlaces (Some left) n = n ≤ left
+
+-- what holds of the pool under its lock: a place is left for each section that could yet give back
+pub record IsCore (start : Pool) (entries : Option (List PoolEntry)) (left : Option ℕ) (extra : ℕ) (p : Pool) : Type 0 where
+  pub trail : IsPoolTrail start entries p
+  pub ready : IsReady p
+  pub settled : IsSettledPool p
+  pub frames : frames_of p.nodes.rows ≡ frames_of start.nodes.rows
+  pub enough : 2 * frames_of start.nodes.rows ≤ extra
+  pub places : HasPlaces left (to_return p)
+
+-- what is told of the place of an entry
+abbrev pub IsPlace : {E : Type 0} → Option (List E) → ℕ → Type 0
+IsPlace None n = n ≡ 0
+IsPlace (Some es) n = n ≡ length es
+
+-- a section added its entry, changed the numbers by it, and gave its answer and its place
+pub record IsSection (old new : CoreView) (asked : Asked) : Type 0 where
+  pub changes : section old.pool asked.section ≡ (asked.answer, new.pool)
+  pub entries : new.entries ≡ added old.entries (OfSlot asked.section asked.answer)
+  pub place : IsPlace old.entries asked.place
+
+-- reservations that the minimum covers: no section
+pub record IsUnasked (k : ℕ) (old new : CoreView) (share left : Subpool) : Type 0 where
+  pub none : rise share k ≡ 0
+  pub same : new ≡ old
+  pub reserved : left ≡ with_reserves k share
+
+-- granted, with the share so, or refused with the share as it was
+abbrev pub IsAnswered : PoolAnswer → (old granted new : Subpool) → Type 0
+IsAnswered a old granted new = MatchBool a.granted ((a ≡ granted_at 0) × (new ≡ granted)) ((a ≡ no_pages) × (new ≡ old))
+
+-- pages, by node, and commitments went back by a section; or there was nothing to give back, and no section
+abbrev pub IsGiven : (puts : List ℕ) → (commitments : ℕ) → (old new : CoreView) → Option Asked → Type 0
+IsGiven puts commitments old new None = (new ≡ old) × (sum puts + commitments ≡ 0)
+IsGiven puts commitments old new (Some a) =
+    IsSection old new a × (a.section ≡ GiveBack puts commitments) × (a.answer ≡ granted_at 0) × (0 < sum puts + commitments)
+
+-- this section, so answered, at some place
+abbrev pub Asks : Option Asked → Section → PoolAnswer → Type 0
+Asks t s a = (place : ℕ) × (t ≡ Some (record { place = place; section = s; answer = a }))
+
+-- a trail with nothing in it yet
+abbrev pub IsFresh : {E : Type 0} → Option (List E) → Type 0
+IsFresh None = Unit {0}
+IsFresh (Some es) = es ≡ []

@@ -1,0 +1,11 @@
+//! The pool and the frames of its nodes, each under a lock, and a session's door to them.
+#![tactic(auto)]
+
+mod gate;
+mod nodes;
+mod noting;
+mod parcel;
+
+pub use gate::Gate;
+pub use nodes::NodeLocks;
+pub use parcel::Parcel;

@@ -1,0 +1,120 @@
+//! A lock for the frames of each node.
+ghost use Rattle.std.specs.Prelude.{◌≡◌, ◌<◌, ◌^◌, [], length};
+ghost use Rattle.std.specs.List.{sum};
+ghost use Rattle.hp_mount_door.specs.Door.{by_node};
+
+use crate::gate::Gate;
+use crate::parcel::Parcel;
+use hp_model::naming::Naming;
+use hp_nodes::{Frames, NodeFrames, Page, PageDraft};
+use hp_permit::Claim;
+use hp_store::PageStore;
+use std::sync::{Mutex, Wait};
+
+/// The frames of each node that nobody holds, under a lock of its own. No page is filled, read or written under one.
+pub struct NodeLocks<N: Naming> {
+    zero: Mutex<NodeFrames<N, 0>>,
+    one: Mutex<NodeFrames<N, 1>>,
+    two: Mutex<NodeFrames<N, 2>>,
+    three: Mutex<NodeFrames<N, 3>>,
+}
+
+fn draw_at<N: Naming, R: Wait, G: Gate, const K: usize>(
+    rt: &R,
+    gate: &G,
+    lock: &Mutex<NodeFrames<N, K>>,
+    claim: Claim<N>,
+) -> PageDraft<N>
+    requires node { claim.node ≡ K }
+    requires one { claim.amount ≡ 1 }
+    ensures { result ≡ claim.node }
+{
+    let mut frames = lock.lock(rt);
+    gate.frame(K as u64);
+    frames.draw(claim)
+}
+
+fn give_at<N: Naming, R: Wait, G: Gate, const K: usize>(
+    rt: &R,
+    gate: &G,
+    lock: &Mutex<NodeFrames<N, K>>,
+    page: Page<N>,
+) -> Claim<N>
+    requires node { page.node ≡ K }
+    ensures claim { result ≡ record { node = page.node; amount = 1 } }
+    ensures few { N.frames page.node < 2 ^ 64 }
+{
+    let mut frames = lock.lock(rt);
+    gate.frame(K as u64);
+    frames.give(page)
+}
+
+impl<N: Naming> NodeLocks<N> {
+    /// Locks round the frames of all nodes.
+    pub fn new(frames: Frames<N>) -> Self {
+        let (zero, one, two, three) = frames.into_nodes();
+        NodeLocks {
+            zero: Mutex::new(zero),
+            one: Mutex::new(one),
+            two: Mutex::new(two),
+            three: Mutex::new(three),
+        }
+    }
+
+    /// The frames of all nodes.
+    pub fn into_frames(self) -> Frames<N> {
+        let NodeLocks {
+            zero,
+            one,
+            two,
+            three,
+        } = self;
+        Frames::from_nodes(
+            zero.into_inner(),
+            one.into_inner(),
+            two.into_inner(),
+            three.into_inner(),
+        )
+    }
+
+    /// The page of a claim. It is drawn under its node's lock, and made after it. Never refused.
+    pub fn redeem<R: Wait, G: Gate>(&self, rt: &R, gate: &G, claim: Claim<N>) -> Page<N>
+        requires { claim.amount ≡ 1 }
+        ensures { result.node ≡ claim.node }
+    {
+        let draft = match claim.node() {
+            0 => draw_at(rt, gate, &self.zero, claim),
+            1 => draw_at(rt, gate, &self.one, claim),
+            2 => draw_at(rt, gate, &self.two, claim),
+            _ => draw_at(rt, gate, &self.three, claim),
+        };
+        draft.into_page()
+    }
+
+    /// The claim of a page that comes back. Never refused.
+    pub fn give<R: Wait, G: Gate>(&self, rt: &R, gate: &G, page: Page<N>) -> Claim<N>
+        ensures claim { result ≡ record { node = page.node; amount = 1 } }
+        ensures few { N.frames page.node < 2 ^ 64 }
+    {
+        match page.node() {
+            0 => give_at(rt, gate, &self.zero, page),
+            1 => give_at(rt, gate, &self.one, page),
+            2 => give_at(rt, gate, &self.two, page),
+            _ => give_at(rt, gate, &self.three, page),
+        }
+    }
+
+    /// The claims of all pages that go back, each of which is given to its node.
+    pub fn gather<R: Wait, G: Gate>(&self, rt: &R, gate: &G, going: &mut PageStore<N>) -> Parcel<N>
+        ensures claims { result ≡ by_node going.old.going }
+        ensures all { sum (by_node going.old.going) ≡ length going.old.going }
+        ensures going { going.new ≡ record going.old { going = [] } }
+    {
+        let mut parcel = Parcel::new();
+        while let Some(page) = going.next_going() {
+            let claim = self.give(rt, gate, page);
+            parcel = parcel.with(claim);
+        }
+        parcel
+    }
+}
