@@ -2,8 +2,9 @@
 #![tactic(auto)]
 
 mod door;
-mod moving;
 mod own;
+mod parcel;
 
 pub use door::PoolDoor;
 pub use own::OwnPool;
+pub use parcel::Parcel;

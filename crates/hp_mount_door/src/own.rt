@@ -1,5 +1,6 @@
 //! The door of one thread, which never lacks room to note a section.
 ghost use Rattle.std.specs.Prelude.{◌≡◌, ℕ, ◌+◌, ◌-◌, ◌<◌, ◌≤◌, [], ◌∷◌, length, None, All, IsTrue, IfOk, IfErr, IsOk, ◌↔◌};
+ghost use Rattle.std.specs.List.{sum};
 ghost use Rattle.hp_model.specs.pool.Grant.{can_grant, granted};
 ghost use Rattle.hp_model.specs.pool.NodeRows.{row_at, total_of, free_of, surp_of};
 ghost use Rattle.hp_model.specs.pool.Pool.{puts_from, released, section};
@@ -13,7 +14,7 @@ ghost use Rattle.hp_subpool.specs.Subpool.{fall, opened};
 ghost use Rattle.hp_mount_door.specs.Door.{by_node, IsReady};
 
 use crate::door::PoolDoor;
-use crate::moving::Moving;
+use crate::parcel::Parcel;
 use hp_model::answer::{Counts, NodeCount};
 use hp_model::naming::Naming;
 use hp_model::refusal::Refusal;
@@ -28,19 +29,14 @@ use std::marker::Model;
 pub struct OwnPool<N: Naming> {
     pool: Pool<N>,
     frames: Frames<N>,
-    // none, between calls
-    moving: Moving<N>,
 }
 
 impl<N: Naming> Model for OwnPool<N> {
-    ghost use Rattle.std.specs.Prelude.{◌≡◌, [], ◌∷◌};
     ghost use Rattle.hp_model.specs.pool.PoolCounts.{Pool};
 
     ghost Value = { Pool };
 
     ghost view = { λ p. p.pool };
-
-    ghost invariant = { λ p. p.moving ≡ 0 ∷ 0 ∷ 0 ∷ 0 ∷ [] };
 }
 
 impl<N: Naming> OwnPool<N> {
@@ -58,20 +54,32 @@ impl<N: Naming> OwnPool<N> {
         ensures { IfOk result (λ p. p ≡ idle_pool frames.now) }
     {
         let Blanks { permits, nodes } = blanks;
-        let (stocks, mut claims) = Frames::new(nodes);
-        let moving = Moving::none(&mut claims);
+        let (stocks, claims) = Frames::new(nodes);
         match Pool::new(alloc, frames, permits, claims) {
             Ok(pool) => Ok(OwnPool {
                 pool,
                 frames: stocks,
-                moving,
             }),
             Err(error) => {
                 stocks.close();
-                moving.close();
                 Err(error)
             }
         }
+    }
+
+    /// A pool with the frames of its nodes.
+    pub fn from_parts(pool: Pool<N>, frames: Frames<N>) -> Self
+        ensures { result ≡ pool }
+    {
+        OwnPool { pool, frames }
+    }
+
+    /// The pool, and the frames of its nodes.
+    pub fn into_parts(self) -> (Pool<N>, Frames<N>)
+        ensures { result.0 ≡ self }
+    {
+        let OwnPool { pool, frames } = self;
+        (pool, frames)
     }
 
     /// A share with nothing in use, whose minimum is committed at home node 0. See `Subpool::open`.
@@ -145,36 +153,41 @@ impl<N: Naming> OwnPool<N> {
         requires { IsSettled self }
         ensures { result ≡ counts_of self }
     {
-        let OwnPool {
-            pool,
-            frames,
-            moving,
-        } = self;
+        let OwnPool { pool, frames } = self;
         frames.close();
-        moving.close();
         pool.close()
     }
 }
 
-// Puts the pages that go back at their nodes. What the minimum asks for stays promised.
+// The claims of pages that go back, each of which is given to its node.
+fn gather<N: Naming>(frames: &mut Frames<N>, going: &mut PageStore<N>) -> Parcel<N>
+    ensures claims { result ≡ by_node going.old.going }
+    ensures all { sum (by_node going.old.going) ≡ length going.old.going }
+    ensures going { going.new ≡ record going.old { going = [] } }
+{
+    let mut parcel = Parcel::new();
+    while let Some(page) = going.next_going() {
+        parcel.add(frames.give(page));
+    }
+    parcel
+}
+
+// Puts pages back. What the minimum asks for stays promised.
 fn put_pages<N: Naming>(
     pool: &mut Pool<N>,
     frames: &mut Frames<N>,
-    moving: &mut Moving<N>,
     share: &mut Subpool<N>,
     going: &mut PageStore<N>,
 )
-    requires none { moving.old ≡ 0 ∷ 0 ∷ 0 ∷ 0 ∷ [] }
     requires pages { length going.old.going ≤ share.old.pages }
     ensures share { share.new
         ≡ record share.old { pages = share.old.pages - length going.old.going } }
     ensures pool { pool.new ≡ released (fall share.old (length going.old.going))
         (puts_from 0 (by_node going.old.going) pool.old) }
     ensures going { going.new ≡ record going.old { going = [] } }
-    ensures none { moving.new ≡ 0 ∷ 0 ∷ 0 ∷ 0 ∷ [] }
 {
-    moving.gather(frames, going);
-    moving.put(pool, share);
+    let parcel = gather(frames, going);
+    parcel.put(pool, share);
 }
 
 impl<N: Naming> PoolDoor for OwnPool<N> {
@@ -220,13 +233,7 @@ impl<N: Naming> PoolDoor for OwnPool<N> {
     }
 
     fn put(&mut self, share: &mut Subpool<N>, going: &mut PageStore<N>, reserves: u64) {
-        put_pages(
-            &mut self.pool,
-            &mut self.frames,
-            &mut self.moving,
-            share,
-            going,
-        );
+        put_pages(&mut self.pool, &mut self.frames, share, going);
         share.put_reserves(&mut self.pool, reserves);
         self.pool.settle();
     }
@@ -234,13 +241,7 @@ impl<N: Naming> PoolDoor for OwnPool<N> {
     fn close(&mut self, share: Subpool<N>, going: PageStore<N>) {
         let mut last = share;
         let mut spent = going;
-        put_pages(
-            &mut self.pool,
-            &mut self.frames,
-            &mut self.moving,
-            &mut last,
-            &mut spent,
-        );
+        put_pages(&mut self.pool, &mut self.frames, &mut last, &mut spent);
         spent.close();
         let held = last.used();
         last.put_reserves(&mut self.pool, held);

@@ -4,19 +4,24 @@ use Rattle.hp_permit.specs.Claim.{Claim}
 use Rattle.hp_store.specs.Store.{Store}
 use Rattle.std.proofs.lemmas.List.{nil_from_length}
 use Rattle.hp_mount_door.proofs.Returning.{all_counted, one_counted}
-use Rattle.hp_mount_door.proofs.moving.Moving.gather.Goals as goal
+use Rattle.hp_mount_door.proofs.own.gather.Goals as goal
 
 pub loop-page-preserved : goal.loop-page-preserved
 loop-page-preserved g c =
     let was = c.loop-page in
-    let claim = c.give-claim.ensures.claim in (
-      one_counted c.args.going.now.going was.going.going c.next_going.new.self.going was.self c.add.new.self c.in-Some.page c.in-Some.ensures.going
+    let claim = c.give.ensures.claim in (
+      one_counted c.args.going.now.going was.going.going c.next_going.new.self.going was.parcel c.add.new.self c.in-Some.page c.in-Some.ensures.going
           (subst (λ (x : Claim). x.node < 4) claim c.add.ensures.below)
-          (c.add.ensures.added ∙ ap (λ (x : Claim). slice_set was.self x.node (slice_index was.self x.node + x.amount)) claim) was.invariant.0,
+          (c.add.ensures.added ∙ ap (λ (x : Claim). slice_set was.parcel x.node (slice_index was.parcel x.node + x.amount)) claim) was.invariant.0,
       ap (λ (s : Store). record s { going = [] }) c.next_going.ensures.rest ∙ was.invariant.1,
     )
 
 pub returns-clause-claims : goal.returns-clause-claims
 returns-clause-claims g c =
     let none : c.loop-page.going.going ≡ [] = nil_from_length c.loop-page.going.going (let some = c.in_default.ensures.some in grind (arith, some)) in
-    (all_counted c.args.going.now.going c.loop-page.going.going c.loop-page.self none c.loop-page.invariant.0).0
+    (all_counted c.args.going.now.going c.loop-page.going.going c.loop-page.parcel none c.loop-page.invariant.0).0
+
+pub returns-clause-all : goal.returns-clause-all
+returns-clause-all g c =
+    let none : c.loop-page.going.going ≡ [] = nil_from_length c.loop-page.going.going (let some = c.in_default.ensures.some in grind (arith, some)) in
+    (all_counted c.args.going.now.going c.loop-page.going.going c.loop-page.parcel none c.loop-page.invariant.0).1
