@@ -159,17 +159,18 @@ impl<N: Naming> OwnPool<N> {
     }
 }
 
-// The claims of pages that go back, each of which is given to its node.
-fn gather<N: Naming>(frames: &mut Frames<N>, going: &mut PageStore<N>) -> Parcel<N>
-    ensures claims { result ≡ by_node going.old.going }
+// The claims of pages that go back, each of which is given to its node. (Apart, so that the parcel stays in its place: in
+// registers it would be moved for each page.)
+#[inline(never)]
+fn gather<N: Naming>(frames: &mut Frames<N>, going: &mut PageStore<N>, parcel: &mut Parcel<N>)
+    requires { parcel.old ≡ 0 ∷ 0 ∷ 0 ∷ 0 ∷ [] }
+    ensures claims { parcel.new ≡ by_node going.old.going }
     ensures all { sum (by_node going.old.going) ≡ length going.old.going }
     ensures going { going.new ≡ record going.old { going = [] } }
 {
-    let mut parcel = Parcel::new();
     while let Some(page) = going.next_going() {
         parcel.add(frames.give(page));
     }
-    parcel
 }
 
 // Puts pages back. What the minimum asks for stays promised.
@@ -186,7 +187,8 @@ fn put_pages<N: Naming>(
         (puts_from 0 (by_node going.old.going) pool.old) }
     ensures going { going.new ≡ record going.old { going = [] } }
 {
-    let parcel = gather(frames, going);
+    let mut parcel = Parcel::new();
+    gather(frames, going, &mut parcel);
     parcel.put(pool, share);
 }
 
