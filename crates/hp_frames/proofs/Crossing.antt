@@ -54,4 +54,5 @@ pub frame_send : IsSend Frame.the_row
 frame_send = search (sendable, lease_send, bytes_send) depth 40
 
 pub stock_send : IsSend Stock.the_row
-stock_send = view_send Inside.the_row _ _ _ _ (declared_send Inside.the_type (heap_send, (global.Vec-send Frame.the_row frame_send, (search sendable, (search sendable, (search sendable, (search sendable, tt)))))))
+stock_send = view_send Inside.the_row _ _ _ _ (declared_send Inside.the_type
+    (heap_send, (global.Vec-send Frame.the_row frame_send, (search sendable, (search sendable, (search sendable, (search sendable, tt)))))))

@@ -13,7 +13,8 @@ use prog.Routine.{Routine}
 use contract.Monad.{Fun, fact, fact_i}
 use contract.BorrowLft.{◌⊑◌, ⊑_refl}
 use types.Logic.{Logic, sem}
-use types.Kit.{Goal, Seq, Step, step, Item, fpick, fpack, ‵, raw, ◌⊛◌, some, later, ◌$◌, ◌∵◌, !, qed, by, move, keep, use0, use1, use2, drop, split, split3, join, pick, fsplit, fsplit3, fjoin, fjoin3, feq_l, feq_i, flt_l, flt_i, rewrite, check, show, await, updating, now, done}
+use types.Kit.{Goal, Seq, Step, step, Item, fpick, fpack, ‵, raw, ◌⊛◌, some, later, ◌$◌, ◌∵◌, !, qed, by, move, keep, use0, use1}
+use types.Kit.{use2, drop, split, split3, join, pick, fsplit, fsplit3, fjoin, fjoin3, feq_l, feq_i, flt_l, flt_i, rewrite, check, show, await, updating, now, done}
 use denote.Exit.{no, left}
 use denote.RattleType.{RattleType, Valss}
 use lib.Dec.{T}
@@ -153,7 +154,8 @@ module _ {M : Type 1} {𝓤 : Ura M} (𝓛 : Logic 𝓤) (at_mem : Memory → SP
     dislodge_gives v =
         qed 𝓛 (raw (Dislodges.post at_dislodge v) ∷ []) ∵ updating ! $
         use1 𝓛 (later (some (λ (n : ℕ). ((‵ (flft [] full_share) ⊛ ‵ ftrue) ⊛ ‵ (usize.own_val n (v ∷ [])))
-        ⊛ some (λ (ws : Unit {0} × Unit {0}). ‵ (fsep (left ((V.the_row (param 0 u8) L.the_row ghosts).exit no) d ws.0) ftrue) ⊛ raw (fact 𝓤 (n ≡ d.len)) ⊛ ‵ (lodged u8 d.ptr d.len d.cap d.items))))) (id⊢ 𝓤 _) $ await ! tt $ pick ! (λ n.
+        ⊛ some (λ (ws : Unit {0} × Unit {0}). ‵ (fsep (left ((V.the_row (param 0 u8) L.the_row ghosts).exit no) d ws.0) ftrue) ⊛ raw
+        (fact 𝓤 (n ≡ d.len)) ⊛ ‵ (lodged u8 d.ptr d.len d.cap d.items))))) (id⊢ 𝓤 _) $ await ! tt $ pick ! (λ n.
         split ! $ move ! (1 ∷ []) $ pick ! (λ ws. split3 ! $ drop ! $ heard ! (n ≡ d.len) (λ is. move ! (1 ∷ []) $ split ! $ drop ! $ fsplit ! $ feq_l ! (λ e. flt_l ! (λ f. now ! $
         check ! (ap only e ∙ ap (vint w64) is, omega arith) $ done !)))))
 

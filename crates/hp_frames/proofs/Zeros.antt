@@ -28,7 +28,8 @@ zeros_overwritten xs ys a k written n size within behind le z =
   where
     long : length (put_mid a k xs ys) ≡ length xs
     long = length-append (take a xs) (ys ++ drop k (drop a xs))
-        ∙ (let front = length-take a xs in let rest = length-append ys (drop k (drop a xs)) in let behind_a = length-drop a xs in let behind_k = length-drop k (drop a xs) in omega (arith, front, rest, behind_a, behind_k, size, within))
+        ∙ (let front = length-take a xs in let rest = length-append ys (drop k (drop a xs)) in let behind_a = length-drop a xs in
+        let behind_k = length-drop k (drop a xs) in omega (arith, front, rest, behind_a, behind_k, size, within))
 
 -- up to each place before
 pub zeros_before : (xs : List ℕ) (a b : ℕ) → a ≤ b → AreZerosUpTo b xs → AreZerosUpTo a xs
@@ -39,10 +40,12 @@ pub zeros_early : (xs : List ℕ) (a b k : ℕ) → AreZerosUpTo b xs → a + k 
 zeros_early xs a b k z within = sym (drop-take a k xs) ∙ ap (drop a) (zeros_before xs (a + k) b within z) ∙ drop-replicate a (a + k) 0 ∙ ap zeros (omega arith)
 
 -- a part of one list in another, where both are zeros before it and behind it
-pub zeros_around : (xs zs : List ℕ) (a e : ℕ) → a ≤ e → length zs ≡ length xs → AreZerosUpTo a xs → AreZerosFrom e xs → AreZerosUpTo a zs → AreZerosFrom e zs → put_mid a (e - a) xs (mid_of a (e - a) zs) ≡ zs
+pub zeros_around : (xs zs : List ℕ) (a e : ℕ) → a ≤ e → length zs ≡ length xs → AreZerosUpTo a xs → AreZerosFrom e xs → AreZerosUpTo a zs →
+    AreZerosFrom e zs → put_mid a (e - a) xs (mid_of a (e - a) zs) ≡ zs
 zeros_around xs zs a e order same before behind own_before own_behind =
     ap (λ p. p ++ (mid_of a (e - a) zs ++ drop (e - a) (drop a xs))) (before ∙ sym own_before)
-    ∙ ap (λ r. take a zs ++ (mid_of a (e - a) zs ++ r)) (drop-drop (e - a) a xs ∙ ap (λ n. drop n xs) whole ∙ behind ∙ ap (λ l. zeros (l - e)) (sym same) ∙ sym own_behind ∙ ap (λ n. drop n zs) (sym whole) ∙ sym (drop-drop (e - a) a zs))
+    ∙ ap (λ r. take a zs ++ (mid_of a (e - a) zs ++ r)) (drop-drop (e - a) a xs ∙ ap (λ n. drop n xs) whole ∙ behind
+    ∙ ap (λ l. zeros (l - e)) (sym same) ∙ sym own_behind ∙ ap (λ n. drop n zs) (sym whole) ∙ sym (drop-drop (e - a) a zs))
     ∙ put_same a (e - a) zs
   where
     whole : a + (e - a) ≡ e
@@ -52,7 +55,8 @@ zeros_around xs zs a e order same before behind own_before own_behind =
 pub zeros_filled : (xs : List ℕ) (a e : ℕ) → a ≤ e → e ≤ length xs → AreZerosUpTo a xs → AreZerosFrom e xs → put_mid a (e - a) xs (zeros (e - a)) ≡ zeros (length xs)
 zeros_filled xs a e order within before behind =
     ap (put_mid a (e - a) xs) (sym (ap (take (e - a)) (drop-replicate a (length xs) 0) ∙ take-replicate (e - a) (length xs - a) 0 (omega (arith, order, within))))
-    ∙ zeros_around xs (zeros (length xs)) a e order size before behind (take-replicate a (length xs) 0 (omega (arith, order, within))) (drop-replicate e (length xs) 0 ∙ ap (λ l. zeros (l - e)) (sym size))
+    ∙ zeros_around xs (zeros (length xs)) a e order size before behind (take-replicate a (length xs) 0 (omega (arith, order, within)))
+    (drop-replicate e (length xs) 0 ∙ ap (λ l. zeros (l - e)) (sym size))
   where
     size : length (zeros (length xs)) ≡ length xs
     size = length-replicate (length xs) 0

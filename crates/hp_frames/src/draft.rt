@@ -20,7 +20,11 @@ impl Model for Fresh {
 
     ghost Value = { Drawn };
 
-    ghost view = { λ f. record { node = f.node; memory = f.block.region; page_bytes = f.page_bytes } };
+    ghost view = { λ f. record {
+      node = f.node;
+      memory = f.block.region;
+      page_bytes = f.page_bytes;
+    } };
 
     ghost invariant = { λ f. f.page_bytes ≤ f.block.size };
 }

@@ -162,7 +162,8 @@ fn overwrite(to: &mut [u8], offset: usize, from: &[u8], start: usize, written: u
     requires within { written ≤ length to.old }
     requires early { AreZerosUpTo start to.old }
     requires zeros { AreZerosFrom written to.old }
-    ensures bytes { to.new ≡ take offset to.old ++ from.now ++ drop (offset + length from.now) to.old }
+    ensures bytes { to.new ≡ take offset to.old ++ from.now
+        ++ drop (offset + length from.now) to.old }
     ensures within { result ≤ length to.new }
     ensures early { AreZerosUpTo (min start offset) to.new }
     ensures zeros { AreZerosFrom result to.new }

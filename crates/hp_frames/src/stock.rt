@@ -43,7 +43,8 @@ impl Model for Stock {
       here = s.fresh + length s.returned.items;
     } };
 
-    ghost invariant = { λ s. IsStocked s.fresh s.all (vec_capacity s.returned) s.page_bytes (heap_holes s.heap)
+    ghost invariant = { λ s. IsStocked s.fresh s.all (vec_capacity s.returned) s.page_bytes
+        (heap_holes s.heap)
         (heap_region s.heap) s.node s.returned.items };
 }
 
@@ -56,7 +57,8 @@ impl Stock {
     /// Takes all the memory that they will ever need. Where it is refused, nothing is kept.
     pub fn new(alloc: Global, node: u8, frames: u64, page_bytes: usize) -> Result<Self, AllocError>
         requires { frames ≤ 65536 }
-        ensures { IfOk result (λ s. (s.node ≡ node) × (s.page_bytes ≡ page_bytes) × (s.all ≡ frames) × (s.here ≡ frames)) }
+        ensures { IfOk result (λ s. (s.node ≡ node) × (s.page_bytes ≡ page_bytes)
+            × (s.all ≡ frames) × (s.here ≡ frames)) }
     {
         let Some(size) = size_of_all(frames, page_bytes) else {
             return Err(AllocError);
@@ -118,7 +120,8 @@ impl Stock {
 // How many bytes so many frames take in a block, where a block can have so many.
 fn size_of_all(frames: u64, page_bytes: usize) -> Option<usize>
     requires { frames ≤ 65536 }
-    ensures { IfSome result (λ n. (n ≡ frames * block_size page_bytes) × (n < 2 ^ 63) × (page_bytes < 2 ^ 63)) }
+    ensures { IfSome result (λ n. (n ≡ frames * block_size page_bytes) × (n < 2 ^ 63)
+        × (page_bytes < 2 ^ 63)) }
 {
     if page_bytes > MOST_BYTES {
         return None;

@@ -45,7 +45,8 @@ bare_kept len small = record {
 }
 
 pub bare_paged : (len : ℕ) → 0 ≡ count_by has_page (cells_of len [] [])
-bare_paged len = sym (count_map has_page (cell_of [] []) (range_with_len 0 len) ∙ count_outside (λ i. has_page (cell_of [] [] i)) 0 len (λ i low high. ap (λ t. has_page (cell_by t (page_in [] i))) (unmarked i)))
+bare_paged len = sym (count_map has_page (cell_of [] []) (range_with_len 0 len)
+    ∙ count_outside (λ i. has_page (cell_of [] [] i)) 0 len (λ i low high. ap (λ t. has_page (cell_by t (page_in [] i))) (unmarked i)))
 
 pub holes_kept : {form : Form} {len : ℕ} → form ≡ Holes len → IsForm form → IsKept len 0 [] []
 holes_kept {form} {len} is small = bare_kept len (rw is at small)

@@ -1,12 +1,14 @@
 -- Ranges of bits in a word, and how many bits a word has.
-use Rattle.std.proofs.Common.{◌≡◌, ℕ, zero, suc, ◌+◌, ◌-◌, ◌*◌, ◌/◌, ◌%◌, ◌^◌, ◌<◌, ◌≤◌, min, Bool, not, ◌&&◌, ◌||◌, cond, eqb, [], max, subst, sym, refl, ap, ◌∙◌, arith, ⊎_elim, bit_and, bit_or, count_ones, pow_pos, shr_lt, mod-lt, mod-eq_of_lt}
+use Rattle.std.proofs.Common.{◌≡◌, ℕ, zero, suc, ◌+◌, ◌-◌, ◌*◌, ◌/◌, ◌%◌, ◌^◌, ◌<◌, ◌≤◌, min, Bool, not, ◌&&◌, ◌||◌, cond}
+use Rattle.std.proofs.Common.{eqb, [], max, subst, sym, refl, ap, ◌∙◌, arith, ⊎_elim, bit_and, bit_or, count_ones, pow_pos, shr_lt, mod-lt, mod-eq_of_lt}
 use Rattle.std.specs.Int.{bit_at, bit_not, w64}
 use Rattle.std.specs.List.{range_with_len, count_by}
 use Rattle.std.proofs.lemmas.Bool.{cases_lt}
 use Rattle.std.proofs.lemmas.Bool.Decides.{nat_tests}
 use Rattle.std.proofs.lemmas.List.FromFn.{length-range_with_len}
 use Rattle.std.proofs.lemmas.Nat.{ones_cat, ones-le, div-add-mod', zero_from_ones}
-use Rattle.std.proofs.lemmas.Nat.Bits.{bit_at-lt, bit_at_and, bit_at_or, bit_at_not, bit_at_ones, bit_at_ones_above, bit_at_mask_inside, bit_at_mask_below, bit_at_cat_low, bit_at_cat_high, bit_at_lowest}
+use Rattle.std.proofs.lemmas.Nat.Bits.{bit_at-lt, bit_at_and, bit_at_or, bit_at_not, bit_at_ones, bit_at_ones_above}
+use Rattle.std.proofs.lemmas.Nat.Bits.{bit_at_mask_inside, bit_at_mask_below, bit_at_cat_low, bit_at_cat_high, bit_at_lowest}
 use Rattle.hp_model.proofs.Counting.{count_cons, count_split, count_not, count_outside, alike_in}
 use Rattle.hp_model.proofs.Ranges.{within-true, within-below, within-past}
 use Rattle.hp_model.specs.files.Ranges.{within}
@@ -72,7 +74,8 @@ ones_counted (suc k) n lt =
     let last : bit_at n k ≡ a = ap (λ m. bit_at m k) (sym parts) ∙ bit_at_cat_high a k r k small (omega arith) ∙ lowest_is a k top in
     let split = count_split (λ i. eqb (bit_at n i) 1) 0 k 1 in
     let at : 0 + k ≡ k = omega arith in
-    let end : count_by (λ i. eqb (bit_at n i) 1) (range_with_len (0 + k) 1) ≡ cond {A = ℕ} (eqb a 1) 1 0 = omega (arith, count_cons (λ i. eqb (bit_at n i) 1) (0 + k) [], ap (λ x. cond {A = ℕ} (eqb x 1) 1 0) (ap (bit_at n) at ∙ last)) in
+    let end : count_by (λ i. eqb (bit_at n i) 1) (range_with_len (0 + k) 1) ≡ cond {A = ℕ} (eqb a 1) 1 0 =
+    omega (arith, count_cons (λ i. eqb (bit_at n i) 1) (0 + k) [], ap (λ x. cond {A = ℕ} (eqb x 1) 1 0) (ap (bit_at n) at ∙ last)) in
     let more : k + 1 ≡ suc k = omega arith in
     let whole = ap (λ m. count_by (λ i. eqb (bit_at n i) 1) (range_with_len 0 m)) more in
     let cat = ap count_ones (sym parts) ∙ ones_cat k a r small in
@@ -86,14 +89,21 @@ ones_counted (suc k) n lt =
 moved : (p : ℕ → Bool) (s x k : ℕ) → count_by p (range_with_len (s + x) k) ≡ count_by (λ i. p (s + i)) (range_with_len x k)
 moved p s x zero = refl
 moved p s x (suc k) =
-    omega (arith, count_cons p (s + x) (range_with_len (s + x + 1) k), count_cons (λ i. p (s + i)) x (range_with_len (x + 1) k), moved p s (x + 1) k, ap (λ m. count_by p (range_with_len m k)) (next s x))
+    omega (
+      arith,
+      count_cons p (s + x) (range_with_len (s + x + 1) k),
+      count_cons (λ i. p (s + i)) x (range_with_len (x + 1) k),
+      moved p s (x + 1) k,
+      ap (λ m. count_by p (range_with_len m k)) (next s x),
+    )
   where
     next : (s x : ℕ) → s + x + 1 ≡ s + (x + 1)
     next s x = omega arith
 
 -- the numbers of a word that pass a test are its ones
 pub word_counted : (p : ℕ → Bool) (s n : ℕ) → n < 2 ^ 64 → ((i : ℕ) → i < 64 → p (s + i) ≡ eqb (bit_at n i) 1) → count_by p (range_with_len s 64) ≡ count_ones n
-word_counted p s n lt same = ap (λ m. count_by p (range_with_len m 64)) (start s) ∙ moved p s 0 64 ∙ alike_in (λ i. p (s + i)) (λ i. eqb (bit_at n i) 1) 0 64 (λ i low high. same i (omega arith)) ∙ sym (ones_counted 64 n lt)
+word_counted p s n lt same = ap (λ m. count_by p (range_with_len m 64)) (start s) ∙ moved p s 0 64
+    ∙ alike_in (λ i. p (s + i)) (λ i. eqb (bit_at n i) 1) 0 64 (λ i low high. same i (omega arith)) ∙ sym (ones_counted 64 n lt)
   where
     start : (s : ℕ) → s ≡ s + 0
     start s = omega arith

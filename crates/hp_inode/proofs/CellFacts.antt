@@ -1,10 +1,12 @@
 -- What the cells of an inode say of its parts, and what a change of a part does to the cells.
-use Rattle.std.proofs.Common.{◌≡◌, ℕ, ◌+◌, ◌-◌, ◌<◌, ◌≤◌, ◌^◌, Bool, true, false, not, List, ◌++◌, length, take, drop, map, replicate, get_or, set, Option, None, Some, sym, refl, ap, ◌∙◌, subst, arith, ⊎_elim}
+use Rattle.std.proofs.Common.{◌≡◌, ℕ, ◌+◌, ◌-◌, ◌<◌, ◌≤◌, ◌^◌, Bool, true, false, not, List, ◌++◌, length, take}
+use Rattle.std.proofs.Common.{drop, map, replicate, get_or, set, Option, None, Some, sym, refl, ap, ◌∙◌, subst, arith, ⊎_elim}
 use Rattle.std.specs.List.{range_with_len, count_by, All}
 use Rattle.std.specs.Prelude.{IsSome}
 use Rattle.std.specs.Option.{is_some}
 use Rattle.std.proofs.lemmas.Bool.{cases_lt, cases_eq, cases_Bool, true≢false, false≢true}
-use Rattle.std.proofs.lemmas.List.{take_all, get_or_past, get_or-set_same, get_or-set_other, length-set, length-take, length-drop, length-append, length-replicate, get_or-drop, get_or-take, get_or_append_left, get_or-append_right, get_or-replicate, ext_get_or}
+use Rattle.std.proofs.lemmas.List.{take_all, get_or_past, get_or-set_same, get_or-set_other, length-set, length-take, length-drop, length-append}
+use Rattle.std.proofs.lemmas.List.{length-replicate, get_or-drop, get_or-take, get_or_append_left, get_or-append_right, get_or-replicate, ext_get_or}
 use Rattle.hp_model.proofs.Counting.{count_alike, count_map, count_within}
 use Rattle.std.proofs.lemmas.List.FromFn.{get_or-map-range_with_len, length-map-range_with_len, fill_by_all}
 use Rattle.hp_inode.specs.Entries.{count_in, missing_in}
@@ -103,7 +105,8 @@ module _ (len m : ℕ) (e : List ℕ) (rows : Rows) (kept : IsKept len m e rows)
         clash le =
             let below : i < len = kept.below i in' in
             let hole : get_or (drop n (cells_of len e rows)) (i - n) Hole ≡ Hole = holes (i - n) Hole (omega (arith, length-drop n (cells_of len e rows), length-cells len e rows)) in
-            let there : get_or (drop n (cells_of len e rows)) (i - n) Hole ≡ cell_in (cells_of len e rows) i = get_or-drop n (cells_of len e rows) (i - n) Hole ∙ ap (cell_in (cells_of len e rows)) {x = n + (i - n)} {y = i} (omega arith) in
+            let there : get_or (drop n (cells_of len e rows)) (i - n) Hole ≡ cell_in (cells_of len e rows) i =
+            get_or-drop n (cells_of len e rows) (i - n) Hole ∙ ap (cell_in (cells_of len e rows)) {x = n + (i - n)} {y = i} (omega arith) in
             let tested : marked e i ≡ false = entered_at_cell len m e rows kept i ∙ ap is_entered (sym there ∙ hole) in
             cc
 
@@ -116,14 +119,24 @@ module _ (len m : ℕ) (e : List ℕ) (rows : Rows) (kept : IsKept len m e rows)
 
     resized_at : (k : ℕ) → k < n → get_or (take n (cells_of len e rows) ++ replicate (n - length (cells_of len e rows)) Hole) k Hole ≡ cell_in (cells_of len e rows) k
     resized_at k lt = ⊎_elim
-        (λ (in' : k < len). get_or_append_left (take n (cells_of len e rows)) (replicate (n - length (cells_of len e rows)) Hole) Hole k (omega (arith, length-take n (cells_of len e rows), length-cells len e rows)) ∙ get_or-take n (cells_of len e rows) k Hole lt)
-        (λ (past : len ≤ k). get_or-append_right (take n (cells_of len e rows)) (replicate (n - length (cells_of len e rows)) Hole) len k Hole (omega (arith, length-take n (cells_of len e rows), length-cells len e rows)) past
-        ∙ get_or-replicate (n - length (cells_of len e rows)) (k - len) Hole Hole (omega (arith, length-cells len e rows)) ∙ sym (get_or_past (cells_of len e rows) k Hole (omega (arith, length-cells len e rows))))
+        (λ (in' : k < len). get_or_append_left (take n (cells_of len e rows)) (replicate (n - length (cells_of len e rows)) Hole) Hole k
+        (omega (arith, length-take n (cells_of len e rows), length-cells len e rows)) ∙ get_or-take n (cells_of len e rows) k Hole lt)
+        (λ (past : len ≤ k). get_or-append_right (take n (cells_of len e rows)) (replicate (n - length (cells_of len e rows)) Hole) len k Hole
+        (omega (arith, length-take n (cells_of len e rows), length-cells len e rows)) past
+        ∙ get_or-replicate (n - length (cells_of len e rows)) (k - len) Hole Hole (omega (arith, length-cells len e rows))
+        ∙ sym (get_or_past (cells_of len e rows) k Hole (omega (arith, length-cells len e rows))))
         (cases_lt k len)
 
     pub resized : cells_of n e rows ≡ cells_to n (cells_of len e rows)
     resized = cells_by n (take n (cells_of len e rows) ++ replicate (n - length (cells_of len e rows)) Hole)
-        (omega (arith, length-append (take n (cells_of len e rows)) (replicate (n - length (cells_of len e rows)) Hole), length-take n (cells_of len e rows), length-replicate {A = Cell ℕ} (n - length (cells_of len e rows)) Hole, length-cells len e rows)) resized_at
+        (omega (
+          arith,
+          length-append (take n (cells_of len e rows)) (replicate (n - length (cells_of len e rows)) Hole),
+          length-take n
+              (cells_of len e rows),
+          length-replicate {A = Cell ℕ} (n - length (cells_of len e rows)) Hole,
+          length-cells len e rows,
+        )) resized_at
 
 -- a range of cells
 part_is : (len : ℕ) (s : List ℕ) (rows : Rows) (a b : ℕ) → b ≤ len → part a b (cells_of len s rows) ≡ map (cell_of s rows) (range_with_len a (b - a))

@@ -16,7 +16,9 @@ module _ (words old : List ℕ) (a b : ℕ) where
   pub clear_begun : (k : ℕ) → k < 64 * (a / 64) → marked old k ≡ (marked old k && not (within a b k))
   clear_begun k below = sym (kept old a b k (within-below a b k (omega (arith, below))))
 
-  pub clear_done : (at bits : ℕ) → at < length words → bits < 2 ^ 64 → ((i : ℕ) → i < 64 → eqb (bit_at bits i) 1 ≡ within a b (64 * at + i)) → ((k : ℕ) → k < 64 * at → marked words k ≡ (marked old k && not (within a b k))) → ((k : ℕ) → 64 * at ≤ k → marked words k ≡ marked old k) → (k : ℕ) → k < 64 * (at + 1) → marked (set words at (bit_and (get_or words at 0) (bit_not w64 bits))) k ≡ (marked old k && not (within a b k))
+  pub clear_done : (at bits : ℕ) → at < length words → bits < 2 ^ 64 → ((i : ℕ) → i < 64 → eqb (bit_at bits i) 1 ≡ within a b (64 * at + i)) →
+      ((k : ℕ) → k < 64 * at → marked words k ≡ (marked old k && not (within a b k))) → ((k : ℕ) → 64 * at ≤ k → marked words k ≡ marked old k) →
+      (k : ℕ) → k < 64 * (at + 1) → marked (set words at (bit_and (get_or words at 0) (bit_not w64 bits))) k ≡ (marked old k && not (within a b k))
   clear_done at bits lt small of_range done rest k below = ⊎_elim
       (λ (here : k / 64 ≡ at).
       cleared_here words at bits lt small k here ∙ ap (λ t. t && not (eqb (bit_at bits (k % 64)) 1)) (rest k (omega (arith, here)))
@@ -24,7 +26,8 @@ module _ (words old : List ℕ) (a b : ℕ) where
       (λ (other : k / 64 ≡ at → ⊥). marked_elsewhere words at _ lt k other ∙ done k (omega (arith, below, other)))
       (cases_eq (k / 64) at)
 
-  pub clear_all : (at : ℕ) → b ≤ 64 * at → ((k : ℕ) → k < 64 * at → marked words k ≡ (marked old k && not (within a b k))) → ((k : ℕ) → 64 * at ≤ k → marked words k ≡ marked old k) → (k : ℕ) → marked words k ≡ (marked old k && not (within a b k))
+  pub clear_all : (at : ℕ) → b ≤ 64 * at → ((k : ℕ) → k < 64 * at → marked words k ≡ (marked old k && not (within a b k))) →
+      ((k : ℕ) → 64 * at ≤ k → marked words k ≡ marked old k) → (k : ℕ) → marked words k ≡ (marked old k && not (within a b k))
   clear_all at end done rest k = ⊎_elim
       (λ (below : k < 64 * at). done k below)
       (λ (past : 64 * at ≤ k). rest k past ∙ sym (kept old a b k (within-past a b k (omega (arith, past, end)))))

@@ -84,7 +84,8 @@ module _ (len m : ℕ) (e new : List ℕ) (rows : Rows) (a b : ℕ) (kept : IsKe
           let low : a ≤ i = (within-in a b i inside).0 in
           let high : i < b = (within-in a b i inside).1 in
           let xs = cells_of len e rows in
-          let test : has_page (get_or (part a b xs) (i - a) Hole) ≡ false = pageless (i - a) Hole (omega (arith, low, high, le, length-take (b - a) (drop a xs), length-drop a xs, length-cells len e rows)) in
+          let test : has_page (get_or (part a b xs) (i - a) Hole) ≡ false = pageless (i - a) Hole
+          (omega (arith, low, high, le, length-take (b - a) (drop a xs), length-drop a xs, length-cells len e rows)) in
           let read : get_or (part a b xs) (i - a) Hole ≡ cell_in xs i = part_cell xs a b (i - a) (omega (arith, low, high)) ∙ ap (cell_in xs) {x = a + (i - a)} {y = i} (omega (arith, low)) in
           true≢false (sym (has_page_cell len m e rows kept i ∙ page) ∙ ap has_page (sym read) ∙ test)
 

@@ -41,7 +41,8 @@ no_holes : (n : ℕ) → count_by has_page (replicate n hole) ≡ 0
 no_holes n = omega (arith, sum_by-replicate one n Hole)
 
 -- a change of a range that leaves as many pages there
-edited : (f : Cell ℕ → Cell ℕ) (a b : ℕ) (xs : List (Cell ℕ)) → count_by has_page (map f (part a b xs)) ≡ count_by has_page (part a b xs) → count_by has_page (edit_range f a b xs) ≡ count_by has_page xs
+edited : (f : Cell ℕ → Cell ℕ) (a b : ℕ) (xs : List (Cell ℕ)) → count_by has_page (map f (part a b xs)) ≡ count_by has_page (part a b xs) →
+    count_by has_page (edit_range f a b xs) ≡ count_by has_page xs
 edited f a b xs same = omega (arith, same, sum_by-edit_range one f a b xs, sum_by-take-drop one xs a, sum_by-take-drop one (drop a xs) (b - a))
 
 same_page : (c : Cell ℕ) → has_page (entered c) ≡ has_page c

@@ -81,7 +81,8 @@ module _ (len m : ℕ) (e : List ℕ) (rows : Rows) (b long : ℕ) (kept : IsKep
   longer_cells = resized len m e rows kept long holes ∙ lengthened
 
 -- made longer, and entered
-module _ (len m : ℕ) (e new : List ℕ) (rows : Rows) (a b long missing pages : ℕ) (ready : IsReady len m pages e rows a b) (long_is : long ≡ max len b) (missing_is : missing ≡ missing_in e a b) (holds_new : (k : ℕ) → marked new k ≡ (marked e k || within a b k)) where
+module _ (len m : ℕ) (e new : List ℕ) (rows : Rows) (a b long missing pages : ℕ) (ready : IsReady len m pages e rows a b) (long_is : long ≡ max len b)
+    (missing_is : missing ≡ missing_in e a b) (holds_new : (k : ℕ) → marked new k ≡ (marked e k || within a b k)) where
   longer : IsKept long m e rows
   longer = longer_kept len m e rows b long ready.kept ready.small long_is
 

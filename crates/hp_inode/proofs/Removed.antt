@@ -1,5 +1,6 @@
 -- The indices of a range taken out, part by part.
-use Rattle.std.proofs.Common.{◌≡◌, ℕ, ◌+◌, ◌-◌, ◌*◌, ◌/◌, ◌%◌, ◌^◌, ◌<◌, ◌≤◌, min, Bool, true, false, not, ◌&&◌, eqb, List, length, get_or, set, sym, refl, ap, ◌∙◌, arith, ⊎_elim, bit_and, count_ones, Option, None, Some}
+use Rattle.std.proofs.Common.{◌≡◌, ℕ, ◌+◌, ◌-◌, ◌*◌, ◌/◌, ◌%◌, ◌^◌, ◌<◌, ◌≤◌, min, Bool, true, false, not, ◌&&◌}
+use Rattle.std.proofs.Common.{eqb, List, length, get_or, set, sym, refl, ap, ◌∙◌, arith, ⊎_elim, bit_and, count_ones, Option, None, Some}
 use Rattle.std.specs.Int.{bit_at, bit_not, w64}
 use Rattle.std.specs.List.{range_with_len, count_by}
 use Rattle.std.specs.Option.{unwrap_or}
@@ -32,7 +33,17 @@ joined old mid new a m b c d sum low high sum_is one two =
     let middle : a + (m - a) ≡ m = omega (arith, low) in
     let same = alike_in (marked mid) (marked old) m (b - m) (λ k from below. one.left k ∙ kept old a m k (within-past a m k from)) in
     record {
-      counted = omega (arith, sum_is, one.counted, two.counted, split, ap (λ n. count_by (marked old) (range_with_len a n)) whole, ap (λ s. count_by (marked old) (range_with_len s (b - m))) middle, same);
+      counted = omega (
+        arith,
+        sum_is,
+        one.counted,
+        two.counted,
+        split,
+        ap (λ n. count_by (marked old) (range_with_len a n)) whole,
+        ap
+            (λ s. count_by (marked old) (range_with_len s (b - m))) middle,
+        same,
+      );
       left = λ k. two.left k ∙ ap (λ t. t && not (within m b k)) (one.left k) ∙ parts_left (marked old k) a m b k low high;
     }
 
@@ -68,7 +79,8 @@ few_removed old new a b count is = omega (arith, is.counted, count_by-le-length 
 
 -- ---- of one word
 
-module _ (words : List ℕ) (at a b bits : ℕ) (lt : at < length words) (low : 64 * at ≤ a) (order : a < b) (high : b ≤ 64 * at + 64) (small : bits < 2 ^ 64) (of_range : (i : ℕ) → i < 64 → eqb (bit_at bits i) 1 ≡ within a b (64 * at + i)) where
+module _ (words : List ℕ) (at a b bits : ℕ) (lt : at < length words) (low : 64 * at ≤ a) (order : a < b) (high : b ≤ 64 * at + 64)
+    (small : bits < 2 ^ 64) (of_range : (i : ℕ) → i < 64 → eqb (bit_at bits i) 1 ≡ within a b (64 * at + i)) where
   pub removed_in_word : IsRemoved a b words (set words at (bit_and (get_or words at 0) (bit_not w64 bits))) (count_ones (bit_and (get_or words at 0) bits))
   removed_in_word =
       let further = counted_next words a b at at (get_or words at 0) bits (omega arith) (λ k from below. absurd (omega (arith, from, below))) small (bit_marked words at) of_range in
@@ -90,7 +102,8 @@ pub removed_word : (words : List ℕ) (at : ℕ) → at < length words → get_o
 removed_word words at lt small =
     let long : 64 ≡ 64 * (at + 1) - 64 * at = omega arith in
     record {
-      counted = sym (word_counted (marked words) (64 * at) (get_or words at 0) small (λ i less. sym (bit_marked words at i less))) ∙ ap (λ n. count_by (marked words) (range_with_len (64 * at) n)) long;
+      counted = sym (word_counted (marked words) (64 * at) (get_or words at 0) small (λ i less. sym (bit_marked words at i less)))
+          ∙ ap (λ n. count_by (marked words) (range_with_len (64 * at) n)) long;
       left = λ k. ⊎_elim
           (λ (here : k / 64 ≡ at).
           marked_in_word words at 0 lt k here ∙ ap (λ n. eqb n 1) (bit_at-zero (k % 64))
@@ -106,7 +119,8 @@ removed_word words at lt small =
 -- ---- of some words
 
 -- past words with no bit, to the next that has a mark, or to the end
-module _ (old words marks : List ℕ) (is : IsEntries old marks) (from at end count : ℕ) (order : from ≤ at) (lt : at < end) (before : IsRemoved (64 * from) (64 * at) old words count) (zero : get_or words at 0 ≡ 0) where
+module _ (old words marks : List ℕ) (is : IsEntries old marks) (from at end count : ℕ) (order : from ≤ at) (lt : at < end)
+    (before : IsRemoved (64 * from) (64 * at) old words count) (zero : get_or words at 0 ≡ 0) where
   pub passed_from : (found : Option ℕ) → FindsWithin marks (at + 1) end found → at < unwrap_or found end
   passed_from None none = lt
   passed_from (Some w) first = omega (arith, first.first.from)
@@ -131,7 +145,9 @@ module _ (old words marks : List ℕ) (is : IsEntries old marks) (from at end co
       (cases_eq (k / 64) at)))
 
 -- the marks of words that were cleared are cleared
-pub removed_entries : (words marks new news : List ℕ) (from end count : ℕ) → IsEntries words marks → length new ≡ length words → length news ≡ length marks → IsRemoved (64 * from) (64 * end) words new count → ((j : ℕ) → marked news j ≡ (marked marks j && not (within from end j))) → IsEntries new news
+pub removed_entries : (words marks new news : List ℕ) (from end count : ℕ) → IsEntries words marks → length new ≡ length words →
+    length news ≡ length marks → IsRemoved (64 * from) (64 * end) words new count →
+    ((j : ℕ) → marked news j ≡ (marked marks j && not (within from end j))) → IsEntries new news
 removed_entries words marks new news from end count is long longs here above = record {
   few = omega (arith, is.few, longs);
   places = omega (arith, is.places, long, longs);

@@ -36,7 +36,8 @@ count_more p a b n le =
     let fresh = alike_in more (λ i. not (p i)) a (b - a) (λ i low high. rw (within-true a b i low (omega (arith, low, high))) refl) in
     omega (arith, split, same, there, fresh)
 
-module _ (len m : ℕ) (e new : List ℕ) (rows made : Rows) (a b : ℕ) (kept : IsKept len m e rows) (le : b ≤ len) (holds_new : (k : ℕ) → marked new k ≡ (marked e k || within a b k)) (pages : (k : ℕ) → page_in made k ≡ page_in rows k) where
+module _ (len m : ℕ) (e new : List ℕ) (rows made : Rows) (a b : ℕ) (kept : IsKept len m e rows) (le : b ≤ len)
+    (holds_new : (k : ℕ) → marked new k ≡ (marked e k || within a b k)) (pages : (k : ℕ) → page_in made k ≡ page_in rows k) where
   cases_new : (k : ℕ) (P : Type 0) → (marked e k ≡ true → P) → (a ≤ k → k < b → P) → marked new k ≡ true → P
   cases_new k P was now p = ⊎_elim was (λ w. now (within-in a b k w).0 (within-in a b k w).1) (or_cases (marked e k) (within a b k) (sym (holds_new k) ∙ p))
 

@@ -1,5 +1,6 @@
 -- Marks of a range, set or cleared a word at a time, and how many of a range are set.
-use Rattle.std.proofs.Common.{◌≡◌, ℕ, ◌+◌, ◌-◌, ◌*◌, ◌/◌, ◌%◌, ◌^◌, ◌<◌, ◌≤◌, min, Bool, true, false, not, ◌&&◌, ◌||◌, eqb, List, length, get_or, set, take, sym, refl, ap, ◌∙◌, arith, ◌⊎◌, inl, inr, ⊎_elim, Option, None, Some, bit_and, bit_or, count_ones}
+use Rattle.std.proofs.Common.{◌≡◌, ℕ, ◌+◌, ◌-◌, ◌*◌, ◌/◌, ◌%◌, ◌^◌, ◌<◌, ◌≤◌, min, Bool, true, false, not, ◌&&◌, ◌||◌, eqb, List}
+use Rattle.std.proofs.Common.{length, get_or, set, take, sym, refl, ap, ◌∙◌, arith, ◌⊎◌, inl, inr, ⊎_elim, Option, None, Some, bit_and, bit_or, count_ones}
 use Rattle.std.specs.Int.{bit_at, bit_not, w64}
 use Rattle.std.specs.List.{range_with_len, count_by}
 use Rattle.std.proofs.Math.Bool.{or-false, or-true, and-true, and-false}
@@ -35,18 +36,22 @@ module _ (words old : List ℕ) (a b at bits : ℕ) (lt : at < length words) (sm
   was_here : (k : ℕ) → k / 64 ≡ at → eqb (bit_at (get_or words at 0) (k % 64)) 1 ≡ marked words k
   was_here k here = ap (λ q. eqb (bit_at (get_or words q 0) (k % 64)) 1) (sym here)
 
-  pub set_done : ((k : ℕ) → k < 64 * at → marked words k ≡ (marked old k || within a b k)) → ((k : ℕ) → 64 * at ≤ k → marked words k ≡ marked old k) → (k : ℕ) → k < 64 * (at + 1) → marked (set words at (bit_or (get_or words at 0) bits)) k ≡ (marked old k || within a b k)
+  pub set_done : ((k : ℕ) → k < 64 * at → marked words k ≡ (marked old k || within a b k)) → ((k : ℕ) → 64 * at ≤ k → marked words k ≡ marked old k) →
+      (k : ℕ) → k < 64 * (at + 1) → marked (set words at (bit_or (get_or words at 0) bits)) k ≡ (marked old k || within a b k)
   set_done done rest k below = ⊎_elim
       (λ (here : k / 64 ≡ at). marked_in_word words at _ lt k here ∙ has_or (get_or words at 0) bits (k % 64)
       ∙ ap (λ t. t || eqb (bit_at bits (k % 64)) 1) (was_here k here ∙ rest k (omega (arith, here))) ∙ ap (λ t. marked old k || t) (place k here))
       (λ (other : k / 64 ≡ at → ⊥). marked_elsewhere words at _ lt k other ∙ done k (omega (arith, below, other)))
       (cases_eq (k / 64) at)
 
-pub set_rest : (words old : List ℕ) (at word : ℕ) → at < length words → ((k : ℕ) → 64 * at ≤ k → marked words k ≡ marked old k) → (k : ℕ) → 64 * (at + 1) ≤ k → marked (set words at word) k ≡ marked old k
+pub set_rest : (words old : List ℕ) (at word : ℕ) → at < length words → ((k : ℕ) → 64 * at ≤ k → marked words k ≡ marked old k) → (k : ℕ) →
+    64 * (at + 1) ≤ k → marked (set words at word) k ≡ marked old k
 set_rest words old at word lt rest k from = marked_elsewhere words at word lt k (λ here. omega (arith, here, from)) ∙ rest k (omega (arith, from))
 
 -- a word whose indices are all in the range
-pub set_full : (words old : List ℕ) (a b at word : ℕ) → at < length words → word ≡ 2 ^ 64 - 1 → a ≤ 64 * at → 64 * (at + 1) ≤ b → ((k : ℕ) → k < 64 * at → marked words k ≡ (marked old k || within a b k)) → (k : ℕ) → k < 64 * (at + 1) → marked (set words at word) k ≡ (marked old k || within a b k)
+pub set_full : (words old : List ℕ) (a b at word : ℕ) → at < length words → word ≡ 2 ^ 64 - 1 → a ≤ 64 * at → 64 * (at + 1) ≤ b →
+    ((k : ℕ) → k < 64 * at → marked words k ≡ (marked old k || within a b k)) → (k : ℕ) → k < 64 * (at + 1) →
+    marked (set words at word) k ≡ (marked old k || within a b k)
 set_full words old a b at word lt full low high done k below = ⊎_elim
     (λ (here : k / 64 ≡ at).
     marked_in_word words at word lt k here ∙ ap (λ n. eqb (bit_at n (k % 64)) 1) full ∙ ap (λ x. eqb x 1) (bit_at_ones 64 (k % 64) (omega arith))
@@ -55,20 +60,25 @@ set_full words old a b at word lt full low high done k below = ⊎_elim
     (cases_eq (k / 64) at)
 
 -- before the first word of the range there is nothing to mark
-pub set_first : (old : List ℕ) (a b bits : ℕ) → a / 64 < length old → bits < 2 ^ 64 → ((i : ℕ) → i < 64 → eqb (bit_at bits i) 1 ≡ within a b (64 * (a / 64) + i)) → (k : ℕ) → k < 64 * (a / 64 + 1) → marked (set old (a / 64) (bit_or (get_or old (a / 64) 0) bits)) k ≡ (marked old k || within a b k)
+pub set_first : (old : List ℕ) (a b bits : ℕ) → a / 64 < length old → bits < 2 ^ 64 →
+    ((i : ℕ) → i < 64 → eqb (bit_at bits i) 1 ≡ within a b (64 * (a / 64) + i)) → (k : ℕ) → k < 64 * (a / 64 + 1) →
+    marked (set old (a / 64) (bit_or (get_or old (a / 64) 0) bits)) k ≡ (marked old k || within a b k)
 set_first old a b bits lt small of_range =
     set_done old old a b (a / 64) bits lt small of_range (λ k below. sym (ap (λ t. marked old k || t) (within-below a b k (omega (arith, below))) ∙ or-false (marked old k))) (λ k from. refl)
 
 module _ (words old : List ℕ) (a b : ℕ) where
   -- after the last word of the range there is nothing to mark
-  pub set_all : (at : ℕ) → b ≤ 64 * at → ((k : ℕ) → k < 64 * at → marked words k ≡ (marked old k || within a b k)) → ((k : ℕ) → 64 * at ≤ k → marked words k ≡ marked old k) → (k : ℕ) → marked words k ≡ (marked old k || within a b k)
+  pub set_all : (at : ℕ) → b ≤ 64 * at → ((k : ℕ) → k < 64 * at → marked words k ≡ (marked old k || within a b k)) →
+      ((k : ℕ) → 64 * at ≤ k → marked words k ≡ marked old k) → (k : ℕ) → marked words k ≡ (marked old k || within a b k)
   set_all at end done rest k = ⊎_elim
       (λ (below : k < 64 * at). done k below)
       (λ (past : 64 * at ≤ k). rest k past ∙ sym (ap (λ t. marked old k || t) (within-past a b k (omega (arith, past, end))) ∙ or-false (marked old k)))
       (cases_lt k (64 * at))
 
 -- the words of a range are marked with it
-pub spread_entries : (words marks new news : List ℕ) (a b : ℕ) → IsEntries words marks → b ≤ 64 * length words → length new ≡ length words → length news ≡ length marks → ((k : ℕ) → marked new k ≡ (marked words k || within a b k)) → ((k : ℕ) → marked news k ≡ (marked marks k || within (a / 64) (b / 64 + min 1 (b % 64)) k)) → IsEntries new news
+pub spread_entries : (words marks new news : List ℕ) (a b : ℕ) → IsEntries words marks → b ≤ 64 * length words → length new ≡ length words →
+    length news ≡ length marks → ((k : ℕ) → marked new k ≡ (marked words k || within a b k)) →
+    ((k : ℕ) → marked news k ≡ (marked marks k || within (a / 64) (b / 64 + min 1 (b % 64)) k)) → IsEntries new news
 spread_entries words marks new news a b is le long longs here above = record {
   few = omega (arith, is.few, longs);
   places = omega (arith, is.places, long, longs);
@@ -86,7 +96,8 @@ spread_entries words marks new news a b is le long longs here above = record {
 }
 
 -- in more words
-pub grown_entries : (words marks new news : List ℕ) → IsEntries words marks → length words ≤ length new → length new ≤ 64 * length news → length news < 2 ^ 32 → ((k : ℕ) → marked new k ≡ marked words k) → ((k : ℕ) → marked news k ≡ marked marks k) → IsEntries new news
+pub grown_entries : (words marks new news : List ℕ) → IsEntries words marks → length words ≤ length new → length new ≤ 64 * length news →
+    length news < 2 ^ 32 → ((k : ℕ) → marked new k ≡ marked words k) → ((k : ℕ) → marked news k ≡ marked marks k) → IsEntries new news
 grown_entries words marks new news is more places few here above = record {
   few = few;
   places = places;
@@ -95,13 +106,15 @@ grown_entries words marks new news is more places few here above = record {
 }
 
 -- a word with some of its bits cleared
-pub cleared_here : (words : List ℕ) (at bits : ℕ) → at < length words → bits < 2 ^ 64 → (k : ℕ) → k / 64 ≡ at → marked (set words at (bit_and (get_or words at 0) (bit_not w64 bits))) k ≡ (marked words k && not (eqb (bit_at bits (k % 64)) 1))
+pub cleared_here : (words : List ℕ) (at bits : ℕ) → at < length words → bits < 2 ^ 64 → (k : ℕ) → k / 64 ≡ at →
+    marked (set words at (bit_and (get_or words at 0) (bit_not w64 bits))) k ≡ (marked words k && not (eqb (bit_at bits (k % 64)) 1))
 cleared_here words at bits lt small k here =
     marked_in_word words at _ lt k here ∙ has_and (get_or words at 0) (bit_not w64 bits) (k % 64)
     ∙ ap (λ q. eqb (bit_at (get_or words q 0) (k % 64)) 1 && eqb (bit_at (bit_not w64 bits) (k % 64)) 1) (sym here)
     ∙ ap (λ t. marked words k && t) (has_not bits (k % 64) small (omega arith))
 
-pub cleared_entries : (words marks new : List ℕ) (at left : ℕ) → IsEntries words marks → at < length words → length new ≡ length marks → ((j : ℕ) → (j ≡ at → ⊥) → marked new j ≡ marked marks j) → (marked new at ≡ false → left ≡ 0) → IsEntries (set words at left) new
+pub cleared_entries : (words marks new : List ℕ) (at left : ℕ) → IsEntries words marks → at < length words → length new ≡ length marks →
+    ((j : ℕ) → (j ≡ at → ⊥) → marked new j ≡ marked marks j) → (marked new at ≡ false → left ≡ 0) → IsEntries (set words at left) new
 cleared_entries words marks new at left is lt same others off = record {
   few = omega (arith, is.few, same);
   places = omega (arith, is.places, same, length-set words at left);
@@ -161,7 +174,10 @@ module _ (words : List ℕ) (a b : ℕ) where
       omega (arith, count_split ours 0 n (m - n), ap (λ j. count_by ours (range_with_len 0 j)) whole, rest)
 
   -- with a further word, after some without marks
-  pub counted_next : (at next word bits : ℕ) → at ≤ next → IsBlank words (64 * at) (64 * next) → bits < 2 ^ 64 → ((i : ℕ) → i < 64 → eqb (bit_at word i) 1 ≡ marked words (64 * next + i)) → ((i : ℕ) → i < 64 → eqb (bit_at bits i) 1 ≡ within a b (64 * next + i)) → count_by ours (range_with_len 0 (64 * (next + 1))) ≡ count_by ours (range_with_len 0 (64 * at)) + count_ones (bit_and word bits)
+  pub counted_next : (at next word bits : ℕ) → at ≤ next → IsBlank words (64 * at) (64 * next) → bits < 2 ^ 64 →
+      ((i : ℕ) → i < 64 → eqb (bit_at word i) 1 ≡ marked words (64 * next + i)) →
+      ((i : ℕ) → i < 64 → eqb (bit_at bits i) 1 ≡ within a b (64 * next + i)) →
+      count_by ours (range_with_len 0 (64 * (next + 1))) ≡ count_by ours (range_with_len 0 (64 * at)) + count_ones (bit_and word bits)
   counted_next at next word bits le blank small is_word of_range =
       let from : 64 * next ≡ 0 + 64 * next = omega arith in
       let here = word_counted ours (64 * next) (bit_and word bits) (omega (arith, small, and_le_r word bits)) (λ i lt.

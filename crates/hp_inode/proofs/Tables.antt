@@ -1,10 +1,12 @@
 -- The rows of a page table and their marks, after a change.
-use Rattle.std.proofs.Common.{◌≡◌, ℕ, zero, suc, ◌*◌, ◌<◌, ◌≤◌, ◌/◌, ◌%◌, ◌^◌, Bool, true, false, List, [], ◌∷◌, ◌++◌, length, replicate, get_or, set, ltb, Option, None, sym, refl, ap, ◌∙◌, arith, ⊎_elim}
+use Rattle.std.proofs.Common.{◌≡◌, ℕ, zero, suc, ◌*◌, ◌<◌, ◌≤◌, ◌/◌, ◌%◌, ◌^◌, Bool, true, false, List, []}
+use Rattle.std.proofs.Common.{◌∷◌, ◌++◌, length, replicate, get_or, set, ltb, Option, None, sym, refl, ap, ◌∙◌, arith, ⊎_elim}
 use Rattle.std.specs.Int.{bit_at}
 use Rattle.std.specs.Option.{is_some}
 use Rattle.std.specs.List.{refill}
 use Rattle.std.proofs.lemmas.Bool.{cases_eq, cases_lt, lt-ltb, ltb-true}
-use Rattle.std.proofs.lemmas.List.{get_or-set_same, get_or-set_other, get_or-replicate, get_or_past, nil_from_length, get_or_read, length-set, length-append, length-replicate, drop_all, take_all, append-nil}
+use Rattle.std.proofs.lemmas.List.{get_or-set_same, get_or-set_other, get_or-replicate, get_or_past, nil_from_length, get_or_read}
+use Rattle.std.proofs.lemmas.List.{length-set, length-append, length-replicate, drop_all, take_all, append-nil}
 use Rattle.std.proofs.lemmas.Nat.Bits.{bit_at-zero}
 use Rattle.hp_inode.proofs.Words.{unmarked_in}
 use Rattle.hp_inode.specs.Marks.{marked}
@@ -17,7 +19,8 @@ get_or_pushed [] d (suc k) = refl
 get_or_pushed (x ∷ xs) d zero = refl
 get_or_pushed (x ∷ xs) d (suc k) = get_or_pushed xs d k
 
-pub table_pushed : (rows : Rows) (marks new : List ℕ) → IsTable rows marks → length new < 2 ^ 32 → length rows < 64 * length new → ((j : ℕ) → marked new j ≡ marked marks j) → IsTable (rows ++ [] ∷ []) new
+pub table_pushed : (rows : Rows) (marks new : List ℕ) → IsTable rows marks → length new < 2 ^ 32 → length rows < 64 * length new →
+    ((j : ℕ) → marked new j ≡ marked marks j) → IsTable (rows ++ [] ∷ []) new
 table_pushed rows marks new is few lt same = record {
   few = few;
   places = omega (arith, lt, length-append rows ([] ∷ []));
@@ -87,7 +90,8 @@ module _ (rows : Rows) (at : ℕ) (row : List (Option ℕ)) (lt : at < length ro
 
   pub has_slot_made : (k : ℕ) → k / 64 ≡ at → has_slot (set rows at row) k ≡ true
   has_slot_made k here =
-      let long : length (get_or (set rows at row) (k / 64) []) ≡ 64 = ap length (ap (λ n. get_or (set rows at row) n []) here ∙ get_or-set_same rows at row [] lt ∙ is) ∙ length-replicate {A = Option ℕ} 64 None in
+      let long : length (get_or (set rows at row) (k / 64) []) ≡ 64 = ap length
+      (ap (λ n. get_or (set rows at row) n []) here ∙ get_or-set_same rows at row [] lt ∙ is) ∙ length-replicate {A = Option ℕ} 64 None in
       lt-ltb (k % 64) (length (get_or (set rows at row) (k / 64) [])) (omega arith)
 
   pub has_slot_elsewhere : (k : ℕ) → (k / 64 ≡ at → ⊥) → has_slot (set rows at row) k ≡ has_slot rows k
@@ -153,7 +157,9 @@ module _ (rows : Rows) (i : ℕ) (o : Option ℕ) (row old : List (Option ℕ)) 
       (λ (other : k / 64 ≡ i / 64 → ⊥). ap (λ r. ltb (k % 64) (length r)) (get_or-set_other rows (i / 64) (k / 64) row [] other))
       (cases_eq (k / 64) (i / 64))
 
-  pub table_set : (marks new : List ℕ) (some : Bool) → IsTable rows marks → length new ≡ length marks → marked new (i / 64) ≡ some → ((j : ℕ) → (j ≡ i / 64 → ⊥) → marked new j ≡ marked marks j) → (some ≡ true → ((k : ℕ) → get_or row k None ≡ None) → ⊥) → (some ≡ false → (k : ℕ) → get_or row k None ≡ None) → IsTable (set rows (i / 64) row) new
+  pub table_set : (marks new : List ℕ) (some : Bool) → IsTable rows marks → length new ≡ length marks → marked new (i / 64) ≡ some →
+      ((j : ℕ) → (j ≡ i / 64 → ⊥) → marked new j ≡ marked marks j) → (some ≡ true → ((k : ℕ) → get_or row k None ≡ None) → ⊥) →
+      (some ≡ false → (k : ℕ) → get_or row k None ≡ None) → IsTable (set rows (i / 64) row) new
   table_set marks new some table same here others on off = record {
     few = omega (arith, table.few, same);
     places = omega (arith, table.places, same, length-set rows (i / 64) row);

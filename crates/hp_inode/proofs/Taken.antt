@@ -47,7 +47,8 @@ module _ (len m : ℕ) (e : List ℕ) (rows : Rows) (kept : IsKept len m e rows)
 -- after its page was taken an index is entered, and has none
 pub entered_alone : (xs ys : List (Cell ℕ)) (i : ℕ) → ys ≡ set xs i Entered → i < length xs → All (λ (cell : Cell ℕ). has_page cell ≡ false) (part i (i + 1) ys)
 entered_alone xs ys i is lt =
-    let alone : part i (i + 1) ys ≡ Entered ∷ [] = ap (part i (i + 1)) is ∙ part_one (set xs i Entered) i Hole (omega (arith, lt, length-set xs i Entered)) ∙ ap (λ c. c ∷ []) (get_or-set_same xs i Entered Hole lt) in
+    let alone : part i (i + 1) ys ≡ Entered ∷ [] = ap (part i (i + 1)) is ∙ part_one (set xs i Entered) i Hole
+    (omega (arith, lt, length-set xs i Entered)) ∙ ap (λ c. c ∷ []) (get_or-set_same xs i Entered Hole lt) in
     subst (All (λ (cell : Cell ℕ). has_page cell ≡ false)) (sym alone) one
   where
     one : All (λ (cell : Cell ℕ). has_page cell ≡ false) (Entered ∷ [])

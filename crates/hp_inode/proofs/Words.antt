@@ -29,7 +29,8 @@ module _ (words : List ℕ) (k word : ℕ) where
   pub unmarked_here : k / 64 < length words → bit_at word (k % 64) ≡ 0 → marked (set words (k / 64) word) k ≡ false
   unmarked_here lt none = rw (get_or-set_same words (k / 64) word 0 lt, none) refl
 
-  pub marked_other : (j : ℕ) → k / 64 < length words → ((i : ℕ) → i < 64 → i ≢ k % 64 → bit_at word i ≡ bit_at (get_or words (k / 64) 0) i) → (j ≡ k → ⊥) → marked (set words (k / 64) word) j ≡ marked words j
+  pub marked_other : (j : ℕ) → k / 64 < length words → ((i : ℕ) → i < 64 → i ≢ k % 64 → bit_at word i ≡ bit_at (get_or words (k / 64) 0) i) →
+      (j ≡ k → ⊥) → marked (set words (k / 64) word) j ≡ marked words j
   marked_other j lt same differs = ⊎_elim
       (λ (here : j / 64 ≡ k / 64).
       let place : j % 64 ≢ k % 64 = λ e. differs (omega (arith, here, e)) in
@@ -43,7 +44,8 @@ module _ (words : List ℕ) (k word : ℕ) where
 
 module _ (words : List ℕ) (n : ℕ) where
   -- no mark from n on in a word, after none before it
-  pub none_in_word : (q : ℕ) → ((i : ℕ) → i < 64 → n ≤ 64 * q + i → bit_at (get_or words q 0) i ≡ 0) → ((k : ℕ) → n ≤ k → k < 64 * q → marked words k ≡ false) → (k : ℕ) → n ≤ k → k < 64 * (q + 1) → marked words k ≡ false
+  pub none_in_word : (q : ℕ) → ((i : ℕ) → i < 64 → n ≤ 64 * q + i → bit_at (get_or words q 0) i ≡ 0) →
+      ((k : ℕ) → n ≤ k → k < 64 * q → marked words k ≡ false) → (k : ℕ) → n ≤ k → k < 64 * (q + 1) → marked words k ≡ false
   none_in_word q none before k from lt = ⊎_elim
       (λ (early : k < 64 * q). before k from early)
       (λ (late : 64 * q ≤ k).
@@ -51,7 +53,9 @@ module _ (words : List ℕ) (n : ℕ) where
       unmarked_in words k (ap (λ w. bit_at (get_or words w 0) (k % 64)) e ∙ none (k % 64) (omega arith) (omega (arith, late, lt, from))))
       (cases_lt k (64 * q))
 
-  pub first_in_word : (q t : ℕ) → n ≤ 64 * q + t → t < 64 → bit_at (get_or words q 0) t ≡ 1 → ((i : ℕ) → i < t → n ≤ 64 * q + i → bit_at (get_or words q 0) i ≡ 0) → ((k : ℕ) → n ≤ k → k < 64 * q → marked words k ≡ false) → IsFirstFrom words n (64 * q + t)
+  pub first_in_word : (q t : ℕ) → n ≤ 64 * q + t → t < 64 → bit_at (get_or words q 0) t ≡ 1 →
+      ((i : ℕ) → i < t → n ≤ 64 * q + i → bit_at (get_or words q 0) i ≡ 0) → ((k : ℕ) → n ≤ k → k < 64 * q → marked words k ≡ false) →
+      IsFirstFrom words n (64 * q + t)
   first_in_word q t from lt one none before = record {
     from = from;
     here = marked_at words q t lt one;
@@ -105,7 +109,8 @@ module _ (words : List ℕ) (n m : ℕ) (mask : m ≡ 2 ^ 64 - 2 ^ (n % 64)) whe
       nothing_before
 
 -- the first mark of a later word
-pub later_found : (words : List ℕ) (n at word : ℕ) → word ≡ get_or words at 0 → 0 < word → word < 2 ^ 64 → n ≤ 64 * at → ((k : ℕ) → n ≤ k → k < 64 * at → marked words k ≡ false) → IsFirstFrom words n (64 * at + trailing_zeros w64 word)
+pub later_found : (words : List ℕ) (n at word : ℕ) → word ≡ get_or words at 0 → 0 < word → word < 2 ^ 64 → n ≤ 64 * at →
+    ((k : ℕ) → n ≤ k → k < 64 * at → marked words k ≡ false) → IsFirstFrom words n (64 * at + trailing_zeros w64 word)
 later_found words n at word read some small from before =
     let low = bit_at-trailing_zeros w64 word some small in
     first_in_word words n at (trailing_zeros w64 word) (omega (arith, from)) low.0 (ap (λ w. bit_at w (trailing_zeros w64 word)) (sym read) ∙ low.1)

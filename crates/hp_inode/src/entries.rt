@@ -186,7 +186,8 @@ fn clear_full(words: &mut [u64], from: usize, end: usize) -> usize
     requires within { end ≤ length words.old }
     ensures from { from ≤ result }
     ensures to { result ≤ end }
-    ensures removed { IsRemoved (64 * from) (64 * result) words.old words.new (64 * (result - from)) }
+    ensures removed { IsRemoved (64 * from) (64 * result) words.old words.new
+        (64 * (result - from)) }
 {
     let mut at = from;
     while at < end && words[at] == u64::MAX {

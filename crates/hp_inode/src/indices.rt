@@ -33,7 +33,11 @@ impl Model for Indices {
 
     ghost Value = { Ready };
 
-    ghost view = { λ f. record { cells = cells_of f.len f.entries f.table; from = f.from; to = f.to } };
+    ghost view = { λ f. record {
+      cells = cells_of f.len f.entries f.table;
+      from = f.from;
+      to = f.to;
+    } };
 
     ghost invariant = { λ f. IsReady f.len f.count f.pages f.entries f.table f.from f.to };
 }
@@ -129,7 +133,8 @@ impl Indices {
 
     /// Enters the range, which makes the file longer where it reaches past the end.
     pub fn enter(&mut self)
-        ensures { self.new.cells ≡ edit_range entered self.old.from self.old.to (at_least self.old.to self.old.cells) }
+        ensures { self.new.cells ≡ edit_range entered self.old.from self.old.to
+            (at_least self.old.to self.old.cells) }
     {
         let (from, to) = (self.from, self.to);
         self.to = 0;
@@ -161,7 +166,8 @@ impl Indices {
         ensures cells { MatchOption (found has_page (part a b self.old.cells))
             (self.new.cells ≡ self.old.cells)
             (λ p. self.new.cells ≡ slice_set self.old.cells (a + p.0) Hole) }
-        ensures none { result ≡ None → All (λ cell. has_page cell ≡ false) (part a b self.new.cells) }
+        ensures none { result ≡ None → All (λ cell. has_page cell ≡ false)
+            (part a b self.new.cells) }
     {
         let i = self.table.first_from(a)?;
         if i >= b {

@@ -52,7 +52,8 @@ pages_same x mark ps long = ap (λ n. record { task = x.task; number = x.number;
 
 robbed_key : (stamp : ℕ) (x : Map) → shape_of (robbed stamp x) ≡ shape_of x
 robbed_key stamp x =
-    cond_both (list_any (holds stamp) x.places) (record x { unmapped = true; places = map (drop_stamp stamp) x.places }) x (λ y. shape_of y ≡ shape_of x) (λ e. pages_same x true (map (drop_stamp stamp) x.places) (length-map x.places (drop_stamp stamp))) (λ e. refl)
+    cond_both (list_any (holds stamp) x.places) (record x { unmapped = true; places = map (drop_stamp stamp) x.places }) x
+    (λ y. shape_of y ≡ shape_of x) (λ e. pages_same x true (map (drop_stamp stamp) x.places) (length-map x.places (drop_stamp stamp))) (λ e. refl)
 
 -- a file in the place of another of the same name and numbers
 pub file_put : (m : Mount) (k : ℕ) (g f : File) → ((d : File) → slice_index_or m.files k d ≡ g) → file_key f ≡ file_key g → keys (with_file m k f) ≡ keys m

@@ -71,7 +71,8 @@ module _ (c : Choice) (size : ℕ) (m : Mount) (s : Spot) (at : IsSpot m s) (agr
       grown_same m _ (file_grows m s.file_no s.file (with_map (record s.file { maps = map (robbed copy.stamp) s.file.maps }) s.map_no s.map) 0 0 0 at.file
       (takes_back s.file s.map_no s.map i consumed copy at.map is agreed))
 
-  own_copy : (consumed : Bool) (copy : Copy) → place_at s.map i ≡ Live consumed (Some copy) → is_held_once s.file copy.stamp ≡ false → (node : ℕ) → MountGrows m (with_copy consumed node copy.page.bytes) node 1 1
+  own_copy : (consumed : Bool) (copy : Copy) → place_at s.map i ≡ Live consumed (Some copy) → is_held_once s.file copy.stamp ≡ false → (node : ℕ) →
+      MountGrows m (with_copy consumed node copy.page.bytes) node 1 1
   own_copy consumed copy is more node =
       file_grows m s.file_no s.file _ node 1 1 at.file
       (copy_parts s.file s.map_no s.map i consumed copy (copy_for node copy.page.bytes) at.map is agreed more fresh)
@@ -82,7 +83,11 @@ module _ (c : Choice) (size : ℕ) (m : Mount) (s : Spot) (at : IsSpot m s) (agr
       cond_both (is_full m 1) (Finish (taken_back m s copy.stamp))
       (Ask (λ nr. GrantPage home (rise m 1)) (λ a. if a.granted then copied m s i consumed (copy_for a.node copy.page.bytes) else taken_back m s copy.stamp)) (IsBalanced (Some m))
       (λ e. takes_back_stays consumed copy is)
-      (λ e. ((λ a. page_granted m (λ node. with_copy consumed node copy.page.bytes) (taken_back m s copy.stamp) a.granted a.node e (own_copy consumed copy is more a.node) (takes_back_stays consumed copy is)), (λ p. refl)))
+      (λ e. (
+        (λ a. page_granted m (λ node. with_copy consumed node copy.page.bytes) (taken_back m s copy.stamp) a.granted a.node e
+            (own_copy consumed copy is more a.node) (takes_back_stays consumed copy is)),
+        (λ p. refl),
+      ))
 
   copy_balanced : (consumed : Bool) (copy : Copy) → place_at s.map i ≡ Live consumed (Some copy) → IsBalanced (Some m) (copy_write c m s home i consumed copy)
   copy_balanced consumed copy is =

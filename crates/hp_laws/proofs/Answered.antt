@@ -157,4 +157,5 @@ module _ (s : State) (st : IsSettledState s) where
   event_tells (Tasks other) reply t whole is = tt
 
   pub step_tells : (reply : Reply) (t : State) (step : Step) → IsStep s step reply t → Tells s step reply
-  step_tells reply t step is = by_event s (λ step reply t. Tells s step reply) (λ step r early. nothing_told s step r) event_tells (λ parent child reply t is. tt) (λ task reply t is. tt) reply t step is
+  step_tells reply t step is = by_event s (λ step reply t. Tells s step reply) (λ step r early. nothing_told s step r) event_tells
+      (λ parent child reply t is. tt) (λ task reply t is. tt) reply t step is

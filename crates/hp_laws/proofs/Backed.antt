@@ -75,7 +75,8 @@ module _ (size k : ℕ) (c : Choice) (task home number i offset : ℕ) where
       by_spot None e = cc
       by_spot (Some s) e =
           let f : Mount → Outcome = λ n. Answered Done (Some (written n s i offset bytes)) in
-          always_then KeepsGoing KeepsGoing f (goes_on c size m s home i f (λ n. tt)) (byte_access c size m home i offset (length bytes) Write s) (bytes_go c size m s home i offset (length bytes) Write e)
+          always_then KeepsGoing KeepsGoing f (goes_on c size m s home i f (λ n. tt)) (byte_access c size m home i offset (length bytes) Write s)
+          (bytes_go c size m s home i offset (length bytes) Write e)
 
 pub fault_goes : (size k : ℕ) (c : Choice) (task home number i : ℕ) (intent : Intent) (old : Slot) → is_backed intent (spot_on old task number) i ≡ true
     → Always KeepsGoing (slot_event size k c old (slot.Fault task home number i intent))

@@ -7,7 +7,8 @@ use Rattle.hp_model.specs.declared.step.Intent.TheVariants.{Write}
 use Rattle.hp_model.specs.files.File.{File, cell_at}
 use Rattle.hp_model.specs.files.Page.{zeros}
 use Rattle.hp_model.specs.machine.Plan.{Outcome, Refused, Answered, Slot}
-use Rattle.hp_model.specs.machine.Promises.{IsLostTo, IsNameOf, SameFiles, StillNamed, is_at, is_in, is_shared_of, map_on, means_file, named_on, over, reaches, shape_of, shown_on, spot_on, stays_mapped}
+use Rattle.hp_model.specs.machine.Promises.{IsLostTo, IsNameOf, SameFiles, StillNamed, is_at, is_in, is_shared_of, map_on}
+use Rattle.hp_model.specs.machine.Promises.{means_file, named_on, over, reaches, shape_of, shown_on, spot_on, stays_mapped}
 use Rattle.hp_model.specs.files.Spot.{Spot}
 use Rattle.hp_model.specs.files.Value.{shown, value}
 

@@ -1,5 +1,6 @@
 -- What takes away leaves less to take.
-use Rattle.std.proofs.Common.{◌≡◌, ℕ, zero, suc, ◌+◌, ◌-◌, ◌*◌, ◌<◌, ◌≤◌, Bool, true, false, not, ◌||◌, ◌==◌, None, Some, Ok, Err, Option, List, [], ◌∷◌, length, map, cond, arith, refl, sym, ap, ◌∙◌, subst, nat_le}
+use Rattle.std.proofs.Common.{◌≡◌, ℕ, zero, suc, ◌+◌, ◌-◌, ◌*◌, ◌<◌, ◌≤◌, Bool, true, false, not, ◌||◌, ◌==◌, None, Some}
+use Rattle.std.proofs.Common.{Ok, Err, Option, List, [], ◌∷◌, length, map, cond, arith, refl, sym, ap, ◌∙◌, subst, nat_le}
 use Rattle.std.specs.Prelude.{is_some}
 use Rattle.std.specs.List.{filter, find, sum, slice_index_or, list_any}
 use Rattle.std.specs.Option.{option_map}
@@ -62,7 +63,8 @@ adds t task home few =
 
 no_longer : {X : Type 0} (p : X → Bool) (xs : List X) → length (filter p xs) ≤ length xs
 no_longer p [] = omega arith
-no_longer p (x ∷ xs) = cond_both (p x) (x ∷ filter p xs) (filter p xs) (λ ys. length ys ≤ suc (length xs)) (λ e. (let l = no_longer p xs in omega (arith, l))) (λ e. (let l = no_longer p xs in omega (arith, l)))
+no_longer p (x ∷ xs) = cond_both (p x) (x ∷ filter p xs) (filter p xs) (λ ys. length ys ≤ suc (length xs))
+    (λ e. (let l = no_longer p xs in omega (arith, l))) (λ e. (let l = no_longer p xs in omega (arith, l)))
 
 -- where one passes, fewer do not
 shorter : {X Y : Type 0} (p : X → Bool) (f : X → Y) (xs : List X) → is_some (option_map f (find p xs)) ≡ true → length (filter (λ x. not (p x)) xs) < length xs
@@ -219,7 +221,8 @@ given_less puts k p q s held is some =
     let parts = sums us puts held.pages in
     let uses = used_sum p.nodes.rows s.rows in
     let covered = held.committed in
-    let gave = gave_back puts k (minus us puts) p s (long us puts ∙ length-map p.nodes.rows row_used) (λ n l. each us puts held.pages n (omega (arith, l, length-map p.nodes.rows row_used))) (omega (arith, parts, uses, covered)) in
+    let gave = gave_back puts k (minus us puts) p s (long us puts ∙ length-map p.nodes.rows row_used)
+    (λ n l. each us puts held.pages n (omega (arith, l, length-map p.nodes.rows row_used))) (omega (arith, parts, uses, covered)) in
     let after = used_sum (settled (released k (puts_from 0 puts p))).nodes.rows gave.settled.rows in
     let same = ap sum gave.is_used in
     let left = gave.is_committed in
@@ -239,7 +242,13 @@ step_frames p q (OfPool e r) s step = ap (λ (x : Reply × Pool). frames_of x.1.
 
 pub pool_places : (p q : Pool) (e : PoolEntry) → IsSettledPool p → IsSettledPool q → IsPoolStep p e q → GivesWhatIsInUse p e
     → KeepsPlaces (2 * frames_of p.nodes.rows) (to_return p) (to_return q) (is_giving_back e) × (frames_of q.nodes.rows ≡ frames_of p.nodes.rows)
-pool_places p q e s then step held = (record { enough = (let most = most_return q then in let same = step_frames p q e s step in omega (arith, most, same)); less = less e step held }, step_frames p q e s step)
+pool_places p q e s then step held = (
+  record {
+    enough = (let most = most_return q then in let same = step_frames p q e s step in omega (arith, most, same));
+    less = less e step held;
+  },
+  step_frames p q e s step,
+)
   where
     less : (e : PoolEntry) → IsPoolStep p e q → GivesWhatIsInUse p e → is_giving_back e ≡ true → to_return q < to_return p
     less (OfSlot (GiveBack puts k) a) step held t = given_less puts k p q s held (sym (ap (λ (x : PoolAnswer × Pool). x.1) step)) (ltb-true 0 (sum puts + k) t)

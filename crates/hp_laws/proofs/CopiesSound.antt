@@ -1,5 +1,6 @@
 -- A mount stays sound where a place gets a copy whose stamp no other place holds: a new one, or one that is written.
-use Rattle.std.proofs.Common.{◌≡◌, ⊎_elim, inl, inr, ◌⊎◌, ℕ, ◌-◌, ◌<◌, ◌≤◌, Bool, true, false, ◌==◌, Option, None, Some, List, length, map, get_or, set, arith, refl, sym, ap, ◌∙◌, subst, nat_lt, if◌then◌else◌}
+use Rattle.std.proofs.Common.{◌≡◌, ⊎_elim, inl, inr, ◌⊎◌, ℕ, ◌-◌, ◌<◌, ◌≤◌, Bool, true, false, ◌==◌, Option, None}
+use Rattle.std.proofs.Common.{Some, List, length, map, get_or, set, arith, refl, sym, ap, ◌∙◌, subst, nat_lt, if◌then◌else◌}
 use Rattle.std.specs.List.{count_by, list_any, slice_index_or}
 use Rattle.std.proofs.lemmas.Bool.{and_from, and_parts, both_ways, cases_eq, cond_both, eq-eqb, eqb-true}
 use Rattle.std.proofs.lemmas.List.{get_or-map, get_or-set_other, get_or-set_same, length-map, length-set}
@@ -271,7 +272,8 @@ module _ (m : Mount) (s : Spot) (at : IsSpot m s) (i : ℕ) (copy : Copy) (has :
     where
       number_kept : (p : Map → Bool) → ((x : Map) → p (record x { unmapped = true; places = map (drop_stamp copy.stamp) x.places }) ≡ p x) → (x : Map) → bit (p (robbed copy.stamp x)) ≡ bit (p x)
       number_kept p same x =
-          cond_both (list_any (holds copy.stamp) x.places) (record x { unmapped = true; places = map (drop_stamp copy.stamp) x.places }) x (λ y. bit (p y) ≡ bit (p x)) (λ e. ap bit (same x)) (λ e. refl)
+          cond_both (list_any (holds copy.stamp) x.places) (record x { unmapped = true; places = map (drop_stamp copy.stamp) x.places }) x
+          (λ y. bit (p y) ≡ bit (p x)) (λ e. ap bit (same x)) (λ e. refl)
 
   pub back_sole : IsSole back s.file_no s.map_no i
   back_sole = record {

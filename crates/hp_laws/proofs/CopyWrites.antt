@@ -1,5 +1,6 @@
 -- A write into a copy that other maps hold too: a copy of its own, or the owner takes the copy back.
-use Rattle.std.proofs.Common.{◌≡◌, ⊎_elim, inl, inr, ◌⊎◌, subst, ℕ, ◌-◌, ◌<◌, Bool, true, false, ◌&&◌, ◌||◌, ◌==◌, not, None, Some, List, [], ◌∷◌, length, map, refl, sym, ap, ◌∙◌, cond, arith, if◌then◌else◌}
+use Rattle.std.proofs.Common.{◌≡◌, ⊎_elim, inl, inr, ◌⊎◌, subst, ℕ, ◌-◌, ◌<◌, Bool, true, false, ◌&&◌, ◌||◌, ◌==◌}
+use Rattle.std.proofs.Common.{not, None, Some, List, [], ◌∷◌, length, map, refl, sym, ap, ◌∙◌, cond, arith, if◌then◌else◌}
 use Rattle.std.specs.List.{list_any, slice_index_or, count_by}
 use Rattle.std.proofs.lemmas.List.{length-map, get_or-map}
 use Rattle.std.proofs.lemmas.Bool.{or_left, or_right, true_from_ne_false, both_ways, eq-eqb, eqb-true, and_from, and_parts, and_right, or_cases}
@@ -103,7 +104,8 @@ but stamp t s n = t s n && not (s == stamp)
 abbrev only : ℕ → (ℕ → ℕ → Bool) → ℕ → ℕ → Bool
 only stamp t s n = t s n && (s == stamp)
 
-kept_if : (q : ℕ → ℕ → Bool) (c : Bool) (copy : Copy) (b : Bool) → (b ≡ true → q copy.stamp copy.page.node ≡ false) → q copy.stamp copy.page.node ≡ true → place_has q (if b then Live c None else Live c (Some copy)) ≡ true
+kept_if : (q : ℕ → ℕ → Bool) (c : Bool) (copy : Copy) (b : Bool) → (b ≡ true → q copy.stamp copy.page.node ≡ false) →
+    q copy.stamp copy.page.node ≡ true → place_has q (if b then Live c None else Live c (Some copy)) ≡ true
 kept_if q c copy true h e = absurd (both_ways (q copy.stamp copy.page.node) (h refl) e)
 kept_if q c copy false h e = e
 
@@ -154,7 +156,8 @@ place_some t (Live c (Some copy)) e = record {
   held = and_from (copy.page.node == copy.page.node) (copy.stamp == copy.stamp) (eq-eqb copy.page.node copy.page.node refl) (eq-eqb copy.stamp copy.stamp refl);
 }
 
-any_some : {X : Type 0} (t : ℕ → ℕ → Bool) (has : (ℕ → ℕ → Bool) → X → Bool) → ((x : X) → has t x ≡ true → Holds t (λ u. has u x)) → (xs : List X) → list_any (has t) xs ≡ true → Holds t (λ u. list_any (has u) xs)
+any_some : {X : Type 0} (t : ℕ → ℕ → Bool) (has : (ℕ → ℕ → Bool) → X → Bool) → ((x : X) → has t x ≡ true → Holds t (λ u. has u x)) → (xs : List X) →
+    list_any (has t) xs ≡ true → Holds t (λ u. list_any (has u) xs)
 any_some t has h [] e = cc
 any_some t has h (x ∷ xs) e =
     ⊎_elim (λ l. (let s = h x l in record { stamp = s.stamp; node = s.node; passes = s.passes; held = or_left (has (is_stamp_at s.node s.stamp) x) _ s.held }))
@@ -237,7 +240,8 @@ module _ (f : File) (k : ℕ) (m : Map) (i : ℕ) (c : Bool) (copy : Copy) (here
 
 -- ---- bytes written into a page
 
-cell_same : (offset : ℕ) (bytes : List ℕ) (test : Cell Page → Bool) → ((p q : Page) → p.node ≡ q.node → test (Present p) ≡ test (Present q)) → (x : Cell Page) → bit (test (cell_written offset bytes x)) ≡ bit (test x)
+cell_same : (offset : ℕ) (bytes : List ℕ) (test : Cell Page → Bool) → ((p q : Page) → p.node ≡ q.node → test (Present p) ≡ test (Present q)) →
+    (x : Cell Page) → bit (test (cell_written offset bytes x)) ≡ bit (test x)
 cell_same offset bytes test h Hole = refl
 cell_same offset bytes test h Entered = refl
 cell_same offset bytes test h (Present page) = ap bit (h (overwritten offset bytes page) page refl)

@@ -12,7 +12,8 @@ use Rattle.hp_model.specs.declared.cell.Cell.TheVariants.{Hole, Entered, Present
 abbrev pub share : (Cell Page → Bool) → Cell Page → ℕ
 share test c = cond (test c) 1 0
 
-pub count-set : (test : Cell Page → Bool) (f : File) (i : ℕ) (c : Cell Page) → i < length f.cells → count_by test (slice_set f.cells i c) + share test (cell_at f i) ≡ count_by test f.cells + share test c
+pub count-set : (test : Cell Page → Bool) (f : File) (i : ℕ) (c : Cell Page) → i < length f.cells →
+    count_by test (slice_set f.cells i c) + share test (cell_at f i) ≡ count_by test f.cells + share test c
 count-set test f i c l = sum_by-set (λ x. cond (test x) 1 0) f.cells i c Hole l
 
 -- a page by an entry: one page more, one reservation less

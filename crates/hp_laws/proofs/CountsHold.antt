@@ -81,10 +81,12 @@ not_risen : (a b : Slot) → IsLimited a b → slot_usage a < slot_usage b → I
 not_risen a b h l = ⊎_elim (λ le. absurd (omega (arith, le, l))) (λ w. w) h
 
 -- the slot of the event, and the others
-at_slot : (xs : List Slot) (k j : ℕ) (n : Slot) → k < length xs → j < length xs → IsLimited (slice_index_or xs k None) n → IsLimited (slice_index_or xs j None) (slice_index_or (slice_set xs k n) j None)
+at_slot : (xs : List Slot) (k j : ℕ) (n : Slot) → k < length xs → j < length xs → IsLimited (slice_index_or xs k None) n →
+    IsLimited (slice_index_or xs j None) (slice_index_or (slice_set xs k n) j None)
 at_slot xs k j n lk lj h =
     elim (cases_eq j k) as (λ _. IsLimited (slice_index_or xs j None) (slice_index_or (slice_set xs k n) j None)) [
-      | inl same ↦ subst (λ i. IsLimited (slice_index_or xs i None) (slice_index_or (slice_set xs k n) i None)) (sym same) (subst (λ x. IsLimited (slice_index_or xs k None) x) (sym (get_or-set_same xs k n None lk)) h)
+      | inl same ↦ subst (λ i. IsLimited (slice_index_or xs i None) (slice_index_or (slice_set xs k n) i None)) (sym same)
+          (subst (λ x. IsLimited (slice_index_or xs k None) x) (sym (get_or-set_same xs k n None lk)) h)
       | inr other ↦ subst (λ x. IsLimited (slice_index_or xs j None) x) (sym (get_or-set_other xs k j n None other)) (inl (omega arith))
     ]
 

@@ -1,5 +1,6 @@
 -- What files and maps show after a range of a file or of a map is gone.
-use Rattle.std.proofs.Common.{◌≡◌, ⊎_elim, inl, inr, ◌⊎◌, subst, ℕ, ◌+◌, ◌-◌, ◌<◌, ◌≤◌, ◌&&◌, ◌==◌, Bool, true, false, Option, None, Some, List, length, map, replicate, take, get_or, option_map, refl, sym, ap, ◌∙◌, arith, if◌then◌else◌, nat_le, nat_lt}
+use Rattle.std.proofs.Common.{◌≡◌, ⊎_elim, inl, inr, ◌⊎◌, subst, ℕ, ◌+◌, ◌-◌, ◌<◌, ◌≤◌, ◌&&◌, ◌==◌, Bool, true, false, Option}
+use Rattle.std.proofs.Common.{None, Some, List, length, map, replicate, take, get_or, option_map, refl, sym, ap, ◌∙◌, arith, if◌then◌else◌, nat_le, nat_lt}
 use Rattle.std.specs.List.{list_any}
 use Rattle.std.specs.Str.{bytes_eq}
 use Rattle.std.proofs.lemmas.Slice.Eq.{bytes_eq-Decides}
@@ -149,7 +150,8 @@ module _ (size n : ℕ) (f : File) where
       by_copy None e = refl
       by_copy (Some copy) e = (let below = (sound x copy e).below in absurd (omega (arith, below, past)))
 
-  cut_seen : (y : Map) → IsSoundMap (length f.cells) y → (x : ℕ) (c : Bool) → nat_le n x ≡ c → value size (truncated n f) (map_punched n (n + length f.cells) y) x ≡ (if c then zeros size else value size f y x)
+  cut_seen : (y : Map) → IsSoundMap (length f.cells) y → (x : ℕ) (c : Bool) → nat_le n x ≡ c →
+      value size (truncated n f) (map_punched n (n + length f.cells) y) x ≡ (if c then zeros size else value size f y x)
   cut_seen y sound x c e =
       ap (λ p. by_place size p (look size x (truncated n f))) (place_ranged without_copy refl n (n + length f.cells) y x)
       ∙ ap (by_place size (if is_in n (n + length f.cells) x then without_copy (place_at y x) else place_at y x)) (cut_cells x c e)
@@ -175,7 +177,8 @@ module _ (size n : ℕ) (f : File) where
 
 -- ---- its mount
 
-module _ (size : ℕ) (m : Mount) (sound : IsSoundMount m) (name : List ℕ) (q : ℕ × File) (named : file_named m name ≡ Some q) (g : File) (h : Map → Map) (cut : ℕ → Bool) (is : IsCut size q.1 g h cut) where
+module _ (size : ℕ) (m : Mount) (sound : IsSoundMount m) (name : List ℕ) (q : ℕ × File) (named : file_named m name ≡ Some q) (g : File)
+    (h : Map → Map) (cut : ℕ → Bool) (is : IsCut size q.1 g h cut) where
   abbrev after : Mount
   after = with_file m q.0 g
 

@@ -36,8 +36,10 @@ module _ {X : Type 0} (took : X → Section → PoolAnswer → X → Type 0) (m 
   pub grant_at_once : is_full m k ≡ false → rise m k ≡ 0 → Gives o (Some m) reply new → left ≡ door → (c : Choice) × ThroughDoor took (grant c m home k o) (Some m) door reply new left
   grant_at_once e z h same = (calm, picked false true e (zero_test _ z) (h, same))
 
-  pub grant_given : is_full m k ≡ false → 0 < rise m k → took door (Grant home (rise m k)) (granted_at 0) left → Gives o (Some m) reply new → (c : Choice) × ThroughDoor took (grant c m home k o) (Some m) door reply new left
+  pub grant_given : is_full m k ≡ false → 0 < rise m k → took door (Grant home (rise m k)) (granted_at 0) left → Gives o (Some m) reply new →
+      (c : Choice) × ThroughDoor took (grant c m home k o) (Some m) door reply new left
   grant_given e z t h = (calm, picked false false e (above_test _ z) (granted_at 0, t, h))
 
-  pub grant_denied : is_full m k ≡ false → 0 < rise m k → took door (Grant home (rise m k)) no_pages left → reply ≡ Err NoPages → new ≡ Some m → (c : Choice) × ThroughDoor took (grant c m home k o) (Some m) door reply new left
+  pub grant_denied : is_full m k ≡ false → 0 < rise m k → took door (Grant home (rise m k)) no_pages left → reply ≡ Err NoPages → new ≡ Some m →
+      (c : Choice) × ThroughDoor took (grant c m home k o) (Some m) door reply new left
   grant_denied e z t r same = (calm, picked false false e (above_test _ z) (no_pages, t, (r, same)))

@@ -1,5 +1,6 @@
 -- Each event on a slot leaves it sound, whatever fresh stamp is chosen.
-use Rattle.std.proofs.Common.{◌≡◌, ℕ, ◌+◌, ◌-◌, ◌<◌, ◌≤◌, ◌&&◌, ◌||◌, ◌==◌, Bool, true, false, not, Option, None, Some, List, [], ◌∷◌, ◌++◌, length, map, set, arith, refl, sym, ap, ◌∙◌, subst, nat_lt, if◌then◌else◌}
+use Rattle.std.proofs.Common.{◌≡◌, ℕ, ◌+◌, ◌-◌, ◌<◌, ◌≤◌, ◌&&◌, ◌||◌, ◌==◌, Bool, true, false, not, Option, None, Some}
+use Rattle.std.proofs.Common.{List, [], ◌∷◌, ◌++◌, length, map, set, arith, refl, sym, ap, ◌∙◌, subst, nat_lt, if◌then◌else◌}
 use Rattle.std.specs.List.{count_by, flat_map, list_any}
 use Rattle.std.proofs.lemmas.Bool.{and_parts, both_ways, cond_both, eq-eqb, eqb-true, leb-false, not-true}
 use Rattle.std.proofs.lemmas.List.{get_or_default, length-set}
@@ -66,7 +67,8 @@ new_number m task a n sharing reserving xs t u one =
     let last = sum_by-cons (λ x. bit (is_map t u x)) new [] in
     elim (is_map t u new) as (λ b. is_map t u new ≡ b → count_by (is_map t u) (maps_of m) + count_by (is_map t u) (xs ++ new ∷ []) ≤ count_by (is_map t u) xs + 1) [
       | true ↦ λ e. (let parts = and_parts (task == t) (next_number task m == u) e in
-          let unused = ap (λ x. list_any (is_map x u) (maps_of m)) (sym (eqb-true task t parts.0)) ∙ ap (λ x. list_any (is_map task x) (maps_of m)) (sym (eqb-true (next_number task m) u parts.1)) ∙ number_unused m task in
+          let unused = ap (λ x. list_any (is_map x u) (maps_of m)) (sym (eqb-true task t parts.0))
+          ∙ ap (λ x. list_any (is_map task x) (maps_of m)) (sym (eqb-true (next_number task m) u parts.1)) ∙ number_unused m task in
           let none = none_counted (is_map t u) (maps_of m) unused in
           let is = ap bit e in
           omega (arith, both, last, none, is))
@@ -109,7 +111,8 @@ module _ (m : Mount) (sound : IsSoundMount m) (s : Spot) (at : IsSpot m s) where
 
     filled_left : is_shared s.map.sharing ≡ true → (intent : Intent) (page : Page) → Left intent i (with_file m s.file_no (with_cell s.file i (Present page)))
     filled_left e intent page =
-        shared_left e intent (with_file m s.file_no (with_cell s.file i (Present page))) (cells_sound (set s.file.cells i (Present page)) (let same = length-set s.file.cells i (Present page) in omega (arith, same)))
+        shared_left e intent (with_file m s.file_no (with_cell s.file i (Present page)))
+        (cells_sound (set s.file.cells i (Present page)) (let same = length-set s.file.cells i (Present page) in omega (arith, same)))
 
     shared_sound : is_shared s.map.sharing ≡ true → (intent : Intent) (cell : Cell Page) → Always (On (Left intent i)) (shared_access c size m s home i cell)
     shared_sound e intent (Present page) = shared_left e intent m sound
@@ -310,6 +313,8 @@ GoesOn old o = IsSound (left_by old o)
 pub slots_stay_sound : SlotsStaySound
 slots_stay_sound size k c None (slot.Mount options) new sound = always_mount (GoesOn None) (λ r. tt) empty_sound c size options
 slots_stay_sound size k c None other new sound = tt
-slots_stay_sound size k c (Some m) slot.Umount new sound = always_unless (GoesOn (Some m)) (λ r. sound) (umount_tests k m) (gives Done (Some m) None) (always_gives (GoesOn (Some m)) Done (Some m) None tt)
+slots_stay_sound size k c (Some m) slot.Umount new sound = always_unless (GoesOn (Some m)) (λ r. sound) (umount_tests k m) (gives Done (Some m) None)
+    (always_gives (GoesOn (Some m)) Done (Some m) None tt)
 slots_stay_sound size k c (Some m) e new sound =
-    always_weaker (On IsSoundMount) (GoesOn (Some m)) (left_good m sound) (on_mount size k c m e) (walk size k c m (Always (On IsSoundMount)) (leaves_walk size k c m IsSoundMount (stays_sound size k c m sound (not-true _ new))) e refl)
+    always_weaker (On IsSoundMount) (GoesOn (Some m)) (left_good m sound) (on_mount size k c m e)
+    (walk size k c m (Always (On IsSoundMount)) (leaves_walk size k c m IsSoundMount (stays_sound size k c m sound (not-true _ new))) e refl)

@@ -176,7 +176,8 @@ module _ (gone : ℕ) where
       (λ c. subst (λ x. Always (FadesTo s.page_size gone (slot_at s k)) (slot_event s.page_size k c (slot_at s k) (slot.ExitMaps x))) (sym of) (exits s.page_size gone k c (slot_at s k))) is
   event_fades s (OnSlot k (slot.ForkMaps parent child)) reply t of is =
       slot_fades s k (slot.ForkMaps parent child) reply t
-      (λ c. subst (λ x. Always (FadesTo s.page_size gone (slot_at s k)) (slot_event s.page_size k c (slot_at s k) (slot.ForkMaps parent x))) (sym of) (forks s.page_size gone k c (slot_at s k) parent)) is
+      (λ c. subst (λ x. Always (FadesTo s.page_size gone (slot_at s k)) (slot_event s.page_size k c (slot_at s k) (slot.ForkMaps parent x))) (sym of)
+      (forks s.page_size gone k c (slot_at s k) parent)) is
   event_fades s (OnSlot k other) reply t of is = absurd of
   event_fades s (OnPool e) reply t of is = absurd of
 

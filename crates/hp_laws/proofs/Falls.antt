@@ -1,5 +1,6 @@
 -- What only gives back: no count of a file or a mount is higher after it.
-use Rattle.std.proofs.Common.{◌≡◌, ⊎_elim, ℕ, zero, suc, ◌+◌, ◌-◌, ◌≤◌, Bool, true, false, not, None, Some, List, [], ◌∷◌, ◌++◌, length, map, take, drop, replicate, refl, sym, ap, ◌∙◌, cond, arith, if◌then◌else◌}
+use Rattle.std.proofs.Common.{◌≡◌, ⊎_elim, ℕ, zero, suc, ◌+◌, ◌-◌, ◌≤◌, Bool, true, false, not, None, Some, List}
+use Rattle.std.proofs.Common.{[], ◌∷◌, ◌++◌, length, map, take, drop, replicate, refl, sym, ap, ◌∙◌, cond, arith, if◌then◌else◌}
 use Rattle.std.specs.List.{list_any, sum_by, count_by, filter}
 use Rattle.std.proofs.lemmas.Bool.{or_left, or_right, or_cases}
 use Rattle.std.proofs.lemmas.List.Folds.{list_any-append}
@@ -124,7 +125,8 @@ copy_owes (Live true o) = omega arith
 copy_owes (Live false o) = omega arith
 
 -- each map falls
-maps_fall : (h : Map → Map) → ((t : ℕ → ℕ → Bool) (m : Map) → map_has t (h m) ≡ true → map_has t m ≡ true) → ((m : Map) → owner_reserves (h m) ≤ owner_reserves m) → (xs : List Map) → MapsFall xs (map h xs)
+maps_fall : (h : Map → Map) → ((t : ℕ → ℕ → Bool) (m : Map) → map_has t (h m) ≡ true → map_has t m ≡ true) →
+    ((m : Map) → owner_reserves (h m) ≤ owner_reserves m) → (xs : List Map) → MapsFall xs (map h xs)
 maps_fall h has owes xs = record { has = λ t. any_map_down (map_has t) (map_has t) h (has t) xs; reserves = sum_by-map_le owner_reserves h owes xs }
 
 punched_has : (a b : ℕ) (t : ℕ → ℕ → Bool) (m : Map) → map_has t (map_punched a b m) ≡ true → map_has t m ≡ true
@@ -197,7 +199,8 @@ forked_falls parent child f =
     let ours : List Map = filter (is_of parent) f.maps in
     file_falls f (file_forked parent child f) (same_cells f.cells) record {
       has = λ t. any_append (map_has t) kept (map (map_for child) ours) (list_any (map_has t) f.maps ≡ true) (any_filter (map_has t) (λ m. not (is_of child m)) f.maps)
-          (λ r. any_filter (map_has t) (is_of parent) f.maps (any_map_down (map_has t) (map_has t) (map_for child) (λ m. any_map_down (place_has t) (place_has t) unconsumed (fresh_has t) m.places) ours r));
+          (λ r. any_filter (map_has t) (is_of parent) f.maps (any_map_down (map_has t) (map_has t) (map_for child)
+          (λ m. any_map_down (place_has t) (place_has t) unconsumed (fresh_has t) m.places) ours r));
       reserves = (let parts = sum_by-append owner_reserves kept (map (map_for child) ours) in
           let less = sum_by-filter_le owner_reserves (λ m. not (is_of child m)) f.maps in
           omega (arith, parts, less, child_owes child ours));

@@ -1,5 +1,6 @@
 -- How the counts of a file change with one page: filled, copied, copied on a write.
-use Rattle.std.proofs.Common.{◌≡◌, ⊎_elim, subst, ◌++◌, ℕ, zero, suc, ◌+◌, ◌-◌, ◌<◌, Bool, true, false, ◌||◌, ◌==◌, Option, None, Some, List, [], ◌∷◌, length, map, refl, sym, ap, ◌∙◌, cond, arith, if◌then◌else◌, nat_lt}
+use Rattle.std.proofs.Common.{◌≡◌, ⊎_elim, subst, ◌++◌, ℕ, zero, suc, ◌+◌, ◌-◌, ◌<◌, Bool, true, false, ◌||◌, ◌==◌, Option}
+use Rattle.std.proofs.Common.{None, Some, List, [], ◌∷◌, length, map, refl, sym, ap, ◌∙◌, cond, arith, if◌then◌else◌, nat_lt}
 use Rattle.std.specs.List.{list_any, slice_set, slice_index_or, sum_by, count_by, filter_map, flat_map}
 use Rattle.std.proofs.lemmas.List.{map-append}
 use Rattle.std.proofs.lemmas.Bool.{or_parts, or_cases, or_left, or_right, and_from, and_parts, eq-eqb, eqb-true}
@@ -209,7 +210,11 @@ place_node q [] e = cc
 place_node q (Gone ∷ ps) e = place_node q ps e
 place_node q (Live c None ∷ ps) e = place_node q ps e
 place_node q (Live c (Some copy) ∷ ps) e =
-    ⊎_elim (λ h. (copy.page.node, or_left (is_stamp_at copy.page.node q copy.stamp copy.page.node) _ (and_from (copy.page.node == copy.page.node) (copy.stamp == q) (eq-eqb copy.page.node copy.page.node refl) h)))
+    ⊎_elim (λ h. (
+      copy.page.node,
+      or_left (is_stamp_at copy.page.node q copy.stamp copy.page.node)
+          _ (and_from (copy.page.node == copy.page.node) (copy.stamp == q) (eq-eqb copy.page.node copy.page.node refl) h),
+    ))
     (λ h. (let rest = place_node q ps h in (rest.0, or_right (is_stamp_at rest.0 q copy.stamp copy.page.node) _ rest.1)))
     (or_cases (copy.stamp == q) (list_any (place_has (is_stamp q)) ps) e)
 

@@ -1,5 +1,6 @@
 -- Each change of a file keeps it sound.
-use Rattle.std.proofs.Common.{◌≡◌, inl, inr, ℕ, zero, suc, ◌+◌, ◌-◌, ◌<◌, ◌≤◌, Bool, true, false, ◌&&◌, not, take, None, Some, List, [], ◌∷◌, length, map, get_or, replicate, cond, arith, refl, sym, ap, ◌∙◌, subst, nat_lt, if◌then◌else◌, length-append}
+use Rattle.std.proofs.Common.{◌≡◌, inl, inr, ℕ, zero, suc, ◌+◌, ◌-◌, ◌<◌, ◌≤◌, Bool, true, false, ◌&&◌, not, take, None, Some}
+use Rattle.std.proofs.Common.{List, [], ◌∷◌, length, map, get_or, replicate, cond, arith, refl, sym, ap, ◌∙◌, subst, nat_lt, if◌then◌else◌, length-append}
 use Rattle.std.specs.List.{slice_index_or, slice_set}
 use Rattle.std.proofs.lemmas.Bool.{and_parts, cases_eq, cond_both, false_from_ne_true, ltb-false, ltb-true}
 use Rattle.std.proofs.lemmas.List.{get_or-map, get_or-set_other, get_or-set_same, get_or_past, length-map, length-replicate, length-set, length-take}

@@ -1,5 +1,6 @@
 -- Names and numbers after files without a name and without maps are gone, or maps of some kind.
-use Rattle.std.proofs.Common.{◌≡◌, ⊎_elim, inl, subst, ℕ, zero, suc, ◌+◌, ◌<◌, ◌||◌, ◌==◌, Bool, true, false, not, Option, None, Some, is_some, List, [], ◌∷◌, length, map, option_map, add-one, get_or, refl, sym, ap, ◌∙◌, arith, if◌then◌else◌, nat_lt}
+use Rattle.std.proofs.Common.{◌≡◌, ⊎_elim, inl, subst, ℕ, zero, suc, ◌+◌, ◌<◌, ◌||◌, ◌==◌, Bool, true, false, not, Option, None}
+use Rattle.std.proofs.Common.{Some, is_some, List, [], ◌∷◌, length, map, option_map, add-one, get_or, refl, sym, ap, ◌∙◌, arith, if◌then◌else◌, nat_lt}
 use Rattle.std.specs.List.{filter, list_any}
 use Rattle.std.specs.Str.{bytes_eq}
 use Rattle.std.proofs.lemmas.Bool.{cases_eq, cases_order, eq-eqb, eqb-true, false_from_ne_true, or_right, lt-ltb, or_cases, and_parts}
@@ -79,7 +80,8 @@ module _ {X : Type 0} (keep : X → Bool) where
       not_apart e =
           let level = eqb-true (rank keep xs j) (rank keep xs k) e in
           ⊎_elim (λ same. same)
-          (λ apart. ⊎_elim (λ l. (let less = rank_less xs j k d l lj onj in absurd (omega (arith, less, level)))) (λ l. (let less = rank_less xs k j d l lk onk in absurd (omega (arith, less, level)))) apart)
+          (λ apart. ⊎_elim (λ l. (let less = rank_less xs j k d l lj onj in absurd (omega (arith, less, level))))
+          (λ l. (let less = rank_less xs k j d l lk onk in absurd (omega (arith, less, level)))) apart)
           (cases_order j k)
 
 -- ---- mounts
@@ -172,7 +174,8 @@ module _ (m : Mount) where
   some_map f test (Some p) q e = (p, refl, (let w : spot_in f p ≡ q = cc in w))
 
   -- what is found in the file, there or elsewhere
-  pub some_file : (test : Map → Bool) (o : Option (ℕ × File)) (q : Spot) → in_file test o ≡ Some q → (f : ℕ × File) × (o ≡ Some f) × ((p : ℕ × Map) × (found test f.1.maps ≡ Some p) × (spot_in f p ≡ q))
+  pub some_file : (test : Map → Bool) (o : Option (ℕ × File)) (q : Spot) → in_file test o ≡ Some q →
+      (f : ℕ × File) × (o ≡ Some f) × ((p : ℕ × Map) × (found test f.1.maps ≡ Some p) × (spot_in f p ≡ q))
   some_file test None q e = cc
   some_file test (Some f) q e = (f, refl, some_map f test (found test f.1.maps) q e)
 

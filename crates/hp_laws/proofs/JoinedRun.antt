@@ -13,7 +13,8 @@ use Rattle.hp_model.specs.declared.entry.TableEntry.{TableEntry}
 use Rattle.hp_model.specs.declared.event.Event.TheVariants.{Slot as OnSlot, Pool as OnPool}
 use Rattle.hp_model.specs.declared.event.PoolEvent.{PoolEvent}
 use Rattle.hp_model.specs.machine.Event.{IsEvent, IsEventRun, CanHappen, after, planned, settled, asked_pool, with_table, with_pool_reply}
-use Rattle.hp_model.specs.threads.JointRun.{slot_trail, Entry, InTasks, InSlot, InPool, Item, option_cons, keep, numbered, task_entry, slot_entry, section_entry, pool_entry, placed, task_part, slot_part, pool_part, IsThere, event_of, HasParts}
+use Rattle.hp_model.specs.threads.JointRun.{slot_trail, Entry, InTasks, InSlot, InPool, Item, option_cons, keep, numbered, task_entry}
+use Rattle.hp_model.specs.threads.JointRun.{slot_entry, section_entry, pool_entry, placed, task_part, slot_part, pool_part, IsThere, event_of, HasParts}
 use Rattle.hp_laws.specs.Laws.{JoinedLaw}
 use Rattle.hp_model.specs.threads.LocalRun.{Gives, Goes, IsLocalRun}
 use Rattle.hp_model.specs.machine.Machine.{pool_of, with_pool}
@@ -250,7 +251,8 @@ joined_law s t items table ends numbers st runs order =
     let apart : Apart table ends numbers s items = record {
       tasks = subst (λ (es : List TableEntry). IsTableRun (length s.nodes) s.table es table) (sym of_table) runs.tasks;
       slots = λ k below.
-          let at = dropped (slot_part k) (λ i. slot_entry k i.entry) items (slot_trail t k) (λ i. placed_second i.place (slot_entry k i.entry)) (order.slots k (subst (λ (x : ℕ). k < x) (sym runs.count) below)) in
+          let at = dropped (slot_part k) (λ i. slot_entry k i.entry) items (slot_trail t k) (λ i. placed_second i.place (slot_entry k i.entry))
+          (order.slots k (subst (λ (x : ℕ). k < x) (sym runs.count) below)) in
           subst (λ (es : List SlotEntry). IsLocalRun s.page_size k (slot_at s k) es (ends k)) (sym at) (runs.slots k below);
       pool = subst (λ (es : List PoolEntry). IsPoolRun (pool_of s) es numbers) (sym of_pools) runs.pool;
       there = subst (λ (x : ℕ). All (λ i. IsThere x i.entry) items) runs.count order.there;

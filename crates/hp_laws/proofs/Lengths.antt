@@ -11,7 +11,8 @@ use Rattle.hp_model.specs.declared.answer.Answer.TheVariants.{Done}
 use Rattle.hp_model.specs.declared.refusal.Refusal.TheVariants.{OutOfRange}
 use Rattle.hp_model.specs.pool.Grant.{can_grant, granted, surplus_times}
 use Rattle.hp_model.specs.machine.Machine.{pool_of, with_pool, rows_of, node_of}
-use Rattle.hp_model.specs.pool.NodeRows.{NodeRows, at_row, row_at, lowest, near, next_from, give_back_row, promote_row, demote_row, grow_row, put_row, take_row, shrink_row, add_surplus_row, total_of, grown, shrunk, promoted, demoted, given_back, free_of, surp_of, frames_of}
+use Rattle.hp_model.specs.pool.NodeRows.{NodeRows, at_row, row_at, lowest, near, next_from, give_back_row, promote_row, demote_row, grow_row, put_row, take_row}
+use Rattle.hp_model.specs.pool.NodeRows.{shrink_row, add_surplus_row, total_of, grown, shrunk, promoted, demoted, given_back, free_of, surp_of, frames_of}
 use Rattle.hp_model.specs.pool.Pool.{section, granted_at, no_pages, page_taken, take_node, kept_times, puts_from, released, settled, give_back_times}
 use Rattle.hp_model.specs.declared.section.PoolAnswer.{PoolAnswer}
 use Rattle.hp_model.specs.declared.section.Section.{Section}
@@ -45,7 +46,8 @@ long_surplus_times home zero s = refl
 long_surplus_times home (suc k) s = long_row add_surplus_row (near Idle home (surplus_times home k s).rows) (surplus_times home k s).rows ∙ long_surplus_times home k s
 
 long_raised : (s : NodeRows) → length (raised s).rows ≡ length s.rows
-long_raised s = cond_both (nat_lt 0 (surp_of s.rows)) (promoted s) (grown s) (λ (x : NodeRows). length x.rows ≡ length s.rows) (λ e. long_row promote_row (lowest Surplus s.rows) s.rows) (λ e. long_row grow_row (next_from Idle s.growth s.rows) s.rows)
+long_raised s = cond_both (nat_lt 0 (surp_of s.rows)) (promoted s) (grown s) (λ (x : NodeRows). length x.rows ≡ length s.rows)
+    (λ e. long_row promote_row (lowest Surplus s.rows) s.rows) (λ e. long_row grow_row (next_from Idle s.growth s.rows) s.rows)
 
 long_raise_times : (k : ℕ) (s : NodeRows) → length (raise_times k s).rows ≡ length s.rows
 long_raise_times zero s = refl
@@ -53,7 +55,8 @@ long_raise_times (suc k) s = long_raised (raise_times k s) ∙ long_raise_times 
 
 long_lowered : (reserved : ℕ) (s : NodeRows) → length (lowered reserved s).rows ≡ length s.rows
 long_lowered reserved s =
-    cond_both (nat_lt reserved (free_of s.rows)) (shrunk s) (demoted s) (λ (x : NodeRows). length x.rows ≡ length s.rows) (λ e. long_row shrink_row (next_from Free s.release s.rows) s.rows) (λ e. long_row demote_row (lowest Persistent s.rows) s.rows)
+    cond_both (nat_lt reserved (free_of s.rows)) (shrunk s) (demoted s) (λ (x : NodeRows). length x.rows ≡ length s.rows)
+    (λ e. long_row shrink_row (next_from Free s.release s.rows) s.rows) (λ e. long_row demote_row (lowest Persistent s.rows) s.rows)
 
 long_lower_times : (reserved k : ℕ) (s : NodeRows) → length (lower_times reserved k s).rows ≡ length s.rows
 long_lower_times reserved zero s = refl

@@ -79,7 +79,8 @@ child_copy (Live c o) = refl
 
 child_at : (child i : ℕ) (x : Map) → copy_of (place_at (map_for child x) i) ≡ copy_of (place_at x i)
 child_at child i x =
-    elim (nat_lt i x.start) as (λ b. copy_of (if b then Gone else slice_index_or (map unconsumed x.places) (i - x.start) Gone) ≡ copy_of (if b then Gone else slice_index_or x.places (i - x.start) Gone)) [
+    elim (nat_lt i x.start) as (λ b. copy_of (if b then Gone else slice_index_or (map unconsumed x.places) (i - x.start) Gone)
+    ≡ copy_of (if b then Gone else slice_index_or x.places (i - x.start) Gone)) [
       | true ↦ refl
       | false ↦ ap copy_of (get_map unconsumed Gone refl x.places (i - x.start)) ∙ child_copy (get_or x.places (i - x.start) Gone)
     ]

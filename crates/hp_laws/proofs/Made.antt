@@ -1,5 +1,6 @@
 -- A created file and a new map are what their reply says.
-use Rattle.std.proofs.Common.{◌≡◌, subst, ℕ, ◌<◌, ◌||◌, Bool, true, false, not, None, Option, Some, Err, List, [], ◌∷◌, ◌++◌, length, drop, is_some, option_map, refl, sym, ap, ◌∙◌, get_or, if◌then◌else◌}
+use Rattle.std.proofs.Common.{◌≡◌, subst, ℕ, ◌<◌, ◌||◌, Bool, true, false, not, None, Option, Some, Err, List}
+use Rattle.std.proofs.Common.{[], ◌∷◌, ◌++◌, length, drop, is_some, option_map, refl, sym, ap, ◌∙◌, get_or, if◌then◌else◌}
 use Rattle.std.specs.List.{flat_map, list_any, slice_index_or, slice_set}
 use Rattle.std.proofs.lemmas.Bool.{eq-eqb, eqb-true, false_from_ne_true, ltb-true}
 use Rattle.std.proofs.lemmas.List.{get_or-set_same}
@@ -168,7 +169,8 @@ found_none : {X : Type 0} (t : X → Bool) (xs : List X) → found t xs ≡ None
 found_none t [] e = refl
 found_none {X = X} t (x ∷ xs) e = by_head (t x) refl (found t xs) refl e (found_none t xs)
   where
-    by_head : (b : Bool) → t x ≡ b → (r : Option (ℕ × X)) → found t xs ≡ r → (if b then Some (0, x) else option_map one_on r) ≡ None → (found t xs ≡ None → list_any t xs ≡ false) → list_any t (x ∷ xs) ≡ false
+    by_head : (b : Bool) → t x ≡ b → (r : Option (ℕ × X)) → found t xs ≡ r → (if b then Some (0, x) else option_map one_on r) ≡ None →
+        (found t xs ≡ None → list_any t xs ≡ false) → list_any t (x ∷ xs) ≡ false
     by_head true is r was e rest = cc
     by_head false is None was e rest = rw (is, rest was) refl
     by_head false is (Some p) was e rest = cc
@@ -207,7 +209,8 @@ module _ (s : State) where
     map_makes : (task : ℕ) (name : List ℕ) (a n : ℕ) (sharing : Sharing) (reserving : Reserving) (o : Outcome) → MapMade (slot_at s k) name task a n sharing reserving o
         → t.slots ≡ slice_set s.slots k (left_by (slot_at s k) o) → Makes s (MapStep task k name a n sharing reserving) (reply_of o) t
     map_makes task name a n sharing reserving (Refused r) h slots = tt
-    map_makes task name a n sharing reserving (Answered (MapNo number) new) h slots = subst (λ x. IsNewMap (slot_at s k) x name (new_map task number a n sharing reserving)) (sym (left_there new slots)) h
+    map_makes task name a n sharing reserving (Answered (MapNo number) new) h slots =
+        subst (λ x. IsNewMap (slot_at s k) x name (new_map task number a n sharing reserving)) (sym (left_there new slots)) h
     map_makes task name a n sharing reserving (Answered other new) h slots = absurd h
 
     anon_makes : (task n : ℕ) (sharing : Sharing) (reserving : Reserving) (o : Outcome) → k ≡ 0 → AnonMade (slot_at s k) task n sharing reserving o
@@ -240,4 +243,5 @@ module _ (s : State) where
   event_makes (OnPool other) reply t whole is = tt
 
   pub step_makes : (reply : Reply) (t : State) (step : Step) → IsStep s step reply t → Makes s step reply t
-  step_makes reply t step is = by_event s (λ step reply t. Makes s step reply t) (λ step r early. makes_none s step r) event_makes (λ parent child reply t is. tt) (λ task reply t is. tt) reply t step is
+  step_makes reply t step is = by_event s (λ step reply t. Makes s step reply t) (λ step r early. makes_none s step r) event_makes
+      (λ parent child reply t is. tt) (λ task reply t is. tt) reply t step is

@@ -55,7 +55,14 @@ wait_one (Present page) = refl
 wait_more : (xs : List (Cell Page)) → count_by is_waiting (map entered xs) ≡ count_by is_waiting xs + count_by is_hole xs
 wait_more [] = refl
 wait_more (x ∷ xs) =
-    omega (arith, sum_by-cons (λ x. cond (is_waiting x) 1 0) (entered x) (map entered xs), sum_by-cons (λ x. cond (is_waiting x) 1 0) x xs, sum_by-cons (λ x. cond (is_hole x) 1 0) x xs, wait_one x, wait_more xs)
+    omega (
+      arith,
+      sum_by-cons (λ x. cond (is_waiting x) 1 0) (entered x) (map entered xs),
+      sum_by-cons (λ x. cond (is_waiting x) 1 0) x xs,
+      sum_by-cons (λ x. cond (is_hole x) 1 0) x xs,
+      wait_one x,
+      wait_more xs,
+    )
 
 range_same : (test : Cell Page → Bool) → test Entered ≡ test Hole → (a b : ℕ) (xs : List (Cell Page)) → count_by test (edit_range entered a b xs) ≡ count_by test xs
 range_same test e a b xs =

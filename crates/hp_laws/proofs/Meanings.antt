@@ -55,7 +55,8 @@ module _ (m : Mount) where
   placed_new f = placed m (with_new m f) (subst (λ ks. KeysLead (keys m) ks) (sym (keys_more file_key m.files f)) (lead_more (keys m) (file_key f ∷ [])))
 
   -- the number of a new map is no map's yet
-  no_key : (task a n : ℕ) (sharing : Sharing) (reserving : Reserving) (t u : ℕ) → is_key t u (shape_of (new_map task (next_number task m) a n sharing reserving)) ≡ true → key_places (is_key t u) (keys m) ≡ None
+  no_key : (task a n : ℕ) (sharing : Sharing) (reserving : Reserving) (t u : ℕ) →
+      is_key t u (shape_of (new_map task (next_number task m) a n sharing reserving)) ≡ true → key_places (is_key t u) (keys m) ≡ None
   no_key task a n sharing reserving t u e =
       let parts = and_parts (task == t) (next_number task m == u) e in
       subst (λ (x : ℕ). key_places (is_key x u) (keys m) ≡ None) (eqb-true task t parts.0)
@@ -68,15 +69,18 @@ module _ (m : Mount) where
       let number = next_number task m in
       let g = mapped task number a n sharing reserving f.1 in
       let at = found_place (has_name name) m.files f is in
-      let key : file_key g ≡ ((file_key f.1).0, (file_key f.1).1 ++ shape_of (new_map task number a n sharing reserving) ∷ []) = ap (λ ks. (f.1.name, ks)) (keys_more shape_of f.1.maps (new_map task number a n sharing reserving)) in
+      let key : file_key g ≡ ((file_key f.1).0, (file_key f.1).1 ++ shape_of (new_map task number a n sharing reserving) ∷ []) =
+      ap (λ ks. (f.1.name, ks)) (keys_more shape_of f.1.maps (new_map task number a n sharing reserving)) in
       placed m (with_file m f.0 g)
       (subst (λ ks. KeysLead (keys m) ks) (sym (keys_set file_key m.files f.0 g ∙ ap (slice_set (keys m) f.0) key))
-      (lead_added (keys m) f.0 (file_key f.1) (shape_of (new_map task number a n sharing reserving)) (λ d. key_at file_key m.files f.0 f.1 d at.within ∙ ap file_key (at.is f.1)) (no_key task a n sharing reserving)))
+      (lead_added (keys m) f.0 (file_key f.1) (shape_of (new_map task number a n sharing reserving))
+      (λ d. key_at file_key m.files f.0 f.1 d at.within ∙ ap file_key (at.is f.1)) (no_key task a n sharing reserving)))
 
 -- what a store writes leaves names and numbers
 written_key : (s : Spot) (i offset : ℕ) (bytes : List ℕ) (f : File) → file_key (file_written s i offset bytes f) ≡ file_key f
 written_key s i offset bytes f =
-    cond_both (is_shared s.map.sharing) (record f { cells = edit_at (cell_written offset bytes) f.cells i }) (record f { maps = edit_at (map_written i offset bytes) f.maps s.map_no }) (λ (y : File). file_key y ≡ file_key f)
+    cond_both (is_shared s.map.sharing) (record f { cells = edit_at (cell_written offset bytes) f.cells i })
+    (record f { maps = edit_at (map_written i offset bytes) f.maps s.map_no }) (λ (y : File). file_key y ≡ file_key f)
     (λ e. refl) (λ e. ap (λ ks. (f.name, ks)) (key_edit shape_of (map_written i offset bytes)
     (λ x. pages_same x x.unmapped (map_written i offset bytes x).places (length-edit_at (place_written offset bytes) x.places (i - x.start))) f.maps s.map_no))
 
@@ -104,7 +108,8 @@ module _ (c : Choice) (m : Mount) where
   store_on size task number home i offset bytes =
       found_on task number (store c size m home i offset bytes)
       (λ s at. then_on (λ n. Answered Done (Some (written n s i offset bytes))) (byte_access c size m home i offset (length bytes) Write s)
-      (λ n h. key_edit file_key (file_written s i offset bytes) (written_key s i offset bytes) n.files s.file_no ∙ h) (bytes_on c m Stays refl s at (in_place s at) size home i offset (length bytes) Write))
+      (λ n h. key_edit file_key (file_written s i offset bytes) (written_key s i offset bytes) n.files s.file_no ∙ h)
+      (bytes_on c m Stays refl s at (in_place s at) size home i offset (length bytes) Write))
 
   pub fault_on : (size task number home i : ℕ) (intent : Intent) → Always (On Stays) (with_value (spot m (is_map task number)) NoSuchMap (fault c size m home i intent))
   fault_on size task number home i intent =

@@ -21,7 +21,8 @@ use Rattle.hp_model.specs.machine.Event.{IsEvent}
 use Rattle.hp_model.specs.files.File.{File, cell_at}
 use Rattle.hp_model.specs.files.Page.{zeros}
 use Rattle.hp_model.specs.machine.Plan.{Choice, Outcome, Refused, Answered, Reply, Slot}
-use Rattle.hp_model.specs.machine.Promises.{IsKeptMap, LosesTo, SameFiles, StillMapped, StillNamed, is_at, is_ended_name, is_ended_number, is_in, is_shared_of, map_at, map_named, means_file, named_on, over, reaches, seen_over, shown_in, spot_on, stays_mapped, stored_over}
+use Rattle.hp_model.specs.machine.Promises.{IsKeptMap, LosesTo, SameFiles, StillMapped, StillNamed, is_at, is_ended_name, is_ended_number, is_in, is_shared_of, map_at}
+use Rattle.hp_model.specs.machine.Promises.{map_named, means_file, named_on, over, reaches, seen_over, shown_in, spot_on, stays_mapped, stored_over}
 use Rattle.hp_model.specs.machine.Settled.{IsSettledState}
 use Rattle.hp_model.specs.machine.SlotEvent.{slot_event}
 use Rattle.hp_model.specs.machine.Sound.{IsSound}
@@ -232,7 +233,8 @@ exit_meant s task (Err r) t is =
 
 -- ---- each step
 
-module _ (s : State) (h : (k : ℕ) (c : Choice) (e : SlotEvent) → IsSound (slot_at s k) → Always (KeepsSlot s.page_size (slot_at s k) e) (slot_event s.page_size k c (slot_at s k) e)) (st : IsSettledState s) where
+module _ (s : State) (h : (k : ℕ) (c : Choice) (e : SlotEvent) → IsSound (slot_at s k) →
+    Always (KeepsSlot s.page_size (slot_at s k) e) (slot_event s.page_size k c (slot_at s k) e)) (st : IsSettledState s) where
   outcome_meant : (k : ℕ) (e : SlotEvent) (t : State) (o : Outcome) → k < length s.slots → t.page_size ≡ s.page_size → t.slots ≡ slice_set s.slots k (left_by (slot_at s k) o)
       → KeepsSlot s.page_size (slot_at s k) e o → Meant s (slot_step k e) (reply_of o) t
   outcome_meant k e t (Refused r) l size slots keeps o =

@@ -187,7 +187,8 @@ module _ (parent child task number : ℕ) where
   kept_count : (xs : List Map) (b : Bool) → (task == child) ≡ b → count_by (is_map task number) (filter (λ x. not (is_of child x)) xs) ≤ cond b 0 (count_by (is_map task number) xs)
   kept_count xs true e =
       let none = filter_none (is_map task number) (λ x. not (is_of child x))
-      (λ x kept passes. both_ways (x.task == child) (not-true (x.task == child) kept) (ap (λ t. t == child) (eqb-true x.task task (and_parts (x.task == task) (x.number == number) passes).0) ∙ e)) xs in
+      (λ x kept passes. both_ways (x.task == child) (not-true (x.task == child) kept)
+      (ap (λ t. t == child) (eqb-true x.task task (and_parts (x.task == task) (x.number == number) passes).0) ∙ e)) xs in
       omega (arith, none)
   kept_count xs false e = filter_count (is_map task number) (is_map task number) (λ x. not (is_of child x)) (λ x kept passes. passes) xs
 

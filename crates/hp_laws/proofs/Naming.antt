@@ -1,5 +1,6 @@
 -- The number of a new map is one that its task doesn't use, and where such a map is found.
-use Rattle.std.proofs.Common.{◌≡◌, ⊎_elim, inl, inr, ◌⊎◌, subst, ℕ, zero, suc, ◌+◌, ◌<◌, ◌≤◌, ◌||◌, ◌==◌, Bool, true, false, None, Option, Some, List, [], ◌∷◌, ◌++◌, length, option_map, add-one, not, refl, ap, arith, if◌then◌else◌}
+use Rattle.std.proofs.Common.{◌≡◌, ⊎_elim, inl, inr, ◌⊎◌, subst, ℕ, zero, suc, ◌+◌, ◌<◌, ◌≤◌, ◌||◌, ◌==◌, Bool, true}
+use Rattle.std.proofs.Common.{false, None, Option, Some, List, [], ◌∷◌, ◌++◌, length, option_map, add-one, not, refl, ap, arith, if◌then◌else◌}
 use Rattle.std.specs.List.{list_any, position_or_len, range_with_len, slice_set}
 use Rattle.std.proofs.lemmas.Bool.{eqb-true, false_from_ne_true, or_cases}
 use Rattle.hp_model.specs.Lists.{distinct, found, is_among, least_unused, one_on}
@@ -35,7 +36,8 @@ first_or_none t a (suc k) = by_test (t a) refl (first_or_none t (a + 1) k)
   where
     by_test : (b : Bool) → t a ≡ b → FirstOrNone t (a + 1) (range_with_len (a + 1) k) → FirstOrNone t a (range_with_len a (suc k))
     by_test true is rest = inl (rw is (subst (λ x. t x ≡ true) {x = a} {y = a + 0} (omega arith) is))
-    by_test false is (inl e) = inl (rw is (subst (λ x. t x ≡ true) {x = a + 1 + position_or_len t (range_with_len (a + 1) k)} {y = a + (1 + position_or_len t (range_with_len (a + 1) k))} (omega arith) e))
+    by_test false is (inl e) = inl (rw is (subst (λ x. t x ≡ true) {x = a + 1 + position_or_len t (range_with_len (a + 1) k)}
+        {y = a + (1 + position_or_len t (range_with_len (a + 1) k))} (omega arith) e))
     by_test false is (inr none) = inr (λ q e. ⊎_elim (λ here. subst (λ x. t x ≡ false) (eqb-true a q here) is) (λ later. none q later) (or_cases (a == q) (is_among q (range_with_len (a + 1) k)) e))
 
 not_not : (b : Bool) → not b ≡ true → b ≡ false
@@ -81,7 +83,8 @@ module _ {X : Type 0} (t : X → Bool) where
 
   pub found_last : (xs : List X) (y : X) → list_any t xs ≡ false → t y ≡ true → found t (xs ++ y ∷ []) ≡ Some (length xs, y)
   found_last [] y none is = rw is refl
-  found_last (x ∷ xs) y none is = rw (none_first (t x) (list_any t xs) none, found_last xs y (none_later (t x) (list_any t xs) none) is) (ap (λ (n : ℕ). Some (n, y)) {x = length xs + 1} {y = suc (length xs)} (omega arith))
+  found_last (x ∷ xs) y none is = rw (none_first (t x) (list_any t xs) none, found_last xs y (none_later (t x) (list_any t xs) none) is)
+      (ap (λ (n : ℕ). Some (n, y)) {x = length xs + 1} {y = suc (length xs)} (omega arith))
 
   -- one is put in the place of another, where none passes
   pub found_put : (xs : List X) (k : ℕ) (y : X) → k < length xs → list_any t xs ≡ false → t y ≡ true → found t (slice_set xs k y) ≡ Some (k, y)

@@ -1,5 +1,6 @@
 -- The pages at the nodes together are no more than the pages.
-use Rattle.std.proofs.Common.{◌≡◌, ◌≢◌, ⊎_elim, subst, ℕ, zero, suc, ◌+◌, ◌<◌, ◌≤◌, Bool, true, false, ◌&&◌, ◌==◌, not, None, Some, List, [], ◌∷◌, length, map, refl, sym, ap, ◌∙◌, cond, arith, if◌then◌else◌}
+use Rattle.std.proofs.Common.{◌≡◌, ◌≢◌, ⊎_elim, subst, ℕ, zero, suc, ◌+◌, ◌<◌, ◌≤◌, Bool, true, false, ◌&&◌, ◌==◌}
+use Rattle.std.proofs.Common.{not, None, Some, List, [], ◌∷◌, length, map, refl, sym, ap, ◌∙◌, cond, arith, if◌then◌else◌}
 use Rattle.std.specs.List.{sum_by, count_by, filter_map, cons_option, range_with_len, All}
 use Rattle.std.proofs.lemmas.Bool.{or_cases, or_left, or_right, eq-eqb, eqb-true, ne_eqb}
 use Rattle.std.proofs.lemmas.List.Elements.{All-head, All-tail}
@@ -66,7 +67,11 @@ among_here false s rest e = cc
 some_node : (q : ℕ) (cs : List Copy) → is_among q (map (λ c. c.stamp) cs) ≡ true → (n : ℕ) × (is_among q (held_at n cs) ≡ true)
 some_node q [] e = cc
 some_node q (c ∷ cs) e =
-    ⊎_elim (λ l. (c.page.node, subst (λ (s : ℕ). is_among s (held_at c.page.node (c ∷ cs)) ≡ true) (eqb-true c.stamp q l) (among_here (c.page.node == c.page.node) c.stamp (held_at c.page.node cs) (eq-eqb c.page.node c.page.node refl))))
+    ⊎_elim (λ l. (
+      c.page.node,
+      subst (λ (s : ℕ). is_among s (held_at c.page.node (c ∷ cs)) ≡ true) (eqb-true c.stamp q l)
+          (among_here (c.page.node == c.page.node) c.stamp (held_at c.page.node cs) (eq-eqb c.page.node c.page.node refl)),
+    ))
     (λ r. (let rest = some_node q cs r in (rest.0, among_if (c.page.node == rest.0) q c.stamp (held_at rest.0 cs) rest.1)))
     (or_cases (c.stamp == q) (is_among q (map (λ c. c.stamp) cs)) e)
 
@@ -74,7 +79,8 @@ at_most_one : (b : Bool) (n : ℕ) → cond b n (n + 1) ≤ n + 1
 at_most_one true n = omega arith
 at_most_one false n = omega arith
 
-one_step : (x b : Bool) (s : ℕ) (rest : List ℕ) → (x ≡ true → b ≡ true → is_among s rest ≡ true) → length (distinct (cons_option (if x then Some s else None) rest)) ≤ length (distinct rest) + cond (not b && x) 1 0
+one_step : (x b : Bool) (s : ℕ) (rest : List ℕ) → (x ≡ true → b ≡ true → is_among s rest ≡ true) →
+    length (distinct (cons_option (if x then Some s else None) rest)) ≤ length (distinct rest) + cond (not b && x) 1 0
 one_step false true s rest h = omega arith
 one_step false false s rest h = omega arith
 one_step true true s rest h =
@@ -97,11 +103,13 @@ copies_more ns once c cs agreed true e rest =
     omega (arith, sums, long, rest)
 copies_more ns once c cs agreed false e rest =
     let stamps : List ℕ = map (λ c. c.stamp) cs in
-    let sums = sum_one (λ n. length (distinct (held_at n cs))) (λ n. length (distinct (held_at n (c ∷ cs)))) c.page.node (λ n. one_step (c.page.node == n) false c.stamp (held_at n cs) (λ is t. cc)) ns in
+    let sums = sum_one (λ n. length (distinct (held_at n cs))) (λ n. length (distinct (held_at n (c ∷ cs)))) c.page.node
+    (λ n. one_step (c.page.node == n) false c.stamp (held_at n cs) (λ is t. cc)) ns in
     let long = length_if (is_among c.stamp stamps) c.stamp (distinct stamps) ∙ ap (λ b. cond b (length (distinct stamps)) (length (distinct stamps) + 1)) e in
     omega (arith, sums, long, rest, once c.page.node)
 
-copies_below : (ns : List ℕ) → ((node : ℕ) → count_by (λ n. node == n) ns ≤ 1) → (cs : List Copy) → Agreed cs → sum_by (λ n. length (distinct (held_at n cs))) ns ≤ length (distinct (map (λ c. c.stamp) cs))
+copies_below : (ns : List ℕ) → ((node : ℕ) → count_by (λ n. node == n) ns ≤ 1) → (cs : List Copy) → Agreed cs →
+    sum_by (λ n. length (distinct (held_at n cs))) ns ≤ length (distinct (map (λ c. c.stamp) cs))
 copies_below ns once [] agreed = omega (arith, sum_none ns)
 copies_below ns once (c ∷ cs) agreed =
     let tail : Agreed cs = λ q m n a b. agreed q m n (among_if (c.page.node == m) q c.stamp (held_at m cs) a) (among_if (c.page.node == n) q c.stamp (held_at n cs) b) in
@@ -160,12 +168,14 @@ held_among : (q n : ℕ) (cs : List Copy) → is_among q (held_at n cs) ≡ true
 held_among q n [] e = e
 held_among q n (c ∷ cs) e = held_if (c.page.node == n) q c.stamp (held_at n cs) (map (λ c. c.stamp) cs) (held_among q n cs) e
   where
-    held_if : (b : Bool) (q s : ℕ) (held stamps : List ℕ) → (is_among q held ≡ true → is_among q stamps ≡ true) → is_among q (cons_option (if b then Some s else None) held) ≡ true → is_among q (s ∷ stamps) ≡ true
+    held_if : (b : Bool) (q s : ℕ) (held stamps : List ℕ) → (is_among q held ≡ true → is_among q stamps ≡ true) →
+        is_among q (cons_option (if b then Some s else None) held) ≡ true → is_among q (s ∷ stamps) ≡ true
     held_if true q s held stamps h e = ⊎_elim (λ l. or_left (s == q) _ l) (λ r. or_right (s == q) _ (h r)) (or_cases (s == q) (is_among q held) e)
     held_if false q s held stamps h e = or_right (s == q) _ (h e)
 
 -- a stamp that the others don't have makes one more
-one_more : (x b : Bool) (s : ℕ) (rest : List ℕ) → (b ≡ false → is_among s rest ≡ false) → length (distinct rest) + cond (not b && x) 1 0 ≤ length (distinct (cons_option (if x then Some s else None) rest))
+one_more : (x b : Bool) (s : ℕ) (rest : List ℕ) → (b ≡ false → is_among s rest ≡ false) →
+    length (distinct rest) + cond (not b && x) 1 0 ≤ length (distinct (cons_option (if x then Some s else None) rest))
 one_more false true s rest h = omega arith
 one_more false false s rest h = omega arith
 one_more true true s rest h = omega (arith, length_if (is_among s rest) s (distinct rest), at_least_all (is_among s rest) (length (distinct rest)))

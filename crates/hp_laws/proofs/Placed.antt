@@ -1,5 +1,6 @@
 -- Names and numbers are found where they were, after each change that ends neither.
-use Rattle.std.proofs.Common.{◌≡◌, ⊎_elim, subst, ℕ, zero, suc, ◌+◌, ◌||◌, ◌==◌, Bool, true, false, None, Option, Some, List, [], ◌∷◌, ◌++◌, option_map, get_or, refl, sym, ap, ◌∙◌, arith, if◌then◌else◌}
+use Rattle.std.proofs.Common.{◌≡◌, ⊎_elim, subst, ℕ, zero, suc, ◌+◌, ◌||◌, ◌==◌, Bool, true, false, None, Option}
+use Rattle.std.proofs.Common.{Some, List, [], ◌∷◌, ◌++◌, option_map, get_or, refl, sym, ap, ◌∙◌, arith, if◌then◌else◌}
 use Rattle.std.specs.List.{slice_set}
 use Rattle.std.proofs.lemmas.Bool.{cases_eq, eq-eqb, eqb-true, false_from_ne_true}
 use Rattle.hp_model.specs.files.File.{File, Mount}
@@ -80,7 +81,8 @@ found_set {X = X} t (x ∷ xs) zero y same = by_head (t x) (t y) same (found t x
     by_head false false w (Some p) = ap Some (first_later y p)
 found_set {X = X} t (x ∷ xs) (suc j) y same = by_head (t x) (found t xs) (found t (slice_set xs j y)) (found_set t xs j y same)
   where
-    by_head : (b : Bool) (r s : Option (ℕ × X)) → s ≡ option_map (put_at j y) r → (if b then Some (0, x) else option_map one_on s) ≡ option_map (put_at (suc j) y) (if b then Some (0, x) else option_map one_on r)
+    by_head : (b : Bool) (r s : Option (ℕ × X)) → s ≡ option_map (put_at j y) r →
+        (if b then Some (0, x) else option_map one_on s) ≡ option_map (put_at (suc j) y) (if b then Some (0, x) else option_map one_on r)
     by_head true r s rest = ap (λ b. Some (0, if b then y else x)) (sym (zero_not_suc j))
     by_head false None s rest = ap (option_map one_on) rest
     by_head false (Some p) s rest = ap (option_map one_on) rest ∙ ap Some (later j y p)
@@ -114,18 +116,25 @@ module _ (ks : List FileKey) (j : ℕ) (k : FileKey) (new : Shape) (there : (d :
   lead_added = record { names = names; numbers = λ task number x e. numbers task number x (is_key task number new) refl e }
     where
       names : (name : List ℕ) (q : ℕ × FileKey) → found (is_named name) ks ≡ Some q → (l : ℕ × FileKey) × (found (is_named name) (slice_set ks j with_new) ≡ Some l) × (l.0 ≡ q.0)
-      names name q e = (put_at j with_new q, found_set (is_named name) ks j with_new (ap (is_named name) (sym (ap (λ (f : FileKey). (f.0, k.1 ++ new ∷ [])) (there with_new)))) ∙ ap (option_map (put_at j with_new)) e, refl)
+      names name q e = (
+        put_at j with_new q,
+        found_set (is_named name) ks j with_new
+            (ap (is_named name) (sym (ap (λ (f : FileKey). (f.0, k.1 ++ new ∷ [])) (there with_new)))) ∙ ap (option_map (put_at j with_new)) e,
+        refl,
+      )
 
       numbers : (task number : ℕ) (x : Where) (b : Bool) → is_key task number new ≡ b → key_places (is_key task number) ks ≡ Some x → key_places (is_key task number) (slice_set ks j with_new) ≡ Some x
       numbers task number x true is e = (let none = fresh task number is in cc)
       numbers task number x false is e = by_file (found (has_key (is_key task number)) ks) refl e
         where
-          by_file : (o : Option (ℕ × FileKey)) → found (has_key (is_key task number)) ks ≡ o → in_key (is_key task number) o ≡ Some x → key_places (is_key task number) (slice_set ks j with_new) ≡ Some x
+          by_file : (o : Option (ℕ × FileKey)) → found (has_key (is_key task number)) ks ≡ o → in_key (is_key task number) o ≡ Some x →
+              key_places (is_key task number) (slice_set ks j with_new) ≡ Some x
           by_file None was e = cc
           by_file (Some q) was e =
               let place = found_place (has_key (is_key task number)) ks q was in
               ap (in_key (is_key task number))
-              (found_set (has_key (is_key task number)) ks j with_new (still_has (is_key task number) is ∙ ap (has_key (is_key task number)) (sym (there with_new))) ∙ ap (option_map (put_at j with_new)) was)
+              (found_set (has_key (is_key task number)) ks j with_new (still_has (is_key task number) is
+              ∙ ap (has_key (is_key task number)) (sym (there with_new))) ∙ ap (option_map (put_at j with_new)) was)
               ∙ in_more (is_key task number) q x (q.0 == j) (λ here. sym (place.is k) ∙ ap (λ n. get_or ks n k) (eqb-true q.0 j here) ∙ there k) e
 
 -- ---- mounts

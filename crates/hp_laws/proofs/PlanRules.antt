@@ -85,7 +85,8 @@ module _ (W : Plan → Type 0) where
 
       plan_uncopied : (consumed : Bool) (intent : Intent) → W (uncopied_access c size m s home i consumed intent)
       plan_uncopied consumed Write = plan_new consumed
-      plan_uncopied consumed Read = either (has_page (cell_at s.file i)) (Finish (Answered Done (Some m))) (new_copy c size m s home i consumed) (rules.done (Answered Done (Some m))) (plan_new consumed)
+      plan_uncopied consumed Read = either (has_page (cell_at s.file i)) (Finish (Answered Done (Some m))) (new_copy c size m s home i consumed)
+          (rules.done (Answered Done (Some m))) (plan_new consumed)
 
       plan_owner : (stamp : ℕ) (n : ℕ → Slot) → W (owner_write m s home stamp (λ node. Answered Done (n node)))
       plan_owner stamp n =
@@ -104,7 +105,8 @@ module _ (W : Plan → Type 0) where
       plan_private Gone intent = rules.done (Refused OutOfRange)
       plan_private (Live consumed (Some copy)) Read = rules.done (Answered Done (Some m))
       plan_private (Live consumed (Some copy)) Write = plan_copy consumed copy
-      plan_private (Live consumed None) intent = either s.map.unmapped (refuse TakenByOwner) (uncopied_access c size m s home i consumed intent) (rules.done (Refused TakenByOwner)) (plan_uncopied consumed intent)
+      plan_private (Live consumed None) intent = either s.map.unmapped (refuse TakenByOwner) (uncopied_access c size m s home i consumed intent)
+          (rules.done (Refused TakenByOwner)) (plan_uncopied consumed intent)
 
       plan_access : (intent : Intent) → W (access c size m s home i intent)
       plan_access intent =

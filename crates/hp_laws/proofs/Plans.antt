@@ -14,7 +14,8 @@ use Rattle.hp_model.specs.machine.Plan.{slot_usage}
 use Rattle.hp_model.specs.files.File.{Mount}
 use Rattle.hp_model.specs.pool.Grant.{rise, is_full, is_over}
 use Rattle.hp_model.specs.files.MountCounts.{pages_at, usage_of}
-use Rattle.hp_model.specs.machine.Plan.{Slot, Outcome, Refused, Answered, Plan, Finish, Ask, Choice, refuse, unless, continued, and_then, grant, grant_page, reserved_page, when_granted, slot_committed, slot_pages_at, puts_of, fall_of, gives}
+use Rattle.hp_model.specs.machine.Plan.{Slot, Outcome, Refused, Answered, Plan, Finish, Ask, Choice, refuse, unless, continued}
+use Rattle.hp_model.specs.machine.Plan.{and_then, grant, grant_page, reserved_page, when_granted, slot_committed, slot_pages_at, puts_of, fall_of, gives}
 use Rattle.hp_model.specs.declared.section.Section.TheVariants.{Grant, GiveBack}
 use Rattle.hp_model.specs.declared.limits.Limits.{Limits}
 use Rattle.hp_laws.proofs.MountMoves.{MountGrows, MountFalls}
@@ -180,7 +181,8 @@ still_limited old m n same first =
     let usage = same.usage in
     ⊎_elim (λ l. inl (omega (arith, usage, l))) (λ w. inr (within_same n.limits m.limits (usage_of n) (usage_of m) same.limits (omega (arith, usage)) w)) first
 
-then_stays : (old : Slot) (m n : Mount) (raised lowered : ℕ) (taken put : ℕ → ℕ) (takes : Bool) → Change old (Some m) raised lowered taken put takes → MountGrows m n 0 0 0 → Change old (Some n) raised lowered taken put takes
+then_stays : (old : Slot) (m n : Mount) (raised lowered : ℕ) (taken put : ℕ → ℕ) (takes : Bool) → Change old (Some m) raised lowered taken put takes →
+    MountGrows m n 0 0 0 → Change old (Some n) raised lowered taken put takes
 then_stays old m n raised lowered taken put takes first grows =
     let same = grown_same m n grows in
     record {

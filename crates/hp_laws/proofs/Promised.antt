@@ -60,14 +60,20 @@ module _ (s : State) (st : IsSettledState s) (reply : Reply) (t : State) where
   event_reaches : (e : Event) → IsEvent s e reply t
       → (is_backed_step s (step_of e) ≡ true → wants_page reply ≡ false) × (is_cut_off_step s (step_of e) ≡ true → is_refused reply ≡ true)
   event_reaches (OnSlot k (slot.Fault task home number i intent)) is =
-      let event = slot.Fault task home number i intent in
-      ((λ backed. goes k event (λ c. fault_goes s.page_size k c task home number i intent (slot_at s k) backed) is), (λ cut. stops k event (λ c. fault_stops s.page_size k c task home number i intent (slot_at s k) cut) is))
+      let event = slot.Fault task home number i intent in (
+        (λ backed. goes k event (λ c. fault_goes s.page_size k c task home number i intent (slot_at s k) backed) is),
+        (λ cut. stops k event (λ c. fault_stops s.page_size k c task home number i intent (slot_at s k) cut) is),
+      )
   event_reaches (OnSlot k (slot.Load task home number i offset count)) is =
-      let event = slot.Load task home number i offset count in
-      ((λ backed. goes k event (λ c. load_goes s.page_size k c task home number i offset (slot_at s k) count backed) is), (λ cut. stops k event (λ c. load_stops s.page_size k c task home number i offset (slot_at s k) count cut) is))
+      let event = slot.Load task home number i offset count in (
+        (λ backed. goes k event (λ c. load_goes s.page_size k c task home number i offset (slot_at s k) count backed) is),
+        (λ cut. stops k event (λ c. load_stops s.page_size k c task home number i offset (slot_at s k) count cut) is),
+      )
   event_reaches (OnSlot k (slot.Store task home number i offset bytes)) is =
-      let event = slot.Store task home number i offset bytes in
-      ((λ backed. goes k event (λ c. store_goes s.page_size k c task home number i offset (slot_at s k) bytes backed) is), (λ cut. stops k event (λ c. store_stops s.page_size k c task home number i offset (slot_at s k) bytes cut) is))
+      let event = slot.Store task home number i offset bytes in (
+        (λ backed. goes k event (λ c. store_goes s.page_size k c task home number i offset (slot_at s k) bytes backed) is),
+        (λ cut. stops k event (λ c. store_stops s.page_size k c task home number i offset (slot_at s k) bytes cut) is),
+      )
   event_reaches (OnSlot k other) is = ((λ e. cc), (λ e. cc))
   event_reaches (Tasks (table.Add task home)) is = ((λ e. cc), (λ e. cc))
   event_reaches (Tasks other) is = ((λ e. cc), (λ e. cc))
@@ -81,7 +87,8 @@ module _ (s : State) (st : IsSettledState s) (reply : Reply) (t : State) where
   event_shows : (e : Event) → IsEvent s e reply t → ShowsMap s (step_of e) reply
   event_shows (OnSlot k (slot.Load task home number i offset count)) is =
       let old = slot_at s k in
-      let ends = event_ends (Loads s.page_size old (spot_on old task number) i offset count) s k (slot.Load task home number i offset count) reply t (λ c. load_loads s.page_size k c old task home number i offset count) is in
+      let ends = event_ends (Loads s.page_size old (spot_on old task number) i offset count) s k (slot.Load task home number i offset count) reply t
+      (λ c. load_loads s.page_size k c old task home number i offset count) is in
       subst (λ r. ShowsMap s (Load task k number i offset count) r) (sym ends.replied) (loaded task k number i offset count ends.outcome ends.holds)
   event_shows (OnSlot k other) is = tt
   event_shows (Tasks (table.Add task home)) is = tt

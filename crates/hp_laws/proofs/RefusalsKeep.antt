@@ -168,7 +168,8 @@ numbers_if : (b : Bool) (p q : Pool) (a d : PoolAnswer) → q.nr ≡ p.nr → q.
 numbers_if true p q a d e f = (e, f)
 numbers_if false p q a d e f = (refl, refl)
 
-mount_numbers : (b : Bool) (p : Pool) (d : ℕ) → ((section p (if b then GrantAndReturn d else ReadAndGrant d)).1.nr ≡ p.nr) × ((section p (if b then GrantAndReturn d else ReadAndGrant d)).1.overcommit ≡ p.overcommit)
+mount_numbers : (b : Bool) (p : Pool) (d : ℕ) → ((section p (if b then GrantAndReturn d else ReadAndGrant d)).1.nr ≡ p.nr)
+    × ((section p (if b then GrantAndReturn d else ReadAndGrant d)).1.overcommit ≡ p.overcommit)
 mount_numbers true p d = numbers_if (can_grant d p) p (settled_pool (released d (granted 0 d p))) _ _ refl refl
 mount_numbers false p d = numbers_if (can_grant d p) p (granted 0 d p) _ _ refl refl
 
@@ -176,7 +177,8 @@ same_but_nodes : (s : State) (p : Pool) (t : State) → t ≡ with_pool s p → 
 same_but_nodes s p t e nr overcommit =
     subst (λ (x : State). SameButNodes s x) (sym e) (ap (λ n. record (with_pool s p) { nr = n }) nr ∙ ap (λ n. record (with_pool s p) { nr = s.nr; overcommit = n }) overcommit)
 
-mount_refused : (s : State) (k : ℕ) (c : Choice) (old : Slot) (options : List ℕ) (r : Refusal) (t : State) → planned s k (slot_event s.page_size k c old (slot.Mount options)) ≡ (Err r, t) → SameButNodes s t
+mount_refused : (s : State) (k : ℕ) (c : Choice) (old : Slot) (options : List ℕ) (r : Refusal) (t : State) →
+    planned s k (slot_event s.page_size k c old (slot.Mount options)) ≡ (Err r, t) → SameButNodes s t
 mount_refused s k c (Some m) options r t e = (let is = settled_refused s k (Refused SlotTaken) r t e in subst (λ (x : State). SameButNodes s x) (sym is.1) refl)
 mount_refused s k c None options r t e =
     let d : ℕ = mount_pages c (limits s.nr s.page_size (wanted_of options)) in
@@ -216,7 +218,8 @@ table_or_refused [] a old new r = λ e. cc
 table_or_refused (x ∷ ts) a old new r =
     cond_both x.0 (Err x.1, old) (or_refused ts old (Ok a, new)) (λ (q : Reply × Table). q.0 ≡ Err r → q.1 ≡ old) (λ t e. refl) (λ t. table_or_refused ts a old new r)
 
-known_refused : (old : Table) (o : Option ℕ) (f : ℕ → Reply × Table) (r : Refusal) → ((home : ℕ) → (f home).0 ≡ Err r → (f home).1 ≡ old) → (when_known old o f).0 ≡ Err r → (when_known old o f).1 ≡ old
+known_refused : (old : Table) (o : Option ℕ) (f : ℕ → Reply × Table) (r : Refusal) → ((home : ℕ) → (f home).0 ≡ Err r → (f home).1 ≡ old) →
+    (when_known old o f).0 ≡ Err r → (when_known old o f).1 ≡ old
 known_refused old None f r h e = refl
 known_refused old (Some home) f r h e = h home e
 

@@ -46,7 +46,8 @@ uncopied_keeps c size m s home i Write e = new_keeps c size m s home i e
 uncopied_keeps c size m s home i Read e = either (has_page (cell_at s.file i)) _ _ tt (new_keeps c size m s home i e)
 
 -- an owner whose index is not consumed
-private_keeps : (c : Choice) (size : ℕ) (m : Mount) (s : Spot) (home i : ℕ) (p : Place Copy) (intent : Intent) → s.map.owner ≡ true → is_unconsumed p ≡ true → NeverWantsPages (private_access c size m s home i p intent)
+private_keeps : (c : Choice) (size : ℕ) (m : Mount) (s : Spot) (home i : ℕ) (p : Place Copy) (intent : Intent) → s.map.owner ≡ true →
+    is_unconsumed p ≡ true → NeverWantsPages (private_access c size m s home i p intent)
 private_keeps c size m s home i Gone intent e u = refl
 private_keeps c size m s home i (Live consumed (Some copy)) Read e u = tt
 private_keeps c size m s home i (Live consumed (Some copy)) Write e u = copy_keeps c m s home i consumed copy e
@@ -55,7 +56,10 @@ private_keeps c size m s home i (Live true None) intent e u = cc
 
 pub reserved_access : ReservedAccess
 reserved_access c size m s home i intent =
-    elim s.map.sharing as (λ v. IsTrue (if is_shared v then is_entered (cell_at s.file i) else (s.map.owner && is_unconsumed (place_at s.map i))) → NeverWantsPages (if is_shared v then shared_access c size m s home i (cell_at s.file i) else private_access c size m s home i (place_at s.map i) intent)) [
+    elim s.map.sharing as (λ v. IsTrue (if is_shared v then is_entered (cell_at s.file i) else (s.map.owner && is_unconsumed (place_at s.map i))) →
+    NeverWantsPages (if is_shared v then shared_access c size m s home i (cell_at s.file i)
+    else private_access c size m s home i (place_at s.map i) intent)) [
       | Shared ↦ λ e. shared_keeps c size m s home i (cell_at s.file i) e
-      | Private ↦ λ e. private_keeps c size m s home i (place_at s.map i) intent (and_parts s.map.owner (is_unconsumed (place_at s.map i)) e).0 (and_parts s.map.owner (is_unconsumed (place_at s.map i)) e).1
+      | Private ↦ λ e. private_keeps c size m s home i (place_at s.map i) intent (and_parts s.map.owner (is_unconsumed (place_at s.map i)) e).0
+          (and_parts s.map.owner (is_unconsumed (place_at s.map i)) e).1
     ]

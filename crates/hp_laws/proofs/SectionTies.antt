@@ -79,7 +79,8 @@ pub record IsWanted (p : Pool) (sec : Section) (a : PoolAnswer) (f g : ℕ → �
   pub covered : takes_page sec a ≡ true → used p + 1 ≤ p.committed + raised_by sec a
   pub within : sum (map g (range_with_len 0 k)) ≤ c
 
-pub same_list : (p : Pool) (f g : ℕ → ℕ) (k : ℕ) → k ≤ 4 → map row_used p.nodes.rows ≡ map f (range_with_len 0 k) → ((n : ℕ) → n < 4 → g n + 0 ≡ f n + 0) → map row_used p.nodes.rows ≡ map g (range_with_len 0 k)
+pub same_list : (p : Pool) (f g : ℕ → ℕ) (k : ℕ) → k ≤ 4 → map row_used p.nodes.rows ≡ map f (range_with_len 0 k) →
+    ((n : ℕ) → n < 4 → g n + 0 ≡ f n + 0) → map row_used p.nodes.rows ≡ map g (range_with_len 0 k)
 same_list p f g k few was pages = was ∙ map_same f g 0 k (λ n l. (let e = pages n (omega (arith, few, l)) in omega (arith, e)))
 
 compose : (p m q : Pool) (c d : ℕ) (us vs : List ℕ) → Leads p m c us → Leads m q d vs → Leads p q d vs
@@ -94,7 +95,8 @@ compose p m q c d us vs a b = record {
 abbrev pub Goal : Pool → PoolAnswer × Pool → Section → (ℕ → ℕ) → (ℕ → ℕ) → ℕ → ℕ → Type 0
 Goal p q sec f g c k = IsWanted p sec q.0 f g c k → Leads p q.1 c (map g (range_with_len 0 k)) × (takes_page sec q.0 ≡ true → q.0.node < k)
 
-grant_case : (p : Pool) (home d : ℕ) (b : Bool) (f g : ℕ → ℕ) (c k : ℕ) → IsSettledPool p → can_grant d p ≡ b → Goal p (if b then (granted_at 0, granted home d p) else (no_pages, p)) (Grant home d) f g c k
+grant_case : (p : Pool) (home d : ℕ) (b : Bool) (f g : ℕ → ℕ) (c k : ℕ) → IsSettledPool p → can_grant d p ≡ b →
+    Goal p (if b then (granted_at 0, granted home d p) else (no_pages, p)) (Grant home d) f g c k
 grant_case p home d true f g c k s e w = (relead p (granted home d p) _ _ _ _ (committed home d p s e) (let x = w.commits in omega (arith, x)) (same_list p f g k w.few w.was w.pages), (λ e. cc))
 grant_case p home d false f g c k s e w = (relead p p _ _ _ _ (unchanged p s) (let x = w.commits in omega (arith, x)) (same_list p f g k w.few w.was w.pages), (λ e. cc))
 
@@ -146,7 +148,8 @@ given_back puts j p f g c k s few long was commits pages within =
     (omega (arith, commits)) refl
 
 return_case : (p : Pool) (d : ℕ) (b : Bool) (f g : ℕ → ℕ) (c k : ℕ) → IsSettledPool p → can_grant d p ≡ b
-    → Goal p (if b then (record { granted = true; node = 0; nr = p.nr }, settled_pool (released d (granted 0 d p))) else (record { granted = false; node = 0; nr = p.nr }, p)) (GrantAndReturn d) f g c k
+    → Goal p (if b then (record { granted = true; node = 0; nr = p.nr }, settled_pool (released d (granted 0 d p)))
+    else (record { granted = false; node = 0; nr = p.nr }, p)) (GrantAndReturn d) f g c k
 return_case p d true f g c k s e w =
     let mid : Pool = granted 0 d p in
     let first = committed 0 d p s e in

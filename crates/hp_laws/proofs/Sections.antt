@@ -175,7 +175,12 @@ one_lowered p r s is some =
     let one = one_shrunk p.nodes s.rows (omega (arith, more)) (omega (arith, total, surplus, in_use, uses, is, more)) in
     let ot = one.total in let of = one.free in let os = one.surplus in
     moved_leads p (p.nr - 1) _ _ _ _ _ _ (shrunk p.nodes) one
-    (record { rows = one.rows; total = omega (arith, ot, total, surplus, in_use, uses, is, more, some); surplus = omega (arith, ot, os, total, surplus, in_use, uses, is, more, some); used = omega (arith, ot, of, in_use, uses) })))
+    (record {
+      rows = one.rows;
+      total = omega (arith, ot, total, surplus, in_use, uses, is, more, some);
+      surplus = omega (arith, ot, os, total, surplus, in_use, uses, is, more, some);
+      used = omega (arith, ot, of, in_use, uses);
+    })))
     (λ t. (let few = ltb-false r (free_of p.nodes.rows) t in
     let one = one_demoted p.nodes s.rows (omega (arith, surplus, total, some)) in
     let ot = one.total in let of = one.free in let os = one.surplus in

@@ -1,5 +1,6 @@
 -- What maps show after a store, and after a fault that writes.
-use Rattle.std.proofs.Common.{◌≡◌, ⊎_elim, inl, inr, ◌⊎◌, map, ℕ, ◌-◌, Bool, true, false, ◌&&◌, ◌==◌, not, Option, None, Some, is_some, List, set, refl, sym, ap, ◌∙◌, subst, arith, if◌then◌else◌, nat_lt}
+use Rattle.std.proofs.Common.{◌≡◌, ⊎_elim, inl, inr, ◌⊎◌, map, ℕ, ◌-◌, Bool, true, false, ◌&&◌, ◌==◌, not}
+use Rattle.std.proofs.Common.{Option, None, Some, is_some, List, set, refl, sym, ap, ◌∙◌, subst, arith, if◌then◌else◌, nat_lt}
 use Rattle.std.specs.List.{slice_index_or, list_any}
 use Rattle.std.proofs.lemmas.Bool.{cases_eq, cond_both, eq-eqb, ltb-false, eqb-true, eqb-false}
 use Rattle.std.proofs.lemmas.List.{get_or-set_same, get_or-set_other, length-map}
@@ -34,7 +35,9 @@ module _ (m : Map) (i : ℕ) (c : Bool) (o : Option Copy) (is : place_at m i ≡
   written_off : (x : ℕ) → (x ≡ i → ⊥) → place_at (map_written i offset bytes m) x ≡ place_at m x
   written_off x other =
       let low = ltb-false i m.start from in
-      elim (nat_lt x m.start) as (λ b. nat_lt x m.start ≡ b → (if b then Gone else slice_index_or (edit_at (place_written offset bytes) m.places (i - m.start)) (x - m.start) Gone) ≡ (if b then Gone else slice_index_or m.places (x - m.start) Gone)) [
+      elim (nat_lt x m.start) as (λ b. nat_lt x m.start ≡ b → (if b then Gone else slice_index_or
+      (edit_at (place_written offset bytes) m.places (i - m.start)) (x - m.start) Gone)
+      ≡ (if b then Gone else slice_index_or m.places (x - m.start) Gone)) [
         | true ↦ λ e. refl
         | false ↦ λ e. edit_other (place_written offset bytes) Gone m.places (i - m.start) (x - m.start) (λ same. other (omega (arith, same, low, ltb-false x m.start e)))
       ] refl
@@ -47,14 +50,16 @@ no_copy (Live consumed copy) = refl
 
 dropped_at : (stamp : ℕ) (m : Map) (x : ℕ) → place_at (record m { unmapped = true; places = map (drop_stamp stamp) m.places }) x ≡ drop_stamp stamp (place_at m x)
 dropped_at stamp m x =
-    elim (nat_lt x m.start) as (λ b. (if b then Gone else slice_index_or (map (drop_stamp stamp) m.places) (x - m.start) Gone) ≡ drop_stamp stamp (if b then Gone else slice_index_or m.places (x - m.start) Gone)) [
+    elim (nat_lt x m.start) as (λ b. (if b then Gone else slice_index_or (map (drop_stamp stamp) m.places) (x - m.start) Gone)
+    ≡ drop_stamp stamp (if b then Gone else slice_index_or m.places (x - m.start) Gone)) [
       | true ↦ refl
       | false ↦ get_map (drop_stamp stamp) Gone refl m.places (x - m.start)
     ]
 
 -- it shows what it showed, or had the copy and has none now
 abbrev Robs : (size stamp : ℕ) (old new : Map) (x : ℕ) (v : List ℕ) → Type 0
-Robs size stamp old new x v = (by_place size (place_at new x) v ≡ by_place size (place_at old x) v) ⊎ ((holds stamp (place_at old x) ≡ true) × (copy_of (place_at new x) ≡ None) × (new.unmapped ≡ true))
+Robs size stamp old new x v = (by_place size (place_at new x) v ≡ by_place size (place_at old x) v)
+    ⊎ ((holds stamp (place_at old x) ≡ true) × (copy_of (place_at new x) ≡ None) × (new.unmapped ≡ true))
 
 robs : (size stamp : ℕ) (m : Map) (x : ℕ) (v : List ℕ) → Robs size stamp m (robbed stamp m) x v
 robs size stamp m x v =
@@ -64,7 +69,8 @@ robs size stamp m x v =
     (λ some. by_drop p (dropped_at stamp m x))
     (λ none. inl refl)
   where
-    by_drop : (p : Place Copy) → place_at (record m { unmapped = true; places = map (drop_stamp stamp) m.places }) x ≡ drop_stamp stamp (place_at m x) → Robs size stamp m (record m { unmapped = true; places = map (drop_stamp stamp) m.places }) x v
+    by_drop : (p : Place Copy) → place_at (record m { unmapped = true; places = map (drop_stamp stamp) m.places }) x
+        ≡ drop_stamp stamp (place_at m x) → Robs size stamp m (record m { unmapped = true; places = map (drop_stamp stamp) m.places }) x v
     by_drop p at =
         elim (holds stamp (place_at m x)) as (λ b. holds stamp (place_at m x) ≡ b → Robs size stamp m (record m { unmapped = true; places = map (drop_stamp stamp) m.places }) x v) [
           | true ↦ λ e. inr (e, ap copy_of at ∙ ap (λ b. copy_of (if b then without_copy (place_at m x) else place_at m x)) e ∙ no_copy (place_at m x), refl)
@@ -101,7 +107,9 @@ module _ (size : ℕ) (m : Mount) (sound : IsSoundMount m) (s : Spot) (at : IsSp
   -- what the store reaches is written
   abbrev Seen : Mount → (j l x : ℕ) → Type 0
   Seen n j l x =
-      (seen size l x (file_in n j) ≡ (if (i == x) && ((s.file_no == j) && (if is_shared s.map.sharing then not (is_some (copy_of (place_at (map_in (file_in m j) l) x))) else (s.map_no == l))) then over offset bytes (here j l x) else here j l x))
+      (seen size l x (file_in n j) ≡ (if (i == x) && ((s.file_no == j) && (if is_shared s.map.sharing
+      then not (is_some (copy_of (place_at (map_in (file_in m j) l) x))) else (s.map_no == l))) then over offset bytes (here j l x)
+      else here j l x))
       ⊎ Lost n j l x
 
   -- ---- through a shared map
@@ -122,7 +130,8 @@ module _ (size : ℕ) (m : Mount) (sound : IsSoundMount m) (s : Spot) (at : IsSp
       let edit : File → File = λ f. file_written s i offset bytes f in
       let maps_stay : map_in (file_in w j) l ≡ map_in (file_in m j) l =
       same_edit (λ f. map_in f l) (new_file None) edit
-      (λ f. ap (λ b. map_in (if b then record f { cells = edit_at (cell_written offset bytes) f.cells i } else record f { maps = edit_at (map_written i offset bytes) f.maps s.map_no }) l) e) n.files s.file_no j
+      (λ f. ap (λ b. map_in (if b then record f { cells = edit_at (cell_written offset bytes) f.cells i }
+      else record f { maps = edit_at (map_written i offset bytes) f.maps s.map_no }) l) e) n.files s.file_no j
       ∙ done.0.held e j l in
       let o = copy_of (place_at (map_in (file_in m j) l) x) in
       let cells = stored size m s at i n (ready size m s at i n (inl done)) offset bytes (i == x) true (s.file_no == j) j x refl e refl in
@@ -304,7 +313,8 @@ module _ (size : ℕ) (m : Mount) (sound : IsSoundMount m) (s : Spot) (at : IsSp
     private_seen : (j l x : ℕ) → Seen after j l x
     private_seen j l x =
         let shown = copy_of (place_at (map_in (file_in m j) l) x) in
-        subst (λ b. (seen size l x (file_in after j) ≡ (if (i == x) && ((s.file_no == j) && (if b then not (is_some shown) else (s.map_no == l))) then over offset bytes (here j l x) else here j l x)) ⊎ Lost after j l x) (sym apart)
+        subst (λ b. (seen size l x (file_in after j) ≡ (if (i == x) && ((s.file_no == j) && (if b then not (is_some shown) else (s.map_no == l)))
+        then over offset bytes (here j l x) else here j l x)) ⊎ Lost after j l x) (sym apart)
         (tested (i == x) (s.file_no == j) (s.map_no == l) j l x refl refl refl)
 
   pub store_seen : (n : Mount) → Result size m s at i n → (j l x : ℕ) → Seen (written n s i offset bytes) j l x
@@ -318,7 +328,8 @@ module _ (size : ℕ) (m : Mount) (sound : IsSoundMount m) (s : Spot) (at : IsSp
 
   edit_marks : (l : ℕ) (f : File) → marked l (file_written s i offset bytes f) ≡ marked l f
   edit_marks l f =
-      cond_both (is_shared s.map.sharing) (record f { cells = edit_at (cell_written offset bytes) f.cells i }) (record f { maps = edit_at (map_written i offset bytes) f.maps s.map_no }) (λ g. marked l g ≡ marked l f)
+      cond_both (is_shared s.map.sharing) (record f { cells = edit_at (cell_written offset bytes) f.cells i })
+      (record f { maps = edit_at (map_written i offset bytes) f.maps s.map_no }) (λ g. marked l g ≡ marked l f)
       (λ e. refl) (λ e. same_edit (λ (y : Map). y.unmapped) no_map (map_written i offset bytes) (λ y. refl) f.maps s.map_no l)
 
   robbed_marks : (stamp : ℕ) (y : Map) → y.unmapped ≡ true → (robbed stamp y).unmapped ≡ true

@@ -71,7 +71,8 @@ module _ (m : Map) (i : ℕ) (c : Bool) (o : Option Copy) (is : place_at m i ≡
   pub place_other : (x : ℕ) → (x ≡ i → ⊥) → place_at (with_place m i p) x ≡ place_at m x
   place_other x other =
       let low = ltb-false i m.start from in
-      elim (nat_lt x m.start) as (λ b. nat_lt x m.start ≡ b → (if b then Gone else slice_index_or (set m.places (i - m.start) p) (x - m.start) Gone) ≡ (if b then Gone else slice_index_or m.places (x - m.start) Gone)) [
+      elim (nat_lt x m.start) as (λ b. nat_lt x m.start ≡ b → (if b then Gone else slice_index_or (set m.places (i - m.start) p) (x - m.start) Gone)
+      ≡ (if b then Gone else slice_index_or m.places (x - m.start) Gone)) [
         | true ↦ λ e. refl
         | false ↦ λ e. get_or-set_other m.places (i - m.start) (x - m.start) p Gone (λ same. other (omega (arith, same, low, ltb-false x m.start e)))
       ] refl
@@ -106,7 +107,8 @@ on_granted Q false n h = tt
 pub on_grant_page : (Q : Mount → Type 0) (c : Choice) (m : Mount) (home : ℕ) (n : ℕ → Mount) → ((node : ℕ) → Q (n node)) → Always (On Q) (grant_page c m home (λ node. Answered Done (Some (n node))))
 on_grant_page Q c m home n h =
     always_test (On Q) (is_full m 1) MountFull _ tt
-    (λ e. always_test (On Q) c.refused OutOfMemory (Ask (λ nr. GrantPage home (rise m 1)) (λ a. when_granted (Answered Done (Some (n a.node))) a)) tt (λ f a. on_granted Q a.granted (n a.node) (h a.node)))
+    (λ e. always_test (On Q) c.refused OutOfMemory (Ask (λ nr. GrantPage home (rise m 1)) (λ a. when_granted (Answered Done (Some (n a.node))) a)) tt
+    (λ f a. on_granted Q a.granted (n a.node) (h a.node)))
 
 pub on_reserved_page : (Q : Mount → Type 0) (home : ℕ) (n : ℕ → Mount) → ((node : ℕ) → Q (n node)) → Always (On Q) (reserved_page home (λ node. Answered Done (Some (n node))))
 on_reserved_page Q home n h = λ a. h a.node
@@ -174,7 +176,8 @@ module _ (size : ℕ) (m : Mount) (s : Spot) (at : IsSpot m s) (i : ℕ) where
         held = λ e j l. refl;
       }
 
-  fill_same : (node : ℕ) → i < length s.file.cells → shown size (cell_at s.file i) ≡ zeros size → Same (with_file m s.file_no (with_cell s.file i (Present (record { node = node; bytes = zeros size }))))
+  fill_same : (node : ℕ) → i < length s.file.cells → shown size (cell_at s.file i) ≡ zeros size →
+      Same (with_file m s.file_no (with_cell s.file i (Present (record { node = node; bytes = zeros size }))))
   fill_same node l e =
       let page : Page = record { node = node; bytes = zeros size } in
       let looks = fill_looks size s.file i page l (sym e) in
@@ -267,7 +270,8 @@ module _ (size : ℕ) (m : Mount) (s : Spot) (at : IsSpot m s) (i : ℕ) where
       copied_same : (consumed : Bool) (copy : Copy) (node : ℕ) → place_at s.map i ≡ Live consumed (Some copy)
           → Copied (with_file m s.file_no (with_map s.file s.map_no (with_place s.map i (Live consumed (Some (record { stamp = c.stamp; page = record { node = node; bytes = copy.page.bytes } }))))))
       copied_same consumed copy node is =
-          copied_done consumed consumed (Some copy) (record { stamp = c.stamp; page = record { node = node; bytes = copy.page.bytes } }) apart is (sym (ap (λ q. by_place size q (look size i s.file)) is))
+          copied_done consumed consumed (Some copy) (record { stamp = c.stamp; page = record { node = node; bytes = copy.page.bytes } }) apart is
+          (sym (ap (λ q. by_place size q (look size i s.file)) is))
 
       owner_or : (b : Bool) (x n : Mount) → Result x → Result n → On Result (if b then Answered Done (Some x) else Answered Done (Some n))
       owner_or true x n hx hn = hx
@@ -275,14 +279,16 @@ module _ (size : ℕ) (m : Mount) (s : Spot) (at : IsSpot m s) (i : ℕ) where
 
       write_copy : (consumed : Bool) (copy : Copy) → place_at s.map i ≡ Live consumed (Some copy) → Always (On Result) (copy_write c m s home i consumed copy)
       write_copy consumed copy is =
-          let own : ℕ → Mount = λ node. with_file m s.file_no (with_map s.file s.map_no (with_place s.map i (Live consumed (Some (record { stamp = c.stamp; page = record { node = node; bytes = copy.page.bytes } }))))) in
+          let own : ℕ → Mount = λ node. with_file m s.file_no (with_map s.file s.map_no
+          (with_place s.map i (Live consumed (Some (record { stamp = c.stamp; page = record { node = node; bytes = copy.page.bytes } }))))) in
           let fresh_copy : ℕ → Outcome = λ node. Answered Done (Some (own node)) in
           let back : Outcome = taken_back m s copy.stamp in
           let owns : Plan = owner_write m s home copy.stamp fresh_copy in
           let asks : Plan = grant_page c m home fresh_copy in
           always_if (On Result) (is_held_once s.file copy.stamp) (Finish (Answered Done (Some m))) (if s.map.owner then owns else asks) (λ e. inl (idle, λ other. kept_own consumed copy is))
           (λ more. always_if (On Result) s.map.owner owns asks
-          (λ owner. always_if (On Result) (is_full m 1) (Finish back) (Ask (λ nr. GrantPage home (rise m 1)) (λ a. if a.granted then fresh_copy a.node else back)) (λ full. take_back consumed copy owner is)
+          (λ owner. always_if (On Result) (is_full m 1) (Finish back) (Ask (λ nr. GrantPage home (rise m 1))
+          (λ a. if a.granted then fresh_copy a.node else back)) (λ full. take_back consumed copy owner is)
           (λ room a. owner_or a.granted (own a.node) (robbed_mount copy.stamp) (inl (copied_same consumed copy a.node is)) (take_back consumed copy owner is)))
           (λ other. on_grant_page Result c m home own (λ node. inl (copied_same consumed copy node is))))
 

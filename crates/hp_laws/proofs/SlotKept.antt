@@ -17,7 +17,8 @@ use Rattle.hp_model.specs.files.Mapping.{is_map, map_punched}
 use Rattle.hp_model.specs.machine.Plan.{Ask, Choice, Outcome, Refused, Answered, Finish, Plan, Slot, gives, grant, unless, with_value}
 use Rattle.hp_model.specs.Profile.{most_file_pages}
 use Rattle.hp_model.specs.machine.Promises.{is_in, map_on, shown_on, seen_on, spot_on}
-use Rattle.hp_model.specs.machine.SlotEvent.{anon_tests, create_tests, edited, fault, file_named, fork_tests, is_bad_range, is_beyond, is_unmapped, map_file, map_tests, on_mount, punch, read, read_tests, slot_event, stat, truncate, umount_tests, unlink, unmap}
+use Rattle.hp_model.specs.machine.SlotEvent.{anon_tests, create_tests, edited, fault, file_named, fork_tests, is_bad_range, is_beyond, is_unmapped, map_file, map_tests}
+use Rattle.hp_model.specs.machine.SlotEvent.{on_mount, punch, read, read_tests, slot_event, stat, truncate, umount_tests, unlink, unmap}
 use Rattle.hp_model.specs.machine.Sound.{IsSound, IsSoundMount}
 use Rattle.hp_model.specs.files.Spot.{Spot, spot}
 use Rattle.hp_laws.proofs.Accessed.{access_on, file_put}
@@ -89,7 +90,8 @@ module _ (size k : ℕ) (c : Choice) (m : Mount) where
     together = λ a b p o goes_on stays found there. cc;
   })
 
-  fault_keeps : IsSoundMount m → (task home number i : ℕ) (intent : Intent) → Always (KeepsSlot size (Some m) (slot.Fault task home number i intent)) (on_mount size k c m (slot.Fault task home number i intent))
+  fault_keeps : IsSoundMount m → (task home number i : ℕ) (intent : Intent) →
+      Always (KeepsSlot size (Some m) (slot.Fault task home number i intent)) (on_mount size k c m (slot.Fault task home number i intent))
   fault_keeps sound task home number i Read =
       let e : SlotEvent = slot.Fault task home number i Read in
       let plan = with_value (spot m (is_map task number)) NoSuchMap (fault c size m home i Read) in
@@ -133,7 +135,8 @@ module _ (size k : ℕ) (c : Choice) (m : Mount) where
             numbers = λ task number p goes_on found. stays.numbers task number p found;
             cells = (ready size m s at i n done).cells;
             maps = λ t u x p e. ⊎_elim (λ same. inl same)
-                (λ lost. inr (subst (λ o. IsLostAt o (λ y. map_on (Some n) y.file_no y.map_no) i (map_on (Some m) p.file_no p.map_no) (map_on (Some n) p.file_no p.map_no) p.file_no p.map_no x) (sym found) lost))
+                (λ lost. inr (subst (λ o. IsLostAt o (λ y. map_on (Some n) y.file_no y.map_no) i (map_on (Some m) p.file_no p.map_no)
+                (map_on (Some n) p.file_no p.map_no) p.file_no p.map_no x) (sym found) lost))
                 (touched_seen size m sound s at i 0 [] n done p.file_no p.map_no x);
             marks = λ t u p e marked. touched_marks size m sound s at i 0 [] n done p.file_no p.map_no marked;
           })
@@ -172,7 +175,8 @@ module _ (size k : ℕ) (c : Choice) (m : Mount) where
       (λ q named. tested (slot.Truncate name n) ((nat_lt most_file_pages n, OutOfRange) ∷ []) (gives Done (Some m) (edited m q.0 (truncated n q.1)))
       (given (slot.Truncate name n) (swept (with_file m q.0 (truncated n q.1)))
       (swept_keeps (slot.Truncate name n) (with_file m q.0 (truncated n q.1)) (λ p r i lost. lost)
-      (cut_keeps size m sound name q named (truncated n q.1) (map_punched n (n + length q.1.cells)) (nat_le n) (truncate_cut size n q.1) (slot.Truncate name n) (λ j x old. refl) (λ j l x old. refl)))))
+      (cut_keeps size m sound name q named (truncated n q.1) (map_punched n (n + length q.1.cells)) (nat_le n) (truncate_cut size n q.1)
+      (slot.Truncate name n) (λ j x old. refl) (λ j l x old. refl)))))
   mount_keeps sound (slot.Punch name a b) =
       of_file (slot.Punch name a b) name (punch m a b)
       (λ q named. tested (slot.Punch name a b) ((is_bad_range a b, OutOfRange) ∷ []) (gives Done (Some m) (edited m q.0 (punched a b q.1)))
@@ -204,7 +208,8 @@ module _ (size k : ℕ) (c : Choice) (m : Mount) where
   mount_keeps sound (slot.Unmap task number a b) =
       let e : SlotEvent = slot.Unmap task number a b in
       always_value (KeepsSlot size (Some m) e) (λ r. tt) (spot m (is_map task number)) NoSuchMap (unmap m task number a b)
-      (λ s found. tested e ((is_bad_range a b, OutOfRange) ∷ []) (gives Done (Some m) (Some (unmapped_from task number a b m))) (given e (unmapped_from task number a b m) (unmap_keeps size m task number a b)))
+      (λ s found. tested e ((is_bad_range a b, OutOfRange) ∷ []) (gives Done (Some m) (Some (unmapped_from task number a b m)))
+      (given e (unmapped_from task number a b m) (unmap_keeps size m task number a b)))
   mount_keeps sound (slot.Fault task home number i intent) = fault_keeps sound task home number i intent
   mount_keeps sound (slot.Load task home number i offset count) =
       let e : SlotEvent = slot.Load task home number i offset count in

@@ -1,5 +1,6 @@
 -- What a slot's files show after a file or a map is made, a load and a store, and what a load answers.
-use Rattle.std.proofs.Common.{◌≡◌, ◌⊎◌, ℕ, zero, suc, ◌+◌, ◌<◌, Bool, true, false, ◌&&◌, ◌||◌, ◌==◌, not, Option, None, Some, is_some, Result as ResultOf, Ok, Err, List, [], ◌∷◌, length, replicate, refl, sym, ap, ◌∙◌, if◌then◌else◌, nat_lt, nat_le, ◌-◌}
+use Rattle.std.proofs.Common.{◌≡◌, ◌⊎◌, ℕ, zero, suc, ◌+◌, ◌<◌, Bool, true, false, ◌&&◌, ◌||◌, ◌==◌, not, Option, None, Some}
+use Rattle.std.proofs.Common.{is_some, Result as ResultOf, Ok, Err, List, [], ◌∷◌, length, replicate, refl, sym, ap, ◌∙◌, if◌then◌else◌, nat_lt, nat_le, ◌-◌}
 use Rattle.std.specs.List.{slice_index_or, sum}
 use Rattle.std.proofs.lemmas.Bool.{cond_both, leb-false}
 use Rattle.hp_model.specs.declared.answer.Answer.{Answer}
@@ -29,7 +30,8 @@ use Rattle.hp_model.specs.machine.Plan.{Slot, Outcome, Refused, Answered, Plan, 
 use Rattle.hp_model.specs.declared.section.Section.TheVariants.{Grant, GiveBack}
 use Rattle.hp_model.specs.Profile.{most_bytes, most_file_pages, most_files, most_map_pages}
 use Rattle.hp_model.specs.machine.Promises.{file_in, spot_on, IsLoaded, shown_on, seen_on, map_in, map_on, no_map, over, is_shared_of, reaches}
-use Rattle.hp_model.specs.machine.SlotEvent.{anon_tests, are_too_many_maps, byte_access, bytes_answer, file_named, has_name, is_beyond, is_name, is_unmapped, load, map_file, mount_on, mount_outcome, slot_event, store}
+use Rattle.hp_model.specs.machine.SlotEvent.{anon_tests, are_too_many_maps, byte_access, bytes_answer, file_named, has_name, is_beyond, is_name}
+use Rattle.hp_model.specs.machine.SlotEvent.{is_unmapped, load, map_file, mount_on, mount_outcome, slot_event, store}
 use Rattle.hp_model.specs.machine.Sound.{IsSound, IsSoundMount}
 use Rattle.hp_model.specs.files.Spot.{Spot, again, spot, written}
 use Rattle.hp_model.specs.files.Value.{shown, value}
@@ -46,7 +48,8 @@ use Rattle.hp_laws.proofs.Walk.{plan_unless, plan_value}
 pub always_unless : (P : Outcome → Type 0) → ((r : Refusal) → P (Refused r)) → (ts : List (Bool × Refusal)) (p : Plan) → Always P p → Always P (unless ts p)
 always_unless P stops ts p h = plan_unless (Always P) stops ts p h
 
-pub always_value : {X : Type 0} (P : Outcome → Type 0) → ((r : Refusal) → P (Refused r)) → (o : Option X) (r : Refusal) (f : X → Plan) → ((x : X) → o ≡ Some x → Always P (f x)) → Always P (with_value o r f)
+pub always_value : {X : Type 0} (P : Outcome → Type 0) → ((r : Refusal) → P (Refused r)) → (o : Option X) (r : Refusal) (f : X → Plan) →
+    ((x : X) → o ≡ Some x → Always P (f x)) → Always P (with_value o r f)
 always_value P stops o r f h = plan_value (Always P) stops o r f h
 
 granted_or : (P : Outcome → Type 0) → ((r : Refusal) → P (Refused r)) → (b : Bool) (o : Outcome) → P o → P (if b then o else Refused NoPages)
@@ -92,7 +95,8 @@ create_quiet size k c None name = (λ j x. refl, λ j l x. refl, λ j l. refl)
 create_quiet size k c (Some m) name =
     let f : File = new_file (Some name) in
     always_unless (Quiet size (Some m)) (refused_quiet size (Some m))
-    ((not (is_name name), BadName) ∷ (is_some (file_named m name), FileExists) ∷ (nat_le most_files (length m.files), TooMany) ∷ (is_over m.limits.inodes (length m.files + 1), NoInodes) ∷ (c.refused, OutOfMemory) ∷ [])
+    ((not (is_name name), BadName) ∷ (is_some (file_named m name), FileExists) ∷ (nat_le most_files (length m.files), TooMany)
+    ∷ (is_over m.limits.inodes (length m.files + 1), NoInodes) ∷ (c.refused, OutOfMemory) ∷ [])
     (Finish (Answered Done (Some (with_new m f)))) (
       λ j x. same_more (look size x) (new_file None) m.files (f ∷ []) (λ i. same_one (look size x) (new_file None) f refl i) j,
       λ j l x. same_more (seen size l x) (new_file None) m.files (f ∷ []) (λ i. same_one (seen size l x) (new_file None) f refl i) j,
@@ -107,7 +111,8 @@ entered_shows size (Present page) = refl
 mapped_shows : (size task number a n : ℕ) (sharing : Sharing) (reserving : Reserving) (f : File) (x : ℕ) → look size x (mapped task number a n sharing reserving f) ≡ look size x f
 mapped_shows size task number a n sharing reserving f x =
     let cells = f.cells in
-    let long : look size x (record f { cells = at_least (a + n) cells }) ≡ look size x f = same_more (shown size) Hole cells (replicate (a + n - length cells) Hole) (λ j. same_none (shown size) Hole (a + n - length cells) j) x in
+    let long : look size x (record f { cells = at_least (a + n) cells }) ≡ look size x f =
+    same_more (shown size) Hole cells (replicate (a + n - length cells) Hole) (λ j. same_none (shown size) Hole (a + n - length cells) j) x in
     cond_both (is_shared sharing && reserves reserving) (edit_range entered a (a + n) (at_least (a + n) cells)) (at_least (a + n) cells) (λ cs. look size x (record f { cells = cs }) ≡ look size x f)
     (λ e. same_edit_range (shown size) Hole entered (entered_shows size) a (a + n) (at_least (a + n) cells) x ∙ long)
     (λ e. long)
@@ -175,9 +180,11 @@ anon_quiet size k c m task home n sharing reserving =
 -- ---- accesses
 
 module _ (size : ℕ) (c : Choice) (m : Mount) (home i : ℕ) where
-  pub bytes_on : (Q : Mount → Type 0) (offset count : ℕ) (intent : Intent) (s : Spot) → (i < length s.file.cells → Always (On Q) (access c size m s home i intent)) → Always (On Q) (byte_access c size m home i offset count intent s)
+  pub bytes_on : (Q : Mount → Type 0) (offset count : ℕ) (intent : Intent) (s : Spot) →
+      (i < length s.file.cells → Always (On Q) (access c size m s home i intent)) → Always (On Q) (byte_access c size m home i offset count intent s)
   bytes_on Q offset count intent s h =
-      always_unless (On Q) (λ r. tt) ((is_unmapped s i || (count == 0), OutOfRange) ∷ (nat_lt size (offset + count), CrossesPage) ∷ (nat_lt most_bytes count, TooMany) ∷ []) (if is_beyond s i then refuse BeyondEnd else access c size m s home i intent)
+      always_unless (On Q) (λ r. tt) ((is_unmapped s i || (count == 0), OutOfRange) ∷ (nat_lt size (offset + count), CrossesPage)
+      ∷ (nat_lt most_bytes count, TooMany) ∷ []) (if is_beyond s i then refuse BeyondEnd else access c size m s home i intent)
       (always_test (On Q) (is_beyond s i) BeyondEnd (access c size m s home i intent) tt (λ e. h (leb-false (length s.file.cells) i e)))
 
 -- the files show what they showed, and an answer is what the map shows
@@ -198,7 +205,8 @@ load_ends size m s at i offset count (Refused r) on = load_refused size (Some m)
 load_ends size m s at i offset count (Answered a None) on = absurd on
 load_ends size m s at i offset count (Answered a (Some n)) on = record {
   quiet = (on.cells, on.maps, on.marks);
-  loaded = λ b new e. (let first : bytes_answer offset count (value size (again n s).file (again n s).map i) ≡ b = cc in sym first ∙ ap (bytes_answer offset count) (on.value ∙ sym (spot_seen size m s at i)));
+  loaded = λ b new e. (let first : bytes_answer offset count (value size (again n s).file (again n s).map i) ≡ b = cc in
+      sym first ∙ ap (bytes_answer offset count) (on.value ∙ sym (spot_seen size m s at i)));
 }
 
 pub load_loads : (size k : ℕ) (c : Choice) (old : Slot) (task home number i offset count : ℕ)

@@ -72,14 +72,16 @@ module _ (c : Choice) (size : ℕ) (m : Mount) (sound : IsSoundMount m) (new : i
   guarded : (intent : Intent) → IsBalanced (Some m) (unless ((is_beyond s i, BeyondEnd) ∷ []) (access c size m s home i intent))
   guarded intent =
       balanced_last (Some m) (is_beyond s i) BeyondEnd (access c size m s home i intent)
-      (λ e. access_balanced c size m s at (agreed_file s.file (subst IsSoundFile (at.file.is s.file) (sound.files s.file_no s.file at.file.within))) (new_in_file c.stamp m s.file_no s.file at.file new) home i intent (leb-false (length s.file.cells) i e))
+      (λ e. access_balanced c size m s at (agreed_file s.file (subst IsSoundFile (at.file.is s.file) (sound.files s.file_no s.file at.file.within)))
+      (new_in_file c.stamp m s.file_no s.file at.file new) home i intent (leb-false (length s.file.cells) i e))
 
   fault_balanced : (intent : Intent) → IsBalanced (Some m) (fault c size m home i intent s)
   fault_balanced intent = balanced_unless (Some m) ((is_unmapped s i, OutOfRange) ∷ []) (unless ((is_beyond s i, BeyondEnd) ∷ []) (access c size m s home i intent)) (guarded intent)
 
   byte_balanced : (offset count : ℕ) (intent : Intent) → IsBalanced (Some m) (byte_access c size m home i offset count intent s)
   byte_balanced offset count intent =
-      balanced_unless (Some m) ((is_unmapped s i || (count == 0), OutOfRange) ∷ (nat_lt size (offset + count), CrossesPage) ∷ (nat_lt most_bytes count, TooMany) ∷ []) (unless ((is_beyond s i, BeyondEnd) ∷ []) (access c size m s home i intent)) (guarded intent)
+      balanced_unless (Some m) ((is_unmapped s i || (count == 0), OutOfRange) ∷ (nat_lt size (offset + count), CrossesPage)
+      ∷ (nat_lt most_bytes count, TooMany) ∷ []) (unless ((is_beyond s i, BeyondEnd) ∷ []) (access c size m s home i intent)) (guarded intent)
 
   load_balanced : (offset count : ℕ) → IsBalanced (Some m) (load c size m home i offset count s)
   load_balanced offset count =
@@ -117,9 +119,11 @@ mount_by stamp false false true node nr (Ok l) = record {
   limited = inl (omega arith);
 }
 
-told : (p : Pool) (d : ℕ) (q : Pool) → (if◌then◌else◌ {A = PoolAnswer × Pool} (can_grant d p) (record { granted = true; node = 0; nr = p.nr }, q) (record { granted = false; node = 0; nr = p.nr }, p)).0.nr ≡ p.nr
+told : (p : Pool) (d : ℕ) (q : Pool) → (if◌then◌else◌ {A = PoolAnswer × Pool} (can_grant d p) (record { granted = true; node = 0; nr = p.nr }, q)
+    (record { granted = false; node = 0; nr = p.nr }, p)).0.nr ≡ p.nr
 told p d q =
-    cond_both (can_grant d p) (record { granted = true; node = 0; nr = p.nr }, q) (record { granted = false; node = 0; nr = p.nr }, p) (λ (x : PoolAnswer × Pool). x.0.nr ≡ p.nr) (λ e. refl) (λ e. refl)
+    cond_both (can_grant d p) (record { granted = true; node = 0; nr = p.nr }, q) (record { granted = false; node = 0; nr = p.nr }, p)
+    (λ (x : PoolAnswer × Pool). x.0.nr ≡ p.nr) (λ e. refl) (λ e. refl)
 
 pub tells_nr : (p : Pool) (after_grant : Bool) (d : ℕ) → (section p (if after_grant then GrantAndReturn d else ReadAndGrant d)).0.nr ≡ p.nr
 tells_nr p true d = told p d (settled (released d (granted 0 d p)))

@@ -1,5 +1,6 @@
 -- What each step of a settled machine answers is within the limits of a reply's text.
-use Rattle.std.proofs.Common.{◌≡◌, subst, ℕ, suc, ◌+◌, ◌*◌, ◌^◌, ◌<◌, ◌≤◌, ◌||◌, ◌&&◌, ◌==◌, ◌∙◌, Bool, true, false, not, Option, None, Some, is_some, Ok, Err, List, [], ◌∷◌, ◌++◌, drop, replicate, map, length, refl, sym, ap, arith, if◌then◌else◌, cond, nat_lt, nat_le}
+use Rattle.std.proofs.Common.{◌≡◌, subst, ℕ, suc, ◌+◌, ◌*◌, ◌^◌, ◌<◌, ◌≤◌, ◌||◌, ◌&&◌, ◌==◌, ◌∙◌, Bool, true, false, not, Option, None, Some}
+use Rattle.std.proofs.Common.{is_some, Ok, Err, List, [], ◌∷◌, ◌++◌, drop, replicate, map, length, refl, sym, ap, arith, if◌then◌else◌, cond, nat_lt, nat_le}
 use Rattle.std.specs.List.{All, filter, position_or_len, range_with_len}
 use Rattle.std.proofs.lemmas.Bool.{cond_both, leb-false, ltb-false, or_parts}
 use Rattle.std.proofs.lemmas.List.{length-map}
@@ -23,7 +24,8 @@ use Rattle.hp_model.specs.declared.event.SlotEvent.TheVariants as slot
 use Rattle.hp_model.specs.declared.event.TableEvent.TheVariants as table
 use Rattle.hp_model.specs.declared.node.NodeRow.{NodeRow}
 use Rattle.hp_model.specs.declared.refusal.Refusal.{Refusal}
-use Rattle.hp_model.specs.declared.refusal.Refusal.TheVariants.{MountFull, NoPages, OutOfMemory, OutOfRange, CrossesPage, TooMany, BeyondEnd, NoSuchMap, NoSuchFile, NoSuchNode, TaskExists, BadName, FileExists, NoInodes, Busy}
+use Rattle.hp_model.specs.declared.refusal.Refusal.TheVariants.{MountFull, NoPages, OutOfMemory, OutOfRange, CrossesPage, TooMany, BeyondEnd, NoSuchMap}
+use Rattle.hp_model.specs.declared.refusal.Refusal.TheVariants.{NoSuchFile, NoSuchNode, TaskExists, BadName, FileExists, NoInodes, Busy}
 use Rattle.hp_model.specs.declared.step.Intent.{Intent}
 use Rattle.hp_model.specs.declared.step.Intent.TheVariants.{Read, Write}
 use Rattle.hp_model.specs.declared.step.Reserving.{Reserving}
@@ -49,7 +51,9 @@ use Rattle.hp_model.specs.Profile.{most_overcommit, most_bytes, most_file_pages,
 use Rattle.hp_model.specs.machine.Promises.{is_usage}
 use Rattle.hp_model.specs.pool.Resize.{no_count, node_count, pool_event}
 use Rattle.hp_model.specs.machine.Settled.{IsSettledState}
-use Rattle.hp_model.specs.machine.SlotEvent.{anon_tests, edited, fault, fault_tests, fork_tests, is_bad_range, on_mount, punch, read, truncate, unlink, unmap, are_too_many_maps, byte_access, bytes_answer, file_named, has_maps, is_beyond, is_name, is_new_task_over, is_unmapped, load, map_file, slot_event, store}
+use Rattle.hp_model.specs.machine.SlotEvent.{anon_tests, edited, fault, fault_tests, fork_tests, is_bad_range, on_mount, punch, read}
+use Rattle.hp_model.specs.machine.SlotEvent.{truncate, unlink, unmap, are_too_many_maps, byte_access, bytes_answer, file_named, has_maps, is_beyond}
+use Rattle.hp_model.specs.machine.SlotEvent.{is_name, is_new_task_over, is_unmapped, load, map_file, slot_event, store}
 use Rattle.hp_model.specs.files.Spot.{Spot, again, copied, spot, written}
 use Rattle.hp_model.specs.machine.State.{Node, State, slot_at}
 use Rattle.hp_model.specs.machine.Step.{Answer_with, Do, IsScript, IsStep, Script, Where_mapped, exit_slots, fork_slots, or_undone, script, when_done}
@@ -144,7 +148,8 @@ create_small : (size k : ℕ) (c : Choice) (old : Slot) (name : List ℕ) → Al
 create_small size k c None name = tt
 create_small size k c (Some m) name =
     always_unless Small (λ r. tt)
-    ((not (is_name name), BadName) ∷ (is_some (file_named m name), FileExists) ∷ (nat_le most_files (length m.files), TooMany) ∷ (is_over m.limits.inodes (length m.files + 1), NoInodes) ∷ (c.refused, OutOfMemory) ∷ [])
+    ((not (is_name name), BadName) ∷ (is_some (file_named m name), FileExists) ∷ (nat_le most_files (length m.files), TooMany)
+    ∷ (is_over m.limits.inodes (length m.files + 1), NoInodes) ∷ (c.refused, OutOfMemory) ∷ [])
     (Finish (Answered Done (Some (with_new m (new_file (Some name)))))) tt
 
 mount_small : (size k : ℕ) (c : Choice) (old : Slot) (options : List ℕ) → Always Small (slot_event size k c old (slot.Mount options))
@@ -210,7 +215,8 @@ store_small size k c None task home number i offset bytes = tt
 store_small size k c (Some m) task home number i offset bytes =
     always_value Small (λ r. tt) (spot m (is_map task number)) NoSuchMap (store c size m home i offset bytes)
     (λ s e. (let at = spot_is m (is_map task number) s e in
-    always_then (On (Result size m s at i)) Small (λ n. Answered Done (Some (written n s i offset bytes))) (store_ends size m s at i offset bytes) (byte_access c size m home i offset (length bytes) Write s)
+    always_then (On (Result size m s at i)) Small (λ n. Answered Done (Some (written n s i offset bytes))) (store_ends size m s at i offset bytes)
+    (byte_access c size m home i offset (length bytes) Write s)
     (bytes_on size c m home i (Result size m s at i) offset (length bytes) Write s (write_done size m s at i c home))))
 
 anon_small : (size k : ℕ) (c : Choice) (m : Mount) (task home n : ℕ) (sharing : Sharing) (reserving : Reserving)
@@ -356,7 +362,8 @@ rows_small (r ∷ rows) all =
 
 pool_small : (s : State) → IsSettledState s → (e : PoolEvent) → IsWithinLimits (pool_event (pool_of s) e).0
 pool_small s st (pool.Nr n) = nr_small s st n
-pool_small s st (pool.Overcommit n) = cond_both (nat_le n most_overcommit) (Ok Done, record (pool_of s) { overcommit = n }) (Err OutOfRange, pool_of s) (λ (q : Reply × Pool). IsWithinLimits q.0) (λ e. tt) (λ e. tt)
+pool_small s st (pool.Overcommit n) = cond_both (nat_le n most_overcommit) (Ok Done, record (pool_of s) { overcommit = n })
+    (Err OutOfRange, pool_of s) (λ (q : Reply × Pool). IsWithinLimits q.0) (λ e. tt) (λ e. tt)
 pool_small s st pool.Meminfo = meminfo_small s st
 pool_small s st pool.Nodes =
     let rows = (pool_of s).nodes.rows in
@@ -420,8 +427,12 @@ module _ (s : State) (st : IsSettledState s) where
   pub step_small : (reply : Reply) (t : State) (step : Step) → IsStep s step reply t → is_usage step ≡ false → IsWithinLimits reply
   step_small reply t step is =
       by_event s SmallUnlessTold (λ step r early apart. tt) (λ e reply t whole it apart. event_small s st e reply t it (sym (told_same e whole) ∙ apart))
-      (λ parent child reply t it apart. script_small (script (length s.slots) (Fork parent child)) (λ r. when_small r (fork_slots (range_with_len 0 (length s.slots)) [] parent child) (forks_small (range_with_len 0 (length s.slots)) [] parent child)) s reply t it)
-      (λ task reply t it apart. script_small (script (length s.slots) (Exit task)) (λ r. when_small r (exit_slots (range_with_len 0 (length s.slots)) task (Answer_with (Ok Done))) (exits_small (range_with_len 0 (length s.slots)) task (Answer_with (Ok Done)) tt)) s reply t it) reply t step is
+      (λ parent child reply t it apart. script_small (script (length s.slots) (Fork parent child))
+      (λ r. when_small r (fork_slots (range_with_len 0 (length s.slots)) [] parent child)
+      (forks_small (range_with_len 0 (length s.slots)) [] parent child)) s reply t it)
+      (λ task reply t it apart. script_small (script (length s.slots) (Exit task))
+      (λ r. when_small r (exit_slots (range_with_len 0 (length s.slots)) task (Answer_with (Ok Done)))
+      (exits_small (range_with_len 0 (length s.slots)) task (Answer_with (Ok Done)) tt)) s reply t it) reply t step is
 
 pub within_limits : (s : State) (step : Step) (reply : Reply) (t : State) → IsSettledState s → IsStep s step reply t → (is_usage step ≡ true → IsWithinLimits reply) → IsWithinLimits reply
 within_limits s step reply t st is usage = by_kind (is_usage step) refl

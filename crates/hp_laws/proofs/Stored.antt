@@ -52,13 +52,15 @@ module _ (size : ℕ) (m : Mount) (s : Spot) (at : IsSpot m s) (i : ℕ) (n : Mo
     other_index : (i == x) ≡ false → look size x (file_in after j) ≡ look size x (file_in m j)
     other_index e =
         unseen
-        (λ f. cond_both (is_shared s.map.sharing) (record f { cells = edit_at (cell_written offset bytes) f.cells i }) (record f { maps = edit_at (map_written i offset bytes) f.maps s.map_no }) (λ g. look size x g ≡ look size x f)
+        (λ f. cond_both (is_shared s.map.sharing) (record f { cells = edit_at (cell_written offset bytes) f.cells i })
+        (record f { maps = edit_at (map_written i offset bytes) f.maps s.map_no }) (λ g. look size x g ≡ look size x f)
         (λ t. ap (shown size) (edit_other (cell_written offset bytes) Hole f.cells i x (λ same. eqb-false i x e (sym same))))
         (λ t. refl))
 
     other_kind : is_shared s.map.sharing ≡ false → look size x (file_in after j) ≡ look size x (file_in m j)
     other_kind e =
-        unseen (λ f. ap (λ b. look size x (if b then record f { cells = edit_at (cell_written offset bytes) f.cells i } else record f { maps = edit_at (map_written i offset bytes) f.maps s.map_no })) e)
+        unseen (λ f. ap (λ b. look size x (if b then record f { cells = edit_at (cell_written offset bytes) f.cells i }
+        else record f { maps = edit_at (map_written i offset bytes) f.maps s.map_no })) e)
 
     other_file : (s.file_no == j) ≡ false → look size x (file_in after j) ≡ look size x (file_in m j)
     other_file e = ap (look size x) (edit_other edit (new_file None) n.files s.file_no j (λ same. eqb-false s.file_no j e (sym same))) ∙ is.cells j x

@@ -68,7 +68,8 @@ module _ (child : ℕ) where
       where
         by_kept : (b : Bool) → is_kept (h f) ≡ b → filter is_kept (map (file_without child) (filter is_kept (map h fs))) ≡ filter is_kept (map (file_without child) fs)
             → filter is_kept (map (file_without child) (cond b (h f ∷ filter is_kept (map h fs)) (filter is_kept (map h fs)))) ≡ filter is_kept (map (file_without child) (f ∷ fs))
-        by_kept true is rest = ap (λ (g : File). filter is_kept (g ∷ map (file_without child) (filter is_kept (map h fs)))) (same f) ∙ ap (λ ys. cond (is_kept (file_without child f)) (file_without child f ∷ ys) ys) rest
+        by_kept true is rest = ap (λ (g : File). filter is_kept (g ∷ map (file_without child) (filter is_kept (map h fs)))) (same f)
+            ∙ ap (λ ys. cond (is_kept (file_without child f)) (file_without child f ∷ ys) ys) rest
         by_kept false is rest =
             rest ∙ sym (ap (λ b. cond b (file_without child f ∷ filter is_kept (map (file_without child) fs)) (filter is_kept (map (file_without child) fs)))
             (ap is_kept (sym (same f)) ∙ gone_without (h f) is))

@@ -12,7 +12,8 @@ use Rattle.hp_model.specs.declared.event.TableEvent.TheVariants as table
 use Rattle.hp_model.specs.declared.refusal.Refusal.{Refusal}
 use Rattle.hp_model.specs.declared.refusal.Refusal.TheVariants.{NoSuchSlot}
 use Rattle.hp_model.specs.declared.step.Step.{Step}
-use Rattle.hp_model.specs.declared.step.Step.TheVariants.{Connect, Attach, Fork, Exit, Mount, Umount, Create, Unlink, Truncate, Punch, Read, Ls, Stat, Map, Anon, Unmap, Fault, Load, Store, Nr, Overcommit, Meminfo, Nodes, Df}
+use Rattle.hp_model.specs.declared.step.Step.TheVariants.{Connect, Attach, Fork, Exit, Mount, Umount, Create, Unlink, Truncate, Punch, Read, Ls}
+use Rattle.hp_model.specs.declared.step.Step.TheVariants.{Stat, Map, Anon, Unmap, Fault, Load, Store, Nr, Overcommit, Meminfo, Nodes, Df}
 use Rattle.hp_model.specs.machine.Plan.{Reply}
 use Rattle.hp_model.specs.machine.Step.{Answer_with, Do, Script, Where_mapped, exit_slots, fork_slots, home_in, on_slot, only, or_undone, script, undone, when_done}
 use Rattle.hp_model.specs.threads.Telling.{Tells, TellsFront, most_receipts}
@@ -81,10 +82,18 @@ forks [] done parent child = tt
 forks (k ∷ ks) done parent child =
     let rest = forks ks (done ++ k ∷ []) parent child in
     let long = length-append done (k ∷ []) in
-    let here : AtMost (2 * length ks + length done + 1) (fork_slots ks (done ++ k ∷ []) parent child) = subst (λ n. AtMost n (fork_slots ks (done ++ k ∷ []) parent child)) (omega (arith, long)) rest in
-    let back : (r : Refusal) → AtMost (2 * length ks + (length done + 1)) (undone done child r) = λ r. more_by (2 * length ks) (length done + 1) (undone done child r) (exits done child 1 (Do (Tasks (table.Remove child)) (λ reply. Answer_with (Err r))) (λ reply. tt)) in
-    let each : (r : Reply) → AtMost (2 * length ks + length done + 1) (or_undone done child r (fork_slots ks (done ++ k ∷ []) parent child)) = go here (λ r. subst (λ n. AtMost n (undone done child r)) (omega arith) (back r)) in
-    let both : AtMost (suc (2 * length ks + length done + 1)) (fork_slots (k ∷ ks) done parent child) = (each, subst (λ n. AtMost n (fork_slots ks done parent child)) (omega arith) (more_by 2 (2 * length ks + length done) (fork_slots ks done parent child) (forks ks done parent child))) in
+    let here : AtMost (2 * length ks + length done + 1) (fork_slots ks (done ++ k ∷ []) parent child) =
+    subst (λ n. AtMost n (fork_slots ks (done ++ k ∷ []) parent child)) (omega (arith, long)) rest in
+    let back : (r : Refusal) → AtMost (2 * length ks + (length done + 1)) (undone done child r) = λ r.
+    more_by (2 * length ks) (length done + 1) (undone done child r) (exits done child 1
+    (Do (Tasks (table.Remove child)) (λ reply. Answer_with (Err r))) (λ reply. tt)) in
+    let each : (r : Reply) → AtMost (2 * length ks + length done + 1) (or_undone done child r (fork_slots ks (done ++ k ∷ []) parent child)) =
+    go here (λ r. subst (λ n. AtMost n (undone done child r)) (omega arith) (back r)) in
+    let both : AtMost (suc (2 * length ks + length done + 1)) (fork_slots (k ∷ ks) done parent child) = (
+      each,
+      subst (λ n. AtMost n (fork_slots ks done parent child)) (omega arith)
+          (more_by 2 (2 * length ks + length done) (fork_slots ks done parent child) (forks ks done parent child)),
+    ) in
     subst (λ n. AtMost n (fork_slots (k ∷ ks) done parent child)) (omega arith) both
   where
     go : AtMost (2 * length ks + length done + 1) (fork_slots ks (done ++ k ∷ []) parent child) → ((r : Refusal) → AtMost (2 * length ks + length done + 1) (undone done child r))
@@ -94,11 +103,13 @@ forks (k ∷ ks) done parent child =
 
 fork_most : (slots parent child : ℕ) (r : Reply) → AtMost (2 * slots) (when_done r (fork_slots (range_with_len 0 slots) [] parent child))
 fork_most slots parent child (Err r) = tt
-fork_most slots parent child (Ok a) = subst (λ n. AtMost n (fork_slots (range_with_len 0 slots) [] parent child)) (let l = long_range 0 slots in omega (arith, l)) (forks (range_with_len 0 slots) [] parent child)
+fork_most slots parent child (Ok a) = subst (λ n. AtMost n (fork_slots (range_with_len 0 slots) [] parent child))
+    (let l = long_range 0 slots in omega (arith, l)) (forks (range_with_len 0 slots) [] parent child)
 
 exit_most : (slots task : ℕ) (r : Reply) → AtMost slots (when_done r (exit_slots (range_with_len 0 slots) task (Answer_with (Ok answer.Done))))
 exit_most slots task (Err r) = tt
-exit_most slots task (Ok a) = subst (λ n. AtMost n (exit_slots (range_with_len 0 slots) task (Answer_with (Ok answer.Done)))) (let l = long_range 0 slots in omega (arith, l)) (exits (range_with_len 0 slots) task 0 (Answer_with (Ok answer.Done)) tt)
+exit_most slots task (Ok a) = subst (λ n. AtMost n (exit_slots (range_with_len 0 slots) task (Answer_with (Ok answer.Done))))
+    (let l = long_range 0 slots in omega (arith, l)) (exits (range_with_len 0 slots) task 0 (Answer_with (Ok answer.Done)) tt)
 
 steps : (slots : ℕ) (step : Step) → AtMost (most_receipts slots step) (script slots step)
 steps slots (Connect task home) = λ r. tt
@@ -132,5 +143,7 @@ steps slots Meminfo = λ r. tt
 steps slots Nodes = λ r. tt
 steps slots (Df k) = slot_one slots k slot.Df
 
-pub receipts_are_few : (slots : ℕ) (step : Step) (xs : List (Event × Reply)) → ((reply : Reply) → Tells (script slots step) xs reply → length xs ≤ most_receipts slots step) × (TellsFront (script slots step) xs → length xs < most_receipts slots step)
+pub receipts_are_few : (slots : ℕ) (step : Step) (xs : List (Event × Reply)) →
+    ((reply : Reply) → Tells (script slots step) xs reply → length xs ≤ most_receipts slots step)
+    × (TellsFront (script slots step) xs → length xs < most_receipts slots step)
 receipts_are_few slots step xs = (most (most_receipts slots step) (script slots step) (steps slots step) xs, front (most_receipts slots step) (script slots step) (steps slots step) xs)

@@ -81,7 +81,8 @@ module _ (s : State) (k : ℕ) (st : IsSettledState s) (new : Slot) (sound : IsS
   after_it = with_slot (with_pool s q) k new
 
   -- what the change of the slot says of the sums
-  wanted : (sec : Section) (a : PoolAnswer) → k < length s.slots → Moves (slot_at s k) sec a new → IsWanted (pool_of s) sec a (λ n. used_at n s) (λ n. used_at n after_it) (committed_pages after_it) (length s.nodes)
+  wanted : (sec : Section) (a : PoolAnswer) → k < length s.slots → Moves (slot_at s k) sec a new →
+      IsWanted (pool_of s) sec a (λ n. used_at n s) (λ n. used_at n after_it) (committed_pages after_it) (length s.nodes)
   wanted sec a l change =
       let ns : List ℕ = range_with_len 0 (length s.nodes) in
       let commits = sum_by-set slot_committed s.slots k new None l in
@@ -138,7 +139,8 @@ plan_tied s k (Finish o) l st b sound =
     let p : Pool = pool_of s in
     let w = wanted s k st new sound p (Grant 0 0) no_pages l b in
     let homed = homed_after s k st new sound p (Grant 0 0) no_pages l b (λ e. cc) in
-    let leads = relead p p _ _ _ _ (unchanged p st.pool) (let x = w.commits in omega (arith, x)) (same_list p (λ n. used_at n s) (λ n. used_at n (with_slot (with_pool s p) k new)) (length s.nodes) w.few w.was w.pages) in
+    let leads = relead p p _ _ _ _ (unchanged p st.pool) (let x = w.commits in omega (arith, x))
+    (same_list p (λ n. used_at n s) (λ n. used_at n (with_slot (with_pool s p) k new)) (length s.nodes) w.few w.was w.pages) in
     let t = tied s st (slice_set s.slots k new) (All-set IsSound s.slots k new sound st.slots) p leads homed in
     let is : with_slot (with_pool s p) k new ≡ (settled s k o).1 = ap (λ x. with_slot x k new) (pool_back s) ∙ sym (settled_is s k o) in
     subst (λ (x : State). Tied s (Finish o) x) is t
@@ -147,7 +149,8 @@ plan_tied s k (Ask sec f) l st b sound =
     let new : Slot = left_by (slot_at s k) (f q.0) in
     let moves = subst (λ (x : Section). Moves (slot_at s k) x q.0 new) (b.1 (pool_of s)) (b.0 q.0) in
     let w = wanted s k st new (sound q.0) q.1 (sec s.nr) q.0 l moves in
-    let leads = section_leads (pool_of s) (sec s.nr) (λ n. used_at n s) (λ n. used_at n (with_slot (with_pool s q.1) k new)) (committed_pages (with_slot (with_pool s q.1) k new)) (length s.nodes) st.pool w in
+    let leads = section_leads (pool_of s) (sec s.nr) (λ n. used_at n s) (λ n. used_at n (with_slot (with_pool s q.1) k new))
+    (committed_pages (with_slot (with_pool s q.1) k new)) (length s.nodes) st.pool w in
     let homed = homed_after s k st new (sound q.0) q.1 (sec s.nr) q.0 l moves leads.1 in
     let t = tied s st (slice_set s.slots k new) (All-set IsSound s.slots k new (sound q.0) st.slots) q.1 leads.0 homed in
     subst (λ (x : State). Tied s (Ask sec f) x) (sym (settled_is (with_pool s q.1) k (f q.0))) t

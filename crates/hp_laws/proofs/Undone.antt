@@ -1,5 +1,6 @@
 -- What a refused fork leaves: the slots are as they were, or without the child's old maps.
-use Rattle.std.proofs.Common.{◌≡◌, ⊎_elim, inl, inr, ◌⊎◌, subst, ℕ, ◌||◌, ◌==◌, ◌&&◌, Bool, true, false, Option, None, Some, is_some, Ok, Err, List, [], ◌∷◌, ◌++◌, length, map, option_map, refl, sym, ap, ◌∙◌, if◌then◌else◌}
+use Rattle.std.proofs.Common.{◌≡◌, ⊎_elim, inl, inr, ◌⊎◌, subst, ℕ, ◌||◌, ◌==◌, ◌&&◌, Bool, true, false, Option, None, Some}
+use Rattle.std.proofs.Common.{is_some, Ok, Err, List, [], ◌∷◌, ◌++◌, length, map, option_map, refl, sym, ap, ◌∙◌, if◌then◌else◌}
 use Rattle.std.specs.Bool.{MatchBool}
 use Rattle.hp_model.specs.declared.answer.Answer.{Answer}
 use Rattle.std.specs.List.{sum, find, range_with_len, slice_index_or, slice_set}
@@ -99,7 +100,8 @@ module _ (child : ℕ) where
 
   fork_gives : (parent size k : ℕ) (c : Choice) (old : Slot) → Gives (slot_event size k c old (slot.ForkMaps parent child))
   fork_gives parent size k c None = tt
-  fork_gives parent size k c (Some m) = plan_unless Gives (λ r. tt) (fork_tests c m parent child) (gives Done (Some m) (Some (forked parent child m))) (gives_back Done (Some m) (Some (forked parent child m)))
+  fork_gives parent size k c (Some m) = plan_unless Gives (λ r. tt) (fork_tests c m parent child) (gives Done (Some m) (Some (forked parent child m)))
+      (gives_back Done (Some m) (Some (forked parent child m)))
 
   -- touched: the child's maps aside it is as it was; and they are there only where it is still to be undone
   record Touched (old new : Slot) (todo : Bool) : Type 0 where
@@ -166,7 +168,8 @@ added_removed : (child home : ℕ) (xs : Table) → is_known xs child ≡ false 
 added_removed child home [] e = rw (eq-eqb child child refl) refl
 added_removed child home (x ∷ xs) e = by_test (x.0 == child) refl e (added_removed child home xs)
   where
-    by_test : (b : Bool) → (x.0 == child) ≡ b → is_known (x ∷ xs) child ≡ false → (is_known xs child ≡ false → removed (added xs child home) child ≡ xs) → removed (added (x ∷ xs) child home) child ≡ x ∷ xs
+    by_test : (b : Bool) → (x.0 == child) ≡ b → is_known (x ∷ xs) child ≡ false →
+        (is_known xs child ≡ false → removed (added xs child home) child ≡ xs) → removed (added (x ∷ xs) child home) child ≡ x ∷ xs
     by_test true is e rest = (let known : is_known (x ∷ xs) child ≡ true = rw is refl in cc)
     by_test false is e rest = rw is (ap (λ ys. x ∷ ys) (rest (subst (λ b. is_some (option_map (λ (q : ℕ × ℕ). q.1) (if b then Some x else find (λ (q : ℕ × ℕ). q.0 == child) xs)) ≡ false) is e)))
 
@@ -235,7 +238,8 @@ module _ (s : State) (parent child home : ℕ) (unknown : is_known s.table child
   removes : (u : State) (r : Refusal) (reply : Reply) → Forking [] u → IsScript u (Do (Tasks (table.Remove child)) (λ q. Answer_with (Err r))) reply t → LeavesOthers s child t
   removes u r reply forking is = by_home (home_of u.table child) (ap (λ x. is_some (home_of x child)) forking.table ∙ find_added child home s.table) is.0 is.1 is.2.2 is.3.1
     where
-      by_home : (o : Option ℕ) → is_some o ≡ true → (q : Reply) (mid : State) → with_table u (when_known u.table o (λ home. (Ok Done, removed u.table child))) ≡ (q, mid) → t ≡ mid → LeavesOthers s child t
+      by_home : (o : Option ℕ) → is_some o ≡ true → (q : Reply) (mid : State) →
+          with_table u (when_known u.table o (λ home. (Ok Done, removed u.table child))) ≡ (q, mid) → t ≡ mid → LeavesOthers s child t
       by_home None known q mid e same = cc
       by_home (Some at) known q mid e same =
           let gone : record u { table = removed u.table child } ≡ mid = ap (λ (x : Reply × State). x.1) e in

@@ -19,7 +19,8 @@ use Rattle.hp_model.specs.files.Mapping.{is_map}
 use Rattle.hp_model.specs.files.MountCounts.{usage_of}
 use Rattle.hp_model.specs.machine.Plan.{Answered, Choice, Finish, Plan, gives, grant, refuse, unless, with_value}
 use Rattle.hp_model.specs.Profile.{most_file_pages}
-use Rattle.hp_model.specs.machine.SlotEvent.{anon_tests, bytes_answer, create_tests, edited, fault, file_named, fork_tests, has_name, is_bad_range, load, map_file, map_tests, on_mount, punch, read, read_tests, stat, store, truncate, umount_tests, unlink, unmap}
+use Rattle.hp_model.specs.machine.SlotEvent.{anon_tests, bytes_answer, create_tests, edited, fault, file_named, fork_tests, has_name, is_bad_range, load, map_file}
+use Rattle.hp_model.specs.machine.SlotEvent.{map_tests, on_mount, punch, read, read_tests, stat, store, truncate, umount_tests, unlink, unmap}
 use Rattle.hp_model.specs.files.Spot.{Spot, spot}
 use Rattle.hp_model.specs.files.Value.{shown}
 use Rattle.hp_laws.proofs.MountMoves.{IsFileAt, IsSpot, file_at, spot_is}

@@ -9,7 +9,11 @@ use hp_model::section::{PoolAnswer, Section};
 use hp_trail::trail::Trail;
 
 // Notes a section with the pool's answer, and tells where.
-pub(crate) fn note<T: Trail<PoolEntry>>(trail: &mut T, section: Section, answer: PoolAnswer) -> Asked
+pub(crate) fn note<T: Trail<PoolEntry>>(
+    trail: &mut T,
+    section: Section,
+    answer: PoolAnswer,
+) -> Asked
     requires { has_room true (T.left trail.old) (T.extra trail.old) ≡ true }
     ensures entries { T.entries trail.new ≡ added (T.entries trail.old) (OfSlot section answer) }
     ensures left { T.left trail.new ≡ one_less (T.left trail.old) }

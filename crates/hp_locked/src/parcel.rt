@@ -26,7 +26,8 @@ impl<N: Naming> Model for Parcel<N> {
 
     ghost Value = { List ℕ };
 
-    ghost view = { λ p. amount_of p.zero ∷ amount_of p.one ∷ amount_of p.two ∷ amount_of p.three ∷ [] };
+    ghost view = { λ p. amount_of p.zero ∷ amount_of p.one ∷ amount_of p.two ∷ amount_of p.three
+        ∷ [] };
 
     ghost invariant = { λ p. IsPart 0 p.zero × IsPart 1 p.one × IsPart 2 p.two × IsPart 3 p.three };
 }
@@ -66,7 +67,8 @@ fn put_part<N: Naming, const K: usize>(
     requires part { IsPart K kept }
     requires within { amount_of kept ≤ share.old.pages }
     ensures share { share.new ≡ record share.old { pages = share.old.pages - amount_of kept } }
-    ensures pool { pool.new ≡ released (fall share.old (amount_of kept)) (kept_times K (amount_of kept) pool.old) }
+    ensures pool { pool.new ≡ released (fall share.old (amount_of kept))
+        (kept_times K (amount_of kept) pool.old) }
     ensures used { in_use pool.new + amount_of kept ≡ in_use pool.old }
 {
     if let Some(claim) = kept {
@@ -91,7 +93,8 @@ impl<N: Naming> Parcel<N> {
     pub fn with(self, claim: Claim<N>) -> Self
         requires some { 0 < claim.amount }
         requires few { N.frames claim.node < 2 ^ 64 }
-        ensures added { result ≡ slice_set self claim.node (slice_index self claim.node + claim.amount) }
+        ensures added { result ≡ slice_set self claim.node
+            (slice_index self claim.node + claim.amount) }
         ensures below { claim.node < 4 }
     {
         let Parcel {

@@ -1,7 +1,9 @@
 -- Places in chunks of which some were never written.
-use Rattle.std.proofs.Common.{◌≡◌, ◌≢◌, ℕ, ◌+◌, ◌-◌, ◌*◌, ◌/◌, ◌%◌, ◌<◌, ◌≤◌, inl, inr, true, nat_lt, is_some, List, ◌++◌, length, map, replicate, take, drop, slice_index, slice_index_or, slice_set, cond, refl, sym, subst, ◌∙◌, ap, arith}
+use Rattle.std.proofs.Common.{◌≡◌, ◌≢◌, ℕ, ◌+◌, ◌-◌, ◌*◌, ◌/◌, ◌%◌, ◌<◌, ◌≤◌, inl, inr, true, nat_lt, is_some, List}
+use Rattle.std.proofs.Common.{◌++◌, length, map, replicate, take, drop, slice_index, slice_index_or, slice_set, cond, refl, sym, subst, ◌∙◌, ap, arith}
 use Rattle.std.proofs.lemmas.Bool.{cases_eq, cases_lt, lt-ltb}
-use Rattle.std.proofs.lemmas.List.{same_lists, get_or-set_same, get_or-set_other, get_or-replicate, get_or_append_left, get_or-append_right, get_or-drop, get_or-take, get_or_default, get_or_past, length-append, length-drop, length-map, length-replicate, length-set, length-take}
+use Rattle.std.proofs.lemmas.List.{same_lists, get_or-set_same, get_or-set_other, get_or-replicate, get_or_append_left, get_or-append_right, get_or-drop, get_or-take}
+use Rattle.std.proofs.lemmas.List.{get_or_default, get_or_past, length-append, length-drop, length-map, length-replicate, length-set, length-take}
 use Rattle.std.proofs.lemmas.List.Folds.{sum_by-replicate}
 use Rattle.std.proofs.lemmas.List.FromFn.{fill_by_all, get_or-map-range_with_len, length-map-range_with_len}
 use Rattle.std.proofs.lemmas.List.Sums.{count_by-le-length, sum_by-set}
@@ -97,7 +99,8 @@ module _ (count : ℕ) (homes : List ℕ) (places : List (Place ℕ)) (chunked :
         ]))
 
 -- a place comes into a chunk of its own, and is read or changed
-module _ (count : ℕ) (homes : List ℕ) (places : List (Place ℕ)) (new : List ℕ) (now : List (Place ℕ)) (at slot : ℕ) (chunked : IsChunked new now) (same : IsSame homes places new now) (less : at < count) (slot_is : slot ≡ slot_of new at) where
+module _ (count : ℕ) (homes : List ℕ) (places : List (Place ℕ)) (new : List ℕ) (now : List (Place ℕ)) (at slot : ℕ) (chunked : IsChunked new now)
+    (same : IsSame homes places new now) (less : at < count) (slot_is : slot ≡ slot_of new at) where
   as_before : all_places count new now ≡ all_places count homes places
   as_before = same_as count homes places (all_places count new now) (long count new now) (λ k below. get_place count new now k below ∙ same k)
 
@@ -155,7 +158,8 @@ all_forked count homes places =
 
 -- ---- a chunk comes
 
-module _ (homes : List ℕ) (places : List (Place ℕ)) (index home : ℕ) (chunked : IsChunked homes places) (none : slice_index homes index ≡ 0) (within : index < length homes) (home_is : home ≡ length places / 64) where
+module _ (homes : List ℕ) (places : List (Place ℕ)) (index home : ℕ) (chunked : IsChunked homes places) (none : slice_index homes index ≡ 0)
+    (within : index < length homes) (home_is : home ≡ length places / 64) where
   abbrev is_own : ℕ → ℕ
   is_own h = cond (nat_lt 0 h) 1 0
 
@@ -232,7 +236,8 @@ module _ (homes : List ℕ) (places : List (Place ℕ)) (index home : ℕ) (chun
 
 -- ---- a run
 
-module _ (count : ℕ) (homes : List ℕ) (places : List (Place ℕ)) (chunked : IsChunked homes places) (at n : ℕ) (less : at < count) (some : 0 < n) (in_chunk : at % 64 + n ≤ 64) (in_count : at + n ≤ count) where
+module _ (count : ℕ) (homes : List ℕ) (places : List (Place ℕ)) (chunked : IsChunked homes places) (at n : ℕ) (less : at < count) (some : 0 < n)
+    (in_chunk : at % 64 + n ≤ 64) (in_count : at + n ≤ count) where
   abbrev run : List (Place ℕ)
   run = take n (drop (slot_of homes at) places)
 
@@ -246,7 +251,8 @@ module _ (count : ℕ) (homes : List ℕ) (places : List (Place ℕ)) (chunked :
   part = take (length run) (drop at (all_places count homes places))
 
   part_long : length part ≡ n
-  part_long = (let a = length-take (length run) (drop at (all_places count homes places)) in let b = length-drop at (all_places count homes places) in let c = long count homes places in omega (arith, a, b, c, run_long, in_count))
+  part_long = (let a = length-take (length run) (drop at (all_places count homes places)) in let b = length-drop at (all_places count homes places) in
+      let c = long count homes places in omega (arith, a, b, c, run_long, in_count))
 
   pub is_run : IsRun at (all_places count homes places) run
   is_run = record {
@@ -258,5 +264,6 @@ module _ (count : ℕ) (homes : List ℕ) (places : List (Place ℕ)) (chunked :
         let all = all_places count homes places in
         get_or_default run k d Gone below
         ∙ get_or-take n (drop (slot_of homes at) places) k Gone small ∙ get_or-drop (slot_of homes at) places k Gone ∙ ap (λ s. slice_index_or places s Gone) slot
-        ∙ sym (get_or_default part k d Gone (omega (arith, part_long, small)) ∙ get_or-take (length run) (drop at all) k Gone below ∙ get_or-drop at all k Gone ∙ get_place count homes places (at + k) (omega (arith, in_count, small)))));
+        ∙ sym (get_or_default part k d Gone (omega (arith, part_long, small)) ∙ get_or-take (length run) (drop at all) k Gone below
+        ∙ get_or-drop at all k Gone ∙ get_place count homes places (at + k) (omega (arith, in_count, small)))));
   }

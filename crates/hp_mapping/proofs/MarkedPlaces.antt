@@ -1,6 +1,7 @@
 -- Places with their marks, after a change of one place.
 use mir.Val.{bool_byte}
-use Rattle.std.proofs.Common.{refl, zero, suc, [], ◌∷◌, ◌||◌, replicate, map, Option, None, Some, IfSome, IfNone, is_some, not, ◌≡◌, ℕ, ◌*◌, ◌<◌, ◌≤◌, ◌-◌, inl, inr, Bool, true, false, List, length, slice_index_or, slice_set, sym, ◌∙◌, ap, cond, ◌+◌, arith}
+use Rattle.std.proofs.Common.{refl, zero, suc, [], ◌∷◌, ◌||◌, replicate, map, Option, None, Some, IfSome, IfNone, is_some, not, ◌≡◌, ℕ, ◌*◌}
+use Rattle.std.proofs.Common.{◌<◌, ◌≤◌, ◌-◌, inl, inr, Bool, true, false, List, length, slice_index_or, slice_set, sym, ◌∙◌, ap, cond, ◌+◌, arith}
 use Rattle.std.proofs.lemmas.Bool.{cases_eq, cases_lt}
 use Rattle.std.proofs.lemmas.List.{get_or-set_same, get_or-set_other, length-set, get_or-replicate, get_or_past, length-replicate, length-map}
 use Rattle.std.specs.List.{count_by, list_any}
@@ -88,7 +89,8 @@ live_within (p ∷ places) (suc at) live = let rest = live_within places at live
 pub placed_copied : (places : List (Place ℕ)) (live copies new : List ℕ) (at page : ℕ) → IsPlaced places live copies
     → is_live (slice_index_or places at Gone) ≡ true → ChangesMark at 1 copies new → IsPlaced (slice_set places at (with_copy page (slice_index_or places at Gone))) live new
 placed_copied places live copies new at page s here changes =
-    placed_copy places live copies new at 1 (with_copy page (slice_index_or places at Gone)) s (live_within places at here) (copy_live page (slice_index_or places at Gone)) changes (copy_some page (slice_index_or places at Gone) here)
+    placed_copy places live copies new at 1 (with_copy page (slice_index_or places at Gone)) s (live_within places at here)
+    (copy_live page (slice_index_or places at Gone)) changes (copy_some page (slice_index_or places at Gone) here)
 
 -- ---- all places
 
@@ -207,9 +209,13 @@ counted_copied count more places live copies new at page bare s here changes mor
     some : has_copy (with_copy page (slice_index_or places at Gone)) ≡ true
     some = marked (has_copy (with_copy page (slice_index_or places at Gone))) (sym (copy_some page (slice_index_or places at Gone) here))
 
-    by : (b : Bool) → has_copy (slice_index_or places at Gone) ≡ b → more ≡ bool_byte (not (has_copy (slice_index_or places at Gone))) → count + more ≡ count_by has_copy (slice_set places at (with_copy page (slice_index_or places at Gone)))
-    by false e more_is = (let one = more_is ∙ ap (λ b. bool_byte (not b)) e in let step = count_more places at (with_copy page (slice_index_or places at Gone)) within some e in omega (arith, one, step, s.count_is))
-    by true e more_is = (let none = more_is ∙ ap (λ b. bool_byte (not b)) e in let step = count_same places at (with_copy page (slice_index_or places at Gone)) within (some ∙ sym e) in omega (arith, none, step, s.count_is))
+    by : (b : Bool) → has_copy (slice_index_or places at Gone) ≡ b → more ≡ bool_byte (not (has_copy (slice_index_or places at Gone))) →
+        count + more ≡ count_by has_copy (slice_set places at (with_copy page (slice_index_or places at Gone)))
+    by false e more_is = (let one = more_is ∙ ap (λ b. bool_byte (not b)) e in
+        let step = count_more places at (with_copy page (slice_index_or places at Gone)) within some e in omega (arith, one, step, s.count_is))
+    by true e more_is = (let none = more_is ∙ ap (λ b. bool_byte (not b)) e in
+        let step = count_same places at (with_copy page (slice_index_or places at Gone)) within (some ∙ sym e) in
+        omega (arith, none, step, s.count_is))
 
 -- a copy went
 pub counted_bare : (count : ℕ) (places : List (Place ℕ)) (live copies new : List ℕ) (at : ℕ) → AreCounted count places live copies
@@ -218,7 +224,8 @@ counted_bare count places live copies new at s here changes =
     let within = live_within places at (copied_live (slice_index_or places at Gone) here) in
     let step = count_less places at (without_copy (slice_index_or places at Gone)) within (bare_copy (slice_index_or places at Gone)) here in
     record {
-      placed = placed_copy places live copies new at 0 (without_copy (slice_index_or places at Gone)) s.placed within (bare_live (slice_index_or places at Gone)) changes (ap one_if (sym (bare_copy (slice_index_or places at Gone))));
+      placed = placed_copy places live copies new at 0 (without_copy (slice_index_or places at Gone)) s.placed within
+          (bare_live (slice_index_or places at Gone)) changes (ap one_if (sym (bare_copy (slice_index_or places at Gone))));
       count_is = omega (arith, step, s.count_is);
     }
   where

@@ -149,7 +149,8 @@ blank_words_from words above a v s first rest k from =
     ]
 
 -- one word changed, and it has a mark still
-pub summed_kept : (old new above : List ℕ) (w : ℕ) → IsSummed old above → KeepsWords w old new → length new ≡ length old → 0 < slice_index new w → slice_index new w ≤ slice_index old w → IsSummed new above
+pub summed_kept : (old new above : List ℕ) (w : ℕ) → IsSummed old above → KeepsWords w old new → length new ≡ length old → 0 < slice_index new w →
+    slice_index new w ≤ slice_index old w → IsSummed new above
 summed_kept old new above w s keeps len some fewer = record {
   zero_word = λ v none.
       elim (cases_eq v w) as (λ _. slice_index new v ≡ 0) [

@@ -84,13 +84,15 @@ module _ (code : ℕ) where
   pub forked_in : place_in (bit_and code (2 ^ 64 - 1 - 2 ^ 32)) ≡ unconsumed (place_in code)
   forked_in =
       let kept : ℕ = 2 ^ 64 - 1 - 2 ^ 32 in
-      in_word (bit_and code kept) c b 0 n (omega (arith, bit_at_and code kept 34)) (omega (arith, bit_at_and code kept 33)) (omega (arith, bit_at_and code kept 32)) (omega (arith, and_mod code kept 32, and_mask n 32))
+      in_word (bit_and code kept) c b 0 n (omega (arith, bit_at_and code kept 34)) (omega (arith, bit_at_and code kept 33))
+      (omega (arith, bit_at_and code kept 32)) (omega (arith, and_mod code kept 32, and_mask n 32))
       ∙ forked_by c b r n
 
   pub consumed_in : place_in (bit_or code (2 ^ 32)) ≡ consumed (place_in code)
   consumed_in =
       let mark : ℕ = 2 ^ 32 in
-      in_word (bit_or code mark) c b 1 n (omega (arith, bit_at_or code mark 34)) (omega (arith, bit_at_or code mark 33)) (omega (arith, bit_at_or code mark 32)) (omega (arith, or_mod code mark 32, or_disjoint n 0 (omega (arith, and_le_r n 0))))
+      in_word (bit_or code mark) c b 1 n (omega (arith, bit_at_or code mark 34)) (omega (arith, bit_at_or code mark 33))
+      (omega (arith, bit_at_or code mark 32)) (omega (arith, or_mod code mark 32, or_disjoint n 0 (omega (arith, and_le_r n 0))))
       ∙ consumed_by c b r n
 
   pub with_copy_in : (page : ℕ) → page < 2 ^ 32 → is_live (place_in code) ≡ true → place_in (bit_and code (2 ^ 32) + 2 ^ 34 + page) ≡ with_copy page (place_in code)

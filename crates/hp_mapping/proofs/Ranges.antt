@@ -1,5 +1,6 @@
 -- A range of places that left.
-use Rattle.std.proofs.Common.{min, None, Bool, false, if◌then◌else◌, ◌≡◌, ℕ, zero, suc, ◌+◌, ◌-◌, ◌<◌, ◌≤◌, List, [], ◌∷◌, ◌++◌, length, take, drop, map, slice_index_or, refl, sym, ◌∙◌, ap, arith, cond}
+use Rattle.std.proofs.Common.{min, None, Bool, false, if◌then◌else◌, ◌≡◌, ℕ, zero, suc, ◌+◌, ◌-◌, ◌<◌, ◌≤◌, List}
+use Rattle.std.proofs.Common.{[], ◌∷◌, ◌++◌, length, take, drop, map, slice_index_or, refl, sym, ◌∙◌, ap, arith, cond}
 use Rattle.std.specs.List.{sum_by, count_by}
 use Rattle.std.proofs.lemmas.List.{same_lists, get_or_default, take-append-drop}
 use Rattle.std.proofs.lemmas.List.Sums.{sum_by-append}
@@ -28,7 +29,8 @@ left_places zero (suc n) [] (y ∷ ys) len below gone rest = absurd (omega arith
 left_places zero (suc n) (x ∷ xs) [] len below gone rest = absurd (omega arith)
 left_places zero (suc n) (x ∷ xs) (y ∷ ys) len below gone rest =
     let head : y ≡ Gone = gone 0 (omega arith) (omega arith) in
-    let tail : ys ≡ map (λ p. Gone) (take n xs) ++ drop n xs = left_places zero n xs ys (omega arith) (λ k less. absurd (omega arith)) (λ k le less. gone (suc k) (omega arith) (omega arith)) (λ k le. rest (suc k) (omega arith)) in
+    let tail : ys ≡ map (λ p. Gone) (take n xs) ++ drop n xs = left_places zero n xs ys (omega arith) (λ k less. absurd (omega arith))
+    (λ k le less. gone (suc k) (omega arith) (omega arith)) (λ k le. rest (suc k) (omega arith)) in
     cc
 left_places (suc a) zero [] [] len below gone rest = refl
 left_places (suc a) (suc n) [] [] len below gone rest = refl
@@ -64,7 +66,15 @@ freed_range a b xs =
     let whole : xs ≡ front ++ (mid ++ back) = sym (ap (λ ys. front ++ ys) (take-append-drop (b - a) (drop a xs)) ∙ take-append-drop a xs) in
     let all = ap (sum_by reserve_of) whole in
     let gone : List (Place ℕ) = map (λ p. Gone) mid in
-    omega (arith, all, sum_by-append reserve_of front (mid ++ back), sum_by-append reserve_of mid back, sum_by-append reserve_of (front ++ gone) back, sum_by-append reserve_of front gone, none_gone mid)
+    omega (
+      arith,
+      all,
+      sum_by-append reserve_of front (mid ++ back),
+      sum_by-append reserve_of mid back,
+      sum_by-append reserve_of (front ++ gone) back,
+      sum_by-append reserve_of front gone,
+      none_gone mid,
+    )
 
 -- the same range, clipped to the places that there are
 pub clipped_part : (a b : ℕ) (xs : List (Place ℕ)) → part (min a (length xs)) (min b (length xs)) xs ≡ part a b xs
@@ -82,6 +92,7 @@ pub clear_places : (a b from to : ℕ) (m : Mapping ℕ) (xs : List (Place ℕ))
 clear_places a b from to m xs e clear f t k le less = rw e at (rw (at_start m k) at (clear (m.start + k) (omega arith) (omega arith)))
 
 -- the reservations of the range, said of the places
-pub freed_reserves : (a b from to : ℕ) (m : Mapping ℕ) (xs : List (Place ℕ)) (owned : Bool) → m.places ≡ xs → m.owner ≡ owned → from ≡ min (a - m.start) (length m.places) → to ≡ min (b - m.start) (length m.places)
+pub freed_reserves : (a b from to : ℕ) (m : Mapping ℕ) (xs : List (Place ℕ)) (owned : Bool) → m.places ≡ xs → m.owner ≡ owned →
+    from ≡ min (a - m.start) (length m.places) → to ≡ min (b - m.start) (length m.places)
     → reserves_in a b m ≡ (if owned then count_by is_unconsumed (part from to xs) else 0)
 freed_reserves a b from to m xs owned e o f t = rw (o, ← e, f, t) (ap (λ ys. if owned then count_by is_unconsumed ys else 0) (sym (clipped_part (a - m.start) (b - m.start) m.places)))

@@ -1,7 +1,8 @@
 -- Places of which only the first were ever touched.
 use Rattle.std.proofs.Common.{◌≡◌, ℕ, zero, suc, ◌+◌, ◌-◌, ◌<◌, ◌≤◌, true, is_some, List, ◌∷◌, ◌++◌, length, map, replicate, slice_index_or, slice_set, refl, sym, ◌∙◌, ap, inl, inr, arith}
 use Rattle.std.proofs.lemmas.Bool.{cases_lt}
-use Rattle.std.proofs.lemmas.List.{append_assoc, get_or_append_left, get_or-append_right, get_or_default, length-append, length-map, length-replicate, length-set, map-append, replicate-append-replicate, set-append_left}
+use Rattle.std.proofs.lemmas.List.{append_assoc, get_or_append_left, get_or-append_right, get_or_default, length-append, length-map}
+use Rattle.std.proofs.lemmas.List.{length-replicate, length-set, map-append, replicate-append-replicate, set-append_left}
 use Rattle.hp_model.specs.declared.place.Place.{Place}
 use Rattle.hp_model.specs.declared.place.Place.TheVariants.{Gone}
 use Rattle.hp_model.specs.files.Mapping.{copy_of, unconsumed}
@@ -25,7 +26,8 @@ module _ (count : ℕ) (first : List (Place ℕ)) where
   copied_touched at some =
       elim (cases_lt at (length first)) as (λ _. at < length first) [
         | inl less ↦ less
-        | inr le ↦ let here = ap (λ p. is_some (copy_of p)) (get_or-append_right first rest (length first) at Gone refl le) in absurd (bare (count - length first) (at - length first) (sym here ∙ some))
+        | inr le ↦ let here = ap (λ p. is_some (copy_of p)) (get_or-append_right first rest (length first) at Gone refl le) in
+            absurd (bare (count - length first) (at - length first) (sym here ∙ some))
       ]
     where
       bare : (n k : ℕ) → is_some (copy_of (slice_index_or (replicate n fresh) k Gone)) ≡ true → ⊥

@@ -27,7 +27,8 @@ impl Model for Dense {
 
     ghost view = { λ r. with_fresh r.count r.touched.items };
 
-    ghost invariant = { λ r. (length r.touched.items ≤ r.count) × (r.count ≤ vec_capacity r.touched) };
+    ghost invariant = { λ r. (length r.touched.items ≤ r.count)
+        × (r.count ≤ vec_capacity r.touched) };
 }
 
 impl Dense {
@@ -134,7 +135,8 @@ impl Dense {
 // The places up to this one are written.
 fn write_up_to(places: &mut Vec<PackedPlace>, at: usize)
     requires { at < vec_capacity places.old }
-    ensures items { places.new.items ≡ places.old.items ++ replicate (at + 1 - length places.old.items) fresh }
+    ensures items { places.new.items ≡ places.old.items
+        ++ replicate (at + 1 - length places.old.items) fresh }
     ensures within { at < vec_len places.new }
     ensures capacity { vec_capacity places.new ≡ vec_capacity places.old }
 {

@@ -24,7 +24,8 @@ impl Flags for MapFlags {
 
     ghost exact = { ⊤ };
 
-    ghost table = { (codes "SHARED", 1) ∷ (codes "NORESERVE", 2) ∷ (codes "OWNER", 4) ∷ (codes "UNMAPPED", 8) ∷ [] };
+    ghost table = { (codes "SHARED", 1) ∷ (codes "NORESERVE", 2) ∷ (codes "OWNER", 4)
+        ∷ (codes "UNMAPPED", 8) ∷ [] };
 
     ghost set_of = { λ f. f.0 };
 

@@ -87,8 +87,10 @@ count_within r lo hi n le in' = ⊎_elim
     (λ (some : lo ≤ hi).
     let whole = count_split r 0 hi (n - hi) in
     let same : count_by r (range_with_len 0 n) ≡ count_by r (range_with_len 0 (hi + (n - hi))) = ap (λ k. count_by r (range_with_len 0 k)) {x = n} {y = hi + (n - hi)} (omega (arith, le)) in
-    let past : count_by r (range_with_len (0 + hi) (n - hi)) ≡ 0 = count_outside r (0 + hi) (n - hi) (λ i low high. false_from_ne_true (r i) (λ p. omega (arith, low, (in' i (omega (arith, high, le)) p).1))) in
-    let parts : count_by r (range_with_len 0 hi) ≡ count_by r (range_with_len 0 lo) + count_by r (range_with_len (0 + lo) (hi - lo)) = ap (λ k. count_by r (range_with_len 0 k)) {x = hi} {y = lo + (hi - lo)} (omega (arith, some)) ∙ count_split r 0 lo (hi - lo) in
+    let past : count_by r (range_with_len (0 + hi) (n - hi)) ≡ 0 = count_outside r (0 + hi) (n - hi)
+    (λ i low high. false_from_ne_true (r i) (λ p. omega (arith, low, (in' i (omega (arith, high, le)) p).1))) in
+    let parts : count_by r (range_with_len 0 hi) ≡ count_by r (range_with_len 0 lo) + count_by r (range_with_len (0 + lo) (hi - lo)) =
+    ap (λ k. count_by r (range_with_len 0 k)) {x = hi} {y = lo + (hi - lo)} (omega (arith, some)) ∙ count_split r 0 lo (hi - lo) in
     let before : count_by r (range_with_len 0 lo) ≡ 0 = count_outside r 0 lo (λ i low high. false_from_ne_true (r i) (λ p. omega (arith, high, (in' i (omega (arith, high, some, le)) p).0))) in
     let moved : count_by r (range_with_len (0 + lo) (hi - lo)) ≡ count_by r (range_with_len lo (hi - lo)) = ap (λ k. count_by r (range_with_len k (hi - lo))) {x = 0 + lo} {y = lo} (omega arith) in
     omega (arith, whole, same, past, parts, before, moved))

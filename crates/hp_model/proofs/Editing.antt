@@ -1,6 +1,7 @@
 -- An edit of a range, place by place.
 use Rattle.std.proofs.Common.{◌≡◌, ℕ, zero, suc, ◌+◌, ◌-◌, ◌<◌, ◌≤◌, List, [], ◌∷◌, ◌++◌, length, take, drop, map, get_or, set, sym, refl, ap, ◌∙◌, arith, append_assoc}
-use Rattle.std.proofs.lemmas.List.{get_or-take, get_or-drop, get_or_append_left, get_or-append_right, length-take, length-drop, length-append, length-map, take-set, drop-set, drop_more, set_split, get_or-map}
+use Rattle.std.proofs.lemmas.List.{get_or-take, get_or-drop, get_or_append_left, get_or-append_right, length-take, length-drop, length-append}
+use Rattle.std.proofs.lemmas.List.{length-map, take-set, drop-set, drop_more, set_split, get_or-map}
 use Rattle.std.specs.List.{sum_by}
 use Rattle.std.proofs.lemmas.List.Sums.{sum_by-append}
 use Rattle.hp_model.specs.Lists.{edit_at, edit_range, part}
@@ -11,7 +12,8 @@ module _ {X : Type 0} (f : X → X) (a b : ℕ) (xs : List X) where
 
   module _ (k : ℕ) (d : X) where
     pub get_or-edit_below : k < a → k < length xs → get_or (edit_range f a b xs) k d ≡ get_or xs k d
-    get_or-edit_below below lt = ap (λ ys. get_or ys k d) parts ∙ get_or_append_left (take a xs) (map f (take (b - a) (drop a xs)) ++ drop (b - a) (drop a xs)) d k (omega (arith, below, lt, length-take a xs)) ∙ get_or-take a xs k d below
+    get_or-edit_below below lt = ap (λ ys. get_or ys k d) parts ∙ get_or_append_left (take a xs)
+        (map f (take (b - a) (drop a xs)) ++ drop (b - a) (drop a xs)) d k (omega (arith, below, lt, length-take a xs)) ∙ get_or-take a xs k d below
 
     after : a ≤ k → a ≤ length xs → get_or (edit_range f a b xs) k d ≡ get_or (map f (take (b - a) (drop a xs)) ++ drop (b - a) (drop a xs)) (k - a) d
     after from le = ap (λ ys. get_or ys k d) parts ∙ get_or-append_right (take a xs) (map f (take (b - a) (drop a xs)) ++ drop (b - a) (drop a xs)) a k d (omega (arith, le, length-take a xs)) from
@@ -19,7 +21,8 @@ module _ {X : Type 0} (f : X → X) (a b : ℕ) (xs : List X) where
     pub get_or-edit_in : a ≤ k → k < b → k < length xs → get_or (edit_range f a b xs) k d ≡ f (get_or xs k d)
     get_or-edit_in from high lt =
         after from (omega (arith, from, lt))
-        ∙ get_or_append_left (map f (take (b - a) (drop a xs))) (drop (b - a) (drop a xs)) d (k - a) (omega (arith, from, high, lt, length-map (take (b - a) (drop a xs)) f, length-take (b - a) (drop a xs), length-drop a xs))
+        ∙ get_or_append_left (map f (take (b - a) (drop a xs))) (drop (b - a) (drop a xs)) d (k - a)
+        (omega (arith, from, high, lt, length-map (take (b - a) (drop a xs)) f, length-take (b - a) (drop a xs), length-drop a xs))
         ∙ get_or-map f (take (b - a) (drop a xs)) (k - a) d d (omega (arith, from, high, lt, length-take (b - a) (drop a xs), length-drop a xs))
         ∙ ap f (get_or-take (b - a) (drop a xs) (k - a) d (omega (arith, from, high)) ∙ get_or-drop a xs (k - a) d ∙ ap (λ j. get_or xs j d) {x = a + (k - a)} {y = k} (omega (arith, from)))
 
@@ -29,8 +32,11 @@ module _ {X : Type 0} (f : X → X) (a b : ℕ) (xs : List X) where
     pub get_or-edit_past : a ≤ k → b ≤ k → k < length xs → get_or (edit_range f a b xs) k d ≡ get_or xs k d
     get_or-edit_past from past lt =
         after from (omega (arith, from, lt))
-        ∙ get_or-append_right (map f (take (b - a) (drop a xs))) (drop (b - a) (drop a xs)) (b - a) (k - a) d (omega (arith, from, past, lt, length-map (take (b - a) (drop a xs)) f, length-take (b - a) (drop a xs), length-drop a xs)) (omega (arith, from, past))
-        ∙ get_or-drop (b - a) (drop a xs) (k - a - (b - a)) d ∙ get_or-drop a xs ((b - a) + (k - a - (b - a))) d ∙ ap (λ j. get_or xs j d) {x = a + ((b - a) + (k - a - (b - a)))} {y = k} (omega (arith, from, past))
+        ∙ get_or-append_right (map f (take (b - a) (drop a xs))) (drop (b - a) (drop a xs)) (b - a) (k - a) d
+        (omega (arith, from, past, lt, length-map (take (b - a) (drop a xs)) f, length-take (b - a) (drop a xs), length-drop a xs))
+        (omega (arith, from, past))
+        ∙ get_or-drop (b - a) (drop a xs) (k - a - (b - a)) d ∙ get_or-drop a xs ((b - a) + (k - a - (b - a))) d
+        ∙ ap (λ j. get_or xs j d) {x = a + ((b - a) + (k - a - (b - a)))} {y = k} (omega (arith, from, past))
 
 -- one index
 module _ {X : Type 0} (xs : List X) (i : ℕ) where
@@ -50,7 +56,16 @@ module _ {X : Type 0} (xs : List X) (i : ℕ) where
 pub length-edit_range : {X : Type 0} (f : X → X) (a b : ℕ) (xs : List X) → length (edit_range f a b xs) ≡ length xs
 length-edit_range f a b xs =
     let mid = drop a xs in
-    omega (arith, length-append (take a xs ++ map f (take (b - a) mid)) (drop (b - a) mid), length-append (take a xs) (map f (take (b - a) mid)), length-map (take (b - a) mid) f, length-take (b - a) mid, length-drop (b - a) mid, length-take a xs, length-drop a xs)
+    omega (
+      arith,
+      length-append (take a xs ++ map f (take (b - a) mid)) (drop (b - a) mid),
+      length-append (take a xs) (map f (take (b - a) mid)),
+      length-map (take (b - a) mid) f,
+      length-take (b - a) mid,
+      length-drop (b - a) mid,
+      length-take a xs,
+      length-drop a xs,
+    )
 
 -- a sum over a change of a range: the part before, the changed part, the part after
 pub sum_by-edit_range : {X : Type 0} (g : X → ℕ) (f : X → X) (a b : ℕ) (xs : List X)

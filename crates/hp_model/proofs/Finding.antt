@@ -8,7 +8,8 @@ found_none test (x ∷ xs) d none =
     let first : test x ≡ false = none 0 (omega arith) in
     rw (first, found_none test xs d (λ k lt. none (suc k) (omega (arith, lt)))) refl
 
-pub found_at : {X : Type 0} (test : X → Bool) (xs : List X) (d : X) (n : ℕ) → n < length xs → test (get_or xs n d) ≡ true → ((k : ℕ) → k < n → test (get_or xs k d) ≡ false) → found test xs ≡ Some (n, get_or xs n d)
+pub found_at : {X : Type 0} (test : X → Bool) (xs : List X) (d : X) (n : ℕ) → n < length xs → test (get_or xs n d) ≡ true →
+    ((k : ℕ) → k < n → test (get_or xs k d) ≡ false) → found test xs ≡ Some (n, get_or xs n d)
 found_at test [] d n lt here none = absurd (omega (arith, lt))
 found_at test (x ∷ xs) d zero lt here none = rw here refl
 found_at test (x ∷ xs) d (suc n) lt here none =

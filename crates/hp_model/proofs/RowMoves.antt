@@ -12,7 +12,9 @@ use Rattle.hp_model.specs.declared.node.Kind.TheVariants.{Free, Idle, Surplus, P
 use Rattle.hp_model.specs.declared.node.NodeRow.{NodeRow}
 use Rattle.hp_model.specs.pool.Grant.{surplus_times}
 use Rattle.hp_model.specs.Lists.{edit_at}
-use Rattle.hp_model.specs.pool.NodeRows.{NodeRows, IsRow, at_row, row_at, no_row, has, lowest, near, next_from, used, total_of, free_of, surp_of, frames_of, taken, surplus_added, grown, shrunk, promoted, demoted, given_back, take_row, put_row, add_surplus_row, grow_row, shrink_row, promote_row, demote_row, give_back_row}
+use Rattle.hp_model.specs.pool.NodeRows.{NodeRows, IsRow, at_row, row_at, no_row, has, lowest, near, next_from, used}
+use Rattle.hp_model.specs.pool.NodeRows.{total_of, free_of, surp_of, frames_of, taken, surplus_added, grown, shrunk, promoted, demoted}
+use Rattle.hp_model.specs.pool.NodeRows.{given_back, take_row, put_row, add_surplus_row, grow_row, shrink_row, promote_row, demote_row, give_back_row}
 use Rattle.hp_model.specs.pool.Pool.{give_back_times, kept_times, puts_from, page_kept}
 use Rattle.hp_model.specs.pool.PoolCounts.{Pool}
 use Rattle.hp_model.proofs.Picks.{IsPick, edit, near_pick, lowest_pick, next_pick, had}

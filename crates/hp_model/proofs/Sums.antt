@@ -8,7 +8,8 @@ use Rattle.std.proofs.lemmas.List.Sums.{sum_by-set, sum_by-cons, get_or-le-sum_b
 use Rattle.hp_model.specs.declared.node.NodeRow.{NodeRow}
 use Rattle.hp_model.specs.declared.node.Kind.{Kind}
 use Rattle.hp_model.specs.declared.node.Kind.TheVariants.{Free, Idle, Surplus, Persistent}
-use Rattle.hp_model.specs.pool.NodeRows.{IsRow, idle_row, used, row_at, no_row, has, lowest, some_has, sum_row, frames_of, total_of, free_of, surp_of, take_row, put_row, grow_row, shrink_row, add_surplus_row, give_back_row, promote_row, demote_row}
+use Rattle.hp_model.specs.pool.NodeRows.{IsRow, idle_row, used, row_at, no_row, has, lowest, some_has, sum_row, frames_of, total_of}
+use Rattle.hp_model.specs.pool.NodeRows.{free_of, surp_of, take_row, put_row, grow_row, shrink_row, add_surplus_row, give_back_row, promote_row, demote_row}
 
 abbrev row : ℕ → ℕ → ℕ → ℕ → NodeRow
 row a b c d = record { frames = a; total = b; free = c; surp = d }
@@ -56,7 +57,8 @@ grow_sums rows i y h e =
     let u : y.surp ≡ (grow_row (row_at rows i)).surp = ap (λ r. r.surp) e in
     same_row _ _ _ _ _ _ _ _ (omega (arith, s.0)) (omega (arith, s.1)) (omega (arith, s.2)) (omega (arith, s.3))
 
-pub shrink_sums : (rows : List NodeRow) (i : ℕ) (y : NodeRow) → i < length rows → y ≡ shrink_row (row_at rows i) → 0 < (row_at rows i).free → 0 < (row_at rows i).total → sum_row (slice_set rows i y) ≡ shrink_row (sum_row rows)
+pub shrink_sums : (rows : List NodeRow) (i : ℕ) (y : NodeRow) → i < length rows → y ≡ shrink_row (row_at rows i) → 0 < (row_at rows i).free →
+    0 < (row_at rows i).total → sum_row (slice_set rows i y) ≡ shrink_row (sum_row rows)
 shrink_sums rows i y h e h0 h1 =
     let s = sums_at rows i y h in
     let f : y.frames ≡ (row_at rows i).frames = ap (λ r. r.frames) e in
@@ -74,7 +76,8 @@ add_surplus_sums rows i y h e =
     let u : y.surp ≡ (add_surplus_row (row_at rows i)).surp = ap (λ r. r.surp) e in
     same_row _ _ _ _ _ _ _ _ (omega (arith, s.0)) (omega (arith, s.1)) (omega (arith, s.2)) (omega (arith, s.3))
 
-pub give_back_sums : (rows : List NodeRow) (i : ℕ) (y : NodeRow) → i < length rows → y ≡ give_back_row (row_at rows i) → 0 < (row_at rows i).free → 0 < (row_at rows i).total → 0 < (row_at rows i).surp → sum_row (slice_set rows i y) ≡ give_back_row (sum_row rows)
+pub give_back_sums : (rows : List NodeRow) (i : ℕ) (y : NodeRow) → i < length rows → y ≡ give_back_row (row_at rows i) → 0 < (row_at rows i).free →
+    0 < (row_at rows i).total → 0 < (row_at rows i).surp → sum_row (slice_set rows i y) ≡ give_back_row (sum_row rows)
 give_back_sums rows i y h e h0 h1 h2 =
     let s = sums_at rows i y h in
     let f : y.frames ≡ (row_at rows i).frames = ap (λ r. r.frames) e in
@@ -83,7 +86,8 @@ give_back_sums rows i y h e h0 h1 h2 =
     let u : y.surp ≡ (give_back_row (row_at rows i)).surp = ap (λ r. r.surp) e in
     same_row _ _ _ _ _ _ _ _ (omega (arith, s.0)) (omega (arith, s.1)) (omega (arith, s.2)) (omega (arith, s.3))
 
-pub promote_sums : (rows : List NodeRow) (i : ℕ) (y : NodeRow) → i < length rows → y ≡ promote_row (row_at rows i) → 0 < (row_at rows i).surp → sum_row (slice_set rows i y) ≡ promote_row (sum_row rows)
+pub promote_sums : (rows : List NodeRow) (i : ℕ) (y : NodeRow) → i < length rows → y ≡ promote_row (row_at rows i) → 0 < (row_at rows i).surp →
+    sum_row (slice_set rows i y) ≡ promote_row (sum_row rows)
 promote_sums rows i y h e h0 =
     let s = sums_at rows i y h in
     let f : y.frames ≡ (row_at rows i).frames = ap (λ r. r.frames) e in

@@ -209,11 +209,14 @@ again_is m n file map fl ml t =
     ∙ ap (λ x. record { file_no = file; file = file_in n file; map_no = map; map = x }) (get_or_default (file_in n file).maps map (map_in (file_in m file) map) no_map (omega (arith, maps, ml)))
 
 -- a shared map's access
-pub shared_is : (c : Choice) (size : ℕ) (m : Mount) (s : Spot) (home i : ℕ) (intent : Intent) → is_shared s.map.sharing ≡ true → access c size m s home i intent ≡ shared_access c size m s home i (cell_at s.file i)
+pub shared_is : (c : Choice) (size : ℕ) (m : Mount) (s : Spot) (home i : ℕ) (intent : Intent) → is_shared s.map.sharing ≡ true →
+    access c size m s home i intent ≡ shared_access c size m s home i (cell_at s.file i)
 shared_is c size m s home i intent e = ap (λ b. cond b (shared_access c size m s home i (cell_at s.file i)) (private_access c size m s home i (place_at s.map i) intent)) e
 
 -- plans that are the same at each choice
-pub tried_as : {X : Type 0} (took : X → Section → PoolAnswer → X → Type 0) (full : X → Type 0) (p q : Choice → Plan) → ((c : Choice) → p c ≡ q c) → (old : Slot) (door : X) (reply : Reply) (new : Slot) (left : X) → Tried took full p old door reply new left → Tried took full q old door reply new left
+pub tried_as : {X : Type 0} (took : X → Section → PoolAnswer → X → Type 0) (full : X → Type 0) (p q : Choice → Plan) → ((c : Choice) → p c ≡ q c) →
+    (old : Slot) (door : X) (reply : Reply) (new : Slot) (left : X) → Tried took full p old door reply new left →
+    Tried took full q old door reply new left
 tried_as took full p q same old door (Err r.TraceFull) new left h = (h.0, h.1, (h.2.0, h.2.1, subst Enters (same h.2.0) h.2.2))
 tried_as took full p q same old door (Ok a) new left h = (h.0, h.1, subst (λ x. ThroughDoor took x old door (Ok a) new left) (same h.0) h.2)
 tried_as took full p q same old door (Err other) new left h = (h.0, h.1, subst (λ x. ThroughDoor took x old door (Err other) new left) (same h.0) h.2)
@@ -233,7 +236,8 @@ pub written_is : (n : Mount) (s : Spot) (i offset : ℕ) (bytes : List ℕ) → 
 written_is n s i offset bytes shared l below =
     let f : File = file_in n s.file_no in
     ap (λ fs. record n { files = fs }) (edit_is_set (file_written s i offset bytes) n.files s.file_no (new_file None) l
-    ∙ ap (λ b. slice_set n.files s.file_no (cond b (record f { cells = edit_at (cell_written offset bytes) f.cells i }) (record f { maps = edit_at (map_written i offset bytes) f.maps s.map_no }))) shared
+    ∙ ap (λ b. slice_set n.files s.file_no (cond b (record f { cells = edit_at (cell_written offset bytes) f.cells i })
+    (record f { maps = edit_at (map_written i offset bytes) f.maps s.map_no }))) shared
     ∙ ap (λ cs. slice_set n.files s.file_no (record f { cells = cs })) (edit_is_set (cell_written offset bytes) f.cells i Hole below))
 
 map_written_is : (f : File) (j i offset : ℕ) (bytes : List ℕ) (c : Bool) (copy : Copy) → j < length f.maps → place_at (map_in f j) i ≡ Live c (Some copy)
@@ -246,15 +250,20 @@ map_written_is f j i offset bytes c copy jl place =
     ∙ ap (λ p. slice_set m.places (i - m.start) (place_written offset bytes p)) (at.is ∙ sym place))
 
 -- what a store through a private map writes
-pub private_written : (n : Mount) (s : Spot) (i offset : ℕ) (bytes : List ℕ) (c : Bool) (copy : Copy) → is_shared s.map.sharing ≡ false → s.file_no < length n.files → s.map_no < length (file_in n s.file_no).maps → place_at (map_in (file_in n s.file_no) s.map_no) i ≡ Live c (Some copy)
+pub private_written : (n : Mount) (s : Spot) (i offset : ℕ) (bytes : List ℕ) (c : Bool) (copy : Copy) → is_shared s.map.sharing ≡ false →
+    s.file_no < length n.files → s.map_no < length (file_in n s.file_no).maps →
+    place_at (map_in (file_in n s.file_no) s.map_no) i ≡ Live c (Some copy)
     → written n s i offset bytes ≡ with_place_at n s.file_no s.map_no i (place_written offset bytes (place_at (map_in (file_in n s.file_no) s.map_no) i))
 private_written n s i offset bytes c copy private l jl place =
     let f : File = file_in n s.file_no in
     ap (λ fs. record n { files = fs }) (edit_is_set (file_written s i offset bytes) n.files s.file_no (new_file None) l
-    ∙ ap (λ b. slice_set n.files s.file_no (cond b (record f { cells = edit_at (cell_written offset bytes) f.cells i }) (record f { maps = edit_at (map_written i offset bytes) f.maps s.map_no }))) private
+    ∙ ap (λ b. slice_set n.files s.file_no (cond b (record f { cells = edit_at (cell_written offset bytes) f.cells i })
+    (record f { maps = edit_at (map_written i offset bytes) f.maps s.map_no }))) private
     ∙ ap (λ ms. slice_set n.files s.file_no (record f { maps = ms })) (map_written_is f s.map_no i offset bytes c copy jl place))
 
-pub private_grows : (f : File) (j i offset : ℕ) (bytes : List ℕ) (c : Bool) (copy : Copy) → j < length f.maps → place_at (map_in f j) i ≡ Live c (Some copy) → FileGrows f (with_map f j (with_place (map_in f j) i (place_written offset bytes (place_at (map_in f j) i)))) 0 0 0
+pub private_grows : (f : File) (j i offset : ℕ) (bytes : List ℕ) (c : Bool) (copy : Copy) → j < length f.maps →
+    place_at (map_in f j) i ≡ Live c (Some copy) → FileGrows f (with_map f j (with_place (map_in f j) i
+    (place_written offset bytes (place_at (map_in f j) i)))) 0 0 0
 private_grows f j i offset bytes c copy jl place = subst (λ ms. FileGrows f (record f { maps = ms }) 0 0 0) (map_written_is f j i offset bytes c copy jl place) (writes false j i offset bytes f)
 
 pub write_grows : (k i offset : ℕ) (bytes : List ℕ) (f : File) → i < length f.cells → FileGrows f (with_cell f i (cell_written offset bytes (cell_at f i))) 0 0 0

@@ -31,7 +31,9 @@ use Rattle.hp_subpool.specs.Subpool.{Subpool, used}
 pub fresh_in : (stamp : ℕ) (fs : List File) (k : ℕ) → k < length fs → is_among stamp (flat_map stamps_of fs) ≡ false → is_among stamp (stamps_of (file_at fs k)) ≡ false
 fresh_in stamp [] k l e = absurd (omega (arith, l))
 fresh_in stamp (f ∷ fs) zero l e = (or_parts (is_among stamp (stamps_of f)) (is_among stamp (flat_map stamps_of fs)) (sym (is_among-append stamp (stamps_of f) (flat_map stamps_of fs)) ∙ e)).0
-fresh_in stamp (f ∷ fs) (suc k) l e = fresh_in stamp fs k (omega (arith, l)) (or_parts (is_among stamp (stamps_of f)) (is_among stamp (flat_map stamps_of fs)) (sym (is_among-append stamp (stamps_of f) (flat_map stamps_of fs)) ∙ e)).1
+fresh_in stamp (f ∷ fs) (suc k) l e = fresh_in stamp fs k (omega (arith, l))
+    (or_parts (is_among stamp (stamps_of f)) (is_among stamp (flat_map stamps_of fs))
+    (sym (is_among-append stamp (stamps_of f) (flat_map stamps_of fs)) ∙ e)).1
 
 -- the stamp above all is fresh
 above : (m : Mount) → is_among (fresh_choice false (Some m)).stamp (flat_map stamps_of m.files) ≡ false
@@ -58,7 +60,8 @@ owes_nothing m i consumed place e = either m.owner consumed (ap (λ p. m.owner &
     either false b e = refl
 
 -- The mount is `m` as a caller sees it, and `mount_of s inodes v.files` as its fields show it.
-module _ (s : Subpool) (v : Files) (inodes : Option ℕ) (m : Mount) (c : IsKept s v (mount_of s inodes v.files)) (view : mount_of s inodes v.files ≡ m) (k j i : ℕ) (file : k < length m.files) (inside : j < length (file_in m k).maps) where
+module _ (s : Subpool) (v : Files) (inodes : Option ℕ) (m : Mount) (c : IsKept s v (mount_of s inodes v.files)) (view : mount_of s inodes v.files ≡ m)
+    (k j i : ℕ) (file : k < length m.files) (inside : j < length (file_in m k).maps) where
   abbrev f : File
   f = file_at v.files k
 
@@ -72,8 +75,10 @@ module _ (s : Subpool) (v : Files) (inodes : Option ℕ) (m : Mount) (c : IsKept
   here = (let jl = subst (λ (x : Mount). j < length (file_in x k).maps) (sym view) inside in record { within = jl; is = λ d. get_or_default f.maps j d no_map jl })
 
   -- what is left is the mount with the copy
-  pub placed_left : (p : Place Copy) (new : Subpool) (w : Files) → new.max ≡ s.max → new.min ≡ s.min → w.files ≡ slice_set v.files k (with_map f j (with_place y i p)) → mount_of new inodes w.files ≡ with_place_at m k j i p
-  placed_left p new w max_is min_is files = mount_left s new inodes (slice_set v.files k (with_map f j (with_place y i p))) w.files max_is min_is files ∙ ap (λ (x : Mount). with_place_at x k j i p) view
+  pub placed_left : (p : Place Copy) (new : Subpool) (w : Files) → new.max ≡ s.max → new.min ≡ s.min →
+      w.files ≡ slice_set v.files k (with_map f j (with_place y i p)) → mount_of new inodes w.files ≡ with_place_at m k j i p
+  placed_left p new w max_is min_is files = mount_left s new inodes (slice_set v.files k (with_map f j (with_place y i p))) w.files max_is min_is
+      files ∙ ap (λ (x : Mount). with_place_at x k j i p) view
 
   -- a reservation of an owner is held
   pub owner_held : (consumed : Bool) → place_at y i ≡ Live consumed None → has_reserve y i ≡ true → 0 < s.held
@@ -111,7 +116,8 @@ module _ (s : Subpool) (v : Files) (inodes : Option ℕ) (m : Mount) (c : IsKept
         pages_is (omega (arith, held_is, pages_is, held)) (omega (arith, held_is, room_is, room, held)) (ap (λ (x : Files). x.going) w_is)
         (ap (λ (x : Files). x.files) w_is ∙ ap (λ b. slice_set v.files k (with_map f j (with_place y i (Live (b || consumed) (Some copy))))) is.0)
 
-    pub reserved_left : has_reserve y i ≡ true → new ≡ with_page s → w ≡ copied_at k j i (y.owner || consumed) stamp page v → mount_of new inodes w.files ≡ with_place_at m k j i (Live true (Some copy))
+    pub reserved_left : has_reserve y i ≡ true → new ≡ with_page s → w ≡ copied_at k j i (y.owner || consumed) stamp page v →
+        mount_of new inodes w.files ≡ with_place_at m k j i (Live true (Some copy))
     reserved_left e new_is w_is = placed_left (Live true (Some copy)) new w (ap (λ (x : Subpool). x.max) new_is) (ap (λ (x : Subpool). x.min) new_is)
         (ap (λ (x : Files). x.files) w_is ∙ ap (λ b. slice_set v.files k (with_map f j (with_place y i (Live (b || consumed) (Some copy))))) (owes y i consumed place e).0)
 
@@ -134,7 +140,8 @@ module _ (s : Subpool) (v : Files) (inodes : Option ℕ) (m : Mount) (c : IsKept
 
   -- a copy that several maps hold
   module _ (consumed : Bool) (old : Copy) (place : place_at y i ≡ Live consumed (Some old)) (agreed : AreAgreed f) (new : Subpool) (w : Files) where
-    module _ (stamp : ℕ) (page : Page) (fresh : is_among stamp (flat_map stamps_of v.files) ≡ false) (several : is_held_once f old.stamp ≡ false) (new_is : new ≡ with_granted s) (w_is : w ≡ parted_at k j i consumed stamp page v) where
+    module _ (stamp : ℕ) (page : Page) (fresh : is_among stamp (flat_map stamps_of v.files) ≡ false) (several : is_held_once f old.stamp ≡ false)
+        (new_is : new ≡ with_granted s) (w_is : w ≡ parted_at k j i consumed stamp page v) where
       pub parted_kept : IsKept new w (mount_of new inodes w.files)
       parted_kept =
           let held_is = ap (λ (x : Subpool). x.held) new_is in
@@ -147,7 +154,8 @@ module _ (s : Subpool) (v : Files) (inodes : Option ℕ) (m : Mount) (c : IsKept
           pages_is (omega (arith, held_is, pages_is)) (omega (arith, held_is, room_is, room)) (ap (λ (x : Files). x.going) w_is) (ap (λ (x : Files). x.files) w_is)
 
       pub parted_left : mount_of new inodes w.files ≡ with_place_at m k j i (Live consumed (Some (record { stamp = stamp; page = page })))
-      parted_left = placed_left (Live consumed (Some (record { stamp = stamp; page = page }))) new w (ap (λ (x : Subpool). x.max) new_is) (ap (λ (x : Subpool). x.min) new_is) (ap (λ (x : Files). x.files) w_is)
+      parted_left = placed_left (Live consumed (Some (record { stamp = stamp; page = page }))) new w (ap (λ (x : Subpool). x.max) new_is)
+          (ap (λ (x : Subpool). x.min) new_is) (ap (λ (x : Files). x.files) w_is)
 
     module _ (new_is : new ≡ s) (files : w.files ≡ taken_back_at k j old.stamp v.files) (left : IsLeft 0 v w) where
       abbrev g : File

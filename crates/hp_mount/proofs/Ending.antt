@@ -15,7 +15,9 @@ use Rattle.hp_model.specs.declared.section.Section.TheVariants.{GiveBack}
 use Rattle.hp_model.specs.pool.Pool.{granted_at}
 use Rattle.hp_mount_door.specs.Door.{GivesBack, by_node}
 
-module _ {X : Type 0} (took : X → Section → PoolAnswer → X → Type 0) (answer : Answer) (old new : Slot) (pages : List Page) (commitments : ℕ) (door left : X) (nodes : (n : ℕ) → count_by (λ (page : Page). page.node == n) pages ≡ slot_pages_at n old - slot_pages_at n new) (falls : commitments ≡ fall_of old new)
+module _ {X : Type 0} (took : X → Section → PoolAnswer → X → Type 0) (answer : Answer) (old new : Slot) (pages : List Page) (commitments : ℕ)
+    (door left : X) (nodes : (n : ℕ) → count_by (λ (page : Page). page.node == n) pages ≡ slot_pages_at n old - slot_pages_at n new)
+    (falls : commitments ≡ fall_of old new)
     (given : GivesBack took pages commitments door left) where
   abbrev puts : List ℕ
   puts = puts_of old new
@@ -25,7 +27,8 @@ module _ {X : Type 0} (took : X → Section → PoolAnswer → X → Type 0) (an
     where
       each : (k a : ℕ) → map (λ n. count_by (λ (page : Page). page.node == n) pages) (range_with_len a k) ≡ map (λ n. slot_pages_at n old - slot_pages_at n new) (range_with_len a k)
       each zero a = refl
-      each (suc k) a = ap (λ x. x ∷ map (λ n. count_by (λ (page : Page). page.node == n) pages) (range_with_len (a + 1) k)) (nodes a) ∙ ap (λ xs. (slot_pages_at a old - slot_pages_at a new) ∷ xs) (each k (a + 1))
+      each (suc k) a = ap (λ x. x ∷ map (λ n. count_by (λ (page : Page). page.node == n) pages) (range_with_len (a + 1) k)) (nodes a)
+          ∙ ap (λ xs. (slot_pages_at a old - slot_pages_at a new) ∷ xs) (each k (a + 1))
 
   abbrev test : Bool
   test = (sum puts == 0) && (fall_of old new == 0)
@@ -38,7 +41,12 @@ module _ {X : Type 0} (took : X → Section → PoolAnswer → X → Type 0) (an
       let no_fall : fall_of old new ≡ 0 = eqb-true (fall_of old new) 0 parts.1 in
       let same = ap sum puts_are in
       ((refl, refl), given.none (omega (arith, no_puts, no_fall, same, falls))))
-      (λ some. (granted_at 0, subst (λ d. took door (GiveBack puts d) (granted_at 0) left) falls (subst (λ xs. took door (GiveBack xs commitments) (granted_at 0) left) puts_are (given.some (something some))), (refl, refl)))
+      (λ some. (
+        granted_at 0,
+        subst (λ d. took door (GiveBack puts d) (granted_at 0) left) falls
+            (subst (λ xs. took door (GiveBack xs commitments) (granted_at 0) left) puts_are (given.some (something some))),
+        (refl, refl),
+      ))
     where
       something : test ≡ false → 0 < sum (by_node pages) + commitments
       something e = by (sum (by_node pages)) commitments refl refl
@@ -52,6 +60,8 @@ module _ {X : Type 0} (took : X → Section → PoolAnswer → X → Type 0) (an
           by (suc a) b a_is b_is = omega (arith, a_is)
 
 -- a mount that ends
-pub ended : {X : Type 0} (took : X → Section → PoolAnswer → X → Type 0) (m : Mount) (pages : List Page) (commitments : ℕ) (door left : X) → ((n : ℕ) → count_by (λ (page : Page). page.node == n) pages ≡ pages_at n m) → commitments ≡ committed_of m
+pub ended : {X : Type 0} (took : X → Section → PoolAnswer → X → Type 0) (m : Mount) (pages : List Page) (commitments : ℕ) (door left : X) →
+    ((n : ℕ) → count_by (λ (page : Page). page.node == n) pages ≡ pages_at n m) → commitments ≡ committed_of m
     → GivesBack took pages commitments door left → ThroughDoor took (gives Done (Some m) None) (Some m) door (Ok Done) None left
-ended took m pages commitments door left nodes committed given = gave took Done (Some m) None pages commitments door left (λ n. (let same = nodes n in omega (arith, same))) (omega (arith, committed)) given
+ended took m pages commitments door left nodes committed given = gave took Done (Some m) None pages commitments door left
+    (λ n. (let same = nodes n in omega (arith, same))) (omega (arith, committed)) given

@@ -35,7 +35,9 @@ module _ {X : Type 0} (took : X → Section → PoolAnswer → X → Type 0) (fu
   too_many many = (
     fresh_choice false (Some m),
     is_fresh false (Some m),
-    subst (λ p. ThroughDoor took p (Some m) door (Err r.TooMany) (Some m) door) (sym (tests_fail (fork_tests (fresh_choice false (Some m)) m parent child) after r.TooMany (ap (λ t. first_of ((t, r.TooMany) ∷ (false, r.OutOfMemory) ∷ [])) (over many)))) (refused_at took m r.TooMany door),
+    subst (λ p. ThroughDoor took p (Some m) door (Err r.TooMany) (Some m) door)
+        (sym (tests_fail (fork_tests (fresh_choice false (Some m)) m parent child) after r.TooMany
+        (ap (λ t. first_of ((t, r.TooMany) ∷ (false, r.OutOfMemory) ∷ [])) (over many)))) (refused_at took m r.TooMany door),
   )
     where
       either_true : (b : Bool) → (b || true) ≡ true
@@ -54,14 +56,18 @@ module _ {X : Type 0} (took : X → Section → PoolAnswer → X → Type 0) (fu
     no_memory = (
       fresh_choice true (Some m),
       is_fresh true (Some m),
-      subst (λ p. ThroughDoor took p (Some m) door (Err r.OutOfMemory) (Some m) door) (sym (tests_fail (fork_tests (fresh_choice true (Some m)) m parent child) after r.OutOfMemory (ap (λ t. first_of ((t, r.TooMany) ∷ (true, r.OutOfMemory) ∷ [])) under))) (refused_at took m r.OutOfMemory door),
+      subst (λ p. ThroughDoor took p (Some m) door (Err r.OutOfMemory) (Some m) door)
+          (sym (tests_fail (fork_tests (fresh_choice true (Some m)) m parent child) after r.OutOfMemory
+          (ap (λ t. first_of ((t, r.TooMany) ∷ (true, r.OutOfMemory) ∷ [])) under))) (refused_at took m r.OutOfMemory door),
     )
 
     pub forks : (n : Mount) (left : X) → ThroughDoor took after (Some m) door (Ok Done) (Some n) left → Tried took full (λ c. fork_maps c m parent child) (Some m) door (Ok Done) (Some n) left
     forks n left h = (
       fresh_choice false (Some m),
       is_fresh false (Some m),
-      subst (λ p. ThroughDoor took p (Some m) door (Ok Done) (Some n) left) (sym (tests_pass (fork_tests (fresh_choice false (Some m)) m parent child) after (ap (λ t. first_of ((t, r.TooMany) ∷ (false, r.OutOfMemory) ∷ [])) under))) h,
+      subst (λ p. ThroughDoor took p (Some m) door (Ok Done) (Some n) left) (sym
+          (tests_pass (fork_tests (fresh_choice false (Some m)) m parent child) after
+          (ap (λ t. first_of ((t, r.TooMany) ∷ (false, r.OutOfMemory) ∷ [])) under))) h,
     )
 
 -- ---- the counts
@@ -73,7 +79,8 @@ has_count t (m ∷ ms) = at (is_of t m) (count_cons (is_of t) m ms) (has_count t
     some : (n k : ℕ) → n ≡ 1 + k → nat_lt 0 n ≡ true
     some n k e = grind (arith, nat_tests, e)
 
-    at : (b : Bool) → count_by (is_of t) (m ∷ ms) ≡ cond {A = ℕ} b 1 0 + count_by (is_of t) ms → list_any (is_of t) ms ≡ nat_lt 0 (count_by (is_of t) ms) → (b || list_any (is_of t) ms) ≡ nat_lt 0 (count_by (is_of t) (m ∷ ms))
+    at : (b : Bool) → count_by (is_of t) (m ∷ ms) ≡ cond {A = ℕ} b 1 0 + count_by (is_of t) ms →
+        list_any (is_of t) ms ≡ nat_lt 0 (count_by (is_of t) ms) → (b || list_any (is_of t) ms) ≡ nat_lt 0 (count_by (is_of t) (m ∷ ms))
     at true step had = sym (some (count_by (is_of t) (m ∷ ms)) (count_by (is_of t) ms) step)
     at false step had = (let same : count_by (is_of t) ms ≡ count_by (is_of t) (m ∷ ms) = omega (arith, step) in had ∙ ap (λ n. nat_lt 0 n) same)
 
@@ -89,5 +96,7 @@ module _ (m : Mount) (parent child : ℕ) (apart : (parent == child) ≡ false) 
   pub maps_are : length (maps_of (forked parent child m)) ≡ length (all_maps m.files) - count_by (is_of child) (all_maps m.files) + count_by (is_of parent) (all_maps m.files)
   maps_are = (let all = count_after parent child apart m.files in let few = few_count child (all_maps m.files) in omega (arith, all, few))
 
-  pub tasks_are : length (tasks_of (forked parent child m)) + cond (nat_lt 0 (count_by (is_of child) (all_maps m.files))) 1 0 ≡ length (all_tasks m.files) + cond (nat_lt 0 (count_by (is_of parent) (all_maps m.files))) 1 0
-  tasks_are = tasks_after parent child apart m.files (nat_lt 0 (count_by (is_of child) (all_maps m.files))) (nat_lt 0 (count_by (is_of parent) (all_maps m.files))) (has_count child (all_maps m.files)) (has_count parent (all_maps m.files))
+  pub tasks_are : length (tasks_of (forked parent child m)) + cond (nat_lt 0 (count_by (is_of child) (all_maps m.files))) 1 0
+      ≡ length (all_tasks m.files) + cond (nat_lt 0 (count_by (is_of parent) (all_maps m.files))) 1 0
+  tasks_are = tasks_after parent child apart m.files (nat_lt 0 (count_by (is_of child) (all_maps m.files)))
+      (nat_lt 0 (count_by (is_of parent) (all_maps m.files))) (has_count child (all_maps m.files)) (has_count parent (all_maps m.files))

@@ -55,14 +55,17 @@ module _ (s : Subpool) (v w : Files) (inodes : Option ℕ) (c : IsKept s v (moun
   pub enough_held : reserves ≤ s.held
   enough_held = (let all = held_are in omega (arith, all))
 
-  pub keeps : (new : Subpool) (last : Files) → length gs ≤ length v.files → new ≡ with_less (length w.going) reserves s → last ≡ record w { going = [] } → IsKept new last (mount_of new inodes last.files)
+  pub keeps : (new : Subpool) (last : Files) → length gs ≤ length v.files → new ≡ with_less (length w.going) reserves s →
+      last ≡ record w { going = [] } → IsKept new last (mount_of new inodes last.files)
   keeps new last fewer new_is last_is =
       let pages = pages_are in
       let held = held_are in
       let room = c.room in
       let more = left.room in
       let few = c.few in
-      subst (λ x. IsKept x last (mount_of x inodes last.files)) (sym new_is) (subst (λ x. IsKept (with_less (length w.going) reserves s) x (mount_of (with_less (length w.going) reserves s) inodes x.files)) (sym last_is) (record {
+      subst (λ x. IsKept x last (mount_of x inodes last.files)) (sym new_is) (subst
+      (λ x. IsKept (with_less (length w.going) reserves s) x (mount_of (with_less (length w.going) reserves s) inodes x.files)) (sym last_is)
+      (record {
         pages = omega (arith, pages);
         used = omega (arith, pages, held);
         room = omega (arith, room, more);
@@ -83,17 +86,20 @@ module _ (s : Subpool) (v w : Files) (inodes : Option ℕ) (c : IsKept s v (moun
       (λ i. (let all = left.nodes i in let none = ap (count_by (λ (page : Page). page.node == i)) c.going in omega (arith, all, none))) falls back)
 
 -- one file for another, or gone
-module _ (s : Subpool) (v w : Files) (inodes : Option ℕ) (c : IsKept s v (mount_of s inodes v.files)) (k : ℕ) (g : File) (reserves : ℕ) (left : IsLeft reserves v w) (w_is : w.files ≡ edited_at k g v.files) where
+module _ (s : Subpool) (v w : Files) (inodes : Option ℕ) (c : IsKept s v (mount_of s inodes v.files)) (k : ℕ) (g : File) (reserves : ℕ)
+    (left : IsLeft reserves v w) (w_is : w.files ≡ edited_at k g v.files) where
   pub kept : (new : Subpool) (last : Files) → new ≡ with_less (length w.going) reserves s → last ≡ record w { going = [] } → IsKept new last (mount_of new inodes last.files)
   kept new last new_is last_is =
       keeps s v w inodes c (edited_at k g v.files) reserves left w_is new last
       (let both = length-filter_both is_kept (λ x. not (is_kept x)) (λ x. refl) (slice_set v.files k g) in let long = length-set v.files k g in omega (arith, both, long)) new_is last_is
 
-  pub left_is : (new : Subpool) (last : Files) → new ≡ with_less (length w.going) reserves s → last ≡ record w { going = [] } → mount_of new inodes last.files ≡ swept (with_file (mount_of s inodes v.files) k g)
+  pub left_is : (new : Subpool) (last : Files) → new ≡ with_less (length w.going) reserves s → last ≡ record w { going = [] } →
+      mount_of new inodes last.files ≡ swept (with_file (mount_of s inodes v.files) k g)
   left_is = leaves s v w inodes c (edited_at k g v.files) reserves left w_is
 
   pub given : {X : Type 0} (took : X → Section → PoolAnswer → X → Type 0) (door left : X) → GivesBack took w.going (fall s (length w.going + reserves)) door left
-      → ThroughDoor took (gives Done (Some (mount_of s inodes v.files)) (Some (swept (with_file (mount_of s inodes v.files) k g)))) (Some (mount_of s inodes v.files)) door (Ok Done) (Some (swept (with_file (mount_of s inodes v.files) k g))) left
+      → ThroughDoor took (gives Done (Some (mount_of s inodes v.files)) (Some (swept (with_file (mount_of s inodes v.files) k g))))
+      (Some (mount_of s inodes v.files)) door (Ok Done) (Some (swept (with_file (mount_of s inodes v.files) k g))) left
   given = gave_through s v w inodes c (edited_at k g v.files) reserves left w_is
 
 -- ---- the plan: a file by its name, tests, and what it gives back
@@ -106,7 +112,8 @@ module _ {X : Type 0} (took : X → Section → PoolAnswer → X → Type 0) (fu
   nowhere e = (
     fresh_choice false (Some m),
     is_fresh false (Some m),
-    subst (λ o. ThroughDoor took (with_value o r.NoSuchFile (λ q. unless tests (gives Done (Some m) (edited m q.0 (change q.1))))) (Some m) door (Err r.NoSuchFile) (Some m) door) (sym e) (refused_at took m r.NoSuchFile door),
+    subst (λ o. ThroughDoor took (with_value o r.NoSuchFile (λ q. unless tests (gives Done (Some m) (edited m q.0 (change q.1))))) (Some m) door
+        (Err r.NoSuchFile) (Some m) door) (sym e) (refused_at took m r.NoSuchFile door),
   )
 
   module _ (k : ℕ) (named : file_named m name ≡ Some (k, file_in m k)) where

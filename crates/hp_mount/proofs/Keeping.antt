@@ -37,7 +37,8 @@ module _ (s : Subpool) (v : Files) (m : Mount) (c : IsKept s v m) (max_is : m.li
 
 pub mount_left : (s new : Subpool) (inodes : Option ℕ) (fs gs : List File) → new.max ≡ s.max → new.min ≡ s.min → gs ≡ fs → mount_of new inodes gs ≡ mount_of s inodes fs
 mount_left s new inodes fs gs max_is min_is files = ap (λ x. record { limits = record { max = x; min = new.min; inodes = inodes }; files = gs }) max_is
-    ∙ ap (λ x. record { limits = record { max = s.max; min = x; inodes = inodes }; files = gs }) min_is ∙ ap (λ xs. record { limits = record { max = s.max; min = s.min; inodes = inodes }; files = xs }) files
+    ∙ ap (λ x. record { limits = record { max = s.max; min = x; inodes = inodes }; files = gs }) min_is
+    ∙ ap (λ xs. record { limits = record { max = s.max; min = s.min; inodes = inodes }; files = xs }) files
 
 -- ---- files with so many pages and so much usage more
 
@@ -58,7 +59,9 @@ module _ (s : Subpool) (v : Files) (inodes : Option ℕ) (c : IsKept s v (mount_
       })
 
   -- a file without name more, with one map
-  module _ (task number a n more : ℕ) (sharing : Sharing) (reserving : Reserving) (new : Subpool) (w : Files) (more_is : more ≡ asked sharing reserving a n (new_file None)) (new_is : new ≡ with_reserves more s) (w_is : w ≡ with_anon task number a n (max v.room (s.held + more)) sharing reserving v) where
+  module _ (task number a n more : ℕ) (sharing : Sharing) (reserving : Reserving) (new : Subpool) (w : Files)
+      (more_is : more ≡ asked sharing reserving a n (new_file None)) (new_is : new ≡ with_reserves more s)
+      (w_is : w ≡ with_anon task number a n (max v.room (s.held + more)) sharing reserving v) where
     abbrev anon : File
     anon = mapped task number a n sharing reserving (new_file None)
 
@@ -69,7 +72,9 @@ module _ (s : Subpool) (v : Files) (inodes : Option ℕ) (c : IsKept s v (mount_
         let room_is = ap (λ (x : Files). x.room) w_is in
         let same : s.pages ≡ s.pages + 0 = omega arith in
         let all = new_grows (mount_of s inodes v.files) None anon (asked sharing reserving a n (new_file None)) (mapped_grows task number a n sharing reserving (new_file None)) in
-        raised (v.files ++ anon ∷ []) 0 0 (asked sharing reserving a n (new_file None)) all (let long = length-append v.files (anon ∷ []) in omega (arith, long, l)) new w (ap (λ (x : Subpool). x.max) new_is) (ap (λ (x : Subpool). x.min) new_is)
+        raised (v.files ++ anon ∷ []) 0 0 (asked sharing reserving a n (new_file None)) all
+        (let long = length-append v.files (anon ∷ []) in omega (arith, long, l)) new w (ap (λ (x : Subpool). x.max) new_is)
+        (ap (λ (x : Subpool). x.min) new_is)
         (pages_is ∙ same) (omega (arith, held_is, pages_is, more_is)) (omega (arith, held_is, room_is)) (ap (λ (x : Files). x.going) w_is) (ap (λ (x : Files). x.files) w_is)
 
     pub anon_left : mount_of new inodes w.files ≡ with_new (mount_of s inodes v.files) anon
@@ -90,7 +95,8 @@ module _ (s : Subpool) (v : Files) (inodes : Option ℕ) (c : IsKept s v (mount_
   pub grown : (new : Subpool) (w : Files) (g : File) (node p u : ℕ) → FileGrows (file_at v.files k) g node p u → new.max ≡ s.max → new.min ≡ s.min → new.pages ≡ s.pages + p → used new ≡ used s + u
       → new.held ≤ w.room → w.going ≡ v.going → w.files ≡ slice_set v.files k g → IsKept new w (mount_of new inodes w.files)
   grown new w g node p u h max_is min_is pages_is used_is room going files =
-      raised s v inodes c (slice_set v.files k g) node p u (grows g node p u h) (let long = length-set v.files k g in let few = c.few in omega (arith, long, few)) new w max_is min_is pages_is used_is room going files
+      raised s v inodes c (slice_set v.files k g) node p u (grows g node p u h)
+      (let long = length-set v.files k g in let few = c.few in omega (arith, long, few)) new w max_is min_is pages_is used_is room going files
 
   -- an entry without a page is a reservation that is held
   pub some_held : (i : ℕ) → i < length (file_at v.files k).cells → cell_at (file_at v.files k) i ≡ Entered → 0 < s.held
@@ -113,11 +119,14 @@ module _ (s : Subpool) (v : Files) (inodes : Option ℕ) (c : IsKept s v (mount_
       let held_is = ap (λ (x : Subpool). x.held) new_is in
       let pages_is = ap (λ (x : Subpool). x.pages) new_is in
       let room_is = ap (λ (x : Files). x.room) w_is in
-      grown new w (with_cell (file_at v.files k) i (Present page)) page.node 1 0 (moves.fill_entry (file_at v.files k) i page below entered) (ap (λ (x : Subpool). x.max) new_is) (ap (λ (x : Subpool). x.min) new_is)
+      grown new w (with_cell (file_at v.files k) i (Present page)) page.node 1 0 (moves.fill_entry (file_at v.files k) i page below entered)
+      (ap (λ (x : Subpool). x.max) new_is) (ap (λ (x : Subpool). x.min) new_is)
       pages_is (omega (arith, held_is, pages_is, held)) (omega (arith, held_is, room_is, room, held)) (ap (λ (x : Files). x.going) w_is) (ap (λ (x : Files). x.files) w_is)
 
-  pub entry_left : (i : ℕ) (page : Page) (new : Subpool) (w : Files) → new ≡ with_page s → w ≡ filled_at k i page v → mount_of new inodes w.files ≡ with_file m k (with_cell (file_in m k) i (Present page))
-  entry_left i page new w new_is w_is = mount_left s new inodes (slice_set v.files k (with_cell (file_at v.files k) i (Present page))) w.files (ap (λ (x : Subpool). x.max) new_is) (ap (λ (x : Subpool). x.min) new_is) (ap (λ (x : Files). x.files) w_is)
+  pub entry_left : (i : ℕ) (page : Page) (new : Subpool) (w : Files) → new ≡ with_page s → w ≡ filled_at k i page v →
+      mount_of new inodes w.files ≡ with_file m k (with_cell (file_in m k) i (Present page))
+  entry_left i page new w new_is w_is = mount_left s new inodes (slice_set v.files k (with_cell (file_at v.files k) i (Present page))) w.files
+      (ap (λ (x : Subpool). x.max) new_is) (ap (λ (x : Subpool). x.min) new_is) (ap (λ (x : Files). x.files) w_is)
 
   -- ---- an index without an entry gets a page, by a grant: it is entered first
 
@@ -145,11 +154,16 @@ module _ (s : Subpool) (v : Files) (inodes : Option ℕ) (c : IsKept s v (mount_
       let held_is = ap (λ (x : Subpool). x.held) new_is in
       let pages_is = ap (λ (x : Subpool). x.pages) new_is in
       let room_is = ap (λ (x : Files). x.room) w_is in
-      grown new w (with_cell (file_at v.files k) i (Present page)) page.node 1 1 (moves.fill_hole (file_at v.files k) i page below hole) (ap (λ (x : Subpool). x.max) new_is) (ap (λ (x : Subpool). x.min) new_is)
+      grown new w (with_cell (file_at v.files k) i (Present page)) page.node 1 1 (moves.fill_hole (file_at v.files k) i page below hole)
+      (ap (λ (x : Subpool). x.max) new_is) (ap (λ (x : Subpool). x.min) new_is)
       pages_is (omega (arith, held_is, pages_is)) (omega (arith, held_is, room_is, enough)) (ap (λ (x : Files). x.going) w_is) (ap (λ (x : Files). x.files) w_is ∙ again_files i spare (Present page))
 
-  pub granted_left : (i spare : ℕ) (page : Page) (new : Subpool) (w : Files) → new ≡ with_granted s → w ≡ filled_at k i page (with_cell_at k i Entered (roomier spare)) → mount_of new inodes w.files ≡ with_file m k (with_cell (file_in m k) i (Present page))
-  granted_left i spare page new w new_is w_is = mount_left s new inodes (slice_set v.files k (with_cell (file_at v.files k) i (Present page))) w.files (ap (λ (x : Subpool). x.max) new_is) (ap (λ (x : Subpool). x.min) new_is) (ap (λ (x : Files). x.files) w_is ∙ again_files i spare (Present page))
+  pub granted_left : (i spare : ℕ) (page : Page) (new : Subpool) (w : Files) → new ≡ with_granted s →
+      w ≡ filled_at k i page (with_cell_at k i Entered (roomier spare)) → mount_of new inodes w.files
+      ≡ with_file m k (with_cell (file_in m k) i (Present page))
+  granted_left i spare page new w new_is w_is = mount_left s new inodes (slice_set v.files k (with_cell (file_at v.files k) i (Present page))) w.files
+      (ap (λ (x : Subpool). x.max) new_is) (ap (λ (x : Subpool). x.min) new_is)
+      (ap (λ (x : Files). x.files) w_is ∙ again_files i spare (Present page))
 
   -- refused: the index is a hole again
   pub hole_again : (i spare : ℕ) → cell_at (file_at v.files k) i ≡ Hole → (with_cell_at k i Hole (with_cell_at k i Entered (roomier spare))).files ≡ v.files
@@ -162,10 +176,13 @@ module _ (s : Subpool) (v : Files) (inodes : Option ℕ) (c : IsKept s v (mount_
       set_read (z ∷ xs) zero d = refl
       set_read (z ∷ xs) (suc j) d = ap (λ ys. z ∷ ys) (set_read xs j d)
 
-  pub hole_stays : (i spare : ℕ) (new : Subpool) (w : Files) → cell_at (file_at v.files k) i ≡ Hole → new ≡ s → w ≡ with_cell_at k i Hole (with_cell_at k i Entered (roomier spare)) → mount_of new inodes w.files ≡ m
-  hole_stays i spare new w hole new_is w_is = mount_left s new inodes v.files w.files (ap (λ (x : Subpool). x.max) new_is) (ap (λ (x : Subpool). x.min) new_is) (ap (λ (x : Files). x.files) w_is ∙ hole_again i spare hole)
+  pub hole_stays : (i spare : ℕ) (new : Subpool) (w : Files) → cell_at (file_at v.files k) i ≡ Hole → new ≡ s →
+      w ≡ with_cell_at k i Hole (with_cell_at k i Entered (roomier spare)) → mount_of new inodes w.files ≡ m
+  hole_stays i spare new w hole new_is w_is = mount_left s new inodes v.files w.files (ap (λ (x : Subpool). x.max) new_is)
+      (ap (λ (x : Subpool). x.min) new_is) (ap (λ (x : Files). x.files) w_is ∙ hole_again i spare hole)
 
-  pub hole_keeps : (i spare : ℕ) (new : Subpool) (w : Files) → cell_at (file_at v.files k) i ≡ Hole → new ≡ s → w ≡ with_cell_at k i Hole (with_cell_at k i Entered (roomier spare)) → IsKept new w (mount_of new inodes w.files)
+  pub hole_keeps : (i spare : ℕ) (new : Subpool) (w : Files) → cell_at (file_at v.files k) i ≡ Hole → new ≡ s →
+      w ≡ with_cell_at k i Hole (with_cell_at k i Entered (roomier spare)) → IsKept new w (mount_of new inodes w.files)
   hole_keeps i spare new w hole new_is w_is =
       let room_is = ap (λ (x : Files). x.room) w_is in
       let room = c.room in
@@ -180,18 +197,23 @@ module _ (s : Subpool) (v : Files) (inodes : Option ℕ) (c : IsKept s v (mount_
 
   -- ---- a map more
 
-  module _ (task number a n more : ℕ) (sharing : Sharing) (reserving : Reserving) (new : Subpool) (w : Files) (more_is : more ≡ asked sharing reserving a n (file_at v.files k)) (new_is : new ≡ with_reserves more s) (w_is : w ≡ mapped_at k task number a n (max v.room (s.held + more)) sharing reserving v) where
+  module _ (task number a n more : ℕ) (sharing : Sharing) (reserving : Reserving) (new : Subpool) (w : Files)
+      (more_is : more ≡ asked sharing reserving a n (file_at v.files k)) (new_is : new ≡ with_reserves more s)
+      (w_is : w ≡ mapped_at k task number a n (max v.room (s.held + more)) sharing reserving v) where
     pub map_kept : IsKept new w (mount_of new inodes w.files)
     map_kept =
         let held_is = ap (λ (x : Subpool). x.held) new_is in
         let pages_is = ap (λ (x : Subpool). x.pages) new_is in
         let room_is = ap (λ (x : Files). x.room) w_is in
         let plain : s.pages ≡ s.pages + 0 = omega arith in
-        grown new w (mapped task number a n sharing reserving (file_at v.files k)) 0 0 (asked sharing reserving a n (file_at v.files k)) (mapped_grows task number a n sharing reserving (file_at v.files k)) (ap (λ (x : Subpool). x.max) new_is) (ap (λ (x : Subpool). x.min) new_is)
+        grown new w (mapped task number a n sharing reserving (file_at v.files k)) 0 0 (asked sharing reserving a n (file_at v.files k))
+        (mapped_grows task number a n sharing reserving (file_at v.files k)) (ap (λ (x : Subpool). x.max) new_is)
+        (ap (λ (x : Subpool). x.min) new_is)
         (pages_is ∙ plain) (omega (arith, held_is, pages_is, more_is)) (omega (arith, held_is, room_is)) (ap (λ (x : Files). x.going) w_is) (ap (λ (x : Files). x.files) w_is)
 
     pub map_left : mount_of new inodes w.files ≡ with_file m k (mapped task number a n sharing reserving (file_in m k))
-    map_left = mount_left s new inodes (slice_set v.files k (mapped task number a n sharing reserving (file_at v.files k))) w.files (ap (λ (x : Subpool). x.max) new_is) (ap (λ (x : Subpool). x.min) new_is) (ap (λ (x : Files). x.files) w_is)
+    map_left = mount_left s new inodes (slice_set v.files k (mapped task number a n sharing reserving (file_at v.files k))) w.files
+        (ap (λ (x : Subpool). x.max) new_is) (ap (λ (x : Subpool). x.min) new_is) (ap (λ (x : Files). x.files) w_is)
 
 -- ---- more room alone
 
@@ -200,7 +222,8 @@ module _ (s : Subpool) (v w : Files) (inodes : Option ℕ) (c : IsKept s v (moun
   room_left = ap (λ (x : Files). mount_of s inodes x.files) w_is
 
   pub room_kept : v.room ≤ w.room → IsKept s w (mount_of s inodes w.files)
-  room_kept more = (let room = c.room in subst (λ n. IsKept s w n) (sym room_left) (record { pages = c.pages; used = c.used; room = omega (arith, room, more); going = ap (λ (x : Files). x.going) w_is ∙ c.going; few = c.few }))
+  room_kept more = (let room = c.room in subst (λ n. IsKept s w n) (sym room_left)
+      (record { pages = c.pages; used = c.used; room = omega (arith, room, more); going = ap (λ (x : Files). x.going) w_is ∙ c.going; few = c.few }))
 
 -- ---- what a new map asks for
 

@@ -1,5 +1,6 @@
 -- Maps that leave a mount, by what code did.
-use Rattle.std.proofs.Common.{◌≡◌, ℕ, ◌<◌, ◌≤◌, ◌^◌, ◌==◌, ◌||◌, ◌⊎◌, Bool, true, false, cond, not, nat_lt, List, [], ◌∷◌, ◌++◌, Option, Some, None, Ok, Err, length, map, refl, sym, ap, subst, ◌∙◌, arith}
+use Rattle.std.proofs.Common.{◌≡◌, ℕ, ◌<◌, ◌≤◌, ◌^◌, ◌==◌, ◌||◌, ◌⊎◌, Bool, true, false, cond, not, nat_lt, List, []}
+use Rattle.std.proofs.Common.{◌∷◌, ◌++◌, Option, Some, None, Ok, Err, length, map, refl, sym, ap, subst, ◌∙◌, arith}
 use Rattle.std.specs.Prelude.{is_some}
 use Rattle.std.proofs.lemmas.Bool.{ltb-false}
 use Rattle.std.specs.List.{filter, list_any, sum_by}
@@ -64,7 +65,8 @@ some_go test (m ∷ ms) e = at (test m) (some_go test ms) e
     most : length (filter (λ m. not (test m)) ms) ≤ length ms
     most = (let both = length-filter_both (λ m. not (test m)) (λ m. not (not (test m))) (λ x. refl) ms in omega (arith, both))
 
-    at : (b : Bool) → (list_any test ms ≡ true → length (filter (λ m. not (test m)) ms) < length ms) → (b || list_any test ms) ≡ true → length (cond (not b) (m ∷ filter (λ m. not (test m)) ms) (filter (λ m. not (test m)) ms)) < length (m ∷ ms)
+    at : (b : Bool) → (list_any test ms ≡ true → length (filter (λ m. not (test m)) ms) < length ms) → (b || list_any test ms) ≡ true →
+        length (cond (not b) (m ∷ filter (λ m. not (test m)) ms) (filter (λ m. not (test m)) ms)) < length (m ∷ ms)
     at true rest e = (let few = most in omega (arith, few))
     at false rest e = (let few = rest e in omega (arith, few))
 
@@ -80,7 +82,8 @@ maps_without task (f ∷ fs) =
     bare false (m ∷ ms) e = (let none = ltb-false 0 (length (m ∷ ms)) e in absurd (omega (arith, none)))
 
     at : (b : Bool) → is_kept (file_without task f) ≡ b → all_maps (filter is_kept (map (file_without task) fs)) ≡ filter (λ (m : Map). not (is_of task m)) (all_maps fs)
-        → all_maps (cond b (file_without task f ∷ filter is_kept (map (file_without task) fs)) (filter is_kept (map (file_without task) fs))) ≡ filter (λ (m : Map). not (is_of task m)) f.maps ++ filter (λ (m : Map). not (is_of task m)) (all_maps fs)
+        → all_maps (cond b (file_without task f ∷ filter is_kept (map (file_without task) fs)) (filter is_kept (map (file_without task) fs)))
+        ≡ filter (λ (m : Map). not (is_of task m)) f.maps ++ filter (λ (m : Map). not (is_of task m)) (all_maps fs)
     at true e rest = ap (λ ms. filter (λ (m : Map). not (is_of task m)) f.maps ++ ms) rest
     at false e rest = rest ∙ ap (λ ms. ms ++ filter (λ (m : Map). not (is_of task m)) (all_maps fs)) (sym (bare (is_some f.name) (filter (λ (m : Map). not (is_of task m)) f.maps) e))
 
@@ -93,7 +96,8 @@ fewer_maps task m n n_is has =
 
 -- ---- a plan that is carried out, whatever the choice
 
-pub tried : {X : Type 0} (took : X → Section → PoolAnswer → X → Type 0) (full : X → Type 0) (m : Mount) (plan : Plan) (door : X) (n : Mount) (left : X) → ThroughDoor took plan (Some m) door (Ok Done) (Some n) left → Tried took full (λ c. plan) (Some m) door (Ok Done) (Some n) left
+pub tried : {X : Type 0} (took : X → Section → PoolAnswer → X → Type 0) (full : X → Type 0) (m : Mount) (plan : Plan) (door : X) (n : Mount)
+    (left : X) → ThroughDoor took plan (Some m) door (Ok Done) (Some n) left → Tried took full (λ c. plan) (Some m) door (Ok Done) (Some n) left
 tried took full m plan door n left h = (fresh_choice false (Some m), is_fresh false (Some m), h)
 
 -- ---- the plan of an unmap
@@ -120,7 +124,9 @@ module _ {X : Type 0} (took : X → Section → PoolAnswer → X → Type 0) (fu
     bad_indices bad = (
       fresh_choice false (Some m),
       is_fresh false (Some m),
-      subst (λ p. ThroughDoor took p (Some m) door (Err r.OutOfRange) (Some m) door) (sym (of_map ∙ tests_fail ((is_bad_range a b, r.OutOfRange) ∷ []) after r.OutOfRange (bad_range a b bad))) (refused_at took m r.OutOfRange door),
+      subst (λ p. ThroughDoor took p (Some m) door (Err r.OutOfRange) (Some m) door)
+          (sym (of_map ∙ tests_fail ((is_bad_range a b, r.OutOfRange) ∷ []) after r.OutOfRange (bad_range a b bad)))
+          (refused_at took m r.OutOfRange door),
     )
 
     pub indices_left : a < b → b ≤ 1048576 → (n : Mount) (left : X) → ThroughDoor took after (Some m) door (Ok Done) (Some n) left → Tried took full (λ c. plan) (Some m) door (Ok Done) (Some n) left

@@ -11,7 +11,8 @@ use Rattle.hp_model.specs.threads.LocalRun.{Gives}
 use Rattle.hp_mount.specs.Alone.{IsDoneAlone}
 use Rattle.hp_mount.proofs.Ways.{fresh_choice, is_fresh}
 
-module _ (size slot : ℕ) (m : Mount) (name : List ℕ) (e : SlotEvent) (act : ℕ × File → Plan) (is : (c : Choice) → slot_event size slot c (Some m) e ≡ with_value (file_named m name) r.NoSuchFile act) where
+module _ (size slot : ℕ) (m : Mount) (name : List ℕ) (e : SlotEvent) (act : ℕ × File → Plan)
+    (is : (c : Choice) → slot_event size slot c (Some m) e ≡ with_value (file_named m name) r.NoSuchFile act) where
   abbrev calm : Choice
   calm = fresh_choice false (Some m)
 

@@ -36,7 +36,8 @@ use Rattle.hp_subpool.specs.Subpool.{Subpool}
 
 -- ---- what asks nothing of the pool
 
-pub usage_alone : (s : Subpool) (v : Files) (inodes : Option ℕ) → IsKept s v (mount_of s inodes v.files) → (max ino : Option ℕ) (min used n : ℕ) → max ≡ s.max → min ≡ s.min → used ≡ share.used s → ino ≡ inodes → n ≡ length v.files
+pub usage_alone : (s : Subpool) (v : Files) (inodes : Option ℕ) → IsKept s v (mount_of s inodes v.files) → (max ino : Option ℕ) (min used n : ℕ) →
+    max ≡ s.max → min ≡ s.min → used ≡ share.used s → ino ≡ inodes → n ≡ length v.files
     → (size k : ℕ) → IsDoneAlone size k (Some (mount_of s inodes v.files)) Df (Ok (UsageAnswer max min used ino n)) (Some (mount_of s inodes v.files))
 usage_alone s v inodes kept max ino min used n max_is min_is used_is ino_is n_is size k =
     let m : Mount = mount_of s inodes v.files in
@@ -92,7 +93,8 @@ module _ {X : Type 0} (took : X → Section → PoolAnswer → X → Type 0) (fu
   goes none = cond none (Finish outcome) (Ask (λ nr. Grant home (rise m k)) (when_granted outcome))
 
   tests : (c : Choice) (is refused : Bool) → is_full m k ≡ is → c.refused ≡ refused → (reply : Reply) (new : Slot) (left : X)
-      → ThroughDoor took (cond is (refuse r.MountFull) (cond refused (refuse r.OutOfMemory) (goes (rise m k == 0)))) (Some m) door reply new left → ThroughDoor took (plan c) (Some m) door reply new left
+      → ThroughDoor took (cond is (refuse r.MountFull) (cond refused (refuse r.OutOfMemory) (goes (rise m k == 0)))) (Some m) door reply new left →
+      ThroughDoor took (plan c) (Some m) door reply new left
   tests c is refused e z reply new left h =
       subst (λ b. ThroughDoor took (cond b (refuse r.MountFull) (cond c.refused (refuse r.OutOfMemory) (goes (rise m k == 0)))) (Some m) door reply new left) (sym e)
       (subst (λ b. ThroughDoor took (cond is (refuse r.MountFull) (cond b (refuse r.OutOfMemory) (goes (rise m k == 0)))) (Some m) door reply new left) (sym z) h)
@@ -110,7 +112,8 @@ module _ {X : Type 0} (took : X → Section → PoolAnswer → X → Type 0) (fu
         (c, is_fresh false (Some m), tests c false false room refl (Ok a) (Some n) left (either (rise m k == 0) refl))
       where
         either : (b : Bool) → (rise m k == 0) ≡ b → ThroughDoor took (goes (rise m k == 0)) (Some m) door (Ok a) (Some n) left
-        either true e = (let none : rise m k ≡ 0 = grind (arith, nat_tests, e) in subst (λ b. ThroughDoor took (goes b) (Some m) door (Ok a) (Some n) left) (sym e) ((refl, refl), given.none (rise_is ∙ none)))
+        either true e = (let none : rise m k ≡ 0 = grind (arith, nat_tests, e) in
+            subst (λ b. ThroughDoor took (goes b) (Some m) door (Ok a) (Some n) left) (sym e) ((refl, refl), given.none (rise_is ∙ none)))
         either false e =
             let some : 0 < rise m k = grind (arith, nat_tests, e) in
             let section = subst (λ d. took door (Grant home d) (granted_at 0) left) rise_is (given.some (subst (λ d. 0 < d) (sym rise_is) some)) in
@@ -119,7 +122,8 @@ module _ {X : Type 0} (took : X → Section → PoolAnswer → X → Type 0) (fu
     asks_one : 0 < rise m k → Enters (plan (fresh_choice false (Some m)))
     asks_one some = subst (λ b. Enters (cond b (refuse r.MountFull) (goes (rise m k == 0)))) (sym room) (subst (λ b. Enters (goes b)) (sym (some_rise some)) tt)
 
-    pub grant_denied : (e : Refusal) (new : Subpool) (left : X) (after : Mount) → IsAsked took full home k s door (Err e) new left → after ≡ m → Tried took full plan (Some m) door (Err e) (Some after) left
+    pub grant_denied : (e : Refusal) (new : Subpool) (left : X) (after : Mount) → IsAsked took full home k s door (Err e) new left → after ≡ m →
+        Tried took full plan (Some m) door (Err e) (Some after) left
     grant_denied r.OutOfMemory new left after none same =
         let c : Choice = fresh_choice true (Some m) in
         (c, is_fresh true (Some m), tests c false true room refl (Err r.OutOfMemory) (Some after) left ((refl, ap Some same), none.door))
@@ -136,7 +140,8 @@ module _ {X : Type 0} (took : X → Section → PoolAnswer → X → Type 0) (fu
     grant_denied other new left after denied same = absurd denied.why
 
 -- refused, the share is as it was
-pub asked_share : {X : Type 0} (took : X → Section → PoolAnswer → X → Type 0) (full : X → Type 0) (home k : ℕ) (s : Subpool) (door : X) (e : Refusal) (new : Subpool) (left : X) → IsAsked took full home k s door (Err e) new left → new ≡ s
+pub asked_share : {X : Type 0} (took : X → Section → PoolAnswer → X → Type 0) (full : X → Type 0) (home k : ℕ) (s : Subpool) (door : X) (e : Refusal)
+    (new : Subpool) (left : X) → IsAsked took full home k s door (Err e) new left → new ≡ s
 asked_share took full home k s door r.OutOfMemory new left asked = asked.share
 asked_share took full home k s door other new left asked = asked.share
 
@@ -147,7 +152,8 @@ never_map true b e = cc
 never_map false true e = cc
 never_map false false e = cc
 
-module _ {X : Type 0} (took : X → Section → PoolAnswer → X → Type 0) (full : X → Type 0) (m : Mount) (size slot task home a n : ℕ) (sharing : Sharing) (reserving : Reserving) (name : List ℕ) (door : X) where
+module _ {X : Type 0} (took : X → Section → PoolAnswer → X → Type 0) (full : X → Type 0) (m : Mount) (size slot task home a n : ℕ) (sharing : Sharing)
+    (reserving : Reserving) (name : List ℕ) (door : X) where
   abbrev event : Choice → Plan
   event c = slot_event size slot c (Some m) (MapEvent task home name a n sharing reserving)
 
@@ -155,7 +161,8 @@ module _ {X : Type 0} (took : X → Section → PoolAnswer → X → Type 0) (fu
   map_nowhere e = (
     fresh_choice false (Some m),
     is_fresh false (Some m),
-    subst (λ o. ThroughDoor took (with_value o r.NoSuchFile (map_file (fresh_choice false (Some m)) m task home a n sharing reserving)) (Some m) door (Err r.NoSuchFile) (Some m) door) (sym e) (refused_at took m r.NoSuchFile door),
+    subst (λ o. ThroughDoor took (with_value o r.NoSuchFile (map_file (fresh_choice false (Some m)) m task home a n sharing reserving)) (Some m) door
+        (Err r.NoSuchFile) (Some m) door) (sym e) (refused_at took m r.NoSuchFile door),
   )
 
   module _ (k : ℕ) (named : file_named m name ≡ Some (k, file_in m k)) where
@@ -167,16 +174,22 @@ module _ {X : Type 0} (took : X → Section → PoolAnswer → X → Type 0) (fu
 
     refused_by : (e : Refusal) → first_of (map_tests m task a n) ≡ Some e → Through took event (Some m) door (Err e) (Some m) door
     refused_by e h =
-        let c : Choice = fresh_choice false (Some m) in
-        (c, is_fresh false (Some m), subst (λ p. ThroughDoor took p (Some m) door (Err e) (Some m) door) (sym (of_file c ∙ tests_fail (map_tests m task a n) (grants c (next_number task m)) e h)) (refused_at took m e door))
+        let c : Choice = fresh_choice false (Some m) in (
+          c,
+          is_fresh false (Some m),
+          subst (λ p. ThroughDoor took p (Some m) door (Err e) (Some m) door)
+              (sym (of_file c ∙ tests_fail (map_tests m task a n) (grants c (next_number task m)) e h)) (refused_at took m e door),
+        )
 
     pub map_refused : (e : Refusal) → first_of (map_tests m task a n) ≡ Some e → Tried took full event (Some m) door (Err e) (Some m) door
     map_refused r.TraceFull h = absurd (never_map ((n == 0) || nat_lt most_file_pages (a + n)) (nat_lt most_map_pages n || are_too_many_maps m task) h)
     map_refused other h = refused_by other h
 
-    pub map_went : (number : ℕ) → first_of (map_tests m task a n) ≡ None → number ≡ next_number task m → (reply : Reply) (new : Slot) (left : X) → Tried took full (λ c. grants c number) (Some m) door reply new left → Tried took full event (Some m) door reply new left
+    pub map_went : (number : ℕ) → first_of (map_tests m task a n) ≡ None → number ≡ next_number task m → (reply : Reply) (new : Slot) (left : X) →
+        Tried took full (λ c. grants c number) (Some m) door reply new left → Tried took full event (Some m) door reply new left
     map_went number pass number_is reply new left h =
-        tried_as took full (λ c. grants c number) event (λ c. ap (grants c) number_is ∙ sym (tests_pass (map_tests m task a n) (grants c (next_number task m)) pass) ∙ sym (of_file c)) (Some m) door reply new left h
+        tried_as took full (λ c. grants c number) event (λ c. ap (grants c) number_is
+        ∙ sym (tests_pass (map_tests m task a n) (grants c (next_number task m)) pass) ∙ sym (of_file c)) (Some m) door reply new left h
 
 -- ---- a file without name, with one map
 
@@ -195,13 +208,20 @@ module _ {X : Type 0} (took : X → Section → PoolAnswer → X → Type 0) (fu
 
   anon_refused_by : (e : Refusal) → first_of (anon_tests m task n) ≡ Some e → Through took anon_event (Some m) door (Err e) (Some m) door
   anon_refused_by e h =
-      let c : Choice = fresh_choice false (Some m) in
-      (c, is_fresh false (Some m), subst (λ p. ThroughDoor took p (Some m) door (Err e) (Some m) door) (sym (tests_fail (anon_tests m task n) (anon_grants c (next_number task m)) e h)) (refused_at took m e door))
+      let c : Choice = fresh_choice false (Some m) in (
+        c,
+        is_fresh false (Some m),
+        subst (λ p. ThroughDoor took p (Some m) door (Err e) (Some m) door)
+            (sym (tests_fail (anon_tests m task n) (anon_grants c (next_number task m)) e h)) (refused_at took m e door),
+      )
 
   pub anon_refused : (e : Refusal) → first_of (anon_tests m task n) ≡ Some e → Tried took full anon_event (Some m) door (Err e) (Some m) door
-  anon_refused r.TraceFull h = absurd (never_anon ((n == 0) || nat_lt most_file_pages n) (nat_lt most_map_pages n || are_too_many_maps m task || nat_le most_files (length m.files)) (is_over m.limits.inodes (length m.files + 1)) h)
+  anon_refused r.TraceFull h = absurd (never_anon ((n == 0) || nat_lt most_file_pages n)
+      (nat_lt most_map_pages n || are_too_many_maps m task || nat_le most_files (length m.files)) (is_over m.limits.inodes (length m.files + 1)) h)
   anon_refused other h = anon_refused_by other h
 
-  pub anon_went : (number : ℕ) → first_of (anon_tests m task n) ≡ None → number ≡ next_number task m → (reply : Reply) (new : Slot) (left : X) → Tried took full (λ c. anon_grants c number) (Some m) door reply new left → Tried took full anon_event (Some m) door reply new left
+  pub anon_went : (number : ℕ) → first_of (anon_tests m task n) ≡ None → number ≡ next_number task m → (reply : Reply) (new : Slot) (left : X) →
+      Tried took full (λ c. anon_grants c number) (Some m) door reply new left → Tried took full anon_event (Some m) door reply new left
   anon_went number pass number_is reply new left h =
-      tried_as took full (λ c. anon_grants c number) anon_event (λ c. ap (anon_grants c) number_is ∙ sym (tests_pass (anon_tests m task n) (anon_grants c (next_number task m)) pass)) (Some m) door reply new left h
+      tried_as took full (λ c. anon_grants c number) anon_event (λ c. ap (anon_grants c) number_is
+      ∙ sym (tests_pass (anon_tests m task n) (anon_grants c (next_number task m)) pass)) (Some m) door reply new left h

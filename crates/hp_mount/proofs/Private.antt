@@ -62,7 +62,8 @@ module _ {X : Type 0} (took : X → Section → PoolAnswer → X → Type 0) (fu
   plan c = access c size m s home i intent
 
   -- the plan goes so, with this choice
-  goes_so : (c : Choice) (reply : Reply) (new : Slot) (left : X) → IsFresh c (Some m) → (p : Plan) → p ≡ plan c → ThroughDoor took p (Some m) door reply new left → Through took plan (Some m) door reply new left
+  goes_so : (c : Choice) (reply : Reply) (new : Slot) (left : X) → IsFresh c (Some m) → (p : Plan) → p ≡ plan c →
+      ThroughDoor took p (Some m) door reply new left → Through took plan (Some m) door reply new left
   goes_so c reply new left fresh p e h = (c, fresh, subst (λ x. ThroughDoor took x (Some m) door reply new left) e h)
 
   enters_so : (c : Choice) → IsFresh c (Some m) → (p : Plan) → p ≡ plan c → Enters p → MayEnter plan (Some m)
@@ -75,7 +76,8 @@ module _ {X : Type 0} (took : X → Section → PoolAnswer → X → Type 0) (fu
         ∙ sym (ap (λ b. cond b (shared_access c size m s home i (cell_at s.file i)) (private_access c size m s home i (place_at s.map i) intent)) private)
 
     -- nothing is asked
-    pub nothing_asked : (p : Place Copy) → place_at s.map i ≡ p → ((c : Choice) → private_access c size m s home i p intent ≡ Finish (Answered Done (Some m))) → Through took plan (Some m) door (Ok Done) (Some m) door
+    pub nothing_asked : (p : Place Copy) → place_at s.map i ≡ p → ((c : Choice) →
+        private_access c size m s home i p intent ≡ Finish (Answered Done (Some m))) → Through took plan (Some m) door (Ok Done) (Some m) door
     nothing_asked p e is =
         let c : Choice = fresh_choice false (Some m) in
         goes_so c (Ok Done) (Some m) door (is_fresh false (Some m)) (private_access c size m s home i p intent) (place_plan p e c)
@@ -94,7 +96,9 @@ module _ {X : Type 0} (took : X → Section → PoolAnswer → X → Type 0) (fu
         by Read is = copy_read consumed copy e is
         by Write is = nothing_asked (Live consumed (Some copy)) e (λ c. ap (private_access c size m s home i (Live consumed (Some copy))) is ∙ either c (is_held_once s.file copy.stamp) once)
           where
-            either : (c : Choice) (b : Bool) → b ≡ true → cond b (Finish (Answered Done (Some m))) (cond s.map.owner (owner_write m s home copy.stamp (λ node. copied m s i consumed (record { stamp = c.stamp; page = record { node = node; bytes = copy.page.bytes } })))
+            either : (c : Choice) (b : Bool) → b ≡ true → cond b (Finish (Answered Done (Some m)))
+                (cond s.map.owner (owner_write m s home copy.stamp (λ node. copied m s i consumed
+                (record { stamp = c.stamp; page = record { node = node; bytes = copy.page.bytes } })))
                 (grant_page c m home (λ node. copied m s i consumed (record { stamp = c.stamp; page = record { node = node; bytes = copy.page.bytes } })))) ≡ Finish (Answered Done (Some m))
             either c true e = refl
             either c false e = cc
@@ -107,7 +111,8 @@ module _ {X : Type 0} (took : X → Section → PoolAnswer → X → Type 0) (fu
         (ap (λ b. cond b (refuse r.TakenByOwner) (uncopied_access c size m s home i consumed intent)) (sym marked) ∙ place_plan (Live consumed None) e c) ((refl, refl), refl)
 
     -- a reader finds a page of the file
-    pub page_read : (consumed : Bool) → place_at s.map i ≡ Live consumed None → s.map.unmapped ≡ false → shows_page intent (cell_at s.file i) ≡ true → Through took plan (Some m) door (Ok Done) (Some m) door
+    pub page_read : (consumed : Bool) → place_at s.map i ≡ Live consumed None → s.map.unmapped ≡ false → shows_page intent (cell_at s.file i) ≡ true →
+        Through took plan (Some m) door (Ok Done) (Some m) door
     page_read consumed e kept shows = by intent refl shows
       where
         by : (x : Intent) → intent ≡ x → shows_page x (cell_at s.file i) ≡ true → Through took plan (Some m) door (Ok Done) (Some m) door
@@ -133,12 +138,18 @@ module _ {X : Type 0} (took : X → Section → PoolAnswer → X → Type 0) (fu
         ∙ place_plan need.private (Live need.consumed None) need.place c
 
     -- what is left: a copy with this stamp, of what the map shows
-    given_copy : (stamp : ℕ) (consumed : Bool) (page : Page) (n : Mount) → page.bytes ≡ value size s.file s.map i → n ≡ with_place_at m k j i (Live consumed (Some (record { stamp = stamp; page = page })))
+    given_copy : (stamp : ℕ) (consumed : Bool) (page : Page) (n : Mount) → page.bytes ≡ value size s.file s.map i →
+        n ≡ with_place_at m k j i (Live consumed (Some (record { stamp = stamp; page = page })))
         → Gives (copied m s i consumed (fresh_copy (stamped stamp) page.node)) (Some m) (Ok Done) (Some n)
-    given_copy stamp consumed page n bytes n_is = (refl, ap Some (n_is ∙ ap (λ b. with_place_at m k j i (Live consumed (Some (record { stamp = stamp; page = record { node = page.node; bytes = b } })))) bytes))
+    given_copy stamp consumed page n bytes n_is = (
+      refl,
+      ap Some (n_is ∙ ap (λ b.
+          with_place_at m k j i (Live consumed (Some (record { stamp = stamp; page = record { node = page.node; bytes = b } })))) bytes),
+    )
 
     -- by the owner's reservation
-    pub copy_reserved : (stamp : ℕ) (left : X) (page : Page) (n : Mount) → has_reserve s.map i ≡ true → IsFresh (stamped stamp) (Some m) → took door (TakePage home) (granted_at page.node) left → page.bytes ≡ value size s.file s.map i
+    pub copy_reserved : (stamp : ℕ) (left : X) (page : Page) (n : Mount) → has_reserve s.map i ≡ true → IsFresh (stamped stamp) (Some m) →
+        took door (TakePage home) (granted_at page.node) left → page.bytes ≡ value size s.file s.map i
         → n ≡ with_place_at m k j i (Live true (Some (record { stamp = stamp; page = page }))) → Through took plan (Some m) door (Ok Done) (Some n) left
     copy_reserved stamp left page n reserved fresh t bytes n_is =
         let c : Choice = stamped stamp in
@@ -148,14 +159,16 @@ module _ {X : Type 0} (took : X → Section → PoolAnswer → X → Type 0) (fu
         (page_reserved took m c home (λ node. copied m s i true (fresh_copy c node)) door left page.node (Ok Done) (Some n) t (given_copy stamp true page n bytes n_is))
 
     -- refused by the door, as TraceFull alone
-    pub reserved_full : (left : X) (n : Mount) (x : Refusal) → has_reserve s.map i ≡ true → IsDoorRefusal x ⊥ ((left ≡ door) × full left) → n ≡ m → Tried took full plan (Some m) door (Err x) (Some n) left
+    pub reserved_full : (left : X) (n : Mount) (x : Refusal) → has_reserve s.map i ≡ true → IsDoorRefusal x ⊥ ((left ≡ door) × full left) → n ≡ m →
+        Tried took full plan (Some m) door (Err x) (Some n) left
     reserved_full left n r.TraceFull reserved t same =
         let c : Choice = fresh_choice false (Some m) in
         let owns : (s.map.owner && not need.consumed) ≡ true = ap (λ b. s.map.owner && b) (sym (unconsumed need.consumed)) ∙ ap (λ p. s.map.owner && is_unconsumed p) (sym need.place) ∙ reserved in (
           ap Some same,
           t,
           enters_so c (is_fresh false (Some m)) (reserved_page home (λ node. copied m s i true (fresh_copy c node)))
-              (ap (λ b. cond b (reserved_page home (λ node. copied m s i true (fresh_copy c node))) (grant_page c m home (λ node. copied m s i need.consumed (fresh_copy c node)))) (sym owns) ∙ new_plan c) tt,
+              (ap (λ b. cond b (reserved_page home (λ node. copied m s i true (fresh_copy c node)))
+              (grant_page c m home (λ node. copied m s i need.consumed (fresh_copy c node)))) (sym owns) ∙ new_plan c) tt,
         )
     reserved_full left n other reserved t same = absurd t
 
@@ -166,26 +179,33 @@ module _ {X : Type 0} (took : X → Section → PoolAnswer → X → Type 0) (fu
 
       grant_plan : (c : Choice) → grant_page c m home (put_copy c) ≡ plan c
       grant_plan c =
-          let owns : (s.map.owner && not need.consumed) ≡ false = ap (λ b. s.map.owner && b) (sym (unconsumed need.consumed)) ∙ ap (λ p. s.map.owner && is_unconsumed p) (sym need.place) ∙ unreserved in
+          let owns : (s.map.owner && not need.consumed) ≡ false = ap (λ b. s.map.owner && b) (sym (unconsumed need.consumed))
+          ∙ ap (λ p. s.map.owner && is_unconsumed p) (sym need.place) ∙ unreserved in
           ap (λ b. cond b (reserved_page home (λ node. copied m s i true (fresh_copy c node))) (grant_page c m home (put_copy c))) (sym owns) ∙ new_plan c
 
       pub copy_full : is_full m 1 ≡ true → Through took plan (Some m) door (Err r.MountFull) (Some m) door
-      copy_full e = (let c : Choice = fresh_choice false (Some m) in goes_so c (Err r.MountFull) (Some m) door (is_fresh false (Some m)) (grant_page c m home (put_copy c)) (grant_plan c) (page_full took m c home (put_copy c) door e))
+      copy_full e = (let c : Choice = fresh_choice false (Some m) in goes_so c (Err r.MountFull) (Some m) door (is_fresh false (Some m))
+          (grant_page c m home (put_copy c)) (grant_plan c) (page_full took m c home (put_copy c) door e))
 
       pub copy_without_memory : (n : Mount) → is_full m 1 ≡ false → n ≡ m → Through took plan (Some m) door (Err r.OutOfMemory) (Some n) door
       copy_without_memory n e same = subst (λ x. Through took plan (Some m) door (Err r.OutOfMemory) (Some x) door) (sym same)
-          (let c : Choice = fresh_choice true (Some m) in goes_so c (Err r.OutOfMemory) (Some m) door (is_fresh true (Some m)) (grant_page c m home (put_copy c)) (grant_plan c) (page_without_memory took m c home (put_copy c) door e refl))
+          (let c : Choice = fresh_choice true (Some m) in goes_so c (Err r.OutOfMemory) (Some m) door (is_fresh true (Some m))
+          (grant_page c m home (put_copy c)) (grant_plan c) (page_without_memory took m c home (put_copy c) door e refl))
 
-      pub copy_granted : (stamp : ℕ) (left : X) (page : Page) (n : Mount) → is_full m 1 ≡ false → IsFresh (stamped stamp) (Some m) → took door (GrantPage home (rise m 1)) (granted_at page.node) left → page.bytes ≡ value size s.file s.map i
+      pub copy_granted : (stamp : ℕ) (left : X) (page : Page) (n : Mount) → is_full m 1 ≡ false → IsFresh (stamped stamp) (Some m) →
+          took door (GrantPage home (rise m 1)) (granted_at page.node) left → page.bytes ≡ value size s.file s.map i
           → n ≡ with_place_at m k j i (Live need.consumed (Some (record { stamp = stamp; page = page }))) → Through took plan (Some m) door (Ok Done) (Some n) left
       copy_granted stamp left page n e fresh t bytes n_is =
           let c : Choice = stamped stamp in
           goes_so c (Ok Done) (Some n) left fresh (grant_page c m home (put_copy c)) (grant_plan c)
           (page_granted took m c home (put_copy c) door left page.node (Ok Done) (Some n) e refl t (given_copy stamp need.consumed page n bytes n_is))
 
-      pub copy_denied : (left : X) (n : Mount) (x : Refusal) → is_full m 1 ≡ false → IsDoorRefusal x (took door (GrantPage home (rise m 1)) no_pages left) ((left ≡ door) × full left) → n ≡ m → Tried took full plan (Some m) door (Err x) (Some n) left
+      pub copy_denied : (left : X) (n : Mount) (x : Refusal) → is_full m 1 ≡ false →
+          IsDoorRefusal x (took door (GrantPage home (rise m 1)) no_pages left) ((left ≡ door) × full left) → n ≡ m →
+          Tried took full plan (Some m) door (Err x) (Some n) left
       copy_denied left n r.NoPages e t same = subst (λ y. Through took plan (Some m) door (Err r.NoPages) (Some y) left) (sym same)
-          (let c : Choice = fresh_choice false (Some m) in goes_so c (Err r.NoPages) (Some m) left (is_fresh false (Some m)) (grant_page c m home (put_copy c)) (grant_plan c) (page_denied took m c home (put_copy c) door left e refl t))
+          (let c : Choice = fresh_choice false (Some m) in goes_so c (Err r.NoPages) (Some m) left (is_fresh false (Some m))
+          (grant_page c m home (put_copy c)) (grant_plan c) (page_denied took m c home (put_copy c) door left e refl t))
       copy_denied left n r.TraceFull e t same = (
         ap Some same,
         t,
@@ -195,14 +215,18 @@ module _ {X : Type 0} (took : X → Section → PoolAnswer → X → Type 0) (fu
 
   -- ---- a copy that several maps hold
 
-  module _ (private : is_shared s.map.sharing ≡ false) (consumed : Bool) (copy : Copy) (place : place_at s.map i ≡ Live consumed (Some copy)) (write : intent ≡ Write) (several : is_held_once s.file copy.stamp ≡ false) where
+  module _ (private : is_shared s.map.sharing ≡ false) (consumed : Bool) (copy : Copy) (place : place_at s.map i ≡ Live consumed (Some copy))
+      (write : intent ≡ Write) (several : is_held_once s.file copy.stamp ≡ false) where
     abbrev own : Choice → ℕ → Outcome
     own c node = copied m s i consumed (record { stamp = c.stamp; page = record { node = node; bytes = copy.page.bytes } })
 
     several_plan : (c : Choice) → cond s.map.owner (owner_write m s home copy.stamp (own c)) (grant_page c m home (own c)) ≡ plan c
-    several_plan c = ap (λ b. cond b (Finish (Answered Done (Some m))) (cond s.map.owner (owner_write m s home copy.stamp (own c)) (grant_page c m home (own c)))) (sym several) ∙ write_plan private c consumed copy place write
+    several_plan c = ap (λ b. cond b (Finish (Answered Done (Some m))) (cond s.map.owner (owner_write m s home copy.stamp (own c))
+        (grant_page c m home (own c)))) (sym several) ∙ write_plan private c consumed copy place write
 
-    given_own : (stamp : ℕ) (page : Page) (n : Mount) → page.bytes ≡ copy.page.bytes → n ≡ with_place_at m k j i (Live consumed (Some (record { stamp = stamp; page = page }))) → Gives (own (stamped stamp) page.node) (Some m) (Ok Done) (Some n)
+    given_own : (stamp : ℕ) (page : Page) (n : Mount) → page.bytes ≡ copy.page.bytes →
+        n ≡ with_place_at m k j i (Live consumed (Some (record { stamp = stamp; page = page }))) →
+        Gives (own (stamped stamp) page.node) (Some m) (Ok Done) (Some n)
     given_own stamp page n bytes n_is = (refl, ap Some (n_is ∙ ap (λ b. with_place_at m k j i (Live consumed (Some (record { stamp = stamp; page = record { node = page.node; bytes = b } })))) bytes))
 
     abbrev asks_owner : Choice → Plan
@@ -218,10 +242,12 @@ module _ {X : Type 0} (took : X → Section → PoolAnswer → X → Type 0) (fu
       back = with_file m k (with_map (record s.file { maps = map (robbed copy.stamp) s.file.maps }) j s.map)
 
       pub owner_full : (n : Mount) → is_full m 1 ≡ true → n ≡ back → Through took plan (Some m) door (Ok Done) (Some n) door
-      owner_full n e n_is = (let c : Choice = fresh_choice false (Some m) in goes_so c (Ok Done) (Some n) door (is_fresh false (Some m)) (Finish (taken_back m s copy.stamp)) (owner_plan c true e) ((refl, ap Some n_is), refl))
+      owner_full n e n_is = (let c : Choice = fresh_choice false (Some m) in goes_so c (Ok Done) (Some n) door (is_fresh false (Some m))
+          (Finish (taken_back m s copy.stamp)) (owner_plan c true e) ((refl, ap Some n_is), refl))
 
       pub owner_denied : (left : X) (n : Mount) → is_full m 1 ≡ false → took door (GrantPage home (rise m 1)) no_pages left → n ≡ back → Through took plan (Some m) door (Ok Done) (Some n) left
-      owner_denied left n e t n_is = (let c : Choice = fresh_choice false (Some m) in goes_so c (Ok Done) (Some n) left (is_fresh false (Some m)) (asks_owner c) (owner_plan c false e) (no_pages, t, (refl, ap Some n_is)))
+      owner_denied left n e t n_is = (let c : Choice = fresh_choice false (Some m) in
+          goes_so c (Ok Done) (Some n) left (is_fresh false (Some m)) (asks_owner c) (owner_plan c false e) (no_pages, t, (refl, ap Some n_is)))
 
     pub other_full : s.map.owner ≡ false → is_full m 1 ≡ true → Through took plan (Some m) door (Err r.MountFull) (Some m) door
     other_full other e =
@@ -237,14 +263,17 @@ module _ {X : Type 0} (took : X → Section → PoolAnswer → X → Type 0) (fu
         (ap (λ b. cond b (owner_write m s home copy.stamp (own c)) (grant_page c m home (own c))) (sym other) ∙ several_plan c) (page_asks took m c home (own c) door e refl)
 
     -- refused by the door: an owner is so as TraceFull alone
-    pub own_denied : (left : X) (n : Mount) (x : Refusal) → is_full m 1 ≡ false → (x ≡ r.NoPages → s.map.owner ≡ false) → IsDoorRefusal x (took door (GrantPage home (rise m 1)) no_pages left) ((left ≡ door) × full left) → n ≡ m → Tried took full plan (Some m) door (Err x) (Some n) left
+    pub own_denied : (left : X) (n : Mount) (x : Refusal) → is_full m 1 ≡ false → (x ≡ r.NoPages → s.map.owner ≡ false) →
+        IsDoorRefusal x (took door (GrantPage home (rise m 1)) no_pages left) ((left ≡ door) × full left) → n ≡ m →
+        Tried took full plan (Some m) door (Err x) (Some n) left
     own_denied left n r.NoPages e other t same = subst (λ y. Through took plan (Some m) door (Err r.NoPages) (Some y) left) (sym same)
         (let c : Choice = fresh_choice false (Some m) in goes_so c (Err r.NoPages) (Some m) left (is_fresh false (Some m)) (grant_page c m home (own c))
         (ap (λ b. cond b (owner_write m s home copy.stamp (own c)) (grant_page c m home (own c))) (sym (other refl)) ∙ several_plan c) (page_denied took m c home (own c) door left e refl t))
     own_denied left n r.TraceFull e other t same = (ap Some same, t, own_enters e s.map.owner refl)
     own_denied left n x e other t same = absurd t
 
-    pub own_granted : (stamp : ℕ) (left : X) (page : Page) (n : Mount) → is_full m 1 ≡ false → IsFresh (stamped stamp) (Some m) → took door (GrantPage home (rise m 1)) (granted_at page.node) left → page.bytes ≡ copy.page.bytes
+    pub own_granted : (stamp : ℕ) (left : X) (page : Page) (n : Mount) → is_full m 1 ≡ false → IsFresh (stamped stamp) (Some m) →
+        took door (GrantPage home (rise m 1)) (granted_at page.node) left → page.bytes ≡ copy.page.bytes
         → n ≡ with_place_at m k j i (Live consumed (Some (record { stamp = stamp; page = page }))) → Through took plan (Some m) door (Ok Done) (Some n) left
     own_granted stamp left page n e fresh t bytes n_is = either s.map.owner refl
       where
@@ -252,7 +281,8 @@ module _ {X : Type 0} (took : X → Section → PoolAnswer → X → Type 0) (fu
         c = stamped stamp
 
         either : (b : Bool) → s.map.owner ≡ b → Through took plan (Some m) door (Ok Done) (Some n) left
-        either true owner = goes_so (stamped stamp) (Ok Done) (Some n) left fresh (asks_owner (stamped stamp)) (owner_plan owner (stamped stamp) false e) (granted_at page.node, t, given_own stamp page n bytes n_is)
+        either true owner = goes_so (stamped stamp) (Ok Done) (Some n) left fresh (asks_owner (stamped stamp))
+            (owner_plan owner (stamped stamp) false e) (granted_at page.node, t, given_own stamp page n bytes n_is)
         either false other = goes_so (stamped stamp) (Ok Done) (Some n) left fresh (grant_page (stamped stamp) m home (own (stamped stamp)))
             (ap (λ b. cond b (owner_write m s home copy.stamp (own (stamped stamp))) (grant_page (stamped stamp) m home (own (stamped stamp)))) (sym other) ∙ several_plan (stamped stamp))
             (page_granted took m (stamped stamp) home (own (stamped stamp)) door left page.node (Ok Done) (Some n) e refl t (given_own stamp page n bytes n_is))
@@ -269,7 +299,8 @@ place_touched m n k j i p l e =
       cells = ap (λ f. length f.cells) here;
     }
 
-pub back_touched : (m n : Mount) (k j stamp : ℕ) (y : Map) → k < length m.files → n ≡ with_file m k (with_map (record (file_in m k) { maps = map (robbed stamp) (file_in m k).maps }) j y) → IsTouched m n k
+pub back_touched : (m n : Mount) (k j stamp : ℕ) (y : Map) → k < length m.files →
+    n ≡ with_file m k (with_map (record (file_in m k) { maps = map (robbed stamp) (file_in m k).maps }) j y) → IsTouched m n k
 back_touched m n k j stamp y l e =
     let g : File = with_map (record (file_in m k) { maps = map (robbed stamp) (file_in m k).maps }) j y in
     let here : file_in n k ≡ g = ap (λ x. file_in x k) e ∙ get_or-set_same m.files k g (new_file None) l in

@@ -75,16 +75,20 @@ module _ {X : Type 0} (took : X → Section → PoolAnswer → X → Type 0) (m 
     pub page_denied : (left : X) → is_full m 1 ≡ false → c.refused ≡ false → took door (GrantPage home (rise m 1)) no_pages left → goes (grant_page c m home f) door (Err r.NoPages) (Some m) left
     page_denied left e z t = tests false false e z (Err r.NoPages) (Some m) left (no_pages, t, (refl, refl))
 
-    pub page_granted : (left : X) (node : ℕ) (reply : Reply) (new : Slot) → is_full m 1 ≡ false → c.refused ≡ false → took door (GrantPage home (rise m 1)) (granted_at node) left → Gives (f node) (Some m) reply new → goes (grant_page c m home f) door reply new left
+    pub page_granted : (left : X) (node : ℕ) (reply : Reply) (new : Slot) → is_full m 1 ≡ false → c.refused ≡ false →
+        took door (GrantPage home (rise m 1)) (granted_at node) left → Gives (f node) (Some m) reply new →
+        goes (grant_page c m home f) door reply new left
     page_granted left node reply new e z t h = tests false false e z reply new left (granted_at node, t, h)
 
     -- a page by a reservation
-    pub page_reserved : (left : X) (node : ℕ) (reply : Reply) (new : Slot) → took door (TakePage home) (granted_at node) left → Gives (f node) (Some m) reply new → goes (reserved_page home f) door reply new left
+    pub page_reserved : (left : X) (node : ℕ) (reply : Reply) (new : Slot) → took door (TakePage home) (granted_at node) left →
+        Gives (f node) (Some m) reply new → goes (reserved_page home f) door reply new left
     page_reserved left node reply new t h = (granted_at node, t, h)
 
   -- ---- what follows an access, whatever it is
 
-  gives_then : (f : Mount → Outcome) (o : Outcome) (a : Answer) (n : Mount) (reply : Reply) (new : Slot) → Gives o (Some m) (Ok a) (Some n) → Gives (f n) (Some m) reply new → Gives (continued f o) (Some m) reply new
+  gives_then : (f : Mount → Outcome) (o : Outcome) (a : Answer) (n : Mount) (reply : Reply) (new : Slot) → Gives o (Some m) (Ok a) (Some n) →
+      Gives (f n) (Some m) reply new → Gives (continued f o) (Some m) reply new
   gives_then f (Refused e) a n reply new h g = absurd (not_ok h.0)
     where
       not_ok : {a : Answer} {e : Refusal} → Ok a ≡ Err e → ⊥
@@ -106,7 +110,8 @@ module _ {X : Type 0} (took : X → Section → PoolAnswer → X → Type 0) (m 
       not_err h = cc
 
   -- the access was answered, and the rest follows on the mount that it left
-  pub then_goes : (f : Mount → Outcome) (p : Plan) (door left : X) (a : Answer) (n : Mount) (reply : Reply) (new : Slot) → goes p door (Ok a) (Some n) left → Gives (f n) (Some m) reply new → goes (and_then f p) door reply new left
+  pub then_goes : (f : Mount → Outcome) (p : Plan) (door left : X) (a : Answer) (n : Mount) (reply : Reply) (new : Slot) →
+      goes p door (Ok a) (Some n) left → Gives (f n) (Some m) reply new → goes (and_then f p) door reply new left
   then_goes f (Finish o) door left a n reply new h g = (gives_then f o a n reply new h.0 g, h.1)
   then_goes f (Ask s k) door left a n reply new h g = (h.0, h.1, gives_then f (k h.0) a n reply new h.2 g)
 

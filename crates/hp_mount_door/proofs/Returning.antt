@@ -158,7 +158,8 @@ bumped_sum (c ∷ cs) zero l = omega (arith, sum_by-cons (λ x. x) (c + 1) cs, s
 bumped_sum (c ∷ cs) (suc node) l =
     (let rest = bumped_sum cs node (omega (arith, l)) in omega (arith, rest, sum_by-cons (λ x. x) c (slice_set cs node (slice_index cs node + 1)), sum_by-cons (λ x. x) c cs))
 
-pub one_counted : (all pages rest : List Page) (counts next : List ℕ) (page : Page) → pages ≡ rest ++ page ∷ [] → page.node < 4 → next ≡ slice_set counts page.node (slice_index counts page.node + 1) → AreCounted all pages counts
+pub one_counted : (all pages rest : List Page) (counts next : List ℕ) (page : Page) → pages ≡ rest ++ page ∷ [] → page.node < 4 →
+    next ≡ slice_set counts page.node (slice_index counts page.node + 1) → AreCounted all pages counts
     → AreCounted all rest next
 one_counted all pages rest counts next page is below next_is h =
     let long = ap length is ∙ length-append rest (page ∷ []) in
@@ -179,7 +180,8 @@ four_are (a ∷ []) f l h = absurd (omega (arith, l))
 four_are (a ∷ b ∷ []) f l h = absurd (omega (arith, l))
 four_are (a ∷ b ∷ c ∷ []) f l h = absurd (omega (arith, l))
 four_are (a ∷ b ∷ c ∷ d ∷ []) f l h =
-    ap (λ x. x ∷ b ∷ c ∷ d ∷ []) (h 0 (omega arith)) ∙ ap (λ x. f 0 ∷ x ∷ c ∷ d ∷ []) (h 1 (omega arith)) ∙ ap (λ x. f 0 ∷ f 1 ∷ x ∷ d ∷ []) (h 2 (omega arith)) ∙ ap (λ x. f 0 ∷ f 1 ∷ f 2 ∷ x ∷ []) (h 3 (omega arith))
+    ap (λ x. x ∷ b ∷ c ∷ d ∷ []) (h 0 (omega arith)) ∙ ap (λ x. f 0 ∷ x ∷ c ∷ d ∷ []) (h 1 (omega arith))
+    ∙ ap (λ x. f 0 ∷ f 1 ∷ x ∷ d ∷ []) (h 2 (omega arith)) ∙ ap (λ x. f 0 ∷ f 1 ∷ f 2 ∷ x ∷ []) (h 3 (omega arith))
 four_are (a ∷ b ∷ c ∷ d ∷ e ∷ rest) f l h = absurd (omega (arith, l))
 
 pub all_counted : (all pages : List Page) (counts : List ℕ) → pages ≡ [] → AreCounted all pages counts → (counts ≡ by_node all) × (sum (by_node all) ≡ length all)
@@ -239,7 +241,8 @@ all_given pages k p q ready is = record {
 }
 
 -- pages and reservations
-module _ (s next : Subpool) (pages : List Page) (base p left q : Pool) (next_is : next ≡ record s { pages = s.pages - length pages }) (p_is : p ≡ released (fall s (length pages)) (puts_from 0 (by_node pages) base)) where
+module _ (s next : Subpool) (pages : List Page) (base p left q : Pool) (next_is : next ≡ record s { pages = s.pages - length pages })
+    (p_is : p ≡ released (fall s (length pages)) (puts_from 0 (by_node pages) base)) where
   pub both_given : (k : ℕ) → length pages ≤ s.pages → left ≡ released (fall next k) p → q ≡ settled left → q ≡ settled (released (fall s (length pages + k)) (puts_from 0 (by_node pages) base))
   both_given k within left_is is =
       let puts : Pool = puts_from 0 (by_node pages) base in
@@ -247,7 +250,8 @@ module _ (s next : Subpool) (pages : List Page) (base p left q : Pool) (next_is 
       ∙ ap (λ c. settled (record puts { committed = c })) (falls_are s (length pages) k puts.committed within)
 
   -- and the minimum with them
-  pub share_given : (held : ℕ) (last : Subpool) (closed : Pool) → length pages ≡ s.pages → held ≡ used next → last ≡ record next { held = next.held - held } → left ≡ released (fall next held) p → closed ≡ released last.min left → q ≡ settled closed
+  pub share_given : (held : ℕ) (last : Subpool) (closed : Pool) → length pages ≡ s.pages → held ≡ used next →
+      last ≡ record next { held = next.held - held } → left ≡ released (fall next held) p → closed ≡ released last.min left → q ≡ settled closed
       → q ≡ settled (released (committed_of s) (puts_from 0 (by_node pages) base))
   share_given held last closed all held_is last_is left_is closed_is is =
       let puts : Pool = puts_from 0 (by_node pages) base in

@@ -29,7 +29,8 @@ impl<N: Naming> Model for Parcel<N> {
 
     ghost Value = { List ℕ };
 
-    ghost view = { λ p. amount_of p.zero ∷ amount_of p.one ∷ amount_of p.two ∷ amount_of p.three ∷ [] };
+    ghost view = { λ p. amount_of p.zero ∷ amount_of p.one ∷ amount_of p.two ∷ amount_of p.three
+        ∷ [] };
 
     ghost invariant = { λ p. IsPart 0 p.zero × IsPart 1 p.one × IsPart 2 p.two × IsPart 3 p.three };
 }

@@ -10,7 +10,9 @@ use Rattle.hp_mount_files.specs.Held.{IsHeld, in_cell, in_cells, in_file, in_fil
 use Rattle.hp_mount_files.specs.Numbered.{NumberedFile, numbered_at}
 use Rattle.hp_mount_files.proofs.Cells.{no_file}
 
-module _ (s : Store) (more : ℕ) (fs : List NumberedFile) (h : IsHeld s more fs) (k : ℕ) (l : k < length fs) (g : NumberedFile) (cells_as : (n : ℕ) → sum_by (in_cell n) g.cells ≡ sum_by (in_cell n) (numbered_at fs k).cells) (file_as : (n : ℕ) → in_file n g ≡ in_file n (numbered_at fs k)) where
+module _ (s : Store) (more : ℕ) (fs : List NumberedFile) (h : IsHeld s more fs) (k : ℕ) (l : k < length fs) (g : NumberedFile)
+    (cells_as : (n : ℕ) → sum_by (in_cell n) g.cells ≡ sum_by (in_cell n) (numbered_at fs k).cells)
+    (file_as : (n : ℕ) → in_file n g ≡ in_file n (numbered_at fs k)) where
   files_as : (n : ℕ) → in_files n (slice_set fs k g) ≡ in_files n fs
   files_as n = (let step = sum_by-set (in_file n) fs k g no_file l in let same = file_as n in omega (arith, step, same))
 
@@ -19,7 +21,8 @@ module _ (s : Store) (more : ℕ) (fs : List NumberedFile) (h : IsHeld s more fs
 
   at_as : (n j : ℕ) → in_file n (numbered_at (slice_set fs k g) j) ≡ in_file n (numbered_at fs j)
   at_as n j = ⊎_elim
-      (λ (e : ((j == k) ≡ true) × (j ≡ k)). (ap (λ x. in_file n (numbered_at (slice_set fs k g) x)) e.1 ∙ ap (in_file n) (get_or-set_same fs k g no_file l) ∙ file_as n ∙ ap (λ x. in_file n (numbered_at fs x)) (sym e.1)))
+      (λ (e : ((j == k) ≡ true) × (j ≡ k)). (ap (λ x. in_file n (numbered_at (slice_set fs k g) x)) e.1
+      ∙ ap (in_file n) (get_or-set_same fs k g no_file l) ∙ file_as n ∙ ap (λ x. in_file n (numbered_at fs x)) (sym e.1)))
       (λ (e : ((j == k) ≡ false) × (j ≢ k)). ap (in_file n) (get_or-set_other fs k j g no_file e.1))
       (eqb_tells j k)
 

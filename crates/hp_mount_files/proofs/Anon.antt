@@ -25,13 +25,15 @@ module _ (task number a n : ℕ) (sharing : Sharing) (reserving : Reserving) whe
   abbrev pub anon : NumberedFile
   anon = with_mapping (entered_from sharing reserving a n) (new_mapping task number a n sharing reserving) nameless
 
-  module _ (old : Noted) (s : Store) (more maps : ℕ) (tally : ℕ → ℕ) (fs : List NumberedFile) (is : IsFiles old s more maps tally fs) (f : NumberedFile) (gs : List NumberedFile) (f_is : f ≡ anon) (gs_is : gs ≡ fs ++ f ∷ []) where
+  module _ (old : Noted) (s : Store) (more maps : ℕ) (tally : ℕ → ℕ) (fs : List NumberedFile) (is : IsFiles old s more maps tally fs)
+      (f : NumberedFile) (gs : List NumberedFile) (f_is : f ≡ anon) (gs_is : gs ≡ fs ++ f ∷ []) where
     pub anon_view : view s more gs ≡ record (view s more fs) { files = files_shown s fs ++ mapped task number a n sharing reserving (new_file None) ∷ [] }
     anon_view =
         ap (λ xs. record (view s more fs) { files = xs }) (ap (files_shown s) gs_is ∙ map-append (file_shown s) fs (f ∷ [])
         ∙ ap (λ x. files_shown s fs ++ x ∷ []) (ap (file_shown s) f_is ∙ mapped_shown task number a n sharing reserving s nameless))
 
-    pub anon_files : is_among number (numbers_of task (all_maps (files_shown s fs))) ≡ false → (now : Noted) → IsMore old now → has_key task number now ≡ true → (next : ℕ → ℕ) → ((q : ℕ) → next q ≡ tally q + cond (task == q) 1 0)
+    pub anon_files : is_among number (numbers_of task (all_maps (files_shown s fs))) ≡ false → (now : Noted) → IsMore old now →
+        has_key task number now ≡ true → (next : ℕ → ℕ) → ((q : ℕ) → next q ≡ tally q + cond (task == q) 1 0)
         → IsFiles now s more (maps + 1) next gs
     anon_files fresh now grown own next one_more =
         subst (IsFiles now s more (maps + 1) next) (sym (gs_is ∙ ap (λ x. fs ++ x ∷ []) f_is))

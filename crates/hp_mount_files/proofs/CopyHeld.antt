@@ -57,7 +57,8 @@ module _ (s : Store) (q m : ℕ) where
       let parts = and_parts ((page_in (page_at s k)).node == m) (k == q) e in
       ap (λ n. (page_in (page_at s n)).node) (sym (eqb-true k q parts.1)) ∙ eqb-true (page_in (page_at s k)).node m parts.0
 
-  any_node : {X Y : Type 0} (f : X → Y) (has : Y → Bool) → ((x : X) → has (f x) ≡ true → (page_in (page_at s q)).node ≡ m) → (xs : List X) → list_any has (map f xs) ≡ true → (page_in (page_at s q)).node ≡ m
+  any_node : {X Y : Type 0} (f : X → Y) (has : Y → Bool) → ((x : X) → has (f x) ≡ true → (page_in (page_at s q)).node ≡ m) → (xs : List X) →
+      list_any has (map f xs) ≡ true → (page_in (page_at s q)).node ≡ m
   any_node f has each [] e = cc
   any_node f has each (x ∷ xs) e = ⊎_elim (λ (l : has (f x) ≡ true). each x l) (λ (r : list_any has (map f xs) ≡ true). any_node f has each xs r) (or_cases (has (f x)) (list_any has (map f xs)) e)
 
@@ -69,7 +70,8 @@ agreed_shown s f q m n a b = sym (file_node s q m f a) ∙ file_node s q n f b
 
 -- ---- as code reads it
 
-module _ (s : Store) (more : ℕ) (fs : List NumberedFile) (h : IsHeld s more fs) (k j i : ℕ) (l : k < length (files_shown s fs)) (jl : j < length (file_at (files_shown s fs) k).maps) (x : NumberedFile) (read : x ≡ slice_index_or fs k x) where
+module _ (s : Store) (more : ℕ) (fs : List NumberedFile) (h : IsHeld s more fs) (k j i : ℕ) (l : k < length (files_shown s fs))
+    (jl : j < length (file_at (files_shown s fs) k).maps) (x : NumberedFile) (read : x ≡ slice_index_or fs k x) where
   pub agreed_there : AreAgreed (file_at (files_shown s fs) k)
   agreed_there = subst AreAgreed (sym (file_is s fs k (within s more fs h k j i l jl x read))) (agreed_shown s (numbered_at fs k))
 
@@ -78,7 +80,8 @@ module _ (s : Store) (more : ℕ) (fs : List NumberedFile) (h : IsHeld s more fs
 
   module _ (y : Mapping ℕ) (map_read : y ≡ slice_index_or x.maps j y) where
     pub y_is : y ≡ mapping s more fs h k j i l jl x read
-    y_is = map_read ∙ ap (λ (f : NumberedFile). slice_index_or f.maps j y) (x_is s more fs h k j i l jl x read) ∙ get_or_default (numbered_at fs k).maps j y no_mapping (jl_in s more fs h k j i l jl x read)
+    y_is = map_read ∙ ap (λ (f : NumberedFile). slice_index_or f.maps j y) (x_is s more fs h k j i l jl x read)
+        ∙ get_or_default (numbered_at fs k).maps j y no_mapping (jl_in s more fs h k j i l jl x read)
 
     pub no_copy : copy_of (place_at y i) ≡ None → copy_of (place_at (map_at (files_shown s fs) k j) i) ≡ None
     no_copy none = ap copy_of (seen_place s more fs h k j i l jl x read) ∙ no_copy_seen s (place_at (mapping s more fs h k j i l jl x read) i) (ap (λ m. copy_of (place_at m i)) (sym y_is) ∙ none)

@@ -25,7 +25,9 @@ use Rattle.hp_mount_files.proofs.Lifting.{at_most, cell_same, file_same, is_it, 
 use Rattle.hp_mount_files.proofs.PutCopy.{jl_in, mapping, seen, seen_place, within}
 use Rattle.hp_mount_files.proofs.Views.{some_of, some_within, view}
 
-module _ (s : Store) (more : ℕ) (fs : List NumberedFile) (h : IsHeld s more fs) (k j i : ℕ) (l : k < length (files_shown s fs)) (jl : j < length (file_at (files_shown s fs) k).maps) (x : NumberedFile) (read : x ≡ slice_index_or fs k x) (y : Mapping ℕ) (map_read : y ≡ slice_index_or x.maps j y)
+module _ (s : Store) (more : ℕ) (fs : List NumberedFile) (h : IsHeld s more fs) (k j i : ℕ) (l : k < length (files_shown s fs))
+    (jl : j < length (file_at (files_shown s fs) k).maps) (x : NumberedFile) (read : x ≡ slice_index_or fs k x) (y : Mapping ℕ)
+    (map_read : y ≡ slice_index_or x.maps j y)
     (n : ℕ) (there : copy_of (place_at y i) ≡ Some n) (once : IsCopyState state.HeldOnce (file_at (files_shown s fs) k) (place_at (map_at (files_shown s fs) k j) i)) where
   same_stamp : once.0.stamp ≡ n
   same_stamp = stamp_there s more fs h k j i l jl x read y map_read n there once.0 once.1
@@ -97,11 +99,16 @@ module _ (s : Store) (more : ℕ) (fs : List NumberedFile) (h : IsHeld s more fs
         let place_now : place_shown u (slice_index_or m.places o Gone) ≡ place_written offset bytes (place_shown s (place_at m i)) =
         ap (place_shown u) (sym (place_here m i at.2)) ∙ written_place (place_at m i) here in
         let map_now : map_shown u m ≡ with_place (map_shown s m) i (place_written offset bytes (place_at (map_at (files_shown s fs) k j) i)) =
-        ap (λ ps. record (map_shown s m) { places = ps }) (places ∙ ap (slice_set (map (place_shown s) m.places) o) (place_now ∙ ap (place_written offset bytes) (sym (seen_place s more fs h k j i l jl x read)))) in
+        ap (λ ps. record (map_shown s m) { places = ps }) (places ∙ ap (slice_set (map (place_shown s) m.places) o)
+        (place_now ∙ ap (place_written offset bytes) (sym (seen_place s more fs h k j i l jl x read)))) in
         let file_now : file_shown u f ≡ with_map (file_shown s f) j (with_place (map_at (files_shown s fs) k j) i (place_written offset bytes (place_at (map_at (files_shown s fs) k j) i))) =
         ap (λ cs. record { name = f.name; cells = cs; maps = map (map_shown u) f.maps }) bare
-        ∙ ap (λ ms. record (file_shown s f) { maps = ms }) (maps ∙ ap (slice_set (map (map_shown s) f.maps) j) (map_now ∙ ap (λ (q : Map). with_place q i (place_written offset bytes (place_at (map_at (files_shown s fs) k j) i))) (sym (seen s more fs h k j i l jl x read)))) in
-        files ∙ ap (slice_set (files_shown s fs) k) (file_now ∙ ap (λ (g : File). with_map g j (with_place (map_at (files_shown s fs) k j) i (place_written offset bytes (place_at (map_at (files_shown s fs) k j) i)))) (sym (file_is s fs k inner)))
+        ∙ ap (λ ms. record (file_shown s f) { maps = ms }) (maps ∙ ap (slice_set (map (map_shown s) f.maps) j)
+        (map_now ∙ ap (λ (q : Map). with_place q i (place_written offset bytes (place_at (map_at (files_shown s fs) k j) i)))
+        (sym (seen s more fs h k j i l jl x read)))) in
+        files ∙ ap (slice_set (files_shown s fs) k) (file_now ∙ ap (λ (g : File).
+        with_map g j (with_place (map_at (files_shown s fs) k j) i (place_written offset bytes (place_at (map_at (files_shown s fs) k j) i))))
+        (sym (file_is s fs k inner)))
 
     pub copy_write_view : view t more fs ≡ placed_at k j i (place_written offset bytes (place_at (map_at (files_shown s fs) k j) i)) (view s more fs)
     copy_write_view = ap (λ u. view u more fs) t_is ∙ ap (λ xs. record { files = xs; going = s.going; room = s.room - more }) shows

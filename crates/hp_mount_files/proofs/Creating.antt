@@ -16,7 +16,8 @@ use Rattle.hp_mount_files.proofs.Unique.{names_counted, none_found}
 abbrev pub empty_file : List ℕ → NumberedFile
 empty_file name = record { name = Some name; cells = []; maps = [] }
 
-module _ (old now : Noted) (s : Store) (more maps : ℕ) (tally : ℕ → ℕ) (fs : List NumberedFile) (name : List ℕ) (is : IsFiles old s more maps tally fs) (new : found (has_name name) (files_shown s fs) ≡ None) where
+module _ (old now : Noted) (s : Store) (more maps : ℕ) (tally : ℕ → ℕ) (fs : List NumberedFile) (name : List ℕ)
+    (is : IsFiles old s more maps tally fs) (new : found (has_name name) (files_shown s fs) ≡ None) where
   free : (other : List ℕ) (b : Bool) → bytes_eq name other ≡ b → count_by (has_label other) (labels_of fs) ≤ 1 → count_by (has_label other) (labels_of fs) + cond b 1 0 ≤ 1
   free other true e most =
       let same : name ≡ other = (bytes_eq-Decides name other).0 e in

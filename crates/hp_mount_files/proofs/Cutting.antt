@@ -76,7 +76,8 @@ module _ (n end : ℕ) (cells bare gone : List (Cell ℕ)) (end_is : end ≡ len
   bare_at i = ap (λ cs. slice_index_or cs i Hole) bare_is ∙ ranged cell_punched n (n + end) cells i Hole refl
 
   bare_past : (i : ℕ) → n ≤ i → i < end → has_page (slice_index_or bare i Hole) ≡ false
-  bare_past i from below = ap has_page (bare_at i ∙ ap (λ b. cond b (cell_punched (slice_index_or cells i Hole)) (slice_index_or cells i Hole)) (in_from n (n + end) i from (omega (arith, below)))) ∙ no_page (slice_index_or cells i Hole)
+  bare_past i from below = ap has_page (bare_at i ∙ ap (λ b. cond b (cell_punched (slice_index_or cells i Hole)) (slice_index_or cells i Hole))
+      (in_from n (n + end) i from (omega (arith, below)))) ∙ no_page (slice_index_or cells i Hole)
 
   pub bare_pages : (m : ℕ) → m ≡ min n end → All (λ (c : Cell ℕ). has_page c ≡ false) (part m end bare)
   bare_pages m m_is k d l =
@@ -176,7 +177,8 @@ all_waiting len cells bare len_is bare_is =
     ap (λ m. count_by is_entered (take m (drop 0 bare))) same ∙ ap (λ cs. count_by is_entered (take (length cells) (drop 0 cs))) mapped
     ∙ ap (count_by is_entered) (all_part cell_punched cells) ∙ waiting_mapped cells
 
-pub cut_file : (n end : ℕ) (old left : NumberedFile) (cells : List (Cell ℕ)) → end ≡ length old.cells → left ≡ with_punched n (n + end) old → cells ≡ cells_to n old.cells → record left { cells = cells } ≡ with_truncated n old
+pub cut_file : (n end : ℕ) (old left : NumberedFile) (cells : List (Cell ℕ)) → end ≡ length old.cells → left ≡ with_punched n (n + end) old →
+    cells ≡ cells_to n old.cells → record left { cells = cells } ≡ with_truncated n old
 cut_file n end old left cells end_is left_is cells_is =
     ap (λ cs. record left { cells = cs }) cells_is
     ∙ ap (λ (f : NumberedFile). record f { cells = cells_to n old.cells }) left_is

@@ -1,5 +1,6 @@
 -- Holders that go, one by one.
-use Rattle.std.proofs.Common.{◌≡◌, ◌≢◌, ℕ, zero, suc, ◌+◌, ◌-◌, ◌<◌, ◌≤◌, ◌==◌, ⊎_elim, ◌⊎◌, inl, inr, Bool, true, false, cond, nat_lt, Option, Some, None, List, [], ◌∷◌, ◌++◌, length, drop, refl, sym, ap, subst, ◌∙◌, arith}
+use Rattle.std.proofs.Common.{◌≡◌, ◌≢◌, ℕ, zero, suc, ◌+◌, ◌-◌, ◌<◌, ◌≤◌, ◌==◌, ⊎_elim, ◌⊎◌, inl, inr, Bool, true, false}
+use Rattle.std.proofs.Common.{cond, nat_lt, Option, Some, None, List, [], ◌∷◌, ◌++◌, length, drop, refl, sym, ap, subst, ◌∙◌, arith}
 use Rattle.std.specs.Prelude.{IsSome, MatchOption, slice_index_or, slice_set}
 use Rattle.std.specs.List.{All, count_by, sum_by}
 use Rattle.std.proofs.lemmas.Bool.Decides.{eqb_tells, nat_tests}
@@ -37,7 +38,8 @@ pub drop_more : (s : Store) (number k : ℕ) → holders_of (page_at s number) �
 drop_more s number k k_is some = by (page_at s number) refl
   where
     at_h : (h : Holding) → page_at s number ≡ Some h → (b : Bool) → (h.holders == 1) ≡ b
-        → more_in (cond b (record s { pages = slice_set s.pages number None; going = s.going ++ store.page_of h ∷ [] }) (record s { pages = slice_set s.pages number (Some (held_once_less h)) })).pages + (k - 1 - (k - 2)) ≡ more_in s.pages
+        → more_in (cond b (record s { pages = slice_set s.pages number None; going = s.going ++ store.page_of h ∷ [] })
+        (record s { pages = slice_set s.pages number (Some (held_once_less h)) })).pages + (k - 1 - (k - 2)) ≡ more_in s.pages
     at_h h is true e =
         let step = sum_by-set more_of s.pages number None None (some_within s.pages number h is) in
         let was = ap more_of is in
@@ -78,7 +80,8 @@ module _ (s : Store) (number : ℕ) (h : Holding) (is : page_at s number ≡ Som
   dropped_is : store.dropped number s ≡ t
   dropped_is = ap (λ o. store.dropped_by number o s) is ∙ either (h.holders == 1)
     where
-      either : (b : Bool) → cond b (record s { pages = slice_set s.pages number None; going = s.going ++ store.page_of h ∷ [] }) (record s { pages = slice_set s.pages number (Some (held_once_less h)) })
+      either : (b : Bool) → cond b (record s { pages = slice_set s.pages number None; going = s.going ++ store.page_of h ∷ [] })
+          (record s { pages = slice_set s.pages number (Some (held_once_less h)) })
           ≡ record s { pages = slice_set s.pages number (cond b None (Some (held_once_less h))); going = cond b (s.going ++ store.page_of h ∷ []) s.going }
       either true = refl
       either false = refl
@@ -116,7 +119,9 @@ module _ (s : Store) (number : ℕ) (h : Holding) (is : page_at s number ≡ Som
   held_one : held_count (slice_set s.pages number left) + length went ≡ held_count s.pages + length s.going
   held_one = (let step = sum_by-set one_if_held s.pages number left None within in let was = ap one_if_held is in either (h.holders == 1) step was)
     where
-      either : (b : Bool) → held_count (slice_set s.pages number (cond b None (Some (held_once_less h)))) + one_if_held (slice_index_or s.pages number None) ≡ held_count s.pages + one_if_held (cond b None (Some (held_once_less h))) → one_if_held (page_at s number) ≡ 1
+      either : (b : Bool) → held_count (slice_set s.pages number (cond b None (Some (held_once_less h))))
+          + one_if_held (slice_index_or s.pages number None) ≡ held_count s.pages + one_if_held (cond b None (Some (held_once_less h))) →
+          one_if_held (page_at s number) ≡ 1
           → held_count (slice_set s.pages number (cond b None (Some (held_once_less h)))) + length (cond b (s.going ++ store.page_of h ∷ []) s.going) ≡ held_count s.pages + length s.going
       either true step was = omega (arith, step, was, length-append s.going (store.page_of h ∷ []))
       either false step was = omega (arith, step, was)
@@ -128,12 +133,15 @@ module _ (s : Store) (number : ℕ) (h : Holding) (is : page_at s number ≡ Som
       none true = refl
       none false = refl
 
-      either : (b : Bool) → sum_by (at_node n) (slice_set s.pages number (cond b None (Some (held_once_less h)))) + at_node n (slice_index_or s.pages number None) ≡ sum_by (at_node n) s.pages + at_node n (cond b None (Some (held_once_less h)))
-          → at_node n (page_at s number) ≡ at_node n (Some h) → sum_by (at_node n) (slice_set s.pages number (cond b None (Some (held_once_less h)))) + count_at n (cond b (s.going ++ store.page_of h ∷ []) s.going) ≡ sum_by (at_node n) s.pages + count_at n s.going
+      either : (b : Bool) → sum_by (at_node n) (slice_set s.pages number (cond b None (Some (held_once_less h))))
+          + at_node n (slice_index_or s.pages number None) ≡ sum_by (at_node n) s.pages + at_node n (cond b None (Some (held_once_less h)))
+          → at_node n (page_at s number) ≡ at_node n (Some h) → sum_by (at_node n) (slice_set s.pages number (cond b None (Some (held_once_less h))))
+          + count_at n (cond b (s.going ++ store.page_of h ∷ []) s.going) ≡ sum_by (at_node n) s.pages + count_at n s.going
       either true step was = omega (arith, step, was, none (0 == n), sum_by_push (λ (page : Page). cond {A = ℕ} (page.node == n) 1 0) s.going (store.page_of h))
       either false step was = omega (arith, step, was)
 
-  pub drop_step : (total before after : ℕ → ℕ) (old next : Store) → IsDropping total before old s → next ≡ store.dropped number s → ((n : ℕ) → before n ≡ after n + one_at number n) → IsDropping total after old next
+  pub drop_step : (total before after : ℕ → ℕ) (old next : Store) → IsDropping total before old s → next ≡ store.dropped number s →
+      ((n : ℕ) → before n ≡ after n + one_at number n) → IsDropping total after old next
   drop_step total before after old next d next_is parts = subst (IsDropping total after old) (sym (next_is ∙ dropped_is)) (record {
     held = λ n. ⊎_elim
         (λ (e : ((number == n) ≡ true) × (number ≡ n)). (
@@ -225,14 +233,16 @@ pub record IsTaken (a b : ℕ) (cells rest : List (Cell ℕ)) (number : ℕ) : T
   pub fewer : count_by has_page rest < count_by has_page cells
   pub same : edit_range cell_punched a b rest ≡ edit_range cell_punched a b cells
 
-module _ (a b : ℕ) (cells rest : List (Cell ℕ)) (r : Option ℕ) (page : MatchOption (found has_page (part a b cells)) (r ≡ None) (λ p. r ≡ page_of p.1)) (after : MatchOption (found has_page (part a b cells)) (rest ≡ cells) (λ p. rest ≡ slice_set cells (a + p.0) Hole)) where
+module _ (a b : ℕ) (cells rest : List (Cell ℕ)) (r : Option ℕ) (page : MatchOption (found has_page (part a b cells)) (r ≡ None)
+    (λ p. r ≡ page_of p.1)) (after : MatchOption (found has_page (part a b cells)) (rest ≡ cells) (λ p. rest ≡ slice_set cells (a + p.0) Hole)) where
   none_some : (number : ℕ) → ◌≡◌ {A = Option ℕ} None (Some number) → ⊥
   none_some number e = cc
 
   pub taken : (number : ℕ) → r ≡ Some number → IsTaken a b cells rest number
   taken number is = by (found has_page (part a b cells)) refl page after
     where
-      by : (o : Option (ℕ × Cell ℕ)) → found has_page (part a b cells) ≡ o → MatchOption o (r ≡ None) (λ p. r ≡ page_of p.1) → MatchOption o (rest ≡ cells) (λ p. rest ≡ slice_set cells (a + p.0) Hole) → IsTaken a b cells rest number
+      by : (o : Option (ℕ × Cell ℕ)) → found has_page (part a b cells) ≡ o → MatchOption o (r ≡ None) (λ p. r ≡ page_of p.1) →
+          MatchOption o (rest ≡ cells) (λ p. rest ≡ slice_set cells (a + p.0) Hole) → IsTaken a b cells rest number
       by None e page after = absurd (none_some number (sym page ∙ is))
       by (Some p) e page after =
           let at = found_place has_page (part a b cells) p e in
@@ -242,14 +252,17 @@ module _ (a b : ℕ) (cells rest : List (Cell ℕ)) (r : Option ℕ) (page : Mat
           let here : slice_index_or cells i Hole ≡ Present number = sym there.0 ∙ at.is Hole ∙ by_page p.1 number (sym page ∙ is) in
           record {
             parts = λ n. (let step = sum_by-set (in_cell n) cells i Hole Hole inside in let was = ap (in_cell n) here in let same = ap (sum_by (in_cell n)) after in omega (arith, step, was, same));
-            fewer = (let step = sum_by-set (λ (c : Cell ℕ). cond {A = ℕ} (has_page c) 1 0) cells i Hole Hole inside in let was = ap (λ c. cond {A = ℕ} (has_page c) 1 0 + 0) here in let same = ap (count_by has_page) after in omega (arith, step, was, same));
+            fewer = (let step = sum_by-set (λ (c : Cell ℕ). cond {A = ℕ} (has_page c) 1 0) cells i Hole Hole inside in
+                let was = ap (λ c. cond {A = ℕ} (has_page c) 1 0 + 0) here in let same = ap (count_by has_page) after in
+                omega (arith, step, was, same));
             same = ap (edit_range cell_punched a b) after ∙ edited_set cell_punched Hole refl a b cells i Hole inside (in_from a b i (omega arith) there.2) (sym (ap cell_punched here));
           }
 
   pub unchanged : r ≡ None → rest ≡ cells
   unchanged is = by (found has_page (part a b cells)) refl page after
     where
-      by : (o : Option (ℕ × Cell ℕ)) → found has_page (part a b cells) ≡ o → MatchOption o (r ≡ None) (λ p. r ≡ page_of p.1) → MatchOption o (rest ≡ cells) (λ p. rest ≡ slice_set cells (a + p.0) Hole) → rest ≡ cells
+      by : (o : Option (ℕ × Cell ℕ)) → found has_page (part a b cells) ≡ o → MatchOption o (r ≡ None) (λ p. r ≡ page_of p.1) →
+          MatchOption o (rest ≡ cells) (λ p. rest ≡ slice_set cells (a + p.0) Hole) → rest ≡ cells
       by None e page after = after
       by (Some p) e page after = absurd (pageless p.1 (sym page ∙ is) (found_place has_page (part a b cells) p e).passes)
 
@@ -286,7 +299,8 @@ place_inside m i k e = either (nat_lt i m.start) refl e
     inside (p ∷ ps) zero e = omega arith
     inside (p ∷ ps) (suc j) e = (let rest = inside ps j e in omega (arith, rest))
 
-    either : (b : Bool) → nat_lt i m.start ≡ b → copy_of (cond b Gone (slice_index_or m.places (i - m.start) Gone)) ≡ Some k → (i - m.start < length m.places) × (copy_of (slice_index_or m.places (i - m.start) Gone) ≡ Some k) × (m.start ≤ i)
+    either : (b : Bool) → nat_lt i m.start ≡ b → copy_of (cond b Gone (slice_index_or m.places (i - m.start) Gone)) ≡ Some k →
+        (i - m.start < length m.places) × (copy_of (slice_index_or m.places (i - m.start) Gone) ≡ Some k) × (m.start ≤ i)
     either true from e = cc
     either false from e = (inside m.places (i - m.start) e, e, ltb-false i m.start from)
 
@@ -299,7 +313,8 @@ live_copy (Live c None) k e = cc
 live_copy (Live c (Some q)) k e = (c, ap (λ o. Live c o) e)
 
 -- a copy less
-pub less_copy : (m : Mapping ℕ) (i number : ℕ) (places : List (Place ℕ)) → copy_of (place_at m i) ≡ Some number → places ≡ (at_place without_copy i m).places → (n : ℕ) → in_map n m ≡ sum_by (in_place n) places + one_at number n
+pub less_copy : (m : Mapping ℕ) (i number : ℕ) (places : List (Place ℕ)) → copy_of (place_at m i) ≡ Some number →
+    places ≡ (at_place without_copy i m).places → (n : ℕ) → in_map n m ≡ sum_by (in_place n) places + one_at number n
 less_copy m i number places e places_is n =
     let j : ℕ = i - m.start in
     let seen = place_inside m i number e in
@@ -317,10 +332,13 @@ copy_taken a b number old new t =
     let seen = place_inside old i number t.page_is in
     let was = live_copy (slice_index_or old.places j Gone) number seen.1 in
     let l = seen.0 in
-    let new_is : new ≡ record old { places = slice_set old.places j (Live was.0 None) } = t.after ∙ ap (λ p. record old { places = slice_set old.places j (without_copy p) }) (place_here old i seen.2 ∙ was.1) in
+    let new_is : new ≡ record old { places = slice_set old.places j (Live was.0 None) } = t.after
+    ∙ ap (λ p. record old { places = slice_set old.places j (without_copy p) }) (place_here old i seen.2 ∙ was.1) in
     record {
       parts = less_copy old i number new.places t.page_is (ap (λ (m : Mapping ℕ). m.places) t.after);
-      fewer = (let step = sum_by-set (λ (p : Place ℕ). cond {A = ℕ} (has_copy p) 1 0) old.places j (Live was.0 None) Gone l in let before = ap (λ p. cond {A = ℕ} (has_copy p) 1 0 + 0) was.1 in let same = ap (λ (m : Mapping ℕ). count_by has_copy m.places) new_is in omega (arith, step, before, same));
+      fewer = (let step = sum_by-set (λ (p : Place ℕ). cond {A = ℕ} (has_copy p) 1 0) old.places j (Live was.0 None) Gone l in
+          let before = ap (λ p. cond {A = ℕ} (has_copy p) 1 0 + 0) was.1 in let same = ap (λ (m : Mapping ℕ). count_by has_copy m.places) new_is in
+          omega (arith, step, before, same));
       same =
           let low = seen.2 in
           let from = t.from in
@@ -353,7 +371,8 @@ pub some_held : (o : Option Holding) → 0 < holders_of o → IsSome o
 some_held None l = absurd (omega (arith, l))
 some_held (Some h) l = refl
 
-module _ (total before after : ℕ → ℕ) (old s : Store) (d : IsDropping total before old s) (number : ℕ) (within : total number ≤ holders_of (page_at old number)) (parts : (n : ℕ) → before n ≡ after n + one_at number n) where
+module _ (total before after : ℕ → ℕ) (old s : Store) (d : IsDropping total before old s) (number : ℕ)
+    (within : total number ≤ holders_of (page_at old number)) (parts : (n : ℕ) → before n ≡ after n + one_at number n) where
   pub still_held : 0 < holders_of (page_at s number)
   still_held = (let had = d.held number in let split = parts number in let one = is_it number in omega (arith, had, split, one, within))
 
@@ -377,7 +396,8 @@ drop_as t l total left old now d parts = record {
 }
 
 -- one part after another
-pub drop_then : (t1 l1 t2 l2 total left : ℕ → ℕ) (old mid now : Store) → IsDropping t1 l1 old mid → IsDropping t2 l2 mid now → ((n : ℕ) → t1 n + t2 n + left n ≡ l1 n + l2 n + total n) → IsDropping total left old now
+pub drop_then : (t1 l1 t2 l2 total left : ℕ → ℕ) (old mid now : Store) → IsDropping t1 l1 old mid → IsDropping t2 l2 mid now →
+    ((n : ℕ) → t1 n + t2 n + left n ≡ l1 n + l2 n + total n) → IsDropping total left old now
 drop_then t1 l1 t2 l2 total left old mid now d p parts = record {
   held = λ n. (let had = d.held n in let more = p.held n in let split = parts n in omega (arith, had, more, split));
   some = p.some;

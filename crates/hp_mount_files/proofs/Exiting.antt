@@ -47,7 +47,8 @@ module _ (h : NumberedFile → NumberedFile) where
       at false e rest = ap (λ b. cond b (with_truncated 0 (h f) ∷ filter is_used (map (λ f. emptied (h f)) fs)) (filter is_used (map (λ f. emptied (h f)) fs))) e ∙ rest
 
   -- what is counted of them is of those that stay
-  pub emptied_sum : (c : NumberedFile → ℕ) → ((f : NumberedFile) → is_used f ≡ false → c (with_truncated 0 f) ≡ 0) → (fs : List NumberedFile) → sum_by c (map (λ f. emptied (h f)) fs) ≡ sum_by c (filter is_used (map h fs))
+  pub emptied_sum : (c : NumberedFile → ℕ) → ((f : NumberedFile) → is_used f ≡ false → c (with_truncated 0 f) ≡ 0) → (fs : List NumberedFile) →
+      sum_by c (map (λ f. emptied (h f)) fs) ≡ sum_by c (filter is_used (map h fs))
   emptied_sum c none [] = refl
   emptied_sum c none (f ∷ fs) = at (is_used (h f)) refl (emptied_sum c none fs)
     where
@@ -68,7 +69,9 @@ module _ (task : ℕ) where
   others_shown s (m ∷ ms) = at (is_of task m) (others_shown s ms)
     where
       at : (b : Bool) → map (map_shown s) (others task ms) ≡ filter (λ (m : Map). not (is_of task m)) (map (map_shown s) ms)
-          → map (map_shown s) (cond (not b) (m ∷ others task ms) (others task ms)) ≡ cond (not b) (map_shown s m ∷ filter (λ (m : Map). not (is_of task m)) (map (map_shown s) ms)) (filter (λ (m : Map). not (is_of task m)) (map (map_shown s) ms))
+          → map (map_shown s) (cond (not b) (m ∷ others task ms) (others task ms))
+          ≡ cond (not b) (map_shown s m ∷ filter (λ (m : Map). not (is_of task m)) (map (map_shown s) ms))
+          (filter (λ (m : Map). not (is_of task m)) (map (map_shown s) ms))
       at true rest = rest
       at false rest = ap (λ xs. map_shown s m ∷ xs) rest
 
@@ -108,11 +111,20 @@ maps_in gs = sum_through (λ (q : Label). length q.keys) label_of gs ∙ each gs
   where
     each : (gs : List NumberedFile) → sum_by (λ (f : NumberedFile). length (map key_of f.maps)) gs ≡ map_sum gs
     each [] = refl
-    each (f ∷ gs) = (let here = length-map f.maps key_of in let rest = each gs in omega (arith, here, rest, sum_by-cons (λ (f : NumberedFile). length (map key_of f.maps)) f gs, sum_by-cons (λ (f : NumberedFile). length f.maps) f gs))
+    each (f ∷ gs) = (let here = length-map f.maps key_of in let rest = each gs in
+        omega (
+          arith,
+          here,
+          rest,
+          sum_by-cons (λ (f : NumberedFile). length (map key_of f.maps)) f gs,
+          sum_by-cons
+              (λ (f : NumberedFile). length f.maps) f gs,
+        ))
 
 -- ---- as code leaves the files: those that it went over, as it left them, and those that it kept
 
-module _ {n later : Noted} {s t : Store} {more now maps : ℕ} {tally : ℕ → ℕ} {fs ended kept : List NumberedFile} {task r k : ℕ} (is : IsFiles n s more maps tally fs) (went : HasLeft task fs ended n later s t now k r) (kept_is : kept ≡ filter is_used ended) where
+module _ {n later : Noted} {s t : Store} {more now maps : ℕ} {tally : ℕ → ℕ} {fs ended kept : List NumberedFile} {task r k : ℕ}
+    (is : IsFiles n s more maps tally fs) (went : HasLeft task fs ended n later s t now k r) (kept_is : kept ≡ filter is_used ended) where
   ended_is : ended ≡ map (λ f. emptied (left_by task f)) fs
   ended_is = went.left
 
@@ -170,7 +182,8 @@ module _ {n later : Noted} {s t : Store} {more now maps : ℕ} {tally : ℕ → 
       both true x y = refl
       both false x y = refl
 
-      each : (fs : List NumberedFile) → sum_by (λ (f : NumberedFile). maps_for q (label_of f)) (map (λ f. emptied (left_by task f)) fs) ≡ cond (task == q) 0 (sum_by (λ (f : NumberedFile). maps_for q (label_of f)) fs)
+      each : (fs : List NumberedFile) → sum_by (λ (f : NumberedFile). maps_for q (label_of f)) (map (λ f. emptied (left_by task f)) fs)
+          ≡ cond (task == q) 0 (sum_by (λ (f : NumberedFile). maps_for q (label_of f)) fs)
       each [] = sym (nothing (task == q))
       each (f ∷ fs) =
           sum_by-cons (λ (f : NumberedFile). maps_for q (label_of f)) (emptied (left_by task f)) (map (λ f. emptied (left_by task f)) fs)
@@ -198,7 +211,8 @@ module _ {n later : Noted} {s t : Store} {more now maps : ℕ} {tally : ℕ → 
 
   pub exit_keeps : (left : ℕ) (next : ℕ → ℕ) → left ≡ maps - k → ((q : ℕ) → next q ≡ cond (task == q) 0 (tally q)) → IsFiles later t now left next kept
   exit_keeps left next left_is next_is =
-      left_keeps n s t more now maps tally fs kept is (left_by task) hs_is dropping went.counted (λ f. refl) less (λ f. refl) keys_same (λ f. filtered_level (λ m. not (is_of task m)) f.maps) later left next
+      left_keeps n s t more now maps tally fs kept is (left_by task) hs_is dropping went.counted (λ f. refl) less (λ f. refl) keys_same
+      (λ f. filtered_level (λ m. not (is_of task m)) f.maps) later left next
       (left_noted n s t more now maps tally fs kept is (left_by task) hs_is dropping went.counted (λ f. refl) less (λ f. refl) keys_same later went.noted.names (λ q m e. at q m e (q == task) refl))
       (left_is ∙ maps_left) (λ q. next_is q ∙ sym (tally_left q))
     where

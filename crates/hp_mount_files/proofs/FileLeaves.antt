@@ -44,17 +44,23 @@ module _ (task : ℕ) where
   others_left (m ∷ ms) = at (is_of task m) refl (others_left ms)
     where
       at : (b : Bool) → is_of task m ≡ b → others (map (ended_for task) ms) ≡ others ms
-          → cond (not (is_of task (cond b (without_range m.start (m.start + length m.places) m) m))) (cond b (without_range m.start (m.start + length m.places) m) m ∷ others (map (ended_for task) ms)) (others (map (ended_for task) ms))
+          → cond (not (is_of task (cond b (without_range m.start (m.start + length m.places) m) m)))
+          (cond b (without_range m.start (m.start + length m.places) m) m ∷ others (map (ended_for task) ms)) (others (map (ended_for task) ms))
           ≡ cond (not (is_of task m)) (m ∷ others ms) (others ms)
-      at true is rest = ap (λ b. cond (not b) (without_range m.start (m.start + length m.places) m ∷ others (map (ended_for task) ms)) (others (map (ended_for task) ms))) is ∙ rest ∙ sym (ap (λ b. cond (not b) (m ∷ others ms) (others ms)) is)
-      at false is rest = ap (λ b. cond (not b) (m ∷ others (map (ended_for task) ms)) (others (map (ended_for task) ms))) is ∙ ap (λ xs. m ∷ xs) rest ∙ sym (ap (λ b. cond (not b) (m ∷ others ms) (others ms)) is)
+      at true is rest = ap (λ b. cond (not b) (without_range m.start (m.start + length m.places) m ∷ others (map (ended_for task) ms))
+          (others (map (ended_for task) ms))) is ∙ rest ∙ sym (ap (λ b. cond (not b) (m ∷ others ms) (others ms)) is)
+      at false is rest = ap (λ b. cond (not b) (m ∷ others (map (ended_for task) ms)) (others (map (ended_for task) ms))) is ∙ ap (λ xs. m ∷ xs) rest
+          ∙ sym (ap (λ b. cond (not b) (m ∷ others ms) (others ms)) is)
 
   -- what is counted of them is of the others alone
-  pub others_sum : (c : Mapping ℕ → ℕ) → ((m : Mapping ℕ) → c (without_range m.start (m.start + length m.places) m) ≡ 0) → (ms : List (Mapping ℕ)) → sum_by c (map (ended_for task) ms) ≡ sum_by c (others ms)
+  pub others_sum : (c : Mapping ℕ → ℕ) → ((m : Mapping ℕ) → c (without_range m.start (m.start + length m.places) m) ≡ 0) → (ms : List (Mapping ℕ)) →
+      sum_by c (map (ended_for task) ms) ≡ sum_by c (others ms)
   others_sum c none [] = refl
   others_sum c none (m ∷ ms) = at (is_of task m) refl (others_sum c none ms)
     where
-      at : (b : Bool) → is_of task m ≡ b → sum_by c (map (ended_for task) ms) ≡ sum_by c (others ms) → sum_by c (cond b (without_range m.start (m.start + length m.places) m) m ∷ map (ended_for task) ms) ≡ sum_by c (cond (not b) (m ∷ others ms) (others ms))
+      at : (b : Bool) → is_of task m ≡ b → sum_by c (map (ended_for task) ms) ≡ sum_by c (others ms) →
+          sum_by c (cond b (without_range m.start (m.start + length m.places) m) m ∷ map (ended_for task) ms)
+          ≡ sum_by c (cond (not b) (m ∷ others ms) (others ms))
       at true is rest =
           let here = none m in
           omega (arith, here, rest, sum_by-cons c (without_range m.start (m.start + length m.places) m) (map (ended_for task) ms))
@@ -67,7 +73,8 @@ pub empty_file : (f : NumberedFile) → is_used f ≡ false → (f.maps ≡ []) 
 empty_file f out =
     let bare = by (is_some f.name) f.maps out in (
       bare,
-      ap (λ cs. record { name = f.name; cells = cs; maps = map (map_punched 0 (0 + length f.cells)) f.maps }) (no_cells f.cells) ∙ ap (λ ms. record { name = f.name; cells = []; maps = map (map_punched 0 (0 + length f.cells)) ms }) bare,
+      ap (λ cs. record { name = f.name; cells = cs; maps = map (map_punched 0 (0 + length f.cells)) f.maps }) (no_cells f.cells)
+          ∙ ap (λ ms. record { name = f.name; cells = []; maps = map (map_punched 0 (0 + length f.cells)) ms }) bare,
     )
   where
     by : (b : Bool) (ms : List (Mapping ℕ)) → (b || nat_lt 0 (length ms)) ≡ false → ms ≡ []
@@ -86,7 +93,9 @@ pub written_back : {X : Type 0} (len : ℕ) (ys xs : List X) → length ys ≡ l
 written_back len ys xs e = ap (λ n. take n (ys ++ drop (length ys) xs)) (sym e) ∙ take-append_seam ys (drop (length ys) xs)
 
 -- its fields as they were, the maps as they were ended, and those that were kept
-module _ (task : ℕ) (old : NumberedFile) (name : Option (List ℕ)) (cells : List (Cell ℕ)) (ms : List (Mapping ℕ)) (view : ◌≡◌ {A = NumberedFile} (record { name = name; cells = cells; maps = ms }) old) (len : ℕ) (few : length ms ≡ len) (raw ended kept : List (Mapping ℕ)) (raw_is : raw ≡ ms) (ended_from : ended ≡ map (ended_for task) raw)
+module _ (task : ℕ) (old : NumberedFile) (name : Option (List ℕ)) (cells : List (Cell ℕ)) (ms : List (Mapping ℕ))
+    (view : ◌≡◌ {A = NumberedFile} (record { name = name; cells = cells; maps = ms }) old) (len : ℕ) (few : length ms ≡ len)
+    (raw ended kept : List (Mapping ℕ)) (raw_is : raw ≡ ms) (ended_from : ended ≡ map (ended_for task) raw)
     (kept_is : kept ≡ filter (λ (m : Mapping ℕ). not (is_of task m)) (take len (ended ++ drop (length ended) ms))) where
   abbrev x : NumberedFile
   x = record { name = name; cells = cells; maps = kept }
@@ -111,10 +120,12 @@ module _ (task : ℕ) (old : NumberedFile) (name : Option (List ℕ)) (cells : L
 
   pub left_dropping : (s t : Store) → IsDropping (λ n. sum_by (in_map n) raw) (λ n. sum_by (in_map n) ended) s t → IsDropping (λ n. in_file n old) (λ n. in_file n x) s t
   left_dropping s t d = drop_as (λ n. sum_by (in_map n) raw) (λ n. sum_by (in_map n) ended) (λ n. in_file n old) (λ n. in_file n x) s t d
-      (λ n. (let maps = sum_left (in_map n) (ended_holds n) in let was = ap (sum_by (in_map n)) raw_old in let cells = ap (λ (f : NumberedFile). sum_by (in_cell n) f.cells) x_is in omega (arith, maps, was, cells)))
+      (λ n. (let maps = sum_left (in_map n) (ended_holds n) in let was = ap (sum_by (in_map n)) raw_old in
+      let cells = ap (λ (f : NumberedFile). sum_by (in_cell n) f.cells) x_is in omega (arith, maps, was, cells)))
 
   pub left_reserves : (r : ℕ) → r + sum_by owed ended ≡ sum_by owed raw → r + file_owed x ≡ file_owed old
-  left_reserves r e = (let maps = sum_left owed ended_owes in let was = ap (sum_by owed) raw_old in let cells = ap (λ (f : NumberedFile). count_by is_waiting f.cells) x_is in omega (arith, e, maps, was, cells))
+  left_reserves r e = (let maps = sum_left owed ended_owes in let was = ap (sum_by owed) raw_old in
+      let cells = ap (λ (f : NumberedFile). count_by is_waiting f.cells) x_is in omega (arith, e, maps, was, cells))
 
   pub left_used : is_used x ≡ true → x ≡ emptied (left_by task old)
   left_used used = sym (ap (λ b. cond b x (with_truncated 0 x)) used) ∙ ap emptied left_is

@@ -80,7 +80,8 @@ first_none fs r r_is = by (all_maps fs) refl r_is
 
 -- ---- one file after another
 
-pub next_map : (known : Option ℕ) (ms : List (Mapping ℕ)) (i : ℕ) (m : Mapping ℕ) → i < length ms → m ≡ slice_index_or ms i m → Some (least_of (least_among known (map (λ m. m.task) (take i ms))) m.task) ≡ least_among known (map (λ m. m.task) (take (i + 1) ms))
+pub next_map : (known : Option ℕ) (ms : List (Mapping ℕ)) (i : ℕ) (m : Mapping ℕ) → i < length ms → m ≡ slice_index_or ms i m →
+    Some (least_of (least_among known (map (λ m. m.task) (take i ms))) m.task) ≡ least_among known (map (λ m. m.task) (take (i + 1) ms))
 next_map known ms i m l m_is =
     sym (fold_push (λ k task. Some (least_of k task)) known (map (λ m. m.task) (take i ms)) m.task)
     ∙ ap (least_among known) (sym (map-append (λ (m : Mapping ℕ). m.task) (take i ms) (m ∷ [])) ∙ ap (map (λ m. m.task)) (ap (λ x. take i ms ++ x ∷ []) m_is ∙ sym (take_more ms i m l)))
@@ -88,7 +89,8 @@ next_map known ms i m l m_is =
 abbrev pub tasks_of : List NumberedFile → List ℕ
 tasks_of fs = flat_map tasks_in (labels_of fs)
 
-pub next_file : (known : Option ℕ) (fs : List NumberedFile) (i : ℕ) (f : NumberedFile) → i < length fs → f ≡ slice_index_or fs i f → least_among (least_among known (tasks_of (take i fs))) (map (λ m. m.task) f.maps) ≡ least_among known (tasks_of (take (i + 1) fs))
+pub next_file : (known : Option ℕ) (fs : List NumberedFile) (i : ℕ) (f : NumberedFile) → i < length fs → f ≡ slice_index_or fs i f →
+    least_among (least_among known (tasks_of (take i fs))) (map (λ m. m.task) f.maps) ≡ least_among known (tasks_of (take (i + 1) fs))
 next_file known fs i f l f_is =
     sym (fold-append (λ k task. Some (least_of k task)) known (tasks_of (take i fs)) (map (λ m. m.task) f.maps))
     ∙ ap (least_among known) (sym (one_more (take i fs)) ∙ ap tasks_of (ap (λ x. take i fs ++ x ∷ []) f_is ∙ sym (take_more fs i f l)))
@@ -101,7 +103,8 @@ next_file known fs i f l f_is =
     one_more [] = same f.maps
     one_more (x ∷ gs) = ap (λ ts. tasks_in (label_of x) ++ ts) (one_more gs) ∙ sym (append_assoc (tasks_in (label_of x)) (tasks_of gs) (map (λ m. m.task) f.maps))
 
-pub all_tasks_are : (s : Store) (fs : List NumberedFile) (i : ℕ) (r : Option ℕ) → length fs ≤ i → r ≡ least_among None (tasks_of (take i fs)) → r ≡ least_among None (map (λ (m : Map). m.task) (all_maps (files_shown s fs)))
+pub all_tasks_are : (s : Store) (fs : List NumberedFile) (i : ℕ) (r : Option ℕ) → length fs ≤ i → r ≡ least_among None (tasks_of (take i fs)) →
+    r ≡ least_among None (map (λ (m : Map). m.task) (all_maps (files_shown s fs)))
 all_tasks_are s fs i r l e = e ∙ ap (λ xs. least_among None (tasks_of xs)) (take_all i fs l) ∙ ap (least_among None) (tasks_counted s fs)
 
 pub none_yet : (known : Option ℕ) (ms : List (Mapping ℕ)) → least_among known (map (λ m. m.task) (take 0 ms)) ≡ known

@@ -60,7 +60,8 @@ module _ (parent child : ℕ) (apart : (parent == child) ≡ false) where
   kids_len [] = refl
   kids_len (m ∷ ms) = at (is_of parent m) refl (kids_len ms)
     where
-      at : (b : Bool) → is_of parent m ≡ b → length (kids ms) ≡ count_by (is_of parent) ms → length (map (map_for child) (cond b (m ∷ filter (is_of parent) ms) (filter (is_of parent) ms))) ≡ count_by (is_of parent) (m ∷ ms)
+      at : (b : Bool) → is_of parent m ≡ b → length (kids ms) ≡ count_by (is_of parent) ms →
+          length (map (map_for child) (cond b (m ∷ filter (is_of parent) ms) (filter (is_of parent) ms))) ≡ count_by (is_of parent) (m ∷ ms)
       at true e had = (let step = count_cons (is_of parent) m ms in let here = ap (λ b. cond {A = ℕ} b 1 0 + 0) e in omega (arith, had, step, here))
       at false e had = (let step = count_cons (is_of parent) m ms in let here = ap (λ b. cond {A = ℕ} b 1 0 + 0) e in omega (arith, had, step, here))
 
@@ -121,7 +122,9 @@ module _ (parent child : ℕ) (apart : (parent == child) ≡ false) where
       absorbed true b = refl
       absorbed false b = refl
 
-      at : (b : Bool) → list_any (is_of q) (kids ms) ≡ ((child == q) && list_any (is_of parent) ms) → list_any (is_of q) (map (map_for child) (cond b (m ∷ filter (is_of parent) ms) (filter (is_of parent) ms))) ≡ ((child == q) && (b || list_any (is_of parent) ms))
+      at : (b : Bool) → list_any (is_of q) (kids ms) ≡ ((child == q) && list_any (is_of parent) ms) →
+          list_any (is_of q) (map (map_for child) (cond b (m ∷ filter (is_of parent) ms) (filter (is_of parent) ms)))
+          ≡ ((child == q) && (b || list_any (is_of parent) ms))
       at true had = ap (λ c. (child == q) || c) had ∙ absorbed (child == q) (list_any (is_of parent) ms)
       at false had = had
 
@@ -135,7 +138,9 @@ module _ (parent child : ℕ) (apart : (parent == child) ≡ false) where
       nothing false false = refl
   has_after q (f ∷ fs) =
       ap (list_any (is_of q)) (maps_after f fs) ∙ list_any-append (is_of q) (rest f.maps ++ kids f.maps) (all_maps (after fs))
-      ∙ ap (λ b. b || has q (after fs)) (list_any-append (is_of q) (rest f.maps) (kids f.maps) ∙ ap (λ b. b || list_any (is_of q) (kids f.maps)) (rest_any q f.maps) ∙ ap (λ b. (not (q == child) && list_any (is_of q) f.maps) || b) (kids_any q f.maps))
+      ∙ ap (λ b. b || has q (after fs)) (list_any-append (is_of q) (rest f.maps) (kids f.maps)
+      ∙ ap (λ b. b || list_any (is_of q) (kids f.maps)) (rest_any q f.maps) ∙ ap (λ b. (not (q == child) && list_any (is_of q) f.maps) || b)
+      (kids_any q f.maps))
       ∙ ap (λ b. ((not (q == child) && list_any (is_of q) f.maps) || ((child == q) && list_any (is_of parent) f.maps)) || b) (has_after q fs)
       ∙ mix (not (q == child)) (child == q) (list_any (is_of q) f.maps) (list_any (is_of parent) f.maps) (has q fs) (has parent fs)
       ∙ sym (ap (λ b. (not (q == child) && b) || ((child == q) && list_any (is_of parent) (f.maps ++ all_maps fs))) (list_any-append (is_of q) f.maps (all_maps fs))
@@ -187,14 +192,18 @@ module _ (parent child : ℕ) (apart : (parent == child) ≡ false) where
       at q false e = sym (ap (λ b. not b && has q fs) e)
 
   tasks_new : (fs : List File) (p : Bool) → has parent fs ≡ p → length (all_tasks (after fs)) ≡ length (distinct (others fs)) + cond p 1 0
-  tasks_new fs true had = one_more_member child (others fs) (tasks (after fs)) (λ q. among_is q (all_maps (after fs)) ∙ has_after q fs ∙ ap (λ b. (not (q == child) && has q fs) || ((child == q) && b)) had ∙ swap (not (q == child) && has q fs) (child == q) ∙ ap (λ b. (child == q) || b) (sym (others_are q fs))) (none_there fs)
+  tasks_new fs true had = one_more_member child (others fs) (tasks (after fs))
+      (λ q. among_is q (all_maps (after fs)) ∙ has_after q fs ∙ ap (λ b. (not (q == child) && has q fs) || ((child == q) && b)) had
+      ∙ swap (not (q == child) && has q fs) (child == q) ∙ ap (λ b. (child == q) || b) (sym (others_are q fs))) (none_there fs)
     where
       swap : (a b : Bool) → (a || (b && true)) ≡ (b || a)
       swap true true = refl
       swap true false = refl
       swap false true = refl
       swap false false = refl
-  tasks_new fs false none = (let same = same_members (tasks (after fs)) (others fs) (λ q. among_is q (all_maps (after fs)) ∙ has_after q fs ∙ ap (λ b. (not (q == child) && has q fs) || ((child == q) && b)) none ∙ left_it (not (q == child) && has q fs) (child == q) ∙ sym (others_are q fs)) in omega (arith, same))
+  tasks_new fs false none = (let same = same_members (tasks (after fs)) (others fs)
+      (λ q. among_is q (all_maps (after fs)) ∙ has_after q fs ∙ ap (λ b. (not (q == child) && has q fs) || ((child == q) && b)) none
+      ∙ left_it (not (q == child) && has q fs) (child == q) ∙ sym (others_are q fs)) in omega (arith, same))
     where
       left_it : (a b : Bool) → (a || (b && false)) ≡ a
       left_it true b = refl

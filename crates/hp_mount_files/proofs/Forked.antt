@@ -1,5 +1,6 @@
 -- Files whose maps of a parent are followed by a child's.
-use Rattle.std.proofs.Common.{◌≡◌, ℕ, zero, suc, ◌+◌, ◌-◌, ◌<◌, ◌≤◌, ◌==◌, ◌||◌, ◌&&◌, ⊎_elim, ◌⊎◌, inl, inr, nat_lt, Bool, true, false, cond, Some, None, List, [], ◌∷◌, ◌++◌, length, map, refl, sym, ap, ◌∙◌, arith}
+use Rattle.std.proofs.Common.{◌≡◌, ℕ, zero, suc, ◌+◌, ◌-◌, ◌<◌, ◌≤◌, ◌==◌, ◌||◌, ◌&&◌, ⊎_elim, ◌⊎◌, inl, inr, nat_lt, Bool}
+use Rattle.std.proofs.Common.{true, false, cond, Some, None, List, [], ◌∷◌, ◌++◌, length, map, refl, sym, ap, ◌∙◌, arith}
 use Rattle.std.specs.Prelude.{is_some, slice_index_or}
 use Rattle.std.specs.List.{All, count_by, filter, sum_by}
 use Rattle.std.proofs.lemmas.Bool.{eqb-true, eq-eqb}
@@ -58,7 +59,8 @@ module _ (parent child : ℕ) (apart : (parent == child) ≡ false) where
   copy_for : (m : Mapping ℕ) (i number : ℕ) → copy_of (place_at (map_for child m) i) ≡ Some number → copy_of (place_at m i) ≡ Some number
   copy_for m i number = either (nat_lt i m.start)
     where
-      either : (c : Bool) → copy_of (cond c Gone (slice_index_or (map unconsumed m.places) (i - m.start) Gone)) ≡ Some number → copy_of (cond c Gone (slice_index_or m.places (i - m.start) Gone)) ≡ Some number
+      either : (c : Bool) → copy_of (cond c Gone (slice_index_or (map unconsumed m.places) (i - m.start) Gone)) ≡ Some number →
+          copy_of (cond c Gone (slice_index_or m.places (i - m.start) Gone)) ≡ Some number
       either true e = e
       either false e = sym (un_copy m.places (i - m.start)) ∙ e
 
@@ -77,7 +79,9 @@ module _ (parent child : ℕ) (apart : (parent == child) ≡ false) where
   kids_of_child q [] = refl
   kids_of_child q (m ∷ ms) = at (is_of parent m) refl (kids_of_child q ms)
     where
-      at : (b : Bool) → is_of parent m ≡ b → count_by (is_map child q) (kids ms) ≡ count_by (is_map parent q) ms → count_by (is_map child q) (map (map_for child) (cond b (m ∷ filter (is_of parent) ms) (filter (is_of parent) ms))) ≡ count_by (is_map parent q) (m ∷ ms)
+      at : (b : Bool) → is_of parent m ≡ b → count_by (is_map child q) (kids ms) ≡ count_by (is_map parent q) ms →
+          count_by (is_map child q) (map (map_for child) (cond b (m ∷ filter (is_of parent) ms) (filter (is_of parent) ms)))
+          ≡ count_by (is_map parent q) (m ∷ ms)
       at true e rest =
           let left = count_cons (is_map child q) (map_for child m) (kids ms) in
           let right = count_cons (is_map parent q) m ms in
@@ -100,9 +104,11 @@ module _ (parent child : ℕ) (apart : (parent == child) ≡ false) where
           all [] = refl
           all (m ∷ ms) = at (is_of parent m) refl (all ms) (count_cons (is_of parent) m ms)
             where
-              at : (b : Bool) → is_of parent m ≡ b → count_by (λ (m : Mapping ℕ). true) (filter (is_of parent) ms) ≡ count_by (is_of parent) ms → count_by (is_of parent) (m ∷ ms) ≡ cond (is_of parent m) 1 0 + count_by (is_of parent) ms
+              at : (b : Bool) → is_of parent m ≡ b → count_by (λ (m : Mapping ℕ). true) (filter (is_of parent) ms) ≡ count_by (is_of parent) ms →
+                  count_by (is_of parent) (m ∷ ms) ≡ cond (is_of parent m) 1 0 + count_by (is_of parent) ms
                   → count_by (λ (m : Mapping ℕ). true) (cond b (m ∷ filter (is_of parent) ms) (filter (is_of parent) ms)) ≡ count_by (is_of parent) (m ∷ ms)
-              at true e rest step = (let here = ap (λ b. cond {A = ℕ} b 1 0 + 0) e in let one = count_cons (λ (m : Mapping ℕ). true) m (filter (is_of parent) ms) in omega (arith, rest, step, here, one))
+              at true e rest step = (let here = ap (λ b. cond {A = ℕ} b 1 0 + 0) e in
+                  let one = count_cons (λ (m : Mapping ℕ). true) m (filter (is_of parent) ms) in omega (arith, rest, step, here, one))
               at false e rest step = (let here = ap (λ b. cond {A = ℕ} b 1 0 + 0) e in omega (arith, rest, step, here))
       by false = none (filter (is_of parent) ms)
         where
@@ -117,7 +123,8 @@ module _ (parent child : ℕ) (apart : (parent == child) ≡ false) where
       at : (b : Bool) → map (map_shown s) (kids ms) ≡ map (map_for child) (filter (is_of parent) (map (map_shown s) ms))
           → map (map_shown s) (map (map_for child) (cond b (m ∷ filter (is_of parent) ms) (filter (is_of parent) ms)))
           ≡ map (map_for child) (cond b (map_shown s m ∷ filter (is_of parent) (map (map_shown s) ms)) (filter (is_of parent) (map (map_shown s) ms)))
-      at true rest = ap (λ x. x ∷ map (map_shown s) (kids ms)) (ap (λ ps. record (map_for child (map_shown s m)) { places = ps }) (un_shown s m.places)) ∙ ap (λ xs. map_for child (map_shown s m) ∷ xs) rest
+      at true rest = ap (λ x. x ∷ map (map_shown s) (kids ms)) (ap (λ ps. record (map_for child (map_shown s m)) { places = ps })
+          (un_shown s m.places)) ∙ ap (λ xs. map_for child (map_shown s m) ∷ xs) rest
       at false rest = rest
 
   pub kids_level : (ms : List (Mapping ℕ)) → AreLevel ms → AreLevel (ms ++ kids ms)
@@ -128,7 +135,8 @@ module _ (parent child : ℕ) (apart : (parent == child) ≡ false) where
       in_append : (xs ys : List (Mapping ℕ)) (a i number : ℕ) → copy_in (xs ++ ys) a i ≡ Some number → ((b : ℕ) × (copy_in xs b i ≡ Some number)) ⊎ ((b : ℕ) × (copy_in ys b i ≡ Some number))
       in_append [] ys a i number e = inr (a, e)
       in_append (x ∷ xs) ys zero i number e = inl (0, e)
-      in_append (x ∷ xs) ys (suc a) i number e = ⊎_elim (λ (q : (b : ℕ) × (copy_in xs b i ≡ Some number)). inl (suc q.0, q.1)) (λ (q : (b : ℕ) × (copy_in ys b i ≡ Some number)). inr q) (in_append xs ys a i number e)
+      in_append (x ∷ xs) ys (suc a) i number e = ⊎_elim (λ (q : (b : ℕ) × (copy_in xs b i ≡ Some number)). inl (suc q.0, q.1))
+          (λ (q : (b : ℕ) × (copy_in ys b i ≡ Some number)). inr q) (in_append xs ys a i number e)
 
   -- ---- files
 
@@ -160,18 +168,28 @@ module _ (parent child : ℕ) (apart : (parent == child) ≡ false) where
   few_kids n (f ∷ fs) =
       let rest = few_kids n fs in
       let here = kids_less n f.maps in
-      omega (arith, rest, here, sum_by-cons (λ (f : NumberedFile). sum_by (in_map n) (kids f.maps)) f fs, sum_by-cons (λ (f : NumberedFile). sum_by (in_cell n) f.cells) f fs, sum_by-cons (in_file n) f fs)
+      omega (
+        arith,
+        rest,
+        here,
+        sum_by-cons (λ (f : NumberedFile). sum_by (in_map n) (kids f.maps)) f fs,
+        sum_by-cons
+            (λ (f : NumberedFile). sum_by (in_cell n) f.cells) f fs,
+        sum_by-cons (in_file n) f fs,
+      )
 
   none_sum : {X : Type 0} (a b : X → ℕ) → ((x : X) → a x ≡ 0 → b x ≡ 0) → (xs : List X) → sum_by a xs ≡ 0 → sum_by b xs ≡ 0
   none_sum a b zero' [] e = refl
-  none_sum a b zero' (x ∷ xs) e = (let left = sum_by-cons a x xs in let right = sum_by-cons b x xs in let here = zero' x (omega (arith, left, e)) in let rest = none_sum a b zero' xs (omega (arith, left, e)) in omega (arith, right, here, rest))
+  none_sum a b zero' (x ∷ xs) e = (let left = sum_by-cons a x xs in let right = sum_by-cons b x xs in let here = zero' x (omega (arith, left, e)) in
+      let rest = none_sum a b zero' xs (omega (arith, left, e)) in omega (arith, right, here, rest))
 
   most_at : {X : Type 0} (a : X → ℕ) (xs : List X) (k : ℕ) (d : X) → k < length xs → a (slice_index_or xs k d) ≤ sum_by a xs
   most_at a [] k d l = absurd (omega (arith, l))
   most_at a (x ∷ xs) zero d l = (let step = sum_by-cons a x xs in omega (arith, step))
   most_at a (x ∷ xs) (suc k) d l = (let step = sum_by-cons a x xs in let rest = most_at a xs k d (omega (arith, l)) in omega (arith, step, rest))
 
-  only_sum : {X : Type 0} (a b : X → ℕ) → ((x : X) → a x ≡ 0 → b x ≡ 0) → (xs : List X) (k : ℕ) (d : X) → k < length xs → sum_by a xs ≡ a (slice_index_or xs k d) → sum_by b xs ≡ b (slice_index_or xs k d)
+  only_sum : {X : Type 0} (a b : X → ℕ) → ((x : X) → a x ≡ 0 → b x ≡ 0) → (xs : List X) (k : ℕ) (d : X) → k < length xs →
+      sum_by a xs ≡ a (slice_index_or xs k d) → sum_by b xs ≡ b (slice_index_or xs k d)
   only_sum a b zero' [] k d l e = absurd (omega (arith, l))
   only_sum a b zero' (x ∷ xs) zero d l e = (let left = sum_by-cons a x xs in let right = sum_by-cons b x xs in let rest = none_sum a b zero' xs (omega (arith, left, e)) in omega (arith, right, rest))
   only_sum a b zero' (x ∷ xs) (suc k) d l e =
@@ -208,7 +226,8 @@ module _ (parent child : ℕ) (apart : (parent == child) ≡ false) where
       split true x y = refl
       split false x y = refl
 
-  module _ (n : Noted) (t u : Store) (now more maps : ℕ) (tally : ℕ → ℕ) (fs : List NumberedFile) (is : IsFiles n t now maps tally fs) (sharing : IsSharing (λ m. in_kids m fs) t u) (counted : more ≡ more_in u.pages) (parts : more ≤ u.room) where
+  module _ (n : Noted) (t u : Store) (now more maps : ℕ) (tally : ℕ → ℕ) (fs : List NumberedFile) (is : IsFiles n t now maps tally fs)
+      (sharing : IsSharing (λ m. in_kids m fs) t u) (counted : more ≡ more_in u.pages) (parts : more ≤ u.room) where
     pub fork_held : IsHeld u more (all_of fs)
     fork_held = record {
       held = λ m. (let had = is.held.held m in let came = sharing.held m in let all = files_more m fs in omega (arith, had, came, all));
@@ -227,7 +246,8 @@ module _ (parent child : ℕ) (apart : (parent == child) ≡ false) where
           let here = file_more m (numbered_at fs k) in
           let few = kids_less m (numbered_at fs k).maps in
           let had = is.held.apart m k inside (omega (arith, some, same, here, few)) in
-          let all = only_sum (in_file m) (λ f. in_file m (more_of f)) (λ f none. (let here = file_more m f in let few = kids_less m f.maps in omega (arith, here, few, none))) fs k no_file inside had in
+          let all = only_sum (in_file m) (λ f. in_file m (more_of f)) (λ f none.
+          (let here = file_more m f in let few = kids_less m f.maps in omega (arith, here, few, none))) fs k no_file inside had in
           sum_through (in_file m) (λ f. more_of f) fs ∙ all ∙ sym same;
       counted = counted;
       parts = parts;
@@ -243,7 +263,8 @@ module _ (parent child : ℕ) (apart : (parent == child) ≡ false) where
         each : (fs : List NumberedFile) → files_shown t (all_of fs) ≡ map (λ (f : File). record f { maps = f.maps ++ map (map_for child) (filter (is_of parent) f.maps) }) (files_shown t fs)
         each [] = refl
         each (f ∷ fs) =
-            ap (λ ms. record (file_shown t f) { maps = ms } ∷ files_shown t (all_of fs)) (map-append (map_shown t) f.maps (kids f.maps) ∙ ap (λ ms. map (map_shown t) f.maps ++ ms) (kids_shown t f.maps))
+            ap (λ ms. record (file_shown t f) { maps = ms } ∷ files_shown t (all_of fs))
+            (map-append (map_shown t) f.maps (kids f.maps) ∙ ap (λ ms. map (map_shown t) f.maps ++ ms) (kids_shown t f.maps))
             ∙ ap (λ gs. record (file_shown t f) { maps = map (map_shown t) f.maps ++ map (map_for child) (filter (is_of parent) (map (map_shown t) f.maps)) } ∷ gs) (each fs)
 
     -- ---- what they are called
@@ -266,7 +287,17 @@ module _ (parent child : ℕ) (apart : (parent == child) ≡ false) where
               let its = kids_of_child q f.maps in
               let old = keys_are child parent q f in
               let rest = each fs in
-              omega (arith, here, its, old, rest, sum_by-cons (keys_in child q) (label_of (more_of f)) (labels_of (all_of fs)), sum_by-cons (keys_in child q) (label_of f) (labels_of fs), sum_by-cons (keys_in parent q) (label_of f) (labels_of fs))
+              omega (
+                arith,
+                here,
+                its,
+                old,
+                rest,
+                sum_by-cons (keys_in child q) (label_of (more_of f)) (labels_of (all_of fs)),
+                sum_by-cons
+                    (keys_in child q) (label_of f) (labels_of fs),
+                sum_by-cons (keys_in parent q) (label_of f) (labels_of fs),
+              )
 
       keys_other : (t q : ℕ) → (child == t) ≡ false → (fs : List NumberedFile) → sum_by (keys_in t q) (labels_of (all_of fs)) ≡ sum_by (keys_in t q) (labels_of fs)
       keys_other t q other [] = refl
@@ -278,11 +309,14 @@ module _ (parent child : ℕ) (apart : (parent == child) ≡ false) where
 
       names_same : (name : List ℕ) (fs : List NumberedFile) → count_by (has_label name) (labels_of (all_of fs)) ≡ count_by (has_label name) (labels_of fs)
       names_same name [] = refl
-      names_same name (f ∷ fs) = (let rest = names_same name fs in let left = count_cons (has_label name) (label_of (more_of f)) (labels_of (all_of fs)) in let right = count_cons (has_label name) (label_of f) (labels_of fs) in omega (arith, rest, left, right))
+      names_same name (f ∷ fs) = (let rest = names_same name fs in let left = count_cons (has_label name) (label_of (more_of f))
+          (labels_of (all_of fs)) in let right = count_cons (has_label name) (label_of f) (labels_of fs) in omega (arith, rest, left, right))
 
       listed : (fs : List NumberedFile) → All (λ (q : Label). is_listed q ≡ true) (labels_of fs) → All (λ (q : Label). is_listed q ≡ true) (labels_of (all_of fs))
       listed [] all = λ i e l. absurd (omega (arith, l))
-      listed (f ∷ fs) all = All-cons (λ (q : Label). is_listed q ≡ true) (label_of (more_of f)) (labels_of (all_of fs)) (ap (λ k. is_some f.name || nat_lt 0 k) long ∙ listed_more (is_some f.name) (length (map key_of f.maps)) (length (kids f.maps)) (all 0 (label_of f) (omega arith))) (listed fs (λ i e l. all (suc i) e (omega (arith, l))))
+      listed (f ∷ fs) all = All-cons (λ (q : Label). is_listed q ≡ true) (label_of (more_of f)) (labels_of (all_of fs))
+          (ap (λ k. is_some f.name || nat_lt 0 k) long ∙ listed_more (is_some f.name) (length (map key_of f.maps)) (length (kids f.maps))
+          (all 0 (label_of f) (omega arith))) (listed fs (λ i e l. all (suc i) e (omega (arith, l))))
         where
           long : length (map key_of (f.maps ++ kids f.maps)) ≡ length (map key_of f.maps) + length (kids f.maps)
           long = (let one = length-map (f.maps ++ kids f.maps) key_of in let both = length-append f.maps (kids f.maps) in let two = length-map f.maps key_of in omega (arith, one, both, two))
@@ -315,7 +349,15 @@ module _ (parent child : ℕ) (apart : (parent == child) ≡ false) where
       maps_more (f ∷ fs) =
           let rest = maps_more fs in
           let both = length-append f.maps (kids f.maps) in
-          omega (arith, rest, both, sum_by-cons (λ (f : NumberedFile). length f.maps) (more_of f) (all_of fs), sum_by-cons (λ (f : NumberedFile). length f.maps) f fs, sum_by-cons (λ (f : NumberedFile). length (kids f.maps)) f fs)
+          omega (
+            arith,
+            rest,
+            both,
+            sum_by-cons (λ (f : NumberedFile). length f.maps) (more_of f) (all_of fs),
+            sum_by-cons
+                (λ (f : NumberedFile). length f.maps) f fs,
+            sum_by-cons (λ (f : NumberedFile). length (kids f.maps)) f fs,
+          )
 
       flip : (t : ℕ) → (t == child) ≡ false → (child == t) ≡ false
       flip t e = grind (arith, nat_tests, e)
@@ -325,17 +367,22 @@ module _ (parent child : ℕ) (apart : (parent == child) ≡ false) where
         kept = listed fs is.keyed.kept;
         names = λ name. (let same = names_same name fs in let most = is.keyed.names name in omega (arith, same, most));
         keys = λ t q. at t q (t == child) refl;
-        map_count = (let was = is.keyed.map_count in let old = maps_in fs in let new = maps_in (all_of fs) in let more = maps_more fs in let came = added_is fs in let own = is.keyed.tallied parent in omega (arith, was, old, new, more, came, own, left_is));
-        tallied = λ q. next_is q ∙ ap (λ n. n + cond (child == q) (tally parent) 0) (is.keyed.tallied q) ∙ ap (λ n. sum_by (maps_for q) (labels_of fs) + cond (child == q) n 0) (is.keyed.tallied parent) ∙ sym (tally_more q fs);
+        map_count = (let was = is.keyed.map_count in let old = maps_in fs in let new = maps_in (all_of fs) in let more = maps_more fs in
+            let came = added_is fs in let own = is.keyed.tallied parent in omega (arith, was, old, new, more, came, own, left_is));
+        tallied = λ q. next_is q ∙ ap (λ n. n + cond (child == q) (tally parent) 0) (is.keyed.tallied q)
+            ∙ ap (λ n. sum_by (maps_for q) (labels_of fs) + cond (child == q) n 0) (is.keyed.tallied parent) ∙ sym (tally_more q fs);
       }
         where
           at : (t q : ℕ) (b : Bool) → (t == child) ≡ b → sum_by (keys_in t q) (labels_of (all_of fs)) ≤ 1
-          at t q true e = (let same = ap (λ i. sum_by (keys_in i q) (labels_of (all_of fs))) (eqb-true t child e) in let all = keys_child q in let most = is.keyed.keys parent q in omega (arith, same, all, most))
+          at t q true e = (let same = ap (λ i. sum_by (keys_in i q) (labels_of (all_of fs))) (eqb-true t child e) in let all = keys_child q in
+              let most = is.keyed.keys parent q in omega (arith, same, all, most))
           at t q false e = (let all = keys_other t q (flip t e) fs in let most = is.keyed.keys t q in omega (arith, all, most))
 
       -- what is noted then may lack names and keys that were not noted, and those that the child has no map of
-      pub fork_keeps : (later : Noted) → ((name : List ℕ) → has_noted name later ≡ false → has_noted name n ≡ false) → ((t q : ℕ) → (t == child) ≡ false → has_key t q later ≡ false → sum_by (keys_in t q) (labels_of fs) ≡ 0)
-          → ((q : ℕ) → has_key child q later ≡ false → sum_by (keys_in child q) (labels_of (all_of fs)) ≡ 0) → (left : ℕ) (next : ℕ → ℕ) → IsKeyed left next (labels_of (all_of fs)) → IsFiles later u more left next (all_of fs)
+      pub fork_keeps : (later : Noted) → ((name : List ℕ) → has_noted name later ≡ false → has_noted name n ≡ false) →
+          ((t q : ℕ) → (t == child) ≡ false → has_key t q later ≡ false → sum_by (keys_in t q) (labels_of fs) ≡ 0)
+          → ((q : ℕ) → has_key child q later ≡ false → sum_by (keys_in child q) (labels_of (all_of fs)) ≡ 0) → (left : ℕ) (next : ℕ → ℕ) →
+          IsKeyed left next (labels_of (all_of fs)) → IsFiles later u more left next (all_of fs)
       fork_keeps later names others mine left next keyed_now = record {
         held = fork_held;
         keyed = keyed_now;

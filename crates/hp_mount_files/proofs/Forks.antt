@@ -1,5 +1,6 @@
 -- A fork as code leaves the files: maps of the child's number gone, and then the child's maps behind their parent's.
-use Rattle.std.proofs.Common.{◌≡◌, ℕ, suc, ◌+◌, ◌-◌, ◌<◌, ◌≤◌, ◌^◌, ◌==◌, ◌||◌, nat_lt, Bool, true, false, not, cond, None, max, replicate, List, [], ◌∷◌, ◌++◌, length, map, refl, sym, ap, subst, ◌∙◌, arith}
+use Rattle.std.proofs.Common.{◌≡◌, ℕ, suc, ◌+◌, ◌-◌, ◌<◌, ◌≤◌, ◌^◌, ◌==◌, ◌||◌, nat_lt, Bool, true, false, not, cond}
+use Rattle.std.proofs.Common.{None, max, replicate, List, [], ◌∷◌, ◌++◌, length, map, refl, sym, ap, subst, ◌∙◌, arith}
 use Rattle.std.specs.Global.{Vec}
 use Rattle.std.specs.Prelude.{is_some}
 use Rattle.std.specs.List.{All, count_by, filter, sum_by}
@@ -64,7 +65,17 @@ maps_leave task (f ∷ fs) =
     let few = length-filter (λ m. not (is_of task m)) f.maps in
     let both = count_not (is_of task) f.maps in
     let rest = maps_leave task fs in
-    omega (arith, here, few, both, rest, sum_by-cons (λ (f : NumberedFile). length f.maps) (emptied (left_by task f)) (map (λ f. emptied (left_by task f)) fs), sum_by-cons (maps_of task) f fs, sum_by-cons (λ (f : NumberedFile). length f.maps) f fs)
+    omega (
+      arith,
+      here,
+      few,
+      both,
+      rest,
+      sum_by-cons (λ (f : NumberedFile). length f.maps) (emptied (left_by task f))
+          (map (λ f. emptied (left_by task f)) fs),
+      sum_by-cons (maps_of task) f fs,
+      sum_by-cons (λ (f : NumberedFile). length f.maps) f fs,
+    )
   where
     long : (b : Bool) → length (cond b (left_by task f) (with_truncated 0 (left_by task f))).maps ≡ length (left_by task f).maps
     long true = refl
@@ -88,7 +99,8 @@ module _ (parent child : ℕ) (apart : (parent == child) ≡ false) where
             → filter (is_of parent) (cond (not b) (m ∷ filter (λ m. not (is_of child m)) ms) (filter (λ m. not (is_of child m)) ms)) ≡ cond c (m ∷ filter (is_of parent) ms) (filter (is_of parent) ms)
         at true e true f rest = absurd (clash (sym f ∙ either_task m.task e))
         at true e false f rest = rest
-        at false e c f rest = ap (λ b. cond b (m ∷ filter (is_of parent) (filter (λ m. not (is_of child m)) ms)) (filter (is_of parent) (filter (λ m. not (is_of child m)) ms))) f ∙ ap (λ xs. cond c (m ∷ xs) xs) rest
+        at false e c f rest = ap (λ b. cond b (m ∷ filter (is_of parent) (filter (λ m. not (is_of child m)) ms))
+            (filter (is_of parent) (filter (λ m. not (is_of child m)) ms))) f ∙ ap (λ xs. cond c (m ∷ xs) xs) rest
 
   -- ---- the files of the machine
 
@@ -114,7 +126,9 @@ module _ (parent child : ℕ) (apart : (parent == child) ≡ false) where
       same = ap (λ ms. record (file_without child f) { maps = (file_without child f).maps ++ map (map_for child) ms }) (parents_stay f.maps)
 
       at : (b c : Bool) → b ≡ c → map (λ f. grown_by f) (filter is_kept (map (file_without child) fs)) ≡ filter is_kept (map (file_forked parent child) fs)
-          → map (λ f. grown_by f) (cond b (file_without child f ∷ filter is_kept (map (file_without child) fs)) (filter is_kept (map (file_without child) fs))) ≡ cond c (file_forked parent child f ∷ filter is_kept (map (file_forked parent child) fs)) (filter is_kept (map (file_forked parent child) fs))
+          → map (λ f. grown_by f) (cond b (file_without child f ∷ filter is_kept (map (file_without child) fs))
+          (filter is_kept (map (file_without child) fs))) ≡ cond c (file_forked parent child f
+          ∷ filter is_kept (map (file_forked parent child) fs)) (filter is_kept (map (file_forked parent child) fs))
       at true true e rest = ap (λ g. g ∷ map (λ f. grown_by f) (filter is_kept (map (file_without child) fs))) same ∙ ap (λ gs. file_forked parent child f ∷ gs) rest
       at true false e rest = absurd (clash e)
       at false true e rest = absurd (clash (sym e))
@@ -129,11 +143,13 @@ module _ (parent child : ℕ) (apart : (parent == child) ≡ false) where
       few_left [] = omega arith
       few_left (m ∷ ms) = by (is_of child m) (few_left ms)
         where
-          by : (b : Bool) → length (filter (λ m. not (is_of child m)) ms) ≤ length ms → length (cond (not b) (m ∷ filter (λ m. not (is_of child m)) ms) (filter (λ m. not (is_of child m)) ms)) ≤ length (m ∷ ms)
+          by : (b : Bool) → length (filter (λ m. not (is_of child m)) ms) ≤ length ms →
+              length (cond (not b) (m ∷ filter (λ m. not (is_of child m)) ms) (filter (λ m. not (is_of child m)) ms)) ≤ length (m ∷ ms)
           by true rest = omega (arith, rest)
           by false rest = omega (arith, rest)
 
-      at : (b : Bool) → is_used (left_by child f) ≡ b → (children_of parent child (cond b (left_by child f) (with_truncated 0 (left_by child f))).maps ≡ children_of parent child f.maps) × (length (cond b (left_by child f) (with_truncated 0 (left_by child f))).maps ≤ length f.maps)
+      at : (b : Bool) → is_used (left_by child f) ≡ b → (children_of parent child (cond b (left_by child f) (with_truncated 0 (left_by child f))).maps
+          ≡ children_of parent child f.maps) × (length (cond b (left_by child f) (with_truncated 0 (left_by child f))).maps ≤ length f.maps)
       at true e = (ap (map (map_for child)) (parents_stay f.maps), few_left f.maps)
       at false e =
           let bare : (left_by child f).maps ≡ [] = (empty_file (left_by child f) e).0 in
@@ -195,7 +211,9 @@ module _ (parent child : ℕ) (apart : (parent == child) ≡ false) where
   used_all (f ∷ fs) = at (is_used (with_children parent child f)) (is_used f) (used_grown f) (used_all fs)
     where
       at : (b c : Bool) → b ≡ c → filter is_used (map (λ f. with_children parent child f) fs) ≡ map (λ f. with_children parent child f) (filter is_used fs)
-          → cond b (with_children parent child f ∷ filter is_used (map (λ f. with_children parent child f) fs)) (filter is_used (map (λ f. with_children parent child f) fs)) ≡ map (λ f. with_children parent child f) (cond c (f ∷ filter is_used fs) (filter is_used fs))
+          → cond b (with_children parent child f ∷ filter is_used (map (λ f. with_children parent child f) fs))
+          (filter is_used (map (λ f. with_children parent child f) fs)) ≡ map (λ f. with_children parent child f)
+          (cond c (f ∷ filter is_used fs) (filter is_used fs))
       at true true e rest = ap (λ gs. with_children parent child f ∷ gs) rest
       at true false e rest = absurd (clash e)
       at false true e rest = absurd (clash (sym e))
@@ -211,7 +229,8 @@ pub record IsSet (parent child held : ℕ) (v : Files) (n : Noted) (s : Store) (
   pub few : held + more + sum_by list_copies lists ≤ 2 ^ 32
   pub shown : record (view s more fs) { room = held } ≡ record v { room = held }
 
-pub set_out : {parent child held all maps : ℕ} {v : Files} {old n : Noted} {s t : Store} {more : ℕ} {tally : ℕ → ℕ} {fs : List NumberedFile} {lists counted : List (Vec (Mapping ℕ))} → IsFiles old s more maps tally fs → view s more fs ≡ v → IsMore old n
+pub set_out : {parent child held all maps : ℕ} {v : Files} {old n : Noted} {s t : Store} {more : ℕ} {tally : ℕ → ℕ} {fs : List NumberedFile}
+    {lists counted : List (Vec (Mapping ℕ))} → IsFiles old s more maps tally fs → view s more fs ≡ v → IsMore old n
     → AreReady parent child fs lists → counted ≡ lists → (all < 2 ^ 64 - 1 → all ≡ held + more + sum_by list_copies counted) → held_count s.pages + all ≤ 2 ^ 32
     → t ≡ record s { pages = t.pages; room = max s.room all } → t.pages ≡ s.pages ++ replicate (length t.pages - length s.pages) None → ((m : ℕ) → page_at t m ≡ page_at s m)
     → IsSet parent child held v n t more maps tally fs lists
@@ -230,12 +249,14 @@ set_out {parent} {child} {held} {all} {maps} {v} {old} {n} {s} {t} {more} {tally
       ready = ready;
       room = omega (arith, wide, parts);
       few = omega (arith, parts, few);
-      shown = ap (λ (x : Files). record x { room = held }) (room_view s t more (held + sum_by list_copies lists) all fs is.held parts made pages same) ∙ ap (λ (x : Files). record x { room = held }) view_is;
+      shown = ap (λ (x : Files). record x { room = held }) (room_view s t more (held + sum_by list_copies lists) all fs is.held parts made pages same)
+          ∙ ap (λ (x : Files). record x { room = held }) view_is;
     }
 
 -- ---- the maps of the child's number are gone
 
-module _ {n dropped : Noted} {s t : Store} {more now maps held : ℕ} {tally : ℕ → ℕ} {fs ended : List NumberedFile} {parent child r k : ℕ} {lists : List (Vec (Mapping ℕ))} {v : Files} (set : IsSet parent child held v n s more maps tally fs lists)
+module _ {n dropped : Noted} {s t : Store} {more now maps held : ℕ} {tally : ℕ → ℕ} {fs ended : List NumberedFile} {parent child r k : ℕ}
+    {lists : List (Vec (Mapping ℕ))} {v : Files} (set : IsSet parent child held v n s more maps tally fs lists)
     (apart : (parent == child) ≡ false) (went : HasLeft child fs ended n dropped s t now k r) where
   ended_is : ended ≡ map (λ f. emptied (left_by child f)) fs
   ended_is = went.left
@@ -333,8 +354,10 @@ module _ {n dropped : Noted} {s t : Store} {more now maps held : ℕ} {tally : �
         subst (λ x. IsLeft r x (view u more2 kept)) set.shown
         (subst (λ gs. IsLeft r (record (view s more fs) { room = held }) (view u more2 gs)) (sym kept_all)
         (record {
-          pages = (let mid = stored_pages t now K left.held in let new = stored_pages u more2 hs now_held in let sum = gave.pages in let same = shares.pages in let going = ap length shares.going in omega (arith, mid, new, sum, same, going));
-          nodes = λ i. (let mid = stored_at t now K left.held i in let new = stored_at u more2 hs now_held i in let sum = gave.nodes i in let same = shares.nodes i in let going = ap (count_at i) shares.going in omega (arith, mid, new, sum, same, going));
+          pages = (let mid = stored_pages t now K left.held in let new = stored_pages u more2 hs now_held in let sum = gave.pages in
+              let same = shares.pages in let going = ap length shares.going in omega (arith, mid, new, sum, same, going));
+          nodes = λ i. (let mid = stored_at t now K left.held i in let new = stored_at u more2 hs now_held i in let sum = gave.nodes i in
+              let same = shares.nodes i in let going = ap (count_at i) shares.going in omega (arith, mid, new, sum, same, going));
           reserved = (let mid = files_owe t K in let new = files_owe u hs in let sum = gave.reserved in let same = owed_same parent child apart K in omega (arith, mid, new, sum, same));
           room = (let room = enough in omega (arith, room));
         }))

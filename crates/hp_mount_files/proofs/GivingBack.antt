@@ -1,5 +1,6 @@
 -- A file that gives back: pages that it lost go, and the other files keep theirs.
-use Rattle.std.proofs.Common.{◌≡◌, ◌≢◌, ℕ, zero, suc, ◌+◌, ◌-◌, ◌<◌, ◌≤◌, ◌==◌, ◌||◌, nat_lt, ⊎_elim, true, false, cond, None, Some, List, [], ◌∷◌, ◌++◌, length, take, drop, map, replicate, refl, sym, ap, subst, ◌∙◌, arith}
+use Rattle.std.proofs.Common.{◌≡◌, ◌≢◌, ℕ, zero, suc, ◌+◌, ◌-◌, ◌<◌, ◌≤◌, ◌==◌, ◌||◌, nat_lt, ⊎_elim, true, false, cond, None}
+use Rattle.std.proofs.Common.{Some, List, [], ◌∷◌, ◌++◌, length, take, drop, map, replicate, refl, sym, ap, subst, ◌∙◌, arith}
 use Rattle.std.specs.Prelude.{is_some, slice_set, slice_index_or}
 use Rattle.std.specs.List.{All, count_by, filter, sum_by}
 use Rattle.std.proofs.lemmas.Bool.Decides.{eqb_tells}
@@ -41,7 +42,9 @@ pub in_all : (n : ℕ) (fs : List NumberedFile) → in_cells n fs ≤ in_files n
 in_all n [] = omega arith
 in_all n (f ∷ fs) = (let rest = in_all n fs in omega (arith, rest, sum_by-cons (in_file n) f fs, sum_by-cons (λ (f : NumberedFile). sum_by (in_cell n) f.cells) f fs))
 
-module _ (s t : Store) (more now : ℕ) (fs : List NumberedFile) (h : IsHeld s more fs) (k : ℕ) (l : k < length fs) (x y : NumberedFile) (x_is : x ≡ numbered_at fs k) (d : IsDropping (λ n. in_file n x) (λ n. in_file n y) s t) (counted : now ≡ more_in t.pages) (fewer : (n : ℕ) → sum_by (in_cell n) y.cells ≤ sum_by (in_cell n) x.cells) where
+module _ (s t : Store) (more now : ℕ) (fs : List NumberedFile) (h : IsHeld s more fs) (k : ℕ) (l : k < length fs) (x y : NumberedFile)
+    (x_is : x ≡ numbered_at fs k) (d : IsDropping (λ n. in_file n x) (λ n. in_file n y) s t) (counted : now ≡ more_in t.pages)
+    (fewer : (n : ℕ) → sum_by (in_cell n) y.cells ≤ sum_by (in_cell n) x.cells) where
   abbrev gs : List NumberedFile
   gs = slice_set fs k y
 
@@ -140,7 +143,8 @@ place_shown_bare s (Live c (Some k)) = refl
 maps_shown_punched : (s : Store) (a b : ℕ) (ms : List (Mapping ℕ)) → map (map_shown s) (map (map_punched a b) ms) ≡ map (map_punched a b) (map (map_shown s) ms)
 maps_shown_punched s a b [] = refl
 maps_shown_punched s a b (m ∷ ms) =
-    ap (λ ps. record (map_shown s m) { places = ps } ∷ map (map_shown s) (map (map_punched a b) ms)) (map_edited (place_shown s) without_copy without_copy (place_shown_bare s) (a - m.start) (b - m.start) m.places)
+    ap (λ ps. record (map_shown s m) { places = ps } ∷ map (map_shown s) (map (map_punched a b) ms))
+    (map_edited (place_shown s) without_copy without_copy (place_shown_bare s) (a - m.start) (b - m.start) m.places)
     ∙ ap (λ xs. map_punched a b (map_shown s m) ∷ xs) (maps_shown_punched s a b ms)
 
 punched_shown : (s : Store) (a b : ℕ) (f : NumberedFile) → file_shown s (with_punched a b f) ≡ punched a b (file_shown s f)
@@ -207,7 +211,9 @@ waits_shown s cells = count_map is_waiting (cell_shown s) cells ∙ count_alike 
 
 -- ---- as code leaves it: x is what it read, and y what it left there
 
-module _ (n : Noted) (s t : Store) (more now maps : ℕ) (tally : ℕ → ℕ) (fs : List NumberedFile) (is : IsFiles n s more maps tally fs) (k : ℕ) (l : k < length (files_shown s fs)) (x y : NumberedFile) (read : x ≡ slice_index_or fs k x) (d : IsDropping (λ n. in_file n x) (λ n. in_file n y) s t) (counted : now ≡ more_in t.pages) where
+module _ (n : Noted) (s t : Store) (more now maps : ℕ) (tally : ℕ → ℕ) (fs : List NumberedFile) (is : IsFiles n s more maps tally fs) (k : ℕ)
+    (l : k < length (files_shown s fs)) (x y : NumberedFile) (read : x ≡ slice_index_or fs k x)
+    (d : IsDropping (λ n. in_file n x) (λ n. in_file n y) s t) (counted : now ≡ more_in t.pages) where
   within : k < length fs
   within = (let same = files_len s fs in omega (arith, l, same))
 
@@ -287,7 +293,8 @@ module _ (n : Noted) (s t : Store) (more now maps : ℕ) (tally : ℕ → ℕ) (
         omega (arith, is, both, holes, front)
 
     pub cut_keeps : IsFiles n t now maps tally (slice_set fs k y)
-    cut_keeps = keeps label_same less_left (λ h. same_level (map (map_punched len (len + length x.cells)) x.maps) y.maps (ap (λ (f : NumberedFile). f.maps) y_is) (punched_level len (len + length x.cells) x.maps h))
+    cut_keeps = keeps label_same less_left (λ h. same_level (map (map_punched len (len + length x.cells)) x.maps) y.maps
+        (ap (λ (f : NumberedFile). f.maps) y_is) (punched_level len (len + length x.cells) x.maps h))
 
     pub cut_files : files_shown t (slice_set fs k y) ≡ edited_at k (truncated len (file_at (files_shown s fs) k)) (files_shown s fs)
     cut_files = shows label_same less_left (truncated len (file_at (files_shown s fs) k)) (ap (file_shown s) y_is ∙ truncated_shown s len x ∙ ap (truncated len) x_shown)
@@ -296,4 +303,5 @@ module _ (n : Noted) (s t : Store) (more now maps : ℕ) (tally : ℕ → ℕ) (
     cut_left =
         let count : went ≡ count_by is_waiting (drop len (file_shown s x).cells) = went_is ∙ sym (waits_shown s (drop len x.cells)) ∙ ap (count_by is_waiting) (map_drop (cell_shown s) len x.cells) in
         leaves label_same less_left went
-        (ap (λ f. file_reserves f + went) (ap (file_shown s) y_is ∙ truncated_shown s len x) ∙ ap (λ m. file_reserves (truncated len (file_shown s x)) + m) count ∙ truncated_reserves len (file_shown s x))
+        (ap (λ f. file_reserves f + went) (ap (file_shown s) y_is ∙ truncated_shown s len x)
+        ∙ ap (λ m. file_reserves (truncated len (file_shown s x)) + m) count ∙ truncated_reserves len (file_shown s x))

@@ -23,7 +23,8 @@ use Rattle.hp_mount_files.proofs.Views.{files_len}
 
 -- ---- the file that code leaves
 
-pub once_left : (t : Store) (now : ℕ) (fs : List NumberedFile) (k j i : ℕ) (g : NumberedFile) (n : ℕ) → IsHeld t now (slice_set fs k g) → k < length fs → j < length g.maps → copy_of (place_at (mapping_at g j) i) ≡ Some n → holders_of (page_at t n) ≡ 1
+pub once_left : (t : Store) (now : ℕ) (fs : List NumberedFile) (k j i : ℕ) (g : NumberedFile) (n : ℕ) → IsHeld t now (slice_set fs k g) →
+    k < length fs → j < length g.maps → copy_of (place_at (mapping_at g j) i) ≡ Some n → holders_of (page_at t n) ≡ 1
     → IsCopyState state.HeldOnce (file_at (files_shown t (slice_set fs k g)) k) (place_at (map_at (files_shown t (slice_set fs k g)) k j) i)
 once_left t now fs k j i g n h within jg there one =
     let gs : List NumberedFile = slice_set fs k g in
@@ -41,8 +42,11 @@ once_left t now fs k j i g n h within jg there one =
     )
 
 -- a copy that is put in where there was none
-module _ (s : Store) (more : ℕ) (fs : List NumberedFile) (h : IsHeld s more fs) (k j i : ℕ) (l : k < length (files_shown s fs)) (jl : j < length (file_at (files_shown s fs) k).maps) (x : NumberedFile) (read : x ≡ slice_index_or fs k x) (n : ℕ) (page : Page) (t : Store) (free : page_at s n ≡ None) (below : n < length s.pages) (t_is : t ≡ inserted n page s)
-    (g : NumberedFile) (g_is : g ≡ record x { maps = slice_set x.maps j (at_place (first_copy (mapping_at x j).owner n) i (mapping_at x j)) }) (c : Bool) (place : place_at (map_at (files_shown s fs) k j) i ≡ Live c None) where
+module _ (s : Store) (more : ℕ) (fs : List NumberedFile) (h : IsHeld s more fs) (k j i : ℕ) (l : k < length (files_shown s fs))
+    (jl : j < length (file_at (files_shown s fs) k).maps) (x : NumberedFile) (read : x ≡ slice_index_or fs k x) (n : ℕ) (page : Page) (t : Store)
+    (free : page_at s n ≡ None) (below : n < length s.pages) (t_is : t ≡ inserted n page s)
+    (g : NumberedFile) (g_is : g ≡ record x { maps = slice_set x.maps j (at_place (first_copy (mapping_at x j).owner n) i (mapping_at x j)) })
+    (c : Bool) (place : place_at (map_at (files_shown s fs) k j) i ≡ Live c None) where
   pub put_once : 0 < s.room - more → IsCopyState state.HeldOnce (file_at (files_shown t (slice_set fs k g)) k) (place_at (map_at (files_shown t (slice_set fs k g)) k j) i)
   put_once room =
       let owned : Bool = (mapping s more fs h k j i l jl x read).owner || c in

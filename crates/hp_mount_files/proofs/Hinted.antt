@@ -48,7 +48,8 @@ module _ {K Y X : Type 0} (f : K → Y) (test : Y → Bool) where
   noted_none [] e = refl
   noted_none (x ∷ es) e = (let step = sum_by-cons (λ e. cond {A = ℕ} (test (f e.0)) 1 0) x es in at (test (f x.0)) refl (noted_none es (omega (arith, step, e))) step)
     where
-      at : (b : Bool) → test (f x.0) ≡ b → noted es ≡ false → sum_by (λ e. cond {A = ℕ} (test (f e.0)) 1 0) (x ∷ es) ≡ cond {A = ℕ} (test (f x.0)) 1 0 + sum_by (λ e. cond {A = ℕ} (test (f e.0)) 1 0) es → (test (f x.0) || noted es) ≡ false
+      at : (b : Bool) → test (f x.0) ≡ b → noted es ≡ false → sum_by (λ e. cond {A = ℕ} (test (f e.0)) 1 0) (x ∷ es) ≡ cond {A = ℕ} (test (f x.0)) 1 0
+          + sum_by (λ e. cond {A = ℕ} (test (f e.0)) 1 0) es → (test (f x.0) || noted es) ≡ false
       at true is rest step = (let here = ap (λ b. cond {A = ℕ} b 1 0 + 0) is in absurd (omega (arith, here, step, e)))
       at false is rest step = ap (λ b. b || noted es) is ∙ rest
 

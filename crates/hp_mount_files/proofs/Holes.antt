@@ -35,7 +35,8 @@ module _ {P : Type 0} where
   entered_behind : (cells : List (Cell P)) (a n r : ℕ) → count_by is_entered (take n (drop a (cells ++ replicate r Hole))) ≡ count_by is_entered (take n (drop a cells))
   entered_behind [] a n r = ap (λ xs. count_by is_entered (take n xs)) (drop-replicate a r Hole) ∙ none_taken P n (r - a) ∙ sym (nil_taken P a n)
   entered_behind (c ∷ cells) zero zero r = refl
-  entered_behind (c ∷ cells) zero (suc n) r = (let rest = entered_behind cells zero n r in omega (arith, rest, count_cons is_entered c (take n (cells ++ replicate r Hole)), count_cons is_entered c (take n cells)))
+  entered_behind (c ∷ cells) zero (suc n) r = (let rest = entered_behind cells zero n r in
+      omega (arith, rest, count_cons is_entered c (take n (cells ++ replicate r Hole)), count_cons is_entered c (take n cells)))
   entered_behind (c ∷ cells) (suc a) n r = entered_behind cells a n r
 
   either_counts : (cells : List (Cell P)) → count_by is_hole cells + count_by is_entered cells ≡ length cells
@@ -45,7 +46,8 @@ module _ {P : Type 0} where
   either_counts (Present page ∷ cells) = omega (arith, either_counts cells, count_cons is_hole (Present page) cells, count_cons is_entered (Present page) cells)
 
   -- those below the end, and those past it
-  pub holes_known : (cells : List (Cell P)) (a b known missing : ℕ) → a ≤ b → known ≡ min b (length cells) → missing ≡ count_by is_hole (part a known cells) → missing + (b - max known a) ≡ count_by is_hole (take (b - a) (drop a (at_least b cells)))
+  pub holes_known : (cells : List (Cell P)) (a b known missing : ℕ) → a ≤ b → known ≡ min b (length cells) →
+      missing ≡ count_by is_hole (part a known cells) → missing + (b - max known a) ≡ count_by is_hole (take (b - a) (drop a (at_least b cells)))
   holes_known cells a b known missing order known_is missing_is =
       let r : ℕ = b - length cells in
       let ext = cells ++ replicate r Hole in
@@ -58,7 +60,8 @@ module _ {P : Type 0} where
       let short = length-take (known - a) (drop a cells) in
       let left = length-drop a cells in
       let cut : min (b - a) (length (drop a cells)) ≡ known - a = omega (arith, left, known_is) in
-      let same : count_by is_entered (part a known cells) ≡ count_by is_entered (take (b - a) (drop a cells)) = ap (λ n. count_by is_entered (take n (drop a cells))) (sym cut) ∙ ap (count_by is_entered) (take_min (b - a) (drop a cells)) in
+      let same : count_by is_entered (part a known cells) ≡ count_by is_entered (take (b - a) (drop a cells)) =
+      ap (λ n. count_by is_entered (take n (drop a cells))) (sym cut) ∙ ap (count_by is_entered) (take_min (b - a) (drop a cells)) in
       omega (arith, order, known_is, missing_is, all, wide, deep, long, more, here, short, left, same, entered_behind cells a (b - a) r)
 
 hole_shown : (s : Store) (c : Cell ℕ) → is_hole (cell_shown s c) ≡ is_hole c
@@ -66,13 +69,19 @@ hole_shown s Hole = refl
 hole_shown s Entered = refl
 hole_shown s (Present n) = refl
 
-holes_shown : (s : Store) (cells : List (Cell ℕ)) (a n r : ℕ) → count_by is_hole (take n (drop a (map (cell_shown s) cells ++ replicate r Hole))) ≡ count_by is_hole (take n (drop a (cells ++ replicate r Hole)))
+holes_shown : (s : Store) (cells : List (Cell ℕ)) (a n r : ℕ) → count_by is_hole (take n (drop a (map (cell_shown s) cells ++ replicate r Hole)))
+    ≡ count_by is_hole (take n (drop a (cells ++ replicate r Hole)))
 holes_shown s [] a n r = ap (λ xs. count_by is_hole (take n xs)) (drop-replicate a r Hole) ∙ behind n (r - a) ∙ sym (ap (λ xs. count_by is_hole (take n xs)) (drop-replicate a r Hole))
   where
     behind : (n k : ℕ) → count_by (is_hole {P = Page}) (take n (replicate {A = Cell Page} k Hole)) ≡ count_by (is_hole {P = ℕ}) (take n (replicate {A = Cell ℕ} k Hole))
     behind zero k = refl
     behind (suc n) zero = refl
-    behind (suc n) (suc k) = (let rest = behind n k in omega (arith, rest, count_cons is_hole Hole (take n (replicate {A = Cell Page} k Hole)), count_cons is_hole Hole (take n (replicate {A = Cell ℕ} k Hole))))
+    behind (suc n) (suc k) = (let rest = behind n k in omega (
+      arith,
+      rest,
+      count_cons is_hole Hole (take n (replicate {A = Cell Page} k Hole)),
+      count_cons is_hole Hole (take n (replicate {A = Cell ℕ} k Hole)),
+    ))
 holes_shown s (c ∷ cells) zero zero r = refl
 holes_shown s (c ∷ cells) zero (suc n) r =
     let rest = holes_shown s cells zero n r in
@@ -80,7 +89,8 @@ holes_shown s (c ∷ cells) zero (suc n) r =
     omega (arith, rest, same, count_cons is_hole (cell_shown s c) (take n (map (cell_shown s) cells ++ replicate r Hole)), count_cons is_hole c (take n (cells ++ replicate r Hole)))
 holes_shown s (c ∷ cells) (suc a) n r = holes_shown s cells a n r
 
-pub asked_shown : (s : Store) (fs : List NumberedFile) (k a n b : ℕ) → k < length fs → b ≡ a + n → count_by is_hole (take (b - a) (drop a (at_least b (numbered_at fs k).cells))) ≡ asked Shared Reserve a n (file_at (files_shown s fs) k)
+pub asked_shown : (s : Store) (fs : List NumberedFile) (k a n b : ℕ) → k < length fs → b ≡ a + n →
+    count_by is_hole (take (b - a) (drop a (at_least b (numbered_at fs k).cells))) ≡ asked Shared Reserve a n (file_at (files_shown s fs) k)
 asked_shown s fs k a n b l e =
     let cells = (numbered_at fs k).cells in
     let wide : b - a ≡ n = omega (arith, e) in
@@ -92,7 +102,8 @@ asked_shown s fs k a n b l e =
 
 -- what a shared map asks for: nothing, where it reserves nothing
 pub wanted_shown : (reserving : Reserving) (s : Store) (fs : List NumberedFile) (k a n b : ℕ) → k < length fs → b ≡ a + n
-    → count_by is_hole (take (b - entered_from Shared reserving a n) (drop (entered_from Shared reserving a n) (at_least b (numbered_at fs k).cells))) ≡ asked Shared reserving a n (file_at (files_shown s fs) k)
+    → count_by is_hole (take (b - entered_from Shared reserving a n) (drop (entered_from Shared reserving a n) (at_least b (numbered_at fs k).cells)))
+    ≡ asked Shared reserving a n (file_at (files_shown s fs) k)
 wanted_shown Reserve s fs k a n b l e = asked_shown s fs k a n b l e
 wanted_shown NoReserve s fs k a n b l e =
     let none : b - (a + n) ≡ 0 = omega (arith, e) in

@@ -14,7 +14,8 @@ use Rattle.hp_mount_files.proofs.Sharing.{sum_end}
 
 module _ (parent child : ℕ) where
   -- a list more
-  pub ready_push : (fs : List NumberedFile) (vs : List (Vec (Mapping ℕ))) (f : NumberedFile) (v : Vec (Mapping ℕ)) → length fs ≡ length vs → AreReady parent child fs vs → IsReady parent child f v → AreReady parent child (fs ++ f ∷ []) (vs ++ v ∷ [])
+  pub ready_push : (fs : List NumberedFile) (vs : List (Vec (Mapping ℕ))) (f : NumberedFile) (v : Vec (Mapping ℕ)) → length fs ≡ length vs →
+      AreReady parent child fs vs → IsReady parent child f v → AreReady parent child (fs ++ f ∷ []) (vs ++ v ∷ [])
   ready_push [] [] f v long all one = (one, tt)
   ready_push [] (w ∷ vs) f v long all one = absurd all
   ready_push (x ∷ fs) [] f v long all one = absurd (omega (arith, long))
@@ -31,7 +32,8 @@ module _ (parent child : ℕ) where
       (nil_from_length (children_of parent child f.maps) (omega (arith, step, none, long)), ready_none fs (omega (arith, step, none)))
 
   -- no more lists are needed where the files behind have no map of the parent
-  pub ready_rest : (fs : List NumberedFile) (vs : List (Vec (Mapping ℕ))) → AreReady parent child (take (length vs) fs) vs → sum_by (maps_of parent) (drop (length vs) fs) ≡ 0 → AreReady parent child fs vs
+  pub ready_rest : (fs : List NumberedFile) (vs : List (Vec (Mapping ℕ))) → AreReady parent child (take (length vs) fs) vs →
+      sum_by (maps_of parent) (drop (length vs) fs) ≡ 0 → AreReady parent child fs vs
   ready_rest [] [] all none = tt
   ready_rest [] (v ∷ vs) all none = absurd all
   ready_rest (f ∷ fs) [] all none = ready_none (f ∷ fs) none
@@ -39,10 +41,13 @@ module _ (parent child : ℕ) where
 
   -- some are needed where those behind have some
   pub more_within : (fs : List NumberedFile) (vs : List (Vec (Mapping ℕ))) → 0 < sum_by (maps_of parent) (drop (length vs) fs) → length vs < length fs
-  more_within fs vs some = ⊎_elim (λ (l : length vs < length fs). l) (λ past. (let none = sum_end (maps_of parent) fs (length vs) past in absurd (omega (arith, some, none)))) (cases_lt (length vs) (length fs))
+  more_within fs vs some = ⊎_elim (λ (l : length vs < length fs). l) (λ past.
+      (let none = sum_end (maps_of parent) fs (length vs) past in absurd (omega (arith, some, none)))) (cases_lt (length vs) (length fs))
 
   -- and then fewer by the next list
-  pub fewer_behind : (fs : List NumberedFile) (vs : List (Vec (Mapping ℕ))) (f : NumberedFile) (v : Vec (Mapping ℕ)) → length vs < length fs → f ≡ slice_index_or fs (length vs) f → IsReady parent child f v → length v.items + sum_by (maps_of parent) (drop (length vs + 1) fs) ≡ sum_by (maps_of parent) (drop (length vs) fs)
+  pub fewer_behind : (fs : List NumberedFile) (vs : List (Vec (Mapping ℕ))) (f : NumberedFile) (v : Vec (Mapping ℕ)) → length vs < length fs →
+      f ≡ slice_index_or fs (length vs) f → IsReady parent child f v → length v.items + sum_by (maps_of parent) (drop (length vs + 1) fs)
+      ≡ sum_by (maps_of parent) (drop (length vs) fs)
   fewer_behind fs vs f v within read one =
       let step = sum_by-drop_more (maps_of parent) fs (length vs) f within in
       let own = ap (maps_of parent) read in
@@ -67,7 +72,8 @@ module _ (parent child : ℕ) where
   filled_long (f ∷ fs) (v ∷ vs) all = (let rest = filled_long fs vs all.1 in omega (arith, rest))
 
   -- a list more is filled
-  pub filled_set : (fs : List NumberedFile) (vs : List (Vec (Mapping ℕ))) (at : ℕ) (f : NumberedFile) (v : Vec (Mapping ℕ)) → at < length vs → f ≡ slice_index_or fs at f → AreFilled parent child fs vs → IsReady parent child f v → AreFilled parent child fs (slice_set vs at v)
+  pub filled_set : (fs : List NumberedFile) (vs : List (Vec (Mapping ℕ))) (at : ℕ) (f : NumberedFile) (v : Vec (Mapping ℕ)) → at < length vs →
+      f ≡ slice_index_or fs at f → AreFilled parent child fs vs → IsReady parent child f v → AreFilled parent child fs (slice_set vs at v)
   filled_set [] [] at f v within read all one = absurd (omega (arith, within))
   filled_set [] (w ∷ vs) at f v within read all one = absurd all
   filled_set (x ∷ fs) [] at f v within read all one = absurd (omega (arith, within))
@@ -129,7 +135,8 @@ rest_room [] (w ∷ vs) v y room = absurd room
 rest_room (f ∷ fs) [] v y room = tt
 rest_room (f ∷ fs) (w ∷ vs) v y room = (room.0, rest_room fs vs v y room.1)
 
-pub last_joined : (fs : List NumberedFile) (vs : List (Vec (Mapping ℕ))) (v : Vec (Mapping ℕ)) (d : NumberedFile) → HaveRoom fs (vs ++ v ∷ []) → joined (slice_set fs (length vs) (with_list (slice_index_or fs (length vs) d) v)) vs ≡ joined fs (vs ++ v ∷ [])
+pub last_joined : (fs : List NumberedFile) (vs : List (Vec (Mapping ℕ))) (v : Vec (Mapping ℕ)) (d : NumberedFile) → HaveRoom fs (vs ++ v ∷ []) →
+    joined (slice_set fs (length vs) (with_list (slice_index_or fs (length vs) d) v)) vs ≡ joined fs (vs ++ v ∷ [])
 last_joined [] [] v d room = absurd room
 last_joined [] (w ∷ vs) v d room = absurd room
 last_joined (f ∷ []) [] v d room = refl
@@ -151,7 +158,8 @@ joined_more task (f ∷ fs) (v ∷ vs) =
     omega (arith, rest, here, sum_by-cons (maps_of task) f fs, sum_by-cons (maps_of task) (with_list f v) (joined fs vs))
 
 -- the files up to the last that has a list have none
-module _ (task : ℕ) (fs : List NumberedFile) (vs : List (Vec (Mapping ℕ))) (v : Vec (Mapping ℕ)) (room : HaveRoom fs (vs ++ v ∷ [])) (none : sum_by (maps_of task) (take (length (vs ++ v ∷ [])) fs) ≡ 0) where
+module _ (task : ℕ) (fs : List NumberedFile) (vs : List (Vec (Mapping ℕ))) (v : Vec (Mapping ℕ)) (room : HaveRoom fs (vs ++ v ∷ []))
+    (none : sum_by (maps_of task) (take (length (vs ++ v ∷ [])) fs) ≡ 0) where
   both_none : sum_by (maps_of task) (take (length vs) fs) + maps_of task (numbered_at fs (length vs)) ≡ 0
   both_none =
       let all = ap (λ n. sum_by (maps_of task) (take n fs)) (length-append vs (v ∷ [])) in

@@ -19,7 +19,8 @@ set_read (z ∷ xs) (suc j) d = ap (λ ys. z ∷ ys) (set_read xs j d)
 -- one map of a file is changed, and keeps its task and number
 pub same_label : (x : NumberedFile) (j : ℕ) (y : Mapping ℕ) → key_of y ≡ key_of (mapping_at x j) → label_of (record x { maps = slice_set x.maps j y }) ≡ label_of x
 same_label x j y same =
-    ap (λ ks. record { name = x.name; keys = ks }) (map-set key_of x.maps j y ∙ ap (slice_set (map key_of x.maps) j) same ∙ sym (map-set key_of x.maps j (mapping_at x j)) ∙ ap (map key_of) (set_read x.maps j no_mapping))
+    ap (λ ks. record { name = x.name; keys = ks }) (map-set key_of x.maps j y ∙ ap (slice_set (map key_of x.maps) j) same
+    ∙ sym (map-set key_of x.maps j (mapping_at x j)) ∙ ap (map key_of) (set_read x.maps j no_mapping))
 
 -- x is what code read, and g what it leaves there
 pub labels_stay : (fs : List NumberedFile) (k : ℕ) (x g : NumberedFile) → x ≡ slice_index_or fs k x → label_of g ≡ label_of x → labels_of (slice_set fs k g) ≡ labels_of fs
@@ -27,7 +28,8 @@ labels_stay fs k x g read same =
     map-set label_of fs k g ∙ ap (slice_set (labels_of fs) k) same ∙ sym (map-set label_of fs k x) ∙ ap labels_of (ap (slice_set fs k) read ∙ set-get_or fs k x)
 
 -- a file that keeps its label keeps what holds of all
-pub files_same : (n : Noted) (s t : Store) (more now maps : ℕ) (tally : ℕ → ℕ) (fs : List NumberedFile) (k : ℕ) (x g : NumberedFile) → k < length (files_shown s fs) → x ≡ slice_index_or fs k x → label_of g ≡ label_of x → (AreLevel x.maps → AreLevel g.maps)
+pub files_same : (n : Noted) (s t : Store) (more now maps : ℕ) (tally : ℕ → ℕ) (fs : List NumberedFile) (k : ℕ) (x g : NumberedFile) →
+    k < length (files_shown s fs) → x ≡ slice_index_or fs k x → label_of g ≡ label_of x → (AreLevel x.maps → AreLevel g.maps)
     → IsFiles n s more maps tally fs → IsHeld t now (slice_set fs k g) → IsFiles n t now maps tally (slice_set fs k g)
 files_same n s t more now maps tally fs k x g l read same level is held =
     let stay = sym (labels_stay fs k x g read same) in
@@ -53,7 +55,8 @@ files_noted old new s more maps tally fs grown is =
     record { held = is.held; keyed = is.keyed; noted = noted_more old new (labels_of fs) grown is.noted; level = is.level }
 
 -- each task has as many maps
-pub files_recounted : (n : Noted) (s : Store) (more maps : ℕ) (tally next : ℕ → ℕ) (fs : List NumberedFile) → ((q : ℕ) → next q ≡ tally q) → IsFiles n s more maps tally fs → IsFiles n s more maps next fs
+pub files_recounted : (n : Noted) (s : Store) (more maps : ℕ) (tally next : ℕ → ℕ) (fs : List NumberedFile) → ((q : ℕ) → next q ≡ tally q) →
+    IsFiles n s more maps tally fs → IsFiles n s more maps next fs
 files_recounted n s more maps tally next fs same is = record {
   held = is.held;
   keyed = record { kept = is.keyed.kept; names = is.keyed.names; keys = is.keyed.keys; map_count = is.keyed.map_count; tallied = λ q. same q ∙ is.keyed.tallied q };

@@ -36,13 +36,15 @@ punched_clear a b m k from below = either (nat_lt k m.start) refl
     either false e =
         let low = ltb-false k m.start e in
         ap copy_of (ranged without_copy (a - m.start) (b - m.start) m.places (k - m.start) Gone refl
-        ∙ ap (λ t. cond t (without_copy (slice_index_or m.places (k - m.start) Gone)) (slice_index_or m.places (k - m.start) Gone)) (in_from (a - m.start) (b - m.start) (k - m.start) (omega (arith, from)) (omega (arith, below, low))))
+        ∙ ap (λ t. cond t (without_copy (slice_index_or m.places (k - m.start) Gone)) (slice_index_or m.places (k - m.start) Gone))
+        (in_from (a - m.start) (b - m.start) (k - m.start) (omega (arith, from)) (omega (arith, below, low))))
         ∙ bare_place (slice_index_or m.places (k - m.start) Gone)
 
 -- the same indices leave
 pub punched_left : (a b : ℕ) (m : Mapping ℕ) → without_range a b (map_punched a b m) ≡ without_range a b m
 punched_left a b m =
-    ap (λ ps. record m { places = ps }) (edited_alike (λ p. Gone) Gone refl (a - m.start) (b - m.start) m.places (edit_range without_copy (a - m.start) (b - m.start) m.places) (length-edit_range without_copy (a - m.start) (b - m.start) m.places)
+    ap (λ ps. record m { places = ps }) (edited_alike (λ p. Gone) Gone refl (a - m.start) (b - m.start) m.places
+    (edit_range without_copy (a - m.start) (b - m.start) m.places) (length-edit_range without_copy (a - m.start) (b - m.start) m.places)
     (λ k in'. refl)
     (λ k out. ranged without_copy (a - m.start) (b - m.start) m.places k Gone refl ∙ ap (λ t. cond t (without_copy (slice_index_or m.places k Gone)) (slice_index_or m.places k Gone)) out))
 
@@ -68,7 +70,8 @@ punched_reserves a b m =
 pub left_owed : (a b : ℕ) (m : Mapping ℕ) → reserves_in a b m + owed (without_range a b m) ≡ owed m
 left_owed a b m = either m.owner
   where
-    either : (t : Bool) → cond t (count_by is_unconsumed (part (a - m.start) (b - m.start) m.places)) 0 + cond t (count_by is_unconsumed (edit_range (λ p. Gone) (a - m.start) (b - m.start) m.places)) 0 ≡ cond t (count_by is_unconsumed m.places) 0
+    either : (t : Bool) → cond t (count_by is_unconsumed (part (a - m.start) (b - m.start) m.places)) 0
+        + cond t (count_by is_unconsumed (edit_range (λ p. Gone) (a - m.start) (b - m.start) m.places)) 0 ≡ cond t (count_by is_unconsumed m.places) 0
     either true = (let parts = freed_range (a - m.start) (b - m.start) m.places in omega (arith, parts))
     either false = refl
 
@@ -101,4 +104,10 @@ left_fewer n a b m =
 
 pub more_then : (task : ℕ) (old mid new : Noted) → IsMoreButTask task old mid → IsMoreButTask task mid new → IsMoreButTask task old new
 more_then task old mid new first then =
-    record { names = λ name e. first.names name (then.names name e); keys = λ other number apart e. first.keys other number apart (then.keys other number apart e); room = (let one = first.room in let two = then.room in omega (arith, one, two)) }
+    record {
+      names = λ name e. first.names name (then.names name e);
+      keys = λ other number apart e.
+          first.keys other number apart (then.keys other number apart e);
+      room = (let one = first.room in let two = then.room in
+          omega (arith, one, two));
+    }

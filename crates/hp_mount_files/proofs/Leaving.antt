@@ -106,7 +106,9 @@ used_label f = ap (λ k. is_some f.name || nat_lt 0 k) (length-map f.maps key_of
 
 -- ---- as many holders, pages and reservations as are left
 
-module _ (n : Noted) (s t : Store) (more now maps : ℕ) (tally : ℕ → ℕ) (fs hs : List NumberedFile) (is : IsFiles n s more maps tally fs) (g : NumberedFile → NumberedFile) (hs_is : hs ≡ filter is_used (map g fs)) (d : IsDropping (λ m. in_files m fs) (λ m. in_files m hs) s t) (counted : now ≡ more_in t.pages)
+module _ (n : Noted) (s t : Store) (more now maps : ℕ) (tally : ℕ → ℕ) (fs hs : List NumberedFile) (is : IsFiles n s more maps tally fs)
+    (g : NumberedFile → NumberedFile) (hs_is : hs ≡ filter is_used (map g fs)) (d : IsDropping (λ m. in_files m fs) (λ m. in_files m hs) s t)
+    (counted : now ≡ more_in t.pages)
     (cells : (f : NumberedFile) → (g f).cells ≡ f.cells) (less : (m : ℕ) (f : NumberedFile) → sum_by (in_map m) (g f).maps ≤ sum_by (in_map m) f.maps) where
   held : (m : ℕ) → holders_of (page_at t m) ≡ in_files m hs
   held m = (let had = is.held.held m in let went = d.held m in omega (arith, had, went))
@@ -157,12 +159,18 @@ module _ (n : Noted) (s t : Store) (more now maps : ℕ) (tally : ℕ → ℕ) (
       each (f ∷ fs) = at (is_used (g f)) refl (each fs)
         where
           at : (b : Bool) → is_used (g f) ≡ b → files_shown s (filter is_used (map g fs)) ≡ filter is_kept (map change (files_shown s fs))
-              → files_shown s (cond b (g f ∷ filter is_used (map g fs)) (filter is_used (map g fs))) ≡ cond (is_kept (change (file_shown s f))) (change (file_shown s f) ∷ filter is_kept (map change (files_shown s fs))) (filter is_kept (map change (files_shown s fs)))
+              → files_shown s (cond b (g f ∷ filter is_used (map g fs)) (filter is_used (map g fs)))
+              ≡ cond (is_kept (change (file_shown s f))) (change (file_shown s f) ∷ filter is_kept (map change (files_shown s fs)))
+              (filter is_kept (map change (files_shown s fs)))
           at b e rest = by b (ap is_kept (sym (shown f)) ∙ used_shown (g f) ∙ e) rest
             where
               by : (b : Bool) → is_kept (change (file_shown s f)) ≡ b → files_shown s (filter is_used (map g fs)) ≡ filter is_kept (map change (files_shown s fs))
-                  → files_shown s (cond b (g f ∷ filter is_used (map g fs)) (filter is_used (map g fs))) ≡ cond (is_kept (change (file_shown s f))) (change (file_shown s f) ∷ filter is_kept (map change (files_shown s fs))) (filter is_kept (map change (files_shown s fs)))
-              by true k rest = ap (λ x. x ∷ files_shown s (filter is_used (map g fs))) (shown f) ∙ ap (λ xs. change (file_shown s f) ∷ xs) rest ∙ sym (ap (λ c. cond c (change (file_shown s f) ∷ filter is_kept (map change (files_shown s fs))) (filter is_kept (map change (files_shown s fs)))) k)
+                  → files_shown s (cond b (g f ∷ filter is_used (map g fs)) (filter is_used (map g fs)))
+                  ≡ cond (is_kept (change (file_shown s f))) (change (file_shown s f) ∷ filter is_kept (map change (files_shown s fs)))
+                  (filter is_kept (map change (files_shown s fs)))
+              by true k rest = ap (λ x. x ∷ files_shown s (filter is_used (map g fs))) (shown f) ∙ ap (λ xs. change (file_shown s f) ∷ xs) rest
+                  ∙ sym (ap (λ c. cond c (change (file_shown s f) ∷ filter is_kept (map change (files_shown s fs)))
+                  (filter is_kept (map change (files_shown s fs)))) k)
               by false k rest = rest ∙ sym (ap (λ c. cond c (change (file_shown s f) ∷ filter is_kept (map change (files_shown s fs))) (filter is_kept (map change (files_shown s fs)))) k)
 
   pub left_gives : (went : ℕ) → went + sum_by file_owed hs ≡ sum_by file_owed fs → IsLeft went (view s more fs) (view t now hs)
@@ -185,7 +193,8 @@ module _ (n : Noted) (s t : Store) (more now maps : ℕ) (tally : ℕ → ℕ) (
         omega (arith, few, before, after, same)
 
     pub names_less : (name : List ℕ) → count_by (has_label name) (labels_of hs) ≤ count_by (has_label name) (labels_of fs)
-    names_less name = label_sum (λ (q : Label). cond {A = ℕ} (has_label name q) 1 0) (λ f. (let same = ap (λ o. cond {A = ℕ} (has_label name (record { name = o; keys = [] })) 1 0 + 0) (names f) in omega (arith, same)))
+    names_less name = label_sum (λ (q : Label). cond {A = ℕ} (has_label name q) 1 0)
+        (λ f. (let same = ap (λ o. cond {A = ℕ} (has_label name (record { name = o; keys = [] })) 1 0 + 0) (names f) in omega (arith, same)))
 
     pub keys_less : (k m : ℕ) → sum_by (keys_in k m) (labels_of hs) ≤ sum_by (keys_in k m) (labels_of fs)
     keys_less k m = label_sum (keys_in k m) (keys k m)
@@ -195,16 +204,20 @@ module _ (n : Noted) (s t : Store) (more now maps : ℕ) (tally : ℕ → ℕ) (
       where
         each : (ys : List NumberedFile) → All (λ (f : NumberedFile). is_used f ≡ true) ys → All (λ (q : Label). is_listed q ≡ true) (labels_of ys)
         each [] all = λ i e l. absurd (omega (arith, l))
-        each (y ∷ ys) all = All-cons (λ (q : Label). is_listed q ≡ true) (label_of y) (labels_of ys) (sym (kept_label s y) ∙ used_shown y ∙ all 0 y (omega arith)) (each ys (λ i e l. all (suc i) e (omega (arith, l))))
+        each (y ∷ ys) all = All-cons (λ (q : Label). is_listed q ≡ true) (label_of y) (labels_of ys)
+            (sym (kept_label s y) ∙ used_shown y ∙ all 0 y (omega arith)) (each ys (λ i e l. all (suc i) e (omega (arith, l))))
 
     -- names stay noted
-    pub left_noted : (later : Noted) → ((name : List ℕ) → has_noted name later ≡ false → has_noted name n ≡ false) → ((k m : ℕ) → has_key k m later ≡ false → sum_by (keys_in k m) (labels_of hs) ≡ 0) → AreNoted later (labels_of hs)
+    pub left_noted : (later : Noted) → ((name : List ℕ) → has_noted name later ≡ false → has_noted name n ≡ false) →
+        ((k m : ℕ) → has_key k m later ≡ false → sum_by (keys_in k m) (labels_of hs) ≡ 0) → AreNoted later (labels_of hs)
     left_noted later noted keyed = record {
       names = λ name e. (let few = names_less name in let none = is.noted.names name (noted name e) in omega (arith, few, none));
       keys = keyed;
     }
 
-    pub left_keeps : ((f : NumberedFile) → AreLevel f.maps → AreLevel (g f).maps) → (later : Noted) (left : ℕ) (next : ℕ → ℕ) → AreNoted later (labels_of hs) → left ≡ sum_by (λ (q : Label). length q.keys) (labels_of hs) → ((q : ℕ) → next q ≡ sum_by (maps_for q) (labels_of hs)) → IsFiles later t now left next hs
+    pub left_keeps : ((f : NumberedFile) → AreLevel f.maps → AreLevel (g f).maps) → (later : Noted) (left : ℕ) (next : ℕ → ℕ) →
+        AreNoted later (labels_of hs) → left ≡ sum_by (λ (q : Label). length q.keys) (labels_of hs) →
+        ((q : ℕ) → next q ≡ sum_by (maps_for q) (labels_of hs)) → IsFiles later t now left next hs
     left_keeps levels later left next noted maps_are tallied = record {
       held = left_held;
       keyed = record {

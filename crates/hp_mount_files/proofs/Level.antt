@@ -1,5 +1,6 @@
 -- Maps that hold one number hold it at one index, through each change.
-use Rattle.std.proofs.Common.{◌≡◌, ◌≢◌, ℕ, zero, suc, ◌-◌, ◌<◌, ◌==◌, ⊎_elim, ◌⊎◌, inl, Bool, true, false, cond, nat_lt, Option, Some, None, List, [], ◌∷◌, ◌++◌, length, map, replicate, refl, sym, ap, subst, ◌∙◌}
+use Rattle.std.proofs.Common.{◌≡◌, ◌≢◌, ℕ, zero, suc, ◌-◌, ◌<◌, ◌==◌, ⊎_elim, ◌⊎◌, inl, Bool, true, false, cond, nat_lt}
+use Rattle.std.proofs.Common.{Option, Some, None, List, [], ◌∷◌, ◌++◌, length, map, replicate, refl, sym, ap, subst, ◌∙◌}
 use Rattle.std.specs.Prelude.{slice_index_or, slice_set}
 use Rattle.std.specs.List.{All, filter}
 use Rattle.std.proofs.lemmas.Bool.{cond_both}
@@ -42,7 +43,8 @@ edited_less f gone bare a b m i number = either (nat_lt i m.start)
     edited true p e = bare p number e
     edited false p e = e
 
-    either : (c : Bool) → copy_of (cond c Gone (slice_index_or (edit_range f (a - m.start) (b - m.start) m.places) (i - m.start) Gone)) ≡ Some number → copy_of (cond c Gone (slice_index_or m.places (i - m.start) Gone)) ≡ Some number
+    either : (c : Bool) → copy_of (cond c Gone (slice_index_or (edit_range f (a - m.start) (b - m.start) m.places) (i - m.start) Gone))
+        ≡ Some number → copy_of (cond c Gone (slice_index_or m.places (i - m.start) Gone)) ≡ Some number
     either true e = e
     either false e =
         edited (is_in (a - m.start) (b - m.start) (i - m.start)) (slice_index_or m.places (i - m.start) Gone)
@@ -68,7 +70,8 @@ module _ (p : Mapping ℕ → Bool) (i number : ℕ) where
   kept_copy [] a e = (a, e)
   kept_copy (m ∷ ms) a e = at (p m) a (kept_copy ms) e
     where
-      at : (c : Bool) (a : ℕ) → ((a : ℕ) → copy_in (filter p ms) a i ≡ Some number → (b : ℕ) × (copy_in ms b i ≡ Some number)) → copy_in (cond c (m ∷ filter p ms) (filter p ms)) a i ≡ Some number → (b : ℕ) × (copy_in (m ∷ ms) b i ≡ Some number)
+      at : (c : Bool) (a : ℕ) → ((a : ℕ) → copy_in (filter p ms) a i ≡ Some number → (b : ℕ) × (copy_in ms b i ≡ Some number)) →
+          copy_in (cond c (m ∷ filter p ms) (filter p ms)) a i ≡ Some number → (b : ℕ) × (copy_in (m ∷ ms) b i ≡ Some number)
       at true zero rest e = (0, e)
       at true (suc a) rest e = (let q = rest a e in (suc q.0, q.1))
       at false a rest e = (let q = rest a e in (suc q.0, q.1))
@@ -106,7 +109,8 @@ more_level ms y n places = fewer_level ms (ms ++ y ∷ []) (λ a i number e. (a,
 
 -- ---- a map gets a copy by a number that stood nowhere
 
-module _ (ms : List (Mapping ℕ)) (j : ℕ) (l : j < length ms) (z : Mapping ℕ) (n e : ℕ) (fresh : (b i : ℕ) → copy_in ms b i ≢ Some n) (z_is : (i number : ℕ) → copy_of (place_at z i) ≡ Some number → (copy_in ms j i ≡ Some number) ⊎ ((number ≡ n) × (i ≡ e))) where
+module _ (ms : List (Mapping ℕ)) (j : ℕ) (l : j < length ms) (z : Mapping ℕ) (n e : ℕ) (fresh : (b i : ℕ) → copy_in ms b i ≢ Some n)
+    (z_is : (i number : ℕ) → copy_of (place_at z i) ≡ Some number → (copy_in ms j i ≡ Some number) ⊎ ((number ≡ n) × (i ≡ e))) where
   put_in : (a i number : ℕ) → copy_in (slice_set ms j z) a i ≡ Some number → (copy_in ms a i ≡ Some number) ⊎ ((number ≡ n) × (i ≡ e))
   put_in a i number is = ⊎_elim
       (λ (q : ((a == j) ≡ true) × (a ≡ j)). subst (λ b. (copy_in ms b i ≡ Some number) ⊎ ((number ≡ n) × (i ≡ e))) (sym q.1)
@@ -133,5 +137,7 @@ pub level_read : (fs : List NumberedFile) (k : ℕ) (x : NumberedFile) → k < l
 level_read fs k x l read level = subst (λ (f : NumberedFile). AreLevel f.maps) (sym read) (All-get_or (λ (f : NumberedFile). AreLevel f.maps) fs k x l level)
 
 -- one file is another
-pub level_set : (fs : List NumberedFile) (k : ℕ) (x g : NumberedFile) → k < length fs → x ≡ slice_index_or fs k x → (AreLevel x.maps → AreLevel g.maps) → All (λ (f : NumberedFile). AreLevel f.maps) fs → All (λ (f : NumberedFile). AreLevel f.maps) (slice_set fs k g)
+pub level_set : (fs : List NumberedFile) (k : ℕ) (x g : NumberedFile) → k < length fs → x ≡ slice_index_or fs k x →
+    (AreLevel x.maps → AreLevel g.maps) → All (λ (f : NumberedFile). AreLevel f.maps) fs →
+    All (λ (f : NumberedFile). AreLevel f.maps) (slice_set fs k g)
 level_set fs k x g l read step level = All-set (λ (f : NumberedFile). AreLevel f.maps) fs k g (step (level_read fs k x l read level)) level

@@ -48,7 +48,9 @@ numbers_seen s task [] = refl
 numbers_seen s task (m ∷ ms) = either (is_of task m) (numbers_seen s task ms)
   where
     either : (b : Bool) → numbers_of task (map (map_shown s) ms) ≡ numbers_in task ms
-        → map (λ (x : Map). x.number) (cond b (map_shown s m ∷ filter (is_of task) (map (map_shown s) ms)) (filter (is_of task) (map (map_shown s) ms))) ≡ map (λ (x : Mapping ℕ). x.number) (cond b (m ∷ filter (is_of task) ms) (filter (is_of task) ms))
+        → map (λ (x : Map). x.number) (cond b (map_shown s m ∷ filter (is_of task) (map (map_shown s) ms))
+        (filter (is_of task) (map (map_shown s) ms))) ≡ map (λ (x : Mapping ℕ). x.number)
+        (cond b (m ∷ filter (is_of task) ms) (filter (is_of task) ms))
     either true rest = ap (λ ns. m.number ∷ ns) rest
     either false rest = rest
 
@@ -68,7 +70,9 @@ one_at_most x a (suc n) =
     let rest = one_at_most x (a + 1) n in
     either (x == a) refl step rest
   where
-    either : (b : Bool) → (x == a) ≡ b → count_by (λ k. x == k) (a ∷ range_with_len (a + 1) n) ≡ cond b 1 0 + count_by (λ k. x == k) (range_with_len (a + 1) n) → count_by (λ k. x == k) (range_with_len (a + 1) n) ≤ 1 → count_by (λ k. x == k) (a ∷ range_with_len (a + 1) n) ≤ 1
+    either : (b : Bool) → (x == a) ≡ b → count_by (λ k. x == k) (a ∷ range_with_len (a + 1) n) ≡ cond b 1 0
+        + count_by (λ k. x == k) (range_with_len (a + 1) n) → count_by (λ k. x == k) (range_with_len (a + 1) n) ≤ 1 →
+        count_by (λ k. x == k) (a ∷ range_with_len (a + 1) n) ≤ 1
     either true e step rest =
         let same : x ≡ a = grind (arith, nat_tests, e) in
         let none = count_outside (λ k. x == k) (a + 1) n (λ i low high. grind (arith, nat_tests, same, low)) in
@@ -84,7 +88,8 @@ either_at_most p q (x ∷ xs) =
     let rest = either_at_most p q xs in
     bits (p x) (q x) all left right rest
   where
-    bits : (b c : Bool) → count_by (λ k. p k || q k) (x ∷ xs) ≡ cond (b || c) 1 0 + count_by (λ k. p k || q k) xs → count_by p (x ∷ xs) ≡ cond b 1 0 + count_by p xs → count_by q (x ∷ xs) ≡ cond c 1 0 + count_by q xs
+    bits : (b c : Bool) → count_by (λ k. p k || q k) (x ∷ xs) ≡ cond (b || c) 1 0 + count_by (λ k. p k || q k) xs →
+        count_by p (x ∷ xs) ≡ cond b 1 0 + count_by p xs → count_by q (x ∷ xs) ≡ cond c 1 0 + count_by q xs
         → count_by (λ k. p k || q k) xs ≤ count_by p xs + count_by q xs → count_by (λ k. p k || q k) (x ∷ xs) ≤ count_by p (x ∷ xs) + count_by q (x ∷ xs)
     bits true c all left right rest = omega (arith, all, left, right, rest)
     bits false true all left right rest = omega (arith, all, left, right, rest)
@@ -92,7 +97,8 @@ either_at_most p q (x ∷ xs) =
 
 pub few_among : (xs : List ℕ) (a n : ℕ) → count_by (λ k. is_among k xs) (range_with_len a n) ≤ length xs
 few_among [] a n = (let none = count_outside (λ k. false) a n (λ i low high. refl) in omega (arith, none))
-few_among (x ∷ xs) a n = (let both = either_at_most (λ k. x == k) (λ k. is_among k xs) (range_with_len a n) in let one = one_at_most x a n in let rest = few_among xs a n in omega (arith, both, one, rest))
+few_among (x ∷ xs) a n = (let both = either_at_most (λ k. x == k) (λ k. is_among k xs) (range_with_len a n) in let one = one_at_most x a n in
+    let rest = few_among xs a n in omega (arith, both, one, rest))
 
 not_true : (b : Bool) → not b ≡ true → b ≡ false
 not_true true e = cc

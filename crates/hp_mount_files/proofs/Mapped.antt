@@ -145,12 +145,14 @@ module _ (task number a n : ℕ) (sharing : Sharing) (reserving : Reserving) whe
       let end : ℕ = a + length y.places in
       let cells : map (cell_shown s) (edit_range entered from end (at_least end x.cells)) ≡ cells_mapped sharing reserving a n (map (cell_shown s) x.cells) =
       map_edited (cell_shown s) entered entered (entered_shown s) from end (at_least end x.cells)
-      ∙ ap (edit_range entered from end) (map-append (cell_shown s) x.cells (replicate (end - length x.cells) Hole) ∙ ap (λ cs. map (cell_shown s) x.cells ++ cs) (map_replicate (cell_shown s) (end - length x.cells) Hole))
+      ∙ ap (edit_range entered from end) (map-append (cell_shown s) x.cells (replicate (end - length x.cells) Hole)
+      ∙ ap (λ cs. map (cell_shown s) x.cells ++ cs) (map_replicate (cell_shown s) (end - length x.cells) Hole))
       ∙ ap (λ m. edit_range entered from end (map (cell_shown s) x.cells ++ replicate (end - m) Hole)) (sym (length-map x.cells (cell_shown s)))
       ∙ ap (λ m. edit_range entered from (a + m) (at_least (a + m) (map (cell_shown s) x.cells))) wide
       ∙ range_entered (map (cell_shown s) x.cells) in
       ap (λ cs. record { name = x.name; cells = cs; maps = map (map_shown s) (x.maps ++ y ∷ []) }) cells
-      ∙ ap (λ ms. record { name = x.name; cells = cells_mapped sharing reserving a n (map (cell_shown s) x.cells); maps = ms }) (map-append (map_shown s) x.maps (y ∷ []) ∙ ap (λ m. map (map_shown s) x.maps ++ m ∷ []) (new_shown s))
+      ∙ ap (λ ms. record { name = x.name; cells = cells_mapped sharing reserving a n (map (cell_shown s) x.cells); maps = ms })
+      (map-append (map_shown s) x.maps (y ∷ []) ∙ ap (λ m. map (map_shown s) x.maps ++ m ∷ []) (new_shown s))
 
   cells_count : (m : ℕ) (x : NumberedFile) → sum_by (in_cell m) (with_mapping from y x).cells ≡ sum_by (in_cell m) x.cells
   cells_count m x =
@@ -167,7 +169,8 @@ module _ (task number a n : ℕ) (sharing : Sharing) (reserving : Reserving) whe
       let none = sum_none (in_place m) n (Live false None) refl in
       omega (arith, cells, maps, none)
 
-  module _ (old : Noted) (s : Store) (more maps : ℕ) (tally : ℕ → ℕ) (fs : List NumberedFile) (k : ℕ) (is : IsFiles old s more maps tally fs) (l : k < length fs) (x g : NumberedFile) (read : x ≡ slice_index_or fs k x) (g_is : g ≡ with_mapping from y x) where
+  module _ (old : Noted) (s : Store) (more maps : ℕ) (tally : ℕ → ℕ) (fs : List NumberedFile) (k : ℕ) (is : IsFiles old s more maps tally fs)
+      (l : k < length fs) (x g : NumberedFile) (read : x ≡ slice_index_or fs k x) (g_is : g ≡ with_mapping from y x) where
     at : x ≡ numbered_at fs k
     at = read_is fs k x l read
 

@@ -38,7 +38,8 @@ module _ (task : ℕ) where
   named_none q f none = (let few = named_few q f in omega (arith, few, none))
 
   pub noted_bare : (f : NumberedFile) (n : Noted) → maps_of task f ≡ 0 → HasNoted task f n n
-  noted_bare f n none = noted_then 0 0 (maps_of task f) (λ q. 0) (λ q. 0) (λ q. maps_named task q f) n n n (noted_none n) (noted_none n) (omega (arith, none)) (λ q. (let bare = named_none q f none in omega (arith, bare)))
+  noted_bare f n none = noted_then 0 0 (maps_of task f) (λ q. 0) (λ q. 0) (λ q. maps_named task q f) n n n (noted_none n) (noted_none n)
+      (omega (arith, none)) (λ q. (let bare = named_none q f none in omega (arith, bare)))
 
   pub noted_bare_all : (fs : List NumberedFile) (n : Noted) → sum_by (maps_of task) fs ≡ 0 → HaveNoted task fs n n
   noted_bare_all fs n none =
@@ -46,9 +47,11 @@ module _ (task : ℕ) where
       (λ q. (let few = sum_by-le-sum_by (maps_named task q) (maps_of task) fs (named_few q) in omega (arith, few, none)))
 
   -- a file that had none and has some now, among files that were noted
-  pub noted_at : (fs : List NumberedFile) (k : ℕ) (y : NumberedFile) (old mid new : Noted) → k < length fs → maps_of task (numbered_at fs k) ≡ 0 → HaveNoted task fs old mid → HasNoted task y mid new → HaveNoted task (slice_set fs k y) old new
+  pub noted_at : (fs : List NumberedFile) (k : ℕ) (y : NumberedFile) (old mid new : Noted) → k < length fs → maps_of task (numbered_at fs k) ≡ 0 →
+      HaveNoted task fs old mid → HasNoted task y mid new → HaveNoted task (slice_set fs k y) old new
   noted_at fs k y old mid new within none first then =
-      noted_then (sum_by (maps_of task) fs) (maps_of task y) (sum_by (maps_of task) (slice_set fs k y)) (λ q. sum_by (maps_named task q) fs) (λ q. maps_named task q y) (λ q. sum_by (maps_named task q) (slice_set fs k y)) old mid new first then
+      noted_then (sum_by (maps_of task) fs) (maps_of task y) (sum_by (maps_of task) (slice_set fs k y)) (λ q. sum_by (maps_named task q) fs)
+      (λ q. maps_named task q y) (λ q. sum_by (maps_named task q) (slice_set fs k y)) old mid new first then
       (let step = sum_by-set (maps_of task) fs k y no_file within in omega (arith, step, none))
       (λ q. (let step = sum_by-set (maps_named task q) fs k y no_file within in let bare = named_none q (numbered_at fs k) none in omega (arith, step, bare)))
 
@@ -57,7 +60,8 @@ module _ (task : ℕ) where
   module _ (m : Mapping ℕ) (old new : Noted) where
     pub noted_other : is_of task m ≡ false → new ≡ old → IsNoted task old new (cond (is_of task m) 1 0) (λ q. cond (is_map task q m) 1 0)
     noted_other other same =
-        noted_then 0 0 (cond (is_of task m) 1 0) (λ q. 0) (λ q. 0) (λ q. cond (is_map task q m) 1 0) old old new (noted_none old) (subst (λ n. IsNoted task old n 0 (λ q. 0)) (sym same) (noted_none old))
+        noted_then 0 0 (cond (is_of task m) 1 0) (λ q. 0) (λ q. 0) (λ q. cond (is_map task q m) 1 0) old old new (noted_none old)
+        (subst (λ n. IsNoted task old n 0 (λ q. 0)) (sym same) (noted_none old))
         (ap (λ b. cond {A = ℕ} b 1 0) (sym other)) (λ q. ap (λ b. cond {A = ℕ} (b && (m.number == q)) 1 0) (sym other))
 
     pub noted_one : is_of task m ≡ true → IsMore old new → old.room ≤ new.room + 1 → has_key task m.number new ≡ true → IsNoted task old new (cond (is_of task m) 1 0) (λ q. cond (is_map task q m) 1 0)
@@ -85,4 +89,5 @@ module _ (task : ℕ) where
 
 pub named_labelled : (task number : ℕ) (fs : List NumberedFile) → sum_by (keys_in task number) (labels_of fs) ≡ sum_by (maps_named task number) fs
 named_labelled task number [] = refl
-named_labelled task number (f ∷ fs) = (let here = keys_are task task number f in let rest = named_labelled task number fs in omega (arith, here, rest, sum_by-cons (keys_in task number) (label_of f) (labels_of fs), sum_by-cons (maps_named task number) f fs))
+named_labelled task number (f ∷ fs) = (let here = keys_are task task number f in let rest = named_labelled task number fs in
+    omega (arith, here, rest, sum_by-cons (keys_in task number) (label_of f) (labels_of fs), sum_by-cons (maps_named task number) f fs))

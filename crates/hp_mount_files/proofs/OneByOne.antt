@@ -31,7 +31,8 @@ module _ (task number a b : ℕ) where
   others_same (m ∷ ms) = at (is_map task number m) refl (others_same ms)
     where
       at : (t : Bool) → is_map task number m ≡ t → others (rest ms) ≡ others ms
-          → others (cond (is_mapped (cond t (without_range a b m) m) || not (is_map task number (cond t (without_range a b m) m))) (cond t (without_range a b m) m ∷ rest ms) (rest ms)) ≡ cond (not (is_of task m)) (m ∷ others ms) (others ms)
+          → others (cond (is_mapped (cond t (without_range a b m) m) || not (is_map task number (cond t (without_range a b m) m)))
+          (cond t (without_range a b m) m ∷ rest ms) (rest ms)) ≡ cond (not (is_of task m)) (m ∷ others ms) (others ms)
       at true is tail = by (is_mapped (without_range a b m) || not (is_map task number m)) ∙ tail ∙ sym (ap (λ t. cond (not t) (m ∷ others ms) (others ms)) own)
         where
           own : is_of task m ≡ true

@@ -49,7 +49,8 @@ module _ {X : Type 0} (was is : ℕ → X) where
       get_or-map is keys k 0 d within ∙ same k 0 within ∙ sym (get_or-map was keys k 0 d within))
 
   -- one key has another value
-  pub set_map : (keys : List ℕ) → AllPairs (λ (x : ℕ) (y : ℕ). x ≢ y) keys → (at : ℕ) → at < length keys → ((key : ℕ) → key ≢ slice_index_or keys at 0 → is key ≡ was key) → map is keys ≡ slice_set (map was keys) at (is (slice_index_or keys at 0))
+  pub set_map : (keys : List ℕ) → AllPairs (λ (x : ℕ) (y : ℕ). x ≢ y) keys → (at : ℕ) → at < length keys →
+      ((key : ℕ) → key ≢ slice_index_or keys at 0 → is key ≡ was key) → map is keys ≡ slice_set (map was keys) at (is (slice_index_or keys at 0))
   set_map keys apart at inside same =
       same_lists (map is keys) (slice_set (map was keys) at new) (length-map keys is ∙ sym (length-map keys was) ∙ sym (length-set (map was keys) at new))
       (λ k d l.
@@ -61,8 +62,11 @@ module _ {X : Type 0} (was is : ℕ → X) where
 
       at_place : (k : ℕ) (d : X) → k < length keys → is (slice_index_or keys k 0) ≡ slice_index_or (slice_set (map was keys) at new) k d
       at_place k d within = ⊎_elim
-          (λ (e : ((k == at) ≡ true) × (k ≡ at)). (ap (λ i. is (slice_index_or keys i 0)) e.1 ∙ sym (get_or-set_same (map was keys) at new d (subst (λ n. at < n) (sym (length-map keys was)) inside)) ∙ ap (λ i. slice_index_or (slice_set (map was keys) at new) i d) (sym e.1)))
-          (λ (e : ((k == at) ≡ false) × (k ≢ at)). (same (slice_index_or keys k 0) (apart_at keys apart k at within inside e.1) ∙ sym (get_or-map was keys k 0 d within) ∙ sym (get_or-set_other (map was keys) at k new d e.1)))
+          (λ (e : ((k == at) ≡ true) × (k ≡ at)). (ap (λ i. is (slice_index_or keys i 0)) e.1
+          ∙ sym (get_or-set_same (map was keys) at new d (subst (λ n. at < n) (sym (length-map keys was)) inside))
+          ∙ ap (λ i. slice_index_or (slice_set (map was keys) at new) i d) (sym e.1)))
+          (λ (e : ((k == at) ≡ false) × (k ≢ at)). (same (slice_index_or keys k 0) (apart_at keys apart k at within inside e.1)
+          ∙ sym (get_or-map was keys k 0 d within) ∙ sym (get_or-set_other (map was keys) at k new d e.1)))
           (eqb_tells k at)
 
   -- a key more
@@ -70,7 +74,8 @@ module _ {X : Type 0} (was is : ℕ → X) where
   push_map keys key same = map-append is keys (key ∷ []) ∙ ap (λ xs. xs ++ is key ∷ []) (same_map keys same)
 
   -- a key less
-  pub remove_map : (keys : List ℕ) → AllPairs (λ (x : ℕ) (y : ℕ). x ≢ y) keys → (at : ℕ) → at < length keys → ((key : ℕ) → key ≢ slice_index_or keys at 0 → is key ≡ was key) → map is (remove keys at) ≡ remove (map was keys) at
+  pub remove_map : (keys : List ℕ) → AllPairs (λ (x : ℕ) (y : ℕ). x ≢ y) keys → (at : ℕ) → at < length keys →
+      ((key : ℕ) → key ≢ slice_index_or keys at 0 → is key ≡ was key) → map is (remove keys at) ≡ remove (map was keys) at
   remove_map keys apart at inside same =
       same_map (remove keys at) (λ k d l. same (slice_index_or (remove keys at) k d) (others keys apart at inside k d l))
       ∙ map-append was (take at keys) (drop (suc at) keys)

@@ -50,7 +50,8 @@ going_stays q s two = by (page_at s q) two
     by None l = refl
     by (Some h) l = either h (h.holders == 1) refl l
 
-module _ (s : Store) (more : ℕ) (fs : List NumberedFile) (h : IsHeld s more fs) (k j i : ℕ) (l : k < length (files_shown s fs)) (jl : j < length (file_at (files_shown s fs) k).maps) (x : NumberedFile) (read : x ≡ slice_index_or fs k x)
+module _ (s : Store) (more : ℕ) (fs : List NumberedFile) (h : IsHeld s more fs) (k j i : ℕ) (l : k < length (files_shown s fs))
+    (jl : j < length (file_at (files_shown s fs) k).maps) (x : NumberedFile) (read : x ≡ slice_index_or fs k x)
     (several : IsCopyState state.HeldBySeveral (file_at (files_shown s fs) k) (place_at (map_at (files_shown s fs) k j) i)) where
   abbrev m : Mapping ℕ
   m = mapping s more fs h k j i l jl x read
@@ -72,7 +73,8 @@ module _ (s : Store) (more : ℕ) (fs : List NumberedFile) (h : IsHeld s more fs
     pub two : 1 < holders_of (page_at s q)
     two =
         let all = holders_counted s more fs h k j i l jl x read (mapping_at x j) map_read q there in
-        let other : (count_by (λ n. n == q) (stamps_of (file_at (files_shown s fs) k)) == 1) ≡ false = ap (λ r. count_by (λ n. n == r) (stamps_of (file_at (files_shown s fs) k)) == 1) (sym same_stamp) ∙ several.2 in
+        let other : (count_by (λ n. n == q) (stamps_of (file_at (files_shown s fs) k)) == 1) ≡ false =
+        ap (λ r. count_by (λ n. n == r) (stamps_of (file_at (files_shown s fs) k)) == 1) (sym same_stamp) ∙ several.2 in
         let not_one : count_by (λ n. n == q) (stamps_of (file_at (files_shown s fs) k)) ≢ 1 = differs _ other in
         let inside = within s more fs h k j i l jl x read in
         let maps = in_maps s more fs h k j i l jl x read (mapping_at x j) map_read q there in
@@ -103,7 +105,8 @@ module _ (s : Store) (more : ℕ) (fs : List NumberedFile) (h : IsHeld s more fs
           let same = ap (λ (z : Store). holders_of (page_at z q)) u_is ∙ ap holders_of (inserted_agrees n page s q other) in
           omega (arith, count, same)
 
-    module _ (n : ℕ) (page : Page) (u : Store) (free : page_at s n ≡ None) (below : n < length s.pages) (u_is : u ≡ inserted n page s) (g : NumberedFile) (g_is : g ≡ record x { maps = slice_set x.maps j (at_place (with_copy n) i (mapping_at x j)) })
+    module _ (n : ℕ) (page : Page) (u : Store) (free : page_at s n ≡ None) (below : n < length s.pages) (u_is : u ≡ inserted n page s)
+        (g : NumberedFile) (g_is : g ≡ record x { maps = slice_set x.maps j (at_place (with_copy n) i (mapping_at x j)) })
         (t : Store) (t_is : t ≡ store.dropped q u) (now : ℕ) (counted : now ≡ more_in t.pages) where
       abbrev v : Store
       v = inserted n page s
@@ -129,7 +132,9 @@ module _ (s : Store) (more : ℕ) (fs : List NumberedFile) (h : IsHeld s more fs
 
       put_one : (r : ℕ) → holders_of (page_at v r) ≡ holders_of (page_at s r) + in_place r (Live true (Some n))
       put_one r = ⊎_elim
-          (λ (e : ((r == n) ≡ true) × (r ≡ n)). (let here = ap (λ z. holders_of (page_at v z)) e.1 ∙ ap holders_of (inserted_is n page s below) in let none = ap (λ z. holders_of (page_at s z)) e.1 ∙ ap holders_of free in let one = ap (λ z. in_place z (Live true (Some n))) e.1 ∙ is_it n in omega (arith, here, none, one)))
+          (λ (e : ((r == n) ≡ true) × (r ≡ n)). (let here = ap (λ z. holders_of (page_at v z)) e.1 ∙ ap holders_of (inserted_is n page s below) in
+          let none = ap (λ z. holders_of (page_at s z)) e.1 ∙ ap holders_of free in
+          let one = ap (λ z. in_place z (Live true (Some n))) e.1 ∙ is_it n in omega (arith, here, none, one)))
           (λ (e : ((r == n) ≡ false) × (r ≢ n)). (let here = ap holders_of (inserted_agrees n page s r e.1) in let other = is_other n r (λ z. e.1 (sym z)) in omega (arith, here, other)))
           (eqb_tells r n)
 

@@ -17,7 +17,8 @@ in_parts a b i e = (let parts = and_parts (nat_le a i) (nat_lt i b) e in (leb-tr
 
 module _ {X : Type 0} (f : X → X) (d : X) (none : f d ≡ d) (a b : ℕ) where
   -- the same at each place, once it is edited
-  pub edited_alike : (xs ys : List X) → length ys ≡ length xs → ((k : ℕ) → is_in a b k ≡ true → f (slice_index_or ys k d) ≡ f (slice_index_or xs k d)) → ((k : ℕ) → is_in a b k ≡ false → slice_index_or ys k d ≡ slice_index_or xs k d)
+  pub edited_alike : (xs ys : List X) → length ys ≡ length xs → ((k : ℕ) → is_in a b k ≡ true → f (slice_index_or ys k d) ≡ f (slice_index_or xs k d))
+      → ((k : ℕ) → is_in a b k ≡ false → slice_index_or ys k d ≡ slice_index_or xs k d)
       → edit_range f a b ys ≡ edit_range f a b xs
   edited_alike xs ys long inside outside =
       let left = length-edit_range f a b ys in
@@ -94,7 +95,8 @@ module _ {X : Type 0} (f : X → X) where
         let more : suc k ≡ k + 1 = omega arith in
         ap (λ i. slice_set (first_mapped i xs) k m) (sym more) ∙ ap (λ ys. slice_set ys k m) (sym (first_more k xs d l)) ∙ set-set (first_mapped k xs) k (f (slice_index_or xs k d)) m
 
-    pub next_but_one : (i : ℕ) (xs was : List X) (n : X) → i < length xs → i ≢ k → was ≡ slice_set (first_mapped i xs) k m → n ≡ f (slice_index_or was i d) → slice_set was i n ≡ slice_set (first_mapped (i + 1) xs) k m
+    pub next_but_one : (i : ℕ) (xs was : List X) (n : X) → i < length xs → i ≢ k → was ≡ slice_set (first_mapped i xs) k m →
+        n ≡ f (slice_index_or was i d) → slice_set was i n ≡ slice_set (first_mapped (i + 1) xs) k m
     next_but_one i xs was n l other was_is n_is =
         let read : n ≡ f (slice_index_or (first_mapped i xs) i d) = n_is ∙ ap f (ap (λ ys. slice_index_or ys i d) was_is ∙ get_or-set_other (first_mapped i xs) k i m d other) in
         ap (λ ys. slice_set ys i n) was_is ∙ set_comm (first_mapped i xs) k i m n (λ e. other (sym e)) ∙ ap (λ ys. slice_set ys k m) (first_step i xs (first_mapped i xs) d n l refl read)

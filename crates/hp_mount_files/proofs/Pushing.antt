@@ -59,12 +59,14 @@ module _ (old now : Noted) (s : Store) (more maps : ℕ) (tally : ℕ → ℕ) (
   labels = map-append label_of fs (f ∷ [])
 
   -- its name and its maps' keys are new, and so many maps each task then has
-  module _ (listed : is_listed own ≡ true) (name_few : (name : List ℕ) → count_by (has_label name) (labels_of fs) ≤ 1 → count_by (has_label name) (labels_of fs) + cond {A = ℕ} (has_label name own) 1 0 ≤ 1)
+  module _ (listed : is_listed own ≡ true) (name_few : (name : List ℕ) → count_by (has_label name) (labels_of fs) ≤ 1 →
+      count_by (has_label name) (labels_of fs) + cond {A = ℕ} (has_label name own) 1 0 ≤ 1)
       (keys_few : (t m : ℕ) → sum_by (keys_in t m) (labels_of fs) ≤ 1 → sum_by (keys_in t m) (labels_of fs) + keys_in t m own ≤ 1)
       (next : ℕ → ℕ) (tallied : (q : ℕ) → next q ≡ tally q + maps_for q own) where
     keyed : IsKeyed (maps + length own.keys) next (labels_of gs)
     keyed = subst (IsKeyed (maps + length own.keys) next) (sym labels) (record {
-      kept = All-append (λ (l : Label). is_listed l ≡ true) (labels_of fs) (own ∷ []) is.keyed.kept (All-cons (λ (l : Label). is_listed l ≡ true) own [] listed (All-nil (λ (l : Label). is_listed l ≡ true)));
+      kept = All-append (λ (l : Label). is_listed l ≡ true) (labels_of fs) (own ∷ []) is.keyed.kept
+          (All-cons (λ (l : Label). is_listed l ≡ true) own [] listed (All-nil (λ (l : Label). is_listed l ≡ true)));
       names = λ name. (let step = sum_by_push (λ (l : Label). cond {A = ℕ} (has_label name l) 1 0) (labels_of fs) own in let few = name_few name (is.keyed.names name) in omega (arith, step, few));
       keys = λ t m. (let step = sum_by_push (keys_in t m) (labels_of fs) own in let few = keys_few t m (is.keyed.keys t m) in omega (arith, step, few));
       map_count = (let step = sum_by_push (λ (l : Label). length l.keys) (labels_of fs) own in let was = is.keyed.map_count in omega (arith, step, was));
@@ -89,7 +91,8 @@ module _ (old now : Noted) (s : Store) (more maps : ℕ) (tally : ℕ → ℕ) (
       })
 
       level : All (λ (x : NumberedFile). AreLevel x.maps) gs
-      level = All-append (λ (x : NumberedFile). AreLevel x.maps) fs (f ∷ []) is.level (All-cons (λ (x : NumberedFile). AreLevel x.maps) f [] own_level (All-nil (λ (x : NumberedFile). AreLevel x.maps)))
+      level = All-append (λ (x : NumberedFile). AreLevel x.maps) fs (f ∷ []) is.level
+          (All-cons (λ (x : NumberedFile). AreLevel x.maps) f [] own_level (All-nil (λ (x : NumberedFile). AreLevel x.maps)))
 
       pub pushed : IsFiles now s more (maps + length own.keys) next gs
       pushed = record { held = held; keyed = keyed; noted = noted; level = level }

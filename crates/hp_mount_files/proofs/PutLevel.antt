@@ -29,7 +29,8 @@ no_copy_in n (m ∷ ms) none zero i e =
 no_copy_in n (m ∷ ms) none (suc b) i e = (let parts = sum_by-cons (in_map n) m ms in no_copy_in n ms (omega (arith, parts, none)) b i e)
 
 -- a copy is put at a live place
-pub put_place : (y : Mapping ℕ) (i n : ℕ) (c : Bool) → is_live (place_at y i) ≡ true → (q number : ℕ) → copy_of (place_at (with_place y i (Live c (Some n))) q) ≡ Some number → (copy_of (place_at y q) ≡ Some number) ⊎ ((number ≡ n) × (q ≡ i))
+pub put_place : (y : Mapping ℕ) (i n : ℕ) (c : Bool) → is_live (place_at y i) ≡ true → (q number : ℕ) →
+    copy_of (place_at (with_place y i (Live c (Some n))) q) ≡ Some number → (copy_of (place_at y q) ≡ Some number) ⊎ ((number ≡ n) × (q ≡ i))
 put_place y i n c live q number = either (nat_lt q y.start) refl
   where
     at : (y.start ≤ i) × (i - y.start < length y.places)
@@ -46,7 +47,9 @@ put_place y i n c live q number = either (nat_lt q y.start) refl
         (let low = ltb-false q y.start from in
         let same = z.1 in
         let start = at.0 in
-        let here = ap (λ o. copy_of (slice_index_or (slice_set y.places (i - y.start) (Live c (Some n))) o Gone)) z.1 ∙ ap copy_of (get_or-set_same y.places (i - y.start) (Live c (Some n)) Gone at.1) in
+        let here = ap (λ o. copy_of (slice_index_or (slice_set y.places (i - y.start) (Live c (Some n))) o Gone)) z.1
+        ∙ ap copy_of (get_or-set_same y.places (i - y.start) (Live c (Some n)) Gone at.1) in
         inr (sym (some_is n number (sym here ∙ e)), omega (arith, low, same, start))))
-        (λ (z : (((q - y.start) == (i - y.start)) ≡ false) × (q - y.start ≢ i - y.start)). inl (ap copy_of (sym (get_or-set_other y.places (i - y.start) (q - y.start) (Live c (Some n)) Gone z.1)) ∙ e))
+        (λ (z : (((q - y.start) == (i - y.start)) ≡ false) × (q - y.start ≢ i - y.start)).
+        inl (ap copy_of (sym (get_or-set_other y.places (i - y.start) (q - y.start) (Live c (Some n)) Gone z.1)) ∙ e))
         (eqb_tells (q - y.start) (i - y.start))

@@ -24,7 +24,8 @@ module _ (at : ℕ) (places run : List (Place ℕ)) (is : IsRun at places run) w
   pub run_first : IsSome (copy_of (slice_index_or places at Gone)) → IsSome (copy_of (slice_index_or run 0 Gone))
   run_first some =
       let same : at + 0 ≡ at = omega arith in
-      let first = ap (λ xs. slice_index_or xs 0 Gone) is.run_is ∙ get_or-take (length run) (drop at places) 0 Gone is.some ∙ get_or-drop at places 0 Gone ∙ ap (λ k. slice_index_or places k Gone) same in
+      let first = ap (λ xs. slice_index_or xs 0 Gone) is.run_is ∙ get_or-take (length run) (drop at places) 0 Gone is.some
+      ∙ get_or-drop at places 0 Gone ∙ ap (λ k. slice_index_or places k Gone) same in
       subst (λ p. IsSome (copy_of p)) (sym first) some
 
   module _ (c : Place ℕ → ℕ) where

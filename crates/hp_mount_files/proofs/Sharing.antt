@@ -30,13 +30,21 @@ module _ (s t : Store) (number : ℕ) (some : 0 < holders_of (page_at s number))
   at_h : (h : Holding) → page_at s number ≡ Some h → IsSharing (one_at number) s t × (more_in t.pages ≡ more_in s.pages + 1)
   at_h h is = subst (λ u. IsSharing (one_at number) s u × (more_in u.pages ≡ more_in s.pages + 1)) (sym whole) (
     record {
-      held = λ n. ⊎_elim (λ (e : ((n == number) ≡ true) × (n ≡ number)). (let here = ap holders_of (get_or-set_same s.pages number (Some (held_once_more h)) None within) in let was = ap holders_of is in let same = e.1 in same_at n e.1 here was))
-          (λ (e : ((n == number) ≡ false) × (n ≢ number)). (let there = ap holders_of (get_or-set_other s.pages number n (Some (held_once_more h)) None e.1) in let none : one_at number n ≡ 0 = other n e.0 in omega (arith, there, none)))
+      held = λ n. ⊎_elim (λ (e : ((n == number) ≡ true) × (n ≡ number)). (let here =
+          ap holders_of (get_or-set_same s.pages number (Some (held_once_more h)) None within) in let was = ap holders_of is in let same = e.1 in
+          same_at n e.1 here was))
+          (λ (e : ((n == number) ≡ false) × (n ≢ number)). (let there = ap holders_of
+          (get_or-set_other s.pages number n (Some (held_once_more h)) None e.1) in let none : one_at number n ≡ 0 = other n e.0 in
+          omega (arith, there, none)))
           (eqb_tells n number);
-      some = λ n none. ⊎_elim (λ (e : ((n == number) ≡ true) × (n ≡ number)). (let here = ap (λ k. holders_of (page_at (once_at s number h) k)) e.1 in let there = ap holders_of (get_or-set_same s.pages number (Some (held_once_more h)) None within) in absurd (omega (arith, here, there, none))))
+      some = λ n none. ⊎_elim (λ (e : ((n == number) ≡ true) × (n ≡ number)). (let here = ap (λ k. holders_of (page_at (once_at s number h) k)) e.1 in
+          let there = ap holders_of (get_or-set_same s.pages number (Some (held_once_more h)) None within) in
+          absurd (omega (arith, here, there, none))))
           (λ (e : ((n == number) ≡ false) × (n ≢ number)). (let there = get_or-set_other s.pages number n (Some (held_once_more h)) None e.1 in there ∙ each n (sym (ap holders_of there) ∙ none)))
           (eqb_tells n number);
-      same = λ n. ⊎_elim (λ (e : ((n == number) ≡ true) × (n ≡ number)). (ap (λ k. page_in (page_at (once_at s number h) k)) e.1 ∙ ap page_in (get_or-set_same s.pages number (Some (held_once_more h)) None within) ∙ sym (ap page_in is) ∙ ap (λ k. page_in (page_at s k)) (sym e.1)))
+      same = λ n. ⊎_elim (λ (e : ((n == number) ≡ true) × (n ≡ number)). (ap (λ k. page_in (page_at (once_at s number h) k)) e.1
+          ∙ ap page_in (get_or-set_same s.pages number (Some (held_once_more h)) None within) ∙ sym (ap page_in is)
+          ∙ ap (λ k. page_in (page_at s k)) (sym e.1)))
           (λ (e : ((n == number) ≡ false) × (n ≢ number)). ap page_in (get_or-set_other s.pages number n (Some (held_once_more h)) None e.1))
           (eqb_tells n number);
       pages = (let step = sum_by-set one_if_held s.pages number (Some (held_once_more h)) None within in let was = ap one_if_held is in omega (arith, step, was));
@@ -56,7 +64,8 @@ module _ (s t : Store) (number : ℕ) (some : 0 < holders_of (page_at s number))
       other : (n : ℕ) → (n == number) ≡ false → one_at number n ≡ 0
       other n e = (let flip : (number == n) ≡ false = grind (arith, nat_tests, e) in ap (λ b. cond {A = ℕ} b 1 0) flip)
 
-      same_at : (n : ℕ) → n ≡ number → holders_of (page_at (once_at s number h) number) ≡ h.holders + 1 → holders_of (page_at s number) ≡ h.holders → holders_of (page_at (once_at s number h) n) ≡ holders_of (page_at s n) + one_at number n
+      same_at : (n : ℕ) → n ≡ number → holders_of (page_at (once_at s number h) number) ≡ h.holders + 1 → holders_of (page_at s number) ≡ h.holders →
+          holders_of (page_at (once_at s number h) n) ≡ holders_of (page_at s n) + one_at number n
       same_at n e here was = subst (λ k. holders_of (page_at (once_at s number h) k) ≡ holders_of (page_at s k) + one_at number k) (sym e) (let one = is_it number in omega (arith, here, was, one))
 
   by : (o : Option Holding) → page_at s number ≡ o → IsSharing (one_at number) s t × (more_in t.pages ≡ more_in s.pages + 1)
@@ -108,7 +117,8 @@ share_then a b all s t u first then sum = record {
 -- ---- what is counted of places that have a copy
 
 module _ (c : Place ℕ → ℕ) (bare : (p : Place ℕ) → copy_of p ≡ None → c p ≡ 0) where
-  next_in : (xs : List (Place ℕ)) (a k : ℕ) → a ≤ k → k < length xs → ((i : ℕ) → a ≤ i → i < k → copy_of (slice_index_or xs i Gone) ≡ None) → sum_by c (drop a xs) ≡ c (slice_index_or xs k Gone) + sum_by c (drop (suc k) xs)
+  next_in : (xs : List (Place ℕ)) (a k : ℕ) → a ≤ k → k < length xs → ((i : ℕ) → a ≤ i → i < k → copy_of (slice_index_or xs i Gone) ≡ None) →
+      sum_by c (drop a xs) ≡ c (slice_index_or xs k Gone) + sum_by c (drop (suc k) xs)
   next_in [] a k le l clear = absurd (omega (arith, l))
   next_in (x ∷ xs) zero zero le l clear = sum_by-cons c x xs
   next_in (x ∷ xs) zero (suc k) le l clear =
@@ -134,12 +144,14 @@ module _ (c : Place ℕ → ℕ) (bare : (p : Place ℕ) → copy_of p ≡ None 
     read at k e = ap (place_at m) e ∙ at_start m k
 
     -- the next copy
-    pub next_copy : (at : ℕ) → from ≤ at → at < m.start + length m.places → IsClear from at m → sum_by c (drop (from - m.start) m.places) ≡ c (place_at m at) + sum_by c (drop (at + 1 - m.start) m.places)
+    pub next_copy : (at : ℕ) → from ≤ at → at < m.start + length m.places → IsClear from at m →
+        sum_by c (drop (from - m.start) m.places) ≡ c (place_at m at) + sum_by c (drop (at + 1 - m.start) m.places)
     next_copy at le below clear =
         let k : ℕ = at - m.start in
         let whole : at ≡ m.start + k = omega (arith, start, le) in
         let after : suc k ≡ at + 1 - m.start = omega (arith, start, le) in
-        next_in m.places (from - m.start) k (omega (arith, le)) (omega (arith, below, start, le)) (λ i low high. sym (ap copy_of (at_start m i)) ∙ clear (m.start + i) (omega (arith, low)) (omega (arith, high, start, le)))
+        next_in m.places (from - m.start) k (omega (arith, le)) (omega (arith, below, start, le))
+        (λ i low high. sym (ap copy_of (at_start m i)) ∙ clear (m.start + i) (omega (arith, low)) (omega (arith, high, start, le)))
         ∙ ap (λ p. c p + sum_by c (drop (suc k) m.places)) (sym (read at k whole)) ∙ ap (λ i. c (place_at m at) + sum_by c (drop i m.places)) after
 
     pub no_copy : IsClear from (m.start + length m.places) m → sum_by c (drop (from - m.start) m.places) ≡ 0
@@ -147,7 +159,8 @@ module _ (c : Place ℕ → ℕ) (bare : (p : Place ℕ) → copy_of p ≡ None 
 
 module _ (c : Place ℕ → ℕ) (bare : (p : Place ℕ) → copy_of p ≡ None → c p ≡ 0) where
   -- what stands before the next copy counts for nothing
-  pub to_copy : (m : Mapping ℕ) (from at : ℕ) → m.start ≤ from → from ≤ at → at < m.start + length m.places → IsClear from at m → sum_by c (drop (from - m.start) m.places) ≡ sum_by c (drop (at - m.start) m.places)
+  pub to_copy : (m : Mapping ℕ) (from at : ℕ) → m.start ≤ from → from ≤ at → at < m.start + length m.places → IsClear from at m →
+      sum_by c (drop (from - m.start) m.places) ≡ sum_by c (drop (at - m.start) m.places)
   to_copy m from at start le below clear =
       next_copy c bare m from start at le below clear ∙ sym (next_copy c bare m at (omega (arith, start, le)) at (omega arith) below (λ k low high. absurd (omega (arith, low, high))))
 
@@ -197,12 +210,14 @@ shared_none xs s some = record {
 pub shared_then : (xs ys zs : List (Place ℕ)) (s t u : Store) → IsShared xs ys s t → IsShared ys zs t u → IsShared xs zs s u
 shared_then xs ys zs s t u first then = record {
   less = λ n. (let one = first.less n in let two = then.less n in omega (arith, one, two));
-  sharing = share_then (λ n. sum_by (in_place n) xs - sum_by (in_place n) ys) (λ n. sum_by (in_place n) ys - sum_by (in_place n) zs) (λ n. sum_by (in_place n) xs - sum_by (in_place n) zs) s t u first.sharing then.sharing
+  sharing = share_then (λ n. sum_by (in_place n) xs - sum_by (in_place n) ys) (λ n. sum_by (in_place n) ys - sum_by (in_place n) zs)
+      (λ n. sum_by (in_place n) xs - sum_by (in_place n) zs) s t u first.sharing then.sharing
       (λ n. (let one = first.less n in let two = then.less n in omega (arith, one, two)));
 }
 
 -- counted otherwise
-pub shared_as : (ws xs ys zs : List (Place ℕ)) (s t : Store) → IsShared xs ys s t → ((n : ℕ) → sum_by (in_place n) ws ≡ sum_by (in_place n) xs) → ((n : ℕ) → sum_by (in_place n) zs ≡ sum_by (in_place n) ys) → IsShared ws zs s t
+pub shared_as : (ws xs ys zs : List (Place ℕ)) (s t : Store) → IsShared xs ys s t → ((n : ℕ) → sum_by (in_place n) ws ≡ sum_by (in_place n) xs) →
+    ((n : ℕ) → sum_by (in_place n) zs ≡ sum_by (in_place n) ys) → IsShared ws zs s t
 shared_as ws xs ys zs s t shared all last = record {
   less = λ n. (let one = shared.less n in let whole = all n in let rest = last n in omega (arith, one, whole, rest));
   sharing = share_then (λ n. sum_by (in_place n) xs - sum_by (in_place n) ys) (λ n. 0) (λ n. sum_by (in_place n) ws - sum_by (in_place n) zs) s t t shared.sharing (share_none t shared.sharing.some)

@@ -1,5 +1,6 @@
 -- The pages of a store are those that the files show, counted once each.
-use Rattle.std.proofs.Common.{◌≡◌, ◌≢◌, ℕ, zero, suc, ◌+◌, ◌<◌, ◌≤◌, ◌==◌, ◌||◌, ◌&&◌, ⊎_elim, Bool, true, false, cond, nat_lt, Option, Some, None, List, [], ◌∷◌, ◌++◌, length, map, refl, sym, ap, subst, ◌∙◌, arith}
+use Rattle.std.proofs.Common.{◌≡◌, ◌≢◌, ℕ, zero, suc, ◌+◌, ◌<◌, ◌≤◌, ◌==◌, ◌||◌, ◌&&◌, ⊎_elim, Bool, true, false, cond}
+use Rattle.std.proofs.Common.{nat_lt, Option, Some, None, List, [], ◌∷◌, ◌++◌, length, map, refl, sym, ap, subst, ◌∙◌, arith}
 use Rattle.std.specs.List.{cons_option}
 use Rattle.std.specs.Prelude.{slice_index_or}
 use Rattle.std.specs.List.{count_by, filter, filter_map, flat_map, range_with_len, sum_by}
@@ -37,7 +38,8 @@ places_copies s (Gone ∷ ps) = places_copies s ps
 places_copies s (Live c None ∷ ps) = places_copies s ps
 places_copies s (Live c (Some n) ∷ ps) = ap (λ cs. copy_shown s n ∷ cs) (places_copies s ps)
 
-maps_copies : (s : Store) (ms : List (Mapping ℕ)) → flat_map (λ (m : Map). filter_map copy_of m.places) (map (map_shown s) ms) ≡ map (copy_shown s) (flat_map (λ (m : Mapping ℕ). filter_map copy_of m.places) ms)
+maps_copies : (s : Store) (ms : List (Mapping ℕ)) → flat_map (λ (m : Map). filter_map copy_of m.places) (map (map_shown s) ms)
+    ≡ map (copy_shown s) (flat_map (λ (m : Mapping ℕ). filter_map copy_of m.places) ms)
 maps_copies s [] = refl
 maps_copies s (m ∷ ms) =
     ap (λ cs. cs ++ flat_map (λ (m : Map). filter_map copy_of m.places) (map (map_shown s) ms)) (places_copies s m.places)
@@ -90,7 +92,9 @@ module _ (b : ℕ → Bool) where
 
   over_add : (g h : ℕ → ℕ) (ks : List ℕ) → over (λ k. g k + h k) ks ≡ over g ks + over h ks
   over_add g h [] = refl
-  over_add g h (k ∷ ks) = (let all = sum_by-cons (λ k. cond (b k) (g k + h k) 0) k ks in let left = sum_by-cons (λ k. cond (b k) (g k) 0) k ks in let right = sum_by-cons (λ k. cond (b k) (h k) 0) k ks in let rest = over_add g h ks in let here = either (b k) in omega (arith, all, left, right, rest, here))
+  over_add g h (k ∷ ks) = (let all = sum_by-cons (λ k. cond (b k) (g k + h k) 0) k ks in let left = sum_by-cons (λ k. cond (b k) (g k) 0) k ks in
+      let right = sum_by-cons (λ k. cond (b k) (h k) 0) k ks in let rest = over_add g h ks in let here = either (b k) in
+      omega (arith, all, left, right, rest, here))
     where
       either : (c : Bool) → cond c (g k + h k) 0 ≡ cond c (g k) 0 + cond c (h k) 0
       either true = refl
@@ -164,8 +168,10 @@ module _ (b : ℕ → Bool) where
       here = grind (arith, nat_tests)
 
       passing : (c d : Bool) → b y ≡ c → is_among y (filter b ys) ≡ (d && c) → length (distinct (cond c (y ∷ filter b ys) (filter b ys))) ≡ length (distinct (filter b ys)) + cond c (cond d 0 1) 0
-      passing true true e known = ap (λ q. length (cond q (distinct (filter b ys)) (y ∷ distinct (filter b ys)))) known ∙ (let same : length (distinct (filter b ys)) ≡ length (distinct (filter b ys)) + 0 = omega arith in same)
-      passing true false e known = ap (λ q. length (cond q (distinct (filter b ys)) (y ∷ distinct (filter b ys)))) known ∙ (let same : suc (length (distinct (filter b ys))) ≡ length (distinct (filter b ys)) + 1 = omega arith in same)
+      passing true true e known = ap (λ q. length (cond q (distinct (filter b ys)) (y ∷ distinct (filter b ys)))) known
+          ∙ (let same : length (distinct (filter b ys)) ≡ length (distinct (filter b ys)) + 0 = omega arith in same)
+      passing true false e known = ap (λ q. length (cond q (distinct (filter b ys)) (y ∷ distinct (filter b ys)))) known
+          ∙ (let same : suc (length (distinct (filter b ys))) ≡ length (distinct (filter b ys)) + 1 = omega arith in same)
       passing false d e known = (let same : length (distinct (filter b ys)) ≡ length (distinct (filter b ys)) + 0 = omega arith in same)
 
       again : (p q : Bool) → (p ≡ true → q ≡ true) → cond {A = ℕ} (p || q) 1 0 ≡ cond q 1 0
@@ -181,9 +187,12 @@ module _ (b : ℕ → Bool) where
       new false true h = refl
       new false false h = refl
 
-      either : (d : Bool) → is_among y ys ≡ d → over (λ k. cond (is_among k ys) 1 0) (range_with_len 0 n) ≡ length (distinct (filter b ys)) → over (λ k. cond (is_among k (y ∷ ys)) 1 0) (range_with_len 0 n) ≡ length (distinct (filter b (y ∷ ys)))
+      either : (d : Bool) → is_among y ys ≡ d → over (λ k. cond (is_among k ys) 1 0) (range_with_len 0 n) ≡ length (distinct (filter b ys)) →
+          over (λ k. cond (is_among k (y ∷ ys)) 1 0) (range_with_len 0 n) ≡ length (distinct (filter b (y ∷ ys)))
       either true e rest =
-          let same = over_same (λ k. cond (is_among k (y ∷ ys)) 1 0) (λ k. cond (is_among k ys) 1 0) (λ k. again (y == k) (is_among k ys) (λ t. (let is : y ≡ k = grind (arith, nat_tests, t) in ap (λ q. is_among q ys) (sym is) ∙ e))) (range_with_len 0 n) in
+          let same = over_same (λ k. cond (is_among k (y ∷ ys)) 1 0) (λ k. cond (is_among k ys) 1 0)
+          (λ k. again (y == k) (is_among k ys) (λ t. (let is : y ≡ k = grind (arith, nat_tests, t) in ap (λ q. is_among q ys) (sym is) ∙ e)))
+          (range_with_len 0 n) in
           let count = passing (b y) true refl (among_passing y ys ∙ ap (λ q. q && b y) e) in
           let none = ap (λ c. c + 0) (twice (b y)) in
           omega (arith, same, rest, count, none)
@@ -192,7 +201,9 @@ module _ (b : ℕ → Bool) where
           twice true = refl
           twice false = refl
       either false e rest =
-          let same = over_same (λ k. cond (is_among k (y ∷ ys)) 1 0) (λ k. cond (y == k) 1 0 + cond (is_among k ys) 1 0) (λ k. new (y == k) (is_among k ys) (λ t. (let is : y ≡ k = grind (arith, nat_tests, t) in ap (λ q. is_among q ys) (sym is) ∙ e))) (range_with_len 0 n) in
+          let same = over_same (λ k. cond (is_among k (y ∷ ys)) 1 0) (λ k. cond (y == k) 1 0 + cond (is_among k ys) 1 0)
+          (λ k. new (y == k) (is_among k ys) (λ t. (let is : y ≡ k = grind (arith, nat_tests, t) in ap (λ q. is_among q ys) (sym is) ∙ e)))
+          (range_with_len 0 n) in
           let parts = over_add (λ k. cond (y == k) 1 0) (λ k. cond (is_among k ys) 1 0) (range_with_len 0 n) in
           let one = over_first y n (below y (ap (λ q. q || is_among y ys) here)) in
           let count = passing (b y) false refl (among_passing y ys ∙ ap (λ q. q && b y) e) in
@@ -246,7 +257,8 @@ among_places : (k : ℕ) (ps : List (Place ℕ)) → is_among k (filter_map copy
 among_places k [] = refl
 among_places k (Gone ∷ ps) = among_places k ps ∙ sym (lt_one false (sum_by (in_place k) ps) (sum_by (in_place k) (Gone ∷ ps)) (sum_by-cons (in_place k) Gone ps))
 among_places k (Live c None ∷ ps) = among_places k ps ∙ sym (lt_one false (sum_by (in_place k) ps) (sum_by (in_place k) (Live c None ∷ ps)) (sum_by-cons (in_place k) (Live c None) ps))
-among_places k (Live c (Some x) ∷ ps) = ap (λ q. (x == k) || q) (among_places k ps) ∙ sym (lt_one (x == k) (sum_by (in_place k) ps) (sum_by (in_place k) (Live c (Some x) ∷ ps)) (sum_by-cons (in_place k) (Live c (Some x)) ps))
+among_places k (Live c (Some x) ∷ ps) = ap (λ q. (x == k) || q) (among_places k ps)
+    ∙ sym (lt_one (x == k) (sum_by (in_place k) ps) (sum_by (in_place k) (Live c (Some x) ∷ ps)) (sum_by-cons (in_place k) (Live c (Some x)) ps))
 
 among_copies : (k : ℕ) (ms : List (Mapping ℕ)) → is_among k (flat_map (λ (m : Mapping ℕ). filter_map copy_of m.places) ms) ≡ nat_lt 0 (sum_by (in_map k) ms)
 among_copies k [] = refl
@@ -276,7 +288,9 @@ weights_most (f ∷ fs) k = omega (arith, weight_most f k, weights_most fs k, su
 
 some_at : (k : ℕ) (fs : List NumberedFile) → 0 < in_files k fs → (j : ℕ) × (j < length fs) × (0 < in_file k (numbered_at fs j))
 some_at k [] l = absurd (omega (arith, l))
-some_at k (f ∷ fs) l = (let step = sum_by-cons (in_file k) f fs in ⊎_elim (λ (none : in_file k f < 1). (let rest = some_at k fs (omega (arith, step, none, l)) in (rest.0 + 1, next (rest.0) rest.1, here rest.0 rest.2))) (λ (some : 1 ≤ in_file k f). (0, omega arith, omega (arith, some))) (cases_lt (in_file k f) 1))
+some_at k (f ∷ fs) l = (let step = sum_by-cons (in_file k) f fs in ⊎_elim (λ (none : in_file k f < 1).
+    (let rest = some_at k fs (omega (arith, step, none, l)) in (rest.0 + 1, next (rest.0) rest.1, here rest.0 rest.2)))
+    (λ (some : 1 ≤ in_file k f). (0, omega arith, omega (arith, some))) (cases_lt (in_file k f) 1))
   where
     next : (j : ℕ) → j < length fs → j + 1 < length (f ∷ fs)
     next j l = omega (arith, l)
@@ -298,7 +312,8 @@ only_one k (f ∷ fs) (suc j) l e =
 
 module _ (s : Store) (more : ℕ) (fs : List NumberedFile) (h : IsHeld s more fs) where
   there : (k : ℕ) (x : Holding) → page_at s k ≡ Some x → sum_by (λ f. weight f k) fs ≡ 1
-  there k x is = ⊎_elim (λ (none : in_files k fs < 1). absurd (clash (sym is ∙ h.some k (h.held k ∙ gone none)))) (λ (some : 1 ≤ in_files k fs). by (some_at k fs (omega (arith, some)))) (cases_lt (in_files k fs) 1)
+  there k x is = ⊎_elim (λ (none : in_files k fs < 1). absurd (clash (sym is ∙ h.some k (h.held k ∙ gone none))))
+      (λ (some : 1 ≤ in_files k fs). by (some_at k fs (omega (arith, some)))) (cases_lt (in_files k fs) 1)
     where
       clash : ◌≡◌ {A = Option Holding} (Some x) None → ⊥
       clash e = cc
@@ -335,10 +350,12 @@ module _ (s : Store) (more : ℕ) (fs : List NumberedFile) (h : IsHeld s more fs
       by (Some x) e = there k x e
 
   inside : (k : ℕ) → 0 < in_files k fs → k < length s.pages
-  inside k some = ⊎_elim (λ (l : k < length s.pages). l) (λ (l : length s.pages ≤ k). (let none = sym (h.held k) ∙ ap holders_of (get_or_past s.pages k None l) in absurd (omega (arith, some, none)))) (cases_lt k (length s.pages))
+  inside k some = ⊎_elim (λ (l : k < length s.pages). l) (λ (l : length s.pages ≤ k).
+      (let none = sym (h.held k) ∙ ap holders_of (get_or_past s.pages k None l) in absurd (omega (arith, some, none)))) (cases_lt k (length s.pages))
 
   own_inside : (f : NumberedFile) (j k : ℕ) → j < length fs → f ≡ numbered_at fs j → 0 < in_file k f → k < length s.pages
-  own_inside f j k l e some = (let most = at_most (λ (f : NumberedFile). f) (λ f. f) (in_file k) (λ f h. refl) fs j no_file l in let same = ap (in_file k) e in inside k (omega (arith, most, same, some)))
+  own_inside f j k l e some = (let most = at_most (λ (f : NumberedFile). f) (λ f. f) (in_file k) (λ f h. refl) fs j no_file l in
+      let same = ap (in_file k) e in inside k (omega (arith, most, same, some)))
 
   module _ (b : ℕ → Bool) where
     abbrev numbers : List ℕ
@@ -364,14 +381,16 @@ module _ (s : Store) (more : ℕ) (fs : List NumberedFile) (h : IsHeld s more fs
 
     pub all_weigh : sum_by (λ f. count_by (passing_cell b) f.cells + length (distinct (filter b (copies_in f)))) fs ≡ over b (λ k. one_if_held (page_at s k)) numbers
     all_weigh =
-        sym (files_weigh fs (λ f j l e k some. own_inside f j k l e some)) ∙ sym (over_files b weight fs numbers) ∙ over_same b (λ k. sum_by (λ f. weight f k) fs) (λ k. one_if_held (page_at s k)) weighs numbers
+        sym (files_weigh fs (λ f j l e k some. own_inside f j k l e some)) ∙ sym (over_files b weight fs numbers)
+        ∙ over_same b (λ k. sum_by (λ f. weight f k) fs) (λ k. one_if_held (page_at s k)) weighs numbers
 
 through : {X Y : Type 0} (c : Y → ℕ) (f : X → Y) (xs : List X) → sum_by c (map f xs) ≡ sum_by (λ x. c (f x)) xs
 through c f [] = refl
 through c f (x ∷ xs) = (let rest = through c f xs in omega (arith, rest, sum_by-cons c (f x) (map f xs), sum_by-cons (λ x. c (f x)) x xs))
 
 through_numbers : (w : Option Holding → ℕ) (pages : List (Option Holding)) → sum_by (λ k. w (slice_index_or pages k None)) (range_with_len 0 (length pages)) ≡ sum_by w pages
-through_numbers w pages = sym (ap (sum_by w) (fill_by_all (λ k. slice_index_or pages k None) pages (length pages) None refl (λ k l. refl)) ∙ through w (λ k. slice_index_or pages k None) (range_with_len 0 (length pages)))
+through_numbers w pages = sym (ap (sum_by w) (fill_by_all (λ k. slice_index_or pages k None) pages (length pages) None refl (λ k l. refl))
+    ∙ through w (λ k. slice_index_or pages k None) (range_with_len 0 (length pages)))
 
 module _ (s : Store) (more : ℕ) (fs : List NumberedFile) (h : IsHeld s more fs) where
   pub stored_pages : sum_by file_pages (files_shown s fs) ≡ held_count s.pages
@@ -387,7 +406,15 @@ module _ (s : Store) (more : ℕ) (fs : List NumberedFile) (h : IsHeld s more fs
       each [] = refl
       each (g ∷ gs) =
           let copies = ap (λ xs. length (distinct xs)) (ap (map (λ (c : Copy). c.stamp)) (maps_copies s g.maps) ∙ stamps_same s (copies_in g) ∙ sym (all_pass (copies_in g))) in
-          omega (arith, cells g.cells, copies, each gs, sum_by-cons file_pages (file_shown s g) (files_shown s gs), sum_by-cons (λ f. count_by (passing_cell (λ k. true)) f.cells + length (distinct (filter (λ k. true) (copies_in f)))) g gs)
+          omega (
+            arith,
+            cells g.cells,
+            copies,
+            each gs,
+            sum_by-cons file_pages (file_shown s g) (files_shown s gs),
+            sum_by-cons
+                (λ f. count_by (passing_cell (λ k. true)) f.cells + length (distinct (filter (λ k. true) (copies_in f)))) g gs,
+          )
 
   pub stored_at : (n : ℕ) → sum_by (file_pages_at n) (files_shown s fs) ≡ sum_by (at_node n) s.pages
   stored_at n = each fs ∙ all_weigh s more fs h (on_node s n) ∙ through_numbers (at_node n) s.pages
@@ -398,8 +425,17 @@ module _ (s : Store) (more : ℕ) (fs : List NumberedFile) (h : IsHeld s more fs
       cells (Entered ∷ cs) = omega (arith, cells cs, count_cons (is_page_at n) Entered (map (cell_shown s) cs), count_cons (passing_cell (on_node s n)) Entered cs)
       cells (Present k ∷ cs) = omega (arith, cells cs, count_cons (is_page_at n) (cell_shown s (Present k)) (map (cell_shown s) cs), count_cons (passing_cell (on_node s n)) (Present k) cs)
 
-      each : (gs : List NumberedFile) → sum_by (file_pages_at n) (files_shown s gs) ≡ sum_by (λ f. count_by (passing_cell (on_node s n)) f.cells + length (distinct (filter (on_node s n) (copies_in f)))) gs
+      each : (gs : List NumberedFile) → sum_by (file_pages_at n) (files_shown s gs)
+          ≡ sum_by (λ f. count_by (passing_cell (on_node s n)) f.cells + length (distinct (filter (on_node s n) (copies_in f)))) gs
       each [] = refl
       each (g ∷ gs) =
           let copies = ap (λ xs. length (distinct xs)) (ap (filter_map (stamp_at n)) (maps_copies s g.maps) ∙ stamps_at s n (copies_in g)) in
-          omega (arith, cells g.cells, copies, each gs, sum_by-cons (file_pages_at n) (file_shown s g) (files_shown s gs), sum_by-cons (λ f. count_by (passing_cell (on_node s n)) f.cells + length (distinct (filter (on_node s n) (copies_in f)))) g gs)
+          omega (
+            arith,
+            cells g.cells,
+            copies,
+            each gs,
+            sum_by-cons (file_pages_at n) (file_shown s g) (files_shown s gs),
+            sum_by-cons
+                (λ f. count_by (passing_cell (on_node s n)) f.cells + length (distinct (filter (on_node s n) (copies_in f)))) g gs,
+          )

@@ -103,7 +103,8 @@ module _ (s : Store) (q : ℕ) where
       let live = live_copy p q e in
       let same : (q == q) ≡ true = eq-eqb q q refl in (
         ap (λ p. holds q (place_shown s p)) live.1 ∙ same,
-        ap (λ p. drop_stamp q (place_shown s p)) live.1 ∙ ap (λ b. cond {A = Place Copy} b (Live live.0 None) (Live live.0 (Some (copy_shown s q)))) same ∙ ap (λ p. place_shown s (without_copy p)) (sym live.1),
+        ap (λ p. drop_stamp q (place_shown s p)) live.1 ∙ ap (λ b. cond {A = Place Copy} b (Live live.0 None) (Live live.0 (Some (copy_shown s q))))
+            same ∙ ap (λ p. place_shown s (without_copy p)) (sym live.1),
       )
 
   -- the number stands nowhere else in the map
@@ -115,7 +116,8 @@ module _ (s : Store) (q : ℕ) where
     alone there =
         let at = place_inside m i q there in
         one_alone (in_place q) Gone m.places (i - m.start) at.0 (λ r other. ⊎_elim (λ (none : in_place q (slice_index_or m.places r Gone) ≡ 0). none)
-        (λ (some : 0 < in_place q (slice_index_or m.places r Gone)). (let same = elsewhere r some in let low = at.2 in absurd (other (omega (arith, same, low))))) (none_or_some (in_place q (slice_index_or m.places r Gone))))
+        (λ (some : 0 < in_place q (slice_index_or m.places r Gone)). (let same = elsewhere r some in let low = at.2 in
+        absurd (other (omega (arith, same, low))))) (none_or_some (in_place q (slice_index_or m.places r Gone))))
 
     clash : true ≡ false → ⊥
     clash e = cc
@@ -156,7 +158,8 @@ module _ (s : Store) (q : ℕ) where
             ∙ ap (λ x. slice_set (map (place_shown s) m.places) (i - m.start) (place_shown s (without_copy x))) (place_here m i at.2)
             ∙ ap (slice_set (map (place_shown s) m.places) (i - m.start)) (sym here.1)
             ∙ sym (map_but (place_shown s) (λ x. drop_stamp q (place_shown s x)) (in_place q) dropped_same m.places (i - m.start) Gone at.0 (alone there)) in
-            let any : list_any (holds q) (map (place_shown s) m.places) ≡ true = list_any_at (holds q) (map (place_shown s) m.places) (i - m.start) Gone (let long = length-map m.places (place_shown s) in let l = at.0 in omega (arith, long, l))
+            let any : list_any (holds q) (map (place_shown s) m.places) ≡ true = list_any_at (holds q) (map (place_shown s) m.places) (i - m.start)
+            Gone (let long = length-map m.places (place_shown s) in let l = at.0 in omega (arith, long, l))
             (ap (holds q) (get_or-map (place_shown s) m.places (i - m.start) Gone Gone at.0) ∙ here.0) in
             ap (λ ps. record (map_shown s m) { unmapped = true; places = ps }) (places ∙ twice m.places)
             ∙ ap (λ b. cond b (record (map_shown s m) { unmapped = true; places = map (drop_stamp q) (map (place_shown s) m.places) }) (map_shown s m)) (sym any)
@@ -180,7 +183,8 @@ robbed_key : (q i : ℕ) (m : Mapping ℕ) → key_of (robbed_at q i m) ≡ key_
 robbed_key q i m = cond_both (has_number q (place_at m i)) (record (at_place without_copy i m) { unmapped = true }) m (λ z. key_of z ≡ key_of m) (λ e. refl) (λ e. refl)
 
 robbed_less : (q i : ℕ) (m : Mapping ℕ) (r number : ℕ) → copy_of (place_at (robbed_at q i m) r) ≡ Some number → copy_of (place_at m r) ≡ Some number
-robbed_less q i m r number = cond_both (has_number q (place_at m i)) (record (at_place without_copy i m) { unmapped = true }) m (λ z. copy_of (place_at z r) ≡ Some number → copy_of (place_at m r) ≡ Some number) (λ b e. lost b e) (λ b e. e)
+robbed_less q i m r number = cond_both (has_number q (place_at m i)) (record (at_place without_copy i m) { unmapped = true }) m
+    (λ z. copy_of (place_at z r) ≡ Some number → copy_of (place_at m r) ≡ Some number) (λ b e. lost b e) (λ b e. e)
   where
     bare : (p : Place ℕ) → copy_of (without_copy p) ≡ Some number → ⊥
     bare Gone e = cc
@@ -191,11 +195,15 @@ robbed_less q i m r number = cond_both (has_number q (place_at m i)) (record (at
     set_bare (x ∷ ps) zero p e = bare p e
     set_bare (x ∷ ps) (suc o) p e = set_bare ps o p e
 
-    either : (b : Bool) → nat_lt r m.start ≡ b → copy_of (cond b Gone (slice_index_or (slice_set m.places (i - m.start) (without_copy (place_at m i))) (r - m.start) Gone)) ≡ Some number → copy_of (cond b Gone (slice_index_or m.places (r - m.start) Gone)) ≡ Some number
+    either : (b : Bool) → nat_lt r m.start ≡ b → copy_of (cond b Gone (slice_index_or (slice_set m.places (i - m.start) (without_copy (place_at m i)))
+        (r - m.start) Gone)) ≡ Some number → copy_of (cond b Gone (slice_index_or m.places (r - m.start) Gone)) ≡ Some number
     either true from e = e
     either false from e = ⊎_elim
-        (λ (z : (((r - m.start) == (i - m.start)) ≡ true) × (r - m.start ≡ i - m.start)). absurd (set_bare m.places (i - m.start) (place_at m i) (ap (λ o. copy_of (slice_index_or (slice_set m.places (i - m.start) (without_copy (place_at m i))) o Gone)) (sym z.1) ∙ e)))
-        (λ (z : (((r - m.start) == (i - m.start)) ≡ false) × (r - m.start ≢ i - m.start)). ap copy_of (sym (get_or-set_other m.places (i - m.start) (r - m.start) (without_copy (place_at m i)) Gone z.1)) ∙ e)
+        (λ (z : (((r - m.start) == (i - m.start)) ≡ true) × (r - m.start ≡ i - m.start)).
+        absurd (set_bare m.places (i - m.start) (place_at m i) (ap (λ o. copy_of
+        (slice_index_or (slice_set m.places (i - m.start) (without_copy (place_at m i))) o Gone)) (sym z.1) ∙ e)))
+        (λ (z : (((r - m.start) == (i - m.start)) ≡ false) × (r - m.start ≢ i - m.start)).
+        ap copy_of (sym (get_or-set_other m.places (i - m.start) (r - m.start) (without_copy (place_at m i)) Gone z.1)) ∙ e)
         (eqb_tells (r - m.start) (i - m.start))
 
     lost : has_number q (place_at m i) ≡ true → copy_of (place_at (record (at_place without_copy i m) { unmapped = true }) r) ≡ Some number → copy_of (place_at m r) ≡ Some number
@@ -224,10 +232,12 @@ module _ (s : Store) (x : NumberedFile) (j i q : ℕ) (jl : j < length x.maps) (
       from a r number e = ⊎_elim
           (λ (z : ((a == j) ≡ true) × (a ≡ j)).
           (let long = length-map x.maps (robbed_at q i) in
-          let here : slice_index_or y.maps a no_mapping ≡ mapping_at x j = ap (λ b. slice_index_or y.maps b no_mapping) z.1 ∙ get_or-set_same (map (robbed_at q i) x.maps) j (mapping_at x j) no_mapping (omega (arith, long, jl)) in
+          let here : slice_index_or y.maps a no_mapping ≡ mapping_at x j = ap (λ b. slice_index_or y.maps b no_mapping) z.1
+          ∙ get_or-set_same (map (robbed_at q i) x.maps) j (mapping_at x j) no_mapping (omega (arith, long, jl)) in
           ap (λ b. copy_in x.maps b r) z.1 ∙ ap (λ (z : Mapping ℕ). copy_of (place_at z r)) (sym here) ∙ e))
           (λ (z : ((a == j) ≡ false) × (a ≢ j)).
-          mapped_copy (robbed_at q i) (robbed_less q i) x.maps a r number (ap (λ (z : Mapping ℕ). copy_of (place_at z r)) (sym (get_or-set_other (map (robbed_at q i) x.maps) j a (mapping_at x j) no_mapping z.1)) ∙ e))
+          mapped_copy (robbed_at q i) (robbed_less q i) x.maps a r number (ap (λ (z : Mapping ℕ). copy_of (place_at z r))
+          (sym (get_or-set_other (map (robbed_at q i) x.maps) j a (mapping_at x j) no_mapping z.1)) ∙ e))
           (eqb_tells a j)
 
   map_here : slice_index_or (map (map_shown s) x.maps) j no_map ≡ m
@@ -235,7 +245,8 @@ module _ (s : Store) (x : NumberedFile) (j i q : ℕ) (jl : j < length x.maps) (
 
   maps_shown : map (map_shown s) (map (robbed_at q i) x.maps) ≡ map (robbed q) (map (map_shown s) x.maps)
   maps_shown = through (robbed_at q i) (map_shown s) x.maps
-      ∙ map_alike (λ z. map_shown s (robbed_at q i z)) (λ z. robbed q (map_shown s z)) no_mapping x.maps (λ a l. robbed_shown s q i (slice_index_or x.maps a no_mapping) (λ r e. level q a j r i e there))
+      ∙ map_alike (λ z. map_shown s (robbed_at q i z)) (λ z. robbed q (map_shown s z)) no_mapping x.maps
+      (λ a l. robbed_shown s q i (slice_index_or x.maps a no_mapping) (λ r e. level q a j r i e there))
       ∙ sym (through (map_shown s) (robbed q) x.maps)
     where
       through : {X Y Z : Type 0} (f : X → Y) (g : Y → Z) (xs : List X) → map g (map f xs) ≡ map (λ z. g (f z)) xs
@@ -253,7 +264,10 @@ module _ (s : Store) (x : NumberedFile) (j i q : ℕ) (jl : j < length x.maps) (
   back_reserves =
       let copy : copy_of (place_at m i) ≡ Some (copy_shown s q) = ap copy_of (shown_place s (mapping_at x j) i) ∙ copy_seen s (place_at (mapping_at x j) i) q there in
       let live = live_of (place_at m i) (copy_shown s q) copy in
-      let grows = takes_back shown j m i live.0 (copy_shown s q) (record { within = (let long = length-map x.maps (map_shown s) in omega (arith, long, jl)); is = λ d. get_or-map (map_shown s) x.maps j no_mapping d jl }) live.1 (agreed_shown s x) in
+      let grows = takes_back shown j m i live.0 (copy_shown s q) (record {
+        within = (let long = length-map x.maps (map_shown s) in omega (arith, long, jl));
+        is = λ d. get_or-map (map_shown s) x.maps j no_mapping d jl;
+      }) live.1 (agreed_shown s x) in
       let is = ap file_reserves (back_shown ∙ ap (with_map (record shown { maps = map (robbed q) shown.maps }) j) map_here) in
       let pages = grows.pages in
       let usage = grows.usage in
@@ -261,8 +275,11 @@ module _ (s : Store) (x : NumberedFile) (j i q : ℕ) (jl : j < length x.maps) (
 
 -- ---- as code leaves it: x is what it read, and y what it left there
 
-module _ (n : Noted) (s t : Store) (more now maps : ℕ) (tally : ℕ → ℕ) (fs : List NumberedFile) (is : IsFiles n s more maps tally fs) (k j i : ℕ) (l : k < length (files_shown s fs)) (jl : j < length (file_at (files_shown s fs) k).maps) (x y : NumberedFile) (read : x ≡ slice_index_or fs k x)
-    (y_is : (q : ℕ) → copy_of (place_at (mapping_at x j) i) ≡ Some q → y ≡ with_taken_back q j i x) (d : IsDropping (λ r. in_file r x) (λ r. in_file r y) s t) (counted : now ≡ more_in t.pages) (copy : Copy) (there : copy_of (place_at (map_at (files_shown s fs) k j) i) ≡ Some copy) where
+module _ (n : Noted) (s t : Store) (more now maps : ℕ) (tally : ℕ → ℕ) (fs : List NumberedFile) (is : IsFiles n s more maps tally fs) (k j i : ℕ)
+    (l : k < length (files_shown s fs)) (jl : j < length (file_at (files_shown s fs) k).maps) (x y : NumberedFile) (read : x ≡ slice_index_or fs k x)
+    (y_is : (q : ℕ) → copy_of (place_at (mapping_at x j) i) ≡ Some q → y ≡ with_taken_back q j i x)
+    (d : IsDropping (λ r. in_file r x) (λ r. in_file r y) s t) (counted : now ≡ more_in t.pages) (copy : Copy)
+    (there : copy_of (place_at (map_at (files_shown s fs) k j) i) ≡ Some copy) where
   found : (q : ℕ) × (copy_of (place_at (mapping_at x j) i) ≡ Some q)
   found = number_there s more fs is.held k j i l jl x read copy there
 
@@ -290,7 +307,8 @@ module _ (n : Noted) (s t : Store) (more now maps : ℕ) (tally : ℕ → ℕ) (
       given_shows s t more now fs is.held k within x y (read_is fs k x within read) d counted cells
       ∙ ap (slice_set (files_shown s fs) k) (ap (file_shown s) left ∙ back_shown s x j i found.0 jl_x found.1 (level_read fs k x within read is.level)
       ∙ ap (λ (f : File). with_map (record f { maps = map (robbed found.0) f.maps }) j (slice_index_or f.maps j no_map)) (sym (file_read s fs k l x read)))
-      ∙ ap (λ r. taken_back_at k j r (files_shown s fs)) (sym (stamp_there s more fs is.held k j i l jl x read (mapping_at x j) (map_reads s more fs is.held k j i l jl x read) found.0 found.1 copy there))
+      ∙ ap (λ r. taken_back_at k j r (files_shown s fs)) (sym (stamp_there s more fs is.held k j i l jl x read (mapping_at x j)
+      (map_reads s more fs is.held k j i l jl x read) found.0 found.1 copy there))
 
   pub back_left : IsLeft 0 (view s more fs) (view t now (slice_set fs k y))
   back_left = leaves n s t more now maps tally fs is k l x y read d counted label cells 0
@@ -324,6 +342,7 @@ module _ (n : Noted) (s t : Store) (more now maps : ℕ) (tally : ℕ → ℕ) (
       let cells = ap (λ (f : NumberedFile). sum_by (in_cell q) f.cells) (read_is fs k x within read) in
       let none = no_cells s more fs is.held k j i l jl x read (mapping_at x j) (map_reads s more fs is.held k j i l jl x read) q found.1 in
       let wide = ap (λ (f : NumberedFile). length f.maps) left ∙ length-set (map rob x.maps) j (mapping_at x j) in
-      let here = ap (λ (f : NumberedFile). copy_of (place_at (mapping_at f j) i)) left ∙ ap (λ (m : Mapping ℕ). copy_of (place_at m i)) (get_or-set_same (map rob x.maps) j (mapping_at x j) no_mapping jr) ∙ found.1 in
+      let here = ap (λ (f : NumberedFile). copy_of (place_at (mapping_at f j) i)) left
+      ∙ ap (λ (m : Mapping ℕ). copy_of (place_at m i)) (get_or-set_same (map rob x.maps) j (mapping_at x j) no_mapping jr) ∙ found.1 in
       once_left t now fs k j i y q back_keeps.held within (omega (arith, wide, jr)) here
       (omega (arith, others, step, few, one, had, went, same, x_there, all, cells, none))

@@ -1,5 +1,6 @@
 -- How many maps each task has, by what files are called, and how many tasks there are.
-use Rattle.std.proofs.Common.{◌≡◌, ◌≢◌, ℕ, zero, suc, ◌+◌, ◌-◌, ◌<◌, ◌==◌, ◌||◌, nat_eq, nat_lt, Bool, true, false, not, cond, List, [], ◌∷◌, length, map, Option, None, Some, is_some, slice_get, refl, sym, ap, ◌∙◌, arith}
+use Rattle.std.proofs.Common.{◌≡◌, ◌≢◌, ℕ, zero, suc, ◌+◌, ◌-◌, ◌<◌, ◌==◌, ◌||◌, nat_eq, nat_lt, Bool, true, false, not}
+use Rattle.std.proofs.Common.{cond, List, [], ◌∷◌, length, map, Option, None, Some, is_some, slice_get, refl, sym, ap, ◌∙◌, arith}
 use Rattle.std.specs.List.{All, AllByRecursion, IsDistinct, count_by, filter, flat_map, sum_by}
 use Rattle.std.specs.Map.{keys_of, lookup, lookup_key}
 use Rattle.std.specs.Option.{unwrap_or}
@@ -31,7 +32,8 @@ own_maps task f = count_map (λ (k : ℕ × ℕ). k.0 == task) key_of f.maps
 
 pub maps_labelled : (task : ℕ) (fs : List NumberedFile) → sum_by (maps_for task) (labels_of fs) ≡ sum_by (maps_of task) fs
 maps_labelled task [] = refl
-maps_labelled task (f ∷ fs) = (let here = own_maps task f in let rest = maps_labelled task fs in omega (arith, here, rest, sum_by-cons (maps_for task) (label_of f) (labels_of fs), sum_by-cons (maps_of task) f fs))
+maps_labelled task (f ∷ fs) = (let here = own_maps task f in let rest = maps_labelled task fs in
+    omega (arith, here, rest, sum_by-cons (maps_for task) (label_of f) (labels_of fs), sum_by-cons (maps_of task) f fs))
 
 -- files whose maps are none of the task's stay as they are when its maps go
 pub none_leave : (task : ℕ) (fs : List NumberedFile) → sum_by (maps_for task) (labels_of fs) ≡ 0 → All (λ (l : Label). is_listed l ≡ true) (labels_of fs) → map (λ f. emptied (left_by task f)) fs ≡ fs
@@ -48,7 +50,9 @@ none_leave task (f ∷ fs) none all =
     others_all [] e = refl
     others_all (m ∷ ms) e = at (is_of task m) refl (count_cons (is_of task) m ms) (others_all ms)
       where
-        at : (b : Bool) → is_of task m ≡ b → count_by (is_of task) (m ∷ ms) ≡ cond {A = ℕ} (is_of task m) 1 0 + count_by (is_of task) ms → (count_by (is_of task) ms ≡ 0 → filter (λ m. not (is_of task m)) ms ≡ ms) → cond (not b) (m ∷ filter (λ m. not (is_of task m)) ms) (filter (λ m. not (is_of task m)) ms) ≡ m ∷ ms
+        at : (b : Bool) → is_of task m ≡ b → count_by (is_of task) (m ∷ ms) ≡ cond {A = ℕ} (is_of task m) 1 0 + count_by (is_of task) ms →
+            (count_by (is_of task) ms ≡ 0 → filter (λ m. not (is_of task m)) ms ≡ ms) →
+            cond (not b) (m ∷ filter (λ m. not (is_of task m)) ms) (filter (λ m. not (is_of task m)) ms) ≡ m ∷ ms
         at true is step rest = (let one = ap (λ b. cond {A = ℕ} b 1 0 + 0) is in absurd (omega (arith, one, step, e)))
         at false is step rest = ap (λ qs. m ∷ qs) (rest (omega (arith, step, e)))
 
@@ -64,7 +68,8 @@ tasks_tallied task (l ∷ ls) =
     omega (arith, here, both, rest, sum_by-cons (maps_for task) l ls)
 
 -- one more fits
-pub tally_few : (task : ℕ) (n : Noted) (s : Store) (more maps : ℕ) (tally : ℕ → ℕ) (fs : List NumberedFile) → IsFiles n s more maps tally fs → length (all_maps (files_shown s fs)) < 4096 → tally task < 4096
+pub tally_few : (task : ℕ) (n : Noted) (s : Store) (more maps : ℕ) (tally : ℕ → ℕ) (fs : List NumberedFile) → IsFiles n s more maps tally fs →
+    length (all_maps (files_shown s fs)) < 4096 → tally task < 4096
 tally_few task n s more maps tally fs is few =
     let count = is.keyed.tallied task ∙ maps_tallied task s fs in
     let most = count_by-le-length (is_of task) (all_maps (files_shown s fs)) in
@@ -79,7 +84,8 @@ pub among_count : (q : ℕ) (xs : List ℕ) → is_among q xs ≡ nat_lt 0 (coun
 among_count q [] = refl
 among_count q (x ∷ xs) = at (x == q) refl (count_cons (λ x. x == q) x xs) (among_count q xs)
   where
-    at : (b : Bool) → (x == q) ≡ b → count_by (λ x. x == q) (x ∷ xs) ≡ cond (x == q) 1 0 + count_by (λ x. x == q) xs → is_among q xs ≡ nat_lt 0 (count_by (λ x. x == q) xs) → ((x == q) || is_among q xs) ≡ nat_lt 0 (count_by (λ x. x == q) (x ∷ xs))
+    at : (b : Bool) → (x == q) ≡ b → count_by (λ x. x == q) (x ∷ xs) ≡ cond (x == q) 1 0 + count_by (λ x. x == q) xs →
+        is_among q xs ≡ nat_lt 0 (count_by (λ x. x == q) xs) → ((x == q) || is_among q xs) ≡ nat_lt 0 (count_by (λ x. x == q) (x ∷ xs))
     at true e step rest = ap (λ b. b || is_among q xs) e ∙ sym (positive (count_by (λ x. x == q) (x ∷ xs)) (let here = ap (λ b. cond {A = ℕ} b 1 0 + 0) e in omega (arith, step, here)))
     at false e step rest = ap (λ b. b || is_among q xs) e ∙ rest ∙ ap (λ n. nat_lt 0 n) (let here = ap (λ b. cond {A = ℕ} b 1 0 + 0) e in omega (arith, step, here))
 
@@ -117,7 +123,8 @@ once (x ∷ xs) d =
     ap (λ b. length (cond b (distinct xs) (x ∷ distinct xs))) (not_found x xs (IsDistinct-head nat_eq x xs d))
     ∙ (let rest = once xs (IsDistinct-tail nat_eq x xs d) in omega (arith, rest))
 
-pub tasks_once : (es : List (ℕ × ℕ)) (tasks : List ℕ) → IsDistinct nat_eq (keys_of es) → ((q : ℕ) → lookup (nat_eq q) es ≢ Some 0) → ((q : ℕ) → unwrap_or (lookup (nat_eq q) es) 0 ≡ count_by (λ t. t == q) tasks) → length es ≡ length (distinct tasks)
+pub tasks_once : (es : List (ℕ × ℕ)) (tasks : List ℕ) → IsDistinct nat_eq (keys_of es) → ((q : ℕ) → lookup (nat_eq q) es ≢ Some 0) →
+    ((q : ℕ) → unwrap_or (lookup (nat_eq q) es) 0 ≡ count_by (λ t. t == q) tasks) → length es ≡ length (distinct tasks)
 tasks_once es tasks distinct_keys some counts =
     sym (length-map es (λ (e : ℕ × ℕ). e.0)) ∙ sym (once (keys_of es) distinct_keys)
     ∙ same_members (keys_of es) tasks (λ q. key_found q es ∙ counted (lookup (nat_eq q) es) (some q) ∙ ap (λ n. nat_lt 0 n) (counts q) ∙ sym (among_count q tasks))
@@ -132,7 +139,8 @@ pub entry_found : {X : Type 0} (q : ℕ) (es : List (ℕ × X)) (i key : ℕ) (x
 entry_found q es i key x is at = at ∙ ap (λ k. Some (k, x)) (sym (lookup_key_same Decides-eqb q es key (sym is)))
 
 -- the entry of one task changes, or goes, so that it counts one less
-pub one_fewer : (task count : ℕ) (left : Option ℕ) (old new : ℕ → Option ℕ) → old task ≡ Some count → unwrap_or left 0 ≡ count - 1 → ((q : ℕ) → new q ≡ cond (task == q) left (old q)) → (q : ℕ) → unwrap_or (new q) 0 ≡ unwrap_or (old q) 0 - cond (task == q) 1 0
+pub one_fewer : (task count : ℕ) (left : Option ℕ) (old new : ℕ → Option ℕ) → old task ≡ Some count → unwrap_or left 0 ≡ count - 1 →
+    ((q : ℕ) → new q ≡ cond (task == q) left (old q)) → (q : ℕ) → unwrap_or (new q) 0 ≡ unwrap_or (old q) 0 - cond (task == q) 1 0
 one_fewer task count left old new had less set q = ap (λ o. unwrap_or o 0) (set q) ∙ at (task == q) refl
   where
     at : (b : Bool) → (task == q) ≡ b → unwrap_or (cond b left (old q)) 0 ≡ unwrap_or (old q) 0 - cond b 1 0

@@ -46,13 +46,16 @@ module _ {X : Type 0} (test : X → Bool) where
       let step = count_cons test x xs in
       let rest = some_pass xs k d (omega (arith, l)) e in
       let first : test x ≡ false = fails (test x) (omega (arith, step, rest, most)) in
-      ap (λ b. cond {A = ℕ} (not b) (1 + position_or_len test xs) 0) first ∙ (let place = alone_at xs k d (omega (arith, step, most)) (omega (arith, l)) e in let next : 1 + position_or_len test xs ≡ suc k = omega (arith, place) in next)
+      ap (λ b. cond {A = ℕ} (not b) (1 + position_or_len test xs) 0) first ∙ (let place =
+      alone_at xs k d (omega (arith, step, most)) (omega (arith, l)) e in let next : 1 + position_or_len test xs ≡ suc k = omega (arith, place) in
+      next)
 
   pub any_counts : (xs : List X) → cond {A = ℕ} (list_any test xs) 1 0 ≤ count_by test xs
   any_counts [] = omega arith
   any_counts (x ∷ xs) = (let step = count_cons test x xs in let rest = any_counts xs in either (test x) step rest)
     where
-      either : (b : Bool) → count_by test (x ∷ xs) ≡ cond {A = ℕ} b 1 0 + count_by test xs → cond {A = ℕ} (list_any test xs) 1 0 ≤ count_by test xs → cond {A = ℕ} (b || list_any test xs) 1 0 ≤ count_by test (x ∷ xs)
+      either : (b : Bool) → count_by test (x ∷ xs) ≡ cond {A = ℕ} b 1 0 + count_by test xs → cond {A = ℕ} (list_any test xs) 1 0 ≤ count_by test xs →
+          cond {A = ℕ} (b || list_any test xs) 1 0 ≤ count_by test (x ∷ xs)
       either true step rest = omega (arith, step)
       either false step rest = omega (arith, step, rest)
 
@@ -73,7 +76,8 @@ module _ {X : Type 0} (test : X → Bool) where
       rest_none None e = refl
       rest_none (Some q) e = cc
 
-      either : (b : Bool) → (found test xs ≡ None → count_by test xs ≡ 0) → count_by test (x ∷ xs) ≡ cond {A = ℕ} b 1 0 + count_by test xs → cond b (Some (0, x)) (option_map one_on (found test xs)) ≡ None → count_by test (x ∷ xs) ≡ 0
+      either : (b : Bool) → (found test xs ≡ None → count_by test xs ≡ 0) → count_by test (x ∷ xs) ≡ cond {A = ℕ} b 1 0 + count_by test xs →
+          cond b (Some (0, x)) (option_map one_on (found test xs)) ≡ None → count_by test (x ∷ xs) ≡ 0
       either true none step e = cc
       either false none step e = (let rest = none (rest_none (found test xs) e) in omega (arith, step, rest))
 
@@ -98,7 +102,8 @@ named_shown s name f = either f.name
 
 pub names_counted : (s : Store) (name : List ℕ) (fs : List NumberedFile) → count_by (has_name name) (files_shown s fs) ≡ count_by (has_label name) (labels_of fs)
 names_counted s name fs =
-    count_map (has_name name) (file_shown s) fs ∙ count_alike (λ f. has_name name (file_shown s f)) (λ f. has_label name (label_of f)) (named_shown s name) fs ∙ sym (count_map (has_label name) label_of fs)
+    count_map (has_name name) (file_shown s) fs ∙ count_alike (λ f. has_name name (file_shown s f)) (λ f. has_label name (label_of f))
+    (named_shown s name) fs ∙ sym (count_map (has_label name) label_of fs)
 
 module _ (s : Store) (maps : ℕ) (tally : ℕ → ℕ) (fs : List NumberedFile) (keyed : IsKeyed maps tally (labels_of fs)) where
   pub named_here : (name : List ℕ) (k : ℕ) (x : NumberedFile) → k < length fs → x ≡ slice_index_or fs k x → is_name_of name x.name ≡ true → IsNamed (files_shown s fs) name k
@@ -147,14 +152,16 @@ module _ (s : Store) (maps : ℕ) (tally : ℕ → ℕ) (fs : List NumberedFile)
         let rest = holders fs in
         omega (arith, left, right, one, same, rest)
 
-    pub map_here : (k j : ℕ) (x : NumberedFile) → k < length fs → x ≡ slice_index_or fs k x → j < length x.maps → is_map task number (mapping_at x j) ≡ true → IsFound (files_shown s fs) task number k j
+    pub map_here : (k j : ℕ) (x : NumberedFile) → k < length fs → x ≡ slice_index_or fs k x → j < length x.maps →
+        is_map task number (mapping_at x j) ≡ true → IsFound (files_shown s fs) task number k j
     unfolding count
     map_here k j x l read jl is =
         let long = length-map fs (file_shown s) in
         let inside : k < length (files_shown s fs) = omega (arith, l, long) in
         let at : x ≡ numbered_at fs k = read_is fs k x l read in
         let seen : file_at (files_shown s fs) k ≡ file_shown s x = file_is s fs k l ∙ ap (file_shown s) (sym at) in
-        let has : has_it task number (file_at (files_shown s fs) k) ≡ true = ap (has_it task number) seen ∙ any_shown (map_shown s) test (is_map task number) (λ m. refl) x.maps ∙ any_at test x.maps j no_mapping jl is in
+        let has : has_it task number (file_at (files_shown s fs) k) ≡ true = ap (has_it task number) seen
+        ∙ any_shown (map_shown s) test (is_map task number) (λ m. refl) x.maps ∙ any_at test x.maps j no_mapping jl is in
         let most = few in
         let all = holders fs in
         let place : position_or_len (has_it task number) (files_shown s fs) ≡ k = alone_at (has_it task number) (files_shown s fs) k (new_file None) (omega (arith, most, all)) inside has in

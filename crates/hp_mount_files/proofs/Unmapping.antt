@@ -1,5 +1,6 @@
 -- Indices of one map leave it, and the map goes with its last one.
-use Rattle.std.proofs.Common.{◌≡◌, ◌≢◌, ℕ, zero, suc, ◌+◌, ◌-◌, ◌<◌, ◌≤◌, ◌^◌, ◌==◌, ◌||◌, nat_lt, Bool, true, false, not, cond, Option, None, Some, List, [], ◌∷◌, length, map, refl, sym, ap, subst, ◌∙◌, arith}
+use Rattle.std.proofs.Common.{◌≡◌, ◌≢◌, ℕ, zero, suc, ◌+◌, ◌-◌, ◌<◌, ◌≤◌, ◌^◌, ◌==◌, ◌||◌, nat_lt, Bool, true, false}
+use Rattle.std.proofs.Common.{not, cond, Option, None, Some, List, [], ◌∷◌, length, map, refl, sym, ap, subst, ◌∙◌, arith}
 use Rattle.std.specs.Prelude.{is_some, slice_index_or, slice_set}
 use Rattle.std.specs.List.{count_by, filter, list_any, remove, sum_by}
 use Rattle.std.specs.Option.{option_map}
@@ -50,7 +51,9 @@ map_id : {X : Type 0} (xs : List X) → map (λ x. x) xs ≡ xs
 map_id [] = refl
 map_id (x ∷ xs) = ap (λ ys. x ∷ ys) (map_id xs)
 
-filter_at : {X : Type 0} (test : X → Bool) (d : X) (xs : List X) (k : ℕ) (y : X) → k < length xs → ((i : ℕ) → i < length xs → i ≢ k → test (slice_index_or xs i d) ≡ true) → filter test (slice_set xs k y) ≡ cond (test y) (slice_set xs k y) (remove xs k)
+filter_at : {X : Type 0} (test : X → Bool) (d : X) (xs : List X) (k : ℕ) (y : X) → k < length xs →
+    ((i : ℕ) → i < length xs → i ≢ k → test (slice_index_or xs i d) ≡ true) →
+    filter test (slice_set xs k y) ≡ cond (test y) (slice_set xs k y) (remove xs k)
 filter_at test d [] k y l each = absurd (omega (arith, l))
 filter_at test d (x ∷ xs) zero y l each = ap (λ ys. cond (test y) (y ∷ ys) ys) (all xs (λ i below. each (suc i) (omega (arith, below)) (λ e. omega (arith, e))))
   where
@@ -67,7 +70,8 @@ filter_at test d (x ∷ xs) (suc k) y l each =
     either false = refl
 
 -- no other passes
-others_fail : {X : Type 0} (test : X → Bool) (xs : List X) (k i : ℕ) (d : X) → count_by test xs ≤ 1 → k < length xs → test (slice_index_or xs k d) ≡ true → i < length xs → i ≢ k → test (slice_index_or xs i d) ≡ false
+others_fail : {X : Type 0} (test : X → Bool) (xs : List X) (k i : ℕ) (d : X) → count_by test xs ≤ 1 → k < length xs →
+    test (slice_index_or xs k d) ≡ true → i < length xs → i ≢ k → test (slice_index_or xs i d) ≡ false
 others_fail test xs k i d few l is li apart = by (test (slice_index_or xs i d)) refl
   where
     by : (b : Bool) → test (slice_index_or xs i d) ≡ b → test (slice_index_or xs i d) ≡ false
@@ -158,9 +162,21 @@ module _ (task number a b : ℕ) where
   rest_shown s [] = refl
   rest_shown s (m ∷ ms) = at (stays task number (cut m)) (ap (is_left (is_map task number)) (sym (cut_shown s m)) ∙ stays_shown s (cut m)) (rest_shown s ms)
     where
-      at : (t : Bool) → is_left (is_map task number) (map_unmapped (is_map task number) a b (map_shown s m)) ≡ t → map (map_shown s) (rest_of ms) ≡ (filter (is_left (is_map task number)) (map (map_unmapped (is_map task number) a b) (map (map_shown s) ms))) → map (map_shown s) (cond t (cut m ∷ rest_of ms) (rest_of ms)) ≡ cond (is_left (is_map task number) (map_unmapped (is_map task number) a b (map_shown s m))) ((map_unmapped (is_map task number) a b (map_shown s m)) ∷ (filter (is_left (is_map task number)) (map (map_unmapped (is_map task number) a b) (map (map_shown s) ms)))) (filter (is_left (is_map task number)) (map (map_unmapped (is_map task number) a b) (map (map_shown s) ms)))
-      at true e rest = ap (λ x. x ∷ map (map_shown s) (rest_of ms)) (cut_shown s m) ∙ ap (λ xs. (map_unmapped (is_map task number) a b (map_shown s m)) ∷ xs) rest ∙ sym (ap (λ t. cond t ((map_unmapped (is_map task number) a b (map_shown s m)) ∷ (filter (is_left (is_map task number)) (map (map_unmapped (is_map task number) a b) (map (map_shown s) ms)))) (filter (is_left (is_map task number)) (map (map_unmapped (is_map task number) a b) (map (map_shown s) ms)))) e)
-      at false e rest = rest ∙ sym (ap (λ t. cond t ((map_unmapped (is_map task number) a b (map_shown s m)) ∷ (filter (is_left (is_map task number)) (map (map_unmapped (is_map task number) a b) (map (map_shown s) ms)))) (filter (is_left (is_map task number)) (map (map_unmapped (is_map task number) a b) (map (map_shown s) ms)))) e)
+      at : (t : Bool) → is_left (is_map task number) (map_unmapped (is_map task number) a b (map_shown s m)) ≡ t →
+          map (map_shown s) (rest_of ms) ≡ (filter (is_left (is_map task number))
+          (map (map_unmapped (is_map task number) a b) (map (map_shown s) ms))) →
+          map (map_shown s) (cond t (cut m ∷ rest_of ms) (rest_of ms)) ≡ cond (is_left (is_map task number)
+          (map_unmapped (is_map task number) a b (map_shown s m))) ((map_unmapped (is_map task number) a b (map_shown s m))
+          ∷ (filter (is_left (is_map task number)) (map (map_unmapped (is_map task number) a b) (map (map_shown s) ms))))
+          (filter (is_left (is_map task number)) (map (map_unmapped (is_map task number) a b) (map (map_shown s) ms)))
+      at true e rest = ap (λ x. x ∷ map (map_shown s) (rest_of ms)) (cut_shown s m)
+          ∙ ap (λ xs. (map_unmapped (is_map task number) a b (map_shown s m)) ∷ xs) rest
+          ∙ sym (ap (λ t. cond t ((map_unmapped (is_map task number) a b (map_shown s m))
+          ∷ (filter (is_left (is_map task number)) (map (map_unmapped (is_map task number) a b) (map (map_shown s) ms))))
+          (filter (is_left (is_map task number)) (map (map_unmapped (is_map task number) a b) (map (map_shown s) ms)))) e)
+      at false e rest = rest ∙ sym (ap (λ t. cond t ((map_unmapped (is_map task number) a b (map_shown s m))
+          ∷ (filter (is_left (is_map task number)) (map (map_unmapped (is_map task number) a b) (map (map_shown s) ms))))
+          (filter (is_left (is_map task number)) (map (map_unmapped (is_map task number) a b) (map (map_shown s) ms)))) e)
 
   pub left_shown : (s : Store) (f : NumberedFile) → file_shown s (left_from task number a b f) ≡ file_unmapped (is_map task number) a b (file_shown s f)
   left_shown s f = ap (λ ms. record (file_shown s f) { maps = ms }) (rest_shown s f.maps)
@@ -184,7 +200,9 @@ module _ (task number a b : ℕ) where
 
 -- ---- as code leaves the files: x is the file that it read, y what it left there once indices of the map went, and the map with its last one
 
-module _ (n later : Noted) (s t : Store) (more now maps : ℕ) (tally : ℕ → ℕ) (fs : List NumberedFile) (is : IsFiles n s more maps tally fs) (task number a b : ℕ) (k j : ℕ) (there : IsFound (files_shown s fs) task number k j) (x y : NumberedFile) (read : x ≡ slice_index_or fs k x) (y_is : y ≡ left_at j a b x)
+module _ (n later : Noted) (s t : Store) (more now maps : ℕ) (tally : ℕ → ℕ) (fs : List NumberedFile) (is : IsFiles n s more maps tally fs)
+    (task number a b : ℕ) (k j : ℕ) (there : IsFound (files_shown s fs) task number k j) (x y : NumberedFile) (read : x ≡ slice_index_or fs k x)
+    (y_is : y ≡ left_at j a b x)
     (drops : IsDropping (λ m. in_file m x) (λ m. in_file m y) s t) (r : ℕ) (reserves : r + file_owed y ≡ file_owed x) where
   g : NumberedFile → NumberedFile
   g = left_from task number a b
@@ -261,7 +279,9 @@ module _ (n later : Noted) (s t : Store) (more now maps : ℕ) (tally : ℕ → 
   g_is =
       let own : stays task number z ≡ is_mapped z = ap (λ t. is_mapped z || not t) m_is ∙ either (is_mapped z) in
       ap (λ ms. record x { maps = ms }) (ap (filter (stays task number)) maps_cut
-      ∙ filter_at (stays task number) no_mapping x.maps j z jl (λ i li apart. ap (λ t. is_mapped (mapping_at x i) || not t) (others_fail (is_map task number) x.maps j i no_mapping (let one = one_map in omega (arith, one)) jl m_is li apart) ∙ whole (is_mapped (mapping_at x i)))
+      ∙ filter_at (stays task number) no_mapping x.maps j z jl (λ i li apart. ap (λ t. is_mapped (mapping_at x i) || not t)
+      (others_fail (is_map task number) x.maps j i no_mapping (let one = one_map in omega (arith, one)) jl m_is li apart)
+      ∙ whole (is_mapped (mapping_at x i)))
       ∙ ap (λ t. cond t (slice_set x.maps j z) (remove x.maps j)) own)
     where
       either : (t : Bool) → (t || false) ≡ t
@@ -328,7 +348,8 @@ module _ (n later : Noted) (s t : Store) (more now maps : ℕ) (tally : ℕ → 
     stays_keeps =
         let same = sym (labels_stay fs k x y read same_keys) in
         left_keeps n s t more now maps tally fs hs is g hs_is dropping counted (λ f. refl) (less task number a b) (λ f. refl) (keys_fewer task number a b) (left_level task number a b) n maps tally
-        (subst (AreNoted n) same is.noted) (subst (λ ls. maps ≡ sum_by (λ (q : Label). length q.keys) ls) same is.keyed.map_count) (λ q. subst (λ ls. tally q ≡ sum_by (maps_for q) ls) same (is.keyed.tallied q))
+        (subst (AreNoted n) same is.noted) (subst (λ ls. maps ≡ sum_by (λ (q : Label). length q.keys) ls) same is.keyed.map_count)
+        (λ q. subst (λ ls. tally q ≡ sum_by (maps_for q) ls) same (is.keyed.tallied q))
 
   -- ---- no index is left: u is the store, and hs are the files, once the file went if nothing is left of it
 
@@ -358,7 +379,9 @@ module _ (n later : Noted) (s t : Store) (more now maps : ℕ) (tally : ℕ → 
     pub some_maps : 1 ≤ maps
     some_maps = (let left = fewer_maps in let all = is.keyed.map_count in let same = maps_in fs in omega (arith, left, all, same))
 
-    module _ (u : Store) (last : ℕ) (hs : List NumberedFile) (hs_from : hs ≡ swept_at k gs) (after : IsDropping (λ i. in_files i gs) (λ i. in_files i hs) t u) (counted : last ≡ more_in u.pages) (e : ℕ) (entries : e + sum_by file_owed hs ≡ sum_by file_owed gs)
+    module _ (u : Store) (last : ℕ) (hs : List NumberedFile) (hs_from : hs ≡ swept_at k gs)
+        (after : IsDropping (λ i. in_files i gs) (λ i. in_files i hs) t u) (counted : last ≡ more_in u.pages) (e : ℕ)
+        (entries : e + sum_by file_owed hs ≡ sum_by file_owed gs)
         (small : sum_by file_owed fs < 2 ^ 64) where
       went_is : hs ≡ filter is_used (map g fs)
       went_is =
@@ -377,7 +400,8 @@ module _ (n later : Noted) (s t : Store) (more now maps : ℕ) (tally : ℕ → 
 
       pub went_files : files_shown u hs ≡ filter is_kept (map (file_unmapped (is_map task number) a b) (files_shown s fs))
       unfolding g
-      went_files = left_shows n s u more last maps tally fs hs is g went_is went_dropping counted (λ f. refl) (less task number a b) (file_unmapped (is_map task number) a b) (left_shown task number a b s)
+      went_files = left_shows n s u more last maps tally fs hs is g went_is went_dropping counted (λ f. refl) (less task number a b)
+          (file_unmapped (is_map task number) a b) (left_shown task number a b s)
 
       pub went_left : IsLeft (r + e) (view s more fs) (view u last hs)
       unfolding g
@@ -441,8 +465,10 @@ module _ (n later : Noted) (s t : Store) (more now maps : ℕ) (tally : ℕ → 
       pub went_keeps : IsMoreButMap task number n later → (next : ℕ → ℕ) → ((q : ℕ) → next q ≡ tally q - cond (task == q) 1 0) → IsFiles later u last (maps - 1) next hs
       unfolding g
       went_keeps grown next next_is =
-          left_keeps n s u more last maps tally fs hs is g went_is went_dropping counted (λ f. refl) (less task number a b) (λ f. refl) (keys_fewer task number a b) (left_level task number a b) later (maps - 1) next
-          (left_noted n s u more last maps tally fs hs is g went_is went_dropping counted (λ f. refl) (less task number a b) (λ f. refl) (keys_fewer task number a b) later grown.names (λ q i e. at q i e (is_pair q i (task, number)) refl))
+          left_keeps n s u more last maps tally fs hs is g went_is went_dropping counted (λ f. refl) (less task number a b) (λ f. refl)
+          (keys_fewer task number a b) (left_level task number a b) later (maps - 1) next
+          (left_noted n s u more last maps tally fs hs is g went_is went_dropping counted (λ f. refl) (less task number a b) (λ f. refl)
+          (keys_fewer task number a b) later grown.names (λ q i e. at q i e (is_pair q i (task, number)) refl))
           maps_left (λ q. (let left = tally_left q in let is = next_is q in omega (arith, left, is)))
         where
           at : (q i : ℕ) → has_key q i later ≡ false → (c : Bool) → is_pair q i (task, number) ≡ c → sum_by (keys_in q i) (labels_of hs) ≡ 0

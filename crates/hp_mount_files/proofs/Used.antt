@@ -1,5 +1,6 @@
 -- The least number that is not used, and which numbers a task's maps have.
-use Rattle.std.proofs.Common.{◌≡◌, ℕ, ◌+◌, ◌-◌, ◌<◌, ◌≤◌, ◌==◌, ◌&&◌, ◌||◌, ⊎_elim, subst, Bool, true, false, not, cond, Option, None, Some, List, [], ◌∷◌, ◌++◌, length, map, refl, sym, ap, ◌∙◌, arith}
+use Rattle.std.proofs.Common.{◌≡◌, ℕ, ◌+◌, ◌-◌, ◌<◌, ◌≤◌, ◌==◌, ◌&&◌, ◌||◌, ⊎_elim, subst, Bool, true, false, not}
+use Rattle.std.proofs.Common.{cond, Option, None, Some, List, [], ◌∷◌, ◌++◌, length, map, refl, sym, ap, ◌∙◌, arith}
 use Rattle.std.specs.Prelude.{is_some, IfNone, IfSome}
 use Rattle.std.specs.List.{filter, list_any, position_or_len, range_with_len}
 use Rattle.std.specs.Option.{option_map}
@@ -124,7 +125,8 @@ used_if_found fs task number limits = by_found (found (has_it task number) fs) r
 no_limits : Limits
 no_limits = record { max = None; min = 0; inodes = None }
 
-pub used_is : (fs : List File) (task number : ℕ) (r : Option MapPlace) → IfSome r (λ at. IsFound fs task number at.file at.map) → IfNone r (IsMissing fs task number) → is_some r ≡ is_among number (numbers_of task (all_maps fs))
+pub used_is : (fs : List File) (task number : ℕ) (r : Option MapPlace) → IfSome r (λ at. IsFound fs task number at.file at.map) →
+    IfNone r (IsMissing fs task number) → is_some r ≡ is_among number (numbers_of task (all_maps fs))
 used_is fs task number None found missing = sym (ap is_some (missing no_limits)) ∙ used_if_found fs task number no_limits
 used_is fs task number (Some at) found missing = sym (ap is_some (found.is no_limits)) ∙ used_if_found fs task number no_limits
 

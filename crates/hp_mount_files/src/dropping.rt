@@ -45,7 +45,8 @@ pub(crate) fn drop_pages<N: Naming>(
     requires some { HasHolders store.old }
     requires counted { more.old ≡ more_in store.old.pages }
     ensures cells { inode.new ≡ edit_range cell_punched a b inode.old }
-    ensures dropping { IsDropping (λ n. sum_by (in_cell n) inode.old) (λ n. sum_by (in_cell n) inode.new)
+    ensures dropping { IsDropping (λ n. sum_by (in_cell n) inode.old)
+        (λ n. sum_by (in_cell n) inode.new)
         store.old store.new }
     ensures counted { more.new ≡ more_in store.new.pages }
 {
@@ -119,7 +120,8 @@ pub(crate) fn drop_copies<N: Naming>(
     requires some { HasHolders store.old }
     requires counted { more.old ≡ more_in store.old.pages }
     ensures map { map.new ≡ map_punched a b map.old }
-    ensures dropping { IsDropping (λ n. in_map n map.old) (λ n. in_map n map.new) store.old store.new }
+    ensures dropping { IsDropping (λ n. in_map n map.old) (λ n. in_map n map.new) store.old
+        store.new }
     ensures counted { more.new ≡ more_in store.new.pages }
 {
     while let Some(number) = map.take_copy(a, b) {
@@ -139,7 +141,8 @@ pub(crate) fn drop_all_copies<N: Naming>(
     requires some { HasHolders store.old }
     requires counted { more.old ≡ more_in store.old.pages }
     ensures maps { maps.new ≡ map (map_punched a b) maps.old }
-    ensures dropping { IsDropping (λ n. sum_by (in_map n) maps.old) (λ n. sum_by (in_map n) maps.new)
+    ensures dropping { IsDropping (λ n. sum_by (in_map n) maps.old)
+        (λ n. sum_by (in_map n) maps.new)
         store.old store.new }
     ensures counted { more.new ≡ more_in store.new.pages }
 {
@@ -160,7 +163,8 @@ fn take_from<N: Naming>(
     requires some { HasHolders store.old }
     requires counted { more.old ≡ more_in store.old.pages }
     ensures map { map.new ≡ robbed_at number index map.old }
-    ensures dropping { IsDropping (λ n. in_map n map.old) (λ n. in_map n map.new) store.old store.new }
+    ensures dropping { IsDropping (λ n. in_map n map.old) (λ n. in_map n map.new) store.old
+        store.new }
     ensures counted { more.new ≡ more_in store.new.pages }
 {
     if map.copy_at(index) != Some(number) {
@@ -185,7 +189,8 @@ pub(crate) fn take_from_others<N: Naming>(
     requires counted { more.old ≡ more_in store.old.pages }
     ensures maps { maps.new ≡ slice_set (map (robbed_at number index) maps.old) keeper
         (slice_index_or maps.old keeper no_mapping) }
-    ensures dropping { IsDropping (λ n. sum_by (in_map n) maps.old) (λ n. sum_by (in_map n) maps.new)
+    ensures dropping { IsDropping (λ n. sum_by (in_map n) maps.old)
+        (λ n. sum_by (in_map n) maps.new)
         store.old store.new }
     ensures counted { more.new ≡ more_in store.new.pages }
 {
@@ -211,7 +216,8 @@ pub(crate) fn leave_range<N: Naming>(
     requires some { HasHolders store.old }
     requires counted { more.old ≡ more_in store.old.pages }
     ensures map { map.new ≡ without_range a b map.old }
-    ensures dropping { IsDropping (λ n. in_map n map.old) (λ n. in_map n map.new) store.old store.new }
+    ensures dropping { IsDropping (λ n. in_map n map.old) (λ n. in_map n map.new) store.old
+        store.new }
     ensures counted { more.new ≡ more_in store.new.pages }
     ensures freed { result ≡ reserves_in a b map.old }
 {
@@ -231,7 +237,8 @@ fn end_map_of<N: Naming>(
     requires some { HasHolders store.old }
     requires counted { more.old ≡ more_in store.old.pages }
     ensures map { map.new ≡ ended_for task map.old }
-    ensures dropping { IsDropping (λ n. in_map n map.old) (λ n. in_map n map.new) store.old store.new }
+    ensures dropping { IsDropping (λ n. in_map n map.old) (λ n. in_map n map.new) store.old
+        store.new }
     ensures counted { more.new ≡ more_in store.new.pages }
     ensures reserves { result + owed map.new ≡ owed map.old }
     ensures hints { IsMoreButTask task hints.old hints.new }
@@ -259,7 +266,8 @@ pub(crate) fn end_maps_of<N: Naming>(
     requires counted { more.old ≡ more_in store.old.pages }
     requires few { sum_by owed maps.old < 2 ^ 64 }
     ensures maps { maps.new ≡ map (ended_for task) maps.old }
-    ensures dropping { IsDropping (λ n. sum_by (in_map n) maps.old) (λ n. sum_by (in_map n) maps.new)
+    ensures dropping { IsDropping (λ n. sum_by (in_map n) maps.old)
+        (λ n. sum_by (in_map n) maps.new)
         store.old store.new }
     ensures counted { more.new ≡ more_in store.new.pages }
     ensures reserves { result + sum_by owed maps.new ≡ sum_by owed maps.old }

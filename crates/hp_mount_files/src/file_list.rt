@@ -36,11 +36,13 @@ impl Model for FileList {
 
     ghost view = { λ l. record {
       files = files_in l.files.items l.order.items;
-      room = room_in (vec_len l.files) (vec_capacity l.files) (vec_len l.order) (vec_capacity l.order)
+      room = room_in (vec_len l.files) (vec_capacity l.files) (vec_len l.order)
+          (vec_capacity l.order)
           (vec_len l.vacant) (vec_capacity l.vacant);
     } };
 
-    ghost invariant = { λ l. IsOrder (vec_len l.files) l.order.items l.vacant.items (vec_capacity l.vacant) };
+    ghost invariant = { λ l. IsOrder (vec_len l.files) l.order.items l.vacant.items
+        (vec_capacity l.vacant) };
 }
 
 impl FileList {

@@ -37,7 +37,8 @@ fn share_run<N: Naming>(places: &[PackedPlace], store: &mut PageStore<N>, more: 
     ensures within { result ≤ length places.now }
     ensures shared { IsShared places.now (drop result places.now) store.old store.new }
     ensures counted { more.new ≡ more_in store.new.pages }
-    ensures more { more.new + count_by has_copy (drop result places.now) ≡ more.old + count_by has_copy places.now }
+    ensures more { more.new + count_by has_copy (drop result places.now) ≡ more.old
+        + count_by has_copy places.now }
 {
     let mut at = 0;
     while at < places.len() {

@@ -48,7 +48,8 @@ impl TaskCounts {
 
     /// How many tasks have maps.
     pub(crate) fn len(&self) -> usize
-        ensures { (tasks : List ℕ) → ((task : ℕ) → count_of self.now task ≡ count_by (λ t. t == task) tasks)
+        ensures { (tasks : List ℕ) → ((task : ℕ) → count_of self.now task
+            ≡ count_by (λ t. t == task) tasks)
             → result ≡ length (distinct tasks) }
     {
         self.counts.len()
@@ -67,14 +68,16 @@ impl TaskCounts {
     pub(crate) fn add_one(&mut self, task: u64)
         requires room { count_of self.old task ≡ 0 → 0 < self.old.room }
         requires few { count_of self.old task < 2 ^ 64 - 1 }
-        ensures { (t : ℕ) → count_of self.new t ≡ count_of self.old t + (if task == t then 1 else 0) }
+        ensures { (t : ℕ) → count_of self.new t ≡ count_of self.old t
+            + (if task == t then 1 else 0) }
     {
         *self.counts.entry(task).unwrap().or_insert(0) += 1;
     }
 
     /// A task that has maps has one less.
     pub(crate) fn remove_one(&mut self, task: u64)
-        ensures { (t : ℕ) → count_of self.new t ≡ count_of self.old t - (if task == t then 1 else 0) }
+        ensures { (t : ℕ) → count_of self.new t ≡ count_of self.old t
+            - (if task == t then 1 else 0) }
     {
         let Some((at, _, count)) = self.counts.get_full(&task) else {
             return;
@@ -90,7 +93,8 @@ impl TaskCounts {
     /// A task has so many maps. It takes no memory: there is room for a task that had none.
     pub(crate) fn set(&mut self, task: u64, count: u64)
         requires { count_of self.old task ≡ 0 → 0 < count → 0 < self.old.room }
-        ensures { (t : ℕ) → count_of self.new t ≡ (if task == t then count else count_of self.old t) }
+        ensures { (t : ℕ) → count_of self.new t ≡ (if task == t then count
+            else count_of self.old t) }
     {
         if count == 0 {
             let _count = self.counts.swap_remove(&task);

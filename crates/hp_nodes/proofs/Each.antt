@@ -43,7 +43,8 @@ grow_each_sums rows r =
     let u = each_sum Idle (grow_by r) (λ x. x.surp) 0 0 rows (λ k d below e. refl) in
     same_row _ _ _ _ _ _ _ _ (omega (arith, f)) (omega (arith, t)) (omega (arith, n)) (omega (arith, u))
 
-pub shrink_each_sums : (rows : List NodeRow) (r : ℕ) → All IsRow rows → All (HasMany Free r) rows → sum_row (map (where_has Free (shrink_by r)) rows) ≡ shrink_by (r * count_by (has Free) rows) (sum_row rows)
+pub shrink_each_sums : (rows : List NodeRow) (r : ℕ) → All IsRow rows → All (HasMany Free r) rows →
+    sum_row (map (where_has Free (shrink_by r)) rows) ≡ shrink_by (r * count_by (has Free) rows) (sum_row rows)
 shrink_each_sums rows r sound enough =
     let f = each_sum Free (shrink_by r) (λ x. x.frames) 0 0 rows (λ k d below e. refl) in
     let t = each_sum Free (shrink_by r) (λ x. x.total) 0 r rows (λ k d below e. (let some = enough k d below e in let row = sound k d below in omega (arith, some, row.free_in))) in
@@ -94,7 +95,16 @@ kept_grow_each rows growth release claims r h enough =
     let row : IsRow x = h.sound k d below in
     cond_both (has Idle x) (grow_by r x) x (Stays x)
     (λ e. (let some = enough k d below e in
-    record { sound = record { free_in = omega (arith, row.free_in); surp_in = omega (arith, row.surp_in); total_in = omega (arith, some, row.total_in); few = row.few }; same = omega arith; as_many = refl }))
+    record {
+      sound = record {
+        free_in = omega (arith, row.free_in);
+        surp_in = omega (arith, row.surp_in);
+        total_in = omega (arith, some, row.total_in);
+        few = row.few;
+      };
+      same = omega arith;
+      as_many = refl;
+    }))
     (λ e. record { sound = row; same = refl; as_many = refl })))
 
 pub kept_shrink_each : {m : ℕ → ℕ} (rows : List NodeRow) (growth release : ℕ) (claims : List ℕ) (r : ℕ) → IsKept m rows growth release claims → All (HasMany Free r) rows → All (λ x. x.surp ≡ 0) rows
@@ -106,7 +116,16 @@ kept_shrink_each rows growth release claims r h enough bare =
     let none : x.surp ≡ 0 = bare k d below in
     cond_both (has Free x) (shrink_by r x) x (Stays x)
     (λ e. (let some = enough k d below e in
-    record { sound = record { free_in = omega (arith, row.free_in); surp_in = omega (arith, none); total_in = omega (arith, row.total_in); few = row.few }; same = omega (arith, some, row.free_in); as_many = refl }))
+    record {
+      sound = record {
+        free_in = omega (arith, row.free_in);
+        surp_in = omega (arith, none);
+        total_in = omega (arith, row.total_in);
+        few = row.few;
+      };
+      same = omega (arith, some, row.free_in);
+      as_many = refl;
+    }))
     (λ e. record { sound = row; same = refl; as_many = refl })))
 
 -- ---- the loop over the nodes

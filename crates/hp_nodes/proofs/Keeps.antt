@@ -93,7 +93,8 @@ module _ {frames : ℕ → ℕ} where
       omega (arith, h.counted here below, h.framed here below, r.total_in, r.free_in, free)
 
   -- a free page goes out
-  pub kept_take : (rows : List NodeRow) (growth release : ℕ) (claims left : List ℕ) (here : ℕ) (y : NodeRow) → IsKept frames rows growth release claims → here < length rows → 0 < (row_at rows here).free
+  pub kept_take : (rows : List NodeRow) (growth release : ℕ) (claims left : List ℕ) (here : ℕ) (y : NodeRow) →
+      IsKept frames rows growth release claims → here < length rows → 0 < (row_at rows here).free
       → y ≡ take_row (row_at rows here) → IsRow y → left ≡ slice_set claims here (slice_index claims here - 1) → IsKept frames (slice_set rows here y) growth release left
   kept_take rows growth release claims left here y h in_rows free y_is sound left_is =
       let below : here < 4 = omega (arith, in_rows, h.few) in
@@ -115,7 +116,8 @@ module _ {frames : ℕ → ℕ} where
 
   -- pages come back
   pub kept_put : (rows : List NodeRow) (growth release : ℕ) (claims left : List ℕ) (here amount : ℕ) (y : NodeRow) → IsKept frames rows growth release claims → here < 4 → 0 < amount
-      → left ≡ slice_set claims here (slice_index claims here + amount) → slice_index left here ≤ frames here → y ≡ put_by amount (row_at rows here) → IsRow y → IsKept frames (slice_set rows here y) growth release left
+      → left ≡ slice_set claims here (slice_index claims here + amount) → slice_index left here ≤ frames here → y ≡ put_by amount (row_at rows here) →
+      IsRow y → IsKept frames (slice_set rows here y) growth release left
   kept_put rows growth release claims left here amount y h below some left_is within y_is sound =
       let was = was_used rows growth release claims left here amount h below left_is within in
       let in_rows = used_below rows here (omega (arith, was, some)) in

@@ -10,7 +10,8 @@ use Rattle.std.proofs.lemmas.List.Folds.{position_or_len-set}
 use Rattle.hp_model.specs.declared.node.Kind.{Kind}
 use Rattle.hp_model.specs.declared.node.Kind.TheVariants.{Free, Idle, Surplus, Persistent, FreeSurplus}
 use Rattle.hp_model.specs.declared.node.NodeRow.{NodeRow}
-use Rattle.hp_model.specs.pool.NodeRows.{NodeRows, at_row, row_at, no_row, has, lowest, near, surplus_added, promoted, demoted, given_back, add_surplus_row, give_back_row, shrink_row, promote_row, demote_row}
+use Rattle.hp_model.specs.pool.NodeRows.{NodeRows, at_row, row_at, no_row, has, lowest, near, surplus_added}
+use Rattle.hp_model.specs.pool.NodeRows.{promoted, demoted, given_back, add_surplus_row, give_back_row, shrink_row, promote_row, demote_row}
 use Rattle.hp_model.proofs.Picks.{near_pick}
 use Rattle.hp_nodes.proofs.Sums.{same_row}
 use Rattle.hp_nodes.specs.Moves.{amount, shrink_by, add_surplus_by, give_back_by, promote_by, demote_by}
@@ -58,7 +59,8 @@ again g s i k x y h e is =
     ap (λ n. record s { rows = at_row g n rs }) e ∙ ap (λ r. record s { rows = slice_set rs i r }) row ∙ ap (λ l. record s { rows = l }) (set-set s.rows i x y)
 
 -- while the lowest that has one still has, it stays the lowest
-pub lowest_stays : (kind : Kind) (s : NodeRows) (y : NodeRow) → has kind (row_at s.rows (lowest kind s.rows)) ≡ true → has kind y ≡ true → lowest kind (slice_set s.rows (lowest kind s.rows) y) ≡ lowest kind s.rows
+pub lowest_stays : (kind : Kind) (s : NodeRows) (y : NodeRow) → has kind (row_at s.rows (lowest kind s.rows)) ≡ true → has kind y ≡ true →
+    lowest kind (slice_set s.rows (lowest kind s.rows) y) ≡ lowest kind s.rows
 lowest_stays kind s y was is = position_or_len-set (has kind) s.rows (lowest kind s.rows) y no_row (is ∙ sym was)
 
 pub promoted_at : (s : NodeRows) (n : ℕ) (y : NodeRow) → lowest Surplus s.rows < length s.rows → n ≤ (row_at s.rows (lowest Surplus s.rows)).surp

@@ -32,7 +32,8 @@ put_sums rows i k y h e = rw e (sums_as rows i (put_by k (row_at rows i)) (put_b
 pub grow_sums : (rows : List NodeRow) (i k : ℕ) (y : NodeRow) → i < length rows → y ≡ grow_by k (row_at rows i) → sum_row (slice_set rows i y) ≡ grow_by k (sum_row rows)
 grow_sums rows i k y h e = rw e (sums_as rows i (grow_by k (row_at rows i)) (grow_by k (sum_row rows)) h (omega arith) (omega arith) (omega arith) (omega arith))
 
-pub shrink_sums : (rows : List NodeRow) (i k : ℕ) (y : NodeRow) → i < length rows → y ≡ shrink_by k (row_at rows i) → k ≤ (row_at rows i).free → k ≤ (row_at rows i).total → sum_row (slice_set rows i y) ≡ shrink_by k (sum_row rows)
+pub shrink_sums : (rows : List NodeRow) (i k : ℕ) (y : NodeRow) → i < length rows → y ≡ shrink_by k (row_at rows i) → k ≤ (row_at rows i).free →
+    k ≤ (row_at rows i).total → sum_row (slice_set rows i y) ≡ shrink_by k (sum_row rows)
 shrink_sums rows i k y h e free total =
     let a = get_or-le-sum_by (λ (r : NodeRow). r.total) rows i no_row h in
     let b = get_or-le-sum_by (λ (r : NodeRow). r.free) rows i no_row h in
@@ -41,14 +42,16 @@ shrink_sums rows i k y h e free total =
 pub add_surplus_sums : (rows : List NodeRow) (i k : ℕ) (y : NodeRow) → i < length rows → y ≡ add_surplus_by k (row_at rows i) → sum_row (slice_set rows i y) ≡ add_surplus_by k (sum_row rows)
 add_surplus_sums rows i k y h e = rw e (sums_as rows i (add_surplus_by k (row_at rows i)) (add_surplus_by k (sum_row rows)) h (omega arith) (omega arith) (omega arith) (omega arith))
 
-pub give_back_sums : (rows : List NodeRow) (i k : ℕ) (y : NodeRow) → i < length rows → y ≡ give_back_by k (row_at rows i) → k ≤ (row_at rows i).free → k ≤ (row_at rows i).total → k ≤ (row_at rows i).surp → sum_row (slice_set rows i y) ≡ give_back_by k (sum_row rows)
+pub give_back_sums : (rows : List NodeRow) (i k : ℕ) (y : NodeRow) → i < length rows → y ≡ give_back_by k (row_at rows i) → k ≤ (row_at rows i).free →
+    k ≤ (row_at rows i).total → k ≤ (row_at rows i).surp → sum_row (slice_set rows i y) ≡ give_back_by k (sum_row rows)
 give_back_sums rows i k y h e free total surp =
     let a = get_or-le-sum_by (λ (r : NodeRow). r.total) rows i no_row h in
     let b = get_or-le-sum_by (λ (r : NodeRow). r.free) rows i no_row h in
     let c = get_or-le-sum_by (λ (r : NodeRow). r.surp) rows i no_row h in
     rw e (sums_as rows i (give_back_by k (row_at rows i)) (give_back_by k (sum_row rows)) h (omega arith) (omega arith) (omega arith) (omega arith))
 
-pub promote_sums : (rows : List NodeRow) (i k : ℕ) (y : NodeRow) → i < length rows → y ≡ promote_by k (row_at rows i) → k ≤ (row_at rows i).surp → sum_row (slice_set rows i y) ≡ promote_by k (sum_row rows)
+pub promote_sums : (rows : List NodeRow) (i k : ℕ) (y : NodeRow) → i < length rows → y ≡ promote_by k (row_at rows i) → k ≤ (row_at rows i).surp →
+    sum_row (slice_set rows i y) ≡ promote_by k (sum_row rows)
 promote_sums rows i k y h e surp =
     let c = get_or-le-sum_by (λ (r : NodeRow). r.surp) rows i no_row h in
     rw e (sums_as rows i (promote_by k (row_at rows i)) (promote_by k (sum_row rows)) h (omega arith) (omega arith) (omega arith) (omega arith))

@@ -208,7 +208,10 @@ pub grown_are : (n : ℕ) (s : NodeRows) → iterate grown n s ≡ record s { ro
 grown_are zero s = refl
 grown_are (suc n) s = grown_are n (grown s)
 
-pub shrunk_are : (n : ℕ) (s : NodeRows) → iterate shrunk n s ≡ record s { rows = (iterate (turn Free shrink_row) n (s.rows, s.release)).0; release = (iterate (turn Free shrink_row) n (s.rows, s.release)).1 }
+pub shrunk_are : (n : ℕ) (s : NodeRows) → iterate shrunk n s ≡ record s {
+  rows = (iterate (turn Free shrink_row) n (s.rows, s.release)).0;
+  release = (iterate (turn Free shrink_row) n (s.rows, s.release)).1;
+}
 shrunk_are zero s = refl
 shrunk_are (suc n) s = shrunk_are n (shrunk s)
 
@@ -227,7 +230,8 @@ is_shrink = record {
 }
 
 -- so many rounds from behind a node, by an index
-rounds_at : (kind : Kind) (g : NodeRow → NodeRow) (by : ℕ → NodeRow → NodeRow) → IsMany kind g by → (r at : ℕ) (rows : List NodeRow) → at < length rows → 0 < amount kind (row_at rows at) → All (HasMany kind r) rows
+rounds_at : (kind : Kind) (g : NodeRow → NodeRow) (by : ℕ → NodeRow → NodeRow) → IsMany kind g by → (r at : ℕ) (rows : List NodeRow) →
+    at < length rows → 0 < amount kind (row_at rows at) → All (HasMany kind r) rows
     → iterate (turn kind g) (r * count_by (has kind) rows) (rows, after at rows) ≡ (map (where_has kind (by r)) rows, after at rows)
 rounds_at kind g by m r at rows below some enough =
     let pre = take at rows in
@@ -245,7 +249,8 @@ pub rounds_grown : (s : NodeRows) (r at : ℕ) → s.growth ≡ after at s.rows 
 rounds_grown s r at behind below some enough =
     let n = r * count_by (has Idle) s.rows in
     let all : iterate (turn Idle grow_row) n (s.rows, s.growth) ≡ (map (where_has Idle (grow_by r)) s.rows, s.growth) =
-    ap (λ c. iterate (turn Idle grow_row) n (s.rows, c)) behind ∙ rounds_at Idle grow_row grow_by is_grow r at s.rows below some enough ∙ ap (λ c. (map (where_has Idle (grow_by r)) s.rows, c)) (sym behind) in
+    ap (λ c. iterate (turn Idle grow_row) n (s.rows, c)) behind ∙ rounds_at Idle grow_row grow_by is_grow r at s.rows below some enough
+    ∙ ap (λ c. (map (where_has Idle (grow_by r)) s.rows, c)) (sym behind) in
     grown_are n s ∙ ap (λ t. record s { rows = t.0; growth = t.1 }) all
 
 pub rounds_shrunk : (s : NodeRows) (r at : ℕ) → s.release ≡ after at s.rows → at < length s.rows → 0 < amount Free (row_at s.rows at) → All (HasMany Free r) s.rows
@@ -253,5 +258,6 @@ pub rounds_shrunk : (s : NodeRows) (r at : ℕ) → s.release ≡ after at s.row
 rounds_shrunk s r at behind below some enough =
     let n = r * count_by (has Free) s.rows in
     let all : iterate (turn Free shrink_row) n (s.rows, s.release) ≡ (map (where_has Free (shrink_by r)) s.rows, s.release) =
-    ap (λ c. iterate (turn Free shrink_row) n (s.rows, c)) behind ∙ rounds_at Free shrink_row shrink_by is_shrink r at s.rows below some enough ∙ ap (λ c. (map (where_has Free (shrink_by r)) s.rows, c)) (sym behind) in
+    ap (λ c. iterate (turn Free shrink_row) n (s.rows, c)) behind ∙ rounds_at Free shrink_row shrink_by is_shrink r at s.rows below some enough
+    ∙ ap (λ c. (map (where_has Free (shrink_by r)) s.rows, c)) (sym behind) in
     shrunk_are n s ∙ ap (λ t. record s { rows = t.0; release = t.1 }) all

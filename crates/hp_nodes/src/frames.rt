@@ -28,7 +28,8 @@ impl<N: Naming, const K: usize> Model for NodeFrames<N, K> {
 
     ghost view = { λ f. f.stock.here };
 
-    ghost invariant = { λ f. (f.stock.node ≡ K) × (K < 4) × IsHome N.frames N.memory N.page_bytes f.stock f.marks f.kept };
+    ghost invariant = { λ f. (f.stock.node ≡ K) × (K < 4)
+        × IsHome N.frames N.memory N.page_bytes f.stock f.marks f.kept };
 }
 
 // Adds marks. There are no more of a node than it has frames.
@@ -198,7 +199,14 @@ impl<N: Naming> Frames<N> {
 /// The frames of each node, by themselves.
 impl<N: Naming> Frames<N> {
     /// The frames of nodes 0 to 3.
-    pub fn into_nodes(self) -> (NodeFrames<N, 0>, NodeFrames<N, 1>, NodeFrames<N, 2>, NodeFrames<N, 3>) {
+    pub fn into_nodes(
+        self,
+    ) -> (
+        NodeFrames<N, 0>,
+        NodeFrames<N, 1>,
+        NodeFrames<N, 2>,
+        NodeFrames<N, 3>,
+    ) {
         let Frames {
             zero,
             one,

@@ -358,7 +358,9 @@ impl<N: Naming> NodeLists<N> {
         requires within { at < length self.old.rows }
         requires free { count ≤ (row_at self.old.rows at).free }
         requires no_surplus { (row_at self.old.rows at).surp ≡ 0 }
-        ensures moved { self.new ≡ record self.old { rows = at_row (shrink_by count) at self.old.rows } }
+        ensures moved { self.new ≡ record self.old {
+          rows = at_row (shrink_by count) at self.old.rows;
+        } }
         ensures sums { sum_row self.new.rows ≡ shrink_by count (sum_row self.old.rows) }
     {
         let node = &mut self.nodes[at];
@@ -369,7 +371,9 @@ impl<N: Naming> NodeLists<N> {
     fn promote_at(&mut self, at: usize, count: u64)
         requires within { at < length self.old.rows }
         requires surplus { count ≤ (row_at self.old.rows at).surp }
-        ensures moved { self.new ≡ record self.old { rows = at_row (promote_by count) at self.old.rows } }
+        ensures moved { self.new ≡ record self.old {
+          rows = at_row (promote_by count) at self.old.rows;
+        } }
         ensures sums { sum_row self.new.rows ≡ promote_by count (sum_row self.old.rows) }
     {
         let node = &mut self.nodes[at];

@@ -71,7 +71,8 @@ impl<N: Naming> ClaimSet<N> {
 
     /// Takes claims back. All claims of a node are as many as it has frames.
     pub fn put(&mut self, claim: Claim<N>)
-        ensures sum { self.new ≡ slice_set self.old claim.node (slice_index self.old claim.node + claim.amount) }
+        ensures sum { self.new ≡ slice_set self.old claim.node
+            (slice_index self.old claim.node + claim.amount) }
         ensures within { slice_index self.new claim.node ≤ N.frames claim.node }
         ensures below { claim.node < 4 }
     {

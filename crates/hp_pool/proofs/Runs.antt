@@ -9,7 +9,8 @@ use Rattle.std.proofs.lemmas.List.Sums.{sum-map}
 use Rattle.hp_model.specs.declared.node.Kind.TheVariants.{Free, Idle, Surplus, Persistent}
 use Rattle.hp_model.specs.declared.node.NodeRow.{NodeRow}
 use Rattle.hp_model.specs.pool.Grant.{surplus_times}
-use Rattle.hp_model.specs.pool.NodeRows.{NodeRows, at_row, row_at, no_row, lowest, next_from, free_of, surp_of, total_of, sum_row, surplus_added, given_back, grown, shrunk, promoted, demoted, put_row, grow_row, shrink_row, promote_row, demote_row}
+use Rattle.hp_model.specs.pool.NodeRows.{NodeRows, at_row, row_at, no_row, lowest, next_from, free_of, surp_of, total_of, sum_row, surplus_added}
+use Rattle.hp_model.specs.pool.NodeRows.{given_back, grown, shrunk, promoted, demoted, put_row, grow_row, shrink_row, promote_row, demote_row}
 use Rattle.hp_model.specs.pool.Pool.{give_back_times, kept_times, page_kept, released}
 use Rattle.hp_model.specs.pool.PoolCounts.{Pool, used_of}
 use Rattle.hp_model.specs.pool.Resize.{raised, lowered, raise_times, lower_times}

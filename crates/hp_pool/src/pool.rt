@@ -48,7 +48,12 @@ impl<N: Naming> Model for Pool<N> {
 
     ghost Value = { Pool };
 
-    ghost view = { λ p. record { nr = p.nr; overcommit = p.overcommit; committed = p.book + used_of p.lists.rows; nodes = p.lists } };
+    ghost view = { λ p. record {
+      nr = p.nr;
+      overcommit = p.overcommit;
+      committed = p.book + used_of p.lists.rows;
+      nodes = p.lists;
+    } };
 
     ghost invariant = { λ p. IsPool p.nr p.overcommit p.book (sum_row p.lists.rows) };
 }

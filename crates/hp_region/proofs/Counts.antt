@@ -38,7 +38,8 @@ covered-bound low a b (s ∷ ss) p = omega (arith, covered-bound (s.end + 1) a b
 pub count_in-covered : (a b : ℕ) (xs : List Span) → IsApart 0 xs → count_in (indices_of xs) a b ≡ covered a b xs
 count_in-covered a b xs p =
     count_alike (set.contains (indices_of xs)) (holds xs) (contains-indices_of xs) (range_with_len a (b - a)) ∙ count-holds 0 a (b - a) xs p
-    ∙ ⊎_elim (λ (lt : a < b). ap (λ e. covered a e xs) {x = a + (b - a)} {y = b} (omega arith)) (λ (le : b ≤ a). omega (arith, covered-bound 0 a (a + (b - a)) xs p, covered-bound 0 a b xs p)) (cases_lt a b)
+    ∙ ⊎_elim (λ (lt : a < b). ap (λ e. covered a e xs) {x = a + (b - a)} {y = b} (omega arith))
+    (λ (le : b ≤ a). omega (arith, covered-bound 0 a (a + (b - a)) xs p, covered-bound 0 a b xs p)) (cases_lt a b)
 
 pub missing_in-count_in : (s : set.FinSet nat_cmp) (a b : ℕ) → missing_in s a b + count_in s a b ≡ b - a
 missing_in-count_in s a b = omega (arith, count_not (set.contains s) (range_with_len a (b - a)), length-range_with_len a (b - a))

@@ -41,16 +41,19 @@ or_assoc false y z = refl
 pub holds-added : (low a b : ℕ) (xs : List Span) (q : ℕ) → IsApart low xs → a < b → holds (added a b xs) q ≡ (within a b q || holds xs q)
 holds-added low a b [] q p lt = refl
 holds-added low a b (s ∷ ss) q p lt =
-    elim (ltb s.end a) as (λ t. ltb s.end a ≡ t → holds (cond t (s ∷ added a b ss) (cond (ltb b s.start) (record { start = a; end = b } ∷ s ∷ ss) (added (min a s.start) (max b s.end) ss))) q ≡ (within a b q || holds (s ∷ ss) q)) [
+    elim (ltb s.end a) as (λ t. ltb s.end a ≡ t → holds (cond t (s ∷ added a b ss)
+    (cond (ltb b s.start) (record { start = a; end = b } ∷ s ∷ ss) (added (min a s.start) (max b s.end) ss))) q
+    ≡ (within a b q || holds (s ∷ ss) q)) [
       | true ↦ λ e. ap (λ x. within s.start s.end q || x) (holds-added (s.end + 1) a b ss q p.2 lt) ∙ or_swap (within s.start s.end q) (within a b q) (holds ss q)
-      | false ↦ λ e. elim (ltb b s.start) as (λ t. ltb b s.start ≡ t → holds (cond t (record { start = a; end = b } ∷ s ∷ ss) (added (min a s.start) (max b s.end) ss)) q ≡ (within a b q || holds (s ∷ ss) q)) [
-        | true ↦ λ e'. refl
-        | false ↦ λ e'.
-            let left : a ≤ s.end = grind (arith, nat_tests) in
-            let right : s.start ≤ b = grind (arith, nat_tests) in
-            holds-added (s.end + 1) (min a s.start) (max b s.end) ss q p.2 (omega (arith, p.1))
-            ∙ ap (λ x. x || holds ss q) (within_join a b s.start s.end q lt p.1 left right) ∙ or_assoc (within a b q) (within s.start s.end q) (holds ss q)
-      ] refl
+      | false ↦ λ e. elim (ltb b s.start) as (λ t. ltb b s.start ≡ t → holds (cond t (record { start = a; end = b } ∷ s ∷ ss)
+          (added (min a s.start) (max b s.end) ss)) q ≡ (within a b q || holds (s ∷ ss) q)) [
+            | true ↦ λ e'. refl
+            | false ↦ λ e'.
+                let left : a ≤ s.end = grind (arith, nat_tests) in
+                let right : s.start ≤ b = grind (arith, nat_tests) in
+                holds-added (s.end + 1) (min a s.start) (max b s.end) ss q p.2 (omega (arith, p.1))
+                ∙ ap (λ x. x || holds ss q) (within_join a b s.start s.end q lt p.1 left right) ∙ or_assoc (within a b q) (within s.start s.end q) (holds ss q)
+          ] refl
     ] refl
 
 holds-append : (xs ys : List Span) (q : ℕ) → holds (xs ++ ys) q ≡ (holds xs q || holds ys q)
@@ -127,6 +130,8 @@ difference_none s a b none =
 
     stays : (q : ℕ) → (set.contains s q && not (within a b q)) ≡ set.contains s q
     stays q = ⊎_elim
-        (λ (inside : within a b q ≡ true). by_false (set.contains s q) (within a b q) (none_of_count (set.contains s) a (b - a) q none (within-in a b q inside).0 (omega (arith, (within-in a b q inside).0, (within-in a b q inside).1))))
+        (λ (inside : within a b q ≡ true). by_false (set.contains s q) (within a b q)
+        (none_of_count (set.contains s) a (b - a) q none (within-in a b q inside).0
+        (omega (arith, (within-in a b q inside).0, (within-in a b q inside).1))))
         (λ (out : within a b q ≡ false). by_out (set.contains s q) (within a b q) out)
         (cases_Bool (within a b q))

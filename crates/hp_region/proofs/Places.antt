@@ -1,5 +1,6 @@
 -- What a search finds among intervals, and what the edits at these places make.
-use Rattle.std.proofs.Common.{◌≡◌, ℕ, zero, suc, ◌+◌, ◌-◌, ◌<◌, ◌≤◌, min, max, true, false, List, [], ◌∷◌, ◌++◌, length, take, drop, get_or, set, ltb, leb, sym, refl, ap, ◌∙◌, subst, arith, ⊎_elim, add-one}
+use Rattle.std.proofs.Common.{◌≡◌, ℕ, zero, suc, ◌+◌, ◌-◌, ◌<◌, ◌≤◌, min, max, true, false, List, [], ◌∷◌, ◌++◌}
+use Rattle.std.proofs.Common.{length, take, drop, get_or, set, ltb, leb, sym, refl, ap, ◌∙◌, subst, arith, ⊎_elim, add-one}
 use Rattle.std.specs.List.{All, insert}
 use Rattle.std.specs.List.Sorted.{IsNonDecreasingBy}
 use Rattle.std.proofs.lemmas.Bool.{cases_lt}
@@ -25,7 +26,8 @@ ends_rise low (s ∷ ss) p (suc i) zero d le lt = absurd (omega (arith, le))
 ends_rise low (s ∷ ss) p (suc i) (suc j) d le lt = ends_rise (s.end + 1) ss p.2 i j d (omega (arith, le)) (omega (arith, lt))
 
 -- the index is in the first interval that ends after it, or in none
-pub holds_at : (low i at : ℕ) (xs : List Span) (d : Span) → IsApart low xs → All (λ s. s.end ≤ i) (take at xs) → All (λ s. i < s.end) (drop at xs) → at < length xs → holds xs i ≡ leb (get_or xs at d).start i
+pub holds_at : (low i at : ℕ) (xs : List Span) (d : Span) → IsApart low xs → All (λ s. s.end ≤ i) (take at xs) → All (λ s. i < s.end) (drop at xs) →
+    at < length xs → holds xs i ≡ leb (get_or xs at d).start i
 holds_at low i at [] d p front back lt = absurd (omega (arith, lt))
 holds_at low i zero (s ∷ ss) d p front back lt =
     let first : i < s.end = All-head (λ s. i < s.end) s ss back in
@@ -53,7 +55,8 @@ added_front low a b (suc n) (s ∷ ss) p front =
     rw before (ap (λ r. s ∷ r) (added_front (s.end + 1) a b n ss p.2 (All-tail (λ s. s.end ≤ a - 1) s (take n ss) front)))
 
 -- one that touches is joined
-pub added_more : (a b n : ℕ) (xs : List Span) (d : Span) → n < length xs → a ≤ (get_or xs n d).end → (get_or xs n d).start ≤ b → added a b (drop n xs) ≡ added (min a (get_or xs n d).start) (max b (get_or xs n d).end) (drop (n + 1) xs)
+pub added_more : (a b n : ℕ) (xs : List Span) (d : Span) → n < length xs → a ≤ (get_or xs n d).end → (get_or xs n d).start ≤ b →
+    added a b (drop n xs) ≡ added (min a (get_or xs n d).start) (max b (get_or xs n d).end) (drop (n + 1) xs)
 added_more a b n xs d lt left right =
     let s = get_or xs n d in
     let not_before : ltb s.end a ≡ false = grind (arith, nat_tests) in
@@ -97,7 +100,9 @@ removed_within low a b (suc n) (s ∷ ss) p le lt front back =
     let no_right : ltb b s.end ≡ false = grind (arith, nat_tests) in
     rw (no_left, no_right) (removed_within (s.end + 1) a b n ss p.2 (omega (arith, p.0, p.1)) lt (All-tail (λ s. s.end ≤ b) s (take n ss) front) back)
 
-pub removed_between : (low a b n m : ℕ) (xs : List Span) → IsApart low xs → a < b → n ≤ m → All (λ s. s.end ≤ a) (take n xs) → All (λ s. a < s.end) (drop n xs) → All (λ s. s.end ≤ b) (take m xs) → All (λ s. b < s.end) (drop m xs) → removed a b xs ≡ take n xs ++ (left_of a (drop n xs) ++ right_of b (drop m xs))
+pub removed_between : (low a b n m : ℕ) (xs : List Span) → IsApart low xs → a < b → n ≤ m → All (λ s. s.end ≤ a) (take n xs) →
+    All (λ s. a < s.end) (drop n xs) → All (λ s. s.end ≤ b) (take m xs) → All (λ s. b < s.end) (drop m xs) →
+    removed a b xs ≡ take n xs ++ (left_of a (drop n xs) ++ right_of b (drop m xs))
 removed_between low a b zero zero [] p lt le fa ba fb bb = refl
 removed_between low a b zero (suc m) [] p lt le fa ba fb bb = refl
 removed_between low a b (suc n) zero [] p lt le fa ba fb bb = refl
@@ -117,7 +122,8 @@ removed_between low a b (suc n) (suc m) (s ∷ ss) p lt le fa ba fb bb =
     let left : ltb s.start a ≡ true = grind (arith, nat_tests, p.1) in
     let no_right : ltb b s.end ≡ false = grind (arith, nat_tests) in
     let same : min a s.end ≡ s.end = omega arith in
-    rw (left, no_right, same) (ap (λ r. s ∷ r) (removed_between (s.end + 1) a b n m ss p.2 lt (omega (arith, le)) (All-tail (λ s. s.end ≤ a) s (take n ss) fa) ba (All-tail (λ s. s.end ≤ b) s (take m ss) fb) bb))
+    rw (left, no_right, same) (ap (λ r. s ∷ r) (removed_between (s.end + 1) a b n m ss p.2 lt (omega (arith, le))
+    (All-tail (λ s. s.end ≤ a) s (take n ss) fa) ba (All-tail (λ s. s.end ≤ b) s (take m ss) fb) bb))
 
 pub left_of_at : (a n : ℕ) (xs : List Span) (d : Span) → n < length xs → left_of a (drop n xs) ≡ left_piece a (get_or xs n d)
 left_of_at a n xs d lt = ap (left_of a) (drop_more xs n d lt)
@@ -134,7 +140,8 @@ all_back n t xs each k d lt = rw (get_or-drop n xs k d) (each (n + k) d (omega a
 
 -- the interval at a place from n on
 pub ends_after : (n k t : ℕ) (xs : List Span) (d : Span) → All (λ s. t ≤ s.end) (drop n xs) → n ≤ k → k < length xs → t ≤ (get_or xs k d).end
-ends_after n k t xs d all le lt = subst (λ (x : ℕ). t ≤ (get_or xs x d).end) {x = n + (k - n)} {y = k} (omega arith) (rw (get_or-drop n xs (k - n) d) at (all (k - n) d (omega (arith, length-drop n xs))))
+ends_after n k t xs d all le lt = subst (λ (x : ℕ). t ≤ (get_or xs x d).end) {x = n + (k - n)} {y = k} (omega arith)
+    (rw (get_or-drop n xs (k - n) d) at (all (k - n) d (omega (arith, length-drop n xs))))
 
 abbrev pub no_span : Span
 no_span = record { start = 0; end = 0 }
@@ -163,7 +170,8 @@ pub added_at : (a b n m : ℕ) (xs : List Span) (s : Span) → IsApart 0 xs → 
 added_at a b n m xs s p front joined = added_front 0 a b n xs p front ∙ ap (λ r. take n xs ++ r) joined
 
 -- one interval that begins before the range and ends after it
-pub left_made : (a n : ℕ) (xs : List Span) (s : Span) → n < length xs → s ≡ get_or xs n s → s.start < a → All (λ x. a < x.end) (drop n xs) → left_of a (drop n xs) ≡ record { start = s.start; end = a } ∷ []
+pub left_made : (a n : ℕ) (xs : List Span) (s : Span) → n < length xs → s ≡ get_or xs n s → s.start < a → All (λ x. a < x.end) (drop n xs) →
+    left_of a (drop n xs) ≡ record { start = s.start; end = a } ∷ []
 left_made a n xs s lt read before all =
     let past = ends_here n a xs s lt read all in
     let test : ltb s.start a ≡ true = grind (arith, nat_tests) in
@@ -180,7 +188,9 @@ two_written n [] x y lt = absurd (omega (arith, lt))
 two_written zero (z ∷ zs) x y lt = refl
 two_written (suc n) (z ∷ zs) x y lt = ap (λ r. z ∷ r) (two_written n zs x y (omega (arith, lt)))
 
-pub split_made : (a b n : ℕ) (xs : List Span) (s : Span) → n < length xs → s ≡ get_or xs n s → s.start < a → a < b → All (λ x. b < x.end) (drop n xs) → set (insert xs n (record { start = s.start; end = a })) (n + 1) (record { start = b; end = s.end }) ≡ take n xs ++ (left_of a (drop n xs) ++ right_of b (drop n xs))
+pub split_made : (a b n : ℕ) (xs : List Span) (s : Span) → n < length xs → s ≡ get_or xs n s → s.start < a → a < b →
+    All (λ x. b < x.end) (drop n xs) → set (insert xs n (record { start = s.start; end = a })) (n + 1) (record { start = b; end = s.end }) ≡ take n xs
+    ++ (left_of a (drop n xs) ++ right_of b (drop n xs))
 split_made a b n xs s lt read before some all =
     let past : All (λ x. a < x.end) (drop n xs) = λ k d h. omega (arith, some, all k d h) in
     rw (left_made a n xs s lt read before past, right_made b n xs s lt read (omega arith), add-one) (two_written n xs _ _ lt)

@@ -27,7 +27,10 @@ impl Model for RegionList {
 
     ghost coded = { region_code };
 
-    ghost view = { λ r. record { indices = indices_of r.spans.items; room = vec_capacity r.spans - vec_len r.spans } };
+    ghost view = { λ r. record {
+      indices = indices_of r.spans.items;
+      room = vec_capacity r.spans - vec_len r.spans;
+    } };
 
     ghost invariant = { λ r. IsApart 0 r.spans.items };
 }

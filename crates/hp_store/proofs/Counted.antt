@@ -104,7 +104,8 @@ module _ (ps : List (Option Page)) (hs : List ℕ) (counted : map is_some ps ≡
   pushed p = push-holdings ps hs (Some p) 1 same_length
 
 -- a page is read, and may change while its holders stay
-module _ (ps : List (Option Page)) (hs : List ℕ) (counted : map is_some ps ≡ map (nat_lt 0) hs) (n : ℕ) (x : Option Page) (some : is_some (slice_index_or (holdings ps hs) n None) ≡ true) (is : x ≡ slice_index_or ps n x) where
+module _ (ps : List (Option Page)) (hs : List ℕ) (counted : map is_some ps ≡ map (nat_lt 0) hs) (n : ℕ) (x : Option Page)
+    (some : is_some (slice_index_or (holdings ps hs) n None) ≡ true) (is : x ≡ slice_index_or ps n x) where
   slot_read : x ≡ slice_index_or ps n None
   slot_read = get_or_read ps n x (held_within ps hs counted n some) is None
 
@@ -124,7 +125,8 @@ module _ (ps : List (Option Page)) (hs : List ℕ) (counted : map is_some ps ≡
       ∙ ap (slice_set (holdings ps hs) n) (sym (ap (option_map f) (page_read was e) ∙ ap Some (each (slice_index hs n))))
 
 -- the holders of a page are read, and may change
-module _ (ps : List (Option Page)) (hs : List ℕ) (counted : map is_some ps ≡ map (nat_lt 0) hs) (n x : ℕ) (some : is_some (slice_index_or (holdings ps hs) n None) ≡ true) (is : x ≡ slice_index_or hs n x) where
+module _ (ps : List (Option Page)) (hs : List ℕ) (counted : map is_some ps ≡ map (nat_lt 0) hs) (n x : ℕ)
+    (some : is_some (slice_index_or (holdings ps hs) n None) ≡ true) (is : x ≡ slice_index_or hs n x) where
   read : x ≡ slice_index hs n
   read = get_or_read hs n x (holders_within ps hs counted n some) is 0
 
@@ -144,4 +146,5 @@ module _ (ps : List (Option Page)) (hs : List ℕ) (counted : map is_some ps ≡
   holders_set h f each =
       ap (λ qs. holdings qs (slice_set hs n h)) (sym (set-get_or ps n None))
       ∙ set-holdings ps hs n (slice_index_or ps n None) h
-      ∙ ap (slice_set (holdings ps hs) n) (sym (ap (option_map f) (get_held ps hs counted n ∙ ap (λ k. option_map (held_by k) (slice_index_or ps n None)) (sym read)) ∙ changed (slice_index_or ps n None) f x h each))
+      ∙ ap (slice_set (holdings ps hs) n) (sym (ap (option_map f) (get_held ps hs counted n
+      ∙ ap (λ k. option_map (held_by k) (slice_index_or ps n None)) (sym read)) ∙ changed (slice_index_or ps n None) f x h each))

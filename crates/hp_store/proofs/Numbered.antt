@@ -7,7 +7,8 @@ use Rattle.hp_store.specs.Kept.{IsNumbered, Used, with_free}
 use Rattle.hp_store.proofs.Free.{free_changed, held_changed}
 use Rattle.hp_store.proofs.Room.{held_free, same}
 
-module _ (used : Used) (free : List ℕ) (capacity : ℕ) (change : Holding → Holding) (at : ℕ) (listed : IsNumbered used free capacity) (some : is_some (slice_index_or (with_free used.room used.slots) at None) ≡ true) where
+module _ (used : Used) (free : List ℕ) (capacity : ℕ) (change : Holding → Holding) (at : ℕ) (listed : IsNumbered used free capacity)
+    (some : is_some (slice_index_or (with_free used.room used.slots) at None) ≡ true) where
   here : is_some (slice_index_or used.slots at None) ≡ true
   here = ap is_some (sym (same used.room used.slots at)) ∙ some
 
@@ -26,6 +27,7 @@ module _ (used : Used) (free : List ℕ) (capacity : ℕ) (change : Holding → 
   numbered_either new true went stayed = rw (went refl) numbered
   numbered_either new false went stayed = rw (stayed refl) listed
 
-  pub held_either : (new : Used) (changes : Bool) → (IsTrue changes → new ≡ record used { slots = at_slot change at used.slots }) → (changes ≡ false → new ≡ used) → held_count (with_free new.room new.slots) ≡ held_count (with_free used.room used.slots)
+  pub held_either : (new : Used) (changes : Bool) → (IsTrue changes → new ≡ record used { slots = at_slot change at used.slots }) →
+      (changes ≡ false → new ≡ used) → held_count (with_free new.room new.slots) ≡ held_count (with_free used.room used.slots)
   held_either new true went stayed = rw (went refl) held
   held_either new false went stayed = rw (stayed refl)

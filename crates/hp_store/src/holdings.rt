@@ -29,7 +29,8 @@ impl<N: Naming> Model for Holdings<N> {
     ghost view = { λ h. record { slots = holdings h.pages.items h.holders.items; room = h.room } };
 
     ghost invariant = { λ h.
-        IsCounted h.pages.items h.holders.items h.room (vec_capacity h.pages) (vec_capacity h.holders) };
+        IsCounted h.pages.items h.holders.items h.room (vec_capacity h.pages)
+        (vec_capacity h.holders) };
 }
 
 impl<N: Naming> Holdings<N> {
@@ -74,7 +75,9 @@ impl<N: Naming> Holdings<N> {
     /// Puts a page into the next slot that was never used.
     pub(crate) fn push(&mut self, page: Page<N>)
         requires { length self.old.slots < self.old.room }
-        ensures { self.new ≡ record self.old { slots = self.old.slots ++ Some (first_held page) ∷ [] } }
+        ensures { self.new ≡ record self.old {
+          slots = self.old.slots ++ Some (first_held page) ∷ [];
+        } }
     {
         self.pages.push_reserved(Some(page));
         self.holders.push_reserved(1);
@@ -84,7 +87,9 @@ impl<N: Naming> Holdings<N> {
     pub(crate) fn fill(&mut self, at: usize, page: Page<N>)
         requires within { at < length self.old.slots }
         requires empty { slice_index_or self.old.slots at None ≡ None }
-        ensures { self.new ≡ record self.old { slots = slice_set self.old.slots at (Some (first_held page)) } }
+        ensures { self.new ≡ record self.old {
+          slots = slice_set self.old.slots at (Some (first_held page));
+        } }
     {
         match mem::replace(&mut self.pages[at], Some(page)) {
             None => {}
@@ -134,7 +139,9 @@ impl<N: Naming> Holdings<N> {
     pub(crate) fn write(&mut self, at: usize, offset: usize, bytes: &[u8])
         requires held { IsSome (slice_index_or self.old.slots at None) }
         requires fits { offset + length bytes.now ≤ N.page_bytes }
-        ensures { self.new ≡ record self.old { slots = at_slot (written offset bytes.now) at self.old.slots } }
+        ensures { self.new ≡ record self.old {
+          slots = at_slot (written offset bytes.now) at self.old.slots;
+        } }
     {
         match &mut self.pages[at] {
             Some(page) => page.write(offset, bytes),

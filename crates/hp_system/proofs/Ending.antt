@@ -130,7 +130,8 @@ module _ (size bytes n : ℕ) (t : Table) (start : Pool) (rest : List Slot) wher
         overcommit = set.1 ∙ was.overcommit;
       }
 
-  pub exits_go : (tasks : List ℕ) (m left : Mount) (p q : Pool) → Exits tasks m p left q → IsEnding size bytes n t start (rest ++ Some m ∷ []) p → IsEnding size bytes n t start (rest ++ Some left ∷ []) q
+  pub exits_go : (tasks : List ℕ) (m left : Mount) (p q : Pool) → Exits tasks m p left q → IsEnding size bytes n t start (rest ++ Some m ∷ []) p →
+      IsEnding size bytes n t start (rest ++ Some left ∷ []) q
   exits_go [] m left p q went was =
       subst (λ x. IsEnding size bytes n t start (rest ++ Some x ∷ []) q) (sym went.0) (subst (λ x. IsEnding size bytes n t start (rest ++ Some m ∷ []) x) (sym went.1) was)
   exits_go (task ∷ tasks) m left p q went was = exits_go tasks went.0 left went.1 q went.3 (exit_goes task m went.0 p went.1 went.2 was)
@@ -142,7 +143,8 @@ exits_more [] task m n o p q r went next =
 exits_more (first ∷ tasks) task m n o p q r went next = (went.0, went.1, went.2, exits_more tasks task went.0 n o went.1 q r went.3 next)
 
 -- nothing is committed any more
-pub all_gone : (size bytes n : ℕ) (t : Table) (start p : Pool) (s : State) (xs : List Slot) → xs ≡ [] → IsEnding size bytes n t start xs p → start.nr ≡ s.nr → start.overcommit ≡ s.overcommit → counts_of p ≡ all_free s
+pub all_gone : (size bytes n : ℕ) (t : Table) (start p : Pool) (s : State) (xs : List Slot) → xs ≡ [] → IsEnding size bytes n t start xs p →
+    start.nr ≡ s.nr → start.overcommit ≡ s.overcommit → counts_of p ≡ all_free s
 all_gone size bytes n t start p s xs none ends nr_is overcommit_is =
     let kept = subst (λ ys. IsKept size bytes t (ys ++ replicate (n - length ys) None) p) none ends.kept in
     let sums : committed_pages (state_of size t (replicate (n - 0) None) p) ≡ 0 = sum_none (n - 0) in

@@ -53,7 +53,8 @@ module _ (task : ℕ) where
   test_same s t a zero same = refl
   test_same s t a (suc n) same =
       let rest = test_same s t (a + 1) n (λ j low high. same j (omega (arith, low)) (omega (arith, high))) in
-      ap (λ x. cond (has_maps_of task x) (a ∷ filter (λ k. has_maps_of task (slot_at t k)) (range_with_len (a + 1) n)) (filter (λ k. has_maps_of task (slot_at t k)) (range_with_len (a + 1) n))) (same a (omega arith) (omega arith))
+      ap (λ x. cond (has_maps_of task x) (a ∷ filter (λ k. has_maps_of task (slot_at t k)) (range_with_len (a + 1) n))
+      (filter (λ k. has_maps_of task (slot_at t k)) (range_with_len (a + 1) n))) (same a (omega arith) (omega arith))
       ∙ ap (λ ks. cond (has_maps_of task (slot_at s a)) (a ∷ ks) ks) rest
 
   -- the slots below n are the same
@@ -98,7 +99,8 @@ module _ (parent child : ℕ) (apart : parent ≡ child → ⊥) where
       let ends = event_ends (Becomes (slot_at s k)) s k (ForkMaps parent child) (Ok a) t (λ c. becomes s.page_size k c (slot_at s k)) is in
       by_outcome ends.outcome ends.holds ends.replied ends.slots
     where
-      by_outcome : (o : Outcome) → Becomes (slot_at s k) o → Ok a ≡ reply_of o → t.slots ≡ slice_set s.slots k (left_by (slot_at s k) o) → has_maps_of parent (slot_at t k) ≡ has_maps_of parent (slot_at s k)
+      by_outcome : (o : Outcome) → Becomes (slot_at s k) o → Ok a ≡ reply_of o → t.slots ≡ slice_set s.slots k (left_by (slot_at s k) o) →
+          has_maps_of parent (slot_at t k) ≡ has_maps_of parent (slot_at s k)
       by_outcome (Refused r) h replied slots = cc
       by_outcome (Answered x new) h replied slots = ap (has_maps_of parent) (ap (λ (xs : List Slot). slice_index_or xs k None) slots ∙ get_or-set_same s.slots k new None within) ∙ h
 
@@ -152,7 +154,8 @@ module _ (parent child : ℕ) (apart : parent ≡ child → ⊥) where
           not_ok e = cc
 
 -- a slot that its event was done on
-pub slot_forked : (s t : State) (k parent child : ℕ) (reply : Reply) → has_maps_of parent (slot_at s k) ≡ true → IsEvent s (OnSlot k (ForkMaps parent child)) reply t → IsForkedOn s k parent child reply t
+pub slot_forked : (s t : State) (k parent child : ℕ) (reply : Reply) → has_maps_of parent (slot_at s k) ≡ true →
+    IsEvent s (OnSlot k (ForkMaps parent child)) reply t → IsForkedOn s k parent child reply t
 slot_forked s t k parent child reply some event = subst (λ b. MatchBool b (IsEvent s (OnSlot k (ForkMaps parent child)) reply t) (Stays reply s t)) (sym some) event
 
 -- ---- the step

@@ -1,5 +1,6 @@
 -- Steps of the machine, by what its parts do. The code's values enter as variables with equations.
-use Rattle.std.proofs.Common.{◌≡◌, ℕ, zero, suc, ◌+◌, ◌-◌, ◌<◌, ◌≤◌, take, replicate, true, false, cond, List, [], ◌∷◌, ◌++◌, Option, Ok, Err, None, Some, length, map, not, ◌==◌, Bool, refl, sym, ◌∙◌, ap, subst, arith, IsTrue}
+use Rattle.std.proofs.Common.{◌≡◌, ℕ, zero, suc, ◌+◌, ◌-◌, ◌<◌, ◌≤◌, take, replicate, true, false, cond, List, [], ◌∷◌, ◌++◌}
+use Rattle.std.proofs.Common.{Option, Ok, Err, None, Some, length, map, not, ◌==◌, Bool, refl, sym, ◌∙◌, ap, subst, arith, IsTrue}
 use Rattle.std.specs.Bool.{MatchBool}
 use Rattle.std.specs.List.{find, range_with_len}
 use Rattle.std.specs.Option.{option_map}
@@ -47,7 +48,8 @@ only_is s t e reply h = (reply, t, h, (refl, refl))
 module _ (size : ℕ) (t : Table) (slots : List Slot) (p : Pool) where
   -- ---- the pool
 
-  pool_event_is : (e : PoolEvent) (reply : Reply) (q : Pool) → pool_of (state_of size t slots p) ≡ p → pool_event p e ≡ (reply, q) → IsEvent (state_of size t slots p) (OnPool e) reply (state_of size t slots q)
+  pool_event_is : (e : PoolEvent) (reply : Reply) (q : Pool) → pool_of (state_of size t slots p) ≡ p → pool_event p e ≡ (reply, q) →
+      IsEvent (state_of size t slots p) (OnPool e) reply (state_of size t slots q)
   pool_event_is e reply q tie h =
       let s : State = state_of size t slots p in
       (calm, tt, subst (λ x. with_pool_reply s (pool_event x e) ≡ (reply, state_of size t slots q)) (sym tie) (ap (λ x. (x.0, state_of size t slots x.1)) h))
@@ -194,7 +196,8 @@ module _ (s : State) (task : ℕ) where
 
 -- ---- loads and stores
 
-pub load_found : (s t : State) (a : Access) (count home : ℕ) (reply : Reply) → home_of s.table a.task ≡ Some home → DoesOnSlot s a.slot (load_event a count home) reply t → IsStep s (load_step a count) reply t
+pub load_found : (s t : State) (a : Access) (count home : ℕ) (reply : Reply) → home_of s.table a.task ≡ Some home →
+    DoesOnSlot s a.slot (load_event a count home) reply t → IsStep s (load_step a count) reply t
 unfolding IsStep
 load_found s t a count home reply known h = task_found s a.task t home (λ x. on_slot (length s.slots) a.slot (load_event a count x)) reply known h
 
@@ -231,10 +234,12 @@ pub state_back : (size : ℕ) (t : Table) (xs : List Slot) (p : Pool) (k : ℕ) 
 state_back size t xs p k x s read s_is = sym s_is ∙ ap (λ ys. state_of size t ys p) (sym (put_back xs k x read))
 
 -- and the machine
-pub machine_back : {size : ℕ} {t : Table} {xs : List Slot} {p : Pool} (k : ℕ) (x : Slot) (m : Machine) → x ≡ slice_index_or xs k x → machine_of size t xs p ≡ m → m ≡ machine_of size t (slice_set xs k x) p
+pub machine_back : {size : ℕ} {t : Table} {xs : List Slot} {p : Pool} (k : ℕ) (x : Slot) (m : Machine) → x ≡ slice_index_or xs k x →
+    machine_of size t xs p ≡ m → m ≡ machine_of size t (slice_set xs k x) p
 machine_back {size} {t} {xs} {p} k x m read is = sym is ∙ ap (λ ys. machine_of size t ys p) (sym (put_back xs k x read))
 
-module _ (size bytes : ℕ) (t : Table) (xs : List Slot) (p : Pool) (kept : IsKept size bytes t xs p) (s : State) (s_is : state_of size t xs p ≡ s) (k : ℕ) (within : k < length xs) (old : Slot) (here : slot_in xs k ≡ old)
+module _ (size bytes : ℕ) (t : Table) (xs : List Slot) (p : Pool) (kept : IsKept size bytes t xs p) (s : State) (s_is : state_of size t xs p ≡ s)
+    (k : ℕ) (within : k < length xs) (old : Slot) (here : slot_in xs k ≡ old)
     (e : SlotEvent) (happens : IsTrue (is_slot_event old e)) where
   -- what an event on the slot leaves, as an event
   pub slot_went : (new : Slot) (q : Pool) (reply : Reply) → IsCarried size k p old e reply new q → IsEvent s (OnSlot k e) reply (state_of size t (slice_set xs k new) q)

@@ -80,7 +80,8 @@ impl TaskTable {
 
     /// Adds a child of a task, with its home node. Refused as NoSuchTask, TaskExists or TooMany; then nothing changes.
     pub fn add_child(&mut self, parent: u64, child: u64) -> Result<(), Refusal>
-        ensures { (nodes : ℕ) → table_event nodes self.old (FindAndAdd parent child) ≡ (done result, self.new) }
+        ensures { (nodes : ℕ) → table_event nodes self.old (FindAndAdd parent child)
+            ≡ (done result, self.new) }
     {
         let Some(home) = self.home(parent) else {
             return Err(Refusal::NoSuchTask);

@@ -1,5 +1,6 @@
 -- Reading a number from left to right.
-use Rattle.std.proofs.Common.{◌≡◌, ℕ, List, [], ◌∷◌, ◌+◌, ◌-◌, ◌*◌, ◌^◌, ◌<◌, ◌≤◌, length, refl, sym, ◌∙◌, ap, arith, Bool, true, false, ◌&&◌, nat_lt, nat_le, Option, Some, None, inl, inr, ◌⊎◌, drop, get_or, add-one, drop-cons, drop_of_length-le}
+use Rattle.std.proofs.Common.{◌≡◌, ℕ, List, [], ◌∷◌, ◌+◌, ◌-◌, ◌*◌, ◌^◌, ◌<◌, ◌≤◌, length, refl, sym, ◌∙◌, ap, arith}
+use Rattle.std.proofs.Common.{Bool, true, false, ◌&&◌, nat_lt, nat_le, Option, Some, None, inl, inr, ◌⊎◌, drop, get_or, add-one, drop-cons, drop_of_length-le}
 use Rattle.std.proofs.lemmas.Bool.Decides.{nat_tests}
 use Rattle.std.proofs.lemmas.Str.{digit_value_digit}
 use Rattle.std.specs.Char.{is_ascii_digit, digit_value}
@@ -59,17 +60,21 @@ number_of_some digits some short =
     ap (λ t. made (t && nat_le (length digits) 20 && all_ascii_digits digits) (digits_value_after 10 0 digits)) a
     ∙ ap (λ t. made (t && all_ascii_digits digits) (digits_value_after 10 0 digits)) b
 
-pub number_step : (digits : List ℕ) (value i more : ℕ) (start : Option ℕ) → i < length digits → number_from value (drop i digits) ≡ start → IsInRange 48 57 (get_or digits i 0) → more ≡ value * 10 + (get_or digits i 0 - 48) → number_from more (drop (i + 1) digits) ≡ start
+pub number_step : (digits : List ℕ) (value i more : ℕ) (start : Option ℕ) → i < length digits → number_from value (drop i digits) ≡ start →
+    IsInRange 48 57 (get_or digits i 0) → more ≡ value * 10 + (get_or digits i 0 - 48) → number_from more (drop (i + 1) digits) ≡ start
 number_step digits value i more start within so digit is =
     let cut : drop i digits ≡ get_or digits i 0 ∷ drop (i + 1) digits = rw add-one (drop-cons digits i 0 within) in
     let step = number_from_digit value (get_or digits i 0) (drop (i + 1) digits) digit in
     ap (λ n. number_from n (drop (i + 1) digits)) is ∙ sym step ∙ ap (number_from value) (sym cut) ∙ so
 
-pub number_stop : (digits : List ℕ) (value i : ℕ) → i < length digits → number_from value (drop i digits) ≡ number_from 0 digits → (IsInRange 48 57 (get_or digits i 0) → 2 ^ 64 ≤ value * 10 + (get_or digits i 0 - 48)) → 0 < length digits → length digits ≤ 20 → None ≡ number_of digits
+pub number_stop : (digits : List ℕ) (value i : ℕ) → i < length digits → number_from value (drop i digits) ≡ number_from 0 digits →
+    (IsInRange 48 57 (get_or digits i 0) → 2 ^ 64 ≤ value * 10 + (get_or digits i 0 - 48)) → 0 < length digits → length digits ≤ 20 →
+    None ≡ number_of digits
 number_stop digits value i within so stop some short =
     let cut : drop i digits ≡ get_or digits i 0 ∷ drop (i + 1) digits = rw add-one (drop-cons digits i 0 within) in
     sym (number_of_some digits some short ∙ sym so ∙ ap (number_from value) cut ∙ number_from_stop value (get_or digits i 0) (drop (i + 1) digits) stop)
 
-pub number_end : (digits : List ℕ) (value i : ℕ) → length digits ≤ i → value < 2 ^ 64 → number_from value (drop i digits) ≡ number_from 0 digits → 0 < length digits → length digits ≤ 20 → Some value ≡ number_of digits
+pub number_end : (digits : List ℕ) (value i : ℕ) → length digits ≤ i → value < 2 ^ 64 → number_from value (drop i digits) ≡ number_from 0 digits →
+    0 < length digits → length digits ≤ 20 → Some value ≡ number_of digits
 number_end digits value i past fits so some short =
     sym (number_of_some digits some short ∙ sym so ∙ ap (number_from value) (drop_of_length-le digits past) ∙ made_fits value fits)

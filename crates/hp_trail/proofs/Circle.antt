@@ -154,8 +154,14 @@ module _ (t : Trails) (receipts : List (List Receipt)) (c : Cursors) where
         by_entry : (o : Option SlotEntry) → slice_get (slot_trail t k) j ≡ o → Earlier (AtSlot k) j
         by_entry None e = absurd (some (ap (option_map (InSlot k)) e))
         by_entry (Some x) e =
-            let y = there_below (slot_trail t k) (at c.slots k) j x l e in
-            (AtSlot k, at c.slots k, left_at (AtSlot k) (at c.slots k) (omega arith), (λ none. no_entry (InSlot k y.0) (sym (ap (option_map (InSlot k)) y.1) ∙ none)), (λ e. omega (arith, e.1, l)), inl (refl, l))
+            let y = there_below (slot_trail t k) (at c.slots k) j x l e in (
+              AtSlot k,
+              at c.slots k,
+              left_at (AtSlot k) (at c.slots k) (omega arith),
+              (λ none. no_entry (InSlot k y.0) (sym (ap (option_map (InSlot k)) y.1) ∙ none)),
+              (λ e. omega (arith, e.1, l)),
+              inl (refl, l),
+            )
     past_cursor AtPool j some l =
         at_pool AtPool j j refl l (λ none. some (ap (λ o. option_and_then of_pool o) none)) (λ k i asked asks is e. not_pool k (sym e.0)) (λ e. omega (arith, e.1, l))
 

@@ -112,7 +112,8 @@ module _ (t : Trails) (receipts : List (List Receipt)) (c d : Cursors) where
         ]
 
 -- a session that waits is tried no more
-pub covered_without : (t : Trails) (receipts : List (List Receipt)) (c : Cursors) (rest : List ℕ) (s : ℕ) → AreCovered t receipts c (rest ++ s ∷ []) → Waits t receipts c s → AreCovered t receipts c rest
+pub covered_without : (t : Trails) (receipts : List (List Receipt)) (c : Cursors) (rest : List ℕ) (s : ℕ) → AreCovered t receipts c (rest ++ s ∷ []) →
+    Waits t receipts c s → AreCovered t receipts c rest
 covered_without t receipts c rest s covered waits u l =
     elim (covered u l) [
       | inl among ↦
@@ -144,7 +145,8 @@ fewer (rs ∷ rss) f g (suc s) l some own others =
     let rest = fewer rss (λ n. f (suc n)) (λ n. g (suc n)) s (omega (arith, l)) some own (λ u l ne. others (suc u) (omega (arith, l)) (λ e. ne (omega (arith, e)))) in
     omega (arith, first, rest)
 
-pub one_fewer : (t : Trails) (receipts : List (List Receipt)) (c d : Cursors) (s : ℕ) (part : Part) → Took t receipts s part c d → receipts_left receipts (at d.sessions) + 1 ≡ receipts_left receipts (at c.sessions)
+pub one_fewer : (t : Trails) (receipts : List (List Receipt)) (c d : Cursors) (s : ℕ) (part : Part) → Took t receipts s part c d →
+    receipts_left receipts (at d.sessions) + 1 ≡ receipts_left receipts (at c.sessions)
 one_fewer t receipts c d s part took =
     let own = own_moves t receipts c d took.0 s took.1 took.2 in
     let below = row_there receipts s (at c.sessions s) own.1 in

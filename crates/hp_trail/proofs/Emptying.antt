@@ -41,7 +41,13 @@ ends f (x ∷ []) [] y e = record { init = []; last = x; is = refl; images = ref
 ends f (x ∷ w ∷ xs) [] y e = cc
 ends f (x ∷ xs) (z ∷ ys) y e =
     let rest = ends f xs ys y cc in
-    record { init = x ∷ rest.init; last = rest.last; is = ap (λ zs. x ∷ zs) rest.is; images = (let first : f x ≡ z = cc in ap (λ v. v ∷ map f rest.init) first ∙ ap (λ vs. z ∷ vs) rest.images); image = rest.image }
+    record {
+      init = x ∷ rest.init;
+      last = rest.last;
+      is = ap (λ zs. x ∷ zs) rest.is;
+      images = (let first : f x ≡ z = cc in ap (λ v. v ∷ map f rest.init) first ∙ ap (λ vs. z ∷ vs) rest.images);
+      image = rest.image;
+    }
 
 snoc_same : {X : Type 0} (xs ys : List X) (x y : X) → xs ++ x ∷ [] ≡ ys ++ y ∷ [] → (xs ≡ ys) × (x ≡ y)
 snoc_same [] [] x y e = (refl, cc)
@@ -128,7 +134,8 @@ emptying_none receipts items order is_told ordered = record {
   taken = refl;
 }
 
-pub all_taken : (items : List Item) (n : ℕ) (order : List ℕ) (left : List (List Receipt)) (events : List Event) → IsEmptying items n order left events → order ≡ [] → map happened items ≡ reverse events
+pub all_taken : (items : List Item) (n : ℕ) (order : List ℕ) (left : List (List Receipt)) (events : List Event) →
+    IsEmptying items n order left events → order ≡ [] → map happened items ≡ reverse events
 all_taken items n order left events h none = no_front h.front h.back h.all (h.ordered ∙ none) ∙ sym h.taken
   where
     no_front : (front back : List Item) → items ≡ front ++ back → map session_of front ≡ [] → map happened items ≡ map happened back

@@ -10,7 +10,8 @@ use Rattle.hp_model.specs.declared.entry.PoolEntry.{PoolEntry}
 use Rattle.hp_model.specs.declared.entry.PoolEntry.TheVariants.{OfSlot, OfPool}
 use Rattle.hp_model.specs.declared.entry.Receipt.{Receipt}
 use Rattle.hp_model.specs.threads.Differ.{Asks, Differ, Has, HasCircle, InPoolAt, IsBefore, LostSection, SharedSection, ToldTwice, Untold, WrongReceipt, WrongSection, entry_at, of_pool}
-use Rattle.hp_model.specs.threads.JointRun.{Trails, slot_trail, Entry, InTasks, InSlot, InPool, Item, Joins, IsThere, keep, numbered, option_cons, event_of, part_of, placed, pool_entry, pool_part, receipt_of, section_entry, slot_entry, slot_part, task_part, told}
+use Rattle.hp_model.specs.threads.JointRun.{Trails, slot_trail, Entry, InTasks, InSlot, InPool, Item, Joins, IsThere, keep, numbered, option_cons}
+use Rattle.hp_model.specs.threads.JointRun.{event_of, part_of, placed, pool_entry, pool_part, receipt_of, section_entry, slot_entry, slot_part, task_part, told}
 use Rattle.hp_trail.proofs.Indexing.{get_there, row_there, some_is}
 use Rattle.hp_trail.proofs.Passing.{all_at, kept, kept_from, numbered_at, numbered_is, own_slot, pool_is, slot_is, task_is, told_is}
 use Rattle.std.proofs.Math.Seq.{take-length}
@@ -124,7 +125,8 @@ module _ (t : Trails) (receipts : List (List Receipt)) (items : List Item) (j : 
         where
           by_kinds : (e f : Entry) → a.entry ≡ e → b.entry ≡ f → part_of e ≡ part_of f → IsThere (length t.slots) e → a.place < b.place
           by_kinds (InTasks e) (InTasks f) is is' same within =
-              rises task_part items 0 t.tasks m n a b (a.place, e) (b.place, f) j.order.tasks at at' (ap (λ x. task_part (record a { entry = x })) is) (ap (λ x. task_part (record b { entry = x })) is') l
+              rises task_part items 0 t.tasks m n a b (a.place, e) (b.place, f) j.order.tasks at at' (ap (λ x. task_part (record a { entry = x })) is)
+              (ap (λ x. task_part (record b { entry = x })) is') l
           by_kinds (InTasks e) (InSlot k f) is is' same within = cc
           by_kinds (InTasks e) (InPool v r) is is' same within = cc
           by_kinds (InSlot k e) (InTasks f) is is' same within = cc
@@ -137,7 +139,8 @@ module _ (t : Trails) (receipts : List (List Receipt)) (items : List Item) (j : 
           by_kinds (InPool v r) (InTasks f) is is' same within = cc
           by_kinds (InPool v r) (InSlot k f) is is' same within = cc
           by_kinds (InPool v r) (InPool u q) is is' same within =
-              rises pool_part items 0 t.pool m n a b (a.place, OfPool v r) (b.place, OfPool u q) j.order.pool at at' (ap (λ x. pool_part (record a { entry = x })) is) (ap (λ x. pool_part (record b { entry = x })) is') l
+              rises pool_part items 0 t.pool m n a b (a.place, OfPool v r) (b.place, OfPool u q) j.order.pool at at'
+              (ap (λ x. pool_part (record a { entry = x })) is) (ap (λ x. pool_part (record b { entry = x })) is') l
 
   unique : (m n : ℕ) (part : Part) (place : ℕ) → Is m part place → Is n part place → m ≡ n
   unique m n part place x y =
@@ -291,8 +294,12 @@ module _ (t : Trails) (receipts : List (List Receipt)) (items : List Item) (j : 
       let p = asks_part x.0 h.slot h.place h.asked h.asks x.1 in
       let q = asks_part y.0 h.slot' h.place' h.asked' h.asks' y.1 in
       let same : x.0 ≡ y.0 = two_indices x.0 y.0
-      (λ l. (let wrong = rises pool_part items 0 t.pool x.0 y.0 x.1.item y.1.item (h.asked.place, OfSlot h.asked.section h.asked.answer) (h.asked'.place, OfSlot h.asked'.section h.asked'.answer) j.order.pool x.1.at y.1.at p q l in let e = h.same in absurd (omega (arith, wrong, e))))
-      (λ l. (let wrong = rises pool_part items 0 t.pool y.0 x.0 y.1.item x.1.item (h.asked'.place, OfSlot h.asked'.section h.asked'.answer) (h.asked.place, OfSlot h.asked.section h.asked.answer) j.order.pool y.1.at x.1.at q p l in let e = h.same in absurd (omega (arith, wrong, e)))) in
+      (λ l. (let wrong = rises pool_part items 0 t.pool x.0 y.0 x.1.item y.1.item (h.asked.place, OfSlot h.asked.section h.asked.answer)
+      (h.asked'.place, OfSlot h.asked'.section h.asked'.answer) j.order.pool x.1.at y.1.at p q l in let e = h.same in
+      absurd (omega (arith, wrong, e))))
+      (λ l. (let wrong = rises pool_part items 0 t.pool y.0 x.0 y.1.item x.1.item (h.asked'.place, OfSlot h.asked'.section h.asked'.answer)
+      (h.asked.place, OfSlot h.asked.section h.asked.answer) j.order.pool y.1.at x.1.at q p l in let e = h.same in
+      absurd (omega (arith, wrong, e)))) in
       let one : x.1.item ≡ y.1.item = some_is x.1.item y.1.item (sym x.1.at ∙ ap (slice_get items) same ∙ y.1.at) in
       h.apart (
         slots_same h.slot h.slot' (sym x.1.part' ∙ ap (λ (z : Item). part_of z.entry) one ∙ y.1.part'),
@@ -301,7 +308,8 @@ module _ (t : Trails) (receipts : List (List Receipt)) (items : List Item) (j : 
 
   no_lost_section : LostSection t → ⊥
   no_lost_section h =
-      let i = kept_from pool_part items (0 + h.place, OfSlot h.section h.answer) h.place (ap (λ xs. slice_get xs h.place) j.order.pool ∙ all_numbered 0 t.pool h.place (OfSlot h.section h.answer) h.there) in
+      let i = kept_from pool_part items (0 + h.place, OfSlot h.section h.answer) h.place
+      (ap (λ xs. slice_get xs h.place) j.order.pool ∙ all_numbered 0 t.pool h.place (OfSlot h.section h.answer) h.there) in
       by_entry i.1.entry i.1 refl (stands i.0 i.1 i.2) i.3
     where
       by_entry : (e : Entry) (i : Item) → i.entry ≡ e → StandsAt t i.entry i.place → pool_part i ≡ Some (0 + h.place, OfSlot h.section h.answer) → ⊥

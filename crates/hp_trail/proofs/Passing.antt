@@ -15,7 +15,8 @@ use Rattle.hp_model.specs.declared.section.PoolAnswer.{PoolAnswer}
 use Rattle.hp_model.specs.declared.section.Section.{Section}
 use Rattle.hp_model.specs.threads.Differ.{Has}
 use Rattle.hp_model.specs.machine.Plan.{Reply}
-use Rattle.hp_model.specs.threads.JointRun.{Trails, slot_trail, Entry, InTasks, InSlot, InPool, Item, option_cons, keep, numbered, placed, task_entry, slot_entry, section_entry, pool_entry, task_part, slot_part, pool_part, told, part_of, receipt_of, IsThere}
+use Rattle.hp_model.specs.threads.JointRun.{Trails, slot_trail, Entry, InTasks, InSlot, InPool, Item, option_cons, keep, numbered, placed}
+use Rattle.hp_model.specs.threads.JointRun.{task_entry, slot_entry, section_entry, pool_entry, task_part, slot_part, pool_part, told, part_of, receipt_of, IsThere}
 use Rattle.hp_trail.specs.Walk.{Cursors, at, cursor, session, Walked}
 use Rattle.hp_trail.proofs.Indexing.{some_is}
 

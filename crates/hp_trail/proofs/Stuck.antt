@@ -177,7 +177,8 @@ module _ (t : Trails) (receipts : List (List Receipt)) (c : Cursors) (items : Li
             let below = all_passed AtPool c.pool (some_not_none (InPool v a) (entry_at t AtPool c.pool) (ap (option_and_then of_pool) stands)) in
             absurd (omega (arith, below))
 
-pub ended_joins : (t : Trails) (receipts : List (List Receipt)) (c : Cursors) (order : List ℕ) (rows : Rows) → WalkedBy t receipts c order → AreTold t receipts rows → HaveEnded receipts c → JoinsBy t receipts order
+pub ended_joins : (t : Trails) (receipts : List (List Receipt)) (c : Cursors) (order : List ℕ) (rows : Rows) → WalkedBy t receipts c order →
+    AreTold t receipts rows → HaveEnded receipts c → JoinsBy t receipts order
 ended_joins t receipts c order rows w h ended = (
   w.0,
   joined t receipts c w.0 w.1 record {

@@ -76,7 +76,8 @@ module _ (t : Trails) (receipts : List (List Receipt)) (s : ℕ) (c : Cursors) (
               let long = h.sessions in
               let now : at (slice_set c.sessions s (at c.sessions s + 1)) s ≡ at c.sessions s + 1 = get_or-set_same c.sessions s (at c.sessions s + 1) 0 (omega (arith, there, long)) in
               subst (λ (m : ℕ). GoesOn (session receipts m) (at c.sessions m) (cond (s == m) (Some (receipt_of (item e))) None) (at (slice_set c.sessions s (at c.sessions s + 1)) m)) w.1
-              (subst (λ (b : Bool). GoesOn (session receipts s) (at c.sessions s) (cond b (Some (receipt_of (item e))) None) (at (slice_set c.sessions s (at c.sessions s + 1)) s)) (sym (eq-eqb s s refl))
+              (subst (λ (b : Bool). GoesOn (session receipts s) (at c.sessions s) (cond b (Some (receipt_of (item e))) None)
+              (at (slice_set c.sessions s (at c.sessions s + 1)) s)) (sym (eq-eqb s s refl))
               (h.has ∙ ap Some h.is, now))
           | inr w ↦
               let now : at (slice_set c.sessions s (at c.sessions s + 1)) n ≡ at c.sessions n = get_or-set_other c.sessions s n (at c.sessions s + 1) 0 (λ same. w.1 (sym same)) in
@@ -91,7 +92,8 @@ module _ (t : Trails) (receipts : List (List Receipt)) (s : ℕ) (c : Cursors) (
             let within = row_there t.slots k (at c.slots k) (get_there (slot_trail t k) (at c.slots k) e there) in
             let now : at (slice_set c.slots k (at c.slots k + 1)) k ≡ at c.slots k + 1 = get_or-set_same c.slots k (at c.slots k + 1) 0 (omega (arith, within, long)) in
             subst (λ (m : ℕ). Goes (slot_trail t m) (at c.slots m) (placed (at c.slots k) (cond (k == m) (Some e) None)) (at (slice_set c.slots k (at c.slots k + 1)) m)) w.1
-            (subst (λ (b : Bool). Goes (slot_trail t k) (at c.slots k) (placed (at c.slots k) (cond b (Some e) None)) (at (slice_set c.slots k (at c.slots k + 1)) k)) (sym (eq-eqb k k refl)) (refl, there, now))
+            (subst (λ (b : Bool). Goes (slot_trail t k) (at c.slots k) (placed (at c.slots k) (cond b (Some e) None))
+            (at (slice_set c.slots k (at c.slots k + 1)) k)) (sym (eq-eqb k k refl)) (refl, there, now))
         | inr w ↦
             let now : at (slice_set c.slots k (at c.slots k + 1)) n ≡ at c.slots n = get_or-set_other c.slots k n (at c.slots k + 1) 0 (λ same. w.1 (sym same)) in
             subst (λ (b : Bool). Goes (slot_trail t n) (at c.slots n) (placed (at c.slots k) (cond b (Some e) None)) (at (slice_set c.slots k (at c.slots k + 1)) n)) (sym w.0) now
@@ -137,7 +139,8 @@ module _ (t : Trails) (receipts : List (List Receipt)) (s : ℕ) (c : Cursors) (
   }
 
   -- the receipt, with the entry that it tells of
-  pub took : (e : Entry) → Tells t r e → Has receipts s (at c.sessions s) r → r.place ≡ cursor c r.part → length c.sessions ≡ length receipts → length c.slots ≡ length t.slots → SectionNext t c (asked_of e)
+  pub took : (e : Entry) → Tells t r e → Has receipts s (at c.sessions s) r → r.place ≡ cursor c r.part → length c.sessions ≡ length receipts →
+      length c.slots ≡ length t.slots → SectionNext t c (asked_of e)
       → Took t receipts s r.part c (past_session s (past r.part (past_section (asked_of e) c)))
   took e tells has place sessions slots section =
       let at = stands_at t r.part r.place e tells.there in

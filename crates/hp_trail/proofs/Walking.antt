@@ -66,7 +66,8 @@ module _ (t : Trails) (sessions : List (List Receipt)) where
     tasks = goes task_part items i t.tasks c.tasks d.tasks (task_part i) refl w.tasks p.tasks;
     slots = λ k l. goes (slot_part k) items i (slot_trail t k) (at c.slots k) (at d.slots k) (slot_part k i) refl (w.slots k l) (p.slots k l);
     pool = goes pool_part items i t.pool c.pool d.pool (pool_part i) refl w.pool p.pool;
-    there = All-append (λ (i : Item). IsThere (length t.slots) i.entry) items (i ∷ []) w.there (All-cons (λ (i : Item). IsThere (length t.slots) i.entry) i [] p.there (All-nil (λ (i : Item). IsThere (length t.slots) i.entry)));
+    there = All-append (λ (i : Item). IsThere (length t.slots) i.entry) items (i ∷ []) w.there
+        (All-cons (λ (i : Item). IsThere (length t.slots) i.entry) i [] p.there (All-nil (λ (i : Item). IsThere (length t.slots) i.entry)));
     told = λ s l. goes_on (told s) items i (session sessions s) (at c.sessions s) (at d.sessions s) (told s i) refl (w.told s l) (p.told s l);
     by = All-append (λ (i : Item). i.by < length sessions) items (i ∷ []) w.by (All-cons (λ (i : Item). i.by < length sessions) i [] p.by (All-nil (λ (i : Item). i.by < length sessions)));
   }

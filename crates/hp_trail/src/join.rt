@@ -56,7 +56,8 @@ fn pass_all(
 ) -> Result<(), AllocError>
     requires told { AreTold walk.old.trails walk.old.receipts tellers.now }
     requires walked { WalkedBy walk.old.trails walk.old.receipts walk.old.cursors order.old.items }
-    requires covered { AreCovered walk.old.trails walk.old.receipts walk.old.cursors work.old.items }
+    requires covered { AreCovered walk.old.trails walk.old.receipts walk.old.cursors
+        work.old.items }
     ensures trails { OnOk result (walk.new.trails ≡ walk.old.trails) }
     ensures receipts { OnOk result (walk.new.receipts ≡ walk.old.receipts) }
     ensures walked { OnOk result

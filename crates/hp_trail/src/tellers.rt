@@ -27,7 +27,11 @@ impl Model for Tellers {
 
     ghost Value = { Rows };
 
-    ghost view = { λ w. record { tasks = w.tasks.items; slots = lists w.slots.items; pool = w.pool.items } };
+    ghost view = { λ w. record {
+      tasks = w.tasks.items;
+      slots = lists w.slots.items;
+      pool = w.pool.items;
+    } };
 }
 
 impl Tellers {

@@ -29,7 +29,12 @@ impl<'a> Model for Walk<'a> {
     ghost view = { λ w. record {
       trails = trails_of w.tasks.now w.slots.now w.pool.now;
       receipts = lists w.receipts.now;
-      cursors = record { tasks = w.task_cursor; slots = w.slot_cursors.items; pool = w.pool_cursor; sessions = w.session_cursors.items };
+      cursors = record {
+        tasks = w.task_cursor;
+        slots = w.slot_cursors.items;
+        pool = w.pool_cursor;
+        sessions = w.session_cursors.items;
+      };
     } };
 
     ghost invariant = { λ w.

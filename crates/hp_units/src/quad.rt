@@ -37,7 +37,12 @@ impl<A: Ledger, B: Ledger, C: Ledger, D: Ledger> Quad<A, B, C, D> {
         requires one { (one.name ≡ B.name) × (one.parts ≡ B.parts) }
         requires two { (two.name ≡ C.name) × (two.parts ≡ C.parts) }
         requires three { (three.name ≡ D.name) × (three.parts ≡ D.parts) }
-        ensures { result ≡ record { zero = A.parts; one = B.parts; two = C.parts; three = D.parts } }
+        ensures { result ≡ record {
+          zero = A.parts;
+          one = B.parts;
+          two = C.parts;
+          three = D.parts;
+        } }
     {
         Quad {
             zero: Parts::all(zero),

@@ -1,5 +1,6 @@
 -- The end of an input.
-use Rattle.std.proofs.Common.{◌≡◌, ◌≤◌, ℕ, zero, suc, List, [], ◌∷◌, ◌++◌, ◌+◌, ◌<◌, length, refl, sym, ◌∙◌, ap, subst, arith, Option, Result, Ok, Err, Bool, true, false, nat_le, inl, inr, append-nil, length-append, cond, IfOk, IfErr, OnOk}
+use Rattle.std.proofs.Common.{◌≡◌, ◌≤◌, ℕ, zero, suc, List, [], ◌∷◌, ◌++◌, ◌+◌, ◌<◌, length, refl, sym, ◌∙◌, ap, subst}
+use Rattle.std.proofs.Common.{arith, Option, Result, Ok, Err, Bool, true, false, nat_le, inl, inr, append-nil, length-append, cond, IfOk, IfErr, OnOk}
 use Rattle.std.proofs.lemmas.Bool.Decides.{nat_tests}
 use Rattle.std.proofs.lemmas.List.{nil_from_length}
 use Rattle.std.specs.Io.KnownBytes.{Consumes, Appends}
@@ -53,11 +54,20 @@ unended_stands held line s = elim s.like [
   | inr l ↦ unended_is line ∙ ap refused (by_long (length line) l.1 ∙ sym (by_long (length held) l.0))
 ]
 
-ends_ran : {S : Type 0} {may_answer : S → Step → Reply → S → Type 0} {page : ℕ} {s : S} {a b : Option (List ℕ)} (rs : List Refusal) → Appends a b (text_of_refusals page rs) → Ran may_answer page s (refused rs) s a b
+ends_ran : {S : Type 0} {may_answer : S → Step → Reply → S → Type 0} {page : ℕ} {s : S} {a b : Option (List ℕ)} (rs : List Refusal) →
+    Appends a b (text_of_refusals page rs) → Ran may_answer page s (refused rs) s a b
 ends_ran {may_answer} {page} {s} rs h = record { text = text_of_refusals page rs; replies = (replies_of rs, answers_refused may_answer s rs, text_refused page rs); written = h }
 
-ends_part : {S : Type 0} {may_answer : S → Step → Reply → S → Type 0} {page : ℕ} {s : S} {a b : Option (List ℕ)} (rs : List Refusal) → AppendsFront a b (text_of_refusals page rs) → RanInPart may_answer page s (refused rs) s a b
-ends_part {may_answer} {page} {s} rs h = record { done = refused rs; rest = []; first = sym (append-nil (refused rs)); text = text_of_refusals page rs; replies = (replies_of rs, answers_refused may_answer s rs, text_refused page rs); written = h }
+ends_part : {S : Type 0} {may_answer : S → Step → Reply → S → Type 0} {page : ℕ} {s : S} {a b : Option (List ℕ)} (rs : List Refusal) →
+    AppendsFront a b (text_of_refusals page rs) → RanInPart may_answer page s (refused rs) s a b
+ends_part {may_answer} {page} {s} rs h = record {
+  done = refused rs;
+  rest = [];
+  first = sym (append-nil (refused rs));
+  text = text_of_refusals page rs;
+  replies = (replies_of rs, answers_refused may_answer s rs, text_refused page rs);
+  written = h;
+}
 
 length_refused : (rs : List Refusal) → length (refused rs) ≡ length rs
 length_refused [] = refl
@@ -69,7 +79,8 @@ all_lines : {S : Type 0} {may_answer : S → Step → Reply → S → Type 0} {p
 all_lines {held} p = ap (λ (ls : List Line). ended_lines p.input ++ ls) (unended_stands held (after_lines p.input) p.stands)
 
 -- the input ended, and the line that it ended in was answered
-finished_at : {S : Type 0} (may_answer : S → Step → Reply → S → Type 0) (page q : ℕ) (r0 r : Option (List ℕ)) (s0 s : S) (w0 w w1 : Option (List ℕ)) (held : List ℕ) (total count : ℕ) (result : Result ℕ RunFault)
+finished_at : {S : Type 0} (may_answer : S → Step → Reply → S → Type 0) (page q : ℕ) (r0 r : Option (List ℕ)) (s0 s : S) (w0 w w1 : Option (List ℕ))
+    (held : List ℕ) (total count : ℕ) (result : Result ℕ RunFault)
     → (p : Progress may_answer page r0 r s0 s w0 w held total count) → q ≡ page → total ≤ 1073741824
     → IfOk result (λ m. m ≡ count + length (unended_by (length held))) → OnOk result (Appends w w1 (text_of_refusals q (unended_by (length held))))
     → IfErr result (IsCut w w1 (text_of_refusals q (unended_by (length held))))
@@ -77,13 +88,15 @@ finished_at : {S : Type 0} (may_answer : S → Step → Reply → S → Type 0) 
 finished_at may_answer page q r0 r s0 s w0 w w1 held total count (Ok m) p same within all written cut =
     let rs = unended_by (length held) in (
       rw (all_lines p) (ran_then p.ran (ends_ran rs (subst (λ (x : ℕ). Appends w w1 (text_of_refusals x rs)) same written))),
-      all ∙ ap (λ k. k + length rs) p.answered ∙ ap (λ k. length (ended_lines p.input) + k) (sym (length_refused rs)) ∙ sym (length-append (ended_lines p.input) (refused rs)) ∙ ap (λ (ls : List Line). length ls) (sym (all_lines p)),
+      all ∙ ap (λ k. k + length rs) p.answered ∙ ap (λ k. length (ended_lines p.input) + k) (sym (length_refused rs))
+          ∙ sym (length-append (ended_lines p.input) (refused rs)) ∙ ap (λ (ls : List Line). length ls) (sym (all_lines p)),
       omega (arith, within, p.size),
     )
 finished_at may_answer page q r0 r s0 s w0 w w1 held total count (Err e) p same within all written cut =
     rw (cut.0, all_lines p) (ran_cut p.ran (ends_part (unended_by (length held)) (subst (λ (x : ℕ). AppendsFront w w1 (text_of_refusals x (unended_by (length held)))) same cut.1)))
 
-pub finished : {S : Type 0} {may_answer : S → Step → Reply → S → Type 0} {page q : ℕ} {r0 r r1 : Option (List ℕ)} {s0 s : S} {w0 w : Option (List ℕ)} {held chunk : List ℕ} {n total count : ℕ} (w1 : Option (List ℕ)) (result : Result ℕ RunFault)
+pub finished : {S : Type 0} {may_answer : S → Step → Reply → S → Type 0} {page q : ℕ} {r0 r r1 : Option (List ℕ)} {s0 s : S} {w0 w : Option (List ℕ)}
+    {held chunk : List ℕ} {n total count : ℕ} (w1 : Option (List ℕ)) (result : Result ℕ RunFault)
     → Progress may_answer page r0 r s0 s w0 w held total count → Gets held chunk r r1 n → n ≡ 0 → q ≡ page → total ≤ 1073741824
     → IfOk result (λ m. m ≡ count + length (unended_by (length chunk))) → OnOk result (Appends w w1 (text_of_refusals q (unended_by (length chunk))))
     → IfErr result (IsCut w w1 (text_of_refusals q (unended_by (length chunk))))

@@ -44,9 +44,11 @@ front_more a b xs rest all e h =
     (n, appends_same a b (take h.0 xs) (take n all) same h.1)
 
 pub appends_more : (a b c : Option (List ℕ)) (at n : ℕ) (bytes : List ℕ) → Appends a b (take at bytes) → Appends b c (take n (drop at bytes)) → Appends a c (take (at + n) bytes)
-appends_more a b c at n bytes h k = appends_same a c (take at bytes ++ take n (drop at bytes)) (take (at + n) bytes) (sym (take-add at n bytes)) (appends_then a b c (take at bytes) (take n (drop at bytes)) h k)
+appends_more a b c at n bytes h k = appends_same a c (take at bytes ++ take n (drop at bytes)) (take (at + n) bytes) (sym (take-add at n bytes))
+    (appends_then a b c (take at bytes) (take n (drop at bytes)) h k)
 
-pub appends_rest : (a b c : Option (List ℕ)) (at n : ℕ) (bytes : List ℕ) → Appends a b (take at bytes) → Appends b c (take n (take (length bytes - at) (drop at bytes))) → Appends a c (take (at + n) bytes)
+pub appends_rest : (a b c : Option (List ℕ)) (at n : ℕ) (bytes : List ℕ) → Appends a b (take at bytes) →
+    Appends b c (take n (take (length bytes - at) (drop at bytes))) → Appends a c (take (at + n) bytes)
 appends_rest a b c at n bytes h k = appends_more a b c at n bytes h (appends_same b c (take n (take (length bytes - at) (drop at bytes))) (take n (drop at bytes)) (ap (take n) (rest_is at bytes)) k)
 
 pub within_rest : (at n : ℕ) (bytes : List ℕ) → at ≤ length bytes → n ≤ length (take (length bytes - at) (drop at bytes)) → at + n ≤ length bytes

@@ -47,7 +47,8 @@ joined_some c [] [] = (c, [], refl)
 joined_some c [] (b ∷ bs) = (c ++ b, bs, refl)
 joined_some c (a ∷ front) bs = (c, joined (a ∷ front) bs, refl)
 
-ended_joined : (front bs : List (List ℕ)) (f : List ℕ) (m : List (List ℕ)) (g : List ℕ) (n : List (List ℕ)) → front ≡ f ∷ m → bs ≡ g ∷ n → ended_pieces (joined front bs) ≡ ended_pieces front ++ ended_pieces (joined (last_piece front ∷ []) bs)
+ended_joined : (front bs : List (List ℕ)) (f : List ℕ) (m : List (List ℕ)) (g : List ℕ) (n : List (List ℕ)) → front ≡ f ∷ m → bs ≡ g ∷ n →
+    ended_pieces (joined front bs) ≡ ended_pieces front ++ ended_pieces (joined (last_piece front ∷ []) bs)
 ended_joined [] bs f m g n e h = cc
 ended_joined (a ∷ []) bs f m g n e h = refl
 ended_joined (a ∷ c ∷ front) [] f m g n e h = cc
@@ -55,7 +56,8 @@ ended_joined (a ∷ c ∷ front) (b ∷ bs) f m g n e h =
     let j = joined_some c front (b ∷ bs) in
     ended_front a (joined (c ∷ front) (b ∷ bs)) j.0 j.1 j.2 ∙ ap (λ (ls : List Line). ended a ∷ ls) (ended_joined (c ∷ front) (b ∷ bs) c front b bs refl refl)
 
-last_joined : (front bs : List (List ℕ)) (f : List ℕ) (m : List (List ℕ)) (g : List ℕ) (n : List (List ℕ)) → front ≡ f ∷ m → bs ≡ g ∷ n → last_piece (joined front bs) ≡ last_piece (joined (last_piece front ∷ []) bs)
+last_joined : (front bs : List (List ℕ)) (f : List ℕ) (m : List (List ℕ)) (g : List ℕ) (n : List (List ℕ)) → front ≡ f ∷ m → bs ≡ g ∷ n →
+    last_piece (joined front bs) ≡ last_piece (joined (last_piece front ∷ []) bs)
 last_joined [] bs f m g n e h = cc
 last_joined (a ∷ []) bs f m g n e h = refl
 last_joined (a ∷ c ∷ front) [] f m g n e h = cc
@@ -63,7 +65,8 @@ last_joined (a ∷ c ∷ front) (b ∷ bs) f m g n e h =
     let j = joined_some c front (b ∷ bs) in
     last_front a (joined (c ∷ front) (b ∷ bs)) j.0 j.1 j.2 ∙ last_joined (c ∷ front) (b ∷ bs) c front b bs refl refl
 
-last_whole_go : (x : ℕ) (xs : List ℕ) (ps : List (List ℕ)) → (f : List ℕ) (m : List (List ℕ)) → ps ≡ f ∷ m → nat_eq x 10 ≡ false → pieces (last_piece ps) ≡ last_piece ps ∷ [] → pieces (last_piece (onto_first x ps)) ≡ last_piece (onto_first x ps) ∷ []
+last_whole_go : (x : ℕ) (xs : List ℕ) (ps : List (List ℕ)) → (f : List ℕ) (m : List (List ℕ)) → ps ≡ f ∷ m → nat_eq x 10 ≡ false →
+    pieces (last_piece ps) ≡ last_piece ps ∷ [] → pieces (last_piece (onto_first x ps)) ≡ last_piece (onto_first x ps) ∷ []
 last_whole_go x xs [] f m e t ih = cc
 last_whole_go x xs (p ∷ []) f m e t ih = slice_split-cons_no (λ b. b == 10) x p t ∙ ap (onto_first x) ih
 last_whole_go x xs (p ∷ q ∷ r) f m e t ih = ih

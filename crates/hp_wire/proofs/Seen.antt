@@ -32,7 +32,8 @@ module _ {S T : Type 0} (shown : S → T) (may_answer : T → Step → Reply →
   ran_seen : (page : ℕ) (old : S) (ls : List Line) (new : S) (before after : Option (List ℕ)) → Ran Shows page old ls new before after → Ran may_answer page (shown old) ls (shown new) before after
   ran_seen page old ls new before after h = record { text = h.text; replies = text_seen page old ls new h.text h.replies; written = h.written }
 
-  part_seen : (page : ℕ) (old : S) (ls : List Line) (new : S) (before after : Option (List ℕ)) → RanInPart Shows page old ls new before after → RanInPart may_answer page (shown old) ls (shown new) before after
+  part_seen : (page : ℕ) (old : S) (ls : List Line) (new : S) (before after : Option (List ℕ)) → RanInPart Shows page old ls new before after →
+      RanInPart may_answer page (shown old) ls (shown new) before after
   part_seen page old ls new before after h = record {
     done = h.done;
     rest = h.rest;

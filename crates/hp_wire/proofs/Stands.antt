@@ -1,5 +1,6 @@
 -- The bytes that are held of an unended line stand for all of it.
-use Rattle.std.proofs.Common.{◌≡◌, ℕ, zero, suc, List, [], ◌∷◌, ◌++◌, ◌<◌, ◌≤◌, length, take, refl, sym, ◌∙◌, ap, arith, Bool, true, false, nat_eq, ◌==◌, ◌⊎◌, inl, inr, Err, length-append, length-take, nat_le, take_all}
+use Rattle.std.proofs.Common.{◌≡◌, ℕ, zero, suc, List, [], ◌∷◌, ◌++◌, ◌<◌, ◌≤◌, length, take, refl, sym, ◌∙◌}
+use Rattle.std.proofs.Common.{ap, arith, Bool, true, false, nat_eq, ◌==◌, ◌⊎◌, inl, inr, Err, length-append, length-take, nat_le, take_all}
 use Rattle.std.proofs.lemmas.Bool.Decides.{nat_tests}
 use Rattle.std.proofs.lemmas.List.Splits.{slice_split-cons_yes, slice_split-cons_no}
 use Rattle.std.specs.List.{onto_first}
@@ -61,7 +62,8 @@ stand_after h b y s = record {
   ];
 }
 
-front_go : (k x : ℕ) (xs : List ℕ) (b : Bool) → nat_eq x 10 ≡ b → pieces (x ∷ xs) ≡ (x ∷ xs) ∷ [] → (pieces xs ≡ xs ∷ [] → pieces (take k xs) ≡ take k xs ∷ []) → pieces (x ∷ take k xs) ≡ (x ∷ take k xs) ∷ []
+front_go : (k x : ℕ) (xs : List ℕ) (b : Bool) → nat_eq x 10 ≡ b → pieces (x ∷ xs) ≡ (x ∷ xs) ∷ [] →
+    (pieces xs ≡ xs ∷ [] → pieces (take k xs) ≡ take k xs ∷ []) → pieces (x ∷ take k xs) ≡ (x ∷ take k xs) ∷ []
 front_go k x xs true t e ih =
     let h : [] ∷ pieces xs ≡ (x ∷ xs) ∷ [] = sym (slice_split-cons_yes (λ b. b == 10) x xs t) ∙ e in
     cc
@@ -78,7 +80,8 @@ front_whole zero xs e = refl
 front_whole (suc k) [] e = refl
 front_whole (suc k) (x ∷ xs) e = front_go k x xs (nat_eq x 10) refl e (front_whole k xs)
 
-cut_like : (h b : List ℕ) (k : ℕ) (t : Bool) → nat_le (length h) k ≡ t → 1025 ≤ k → (h ≡ b) ⊎ ((1024 < length h) × (1024 < length b)) → (take k h ≡ b) ⊎ ((1024 < length (take k h)) × (1024 < length b))
+cut_like : (h b : List ℕ) (k : ℕ) (t : Bool) → nat_le (length h) k ≡ t → 1025 ≤ k → (h ≡ b) ⊎ ((1024 < length h) × (1024 < length b)) →
+    (take k h ≡ b) ⊎ ((1024 < length (take k h)) × (1024 < length b))
 cut_like h b k true e big s =
     let short : length h ≤ k = grind (arith, nat_tests) in
     elim s [ inl same ↦ inl (take_all k h short ∙ same) | inr l ↦ inr (rw (take_all k h short) l.0, l.1) ]

@@ -50,12 +50,15 @@ chunk_lines : (input held bs : List ℕ) → StandsFor held (after_lines input) 
 chunk_lines input held bs h = join_ended input bs ∙ ap (λ (ls : List Line). ended_lines input ++ ls) (stand_ended held (after_lines input) bs h)
 
 -- a front of what was read after what is held was answered
-front_ran : {S : Type 0} {may_answer : S → Step → Reply → S → Type 0} {page q : ℕ} {r0 r : Option (List ℕ)} {s0 s t : S} {w0 w w1 : Option (List ℕ)} {held : List ℕ} {total count : ℕ} (bs chunk : List ℕ)
-    → (p : Progress may_answer page r0 r s0 s w0 w held total count) → chunk ≡ held ++ bs → q ≡ page → Ran may_answer q s (ended_lines chunk) t w w1 → Ran may_answer page s0 (ended_lines (p.input ++ bs)) t w0 w1
+front_ran : {S : Type 0} {may_answer : S → Step → Reply → S → Type 0} {page q : ℕ} {r0 r : Option (List ℕ)} {s0 s t : S} {w0 w w1 : Option (List ℕ)}
+    {held : List ℕ} {total count : ℕ} (bs chunk : List ℕ)
+    → (p : Progress may_answer page r0 r s0 s w0 w held total count) → chunk ≡ held ++ bs → q ≡ page → Ran may_answer q s (ended_lines chunk) t w w1 →
+    Ran may_answer page s0 (ended_lines (p.input ++ bs)) t w0 w1
 front_ran {held} bs chunk p cut same ran = rw (chunk_lines p.input held bs p.stands) (ran_then p.ran (rw (same, cut) at ran))
 
 go_on : {S : Type 0} {may_answer : S → Step → Reply → S → Type 0} {page q : ℕ} {r0 r r1 : Option (List ℕ)} {s0 s t : S} {w0 w w1 : Option (List ℕ)} {held chunk next : List ℕ} {total count n more : ℕ}
-    → Progress may_answer page r0 r s0 s w0 w held total count → Gets held chunk r r1 n → q ≡ page → Ran may_answer q s (ended_lines chunk) t w w1 → next ≡ take 1025 (after_lines chunk) → more ≡ length (ended_lines chunk)
+    → Progress may_answer page r0 r s0 s w0 w held total count → Gets held chunk r r1 n → q ≡ page → Ran may_answer q s (ended_lines chunk) t w w1 →
+    next ≡ take 1025 (after_lines chunk) → more ≡ length (ended_lines chunk)
     → Progress may_answer page r0 r1 s0 t w0 w1 next (total + n) (count + more)
 go_on {r0} {r} {r1} {held} {chunk} {next} {count} {more} p got same ran e m =
     let bs = got.bytes in
@@ -73,7 +76,8 @@ go_on {r0} {r} {r1} {held} {chunk} {next} {count} {more} p got same ran e m =
     }
 
 -- after the lines that ended were answered, and what follows them was kept
-pub turned : {S : Type 0} {may_answer : S → Step → Reply → S → Type 0} {page q : ℕ} {r0 r r1 : Option (List ℕ)} {s0 s t : S} {w0 w w1 : Option (List ℕ)} {held chunk next : List ℕ} {total count n left more : ℕ}
+pub turned : {S : Type 0} {may_answer : S → Step → Reply → S → Type 0} {page q : ℕ} {r0 r r1 : Option (List ℕ)} {s0 s t : S}
+    {w0 w w1 : Option (List ℕ)} {held chunk next : List ℕ} {total count n left more : ℕ}
     → Progress may_answer page r0 r s0 s w0 w held total count → Gets held chunk r r1 n → q ≡ page → Ran may_answer q s (ended_lines chunk) t w w1
     → CountsLines chunk (left, more) → next ≡ take 1025 (drop (length chunk - left) chunk)
     → Progress may_answer page r0 r1 s0 t w0 w1 next (total + n) (count + more)
@@ -86,7 +90,8 @@ more_lines xs ys = (
   ap (λ (ls : List Line). ls ++ unended (after_lines (xs ++ ys))) (join_ended xs ys) ∙ append_assoc (ended_lines xs) (ended_lines (after_lines xs ++ ys)) (unended (after_lines (xs ++ ys))),
 )
 
-part_more : {S : Type 0} {may_answer : S → Step → Reply → S → Type 0} {page : ℕ} {s t : S} {ls all : List Line} {a c : Option (List ℕ)} (ks : List Line) → all ≡ ls ++ ks → RanInPart may_answer page s ls t a c → RanInPart may_answer page s all t a c
+part_more : {S : Type 0} {may_answer : S → Step → Reply → S → Type 0} {page : ℕ} {s t : S} {ls all : List Line} {a c : Option (List ℕ)}
+    (ks : List Line) → all ≡ ls ++ ks → RanInPart may_answer page s ls t a c → RanInPart may_answer page s all t a c
 part_more ks e h = record {
   done = h.done;
   rest = h.rest ++ ks;
@@ -121,7 +126,8 @@ but_one {held} {all} {n} got some =
     }
 
 -- a write fails while the lines of a front of what was read are answered
-pub cut_short : {S : Type 0} {may_answer : S → Step → Reply → S → Type 0} {page q : ℕ} {r0 r r1 : Option (List ℕ)} {s0 s t : S} {w0 w w1 : Option (List ℕ)} {held all chunk back : List ℕ} {n total count : ℕ}
+pub cut_short : {S : Type 0} {may_answer : S → Step → Reply → S → Type 0} {page q : ℕ} {r0 r r1 : Option (List ℕ)} {s0 s t : S}
+    {w0 w w1 : Option (List ℕ)} {held all chunk back : List ℕ} {n total count : ℕ}
     → Progress may_answer page r0 r s0 s w0 w held total count → (got : Gets held all r r1 n) → ButFor held chunk got.bytes back → q ≡ page → RanInPart may_answer q s (ended_lines chunk) t w w1
     → (input : List ℕ) × Consumes r0 r1 input × RanInPart may_answer page s0 (lines input) t w0 w1
 cut_short {may_answer} {page} {r0} {r} {r1} {s0} {t} {w0} {w1} {held} {back} p got but same ran =
@@ -133,7 +139,8 @@ cut_short {may_answer} {page} {r0} {r} {r1} {s0} {t} {w0} {w1} {held} {back} p g
     )
 
 -- the limit was passed by one byte, which isn't looked at
-pub passed : {S : Type 0} {may_answer : S → Step → Reply → S → Type 0} {page q : ℕ} {r0 r r1 : Option (List ℕ)} {s0 s t : S} {w0 w w1 : Option (List ℕ)} {held all chunk back : List ℕ} {n total count : ℕ} (limit : ℕ)
+pub passed : {S : Type 0} {may_answer : S → Step → Reply → S → Type 0} {page q : ℕ} {r0 r r1 : Option (List ℕ)} {s0 s t : S}
+    {w0 w w1 : Option (List ℕ)} {held all chunk back : List ℕ} {n total count : ℕ} (limit : ℕ)
     → Progress may_answer page r0 r s0 s w0 w held total count → (got : Gets held all r r1 n) → ButFor held chunk got.bytes back → q ≡ page → Ran may_answer q s (ended_lines chunk) t w w1
     → total + n ≡ limit + 1 → length back ≡ 1
     → (input : List ℕ) × Consumes r0 r1 input × (length input ≡ limit + 1) × Ran may_answer page s0 (ended_lines (take limit input)) t w0 w1

@@ -17,13 +17,15 @@ pub record Gains (old : Option (List ℕ)) (waiting : List ℕ) (new : Option (L
   pub same : waiting ++ added ≡ sent ++ left
 
 -- all the lines were answered, and the text of the replies was gained
-pub record Answered {S : Type 0} (may_answer : S → Step → Reply → S → Type 0) (page : ℕ) (old : S) (lines : List Line) (new : S) (before : Option (List ℕ)) (waiting : List ℕ) (after : Option (List ℕ)) (left : List ℕ) : Type 0 where
+pub record Answered {S : Type 0} (may_answer : S → Step → Reply → S → Type 0) (page : ℕ) (old : S) (lines : List Line) (new : S)
+    (before : Option (List ℕ)) (waiting : List ℕ) (after : Option (List ℕ)) (left : List ℕ) : Type 0 where
   pub text : List ℕ
   pub replies : IsTextOfReplies may_answer page old lines new text
   pub gained : Gains before waiting after left text
 
 -- the first of the lines were answered, and a front of what waited and of the text of their replies was written
-pub record AnsweredInPart {S : Type 0} (may_answer : S → Step → Reply → S → Type 0) (page : ℕ) (old : S) (lines : List Line) (new : S) (before : Option (List ℕ)) (waiting : List ℕ) (after : Option (List ℕ)) : Type 0 where
+pub record AnsweredInPart {S : Type 0} (may_answer : S → Step → Reply → S → Type 0) (page : ℕ) (old : S) (lines : List Line) (new : S)
+    (before : Option (List ℕ)) (waiting : List ℕ) (after : Option (List ℕ)) : Type 0 where
   pub done : List Line
   pub rest : List Line
   pub first : lines ≡ done ++ rest

@@ -28,7 +28,8 @@ pub fn run_script<N: Naming, R: Source, W: Sink>(
     ensures served { ServesInput IsPromisedStep (λ state. state.page_size) R.remaining W.contents
         machine.old.state machine.new.state reader.old reader.new writer.old writer.new result }
     ensures script { IfSome (R.remaining reader.old) (λ input. OnOk result
-        (AnswersInput IsPromisedStep machine.old.state.page_size input machine.old.state machine.new.state
+        (AnswersInput IsPromisedStep machine.old.state.page_size input machine.old.state
+        machine.new.state
         (W.contents writer.old) (W.contents writer.new))) }
     ensures never { R.is_sure reader.old → W.is_sure writer.old
         → IfErr result IsMemoryOrTooLong }

@@ -19,7 +19,8 @@ abbrev others_of : Read (List ℕ) → List (List ℕ)
 others_of (Ok x) = x.1
 others_of (Err e) = []
 
-pub reserving_last : (words : List (List ℕ)) (piece : List ℕ) (more : List (List ℕ)) → piece_at words ≡ Ok (piece, more) → end_at more ≡ Ok tt → reserving_at words ≡ (if bytes_eq piece (codes "noreserve") then Ok NoReserve else Err BadLine)
+pub reserving_last : (words : List (List ℕ)) (piece : List ℕ) (more : List (List ℕ)) → piece_at words ≡ Ok (piece, more) → end_at more ≡ Ok tt →
+    reserving_at words ≡ (if bytes_eq piece (codes "noreserve") then Ok NoReserve else Err BadLine)
 unfolding piece_at end_at reserving_at
 reserving_last [] piece more h e = cc
 reserving_last (p ∷ []) piece more h e = ap (λ (x : List ℕ). if bytes_eq x (codes "noreserve") then Ok NoReserve else Err BadLine) (ap first_of h)

@@ -25,7 +25,8 @@ join_yes : {X : Type 0} (front bs : List (List X)) (f : List X) (m : List (List 
 join_yes [] bs f m e = cc
 join_yes (a ∷ front) bs f m e = refl
 
-join_no : {X : Type 0} (x : X) (front bs : List (List X)) (f : List X) (m : List (List X)) (g : List X) (n : List (List X)) → front ≡ f ∷ m → bs ≡ g ∷ n → onto_first x (joined front bs) ≡ joined (onto_first x front) bs
+join_no : {X : Type 0} (x : X) (front bs : List (List X)) (f : List X) (m : List (List X)) (g : List X) (n : List (List X)) → front ≡ f ∷ m →
+    bs ≡ g ∷ n → onto_first x (joined front bs) ≡ joined (onto_first x front) bs
 join_no x [] bs f m g n e h = cc
 join_no x (a ∷ []) [] f m g n e h = cc
 join_no x (a ∷ []) (b ∷ bs) f m g n e h = refl
@@ -35,7 +36,9 @@ join_nil : {X : Type 0} (bs : List (List X)) (g : List X) (n : List (List X)) �
 join_nil [] g n e = cc
 join_nil (b ∷ bs) g n e = refl
 
-append_go : {X : Type 0} (p : X → Bool) (x : X) (xs ys : List X) (b : Bool) → p x ≡ b → slice_split p (xs ++ ys) ≡ joined (slice_split p xs) (slice_split p ys) → slice_split p (x ∷ (xs ++ ys)) ≡ joined (slice_split p (x ∷ xs)) (slice_split p ys)
+append_go : {X : Type 0} (p : X → Bool) (x : X) (xs ys : List X) (b : Bool) → p x ≡ b →
+    slice_split p (xs ++ ys) ≡ joined (slice_split p xs) (slice_split p ys) →
+    slice_split p (x ∷ (xs ++ ys)) ≡ joined (slice_split p (x ∷ xs)) (slice_split p ys)
 append_go {X} p x xs ys true t ih =
     let f = first_piece p xs in
     slice_split-cons_yes p x (xs ++ ys) t ∙ ap (λ (front : List (List X)). [] ∷ front) ih ∙ join_yes (slice_split p xs) (slice_split p ys) f.0 f.1 f.2

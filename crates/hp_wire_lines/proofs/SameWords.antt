@@ -31,6 +31,7 @@ pub after_four : (xs ys : List ℕ) (at : ℕ) → at + 4 ≤ length xs → at +
     → from_le_bytes w32 (take 4 (drop at xs)) ≡ from_le_bytes w32 (take 4 (drop at ys))
     → bytes_eq (drop (at + 4) xs) (drop (at + 4) ys) ≡ bytes_eq (drop at xs) (drop at ys)
 after_four xs ys at here there bytes others same =
-    let four = λ (zs : List ℕ) (h : at + 4 ≤ length zs) (b : Bytes zs). le_bytes_4 (take 4 (drop at zs)) (from_le_bytes w32 (take 4 (drop at zs))) (omega (arith, length-take 4 (drop at zs), length-drop at zs)) (four_from zs at b) refl in
+    let four = λ (zs : List ℕ) (h : at + 4 ≤ length zs) (b : Bytes zs). le_bytes_4 (take 4 (drop at zs)) (from_le_bytes w32 (take 4 (drop at zs)))
+    (omega (arith, length-take 4 (drop at zs), length-drop at zs)) (four_from zs at b) refl in
     ap (λ r. bytes_eq r (drop (at + 4) ys)) (sym (drop-drop 4 at xs)) ∙ ap (bytes_eq (drop 4 (drop at xs))) (sym (drop-drop 4 at ys))
     ∙ after_same 4 (drop at xs) (drop at ys) (sym (four xs here bytes) ∙ ap (to_le_bytes w32) same ∙ four ys there others)

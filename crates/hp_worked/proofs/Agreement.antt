@@ -43,7 +43,8 @@ is_row r = nat_le r.total r.frames && nat_le r.free r.total && nat_le r.surp r.t
 abbrev rows_add_up : State → Bool
 rows_add_up s =
     let p : Pool = pool_of s in
-    (total_of p.nodes.rows == max s.nr p.committed) && (surp_of p.nodes.rows == (max s.nr p.committed - s.nr)) && nat_le (used p) p.committed && (used p == used_pages s) && list_all is_row p.nodes.rows
+    (total_of p.nodes.rows == max s.nr p.committed) && (surp_of p.nodes.rows == (max s.nr p.committed - s.nr)) && nat_le (used p) p.committed
+    && (used p == used_pages s) && list_all is_row p.nodes.rows
 
 abbrev script_agrees : Script → State → Bool
 script_agrees (Answer_with r) s = rows_add_up s

@@ -17,7 +17,9 @@ use Rattle.hp_model.specs.files.Mapping.{Map as MapOf, copy_of, is_shared, no_ma
 use Rattle.hp_model.specs.pool.NodeRows.{free_of, total_of}
 use Rattle.hp_model.specs.machine.Plain.{plain_step}
 use Rattle.hp_model.specs.machine.Plan.{Slot}
-use Rattle.hp_model.specs.machine.Promises.{LeavesAll, LosesTo, Makes, SameFiles, SameLimits, Shape, StillMapped, StillNamed, Tells, file_in, is_backed_step, is_cut_off_step, is_ended_number, least_of, map_at, map_named, seen_in, seen_over, shown_in, shown_on, stored_over, named_on, map_in}
+use Rattle.hp_model.specs.machine.Promises.{LeavesAll, LosesTo, Makes, SameFiles, SameLimits, Shape, StillMapped, StillNamed}
+use Rattle.hp_model.specs.machine.Promises.{Tells, file_in, is_backed_step, is_cut_off_step, is_ended_number, least_of, map_at, map_named}
+use Rattle.hp_model.specs.machine.Promises.{seen_in, seen_over, shown_in, shown_on, stored_over, named_on, map_in}
 use Rattle.hp_model.specs.files.Spot.{Spot}
 use Rattle.hp_model.specs.machine.State.{Node, State, slot_at, with_slot}
 use Rattle.hp_model.specs.files.Value.{shown, value}
@@ -35,7 +37,8 @@ first_bytes s file map index = take 2 (seen_in s 0 file map index)
 abbrev shared : State
 shared =
     after_all machine
-    (Nr 2 ∷ Connect 1 0 ∷ Create 0 (codes "a") ∷ Create 0 (codes "b") ∷ Map 1 0 (codes "a") 0 1 Shared Reserve ∷ Map 1 0 (codes "b") 0 1 Shared NoReserve ∷ Map 1 0 (codes "b") 0 1 Shared NoReserve ∷ [])
+    (Nr 2 ∷ Connect 1 0 ∷ Create 0 (codes "a") ∷ Create 0 (codes "b") ∷ Map 1 0 (codes "a") 0 1 Shared Reserve
+    ∷ Map 1 0 (codes "b") 0 1 Shared NoReserve ∷ Map 1 0 (codes "b") 0 1 Shared NoReserve ∷ [])
 
 abbrev into_first : Step
 into_first = Store 1 0 1 0 1 (9 ∷ [])

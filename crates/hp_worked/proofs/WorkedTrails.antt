@@ -151,7 +151,11 @@ runs : AreRuns machine (trails 1 1) ((1, 0) ∷ []) ends pool_2
 runs = record {
   count = refl;
   tasks = ((1, 0) ∷ [], refl, ((1, 0) ∷ [], refl, refl));
-  slots = one_slot (λ k. IsLocalRun 1024 k (slot_at machine k) (slot_trail (trails 1 1) k) (ends k)) (Some (with_new open_mount (new_file (Some a_name))), (refl, first, refl, (refl, refl)), (ends 0, (refl, first, refl, (refl, (refl, refl))), refl));
+  slots = one_slot (λ k. IsLocalRun 1024 k (slot_at machine k) (slot_trail (trails 1 1) k) (ends k)) (
+    Some (with_new open_mount (new_file (Some a_name))),
+    (refl, first, refl, (refl, refl)),
+    (ends 0, (refl, first, refl, (refl, (refl, refl))), refl),
+  );
   pool = (pool_1, refl, (pool_2, refl, refl));
 }
 

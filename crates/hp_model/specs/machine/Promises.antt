@@ -1,5 +1,6 @@
 -- What the machine promises of each step.
-use Rattle.std.specs.Prelude.{◌≡◌, ◌≢◌, ◌⊎◌, ℕ, ◌+◌, ◌<◌, ◌≤◌, ◌&&◌, ◌||◌, ◌==◌, Bool, true, false, not, Option, None, Some, is_some, option_map, Ok, Err, List, ◌++◌, length, take, drop, if◌then◌else◌, nat_le, nat_lt}
+use Rattle.std.specs.Prelude.{◌≡◌, ◌≢◌, ◌⊎◌, ℕ, ◌+◌, ◌<◌, ◌≤◌, ◌&&◌, ◌||◌, ◌==◌, Bool, true, false, not, Option}
+use Rattle.std.specs.Prelude.{None, Some, is_some, option_map, Ok, Err, List, ◌++◌, length, take, drop, if◌then◌else◌, nat_le, nat_lt}
 use Rattle.std.specs.Bool.{MatchBool}
 use Rattle.std.specs.List.{count_by, filter_map}
 use Rattle.std.specs.Str.{bytes_eq}
@@ -16,7 +17,9 @@ use Rattle.hp_model.specs.declared.place.Place.{Place}
 use Rattle.hp_model.specs.declared.step.Reserving.{Reserving}
 use Rattle.hp_model.specs.declared.step.Sharing.{Sharing}
 use Rattle.hp_model.specs.declared.step.Step.{Step}
-use Rattle.hp_model.specs.declared.step.Step.TheVariants.{Anon, Attach, Create as CreateStep, Df, Exit, Fault, Fork, Load, Ls, Map as MapStep, Meminfo, Mount as MountStep, Nodes, Punch as PunchStep, Read as ReadStep, Stat, Store, Truncate as TruncateStep, Umount, Unlink as UnlinkStep, Unmap as UnmapStep}
+use Rattle.hp_model.specs.declared.step.Step.TheVariants.{Anon, Attach, Create as CreateStep, Df, Exit, Fault, Fork}
+use Rattle.hp_model.specs.declared.step.Step.TheVariants.{Load, Ls, Map as MapStep, Meminfo, Mount as MountStep, Nodes, Punch as PunchStep}
+use Rattle.hp_model.specs.declared.step.Step.TheVariants.{Read as ReadStep, Stat, Store, Truncate as TruncateStep, Umount, Unlink as UnlinkStep, Unmap as UnmapStep}
 use Rattle.hp_model.specs.machine.Plan.{slot_usage, IsWithinLimit}
 use Rattle.hp_model.specs.files.CopyWrite.{holds}
 use Rattle.hp_model.specs.files.File.{File, cell_at, has_page, is_entered, new_file}

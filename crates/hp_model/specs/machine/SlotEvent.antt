@@ -1,13 +1,16 @@
 -- The events of a slot.
-use Rattle.std.specs.Prelude.{ℕ, ◌+◌, ◌-◌, ◌&&◌, ◌||◌, ◌==◌, Bool, false, not, Option, None, Some, is_some, Result, Ok, Err, List, [], ◌∷◌, ◌++◌, length, take, drop, replicate, if◌then◌else◌, nat_lt, nat_le}
+use Rattle.std.specs.Prelude.{ℕ, ◌+◌, ◌-◌, ◌&&◌, ◌||◌, ◌==◌, Bool, false, not, Option, None, Some, is_some, Result}
+use Rattle.std.specs.Prelude.{Ok, Err, List, [], ◌∷◌, ◌++◌, length, take, drop, replicate, if◌then◌else◌, nat_lt, nat_le}
 use Rattle.std.specs.List.{list_all, count_by, filter_map}
 use Rattle.std.specs.Str.{bytes_eq}
 use Rattle.hp_model.specs.declared.answer.Answer.{Answer}
 use Rattle.hp_model.specs.declared.answer.Answer.TheVariants.{Done, MapNo, Bytes, Stat as StatAnswer, Usage as UsageAnswer, Names}
 use Rattle.hp_model.specs.declared.refusal.Refusal.{Refusal}
-use Rattle.hp_model.specs.declared.refusal.Refusal.TheVariants.{OutOfMemory, NoPages, BeyondEnd, NoSuchSlot, SlotTaken, NoSuchFile, FileExists, NoInodes, BadName, NoSuchMap, OutOfRange, CrossesPage, Busy, TooMany}
+use Rattle.hp_model.specs.declared.refusal.Refusal.TheVariants.{OutOfMemory, NoPages, BeyondEnd, NoSuchSlot, SlotTaken, NoSuchFile, FileExists}
+use Rattle.hp_model.specs.declared.refusal.Refusal.TheVariants.{NoInodes, BadName, NoSuchMap, OutOfRange, CrossesPage, Busy, TooMany}
 use Rattle.hp_model.specs.declared.event.SlotEvent.{SlotEvent}
-use Rattle.hp_model.specs.declared.event.SlotEvent.TheVariants.{Mount as MountEvent, Umount, Create, Unlink, Truncate, Punch, Read as ReadEvent, Ls, Stat, Df, Map as MapEvent, Anon, Unmap, Fault, Load, Store, ForkMaps, ExitMaps}
+use Rattle.hp_model.specs.declared.event.SlotEvent.TheVariants.{Mount as MountEvent, Umount, Create, Unlink, Truncate, Punch, Read as ReadEvent, Ls, Stat}
+use Rattle.hp_model.specs.declared.event.SlotEvent.TheVariants.{Df, Map as MapEvent, Anon, Unmap, Fault, Load, Store, ForkMaps, ExitMaps}
 use Rattle.hp_model.specs.declared.step.Intent.{Intent}
 use Rattle.hp_model.specs.declared.step.Sharing.{Sharing}
 use Rattle.hp_model.specs.declared.step.Reserving.{Reserving}

@@ -12,7 +12,8 @@ use Rattle.hp_model.specs.declared.event.SlotEvent.{SlotEvent}
 use Rattle.hp_model.specs.declared.event.SlotEvent.TheVariants as slot
 use Rattle.hp_model.specs.declared.event.PoolEvent.TheVariants as pool
 use Rattle.hp_model.specs.declared.step.Step.{Step}
-use Rattle.hp_model.specs.declared.step.Step.TheVariants.{Connect, Attach, Fork, Exit, Mount, Umount, Create, Unlink, Truncate, Punch, Read, Ls, Stat, Map, Anon, Unmap, Fault, Load, Store, Nr, Overcommit, Meminfo, Nodes, Df}
+use Rattle.hp_model.specs.declared.step.Step.TheVariants.{Connect, Attach, Fork, Exit, Mount, Umount, Create, Unlink, Truncate, Punch, Read, Ls}
+use Rattle.hp_model.specs.declared.step.Step.TheVariants.{Stat, Map, Anon, Unmap, Fault, Load, Store, Nr, Overcommit, Meminfo, Nodes, Df}
 use Rattle.hp_model.specs.machine.Event.{IsEvent, has_maps_of}
 use Rattle.hp_model.specs.machine.Plan.{Reply}
 use Rattle.hp_model.specs.machine.State.{State, slot_at}

@@ -1,7 +1,9 @@
 -- The number and the name of each refusal.
 use Rattle.std.specs.Prelude.{ℕ, List, codes}
 use Rattle.hp_model.specs.declared.refusal.Refusal.{Refusal}
-use Rattle.hp_model.specs.declared.refusal.Refusal.TheVariants.{OutOfMemory, NoPages, MountFull, BeyondEnd, TakenByOwner, NoSuchTask, TaskExists, NoSuchSlot, SlotTaken, MinOverSize, BadOption, NoSuchFile, FileExists, NoInodes, BadName, NoSuchMap, OutOfRange, CrossesPage, Busy, TooMany, BadLine, LineTooLong, TraceFull, TrailsDiffer, NoSuchNode}
+use Rattle.hp_model.specs.declared.refusal.Refusal.TheVariants.{OutOfMemory, NoPages, MountFull, BeyondEnd, TakenByOwner, NoSuchTask, TaskExists, NoSuchSlot, SlotTaken}
+use Rattle.hp_model.specs.declared.refusal.Refusal.TheVariants.{MinOverSize, BadOption, NoSuchFile, FileExists, NoInodes, BadName, NoSuchMap, OutOfRange, CrossesPage}
+use Rattle.hp_model.specs.declared.refusal.Refusal.TheVariants.{Busy, TooMany, BadLine, LineTooLong, TraceFull, TrailsDiffer, NoSuchNode}
 
 abbrev pub number_of_refusal : Refusal → ℕ
 number_of_refusal OutOfMemory = 1

@@ -37,7 +37,8 @@ impl<N: Naming> Mount<N> {
     /// maps it has, of all tasks. Refused as NoSuchFile. No index is walked.
     pub fn stat(&self, name: &[u8]) -> Result<Told<'static>, Refusal>
         ensures done { (size k : ℕ)
-            → IsDoneAlone size k (Some self.now) (Stat name.now) (told_reply result) (Some self.now) }
+            → IsDoneAlone size k (Some self.now) (Stat name.now) (told_reply result)
+            (Some self.now) }
         ensures limits { IsWithinLimits (told_reply result) }
         ensures memory { told_reply result ≢ Err Refusal.OutOfMemory }
         ensures noted { told_reply result ≢ Err Refusal.TraceFull }
@@ -95,7 +96,8 @@ impl<N: Naming> Mount<N> {
         requires within { offset + count ≤ N.page_bytes }
         requires room { count ≤ length room.old }
         ensures shown { result.now
-            ≡ take count (drop offset (shown N.page_bytes (cell_at (file_in self.now file) index))) }
+            ≡ take count (drop offset (shown N.page_bytes
+            (cell_at (file_in self.now file) index))) }
         ensures all { length result.now ≡ count }
     {
         match self.files.bytes(file, index) {

@@ -117,7 +117,8 @@ impl<N: Naming> Mount<N> {
     /// that holds, and then nothing changes.
     pub fn create(&mut self, name: &[u8]) -> Result<(), Refusal>
         ensures done { (size k : ℕ)
-            → IsDoneAlone size k (Some self.old) (Create name.now) (done_reply result) (Some self.new) }
+            → IsDoneAlone size k (Some self.old) (Create name.now) (done_reply result)
+            (Some self.new) }
         ensures noted { done_reply result ≢ Err Refusal.TraceFull }
     {
         if let Some(refusal) = self.refused_file(name) {
@@ -132,7 +133,8 @@ impl<N: Naming> Mount<N> {
     // The map that the task may make next, or why it may not.
     fn next_map(&self, range: &MapRange) -> Result<NextMap, Refusal>
         ensures number { IfOk result (λ next. next.number ≡ next_number range.now.task self.now) }
-        ensures first { IfOk result (λ next. next.is_first ≡ not (is_among range.now.task (tasks_of self.now))) }
+        ensures first { IfOk result (λ next. next.is_first
+            ≡ not (is_among range.now.task (tasks_of self.now))) }
         ensures pass { OnOk result (why_no_map self.now range.now ≡ None) }
         ensures few { OnOk result (length (maps_of self.now) < 4096) }
         ensures reach { OnOk result (range.now.start + range.now.pages ≤ 1048576) }
@@ -218,12 +220,14 @@ impl<N: Naming> Mount<N> {
     fn next_anon(&self, range: &MapRange) -> Result<NextMap, Refusal>
         requires { range.now.start ≡ 0 }
         ensures number { IfOk result (λ next. next.number ≡ next_number range.now.task self.now) }
-        ensures first { IfOk result (λ next. next.is_first ≡ not (is_among range.now.task (tasks_of self.now))) }
+        ensures first { IfOk result (λ next. next.is_first
+            ≡ not (is_among range.now.task (tasks_of self.now))) }
         ensures pass { OnOk result (why_no_anon self.now range.now.task range.now.pages ≡ None) }
         ensures few { OnOk result (length (maps_of self.now) < 4096) }
         ensures files { OnOk result (length self.now.files < 1024) }
         ensures reach { OnOk result (range.now.start + range.now.pages ≤ 1048576) }
-        ensures err { IfErr result (λ e. why_no_anon self.now range.now.task range.now.pages ≡ Some e) }
+        ensures err { IfErr result (λ e. why_no_anon self.now range.now.task range.now.pages
+            ≡ Some e) }
     {
         let next = match self.next_map(range) {
             Ok(next) => next,

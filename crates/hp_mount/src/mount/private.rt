@@ -147,7 +147,8 @@ impl<N: Naming> Mount<N> {
         ensures memory { has_reserve (map_in (file_in self.old at.file) at.map) index ≡ true
             → result ≢ Err Refusal.OutOfMemory }
         ensures same { IsTouched self.old self.new at.file }
-        ensures once { intent ≡ Write → result ≡ Ok tt → IsCopyState CopyState.HeldOnce (file_in self.new at.file)
+        ensures once { intent ≡ Write → result ≡ Ok tt →
+            IsCopyState CopyState.HeldOnce (file_in self.new at.file)
             (place_at (map_in (file_in self.new at.file) at.map) index) }
     {
         if self.files.is_unmapped(at) {
@@ -243,7 +244,8 @@ impl<N: Naming> Mount<N> {
         ensures memory { is_backed intent (Some (spot_at self.old at.file at.map)) index ≡ true
             → result ≢ Err Refusal.OutOfMemory }
         ensures same { IsTouched self.old self.new at.file }
-        ensures once { intent ≡ Write → result ≡ Ok tt → IsCopyState CopyState.HeldOnce (file_in self.new at.file)
+        ensures once { intent ≡ Write → result ≡ Ok tt →
+            IsCopyState CopyState.HeldOnce (file_in self.new at.file)
             (place_at (map_in (file_in self.new at.file) at.map) index) }
     {
         match self.files.copy(at, index) {

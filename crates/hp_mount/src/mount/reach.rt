@@ -189,7 +189,8 @@ impl<N: Naming> Mount<N> {
         requires file { at.file < length self.now.files }
         requires map { at.map < length (file_in self.now at.file).maps }
         ensures refused { result
-            ≡ first_of (byte_tests page_bytes index offset count (spot_at self.now at.file at.map)) }
+            ≡ first_of (byte_tests page_bytes index offset count
+            (spot_at self.now at.file at.map)) }
         ensures below { IfNone result (index < length (file_in self.now at.file).cells) }
         ensures live { IfNone result
             (is_live (place_at (map_in (file_in self.now at.file) at.map) index) ≡ true) }
@@ -255,7 +256,8 @@ impl<N: Naming> Mount<N> {
     fn place(&self, page_bytes: u64, access: &MapAccess, asked: Asked) -> Result<MapPlace, Refusal>
         ensures placed { IfOk result (λ at. IsPlaced self.now access.now asked page_bytes at) }
         ensures fits { OnOk result (Fits page_bytes asked) }
-        ensures refused { IfErr result (λ e. why_not self.now access.now asked page_bytes ≡ Some e) }
+        ensures refused { IfErr result (λ e. why_not self.now access.now asked page_bytes
+            ≡ Some e) }
     {
         let Some(at) = self.files.find(access.task, access.map) else {
             return Err(Refusal::NoSuchMap);
@@ -386,7 +388,8 @@ impl<N: Naming> Mount<N> {
         requires once { IsCopyState CopyState.HeldOnce (file_in self.old at.file)
             (place_at (map_in (file_in self.old at.file) at.map) index) }
         requires fits { offset + length bytes.now ≤ N.page_bytes }
-        ensures { self.new ≡ with_place_at self.old at.file at.map index (place_written offset bytes.now
+        ensures { self.new ≡ with_place_at self.old at.file at.map index
+            (place_written offset bytes.now
             (place_at (map_in (file_in self.old at.file) at.map) index)) }
     {
         self.files.write_copy(at, index, offset, bytes);
@@ -406,7 +409,8 @@ impl<N: Naming> Mount<N> {
         requires within { offset + count ≤ N.page_bytes }
         requires room { count ≤ length room.old }
         ensures shown { result.now ≡ take count (drop offset
-            (value N.page_bytes (file_in self.now at.file) (map_in (file_in self.now at.file) at.map) index)) }
+            (value N.page_bytes (file_in self.now at.file)
+            (map_in (file_in self.now at.file) at.map) index)) }
         ensures all { length result.now ≡ count }
     {
         match self.files.shown(at, index) {

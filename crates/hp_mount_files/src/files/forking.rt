@@ -161,7 +161,8 @@ fn join_at<N: Naming>(
     requires within { at < length files.old.files }
     requires room { HasRoom (numbered_at files.old.files at) list }
     requires none { maps_of child (numbered_at files.old.files at) ≡ 0 }
-    requires keys { maps_of child (with_list (numbered_at files.old.files at) list) ≤ hints.old.room }
+    requires keys { maps_of child (with_list (numbered_at files.old.files at) list)
+        ≤ hints.old.room }
     requires held { (n : ℕ) → in_list n list ≤ holders_of (page_at store.old n) }
     requires some { HasHolders store.old }
     requires counted { more.old ≡ more_in store.old.pages }
@@ -197,7 +198,8 @@ fn join_all<N: Naming>(
     requires some { HasHolders store.old }
     requires counted { more.old ≡ more_in store.old.pages }
     requires few { more.old + sum_by list_copies lists.items ≤ 2 ^ 32 }
-    ensures joined { HaveJoined lists.items files.old.files files.new.files store.old store.new more.old more.new }
+    ensures joined { HaveJoined lists.items files.old.files files.new.files store.old store.new
+        more.old more.new }
     ensures noted { HaveNoted child files.new.files hints.old hints.new }
 {
     while let Some(list) = lists.pop() {
@@ -233,7 +235,8 @@ impl<N: Naming> Files<N> {
     pub fn fork(&mut self, parent: u64, child: u64, held: u64) -> Result<u64, AllocError>
         requires apart { (parent == child) ≡ false }
         requires few { sum_by file_reserves self.old.files < 2 ^ 64 }
-        requires maps { length (all_maps (filter is_kept (map (file_forked parent child) self.old.files)))
+        requires maps { length (all_maps (filter is_kept
+            (map (file_forked parent child) self.old.files)))
             ≤ 4096 }
         ensures files { OnOk result (self.new.files
             ≡ filter is_kept (map (file_forked parent child) self.old.files)) }

@@ -34,7 +34,8 @@ pub(super) fn drop_maps_of<N: Naming>(
     requires counted { more.old ≡ more_in store.old.pages }
     requires few { sum_by file_owed files.old.files < 2 ^ 64 }
     requires few_maps { map_sum files.old.files < 2 ^ 64 }
-    ensures { HasLeft task files.old.files files.new.files hints.old hints.new store.old store.new more.new
+    ensures { HasLeft task files.old.files files.new.files hints.old hints.new store.old
+        store.new more.new
         result.maps result.reserves }
 {
     let mut maps = 0;
@@ -63,7 +64,8 @@ pub(super) fn drop_some_maps_of<N: Naming>(
     requires counted { more.old ≡ more_in store.old.pages }
     requires few { sum_by file_owed files.old.files < 2 ^ 64 }
     requires few_maps { map_sum files.old.files < 2 ^ 64 }
-    ensures { HasLeft task files.old.files files.new.files hints.old hints.new store.old store.new more.new
+    ensures { HasLeft task files.old.files files.new.files hints.old hints.new store.old
+        store.new more.new
         result.maps result.reserves }
 {
     if count == 0 {
@@ -88,10 +90,12 @@ fn sweep_file<N: Naming>(
     requires some { HasHolders store.old }
     requires counted { more.old ≡ more_in store.old.pages }
     ensures files { files.new.files ≡ swept_at at files.old.files }
-    ensures dropping { IsDropping (λ n. in_files n files.old.files) (λ n. in_files n files.new.files)
+    ensures dropping { IsDropping (λ n. in_files n files.old.files)
+        (λ n. in_files n files.new.files)
         store.old store.new }
     ensures counted { more.new ≡ more_in store.new.pages }
-    ensures reserves { result + sum_by file_owed files.new.files ≡ sum_by file_owed files.old.files }
+    ensures reserves { result + sum_by file_owed files.new.files
+        ≡ sum_by file_owed files.old.files }
 {
     if files[at].is_used() {
         return 0;

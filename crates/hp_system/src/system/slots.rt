@@ -186,7 +186,8 @@ impl<N: Naming> System<N> {
     // A task's maps on all slots go, slot after slot.
     pub(crate) fn exit_slots(&mut self, task: u64)
         requires ready { IsReady self.old }
-        ensures done { AreExited self.old.state (range_with_len 0 (length self.old.state.slots)) task
+        ensures done { AreExited self.old.state (range_with_len 0 (length self.old.state.slots))
+            task
             self.new.state }
         ensures size { self.new.state.page_size ≡ self.old.state.page_size }
         ensures ready { IsReady self.new }

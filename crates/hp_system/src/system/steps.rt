@@ -33,7 +33,8 @@ impl<N: Naming> System<N> {
     /// - TooMany: there are 256 tasks.
     pub fn connect(&mut self, task: u64, home: u64) -> Result<(), Refusal>
         requires ready { IsReady self.old }
-        ensures step { IsStep self.old.state (Connect task home) (done_reply result) self.new.state }
+        ensures step { IsStep self.old.state (Connect task home) (done_reply result)
+            self.new.state }
         ensures memory { done_reply result ≢ Err Refusal.OutOfMemory }
         ensures size { self.new.state.page_size ≡ self.old.state.page_size }
         ensures ready { IsReady self.new }
@@ -70,7 +71,8 @@ impl<N: Naming> System<N> {
     #[inline(never)]
     pub fn fork(&mut self, parent: u64, child: u64) -> Result<(), Refusal>
         requires ready { IsReady self.old }
-        ensures step { IsStep self.old.state (Fork parent child) (done_reply result) self.new.state }
+        ensures step { IsStep self.old.state (Fork parent child) (done_reply result)
+            self.new.state }
         ensures size { self.new.state.page_size ≡ self.old.state.page_size }
         ensures ready { IsReady self.new }
     {

@@ -6,7 +6,8 @@ use base.Logic.{SProp, emp, id⊢}
 use prog.Wp.{WpFn}
 use contract.Monad.{fact, fact_i}
 use contract.Running.{tables}
-use types.Kit.{‵, raw, ◌⊛◌, some, later, given, prop, at_ret, ◌$◌, ◌∵◌, !, qed, by, move, drop, use0, use1, use2, split, join, pick, learn, rewrite, regoal, fsplit, fjoin, feq_l, feq_i, flt_l, flt_i, await}
+use types.Kit.{‵, raw, ◌⊛◌, some, later, given, prop, at_ret, ◌$◌, ◌∵◌, !, qed, by, move, drop, use0}
+use types.Kit.{use1, use2, split, join, pick, learn, rewrite, regoal, fsplit, fjoin, feq_l, feq_i, flt_l, flt_i, await}
 use types.Run.{of_opd, no_more, and_then, first, blocks, exec, returns, enter}
 use types.ByLocal.{alloc_all, pass_all, free_all, look_at, get, sets, lands_as, lands_last, env}
 use denote.Laws.{Is, shows}
@@ -45,7 +46,16 @@ end_spec 𝓤 𝓛 𝓜 𝓡 wired =
     let c = clauses 𝓛 𝓜.mem 𝓡.returns in
     let fn : Fn = code.function in
     let S = ended.signature in
-    let stays : Stays S.params ended.kept = (stay_dropped (slot_at 0 S.params) ended.kept.0, (stay_dropped (slot_at 1 S.params) ended.kept.1.0, (stay_dropped (slot_at 2 S.params) ended.kept.1.1.0, (stay_dropped (slot_at 3 S.params) ended.kept.1.1.1.0, tt)))) in
+    let stays : Stays S.params ended.kept = (
+      stay_dropped (slot_at 0 S.params) ended.kept.0,
+      (
+        stay_dropped (slot_at 1 S.params) ended.kept.1.0,
+        (
+          stay_dropped (slot_at 2 S.params) ended.kept.1.1.0,
+          (stay_dropped (slot_at 3 S.params) ended.kept.1.1.1.0, tt),
+        ),
+      ),
+    ) in
     let 𝓣 = tables 𝓤 H 𝓜 𝓡 𝓡.env in
     proved_at 𝓛 ended stays c 𝓜 𝓡 (
       Goes-blank 𝓛 0 (slot_at 0 S.params) ended.kept.0 (λ κs x f. tt),
@@ -69,7 +79,8 @@ end_spec 𝓤 𝓛 𝓜 𝓡 wired =
     let Whole : Type 0 = (d.ptr ≡ ptr) × (d.cap ≡ size) in
     qed 𝓛 ((raw tokens ⊛ ‵ (owns (types_at S.params z.0.0) z.0.3 vss)) ∷ (raw (fact 𝓤 At) ⊛ raw (fact 𝓤 Whole)) ∷ []) ∵
     move ! (1 ∷ []) $ split ! $ heard ! At (λ at. heard ! Whole (λ whole. split ! $ move ! (1 ∷ []) $
-    fsplit ! $ fsplit ! $ fieldless_told ! vss.0 (λ is₀. move ! (1 ∷ []) $ fsplit ! $ feq_l ! (λ is₁. fsplit ! $ fsplit ! $ feq_l ! (λ is₂. flt_l ! (λ fits. fsplit ! $ list_told ! d vss.1.1.1.0 (λ u is₃ good. move ! (1 ∷ []) $ drop ! $
+    fsplit ! $ fsplit ! $ fieldless_told ! vss.0 (λ is₀. move ! (1 ∷ []) $ fsplit ! $ feq_l !
+    (λ is₁. fsplit ! $ fsplit ! $ feq_l ! (λ is₂. flt_l ! (λ fits. fsplit ! $ list_told ! d vss.1.1.1.0 (λ u is₃ good. move ! (1 ∷ []) $ drop ! $
     -- [the list; the way back; the tokens]
     let to_p : ptr ≡ p = sym at.0 ∙ lease.placed.0 in
     let to_n : size ≡ n = sym at.1 in
@@ -82,7 +93,8 @@ end_spec 𝓤 𝓛 𝓜 𝓡 wired =
     alloc_all ! (λ l. pass_all ! refl ((tt, tt), ((tt, tt), ((tt, record { fits = small }), (good, tt)))) $
     sets ! (of_opd ! (get ! refl)) refl good $
     use1 𝓛 (raw ((Dislodges 𝓛 𝓜.mem 𝓡.returns).pre y)) (dislodge_goes 𝓛 𝓜.mem 𝓡.returns d u) $
-    calls_at ! (framed 𝓤 H 𝓜 𝓣) (Dislodges 𝓛 𝓜.mem 𝓡.returns) (dislodge.met 𝓤 𝓛 𝓜 𝓡 (code.calls-std_alloc::vec::lodged::Vec+T+Lodged::dislodge 𝓡.env wired) u8 byte_laws) y (and_then ! (get ! refl) (no_more !)) (λ v.
+    calls_at ! (framed 𝓤 H 𝓜 𝓣) (Dislodges 𝓛 𝓜.mem 𝓡.returns) (dislodge.met 𝓤 𝓛 𝓜 𝓡
+    (code.calls-std_alloc::vec::lodged::Vec+T+Lodged::dislodge 𝓡.env wired) u8 byte_laws) y (and_then ! (get ! refl) (no_more !)) (λ v.
     use1 𝓛 (later (given (Freed 𝓛 𝓜.mem 𝓡.returns d u v) (‵ (lodged u8 d.ptr d.len d.cap d.items)))) (dislodge_gives 𝓛 𝓜.mem 𝓡.returns d u v) $ await ! tt $ learn ! (λ freed.
     lands_as ! freed.0 refl (tt, record { fits = freed.1 }) $
     rewrite ! 0 (λ (q : Ptr × ℕ). ‵ (lodged u8 q.0 d.len q.1 d.items)) (λ i. ((whole.0 ∙ to_p) i, (whole.1 ∙ to_n) i)) refl $ rewrite ! 1 (λ (q : Ptr). ‵ (way_back q n)) lease.placed.0 refl $
@@ -91,10 +103,12 @@ end_spec 𝓤 𝓛 𝓜 𝓡 wired =
     let Makes = triple_of 𝓛 from_raw_parts.signature (from_raw_parts.spec 𝓛 𝓜.mem 𝓡.returns) in
     let y' : Makes.Ghost = ((z.0.0, z.0.1, z.0.2, (p, (n, tt)), (vptr r.block lease.at ∷ [], (vint w64 n ∷ [], tt))), (r, lease.at)) in
     use0 𝓛 (raw (fact 𝓤 (IsBlock r p lease.at n))) (fact_i 𝓤 (IsBlock r p lease.at n) (emp 𝓤) placed) $ join ! $
-    nothing ! $ flt_i ! n (2 ^ 64) small $ feq_i ! (List Val) (vint w64 n ∷ []) (vint w64 n ∷ []) refl $ fjoin ! $ fjoin ! $ feq_i ! (List Val) (vptr r.block lease.at ∷ []) (vptr r.block lease.at ∷ []) refl $ fjoin ! $
+    nothing ! $ flt_i ! n (2 ^ 64) small $ feq_i ! (List Val) (vint w64 n ∷ []) (vint w64 n ∷ []) refl $ fjoin ! $ fjoin ! $ feq_i ! (List Val)
+    (vptr r.block lease.at ∷ []) (vptr r.block lease.at ∷ []) refl $ fjoin ! $
     move ! (2 ∷ 0 ∷ 1 ∷ []) $ join ! $ join ! $ use1 𝓛 (raw (Makes.pre y')) (id⊢ 𝓤 _) $
     first ! $ blocks ! $
-    calls_at_last ! (framed 𝓤 H 𝓜 𝓣) Makes (makes.met 𝓤 𝓛 𝓜 𝓡 (code.calls-linked_list_allocator::Block::from_raw_parts 𝓡.env wired)) y' (and_then ! (get ! refl) (and_then ! (get ! refl) (no_more !))) (λ w.
+    calls_at_last ! (framed 𝓤 H 𝓜 𝓣) Makes (makes.met 𝓤 𝓛 𝓜 𝓡 (code.calls-linked_list_allocator::Block::from_raw_parts 𝓡.env wired)) y'
+    (and_then ! (get ! refl) (and_then ! (get ! refl) (no_more !))) (λ w.
     let Made : (block.the_row).Denot → Type 0 = λ b. (b.region ≡ r) × (b.at ≡ lease.at) × (b.size ≡ n) in
     use1 𝓛 (later (some (λ (b : (block.the_row).Denot). (raw tokens ⊛ ‵ ((block.the_row).own_val b (w ∷ []))) ⊛
     some (λ (ls : Lasts from_raw_parts.ended z.0.0 y'.0.3). ‵ (lasts from_raw_parts.ended z.0.0 y'.0.3 ls) ⊛ raw (fact 𝓤 (Made b)))))) (id⊢ 𝓤 (Makes.post y' w)) $

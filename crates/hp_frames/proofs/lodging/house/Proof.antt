@@ -90,7 +90,8 @@ house_spec 𝓤 𝓛 𝓜 𝓡 wired =
     rewrite ! 1 (λ (q : Ptr). ‵ (bytes_at q n)) said.0.0 refl $ move ! (1 ∷ 0 ∷ []) $
     use1 𝓛 (‵ (lodged u8 p 0 n []) ⊛ ‵ (way_back p n)) (leases 𝓛 r x.at n placed) $ split ! $
     use1 𝓛 (raw ((Lodges 𝓛 𝓜.mem 𝓡.returns).pre y')) (lodge_goes 𝓛 𝓜.mem 𝓡.returns r.block x.at n small) $
-    calls_at_last ! (framed 𝓤 H 𝓜 𝓣) (Lodges 𝓛 𝓜.mem 𝓡.returns) (lodge.met 𝓤 𝓛 𝓜 𝓡 (code.calls-std_alloc::vec::lodge 𝓡.env wired) u8 byte_laws) y' (and_then ! (get ! refl) (and_then ! (lit ! tt) (and_then ! (get ! refl) (no_more !)))) (λ w.
+    calls_at_last ! (framed 𝓤 H 𝓜 𝓣) (Lodges 𝓛 𝓜.mem 𝓡.returns) (lodge.met 𝓤 𝓛 𝓜 𝓡 (code.calls-std_alloc::vec::lodge 𝓡.env wired) u8 byte_laws) y'
+    (and_then ! (get ! refl) (and_then ! (lit ! tt) (and_then ! (get ! refl) (no_more !)))) (λ w.
     use1 𝓛 (later (some (λ (d : Vec ℕ Lodged). given (IsLodged 𝓛 𝓜.mem 𝓡.returns r.block x.at n d) (‵ (Bytes.own_val d (w ∷ [])))))) (lodge_gives 𝓛 𝓜.mem 𝓡.returns r.block x.at n w) $
     await ! tt $ pick ! (λ d. learn ! (λ is. list_told ! d (w ∷ []) (λ t same good.
     let fine : Good Bytes w = subst (Good Bytes) (sym (ap only same)) good in

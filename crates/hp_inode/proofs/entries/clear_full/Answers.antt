@@ -15,5 +15,6 @@ loop-at-preserved c =
     record {
       from = omega arith;
       within = omega arith;
-      removed = joined c.args.words.now words (set words at 0) (64 * c.args.from) (64 * at) (64 * (at + 1)) _ _ _ (omega arith) (omega arith) (omega (arith, full)) c.loop-at.invariant.removed (removed_word words at (omega arith) small);
+      removed = joined c.args.words.now words (set words at 0) (64 * c.args.from) (64 * at) (64 * (at + 1)) _ _ _ (omega arith) (omega arith)
+          (omega (arith, full)) c.loop-at.invariant.removed (removed_word words at (omega arith) small);
     }

@@ -15,7 +15,8 @@ loop-map-preserved g c =
     let m = slice_index_or was.maps i c.map-item.result in
     let n = c.drop_copies.new.map in
     let inside : i < length was.maps = omega (arith, c.loop-map-test.true, was.auto.maps) in (
-      drop_then (λ k. sum_by (in_map k) c.args.maps.now) (λ k. sum_by (in_map k) was.maps) (λ k. in_map k m) (λ k. in_map k n) (λ k. sum_by (in_map k) c.args.maps.now) (λ k. sum_by (in_map k) (slice_set was.maps i n))
+      drop_then (λ k. sum_by (in_map k) c.args.maps.now) (λ k. sum_by (in_map k) was.maps) (λ k. in_map k m) (λ k. in_map k n)
+          (λ k. sum_by (in_map k) c.args.maps.now) (λ k. sum_by (in_map k) (slice_set was.maps i n))
           c.args.store.now was.store c.drop_copies.new.store was.invariant.0 c.drop_copies.ensures.dropping
           (λ k. (let step = sum_by-set (in_map k) was.maps i n c.map-item.result inside in omega (arith, step))),
       first_step (map_punched c.args.a c.args.b) i c.args.maps.now was.maps c.map-item.result n c.loop-map-test.true was.invariant.1 c.drop_copies.ensures.map,

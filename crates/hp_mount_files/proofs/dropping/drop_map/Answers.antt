@@ -17,7 +17,9 @@ loop-at-init g c =
     record {
       start = omega (arith, c.start-from.ensures);
       up_to = omega (arith, c.start-from.ensures, c.end-end.ensures);
-      dropping = drop_as (λ n. in_map n m) (λ n. in_map n m) (λ n. in_map n m) (λ n. sum_by (in_place n) (drop (c.start-from.result - m.start) m.places)) c.args.store.now c.args.store.now (drop_start (λ n. in_map n m) c.args.store.now c.requires.some)
+      dropping = drop_as (λ n. in_map n m) (λ n. in_map n m) (λ n. in_map n m)
+          (λ n. sum_by (in_place n) (drop (c.start-from.result - m.start) m.places)) c.args.store.now c.args.store.now
+          (drop_start (λ n. in_map n m) c.args.store.now c.requires.some)
           (λ n. (let all = ap (λ k. sum_by (in_place n) (drop k m.places)) none in omega (arith, all)));
       counted = c.requires.counted;
     }
@@ -62,7 +64,8 @@ loop-at-preserved g c =
     record {
       start = omega (arith, was.start, e.from);
       up_to = omega (arith, fits, within, was.start, e.from, c.end-end.ensures);
-      dropping = drop_then (λ n. in_map n m) (λ n. sum_by (in_place n) (drop (from - m.start) m.places)) (λ n. sum_by (in_place n) run) (λ n. sum_by (in_place n) (drop past run)) (λ n. in_map n m) (λ n. sum_by (in_place n) (drop (at + past - m.start) m.places))
+      dropping = drop_then (λ n. in_map n m) (λ n. sum_by (in_place n) (drop (from - m.start) m.places)) (λ n. sum_by (in_place n) run)
+          (λ n. sum_by (in_place n) (drop past run)) (λ n. in_map n m) (λ n. sum_by (in_place n) (drop (at + past - m.start) m.places))
           c.args.store.now c.loop-at.store c.drop_run-past.new.store was.dropping c.drop_run-past.ensures.dropping
           (λ n.
           let its = run_sum (at - m.start) m.places run is (in_place n) in

@@ -20,7 +20,8 @@ drop_counting-requires-clause-held g c =
     let i = c.loop-at.at in
     let p = c.index-places-at.result in
     let number = c.in-Some.number in
-    still_held (λ n. sum_by (in_place n) ps) (λ n. sum_by (in_place n) (drop i ps)) (λ n. sum_by (in_place n) (drop (i + 1) ps)) c.args.store.now c.loop-at.store was.dropping number (c.requires.held number)
+    still_held (λ n. sum_by (in_place n) ps) (λ n. sum_by (in_place n) (drop i ps)) (λ n. sum_by (in_place n) (drop (i + 1) ps)) c.args.store.now
+    c.loop-at.store was.dropping number (c.requires.held number)
     (λ n. (let step = sum_read (in_place n) ps i p c.loop-at-test.true c.index-places-at.is in let here = copied_in n number p (sym c.copy_in.ensures ∙ c.in-Some.is) in omega (arith, step, here)))
 
 pub loop-at-preserved : goal.loop-at-preserved
@@ -32,8 +33,11 @@ loop-at-preserved g c =
     let number = c.in-Some.number in
     record {
       high = omega (arith, c.loop-at-test.true);
-      dropping = drop_next (λ n. sum_by (in_place n) ps) (λ n. sum_by (in_place n) (drop i ps)) (λ n. sum_by (in_place n) (drop (i + 1) ps)) c.args.store.now c.loop-at.store was.dropping number (c.requires.held number)
-          (λ n. (let step = sum_read (in_place n) ps i p c.loop-at-test.true c.index-places-at.is in let here = copied_in n number p (sym c.copy_in.ensures ∙ c.in-Some.is) in omega (arith, step, here))) c.drop_counting.new.store c.drop_counting.ensures.dropped;
+      dropping = drop_next (λ n. sum_by (in_place n) ps) (λ n. sum_by (in_place n) (drop i ps)) (λ n. sum_by (in_place n) (drop (i + 1) ps))
+          c.args.store.now c.loop-at.store was.dropping number (c.requires.held number)
+          (λ n. (let step = sum_read (in_place n) ps i p c.loop-at-test.true c.index-places-at.is in
+          let here = copied_in n number p (sym c.copy_in.ensures ∙ c.in-Some.is) in omega (arith, step, here))) c.drop_counting.new.store
+          c.drop_counting.ensures.dropped;
       counted = omega (arith, was.counted, c.drop_counting.ensures.counted);
       fewer = omega (arith, was.fewer, c.drop_counting.ensures.one);
     }

@@ -17,7 +17,8 @@ loop-map-preserved g c =
     let one = c.end_map_of-reserves in
     let n = one.new.map in
     let inside : i < length was.maps = omega (arith, c.loop-map-test.true, was.auto.maps) in (
-      drop_then (λ k. sum_by (in_map k) c.args.maps.now) (λ k. sum_by (in_map k) was.maps) (λ k. in_map k m) (λ k. in_map k n) (λ k. sum_by (in_map k) c.args.maps.now) (λ k. sum_by (in_map k) (slice_set was.maps i n))
+      drop_then (λ k. sum_by (in_map k) c.args.maps.now) (λ k. sum_by (in_map k) was.maps) (λ k. in_map k m) (λ k. in_map k n)
+          (λ k. sum_by (in_map k) c.args.maps.now) (λ k. sum_by (in_map k) (slice_set was.maps i n))
           c.args.store.now was.store one.new.store was.invariant.0 one.ensures.dropping
           (λ k. (let step = sum_by-set (in_map k) was.maps i n c.map-item.result inside in omega (arith, step))),
       first_step (ended_for c.args.task) i c.args.maps.now was.maps c.map-item.result n c.loop-map-test.true was.invariant.1 one.ensures.map,

@@ -33,7 +33,9 @@ share_map-requires-clause-few g c =
 
 pub loop-map-init : goal.loop-map-init
 loop-map-init g c = record {
-  sharing = share_then (λ n. 0) (λ n. 0) (λ n. sum_by (in_map n) c.args.maps.now - sum_by (in_map n) c.args.maps.now) c.args.store.now c.args.store.now c.args.store.now (share_none c.args.store.now c.requires.some) (share_none c.args.store.now c.requires.some) (λ n. omega arith);
+  sharing = share_then (λ n. 0) (λ n. 0) (λ n. sum_by (in_map n) c.args.maps.now - sum_by (in_map n) c.args.maps.now) c.args.store.now
+      c.args.store.now c.args.store.now (share_none c.args.store.now c.requires.some) (share_none c.args.store.now c.requires.some)
+      (λ n. omega arith);
   less = λ n. omega arith;
   counted = c.requires.counted;
   more = omega arith;
@@ -46,9 +48,12 @@ loop-map-preserved g c =
     let m = c.map-item.result in
     let step = sum_read copies_in c.args.maps.now i m c.loop-map-test.true c.map-item.is in
     let more = was.invariant.more in
-    let each : (n : ℕ) → sum_by (in_map n) (drop i c.args.maps.now) ≡ in_map n m + sum_by (in_map n) (drop (i + 1) c.args.maps.now) = λ n. sum_read (in_map n) c.args.maps.now i m c.loop-map-test.true c.map-item.is in
+    let each : (n : ℕ) → sum_by (in_map n) (drop i c.args.maps.now) ≡ in_map n m + sum_by (in_map n) (drop (i + 1) c.args.maps.now) = λ n.
+    sum_read (in_map n) c.args.maps.now i m c.loop-map-test.true c.map-item.is in
     record {
-      sharing = share_then (λ n. sum_by (in_map n) c.args.maps.now - sum_by (in_map n) (drop i c.args.maps.now)) (λ n. in_map n m) (λ n. sum_by (in_map n) c.args.maps.now - sum_by (in_map n) (drop (i + 1) c.args.maps.now)) c.args.store.now was.store c.share_map.new.store was.invariant.sharing c.share_map.ensures.sharing
+      sharing = share_then (λ n. sum_by (in_map n) c.args.maps.now - sum_by (in_map n) (drop i c.args.maps.now)) (λ n. in_map n m)
+          (λ n. sum_by (in_map n) c.args.maps.now - sum_by (in_map n) (drop (i + 1) c.args.maps.now)) c.args.store.now was.store c.share_map.new.store
+          was.invariant.sharing c.share_map.ensures.sharing
           (λ n. (let here = each n in let less = was.invariant.less n in omega (arith, here, less)));
       less = λ n. (let here = each n in let less = was.invariant.less n in omega (arith, here, less));
       counted = c.share_map.ensures.counted;

@@ -79,7 +79,8 @@ loop-at-preserved g c =
       start = omega (arith, was.start, e.from);
       up_to = omega (arith, fits, within, was.start, e.from, c.end-end.ensures);
       shared = shared_then m.places (drop (from - m.start) m.places) (drop (at + past - m.start) m.places) c.args.store.now c.loop-at.store c.share_run-past.new.store was.shared
-          (shared_before (drop (from - m.start) m.places) run (drop past run) (drop (at + past - m.start) m.places) (behind (at - m.start) m.places run is) c.loop-at.store c.share_run-past.new.store c.share_run-past.ensures.shared
+          (shared_before (drop (from - m.start) m.places) run (drop past run) (drop (at + past - m.start) m.places)
+          (behind (at - m.start) m.places run is) c.loop-at.store c.share_run-past.new.store c.share_run-past.ensures.shared
           (λ n. (let its = run_sum (at - m.start) m.places run is (in_place n) in let same = to_copy (in_place n) (bare_in n) m from at was.start e.from below e.clear in omega (arith, its, same)))
           (λ n. (let rest = left_sum (at - m.start) m.places run is (in_place n) past within in let end = ap (λ k. sum_by (in_place n) (drop k m.places)) next in omega (arith, rest, end))));
       counted = c.share_run-past.ensures.counted;
@@ -96,7 +97,8 @@ returns-clause-sharing g c =
     let m = c.args.map.now in
     let was = c.loop-at.invariant in
     let from = c.loop-at.from in
-    shared_all m.places (drop (from - m.start) m.places) c.args.store.now c.loop-at.store was.shared (λ n. no_copy (in_place n) (bare_in n) m from was.start (subst (λ k. IsClear from k m) c.end-end.ensures c.in_default.ensures.none))
+    shared_all m.places (drop (from - m.start) m.places) c.args.store.now c.loop-at.store was.shared
+    (λ n. no_copy (in_place n) (bare_in n) m from was.start (subst (λ k. IsClear from k m) c.end-end.ensures c.in_default.ensures.none))
 
 pub returns-clause-more : goal.returns-clause-more
 returns-clause-more g c =

@@ -52,7 +52,8 @@ loop-at-preserved g c =
     record {
       high = omega (arith, c.loop-at-test.true);
       shared = shared_then ps (drop i ps) (drop (i + 1) ps) c.args.store.now c.loop-at.store c.add_holder.new.store was.shared
-          (shared_as (drop i ps) (p ∷ drop (i + 1) ps) (drop (i + 1) ps) (drop (i + 1) ps) c.loop-at.store c.add_holder.new.store (shared_one p (drop (i + 1) ps) number c.loop-at.store c.add_holder.new.store is c.add_holder.ensures.sharing)
+          (shared_as (drop i ps) (p ∷ drop (i + 1) ps) (drop (i + 1) ps) (drop (i + 1) ps) c.loop-at.store c.add_holder.new.store
+          (shared_one p (drop (i + 1) ps) number c.loop-at.store c.add_holder.new.store is c.add_holder.ensures.sharing)
           (λ n. drop_read (sum_by (in_place n)) ps i p c.loop-at-test.true c.index-places-at.is) (λ n. refl));
       counted = omega (arith, was.counted, c.add_holder.ensures.counted);
       copies = omega (arith, step, one, was.copies);

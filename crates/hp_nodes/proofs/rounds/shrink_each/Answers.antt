@@ -19,7 +19,10 @@ loop-node-preserved c =
     let has_is : c.has.result ≡ has Free r = c.has.ensures ∙ ap (has Free) x_is in
     elim c.if-has.branch as (λ _. c.if-has.nodes ≡ changed_before (i + 1) f rows) [
       | then-has w ↦
-          w.nodes-is ∙ changed_next f rows now i w.shrink.new.self below c.loop-node.invariant (w.shrink.ensures.row ∙ ap (shrink_by c.args.count) x_is ∙ sym (cond-true (has Free r) (shrink_by c.args.count r) r (sym has_is ∙ w.if-has.true)))
+          w.nodes-is ∙ changed_next f rows now i w.shrink.new.self below c.loop-node.invariant
+          (w.shrink.ensures.row ∙ ap (shrink_by c.args.count) x_is ∙ sym (cond-true (has Free r) (shrink_by c.args.count r) r
+          (sym has_is ∙ w.if-has.true)))
       | else-has w ↦
-          w.nodes-is ∙ changed_next f rows now i (slice_index_or now i c.node-item.result) below c.loop-node.invariant (x_is ∙ sym (cond-false (has Free r) (shrink_by c.args.count r) r (sym has_is ∙ w.if-has.false)))
+          w.nodes-is ∙ changed_next f rows now i (slice_index_or now i c.node-item.result) below c.loop-node.invariant
+          (x_is ∙ sym (cond-false (has Free r) (shrink_by c.args.count r) r (sym has_is ∙ w.if-has.false)))
     ]

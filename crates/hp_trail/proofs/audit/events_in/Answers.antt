@@ -27,7 +27,8 @@ loop-session-preserved c items told by =
     let within : s < length c.loop-session.receipts.items = omega (arith, below, h.count, lists_long c.loop-session.receipts.items) in
     let here : slice_index_or left s [] ≡ c.index_mut.result.now.items = lists_read c.loop-session.receipts.items s c.index_mut.result.now within c.index_mut.ensures.value in
     subst (λ (xs : List (List Receipt)). IsEmptying items (length receipts) c.pop.new.self.items xs c.push.new.self.items) (sym (lists_set c.loop-session.receipts.items s c.pop-in-Some.new.self))
-    (subst (λ (es : List Event). IsEmptying items (length receipts) c.pop.new.self.items (slice_set left s c.pop-in-Some.new.self.items) es) (sym (c.in_ok-push.ensures.items ∙ ap (λ e. c.loop-session.events.items ++ e ∷ []) c.into_event.ensures))
+    (subst (λ (es : List Event). IsEmptying items (length receipts) c.pop.new.self.items (slice_set left s c.pop-in-Some.new.self.items) es)
+    (sym (c.in_ok-push.ensures.items ∙ ap (λ e. c.loop-session.events.items ++ e ∷ []) c.into_event.ensures))
     (emptied receipts items told c.loop-session.order.items c.pop.new.self.items s left c.loop-session.events.items h c.in-Some.ensures.items c.pop-in-Some.new.self.items c.in-Some-pop.receipt
     (here ∙ c.in-Some-pop.ensures.items)))
 
@@ -42,4 +43,5 @@ loop-session-preserved-in_default-pop c items told by =
     let within : s < length c.loop-session.receipts.items = omega (arith, below, h.count, lists_long c.loop-session.receipts.items) in
     let here : slice_index_or left s [] ≡ c.index_mut.result.now.items = lists_read c.loop-session.receipts.items s c.index_mut.result.now within c.index_mut.ensures.value in
     let none : length c.index_mut.result.now.items ≡ 0 = omega (arith, c.index_mut.result.now.ok.0, c.in_default-pop.ensures.cases.0) in
-    absurd (some_left receipts items told c.loop-session.order.items c.pop.new.self.items s left c.loop-session.events.items h c.in-Some.ensures.items (here ∙ none_there c.index_mut.result.now.items none))
+    absurd (some_left receipts items told c.loop-session.order.items c.pop.new.self.items s left c.loop-session.events.items h c.in-Some.ensures.items
+    (here ∙ none_there c.index_mut.result.now.items none))

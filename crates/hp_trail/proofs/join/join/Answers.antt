@@ -49,7 +49,8 @@ returns-then-not-has_ended c =
     let passed = c.in_ok-pass_all.ensures in
     let left : IsLeft walk.receipts cursors = subst (λ (rs : List (List Receipt)). IsLeft rs cursors) passed.receipts (c.if-not-has_ended.ensures.left refl) in
     subst (λ (w : Walking). Differ w.trails w.receipts) c.in_ok-walk.ensures
-    (stuck_differs walk.trails walk.receipts cursors passed.walked.0 passed.walked.1 c.in-Some.tellers (subst (λ (w : Walking). AreTold w.trails w.receipts c.in-Some.tellers) (sym c.in_ok-walk.ensures) told)
+    (stuck_differs walk.trails walk.receipts cursors passed.walked.0 passed.walked.1 c.in-Some.tellers
+    (subst (λ (w : Walking). AreTold w.trails w.receipts c.in-Some.tellers) (sym c.in_ok-walk.ensures) told)
     (all_wait walk.trails walk.receipts cursors [] refl passed.covered) left)
 
 pub returns : goal.returns
@@ -62,4 +63,5 @@ returns c =
     let passed = c.in_ok-pass_all.ensures in
     let ended : HaveEnded walk.receipts cursors = subst (λ (rs : List (List Receipt)). HaveEnded rs cursors) passed.receipts (c.if-not-has_ended.ensures.ended refl) in
     subst (λ (w : Walking). JoinsBy w.trails w.receipts c.pass_all.new.order.items) c.in_ok-walk.ensures
-    (ended_joins walk.trails walk.receipts cursors c.pass_all.new.order.items c.in-Some.tellers passed.walked (subst (λ (w : Walking). AreTold w.trails w.receipts c.in-Some.tellers) (sym c.in_ok-walk.ensures) told) ended)
+    (ended_joins walk.trails walk.receipts cursors c.pass_all.new.order.items c.in-Some.tellers passed.walked
+    (subst (λ (w : Walking). AreTold w.trails w.receipts c.in-Some.tellers) (sym c.in_ok-walk.ensures) told) ended)

@@ -18,7 +18,8 @@ pass-requires-clause-right c =
 pub pass-requires-clause-sections : goal.pass-requires-clause-sections
 pass-requires-clause-sections c =
     subst (λ (x : Trails). HaveSections x c.loop-session.walk.receipts) (sym c.loop-session.invariant.trails)
-    (subst (λ (rs : List (List Receipt)). HaveSections c.args.walk.now.trails rs) (sym c.loop-session.invariant.receipts') (λ s i r k a has part asks. (c.requires.told.section s i r k a has part asks).0))
+    (subst (λ (rs : List (List Receipt)). HaveSections c.args.walk.now.trails rs) (sym c.loop-session.invariant.receipts')
+    (λ s i r k a has part asks. (c.requires.told.section s i r k a has part asks).0))
 
 pub loop-session-preserved-in_default-pass : goal.loop-session-preserved-in_default-pass
 loop-session-preserved-in_default-pass c =
@@ -34,7 +35,8 @@ loop-session-preserved c =
     turned t receipts c.args.tellers.now c.requires.told c.loop-session.walk c.pass.new.self c.in-Some.session c.loop-session.order.items c.loop-session.work.items c.pop.new.self.items
     c.loop-session.invariant c.in-Some.ensures.items c.in-Some-pass.part c.in-Some-pass.ensures c.push.new.self.items c.wake.new.work.items c.wake-in-Some.new.work.items
     c.in_ok-push.ensures.items
-    (subst (λ (xs : List ℕ). IsWoken (teller c.args.tellers.now c.in-Some-pass.part (cursor c.pass.new.self.cursors c.in-Some-pass.part)) xs c.wake.new.work.items) c.in_ok-push-2.ensures.items c.in_ok-wake.ensures)
+    (subst (λ (xs : List ℕ). IsWoken (teller c.args.tellers.now c.in-Some-pass.part (cursor c.pass.new.self.cursors c.in-Some-pass.part)) xs
+    c.wake.new.work.items) c.in_ok-push-2.ensures.items c.in_ok-wake.ensures)
     c.in_ok-wake-2.ensures
 
 pub loop-session-smaller : goal.loop-session-smaller
@@ -44,7 +46,8 @@ loop-session-smaller c =
     smaller t receipts c.args.tellers.now c.requires.told c.loop-session.walk c.pass.new.self c.in-Some.session c.loop-session.order.items c.loop-session.work.items c.pop.new.self.items
     c.loop-session.invariant c.in-Some.ensures.items c.in-Some-pass.part c.in-Some-pass.ensures c.push.new.self.items c.wake.new.work.items c.wake-in-Some.new.work.items
     c.in_ok-push.ensures.items
-    (subst (λ (xs : List ℕ). IsWoken (teller c.args.tellers.now c.in-Some-pass.part (cursor c.pass.new.self.cursors c.in-Some-pass.part)) xs c.wake.new.work.items) c.in_ok-push-2.ensures.items c.in_ok-wake.ensures)
+    (subst (λ (xs : List ℕ). IsWoken (teller c.args.tellers.now c.in-Some-pass.part (cursor c.pass.new.self.cursors c.in-Some-pass.part)) xs
+    c.wake.new.work.items) c.in_ok-push-2.ensures.items c.in_ok-wake.ensures)
     c.in_ok-wake-2.ensures
 
 pub returns-clause-covered : goal.returns-clause-covered

@@ -31,9 +31,12 @@ slot_event =
     let mapped = field_then number (field_then number (field_then sharing (last_field reserving))) in
     let at_page = field_then number three_numbers in
     variants SlotEvent.enum (
-    bytes_last ▹ no_field ▹ bytes_last ▹ bytes_last ▹ field_then numbers number_last ▹ field_then numbers (field_then number number_last) ▹ field_then numbers three_numbers ▹ no_field ▹ bytes_last ▹ no_field
-    ▹ field_then number (field_then number (field_then numbers mapped)) ▹ field_then number mapped ▹ at_page ▹ field_then number (field_then number (field_then number (field_then number (last_field intent))))
-    ▹ field_then number (field_then number at_page) ▹ field_then number (field_then number (field_then number (field_then number (field_then number bytes_last)))) ▹ field_then number number_last ▹ number_last ▹ tt)
+    bytes_last ▹ no_field ▹ bytes_last ▹ bytes_last ▹ field_then numbers number_last ▹ field_then numbers (field_then number number_last) ▹ field_then
+    numbers three_numbers ▹ no_field ▹ bytes_last ▹ no_field
+    ▹ field_then number (field_then number (field_then numbers mapped)) ▹ field_then number mapped ▹ at_page ▹ field_then number
+    (field_then number (field_then number (field_then number (last_field intent))))
+    ▹ field_then number (field_then number at_page) ▹ field_then number (field_then number
+    (field_then number (field_then number (field_then number bytes_last)))) ▹ field_then number number_last ▹ number_last ▹ tt)
 
 pub returns-clause-same : goal.returns-clause-same
 returns-clause-same c e = slot_event.same c.args.a.now c.args.b.now (sym c.eq.ensures ∙ e)

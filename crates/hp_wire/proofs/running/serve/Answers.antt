@@ -23,7 +23,8 @@ returns-then-total-gt-INPUT_LIMIT-clause-served g c =
     let i = c.loop.invariant in
     let got = gets_as c.bytes-bytes.ensures c.in_ok-n.ensures.got in
     let some : 0 < c.in_ok-n.n = omega arith in
-    let ran = passed 1073741824 i.progress got (but_one got some) i.page c.in_ok-answer_chunk.ensures.ran (omega (arith, c.in_ok-n.ensures.bound)) (omega (arith, got.all, length-drop (c.in_ok-n.n - 1) got.bytes)) in
+    let ran = passed 1073741824 i.progress got (but_one got some) i.page c.in_ok-answer_chunk.ensures.ran (omega (arith, c.in_ok-n.ensures.bound))
+    (omega (arith, got.all, length-drop (c.in_ok-n.n - 1) got.bytes)) in
     (ran.0, ran.1, (ran.2, ran.3))
 
 pub returns-in_err-left-clause-served : goal.returns-in_err-left-clause-served

@@ -24,5 +24,9 @@ pub returns-then-line-from-eq32 : goal.returns-then-line-from-eq32
 returns-then-line-from-eq32 c =
     let line = c.args.line.now in
     let from = c.args.from in
-    let at = from + c.near.i in
-    (omega arith, omega arith, ended_piece (between from at line) (pieces_from from line) (pieces_from at line) (pieces_from (at + 1) line) c.near.invariant (ends_at_space line at (omega arith) c.if-line-from-eq32.true))
+    let at = from + c.near.i in (
+      omega arith,
+      omega arith,
+      ended_piece (between from at line) (pieces_from from line) (pieces_from at line) (pieces_from (at + 1) line)
+          c.near.invariant (ends_at_space line at (omega arith) c.if-line-from-eq32.true),
+    )

@@ -9,7 +9,9 @@ returns c =
     let script_frames = adds_rule _ _ _ _ _ c.in_ok-arg.ensures c.option.ensures.local c.new.ensures.app c.option.ensures.rule in
     let script_page = adds_rule _ _ _ _ _ c.in_ok-arg-2.ensures c.option-2.ensures.local script_frames c.option-2.ensures.rule in
     let script = adds_rule _ _ _ _ _ c.in_ok-script.ensures c.option-3.ensures.local script_page c.option-3.ensures.rule in
-    let no_global = c.in_ok-script.ensures.globals ∙ ap₂ (◌||◌) (c.in_ok-arg-2.ensures.globals ∙ ap₂ (◌||◌) (c.in_ok-arg.ensures.globals ∙ ap₂ (◌||◌) c.new.ensures.local c.option.ensures.local) c.option-2.ensures.local) c.option-3.ensures.local in
+    let no_global = c.in_ok-script.ensures.globals ∙ ap₂ (◌||◌) (c.in_ok-arg-2.ensures.globals
+    ∙ ap₂ (◌||◌) (c.in_ok-arg.ensures.globals ∙ ap₂ (◌||◌) c.new.ensures.local c.option.ensures.local) c.option-2.ensures.local)
+    c.option-3.ensures.local in
     let frames = adds_rule _ _ _ _ _ c.in_ok-arg-3.ensures c.option-4.ensures.local (adds_version _ _ _ _ c.version.ensures refl c.new-2.ensures.app) c.option-4.ensures.rule in
     let page = adds_rule _ _ _ _ _ c.in_ok-arg-4.ensures c.option-5.ensures.local frames c.option-5.ensures.rule in
     let top = adds_rule _ _ _ _ _ c.in_ok-arg-5.ensures c.option-6.ensures.local page c.option-6.ensures.rule in

@@ -13,6 +13,10 @@ invariant_of-result c =
       within = rw none (omega arith);
       places = omega (arith, c.in_ok-returned.ensures.capacity);
       small = λ some. size.2;
-      uncut = λ some. (bottom (heap_region c.in_ok-heap.heap), c.in_ok-heap.ensures.holes ∙ ap (λ n. (bottom (heap_region c.in_ok-heap.heap), n) ∷ []) (ap block_size size.0 ∙ all_fit c.args.frames c.args.page_bytes some));
+      uncut = λ some. (
+        bottom (heap_region c.in_ok-heap.heap),
+        c.in_ok-heap.ensures.holes
+            ∙ ap (λ n. (bottom (heap_region c.in_ok-heap.heap), n) ∷ []) (ap block_size size.0 ∙ all_fit c.args.frames c.args.page_bytes some),
+      );
       own = rw none (λ k d below. absurd (omega (arith, below)));
     }

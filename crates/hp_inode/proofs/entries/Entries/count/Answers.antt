@@ -10,7 +10,9 @@ more : (c : goal.After-from-count) → c.loop-next.count + c.from-count.result �
 more c =
     let read : get_or c.as_slice.result.now c.in-Some.next 0 ≡ get_or c.args.self.now c.in-Some.next 0 = ap (λ ws. get_or ws c.in-Some.next 0) (c.as_slice.ensures ∙ c.self.view_is) in
     let small : c.bits_within.result < 2 ^ 64 = omega arith in
-    let next = counted_next c.args.self.now c.args.a c.args.b c.loop-next.at c.in-Some.next (get_or c.args.self.now c.in-Some.next 0) c.bits_within.result c.in-Some.ensures.from c.in-Some.ensures.none_before small (bit_marked c.args.self.now c.in-Some.next) c.bits_within.ensures in
+    let next = counted_next c.args.self.now c.args.a c.args.b c.loop-next.at c.in-Some.next (get_or c.args.self.now c.in-Some.next 0)
+    c.bits_within.result c.in-Some.ensures.from c.in-Some.ensures.none_before small (bit_marked c.args.self.now c.in-Some.next)
+    c.bits_within.ensures in
     let ones = c.from-count.ensures ∙ ap (λ w. count_ones (bit_and w c.bits_within.result)) read in
     omega (arith, next, ones, c.loop-next.invariant.counted)
 

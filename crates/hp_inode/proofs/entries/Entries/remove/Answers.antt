@@ -10,7 +10,8 @@ pub returns-then-a-b-clause-count : goal.returns-then-a-b-clause-count
 returns-then-a-b-clause-count c = (none c).counted
 
 one : (c : goal.After-remove_in_word) → IsRemoved c.args.a c.args.b c.args.self.now c.remove_in_word.new.self c.remove_in_word.result
-one c = removed_past c.args.self.now c.remove_in_word.new.self c.args.a c.min-b.result c.args.b c.remove_in_word.result (omega (arith, c.min-b.ensures, c.len.ensures.value, ap length c.self.view_is)) (omega arith) c.remove_in_word.ensures.removed
+one c = removed_past c.args.self.now c.remove_in_word.new.self c.args.a c.min-b.result c.args.b c.remove_in_word.result
+    (omega (arith, c.min-b.ensures, c.len.ensures.value, ap length c.self.view_is)) (omega arith) c.remove_in_word.ensures.removed
 
 pub returns-then-first-last-clause-count : goal.returns-then-first-last-clause-count
 returns-then-first-last-clause-count c = (one c).counted
@@ -21,12 +22,14 @@ returns-then-first-last-clause-left c = (one c).left
 pub overflow_add-result : goal.overflow_add-result
 overflow_add-result c = omega (arith, few_removed _ _ _ _ _ c.remove_in_word-head.ensures.removed, few_removed _ _ _ _ _ c.remove_words-middle.ensures.removed)
 
-all : (c : goal.After-remove_in_word-2) → IsRemoved c.args.a c.args.b c.args.self.now c.remove_in_word-2.new.self (c.remove_in_word-head.result + c.remove_words-middle.result + c.remove_in_word-2.result)
+all : (c : goal.After-remove_in_word-2) → IsRemoved c.args.a c.args.b c.args.self.now c.remove_in_word-2.new.self
+    (c.remove_in_word-head.result + c.remove_words-middle.result + c.remove_in_word-2.result)
 all c =
     let b = c.min-b.result in
     let last = (b - 1) / 64 in
     let most : IsRemoved c.args.a (64 * last) c.args.self.now c.remove_words-middle.new.self (c.remove_in_word-head.result + c.remove_words-middle.result) =
-    joined c.args.self.now c.remove_in_word-head.new.self c.remove_words-middle.new.self c.args.a (64 * (c.args.a / 64 + 1)) (64 * last) _ _ _ (omega arith) (omega arith) (omega arith) c.remove_in_word-head.ensures.removed c.remove_words-middle.ensures.removed in
+    joined c.args.self.now c.remove_in_word-head.new.self c.remove_words-middle.new.self c.args.a (64 * (c.args.a / 64 + 1)) (64 * last)
+    _ _ _ (omega arith) (omega arith) (omega arith) c.remove_in_word-head.ensures.removed c.remove_words-middle.ensures.removed in
     removed_past c.args.self.now c.remove_in_word-2.new.self c.args.a b c.args.b _ (omega (arith, c.min-b.ensures, c.len.ensures.value, ap length c.self.view_is)) (omega arith)
     (joined c.args.self.now c.remove_words-middle.new.self c.remove_in_word-2.new.self c.args.a (64 * last) b _ _ _ (omega arith) (omega arith) (omega arith) most c.remove_in_word-2.ensures.removed)
 

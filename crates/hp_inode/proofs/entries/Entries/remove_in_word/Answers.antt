@@ -21,7 +21,9 @@ invariant_of-self c =
     let within : at < length words = omega arith in
     let long : length c.set_mark.new.words ≡ length marks = search rules in
     rw (c.as_mut_slice.ensures.value, written_back words (set words at left) (length-set words at left), written_back marks c.set_mark.new.words long)
-    (cleared_entries words marks c.set_mark.new.words at left c.self.invariant within long (λ j other. c.set_mark.ensures.others j other ∙ ap (λ ws. marked ws j) c.as_mut_slice-2.ensures.value) (λ off. zero_of _ (sym c.set_mark.ensures.here ∙ off)))
+    (cleared_entries words marks c.set_mark.new.words at left c.self.invariant within long
+    (λ j other. c.set_mark.ensures.others j other ∙ ap (λ ws. marked ws j) c.as_mut_slice-2.ensures.value)
+    (λ off. zero_of _ (sym c.set_mark.ensures.here ∙ off)))
 
 pub returns-clause-removed : goal.returns-clause-removed
 returns-clause-removed c =
@@ -32,4 +34,12 @@ returns-clause-removed c =
     let small : bits < 2 ^ 64 = omega arith in
     let here : IsRemoved c.args.a c.args.b words (set words at (bit_and (get_or words at 0) (18446744073709551615 - bits))) (count_ones (bit_and (get_or words at 0) bits)) =
     removed_in_word words at c.args.a c.args.b bits (omega arith) (omega arith) c.requires.some (omega arith) small c.bits_within-bits.ensures in
-    rw (c.from.ensures, c.as_mut_slice.ensures.value, c.as_slice.ensures, written_back words (set words at (bit_and (get_or words at 0) (18446744073709551615 - bits))) (length-set words at (bit_and (get_or words at 0) (18446744073709551615 - bits))), ← c.self.view_is) here
+    rw (
+      c.from.ensures,
+      c.as_mut_slice.ensures.value,
+      c.as_slice.ensures,
+      written_back words
+          (set words at (bit_and (get_or words at 0) (18446744073709551615 - bits)))
+          (length-set words at (bit_and (get_or words at 0) (18446744073709551615 - bits))),
+      ← c.self.view_is,
+    ) here

@@ -23,7 +23,9 @@ invariant_of-self c =
     let none : All (λ (c : Cell ℕ). has_page c ≡ false) (part c.args.a c.args.b (cells_of s.len s.entries s.table)) = rw (← c.self.view_is) at c.requires.pageless in
     unready _ _ _ _ _ _
     (dropped_kept _ _ _ _ _ c.args.a c.args.b c.self.invariant.kept within c.remove-count.ensures.left none c.remove-count.result c.remove-count.ensures.count)
-    (c.self.invariant.paged ∙ sym (dropped_paged c.args.a c.args.b (cells_of s.len s.entries s.table) none) ∙ ap (count_by has_page) (sym (dropped_cells _ _ _ c.remove-count.new.self _ c.args.a c.args.b c.self.invariant.kept within c.remove-count.ensures.left)))
+    (c.self.invariant.paged ∙ sym (dropped_paged c.args.a c.args.b (cells_of s.len s.entries s.table) none)
+    ∙ ap (count_by has_page) (sym (dropped_cells _ _ _ c.remove-count.new.self _ c.args.a c.args.b c.self.invariant.kept within
+    c.remove-count.ensures.left)))
 
 pub returns-clause-count : goal.returns-clause-count
 returns-clause-count c =

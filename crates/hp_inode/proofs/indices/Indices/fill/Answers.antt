@@ -17,7 +17,8 @@ invariant_of-self c =
     let new = changed _ _ _ _ c.self.invariant.kept c.args.i (Some c.args.page) _ entered c.set.ensures.here c.set.ensures.others in
     record {
       kept = changed_kept _ _ _ _ c.self.invariant.kept c.args.i (Some c.args.page) _ entered c.set.ensures.here c.set.ensures.others c.set.ensures.slots;
-      paged = ap (λ n. n + 1) c.self.invariant.paged ∙ sym (filled_paged (cells_of s.len s.entries s.table) c.args.i c.args.page (rw (← c.self.view_is) at c.requires)) ∙ ap (count_by has_page) (sym new);
+      paged = ap (λ n. n + 1) c.self.invariant.paged ∙ sym (filled_paged (cells_of s.len s.entries s.table) c.args.i c.args.page
+          (rw (← c.self.view_is) at c.requires)) ∙ ap (count_by has_page) (sym new);
       small = c.self.invariant.small;
       slots = λ k low high. c.set.ensures.slots k ∙ c.self.invariant.slots k low high;
       room = c.self.invariant.room;

@@ -12,7 +12,9 @@ invariant_of-self c =
     let kept = c.self.invariant.kept in
     record {
       kept = longer_kept s.len s.count s.entries s.table c.args.len c.max-self-inside.result kept c.requires c.max-self-inside.ensures;
-      paged = c.self.invariant.paged ∙ sym (longer_paged c.args.len (cells_of s.len s.entries s.table)) ∙ ap (count_by has_page) (sym (longer_cells s.len s.count s.entries s.table c.args.len c.max-self-inside.result kept c.requires c.max-self-inside.ensures));
+      paged = c.self.invariant.paged ∙ sym (longer_paged c.args.len (cells_of s.len s.entries s.table))
+          ∙ ap (count_by has_page) (sym (longer_cells s.len s.count s.entries s.table c.args.len c.max-self-inside.result kept c.requires
+          c.max-self-inside.ensures));
       small = c.self.invariant.small;
       slots = c.self.invariant.slots;
       room = c.self.invariant.room;

@@ -43,7 +43,8 @@ returns-in_err-make_room-clause-err c =
 pub invariant_of-self-2 : goal.invariant_of-self-2
 invariant_of-self-2 c =
     let s = c.self.inside in
-    let made = same_unready s.len s.count s.entries c.make_room.new.self s.table c.make_slots.new.self c.make_room.ensures.same c.make_slots.ensures.pages c.self.invariant c.make_slots.ensures.kept 0 in
+    let made = same_unready s.len s.count s.entries c.make_room.new.self s.table c.make_slots.new.self c.make_room.ensures.same
+    c.make_slots.ensures.pages c.self.invariant c.make_slots.ensures.kept 0 in
     record { kept = made.kept; paged = made.paged; small = c.requires; slots = c.in_ok-make_slots.ensures.made; room = c.in_ok-make_room.ensures.ok }
 
 pub returns-clause-ok : goal.returns-clause-ok

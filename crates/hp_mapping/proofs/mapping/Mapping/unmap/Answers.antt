@@ -9,7 +9,8 @@ use Rattle.hp_mapping.proofs.mapping.Mapping.unmap.Goals as goal
 
 pub leave_range-freed-requires-clause-clear : goal.leave_range-freed-requires-clause-clear
 leave_range-freed-requires-clause-clear c =
-    clear_places c.args.a c.args.b c.offset-from.result c.offset-to.result c.args.self.now c.self.inside.places (ap (λ s. s.places) (sym c.self.view_is)) c.requires.clear c.offset-from.ensures c.offset-to.ensures
+    clear_places c.args.a c.args.b c.offset-from.result c.offset-to.result c.args.self.now c.self.inside.places
+    (ap (λ s. s.places) (sym c.self.view_is)) c.requires.clear c.offset-from.ensures c.offset-to.ensures
 
 pub overflow_sub-self : goal.overflow_sub-self
 overflow_sub-self c =

@@ -20,5 +20,8 @@ returns c =
     let new = c.touch-slot.new in
     let did = c.touch-slot.ensures in
     let less : at < s.count = omega (arith, c.requires, ap length c.self.view_is, long s.count s.homes.items s.places.items) in
-    let was = c.index_mut.ensures.value ∙ get_touched s.count s.homes.items s.places.items new.homes.items new.places.items at c.touch-slot.result did.chunked did.same less did.slot c.index_mut.result.now in
-    rw (← c.self.view_is, c.consume.ensures, was) (set_touched s.count s.homes.items s.places.items new.homes.items new.places.items at c.touch-slot.result did.chunked did.same less did.slot (consumed (slice_index_or (all_places s.count s.homes.items s.places.items) at Gone)) did.own)
+    let was = c.index_mut.ensures.value ∙ get_touched s.count s.homes.items s.places.items new.homes.items new.places.items at c.touch-slot.result
+    did.chunked did.same less did.slot c.index_mut.result.now in
+    rw (← c.self.view_is, c.consume.ensures, was) (set_touched s.count s.homes.items s.places.items new.homes.items new.places.items at
+    c.touch-slot.result did.chunked did.same less did.slot (consumed (slice_index_or (all_places s.count s.homes.items s.places.items) at Gone))
+    did.own)

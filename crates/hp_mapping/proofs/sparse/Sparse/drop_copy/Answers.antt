@@ -28,4 +28,5 @@ returns c =
     let slot = c.slot_of-slot.ensures ∙ ap (λ homes. slot_of homes at) c.deref.ensures.value in
     let was = c.index_mut.ensures.value ∙ place_is s.count s.homes.items s.places.items chunked at c.slot_of-slot.result less slot c.index_mut.result.now in
     let own = copied_own s.count s.homes.items s.places.items chunked at some in
-    rw (← c.self.view_is, c.drop_copy.ensures, was, slot) (set_place s.count s.homes.items s.places.items chunked at (without_copy (slice_index_or (all_places s.count s.homes.items s.places.items) at Gone)) own less)
+    rw (← c.self.view_is, c.drop_copy.ensures, was, slot) (set_place s.count s.homes.items s.places.items chunked at
+    (without_copy (slice_index_or (all_places s.count s.homes.items s.places.items) at Gone)) own less)

@@ -7,8 +7,13 @@ invariant_of-result c =
     let s = c.self.inside in
     let homes = c.in_ok-homes.ensures.items ∙ c.deref-2.ensures.value in
     let places = c.in_ok-places.ensures.items in
-    let same = ap length homes in
-    (rw (homes, places, c.deref.ensures.value) (chunked_forked s.homes.items s.places.items c.self.invariant.0), omega (arith, same, c.in_ok-places.ensures.room, c.len.ensures), omega (arith, same, c.self.invariant.2), omega (arith, same, c.self.invariant.3))
+    let same = ap length homes in (
+      rw (homes, places, c.deref.ensures.value) (chunked_forked s.homes.items s.places.items c.self.invariant.0),
+      omega
+          (arith, same, c.in_ok-places.ensures.room, c.len.ensures),
+      omega (arith, same, c.self.invariant.2),
+      omega (arith, same, c.self.invariant.3),
+    )
 
 pub returns : goal.returns
 returns c =

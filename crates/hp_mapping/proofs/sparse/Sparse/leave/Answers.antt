@@ -28,5 +28,6 @@ returns-clause-freed c =
     let new = c.touch-slot.new in
     let did = c.touch-slot.ensures in
     let less : at < s.count = omega (arith, c.requires, ap length c.self.view_is, long s.count s.homes.items s.places.items) in
-    let was = c.index_mut-place.ensures.value ∙ get_touched s.count s.homes.items s.places.items new.homes.items new.places.items at c.touch-slot.result did.chunked did.same less did.slot c.index_mut-place.result.now in
+    let was = c.index_mut-place.ensures.value ∙ get_touched s.count s.homes.items s.places.items new.homes.items new.places.items at
+    c.touch-slot.result did.chunked did.same less did.slot c.index_mut-place.result.now in
     rw (← c.self.view_is) (c.is_unconsumed-freed.ensures ∙ ap is_unconsumed was)

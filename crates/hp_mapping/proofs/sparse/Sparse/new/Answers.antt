@@ -7,8 +7,15 @@ pub invariant_of-result : goal.invariant_of-result
 invariant_of-result c =
     let n = c.div_ceil-chunks.result in
     let homes : c.in_ok-homes.homes.items ≡ replicate n 0 = c.in_ok-homes.ensures.items_if_clones_equal (λ y clone. clone) in
-    let long = c.in_ok-homes.ensures.len in
-    (rw (homes, c.push_fresh.ensures.items, c.in_ok-places.ensures.items) (chunked_fresh n), omega (arith, c.push_fresh.ensures.capacity, c.in_ok-places.ensures.exact, ap length homes, length-replicate {A = ℕ} n 0), omega (arith, ap length homes, length-replicate {A = ℕ} n 0, c.div_ceil-chunks.ensures), omega (arith, ap length homes, length-replicate {A = ℕ} n 0, c.div_ceil-chunks.ensures, c.requires))
+    let long = c.in_ok-homes.ensures.len in (
+      rw (homes, c.push_fresh.ensures.items, c.in_ok-places.ensures.items) (chunked_fresh n),
+      omega
+          (arith, c.push_fresh.ensures.capacity, c.in_ok-places.ensures.exact, ap length homes, length-replicate {A = ℕ} n 0),
+      omega
+          (arith, ap length homes, length-replicate {A = ℕ} n 0, c.div_ceil-chunks.ensures),
+      omega
+          (arith, ap length homes, length-replicate {A = ℕ} n 0, c.div_ceil-chunks.ensures, c.requires),
+    )
 
 pub returns : goal.returns
 returns c =

@@ -27,7 +27,8 @@ slice_bounds-result-end c =
     let some : is_some (copy_of (slice_index_or (all_places s.count s.homes.items s.places.items) at Gone)) ≡ true = rw (← c.self.view_is) at c.requires in
     let less = some_within s.count s.homes.items s.places.items at some in
     let slot = c.slot_of-slot.ensures ∙ ap (λ homes. slot_of homes at) c.deref.ensures.value in
-    let fits = run_fits s.count s.homes.items s.places.items chunked at c.min-len.result less (omega (arith, c.min-len.ensures, less)) (omega (arith, c.min-len.ensures)) (omega (arith, c.min-len.ensures)) in
+    let fits = run_fits s.count s.homes.items s.places.items chunked at c.min-len.result less (omega (arith, c.min-len.ensures, less))
+    (omega (arith, c.min-len.ensures)) (omega (arith, c.min-len.ensures)) in
     let same = ap length c.deref-2.ensures.value in
     omega (arith, slot, fits, same)
 

@@ -24,8 +24,11 @@ returns-clause-set c =
     let new = c.touch-slot.new in
     let did = c.touch-slot.ensures in
     let less : at < s.count = omega (arith, c.requires, ap length c.self.view_is, long s.count s.homes.items s.places.items) in
-    let was = c.index_mut-place.ensures.value ∙ get_touched s.count s.homes.items s.places.items new.homes.items new.places.items at c.touch-slot.result did.chunked did.same less did.slot c.index_mut-place.result.now in
-    rw (← c.self.view_is, c.set_copy.ensures, was) (set_touched s.count s.homes.items s.places.items new.homes.items new.places.items at c.touch-slot.result did.chunked did.same less did.slot (with_copy c.args.page (slice_index_or (all_places s.count s.homes.items s.places.items) at Gone)) did.own)
+    let was = c.index_mut-place.ensures.value ∙ get_touched s.count s.homes.items s.places.items new.homes.items new.places.items at
+    c.touch-slot.result did.chunked did.same less did.slot c.index_mut-place.result.now in
+    rw (← c.self.view_is, c.set_copy.ensures, was) (set_touched s.count s.homes.items s.places.items new.homes.items new.places.items at
+    c.touch-slot.result did.chunked did.same less did.slot (with_copy c.args.page
+    (slice_index_or (all_places s.count s.homes.items s.places.items) at Gone)) did.own)
 
 pub returns-clause-bare : goal.returns-clause-bare
 returns-clause-bare c =
@@ -34,7 +37,8 @@ returns-clause-bare c =
     let new = c.touch-slot.new in
     let did = c.touch-slot.ensures in
     let less : at < s.count = omega (arith, c.requires, ap length c.self.view_is, long s.count s.homes.items s.places.items) in
-    let was = c.index_mut-place.ensures.value ∙ get_touched s.count s.homes.items s.places.items new.homes.items new.places.items at c.touch-slot.result did.chunked did.same less did.slot c.index_mut-place.result.now in
+    let was = c.index_mut-place.ensures.value ∙ get_touched s.count s.homes.items s.places.items new.homes.items new.places.items at
+    c.touch-slot.result did.chunked did.same less did.slot c.index_mut-place.result.now in
     rw (← c.self.view_is, ← was, ← c.copy_in.ensures, c.is_none-bare.ensures) (twice c.is_none-bare.result)
 
 pub returns-clause-few : goal.returns-clause-few

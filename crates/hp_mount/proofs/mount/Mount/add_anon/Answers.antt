@@ -20,7 +20,8 @@ pub invariant_of-self-2 : goal.invariant_of-self-2
 invariant_of-self-2 g c =
     let o = c.self.inside in
     let r = c.args.range.now in
-    anon_kept o.share o.files o.inodes c.self.invariant r.task c.args.next.number r.start r.pages _ r.sharing r.reserving c.add_anon.new.share c.add_anon.new.self refl c.in_default.ensures.asked.share c.in_default.ensures.ok
+    anon_kept o.share o.files o.inodes c.self.invariant r.task c.args.next.number r.start r.pages _ r.sharing r.reserving c.add_anon.new.share
+    c.add_anon.new.self refl c.in_default.ensures.asked.share c.in_default.ensures.ok
     (subst (λ (x : Mount). length x.files < 1024) (sym c.self.view_is) c.requires.files)
 
 pub returns-clause-done : goal.returns-clause-done
@@ -29,9 +30,11 @@ returns-clause-done g c =
     let r = c.args.range.now in
     let m = c.args.self.now in
     let full = full_as o.share o.files o.inodes m c.self.invariant c.self.view_is _ c.wanted_alone.result c.is_full.result c.wanted_alone.ensures.alone c.is_full.ensures in
-    let new_is = anon_left o.share o.files o.inodes c.self.invariant r.task c.args.next.number r.start r.pages _ r.sharing r.reserving c.add_anon.new.share c.add_anon.new.self refl c.in_default.ensures.asked.share c.in_default.ensures.ok
+    let new_is = anon_left o.share o.files o.inodes c.self.invariant r.task c.args.next.number r.start r.pages _ r.sharing r.reserving
+    c.add_anon.new.share c.add_anon.new.self refl c.in_default.ensures.asked.share c.in_default.ensures.ok
     ∙ ap (λ (x : Mount). with_new x (with_range r c.args.next.number (new_file None))) c.self.view_is in
-    subst (λ (x : Mount). Tried g.D.PoolDoor.took g.D.PoolDoor.is_full (anon_plan m r c.args.next.number c.args.home) (Some m) c.args.door.now (Ok (MapNo c.args.next.number)) (Some x) c.add_anon.new.door) (sym new_is)
+    subst (λ (x : Mount). Tried g.D.PoolDoor.took g.D.PoolDoor.is_full (anon_plan m r c.args.next.number c.args.home) (Some m) c.args.door.now
+    (Ok (MapNo c.args.next.number)) (Some x) c.add_anon.new.door) (sym new_is)
     (grant_given g.D.PoolDoor.took g.D.PoolDoor.is_full m c.args.home _ (MapNo c.args.next.number) _ c.args.door.now (full ∙ c.if-is_full.false) o.share
     (rise_as o.share o.files o.inodes m c.self.invariant c.self.view_is _) c.add_anon.new.share c.add_anon.new.door c.in_default.ensures.asked)
 

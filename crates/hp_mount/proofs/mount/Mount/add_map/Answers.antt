@@ -13,7 +13,9 @@ use Rattle.hp_mount.proofs.mount.Mount.add_map.Goals as goal
 pub returns-then-is_full-clause-done : goal.returns-then-is_full-clause-done
 returns-then-is_full-clause-done g c =
     let o = c.self.inside in
-    let full = full_as o.share o.files o.inodes c.args.self.now c.self.invariant c.self.view_is _ c.wanted-wanted.result c.is_full.result (c.wanted-wanted.ensures ∙ wants_is o.share o.files o.inodes c.args.self.now c.self.invariant c.self.view_is c.args.file c.args.range.now) c.is_full.ensures in
+    let full = full_as o.share o.files o.inodes c.args.self.now c.self.invariant c.self.view_is _ c.wanted-wanted.result c.is_full.result
+    (c.wanted-wanted.ensures ∙ wants_is o.share o.files o.inodes c.args.self.now c.self.invariant c.self.view_is c.args.file c.args.range.now)
+    c.is_full.ensures in
     grant_full g.D.PoolDoor.took g.D.PoolDoor.is_full c.args.self.now c.args.home _ (MapNo c.args.next.number) _ c.args.door.now (full ∙ c.if-is_full.true)
 
 pub invariant_of-self-2 : goal.invariant_of-self-2
@@ -21,7 +23,8 @@ invariant_of-self-2 g c =
     let o = c.self.inside in
     let r = c.args.range.now in
     let within = subst (λ (x : Mount). c.args.file < length x.files) (sym c.self.view_is) c.requires.file in
-    map_kept o.share o.files o.inodes c.self.invariant c.args.file within r.task c.args.next.number r.start r.pages _ r.sharing r.reserving c.add_map.new.share c.add_map.new.self refl c.in_default.ensures.asked.share c.in_default.ensures.ok
+    map_kept o.share o.files o.inodes c.self.invariant c.args.file within r.task c.args.next.number r.start r.pages _ r.sharing r.reserving
+    c.add_map.new.share c.add_map.new.self refl c.in_default.ensures.asked.share c.in_default.ensures.ok
 
 pub returns-clause-done : goal.returns-clause-done
 returns-clause-done g c =
@@ -29,12 +32,16 @@ returns-clause-done g c =
     let k = c.args.file in
     let r = c.args.range.now in
     let m = c.args.self.now in
-    let full = full_as o.share o.files o.inodes m c.self.invariant c.self.view_is _ c.wanted-wanted.result c.is_full.result (c.wanted-wanted.ensures ∙ wants_is o.share o.files o.inodes m c.self.invariant c.self.view_is k r) c.is_full.ensures in
-    let given = subst (λ n. IsGranted g.D.PoolDoor.took g.D.PoolDoor.is_full c.args.home n o.share c.args.door.now c.add_map.new.share c.add_map.new.door) (wants_is o.share o.files o.inodes m c.self.invariant c.self.view_is k r) c.in_default.ensures.asked in
+    let full = full_as o.share o.files o.inodes m c.self.invariant c.self.view_is _ c.wanted-wanted.result c.is_full.result
+    (c.wanted-wanted.ensures ∙ wants_is o.share o.files o.inodes m c.self.invariant c.self.view_is k r) c.is_full.ensures in
+    let given = subst (λ n. IsGranted g.D.PoolDoor.took g.D.PoolDoor.is_full c.args.home n o.share c.args.door.now c.add_map.new.share
+    c.add_map.new.door) (wants_is o.share o.files o.inodes m c.self.invariant c.self.view_is k r) c.in_default.ensures.asked in
     let within = subst (λ (x : Mount). k < length x.files) (sym c.self.view_is) c.requires.file in
-    let new_is = map_left o.share o.files o.inodes c.self.invariant k within r.task c.args.next.number r.start r.pages _ r.sharing r.reserving c.add_map.new.share c.add_map.new.self refl c.in_default.ensures.asked.share c.in_default.ensures.ok
+    let new_is = map_left o.share o.files o.inodes c.self.invariant k within r.task c.args.next.number r.start r.pages _ r.sharing r.reserving
+    c.add_map.new.share c.add_map.new.self refl c.in_default.ensures.asked.share c.in_default.ensures.ok
     ∙ ap (λ (x : Mount). with_file x k (with_range r c.args.next.number (file_at x.files k))) c.self.view_is in
-    subst (λ (x : Mount). Tried g.D.PoolDoor.took g.D.PoolDoor.is_full (map_plan m r c.args.next.number c.args.home k) (Some m) c.args.door.now (Ok (MapNo c.args.next.number)) (Some x) c.add_map.new.door) (sym new_is)
+    subst (λ (x : Mount). Tried g.D.PoolDoor.took g.D.PoolDoor.is_full (map_plan m r c.args.next.number c.args.home k) (Some m) c.args.door.now
+    (Ok (MapNo c.args.next.number)) (Some x) c.add_map.new.door) (sym new_is)
     (grant_given g.D.PoolDoor.took g.D.PoolDoor.is_full m c.args.home _ (MapNo c.args.next.number) _ c.args.door.now (full ∙ c.if-is_full.false) o.share
     (rise_as o.share o.files o.inodes m c.self.invariant c.self.view_is _) c.add_map.new.share c.add_map.new.door given)
 
@@ -44,8 +51,10 @@ returns-in-Err-clause-done g c =
     let k = c.args.file in
     let r = c.args.range.now in
     let m = c.args.self.now in
-    let full = full_as o.share o.files o.inodes m c.self.invariant c.self.view_is _ c.wanted-wanted.result c.is_full.result (c.wanted-wanted.ensures ∙ wants_is o.share o.files o.inodes m c.self.invariant c.self.view_is k r) c.is_full.ensures in
-    let denied = subst (λ n. IsAsked g.D.PoolDoor.took g.D.PoolDoor.is_full c.args.home n o.share c.args.door.now (Err c.in-Err.refusal) c.add_map.new.share c.add_map.new.door) (wants_is o.share o.files o.inodes m c.self.invariant c.self.view_is k r) c.in-Err.ensures.asked in
+    let full = full_as o.share o.files o.inodes m c.self.invariant c.self.view_is _ c.wanted-wanted.result c.is_full.result
+    (c.wanted-wanted.ensures ∙ wants_is o.share o.files o.inodes m c.self.invariant c.self.view_is k r) c.is_full.ensures in
+    let denied = subst (λ n. IsAsked g.D.PoolDoor.took g.D.PoolDoor.is_full c.args.home n o.share c.args.door.now (Err c.in-Err.refusal)
+    c.add_map.new.share c.add_map.new.door) (wants_is o.share o.files o.inodes m c.self.invariant c.self.view_is k r) c.in-Err.ensures.asked in
     let same = asked_share g.D.PoolDoor.took g.D.PoolDoor.is_full c.args.home _ o.share c.args.door.now c.in-Err.refusal c.add_map.new.share c.add_map.new.door c.in-Err.ensures.asked in
     let stays = ap (λ x. mount_of x o.inodes c.add_map.new.self.files) same ∙ room_left o.share o.files c.add_map.new.self o.inodes c.self.invariant c.in-Err.ensures.err ∙ c.self.view_is in
     grant_denied g.D.PoolDoor.took g.D.PoolDoor.is_full m c.args.home _ (MapNo c.args.next.number) _ c.args.door.now (full ∙ c.if-is_full.false) o.share

@@ -62,7 +62,8 @@ module _ (g : Over) (c : After-put_copy g) where
   new_is : c.get_page.new.share ≡ with_granted c.self.inside.share
   new_is = sym (c.requires.shares c.get_page.new.share) ∙ c.in-Ok-get_page.ensures.share ∙ ap with_granted (c.requires.shares c.self.inside.share)
 
-  copied : c.put_copy.new.self ≡ copied_at k j i ((map_in (file_at c.self.inside.files.files k) j).owner || consumed) stamp page (record c.self.inside.files { room = max c.self.inside.files.room c.saturating_add-spare.result })
+  copied : c.put_copy.new.self ≡ copied_at k j i ((map_in (file_at c.self.inside.files.files k) j).owner || consumed) stamp page
+      (record c.self.inside.files { room = max c.self.inside.files.room c.saturating_add-spare.result })
   copied = c.put_copy.ensures.copied consumed (ap (λ (w : Files). place_at (map_in (file_at w.files k) j) i) room_is ∙ place)
       ∙ ap (λ (w : Files). copied_at k j i ((map_in (file_at w.files k) j).owner || consumed) stamp page w) room_is
 
@@ -71,7 +72,8 @@ module _ (g : Over) (c : After-put_copy g) where
 
   kept : IsKept c.get_page.new.share c.put_copy.new.self (mount_of c.get_page.new.share c.self.inside.inodes c.put_copy.new.self.files)
   kept = keeps.granted_kept c.self.inside.share c.self.inside.files c.self.inside.inodes c.args.self.now c.self.invariant c.self.view_is k j i c.requires.file c.requires.map
-      stamp page fresh consumed place c.get_page.new.share c.put_copy.new.self c.saturating_add-spare.result none new_is copied (omega (arith, c.held.ensures, c.saturating_add-spare.ensures, c.in-Ok.ensures.few))
+      stamp page fresh consumed place c.get_page.new.share c.put_copy.new.self c.saturating_add-spare.result none new_is copied
+      (omega (arith, c.held.ensures, c.saturating_add-spare.ensures, c.in-Ok.ensures.few))
 
   left : mount_of c.get_page.new.share c.self.inside.inodes c.put_copy.new.self.files ≡ with_place_at c.args.self.now k j i (Live consumed (Some (record { stamp = stamp; page = page })))
   left = keeps.granted_left c.self.inside.share c.self.inside.files c.self.inside.inodes c.args.self.now c.self.invariant c.self.view_is k j i c.requires.file c.requires.map
@@ -86,13 +88,16 @@ module _ (g : Over) (c : After-put_copy g) where
 
 pub returns-then-is_full-clause-done : goal.returns-then-is_full-clause-done
 returns-then-is_full-clause-done g c =
-    private.copy_full g.D.PoolDoor.took g.D.PoolDoor.is_full g.N.Naming.page_bytes c.args.self.now c.args.home c.args.at.file c.args.at.map c.args.index c.args.intent c.args.door.now c.requires.needs c.requires.unreserved
+    private.copy_full g.D.PoolDoor.took g.D.PoolDoor.is_full g.N.Naming.page_bytes c.args.self.now c.args.home c.args.at.file c.args.at.map
+    c.args.index c.args.intent c.args.door.now c.requires.needs c.requires.unreserved
     (full g (goal.at.returns-then-is_full-clause-done g c).After-is_full c.if-is_full.true)
 
 pub returns-in_default-clause-done : goal.returns-in_default-clause-done
 returns-in_default-clause-done g c =
-    private.copy_without_memory g.D.PoolDoor.took g.D.PoolDoor.is_full g.N.Naming.page_bytes c.args.self.now c.args.home c.args.at.file c.args.at.map c.args.index c.args.intent c.args.door.now c.requires.needs c.requires.unreserved
-    _ (full g (goal.at.returns-in_default-clause-done g c).After-is_full c.if-is_full.false) (ap (λ (w : Files). mount_of c.self.inside.share c.self.inside.inodes w.files) c.in_default.ensures.err ∙ c.self.view_is)
+    private.copy_without_memory g.D.PoolDoor.took g.D.PoolDoor.is_full g.N.Naming.page_bytes c.args.self.now c.args.home c.args.at.file c.args.at.map
+    c.args.index c.args.intent c.args.door.now c.requires.needs c.requires.unreserved
+    _ (full g (goal.at.returns-in_default-clause-done g c).After-is_full c.if-is_full.false)
+    (ap (λ (w : Files). mount_of c.self.inside.share c.self.inside.inodes w.files) c.in_default.ensures.err ∙ c.self.view_is)
 
 pub invariant_of-self-in-Ok-get_page : goal.invariant_of-self-in-Ok-get_page
 invariant_of-self-in-Ok-get_page g c = kept g (goal.at.invariant_of-self-in-Ok-get_page g c).After-put_copy
@@ -101,17 +106,23 @@ pub returns-in-Ok-get_page-clause-done : goal.returns-in-Ok-get_page-clause-done
 returns-in-Ok-get_page-clause-done g c =
     let asked = (goal.at.returns-in-Ok-get_page-clause-done g c).After-is_full in
     let put = (goal.at.returns-in-Ok-get_page-clause-done g c).After-put_copy in
-    private.copy_granted g.D.PoolDoor.took g.D.PoolDoor.is_full g.N.Naming.page_bytes c.args.self.now c.args.home c.args.at.file c.args.at.map c.args.index c.args.intent c.args.door.now c.requires.needs c.requires.unreserved
+    private.copy_granted g.D.PoolDoor.took g.D.PoolDoor.is_full g.N.Naming.page_bytes c.args.self.now c.args.home c.args.at.file c.args.at.map
+    c.args.index c.args.intent c.args.door.now c.requires.needs c.requires.unreserved
     c.put_copy.result c.get_page.new.self c.with_shown-page.result _ (full g asked c.if-is_full.false)
     (stamped_fresh c.put_copy.result c.self.inside.files.files c.args.self.now (sym (ap (λ (x : Mount). x.files) c.self.view_is)) (fresh g put))
     (private.granted_as g.D.PoolDoor.took c.args.home c.args.door.now c.get_page.new.self (rise g asked) (node g put) c.in-Ok-get_page.ensures.ok) (bytes g put) (left g put)
 
 pub returns-in-Ok-get_page-clause-same : goal.returns-in-Ok-get_page-clause-same
-returns-in-Ok-get_page-clause-same g c = place_touched c.args.self.now _ c.args.at.file c.args.at.map c.args.index _ c.requires.file (left g (goal.at.returns-in-Ok-get_page-clause-same g c).After-put_copy)
+returns-in-Ok-get_page-clause-same g c = place_touched c.args.self.now _ c.args.at.file c.args.at.map c.args.index _ c.requires.file
+    (left g (goal.at.returns-in-Ok-get_page-clause-same g c).After-put_copy)
 
 pub returns-in-Err-clause-done : goal.returns-in-Err-clause-done
 returns-in-Err-clause-done g c =
     let asked = (goal.at.returns-in-Err-clause-done g c).After-is_full in
-    let same = mount_left c.self.inside.share c.get_page.new.share c.self.inside.inodes c.self.inside.files.files c.make_room.new.self.files (ap (λ (x : share.Subpool). x.max) c.in-Err.ensures.unchanged) (ap (λ (x : share.Subpool). x.min) c.in-Err.ensures.unchanged) (ap (λ (x : Files). x.files) c.in-Ok.ensures.ok) in
-    private.copy_denied g.D.PoolDoor.took g.D.PoolDoor.is_full g.N.Naming.page_bytes c.args.self.now c.args.home c.args.at.file c.args.at.map c.args.index c.args.intent c.args.door.now c.requires.needs c.requires.unreserved
-    c.get_page.new.self _ c.in-Err.refusal (full g asked c.if-is_full.false) (private.denied_as g.D.PoolDoor.took c.args.home c.args.door.now c.get_page.new.self (rise g asked) c.in-Err.refusal _ c.in-Err.ensures.err) (same ∙ c.self.view_is)
+    let same = mount_left c.self.inside.share c.get_page.new.share c.self.inside.inodes c.self.inside.files.files c.make_room.new.self.files
+    (ap (λ (x : share.Subpool). x.max) c.in-Err.ensures.unchanged) (ap (λ (x : share.Subpool). x.min) c.in-Err.ensures.unchanged)
+    (ap (λ (x : Files). x.files) c.in-Ok.ensures.ok) in
+    private.copy_denied g.D.PoolDoor.took g.D.PoolDoor.is_full g.N.Naming.page_bytes c.args.self.now c.args.home c.args.at.file c.args.at.map
+    c.args.index c.args.intent c.args.door.now c.requires.needs c.requires.unreserved
+    c.get_page.new.self _ c.in-Err.refusal (full g asked c.if-is_full.false) (private.denied_as g.D.PoolDoor.took c.args.home c.args.door.now
+    c.get_page.new.self (rise g asked) c.in-Err.refusal _ c.in-Err.ensures.err) (same ∙ c.self.view_is)

@@ -41,39 +41,46 @@ module _ (g : Over) (c : After-self g) where
     new_is = sym (c.requires.shares new) ∙ taken ∙ ap with_page (c.requires.shares c.self.inside.share)
 
     kept : IsKept new w (mount_of new c.self.inside.inodes w.files)
-    kept = keeps.reserved_kept c.self.inside.share c.self.inside.files c.self.inside.inodes c.args.self.now c.self.invariant c.self.view_is c.args.at.file c.args.at.map c.args.index c.requires.file c.requires.map
+    kept = keeps.reserved_kept c.self.inside.share c.self.inside.files c.self.inside.inodes c.args.self.now c.self.invariant c.self.view_is
+        c.args.at.file c.args.at.map c.args.index c.requires.file c.requires.map
         stamp page fresh c.requires.needs.consumed place new w reserved new_is (copied c.requires.needs.consumed place)
 
     left : mount_of new c.self.inside.inodes w.files ≡ with_place_at c.args.self.now c.args.at.file c.args.at.map c.args.index (Live true (Some (record { stamp = stamp; page = page })))
-    left = keeps.reserved_left c.self.inside.share c.self.inside.files c.self.inside.inodes c.args.self.now c.self.invariant c.self.view_is c.args.at.file c.args.at.map c.args.index c.requires.file c.requires.map
+    left = keeps.reserved_left c.self.inside.share c.self.inside.files c.self.inside.inodes c.args.self.now c.self.invariant c.self.view_is
+        c.args.at.file c.args.at.map c.args.index c.requires.file c.requires.map
         stamp page fresh c.requires.needs.consumed place new w reserved new_is (copied c.requires.needs.consumed place)
 
 pub take_page-requires-clause-held : goal.take_page-requires-clause-held
 take_page-requires-clause-held g c =
     let a = (goal.at.take_page-requires-clause-held g c).After-self in
     subst (λ (x : share.Subpool). 0 < x.held) (sym (c.requires.shares c.self.inside.share))
-    (keeps.owner_held c.self.inside.share c.self.inside.files c.self.inside.inodes c.args.self.now c.self.invariant c.self.view_is c.args.at.file c.args.at.map c.args.index c.requires.file c.requires.map c.requires.needs.consumed (place g a) (reserved g a))
+    (keeps.owner_held c.self.inside.share c.self.inside.files c.self.inside.inodes c.args.self.now c.self.invariant c.self.view_is c.args.at.file
+    c.args.at.map c.args.index c.requires.file c.requires.map c.requires.needs.consumed (place g a) (reserved g a))
 
 pub put_copy-requires-clause-room : goal.put_copy-requires-clause-room
 put_copy-requires-clause-room g c =
     let a = (goal.at.put_copy-requires-clause-room g c).After-self in
     let held =
-    keeps.owner_held c.self.inside.share c.self.inside.files c.self.inside.inodes c.args.self.now c.self.invariant c.self.view_is c.args.at.file c.args.at.map c.args.index c.requires.file c.requires.map c.requires.needs.consumed (place g a) (reserved g a)
+    keeps.owner_held c.self.inside.share c.self.inside.files c.self.inside.inodes c.args.self.now c.self.invariant c.self.view_is c.args.at.file
+    c.args.at.map c.args.index c.requires.file c.requires.map c.requires.needs.consumed (place g a) (reserved g a)
     in
     omega (arith, held, c.self.invariant.room)
 
 pub invariant_of-self-2 : goal.invariant_of-self-2
-invariant_of-self-2 g c = kept g (goal.at.invariant_of-self-2 g c).After-self c.put_copy.result c.with_shown-page.result c.take_page.new.share c.put_copy.new.self c.put_copy.ensures.fresh c.in_ok-got.ensures.share c.put_copy.ensures.copied
+invariant_of-self-2 g c = kept g (goal.at.invariant_of-self-2 g c).After-self c.put_copy.result c.with_shown-page.result c.take_page.new.share
+    c.put_copy.new.self c.put_copy.ensures.fresh c.in_ok-got.ensures.share c.put_copy.ensures.copied
 
 pub returns-clause-done : goal.returns-clause-done
 returns-clause-done g c =
     let a = (goal.at.returns-clause-done g c).After-self in
     let node = ap (λ (p : Page). p.node) (c.requires.pages c.in_ok-got.got) ∙ sym (ap (λ (p : Page). p.node) c.with_shown-page.ensures) in
-    private.copy_reserved g.D.PoolDoor.took g.D.PoolDoor.is_full g.N.Naming.page_bytes c.args.self.now c.args.home c.args.at.file c.args.at.map c.args.index c.args.intent c.args.door.now c.requires.needs
+    private.copy_reserved g.D.PoolDoor.took g.D.PoolDoor.is_full g.N.Naming.page_bytes c.args.self.now c.args.home c.args.at.file c.args.at.map
+    c.args.index c.args.intent c.args.door.now c.requires.needs
     c.put_copy.result c.take_page.new.self c.with_shown-page.result _ c.requires.reserved
     (stamped_fresh c.put_copy.result c.self.inside.files.files c.args.self.now (sym (ap (λ (x : Mount). x.files) c.self.view_is)) c.put_copy.ensures.fresh)
     (subst (λ n. g.D.PoolDoor.took c.args.door.now (TakePage c.args.home) (granted_at n) c.take_page.new.self) node c.in_ok-got.ensures.ok)
-    (ap (λ (p : Page). p.bytes) c.with_shown-page.ensures ∙ ap (λ (x : Mount). value g.N.Naming.page_bytes (file_in x c.args.at.file) (map_in (file_in x c.args.at.file) c.args.at.map) c.args.index) c.self.view_is)
+    (ap (λ (p : Page). p.bytes) c.with_shown-page.ensures ∙ ap (λ (x : Mount).
+    value g.N.Naming.page_bytes (file_in x c.args.at.file) (map_in (file_in x c.args.at.file) c.args.at.map) c.args.index) c.self.view_is)
     (left g a c.put_copy.result c.with_shown-page.result c.take_page.new.share c.put_copy.new.self c.put_copy.ensures.fresh c.in_ok-got.ensures.share c.put_copy.ensures.copied)
 
 pub returns-clause-same : goal.returns-clause-same
@@ -89,6 +96,7 @@ returns-in_err-got-clause-done g c =
     let back = err_from_is_err_and c.from_residual.result c.from_residual.ensures.1 in
     let now : Mount = mount_of c.take_page.new.share o.inodes o.files.files in
     subst (λ q. IsAccessed g.D.PoolDoor.took g.D.PoolDoor.is_full g.N.Naming.page_bytes c.args.home c.args.at c.args.index c.args.intent m c.args.door.now q now c.take_page.new.self) (sym back.1)
-    (private.reserved_full g.D.PoolDoor.took g.D.PoolDoor.is_full g.N.Naming.page_bytes m c.args.home c.args.at.file c.args.at.map c.args.index c.args.intent c.args.door.now c.requires.needs c.take_page.new.self now back.0 c.requires.reserved
+    (private.reserved_full g.D.PoolDoor.took g.D.PoolDoor.is_full g.N.Naming.page_bytes m c.args.home c.args.at.file c.args.at.map c.args.index
+    c.args.intent c.args.door.now c.requires.needs c.take_page.new.self now back.0 c.requires.reserved
     (subst (λ x. IsDoorRefusal x ⊥ ((c.take_page.new.self ≡ c.args.door.now) × g.D.PoolDoor.is_full c.take_page.new.self)) (sym back.2) c.in_err-got.ensures.err)
     (ap (λ (x : share.Subpool). mount_of x o.inodes o.files.files) c.in_err-got.ensures.unchanged ∙ c.self.view_is))

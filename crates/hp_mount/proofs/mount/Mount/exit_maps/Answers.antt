@@ -20,7 +20,8 @@ exit-reserves-requires g c =
 pub invariant_of-self : goal.invariant_of-self
 invariant_of-self g c =
     let o = c.self.inside in
-    keeps o.share o.files c.exit-reserves.new.self o.inodes c.self.invariant (filter is_kept (map (file_without c.args.task) o.files.files)) c.exit-reserves.result c.exit-reserves.ensures.left c.exit-reserves.ensures.files c.give_back.new.share c.give_back.new.self
+    keeps o.share o.files c.exit-reserves.new.self o.inodes c.self.invariant (filter is_kept (map (file_without c.args.task) o.files.files))
+    c.exit-reserves.result c.exit-reserves.ensures.left c.exit-reserves.ensures.files c.give_back.new.share c.give_back.new.self
     (fewer (file_without c.args.task) o.files.files) c.give_back.ensures.share c.give_back.ensures.going
 
 pub returns-clause-done : goal.returns-clause-done
@@ -36,13 +37,16 @@ returns-clause-done g c size k =
     subst (λ (x : Mount). IsDone took full size k (Some x) door (ExitMaps c.args.task) (Ok Done) (Some n) left) c.self.view_is
     (tried took full m (gives Done (Some m) (Some (without_task c.args.task m))) door n left
     (subst (λ (x : Mount). ThroughDoor took (gives Done (Some m) (Some (without_task c.args.task m))) (Some m) door (Ok Done) (Some x) left)
-    (sym (leaves o.share o.files c.exit-reserves.new.self o.inodes c.self.invariant gs c.exit-reserves.result c.exit-reserves.ensures.left c.exit-reserves.ensures.files c.give_back.new.share c.give_back.new.self c.give_back.ensures.share c.give_back.ensures.going))
-    (gave_through o.share o.files c.exit-reserves.new.self o.inodes c.self.invariant gs c.exit-reserves.result c.exit-reserves.ensures.left c.exit-reserves.ensures.files took door left c.give_back.ensures.given)))
+    (sym (leaves o.share o.files c.exit-reserves.new.self o.inodes c.self.invariant gs c.exit-reserves.result c.exit-reserves.ensures.left
+    c.exit-reserves.ensures.files c.give_back.new.share c.give_back.new.self c.give_back.ensures.share c.give_back.ensures.going))
+    (gave_through o.share o.files c.exit-reserves.new.self o.inodes c.self.invariant gs c.exit-reserves.result c.exit-reserves.ensures.left
+    c.exit-reserves.ensures.files took door left c.give_back.ensures.given)))
 
 pub returns-clause-fewer : goal.returns-clause-fewer
 returns-clause-fewer g c has =
     let o = c.self.inside in
     let gs = filter is_kept (map (file_without c.args.task) o.files.files) in
     fewer_maps c.args.task c.args.self.now (mount_of c.give_back.new.share o.inodes c.give_back.new.self.files)
-    (leaves o.share o.files c.exit-reserves.new.self o.inodes c.self.invariant gs c.exit-reserves.result c.exit-reserves.ensures.left c.exit-reserves.ensures.files c.give_back.new.share c.give_back.new.self c.give_back.ensures.share c.give_back.ensures.going
+    (leaves o.share o.files c.exit-reserves.new.self o.inodes c.self.invariant gs c.exit-reserves.result c.exit-reserves.ensures.left
+    c.exit-reserves.ensures.files c.give_back.new.share c.give_back.new.self c.give_back.ensures.share c.give_back.ensures.going
     ∙ ap (without_task c.args.task) c.self.view_is) has

@@ -21,7 +21,9 @@ returns-then-is_full-clause-done g c s at file =
     let i = c.args.index in
     let m = c.args.self.now in
     let inv = c.self.invariant in
-    shared_full g.D.PoolDoor.took g.D.PoolDoor.is_full g.N.Naming.page_bytes m c.args.home k i s at file c.args.door.now c.requires.hole (sym (ap (λ (x : Mount). grant.is_full x 1) c.self.view_is) ∙ sym (full_is o.share o.files (mount_of o.share o.inodes o.files.files) inv refl refl 1) ∙ sym c.is_full.ensures ∙ c.if-is_full.true)
+    shared_full g.D.PoolDoor.took g.D.PoolDoor.is_full g.N.Naming.page_bytes m c.args.home k i s at file c.args.door.now c.requires.hole
+    (sym (ap (λ (x : Mount). grant.is_full x 1) c.self.view_is) ∙ sym (full_is o.share o.files (mount_of o.share o.inodes o.files.files) inv refl
+    refl 1) ∙ sym c.is_full.ensures ∙ c.if-is_full.true)
 
 pub returns-in_default-clause-done : goal.returns-in_default-clause-done
 returns-in_default-clause-done g c s at file =
@@ -30,7 +32,10 @@ returns-in_default-clause-done g c s at file =
     let i = c.args.index in
     let m = c.args.self.now in
     let inv = c.self.invariant in
-    shared_without_memory g.D.PoolDoor.took g.D.PoolDoor.is_full g.N.Naming.page_bytes m c.args.home k i s at file c.args.door.now c.requires.hole _ (sym (ap (λ (x : Mount). grant.is_full x 1) c.self.view_is) ∙ sym (full_is o.share o.files (mount_of o.share o.inodes o.files.files) inv refl refl 1) ∙ sym c.is_full.ensures ∙ c.if-is_full.false) (room_left o.share o.files c.prepare.new.self o.inodes inv c.in_default.ensures.err ∙ c.self.view_is)
+    shared_without_memory g.D.PoolDoor.took g.D.PoolDoor.is_full g.N.Naming.page_bytes m c.args.home k i s at file c.args.door.now c.requires.hole
+    _ (sym (ap (λ (x : Mount). grant.is_full x 1) c.self.view_is) ∙ sym (full_is o.share o.files (mount_of o.share o.inodes o.files.files) inv
+    refl refl 1) ∙ sym c.is_full.ensures ∙ c.if-is_full.false) (room_left o.share o.files c.prepare.new.self o.inodes inv c.in_default.ensures.err
+    ∙ c.self.view_is)
 
 pub invariant_of-self-in-Ok-get_page : goal.invariant_of-self-in-Ok-get_page
 invariant_of-self-in-Ok-get_page g c =
@@ -39,7 +44,13 @@ invariant_of-self-in-Ok-get_page g c =
     let i = c.args.index in
     let m = c.args.self.now in
     let inv = c.self.invariant in
-    hole_kept o.share o.files o.inodes inv k (subst (λ (x : Mount). k < length x.files) (sym c.self.view_is) c.requires.file) i c.saturating_add-spare.result c.zero.new.self c.get_page.new.share c.fill.new.self (subst (λ (x : Mount). i < length (file_in x k).cells) (sym c.self.view_is) c.requires.below) (subst (λ (x : Mount). cell_at (file_in x k) i ≡ Hole) (sym c.self.view_is) c.requires.hole) (omega (arith, c.held.ensures, c.saturating_add-spare.ensures, c.in-Ok.ensures.few)) (sym (c.requires.shares c.get_page.new.share) ∙ c.in-Ok-get_page.ensures.share ∙ ap with_granted (c.requires.shares o.share)) (c.fill.ensures ∙ ap (λ v. filled_at k i c.zero.new.self v) c.in-Ok.ensures.ok)
+    hole_kept o.share o.files o.inodes inv k (subst (λ (x : Mount). k < length x.files) (sym c.self.view_is) c.requires.file) i
+    c.saturating_add-spare.result c.zero.new.self c.get_page.new.share c.fill.new.self
+    (subst (λ (x : Mount). i < length (file_in x k).cells) (sym c.self.view_is) c.requires.below)
+    (subst (λ (x : Mount). cell_at (file_in x k) i ≡ Hole) (sym c.self.view_is) c.requires.hole)
+    (omega (arith, c.held.ensures, c.saturating_add-spare.ensures, c.in-Ok.ensures.few))
+    (sym (c.requires.shares c.get_page.new.share) ∙ c.in-Ok-get_page.ensures.share ∙ ap with_granted (c.requires.shares o.share))
+    (c.fill.ensures ∙ ap (λ v. filled_at k i c.zero.new.self v) c.in-Ok.ensures.ok)
 
 pub invariant_of-self-in-Err : goal.invariant_of-self-in-Err
 invariant_of-self-in-Err g c =
@@ -48,7 +59,9 @@ invariant_of-self-in-Err g c =
     let i = c.args.index in
     let m = c.args.self.now in
     let inv = c.self.invariant in
-    hole_keeps o.share o.files o.inodes inv k (subst (λ (x : Mount). k < length x.files) (sym c.self.view_is) c.requires.file) i c.saturating_add-spare.result c.get_page.new.share c.leave.new.self (subst (λ (x : Mount). cell_at (file_in x k) i ≡ Hole) (sym c.self.view_is) c.requires.hole) c.in-Err.ensures.unchanged (c.leave.ensures ∙ ap (λ v. with_cell_at k i Hole v) c.in-Ok.ensures.ok)
+    hole_keeps o.share o.files o.inodes inv k (subst (λ (x : Mount). k < length x.files) (sym c.self.view_is) c.requires.file) i
+    c.saturating_add-spare.result c.get_page.new.share c.leave.new.self (subst (λ (x : Mount). cell_at (file_in x k) i ≡ Hole)
+    (sym c.self.view_is) c.requires.hole) c.in-Err.ensures.unchanged (c.leave.ensures ∙ ap (λ v. with_cell_at k i Hole v) c.in-Ok.ensures.ok)
 
 pub returns-in-Ok-get_page-clause-done : goal.returns-in-Ok-get_page-clause-done
 returns-in-Ok-get_page-clause-done g c s at file =
@@ -59,11 +72,18 @@ returns-in-Ok-get_page-clause-done g c s at file =
     let inv = c.self.invariant in
     let got = c.in-Ok-get_page.got in
     let node = ap (λ (p : Page). p.node) (c.requires.pages got) ∙ sym (ap (λ (p : Page). p.node) c.zero.ensures) in
-    shared_granted g.D.PoolDoor.took g.D.PoolDoor.is_full g.N.Naming.page_bytes m c.args.home k i s at file c.args.door.now c.requires.hole c.get_page.new.self c.zero.new.self _ (sym (ap (λ (x : Mount). grant.is_full x 1) c.self.view_is) ∙ sym (full_is o.share o.files (mount_of o.share o.inodes o.files.files) inv refl refl 1) ∙ sym c.is_full.ensures ∙ c.if-is_full.false)
+    shared_granted g.D.PoolDoor.took g.D.PoolDoor.is_full g.N.Naming.page_bytes m c.args.home k i s at file c.args.door.now c.requires.hole
+    c.get_page.new.self c.zero.new.self _ (sym (ap (λ (x : Mount). grant.is_full x 1) c.self.view_is)
+    ∙ sym (full_is o.share o.files (mount_of o.share o.inodes o.files.files) inv refl refl 1) ∙ sym c.is_full.ensures ∙ c.if-is_full.false)
     (subst (λ n. g.D.PoolDoor.took c.args.door.now (GrantPage c.args.home (grant.rise m 1)) (granted_at n) c.get_page.new.self) node
-    (subst (λ n. g.D.PoolDoor.took c.args.door.now (GrantPage c.args.home n) (granted_at (g.D.PoolDoor.page_of got).node) c.get_page.new.self) (ap (λ x. share.rise x 1) (c.requires.shares o.share) ∙ rise_is o.share o.files (mount_of o.share o.inodes o.files.files) inv refl refl 1 ∙ ap (λ (x : Mount). grant.rise x 1) c.self.view_is) c.in-Ok-get_page.ensures.ok))
+    (subst (λ n. g.D.PoolDoor.took c.args.door.now (GrantPage c.args.home n) (granted_at (g.D.PoolDoor.page_of got).node) c.get_page.new.self)
+    (ap (λ x. share.rise x 1) (c.requires.shares o.share) ∙ rise_is o.share o.files (mount_of o.share o.inodes o.files.files) inv refl refl 1
+    ∙ ap (λ (x : Mount). grant.rise x 1) c.self.view_is) c.in-Ok-get_page.ensures.ok))
     (ap (λ (p : Page). p.bytes) c.zero.ensures)
-    (granted_left o.share o.files o.inodes inv k (subst (λ (x : Mount). k < length x.files) (sym c.self.view_is) c.requires.file) i c.saturating_add-spare.result c.zero.new.self c.get_page.new.share c.fill.new.self (sym (c.requires.shares c.get_page.new.share) ∙ c.in-Ok-get_page.ensures.share ∙ ap with_granted (c.requires.shares o.share)) (c.fill.ensures ∙ ap (λ v. filled_at k i c.zero.new.self v) c.in-Ok.ensures.ok)
+    (granted_left o.share o.files o.inodes inv k (subst (λ (x : Mount). k < length x.files) (sym c.self.view_is) c.requires.file) i
+    c.saturating_add-spare.result c.zero.new.self c.get_page.new.share c.fill.new.self
+    (sym (c.requires.shares c.get_page.new.share) ∙ c.in-Ok-get_page.ensures.share ∙ ap with_granted (c.requires.shares o.share))
+    (c.fill.ensures ∙ ap (λ v. filled_at k i c.zero.new.self v) c.in-Ok.ensures.ok)
     ∙ ap (λ (x : Mount). with_file x k (with_cell (file_in x k) i (Present c.zero.new.self))) c.self.view_is)
 
 pub returns-in-Err-clause-done : goal.returns-in-Err-clause-done
@@ -73,9 +93,17 @@ returns-in-Err-clause-done g c s at file =
     let i = c.args.index in
     let m = c.args.self.now in
     let inv = c.self.invariant in
-    shared_denied g.D.PoolDoor.took g.D.PoolDoor.is_full g.N.Naming.page_bytes m c.args.home k i s at file c.args.door.now c.requires.hole c.get_page.new.self _ c.in-Err.refusal (sym (ap (λ (x : Mount). grant.is_full x 1) c.self.view_is) ∙ sym (full_is o.share o.files (mount_of o.share o.inodes o.files.files) inv refl refl 1) ∙ sym c.is_full.ensures ∙ c.if-is_full.false)
-    (subst (λ n. IsDoorRefusal c.in-Err.refusal (g.D.PoolDoor.took c.args.door.now (GrantPage c.args.home n) no_pages c.get_page.new.self) ((c.get_page.new.self ≡ c.args.door.now) × g.D.PoolDoor.is_full c.get_page.new.self)) (ap (λ x. share.rise x 1) (c.requires.shares o.share) ∙ rise_is o.share o.files (mount_of o.share o.inodes o.files.files) inv refl refl 1 ∙ ap (λ (x : Mount). grant.rise x 1) c.self.view_is) c.in-Err.ensures.err)
-    (hole_stays o.share o.files o.inodes inv k (subst (λ (x : Mount). k < length x.files) (sym c.self.view_is) c.requires.file) i c.saturating_add-spare.result c.get_page.new.share c.leave.new.self (subst (λ (x : Mount). cell_at (file_in x k) i ≡ Hole) (sym c.self.view_is) c.requires.hole) c.in-Err.ensures.unchanged (c.leave.ensures ∙ ap (λ v. with_cell_at k i Hole v) c.in-Ok.ensures.ok) ∙ c.self.view_is)
+    shared_denied g.D.PoolDoor.took g.D.PoolDoor.is_full g.N.Naming.page_bytes m c.args.home k i s at file c.args.door.now c.requires.hole
+    c.get_page.new.self _ c.in-Err.refusal (sym (ap (λ (x : Mount). grant.is_full x 1) c.self.view_is)
+    ∙ sym (full_is o.share o.files (mount_of o.share o.inodes o.files.files) inv refl refl 1) ∙ sym c.is_full.ensures ∙ c.if-is_full.false)
+    (subst (λ n. IsDoorRefusal c.in-Err.refusal (g.D.PoolDoor.took c.args.door.now (GrantPage c.args.home n) no_pages c.get_page.new.self)
+    ((c.get_page.new.self ≡ c.args.door.now) × g.D.PoolDoor.is_full c.get_page.new.self))
+    (ap (λ x. share.rise x 1) (c.requires.shares o.share) ∙ rise_is o.share o.files (mount_of o.share o.inodes o.files.files) inv refl refl 1
+    ∙ ap (λ (x : Mount). grant.rise x 1) c.self.view_is) c.in-Err.ensures.err)
+    (hole_stays o.share o.files o.inodes inv k (subst (λ (x : Mount). k < length x.files) (sym c.self.view_is) c.requires.file) i
+    c.saturating_add-spare.result c.get_page.new.share c.leave.new.self (subst (λ (x : Mount). cell_at (file_in x k) i ≡ Hole)
+    (sym c.self.view_is) c.requires.hole) c.in-Err.ensures.unchanged (c.leave.ensures ∙ ap (λ v. with_cell_at k i Hole v) c.in-Ok.ensures.ok)
+    ∙ c.self.view_is)
 
 pub get_page-requires-clause-few : goal.get_page-requires-clause-few
 get_page-requires-clause-few g c =

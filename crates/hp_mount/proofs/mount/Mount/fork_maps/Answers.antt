@@ -32,7 +32,16 @@ pub fork-requires-clause-maps : goal.fork-requires-clause-maps
 fork-requires-clause-maps g c =
     let o = c.self.inside in
     let all = maps_are (mount_of o.share o.inodes o.files.files) c.args.parent c.args.child c.requires.apart in
-    omega (arith, all, c.map_count.ensures, c.map_count_for-of_parent.ensures, c.map_count_for-of_child.ensures, c.saturating_sub-maps.ensures, c.saturating_add.ensures, c.if-saturating_add-gt-MOST_MAPS.false)
+    omega (
+      arith,
+      all,
+      c.map_count.ensures,
+      c.map_count_for-of_parent.ensures,
+      c.map_count_for-of_child.ensures,
+      c.saturating_sub-maps.ensures,
+      c.saturating_add.ensures,
+      c.if-saturating_add-gt-MOST_MAPS.false,
+    )
 
 pub returns-then-saturating_add-gt-MOST_MAPS-clause-done : goal.returns-then-saturating_add-gt-MOST_MAPS-clause-done
 returns-then-saturating_add-gt-MOST_MAPS-clause-done g c size k =
@@ -42,7 +51,16 @@ returns-then-saturating_add-gt-MOST_MAPS-clause-done g c size k =
     let all = maps_are m c.args.parent c.args.child c.requires.apart in
     subst (λ (x : Mount). IsDone g.D.PoolDoor.took g.D.PoolDoor.is_full size k (Some x) door (ForkMaps c.args.parent c.args.child) (Err TooMany) (Some x) door) c.self.view_is
     (too_many g.D.PoolDoor.took g.D.PoolDoor.is_full m c.args.parent c.args.child door
-    (inl (omega (arith, all, c.map_count.ensures, c.map_count_for-of_parent.ensures, c.map_count_for-of_child.ensures, c.saturating_sub-maps.ensures, c.saturating_add.ensures, c.if-saturating_add-gt-MOST_MAPS.true))))
+    (inl (omega (
+      arith,
+      all,
+      c.map_count.ensures,
+      c.map_count_for-of_parent.ensures,
+      c.map_count_for-of_child.ensures,
+      c.saturating_sub-maps.ensures,
+      c.saturating_add.ensures,
+      c.if-saturating_add-gt-MOST_MAPS.true,
+    ))))
 
 pub returns-then-saturating_sub-gt-MOST_TASKS-clause-done : goal.returns-then-saturating_sub-gt-MOST_TASKS-clause-done
 returns-then-saturating_sub-gt-MOST_TASKS-clause-done g c size k =
@@ -55,7 +73,22 @@ returns-then-saturating_sub-gt-MOST_TASKS-clause-done g c size k =
     let parents = byte_is (nat_lt 0 c.map_count_for-of_parent.result) in
     let children = byte_is (nat_lt 0 c.map_count_for-of_child.result) in
     let counted = tasks_are m c.args.parent c.args.child c.requires.apart in
-    let past : 256 < length (tasks_of (forked c.args.parent c.args.child m)) = (omega (arith, counted, of_parent, of_child, parents, children, byte_few (nat_lt 0 c.map_count_for-of_child.result), byte_few (nat_lt 0 c.map_count_for-of_parent.result), c.task_count.ensures, c.saturating_add-tasks.ensures, c.saturating_sub.ensures, c.if-saturating_sub-gt-MOST_TASKS.true)) in
+    let past : 256 < length (tasks_of (forked c.args.parent c.args.child m)) =
+    (omega (
+      arith,
+      counted,
+      of_parent,
+      of_child,
+      parents,
+      children,
+      byte_few (nat_lt 0 c.map_count_for-of_child.result),
+      byte_few
+          (nat_lt 0 c.map_count_for-of_parent.result),
+      c.task_count.ensures,
+      c.saturating_add-tasks.ensures,
+      c.saturating_sub.ensures,
+      c.if-saturating_sub-gt-MOST_TASKS.true,
+    )) in
     subst (λ (x : Mount). IsDone g.D.PoolDoor.took g.D.PoolDoor.is_full size k (Some x) door (ForkMaps c.args.parent c.args.child) (Err TooMany) (Some x) door) c.self.view_is
     (too_many g.D.PoolDoor.took g.D.PoolDoor.is_full m c.args.parent c.args.child door (inr past))
 
@@ -67,14 +100,39 @@ returns-in_default-clause-done g c size k =
     let door = c.args.door.now in
     let m : Mount = mount_of o.share o.inodes o.files.files in
     let e = ForkMaps c.args.parent c.args.child in
-    let few : length (maps_of (forked c.args.parent c.args.child m)) ≤ 4096 = (omega (arith, maps_are m c.args.parent c.args.child c.requires.apart, c.map_count.ensures, c.map_count_for-of_parent.ensures, c.map_count_for-of_child.ensures, c.saturating_sub-maps.ensures, c.saturating_add.ensures, c.if-saturating_add-gt-MOST_MAPS.false)) in
+    let few : length (maps_of (forked c.args.parent c.args.child m)) ≤ 4096 =
+    (omega (
+      arith,
+      maps_are m c.args.parent c.args.child c.requires.apart,
+      c.map_count.ensures,
+      c.map_count_for-of_parent.ensures,
+      c.map_count_for-of_child.ensures,
+      c.saturating_sub-maps.ensures,
+      c.saturating_add.ensures,
+      c.if-saturating_add-gt-MOST_MAPS.false,
+    )) in
     let one : ℕ → ℕ = λ n. cond (nat_lt 0 n) 1 0 in
     let of_parent = ap one c.map_count_for-of_parent.ensures in
     let of_child = ap one c.map_count_for-of_child.ensures in
     let parents = byte_is (nat_lt 0 c.map_count_for-of_parent.result) in
     let children = byte_is (nat_lt 0 c.map_count_for-of_child.result) in
     let counted = tasks_are m c.args.parent c.args.child c.requires.apart in
-    let few_tasks : length (tasks_of (forked c.args.parent c.args.child m)) ≤ 256 = (omega (arith, counted, of_parent, of_child, parents, children, byte_few (nat_lt 0 c.map_count_for-of_child.result), byte_few (nat_lt 0 c.map_count_for-of_parent.result), c.task_count.ensures, c.saturating_add-tasks.ensures, c.saturating_sub.ensures, c.if-saturating_sub-gt-MOST_TASKS.false)) in
+    let few_tasks : length (tasks_of (forked c.args.parent c.args.child m)) ≤ 256 =
+    (omega (
+      arith,
+      counted,
+      of_parent,
+      of_child,
+      parents,
+      children,
+      byte_few (nat_lt 0 c.map_count_for-of_child.result),
+      byte_few
+          (nat_lt 0 c.map_count_for-of_parent.result),
+      c.task_count.ensures,
+      c.saturating_add-tasks.ensures,
+      c.saturating_sub.ensures,
+      c.if-saturating_sub-gt-MOST_TASKS.false,
+    )) in
     let same = sym (ap (λ (w : Files). mount_of o.share o.inodes w.files) c.in_default.ensures.err ∙ c.self.view_is) in
     subst (λ (n : Mount). IsDone took full size k (Some c.args.self.now) door e (Err OutOfMemory) (Some n) door) same
     (subst (λ (x : Mount). IsDone took full size k (Some x) door e (Err OutOfMemory) (Some x) door) c.self.view_is (no_memory took full m c.args.parent c.args.child door few few_tasks))
@@ -89,14 +147,37 @@ returns-clause-done g c size k =
     let m : Mount = mount_of o.share o.inodes o.files.files in
     let n : Mount = mount_of c.give_back.new.share o.inodes c.give_back.new.self.files in
     let next : Mount = forked c.args.parent c.args.child m in
-    let few : length (maps_of next) ≤ 4096 = (omega (arith, maps_are m c.args.parent c.args.child c.requires.apart, c.map_count.ensures, c.map_count_for-of_parent.ensures, c.map_count_for-of_child.ensures, c.saturating_sub-maps.ensures, c.saturating_add.ensures, c.if-saturating_add-gt-MOST_MAPS.false)) in
+    let few : length (maps_of next) ≤ 4096 = (omega (
+      arith,
+      maps_are m c.args.parent c.args.child c.requires.apart,
+      c.map_count.ensures,
+      c.map_count_for-of_parent.ensures,
+      c.map_count_for-of_child.ensures,
+      c.saturating_sub-maps.ensures,
+      c.saturating_add.ensures,
+      c.if-saturating_add-gt-MOST_MAPS.false,
+    )) in
     let one : ℕ → ℕ = λ n. cond (nat_lt 0 n) 1 0 in
     let of_parent = ap one c.map_count_for-of_parent.ensures in
     let of_child = ap one c.map_count_for-of_child.ensures in
     let parents = byte_is (nat_lt 0 c.map_count_for-of_parent.result) in
     let children = byte_is (nat_lt 0 c.map_count_for-of_child.result) in
     let counted = tasks_are m c.args.parent c.args.child c.requires.apart in
-    let few_tasks : length (tasks_of next) ≤ 256 = (omega (arith, counted, of_parent, of_child, parents, children, byte_few (nat_lt 0 c.map_count_for-of_child.result), byte_few (nat_lt 0 c.map_count_for-of_parent.result), c.task_count.ensures, c.saturating_add-tasks.ensures, c.saturating_sub.ensures, c.if-saturating_sub-gt-MOST_TASKS.false)) in
+    let few_tasks : length (tasks_of next) ≤ 256 = (omega (
+      arith,
+      counted,
+      of_parent,
+      of_child,
+      parents,
+      children,
+      byte_few
+          (nat_lt 0 c.map_count_for-of_child.result),
+      byte_few (nat_lt 0 c.map_count_for-of_parent.result),
+      c.task_count.ensures,
+      c.saturating_add-tasks.ensures,
+      c.saturating_sub.ensures,
+      c.if-saturating_sub-gt-MOST_TASKS.false,
+    )) in
     let v : Files = record o.files { room = c.held-held.result } in
     let is = c.self.invariant in
     let kept : IsKept o.share v (mount_of o.share o.inodes v.files) = record { pages = is.pages; used = is.used; room = omega (arith, c.held-held.ensures); going = is.going; few = is.few } in
@@ -104,5 +185,6 @@ returns-clause-done g c size k =
     subst (λ (x : Mount). IsDone took full size k (Some x) door (ForkMaps c.args.parent c.args.child) (Ok Done) (Some n) left) c.self.view_is
     (forks took full m c.args.parent c.args.child door few few_tasks n left
     (subst (λ (x : Mount). ThroughDoor took (gives Done (Some m) (Some next)) (Some m) door (Ok Done) (Some x) left)
-    (sym (leaves o.share v c.fork.new.self o.inodes kept gs c.in-Ok.reserves c.in-Ok.ensures.left c.in-Ok.ensures.files c.give_back.new.share c.give_back.new.self c.give_back.ensures.share c.give_back.ensures.going))
+    (sym (leaves o.share v c.fork.new.self o.inodes kept gs c.in-Ok.reserves c.in-Ok.ensures.left c.in-Ok.ensures.files c.give_back.new.share
+    c.give_back.new.self c.give_back.ensures.share c.give_back.ensures.going))
     (gave_through o.share v c.fork.new.self o.inodes kept gs c.in-Ok.reserves c.in-Ok.ensures.left c.in-Ok.ensures.files took door left c.give_back.ensures.given)))

@@ -43,7 +43,9 @@ returns-in-Ok-reach-clause-done g c k =
     let same = again_is m n c.in-Ok.at.file c.in-Ok.at.map placed.file placed.map c.reach.ensures.same in
     let b = bytes_answer c.args.offset c.args.count (value size (spot_at n c.in-Ok.at.file c.in-Ok.at.map).file (spot_at n c.in-Ok.at.file c.in-Ok.at.map).map a.index) in
     let shows : Gives (cont s n) (Some m) (Ok b) (Some n) = (ap Ok (ap (λ (x : Spot). bytes_answer c.args.offset c.args.count (value size x.file x.map a.index)) (sym same)), refl) in
-    let reply = sym (bytes_reply_is c.shown_bytes.result c.args.offset c.args.count (value size (spot_at n c.in-Ok.at.file c.in-Ok.at.map).file (spot_at n c.in-Ok.at.file c.in-Ok.at.map).map a.index) c.shown_bytes.ensures.all c.shown_bytes.ensures.shown) in
+    let reply = sym (bytes_reply_is c.shown_bytes.result c.args.offset c.args.count
+    (value size (spot_at n c.in-Ok.at.file c.in-Ok.at.map).file (spot_at n c.in-Ok.at.file c.in-Ok.at.map).map a.index) c.shown_bytes.ensures.all
+    c.shown_bytes.ensures.shown) in
     subst (λ r. IsDone took g.D.PoolDoor.is_full size k (Some m) c.args.door.now (Load a.task c.args.home a.map a.index c.args.offset c.args.count) r (Some n) c.reach.new.door) reply (
     went took g.D.PoolDoor.is_full m c.args.door.now size c.args.home a Read asked (λ s p. and_then (cont s) p) (follows took g.D.PoolDoor.is_full m c.args.door.now cont) c.in-Ok.at placed
     c.reach.result n c.reach.new.door b (Some n) c.in-Ok-reach.is (λ p h. then_goes took m (cont s) p c.args.door.now c.reach.new.door Done n (Ok b) (Some n) h shows) c.reach.ensures.done)

@@ -13,11 +13,16 @@ returns-then-is_shared-clause-done g c =
     let size = g.N.Naming.page_bytes in
     let m = c.args.self.now in
     let s = spot_at m c.args.at.file c.args.at.map in
-    tried_as g.D.PoolDoor.took g.D.PoolDoor.is_full (λ (x : Choice). shared_access x size m s c.args.home c.args.index (cell_at s.file c.args.index)) (λ (x : Choice). access x size m s c.args.home c.args.index c.args.intent)
-    (λ x. sym (shared_is x size m s c.args.home c.args.index c.args.intent (sym (ap (λ (x : Mount). is_shared (map_in (file_in x c.args.at.file) c.args.at.map).sharing) c.self.view_is) ∙ sym c.is_shared.ensures ∙ c.if-is_shared.true))) (Some m) c.args.door.now (done c.reach_shared.result) (Some c.reach_shared.new.self) c.reach_shared.new.door
+    tried_as g.D.PoolDoor.took g.D.PoolDoor.is_full (λ (x : Choice). shared_access x size m s c.args.home c.args.index (cell_at s.file c.args.index))
+    (λ (x : Choice). access x size m s c.args.home c.args.index c.args.intent)
+    (λ x. sym (shared_is x size m s c.args.home c.args.index c.args.intent (sym
+    (ap (λ (x : Mount). is_shared (map_in (file_in x c.args.at.file) c.args.at.map).sharing) c.self.view_is) ∙ sym c.is_shared.ensures
+    ∙ c.if-is_shared.true))) (Some m) c.args.door.now (done c.reach_shared.result) (Some c.reach_shared.new.self) c.reach_shared.new.door
     (c.reach_shared.ensures.done s refl refl)
 
 pub returns-then-is_shared-clause-memory : goal.returns-then-is_shared-clause-memory
 returns-then-is_shared-clause-memory g c backed =
     let s = spot_at c.args.self.now c.args.at.file c.args.at.map in
-    c.reach_shared.ensures.memory (backed_is_entered c.args.intent (Some s) s c.args.index refl (sym (ap (λ (x : Mount). is_shared (map_in (file_in x c.args.at.file) c.args.at.map).sharing) c.self.view_is) ∙ sym c.is_shared.ensures ∙ c.if-is_shared.true) backed)
+    c.reach_shared.ensures.memory (backed_is_entered c.args.intent (Some s) s c.args.index refl
+    (sym (ap (λ (x : Mount). is_shared (map_in (file_in x c.args.at.file) c.args.at.map).sharing) c.self.view_is) ∙ sym c.is_shared.ensures
+    ∙ c.if-is_shared.true) backed)

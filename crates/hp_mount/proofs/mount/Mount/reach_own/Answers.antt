@@ -67,7 +67,8 @@ module _ (g : Over) (c : After-is_full g) where
   -- a page of its own
   module _ (stamp : ℕ) (page : Page) (new : share.Subpool) (w : Files) (fresh : is_among stamp (flat_map stamps_of c.self.inside.files.files) ≡ false)
       (share : g.D.PoolDoor.share_of new ≡ with_granted (g.D.PoolDoor.share_of c.self.inside.share))
-      (parted : (consumed : Bool) (x : Copy) → place_at (map_in shown c.args.at.map) c.args.index ≡ Live consumed (Some x) → w ≡ parted_at c.args.at.file c.args.at.map c.args.index consumed stamp page c.self.inside.files) where
+      (parted : (consumed : Bool) (x : Copy) → place_at (map_in shown c.args.at.map) c.args.index ≡ Live consumed (Some x) →
+      w ≡ parted_at c.args.at.file c.args.at.map c.args.index consumed stamp page c.self.inside.files) where
     new_is : new ≡ with_granted c.self.inside.share
     new_is = sym (c.requires.shares new) ∙ share ∙ ap with_granted (c.requires.shares c.self.inside.share)
 
@@ -98,12 +99,14 @@ module _ (g : Over) (c : After-is_full g) where
 
   -- refused: all is as it was
   refused_left : (new : share.Subpool) → new ≡ c.self.inside.share → mount_of new c.self.inside.inodes c.self.inside.files.files ≡ m
-  refused_left new same = mount_left c.self.inside.share new c.self.inside.inodes c.self.inside.files.files c.self.inside.files.files (ap (λ (x : share.Subpool). x.max) same) (ap (λ (x : share.Subpool). x.min) same) refl ∙ c.self.view_is
+  refused_left new same = mount_left c.self.inside.share new c.self.inside.inodes c.self.inside.files.files c.self.inside.files.files
+      (ap (λ (x : share.Subpool). x.max) same) (ap (λ (x : share.Subpool). x.min) same) refl ∙ c.self.view_is
 
 pub returns-then-not-is_owner-clause-done : goal.returns-then-not-is_owner-clause-done
 returns-then-not-is_owner-clause-done g c =
     let a = (goal.at.returns-then-not-is_owner-clause-done g c).After-is_full in
-    private.other_full g.D.PoolDoor.took g.D.PoolDoor.is_full g.N.Naming.page_bytes c.args.self.now c.args.home c.args.at.file c.args.at.map c.args.index Write c.args.door.now c.requires.private (live g a).0 (old g a) (live g a).1 refl c.requires.several.2
+    private.other_full g.D.PoolDoor.took g.D.PoolDoor.is_full g.N.Naming.page_bytes c.args.self.now c.args.home c.args.at.file c.args.at.map
+    c.args.index Write c.args.door.now c.requires.private (live g a).0 (old g a) (live g a).1 refl c.requires.several.2
     (owner g a c.if-not-is_owner.true) (full g a c.if-is_full.true)
 
 pub invariant_of-self : goal.invariant_of-self
@@ -112,20 +115,24 @@ invariant_of-self g c = back_kept g (goal.at.invariant_of-self g c).After-is_ful
 pub returns-then-is_full-clause-done : goal.returns-then-is_full-clause-done
 returns-then-is_full-clause-done g c =
     let a = (goal.at.returns-then-is_full-clause-done g c).After-is_full in
-    private.owner_full g.D.PoolDoor.took g.D.PoolDoor.is_full g.N.Naming.page_bytes c.args.self.now c.args.home c.args.at.file c.args.at.map c.args.index Write c.args.door.now c.requires.private (live g a).0 (old g a) (live g a).1 refl c.requires.several.2
+    private.owner_full g.D.PoolDoor.took g.D.PoolDoor.is_full g.N.Naming.page_bytes c.args.self.now c.args.home c.args.at.file c.args.at.map
+    c.args.index Write c.args.door.now c.requires.private (live g a).0 (old g a) (live g a).1 refl c.requires.several.2
     (owner g a c.if-not-is_owner.false) _ (full g a c.if-is_full.true) (back_left g a c.self.inside.share c.take_back.new.self refl c.take_back.ensures.left c.take_back.ensures.files)
 
 pub returns-then-is_full-clause-same : goal.returns-then-is_full-clause-same
-returns-then-is_full-clause-same g c = back_same g (goal.at.returns-then-is_full-clause-same g c).After-is_full c.self.inside.share c.take_back.new.self refl c.take_back.ensures.left c.take_back.ensures.files
+returns-then-is_full-clause-same g c = back_same g (goal.at.returns-then-is_full-clause-same g c).After-is_full c.self.inside.share
+    c.take_back.new.self refl c.take_back.ensures.left c.take_back.ensures.files
 
 pub invariant_of-self-in-Ok : goal.invariant_of-self-in-Ok
-invariant_of-self-in-Ok g c = own_kept g (goal.at.invariant_of-self-in-Ok g c).After-is_full c.part.result c.with_shown-page.result c.get_page.new.share c.part.new.self c.part.ensures.fresh c.in-Ok.ensures.share c.part.ensures.parted
+invariant_of-self-in-Ok g c = own_kept g (goal.at.invariant_of-self-in-Ok g c).After-is_full c.part.result c.with_shown-page.result
+    c.get_page.new.share c.part.new.self c.part.ensures.fresh c.in-Ok.ensures.share c.part.ensures.parted
 
 pub returns-in-Ok-clause-done : goal.returns-in-Ok-clause-done
 returns-in-Ok-clause-done g c =
     let a = (goal.at.returns-in-Ok-clause-done g c).After-is_full in
     let node = ap (λ (p : Page). p.node) (c.requires.pages c.in-Ok.got) ∙ sym (ap (λ (p : Page). p.node) c.with_shown-page.ensures) in
-    private.own_granted g.D.PoolDoor.took g.D.PoolDoor.is_full g.N.Naming.page_bytes c.args.self.now c.args.home c.args.at.file c.args.at.map c.args.index Write c.args.door.now c.requires.private (live g a).0 (old g a) (live g a).1 refl c.requires.several.2
+    private.own_granted g.D.PoolDoor.took g.D.PoolDoor.is_full g.N.Naming.page_bytes c.args.self.now c.args.home c.args.at.file c.args.at.map
+    c.args.index Write c.args.door.now c.requires.private (live g a).0 (old g a) (live g a).1 refl c.requires.several.2
     c.part.result c.get_page.new.self c.with_shown-page.result _ (full g a c.if-is_full.false)
     (stamped_fresh c.part.result c.self.inside.files.files c.args.self.now (sym (ap (λ (x : Mount). x.files) c.self.view_is)) c.part.ensures.fresh)
     (private.granted_as g.D.PoolDoor.took c.args.home c.args.door.now c.get_page.new.self (rise g a) node c.in-Ok.ensures.ok)
@@ -139,26 +146,33 @@ returns-in-Ok-clause-same g c =
     (own_left g a c.part.result c.with_shown-page.result c.get_page.new.share c.part.new.self c.part.ensures.fresh c.in-Ok.ensures.share c.part.ensures.parted)
 
 pub invariant_of-self-in-NoPages : goal.invariant_of-self-in-NoPages
-invariant_of-self-in-NoPages g c = back_kept g (goal.at.invariant_of-self-in-NoPages g c).After-is_full c.get_page.new.share c.take_back-in-NoPages.new.self c.in-Err.ensures.unchanged c.take_back-in-NoPages.ensures.left c.take_back-in-NoPages.ensures.files
+invariant_of-self-in-NoPages g c = back_kept g (goal.at.invariant_of-self-in-NoPages g c).After-is_full c.get_page.new.share
+    c.take_back-in-NoPages.new.self c.in-Err.ensures.unchanged c.take_back-in-NoPages.ensures.left c.take_back-in-NoPages.ensures.files
 
 pub returns-in-NoPages-clause-done : goal.returns-in-NoPages-clause-done
 returns-in-NoPages-clause-done g c =
     let a = (goal.at.returns-in-NoPages-clause-done g c).After-is_full in
     let was = g.D.PoolDoor.took c.args.door.now (GrantPage c.args.home (share.rise (g.D.PoolDoor.share_of c.self.inside.share) 1)) no_pages c.get_page.new.self in
-    private.owner_denied g.D.PoolDoor.took g.D.PoolDoor.is_full g.N.Naming.page_bytes c.args.self.now c.args.home c.args.at.file c.args.at.map c.args.index Write c.args.door.now c.requires.private (live g a).0 (old g a) (live g a).1 refl c.requires.several.2
+    private.owner_denied g.D.PoolDoor.took g.D.PoolDoor.is_full g.N.Naming.page_bytes c.args.self.now c.args.home c.args.at.file c.args.at.map
+    c.args.index Write c.args.door.now c.requires.private (live g a).0 (old g a) (live g a).1 refl c.requires.several.2
     (owner g a c.if-not-is_owner-2.false) c.get_page.new.self _ (full g a c.if-is_full.false)
-    (private.denied_as g.D.PoolDoor.took c.args.home c.args.door.now c.get_page.new.self (rise g a) NoPages ⊥ (subst (λ x. IsDoorRefusal x was ((c.get_page.new.self ≡ c.args.door.now) × g.D.PoolDoor.is_full c.get_page.new.self)) c.in-NoPages.is c.in-Err.ensures.err))
+    (private.denied_as g.D.PoolDoor.took c.args.home c.args.door.now c.get_page.new.self (rise g a) NoPages ⊥
+    (subst (λ x. IsDoorRefusal x was ((c.get_page.new.self ≡ c.args.door.now) × g.D.PoolDoor.is_full c.get_page.new.self)) c.in-NoPages.is
+    c.in-Err.ensures.err))
     (back_left g a c.get_page.new.share c.take_back-in-NoPages.new.self c.in-Err.ensures.unchanged c.take_back-in-NoPages.ensures.left c.take_back-in-NoPages.ensures.files)
 
 pub returns-in-NoPages-clause-same : goal.returns-in-NoPages-clause-same
-returns-in-NoPages-clause-same g c = back_same g (goal.at.returns-in-NoPages-clause-same g c).After-is_full c.get_page.new.share c.take_back-in-NoPages.new.self c.in-Err.ensures.unchanged c.take_back-in-NoPages.ensures.left c.take_back-in-NoPages.ensures.files
+returns-in-NoPages-clause-same g c = back_same g (goal.at.returns-in-NoPages-clause-same g c).After-is_full c.get_page.new.share
+    c.take_back-in-NoPages.new.self c.in-Err.ensures.unchanged c.take_back-in-NoPages.ensures.left c.take_back-in-NoPages.ensures.files
 
 pub returns-then-not-is_owner-2-clause-done : goal.returns-then-not-is_owner-2-clause-done
 returns-then-not-is_owner-2-clause-done g c =
     let a = (goal.at.returns-then-not-is_owner-2-clause-done g c).After-is_full in
-    private.own_denied g.D.PoolDoor.took g.D.PoolDoor.is_full g.N.Naming.page_bytes c.args.self.now c.args.home c.args.at.file c.args.at.map c.args.index Write c.args.door.now c.requires.private (live g a).0 (old g a) (live g a).1 refl c.requires.several.2
+    private.own_denied g.D.PoolDoor.took g.D.PoolDoor.is_full g.N.Naming.page_bytes c.args.self.now c.args.home c.args.at.file c.args.at.map
+    c.args.index Write c.args.door.now c.requires.private (live g a).0 (old g a) (live g a).1 refl c.requires.several.2
     c.get_page.new.self _ c.in-Err.refusal (full g a c.if-is_full.false) (λ none. owner g a c.if-not-is_owner-2.true)
-    (private.denied_as g.D.PoolDoor.took c.args.home c.args.door.now c.get_page.new.self (rise g a) c.in-Err.refusal _ c.in-Err.ensures.err) (refused_left g a c.get_page.new.share c.in-Err.ensures.unchanged)
+    (private.denied_as g.D.PoolDoor.took c.args.home c.args.door.now c.get_page.new.self (rise g a) c.in-Err.refusal _ c.in-Err.ensures.err)
+    (refused_left g a c.get_page.new.share c.in-Err.ensures.unchanged)
 
 not_ok : {e : Refusal} → ◌≡◌ {A = Result (Unit {0}) Refusal} (Err e) (Ok tt) → ⊥
 not_ok e = cc
@@ -175,7 +189,8 @@ returns-in_default g c =
     let a = (goal.at.returns-in_default g c).After-is_full in
     let same = refused_left g a c.get_page.new.share c.in-Err.ensures.unchanged in
     record {
-      done = private.own_denied g.D.PoolDoor.took g.D.PoolDoor.is_full g.N.Naming.page_bytes c.args.self.now c.args.home c.args.at.file c.args.at.map c.args.index Write c.args.door.now c.requires.private (live g a).0 (old g a) (live g a).1 refl c.requires.several.2
+      done = private.own_denied g.D.PoolDoor.took g.D.PoolDoor.is_full g.N.Naming.page_bytes c.args.self.now c.args.home c.args.at.file c.args.at.map
+          c.args.index Write c.args.door.now c.requires.private (live g a).0 (old g a) (live g a).1 refl c.requires.several.2
           c.get_page.new.self _ c.in-Err.refusal (full g a c.if-is_full.false) (λ none. absurd (c.in_default.not-NoPages none))
           (private.denied_as g.D.PoolDoor.took c.args.home c.args.door.now c.get_page.new.self (rise g a) c.in-Err.refusal _ c.in-Err.ensures.err) same;
       left = c.in-Err.ensures.left;

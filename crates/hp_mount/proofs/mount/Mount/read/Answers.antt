@@ -27,7 +27,8 @@ returns-in-Some-refused_read-clause-done g c k =
     let file = c.in-Some.file in
     let f = file_in m file in
     let named = subst (λ (x : Mount). file_named x a.name.now ≡ Some (file, file_in x file)) c.self.view_is c.in-Some.ensures.some.is in
-    let why = subst (λ n. first_of (read_tests n a.index a.offset a.count f) ≡ Some c.in-Some-refused_read.refusal) c.requires.page_bytes (sym c.refused_read.ensures.first ∙ c.in-Some-refused_read.is) in
+    let why = subst (λ n. first_of (read_tests n a.index a.offset a.count f) ≡ Some c.in-Some-refused_read.refusal) c.requires.page_bytes
+    (sym c.refused_read.ensures.first ∙ c.in-Some-refused_read.is) in
     is_refused size k m a.name.now (Read a.name.now a.index a.offset a.count) (read size m a.index a.offset a.count) (λ x. refl) (file, f) named c.in-Some-refused_read.refusal
     (tests_fail (read_tests size a.index a.offset a.count f) (Finish (Answered (bytes_answer a.offset a.count (shown size (cell_at f a.index))) (Some m))) c.in-Some-refused_read.refusal why)
 

@@ -40,7 +40,9 @@ returns-clause-done g c k =
     let cells = c.reach.ensures.same.cells in
     let file = placed.file in
     let below = placed.below in
-    let wrote = c.write.ensures ∙ sym (written_is n s a.index c.args.offset c.args.bytes.now (sym (ap (λ (x : Mount). is_shared (map_in (file_in x c.in-Ok.at.file) c.in-Ok.at.map).sharing) c.self.view_is) ∙ sym c.is_shared-is_shared.ensures ∙ c.if-not-is_shared.false) (omega (arith, file, files)) (omega (arith, below, cells))) in
+    let wrote = c.write.ensures ∙ sym (written_is n s a.index c.args.offset c.args.bytes.now
+    (sym (ap (λ (x : Mount). is_shared (map_in (file_in x c.in-Ok.at.file) c.in-Ok.at.map).sharing) c.self.view_is)
+    ∙ sym c.is_shared-is_shared.ensures ∙ c.if-not-is_shared.false) (omega (arith, file, files)) (omega (arith, below, cells))) in
     let new = Some c.write.new.self in
     went took g.D.PoolDoor.is_full m c.args.door.now size c.args.home a Write asked (λ s p. and_then (cont s) p) (follows took g.D.PoolDoor.is_full m c.args.door.now cont) c.in-Ok.at placed
     c.reach.result n c.reach.new.door Done new c.in_default.is (λ p h. then_goes took m (cont s) p c.args.door.now c.reach.new.door Done n (Ok Done) new h (refl, ap Some wrote)) c.reach.ensures.done
@@ -56,7 +58,8 @@ returns-then-not-is_shared-clause-done g c k =
     let placed = subst (λ n. IsPlaced m a asked n c.in-Ok.at) c.requires.page_bytes c.in-Ok.ensures.placed in
     let s = spot_at m c.in-Ok.at.file c.in-Ok.at.map in
     let n = c.reach.new.self in
-    let private : is_shared s.map.sharing ≡ false = (sym (ap (λ (x : Mount). is_shared (map_in (file_in x c.in-Ok.at.file) c.in-Ok.at.map).sharing) c.self.view_is) ∙ sym c.is_shared-is_shared.ensures ∙ c.if-not-is_shared.true) in
+    let private : is_shared s.map.sharing ≡ false = (sym (ap (λ (x : Mount). is_shared (map_in (file_in x c.in-Ok.at.file) c.in-Ok.at.map).sharing)
+    c.self.view_is) ∙ sym c.is_shared-is_shared.ensures ∙ c.if-not-is_shared.true) in
     let files = c.reach.ensures.same.files in
     let maps = c.reach.ensures.same.maps in
     let map = placed.map in

@@ -26,7 +26,8 @@ pub invariant_of-self : goal.invariant_of-self
 invariant_of-self g c =
     let o = c.self.inside in
     let file = c.in-Some.file in
-    kept o.share o.files c.unlink-reserves.new.self o.inodes c.self.invariant file (unlinked (file_at o.files.files file)) c.unlink-reserves.result c.unlink-reserves.ensures.left c.unlink-reserves.ensures.files c.give_back.new.share c.give_back.new.self
+    kept o.share o.files c.unlink-reserves.new.self o.inodes c.self.invariant file (unlinked (file_at o.files.files file)) c.unlink-reserves.result
+    c.unlink-reserves.ensures.left c.unlink-reserves.ensures.files c.give_back.new.share c.give_back.new.self
     c.give_back.ensures.share c.give_back.ensures.going
 
 pub returns-clause-done : goal.returns-clause-done
@@ -43,5 +44,8 @@ returns-clause-done g c size k =
     subst (λ (x : Mount). IsDone took full size k (Some x) door (Unlink c.args.name.now) (Ok Done) (Some n) left) c.self.view_is
     (gave_back took full m c.args.name.now [] unlinked door file c.in-Some.ensures.some.is refl n left
     (subst (λ (x : Mount). ThroughDoor took (gives Done (Some m) (edited m file changed)) (Some m) door (Ok Done) (Some x) left)
-    (sym (left_is o.share o.files c.unlink-reserves.new.self o.inodes c.self.invariant file changed c.unlink-reserves.result c.unlink-reserves.ensures.left c.unlink-reserves.ensures.files c.give_back.new.share c.give_back.new.self c.give_back.ensures.share c.give_back.ensures.going))
-    (given o.share o.files c.unlink-reserves.new.self o.inodes c.self.invariant file changed c.unlink-reserves.result c.unlink-reserves.ensures.left c.unlink-reserves.ensures.files took door left c.give_back.ensures.given)))
+    (sym (left_is o.share o.files c.unlink-reserves.new.self o.inodes c.self.invariant file changed c.unlink-reserves.result
+    c.unlink-reserves.ensures.left c.unlink-reserves.ensures.files c.give_back.new.share c.give_back.new.self c.give_back.ensures.share
+    c.give_back.ensures.going))
+    (given o.share o.files c.unlink-reserves.new.self o.inodes c.self.invariant file changed c.unlink-reserves.result c.unlink-reserves.ensures.left
+    c.unlink-reserves.ensures.files took door left c.give_back.ensures.given)))

@@ -35,7 +35,8 @@ returns-then-end-start-clause-done g c size k =
     let at = c.in-Some.at in
     let limits : Limits = record { max = o.share.max; min = o.share.min; inodes = o.inodes } in
     subst (λ (x : Mount). IsDone took full size k (Some x) door (Unmap c.args.task c.args.map c.args.start c.args.end) (Err OutOfRange) (Some x) door) c.self.view_is
-    (bad_indices took full (mount_of o.share o.inodes o.files.files) c.args.task c.args.map c.args.start c.args.end door (spot_of o.files.files at.file at.map) (c.in-Some.ensures.some.is limits) c.then-end-start.either)
+    (bad_indices took full (mount_of o.share o.inodes o.files.files) c.args.task c.args.map c.args.start c.args.end door
+    (spot_of o.files.files at.file at.map) (c.in-Some.ensures.some.is limits) c.then-end-start.either)
 
 pub unmap-reserves-requires-clause-few : goal.unmap-reserves-requires-clause-few
 unmap-reserves-requires-clause-few g c =
@@ -64,7 +65,9 @@ returns-clause-done g c size k =
     let one = c.unmap-reserves in
     let gs = filter is_kept (map (file_unmapped (is_map c.args.task c.args.map) c.args.start c.args.end) o.files.files) in
     subst (λ (x : Mount). IsDone took full size k (Some x) door (Unmap c.args.task c.args.map c.args.start c.args.end) (Ok Done) (Some n) left) c.self.view_is
-    (indices_left took full m c.args.task c.args.map c.args.start c.args.end door (spot_of o.files.files at.file at.map) (c.in-Some.ensures.some.is limits) c.if-end-start.false c.if-end-gt-MOST_FILE_PAGES.false n left
+    (indices_left took full m c.args.task c.args.map c.args.start c.args.end door (spot_of o.files.files at.file at.map)
+    (c.in-Some.ensures.some.is limits) c.if-end-start.false c.if-end-gt-MOST_FILE_PAGES.false n left
     (subst (λ (x : Mount). ThroughDoor took (gives Done (Some m) (Some (unmapped_from c.args.task c.args.map c.args.start c.args.end m))) (Some m) door (Ok Done) (Some x) left)
-    (sym (leaves o.share o.files one.new.self o.inodes c.self.invariant gs one.result one.ensures.left one.ensures.files c.give_back.new.share c.give_back.new.self c.give_back.ensures.share c.give_back.ensures.going))
+    (sym (leaves o.share o.files one.new.self o.inodes c.self.invariant gs one.result one.ensures.left one.ensures.files c.give_back.new.share
+    c.give_back.new.self c.give_back.ensures.share c.give_back.ensures.going))
     (gave_through o.share o.files one.new.self o.inodes c.self.invariant gs one.result one.ensures.left one.ensures.files took door left c.give_back.ensures.given)))

@@ -10,4 +10,5 @@ pub returns-clause-done : goal.returns-clause-done
 returns-clause-done g c size k =
     let o = c.self.inside in
     subst (λ (m : Mount). IsDoneAlone size k (Some m) Df (Ok (UsageAnswer c.told.result c.min.result c.used.result c.told-2.result c.count.result)) (Some m)) c.self.view_is
-    (usage_alone o.share o.files o.inodes c.self.invariant c.told.result c.told-2.result c.min.result c.used.result c.count.result (c.told.ensures.same ∙ c.max.ensures) c.min.ensures c.used.ensures c.told-2.ensures.same c.count.ensures size k)
+    (usage_alone o.share o.files o.inodes c.self.invariant c.told.result c.told-2.result c.min.result c.used.result c.count.result
+    (c.told.ensures.same ∙ c.max.ensures) c.min.ensures c.used.ensures c.told-2.ensures.same c.count.ensures size k)

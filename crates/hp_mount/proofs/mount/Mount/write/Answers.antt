@@ -14,7 +14,8 @@ invariant_of-self g c =
     let i = c.args.index in
     let f = file_at o.files.files k in
     let pages = c.self.invariant.pages in
-    grown o.share o.files o.inodes c.self.invariant k (subst (λ (x : Mount). k < length x.files) (sym c.self.view_is) c.requires.file) o.share c.write.new.self (with_cell f i (cell_written c.args.offset c.args.bytes.now (cell_at f i))) 0 0 0
+    grown o.share o.files o.inodes c.self.invariant k (subst (λ (x : Mount). k < length x.files) (sym c.self.view_is) c.requires.file) o.share
+    c.write.new.self (with_cell f i (cell_written c.args.offset c.args.bytes.now (cell_at f i))) 0 0 0
     (write_grows k i c.args.offset c.args.bytes.now f (subst (λ (x : Mount). i < length (file_in x k).cells) (sym c.self.view_is) c.requires.below)) refl refl (omega (arith)) (omega (arith))
     (subst (λ n. o.share.held ≤ n) (sym (ap (λ (x : Files). x.room) c.write.ensures)) c.self.invariant.room) (ap (λ (x : Files). x.going) c.write.ensures) (ap (λ (x : Files). x.files) c.write.ensures)
 

@@ -21,6 +21,8 @@ invariant_of-self g c =
     let map = subst (λ (x : Mount). j < length (file_in x k).maps) (sym c.self.view_is) c.requires.map in
     let once = subst (λ (x : Mount). IsCopyState state.HeldOnce (file_in x k) (place_at (map_in (file_in x k) j) i)) (sym c.self.view_is) c.requires.once in
     let live = live_of (place_at (map_in f j) i) once.0 once.1 in
-    grown o.share o.files o.inodes c.self.invariant k file o.share c.write_copy.new.self (with_map f j (with_place (map_in f j) i (place_written c.args.offset c.args.bytes.now (place_at (map_in f j) i)))) 0 0 0
+    grown o.share o.files o.inodes c.self.invariant k file o.share c.write_copy.new.self
+    (with_map f j (with_place (map_in f j) i (place_written c.args.offset c.args.bytes.now (place_at (map_in f j) i)))) 0 0 0
     (private_grows f j i c.args.offset c.args.bytes.now live.0 once.0 map live.1) refl refl (omega (arith)) (omega (arith))
-    (subst (λ n. o.share.held ≤ n) (sym (ap (λ (x : Files). x.room) c.write_copy.ensures)) c.self.invariant.room) (ap (λ (x : Files). x.going) c.write_copy.ensures) (ap (λ (x : Files). x.files) c.write_copy.ensures)
+    (subst (λ n. o.share.held ≤ n) (sym (ap (λ (x : Files). x.room) c.write_copy.ensures)) c.self.invariant.room)
+    (ap (λ (x : Files). x.going) c.write_copy.ensures) (ap (λ (x : Files). x.files) c.write_copy.ensures)

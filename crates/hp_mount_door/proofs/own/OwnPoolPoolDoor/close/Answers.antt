@@ -9,7 +9,8 @@ returns-clause-given g c =
     let ready = subst IsReady (sym c.self.view_is) c.requires.ready in
     rw (← c.self.view_is) (all_given c.args.going.going _ was c.settle.new.self ready
     (share_given c.args.share c.put_pages.new.share c.args.going.going was c.put_pages.new.pool c.put_reserves.new.pool c.settle.new.self
-    c.put_pages.ensures.share c.put_pages.ensures.pool c.used-held.result c.put_reserves.new.self c.close-2.new.pool c.requires.pages c.used-held.ensures c.put_reserves.ensures.sub c.put_reserves.ensures.pool c.close-2.ensures.pool c.settle.ensures.moved))
+    c.put_pages.ensures.share c.put_pages.ensures.pool c.used-held.result c.put_reserves.new.self c.close-2.new.pool c.requires.pages
+    c.used-held.ensures c.put_reserves.ensures.sub c.put_reserves.ensures.pool c.close-2.ensures.pool c.settle.ensures.moved))
 
 pub returns-clause-left : goal.returns-clause-left
 returns-clause-left g c =
@@ -17,4 +18,5 @@ returns-clause-left g c =
     let ready = subst IsReady (sym c.self.view_is) c.requires.ready in
     settled_ready c.args.going.going _ was c.settle.new.self ready c.settle.ensures.settled
     (share_given c.args.share c.put_pages.new.share c.args.going.going was c.put_pages.new.pool c.put_reserves.new.pool c.settle.new.self
-    c.put_pages.ensures.share c.put_pages.ensures.pool c.used-held.result c.put_reserves.new.self c.close-2.new.pool c.requires.pages c.used-held.ensures c.put_reserves.ensures.sub c.put_reserves.ensures.pool c.close-2.ensures.pool c.settle.ensures.moved)
+    c.put_pages.ensures.share c.put_pages.ensures.pool c.used-held.result c.put_reserves.new.self c.close-2.new.pool c.requires.pages
+    c.used-held.ensures c.put_reserves.ensures.sub c.put_reserves.ensures.pool c.close-2.ensures.pool c.settle.ensures.moved)

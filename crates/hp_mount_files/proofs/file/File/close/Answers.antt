@@ -34,7 +34,8 @@ pub drop_entries-requires-clause-pageless : goal.drop_entries-requires-clause-pa
 drop_entries-requires-clause-pageless g c =
     let len = c.len-len.result in
     let same : 0 + len ≡ len = omega arith in
-    bare_pages 0 len c.self.inside.inode c.drop_pages.new.inode [] c.len-len.ensures.len (c.drop_pages.ensures.cells ∙ ap (λ b. edit_range cell_punched 0 b c.self.inside.inode) (sym same)) 0 (omega arith)
+    bare_pages 0 len c.self.inside.inode c.drop_pages.new.inode [] c.len-len.ensures.len
+    (c.drop_pages.ensures.cells ∙ ap (λ b. edit_range cell_punched 0 b c.self.inside.inode) (sym same)) 0 (omega arith)
 
 pub returns-clause-entries : goal.returns-clause-entries
 returns-clause-entries g c =

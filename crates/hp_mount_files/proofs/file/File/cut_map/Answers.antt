@@ -8,7 +8,8 @@ use Rattle.hp_mount_files.proofs.file.File.cut_map.Goals as goal
 pub returns-clause-reserves : goal.returns-clause-reserves
 returns-clause-reserves g c =
     let i = c.self.inside in
-    let step = sum_by-set owed i.maps.items c.args.map c.leave_range.new.map c.index_mut-at.result.now (subst (λ (f : NumberedFile). c.args.map < length f.maps) (sym c.self.view_is) c.requires.within) in
+    let step = sum_by-set owed i.maps.items c.args.map c.leave_range.new.map c.index_mut-at.result.now
+    (subst (λ (f : NumberedFile). c.args.map < length f.maps) (sym c.self.view_is) c.requires.within) in
     let read = ap owed c.index_mut-at.ensures.value in
     let whole = ap file_owed c.self.view_is in
     let left = ap owed c.leave_range.ensures.map in

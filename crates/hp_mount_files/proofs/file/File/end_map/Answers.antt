@@ -20,7 +20,9 @@ pub returns-clause-dropping : goal.returns-clause-dropping
 returns-clause-dropping g c =
     let all = c.self.inside.maps.items in
     let left = c.remove-gone.new.self.items in
-    drop_as (λ n. in_map n c.remove-gone.result) (λ n. 0) (λ n. in_file n c.args.self.now) (λ n. in_file n (record { name = c.self.inside.name; cells = c.self.inside.inode; maps = left })) c.args.store.now c.drop_map.new.store c.drop_map.ensures.dropping
+    drop_as (λ n. in_map n c.remove-gone.result) (λ n. 0) (λ n. in_file n c.args.self.now)
+    (λ n. in_file n (record { name = c.self.inside.name; cells = c.self.inside.inode; maps = left })) c.args.store.now c.drop_map.new.store
+    c.drop_map.ensures.dropping
     (λ n.
     let whole = ap (in_file n) c.self.view_is in
     let step = sum_by-remove (in_map n) all c.args.map c.remove-gone.result (subst (λ (f : NumberedFile). c.args.map < length f.maps) (sym c.self.view_is) c.requires.within) in

@@ -37,9 +37,13 @@ loop-map-preserved c =
           (noted_one task m c.loop-map.hints w.note_map.new.self (task_yes task m (sym c.task.ensures ∙ w.if-task.true)) w.note_map.ensures.more w.note_map.ensures.room (search rules))
       | else-task w ↦ noted_other task m c.loop-map.hints c.if-task.hints (task_no task m (λ e. w.if-task.false (c.task.ensures ∙ e))) w.hints-is
     ] in
-    noted_then task (count_by (is_of task) (take i ms)) (cond (is_of task m) 1 0) (count_by (is_of task) (take (i + 1) ms)) (λ q. count_by (is_map task q) (take i ms)) (λ q. cond (is_map task q m) 1 0) (λ q. count_by (is_map task q) (take (i + 1) ms)) c.args.hints.now c.loop-map.hints c.if-task.hints was one
-    (let step = sum_by_more (λ (q : Mapping ℕ). cond {A = ℕ} (is_of task q) 1 0) ms i m c.loop-map-test.true in let same = ap (λ (q : Mapping ℕ). cond {A = ℕ} (is_of task q) 1 0) c.mapping-item.is in omega (arith, step, same))
-    (λ n. (let step = sum_by_more (λ (q : Mapping ℕ). cond {A = ℕ} (is_map task n q) 1 0) ms i m c.loop-map-test.true in let same = ap (λ (q : Mapping ℕ). cond {A = ℕ} (is_map task n q) 1 0) c.mapping-item.is in omega (arith, step, same)))
+    noted_then task (count_by (is_of task) (take i ms)) (cond (is_of task m) 1 0) (count_by (is_of task) (take (i + 1) ms))
+    (λ q. count_by (is_map task q) (take i ms)) (λ q. cond (is_map task q m) 1 0) (λ q. count_by (is_map task q) (take (i + 1) ms))
+    c.args.hints.now c.loop-map.hints c.if-task.hints was one
+    (let step = sum_by_more (λ (q : Mapping ℕ). cond {A = ℕ} (is_of task q) 1 0) ms i m c.loop-map-test.true in
+    let same = ap (λ (q : Mapping ℕ). cond {A = ℕ} (is_of task q) 1 0) c.mapping-item.is in omega (arith, step, same))
+    (λ n. (let step = sum_by_more (λ (q : Mapping ℕ). cond {A = ℕ} (is_map task n q) 1 0) ms i m c.loop-map-test.true in
+    let same = ap (λ (q : Mapping ℕ). cond {A = ℕ} (is_map task n q) 1 0) c.mapping-item.is in omega (arith, step, same)))
 
 pub returns : goal.returns
 returns c =

@@ -19,9 +19,15 @@ returns c =
     let old = c.index_mut-at.result.now in
     let within : j < length x.maps = subst (λ (f : NumberedFile). j < length f.maps) (sym c.self.view_is) c.requires.within in
     let read : old ≡ mapping_at x j = c.index_mut-at.ensures.value ∙ get_or_default x.maps j old no_mapping within in
-    let live : is_live (place_at old i) ≡ true = ap (λ (m : Mapping ℕ). is_live (place_at m i)) read ∙ subst (λ (f : NumberedFile). is_live (place_at (mapping_at f j) i) ≡ true) (sym c.self.view_is) c.requires.live in
-    let leaves : (m : Mapping ℕ) → m ≡ at_place (first_copy (mapping_at x j).owner c.args.number) i (mapping_at x j) → record x { maps = slice_set x.maps j m } ≡ record c.args.self.now { maps = slice_set c.args.self.now.maps j (at_place (first_copy (mapping_at c.args.self.now j).owner c.args.number) i (mapping_at c.args.self.now j)) } =
-    λ m e. (ap (λ m. record x { maps = slice_set x.maps j m }) e ∙ ap (λ (f : NumberedFile). record f { maps = slice_set f.maps j (at_place (first_copy (mapping_at f j).owner c.args.number) i (mapping_at f j)) }) c.self.view_is) in
+    let live : is_live (place_at old i) ≡ true = ap (λ (m : Mapping ℕ). is_live (place_at m i)) read
+    ∙ subst (λ (f : NumberedFile). is_live (place_at (mapping_at f j) i) ≡ true) (sym c.self.view_is) c.requires.live in
+    let leaves : (m : Mapping ℕ) → m ≡ at_place (first_copy (mapping_at x j).owner c.args.number) i (mapping_at x j) →
+    record x { maps = slice_set x.maps j m } ≡ record c.args.self.now {
+      maps = slice_set c.args.self.now.maps j (at_place (first_copy (mapping_at c.args.self.now j).owner c.args.number) i
+          (mapping_at c.args.self.now j));
+    } =
+    λ m e. (ap (λ m. record x { maps = slice_set x.maps j m }) e ∙ ap (λ (f : NumberedFile).
+    record f { maps = slice_set f.maps j (at_place (first_copy (mapping_at f j).owner c.args.number) i (mapping_at f j)) }) c.self.view_is) in
     let owns : c.is_owner.result ≡ (mapping_at x j).owner = c.is_owner.ensures ∙ ap (λ (m : Mapping ℕ). m.owner) (c.set_copy.ensures ∙ ap (at_place (with_copy c.args.number) i) read) in
     elim c.if-is_owner.branch [
       | then-is_owner w ↦

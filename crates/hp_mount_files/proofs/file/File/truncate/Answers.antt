@@ -27,7 +27,8 @@ returns-clause-file g c =
     let left_is = c.self-2.view_is ∙ c.punch.ensures.file in
     let bare_is = ap (λ (f : NumberedFile). f.cells) left_is in
     cut_file c.args.len c.len-end.result old _ c.set_len.new.self end_is left_is
-    (c.set_len.ensures ∙ cut_is c.args.len c.len-end.result old.cells c.self-2.inside.inode c.drop_entries-entries.new.self end_is bare_is c.min.result c.min.ensures c.drop_entries-entries.ensures.cells)
+    (c.set_len.ensures ∙ cut_is c.args.len c.len-end.result old.cells c.self-2.inside.inode c.drop_entries-entries.new.self end_is bare_is
+    c.min.result c.min.ensures c.drop_entries-entries.ensures.cells)
 
 pub returns-clause-dropping : goal.returns-clause-dropping
 returns-clause-dropping g c =
@@ -37,6 +38,7 @@ returns-clause-dropping g c =
     drop_as (λ n. in_file n old) (λ n. in_file n c.punch.new.self) (λ n. in_file n old) _ c.args.store.now c.punch.new.store c.punch.ensures.dropping
     (λ n.
     let view = ap (in_file n) c.self-2.view_is in
-    let cells = ap (sum_by (in_cell n)) (c.set_len.ensures ∙ cut_is c.args.len c.len-end.result old.cells c.self-2.inside.inode c.drop_entries-entries.new.self end_is bare_is c.min.result c.min.ensures c.drop_entries-entries.ensures.cells)
+    let cells = ap (sum_by (in_cell n)) (c.set_len.ensures ∙ cut_is c.args.len c.len-end.result old.cells c.self-2.inside.inode
+    c.drop_entries-entries.new.self end_is bare_is c.min.result c.min.ensures c.drop_entries-entries.ensures.cells)
     ∙ cut_holds c.args.len c.len-end.result old.cells c.self-2.inside.inode [] end_is bare_is n in
     omega (arith, view, cells))

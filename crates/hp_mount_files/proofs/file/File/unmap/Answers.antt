@@ -14,19 +14,24 @@ use Rattle.hp_mount_files.proofs.file.File.unmap.Goals.{After-end_map-reserves, 
 whole : (g : Over) (c : After-end_map-reserves g) → is_mapped (without_range c.args.a c.args.b (mapping_at c.args.self.now c.args.map)) ≡ false
 whole g c =
     let m = c.index-at.result.now in
-    let same : m ≡ mapping_at c.args.self.now c.args.map = c.index-at.ensures ∙ ap (λ (f : NumberedFile). slice_index_or f.maps c.args.map m) c.self.view_is ∙ get_or_default c.args.self.now.maps c.args.map m no_mapping c.requires.within in
-    ap (λ (m : Mapping _). is_mapped (without_range c.args.a c.args.b m)) (sym same) ∙ all_gone c.args.a c.args.b m (omega (arith, c.if-a-start.true, c.start.ensures)) (omega (arith, c.if-end-b.true, c.end.ensures))
+    let same : m ≡ mapping_at c.args.self.now c.args.map = c.index-at.ensures
+    ∙ ap (λ (f : NumberedFile). slice_index_or f.maps c.args.map m) c.self.view_is
+    ∙ get_or_default c.args.self.now.maps c.args.map m no_mapping c.requires.within in
+    ap (λ (m : Mapping _). is_mapped (without_range c.args.a c.args.b m)) (sym same)
+    ∙ all_gone c.args.a c.args.b m (omega (arith, c.if-a-start.true, c.start.ensures)) (omega (arith, c.if-end-b.true, c.end.ensures))
 
 -- or the last indices of it
 last : (g : Over) (c : After-remove_map g) → is_mapped (without_range c.args.a c.args.b (mapping_at c.args.self.now c.args.map)) ≡ false
 last g c =
     let old = c.args.self.now in
     let z = without_range c.args.a c.args.b (mapping_at old c.args.map) in
-    let left : c.index.result.now ≡ z = c.index.ensures ∙ ap (λ (f : NumberedFile). slice_index_or f.maps c.args.map c.index.result.now) (c.self-2.view_is ∙ c.cut_map-reserves.ensures.file) ∙ get_or-set_same old.maps c.args.map z c.index.result.now c.requires.within in
+    let left : c.index.result.now ≡ z = c.index.ensures ∙ ap (λ (f : NumberedFile). slice_index_or f.maps c.args.map c.index.result.now)
+    (c.self-2.view_is ∙ c.cut_map-reserves.ensures.file) ∙ get_or-set_same old.maps c.args.map z c.index.result.now c.requires.within in
     ap is_mapped (sym left) ∙ sym c.is_mapped.ensures ∙ c.if-is_mapped.false
 
 pub returns-then-end-b-clause-file : goal.returns-then-end-b-clause-file
-returns-then-end-b-clause-file g c = c.end_map-reserves.ensures.file ∙ sym (left_without c.args.a c.args.b c.args.map c.args.self.now c.requires.within (whole g (goal.at.returns-then-end-b-clause-file g c).After-end_map-reserves))
+returns-then-end-b-clause-file g c = c.end_map-reserves.ensures.file ∙ sym (left_without c.args.a c.args.b c.args.map c.args.self.now
+    c.requires.within (whole g (goal.at.returns-then-end-b-clause-file g c).After-end_map-reserves))
 
 pub returns-then-end-b-clause-maps : goal.returns-then-end-b-clause-maps
 returns-then-end-b-clause-maps g c = ap (λ t. cond t 0 1) (sym (whole g (goal.at.returns-then-end-b-clause-maps g c).After-end_map-reserves))

@@ -18,11 +18,15 @@ returns c =
         refl,
         λ w.
             ap₂ (λ (fs : List NumberedFile) (room : ℕ). record { files = fs; room = room })
-            (ap (λ k. files_in (slice_set places k w) order) number_is ∙ set_files places w s.files.len s.files.ok.0 order s.vacant.items (vec_capacity s.vacant) c.self.invariant c.args.at inside ∙ ap (λ (l : Listed). slice_set l.files c.args.at w) c.self.view_is)
+            (ap (λ k. files_in (slice_set places k w) order) number_is ∙ set_files places w s.files.len s.files.ok.0 order s.vacant.items
+            (vec_capacity s.vacant) c.self.invariant c.args.at inside ∙ ap (λ (l : Listed). slice_set l.files c.args.at w) c.self.view_is)
             (ap (λ (l : Listed). l.room) c.self.view_is),
       ),
       record {
         writes_back = tt;
-        value = sym (ap (λ (l : Listed). slice_index_or l.files c.args.at c.index_mut.result.now) (sym c.self.view_is) ∙ get_or-map (numbered_at places) order c.args.at 0 c.index_mut.result.now inside ∙ ap (numbered_at places) (sym number_is) ∙ get_or_default places c.number.result _ c.index_mut.result.now (omega (arith, number_is, s.files.ok.0, c.self.invariant.there c.args.at 0 inside)) ∙ sym c.index_mut.ensures.value);
+        value = sym (ap (λ (l : Listed). slice_index_or l.files c.args.at c.index_mut.result.now) (sym c.self.view_is)
+            ∙ get_or-map (numbered_at places) order c.args.at 0 c.index_mut.result.now inside ∙ ap (numbered_at places) (sym number_is)
+            ∙ get_or_default places c.number.result _ c.index_mut.result.now (omega
+            (arith, number_is, s.files.ok.0, c.self.invariant.there c.args.at 0 inside)) ∙ sym c.index_mut.ensures.value);
       },
     )

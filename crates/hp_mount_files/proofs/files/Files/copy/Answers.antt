@@ -17,17 +17,26 @@ use Rattle.hp_mount_files.proofs.files.Files.copy.Goals as goal
 pub returns-in_default-clause-agreed : goal.returns-in_default-clause-agreed
 returns-in_default-clause-agreed g c =
     let s = c.self.inside in
-    subst (λ (v : Files). AreAgreed (file_at v.files c.args.at.file)) c.self.view_is (agreed_there s.store s.more s.list.files c.self.invariant.held c.args.at.file c.args.at.map c.args.index (file_here c.self.view_is c.args.at.file c.requires.file) (map_here c.self.view_is c.args.at.file c.args.at.map c.requires.map) c.index.result.now c.index.ensures)
+    subst (λ (v : Files). AreAgreed (file_at v.files c.args.at.file)) c.self.view_is
+    (agreed_there s.store s.more s.list.files c.self.invariant.held c.args.at.file c.args.at.map c.args.index
+    (file_here c.self.view_is c.args.at.file c.requires.file) (map_here c.self.view_is c.args.at.file c.args.at.map c.requires.map)
+    c.index.result.now c.index.ensures)
 
 pub returns-then-holders-eq1-clause-agreed : goal.returns-then-holders-eq1-clause-agreed
 returns-then-holders-eq1-clause-agreed g c =
     let s = c.self.inside in
-    subst (λ (v : Files). AreAgreed (file_at v.files c.args.at.file)) c.self.view_is (agreed_there s.store s.more s.list.files c.self.invariant.held c.args.at.file c.args.at.map c.args.index (file_here c.self.view_is c.args.at.file c.requires.file) (map_here c.self.view_is c.args.at.file c.args.at.map c.requires.map) c.index.result.now c.index.ensures)
+    subst (λ (v : Files). AreAgreed (file_at v.files c.args.at.file)) c.self.view_is
+    (agreed_there s.store s.more s.list.files c.self.invariant.held c.args.at.file c.args.at.map c.args.index
+    (file_here c.self.view_is c.args.at.file c.requires.file) (map_here c.self.view_is c.args.at.file c.args.at.map c.requires.map)
+    c.index.result.now c.index.ensures)
 
 pub returns-else-holders-eq1-clause-agreed : goal.returns-else-holders-eq1-clause-agreed
 returns-else-holders-eq1-clause-agreed g c =
     let s = c.self.inside in
-    subst (λ (v : Files). AreAgreed (file_at v.files c.args.at.file)) c.self.view_is (agreed_there s.store s.more s.list.files c.self.invariant.held c.args.at.file c.args.at.map c.args.index (file_here c.self.view_is c.args.at.file c.requires.file) (map_here c.self.view_is c.args.at.file c.args.at.map c.requires.map) c.index.result.now c.index.ensures)
+    subst (λ (v : Files). AreAgreed (file_at v.files c.args.at.file)) c.self.view_is
+    (agreed_there s.store s.more s.list.files c.self.invariant.held c.args.at.file c.args.at.map c.args.index
+    (file_here c.self.view_is c.args.at.file c.requires.file) (map_here c.self.view_is c.args.at.file c.args.at.map c.requires.map)
+    c.index.result.now c.index.ensures)
 
 pub returns-then-holders-eq1-clause-state : goal.returns-then-holders-eq1-clause-state
 returns-then-holders-eq1-clause-state g c =
@@ -35,8 +44,16 @@ returns-then-holders-eq1-clause-state g c =
     let n = c.in-Some.number in
     let there = sym c.copy_at.ensures ∙ c.in-Some.is in
     let once : (holders_of (page_at s.store n) == 1) ≡ true = ap (λ x. x == 1) (sym c.holders.ensures.holders) ∙ eq-eqb c.holders.result 1 c.if-holders-eq1.true in
-    subst (λ (v : Files). IsCopyState state.HeldOnce (file_at v.files c.args.at.file) (place_at (map_at v.files c.args.at.file c.args.at.map) c.args.index)) c.self.view_is
-    (copy_shown s.store n, copy_there s.store s.more s.list.files c.self.invariant.held c.args.at.file c.args.at.map c.args.index (file_here c.self.view_is c.args.at.file c.requires.file) (map_here c.self.view_is c.args.at.file c.args.at.map c.requires.map) c.index.result.now c.index.ensures c.map-map.result.now c.map-map.ensures n there, held_once s.store s.more s.list.files c.self.invariant.held c.args.at.file c.args.at.map c.args.index (file_here c.self.view_is c.args.at.file c.requires.file) (map_here c.self.view_is c.args.at.file c.args.at.map c.requires.map) c.index.result.now c.index.ensures c.map-map.result.now c.map-map.ensures n there true once)
+    subst (λ (v : Files). IsCopyState state.HeldOnce (file_at v.files c.args.at.file) (place_at (map_at v.files c.args.at.file c.args.at.map) c.args.index)) c.self.view_is (
+      copy_shown s.store n,
+      copy_there s.store s.more s.list.files c.self.invariant.held c.args.at.file c.args.at.map c.args.index
+          (file_here c.self.view_is c.args.at.file c.requires.file) (map_here c.self.view_is c.args.at.file c.args.at.map c.requires.map)
+          c.index.result.now c.index.ensures c.map-map.result.now c.map-map.ensures n there,
+      held_once s.store s.more s.list.files c.self.invariant.held
+          c.args.at.file c.args.at.map c.args.index (file_here c.self.view_is c.args.at.file c.requires.file)
+          (map_here c.self.view_is c.args.at.file c.args.at.map c.requires.map) c.index.result.now c.index.ensures c.map-map.result.now
+          c.map-map.ensures n there true once,
+    )
 
 pub returns-else-holders-eq1-clause-state : goal.returns-else-holders-eq1-clause-state
 returns-else-holders-eq1-clause-state g c =
@@ -44,10 +61,21 @@ returns-else-holders-eq1-clause-state g c =
     let n = c.in-Some.number in
     let there = sym c.copy_at.ensures ∙ c.in-Some.is in
     let once : (holders_of (page_at s.store n) == 1) ≡ false = ap (λ x. x == 1) (sym c.holders.ensures.holders) ∙ grind (arith, nat_tests, c.if-holders-eq1.false) in
-    subst (λ (v : Files). IsCopyState state.HeldBySeveral (file_at v.files c.args.at.file) (place_at (map_at v.files c.args.at.file c.args.at.map) c.args.index)) c.self.view_is
-    (copy_shown s.store n, copy_there s.store s.more s.list.files c.self.invariant.held c.args.at.file c.args.at.map c.args.index (file_here c.self.view_is c.args.at.file c.requires.file) (map_here c.self.view_is c.args.at.file c.args.at.map c.requires.map) c.index.result.now c.index.ensures c.map-map.result.now c.map-map.ensures n there, held_once s.store s.more s.list.files c.self.invariant.held c.args.at.file c.args.at.map c.args.index (file_here c.self.view_is c.args.at.file c.requires.file) (map_here c.self.view_is c.args.at.file c.args.at.map c.requires.map) c.index.result.now c.index.ensures c.map-map.result.now c.map-map.ensures n there false once)
+    subst (λ (v : Files). IsCopyState state.HeldBySeveral (file_at v.files c.args.at.file) (place_at (map_at v.files c.args.at.file c.args.at.map) c.args.index)) c.self.view_is (
+      copy_shown s.store n,
+      copy_there s.store s.more s.list.files c.self.invariant.held c.args.at.file c.args.at.map c.args.index
+          (file_here c.self.view_is c.args.at.file c.requires.file) (map_here c.self.view_is c.args.at.file c.args.at.map c.requires.map)
+          c.index.result.now c.index.ensures c.map-map.result.now c.map-map.ensures n there,
+      held_once s.store s.more s.list.files c.self.invariant.held
+          c.args.at.file c.args.at.map c.args.index (file_here c.self.view_is c.args.at.file c.requires.file)
+          (map_here c.self.view_is c.args.at.file c.args.at.map c.requires.map) c.index.result.now c.index.ensures c.map-map.result.now
+          c.map-map.ensures n there false once,
+    )
 
 pub returns-else-holders-eq1-clause-few : goal.returns-else-holders-eq1-clause-few
 returns-else-holders-eq1-clause-few g c several =
     let s = c.self.inside in
-    subst (λ (v : Files). sum_by file_pages v.files + v.room ≤ 2 ^ 32) c.self.view_is (few_there s.store s.more s.list.files c.self.invariant.held c.args.at.file c.args.at.map c.args.index (file_here c.self.view_is c.args.at.file c.requires.file) (map_here c.self.view_is c.args.at.file c.args.at.map c.requires.map) c.index.result.now c.index.ensures c.holders.ensures.few)
+    subst (λ (v : Files). sum_by file_pages v.files + v.room ≤ 2 ^ 32) c.self.view_is
+    (few_there s.store s.more s.list.files c.self.invariant.held c.args.at.file c.args.at.map c.args.index
+    (file_here c.self.view_is c.args.at.file c.requires.file) (map_here c.self.view_is c.args.at.file c.args.at.map c.requires.map)
+    c.index.result.now c.index.ensures c.holders.ensures.few)

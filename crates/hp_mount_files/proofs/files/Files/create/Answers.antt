@@ -11,5 +11,8 @@ pub invariant_of-self-2 : goal.invariant_of-self-2
 invariant_of-self-2 g c =
     let s = c.self.inside in
     let bytes = c.in_ok-own.ensures.copy in
-    created s.hints c.note_file.new.self s.store s.more s.maps (count_of s.counts) s.list.files c.args.name.now c.self.invariant (subst (λ (v : Files). found (has_name c.args.name.now) v.files ≡ None) (sym c.self.view_is) c.requires.new) c.note_file.ensures.more (subst (λ n. has_noted n c.note_file.new.self ≡ true) (c.in_ok-key.ensures ∙ bytes) c.in_ok-note_file.ensures.noted)
-    c.new-3.result c.push.new.self.files (c.new-3.ensures ∙ ap (λ n. record { name = Some n; cells = []; maps = [] }) bytes) (c.push.ensures ∙ ap (λ xs. xs ++ c.new-3.result ∷ []) c.make_room.ensures.same)
+    created s.hints c.note_file.new.self s.store s.more s.maps (count_of s.counts) s.list.files c.args.name.now c.self.invariant
+    (subst (λ (v : Files). found (has_name c.args.name.now) v.files ≡ None) (sym c.self.view_is) c.requires.new) c.note_file.ensures.more
+    (subst (λ n. has_noted n c.note_file.new.self ≡ true) (c.in_ok-key.ensures ∙ bytes) c.in_ok-note_file.ensures.noted)
+    c.new-3.result c.push.new.self.files (c.new-3.ensures ∙ ap (λ n. record { name = Some n; cells = []; maps = [] }) bytes)
+    (c.push.ensures ∙ ap (λ xs. xs ++ c.new-3.result ∷ []) c.make_room.ensures.same)

@@ -18,7 +18,8 @@ returns-then-is_named-clause-some g c =
     let file = c.index.result.now in
     let own = λ (f : NumberedFile). has_label name (label_of f) in
     let within : c.loop-at.at < length files = omega (arith, c.loop-at-test.true, c.len-at-end.ensures) in
-    let at_is = position_or_len_is own files c.loop-at.at file (omega (arith, within)) (λ k less. c.loop-at.invariant k file less) (λ l. ap own (sym c.index.ensures) ∙ sym c.is_named.ensures ∙ c.if-is_named.true) in
+    let at_is = position_or_len_is own files c.loop-at.at file (omega (arith, within)) (λ k less. c.loop-at.invariant k file less)
+    (λ l. ap own (sym c.index.ensures) ∙ sym c.is_named.ensures ∙ c.if-is_named.true) in
     subst (λ (v : Files). IsNamed v.files name c.loop-at.at) c.self.view_is
     (subst (IsNamed _ name) at_is (named_first s.store files name (subst (λ n. n < length files) (sym at_is) within)))
 

@@ -32,7 +32,8 @@ loop-at-preserved g c =
     let files = c.self.inside.list.files in
     let file = c.index.result.now in
     let inv = c.loop-at.invariant in
-    let taken : take i files ++ file ∷ [] ≡ take (i + 1) files = ap (λ x. take i files ++ x ∷ []) c.index.ensures ∙ sym (take_more files i file (omega (arith, c.loop-at-test.true, c.len-at-end.ensures))) in
+    let taken : take i files ++ file ∷ [] ≡ take (i + 1) files = ap (λ x. take i files ++ x ∷ []) c.index.ensures
+    ∙ sym (take_more files i file (omega (arith, c.loop-at-test.true, c.len-at-end.ensures))) in
     elim c.match-name.branch [
       | in-Some+in_ok-copied w ↦
           let name = w.in-Some.name.now in

@@ -12,14 +12,16 @@ pub invariant_of-self : goal.invariant_of-self
 invariant_of-self g c =
     let s = c.self.inside in
     let k = c.args.file in
-    punch_keeps s.hints s.store c.punch.new.store s.more c.punch.new.more s.maps (count_of s.counts) s.list.files c.self.invariant k (subst (λ v. k < length v.files) (sym c.self.view_is) c.requires) c.index_mut-at.result.now c.punch.new.self c.index_mut-at.ensures.value
+    punch_keeps s.hints s.store c.punch.new.store s.more c.punch.new.more s.maps (count_of s.counts) s.list.files c.self.invariant k
+    (subst (λ v. k < length v.files) (sym c.self.view_is) c.requires) c.index_mut-at.result.now c.punch.new.self c.index_mut-at.ensures.value
     c.punch.ensures.dropping c.punch.ensures.counted c.args.a c.args.b c.punch.ensures.file
 
 pub returns-clause-files : goal.returns-clause-files
 returns-clause-files g c =
     let s = c.self.inside in
     let k = c.args.file in
-    punch_files s.hints s.store c.punch.new.store s.more c.punch.new.more s.maps (count_of s.counts) s.list.files c.self.invariant k (subst (λ v. k < length v.files) (sym c.self.view_is) c.requires) c.index_mut-at.result.now c.punch.new.self c.index_mut-at.ensures.value
+    punch_files s.hints s.store c.punch.new.store s.more c.punch.new.more s.maps (count_of s.counts) s.list.files c.self.invariant k
+    (subst (λ v. k < length v.files) (sym c.self.view_is) c.requires) c.index_mut-at.result.now c.punch.new.self c.index_mut-at.ensures.value
     c.punch.ensures.dropping c.punch.ensures.counted c.args.a c.args.b c.punch.ensures.file
     ∙ ap (λ (v : Files). edited_at k (punched c.args.a c.args.b (file_at v.files k)) v.files) c.self.view_is
 
@@ -28,5 +30,6 @@ returns-clause-left g c =
     let s = c.self.inside in
     let k = c.args.file in
     subst (λ v. IsLeft 0 v (view c.punch.new.store c.punch.new.more (slice_set s.list.files k c.punch.new.self))) c.self.view_is
-    (punch_left s.hints s.store c.punch.new.store s.more c.punch.new.more s.maps (count_of s.counts) s.list.files c.self.invariant k (subst (λ v. k < length v.files) (sym c.self.view_is) c.requires) c.index_mut-at.result.now c.punch.new.self c.index_mut-at.ensures.value
+    (punch_left s.hints s.store c.punch.new.store s.more c.punch.new.more s.maps (count_of s.counts) s.list.files c.self.invariant k
+    (subst (λ v. k < length v.files) (sym c.self.view_is) c.requires) c.index_mut-at.result.now c.punch.new.self c.index_mut-at.ensures.value
     c.punch.ensures.dropping c.punch.ensures.counted c.args.a c.args.b c.punch.ensures.file)

@@ -55,7 +55,8 @@ overflow_add-self g c =
 pub add_one-requires-clause-few : goal.add_one-requires-clause-few
 add_one-requires-clause-few g c =
     let s = c.self.inside in
-    let few = tally_few c.args.range.now.task s.hints s.store s.more s.maps (count_of s.counts) s.list.files c.self.invariant (subst (λ (v : Files). length (all_maps v.files) < 4096) (sym c.self.view_is) c.requires.maps) in
+    let few = tally_few c.args.range.now.task s.hints s.store s.more s.maps (count_of s.counts) s.list.files c.self.invariant
+    (subst (λ (v : Files). length (all_maps v.files) < 4096) (sym c.self.view_is) c.requires.maps) in
     let same = c.make_room-2.ensures.same c.args.range.now.task in
     omega (arith, few, same)
 
@@ -64,7 +65,8 @@ module _ (g : Over) (c : goal.After-add_one g) where
   file_is : c.add_map-added.new.self ≡ anon c.args.range.now.task c.args.next.number c.args.range.now.start c.args.range.now.pages c.args.range.now.sharing c.args.range.now.reserving
   file_is =
       let r = c.args.range.now in
-      c.in_default-added.ensures.ok ∙ ap (λ f. with_mapping c.entered_from.result c.in-Ok-mapping.map f) c.new-file.ensures ∙ ap (λ k. with_mapping k c.in-Ok-mapping.map nameless) c.entered_from.ensures.from
+      c.in_default-added.ensures.ok ∙ ap (λ f. with_mapping c.entered_from.result c.in-Ok-mapping.map f) c.new-file.ensures
+      ∙ ap (λ k. with_mapping k c.in-Ok-mapping.map nameless) c.entered_from.ensures.from
       ∙ ap (λ m. with_mapping (entered_from r.sharing r.reserving r.start r.pages) m nameless) c.in-Ok-mapping.ensures
 
   files_are : c.push.new.self.files ≡ c.self.inside.list.files ++ c.add_map-added.new.self ∷ []
@@ -80,12 +82,14 @@ invariant_of-self-2 g c =
     let numbers : List ℕ = numbers_of r.task (all_maps (files_shown s.store s.list.files)) in
     let number = subst (λ (v : Files). c.args.next.number ≡ next_of r.task v.files) (sym c.self.view_is) c.requires.number in
     let fresh = ap (λ n. is_among n numbers) number ∙ unused_is_new numbers in
-    anon_files r.task c.args.next.number r.start r.pages r.sharing r.reserving s.hints s.store s.more s.maps (count_of s.counts) s.list.files c.self.invariant c.add_map-added.new.self c.push.new.self.files (file_is g c) (files_are g c)
+    anon_files r.task c.args.next.number r.start r.pages r.sharing r.reserving s.hints s.store s.more s.maps (count_of s.counts) s.list.files
+    c.self.invariant c.add_map-added.new.self c.push.new.self.files (file_is g c) (files_are g c)
     fresh c.note_map.new.self (more_then s.hints c.reserve.new.self c.note_map.new.self c.reserve.ensures.more c.note_map.ensures.more) (search rules) (count_of c.add_one.new.self) (one_more g c)
 
 pub returns-clause-ok : goal.returns-clause-ok
 returns-clause-ok g c =
     let s = c.self.inside in
     let r = c.args.range.now in
-    anon_view r.task c.args.next.number r.start r.pages r.sharing r.reserving s.hints s.store s.more s.maps (count_of s.counts) s.list.files c.self.invariant c.add_map-added.new.self c.push.new.self.files (file_is g c) (files_are g c)
+    anon_view r.task c.args.next.number r.start r.pages r.sharing r.reserving s.hints s.store s.more s.maps (count_of s.counts) s.list.files
+    c.self.invariant c.add_map-added.new.self c.push.new.self.files (file_is g c) (files_are g c)
     ∙ ap (λ (v : Files). record v { files = v.files ++ mapped r.task c.args.next.number r.start r.pages r.sharing r.reserving (new_file None) ∷ [] }) c.self.view_is

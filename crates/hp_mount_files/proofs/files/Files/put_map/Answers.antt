@@ -55,7 +55,8 @@ overflow_add-self g c =
 pub add_one-requires-clause-few : goal.add_one-requires-clause-few
 add_one-requires-clause-few g c =
     let s = c.self.inside in
-    let few = tally_few c.args.range.now.task s.hints s.store s.more s.maps (count_of s.counts) s.list.files c.self.invariant (subst (λ (v : Files). length (all_maps v.files) < 4096) (sym c.self.view_is) c.requires.maps) in
+    let few = tally_few c.args.range.now.task s.hints s.store s.more s.maps (count_of s.counts) s.list.files c.self.invariant
+    (subst (λ (v : Files). length (all_maps v.files) < 4096) (sym c.self.view_is) c.requires.maps) in
     let same = c.make_room.ensures.same c.args.range.now.task in
     omega (arith, few, same)
 
@@ -69,7 +70,8 @@ module _ (g : Over) (c : goal.After-add_one g) where
       ∙ ap (λ m. with_mapping (entered_from r.sharing r.reserving r.start r.pages) m c.index_mut-at.result.now) c.in-Ok-mapping.ensures
 
   within : c.args.file < length c.self.inside.list.files
-  within = (let same = files_len c.self.inside.store c.self.inside.list.files in let inside = subst (λ (v : Files). c.args.file < length v.files) (sym c.self.view_is) c.requires.file in omega (arith, same, inside))
+  within = (let same = files_len c.self.inside.store c.self.inside.list.files in
+      let inside = subst (λ (v : Files). c.args.file < length v.files) (sym c.self.view_is) c.requires.file in omega (arith, same, inside))
 
   one_more : (q : ℕ) → (count_of c.add_one.new.self) q ≡ (count_of c.self.inside.counts) q + cond (c.args.range.now.task == q) 1 0
   one_more q = c.add_one.ensures q ∙ ap (λ n. n + cond (c.args.range.now.task == q) 1 0) (c.make_room.ensures.same q)
@@ -81,12 +83,14 @@ invariant_of-self-2 g c =
     let numbers : List ℕ = numbers_of r.task (all_maps (files_shown s.store s.list.files)) in
     let number = subst (λ (v : Files). c.args.next.number ≡ next_of r.task v.files) (sym c.self.view_is) c.requires.number in
     let fresh = ap (λ n. is_among n numbers) number ∙ unused_is_new numbers in
-    map_files r.task c.args.next.number r.start r.pages r.sharing r.reserving s.hints s.store s.more s.maps (count_of s.counts) s.list.files c.args.file c.self.invariant (within g c) c.index_mut-at.result.now c.add_map.new.self c.index_mut-at.ensures.value (range_is g c)
+    map_files r.task c.args.next.number r.start r.pages r.sharing r.reserving s.hints s.store s.more s.maps (count_of s.counts) s.list.files
+    c.args.file c.self.invariant (within g c) c.index_mut-at.result.now c.add_map.new.self c.index_mut-at.ensures.value (range_is g c)
     fresh c.note_map.new.self (more_then s.hints c.reserve.new.self c.note_map.new.self c.reserve.ensures.more c.note_map.ensures.more) (search rules) (count_of c.add_one.new.self) (one_more g c)
 
 pub returns-clause-ok : goal.returns-clause-ok
 returns-clause-ok g c =
     let s = c.self.inside in
     let r = c.args.range.now in
-    map_view r.task c.args.next.number r.start r.pages r.sharing r.reserving s.hints s.store s.more s.maps (count_of s.counts) s.list.files c.args.file c.self.invariant (within g c) c.index_mut-at.result.now c.add_map.new.self c.index_mut-at.ensures.value (range_is g c)
+    map_view r.task c.args.next.number r.start r.pages r.sharing r.reserving s.hints s.store s.more s.maps (count_of s.counts) s.list.files
+    c.args.file c.self.invariant (within g c) c.index_mut-at.result.now c.add_map.new.self c.index_mut-at.ensures.value (range_is g c)
     ∙ ap (λ (v : Files). with_file_at c.args.file (mapped r.task c.args.next.number r.start r.pages r.sharing r.reserving (file_at v.files c.args.file)) v) c.self.view_is

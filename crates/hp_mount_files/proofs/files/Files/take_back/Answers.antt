@@ -20,12 +20,19 @@ invariant_of-self g c =
     let s = c.self.inside in
     let found = some_value (copy_of (place_at (map_at c.args.self.now.files c.args.at.file c.args.at.map) c.args.index)) c.requires.copy in
     let there = ap (λ (v : Files). copy_of (place_at (map_at v.files c.args.at.file c.args.at.map) c.args.index)) c.self.view_is ∙ found.1 in
-    back_keeps s.hints s.store c.take_back.new.store s.more c.take_back.new.more s.maps (count_of s.counts) s.list.files c.self.invariant c.args.at.file c.args.at.map c.args.index (file_here c.self.view_is c.args.at.file c.requires.file) (map_here c.self.view_is c.args.at.file c.args.at.map c.requires.map) c.index_mut-file.result.now c.take_back.new.self c.index_mut-file.ensures.value c.take_back.ensures.file c.take_back.ensures.dropping c.take_back.ensures.counted found.0 there
+    back_keeps s.hints s.store c.take_back.new.store s.more c.take_back.new.more s.maps (count_of s.counts) s.list.files c.self.invariant
+    c.args.at.file c.args.at.map c.args.index (file_here c.self.view_is c.args.at.file c.requires.file)
+    (map_here c.self.view_is c.args.at.file c.args.at.map c.requires.map) c.index_mut-file.result.now c.take_back.new.self
+    c.index_mut-file.ensures.value c.take_back.ensures.file c.take_back.ensures.dropping c.take_back.ensures.counted found.0 there
 
 pub returns-clause-files : goal.returns-clause-files
 returns-clause-files g c copy there =
     let s = c.self.inside in
-    back_files s.hints s.store c.take_back.new.store s.more c.take_back.new.more s.maps (count_of s.counts) s.list.files c.self.invariant c.args.at.file c.args.at.map c.args.index (file_here c.self.view_is c.args.at.file c.requires.file) (map_here c.self.view_is c.args.at.file c.args.at.map c.requires.map) c.index_mut-file.result.now c.take_back.new.self c.index_mut-file.ensures.value c.take_back.ensures.file c.take_back.ensures.dropping c.take_back.ensures.counted copy (ap (λ (v : Files). copy_of (place_at (map_at v.files c.args.at.file c.args.at.map) c.args.index)) c.self.view_is ∙ there)
+    back_files s.hints s.store c.take_back.new.store s.more c.take_back.new.more s.maps (count_of s.counts) s.list.files c.self.invariant
+    c.args.at.file c.args.at.map c.args.index (file_here c.self.view_is c.args.at.file c.requires.file)
+    (map_here c.self.view_is c.args.at.file c.args.at.map c.requires.map) c.index_mut-file.result.now c.take_back.new.self
+    c.index_mut-file.ensures.value c.take_back.ensures.file c.take_back.ensures.dropping c.take_back.ensures.counted copy
+    (ap (λ (v : Files). copy_of (place_at (map_at v.files c.args.at.file c.args.at.map) c.args.index)) c.self.view_is ∙ there)
     ∙ ap (λ (v : Files). taken_back_at c.args.at.file c.args.at.map copy.stamp v.files) c.self.view_is
 
 pub returns-clause-left : goal.returns-clause-left
@@ -34,11 +41,17 @@ returns-clause-left g c =
     let found = some_value (copy_of (place_at (map_at c.args.self.now.files c.args.at.file c.args.at.map) c.args.index)) c.requires.copy in
     let there = ap (λ (v : Files). copy_of (place_at (map_at v.files c.args.at.file c.args.at.map) c.args.index)) c.self.view_is ∙ found.1 in
     subst (λ v. IsLeft 0 v (view c.take_back.new.store c.take_back.new.more (slice_set s.list.files c.args.at.file c.take_back.new.self))) c.self.view_is
-    (back_left s.hints s.store c.take_back.new.store s.more c.take_back.new.more s.maps (count_of s.counts) s.list.files c.self.invariant c.args.at.file c.args.at.map c.args.index (file_here c.self.view_is c.args.at.file c.requires.file) (map_here c.self.view_is c.args.at.file c.args.at.map c.requires.map) c.index_mut-file.result.now c.take_back.new.self c.index_mut-file.ensures.value c.take_back.ensures.file c.take_back.ensures.dropping c.take_back.ensures.counted found.0 there)
+    (back_left s.hints s.store c.take_back.new.store s.more c.take_back.new.more s.maps (count_of s.counts) s.list.files c.self.invariant
+    c.args.at.file c.args.at.map c.args.index (file_here c.self.view_is c.args.at.file c.requires.file)
+    (map_here c.self.view_is c.args.at.file c.args.at.map c.requires.map) c.index_mut-file.result.now c.take_back.new.self
+    c.index_mut-file.ensures.value c.take_back.ensures.file c.take_back.ensures.dropping c.take_back.ensures.counted found.0 there)
 
 pub returns-clause-once : goal.returns-clause-once
 returns-clause-once g c =
     let s = c.self.inside in
     let found = some_value (copy_of (place_at (map_at c.args.self.now.files c.args.at.file c.args.at.map) c.args.index)) c.requires.copy in
     let there = ap (λ (v : Files). copy_of (place_at (map_at v.files c.args.at.file c.args.at.map) c.args.index)) c.self.view_is ∙ found.1 in
-    back_once s.hints s.store c.take_back.new.store s.more c.take_back.new.more s.maps (count_of s.counts) s.list.files c.self.invariant c.args.at.file c.args.at.map c.args.index (file_here c.self.view_is c.args.at.file c.requires.file) (map_here c.self.view_is c.args.at.file c.args.at.map c.requires.map) c.index_mut-file.result.now c.take_back.new.self c.index_mut-file.ensures.value c.take_back.ensures.file c.take_back.ensures.dropping c.take_back.ensures.counted found.0 there
+    back_once s.hints s.store c.take_back.new.store s.more c.take_back.new.more s.maps (count_of s.counts) s.list.files c.self.invariant
+    c.args.at.file c.args.at.map c.args.index (file_here c.self.view_is c.args.at.file c.requires.file)
+    (map_here c.self.view_is c.args.at.file c.args.at.map c.requires.map) c.index_mut-file.result.now c.take_back.new.self
+    c.index_mut-file.ensures.value c.take_back.ensures.file c.take_back.ensures.dropping c.take_back.ensures.counted found.0 there

@@ -12,14 +12,18 @@ pub invariant_of-self : goal.invariant_of-self
 invariant_of-self g c =
     let s = c.self.inside in
     let k = c.args.file in
-    cut_keeps s.hints s.store c.truncate.new.store s.more c.truncate.new.more s.maps (count_of s.counts) s.list.files c.self.invariant k (subst (λ v. k < length v.files) (sym c.self.view_is) c.requires.file) c.index_mut-at.result.now c.truncate.new.self c.index_mut-at.ensures.value
+    cut_keeps s.hints s.store c.truncate.new.store s.more c.truncate.new.more s.maps (count_of s.counts) s.list.files c.self.invariant k
+    (subst (λ v. k < length v.files) (sym c.self.view_is) c.requires.file) c.index_mut-at.result.now c.truncate.new.self
+    c.index_mut-at.ensures.value
     c.truncate.ensures.dropping c.truncate.ensures.counted c.args.pages c.truncate.result c.truncate.ensures.file c.truncate.ensures.entries
 
 pub returns-clause-files : goal.returns-clause-files
 returns-clause-files g c =
     let s = c.self.inside in
     let k = c.args.file in
-    cut_files s.hints s.store c.truncate.new.store s.more c.truncate.new.more s.maps (count_of s.counts) s.list.files c.self.invariant k (subst (λ v. k < length v.files) (sym c.self.view_is) c.requires.file) c.index_mut-at.result.now c.truncate.new.self c.index_mut-at.ensures.value
+    cut_files s.hints s.store c.truncate.new.store s.more c.truncate.new.more s.maps (count_of s.counts) s.list.files c.self.invariant k
+    (subst (λ v. k < length v.files) (sym c.self.view_is) c.requires.file) c.index_mut-at.result.now c.truncate.new.self
+    c.index_mut-at.ensures.value
     c.truncate.ensures.dropping c.truncate.ensures.counted c.args.pages c.truncate.result c.truncate.ensures.file c.truncate.ensures.entries
     ∙ ap (λ (v : Files). edited_at k (truncated c.args.pages (file_at v.files k)) v.files) c.self.view_is
 
@@ -28,5 +32,7 @@ returns-clause-left g c =
     let s = c.self.inside in
     let k = c.args.file in
     subst (λ v. IsLeft c.truncate.result v (view c.truncate.new.store c.truncate.new.more (slice_set s.list.files k c.truncate.new.self))) c.self.view_is
-    (cut_left s.hints s.store c.truncate.new.store s.more c.truncate.new.more s.maps (count_of s.counts) s.list.files c.self.invariant k (subst (λ v. k < length v.files) (sym c.self.view_is) c.requires.file) c.index_mut-at.result.now c.truncate.new.self c.index_mut-at.ensures.value
+    (cut_left s.hints s.store c.truncate.new.store s.more c.truncate.new.more s.maps (count_of s.counts) s.list.files c.self.invariant k
+    (subst (λ v. k < length v.files) (sym c.self.view_is) c.requires.file) c.index_mut-at.result.now c.truncate.new.self
+    c.index_mut-at.ensures.value
     c.truncate.ensures.dropping c.truncate.ensures.counted c.args.pages c.truncate.result c.truncate.ensures.file c.truncate.ensures.entries)

@@ -13,44 +13,59 @@ pub invariant_of-self : goal.invariant_of-self
 invariant_of-self g c =
     let s = c.self.inside in
     let k = c.args.file in
-    let same = same_maps s.store s.list.files k c.args.name.now (subst (λ v. IsNamed v.files c.args.name.now k) (sym c.self.view_is) c.requires) c.index.result.now c.index_mut-at.result.now c.index.ensures c.index_mut-at.ensures.value in
+    let same = same_maps s.store s.list.files k c.args.name.now (subst (λ v. IsNamed v.files c.args.name.now k) (sym c.self.view_is) c.requires)
+    c.index.result.now c.index_mut-at.result.now c.index.ensures c.index_mut-at.ensures.value in
     let some : 0 < length c.index_mut-at.result.now.maps = omega (arith, same, c.map_count.ensures, c.if-map_count-gt0.true) in
-    named_keeps s.hints c.forget_file.new.self c.args.name.now c.forget_file.ensures s.store s.more s.maps (count_of s.counts) s.list.files c.self.invariant k (subst (λ v. IsNamed v.files c.args.name.now k) (sym c.self.view_is) c.requires) c.index_mut-at.result.now c.index_mut-at.ensures.value c.drop_name.new.self c.drop_name.ensures some
+    named_keeps s.hints c.forget_file.new.self c.args.name.now c.forget_file.ensures s.store s.more s.maps (count_of s.counts) s.list.files
+    c.self.invariant k (subst (λ v. IsNamed v.files c.args.name.now k) (sym c.self.view_is) c.requires) c.index_mut-at.result.now
+    c.index_mut-at.ensures.value c.drop_name.new.self c.drop_name.ensures some
 
 pub returns-then-map_count-gt0-clause-files : goal.returns-then-map_count-gt0-clause-files
 returns-then-map_count-gt0-clause-files g c =
     let s = c.self.inside in
     let k = c.args.file in
-    let same = same_maps s.store s.list.files k c.args.name.now (subst (λ v. IsNamed v.files c.args.name.now k) (sym c.self.view_is) c.requires) c.index.result.now c.index_mut-at.result.now c.index.ensures c.index_mut-at.ensures.value in
+    let same = same_maps s.store s.list.files k c.args.name.now (subst (λ v. IsNamed v.files c.args.name.now k) (sym c.self.view_is) c.requires)
+    c.index.result.now c.index_mut-at.result.now c.index.ensures c.index_mut-at.ensures.value in
     let some : 0 < length c.index_mut-at.result.now.maps = omega (arith, same, c.map_count.ensures, c.if-map_count-gt0.true) in
-    named_files s.hints c.forget_file.new.self c.args.name.now c.forget_file.ensures s.store s.more s.maps (count_of s.counts) s.list.files c.self.invariant k (subst (λ v. IsNamed v.files c.args.name.now k) (sym c.self.view_is) c.requires) c.index_mut-at.result.now c.index_mut-at.ensures.value c.drop_name.new.self c.drop_name.ensures some
+    named_files s.hints c.forget_file.new.self c.args.name.now c.forget_file.ensures s.store s.more s.maps (count_of s.counts) s.list.files
+    c.self.invariant k (subst (λ v. IsNamed v.files c.args.name.now k) (sym c.self.view_is) c.requires) c.index_mut-at.result.now
+    c.index_mut-at.ensures.value c.drop_name.new.self c.drop_name.ensures some
     ∙ ap (λ (v : Files). edited_at k (unlinked (file_at v.files k)) v.files) c.self.view_is
 
 pub returns-then-map_count-gt0-clause-left : goal.returns-then-map_count-gt0-clause-left
 returns-then-map_count-gt0-clause-left g c =
     let s = c.self.inside in
     let k = c.args.file in
-    let same = same_maps s.store s.list.files k c.args.name.now (subst (λ v. IsNamed v.files c.args.name.now k) (sym c.self.view_is) c.requires) c.index.result.now c.index_mut-at.result.now c.index.ensures c.index_mut-at.ensures.value in
+    let same = same_maps s.store s.list.files k c.args.name.now (subst (λ v. IsNamed v.files c.args.name.now k) (sym c.self.view_is) c.requires)
+    c.index.result.now c.index_mut-at.result.now c.index.ensures c.index_mut-at.ensures.value in
     let some : 0 < length c.index_mut-at.result.now.maps = omega (arith, same, c.map_count.ensures, c.if-map_count-gt0.true) in
     subst (λ v. IsLeft 0 v (view s.store s.more (slice_set s.list.files k c.drop_name.new.self))) c.self.view_is
-    (named_left s.hints c.forget_file.new.self c.args.name.now c.forget_file.ensures s.store s.more s.maps (count_of s.counts) s.list.files c.self.invariant k (subst (λ v. IsNamed v.files c.args.name.now k) (sym c.self.view_is) c.requires) c.index_mut-at.result.now c.index_mut-at.ensures.value c.drop_name.new.self c.drop_name.ensures some)
+    (named_left s.hints c.forget_file.new.self c.args.name.now c.forget_file.ensures s.store s.more s.maps (count_of s.counts) s.list.files
+    c.self.invariant k (subst (λ v. IsNamed v.files c.args.name.now k) (sym c.self.view_is) c.requires) c.index_mut-at.result.now
+    c.index_mut-at.ensures.value c.drop_name.new.self c.drop_name.ensures some)
 
 pub invariant_of-self-2 : goal.invariant_of-self-2
 invariant_of-self-2 g c =
     let s = c.self.inside in
     let k = c.args.file in
-    let same = same_maps s.store s.list.files k c.args.name.now (subst (λ v. IsNamed v.files c.args.name.now k) (sym c.self.view_is) c.requires) c.index.result.now c.remove-gone.result c.index.ensures c.remove-gone.ensures.value in
+    let same = same_maps s.store s.list.files k c.args.name.now (subst (λ v. IsNamed v.files c.args.name.now k) (sym c.self.view_is) c.requires)
+    c.index.result.now c.remove-gone.result c.index.ensures c.remove-gone.ensures.value in
     let bare : length c.remove-gone.result.maps ≡ 0 = omega (arith, same, c.map_count.ensures, c.if-map_count-gt0.false) in
-    gone_keeps s.hints c.forget_file.new.self c.args.name.now c.forget_file.ensures s.store s.more s.maps (count_of s.counts) s.list.files c.self.invariant k (subst (λ v. IsNamed v.files c.args.name.now k) (sym c.self.view_is) c.requires) c.remove-gone.result c.remove-gone.ensures.value
+    gone_keeps s.hints c.forget_file.new.self c.args.name.now c.forget_file.ensures s.store s.more s.maps (count_of s.counts) s.list.files
+    c.self.invariant k (subst (λ v. IsNamed v.files c.args.name.now k) (sym c.self.view_is) c.requires) c.remove-gone.result
+    c.remove-gone.ensures.value
     c.close.new.store c.close.new.more c.close.result c.remove-gone.new.self.files c.remove-gone.ensures.files bare c.close.ensures.dropping c.close.ensures.counted c.close.ensures.entries
 
 pub returns-clause-files : goal.returns-clause-files
 returns-clause-files g c =
     let s = c.self.inside in
     let k = c.args.file in
-    let same = same_maps s.store s.list.files k c.args.name.now (subst (λ v. IsNamed v.files c.args.name.now k) (sym c.self.view_is) c.requires) c.index.result.now c.remove-gone.result c.index.ensures c.remove-gone.ensures.value in
+    let same = same_maps s.store s.list.files k c.args.name.now (subst (λ v. IsNamed v.files c.args.name.now k) (sym c.self.view_is) c.requires)
+    c.index.result.now c.remove-gone.result c.index.ensures c.remove-gone.ensures.value in
     let bare : length c.remove-gone.result.maps ≡ 0 = omega (arith, same, c.map_count.ensures, c.if-map_count-gt0.false) in
-    gone_files s.hints c.forget_file.new.self c.args.name.now c.forget_file.ensures s.store s.more s.maps (count_of s.counts) s.list.files c.self.invariant k (subst (λ v. IsNamed v.files c.args.name.now k) (sym c.self.view_is) c.requires) c.remove-gone.result c.remove-gone.ensures.value
+    gone_files s.hints c.forget_file.new.self c.args.name.now c.forget_file.ensures s.store s.more s.maps (count_of s.counts) s.list.files
+    c.self.invariant k (subst (λ v. IsNamed v.files c.args.name.now k) (sym c.self.view_is) c.requires) c.remove-gone.result
+    c.remove-gone.ensures.value
     c.close.new.store c.close.new.more c.close.result c.remove-gone.new.self.files c.remove-gone.ensures.files bare c.close.ensures.dropping c.close.ensures.counted c.close.ensures.entries
     ∙ ap (λ (v : Files). edited_at k (unlinked (file_at v.files k)) v.files) c.self.view_is
 
@@ -58,8 +73,11 @@ pub returns-clause-left : goal.returns-clause-left
 returns-clause-left g c =
     let s = c.self.inside in
     let k = c.args.file in
-    let same = same_maps s.store s.list.files k c.args.name.now (subst (λ v. IsNamed v.files c.args.name.now k) (sym c.self.view_is) c.requires) c.index.result.now c.remove-gone.result c.index.ensures c.remove-gone.ensures.value in
+    let same = same_maps s.store s.list.files k c.args.name.now (subst (λ v. IsNamed v.files c.args.name.now k) (sym c.self.view_is) c.requires)
+    c.index.result.now c.remove-gone.result c.index.ensures c.remove-gone.ensures.value in
     let bare : length c.remove-gone.result.maps ≡ 0 = omega (arith, same, c.map_count.ensures, c.if-map_count-gt0.false) in
     subst (λ v. IsLeft c.close.result v (view c.close.new.store c.close.new.more c.remove-gone.new.self.files)) c.self.view_is
-    (gone_left s.hints c.forget_file.new.self c.args.name.now c.forget_file.ensures s.store s.more s.maps (count_of s.counts) s.list.files c.self.invariant k (subst (λ v. IsNamed v.files c.args.name.now k) (sym c.self.view_is) c.requires) c.remove-gone.result c.remove-gone.ensures.value
+    (gone_left s.hints c.forget_file.new.self c.args.name.now c.forget_file.ensures s.store s.more s.maps (count_of s.counts) s.list.files
+    c.self.invariant k (subst (λ v. IsNamed v.files c.args.name.now k) (sym c.self.view_is) c.requires) c.remove-gone.result
+    c.remove-gone.ensures.value
     c.close.new.store c.close.new.more c.close.result c.remove-gone.new.self.files c.remove-gone.ensures.files bare c.close.ensures.dropping c.close.ensures.counted c.close.ensures.entries)

@@ -50,7 +50,8 @@ module _ (g : Over) (c : After-unmap-gone g) where
 pub unmap-gone-requires-clause-held : goal.unmap-gone-requires-clause-held
 unmap-gone-requires-clause-held g c n =
     let s = c.self.inside in
-    let found : IsFound (files_shown s.store s.list.files) c.args.task c.args.number c.args.at.file c.args.at.map = subst (λ (v : Files). IsFound v.files c.args.task c.args.number c.args.at.file c.args.at.map) (sym c.self.view_is) c.requires.found in
+    let found : IsFound (files_shown s.store s.list.files) c.args.task c.args.number c.args.at.file c.args.at.map =
+    subst (λ (v : Files). IsFound v.files c.args.task c.args.number c.args.at.file c.args.at.map) (sym c.self.view_is) c.requires.found in
     let inside : c.args.at.file < length s.list.files = omega (arith, found.file_within, files_len s.store s.list.files) in
     let part = get_or-le-sum_by (in_file n) s.list.files c.args.at.file c.index_mut-file.result.now inside in
     let its = ap (in_file n) c.index_mut-file.ensures.value in
@@ -63,7 +64,9 @@ invariant_of-self g c =
     let s = c.self.inside in
     let one = c.unmap-gone in
     let mapped = stays g found c.if-gone-eq0.true in
-    stays_keeps s.hints s.hints s.store one.new.store s.more one.new.more s.maps (count_of s.counts) s.list.files c.self.invariant c.args.task c.args.number c.args.a c.args.b c.args.at.file c.args.at.map (there g found) c.index_mut-file.result.now one.new.self c.index_mut-file.ensures.value one.ensures.file one.ensures.dropping one.result.reserves one.ensures.reserves mapped one.ensures.counted
+    stays_keeps s.hints s.hints s.store one.new.store s.more one.new.more s.maps (count_of s.counts) s.list.files c.self.invariant c.args.task
+    c.args.number c.args.a c.args.b c.args.at.file c.args.at.map (there g found) c.index_mut-file.result.now one.new.self
+    c.index_mut-file.ensures.value one.ensures.file one.ensures.dropping one.result.reserves one.ensures.reserves mapped one.ensures.counted
 
 pub returns-then-gone-eq0-clause-files : goal.returns-then-gone-eq0-clause-files
 returns-then-gone-eq0-clause-files g c =
@@ -71,7 +74,9 @@ returns-then-gone-eq0-clause-files g c =
     let s = c.self.inside in
     let one = c.unmap-gone in
     let mapped = stays g found c.if-gone-eq0.true in
-    stays_files s.hints s.hints s.store one.new.store s.more one.new.more s.maps (count_of s.counts) s.list.files c.self.invariant c.args.task c.args.number c.args.a c.args.b c.args.at.file c.args.at.map (there g found) c.index_mut-file.result.now one.new.self c.index_mut-file.ensures.value one.ensures.file one.ensures.dropping one.result.reserves one.ensures.reserves mapped one.ensures.counted
+    stays_files s.hints s.hints s.store one.new.store s.more one.new.more s.maps (count_of s.counts) s.list.files c.self.invariant c.args.task
+    c.args.number c.args.a c.args.b c.args.at.file c.args.at.map (there g found) c.index_mut-file.result.now one.new.self
+    c.index_mut-file.ensures.value one.ensures.file one.ensures.dropping one.result.reserves one.ensures.reserves mapped one.ensures.counted
     ∙ ap (λ (v : Files). filter is_kept (map (file_unmapped (is_map c.args.task c.args.number) c.args.a c.args.b) v.files)) c.self.view_is
 
 pub returns-then-gone-eq0-clause-left : goal.returns-then-gone-eq0-clause-left
@@ -81,7 +86,9 @@ returns-then-gone-eq0-clause-left g c =
     let one = c.unmap-gone in
     let mapped = stays g found c.if-gone-eq0.true in
     subst (λ v. IsLeft one.result.reserves v (view one.new.store one.new.more (slice_set s.list.files c.args.at.file one.new.self))) c.self.view_is
-    (stays_left s.hints s.hints s.store one.new.store s.more one.new.more s.maps (count_of s.counts) s.list.files c.self.invariant c.args.task c.args.number c.args.a c.args.b c.args.at.file c.args.at.map (there g found) c.index_mut-file.result.now one.new.self c.index_mut-file.ensures.value one.ensures.file one.ensures.dropping one.result.reserves one.ensures.reserves mapped one.ensures.counted)
+    (stays_left s.hints s.hints s.store one.new.store s.more one.new.more s.maps (count_of s.counts) s.list.files c.self.invariant c.args.task
+    c.args.number c.args.a c.args.b c.args.at.file c.args.at.map (there g found) c.index_mut-file.result.now one.new.self
+    c.index_mut-file.ensures.value one.ensures.file one.ensures.dropping one.result.reserves one.ensures.reserves mapped one.ensures.counted)
 
 pub sweep_file-entries-requires-clause-held : goal.sweep_file-entries-requires-clause-held
 sweep_file-entries-requires-clause-held g c =
@@ -89,7 +96,9 @@ sweep_file-entries-requires-clause-held g c =
     let s = c.self.inside in
     let one = c.unmap-gone in
     let mapped = goes g found c.if-gone-eq0.false in
-    enough_held s.hints s.hints s.store one.new.store s.more one.new.more s.maps (count_of s.counts) s.list.files c.self.invariant c.args.task c.args.number c.args.a c.args.b c.args.at.file c.args.at.map (there g found) c.index_mut-file.result.now one.new.self c.index_mut-file.ensures.value one.ensures.file one.ensures.dropping one.result.reserves one.ensures.reserves mapped
+    enough_held s.hints s.hints s.store one.new.store s.more one.new.more s.maps (count_of s.counts) s.list.files c.self.invariant c.args.task
+    c.args.number c.args.a c.args.b c.args.at.file c.args.at.map (there g found) c.index_mut-file.result.now one.new.self
+    c.index_mut-file.ensures.value one.ensures.file one.ensures.dropping one.result.reserves one.ensures.reserves mapped
 
 pub overflow_sub-self : goal.overflow_sub-self
 overflow_sub-self g c =
@@ -97,7 +106,9 @@ overflow_sub-self g c =
     let s = c.self.inside in
     let one = c.unmap-gone in
     let mapped = goes g found c.if-gone-eq0.false in
-    some_maps s.hints s.hints s.store one.new.store s.more one.new.more s.maps (count_of s.counts) s.list.files c.self.invariant c.args.task c.args.number c.args.a c.args.b c.args.at.file c.args.at.map (there g found) c.index_mut-file.result.now one.new.self c.index_mut-file.ensures.value one.ensures.file one.ensures.dropping one.result.reserves one.ensures.reserves mapped
+    some_maps s.hints s.hints s.store one.new.store s.more one.new.more s.maps (count_of s.counts) s.list.files c.self.invariant c.args.task
+    c.args.number c.args.a c.args.b c.args.at.file c.args.at.map (there g found) c.index_mut-file.result.now one.new.self
+    c.index_mut-file.ensures.value one.ensures.file one.ensures.dropping one.result.reserves one.ensures.reserves mapped
 
 pub overflow_add-result : goal.overflow_add-result
 overflow_add-result g c =
@@ -106,7 +117,11 @@ overflow_add-result g c =
     let one = c.unmap-gone in
     let mapped = goes g found c.if-gone-eq0.false in
     let last = c.sweep_file-entries in
-    let few = few_reserves s.hints c.forget_map.new.self s.store one.new.store s.more one.new.more s.maps (count_of s.counts) s.list.files c.self.invariant c.args.task c.args.number c.args.a c.args.b c.args.at.file c.args.at.map (there g found) c.index_mut-file.result.now one.new.self c.index_mut-file.ensures.value one.ensures.file one.ensures.dropping one.result.reserves one.ensures.reserves mapped last.new.store last.new.more last.new.files.files last.ensures.files last.ensures.dropping last.ensures.counted last.result last.ensures.reserves (few g found) in
+    let few = few_reserves s.hints c.forget_map.new.self s.store one.new.store s.more one.new.more s.maps (count_of s.counts) s.list.files
+    c.self.invariant c.args.task c.args.number c.args.a c.args.b c.args.at.file c.args.at.map (there g found) c.index_mut-file.result.now
+    one.new.self c.index_mut-file.ensures.value one.ensures.file one.ensures.dropping one.result.reserves one.ensures.reserves mapped
+    last.new.store last.new.more last.new.files.files last.ensures.files last.ensures.dropping last.ensures.counted last.result
+    last.ensures.reserves (few g found) in
     omega (arith, few)
 
 pub invariant_of-self-2 : goal.invariant_of-self-2
@@ -116,7 +131,11 @@ invariant_of-self-2 g c =
     let one = c.unmap-gone in
     let mapped = goes g found c.if-gone-eq0.false in
     let last = c.sweep_file-entries in
-    went_keeps s.hints c.forget_map.new.self s.store one.new.store s.more one.new.more s.maps (count_of s.counts) s.list.files c.self.invariant c.args.task c.args.number c.args.a c.args.b c.args.at.file c.args.at.map (there g found) c.index_mut-file.result.now one.new.self c.index_mut-file.ensures.value one.ensures.file one.ensures.dropping one.result.reserves one.ensures.reserves mapped last.new.store last.new.more last.new.files.files last.ensures.files last.ensures.dropping last.ensures.counted last.result last.ensures.reserves (few g found)
+    went_keeps s.hints c.forget_map.new.self s.store one.new.store s.more one.new.more s.maps (count_of s.counts) s.list.files c.self.invariant
+    c.args.task c.args.number c.args.a c.args.b c.args.at.file c.args.at.map (there g found) c.index_mut-file.result.now one.new.self
+    c.index_mut-file.ensures.value one.ensures.file one.ensures.dropping one.result.reserves one.ensures.reserves mapped last.new.store
+    last.new.more last.new.files.files last.ensures.files last.ensures.dropping last.ensures.counted last.result last.ensures.reserves
+    (few g found)
     c.forget_map.ensures (count_of c.remove_one.new.self) c.remove_one.ensures
 
 pub returns-clause-files : goal.returns-clause-files
@@ -126,7 +145,11 @@ returns-clause-files g c =
     let one = c.unmap-gone in
     let mapped = goes g found c.if-gone-eq0.false in
     let last = c.sweep_file-entries in
-    went_files s.hints c.forget_map.new.self s.store one.new.store s.more one.new.more s.maps (count_of s.counts) s.list.files c.self.invariant c.args.task c.args.number c.args.a c.args.b c.args.at.file c.args.at.map (there g found) c.index_mut-file.result.now one.new.self c.index_mut-file.ensures.value one.ensures.file one.ensures.dropping one.result.reserves one.ensures.reserves mapped last.new.store last.new.more last.new.files.files last.ensures.files last.ensures.dropping last.ensures.counted last.result last.ensures.reserves (few g found)
+    went_files s.hints c.forget_map.new.self s.store one.new.store s.more one.new.more s.maps (count_of s.counts) s.list.files c.self.invariant
+    c.args.task c.args.number c.args.a c.args.b c.args.at.file c.args.at.map (there g found) c.index_mut-file.result.now one.new.self
+    c.index_mut-file.ensures.value one.ensures.file one.ensures.dropping one.result.reserves one.ensures.reserves mapped last.new.store
+    last.new.more last.new.files.files last.ensures.files last.ensures.dropping last.ensures.counted last.result last.ensures.reserves
+    (few g found)
     ∙ ap (λ (v : Files). filter is_kept (map (file_unmapped (is_map c.args.task c.args.number) c.args.a c.args.b) v.files)) c.self.view_is
 
 pub returns-clause-left : goal.returns-clause-left
@@ -137,4 +160,8 @@ returns-clause-left g c =
     let mapped = goes g found c.if-gone-eq0.false in
     let last = c.sweep_file-entries in
     subst (λ v. IsLeft (one.result.reserves + last.result) v (view last.new.store last.new.more last.new.files.files)) c.self.view_is
-    (went_left s.hints c.forget_map.new.self s.store one.new.store s.more one.new.more s.maps (count_of s.counts) s.list.files c.self.invariant c.args.task c.args.number c.args.a c.args.b c.args.at.file c.args.at.map (there g found) c.index_mut-file.result.now one.new.self c.index_mut-file.ensures.value one.ensures.file one.ensures.dropping one.result.reserves one.ensures.reserves mapped last.new.store last.new.more last.new.files.files last.ensures.files last.ensures.dropping last.ensures.counted last.result last.ensures.reserves (few g found))
+    (went_left s.hints c.forget_map.new.self s.store one.new.store s.more one.new.more s.maps (count_of s.counts) s.list.files c.self.invariant
+    c.args.task c.args.number c.args.a c.args.b c.args.at.file c.args.at.map (there g found) c.index_mut-file.result.now one.new.self
+    c.index_mut-file.ensures.value one.ensures.file one.ensures.dropping one.result.reserves one.ensures.reserves mapped last.new.store
+    last.new.more last.new.files.files last.ensures.files last.ensures.dropping last.ensures.counted last.result last.ensures.reserves
+    (few g found))

@@ -14,7 +14,10 @@ write-requires-clause-alone g c =
     let k = c.args.at.file in
     let j = c.args.at.map in
     let i = c.args.index in
-    copy_alone s.store s.more s.list.files c.self.invariant.held k j i (subst (λ (v : Files). k < length v.files) (sym c.self.view_is) c.requires.file) (subst (λ (v : Files). j < length (file_at v.files k).maps) (sym c.self.view_is) c.requires.map) c.index.result.now c.index.ensures c.map-map.result.now c.map-map.ensures c.unwrap-number.result (sym c.copy_at.ensures ∙ c.unwrap-number.ensures) (subst (λ (v : Files). IsCopyState state.HeldOnce (file_at v.files k) (place_at (map_at v.files k j) i)) (sym c.self.view_is) c.requires.once)
+    copy_alone s.store s.more s.list.files c.self.invariant.held k j i (subst (λ (v : Files). k < length v.files) (sym c.self.view_is)
+    c.requires.file) (subst (λ (v : Files). j < length (file_at v.files k).maps) (sym c.self.view_is) c.requires.map) c.index.result.now
+    c.index.ensures c.map-map.result.now c.map-map.ensures c.unwrap-number.result (sym c.copy_at.ensures ∙ c.unwrap-number.ensures)
+    (subst (λ (v : Files). IsCopyState state.HeldOnce (file_at v.files k) (place_at (map_at v.files k j) i)) (sym c.self.view_is) c.requires.once)
 
 pub invariant_of-self : goal.invariant_of-self
 invariant_of-self g c =
@@ -24,7 +27,12 @@ invariant_of-self g c =
     let i = c.args.index in
     let is = c.self.invariant in
     record {
-      held = copy_write_keeps s.store s.more s.list.files c.self.invariant.held k j i (subst (λ (v : Files). k < length v.files) (sym c.self.view_is) c.requires.file) (subst (λ (v : Files). j < length (file_at v.files k).maps) (sym c.self.view_is) c.requires.map) c.index.result.now c.index.ensures c.map-map.result.now c.map-map.ensures c.unwrap-number.result (sym c.copy_at.ensures ∙ c.unwrap-number.ensures) (subst (λ (v : Files). IsCopyState state.HeldOnce (file_at v.files k) (place_at (map_at v.files k j) i)) (sym c.self.view_is) c.requires.once) c.args.offset c.args.bytes.now c.write.new.self c.write.ensures;
+      held = copy_write_keeps s.store s.more s.list.files c.self.invariant.held k j i
+          (subst (λ (v : Files). k < length v.files) (sym c.self.view_is) c.requires.file)
+          (subst (λ (v : Files). j < length (file_at v.files k).maps) (sym c.self.view_is) c.requires.map) c.index.result.now c.index.ensures
+          c.map-map.result.now c.map-map.ensures c.unwrap-number.result (sym c.copy_at.ensures ∙ c.unwrap-number.ensures)
+          (subst (λ (v : Files). IsCopyState state.HeldOnce (file_at v.files k) (place_at (map_at v.files k j) i)) (sym c.self.view_is)
+          c.requires.once) c.args.offset c.args.bytes.now c.write.new.self c.write.ensures;
       keyed = is.keyed;
       noted = is.noted;
       level = is.level;
@@ -36,5 +44,9 @@ returns g c =
     let k = c.args.at.file in
     let j = c.args.at.map in
     let i = c.args.index in
-    copy_write_view s.store s.more s.list.files c.self.invariant.held k j i (subst (λ (v : Files). k < length v.files) (sym c.self.view_is) c.requires.file) (subst (λ (v : Files). j < length (file_at v.files k).maps) (sym c.self.view_is) c.requires.map) c.index.result.now c.index.ensures c.map-map.result.now c.map-map.ensures c.unwrap-number.result (sym c.copy_at.ensures ∙ c.unwrap-number.ensures) (subst (λ (v : Files). IsCopyState state.HeldOnce (file_at v.files k) (place_at (map_at v.files k j) i)) (sym c.self.view_is) c.requires.once) c.args.offset c.args.bytes.now c.write.new.self c.write.ensures
+    copy_write_view s.store s.more s.list.files c.self.invariant.held k j i (subst (λ (v : Files). k < length v.files) (sym c.self.view_is)
+    c.requires.file) (subst (λ (v : Files). j < length (file_at v.files k).maps) (sym c.self.view_is) c.requires.map) c.index.result.now
+    c.index.ensures c.map-map.result.now c.map-map.ensures c.unwrap-number.result (sym c.copy_at.ensures ∙ c.unwrap-number.ensures)
+    (subst (λ (v : Files). IsCopyState state.HeldOnce (file_at v.files k) (place_at (map_at v.files k j) i)) (sym c.self.view_is) c.requires.once)
+    c.args.offset c.args.bytes.now c.write.new.self c.write.ensures
     ∙ ap (λ (v : Files). placed_at k j i (place_written c.args.offset c.args.bytes.now (place_at (map_at v.files k j) i)) v) c.self.view_is

@@ -7,7 +7,8 @@ pub loop-left-init : goal.loop-left-init
 loop-left-init c =
     let fs = c.args.files.now.files in
     let vs = c.in_ok-lists.lists.items in
-    let few : c.if-count-gt0.empty_lists ≤ length fs = elim c.if-count-gt0.branch [ then-count-gt0 w ↦ omega (arith, w.empty_lists-is, w.len.ensures) | else-count-gt0 w ↦ omega (arith, w.empty_lists-is) ] in
+    let few : c.if-count-gt0.empty_lists ≤ length fs = elim c.if-count-gt0.branch
+    [ then-count-gt0 w ↦ omega (arith, w.empty_lists-is, w.len.ensures) | else-count-gt0 w ↦ omega (arith, w.empty_lists-is) ] in
     record {
       filled = none_filled c.args.parent c.args.child fs vs (omega (arith, few, c.in_ok-lists.ensures.long)) c.in_ok-lists.ensures.empty;
       left = omega (arith, c.in_ok-lists.ensures.empty);

@@ -11,4 +11,5 @@ index-requires-2 c =
 pub returns-clause-filled : goal.returns-clause-filled
 returns-clause-filled c =
     let long : c.len.result ≡ length c.args.lists.now.items = search rules in
-    filled_set c.args.parent c.args.child c.args.files.now.files c.args.lists.now.items c.args.at c.index-2.result.now c.in_ok-list.list (omega (arith, long, c.if-at-len.false)) c.index-2.ensures c.requires c.in_ok-list.ensures
+    filled_set c.args.parent c.args.child c.args.files.now.files c.args.lists.now.items c.args.at c.index-2.result.now c.in_ok-list.list
+    (omega (arith, long, c.if-at-len.false)) c.index-2.ensures c.requires c.in_ok-list.ensures

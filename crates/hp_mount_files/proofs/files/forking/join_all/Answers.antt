@@ -83,7 +83,9 @@ loop-list-preserved g c =
       noted = subst (λ gs. HaveNoted child gs c.args.hints.now c.join_at.new.hints) (sym files_are)
           (noted_at child fs (length vs) y c.args.hints.now was.hints c.join_at.new.hints within (last_none child fs vs v room none) was.invariant.noted
           (subst (λ f. HasNoted child f was.hints c.join_at.new.hints) own_is c.join_at.ensures.noted));
-      sharing = share_then (λ n. in_lists n c.args.lists.items - in_lists n was.lists.items) (λ n. in_list n v) (λ n. in_lists n c.args.lists.items - in_lists n vs) c.args.store.now was.store c.join_at.new.store was.invariant.sharing c.join_at.ensures.sharing
+      sharing = share_then (λ n. in_lists n c.args.lists.items - in_lists n was.lists.items) (λ n. in_list n v)
+          (λ n. in_lists n c.args.lists.items - in_lists n vs) c.args.store.now was.store c.join_at.new.store was.invariant.sharing
+          c.join_at.ensures.sharing
           (λ n. (let here = each n in let less = was.invariant.less n in omega (arith, here, less)));
       less = λ n. (let here = each n in let less = was.invariant.less n in omega (arith, here, less));
       counted = c.join_at.ensures.counted;

@@ -24,10 +24,12 @@ loop-at-preserved g c =
       drop_then (λ k. in_files k c.args.files.now.files) (λ k. in_files k fs) (λ k. in_file k f) (λ k. in_file k n) (λ k. in_files k c.args.files.now.files) (λ k. in_files k (slice_set fs i n))
           c.args.store.now was.store one.new.store was.invariant.0 one.ensures.dropping
           (λ k. (let step = sum_by-set (in_file k) fs i n f inside in let same = ap (in_file k) read in omega (arith, step, same))),
-      first_step (λ (f : NumberedFile). emptied (left_by c.args.task f)) i c.args.files.now.files fs f n within was.invariant.1 (one.ensures.file ∙ ap (λ (f : NumberedFile). emptied (left_by c.args.task f)) read),
+      first_step (λ (f : NumberedFile). emptied (left_by c.args.task f)) i c.args.files.now.files fs f n within was.invariant.1
+          (one.ensures.file ∙ ap (λ (f : NumberedFile). emptied (left_by c.args.task f)) read),
       one.ensures.counted,
       (let step = sum_by-set file_owed fs i n f inside in let same = ap file_owed read in let had = was.invariant.3 in let left = one.ensures.reserves in omega (arith, step, same, had, left)),
-      (let step = sum_by-set (λ (f : NumberedFile). length f.maps) fs i n f inside in let same = ap (λ (f : NumberedFile). length f.maps) read in let had = was.invariant.4 in let left = one.ensures.maps in omega (arith, step, same, had, left)),
+      (let step = sum_by-set (λ (f : NumberedFile). length f.maps) fs i n f inside in let same = ap (λ (f : NumberedFile). length f.maps) read in
+          let had = was.invariant.4 in let left = one.ensures.maps in omega (arith, step, same, had, left)),
       more_then c.args.task c.args.hints.now was.hints one.new.hints was.invariant.5 one.ensures.hints,
       length-set fs i n ∙ was.invariant.6,
     )

@@ -18,7 +18,8 @@ returns c =
     (record {
       names = λ name e. e;
       keys = λ t n apart e.
-          others_stay (λ (k : ℕ × ℕ). k) (is_pair t n) _ (λ k own. not_both t n c.new-key.result.0 c.new-key.result.1 k (subst (λ q. is_pair t n q ≡ false) (sym c.new-key.ensures) apart) own) c.self.inside.maps.entries
+          others_stay (λ (k : ℕ × ℕ). k) (is_pair t n) _ (λ k own. not_both t n c.new-key.result.0 c.new-key.result.1 k
+          (subst (λ q. is_pair t n q ≡ false) (sym c.new-key.ensures) apart) own) c.self.inside.maps.entries
           (subst (λ es. has_key t n (record { names = []; keys = keys_of es; room = 0 }) ≡ false) c.swap_remove-noted.ensures.entries e);
       room = c.swap_remove-noted.ensures.room.0;
     })

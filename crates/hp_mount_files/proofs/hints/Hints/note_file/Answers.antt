@@ -12,7 +12,8 @@ returns-clause-more c =
     let new = c.insert_full.new.self.entries in
     subst (λ (n : Noted). IsMore n (record { names = names_of new; keys = keys_of c.self.inside.maps.entries; room = spare c.self.inside.maps })) c.self.view_is
     (record {
-      names = λ name e. stays (λ (k : List ℕ). k) (bytes_eq name) _ c.new-key.result _ c.self.inside.files.entries (subst (λ es. has_name name (record { names = names_of es; keys = []; room = 0 }) ≡ false) c.in-Ok.ensures.entries e);
+      names = λ name e. stays (λ (k : List ℕ). k) (bytes_eq name) _ c.new-key.result _ c.self.inside.files.entries
+          (subst (λ es. has_name name (record { names = names_of es; keys = []; room = 0 }) ≡ false) c.in-Ok.ensures.entries e);
       keys = λ task number e. e;
     })
 

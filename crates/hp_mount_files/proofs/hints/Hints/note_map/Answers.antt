@@ -13,7 +13,8 @@ returns-clause-more c =
     subst (λ (n : Noted). IsMore n (record { names = names_of files; keys = keys_of new; room = spare c.insert_full.new.self })) c.self.view_is
     (record {
       names = λ name e. e;
-      keys = λ task number e. stays (λ (k : ℕ × ℕ). k) (is_pair task number) _ c.new-key.result _ c.self.inside.maps.entries (subst (λ es. has_key task number (record { names = []; keys = keys_of es; room = 0 }) ≡ false) c.in-Ok.ensures.entries e);
+      keys = λ task number e. stays (λ (k : ℕ × ℕ). k) (is_pair task number) _ c.new-key.result _ c.self.inside.maps.entries
+          (subst (λ es. has_key task number (record { names = []; keys = keys_of es; room = 0 }) ≡ false) c.in-Ok.ensures.entries e);
     })
 
 pub returns-clause-noted : goal.returns-clause-noted

@@ -16,7 +16,9 @@ module _ (c : goal.After-self-1) where
   same = ap (λ (o : Option (ℕ × ℕ)). (unwrap_or o (0, 0)).1) (sym c.in-Some.ensures.entry ∙ c.pair_mut-count.ensures.value)
 
   changed : (q : ℕ) → get nat_eq (with_value_at c.self.inside.counts c.in-Some.at left) q ≡ cond (c.args.task == q) (Some left) (get nat_eq c.self.inside.counts q)
-  changed = (updates-with_value_at c.self.inside.counts c.in-Some.at left nat_eq_equiv c.pair_mut-count.ensures.unique c.args.task c.in-Some.count.now (entry_found c.args.task c.self.inside.counts.entries c.in-Some.at c.in-Some.field-0-1.now c.in-Some.count.now c.in-Some.ensures.key c.in-Some.ensures.entry)).0
+  changed = (updates-with_value_at c.self.inside.counts c.in-Some.at left nat_eq_equiv c.pair_mut-count.ensures.unique c.args.task c.in-Some.count.now
+      (entry_found c.args.task c.self.inside.counts.entries c.in-Some.at c.in-Some.field-0-1.now c.in-Some.count.now c.in-Some.ensures.key
+      c.in-Some.ensures.entry)).0
 
 pub invariant_of-self : goal.invariant_of-self
 invariant_of-self c =
@@ -31,7 +33,9 @@ returns-then-count-gt1 c t =
 
 pub returns-else-count-gt1 : goal.returns-else-count-gt1
 returns-else-count-gt1 c t =
-    let gone = subst (λ o. IfSome o (λ p. Updates nat_eq c.self.inside.counts c.swap_remove_index-entry.new.self p.0 None)) (c.swap_remove_index-entry.ensures.entry ∙ entry_found c.args.task c.self.inside.counts.entries c.in-Some.at c.in-Some.field-0-1.now c.in-Some.count.now c.in-Some.ensures.key c.in-Some.ensures.entry) c.swap_remove_index-entry.ensures.updates in
+    let gone = subst (λ o. IfSome o (λ p. Updates nat_eq c.self.inside.counts c.swap_remove_index-entry.new.self p.0 None))
+    (c.swap_remove_index-entry.ensures.entry ∙ entry_found c.args.task c.self.inside.counts.entries c.in-Some.at c.in-Some.field-0-1.now
+    c.in-Some.count.now c.in-Some.ensures.key c.in-Some.ensures.entry) c.swap_remove_index-entry.ensures.updates in
     one_fewer c.args.task c.in-Some.count.now None (get nat_eq c.self.inside.counts) (get nat_eq c.swap_remove_index-entry.new.self)
     (sym c.in-Some.ensures.value) (let few = c.if-count-gt1.false in omega (arith, few)) gone.0 t
     ∙ ap (λ (v : Tally). count_of v t - cond (c.args.task == t) 1 0) c.self.view_is

@@ -30,7 +30,8 @@ invariant_of-self g c =
     let some = rw (← c.self.view_is) at c.requires in
     let less = read_some _ _ c.self.invariant.counted c.args.at c.index-holders.result.now some c.index-holders.ensures in
     record {
-      counted = counted_holders _ _ c.self.invariant.counted c.args.at c.index-holders.result.now some c.index-holders.ensures (c.index-holders.result.now - 1) (omega (arith, less, c.if-holders-eq1.false));
+      counted = counted_holders _ _ c.self.invariant.counted c.args.at c.index-holders.result.now some c.index-holders.ensures
+          (c.index-holders.result.now - 1) (omega (arith, less, c.if-holders-eq1.false));
       within = c.self.invariant.within;
       pages_room = c.self.invariant.pages_room;
       holders_room = c.self.invariant.holders_room;

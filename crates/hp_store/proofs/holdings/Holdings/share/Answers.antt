@@ -27,4 +27,8 @@ invariant_of-self g c =
 pub returns : goal.returns
 returns g c =
     let some = rw (← c.self.view_is) at c.requires.held in
-    rw (← c.self.view_is, holders_set _ _ c.self.invariant.counted c.args.at c.index_mut-holders.result.now some c.index_mut-holders.ensures.value (c.index_mut-holders.result.now + 1) held_once_more (λ p. refl))
+    rw (
+      ← c.self.view_is,
+      holders_set _ _ c.self.invariant.counted c.args.at c.index_mut-holders.result.now some c.index_mut-holders.ensures.value
+          (c.index_mut-holders.result.now + 1) held_once_more (λ p. refl),
+    )

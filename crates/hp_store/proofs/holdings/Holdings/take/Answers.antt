@@ -30,7 +30,11 @@ invariant_of-self g c =
 pub returns-clause-page : goal.returns-clause-page
 returns-clause-page g c =
     let some = rw (← c.self.view_is) at c.requires in
-    rw (← c.self.view_is, page_read _ _ c.self.invariant.counted c.args.at c.index_mut-slot.result.now some c.index_mut-slot.ensures.value c.unwrap.result (sym c.take.ensures.value ∙ c.unwrap.ensures))
+    rw (
+      ← c.self.view_is,
+      page_read _ _ c.self.invariant.counted c.args.at c.index_mut-slot.result.now some c.index_mut-slot.ensures.value
+          c.unwrap.result (sym c.take.ensures.value ∙ c.unwrap.ensures),
+    )
 
 pub returns-clause-taken : goal.returns-clause-taken
 returns-clause-taken g c = rw (← c.self.view_is, c.take.ensures.after, set-holdings c.self.inside.pages.items c.self.inside.holders.items c.args.at None 0)

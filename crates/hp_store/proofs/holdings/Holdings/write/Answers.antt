@@ -28,4 +28,8 @@ invariant_of-self g c =
 pub returns : goal.returns
 returns g c =
     let some = rw (← c.self.view_is) at c.requires.held in
-    rw (← c.self.view_is, page_set _ _ c.self.invariant.counted c.args.at c.index_mut.result.now some c.index_mut.ensures.value c.in-Some.page c.write.new.self (written c.args.offset c.args.bytes.now) c.in-Some.is (λ h. rw c.write.ensures))
+    rw (
+      ← c.self.view_is,
+      page_set _ _ c.self.invariant.counted c.args.at c.index_mut.result.now some c.index_mut.ensures.value c.in-Some.page
+          c.write.new.self (written c.args.offset c.args.bytes.now) c.in-Some.is (λ h. rw c.write.ensures),
+    )

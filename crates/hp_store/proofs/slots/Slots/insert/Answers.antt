@@ -47,5 +47,13 @@ returns-in-None-clause-inserted g c =
     let slots = c.self.inside.used.slots in
     let room = c.self.inside.used.room in
     let e : length c.self.inside.free.items ≡ vec_len c.self.inside.free = search rules in
-    let less : length slots < room = omega (arith, e, c.in-None.ensures.cases.0, c.self.invariant.listed.counted, rw (← c.self.view_is) at c.requires, held_free room slots, long room slots c.self.invariant.within) in
+    let less : length slots < room = omega (
+      arith,
+      e,
+      c.in-None.ensures.cases.0,
+      c.self.invariant.listed.counted,
+      rw (← c.self.view_is) at c.requires,
+      held_free room slots,
+      long room slots c.self.invariant.within,
+    ) in
     rw (← c.self.view_is, c.push.ensures, c.new-at.ensures, c.used.ensures.used) (pushed room slots (Some (first_held c.args.page)) less)

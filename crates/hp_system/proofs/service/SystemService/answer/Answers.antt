@@ -4,8 +4,12 @@ use Rattle.hp_model.specs.machine.Told.{told_reply}
 use Rattle.hp_system.proofs.service.SystemService.answer.Goals as goal
 
 pub returns-clause-answered : goal.returns-clause-answered
-returns-clause-answered g c =
-    (c.do_step.ensures.step, promised c.args.self.now.state c.args.step.now (told_reply c.do_step.new.reply) c.do_step.new.self.state c.requires.ready.settled c.do_step.ensures.step, c.do_step.ensures.memory)
+returns-clause-answered g c = (
+  c.do_step.ensures.step,
+  promised c.args.self.now.state c.args.step.now (told_reply c.do_step.new.reply) c.do_step.new.self.state
+      c.requires.ready.settled c.do_step.ensures.step,
+  c.do_step.ensures.memory,
+)
 
 pub returns-clause-limits : goal.returns-clause-limits
 returns-clause-limits g c =

@@ -9,7 +9,8 @@ pub loop-slot-init : goal.loop-slot-init
 loop-slot-init g c =
     let s = c.self.inside in
     let bytes = g.N.Naming.page_bytes in
-    subst (λ (x : Machine). IsEnding x.state.page_size bytes (length x.state.slots) x.state.table s.pool s.slots.items s.pool) c.self.view_is (begins s.page_bytes bytes s.table s.slots.items s.pool (kept_by c.args.self c.self.invariant c.self.view_is c.requires.ready))
+    subst (λ (x : Machine). IsEnding x.state.page_size bytes (length x.state.slots) x.state.table s.pool s.slots.items s.pool) c.self.view_is
+    (begins s.page_bytes bytes s.table s.slots.items s.pool (kept_by c.args.self c.self.invariant c.self.view_is c.requires.ready))
 
 pub close-requires-clause-ready : goal.close-requires-clause-ready
 close-requires-clause-ready g c = c.exit_all.ensures.ready
@@ -49,4 +50,5 @@ returns g c =
     let was = c.loop-slot in
     let none = nil_from_length was.slots.items (omega (arith, was.slots.ok.0, c.in_default.ensures.cases.0)) in
     c.close-2.ensures
-    ∙ all_gone s.page_size g.N.Naming.page_bytes (length s.slots) s.table c.self.inside.pool was.pool s was.slots.items none was.invariant (ap (λ (x : Machine). x.state.nr) c.self.view_is) (ap (λ (x : Machine). x.state.overcommit) c.self.view_is)
+    ∙ all_gone s.page_size g.N.Naming.page_bytes (length s.slots) s.table c.self.inside.pool was.pool s was.slots.items none was.invariant
+    (ap (λ (x : Machine). x.state.nr) c.self.view_is) (ap (λ (x : Machine). x.state.overcommit) c.self.view_is)

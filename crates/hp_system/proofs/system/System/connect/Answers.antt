@@ -16,4 +16,5 @@ returns-clause-step g c =
     let s = c.self.inside in
     let was = c.args.self.now.state in
     connect_step was (state_of s.page_bytes c.add_task.new.self s.slots.items s.pool) c.args.task c.args.home (done_reply c.add_task.result)
-    (table_goes s.page_bytes s.table s.slots.items s.pool (Add c.args.task c.args.home) (done_reply c.add_task.result) c.add_task.new.self c.len-nodes.result was c.len-nodes.ensures c.add_task.ensures (ap (λ (x : Machine). x.state) c.self.view_is))
+    (table_goes s.page_bytes s.table s.slots.items s.pool (Add c.args.task c.args.home) (done_reply c.add_task.result) c.add_task.new.self
+    c.len-nodes.result was c.len-nodes.ensures c.add_task.ensures (ap (λ (x : Machine). x.state) c.self.view_is))

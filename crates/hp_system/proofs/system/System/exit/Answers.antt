@@ -15,7 +15,10 @@ returns-in-Err-clause-ready g c =
 pub exit_slots-requires : goal.exit_slots-requires
 exit_slots-requires g c =
     let s = c.self.inside in
-    record { ready = ready_by (kept_with_table s.page_bytes g.N.Naming.page_bytes s.table c.remove_task.new.self s.slots.items s.pool (kept_by c.args.self.now c.self.invariant c.self.view_is c.requires.ready)) }
+    record {
+      ready = ready_by (kept_with_table s.page_bytes g.N.Naming.page_bytes s.table c.remove_task.new.self s.slots.items s.pool
+          (kept_by c.args.self.now c.self.invariant c.self.view_is c.requires.ready));
+    }
 
 pub returns-in-Err-clause-step : goal.returns-in-Err-clause-step
 returns-in-Err-clause-step g c =

@@ -12,7 +12,8 @@ use Rattle.hp_system.specs.Kept.{Machine, state_of}
 use Rattle.hp_system.proofs.system.System.exit_slot.Goals as goal
 
 pub exit_maps-requires-clause-ready : goal.exit_maps-requires-clause-ready
-exit_maps-requires-clause-ready g c = (let s = c.self.inside in ready s.page_bytes g.N.Naming.page_bytes s.table s.slots.items s.pool (kept_by c.args.self.now c.self.invariant c.self.view_is c.requires.ready))
+exit_maps-requires-clause-ready g c = (let s = c.self.inside in ready s.page_bytes g.N.Naming.page_bytes s.table s.slots.items s.pool
+    (kept_by c.args.self.now c.self.invariant c.self.view_is c.requires.ready))
 
 pub returns-then-has_maps-clause-ready : goal.returns-then-has_maps-clause-ready
 returns-then-has_maps-clause-ready g c =
@@ -25,7 +26,8 @@ returns-then-has_maps-clause-ready g c =
     let some : has_maps_of c.args.task old ≡ true = sym c.has_maps.ensures ∙ c.if-has_maps.true in
     let happens : IsTrue (has_maps_of c.args.task old) = rw some refl in
     let done = never_full (λ (x : Choice). slot_event s.page_bytes c.args.at x old e) old new s.pool c.exit_maps.new.door (Ok Done) (c.exit_maps.ensures.done s.page_bytes c.args.at) in
-    ready_by (kept_after s.page_bytes g.N.Naming.page_bytes s.table s.slots.items c.args.at old new s.pool c.exit_maps.new.door e (Ok Done) (kept_by c.args.self.now c.self.invariant c.self.view_is c.requires.ready) within here happens done)
+    ready_by (kept_after s.page_bytes g.N.Naming.page_bytes s.table s.slots.items c.args.at old new s.pool c.exit_maps.new.door e (Ok Done)
+    (kept_by c.args.self.now c.self.invariant c.self.view_is c.requires.ready) within here happens done)
 
 pub returns-then-has_maps-clause-done : goal.returns-then-has_maps-clause-done
 returns-then-has_maps-clause-done g c =
@@ -39,6 +41,9 @@ returns-then-has_maps-clause-done g c =
     let some : has_maps_of c.args.task old ≡ true = sym c.has_maps.ensures ∙ c.if-has_maps.true in
     let happens : IsTrue (has_maps_of c.args.task old) = rw some refl in
     let done = never_full (λ (x : Choice). slot_event s.page_bytes c.args.at x old e) old new s.pool c.exit_maps.new.door (Ok Done) (c.exit_maps.ensures.done s.page_bytes c.args.at) in
-    let there : has_maps_of c.args.task (slot_at now c.args.at) ≡ true = ap (λ (x : Machine). has_maps_of c.args.task (slot_at x.state c.args.at)) (sym c.self.view_is) ∙ ap (has_maps_of c.args.task) here ∙ some in
+    let there : has_maps_of c.args.task (slot_at now c.args.at) ≡ true = ap (λ (x : Machine). has_maps_of c.args.task (slot_at x.state c.args.at))
+    (sym c.self.view_is) ∙ ap (has_maps_of c.args.task) here ∙ some in
     leaves_there now (state_of s.page_bytes s.table (slice_set s.slots.items c.args.at new) c.exit_maps.new.door) c.args.at c.args.task (Ok Done) there
-    (slot_went s.page_bytes g.N.Naming.page_bytes s.table s.slots.items s.pool (kept_by c.args.self.now c.self.invariant c.self.view_is c.requires.ready) now (ap (λ (x : Machine). x.state) c.self.view_is) c.args.at within old here e happens new c.exit_maps.new.door (Ok Done) done)
+    (slot_went s.page_bytes g.N.Naming.page_bytes s.table s.slots.items s.pool
+    (kept_by c.args.self.now c.self.invariant c.self.view_is c.requires.ready) now (ap (λ (x : Machine). x.state) c.self.view_is) c.args.at within
+    old here e happens new c.exit_maps.new.door (Ok Done) done)

@@ -31,7 +31,8 @@ returns-in-Err-clause-step g c =
     let was = c.args.self.now.state in
     let gives = c.add_child.ensures nodes ∙ ap (λ r. (done r, c.add_child.new.self)) c.in-Err.is in
     fork_refused was (state_of s.page_bytes c.add_child.new.self s.slots.items s.pool) c.args.parent c.args.child c.in-Err.refusal
-    (table_goes s.page_bytes s.table s.slots.items s.pool (FindAndAdd c.args.parent c.args.child) (Err c.in-Err.refusal) c.add_child.new.self nodes was refl gives (ap (λ (x : Machine). x.state) c.self.view_is))
+    (table_goes s.page_bytes s.table s.slots.items s.pool (FindAndAdd c.args.parent c.args.child) (Err c.in-Err.refusal) c.add_child.new.self nodes
+    was refl gives (ap (λ (x : Machine). x.state) c.self.view_is))
 
 pub returns-in-Ok-clause-step : goal.returns-in-Ok-clause-step
 returns-in-Ok-clause-step g c =
@@ -48,7 +49,8 @@ returns-in-Ok-clause-step g c =
 pub returns-in-Err-fork_slots-clause-ready : goal.returns-in-Err-fork_slots-clause-ready
 returns-in-Err-fork_slots-clause-ready g c =
     let s = c.self-2.inside in
-    ready_by (kept_with_table s.page_bytes g.N.Naming.page_bytes s.table c.remove.new.self s.slots.items s.pool (kept_by c.fork_slots.new.self c.self-2.invariant c.self-2.view_is c.fork_slots.ensures.ready))
+    ready_by (kept_with_table s.page_bytes g.N.Naming.page_bytes s.table c.remove.new.self s.slots.items s.pool
+    (kept_by c.fork_slots.new.self c.self-2.invariant c.self-2.view_is c.fork_slots.ensures.ready))
 
 pub returns-in-Err-fork_slots-clause-step : goal.returns-in-Err-fork_slots-clause-step
 returns-in-Err-fork_slots-clause-step g c =
@@ -64,4 +66,5 @@ returns-in-Err-fork_slots-clause-step g c =
     fork_undone was mid c.fork_slots.new.self.state (state_of t.page_bytes c.remove.new.self t.slots.items t.pool) c.args.parent c.args.child Done c.in-Err-fork_slots.refusal taken.0
     (table_goes s.page_bytes s.table s.slots.items s.pool (FindAndAdd c.args.parent c.args.child) (Ok Done) c.add_child.new.self nodes was refl gives (ap (λ (x : Machine). x.state) c.self.view_is))
     (ap (λ (x : Machine). length x.state.slots) c.self.view_is) made
-    (table_goes t.page_bytes t.table t.slots.items t.pool (Remove c.args.child) taken.0 c.remove.new.self later c.fork_slots.new.self.state refl (taken.1 ∙ ap (λ u. (taken.0, u)) (sym c.remove.ensures)) (ap (λ (x : Machine). x.state) c.self-2.view_is))
+    (table_goes t.page_bytes t.table t.slots.items t.pool (Remove c.args.child) taken.0 c.remove.new.self later c.fork_slots.new.self.state refl
+    (taken.1 ∙ ap (λ u. (taken.0, u)) (sym c.remove.ensures)) (ap (λ (x : Machine). x.state) c.self-2.view_is))

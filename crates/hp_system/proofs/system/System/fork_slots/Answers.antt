@@ -18,7 +18,8 @@ returns-in-Err-clause-done g c reply u go =
     let refused = subst (λ r. IsForkedOn now at c.args.parent c.args.child (done r) c.fork_slot.new.self.state) c.in-Err.is c.fork_slot.ensures.done in
     was.done reply u
     (subst (λ k. IsScript now (fork_slots (range_with_len at k) (mapped_slots now at c.args.parent) c.args.parent c.args.child) reply u) (sym left)
-    (slot_refused c.args.parent c.args.child c.requires.apart now c.fork_slot.new.self.state c.undo_fork.new.self.state at (n - (at + 1)) c.in-Err.refusal was.ready.settled refused c.undo_fork.ensures.done reply u go))
+    (slot_refused c.args.parent c.args.child c.requires.apart now c.fork_slot.new.self.state c.undo_fork.new.self.state at (n - (at + 1))
+    c.in-Err.refusal was.ready.settled refused c.undo_fork.ensures.done reply u go))
 
 pub loop-at-preserved : goal.loop-at-preserved
 loop-at-preserved g c =

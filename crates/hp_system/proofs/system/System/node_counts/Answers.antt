@@ -9,4 +9,5 @@ returns g c =
     let s = c.self.inside in
     let is = ap (λ (x : Machine). length x.pool.nodes.rows) c.self.view_is in
     let few = (ready s.page_bytes g.N.Naming.page_bytes s.table s.slots.items s.pool (kept_by c.args.self.now c.self.invariant c.self.view_is c.requires)).nodes in
-    padded c.args.self.now.pool c.loop-node.rows c.loop-node.node (omega (arith, is, few)) (omega (arith, is, c.len-node-end.ensures, c.loop-node-test.false, c.loop-node.auto.node-end)) c.loop-node.invariant
+    padded c.args.self.now.pool c.loop-node.rows c.loop-node.node (omega (arith, is, few))
+    (omega (arith, is, c.len-node-end.ensures, c.loop-node-test.false, c.loop-node.auto.node-end)) c.loop-node.invariant

@@ -14,5 +14,6 @@ returns-clause-step g c =
     let s = c.self.inside in
     let rows = c.node_counts-rows in
     let same = ap (λ (x : Machine). node_counts x.pool) c.self.view_is ∙ sym rows.ensures in
-    pool_told s.page_bytes s.table s.slots.items s.pool Nodes (Ok (PerNode c.len-nodes.result rows.result)) c.args.self.now.state (kept_by c.args.self.now c.self.invariant c.self.view_is c.requires.ready).tied
+    pool_told s.page_bytes s.table s.slots.items s.pool Nodes (Ok (PerNode c.len-nodes.result rows.result)) c.args.self.now.state
+    (kept_by c.args.self.now c.self.invariant c.self.view_is c.requires.ready).tied
     (ap (λ n. (Ok (PerNode n (node_counts s.pool)), s.pool)) (sym c.len-nodes.ensures) ∙ ap (λ ns. (Ok (PerNode c.len-nodes.result ns), s.pool)) same) (ap (λ (x : Machine). x.state) c.self.view_is)

@@ -12,7 +12,8 @@ pub returns-in-Some-clause-done : goal.returns-in-Some-clause-done
 returns-in-Some-clause-done g c =
     let s = c.args.self.now.state in
     let known = ap (λ (x : State). home_of x.table c.args.task) (sym (ap (λ (x : Machine). x.state) c.self.view_is)) ∙ sym c.home.ensures ∙ c.in-Some.is in
-    task_found s c.args.task c.on_slot.new.self.state c.in-Some.home (λ home. on_slot (length s.slots) c.args.slot (event_of home c.args.event.now)) (told_reply c.on_slot.new.reply) known c.on_slot.ensures.done
+    task_found s c.args.task c.on_slot.new.self.state c.in-Some.home (λ home. on_slot (length s.slots) c.args.slot (event_of home c.args.event.now))
+    (told_reply c.on_slot.new.reply) known c.on_slot.ensures.done
 
 pub returns-in-None-clause-done : goal.returns-in-None-clause-done
 returns-in-None-clause-done g c =

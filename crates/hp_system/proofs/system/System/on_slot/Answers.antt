@@ -19,12 +19,17 @@ returns-in_default-clause-done g c =
     let x = c.index_mut.result.now in
     let within : c.args.slot < length s.slots.items = omega (arith, c.if-at-len.false, c.len.ensures) in
     let here = read_slot s.slots.items c.args.slot x None within c.index_mut.ensures.value c.in_default.is in
-    subst (λ t. IsScript was (on_slot (length was.slots) c.args.slot e) (Err NoSuchSlot) t) (state_back s.page_bytes s.table s.slots.items s.pool c.args.slot x was c.index_mut.ensures.value (ap (λ (x : Machine). x.state) c.self.view_is))
-    (slot_same s.page_bytes g.N.Naming.page_bytes s.table s.slots.items s.pool (kept_by c.args.self.now c.self.invariant c.self.view_is c.requires.ready) was (ap (λ (x : Machine). x.state) c.self.view_is) c.args.slot within None here e (happens c.args.home c.args.event.now None) (Err NoSuchSlot)
+    subst (λ t. IsScript was (on_slot (length was.slots) c.args.slot e) (Err NoSuchSlot) t)
+    (state_back s.page_bytes s.table s.slots.items s.pool c.args.slot x was c.index_mut.ensures.value
+    (ap (λ (x : Machine). x.state) c.self.view_is))
+    (slot_same s.page_bytes g.N.Naming.page_bytes s.table s.slots.items s.pool
+    (kept_by c.args.self.now c.self.invariant c.self.view_is c.requires.ready) was (ap (λ (x : Machine). x.state) c.self.view_is) c.args.slot
+    within None here e (happens c.args.home c.args.event.now None) (Err NoSuchSlot)
     (unmounted s.page_bytes c.args.slot c.args.home c.args.event.now s.pool))
 
 pub apply-requires-clause-ready : goal.apply-requires-clause-ready
-apply-requires-clause-ready g c = (let s = c.self.inside in ready s.page_bytes g.N.Naming.page_bytes s.table s.slots.items s.pool (kept_by c.args.self.now c.self.invariant c.self.view_is c.requires.ready))
+apply-requires-clause-ready g c = (let s = c.self.inside in ready s.page_bytes g.N.Naming.page_bytes s.table s.slots.items s.pool
+    (kept_by c.args.self.now c.self.invariant c.self.view_is c.requires.ready))
 
 pub returns-in_default-clause-ready : goal.returns-in_default-clause-ready
 returns-in_default-clause-ready g c =
@@ -40,7 +45,9 @@ returns-clause-ready g c =
     let within : c.args.slot < length s.slots.items = omega (arith, c.if-at-len.false, c.len.ensures) in
     let here = read_slot s.slots.items c.args.slot c.index_mut.result.now old within c.index_mut.ensures.value c.in-Some.is in
     let done = never_full (λ (x : Choice). slot_event g.N.Naming.page_bytes c.args.slot x old e) old new s.pool c.apply.new.door (told_reply c.apply.result) (c.apply.ensures.done c.args.slot) in
-    ready_by (kept_after s.page_bytes g.N.Naming.page_bytes s.table s.slots.items c.args.slot old new s.pool c.apply.new.door e (told_reply c.apply.result) (kept_by c.args.self.now c.self.invariant c.self.view_is c.requires.ready) within here (happens c.args.home c.args.event.now old)
+    ready_by (kept_after s.page_bytes g.N.Naming.page_bytes s.table s.slots.items c.args.slot old new s.pool c.apply.new.door e
+    (told_reply c.apply.result) (kept_by c.args.self.now c.self.invariant c.self.view_is c.requires.ready) within here
+    (happens c.args.home c.args.event.now old)
     (subst (λ n. IsCarried n c.args.slot s.pool old e (told_reply c.apply.result) new c.apply.new.door) (sym (kept_by c.args.self.now c.self.invariant c.self.view_is c.requires.ready).size) done))
 
 pub returns-clause-done : goal.returns-clause-done
@@ -52,5 +59,8 @@ returns-clause-done g c =
     let within : c.args.slot < length s.slots.items = omega (arith, c.if-at-len.false, c.len.ensures) in
     let here = read_slot s.slots.items c.args.slot c.index_mut.result.now old within c.index_mut.ensures.value c.in-Some.is in
     let done = never_full (λ (x : Choice). slot_event g.N.Naming.page_bytes c.args.slot x old e) old new s.pool c.apply.new.door (told_reply c.apply.result) (c.apply.ensures.done c.args.slot) in
-    slot_done s.page_bytes g.N.Naming.page_bytes s.table s.slots.items s.pool (kept_by c.args.self.now c.self.invariant c.self.view_is c.requires.ready) c.args.self.now.state (ap (λ (x : Machine). x.state) c.self.view_is) c.args.slot within old here e (happens c.args.home c.args.event.now old) new c.apply.new.door (told_reply c.apply.result)
+    slot_done s.page_bytes g.N.Naming.page_bytes s.table s.slots.items s.pool
+    (kept_by c.args.self.now c.self.invariant c.self.view_is c.requires.ready) c.args.self.now.state
+    (ap (λ (x : Machine). x.state) c.self.view_is) c.args.slot within old here e (happens c.args.home c.args.event.now old) new c.apply.new.door
+    (told_reply c.apply.result)
     (subst (λ n. IsCarried n c.args.slot s.pool old e (told_reply c.apply.result) new c.apply.new.door) (sym (kept_by c.args.self.now c.self.invariant c.self.view_is c.requires.ready).size) done)

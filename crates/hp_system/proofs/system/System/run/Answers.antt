@@ -11,7 +11,12 @@ loop-step-preserved g c =
     let step = c.step-item.result in
     let inv = c.loop-step.invariant in
     let taken : take i steps ++ step ∷ [] ≡ take (i + 1) steps = ap (λ x. take i steps ++ x ∷ []) c.step-item.is ∙ sym (take_more steps i step c.loop-step-test.true) in
-    let run = run_more IsPromisedStep c.args.self.now.state c.loop-step.self.state c.apply-reply.new.self.state (take i steps) c.loop-step.replies.items step c.apply-reply.result inv.ran (c.apply-reply.ensures.step, c.apply-reply.ensures.promised, c.apply-reply.ensures.memory) in
+    let run = run_more IsPromisedStep c.args.self.now.state c.loop-step.self.state c.apply-reply.new.self.state (take i steps)
+    c.loop-step.replies.items step c.apply-reply.result inv.ran (
+      c.apply-reply.ensures.step,
+      c.apply-reply.ensures.promised,
+      c.apply-reply.ensures.memory,
+    ) in
     record {
       ran = subst (λ xs. IsPromisedRun c.args.self.now.state xs c.push_reserved.new.self.items c.apply-reply.new.self.state) taken
           (subst (λ rs. IsPromisedRun c.args.self.now.state (take i steps ++ step ∷ []) rs c.apply-reply.new.self.state) (sym c.push_reserved.ensures.items) run);

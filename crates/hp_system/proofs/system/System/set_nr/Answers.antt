@@ -14,12 +14,14 @@ set_nr-requires g c =
 pub returns-clause-ready : goal.returns-clause-ready
 returns-clause-ready g c =
     let s = c.self.inside in
-    ready_by (kept_by_pool s.page_bytes g.N.Naming.page_bytes s.table s.slots.items s.pool c.set_nr.new.self (Nr c.args.pages) (Ok (Number c.set_nr.result)) (kept_by c.args.self.now c.self.invariant c.self.view_is c.requires.ready)
+    ready_by (kept_by_pool s.page_bytes g.N.Naming.page_bytes s.table s.slots.items s.pool c.set_nr.new.self (Nr c.args.pages)
+    (Ok (Number c.set_nr.result)) (kept_by c.args.self.now c.self.invariant c.self.view_is c.requires.ready)
     (nr_event s.page_bytes s.table s.slots.items s.pool c.args.pages c.set_nr.new.self c.set_nr.result c.set_nr.ensures.moved c.set_nr.ensures.value))
 
 pub returns-clause-step : goal.returns-clause-step
 unfolding IsStep
 returns-clause-step g c =
     let s = c.self.inside in
-    pool_goes s.page_bytes s.table s.slots.items s.pool (Nr c.args.pages) (Ok (Number c.set_nr.result)) c.set_nr.new.self c.args.self.now.state (kept_by c.args.self.now c.self.invariant c.self.view_is c.requires.ready).tied
+    pool_goes s.page_bytes s.table s.slots.items s.pool (Nr c.args.pages) (Ok (Number c.set_nr.result)) c.set_nr.new.self c.args.self.now.state
+    (kept_by c.args.self.now c.self.invariant c.self.view_is c.requires.ready).tied
     (nr_event s.page_bytes s.table s.slots.items s.pool c.args.pages c.set_nr.new.self c.set_nr.result c.set_nr.ensures.moved c.set_nr.ensures.value) (ap (λ (x : Machine). x.state) c.self.view_is)

@@ -20,7 +20,8 @@ pub returns-clause-ready : goal.returns-clause-ready
 returns-clause-ready g c =
     let s = c.self.inside in
     let few : c.args.pages ≤ most_overcommit = omega (arith, c.if-pages-gt-MOST_OVERCOMMIT.false) in
-    ready_by (kept_by_pool s.page_bytes g.N.Naming.page_bytes s.table s.slots.items s.pool c.set_overcommit.new.self (Overcommit c.args.pages) (Ok Done) (kept_by c.args.self.now c.self.invariant c.self.view_is c.requires.ready)
+    ready_by (kept_by_pool s.page_bytes g.N.Naming.page_bytes s.table s.slots.items s.pool c.set_overcommit.new.self (Overcommit c.args.pages)
+    (Ok Done) (kept_by c.args.self.now c.self.invariant c.self.view_is c.requires.ready)
     (overcommit_event s.page_bytes s.table s.slots.items s.pool c.args.pages c.set_overcommit.new.self few c.set_overcommit.ensures.moved))
 
 pub returns-clause-step : goal.returns-clause-step
@@ -28,5 +29,6 @@ unfolding IsStep
 returns-clause-step g c =
     let s = c.self.inside in
     let few : c.args.pages ≤ most_overcommit = omega (arith, c.if-pages-gt-MOST_OVERCOMMIT.false) in
-    pool_goes s.page_bytes s.table s.slots.items s.pool (Overcommit c.args.pages) (Ok Done) c.set_overcommit.new.self c.args.self.now.state (kept_by c.args.self.now c.self.invariant c.self.view_is c.requires.ready).tied
+    pool_goes s.page_bytes s.table s.slots.items s.pool (Overcommit c.args.pages) (Ok Done) c.set_overcommit.new.self c.args.self.now.state
+    (kept_by c.args.self.now c.self.invariant c.self.view_is c.requires.ready).tied
     (overcommit_event s.page_bytes s.table s.slots.items s.pool c.args.pages c.set_overcommit.new.self few c.set_overcommit.ensures.moved) (ap (λ (x : Machine). x.state) c.self.view_is)

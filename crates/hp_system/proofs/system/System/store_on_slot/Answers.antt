@@ -19,11 +19,15 @@ returns-in_default-clause-done g c =
     let x = c.index_mut.result.now in
     let within : k < length s.slots.items = omega (arith, c.if-at-len.false, c.len.ensures) in
     let here = read_slot s.slots.items k x None within c.index_mut.ensures.value c.in_default.is in
-    subst (λ t. IsScript was (on_slot (length was.slots) k e) (Err NoSuchSlot) t) (state_back s.page_bytes s.table s.slots.items s.pool k x was c.index_mut.ensures.value (ap (λ (x : Machine). x.state) c.self.view_is))
-    (slot_same s.page_bytes g.N.Naming.page_bytes s.table s.slots.items s.pool (kept_by c.args.self.now c.self.invariant c.self.view_is c.requires.ready) was (ap (λ (x : Machine). x.state) c.self.view_is) k within None here e refl (Err NoSuchSlot) (calm, refl, ((refl, refl), refl)))
+    subst (λ t. IsScript was (on_slot (length was.slots) k e) (Err NoSuchSlot) t)
+    (state_back s.page_bytes s.table s.slots.items s.pool k x was c.index_mut.ensures.value (ap (λ (x : Machine). x.state) c.self.view_is))
+    (slot_same s.page_bytes g.N.Naming.page_bytes s.table s.slots.items s.pool
+    (kept_by c.args.self.now c.self.invariant c.self.view_is c.requires.ready) was (ap (λ (x : Machine). x.state) c.self.view_is) k within None
+    here e refl (Err NoSuchSlot) (calm, refl, ((refl, refl), refl)))
 
 pub store-requires-clause-ready : goal.store-requires-clause-ready
-store-requires-clause-ready g c = (let s = c.self.inside in ready s.page_bytes g.N.Naming.page_bytes s.table s.slots.items s.pool (kept_by c.args.self.now c.self.invariant c.self.view_is c.requires.ready))
+store-requires-clause-ready g c = (let s = c.self.inside in ready s.page_bytes g.N.Naming.page_bytes s.table s.slots.items s.pool
+    (kept_by c.args.self.now c.self.invariant c.self.view_is c.requires.ready))
 
 pub returns-in_default-clause-ready : goal.returns-in_default-clause-ready
 returns-in_default-clause-ready g c =
@@ -41,7 +45,8 @@ returns-clause-ready g c =
     let within : k < length s.slots.items = omega (arith, c.if-at-len.false, c.len.ensures) in
     let here = read_slot s.slots.items k c.index_mut.result.now old within c.index_mut.ensures.value c.in-Some.is in
     let done = never_full (λ (x : Choice). slot_event g.N.Naming.page_bytes k x old e) old new s.pool c.store.new.door reply (c.store.ensures.done k) in
-    ready_by (kept_after s.page_bytes g.N.Naming.page_bytes s.table s.slots.items k old new s.pool c.store.new.door e reply (kept_by c.args.self.now c.self.invariant c.self.view_is c.requires.ready) within here refl
+    ready_by (kept_after s.page_bytes g.N.Naming.page_bytes s.table s.slots.items k old new s.pool c.store.new.door e reply
+    (kept_by c.args.self.now c.self.invariant c.self.view_is c.requires.ready) within here refl
     (subst (λ n. IsCarried n k s.pool old e reply new c.store.new.door) (sym (kept_by c.args.self.now c.self.invariant c.self.view_is c.requires.ready).size) done))
 
 pub returns-clause-done : goal.returns-clause-done
@@ -55,5 +60,7 @@ returns-clause-done g c =
     let within : k < length s.slots.items = omega (arith, c.if-at-len.false, c.len.ensures) in
     let here = read_slot s.slots.items k c.index_mut.result.now old within c.index_mut.ensures.value c.in-Some.is in
     let done = never_full (λ (x : Choice). slot_event g.N.Naming.page_bytes k x old e) old new s.pool c.store.new.door reply (c.store.ensures.done k) in
-    slot_done s.page_bytes g.N.Naming.page_bytes s.table s.slots.items s.pool (kept_by c.args.self.now c.self.invariant c.self.view_is c.requires.ready) c.args.self.now.state (ap (λ (x : Machine). x.state) c.self.view_is) k within old here e refl new c.store.new.door reply
+    slot_done s.page_bytes g.N.Naming.page_bytes s.table s.slots.items s.pool
+    (kept_by c.args.self.now c.self.invariant c.self.view_is c.requires.ready) c.args.self.now.state
+    (ap (λ (x : Machine). x.state) c.self.view_is) k within old here e refl new c.store.new.door reply
     (subst (λ n. IsCarried n k s.pool old e reply new c.store.new.door) (sym (kept_by c.args.self.now c.self.invariant c.self.view_is c.requires.ready).size) done)

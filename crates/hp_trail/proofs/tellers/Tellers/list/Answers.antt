@@ -34,7 +34,8 @@ loop-receipt-preserved c =
     record {
       fit = added.fit;
       listed =
-          listed_more t (lists c.args.receipts.now) c.loop-session.session c.loop-receipt.receipt-index c.receipt-item.result c.loop-receipt.tellers c.add.new.self has c.loop-receipt.invariant.listed added;
+          listed_more t (lists c.args.receipts.now) c.loop-session.session c.loop-receipt.receipt-index c.receipt-item.result c.loop-receipt.tellers
+          c.add.new.self has c.loop-receipt.invariant.listed added;
     }
 
 pub loop-session-preserved : goal.loop-session-preserved

@@ -22,7 +22,8 @@ returns-in_err-receipt c =
     let found = c.in_ok-get.ensures.lookup in
     let place : c.in_ok-cursor.field-0.now ≡ at cursors s = c.in_ok-cursor.ensures.lookup.3.1 0 ∙ ap (λ xs. get_or xs s 0) c.deref.ensures.value in
     rw c.from_residual-in_err-receipt.ensures (subst (λ (w : Walking). IsNext w s None) c.self.view_is
-    (none_after c.self.inside.receipts.now s (at cursors s) c.in_ok-get.field-0.now c.deref-2.result.now c.in_ok-cursor.field-0.now found.3.0 found.1 c.deref-2.ensures.value place c.in_err-receipt.ensures.lookup.3))
+    (none_after c.self.inside.receipts.now s (at cursors s) c.in_ok-get.field-0.now c.deref-2.result.now c.in_ok-cursor.field-0.now found.3.0 found.1
+    c.deref-2.ensures.value place c.in_err-receipt.ensures.lookup.3))
 
 pub returns : goal.returns
 returns c =
@@ -33,7 +34,8 @@ returns c =
     let place : c.in_ok-cursor.field-0.now ≡ at cursors s = c.in_ok-cursor.ensures.lookup.3.1 0 ∙ ap (λ xs. get_or xs s 0) c.deref.ensures.value in (
       c.in_ok-receipt.receipt.now,
       subst (λ (w : Walking). HasNext w s c.in_ok-receipt.receipt.now) c.self.view_is
-          (one_there c.self.inside.receipts.now s (at cursors s) c.in_ok-get.field-0.now c.deref-2.result.now c.in_ok-cursor.field-0.now found.3.0 found.1 c.deref-2.ensures.value place c.in_ok-receipt.receipt.now receipt.3.0 receipt.1),
+          (one_there c.self.inside.receipts.now s (at cursors s) c.in_ok-get.field-0.now c.deref-2.result.now c.in_ok-cursor.field-0.now found.3.0
+          found.1 c.deref-2.ensures.value place c.in_ok-receipt.receipt.now receipt.3.0 receipt.1),
       refl,
       refl,
     )

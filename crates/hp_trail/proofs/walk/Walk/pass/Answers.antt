@@ -10,7 +10,8 @@ pass_section-requires c =
     let old = c.args.self.now in
     let next = c.in_ok-part.ensures in
     let f =
-    found old.trails old.cursors old.receipts c.args.session (at old.cursors.sessions c.args.session) next.0 c.in_ok-part.part c.in_ok-part.place c.requires.right c.requires.sections next.1 next.2 next.3
+    found old.trails old.cursors old.receipts c.args.session (at old.cursors.sessions c.args.session) next.0 c.in_ok-part.part c.in_ok-part.place
+    c.requires.right c.requires.sections next.1 next.2 next.3
     (c.if-place-cursor.false ∙ c.cursor.ensures) in
     f.stands
 
@@ -19,7 +20,8 @@ returns-then-not-pass_section c =
     let old = c.args.self.now in
     let next = c.in_ok-part.ensures in
     let f =
-    found old.trails old.cursors old.receipts c.args.session (at old.cursors.sessions c.args.session) next.0 c.in_ok-part.part c.in_ok-part.place c.requires.right c.requires.sections next.1 next.2 next.3
+    found old.trails old.cursors old.receipts c.args.session (at old.cursors.sessions c.args.session) next.0 c.in_ok-part.part c.in_ok-part.place
+    c.requires.right c.requires.sections next.1 next.2 next.3
     (c.if-place-cursor.false ∙ c.cursor.ensures) in
     (c.if-not-pass_section.ensures.stays refl, later_waits old.trails old.receipts c.args.session old.cursors next.0 c.in_ok-part.part f next.1 next.2 (c.if-not-pass_section.ensures.waits refl))
 
@@ -28,7 +30,8 @@ advance-requires c =
     let old = c.args.self.now in
     let next = c.in_ok-part.ensures in
     let f =
-    found old.trails old.cursors old.receipts c.args.session (at old.cursors.sessions c.args.session) next.0 c.in_ok-part.part c.in_ok-part.place c.requires.right c.requires.sections next.1 next.2 next.3
+    found old.trails old.cursors old.receipts c.args.session (at old.cursors.sessions c.args.session) next.0 c.in_ok-part.part c.in_ok-part.place
+    c.requires.right c.requires.sections next.1 next.2 next.3
     (c.if-place-cursor.false ∙ c.cursor.ensures) in
     subst (λ (w : Walking). cursor w.cursors c.in_ok-part.part < part_length w.trails c.in_ok-part.part) (sym (c.if-not-pass_section.ensures.passed refl)) f.below
 

@@ -23,7 +23,8 @@ returns-in_err-get-in-Slot-2 c =
     let cursors = c.self.inside.slot_cursors.items in
     let found = c.in_ok-get-in-Slot.ensures.lookup in
     let place : c.in_ok-cursor-in-Slot.field-0.now ≡ at cursors k = c.in_ok-cursor-in-Slot.ensures.lookup.3.1 0 ∙ ap (λ xs. get_or xs k 0) c.deref.ensures.value in
-    let none = none_after c.self.inside.slots.now k (at cursors k) c.in_ok-get-in-Slot.field-0.now c.deref-in-Slot.result.now c.in_ok-cursor-in-Slot.field-0.now found.3.0 found.1 c.deref-in-Slot.ensures.value place c.in_err-get-in-Slot-2.ensures.lookup.3 in
+    let none = none_after c.self.inside.slots.now k (at cursors k) c.in_ok-get-in-Slot.field-0.now c.deref-in-Slot.result.now
+    c.in_ok-cursor-in-Slot.field-0.now found.3.0 found.1 c.deref-in-Slot.ensures.value place c.in_err-get-in-Slot-2.ensures.lookup.3 in
     c.from_residual-in_err-get-in-Slot-2.ensures ∙ sym (section_none _ c.args.self.now c.args.part k c.self.view_is c.in-Slot.is none)
 
 pub returns-in_ok-get-in-Slot-2 : goal.returns-in_ok-get-in-Slot-2
@@ -33,7 +34,9 @@ returns-in_ok-get-in-Slot-2 c =
     let found = c.in_ok-get-in-Slot.ensures.lookup in
     let entry = c.in_ok-get-in-Slot-2.ensures.lookup in
     let place : c.in_ok-cursor-in-Slot.field-0.now ≡ at cursors k = c.in_ok-cursor-in-Slot.ensures.lookup.3.1 0 ∙ ap (λ xs. get_or xs k 0) c.deref.ensures.value in
-    let there = one_there c.self.inside.slots.now k (at cursors k) c.in_ok-get-in-Slot.field-0.now c.deref-in-Slot.result.now c.in_ok-cursor-in-Slot.field-0.now found.3.0 found.1 c.deref-in-Slot.ensures.value place c.in_ok-get-in-Slot-2.field-0.now entry.3.0 entry.1 in
+    let there = one_there c.self.inside.slots.now k (at cursors k) c.in_ok-get-in-Slot.field-0.now c.deref-in-Slot.result.now
+    c.in_ok-cursor-in-Slot.field-0.now found.3.0 found.1 c.deref-in-Slot.ensures.value place c.in_ok-get-in-Slot-2.field-0.now entry.3.0 entry.1
+    in
     sym (section_some _ c.args.self.now c.args.part k c.self.view_is c.in-Slot.is c.in_ok-get-in-Slot-2.field-0.now there)
 
 pub returns-in_default : goal.returns-in_default

@@ -3,7 +3,8 @@ use Rattle.std.proofs.lemmas.Bool.Decides.{nat_tests}
 use Rattle.hp_model.specs.text.Words.{word_at}
 use Rattle.hp_wire_lines.proofs.WordEnds.{ends_at_end, ends_at_space, word_bad, word_ends, word_none, word_not_here}
 use Rattle.hp_wire_lines.specs.Words.{between, pieces_from}
-use Rattle.hp_wire_lines.proofs.words.Words.word.Goals.{then-from-line-via-then-from-line, then-from-line-via-else-from-line+then-not-is_word_byte, else-end-line-via-then-end-line+else-line-end-ne32, else-end-line-via-else-end-line}
+use Rattle.hp_wire_lines.proofs.words.Words.word.Goals.{then-from-line-via-then-from-line, then-from-line-via-else-from-line+then-not-is_word_byte}
+use Rattle.hp_wire_lines.proofs.words.Words.word.Goals.{else-end-line-via-then-end-line+else-line-end-ne32, else-end-line-via-else-end-line}
 use Rattle.hp_wire_lines.proofs.words.Words.word.Goals as goal
 
 pub returns-then-from-line : goal.returns-then-from-line
