@@ -8,6 +8,7 @@ from shutil import which
 
 TOP = Path(__file__).resolve().parent.parent
 PROGRAM = TOP / "crates/hugetlbd/out/hugetlbd"
+QUICK = TOP / "out/quick/hugetlbd"
 # A run that has not answered by then has hung.
 SECONDS = 20
 
@@ -48,6 +49,50 @@ def cases():
     if not found:
         raise Failed("no script was found")
     return [Case(script) for script in sorted(found)]
+
+
+def blocks_of(document):
+    """The blocks of a document, each with its place, the words behind its fence and its lines."""
+    found, opened = [], None
+    for at, line in enumerate(document.read_text().splitlines(), 1):
+        if line.startswith("```"):
+            if opened:
+                found.append(opened)
+            opened = None if opened else (f"{document.relative_to(TOP)}:{at}", line[3:].split(), [])
+        elif opened:
+            opened[2].append(line)
+    return found
+
+
+def runs_of_shell(lines):
+    """The runs of a block for a shell, each with its words, and its script: a file, or the lines up to END."""
+    for at, line in enumerate(lines):
+        words, _, rest = line.partition(" <")
+        if not line.startswith("./run") or not rest:
+            continue
+        if rest == "<'END'":
+            yield words.split()[1:], "".join(f"{it}\n" for it in lines[at + 1 : lines.index("END", at)])
+        else:
+            yield words.split()[1:], TOP / rest.strip()
+
+
+def pasted():
+    """What the documents show of runs: where it stands, its words, its script, and the replies that stand behind it or beside the file."""
+    for document in sorted([TOP / "README.md", *TOP.glob("docs/*.md"), *TOP.glob("crates/*/README.md")]):
+        blocks = blocks_of(document)
+        for block, (place, head, lines) in enumerate(blocks):
+            if head[:1] == ["script"]:
+                runs = [(head[1:], "".join(f"{it}\n" for it in lines))]
+            else:
+                runs = runs_of_shell(lines) if head == ["sh"] else []
+            for words, script in runs:
+                if isinstance(script, Path):
+                    yield place, words, script.read_bytes(), script.with_suffix(".replies").read_bytes()
+                    continue
+                behind = blocks[block + 1] if block + 1 < len(blocks) else (place, [], [])
+                if behind[1] != ["replies"]:
+                    raise Failed(f"{place}: no block of replies stands behind this one")
+                yield place, words, script.encode(), "".join(f"{it}\n" for it in behind[2]).encode()
 
 
 class Memory:

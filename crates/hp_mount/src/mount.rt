@@ -103,8 +103,8 @@ impl<N: Naming> Mount<N> {
     /// What a step asks of the mount, for a task with that home node. It is done in one section of the pool at most.
     ///
     /// Refused as the definitions say, and then nothing changes; as TraceFull where the door has no room to note a section.
-    /// An access at an index that is reserved to its map, or has a page, asks for no memory. Bytes are answered in the
-    /// front of the room.
+    /// An access asks for no memory where its index is reserved to its map, or where it makes neither a page nor a copy.
+    /// Bytes are answered in the front of the room.
     #[inline(always)]
     pub fn apply<'a, D: PoolDoor<Share = Subpool<N>, Page = Page<N>, Going = PageStore<N>>>(
         &mut self,

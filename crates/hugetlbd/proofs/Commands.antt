@@ -18,6 +18,14 @@ pub adds_rule : (a b : Command) (x : Arg) (app : App) (rule : Rule) → AddsArg 
     → app_of b ≡ with_rule app rule
 adds_rule a b x app rule h local before same = h.shape local ∙ ap₂ with_rule before same
 
+-- a command that was given its own line of usage, which no parse reads
+pub keeps_app : (a b : Command) (text : Option (Bor Text)) (app : App) → out-Command b ≡ record (out-Command a) { usage_str = text } → app_of a ≡ app → app_of b ≡ app
+keeps_app a b text app h before = ap app_of_fields h ∙ before
+
+pub keeps_globals : (a b : Command) (text : Option (Bor Text)) (has : Bool) → out-Command b ≡ record (out-Command a) { usage_str = text }
+    → (out-Command a).has_globals ≡ has → (out-Command b).has_globals ≡ has
+keeps_globals a b text has h before = ap (λ fields. fields.has_globals) h ∙ before
+
 -- a command that was given a version
 pub adds_version : (a b : Command) (text : Option (Bor Text)) (app : App) → out-Command b ≡ record (out-Command a) { version = text } → is_some text ≡ true → app_of a ≡ app
     → app_of b ≡ with_version app

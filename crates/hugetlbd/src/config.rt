@@ -13,9 +13,12 @@ use hp_wire::words::number_of;
 use std::alloc::{AllocError, Global};
 use std::convert::AsStr;
 
+// How the program is called, as `clap` says it beside a fault. The script comes on standard input.
+const USAGE: &str = "hugetlbd [script] [OPTIONS] < FILE";
+
 /// What is printed where the words ask for help.
 pub const HELP: &str = "\
-Usage: hugetlbd [script] [OPTIONS]
+Usage: hugetlbd [script] [OPTIONS] < FILE
 
 A HugeTLB service: it answers the lines on standard input on a new machine, with
 one reply for each, on standard output.
@@ -26,9 +29,9 @@ Subcommands:
   help                 print this help
 
 Options:
-      --frames <N,..>  frames of each node: 1 to 4 nodes of 1 to 65,536 [default: 4,4]
-      --page <BYTES>   bytes of a page: a power of two from 1,024 to 2,097,152 [default: 1024]
-      --slots <N>      slots for mounts: 1 to 64, the first of them mounted [default: 4]
+      --frames <N,..>  frames of each node, in pages: 1 to 65536, of 1 to 4 nodes [default: 4,4]
+      --page <BYTES>   size of a page, in bytes: a power of two, 1024 to 2097152 [default: 1024]
+      --slots <N>      number of slots for mounts: 1 to 64, slot 0 is mounted [default: 4]
   -h, --help           print this help
   -V, --version        print the version
 ";
@@ -74,10 +77,12 @@ fn command<'a>(alloc: Global) -> Result<Command<'a>, AllocError>
     ensures { IfOk result (λ c. app_of c ≡ hugetlbd) }
 {
     let script = Command::new(alloc, "script")
+        .override_usage(USAGE)
         .arg(option(alloc, "frames"))?
         .arg(option(alloc, "page"))?
         .arg(option(alloc, "slots"))?;
     Command::new(alloc, "hugetlbd")
+        .override_usage(USAGE)
         .version(VERSION)
         .arg(option(alloc, "frames"))?
         .arg(option(alloc, "page"))?
