@@ -83,6 +83,9 @@ void free(void *block) {
 }
 
 ssize_t read(int file, void *buffer, size_t size) {
+    // (what was held and given back before the first line is not what the lines hold)
+    if (file == 0 && reads == 0)
+        most = held;
     if (file == 0 && ++reads == number_of("REFUSE_READ_AT")) {
         errno = EIO;
         return -1;

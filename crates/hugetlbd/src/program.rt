@@ -76,16 +76,6 @@ pub fn program<'a, S: AsStr, R: Source, W: Sink, E: Sink>(
     }
 }
 
-// Whether the memory of all pages can be had in one piece. (Each node's is asked for by itself, and a system that lends
-// more memory than it has would grant one node after another what they can't have together.)
-fn is_there(alloc: Global, machine: &Machine) -> bool {
-    let mut bytes = 0u64;
-    for count in &machine.frames {
-        bytes = bytes.saturating_add(count.saturating_mul(machine.page));
-    }
-    Vec::<u8>::with_capacity(alloc, bytes as usize).is_ok()
-}
-
 // Takes the memory of the machine's pages, and runs the script on it.
 fn run_on<R: Source, W: Sink>(
     alloc: Global,
@@ -100,9 +90,6 @@ fn run_on<R: Source, W: Sink>(
     ensures script { OnOk result (AnswersKnown (chosen (choice_of config.now))
         R.remaining W.contents input.old output.old output.new) }
 {
-    if !is_there(alloc, config) {
-        return Err(RunFault::Memory);
-    }
     let Ok(blanks) = Blanks::new(alloc, &config.frames, config.page as usize) else {
         return Err(RunFault::Memory);
     };
