@@ -269,6 +269,16 @@ class Session:
             self._program.stdin = None
         self._writes = None
 
+    def wait_for_end(self):
+        """Waits until the service has ended the session too, and drops what it still sends."""
+        while self._ready(False)[0]:
+            try:
+                if not os.read(self._reads, 65536):
+                    return
+            except ConnectionError:
+                return
+        raise TimeoutError(f"the service did not end in {self._seconds} seconds")
+
     def close(self):
         """Ends the session. Over a pipe: the program's status, and what it said on standard error."""
         if self._link:
