@@ -35,7 +35,8 @@ class Refused(Exception):
     def __eq__(self, other):
         return isinstance(other, Refused) and (self.number, self.name) == (other.number, other.name)
 
-    __hash__ = Exception.__hash__
+    def __hash__(self):
+        return hash((self.number, self.name))
 
 
 class BadLine(ValueError):
