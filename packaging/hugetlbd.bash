@@ -1,0 +1,41 @@
+# Completion of hugetlbd and hugetlbctl for bash.
+_hugetlbd_files() {
+    mapfile -t COMPREPLY < <(compgen -f -- "$1")
+    compopt -o filenames 2>/dev/null
+}
+
+_hugetlbd_words() {
+    mapfile -t COMPREPLY < <(compgen -W "$1" -- "$2")
+}
+
+_hugetlbd() {
+    local now=${COMP_WORDS[COMP_CWORD]} before=${COMP_WORDS[COMP_CWORD - 1]}
+    case $before in
+        --page) _hugetlbd_words "1024 4096 65536 2097152" "$now" ;;
+        --frames) _hugetlbd_words "4,4 8192 8192,8192" "$now" ;;
+        --slots) _hugetlbd_words "4 8 64" "$now" ;;
+        *)
+            local words="--frames --page --slots --help"
+            [ "$COMP_CWORD" = 1 ] && words="script help --version $words"
+            _hugetlbd_words "$words" "$now"
+            ;;
+    esac
+}
+
+_hugetlbctl() {
+    local now=${COMP_WORDS[COMP_CWORD]} before=${COMP_WORDS[COMP_CWORD - 1]}
+    case $before in
+        --page) _hugetlbd_words "1024 4096 65536 2097152" "$now" ;;
+        --program | --svg) _hugetlbd_files "$now" ;;
+        --frames | --slots | --port | --watch | --end | --seconds | --times) COMPREPLY=() ;;
+        *)
+            case $now in
+                -*) _hugetlbd_words "--program --port --frames --page --slots --svg --prometheus --watch --end --seconds --times --help" "$now" ;;
+                *) _hugetlbd_files "$now" ;;
+            esac
+            ;;
+    esac
+}
+
+complete -F _hugetlbd hugetlbd
+complete -F _hugetlbctl hugetlbctl
