@@ -24,7 +24,7 @@ mod table;
 
 /// The indices of a file, each a hole, entered (a page is reserved for it), or entered with its page.
 ///
-/// A file takes 16 bytes until its first entry, with which its tables are made. Contracts see the list of its cells.
+/// A file takes 16 bytes until its first entry, with which its tables are made, and again once it is cut to length 0. Contracts see the list of its cells.
 /// Only `reserve_range` and `prepare` ask for memory.
 #[derive(Drop)]
 pub struct Inode {
@@ -169,12 +169,17 @@ impl Inode {
         Ok(ReadyInode { alloc, indices })
     }
 
-    /// Makes the file `len` indices long: longer by holes, or shorter by holes alone.
+    /// Makes the file `len` indices long: longer by holes, or shorter by holes alone. A file of length 0 gives back what its
+    /// entries took.
     pub fn set_len(&mut self, len: u64)
         requires small { len < 2 ^ 32 }
         requires holes { All (λ cell. cell ≡ Hole) (drop len self.old) }
         ensures { self.new ≡ cells_to len self.old }
     {
+        if len == 0 {
+            self.form = Form::Holes(0);
+            return;
+        }
         match &mut self.form {
             Form::Holes(own) => *own = len,
             Form::Kept(indices) => indices.set_len(len),

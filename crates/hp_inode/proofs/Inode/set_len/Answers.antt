@@ -7,7 +7,7 @@ use Rattle.hp_inode.proofs.Inode.set_len.Goals as goal
 use Rattle.hp_inode.proofs.Inode.set_len.Goals.{in-Holes, in-Kept}
 
 pub returns : goal.returns
-returns c = elim c.match-self.branch as (λ _. cells_in c.match-self.self-inside.form ≡ cells_to c.args.len c.args.self.now) [
+returns c = elim c.match-self-2.branch as (λ _. cells_in c.match-self-2.self-inside.form ≡ cells_to c.args.len c.args.self.now) [
   | in-Holes w ↦ rw (w.self-inside-is, ← c.self.view_is, w.in-Holes.is)
       (resized _ _ _ _ (holes_kept w.in-Holes.is c.self.invariant) c.args.len (rw (← c.self.view_is, w.in-Holes.is) at c.requires.holes))
   | in-Kept w ↦ rw (w.self-inside-is, ← c.self.view_is, w.in-Kept.is, ← w.deref_mut.ensures.value) w.set_len.ensures
