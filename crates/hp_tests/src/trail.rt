@@ -293,6 +293,51 @@ fn nothing_joins(rt: HostRuntime) -> Result<(), Fail> {
     Ok(())
 }
 
+/// As many sessions as there may be workers, each of which was told of one event of the pool.
+fn many_sessions(alloc: Global, sessions: u64) -> Result<Option<Vec<Event>>, AllocError> {
+    let mut trail = Vec::new(alloc);
+    let mut receipts = Vec::new(alloc);
+    for place in 0..sessions {
+        trail.push(PoolEntry::OfPool {
+            event: PoolEvent::Nr { pages: 4 },
+            reply: Ok(Answer::Number(4)),
+        })?;
+        let mut told = Vec::new(alloc);
+        told.push(Receipt {
+            part: Part::Pool,
+            place,
+            event: event_of(alloc, Told::Nr)?,
+            reply: Ok(Answer::Number(4)),
+        })?;
+        receipts.push(told)?;
+    }
+    audited(alloc, &[], &trail, &[], receipts)
+}
+
+#[test]
+fn receipts_of_64_sessions_join(rt: HostRuntime) -> Result<(), Fail> {
+    let alloc = rt.alloc();
+    let mut expected = Vec::new(alloc);
+    for _ in 0..64 {
+        expected.push(event_of(alloc, Told::Nr)?)?;
+    }
+    assert!(rt; many_sessions(alloc, 64)? == Some(expected));
+    Ok(())
+}
+
+#[test]
+fn a_trail_of_a_million_places_takes_them(rt: HostRuntime) -> Result<(), Fail> {
+    let mut trail = Kept::open(rt.alloc(), 1_000_000, 256)?;
+    for entry in 0..1_000_000u64 {
+        assert!(rt; trail.has_room(false));
+        trail.push(entry);
+    }
+    same!(rt; trail.has_room(false), false);
+    same!(rt; trail.has_room(true), true);
+    same!(rt; trail.place(), 1_000_000);
+    Ok(())
+}
+
 #[test]
 fn closing_entries_have_places_of_their_own(rt: HostRuntime) -> Result<(), Fail> {
     let mut trail = Kept::open(rt.alloc(), 1, 1)?;
