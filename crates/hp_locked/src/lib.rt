@@ -5,7 +5,9 @@ mod gate;
 mod nodes;
 mod noting;
 mod parcel;
+mod pool_core;
 
 pub use gate::Gate;
 pub use nodes::NodeLocks;
 pub use parcel::Parcel;
+pub use pool_core::{Core, Full};
