@@ -1,12 +1,14 @@
 //! The pool and the frames of its nodes, each under a lock, and a session's door to them.
 #![tactic(auto)]
 
+mod door;
 mod gate;
 mod nodes;
 mod noting;
 mod parcel;
 mod pool_core;
 
+pub use door::{Door, SessionDoor};
 pub use gate::Gate;
 pub use nodes::NodeLocks;
 pub use parcel::Parcel;
