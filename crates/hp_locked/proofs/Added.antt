@@ -1,5 +1,5 @@
 -- A trail keeps its fact with one entry more.
-use Rattle.std.proofs.Common.{◌≡◌, Bool, true, false, arith, ℕ, List, [], ◌∷◌, ◌++◌, Option, Some, None, refl, sym, ap, ◌∙◌, subst}
+use Rattle.std.proofs.Common.{◌≡◌, ◌-◌, length, Bool, true, false, arith, ℕ, List, [], ◌∷◌, ◌++◌, Option, Some, None, Ok, refl, sym, ap, ◌∙◌, subst}
 use Rattle.hp_model.specs.declared.entry.PoolEntry.{PoolEntry}
 use Rattle.hp_model.specs.declared.entry.PoolEntry.TheVariants.{OfSlot}
 use Rattle.hp_model.specs.declared.section.PoolAnswer.{PoolAnswer}
@@ -8,7 +8,7 @@ use Rattle.hp_model.specs.pool.Pool.{puts_from, released, section, settled}
 use Rattle.hp_model.specs.pool.PoolCounts.{Pool}
 use Rattle.hp_model.specs.threads.PoolRun.{IsPoolRun, IsPoolStep}
 use Rattle.hp_model.specs.machine.Settled.{IsSettledPool}
-use Rattle.hp_model.specs.pool.NodeRows.{frames_of}
+use Rattle.hp_model.specs.pool.NodeRows.{frames_of, total_of}
 use Rattle.hp_model.specs.pool.PoolCounts.{IsSettled}
 use Rattle.hp_model.proofs.Sums.{idle_total}
 use Rattle.hp_laws.proofs.Sections.{total-le-frames}
@@ -26,8 +26,14 @@ use Rattle.std.specs.Bool.{MatchBool}
 use Rattle.hp_trail.specs.Keeping.{added, has_room, one_less}
 use Rattle.hp_locked.specs.Views.{IsFresh, Asks, HasPlaces, IsAnswered, CoreView, IsCore, IsGiven, IsPlace, IsPoolTrail}
 use Rattle.hp_model.specs.threads.Closing.{to_return}
-use Rattle.hp_laws.proofs.Closing.{most_return}
-use Rattle.hp_laws.proofs.SectionFrames.{section_frames}
+use Rattle.hp_laws.proofs.Closing.{most_return, step_frames}
+use Rattle.hp_laws.proofs.Lengths.{long_event}
+use Rattle.hp_model.specs.declared.event.PoolEvent.{PoolEvent}
+use Rattle.hp_model.specs.machine.Plan.{Reply}
+use Rattle.hp_model.specs.pool.Grant.{granted, surplus_times}
+use Rattle.hp_model.specs.pool.Resize.{pool_event, set_nr}
+use Rattle.hp_model.specs.declared.answer.Answer.TheVariants.{Number}
+use Rattle.hp_model.specs.declared.event.PoolEvent.TheVariants.{Nr}
 
 pub fresh_core : (fs : List ℕ) (o : Option (List PoolEntry)) (left : Option ℕ) (extra : ℕ) (p : Pool) → p ≡ idle_pool fs → IsReady p → (IsSettled p → IsSettledPool p) → IsFresh o → 2 * frames_of (idle_pool fs).nodes.rows ≤ extra
     → IsCore (idle_pool fs) o left extra p
@@ -94,26 +100,30 @@ has_place : (l : Option ℕ) (extra n : ℕ) → HasPlaces l n → 0 < n → has
 has_place None extra n places some = refl
 has_place (Some l) extra n places some = lt-ltb 0 l (omega (arith, places, some))
 
-module _ (start : Pool) (o o2 : Option (List PoolEntry)) (left left2 : Option ℕ) (extra extra2 : ℕ) (p : Pool) (s : Section) (a : PoolAnswer) (q : Pool) (core : IsCore start o left extra p)
-  (noted : o2 ≡ added o (OfSlot s a)) (lessens : left2 ≡ one_less left) (stays : extra2 ≡ extra) (step : section p s ≡ (a, q)) (ready : IsReady q) (law : IsSettled q → IsSettledPool q) where
+module _ (start : Pool) (o o2 : Option (List PoolEntry)) (left left2 : Option ℕ) (extra extra2 : ℕ) (p : Pool) (e : PoolEntry) (q : Pool) (core : IsCore start o left extra p)
+  (noted : o2 ≡ added o e) (lessens : left2 ≡ one_less left) (stays : extra2 ≡ extra) (step : IsPoolStep p e q) (ready : IsReady q) (law : IsSettled q → IsSettledPool q) where
   as_noted : HasPlaces (one_less left) (to_return q) → IsCore start o2 left2 extra2 q
   as_noted places = record {
-    trail = subst (λ (x : Option (List PoolEntry)). IsPoolTrail start x q) (sym noted) (pool_added start o p (OfSlot s a) q core.trail step);
+    trail = subst (λ (x : Option (List PoolEntry)). IsPoolTrail start x q) (sym noted) (pool_added start o p e q core.trail step);
     ready = ready;
     settled = law ready.settled;
-    frames = section_frames p s a q step ∙ core.frames;
+    frames = step_frames p q e core.settled step ∙ core.frames;
     enough = (let was = core.enough in omega (arith, was, stays));
     places = subst (λ (x : Option ℕ). HasPlaces x (to_return q)) (sym lessens) places;
   }
 
-  -- a section that may take more
-  pub section_noted : has_room false left extra ≡ true → IsCore start o2 left2 extra2 q
-  section_noted room =
-      as_noted (spared left extra (to_return q) room (let most = most_return q (law ready.settled) in let same = section_frames p s a q step in let was = core.frames in let enough = core.enough in omega (arith, most, same, was, enough)))
+  -- an entry of any kind
+  pub entry_noted : has_room false left extra ≡ true → IsCore start o2 left2 extra2 q
+  entry_noted room =
+      as_noted (spared left extra (to_return q) room (let most = most_return q (law ready.settled) in let same = step_frames p q e core.settled step in let was = core.frames in let enough = core.enough in omega (arith, most, same, was, enough)))
 
   -- one that gives back
   pub given_back : to_return q < to_return p → IsCore start o2 left2 extra2 q
   given_back less = as_noted (closed left (to_return p) (to_return q) core.places less)
+
+pub section_noted : (start : Pool) (o o2 : Option (List PoolEntry)) (left left2 : Option ℕ) (extra extra2 : ℕ) (p : Pool) (s : Section) (a : PoolAnswer) (q : Pool) → IsCore start o left extra p
+    → o2 ≡ added o (OfSlot s a) → left2 ≡ one_less left → extra2 ≡ extra → section p s ≡ (a, q) → IsReady q → (IsSettled q → IsSettledPool q) → has_room false left extra ≡ true → IsCore start o2 left2 extra2 q
+section_noted start o o2 left left2 extra extra2 p s a q core noted lessens stays step ready law room = entry_noted start o o2 left left2 extra extra2 p (OfSlot s a) q core noted lessens stays step ready law room
 
 -- what was given back, noted
 module _ {X : Type 0} (E : X → Option (List PoolEntry)) (L : X → Option ℕ) (R : X → ℕ) (old new : X) (puts : List ℕ) (k : ℕ) (p q : Pool) where
@@ -137,7 +147,7 @@ module _ {X : Type 0} (E : X → Option (List PoolEntry)) (L : X → Option ℕ)
       → (0 < sum puts + k → to_return q < to_return p)
       → IfSome t (λ a. Noted puts k a) → IfNone t ((new ≡ old) × (sum puts + k ≡ 0)) → IsCore start (E new) (L new) (R new) q
   keeps start (Some a) core moved stays ready law less n none =
-      given_back start (E old) (E new) (L old) (L new) (R old) (R new) p a.section a.answer q core n.3 n.5 n.6 (gave a moved n) ready law (less n.4)
+      given_back start (E old) (E new) (L old) (L new) (R old) (R new) p (OfSlot a.section a.answer) q core n.3 n.5 n.6 (gave a moved n) ready law (less n.4)
   keeps start None core moved stays ready law less n none =
       subst (λ (x : Pool). IsCore start (E new) (L new) (R new) x) (sym (stays none.1)) (subst (λ (x : X). IsCore start (E x) (L x) (R x) p) (sym none.0) core)
 
@@ -171,3 +181,22 @@ module _ {X : Type 0} (asked : X → Option Asked) (d e : X) (pages : List Page)
 
   pub door_gives : (puts : List ℕ) (m : ℕ) (t : Option Asked) → puts ≡ by_node pages → m ≡ k → IsGiven puts m old new t → asked e ≡ t → (t ≡ None → e ≡ d) → GivesBack (λ x s a y. Asks (asked y) s a) pages k d e
   door_gives puts m t same falls given = door_is t (subst (λ (x : List ℕ). IsGiven x k old new t) same (subst (λ (x : ℕ). IsGiven puts x old new t) falls given))
+
+-- a grant of nothing changes nothing
+pub granted_nothing : (p : Pool) → IsSettledPool p → granted 0 0 p ≡ p
+granted_nothing p s =
+    let total = s.total in
+    let none : p.committed + 0 - total_of p.nodes.rows ≡ 0 = omega (arith, total) in
+    let same : p.committed + 0 ≡ p.committed = omega arith in
+    ap (λ n. record p { committed = p.committed + 0; nodes = surplus_times 0 n p.nodes }) none ∙ ap (λ n. record p { committed = n }) same
+
+-- an event leaves the pool ready
+pub event_ready : (p q : Pool) (e : PoolEvent) (r : Reply) → pool_event p e ≡ (r, q) → IsReady p → IsSettled q → IsReady q
+event_ready p q e r step ready is =
+    let nodes = ready.nodes in
+    let long = long_event p e in
+    let same = ap (λ (x : Reply × Pool). length x.1.nodes.rows) step in
+    record { settled = is; nodes = omega (arith, nodes, long, same) }
+
+pub set_ready : (p q : Pool) (n : ℕ) → q ≡ set_nr n p → IsReady p → IsSettled q → IsReady q
+set_ready p q n is ready = event_ready p q (Nr n) (Ok (Number (set_nr n p).nr)) (ap (λ (x : Pool). (Ok (Number (set_nr n p).nr), x)) (sym is)) ready

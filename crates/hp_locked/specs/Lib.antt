@@ -1,2 +1,4 @@
 pub mod Parcel
 pub mod Views
+pub mod Opened
+pub mod Told

@@ -7,9 +7,11 @@ mod nodes;
 mod noting;
 mod parcel;
 mod pool_core;
+mod pool_told;
 
 pub use door::{Door, SessionDoor};
 pub use gate::Gate;
 pub use nodes::NodeLocks;
 pub use parcel::Parcel;
 pub use pool_core::{Core, Full};
+pub use pool_told::PoolTold;

@@ -5,24 +5,38 @@ ghost use Rattle.hp_model.specs.declared.entry.PoolEntry.TheVariants.{OfSlot};
 ghost use Rattle.hp_model.specs.declared.section.Section.TheVariants.{GiveBack, TakePage};
 ghost use Rattle.hp_model.specs.pool.NodeRows.{frames_of};
 ghost use Rattle.hp_model.specs.pool.Pool.{granted_at, no_pages, puts_from, released, section, settled};
+ghost use Rattle.hp_model.specs.declared.entry.Part.TheVariants.{Pool as AtPool};
+ghost use Rattle.hp_model.specs.declared.event.Event.TheVariants.{Pool as OfPool};
+ghost use Rattle.hp_model.specs.files.Options.{limits, wanted_of};
+ghost use Rattle.hp_model.specs.pool.Resize.{node_counts, pool_event};
 ghost use Rattle.hp_model.specs.threads.Closing.{to_return};
 ghost use Rattle.hp_mount_door.specs.Door.{IsReady, grant_for, page_for, with_granted, with_less, with_page, with_reserves};
 ghost use Rattle.hp_pool.specs.Sums.{idle_pool};
 ghost use Rattle.hp_subpool.specs.Subpool.{committed_of, fall, is_full as ShareIsFull, rise, used};
 ghost use Rattle.hp_trail.specs.Keeping.{added, has_room, one_less};
+ghost use Rattle.hp_locked.specs.Opened.{IsShareOf, read_nr};
+ghost use Rattle.hp_locked.specs.Told.{IsPoolEventDone, IsReceipt, pool_reply};
 ghost use Rattle.hp_locked.specs.Views.{IsAnswered, IsFresh, IsGiven, IsPlace, IsPoolTrail, IsSection, IsUnasked, frames_list};
 
-use crate::noting::note;
+use crate::noting::{note, note_event};
 use crate::parcel::Parcel;
-use hp_model::entry::{Asked, PoolEntry};
+use crate::pool_told::PoolTold;
+use hp_model::answer::NodeCount;
+use hp_model::entry::{Asked, PoolEntry, Receipt};
+use hp_model::event::PoolEvent;
+use hp_model::limits::Limits;
 use hp_model::naming::Naming;
 use hp_model::refusal::Refusal;
 use hp_model::section::{PoolAnswer, Section};
+use hp_options::options::parse_options;
 use hp_permit::Claim;
 use hp_pool::Pool;
 use hp_subpool::Subpool;
 use hp_trail::trail::Trail;
 use std::marker::Model;
+
+/// The most that overcommit may be set to, in pages.
+const MOST_OVERCOMMIT: u64 = 4_294_967_295;
 
 /// There was no room in the trail.
 #[derive(Clone, Copy, Debug, PartialEq, Eq)]
@@ -184,6 +198,125 @@ impl<N: Naming, T: Trail<PoolEntry>> Core<N, T> {
         pool.law();
         given(trail, puts, pages)
     }
+
+    /// The section of a mount: reads nr, and commits the minimum that the options mean at it, for pages of so many bytes.
+    /// The share and the limits, or BadOption, MinOverSize or NoPages; and the section. At `Err` the trail is full, and
+    /// nothing changed.
+    pub fn open(&mut self, options: &[u8], page_bytes: u64) -> Result<(Result<(Subpool<N>, Limits), Refusal>, Asked), Full>
+        requires { 0 < page_bytes }
+        ensures section { IfOk result (λ r. IsSection self.old self.new r.1) }
+        ensures opens { IfOk result (λ r. IsShareOf (limits self.old.pool.nr page_bytes (wanted_of options.now))
+            self.old.pool.nr r.0 r.1.section r.1.answer) }
+        ensures full { OnErr result (has_room false self.old.left self.old.extra ≡ false) }
+        ensures same { OnErr result (self.new ≡ self.old) }
+    {
+        let Core { pool, trail } = self;
+        if !trail.has_room(false) {
+            return Err(Full {});
+        }
+        let (share, section, answer) = opened_share(pool, options, page_bytes);
+        pool.law();
+        let asked = note(trail, section, answer);
+        Ok((share, asked))
+    }
+
+    /// An event of the pool alone: its answer, and its receipt where entries are kept. At `Err` the trail is full, and
+    /// nothing changed.
+    pub fn event(&mut self, event: PoolEvent) -> Result<(PoolTold, Option<Receipt>), Full>
+        ensures done { IfOk result (λ r. IsPoolEventDone self.old self.new event (pool_reply r.0)) }
+        ensures receipt { IfOk result (λ r. IsReceipt self.old.entries AtPool (OfPool event) (pool_reply r.0) r.1) }
+        ensures full { OnErr result (has_room false self.old.left self.old.extra ≡ false) }
+        ensures same { OnErr result (self.new ≡ self.old) }
+    {
+        let Core { pool, trail } = self;
+        if !trail.has_room(false) {
+            return Err(Full {});
+        }
+        let told = answered(pool, event);
+        pool.law();
+        let receipt = note_event(trail, event, told);
+        Ok((told, receipt))
+    }
+}
+
+// The share of a mount with these options, with its section and the pool's answer.
+fn opened_share<N: Naming>(
+    pool: &mut Pool<N>,
+    options: &[u8],
+    page_bytes: u64,
+) -> (Result<(Subpool<N>, Limits), Refusal>, Section, PoolAnswer)
+    requires ready { IsReady pool.old }
+    requires bytes { 0 < page_bytes }
+    ensures section { section pool.old result.1 ≡ (result.2, pool.new) }
+    ensures opens { IsShareOf (limits pool.old.nr page_bytes (wanted_of options.now)) pool.old.nr result.0 result.1 result.2 }
+    ensures ready { IsReady pool.new }
+{
+    pool.law();
+    let nr = pool.nr();
+    match parse_options(options, nr, page_bytes) {
+        Err(refusal) => (
+            Err(refusal),
+            Section::ReadAndGrant { pages: 0 },
+            read_nr(true, nr),
+        ),
+        Ok(limits) => {
+            let section = Section::ReadAndGrant { pages: limits.min };
+            match Subpool::open(pool, limits.max, limits.min) {
+                Ok(share) => (Ok((share, limits)), section, read_nr(true, nr)),
+                Err(refusal) => (Err(refusal), section, read_nr(false, nr)),
+            }
+        }
+    }
+}
+
+fn read_nr(granted: bool, nr: u64) -> PoolAnswer
+    ensures { result ≡ read_nr granted nr }
+{
+    PoolAnswer {
+        granted,
+        node: 0,
+        nr,
+    }
+}
+
+// What the pool answers to an event.
+fn answered<N: Naming>(pool: &mut Pool<N>, event: PoolEvent) -> PoolTold
+    requires { IsReady pool.old }
+    ensures event { pool_event pool.old event ≡ (pool_reply result, pool.new) }
+    ensures ready { IsReady pool.new }
+{
+    match event {
+        PoolEvent::Nr { pages } => PoolTold::Number(pool.set_nr(pages)),
+        PoolEvent::Overcommit { pages } => {
+            if pages > MOST_OVERCOMMIT {
+                return PoolTold::TooMuch;
+            }
+            pool.set_overcommit(pages);
+            PoolTold::Done
+        }
+        PoolEvent::Meminfo => PoolTold::Numbers(pool.counts()),
+        PoolEvent::Nodes => PoolTold::PerNode {
+            nodes: pool.len() as u64,
+            rows: node_rows(pool),
+        },
+    }
+}
+
+// A row for each node, and rows of zeros past the last.
+fn node_rows<N: Naming>(pool: &Pool<N>) -> [NodeCount; 4]
+    requires { length pool.now.nodes.rows ≤ 4 }
+    ensures { result ≡ node_counts pool.now }
+{
+    let none = NodeCount {
+        total: 0,
+        free: 0,
+        surp: 0,
+    };
+    let mut rows = [none; 4];
+    for node in 0..pool.len() {
+        rows[node] = pool.node(node);
+    }
+    rows
 }
 
 // Notes what was given back, if that is anything.
