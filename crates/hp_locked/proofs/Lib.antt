@@ -1,3 +1,4 @@
 pub mod Added
 pub mod Giving
 pub mod Rows
+pub mod Opening

@@ -1,15 +1,17 @@
 //! A session's door to the pool under its lock.
-ghost use Rattle.std.specs.Prelude.{◌≡◌, ℕ, None, Option, []};
+ghost use Rattle.std.specs.Prelude.{◌≡◌, ◌<◌, ℕ, None, Option, []};
 ghost use Rattle.hp_model.specs.declared.entry.Asked.{Asked as AskedValue};
 ghost use Rattle.hp_model.specs.declared.section.PoolAnswer.{PoolAnswer};
 ghost use Rattle.hp_model.specs.declared.section.Section.{Section};
 ghost use Rattle.hp_store.specs.Store.{page_at};
+ghost use Rattle.hp_locked.specs.Opened.{IsOpenedAt, shown};
 ghost use Rattle.hp_locked.specs.Views.{Asks};
 
 use crate::gate::Gate;
 use crate::nodes::NodeLocks;
 use crate::pool_core::Core;
 use hp_model::entry::{Asked, PoolEntry};
+use hp_model::limits::Limits;
 use hp_model::naming::Naming;
 use hp_model::refusal::Refusal;
 use hp_mount_door::PoolDoor;
@@ -43,6 +45,23 @@ impl<'a, N: Naming, R: Wait, G: Gate, T: Trail<PoolEntry>> Door<'a, N, R, G, T> 
             core,
             nodes,
             asked: None,
+        }
+    }
+
+    // The section of a mount, as `SessionDoor::open` has it.
+    fn open_share(&mut self, options: &[u8], page_bytes: u64) -> Result<(Subpool<N>, Limits), Refusal>
+        requires ready { self.old.asked ≡ None }
+        requires bytes { 0 < page_bytes }
+        ensures { IsOpenedAt (λ d s a e. Asks e.asked s a) (λ d. d.asked ≡ None) page_bytes options.now
+            self.old self.new (shown (λ s. s) result) }
+    {
+        let opened = self.core.lock(self.rt).open(options, page_bytes);
+        match opened {
+            Err(_full) => Err(Refusal::TraceFull),
+            Ok((share, asked)) => {
+                self.asked = Some(asked);
+                share
+            }
         }
     }
 
@@ -146,6 +165,14 @@ pub trait SessionDoor: PoolDoor {
     fn asked(&self) -> Option<Asked>
         ensures { result ≡ asked self.now };
 
+    /// The section of a mount: reads nr, and commits the minimum that the options mean at it, for pages of so many bytes.
+    /// The share and the limits, or BadOption, MinOverSize or NoPages; or TraceFull, and then there was none.
+    fn open(&mut self, options: &[u8], page_bytes: u64) -> Result<(Self::Share, Limits), Refusal>
+        requires ready { Self.PoolDoor.is_ready self.old }
+        requires bytes { 0 < page_bytes }
+        ensures { IsOpenedAt Self.PoolDoor.took Self.PoolDoor.is_full page_bytes options.now
+            self.old self.new (shown Self.PoolDoor.share_of result) };
+
     // a door that is ready was not used
     ghost begins: { (d : Self) → Self.PoolDoor.is_ready d → asked d ≡ None };
 
@@ -161,5 +188,9 @@ impl<'a, N: Naming, R: Wait, G: Gate, T: Trail<PoolEntry>> SessionDoor for Door<
 
     fn asked(&self) -> Option<Asked> {
         self.asked_section()
+    }
+
+    fn open(&mut self, options: &[u8], page_bytes: u64) -> Result<(Subpool<N>, Limits), Refusal> {
+        self.open_share(options, page_bytes)
     }
 }
