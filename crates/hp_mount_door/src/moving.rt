@@ -115,3 +115,19 @@ impl<N: Naming> Moving<N> {
         three.close();
     }
 }
+
+/// Where there is a pool already.
+impl<N: Naming> Moving<N> {
+    /// None, of all claims.
+    pub fn of_pool(pool: &mut Pool<N>) -> Self
+        ensures none { result ≡ 0 ∷ 0 ∷ 0 ∷ 0 ∷ [] }
+        ensures same { pool.new ≡ pool.old }
+    {
+        Moving {
+            zero: pool.no_claim(0),
+            one: pool.no_claim(1),
+            two: pool.no_claim(2),
+            three: pool.no_claim(3),
+        }
+    }
+}

@@ -248,3 +248,32 @@ impl<N: Naming> PoolDoor for OwnPool<N> {
         self.pool.settle();
     }
 }
+
+/// The pool and the frames, by themselves.
+impl<N: Naming> OwnPool<N> {
+    /// The pool, and the frames that nobody holds.
+    pub fn into_parts(self) -> (Pool<N>, Frames<N>)
+        ensures { result.0 ≡ self }
+    {
+        let OwnPool {
+            pool,
+            frames,
+            moving,
+        } = self;
+        moving.close();
+        (pool, frames)
+    }
+
+    /// A pool with the frames that nobody holds.
+    pub fn from_parts(pool: Pool<N>, frames: Frames<N>) -> Self
+        ensures { result ≡ pool }
+    {
+        let mut parts = pool;
+        let moving = Moving::of_pool(&mut parts);
+        OwnPool {
+            pool: parts,
+            frames,
+            moving,
+        }
+    }
+}

@@ -436,3 +436,15 @@ impl<N: Naming> NodeLists<N> {
         count
     }
 }
+
+/// Claims on nothing, for who gathers claims.
+impl<N: Naming> NodeLists<N> {
+    /// A claim on no frame of a node.
+    pub fn no_claim(&mut self, node: usize) -> Claim<N>
+        requires { node < 4 }
+        ensures none { result ≡ record { node = node; amount = 0 } }
+        ensures same { self.new ≡ self.old }
+    {
+        self.claims.none(node)
+    }
+}
