@@ -67,3 +67,4 @@ pub mod SectionFrames
 pub mod FewTasks
 pub mod Closing
 pub mod Telling
+pub mod Listing

@@ -66,7 +66,7 @@ use Rattle.hp_laws.proofs.Shown.{On, Same, Result, on_weaker, read_same, write_d
 use Rattle.hp_laws.proofs.Whole.{by_event, is_whole, step_of}
 use Rattle.hp_laws.proofs.SlotShows.{always_gives, always_grant, always_mount, always_unless, always_value, bytes_on}
 
-abbrev Small : Outcome → Type 0
+abbrev pub Small : Outcome → Type 0
 Small o = IsWithinLimits (reply_of o)
 
 -- ---- numbers
@@ -320,7 +320,7 @@ module _ (size k : ℕ) (c : Choice) (m : Mount) where
   mounted_small (slot.ForkMaps parent child) e = tested (fork_tests c m parent child) _ (done_small (Some (forked parent child m)))
   mounted_small (slot.ExitMaps task) e = done_small (Some (without_task task m))
 
-slot_small : (size k : ℕ) (c : Choice) (old : Slot) (e : SlotEvent) → tells_all e ≡ false → Always Small (slot_event size k c old e)
+pub slot_small : (size k : ℕ) (c : Choice) (old : Slot) (e : SlotEvent) → tells_all e ≡ false → Always Small (slot_event size k c old e)
 slot_small size k c None (slot.Mount options) e = mount_small size k c None options
 slot_small size k c None other e = tt
 slot_small size k c (Some m) e apart = mounted_small size k c m e apart

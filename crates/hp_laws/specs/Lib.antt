@@ -1,3 +1,4 @@
 pub mod Balance
 pub mod Laws
 pub mod Closing
+pub mod Answers

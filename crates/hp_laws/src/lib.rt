@@ -1,6 +1,7 @@
 //! What holds of the machine, whatever its steps. Each law is the contract of a function that does nothing.
 #![tactic(auto)]
 
+ghost use Rattle.hp_laws.specs.Answers.{NamesAreListed};
 ghost use Rattle.hp_laws.specs.Closing.{PoolPlaces, ReceiptsAreFew, SlotPlaces, TablePlaces};
 ghost use Rattle.hp_laws.specs.Laws.{CountsAreSums, JoinedLaw, LimitsHold, OwnerWrites, PoolIsTied, PromisesAreKept, RefusalsChangeNothing, ReservedAccess, RunsAreSettled, SlotsAreBalanced, SlotsStaySound, StartIsSettled};
 
@@ -86,4 +87,9 @@ pub fn pool_places_are_enough()
 /// A step is told by no more receipts than a session asks room for before it.
 pub fn receipts_are_few()
     ensures { ReceiptsAreFew }
+{}
+
+/// Only the event that asks for the names of files answers a list of names, whatever the pool answers.
+pub fn names_are_listed()
+    ensures { NamesAreListed }
 {}

@@ -1,0 +1,4 @@
+pub mod Added
+pub mod Giving
+pub mod Rows
+pub mod Opening

@@ -1,2 +1,3 @@
-pub mod Parcel
 pub mod Views
+pub mod Opened
+pub mod Told

@@ -1,11 +1,15 @@
 //! The pool and the frames of its nodes, each under a lock, and a session's door to them.
 #![tactic(auto)]
 
+mod door;
 mod gate;
 mod nodes;
 mod noting;
-mod parcel;
+mod pool_core;
+mod pool_told;
 
+pub use door::{Door, SessionDoor};
 pub use gate::Gate;
 pub use nodes::NodeLocks;
-pub use parcel::Parcel;
+pub use pool_core::{Core, Full};
+pub use pool_told::PoolTold;

@@ -4,8 +4,8 @@ ghost use Rattle.std.specs.List.{sum};
 ghost use Rattle.hp_mount_door.specs.Door.{by_node};
 
 use crate::gate::Gate;
-use crate::parcel::Parcel;
 use hp_model::naming::Naming;
+use hp_mount_door::Parcel;
 use hp_nodes::{Frames, NodeFrames, Page, PageDraft};
 use hp_permit::Claim;
 use hp_store::PageStore;
@@ -112,8 +112,7 @@ impl<N: Naming> NodeLocks<N> {
     {
         let mut parcel = Parcel::new();
         while let Some(page) = going.next_going() {
-            let claim = self.give(rt, gate, page);
-            parcel = parcel.with(claim);
+            parcel.add(self.give(rt, gate, page));
         }
         parcel
     }

@@ -1,10 +1,15 @@
 //! Entries of the pool's trail.
 ghost use Rattle.std.specs.Prelude.{◌≡◌, true};
-ghost use Rattle.hp_model.specs.declared.entry.PoolEntry.TheVariants.{OfSlot};
+ghost use Rattle.hp_model.specs.declared.entry.Part.TheVariants.{Pool as AtPool};
+ghost use Rattle.hp_model.specs.declared.entry.PoolEntry.TheVariants.{OfPool, OfSlot};
+ghost use Rattle.hp_model.specs.declared.event.Event.TheVariants.{Pool as OnPool};
 ghost use Rattle.hp_trail.specs.Keeping.{added, has_room, one_less};
+ghost use Rattle.hp_locked.specs.Told.{IsReceipt, pool_reply};
 ghost use Rattle.hp_locked.specs.Views.{IsPlace};
 
-use hp_model::entry::{Asked, PoolEntry};
+use crate::pool_told::PoolTold;
+use hp_model::entry::{Asked, Part, PoolEntry, Receipt};
+use hp_model::event::{Event, PoolEvent};
 use hp_model::section::{PoolAnswer, Section};
 use hp_trail::trail::Trail;
 
@@ -29,4 +34,40 @@ pub(crate) fn note<T: Trail<PoolEntry>>(
         section,
         answer,
     }
+}
+
+// Notes an event of the pool with its answer, and makes its receipt where entries are kept.
+pub(crate) fn note_event<T: Trail<PoolEntry>>(
+    trail: &mut T,
+    event: PoolEvent,
+    told: PoolTold,
+) -> Option<Receipt>
+    requires { has_room true (T.left trail.old) (T.extra trail.old) ≡ true }
+    ensures entries { T.entries trail.new ≡ added (T.entries trail.old)
+        (OfPool event (pool_reply told)) }
+    ensures left { T.left trail.new ≡ one_less (T.left trail.old) }
+    ensures extra { T.extra trail.new ≡ T.extra trail.old }
+    ensures receipt { IsReceipt (T.entries trail.old) AtPool (OnPool event) (pool_reply told)
+        result }
+{
+    let receipt = pool_receipt(trail, event, told);
+    trail.push(PoolEntry::OfPool {
+        event,
+        reply: told.reply(),
+    });
+    receipt
+}
+
+fn pool_receipt<T: Trail<PoolEntry>>(trail: &T, event: PoolEvent, told: PoolTold) -> Option<Receipt>
+    ensures { IsReceipt (T.entries trail.now) AtPool (OnPool event) (pool_reply told) result }
+{
+    if !trail.is_kept() {
+        return None;
+    }
+    Some(Receipt {
+        part: Part::Pool,
+        place: trail.place(),
+        event: Event::Pool(event),
+        reply: told.reply(),
+    })
 }

@@ -5,4 +5,5 @@ mod service;
 mod system;
 mod table;
 
-pub use system::System;
+pub use system::{Parts, System};
+pub use table::TaskTable;

@@ -7,7 +7,7 @@ ghost use Rattle.hp_pool.specs.Ledgers.{AreLedgers};
 ghost use Rattle.hp_model.specs.machine.SlotEvent.{has_maps};
 ghost use Rattle.hp_mount_door.specs.Door.{IsReady as IsReadyPool};
 ghost use Rattle.hp_system.specs.Event.{AllExit};
-ghost use Rattle.hp_system.specs.Kept.{all_free, IsReady};
+ghost use Rattle.hp_system.specs.Kept.{all_free, IsReady, machine_of};
 
 mod accesses;
 mod slots;
@@ -120,6 +120,59 @@ impl<N: Naming> System<N> {
         }
         slots.destroy_empty();
         pool.close()
+    }
+}
+
+/// What a machine is made of: the bytes of a page, the slots, the task table, and the pool with the frames that nobody holds.
+pub struct Parts<N: Naming> {
+    pub page_bytes: usize,
+    pub slots: Vec<Option<Mount<N>>>,
+    pub table: TaskTable,
+    pub pool: OwnPool<N>,
+}
+
+/// The machine and its parts.
+impl<N: Naming> System<N> {
+    /// A machine of these parts.
+    pub fn from_parts(alloc: Global, parts: Parts<N>) -> Self
+        requires page_bytes { parts.page_bytes ≡ N.page_bytes }
+        requires some { 0 < parts.page_bytes }
+        ensures { result ≡ machine_of parts.page_bytes parts.table parts.slots.items parts.pool }
+    {
+        let Parts {
+            page_bytes,
+            slots,
+            table,
+            pool,
+        } = parts;
+        System {
+            page_bytes,
+            alloc,
+            slots,
+            table,
+            pool,
+        }
+    }
+
+    /// The parts of the machine.
+    pub fn into_parts(self) -> Parts<N>
+        ensures machine { self ≡ machine_of result.page_bytes result.table result.slots.items
+            result.pool }
+        ensures page_bytes { result.page_bytes ≡ N.page_bytes }
+    {
+        let System {
+            page_bytes,
+            alloc: _,
+            slots,
+            table,
+            pool,
+        } = self;
+        Parts {
+            page_bytes,
+            slots,
+            table,
+            pool,
+        }
     }
 }
 

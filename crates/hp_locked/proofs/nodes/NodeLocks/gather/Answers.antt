@@ -9,10 +9,10 @@ use Rattle.hp_locked.proofs.nodes.NodeLocks.gather.Goals as goal
 pub loop-page-preserved : goal.loop-page-preserved
 loop-page-preserved g c =
     let was = c.loop-page in
-    let claim = c.give-claim.ensures.claim in (
-      one_counted c.args.going.now.going was.going.going c.next_going.new.self.going was.parcel c.with-parcel.result c.in-Some.page c.in-Some.ensures.going
-          (subst (λ (x : Claim). x.node < 4) claim c.with-parcel.ensures.below)
-          (c.with-parcel.ensures.added ∙ ap (λ (x : Claim). slice_set was.parcel x.node (slice_index was.parcel x.node + x.amount)) claim) was.invariant.0,
+    let claim = c.give.ensures.claim in (
+      one_counted c.args.going.now.going was.going.going c.next_going.new.self.going was.parcel c.add.new.self c.in-Some.page c.in-Some.ensures.going
+          (subst (λ (x : Claim). x.node < 4) claim c.add.ensures.below)
+          (c.add.ensures.added ∙ ap (λ (x : Claim). slice_set was.parcel x.node (slice_index was.parcel x.node + x.amount)) claim) was.invariant.0,
       ap (λ (s : Store). record s { going = [] }) c.next_going.ensures.rest ∙ was.invariant.1,
     )
 

@@ -1,0 +1,214 @@
+-- A trail keeps its fact with one entry more.
+use Rattle.std.proofs.Common.{◌≡◌, ◌-◌, length, Bool, true, false, arith, ℕ, List, [], ◌∷◌, ◌++◌, Option, Some, None, Ok, refl, sym, ap, ◌∙◌, subst}
+use Rattle.hp_model.specs.declared.entry.PoolEntry.{PoolEntry}
+use Rattle.hp_model.specs.declared.entry.PoolEntry.TheVariants.{OfSlot}
+use Rattle.hp_model.specs.declared.section.PoolAnswer.{PoolAnswer}
+use Rattle.hp_model.specs.declared.section.Section.{Section}
+use Rattle.hp_model.specs.pool.Pool.{puts_from, released, section, settled}
+use Rattle.hp_model.specs.pool.PoolCounts.{Pool}
+use Rattle.hp_model.specs.threads.PoolRun.{IsPoolRun, IsPoolStep}
+use Rattle.hp_model.specs.machine.Settled.{IsSettledPool}
+use Rattle.hp_model.specs.pool.NodeRows.{frames_of, total_of}
+use Rattle.hp_model.specs.pool.PoolCounts.{IsSettled}
+use Rattle.hp_model.proofs.Sums.{idle_total}
+use Rattle.hp_laws.proofs.Sections.{total-le-frames}
+use Rattle.hp_pool.specs.Sums.{idle_pool}
+use Rattle.std.proofs.lemmas.Bool.{lt-ltb, ltb-true}
+use Rattle.hp_mount_door.specs.Door.{IsReady, GivesBack, by_node}
+use Rattle.std.specs.List.{sum}
+use Rattle.std.specs.Prelude.{IfSome, IfNone, ◌+◌, ◌*◌, ◌<◌, ◌≤◌}
+use Rattle.hp_model.specs.files.Page.{Page}
+use Rattle.hp_model.specs.declared.entry.Asked.{Asked}
+use Rattle.hp_model.specs.declared.section.Section.TheVariants.{GiveBack}
+use Rattle.hp_model.specs.pool.Pool.{granted_at, no_pages}
+use Rattle.hp_subpool.specs.Subpool.{Subpool}
+use Rattle.std.specs.Bool.{MatchBool}
+use Rattle.hp_trail.specs.Keeping.{added, has_room, one_less}
+use Rattle.hp_locked.specs.Views.{IsFresh, Asks, HasPlaces, IsAnswered, CoreView, IsCore, IsGiven, IsPlace, IsPoolTrail}
+use Rattle.hp_model.specs.threads.Closing.{to_return}
+use Rattle.hp_laws.proofs.Closing.{most_return, step_frames}
+use Rattle.hp_laws.proofs.Lengths.{long_event}
+use Rattle.hp_model.specs.declared.event.PoolEvent.{PoolEvent}
+use Rattle.hp_model.specs.machine.Plan.{Reply}
+use Rattle.hp_model.specs.pool.Grant.{granted, surplus_times}
+use Rattle.hp_model.specs.pool.Resize.{pool_event, set_nr}
+use Rattle.hp_model.specs.declared.answer.Answer.TheVariants.{Number}
+use Rattle.hp_model.specs.declared.event.PoolEvent.TheVariants.{Nr}
+
+pub fresh_core : (fs : List ℕ) (o : Option (List PoolEntry)) (left : Option ℕ) (extra : ℕ) (p : Pool) → p ≡ idle_pool fs → IsReady p →
+    (IsSettled p → IsSettledPool p) → IsFresh o → 2 * frames_of (idle_pool fs).nodes.rows ≤ extra
+    → IsCore (idle_pool fs) o left extra p
+fresh_core fs o left extra p is ready law fresh enough = record {
+  trail = starts o fresh;
+  ready = ready;
+  settled = law ready.settled;
+  frames = ap (λ (x : Pool). frames_of x.nodes.rows) is;
+  enough = enough;
+  places = none left (ap to_return is ∙ nothing);
+}
+  where
+    starts : (o : Option (List PoolEntry)) → IsFresh o → IsPoolTrail (idle_pool fs) o p
+    starts None fresh = tt
+    starts (Some es) fresh = subst (λ (xs : List PoolEntry). IsPoolRun (idle_pool fs) xs p) (sym fresh) (sym is)
+
+    nothing : to_return (idle_pool fs) ≡ 0
+    nothing = (let total = idle_total fs in omega (arith, total))
+
+    none : (l : Option ℕ) → to_return p ≡ 0 → HasPlaces l (to_return p)
+    none None e = tt
+    none (Some n) e = omega (arith, e)
+
+pub pool_push : (p : Pool) (es : List PoolEntry) (m : Pool) (e : PoolEntry) (q : Pool) → IsPoolRun p es m → IsPoolStep m e q → IsPoolRun p (es ++ e ∷ []) q
+pool_push p [] m e q run step = (q, subst (λ (x : Pool). IsPoolStep x e q) (sym run) step, refl)
+pool_push p (x ∷ es) m e q run step = (run.0, run.1, pool_push run.0 es m e q run.2 step)
+
+pub pool_added : (start : Pool) (o : Option (List PoolEntry)) (m : Pool) (e : PoolEntry) (q : Pool) → IsPoolTrail start o m → IsPoolStep m e q → IsPoolTrail start (added o e) q
+pool_added start None m e q run step = tt
+pool_added start (Some es) m e q run step = pool_push start es m e q run step
+
+-- the answer of a section that was granted, and of one that was not
+pub was_granted : (a : PoolAnswer) (old granted new : Subpool) → IsAnswered a old granted new → a.granted ≡ true → a ≡ granted_at 0
+was_granted a old granted new t e = (pick a.granted _ _ e t).0
+  where
+    pick : (b : Bool) (A B : Type 0) → b ≡ true → MatchBool b A B → A
+    pick true A B e t = t
+    pick false A B e t = cc
+
+pub was_refused : (a : PoolAnswer) (old granted new : Subpool) → IsAnswered a old granted new → a.granted ≡ false → a ≡ no_pages
+was_refused a old granted new t e = (pick a.granted _ _ e t).0
+  where
+    pick : (b : Bool) (A B : Type 0) → b ≡ false → MatchBool b A B → B
+    pick true A B e t = cc
+    pick false A B e t = t
+
+-- an asked section is what it is
+pub asks_it : (a : Asked) (s : Section) (w : PoolAnswer) → a.section ≡ s → a.answer ≡ w → Asks (Some a) s w
+asks_it a s w es ew = (a.place, λ i. Some (record { place = a.place; section = es i; answer = ew i }))
+
+-- ---- places
+
+-- an entry of another kind leaves the places of those that give back
+spared : (l : Option ℕ) (extra n : ℕ) → has_room false l extra ≡ true → n ≤ extra → HasPlaces (one_less l) n
+spared None extra n room le = tt
+spared (Some l) extra n room le = (let few = ltb-true extra l room in omega (arith, few, le))
+
+-- and one that gives back takes one
+closed : (l : Option ℕ) (m n : ℕ) → HasPlaces l m → n < m → HasPlaces (one_less l) n
+closed None m n places less = tt
+closed (Some l) m n places less = omega (arith, places, less)
+
+has_place : (l : Option ℕ) (extra n : ℕ) → HasPlaces l n → 0 < n → has_room true l extra ≡ true
+has_place None extra n places some = refl
+has_place (Some l) extra n places some = lt-ltb 0 l (omega (arith, places, some))
+
+module _ (start : Pool) (o o2 : Option (List PoolEntry)) (left left2 : Option ℕ) (extra extra2 : ℕ) (p : Pool) (e : PoolEntry) (q : Pool) (core : IsCore start o left extra p)
+    (noted : o2 ≡ added o e) (lessens : left2 ≡ one_less left) (stays : extra2 ≡ extra) (step : IsPoolStep p e q) (ready : IsReady q) (law : IsSettled q → IsSettledPool q) where
+  as_noted : HasPlaces (one_less left) (to_return q) → IsCore start o2 left2 extra2 q
+  as_noted places = record {
+    trail = subst (λ (x : Option (List PoolEntry)). IsPoolTrail start x q) (sym noted) (pool_added start o p e q core.trail step);
+    ready = ready;
+    settled = law ready.settled;
+    frames = step_frames p q e core.settled step ∙ core.frames;
+    enough = (let was = core.enough in omega (arith, was, stays));
+    places = subst (λ (x : Option ℕ). HasPlaces x (to_return q)) (sym lessens) places;
+  }
+
+  -- an entry of any kind
+  pub entry_noted : has_room false left extra ≡ true → IsCore start o2 left2 extra2 q
+  entry_noted room =
+      as_noted (spared left extra (to_return q) room (let most = most_return q (law ready.settled) in
+      let same = step_frames p q e core.settled step in let was = core.frames in let enough = core.enough in
+      omega (arith, most, same, was, enough)))
+
+  -- one that gives back
+  pub given_back : to_return q < to_return p → IsCore start o2 left2 extra2 q
+  given_back less = as_noted (closed left (to_return p) (to_return q) core.places less)
+
+pub section_noted : (start : Pool) (o o2 : Option (List PoolEntry)) (left left2 : Option ℕ) (extra extra2 : ℕ) (p : Pool) (s : Section) (a : PoolAnswer) (q : Pool) → IsCore start o left extra p
+    → o2 ≡ added o (OfSlot s a) → left2 ≡ one_less left → extra2 ≡ extra → section p s ≡ (a, q) → IsReady q → (IsSettled q → IsSettledPool q) →
+    has_room false left extra ≡ true → IsCore start o2 left2 extra2 q
+section_noted start o o2 left left2 extra extra2 p s a q core noted lessens stays step ready law room =
+    entry_noted start o o2 left left2 extra extra2 p (OfSlot s a) q core noted lessens stays step ready law room
+
+-- what was given back, noted
+module _ {X : Type 0} (E : X → Option (List PoolEntry)) (L : X → Option ℕ) (R : X → ℕ) (old new : X) (puts : List ℕ) (k : ℕ) (p q : Pool) where
+  abbrev view : Pool → X → CoreView
+  view p t = record { pool = p; entries = E t; left = L t; extra = R t }
+
+  abbrev Noted : List ℕ → ℕ → Asked → Type 0
+  Noted counts m a = (a.section ≡ GiveBack counts m) × (a.answer ≡ granted_at 0) × IsPlace (E old) a.place
+      × (E new ≡ added (E old) (OfSlot a.section a.answer)) × (0 < sum counts + m) × (L new ≡ one_less (L old)) × (R new ≡ R old)
+
+  -- the section as it is said of the pool
+  gave : (a : Asked) → q ≡ settled (released k (puts_from 0 puts p)) → Noted puts k a → section p a.section ≡ (a.answer, q)
+  gave a moved n = ap (section p) n.0 ∙ ap (λ (x : Pool). (granted_at 0, x)) (sym moved) ∙ ap (λ x. (x, q)) (sym n.1)
+
+  noted_as : (counts : List ℕ) (m : ℕ) (t : Option Asked) → counts ≡ puts → m ≡ k → IfSome t (λ a. Noted counts m a) → IfSome t (λ a. Noted puts k a)
+  noted_as counts m t same falls n = subst (λ (x : List ℕ). IfSome t (λ a. Noted x k a)) same (subst (λ (x : ℕ). IfSome t (λ a. Noted counts x a)) falls n)
+
+  none_as : (counts : List ℕ) (m : ℕ) (t : Option Asked) → counts ≡ puts → m ≡ k → IfNone t ((new ≡ old) × (sum counts + m ≡ 0)) → IfNone t ((new ≡ old) × (sum puts + k ≡ 0))
+  none_as counts m t same falls n = subst (λ (x : List ℕ). IfNone t ((new ≡ old) × (sum x + k ≡ 0))) same (subst (λ (x : ℕ). IfNone t ((new ≡ old) × (sum counts + x ≡ 0))) falls n)
+
+  keeps : (start : Pool) (t : Option Asked) → IsCore start (E old) (L old) (R old) p → q ≡ settled (released k (puts_from 0 puts p)) →
+      (sum puts + k ≡ 0 → q ≡ p) → IsReady q → (IsSettled q → IsSettledPool q)
+      → (0 < sum puts + k → to_return q < to_return p)
+      → IfSome t (λ a. Noted puts k a) → IfNone t ((new ≡ old) × (sum puts + k ≡ 0)) → IsCore start (E new) (L new) (R new) q
+  keeps start (Some a) core moved stays ready law less n none =
+      given_back start (E old) (E new) (L old) (L new) (R old) (R new) p (OfSlot a.section a.answer) q core n.3 n.5 n.6 (gave a moved n) ready law (less n.4)
+  keeps start None core moved stays ready law less n none =
+      subst (λ (x : Pool). IsCore start (E new) (L new) (R new) x) (sym (stays none.1)) (subst (λ (x : X). IsCore start (E x) (L x) (R x) p) (sym none.0) core)
+
+  is_given : (t : Option Asked) → q ≡ settled (released k (puts_from 0 puts p)) → (sum puts + k ≡ 0 → q ≡ p) → IfSome t (λ a. Noted puts k a) →
+      IfNone t ((new ≡ old) × (sum puts + k ≡ 0)) → IsGiven puts k (view p old) (view q new) t
+  is_given (Some a) moved stays n none = (record { changes = gave a moved n; entries = n.3; place = n.2 }, n.0, n.1, n.4)
+  is_given None moved stays n none = (ap (λ x. view x new) (stays none.1) ∙ ap (view p) none.0, none.1)
+
+  module _ (counts : List ℕ) (m : ℕ) (same : counts ≡ puts) (falls : m ≡ k) (moved : q ≡ settled (released k (puts_from 0 puts p)))
+      (stays : sum puts + k ≡ 0 → q ≡ p) (t : Option Asked) (n : IfSome t (λ a. Noted counts m a))
+      (none : IfNone t ((new ≡ old) × (sum counts + m ≡ 0))) where
+    pub given_noted : (start : Pool) → IsCore start (E old) (L old) (R old) p → IsReady q → (IsSettled q → IsSettledPool q) →
+        (0 < sum puts + k → to_return q < to_return p) → IsCore start (E new) (L new) (R new) q
+    given_noted start core ready law less = keeps start t core moved stays ready law less (noted_as counts m t same falls n) (none_as counts m t same falls none)
+
+    pub given_is : IsGiven puts k (view p old) (view q new) t
+    given_is = is_given t moved stays (noted_as counts m t same falls n) (none_as counts m t same falls none)
+
+-- what gives back has room
+pub may_note : (start : Pool) (o : Option (List PoolEntry)) (l : Option ℕ) (extra : ℕ) (p q : Pool) (puts counts : List ℕ) (k m : ℕ) → IsCore start o l extra p → counts ≡ puts → m ≡ k
+    → (0 < sum puts + k → to_return q < to_return p) → 0 < sum counts + m → has_room true l extra ≡ true
+may_note start o l extra p q puts counts k m core same falls less some =
+    let is = ap sum same in
+    let few = less (omega (arith, is, falls, some)) in
+    has_place l extra (to_return p) core.places (omega (arith, few))
+
+-- what a door asked, as it is said of doors
+module _ {X : Type 0} (asked : X → Option Asked) (d e : X) (pages : List Page) (k : ℕ) (old new : CoreView) where
+  door_is : (t : Option Asked) → IsGiven (by_node pages) k old new t → asked e ≡ t → (t ≡ None → e ≡ d) → GivesBack (λ x s a y. Asks (asked y) s a) pages k d e
+  door_is None given is stays = record { some = λ l. absurd (omega (arith, l, given.1)); none = λ z. stays refl }
+  door_is (Some a) given is stays = record {
+    some = λ l. subst (λ (o : Option Asked). Asks o (GiveBack (by_node pages) k) (granted_at 0)) (sym is) (asks_it a (GiveBack (by_node pages) k) (granted_at 0) given.1 given.2);
+    none = λ z. absurd (let l = given.3 in omega (arith, l, z));
+  }
+
+  pub door_gives : (puts : List ℕ) (m : ℕ) (t : Option Asked) → puts ≡ by_node pages → m ≡ k → IsGiven puts m old new t → asked e ≡ t →
+      (t ≡ None → e ≡ d) → GivesBack (λ x s a y. Asks (asked y) s a) pages k d e
+  door_gives puts m t same falls given = door_is t (subst (λ (x : List ℕ). IsGiven x k old new t) same (subst (λ (x : ℕ). IsGiven puts x old new t) falls given))
+
+-- a grant of nothing changes nothing
+pub granted_nothing : (p : Pool) → IsSettledPool p → granted 0 0 p ≡ p
+granted_nothing p s =
+    let total = s.total in
+    let none : p.committed + 0 - total_of p.nodes.rows ≡ 0 = omega (arith, total) in
+    let same : p.committed + 0 ≡ p.committed = omega arith in
+    ap (λ n. record p { committed = p.committed + 0; nodes = surplus_times 0 n p.nodes }) none ∙ ap (λ n. record p { committed = n }) same
+
+-- an event leaves the pool ready
+pub event_ready : (p q : Pool) (e : PoolEvent) (r : Reply) → pool_event p e ≡ (r, q) → IsReady p → IsSettled q → IsReady q
+event_ready p q e r step ready is =
+    let nodes = ready.nodes in
+    let long = long_event p e in
+    let same = ap (λ (x : Reply × Pool). length x.1.nodes.rows) step in
+    record { settled = is; nodes = omega (arith, nodes, long, same) }
+
+pub set_ready : (p q : Pool) (n : ℕ) → q ≡ set_nr n p → IsReady p → IsSettled q → IsReady q
+set_ready p q n is ready = event_ready p q (Nr n) (Ok (Number (set_nr n p).nr)) (ap (λ (x : Pool). (Ok (Number (set_nr n p).nr), x)) (sym is)) ready

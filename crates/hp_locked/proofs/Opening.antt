@@ -1,0 +1,39 @@
+-- A mount's section through a door.
+use Rattle.std.proofs.Common.{◌≡◌, ℕ, ◌<◌, Bool, true, false, cond, Option, Some, None, Ok, Err, List, sym, ◌∙◌}
+use Rattle.std.specs.Prelude.{Result, nat_lt}
+use Rattle.std.proofs.lemmas.Bool.{cond_both}
+use Rattle.hp_model.specs.declared.entry.Asked.{Asked}
+use Rattle.hp_model.specs.declared.limits.Limits.{Limits}
+use Rattle.hp_model.specs.declared.refusal.Refusal.{Refusal}
+use Rattle.hp_model.specs.declared.refusal.Refusal.TheVariants as r
+use Rattle.hp_model.specs.declared.section.PoolAnswer.{PoolAnswer}
+use Rattle.hp_model.specs.declared.section.Section.{Section}
+use Rattle.hp_model.specs.files.Options.{Wanted, checked, is_below_min, limits, limits_of, wanted_of}
+use Rattle.hp_subpool.specs.Subpool.{Subpool}
+use Rattle.hp_locked.specs.Opened.{IsOpenedAt, IsShareOf, shown}
+
+never_checked : (l : Limits) → checked l ≡ Err r.TraceFull → ⊥
+never_checked l = cond_both (is_below_min l.max l.min) (Err r.MinOverSize) (Ok l) (λ (x : Result Limits Refusal). x ≡ Err r.TraceFull → ⊥) (λ t e. cc) (λ t e. cc)
+
+-- options are never refused so
+never_full : (nr size : ℕ) (w : Option Wanted) → limits nr size w ≡ Err r.TraceFull → ⊥
+never_full nr size None e = cc
+never_full nr size (Some w) e = never_checked (limits_of nr size w) e
+
+full_is : (l : Result Limits Refusal) (nr : ℕ) (s : Section) (a : PoolAnswer) → IsShareOf l nr (Err r.TraceFull) s a → l ≡ Err r.TraceFull
+full_is (Err e) nr s a h = (let same = h.0 in cc)
+full_is (Ok l) nr s a h = (let same = h.0 in cc)
+
+pub opened_at : {X : Type 0} (took : X → Section → PoolAnswer → X → Type 0) (full : X → Type 0) (size : ℕ) (text : List ℕ) (old new : X)
+    (got : Result (Subpool × Limits) Refusal) (nr : ℕ) (s : Section) (a : PoolAnswer)
+    → IsShareOf (limits nr size (wanted_of text)) nr got s a → took old s a new → IsOpenedAt took full size text old new got
+opened_at took full size text old new (Err r.TraceFull) nr s a h t = absurd (never_full nr size (wanted_of text) (full_is (limits nr size (wanted_of text)) nr s a h))
+opened_at took full size text old new (Ok got) nr s a h t = (nr, s, a, h, t)
+opened_at took full size text old new (Err other) nr s a h t = (nr, s, a, h, t)
+
+-- the same of a share that means itself
+pub opened_as : {X : Type 0} (took : X → Section → PoolAnswer → X → Type 0) (full : X → Type 0) (size : ℕ) (text : List ℕ) (old new : X)
+    (got : Result (Subpool × Limits) Refusal) (nr : ℕ) (s : Section) (a : PoolAnswer)
+    → IsShareOf (limits nr size (wanted_of text)) nr got s a → took old s a new → IsOpenedAt took full size text old new (shown (λ (x : Subpool). x) got)
+opened_as took full size text old new (Ok got) nr s a h t = opened_at took full size text old new (Ok got) nr s a h t
+opened_as took full size text old new (Err e) nr s a h t = opened_at took full size text old new (Err e) nr s a h t

@@ -1,0 +1,9 @@
+use Rattle.std.proofs.Common.{Ok}
+use Rattle.std.specs.Prelude.{Result}
+use Rattle.hp_model.specs.declared.refusal.Refusal.{Refusal}
+use Rattle.hp_mount_door.proofs.Returning.{granted_ready}
+use Rattle.hp_locked.proofs.pool_core.opened_share.Goals as goal
+
+pub returns-in-Ok-open-clause-ready : goal.returns-in-Ok-open-clause-ready
+returns-in-Ok-open-clause-ready g c = granted_ready (Ok tt) (Unit {0}) (Unit {0}) 0 c.in-Ok.limits.min c.args.pool.now c.open.new.pool
+    (tt, c.in-Ok-open.ensures.ok.1) tt c.open.ensures.settled c.requires.ready

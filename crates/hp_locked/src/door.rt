@@ -1,0 +1,202 @@
+//! A session's door to the pool under its lock.
+ghost use Rattle.std.specs.Prelude.{◌≡◌, ◌<◌, ℕ, None, Option, []};
+ghost use Rattle.hp_model.specs.declared.entry.Asked.{Asked as AskedValue};
+ghost use Rattle.hp_model.specs.declared.section.PoolAnswer.{PoolAnswer};
+ghost use Rattle.hp_model.specs.declared.section.Section.{Section};
+ghost use Rattle.hp_store.specs.Store.{page_at};
+ghost use Rattle.hp_locked.specs.Opened.{IsOpenedAt, shown};
+ghost use Rattle.hp_locked.specs.Views.{Asks};
+
+use crate::gate::Gate;
+use crate::nodes::NodeLocks;
+use crate::pool_core::Core;
+use hp_model::entry::{Asked, PoolEntry};
+use hp_model::limits::Limits;
+use hp_model::naming::Naming;
+use hp_model::refusal::Refusal;
+use hp_mount_door::PoolDoor;
+use hp_nodes::Page;
+use hp_store::PageStore;
+use hp_subpool::Subpool;
+use hp_trail::trail::Trail;
+use std::sync::{Mutex, Wait};
+
+/// The pool and the frames behind their locks, and the section that this event entered.
+///
+/// Each call holds the pool's lock once, for its section. The page of a claim comes from under its node's lock, once the
+/// pool's is free again; pages that go back are given to their nodes before it is taken. So no two of these are held at once.
+#[derive(Drop)]
+pub struct Door<'a, N: Naming, R: Wait, G: Gate, T: Trail<PoolEntry>> {
+    rt: &'a R,
+    gate: &'a G,
+    core: &'a Mutex<Core<N, T>>,
+    nodes: &'a NodeLocks<N>,
+    asked: Option<Asked>,
+}
+
+impl<'a, N: Naming, R: Wait, G: Gate, T: Trail<PoolEntry>> Door<'a, N, R, G, T> {
+    /// A door that was not used.
+    pub fn new(rt: &'a R, gate: &'a G, core: &'a Mutex<Core<N, T>>, nodes: &'a NodeLocks<N>) -> Self
+        ensures { result.asked ≡ None }
+    {
+        Door {
+            rt,
+            gate,
+            core,
+            nodes,
+            asked: None,
+        }
+    }
+
+    // The section of a mount, as `SessionDoor::open` has it.
+    fn open_share(
+        &mut self,
+        options: &[u8],
+        page_bytes: u64,
+    ) -> Result<(Subpool<N>, Limits), Refusal>
+        requires ready { self.old.asked ≡ None }
+        requires bytes { 0 < page_bytes }
+        ensures { IsOpenedAt (λ d s a e. Asks e.asked s a) (λ d. d.asked ≡ None) page_bytes
+            options.now
+            self.old self.new (shown (λ s. s) result) }
+    {
+        let opened = self.core.lock(self.rt).open(options, page_bytes);
+        match opened {
+            Err(_full) => Err(Refusal::TraceFull),
+            Ok((share, asked)) => {
+                self.asked = Some(asked);
+                share
+            }
+        }
+    }
+
+    /// The section that was entered.
+    pub fn asked_section(&self) -> Option<Asked>
+        ensures { result ≡ self.now.asked }
+    {
+        self.asked
+    }
+}
+
+impl<'a, N: Naming, R: Wait, G: Gate, T: Trail<PoolEntry>> PoolDoor for Door<'a, N, R, G, T> {
+    type Share = Subpool<N>;
+
+    type Page = Page<N>;
+
+    type Going = PageStore<N>;
+
+    ghost share_of = { λ s. s };
+
+    ghost page_of = { λ p. p };
+
+    ghost going_of = { λ s. s.going };
+
+    ghost emptied = { λ s. record s { going = [] } };
+
+    ghost is_spent = { λ s. (n : ℕ) → page_at s n ≡ None };
+
+    ghost is_ready = { λ d. d.asked ≡ None };
+
+    ghost took = { λ d s a e. Asks e.asked s a };
+
+    ghost is_full = { λ d. d.asked ≡ None };
+
+    ghost is_left = { λ d. Unit {0} };
+
+    ghost stays = { λ d ready. tt };
+
+    fn get(&mut self, share: &mut Subpool<N>, home: usize, k: u64) -> Result<(), Refusal> {
+        match self.core.lock(self.rt).get(share, home, k) {
+            Err(_full) => Err(Refusal::TraceFull),
+            Ok(None) => Ok(()),
+            Ok(Some(asked)) => {
+                self.asked = Some(asked);
+                if asked.answer.granted {
+                    Ok(())
+                } else {
+                    Err(Refusal::NoPages)
+                }
+            }
+        }
+    }
+
+    fn get_page(&mut self, share: &mut Subpool<N>, home: usize) -> Result<Page<N>, Refusal> {
+        let got = self.core.lock(self.rt).get_page(share, home);
+        match got {
+            Err(_full) => Err(Refusal::TraceFull),
+            Ok((claim, asked)) => {
+                self.asked = Some(asked);
+                match claim {
+                    Some(claim) => Ok(self.nodes.redeem(self.rt, self.gate, claim)),
+                    None => Err(Refusal::NoPages),
+                }
+            }
+        }
+    }
+
+    fn take_page(&mut self, share: &mut Subpool<N>, home: usize) -> Result<Page<N>, Refusal> {
+        let got = self.core.lock(self.rt).take_page(share, home);
+        match got {
+            Err(_full) => Err(Refusal::TraceFull),
+            Ok((claim, asked)) => {
+                self.asked = Some(asked);
+                Ok(self.nodes.redeem(self.rt, self.gate, claim))
+            }
+        }
+    }
+
+    fn put(&mut self, share: &mut Subpool<N>, going: &mut PageStore<N>, reserves: u64) {
+        let parcel = self.nodes.gather(self.rt, self.gate, going);
+        let mut value = self.core.lock(self.rt);
+        let core: &mut Core<N, T> = &mut value;
+        self.asked = core.put(share, parcel, reserves);
+    }
+
+    fn close(&mut self, share: Subpool<N>, going: PageStore<N>) {
+        let mut spent = going;
+        let parcel = self.nodes.gather(self.rt, self.gate, &mut spent);
+        spent.close();
+        let mut value = self.core.lock(self.rt);
+        let core: &mut Core<N, T> = &mut value;
+        self.asked = core.close(share, parcel);
+    }
+}
+
+/// A door that tells the section that was entered through it.
+pub trait SessionDoor: PoolDoor {
+    ghost asked: { Self → Option AskedValue };
+
+    /// The section that was entered.
+    fn asked(&self) -> Option<Asked>
+        ensures { result ≡ asked self.now };
+
+    /// The section of a mount: reads nr, and commits the minimum that the options mean at it, for pages of so many bytes.
+    /// The share and the limits, or BadOption, MinOverSize or NoPages; or TraceFull, and then there was none.
+    fn open(&mut self, options: &[u8], page_bytes: u64) -> Result<(Self::Share, Limits), Refusal>
+        requires ready { Self.PoolDoor.is_ready self.old }
+        requires bytes { 0 < page_bytes }
+        ensures { IsOpenedAt Self.PoolDoor.took Self.PoolDoor.is_full page_bytes options.now
+            self.old self.new (shown Self.PoolDoor.share_of result) };
+
+    // a door that is ready was not used
+    ghost begins: { (d : Self) → Self.PoolDoor.is_ready d → asked d ≡ None };
+
+    ghost tells: { (d : Self) (s : Section) (a : PoolAnswer) (e : Self) →
+        Self.PoolDoor.took d s a e → Asks (asked e) s a };
+}
+
+impl<'a, N: Naming, R: Wait, G: Gate, T: Trail<PoolEntry>> SessionDoor for Door<'a, N, R, G, T> {
+    ghost asked = { λ d. d.asked };
+
+    ghost begins = { λ d ready. ready };
+
+    ghost tells = { λ d s a e took. took };
+
+    fn asked(&self) -> Option<Asked> {
+        self.asked_section()
+    }
+
+    fn open(&mut self, options: &[u8], page_bytes: u64) -> Result<(Subpool<N>, Limits), Refusal> {
+        self.open_share(options, page_bytes)
+    }
+}

@@ -1,0 +1,76 @@
+-- The table's trail keeps its fact with one entry more.
+use Rattle.std.proofs.Common.{◌≡◌, ℕ, ◌≤◌, Bool, true, false, List, [], ◌∷◌, ◌++◌, Option, None, Some, Ok, Err, length, refl, sym, ap, ◌∙◌, subst, arith}
+use Rattle.hp_model.specs.declared.entry.TableEntry.{TableEntry}
+use Rattle.hp_model.specs.declared.event.TableEvent.{TableEvent}
+use Rattle.hp_model.specs.machine.Plan.{Reply}
+use Rattle.hp_model.specs.machine.Table.{Table, table_event}
+use Rattle.hp_model.specs.Profile.{most_tasks}
+use Rattle.hp_model.specs.threads.Closing.{KeepsPlaces, removes_task, to_remove}
+use Rattle.hp_model.specs.threads.TableRun.{IsTableRun}
+use Rattle.hp_laws.proofs.Closing.{table_places}
+use Rattle.hp_locked.specs.Views.{HasPlaces, IsFresh}
+use Rattle.hp_trail.specs.Keeping.{added, has_room, one_less}
+use Rattle.hp_shared.specs.Tables.{IsLockedTable, IsTableTrail}
+use Rattle.hp_shared.proofs.Places.{has_closing, or_room, places_after, room_closing}
+use Rattle.std.specs.Prelude.{Result, ◌||◌}
+use Rattle.hp_model.specs.declared.refusal.Refusal.{Refusal}
+use Rattle.hp_model.specs.machine.Accesses.{done_reply}
+use Rattle.hp_mount.specs.Done.{done}
+
+pub fresh_table : (nodes : ℕ) (o : Option (List TableEntry)) (left : Option ℕ) (extra : ℕ) (t : Table) → t ≡ [] → IsFresh o → most_tasks ≤ extra → IsLockedTable nodes o left extra t
+fresh_table nodes o left extra t is fresh enough = record {
+  trail = starts o fresh;
+  few = (let none = ap length is in omega (arith, none));
+  enough = enough;
+  places = room left (ap length is);
+}
+  where
+    starts : (o : Option (List TableEntry)) → IsFresh o → IsTableTrail nodes o t
+    starts None fresh = tt
+    starts (Some es) fresh = subst (λ (xs : List TableEntry). IsTableRun nodes [] xs t) (sym fresh) (sym is)
+
+    room : (l : Option ℕ) → length t ≡ 0 → HasPlaces l (length t)
+    room None e = tt
+    room (Some n) e = omega (arith, e)
+
+table_push : (nodes : ℕ) (t : Table) (es : List TableEntry) (m : Table) (e : TableEntry) (q : Table) → IsTableRun nodes t es m →
+    table_event nodes m e.event ≡ (e.reply, q) → IsTableRun nodes t (es ++ e ∷ []) q
+table_push nodes t [] m e q run step = (q, subst (λ (x : Table). table_event nodes x e.event ≡ (e.reply, q)) (sym run) step, refl)
+table_push nodes t (x ∷ es) m e q run step = (run.0, run.1, table_push nodes run.0 es m e q run.2 step)
+
+table_added : (nodes : ℕ) (o : Option (List TableEntry)) (m : Table) (e : TableEntry) (q : Table) → IsTableTrail nodes o m →
+    table_event nodes m e.event ≡ (e.reply, q) → IsTableTrail nodes (added o e) q
+table_added nodes None m e q run step = tt
+table_added nodes (Some es) m e q run step = table_push nodes [] es m e q run step
+
+module _ (nodes : ℕ) (o : Option (List TableEntry)) (left : Option ℕ) (extra : ℕ) (t : Table) (e : TableEvent) (reply : Reply) (q : Table)
+    (was : IsLockedTable nodes o left extra t) (step : table_event nodes t e ≡ (reply, q)) where
+  keeps : KeepsPlaces most_tasks (to_remove t) (to_remove q) (removes_task t e)
+  keeps = subst (λ (x : Reply × Table). KeepsPlaces most_tasks (to_remove t) (to_remove x.1) (removes_task t e)) step (table_places nodes t e was.few)
+
+  pub table_noted : (o2 : Option (List TableEntry)) (left2 : Option ℕ) (extra2 : ℕ) → o2 ≡ added o (record { event = e; reply = reply }) →
+      left2 ≡ one_less left → extra2 ≡ extra → (removes_task t e ≡ false → has_room false left extra ≡ true)
+      → IsLockedTable nodes o2 left2 extra2 q
+  table_noted o2 left2 extra2 noted lessens stays room = record {
+    trail = subst (λ (x : Option (List TableEntry)). IsTableTrail nodes x q) (sym noted) (table_added nodes o t (record { event = e; reply = reply }) q was.trail step);
+    few = keeps.enough;
+    enough = (let enough = was.enough in omega (arith, enough, stays));
+    places = subst (λ (x : Option ℕ). HasPlaces x (to_remove q)) (sym lessens) (places_after most_tasks (to_remove t) (to_remove q) extra (removes_task t e) left keeps was.enough was.places room);
+  }
+
+  -- the removal of a task that is there has a place
+  pub removal_fits : removes_task t e ≡ true → has_room true left extra ≡ true
+  removal_fits is = has_closing most_tasks (to_remove t) (to_remove q) extra left (subst (λ (b : Bool). KeepsPlaces most_tasks (to_remove t) (to_remove q) b) is keeps) was.places
+
+  -- an entry that may be noted has a place
+  pub event_fits : (removes_task t e || has_room false left extra) ≡ true → has_room true left extra ≡ true
+  event_fits may = by (removes_task t e) refl
+    where
+      by : (b : Bool) → removes_task t e ≡ b → has_room true left extra ≡ true
+      by true is = removal_fits is
+      by false is = room_closing left extra (or_room (removes_task t e) (has_room false left extra) may is)
+
+-- the two words for the reply of what answers nothing
+pub done_same : (r : Result (Unit {0}) Refusal) → done r ≡ done_reply r
+done_same (Ok x) = refl
+done_same (Err e) = refl
