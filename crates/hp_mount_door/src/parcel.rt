@@ -1,5 +1,5 @@
 //! Claims on pages that go back together.
-ghost use Rattle.std.specs.Prelude.{◌≡◌, ◌+◌, ◌-◌, ◌<◌, ◌≤◌, ◌^◌, [], ◌∷◌, slice_index, slice_set};
+ghost use Rattle.std.specs.Prelude.{◌≡◌, ◌+◌, ◌-◌, ◌<◌, ◌≤◌, ◌^◌, [], ◌∷◌, length, slice_index, slice_set};
 ghost use Rattle.std.specs.List.{sum};
 ghost use Rattle.hp_model.specs.pool.Pool.{kept_times, puts_from, released};
 ghost use Rattle.hp_model.specs.pool.PoolCounts.{used as in_use};
@@ -111,7 +111,8 @@ impl<N: Naming> Parcel<N> {
 
     /// How many pages of each node.
     pub fn counts(&self) -> [u64; 4]
-        ensures { result ≡ self.now }
+        ensures counts { result ≡ self.now }
+        ensures four { length self.now ≡ 4 }
     {
         [
             amount(&self.zero),
