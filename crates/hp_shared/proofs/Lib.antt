@@ -1,2 +1,4 @@
 pub mod Places
 pub mod TablesKept
+pub mod Acting
+pub mod SlotsKept
