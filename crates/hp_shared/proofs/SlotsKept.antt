@@ -1,5 +1,5 @@
 -- The slot's trail keeps its fact with one entry more.
-use Rattle.std.proofs.Common.{◌≡◌, ◌⊎◌, inl, inr, ℕ, ◌≤◌, zero, suc, Bool, true, false, List, [], ◌∷◌, ◌++◌, Option, None, Some, refl, sym, ap, ◌∙◌, subst, arith}
+use Rattle.std.proofs.Common.{◌≡◌, ◌⊎◌, inl, inr, ℕ, ◌≤◌, zero, suc, Bool, true, false, List, [], ◌∷◌, ◌++◌, Option, None, Some, Ok, Err, refl, sym, ap, ◌∙◌, subst, arith}
 use Rattle.std.specs.Prelude.{is_some, IsTrue}
 use Rattle.hp_model.specs.declared.entry.Asked.{Asked}
 use Rattle.hp_model.specs.declared.entry.SlotEntry.{SlotEntry}
@@ -22,6 +22,7 @@ use Rattle.hp_model.specs.declared.event.Event.TheVariants.{Slot as OnSlot}
 use Rattle.hp_locked.specs.Told.{IsReceipt}
 use Rattle.hp_mount.specs.declared.event.MountEvent.{MountEvent}
 use Rattle.hp_mount.specs.declared.event.MountEvent.TheVariants as m
+use Rattle.hp_model.specs.declared.refusal.Refusal.TheVariants as r
 use Rattle.hp_mount.specs.Done.{MayEnter}
 use Rattle.hp_mount.specs.Event.{event_of}
 use Rattle.hp_shared.proofs.Acting.{always_goes}
@@ -149,3 +150,12 @@ module _ (full : Type 0) (size k : ℕ) (entries : Option (List SlotEntry)) (lef
       let v : SlotView = record { number = k; mount = new; entries = entries2; left = left2; extra = extra2 } in
       done_put (is_trace_full reply) ((v ≡ with_mount old) × (receipt ≡ None) × (asked ≡ None) × ((has_room false left extra ≡ false) ⊎ (full × MayEnter (λ c. slot_event size k c old e) old)))
       (IsSlotEventDone size (with_mount old) v e reply asked receipt) is (record { changes = event_went is; entries = noted; told = told })
+
+pub not_full : (x : Reply) → (x ≡ Err r.TraceFull → ⊥) → is_trace_full x ≡ false
+not_full (Ok a) h = refl
+not_full (Err r.TraceFull) h = absurd (h refl)
+not_full (Err other) h = refl
+
+pub went_acted : (full : Type 0) (size k : ℕ) (old : Slot) (e : SlotEvent) (reply : Reply) (asked : Option Asked) (new : Slot) → is_trace_full reply ≡ false → Went size k old e reply asked new → IsActedOr full size k old e reply asked new
+went_acted full size k old e reply asked new is went =
+    done_put (is_trace_full reply) ((new ≡ old) × (asked ≡ None) × full × MayEnter (λ c. slot_event size k c old e) old) (Went size k old e reply asked new) is went

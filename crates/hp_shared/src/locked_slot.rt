@@ -1,5 +1,7 @@
 //! A slot with its trail.
-ghost use Rattle.std.specs.Prelude.{◌≡◌, ◌≤◌, ℕ, [], length, true, false, None, Some, is_some};
+ghost use Rattle.std.specs.Prelude.{◌≡◌, ◌≤◌, ◌==◌, Ok, ℕ, [], length, true, false, None, Some, is_some};
+ghost use Rattle.hp_model.specs.declared.answer.Answer.TheVariants.{Done};
+ghost use Rattle.hp_model.specs.declared.event.SlotEvent.TheVariants.{ExitMaps, ForkMaps};
 ghost use Rattle.hp_model.specs.declared.entry.Part.TheVariants.{Slot as AtSlot};
 ghost use Rattle.hp_model.specs.declared.event.Event.TheVariants.{Slot as OnSlot};
 ghost use Rattle.hp_model.specs.declared.event.SlotEvent.{SlotEvent as SlotEventValue};
@@ -15,10 +17,10 @@ ghost use Rattle.hp_locked.specs.Views.{IsFresh};
 ghost use Rattle.hp_mount.specs.Event.{event_of};
 ghost use Rattle.hp_store.specs.Store.{Store as StoreValue};
 ghost use Rattle.hp_subpool.specs.Subpool.{Subpool as ShareValue};
-ghost use Rattle.hp_shared.specs.Slots.{AreNoted, IsSlotEvent, IsSlotTrail, slot_start};
+ghost use Rattle.hp_shared.specs.Slots.{AreNoted, IsSlotEvent, IsSlotEventDone, IsSlotTrail, slot_start};
 ghost use Rattle.hp_trail.specs.Keeping.{added, has_room, one_less};
 
-use crate::slot::{act, copied, is_full};
+use crate::slot::{act, copied, fork, is_full, leave};
 use hp_locked::SessionDoor;
 use hp_model::entry::{Asked, Part, Receipt, SlotEntry};
 use hp_model::event::{Event, SlotEvent};
@@ -140,6 +142,66 @@ impl<N: Naming, T: Trail<SlotEntry>> Slot<N, T> {
             return (told, None);
         }
         let receipt = note(trail, *number, noted, door.asked(), &told);
+        (told, receipt)
+    }
+
+    /// The maps of a task, which has some on the slot, go: the receipt where entries are kept. Never refused.
+    pub fn exit_maps<D: SessionDoor<Share = Subpool<N>, Page = Page<N>, Going = PageStore<N>>>(
+        &mut self,
+        door: &mut D,
+        task: u64,
+    ) -> Option<Receipt>
+        requires shares { (s : ShareValue) → D.share_of s ≡ s }
+        requires going { (s : StoreValue) → D.going_of s ≡ s.going }
+        requires emptied { (s : StoreValue) → D.emptied s ≡ record s { going = [] } }
+        requires ready { D.is_ready door.old }
+        requires has { has_maps_of task self.old.mount ≡ true }
+        ensures done { IsSlotEventDone N.page_bytes self.old self.new (ExitMaps task) (Ok Done) (D.asked door.new) result }
+    {
+        let Slot {
+            number,
+            mount,
+            trail,
+        } = self;
+        let told = leave(mount, door, task);
+        let events = Some((
+            SlotEvent::ExitMaps { task },
+            SlotEvent::ExitMaps { task },
+        ));
+        note(trail, *number, events, door.asked(), &told)
+    }
+
+    /// The maps of a task, which has some on the slot, become its child's as well: the receipt where entries are kept.
+    /// Answered TraceFull, and then nothing changed, where the trail has no room.
+    pub fn fork_maps<D: SessionDoor<Share = Subpool<N>, Page = Page<N>, Going = PageStore<N>>>(
+        &mut self,
+        door: &mut D,
+        parent: u64,
+        child: u64,
+    ) -> (Result<Told<'static>, Refusal>, Option<Receipt>)
+        requires shares { (s : ShareValue) → D.share_of s ≡ s }
+        requires going { (s : StoreValue) → D.going_of s ≡ s.going }
+        requires emptied { (s : StoreValue) → D.emptied s ≡ record s { going = [] } }
+        requires ready { D.is_ready door.old }
+        requires has { has_maps_of parent self.old.mount ≡ true }
+        requires apart { (parent == child) ≡ false }
+        ensures done { IsSlotEvent ⊥ N.page_bytes self.old self.new (ForkMaps parent child)
+            (told_reply result.0) (D.asked door.new) result.1 }
+    {
+        let Slot {
+            number,
+            mount,
+            trail,
+        } = self;
+        if !trail.has_room(false) {
+            return (Err(Refusal::TraceFull), None);
+        }
+        let told = fork(mount, door, parent, child);
+        let events = Some((
+            SlotEvent::ForkMaps { parent, child },
+            SlotEvent::ForkMaps { parent, child },
+        ));
+        let receipt = note(trail, *number, events, door.asked(), &told);
         (told, receipt)
     }
 }

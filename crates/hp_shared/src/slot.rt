@@ -1,5 +1,5 @@
 //! A slot under its lock.
-ghost use Rattle.std.specs.Prelude.{◌≡◌, ◌≤◌, ◌-◌, ◌++◌, ℕ, [], length, replicate, true, false, None, Some, is_some};
+ghost use Rattle.std.specs.Prelude.{◌≡◌, ◌≤◌, ◌-◌, ◌++◌, ◌==◌, Ok, ℕ, [], length, replicate, true, false, None, Some, is_some};
 ghost use Rattle.hp_model.specs.files.Page.{Page as PageValue};
 ghost use Rattle.hp_model.specs.declared.answer.Answer.TheVariants.{Bytes};
 ghost use Rattle.hp_model.specs.machine.Copying.{has_names, reply_has_names};
@@ -9,7 +9,10 @@ ghost use Rattle.hp_laws.specs.Answers.{lists_names};
 ghost use Rattle.hp_mount.specs.Event.{event_of};
 ghost use Rattle.hp_store.specs.Store.{Store as StoreValue};
 ghost use Rattle.hp_subpool.specs.Subpool.{Subpool as ShareValue};
-ghost use Rattle.hp_shared.specs.Slots.{IsActedOr, is_trace_full};
+ghost use Rattle.hp_model.specs.declared.answer.Answer.TheVariants.{Done};
+ghost use Rattle.hp_model.specs.declared.event.SlotEvent.TheVariants.{ExitMaps, ForkMaps};
+ghost use Rattle.hp_model.specs.machine.Event.{has_maps_of};
+ghost use Rattle.hp_shared.specs.Slots.{IsActedOr, Went, is_trace_full};
 
 use hp_locked::SessionDoor;
 use hp_model::answer::{Answer, Reply};
@@ -123,4 +126,49 @@ pub(crate) fn is_full(told: &Result<Told<'_>, Refusal>) -> bool
     ensures { result ≡ is_trace_full (told_reply told.now) }
 {
     matches!(told, Err(Refusal::TraceFull))
+}
+
+// The maps of a task, which has some, go from a slot.
+pub(crate) fn leave<N: Naming, D: SessionDoor<Share = Subpool<N>, Page = Page<N>, Going = PageStore<N>>>(
+    mount: &mut Option<Mount<N>>,
+    door: &mut D,
+    task: u64,
+) -> Result<Told<'static>, Refusal>
+    requires shares { (s : ShareValue) → D.share_of s ≡ s }
+    requires going { (s : StoreValue) → D.going_of s ≡ s.going }
+    requires emptied { (s : StoreValue) → D.emptied s ≡ record s { going = [] } }
+    requires ready { D.is_ready door.old }
+    requires has { has_maps_of task mount.old ≡ true }
+    ensures went { (size k : ℕ) → Went size k mount.old (ExitMaps task) (Ok Done) (D.asked door.new) mount.new }
+    ensures reply { told_reply result ≡ Ok Done }
+{
+    match mount {
+        None => unreachable!(),
+        Some(mount) => mount.exit_maps(door, task),
+    }
+    Ok(Told::Done)
+}
+
+// The maps of a task, which has some on the slot, become its child's as well.
+pub(crate) fn fork<N: Naming, D: SessionDoor<Share = Subpool<N>, Page = Page<N>, Going = PageStore<N>>>(
+    mount: &mut Option<Mount<N>>,
+    door: &mut D,
+    parent: u64,
+    child: u64,
+) -> Result<Told<'static>, Refusal>
+    requires shares { (s : ShareValue) → D.share_of s ≡ s }
+    requires going { (s : StoreValue) → D.going_of s ≡ s.going }
+    requires emptied { (s : StoreValue) → D.emptied s ≡ record s { going = [] } }
+    requires ready { D.is_ready door.old }
+    requires has { has_maps_of parent mount.old ≡ true }
+    requires apart { (parent == child) ≡ false }
+    ensures went { (size k : ℕ) → Went size k mount.old (ForkMaps parent child) (told_reply result) (D.asked door.new) mount.new }
+    ensures noted { is_trace_full (told_reply result) ≡ false }
+    ensures limits { IsWithinLimits (told_reply result) }
+    ensures plain { reply_has_names (told_reply result) ≡ false }
+{
+    match mount {
+        None => unreachable!(),
+        Some(mount) => Told::done(mount.fork_maps(door, parent, child)),
+    }
 }
