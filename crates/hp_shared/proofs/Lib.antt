@@ -2,3 +2,4 @@ pub mod Places
 pub mod TablesKept
 pub mod Acting
 pub mod SlotsKept
+pub mod Unmounting

@@ -2,6 +2,7 @@
 #![tactic(auto)]
 
 mod locked_slot;
+mod mounting;
 mod slot;
 mod table;
 mod table_told;
