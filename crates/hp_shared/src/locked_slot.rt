@@ -1,7 +1,7 @@
 //! A slot with its trail.
-ghost use Rattle.std.specs.Prelude.{◌≡◌, ◌≤◌, ◌==◌, Ok, ℕ, [], length, true, false, None, Some, is_some};
+ghost use Rattle.std.specs.Prelude.{◌≡◌, ◌<◌, ◌≤◌, ◌==◌, Ok, ℕ, [], length, true, false, None, Some, is_some};
 ghost use Rattle.hp_model.specs.declared.answer.Answer.TheVariants.{Done};
-ghost use Rattle.hp_model.specs.declared.event.SlotEvent.TheVariants.{ExitMaps, ForkMaps};
+ghost use Rattle.hp_model.specs.declared.event.SlotEvent.TheVariants.{ExitMaps, ForkMaps, Mount as Mounting, Umount};
 ghost use Rattle.hp_model.specs.declared.entry.Part.TheVariants.{Slot as AtSlot};
 ghost use Rattle.hp_model.specs.declared.event.Event.TheVariants.{Slot as OnSlot};
 ghost use Rattle.hp_model.specs.declared.event.SlotEvent.{SlotEvent as SlotEventValue};
@@ -15,11 +15,12 @@ ghost use Rattle.hp_laws.specs.Answers.{lists_names};
 ghost use Rattle.hp_locked.specs.Told.{IsReceipt};
 ghost use Rattle.hp_locked.specs.Views.{IsFresh};
 ghost use Rattle.hp_mount.specs.Event.{event_of};
-ghost use Rattle.hp_store.specs.Store.{Store as StoreValue};
+ghost use Rattle.hp_store.specs.Store.{Store as StoreValue, page_at};
 ghost use Rattle.hp_subpool.specs.Subpool.{Subpool as ShareValue};
 ghost use Rattle.hp_shared.specs.Slots.{AreNoted, IsSlotEvent, IsSlotEventDone, IsSlotTrail, slot_start};
 ghost use Rattle.hp_trail.specs.Keeping.{added, has_room, one_less};
 
+use crate::mounting::{mount as open, unmount};
 use crate::slot::{act, copied, fork, is_full, leave};
 use hp_locked::SessionDoor;
 use hp_model::entry::{Asked, Part, Receipt, SlotEntry};
@@ -33,6 +34,7 @@ use hp_nodes::Page;
 use hp_store::PageStore;
 use hp_subpool::Subpool;
 use hp_trail::trail::Trail;
+use std::alloc::Global;
 use std::marker::Model;
 
 /// A slot with its trail.
@@ -202,6 +204,68 @@ impl<N: Naming, T: Trail<SlotEntry>> Slot<N, T> {
             SlotEvent::ForkMaps { parent, child },
         ));
         let receipt = note(trail, *number, events, door.asked(), &told);
+        (told, receipt)
+    }
+
+    /// Ends the slot's mount: the receipt where entries are kept. Refused as NoSuchSlot or Busy. Answered TraceFull, and then
+    /// nothing changed, where the trail has no room.
+    pub fn umount<D: SessionDoor<Share = Subpool<N>, Page = Page<N>, Going = PageStore<N>>>(
+        &mut self,
+        door: &mut D,
+    ) -> (Result<Told<'static>, Refusal>, Option<Receipt>)
+        requires shares { (s : ShareValue) → D.share_of s ≡ s }
+        requires going { (s : StoreValue) → D.going_of s ≡ s.going }
+        requires spent { (s : StoreValue) → ((n : ℕ) → page_at s n ≡ None) → D.is_spent s }
+        requires ready { D.is_ready door.old }
+        ensures done { IsSlotEvent ⊥ N.page_bytes self.old self.new Umount
+            (told_reply result.0) (D.asked door.new) result.1 }
+    {
+        let Slot {
+            number,
+            mount,
+            trail,
+        } = self;
+        if !trail.has_room(false) {
+            return (Err(Refusal::TraceFull), None);
+        }
+        let told = unmount(mount, *number, door);
+        let events = Some((SlotEvent::Umount, SlotEvent::Umount));
+        let receipt = note(trail, *number, events, door.asked(), &told);
+        (told, receipt)
+    }
+
+    /// Mounts the slot with options: the receipt where entries are kept. For these the event is given twice. Refused as
+    /// SlotTaken, BadOption, MinOverSize or NoPages. Answered TraceFull, and then nothing changed, where the trail has no room,
+    /// or the door has none for its section.
+    pub fn mount<D: SessionDoor<Share = Subpool<N>, Page = Page<N>, Going = PageStore<N>>>(
+        &mut self,
+        door: &mut D,
+        alloc: Global,
+        page_bytes: u64,
+        options: &[u8],
+        noted: Option<(SlotEvent, SlotEvent)>,
+    ) -> (Result<Told<'static>, Refusal>, Option<Receipt>)
+        requires shares { (s : ShareValue) → D.share_of s ≡ s }
+        requires ready { D.is_ready door.old }
+        requires page_bytes { page_bytes ≡ N.page_bytes }
+        requires bytes { 0 < page_bytes }
+        requires noted { AreNoted self.old.entries (Mounting options.now) noted }
+        ensures done { IsSlotEvent (D.is_full door.new) N.page_bytes self.old self.new (Mounting options.now)
+            (told_reply result.0) (D.asked door.new) result.1 }
+    {
+        let Slot {
+            number,
+            mount,
+            trail,
+        } = self;
+        if !trail.has_room(false) {
+            return (Err(Refusal::TraceFull), None);
+        }
+        let told = open(mount, door, alloc, page_bytes, options);
+        if is_full(&told) {
+            return (told, None);
+        }
+        let receipt = note(trail, *number, noted, door.asked(), &told);
         (told, receipt)
     }
 }
