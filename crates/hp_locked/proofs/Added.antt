@@ -11,7 +11,6 @@ use Rattle.hp_model.specs.machine.Settled.{IsSettledPool}
 use Rattle.hp_model.specs.pool.NodeRows.{frames_of, total_of}
 use Rattle.hp_model.specs.pool.PoolCounts.{IsSettled}
 use Rattle.hp_model.proofs.Sums.{idle_total}
-use Rattle.hp_laws.proofs.Sections.{total-le-frames}
 use Rattle.hp_pool.specs.Sums.{idle_pool}
 use Rattle.std.proofs.lemmas.Bool.{lt-ltb, ltb-true}
 use Rattle.hp_mount_door.specs.Door.{IsReady, GivesBack, by_node}
@@ -101,7 +100,7 @@ has_place None extra n places some = refl
 has_place (Some l) extra n places some = lt-ltb 0 l (omega (arith, places, some))
 
 module _ (start : Pool) (o o2 : Option (List PoolEntry)) (left left2 : Option ℕ) (extra extra2 : ℕ) (p : Pool) (e : PoolEntry) (q : Pool) (core : IsCore start o left extra p)
-  (noted : o2 ≡ added o e) (lessens : left2 ≡ one_less left) (stays : extra2 ≡ extra) (step : IsPoolStep p e q) (ready : IsReady q) (law : IsSettled q → IsSettledPool q) where
+    (noted : o2 ≡ added o e) (lessens : left2 ≡ one_less left) (stays : extra2 ≡ extra) (step : IsPoolStep p e q) (ready : IsReady q) (law : IsSettled q → IsSettledPool q) where
   as_noted : HasPlaces (one_less left) (to_return q) → IsCore start o2 left2 extra2 q
   as_noted places = record {
     trail = subst (λ (x : Option (List PoolEntry)). IsPoolTrail start x q) (sym noted) (pool_added start o p e q core.trail step);

@@ -49,7 +49,11 @@ impl<'a, N: Naming, R: Wait, G: Gate, T: Trail<PoolEntry>> Door<'a, N, R, G, T> 
     }
 
     // The section of a mount, as `SessionDoor::open` has it.
-    fn open_share(&mut self, options: &[u8], page_bytes: u64) -> Result<(Subpool<N>, Limits), Refusal>
+    fn open_share(
+        &mut self,
+        options: &[u8],
+        page_bytes: u64,
+    ) -> Result<(Subpool<N>, Limits), Refusal>
         requires ready { self.old.asked ≡ None }
         requires bytes { 0 < page_bytes }
         ensures { IsOpenedAt (λ d s a e. Asks e.asked s a) (λ d. d.asked ≡ None) page_bytes options.now

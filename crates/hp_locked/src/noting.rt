@@ -14,7 +14,11 @@ use hp_model::section::{PoolAnswer, Section};
 use hp_trail::trail::Trail;
 
 // Notes a section with the pool's answer, and tells where.
-pub(crate) fn note<T: Trail<PoolEntry>>(trail: &mut T, section: Section, answer: PoolAnswer) -> Asked
+pub(crate) fn note<T: Trail<PoolEntry>>(
+    trail: &mut T,
+    section: Section,
+    answer: PoolAnswer,
+) -> Asked
     requires { has_room true (T.left trail.old) (T.extra trail.old) ≡ true }
     ensures entries { T.entries trail.new ≡ added (T.entries trail.old) (OfSlot section answer) }
     ensures left { T.left trail.new ≡ one_less (T.left trail.old) }
@@ -33,7 +37,11 @@ pub(crate) fn note<T: Trail<PoolEntry>>(trail: &mut T, section: Section, answer:
 }
 
 // Notes an event of the pool with its answer, and makes its receipt where entries are kept.
-pub(crate) fn note_event<T: Trail<PoolEntry>>(trail: &mut T, event: PoolEvent, told: PoolTold) -> Option<Receipt>
+pub(crate) fn note_event<T: Trail<PoolEntry>>(
+    trail: &mut T,
+    event: PoolEvent,
+    told: PoolTold,
+) -> Option<Receipt>
     requires { has_room true (T.left trail.old) (T.extra trail.old) ≡ true }
     ensures entries { T.entries trail.new ≡ added (T.entries trail.old) (OfPool event (pool_reply told)) }
     ensures left { T.left trail.new ≡ one_less (T.left trail.old) }

@@ -89,7 +89,11 @@ impl<N: Naming, T: Trail<PoolEntry>> Core<N, T> {
     }
 
     /// Takes the claim of a reservation that the share holds. At `Err` the trail is full, and nothing changed.
-    pub fn take_page(&mut self, share: &mut Subpool<N>, home: usize) -> Result<(Claim<N>, Asked), Full>
+    pub fn take_page(
+        &mut self,
+        share: &mut Subpool<N>,
+        home: usize,
+    ) -> Result<(Claim<N>, Asked), Full>
         requires held { 0 < share.old.held }
         ensures section { IfOk result (λ r. IsSection self.old self.new r.1) }
         ensures asks { IfOk result (λ r. r.1.section ≡ TakePage home) }
@@ -113,7 +117,12 @@ impl<N: Naming, T: Trail<PoolEntry>> Core<N, T> {
 
     /// Reserves k pages more for the share: the section with its answer, where there is one. At `Err` the trail is full,
     /// and nothing changed.
-    pub fn get(&mut self, share: &mut Subpool<N>, home: usize, k: u64) -> Result<Option<Asked>, Full>
+    pub fn get(
+        &mut self,
+        share: &mut Subpool<N>,
+        home: usize,
+        k: u64,
+    ) -> Result<Option<Asked>, Full>
         requires within { ShareIsFull share.old k ≡ false }
         requires few { used share.old + k < 2 ^ 64 }
         ensures none { IfOk result (λ t. IfNone t (IsUnasked k self.old self.new share.old share.new)) }
@@ -146,7 +155,11 @@ impl<N: Naming, T: Trail<PoolEntry>> Core<N, T> {
 
     /// A page more for the share, by a grant of one: its claim, where it was granted, and the section. At `Err` the trail is
     /// full, and nothing changed.
-    pub fn get_page(&mut self, share: &mut Subpool<N>, home: usize) -> Result<(Option<Claim<N>>, Asked), Full>
+    pub fn get_page(
+        &mut self,
+        share: &mut Subpool<N>,
+        home: usize,
+    ) -> Result<(Option<Claim<N>>, Asked), Full>
         requires within { ShareIsFull share.old 1 ≡ false }
         requires few { used share.old + 1 < 2 ^ 64 }
         ensures section { IfOk result (λ r. IsSection self.old self.new r.1) }
@@ -202,7 +215,11 @@ impl<N: Naming, T: Trail<PoolEntry>> Core<N, T> {
     /// The section of a mount: reads nr, and commits the minimum that the options mean at it, for pages of so many bytes.
     /// The share and the limits, or BadOption, MinOverSize or NoPages; and the section. At `Err` the trail is full, and
     /// nothing changed.
-    pub fn open(&mut self, options: &[u8], page_bytes: u64) -> Result<(Result<(Subpool<N>, Limits), Refusal>, Asked), Full>
+    pub fn open(
+        &mut self,
+        options: &[u8],
+        page_bytes: u64,
+    ) -> Result<(Result<(Subpool<N>, Limits), Refusal>, Asked), Full>
         requires { 0 < page_bytes }
         ensures section { IfOk result (λ r. IsSection self.old self.new r.1) }
         ensures opens { IfOk result (λ r. IsShareOf (limits self.old.pool.nr page_bytes (wanted_of options.now))
@@ -392,7 +409,11 @@ fn committed<N: Naming>(share: &Subpool<N>) -> u64
 }
 
 // A page by a grant of one, with the pool's answer.
-fn paged<N: Naming>(pool: &mut Pool<N>, share: &mut Subpool<N>, home: usize) -> (Option<Claim<N>>, PoolAnswer)
+fn paged<N: Naming>(
+    pool: &mut Pool<N>,
+    share: &mut Subpool<N>,
+    home: usize,
+) -> (Option<Claim<N>>, PoolAnswer)
     requires ready { IsReady pool.old }
     requires within { ShareIsFull share.old 1 ≡ false }
     requires few { used share.old + 1 < 2 ^ 64 }
@@ -436,7 +457,12 @@ fn covered<N: Naming>(pool: &mut Pool<N>, share: &mut Subpool<N>, home: usize, k
 }
 
 // The pool's answer to a grant of reservations.
-fn reserved<N: Naming>(pool: &mut Pool<N>, share: &mut Subpool<N>, home: usize, k: u64) -> PoolAnswer
+fn reserved<N: Naming>(
+    pool: &mut Pool<N>,
+    share: &mut Subpool<N>,
+    home: usize,
+    k: u64,
+) -> PoolAnswer
     requires ready { IsReady pool.old }
     requires within { ShareIsFull share.old k ≡ false }
     requires few { used share.old + k < 2 ^ 64 }

@@ -15,10 +15,7 @@ pub enum PoolTold {
     TooMuch,
     Number(u64),
     Numbers(Counts),
-    PerNode {
-        nodes: u64,
-        rows: [NodeCount; 4],
-    },
+    PerNode { nodes: u64, rows: [NodeCount; 4] },
 }
 
 impl PoolTold {

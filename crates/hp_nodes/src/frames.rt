@@ -198,7 +198,14 @@ impl<N: Naming> Frames<N> {
 /// The frames of each node, by themselves.
 impl<N: Naming> Frames<N> {
     /// The frames of nodes 0 to 3.
-    pub fn into_nodes(self) -> (NodeFrames<N, 0>, NodeFrames<N, 1>, NodeFrames<N, 2>, NodeFrames<N, 3>) {
+    pub fn into_nodes(
+        self,
+    ) -> (
+        NodeFrames<N, 0>,
+        NodeFrames<N, 1>,
+        NodeFrames<N, 2>,
+        NodeFrames<N, 3>,
+    ) {
         let Frames {
             zero,
             one,

@@ -1,12 +1,9 @@
 -- What went through a session's door is what went by what it asked.
-use Rattle.std.proofs.Common.{◌≡◌, ℕ, ◌<◌, ◌≤◌, Bool, true, false, Option, None, Some, Ok, Err, List, [], ◌∷◌, ◌++◌, refl, sym, ap, ◌∙◌, subst, arith}
-use Rattle.std.specs.Bool.{MatchBool}
+use Rattle.std.proofs.Common.{◌≡◌, ℕ, Bool, true, false, Option, None, Some, Ok, Err, refl, sym, ap, ◌∙◌, subst}
 use Rattle.hp_model.specs.declared.answer.Answer.{Answer}
 use Rattle.hp_model.specs.declared.entry.Asked.{Asked}
-use Rattle.hp_model.specs.declared.entry.SlotEntry.{SlotEntry}
 use Rattle.hp_model.specs.declared.event.SlotEvent.{SlotEvent}
 use Rattle.hp_model.specs.declared.event.SlotEvent.TheVariants as slot
-use Rattle.hp_model.specs.declared.refusal.Refusal.{Refusal}
 use Rattle.hp_model.specs.declared.refusal.Refusal.TheVariants as r
 use Rattle.hp_model.specs.declared.section.PoolAnswer.{PoolAnswer}
 use Rattle.hp_model.specs.declared.section.Section.{Section}
@@ -26,7 +23,7 @@ use Rattle.hp_mount.specs.declared.event.MountEvent.TheVariants as m
 use Rattle.hp_mount.specs.Done.{IsDone, Through}
 use Rattle.hp_mount.specs.Event.{event_of, is_usage}
 use Rattle.hp_mount.proofs.Ways.{fresh_choice, is_fresh}
-use Rattle.hp_shared.specs.Slots.{IsActedOr, Went, is_trace_full}
+use Rattle.hp_shared.specs.Slots.{IsActedOr, Went}
 
 -- a door that was not used tells what it was asked
 goes_on : {X : Type 0} (asked : X → Option Asked) (p : Plan) (old : Slot) (d : X) (reply : Reply) (new : Slot) (e : X) → asked d ≡ None → ThroughDoor (λ d s a e. Asks (asked e) s a) p old d reply new e → Goes p (asked e) old reply new
@@ -162,6 +159,9 @@ none_event size k c home m.Usage = refl
 
 pub none_acted : (full : Type 0) (size k home : ℕ) (e : MountEvent) (asked : Option Asked) → asked ≡ None → IsActedOr full size k None (event_of home e) (Err r.NoSuchSlot) asked None
 none_acted full size k home e asked none =
-    let c : Choice = fresh_choice false None in
-    (c, is_fresh false None, subst (λ (x : Option Asked). Goes (slot_event size k c None (event_of home e)) x None (Err r.NoSuchSlot) None) (sym none)
-    (subst (λ p. Goes p None None (Err r.NoSuchSlot) None) (sym (none_event size k c home e)) (refl, refl)))
+    let c : Choice = fresh_choice false None in (
+      c,
+      is_fresh false None,
+      subst (λ (x : Option Asked). Goes (slot_event size k c None (event_of home e)) x None (Err r.NoSuchSlot) None) (sym none)
+          (subst (λ p. Goes p None None (Err r.NoSuchSlot) None) (sym (none_event size k c home e)) (refl, refl)),
+    )

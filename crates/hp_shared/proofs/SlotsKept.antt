@@ -1,16 +1,15 @@
 -- The slot's trail keeps its fact with one entry more.
-use Rattle.std.proofs.Common.{◌≡◌, ◌⊎◌, inl, inr, ℕ, ◌≤◌, zero, suc, Bool, true, false, List, [], ◌∷◌, ◌++◌, Option, None, Some, Ok, Err, refl, sym, ap, ◌∙◌, subst, arith}
+use Rattle.std.proofs.Common.{◌≡◌, ◌⊎◌, inr, ℕ, ◌≤◌, zero, suc, Bool, true, false, List, [], ◌∷◌, ◌++◌, Option, None, Some, Ok, Err, refl, sym, ap, ◌∙◌, subst, arith}
 use Rattle.std.specs.Prelude.{is_some, IsTrue}
 use Rattle.hp_model.specs.declared.entry.Asked.{Asked}
 use Rattle.hp_model.specs.declared.entry.SlotEntry.{SlotEntry}
 use Rattle.hp_model.specs.declared.event.SlotEvent.{SlotEvent}
 use Rattle.hp_model.specs.machine.Event.{is_slot_event}
-use Rattle.hp_model.specs.machine.Plan.{Outcome, Reply, Slot}
+use Rattle.hp_model.specs.machine.Plan.{Reply, Slot}
 use Rattle.hp_model.specs.machine.SlotEvent.{slot_event}
 use Rattle.hp_model.specs.Profile.{most_tasks}
 use Rattle.hp_model.specs.threads.Closing.{KeepsPlaces, removes_maps, to_exit}
 use Rattle.hp_model.specs.threads.LocalRun.{IsLocalRun, IsLocalStep}
-use Rattle.hp_laws.specs.Balance.{Always, left_by}
 use Rattle.hp_laws.proofs.Closing.{slot_places}
 use Rattle.hp_locked.specs.Views.{HasPlaces, IsFresh as IsFreshTrail}
 use Rattle.hp_trail.specs.Keeping.{added, has_room, one_less}

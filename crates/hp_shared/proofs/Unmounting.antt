@@ -1,5 +1,5 @@
 -- Mount and umount of a slot, through a session's door.
-use Rattle.std.proofs.Common.{◌≡◌, ℕ, ◌==◌, Bool, true, false, cond, Option, None, Some, Ok, Err, List, [], ◌∷◌, refl, sym, ap, ◌∙◌, subst}
+use Rattle.std.proofs.Common.{◌≡◌, ℕ, ◌==◌, Bool, true, false, cond, Option, None, Some, Ok, Err, List, [], refl, sym, ap, ◌∙◌, subst}
 use Rattle.std.specs.Prelude.{Result, is_some}
 use Rattle.hp_model.specs.declared.answer.Answer.TheVariants.{Done}
 use Rattle.hp_model.specs.declared.entry.Asked.{Asked}
@@ -15,7 +15,7 @@ use Rattle.hp_model.specs.files.Options.{limits, wanted_of}
 use Rattle.hp_model.specs.machine.Plan.{Choice, Plan, Reply, Slot, gives, refuse, unless}
 use Rattle.hp_model.specs.machine.SlotEvent.{has_maps, mount_outcome, mount_pages, slot_event, umount_tests}
 use Rattle.hp_model.specs.threads.LocalRun.{Gives, Goes, ThroughDoor}
-use Rattle.hp_locked.specs.Opened.{IsOpenedAt, IsShareOf, read_nr, shown}
+use Rattle.hp_locked.specs.Opened.{IsOpenedAt, IsShareOf, shown}
 use Rattle.hp_locked.specs.Views.{Asks}
 use Rattle.hp_mount.specs.Kept.{mount_of}
 use Rattle.hp_mount.proofs.Ways.{fresh_choice, is_fresh}
@@ -88,9 +88,12 @@ module _ {X : Type 0} (asked : X → Option Asked) (took : X → Section → Poo
   mount_went size k text got nr s a h t =
       let same = nr_is (limits nr size (wanted_of text)) nr got s a h in
       let there = tells d s a e t in
-      let goes = opens (limits nr size (wanted_of text)) nr got s a h in
-      (choice, is_fresh false None, subst (λ (x : Option Asked). Goes (slot_event size k choice None (Mounting text)) x None (told got) (left_of got)) (sym there.1)
-      (subst (λ n. (ReadAndGrant (mount_pages choice (limits n size (wanted_of text))) ≡ s) × Gives (mount_outcome choice a (limits n size (wanted_of text))) None (told got) (left_of got)) (sym same) goes))
+      let goes = opens (limits nr size (wanted_of text)) nr got s a h in (
+        choice,
+        is_fresh false None,
+        subst (λ (x : Option Asked). Goes (slot_event size k choice None (Mounting text)) x None (told got) (left_of got)) (sym there.1)
+            (subst (λ n. (ReadAndGrant (mount_pages choice (limits n size (wanted_of text))) ≡ s) × Gives (mount_outcome choice a (limits n size (wanted_of text))) None (told got) (left_of got)) (sym same) goes),
+      )
 
   pub mounted : (size k : ℕ) (text : List ℕ) (got : Result (Subpool × Limits) Refusal) → IsOpenedAt took full size text d e got → IsActedOr (full e) size k None (Mounting text) (told got) (asked e) (left_of got)
   mounted size k text (Ok got) o = mount_went size k text (Ok got) o.0 o.1 o.2 o.3 o.4

@@ -1,5 +1,5 @@
 -- What a slot under its lock is to a contract, and what an event there does.
-use Rattle.std.specs.Prelude.{◌≡◌, ◌⊎◌, ℕ, zero, suc, ◌≤◌, Bool, true, false, Option, None, Some, Ok, Err, List}
+use Rattle.std.specs.Prelude.{◌≡◌, ◌⊎◌, ℕ, zero, suc, ◌≤◌, Bool, true, false, Option, None, Some, Err, List}
 use Rattle.std.specs.Bool.{MatchBool}
 use Rattle.hp_model.specs.declared.entry.Asked.{Asked}
 use Rattle.hp_model.specs.declared.entry.Part.TheVariants.{Slot as AtSlot}

@@ -166,10 +166,7 @@ impl<N: Naming, T: Trail<SlotEntry>> Slot<N, T> {
             trail,
         } = self;
         let told = leave(mount, door, task);
-        let events = Some((
-            SlotEvent::ExitMaps { task },
-            SlotEvent::ExitMaps { task },
-        ));
+        let events = Some((SlotEvent::ExitMaps { task }, SlotEvent::ExitMaps { task }));
         note(trail, *number, events, door.asked(), &told)
     }
 

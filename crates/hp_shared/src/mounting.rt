@@ -22,11 +22,10 @@ use std::mem;
 
 // Ends the mount of a slot of this number. Refused as NoSuchSlot where it is not mounted, and as Busy where it is slot 0 or
 // a task has a map there.
-pub(crate) fn unmount<N: Naming, D: SessionDoor<Share = Subpool<N>, Page = Page<N>, Going = PageStore<N>>>(
-    mount: &mut Option<Mount<N>>,
-    number: u64,
-    door: &mut D,
-) -> Result<Told<'static>, Refusal>
+pub(crate) fn unmount<
+    N: Naming,
+    D: SessionDoor<Share = Subpool<N>, Page = Page<N>, Going = PageStore<N>>,
+>(mount: &mut Option<Mount<N>>, number: u64, door: &mut D) -> Result<Told<'static>, Refusal>
     requires shares { (s : ShareValue) → D.share_of s ≡ s }
     requires going { (s : StoreValue) → D.going_of s ≡ s.going }
     requires spent { (s : StoreValue) → ((n : ℕ) → page_at s n ≡ None) → D.is_spent s }
@@ -56,7 +55,10 @@ pub(crate) fn unmount<N: Naming, D: SessionDoor<Share = Subpool<N>, Page = Page<
 
 // Mounts a slot with options, and commits the minimum that they ask for. Refused as SlotTaken, BadOption, MinOverSize or
 // NoPages, the first of these that holds; as TraceFull where the door has no room.
-pub(crate) fn mount<N: Naming, D: SessionDoor<Share = Subpool<N>, Page = Page<N>, Going = PageStore<N>>>(
+pub(crate) fn mount<
+    N: Naming,
+    D: SessionDoor<Share = Subpool<N>, Page = Page<N>, Going = PageStore<N>>,
+>(
     mount: &mut Option<Mount<N>>,
     door: &mut D,
     alloc: Global,

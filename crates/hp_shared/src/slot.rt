@@ -26,7 +26,11 @@ use hp_store::PageStore;
 use hp_subpool::Subpool;
 
 // What an event asks of a slot, through a door that was not used.
-pub(crate) fn act<'a, N: Naming, D: SessionDoor<Share = Subpool<N>, Page = Page<N>, Going = PageStore<N>>>(
+pub(crate) fn act<
+    'a,
+    N: Naming,
+    D: SessionDoor<Share = Subpool<N>, Page = Page<N>, Going = PageStore<N>>,
+>(
     mount: &mut Option<Mount<N>>,
     door: &mut D,
     page_bytes: u64,
@@ -129,11 +133,10 @@ pub(crate) fn is_full(told: &Result<Told<'_>, Refusal>) -> bool
 }
 
 // The maps of a task, which has some, go from a slot.
-pub(crate) fn leave<N: Naming, D: SessionDoor<Share = Subpool<N>, Page = Page<N>, Going = PageStore<N>>>(
-    mount: &mut Option<Mount<N>>,
-    door: &mut D,
-    task: u64,
-) -> Result<Told<'static>, Refusal>
+pub(crate) fn leave<
+    N: Naming,
+    D: SessionDoor<Share = Subpool<N>, Page = Page<N>, Going = PageStore<N>>,
+>(mount: &mut Option<Mount<N>>, door: &mut D, task: u64) -> Result<Told<'static>, Refusal>
     requires shares { (s : ShareValue) → D.share_of s ≡ s }
     requires going { (s : StoreValue) → D.going_of s ≡ s.going }
     requires emptied { (s : StoreValue) → D.emptied s ≡ record s { going = [] } }
@@ -150,7 +153,10 @@ pub(crate) fn leave<N: Naming, D: SessionDoor<Share = Subpool<N>, Page = Page<N>
 }
 
 // The maps of a task, which has some on the slot, become its child's as well.
-pub(crate) fn fork<N: Naming, D: SessionDoor<Share = Subpool<N>, Page = Page<N>, Going = PageStore<N>>>(
+pub(crate) fn fork<
+    N: Naming,
+    D: SessionDoor<Share = Subpool<N>, Page = Page<N>, Going = PageStore<N>>,
+>(
     mount: &mut Option<Mount<N>>,
     door: &mut D,
     parent: u64,

@@ -158,7 +158,11 @@ fn note<T: Trail<TableEntry>>(trail: &mut T, event: TableEvent, told: TableTold)
     receipt
 }
 
-fn receipt_of<T: Trail<TableEntry>>(trail: &T, event: TableEvent, told: TableTold) -> Option<Receipt>
+fn receipt_of<T: Trail<TableEntry>>(
+    trail: &T,
+    event: TableEvent,
+    told: TableTold,
+) -> Option<Receipt>
     ensures { IsReceipt (T.entries trail.now) AtTasks (OnTasks event) (table_reply told) result }
 {
     if !trail.is_kept() {

@@ -1,10 +1,8 @@
-use Rattle.std.proofs.Common.{◌≡◌, Err, None, Ok, Some, sym, ap, subst, ◌∙◌}
+use Rattle.std.proofs.Common.{Err, None, Ok, Some, sym, ap, subst, ◌∙◌}
 use Rattle.hp_model.specs.declared.answer.Answer.TheVariants.{Done}
 use Rattle.hp_model.specs.declared.event.SlotEvent.TheVariants.{Mount as Mounting}
 use Rattle.hp_model.specs.declared.refusal.Refusal.TheVariants.{SlotTaken}
 use Rattle.hp_model.specs.machine.Plan.{Slot}
-use Rattle.hp_mount.specs.Kept.{mount_of}
-use Rattle.hp_subpool.specs.Subpool.{Subpool}
 use Rattle.hp_shared.specs.Slots.{IsActedOr}
 use Rattle.hp_shared.proofs.Unmounting.{mounted, none_mount, some_mount, opened_held, opened_pages, shown_err, shown_ok, taken}
 use Rattle.hp_shared.proofs.mounting.mount.Goals as goal
