@@ -26,21 +26,25 @@ use Rattle.hp_mount.proofs.Ways.{fresh_choice, is_fresh}
 use Rattle.hp_shared.specs.Slots.{IsActedOr, Went}
 
 -- a door that was not used tells what it was asked
-goes_on : {X : Type 0} (asked : X → Option Asked) (p : Plan) (old : Slot) (d : X) (reply : Reply) (new : Slot) (e : X) → asked d ≡ None → ThroughDoor (λ d s a e. Asks (asked e) s a) p old d reply new e → Goes p (asked e) old reply new
+goes_on : {X : Type 0} (asked : X → Option Asked) (p : Plan) (old : Slot) (d : X) (reply : Reply) (new : Slot) (e : X) → asked d ≡ None →
+    ThroughDoor (λ d s a e. Asks (asked e) s a) p old d reply new e → Goes p (asked e) old reply new
 goes_on asked (Finish o) old d reply new e none t = subst (λ (x : Option Asked). Goes (Finish o) x old reply new) (sym (ap asked t.1 ∙ none)) t.0
 goes_on asked (Ask sec f) old d reply new e none (a, took, gives) =
     subst (λ (x : Option Asked). Goes (Ask sec f) x old reply new) (sym took.1) (refl, gives)
 
 -- through any door that tells what it was asked
-module _ {X : Type 0} (asked : X → Option Asked) (took : X → Section → PoolAnswer → X → Type 0) (full : X → Type 0) (tells : (d : X) (s : Section) (a : PoolAnswer) (e : X) → took d s a e → Asks (asked e) s a) where
+module _ {X : Type 0} (asked : X → Option Asked) (took : X → Section → PoolAnswer → X → Type 0) (full : X → Type 0)
+    (tells : (d : X) (s : Section) (a : PoolAnswer) (e : X) → took d s a e → Asks (asked e) s a) where
   tells_plan : (p : Plan) (old : Slot) (d : X) (reply : Reply) (new : Slot) (e : X) → ThroughDoor took p old d reply new e → ThroughDoor (λ d s a e. Asks (asked e) s a) p old d reply new e
   tells_plan (Finish o) old d reply new e t = t
   tells_plan (Ask sec f) old d reply new e (a, t, gives) = (a, tells d (sec a.nr) a e t, gives)
 
-  told_went : (size k : ℕ) (old : Slot) (d : X) (ev : SlotEvent) (reply : Reply) (new : Slot) (e : X) → asked d ≡ None → Through took (λ c. slot_event size k c old ev) old d reply new e → Went size k old ev reply (asked e) new
+  told_went : (size k : ℕ) (old : Slot) (d : X) (ev : SlotEvent) (reply : Reply) (new : Slot) (e : X) → asked d ≡ None →
+      Through took (λ c. slot_event size k c old ev) old d reply new e → Went size k old ev reply (asked e) new
   told_went size k old d ev reply new e none (c, fresh, t) = (c, fresh, goes_on asked (slot_event size k c old ev) old d reply new e none (tells_plan (slot_event size k c old ev) old d reply new e t))
 
-  pub acted_or : (size k : ℕ) (old : Slot) (d : X) (ev : SlotEvent) (reply : Reply) (new : Slot) (e : X) → asked d ≡ None → IsDone took full size k old d ev reply new e → IsActedOr (full e) size k old ev reply (asked e) new
+  pub acted_or : (size k : ℕ) (old : Slot) (d : X) (ev : SlotEvent) (reply : Reply) (new : Slot) (e : X) → asked d ≡ None →
+      IsDone took full size k old d ev reply new e → IsActedOr (full e) size k old ev reply (asked e) new
   acted_or size k old d ev (Ok a) new e none t = told_went size k old d ev (Ok a) new e none t
   acted_or size k old d ev (Err r.TraceFull) new e none t = (t.0, ap asked t.1.0 ∙ none, t.1.1, t.2)
   acted_or size k old d ev (Err r.OutOfMemory) new e none t = told_went size k old d ev (Err r.OutOfMemory) new e none t
@@ -81,7 +85,8 @@ always_goes Q (Ask sec f) None old reply new h g = absurd g
 always_goes Q (Ask sec f) (Some a) old reply new h g = subst Q (sym (left_is (f a.answer) old reply new g.1)) (h a.answer)
 
 -- the outcome that an event came to
-pub always_came : (P : Outcome → Type 0) (p : Plan) (asked : Option Asked) (old : Slot) (reply : Reply) (new : Slot) → Always P p → Goes p asked old reply new → (o : Outcome) × P o × Gives o old reply new
+pub always_came : (P : Outcome → Type 0) (p : Plan) (asked : Option Asked) (old : Slot) (reply : Reply) (new : Slot) → Always P p →
+    Goes p asked old reply new → (o : Outcome) × P o × Gives o old reply new
 always_came P (Finish o) None old reply new h g = (o, h, g)
 always_came P (Finish o) (Some a) old reply new h g = absurd g
 always_came P (Ask sec f) None old reply new h g = absurd g

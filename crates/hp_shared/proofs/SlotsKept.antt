@@ -39,7 +39,8 @@ never_none : (o : Option (List SlotEntry)) (e : SlotEntry) → added o e ≡ Non
 never_none None e is = refl
 never_none (Some es) e is = cc
 
-module _ (size k : ℕ) (o : Option (List SlotEntry)) (left : Option ℕ) (extra : ℕ) (old : Slot) (e : SlotEvent) (reply : Reply) (asked : Option Asked) (new : Slot) (was : IsLockedSlot size k o left extra old) (went : Went size k old e reply asked new) where
+module _ (size k : ℕ) (o : Option (List SlotEntry)) (left : Option ℕ) (extra : ℕ) (old : Slot) (e : SlotEvent) (reply : Reply) (asked : Option Asked)
+    (new : Slot) (was : IsLockedSlot size k o left extra old) (went : Went size k old e reply asked new) where
   keeps : KeepsPlaces most_tasks (to_exit old) (to_exit new) (removes_maps old e)
   keeps = always_goes (λ s. KeepsPlaces most_tasks (to_exit old) (to_exit s) (removes_maps old e)) (slot_event size k went.0 old e) asked old reply new (slot_places size k went.0 old e was.few) went.2
 
@@ -47,7 +48,9 @@ module _ (size k : ℕ) (o : Option (List SlotEntry)) (left : Option ℕ) (extra
   left_after left2 lessens stays None is = stays is ∙ was.counted is ∙ sym (ap one_less (was.counted is))
   left_after left2 lessens stays (Some es) is = lessens (ap is_some is)
 
-  pub slot_noted : (o2 : Option (List SlotEntry)) (left2 : Option ℕ) (extra2 : ℕ) → IsTrue (is_slot_event old e) → o2 ≡ added o (record { event = e; reply = reply; asked = asked }) → (is_some o ≡ true → left2 ≡ one_less left) → (o ≡ None → left2 ≡ left) → extra2 ≡ extra
+  pub slot_noted : (o2 : Option (List SlotEntry)) (left2 : Option ℕ) (extra2 : ℕ) → IsTrue (is_slot_event old e) →
+      o2 ≡ added o (record { event = e; reply = reply; asked = asked }) → (is_some o ≡ true → left2 ≡ one_less left) → (o ≡ None → left2 ≡ left) →
+      extra2 ≡ extra
       → (removes_maps old e ≡ false → has_room false left extra ≡ true) → IsLockedSlot size k o2 left2 extra2 new
   slot_noted o2 left2 extra2 is_event noted lessens kept stays room =
       let entry : SlotEntry = record { event = e; reply = reply; asked = asked } in
@@ -68,7 +71,8 @@ start_none : (k : ℕ) → ◌≡◌ {A = ℕ} (to_exit (slot_start k)) 0
 start_none zero = refl
 start_none (suc k) = refl
 
-pub fresh_slot : (size k : ℕ) (o : Option (List SlotEntry)) (left : Option ℕ) (extra : ℕ) (mount : Slot) → mount ≡ slot_start k → IsFreshTrail o → (o ≡ None → left ≡ None) → most_tasks ≤ extra → IsLockedSlot size k o left extra mount
+pub fresh_slot : (size k : ℕ) (o : Option (List SlotEntry)) (left : Option ℕ) (extra : ℕ) (mount : Slot) → mount ≡ slot_start k → IsFreshTrail o →
+    (o ≡ None → left ≡ None) → most_tasks ≤ extra → IsLockedSlot size k o left extra mount
 fresh_slot size k o left extra mount is fresh counted enough = record {
   trail = starts o fresh;
   counted = counted;
@@ -119,7 +123,8 @@ mount_event s home (m.Store task map index offset bytes) = refl
 mount_event s home m.Ls = refl
 mount_event s home m.Usage = refl
 
-module _ (full : Type 0) (size k : ℕ) (entries : Option (List SlotEntry)) (left : Option ℕ) (extra : ℕ) (old : Slot) (e : SlotEvent) (reply : Reply) (asked : Option Asked) (new : Slot) (acted : IsActedOr full size k old e reply asked new) where
+module _ (full : Type 0) (size k : ℕ) (entries : Option (List SlotEntry)) (left : Option ℕ) (extra : ℕ) (old : Slot) (e : SlotEvent) (reply : Reply)
+    (asked : Option Asked) (new : Slot) (acted : IsActedOr full size k old e reply asked new) where
   abbrev with_mount : Slot → SlotView
   with_mount x = record { number = k; mount = x; entries = entries; left = left; extra = extra }
 
@@ -143,8 +148,10 @@ module _ (full : Type 0) (size k : ℕ) (entries : Option (List SlotEntry)) (lef
       let t = full_in (is_trace_full reply) Nothing (Went size k old e reply asked new) is acted in
       full_put (is_trace_full reply) (Full new None) (IsSlotEventDone size (with_mount old) (with_mount new) e reply asked None) is (ap with_mount t.0, refl, t.1, inr (t.2, t.3))
 
-  pub event_done : is_trace_full reply ≡ false → (entries2 : Option (List SlotEntry)) (left2 : Option ℕ) (extra2 : ℕ) (receipt : Option Receipt) → entries2 ≡ added entries (record { event = e; reply = reply; asked = asked })
-      → IsReceipt entries (AtSlot k) (OnSlot k e) reply receipt → IsSlotEvent full size (with_mount old) (record { number = k; mount = new; entries = entries2; left = left2; extra = extra2 }) e reply asked receipt
+  pub event_done : is_trace_full reply ≡ false → (entries2 : Option (List SlotEntry)) (left2 : Option ℕ) (extra2 : ℕ) (receipt : Option Receipt) →
+      entries2 ≡ added entries (record { event = e; reply = reply; asked = asked })
+      → IsReceipt entries (AtSlot k) (OnSlot k e) reply receipt → IsSlotEvent full size (with_mount old)
+      (record { number = k; mount = new; entries = entries2; left = left2; extra = extra2 }) e reply asked receipt
   event_done is entries2 left2 extra2 receipt noted told =
       let v : SlotView = record { number = k; mount = new; entries = entries2; left = left2; extra = extra2 } in
       done_put (is_trace_full reply) ((v ≡ with_mount old) × (receipt ≡ None) × (asked ≡ None) × ((has_room false left extra ≡ false) ⊎ (full × MayEnter (λ c. slot_event size k c old e) old)))
@@ -155,6 +162,7 @@ not_full (Ok a) h = refl
 not_full (Err r.TraceFull) h = absurd (h refl)
 not_full (Err other) h = refl
 
-pub went_acted : (full : Type 0) (size k : ℕ) (old : Slot) (e : SlotEvent) (reply : Reply) (asked : Option Asked) (new : Slot) → is_trace_full reply ≡ false → Went size k old e reply asked new → IsActedOr full size k old e reply asked new
+pub went_acted : (full : Type 0) (size k : ℕ) (old : Slot) (e : SlotEvent) (reply : Reply) (asked : Option Asked) (new : Slot) →
+    is_trace_full reply ≡ false → Went size k old e reply asked new → IsActedOr full size k old e reply asked new
 went_acted full size k old e reply asked new is went =
     done_put (is_trace_full reply) ((new ≡ old) × (asked ≡ None) × full × MayEnter (λ c. slot_event size k c old e) old) (Went size k old e reply asked new) is went

@@ -48,8 +48,10 @@ free : (k : ℕ) (m : Mount) → (k == 0) ≡ false → has_maps m ≡ false →
 free k m e f =
     sym (ap (λ x. cond x (refuse r.Busy) (cond (has_maps m) (refuse r.Busy) (gives Done (Some m) None))) e ∙ ap (λ x. cond x (refuse r.Busy) (gives Done (Some m) None)) f)
 
-module _ {X : Type 0} (asked : X → Option Asked) (took : X → Section → PoolAnswer → X → Type 0) (full : X → Type 0) (tells : (d : X) (s : Section) (a : PoolAnswer) (e : X) → took d s a e → Asks (asked e) s a) (d e : X) (none : asked d ≡ None) where
-  pub unmounted : (size k : ℕ) (m : Mount) → (k == 0) ≡ false → has_maps m ≡ false → ThroughDoor took (gives Done (Some m) None) (Some m) d (Ok Done) None e → Went size k (Some m) Umount (Ok Done) (asked e) None
+module _ {X : Type 0} (asked : X → Option Asked) (took : X → Section → PoolAnswer → X → Type 0) (full : X → Type 0)
+    (tells : (d : X) (s : Section) (a : PoolAnswer) (e : X) → took d s a e → Asks (asked e) s a) (d e : X) (none : asked d ≡ None) where
+  pub unmounted : (size k : ℕ) (m : Mount) → (k == 0) ≡ false → has_maps m ≡ false →
+      ThroughDoor took (gives Done (Some m) None) (Some m) d (Ok Done) None e → Went size k (Some m) Umount (Ok Done) (asked e) None
   unmounted size k m other no_maps t =
       acted_or asked took full tells size k (Some m) d Umount (Ok Done) None e none
       (fresh_choice false (Some m), is_fresh false (Some m), subst (λ p. ThroughDoor took p (Some m) d (Ok Done) None e) (free k m other no_maps) t)
@@ -67,7 +69,8 @@ module _ {X : Type 0} (asked : X → Option Asked) (took : X → Section → Poo
   left_of (Ok got) = Some (mount_of got.0 got.1.inodes [])
   left_of (Err x) = None
 
-  opens : (l : Result Limits Refusal) (nr : ℕ) (got : Result (Subpool × Limits) Refusal) (s : Section) (a : PoolAnswer) → IsShareOf l nr got s a → (ReadAndGrant (mount_pages choice l) ≡ s) × Gives (mount_outcome choice a l) None (told got) (left_of got)
+  opens : (l : Result Limits Refusal) (nr : ℕ) (got : Result (Subpool × Limits) Refusal) (s : Section) (a : PoolAnswer) → IsShareOf l nr got s a →
+      (ReadAndGrant (mount_pages choice l) ≡ s) × Gives (mount_outcome choice a l) None (told got) (left_of got)
   opens (Err x) nr got s a h = (sym h.1, subst (λ g. Gives (mount_outcome choice a (Err x)) None (told g) (left_of g)) (sym h.0) (refl, refl))
   opens (Ok l) nr (Ok got) s a h = (
     sym h.1,
@@ -84,7 +87,8 @@ module _ {X : Type 0} (asked : X → Option Asked) (took : X → Section → Poo
   nr_is (Ok l) nr (Ok got) s a h = ap (λ (y : PoolAnswer). y.nr) h.2
   nr_is (Ok l) nr (Err x) s a h = ap (λ (y : PoolAnswer). y.nr) h.2
 
-  mount_went : (size k : ℕ) (text : List ℕ) (got : Result (Subpool × Limits) Refusal) (nr : ℕ) (s : Section) (a : PoolAnswer) → IsShareOf (limits nr size (wanted_of text)) nr got s a → took d s a e → Went size k None (Mounting text) (told got) (asked e) (left_of got)
+  mount_went : (size k : ℕ) (text : List ℕ) (got : Result (Subpool × Limits) Refusal) (nr : ℕ) (s : Section) (a : PoolAnswer) →
+      IsShareOf (limits nr size (wanted_of text)) nr got s a → took d s a e → Went size k None (Mounting text) (told got) (asked e) (left_of got)
   mount_went size k text got nr s a h t =
       let same = nr_is (limits nr size (wanted_of text)) nr got s a h in
       let there = tells d s a e t in
@@ -92,10 +96,12 @@ module _ {X : Type 0} (asked : X → Option Asked) (took : X → Section → Poo
         choice,
         is_fresh false None,
         subst (λ (x : Option Asked). Goes (slot_event size k choice None (Mounting text)) x None (told got) (left_of got)) (sym there.1)
-            (subst (λ n. (ReadAndGrant (mount_pages choice (limits n size (wanted_of text))) ≡ s) × Gives (mount_outcome choice a (limits n size (wanted_of text))) None (told got) (left_of got)) (sym same) goes),
+            (subst (λ n. (ReadAndGrant (mount_pages choice (limits n size (wanted_of text))) ≡ s)
+            × Gives (mount_outcome choice a (limits n size (wanted_of text))) None (told got) (left_of got)) (sym same) goes),
       )
 
-  pub mounted : (size k : ℕ) (text : List ℕ) (got : Result (Subpool × Limits) Refusal) → IsOpenedAt took full size text d e got → IsActedOr (full e) size k None (Mounting text) (told got) (asked e) (left_of got)
+  pub mounted : (size k : ℕ) (text : List ℕ) (got : Result (Subpool × Limits) Refusal) → IsOpenedAt took full size text d e got →
+      IsActedOr (full e) size k None (Mounting text) (told got) (asked e) (left_of got)
   mounted size k text (Ok got) o = mount_went size k text (Ok got) o.0 o.1 o.2 o.3 o.4
   mounted size k text (Err r.TraceFull) o = (refl, ap asked o.0 ∙ none, o.1, (choice, is_fresh false None, tt))
   mounted size k text (Err other) o = mount_went size k text (Err other) o.0 o.1 o.2 o.3 o.4
@@ -109,11 +115,13 @@ taken full size k text m asked none = (
 
 -- ---- what a door opened
 
-module _ {X : Type 0} (took : X → Section → PoolAnswer → X → Type 0) (full : X → Type 0) (share_of : Subpool → Subpool) (size : ℕ) (text : List ℕ) (d e : X) (got : Result (Subpool × Limits) Refusal) where
+module _ {X : Type 0} (took : X → Section → PoolAnswer → X → Type 0) (full : X → Type 0) (share_of : Subpool → Subpool) (size : ℕ) (text : List ℕ)
+    (d e : X) (got : Result (Subpool × Limits) Refusal) where
   pub shown_err : (x : Refusal) → got ≡ Err x → IsOpenedAt took full size text d e (shown share_of got) → IsOpenedAt took full size text d e (Err x)
   shown_err x is o = subst (λ (y : Result (Subpool × Limits) Refusal). IsOpenedAt took full size text d e (shown share_of y)) is o
 
-  pub shown_ok : (s : Subpool) (l : Limits) → got ≡ Ok (s, l) → ((s : Subpool) → share_of s ≡ s) → IsOpenedAt took full size text d e (shown share_of got) → IsOpenedAt took full size text d e (Ok (s, l))
+  pub shown_ok : (s : Subpool) (l : Limits) → got ≡ Ok (s, l) → ((s : Subpool) → share_of s ≡ s) →
+      IsOpenedAt took full size text d e (shown share_of got) → IsOpenedAt took full size text d e (Ok (s, l))
   shown_ok s l is means o =
       subst (λ (y : Subpool). IsOpenedAt took full size text d e (Ok (y, l))) (means s) (subst (λ (y : Result (Subpool × Limits) Refusal). IsOpenedAt took full size text d e (shown share_of y)) is o)
 

@@ -52,9 +52,16 @@ impl<N: Naming, T: Trail<SlotEntry>> Model for Slot<N, T> {
 
     ghost Value = { SlotView };
 
-    ghost view = { λ s. record { number = s.number; mount = s.mount; entries = T.entries s.trail; left = T.left s.trail; extra = T.extra s.trail } };
+    ghost view = { λ s. record {
+      number = s.number;
+      mount = s.mount;
+      entries = T.entries s.trail;
+      left = T.left s.trail;
+      extra = T.extra s.trail;
+    } };
 
-    ghost invariant = { λ s. IsLockedSlot N.page_bytes s.number (T.entries s.trail) (T.left s.trail) (T.extra s.trail) s.mount };
+    ghost invariant = { λ s. IsLockedSlot N.page_bytes s.number (T.entries s.trail)
+        (T.left s.trail) (T.extra s.trail) s.mount };
 }
 
 impl<N: Naming, T: Trail<SlotEntry>> Slot<N, T> {
@@ -65,7 +72,13 @@ impl<N: Naming, T: Trail<SlotEntry>> Slot<N, T> {
         requires fresh { IsFresh (T.entries trail) }
         requires counted { T.entries trail ≡ None → T.left trail ≡ None }
         requires enough { most_tasks ≤ T.extra trail }
-        ensures { result ≡ record { number = number; mount = mount; entries = T.entries trail; left = T.left trail; extra = T.extra trail } }
+        ensures { result ≡ record {
+          number = number;
+          mount = mount;
+          entries = T.entries trail;
+          left = T.left trail;
+          extra = T.extra trail;
+        } }
     {
         Slot {
             number,
@@ -127,7 +140,8 @@ impl<N: Naming, T: Trail<SlotEntry>> Slot<N, T> {
         requires room { 256 ≤ length room.old }
         requires apart { lists_names (event_of home event) ≡ false }
         requires noted { AreNoted self.old.entries (event_of home event) noted }
-        ensures done { IsSlotEvent (D.is_full door.new) N.page_bytes self.old self.new (event_of home event.entry)
+        ensures done { IsSlotEvent (D.is_full door.new) N.page_bytes self.old self.new
+            (event_of home event.entry)
             (told_reply result.0) (D.asked door.new) result.1 }
         ensures limits { IsWithinLimits (told_reply result.0) }
     {
@@ -158,7 +172,8 @@ impl<N: Naming, T: Trail<SlotEntry>> Slot<N, T> {
         requires emptied { (s : StoreValue) → D.emptied s ≡ record s { going = [] } }
         requires ready { D.is_ready door.old }
         requires has { has_maps_of task self.old.mount ≡ true }
-        ensures done { IsSlotEventDone N.page_bytes self.old self.new (ExitMaps task) (Ok Done) (D.asked door.new) result }
+        ensures done { IsSlotEventDone N.page_bytes self.old self.new (ExitMaps task) (Ok Done)
+            (D.asked door.new) result }
     {
         let Slot {
             number,
@@ -247,7 +262,8 @@ impl<N: Naming, T: Trail<SlotEntry>> Slot<N, T> {
         requires page_bytes { page_bytes ≡ N.page_bytes }
         requires bytes { 0 < page_bytes }
         requires noted { AreNoted self.old.entries (Mounting options.now) noted }
-        ensures done { IsSlotEvent (D.is_full door.new) N.page_bytes self.old self.new (Mounting options.now)
+        ensures done { IsSlotEvent (D.is_full door.new) N.page_bytes self.old self.new
+            (Mounting options.now)
             (told_reply result.0) (D.asked door.new) result.1 }
     {
         let Slot {
@@ -280,12 +296,15 @@ fn note<T: Trail<SlotEntry>>(
     requires small { IsWithinLimits (told_reply told.now) }
     requires plain { reply_has_names (told_reply told.now) ≡ false }
     ensures entries { (e : SlotEventValue) → AreNoted (T.entries trail.old) e noted
-        → T.entries trail.new ≡ added (T.entries trail.old) (record { event = e; reply = told_reply told.now; asked = asked }) }
-    ensures left { is_some (T.entries trail.old) ≡ true → T.left trail.new ≡ one_less (T.left trail.old) }
+        → T.entries trail.new ≡ added (T.entries trail.old)
+        (record { event = e; reply = told_reply told.now; asked = asked }) }
+    ensures left { is_some (T.entries trail.old) ≡ true →
+        T.left trail.new ≡ one_less (T.left trail.old) }
     ensures none { T.entries trail.old ≡ None → T.left trail.new ≡ T.left trail.old }
     ensures extra { T.extra trail.new ≡ T.extra trail.old }
     ensures receipt { (e : SlotEventValue) → AreNoted (T.entries trail.old) e noted
-        → IsReceipt (T.entries trail.old) (AtSlot slot) (OnSlot slot e) (told_reply told.now) result }
+        → IsReceipt (T.entries trail.old) (AtSlot slot) (OnSlot slot e) (told_reply told.now)
+        result }
 {
     if !trail.is_kept() {
         return None;

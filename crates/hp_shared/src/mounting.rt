@@ -30,7 +30,8 @@ pub(crate) fn unmount<
     requires going { (s : StoreValue) → D.going_of s ≡ s.going }
     requires spent { (s : StoreValue) → ((n : ℕ) → page_at s n ≡ None) → D.is_spent s }
     requires ready { D.is_ready door.old }
-    ensures went { (size : ℕ) → Went size number mount.old Umount (told_reply result) (D.asked door.new) mount.new }
+    ensures went { (size : ℕ) → Went size number mount.old Umount (told_reply result)
+        (D.asked door.new) mount.new }
     ensures noted { is_trace_full (told_reply result) ≡ false }
     ensures limits { IsWithinLimits (told_reply result) }
     ensures plain { reply_has_names (told_reply result) ≡ false }
@@ -68,7 +69,8 @@ pub(crate) fn mount<
     requires shares { (s : ShareValue) → D.share_of s ≡ s }
     requires ready { D.is_ready door.old }
     requires bytes { 0 < page_bytes }
-    ensures done { (k : ℕ) → IsActedOr (D.is_full door.new) page_bytes k mount.old (Mounting options.now)
+    ensures done { (k : ℕ) → IsActedOr (D.is_full door.new) page_bytes k mount.old
+        (Mounting options.now)
         (told_reply result) (D.asked door.new) mount.new }
     ensures limits { IsWithinLimits (told_reply result) }
     ensures plain { reply_has_names (told_reply result) ≡ false }

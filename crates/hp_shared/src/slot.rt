@@ -45,10 +45,12 @@ pub(crate) fn act<
     requires ready { D.is_ready door.old }
     requires page_bytes { page_bytes ≡ N.page_bytes }
     requires room { 256 ≤ length room.old }
-    ensures done { (k : ℕ) → IsActedOr (D.is_full door.new) N.page_bytes k mount.old (event_of home event.entry)
+    ensures done { (k : ℕ) → IsActedOr (D.is_full door.new) N.page_bytes k mount.old
+        (event_of home event.entry)
         (told_reply result) (D.asked door.new) mount.new }
     ensures limits { IsWithinLimits (told_reply result) }
-    ensures plain { lists_names (event_of home event.entry) ≡ false → reply_has_names (told_reply result) ≡ false }
+    ensures plain { lists_names (event_of home event.entry) ≡ false →
+        reply_has_names (told_reply result) ≡ false }
 {
     match mount {
         None => Err(Refusal::NoSuchSlot),
@@ -114,7 +116,8 @@ fn copied_answer(told: &Told<'_>) -> Answer
 
 fn copied_bytes(bytes: &[u8]) -> Answer
     requires { length bytes.now ≤ 256 }
-    ensures { result ≡ Bytes (length bytes.now) (bytes.now ++ replicate (256 - length bytes.now) 0) }
+    ensures { result ≡ Bytes (length bytes.now) (bytes.now
+        ++ replicate (256 - length bytes.now) 0) }
 {
     let mut all = [0u8; 256];
     let (front, _) = all.split_at_mut(bytes.len());
@@ -142,7 +145,8 @@ pub(crate) fn leave<
     requires emptied { (s : StoreValue) → D.emptied s ≡ record s { going = [] } }
     requires ready { D.is_ready door.old }
     requires has { has_maps_of task mount.old ≡ true }
-    ensures went { (size k : ℕ) → Went size k mount.old (ExitMaps task) (Ok Done) (D.asked door.new) mount.new }
+    ensures went { (size k : ℕ) → Went size k mount.old (ExitMaps task) (Ok Done)
+        (D.asked door.new) mount.new }
     ensures reply { told_reply result ≡ Ok Done }
 {
     match mount {
@@ -168,7 +172,8 @@ pub(crate) fn fork<
     requires ready { D.is_ready door.old }
     requires has { has_maps_of parent mount.old ≡ true }
     requires apart { (parent == child) ≡ false }
-    ensures went { (size k : ℕ) → Went size k mount.old (ForkMaps parent child) (told_reply result) (D.asked door.new) mount.new }
+    ensures went { (size k : ℕ) → Went size k mount.old (ForkMaps parent child)
+        (told_reply result) (D.asked door.new) mount.new }
     ensures noted { is_trace_full (told_reply result) ≡ false }
     ensures limits { IsWithinLimits (told_reply result) }
     ensures plain { reply_has_names (told_reply result) ≡ false }

@@ -18,7 +18,8 @@ pub returns-then-number-eq0-clause-went : goal.returns-then-number-eq0-clause-we
 returns-then-number-eq0-clause-went g c = λ size.
     let some = some_mount c.args.mount.now (c.is_none.ensures ∙ ap not c.if-is_none.false) in
     subst (λ (s : Slot). Went size c.args.number s Umount (Err Busy) (g.D.SessionDoor.asked c.args.door.now) s) (sym some.1)
-    (unmounted_busy size c.args.number some.0 (g.D.SessionDoor.asked c.args.door.now) (g.met.D.SessionDoor.begins c.args.door.now c.requires.ready) (λ other. absurd (let zero = c.if-number-eq0.true in grind (arith, nat_tests, zero, other))))
+    (unmounted_busy size c.args.number some.0 (g.D.SessionDoor.asked c.args.door.now) (g.met.D.SessionDoor.begins c.args.door.now c.requires.ready)
+    (λ other. absurd (let zero = c.if-number-eq0.true in grind (arith, nat_tests, zero, other))))
 
 pub returns-in-Ok-clause-went : goal.returns-in-Ok-clause-went
 returns-in-Ok-clause-went g c = λ size.
@@ -32,5 +33,6 @@ pub returns-in-None-clause-went : goal.returns-in-None-clause-went
 returns-in-None-clause-went g c = λ size.
     let none = ap g.D.SessionDoor.asked c.in-Err.ensures.door ∙ g.met.D.SessionDoor.begins c.args.door.now c.requires.ready in
     subst (λ (s : Slot). Went size c.args.number s Umount (Err Busy) (g.D.SessionDoor.asked c.close.new.door) c.replace-in-Err.new.dest) (sym (sym c.replace.ensures.value ∙ c.in-Some.is))
-    (subst (λ (s : Slot). Went size c.args.number (Some c.in-Some.open) Umount (Err Busy) (g.D.SessionDoor.asked c.close.new.door) s) (sym (c.replace-in-Err.ensures.after ∙ ap Some c.in-Err.ensures.same))
+    (subst (λ (s : Slot). Went size c.args.number (Some c.in-Some.open) Umount (Err Busy) (g.D.SessionDoor.asked c.close.new.door) s)
+    (sym (c.replace-in-Err.ensures.after ∙ ap Some c.in-Err.ensures.same))
     (unmounted_busy size c.args.number c.in-Some.open (g.D.SessionDoor.asked c.close.new.door) none (λ other. c.in-Err.ensures.busy)))
