@@ -11,7 +11,6 @@ use Rattle.hp_model.specs.machine.Settled.{IsSettledPool}
 use Rattle.hp_model.specs.pool.NodeRows.{frames_of, total_of}
 use Rattle.hp_model.specs.pool.PoolCounts.{IsSettled}
 use Rattle.hp_model.proofs.Sums.{idle_total}
-use Rattle.hp_laws.proofs.Sections.{total-le-frames}
 use Rattle.hp_pool.specs.Sums.{idle_pool}
 use Rattle.std.proofs.lemmas.Bool.{lt-ltb, ltb-true}
 use Rattle.hp_mount_door.specs.Door.{IsReady, GivesBack, by_node}

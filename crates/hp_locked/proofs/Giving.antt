@@ -1,11 +1,11 @@
 -- What gives pages back, as counts of them.
-use Rattle.std.proofs.Common.{◌≡◌, ℕ, zero, suc, ◌+◌, ◌-◌, ◌<◌, ◌≤◌, ◌==◌, Bool, true, false, cond, List, [], ◌∷◌, ◌++◌, length, map, refl, sym, ap, subst, ◌∙◌, arith}
+use Rattle.std.proofs.Common.{◌≡◌, ℕ, zero, suc, ◌+◌, ◌-◌, ◌<◌, ◌≤◌, ◌==◌, false, cond, List, [], ◌∷◌, ◌++◌, length, refl, sym, ap, subst, ◌∙◌, arith}
 use Rattle.std.specs.List.{count_by, sum}
 use Rattle.std.proofs.lemmas.Bool.{eq-eqb}
 use Rattle.std.proofs.lemmas.List.{length-append}
 use Rattle.std.proofs.lemmas.List.Sums.{sum_by-append, sum_by-cons}
 use Rattle.hp_model.specs.files.Page.{Page}
-use Rattle.hp_model.specs.pool.Pool.{puts_from, released, section, settled, granted_at}
+use Rattle.hp_model.specs.pool.Pool.{puts_from, released, settled}
 use Rattle.hp_model.specs.pool.PoolCounts.{IsSettled, Pool, used as in_use}
 use Rattle.hp_model.specs.threads.Closing.{to_return}
 use Rattle.hp_model.proofs.RowMoves.{puts_are}

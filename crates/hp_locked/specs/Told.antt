@@ -1,5 +1,5 @@
 -- What a part under a lock tells of an event.
-use Rattle.std.specs.Prelude.{◌≡◌, ℕ, Ok, Err, Option, None, Some, List, is_some, true}
+use Rattle.std.specs.Prelude.{◌≡◌, Ok, Err, Option, None, Some, List, is_some, true}
 use Rattle.hp_model.specs.declared.answer.Answer.TheVariants as answer
 use Rattle.hp_model.specs.declared.entry.Part.{Part}
 use Rattle.hp_model.specs.declared.entry.PoolEntry.TheVariants.{OfPool}

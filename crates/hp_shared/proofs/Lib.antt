@@ -1,2 +1,5 @@
 pub mod Places
 pub mod TablesKept
+pub mod Acting
+pub mod SlotsKept
+pub mod Unmounting

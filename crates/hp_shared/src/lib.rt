@@ -1,8 +1,12 @@
 //! Sessions of many threads over the machine's parts, each under a lock of its own.
 #![tactic(auto)]
 
+mod locked_slot;
+mod mounting;
+mod slot;
 mod table;
 mod table_told;
 
+pub use locked_slot::Slot;
 pub use table::Table;
 pub use table_told::TableTold;

@@ -1,6 +1,4 @@
 use Rattle.std.proofs.Common.{Ok}
-use Rattle.std.specs.Prelude.{Result}
-use Rattle.hp_model.specs.declared.refusal.Refusal.{Refusal}
 use Rattle.hp_mount_door.proofs.Returning.{granted_ready}
 use Rattle.hp_locked.proofs.pool_core.opened_share.Goals as goal
 

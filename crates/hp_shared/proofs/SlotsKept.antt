@@ -1,0 +1,168 @@
+-- The slot's trail keeps its fact with one entry more.
+use Rattle.std.proofs.Common.{◌≡◌, ◌⊎◌, inr, ℕ, ◌≤◌, zero, suc, Bool, true, false, List, [], ◌∷◌, ◌++◌, Option, None, Some, Ok, Err, refl, sym, ap, ◌∙◌, subst, arith}
+use Rattle.std.specs.Prelude.{is_some, IsTrue}
+use Rattle.hp_model.specs.declared.entry.Asked.{Asked}
+use Rattle.hp_model.specs.declared.entry.SlotEntry.{SlotEntry}
+use Rattle.hp_model.specs.declared.event.SlotEvent.{SlotEvent}
+use Rattle.hp_model.specs.machine.Event.{is_slot_event}
+use Rattle.hp_model.specs.machine.Plan.{Reply, Slot}
+use Rattle.hp_model.specs.machine.SlotEvent.{slot_event}
+use Rattle.hp_model.specs.Profile.{most_tasks}
+use Rattle.hp_model.specs.threads.Closing.{KeepsPlaces, removes_maps, to_exit}
+use Rattle.hp_model.specs.threads.LocalRun.{IsLocalRun, IsLocalStep}
+use Rattle.hp_laws.proofs.Closing.{slot_places}
+use Rattle.hp_locked.specs.Views.{HasPlaces, IsFresh as IsFreshTrail}
+use Rattle.hp_trail.specs.Keeping.{added, has_room, one_less}
+use Rattle.hp_shared.specs.Slots.{IsActedOr, IsLockedSlot, IsSlotEvent, IsSlotEventDone, IsSlotTrail, SlotView, Went, is_trace_full, slot_start}
+use Rattle.std.specs.Bool.{MatchBool}
+use Rattle.hp_model.specs.declared.entry.Part.TheVariants.{Slot as AtSlot}
+use Rattle.hp_model.specs.declared.entry.Receipt.{Receipt}
+use Rattle.hp_model.specs.declared.event.Event.TheVariants.{Slot as OnSlot}
+use Rattle.hp_locked.specs.Told.{IsReceipt}
+use Rattle.hp_mount.specs.declared.event.MountEvent.{MountEvent}
+use Rattle.hp_mount.specs.declared.event.MountEvent.TheVariants as m
+use Rattle.hp_model.specs.declared.refusal.Refusal.TheVariants as r
+use Rattle.hp_mount.specs.Done.{MayEnter}
+use Rattle.hp_mount.specs.Event.{event_of}
+use Rattle.hp_shared.proofs.Acting.{always_goes}
+use Rattle.hp_shared.proofs.Places.{has_closing, places_after}
+
+slot_push : (size k : ℕ) (s : Slot) (es : List SlotEntry) (m : Slot) (e : SlotEntry) (q : Slot) → IsLocalRun size k s es m → IsLocalStep size k m e q → IsLocalRun size k s (es ++ e ∷ []) q
+slot_push size k s [] m e q run step = (q, subst (λ (x : Slot). IsLocalStep size k x e q) (sym run) step, refl)
+slot_push size k s (x ∷ es) m e q run step = (run.0, run.1, slot_push size k run.0 es m e q run.2 step)
+
+slot_added : (size k : ℕ) (o : Option (List SlotEntry)) (m : Slot) (e : SlotEntry) (q : Slot) → IsSlotTrail size k o m → IsLocalStep size k m e q → IsSlotTrail size k (added o e) q
+slot_added size k None m e q run step = tt
+slot_added size k (Some es) m e q run step = slot_push size k (slot_start k) es m e q run step
+
+never_none : (o : Option (List SlotEntry)) (e : SlotEntry) → added o e ≡ None → o ≡ None
+never_none None e is = refl
+never_none (Some es) e is = cc
+
+module _ (size k : ℕ) (o : Option (List SlotEntry)) (left : Option ℕ) (extra : ℕ) (old : Slot) (e : SlotEvent) (reply : Reply) (asked : Option Asked)
+    (new : Slot) (was : IsLockedSlot size k o left extra old) (went : Went size k old e reply asked new) where
+  keeps : KeepsPlaces most_tasks (to_exit old) (to_exit new) (removes_maps old e)
+  keeps = always_goes (λ s. KeepsPlaces most_tasks (to_exit old) (to_exit s) (removes_maps old e)) (slot_event size k went.0 old e) asked old reply new (slot_places size k went.0 old e was.few) went.2
+
+  left_after : (left2 : Option ℕ) → (is_some o ≡ true → left2 ≡ one_less left) → (o ≡ None → left2 ≡ left) → (b : Option (List SlotEntry)) → o ≡ b → left2 ≡ one_less left
+  left_after left2 lessens stays None is = stays is ∙ was.counted is ∙ sym (ap one_less (was.counted is))
+  left_after left2 lessens stays (Some es) is = lessens (ap is_some is)
+
+  pub slot_noted : (o2 : Option (List SlotEntry)) (left2 : Option ℕ) (extra2 : ℕ) → IsTrue (is_slot_event old e) →
+      o2 ≡ added o (record { event = e; reply = reply; asked = asked }) → (is_some o ≡ true → left2 ≡ one_less left) → (o ≡ None → left2 ≡ left) →
+      extra2 ≡ extra
+      → (removes_maps old e ≡ false → has_room false left extra ≡ true) → IsLockedSlot size k o2 left2 extra2 new
+  slot_noted o2 left2 extra2 is_event noted lessens kept stays room =
+      let entry : SlotEntry = record { event = e; reply = reply; asked = asked } in
+      let less : left2 ≡ one_less left = left_after left2 lessens kept o refl in
+      record {
+        trail = subst (λ (x : Option (List SlotEntry)). IsSlotTrail size k x new) (sym noted) (slot_added size k o old entry new was.trail (is_event, went.0, went.1, went.2));
+        counted = λ none. less ∙ ap one_less (was.counted (never_none o entry (sym noted ∙ none)));
+        few = keeps.enough;
+        enough = (let enough = was.enough in omega (arith, enough, stays));
+        places = subst (λ (x : Option ℕ). HasPlaces x (to_exit new)) (sym less) (places_after most_tasks (to_exit old) (to_exit new) extra (removes_maps old e) left keeps was.enough was.places room);
+      }
+
+  -- the exit of a task with maps has a place
+  pub exit_fits : removes_maps old e ≡ true → has_room true left extra ≡ true
+  exit_fits is = has_closing most_tasks (to_exit old) (to_exit new) extra left (subst (λ (b : Bool). KeepsPlaces most_tasks (to_exit old) (to_exit new) b) is keeps) was.places
+
+start_none : (k : ℕ) → ◌≡◌ {A = ℕ} (to_exit (slot_start k)) 0
+start_none zero = refl
+start_none (suc k) = refl
+
+pub fresh_slot : (size k : ℕ) (o : Option (List SlotEntry)) (left : Option ℕ) (extra : ℕ) (mount : Slot) → mount ≡ slot_start k → IsFreshTrail o →
+    (o ≡ None → left ≡ None) → most_tasks ≤ extra → IsLockedSlot size k o left extra mount
+fresh_slot size k o left extra mount is fresh counted enough = record {
+  trail = starts o fresh;
+  counted = counted;
+  few = (let none = ap to_exit is ∙ start_none k in omega (arith, none));
+  enough = enough;
+  places = room left (ap to_exit is ∙ start_none k);
+}
+  where
+    starts : (o : Option (List SlotEntry)) → IsFreshTrail o → IsSlotTrail size k o mount
+    starts None fresh = tt
+    starts (Some es) fresh = subst (λ (xs : List SlotEntry). IsLocalRun size k (slot_start k) xs mount) (sym fresh) (sym is)
+
+    room : (l : Option ℕ) → to_exit mount ≡ 0 → HasPlaces l (to_exit mount)
+    room None e = tt
+    room (Some n) e = omega (arith, e)
+
+-- ---- what an event is for the slot
+
+full_in : (b : Bool) (A B : Type 0) → b ≡ true → MatchBool b A B → A
+full_in true A B e t = t
+full_in false A B e t = cc
+
+done_in : (b : Bool) (A B : Type 0) → b ≡ false → MatchBool b A B → B
+done_in true A B e t = cc
+done_in false A B e t = t
+
+full_put : (b : Bool) (A B : Type 0) → b ≡ true → A → MatchBool b A B
+full_put true A B e t = t
+full_put false A B e t = cc
+
+done_put : (b : Bool) (A B : Type 0) → b ≡ false → B → MatchBool b A B
+done_put true A B e t = cc
+done_put false A B e t = t
+
+pub mount_event : (s : Slot) (home : ℕ) (e : MountEvent) → IsTrue (is_slot_event s (event_of home e))
+mount_event s home (m.Create name) = refl
+mount_event s home (m.Unlink name) = refl
+mount_event s home (m.Truncate name pages) = refl
+mount_event s home (m.Punch name start end) = refl
+mount_event s home (m.Stat name) = refl
+mount_event s home (m.Read name index offset count) = refl
+mount_event s home (m.Map task name start pages sharing reserving) = refl
+mount_event s home (m.Anon task pages sharing reserving) = refl
+mount_event s home (m.Unmap task map start end) = refl
+mount_event s home (m.Fault task map index intent) = refl
+mount_event s home (m.Load task map index offset count) = refl
+mount_event s home (m.Store task map index offset bytes) = refl
+mount_event s home m.Ls = refl
+mount_event s home m.Usage = refl
+
+module _ (full : Type 0) (size k : ℕ) (entries : Option (List SlotEntry)) (left : Option ℕ) (extra : ℕ) (old : Slot) (e : SlotEvent) (reply : Reply)
+    (asked : Option Asked) (new : Slot) (acted : IsActedOr full size k old e reply asked new) where
+  abbrev with_mount : Slot → SlotView
+  with_mount x = record { number = k; mount = x; entries = entries; left = left; extra = extra }
+
+  abbrev Nothing : Type 0
+  Nothing = (new ≡ old) × (asked ≡ None) × full × MayEnter (λ c. slot_event size k c old e) old
+
+  abbrev Full : Slot → Option Receipt → Type 0
+  Full x receipt = (with_mount x ≡ with_mount old) × (receipt ≡ None) × (asked ≡ None) × ((has_room false left extra ≡ false) ⊎ (full × MayEnter (λ c. slot_event size k c old e) old))
+
+  same_mount : is_trace_full reply ≡ true → new ≡ old
+  same_mount is = (full_in (is_trace_full reply) Nothing (Went size k old e reply asked new) is acted).0
+
+  pub event_went : is_trace_full reply ≡ false → Went size k old e reply asked new
+  event_went is = done_in (is_trace_full reply) Nothing (Went size k old e reply asked new) is acted
+
+  pub full_stays : is_trace_full reply ≡ true → IsLockedSlot size k entries left extra old → IsLockedSlot size k entries left extra new
+  full_stays is was = subst (λ (x : Slot). IsLockedSlot size k entries left extra x) (sym (same_mount is)) was
+
+  pub event_full : is_trace_full reply ≡ true → IsSlotEvent full size (with_mount old) (with_mount new) e reply asked None
+  event_full is =
+      let t = full_in (is_trace_full reply) Nothing (Went size k old e reply asked new) is acted in
+      full_put (is_trace_full reply) (Full new None) (IsSlotEventDone size (with_mount old) (with_mount new) e reply asked None) is (ap with_mount t.0, refl, t.1, inr (t.2, t.3))
+
+  pub event_done : is_trace_full reply ≡ false → (entries2 : Option (List SlotEntry)) (left2 : Option ℕ) (extra2 : ℕ) (receipt : Option Receipt) →
+      entries2 ≡ added entries (record { event = e; reply = reply; asked = asked })
+      → IsReceipt entries (AtSlot k) (OnSlot k e) reply receipt → IsSlotEvent full size (with_mount old)
+      (record { number = k; mount = new; entries = entries2; left = left2; extra = extra2 }) e reply asked receipt
+  event_done is entries2 left2 extra2 receipt noted told =
+      let v : SlotView = record { number = k; mount = new; entries = entries2; left = left2; extra = extra2 } in
+      done_put (is_trace_full reply) ((v ≡ with_mount old) × (receipt ≡ None) × (asked ≡ None) × ((has_room false left extra ≡ false) ⊎ (full × MayEnter (λ c. slot_event size k c old e) old)))
+      (IsSlotEventDone size (with_mount old) v e reply asked receipt) is (record { changes = event_went is; entries = noted; told = told })
+
+pub not_full : (x : Reply) → (x ≡ Err r.TraceFull → ⊥) → is_trace_full x ≡ false
+not_full (Ok a) h = refl
+not_full (Err r.TraceFull) h = absurd (h refl)
+not_full (Err other) h = refl
+
+pub went_acted : (full : Type 0) (size k : ℕ) (old : Slot) (e : SlotEvent) (reply : Reply) (asked : Option Asked) (new : Slot) →
+    is_trace_full reply ≡ false → Went size k old e reply asked new → IsActedOr full size k old e reply asked new
+went_acted full size k old e reply asked new is went =
+    done_put (is_trace_full reply) ((new ≡ old) × (asked ≡ None) × full × MayEnter (λ c. slot_event size k c old e) old) (Went size k old e reply asked new) is went

@@ -1,0 +1,78 @@
+use Rattle.std.proofs.Common.{◌≡◌, Option, None, sym, ap, ◌∙◌, subst}
+use Rattle.hp_model.specs.declared.entry.Asked.{Asked}
+use Rattle.hp_model.specs.machine.Told.{told_reply}
+use Rattle.hp_trail.specs.Keeping.{added}
+use Rattle.hp_mount.specs.Event.{event_of}
+use Rattle.hp_shared.specs.Slots.{AreNoted, IsSlotEvent, SlotView, Went}
+use Rattle.hp_shared.proofs.SlotsKept.{event_done, event_full, event_went, full_stays, mount_event, slot_noted}
+use Rattle.hp_shared.proofs.locked_slot.Slot.event.Given.{Over}
+use Rattle.hp_shared.proofs.locked_slot.Slot.event.Goals as goal
+use Rattle.hp_shared.proofs.locked_slot.Slot.event.Goals.{After-note-receipt}
+
+pub invariant_of-self-then-is_full : goal.invariant_of-self-then-is_full
+invariant_of-self-then-is_full g c =
+    let s = c.self.inside in
+    full_stays (g.D.PoolDoor.is_full c.act-told.new.door) g.N.Naming.page_bytes s.number (g.T.Trail.entries s.trail) (g.T.Trail.left s.trail)
+    (g.T.Trail.extra s.trail) s.mount (event_of c.args.home c.args.event) (told_reply c.act-told.result)
+    (g.D.SessionDoor.asked c.act-told.new.door) c.act-told.new.mount (c.act-told.ensures.done s.number) (sym c.is_full.ensures ∙ c.if-is_full.true) c.self.invariant
+
+pub returns-then-is_full-clause-done : goal.returns-then-is_full-clause-done
+returns-then-is_full-clause-done g c =
+    let s = c.self.inside in
+    subst (λ (v : SlotView). IsSlotEvent (g.D.PoolDoor.is_full c.act-told.new.door) g.N.Naming.page_bytes v
+    (record {
+      number = s.number;
+      mount = c.act-told.new.mount;
+      entries = g.T.Trail.entries s.trail;
+      left = g.T.Trail.left s.trail;
+      extra = g.T.Trail.extra s.trail;
+    })
+    (event_of c.args.home c.args.event) (told_reply c.act-told.result) (g.D.SessionDoor.asked c.act-told.new.door) None) c.self.view_is
+    (event_full (g.D.PoolDoor.is_full c.act-told.new.door) g.N.Naming.page_bytes s.number (g.T.Trail.entries s.trail) (g.T.Trail.left s.trail)
+    (g.T.Trail.extra s.trail) s.mount (event_of c.args.home c.args.event) (told_reply c.act-told.result)
+    (g.D.SessionDoor.asked c.act-told.new.door) c.act-told.new.mount (c.act-told.ensures.done s.number) (sym c.is_full.ensures ∙ c.if-is_full.true))
+
+module _ (g : Over) (c : After-note-receipt g) where
+  went : Went g.N.Naming.page_bytes c.self.inside.number c.self.inside.mount (event_of c.args.home c.args.event) (told_reply c.act-told.result)
+      (g.D.SessionDoor.asked c.act-told.new.door) c.act-told.new.mount
+  went = event_went (g.D.PoolDoor.is_full c.act-told.new.door) g.N.Naming.page_bytes c.self.inside.number (g.T.Trail.entries c.self.inside.trail)
+      (g.T.Trail.left c.self.inside.trail) (g.T.Trail.extra c.self.inside.trail) c.self.inside.mount (event_of c.args.home c.args.event)
+      (told_reply c.act-told.result)
+      (g.D.SessionDoor.asked c.act-told.new.door) c.act-told.new.mount (c.act-told.ensures.done c.self.inside.number) (sym c.is_full.ensures ∙ c.if-is_full.false)
+
+  both : AreNoted (g.T.Trail.entries c.self.inside.trail) (event_of c.args.home c.args.event) c.args.noted
+  both = subst (λ (v : SlotView). AreNoted v.entries (event_of c.args.home c.args.event) c.args.noted) (sym c.self.view_is) c.requires.noted
+
+  entries : g.T.Trail.entries c.note-receipt.new.trail ≡ added (g.T.Trail.entries c.self.inside.trail)
+      (record { event = event_of c.args.home c.args.event; reply = told_reply c.act-told.result; asked = g.D.SessionDoor.asked c.act-told.new.door })
+  entries = c.note-receipt.ensures.entries (event_of c.args.home c.args.event) both
+      ∙ ap (λ (a : Option Asked). added (g.T.Trail.entries c.self.inside.trail) (record { event = event_of c.args.home c.args.event; reply = told_reply c.act-told.result; asked = a })) c.asked.ensures
+
+pub invariant_of-self-2 : goal.invariant_of-self-2
+invariant_of-self-2 g c =
+    let a = (goal.at.invariant_of-self-2 g c).After-note-receipt in
+    let s = c.self.inside in
+    slot_noted g.N.Naming.page_bytes s.number (g.T.Trail.entries s.trail) (g.T.Trail.left s.trail) (g.T.Trail.extra s.trail) s.mount (event_of c.args.home c.args.event) (told_reply c.act-told.result)
+    (g.D.SessionDoor.asked c.act-told.new.door) c.act-told.new.mount c.self.invariant (went g a) (g.T.Trail.entries c.note-receipt.new.trail)
+    (g.T.Trail.left c.note-receipt.new.trail) (g.T.Trail.extra c.note-receipt.new.trail)
+    (mount_event s.mount c.args.home c.args.event) (entries g a) c.note-receipt.ensures.left c.note-receipt.ensures.none c.note-receipt.ensures.extra
+    (λ closing. (let is = c.has_room.ensures.room in let yes = c.if-not-has_room.false in cc))
+
+pub returns-clause-done : goal.returns-clause-done
+returns-clause-done g c =
+    let a = (goal.at.returns-clause-done g c).After-note-receipt in
+    let s = c.self.inside in
+    subst (λ (v : SlotView). IsSlotEvent (g.D.PoolDoor.is_full c.act-told.new.door) g.N.Naming.page_bytes v
+    (record {
+      number = s.number;
+      mount = c.act-told.new.mount;
+      entries = g.T.Trail.entries c.note-receipt.new.trail;
+      left = g.T.Trail.left c.note-receipt.new.trail;
+      extra = g.T.Trail.extra c.note-receipt.new.trail;
+    })
+    (event_of c.args.home c.args.event) (told_reply c.act-told.result) (g.D.SessionDoor.asked c.act-told.new.door) c.note-receipt.result) c.self.view_is
+    (event_done (g.D.PoolDoor.is_full c.act-told.new.door) g.N.Naming.page_bytes s.number (g.T.Trail.entries s.trail) (g.T.Trail.left s.trail)
+    (g.T.Trail.extra s.trail) s.mount (event_of c.args.home c.args.event) (told_reply c.act-told.result)
+    (g.D.SessionDoor.asked c.act-told.new.door) c.act-told.new.mount (c.act-told.ensures.done s.number) (sym c.is_full.ensures ∙ c.if-is_full.false)
+    (g.T.Trail.entries c.note-receipt.new.trail) (g.T.Trail.left c.note-receipt.new.trail) (g.T.Trail.extra c.note-receipt.new.trail)
+    c.note-receipt.result (entries g a) (c.note-receipt.ensures.receipt (event_of c.args.home c.args.event) (both g a)))

@@ -1,0 +1,329 @@
+//! A slot with its trail.
+ghost use Rattle.std.specs.Prelude.{◌≡◌, ◌<◌, ◌≤◌, ◌==◌, Ok, ℕ, [], length, true, false, None, Some, is_some};
+ghost use Rattle.hp_model.specs.declared.answer.Answer.TheVariants.{Done};
+ghost use Rattle.hp_model.specs.declared.event.SlotEvent.TheVariants.{ExitMaps, ForkMaps, Mount as Mounting, Umount};
+ghost use Rattle.hp_model.specs.declared.entry.Part.TheVariants.{Slot as AtSlot};
+ghost use Rattle.hp_model.specs.declared.event.Event.TheVariants.{Slot as OnSlot};
+ghost use Rattle.hp_model.specs.declared.event.SlotEvent.{SlotEvent as SlotEventValue};
+ghost use Rattle.hp_model.specs.files.Page.{Page as PageValue};
+ghost use Rattle.hp_model.specs.machine.Copying.{reply_has_names};
+ghost use Rattle.hp_model.specs.machine.Event.{has_maps_of};
+ghost use Rattle.hp_model.specs.machine.Told.{told_reply};
+ghost use Rattle.hp_model.specs.Profile.{most_tasks};
+ghost use Rattle.hp_model.specs.text.Writing.{IsWithinLimits};
+ghost use Rattle.hp_laws.specs.Answers.{lists_names};
+ghost use Rattle.hp_locked.specs.Told.{IsReceipt};
+ghost use Rattle.hp_locked.specs.Views.{IsFresh};
+ghost use Rattle.hp_mount.specs.Event.{event_of};
+ghost use Rattle.hp_store.specs.Store.{Store as StoreValue, page_at};
+ghost use Rattle.hp_subpool.specs.Subpool.{Subpool as ShareValue};
+ghost use Rattle.hp_shared.specs.Slots.{AreNoted, IsSlotEvent, IsSlotEventDone, IsSlotTrail, slot_start};
+ghost use Rattle.hp_trail.specs.Keeping.{added, has_room, one_less};
+
+use crate::mounting::{mount as open, unmount};
+use crate::slot::{act, copied, fork, is_full, leave};
+use hp_locked::SessionDoor;
+use hp_model::entry::{Asked, Part, Receipt, SlotEntry};
+use hp_model::event::{Event, SlotEvent};
+use hp_model::naming::Naming;
+use hp_model::refusal::Refusal;
+use hp_model::told::Told;
+use hp_mount::{Mount, MountEvent};
+use hp_mount_door::PoolDoor;
+use hp_nodes::Page;
+use hp_store::PageStore;
+use hp_subpool::Subpool;
+use hp_trail::trail::Trail;
+use std::alloc::Global;
+use std::marker::Model;
+
+/// A slot with its trail.
+///
+/// Whenever its lock is free, the trail is a run of the slot that ends in its mount, and there is a place in it for the exit
+/// of each task that has maps there: so that is never refused.
+pub struct Slot<N: Naming, T: Trail<SlotEntry>> {
+    number: u64,
+    mount: Option<Mount<N>>,
+    trail: T,
+}
+
+impl<N: Naming, T: Trail<SlotEntry>> Model for Slot<N, T> {
+    ghost use Rattle.hp_shared.specs.Slots.{IsLockedSlot, SlotView};
+
+    ghost Value = { SlotView };
+
+    ghost view = { λ s. record {
+      number = s.number;
+      mount = s.mount;
+      entries = T.entries s.trail;
+      left = T.left s.trail;
+      extra = T.extra s.trail;
+    } };
+
+    ghost invariant = { λ s. IsLockedSlot N.page_bytes s.number (T.entries s.trail)
+        (T.left s.trail) (T.extra s.trail) s.mount };
+}
+
+impl<N: Naming, T: Trail<SlotEntry>> Slot<N, T> {
+    /// A slot as it starts, with a trail that has nothing in it yet.
+    #[tactic(auto, using(crate::proofs::SlotsKept::fresh_slot))]
+    pub fn new(number: u64, mount: Option<Mount<N>>, trail: T) -> Self
+        requires start { mount ≡ slot_start number }
+        requires fresh { IsFresh (T.entries trail) }
+        requires counted { T.entries trail ≡ None → T.left trail ≡ None }
+        requires enough { most_tasks ≤ T.extra trail }
+        ensures { result ≡ record {
+          number = number;
+          mount = mount;
+          entries = T.entries trail;
+          left = T.left trail;
+          extra = T.extra trail;
+        } }
+    {
+        Slot {
+            number,
+            mount,
+            trail,
+        }
+    }
+
+    /// The slot's number, its mount and its trail.
+    pub fn into_parts(self) -> (u64, Option<Mount<N>>, T)
+        ensures number { result.0 ≡ self.number }
+        ensures mount { result.1 ≡ self.mount }
+        ensures entries { T.entries result.2 ≡ self.entries }
+        ensures run { IsSlotTrail N.page_bytes self.number self.entries self.mount }
+    {
+        let Slot {
+            number,
+            mount,
+            trail,
+        } = self;
+        (number, mount, trail)
+    }
+
+    /// Whether entries are kept.
+    pub fn is_kept(&self) -> bool
+        ensures { result ≡ is_some self.now.entries }
+    {
+        self.trail.is_kept()
+    }
+
+    /// Whether the task has a map on the slot.
+    pub fn has_maps(&self, task: u64) -> bool
+        ensures { result ≡ has_maps_of task self.now.mount }
+    {
+        match &self.mount {
+            None => false,
+            Some(mount) => mount.has_maps(task),
+        }
+    }
+
+    /// An event of a mount but a list of names: its reply, with bytes in the front of the room, and its receipt where
+    /// entries are kept. For these the event is given twice. Answered TraceFull, and then nothing changed, where the trail
+    /// has no room, or where the event enters a section of the pool and the door has none.
+    pub fn event<'a, D: SessionDoor<Share = Subpool<N>, Page = Page<N>, Going = PageStore<N>>>(
+        &mut self,
+        door: &mut D,
+        page_bytes: u64,
+        home: u64,
+        event: MountEvent<'_>,
+        noted: Option<(SlotEvent, SlotEvent)>,
+        room: &'a mut [u8],
+    ) -> (Result<Told<'a>, Refusal>, Option<Receipt>)
+        requires shares { (s : ShareValue) → D.share_of s ≡ s }
+        requires pages { (p : PageValue) → D.page_of p ≡ p }
+        requires going { (s : StoreValue) → D.going_of s ≡ s.going }
+        requires emptied { (s : StoreValue) → D.emptied s ≡ record s { going = [] } }
+        requires ready { D.is_ready door.old }
+        requires page_bytes { page_bytes ≡ N.page_bytes }
+        requires room { 256 ≤ length room.old }
+        requires apart { lists_names (event_of home event) ≡ false }
+        requires noted { AreNoted self.old.entries (event_of home event) noted }
+        ensures done { IsSlotEvent (D.is_full door.new) N.page_bytes self.old self.new
+            (event_of home event.entry)
+            (told_reply result.0) (D.asked door.new) result.1 }
+        ensures limits { IsWithinLimits (told_reply result.0) }
+    {
+        let Slot {
+            number,
+            mount,
+            trail,
+        } = self;
+        if !trail.has_room(false) {
+            return (Err(Refusal::TraceFull), None);
+        }
+        let told = act(mount, door, page_bytes, home, event, room);
+        if is_full(&told) {
+            return (told, None);
+        }
+        let receipt = note(trail, *number, noted, door.asked(), &told);
+        (told, receipt)
+    }
+
+    /// The maps of a task, which has some on the slot, go: the receipt where entries are kept. Never refused.
+    pub fn exit_maps<D: SessionDoor<Share = Subpool<N>, Page = Page<N>, Going = PageStore<N>>>(
+        &mut self,
+        door: &mut D,
+        task: u64,
+    ) -> Option<Receipt>
+        requires shares { (s : ShareValue) → D.share_of s ≡ s }
+        requires going { (s : StoreValue) → D.going_of s ≡ s.going }
+        requires emptied { (s : StoreValue) → D.emptied s ≡ record s { going = [] } }
+        requires ready { D.is_ready door.old }
+        requires has { has_maps_of task self.old.mount ≡ true }
+        ensures done { IsSlotEventDone N.page_bytes self.old self.new (ExitMaps task) (Ok Done)
+            (D.asked door.new) result }
+    {
+        let Slot {
+            number,
+            mount,
+            trail,
+        } = self;
+        let told = leave(mount, door, task);
+        let events = Some((SlotEvent::ExitMaps { task }, SlotEvent::ExitMaps { task }));
+        note(trail, *number, events, door.asked(), &told)
+    }
+
+    /// The maps of a task, which has some on the slot, become its child's as well: the receipt where entries are kept.
+    /// Answered TraceFull, and then nothing changed, where the trail has no room.
+    pub fn fork_maps<D: SessionDoor<Share = Subpool<N>, Page = Page<N>, Going = PageStore<N>>>(
+        &mut self,
+        door: &mut D,
+        parent: u64,
+        child: u64,
+    ) -> (Result<Told<'static>, Refusal>, Option<Receipt>)
+        requires shares { (s : ShareValue) → D.share_of s ≡ s }
+        requires going { (s : StoreValue) → D.going_of s ≡ s.going }
+        requires emptied { (s : StoreValue) → D.emptied s ≡ record s { going = [] } }
+        requires ready { D.is_ready door.old }
+        requires has { has_maps_of parent self.old.mount ≡ true }
+        requires apart { (parent == child) ≡ false }
+        ensures done { IsSlotEvent ⊥ N.page_bytes self.old self.new (ForkMaps parent child)
+            (told_reply result.0) (D.asked door.new) result.1 }
+    {
+        let Slot {
+            number,
+            mount,
+            trail,
+        } = self;
+        if !trail.has_room(false) {
+            return (Err(Refusal::TraceFull), None);
+        }
+        let told = fork(mount, door, parent, child);
+        let events = Some((
+            SlotEvent::ForkMaps { parent, child },
+            SlotEvent::ForkMaps { parent, child },
+        ));
+        let receipt = note(trail, *number, events, door.asked(), &told);
+        (told, receipt)
+    }
+
+    /// Ends the slot's mount: the receipt where entries are kept. Refused as NoSuchSlot or Busy. Answered TraceFull, and then
+    /// nothing changed, where the trail has no room.
+    pub fn umount<D: SessionDoor<Share = Subpool<N>, Page = Page<N>, Going = PageStore<N>>>(
+        &mut self,
+        door: &mut D,
+    ) -> (Result<Told<'static>, Refusal>, Option<Receipt>)
+        requires shares { (s : ShareValue) → D.share_of s ≡ s }
+        requires going { (s : StoreValue) → D.going_of s ≡ s.going }
+        requires spent { (s : StoreValue) → ((n : ℕ) → page_at s n ≡ None) → D.is_spent s }
+        requires ready { D.is_ready door.old }
+        ensures done { IsSlotEvent ⊥ N.page_bytes self.old self.new Umount
+            (told_reply result.0) (D.asked door.new) result.1 }
+    {
+        let Slot {
+            number,
+            mount,
+            trail,
+        } = self;
+        if !trail.has_room(false) {
+            return (Err(Refusal::TraceFull), None);
+        }
+        let told = unmount(mount, *number, door);
+        let events = Some((SlotEvent::Umount, SlotEvent::Umount));
+        let receipt = note(trail, *number, events, door.asked(), &told);
+        (told, receipt)
+    }
+
+    /// Mounts the slot with options: the receipt where entries are kept. For these the event is given twice. Refused as
+    /// SlotTaken, BadOption, MinOverSize or NoPages. Answered TraceFull, and then nothing changed, where the trail has no room,
+    /// or the door has none for its section.
+    pub fn mount<D: SessionDoor<Share = Subpool<N>, Page = Page<N>, Going = PageStore<N>>>(
+        &mut self,
+        door: &mut D,
+        alloc: Global,
+        page_bytes: u64,
+        options: &[u8],
+        noted: Option<(SlotEvent, SlotEvent)>,
+    ) -> (Result<Told<'static>, Refusal>, Option<Receipt>)
+        requires shares { (s : ShareValue) → D.share_of s ≡ s }
+        requires ready { D.is_ready door.old }
+        requires page_bytes { page_bytes ≡ N.page_bytes }
+        requires bytes { 0 < page_bytes }
+        requires noted { AreNoted self.old.entries (Mounting options.now) noted }
+        ensures done { IsSlotEvent (D.is_full door.new) N.page_bytes self.old self.new
+            (Mounting options.now)
+            (told_reply result.0) (D.asked door.new) result.1 }
+    {
+        let Slot {
+            number,
+            mount,
+            trail,
+        } = self;
+        if !trail.has_room(false) {
+            return (Err(Refusal::TraceFull), None);
+        }
+        let told = open(mount, door, alloc, page_bytes, options);
+        if is_full(&told) {
+            return (told, None);
+        }
+        let receipt = note(trail, *number, noted, door.asked(), &told);
+        (told, receipt)
+    }
+}
+
+// Notes an event with its reply and the section that it entered, where entries are kept, and makes its receipt.
+fn note<T: Trail<SlotEntry>>(
+    trail: &mut T,
+    slot: u64,
+    noted: Option<(SlotEvent, SlotEvent)>,
+    asked: Option<Asked>,
+    told: &Result<Told<'_>, Refusal>,
+) -> Option<Receipt>
+    requires room { has_room true (T.left trail.old) (T.extra trail.old) ≡ true }
+    requires noted { noted ≡ None → T.entries trail.old ≡ None }
+    requires small { IsWithinLimits (told_reply told.now) }
+    requires plain { reply_has_names (told_reply told.now) ≡ false }
+    ensures entries { (e : SlotEventValue) → AreNoted (T.entries trail.old) e noted
+        → T.entries trail.new ≡ added (T.entries trail.old)
+        (record { event = e; reply = told_reply told.now; asked = asked }) }
+    ensures left { is_some (T.entries trail.old) ≡ true →
+        T.left trail.new ≡ one_less (T.left trail.old) }
+    ensures none { T.entries trail.old ≡ None → T.left trail.new ≡ T.left trail.old }
+    ensures extra { T.extra trail.new ≡ T.extra trail.old }
+    ensures receipt { (e : SlotEventValue) → AreNoted (T.entries trail.old) e noted
+        → IsReceipt (T.entries trail.old) (AtSlot slot) (OnSlot slot e) (told_reply told.now)
+        result }
+{
+    if !trail.is_kept() {
+        return None;
+    }
+    match noted {
+        None => None,
+        Some((event, again)) => {
+            let receipt = Receipt {
+                part: Part::Slot(slot),
+                place: trail.place(),
+                event: Event::Slot { slot, event: again },
+                reply: copied(told),
+            };
+            trail.push(SlotEntry {
+                event,
+                reply: copied(told),
+                asked,
+            });
+            Some(receipt)
+        }
+    }
+}

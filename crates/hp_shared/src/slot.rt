@@ -1,0 +1,185 @@
+//! A slot under its lock.
+ghost use Rattle.std.specs.Prelude.{◌≡◌, ◌≤◌, ◌-◌, ◌++◌, ◌==◌, Ok, ℕ, [], length, replicate, true, false, None, Some, is_some};
+ghost use Rattle.hp_model.specs.files.Page.{Page as PageValue};
+ghost use Rattle.hp_model.specs.declared.answer.Answer.TheVariants.{Bytes};
+ghost use Rattle.hp_model.specs.machine.Copying.{has_names, reply_has_names};
+ghost use Rattle.hp_model.specs.machine.Told.{told_answer, told_reply};
+ghost use Rattle.hp_model.specs.text.Writing.{HasSmallAnswer, IsWithinLimits};
+ghost use Rattle.hp_laws.specs.Answers.{lists_names};
+ghost use Rattle.hp_mount.specs.Event.{event_of};
+ghost use Rattle.hp_store.specs.Store.{Store as StoreValue};
+ghost use Rattle.hp_subpool.specs.Subpool.{Subpool as ShareValue};
+ghost use Rattle.hp_model.specs.declared.answer.Answer.TheVariants.{Done};
+ghost use Rattle.hp_model.specs.declared.event.SlotEvent.TheVariants.{ExitMaps, ForkMaps};
+ghost use Rattle.hp_model.specs.machine.Event.{has_maps_of};
+ghost use Rattle.hp_shared.specs.Slots.{IsActedOr, Went, is_trace_full};
+
+use hp_locked::SessionDoor;
+use hp_model::answer::{Answer, Reply};
+use hp_model::naming::Naming;
+use hp_model::refusal::Refusal;
+use hp_model::told::Told;
+use hp_mount::{Mount, MountEvent};
+use hp_mount_door::PoolDoor;
+use hp_nodes::Page;
+use hp_store::PageStore;
+use hp_subpool::Subpool;
+
+// What an event asks of a slot, through a door that was not used.
+pub(crate) fn act<
+    'a,
+    N: Naming,
+    D: SessionDoor<Share = Subpool<N>, Page = Page<N>, Going = PageStore<N>>,
+>(
+    mount: &mut Option<Mount<N>>,
+    door: &mut D,
+    page_bytes: u64,
+    home: u64,
+    event: MountEvent<'_>,
+    room: &'a mut [u8],
+) -> Result<Told<'a>, Refusal>
+    requires shares { (s : ShareValue) → D.share_of s ≡ s }
+    requires pages { (p : PageValue) → D.page_of p ≡ p }
+    requires going { (s : StoreValue) → D.going_of s ≡ s.going }
+    requires emptied { (s : StoreValue) → D.emptied s ≡ record s { going = [] } }
+    requires ready { D.is_ready door.old }
+    requires page_bytes { page_bytes ≡ N.page_bytes }
+    requires room { 256 ≤ length room.old }
+    ensures done { (k : ℕ) → IsActedOr (D.is_full door.new) N.page_bytes k mount.old
+        (event_of home event.entry)
+        (told_reply result) (D.asked door.new) mount.new }
+    ensures limits { IsWithinLimits (told_reply result) }
+    ensures plain { lists_names (event_of home event.entry) ≡ false →
+        reply_has_names (told_reply result) ≡ false }
+{
+    match mount {
+        None => Err(Refusal::NoSuchSlot),
+        Some(mount) => mount.apply(door, page_bytes, home, event, room),
+    }
+}
+
+// The reply as it stands, for an entry or a receipt: its bytes are copied.
+pub(crate) fn copied(told: &Result<Told<'_>, Refusal>) -> Reply
+    requires small { IsWithinLimits (told_reply told.now) }
+    requires plain { reply_has_names (told_reply told.now) ≡ false }
+    ensures { result ≡ told_reply told.now }
+{
+    match told {
+        Ok(answer) => Ok(copied_answer(answer)),
+        Err(refusal) => Err(*refusal),
+    }
+}
+
+fn copied_answer(told: &Told<'_>) -> Answer
+    requires small { HasSmallAnswer (told_answer told.now) }
+    requires plain { has_names (told_answer told.now) ≡ false }
+    ensures { result ≡ told_answer told.now }
+{
+    match told {
+        Told::Done => Answer::Done,
+        Told::Home(home) => Answer::Home(*home),
+        Told::MapNo(number) => Answer::MapNo(*number),
+        Told::Number(n) => Answer::Number(*n),
+        Told::Bytes(bytes) => copied_bytes(bytes),
+        Told::Stat {
+            len,
+            pages,
+            entries,
+            maps,
+        } => Answer::Stat {
+            len: *len,
+            pages: *pages,
+            entries: *entries,
+            maps: *maps,
+        },
+        Told::Usage {
+            max,
+            min,
+            used,
+            inodes,
+            files,
+        } => Answer::Usage {
+            max: *max,
+            min: *min,
+            used: *used,
+            inodes: *inodes,
+            files: *files,
+        },
+        Told::Names(_names) => unreachable!(),
+        Told::Numbers(counts) => Answer::Numbers(*counts),
+        Told::PerNode { nodes, rows } => Answer::PerNode {
+            nodes: *nodes,
+            rows: *rows,
+        },
+    }
+}
+
+fn copied_bytes(bytes: &[u8]) -> Answer
+    requires { length bytes.now ≤ 256 }
+    ensures { result ≡ Bytes (length bytes.now) (bytes.now
+        ++ replicate (256 - length bytes.now) 0) }
+{
+    let mut all = [0u8; 256];
+    let (front, _) = all.split_at_mut(bytes.len());
+    front.copy_from_slice(bytes);
+    Answer::Bytes {
+        count: bytes.len() as u64,
+        bytes: all,
+    }
+}
+
+// Whether there was no room in a trail.
+pub(crate) fn is_full(told: &Result<Told<'_>, Refusal>) -> bool
+    ensures { result ≡ is_trace_full (told_reply told.now) }
+{
+    matches!(told, Err(Refusal::TraceFull))
+}
+
+// The maps of a task, which has some, go from a slot.
+pub(crate) fn leave<
+    N: Naming,
+    D: SessionDoor<Share = Subpool<N>, Page = Page<N>, Going = PageStore<N>>,
+>(mount: &mut Option<Mount<N>>, door: &mut D, task: u64) -> Result<Told<'static>, Refusal>
+    requires shares { (s : ShareValue) → D.share_of s ≡ s }
+    requires going { (s : StoreValue) → D.going_of s ≡ s.going }
+    requires emptied { (s : StoreValue) → D.emptied s ≡ record s { going = [] } }
+    requires ready { D.is_ready door.old }
+    requires has { has_maps_of task mount.old ≡ true }
+    ensures went { (size k : ℕ) → Went size k mount.old (ExitMaps task) (Ok Done)
+        (D.asked door.new) mount.new }
+    ensures reply { told_reply result ≡ Ok Done }
+{
+    match mount {
+        None => unreachable!(),
+        Some(mount) => mount.exit_maps(door, task),
+    }
+    Ok(Told::Done)
+}
+
+// The maps of a task, which has some on the slot, become its child's as well.
+pub(crate) fn fork<
+    N: Naming,
+    D: SessionDoor<Share = Subpool<N>, Page = Page<N>, Going = PageStore<N>>,
+>(
+    mount: &mut Option<Mount<N>>,
+    door: &mut D,
+    parent: u64,
+    child: u64,
+) -> Result<Told<'static>, Refusal>
+    requires shares { (s : ShareValue) → D.share_of s ≡ s }
+    requires going { (s : StoreValue) → D.going_of s ≡ s.going }
+    requires emptied { (s : StoreValue) → D.emptied s ≡ record s { going = [] } }
+    requires ready { D.is_ready door.old }
+    requires has { has_maps_of parent mount.old ≡ true }
+    requires apart { (parent == child) ≡ false }
+    ensures went { (size k : ℕ) → Went size k mount.old (ForkMaps parent child)
+        (told_reply result) (D.asked door.new) mount.new }
+    ensures noted { is_trace_full (told_reply result) ≡ false }
+    ensures limits { IsWithinLimits (told_reply result) }
+    ensures plain { reply_has_names (told_reply result) ≡ false }
+{
+    match mount {
+        None => unreachable!(),
+        Some(mount) => Told::done(mount.fork_maps(door, parent, child)),
+    }
+}
