@@ -1,5 +1,5 @@
 -- What a script keeps whose events on slots only end maps of one task: a fork's, or an exit's.
-use Rattle.std.proofs.Common.{◌≡◌, ⊎_elim, inl, inr, subst, ℕ, ◌<◌, ◌≤◌, ◌==◌, Option, None, Some, Ok, Err, List, [], ◌∷◌, ◌++◌, length, refl, sym, ap, ◌∙◌, arith}
+use Rattle.std.proofs.Common.{false, ◌≡◌, ⊎_elim, inl, inr, subst, ℕ, ◌<◌, ◌≤◌, ◌==◌, Option, None, Some, Ok, Err, List, [], ◌∷◌, ◌++◌, length, refl, sym, ap, ◌∙◌, arith}
 use Rattle.std.specs.List.{range_with_len, slice_index_or, slice_set}
 use Rattle.std.proofs.lemmas.Bool.{cases_eq, ltb-true}
 use Rattle.std.proofs.lemmas.List.{get_or-set_other, get_or-set_same}
@@ -28,15 +28,22 @@ use Rattle.hp_laws.proofs.Follows.{both_same}
 use Rattle.hp_laws.proofs.MountMoves.{files_sweep}
 use Rattle.hp_laws.proofs.Outcomes.{either_way, event_ends}
 use Rattle.hp_laws.proofs.SlotShows.{always_gives, always_unless}
-use Rattle.hp_laws.proofs.Unmaps.{exit_keeps, fork_keeps, same_keeps}
+use Rattle.hp_laws.proofs.Unmaps.{exit_keeps, exit_whole, fork_keeps, fork_whole, same_keeps}
 
 -- ---- one slot
+
+-- every other map is as it was, and its file's cells
+abbrev pub Whole : (gone : ℕ) → (x y : Slot) → Type 0
+Whole gone x y =
+    (task number : ℕ) (p : Spot) → (gone == task) ≡ false → spot_on x task number ≡ Some p
+    → (q : Spot) × (spot_on y task number ≡ Some q) × (q.map ≡ p.map) × (q.file.cells ≡ p.file.cells)
 
 -- but for maps of the task, a slot keeps what its names and numbers mean, and its limits, and uses no more
 pub record Fades (size gone : ℕ) (x y : Slot) : Type 0 where
   pub keeps : SlotKeeps size x (slot.ExitMaps gone) y
   pub limits : SameLimits x y
   pub usage : slot_usage y ≤ slot_usage x
+  pub whole : Whole gone x y
 
 module _ (size gone : ℕ) where
   none_keeps : SlotKeeps size None (slot.ExitMaps gone) None
@@ -47,8 +54,9 @@ module _ (size gone : ℕ) where
   }
 
   pub stays : (x : Slot) → Fades size gone x x
-  stays None = record { keeps = none_keeps; limits = tt; usage = omega arith }
-  stays (Some m) = record { keeps = same_keeps size m (slot.ExitMaps gone) (λ j x old. refl) (λ j l x old. refl); limits = refl; usage = omega arith }
+  stays None = record { keeps = none_keeps; limits = tt; usage = omega arith; whole = λ task number p other found. (p, found, refl, refl) }
+  stays (Some m) =
+      record { keeps = same_keeps size m (slot.ExitMaps gone) (λ j x old. refl) (λ j l x old. refl); limits = refl; usage = omega arith; whole = λ task number p other found. (p, found, refl, refl) }
 
   -- one after the other
   module _ (x y z : Slot) where
@@ -81,16 +89,22 @@ module _ (size gone : ℕ) where
   limits_then (Some m) (Some n) None a b = absurd b
   limits_then (Some m) (Some n) (Some o) a b = b ∙ a
 
+  whole_then : (x y z : Slot) → Whole gone x y → Whole gone y z → Whole gone x z
+  whole_then x y z a b task number p other found =
+      let q = a task number p other found in
+      let r = b task number q.0 other q.1 in
+      (r.0, r.1, r.2 ∙ q.2, r.3 ∙ q.3)
+
   pub fades_then : (x y z : Slot) → Fades size gone x y → Fades size gone y z → Fades size gone x z
   fades_then x y z a b =
       let first = a.usage in
       let second = b.usage in
-      record { keeps = keeps_then x y z a.keeps b.keeps; limits = limits_then x y z a.limits b.limits; usage = omega (arith, first, second) }
+      record { keeps = keeps_then x y z a.keeps b.keeps; limits = limits_then x y z a.limits b.limits; usage = omega (arith, first, second); whole = whole_then x y z a.whole b.whole }
 
   -- ---- one event
 
   pub exit_fades : (m : Mount) → Fades size gone (Some m) (Some (without_task gone m))
-  exit_fades m = record { keeps = exit_keeps size m gone; limits = refl; usage = (files_sweep m (file_without gone) (without_falls gone)).usage }
+  exit_fades m = record { keeps = exit_keeps size m gone; limits = refl; usage = (files_sweep m (file_without gone) (without_falls gone)).usage; whole = exit_whole size m gone }
 
   -- a child's maps end by its fork as by its exit
   fork_map : (x y : Slot) (parent : ℕ) (p q : Spot) (i : ℕ) → KeptMap size x (slot.ForkMaps parent gone) y p q i → KeptMap size x (slot.ExitMaps gone) y p q i
@@ -112,6 +126,7 @@ module _ (size gone : ℕ) where
         };
         limits = refl;
         usage = (files_sweep m (file_forked parent gone) (forked_falls parent gone)).usage;
+        whole = fork_whole size m parent gone;
       }
 
   abbrev FadesTo : Slot → Outcome → Type 0
@@ -233,7 +248,7 @@ exit_fade s task reply t is =
     script_fades task (script (length s.slots) (Exit task))
     (tt, λ r. when_of task r (exit_slots ks task (Answer_with (Ok Done))) (exits_of task ks (Answer_with (Ok Done)) tt)) s reply t is
 
-exits_done : (task : ℕ) (r : Refusal) (t : State) (ks : List ℕ) (s : State) → IsScript s (exit_slots ks task (Answer_with (Ok Done))) (Err r) t → ⊥
+pub exits_done : (task : ℕ) (r : Refusal) (t : State) (ks : List ℕ) (s : State) → IsScript s (exit_slots ks task (Answer_with (Ok Done))) (Err r) t → ⊥
 exits_done task r t [] s is = (let never : Err r ≡ Ok Done = is.0 in cc)
 exits_done task r t (k ∷ ks) s is = either_way (has_maps_of task (slot_at s k)) (λ it. exits_done task r t ks it.1 it.3) (λ it. exits_done task r t ks s it) is
 

@@ -28,6 +28,13 @@ pub mod Shown
 pub mod Stored
 pub mod SlotShows
 pub mod Backed
+pub mod ReservationsMade
+pub mod TestsDecide
+pub mod SettingsKept
+pub mod GoneAfter
+pub mod WholeMaps
+pub mod UnmapsCut
+pub mod MountsMade
 pub mod Promised
 pub mod Small
 pub mod Seen

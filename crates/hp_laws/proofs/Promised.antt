@@ -21,14 +21,21 @@ use Rattle.hp_laws.proofs.Answered.{step_leaves, step_tells}
 use Rattle.hp_laws.proofs.Backed.{Stops, fault_goes, fault_stops, load_goes, load_stops, store_goes, store_stops}
 use Rattle.hp_laws.proofs.CountsHold.{counts_are_sums, limits_hold, minimums_hold}
 use Rattle.hp_laws.proofs.Fades.{AllFade, exit_fade, fork_fade}
+use Rattle.hp_laws.proofs.GoneAfter.{step_gone}
 use Rattle.hp_laws.proofs.Limited.{step_keeps}
 use Rattle.hp_laws.proofs.Made.{step_makes}
 use Rattle.hp_laws.proofs.Meant.{step_meant}
+use Rattle.hp_laws.proofs.MountsMade.{step_mounted}
 use Rattle.hp_laws.proofs.Outcomes.{Always, event_ends, reply_of}
+use Rattle.hp_laws.proofs.ReservationsMade.{step_ranges}
+use Rattle.hp_laws.proofs.SettingsKept.{step_reads, step_sets}
 use Rattle.hp_laws.proofs.SlotKept.{slot_keeps}
 use Rattle.hp_laws.proofs.SlotShows.{Loads, load_loads}
 use Rattle.hp_laws.proofs.StaysSettled.{step_settled}
+use Rattle.hp_laws.proofs.TestsDecide.{step_meets}
+use Rattle.hp_laws.proofs.UnmapsCut.{step_unmaps}
 use Rattle.hp_laws.proofs.Whole.{by_event, early_pages, is_early, step_of}
+use Rattle.hp_laws.proofs.WholeMaps.{step_whole}
 
 -- what an access answers, and the limits
 record Kept (s : State) (step : Step) (reply : Reply) (t : State) : Type 0 where
@@ -122,9 +129,17 @@ promised s step reply t st is =
       loads = kept.loads;
       answers = step_tells s st reply t step is;
       makes = step_makes s reply t step is;
+      ranges = step_ranges s reply t step is;
       refused = step_leaves s st reply t step is;
       files = λ slot. (meant slot).names;
       maps = λ slot. (meant slot).numbers;
       together = λ slot. (meant slot).together;
       cut_off = kept.cut_off;
+      tests = step_meets s reply t step is;
+      settings = step_sets s st reply t step is;
+      mounted = step_mounted s reply t step is;
+      unmaps = step_unmaps s reply t step is;
+      whole = step_whole s reply t step is;
+      gone = step_gone s reply t step is;
+      reads = step_reads s reply t step is;
     }

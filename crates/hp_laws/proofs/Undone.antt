@@ -43,7 +43,7 @@ use Rattle.hp_laws.proofs.Walk.{plan_unless}
 -- ---- plans that only give back
 
 -- what is asked leaves nr and overcommit
-abbrev Gives : Plan → Type 0
+abbrev pub Gives : Plan → Type 0
 Gives (Finish o) = Unit {0}
 Gives (Ask sec f) = (p : Pool) → ((section p (sec p.nr)).1.nr ≡ p.nr) × ((section p (sec p.nr)).1.overcommit ≡ p.overcommit)
 
@@ -62,7 +62,7 @@ outcome_setting : (s : State) (k : ℕ) (o : Outcome) → SameSetting s (settled
 outcome_setting s k (Refused r) = record { table = refl; nr = refl; overcommit = refl }
 outcome_setting s k (Answered a new) = record { table = refl; nr = refl; overcommit = refl }
 
-plan_setting : (s : State) (k : ℕ) (p : Plan) → Gives p → SameSetting s (planned s k p).1
+pub plan_setting : (s : State) (k : ℕ) (p : Plan) → Gives p → SameSetting s (planned s k p).1
 plan_setting s k (Finish o) h = outcome_setting s k o
 plan_setting s k (Ask sec f) h =
     let q = section (pool_of s) (sec s.nr) in
@@ -70,7 +70,8 @@ plan_setting s k (Ask sec f) h =
     let own = h (pool_of s) in
     record { table = left.table; nr = left.nr ∙ own.0; overcommit = left.overcommit ∙ own.1 }
 
-event_setting : (s : State) (k : ℕ) (e : SlotEvent) (reply : Reply) (t : State) → ((c : Choice) → Gives (slot_event s.page_size k c (slot_at s k) e)) → IsEvent s (OnSlot k e) reply t → SameSetting s t
+pub event_setting : (s : State) (k : ℕ) (e : SlotEvent) (reply : Reply) (t : State)
+    → ((c : Choice) → Gives (slot_event s.page_size k c (slot_at s k) e)) → IsEvent s (OnSlot k e) reply t → SameSetting s t
 event_setting s k e reply t h is =
     subst (λ (x : Reply × State). SameSetting s x.1) is.2 (plan_setting s k (slot_event s.page_size k is.0 (slot_at s k) e) (h is.0))
 
@@ -84,7 +85,7 @@ module _ (child : ℕ) where
   BecomesBy f old (Refused r) = Unit {0}
   BecomesBy f old (Answered a new) = new ≡ option_map f old
 
-  exit_becomes : (size k : ℕ) (c : Choice) (old : Slot) → Always (λ o. left_by old o ≡ option_map (without_task child) old) (slot_event size k c old (slot.ExitMaps child))
+  pub exit_becomes : (size k : ℕ) (c : Choice) (old : Slot) → Always (λ o. left_by old o ≡ option_map (without_task child) old) (slot_event size k c old (slot.ExitMaps child))
   exit_becomes size k c None = refl
   exit_becomes size k c (Some m) = always_gives (λ o. left_by (Some m) o ≡ Some (without_task child m)) Done (Some m) (Some (without_task child m)) refl
 
@@ -175,7 +176,7 @@ added_removed child home (x ∷ xs) e = by_test (x.0 == child) refl e (added_rem
 
 -- ---- a fork under way
 
-either_with : {P Q R : Type 0} (b : Bool) → (b ≡ true → P → R) → (b ≡ false → Q → R) → MatchBool b P Q → R
+pub either_with : {P Q R : Type 0} (b : Bool) → (b ≡ true → P → R) → (b ≡ false → Q → R) → MatchBool b P Q → R
 either_with true f g is = f refl is
 either_with false f g is = g refl is
 

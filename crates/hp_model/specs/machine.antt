@@ -12,5 +12,8 @@ pub mod Run
 pub mod Plain
 pub mod Sound
 pub mod Settled
+pub mod Tests
+pub mod Settings
+pub mod Gone
 pub mod Promises
 pub mod Copying

@@ -6,7 +6,7 @@ use Rattle.std.proofs.lemmas.Slice.Eq.{bytes_eq-Decides}
 use Rattle.hp_model.specs.Lists.{found}
 use Rattle.hp_model.specs.machine.SlotEvent.{has_name}
 use Rattle.hp_store.specs.Store.{Store}
-use Rattle.hp_mount_files.specs.Hints.{IsFiles, IsMore, Noted, has_name as has_noted}
+use Rattle.hp_mount_files.specs.Hints.{IsFiles, IsMoreByName, Noted, has_name as has_noted}
 use Rattle.hp_mount_files.specs.Keyed.{has_label, labels_of}
 use Rattle.hp_mount_files.specs.Numbered.{NumberedFile, files_shown}
 use Rattle.hp_mount_files.proofs.Level.{none_level}
@@ -26,7 +26,7 @@ module _ (old now : Noted) (s : Store) (more maps : ℕ) (tally : ℕ → ℕ) (
   free other false e most = omega (arith, most)
 
   -- only its own name is new
-  module _ (grown : IsMore old now) (own : has_noted name now ≡ true) where
+  module _ (grown : IsMoreByName name old now) (own : has_noted name now ≡ true) where
     other_name : (other : List ℕ) (b : Bool) → bytes_eq name other ≡ b → has_noted other now ≡ false → b ≡ false
     other_name other true e none =
         let same : name ≡ other = (bytes_eq-Decides name other).0 e in
@@ -40,4 +40,4 @@ module _ (old now : Noted) (s : Store) (more maps : ℕ) (tally : ℕ → ℕ) (
         subst (IsFiles now s more maps tally) (sym (hs_is ∙ ap (λ x. fs ++ x ∷ []) f_is))
         (subst (λ n. IsFiles now s more n tally (fs ++ empty_file name ∷ [])) same_maps
         (pushed old now s more maps tally fs is (empty_file name) (λ n. refl) refl (λ other most. free other (bytes_eq name other) refl most) (λ t m most. omega (arith, most)) tally (λ q. omega arith)
-        grown (λ other e. other_name other (bytes_eq name other) refl e) (λ t m e. refl) none_level))
+        grown.more (λ other apart e. grown.names other apart e) (λ t m none e. grown.keys t m e) (λ other e. other_name other (bytes_eq name other) refl e) (λ t m e. refl) none_level))

@@ -1,8 +1,8 @@
 -- All maps of a task leave the files.
-use Rattle.std.proofs.Common.{◌≡◌, ℕ, ◌+◌, ◌-◌, ◌≤◌, ◌==◌, ◌||◌, ◌&&◌, nat_lt, Bool, true, false, not, cond, List, [], ◌∷◌, length, map, refl, sym, ap, ◌∙◌, arith}
+use Rattle.std.proofs.Common.{◌≡◌, ℕ, ◌+◌, ◌-◌, ◌<◌, ◌≤◌, ◌==◌, ◌||◌, ◌&&◌, nat_lt, Bool, true, false, not, cond, ⊎_elim, List, [], ◌∷◌, length, map, refl, sym, ap, ◌∙◌, arith}
 use Rattle.std.specs.Prelude.{is_some}
 use Rattle.std.specs.List.{count_by, filter, sum_by}
-use Rattle.std.proofs.lemmas.Bool.{eqb-true}
+use Rattle.std.proofs.lemmas.Bool.{cases_lt, eqb-true}
 use Rattle.std.proofs.lemmas.Bool.Decides.{nat_tests}
 use Rattle.std.proofs.lemmas.List.{length-map}
 use Rattle.std.proofs.lemmas.List.Sums.{sum_by-cons}
@@ -12,6 +12,7 @@ use Rattle.hp_model.specs.files.Mapping.{Map, Mapping, is_map, is_of, map_punche
 use Rattle.hp_model.proofs.Counting.{count_cons, count_map}
 use Rattle.hp_store.specs.Store.{Store}
 use Rattle.hp_mount_files.specs.Dropping.{IsDropping, IsLeft}
+use Rattle.hp_mount_files.specs.Forking.{maps_named}
 use Rattle.hp_mount_files.specs.Held.{in_file, in_files, in_map}
 use Rattle.hp_mount_files.specs.Hints.{IsFiles, Noted, has_key}
 use Rattle.hp_mount_files.specs.Keyed.{Label, is_key, key_of, keys_in, label_of, labels_of, maps_for}
@@ -94,6 +95,19 @@ module _ (task : ℕ) where
       at false own true e rest step kept = (let here = ap (λ b. cond {A = ℕ} b 1 0 + 0) (apart_task m.task own e) in omega (arith, rest, kept, here))
       at false own false e rest step kept = omega (arith, rest, step, kept)
 
+  others_named : (q n : ℕ) → (q == task) ≡ false → (ms : List (Mapping ℕ)) → count_by (is_map q n) (others task ms) ≡ count_by (is_map q n) ms
+  others_named q n apart [] = refl
+  others_named q n apart (m ∷ ms) = at (is_of task m) refl (others_named q n apart ms) (count_cons (is_map q n) m ms) (count_cons (is_map q n) m (others task ms))
+    where
+      other : (k : ℕ) → (k == task) ≡ true → (k == q) ≡ false
+      other k own = grind (arith, nat_tests, own, apart)
+
+      at : (b : Bool) → is_of task m ≡ b → count_by (is_map q n) (others task ms) ≡ count_by (is_map q n) ms → count_by (is_map q n) (m ∷ ms) ≡ cond (is_map q n m) 1 0 + count_by (is_map q n) ms
+          → count_by (is_map q n) (m ∷ others task ms) ≡ cond (is_map q n m) 1 0 + count_by (is_map q n) (others task ms)
+          → count_by (is_map q n) (cond (not b) (m ∷ others task ms) (others task ms)) ≡ count_by (is_map q n) (m ∷ ms)
+      at true own rest step kept = (let here = ap (λ b. cond {A = ℕ} (b && (m.number == n)) 1 0 + 0) (other m.task own) in omega (arith, rest, step, here))
+      at false own rest step kept = omega (arith, rest, step, kept)
+
   pub keys_are : (k n : ℕ) (f : NumberedFile) → keys_in k n (label_of f) ≡ count_by (is_map k n) f.maps
   keys_are k n f = count_map (is_key k n) key_of f.maps
 
@@ -104,6 +118,12 @@ module _ (task : ℕ) where
       at : (b : Bool) → is_of task m ≡ b → count_by (is_map task n) (others task ms) ≡ 0 → count_by (is_map task n) (cond (not b) (m ∷ others task ms) (others task ms)) ≡ 0
       at true e rest = rest
       at false e rest = (let step = count_cons (is_map task n) m (others task ms) in let here = ap (λ b. cond {A = ℕ} (b && (m.number == n)) 1 0 + 0) e in omega (arith, rest, step, here))
+
+-- maps of one number are counted by their keys
+pub named_labelled : (task number : ℕ) (fs : List NumberedFile) → sum_by (keys_in task number) (labels_of fs) ≡ sum_by (maps_named task number) fs
+named_labelled task number [] = refl
+named_labelled task number (f ∷ fs) = (let here = keys_are task task number f in let rest = named_labelled task number fs in
+    omega (arith, here, rest, sum_by-cons (keys_in task number) (label_of f) (labels_of fs), sum_by-cons (maps_named task number) f fs))
 
 -- maps are counted by what they are called
 pub maps_in : (gs : List NumberedFile) → sum_by (λ (q : Label). length q.keys) (labels_of gs) ≡ map_sum gs
@@ -209,13 +229,41 @@ module _ {n later : Noted} {s t : Store} {more now maps : ℕ} {tally : ℕ → 
   pub exit_keys : (q m : ℕ) → sum_by (keys_in q m) (labels_of kept) ≤ sum_by (keys_in q m) (labels_of fs)
   exit_keys q m = keys_less n s t more now maps tally fs kept is (left_by task) hs_is dropping went.counted (λ f. refl) less (λ f. refl) keys_same q m
 
+  -- the task's keys are noted no more, and the other tasks keep theirs
+  own_gone : (m : ℕ) → has_key task m later ≡ false
+  own_gone m = ⊎_elim (λ (some : 0 < sum_by (maps_named task m) fs). went.noted.gone m some)
+      (λ (none : sum_by (maps_named task m) fs ≤ 0). went.noted.less.keys task m (is.noted.no_key task m (let all = named_labelled task m fs in omega (arith, none, all))))
+      (cases_lt 0 (sum_by (maps_named task m) fs))
+
+  keys_kept : (q m : ℕ) → (q == task) ≡ false → sum_by (keys_in q m) (labels_of kept) ≡ sum_by (keys_in q m) (labels_of fs)
+  keys_kept q m apart =
+      named_labelled q m kept ∙ sym (sum_kept (maps_named q m) (λ f out. ap (maps_named q m) (empty_file f out).1)) ∙ ap (sum_by (maps_named q m)) ended_is ∙ each fs
+      ∙ sym (named_labelled q m fs)
+    where
+      one : (f : NumberedFile) → maps_named q m (emptied (left_by task f)) ≡ maps_named q m f
+      one f = at (is_used (left_by task f)) ∙ others_named task q m apart f.maps
+        where
+          at : (b : Bool) → maps_named q m (cond b (left_by task f) (with_truncated 0 (left_by task f))) ≡ count_by (is_map q m) (others task f.maps)
+          at true = refl
+          at false = count_map (is_map q m) (map_punched 0 (0 + length f.cells)) (others task f.maps)
+
+      each : (fs : List NumberedFile) → sum_by (maps_named q m) (map (λ f. emptied (left_by task f)) fs) ≡ sum_by (maps_named q m) fs
+      each [] = refl
+      each (f ∷ fs) = (let here = one f in let rest = each fs in
+          omega (arith, here, rest, sum_by-cons (maps_named q m) (emptied (left_by task f)) (map (λ f. emptied (left_by task f)) fs), sum_by-cons (maps_named q m) f fs))
+
   pub exit_keeps : (left : ℕ) (next : ℕ → ℕ) → left ≡ maps - k → ((q : ℕ) → next q ≡ cond (task == q) 0 (tally q)) → IsFiles later t now left next kept
   exit_keeps left next left_is next_is =
       left_keeps n s t more now maps tally fs kept is (left_by task) hs_is dropping went.counted (λ f. refl) less (λ f. refl) keys_same
       (λ f. filtered_level (λ m. not (is_of task m)) f.maps) later left next
-      (left_noted n s t more now maps tally fs kept is (left_by task) hs_is dropping went.counted (λ f. refl) less (λ f. refl) keys_same later went.noted.names (λ q m e. at q m e (q == task) refl))
+      (left_noted n s t more now maps tally fs kept is (left_by task) hs_is dropping went.counted (λ f. refl) less (λ f. refl) keys_same later went.noted.names (λ q m e. at q m e (q == task) refl)
+      went.noted.less (λ q m e. only q m e (q == task) refl))
       (left_is ∙ maps_left) (λ q. next_is q ∙ sym (tally_left q))
     where
+      only : (q m : ℕ) → sum_by (keys_in q m) (labels_of kept) ≡ 0 → (b : Bool) → (q == task) ≡ b → has_key q m later ≡ false
+      only q m e true same = ap (λ i. has_key i m later) (eqb-true q task same) ∙ own_gone m
+      only q m e false apart = went.noted.less.keys q m (is.noted.no_key q m (sym (keys_kept q m apart) ∙ e))
+
       at : (q m : ℕ) → has_key q m later ≡ false → (b : Bool) → (q == task) ≡ b → sum_by (keys_in q m) (labels_of kept) ≡ 0
       at q m e true same = ap (λ i. sum_by (keys_in i m) (labels_of kept)) (eqb-true q task same) ∙ keys_gone m
       at q m e false apart =

@@ -381,18 +381,27 @@ module _ (parent child : ℕ) (apart : (parent == child) ≡ false) where
       -- what is noted then may lack names and keys that were not noted, and those that the child has no map of
       pub fork_keeps : (later : Noted) → ((name : List ℕ) → has_noted name later ≡ false → has_noted name n ≡ false) →
           ((t q : ℕ) → (t == child) ≡ false → has_key t q later ≡ false → sum_by (keys_in t q) (labels_of fs) ≡ 0)
-          → ((q : ℕ) → has_key child q later ≡ false → sum_by (keys_in child q) (labels_of (all_of fs)) ≡ 0) → (left : ℕ) (next : ℕ → ℕ) →
+          → ((q : ℕ) → has_key child q later ≡ false → sum_by (keys_in child q) (labels_of (all_of fs)) ≡ 0)
+          → ((name : List ℕ) → has_noted name n ≡ false → has_noted name later ≡ false) →
+          ((t q : ℕ) → (t == child) ≡ false → sum_by (keys_in t q) (labels_of fs) ≡ 0 → has_key t q later ≡ false)
+          → ((q : ℕ) → sum_by (keys_in child q) (labels_of (all_of fs)) ≡ 0 → has_key child q later ≡ false) → (left : ℕ) (next : ℕ → ℕ) →
           IsKeyed left next (labels_of (all_of fs)) → IsFiles later u more left next (all_of fs)
-      fork_keeps later names others mine left next keyed_now = record {
+      fork_keeps later names others mine no_names no_others not_mine left next keyed_now = record {
         held = fork_held;
         keyed = keyed_now;
         noted = record {
           names = λ name e. (let same = names_same name fs in let none = is.noted.names name (names name e) in omega (arith, same, none));
           keys = λ t q e. keyed t q (t == child) refl e;
+          no_name = λ name e. no_names name (is.noted.no_name name (sym (names_same name fs) ∙ e));
+          no_key = λ t q e. unkeyed t q (t == child) refl e;
         };
         level = levels fs is.level;
       }
         where
+          unkeyed : (t q : ℕ) (b : Bool) → (t == child) ≡ b → sum_by (keys_in t q) (labels_of (all_of fs)) ≡ 0 → has_key t q later ≡ false
+          unkeyed t q true same e = (let is_t = eqb-true t child same in ap (λ i. has_key i q later) is_t ∙ not_mine q (sym (ap (λ i. sum_by (keys_in i q) (labels_of (all_of fs))) is_t) ∙ e))
+          unkeyed t q false other e = no_others t q other (sym (keys_other t q (flip t other) fs) ∙ e)
+
           keyed : (t q : ℕ) (b : Bool) → (t == child) ≡ b → has_key t q later ≡ false → sum_by (keys_in t q) (labels_of (all_of fs)) ≡ 0
           keyed t q true same e = (let is_t = eqb-true t child same in ap (λ i. sum_by (keys_in i q) (labels_of (all_of fs))) is_t ∙ mine q (sym (ap (λ i. has_key i q later) is_t) ∙ e))
           keyed t q false other e = (let all = keys_other t q (flip t other) fs in let none = others t q other e in omega (arith, all, none))

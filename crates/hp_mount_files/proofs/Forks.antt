@@ -17,19 +17,18 @@ use Rattle.hp_mount_files.specs.Dropping.{IsLeft, count_at}
 use Rattle.hp_mount_files.specs.Files.{Files}
 use Rattle.hp_mount_files.specs.Forking.{AreReady, HaveJoined, HaveNoted, HaveRoom, IsSharing, children_of, in_list, in_lists, joined, list_copies, maps_named, maps_of, with_children}
 use Rattle.hp_mount_files.specs.Held.{in_map}
-use Rattle.hp_mount_files.specs.Hints.{IsFiles, IsMore, Noted}
+use Rattle.hp_mount_files.specs.Hints.{AreSame, IsFiles, Noted}
 use Rattle.hp_mount_files.specs.Keyed.{IsKeyed, Label, is_listed, keys_in, label_of, labels_of, maps_for}
 use Rattle.hp_mount_files.specs.Leaving.{HasLeft, emptied, is_used, left_by, map_sum}
 use Rattle.hp_mount_files.specs.Numbered.{NumberedFile, files_shown, with_truncated}
 use Rattle.hp_mount_files.specs.Places.{all_maps}
 use Rattle.hp_mount_files.proofs.Entering.{room_keeps, room_view}
-use Rattle.hp_mount_files.proofs.Exiting.{exit_files, exit_keeps, exit_keys, exit_left, keys_gone}
+use Rattle.hp_mount_files.proofs.Exiting.{exit_files, exit_keeps, exit_keys, exit_left, keys_gone, named_labelled}
 use Rattle.hp_mount_files.proofs.FileLeaves.{empty_file}
 use Rattle.hp_mount_files.proofs.Forked.{few_kids, fork_held, fork_keeps, fork_keyed, fork_shows, in_kids, owed_same, tally_more}
 use Rattle.hp_mount_files.proofs.Joining.{none_joined}
-use Rattle.hp_mount_files.proofs.Keys.{noted_more}
-use Rattle.hp_mount_files.proofs.Leaving.{files_owe, used_label}
-use Rattle.hp_mount_files.proofs.Noting.{named_labelled}
+use Rattle.hp_mount_files.proofs.Keys.{noted_same}
+use Rattle.hp_mount_files.proofs.Leaving.{files_owe, used_label, used_sum}
 use Rattle.hp_mount_files.proofs.Sharing.{share_as}
 use Rattle.hp_mount_files.proofs.Stored.{stored_at, stored_pages}
 use Rattle.hp_mount_files.proofs.Tallies.{maps_labelled, none_leave}
@@ -38,16 +37,7 @@ use Rattle.hp_mount_files.proofs.Views.{view}
 
 -- ---- files that are used
 
--- what is counted of files is of those that are used
-used_sum : (c : NumberedFile → ℕ) → ((f : NumberedFile) → is_used f ≡ false → c f ≡ 0) → (fs : List NumberedFile) → sum_by c (filter is_used fs) ≡ sum_by c fs
-used_sum c none [] = refl
-used_sum c none (f ∷ fs) = at (is_used f) refl (used_sum c none fs)
-  where
-    at : (b : Bool) → is_used f ≡ b → sum_by c (filter is_used fs) ≡ sum_by c fs → sum_by c (cond b (f ∷ filter is_used fs) (filter is_used fs)) ≡ sum_by c (f ∷ fs)
-    at true e rest = omega (arith, rest, sum_by-cons c f (filter is_used fs), sum_by-cons c f fs)
-    at false e rest = (let bare = none f e in omega (arith, rest, bare, sum_by-cons c f fs))
-
--- as the maps of a task
+-- the maps of a task are those of files that are used
 used_maps : (task : ℕ) (fs : List NumberedFile) → sum_by (maps_of task) (filter is_used fs) ≡ sum_by (maps_of task) fs
 used_maps task = used_sum (maps_of task) (λ f out. ap (count_by (is_of task)) (empty_file f out).0)
 
@@ -230,7 +220,7 @@ pub record IsSet (parent child held : ℕ) (v : Files) (n : Noted) (s : Store) (
   pub shown : record (view s more fs) { room = held } ≡ record v { room = held }
 
 pub set_out : {parent child held all maps : ℕ} {v : Files} {old n : Noted} {s t : Store} {more : ℕ} {tally : ℕ → ℕ} {fs : List NumberedFile}
-    {lists counted : List (Vec (Mapping ℕ))} → IsFiles old s more maps tally fs → view s more fs ≡ v → IsMore old n
+    {lists counted : List (Vec (Mapping ℕ))} → IsFiles old s more maps tally fs → view s more fs ≡ v → AreSame old n
     → AreReady parent child fs lists → counted ≡ lists → (all < 2 ^ 64 - 1 → all ≡ held + more + sum_by list_copies counted) → held_count s.pages + all ≤ 2 ^ 32
     → t ≡ record s { pages = t.pages; room = max s.room all } → t.pages ≡ s.pages ++ replicate (length t.pages - length s.pages) None → ((m : ℕ) → page_at t m ≡ page_at s m)
     → IsSet parent child held v n t more maps tally fs lists
@@ -243,7 +233,7 @@ set_out {parent} {child} {held} {all} {maps} {v} {old} {n} {s} {t} {more} {tally
       is = record {
         held = room_keeps s t more (held + sum_by list_copies lists) all fs is.held parts made pages same;
         keyed = is.keyed;
-        noted = noted_more old n (labels_of fs) grown is.noted;
+        noted = noted_same old n (labels_of fs) grown is.noted;
         level = is.level;
       };
       ready = ready;
@@ -382,13 +372,18 @@ module _ {n dropped : Noted} {s t : Store} {more now maps held : ℕ} {tally : �
           at q true = (let own = ap (λ b. cond b 0 (tally parent)) other_task in omega (arith, own))
           at q false = omega arith
 
+      child_keys : (q : ℕ) → sum_by (keys_in child q) (labels_of (map (λ f. with_children parent child f) K)) ≡ sum_by (maps_named child q) joint
+      child_keys q = ap (λ gs. sum_by (keys_in child q) (labels_of gs)) (sym kept_all) ∙ named_labelled child q kept ∙ named_kept q
+
       pub forked_keeps : (table : Noted) → HaveNoted child joint dropped table → IsFiles table u more2 (maps - k + tally parent) next kept
       forked_keeps table noted =
           subst (IsFiles table u more2 (maps - k + tally parent) next) (sym kept_all)
           (fork_keeps parent child apart dropped t u now more2 (maps - k) (λ q. cond (child == q) 0 (tally q)) K left sharing came.counted parts gone_keys
           table noted.more.names
           (λ q m other e. (let none = set.is.noted.keys q m (went.noted.keys q m other (noted.more.keys q m e)) in let less = fewer q m in omega (arith, none, less)))
-          (λ q e. ap (λ gs. sum_by (keys_in child q) (labels_of gs)) (sym kept_all) ∙ named_labelled child q kept ∙ named_kept q ∙ noted.noted q e)
+          (λ q e. child_keys q ∙ noted.noted q e) noted.names
+          (λ q m other none. noted.others q m other (left.noted.no_key q m none))
+          (λ q none. noted.only q (sym (child_keys q) ∙ none) (left.noted.no_key child q (gone_keys q)))
           (maps - k + tally parent) next keyed_all)
 
     abbrev next_tally : ℕ → ℕ

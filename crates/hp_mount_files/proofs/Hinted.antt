@@ -61,6 +61,25 @@ module _ {K Y X : Type 0} (f : K → Y) (test : Y → Bool) where
       let left = none_noted (swap_remove es i d) e in
       noted_none es (omega (arith, gone, step, left))
 
+  -- nothing is put in by that
+  pub still_out : (es : List (K × X)) (i : ℕ) (d : K × X) → i < length es → noted es ≡ false → noted (swap_remove es i d) ≡ false
+  still_out es i d inside e =
+      let step = sum_by-swap_remove (λ e. cond {A = ℕ} (test (f e.0)) 1 0) es i d inside in
+      let none = none_noted es e in
+      noted_none (swap_remove es i d) (omega (arith, step, none))
+
+  pub key_still_out : (own : K → Bool) (es : List (K × X)) → noted es ≡ false → noted (swap_remove_entry own es) ≡ false
+  key_still_out own [] e = e
+  key_still_out own (x ∷ es) e = by (position own (map_keys (x ∷ es))) refl
+    where
+      by : (o : Option ℕ) → position own (map_keys (x ∷ es)) ≡ o → noted (swap_remove_entry own (x ∷ es)) ≡ false
+      by None h = ap noted (swap_remove_entry-missing own (x ∷ es) h) ∙ e
+      by (Some i) h =
+          let below = (position-Some own (map_keys (x ∷ es)) i x.0 h).0 in
+          let long = length-map (x ∷ es) (λ (p : K × X). p.0) in
+          let inside : i < length (x ∷ es) = omega (arith, below, long) in
+          ap noted (swap_remove_entry-found own (x ∷ es) i x h) ∙ still_out (x ∷ es) i x inside e
+
   -- the same of a key
   pub others_stay : (own : K → Bool) → ((k : K) → own k ≡ true → test (f k) ≡ false) → (es : List (K × X)) → noted (swap_remove_entry own es) ≡ false → noted es ≡ false
   others_stay own out [] e = e
@@ -84,6 +103,15 @@ module _ {K Y X : Type 0} (f : K → Y) (test : Y → Bool) where
         at : (b : Bool) → (noted (insert_entry eq es k v) ≡ false → noted es ≡ false) → noted (cond b ((x.0, v) ∷ es) (x ∷ insert_entry eq es k v)) ≡ false → noted (x ∷ es) ≡ false
         at true rest e = e
         at false rest e = (let parts = none_of (test (f x.0)) (noted (insert_entry eq es k v)) e in ap (λ b. b || noted es) parts.0 ∙ rest parts.1)
+
+    -- another key is put in
+    pub other_in : test (f k) ≡ false → (es : List (K × X)) → noted es ≡ false → noted (insert_entry eq es k v) ≡ false
+    other_in out [] e = ap (λ b. b || false) out
+    other_in out (x ∷ es) e = (let parts = none_of (test (f x.0)) (noted es) e in at (eq k x.0) parts.0 parts.1 (other_in out es parts.1))
+      where
+        at : (b : Bool) → test (f x.0) ≡ false → noted es ≡ false → noted (insert_entry eq es k v) ≡ false → noted (cond b ((x.0, v) ∷ es) (x ∷ insert_entry eq es k v)) ≡ false
+        at true here left rest = ap (λ b. b || noted es) here ∙ left
+        at false here left rest = ap (λ b. b || noted (insert_entry eq es k v)) here ∙ rest
 
     pub put_in : ((y : K) → eq k y ≡ true → test (f y) ≡ true) → test (f k) ≡ true → (es : List (K × X)) → noted (insert_entry eq es k v) ≡ true
     put_in alike own [] = or_left (test (f k)) false own

@@ -5,7 +5,7 @@ use Rattle.std.proofs.lemmas.List.{length-map, map-set, set-get_or}
 use Rattle.hp_model.specs.files.Mapping.{Mapping}
 use Rattle.hp_store.specs.Store.{Store}
 use Rattle.hp_mount_files.specs.Held.{IsHeld}
-use Rattle.hp_mount_files.specs.Hints.{AreNoted, IsFiles, IsMore, Noted}
+use Rattle.hp_mount_files.specs.Hints.{AreNoted, AreSame, IsFiles, IsMoreByMap, Noted}
 use Rattle.hp_mount_files.specs.Keyed.{IsKeyed, Label, key_of, label_of, labels_of}
 use Rattle.hp_mount_files.specs.Level.{AreLevel}
 use Rattle.hp_mount_files.specs.Numbered.{NumberedFile, file_shown, files_shown, mapping_at, no_mapping}
@@ -40,19 +40,26 @@ files_same n s t more now maps tally fs k x g l read same level is held =
       level = level_set fs k x g (let long = length-map fs (file_shown s) in omega (arith, l, long)) read level is.level;
     }
 
--- what was noted at two times
-pub more_then : (old mid new : Noted) → IsMore old mid → IsMore mid new → IsMore old new
-more_then old mid new first then =
-    record { names = λ name e. first.names name (then.names name e); keys = λ task number e. first.keys task number (then.keys task number e) }
+-- the same was noted, and then a map
+pub then_map : (task number : ℕ) (old mid new : Noted) → AreSame old mid → IsMoreByMap task number mid new → IsMoreByMap task number old new
+then_map task number old mid new same then = record {
+  more = record { names = λ name e. same.more.names name (then.more.names name e); keys = λ t n e. same.more.keys t n (then.more.keys t n e) };
+  names = λ name e. then.names name (same.less.names name e);
+  keys = λ t n apart e. then.keys t n apart (same.less.keys t n e);
+}
 
--- as much was noted as before, or more
-pub noted_more : (old new : Noted) (ls : List Label) → IsMore old new → AreNoted old ls → AreNoted new ls
-noted_more old new ls more are =
-    record { names = λ name e. are.names name (more.names name e); keys = λ task number e. are.keys task number (more.keys task number e) }
+-- the same is noted as before
+pub noted_same : (old new : Noted) (ls : List Label) → AreSame old new → AreNoted old ls → AreNoted new ls
+noted_same old new ls same are = record {
+  names = λ name e. are.names name (same.more.names name e);
+  keys = λ task number e. are.keys task number (same.more.keys task number e);
+  no_name = λ name e. same.less.names name (are.no_name name e);
+  no_key = λ task number e. same.less.keys task number (are.no_key task number e);
+}
 
-pub files_noted : (old new : Noted) (s : Store) (more maps : ℕ) (tally : ℕ → ℕ) (fs : List NumberedFile) → IsMore old new → IsFiles old s more maps tally fs → IsFiles new s more maps tally fs
-files_noted old new s more maps tally fs grown is =
-    record { held = is.held; keyed = is.keyed; noted = noted_more old new (labels_of fs) grown is.noted; level = is.level }
+pub files_noted : (old new : Noted) (s : Store) (more maps : ℕ) (tally : ℕ → ℕ) (fs : List NumberedFile) → AreSame old new → IsFiles old s more maps tally fs → IsFiles new s more maps tally fs
+files_noted old new s more maps tally fs same is =
+    record { held = is.held; keyed = is.keyed; noted = noted_same old new (labels_of fs) same is.noted; level = is.level }
 
 -- each task has as many maps
 pub files_recounted : (n : Noted) (s : Store) (more maps : ℕ) (tally next : ℕ → ℕ) (fs : List NumberedFile) → ((q : ℕ) → next q ≡ tally q) →

@@ -1,8 +1,8 @@
 -- Indices that leave a map, and what it holds of them.
-use Rattle.std.proofs.Common.{◌≡◌, ℕ, ◌+◌, ◌-◌, ◌≤◌, Bool, true, false, cond, None, take, drop, refl, ap, ◌∙◌, arith}
+use Rattle.std.proofs.Common.{◌≡◌, ℕ, ◌+◌, ◌-◌, ◌<◌, ◌≤◌, ◌==◌, ◌&&◌, Bool, true, false, cond, ⊎_elim, None, take, drop, refl, sym, ap, ◌∙◌, arith}
 use Rattle.std.specs.Prelude.{slice_index_or}
 use Rattle.std.specs.List.{count_by}
-use Rattle.std.proofs.lemmas.Bool.{ltb-false}
+use Rattle.std.proofs.lemmas.Bool.{cases_lt, eqb-true, ltb-false}
 use Rattle.std.specs.Prelude.{nat_lt}
 use Rattle.hp_model.proofs.Editing.{sum_by-edit_range}
 use Rattle.std.proofs.lemmas.List.Sums.{sum_by-take-drop}
@@ -12,13 +12,13 @@ use Rattle.hp_mount_files.proofs.Mapped.{sum_edited}
 use Rattle.hp_mapping.specs.Mapped.{IsClear, reserves_in}
 use Rattle.hp_model.specs.declared.place.Place.{Place}
 use Rattle.hp_model.specs.declared.place.Place.TheVariants.{Gone, Live}
-use Rattle.hp_model.specs.files.Mapping.{Mapping, copy_of, is_unconsumed, map_punched, without_copy, without_range}
+use Rattle.hp_model.specs.files.Mapping.{Mapping, copy_of, is_of, is_unconsumed, map_punched, without_copy, without_range}
 use Rattle.hp_model.specs.Lists.{edit_range, part}
 use Rattle.hp_model.proofs.Editing.{length-edit_range}
 use Rattle.hp_laws.proofs.Cuts.{ranged}
 use Rattle.hp_mount_files.specs.Held.{in_map, in_place}
-use Rattle.hp_mount_files.specs.Hints.{Noted}
-use Rattle.hp_mount_files.specs.Leaving.{IsMoreButTask, owed}
+use Rattle.hp_mount_files.specs.Hints.{Noted, has_key}
+use Rattle.hp_mount_files.specs.Leaving.{IsMoreButMap, IsMoreButTask, map_named, owed}
 use Rattle.hp_mount_files.proofs.Punched.{edited_alike, in_from}
 
 -- ---- copies go first
@@ -102,12 +102,45 @@ left_fewer n a b m =
 
 -- ---- what was noted
 
-pub more_then : (task : ℕ) (old mid new : Noted) → IsMoreButTask task old mid → IsMoreButTask task mid new → IsMoreButTask task old new
-more_then task old mid new first then =
-    record {
-      names = λ name e. first.names name (then.names name e);
-      keys = λ other number apart e.
-          first.keys other number apart (then.keys other number apart e);
-      room = (let one = first.room in let two = then.room in
-          omega (arith, one, two));
-    }
+module _ (task : ℕ) where
+  pub none_gone : (n : Noted) → IsMoreButTask task (λ q. 0) n n
+  none_gone n = record {
+    names = λ name e. e;
+    keys = λ other number apart e. e;
+    gone = λ number some. absurd (omega (arith, some));
+    less = record { names = λ name e. e; keys = λ other number e. e };
+    room = omega arith;
+  }
+
+  pub gone_then : (f g h : ℕ → ℕ) (old mid new : Noted) → IsMoreButTask task f old mid → IsMoreButTask task g mid new → ((q : ℕ) → h q ≤ f q + g q) → IsMoreButTask task h old new
+  gone_then f g h old mid new first then each = record {
+    names = λ name e. first.names name (then.names name e);
+    keys = λ other number apart e. first.keys other number apart (then.keys other number apart e);
+    gone = λ number some. ⊎_elim (λ (one : 0 < f number). then.less.keys task number (first.gone number one))
+        (λ (none : f number ≤ 0). then.gone number (let all = each number in omega (arith, some, none, all))) (cases_lt 0 (f number));
+    less = record { names = λ name e. then.less.names name (first.less.names name e); keys = λ other number e. then.less.keys other number (first.less.keys other number e) };
+    room = (let one = first.room in let two = then.room in omega (arith, one, two));
+  }
+
+  -- one map
+  pub map_gone : (m : Mapping ℕ) (old new : Noted) → IsMoreButMap task m.number old new → IsMoreButTask task (map_named task m) old new
+  map_gone m old new is = record {
+    names = is.names;
+    keys = λ other number apart e. is.keys other number (ap (λ b. b && (number == m.number)) apart) e;
+    gone = λ number some. at number some (m.number == number) refl;
+    less = is.less;
+    room = is.room;
+  }
+    where
+      at : (q : ℕ) → 0 < map_named task m q → (b : Bool) → (m.number == q) ≡ b → has_key task q new ≡ false
+      at q some true same = ap (λ i. has_key task i new) (sym (eqb-true m.number q same)) ∙ is.gone
+      at q some false apart = absurd (unnamed (m.task == task) (ap (λ b. cond {A = ℕ} ((m.task == task) && b) 1 0) apart))
+        where
+          unnamed : (b : Bool) → map_named task m q ≡ cond {A = ℕ} (b && false) 1 0 → ⊥
+          unnamed true e = omega (arith, some, e)
+          unnamed false e = omega (arith, some, e)
+
+  -- a map of another task
+  pub map_stays : (m : Mapping ℕ) (n : Noted) → is_of task m ≡ false → IsMoreButTask task (map_named task m) n n
+  map_stays m n other = gone_then (λ q. 0) (λ q. 0) (map_named task m) n n n (none_gone n) (none_gone n)
+      (λ q. (let none = ap (λ b. cond {A = ℕ} (b && (m.number == q)) 1 0) other in omega (arith, none)))

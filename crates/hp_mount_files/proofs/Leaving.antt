@@ -1,6 +1,6 @@
 -- Files that lose maps, and those that go with their last one.
 use Rattle.std.proofs.Common.{◌≡◌, ℕ, zero, suc, ◌+◌, ◌<◌, ◌≤◌, ◌||◌, nat_lt, Bool, true, false, cond, List, [], ◌∷◌, length, map, refl, sym, ap, subst, ◌∙◌, arith}
-use Rattle.std.specs.Prelude.{is_some, slice_index_or, None, Some}
+use Rattle.std.specs.Prelude.{is_some, slice_index_or, Option, None, Some}
 use Rattle.std.specs.List.{All, count_by, filter, sum_by}
 use Rattle.std.proofs.lemmas.List.{length-map}
 use Rattle.std.proofs.lemmas.List.Elements.{All-cons, All-filter, filter_passes}
@@ -15,8 +15,8 @@ use Rattle.hp_model.proofs.Counting.{count_alike, count_map}
 use Rattle.hp_store.specs.Store.{Store, holders_of, page_at}
 use Rattle.hp_mount_files.specs.Dropping.{IsDropping, IsLeft}
 use Rattle.hp_mount_files.specs.Held.{IsHeld, in_cell, in_cells, in_file, in_files, in_map, more_in}
-use Rattle.hp_mount_files.specs.Hints.{AreNoted, IsFiles, Noted, has_key, has_name as has_noted}
-use Rattle.hp_mount_files.specs.Keyed.{Label, has_label, is_listed, key_of, keys_in, label_of, labels_of, maps_for}
+use Rattle.hp_mount_files.specs.Hints.{AreNoted, IsFiles, IsMore, Noted, has_key, has_name as has_noted}
+use Rattle.hp_mount_files.specs.Keyed.{Label, has_label, is_listed, is_name_of, key_of, keys_in, label_of, labels_of, maps_for}
 use Rattle.hp_mount_files.specs.Leaving.{file_owed, is_used, owed}
 use Rattle.hp_mount_files.specs.Level.{AreLevel}
 use Rattle.hp_mount_files.specs.Numbered.{NumberedFile, file_shown, files_shown, map_shown, numbered_at, place_shown}
@@ -27,6 +27,16 @@ use Rattle.hp_mount_files.proofs.Mapped.{sum_through}
 use Rattle.hp_mount_files.proofs.Staying.{files_stay}
 use Rattle.hp_mount_files.proofs.Stored.{stored_at, stored_pages}
 use Rattle.hp_mount_files.proofs.Views.{view}
+
+-- ---- what is counted of files is of those that are used
+
+pub used_sum : (c : NumberedFile → ℕ) → ((f : NumberedFile) → is_used f ≡ false → c f ≡ 0) → (fs : List NumberedFile) → sum_by c (filter is_used fs) ≡ sum_by c fs
+used_sum c none [] = refl
+used_sum c none (f ∷ fs) = at (is_used f) refl (used_sum c none fs)
+  where
+    at : (b : Bool) → is_used f ≡ b → sum_by c (filter is_used fs) ≡ sum_by c fs → sum_by c (cond b (f ∷ filter is_used fs) (filter is_used fs)) ≡ sum_by c (f ∷ fs)
+    at true e rest = omega (arith, rest, sum_by-cons c f (filter is_used fs), sum_by-cons c f fs)
+    at false e rest = (let bare = none f e in omega (arith, rest, bare, sum_by-cons c f fs))
 
 -- ---- what is left of a list, when each element is changed and some go
 
@@ -199,6 +209,27 @@ module _ (n : Noted) (s t : Store) (more now maps : ℕ) (tally : ℕ → ℕ) (
     pub keys_less : (k m : ℕ) → sum_by (keys_in k m) (labels_of hs) ≤ sum_by (keys_in k m) (labels_of fs)
     keys_less k m = label_sum (keys_in k m) (keys k m)
 
+    -- a file with a name stays
+    pub names_kept : (name : List ℕ) → count_by (has_label name) (labels_of hs) ≡ count_by (has_label name) (labels_of fs)
+    names_kept name =
+        sum_through (λ (q : Label). cond {A = ℕ} (has_label name q) 1 0) label_of hs ∙ ap (sum_by named) hs_is ∙ used_sum named out (map g fs) ∙ each fs
+        ∙ sym (sum_through (λ (q : Label). cond {A = ℕ} (has_label name q) 1 0) label_of fs)
+      where
+        named : NumberedFile → ℕ
+        named f = cond {A = ℕ} (has_label name (label_of f)) 1 0
+
+        nameless : (o : Option (List ℕ)) (b : Bool) → (is_some o || b) ≡ false → cond {A = ℕ} (is_name_of name o) 1 0 ≡ 0
+        nameless None b e = refl
+        nameless (Some n) b e = cc
+
+        out : (f : NumberedFile) → is_used f ≡ false → named f ≡ 0
+        out f e = nameless f.name (nat_lt 0 (length f.maps)) e
+
+        each : (fs : List NumberedFile) → sum_by named (map g fs) ≡ sum_by named fs
+        each [] = refl
+        each (f ∷ fs) = (let here = ap (λ o. cond {A = ℕ} (is_name_of name o) 1 0 + 0) (names f) in let rest = each fs in
+            omega (arith, here, rest, sum_by-cons named (g f) (map g fs), sum_by-cons named f fs))
+
     listed : All (λ (q : Label). is_listed q ≡ true) (labels_of hs)
     listed = subst (λ (ys : List NumberedFile). All (λ (q : Label). is_listed q ≡ true) (labels_of ys)) (sym hs_is) (each (filter is_used (map g fs)) (filter_passes is_used (map g fs)))
       where
@@ -207,12 +238,15 @@ module _ (n : Noted) (s t : Store) (more now maps : ℕ) (tally : ℕ → ℕ) (
         each (y ∷ ys) all = All-cons (λ (q : Label). is_listed q ≡ true) (label_of y) (labels_of ys)
             (sym (kept_label s y) ∙ used_shown y ∙ all 0 y (omega arith)) (each ys (λ i e l. all (suc i) e (omega (arith, l))))
 
-    -- names stay noted
+    -- names stay noted, and nothing else is
     pub left_noted : (later : Noted) → ((name : List ℕ) → has_noted name later ≡ false → has_noted name n ≡ false) →
-        ((k m : ℕ) → has_key k m later ≡ false → sum_by (keys_in k m) (labels_of hs) ≡ 0) → AreNoted later (labels_of hs)
-    left_noted later noted keyed = record {
+        ((k m : ℕ) → has_key k m later ≡ false → sum_by (keys_in k m) (labels_of hs) ≡ 0) → IsMore later n
+        → ((k m : ℕ) → sum_by (keys_in k m) (labels_of hs) ≡ 0 → has_key k m later ≡ false) → AreNoted later (labels_of hs)
+    left_noted later noted keyed less only = record {
       names = λ name e. (let few = names_less name in let none = is.noted.names name (noted name e) in omega (arith, few, none));
       keys = keyed;
+      no_name = λ name e. less.names name (is.noted.no_name name (sym (names_kept name) ∙ e));
+      no_key = only;
     }
 
     pub left_keeps : ((f : NumberedFile) → AreLevel f.maps → AreLevel (g f).maps) → (later : Noted) (left : ℕ) (next : ℕ → ℕ) →

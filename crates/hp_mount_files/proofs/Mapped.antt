@@ -22,14 +22,14 @@ use Rattle.hp_store.specs.Store.{Store}
 use Rattle.hp_mount_files.specs.Asking.{entered_from}
 use Rattle.hp_mount_files.specs.Files.{file_at, with_file_at}
 use Rattle.hp_mount_files.specs.Held.{IsHeld, in_cell, in_file, in_map, in_place}
-use Rattle.hp_mount_files.specs.Hints.{AreNoted, IsFiles, IsMore, Noted, has_key}
+use Rattle.hp_mount_files.specs.Hints.{AreNoted, IsFiles, IsMoreByMap, Noted, has_key}
 use Rattle.hp_mount_files.specs.Keyed.{IsKeyed, Label, has_label, is_key, is_listed, key_of, keys_in, label_of, labels_of, maps_for}
 use Rattle.hp_mount_files.proofs.Level.{level_set, more_level, same_level}
 use Rattle.hp_mount_files.specs.Numbered.{NumberedFile, cell_shown, file_shown, files_shown, map_shown, new_mapping, numbered_at, place_shown, with_mapping}
 use Rattle.hp_mount_files.specs.Places.{all_maps}
 use Rattle.hp_mount_files.proofs.Alike.{alike_held}
 use Rattle.hp_mount_files.proofs.Cells.{file_is, no_file}
-use Rattle.hp_mount_files.proofs.NewKey.{keys_few, other_key}
+use Rattle.hp_mount_files.proofs.NewKey.{keys_few, no_pair, other_key}
 use Rattle.hp_mount_files.proofs.Views.{read_is, view}
 
 -- ---- lists
@@ -239,7 +239,7 @@ module _ (task number a n : ℕ) (sharing : Sharing) (reserving : Reserving) whe
             omega (arith, step, before, after, more, here, was, one);
       }
 
-      module _ (now : Noted) (grown : IsMore old now) (own : has_key task number now ≡ true) where
+      module _ (now : Noted) (grown : IsMoreByMap task number old now) (own : has_key task number now ≡ true) where
         map_noted : AreNoted now (labels_of (slice_set fs k g))
         map_noted = record {
           names = λ name e.
@@ -248,7 +248,7 @@ module _ (task number a n : ℕ) (sharing : Sharing) (reserving : Reserving) whe
               let after = sum_through (λ (q : Label). cond {A = ℕ} (has_label name q) 1 0) label_of (slice_set fs k g) in
               let same = ap (λ (q : Label). cond {A = ℕ} (has_label name q) 1 0 + 0) label_is in
               let here = ap (λ (f : NumberedFile). cond {A = ℕ} (has_label name (label_of f)) 1 0 + 0) at in
-              let none = is.noted.names name (grown.names name e) in
+              let none = is.noted.names name (grown.more.names name e) in
               omega (arith, step, before, after, same, here, none);
           keys = λ t m e.
               let step = sum_by-set (λ (f : NumberedFile). keys_in t m (label_of f)) fs k g no_file l in
@@ -256,9 +256,24 @@ module _ (task number a n : ℕ) (sharing : Sharing) (reserving : Reserving) whe
               let after = sum_through (keys_in t m) label_of (slice_set fs k g) in
               let more = keys_more t m in
               let here = ap (λ (f : NumberedFile). keys_in t m (label_of f)) at in
-              let none = is.noted.keys t m (grown.keys t m e) in
+              let none = is.noted.keys t m (grown.more.keys t m e) in
               let other = ap (λ b. cond {A = ℕ} b 1 0) (other_key task number now own t m (is_key t m (task, number)) refl e) in
               omega (arith, step, before, after, more, here, none, other);
+          no_name = λ name e.
+              let step = sum_by-set (λ (f : NumberedFile). cond {A = ℕ} (has_label name (label_of f)) 1 0) fs k g no_file l in
+              let before = sum_through (λ (q : Label). cond {A = ℕ} (has_label name q) 1 0) label_of fs in
+              let after = sum_through (λ (q : Label). cond {A = ℕ} (has_label name q) 1 0) label_of (slice_set fs k g) in
+              let same = ap (λ (q : Label). cond {A = ℕ} (has_label name q) 1 0 + 0) label_is in
+              let here = ap (λ (f : NumberedFile). cond {A = ℕ} (has_label name (label_of f)) 1 0 + 0) at in
+              grown.names name (is.noted.no_name name (omega (arith, step, before, after, same, here, e)));
+          no_key = λ t m e.
+              let step = sum_by-set (λ (f : NumberedFile). keys_in t m (label_of f)) fs k g no_file l in
+              let before = sum_through (keys_in t m) label_of fs in
+              let after = sum_through (keys_in t m) label_of (slice_set fs k g) in
+              let more = keys_more t m in
+              let here = ap (λ (f : NumberedFile). keys_in t m (label_of f)) at in
+              grown.keys t m (no_pair task number t m (cond {A = ℕ} (is_key t m (task, number)) 1 0) refl (omega (arith, step, before, after, more, here, e)))
+              (is.noted.no_key t m (omega (arith, step, before, after, more, here, e)));
         }
 
         pub map_files : (next : ℕ → ℕ) → ((q : ℕ) → next q ≡ tally q + cond (task == q) 1 0) → IsFiles now s more (maps + 1) next (slice_set fs k g)

@@ -3,6 +3,7 @@ use Rattle.std.proofs.Common.{◌≡◌, ℕ, ◌+◌, ◌<◌, ◌≤◌, Bool,
 use mir.Val.{bool_byte}
 use Rattle.std.specs.List.{count_by, filter, flat_map, sum_by}
 use Rattle.std.proofs.lemmas.Bool.{and_parts, eqb-true}
+use Rattle.std.proofs.lemmas.Bool.Decides.{nat_tests}
 use Rattle.std.proofs.lemmas.List.Sums.{sum_by-cons}
 use Rattle.hp_model.specs.Lists.{is_among}
 use Rattle.hp_model.specs.files.MakeMap.{numbers_of}
@@ -10,7 +11,7 @@ use Rattle.hp_model.specs.files.Mapping.{Mapping, is_of}
 use Rattle.hp_model.proofs.Counting.{count_cons}
 use Rattle.hp_model.proofs.Distinct.{is_among-append}
 use Rattle.hp_store.specs.Store.{Store}
-use Rattle.hp_mount_files.specs.Hints.{IsFiles, Noted, has_key}
+use Rattle.hp_mount_files.specs.Hints.{IsFiles, Noted, has_key, is_pair}
 use Rattle.hp_mount_files.specs.Keyed.{is_key, key_of, keys_in, label_of, labels_of, numbers_in}
 use Rattle.hp_mount_files.specs.Numbered.{NumberedFile, files_shown}
 use Rattle.hp_mount_files.specs.Places.{all_maps}
@@ -57,6 +58,17 @@ module _ (task number : ℕ) where
         let also = ap (λ q. sum_by (keys_in task q) (labels_of fs)) (eqb-true number m parts.1) in
         omega (arith, none, same, also)
     keys_few t m false e most = omega (arith, most)
+
+  -- a key is one or another
+  pub key_pair : (t m : ℕ) → is_key t m (task, number) ≡ false → is_pair t m (task, number) ≡ false
+  key_pair t m e = grind (arith, nat_tests, e)
+
+  pub no_pair : (t m k : ℕ) → k ≡ cond {A = ℕ} (is_key t m (task, number)) 1 0 → k ≡ 0 → is_pair t m (task, number) ≡ false
+  no_pair t m k is none = at (is_key t m (task, number)) refl
+    where
+      at : (b : Bool) → is_key t m (task, number) ≡ b → is_pair t m (task, number) ≡ false
+      at true e = (let one = ap (λ b. cond {A = ℕ} b 1 0 + 0) e in absurd (omega (arith, one, is, none)))
+      at false e = key_pair t m e
 
   -- a key that was not noted is another
   module _ (now : Noted) (own : has_key task number now ≡ true) where

@@ -1,5 +1,5 @@
 -- A file more, at which no number stands.
-use Rattle.std.proofs.Common.{◌≡◌, ℕ, zero, suc, ◌+◌, ◌<◌, ◌≤◌, true, false, cond, ⊎_elim, List, [], ◌∷◌, ◌++◌, length, refl, sym, ap, subst, ◌∙◌, arith}
+use Rattle.std.proofs.Common.{◌≡◌, ℕ, zero, suc, ◌+◌, ◌<◌, ◌≤◌, Bool, true, false, cond, ⊎_elim, List, [], ◌∷◌, ◌++◌, length, refl, sym, ap, subst, ◌∙◌, arith}
 use Rattle.std.specs.List.{All, count_by, sum_by}
 use Rattle.std.proofs.lemmas.Bool.{cases_lt}
 use Rattle.std.proofs.lemmas.List.{map-append}
@@ -74,7 +74,9 @@ module _ (old now : Noted) (s : Store) (more maps : ℕ) (tally : ℕ → ℕ) (
     })
 
     -- and they are noted
-    module _ (grown : IsMore old now) (name_known : (name : List ℕ) → has_noted name now ≡ false → has_label name own ≡ false) (keys_known : (t m : ℕ) → has_key t m now ≡ false → keys_in t m own ≡ 0)
+    module _ (grown : IsMore old now) (name_only : (name : List ℕ) → has_label name own ≡ false → has_noted name old ≡ false → has_noted name now ≡ false)
+        (key_only : (t m : ℕ) → keys_in t m own ≡ 0 → has_key t m old ≡ false → has_key t m now ≡ false)
+        (name_known : (name : List ℕ) → has_noted name now ≡ false → has_label name own ≡ false) (keys_known : (t m : ℕ) → has_key t m now ≡ false → keys_in t m own ≡ 0)
         (own_level : AreLevel f.maps) where
       noted : AreNoted now (labels_of gs)
       noted = subst (AreNoted now) (sym labels) (record {
@@ -88,7 +90,16 @@ module _ (old now : Noted) (s : Store) (more maps : ℕ) (tally : ℕ → ℕ) (
             let before = is.noted.keys t m (grown.keys t m e) in
             let last = keys_known t m e in
             omega (arith, step, before, last);
+        no_name = λ name e. no_name name e (has_label name own) refl (sum_by_push (λ (l : Label). cond {A = ℕ} (has_label name l) 1 0) (labels_of fs) own);
+        no_key = λ t m e.
+            let step = sum_by_push (keys_in t m) (labels_of fs) own in
+            key_only t m (omega (arith, step, e)) (is.noted.no_key t m (omega (arith, step, e)));
       })
+        where
+          no_name : (name : List ℕ) → count_by (has_label name) (labels_of fs ++ own ∷ []) ≡ 0 → (b : Bool) → has_label name own ≡ b
+              → count_by (has_label name) (labels_of fs ++ own ∷ []) ≡ count_by (has_label name) (labels_of fs) + cond {A = ℕ} (has_label name own) 1 0 → has_noted name now ≡ false
+          no_name name e true its step = (let one = ap (λ b. cond {A = ℕ} b 1 0 + 0) its in absurd (omega (arith, e, step, one)))
+          no_name name e false other step = name_only name other (is.noted.no_name name (omega (arith, e, step)))
 
       level : All (λ (x : NumberedFile). AreLevel x.maps) gs
       level = All-append (λ (x : NumberedFile). AreLevel x.maps) fs (f ∷ []) is.level

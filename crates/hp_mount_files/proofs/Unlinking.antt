@@ -1,5 +1,5 @@
 -- A file that loses its name, and goes where it has no maps.
-use Rattle.std.proofs.Common.{◌≡◌, ◌==◌, ℕ, zero, suc, ◌+◌, ◌<◌, ◌≤◌, nat_lt, ⊎_elim, Bool, true, false, cond, None, List, [], ◌∷◌, length, map, refl, sym, ap, subst, ◌∙◌, arith}
+use Rattle.std.proofs.Common.{◌≡◌, ◌==◌, ℕ, zero, suc, ◌+◌, ◌<◌, ◌≤◌, nat_lt, ⊎_elim, Bool, true, false, cond, Option, None, Some, List, [], ◌∷◌, length, map, refl, sym, ap, subst, ◌∙◌, arith}
 use Rattle.std.specs.Prelude.{slice_set, slice_index_or}
 use Rattle.std.specs.List.{All, count_by, filter, remove, sum_by}
 use Rattle.std.specs.Str.{bytes_eq}
@@ -21,7 +21,7 @@ use Rattle.hp_mount_files.specs.Dropping.{IsDropping, IsLeft}
 use Rattle.hp_mount_files.specs.Files.{edited_at, file_at}
 use Rattle.hp_mount_files.specs.Held.{IsHeld, in_cell, in_cells, in_file, in_files, more_in}
 use Rattle.hp_mount_files.specs.Hints.{AreNoted, IsFiles, IsMoreBut, Noted, has_name as has_noted}
-use Rattle.hp_mount_files.specs.Keyed.{Label, has_label, is_listed, key_of, keys_in, label_of, labels_of, maps_for}
+use Rattle.hp_mount_files.specs.Keyed.{Label, has_label, is_key, is_listed, is_name_of, key_of, keys_in, label_of, labels_of, maps_for}
 use Rattle.hp_mount_files.specs.Places.{IsNamed}
 use Rattle.hp_mount_files.specs.Level.{AreLevel}
 use Rattle.hp_mount_files.specs.Numbered.{NumberedFile, file_shown, files_shown, map_shown, numbered_at}
@@ -102,12 +102,28 @@ module _ (n later : Noted) (name : List ℕ) (grown : IsMoreBut name n later) (s
 
     -- the name that is forgotten is there no more
     still_noted : (ms : List Label) → ((other : List ℕ) → count_by (has_label other) ms ≤ count_by (has_label other) (labels_of fs)) →
-        count_by (has_label name) ms ≡ 0 → ((t m : ℕ) → sum_by (keys_in t m) ms ≤ sum_by (keys_in t m) (labels_of fs)) → AreNoted later ms
-    still_noted ms less gone keys = record {
+        count_by (has_label name) ms ≡ 0 → ((t m : ℕ) → sum_by (keys_in t m) ms ≡ sum_by (keys_in t m) (labels_of fs))
+        → ((other : List ℕ) → count_by (has_label other) ms + cond (has_label other (label_of x)) 1 0 ≡ count_by (has_label other) (labels_of fs)) → AreNoted later ms
+    still_noted ms less gone keys one_less = record {
       names = λ other e. either other e (bytes_eq name other) refl;
       keys = λ t m e. (let few = keys t m in let none = is.noted.keys t m (grown.keys t m e) in omega (arith, few, none));
+      no_name = λ other e. or (bytes_eq name other) other refl e;
+      no_key = λ t m e. grown.less.keys t m (is.noted.no_key t m (sym (keys t m) ∙ e));
     }
       where
+        -- another name is not the file's
+        unlike : (o : Option (List ℕ)) → is_name_of name o ≡ true → (other : List ℕ) → bytes_eq name other ≡ false → is_name_of other o ≡ false
+        unlike None own other apart = refl
+        unlike (Some own_name) own other apart =
+            ap (λ q. bytes_eq q other) ((bytes_eq-Decides own_name name).0 own) ∙ apart
+
+        or : (b : Bool) (other : List ℕ) → bytes_eq name other ≡ b → count_by (has_label other) ms ≡ 0 → has_noted other later ≡ false
+        or true other same e = ap (λ q. has_noted q later) (sym ((bytes_eq-Decides name other).0 same)) ∙ grown.gone
+        or false other apart e =
+            let step = one_less other in
+            let none = ap (λ b. cond {A = ℕ} b 1 0 + 0) (unlike x.name has_it other apart) in
+            grown.less.names other (is.noted.no_name other (omega (arith, e, step, none)))
+
         either : (other : List ℕ) → has_noted other later ≡ false → (b : Bool) → bytes_eq name other ≡ b → count_by (has_label other) ms ≡ 0
         either other e true same = ap (λ q. count_by (has_label q) ms) (sym ((bytes_eq-Decides name other).0 same)) ∙ gone
         either other e false apart = (let few = less other in let none = is.noted.names other (grown.names other apart e) in omega (arith, few, none))
@@ -159,7 +175,7 @@ module _ (n later : Noted) (name : List ℕ) (grown : IsMoreBut name n later) (s
         };
         noted = still_noted (labels_of gs) (λ other. (let less = names_less other in omega (arith, less)))
             (let less = names_less name in let most = is.keyed.names name in let own = ap (λ b. cond {A = ℕ} b 1 0 + 0) has_it in omega (arith, less, most, own))
-            (λ t m. (let same = keys_same (keys_in t m) (ap (keys_in t m) label_is) in omega (arith, same)));
+            (λ t m. keys_same (keys_in t m) (ap (keys_in t m) label_is)) names_less;
         level = level_set fs k x y within read (same_level x.maps y.maps (ap (λ (f : NumberedFile). f.maps) y_is)) is.level;
       }
 
@@ -250,7 +266,8 @@ module _ (n later : Noted) (name : List ℕ) (grown : IsMoreBut name n later) (s
         noted = still_noted (labels_of hs) (λ other. (let less = sum_left (λ (q : Label). cond {A = ℕ} (has_label other q) 1 0) in omega (arith, less)))
             (let less = sum_left (λ (q : Label). cond {A = ℕ} (has_label name q) 1 0) in let most = is.keyed.names name in
             let own = ap (λ b. cond {A = ℕ} b 1 0 + 0) has_it in omega (arith, less, most, own))
-            (λ t m. (let less = sum_left (keys_in t m) in omega (arith, less)));
+            (λ t m. (let less = sum_left (keys_in t m) in let none = ap (count_by (is_key t m)) no_keys in omega (arith, less, none)))
+            (λ other. sum_left (λ (q : Label). cond {A = ℕ} (has_label other q) 1 0));
         level = subst (All (λ (f : NumberedFile). AreLevel f.maps)) (sym hs_is) (all_left no_file (λ (f : NumberedFile). AreLevel f.maps) fs k is.level);
       }
 

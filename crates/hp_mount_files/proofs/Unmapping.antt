@@ -1,5 +1,5 @@
 -- Indices of one map leave it, and the map goes with its last one.
-use Rattle.std.proofs.Common.{◌≡◌, ◌≢◌, ℕ, zero, suc, ◌+◌, ◌-◌, ◌<◌, ◌≤◌, ◌^◌, ◌==◌, ◌||◌, nat_lt, Bool, true, false}
+use Rattle.std.proofs.Common.{◌≡◌, ◌≢◌, ℕ, zero, suc, ◌+◌, ◌-◌, ◌<◌, ◌≤◌, ◌^◌, ◌==◌, ◌&&◌, ◌||◌, nat_lt, Bool, true, false}
 use Rattle.std.proofs.Common.{not, cond, Option, None, Some, List, [], ◌∷◌, length, map, refl, sym, ap, subst, ◌∙◌, arith}
 use Rattle.std.specs.Prelude.{is_some, slice_index_or, slice_set}
 use Rattle.std.specs.List.{count_by, filter, list_any, remove, sum_by}
@@ -462,15 +462,41 @@ module _ (n later : Noted) (s t : Store) (more now maps : ℕ) (tally : ℕ → 
           let own = ap (λ c. cond {A = ℕ} c 1 0 + 0) m_is in
           omega (arith, through, same, step, all, here, was, one, left, bare, fewer, own)
 
+      -- the other maps keep theirs
+      keys_kept : (q i : ℕ) → is_pair q i (task, number) ≡ false → sum_by (keys_in q i) (labels_of hs) ≡ sum_by (keys_in q i) (labels_of fs)
+      keys_kept q i other =
+          let through = sum_through (keys_in q i) label_of hs in
+          let before = sum_through (keys_in q i) label_of fs in
+          let same = hs_sum (λ (f : NumberedFile). keys_in q i (label_of f)) (λ f out. keys_are task q i f ∙ ap (count_by (is_map q i)) (empty_file f out).0) in
+          let step = sum_by-set (λ (f : NumberedFile). keys_in q i (label_of f)) fs k y no_file l in
+          let here = ap (λ (f : NumberedFile). keys_in q i (label_of f)) x_is in
+          let all = keys_are task q i x in
+          let left = keys_are task q i y in
+          let bare = ap (λ (f : NumberedFile). count_by (is_map q i) f.maps) y_removed in
+          let fewer = sum_by-remove (λ (m : Mapping ℕ). cond {A = ℕ} (is_map q i m) 1 0) x.maps j no_mapping jl in
+          let its = ap (λ c. cond {A = ℕ} c 1 0 + 0) (unlike q i other) in
+          omega (arith, through, before, same, step, here, all, left, bare, fewer, its)
+        where
+          unlike : (q i : ℕ) → is_pair q i (task, number) ≡ false → is_map q i m ≡ false
+          unlike q i other =
+              let parts = and_parts (m.task == task) (m.number == number) m_is in
+              ap (λ w. (w == q) && (m.number == i)) (eqb-true m.task task parts.0) ∙ ap (λ w. (task == q) && (w == i)) (eqb-true m.number number parts.1) ∙ grind (arith, nat_tests, other)
+
       pub went_keeps : IsMoreButMap task number n later → (next : ℕ → ℕ) → ((q : ℕ) → next q ≡ tally q - cond (task == q) 1 0) → IsFiles later u last (maps - 1) next hs
       unfolding g
       went_keeps grown next next_is =
           left_keeps n s u more last maps tally fs hs is g went_is went_dropping counted (λ f. refl) (less task number a b) (λ f. refl)
           (keys_fewer task number a b) (left_level task number a b) later (maps - 1) next
           (left_noted n s u more last maps tally fs hs is g went_is went_dropping counted (λ f. refl) (less task number a b) (λ f. refl)
-          (keys_fewer task number a b) later grown.names (λ q i e. at q i e (is_pair q i (task, number)) refl))
+          (keys_fewer task number a b) later grown.names (λ q i e. at q i e (is_pair q i (task, number)) refl) grown.less (λ q i e. only q i e (is_pair q i (task, number)) refl))
           maps_left (λ q. (let left = tally_left q in let is = next_is q in omega (arith, left, is)))
         where
+          only : (q i : ℕ) → sum_by (keys_in q i) (labels_of hs) ≡ 0 → (c : Bool) → is_pair q i (task, number) ≡ c → has_key q i later ≡ false
+          only q i e true same =
+              let parts = and_parts (q == task) (i == number) same in
+              ap (λ w. has_key w i later) (eqb-true q task parts.0) ∙ ap (λ w. has_key task w later) (eqb-true i number parts.1) ∙ grown.gone
+          only q i e false apart = grown.less.keys q i (is.noted.no_key q i (sym (keys_kept q i apart) ∙ e))
+
           at : (q i : ℕ) → has_key q i later ≡ false → (c : Bool) → is_pair q i (task, number) ≡ c → sum_by (keys_in q i) (labels_of hs) ≡ 0
           at q i e true same =
               let parts = and_parts (q == task) (i == number) same in

@@ -1,5 +1,5 @@
 -- A child's maps. No public clause cites this module.
-use Rattle.std.specs.Prelude.{◌≡◌, ℕ, ◌+◌, ◌-◌, ◌++◌, ◌<◌, ◌≤◌, List, [], ◌∷◌, false, length, map, slice_set, vec_capacity}
+use Rattle.std.specs.Prelude.{◌≡◌, ℕ, ◌+◌, ◌-◌, ◌++◌, ◌<◌, ◌≤◌, ◌==◌, List, [], ◌∷◌, false, length, map, slice_set, vec_capacity}
 use Rattle.std.specs.Global.{Vec}
 use Rattle.std.specs.List.{count_by, filter, sum_by}
 use Rattle.hp_mapping.specs.Mapped.{has_copy}
@@ -8,7 +8,7 @@ use Rattle.hp_model.specs.files.Mapping.{Mapping, is_map, is_of, map_for}
 use Rattle.hp_store.specs.Store.{Store, held_count, holders_of, page_at}
 use Rattle.hp_mount_files.specs.Dropping.{HasHolders, at_node}
 use Rattle.hp_mount_files.specs.Held.{in_map, in_place, more_in}
-use Rattle.hp_mount_files.specs.Hints.{IsMore, Noted, has_key}
+use Rattle.hp_mount_files.specs.Hints.{IsMore, Noted, has_key, has_name}
 use Rattle.hp_mount_files.specs.Numbered.{NumberedFile, numbered_at, page_in}
 
 -- how many copies a map has
@@ -109,11 +109,14 @@ maps_of task f = count_by (is_of task) f.maps
 abbrev pub maps_named : (task number : ℕ) → NumberedFile → ℕ
 maps_named task number f = count_by (is_map task number) f.maps
 
--- so many maps of a task were noted
+-- so many maps of a task were noted, and nothing else
 pub record IsNoted (task : ℕ) (old new : Noted) (maps : ℕ) (named : ℕ → ℕ) : Type 0 where
   pub more : IsMore old new
   pub room : old.room ≤ new.room + maps
   pub noted : (number : ℕ) → has_key task number new ≡ false → named number ≡ 0
+  pub names : (name : List ℕ) → has_name name old ≡ false → has_name name new ≡ false
+  pub others : (other number : ℕ) → (other == task) ≡ false → has_key other number old ≡ false → has_key other number new ≡ false
+  pub only : (number : ℕ) → named number ≡ 0 → has_key task number old ≡ false → has_key task number new ≡ false
 
 -- a task's maps of a file were noted, or those of files
 abbrev pub HasNoted : ℕ → NumberedFile → Noted → Noted → Type 0

@@ -1,12 +1,13 @@
 -- Maps that leave files with their pages by number. No public clause cites this module.
-use Rattle.std.specs.Prelude.{◌≡◌, ℕ, ◌+◌, ◌≤◌, ◌||◌, ◌==◌, Bool, false, not, is_some, slice_set, min, Option, None, Some, List, length, map, if◌then◌else◌, nat_lt}
+use Rattle.std.specs.Prelude.{◌≡◌, ℕ, ◌+◌, ◌<◌, ◌≤◌, ◌||◌, ◌==◌, Bool, false, not, is_some, slice_set, min, Option, None, Some, List, length, map, if◌then◌else◌, nat_lt}
 use Rattle.std.specs.List.{count_by, filter, fold, remove, sum_by}
 use Rattle.hp_model.specs.files.Mapping.{Mapping, is_mapped, is_map, is_of, is_unconsumed, without_range}
 use Rattle.hp_model.specs.files.MountCounts.{is_waiting}
 use Rattle.hp_store.specs.Store.{Store}
 use Rattle.hp_mount_files.specs.Dropping.{IsDropping}
 use Rattle.hp_mount_files.specs.Held.{in_files, more_in}
-use Rattle.hp_mount_files.specs.Hints.{Noted, has_key, has_name, is_pair}
+use Rattle.hp_mount_files.specs.Hints.{IsMore, Noted, has_key, has_name, is_pair}
+use Rattle.hp_mount_files.specs.Forking.{maps_named}
 use Rattle.hp_mount_files.specs.Numbered.{NumberedFile, mapping_at, numbered_at, with_truncated}
 
 -- the lesser of a task and one that is known, if any
@@ -70,15 +71,24 @@ left_at map a b f =
 abbrev pub swept_at : ℕ → List NumberedFile → List NumberedFile
 swept_at k fs = if is_used (numbered_at fs k) then fs else remove fs k
 
--- of what was noted only maps of one task may be forgotten; or only one map. There is no less room
-pub record IsMoreButTask (task : ℕ) (old new : Noted) : Type 0 where
+-- one where the map is the task's of that number
+abbrev pub map_named : ℕ → Mapping ℕ → ℕ → ℕ
+map_named task m number = if is_map task number m then 1 else 0
+
+-- of what was noted only maps of one task are forgotten, and each whose number is counted is; or only one map is. Nothing is
+-- noted, and there is no less room
+pub record IsMoreButTask (task : ℕ) (named : ℕ → ℕ) (old new : Noted) : Type 0 where
   pub names : (name : List ℕ) → has_name name new ≡ false → has_name name old ≡ false
   pub keys : (other number : ℕ) → (other == task) ≡ false → has_key other number new ≡ false → has_key other number old ≡ false
+  pub gone : (number : ℕ) → 0 < named number → has_key task number new ≡ false
+  pub less : IsMore new old
   pub room : old.room ≤ new.room
 
 pub record IsMoreButMap (task number : ℕ) (old new : Noted) : Type 0 where
   pub names : (name : List ℕ) → has_name name new ≡ false → has_name name old ≡ false
   pub keys : (t n : ℕ) → is_pair t n (task, number) ≡ false → has_key t n new ≡ false → has_key t n old ≡ false
+  pub gone : has_key task number new ≡ false
+  pub less : IsMore new old
   pub room : old.room ≤ new.room
 
 -- all maps of a task left some files: so many maps and reservations went, and pages of which they were the last holders
@@ -88,4 +98,4 @@ pub record HasLeft (task : ℕ) (files ended : List NumberedFile) (old new : Not
   pub counted : more ≡ more_in now.pages
   pub waiting : reserves + sum_by file_owed ended ≡ sum_by file_owed files
   pub gone : maps + map_sum ended ≡ map_sum files
-  pub noted : IsMoreButTask task old new
+  pub noted : IsMoreButTask task (λ number. sum_by (maps_named task number) files) old new

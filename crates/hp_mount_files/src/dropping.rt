@@ -1,9 +1,9 @@
 //! What files and maps hold goes.
 ghost use Rattle.std.specs.Prelude.{◌≡◌, ℕ, ◌+◌, ◌<◌, ◌≤◌, ◌^◌, List, IsSome, drop, length, map, slice_index_or, slice_set};
-ghost use Rattle.std.specs.List.{sum_by};
+ghost use Rattle.std.specs.List.{count_by, sum_by};
 ghost use Rattle.hp_model.specs.files.File.{cell_punched};
 ghost use Rattle.hp_model.specs.declared.place.Place.TheVariants.{Gone};
-ghost use Rattle.hp_model.specs.files.Mapping.{copy_of, map_punched, without_range};
+ghost use Rattle.hp_model.specs.files.Mapping.{copy_of, is_map, map_punched, without_range};
 ghost use Rattle.hp_mapping.specs.Mapped.{reserves_in};
 ghost use Rattle.hp_model.specs.Lists.{edit_range};
 ghost use Rattle.hp_store.specs.Store.{dropped, holders_of, page_at};
@@ -11,7 +11,7 @@ ghost use Rattle.hp_mount_files.specs.Dropping.{HasHolders, IsDropping};
 ghost use Rattle.hp_mount_files.specs.Held.{in_cell, in_map, in_place, more_in};
 ghost use Rattle.hp_mount_files.specs.Numbered.{no_mapping};
 ghost use Rattle.hp_mount_files.specs.Taking.{robbed_at};
-ghost use Rattle.hp_mount_files.specs.Leaving.{IsMoreButTask, ended_for, owed};
+ghost use Rattle.hp_mount_files.specs.Leaving.{IsMoreButTask, ended_for, map_named, owed};
 
 use crate::hints::Hints;
 use hp_inode::Inode;
@@ -241,7 +241,7 @@ fn end_map_of<N: Naming>(
         store.new }
     ensures counted { more.new ≡ more_in store.new.pages }
     ensures reserves { result + owed map.new ≡ owed map.old }
-    ensures hints { IsMoreButTask task hints.old hints.new }
+    ensures hints { IsMoreButTask task (map_named task map.old) hints.old hints.new }
 {
     if map.task() != task {
         return 0;
@@ -271,7 +271,8 @@ pub(crate) fn end_maps_of<N: Naming>(
         store.old store.new }
     ensures counted { more.new ≡ more_in store.new.pages }
     ensures reserves { result + sum_by owed maps.new ≡ sum_by owed maps.old }
-    ensures hints { IsMoreButTask task hints.old hints.new }
+    ensures hints { IsMoreButTask task (λ number. count_by (is_map task number) maps.old)
+        hints.old hints.new }
 {
     let mut reserves = 0;
     for map in maps.iter_mut() {

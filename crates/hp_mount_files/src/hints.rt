@@ -1,6 +1,6 @@
 //! What files and maps are found by.
-ghost use Rattle.std.specs.Prelude.{◌≡◌, ◌+◌, ◌<◌, ◌≤◌, false, slice_get, true, IfNone, IsOk, IsTrue, OnErr, OnOk, Some};
-ghost use Rattle.hp_mount_files.specs.Hints.{IsMore, IsMoreBut, has_key, has_name};
+ghost use Rattle.std.specs.Prelude.{◌≡◌, ◌+◌, ◌<◌, ◌≤◌, false, slice_get, true, [], IfNone, IsOk, IsTrue, OnErr, OnOk, Some};
+ghost use Rattle.hp_mount_files.specs.Hints.{AreSame, IsMoreBut, IsMoreByMap, IsMoreByName, has_key, has_name};
 ghost use Rattle.hp_mount_files.specs.Leaving.{IsMoreButMap};
 
 use crate::file_tag::FileTag;
@@ -15,7 +15,8 @@ use std::hash::Hash;
 use std::marker::Model;
 
 /// Where each file stood, with its tag, by its name, and each map by its task and number. What is found so is looked at, and
-/// never trusted; but what was never noted, or was forgotten, is not there. Contracts see for how many maps more there is room.
+/// never trusted; but what was never noted, or was forgotten, is not there, and what is gone is forgotten. Contracts see what
+/// is noted, and for how many maps more there is room.
 #[derive(Drop)]
 pub(crate) struct Hints {
     files: IndexMap<Tagged<FileName, FileTag>, ()>,
@@ -46,7 +47,10 @@ fn set_tag<K: Eq + Hash, T: Copy>(table: &IndexMap<Tagged<K, T>, ()>, at: usize,
 
 impl Hints {
     /// Nothing is noted. Takes no memory.
-    pub(crate) fn new(alloc: Global) -> Self {
+    pub(crate) fn new(alloc: Global) -> Self
+        ensures names { result.names ≡ [] }
+        ensures keys { result.keys ≡ [] }
+    {
         Hints {
             files: IndexMap::new(alloc),
             found: Cell::new(0),
@@ -81,7 +85,7 @@ impl Hints {
 
     /// Notes a file's tag. Refused where memory is, and then nothing changes.
     pub(crate) fn note_file(&mut self, name: FileName, tag: FileTag) -> Result<(), AllocError>
-        ensures more { IsMore self.old self.new }
+        ensures more { IsMoreByName name self.old self.new }
         ensures err { OnErr result (self.new ≡ self.old) }
         ensures noted { OnOk result (has_name name self.new ≡ true) }
     {
@@ -117,7 +121,7 @@ impl Hints {
 
     /// Notes a map's tag. Refused where memory is, and then nothing changes but the room; never where there is room.
     pub(crate) fn note_map(&mut self, task: u64, number: u64, tag: MapTag) -> Result<(), AllocError>
-        ensures more { IsMore self.old self.new }
+        ensures more { IsMoreByMap task number self.old self.new }
         ensures err { OnErr result (self.new ≡ record self.old { room = self.new.room }) }
         ensures noted { OnOk result (has_key task number self.new ≡ true) }
         ensures succeeds { 0 < self.old.room → IsOk result }
@@ -141,7 +145,7 @@ impl Hints {
 
     /// Makes room for so many maps more. Refused where memory is.
     pub(crate) fn reserve(&mut self, maps: u64) -> Result<(), AllocError>
-        ensures more { IsMore self.old self.new }
+        ensures same { AreSame self.old self.new }
         ensures ok { OnOk result (maps ≤ self.new.room) }
     {
         self.maps.reserve(maps as usize)?;

@@ -3,3 +3,4 @@ pub mod TablesKept
 pub mod Acting
 pub mod SlotsKept
 pub mod Unmounting
+pub mod Naming

@@ -166,3 +166,12 @@ pub went_acted : (full : Type 0) (size k : ℕ) (old : Slot) (e : SlotEvent) (re
     is_trace_full reply ≡ false → Went size k old e reply asked new → IsActedOr full size k old e reply asked new
 went_acted full size k old e reply asked new is went =
     done_put (is_trace_full reply) ((new ≡ old) × (asked ≡ None) × full × MayEnter (λ c. slot_event size k c old e) old) (Went size k old e reply asked new) is went
+
+-- what keeps no entries has none
+pub kept_none : (o : Option (List SlotEntry)) → is_some o ≡ false → o ≡ None
+kept_none None e = refl
+kept_none (Some es) e = cc
+
+pub none_added : (o : Option (List SlotEntry)) (e : SlotEntry) → o ≡ None → o ≡ added o e
+none_added None e is = refl
+none_added (Some es) e is = cc

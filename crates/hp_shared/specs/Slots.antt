@@ -1,5 +1,7 @@
 -- What a slot under its lock is to a contract, and what an event there does.
-use Rattle.std.specs.Prelude.{◌≡◌, ◌⊎◌, ℕ, zero, suc, ◌≤◌, Bool, true, false, Option, None, Some, Err, List}
+use Rattle.hp_model.specs.declared.answer.Answer.TheVariants.{Names}
+use Rattle.hp_model.specs.declared.refusal.Refusal.{Refusal}
+use Rattle.std.specs.Prelude.{Result, ◌≡◌, ◌⊎◌, ℕ, zero, suc, ◌≤◌, Bool, true, false, Option, None, Some, Ok, Err, List}
 use Rattle.std.specs.Bool.{MatchBool}
 use Rattle.hp_model.specs.declared.entry.Asked.{Asked}
 use Rattle.hp_model.specs.declared.entry.Part.TheVariants.{Slot as AtSlot}
@@ -83,3 +85,8 @@ IsSlotEvent full size old new e reply asked receipt =
 abbrev pub AreNoted : Option (List SlotEntry) → SlotEvent → Option (SlotEvent × SlotEvent) → Type 0
 AreNoted entries e None = entries ≡ None
 AreNoted entries e (Some both) = (both.0 ≡ e) × (both.1 ≡ e)
+
+-- the reply with a list of names, or with its refusal
+abbrev pub names_reply : Result (List (List ℕ)) Refusal → Reply
+names_reply (Ok names) = Ok (Names names)
+names_reply (Err r) = Err r

@@ -3,6 +3,7 @@
 
 mod locked_slot;
 mod mounting;
+mod names;
 mod slot;
 mod table;
 mod table_told;

@@ -1,7 +1,7 @@
 //! A slot with its trail.
 ghost use Rattle.std.specs.Prelude.{◌≡◌, ◌<◌, ◌≤◌, ◌==◌, Ok, ℕ, [], length, true, false, None, Some, is_some};
 ghost use Rattle.hp_model.specs.declared.answer.Answer.TheVariants.{Done};
-ghost use Rattle.hp_model.specs.declared.event.SlotEvent.TheVariants.{ExitMaps, ForkMaps, Mount as Mounting, Umount};
+ghost use Rattle.hp_model.specs.declared.event.SlotEvent.TheVariants.{ExitMaps, ForkMaps, Ls, Mount as Mounting, Umount};
 ghost use Rattle.hp_model.specs.declared.entry.Part.TheVariants.{Slot as AtSlot};
 ghost use Rattle.hp_model.specs.declared.event.Event.TheVariants.{Slot as OnSlot};
 ghost use Rattle.hp_model.specs.declared.event.SlotEvent.{SlotEvent as SlotEventValue};
@@ -17,14 +17,17 @@ ghost use Rattle.hp_locked.specs.Views.{IsFresh};
 ghost use Rattle.hp_mount.specs.Event.{event_of};
 ghost use Rattle.hp_store.specs.Store.{Store as StoreValue, page_at};
 ghost use Rattle.hp_subpool.specs.Subpool.{Subpool as ShareValue};
-ghost use Rattle.hp_shared.specs.Slots.{AreNoted, IsSlotEvent, IsSlotEventDone, IsSlotTrail, slot_start};
+ghost use Rattle.hp_shared.specs.Slots.{AreNoted, IsSlotEvent, IsSlotEventDone, IsSlotTrail, names_reply, slot_start};
 ghost use Rattle.hp_trail.specs.Keeping.{added, has_room, one_less};
 
 use crate::mounting::{mount as open, unmount};
+use crate::names::{Listing, list, list_thrice};
 use crate::slot::{act, copied, fork, is_full, leave};
 use hp_locked::SessionDoor;
+use hp_model::answer::Reply;
 use hp_model::entry::{Asked, Part, Receipt, SlotEntry};
 use hp_model::event::{Event, SlotEvent};
+use hp_model::names::Names;
 use hp_model::naming::Naming;
 use hp_model::refusal::Refusal;
 use hp_model::told::Told;
@@ -281,6 +284,61 @@ impl<N: Naming, T: Trail<SlotEntry>> Slot<N, T> {
         let receipt = note(trail, *number, noted, door.asked(), &told);
         (told, receipt)
     }
+
+    /// The names of the slot's files, in order of creation, and the receipt where entries are kept. Refused as NoSuchSlot, or
+    /// as OutOfMemory where the list, or its copy for an entry or a receipt, has no room. Answered TraceFull, and then
+    /// nothing changed, where the trail has no room.
+    pub fn names(&mut self, alloc: Global) -> (Result<Names, Refusal>, Option<Receipt>)
+        ensures done { IsSlotEvent ⊥ N.page_bytes self.old self.new Ls (names_reply result.0) None
+            result.1 }
+    {
+        let Slot {
+            number,
+            mount,
+            trail,
+        } = self;
+        if !trail.has_room(false) {
+            return (Err(Refusal::TraceFull), None);
+        }
+        if !trail.is_kept() {
+            return (list(mount), None);
+        }
+        let Listing {
+            names,
+            reply,
+            again,
+        } = list_thrice(alloc, mount);
+        let receipt = note_names(trail, *number, reply, again);
+        (names, Some(receipt))
+    }
+}
+
+// Notes a list of names, and makes its receipt.
+fn note_names<T: Trail<SlotEntry>>(trail: &mut T, slot: u64, reply: Reply, again: Reply) -> Receipt
+    requires room { has_room true (T.left trail.old) (T.extra trail.old) ≡ true }
+    requires kept { is_some (T.entries trail.old) ≡ true }
+    ensures entries { T.entries trail.new ≡ added (T.entries trail.old)
+        (record { event = Ls; reply = reply; asked = None }) }
+    ensures left { T.left trail.new ≡ one_less (T.left trail.old) }
+    ensures extra { T.extra trail.new ≡ T.extra trail.old }
+    ensures receipt { IsReceipt (T.entries trail.old) (AtSlot slot) (OnSlot slot Ls) again
+        (Some result) }
+{
+    let receipt = Receipt {
+        part: Part::Slot(slot),
+        place: trail.place(),
+        event: Event::Slot {
+            slot,
+            event: SlotEvent::Ls,
+        },
+        reply: again,
+    };
+    trail.push(SlotEntry {
+        event: SlotEvent::Ls,
+        reply,
+        asked: None,
+    });
+    receipt
 }
 
 // Notes an event with its reply and the section that it entered, where entries are kept, and makes its receipt.

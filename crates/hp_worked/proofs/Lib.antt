@@ -8,4 +8,5 @@ pub mod WorkedWithoutMemory
 pub mod WorkedLines
 pub mod WorkedPromises
 pub mod WorkedSound
+pub mod WorkedRecord
 pub mod Worked

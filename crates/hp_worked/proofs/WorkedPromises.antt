@@ -34,13 +34,13 @@ first_bytes s file map index = take 2 (seen_in s 0 file map index)
 
 -- ---- a shared map: two files, one stored into
 
-abbrev shared : State
+abbrev pub shared : State
 shared =
     after_all machine
     (Nr 2 ∷ Connect 1 0 ∷ Create 0 (codes "a") ∷ Create 0 (codes "b") ∷ Map 1 0 (codes "a") 0 1 Shared Reserve
     ∷ Map 1 0 (codes "b") 0 1 Shared NoReserve ∷ Map 1 0 (codes "b") 0 1 Shared NoReserve ∷ [])
 
-abbrev into_first : Step
+abbrev pub into_first : Step
 into_first = Store 1 0 1 0 1 (9 ∷ [])
 
 reserved_there : is_backed_step shared into_first ≡ true
@@ -64,13 +64,13 @@ both_reached = refl
 
 -- ---- a private map and its child: the owner takes the copy back
 
-abbrev forked : State
+abbrev pub forked : State
 forked = after_all machine (Nr 2 ∷ Connect 1 0 ∷ Create 0 (codes "a") ∷ Map 1 0 (codes "a") 0 2 Private Reserve ∷ Store 1 0 1 0 0 (5 ∷ []) ∷ Fork 1 2 ∷ [])
 
 abbrev by_owner : Step
 by_owner = Store 1 0 1 0 0 (6 ∷ [])
 
-abbrev robbed : State
+abbrev pub robbed : State
 robbed = (plain_step forked by_owner).1
 
 owner_is_backed : is_backed_step forked by_owner ≡ true
@@ -102,10 +102,10 @@ child_is_refused = refl
 
 -- ---- what the promises refuse: a pool without the pages, wrong numbers, a refusal that leaves something, other limits
 
-abbrev mounted : State
+abbrev pub mounted : State
 mounted = after_all machine (Nr 4 ∷ Mount 2 (codes "size=3K,min_size=2K") ∷ Connect 1 0 ∷ Create 2 (codes "a") ∷ Map 1 2 (codes "a") 0 3 Shared Reserve ∷ [])
 
-abbrev without_pages : State
+abbrev pub without_pages : State
 without_pages = record mounted { nodes = map (λ (n : Node). record n { total = 0; surp = 0 }) mounted.nodes }
 
 minimum_there : nat_le (least_of (slot_at mounted 2) + committed_pages (with_slot mounted 2 None)) (total_of (pool_of mounted).nodes.rows) ≡ true
@@ -290,7 +290,7 @@ truncated_map_shows_zeros :
     take 2 (seen_over forked (Truncate 0 (codes "a") 0) (Ok Done) 0 0 1 0 (seen_in forked 0 0 1 0)) ≡ take 2 (seen_in (plain_step forked (Truncate 0 (codes "a") 0)).1 0 0 1 0)
 truncated_map_shows_zeros = refl
 
-abbrev unmapped_first : Step
+abbrev pub unmapped_first : Step
 unmapped_first = Unmap 1 0 1 0 1
 
 unmap_shows_the_file : take 2 (seen_over forked unmapped_first (Ok Done) 0 0 0 0 (seen_in forked 0 0 0 0)) ≡ take 2 (seen_in (plain_step forked unmapped_first).1 0 0 0 0)
@@ -308,7 +308,7 @@ whole_is_the_end = refl
 
 -- ---- copies that an owner takes back: only at the index of its write, only from other maps, and it keeps its own
 
-abbrev spot_or : Option Spot → Spot
+abbrev pub spot_or : Option Spot → Spot
 spot_or None = record { file_no = 99; file = new_file None; map_no = 99; map = no_map }
 spot_or (Some s) = s
 
@@ -320,13 +320,13 @@ abbrev taken : State
 taken = (plain_step sharing by_owner).1
 
 -- the file's map at this place is another
-abbrev with_map_of : (map : ℕ) → MapOf → State → State
+abbrev pub with_map_of : (map : ℕ) → MapOf → State → State
 with_map_of map x t = elim (slot_at t 0) [ None ↦ t | Some m ↦ with_slot t 0 (Some (with_file m 0 (with_map (file_in m 0) map x))) ]
 
-abbrev parent_in : State → Spot
+abbrev pub parent_in : State → Spot
 parent_in t = spot_or (map_named t 0 1 1)
 
-abbrev child_in : State → Spot
+abbrev pub child_in : State → Spot
 child_in t = spot_or (map_named t 0 2 1)
 
 child_lost_its_copy : copy_of (place_at (child_in taken).map 0) ≡ None

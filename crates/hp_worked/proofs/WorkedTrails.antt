@@ -1,8 +1,10 @@
 -- Trails made by hand, and receipts that join them or do not, by computation.
-use Rattle.std.proofs.Common.{◌≡◌, ◌≢◌, inl, inr, ℕ, zero, suc, ◌<◌, ◌≤◌, Bool, true, false, Option, None, Some, Ok, List, [], ◌∷◌, refl, ap, arith}
+use Rattle.std.proofs.Common.{◌≡◌, ◌≢◌, inl, inr, ℕ, zero, suc, ◌<◌, ◌≤◌, Bool, true, false, Option, None, Some, Ok, List, [], ◌∷◌, refl, ap, ◌∙◌, arith, is_some}
+use Rattle.std.specs.Option.{option_map, option_and_then}
 use Rattle.std.specs.List.{All, slice_get, slice_index_or}
 use Rattle.std.proofs.lemmas.List.Elements.{All-cons, All-nil}
 use Rattle.hp_model.specs.declared.answer.Answer.TheVariants.{Done, Home, MapNo, Number}
+use Rattle.hp_model.specs.declared.entry.Asked.{Asked}
 use Rattle.hp_model.specs.declared.entry.Part.{Part}
 use Rattle.hp_model.specs.declared.entry.Part.TheVariants.{Tasks, Slot as AtSlot, Pool as AtPool}
 use Rattle.hp_model.specs.declared.entry.PoolEntry.{PoolEntry}
@@ -17,7 +19,7 @@ use Rattle.hp_model.specs.declared.event.SlotEvent.TheVariants.{Create, Map as M
 use Rattle.hp_model.specs.declared.event.TableEvent.TheVariants.{Add, Find}
 use Rattle.hp_model.specs.declared.step.Sharing.TheVariants.{Shared}
 use Rattle.hp_model.specs.declared.step.Reserving.TheVariants.{Reserve}
-use Rattle.hp_model.specs.threads.Differ.{IsBefore, Differ, Has, entry_at}
+use Rattle.hp_model.specs.threads.Differ.{Asks, IsBefore, Differ, Has, LostSection, SharedSection, entry_at}
 use Rattle.hp_model.specs.files.File.{with_file, new_file}
 use Rattle.hp_model.specs.threads.JointRun.{keep, numbered, slot_part, told, Trails, slot_trail, Entry, InTasks, InSlot, InPool, Item, IsThere, Joins, AreRuns, IsJointRun}
 use Rattle.hp_model.specs.threads.LocalRun.{IsLocalRun}
@@ -252,3 +254,51 @@ in_a_circle = inr (inr (inr (inr (inr (inr (record { set = of_tasks; part = Task
     each Tasks (suc (suc i)) is there = cc
     each (AtSlot k) i is there = cc
     each AtPool i is there = cc
+
+-- ---- a section that two entries have, and one that none has
+
+-- the map's event stands twice, with one section
+abbrev twice_on_the_slot : Trails
+twice_on_the_slot = record (trails 1 1) { slots = (create_a ∷ map_a 1 ∷ map_a 1 ∷ []) ∷ [] }
+
+abbrev asked_at : ℕ → Asked
+asked_at place = record { place = place; section = Grant 0 1; answer = granted_at 0 }
+
+section_of_two : SharedSection twice_on_the_slot
+section_of_two = record {
+  slot = 0;
+  place = 1;
+  asked = asked_at 1;
+  slot' = 0;
+  place' = 2;
+  asked' = asked_at 1;
+  asks = record { entry = map_a 1; there = refl; asks = refl };
+  asks' = record { entry = map_a 1; there = refl; asks = refl };
+  apart = λ same. (let wrong : 1 ≡ 2 = same.1 in absurd (omega (arith, wrong)));
+  same = refl;
+}
+
+pub shared_section : Differ twice_on_the_slot sessions
+shared_section = inr (inl section_of_two)
+
+-- the pool has a grant more than the slots asked for
+abbrev one_grant_more : Trails
+one_grant_more = record (trails 1 1) { pool = nr_four ∷ OfSlot (Grant 0 1) (granted_at 0) ∷ OfSlot (Grant 0 1) (granted_at 0) ∷ [] }
+
+section_of_none : LostSection one_grant_more
+section_of_none = record { place = 2; section = Grant 0 1; answer = granted_at 0; there = refl; lost = λ slot i asked asks same. not_there slot i asked asks same }
+  where
+    not_there : (slot i : ℕ) (asked : Asked) → Asks one_grant_more slot i asked → asked.place ≡ 2 → ⊥
+    not_there zero zero asked asks same = no_section (asks.entry) asks.there asks.asks
+      where
+        no_section : (e : SlotEntry) → Some create_a ≡ Some e → e.asked ≡ Some asked → ⊥
+        no_section e there is = (let wrong : false ≡ true = ap (λ o. is_some (option_and_then (λ (x : SlotEntry). x.asked) o)) there ∙ ap is_some is in cc)
+    not_there zero (suc zero) asked asks same =
+        let place : Some 1 ≡ Some asked.place =
+        ap (λ o. option_map (λ (a : Asked). a.place) (option_and_then (λ (x : SlotEntry). x.asked) o)) asks.there ∙ ap (option_map (λ (a : Asked). a.place)) asks.asks in
+        let one : 1 ≡ asked.place = cc in absurd (omega (arith, one, same))
+    not_there zero (suc (suc i)) asked asks same = (let wrong : false ≡ true = ap is_some asks.there in cc)
+    not_there (suc slot) i asked asks same = (let wrong : false ≡ true = ap is_some asks.there in cc)
+
+pub lost_section : Differ one_grant_more sessions
+lost_section = inr (inr (inl section_of_none))

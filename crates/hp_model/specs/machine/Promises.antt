@@ -1,6 +1,6 @@
 -- What the machine promises of each step.
 use Rattle.std.specs.Prelude.{◌≡◌, ◌≢◌, ◌⊎◌, ℕ, ◌+◌, ◌<◌, ◌≤◌, ◌&&◌, ◌||◌, ◌==◌, Bool, true, false, not, Option}
-use Rattle.std.specs.Prelude.{None, Some, is_some, option_map, Ok, Err, List, ◌++◌, length, take, drop, if◌then◌else◌, nat_le, nat_lt}
+use Rattle.std.specs.Prelude.{None, Some, is_some, option_map, Ok, Err, List, ◌++◌, length, max, take, drop, if◌then◌else◌, nat_le, nat_lt}
 use Rattle.std.specs.Bool.{MatchBool}
 use Rattle.std.specs.List.{count_by, filter_map}
 use Rattle.std.specs.Str.{bytes_eq}
@@ -10,10 +10,11 @@ use Rattle.hp_model.specs.declared.event.Event.{Event}
 use Rattle.hp_model.specs.declared.event.Event.TheVariants.{Slot as OnSlot}
 use Rattle.hp_model.specs.declared.event.SlotEvent.TheVariants.{Mount as MountEvent}
 use Rattle.hp_model.specs.declared.refusal.Refusal.{Refusal}
-use Rattle.hp_model.specs.declared.refusal.Refusal.TheVariants.{NoPages, MountFull, OutOfMemory}
+use Rattle.hp_model.specs.declared.refusal.Refusal.TheVariants.{OutOfMemory}
 use Rattle.hp_model.specs.declared.step.Intent.{Intent}
 use Rattle.hp_model.specs.declared.step.Intent.TheVariants.{Read, Write}
 use Rattle.hp_model.specs.declared.place.Place.{Place}
+use Rattle.hp_model.specs.declared.place.Place.TheVariants.{Gone}
 use Rattle.hp_model.specs.declared.step.Reserving.{Reserving}
 use Rattle.hp_model.specs.declared.step.Sharing.{Sharing}
 use Rattle.hp_model.specs.declared.step.Step.{Step}
@@ -25,8 +26,9 @@ use Rattle.hp_model.specs.files.CopyWrite.{holds}
 use Rattle.hp_model.specs.files.File.{File, cell_at, has_page, is_entered, new_file}
 pub use Rattle.hp_model.specs.files.File.{file_in, map_in}
 use Rattle.hp_model.specs.files.GiveBack.{without_task}
+use Rattle.hp_model.specs.machine.Gone.{IsGone}
 use Rattle.hp_model.specs.machine.Machine.{committed_pages, counts_in, pool_of}
-use Rattle.hp_model.specs.files.MakeMap.{mapped, new_map}
+use Rattle.hp_model.specs.files.MakeMap.{mapped, new_map, reserves}
 pub use Rattle.hp_model.specs.files.Mapping.{no_map}
 use Rattle.hp_model.specs.files.Mapping.{Map, copy_of, is_map, is_mapped, is_shared, place_at, without_range}
 use Rattle.hp_model.specs.files.MountCounts.{usage_of}
@@ -36,12 +38,15 @@ use Rattle.hp_model.specs.machine.Plan.{Reply, Slot}
 use Rattle.hp_model.specs.files.Reserved.{is_reserved}
 use Rattle.hp_model.specs.pool.Resize.{node_counts}
 use Rattle.hp_model.specs.machine.Run.{RunsBy}
+use Rattle.hp_model.specs.machine.Settings.{IsSet, Mounts, only_reads}
 use Rattle.hp_model.specs.machine.Settled.{AreCounted}
 use Rattle.hp_model.specs.machine.SlotEvent.{bytes_answer, file_named}
 use Rattle.hp_model.specs.files.Spot.{Spot, spot}
 use Rattle.hp_model.specs.machine.State.{State, slot_at, with_slot}
 use Rattle.hp_model.specs.machine.Step.{IsStep}
 use Rattle.hp_model.specs.machine.Table.{home_of}
+pub use Rattle.hp_model.specs.machine.Tests.{is_cut_off, is_for_pages}
+use Rattle.hp_model.specs.machine.Tests.{MeetsTests}
 use Rattle.hp_model.specs.files.Value.{shown, value}
 
 abbrev pub spot_on : Slot → (task number : ℕ) → Option Spot
@@ -70,23 +75,12 @@ is_backed_step s (Load task slot number i offset count) = is_backed Read (map_na
 is_backed_step s (Store task slot number i offset bytes) = is_backed Write (map_named s slot task number) i
 is_backed_step s other = false
 
--- a refusal for want of a huge page
-abbrev pub is_for_pages : Refusal → Bool
-is_for_pages NoPages = true
-is_for_pages MountFull = true
-is_for_pages other = false
-
 -- refused so
 abbrev pub wants_page : Reply → Bool
 wants_page (Ok a) = false
 wants_page (Err r) = is_for_pages r
 
 -- ---- accesses that lost their copy to an owner
-
--- the map is private and marked, and has no copy there
-abbrev pub is_cut_off : Option Spot → ℕ → Bool
-is_cut_off None i = false
-is_cut_off (Some s) i = not (is_shared s.map.sharing) && (s.map.unmapped && not (is_some (copy_of (place_at s.map i))))
 
 abbrev pub is_cut_off_step : State → Step → Bool
 is_cut_off_step s (Fault task slot number i intent) = is_cut_off (map_named s slot task number) i
@@ -363,6 +357,57 @@ Makes s (Anon task n sharing reserving) (Ok (MapNo number)) t = IsNewAnon (slot_
 Makes s (Anon task n sharing reserving) (Ok other) t = ⊥
 Makes s step reply t = Unit {0}
 
+-- ---- what a map reserves
+
+abbrev pub pages_of_file : Option (ℕ × File) → ℕ
+pages_of_file None = 0
+pages_of_file (Some f) = length f.1.cells
+
+-- the map's file is as long as it was, or as long as the range from a on needs, where that is longer; and if the map reserves, each
+-- index of the range is reserved to it
+pub record IsRange (s : Spot) (old a n : ℕ) (reserving : Reserving) : Type 0 where
+  pub pages : length s.file.cells ≡ max old (a + n)
+  pub reserved : reserves reserving ≡ true → (i : ℕ) → is_in a (a + n) i ≡ true → is_reserved s.file s.map i ≡ true
+
+abbrev pub HasRange : Option Spot → (old a n : ℕ) → Reserving → Type 0
+HasRange None old a n reserving = ⊥
+HasRange (Some s) old a n reserving = IsRange s old a n reserving
+
+-- a map that is answered has its range
+abbrev pub Ranges : State → Step → Reply → State → Type 0
+Ranges s (MapStep task k name a n sharing reserving) (Ok (MapNo number)) t =
+    HasRange (map_named t k task number) (pages_of_file (named_on (slot_at s k) name)) a n reserving
+Ranges s (Anon task n sharing reserving) (Ok (MapNo number)) t = HasRange (map_named t 0 task number) 0 0 n reserving
+Ranges s step reply t = Unit {0}
+
+-- ---- what an unmap leaves
+
+-- the map, p before and q after, has its places as they were, copies and reservations with them, but for those that are cut; its file has all its cells
+abbrev pub IsCutTo : (cut : Bool) → (from to : ℕ) → (p q : Spot) → Type 0
+IsCutTo cut from to p q =
+    ((i : ℕ) → place_at q.map i ≡ (if cut && is_in from to i then Gone else place_at p.map i)) × (q.file.cells ≡ p.file.cells)
+
+-- an unmap cuts the range from the map that it names, and nothing from any other
+abbrev pub Unmaps : State → Step → Reply → State → Type 0
+Unmaps s (UnmapStep owner k gone from to) (Ok a) t =
+    (task number : ℕ) (p : Spot) → is_ended_number s (UnmapStep owner k gone from to) (Ok a) k task number ≡ false → map_named s k task number ≡ Some p
+    → (q : Spot) × (map_named t k task number ≡ Some q) × IsCutTo ((task == owner) && (number == gone)) from to p q
+Unmaps s step reply t = Unit {0}
+
+-- ---- what a fork and an exit leave
+
+-- every map of other tasks is as it was, with its copies, marks and reservations, and its file has all its cells
+abbrev pub AreWhole : (gone : ℕ) → (s t : State) → Type 0
+AreWhole gone s t =
+    (slot task number : ℕ) (p : Spot) → (gone == task) ≡ false → map_named s slot task number ≡ Some p
+    → (q : Spot) × (map_named t slot task number ≡ Some q) × (q.map ≡ p.map) × (q.file.cells ≡ p.file.cells)
+
+-- an exit and a fork leave whole what is not the task's, or the child's
+abbrev pub LeavesWhole : State → Step → State → Type 0
+LeavesWhole s (Exit gone) t = AreWhole gone s t
+LeavesWhole s (Fork parent child) t = AreWhole child s t
+LeavesWhole s step t = Unit {0}
+
 -- ---- what a refusal leaves
 
 -- a mount that is refused memory after its grant: the nodes may then be as after the grant and its giving back
@@ -434,6 +479,8 @@ pub record IsPromised (s : State) (step : Step) (reply : Reply) (t : State) : Ty
   pub answers : Tells s step reply
   -- what a name and a map's number mean, once they are made
   pub makes : Makes s step reply t
+  -- and that a map which reserves has each index of its range reserved, in a file that is long enough
+  pub ranges : Ranges s step reply t
   -- a refused step leaves the whole machine as it was
   pub refused : LeavesAll s step reply t
   -- each name keeps its file, which shows what it showed, but for what a step stores, cuts off or punches
@@ -449,6 +496,20 @@ pub record IsPromised (s : State) (step : Step) (reply : Reply) (t : State) : Ty
       → SameFiles (p.file_no == o.file_no) (map_named t slot a.0 a.1) (map_named t slot b.0 b.1)
   -- an access through a marked map is refused where it has no copy
   pub cut_off : is_cut_off_step s step ≡ true → is_refused reply ≡ true
+  -- what the step makes of tasks, nr and overcommit, and nothing else does
+  pub settings : IsSet s step reply t
+  -- a mount has the limits that its options mean
+  pub mounted : Mounts s step reply t
+  -- an unmap takes its range from the map that it names, and leaves all else that is reserved and mapped
+  pub unmaps : Unmaps s step reply t
+  -- a fork and an exit leave every map of other tasks as it was
+  pub whole : LeavesWhole s step t
+  -- what a step ends is gone: a mount, and a task's maps
+  pub gone : IsGone step reply t
+  -- a step that only reads leaves all files, maps and reservations as they were
+  pub reads : only_reads step ≡ true → t.slots ≡ s.slots
+  -- a step is refused by the first of its tests that fails; where none fails, and there are pages and memory, it is done
+  pub tests : MeetsTests s step reply
 
 -- these steps may be refused memory: one that makes a file, a map or a list of names, a fork, and an access that nothing backs
 abbrev pub takes_memory : State → Step → Bool

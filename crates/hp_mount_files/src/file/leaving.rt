@@ -4,6 +4,7 @@ ghost use Rattle.std.specs.List.{remove};
 ghost use Rattle.hp_model.specs.files.Mapping.{is_mapped, without_range};
 ghost use Rattle.hp_store.specs.Store.{holders_of, page_at};
 ghost use Rattle.hp_mount_files.specs.Dropping.{HasHolders, IsDropping};
+ghost use Rattle.hp_mount_files.specs.Forking.{maps_named};
 ghost use Rattle.hp_mount_files.specs.Held.{in_file, more_in};
 ghost use Rattle.hp_mount_files.specs.Numbered.{mapping_at};
 ghost use Rattle.hp_mount_files.specs.Leaving.{IsMoreButTask, cut_at, emptied, file_owed, is_used, least_among, least_of, left_at, left_by};
@@ -63,7 +64,8 @@ impl File {
         ensures counted { more.new ≡ more_in store.new.pages }
         ensures reserves { result.reserves + file_owed self.new ≡ file_owed self.old }
         ensures maps { result.maps + length self.new.maps ≡ length self.old.maps }
-        ensures hints { IsMoreButTask task hints.old hints.new }
+        ensures hints { IsMoreButTask task (λ number. maps_named task number self.old) hints.old
+            hints.new }
     {
         let list = &mut self.maps;
         let before = list.len();

@@ -1,5 +1,6 @@
-use Rattle.std.specs.Prelude.{◌≡◌, ◌+◌}
-use Rattle.std.specs.List.{sum_by}
+use Rattle.std.specs.Prelude.{◌≡◌, ◌+◌, take}
+use Rattle.std.specs.List.{count_by, sum_by}
+use Rattle.hp_model.specs.files.Mapping.{is_map}
 use Rattle.hp_mount_files.specs.Dropping.{IsDropping}
 use Rattle.hp_mount_files.specs.Held.{in_map, more_in}
 use Rattle.hp_mount_files.specs.Leaving.{IsMoreButTask, ended_for, owed}
@@ -10,4 +11,4 @@ abbrev pub invariant-loop-map : goal.invariant-loop-map
 invariant-loop-map g l =
     IsDropping (λ n. sum_by (in_map n) l.initial.maps) (λ n. sum_by (in_map n) l.maps) l.initial.store l.store
     × (l.maps ≡ first_mapped (ended_for l.task) l.map-index l.initial.maps) × (l.more ≡ more_in l.store.pages)
-    × (l.reserves + sum_by owed l.maps ≡ sum_by owed l.initial.maps) × IsMoreButTask l.task l.initial.hints l.hints
+    × (l.reserves + sum_by owed l.maps ≡ sum_by owed l.initial.maps) × IsMoreButTask l.task (λ n. count_by (is_map l.task n) (take l.map-index l.initial.maps)) l.initial.hints l.hints

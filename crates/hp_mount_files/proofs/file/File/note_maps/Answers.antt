@@ -4,6 +4,7 @@ use Rattle.std.proofs.lemmas.List.{take_all}
 use Rattle.std.proofs.lemmas.List.Sums.{sum_by_more, sum_by_more_le}
 use Rattle.hp_model.specs.files.Mapping.{Mapping, is_map, is_of}
 use Rattle.hp_mount_files.specs.Forking.{IsNoted}
+use Rattle.hp_mount_files.specs.Hints.{IsMoreByMap}
 use Rattle.hp_mount_files.specs.Numbered.{NumberedFile}
 use Rattle.hp_mount_files.proofs.Noting.{noted_none, noted_one, noted_other, noted_then, task_yes, task_no}
 use Rattle.hp_mount_files.proofs.file.File.note_maps.Goals.{then-task, else-task}
@@ -34,7 +35,8 @@ loop-map-preserved c =
     let one : IsNoted task c.loop-map.hints c.if-task.hints (cond (is_of task m) 1 0) (λ q. cond (is_map task q m) 1 0) =
     elim c.if-task.branch [
       | then-task w ↦ subst (λ n. IsNoted task c.loop-map.hints n (cond (is_of task m) 1 0) (λ q. cond (is_map task q m) 1 0)) (sym w.hints-is)
-          (noted_one task m c.loop-map.hints w.note_map.new.self (task_yes task m (sym c.task.ensures ∙ w.if-task.true)) w.note_map.ensures.more w.note_map.ensures.room (search rules))
+          (noted_one task m c.loop-map.hints w.note_map.new.self (task_yes task m (sym c.task.ensures ∙ w.if-task.true))
+          (subst (λ k. IsMoreByMap task k c.loop-map.hints w.note_map.new.self) w.number.ensures w.note_map.ensures.more) w.note_map.ensures.room (search rules))
       | else-task w ↦ noted_other task m c.loop-map.hints c.if-task.hints (task_no task m (λ e. w.if-task.false (c.task.ensures ∙ e))) w.hints-is
     ] in
     noted_then task (count_by (is_of task) (take i ms)) (cond (is_of task m) 1 0) (count_by (is_of task) (take (i + 1) ms))

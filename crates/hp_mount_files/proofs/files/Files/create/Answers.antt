@@ -3,7 +3,7 @@ use Rattle.hp_model.specs.Lists.{found}
 use Rattle.hp_model.specs.machine.SlotEvent.{has_name}
 use Rattle.hp_mount_files.specs.Tally.{count_of}
 use Rattle.hp_mount_files.specs.Files.{Files}
-use Rattle.hp_mount_files.specs.Hints.{has_name as has_noted}
+use Rattle.hp_mount_files.specs.Hints.{IsMoreByName, has_name as has_noted}
 use Rattle.hp_mount_files.proofs.Creating.{created}
 use Rattle.hp_mount_files.proofs.files.Files.create.Goals as goal
 
@@ -12,7 +12,8 @@ invariant_of-self-2 g c =
     let s = c.self.inside in
     let bytes = c.in_ok-own.ensures.copy in
     created s.hints c.note_file.new.self s.store s.more s.maps (count_of s.counts) s.list.files c.args.name.now c.self.invariant
-    (subst (λ (v : Files). found (has_name c.args.name.now) v.files ≡ None) (sym c.self.view_is) c.requires.new) c.note_file.ensures.more
+    (subst (λ (v : Files). found (has_name c.args.name.now) v.files ≡ None) (sym c.self.view_is) c.requires.new)
+    (subst (λ n. IsMoreByName n s.hints c.note_file.new.self) (c.in_ok-key.ensures ∙ bytes) c.note_file.ensures.more)
     (subst (λ n. has_noted n c.note_file.new.self ≡ true) (c.in_ok-key.ensures ∙ bytes) c.in_ok-note_file.ensures.noted)
     c.new-3.result c.push.new.self.files (c.new-3.ensures ∙ ap (λ n. record { name = Some n; cells = []; maps = [] }) bytes)
     (c.push.ensures ∙ ap (λ xs. xs ++ c.new-3.result ∷ []) c.make_room.ensures.same)

@@ -9,7 +9,7 @@ use Rattle.hp_mount_files.specs.Hints.{IsFiles}
 use Rattle.hp_mount_files.specs.Numbered.{files_shown, with_mapping}
 use Rattle.hp_mount_files.specs.Places.{all_maps}
 use Rattle.hp_mount_files.proofs.Anon.{anon, anon_files, anon_view, nameless}
-use Rattle.hp_mount_files.proofs.Keys.{files_noted, files_recounted, more_then}
+use Rattle.hp_mount_files.proofs.Keys.{files_noted, files_recounted, then_map}
 use Rattle.hp_mount_files.proofs.NewKey.{maps_few}
 use Rattle.hp_mount_files.proofs.MapNumbers.{unused_is_new}
 use Rattle.hp_mount_files.proofs.Tallies.{tally_few}
@@ -27,21 +27,21 @@ invariant_of-self-in_default g c =
     let s = c.self.inside in
     subst (IsFiles c.reserve.new.self s.store s.more s.maps (count_of c.make_room-2.new.self)) (sym c.make_room.ensures.same)
     (files_recounted c.reserve.new.self s.store s.more s.maps (count_of s.counts) (count_of c.make_room-2.new.self) s.list.files c.make_room-2.ensures.same
-    (files_noted s.hints c.reserve.new.self s.store s.more s.maps (count_of s.counts) s.list.files c.reserve.ensures.more c.self.invariant))
+    (files_noted s.hints c.reserve.new.self s.store s.more s.maps (count_of s.counts) s.list.files c.reserve.ensures.same c.self.invariant))
 
 pub invariant_of-self-in_default-mapping : goal.invariant_of-self-in_default-mapping
 invariant_of-self-in_default-mapping g c =
     let s = c.self.inside in
     subst (IsFiles c.reserve.new.self s.store s.more s.maps (count_of c.make_room-2.new.self)) (sym c.make_room.ensures.same)
     (files_recounted c.reserve.new.self s.store s.more s.maps (count_of s.counts) (count_of c.make_room-2.new.self) s.list.files c.make_room-2.ensures.same
-    (files_noted s.hints c.reserve.new.self s.store s.more s.maps (count_of s.counts) s.list.files c.reserve.ensures.more c.self.invariant))
+    (files_noted s.hints c.reserve.new.self s.store s.more s.maps (count_of s.counts) s.list.files c.reserve.ensures.same c.self.invariant))
 
 pub invariant_of-self-in-Err : goal.invariant_of-self-in-Err
 invariant_of-self-in-Err g c =
     let s = c.self.inside in
     subst (IsFiles c.reserve.new.self s.store s.more s.maps (count_of c.make_room-2.new.self)) (sym c.make_room.ensures.same)
     (files_recounted c.reserve.new.self s.store s.more s.maps (count_of s.counts) (count_of c.make_room-2.new.self) s.list.files c.make_room-2.ensures.same
-    (files_noted s.hints c.reserve.new.self s.store s.more s.maps (count_of s.counts) s.list.files c.reserve.ensures.more c.self.invariant))
+    (files_noted s.hints c.reserve.new.self s.store s.more s.maps (count_of s.counts) s.list.files c.reserve.ensures.same c.self.invariant))
 
 pub unwrap-requires : goal.unwrap-requires
 unwrap-requires g c = c.note_map.ensures.succeeds (let room = c.in-Ok.ensures.ok in omega (arith, room))
@@ -84,7 +84,8 @@ invariant_of-self-2 g c =
     let fresh = ap (λ n. is_among n numbers) number ∙ unused_is_new numbers in
     anon_files r.task c.args.next.number r.start r.pages r.sharing r.reserving s.hints s.store s.more s.maps (count_of s.counts) s.list.files
     c.self.invariant c.add_map-added.new.self c.push.new.self.files (file_is g c) (files_are g c)
-    fresh c.note_map.new.self (more_then s.hints c.reserve.new.self c.note_map.new.self c.reserve.ensures.more c.note_map.ensures.more) (search rules) (count_of c.add_one.new.self) (one_more g c)
+    fresh c.note_map.new.self
+    (then_map r.task c.args.next.number s.hints c.reserve.new.self c.note_map.new.self c.reserve.ensures.same c.note_map.ensures.more) (search rules) (count_of c.add_one.new.self) (one_more g c)
 
 pub returns-clause-ok : goal.returns-clause-ok
 returns-clause-ok g c =

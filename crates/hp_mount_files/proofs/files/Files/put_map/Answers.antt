@@ -8,7 +8,7 @@ use Rattle.hp_mount_files.specs.Files.{Files, file_at, with_file_at}
 use Rattle.hp_mount_files.specs.Hints.{IsFiles}
 use Rattle.hp_mount_files.specs.Numbered.{files_shown, new_mapping, with_mapping}
 use Rattle.hp_mount_files.specs.Places.{all_maps}
-use Rattle.hp_mount_files.proofs.Keys.{files_noted, files_recounted, more_then}
+use Rattle.hp_mount_files.proofs.Keys.{files_noted, files_recounted, then_map}
 use Rattle.hp_mount_files.proofs.Mapped.{map_files, map_view}
 use Rattle.hp_mount_files.proofs.NewKey.{maps_few}
 use Rattle.hp_mount_files.proofs.MapNumbers.{unused_is_new}
@@ -26,13 +26,13 @@ pub invariant_of-self-in_default : goal.invariant_of-self-in_default
 invariant_of-self-in_default g c =
     let s = c.self.inside in
     files_recounted c.reserve.new.self s.store s.more s.maps (count_of s.counts) (count_of c.make_room.new.self) s.list.files c.make_room.ensures.same
-    (files_noted s.hints c.reserve.new.self s.store s.more s.maps (count_of s.counts) s.list.files c.reserve.ensures.more c.self.invariant)
+    (files_noted s.hints c.reserve.new.self s.store s.more s.maps (count_of s.counts) s.list.files c.reserve.ensures.same c.self.invariant)
 
 pub invariant_of-self-in_default-mapping : goal.invariant_of-self-in_default-mapping
 invariant_of-self-in_default-mapping g c =
     let s = c.self.inside in
     files_recounted c.reserve.new.self s.store s.more s.maps (count_of s.counts) (count_of c.make_room.new.self) s.list.files c.make_room.ensures.same
-    (files_noted s.hints c.reserve.new.self s.store s.more s.maps (count_of s.counts) s.list.files c.reserve.ensures.more c.self.invariant)
+    (files_noted s.hints c.reserve.new.self s.store s.more s.maps (count_of s.counts) s.list.files c.reserve.ensures.same c.self.invariant)
 
 pub invariant_of-self-in_err-add_map : goal.invariant_of-self-in_err-add_map
 invariant_of-self-in_err-add_map g c =
@@ -41,7 +41,7 @@ invariant_of-self-in_err-add_map g c =
     ap (slice_set s.list.files c.args.file) (c.in_err-add_map.ensures.err ∙ c.index_mut-at.ensures.value) ∙ set-get_or s.list.files c.args.file c.index_mut-at.result.now in
     subst (IsFiles c.reserve.new.self s.store s.more s.maps (count_of c.make_room.new.self)) (sym same)
     (files_recounted c.reserve.new.self s.store s.more s.maps (count_of s.counts) (count_of c.make_room.new.self) s.list.files c.make_room.ensures.same
-    (files_noted s.hints c.reserve.new.self s.store s.more s.maps (count_of s.counts) s.list.files c.reserve.ensures.more c.self.invariant))
+    (files_noted s.hints c.reserve.new.self s.store s.more s.maps (count_of s.counts) s.list.files c.reserve.ensures.same c.self.invariant))
 
 pub unwrap-requires : goal.unwrap-requires
 unwrap-requires g c = c.note_map.ensures.succeeds (let room = c.in-Ok.ensures.ok in omega (arith, room))
@@ -85,7 +85,8 @@ invariant_of-self-2 g c =
     let fresh = ap (λ n. is_among n numbers) number ∙ unused_is_new numbers in
     map_files r.task c.args.next.number r.start r.pages r.sharing r.reserving s.hints s.store s.more s.maps (count_of s.counts) s.list.files
     c.args.file c.self.invariant (within g c) c.index_mut-at.result.now c.add_map.new.self c.index_mut-at.ensures.value (range_is g c)
-    fresh c.note_map.new.self (more_then s.hints c.reserve.new.self c.note_map.new.self c.reserve.ensures.more c.note_map.ensures.more) (search rules) (count_of c.add_one.new.self) (one_more g c)
+    fresh c.note_map.new.self
+    (then_map r.task c.args.next.number s.hints c.reserve.new.self c.note_map.new.self c.reserve.ensures.same c.note_map.ensures.more) (search rules) (count_of c.add_one.new.self) (one_more g c)
 
 pub returns-clause-ok : goal.returns-clause-ok
 returns-clause-ok g c =

@@ -1,13 +1,15 @@
-use Rattle.std.proofs.Common.{arith, ap, ◌<◌, length, ◌∙◌}
-use Rattle.std.specs.Prelude.{slice_set}
+use Rattle.std.proofs.Common.{arith, ap, ◌+◌, ◌<◌, length, take, ◌∙◌}
+use Rattle.std.specs.Prelude.{slice_index_or, slice_set}
+use Rattle.std.specs.List.{sum_by}
 use Rattle.std.proofs.lemmas.List.{length-set}
-use Rattle.std.proofs.lemmas.List.Sums.{get_or-le-sum_by, sum_by-set}
+use Rattle.std.proofs.lemmas.List.Sums.{get_or-le-sum_by, sum_by-set, sum_by_more}
+use Rattle.hp_mount_files.specs.Forking.{maps_named}
 use Rattle.hp_mount_files.specs.Held.{in_file, in_files}
 use Rattle.hp_mount_files.specs.Leaving.{emptied, file_owed, left_by}
 use Rattle.hp_mount_files.specs.Numbered.{NumberedFile}
 use Rattle.hp_mount_files.proofs.Drops.{drop_then}
-use Rattle.hp_mount_files.proofs.Leaves.{more_then}
-use Rattle.hp_mount_files.proofs.Punched.{first_step}
+use Rattle.hp_mount_files.proofs.Leaves.{gone_then}
+use Rattle.hp_mount_files.proofs.Punched.{first_next, first_step}
 use Rattle.hp_mount_files.proofs.files.leaving.drop_maps_of.Goals as goal
 
 pub loop-at-preserved : goal.loop-at-preserved
@@ -30,7 +32,11 @@ loop-at-preserved g c =
       (let step = sum_by-set file_owed fs i n f inside in let same = ap file_owed read in let had = was.invariant.3 in let left = one.ensures.reserves in omega (arith, step, same, had, left)),
       (let step = sum_by-set (λ (f : NumberedFile). length f.maps) fs i n f inside in let same = ap (λ (f : NumberedFile). length f.maps) read in
           let had = was.invariant.4 in let left = one.ensures.maps in omega (arith, step, same, had, left)),
-      more_then c.args.task c.args.hints.now was.hints one.new.hints was.invariant.5 one.ensures.hints,
+      gone_then c.args.task (λ m. sum_by (maps_named c.args.task m) (take i c.args.files.now.files)) (λ m. maps_named c.args.task m f)
+          (λ m. sum_by (maps_named c.args.task m) (take (i + 1) c.args.files.now.files)) c.args.hints.now was.hints one.new.hints was.invariant.5 one.ensures.hints
+          (λ m. (let step = sum_by_more (maps_named c.args.task m) c.args.files.now.files i f within in
+          let here = ap (maps_named c.args.task m) (read ∙ ap (λ gs. slice_index_or gs i f) was.invariant.1
+          ∙ first_next (λ (f : NumberedFile). emptied (left_by c.args.task f)) i c.args.files.now.files f within) in omega (arith, step, here))),
       length-set fs i n ∙ was.invariant.6,
     )
 

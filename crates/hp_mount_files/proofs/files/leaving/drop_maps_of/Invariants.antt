@@ -1,6 +1,7 @@
-use Rattle.std.specs.Prelude.{◌≡◌, ◌+◌, length}
+use Rattle.std.specs.Prelude.{◌≡◌, ◌+◌, length, take}
 use Rattle.std.specs.List.{sum_by}
 use Rattle.hp_mount_files.specs.Dropping.{IsDropping}
+use Rattle.hp_mount_files.specs.Forking.{maps_named}
 use Rattle.hp_mount_files.specs.Held.{in_files, more_in}
 use Rattle.hp_mount_files.specs.Leaving.{IsMoreButTask, emptied, file_owed, left_by, map_sum}
 use Rattle.hp_mount_files.specs.Numbered.{NumberedFile}
@@ -12,4 +13,4 @@ invariant-loop-at g l =
     IsDropping (λ n. in_files n l.initial.files.files) (λ n. in_files n l.files.files) l.initial.store l.store
     × (l.files.files ≡ first_mapped (λ (f : NumberedFile). emptied (left_by l.task f)) l.at l.initial.files.files) × (l.more ≡ more_in l.store.pages)
     × (l.reserves + sum_by file_owed l.files.files ≡ sum_by file_owed l.initial.files.files) × (l.maps + map_sum l.files.files ≡ map_sum l.initial.files.files)
-    × IsMoreButTask l.task l.initial.hints l.hints × (length l.files.files ≡ length l.initial.files.files)
+    × IsMoreButTask l.task (λ n. sum_by (maps_named l.task n) (take l.at l.initial.files.files)) l.initial.hints l.hints × (length l.files.files ≡ length l.initial.files.files)

@@ -1,7 +1,11 @@
 use Rattle.std.proofs.Common.{sym, ◌∙◌, arith}
+use Rattle.std.specs.List.{sum_by}
+use Rattle.hp_mount_files.specs.Forking.{maps_named}
 use Rattle.hp_mount_files.specs.Held.{in_files}
 use Rattle.hp_mount_files.proofs.Drops.{drop_start}
-use Rattle.hp_mount_files.proofs.Tallies.{none_leave}
+use Rattle.hp_mount_files.proofs.Leaves.{gone_then, none_gone}
+use Rattle.hp_mount_files.proofs.Noting.{named_all}
+use Rattle.hp_mount_files.proofs.Tallies.{maps_labelled, none_leave}
 use Rattle.hp_mount_files.proofs.files.leaving.drop_some_maps_of.Goals as goal
 
 pub returns-then-count-eq0 : goal.returns-then-count-eq0
@@ -11,5 +15,8 @@ returns-then-count-eq0 g c = record {
   counted = c.requires.counted;
   waiting = omega arith;
   gone = omega arith;
-  noted = record { names = λ name e. e; keys = λ other number apart e. e; room = omega arith };
+  noted = gone_then c.args.task (λ q. 0) (λ q. 0) (λ q. sum_by (maps_named c.args.task q) c.args.files.now.files) c.args.hints.now c.args.hints.now c.args.hints.now
+      (none_gone c.args.task c.args.hints.now) (none_gone c.args.task c.args.hints.now)
+      (λ q. (let few = named_all c.args.task q c.args.files.now.files in let all = maps_labelled c.args.task c.args.files.now.files in
+      omega (arith, few, all, c.requires.count, c.if-count-eq0.true)));
 }

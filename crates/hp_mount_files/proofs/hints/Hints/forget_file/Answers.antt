@@ -6,7 +6,7 @@ use Rattle.std.specs.List.{swap_remove}
 use Rattle.std.proofs.lemmas.Option.{get_or_from_slice_get, slice_get_within}
 use Rattle.indexmap.specs.IndexMap.{Updates, spare}
 use Rattle.hp_mount_files.specs.Hints.{IsMoreBut, Noted, has_name, keys_of, names_of}
-use Rattle.hp_mount_files.proofs.Hinted.{keyed_at, not_found, others_stay, rest_stay}
+use Rattle.hp_mount_files.proofs.Hinted.{key_still_out, keyed_at, not_found, others_stay, rest_stay, still_out}
 use Rattle.hp_mount_files.proofs.hints.Hints.forget_file.Goals as goal
 
 -- a name is not two
@@ -42,6 +42,12 @@ returns-then-is_noted_at c =
           (ap (λ p. bytes_eq other p.0) (get_or_from_slice_get old at entry entry noted.1) ∙ not_both name other name apart ((bytes_eq-Decides name name).1 refl))
           (subst (λ es. has_name other (record { names = names_of es; keys = []; room = 0 }) ≡ false) left e);
       keys = λ task number e. e;
+      less = record {
+        names = λ other e.
+            subst (λ es. has_name other (record { names = names_of es; keys = []; room = 0 }) ≡ false) (sym left)
+            (still_out (λ (k : List ℕ). k) (bytes_eq other) old at entry (slice_get_within old at entry noted.1) e);
+        keys = λ task number e. e;
+      };
     }))
 
 pub returns-else-is_noted_at : goal.returns-else-is_noted_at
@@ -54,4 +60,10 @@ returns-else-is_noted_at c =
           others_stay (λ (k : List ℕ). k) (bytes_eq other) _ (λ k own. not_both c.args.name.now other k apart own) c.self.inside.files.entries
           (subst (λ es. has_name other (record { names = names_of es; keys = []; room = 0 }) ≡ false) c.swap_remove-noted.ensures.entries e);
       keys = λ task number e. e;
+      less = record {
+        names = λ other e.
+            subst (λ es. has_name other (record { names = names_of es; keys = []; room = 0 }) ≡ false) (sym c.swap_remove-noted.ensures.entries)
+            (key_still_out (λ (k : List ℕ). k) (bytes_eq other) _ c.self.inside.files.entries e);
+        keys = λ task number e. e;
+      };
     })

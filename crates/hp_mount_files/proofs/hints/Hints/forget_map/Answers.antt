@@ -1,9 +1,9 @@
-use Rattle.std.proofs.Common.{◌≡◌, [], ℕ, true, false, subst, sym, arith}
+use Rattle.std.proofs.Common.{◌≡◌, [], ℕ, true, false, ap, subst, sym, arith}
 use Rattle.std.proofs.lemmas.Bool.Decides.{nat_tests}
 use Rattle.indexmap.specs.IndexMap.{spare}
 use Rattle.hp_mount_files.specs.Hints.{Noted, has_key, is_pair, keys_of, names_of}
 use Rattle.hp_mount_files.specs.Leaving.{IsMoreButMap}
-use Rattle.hp_mount_files.proofs.Hinted.{others_stay}
+use Rattle.hp_mount_files.proofs.Hinted.{key_still_out, not_found, others_stay}
 use Rattle.hp_mount_files.proofs.hints.Hints.forget_map.Goals as goal
 
 -- a key is not two
@@ -21,5 +21,12 @@ returns c =
           others_stay (λ (k : ℕ × ℕ). k) (is_pair t n) _ (λ k own. not_both t n c.new-key.result.0 c.new-key.result.1 k
           (subst (λ q. is_pair t n q ≡ false) (sym c.new-key.ensures) apart) own) c.self.inside.maps.entries
           (subst (λ es. has_key t n (record { names = []; keys = keys_of es; room = 0 }) ≡ false) c.swap_remove-noted.ensures.entries e);
+      gone = not_found (λ (k : ℕ × ℕ). k) (is_pair c.args.task c.args.number) _ (λ k. ap (λ (q : ℕ × ℕ). is_pair q.0 q.1 k) c.new-key.ensures) new c.swap_remove-noted.ensures.updates.1;
+      less = record {
+        names = λ name e. e;
+        keys = λ t n e.
+            subst (λ es. has_key t n (record { names = []; keys = keys_of es; room = 0 }) ≡ false) (sym c.swap_remove-noted.ensures.entries)
+            (key_still_out (λ (k : ℕ × ℕ). k) (is_pair t n) _ c.self.inside.maps.entries e);
+      };
       room = c.swap_remove-noted.ensures.room.0;
     })

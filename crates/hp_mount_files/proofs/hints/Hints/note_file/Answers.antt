@@ -1,19 +1,37 @@
-use Rattle.std.proofs.Common.{◌≡◌, ℕ, List, [], true, false, refl, subst, sym}
+use Rattle.std.proofs.Common.{◌≡◌, ℕ, List, [], Bool, true, false, refl, subst, sym, ◌∙◌}
 use Rattle.std.specs.Bool.{⊤}
 use Rattle.std.specs.Str.{bytes_eq}
 use Rattle.std.proofs.lemmas.Slice.Eq.{bytes_eq-Decides}
 use Rattle.indexmap.specs.IndexMap.{spare}
-use Rattle.hp_mount_files.specs.Hints.{IsMore, Noted, has_name, keys_of, names_of}
-use Rattle.hp_mount_files.proofs.Hinted.{put_in, stays}
+use Rattle.hp_mount_files.specs.Hints.{IsMoreByName, Noted, has_name, keys_of, names_of}
+use Rattle.hp_mount_files.proofs.Hinted.{other_in, put_in, stays}
 use Rattle.hp_mount_files.proofs.hints.Hints.note_file.Goals as goal
+
+-- names are compared either way
+flipped : (name other : List ℕ) → bytes_eq name other ≡ false → bytes_eq other name ≡ false
+flipped name other apart = by (bytes_eq other name) refl
+  where
+    clash : true ≡ false → ⊥
+    clash e = cc
+
+    by : (b : Bool) → bytes_eq other name ≡ b → bytes_eq other name ≡ false
+    by true e = absurd (clash (sym ((bytes_eq-Decides name other).1 (sym ((bytes_eq-Decides other name).0 e))) ∙ apart))
+    by false e = e
 
 pub returns-clause-more : goal.returns-clause-more
 returns-clause-more c =
     let new = c.insert_full.new.self.entries in
-    subst (λ (n : Noted). IsMore n (record { names = names_of new; keys = keys_of c.self.inside.maps.entries; room = spare c.self.inside.maps })) c.self.view_is
+    subst (λ (n : Noted). IsMoreByName c.args.name n (record { names = names_of new; keys = keys_of c.self.inside.maps.entries; room = spare c.self.inside.maps })) c.self.view_is
     (record {
-      names = λ name e. stays (λ (k : List ℕ). k) (bytes_eq name) _ c.new-key.result _ c.self.inside.files.entries
-          (subst (λ es. has_name name (record { names = names_of es; keys = []; room = 0 }) ≡ false) c.in-Ok.ensures.entries e);
+      more = record {
+        names = λ name e. stays (λ (k : List ℕ). k) (bytes_eq name) _ c.new-key.result _ c.self.inside.files.entries
+            (subst (λ es. has_name name (record { names = names_of es; keys = []; room = 0 }) ≡ false) c.in-Ok.ensures.entries e);
+        keys = λ task number e. e;
+      };
+      names = λ other apart e.
+          subst (λ es. has_name other (record { names = names_of es; keys = []; room = 0 }) ≡ false) (sym c.in-Ok.ensures.entries)
+          (other_in (λ (k : List ℕ). k) (bytes_eq other) _ c.new-key.result _
+          (subst (λ q. bytes_eq other q ≡ false) (sym c.new-key.ensures) (flipped c.args.name other apart)) c.self.inside.files.entries e);
       keys = λ task number e. e;
     })
 

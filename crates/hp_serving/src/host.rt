@@ -1,0 +1,73 @@
+//! What sessions are opened on.
+ghost use Rattle.std.specs.Prelude.{◌≤◌, IfOk};
+ghost use Rattle.hp_serving.specs.Ended.{IsWithinLimits};
+ghost use Rattle.hp_serving.specs.declared.host.Closed.{Closed as TheClosed};
+
+use hp_model::answer::Counts;
+use hp_model::service::Service;
+use hp_wire::ends::{Sink, Source};
+use std::alloc::{AllocError, Global};
+use std::sync::Wait;
+
+/// A machine that many threads open sessions on, with what these wait by.
+pub trait Host {
+    /// A session that answers lines.
+    type Session: Service;
+
+    /// What a session was told, once it is finished.
+    type Told: Drop + Send + Sync;
+
+    /// The session was just opened.
+    ghost is_opened: { Self.Session → Type 0 };
+
+    /// The finished session was told this.
+    ghost was_told: { Self.Session → Self.Told → Type 0 };
+
+    /// Opens a session, where memory for it can be had.
+    fn open(&self, alloc: Global) -> Result<Self::Session, AllocError>
+        ensures opened { IfOk result Self.is_opened }
+        ensures ready { IfOk result Self.Session.is_ready }
+        ensures page { IfOk result (λ session. Self.Session.page session ≤ 2097152) };
+
+    /// Ends a session.
+    fn finish(session: Self::Session) -> Self::Told
+        ensures { Self.was_told session result };
+}
+
+/// What is left of a machine that was closed.
+#[derive(Clone, Copy, Debug, PartialEq, Eq)]
+pub struct Closed {
+    /// Whether trails and receipts are of one run, where they were kept.
+    pub audit: Option<bool>,
+    /// The counts of the pool, without its tasks and files.
+    pub counts: Counts,
+    /// The bytes of a page.
+    pub page: u64,
+}
+
+/// A machine that sessions are served on, and that is closed after them.
+pub trait Machine {
+    /// What a session was told.
+    type Told: Drop + Send + Sync;
+
+    /// Closing the machine may leave this.
+    ghost may_leave: { Self → TheClosed → Type 0 };
+
+    /// Serves a connection as `serve_session` does, on a session of this machine.
+    fn serve_one<R: Wait, A: Source, B: Sink>(
+        &self,
+        rt: &R,
+        alloc: Global,
+        reader: &mut A,
+        writer: &mut B,
+    ) -> Result<Self::Told, AllocError>;
+
+    /// Closes the machine once all its sessions are finished, and compares what these were told with its trails,
+    /// where it keeps them. Refused is only the comparison, for want of memory; then it is closed too.
+    fn close(self, alloc: Global, told: Vec<Self::Told>) -> Result<Closed, AllocError>
+        ensures leaves { IfOk result (may_leave self) }
+        ensures limits { IfOk result IsWithinLimits };
+
+    /// Closes the machine after a fault.
+    fn abandon(self);
+}

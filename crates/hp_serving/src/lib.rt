@@ -1,0 +1,18 @@
+//! Sessions over connections, served by several workers on one machine.
+#![tactic(auto)]
+
+mod connections;
+mod fault;
+mod host;
+mod serving;
+mod session;
+mod sessions;
+mod tcp;
+
+pub use connections::{Accepted, Connections};
+pub use fault::ServeFault;
+pub use host::{Closed, Host, Machine};
+pub use serving::serve;
+pub use session::serve_session;
+pub use sessions::serve_sessions;
+pub use tcp::{Listening, Socket};

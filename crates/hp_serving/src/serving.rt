@@ -1,0 +1,172 @@
+//! Workers that serve accepted connections.
+ghost use Rattle.std.specs.Prelude.{◌≤◌};
+
+use crate::connections::{Accepted, Connections, numbered};
+use crate::fault::ServeFault;
+use crate::host::Machine;
+use crossbeam_channel::{Receiver, Sender};
+use hp_wire::ends::{Sink, Source};
+use std::alloc::Global;
+use std::sync::{OnceLock, Wait};
+use std::thread;
+use std::thread::{Scope, Threads};
+
+/// Serves as many sessions as there are cells, on so many workers, and files what each was told in the cell of its
+/// number. A worker that can't be started is left out. The connections are announced once one runs.
+///
+/// It returns when all sessions that were handed out have ended, however these ended. `Memory` says that no worker
+/// could be started or no queue made, and `Write` that the connections could not be announced: then no session was
+/// handed out. `Network` says that the source failed.
+pub fn serve<
+    R: Threads + Wait + Sync,
+    T: Drop + Send + Sync,
+    M: Machine<Told = T> + Sync,
+    C: Connections,
+>(
+    rt: &R,
+    alloc: Global,
+    machine: &M,
+    connections: &mut C,
+    workers: usize,
+    filed: &[OnceLock<T>],
+) -> Result<(), ServeFault> {
+    let Ok((to, from)) = crossbeam_channel::bounded(alloc, workers.max(1)) else {
+        return Err(ServeFault::Memory);
+    };
+    run(rt, alloc, machine, connections, workers, filed, &from, to)
+}
+
+fn run<
+    'x,
+    R: Threads + Wait + Sync,
+    T: Drop + Send + Sync,
+    M: Machine<Told = T> + Sync,
+    C: Connections,
+>(
+    rt: &'x R,
+    alloc: Global,
+    machine: &'x M,
+    connections: &mut C,
+    workers: usize,
+    filed: &'x [OnceLock<T>],
+    jobs: &'x Receiver<Accepted<C::Reader, C::Writer>, Global>,
+    to: Sender<Accepted<C::Reader, C::Writer>, Global>,
+) -> Result<(), ServeFault> {
+    thread::scope(thread::scope_env(), rt, |scope| {
+        if start_workers(scope, rt, alloc, machine, workers, jobs, filed) {
+            hand_out_all(rt, connections, to, filed.len())
+        } else {
+            Err(ServeFault::Memory)
+        }
+    })
+}
+
+// Starts so many workers, and says whether one could be.
+fn start_workers<
+    'x,
+    E,
+    R: Wait + Sync,
+    T: Drop + Send + Sync,
+    M: Machine<Told = T> + Sync,
+    A: Source + Drop + Send,
+    B: Sink + Drop + Send,
+>(
+    scope: &Scope<'x, E>,
+    rt: &'x R,
+    alloc: Global,
+    machine: &'x M,
+    workers: usize,
+    jobs: &'x Receiver<Accepted<A, B>, Global>,
+    filed: &'x [OnceLock<T>],
+) -> bool {
+    let mut started = false;
+    for _ in 0..workers {
+        if scope
+            .spawn(move || work(rt, alloc, machine, jobs, filed))
+            .is_ok()
+        {
+            started = true;
+        }
+    }
+    started
+}
+
+// Announces the connections, and hands out so many.
+fn hand_out_all<R: Wait, C: Connections>(
+    rt: &R,
+    connections: &mut C,
+    to: Sender<Accepted<C::Reader, C::Writer>, Global>,
+    count: usize,
+) -> Result<(), ServeFault> {
+    if connections.announce().is_err() {
+        return Err(ServeFault::Write);
+    }
+    if hand_out(rt, connections, to, count) < count {
+        return Err(ServeFault::Network);
+    }
+    Ok(())
+}
+
+// Hands out so many connections, and says how many; fewer only where the source fails.
+fn hand_out<R: Wait, C: Connections>(
+    rt: &R,
+    connections: &mut C,
+    to: Sender<Accepted<C::Reader, C::Writer>, Global>,
+    count: usize,
+) -> usize
+    ensures { result ≤ count }
+{
+    for number in 0..count {
+        match connections.next() {
+            Ok(Some((reader, writer))) => {
+                if to
+                    .send(rt, numbered(number, count, reader, writer))
+                    .is_err()
+                {
+                    return number;
+                }
+            }
+            Ok(None) => {}
+            Err(_) => return number,
+        }
+    }
+    count
+}
+
+// Serves connections until no more come.
+fn work<R: Wait, T: Drop + Send + Sync, M: Machine<Told = T>, A: Source + Drop, B: Sink + Drop>(
+    rt: &R,
+    alloc: Global,
+    machine: &M,
+    jobs: &Receiver<Accepted<A, B>, Global>,
+    filed: &[OnceLock<T>],
+) {
+    for _ in rt.forever() {
+        let Ok(job) = jobs.recv(rt) else {
+            return;
+        };
+        serve_one(rt, alloc, machine, job, filed);
+    }
+}
+
+// Serves one connection to its end, whatever that is, and files what its session was told.
+fn serve_one<
+    R: Wait,
+    T: Drop + Send + Sync,
+    M: Machine<Told = T>,
+    A: Source + Drop,
+    B: Sink + Drop,
+>(rt: &R, alloc: Global, machine: &M, job: Accepted<A, B>, filed: &[OnceLock<T>]) {
+    let Accepted {
+        number,
+        count: _,
+        mut reader,
+        mut writer,
+    } = job;
+    let Ok(told) = machine.serve_one(rt, alloc, &mut reader, &mut writer) else {
+        return;
+    };
+    if let Some(cell) = filed.get(number) {
+        let _kept = cell.set(rt, told);
+    }
+}

@@ -1,0 +1,28 @@
+//! A session over a connection.
+ghost use Rattle.std.specs.Prelude.{◌≡◌, IfOk, OnErr};
+ghost use Rattle.hp_serving.specs.Session.{IsServed};
+
+use crate::host::Host;
+use hp_wire::ends::{Sink, Source};
+use hp_wire::running::run_lines;
+use std::alloc::{AllocError, Global};
+
+/// Answers the lines of a connection on a session of its own, up to the connection's end or its first fault, and gives
+/// what the session was told. What was written are the lines of the replies that its calls gave, or, after a failed
+/// write, a front of them. It is refused only where the session is, and then nothing is read or written.
+pub fn serve_session<H: Host, A: Source, B: Sink>(
+    alloc: Global,
+    host: &H,
+    reader: &mut A,
+    writer: &mut B,
+) -> Result<H::Told, AllocError>
+    ensures served { IfOk result (IsServed H.is_opened H.was_told H.Session.may_answer
+        H.Session.page
+        A.remaining B.contents reader.old reader.new writer.old writer.new) }
+    ensures unread { OnErr result (reader.new ≡ reader.old) }
+    ensures unwritten { OnErr result (writer.new ≡ writer.old) }
+{
+    let mut session = host.open(alloc)?;
+    let _ended = run_lines(alloc, reader, writer, &mut session);
+    Ok(H::finish(session))
+}

@@ -1,0 +1,178 @@
+//! All sessions of a machine, from its first to its close.
+ghost use Rattle.std.specs.Prelude.{◌≡◌, ◌≤◌, [], ◌++◌, vec_capacity, IfOk, IfErr, IfSome, IsOk, OnOk};
+ghost use Rattle.hp_wire.specs.Sent.{Writes, WritesFront};
+ghost use Rattle.hp_serving.specs.Ended.{IsWithinLimits, LeavesAsked, Prints, Says, SaysEnd, line_of_fault, status_after, status_of, text_of_audit, text_of_close};
+ghost use Rattle.hp_serving.specs.declared.sessions.Ended.{Ended as TheEnd};
+
+use crate::connections::Connections;
+use crate::fault::ServeFault;
+use crate::host::{Closed, Machine};
+use crate::serving::serve;
+use hp_text::meminfo::meminfo_text;
+use hp_wire::ends::{Sink, write_whole};
+use hp_wire::fault::RunFault;
+use std::alloc::{AllocError, Global};
+use std::io::Write;
+use std::sync::{OnceLock, Wait};
+use std::thread::Threads;
+
+/// How the serving of all sessions ended.
+#[derive(Clone, Copy, Debug, PartialEq, Eq)]
+pub enum Ended {
+    /// All have ended, the machine is closed, and what is left of it is printed.
+    Printed(Closed),
+    /// The same, but it could not be printed whole.
+    Unprinted(Closed),
+    /// This came before.
+    Failed(ServeFault),
+}
+
+/// Serves so many sessions on the machine by so many workers, closes it, and gives the status that a process ends with.
+///
+/// After the last session `output` gets `audit ok` or `audit failed`, where the machine keeps trails, and the six lines
+/// of meminfo, and nothing before. A fault is named on `faults`. The status is 0; 1 after a
+/// fault; 3 where the audit failed, whether or not that could be printed.
+pub fn serve_sessions<
+    R: Threads + Wait + Sync,
+    M: Machine + Sync,
+    C: Connections,
+    W: Sink,
+    E: Sink,
+>(
+    rt: &R,
+    alloc: Global,
+    machine: M,
+    connections: &mut C,
+    sessions: usize,
+    workers: usize,
+    output: &mut W,
+    faults: &mut E,
+) -> u8
+    ensures { (ended : TheEnd) × LeavesAsked (M.may_leave machine) ended
+        × (result ≡ status_of ended)
+        × Prints (W.contents output.old) (W.contents output.new) ended
+        × SaysEnd (E.is_sure faults.old) (E.contents faults.old) (E.contents faults.new) ended }
+{
+    let ended = run(rt, alloc, machine, connections, sessions, workers, output);
+    report(ended, faults)
+}
+
+// What is asked for before the first session: cells for what they are told, a list of it, and a text.
+fn rooms<T: Drop>(
+    alloc: Global,
+    sessions: usize,
+) -> Result<(Vec<OnceLock<T>>, Vec<T>, Vec<u8>), AllocError>
+    ensures { IfOk result (λ rooms. (rooms.2.items ≡ []) × (256 ≤ vec_capacity rooms.2)) }
+{
+    let text = Vec::with_capacity(alloc, 256)?;
+    let told = Vec::with_capacity(alloc, sessions)?;
+    let filed = cells(alloc, sessions)?;
+    Ok((filed, told, text))
+}
+
+fn cells<T: Drop>(alloc: Global, sessions: usize) -> Result<Vec<OnceLock<T>>, AllocError> {
+    let mut cells = Vec::new(alloc);
+    for _ in 0..sessions {
+        cells.push(OnceLock::new())?;
+    }
+    Ok(cells)
+}
+
+fn run<R: Threads + Wait + Sync, M: Machine + Sync, C: Connections, W: Sink>(
+    rt: &R,
+    alloc: Global,
+    machine: M,
+    connections: &mut C,
+    sessions: usize,
+    workers: usize,
+    output: &mut W,
+) -> Ended
+    ensures leaves { LeavesAsked (M.may_leave machine) result }
+    ensures prints { Prints (W.contents output.old) (W.contents output.new) result }
+{
+    let Ok((filed, told, mut text)) = rooms(alloc, sessions) else {
+        machine.abandon();
+        return Ended::Failed(ServeFault::Memory);
+    };
+    if let Err(fault) = serve(rt, alloc, &machine, connections, workers, &filed) {
+        machine.abandon();
+        return Ended::Failed(fault);
+    }
+    let Ok(closed) = machine.close(alloc, all_told(filed, told)) else {
+        return Ended::Failed(ServeFault::Memory);
+    };
+    match print(closed, &mut text, output) {
+        Ok(()) => Ended::Printed(closed),
+        Err(_) => Ended::Unprinted(closed),
+    }
+}
+
+// What the sessions were told, in the order of their numbers.
+fn all_told<T: Drop>(filed: Vec<OnceLock<T>>, mut told: Vec<T>) -> Vec<T> {
+    for cell in filed {
+        if let Some(one) = cell.into_inner() {
+            let _ = told.push(one);
+        }
+    }
+    told
+}
+
+// Prints what is left of the machine.
+fn print<W: Sink>(closed: Closed, text: &mut Vec<u8>, output: &mut W) -> Result<(), RunFault>
+    requires limits { IsWithinLimits closed }
+    requires empty { text.old.items ≡ [] }
+    requires room { 256 ≤ vec_capacity text.old }
+    ensures sent { OnOk result (Writes W.contents output.old output.new (text_of_close closed)) }
+    ensures cut { IfErr result (WritesFront W.contents output.old output.new
+        (text_of_close closed)) }
+{
+    write_whole(output, audit_line(closed.audit).as_bytes())?;
+    meminfo_text(closed.counts, closed.page, text);
+    write_whole(output, text.as_slice())
+}
+
+fn audit_line(audit: Option<bool>) -> &'static str
+    ensures { result.now ≡ text_of_audit audit }
+{
+    match audit {
+        None => "",
+        Some(true) => "audit ok\n",
+        Some(false) => "audit failed\n",
+    }
+}
+
+// Names a fault, and gives the status. Where `faults` fails too, the status alone tells.
+fn report<E: Sink>(ended: Ended, faults: &mut E) -> u8
+    ensures status { result ≡ status_of ended }
+    ensures says { SaysEnd (E.is_sure faults.old) (E.contents faults.old)
+        (E.contents faults.new) ended }
+{
+    match ended {
+        Ended::Printed(closed) => status_after(closed, 0),
+        Ended::Unprinted(closed) => {
+            name(ServeFault::Write, faults);
+            status_after(closed, 1)
+        }
+        Ended::Failed(fault) => {
+            name(fault, faults);
+            1
+        }
+    }
+}
+
+fn status_after(closed: Closed, other: u8) -> u8
+    ensures { result ≡ status_after closed.audit other }
+{
+    if closed.audit == Some(false) {
+        3
+    } else {
+        other
+    }
+}
+
+fn name<E: Sink>(fault: ServeFault, faults: &mut E)
+    ensures { Says (E.is_sure faults.old) (E.contents faults.old) (E.contents faults.new)
+        (line_of_fault fault) }
+{
+    let _ = write_whole(faults, fault.line().as_bytes());
+}

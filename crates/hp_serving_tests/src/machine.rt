@@ -1,0 +1,183 @@
+//! A small machine that many sessions share.
+ghost use Rattle.std.specs.Prelude.{IfOk};
+ghost use Rattle.hp_model.specs.machine.Told.{told_reply};
+ghost use Rattle.hp_model.specs.text.Writing.{IsWithinLimits};
+ghost use Rattle.hp_serving.specs.Ended.{IsWithinLimits as IsClosedWithin};
+
+use hp_model::answer::{Counts, Reply};
+use hp_model::refusal::Refusal;
+use hp_model::service::{Access, Service};
+use hp_model::step::Step;
+use hp_model::told::Told;
+use hp_serving::{Closed, Host, Machine, serve_session};
+use hp_wire::ends::{Sink, Source};
+use std::alloc::{AllocError, Global};
+use std::sync::{Mutex, Wait};
+
+/// What all sessions share: how many calls there were, how many sessions may yet open, and what the audit answers.
+#[derive(Drop)]
+pub struct Small {
+    pub calls: Mutex<u64>,
+    pub opens: Mutex<u64>,
+    pub audit: Option<bool>,
+}
+
+impl Small {
+    pub fn new(opens: u64, audit: Option<bool>) -> Small {
+        Small {
+            calls: Mutex::new(0),
+            opens: Mutex::new(opens),
+            audit,
+        }
+    }
+}
+
+/// The machine, with what its sessions wait by.
+#[derive(Drop)]
+pub struct Waiting<'x, R> {
+    pub rt: &'x R,
+    pub machine: &'x Small,
+}
+
+/// A session, with how many calls it made.
+#[derive(Drop)]
+pub struct Session<'x, R> {
+    rt: &'x R,
+    machine: &'x Small,
+    made: u64,
+}
+
+impl<'x, R: Wait> Session<'x, R> {
+    fn note(&mut self) {
+        self.made = self.made.saturating_add(1);
+        let mut value = self.machine.calls.lock(self.rt);
+        let calls: &mut u64 = &mut value;
+        *calls = calls.saturating_add(1);
+    }
+
+    fn told(&mut self, step: &Step<'_>) -> Result<Told<'static>, Refusal>
+        ensures { IsWithinLimits (told_reply result) }
+    {
+        self.note();
+        match step {
+            Step::Nr { pages } => Ok(Told::Number(*pages)),
+            Step::Connect { .. } | Step::Create { .. } => Ok(Told::Done),
+            _ => Err(Refusal::NoSuchSlot),
+        }
+    }
+}
+
+impl<'x, R: Wait> Service for Session<'x, R> {
+    ghost may_answer = { λ old step reply new. Unit {0} };
+
+    ghost page = { λ session. 1024 };
+
+    ghost is_ready = { λ session. Unit {0} };
+
+    fn call(&mut self, step: &Step<'_>) -> Reply {
+        match self.told(step) {
+            Ok(told) => Ok(told.into_answer()),
+            Err(refusal) => Err(refusal),
+        }
+    }
+
+    fn answer<'a>(
+        &mut self,
+        step: &Step<'_>,
+        _room: &'a mut [u8],
+        reply: &mut Result<Told<'a>, Refusal>,
+    ) {
+        *reply = self.told(step);
+    }
+
+    fn load<'a>(
+        &mut self,
+        _access: &Access,
+        _count: u64,
+        room: &'a mut [u8],
+    ) -> Result<&'a [u8], Refusal> {
+        self.note();
+        let (front, _) = room.split_at_mut(2);
+        front.copy_from_slice(&[255, 0]);
+        Ok(front)
+    }
+
+    fn store(&mut self, _access: &Access, _bytes: &[u8]) -> Result<(), Refusal> {
+        self.note();
+        Ok(())
+    }
+
+    fn page_bytes(&self) -> u64 {
+        1024
+    }
+}
+
+impl<'x, R: Wait> Host for Waiting<'x, R> {
+    type Session = Session<'x, R>;
+
+    type Told = u64;
+
+    ghost is_opened = { λ session. Unit {0} };
+
+    ghost was_told = { λ session told. Unit {0} };
+
+    fn open(&self, _alloc: Global) -> Result<Session<'x, R>, AllocError> {
+        let mut value = self.machine.opens.lock(self.rt);
+        let opens: &mut u64 = &mut value;
+        if *opens == 0 {
+            return Err(AllocError);
+        }
+        *opens -= 1;
+        Ok(Session {
+            rt: self.rt,
+            machine: self.machine,
+            made: 0,
+        })
+    }
+
+    fn finish(session: Session<'x, R>) -> u64 {
+        session.made
+    }
+}
+
+impl Machine for Small {
+    type Told = u64;
+
+    ghost may_leave = { λ machine closed. Unit {0} };
+
+    fn serve_one<R: Wait, A: Source, B: Sink>(
+        &self,
+        rt: &R,
+        alloc: Global,
+        reader: &mut A,
+        writer: &mut B,
+    ) -> Result<u64, AllocError> {
+        let host = Waiting { rt, machine: self };
+        serve_session(alloc, &host, reader, writer)
+    }
+
+    /// Its counts tell how many sessions were told how much.
+    fn close(self, _alloc: Global, told: Vec<u64>) -> Result<Closed, AllocError>
+        ensures leaves { IfOk result (λ closed. Unit {0}) }
+        ensures limits { IfOk result IsClosedWithin }
+    {
+        let mut sum = 0u64;
+        for one in told.iter() {
+            sum = sum.saturating_add(*one);
+        }
+        Ok(Closed {
+            audit: self.audit,
+            counts: Counts {
+                total: sum.min(262_144),
+                free: told.len() as u64,
+                rsvd: 0,
+                surp: 0,
+                nr: 0,
+                overcommit: 0,
+            },
+            page: 1024,
+        })
+    }
+
+    fn abandon(self) {}
+}

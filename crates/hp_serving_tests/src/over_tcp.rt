@@ -1,0 +1,91 @@
+//! Sessions over TCP.
+
+use crate::ends::{Onto, Writer};
+use crate::machine::Small;
+use crate::same::same;
+use hp_serving::{Listening, serve_sessions};
+use std::alloc::Global;
+use std::io;
+use std::io::{Read, Write};
+use std::net::{Net, Shutdown, SocketAddr, TcpListener, TcpStream};
+use std::sync::{Mutex, Wait};
+use std::test::Fail;
+use std::thread::{Threads, join};
+
+fn ask<R: Net<Stream = TcpStream>>(
+    rt: &R,
+    at: SocketAddr,
+    text: &[u8],
+    replies: &mut [u8],
+) -> io::Result<()> {
+    let stream = TcpStream::connect(rt, at)?;
+    (&stream).write_all(text)?;
+    stream.shutdown(Shutdown::Write)?;
+    (&stream).read_exact(replies)
+}
+
+// One that ends within a line, one that goes away at once, one that says nothing, and one that asks and is answered.
+fn clients<R: Net<Stream = TcpStream>>(rt: &R, at: SocketAddr) -> io::Result<(u8, u8)> {
+    let mut bad = [0u8; 17];
+    ask(rt, at, b"nr 4", &mut bad)?;
+    let gone = TcpStream::connect(rt, at)?;
+    (&gone).write_all(b"nr 4\nnr 5\n")?;
+    drop(gone);
+    let silent = TcpStream::connect(rt, at)?;
+    let mut ok = [0u8; 5];
+    ask(rt, at, b"nr 4\n", &mut ok)?;
+    drop(silent);
+    Ok((bad[6], ok[1]))
+}
+
+fn served<R: Threads + Wait + Net<Stream = TcpStream, Listener = TcpListener> + Sync>(
+    rt: &R,
+    alloc: Global,
+) -> Option<(u8, u8, u8, usize)> {
+    let listener = TcpListener::bind(rt, "127.0.0.1:0").ok()?;
+    let at = listener.local_addr().ok()?;
+    let port = Mutex::new(Vec::new(alloc));
+    let mut connections = Listening::new(listener, Onto { rt, text: &port });
+    let mut output = Writer {
+        text: Vec::new(alloc),
+        at_most: 1000,
+        writes: 9,
+    };
+    let mut faults = Writer {
+        text: Vec::new(alloc),
+        at_most: 1000,
+        writes: 9,
+    };
+    let (told, status) = join(
+        rt,
+        || clients(rt, at),
+        || {
+            serve_sessions(
+                rt,
+                alloc,
+                Small::new(9, Some(true)),
+                &mut connections,
+                4,
+                2,
+                &mut output,
+                &mut faults,
+            )
+        },
+    );
+    let (bad, ok) = told.ok()?;
+    drop(connections);
+    let said = port.into_inner();
+    Some((bad, ok, status, said.len()))
+}
+
+#[test]
+fn sessions_over_tcp(rt: HostRuntime) -> Result<(), Fail> {
+    let Some((bad, ok, status, said)) = served(&rt, rt.alloc()) else {
+        panic!(rt; "no answer");
+    };
+    same!(rt; bad, b'2');
+    same!(rt; ok, b'k');
+    same!(rt; status, 0);
+    assert!(rt; (8..12).contains(&said));
+    Ok(())
+}

@@ -1,0 +1,201 @@
+//! Sessions in memory, on several workers.
+
+use crate::ends::{InMemory, Writer};
+use crate::machine::Small;
+use crate::same::same;
+use hp_serving::serve_sessions;
+use std::alloc::{AllocError, Global};
+use std::sync::{Mutex, Wait};
+use std::test::Fail;
+use std::thread::Threads;
+
+const ALL: [Option<&[u8]>; 3] = [
+    Some(b"nr 4\nload 1 0 1 0 0 2\nbad\n"),
+    Some(b"nr 4\n"),
+    Some(b"connect 1 0\nnr 3\n"),
+];
+
+/// What a run on the small machine wrote, and its status.
+#[derive(Drop)]
+struct Outcome {
+    status: u8,
+    replies: Vec<u8>,
+    output: Vec<u8>,
+    faults: Vec<u8>,
+}
+
+fn writer(alloc: Global, writes: u64) -> Writer {
+    Writer {
+        text: Vec::new(alloc),
+        at_most: 1000,
+        writes,
+    }
+}
+
+// Serves so many sessions of these, to an output that fails after some writes.
+fn ran<R: Threads + Wait + Sync>(
+    rt: &R,
+    alloc: Global,
+    machine: Small,
+    inputs: &[Option<&[u8]>],
+    announces: bool,
+    sessions: usize,
+    workers: usize,
+    writes: u64,
+) -> Outcome {
+    let text = Mutex::new(Vec::new(alloc));
+    let mut connections = InMemory {
+        rt,
+        inputs,
+        text: &text,
+        sent: 0,
+        announces,
+    };
+    let mut output = writer(alloc, writes);
+    let mut faults = writer(alloc, 9);
+    let status = serve_sessions(
+        rt,
+        alloc,
+        machine,
+        &mut connections,
+        sessions,
+        workers,
+        &mut output,
+        &mut faults,
+    );
+    Outcome {
+        status,
+        replies: text.into_inner(),
+        output: output.text,
+        faults: faults.text,
+    }
+}
+
+fn closed(alloc: Global, audit: &str, calls: &str, told: &str) -> Result<Vec<u8>, AllocError> {
+    let mut text = Vec::new(alloc);
+    for part in [
+        audit,
+        "HugePages_Total:       ",
+        calls,
+        "\nHugePages_Free:        ",
+        told,
+        "\nHugePages_Rsvd:        0\nHugePages_Surp:        0\nHugepagesize:          1 kB\nHugetlb:               ",
+        calls,
+        " kB\n",
+    ] {
+        text.extend_from_slice(part.as_bytes())?;
+    }
+    Ok(text)
+}
+
+#[test]
+fn three_sessions_on_two_workers(rt: HostRuntime) -> Result<(), Fail> {
+    let alloc = rt.alloc();
+    let ran = ran(&rt, alloc, Small::new(9, Some(true)), &ALL, true, 3, 2, 9);
+    same!(rt; ran.status, 0);
+    same!(rt; ran.replies.len(), 5 + 8 + 17 + 5 + 3 + 5);
+    let wanted = closed(alloc, "audit ok\n", "5", "3")?;
+    same!(rt; ran.output.as_slice(), wanted.as_slice());
+    assert!(rt; ran.faults.is_empty());
+    Ok(())
+}
+
+#[test]
+fn no_trail_no_audit(rt: HostRuntime) -> Result<(), Fail> {
+    let alloc = rt.alloc();
+    let ran = ran(&rt, alloc, Small::new(9, None), &ALL, true, 1, 64, 9);
+    same!(rt; ran.status, 0);
+    let wanted = closed(alloc, "", "2", "1")?;
+    same!(rt; ran.output.as_slice(), wanted.as_slice());
+    Ok(())
+}
+
+#[test]
+fn a_failed_audit_is_3(rt: HostRuntime) -> Result<(), Fail> {
+    let alloc = rt.alloc();
+    let printed = ran(&rt, alloc, Small::new(9, Some(false)), &ALL, true, 3, 1, 9);
+    same!(rt; printed.status, 3);
+    let wanted = closed(alloc, "audit failed\n", "5", "3")?;
+    same!(rt; printed.output.as_slice(), wanted.as_slice());
+    assert!(rt; printed.faults.is_empty());
+    let unprinted = ran(&rt, alloc, Small::new(9, Some(false)), &ALL, true, 3, 1, 0);
+    same!(rt; unprinted.status, 3);
+    same!(rt; unprinted.faults.as_slice(), b"hugetlbd: write failed\n".as_slice());
+    Ok(())
+}
+
+#[test]
+fn those_that_cannot_be_opened_count_as_ended(rt: HostRuntime) -> Result<(), Fail> {
+    let alloc = rt.alloc();
+    let inputs = [None, Some(b"nr 4\n".as_slice()), None, Some(b"nr 4\n")];
+    let unopened = ran(
+        &rt,
+        alloc,
+        Small::new(9, Some(true)),
+        &inputs,
+        true,
+        4,
+        2,
+        9,
+    );
+    same!(rt; unopened.status, 0);
+    let wanted = closed(alloc, "audit ok\n", "2", "2")?;
+    same!(rt; unopened.output.as_slice(), wanted.as_slice());
+    let refused = ran(
+        &rt,
+        alloc,
+        Small::new(1, Some(true)),
+        &inputs,
+        true,
+        4,
+        2,
+        9,
+    );
+    same!(rt; refused.status, 0);
+    let wanted = closed(alloc, "audit ok\n", "1", "1")?;
+    same!(rt; refused.output.as_slice(), wanted.as_slice());
+    Ok(())
+}
+
+#[test]
+fn a_source_that_fails(rt: HostRuntime) -> Result<(), Fail> {
+    let alloc = rt.alloc();
+    for (sent, replies) in [(0usize, 0usize), (1, 30), (2, 35)] {
+        let inputs = &ALL[..sent];
+        let ran = ran(&rt, alloc, Small::new(9, Some(true)), inputs, true, 3, 2, 9);
+        same!(rt; ran.status, 1);
+        same!(rt; ran.replies.len(), replies, "after {sent}");
+        assert!(rt; ran.output.is_empty());
+        same!(rt; ran.faults.as_slice(), b"hugetlbd: network failed\n".as_slice());
+    }
+    Ok(())
+}
+
+#[test]
+fn faults_of_the_program(rt: HostRuntime) -> Result<(), Fail> {
+    let alloc = rt.alloc();
+    let unsaid = ran(&rt, alloc, Small::new(9, None), &ALL, false, 3, 2, 9);
+    same!(rt; unsaid.status, 1);
+    assert!(rt; unsaid.replies.is_empty());
+    same!(rt; unsaid.faults.as_slice(), b"hugetlbd: write failed\n".as_slice());
+    for writes in 0..2u64 {
+        let cut = ran(
+            &rt,
+            alloc,
+            Small::new(9, Some(true)),
+            &ALL,
+            true,
+            3,
+            2,
+            writes,
+        );
+        same!(rt; cut.status, 1);
+        same!(rt; cut.output.len(), 9 * writes as usize);
+        same!(rt; cut.faults.as_slice(), b"hugetlbd: write failed\n".as_slice());
+    }
+    let none = ran(&rt, alloc, Small::new(9, Some(true)), &ALL, true, 3, 0, 9);
+    same!(rt; none.status, 1);
+    assert!(rt; none.output.is_empty());
+    same!(rt; none.faults.as_slice(), b"hugetlbd: out of memory\n".as_slice());
+    Ok(())
+}

@@ -1,0 +1,186 @@
+-- For the fields of the promises a wrong machine that the record refuses: a reply, or a state after the step.
+use Rattle.std.proofs.Common.{◌≡◌, ℕ, ◌≤◌, ◌∙◌, Bool, true, false, None, Option, Some, Ok, Err, List, [], ◌∷◌, length, replicate, refl, ap, arith}
+use Rattle.std.specs.List.{slice_index_or}
+use Rattle.std.specs.Prelude.{codes, is_some}
+use Rattle.hp_model.specs.declared.answer.Answer.TheVariants.{Done, MapNo, Number, Stat as StatAnswer}
+use Rattle.hp_model.specs.declared.cell.Cell.TheVariants.{Entered}
+use Rattle.hp_model.specs.declared.place.Place.TheVariants.{Gone, Live}
+use Rattle.hp_model.specs.files.Mapping.{is_live, is_unconsumed, place_at, with_place}
+use Rattle.hp_model.specs.files.Spot.{Spot}
+use Rattle.hp_model.specs.declared.refusal.Refusal.{Refusal}
+use Rattle.hp_model.specs.declared.refusal.Refusal.TheVariants.{Busy, NoPages, NoSuchMap, OutOfMemory, OutOfRange, TakenByOwner}
+use Rattle.hp_model.specs.declared.step.Reserving.TheVariants.{NoReserve, Reserve}
+use Rattle.hp_model.specs.declared.step.Sharing.TheVariants.{Shared}
+use Rattle.hp_model.specs.declared.step.Step.{Step}
+use Rattle.hp_model.specs.declared.step.Step.TheVariants.{Connect, Create, Df, Exit, Fork, Load, Map, Mount, Nr, Stat, Umount, Unmap}
+use Rattle.hp_model.specs.files.File.{file_in, with_file}
+use Rattle.hp_model.specs.machine.Plain.{plain_step}
+use Rattle.hp_model.specs.machine.Plan.{Reply, Slot}
+use Rattle.hp_model.specs.machine.Promises.{IsPromised, IsPromisedStep}
+use Rattle.hp_model.specs.machine.State.{State, slot_at, with_slot}
+use Rattle.hp_worked.proofs.WorkedPromises.{child_in, forked, into_first, mounted, parent_in, robbed, shared, spot_or, unmapped_first, with_map_of, without_pages}
+use Rattle.hp_worked.proofs.WorkedWords.{machine}
+
+abbrev refusal_of : Reply → Refusal
+refusal_of (Ok a) = Busy
+refusal_of (Err r) = r
+
+-- a store at a reserved index is refused for want of a page
+wants_a_page : IsPromised shared into_first (Err NoPages) shared → ⊥
+wants_a_page promised = (let wrong : true ≡ false = promised.reserved refl in cc)
+
+-- promised pages are gone from the pool
+pages_are_gone : IsPromised mounted (Df 2) (Ok Done) without_pages → ⊥
+pages_are_gone promised = (let wrong : 3 ≤ 0 = promised.counts.covered in absurd (omega (arith, wrong)))
+
+-- a mount of at most 3 pages with 4 reserved ones
+abbrev fuller : Slot → Slot
+fuller None = None
+fuller (Some m) = Some (with_file m 0 (record (file_in m 0) { cells = replicate 4 Entered }))
+
+abbrev past_the_limit : State
+past_the_limit = with_slot mounted 2 (fuller (slot_at mounted 2))
+
+limit_is_passed : IsPromised mounted (Create 2 (codes "b")) (Ok Done) past_the_limit → ⊥
+limit_is_passed promised = (let wrong : true ≡ false = promised.limits 2 (omega arith) (omega arith) in cc)
+
+-- an unmap is refused memory
+unmap_takes_memory : IsPromisedStep shared (Unmap 1 0 1 0 1) (Err OutOfMemory) shared → ⊥
+unmap_takes_memory promised = promised.2 refl refl
+
+-- a map that reserves enters nothing
+abbrev reserving : Step
+reserving = Map 1 0 (codes "b") 0 1 Shared Reserve
+
+map_enters_nothing : IsPromised shared reserving (Ok (MapNo 4)) (plain_step shared (Map 1 0 (codes "b") 0 1 Shared NoReserve)).1 → ⊥
+map_enters_nothing promised = (let wrong : false ≡ true = promised.ranges.reserved refl 0 refl in cc)
+
+-- a map makes its file longer than it needs
+longer_than_needed : IsPromised shared (Map 1 0 (codes "b") 0 1 Shared NoReserve) (Ok (MapNo 4)) (plain_step shared (Map 1 0 (codes "b") 0 2 Shared NoReserve)).1 → ⊥
+longer_than_needed promised = (let wrong : 2 ≡ 1 = promised.ranges.pages in absurd (omega (arith, wrong)))
+
+-- ---- tests: a wrong refusal, and one without a reason
+
+-- a load through a marked map is refused for another reason
+not_told_that_it_was_taken : IsPromised robbed (Load 2 0 1 1 0 1) (Err NoPages) robbed → ⊥
+not_told_that_it_was_taken promised = (let wrong : NoPages ≡ TakenByOwner = ap refusal_of promised.tests in cc)
+
+-- an index past the map comes before the mark
+taken_before_the_range : IsPromised robbed (Load 2 0 1 7 0 1) (Err TakenByOwner) robbed → ⊥
+taken_before_the_range promised = (let wrong : TakenByOwner ≡ OutOfRange = ap refusal_of promised.tests in cc)
+
+-- a machine that refuses everything
+refuses_all : IsPromised shared (Unmap 1 0 1 0 1) (Err Busy) shared → ⊥
+refuses_all promised = (let wrong : false ≡ true = promised.tests in cc)
+
+-- and one that answers what it should refuse
+answers_without_a_map : IsPromised shared (Unmap 1 0 9 0 1) (Ok Done) shared → ⊥
+answers_without_a_map promised = (let wrong : Ok Done ≡ Err NoSuchMap = promised.tests in cc)
+
+-- ---- tasks, nr and overcommit
+
+abbrev home_or : Option ℕ → ℕ
+home_or None = 99
+home_or (Some home) = home
+
+-- a task connects at another node
+connects_elsewhere : IsPromised machine (Connect 1 0) (Ok Done) (record machine { table = (1, 1) ∷ [] }) → ⊥
+connects_elsewhere promised = (let wrong : 1 ≡ 0 = ap home_or (promised.settings.homes 1) in absurd (omega (arith, wrong)))
+
+-- a create forgets a task
+forgets_a_task : IsPromised mounted (Create 2 (codes "b")) (Ok Done) (record (plain_step mounted (Create 2 (codes "b"))).1 { table = [] }) → ⊥
+forgets_a_task promised = (let wrong : 99 ≡ 0 = ap home_or (promised.settings.homes 1) in absurd (omega (arith, wrong)))
+
+-- a child is of another node than its parent
+child_of_another_node : IsPromised mounted (Fork 1 2) (Ok Done) (record (plain_step mounted (Fork 1 2)).1 { table = (1, 0) ∷ (2, 1) ∷ [] }) → ⊥
+child_of_another_node promised = (let wrong : 1 ≡ 0 = ap home_or (promised.settings.homes 2) in absurd (omega (arith, wrong)))
+
+-- nr answers what it did not leave, and a store changes overcommit
+abbrev number_in : Reply → ℕ
+number_in (Ok (Number n)) = n
+number_in other = 99
+
+answers_another_nr : IsPromised mounted (Nr 4) (Ok (Number 3)) mounted → ⊥
+answers_another_nr promised = (let wrong : 3 ≡ 4 = ap (λ a. number_in (Ok a)) promised.settings.told in absurd (omega (arith, wrong)))
+
+leaves_nr : IsPromised mounted (Nr 1) (Ok (Number 4)) mounted → ⊥
+leaves_nr promised = (let wrong : 4 ≡ 1 = promised.settings.nr in absurd (omega (arith, wrong)))
+
+raises_overcommit : IsPromised shared into_first (Ok Done) (record (plain_step shared into_first).1 { overcommit = 7 }) → ⊥
+raises_overcommit promised = (let wrong : 7 ≡ 0 = promised.settings.overcommit in absurd (omega (arith, wrong)))
+
+-- ---- a stat that drops empty entries
+
+abbrev bare : Slot → Slot
+bare None = None
+bare (Some m) = Some (with_file m 0 (record (file_in m 0) { cells = [] }))
+
+abbrev cells_on : Slot → ℕ
+cells_on None = 0
+cells_on (Some m) = length (file_in m 0).cells
+
+stat_drops_entries : IsPromised mounted (Stat 2 (codes "a")) (Ok (StatAnswer 3 0 3 1)) (with_slot mounted 2 (bare (slot_at mounted 2))) → ⊥
+stat_drops_entries promised =
+    (let wrong : 0 ≡ 3 = ap (λ (xs : List Slot). cells_on (slice_index_or xs 2 None)) (promised.reads refl) in absurd (omega (arith, wrong)))
+
+-- ---- an exit that keeps the maps of its task, and an umount that keeps the mount
+
+exit_keeps_maps : IsPromised shared (Exit 1) (Ok Done) (record shared { table = [] }) → ⊥
+exit_keeps_maps promised = (let wrong : true ≡ false = ap is_some (promised.gone 0 1) in cc)
+
+umount_keeps_the_mount : IsPromised mounted (Umount 2) (Ok Done) mounted → ⊥
+umount_keeps_the_mount promised = (let wrong : true ≡ false = ap is_some promised.gone in cc)
+
+-- ---- a mount with other limits than its options mean
+
+abbrev max_of : Slot → Option ℕ
+max_of None = None
+max_of (Some m) = m.limits.max
+
+mounted_without_its_limit : IsPromised shared (Mount 2 (codes "size=3K")) (Ok Done) (plain_step shared (Mount 2 (codes "-"))).1 → ⊥
+mounted_without_its_limit promised = (let wrong : false ≡ true = ap (λ x. is_some (max_of x)) promised.mounted.1 in cc)
+
+-- ---- an unmap that spends an index past its range, that leaves its range mapped, and that takes an index of another task's map
+
+abbrev after_unmap : State
+after_unmap = (plain_step forked unmapped_first).1
+
+abbrev reserve_at : Option Spot → ℕ → Bool
+reserve_at o i = is_unconsumed (place_at (spot_or o).map i)
+
+abbrev live_at : Option Spot → ℕ → Bool
+live_at o i = is_live (place_at (spot_or o).map i)
+
+abbrev one_spent : State
+one_spent = with_map_of 0 (with_place (parent_in after_unmap).map 1 (Live true None)) after_unmap
+
+unmap_spends_another_index : IsPromised forked unmapped_first (Ok Done) one_spent → ⊥
+unmap_spends_another_index promised =
+    (let kept = promised.unmaps 1 1 (parent_in forked) refl refl in
+    let wrong : false ≡ true = ap (λ o. reserve_at o 1) kept.1 ∙ ap is_unconsumed (kept.2.0 1) in cc)
+
+range_stays_mapped : IsPromised forked unmapped_first (Ok Done) forked → ⊥
+range_stays_mapped promised =
+    (let kept = promised.unmaps 1 1 (parent_in forked) refl refl in
+    let wrong : true ≡ false = ap (λ o. live_at o 0) kept.1 ∙ ap is_live (kept.2.0 0) in cc)
+
+abbrev child_cut : State
+child_cut = with_map_of 1 (with_place (child_in after_unmap).map 1 Gone) after_unmap
+
+unmap_takes_from_another_map : IsPromised forked unmapped_first (Ok Done) child_cut → ⊥
+unmap_takes_from_another_map promised =
+    (let kept = promised.unmaps 2 1 (child_in forked) refl refl in
+    let wrong : false ≡ true = ap (λ o. live_at o 1) kept.1 ∙ ap is_live (kept.2.0 1) in cc)
+
+-- ---- an exit of the child that spends an index of its parent
+
+abbrev after_exit : State
+after_exit = (plain_step forked (Exit 2)).1
+
+abbrev exit_spends : State
+exit_spends = with_map_of 0 (with_place (parent_in after_exit).map 1 (Live true None)) after_exit
+
+child_leaves_a_spent_index : IsPromised forked (Exit 2) (Ok Done) exit_spends → ⊥
+child_leaves_a_spent_index promised =
+    (let kept = promised.whole 0 1 1 (parent_in forked) refl refl in
+    let wrong : false ≡ true = ap (λ o. reserve_at o 1) kept.1 ∙ ap (λ x. is_unconsumed (place_at x 1)) kept.2 in cc)
