@@ -12,7 +12,7 @@ _hugetlbd() {
     local now=${COMP_WORDS[COMP_CWORD]} before=${COMP_WORDS[COMP_CWORD - 1]}
     case $before in
         --page) _hugetlbd_words "1024 4096 65536 2097152" "$now" ;;
-        --frames) _hugetlbd_words "4,4 8192 8192,8192" "$now" ;;
+        --frames) _hugetlbd_words "4,4 4096 4096,4096" "$now" ;;
         --slots) _hugetlbd_words "4 8 64" "$now" ;;
         *)
             local words="--frames --page --slots --help"
