@@ -5,12 +5,18 @@
 //   REFUSE_WRITE_AT=N   the Nth write to the standard output fails
 //   REFUSE_REPORT=FILE  at the end the file has one line: the calls made, the blocks still held, the most bytes held at one time
 //
+// A block that the dynamic linker asks for is none that the program holds: such is each thread's own storage, which the C
+// library keeps for the next thread.
+//
 //   cc -O2 -shared -fPIC -o refuse.so refuse.c && LD_PRELOAD=./refuse.so REFUSE_AT=3 program
 #include <errno.h>
 #include <fcntl.h>
 #include <malloc.h>
+#include <stdatomic.h>
 #include <stdio.h>
+#include <stdint.h>
 #include <stdlib.h>
+#include <sys/auxv.h>
 #include <sys/syscall.h>
 #include <sys/types.h>
 #include <unistd.h>
@@ -38,8 +44,26 @@ static int is_refused(void) {
     return 1;
 }
 
-static void *taken(void *block) {
-    if (block) {
+// The dynamic linker's blocks, and how many bytes from where it is loaded its code reaches at most.
+static void *_Atomic linkers[1024];
+static const uintptr_t LINKER_BYTES = 1 << 20;
+
+static int is_linker(const void *caller) {
+    return (uintptr_t)caller - getauxval(AT_BASE) < LINKER_BYTES;
+}
+
+// Puts `one` where `other` stands, and says whether that was found.
+static int exchanged(void *other, void *one) {
+    for (size_t i = 0; i < sizeof linkers / sizeof *linkers; i++) {
+        void *there = linkers[i];
+        if (there == other && atomic_compare_exchange_strong(&linkers[i], &there, one))
+            return 1;
+    }
+    return 0;
+}
+
+static void *taken(void *block, const void *caller) {
+    if (block && !(is_linker(caller) && exchanged(0, block))) {
         blocks++;
         held += malloc_usable_size(block);
         most = held > most ? held : most;
@@ -48,21 +72,21 @@ static void *taken(void *block) {
 }
 
 static void given(void *block) {
-    if (block) {
+    if (block && !exchanged(block, 0)) {
         blocks--;
         held -= malloc_usable_size(block);
     }
 }
 
 void *malloc(size_t size) {
-    return is_refused() ? 0 : taken(__libc_malloc(size));
+    return is_refused() ? 0 : taken(__libc_malloc(size), __builtin_return_address(0));
 }
 
 void *calloc(size_t count, size_t size) {
     size_t whole;
     if (is_refused() || __builtin_mul_overflow(count, size, &whole))
         return 0;
-    char *block = taken(__libc_malloc(whole));
+    char *block = taken(__libc_malloc(whole), __builtin_return_address(0));
     for (size_t i = 0; block && i < whole; i++)
         block[i] = 0;
     return block;
@@ -73,7 +97,7 @@ void *realloc(void *block, size_t size) {
         return 0;
     given(block);
     void *moved = __libc_realloc(block, size);
-    taken(moved ? moved : block);
+    taken(moved ? moved : block, __builtin_return_address(0));
     return moved;
 }
 
@@ -108,6 +132,9 @@ __attribute__((destructor)) static void report(void) {
     int out = file ? open(file, O_WRONLY | O_CREAT | O_TRUNC, 0644) : -1;
     if (out < 0)
         return;
+    // (a thread whose work is done may still be giving its own block back)
+    for (int turn = 0; blocks && turn < 100; turn++)
+        usleep(10000);
     int length = snprintf(line, sizeof line, "%zu %zu %zu\n", calls, blocks, most);
     if (write(out, line, length) != length)
         abort();
