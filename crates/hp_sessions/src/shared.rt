@@ -5,8 +5,8 @@ ghost use Rattle.hp_model.specs.machine.Machine.{start};
 ghost use Rattle.hp_mount_door.specs.Door.{IsReady as IsReadyPool};
 ghost use Rattle.hp_nodes.specs.Ledgers.{AreFrames};
 ghost use Rattle.hp_pool.specs.Ledgers.{AreLedgers};
+ghost use Rattle.hp_sessions.specs.Joined.{entries_of};
 ghost use Rattle.hp_sessions.specs.Sharing.{EndsRuns};
-ghost use Rattle.hp_trail.specs.Walk.{trails_of};
 
 use crate::making::{all_frames, first_mount, lock_slots, open_trails};
 use crate::parting::take_slots;
@@ -150,7 +150,7 @@ impl<N: Naming, const K: usize> Shared<N, K> {
         ensures none { (K == 1) ≡ false → result.1 ≡ None }
         ensures trails { IfSome result.1 (λ t. EndsRuns
             (start (frames_list N.frames) self.page_size self.slots)
-            (trails_of t.tasks.items t.slots.items t.pool.items) result.0) }
+            (entries_of t) result.0) }
     {
         let Shared {
             page_bytes,
