@@ -7,5 +7,5 @@ mod parting;
 mod shared;
 mod spare;
 
-pub use closing::{audit, Closed};
+pub use closing::{Closed, audit};
 pub use shared::{Shared, Trails};
