@@ -25,6 +25,6 @@ loop-slot-preserved g c =
                 c.into_parts-number.result.2 c.into_entries.result c.loop-slot.trails.items c.push_reserved-in-Some.new.self.items c.loop-slot.mounts.items
                 c.push_reserved.new.self.items keeps (was.runs keeps w.if-in_order.true) (sym parts.number ∙ here) parts.run parts.entries parts.mount c.into_entries.ensures
                 noted.items mounted.items
-            | else-in_order w ↦ absurd (false≢true (sym w.in_order-is ∙ order))
+            | else-in_order w ↦ absurd (false≢true (sym w.if-in_order.false ∙ (sym w.in_order-is ∙ order)))
           ];
     }
