@@ -175,3 +175,9 @@ kept_none (Some es) e = cc
 pub none_added : (o : Option (List SlotEntry)) (e : SlotEntry) → o ≡ None → o ≡ added o e
 none_added None e is = refl
 none_added (Some es) e is = cc
+
+-- answered TraceFull by the door
+pub was_full : (full : Type 0) (size k : ℕ) (old : Slot) (e : SlotEvent) (reply : Reply) (asked : Option Asked) (new : Slot)
+    → IsActedOr full size k old e reply asked new → is_trace_full reply ≡ true → full
+was_full full size k old e reply asked new acted is =
+    (subst (λ (b : Bool). MatchBool b ((new ≡ old) × (asked ≡ None) × full × MayEnter (λ c. slot_event size k c old e) old) (Went size k old e reply asked new)) is acted).2
