@@ -1,8 +1,11 @@
 -- A run of a machine, from the run of one that starts as it.
-use Rattle.std.proofs.Common.{◌≡◌, ℕ, List, arith, subst, Option, Some, None, Result, Ok, Err, OnOk, IfErr, IfSome}
+use Rattle.std.proofs.Common.{◌≡◌, ◌≤◌, ℕ, Bool, true, false, List, arith, subst, Option, Some, None, Result, Ok, Err, OnOk, IfErr, IfSome}
 use Rattle.std.specs.Io.KnownBytes.{Consumes}
 use Rattle.hp_model.specs.machine.Promises.{IsPromisedStep}
 use Rattle.hp_model.specs.machine.State.{State}
+use Rattle.hp_serving.specs.Ended as serving
+use Rattle.hp_serving.specs.declared.sessions.Ended.{Ended}
+use Rattle.hp_serving.specs.declared.sessions.Ended.TheVariants.{Printed, Unprinted, Failed}
 use Rattle.hp_wire.specs.Served.{AnswersInput, Serves, IsMemoryOrTooLong}
 use Rattle.hp_wire.specs.declared.fault.RunFault.{RunFault}
 use Rattle.hugetlbd.specs.Program.{AnswersScript, Run, status_of}
@@ -47,3 +50,14 @@ ends_below_2 (Err e) status same two = omega (arith, same, two)
 pub ran_as : {machine other : State} {r0 r1 w0 w1 : Option (List ℕ)} {sure : Type 0} {ended : Result ℕ RunFault} → machine ≡ other
     → Run machine r0 r1 sure w0 w1 ended → Run other r0 r1 sure w0 w1 ended
 ran_as {r0 = r0} {r1 = r1} {w0 = w0} {w1 = w1} {sure = sure} {ended = ended} same h = subst (λ (m : State). Run m r0 r1 sure w0 w1 ended) same h
+
+after_not_2 : (audit : Option Bool) (other status : ℕ) → other ≤ 1 → status ≡ serving.status_after audit other → status ≡ 2 → ⊥
+after_not_2 None other status few same two = omega (arith, few, same, two)
+after_not_2 (Some true) other status few same two = omega (arith, few, same, two)
+after_not_2 (Some false) other status few same two = omega (arith, same, two)
+
+-- sessions that were served end with status 0, 1 or 3
+pub served_not_2 : (ended : Ended) (status : ℕ) → status ≡ serving.status_of ended → status ≡ 2 → ⊥
+served_not_2 (Printed closed) status same two = after_not_2 closed.audit 0 status (omega arith) same two
+served_not_2 (Unprinted closed) status same two = after_not_2 closed.audit 1 status (omega arith) same two
+served_not_2 (Failed fault) status same two = omega (arith, same, two)

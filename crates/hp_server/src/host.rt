@@ -1,0 +1,38 @@
+//! What sessions are opened on.
+ghost use Rattle.std.specs.Prelude.{◌≡◌, []};
+
+use crate::gate::Open;
+use hp_model::entry::Receipt;
+use hp_model::naming::Naming;
+use hp_serving::Host;
+use hp_sessions::{Session, Shared};
+use std::alloc::{AllocError, Global};
+use std::sync::Wait;
+
+/// A machine that threads share, with what a session on it waits by and the room for its receipts.
+#[derive(Drop)]
+pub struct Waiting<'a, N: Naming, R: Wait, const K: usize> {
+    pub rt: &'a R,
+    pub shared: &'a Shared<N, K>,
+    pub gate: &'a Open,
+    pub room: usize,
+}
+
+impl<'a, N: Naming, R: Wait, const K: usize> Host for Waiting<'a, N, R, K> {
+    type Session = Session<'a, N, R, Open, K>;
+
+    /// The receipts, in order.
+    type Told = Vec<Receipt>;
+
+    ghost is_opened = { λ session. session.receipts ≡ [] };
+
+    ghost was_told = { λ session told. told.items ≡ session.receipts };
+
+    fn open(&self, alloc: Global) -> Result<Session<'a, N, R, Open, K>, AllocError> {
+        Session::open(alloc, self.rt, self.shared, self.gate, self.room)
+    }
+
+    fn finish(session: Session<'a, N, R, Open, K>) -> Vec<Receipt> {
+        session.finish()
+    }
+}

@@ -1,0 +1,61 @@
+//! The machine that is served, with what its sessions are told.
+ghost use Rattle.std.specs.Prelude.{IfOk};
+ghost use Rattle.hp_server.specs.Left.{MayLeave};
+ghost use Rattle.hp_serving.specs.Ended.{IsWithinLimits};
+
+use crate::gate::Open;
+use crate::host::Waiting;
+use hp_model::entry::Receipt;
+use hp_model::naming::Naming;
+use hp_serving::{Closed, Machine, serve_session};
+use hp_sessions::Shared;
+use hp_wire::ends::{Sink, Source};
+use std::alloc::{AllocError, Global};
+use std::sync::Wait;
+
+/// A machine that threads share, and the room of each of its sessions.
+pub struct Served<N: Naming, const K: usize> {
+    pub shared: Shared<N, K>,
+    pub room: usize,
+}
+
+impl<N: Naming, const K: usize> Machine for Served<N, K> {
+    /// The receipts of a session, in order.
+    type Told = Vec<Receipt>;
+
+    ghost may_leave = { λ machine closed. MayLeave K machine.shared.page_size closed };
+
+    fn serve_one<R: Wait, A: Source, B: Sink>(
+        &self,
+        rt: &R,
+        alloc: Global,
+        reader: &mut A,
+        writer: &mut B,
+    ) -> Result<Vec<Receipt>, AllocError> {
+        let host = Waiting {
+            rt,
+            shared: &self.shared,
+            gate: &Open,
+            room: self.room,
+        };
+        serve_session(alloc, &host, reader, writer)
+    }
+
+    fn close(self, alloc: Global, told: Vec<Vec<Receipt>>) -> Result<Closed, AllocError>
+        ensures leaves { IfOk result (MayLeave K self.shared.page_size) }
+        ensures limits { IfOk result IsWithinLimits }
+    {
+        let Served { shared, room: _ } = self;
+        let closed = shared.close(alloc, told)?;
+        Ok(Closed {
+            audit: closed.audit,
+            counts: closed.counts,
+            page: closed.page,
+        })
+    }
+
+    fn abandon(self) {
+        let Served { shared, room: _ } = self;
+        shared.abandon();
+    }
+}
