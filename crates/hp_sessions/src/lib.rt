@@ -1,0 +1,4 @@
+//! The machine that threads share, and sessions on it.
+#![tactic(auto)]
+
+pub struct Placeholder {}
