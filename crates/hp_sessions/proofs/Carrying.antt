@@ -1,19 +1,25 @@
 -- A step's script, carried out event by event.
-use Rattle.std.proofs.Common.{◌≡◌, ℕ, ◌+◌, ◌<◌, ◌≤◌, Bool, true, false, List, [], ◌∷◌, ◌++◌, Option, None, Some, Ok, Err, inl, inr, length, map, refl, sym, ap, subst, ◌∙◌, arith}
+use Rattle.std.proofs.Common.{if◌then◌else◌, ◌≡◌, ℕ, ◌+◌, ◌<◌, ◌≤◌, Bool, true, false, List, [], ◌∷◌, ◌++◌, Option, None, Some, Ok, Err, inl, inr, length, map, refl, sym, ap, subst, ◌∙◌, arith}
 use Rattle.std.specs.Bool.{MatchBool}
 use Rattle.std.specs.List.{All}
 use Rattle.std.proofs.lemmas.List.{append-nil, append_assoc, map-append}
+use Rattle.std.proofs.lemmas.Bool.{le-ltb, lt-ltb}
 use Rattle.std.proofs.lemmas.List.Elements.{All-cons, All-nil}
+use Rattle.hp_model.specs.declared.answer.Answer.TheVariants.{Done, Home}
 use Rattle.hp_model.specs.declared.entry.Receipt.{Receipt}
 use Rattle.hp_model.specs.declared.event.Event.{Event}
+use Rattle.hp_model.specs.declared.event.Event.TheVariants.{Tasks as OnTasks, Slot as OnSlot}
+use Rattle.hp_model.specs.declared.event.SlotEvent.{SlotEvent}
+use Rattle.hp_model.specs.declared.event.TableEvent.TheVariants.{Find}
 use Rattle.hp_model.specs.declared.refusal.Refusal.{Refusal}
-use Rattle.hp_model.specs.declared.refusal.Refusal.TheVariants.{TraceFull}
+use Rattle.hp_model.specs.declared.refusal.Refusal.TheVariants.{NoSuchSlot, TraceFull}
 use Rattle.hp_model.specs.declared.step.Step.{Step}
 use Rattle.hp_model.specs.machine.Plan.{Reply}
-use Rattle.hp_model.specs.machine.Step.{Answer_with, Do, Script, Where_mapped, only, script}
+use Rattle.hp_model.specs.machine.Step.{Answer_with, Do, Script, Where_mapped, finding, home_in, on_slot, only, script}
+use Rattle.hp_model.specs.machine.Table.{Table, home_of, when_known}
 use Rattle.hp_model.specs.threads.Telling.{Tells, TellsFront, TellsStep, has_place, most_receipts, told_of}
 use Rattle.hp_shared.specs.Slots.{is_trace_full}
-use Rattle.hp_sessions.specs.Calls.{AreAdded, AreAnswers, CanAnswer, Carries, Grows, HasRoomFor, IsAnswered, IsHanded, IsMade, IsRefusedFirst, IsTold, IsToldOf, SessionView, noted}
+use Rattle.hp_sessions.specs.Calls.{AreAdded, AreAnswers, CanAnswer, Carries, Grows, HasRoomFor, IsAnswered, IsHanded, IsMade, IsRefusedFirst, IsTold, IsToldOf, Leads, SessionView, noted}
 
 -- ---- cases of a test
 
@@ -73,16 +79,16 @@ module _ (kept : Bool) (size : ℕ) where
   }
 
   module _ (s t : SessionView) (e : Event) (r : Reply) (made : IsMade kept size s e r t) where
-    abbrev Full : Type 0
-    Full = (kept ≡ true) × (has_place e ≡ false) × (t ≡ s)
+    abbrev FullOnes : Type 0
+    FullOnes = (kept ≡ true) × (has_place e ≡ false) × (t ≡ s)
 
-    abbrev Done : Type 0
-    Done = CanAnswer size e r × AreAdded kept s ((e, r) ∷ []) t
+    abbrev MadeOnes : Type 0
+    MadeOnes = CanAnswer size e r × AreAdded kept s ((e, r) ∷ []) t
 
     -- an event with its reply, and what follows
     pub goes_on : (next : Reply → Script) (reply : Reply) (u : SessionView) → is_trace_full r ≡ false → Carries kept size t (next r) reply u → Carries kept size s (Do e next) reply u
     goes_on next reply u is rest =
-        let done = done_in (is_trace_full r) Full Done is made in
+        let done = done_in (is_trace_full r) FullOnes MadeOnes is made in
         record {
           events = (e, r) ∷ rest.events;
           added = added_then kept s t u ((e, r) ∷ []) rest.events done.1 rest.added;
@@ -93,7 +99,7 @@ module _ (kept : Bool) (size : ℕ) where
     -- an event for which there was no place
     pub stops : (next : Reply → Script) → is_trace_full r ≡ true → Carries kept size s (Do e next) r t
     stops next is =
-        let full = full_in (is_trace_full r) Full Done is made in
+        let full = full_in (is_trace_full r) FullOnes MadeOnes is made in
         record {
           events = [];
           added = subst (λ (v : SessionView). AreAdded kept s [] v) (sym full.2) (added_none kept s);
@@ -109,7 +115,45 @@ module _ (kept : Bool) (size : ℕ) where
         by true is = stops (λ x. Answer_with x) is
         by false is = goes_on (λ x. Answer_with x) r t is (ends t r is)
 
-  -- a choice by whether a task has a map on a slot goes either way
+  -- an event that is refused ends the step
+  pub refused_made : (s t : SessionView) (e : Event) (x : Refusal) (next : Reply → Script) → next (Err x) ≡ Answer_with (Err x) → IsMade kept size s e (Err x) t →
+      Carries kept size s (Do e next) (Err x) t
+  refused_made s t e x next is made = by (is_trace_full (Err x)) refl
+    where
+      by : (b : Bool) → is_trace_full (Err x) ≡ b → Carries kept size s (Do e next) (Err x) t
+      by true full = stops s t e (Err x) made next full
+      by false open = goes_on s t e (Err x) made next (Err x) t open (subst (λ c. Carries kept size t c (Err x) t) (sym is) (ends t (Err x) open))
+
+  -- ---- an event on a slot
+
+  abbrev Tested : SessionView → ℕ → SlotEvent → Bool → Script
+  Tested s k e b = if b then only (OnSlot k e) else Answer_with (Err NoSuchSlot)
+
+  pub on_slot_made : (s t : SessionView) (k : ℕ) (e : SlotEvent) (r : Reply) → k < s.slots → IsMade kept size s (OnSlot k e) r t → Carries kept size s (on_slot s.slots k e) r t
+  on_slot_made s t k e r within made =
+      subst (λ b. Carries kept size s (Tested s k e b) r t) (sym (lt-ltb k s.slots within)) (only_made s t (OnSlot k e) r made)
+
+  pub no_slot : (s : SessionView) (k : ℕ) (e : SlotEvent) → s.slots ≤ k → Carries kept size s (on_slot s.slots k e) (Err NoSuchSlot) s
+  no_slot s k e over = subst (λ b. Carries kept size s (Tested s k e b) (Err NoSuchSlot) s) (sym (le-ltb k s.slots over)) (ends s (Err NoSuchSlot) refl)
+
+  -- ---- a task that is looked up
+
+  pub found : (s t : SessionView) (task home : ℕ) → IsMade kept size s (OnTasks (Find task)) (Ok (Home home)) t → (f : ℕ → Script) → Leads kept size s (finding task f) t (f home)
+  found s t task home made f reply u rest = goes_on s t (OnTasks (Find task)) (Ok (Home home)) made (λ r. home_in r f) reply u refl rest
+
+  pub not_found : (s t : SessionView) (task : ℕ) (x : Refusal) → IsMade kept size s (OnTasks (Find task)) (Err x) t → (f : ℕ → Script) → Carries kept size s (finding task f) (Err x) t
+  not_found s t task x made f = refused_made s t (OnTasks (Find task)) x (λ r. home_in r f) refl made
+
+  -- a task that is looked up is answered its home, if anything
+  pub never_done : (s t : SessionView) (task : ℕ) → IsMade kept size s (OnTasks (Find task)) (Ok Done) t → ⊥
+  never_done s t task made =
+      let can = made.0 in by (home_of can.1 task) refl (ap (λ (x : Reply × Table). x.0) can.3)
+    where
+      by : (o : Option ℕ) → home_of made.0.1 task ≡ o → (when_known made.0.1 o (λ home. (Ok (Home home), made.0.1))).0 ≡ Ok Done → ⊥
+      by None is e = cc
+      by (Some home) is e = cc
+
+  -- ---- a choice by whether a task has a map on a slot goes either way
   pub where_mapped : (s t : SessionView) (k task : ℕ) (mapped other : Script) (reply : Reply) → Carries kept size s mapped reply t → Carries kept size s (Where_mapped k task mapped other) reply t
   where_mapped s t k task mapped other reply c = record {
     events = c.events;

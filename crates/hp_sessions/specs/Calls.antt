@@ -99,6 +99,10 @@ pub record Carries (kept : Bool) (size : ℕ) (s : SessionView) (c : Script) (re
 abbrev pub Leads : (kept : Bool) (size : ℕ) → SessionView → Script → SessionView → Script → Type 0
 Leads kept size s c t next = (reply : Reply) (u : SessionView) → Carries kept size t next reply u → Carries kept size s c reply u
 
+-- there is room for n receipts more, where entries are kept
+abbrev pub HasRoom : (kept : Bool) (n : ℕ) → SessionView → Type 0
+HasRoom kept n s = kept ≡ true → length s.receipts + n ≤ s.room
+
 -- at most n receipts came
 pub record Grows (n : ℕ) (s t : SessionView) : Type 0 where
   pub slots : t.slots ≡ s.slots

@@ -1,4 +1,9 @@
 //! The machine that threads share, and sessions on it.
 #![tactic(auto)]
 
-pub struct Placeholder {}
+mod session;
+mod shared;
+mod work;
+
+pub use session::Session;
+pub use shared::Shared;
