@@ -1,4 +1,4 @@
-//! The machine that threads share, and sessions on it.
+//! The machine that threads share, and their sessions on it.
 #![tactic(auto)]
 
 mod session;
@@ -6,4 +6,4 @@ mod shared;
 mod work;
 
 pub use session::Session;
-pub use shared::Shared;
+pub use shared::{Shared, Trails};

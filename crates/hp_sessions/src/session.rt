@@ -96,3 +96,20 @@ impl<'a, N: Naming, R: Wait, G: Gate, const K: usize> Session<'a, N, R, G, K> {
         }
     }
 }
+
+impl<N: Naming, const K: usize> Shared<N, K> {
+    // The bytes of a page, as the machine's names have them.
+    fn page_size(&self) -> u64
+        ensures { result ≡ N.page_bytes }
+    {
+        self.page_bytes as u64
+    }
+
+    // How many slots there are.
+    fn count(&self) -> usize
+        ensures count { result ≡ self.now.slots }
+        ensures few { result ≤ 64 }
+    {
+        self.slots.len()
+    }
+}

@@ -101,7 +101,7 @@ impl<'a, N: Naming, R: Wait, G: Gate, const K: usize> Session<'a, N, R, G, K> {
         let mut door = Door::new(self.rt, self.gate, &self.shared.core, &self.shared.nodes);
         slot.event(
             &mut door,
-            self.shared.page_bytes(),
+            self.shared.page_size(),
             home,
             event,
             noted,
@@ -137,7 +137,7 @@ impl<'a, N: Naming, R: Wait, G: Gate, const K: usize> Session<'a, N, R, G, K> {
         slot.mount(
             &mut door,
             self.shared.alloc,
-            self.shared.page_bytes(),
+            self.shared.page_size(),
             options,
             noted,
         )

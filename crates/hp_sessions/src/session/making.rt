@@ -86,7 +86,7 @@ impl<'a, N: Naming, R: Wait, G: Gate, const K: usize> Session<'a, N, R, G, K> {
             HasAnswerOf (event_of home event.entry) (told_answer told)) }
     {
         let at = slot as usize;
-        if at >= self.shared.slots() {
+        if at >= self.shared.count() {
             return Err(Refusal::NoSuchSlot);
         }
         let (told, receipt) = self.enter_slot(at, home, event, copies, room);
@@ -109,7 +109,7 @@ impl<'a, N: Naming, R: Wait, G: Gate, const K: usize> Session<'a, N, R, G, K> {
         ensures limits { IsWithinLimits (told_reply result) }
     {
         let at = slot as usize;
-        if at >= self.shared.slots() {
+        if at >= self.shared.count() {
             return Err(Refusal::NoSuchSlot);
         }
         let (told, receipt) = self.enter_mount(at, options, copies);
@@ -125,7 +125,7 @@ impl<'a, N: Naming, R: Wait, G: Gate, const K: usize> Session<'a, N, R, G, K> {
         ensures limits { IsWithinLimits (told_reply result) }
     {
         let at = slot as usize;
-        if at >= self.shared.slots() {
+        if at >= self.shared.count() {
             return Err(Refusal::NoSuchSlot);
         }
         let (told, receipt) = self.enter_umount(at);
@@ -141,7 +141,7 @@ impl<'a, N: Naming, R: Wait, G: Gate, const K: usize> Session<'a, N, R, G, K> {
         ensures limits { IsWithinLimits (told_reply result) }
     {
         let at = slot as usize;
-        if at >= self.shared.slots() {
+        if at >= self.shared.count() {
             return Err(Refusal::NoSuchSlot);
         }
         let (names, receipt) = self.enter_names(at);

@@ -111,7 +111,7 @@ impl<'a, N: Naming, R: Wait, G: Gate, const K: usize> Session<'a, N, R, G, K> {
         if let Work::OfTask { task, slot, event } = *work {
             return self.of_task(task, slot, event, room);
         }
-        if self.lacks(most_receipts(self.shared.slots(), work)) {
+        if self.lacks(most_receipts(self.shared.count(), work)) {
             return Err(Refusal::TraceFull);
         }
         match *work {
