@@ -1,5 +1,5 @@
 //! A session's door to the pool under its lock.
-ghost use Rattle.std.specs.Prelude.{◌≡◌, ◌<◌, ℕ, None, Option, []};
+ghost use Rattle.std.specs.Prelude.{◌≡◌, ◌<◌, ℕ, None, Option, true, []};
 ghost use Rattle.hp_model.specs.declared.entry.Asked.{Asked as AskedValue};
 ghost use Rattle.hp_model.specs.declared.section.PoolAnswer.{PoolAnswer};
 ghost use Rattle.hp_model.specs.declared.section.Section.{Section};
@@ -56,8 +56,8 @@ impl<'a, N: Naming, R: Wait, G: Gate, T: Trail<PoolEntry>> Door<'a, N, R, G, T> 
     ) -> Result<(Subpool<N>, Limits), Refusal>
         requires ready { self.old.asked ≡ None }
         requires bytes { 0 < page_bytes }
-        ensures { IsOpenedAt (λ d s a e. Asks e.asked s a) (λ d. d.asked ≡ None) page_bytes
-            options.now
+        ensures { IsOpenedAt (λ d s a e. Asks e.asked s a)
+            (λ d. (d.asked ≡ None) × (T.keeps ≡ true)) page_bytes options.now
             self.old self.new (shown (λ s. s) result) }
     {
         let opened = self.core.lock(self.rt).open(options, page_bytes);
@@ -99,7 +99,7 @@ impl<'a, N: Naming, R: Wait, G: Gate, T: Trail<PoolEntry>> PoolDoor for Door<'a,
 
     ghost took = { λ d s a e. Asks e.asked s a };
 
-    ghost is_full = { λ d. d.asked ≡ None };
+    ghost is_full = { λ d. (d.asked ≡ None) × (T.keeps ≡ true) };
 
     ghost is_left = { λ d. Unit {0} };
 

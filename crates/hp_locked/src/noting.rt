@@ -1,5 +1,5 @@
 //! Entries of the pool's trail.
-ghost use Rattle.std.specs.Prelude.{◌≡◌, true};
+ghost use Rattle.std.specs.Prelude.{◌≡◌, true, is_some};
 ghost use Rattle.hp_model.specs.declared.entry.Part.TheVariants.{Pool as AtPool};
 ghost use Rattle.hp_model.specs.declared.entry.PoolEntry.TheVariants.{OfPool, OfSlot};
 ghost use Rattle.hp_model.specs.declared.event.Event.TheVariants.{Pool as OnPool};
@@ -49,6 +49,7 @@ pub(crate) fn note_event<T: Trail<PoolEntry>>(
     ensures extra { T.extra trail.new ≡ T.extra trail.old }
     ensures receipt { IsReceipt (T.entries trail.old) AtPool (OnPool event) (pool_reply told)
         result }
+    ensures given { is_some result ≡ T.keeps }
 {
     let receipt = pool_receipt(trail, event, told);
     trail.push(PoolEntry::OfPool {
@@ -59,7 +60,9 @@ pub(crate) fn note_event<T: Trail<PoolEntry>>(
 }
 
 fn pool_receipt<T: Trail<PoolEntry>>(trail: &T, event: PoolEvent, told: PoolTold) -> Option<Receipt>
-    ensures { IsReceipt (T.entries trail.now) AtPool (OnPool event) (pool_reply told) result }
+    ensures receipt { IsReceipt (T.entries trail.now) AtPool (OnPool event) (pool_reply told)
+        result }
+    ensures given { is_some result ≡ T.keeps }
 {
     if !trail.is_kept() {
         return None;

@@ -1,5 +1,5 @@
 //! The pool under its lock.
-ghost use Rattle.std.specs.Prelude.{◌≡◌, ◌+◌, ◌-◌, ◌*◌, ◌<◌, ◌≤◌, ◌^◌, length, true, false, IfOk, IfErr, IfSome, IfNone, OnOk, OnErr, Ok, Err, Some, None};
+ghost use Rattle.std.specs.Prelude.{◌≡◌, ◌+◌, ◌-◌, ◌*◌, ◌<◌, ◌≤◌, ◌^◌, length, true, false, is_some, IfOk, IfErr, IfSome, IfNone, OnOk, OnErr, Ok, Err, Some, None};
 ghost use Rattle.std.specs.List.{sum};
 ghost use Rattle.hp_model.specs.declared.entry.PoolEntry.TheVariants.{OfSlot};
 ghost use Rattle.hp_model.specs.declared.section.Section.TheVariants.{GiveBack, TakePage};
@@ -9,6 +9,7 @@ ghost use Rattle.hp_model.specs.declared.entry.Part.TheVariants.{Pool as AtPool}
 ghost use Rattle.hp_model.specs.declared.event.Event.TheVariants.{Pool as OfPool};
 ghost use Rattle.hp_model.specs.files.Options.{limits, wanted_of};
 ghost use Rattle.hp_model.specs.pool.Resize.{node_counts, pool_event};
+ghost use Rattle.hp_model.specs.text.Writing.{IsWithinLimits};
 ghost use Rattle.hp_model.specs.threads.Closing.{to_return};
 ghost use Rattle.hp_mount_door.specs.Door.{IsReady, grant_for, page_for, with_granted, with_less, with_page, with_reserves};
 ghost use Rattle.hp_pool.specs.Sums.{idle_pool};
@@ -113,6 +114,7 @@ impl<N: Naming, T: Trail<PoolEntry>> Core<N, T> {
         ensures one { IfOk result (λ r. r.0.amount ≡ 1) }
         ensures share { OnOk result (share.new ≡ with_page share.old) }
         ensures full { OnErr result (has_room false self.old.left self.old.extra ≡ false) }
+        ensures keeps { OnErr result (T.keeps ≡ true) }
         ensures same { OnErr result (self.new ≡ self.old) }
         ensures unchanged { OnErr result (share.new ≡ share.old) }
     {
@@ -145,6 +147,7 @@ impl<N: Naming, T: Trail<PoolEntry>> Core<N, T> {
         ensures share { IfOk result (λ t. IfSome t (λ a.
             IsAnswered a.answer share.old (with_reserves k share.old) share.new)) }
         ensures full { OnErr result (has_room false self.old.left self.old.extra ≡ false) }
+        ensures keeps { OnErr result (T.keeps ≡ true) }
         ensures asking { OnErr result (0 < rise share.old k) }
         ensures same { OnErr result (self.new ≡ self.old) }
         ensures unchanged { OnErr result (share.new ≡ share.old) }
@@ -184,6 +187,7 @@ impl<N: Naming, T: Trail<PoolEntry>> Core<N, T> {
         ensures none { IfOk result (λ r. IfNone r.0
             ((r.1.answer ≡ no_pages) × (share.new ≡ share.old))) }
         ensures full { OnErr result (has_room false self.old.left self.old.extra ≡ false) }
+        ensures keeps { OnErr result (T.keeps ≡ true) }
         ensures same { OnErr result (self.new ≡ self.old) }
         ensures unchanged { OnErr result (share.new ≡ share.old) }
     {
@@ -241,6 +245,7 @@ impl<N: Naming, T: Trail<PoolEntry>> Core<N, T> {
             (wanted_of options.now))
             self.old.pool.nr r.0 r.1.section r.1.answer) }
         ensures full { OnErr result (has_room false self.old.left self.old.extra ≡ false) }
+        ensures keeps { OnErr result (T.keeps ≡ true) }
         ensures same { OnErr result (self.new ≡ self.old) }
     {
         let Core { pool, trail } = self;
@@ -259,7 +264,10 @@ impl<N: Naming, T: Trail<PoolEntry>> Core<N, T> {
         ensures done { IfOk result (λ r. IsPoolEventDone self.old self.new event (pool_reply r.0)) }
         ensures receipt { IfOk result (λ r. IsReceipt self.old.entries AtPool (OfPool event)
             (pool_reply r.0) r.1) }
+        ensures given { IfOk result (λ r. is_some r.1 ≡ T.keeps) }
+        ensures limits { IfOk result (λ r. IsWithinLimits (pool_reply r.0)) }
         ensures full { OnErr result (has_room false self.old.left self.old.extra ≡ false) }
+        ensures keeps { OnErr result (T.keeps ≡ true) }
         ensures same { OnErr result (self.new ≡ self.old) }
     {
         let Core { pool, trail } = self;

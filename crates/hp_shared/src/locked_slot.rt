@@ -1,5 +1,5 @@
 //! A slot with its trail.
-ghost use Rattle.std.specs.Prelude.{◌≡◌, ◌<◌, ◌≤◌, ◌==◌, Ok, ℕ, [], length, true, false, None, Some, is_some};
+ghost use Rattle.std.specs.Prelude.{◌≡◌, ◌⊎◌, ◌<◌, ◌≤◌, ◌==◌, Ok, ℕ, [], length, true, false, None, Some, is_some};
 ghost use Rattle.hp_model.specs.declared.answer.Answer.TheVariants.{Done};
 ghost use Rattle.hp_model.specs.declared.event.SlotEvent.TheVariants.{ExitMaps, ForkMaps, Ls, Mount as Mounting, Umount};
 ghost use Rattle.hp_model.specs.declared.entry.Part.TheVariants.{Slot as AtSlot};
@@ -17,7 +17,7 @@ ghost use Rattle.hp_locked.specs.Views.{IsFresh};
 ghost use Rattle.hp_mount.specs.Event.{event_of};
 ghost use Rattle.hp_store.specs.Store.{Store as StoreValue, page_at};
 ghost use Rattle.hp_subpool.specs.Subpool.{Subpool as ShareValue};
-ghost use Rattle.hp_shared.specs.Slots.{AreNoted, IsSlotEvent, IsSlotEventDone, IsSlotTrail, names_reply, slot_start};
+ghost use Rattle.hp_shared.specs.Slots.{AreNoted, IsSlotEvent, IsSlotEventDone, IsSlotTrail, is_trace_full, names_reply, slot_start};
 ghost use Rattle.hp_trail.specs.Keeping.{added, has_room, one_less};
 
 use crate::mounting::{mount as open, unmount};
@@ -105,9 +105,17 @@ impl<N: Naming, T: Trail<SlotEntry>> Slot<N, T> {
         (number, mount, trail)
     }
 
+    /// The slot's number.
+    pub fn number(&self) -> u64
+        ensures { result ≡ self.now.number }
+    {
+        self.number
+    }
+
     /// Whether entries are kept.
     pub fn is_kept(&self) -> bool
-        ensures { result ≡ is_some self.now.entries }
+        ensures kept { result ≡ is_some self.now.entries }
+        ensures keeps { result ≡ T.keeps }
     {
         self.trail.is_kept()
     }
@@ -146,6 +154,11 @@ impl<N: Naming, T: Trail<SlotEntry>> Slot<N, T> {
         ensures done { IsSlotEvent (D.is_full door.new) N.page_bytes self.old self.new
             (event_of home event.entry)
             (told_reply result.0) (D.asked door.new) result.1 }
+        ensures number { self.new.number ≡ self.old.number }
+        ensures keeps { is_trace_full (told_reply result.0) ≡ true
+            → (T.keeps ≡ true) ⊎ D.is_full door.new }
+        ensures given { is_trace_full (told_reply result.0) ≡ false
+            → is_some result.1 ≡ T.keeps }
         ensures limits { IsWithinLimits (told_reply result.0) }
     {
         let Slot {
@@ -177,6 +190,8 @@ impl<N: Naming, T: Trail<SlotEntry>> Slot<N, T> {
         requires has { has_maps_of task self.old.mount ≡ true }
         ensures done { IsSlotEventDone N.page_bytes self.old self.new (ExitMaps task) (Ok Done)
             (D.asked door.new) result }
+        ensures number { self.new.number ≡ self.old.number }
+        ensures given { is_some result ≡ T.keeps }
     {
         let Slot {
             number,
@@ -204,6 +219,11 @@ impl<N: Naming, T: Trail<SlotEntry>> Slot<N, T> {
         requires apart { (parent == child) ≡ false }
         ensures done { IsSlotEvent ⊥ N.page_bytes self.old self.new (ForkMaps parent child)
             (told_reply result.0) (D.asked door.new) result.1 }
+        ensures number { self.new.number ≡ self.old.number }
+        ensures keeps { is_trace_full (told_reply result.0) ≡ true → T.keeps ≡ true }
+        ensures given { is_trace_full (told_reply result.0) ≡ false
+            → is_some result.1 ≡ T.keeps }
+        ensures limits { IsWithinLimits (told_reply result.0) }
     {
         let Slot {
             number,
@@ -234,6 +254,11 @@ impl<N: Naming, T: Trail<SlotEntry>> Slot<N, T> {
         requires ready { D.is_ready door.old }
         ensures done { IsSlotEvent ⊥ N.page_bytes self.old self.new Umount
             (told_reply result.0) (D.asked door.new) result.1 }
+        ensures number { self.new.number ≡ self.old.number }
+        ensures keeps { is_trace_full (told_reply result.0) ≡ true → T.keeps ≡ true }
+        ensures given { is_trace_full (told_reply result.0) ≡ false
+            → is_some result.1 ≡ T.keeps }
+        ensures limits { IsWithinLimits (told_reply result.0) }
     {
         let Slot {
             number,
@@ -268,6 +293,12 @@ impl<N: Naming, T: Trail<SlotEntry>> Slot<N, T> {
         ensures done { IsSlotEvent (D.is_full door.new) N.page_bytes self.old self.new
             (Mounting options.now)
             (told_reply result.0) (D.asked door.new) result.1 }
+        ensures number { self.new.number ≡ self.old.number }
+        ensures keeps { is_trace_full (told_reply result.0) ≡ true
+            → (T.keeps ≡ true) ⊎ D.is_full door.new }
+        ensures given { is_trace_full (told_reply result.0) ≡ false
+            → is_some result.1 ≡ T.keeps }
+        ensures limits { IsWithinLimits (told_reply result.0) }
     {
         let Slot {
             number,
@@ -291,6 +322,11 @@ impl<N: Naming, T: Trail<SlotEntry>> Slot<N, T> {
     pub fn names(&mut self, alloc: Global) -> (Result<Names, Refusal>, Option<Receipt>)
         ensures done { IsSlotEvent ⊥ N.page_bytes self.old self.new Ls (names_reply result.0) None
             result.1 }
+        ensures number { self.new.number ≡ self.old.number }
+        ensures keeps { is_trace_full (names_reply result.0) ≡ true → T.keeps ≡ true }
+        ensures given { is_trace_full (names_reply result.0) ≡ false
+            → is_some result.1 ≡ T.keeps }
+        ensures limits { IsWithinLimits (names_reply result.0) }
     {
         let Slot {
             number,
@@ -360,6 +396,7 @@ fn note<T: Trail<SlotEntry>>(
         T.left trail.new ≡ one_less (T.left trail.old) }
     ensures none { T.entries trail.old ≡ None → T.left trail.new ≡ T.left trail.old }
     ensures extra { T.extra trail.new ≡ T.extra trail.old }
+    ensures given { is_some result ≡ T.keeps }
     ensures receipt { (e : SlotEventValue) → AreNoted (T.entries trail.old) e noted
         → IsReceipt (T.entries trail.old) (AtSlot slot) (OnSlot slot e) (told_reply told.now)
         result }

@@ -1,5 +1,5 @@
 //! The task table under its lock.
-ghost use Rattle.std.specs.Prelude.{◌≡◌, ◌≤◌, ◌||◌, [], length, true, false, IfOk, OnErr, IsOk};
+ghost use Rattle.std.specs.Prelude.{◌≡◌, ◌≤◌, ◌||◌, [], length, true, false, is_some, IfOk, OnErr, IsOk};
 ghost use Rattle.hp_model.specs.declared.entry.Part.TheVariants.{Tasks as AtTasks};
 ghost use Rattle.hp_model.specs.declared.event.Event.TheVariants.{Tasks as OnTasks};
 ghost use Rattle.hp_model.specs.machine.Accesses.{done_reply};
@@ -95,8 +95,10 @@ impl<N: Naming, T: Trail<TableEntry>> Table<N, T> {
             self.old self.new event (table_reply r.0)) }
         ensures receipt { IfOk result (λ r. IsReceipt self.old.entries AtTasks (OnTasks event)
             (table_reply r.0) r.1) }
+        ensures given { IfOk result (λ r. is_some r.1 ≡ T.keeps) }
         ensures closing { removes_task self.old.tasks event ≡ true → IsOk result }
         ensures full { OnErr result (has_room false self.old.left self.old.extra ≡ false) }
+        ensures keeps { OnErr result (T.keeps ≡ true) }
         ensures same { OnErr result (self.new ≡ self.old) }
     {
         let Table {
@@ -116,8 +118,9 @@ impl<N: Naming, T: Trail<TableEntry>> Table<N, T> {
 
 // Whether the event takes away a task that is there, or the trail has a place for an entry of any kind.
 fn may_note<T: Trail<TableEntry>>(tasks: &TaskTable, trail: &T, event: TableEvent) -> bool
-    ensures { result ≡ (removes_task tasks.now event
+    ensures may { result ≡ (removes_task tasks.now event
         || has_room false (T.left trail.now) (T.extra trail.now)) }
+    ensures keeps { result ≡ false → T.keeps ≡ true }
 {
     removes(tasks, event) || trail.has_room(false)
 }
@@ -165,6 +168,7 @@ fn note<T: Trail<TableEntry>>(trail: &mut T, event: TableEvent, told: TableTold)
     ensures extra { T.extra trail.new ≡ T.extra trail.old }
     ensures receipt { IsReceipt (T.entries trail.old) AtTasks (OnTasks event) (table_reply told)
         result }
+    ensures given { is_some result ≡ T.keeps }
 {
     let receipt = receipt_of(trail, event, told);
     trail.push(TableEntry {
@@ -179,7 +183,9 @@ fn receipt_of<T: Trail<TableEntry>>(
     event: TableEvent,
     told: TableTold,
 ) -> Option<Receipt>
-    ensures { IsReceipt (T.entries trail.now) AtTasks (OnTasks event) (table_reply told) result }
+    ensures receipt { IsReceipt (T.entries trail.now) AtTasks (OnTasks event) (table_reply told)
+        result }
+    ensures given { is_some result ≡ T.keeps }
 {
     if !trail.is_kept() {
         return None;

@@ -1,5 +1,6 @@
 -- What a trail keeps, and the room that it has.
-use Rattle.std.specs.Prelude.{ℕ, ◌+◌, ◌-◌, Bool, true, false, Option, None, Some, List, [], ◌∷◌, ◌++◌, length, nat_lt}
+use Rattle.std.specs.Prelude.{◌≡◌, refl, ℕ, ◌+◌, ◌-◌, Bool, true, false, Option, None, Some, is_some, List, [], ◌∷◌, ◌++◌, length, nat_lt}
+use Rattle.std.proofs.lemmas.Bool.{true≢false}
 
 -- the entries so far, the places for entries of every kind, and those beyond for closing entries
 -- alone
@@ -28,3 +29,31 @@ one_less (Some left) = Some (left - 1)
 abbrev pub added : {X : Type 0} → Option (List X) → X → Option (List X)
 added None e = None
 added (Some es) e = Some (es ++ e ∷ [])
+
+-- ---- by whether entries are kept
+
+abbrev pub kept_if : {X : Type 0} → Bool → Keeping X → Option (List X)
+kept_if true k = Some k.entries
+kept_if false k = None
+
+abbrev pub left_if : {X : Type 0} → Bool → Keeping X → Option ℕ
+left_if true k = Some (places_left k)
+left_if false k = None
+
+-- where nothing is kept, there are as many places for closing entries as any trail has
+abbrev pub extra_if : {X : Type 0} → Bool → Keeping X → ℕ
+extra_if true k = k.extra
+extra_if false k = 524288
+
+-- nothing in it yet, with these places where entries are kept
+abbrev pub opened_if : {X : Type 0} → Bool → (places extra : ℕ) → Keeping X
+opened_if true places extra = record { entries = []; places = places; extra = extra }
+opened_if false places extra = record { entries = []; places = 0; extra = 0 }
+
+pub kept_if_keeps : {X : Type 0} (keeps : Bool) (k : Keeping X) → is_some (kept_if keeps k) ≡ keeps
+kept_if_keeps true k = refl
+kept_if_keeps false k = refl
+
+pub left_if_not : {X : Type 0} (keeps : Bool) (k : Keeping X) → keeps ≡ false → left_if keeps k ≡ None
+left_if_not true k none = elim (true≢false none) [ ]
+left_if_not false k none = refl

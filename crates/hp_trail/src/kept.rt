@@ -1,6 +1,6 @@
 //! A trail that keeps its entries.
-ghost use Rattle.std.specs.Prelude.{◌≡◌, ◌≤◌, ◌+◌, [], Some, true, IfOk, vec_len, vec_capacity};
-ghost use Rattle.hp_trail.specs.Keeping.{places_left};
+ghost use Rattle.std.specs.Prelude.{◌≡◌, ◌≤◌, ◌+◌, [], Some, true, refl, IfOk, vec_len, vec_capacity};
+ghost use Rattle.hp_trail.specs.Keeping.{left_if_not, places_left};
 
 use crate::trail::Trail;
 use std::alloc::{AllocError, Global};
@@ -51,11 +51,17 @@ impl<E: Drop> Kept<E> {
 }
 
 impl<E: Drop> Trail<E> for Kept<E> {
+    ghost keeps = { true };
+
     ghost entries = { λ k. Some k.entries };
 
     ghost left = { λ k. Some (places_left k) };
 
     ghost extra = { λ k. k.extra };
+
+    ghost kept = { λ k. refl };
+
+    ghost uncounted = { λ k none. left_if_not true k none };
 
     fn is_kept(&self) -> bool {
         true

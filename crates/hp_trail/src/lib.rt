@@ -7,6 +7,7 @@ pub mod kept;
 mod same;
 mod tellers;
 mod telling;
+pub mod trace;
 pub mod trail;
 pub mod unkept;
 mod walk;

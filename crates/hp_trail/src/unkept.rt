@@ -1,5 +1,5 @@
 //! A trail that keeps nothing.
-ghost use Rattle.std.specs.Prelude.{None};
+ghost use Rattle.std.specs.Prelude.{None, false, refl};
 
 use crate::trail::Trail;
 
@@ -8,11 +8,17 @@ use crate::trail::Trail;
 pub struct Unkept {}
 
 impl<E: Drop> Trail<E> for Unkept {
+    ghost keeps = { false };
+
     ghost entries = { λ k. None };
 
     ghost left = { λ k. None };
 
     ghost extra = { λ k. 0 };
+
+    ghost kept = { λ k. refl };
+
+    ghost uncounted = { λ k none. refl };
 
     fn is_kept(&self) -> bool {
         false

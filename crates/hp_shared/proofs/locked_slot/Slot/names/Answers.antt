@@ -15,7 +15,7 @@ use Rattle.hp_trail.specs.Keeping.{added}
 pub returns-then-not-is_kept : goal.returns-then-not-is_kept
 returns-then-not-is_kept g c =
     let s = c.self.inside in
-    let none : g.T.Trail.entries s.trail ≡ None = kept_none (g.T.Trail.entries s.trail) (let is = c.is_kept.ensures in let t = c.if-not-is_kept.true in cc) in
+    let none : g.T.Trail.entries s.trail ≡ None = kept_none (g.T.Trail.entries s.trail) (let is = c.is_kept.ensures.kept in let t = c.if-not-is_kept.true in cc) in
     record {
       done =
           subst (λ (v : SlotView). IsSlotEvent ⊥ g.N.Naming.page_bytes v
@@ -29,7 +29,7 @@ returns-then-not-is_kept g c =
 
 module _ (g : Over) (c : After-note_names-receipt g) where
   kept : is_some (g.T.Trail.entries c.self.inside.trail) ≡ true
-  kept = (let is = c.is_kept.ensures in let t = c.if-not-is_kept.false in cc)
+  kept = (let is = c.is_kept.ensures.kept in let t = c.if-not-is_kept.false in cc)
 
   entries : g.T.Trail.entries c.note_names-receipt.new.trail ≡ added (g.T.Trail.entries c.self.inside.trail)
       (record { event = Ls; reply = names_reply c.list_thrice-names.result.names; asked = None })
