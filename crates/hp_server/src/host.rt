@@ -18,7 +18,8 @@ pub struct Waiting<'a, N: Naming, R: Wait, const K: usize> {
     pub room: usize,
 }
 
-impl<'a, N: Naming, R: Wait, const K: usize> Host for Waiting<'a, N, R, K> {
+// Behind a reference, so that it is known that the machine lives as long as the session.
+impl<'a, N: Naming, R: Wait, const K: usize> Host for &'a Waiting<'a, N, R, K> {
     type Session = Session<'a, N, R, Open, K>;
 
     /// The receipts, in order.

@@ -38,7 +38,7 @@ impl<N: Naming, const K: usize> Machine for Served<N, K> {
             gate: &Open,
             room: self.room,
         };
-        serve_session(alloc, &host, reader, writer)
+        serve_session(alloc, &&host, reader, writer)
     }
 
     fn close(self, alloc: Global, told: Vec<Vec<Receipt>>) -> Result<Closed, AllocError>

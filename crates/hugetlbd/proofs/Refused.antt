@@ -1,5 +1,6 @@
 -- Words that ask for nothing.
-use Rattle.std.proofs.Common.{◌≡◌, ◌∙◌, ◌&&◌, ◌≤◌, ◌++◌, ◌∷◌, ℕ, List, [], map, Bool, true, false, if◌then◌else◌, Option, Some, None, is_some, Ok, MatchOption, IsSomeAnd, refl, sym, ap, subst, inl, inr, arith}
+use Rattle.std.proofs.Common.{◌≡◌, ◌∙◌, ◌&&◌, ◌++◌, ◌∷◌, ℕ, List, [], map, Bool, true, false, if◌then◌else◌, Option, Some, None, is_some, Ok}
+use Rattle.std.proofs.Common.{MatchOption, IsSomeAnd, refl, sym, ap, subst, inl, inr, arith}
 use Rattle.std.specs.Option.{option_map_or}
 use Rattle.clap.specs.Faults.{fault_of, is_simple_and_free}
 use Rattle.clap.specs.Kinds.{HasKind, IsAmong}
@@ -11,7 +12,8 @@ use Rattle.clap.specs.declared.error.kind.ErrorKind.{ErrorKind}
 use Rattle.clap.specs.declared.error.kind.ErrorKind.TheVariants.{OutOfMemory}
 use Rattle.hugetlbd.proofs.Commands.{Found, is_right, options_are}
 use Rattle.hp_model.specs.text.Words.{number_of}
-use Rattle.hugetlbd.specs.Asked.{Asks, AsksToServe, CanBe, HasBadValue, IsGood, IsRefusedFor, IsRight, IsWrongIn, IsWrongOf, Sets, SetsServing, Setting, has_options, hugetlbd, is_serve, machine_options, node_frames, options_of, pieces, serving_options, settings_of}
+use Rattle.hugetlbd.specs.Asked.{Asks, AsksToServe, CanBe, HasBadValue, IsGood, IsRefusedFor, IsRight, IsWrongIn, IsWrongOf, Sets, SetsServing, Setting}
+use Rattle.hugetlbd.specs.Asked.{has_options, hugetlbd, is_serve, machine_options, node_frames, options_of, pieces, serving_options, settings_of}
 use Rattle.hugetlbd.specs.Config.{Choice, IsFrames, IsPage, IsServing, IsWithin, IsWithinLimits}
 use Rattle.hugetlbd.specs.declared.settings.Serving.{Serving}
 use Rattle.hugetlbd.specs.Program.{AsksForText, IsStatusOfWrong, text_asked, text_for}

@@ -47,9 +47,9 @@ Options that serve must have:
       --port <P>       port to listen at: 0 to 65535; at 0 the system chooses one
       --sessions <N>   number of sessions to serve: 1 to 65535
       --workers <W>    number of sessions served at a time: 1 to 64
-      --trace <ROOM>   entries that each trail has room for, and receipts each session: 0 to 16777216;
-                       at 0 none are kept, and nothing is audited at the end. Each takes 608 bytes,
-                       512 more for each slot, and 464 more for each session
+      --trace <ROOM>   entries that each trail has room for, and receipts each session:
+                       0 to 16777216; at 0 none are kept, and nothing is audited at the end.
+                       Each takes 608 bytes, 512 more for each slot, 464 more for each session
 ";
 
 /// What is printed where the words ask for the version.
@@ -136,7 +136,8 @@ fn serve_command<'a>(alloc: Global) -> Result<Command<'a>, AllocError>
 
 // The command with the options of the machine.
 fn with_machine<'a>(alloc: Global, command: Command<'a>) -> Result<Command<'a>, AllocError>
-    ensures app { IfOk result (λ c. app_of c ≡ with_options machine_options (app_of command.entry)) }
+    ensures app { IfOk result (λ c.
+        app_of c ≡ with_options machine_options (app_of command.entry)) }
     ensures local { IfOk result (λ c. IsLocal command.entry → IsLocal c) }
 {
     command
@@ -271,7 +272,8 @@ fn number_or(
 // The number of an option that may not be left out, which lies between the bounds.
 fn number(text: Option<&str>, name: &'static str, low: u64, high: u64) -> Result<u64, Wrong>
     ensures bounds { IfOk result (λ n. (low ≤ n) × (n ≤ high)) }
-    ensures reads { IfOk result (λ n. IsSomeAnd text.entry (λ text. number_of text.now ≡ Ok n)) }
+    ensures reads { IfOk result (λ n.
+        IsSomeAnd text.entry (λ text. number_of text.now ≡ Ok n)) }
     ensures wrong { IfErr result (λ wrong. IsBadValue name.now wrong
         × IfSome text.entry (λ text. IsNoneWithin low high text.now)) }
 {
