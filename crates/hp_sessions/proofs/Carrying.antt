@@ -19,7 +19,7 @@ use Rattle.hp_model.specs.machine.Step.{Answer_with, Do, Script, Where_mapped, f
 use Rattle.hp_model.specs.machine.Table.{Table, home_of, when_known}
 use Rattle.hp_model.specs.threads.Telling.{Tells, TellsFront, TellsStep, has_place, most_receipts, told_of}
 use Rattle.hp_shared.specs.Slots.{is_trace_full}
-use Rattle.hp_sessions.specs.Calls.{AreAdded, AreAnswers, CanAnswer, Carries, Grows, HasRoomFor, IsAnswered, IsHanded, IsMade, IsRefusedFirst, IsTold, IsToldOf, Leads, SessionView, noted}
+use Rattle.hp_sessions.specs.Calls.{AreAdded, AreAnswers, CanAnswer, Carries, Grows, HasRoomFor, IsAnswered, IsHanded, IsMade, IsRefusedFirst, IsTold, IsToldOf, Leads, SessionView, TellsOrStops, noted}
 
 -- ---- cases of a test
 
@@ -54,7 +54,7 @@ noted_none : (s : SessionView) → s ≡ noted s []
 noted_none s = ap (λ (rs : List Receipt). record { slots = s.slots; receipts = rs; room = s.room }) (sym (append-nil s.receipts))
 
 noted_then : (s : SessionView) (a b : List Receipt) → noted (noted s a) b ≡ noted s (a ++ b)
-noted_then s a b = ap (λ (rs : List Receipt). record { slots = s.slots; receipts = rs; room = s.room }) append_assoc
+noted_then s a b = ap (λ (rs : List Receipt). record { slots = s.slots; receipts = rs; room = s.room }) (append_assoc s.receipts a b)
 
 added_none : (kept : Bool) (s : SessionView) → AreAdded kept s [] s
 added_none true s = ([], noted_none s, refl)
@@ -68,14 +68,28 @@ added_then true s t u xs ys a b = (
 )
 added_then false s t u xs ys a b = b ∙ a
 
+abbrev Can : ℕ → Event × Reply → Type 0
+Can size x = CanAnswer size x.0 x.1
+
 module _ (kept : Bool) (size : ℕ) where
+  tells_done : (c : Script) (xs : List (Event × Reply)) (reply : Reply) → is_trace_full reply ≡ false → Tells c xs reply → TellsOrStops kept c xs reply
+  tells_done c xs reply is h = done_put (is_trace_full reply) ((kept ≡ true) × TellsFront c xs) (Tells c xs reply) is h
+
+  tells_full : (c : Script) (xs : List (Event × Reply)) (reply : Reply) → is_trace_full reply ≡ true → kept ≡ true → TellsFront c xs → TellsOrStops kept c xs reply
+  tells_full c xs reply is k h = full_put (is_trace_full reply) ((kept ≡ true) × TellsFront c xs) (Tells c xs reply) is (k, h)
+
+  tells_by : (c d : Script) (xs ys : List (Event × Reply)) (reply : Reply) → (TellsFront c xs → TellsFront d ys) → (Tells c xs reply → Tells d ys reply) →
+      TellsOrStops kept c xs reply → TellsOrStops kept d ys reply
+  tells_by c d xs ys reply f g h =
+      map_match (is_trace_full reply) ((kept ≡ true) × TellsFront c xs) (Tells c xs reply) ((kept ≡ true) × TellsFront d ys) (Tells d ys reply) (λ t. (t.0, f t.1)) g h
+
   -- nothing more comes
   pub ends : (s : SessionView) (r : Reply) → is_trace_full r ≡ false → Carries kept size s (Answer_with r) r s
   ends s r is = record {
     events = [];
     added = added_none kept s;
-    answers = All-nil _;
-    tells = done_put (is_trace_full r) _ _ is refl;
+    answers = All-nil (Can size);
+    tells = tells_done (Answer_with r) [] r is refl;
   }
 
   module _ (s t : SessionView) (e : Event) (r : Reply) (made : IsMade kept size s e r t) where
@@ -92,8 +106,8 @@ module _ (kept : Bool) (size : ℕ) where
         record {
           events = (e, r) ∷ rest.events;
           added = added_then kept s t u ((e, r) ∷ []) rest.events done.1 rest.added;
-          answers = All-cons _ (e, r) rest.events done.0 rest.answers;
-          tells = map_match (is_trace_full reply) _ _ _ _ (λ h. (h.0, (refl, h.1))) (λ h. (refl, h)) rest.tells;
+          answers = All-cons (Can size) (e, r) rest.events done.0 rest.answers;
+          tells = tells_by (next r) (Do e next) rest.events ((e, r) ∷ rest.events) reply (λ h. (refl, h)) (λ h. (refl, h)) rest.tells;
         }
 
     -- an event for which there was no place
@@ -103,8 +117,8 @@ module _ (kept : Bool) (size : ℕ) where
         record {
           events = [];
           added = subst (λ (v : SessionView). AreAdded kept s [] v) (sym full.2) (added_none kept s);
-          answers = All-nil _;
-          tells = full_put (is_trace_full r) _ _ is (full.0, full.1);
+          answers = All-nil (Can size);
+          tells = tells_full (Do e next) [] r is full.0 full.1;
         }
 
     -- an event whose reply is the step's
@@ -122,7 +136,7 @@ module _ (kept : Bool) (size : ℕ) where
     where
       by : (b : Bool) → is_trace_full (Err x) ≡ b → Carries kept size s (Do e next) (Err x) t
       by true full = stops s t e (Err x) made next full
-      by false open = goes_on s t e (Err x) made next (Err x) t open (subst (λ c. Carries kept size t c (Err x) t) (sym is) (ends t (Err x) open))
+      by false clear = goes_on s t e (Err x) made next (Err x) t clear (subst (λ c. Carries kept size t c (Err x) t) (sym is) (ends t (Err x) clear))
 
   -- ---- an event on a slot
 
@@ -159,7 +173,7 @@ module _ (kept : Bool) (size : ℕ) where
     events = c.events;
     added = c.added;
     answers = c.answers;
-    tells = map_match (is_trace_full reply) _ _ _ _ (λ h. (h.0, inl h.1)) (λ h. inl h) c.tells;
+    tells = tells_by mapped (Where_mapped k task mapped other) c.events c.events reply (λ h. inl h) (λ h. inl h) c.tells;
   }
 
   pub where_other : (s t : SessionView) (k task : ℕ) (mapped other : Script) (reply : Reply) → Carries kept size s other reply t → Carries kept size s (Where_mapped k task mapped other) reply t
@@ -167,13 +181,13 @@ module _ (kept : Bool) (size : ℕ) where
     events = c.events;
     added = c.added;
     answers = c.answers;
-    tells = map_match (is_trace_full reply) _ _ _ _ (λ h. (h.0, inr h.1)) (λ h. inr h) c.tells;
+    tells = tells_by other (Where_mapped k task mapped other) c.events c.events reply (λ h. inr h) (λ h. inr h) c.tells;
   }
 
 -- ---- a whole step
 
 tells_step : (slots : ℕ) (step : Step) (xs : List (Event × Reply)) (reply : Reply) (kept : Bool)
-    → MatchBool (is_trace_full reply) ((kept ≡ true) × TellsFront (script slots step) xs) (Tells (script slots step) xs reply) → TellsStep slots step xs reply
+    → TellsOrStops kept (script slots step) xs reply → TellsStep slots step xs reply
 tells_step slots step xs (Ok a) kept h = h
 tells_step slots step xs (Err TraceFull) kept h = h.1
 tells_step slots step xs (Err other) kept h = h
@@ -193,7 +207,7 @@ answered true size s t step reply room c =
       tells = subst (λ xs. TellsStep s.slots step xs reply) (sym c.added.2) (tells_step s.slots step c.events reply true c.tells);
     })
 answered false size s t step reply room c =
-    let told = never_full (is_trace_full reply) _ _ c.tells in (c.added, told.0, (c.events, c.answers, told.1))
+    let told = never_full (is_trace_full reply) (TellsFront (script s.slots step) c.events) (Tells (script s.slots step) c.events reply) c.tells in (c.added, told.0, (c.events, c.answers, told.1))
 
 pub refused_first : (size : ℕ) (s : SessionView) (step : Step) (reply : Reply) → IsRefusedFirst s step reply → IsAnswered true size s step reply s
 refused_first size s step reply h = inr (refl, h)
@@ -204,7 +218,8 @@ refused_first size s step reply h = inr (refl, h)
 pub made_of : (kept : Bool) (size : ℕ) (s : SessionView) (e : Event) (reply : Reply) (receipt : Option Receipt) (added : List Receipt) → IsHanded kept size e reply receipt →
     (receipt ≡ None → added ≡ []) → ((r : Receipt) → receipt ≡ Some r → added ≡ r ∷ []) → IsMade kept size s e reply (noted s added)
 made_of kept size s e reply receipt added handed none some =
-    map_match (is_trace_full reply) _ _ _ _
+    map_match (is_trace_full reply) ((kept ≡ true) × (has_place e ≡ false) × (receipt ≡ None)) (CanAnswer size e reply × IsToldOf kept e reply receipt)
+    ((kept ≡ true) × (has_place e ≡ false) × (noted s added ≡ s)) (CanAnswer size e reply × AreAdded kept s ((e, reply) ∷ []) (noted s added))
     (λ h. (h.0, h.1, ap (noted s) (none h.2) ∙ sym (noted_none s)))
     (λ h. (h.0, by kept receipt refl h.1)) handed
   where

@@ -132,10 +132,10 @@ module _ (kept : Bool) (size : ℕ) where
 
     pub fork_refused : (s t : SessionView) (k : ℕ) (ks done : List ℕ) (x : Refusal) → is_trace_full (Err x) ≡ false → IsMade kept size s (OnSlot k (ForkMaps parent child)) (Err x) t →
         Leads kept size s (fork_slots (k ∷ ks) done parent child) t (undone done child x)
-    fork_refused s t k ks done x open made reply u c =
+    fork_refused s t k ks done x clear made reply u c =
         let rest = fork_slots ks (done ++ k ∷ []) parent child in
         where_mapped kept size s u k parent (Do (OnSlot k (ForkMaps parent child)) (λ r. or_undone done child r rest)) (fork_slots ks done parent child) reply
-        (goes_on kept size s t (OnSlot k (ForkMaps parent child)) (Err x) made (λ r. or_undone done child r rest) reply u open c)
+        (goes_on kept size s t (OnSlot k (ForkMaps parent child)) (Err x) made (λ r. or_undone done child r rest) reply u clear c)
 
     -- what is left of a fork at the slot `at` of n
     abbrev pub left_at : List Bool → (at n : ℕ) → Script
@@ -168,9 +168,9 @@ module _ (kept : Bool) (size : ℕ) where
 
     pub slot_refused : (s t : SessionView) (done : List Bool) (at n : ℕ) (x : Refusal) → at < n → is_trace_full (Err x) ≡ false →
         IsMade kept size s (OnSlot at (ForkMaps parent child)) (Err x) t → Leads kept size s (left_at done at n) t (undone (marked done at) child x)
-    slot_refused s t done at n x below open made reply u c =
+    slot_refused s t done at n x below clear made reply u c =
         subst (λ xs. Carries kept size s (fork_slots xs (marked done at) parent child) reply u) (sym (next_of at n below))
-        (fork_refused s t at (range_with_len (at + 1) (n - (at + 1))) (marked done at) x open made reply u c)
+        (fork_refused s t at (range_with_len (at + 1) (n - (at + 1))) (marked done at) x clear made reply u c)
 
     -- no slot is left
     pub all_forked : (s : SessionView) (done : List Bool) (at n : ℕ) → n ≤ at → Carries kept size s (left_at done at n) (Ok Done) s
@@ -195,6 +195,6 @@ module _ (kept : Bool) (size : ℕ) where
 
   pub undo_ends : (s t u : SessionView) (ks : List ℕ) (child : ℕ) (x : Refusal) (reply : Reply) → is_trace_full (Err x) ≡ false → is_trace_full reply ≡ false → Exited s ks child t →
       IsMade kept size t (OnTasks (Remove child)) reply u → Carries kept size s (undone ks child x) (Err x) u
-  undo_ends s t u ks child x reply open noted gone made =
+  undo_ends s t u ks child x reply clear noted gone made =
       gone (Do (OnTasks (Remove child)) (λ reply. Answer_with (Err x))) (Err x) u
-      (goes_on kept size t u (OnTasks (Remove child)) reply made (λ reply. Answer_with (Err x)) (Err x) u noted (ends kept size u (Err x) open))
+      (goes_on kept size t u (OnTasks (Remove child)) reply made (λ reply. Answer_with (Err x)) (Err x) u noted (ends kept size u (Err x) clear))

@@ -33,7 +33,9 @@ use Rattle.hp_laws.proofs.MountMoves.{IsSpot, spot_is}
 use Rattle.hp_laws.proofs.Outcomes.{always_then}
 use Rattle.hp_laws.proofs.Shown.{On}
 use Rattle.hp_laws.proofs.SlotShows.{always_value}
-use Rattle.hp_locked.specs.Told.{IsReceipt}
+use Rattle.hp_locked.specs.declared.pool_told.PoolTold.{PoolTold}
+use Rattle.hp_locked.specs.declared.pool_told.PoolTold.TheVariants as pool
+use Rattle.hp_locked.specs.Told.{IsReceipt, pool_reply}
 use Rattle.hp_mount.specs.declared.event.MountEvent.{MountEvent}
 use Rattle.hp_mount.specs.declared.event.MountEvent.TheVariants as m
 use Rattle.hp_mount.specs.Event.{event_of}
@@ -63,8 +65,8 @@ told_by false entries part e reply (Some r) h is = cc
 -- what a part answers to an event that was made
 pub handed_by : {E : Type 0} (kept : Bool) (size : ℕ) (entries : Option (List E)) (part : Part) (e : Event) (reply : Reply) (receipt : Option Receipt) → is_trace_full reply ≡ false →
     CanAnswer size e reply → IsReceipt entries part e reply receipt → is_some receipt ≡ kept → IsHanded kept size e reply receipt
-handed_by kept size entries part e reply receipt open can told given =
-    done_put (is_trace_full reply) _ _ open (can, told_by kept entries part e reply receipt told given)
+handed_by kept size entries part e reply receipt clear can told given =
+    done_put (is_trace_full reply) _ _ clear (can, told_by kept entries part e reply receipt told given)
 
 -- ---- the task table
 
@@ -100,6 +102,15 @@ table_open n t (table.Remove task) = by (home_of t task)
 -- what the table answers is never TraceFull
 pub told_open : (n : ℕ) (t u : Table) (e : TableEvent) (reply : Reply) → table_event n t e ≡ (reply, u) → is_trace_full reply ≡ false
 told_open n t u e reply is = ap (λ (x : Reply × Table). is_trace_full x.0) (sym is) ∙ table_open n t e
+
+-- ---- the pool
+
+pub pool_open : (x : PoolTold) → is_trace_full (pool_reply x) ≡ false
+pool_open pool.Done = refl
+pool_open pool.TooMuch = refl
+pool_open (pool.Number n) = refl
+pool_open (pool.Numbers counts) = refl
+pool_open (pool.PerNode nodes rows) = refl
 
 -- ---- a slot
 
@@ -146,8 +157,8 @@ exit_handed kept size k task old new asked receipt at h is = (
 -- no event was made
 absent_handed : (kept : Bool) (size k : ℕ) (e : SlotEvent) (x : Refusal) → is_trace_full (Err x) ≡ false → has_place (OnSlot k e) ≡ false →
     CanAnswer size (OnSlot k e) (Err x) → IsHanded kept size (OnSlot k e) (Err (if kept then TraceFull else x)) None
-absent_handed true size k e x open place can = (refl, place, refl)
-absent_handed false size k e x open place can = done_put (is_trace_full (Err x)) _ _ open (can, refl)
+absent_handed true size k e x clear place can = (refl, place, refl)
+absent_handed false size k e x clear place can = done_put (is_trace_full (Err x)) _ _ clear (can, refl)
 
 pub mount_absent : (kept : Bool) (size k home : ℕ) (e : MountEvent) (r : Refusal) → r ≡ (if kept then TraceFull else NoSuchSlot) → IsHanded kept size (OnSlot k (event_of home e)) (Err r) None
 mount_absent kept size k home e r is =

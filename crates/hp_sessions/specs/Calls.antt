@@ -88,12 +88,16 @@ abbrev pub IsMade : (kept : Bool) (size : ℕ) → SessionView → Event → Rep
 IsMade kept size s e reply t =
     MatchBool (is_trace_full reply) ((kept ≡ true) × (has_place e ≡ false) × (t ≡ s)) (CanAnswer size e reply × AreAdded kept s ((e, reply) ∷ []) t)
 
+-- the script's events, up to its reply; or up to an event for which there was no place
+abbrev pub TellsOrStops : (kept : Bool) → Script → List (Event × Reply) → Reply → Type 0
+TellsOrStops kept c xs reply = MatchBool (is_trace_full reply) ((kept ≡ true) × TellsFront c xs) (Tells c xs reply)
+
 -- the script was carried out, up to its reply or to an event for which there was no place
 pub record Carries (kept : Bool) (size : ℕ) (s : SessionView) (c : Script) (reply : Reply) (t : SessionView) : Type 0 where
   pub events : List (Event × Reply)
   pub added : AreAdded kept s events t
   pub answers : AreAnswers size events
-  pub tells : MatchBool (is_trace_full reply) ((kept ≡ true) × TellsFront c events) (Tells c events reply)
+  pub tells : TellsOrStops kept c events reply
 
 -- whatever carries out the first script from the second state on, carries out the second from the first
 abbrev pub Leads : (kept : Bool) (size : ℕ) → SessionView → Script → SessionView → Script → Type 0

@@ -137,6 +137,10 @@ module _ (full : Type 0) (size k : ℕ) (entries : Option (List SlotEntry)) (lef
   same_mount : is_trace_full reply ≡ true → new ≡ old
   same_mount is = (full_in (is_trace_full reply) Nothing (Went size k old e reply asked new) is acted).0
 
+  -- the door had no room
+  pub was_full : is_trace_full reply ≡ true → full
+  was_full is = (full_in (is_trace_full reply) Nothing (Went size k old e reply asked new) is acted).2
+
   pub event_went : is_trace_full reply ≡ false → Went size k old e reply asked new
   event_went is = done_in (is_trace_full reply) Nothing (Went size k old e reply asked new) is acted
 

@@ -1,10 +1,10 @@
-use Rattle.std.proofs.Common.{◌≡◌, Option, None, sym, ap, ◌∙◌, subst}
+use Rattle.std.proofs.Common.{◌≡◌, inr, Option, None, sym, ap, ◌∙◌, subst}
 use Rattle.hp_model.specs.declared.entry.Asked.{Asked}
 use Rattle.hp_model.specs.machine.Told.{told_reply}
 use Rattle.hp_trail.specs.Keeping.{added}
 use Rattle.hp_mount.specs.Event.{event_of}
 use Rattle.hp_shared.specs.Slots.{AreNoted, IsSlotEvent, SlotView, Went}
-use Rattle.hp_shared.proofs.SlotsKept.{event_done, event_full, event_went, full_stays, mount_event, slot_noted}
+use Rattle.hp_shared.proofs.SlotsKept.{event_done, event_full, event_went, full_stays, mount_event, slot_noted, was_full}
 use Rattle.hp_shared.proofs.locked_slot.Slot.event.Given.{Over}
 use Rattle.hp_shared.proofs.locked_slot.Slot.event.Goals as goal
 use Rattle.hp_shared.proofs.locked_slot.Slot.event.Goals.{After-note-receipt}
@@ -15,6 +15,13 @@ invariant_of-self-then-is_full g c =
     full_stays (g.D.PoolDoor.is_full c.act-told.new.door) g.N.Naming.page_bytes s.number (g.T.Trail.entries s.trail) (g.T.Trail.left s.trail)
     (g.T.Trail.extra s.trail) s.mount (event_of c.args.home c.args.event) (told_reply c.act-told.result)
     (g.D.SessionDoor.asked c.act-told.new.door) c.act-told.new.mount (c.act-told.ensures.done s.number) (sym c.is_full.ensures ∙ c.if-is_full.true) c.self.invariant
+
+pub returns-then-is_full-clause-keeps : goal.returns-then-is_full-clause-keeps
+returns-then-is_full-clause-keeps g c =
+    let s = c.self.inside in
+    λ full. inr (was_full (g.D.PoolDoor.is_full c.act-told.new.door) g.N.Naming.page_bytes s.number (g.T.Trail.entries s.trail) (g.T.Trail.left s.trail)
+    (g.T.Trail.extra s.trail) s.mount (event_of c.args.home c.args.event) (told_reply c.act-told.result)
+    (g.D.SessionDoor.asked c.act-told.new.door) c.act-told.new.mount (c.act-told.ensures.done s.number) full)
 
 pub returns-then-is_full-clause-done : goal.returns-then-is_full-clause-done
 returns-then-is_full-clause-done g c =

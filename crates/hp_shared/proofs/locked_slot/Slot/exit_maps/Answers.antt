@@ -47,12 +47,10 @@ invariant_of-self g c =
     (mapped g a.After-leave-told) (entries g a.After-note) c.note.ensures.left c.note.ensures.none c.note.ensures.extra
     (λ closing. (let has = mapped g a.After-leave-told in cc))
 
-pub returns : goal.returns
-returns g c =
+pub returns-clause-done : goal.returns-clause-done
+returns-clause-done g c =
     let s = c.self.inside in
-    let a = goal.at.returns g c in
-    record {
-      done =
+    let a = goal.at.returns-clause-done g c in
           subst (λ (v : SlotView). IsSlotEventDone g.N.Naming.page_bytes v (record {
             number = s.number;
             mount = c.leave-told.new.mount;
@@ -66,5 +64,4 @@ returns g c =
             entries = entries g a.After-note;
             told = subst (λ (x : Reply). IsReceipt (g.T.Trail.entries s.trail) (AtSlot s.number) (OnSlot s.number (ExitMaps c.args.task)) x
                 c.note.result) c.leave-told.ensures.reply (c.note.ensures.receipt (ExitMaps c.args.task) (refl, refl));
-          });
-    }
+          })

@@ -30,11 +30,9 @@ invariant_of-self-2 g c =
     refl (entries g (goal.at.invariant_of-self-2 g c).After-note-receipt) c.note-receipt.ensures.left c.note-receipt.ensures.none c.note-receipt.ensures.extra
     (λ closing. (let is = c.has_room.ensures.room in let yes = c.if-not-has_room.false in cc))
 
-pub returns : goal.returns
-returns g c =
+pub returns-clause-done : goal.returns-clause-done
+returns-clause-done g c =
     let s = c.self.inside in
-    record {
-      done =
           subst (λ (v : SlotView). IsSlotEvent ⊥ g.N.Naming.page_bytes v (record {
             number = s.number;
             mount = c.fork-told.new.mount;
@@ -49,6 +47,5 @@ returns g c =
           (g.D.SessionDoor.asked c.fork-told.new.door) c.fork-told.new.mount c.fork-told.ensures.noted
           (c.fork-told.ensures.went g.N.Naming.page_bytes s.number))
           c.fork-told.ensures.noted (g.T.Trail.entries c.note-receipt.new.trail) (g.T.Trail.left c.note-receipt.new.trail)
-          (g.T.Trail.extra c.note-receipt.new.trail) c.note-receipt.result (entries g (goal.at.returns g c).After-note-receipt)
-          (c.note-receipt.ensures.receipt (ForkMaps c.args.parent c.args.child) (refl, refl)));
-    }
+          (g.T.Trail.extra c.note-receipt.new.trail) c.note-receipt.result (entries g (goal.at.returns-clause-done g c).After-note-receipt)
+          (c.note-receipt.ensures.receipt (ForkMaps c.args.parent c.args.child) (refl, refl)))

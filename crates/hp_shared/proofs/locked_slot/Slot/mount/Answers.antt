@@ -1,10 +1,10 @@
-use Rattle.std.proofs.Common.{◌≡◌, ℕ, Option, None, refl, sym, ap, ◌∙◌, subst}
+use Rattle.std.proofs.Common.{◌≡◌, inr, ℕ, Option, None, refl, sym, ap, ◌∙◌, subst}
 use Rattle.hp_model.specs.declared.entry.Asked.{Asked}
 use Rattle.hp_model.specs.machine.Told.{told_reply}
 use Rattle.hp_trail.specs.Keeping.{added}
 use Rattle.hp_model.specs.declared.event.SlotEvent.TheVariants.{Mount as Mounting}
 use Rattle.hp_shared.specs.Slots.{AreNoted, IsActedOr, IsSlotEvent, SlotView, Went}
-use Rattle.hp_shared.proofs.SlotsKept.{event_done, event_full, event_went, full_stays, slot_noted}
+use Rattle.hp_shared.proofs.SlotsKept.{event_done, event_full, event_went, full_stays, slot_noted, was_full}
 use Rattle.hp_shared.proofs.locked_slot.Slot.mount.Given.{Over}
 use Rattle.hp_shared.proofs.locked_slot.Slot.mount.Goals as goal
 use Rattle.hp_shared.proofs.locked_slot.Slot.mount.Goals.{After-note-receipt}
@@ -19,11 +19,19 @@ invariant_of-self-then-is_full g c =
     (told_reply c.mount-told.result) (g.D.SessionDoor.asked c.mount-told.new.door) c.mount-told.new.mount) c.requires.page_bytes
     (c.mount-told.ensures.done s.number)) (sym c.is_full.ensures ∙ c.if-is_full.true) c.self.invariant
 
-pub returns-then-is_full : goal.returns-then-is_full
-returns-then-is_full g c =
+pub returns-then-is_full-clause-keeps : goal.returns-then-is_full-clause-keeps
+returns-then-is_full-clause-keeps g c =
     let s = c.self.inside in
-    record {
-      done =
+    λ full. inr (was_full (g.D.PoolDoor.is_full c.mount-told.new.door) g.N.Naming.page_bytes s.number (g.T.Trail.entries s.trail) (g.T.Trail.left s.trail)
+    (g.T.Trail.extra s.trail) s.mount (Mounting c.args.options.now) (told_reply c.mount-told.result)
+    (g.D.SessionDoor.asked c.mount-told.new.door) c.mount-told.new.mount (subst
+    (λ (n : ℕ). IsActedOr (g.D.PoolDoor.is_full c.mount-told.new.door) n s.number s.mount (Mounting c.args.options.now)
+    (told_reply c.mount-told.result) (g.D.SessionDoor.asked c.mount-told.new.door) c.mount-told.new.mount) c.requires.page_bytes
+    (c.mount-told.ensures.done s.number)) full)
+
+pub returns-then-is_full-clause-done : goal.returns-then-is_full-clause-done
+returns-then-is_full-clause-done g c =
+    let s = c.self.inside in
           subst (λ (v : SlotView). IsSlotEvent (g.D.PoolDoor.is_full c.mount-told.new.door) g.N.Naming.page_bytes v
           (record {
             number = s.number;
@@ -38,8 +46,7 @@ returns-then-is_full g c =
           (g.D.SessionDoor.asked c.mount-told.new.door) c.mount-told.new.mount (subst
           (λ (n : ℕ). IsActedOr (g.D.PoolDoor.is_full c.mount-told.new.door) n s.number s.mount (Mounting c.args.options.now)
           (told_reply c.mount-told.result) (g.D.SessionDoor.asked c.mount-told.new.door) c.mount-told.new.mount) c.requires.page_bytes
-          (c.mount-told.ensures.done s.number)) (sym c.is_full.ensures ∙ c.if-is_full.true));
-    }
+          (c.mount-told.ensures.done s.number)) (sym c.is_full.ensures ∙ c.if-is_full.true))
 
 module _ (g : Over) (c : After-note-receipt g) where
   went : Went g.N.Naming.page_bytes c.self.inside.number c.self.inside.mount (Mounting c.args.options.now) (told_reply c.mount-told.result)
@@ -70,12 +77,10 @@ invariant_of-self-2 g c =
     refl (entries g a) c.note-receipt.ensures.left c.note-receipt.ensures.none c.note-receipt.ensures.extra
     (λ closing. (let is = c.has_room.ensures.room in let yes = c.if-not-has_room.false in cc))
 
-pub returns : goal.returns
-returns g c =
-    let a = (goal.at.returns g c).After-note-receipt in
+pub returns-clause-done : goal.returns-clause-done
+returns-clause-done g c =
+    let a = (goal.at.returns-clause-done g c).After-note-receipt in
     let s = c.self.inside in
-    record {
-      done =
           subst (λ (v : SlotView). IsSlotEvent (g.D.PoolDoor.is_full c.mount-told.new.door) g.N.Naming.page_bytes v
           (record {
             number = s.number;
@@ -92,5 +97,4 @@ returns g c =
           (told_reply c.mount-told.result) (g.D.SessionDoor.asked c.mount-told.new.door) c.mount-told.new.mount) c.requires.page_bytes
           (c.mount-told.ensures.done s.number)) (sym c.is_full.ensures ∙ c.if-is_full.false)
           (g.T.Trail.entries c.note-receipt.new.trail) (g.T.Trail.left c.note-receipt.new.trail) (g.T.Trail.extra c.note-receipt.new.trail)
-          c.note-receipt.result (entries g a) (c.note-receipt.ensures.receipt (Mounting c.args.options.now) (both g a)));
-    }
+          c.note-receipt.result (entries g a) (c.note-receipt.ensures.receipt (Mounting c.args.options.now) (both g a)))

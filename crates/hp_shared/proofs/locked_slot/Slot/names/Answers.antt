@@ -12,20 +12,17 @@ use Rattle.hp_shared.proofs.locked_slot.Slot.names.Goals as goal
 use Rattle.hp_shared.proofs.locked_slot.Slot.names.Goals.{After-note_names-receipt}
 use Rattle.hp_trail.specs.Keeping.{added}
 
-pub returns-then-not-is_kept : goal.returns-then-not-is_kept
-returns-then-not-is_kept g c =
+pub returns-then-not-is_kept-clause-done : goal.returns-then-not-is_kept-clause-done
+returns-then-not-is_kept-clause-done g c =
     let s = c.self.inside in
     let none : g.T.Trail.entries s.trail ≡ None = kept_none (g.T.Trail.entries s.trail) (let is = c.is_kept.ensures.kept in let t = c.if-not-is_kept.true in cc) in
-    record {
-      done =
           subst (λ (v : SlotView). IsSlotEvent ⊥ g.N.Naming.page_bytes v
           (record { number = s.number; mount = s.mount; entries = g.T.Trail.entries s.trail; left = g.T.Trail.left s.trail; extra = g.T.Trail.extra s.trail }) Ls
           (names_reply c.list.result) None None) c.self.view_is
           (event_done ⊥ g.N.Naming.page_bytes s.number (g.T.Trail.entries s.trail) (g.T.Trail.left s.trail) (g.T.Trail.extra s.trail) s.mount Ls (names_reply c.list.result) None s.mount
           (went_acted ⊥ g.N.Naming.page_bytes s.number s.mount Ls (names_reply c.list.result) None s.mount c.list.ensures.noted (c.list.ensures.went g.N.Naming.page_bytes s.number))
           c.list.ensures.noted (g.T.Trail.entries s.trail) (g.T.Trail.left s.trail) (g.T.Trail.extra s.trail) None (none_added (g.T.Trail.entries s.trail)
-          (record { event = Ls; reply = names_reply c.list.result; asked = None }) none) none);
-    }
+          (record { event = Ls; reply = names_reply c.list.result; asked = None }) none) none)
 
 module _ (g : Over) (c : After-note_names-receipt g) where
   kept : is_some (g.T.Trail.entries c.self.inside.trail) ≡ true
@@ -47,12 +44,10 @@ invariant_of-self-2 g c =
     refl (entries g a) (λ some. c.note_names-receipt.ensures.left) (λ none. absurd (let s = ap is_some none in let k = kept g a in cc)) c.note_names-receipt.ensures.extra
     (λ closing. (let is = c.has_room.ensures.room in let yes = c.if-not-has_room.false in cc))
 
-pub returns : goal.returns
-returns g c =
+pub returns-clause-done : goal.returns-clause-done
+returns-clause-done g c =
     let s = c.self.inside in
-    let a = (goal.at.returns g c).After-note_names-receipt in
-    record {
-      done =
+    let a = (goal.at.returns-clause-done g c).After-note_names-receipt in
           subst (λ (v : SlotView). IsSlotEvent ⊥ g.N.Naming.page_bytes v
           (record {
             number = s.number;
@@ -70,5 +65,4 @@ returns g c =
           c.list_thrice-names.ensures.noted (g.T.Trail.entries c.note_names-receipt.new.trail) (g.T.Trail.left c.note_names-receipt.new.trail)
           (g.T.Trail.extra c.note_names-receipt.new.trail) (Some c.note_names-receipt.result) (entries g a)
           (subst (λ (x : Reply). IsReceipt (g.T.Trail.entries s.trail) (AtSlot s.number) (OnSlot s.number Ls) x
-          (Some c.note_names-receipt.result)) c.list_thrice-names.ensures.again c.note_names-receipt.ensures.receipt));
-    }
+          (Some c.note_names-receipt.result)) c.list_thrice-names.ensures.again c.note_names-receipt.ensures.receipt))

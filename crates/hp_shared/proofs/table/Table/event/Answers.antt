@@ -14,5 +14,5 @@ invariant_of-self-2 g c = (
       c.self.invariant.1 c.answered-told.ensures (g.T.Trail.entries c.note-receipt.new.trail) (g.T.Trail.left c.note-receipt.new.trail)
       (g.T.Trail.extra c.note-receipt.new.trail) c.note-receipt.ensures.entries c.note-receipt.ensures.left c.note-receipt.ensures.extra
       (or_room (removes_task c.self.inside.tasks c.args.event) (has_room false (g.T.Trail.left c.self.inside.trail)
-      (g.T.Trail.extra c.self.inside.trail)) (sym c.may_note.ensures ∙ c.if-not-may_note.false)),
+      (g.T.Trail.extra c.self.inside.trail)) (sym c.may_note.ensures.may ∙ c.if-not-may_note.false)),
 )
