@@ -1,0 +1,73 @@
+-- The trails of all parts, from the start of a machine.
+use Rattle.std.proofs.Common.{◌≡◌, ℕ, zero, suc, ◌+◌, ◌-◌, ◌<◌, ◌≤◌, None, Some, List, [], ◌∷◌, ◌++◌, length, map, replicate, refl, sym, ap, subst, ◌∙◌, arith}
+use Rattle.std.specs.Prelude.{slice_index_or}
+use Rattle.std.proofs.lemmas.Bool.{cases_lt}
+use Rattle.std.proofs.lemmas.List.{get_or_append_left, get_or-replicate, length-append, length-map, length-replicate}
+use Rattle.std.proofs.Math.Seq.{get_or-append_seam}
+use Rattle.hp_model.specs.declared.entry.PoolEntry.{PoolEntry}
+use Rattle.hp_model.specs.declared.entry.SlotEntry.{SlotEntry}
+use Rattle.hp_model.specs.declared.entry.TableEntry.{TableEntry}
+use Rattle.hp_model.specs.machine.Machine.{idle_node, open_mount, slots_from, start}
+use Rattle.hp_model.specs.machine.Plan.{Slot}
+use Rattle.hp_model.specs.machine.State.{slot_at}
+use Rattle.hp_model.specs.machine.Table.{Table}
+use Rattle.hp_model.specs.pool.PoolCounts.{Pool}
+use Rattle.hp_model.specs.threads.LocalRun.{IsLocalRun}
+use Rattle.hp_model.specs.threads.PoolRun.{IsPoolRun}
+use Rattle.hp_model.specs.threads.TableRun.{IsTableRun}
+use Rattle.hp_pool.specs.Sums.{idle_pool}
+use Rattle.hp_shared.specs.Slots.{slot_start}
+use Rattle.hp_system.proofs.Start.{start_pool}
+use Rattle.hp_system.specs.Kept.{machine_of}
+use Rattle.hp_sessions.specs.Sharing.{AreGathered, EndsRuns}
+
+pub none_gathered : (size : ℕ) → AreGathered size [] []
+none_gathered size = record { count = refl; runs = λ k below. absurd (omega (arith, below)) }
+
+-- one slot more
+pub one_gathered : (size : ℕ) (ts : List (List SlotEntry)) (ms : List Slot) (t : List SlotEntry) (m : Slot)
+    → AreGathered size ts ms → IsLocalRun size (length ms) (slot_start (length ms)) t m → AreGathered size (ts ++ t ∷ []) (ms ++ m ∷ [])
+one_gathered size ts ms t m all run =
+    let many = all.count in
+    record {
+      count = omega (arith, many, length-append ts (t ∷ []), length-append ms (m ∷ []));
+      runs = λ k below.
+        elim (cases_lt k (length ms)) as (λ _. IsLocalRun size k (slot_start k) (slice_index_or (ts ++ t ∷ []) k []) (slice_index_or (ms ++ m ∷ []) k None)) [
+          | inl front ↦
+            subst (λ x. IsLocalRun size k (slot_start k) x (slice_index_or (ms ++ m ∷ []) k None)) (sym (get_or_append_left ts (t ∷ []) [] k (omega (arith, front, many))))
+            (subst (λ y. IsLocalRun size k (slot_start k) (slice_index_or ts k []) y) (sym (get_or_append_left ms (m ∷ []) None k front)) (all.runs k front))
+          | inr past ↦
+            let last : length ms ≡ k = omega (arith, below, past, length-append ms (m ∷ [])) in
+            subst (λ j. IsLocalRun size j (slot_start j) (slice_index_or (ts ++ t ∷ []) j []) (slice_index_or (ms ++ m ∷ []) j None)) last
+            (subst (λ x. IsLocalRun size (length ms) (slot_start (length ms)) x (slice_index_or (ms ++ m ∷ []) (length ms) None))
+            (sym (ap (λ j. slice_index_or (ts ++ t ∷ []) j []) (sym many) ∙ get_or-append_seam ts t [] []))
+            (subst (λ y. IsLocalRun size (length ms) (slot_start (length ms)) t y) (sym (get_or-append_seam ms m [] None)) run))
+        ];
+    }
+
+slots_long : (n : ℕ) → 0 < n → length (slots_from n) ≡ n
+slots_long n some = omega (arith, some, length-replicate {A = Slot} (n - 1) None)
+
+starts_so : (frames : List ℕ) (size n k : ℕ) → k < n → slot_start k ≡ slot_at (start frames size n) k
+starts_so frames size n zero below = refl
+starts_so frames size n (suc k) below = sym (get_or-replicate {A = Slot} (n - 1) k None None (omega (arith, below)))
+
+-- trails of all parts, from the start of the machine
+pub ends_runs : (frames : List ℕ) (size n : ℕ) (tasks : List TableEntry) (ts : List (List SlotEntry)) (pool : List PoolEntry) (table : Table) (ms : List Slot) (p : Pool)
+    → 0 < n → length ms ≡ n → IsTableRun (length frames) [] tasks table → AreGathered size ts ms → IsPoolRun (idle_pool frames) pool p
+    → EndsRuns (start frames size n) (record { tasks = tasks; slots = ts; pool = pool }) (machine_of size table ms p)
+ends_runs frames size n tasks ts pool table ms p some long tabled gathered pooled =
+    let all = slots_long n some in
+    let many = gathered.count in
+    record {
+      runs = record {
+        count = many ∙ long ∙ sym all;
+        tasks = subst (λ k. IsTableRun k [] tasks table) (sym (length-map frames idle_node)) tabled;
+        slots = λ k below.
+          let within : k < length ms = omega (arith, below, all, long) in
+          subst (λ x. IsLocalRun size k x (slice_index_or ts k []) (slice_index_or ms k None)) (starts_so frames size n k (omega (arith, within, long))) (gathered.runs k within);
+        pool = subst (λ q. IsPoolRun q pool p) (sym (start_pool frames size n)) pooled;
+      };
+      count = long ∙ sym all;
+      parts = refl;
+    }
