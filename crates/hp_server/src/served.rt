@@ -1,5 +1,7 @@
 //! The machine that is served, with what its sessions are told.
 ghost use Rattle.std.specs.Prelude.{IfOk};
+ghost use Rattle.hp_locked.specs.Views.{frames_list};
+ghost use Rattle.hp_model.specs.machine.Machine.{start};
 ghost use Rattle.hp_server.specs.Left.{MayLeave};
 ghost use Rattle.hp_serving.specs.Ended.{IsWithinLimits};
 
@@ -23,7 +25,8 @@ impl<N: Naming, const K: usize> Machine for Served<N, K> {
     /// The receipts of a session, in order.
     type Told = Vec<Receipt>;
 
-    ghost may_leave = { λ machine closed. MayLeave K machine.shared.page_size closed };
+    ghost may_leave = { λ machine closed. MayLeave K (start (frames_list N.frames)
+        machine.shared.page_size machine.shared.slots) closed };
 
     fn serve_one<R: Wait, A: Source, B: Sink>(
         &self,
@@ -42,7 +45,8 @@ impl<N: Naming, const K: usize> Machine for Served<N, K> {
     }
 
     fn close(self, alloc: Global, told: Vec<Vec<Receipt>>) -> Result<Closed, AllocError>
-        ensures leaves { IfOk result (MayLeave K self.shared.page_size) }
+        ensures leaves { IfOk result (MayLeave K (start (frames_list N.frames)
+            self.shared.page_size self.shared.slots)) }
         ensures limits { IfOk result IsWithinLimits }
     {
         let Served { shared, room: _ } = self;
@@ -56,6 +60,7 @@ impl<N: Naming, const K: usize> Machine for Served<N, K> {
 
     fn abandon(self) {
         let Served { shared, room: _ } = self;
-        shared.abandon();
+        let (system, _trails) = shared.into_parts();
+        system.close();
     }
 }

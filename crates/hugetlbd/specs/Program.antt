@@ -1,5 +1,5 @@
 -- A run of the program.
-use Rattle.std.specs.Prelude.{◌≡◌, ◌≤◌, ◌<◌, ◌⊎◌, ◌++◌, ℕ, List, Option, Some, None, is_some, true, Result, Ok, Err, IfErr, IfSome, IsSomeAnd, MatchOption, codes}
+use Rattle.std.specs.Prelude.{◌≡◌, ◌≤◌, ◌++◌, ℕ, nat_lt, List, Option, Some, None, is_some, true, Result, Ok, Err, IfErr, IfSome, IsSomeAnd, MatchOption, codes}
 use Rattle.std.specs.Io.KnownBytes.{Appends, Consumes}
 use Rattle.clap.specs.Faults.{fault_of}
 use Rattle.clap.specs.Kinds.{IsAmong}
@@ -13,10 +13,11 @@ use Rattle.hp_wire.specs.Sent.{AppendsFront}
 use Rattle.hp_wire.specs.Served.{AnswersInput, Serves, IsMemoryOrTooLong, text_of_fault}
 use Rattle.hp_wire.specs.declared.fault.RunFault.{RunFault}
 use Rattle.hp_wire.specs.declared.fault.RunFault.TheVariants as fault
-use Rattle.hp_server.specs.Left as left
+use Rattle.hp_model.specs.declared.entry.Receipt.{Receipt}
 use Rattle.hp_serving.specs.Ended as serving
 use Rattle.hp_serving.specs.declared.host.Closed.{Closed}
 use Rattle.hp_serving.specs.declared.sessions.Ended.{Ended}
+use Rattle.hp_sessions.specs.Sharing.{WasJoined}
 use Rattle.hugetlbd.specs.Asked.{Asks, AsksToServe, IsRefusedFor, hugetlbd}
 use Rattle.hugetlbd.specs.Config.{Choice, IsServing, IsWithinLimits, chosen}
 use Rattle.hugetlbd.specs.declared.config.TheConstants.{HELP, VERSION}
@@ -115,13 +116,12 @@ pub record Refuses {W : Type 0} (contents : W → Option (List ℕ)) (is_sure : 
 
 -- ---- a server
 
--- entries are kept (1) just where there is room for them
-abbrev pub KeepsAsked : ℕ → Serving → Type 0
-KeepsAsked keeps s = ((keeps ≡ 0) × (s.room ≡ 0)) ⊎ ((keeps ≡ 1) × (0 < s.room))
-
--- what may be left of the machine that was asked for, once it is closed
-abbrev pub MayLeave : Choice → Serving → Closed → Type 0
-MayLeave c s closed = (keeps : ℕ) × KeepsAsked keeps s × left.MayLeave keeps c.page closed
+-- What may be left of the machine that was asked for, once it is closed. It was audited just where there was room for
+-- entries; and where the audit was right, the sessions' events were one run of it, at whose end all its pages are free.
+pub record MayLeave (c : Choice) (s : Serving) (closed : Closed) : Type 0 where
+  pub page : closed.page ≡ c.page
+  pub audited : is_some closed.audit ≡ nat_lt 0 s.room
+  pub joined : closed.audit ≡ Some true → (told : List (List Receipt)) × WasJoined (chosen c) told closed.counts
 
 -- how the serving of all sessions ended, what was printed and said then, and the status
 pub record IsServed (c : Choice) (s : Serving) (before after : Option (List ℕ)) (sure : Type 0) (unsaid said : Option (List ℕ))

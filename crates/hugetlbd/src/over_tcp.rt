@@ -1,9 +1,9 @@
 //! Sessions over TCP, on a machine that threads share.
-ghost use Rattle.std.specs.Prelude.{◌≡◌, ◌<◌, ◌==◌, true};
+ghost use Rattle.std.specs.Prelude.{◌≡◌, ◌==◌, nat_lt};
 ghost use Rattle.hp_nodes.specs.Ledgers.{AreFrames};
 ghost use Rattle.hp_pool.specs.Ledgers.{AreLedgers};
 ghost use Rattle.hugetlbd.specs.Config.{IsServing, IsWithinLimits, choice_of};
-ghost use Rattle.hugetlbd.specs.Program.{IsServed, KeepsAsked};
+ghost use Rattle.hugetlbd.specs.Program.{IsServed};
 
 use crate::server::Server;
 use crate::settings::{Machine, Serving};
@@ -120,7 +120,7 @@ fn serve_on<
 ) -> u8
     requires limits { IsWithinLimits (choice_of machine.now) }
     requires serving { IsServing serving }
-    requires keeps { KeepsAsked K serving }
+    requires keeps { (K == 1) ≡ nat_lt 0 serving.room }
     requires bytes { N.page_bytes ≡ machine.now.page }
     requires ledgers { AreLedgers N.Naming blanks }
     requires frames { AreFrames N.frames machine.now.frames.items }
@@ -132,7 +132,7 @@ fn serve_on<
         alloc,
         machine.frames.as_slice(),
         machine.page as usize,
-        machine.slots,
+        machine.slots as usize,
         serving.room,
         blanks,
     ) else {
