@@ -5,8 +5,8 @@ ghost use Rattle.hp_model.specs.machine.Machine.{start};
 ghost use Rattle.hp_server.specs.Left.{MayLeave};
 ghost use Rattle.hp_serving.specs.Ended.{IsWithinLimits};
 
-use crate::gate::Open;
 use crate::host::Waiting;
+use hp_locked::Gate;
 use hp_model::entry::Receipt;
 use hp_model::naming::Naming;
 use hp_serving::{Closed, Machine, serve_session};
@@ -15,13 +15,14 @@ use hp_wire::ends::{Sink, Source};
 use std::alloc::{AllocError, Global};
 use std::sync::Wait;
 
-/// A machine that threads share, and the room of each of its sessions.
-pub struct Served<N: Naming, const K: usize> {
+/// A machine that threads share, with who watches its locks, and the room of each of its sessions.
+pub struct Served<N: Naming, G: Gate + Drop, const K: usize> {
     pub shared: Shared<N, K>,
+    pub gate: G,
     pub room: usize,
 }
 
-impl<N: Naming, const K: usize> Machine for Served<N, K> {
+impl<N: Naming, G: Gate + Drop, const K: usize> Machine for Served<N, G, K> {
     /// The receipts of a session, in order.
     type Told = Vec<Receipt>;
 
@@ -38,7 +39,7 @@ impl<N: Naming, const K: usize> Machine for Served<N, K> {
         let host = Waiting {
             rt,
             shared: &self.shared,
-            gate: &Open,
+            gate: &self.gate,
             room: self.room,
         };
         serve_session(alloc, &&host, reader, writer)
@@ -49,7 +50,11 @@ impl<N: Naming, const K: usize> Machine for Served<N, K> {
             self.shared.page_size self.shared.slots)) }
         ensures limits { IfOk result IsWithinLimits }
     {
-        let Served { shared, room: _ } = self;
+        let Served {
+            shared,
+            gate: _,
+            room: _,
+        } = self;
         let closed = shared.close(alloc, told)?;
         Ok(Closed {
             audit: closed.audit,
@@ -59,7 +64,11 @@ impl<N: Naming, const K: usize> Machine for Served<N, K> {
     }
 
     fn abandon(self) {
-        let Served { shared, room: _ } = self;
+        let Served {
+            shared,
+            gate: _,
+            room: _,
+        } = self;
         let (system, _trails) = shared.into_parts();
         system.close();
     }

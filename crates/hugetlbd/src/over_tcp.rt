@@ -1,5 +1,6 @@
 //! Sessions over TCP, on a machine that threads share.
 ghost use Rattle.std.specs.Prelude.{◌≡◌, ◌==◌, nat_lt};
+ghost use Rattle.std.specs.Thread.{IsSync};
 ghost use Rattle.hp_nodes.specs.Ledgers.{AreFrames};
 ghost use Rattle.hp_pool.specs.Ledgers.{AreLedgers};
 ghost use Rattle.hugetlbd.specs.Config.{IsServing, IsWithinLimits, choice_of};
@@ -9,7 +10,7 @@ use crate::server::Server;
 use crate::settings::{Machine, Serving};
 use hp_model::naming::Naming;
 use hp_pool::Blanks;
-use hp_server::Served;
+use hp_server::{Open, Served};
 use hp_serving::{Connections, Ended, Listening, ServeFault, report, serve_sessions};
 use hp_sessions::Shared;
 use hp_wire::ends::Sink;
@@ -32,6 +33,8 @@ impl<
     R: Threads + Wait + Net<Listener = TcpListener, Stream = TcpStream> + Sync,
     P: Sink + Drop,
 > Server for OverTcp<'a, R, P> {
+    ghost can_serve = { λ server. IsSync R.row };
+
     fn serve<W: Sink, E: Sink>(
         self,
         alloc: Global,
@@ -75,8 +78,40 @@ pub fn serve_over<R: Threads + Wait + Sync, C: Connections, W: Sink, E: Sink>(
     let Ok(blanks) = Blanks::new(alloc, &machine.frames, machine.page as usize) else {
         return report(Ended::Failed(ServeFault::Memory), faults);
     };
+    serve_kept::<Brand, R, C, W, E>(
+        rt,
+        alloc,
+        machine,
+        serving,
+        blanks,
+        connections,
+        output,
+        faults,
+    )
+}
+
+// Keeps trails where there is room for entries.
+fn serve_kept<N: Naming + Send + Sync, R: Threads + Wait + Sync, C: Connections, W: Sink, E: Sink>(
+    rt: &R,
+    alloc: Global,
+    machine: &Machine,
+    serving: Serving,
+    blanks: Blanks,
+    connections: &mut C,
+    output: &mut W,
+    faults: &mut E,
+) -> u8
+    requires limits { IsWithinLimits (choice_of machine.now) }
+    requires serving { IsServing serving }
+    requires bytes { N.page_bytes ≡ machine.now.page }
+    requires ledgers { AreLedgers N.Naming blanks }
+    requires frames { AreFrames N.frames machine.now.frames.items }
+    ensures { IsServed (choice_of machine.now) serving (W.contents output.old)
+        (W.contents output.new) (E.is_sure faults.old) (E.contents faults.old)
+        (E.contents faults.new) result }
+{
     if serving.room == 0 {
-        serve_on::<Brand, R, C, W, E, 0>(
+        serve_on::<N, R, C, W, E, 0>(
             rt,
             alloc,
             machine,
@@ -87,7 +122,7 @@ pub fn serve_over<R: Threads + Wait + Sync, C: Connections, W: Sink, E: Sink>(
             faults,
         )
     } else {
-        serve_on::<Brand, R, C, W, E, 1>(
+        serve_on::<N, R, C, W, E, 1>(
             rt,
             alloc,
             machine,
@@ -140,6 +175,7 @@ fn serve_on<
     };
     let served = Served {
         shared,
+        gate: Open,
         room: serving.room,
     };
     serve_sessions(

@@ -44,6 +44,7 @@ pub fn program<'a, S: AsStr, V: Server, R: Source, W: Sink, E: Sink>(
     output: &mut W,
     faults: &mut E,
 ) -> u8
+    requires server { V.can_serve server }
     ensures ended { let asked = map S.text words.entry.now in
         ((c : Choice) × Asks asked c × IsWithinLimits c
         × (ended : Result ℕ TheFault) × (result ≡ status_of ended)

@@ -8,6 +8,9 @@ use std::alloc::Global;
 
 /// A server of sessions.
 pub trait Server: Drop {
+    /// What it serves by can be used by several threads.
+    ghost can_serve: { Self → Type 0 };
+
     /// Serves so many sessions on a new machine, closes it, prints on `output` what is left of it, and gives the
     /// status that the process ends with. A fault is named on `faults`.
     fn serve<W: Sink, E: Sink>(
@@ -18,6 +21,7 @@ pub trait Server: Drop {
         output: &mut W,
         faults: &mut E,
     ) -> u8
+        requires can { can_serve self }
         requires limits { IsWithinLimits (choice_of machine.now) }
         requires serving { IsServing serving }
         ensures { IsServed (choice_of machine.now) serving (W.contents output.old)
