@@ -2,7 +2,7 @@
 use Rattle.std.proofs.Common.{if◌then◌else◌, ◌≡◌, ℕ, ◌+◌, ◌<◌, ◌≤◌, Bool, true, false, List, [], ◌∷◌, ◌++◌, Option, None, Some, Ok, Err, inl, inr, length, map, refl, sym, ap, subst, ◌∙◌, arith}
 use Rattle.std.specs.Bool.{MatchBool}
 use Rattle.std.specs.List.{All}
-use Rattle.std.proofs.lemmas.List.{append-nil, append_assoc, map-append}
+use Rattle.std.proofs.lemmas.List.{append-nil, append_assoc, length-append, map-append}
 use Rattle.std.proofs.lemmas.Bool.{le-ltb, lt-ltb}
 use Rattle.std.proofs.lemmas.List.Elements.{All-cons, All-nil}
 use Rattle.hp_model.specs.declared.answer.Answer.TheVariants.{Done, Home}
@@ -17,6 +17,7 @@ use Rattle.hp_model.specs.declared.step.Step.{Step}
 use Rattle.hp_model.specs.machine.Plan.{Reply}
 use Rattle.hp_model.specs.machine.Step.{Answer_with, Do, Script, Where_mapped, finding, home_in, on_slot, only, script}
 use Rattle.hp_model.specs.machine.Table.{Table, home_of, when_known}
+use Rattle.hp_model.specs.threads.JointRun.{option_cons}
 use Rattle.hp_model.specs.threads.Telling.{Tells, TellsFront, TellsStep, has_place, most_receipts, told_of}
 use Rattle.hp_shared.specs.Slots.{is_trace_full}
 use Rattle.hp_sessions.specs.Calls.{AreAdded, AreAnswers, CanAnswer, Carries, Grows, HasRoomFor, IsAnswered, IsHanded, IsMade, IsRefusedFirst, IsTold, IsToldOf, Leads, SessionView, TellsOrStops, noted}
@@ -227,3 +228,24 @@ made_of kept size s e reply receipt added handed none some =
     by true None is h = absurd h
     by true (Some r) is h = (added, refl, ap (map told_of) (some r is) ∙ ap (λ x. x ∷ []) h)
     by false o is h = ap (noted s) (none (is ∙ h)) ∙ sym (noted_none s)
+
+pub made_added : (kept : Bool) (size : ℕ) (s t : SessionView) (e : Event) (reply : Reply) (receipt : Option Receipt) → IsHanded kept size e reply receipt →
+    t ≡ noted s (option_cons receipt []) → IsMade kept size s e reply t
+made_added kept size s t e reply receipt handed is =
+    subst (λ (v : SessionView). IsMade kept size s e reply v) (sym is)
+    (made_of kept size s e reply receipt (option_cons receipt []) handed (λ none. ap (λ o. option_cons o []) none) (λ r some. ap (λ o. option_cons o []) some))
+
+-- one receipt, or none
+pub grows_one : (s t : SessionView) (receipt : Option Receipt) → t ≡ noted s (option_cons receipt []) → Grows 1 s t
+grows_one s t receipt is = record {
+  slots = ap (λ (v : SessionView). v.slots) is;
+  room = ap (λ (v : SessionView). v.room) is;
+  few = (let same = ap (λ (v : SessionView). length v.receipts) is in let one = at_most receipt in let all = length-append s.receipts (option_cons receipt []) in omega (arith, same, one, all));
+}
+  where
+    at_most : (o : Option Receipt) → length (option_cons o []) ≤ 1
+    at_most None = omega arith
+    at_most (Some r) = omega arith
+
+pub nothing_added : (s t : SessionView) (receipt : Option Receipt) → receipt ≡ None → t ≡ noted s (option_cons receipt []) → t ≡ s
+nothing_added s t receipt none is = is ∙ ap (λ o. noted s (option_cons o [])) none ∙ sym (noted_none s)

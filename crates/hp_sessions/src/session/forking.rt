@@ -5,6 +5,7 @@ ghost use Rattle.hp_model.specs.declared.answer.Answer.TheVariants.{Done};
 ghost use Rattle.hp_model.specs.declared.step.Step.TheVariants.{Exit, Fork};
 ghost use Rattle.hp_model.specs.machine.Accesses.{done_reply};
 ghost use Rattle.hp_model.specs.machine.Step.{Script, exit_slots, fork_slots, script, undone};
+ghost use Rattle.hp_shared.specs.Slots.{is_trace_full};
 ghost use Rattle.hp_sessions.specs.Calls.{Carries, Grows, HasRoom, Leads};
 ghost use Rattle.hp_sessions.specs.Forks.{marked};
 
@@ -78,6 +79,8 @@ impl<'a, N: Naming, R: Wait, G: Gate, const K: usize> Session<'a, N, R, G, K> {
     ) -> Refusal
         requires places { HasRoom (K == 1) (count + 1) self.old }
         requires within { count ≤ self.old.slots }
+        requires few { count ≤ 64 }
+        requires noted { is_trace_full (Err refusal) ≡ false }
         ensures { Carries (K == 1) N.page_bytes self.old
             (undone (marked done.now count) child refusal) (Err result) self.new }
     {
