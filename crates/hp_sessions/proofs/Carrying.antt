@@ -20,15 +20,15 @@ use Rattle.hp_model.specs.machine.Table.{Table, home_of, when_known}
 use Rattle.hp_model.specs.threads.JointRun.{option_cons}
 use Rattle.hp_model.specs.threads.Telling.{Tells, TellsFront, TellsStep, has_place, most_receipts, told_of}
 use Rattle.hp_shared.specs.Slots.{is_trace_full}
-use Rattle.hp_sessions.specs.Calls.{AreAdded, AreAnswers, CanAnswer, Carries, Grows, HasRoomFor, IsAnswered, IsHanded, IsMade, IsRefusedFirst, IsTold, IsToldOf, Leads, SessionView, TellsOrStops, noted}
+use Rattle.hp_sessions.specs.Calls.{AreAdded, AreAnswers, CanAnswer, Carries, Grows, HasRoom, HasRoomFor, IsAnswered, IsHanded, IsMade, IsRefusedFirst, IsTold, IsToldOf, Leads, SessionView, TellsOrStops, noted}
 
 -- ---- cases of a test
 
-full_in : (b : Bool) (A B : Type 0) → b ≡ true → MatchBool b A B → A
+pub full_in : (b : Bool) (A B : Type 0) → b ≡ true → MatchBool b A B → A
 full_in true A B e t = t
 full_in false A B e t = cc
 
-done_in : (b : Bool) (A B : Type 0) → b ≡ false → MatchBool b A B → B
+pub done_in : (b : Bool) (A B : Type 0) → b ≡ false → MatchBool b A B → B
 done_in true A B e t = cc
 done_in false A B e t = t
 
@@ -44,7 +44,7 @@ map_match : (b : Bool) (A B C D : Type 0) → (A → C) → (B → D) → MatchB
 map_match true A B C D f g t = f t
 map_match false A B C D f g t = g t
 
-is_full : (r : Reply) → is_trace_full r ≡ true → r ≡ Err TraceFull
+pub is_full : (r : Reply) → is_trace_full r ≡ true → r ≡ Err TraceFull
 is_full (Ok a) e = cc
 is_full (Err TraceFull) e = refl
 is_full (Err other) e = cc
@@ -249,3 +249,22 @@ grows_one s t receipt is = record {
 
 pub nothing_added : (s t : SessionView) (receipt : Option Receipt) → receipt ≡ None → t ≡ noted s (option_cons receipt []) → t ≡ s
 nothing_added s t receipt none is = is ∙ ap (λ o. noted s (option_cons o [])) none ∙ sym (noted_none s)
+
+-- ---- how many receipts came
+
+pub grows_none : (s : SessionView) → Grows 0 s s
+grows_none s = record { slots = refl; room = refl; few = omega arith }
+
+pub grows_then : (a b : ℕ) (s t u : SessionView) → Grows a s t → Grows b t u → Grows (a + b) s u
+grows_then a b s t u g h = record {
+  slots = h.slots ∙ g.slots;
+  room = h.room ∙ g.room;
+  few = (let one = g.few in let two = h.few in omega (arith, one, two));
+}
+
+pub room_after : (kept : Bool) (n m k : ℕ) (s t : SessionView) → HasRoom kept n s → Grows m s t → m + k ≤ n → HasRoom kept k t
+room_after kept n m k s t has g less k' =
+    let all = has k' in let few = g.few in let room = g.room in omega (arith, all, few, room, less)
+
+pub grows_more : (n : ℕ) (s t : SessionView) → Grows n s t → Grows (n + 1) s t
+grows_more n s t g = record { slots = g.slots; room = g.room; few = (let one = g.few in omega (arith, one)) }

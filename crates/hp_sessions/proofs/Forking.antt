@@ -23,7 +23,7 @@ use Rattle.hp_model.specs.declared.entry.Receipt.{Receipt}
 use Rattle.hp_model.specs.threads.JointRun.{option_cons}
 use Rattle.hp_sessions.specs.Calls.{Carries, IsHanded, IsMade, Leads, SessionView, noted}
 use Rattle.hp_sessions.specs.Forks.{IsForked, marked}
-use Rattle.hp_sessions.proofs.Carrying.{ends, goes_on, made_added, nothing_added, refused_made, stops, where_mapped, where_other}
+use Rattle.hp_sessions.proofs.Carrying.{ends, goes_on, is_full, made_added, nothing_added, refused_made, stops, where_mapped, where_other}
 
 range_more : (a n : ℕ) → range_with_len a (suc n) ≡ range_with_len a n ++ (a + n) ∷ []
 range_more a zero = ap (λ k. k ∷ []) {x = a} {y = a + 0} (omega arith)
@@ -154,12 +154,12 @@ module _ (kept : Bool) (size : ℕ) where
         where_other kept size s u k parent (Do (OnSlot k (ForkMaps parent child)) (λ r. or_undone done child r rest)) (fork_slots ks done parent child) reply
         (subst (λ v. Carries kept size v (fork_slots ks done parent child) reply u) same c)
 
-    pub fork_stops : (s t : SessionView) (k : ℕ) (ks done : List ℕ) → IsMade kept size s (OnSlot k (ForkMaps parent child)) (Err TraceFull) t →
-        Carries kept size s (fork_slots (k ∷ ks) done parent child) (Err TraceFull) t
-    fork_stops s t k ks done made =
+    pub fork_stops : (s t : SessionView) (k : ℕ) (ks done : List ℕ) (x : Refusal) → is_trace_full (Err x) ≡ true → IsMade kept size s (OnSlot k (ForkMaps parent child)) (Err x) t →
+        Carries kept size s (fork_slots (k ∷ ks) done parent child) (Err x) t
+    fork_stops s t k ks done x full made =
         let rest = fork_slots ks (done ++ k ∷ []) parent child in
-        where_mapped kept size s t k parent (Do (OnSlot k (ForkMaps parent child)) (λ r. or_undone done child r rest)) (fork_slots ks done parent child) (Err TraceFull)
-        (stops kept size s t (OnSlot k (ForkMaps parent child)) (Err TraceFull) made (λ r. or_undone done child r rest) refl)
+        where_mapped kept size s t k parent (Do (OnSlot k (ForkMaps parent child)) (λ r. or_undone done child r rest)) (fork_slots ks done parent child) (Err x)
+        (stops kept size s t (OnSlot k (ForkMaps parent child)) (Err x) made (λ r. or_undone done child r rest) full)
 
     pub fork_refused : (s t : SessionView) (k : ℕ) (ks done : List ℕ) (x : Refusal) → is_trace_full (Err x) ≡ false → IsMade kept size s (OnSlot k (ForkMaps parent child)) (Err x) t →
         Leads kept size s (fork_slots (k ∷ ks) done parent child) t (undone done child x)
@@ -191,11 +191,11 @@ module _ (kept : Bool) (size : ℕ) where
             forked_none s t at (range_with_len (at + 1) (n - (at + 1))) (marked done at) same reply u
             (subst (λ xs. Carries kept size t (fork_slots (range_with_len (at + 1) (n - (at + 1))) xs parent child) reply u) (append-nil (marked done at)) c)
 
-    pub slot_stops : (s t : SessionView) (done : List Bool) (at n : ℕ) → at < n → IsMade kept size s (OnSlot at (ForkMaps parent child)) (Err TraceFull) t →
-        Carries kept size s (left_at done at n) (Err TraceFull) t
-    slot_stops s t done at n below made =
-        subst (λ xs. Carries kept size s (fork_slots xs (marked done at) parent child) (Err TraceFull) t) (sym (next_of at n below))
-        (fork_stops s t at (range_with_len (at + 1) (n - (at + 1))) (marked done at) made)
+    pub slot_stops : (s t : SessionView) (done : List Bool) (at n : ℕ) (x : Refusal) → at < n → is_trace_full (Err x) ≡ true → IsMade kept size s (OnSlot at (ForkMaps parent child)) (Err x) t →
+        Carries kept size s (left_at done at n) (Err x) t
+    slot_stops s t done at n x below full made =
+        subst (λ xs. Carries kept size s (fork_slots xs (marked done at) parent child) (Err x) t) (sym (next_of at n below))
+        (fork_stops s t at (range_with_len (at + 1) (n - (at + 1))) (marked done at) x full made)
 
     pub slot_refused : (s t : SessionView) (done : List Bool) (at n : ℕ) (x : Refusal) → at < n → is_trace_full (Err x) ≡ false →
         IsMade kept size s (OnSlot at (ForkMaps parent child)) (Err x) t → Leads kept size s (left_at done at n) t (undone (marked done at) child x)
@@ -223,6 +223,11 @@ module _ (kept : Bool) (size : ℕ) where
       Carries kept size s (undone ks child x) (Err TraceFull) u
   undo_stops s t u ks child x gone made =
       gone (Do (OnTasks (Remove child)) (λ reply. Answer_with (Err x))) (Err TraceFull) u (stops kept size t u (OnTasks (Remove child)) (Err TraceFull) made (λ reply. Answer_with (Err x)) refl)
+
+  pub undo_full : (s t u : SessionView) (ks : List ℕ) (child : ℕ) (x : Refusal) (reply : Reply) → is_trace_full reply ≡ true → Exited s ks child t →
+      IsMade kept size t (OnTasks (Remove child)) reply u → Carries kept size s (undone ks child x) (Err TraceFull) u
+  undo_full s t u ks child x reply full gone made =
+      undo_stops s t u ks child x gone (subst (λ r. IsMade kept size t (OnTasks (Remove child)) r u) (is_full reply full) made)
 
   pub undo_ends : (s t u : SessionView) (ks : List ℕ) (child : ℕ) (x : Refusal) (reply : Reply) → is_trace_full (Err x) ≡ false → is_trace_full reply ≡ false → Exited s ks child t →
       IsMade kept size t (OnTasks (Remove child)) reply u → Carries kept size s (undone ks child x) (Err x) u

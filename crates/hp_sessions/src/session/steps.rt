@@ -8,6 +8,7 @@ ghost use Rattle.hp_model.specs.machine.Copying.{has_bytes};
 ghost use Rattle.hp_model.specs.machine.Told.{told_answer, told_reply};
 ghost use Rattle.hp_model.specs.text.Writing.{IsWithinLimits};
 ghost use Rattle.hp_mount.specs.Event.{event_of};
+ghost use Rattle.hp_shared.specs.Tables.{table_reply};
 ghost use Rattle.hp_sessions.specs.declared.work.Work.TheVariants.{OfTask as OfATask};
 ghost use Rattle.hp_sessions.specs.Calls.{HasRoom, IsAnswered};
 ghost use Rattle.hp_sessions.specs.Works.{AreCopies, HasAnswerOf, IsApart, IsBytes, IsWorked, bytes_of};
@@ -23,6 +24,7 @@ use hp_model::service::Access;
 use hp_model::step::Step;
 use hp_model::told::Told;
 use hp_mount::MountEvent;
+use hp_shared::TableTold;
 use std::alloc::AllocError;
 use std::sync::Wait;
 
@@ -111,7 +113,7 @@ impl<'a, N: Naming, R: Wait, G: Gate, const K: usize> Session<'a, N, R, G, K> {
             return Err(Refusal::TraceFull);
         }
         match *work {
-            Work::Tasks(event) => self.make_table(event).told(),
+            Work::Tasks(event) => table_told(self.make_table(event)),
             Work::Pool(event) => self.make_pool(event),
             Work::Fork { parent, child } => Told::done(self.fork(parent, child)),
             Work::Exit { task } => Told::done(self.exit(task)),
@@ -228,5 +230,17 @@ fn into_done(told: Result<Told<'_>, Refusal>) -> Result<(), Refusal>
     match told {
         Ok(_done) => Ok(()),
         Err(refusal) => Err(refusal),
+    }
+}
+
+// What an event of the task table answers.
+fn table_told(told: TableTold) -> Result<Told<'static>, Refusal>
+    ensures reply { told_reply result ≡ table_reply told }
+    ensures limits { IsWithinLimits (told_reply result) }
+{
+    match told {
+        TableTold::Done => Ok(Told::Done),
+        TableTold::Home(home) => Ok(Told::Home(home)),
+        TableTold::Refused(refusal) => Err(refusal),
     }
 }
