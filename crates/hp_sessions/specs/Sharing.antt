@@ -1,14 +1,51 @@
--- The machine that threads share, to a contract.
-use Rattle.std.specs.Prelude.{◌≡◌, ℕ, ◌<◌, ◌≤◌}
+-- The machine that threads share, to a contract, and how it ends.
+use Rattle.std.specs.Prelude.{◌≡◌, ℕ, ◌<◌, ◌≤◌, None, List, [], length}
+use Rattle.std.specs.List.{All, slice_index_or}
+use Rattle.hp_model.specs.declared.answer.Counts.{Counts}
+use Rattle.hp_model.specs.declared.entry.Receipt.{Receipt}
+use Rattle.hp_model.specs.declared.entry.SlotEntry.{SlotEntry}
+use Rattle.hp_model.specs.declared.event.Event.{Event}
+use Rattle.hp_model.specs.machine.Plan.{Slot}
+use Rattle.hp_model.specs.machine.State.{State, slot_at}
+use Rattle.hp_model.specs.threads.JointRun.{AreRuns, Trails}
+use Rattle.hp_model.specs.threads.LocalRun.{IsLocalRun}
+use Rattle.hp_locked.specs.Views.{frames_list}
+use Rattle.hp_shared.specs.Slots.{slot_start}
+use Rattle.hp_system.specs.Kept.{Machine, all_free, machine_of}
+use Rattle.hp_trail.specs.Audit.{IsJointList}
 
 -- what no thread changes: the bytes of a page, and how many slots there are
 pub record SharedView : Type 0 where
   pub page_size : ℕ
   pub slots : ℕ
 
-pub record IsShared (bytes : ℕ) (s : SharedView) : Type 0 where
+pub record IsShared (bytes : ℕ) (frames : ℕ → ℕ) (s : SharedView) : Type 0 where
   pub size : s.page_size ≡ bytes
   pub some : 0 < s.page_size
   pub most : s.page_size ≤ 2097152
   pub any : 0 < s.slots
   pub few : s.slots ≤ 64
+  pub nodes : length (frames_list frames) ≤ 4
+  pub small : All (λ f. f ≤ 65536) (frames_list frames)
+
+-- each slot's trail is a run of it, from its start to this mount
+pub record AreGathered (size : ℕ) (trails : List (List SlotEntry)) (mounts : List Slot) : Type 0 where
+  pub count : length trails ≡ length mounts
+  pub runs : (k : ℕ) → k < length mounts
+      → IsLocalRun size k (slot_start k) (slice_index_or trails k []) (slice_index_or mounts k None)
+
+-- each trail is a run of its part, from that of this state to that of the machine
+pub record EndsRuns (s : State) (t : Trails) (m : Machine) : Type 0 where
+  pub runs : AreRuns s t m.state.table (slot_at m.state) m.pool
+  pub count : length m.state.slots ≡ length s.slots
+  pub parts : m ≡ machine_of m.state.page_size m.state.table m.state.slots m.pool
+
+-- the trails of a machine and what its sessions were told were joined into these events, which end in it; and once it was
+-- closed all its pages were free
+pub record WasJoined (s : State) (told : List (List Receipt)) (counts : Counts) : Type 0 where
+  pub trails : Trails
+  pub events : List Event
+  pub machine : Machine
+  pub ends : EndsRuns s trails machine
+  pub joint : IsJointList trails told events
+  pub free : counts ≡ all_free machine.state

@@ -1,9 +1,11 @@
 -- The end of the machine: slot after slot goes, with all that it has.
-use Rattle.std.proofs.Common.{◌≡◌, ℕ, suc, ◌+◌, ◌-◌, ◌<◌, ◌≤◌, ◌&&◌, ◌==◌, None, Some, Ok, List, [], ◌∷◌, ◌++◌, length, replicate, refl, sym, ap, subst, ◌∙◌, arith, IsTrue}
+use Rattle.std.proofs.Common.{◌≡◌, ℕ, suc, ◌+◌, ◌*◌, ◌-◌, ◌<◌, ◌≤◌, ◌&&◌, ◌==◌, None, Some, Ok, List, [], ◌∷◌, ◌++◌, length, replicate, refl, sym, ap, subst, ◌∙◌, arith, IsTrue}
 use Rattle.std.specs.Prelude.{max, slice_set}
-use Rattle.std.specs.List.{sum}
+use Rattle.std.specs.List.{All, sum}
 use Rattle.std.proofs.lemmas.Bool.{cond_both}
 use Rattle.std.proofs.lemmas.List.{append-nil, append_assoc, length-append}
+use Rattle.std.proofs.lemmas.List.Elements.{All-head, All-tail}
+use Rattle.std.proofs.lemmas.List.Sums.{sum_by-cons}
 use Rattle.std.proofs.Math.Seq.{get_or-append_seam, set-append_seam}
 use Rattle.hp_model.specs.declared.answer.Answer.TheVariants.{Done}
 use Rattle.hp_laws.specs.Balance.{Always, IsBalanced, left_by}
@@ -15,7 +17,10 @@ use Rattle.hp_model.specs.machine.Machine.{committed_pages, pool_of}
 use Rattle.hp_model.specs.machine.Plan.{Plan, Finish, Ask, Answered, Reply, Slot, fall_of, gives, puts_of}
 use Rattle.hp_model.specs.declared.section.Section.TheVariants.{GiveBack}
 use Rattle.hp_model.specs.pool.PoolCounts.{Pool, counts_by, counts_of, used}
-use Rattle.hp_model.specs.machine.Settled.{IsSettledState}
+use Rattle.hp_model.specs.declared.node.NodeRow.{NodeRow}
+use Rattle.hp_model.specs.pool.NodeRows.{IsRow, total_of}
+use Rattle.hp_model.specs.machine.Settled.{IsSettledPool, IsSettledState}
+use Rattle.hp_mount_door.specs.Door.{IsReady as IsReadyPool}
 use Rattle.hp_model.specs.machine.Sound.{IsSound}
 use Rattle.hp_model.specs.machine.State.{State}
 use Rattle.hp_model.specs.machine.Table.{Table}
@@ -25,9 +30,9 @@ use Rattle.hp_laws.proofs.SlotShows.{always_gives}
 use Rattle.hp_laws.proofs.Tied.{plan_tied}
 use Rattle.hp_model.specs.threads.LocalRun.{ThroughDoor}
 use Rattle.hp_laws.proofs.Tells.{tells_gives}
-use Rattle.hp_system.specs.Event.{Exits, IsExit, took}
-use Rattle.hp_system.specs.Kept.{all_free, state_of}
-use Rattle.hp_system.proofs.Carries.{kept_after, plan_is, slot_in, IsKept}
+use Rattle.hp_system.specs.Event.{AllGo, Exits, IsExit, SlotGoes, took}
+use Rattle.hp_system.specs.Kept.{IsReady, IsSized, Machine, all_free, machine_of, state_of}
+use Rattle.hp_system.proofs.Carries.{kept_after, kept_by, plan_is, slot_in, IsKept}
 use Rattle.hp_system.proofs.Start.{sum_none}
 
 -- what is left of n slots: these, and as many without a mount as are done; what is set stays
@@ -163,3 +168,67 @@ all_gone size bytes n t start p s xs none ends nr_is overcommit_is =
         ap (λ k. record { total = k; free = k - 0; rsvd = 0; surp = k - nr; nr = nr; overcommit = overcommit }) most
         ∙ ap (λ k. record { total = nr; free = k; rsvd = 0; surp = nr - nr; nr = nr; overcommit = overcommit }) whole
         ∙ ap (λ k. record { total = nr; free = nr; rsvd = 0; surp = k; nr = nr; overcommit = overcommit }) none
+
+-- ---- all slots
+
+-- a slot goes from the end of what is left
+slot_goes : (size bytes n : ℕ) (t : Table) (start : Pool) (rest : List Slot) (x : Slot) (p q : Pool) → SlotGoes x p q
+    → IsEnding size bytes n t start (rest ++ x ∷ []) p → IsEnding size bytes n t start rest q
+slot_goes size bytes n t start rest None p q went was =
+    subst (λ y. IsEnding size bytes n t start rest y) (sym went) (none_goes size bytes n t start (rest ++ None ∷ []) rest None p refl was refl)
+slot_goes size bytes n t start rest (Some m) p q went was =
+    let last = went.0 in
+    let r = went.1 in
+    let left = exits_go size bytes n t start rest went.2.0 m last p r went.2.1 was in
+    mount_goes size bytes n t start (rest ++ Some last ∷ []) rest (Some last) r refl left last q refl went.3
+
+all_end : (size bytes n : ℕ) (t : Table) (start : Pool) (xs rest : List Slot) (p q : Pool) → AllGo xs p q
+    → IsEnding size bytes n t start (rest ++ xs) p → IsEnding size bytes n t start rest q
+all_end size bytes n t start [] rest p q went was =
+    subst (λ y. IsEnding size bytes n t start rest y) (sym went) (subst (λ ys. IsEnding size bytes n t start ys p) (append-nil rest) was)
+all_end size bytes n t start (x ∷ xs) rest p q went was =
+    slot_goes size bytes n t start rest x went.0 q went.2
+    (all_end size bytes n t start xs (rest ++ x ∷ []) p went.0 went.1 (subst (λ ys. IsEnding size bytes n t start ys p) (sym (append_assoc rest (x ∷ []) xs)) was))
+
+-- where the pool's numbers were the sums, all pages are free once all slots are gone
+pub all_are_free : (size bytes : ℕ) (t : Table) (xs : List Slot) (p q : Pool) (m : Machine) → IsSized size bytes → machine_of size t xs p ≡ m
+    → AllGo xs p q → IsReady m → counts_of q ≡ all_free m.state
+all_are_free size bytes t xs p q m sized is went ready =
+    let ends = all_end size bytes (length xs) t p xs [] p q went (begins size bytes t xs p (kept_by m sized is ready)) in
+    all_gone size bytes (length xs) t p q m.state [] refl ends (ap (λ (x : Machine). x.state.nr) is) (ap (λ (x : Machine). x.state.overcommit) is)
+
+-- some slots are left, and those behind them went
+pub record IsGoing (all : List Slot) (start : Pool) (left : List Slot) (p : Pool) : Type 0 where
+  pub gone : List Slot
+  pub parts : all ≡ left ++ gone
+  pub went : AllGo gone start p
+  pub ready : IsReadyPool p
+
+pub going_begins : (xs : List Slot) (p : Pool) → IsReadyPool p → IsGoing xs p xs p
+going_begins xs p ready = record { gone = []; parts = sym (append-nil xs); went = refl; ready = ready }
+
+pub going_goes : (all : List Slot) (start : Pool) (left rest : List Slot) (x : Slot) (p q : Pool) → left ≡ rest ++ x ∷ [] → SlotGoes x p q → IsReadyPool q
+    → IsGoing all start left p → IsGoing all start rest q
+going_goes all start left rest x p q is goes ready was =
+    record {
+      gone = x ∷ was.gone;
+      parts = was.parts ∙ ap (λ ys. ys ++ was.gone) is ∙ append_assoc rest (x ∷ []) was.gone;
+      went = (p, was.went, goes);
+      ready = ready;
+    }
+
+pub going_ends : (all : List Slot) (start : Pool) (left : List Slot) (p : Pool) → left ≡ [] → IsGoing all start left p → AllGo all start p
+going_ends all start left p none was = subst (λ xs. AllGo xs start p) (sym (was.parts ∙ ap (λ ys. ys ++ was.gone) none)) was.went
+
+few_pages : (rows : List NodeRow) → All IsRow rows → total_of rows ≤ 65536 * length rows
+few_pages [] all = omega arith
+few_pages (r ∷ rows) all =
+    let head = All-head IsRow r rows all in
+    let total_in = head.total_in in
+    let few = head.few in
+    let rest = few_pages rows (All-tail IsRow r rows all) in
+    omega (arith, rest, total_in, few, sum_by-cons (λ (x : NodeRow). x.total) r rows)
+
+-- a pool has no more pages than four nodes have frames
+pub counts_few : (p : Pool) → IsSettledPool p → length p.nodes.rows ≤ 4 → (counts_of p).total ≤ 262144
+counts_few p settled four = (let total = settled.total in let few = few_pages p.nodes.rows settled.rows in omega (arith, total, few, four))

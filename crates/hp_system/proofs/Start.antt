@@ -39,7 +39,7 @@ pub sum_none : (n : ℕ) → sum_by slot_committed (replicate n None) ≡ 0
 sum_none zero = refl
 sum_none (suc n) = omega (arith, sum_none n, sum_by-cons slot_committed None (replicate n None))
 
-start_pool : (frames : List ℕ) (size n : ℕ) → pool_of (start frames size n) ≡ first_pool frames
+pub start_pool : (frames : List ℕ) (size n : ℕ) → pool_of (start frames size n) ≡ first_pool frames
 start_pool frames size n =
     let none : committed_pages (start frames size n) ≡ 0 = omega (arith, sum_none (n - 1), sum_by-cons slot_committed (Some open_mount) (replicate (n - 1) None)) in
     ap (λ c. record (pool_of (start frames size n)) { committed = c }) none

@@ -1,5 +1,5 @@
 -- An event on a slot, carried out on the slot and the pool, and as a step of the machine.
-use Rattle.std.specs.Prelude.{◌≡◌, ℕ, true, List, [], ◌∷◌, length, Ok, Err, Result, Some}
+use Rattle.std.specs.Prelude.{◌≡◌, ℕ, true, List, [], ◌∷◌, length, Ok, Err, Result, None, Some}
 use Rattle.std.specs.Bool.{MatchBool}
 use Rattle.std.specs.List.{filter, range_with_len}
 use Rattle.hp_model.specs.declared.refusal.Refusal.{Refusal}
@@ -13,7 +13,7 @@ use Rattle.hp_model.specs.declared.service.Access.{Access}
 use Rattle.hp_model.specs.files.File.{Mount}
 use Rattle.hp_model.specs.machine.Event.{IsEvent, IsFresh, has_maps_of}
 use Rattle.hp_model.specs.threads.LocalRun.{ThroughDoor}
-use Rattle.hp_model.specs.machine.Plan.{Choice, Reply, Slot}
+use Rattle.hp_model.specs.machine.Plan.{Choice, Reply, Slot, gives}
 use Rattle.hp_model.specs.pool.Pool.{section}
 use Rattle.hp_model.specs.pool.PoolCounts.{Pool}
 use Rattle.hp_model.specs.machine.SlotEvent.{slot_event}
@@ -68,6 +68,17 @@ Exits (task ∷ tasks) m p n q = (mid : Mount) × (r : Pool) × IsExit task m p 
 
 abbrev pub AllExit : (m : Mount) (p : Pool) (n : Mount) (q : Pool) → Type 0
 AllExit m p n q = (tasks : List ℕ) × Exits tasks m p n q
+
+-- a slot's mount went with all that it has: its maps, and then its files with the minimum
+abbrev pub SlotGoes : Slot → (p q : Pool) → Type 0
+SlotGoes None p q = q ≡ p
+SlotGoes (Some m) p q =
+    (last : Mount) × (r : Pool) × AllExit m p last r × ThroughDoor took (gives Done (Some last) None) (Some last) r (Ok Done) None q
+
+-- and those of all these slots, the last of them first
+abbrev pub AllGo : List Slot → (p q : Pool) → Type 0
+AllGo [] p q = q ≡ p
+AllGo (slot ∷ slots) p q = (r : Pool) × AllGo slots p r × SlotGoes slot r q
 
 -- the event of a load of so many bytes and of a store, of a task with that home
 abbrev pub load_event : Access → (count home : ℕ) → SlotEvent

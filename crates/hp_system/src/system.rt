@@ -1,12 +1,12 @@
 //! The machine.
 ghost use Rattle.std.specs.Prelude.{false, ◌≡◌, ◌<◌, ◌≤◌, [], length, vec_capacity, All, IfOk};
 ghost use Rattle.hp_model.specs.machine.Machine.{slots_from, start};
-ghost use Rattle.hp_model.specs.pool.PoolCounts.{IsSettled};
+ghost use Rattle.hp_model.specs.pool.PoolCounts.{IsSettled, Pool as PoolValue, counts_of};
 ghost use Rattle.hp_nodes.specs.Ledgers.{AreFrames};
 ghost use Rattle.hp_pool.specs.Ledgers.{AreLedgers};
 ghost use Rattle.hp_model.specs.machine.SlotEvent.{has_maps};
 ghost use Rattle.hp_mount_door.specs.Door.{IsReady as IsReadyPool};
-ghost use Rattle.hp_system.specs.Event.{AllExit};
+ghost use Rattle.hp_system.specs.Event.{AllExit, AllGo};
 ghost use Rattle.hp_system.specs.Kept.{all_free, IsReady, machine_of};
 
 mod accesses;
@@ -95,11 +95,14 @@ impl<N: Naming> System<N> {
     }
 
     /// Ends the machine with all that it has: maps, files, mounts and tasks. It answers the pool's numbers
-    /// (pages), of which all that were persistent are free again, and none is promised or surplus.
-    /// Never refused; it takes no memory.
+    /// (pages) once all of these are gone. Where the pool's numbers were the sums over files and maps, all pages that were
+    /// persistent are free again, and none is promised or surplus. Never refused; it takes no memory.
     pub fn close(self) -> Counts
-        requires ready { IsReady self }
-        ensures { result ≡ all_free self.state }
+        requires ready { IsReadyPool self.pool }
+        ensures counts { (left : PoolValue) × AllGo self.state.slots self.pool left
+            × (result ≡ counts_of left) }
+        ensures free { IsReady self → result ≡ all_free self.state }
+        ensures few { result.total ≤ 262144 }
     {
         let System {
             page_bytes: _,
@@ -119,6 +122,9 @@ impl<N: Naming> System<N> {
             }
         }
         slots.destroy_empty();
+        let (pool, frames) = pool.into_parts();
+        frames.close();
+        pool.law();
         pool.close()
     }
 }
