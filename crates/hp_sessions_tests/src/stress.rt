@@ -267,7 +267,7 @@ fn run<N: Naming + Send + Sync, R: Threads + Wait + Abort + Sync, const K: usize
     requires frames { AreFrames N.frames (4 ∷ 4 ∷ []) }
     requires bytes { N.page_bytes ≡ 1024 }
 {
-    let shared = Shared::<N, K>::new(alloc, &[4, 4], 1024, SLOTS, PLACES, blanks).expect(rt, "memory");
+    let shared = Shared::<N, K>::new(alloc, &[4, 4], 1024, SLOTS as usize, PLACES, blanks).expect(rt, "memory");
     let told = eight(rt, alloc, &shared);
     let closed = shared.close(alloc, told).expect(rt, "memory");
     same!(rt; closed.audit, audit);
