@@ -201,12 +201,15 @@ never_full false A B h = (refl, h)
 pub answered : (kept : Bool) (size : ℕ) (s t : SessionView) (step : Step) (reply : Reply) → (kept ≡ true → HasRoomFor s step) →
     Carries kept size s (script s.slots step) reply t → IsAnswered kept size s step reply t
 answered true size s t step reply room c =
-    inl (room refl, record {
-      added = c.added.0;
-      noted = c.added.1;
-      answers = subst (λ xs. AreAnswers size xs) (sym c.added.2) c.answers;
-      tells = subst (λ xs. TellsStep s.slots step xs reply) (sym c.added.2) (tells_step s.slots step c.events reply true c.tells);
-    })
+    inl (
+      room refl,
+      record {
+        added = c.added.0;
+        noted = c.added.1;
+        answers = subst (λ xs. AreAnswers size xs) (sym c.added.2) c.answers;
+        tells = subst (λ xs. TellsStep s.slots step xs reply) (sym c.added.2) (tells_step s.slots step c.events reply true c.tells);
+      },
+    )
 answered false size s t step reply room c =
     let told = never_full (is_trace_full reply) (TellsFront (script s.slots step) c.events) (Tells (script s.slots step) c.events reply) c.tells in (c.added, told.0, (c.events, c.answers, told.1))
 

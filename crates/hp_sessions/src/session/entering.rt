@@ -33,11 +33,7 @@ use std::sync::Wait;
 fn absent<const K: usize>(refusal: Refusal) -> Refusal
     ensures { result ≡ (if K == 1 then TraceFull else refusal) }
 {
-    if K == 1 {
-        Refusal::TraceFull
-    } else {
-        refusal
-    }
+    if K == 1 { Refusal::TraceFull } else { refusal }
 }
 
 impl<'a, N: Naming, R: Wait, G: Gate, const K: usize> Session<'a, N, R, G, K> {
@@ -102,14 +98,7 @@ impl<'a, N: Naming, R: Wait, G: Gate, const K: usize> Session<'a, N, R, G, K> {
             None
         };
         let mut door = Door::new(self.rt, self.gate, &shared.core, &shared.nodes);
-        slot.event(
-            &mut door,
-            shared.page_size(),
-            home,
-            event,
-            noted,
-            room,
-        )
+        slot.event(&mut door, shared.page_size(), home, event, noted, room)
     }
 
     // Mounts a slot.
@@ -138,13 +127,7 @@ impl<'a, N: Naming, R: Wait, G: Gate, const K: usize> Session<'a, N, R, G, K> {
             None
         };
         let mut door = Door::new(self.rt, self.gate, &shared.core, &shared.nodes);
-        slot.mount(
-            &mut door,
-            shared.alloc,
-            shared.page_size(),
-            options,
-            noted,
-        )
+        slot.mount(&mut door, shared.alloc, shared.page_size(), options, noted)
     }
 
     // Ends the mount of a slot.

@@ -153,12 +153,7 @@ impl<'a, N: Naming, R: Wait, G: Gate, const K: usize> Session<'a, N, R, G, K> {
     }
 
     // Gives a child the maps that its parent has on a slot: whether it has any there.
-    pub(super) fn make_fork(
-        &mut self,
-        at: usize,
-        parent: u64,
-        child: u64,
-    ) -> Result<bool, Refusal>
+    pub(super) fn make_fork(&mut self, at: usize, parent: u64, child: u64) -> Result<bool, Refusal>
         requires places { HasRoom (K == 1) 1 self.old }
         requires within { at < self.old.slots }
         requires apart { (parent == child) ≡ false }

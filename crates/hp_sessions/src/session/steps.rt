@@ -44,11 +44,7 @@ impl<'a, N: Naming, R: Wait, G: Gate, const K: usize> Session<'a, N, R, G, K> {
     }
 
     /// Answers a step as `call` does. Bytes are in the front of the room.
-    pub fn do_step<'b>(
-        &mut self,
-        step: &Step<'_>,
-        room: &'b mut [u8],
-    ) -> Result<Told<'b>, Refusal>
+    pub fn do_step<'b>(&mut self, step: &Step<'_>, room: &'b mut [u8]) -> Result<Told<'b>, Refusal>
         requires { 256 ≤ length room.old }
         ensures answered { IsAnswered (K == 1) N.page_bytes self.old step.now (told_reply result)
             self.new }

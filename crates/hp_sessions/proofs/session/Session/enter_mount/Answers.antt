@@ -12,7 +12,7 @@ mount-requires-clause-noted g c =
     let slot = c.deref_mut-slot.result.now in
     let e = Mounting c.args.options.now in
     elim c.if-is_kept.branch [
-      then-is_kept w ↦ noted_then slot.entries e c.if-is_kept.noted w.mountings-noted.result w.noted-is
+      | then-is_kept w ↦ noted_then slot.entries e c.if-is_kept.noted w.mountings-noted.result w.noted-is
           (w.mountings-noted.ensures c.args.options.now (c.requires.copies (sym c.is_kept.ensures.keeps ∙ w.if-is_kept.true)))
       | else-is_kept w ↦ noted_else slot.entries e c.if-is_kept.noted w.noted-is (sym c.is_kept.ensures.kept ∙ w.if-is_kept.false)
     ]

@@ -15,7 +15,7 @@ loop-at-preserved g c =
     let done = c.args.done.now in
     let at = c.loop-at.at in
     elim c.if-is_done.branch [
-      then-is_done w ↦ record {
+      | then-is_done w ↦ record {
         gone = subst (λ (v : SessionView). Exited (g.row.K == 1) size s (marked done (at + 1)) c.args.child v) (sym w.self-is)
             (undo_next (g.row.K == 1) size s c.loop-at.self w.make_exit.new.self done at c.args.child (sym c.is_done.ensures ∙ w.if-is_done.true) was.gone w.make_exit.ensures.leads);
         grows = subst (λ (v : SessionView). Grows (at + 1) s v) (sym w.self-is) (grows_then at 1 s c.loop-at.self w.make_exit.new.self was.grows w.make_exit.ensures.grows);
