@@ -23,8 +23,8 @@ loop-slot-preserved g c =
                 let here : c.into_parts-number.result.0 ≡ length c.loop-slot.mounts.items = grind (arith, w.in_order-is, order, w.len.ensures, c.loop-slot.mounts.ok.0) in
                 slot_gathered (g.row.K == 1) g.N.Naming.page_bytes c.into_inner.result.number c.into_inner.result.entries c.into_inner.result.mount c.into_parts-number.result.1
                 c.into_parts-number.result.2 c.into_entries.result c.loop-slot.trails.items c.push_reserved-in-Some.new.self.items c.loop-slot.mounts.items
-                c.push_reserved.new.self.items keeps (was.runs keeps w.if-in_order) (sym parts.number ∙ here) parts.run parts.entries parts.mount c.into_entries.ensures
+                c.push_reserved.new.self.items keeps (was.runs keeps w.if-in_order.true) (sym parts.number ∙ here) parts.run parts.entries parts.mount c.into_entries.ensures
                 noted.items mounted.items
-            | else-in_order w ↦ absurd (false≢true (sym w.in_order-is ∙ order))
+            | else-in_order w ↦ absurd (false≢true (sym w.if-in_order.false ∙ (sym w.in_order-is ∙ order)))
           ];
     }
