@@ -2,7 +2,7 @@
 use Rattle.std.proofs.Common.{if◌then◌else◌, ◌≡◌, ℕ, ◌+◌, ◌<◌, ◌≤◌, Bool, true, false, List, [], ◌∷◌, ◌++◌, Option, None, Some, Ok, Err, inl, inr, length, map, refl, sym, ap, subst, ◌∙◌, arith}
 use Rattle.std.specs.Bool.{MatchBool}
 use Rattle.std.specs.List.{All}
-use Rattle.std.proofs.lemmas.List.{append-nil, append_assoc, map-append}
+use Rattle.std.proofs.lemmas.List.{append-nil, append_assoc, length-append, map-append}
 use Rattle.std.proofs.lemmas.Bool.{le-ltb, lt-ltb}
 use Rattle.std.proofs.lemmas.List.Elements.{All-cons, All-nil}
 use Rattle.hp_model.specs.declared.answer.Answer.TheVariants.{Done, Home}
@@ -17,17 +17,18 @@ use Rattle.hp_model.specs.declared.step.Step.{Step}
 use Rattle.hp_model.specs.machine.Plan.{Reply}
 use Rattle.hp_model.specs.machine.Step.{Answer_with, Do, Script, Where_mapped, finding, home_in, on_slot, only, script}
 use Rattle.hp_model.specs.machine.Table.{Table, home_of, when_known}
+use Rattle.hp_model.specs.threads.JointRun.{option_cons}
 use Rattle.hp_model.specs.threads.Telling.{Tells, TellsFront, TellsStep, has_place, most_receipts, told_of}
 use Rattle.hp_shared.specs.Slots.{is_trace_full}
-use Rattle.hp_sessions.specs.Calls.{AreAdded, AreAnswers, CanAnswer, Carries, Grows, HasRoomFor, IsAnswered, IsHanded, IsMade, IsRefusedFirst, IsTold, IsToldOf, Leads, SessionView, TellsOrStops, noted}
+use Rattle.hp_sessions.specs.Calls.{AreAdded, AreAnswers, CanAnswer, Carries, Grows, HasRoom, HasRoomFor, IsAnswered, IsHanded, IsMade, IsRefusedFirst, IsTold, IsToldOf, Leads, SessionView, TellsOrStops, noted}
 
 -- ---- cases of a test
 
-full_in : (b : Bool) (A B : Type 0) → b ≡ true → MatchBool b A B → A
+pub full_in : (b : Bool) (A B : Type 0) → b ≡ true → MatchBool b A B → A
 full_in true A B e t = t
 full_in false A B e t = cc
 
-done_in : (b : Bool) (A B : Type 0) → b ≡ false → MatchBool b A B → B
+pub done_in : (b : Bool) (A B : Type 0) → b ≡ false → MatchBool b A B → B
 done_in true A B e t = cc
 done_in false A B e t = t
 
@@ -43,7 +44,7 @@ map_match : (b : Bool) (A B C D : Type 0) → (A → C) → (B → D) → MatchB
 map_match true A B C D f g t = f t
 map_match false A B C D f g t = g t
 
-is_full : (r : Reply) → is_trace_full r ≡ true → r ≡ Err TraceFull
+pub is_full : (r : Reply) → is_trace_full r ≡ true → r ≡ Err TraceFull
 is_full (Ok a) e = cc
 is_full (Err TraceFull) e = refl
 is_full (Err other) e = cc
@@ -200,12 +201,15 @@ never_full false A B h = (refl, h)
 pub answered : (kept : Bool) (size : ℕ) (s t : SessionView) (step : Step) (reply : Reply) → (kept ≡ true → HasRoomFor s step) →
     Carries kept size s (script s.slots step) reply t → IsAnswered kept size s step reply t
 answered true size s t step reply room c =
-    inl (room refl, record {
-      added = c.added.0;
-      noted = c.added.1;
-      answers = subst (λ xs. AreAnswers size xs) (sym c.added.2) c.answers;
-      tells = subst (λ xs. TellsStep s.slots step xs reply) (sym c.added.2) (tells_step s.slots step c.events reply true c.tells);
-    })
+    inl (
+      room refl,
+      record {
+        added = c.added.0;
+        noted = c.added.1;
+        answers = subst (λ xs. AreAnswers size xs) (sym c.added.2) c.answers;
+        tells = subst (λ xs. TellsStep s.slots step xs reply) (sym c.added.2) (tells_step s.slots step c.events reply true c.tells);
+      },
+    )
 answered false size s t step reply room c =
     let told = never_full (is_trace_full reply) (TellsFront (script s.slots step) c.events) (Tells (script s.slots step) c.events reply) c.tells in (c.added, told.0, (c.events, c.answers, told.1))
 
@@ -227,3 +231,43 @@ made_of kept size s e reply receipt added handed none some =
     by true None is h = absurd h
     by true (Some r) is h = (added, refl, ap (map told_of) (some r is) ∙ ap (λ x. x ∷ []) h)
     by false o is h = ap (noted s) (none (is ∙ h)) ∙ sym (noted_none s)
+
+pub made_added : (kept : Bool) (size : ℕ) (s t : SessionView) (e : Event) (reply : Reply) (receipt : Option Receipt) → IsHanded kept size e reply receipt →
+    t ≡ noted s (option_cons receipt []) → IsMade kept size s e reply t
+made_added kept size s t e reply receipt handed is =
+    subst (λ (v : SessionView). IsMade kept size s e reply v) (sym is)
+    (made_of kept size s e reply receipt (option_cons receipt []) handed (λ none. ap (λ o. option_cons o []) none) (λ r some. ap (λ o. option_cons o []) some))
+
+-- one receipt, or none
+pub grows_one : (s t : SessionView) (receipt : Option Receipt) → t ≡ noted s (option_cons receipt []) → Grows 1 s t
+grows_one s t receipt is = record {
+  slots = ap (λ (v : SessionView). v.slots) is;
+  room = ap (λ (v : SessionView). v.room) is;
+  few = (let same = ap (λ (v : SessionView). length v.receipts) is in let one = at_most receipt in let all = length-append s.receipts (option_cons receipt []) in omega (arith, same, one, all));
+}
+  where
+    at_most : (o : Option Receipt) → length (option_cons o []) ≤ 1
+    at_most None = omega arith
+    at_most (Some r) = omega arith
+
+pub nothing_added : (s t : SessionView) (receipt : Option Receipt) → receipt ≡ None → t ≡ noted s (option_cons receipt []) → t ≡ s
+nothing_added s t receipt none is = is ∙ ap (λ o. noted s (option_cons o [])) none ∙ sym (noted_none s)
+
+-- ---- how many receipts came
+
+pub grows_none : (s : SessionView) → Grows 0 s s
+grows_none s = record { slots = refl; room = refl; few = omega arith }
+
+pub grows_then : (a b : ℕ) (s t u : SessionView) → Grows a s t → Grows b t u → Grows (a + b) s u
+grows_then a b s t u g h = record {
+  slots = h.slots ∙ g.slots;
+  room = h.room ∙ g.room;
+  few = (let one = g.few in let two = h.few in omega (arith, one, two));
+}
+
+pub room_after : (kept : Bool) (n m k : ℕ) (s t : SessionView) → HasRoom kept n s → Grows m s t → m + k ≤ n → HasRoom kept k t
+room_after kept n m k s t has g less k' =
+    let all = has k' in let few = g.few in let room = g.room in omega (arith, all, few, room, less)
+
+pub grows_more : (n : ℕ) (s t : SessionView) → Grows n s t → Grows (n + 1) s t
+grows_more n s t g = record { slots = g.slots; room = g.room; few = (let one = g.few in omega (arith, one)) }

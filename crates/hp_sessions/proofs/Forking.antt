@@ -1,5 +1,5 @@
 -- Forks and exits, slot after slot.
-use Rattle.std.proofs.Common.{◌≡◌, ℕ, zero, suc, ◌+◌, ◌-◌, ◌<◌, ◌≤◌, Bool, true, false, cond, List, [], ◌∷◌, ◌++◌, Ok, Err, length, refl, sym, ap, subst, ◌∙◌, arith}
+use Rattle.std.proofs.Common.{◌≡◌, ℕ, zero, suc, ◌+◌, ◌-◌, ◌<◌, ◌≤◌, Bool, true, false, cond, List, [], ◌∷◌, ◌++◌, Ok, Err, Option, None, Some, is_some, length, refl, sym, ap, subst, ◌∙◌, arith}
 use Rattle.std.specs.Bool.{MatchBool}
 use Rattle.std.specs.List.{filter, range_with_len, slice_index_or, slice_set}
 use Rattle.std.proofs.lemmas.List.{append-nil, get_or-set_other, get_or-set_same}
@@ -11,18 +11,43 @@ use Rattle.hp_model.specs.declared.event.SlotEvent.TheVariants.{ExitMaps, ForkMa
 use Rattle.hp_model.specs.declared.event.TableEvent.{TableEvent}
 use Rattle.hp_model.specs.declared.event.TableEvent.TheVariants.{FindAndAdd, Remove}
 use Rattle.hp_model.specs.declared.refusal.Refusal.{Refusal}
-use Rattle.hp_model.specs.declared.refusal.Refusal.TheVariants.{TraceFull}
+use Rattle.hp_model.specs.declared.refusal.Refusal.TheVariants.{TaskExists, TooMany, TraceFull}
 use Rattle.hp_model.specs.machine.Plan.{Reply}
 use Rattle.hp_model.specs.machine.Step.{Answer_with, Do, Script, exit_slot, exit_slots, fork_slots, or_undone, undone, when_done}
+use Rattle.hp_model.specs.machine.Table.{Table, added, home_of, is_crowded, is_known, or_refused, table_event, when_known}
 use Rattle.hp_shared.specs.Slots.{is_trace_full}
 use Rattle.hp_shared.specs.declared.table_told.TableTold.{TableTold}
 use Rattle.hp_shared.specs.declared.table_told.TableTold.TheVariants as told
 use Rattle.hp_shared.specs.Tables.{table_reply}
-use Rattle.hp_system.proofs.Forking.{child_is_another}
-use Rattle.hp_system.proofs.MachineSteps.{first_more}
-use Rattle.hp_sessions.specs.Calls.{Carries, IsMade, Leads, SessionView}
-use Rattle.hp_sessions.specs.Forks.{marked}
-use Rattle.hp_sessions.proofs.Carrying.{ends, goes_on, refused_made, stops, where_mapped, where_other}
+use Rattle.hp_model.specs.declared.entry.Receipt.{Receipt}
+use Rattle.hp_model.specs.threads.JointRun.{option_cons}
+use Rattle.hp_sessions.specs.Calls.{Carries, IsHanded, IsMade, Leads, SessionView, noted}
+use Rattle.hp_sessions.specs.Forks.{IsForked, marked}
+use Rattle.hp_sessions.proofs.Carrying.{ends, goes_on, is_full, made_added, nothing_added, refused_made, stops, where_mapped, where_other}
+
+range_more : (a n : ℕ) → range_with_len a (suc n) ≡ range_with_len a n ++ (a + n) ∷ []
+range_more a zero = ap (λ k. k ∷ []) {x = a} {y = a + 0} (omega arith)
+range_more a (suc n) =
+    let next : (a + 1) + n ≡ a + suc n = omega arith in
+    ap (λ ks. a ∷ ks) (range_more (a + 1) n ∙ ap (λ k. range_with_len (a + 1) n ++ k ∷ []) next)
+
+pub first_more : (n : ℕ) → range_with_len 0 (n + 1) ≡ range_with_len 0 n ++ n ∷ []
+first_more n = ap (range_with_len 0) {x = n + 1} {y = suc n} (omega arith) ∙ range_more 0 n ∙ ap (λ k. range_with_len 0 n ++ k ∷ []) {x = 0 + n} {y = n} (omega arith)
+
+-- a child that is added is not its parent
+child_is_another : (nodes parent child : ℕ) (t u : Table) (a : Answer) → table_event nodes t (FindAndAdd parent child) ≡ (Ok a, u) → parent ≡ child → ⊥
+child_is_another nodes parent child t u a h same = by_home (home_of t parent) refl (ap (λ (q : Reply × Table). q.0) h)
+  where
+    rest : ℕ → Reply × Table
+    rest home = or_refused ((is_crowded t, TooMany) ∷ []) t (Ok Done, added t child home)
+
+    by_home : (o : Option ℕ) → home_of t parent ≡ o → (when_known t o (λ home. or_refused ((is_known t child, TaskExists) ∷ (is_crowded t, TooMany) ∷ []) t (Ok Done, added t child home))).0 ≡ Ok a → ⊥
+    by_home None none e = cc
+    by_home (Some home) some e = by_known (is_known t child) (ap (λ k. is_known t k) (sym same) ∙ ap is_some some) e
+      where
+        by_known : (b : Bool) → b ≡ true → (cond b (Err TaskExists, t) (rest home)).0 ≡ Ok a → ⊥
+        by_known true is e = cc
+        by_known false is e = cc
 
 -- ---- which slots were done
 
@@ -79,6 +104,12 @@ module _ (kept : Bool) (size : ℕ) where
   exit_none s t k task same next reply u c =
       where_other kept size s u k task (Do (OnSlot k (ExitMaps task)) (λ r. next)) next reply (subst (λ v. Carries kept size v next reply u) same c)
 
+  -- what the slot handed back
+  pub exit_leads : (s t : SessionView) (k task : ℕ) (b : Bool) (receipt : Option Receipt) → MatchBool b (IsHanded kept size (OnSlot k (ExitMaps task)) (Ok Done) receipt) (receipt ≡ None) →
+      t ≡ noted s (option_cons receipt []) → (next : Script) → Leads kept size s (exit_slot k task next) t next
+  exit_leads s t k task true receipt h is = exit_made s t k task (made_added kept size s t (OnSlot k (ExitMaps task)) (Ok Done) receipt h is)
+  exit_leads s t k task false receipt h is = exit_none s t k task (nothing_added s t receipt h is)
+
   -- ---- the table's event before
 
   answer_of : (x : TableTold) → ((r : Refusal) → x ≡ told.Refused r → ⊥) → (a : Answer) × (table_reply x ≡ Ok a)
@@ -110,12 +141,12 @@ module _ (kept : Bool) (size : ℕ) where
   -- ---- a fork
 
   module _ (parent child : ℕ) where
-    pub forked_more : (s t : SessionView) (k : ℕ) (ks done : List ℕ) → IsMade kept size s (OnSlot k (ForkMaps parent child)) (Ok Done) t →
+    pub forked_more : (s t : SessionView) (k : ℕ) (ks done : List ℕ) → IsForked kept size k parent child s t →
         Leads kept size s (fork_slots (k ∷ ks) done parent child) t (fork_slots ks (done ++ k ∷ []) parent child)
     forked_more s t k ks done made reply u c =
         let rest = fork_slots ks (done ++ k ∷ []) parent child in
         where_mapped kept size s u k parent (Do (OnSlot k (ForkMaps parent child)) (λ r. or_undone done child r rest)) (fork_slots ks done parent child) reply
-        (goes_on kept size s t (OnSlot k (ForkMaps parent child)) (Ok Done) made (λ r. or_undone done child r rest) reply u refl c)
+        (goes_on kept size s t (OnSlot k (ForkMaps parent child)) (Ok made.0) made.1 (λ r. or_undone done child r rest) reply u refl c)
 
     pub forked_none : (s t : SessionView) (k : ℕ) (ks done : List ℕ) → t ≡ s → Leads kept size s (fork_slots (k ∷ ks) done parent child) t (fork_slots ks done parent child)
     forked_none s t k ks done same reply u c =
@@ -123,12 +154,12 @@ module _ (kept : Bool) (size : ℕ) where
         where_other kept size s u k parent (Do (OnSlot k (ForkMaps parent child)) (λ r. or_undone done child r rest)) (fork_slots ks done parent child) reply
         (subst (λ v. Carries kept size v (fork_slots ks done parent child) reply u) same c)
 
-    pub fork_stops : (s t : SessionView) (k : ℕ) (ks done : List ℕ) → IsMade kept size s (OnSlot k (ForkMaps parent child)) (Err TraceFull) t →
-        Carries kept size s (fork_slots (k ∷ ks) done parent child) (Err TraceFull) t
-    fork_stops s t k ks done made =
+    pub fork_stops : (s t : SessionView) (k : ℕ) (ks done : List ℕ) (x : Refusal) → is_trace_full (Err x) ≡ true → IsMade kept size s (OnSlot k (ForkMaps parent child)) (Err x) t →
+        Carries kept size s (fork_slots (k ∷ ks) done parent child) (Err x) t
+    fork_stops s t k ks done x full made =
         let rest = fork_slots ks (done ++ k ∷ []) parent child in
-        where_mapped kept size s t k parent (Do (OnSlot k (ForkMaps parent child)) (λ r. or_undone done child r rest)) (fork_slots ks done parent child) (Err TraceFull)
-        (stops kept size s t (OnSlot k (ForkMaps parent child)) (Err TraceFull) made (λ r. or_undone done child r rest) refl)
+        where_mapped kept size s t k parent (Do (OnSlot k (ForkMaps parent child)) (λ r. or_undone done child r rest)) (fork_slots ks done parent child) (Err x)
+        (stops kept size s t (OnSlot k (ForkMaps parent child)) (Err x) made (λ r. or_undone done child r rest) full)
 
     pub fork_refused : (s t : SessionView) (k : ℕ) (ks done : List ℕ) (x : Refusal) → is_trace_full (Err x) ≡ false → IsMade kept size s (OnSlot k (ForkMaps parent child)) (Err x) t →
         Leads kept size s (fork_slots (k ∷ ks) done parent child) t (undone done child x)
@@ -145,14 +176,14 @@ module _ (kept : Bool) (size : ℕ) where
     next_of at n below = ap (range_with_len at) {x = n - at} {y = suc (n - (at + 1))} (omega (arith, below))
 
     pub next_slot : (s t : SessionView) (done : List Bool) (at n : ℕ) (b : Bool) → at < n → at < length done
-        → MatchBool b (IsMade kept size s (OnSlot at (ForkMaps parent child)) (Ok Done) t) (t ≡ s)
+        → MatchBool b (IsForked kept size at parent child s t) (t ≡ s)
         → Leads kept size s (left_at done at n) t (left_at (slice_set done at b) (at + 1) n)
     next_slot s t done at n b below within made reply u c =
         let ks = range_with_len (at + 1) (n - (at + 1)) in
         subst (λ xs. Carries kept size s (fork_slots xs (marked done at) parent child) reply u) (sym (next_of at n below))
         (by b made (subst (λ xs. Carries kept size t (fork_slots ks xs parent child) reply u) (marked_set done at b within) c))
       where
-        by : (b : Bool) → MatchBool b (IsMade kept size s (OnSlot at (ForkMaps parent child)) (Ok Done) t) (t ≡ s) →
+        by : (b : Bool) → MatchBool b (IsForked kept size at parent child s t) (t ≡ s) →
             Carries kept size t (fork_slots (range_with_len (at + 1) (n - (at + 1))) (marked done at ++ cond b (at ∷ []) []) parent child) reply u →
             Carries kept size s (fork_slots (at ∷ range_with_len (at + 1) (n - (at + 1))) (marked done at) parent child) reply u
         by true made c = forked_more s t at (range_with_len (at + 1) (n - (at + 1))) (marked done at) made reply u c
@@ -160,11 +191,11 @@ module _ (kept : Bool) (size : ℕ) where
             forked_none s t at (range_with_len (at + 1) (n - (at + 1))) (marked done at) same reply u
             (subst (λ xs. Carries kept size t (fork_slots (range_with_len (at + 1) (n - (at + 1))) xs parent child) reply u) (append-nil (marked done at)) c)
 
-    pub slot_stops : (s t : SessionView) (done : List Bool) (at n : ℕ) → at < n → IsMade kept size s (OnSlot at (ForkMaps parent child)) (Err TraceFull) t →
-        Carries kept size s (left_at done at n) (Err TraceFull) t
-    slot_stops s t done at n below made =
-        subst (λ xs. Carries kept size s (fork_slots xs (marked done at) parent child) (Err TraceFull) t) (sym (next_of at n below))
-        (fork_stops s t at (range_with_len (at + 1) (n - (at + 1))) (marked done at) made)
+    pub slot_stops : (s t : SessionView) (done : List Bool) (at n : ℕ) (x : Refusal) → at < n → is_trace_full (Err x) ≡ true → IsMade kept size s (OnSlot at (ForkMaps parent child)) (Err x) t →
+        Carries kept size s (left_at done at n) (Err x) t
+    slot_stops s t done at n x below full made =
+        subst (λ xs. Carries kept size s (fork_slots xs (marked done at) parent child) (Err x) t) (sym (next_of at n below))
+        (fork_stops s t at (range_with_len (at + 1) (n - (at + 1))) (marked done at) x full made)
 
     pub slot_refused : (s t : SessionView) (done : List Bool) (at n : ℕ) (x : Refusal) → at < n → is_trace_full (Err x) ≡ false →
         IsMade kept size s (OnSlot at (ForkMaps parent child)) (Err x) t → Leads kept size s (left_at done at n) t (undone (marked done at) child x)
@@ -192,6 +223,11 @@ module _ (kept : Bool) (size : ℕ) where
       Carries kept size s (undone ks child x) (Err TraceFull) u
   undo_stops s t u ks child x gone made =
       gone (Do (OnTasks (Remove child)) (λ reply. Answer_with (Err x))) (Err TraceFull) u (stops kept size t u (OnTasks (Remove child)) (Err TraceFull) made (λ reply. Answer_with (Err x)) refl)
+
+  pub undo_full : (s t u : SessionView) (ks : List ℕ) (child : ℕ) (x : Refusal) (reply : Reply) → is_trace_full reply ≡ true → Exited s ks child t →
+      IsMade kept size t (OnTasks (Remove child)) reply u → Carries kept size s (undone ks child x) (Err TraceFull) u
+  undo_full s t u ks child x reply full gone made =
+      undo_stops s t u ks child x gone (subst (λ r. IsMade kept size t (OnTasks (Remove child)) r u) (is_full reply full) made)
 
   pub undo_ends : (s t u : SessionView) (ks : List ℕ) (child : ℕ) (x : Refusal) (reply : Reply) → is_trace_full (Err x) ≡ false → is_trace_full reply ≡ false → Exited s ks child t →
       IsMade kept size t (OnTasks (Remove child)) reply u → Carries kept size s (undone ks child x) (Err x) u

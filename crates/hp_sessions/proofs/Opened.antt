@@ -1,33 +1,63 @@
 -- What the parts of a machine begin with.
 use Rattle.std.proofs.Common.{◌≡◌, ℕ, zero, suc, ◌+◌, ◌*◌, ◌<◌, ◌≤◌, Bool, true, false, None, Option, List, [], ◌∷◌, ◌++◌, length, map, refl, sym, ap, subst, ◌∙◌, arith}
-use Rattle.std.specs.Prelude.{nat_lt, slice_index}
+use Rattle.std.specs.Prelude.{IfOk, Result, Ok, Err, nat_lt, slice_index}
+use Rattle.std.proofs.Common.{cond}
 use Rattle.std.specs.List.{All, filter, sum}
 use Rattle.std.proofs.lemmas.List.Elements.{All-head, All-tail}
 use Rattle.std.proofs.lemmas.List.Sums.{sum_by-cons}
 use Rattle.hp_locked.specs.Views.{IsFresh, frames_list}
 use Rattle.hp_model.specs.declared.node.NodeRow.{NodeRow}
-use Rattle.hp_model.specs.pool.NodeRows.{frames_of, idle_row}
+use Rattle.hp_model.specs.pool.NodeRows.{frames_of, idle_row, surp_of}
+use Rattle.hp_mount_door.specs.Door.{IsReady}
+use Rattle.hp_pool.specs.Sums.{idle_pool}
+use Rattle.std.proofs.lemmas.List.{length-map}
 use Rattle.hp_nodes.specs.Ledgers.{AreFrames}
-use Rattle.hp_trail.specs.Keeping.{extra_if, kept_if, left_if, opened_if}
+use Rattle.hp_trail.specs.Keeping.{Keeping, extra_if, kept_if, left_if, opened_if}
 
 -- an opened trail has nothing in it, and its closing places
-pub is_fresh : {X : Type 0} (keeps : Bool) (places extra : ℕ) → IsFresh (kept_if keeps (opened_if {X} keeps places extra))
-is_fresh true places extra = refl
-is_fresh false places extra = tt
+pub is_fresh : (X : Type 0) (keeps : Bool) (places extra : ℕ) → IsFresh (kept_if keeps (opened_if {X = X} keeps places extra))
+is_fresh X true places extra = refl
+is_fresh X false places extra = tt
 
-pub is_counted : {X : Type 0} (keeps : Bool) (places extra : ℕ) → kept_if keeps (opened_if {X} keeps places extra) ≡ None → left_if keeps (opened_if {X} keeps places extra) ≡ None
-is_counted true places extra none = cc
-is_counted false places extra none = refl
+pub fresh_if : (X : Type 0) (keeps : Bool) (k : Keeping X) → k.entries ≡ [] → IsFresh (kept_if keeps k)
+fresh_if X true k none = none
+fresh_if X false k none = tt
 
-pub has_extra : {X : Type 0} (keeps : Bool) (places extra : ℕ) → extra ≤ 524288 → extra ≤ extra_if keeps (opened_if {X} keeps places extra)
-has_extra true places extra few = omega arith
-has_extra false places extra few = few
+pub counted_if : (X : Type 0) (keeps : Bool) (k : Keeping X) → kept_if keeps k ≡ None → left_if keeps k ≡ None
+counted_if X true k none = cc
+counted_if X false k none = refl
+
+is_empty : (X : Type 0) (keeps : Bool) (places extra : ℕ) → (opened_if {X = X} keeps places extra).entries ≡ []
+is_empty X true places extra = refl
+is_empty X false places extra = refl
+
+pub has_extra : (X : Type 0) (keeps : Bool) (places extra : ℕ) → extra ≤ 524288 → extra ≤ extra_if keeps (opened_if {X = X} keeps places extra)
+has_extra X true places extra few = omega arith
+has_extra X false places extra few = few
+
+-- the same of what was opened, if it was
+pub is_fresh_ok : (X : Type 0) {E : Type 0} (keeps : Bool) (places extra : ℕ) (r : Result (Keeping X) E) → IfOk r (λ t. t ≡ opened_if keeps places extra)
+    → IfOk r (λ t. IsFresh (kept_if keeps t))
+is_fresh_ok X keeps places extra (Ok t) is = subst (λ x. IsFresh (kept_if keeps x)) (sym is) (is_fresh X keeps places extra)
+is_fresh_ok X keeps places extra (Err e) is = tt
+
+pub is_empty_ok : (X : Type 0) {E : Type 0} (keeps : Bool) (places extra : ℕ) (r : Result (Keeping X) E) → IfOk r (λ t. t ≡ opened_if keeps places extra)
+    → IfOk r (λ t. t.entries ≡ [])
+is_empty_ok X keeps places extra (Ok t) is = ap (λ (x : Keeping X). x.entries) is ∙ is_empty X keeps places extra
+is_empty_ok X keeps places extra (Err e) is = tt
+
+pub has_extra_ok : (X : Type 0) {E : Type 0} (keeps : Bool) (places extra : ℕ) (r : Result (Keeping X) E) → extra ≤ 524288 → IfOk r (λ t. t ≡ opened_if keeps places extra)
+    → IfOk r (λ t. extra ≤ extra_if keeps t)
+has_extra_ok X keeps places extra (Ok t) few is = subst (λ x. extra ≤ extra_if keeps x) (sym is) (has_extra X keeps places extra few)
+has_extra_ok X keeps places extra (Err e) few is = tt
 
 -- ---- the frames
 
+is_some_more : (a : ℕ) → 0 < a → nat_lt 0 a ≡ true
+is_some_more a some = grind (arith, some)
+
 some_more : (a : ℕ) (xs : List ℕ) → 0 < a → filter (λ n. nat_lt 0 n) (a ∷ xs) ≡ a ∷ filter (λ n. nat_lt 0 n) xs
-some_more zero xs some = absurd (omega (arith, some))
-some_more (suc a) xs some = refl
+some_more a xs some = ap (λ b. cond b (a ∷ filter (λ n. nat_lt 0 n) xs) (filter (λ n. nat_lt 0 n) xs)) (is_some_more a some)
 
 named : (fs : List ℕ) → 0 < length fs → length fs ≤ 4 → All (λ f. 0 < f) fs
     → filter (λ n. nat_lt 0 n) (slice_index fs 0 ∷ slice_index fs 1 ∷ slice_index fs 2 ∷ slice_index fs 3 ∷ []) ≡ fs
@@ -61,4 +91,13 @@ frames_named frames fs some few all are =
 
 pub rows_have : (fs : List ℕ) → frames_of (map idle_row fs) ≡ sum fs
 rows_have [] = refl
-rows_have (f ∷ fs) = omega (arith, rows_have fs, sum_by-cons (λ (r : NodeRow). r.frames) (idle_row f) (map idle_row fs))
+rows_have (f ∷ fs) = omega (arith, rows_have fs, sum_by-cons (λ (x : ℕ). x) f fs, sum_by-cons (λ (r : NodeRow). r.frames) (idle_row f) (map idle_row fs))
+
+-- ---- the pool
+
+no_surplus : (fs : List ℕ) → surp_of (map idle_row fs) ≡ 0
+no_surplus [] = refl
+no_surplus (f ∷ fs) = omega (arith, no_surplus fs, sum_by-cons (λ (r : NodeRow). r.surp) (idle_row f) (map idle_row fs))
+
+pub idle_ready : (fs : List ℕ) → length fs ≤ 4 → IsReady (idle_pool fs)
+idle_ready fs few = record { settled = omega (arith, no_surplus fs); nodes = omega (arith, few, length-map fs idle_row) }

@@ -1,7 +1,7 @@
 -- What the parts of the machine hand back.
-use Rattle.std.proofs.Common.{◌≡◌, ℕ, Bool, true, false, cond, List, [], ◌∷◌, Option, None, Some, Ok, Err, refl, sym, ap, subst, ◌∙◌, if◌then◌else◌, length, nat_le}
+use Rattle.std.proofs.Common.{◌≡◌, ◌⊎◌, inl, inr, ℕ, Bool, true, false, cond, List, [], ◌∷◌, Option, None, Some, Ok, Err, refl, sym, ap, subst, ◌∙◌, if◌then◌else◌, length, nat_le}
 use Rattle.std.specs.Bool.{MatchBool}
-use Rattle.std.specs.Prelude.{is_some}
+use Rattle.std.specs.Prelude.{IfOk, Result, is_some}
 use Rattle.hp_model.specs.declared.answer.Answer.{Answer}
 use Rattle.hp_model.specs.declared.answer.Answer.TheVariants.{Done, Home}
 use Rattle.hp_model.specs.declared.entry.Asked.{Asked}
@@ -25,7 +25,10 @@ use Rattle.hp_model.specs.machine.Machine.{open_mount}
 use Rattle.hp_model.specs.machine.Plan.{Answered, Choice, Outcome, Refused, Reply, Slot, continued}
 use Rattle.hp_model.specs.machine.SlotEvent.{byte_access, bytes_answer, load, slot_event, store}
 use Rattle.hp_model.specs.machine.Table.{Table, added, home_of, is_crowded, is_known, or_refused, removed, table_event, when_known}
+use Rattle.hp_model.specs.declared.told.Told.{Told}
+use Rattle.hp_model.specs.machine.Told.{told_answer, told_reply}
 use Rattle.hp_model.specs.threads.LocalRun.{Gives}
+use Rattle.hp_laws.specs.Answers.{lists_names}
 use Rattle.hp_model.specs.threads.Telling.{has_place}
 use Rattle.hp_laws.specs.Balance.{Always}
 use Rattle.hp_laws.proofs.Accessed.{bytes_on}
@@ -199,25 +202,25 @@ module _ (size k : ℕ) (c : Choice) (task home number i offset : ℕ) where
   loads count None = tt
   loads count (Some x) =
       always_value IsLoaded (λ r. tt) (spot x (is_map task number)) NoSuchMap (load c size x home i offset count)
-      (λ s e. always_then (On Any) IsLoaded (λ n. Answered (bytes_answer offset count (value size (again n s).file (again n s).map i)) (Some n)) (then s)
+      (λ s e. always_then (On Any) IsLoaded (λ n. Answered (bytes_answer offset count (value size (again n s).file (again n s).map i)) (Some n)) (ends_in s)
       (byte_access c size x home i offset count Read s) (bytes_on c x Any tt s (spot_is x (is_map task number) s e) (λ f same. tt) size home i offset count Read))
     where
-      then : (s : Spot) (o : Outcome) → On Any o → IsLoaded (continued (λ n. Answered (bytes_answer offset count (value size (again n s).file (again n s).map i)) (Some n)) o)
-      then s (Refused r) on = tt
-      then s (Answered a None) on = absurd on
-      then s (Answered a (Some n)) on = tt
+      ends_in : (s : Spot) (o : Outcome) → On Any o → IsLoaded (continued (λ n. Answered (bytes_answer offset count (value size (again n s).file (again n s).map i)) (Some n)) o)
+      ends_in s (Refused r) on = tt
+      ends_in s (Answered a None) on = absurd on
+      ends_in s (Answered a (Some n)) on = tt
 
   stores : (bytes : List ℕ) (old : Slot) → Always IsStored (slot_event size k c old (slot.Store task home number i offset bytes))
   stores bytes None = tt
   stores bytes (Some x) =
       always_value IsStored (λ r. tt) (spot x (is_map task number)) NoSuchMap (store c size x home i offset bytes)
-      (λ s e. always_then (On Any) IsStored (λ n. Answered Done (Some (written n s i offset bytes))) (then s)
+      (λ s e. always_then (On Any) IsStored (λ n. Answered Done (Some (written n s i offset bytes))) (ends_in s)
       (byte_access c size x home i offset (length bytes) Write s) (bytes_on c x Any tt s (spot_is x (is_map task number) s e) (λ f same. tt) size home i offset (length bytes) Write))
     where
-      then : (s : Spot) (o : Outcome) → On Any o → IsStored (continued (λ n. Answered Done (Some (written n s i offset bytes))) o)
-      then s (Refused r) on = tt
-      then s (Answered a None) on = absurd on
-      then s (Answered a (Some n)) on = refl
+      ends_in : (s : Spot) (o : Outcome) → On Any o → IsStored (continued (λ n. Answered Done (Some (written n s i offset bytes))) o)
+      ends_in s (Refused r) on = tt
+      ends_in s (Answered a None) on = absurd on
+      ends_in s (Answered a (Some n)) on = refl
 
   loaded : (o : Outcome) (old new : Slot) (a : Answer) → IsLoaded o → Gives o old (Ok a) new → IsBytes a
   loaded (Refused r) old new a h g = absurd (let same = g.0 in cc)
@@ -251,3 +254,28 @@ handed_fits kept size k e a receipt handed = fits size k e a handed.0
 pub noted_as : (entries : Option (List SlotEntry)) (e : SlotEvent) (both : Option (SlotEvent × SlotEvent)) → AreEvents e both → AreNoted entries e both
 noted_as entries e None h = absurd h
 noted_as entries e (Some both) h = h
+
+pub noted_then : (entries : Option (List SlotEntry)) (e : SlotEvent) (noted both : Option (SlotEvent × SlotEvent)) → noted ≡ both → AreEvents e both → AreNoted entries e noted
+noted_then entries e noted both is h = subst (λ x. AreNoted entries e x) (sym is) (noted_as entries e both h)
+
+pub noted_else : (entries : Option (List SlotEntry)) (e : SlotEvent) (noted : Option (SlotEvent × SlotEvent)) → noted ≡ None → is_some entries ≡ false → AreNoted entries e noted
+noted_else None e noted is none = subst (λ x. AreNoted None e x) (sym is) refl
+noted_else (Some es) e noted is none = cc
+
+pub either_kept : {P : Type 0} (b : Bool) → (b ≡ true) ⊎ (P × (b ≡ true)) → b ≡ true
+either_kept b (inl h) = h
+either_kept b (inr h) = h.1
+
+pub fits_result : (kept : Bool) (size k : ℕ) (e : SlotEvent) (r : Result Told Refusal) (receipt : Option Receipt) → IsHanded kept size (OnSlot k e) (told_reply r) receipt →
+    IfOk r (λ t. HasAnswerOf e (told_answer t))
+fits_result kept size k e (Ok t) receipt h = handed_fits kept size k e (told_answer t) receipt h
+fits_result kept size k e (Err x) receipt h = tt
+
+pub answer_home : (home : ℕ) (e : MountEvent) (a : Answer) → HasAnswerOf (event_of home e) a → HasAnswerOf (event_of 0 e) a
+answer_home home (m.Load task map index offset count) a h = h
+answer_home home (m.Store task map index offset bytes) a h = h
+answer_home home other a h = tt
+
+pub apart_home : (home : ℕ) (e : MountEvent) → lists_names (event_of 0 e) ≡ false → lists_names (event_of home e) ≡ false
+apart_home home m.Ls h = h
+apart_home home other h = refl

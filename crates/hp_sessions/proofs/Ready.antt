@@ -11,7 +11,10 @@ use Rattle.hp_model.specs.machine.Table.{Table}
 use Rattle.hp_model.specs.pool.PoolCounts.{Pool}
 use Rattle.hp_model.specs.threads.JointRun.{HasParts, Trails}
 use Rattle.hp_system.specs.Kept.{IsReady, Machine, state_of}
-use Rattle.hp_trail.specs.Audit.{IsJointList}
+use Rattle.hp_model.specs.declared.refusal.Refusal.{Refusal}
+use Rattle.hp_trail.specs.Audit.{IsJointList, IsUnjoined}
+use Rattle.std.specs.Global.{Vec}
+use Rattle.std.specs.Prelude.{MatchResult, OnOk, Result, Ok, Err}
 use Rattle.hp_sessions.specs.Sharing.{EndsRuns}
 
 nodes_back : (s : State) (k : ℕ) (ns : List Node) → map node_of (rows_of s k ns) ≡ ns
@@ -46,3 +49,9 @@ pub joined_ready : (s : State) (t : Trails) (receipts : List (List Receipt)) (ev
 joined_ready s t receipts events m settled ends joint =
     let run = joint.run s m.state.table (slot_at m.state) m.pool settled ends.runs in
     ready_at s run.0 t m ends run.2 run.3
+
+pub when_joined : (t : Trails) (told : List (List Receipt)) (r : Result (Vec Event) Refusal)
+    → MatchResult r (λ events. IsJointList t told events.items) (IsUnjoined t told)
+    → OnOk r ((s : State) (m : Machine) → IsSettledState s → EndsRuns s t m → IsReady m)
+when_joined t told (Ok events) h = λ s m settled ends. joined_ready s t told events.items m settled ends h
+when_joined t told (Err e) h = tt

@@ -23,11 +23,7 @@ use std::alloc::{AllocError, Global};
 /// TrailsDiffer or OutOfMemory.
 ///
 /// Where it succeeds, the machine in which the trails end has the sums over its files and maps as its pool's numbers.
-pub fn audit(
-    alloc: Global,
-    trails: &Trails,
-    told: Vec<Vec<Receipt>>,
-) -> Result<Vec<Event>, Refusal>
+pub fn audit(alloc: Global, trails: &Trails, told: Vec<Vec<Receipt>>) -> Result<Vec<Event>, Refusal>
     ensures joined { let t = entries_of trails.now in
         let all = lists told.items in
         MatchResult result (λ events. IsJointList t all events.items) (IsUnjoined t all) }

@@ -1,9 +1,10 @@
 //! The parts of a machine before any thread has them.
-ghost use Rattle.std.specs.Prelude.{◌≡◌, ◌<◌, ◌≤◌, ◌==◌, length, vec_len, vec_capacity, All, IfOk};
+ghost use Rattle.std.specs.Prelude.{◌≡◌, ◌<◌, ◌≤◌, ◌==◌, [], None, length, vec_len, vec_capacity, All, IfOk};
 ghost use Rattle.std.specs.List.{sum};
 ghost use Rattle.hp_model.specs.machine.Machine.{open_mount};
 ghost use Rattle.hp_model.specs.pool.PoolCounts.{IsSettled};
-ghost use Rattle.hp_trail.specs.Keeping.{opened_if};
+ghost use Rattle.hp_locked.specs.Views.{IsFresh};
+ghost use Rattle.hp_trail.specs.Keeping.{extra_if, kept_if, left_if};
 
 use crate::shared::MOST_TASKS;
 use hp_model::entry::SlotEntry;
@@ -29,19 +30,53 @@ pub(crate) fn all_frames(frames: &[u64]) -> usize
     all
 }
 
-// The trails of so many slots, with nothing in them yet.
+// A trail with nothing in it yet.
+pub(crate) fn open_trail<E: Drop, const K: usize>(
+    alloc: Global,
+    places: usize,
+    extra: usize,
+) -> Result<Trace<E, K>, AllocError>
+    requires places { places ≤ 16777216 }
+    requires extra { extra ≤ 524288 }
+    ensures none { IfOk result (λ t. t.entries ≡ []) }
+    ensures fresh { IfOk result (λ t. IsFresh (kept_if (K == 1) t)) }
+    ensures enough { IfOk result (λ t. extra ≤ extra_if (K == 1) t) }
+{
+    Trace::open(alloc, places, extra)
+}
+
+// A slot's trail with nothing in it yet.
+#[derive(Drop)]
+pub(crate) struct FreshTrail<const K: usize> {
+    trail: Trace<SlotEntry, K>,
+    ghost none: { trail.entries ≡ [] },
+    ghost enough: { 256 ≤ extra_if (K == 1) trail },
+}
+
+impl<const K: usize> FreshTrail<K> {
+    fn into_trail(self) -> Trace<SlotEntry, K>
+        ensures fresh { IsFresh (kept_if (K == 1) result) }
+        ensures counted { kept_if (K == 1) result ≡ None → left_if (K == 1) result ≡ None }
+        ensures enough { 256 ≤ extra_if (K == 1) result }
+    {
+        let FreshTrail { trail } = self;
+        trail
+    }
+}
+
+// The trails of so many slots.
 pub(crate) fn open_trails<const K: usize>(
     alloc: Global,
     slots: usize,
     places: usize,
-) -> Result<Vec<Trace<SlotEntry, K>>, AllocError>
+) -> Result<Vec<FreshTrail<K>>, AllocError>
     requires places { places ≤ 16777216 }
-    ensures count { IfOk result (λ v. length v.items ≡ slots) }
-    ensures opened { IfOk result (λ v. All (λ t. t ≡ opened_if (K == 1) places 256) v.items) }
+    ensures count { IfOk result (λ v. vec_len v ≡ slots) }
 {
     let mut trails = Vec::with_capacity(alloc, slots)?;
     for _ in 0..slots {
-        trails.push_reserved(Trace::open(alloc, places, MOST_TASKS)?);
+        let trail = open_trail(alloc, places, MOST_TASKS)?;
+        trails.push_reserved(FreshTrail { trail });
     }
     Ok(trails)
 }
@@ -62,24 +97,22 @@ pub(crate) fn first_mount<N: Naming>(alloc: Global, pool: &mut OwnPool<N>) -> Mo
 // them.
 pub(crate) fn lock_slots<N: Naming, const K: usize>(
     first: Mount<N>,
-    places: usize,
-    trails: Vec<Trace<SlotEntry, K>>,
+    trails: Vec<FreshTrail<K>>,
     locks: &mut Vec<Mutex<Slot<N, Trace<SlotEntry, K>>>>,
 )
     requires first { first ≡ open_mount }
-    requires some { 0 < length trails.items }
-    requires opened { All (λ t. t ≡ opened_if (K == 1) places 256) trails.items }
+    requires some { 0 < vec_len trails }
     requires none { vec_len locks.old ≡ 0 }
-    requires room { length trails.items ≤ vec_capacity locks.old }
-    ensures { vec_len locks.new ≡ length trails.items }
+    requires room { vec_len trails ≤ vec_capacity locks.old }
+    ensures { vec_len locks.new ≡ vec_len trails.entry }
 {
     let mut rest = trails;
     let Some(trail) = rest.pop() else {
         unreachable!()
     };
-    locks.push_reserved(Mutex::new(Slot::new(0, Some(first), trail)));
+    locks.push_reserved(Mutex::new(Slot::new(0, Some(first), trail.into_trail())));
     while let Some(trail) = rest.pop() {
         let number = locks.len() as u64;
-        locks.push_reserved(Mutex::new(Slot::new(number, None, trail)));
+        locks.push_reserved(Mutex::new(Slot::new(number, None, trail.into_trail())));
     }
 }

@@ -73,7 +73,7 @@ impl<'a, N: Naming, R: Wait, G: Gate, const K: usize> Session<'a, N, R, G, K> {
 
     /// The receipts, in order. It takes no memory.
     pub fn finish(self) -> Vec<Receipt>
-        ensures { result.items ≡ self.receipts }
+        ensures { result.items ≡ self.entry.receipts }
     {
         let Session { receipts, .. } = self;
         receipts

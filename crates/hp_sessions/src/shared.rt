@@ -1,5 +1,5 @@
 //! The machine that threads share.
-ghost use Rattle.std.specs.Prelude.{◌≡◌, ◌<◌, ◌≤◌, ◌==◌, [], false, length, vec_len, vec_capacity, All, IfOk, IfSome, None};
+ghost use Rattle.std.specs.Prelude.{◌≡◌, ◌<◌, ◌≤◌, ◌==◌, [], false, true, length, vec_len, vec_capacity, All, IfOk, IfSome, None};
 ghost use Rattle.hp_locked.specs.Views.{frames_list};
 ghost use Rattle.hp_model.specs.machine.Machine.{start};
 ghost use Rattle.hp_mount_door.specs.Door.{IsReady as IsReadyPool};
@@ -7,8 +7,9 @@ ghost use Rattle.hp_nodes.specs.Ledgers.{AreFrames};
 ghost use Rattle.hp_pool.specs.Ledgers.{AreLedgers};
 ghost use Rattle.hp_sessions.specs.Joined.{entries_of};
 ghost use Rattle.hp_sessions.specs.Sharing.{EndsRuns};
+ghost use Rattle.hp_trail.specs.Walk.{trails_of};
 
-use crate::making::{all_frames, first_mount, lock_slots, open_trails};
+use crate::making::{all_frames, first_mount, lock_slots, open_trail, open_trails};
 use crate::parting::take_slots;
 use crate::spare::Spare;
 use hp_locked::{Core, NodeLocks};
@@ -92,8 +93,8 @@ impl<N: Naming, const K: usize> Shared<N, K> {
         ensures { IfOk result (λ s. s ≡ record { page_size = page_bytes; slots = slots }) }
     {
         let tasks = TaskTable::new(alloc)?;
-        let task_trail = Trace::open(alloc, places, MOST_TASKS)?;
-        let pool_trail = Trace::open(alloc, places, 2 * all_frames(frames))?;
+        let task_trail = open_trail(alloc, places, MOST_TASKS)?;
+        let pool_trail = open_trail(alloc, places, 2 * all_frames(frames))?;
         let slot_trails = open_trails(alloc, slots, places)?;
         let spare = Spare::open(alloc)?;
         let mut locks = match Vec::with_capacity(alloc, slots) {
@@ -112,7 +113,7 @@ impl<N: Naming, const K: usize> Shared<N, K> {
             Ok(own) => {
                 let mut own = own;
                 let first = first_mount(alloc, &mut own);
-                lock_slots(first, places, slot_trails, &mut locks);
+                lock_slots(first, slot_trails, &mut locks);
                 let (pool, stocks) = own.into_parts();
                 Ok(Shared {
                     page_bytes,
@@ -171,15 +172,28 @@ impl<N: Naming, const K: usize> Shared<N, K> {
             table: tasks,
             pool: OwnPool::from_parts(pool, nodes.into_frames()),
         };
-        let kept = if K == 1 && in_order {
-            Some(Trails {
-                tasks: task_trail.into_entries(),
-                pool: pool_trail.into_entries(),
-                slots: trails,
-            })
-        } else {
-            None
-        };
+        let kept = trails_in(in_order, task_trail, pool_trail, trails);
         (System::from_parts(alloc, parts), kept)
     }
+}
+
+// The trails, where they are kept and those of the slots are in order.
+fn trails_in<const K: usize>(
+    in_order: bool,
+    tasks: Trace<TableEntry, K>,
+    pool: Trace<PoolEntry, K>,
+    slots: Vec<Vec<SlotEntry>>,
+) -> Option<Trails>
+    ensures none { (K == 1) ≡ false → result ≡ None }
+    ensures given { IfSome result (λ t. ((K == 1) ≡ true) × (in_order ≡ true)
+        × (entries_of t ≡ trails_of tasks.entry.entries slots.items pool.entry.entries)) }
+{
+    if K != 1 || !in_order {
+        return None;
+    }
+    Some(Trails {
+        tasks: tasks.into_entries(),
+        pool: pool.into_entries(),
+        slots,
+    })
 }

@@ -25,6 +25,7 @@ const MOST_TURNS: u64 = 10_000;
 pub struct Hold<'a, R> {
     rt: &'a R,
     place: Place,
+    holds: AtomicU64,
     open: AtomicU64,
     left: AtomicU64,
 }
@@ -34,8 +35,19 @@ impl<'a, R: Clock> Hold<'a, R> {
         Hold {
             rt,
             place,
+            holds: AtomicU64::new(0),
             open: AtomicU64::new(0),
             left: AtomicU64::new(MOST_TURNS),
+        }
+    }
+
+    /// Waits until a thread is held, but no longer than that either.
+    pub fn wait(&self) {
+        for _turn in 0..MOST_TURNS {
+            if self.holds.load(Ordering::SeqCst) != 0 {
+                return;
+            }
+            thread::sleep(self.rt, Duration::from_millis(1));
         }
     }
 
@@ -53,6 +65,7 @@ impl<'a, R: Clock> Hold<'a, R> {
         if place != self.place {
             return;
         }
+        self.holds.store(1, Ordering::SeqCst);
         for turn in 0..MOST_TURNS {
             if self.open.load(Ordering::SeqCst) != 0 {
                 return;

@@ -105,7 +105,7 @@ fn held<N: Naming, R: Wait + Abort + Clock, const K: usize>(
     session.finish()
 }
 
-// Stores and looks at the counts while the other is held, and lets it go.
+// Once the other is held: stores, looks at the counts and lets it go.
 fn meanwhile<N: Naming, R: Wait + Abort + Clock, const K: usize>(
     rt: &R,
     alloc: Global,
@@ -113,6 +113,7 @@ fn meanwhile<N: Naming, R: Wait + Abort + Clock, const K: usize>(
     hold: &Hold<'_, R>,
     wanted: [u64; 4],
 ) -> Vec<Receipt> {
+    hold.wait();
     let free = Free {};
     let mut session = opened(rt, alloc, shared, &free);
     same!(rt; call(&mut session, &store_of(2, &[0x22])), Ok(Answer::Done));

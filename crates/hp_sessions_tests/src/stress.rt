@@ -19,10 +19,15 @@ use std::thread;
 use std::thread::Threads;
 
 const STEPS: u64 = 1500;
+
 const ROOM: usize = 20_000;
+
 const PLACES: usize = 200_000;
+
 const SLOTS: u64 = 4;
+
 const NAMES: [&[u8]; 4] = [b"a", b"b", b"c", b"d"];
+
 const OPTIONS: [&[u8]; 3] = [b"-", b"size=3K,min_size=1K", b"nr_inodes=2"];
 
 /// Numbers that look random (xorshift).
@@ -267,7 +272,9 @@ fn run<N: Naming + Send + Sync, R: Threads + Wait + Abort + Sync, const K: usize
     requires frames { AreFrames N.frames (4 ∷ 4 ∷ []) }
     requires bytes { N.page_bytes ≡ 1024 }
 {
-    let shared = Shared::<N, K>::new(alloc, &[4, 4], 1024, SLOTS, PLACES, blanks).expect(rt, "memory");
+    let shared = Shared::<N, K>::new(alloc, &[4, 4], 1024, SLOTS as usize, PLACES, blanks).expect(
+        rt, "memory",
+    );
     let told = eight(rt, alloc, &shared);
     let closed = shared.close(alloc, told).expect(rt, "memory");
     same!(rt; closed.audit, audit);

@@ -2,6 +2,6 @@ mod Carries
 mod Ending
 mod MachineSteps
 mod Mounting
-mod Start
+pub mod Start
 mod Tasks
 mod Forking

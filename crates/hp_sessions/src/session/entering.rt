@@ -33,11 +33,7 @@ use std::sync::Wait;
 fn absent<const K: usize>(refusal: Refusal) -> Refusal
     ensures { result ≡ (if K == 1 then TraceFull else refusal) }
 {
-    if K == 1 {
-        Refusal::TraceFull
-    } else {
-        refusal
-    }
+    if K == 1 { Refusal::TraceFull } else { refusal }
 }
 
 impl<'a, N: Naming, R: Wait, G: Gate, const K: usize> Session<'a, N, R, G, K> {
@@ -45,7 +41,8 @@ impl<'a, N: Naming, R: Wait, G: Gate, const K: usize> Session<'a, N, R, G, K> {
     pub(super) fn enter_table(&self, event: TableEvent) -> (TableTold, Option<Receipt>)
         ensures { IsHanded (K == 1) N.page_bytes (OnTasks event) (table_reply result.0) result.1 }
     {
-        let mut value = self.shared.table.lock(self.rt);
+        let shared = self.shared;
+        let mut value = shared.table.lock(self.rt);
         let table: &mut Table<N, Trace<TableEntry, K>> = &mut value;
         match table.event(event) {
             Err(_full) => (TableTold::Refused(Refusal::TraceFull), None),
@@ -62,7 +59,8 @@ impl<'a, N: Naming, R: Wait, G: Gate, const K: usize> Session<'a, N, R, G, K> {
             result.1 }
         ensures limits { IsWithinLimits (told_reply result.0) }
     {
-        let mut value = self.shared.core.lock(self.rt);
+        let shared = self.shared;
+        let mut value = shared.core.lock(self.rt);
         let core: &mut Core<N, Trace<PoolEntry, K>> = &mut value;
         match core.event(event) {
             Err(_full) => (Err(Refusal::TraceFull), None),
@@ -87,7 +85,8 @@ impl<'a, N: Naming, R: Wait, G: Gate, const K: usize> Session<'a, N, R, G, K> {
             (told_reply result.0) result.1 }
         ensures limits { IsWithinLimits (told_reply result.0) }
     {
-        let mut value = self.shared.slots[at].lock(self.rt);
+        let shared = self.shared;
+        let mut value = shared.slots[at].lock(self.rt);
         self.gate.enter(at as u64);
         let slot: &mut Slot<N, Trace<SlotEntry, K>> = &mut value;
         if slot.number() != at as u64 {
@@ -98,15 +97,8 @@ impl<'a, N: Naming, R: Wait, G: Gate, const K: usize> Session<'a, N, R, G, K> {
         } else {
             None
         };
-        let mut door = Door::new(self.rt, self.gate, &self.shared.core, &self.shared.nodes);
-        slot.event(
-            &mut door,
-            self.shared.page_size(),
-            home,
-            event,
-            noted,
-            room,
-        )
+        let mut door = Door::new(self.rt, self.gate, &shared.core, &shared.nodes);
+        slot.event(&mut door, shared.page_size(), home, event, noted, room)
     }
 
     // Mounts a slot.
@@ -122,7 +114,8 @@ impl<'a, N: Naming, R: Wait, G: Gate, const K: usize> Session<'a, N, R, G, K> {
             (told_reply result.0) result.1 }
         ensures limits { IsWithinLimits (told_reply result.0) }
     {
-        let mut value = self.shared.slots[at].lock(self.rt);
+        let shared = self.shared;
+        let mut value = shared.slots[at].lock(self.rt);
         self.gate.enter(at as u64);
         let slot: &mut Slot<N, Trace<SlotEntry, K>> = &mut value;
         if slot.number() != at as u64 {
@@ -133,14 +126,8 @@ impl<'a, N: Naming, R: Wait, G: Gate, const K: usize> Session<'a, N, R, G, K> {
         } else {
             None
         };
-        let mut door = Door::new(self.rt, self.gate, &self.shared.core, &self.shared.nodes);
-        slot.mount(
-            &mut door,
-            self.shared.alloc,
-            self.shared.page_size(),
-            options,
-            noted,
-        )
+        let mut door = Door::new(self.rt, self.gate, &shared.core, &shared.nodes);
+        slot.mount(&mut door, shared.alloc, shared.page_size(), options, noted)
     }
 
     // Ends the mount of a slot.
@@ -153,13 +140,14 @@ impl<'a, N: Naming, R: Wait, G: Gate, const K: usize> Session<'a, N, R, G, K> {
             result.1 }
         ensures limits { IsWithinLimits (told_reply result.0) }
     {
-        let mut value = self.shared.slots[at].lock(self.rt);
+        let shared = self.shared;
+        let mut value = shared.slots[at].lock(self.rt);
         self.gate.enter(at as u64);
         let slot: &mut Slot<N, Trace<SlotEntry, K>> = &mut value;
         if slot.number() != at as u64 {
             return (Err(absent::<K>(Refusal::NoSuchSlot)), None);
         }
-        let mut door = Door::new(self.rt, self.gate, &self.shared.core, &self.shared.nodes);
+        let mut door = Door::new(self.rt, self.gate, &shared.core, &shared.nodes);
         slot.umount(&mut door)
     }
 
@@ -170,13 +158,14 @@ impl<'a, N: Naming, R: Wait, G: Gate, const K: usize> Session<'a, N, R, G, K> {
             result.1 }
         ensures limits { IsWithinLimits (names_reply result.0) }
     {
-        let mut value = self.shared.slots[at].lock(self.rt);
+        let shared = self.shared;
+        let mut value = shared.slots[at].lock(self.rt);
         self.gate.enter(at as u64);
         let slot: &mut Slot<N, Trace<SlotEntry, K>> = &mut value;
         if slot.number() != at as u64 {
             return (Err(absent::<K>(Refusal::NoSuchSlot)), None);
         }
-        slot.names(self.shared.alloc)
+        slot.names(shared.alloc)
     }
 
     // Gives a child the maps that its parent has on a slot, if it has any there: whether there was an event.
@@ -191,13 +180,14 @@ impl<'a, N: Naming, R: Wait, G: Gate, const K: usize> Session<'a, N, R, G, K> {
         ensures { IfSome result (λ r. IsHanded (K == 1) N.page_bytes
             (OnSlot at (ForkMaps parent child)) (told_reply r.0) r.1) }
     {
-        let mut value = self.shared.slots[at].lock(self.rt);
+        let shared = self.shared;
+        let mut value = shared.slots[at].lock(self.rt);
         self.gate.enter(at as u64);
         let slot: &mut Slot<N, Trace<SlotEntry, K>> = &mut value;
         if slot.number() != at as u64 || !slot.has_maps(parent) {
             return None;
         }
-        let mut door = Door::new(self.rt, self.gate, &self.shared.core, &self.shared.nodes);
+        let mut door = Door::new(self.rt, self.gate, &shared.core, &shared.nodes);
         Some(slot.fork_maps(&mut door, parent, child))
     }
 
@@ -207,13 +197,14 @@ impl<'a, N: Naming, R: Wait, G: Gate, const K: usize> Session<'a, N, R, G, K> {
         ensures { MatchBool result.0 (IsHanded (K == 1) N.page_bytes (OnSlot at (ExitMaps task))
             (Ok Done) result.1) (result.1 ≡ None) }
     {
-        let mut value = self.shared.slots[at].lock(self.rt);
+        let shared = self.shared;
+        let mut value = shared.slots[at].lock(self.rt);
         self.gate.enter(at as u64);
         let slot: &mut Slot<N, Trace<SlotEntry, K>> = &mut value;
         if slot.number() != at as u64 || !slot.has_maps(task) {
             return (false, None);
         }
-        let mut door = Door::new(self.rt, self.gate, &self.shared.core, &self.shared.nodes);
+        let mut door = Door::new(self.rt, self.gate, &shared.core, &shared.nodes);
         (true, slot.exit_maps(&mut door, task))
     }
 }

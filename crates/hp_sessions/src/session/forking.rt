@@ -1,10 +1,12 @@
 //! Forks and exits: an event on each slot where the task has maps.
 ghost use Rattle.std.specs.Prelude.{◌≡◌, ◌+◌, ◌*◌, ◌<◌, ◌≤◌, ◌==◌, [], Ok, Err, true, false, length, IfErr, OnOk};
-ghost use Rattle.std.specs.List.{range_with_len};
+ghost use Rattle.std.specs.List.{range_with_len, slice_index_or};
 ghost use Rattle.hp_model.specs.declared.answer.Answer.TheVariants.{Done};
 ghost use Rattle.hp_model.specs.declared.step.Step.TheVariants.{Exit, Fork};
 ghost use Rattle.hp_model.specs.machine.Accesses.{done_reply};
 ghost use Rattle.hp_model.specs.machine.Step.{Script, exit_slots, fork_slots, script, undone};
+ghost use Rattle.hp_shared.specs.Slots.{is_trace_full};
+ghost use Rattle.hp_shared.specs.Tables.{table_reply};
 ghost use Rattle.hp_sessions.specs.Calls.{Carries, Grows, HasRoom, Leads};
 ghost use Rattle.hp_sessions.specs.Forks.{marked};
 
@@ -61,8 +63,12 @@ impl<'a, N: Naming, R: Wait, G: Gate, const K: usize> Session<'a, N, R, G, K> {
         for at in 0..self.shared.count() {
             match self.make_fork(at, parent, child) {
                 Ok(forked) => done[at] = forked,
-                Err(Refusal::TraceFull) => return Err(Refusal::TraceFull),
-                Err(refusal) => return Err(self.undo(&done, at, child, refusal)),
+                Err(refusal) => {
+                    if has_no_place(refusal) {
+                        return Err(refusal);
+                    }
+                    return Err(self.undo(&done, at, child, refusal));
+                }
             }
         }
         Ok(())
@@ -78,17 +84,44 @@ impl<'a, N: Naming, R: Wait, G: Gate, const K: usize> Session<'a, N, R, G, K> {
     ) -> Refusal
         requires places { HasRoom (K == 1) (count + 1) self.old }
         requires within { count ≤ self.old.slots }
+        requires few { count ≤ 64 }
+        requires noted { is_trace_full (Err refusal) ≡ false }
         ensures { Carries (K == 1) N.page_bytes self.old
             (undone (marked done.now count) child refusal) (Err result) self.new }
     {
         for at in 0..count {
-            if done[at] {
+            if is_done(done, at) {
                 self.make_exit(at, child);
             }
         }
-        match self.make_table(TableEvent::Remove { task: child }) {
-            TableTold::Refused(Refusal::TraceFull) => Refusal::TraceFull,
-            _ => refusal,
+        let told = self.make_table(TableEvent::Remove { task: child });
+        if is_full(told) {
+            return Refusal::TraceFull;
         }
+        refusal
+    }
+}
+
+fn is_done(done: &[bool; MOST_SLOTS], at: usize) -> bool
+    requires { at < 64 }
+    ensures { result ≡ slice_index_or done.now at false }
+{
+    done[at]
+}
+
+// Whether a trail had no place for an event.
+fn has_no_place(refusal: Refusal) -> bool
+    ensures { result ≡ is_trace_full (Err refusal) }
+{
+    matches!(refusal, Refusal::TraceFull)
+}
+
+// Whether the table's trail had none.
+fn is_full(told: TableTold) -> bool
+    ensures { result ≡ is_trace_full (table_reply told) }
+{
+    match told {
+        TableTold::Refused(refusal) => has_no_place(refusal),
+        TableTold::Done | TableTold::Home(_) => false,
     }
 }

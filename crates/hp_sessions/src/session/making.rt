@@ -1,8 +1,7 @@
 //! Events of a session, each with its receipt.
-ghost use Rattle.std.specs.Prelude.{◌≡◌, ◌≢◌, ◌<◌, ◌≤◌, ◌==◌, [], Ok, Err, ℕ, true, false, length, IfOk, IfErr};
+ghost use Rattle.std.specs.Prelude.{◌≡◌, ◌≢◌, ◌<◌, ◌≤◌, ◌==◌, Err, ℕ, true, false, length, IfOk, IfErr};
 ghost use Rattle.std.specs.Bool.{MatchBool};
 ghost use Rattle.hp_laws.specs.Answers.{lists_names};
-ghost use Rattle.hp_model.specs.declared.answer.Answer.TheVariants.{Done};
 ghost use Rattle.hp_model.specs.declared.event.Event.TheVariants.{Tasks as OnTasks, Slot as OnSlot, Pool as OnPool};
 ghost use Rattle.hp_model.specs.declared.event.SlotEvent.TheVariants.{ForkMaps, Ls, Mount as Mounting, Umount as Umounting};
 ghost use Rattle.hp_model.specs.machine.Step.{Script, exit_slot, finding, on_slot};
@@ -11,6 +10,7 @@ ghost use Rattle.hp_model.specs.text.Writing.{IsWithinLimits};
 ghost use Rattle.hp_mount.specs.Event.{event_of};
 ghost use Rattle.hp_shared.specs.Tables.{table_reply};
 ghost use Rattle.hp_sessions.specs.Calls.{Carries, Grows, HasRoom, IsMade, Leads};
+ghost use Rattle.hp_sessions.specs.Forks.{IsForked};
 ghost use Rattle.hp_sessions.specs.Works.{AreCopies, HasAnswerOf, bytes_of};
 
 use super::Session;
@@ -146,37 +146,33 @@ impl<'a, N: Naming, R: Wait, G: Gate, const K: usize> Session<'a, N, R, G, K> {
         }
         let (names, receipt) = self.enter_names(at);
         self.add(receipt);
-        Ok(Told::Names(names?))
+        match names {
+            Ok(names) => Ok(Told::Names(names)),
+            Err(refusal) => Err(refusal),
+        }
     }
 
     // Gives a child the maps that its parent has on a slot: whether it has any there.
-    pub(super) fn make_fork(
-        &mut self,
-        at: usize,
-        parent: u64,
-        child: u64,
-    ) -> Result<bool, Refusal>
+    pub(super) fn make_fork(&mut self, at: usize, parent: u64, child: u64) -> Result<bool, Refusal>
         requires places { HasRoom (K == 1) 1 self.old }
         requires within { at < self.old.slots }
         requires apart { (parent == child) ≡ false }
         ensures made { IfOk result (λ forked. MatchBool forked
-            (IsMade (K == 1) N.page_bytes self.old (OnSlot at (ForkMaps parent child))
-            (Ok Done) self.new)
+            (IsForked (K == 1) N.page_bytes at parent child self.old self.new)
             (self.new ≡ self.old)) }
         ensures refused { IfErr result (λ refusal.
             IsMade (K == 1) N.page_bytes self.old (OnSlot at (ForkMaps parent child))
             (Err refusal) self.new) }
         ensures grows { Grows 1 self.old self.new }
     {
-        match self.enter_fork(at, parent, child) {
-            None => Ok(false),
-            Some((told, receipt)) => {
-                self.add(receipt);
-                match told {
-                    Ok(_done) => Ok(true),
-                    Err(refusal) => Err(refusal),
-                }
-            }
+        let Some(handed) = self.enter_fork(at, parent, child) else {
+            return Ok(false);
+        };
+        let (told, receipt) = handed;
+        self.add(receipt);
+        match told {
+            Ok(_done) => Ok(true),
+            Err(refusal) => Err(refusal),
         }
     }
 

@@ -2,14 +2,16 @@
 ghost use Rattle.std.specs.Prelude.{◌≡◌, ◌+◌, ◌<◌, ◌≤◌, ◌==◌, Err, true, false, length, IfOk, OnErr};
 ghost use Rattle.std.specs.Bool.{MatchBool};
 ghost use Rattle.hp_laws.specs.Answers.{lists_names};
+ghost use Rattle.hp_model.specs.declared.answer.Answer.TheVariants.{Done};
 ghost use Rattle.hp_model.specs.machine.Accesses.{bytes_reply, done_reply, load_step, store_step};
 ghost use Rattle.hp_model.specs.machine.Copying.{has_bytes};
 ghost use Rattle.hp_model.specs.machine.Told.{told_answer, told_reply};
 ghost use Rattle.hp_model.specs.text.Writing.{IsWithinLimits};
 ghost use Rattle.hp_mount.specs.Event.{event_of};
+ghost use Rattle.hp_shared.specs.Tables.{table_reply};
 ghost use Rattle.hp_sessions.specs.declared.work.Work.TheVariants.{OfTask as OfATask};
 ghost use Rattle.hp_sessions.specs.Calls.{HasRoom, IsAnswered};
-ghost use Rattle.hp_sessions.specs.Works.{AreCopies, HasAnswerOf, IsApart, IsWorked, bytes_of};
+ghost use Rattle.hp_sessions.specs.Works.{AreCopies, HasAnswerOf, IsApart, IsBytes, IsWorked, bytes_of};
 
 use super::Session;
 use super::notes::{Copies, copies, twice};
@@ -22,6 +24,7 @@ use hp_model::service::Access;
 use hp_model::step::Step;
 use hp_model::told::Told;
 use hp_mount::MountEvent;
+use hp_shared::TableTold;
 use std::alloc::AllocError;
 use std::sync::Wait;
 
@@ -41,11 +44,7 @@ impl<'a, N: Naming, R: Wait, G: Gate, const K: usize> Session<'a, N, R, G, K> {
     }
 
     /// Answers a step as `call` does. Bytes are in the front of the room.
-    pub fn do_step<'b>(
-        &mut self,
-        step: &Step<'_>,
-        room: &'b mut [u8],
-    ) -> Result<Told<'b>, Refusal>
+    pub fn do_step<'b>(&mut self, step: &Step<'_>, room: &'b mut [u8]) -> Result<Told<'b>, Refusal>
         requires { 256 ≤ length room.old }
         ensures answered { IsAnswered (K == 1) N.page_bytes self.old step.now (told_reply result)
             self.new }
@@ -74,11 +73,8 @@ impl<'a, N: Naming, R: Wait, G: Gate, const K: usize> Session<'a, N, R, G, K> {
             offset: access.offset,
             count,
         };
-        match self.of_task(access.task, access.slot, event, room) {
-            Ok(Told::Bytes(bytes)) => Ok(bytes),
-            Ok(_other) => unreachable!(),
-            Err(refusal) => Err(refusal),
-        }
+        let told = self.of_task(access.task, access.slot, event, room);
+        into_bytes(told)
     }
 
     /// Does the step of a store of these bytes, as `call` does.
@@ -94,10 +90,8 @@ impl<'a, N: Naming, R: Wait, G: Gate, const K: usize> Session<'a, N, R, G, K> {
             bytes,
         };
         let mut room = [0u8; 256];
-        match self.of_task(access.task, access.slot, event, &mut room) {
-            Ok(_done) => Ok(()),
-            Err(refusal) => Err(refusal),
-        }
+        let told = self.of_task(access.task, access.slot, event, &mut room);
+        into_done(told)
     }
 
     // What a step asks of which part.
@@ -115,7 +109,7 @@ impl<'a, N: Naming, R: Wait, G: Gate, const K: usize> Session<'a, N, R, G, K> {
             return Err(Refusal::TraceFull);
         }
         match *work {
-            Work::Tasks(event) => self.make_table(event).told(),
+            Work::Tasks(event) => table_told(self.make_table(event)),
             Work::Pool(event) => self.make_pool(event),
             Work::Fork { parent, child } => Told::done(self.fork(parent, child)),
             Work::Exit { task } => Told::done(self.exit(task)),
@@ -177,8 +171,9 @@ impl<'a, N: Naming, R: Wait, G: Gate, const K: usize> Session<'a, N, R, G, K> {
         ensures memory { OnErr result (((K == 1) ≡ true)
             × (has_bytes (event_of 0 event.now) ≡ true)) }
     {
+        let shared = self.shared;
         if K == 1 {
-            Ok(Some(copies(self.shared.alloc, event)?))
+            Ok(Some(copies(shared.alloc, event)?))
         } else {
             Ok(None)
         }
@@ -189,8 +184,9 @@ impl<'a, N: Naming, R: Wait, G: Gate, const K: usize> Session<'a, N, R, G, K> {
         ensures copies { IfOk result (λ c. (K == 1) ≡ true → AreCopies options.now c) }
         ensures memory { OnErr result ((K == 1) ≡ true) }
     {
+        let shared = self.shared;
         if K == 1 {
-            Ok(Some(twice(self.shared.alloc, options)?))
+            Ok(Some(twice(shared.alloc, options)?))
         } else {
             Ok(None)
         }
@@ -205,5 +201,42 @@ fn whole(told: Result<Told<'_>, Refusal>) -> Reply
     match told {
         Ok(told) => Ok(told.into_answer()),
         Err(refusal) => Err(refusal),
+    }
+}
+
+// The bytes of a load's reply.
+fn into_bytes<'b>(told: Result<Told<'b>, Refusal>) -> Result<&'b [u8], Refusal>
+    requires bytes { IfOk told (λ told. IsBytes (told_answer told)) }
+    requires limits { IsWithinLimits (told_reply told) }
+    ensures reply { bytes_reply result ≡ told_reply told.entry }
+    ensures few { IfOk result (λ bytes. length bytes.now ≤ 256) }
+{
+    match told {
+        Ok(Told::Bytes(bytes)) => Ok(bytes),
+        Ok(_other) => unreachable!(),
+        Err(refusal) => Err(refusal),
+    }
+}
+
+// That a store is done.
+fn into_done(told: Result<Told<'_>, Refusal>) -> Result<(), Refusal>
+    requires { IfOk told (λ told. told_answer told ≡ Done) }
+    ensures { done_reply result ≡ told_reply told.entry }
+{
+    match told {
+        Ok(_done) => Ok(()),
+        Err(refusal) => Err(refusal),
+    }
+}
+
+// What an event of the task table answers.
+fn table_told(told: TableTold) -> Result<Told<'static>, Refusal>
+    ensures reply { told_reply result ≡ table_reply told }
+    ensures limits { IsWithinLimits (told_reply result) }
+{
+    match told {
+        TableTold::Done => Ok(Told::Done),
+        TableTold::Home(home) => Ok(Told::Home(home)),
+        TableTold::Refused(refusal) => Err(refusal),
     }
 }

@@ -6,7 +6,7 @@ use Rattle.hp_sessions.proofs.parting.take_slots.Given as goal
 
 abbrev pub invariant-loop-slot : goal.invariant-loop-slot
 invariant-loop-slot g l = record {
-  all : vec_len l.mounts + into_iter_len l.rest ≡ vec_len l.slots;
+  all : vec_len l.mounts + into_iter_len l.rest ≡ vec_len l.fn.slots;
   same : vec_len l.trails ≡ vec_len l.mounts;
   mounts_fit : vec_len l.mounts + into_iter_len l.rest ≤ vec_capacity l.mounts;
   trails_fit : vec_len l.mounts + into_iter_len l.rest ≤ vec_capacity l.trails;
