@@ -58,7 +58,9 @@ impl<'a, N: Naming, R: Wait, G: Gate, const K: usize> Session<'a, N, R, G, K> {
         ensures slots { IfOk result (λ s. s.slots ≡ shared.entry.now.slots) }
         ensures none { IfOk result (λ s. s.receipts ≡ []) }
         ensures room { IfOk result (λ s. (K == 1) ≡ true → s.room ≡ room) }
+        ensures page { N.page_bytes ≤ 2097152 }
     {
+        let _law = shared.page_bytes;
         let mut receipts = Vec::new(alloc);
         let room = if K == 1 { room } else { 0 };
         receipts.reserve(room)?;
