@@ -14,9 +14,14 @@ _hugetlbd() {
         --page) _hugetlbd_words "1024 4096 65536 2097152" "$now" ;;
         --frames) _hugetlbd_words "4,4 4096 4096,4096" "$now" ;;
         --slots) _hugetlbd_words "4 8 64" "$now" ;;
+        --port) _hugetlbd_words "0 7070" "$now" ;;
+        --workers) _hugetlbd_words "4 8 64" "$now" ;;
+        --trace) _hugetlbd_words "0 65536" "$now" ;;
+        --sessions) COMPREPLY=() ;;
         *)
             local words="--frames --page --slots --help"
-            [ "$COMP_CWORD" = 1 ] && words="script help --version $words"
+            [ "${COMP_WORDS[1]}" = serve ] && words="--port --sessions --workers --trace $words"
+            [ "$COMP_CWORD" = 1 ] && words="script serve help --version $words"
             _hugetlbd_words "$words" "$now"
             ;;
     esac

@@ -2,3 +2,4 @@ pub mod Added
 pub mod Giving
 pub mod Rows
 pub mod Opening
+pub mod Small

@@ -9,6 +9,7 @@ ghost use Rattle.hp_model.specs.declared.entry.Part.TheVariants.{Pool as AtPool}
 ghost use Rattle.hp_model.specs.declared.event.Event.TheVariants.{Pool as OfPool};
 ghost use Rattle.hp_model.specs.files.Options.{limits, wanted_of};
 ghost use Rattle.hp_model.specs.pool.Resize.{node_counts, pool_event};
+ghost use Rattle.hp_model.specs.text.Writing.{IsWithinLimits};
 ghost use Rattle.hp_model.specs.threads.Closing.{to_return};
 ghost use Rattle.hp_mount_door.specs.Door.{IsReady, grant_for, page_for, with_granted, with_less, with_page, with_reserves};
 ghost use Rattle.hp_pool.specs.Sums.{idle_pool};
@@ -264,6 +265,7 @@ impl<N: Naming, T: Trail<PoolEntry>> Core<N, T> {
         ensures receipt { IfOk result (λ r. IsReceipt self.old.entries AtPool (OfPool event)
             (pool_reply r.0) r.1) }
         ensures given { IfOk result (λ r. is_some r.1 ≡ T.keeps) }
+        ensures limits { IfOk result (λ r. IsWithinLimits (pool_reply r.0)) }
         ensures full { OnErr result (has_room false self.old.left self.old.extra ≡ false) }
         ensures keeps { OnErr result (T.keeps ≡ true) }
         ensures same { OnErr result (self.new ≡ self.old) }

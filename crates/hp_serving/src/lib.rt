@@ -14,5 +14,5 @@ pub use fault::ServeFault;
 pub use host::{Closed, Host, Machine};
 pub use serving::serve;
 pub use session::serve_session;
-pub use sessions::serve_sessions;
+pub use sessions::{Ended, report, serve_sessions};
 pub use tcp::{Listening, Socket};

@@ -141,8 +141,8 @@ fn audit_line(audit: Option<bool>) -> &'static str
     }
 }
 
-// Names a fault, and gives the status. Where `faults` fails too, the status alone tells.
-fn report<E: Sink>(ended: Ended, faults: &mut E) -> u8
+/// Names a fault, and gives the status that a process ends with. Where `faults` fails too, the status alone tells.
+pub fn report<E: Sink>(ended: Ended, faults: &mut E) -> u8
     ensures status { result ≡ status_of ended }
     ensures says { SaysEnd (E.is_sure faults.old) (E.contents faults.old)
         (E.contents faults.new) ended }

@@ -137,6 +137,10 @@ module _ (full : Type 0) (size k : ℕ) (entries : Option (List SlotEntry)) (lef
   same_mount : is_trace_full reply ≡ true → new ≡ old
   same_mount is = (full_in (is_trace_full reply) Nothing (Went size k old e reply asked new) is acted).0
 
+  -- the door had no room
+  pub was_full : is_trace_full reply ≡ true → full
+  was_full is = (full_in (is_trace_full reply) Nothing (Went size k old e reply asked new) is acted).2
+
   pub event_went : is_trace_full reply ≡ false → Went size k old e reply asked new
   event_went is = done_in (is_trace_full reply) Nothing (Went size k old e reply asked new) is acted
 
@@ -175,9 +179,3 @@ kept_none (Some es) e = cc
 pub none_added : (o : Option (List SlotEntry)) (e : SlotEntry) → o ≡ None → o ≡ added o e
 none_added None e is = refl
 none_added (Some es) e is = cc
-
--- answered TraceFull by the door
-pub was_full : (full : Type 0) (size k : ℕ) (old : Slot) (e : SlotEvent) (reply : Reply) (asked : Option Asked) (new : Slot)
-    → IsActedOr full size k old e reply asked new → is_trace_full reply ≡ true → full
-was_full full size k old e reply asked new acted is =
-    (subst (λ (b : Bool). MatchBool b ((new ≡ old) × (asked ≡ None) × full × MayEnter (λ c. slot_event size k c old e) old) (Went size k old e reply asked new)) is acted).2

@@ -223,6 +223,7 @@ impl<N: Naming, T: Trail<SlotEntry>> Slot<N, T> {
         ensures keeps { is_trace_full (told_reply result.0) ≡ true → T.keeps ≡ true }
         ensures given { is_trace_full (told_reply result.0) ≡ false
             → is_some result.1 ≡ T.keeps }
+        ensures limits { IsWithinLimits (told_reply result.0) }
     {
         let Slot {
             number,
@@ -257,6 +258,7 @@ impl<N: Naming, T: Trail<SlotEntry>> Slot<N, T> {
         ensures keeps { is_trace_full (told_reply result.0) ≡ true → T.keeps ≡ true }
         ensures given { is_trace_full (told_reply result.0) ≡ false
             → is_some result.1 ≡ T.keeps }
+        ensures limits { IsWithinLimits (told_reply result.0) }
     {
         let Slot {
             number,
@@ -296,6 +298,7 @@ impl<N: Naming, T: Trail<SlotEntry>> Slot<N, T> {
             → (T.keeps ≡ true) ⊎ D.is_full door.new }
         ensures given { is_trace_full (told_reply result.0) ≡ false
             → is_some result.1 ≡ T.keeps }
+        ensures limits { IsWithinLimits (told_reply result.0) }
     {
         let Slot {
             number,
@@ -323,6 +326,7 @@ impl<N: Naming, T: Trail<SlotEntry>> Slot<N, T> {
         ensures keeps { is_trace_full (names_reply result.0) ≡ true → T.keeps ≡ true }
         ensures given { is_trace_full (names_reply result.0) ≡ false
             → is_some result.1 ≡ T.keeps }
+        ensures limits { IsWithinLimits (names_reply result.0) }
     {
         let Slot {
             number,

@@ -4,6 +4,7 @@ ghost use Rattle.hp_model.specs.declared.answer.Answer.TheVariants.{Names as The
 ghost use Rattle.hp_model.specs.declared.event.SlotEvent.TheVariants.{Ls};
 ghost use Rattle.hp_model.specs.machine.Copying.{has_names};
 ghost use Rattle.hp_model.specs.machine.Told.{told_answer};
+ghost use Rattle.hp_model.specs.text.Writing.{IsWithinLimits};
 ghost use Rattle.hp_shared.specs.Slots.{Went, is_trace_full, names_reply};
 
 use hp_model::answer::{Answer, Reply};
@@ -38,6 +39,7 @@ fn names_of(told: Told<'_>) -> Names
 pub(crate) fn list<N: Naming>(mount: &Option<Mount<N>>) -> Result<Names, Refusal>
     ensures went { (size k : ℕ) → Went size k mount.now Ls (names_reply result) None mount.now }
     ensures noted { is_trace_full (names_reply result) ≡ false }
+    ensures limits { IsWithinLimits (names_reply result) }
 {
     match mount {
         None => Err(Refusal::NoSuchSlot),
@@ -61,6 +63,7 @@ pub(crate) fn list_thrice<N: Naming>(alloc: Global, mount: &Option<Mount<N>>) ->
     ensures went { (size k : ℕ) →
         Went size k mount.now Ls (names_reply result.names) None mount.now }
     ensures noted { is_trace_full (names_reply result.names) ≡ false }
+    ensures limits { IsWithinLimits (names_reply result.names) }
     ensures reply { result.reply ≡ names_reply result.names }
     ensures again { result.again ≡ names_reply result.names }
 {

@@ -6,7 +6,7 @@ use Rattle.std.proofs.lemmas.List.{length-append, length-map}
 use Rattle.std.proofs.lemmas.List.Splits.{length-slice_split}
 use Rattle.hp_model.specs.text.Words.{number_of}
 use Rattle.hp_model.specs.declared.refusal.Refusal.{Refusal}
-use Rattle.hugetlbd.specs.Asked.{CanBeFrames, pieces}
+use Rattle.hugetlbd.specs.Asked.{CanBe, node_frames, pieces}
 
 one_more : (frames : List ℕ) (n : ℕ) (left : List (Result ℕ Refusal)) → map Ok frames ++ Ok n ∷ left ≡ map Ok (frames ++ n ∷ []) ++ left
 one_more [] n left = refl
@@ -32,7 +32,7 @@ length-oks fs = length-map {B = Result ℕ Refusal} fs Ok
 
 -- a text that can be frames has those of a node in each piece
 pub piece_read : (all piece rest : List ℕ) (more : List (List ℕ)) (frames : List ℕ) → map number_of (pieces all) ≡ map Ok frames ++ map number_of (pieces rest)
-    → pieces rest ≡ piece ∷ more → CanBeFrames all → (n : ℕ) × (number_of piece ≡ Ok n) × (1 ≤ n) × (n ≤ 65536)
+    → pieces rest ≡ piece ∷ more → CanBe node_frames all → (n : ℕ) × (number_of piece ≡ Ok n) × (1 ≤ n) × (n ≤ 65536)
 piece_read all piece rest more frames so_far cut can =
     let k = length (oks frames) in
     let left = map number_of more in
@@ -45,7 +45,7 @@ piece_read all piece rest more frames so_far cut can =
 
 -- and no more than four pieces
 pub too_many : (all rest : List ℕ) (frames : List ℕ) → map number_of (pieces all) ≡ map Ok frames ++ map number_of (pieces rest) → 4 ≤ length frames
-    → CanBeFrames all → ⊥
+    → CanBe node_frames all → ⊥
 too_many all rest frames so_far four can =
     let same : oks can.0 ≡ oks frames ++ map number_of (pieces rest) = sym can.1 ∙ so_far in
     omega (

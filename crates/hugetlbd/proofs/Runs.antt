@@ -1,8 +1,14 @@
 -- A run of a machine, from the run of one that starts as it.
-use Rattle.std.proofs.Common.{◌≡◌, ℕ, List, arith, subst, Option, Some, None, Result, Ok, Err, OnOk, IfErr, IfSome}
+use Rattle.std.proofs.Common.{◌≡◌, ◌≤◌, ◌+◌, ℕ, suc, Bool, true, false, List, [], ◌∷◌, length, refl, ap, arith, subst, Option, Some, None, Result, Ok, Err, OnOk, IfErr, IfSome}
 use Rattle.std.specs.Io.KnownBytes.{Consumes}
 use Rattle.hp_model.specs.machine.Promises.{IsPromisedStep}
-use Rattle.hp_model.specs.machine.State.{State}
+use Rattle.hp_model.specs.machine.Machine.{pool_of, rows_of}
+use Rattle.hp_model.specs.machine.State.{Node, State}
+use Rattle.hp_mount_door.specs.Door.{IsReady as IsReadyPool}
+use Rattle.hp_serving.specs.Ended as serving
+use Rattle.hp_serving.specs.declared.sessions.Ended.{Ended}
+use Rattle.hp_serving.specs.declared.sessions.Ended.TheVariants.{Printed, Unprinted, Failed}
+use Rattle.hp_system.specs.Kept.{IsReady, Machine}
 use Rattle.hp_wire.specs.Served.{AnswersInput, Serves, IsMemoryOrTooLong}
 use Rattle.hp_wire.specs.declared.fault.RunFault.{RunFault}
 use Rattle.hugetlbd.specs.Program.{AnswersScript, Run, status_of}
@@ -47,3 +53,27 @@ ends_below_2 (Err e) status same two = omega (arith, same, two)
 pub ran_as : {machine other : State} {r0 r1 w0 w1 : Option (List ℕ)} {sure : Type 0} {ended : Result ℕ RunFault} → machine ≡ other
     → Run machine r0 r1 sure w0 w1 ended → Run other r0 r1 sure w0 w1 ended
 ran_as {r0 = r0} {r1 = r1} {w0 = w0} {w1 = w1} {sure = sure} {ended = ended} same h = subst (λ (m : State). Run m r0 r1 sure w0 w1 ended) same h
+
+after_not_2 : (audit : Option Bool) (other status : ℕ) → other ≤ 1 → status ≡ serving.status_after audit other → status ≡ 2 → ⊥
+after_not_2 None other status few same two = omega (arith, few, same, two)
+after_not_2 (Some true) other status few same two = omega (arith, few, same, two)
+after_not_2 (Some false) other status few same two = omega (arith, same, two)
+
+-- sessions that were served end with status 0, 1 or 3
+pub served_not_2 : (ended : Ended) (status : ℕ) → status ≡ serving.status_of ended → status ≡ 2 → ⊥
+served_not_2 (Printed closed) status same two = after_not_2 closed.audit 0 status (omega arith) same two
+served_not_2 (Unprinted closed) status same two = after_not_2 closed.audit 1 status (omega arith) same two
+served_not_2 (Failed fault) status same two = omega (arith, same, two)
+
+long_rows : (s : State) (k : ℕ) (ns : List Node) → length (rows_of s k ns) ≡ length ns
+long_rows s k [] = refl
+long_rows s k (n ∷ ns) = ap suc (long_rows s (k + 1) ns)
+
+-- a machine between steps has a pool that is ready for a section
+pub ready_pool : (m : Machine) → IsReady m → IsReadyPool m.pool
+ready_pool m r =
+    let total = r.settled.pool.total in
+    let surplus = r.settled.pool.surplus in
+    let nodes = r.settled.nodes in
+    let here : IsReadyPool (pool_of m.state) = record { settled = omega (arith, total, surplus); nodes = omega (arith, nodes, long_rows m.state 0 m.state.nodes) } in
+    subst IsReadyPool r.tied here

@@ -1,14 +1,15 @@
 -- A command line with no words after the program's name asks for the usual machine.
-use Rattle.std.proofs.Common.{◌≡◌, ◌∷◌, ◌∙◌, ◌≤◌, ℕ, List, [], length, map, None, refl, sym, ap, subst, arith, rules}
+use Rattle.std.proofs.Common.{◌≡◌, ◌∷◌, ◌∙◌, ◌≤◌, ℕ, List, [], length, map, None, true, false, refl, sym, ap, subst, arith, rules}
 use Rattle.std.proofs.lemmas.List.{length-map}
 use lib.Count.{ones}
 use Rattle.clap.proofs.OnLiterals.{clap_on_literals}
 use Rattle.clap.specs.Words.{Text}
 use Rattle.hp_model.specs.machine.Machine.{start}
 use Rattle.hugetlbd.proofs.Refused.{only_memory, right_is_1}
-use Rattle.hugetlbd.specs.Asked.{Asks, IsRefusedFor, Sets}
+use Rattle.hugetlbd.specs.Asked.{Asks, AsksToServe, IsRefusedFor, Sets}
 use Rattle.hugetlbd.specs.Config.{Choice, IsWithinLimits, chosen, usual}
 use Rattle.hugetlbd.specs.Program.{IsStatusOfWrong, text_asked}
+use Rattle.hugetlbd.specs.declared.settings.Serving.{Serving}
 use Rattle.hugetlbd.specs.declared.settings.Wrong.{Wrong}
 
 sets_usual : (c : Choice) → Sets [] c → chosen c ≡ chosen usual
@@ -24,9 +25,13 @@ no_words (w ∷ v ∷ rest) c few a = absurd (omega (arith, few))
 -- they ask for the usual machine
 usual_asked : (words : List Text) → length words ≤ 1 → Asks words usual
 unfolding clap_on_literals
-usual_asked [] few = record { faultless = refl; behind = refl; sets = record { frames = refl; page = refl; slots = refl } }
-usual_asked (w ∷ []) few = record { faultless = refl; behind = refl; sets = record { frames = refl; page = refl; slots = refl } }
+usual_asked [] few = record { right = record { faultless = refl; behind = refl }; script = refl; sets = record { frames = refl; page = refl; slots = refl } }
+usual_asked (w ∷ []) few = record { right = record { faultless = refl; behind = refl }; script = refl; sets = record { frames = refl; page = refl; slots = refl } }
 usual_asked (w ∷ v ∷ rest) few = absurd (omega (arith, few))
+
+-- and for no server
+pub few_serve_not : (words : List Text) (c : Choice) (s : Serving) → length words ≤ 1 → AsksToServe words c s → ⊥
+few_serve_not words c s few a = (let both : false ≡ true = sym (usual_asked words few).script ∙ a.serve in cc)
 
 -- which is within the limits
 usual_fits : IsWithinLimits usual

@@ -4,8 +4,9 @@ use Rattle.std.specs.Int.{is_power_of_two}
 use Rattle.hp_model.specs.machine.Machine.{start}
 use Rattle.hp_model.specs.machine.State.{State}
 use Rattle.hugetlbd.specs.declared.settings.Config.{Config}
-use Rattle.hugetlbd.specs.declared.settings.Config.TheVariants.{Script}
+use Rattle.hugetlbd.specs.declared.settings.Config.TheVariants.{Script, Serve}
 use Rattle.hugetlbd.specs.declared.settings.Machine.{Machine}
+use Rattle.hugetlbd.specs.declared.settings.Serving.{Serving}
 
 -- what a machine starts from
 pub record Choice : Type 0 where
@@ -24,9 +25,6 @@ usual = record { frames = 4 ∷ 4 ∷ []; page = 1024; slots = 4 }
 abbrev pub choice_of : Machine → Choice
 choice_of m = record { frames = m.frames.items; page = m.page; slots = m.slots }
 
-abbrev pub choice_in : Config → Choice
-choice_in (Script m) = choice_of m
-
 -- 1 to 4 nodes of 1 to 65,536 frames
 abbrev pub IsFrames : List ℕ → Type 0
 IsFrames fs = (1 ≤ length fs) × (length fs ≤ 4) × All (λ f. (1 ≤ f) × (f ≤ 65536)) fs
@@ -35,10 +33,21 @@ IsFrames fs = (1 ≤ length fs) × (length fs ≤ 4) × All (λ f. (1 ≤ f) × 
 abbrev pub IsPage : ℕ → Type 0
 IsPage n = (1024 ≤ n) × (n ≤ 2097152) × IsTrue (is_power_of_two n)
 
-abbrev pub IsSlots : ℕ → Type 0
-IsSlots n = (1 ≤ n) × (n ≤ 64)
+abbrev pub IsWithin : ℕ → ℕ → ℕ → Type 0
+IsWithin low high n = (low ≤ n) × (n ≤ high)
 
 pub record IsWithinLimits (c : Choice) : Type 0 where
   pub frames : IsFrames c.frames
   pub page : IsPage c.page
-  pub slots : IsSlots c.slots
+  pub slots : IsWithin 1 64 c.slots
+
+-- what a server is asked for
+pub record IsServing (s : Serving) : Type 0 where
+  pub port : IsWithin 0 65535 s.port
+  pub sessions : IsWithin 1 65535 s.sessions
+  pub workers : IsWithin 1 64 s.workers
+  pub room : IsWithin 0 16777216 s.room
+
+abbrev pub IsConfigWithin : Config → Type 0
+IsConfigWithin (Script m) = IsWithinLimits (choice_of m)
+IsConfigWithin (Serve m s) = IsWithinLimits (choice_of m) × IsServing s

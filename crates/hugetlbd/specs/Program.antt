@@ -1,5 +1,5 @@
 -- A run of the program.
-use Rattle.std.specs.Prelude.{◌≡◌, ◌≤◌, ◌++◌, ℕ, List, Option, Some, None, is_some, true, Result, Ok, Err, IfErr, IfSome, IsSomeAnd, MatchOption, codes}
+use Rattle.std.specs.Prelude.{◌≡◌, ◌≤◌, ◌++◌, ℕ, nat_lt, List, Option, Some, None, is_some, true, Result, Ok, Err, IfErr, IfSome, IsSomeAnd, MatchOption, codes}
 use Rattle.std.specs.Io.KnownBytes.{Appends, Consumes}
 use Rattle.clap.specs.Faults.{fault_of}
 use Rattle.clap.specs.Kinds.{IsAmong}
@@ -13,8 +13,15 @@ use Rattle.hp_wire.specs.Sent.{AppendsFront}
 use Rattle.hp_wire.specs.Served.{AnswersInput, Serves, IsMemoryOrTooLong, text_of_fault}
 use Rattle.hp_wire.specs.declared.fault.RunFault.{RunFault}
 use Rattle.hp_wire.specs.declared.fault.RunFault.TheVariants as fault
-use Rattle.hugetlbd.specs.Asked.{hugetlbd}
+use Rattle.hp_model.specs.declared.entry.Receipt.{Receipt}
+use Rattle.hp_serving.specs.Ended as serving
+use Rattle.hp_serving.specs.declared.host.Closed.{Closed}
+use Rattle.hp_serving.specs.declared.sessions.Ended.{Ended}
+use Rattle.hp_sessions.specs.Sharing.{WasJoined}
+use Rattle.hugetlbd.specs.Asked.{Asks, AsksToServe, IsRefusedFor, hugetlbd}
+use Rattle.hugetlbd.specs.Config.{Choice, IsServing, IsWithinLimits, chosen}
 use Rattle.hugetlbd.specs.declared.config.TheConstants.{HELP, VERSION}
+use Rattle.hugetlbd.specs.declared.settings.Serving.{Serving}
 use Rattle.hugetlbd.specs.declared.settings.Wrong.{Wrong}
 use Rattle.hugetlbd.specs.declared.settings.Wrong.TheVariants.{Memory, Parse, BadValue, OptionFirst}
 
@@ -106,3 +113,21 @@ pub record Refuses {W : Type 0} (contents : W → Option (List ℕ)) (is_sure : 
   pub cut : IfSome (text_asked wrong) (AppendsFront (contents old) (contents new))
   pub sure : is_some (text_asked wrong) ≡ true → is_sure old → status ≡ 0
   pub says : SaysWrong said before after wrong status
+
+-- ---- a server
+
+-- What may be left of the machine that was asked for, once it is closed. It was audited just where there was room for
+-- entries; and where the audit was right, the sessions' events were one run of it, at whose end all its pages are free.
+pub record MayLeave (c : Choice) (s : Serving) (closed : Closed) : Type 0 where
+  pub page : closed.page ≡ c.page
+  pub audited : is_some closed.audit ≡ nat_lt 0 s.room
+  pub joined : closed.audit ≡ Some true → (told : List (List Receipt)) × WasJoined (chosen c) told closed.counts
+
+-- how the serving of all sessions ended, what was printed and said then, and the status
+pub record IsServed (c : Choice) (s : Serving) (before after : Option (List ℕ)) (sure : Type 0) (unsaid said : Option (List ℕ))
+    (status : ℕ) : Type 0 where
+  pub ended : Ended
+  pub leaves : serving.LeavesAsked (MayLeave c s) ended
+  pub ends : status ≡ serving.status_of ended
+  pub prints : serving.Prints before after ended
+  pub says : serving.SaysEnd sure unsaid said ended

@@ -1,11 +1,12 @@
 //! The command line.
-ghost use Rattle.std.specs.Prelude.{◌≡◌, ◌≤◌, ◌∷◌, [], false, map, option_map, IfErr, IfOk, IsSomeAnd, MatchOption, Ok};
+ghost use Rattle.std.specs.Prelude.{◌≡◌, ◌≤◌, ◌∷◌, [], false, true, map, option_map, codes, IfErr, IfOk, IfSome, IsSomeAnd, MatchOption, Ok};
+ghost use Rattle.std.specs.Str.{bytes_eq};
 ghost use Rattle.clap.specs.Words.{app_of, first_of, rule_of};
 ghost use Rattle.hp_model.specs.text.Words.{number_of};
-ghost use Rattle.hugetlbd.specs.Asked.{Asks, IsBadValue, IsNoneWithin, IsNumberOr, IsNumberWithin, IsRefusedFor, IsWrongFrames, IsWrongIn, IsWrongOf, Sets, hugetlbd, option, options_in, has_options, pieces};
-ghost use Rattle.hugetlbd.specs.Config.{IsFrames, IsWithinLimits, choice_in, choice_of};
+ghost use Rattle.hugetlbd.specs.Asked.{AsksFor, IsBadValue, IsLocal, IsNoneWithin, IsNumberOr, IsNumberWithin, IsRefusedFor, IsWrongFrames, IsWrongIn, IsWrongOf, Sets, SetsServing, hugetlbd, machine_options, option, options_in, has_options, pieces, script, serve, serving_options, with_options};
+ghost use Rattle.hugetlbd.specs.Config.{IsConfigWithin, IsFrames, IsServing, IsWithinLimits, choice_of};
 
-use crate::settings::{Config, Machine, Wrong};
+use crate::settings::{Config, Machine, Serving, Wrong};
 use clap::error::ErrorKind;
 use clap::{Arg, ArgAction, ArgMatches, Command, Error};
 use hp_text::pieces::first_piece;
@@ -16,16 +17,23 @@ use std::convert::AsStr;
 // How the program is called, as `clap` says it beside a fault. The script comes on standard input.
 const USAGE: &str = "hugetlbd [script] [OPTIONS] < FILE";
 
+// And how it serves.
+const SERVE_USAGE: &str =
+    "hugetlbd serve --port <P> --sessions <N> --workers <W> --trace <ROOM> [OPTIONS]";
+
 /// What is printed where the words ask for help.
 pub const HELP: &str = "\
 Usage: hugetlbd [script] [OPTIONS] < FILE
+       hugetlbd serve --port <P> --sessions <N> --workers <W> --trace <ROOM> [OPTIONS]
 
-A HugeTLB service: it answers the lines on standard input on a new machine, with
-one reply for each, on standard output.
+A HugeTLB service: it answers lines on a new machine, with one reply for each: the
+lines on standard input, on standard output; or those of sessions over TCP.
 
 Subcommands:
   script               answer the script on standard input; the word may be left
                        out, and options stand after it
+  serve                print 'port <number>', serve sessions at that port of 127.0.0.1,
+                       and print what is left of the machine after the last
   help                 print this help
 
 Options:
@@ -34,6 +42,14 @@ Options:
       --slots <N>      number of slots for mounts: 1 to 64, slot 0 is mounted [default: 4]
   -h, --help           print this help
   -V, --version        print the version
+
+Options that serve must have:
+      --port <P>       port to listen at: 0 to 65535; at 0 the system chooses one
+      --sessions <N>   number of sessions to serve: 1 to 65535
+      --workers <W>    number of sessions served at a time: 1 to 64
+      --trace <ROOM>   entries that each trail has room for, and receipts each session:
+                       0 to 16777216; at 0 none are kept, and nothing is audited at the end.
+                       Each takes 608 bytes, 512 more for each slot, 464 more for each session
 ";
 
 /// What is printed where the words ask for the version.
@@ -44,11 +60,12 @@ pub const VERSION: &str = "hugetlbd 0.1.0\n";
 /// Refused, by the first of these that holds:
 /// - `Parse`: `clap` refuses the words, or they ask for help or the version.
 /// - `OptionFirst`: an option stands before the subcommand.
-/// - `BadValue`: an option has a value that it can't have, the first in the order frames, page, slots.
+/// - `BadValue`: an option has a value that it can't have, the first in the order frames, page, slots, port,
+///   sessions, workers, trace.
 /// - `Memory`: memory was refused. This one may stand in place of any answer.
 pub fn config<'a, S: AsStr>(alloc: Global, words: &'a [S]) -> Result<Config, Wrong>
-    ensures limits { IfOk result (λ c. IsWithinLimits (choice_in c)) }
-    ensures asked { IfOk result (λ c. Asks (map S.text words.entry.now) (choice_in c)) }
+    ensures limits { IfOk result IsConfigWithin }
+    ensures asked { IfOk result (AsksFor (map S.text words.entry.now)) }
     ensures refused { IfErr result (IsRefusedFor (map S.text words.entry.now)) }
 {
     let matches = match command(alloc)?.try_get_matches_from(words) {
@@ -58,8 +75,17 @@ pub fn config<'a, S: AsStr>(alloc: Global, words: &'a [S]) -> Result<Config, Wro
     match matches.subcommand() {
         None => Ok(Config::Script(machine_of(alloc, &matches)?)),
         Some(_) if has_option(&matches) => Err(Wrong::OptionFirst),
+        Some((name, inner)) if is_serve(name) => {
+            Ok(Config::Serve(machine_of(alloc, inner)?, serving_of(inner)?))
+        }
         Some((_, inner)) => Ok(Config::Script(machine_of(alloc, inner)?)),
     }
+}
+
+fn is_serve(name: &str) -> bool
+    ensures { result ≡ bytes_eq name.now (codes "serve") }
+{
+    name == "serve"
 }
 
 fn wrong_of(error: Error) -> Wrong
@@ -72,29 +98,69 @@ fn wrong_of(error: Error) -> Wrong
     }
 }
 
-// The program's options, and its subcommand with the same options. `clap` only finds that the version is asked for.
+// The program's options, and its subcommands with theirs. `clap` only finds that the version is asked for.
 fn command<'a>(alloc: Global) -> Result<Command<'a>, AllocError>
     ensures { IfOk result (λ c. app_of c ≡ hugetlbd) }
 {
-    let script = Command::new(alloc, "script")
-        .override_usage(USAGE)
-        .arg(option(alloc, "frames"))?
-        .arg(option(alloc, "page"))?
-        .arg(option(alloc, "slots"))?;
-    Command::new(alloc, "hugetlbd")
-        .override_usage(USAGE)
-        .version(VERSION)
-        .arg(option(alloc, "frames"))?
-        .arg(option(alloc, "page"))?
-        .arg(option(alloc, "slots"))?
-        .subcommand(script)
+    let program = with_machine(
+        alloc,
+        Command::new(alloc, "hugetlbd")
+            .override_usage(USAGE)
+            .version(VERSION),
+    )?;
+    program
+        .subcommand(script_command(alloc)?)?
+        .subcommand(serve_command(alloc)?)
 }
 
-fn option<'a>(alloc: Global, name: &'a str) -> Arg<'a>
-    ensures rule { rule_of result ≡ option name.entry.now }
+fn script_command<'a>(alloc: Global) -> Result<Command<'a>, AllocError>
+    ensures app { IfOk result (λ c. app_of c ≡ script) }
+    ensures local { IfOk result IsLocal }
+{
+    with_machine(alloc, Command::new(alloc, "script").override_usage(USAGE))
+}
+
+fn serve_command<'a>(alloc: Global) -> Result<Command<'a>, AllocError>
+    ensures app { IfOk result (λ c. app_of c ≡ serve) }
+    ensures local { IfOk result IsLocal }
+{
+    with_machine(
+        alloc,
+        Command::new(alloc, "serve").override_usage(SERVE_USAGE),
+    )?
+    .arg(required(alloc, "port"))?
+    .arg(required(alloc, "sessions"))?
+    .arg(required(alloc, "workers"))?
+    .arg(required(alloc, "trace"))
+}
+
+// The command with the options of the machine.
+fn with_machine<'a>(alloc: Global, command: Command<'a>) -> Result<Command<'a>, AllocError>
+    ensures app { IfOk result (λ c.
+        app_of c ≡ with_options machine_options (app_of command.entry)) }
+    ensures local { IfOk result (λ c. IsLocal command.entry → IsLocal c) }
+{
+    command
+        .arg(optional(alloc, "frames"))?
+        .arg(optional(alloc, "page"))?
+        .arg(optional(alloc, "slots"))
+}
+
+fn optional<'a>(alloc: Global, name: &'a str) -> Arg<'a>
+    ensures rule { rule_of result ≡ option name.entry.now false }
     ensures local { result.global ≡ false }
 {
     Arg::new(alloc, name).long(name).action(ArgAction::Set)
+}
+
+fn required<'a>(alloc: Global, name: &'a str) -> Arg<'a>
+    ensures rule { rule_of result ≡ option name.entry.now true }
+    ensures local { result.global ≡ false }
+{
+    Arg::new(alloc, name)
+        .long(name)
+        .action(ArgAction::Set)
+        .required(true)
 }
 
 // The text that the words give for an option.
@@ -105,7 +171,7 @@ fn text_of<'a>(matches: &ArgMatches<'a>, name: &str) -> Option<&'a str>
 }
 
 fn has_option(matches: &ArgMatches<'_>) -> bool
-    ensures { result ≡ has_options (options_in matches.now) }
+    ensures { result ≡ has_options machine_options (options_in matches.now) }
 {
     text_of(matches, "frames").is_some()
         || text_of(matches, "page").is_some()
@@ -115,7 +181,7 @@ fn has_option(matches: &ArgMatches<'_>) -> bool
 fn machine_of(alloc: Global, matches: &ArgMatches<'_>) -> Result<Machine, Wrong>
     ensures limits { IfOk result (λ m. IsWithinLimits (choice_of m)) }
     ensures sets { IfOk result (λ m. Sets (options_in matches.now) (choice_of m)) }
-    ensures wrong { IfErr result (IsWrongIn (options_in matches.now)) }
+    ensures wrong { IfErr result (IsWrongIn machine_options (options_in matches.now)) }
 {
     let frames = match text_of(matches, "frames") {
         None => two_nodes(alloc)?,
@@ -130,6 +196,23 @@ fn machine_of(alloc: Global, matches: &ArgMatches<'_>) -> Result<Machine, Wrong>
         frames,
         page,
         slots,
+    })
+}
+
+fn serving_of(matches: &ArgMatches<'_>) -> Result<Serving, Wrong>
+    ensures limits { IfOk result IsServing }
+    ensures sets { IfOk result (SetsServing (options_in matches.now)) }
+    ensures wrong { IfErr result (IsWrongIn serving_options (options_in matches.now)) }
+{
+    let port = number(text_of(matches, "port"), "port", 0, 65_535)?;
+    let sessions = number(text_of(matches, "sessions"), "sessions", 1, 65_535)?;
+    let workers = number(text_of(matches, "workers"), "workers", 1, 64)?;
+    let room = number(text_of(matches, "trace"), "trace", 0, 16_777_216)?;
+    Ok(Serving {
+        port: port as u16,
+        sessions: sessions as usize,
+        workers: workers as usize,
+        room: room as usize,
     })
 }
 
@@ -180,9 +263,33 @@ fn number_or(
     ensures wrong { IfErr result (λ wrong. IsBadValue name.now wrong
         × IsSomeAnd text.entry (λ text. IsNoneWithin low high text.now)) }
 {
+    match text {
+        Some(text) => number_in(text, name, low, high),
+        None => Ok(none),
+    }
+}
+
+// The number of an option that may not be left out, which lies between the bounds.
+fn number(text: Option<&str>, name: &'static str, low: u64, high: u64) -> Result<u64, Wrong>
+    ensures bounds { IfOk result (λ n. (low ≤ n) × (n ≤ high)) }
+    ensures reads { IfOk result (λ n.
+        IsSomeAnd text.entry (λ text. number_of text.now ≡ Ok n)) }
+    ensures wrong { IfErr result (λ wrong. IsBadValue name.now wrong
+        × IfSome text.entry (λ text. IsNoneWithin low high text.now)) }
+{
     let Some(text) = text else {
-        return Ok(none);
+        return Err(Wrong::BadValue(name));
     };
+    number_in(text, name, low, high)
+}
+
+// The number that an option's text is, where that lies between the bounds.
+fn number_in(text: &str, name: &'static str, low: u64, high: u64) -> Result<u64, Wrong>
+    ensures bounds { IfOk result (λ n. (low ≤ n) × (n ≤ high)) }
+    ensures reads { IfOk result (λ n. number_of text.now ≡ Ok n) }
+    ensures wrong { IfErr result (λ wrong. IsBadValue name.now wrong
+        × IsNoneWithin low high text.now) }
+{
     match number_between(text.as_bytes(), low, high) {
         Some(n) => Ok(n),
         None => Err(Wrong::BadValue(name)),

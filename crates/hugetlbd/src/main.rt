@@ -1,10 +1,13 @@
-//! The service over a script: lines on standard input, replies on standard output.
+//! The service over a script, with lines on standard input and replies on standard output; or over sessions of TCP.
 #![tactic(auto)]
 
 mod config;
+mod over_tcp;
 mod program;
+mod server;
 mod settings;
 
+use over_tcp::OverTcp;
 use settings::Wrong;
 use std::alloc::{AllocError, Global};
 use std::env::{self, Env};
@@ -21,6 +24,10 @@ fn main(rt: HostRuntime) -> ExitCode {
         Ok(words) => program::program(
             alloc,
             words.as_slice(),
+            OverTcp {
+                rt: &rt,
+                port_to: rt.stdout(),
+            },
             &mut input,
             &mut output,
             &mut faults,

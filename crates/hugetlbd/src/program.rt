@@ -7,13 +7,15 @@ ghost use Rattle.hp_wire.specs.Sent.{Writes, WritesFront};
 ghost use Rattle.hp_wire.specs.declared.fault.RunFault.{RunFault as TheFault};
 ghost use Rattle.hp_nodes.specs.Ledgers.{AreFrames};
 ghost use Rattle.hp_pool.specs.Ledgers.{AreLedgers};
-ghost use Rattle.hugetlbd.specs.Asked.{Asks, IsRefusedFor, hugetlbd};
-ghost use Rattle.hugetlbd.specs.Config.{Choice, IsWithinLimits, chosen, choice_of, usual};
-ghost use Rattle.hugetlbd.specs.Program.{AnswersKnown, AsksForText, Refuses, RunsOn, Says, SaysEnd, named, status_of, text_for};
+ghost use Rattle.hugetlbd.specs.Asked.{Asks, AsksToServe, IsRefusedFor, hugetlbd};
+ghost use Rattle.hugetlbd.specs.Config.{Choice, IsServing, IsWithinLimits, chosen, choice_of, usual};
+ghost use Rattle.hugetlbd.specs.Program.{AnswersKnown, AsksForText, IsServed, Refuses, RunsOn, Says, SaysEnd, named, status_of, text_for};
+ghost use Rattle.hugetlbd.specs.declared.settings.Serving.{Serving as TheServing};
 ghost use Rattle.hugetlbd.specs.declared.settings.Wrong.{Wrong as TheWrong};
 
 use crate::config::{HELP, VERSION, config};
-use crate::settings::{Machine, Wrong};
+use crate::server::Server;
+use crate::settings::{Config, Machine, Wrong};
 use clap::Error;
 use clap::error::ErrorKind;
 use hp_model::naming::Naming;
@@ -31,15 +33,18 @@ use std::marker::Brand;
 /// the process ends with.
 ///
 /// A script on `input` is answered on `output` by the machine of the words: 0, or 1 with the reason
-/// on `faults`. Help and the version are written to `output`, with 0. A wrong command line is named on
-/// `faults`, with 2. Where no script runs and neither is asked for, `output` is as it was.
-pub fn program<'a, S: AsStr, R: Source, W: Sink, E: Sink>(
+/// on `faults`. Sessions are served by `server`, with nothing read. Help and the version are written to
+/// `output`, with 0. A wrong command line is named on `faults`, with 2. Where no script runs, nothing is
+/// served and neither text is asked for, `output` is as it was.
+pub fn program<'a, S: AsStr, V: Server, R: Source, W: Sink, E: Sink>(
     alloc: Global,
     words: &'a [S],
+    server: V,
     input: &mut R,
     output: &mut W,
     faults: &mut E,
 ) -> u8
+    requires server { V.can_serve server }
     ensures ended { let asked = map S.text words.entry.now in
         ((c : Choice) × Asks asked c × IsWithinLimits c
         × (ended : Result ℕ TheFault) × (result ≡ status_of ended)
@@ -47,16 +52,23 @@ pub fn program<'a, S: AsStr, R: Source, W: Sink, E: Sink>(
         (R.is_sure input.old × W.is_sure output.old)
         input.old input.new output.old output.new ended
         × SaysEnd (E.is_sure faults.old) (E.contents faults.old) (E.contents faults.new) ended)
+        ⊎ ((c : Choice) × (s : TheServing) × AsksToServe asked c s × IsWithinLimits c
+        × IsServing s × (input.new ≡ input.old)
+        × IsServed c s (W.contents output.old) (W.contents output.new)
+        (E.is_sure faults.old) (E.contents faults.old) (E.contents faults.new) result)
         ⊎ ((wrong : TheWrong) × IsRefusedFor asked wrong × (input.new ≡ input.old)
         × Refuses W.contents W.is_sure output.old output.new
         (E.is_sure faults.old) (E.contents faults.old) (E.contents faults.new) wrong result) }
     ensures right { (c : Choice) → Asks (map S.text words.entry.now) c → IsWithinLimits c
         → result ≢ 2 }
+    ensures serves { (c : Choice) → (s : TheServing) → AsksToServe (map S.text words.entry.now) c s
+        → IsWithinLimits c → IsServing s → result ≢ 2 }
     ensures script { let asked = map S.text words.entry.now in
         result ≡ 0 → ((input.new ≡ input.old) × (takes hugetlbd asked ≡ false)
         × (text : Text) × AsksForText asked text × Writes W.contents output.old output.new text)
         ⊎ ((c : Choice) × Asks asked c
-        × AnswersKnown (chosen c) R.remaining W.contents input.old output.old output.new) }
+        × AnswersKnown (chosen c) R.remaining W.contents input.old output.old output.new)
+        ⊎ ((input.new ≡ input.old) × (c : Choice) × (s : TheServing) × AsksToServe asked c s) }
     ensures usual { length words.entry.now ≤ 1 → result ≡ 0
         → AnswersKnown (chosen usual) R.remaining W.contents input.old output.old output.new }
     ensures alone { length words.entry.now ≤ 1
@@ -67,11 +79,13 @@ pub fn program<'a, S: AsStr, R: Source, W: Sink, E: Sink>(
         ⊎ ((result ≡ 1) × (input.new ≡ input.old) × (output.new ≡ output.old)) }
 {
     match config(alloc, words) {
-        Ok(config) => {
-            let machine = config.machine();
+        Ok(Config::Script(machine)) => {
             let ended = run_on(alloc, &machine, input, output);
             report(ended, faults)
         }
+        Ok(Config::Serve(machine, serving)) => server.serve(
+            alloc, &machine, serving, output, faults,
+        ),
         Err(wrong) => refuse(&wrong, output, faults),
     }
 }

@@ -14,25 +14,26 @@ pub struct Machine {
     pub slots: u64,
 }
 
+/// What a server is asked for.
+#[derive(Clone, Copy, Debug, PartialEq, Eq)]
+pub struct Serving {
+    /// The port to listen at; at 0 the system chooses one.
+    pub port: u16,
+    /// How many sessions to serve.
+    pub sessions: usize,
+    /// By how many workers.
+    pub workers: usize,
+    /// For how many entries each trail has room, and for how many receipts each session; at 0 none are kept.
+    pub room: usize,
+}
+
 /// A form of the program.
 #[derive(Debug, Drop)]
 pub enum Config {
     /// Standard input is a script.
     Script(Machine),
-}
-
-impl Config {
-    ghost use Rattle.std.specs.Prelude.{◌≡◌};
-    ghost use Rattle.hugetlbd.specs.Config.{choice_in, choice_of};
-
-    /// The machine to run on.
-    pub fn machine(self) -> Machine
-        ensures { choice_of result ≡ choice_in self }
-    {
-        match self {
-            Config::Script(machine) => machine,
-        }
-    }
+    /// Sessions are served over TCP.
+    Serve(Machine, Serving),
 }
 
 /// Why the words give no configuration.

@@ -1,28 +1,25 @@
-use Rattle.std.proofs.Common.{◌∙◌, map, None, Some, refl, sym}
+use Rattle.std.proofs.Common.{◌∙◌, map, true, false, None, Some, refl, sym}
 use Rattle.std.proofs.lemmas.Result.{err_from_is_err_and}
-use Rattle.clap.specs.Words.{found_of, rows_of}
-use Rattle.hugetlbd.proofs.Commands.{Found, asks, found}
-use Rattle.hugetlbd.proofs.Refused.{refused_for, wrong_in}
-use Rattle.hugetlbd.proofs.config.config.Given.{Over}
-use Rattle.hugetlbd.proofs.config.config.Goals.{In-None, In-Some}
+use Rattle.hugetlbd.proofs.Commands.{asks, asks_to, found, none_met, option_first, sub_met}
+use Rattle.hugetlbd.proofs.Refused.{good_machine, refused_for, wrong_behind, wrong_in, wrong_in_front}
+use Rattle.hugetlbd.specs.Asked.{machine_options, options_in, serving_options}
 use Rattle.hugetlbd.proofs.config.config.Goals as goal
-
-found_top : (g : Over) (c : In-None g) → Found (map g.S.AsStr.text c.args.words.now) (rows_of (found_of c.in-Ok.matches)) None
-found_top g c = found _ _ c.in-Ok.matches _ c.in_ok-command.ensures c.in-Ok.ensures.kinds c.in-Ok.ensures.matches c.in-None.ensures.rows
-
-found_inner : (g : Over) (c : In-Some g)
-    → Found (map g.S.AsStr.text c.args.words.now) (rows_of (found_of c.in-Ok.matches)) (Some (rows_of (found_of c.in-Some.field-0.1.now)))
-found_inner g c = found _ _ c.in-Ok.matches _ c.in_ok-command.ensures c.in-Ok.ensures.kinds c.in-Ok.ensures.matches c.in-Some.ensures.rows
 
 pub returns-in-None-clause-asked : goal.returns-in-None-clause-asked
 returns-in-None-clause-asked g c =
-    let f = found_top g (goal.at.returns-in-None-clause-asked g c).In-None in
-    asks _ _ _ _ f refl c.in_ok-machine_of-in-None.ensures.sets
+    let f = found _ _ c.in-Ok.matches _ c.in_ok-command.ensures c.in-Ok.ensures.kinds c.in-Ok.ensures.matches (none_met _ c.in-None.ensures.rows) in
+    asks _ _ _ _ f refl refl c.in_ok-machine_of-in-None.ensures.sets
+
+pub returns-in-Some-2-clause-asked : goal.returns-in-Some-2-clause-asked
+returns-in-Some-2-clause-asked g c =
+    let f = found _ _ c.in-Ok.matches _ c.in_ok-command.ensures c.in-Ok.ensures.kinds c.in-Ok.ensures.matches (sub_met _ _ _ c.in-Some.ensures.name c.in-Some.ensures.rows) in
+    asks_to _ _ _ _ _ f (sym c.has_option.ensures ∙ c.if-has_option.false) (sym c.is_serve.ensures ∙ c.if-is_serve.true) c.in_ok-machine_of-in-Some-2.ensures.sets
+    c.in_ok-serving_of-in-Some-2.ensures.sets
 
 pub returns-clause-asked : goal.returns-clause-asked
 returns-clause-asked g c =
-    let f = found_inner g (goal.at.returns-clause-asked g c).In-Some in
-    asks _ _ _ _ f (sym c.has_option.ensures ∙ c.if-has_option.false) c.in_ok-machine_of-in-Some-2.ensures.sets
+    let f = found _ _ c.in-Ok.matches _ c.in_ok-command.ensures c.in-Ok.ensures.kinds c.in-Ok.ensures.matches (sub_met _ _ _ c.in-Some.ensures.name c.in-Some.ensures.rows) in
+    asks _ _ _ _ f (sym c.has_option.ensures ∙ c.if-has_option.false) (sym c.is_serve.ensures ∙ c.if-is_serve.false) c.in_ok-machine_of-in-Some-3.ensures.sets
 
 pub returns-in-Err-clause-refused : goal.returns-in-Err-clause-refused
 returns-in-Err-clause-refused g c =
@@ -30,17 +27,33 @@ returns-in-Err-clause-refused g c =
 
 pub returns-in-Some-clause-refused : goal.returns-in-Some-clause-refused
 returns-in-Some-clause-refused g c =
-    let f = found_inner g (goal.at.returns-in-Some-clause-refused g c).In-Some in
-    (f.faultless, f.first ∙ sym c.has_option.ensures ∙ c.if-has_option.true)
+    let f = found _ _ c.in-Ok.matches _ c.in_ok-command.ensures c.in-Ok.ensures.kinds c.in-Ok.ensures.matches (sub_met _ _ _ c.in-Some.ensures.name c.in-Some.ensures.rows) in
+    (f.faultless, option_first _ _ _ f ∙ sym c.has_option.ensures ∙ c.if-has_option.true)
 
 pub returns-in_err-machine_of-in-None-clause-refused : goal.returns-in_err-machine_of-in-None-clause-refused
 returns-in_err-machine_of-in-None-clause-refused g c =
-    let f = found_top g (goal.at.returns-in_err-machine_of-in-None-clause-refused g c).In-None in
+    let f = found _ _ c.in-Ok.matches _ c.in_ok-command.ensures c.in-Ok.ensures.kinds c.in-Ok.ensures.matches (none_met _ c.in-None.ensures.rows) in
     let p = err_from_is_err_and c.from_residual-in_err-machine_of-in-None.result c.from_residual-in_err-machine_of-in-None.ensures.1 in
-    rw (p.1, p.2) (wrong_in _ _ _ _ f refl c.in_err-machine_of-in-None.ensures.wrong)
+    rw (p.1, p.2) (wrong_in _ _ _ false _ f refl refl c.in_err-machine_of-in-None.ensures.wrong)
 
 pub returns-in_err-machine_of-in-Some-2-clause-refused : goal.returns-in_err-machine_of-in-Some-2-clause-refused
 returns-in_err-machine_of-in-Some-2-clause-refused g c =
-    let f = found_inner g (goal.at.returns-in_err-machine_of-in-Some-2-clause-refused g c).In-Some in
+    let f = found _ _ c.in-Ok.matches _ c.in_ok-command.ensures c.in-Ok.ensures.kinds c.in-Ok.ensures.matches (sub_met _ _ _ c.in-Some.ensures.name c.in-Some.ensures.rows) in
     let p = err_from_is_err_and c.from_residual-in_err-machine_of-in-Some-2.result c.from_residual-in_err-machine_of-in-Some-2.ensures.1 in
-    rw (p.1, p.2) (wrong_in _ _ _ _ f (sym c.has_option.ensures ∙ c.if-has_option.false) c.in_err-machine_of-in-Some-2.ensures.wrong)
+    rw (p.1, p.2) (wrong_in _ _ _ true _ f (sym c.has_option.ensures ∙ c.if-has_option.false) (sym c.is_serve.ensures ∙ c.if-is_serve.true)
+    (wrong_in_front machine_options serving_options (options_in c.in-Some.field-0.1.now) c.in_err-machine_of-in-Some-2.field-0.0 c.in_err-machine_of-in-Some-2.ensures.wrong))
+
+pub returns-in_err-serving_of-in-Some-2-clause-refused : goal.returns-in_err-serving_of-in-Some-2-clause-refused
+returns-in_err-serving_of-in-Some-2-clause-refused g c =
+    let f = found _ _ c.in-Ok.matches _ c.in_ok-command.ensures c.in-Ok.ensures.kinds c.in-Ok.ensures.matches (sub_met _ _ _ c.in-Some.ensures.name c.in-Some.ensures.rows) in
+    let p = err_from_is_err_and c.from_residual-in_err-serving_of-in-Some-2.result c.from_residual-in_err-serving_of-in-Some-2.ensures.1 in
+    let good = good_machine (options_in c.in-Some.field-0.1.now) _ c.in_ok-machine_of-in-Some-2.ensures.sets c.in_ok-machine_of-in-Some-2.ensures.limits in
+    rw (p.1, p.2) (wrong_in _ _ _ true _ f (sym c.has_option.ensures ∙ c.if-has_option.false) (sym c.is_serve.ensures ∙ c.if-is_serve.true)
+    (wrong_behind machine_options serving_options (options_in c.in-Some.field-0.1.now) c.in_err-serving_of-in-Some-2.field-0.0 good c.in_err-serving_of-in-Some-2.ensures.wrong))
+
+pub returns-in_err-machine_of-in-Some-3-clause-refused : goal.returns-in_err-machine_of-in-Some-3-clause-refused
+returns-in_err-machine_of-in-Some-3-clause-refused g c =
+    let f = found _ _ c.in-Ok.matches _ c.in_ok-command.ensures c.in-Ok.ensures.kinds c.in-Ok.ensures.matches (sub_met _ _ _ c.in-Some.ensures.name c.in-Some.ensures.rows) in
+    let p = err_from_is_err_and c.from_residual-in_err-machine_of-in-Some-3.result c.from_residual-in_err-machine_of-in-Some-3.ensures.1 in
+    rw (p.1, p.2) (wrong_in _ _ _ false _ f (sym c.has_option.ensures ∙ c.if-has_option.false) (sym c.is_serve.ensures ∙ c.if-is_serve.false)
+    c.in_err-machine_of-in-Some-3.ensures.wrong)

@@ -1,41 +1,60 @@
 use Rattle.std.proofs.Common.{◌∙◌, ap, map, inl, inr, refl, subst, sym, arith}
 use Rattle.hugetlbd.specs.Asked.{Asks}
 use Rattle.hugetlbd.specs.Config.{Choice, choice_of, chosen, usual}
-use Rattle.hugetlbd.proofs.Runs.{answered_well, answered_as, ends_below_2, ran_as}
-use Rattle.hugetlbd.proofs.Refused.{not_taken, right_is_1, told_as_asked}
-use Rattle.hugetlbd.proofs.Usual.{few_is_1, few_ask_no_text, few_texts, no_words}
+use Rattle.hugetlbd.proofs.Runs.{answered_well, answered_as, ends_below_2, ran_as, served_not_2}
+use Rattle.hugetlbd.proofs.Refused.{not_taken, right_is_1, serves_is_1, told_as_asked}
+use Rattle.hugetlbd.proofs.Usual.{few_is_1, few_ask_no_text, few_serve_not, few_texts, no_words}
 use Rattle.hugetlbd.proofs.program.program.Goals as goal
 
-pub returns-in-Ok-clause-script : goal.returns-in-Ok-clause-script
-returns-in-Ok-clause-script g c zero =
-    inr (
-      choice_of c.machine-machine.result,
-      subst (λ (k : Choice). Asks (map g.S.AsStr.text c.args.words.now) k) (sym c.machine-machine.ensures) c.in-Ok.ensures.asked,
-      answered_well _ (g.R.Read.remaining c.args.input.now) (g.W.Write.contents c.args.output.now) (g.W.Write.contents c.run_on-ended.new.output)
-          c.run_on-ended.result c.report.result c.report.ensures.status c.run_on-ended.ensures.script zero,
-    )
-
-pub returns-in-Ok-clause-usual : goal.returns-in-Ok-clause-usual
-returns-in-Ok-clause-usual g c few zero =
-    let same = ap chosen c.machine-machine.ensures ∙ no_words (map g.S.AsStr.text c.args.words.now) _ (few_texts _ _ few) c.in-Ok.ensures.asked in
+pub returns-in-Ok-Script-clause-usual : goal.returns-in-Ok-Script-clause-usual
+returns-in-Ok-Script-clause-usual g c few zero =
+    let same = no_words (map g.S.AsStr.text c.args.words.now) (choice_of c.in-Ok-Script.machine) (few_texts _ _ few) (rw c.in-Ok-Script.field-0-is at c.in-Ok-Script.ensures.asked) in
     answered_as _ (chosen usual) (g.R.Read.remaining c.args.input.now) (g.W.Write.contents c.args.output.now) (g.W.Write.contents c.run_on-ended.new.output)
     same (answered_well _ (g.R.Read.remaining c.args.input.now) (g.W.Write.contents c.args.output.now) (g.W.Write.contents c.run_on-ended.new.output)
     c.run_on-ended.result c.report.result c.report.ensures.status c.run_on-ended.ensures.script zero)
 
-pub returns-in-Ok-clause-right : goal.returns-in-Ok-clause-right
-returns-in-Ok-clause-right g c choice asked fits = ends_below_2 c.run_on-ended.result c.report.result c.report.ensures.status
-
-pub returns-in-Ok-clause-alone : goal.returns-in-Ok-clause-alone
-returns-in-Ok-clause-alone g c few =
-    let same = ap chosen c.machine-machine.ensures ∙ no_words (map g.S.AsStr.text c.args.words.now) _ (few_texts _ _ few) c.in-Ok.ensures.asked in
+pub returns-in-Ok-Script-clause-alone : goal.returns-in-Ok-Script-clause-alone
+returns-in-Ok-Script-clause-alone g c few =
+    let same = no_words (map g.S.AsStr.text c.args.words.now) (choice_of c.in-Ok-Script.machine) (few_texts _ _ few) (rw c.in-Ok-Script.field-0-is at c.in-Ok-Script.ensures.asked) in
     inl (c.run_on-ended.result, c.report.ensures.status, ran_as same c.run_on-ended.ensures.run)
 
+pub returns-in-Ok-Script-clause-right : goal.returns-in-Ok-Script-clause-right
+returns-in-Ok-Script-clause-right g c choice asked fits = ends_below_2 c.run_on-ended.result c.report.result c.report.ensures.status
+
+pub returns-in-Ok-Script-clause-serves : goal.returns-in-Ok-Script-clause-serves
+returns-in-Ok-Script-clause-serves g c choice serving asked fits serves = ends_below_2 c.run_on-ended.result c.report.result c.report.ensures.status
+
+pub returns-in-Ok-Script-clause-script : goal.returns-in-Ok-Script-clause-script
+returns-in-Ok-Script-clause-script g c zero =
+    inr (inl (
+      choice_of c.in-Ok-Script.machine,
+      rw c.in-Ok-Script.field-0-is at c.in-Ok-Script.ensures.asked,
+      answered_well _ (g.R.Read.remaining c.args.input.now) (g.W.Write.contents c.args.output.now) (g.W.Write.contents c.run_on-ended.new.output)
+          c.run_on-ended.result c.report.result c.report.ensures.status c.run_on-ended.ensures.script zero,
+    ))
+
+pub returns-in-Ok-Serve-clause-usual : goal.returns-in-Ok-Serve-clause-usual
+returns-in-Ok-Serve-clause-usual g c few zero = absurd (few_serve_not _ _ _ (few_texts g.S.AsStr.text c.args.words.now few) (rw c.in-Ok-Serve.field-0-is at c.in-Ok-Serve.ensures.asked))
+
+pub returns-in-Ok-Serve-clause-alone : goal.returns-in-Ok-Serve-clause-alone
+returns-in-Ok-Serve-clause-alone g c few = absurd (few_serve_not _ _ _ (few_texts g.S.AsStr.text c.args.words.now few) (rw c.in-Ok-Serve.field-0-is at c.in-Ok-Serve.ensures.asked))
+
+pub returns-in-Ok-Serve-clause-right : goal.returns-in-Ok-Serve-clause-right
+returns-in-Ok-Serve-clause-right g c choice asked fits = served_not_2 c.serve.ensures.ended c.serve.result c.serve.ensures.ends
+
+pub returns-in-Ok-Serve-clause-serves : goal.returns-in-Ok-Serve-clause-serves
+returns-in-Ok-Serve-clause-serves g c choice serving asked fits serves = served_not_2 c.serve.ensures.ended c.serve.result c.serve.ensures.ends
+
 pub returns-in-Err-clause-ended : goal.returns-in-Err-clause-ended
-returns-in-Err-clause-ended g c = inr (c.in-Err.wrong, c.in-Err.ensures.refused, refl, c.refuse.ensures)
+returns-in-Err-clause-ended g c = inr (inr (c.in-Err.wrong, c.in-Err.ensures.refused, refl, c.refuse.ensures))
 
 pub returns-in-Err-clause-right : goal.returns-in-Err-clause-right
 returns-in-Err-clause-right g c choice asked fits two =
     omega (arith, two, right_is_1 _ c.in-Err.wrong c.refuse.result choice c.in-Err.ensures.refused c.refuse.ensures.ends asked fits)
+
+pub returns-in-Err-clause-serves : goal.returns-in-Err-clause-serves
+returns-in-Err-clause-serves g c choice serving asked fits serves two =
+    omega (arith, two, serves_is_1 _ c.in-Err.wrong c.refuse.result choice serving c.in-Err.ensures.refused c.refuse.ensures.ends asked fits serves)
 
 pub returns-in-Err-clause-script : goal.returns-in-Err-clause-script
 returns-in-Err-clause-script g c zero =

@@ -1,6 +1,6 @@
 use Rattle.std.proofs.Common.{◌≡◌, ◌∙◌, ℕ, List, ap, rules}
 use Rattle.hp_model.specs.machine.Machine.{start}
-use Rattle.hugetlbd.proofs.Runs.{run_ended, script_answered}
+use Rattle.hugetlbd.proofs.Runs.{ready_pool, run_ended, script_answered}
 use Rattle.hugetlbd.proofs.program.run_machine.Goals as goal
 
 pub returns-clause-run : goal.returns-clause-run
@@ -17,3 +17,6 @@ returns-clause-script g c =
     let same = c.in-Ok.ensures.start ∙ ap (λ (fs : List ℕ). start fs c.args.config.now.page c.args.config.now.slots) frames in
     script_answered c.in-Ok.machine.state c.run_script-ended.new.machine.state _ (g.R.Read.remaining c.args.input.now)
     (g.W.Write.contents c.args.output.now) (g.W.Write.contents c.run_script-ended.new.writer) c.run_script-ended.result same c.run_script-ended.ensures.script
+
+pub close-requires : goal.close-requires
+close-requires g c = record { ready = ready_pool c.run_script-ended.new.machine c.run_script-ended.ensures.ready }

@@ -3,6 +3,7 @@ use Rattle.hp_pool.specs.Sums.{idle_pool}
 use Rattle.hp_locked.specs.Told.{pool_reply}
 use Rattle.hp_locked.specs.Views.{frames_list}
 use Rattle.hp_locked.proofs.Added.{entry_noted}
+use Rattle.hp_locked.proofs.Small.{event_small}
 use Rattle.hp_locked.proofs.pool_core.Core.event.Goals as goal
 
 pub invariant_of-self-2 : goal.invariant_of-self-2
@@ -14,3 +15,8 @@ invariant_of-self-2 g c =
     c.self.invariant c.note_event-receipt.ensures.entries c.note_event-receipt.ensures.left c.note_event-receipt.ensures.extra
     c.answered-told.ensures.event c.answered-told.ensures.ready c.law.ensures.settled
     (let is = c.has_room.ensures.room in let yes = c.if-not-has_room.false in cc)
+
+pub returns-clause-limits : goal.returns-clause-limits
+returns-clause-limits g c =
+    event_small c.self.inside.pool c.answered-told.new.pool c.args.event (pool_reply c.answered-told.result) c.answered-told.ensures.event
+    (c.law.ensures.settled c.answered-told.ensures.ready.settled) c.answered-told.ensures.ready.nodes

@@ -16,6 +16,13 @@ invariant_of-self-then-is_full g c =
     (g.T.Trail.extra s.trail) s.mount (event_of c.args.home c.args.event) (told_reply c.act-told.result)
     (g.D.SessionDoor.asked c.act-told.new.door) c.act-told.new.mount (c.act-told.ensures.done s.number) (sym c.is_full.ensures ∙ c.if-is_full.true) c.self.invariant
 
+pub returns-then-is_full-clause-keeps : goal.returns-then-is_full-clause-keeps
+returns-then-is_full-clause-keeps g c =
+    let s = c.self.inside in
+    λ full. inr (was_full (g.D.PoolDoor.is_full c.act-told.new.door) g.N.Naming.page_bytes s.number (g.T.Trail.entries s.trail) (g.T.Trail.left s.trail)
+    (g.T.Trail.extra s.trail) s.mount (event_of c.args.home c.args.event) (told_reply c.act-told.result)
+    (g.D.SessionDoor.asked c.act-told.new.door) c.act-told.new.mount (c.act-told.ensures.done s.number) full)
+
 pub returns-then-is_full-clause-done : goal.returns-then-is_full-clause-done
 returns-then-is_full-clause-done g c =
     let s = c.self.inside in
@@ -76,7 +83,3 @@ returns-clause-done g c =
     (g.D.SessionDoor.asked c.act-told.new.door) c.act-told.new.mount (c.act-told.ensures.done s.number) (sym c.is_full.ensures ∙ c.if-is_full.false)
     (g.T.Trail.entries c.note-receipt.new.trail) (g.T.Trail.left c.note-receipt.new.trail) (g.T.Trail.extra c.note-receipt.new.trail)
     c.note-receipt.result (entries g a) (c.note-receipt.ensures.receipt (event_of c.args.home c.args.event) (both g a)))
-
-pub returns-then-is_full-clause-keeps : goal.returns-then-is_full-clause-keeps
-returns-then-is_full-clause-keeps g c = λ is. inr (was_full (g.D.PoolDoor.is_full c.act-told.new.door) g.N.Naming.page_bytes c.self.inside.number c.self.inside.mount (event_of c.args.home c.args.event)
-    (told_reply c.act-told.result) (g.D.SessionDoor.asked c.act-told.new.door) c.act-told.new.mount (c.act-told.ensures.done c.self.inside.number) is)

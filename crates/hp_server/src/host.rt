@@ -1,0 +1,39 @@
+//! What sessions are opened on.
+ghost use Rattle.std.specs.Prelude.{◌≡◌, []};
+
+use hp_locked::Gate;
+use hp_model::entry::Receipt;
+use hp_model::naming::Naming;
+use hp_serving::Host;
+use hp_sessions::{Session, Shared};
+use std::alloc::{AllocError, Global};
+use std::sync::Wait;
+
+/// A machine that threads share, with what a session on it waits by and the room for its receipts.
+#[derive(Drop)]
+pub struct Waiting<'a, N: Naming, R: Wait, G: Gate, const K: usize> {
+    pub rt: &'a R,
+    pub shared: &'a Shared<N, K>,
+    pub gate: &'a G,
+    pub room: usize,
+}
+
+// Behind a reference, so that it is known that the machine lives as long as the session.
+impl<'a, N: Naming, R: Wait, G: Gate, const K: usize> Host for &'a Waiting<'a, N, R, G, K> {
+    type Session = Session<'a, N, R, G, K>;
+
+    /// The receipts, in order.
+    type Told = Vec<Receipt>;
+
+    ghost is_opened = { λ session. session.receipts ≡ [] };
+
+    ghost was_told = { λ session told. told.items ≡ session.receipts };
+
+    fn open(&self, alloc: Global) -> Result<Session<'a, N, R, G, K>, AllocError> {
+        Session::open(alloc, self.rt, self.shared, self.gate, self.room)
+    }
+
+    fn finish(session: Session<'a, N, R, G, K>) -> Vec<Receipt> {
+        session.finish()
+    }
+}

@@ -1,0 +1,273 @@
+-- A step's script, carried out event by event.
+use Rattle.std.proofs.Common.{if◌then◌else◌, ◌≡◌, ℕ, ◌+◌, ◌<◌, ◌≤◌, Bool, true, false, List, [], ◌∷◌, ◌++◌, Option, None, Some, Ok, Err, inl, inr, length, map, refl, sym, ap, subst, ◌∙◌, arith}
+use Rattle.std.specs.Bool.{MatchBool}
+use Rattle.std.specs.List.{All}
+use Rattle.std.proofs.lemmas.List.{append-nil, append_assoc, length-append, map-append}
+use Rattle.std.proofs.lemmas.Bool.{le-ltb, lt-ltb}
+use Rattle.std.proofs.lemmas.List.Elements.{All-cons, All-nil}
+use Rattle.hp_model.specs.declared.answer.Answer.TheVariants.{Done, Home}
+use Rattle.hp_model.specs.declared.entry.Receipt.{Receipt}
+use Rattle.hp_model.specs.declared.event.Event.{Event}
+use Rattle.hp_model.specs.declared.event.Event.TheVariants.{Tasks as OnTasks, Slot as OnSlot}
+use Rattle.hp_model.specs.declared.event.SlotEvent.{SlotEvent}
+use Rattle.hp_model.specs.declared.event.TableEvent.TheVariants.{Find}
+use Rattle.hp_model.specs.declared.refusal.Refusal.{Refusal}
+use Rattle.hp_model.specs.declared.refusal.Refusal.TheVariants.{NoSuchSlot, TraceFull}
+use Rattle.hp_model.specs.declared.step.Step.{Step}
+use Rattle.hp_model.specs.machine.Plan.{Reply}
+use Rattle.hp_model.specs.machine.Step.{Answer_with, Do, Script, Where_mapped, finding, home_in, on_slot, only, script}
+use Rattle.hp_model.specs.machine.Table.{Table, home_of, when_known}
+use Rattle.hp_model.specs.threads.JointRun.{option_cons}
+use Rattle.hp_model.specs.threads.Telling.{Tells, TellsFront, TellsStep, has_place, most_receipts, told_of}
+use Rattle.hp_shared.specs.Slots.{is_trace_full}
+use Rattle.hp_sessions.specs.Calls.{AreAdded, AreAnswers, CanAnswer, Carries, Grows, HasRoom, HasRoomFor, IsAnswered, IsHanded, IsMade, IsRefusedFirst, IsTold, IsToldOf, Leads, SessionView, TellsOrStops, noted}
+
+-- ---- cases of a test
+
+pub full_in : (b : Bool) (A B : Type 0) → b ≡ true → MatchBool b A B → A
+full_in true A B e t = t
+full_in false A B e t = cc
+
+pub done_in : (b : Bool) (A B : Type 0) → b ≡ false → MatchBool b A B → B
+done_in true A B e t = cc
+done_in false A B e t = t
+
+full_put : (b : Bool) (A B : Type 0) → b ≡ true → A → MatchBool b A B
+full_put true A B e t = t
+full_put false A B e t = cc
+
+done_put : (b : Bool) (A B : Type 0) → b ≡ false → B → MatchBool b A B
+done_put true A B e t = cc
+done_put false A B e t = t
+
+map_match : (b : Bool) (A B C D : Type 0) → (A → C) → (B → D) → MatchBool b A B → MatchBool b C D
+map_match true A B C D f g t = f t
+map_match false A B C D f g t = g t
+
+pub is_full : (r : Reply) → is_trace_full r ≡ true → r ≡ Err TraceFull
+is_full (Ok a) e = cc
+is_full (Err TraceFull) e = refl
+is_full (Err other) e = cc
+
+-- ---- receipts
+
+noted_none : (s : SessionView) → s ≡ noted s []
+noted_none s = ap (λ (rs : List Receipt). record { slots = s.slots; receipts = rs; room = s.room }) (sym (append-nil s.receipts))
+
+noted_then : (s : SessionView) (a b : List Receipt) → noted (noted s a) b ≡ noted s (a ++ b)
+noted_then s a b = ap (λ (rs : List Receipt). record { slots = s.slots; receipts = rs; room = s.room }) (append_assoc s.receipts a b)
+
+added_none : (kept : Bool) (s : SessionView) → AreAdded kept s [] s
+added_none true s = ([], noted_none s, refl)
+added_none false s = refl
+
+added_then : (kept : Bool) (s t u : SessionView) (xs ys : List (Event × Reply)) → AreAdded kept s xs t → AreAdded kept t ys u → AreAdded kept s (xs ++ ys) u
+added_then true s t u xs ys a b = (
+  a.0 ++ b.0,
+  b.1 ∙ ap (λ (v : SessionView). noted v b.0) a.1 ∙ noted_then s a.0 b.0,
+  map-append told_of a.0 b.0 ∙ ap (λ zs. zs ++ map told_of b.0) a.2 ∙ ap (λ zs. xs ++ zs) b.2,
+)
+added_then false s t u xs ys a b = b ∙ a
+
+abbrev Can : ℕ → Event × Reply → Type 0
+Can size x = CanAnswer size x.0 x.1
+
+module _ (kept : Bool) (size : ℕ) where
+  tells_done : (c : Script) (xs : List (Event × Reply)) (reply : Reply) → is_trace_full reply ≡ false → Tells c xs reply → TellsOrStops kept c xs reply
+  tells_done c xs reply is h = done_put (is_trace_full reply) ((kept ≡ true) × TellsFront c xs) (Tells c xs reply) is h
+
+  tells_full : (c : Script) (xs : List (Event × Reply)) (reply : Reply) → is_trace_full reply ≡ true → kept ≡ true → TellsFront c xs → TellsOrStops kept c xs reply
+  tells_full c xs reply is k h = full_put (is_trace_full reply) ((kept ≡ true) × TellsFront c xs) (Tells c xs reply) is (k, h)
+
+  tells_by : (c d : Script) (xs ys : List (Event × Reply)) (reply : Reply) → (TellsFront c xs → TellsFront d ys) → (Tells c xs reply → Tells d ys reply) →
+      TellsOrStops kept c xs reply → TellsOrStops kept d ys reply
+  tells_by c d xs ys reply f g h =
+      map_match (is_trace_full reply) ((kept ≡ true) × TellsFront c xs) (Tells c xs reply) ((kept ≡ true) × TellsFront d ys) (Tells d ys reply) (λ t. (t.0, f t.1)) g h
+
+  -- nothing more comes
+  pub ends : (s : SessionView) (r : Reply) → is_trace_full r ≡ false → Carries kept size s (Answer_with r) r s
+  ends s r is = record {
+    events = [];
+    added = added_none kept s;
+    answers = All-nil (Can size);
+    tells = tells_done (Answer_with r) [] r is refl;
+  }
+
+  module _ (s t : SessionView) (e : Event) (r : Reply) (made : IsMade kept size s e r t) where
+    abbrev FullOnes : Type 0
+    FullOnes = (kept ≡ true) × (has_place e ≡ false) × (t ≡ s)
+
+    abbrev MadeOnes : Type 0
+    MadeOnes = CanAnswer size e r × AreAdded kept s ((e, r) ∷ []) t
+
+    -- an event with its reply, and what follows
+    pub goes_on : (next : Reply → Script) (reply : Reply) (u : SessionView) → is_trace_full r ≡ false → Carries kept size t (next r) reply u → Carries kept size s (Do e next) reply u
+    goes_on next reply u is rest =
+        let done = done_in (is_trace_full r) FullOnes MadeOnes is made in
+        record {
+          events = (e, r) ∷ rest.events;
+          added = added_then kept s t u ((e, r) ∷ []) rest.events done.1 rest.added;
+          answers = All-cons (Can size) (e, r) rest.events done.0 rest.answers;
+          tells = tells_by (next r) (Do e next) rest.events ((e, r) ∷ rest.events) reply (λ h. (refl, h)) (λ h. (refl, h)) rest.tells;
+        }
+
+    -- an event for which there was no place
+    pub stops : (next : Reply → Script) → is_trace_full r ≡ true → Carries kept size s (Do e next) r t
+    stops next is =
+        let full = full_in (is_trace_full r) FullOnes MadeOnes is made in
+        record {
+          events = [];
+          added = subst (λ (v : SessionView). AreAdded kept s [] v) (sym full.2) (added_none kept s);
+          answers = All-nil (Can size);
+          tells = tells_full (Do e next) [] r is full.0 full.1;
+        }
+
+    -- an event whose reply is the step's
+    pub only_made : Carries kept size s (only e) r t
+    only_made = by (is_trace_full r) refl
+      where
+        by : (b : Bool) → is_trace_full r ≡ b → Carries kept size s (only e) r t
+        by true is = stops (λ x. Answer_with x) is
+        by false is = goes_on (λ x. Answer_with x) r t is (ends t r is)
+
+  -- an event that is refused ends the step
+  pub refused_made : (s t : SessionView) (e : Event) (x : Refusal) (next : Reply → Script) → next (Err x) ≡ Answer_with (Err x) → IsMade kept size s e (Err x) t →
+      Carries kept size s (Do e next) (Err x) t
+  refused_made s t e x next is made = by (is_trace_full (Err x)) refl
+    where
+      by : (b : Bool) → is_trace_full (Err x) ≡ b → Carries kept size s (Do e next) (Err x) t
+      by true full = stops s t e (Err x) made next full
+      by false clear = goes_on s t e (Err x) made next (Err x) t clear (subst (λ c. Carries kept size t c (Err x) t) (sym is) (ends t (Err x) clear))
+
+  -- ---- an event on a slot
+
+  abbrev Tested : SessionView → ℕ → SlotEvent → Bool → Script
+  Tested s k e b = if b then only (OnSlot k e) else Answer_with (Err NoSuchSlot)
+
+  pub on_slot_made : (s t : SessionView) (k : ℕ) (e : SlotEvent) (r : Reply) → k < s.slots → IsMade kept size s (OnSlot k e) r t → Carries kept size s (on_slot s.slots k e) r t
+  on_slot_made s t k e r within made =
+      subst (λ b. Carries kept size s (Tested s k e b) r t) (sym (lt-ltb k s.slots within)) (only_made s t (OnSlot k e) r made)
+
+  pub no_slot : (s : SessionView) (k : ℕ) (e : SlotEvent) → s.slots ≤ k → Carries kept size s (on_slot s.slots k e) (Err NoSuchSlot) s
+  no_slot s k e over = subst (λ b. Carries kept size s (Tested s k e b) (Err NoSuchSlot) s) (sym (le-ltb k s.slots over)) (ends s (Err NoSuchSlot) refl)
+
+  -- ---- a task that is looked up
+
+  pub found : (s t : SessionView) (task home : ℕ) → IsMade kept size s (OnTasks (Find task)) (Ok (Home home)) t → (f : ℕ → Script) → Leads kept size s (finding task f) t (f home)
+  found s t task home made f reply u rest = goes_on s t (OnTasks (Find task)) (Ok (Home home)) made (λ r. home_in r f) reply u refl rest
+
+  pub not_found : (s t : SessionView) (task : ℕ) (x : Refusal) → IsMade kept size s (OnTasks (Find task)) (Err x) t → (f : ℕ → Script) → Carries kept size s (finding task f) (Err x) t
+  not_found s t task x made f = refused_made s t (OnTasks (Find task)) x (λ r. home_in r f) refl made
+
+  -- a task that is looked up is answered its home, if anything
+  pub never_done : (s t : SessionView) (task : ℕ) → IsMade kept size s (OnTasks (Find task)) (Ok Done) t → ⊥
+  never_done s t task made =
+      let can = made.0 in by (home_of can.1 task) refl (ap (λ (x : Reply × Table). x.0) can.3)
+    where
+      by : (o : Option ℕ) → home_of made.0.1 task ≡ o → (when_known made.0.1 o (λ home. (Ok (Home home), made.0.1))).0 ≡ Ok Done → ⊥
+      by None is e = cc
+      by (Some home) is e = cc
+
+  -- ---- a choice by whether a task has a map on a slot goes either way
+  pub where_mapped : (s t : SessionView) (k task : ℕ) (mapped other : Script) (reply : Reply) → Carries kept size s mapped reply t → Carries kept size s (Where_mapped k task mapped other) reply t
+  where_mapped s t k task mapped other reply c = record {
+    events = c.events;
+    added = c.added;
+    answers = c.answers;
+    tells = tells_by mapped (Where_mapped k task mapped other) c.events c.events reply (λ h. inl h) (λ h. inl h) c.tells;
+  }
+
+  pub where_other : (s t : SessionView) (k task : ℕ) (mapped other : Script) (reply : Reply) → Carries kept size s other reply t → Carries kept size s (Where_mapped k task mapped other) reply t
+  where_other s t k task mapped other reply c = record {
+    events = c.events;
+    added = c.added;
+    answers = c.answers;
+    tells = tells_by other (Where_mapped k task mapped other) c.events c.events reply (λ h. inr h) (λ h. inr h) c.tells;
+  }
+
+-- ---- a whole step
+
+tells_step : (slots : ℕ) (step : Step) (xs : List (Event × Reply)) (reply : Reply) (kept : Bool)
+    → TellsOrStops kept (script slots step) xs reply → TellsStep slots step xs reply
+tells_step slots step xs (Ok a) kept h = h
+tells_step slots step xs (Err TraceFull) kept h = h.1
+tells_step slots step xs (Err other) kept h = h
+
+never_full : (b : Bool) (A B : Type 0) → MatchBool b ((false ≡ true) × A) B → (b ≡ false) × B
+never_full true A B h = cc
+never_full false A B h = (refl, h)
+
+-- carried out, the step is answered
+pub answered : (kept : Bool) (size : ℕ) (s t : SessionView) (step : Step) (reply : Reply) → (kept ≡ true → HasRoomFor s step) →
+    Carries kept size s (script s.slots step) reply t → IsAnswered kept size s step reply t
+answered true size s t step reply room c =
+    inl (
+      room refl,
+      record {
+        added = c.added.0;
+        noted = c.added.1;
+        answers = subst (λ xs. AreAnswers size xs) (sym c.added.2) c.answers;
+        tells = subst (λ xs. TellsStep s.slots step xs reply) (sym c.added.2) (tells_step s.slots step c.events reply true c.tells);
+      },
+    )
+answered false size s t step reply room c =
+    let told = never_full (is_trace_full reply) (TellsFront (script s.slots step) c.events) (Tells (script s.slots step) c.events reply) c.tells in (c.added, told.0, (c.events, c.answers, told.1))
+
+pub refused_first : (size : ℕ) (s : SessionView) (step : Step) (reply : Reply) → IsRefusedFirst s step reply → IsAnswered true size s step reply s
+refused_first size s step reply h = inr (refl, h)
+
+-- ---- a receipt
+
+-- what a part handed back, with its receipt added
+pub made_of : (kept : Bool) (size : ℕ) (s : SessionView) (e : Event) (reply : Reply) (receipt : Option Receipt) (added : List Receipt) → IsHanded kept size e reply receipt →
+    (receipt ≡ None → added ≡ []) → ((r : Receipt) → receipt ≡ Some r → added ≡ r ∷ []) → IsMade kept size s e reply (noted s added)
+made_of kept size s e reply receipt added handed none some =
+    map_match (is_trace_full reply) ((kept ≡ true) × (has_place e ≡ false) × (receipt ≡ None)) (CanAnswer size e reply × IsToldOf kept e reply receipt)
+    ((kept ≡ true) × (has_place e ≡ false) × (noted s added ≡ s)) (CanAnswer size e reply × AreAdded kept s ((e, reply) ∷ []) (noted s added))
+    (λ h. (h.0, h.1, ap (noted s) (none h.2) ∙ sym (noted_none s)))
+    (λ h. (h.0, by kept receipt refl h.1)) handed
+  where
+    by : (k : Bool) (o : Option Receipt) → receipt ≡ o → IsToldOf k e reply o → AreAdded k s ((e, reply) ∷ []) (noted s added)
+    by true None is h = absurd h
+    by true (Some r) is h = (added, refl, ap (map told_of) (some r is) ∙ ap (λ x. x ∷ []) h)
+    by false o is h = ap (noted s) (none (is ∙ h)) ∙ sym (noted_none s)
+
+pub made_added : (kept : Bool) (size : ℕ) (s t : SessionView) (e : Event) (reply : Reply) (receipt : Option Receipt) → IsHanded kept size e reply receipt →
+    t ≡ noted s (option_cons receipt []) → IsMade kept size s e reply t
+made_added kept size s t e reply receipt handed is =
+    subst (λ (v : SessionView). IsMade kept size s e reply v) (sym is)
+    (made_of kept size s e reply receipt (option_cons receipt []) handed (λ none. ap (λ o. option_cons o []) none) (λ r some. ap (λ o. option_cons o []) some))
+
+-- one receipt, or none
+pub grows_one : (s t : SessionView) (receipt : Option Receipt) → t ≡ noted s (option_cons receipt []) → Grows 1 s t
+grows_one s t receipt is = record {
+  slots = ap (λ (v : SessionView). v.slots) is;
+  room = ap (λ (v : SessionView). v.room) is;
+  few = (let same = ap (λ (v : SessionView). length v.receipts) is in let one = at_most receipt in let all = length-append s.receipts (option_cons receipt []) in omega (arith, same, one, all));
+}
+  where
+    at_most : (o : Option Receipt) → length (option_cons o []) ≤ 1
+    at_most None = omega arith
+    at_most (Some r) = omega arith
+
+pub nothing_added : (s t : SessionView) (receipt : Option Receipt) → receipt ≡ None → t ≡ noted s (option_cons receipt []) → t ≡ s
+nothing_added s t receipt none is = is ∙ ap (λ o. noted s (option_cons o [])) none ∙ sym (noted_none s)
+
+-- ---- how many receipts came
+
+pub grows_none : (s : SessionView) → Grows 0 s s
+grows_none s = record { slots = refl; room = refl; few = omega arith }
+
+pub grows_then : (a b : ℕ) (s t u : SessionView) → Grows a s t → Grows b t u → Grows (a + b) s u
+grows_then a b s t u g h = record {
+  slots = h.slots ∙ g.slots;
+  room = h.room ∙ g.room;
+  few = (let one = g.few in let two = h.few in omega (arith, one, two));
+}
+
+pub room_after : (kept : Bool) (n m k : ℕ) (s t : SessionView) → HasRoom kept n s → Grows m s t → m + k ≤ n → HasRoom kept k t
+room_after kept n m k s t has g less k' =
+    let all = has k' in let few = g.few in let room = g.room in omega (arith, all, few, room, less)
+
+pub grows_more : (n : ℕ) (s t : SessionView) → Grows n s t → Grows (n + 1) s t
+grows_more n s t g = record { slots = g.slots; room = g.room; few = (let one = g.few in omega (arith, one)) }

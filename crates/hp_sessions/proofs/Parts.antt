@@ -1,0 +1,281 @@
+-- What the parts of the machine hand back.
+use Rattle.std.proofs.Common.{◌≡◌, ◌⊎◌, inl, inr, ℕ, Bool, true, false, cond, List, [], ◌∷◌, Option, None, Some, Ok, Err, refl, sym, ap, subst, ◌∙◌, if◌then◌else◌, length, nat_le}
+use Rattle.std.specs.Bool.{MatchBool}
+use Rattle.std.specs.Prelude.{IfOk, Result, is_some}
+use Rattle.hp_model.specs.declared.answer.Answer.{Answer}
+use Rattle.hp_model.specs.declared.answer.Answer.TheVariants.{Done, Home}
+use Rattle.hp_model.specs.declared.entry.Asked.{Asked}
+use Rattle.hp_model.specs.declared.entry.Part.{Part}
+use Rattle.hp_model.specs.declared.entry.Receipt.{Receipt}
+use Rattle.hp_model.specs.declared.entry.SlotEntry.{SlotEntry}
+use Rattle.hp_model.specs.declared.event.Event.{Event}
+use Rattle.hp_model.specs.declared.event.Event.TheVariants.{Slot as OnSlot}
+use Rattle.hp_model.specs.declared.event.SlotEvent.{SlotEvent}
+use Rattle.hp_model.specs.declared.event.SlotEvent.TheVariants as slot
+use Rattle.hp_model.specs.declared.event.TableEvent.{TableEvent}
+use Rattle.hp_model.specs.declared.event.TableEvent.TheVariants as table
+use Rattle.hp_model.specs.declared.refusal.Refusal.{Refusal}
+use Rattle.hp_model.specs.declared.refusal.Refusal.TheVariants.{NoSuchMap, NoSuchNode, NoSuchSlot, SlotTaken, TaskExists, TooMany, TraceFull}
+use Rattle.hp_model.specs.files.File.{Mount}
+use Rattle.hp_model.specs.files.Mapping.{is_map}
+use Rattle.hp_model.specs.files.Spot.{Spot, again, spot, written}
+use Rattle.hp_model.specs.files.Value.{value}
+use Rattle.hp_model.specs.declared.step.Intent.TheVariants.{Read, Write}
+use Rattle.hp_model.specs.machine.Machine.{open_mount}
+use Rattle.hp_model.specs.machine.Plan.{Answered, Choice, Outcome, Refused, Reply, Slot, continued}
+use Rattle.hp_model.specs.machine.SlotEvent.{byte_access, bytes_answer, load, slot_event, store}
+use Rattle.hp_model.specs.machine.Table.{Table, added, home_of, is_crowded, is_known, or_refused, removed, table_event, when_known}
+use Rattle.hp_model.specs.declared.told.Told.{Told}
+use Rattle.hp_model.specs.machine.Told.{told_answer, told_reply}
+use Rattle.hp_model.specs.threads.LocalRun.{Gives}
+use Rattle.hp_laws.specs.Answers.{lists_names}
+use Rattle.hp_model.specs.threads.Telling.{has_place}
+use Rattle.hp_laws.specs.Balance.{Always}
+use Rattle.hp_laws.proofs.Accessed.{bytes_on}
+use Rattle.hp_laws.proofs.MountMoves.{IsSpot, spot_is}
+use Rattle.hp_laws.proofs.Outcomes.{always_then}
+use Rattle.hp_laws.proofs.Shown.{On}
+use Rattle.hp_laws.proofs.SlotShows.{always_value}
+use Rattle.hp_locked.specs.declared.pool_told.PoolTold.{PoolTold}
+use Rattle.hp_locked.specs.declared.pool_told.PoolTold.TheVariants as pool
+use Rattle.hp_locked.specs.Told.{IsReceipt, pool_reply}
+use Rattle.hp_mount.specs.declared.event.MountEvent.{MountEvent}
+use Rattle.hp_mount.specs.declared.event.MountEvent.TheVariants as m
+use Rattle.hp_mount.specs.Event.{event_of}
+use Rattle.hp_mount.proofs.Ways.{fresh_choice, is_fresh}
+use Rattle.hp_shared.specs.Slots.{AreNoted, IsSlotEvent, IsSlotEventDone, SlotView, Went, is_trace_full}
+use Rattle.hp_shared.proofs.Acting.{always_came, none_acted}
+use Rattle.hp_sessions.specs.Calls.{CanAnswer, IsHanded, IsToldOf}
+use Rattle.hp_sessions.specs.Works.{AreEvents, HasAnswerOf, IsBytes}
+
+map_match : (b : Bool) (A B C D : Type 0) → (b ≡ true → A → C) → (b ≡ false → B → D) → MatchBool b A B → MatchBool b C D
+map_match true A B C D f g t = f refl t
+map_match false A B C D f g t = g refl t
+
+done_put : (b : Bool) (A B : Type 0) → b ≡ false → B → MatchBool b A B
+done_put true A B e t = cc
+done_put false A B e t = t
+
+-- ---- receipts
+
+told_by : {E : Type 0} (kept : Bool) (entries : Option (List E)) (part : Part) (e : Event) (reply : Reply) (receipt : Option Receipt) → IsReceipt entries part e reply receipt →
+    is_some receipt ≡ kept → IsToldOf kept e reply receipt
+told_by true entries part e reply None h is = cc
+told_by true entries part e reply (Some r) h is = ap (λ x. (x, r.reply)) h.3 ∙ ap (λ x. (e, x)) h.4
+told_by false entries part e reply None h is = refl
+told_by false entries part e reply (Some r) h is = cc
+
+-- what a part answers to an event that was made
+pub handed_by : {E : Type 0} (kept : Bool) (size : ℕ) (entries : Option (List E)) (part : Part) (e : Event) (reply : Reply) (receipt : Option Receipt) → is_trace_full reply ≡ false →
+    CanAnswer size e reply → IsReceipt entries part e reply receipt → is_some receipt ≡ kept → IsHanded kept size e reply receipt
+handed_by kept size entries part e reply receipt clear can told given =
+    done_put (is_trace_full reply) _ _ clear (can, told_by kept entries part e reply receipt told given)
+
+-- ---- the task table
+
+table_open : (n : ℕ) (t : Table) (e : TableEvent) → is_trace_full (table_event n t e).0 ≡ false
+table_open n t (table.Add task home) = three (nat_le n home) (is_known t task) (is_crowded t)
+  where
+    three : (a b c : Bool) → is_trace_full (or_refused ((a, NoSuchNode) ∷ (b, TaskExists) ∷ (c, TooMany) ∷ []) t (Ok Done, added t task home)).0 ≡ false
+    three true b c = refl
+    three false true c = refl
+    three false false true = refl
+    three false false false = refl
+table_open n t (table.Find task) = by (home_of t task)
+  where
+    by : (o : Option ℕ) → is_trace_full (when_known t o (λ home. (Ok (Home home), t))).0 ≡ false
+    by None = refl
+    by (Some home) = refl
+table_open n t (table.FindAndAdd parent child) = by (home_of t parent)
+  where
+    two : (b c : Bool) (home : ℕ) → is_trace_full (or_refused ((b, TaskExists) ∷ (c, TooMany) ∷ []) t (Ok Done, added t child home)).0 ≡ false
+    two true c home = refl
+    two false true home = refl
+    two false false home = refl
+
+    by : (o : Option ℕ) → is_trace_full (when_known t o (λ home. or_refused ((is_known t child, TaskExists) ∷ (is_crowded t, TooMany) ∷ []) t (Ok Done, added t child home))).0 ≡ false
+    by None = refl
+    by (Some home) = two (is_known t child) (is_crowded t) home
+table_open n t (table.Remove task) = by (home_of t task)
+  where
+    by : (o : Option ℕ) → is_trace_full (when_known t o (λ home. (Ok Done, removed t task))).0 ≡ false
+    by None = refl
+    by (Some home) = refl
+
+-- what the table answers is never TraceFull
+pub told_open : (n : ℕ) (t u : Table) (e : TableEvent) (reply : Reply) → table_event n t e ≡ (reply, u) → is_trace_full reply ≡ false
+told_open n t u e reply is = ap (λ (x : Reply × Table). is_trace_full x.0) (sym is) ∙ table_open n t e
+
+-- ---- the pool
+
+pub pool_open : (x : PoolTold) → is_trace_full (pool_reply x) ≡ false
+pool_open pool.Done = refl
+pool_open pool.TooMuch = refl
+pool_open (pool.Number n) = refl
+pool_open (pool.Numbers counts) = refl
+pool_open (pool.PerNode nodes rows) = refl
+
+-- ---- a slot
+
+pub mount_has_place : (k home : ℕ) (e : MountEvent) → has_place (OnSlot k (event_of home e)) ≡ false
+mount_has_place k home (m.Create name) = refl
+mount_has_place k home (m.Unlink name) = refl
+mount_has_place k home (m.Truncate name pages) = refl
+mount_has_place k home (m.Punch name start end) = refl
+mount_has_place k home (m.Stat name) = refl
+mount_has_place k home (m.Read name index offset count) = refl
+mount_has_place k home (m.Map task name start pages sharing reserving) = refl
+mount_has_place k home (m.Anon task pages sharing reserving) = refl
+mount_has_place k home (m.Unmap task map start end) = refl
+mount_has_place k home (m.Fault task map index intent) = refl
+mount_has_place k home (m.Load task map index offset count) = refl
+mount_has_place k home (m.Store task map index offset bytes) = refl
+mount_has_place k home m.Ls = refl
+mount_has_place k home m.Usage = refl
+
+-- an event of a slot, by what its lock's holder was told
+pub slot_handed : (kept : Bool) (full : Type 0) (size k : ℕ) (old new : SlotView) (e : SlotEvent) (reply : Reply) (asked : Option Asked) (receipt : Option Receipt) → old.number ≡ k →
+    has_place (OnSlot k e) ≡ false → IsSlotEvent full size old new e reply asked receipt → (is_trace_full reply ≡ true → kept ≡ true)
+    → (is_trace_full reply ≡ false → is_some receipt ≡ kept) → IsHanded kept size (OnSlot k e) reply receipt
+slot_handed kept full size k old new e reply asked receipt at place event keeps given =
+    map_match (is_trace_full reply) _ _ _ _
+    (λ is h. (keeps is, place, h.1))
+    (λ is h. done_handed size k old new e reply asked receipt kept at h (given is)) event
+  where
+    done_handed : (size k : ℕ) (old new : SlotView) (e : SlotEvent) (reply : Reply) (asked : Option Asked) (receipt : Option Receipt) (kept : Bool) → old.number ≡ k →
+        IsSlotEventDone size old new e reply asked receipt → is_some receipt ≡ kept → CanAnswer size (OnSlot k e) reply × IsToldOf kept (OnSlot k e) reply receipt
+    done_handed size k old new e reply asked receipt kept at h is = (
+      (old.mount, asked, new.mount, subst (λ n. Went size n old.mount e reply asked new.mount) at h.changes),
+      subst (λ n. IsToldOf kept (OnSlot n e) reply receipt) at (told_by kept old.entries _ (OnSlot old.number e) reply receipt h.told is),
+    )
+
+-- the exit of a task's maps always has a place
+pub exit_handed : (kept : Bool) (size k task : ℕ) (old new : SlotView) (asked : Option Asked) (receipt : Option Receipt) → old.number ≡ k →
+    IsSlotEventDone size old new (slot.ExitMaps task) (Ok Done) asked receipt → is_some receipt ≡ kept → IsHanded kept size (OnSlot k (slot.ExitMaps task)) (Ok Done) receipt
+exit_handed kept size k task old new asked receipt at h is = (
+  (old.mount, asked, new.mount, subst (λ n. Went size n old.mount (slot.ExitMaps task) (Ok Done) asked new.mount) at h.changes),
+  subst (λ n. IsToldOf kept (OnSlot n (slot.ExitMaps task)) (Ok Done) receipt) at (told_by kept old.entries _ (OnSlot old.number (slot.ExitMaps task)) (Ok Done) receipt h.told is),
+)
+
+-- no event was made
+absent_handed : (kept : Bool) (size k : ℕ) (e : SlotEvent) (x : Refusal) → is_trace_full (Err x) ≡ false → has_place (OnSlot k e) ≡ false →
+    CanAnswer size (OnSlot k e) (Err x) → IsHanded kept size (OnSlot k e) (Err (if kept then TraceFull else x)) None
+absent_handed true size k e x clear place can = (refl, place, refl)
+absent_handed false size k e x clear place can = done_put (is_trace_full (Err x)) _ _ clear (can, refl)
+
+pub mount_absent : (kept : Bool) (size k home : ℕ) (e : MountEvent) (r : Refusal) → r ≡ (if kept then TraceFull else NoSuchSlot) → IsHanded kept size (OnSlot k (event_of home e)) (Err r) None
+mount_absent kept size k home e r is =
+    subst (λ x. IsHanded kept size (OnSlot k (event_of home e)) (Err x) None) (sym is)
+    (absent_handed kept size k (event_of home e) NoSuchSlot refl (mount_has_place k home e) (None, None, None, none_acted ⊥ size k home e None refl))
+
+pub names_absent : (kept : Bool) (size k : ℕ) (r : Refusal) → r ≡ (if kept then TraceFull else NoSuchSlot) → IsHanded kept size (OnSlot k slot.Ls) (Err r) None
+names_absent kept size k r is = mount_absent kept size k 0 m.Ls r is
+
+pub umount_absent : (kept : Bool) (size k : ℕ) (r : Refusal) → r ≡ (if kept then TraceFull else NoSuchSlot) → IsHanded kept size (OnSlot k slot.Umount) (Err r) None
+umount_absent kept size k r is =
+    subst (λ x. IsHanded kept size (OnSlot k slot.Umount) (Err x) None) (sym is)
+    (absent_handed kept size k slot.Umount NoSuchSlot refl refl (None, None, None, (fresh_choice false None, is_fresh false None, (refl, refl))))
+
+-- a mount is refused where a slot is mounted
+pub mounting_absent : (kept : Bool) (size k : ℕ) (options : List ℕ) (r : Refusal) → r ≡ (if kept then TraceFull else SlotTaken) →
+    IsHanded kept size (OnSlot k (slot.Mount options)) (Err r) None
+mounting_absent kept size k options r is =
+    subst (λ x. IsHanded kept size (OnSlot k (slot.Mount options)) (Err x) None) (sym is)
+    (absent_handed kept size k (slot.Mount options) SlotTaken refl refl (Some open_mount, None, Some open_mount, (fresh_choice false (Some open_mount), is_fresh false (Some open_mount), (refl, refl))))
+
+-- ---- what a load and a store are answered
+
+-- no mount goes by an access
+abbrev Any : Mount → Type 0
+Any n = Unit {0}
+
+module _ (size k : ℕ) (c : Choice) (task home number i offset : ℕ) where
+  abbrev IsLoaded : Outcome → Type 0
+  IsLoaded (Refused r) = Unit {0}
+  IsLoaded (Answered a s) = IsBytes a
+
+  abbrev IsStored : Outcome → Type 0
+  IsStored (Refused r) = Unit {0}
+  IsStored (Answered a s) = a ≡ Done
+
+  loads : (count : ℕ) (old : Slot) → Always IsLoaded (slot_event size k c old (slot.Load task home number i offset count))
+  loads count None = tt
+  loads count (Some x) =
+      always_value IsLoaded (λ r. tt) (spot x (is_map task number)) NoSuchMap (load c size x home i offset count)
+      (λ s e. always_then (On Any) IsLoaded (λ n. Answered (bytes_answer offset count (value size (again n s).file (again n s).map i)) (Some n)) (ends_in s)
+      (byte_access c size x home i offset count Read s) (bytes_on c x Any tt s (spot_is x (is_map task number) s e) (λ f same. tt) size home i offset count Read))
+    where
+      ends_in : (s : Spot) (o : Outcome) → On Any o → IsLoaded (continued (λ n. Answered (bytes_answer offset count (value size (again n s).file (again n s).map i)) (Some n)) o)
+      ends_in s (Refused r) on = tt
+      ends_in s (Answered a None) on = absurd on
+      ends_in s (Answered a (Some n)) on = tt
+
+  stores : (bytes : List ℕ) (old : Slot) → Always IsStored (slot_event size k c old (slot.Store task home number i offset bytes))
+  stores bytes None = tt
+  stores bytes (Some x) =
+      always_value IsStored (λ r. tt) (spot x (is_map task number)) NoSuchMap (store c size x home i offset bytes)
+      (λ s e. always_then (On Any) IsStored (λ n. Answered Done (Some (written n s i offset bytes))) (ends_in s)
+      (byte_access c size x home i offset (length bytes) Write s) (bytes_on c x Any tt s (spot_is x (is_map task number) s e) (λ f same. tt) size home i offset (length bytes) Write))
+    where
+      ends_in : (s : Spot) (o : Outcome) → On Any o → IsStored (continued (λ n. Answered Done (Some (written n s i offset bytes))) o)
+      ends_in s (Refused r) on = tt
+      ends_in s (Answered a None) on = absurd on
+      ends_in s (Answered a (Some n)) on = refl
+
+  loaded : (o : Outcome) (old new : Slot) (a : Answer) → IsLoaded o → Gives o old (Ok a) new → IsBytes a
+  loaded (Refused r) old new a h g = absurd (let same = g.0 in cc)
+  loaded (Answered b s) old new a h g = subst (λ (x : Reply). OfOk x) (sym g.0) h
+    where
+      OfOk : Reply → Type 0
+      OfOk (Ok x) = IsBytes x
+      OfOk (Err e) = Unit {0}
+
+  stored : (o : Outcome) (old new : Slot) (a : Answer) → IsStored o → Gives o old (Ok a) new → a ≡ Done
+  stored (Refused r) old new a h g = absurd (let same = g.0 in cc)
+  stored (Answered b s) old new a h g = (let same = g.0 in cc)
+
+pub fits : (size k : ℕ) (e : SlotEvent) (a : Answer) → CanAnswer size (OnSlot k e) (Ok a) → HasAnswerOf e a
+fits size k (slot.Load task home number i offset count) a (old, asked, new, went) =
+    let came = always_came (IsLoaded size k went.0 task home number i offset) (slot_event size k went.0 old (slot.Load task home number i offset count)) asked old (Ok a) new
+    (loads size k went.0 task home number i offset count old) went.2 in
+    loaded size k went.0 task home number i offset came.0 old new a came.1 came.2
+fits size k (slot.Store task home number i offset bytes) a (old, asked, new, went) =
+    let came = always_came (IsStored size k went.0 task home number i offset) (slot_event size k went.0 old (slot.Store task home number i offset bytes)) asked old (Ok a) new
+    (stores size k went.0 task home number i offset bytes old) went.2 in
+    stored size k went.0 task home number i offset came.0 old new a came.1 came.2
+fits size k other a can = tt
+
+-- what was handed back fits
+pub handed_fits : (kept : Bool) (size k : ℕ) (e : SlotEvent) (a : Answer) (receipt : Option Receipt) → IsHanded kept size (OnSlot k e) (Ok a) receipt → HasAnswerOf e a
+handed_fits kept size k e a receipt handed = fits size k e a handed.0
+
+-- ---- copies
+
+pub noted_as : (entries : Option (List SlotEntry)) (e : SlotEvent) (both : Option (SlotEvent × SlotEvent)) → AreEvents e both → AreNoted entries e both
+noted_as entries e None h = absurd h
+noted_as entries e (Some both) h = h
+
+pub noted_then : (entries : Option (List SlotEntry)) (e : SlotEvent) (noted both : Option (SlotEvent × SlotEvent)) → noted ≡ both → AreEvents e both → AreNoted entries e noted
+noted_then entries e noted both is h = subst (λ x. AreNoted entries e x) (sym is) (noted_as entries e both h)
+
+pub noted_else : (entries : Option (List SlotEntry)) (e : SlotEvent) (noted : Option (SlotEvent × SlotEvent)) → noted ≡ None → is_some entries ≡ false → AreNoted entries e noted
+noted_else None e noted is none = subst (λ x. AreNoted None e x) (sym is) refl
+noted_else (Some es) e noted is none = cc
+
+pub either_kept : {P : Type 0} (b : Bool) → (b ≡ true) ⊎ (P × (b ≡ true)) → b ≡ true
+either_kept b (inl h) = h
+either_kept b (inr h) = h.1
+
+pub fits_result : (kept : Bool) (size k : ℕ) (e : SlotEvent) (r : Result Told Refusal) (receipt : Option Receipt) → IsHanded kept size (OnSlot k e) (told_reply r) receipt →
+    IfOk r (λ t. HasAnswerOf e (told_answer t))
+fits_result kept size k e (Ok t) receipt h = handed_fits kept size k e (told_answer t) receipt h
+fits_result kept size k e (Err x) receipt h = tt
+
+pub answer_home : (home : ℕ) (e : MountEvent) (a : Answer) → HasAnswerOf (event_of home e) a → HasAnswerOf (event_of 0 e) a
+answer_home home (m.Load task map index offset count) a h = h
+answer_home home (m.Store task map index offset bytes) a h = h
+answer_home home other a h = tt
+
+pub apart_home : (home : ℕ) (e : MountEvent) → lists_names (event_of 0 e) ≡ false → lists_names (event_of home e) ≡ false
+apart_home home m.Ls h = h
+apart_home home other h = refl

@@ -1,0 +1,114 @@
+-- What a session answers to a step, and the receipts that it has of it.
+use Rattle.std.specs.Prelude.{◌≡◌, ◌⊎◌, ℕ, ◌+◌, ◌<◌, ◌≤◌, Bool, true, false, Option, None, Some, Err, List, [], ◌∷◌, ◌++◌, length, map}
+use Rattle.std.specs.Bool.{MatchBool}
+use Rattle.std.specs.List.{All}
+use Rattle.hp_model.specs.declared.entry.Asked.{Asked}
+use Rattle.hp_model.specs.declared.entry.Receipt.{Receipt}
+use Rattle.hp_model.specs.declared.event.Event.{Event}
+use Rattle.hp_model.specs.declared.event.Event.TheVariants.{Tasks as OnTasks, Slot as OnSlot, Pool as OnPool}
+use Rattle.hp_model.specs.declared.refusal.Refusal.TheVariants.{OutOfMemory, TraceFull}
+use Rattle.hp_model.specs.declared.step.Step.{Step}
+use Rattle.hp_model.specs.machine.Plan.{Reply, Slot}
+use Rattle.hp_model.specs.machine.Step.{Script, script}
+use Rattle.hp_model.specs.machine.Table.{Table, table_event}
+use Rattle.hp_model.specs.pool.PoolCounts.{Pool}
+use Rattle.hp_model.specs.pool.Resize.{pool_event}
+use Rattle.hp_model.specs.threads.Telling.{ReceiptsTell, Tells, TellsFront, carries_bytes, has_place, most_receipts, told_of}
+use Rattle.hp_shared.specs.Slots.{Went, is_trace_full}
+
+-- ---- one event
+
+-- the event has a state of its part in which it is answered so, where a page has that many bytes
+abbrev pub CanAnswer : (size : ℕ) → Event → Reply → Type 0
+CanAnswer size (OnTasks e) reply = (nodes : ℕ) × (old : Table) × (new : Table) × (table_event nodes old e ≡ (reply, new))
+CanAnswer size (OnSlot k e) reply = (old : Slot) × (asked : Option Asked) × (new : Slot) × Went size k old e reply asked new
+CanAnswer size (OnPool e) reply = (old : Pool) × (new : Pool) × (pool_event old e ≡ (reply, new))
+
+-- where entries are kept there is a receipt of the event with its reply, and else none
+abbrev pub IsToldOf : (kept : Bool) → Event → Reply → Option Receipt → Type 0
+IsToldOf true e reply None = ⊥
+IsToldOf true e reply (Some r) = told_of r ≡ (e, reply)
+IsToldOf false e reply receipt = receipt ≡ None
+
+-- what a part under its lock hands back of an event; TraceFull where entries are kept and there was no place for one
+abbrev pub IsHanded : (kept : Bool) (size : ℕ) → Event → Reply → Option Receipt → Type 0
+IsHanded kept size e reply receipt =
+    MatchBool (is_trace_full reply) ((kept ≡ true) × (has_place e ≡ false) × (receipt ≡ None)) (CanAnswer size e reply × IsToldOf kept e reply receipt)
+
+-- ---- a session
+
+-- the slots of its machine, the receipts so far, and for how many there is room
+pub record SessionView : Type 0 where
+  pub slots : ℕ
+  pub receipts : List Receipt
+  pub room : ℕ
+
+-- with more receipts
+abbrev pub noted : SessionView → List Receipt → SessionView
+noted s added = record { slots = s.slots; receipts = s.receipts ++ added; room = s.room }
+
+-- all of these could be answered so
+abbrev pub AreAnswers : (size : ℕ) → List (Event × Reply) → Type 0
+AreAnswers size xs = All (λ x. CanAnswer size x.0 x.1) xs
+
+-- there is room for the most receipts that the step can bring
+abbrev pub HasRoomFor : SessionView → Step → Type 0
+HasRoomFor s step = length s.receipts + most_receipts s.slots step ≤ s.room
+
+-- the step's events came one after another, each with its receipt, and the reply is the step's by them
+pub record IsTold (size : ℕ) (s : SessionView) (step : Step) (reply : Reply) (t : SessionView) : Type 0 where
+  pub added : List Receipt
+  pub noted : t ≡ noted s added
+  pub answers : AreAnswers size (map told_of added)
+  pub tells : ReceiptsTell s.slots step added reply
+
+-- refused before the first event: there is no room for the receipts, or no memory for a copy of what the step carries
+abbrev pub IsRefusedFirst : SessionView → Step → Reply → Type 0
+IsRefusedFirst s step reply =
+    ((reply ≡ Err TraceFull) × (s.room < length s.receipts + most_receipts s.slots step))
+    ⊎ ((reply ≡ Err OutOfMemory) × (carries_bytes step ≡ true))
+
+-- what a call answers and leaves. Where entries are kept, the receipts of the step's events are added, in order; or none, as it
+-- is refused before the first. Where none are kept, the reply is the step's by some events that could be answered so, and it
+-- is never TraceFull
+abbrev pub IsAnswered : (kept : Bool) (size : ℕ) → SessionView → Step → Reply → SessionView → Type 0
+IsAnswered true size s step reply t = (HasRoomFor s step × IsTold size s step reply t) ⊎ ((t ≡ s) × IsRefusedFirst s step reply)
+IsAnswered false size s step reply t =
+    (t ≡ s) × (is_trace_full reply ≡ false) × ((xs : List (Event × Reply)) × AreAnswers size xs × Tells (script s.slots step) xs reply)
+
+-- ---- a part of a step
+
+-- the receipts of these came, where entries are kept
+abbrev pub AreAdded : (kept : Bool) → SessionView → List (Event × Reply) → SessionView → Type 0
+AreAdded true s xs t = (added : List Receipt) × (t ≡ noted s added) × (map told_of added ≡ xs)
+AreAdded false s xs t = t ≡ s
+
+-- the event was answered so and its receipt added; or there was no place for it
+abbrev pub IsMade : (kept : Bool) (size : ℕ) → SessionView → Event → Reply → SessionView → Type 0
+IsMade kept size s e reply t =
+    MatchBool (is_trace_full reply) ((kept ≡ true) × (has_place e ≡ false) × (t ≡ s)) (CanAnswer size e reply × AreAdded kept s ((e, reply) ∷ []) t)
+
+-- the script's events, up to its reply; or up to an event for which there was no place
+abbrev pub TellsOrStops : (kept : Bool) → Script → List (Event × Reply) → Reply → Type 0
+TellsOrStops kept c xs reply = MatchBool (is_trace_full reply) ((kept ≡ true) × TellsFront c xs) (Tells c xs reply)
+
+-- the script was carried out, up to its reply or to an event for which there was no place
+pub record Carries (kept : Bool) (size : ℕ) (s : SessionView) (c : Script) (reply : Reply) (t : SessionView) : Type 0 where
+  pub events : List (Event × Reply)
+  pub added : AreAdded kept s events t
+  pub answers : AreAnswers size events
+  pub tells : TellsOrStops kept c events reply
+
+-- whatever carries out the first script from the second state on, carries out the second from the first
+abbrev pub Leads : (kept : Bool) (size : ℕ) → SessionView → Script → SessionView → Script → Type 0
+Leads kept size s c t next = (reply : Reply) (u : SessionView) → Carries kept size t next reply u → Carries kept size s c reply u
+
+-- there is room for n receipts more, where entries are kept
+abbrev pub HasRoom : (kept : Bool) (n : ℕ) → SessionView → Type 0
+HasRoom kept n s = kept ≡ true → length s.receipts + n ≤ s.room
+
+-- at most n receipts came
+pub record Grows (n : ℕ) (s t : SessionView) : Type 0 where
+  pub slots : t.slots ≡ s.slots
+  pub room : t.room ≡ s.room
+  pub few : length t.receipts ≤ length s.receipts + n

@@ -1,0 +1,108 @@
+-- What a step asks of which part.
+use Rattle.std.specs.Prelude.{◌≡◌, ◌⊎◌, ℕ, ◌+◌, ◌*◌, ◌<◌, ◌≤◌, Bool, true, false, Option, None, Some, Ok, Err, List, [], ◌∷◌, length}
+use Rattle.hp_model.specs.declared.answer.Answer.{Answer}
+use Rattle.hp_model.specs.declared.answer.Answer.TheVariants.{Bytes, Done}
+use Rattle.hp_model.specs.declared.event.Event.TheVariants.{Tasks as OnTasks, Pool as OnPool}
+use Rattle.hp_model.specs.declared.event.SlotEvent.{SlotEvent}
+use Rattle.hp_model.specs.declared.event.SlotEvent.TheVariants as slot
+use Rattle.hp_model.specs.declared.refusal.Refusal.TheVariants.{OutOfMemory, TraceFull}
+use Rattle.hp_model.specs.declared.step.Step.{Step}
+use Rattle.hp_model.specs.declared.step.Step.TheVariants as step
+use Rattle.hp_model.specs.machine.Copying.{has_bytes}
+use Rattle.hp_model.specs.machine.Plan.{Reply}
+use Rattle.hp_model.specs.machine.Step.{Script, finding, on_slot, only, script}
+use Rattle.hp_model.specs.threads.Telling.{carries_bytes, most_receipts}
+use Rattle.hp_laws.specs.Answers.{lists_names}
+use Rattle.hp_mount.specs.Event.{event_of}
+use Rattle.hp_sessions.specs.declared.work.Work.{Work}
+use Rattle.hp_sessions.specs.declared.work.Work.TheVariants.{Tasks, Pool, Fork, Exit, Mount, Umount, Names, OnSlot, OfTask}
+use Rattle.hp_sessions.specs.Calls.{Carries, SessionView}
+
+-- ---- the step that it stands for
+
+abbrev pub work_script : (slots : ℕ) → Work → Script
+work_script n (Tasks e) = only (OnTasks e)
+work_script n (Pool e) = only (OnPool e)
+work_script n (Fork parent child) = script n (step.Fork parent child)
+work_script n (Exit task) = script n (step.Exit task)
+work_script n (Mount k options) = on_slot n k (slot.Mount options.now)
+work_script n (Umount k) = on_slot n k slot.Umount
+work_script n (Names k) = on_slot n k slot.Ls
+work_script n (OnSlot k e) = on_slot n k (event_of 0 e)
+work_script n (OfTask task k e) = finding task (λ home. on_slot n k (event_of home e))
+
+-- the most receipts that it brings
+abbrev pub work_receipts : (slots : ℕ) → Work → ℕ
+work_receipts n (Fork parent child) = 2 * n + 1
+work_receipts n (Exit task) = n + 1
+work_receipts n (OfTask task k e) = 2
+work_receipts n other = 1
+
+-- it has a name, options or bytes
+abbrev pub work_carries : Work → Bool
+work_carries (Mount k options) = true
+work_carries (OnSlot k e) = has_bytes (event_of 0 e)
+work_carries (OfTask task k e) = has_bytes (event_of 0 e)
+work_carries other = false
+
+-- lists are asked for by `Names` alone
+abbrev pub IsApart : Work → Type 0
+IsApart (OnSlot k e) = lists_names (event_of 0 e) ≡ false
+IsApart (OfTask task k e) = lists_names (event_of 0 e) ≡ false
+IsApart other = Unit {0}
+
+-- the step, by what it asks of which part
+pub record IsWork (s : Step) (w : Work) : Type 0 where
+  pub script : (n : ℕ) → script n s ≡ work_script n w
+  pub receipts : (n : ℕ) → most_receipts n s ≡ work_receipts n w
+  pub carries : carries_bytes s ≡ work_carries w
+  pub apart : IsApart w
+
+-- ---- what is answered
+
+-- there is no room for the receipts, or no memory for a copy of what it carries
+abbrev pub IsRefusedWork : SessionView → Work → Reply → Type 0
+IsRefusedWork s w reply =
+    ((reply ≡ Err TraceFull) × (s.room < length s.receipts + work_receipts s.slots w))
+    ⊎ ((reply ≡ Err OutOfMemory) × (work_carries w ≡ true))
+
+-- carried out; or refused before the first event, which is told of where entries are kept
+abbrev pub IsWorked : (kept : Bool) (size : ℕ) → SessionView → Work → Reply → SessionView → Type 0
+IsWorked kept size s w reply t =
+    (((kept ≡ true → length s.receipts + work_receipts s.slots w ≤ s.room) × Carries kept size s (work_script s.slots w) reply t)
+    ⊎ ((kept ≡ true) × (t ≡ s) × IsRefusedWork s w reply))
+
+-- ---- events of a mount
+
+-- the name, the options or the bytes of an event
+abbrev pub bytes_of : SlotEvent → List ℕ
+bytes_of (slot.Mount options) = options
+bytes_of (slot.Create name) = name
+bytes_of (slot.Unlink name) = name
+bytes_of (slot.Truncate name pages) = name
+bytes_of (slot.Punch name a b) = name
+bytes_of (slot.Read name i offset count) = name
+bytes_of (slot.Stat name) = name
+bytes_of (slot.Map task home name a pages sharing reserving) = name
+bytes_of (slot.Store task home number i offset bytes) = bytes
+bytes_of other = []
+
+-- two copies of these
+abbrev pub AreCopies : List ℕ → Option (List ℕ × List ℕ) → Type 0
+AreCopies bytes None = ⊥
+AreCopies bytes (Some both) = (both.0 ≡ bytes) × (both.1 ≡ bytes)
+
+-- the event twice
+abbrev pub AreEvents : SlotEvent → Option (SlotEvent × SlotEvent) → Type 0
+AreEvents e None = ⊥
+AreEvents e (Some both) = (both.0 ≡ e) × (both.1 ≡ e)
+
+abbrev pub IsBytes : Answer → Type 0
+IsBytes (Bytes count bytes) = Unit {0}
+IsBytes other = ⊥
+
+-- a load is answered bytes, and a store that it is done
+abbrev pub HasAnswerOf : SlotEvent → Answer → Type 0
+HasAnswerOf (slot.Load task home number i offset count) a = IsBytes a
+HasAnswerOf (slot.Store task home number i offset bytes) a = a ≡ Done
+HasAnswerOf other a = Unit {0}

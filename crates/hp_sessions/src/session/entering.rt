@@ -1,0 +1,210 @@
+//! One event of one part, under the part's lock.
+ghost use Rattle.std.specs.Prelude.{◌≡◌, ◌<◌, ◌≤◌, ◌==◌, if◌then◌else◌, Ok, None, true, false, length, IfSome};
+ghost use Rattle.std.specs.Bool.{MatchBool};
+ghost use Rattle.hp_laws.specs.Answers.{lists_names};
+ghost use Rattle.hp_model.specs.declared.answer.Answer.TheVariants.{Done};
+ghost use Rattle.hp_model.specs.declared.event.Event.TheVariants.{Tasks as OnTasks, Slot as OnSlot, Pool as OnPool};
+ghost use Rattle.hp_model.specs.declared.event.SlotEvent.TheVariants.{ExitMaps, ForkMaps, Ls, Mount as Mounting, Umount};
+ghost use Rattle.hp_model.specs.declared.refusal.Refusal.TheVariants.{TraceFull};
+ghost use Rattle.hp_model.specs.machine.Told.{told_reply};
+ghost use Rattle.hp_model.specs.text.Writing.{IsWithinLimits};
+ghost use Rattle.hp_mount.specs.Event.{event_of};
+ghost use Rattle.hp_shared.specs.Slots.{names_reply};
+ghost use Rattle.hp_shared.specs.Tables.{table_reply};
+ghost use Rattle.hp_sessions.specs.Calls.{IsHanded};
+ghost use Rattle.hp_sessions.specs.Works.{AreCopies, bytes_of};
+
+use super::Session;
+use super::notes::{Copies, events, mountings};
+use hp_locked::{Core, Door, Gate};
+use hp_model::entry::{PoolEntry, Receipt, SlotEntry, TableEntry};
+use hp_model::event::{PoolEvent, TableEvent};
+use hp_model::names::Names;
+use hp_model::naming::Naming;
+use hp_model::refusal::Refusal;
+use hp_model::told::Told;
+use hp_mount::MountEvent;
+use hp_shared::{Slot, Table, TableTold};
+use hp_trail::trace::Trace;
+use std::sync::Wait;
+
+// At each place stands the slot of that number. If there stood another, no event would be made: where entries are kept that
+// is told as TraceFull.
+fn absent<const K: usize>(refusal: Refusal) -> Refusal
+    ensures { result ≡ (if K == 1 then TraceFull else refusal) }
+{
+    if K == 1 { Refusal::TraceFull } else { refusal }
+}
+
+impl<'a, N: Naming, R: Wait, G: Gate, const K: usize> Session<'a, N, R, G, K> {
+    // An event of the task table: what it answers, and its receipt where entries are kept.
+    pub(super) fn enter_table(&self, event: TableEvent) -> (TableTold, Option<Receipt>)
+        ensures { IsHanded (K == 1) N.page_bytes (OnTasks event) (table_reply result.0) result.1 }
+    {
+        let shared = self.shared;
+        let mut value = shared.table.lock(self.rt);
+        let table: &mut Table<N, Trace<TableEntry, K>> = &mut value;
+        match table.event(event) {
+            Err(_full) => (TableTold::Refused(Refusal::TraceFull), None),
+            Ok((told, receipt)) => (told, receipt),
+        }
+    }
+
+    // An event of the pool alone.
+    pub(super) fn enter_pool(
+        &self,
+        event: PoolEvent,
+    ) -> (Result<Told<'static>, Refusal>, Option<Receipt>)
+        ensures handed { IsHanded (K == 1) N.page_bytes (OnPool event) (told_reply result.0)
+            result.1 }
+        ensures limits { IsWithinLimits (told_reply result.0) }
+    {
+        let shared = self.shared;
+        let mut value = shared.core.lock(self.rt);
+        let core: &mut Core<N, Trace<PoolEntry, K>> = &mut value;
+        match core.event(event) {
+            Err(_full) => (Err(Refusal::TraceFull), None),
+            Ok((told, receipt)) => (told.told(), receipt),
+        }
+    }
+
+    // An event of the mount of a slot.
+    pub(super) fn enter_slot<'b>(
+        &self,
+        at: usize,
+        home: u64,
+        event: MountEvent<'_>,
+        copies: Option<Copies>,
+        room: &'b mut [u8],
+    ) -> (Result<Told<'b>, Refusal>, Option<Receipt>)
+        requires within { at < self.now.slots }
+        requires room { 256 ≤ length room.old }
+        requires apart { lists_names (event_of home event) ≡ false }
+        requires copies { (K == 1) ≡ true → AreCopies (bytes_of (event_of 0 event)) copies }
+        ensures handed { IsHanded (K == 1) N.page_bytes (OnSlot at (event_of home event.entry))
+            (told_reply result.0) result.1 }
+        ensures limits { IsWithinLimits (told_reply result.0) }
+    {
+        let shared = self.shared;
+        let mut value = shared.slots[at].lock(self.rt);
+        self.gate.enter(at as u64);
+        let slot: &mut Slot<N, Trace<SlotEntry, K>> = &mut value;
+        if slot.number() != at as u64 {
+            return (Err(absent::<K>(Refusal::NoSuchSlot)), None);
+        }
+        let noted = if slot.is_kept() {
+            events(&event, home, copies)
+        } else {
+            None
+        };
+        let mut door = Door::new(self.rt, self.gate, &shared.core, &shared.nodes);
+        slot.event(&mut door, shared.page_size(), home, event, noted, room)
+    }
+
+    // Mounts a slot.
+    pub(super) fn enter_mount(
+        &self,
+        at: usize,
+        options: &[u8],
+        copies: Option<Copies>,
+    ) -> (Result<Told<'static>, Refusal>, Option<Receipt>)
+        requires within { at < self.now.slots }
+        requires copies { (K == 1) ≡ true → AreCopies options.now copies }
+        ensures handed { IsHanded (K == 1) N.page_bytes (OnSlot at (Mounting options.now))
+            (told_reply result.0) result.1 }
+        ensures limits { IsWithinLimits (told_reply result.0) }
+    {
+        let shared = self.shared;
+        let mut value = shared.slots[at].lock(self.rt);
+        self.gate.enter(at as u64);
+        let slot: &mut Slot<N, Trace<SlotEntry, K>> = &mut value;
+        if slot.number() != at as u64 {
+            return (Err(absent::<K>(Refusal::SlotTaken)), None);
+        }
+        let noted = if slot.is_kept() {
+            mountings(copies)
+        } else {
+            None
+        };
+        let mut door = Door::new(self.rt, self.gate, &shared.core, &shared.nodes);
+        slot.mount(&mut door, shared.alloc, shared.page_size(), options, noted)
+    }
+
+    // Ends the mount of a slot.
+    pub(super) fn enter_umount(
+        &self,
+        at: usize,
+    ) -> (Result<Told<'static>, Refusal>, Option<Receipt>)
+        requires { at < self.now.slots }
+        ensures handed { IsHanded (K == 1) N.page_bytes (OnSlot at Umount) (told_reply result.0)
+            result.1 }
+        ensures limits { IsWithinLimits (told_reply result.0) }
+    {
+        let shared = self.shared;
+        let mut value = shared.slots[at].lock(self.rt);
+        self.gate.enter(at as u64);
+        let slot: &mut Slot<N, Trace<SlotEntry, K>> = &mut value;
+        if slot.number() != at as u64 {
+            return (Err(absent::<K>(Refusal::NoSuchSlot)), None);
+        }
+        let mut door = Door::new(self.rt, self.gate, &shared.core, &shared.nodes);
+        slot.umount(&mut door)
+    }
+
+    // The names of a slot's files.
+    pub(super) fn enter_names(&self, at: usize) -> (Result<Names, Refusal>, Option<Receipt>)
+        requires { at < self.now.slots }
+        ensures handed { IsHanded (K == 1) N.page_bytes (OnSlot at Ls) (names_reply result.0)
+            result.1 }
+        ensures limits { IsWithinLimits (names_reply result.0) }
+    {
+        let shared = self.shared;
+        let mut value = shared.slots[at].lock(self.rt);
+        self.gate.enter(at as u64);
+        let slot: &mut Slot<N, Trace<SlotEntry, K>> = &mut value;
+        if slot.number() != at as u64 {
+            return (Err(absent::<K>(Refusal::NoSuchSlot)), None);
+        }
+        slot.names(shared.alloc)
+    }
+
+    // Gives a child the maps that its parent has on a slot, if it has any there: whether there was an event.
+    pub(super) fn enter_fork(
+        &self,
+        at: usize,
+        parent: u64,
+        child: u64,
+    ) -> Option<(Result<Told<'static>, Refusal>, Option<Receipt>)>
+        requires within { at < self.now.slots }
+        requires apart { (parent == child) ≡ false }
+        ensures { IfSome result (λ r. IsHanded (K == 1) N.page_bytes
+            (OnSlot at (ForkMaps parent child)) (told_reply r.0) r.1) }
+    {
+        let shared = self.shared;
+        let mut value = shared.slots[at].lock(self.rt);
+        self.gate.enter(at as u64);
+        let slot: &mut Slot<N, Trace<SlotEntry, K>> = &mut value;
+        if slot.number() != at as u64 || !slot.has_maps(parent) {
+            return None;
+        }
+        let mut door = Door::new(self.rt, self.gate, &shared.core, &shared.nodes);
+        Some(slot.fork_maps(&mut door, parent, child))
+    }
+
+    // The maps that a task has on a slot go, if it has any there: whether there was an event, and its receipt.
+    pub(super) fn enter_exit(&self, at: usize, task: u64) -> (bool, Option<Receipt>)
+        requires { at < self.now.slots }
+        ensures { MatchBool result.0 (IsHanded (K == 1) N.page_bytes (OnSlot at (ExitMaps task))
+            (Ok Done) result.1) (result.1 ≡ None) }
+    {
+        let shared = self.shared;
+        let mut value = shared.slots[at].lock(self.rt);
+        self.gate.enter(at as u64);
+        let slot: &mut Slot<N, Trace<SlotEntry, K>> = &mut value;
+        if slot.number() != at as u64 || !slot.has_maps(task) {
+            return (false, None);
+        }
+        let mut door = Door::new(self.rt, self.gate, &shared.core, &shared.nodes);
+        (true, slot.exit_maps(&mut door, task))
+    }
+}

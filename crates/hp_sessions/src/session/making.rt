@@ -1,0 +1,190 @@
+//! Events of a session, each with its receipt.
+ghost use Rattle.std.specs.Prelude.{◌≡◌, ◌≢◌, ◌<◌, ◌≤◌, ◌==◌, Err, ℕ, true, false, length, IfOk, IfErr};
+ghost use Rattle.std.specs.Bool.{MatchBool};
+ghost use Rattle.hp_laws.specs.Answers.{lists_names};
+ghost use Rattle.hp_model.specs.declared.event.Event.TheVariants.{Tasks as OnTasks, Slot as OnSlot, Pool as OnPool};
+ghost use Rattle.hp_model.specs.declared.event.SlotEvent.TheVariants.{ForkMaps, Ls, Mount as Mounting, Umount as Umounting};
+ghost use Rattle.hp_model.specs.machine.Step.{Script, exit_slot, finding, on_slot};
+ghost use Rattle.hp_model.specs.machine.Told.{told_answer, told_reply};
+ghost use Rattle.hp_model.specs.text.Writing.{IsWithinLimits};
+ghost use Rattle.hp_mount.specs.Event.{event_of};
+ghost use Rattle.hp_shared.specs.Tables.{table_reply};
+ghost use Rattle.hp_sessions.specs.Calls.{Carries, Grows, HasRoom, IsMade, Leads};
+ghost use Rattle.hp_sessions.specs.Forks.{IsForked};
+ghost use Rattle.hp_sessions.specs.Works.{AreCopies, HasAnswerOf, bytes_of};
+
+use super::Session;
+use super::notes::Copies;
+use hp_locked::Gate;
+use hp_model::event::{PoolEvent, TableEvent};
+use hp_model::naming::Naming;
+use hp_model::refusal::Refusal;
+use hp_model::told::Told;
+use hp_mount::MountEvent;
+use hp_shared::TableTold;
+use std::sync::Wait;
+
+impl<'a, N: Naming, R: Wait, G: Gate, const K: usize> Session<'a, N, R, G, K> {
+    // An event of the task table.
+    pub(super) fn make_table(&mut self, event: TableEvent) -> TableTold
+        requires { HasRoom (K == 1) 1 self.old }
+        ensures made { IsMade (K == 1) N.page_bytes self.old (OnTasks event) (table_reply result)
+            self.new }
+        ensures grows { Grows 1 self.old self.new }
+    {
+        let (told, receipt) = self.enter_table(event);
+        self.add(receipt);
+        told
+    }
+
+    // An event of the pool alone.
+    pub(super) fn make_pool(&mut self, event: PoolEvent) -> Result<Told<'static>, Refusal>
+        requires { HasRoom (K == 1) 1 self.old }
+        ensures made { IsMade (K == 1) N.page_bytes self.old (OnPool event) (told_reply result)
+            self.new }
+        ensures limits { IsWithinLimits (told_reply result) }
+    {
+        let (told, receipt) = self.enter_pool(event);
+        self.add(receipt);
+        told
+    }
+
+    // The home of a task; or why it isn't there, which is then the step's reply.
+    pub(super) fn find(&mut self, task: u64) -> Result<u64, Refusal>
+        requires { HasRoom (K == 1) 1 self.old }
+        ensures found { IfOk result (λ home. (f : ℕ → Script) →
+            Leads (K == 1) N.page_bytes self.old (finding task f) self.new (f home)) }
+        ensures refused { IfErr result (λ refusal. (f : ℕ → Script) →
+            Carries (K == 1) N.page_bytes self.old (finding task f) (Err refusal) self.new) }
+        ensures grows { Grows 1 self.old self.new }
+    {
+        match self.make_table(TableEvent::Find { task }) {
+            TableTold::Home(home) => Ok(home),
+            TableTold::Refused(refusal) => Err(refusal),
+            TableTold::Done => unreachable!(),
+        }
+    }
+
+    // An event of the mount of a slot, if there is one of that number.
+    pub(super) fn make_slot<'b>(
+        &mut self,
+        slot: u64,
+        home: u64,
+        event: MountEvent<'_>,
+        copies: Option<Copies>,
+        room: &'b mut [u8],
+    ) -> Result<Told<'b>, Refusal>
+        requires places { HasRoom (K == 1) 1 self.old }
+        requires room { 256 ≤ length room.old }
+        requires apart { lists_names (event_of home event) ≡ false }
+        requires copies { (K == 1) ≡ true → AreCopies (bytes_of (event_of 0 event)) copies }
+        ensures carried { Carries (K == 1) N.page_bytes self.old
+            (on_slot self.old.slots slot (event_of home event.entry))
+            (told_reply result) self.new }
+        ensures limits { IsWithinLimits (told_reply result) }
+        ensures answer { IfOk result (λ told.
+            HasAnswerOf (event_of home event.entry) (told_answer told)) }
+    {
+        let at = slot as usize;
+        if at >= self.shared.count() {
+            return Err(Refusal::NoSuchSlot);
+        }
+        let (told, receipt) = self.enter_slot(at, home, event, copies, room);
+        self.add(receipt);
+        told
+    }
+
+    // Mounts a slot, if there is one of that number.
+    pub(super) fn make_mount(
+        &mut self,
+        slot: u64,
+        options: &[u8],
+        copies: Option<Copies>,
+    ) -> Result<Told<'static>, Refusal>
+        requires places { HasRoom (K == 1) 1 self.old }
+        requires copies { (K == 1) ≡ true → AreCopies options.now copies }
+        ensures carried { Carries (K == 1) N.page_bytes self.old
+            (on_slot self.old.slots slot (Mounting options.now))
+            (told_reply result) self.new }
+        ensures limits { IsWithinLimits (told_reply result) }
+    {
+        let at = slot as usize;
+        if at >= self.shared.count() {
+            return Err(Refusal::NoSuchSlot);
+        }
+        let (told, receipt) = self.enter_mount(at, options, copies);
+        self.add(receipt);
+        told
+    }
+
+    // Ends the mount of a slot.
+    pub(super) fn make_umount(&mut self, slot: u64) -> Result<Told<'static>, Refusal>
+        requires { HasRoom (K == 1) 1 self.old }
+        ensures carried { Carries (K == 1) N.page_bytes self.old
+            (on_slot self.old.slots slot Umounting) (told_reply result) self.new }
+        ensures limits { IsWithinLimits (told_reply result) }
+    {
+        let at = slot as usize;
+        if at >= self.shared.count() {
+            return Err(Refusal::NoSuchSlot);
+        }
+        let (told, receipt) = self.enter_umount(at);
+        self.add(receipt);
+        told
+    }
+
+    // The names of a slot's files.
+    pub(super) fn make_names(&mut self, slot: u64) -> Result<Told<'static>, Refusal>
+        requires { HasRoom (K == 1) 1 self.old }
+        ensures carried { Carries (K == 1) N.page_bytes self.old (on_slot self.old.slots slot Ls)
+            (told_reply result) self.new }
+        ensures limits { IsWithinLimits (told_reply result) }
+    {
+        let at = slot as usize;
+        if at >= self.shared.count() {
+            return Err(Refusal::NoSuchSlot);
+        }
+        let (names, receipt) = self.enter_names(at);
+        self.add(receipt);
+        match names {
+            Ok(names) => Ok(Told::Names(names)),
+            Err(refusal) => Err(refusal),
+        }
+    }
+
+    // Gives a child the maps that its parent has on a slot: whether it has any there.
+    pub(super) fn make_fork(&mut self, at: usize, parent: u64, child: u64) -> Result<bool, Refusal>
+        requires places { HasRoom (K == 1) 1 self.old }
+        requires within { at < self.old.slots }
+        requires apart { (parent == child) ≡ false }
+        ensures made { IfOk result (λ forked. MatchBool forked
+            (IsForked (K == 1) N.page_bytes at parent child self.old self.new)
+            (self.new ≡ self.old)) }
+        ensures refused { IfErr result (λ refusal.
+            IsMade (K == 1) N.page_bytes self.old (OnSlot at (ForkMaps parent child))
+            (Err refusal) self.new) }
+        ensures grows { Grows 1 self.old self.new }
+    {
+        let Some(handed) = self.enter_fork(at, parent, child) else {
+            return Ok(false);
+        };
+        let (told, receipt) = handed;
+        self.add(receipt);
+        match told {
+            Ok(_done) => Ok(true),
+            Err(refusal) => Err(refusal),
+        }
+    }
+
+    // The maps that a task has on a slot go.
+    pub(super) fn make_exit(&mut self, at: usize, task: u64)
+        requires places { HasRoom (K == 1) 1 self.old }
+        requires within { at < self.old.slots }
+        ensures leads { (next : Script) → Leads (K == 1) N.page_bytes self.old
+            (exit_slot at task next) self.new next }
+        ensures grows { Grows 1 self.old self.new }
+    {
+        let (_left, receipt) = self.enter_exit(at, task);
+        self.add(receipt);
+    }
+}

@@ -1,0 +1,188 @@
+//! Copies for an entry and for a receipt.
+ghost use Rattle.std.specs.Prelude.{◌≡◌, ◌<◌, ℕ, List, length, true, IfOk, OnErr, Some};
+ghost use Rattle.hp_model.specs.machine.Copying.{has_bytes};
+ghost use Rattle.hp_model.specs.declared.event.SlotEvent.TheVariants.{Mount as Mounting};
+ghost use Rattle.hp_mount.specs.Event.{event_of};
+ghost use Rattle.hp_sessions.specs.Works.{AreCopies, AreEvents, bytes_of};
+
+use hp_model::bytes::Bytes;
+use hp_model::event::SlotEvent;
+use hp_mount::MountEvent;
+use std::alloc::{AllocError, Global};
+
+/// The same bytes twice.
+pub(super) type Copies = (Bytes, Bytes);
+
+// The name or the bytes that an event has.
+fn carried<'x>(event: &MountEvent<'x>) -> &'x [u8]
+    ensures { result.now ≡ bytes_of (event_of 0 event.now) }
+{
+    match event {
+        MountEvent::Create { name }
+        | MountEvent::Unlink { name }
+        | MountEvent::Truncate { name, .. }
+        | MountEvent::Punch { name, .. }
+        | MountEvent::Stat { name }
+        | MountEvent::Read { name, .. }
+        | MountEvent::Map { name, .. } => name,
+        MountEvent::Store { bytes, .. } => bytes,
+        MountEvent::Anon { .. }
+        | MountEvent::Unmap { .. }
+        | MountEvent::Fault { .. }
+        | MountEvent::Load { .. }
+        | MountEvent::Ls
+        | MountEvent::Usage => &[],
+    }
+}
+
+// Two copies of bytes.
+pub(super) fn twice(alloc: Global, bytes: &[u8]) -> Result<Copies, AllocError>
+    ensures copies { IfOk result (λ both. AreCopies bytes.now (Some both)) }
+    ensures memory { OnErr result (64 < length bytes.now) }
+{
+    let one = Bytes::copied(alloc, bytes)?;
+    let two = Bytes::copied(alloc, bytes)?;
+    Ok((one, two))
+}
+
+// Two copies of what an event carries. Memory is asked for where that is anything.
+pub(super) fn copies(alloc: Global, event: &MountEvent<'_>) -> Result<Copies, AllocError>
+    ensures copies { IfOk result (λ both. AreCopies (bytes_of (event_of 0 event.now)) (Some both)) }
+    ensures memory { OnErr result (has_bytes (event_of 0 event.now) ≡ true) }
+{
+    twice(alloc, carried(event))
+}
+
+// The event twice, with these copies.
+pub(super) fn events(
+    event: &MountEvent<'_>,
+    home: u64,
+    copies: Option<Copies>,
+) -> Option<(SlotEvent, SlotEvent)>
+    requires { AreCopies (bytes_of (event_of 0 event.now)) copies }
+    ensures { AreEvents (event_of home event.now) result }
+{
+    let (one, two) = copies?;
+    Some((owned(event, home, one), owned(event, home, two)))
+}
+
+// A mount's event twice, with copies of its options.
+pub(super) fn mountings(copies: Option<Copies>) -> Option<(SlotEvent, SlotEvent)>
+    ensures { (options : List ℕ) → AreCopies options copies → AreEvents (Mounting options) result }
+{
+    let (one, two) = copies?;
+    Some((
+        SlotEvent::Mount { options: one },
+        SlotEvent::Mount { options: two },
+    ))
+}
+
+// The event of a task with that home, with this name or these bytes.
+fn owned(event: &MountEvent<'_>, home: u64, bytes: Bytes) -> SlotEvent
+    requires { bytes ≡ bytes_of (event_of 0 event.now) }
+    ensures { result ≡ event_of home event.now }
+{
+    match *event {
+        MountEvent::Create { .. } => SlotEvent::Create { name: bytes },
+        MountEvent::Unlink { .. } => SlotEvent::Unlink { name: bytes },
+        MountEvent::Truncate { pages, .. } => SlotEvent::Truncate { name: bytes, pages },
+        MountEvent::Punch { start, end, .. } => SlotEvent::Punch {
+            name: bytes,
+            from: start,
+            to: end,
+        },
+        MountEvent::Stat { .. } => SlotEvent::Stat { name: bytes },
+        MountEvent::Read {
+            index,
+            offset,
+            count,
+            ..
+        } => SlotEvent::Read {
+            name: bytes,
+            index,
+            offset,
+            count,
+        },
+        MountEvent::Map {
+            task,
+            start,
+            pages,
+            sharing,
+            reserving,
+            ..
+        } => SlotEvent::Map {
+            task,
+            home,
+            name: bytes,
+            from: start,
+            pages,
+            sharing,
+            reserving,
+        },
+        MountEvent::Anon {
+            task,
+            pages,
+            sharing,
+            reserving,
+        } => SlotEvent::Anon {
+            task,
+            home,
+            pages,
+            sharing,
+            reserving,
+        },
+        MountEvent::Unmap {
+            task,
+            map,
+            start,
+            end,
+        } => SlotEvent::Unmap {
+            task,
+            map,
+            from: start,
+            to: end,
+        },
+        MountEvent::Fault {
+            task,
+            map,
+            index,
+            intent,
+        } => SlotEvent::Fault {
+            task,
+            home,
+            map,
+            index,
+            intent,
+        },
+        MountEvent::Load {
+            task,
+            map,
+            index,
+            offset,
+            count,
+        } => SlotEvent::Load {
+            task,
+            home,
+            map,
+            index,
+            offset,
+            count,
+        },
+        MountEvent::Store {
+            task,
+            map,
+            index,
+            offset,
+            ..
+        } => SlotEvent::Store {
+            task,
+            home,
+            map,
+            index,
+            offset,
+            bytes,
+        },
+        MountEvent::Ls => SlotEvent::Ls,
+        MountEvent::Usage => SlotEvent::Df,
+    }
+}

@@ -1,0 +1,51 @@
+//! A session as a service.
+ghost use Rattle.std.specs.Prelude.{◌==◌};
+ghost use Rattle.hp_sessions.specs.Calls.{IsAnswered};
+
+use super::Session;
+use hp_locked::Gate;
+use hp_model::answer::Reply;
+use hp_model::naming::Naming;
+use hp_model::refusal::Refusal;
+use hp_model::service::{Access, Service};
+use hp_model::step::Step;
+use hp_model::told::Told;
+use std::sync::Wait;
+
+impl<'a, N: Naming, R: Wait, G: Gate, const K: usize> Service for Session<'a, N, R, G, K> {
+    ghost may_answer = { λ old step reply new. IsAnswered (K == 1) N.page_bytes old step reply new };
+
+    ghost page = { λ s. N.page_bytes };
+
+    ghost is_ready = { λ s. Unit {0} };
+
+    fn call(&mut self, step: &Step<'_>) -> Reply {
+        Session::call(self, step)
+    }
+
+    fn answer<'b>(
+        &mut self,
+        step: &Step<'_>,
+        room: &'b mut [u8],
+        reply: &mut Result<Told<'b>, Refusal>,
+    ) {
+        *reply = self.do_step(step, room);
+    }
+
+    fn load<'b>(
+        &mut self,
+        access: &Access,
+        count: u64,
+        room: &'b mut [u8],
+    ) -> Result<&'b [u8], Refusal> {
+        Session::load(self, access, count, room)
+    }
+
+    fn store(&mut self, access: &Access, bytes: &[u8]) -> Result<(), Refusal> {
+        Session::store(self, access, bytes)
+    }
+
+    fn page_bytes(&self) -> u64 {
+        self.shared.page_size()
+    }
+}

@@ -1,0 +1,242 @@
+//! Steps of a session.
+ghost use Rattle.std.specs.Prelude.{◌≡◌, ◌+◌, ◌<◌, ◌≤◌, ◌==◌, Err, true, false, length, IfOk, OnErr};
+ghost use Rattle.std.specs.Bool.{MatchBool};
+ghost use Rattle.hp_laws.specs.Answers.{lists_names};
+ghost use Rattle.hp_model.specs.declared.answer.Answer.TheVariants.{Done};
+ghost use Rattle.hp_model.specs.machine.Accesses.{bytes_reply, done_reply, load_step, store_step};
+ghost use Rattle.hp_model.specs.machine.Copying.{has_bytes};
+ghost use Rattle.hp_model.specs.machine.Told.{told_answer, told_reply};
+ghost use Rattle.hp_model.specs.text.Writing.{IsWithinLimits};
+ghost use Rattle.hp_mount.specs.Event.{event_of};
+ghost use Rattle.hp_shared.specs.Tables.{table_reply};
+ghost use Rattle.hp_sessions.specs.declared.work.Work.TheVariants.{OfTask as OfATask};
+ghost use Rattle.hp_sessions.specs.Calls.{HasRoom, IsAnswered};
+ghost use Rattle.hp_sessions.specs.Works.{AreCopies, HasAnswerOf, IsApart, IsBytes, IsWorked, bytes_of};
+
+use super::Session;
+use super::notes::{Copies, copies, twice};
+use crate::work::{Work, most_receipts, work_of};
+use hp_locked::Gate;
+use hp_model::answer::Reply;
+use hp_model::naming::Naming;
+use hp_model::refusal::Refusal;
+use hp_model::service::Access;
+use hp_model::step::Step;
+use hp_model::told::Told;
+use hp_mount::MountEvent;
+use hp_shared::TableTold;
+use std::alloc::AllocError;
+use std::sync::Wait;
+
+impl<'a, N: Naming, R: Wait, G: Gate, const K: usize> Session<'a, N, R, G, K> {
+    /// Answers a step, or leaves everything as it was and says why; a fork that is refused is undone.
+    ///
+    /// Where the machine keeps entries, a receipt of each of the step's events is added, in their order. It is answered
+    /// TraceFull before the first event where there is no room for the most receipts that the step can bring, and later where a
+    /// trail has no place for one; and OutOfMemory before the first where there is no room for a copy of its name, options or
+    /// bytes.
+    pub fn call(&mut self, step: &Step<'_>) -> Reply
+        ensures answered { IsAnswered (K == 1) N.page_bytes self.old step.now result self.new }
+        ensures limits { IsWithinLimits result }
+    {
+        let mut room = [0u8; 256];
+        whole(self.do_step(step, &mut room))
+    }
+
+    /// Answers a step as `call` does. Bytes are in the front of the room.
+    pub fn do_step<'b>(&mut self, step: &Step<'_>, room: &'b mut [u8]) -> Result<Told<'b>, Refusal>
+        requires { 256 ≤ length room.old }
+        ensures answered { IsAnswered (K == 1) N.page_bytes self.old step.now (told_reply result)
+            self.new }
+        ensures limits { IsWithinLimits (told_reply result) }
+    {
+        let work = work_of(step);
+        self.do_work(&work, room)
+    }
+
+    /// Does the step of a load of `count` bytes, as `call` does, and answers them in the front of the room.
+    pub fn load<'b>(
+        &mut self,
+        access: &Access,
+        count: u64,
+        room: &'b mut [u8],
+    ) -> Result<&'b [u8], Refusal>
+        requires { 256 ≤ length room.old }
+        ensures answered { IsAnswered (K == 1) N.page_bytes self.old (load_step access.now count)
+            (bytes_reply result) self.new }
+        ensures few { IfOk result (λ bytes. length bytes.now ≤ 256) }
+    {
+        let event = MountEvent::Load {
+            task: access.task,
+            map: access.map,
+            index: access.index,
+            offset: access.offset,
+            count,
+        };
+        let told = self.of_task(access.task, access.slot, event, room);
+        into_bytes(told)
+    }
+
+    /// Does the step of a store of these bytes, as `call` does.
+    pub fn store(&mut self, access: &Access, bytes: &[u8]) -> Result<(), Refusal>
+        ensures { IsAnswered (K == 1) N.page_bytes self.old (store_step access.now bytes.now)
+            (done_reply result) self.new }
+    {
+        let event = MountEvent::Store {
+            task: access.task,
+            map: access.map,
+            index: access.index,
+            offset: access.offset,
+            bytes,
+        };
+        let mut room = [0u8; 256];
+        let told = self.of_task(access.task, access.slot, event, &mut room);
+        into_done(told)
+    }
+
+    // What a step asks of which part.
+    fn do_work<'b>(&mut self, work: &Work<'_>, room: &'b mut [u8]) -> Result<Told<'b>, Refusal>
+        requires room { 256 ≤ length room.old }
+        requires apart { IsApart work.now }
+        ensures worked { IsWorked (K == 1) N.page_bytes self.old work.now (told_reply result)
+            self.new }
+        ensures limits { IsWithinLimits (told_reply result) }
+    {
+        if let Work::OfTask { task, slot, event } = *work {
+            return self.of_task(task, slot, event, room);
+        }
+        if self.lacks(most_receipts(self.shared.count(), work)) {
+            return Err(Refusal::TraceFull);
+        }
+        match *work {
+            Work::Tasks(event) => table_told(self.make_table(event)),
+            Work::Pool(event) => self.make_pool(event),
+            Work::Fork { parent, child } => Told::done(self.fork(parent, child)),
+            Work::Exit { task } => Told::done(self.exit(task)),
+            Work::Mount { slot, options } => match self.options_twice(options) {
+                Ok(copies) => self.make_mount(slot, options, copies),
+                Err(AllocError) => Err(Refusal::OutOfMemory),
+            },
+            Work::Umount { slot } => self.make_umount(slot),
+            Work::Names { slot } => self.make_names(slot),
+            Work::OnSlot { slot, event } => match self.copies(&event) {
+                Ok(copies) => self.make_slot(slot, 0, event, copies, room),
+                Err(AllocError) => Err(Refusal::OutOfMemory),
+            },
+            Work::OfTask { .. } => unreachable!(),
+        }
+    }
+
+    // An event of a mount, for a task that is looked up first.
+    fn of_task<'b>(
+        &mut self,
+        task: u64,
+        slot: u64,
+        event: MountEvent<'_>,
+        room: &'b mut [u8],
+    ) -> Result<Told<'b>, Refusal>
+        requires room { 256 ≤ length room.old }
+        requires apart { lists_names (event_of 0 event) ≡ false }
+        ensures worked { IsWorked (K == 1) N.page_bytes self.old (OfATask task slot event.entry)
+            (told_reply result) self.new }
+        ensures limits { IsWithinLimits (told_reply result) }
+        ensures answer { IfOk result (λ told.
+            HasAnswerOf (event_of 0 event.entry) (told_answer told)) }
+    {
+        if self.lacks(2) {
+            return Err(Refusal::TraceFull);
+        }
+        let Ok(copies) = self.copies(&event) else {
+            return Err(Refusal::OutOfMemory);
+        };
+        match self.find(task) {
+            Ok(home) => self.make_slot(slot, home, event, copies, room),
+            Err(refusal) => Err(refusal),
+        }
+    }
+
+    // Whether there is no room for so many receipts, where they are kept.
+    fn lacks(&self, receipts: usize) -> bool
+        ensures { MatchBool result
+            (((K == 1) ≡ true) × (self.now.room < length self.now.receipts + receipts))
+            (HasRoom (K == 1) receipts self.now) }
+    {
+        K == 1 && self.left() < receipts
+    }
+
+    // Copies of what an event carries, where entries are kept.
+    fn copies(&self, event: &MountEvent<'_>) -> Result<Option<Copies>, AllocError>
+        ensures copies { IfOk result (λ c. (K == 1) ≡ true →
+            AreCopies (bytes_of (event_of 0 event.now)) c) }
+        ensures memory { OnErr result (((K == 1) ≡ true)
+            × (has_bytes (event_of 0 event.now) ≡ true)) }
+    {
+        let shared = self.shared;
+        if K == 1 {
+            Ok(Some(copies(shared.alloc, event)?))
+        } else {
+            Ok(None)
+        }
+    }
+
+    // Copies of options, where entries are kept.
+    fn options_twice(&self, options: &[u8]) -> Result<Option<Copies>, AllocError>
+        ensures copies { IfOk result (λ c. (K == 1) ≡ true → AreCopies options.now c) }
+        ensures memory { OnErr result ((K == 1) ≡ true) }
+    {
+        let shared = self.shared;
+        if K == 1 {
+            Ok(Some(twice(shared.alloc, options)?))
+        } else {
+            Ok(None)
+        }
+    }
+}
+
+// The reply with a copy of its bytes.
+fn whole(told: Result<Told<'_>, Refusal>) -> Reply
+    requires { IsWithinLimits (told_reply told) }
+    ensures { result ≡ told_reply told.entry }
+{
+    match told {
+        Ok(told) => Ok(told.into_answer()),
+        Err(refusal) => Err(refusal),
+    }
+}
+
+// The bytes of a load's reply.
+fn into_bytes<'b>(told: Result<Told<'b>, Refusal>) -> Result<&'b [u8], Refusal>
+    requires bytes { IfOk told (λ told. IsBytes (told_answer told)) }
+    requires limits { IsWithinLimits (told_reply told) }
+    ensures reply { bytes_reply result ≡ told_reply told.entry }
+    ensures few { IfOk result (λ bytes. length bytes.now ≤ 256) }
+{
+    match told {
+        Ok(Told::Bytes(bytes)) => Ok(bytes),
+        Ok(_other) => unreachable!(),
+        Err(refusal) => Err(refusal),
+    }
+}
+
+// That a store is done.
+fn into_done(told: Result<Told<'_>, Refusal>) -> Result<(), Refusal>
+    requires { IfOk told (λ told. told_answer told ≡ Done) }
+    ensures { done_reply result ≡ told_reply told.entry }
+{
+    match told {
+        Ok(_done) => Ok(()),
+        Err(refusal) => Err(refusal),
+    }
+}
+
+// What an event of the task table answers.
+fn table_told(told: TableTold) -> Result<Told<'static>, Refusal>
+    ensures reply { told_reply result ≡ table_reply told }
+    ensures limits { IsWithinLimits (told_reply result) }
+{
+    match told {
+        TableTold::Done => Ok(Told::Done),
+        TableTold::Home(home) => Ok(Told::Home(home)),
+        TableTold::Refused(refusal) => Err(refusal),
+    }
+}

@@ -1,0 +1,11 @@
+//! Tests of sessions: threads on one machine.
+#![tactic(auto)]
+
+#[cfg(test)]
+mod gates;
+#[cfg(test)]
+mod rows;
+#[cfg(test)]
+mod same;
+#[cfg(test)]
+mod stress;

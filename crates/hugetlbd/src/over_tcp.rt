@@ -1,0 +1,191 @@
+//! Sessions over TCP, on a machine that threads share.
+ghost use Rattle.std.specs.Prelude.{◌≡◌, ◌==◌, nat_lt};
+ghost use Rattle.std.specs.Thread.{IsSync};
+ghost use Rattle.hp_nodes.specs.Ledgers.{AreFrames};
+ghost use Rattle.hp_pool.specs.Ledgers.{AreLedgers};
+ghost use Rattle.hugetlbd.specs.Config.{IsServing, IsWithinLimits, choice_of};
+ghost use Rattle.hugetlbd.specs.Program.{IsServed};
+
+use crate::server::Server;
+use crate::settings::{Machine, Serving};
+use hp_model::naming::Naming;
+use hp_pool::Blanks;
+use hp_server::{Open, Served};
+use hp_serving::{Connections, Ended, Listening, ServeFault, report, serve_sessions};
+use hp_sessions::Shared;
+use hp_wire::ends::Sink;
+use std::alloc::Global;
+use std::io::Write;
+use std::marker::Brand;
+use std::net::{Ipv4Addr, Net, TcpListener, TcpStream};
+use std::sync::Wait;
+use std::thread::Threads;
+
+/// A server over TCP. It listens at 127.0.0.1, and tells its port to `port_to`.
+#[derive(Drop)]
+pub struct OverTcp<'a, R, P> {
+    pub rt: &'a R,
+    pub port_to: P,
+}
+
+impl<
+    'a,
+    R: Threads + Wait + Net<Listener = TcpListener, Stream = TcpStream> + Sync,
+    P: Sink + Drop,
+> Server for OverTcp<'a, R, P> {
+    ghost can_serve = { λ server. IsSync R.row };
+
+    fn serve<W: Sink, E: Sink>(
+        self,
+        alloc: Global,
+        machine: &Machine,
+        serving: Serving,
+        output: &mut W,
+        faults: &mut E,
+    ) -> u8 {
+        let Ok(listener) = TcpListener::bind(self.rt, (Ipv4Addr::LOCALHOST, serving.port)) else {
+            return report(Ended::Failed(ServeFault::Network), faults);
+        };
+        let mut connections = Listening::new(listener, self.port_to);
+        serve_over(
+            self.rt,
+            alloc,
+            machine,
+            serving,
+            &mut connections,
+            output,
+            faults,
+        )
+    }
+}
+
+/// Serves the sessions of these connections on a new machine, and closes it, as `Server::serve` does.
+pub fn serve_over<R: Threads + Wait + Sync, C: Connections, W: Sink, E: Sink>(
+    rt: &R,
+    alloc: Global,
+    machine: &Machine,
+    serving: Serving,
+    connections: &mut C,
+    output: &mut W,
+    faults: &mut E,
+) -> u8
+    requires limits { IsWithinLimits (choice_of machine.now) }
+    requires serving { IsServing serving }
+    ensures { IsServed (choice_of machine.now) serving (W.contents output.old)
+        (W.contents output.new) (E.is_sure faults.old) (E.contents faults.old)
+        (E.contents faults.new) result }
+{
+    let Ok(blanks) = Blanks::new(alloc, &machine.frames, machine.page as usize) else {
+        return report(Ended::Failed(ServeFault::Memory), faults);
+    };
+    serve_kept::<Brand, R, C, W, E>(
+        rt,
+        alloc,
+        machine,
+        serving,
+        blanks,
+        connections,
+        output,
+        faults,
+    )
+}
+
+// Keeps trails where there is room for entries.
+fn serve_kept<N: Naming + Send + Sync, R: Threads + Wait + Sync, C: Connections, W: Sink, E: Sink>(
+    rt: &R,
+    alloc: Global,
+    machine: &Machine,
+    serving: Serving,
+    blanks: Blanks,
+    connections: &mut C,
+    output: &mut W,
+    faults: &mut E,
+) -> u8
+    requires limits { IsWithinLimits (choice_of machine.now) }
+    requires serving { IsServing serving }
+    requires bytes { N.page_bytes ≡ machine.now.page }
+    requires ledgers { AreLedgers N.Naming blanks }
+    requires frames { AreFrames N.frames machine.now.frames.items }
+    ensures { IsServed (choice_of machine.now) serving (W.contents output.old)
+        (W.contents output.new) (E.is_sure faults.old) (E.contents faults.old)
+        (E.contents faults.new) result }
+{
+    if serving.room == 0 {
+        serve_on::<N, R, C, W, E, 0>(
+            rt,
+            alloc,
+            machine,
+            serving,
+            blanks,
+            connections,
+            output,
+            faults,
+        )
+    } else {
+        serve_on::<N, R, C, W, E, 1>(
+            rt,
+            alloc,
+            machine,
+            serving,
+            blanks,
+            connections,
+            output,
+            faults,
+        )
+    }
+}
+
+// Makes the machine, serves on it and closes it. Its trails are kept where K is 1.
+fn serve_on<
+    N: Naming + Send + Sync,
+    R: Threads + Wait + Sync,
+    C: Connections,
+    W: Sink,
+    E: Sink,
+    const K: usize,
+>(
+    rt: &R,
+    alloc: Global,
+    machine: &Machine,
+    serving: Serving,
+    blanks: Blanks,
+    connections: &mut C,
+    output: &mut W,
+    faults: &mut E,
+) -> u8
+    requires limits { IsWithinLimits (choice_of machine.now) }
+    requires serving { IsServing serving }
+    requires keeps { (K == 1) ≡ nat_lt 0 serving.room }
+    requires bytes { N.page_bytes ≡ machine.now.page }
+    requires ledgers { AreLedgers N.Naming blanks }
+    requires frames { AreFrames N.frames machine.now.frames.items }
+    ensures { IsServed (choice_of machine.now) serving (W.contents output.old)
+        (W.contents output.new) (E.is_sure faults.old) (E.contents faults.old)
+        (E.contents faults.new) result }
+{
+    let Ok(shared) = Shared::<N, K>::new(
+        alloc,
+        machine.frames.as_slice(),
+        machine.page as usize,
+        machine.slots as usize,
+        serving.room,
+        blanks,
+    ) else {
+        return report(Ended::Failed(ServeFault::Memory), faults);
+    };
+    let served = Served {
+        shared,
+        gate: Open,
+        room: serving.room,
+    };
+    serve_sessions(
+        rt,
+        alloc,
+        served,
+        connections,
+        serving.sessions,
+        serving.workers,
+        output,
+        faults,
+    )
+}
