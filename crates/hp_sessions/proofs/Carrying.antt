@@ -238,6 +238,11 @@ made_added kept size s t e reply receipt handed is =
     subst (λ (v : SessionView). IsMade kept size s e reply v) (sym is)
     (made_of kept size s e reply receipt (option_cons receipt []) handed (λ none. ap (λ o. option_cons o []) none) (λ r some. ap (λ o. option_cons o []) some))
 
+-- without a receipt nothing is added
+pub made_unnoted : (kept : Bool) (size : ℕ) (s : SessionView) (e : Event) (reply : Reply) → IsHanded kept size e reply None → IsMade kept size s e reply s
+made_unnoted kept size s e reply handed =
+    subst (λ (v : SessionView). IsMade kept size s e reply v) (sym (noted_none s)) (made_of kept size s e reply None [] handed (λ none. refl) (λ r some. cc))
+
 -- one receipt, or none
 pub grows_one : (s t : SessionView) (receipt : Option Receipt) → t ≡ noted s (option_cons receipt []) → Grows 1 s t
 grows_one s t receipt is = record {

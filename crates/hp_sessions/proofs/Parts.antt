@@ -71,6 +71,10 @@ pub handed_by : {E : Type 0} (kept : Bool) (size : ℕ) (entries : Option (List 
 handed_by kept size entries part e reply receipt clear can told given =
     done_put (is_trace_full reply) _ _ clear (can, told_by kept entries part e reply receipt told given)
 
+-- the same where no entries are kept
+pub unnoted_handed : (kept : Bool) (size : ℕ) (e : Event) (reply : Reply) → kept ≡ false → is_trace_full reply ≡ false → CanAnswer size e reply → IsHanded kept size e reply None
+unnoted_handed kept size e reply unkept clear can = done_put (is_trace_full reply) _ _ clear (can, subst (λ b. IsToldOf b e reply None) (sym unkept) refl)
+
 -- ---- the task table
 
 table_open : (n : ℕ) (t : Table) (e : TableEvent) → is_trace_full (table_event n t e).0 ≡ false

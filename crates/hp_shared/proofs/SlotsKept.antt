@@ -179,3 +179,31 @@ kept_none (Some es) e = cc
 pub none_added : (o : Option (List SlotEntry)) (e : SlotEntry) → o ≡ None → o ≡ added o e
 none_added None e is = refl
 none_added (Some es) e is = cc
+
+-- ---- where no entries are kept
+
+module _ (full : Type 0) (size k : ℕ) (o : Option (List SlotEntry)) (left : Option ℕ) (extra : ℕ) (old : Slot) (e : SlotEvent) (reply : Reply)
+    (asked : Option Asked) (new : Slot) (acted : IsActedOr full size k old e reply asked new) (unkept : is_some o ≡ false) where
+  is_noted : o ≡ added o (record { event = e; reply = reply; asked = asked })
+  is_noted = none_added o (record { event = e; reply = reply; asked = asked }) (kept_none o unkept)
+
+  pub unnoted_stays : IsTrue (is_slot_event old e) → IsLockedSlot size k o left extra old → IsLockedSlot size k o left extra new
+  unnoted_stays is_event was = by_reply (is_trace_full reply) refl
+    where
+      uncounted : left ≡ None
+      uncounted = was.counted (kept_none o unkept)
+
+      by_reply : (b : Bool) → is_trace_full reply ≡ b → IsLockedSlot size k o left extra new
+      by_reply true is = full_stays full size k o left extra old e reply asked new acted is was
+      by_reply false is =
+          slot_noted size k o left extra old e reply asked new was (event_went full size k o left extra old e reply asked new acted is) o left extra is_event
+          is_noted (λ some. cc) (λ none. refl) refl (λ closing. ap (λ (l : Option ℕ). has_room false l extra) uncounted)
+
+  pub unnoted_done : IsSlotEvent full size (record { number = k; mount = old; entries = o; left = left; extra = extra })
+      (record { number = k; mount = new; entries = o; left = left; extra = extra }) e reply asked None
+  unnoted_done = by_reply (is_trace_full reply) refl
+    where
+      by_reply : (b : Bool) → is_trace_full reply ≡ b → IsSlotEvent full size (record { number = k; mount = old; entries = o; left = left; extra = extra })
+          (record { number = k; mount = new; entries = o; left = left; extra = extra }) e reply asked None
+      by_reply true is = event_full full size k o left extra old e reply asked new acted is
+      by_reply false is = event_done full size k o left extra old e reply asked new acted is o left extra None is_noted (kept_none o unkept)

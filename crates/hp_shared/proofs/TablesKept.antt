@@ -1,5 +1,5 @@
 -- The table's trail keeps its fact with one entry more.
-use Rattle.std.proofs.Common.{◌≡◌, ℕ, ◌≤◌, Bool, true, false, List, [], ◌∷◌, ◌++◌, Option, None, Some, Ok, Err, length, refl, sym, ap, subst, arith}
+use Rattle.std.proofs.Common.{◌≡◌, ℕ, ◌≤◌, Bool, true, false, List, [], ◌∷◌, ◌++◌, Option, None, Some, Ok, Err, length, refl, sym, ap, ◌∙◌, subst, arith}
 use Rattle.hp_model.specs.declared.entry.TableEntry.{TableEntry}
 use Rattle.hp_model.specs.declared.event.TableEvent.{TableEvent}
 use Rattle.hp_model.specs.machine.Plan.{Reply}
@@ -12,7 +12,7 @@ use Rattle.hp_locked.specs.Views.{HasPlaces, IsFresh}
 use Rattle.hp_trail.specs.Keeping.{added, has_room, one_less}
 use Rattle.hp_shared.specs.Tables.{IsLockedTable, IsTableTrail}
 use Rattle.hp_shared.proofs.Places.{has_closing, or_room, places_after, room_closing}
-use Rattle.std.specs.Prelude.{Result, ◌||◌}
+use Rattle.std.specs.Prelude.{Result, is_some, ◌||◌}
 use Rattle.hp_model.specs.declared.refusal.Refusal.{Refusal}
 use Rattle.hp_model.specs.machine.Accesses.{done_reply}
 use Rattle.hp_mount.specs.Done.{done}
@@ -74,3 +74,15 @@ module _ (nodes : ℕ) (o : Option (List TableEntry)) (left : Option ℕ) (extra
 pub done_same : (r : Result (Unit {0}) Refusal) → done r ≡ done_reply r
 done_same (Ok x) = refl
 done_same (Err e) = refl
+
+-- where no entries are kept
+module _ (nodes : ℕ) (o : Option (List TableEntry)) (left : Option ℕ) (extra : ℕ) (t : Table) (e : TableEvent) (reply : Reply) (q : Table)
+    (step : table_event nodes t e ≡ (reply, q)) where
+  pub unnoted : (o : Option (List TableEntry)) → is_some o ≡ false → o ≡ added o (record { event = e; reply = reply })
+  unnoted None unkept = refl
+  unnoted (Some es) unkept = cc
+
+  pub unnoted_stays : is_some o ≡ false → left ≡ None → IsLockedTable nodes o left extra t → IsLockedTable nodes o left extra q
+  unnoted_stays unkept uncounted was =
+      table_noted nodes o left extra t e reply q was step o left extra (unnoted o unkept) (uncounted ∙ sym (ap one_less uncounted)) refl
+      (λ closing. ap (λ (l : Option ℕ). has_room false l extra) uncounted)

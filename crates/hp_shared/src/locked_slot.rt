@@ -177,6 +177,43 @@ impl<N: Naming, T: Trail<SlotEntry>> Slot<N, T> {
         (told, receipt)
     }
 
+    /// An event of a mount but a list of names, where no entries are kept: its reply, with bytes in the front of the room. There
+    /// is no receipt. (An `event` hands back room for one, which costs more than a load.)
+    pub fn event_unnoted<
+        'a,
+        D: SessionDoor<Share = Subpool<N>, Page = Page<N>, Going = PageStore<N>>,
+    >(
+        &mut self,
+        door: &mut D,
+        page_bytes: u64,
+        home: u64,
+        event: MountEvent<'_>,
+        room: &'a mut [u8],
+    ) -> Result<Told<'a>, Refusal>
+        requires shares { (s : ShareValue) → D.share_of s ≡ s }
+        requires pages { (p : PageValue) → D.page_of p ≡ p }
+        requires going { (s : StoreValue) → D.going_of s ≡ s.going }
+        requires emptied { (s : StoreValue) → D.emptied s ≡ record s { going = [] } }
+        requires ready { D.is_ready door.old }
+        requires page_bytes { page_bytes ≡ N.page_bytes }
+        requires room { 256 ≤ length room.old }
+        requires apart { lists_names (event_of home event) ≡ false }
+        requires unkept { T.keeps ≡ false }
+        ensures done { IsSlotEvent (D.is_full door.new) N.page_bytes self.old self.new
+            (event_of home event.entry)
+            (told_reply result) (D.asked door.new) None }
+        ensures number { self.new.number ≡ self.old.number }
+        ensures keeps { is_trace_full (told_reply result) ≡ true → D.is_full door.new }
+        ensures limits { IsWithinLimits (told_reply result) }
+    {
+        let Slot {
+            number: _,
+            mount,
+            trail: _,
+        } = self;
+        act(mount, door, page_bytes, home, event, room)
+    }
+
     /// The maps of a task, which has some on the slot, go: the receipt where entries are kept. Never refused.
     pub fn exit_maps<D: SessionDoor<Share = Subpool<N>, Page = Page<N>, Going = PageStore<N>>>(
         &mut self,

@@ -114,6 +114,21 @@ impl<N: Naming, T: Trail<TableEntry>> Table<N, T> {
         let receipt = note(trail, event, told);
         Ok((told, receipt))
     }
+
+    /// An event of the table where no entries are kept: its answer. There is no receipt.
+    pub fn event_unnoted(&mut self, event: TableEvent) -> TableTold
+        requires unkept { T.keeps ≡ false }
+        ensures done { IsTableEventDone (length (frames_list N.frames)) self.old self.new event
+            (table_reply result) }
+    {
+        let Table {
+            nodes,
+            tasks,
+            trail: _,
+            of: _,
+        } = self;
+        answered(tasks, *nodes, event)
+    }
 }
 
 // Whether the event takes away a task that is there, or the trail has a place for an entry of any kind.

@@ -50,6 +50,17 @@ impl<'a, N: Naming, R: Wait, G: Gate, const K: usize> Session<'a, N, R, G, K> {
         }
     }
 
+    // An event of the task table where no entries are kept: what it answers.
+    pub(super) fn enter_table_unnoted(&self, event: TableEvent) -> TableTold
+        requires { (K == 1) ≡ false }
+        ensures { IsHanded (K == 1) N.page_bytes (OnTasks event) (table_reply result) None }
+    {
+        let shared = self.shared;
+        let mut value = shared.table.lock(self.rt);
+        let table: &mut Table<N, Trace<TableEntry, K>> = &mut value;
+        table.event_unnoted(event)
+    }
+
     // An event of the pool alone.
     pub(super) fn enter_pool(
         &self,
@@ -99,6 +110,33 @@ impl<'a, N: Naming, R: Wait, G: Gate, const K: usize> Session<'a, N, R, G, K> {
         };
         let mut door = Door::new(self.rt, self.gate, &shared.core, &shared.nodes);
         slot.event(&mut door, shared.page_size(), home, event, noted, room)
+    }
+
+    // An event of the mount of a slot where no entries are kept.
+    pub(super) fn enter_slot_unnoted<'b>(
+        &self,
+        at: usize,
+        home: u64,
+        event: MountEvent<'_>,
+        room: &'b mut [u8],
+    ) -> Result<Told<'b>, Refusal>
+        requires unkept { (K == 1) ≡ false }
+        requires within { at < self.now.slots }
+        requires room { 256 ≤ length room.old }
+        requires apart { lists_names (event_of home event) ≡ false }
+        ensures handed { IsHanded (K == 1) N.page_bytes (OnSlot at (event_of home event.entry))
+            (told_reply result) None }
+        ensures limits { IsWithinLimits (told_reply result) }
+    {
+        let shared = self.shared;
+        let mut value = shared.slots[at].lock(self.rt);
+        self.gate.enter(at as u64);
+        let slot: &mut Slot<N, Trace<SlotEntry, K>> = &mut value;
+        if slot.number() != at as u64 {
+            return Err(absent::<K>(Refusal::NoSuchSlot));
+        }
+        let mut door = Door::new(self.rt, self.gate, &shared.core, &shared.nodes);
+        slot.event_unnoted(&mut door, shared.page_size(), home, event, room)
     }
 
     // Mounts a slot.

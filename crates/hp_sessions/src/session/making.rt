@@ -65,6 +65,22 @@ impl<'a, N: Naming, R: Wait, G: Gate, const K: usize> Session<'a, N, R, G, K> {
         }
     }
 
+    // The same where no entries are kept.
+    pub(super) fn find_unnoted(&mut self, task: u64) -> Result<u64, Refusal>
+        requires { (K == 1) ≡ false }
+        ensures found { IfOk result (λ home. (f : ℕ → Script) →
+            Leads (K == 1) N.page_bytes self.old (finding task f) self.new (f home)) }
+        ensures refused { IfErr result (λ refusal. (f : ℕ → Script) →
+            Carries (K == 1) N.page_bytes self.old (finding task f) (Err refusal) self.new) }
+        ensures same { self.new ≡ self.old }
+    {
+        match self.enter_table_unnoted(TableEvent::Find { task }) {
+            TableTold::Home(home) => Ok(home),
+            TableTold::Refused(refusal) => Err(refusal),
+            TableTold::Done => unreachable!(),
+        }
+    }
+
     // An event of the mount of a slot, if there is one of that number.
     pub(super) fn make_slot<'b>(
         &mut self,
@@ -92,6 +108,31 @@ impl<'a, N: Naming, R: Wait, G: Gate, const K: usize> Session<'a, N, R, G, K> {
         let (told, receipt) = self.enter_slot(at, home, event, copies, room);
         self.add(receipt);
         told
+    }
+
+    // The same where no entries are kept.
+    pub(super) fn make_slot_unnoted<'b>(
+        &mut self,
+        slot: u64,
+        home: u64,
+        event: MountEvent<'_>,
+        room: &'b mut [u8],
+    ) -> Result<Told<'b>, Refusal>
+        requires unkept { (K == 1) ≡ false }
+        requires room { 256 ≤ length room.old }
+        requires apart { lists_names (event_of home event) ≡ false }
+        ensures carried { Carries (K == 1) N.page_bytes self.old
+            (on_slot self.old.slots slot (event_of home event.entry))
+            (told_reply result) self.new }
+        ensures limits { IsWithinLimits (told_reply result) }
+        ensures answer { IfOk result (λ told.
+            HasAnswerOf (event_of home event.entry) (told_answer told)) }
+    {
+        let at = slot as usize;
+        if at >= self.shared.count() {
+            return Err(Refusal::NoSuchSlot);
+        }
+        self.enter_slot_unnoted(at, home, event, room)
     }
 
     // Mounts a slot, if there is one of that number.

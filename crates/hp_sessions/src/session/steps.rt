@@ -9,7 +9,7 @@ ghost use Rattle.hp_model.specs.machine.Told.{told_answer, told_reply};
 ghost use Rattle.hp_model.specs.text.Writing.{IsWithinLimits};
 ghost use Rattle.hp_mount.specs.Event.{event_of};
 ghost use Rattle.hp_shared.specs.Tables.{table_reply};
-ghost use Rattle.hp_sessions.specs.declared.work.Work.TheVariants.{OfTask as OfATask};
+ghost use Rattle.hp_sessions.specs.declared.work.Work.TheVariants.{OfTask as OfATask, OnSlot as OnASlot};
 ghost use Rattle.hp_sessions.specs.Calls.{HasRoom, IsAnswered};
 ghost use Rattle.hp_sessions.specs.Works.{AreCopies, HasAnswerOf, IsApart, IsBytes, IsWorked, bytes_of};
 
@@ -105,6 +105,9 @@ impl<'a, N: Naming, R: Wait, G: Gate, const K: usize> Session<'a, N, R, G, K> {
         if let Work::OfTask { task, slot, event } = *work {
             return self.of_task(task, slot, event, room);
         }
+        if let Work::OnSlot { slot, event } = *work && K != 1 {
+            return self.on_slot_unnoted(slot, event, room);
+        }
         if self.lacks(most_receipts(self.shared.count(), work)) {
             return Err(Refusal::TraceFull);
         }
@@ -143,6 +146,9 @@ impl<'a, N: Naming, R: Wait, G: Gate, const K: usize> Session<'a, N, R, G, K> {
         ensures answer { IfOk result (λ told.
             HasAnswerOf (event_of 0 event.entry) (told_answer told)) }
     {
+        if K != 1 {
+            return self.of_task_unnoted(task, slot, event, room);
+        }
         if self.lacks(2) {
             return Err(Refusal::TraceFull);
         }
@@ -151,6 +157,46 @@ impl<'a, N: Naming, R: Wait, G: Gate, const K: usize> Session<'a, N, R, G, K> {
         };
         match self.find(task) {
             Ok(home) => self.make_slot(slot, home, event, copies, room),
+            Err(refusal) => Err(refusal),
+        }
+    }
+
+    // An event of a mount where no entries are kept.
+    fn on_slot_unnoted<'b>(
+        &mut self,
+        slot: u64,
+        event: MountEvent<'_>,
+        room: &'b mut [u8],
+    ) -> Result<Told<'b>, Refusal>
+        requires unkept { (K == 1) ≡ false }
+        requires room { 256 ≤ length room.old }
+        requires apart { lists_names (event_of 0 event) ≡ false }
+        ensures worked { IsWorked (K == 1) N.page_bytes self.old (OnASlot slot event.entry)
+            (told_reply result) self.new }
+        ensures limits { IsWithinLimits (told_reply result) }
+    {
+        self.make_slot_unnoted(slot, 0, event, room)
+    }
+
+    // An event of a mount for a task, where no entries are kept: nothing is copied, and there is no receipt to move.
+    fn of_task_unnoted<'b>(
+        &mut self,
+        task: u64,
+        slot: u64,
+        event: MountEvent<'_>,
+        room: &'b mut [u8],
+    ) -> Result<Told<'b>, Refusal>
+        requires unkept { (K == 1) ≡ false }
+        requires room { 256 ≤ length room.old }
+        requires apart { lists_names (event_of 0 event) ≡ false }
+        ensures worked { IsWorked (K == 1) N.page_bytes self.old (OfATask task slot event.entry)
+            (told_reply result) self.new }
+        ensures limits { IsWithinLimits (told_reply result) }
+        ensures answer { IfOk result (λ told.
+            HasAnswerOf (event_of 0 event.entry) (told_answer told)) }
+    {
+        match self.find_unnoted(task) {
+            Ok(home) => self.make_slot_unnoted(slot, home, event, room),
             Err(refusal) => Err(refusal),
         }
     }
