@@ -48,7 +48,8 @@ fn full_trails<N: Naming, R: Wait + Abort>(rt: &R, alloc: Global, blanks: Blanks
         b"connect 1 0\nconnect 2 0\nconnect 3 0\nmeminfo\nnr 4\nnr 5\nmeminfo\nattach 2\nexit 1\nexit 1\n";
     let replies: &[u8] =
         b"ok\nok\nerror 23 TraceFull\ntext 6\nHugePages_Total:       0\nHugePages_Free:        0\n\
-HugePages_Rsvd:        0\nHugePages_Surp:        0\nHugepagesize:          1 kB\nHugetlb:               0 kB\n\
+HugePages_Rsvd:        0\nHugePages_Surp:        0\n\
+Hugepagesize:          1 kB\nHugetlb:               0 kB\n\
 ok 4\nerror 23 TraceFull\nerror 23 TraceFull\nerror 23 TraceFull\nok\nerror 23 TraceFull\n";
     let told = answered(rt, alloc, &shared, 16, lines, replies);
     same!(rt; told.len(), 5);

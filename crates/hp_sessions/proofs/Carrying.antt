@@ -20,7 +20,8 @@ use Rattle.hp_model.specs.machine.Table.{Table, home_of, when_known}
 use Rattle.hp_model.specs.threads.JointRun.{option_cons}
 use Rattle.hp_model.specs.threads.Telling.{Tells, TellsFront, TellsStep, has_place, most_receipts, told_of}
 use Rattle.hp_shared.specs.Slots.{is_trace_full}
-use Rattle.hp_sessions.specs.Calls.{AreAdded, AreAnswers, CanAnswer, Carries, Grows, HasRoom, HasRoomFor, IsAnswered, IsHanded, IsMade, IsRefusedFirst, IsTold, IsToldOf, Leads, SessionView, TellsOrStops, noted}
+use Rattle.hp_sessions.specs.Calls.{AreAdded, AreAnswers, CanAnswer, Carries, Grows, HasRoom, HasRoomFor, IsAnswered, IsHanded, IsMade, IsRefusedFirst}
+use Rattle.hp_sessions.specs.Calls.{IsTold, IsToldOf, Leads, SessionView, TellsOrStops, noted}
 
 -- ---- cases of a test
 

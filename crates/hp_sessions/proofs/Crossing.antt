@@ -45,19 +45,49 @@ module _ (N : RattleType) (names : Ghosts N.Denot) where
   nodes_sync = search (sendable, crosses, node_frames_send) depth 30
 
   pub shared_send : (k : RattleType) → IsSend (Shared.the_row N k names)
-  shared_send k = view_send (Inside.the_row N k names) _ _ _ _ (declared_send (Inside.the_type N k names)
-    (search sendable, (global.send, (
-      search (sendable, crosses, table_send, trace_send, table_entry_send) depth 30, (
-      search (sendable, crosses, core_send, trace_send, pool_entry_send) depth 30, (
-      nodes_send, (
-      search (sendable, crosses, slot_send, trace_send, slot_entry_send) depth 30, (
-      search (sendable, crosses, spare_send) depth 30, tt))))))))
+  shared_send k = view_send (Inside.the_row N k names) _ _ _ _ (declared_send (Inside.the_type N k names) (
+    search sendable,
+    (
+      global.send,
+      (
+        search (sendable, crosses, table_send, trace_send, table_entry_send) depth 30,
+        (
+          search (sendable, crosses, core_send, trace_send, pool_entry_send) depth 30,
+          (
+            nodes_send,
+            (
+              search (sendable, crosses, slot_send, trace_send, slot_entry_send) depth 30,
+              (
+                search (sendable, crosses, spare_send) depth 30,
+                tt,
+              ),
+            ),
+          ),
+        ),
+      ),
+    ),
+  ))
 
   pub shared_sync : (k : RattleType) → IsSync (Shared.the_row N k names)
-  shared_sync k = view_sync (Inside.the_row N k names) _ _ _ _ (declared_sync (Inside.the_type N k names)
-    (search sendable, (global.sync, (
-      search (sendable, crosses, table_send, trace_send, table_entry_send) depth 30, (
-      search (sendable, crosses, core_send, trace_send, pool_entry_send) depth 30, (
-      nodes_sync, (
-      search (sendable, crosses, slot_send, trace_send, slot_entry_send) depth 30, (
-      search (sendable, crosses, spare_send) depth 30, tt))))))))
+  shared_sync k = view_sync (Inside.the_row N k names) _ _ _ _ (declared_sync (Inside.the_type N k names) (
+    search sendable,
+    (
+      global.sync,
+      (
+        search (sendable, crosses, table_send, trace_send, table_entry_send) depth 30,
+        (
+          search (sendable, crosses, core_send, trace_send, pool_entry_send) depth 30,
+          (
+            nodes_sync,
+            (
+              search (sendable, crosses, slot_send, trace_send, slot_entry_send) depth 30,
+              (
+                search (sendable, crosses, spare_send) depth 30,
+                tt,
+              ),
+            ),
+          ),
+        ),
+      ),
+    ),
+  ))

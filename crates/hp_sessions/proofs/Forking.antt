@@ -206,7 +206,8 @@ module _ (kept : Bool) (size : ℕ) where
     -- no slot is left
     pub all_forked : (s : SessionView) (done : List Bool) (at n : ℕ) → n ≤ at → Carries kept size s (left_at done at n) (Ok Done) s
     all_forked s done at n over =
-        subst (λ xs. Carries kept size s (fork_slots xs (marked done at) parent child) (Ok Done) s) (sym (ap (range_with_len at) {x = n - at} {y = 0} (omega (arith, over)))) (ends kept size s (Ok Done) refl)
+        subst (λ xs. Carries kept size s (fork_slots xs (marked done at) parent child) (Ok Done) s)
+        (sym (ap (range_with_len at) {x = n - at} {y = 0} (omega (arith, over)))) (ends kept size s (Ok Done) refl)
 
   -- ---- undoing
 

@@ -185,7 +185,8 @@ pub mounting_absent : (kept : Bool) (size k : ℕ) (options : List ℕ) (r : Ref
     IsHanded kept size (OnSlot k (slot.Mount options)) (Err r) None
 mounting_absent kept size k options r is =
     subst (λ x. IsHanded kept size (OnSlot k (slot.Mount options)) (Err x) None) (sym is)
-    (absent_handed kept size k (slot.Mount options) SlotTaken refl refl (Some open_mount, None, Some open_mount, (fresh_choice false (Some open_mount), is_fresh false (Some open_mount), (refl, refl))))
+    (absent_handed kept size k (slot.Mount options) SlotTaken refl refl
+    (Some open_mount, None, Some open_mount, (fresh_choice false (Some open_mount), is_fresh false (Some open_mount), (refl, refl))))
 
 -- ---- what a load and a store are answered
 

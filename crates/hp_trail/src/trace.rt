@@ -63,11 +63,7 @@ impl<E: Drop, const K: usize> Trail<E> for Trace<E, K> {
     }
 
     fn place(&self) -> u64 {
-        if K == 1 {
-            self.kept.place()
-        } else {
-            0
-        }
+        if K == 1 { self.kept.place() } else { 0 }
     }
 
     fn has_room(&self, closing: bool) -> bool {

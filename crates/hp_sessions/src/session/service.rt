@@ -13,7 +13,8 @@ use hp_model::told::Told;
 use std::sync::Wait;
 
 impl<'a, N: Naming, R: Wait, G: Gate, const K: usize> Service for Session<'a, N, R, G, K> {
-    ghost may_answer = { λ old step reply new. IsAnswered (K == 1) N.page_bytes old step reply new };
+    ghost may_answer = { λ old step reply new.
+        IsAnswered (K == 1) N.page_bytes old step reply new };
 
     ghost page = { λ s. N.page_bytes };
 

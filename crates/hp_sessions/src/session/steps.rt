@@ -105,7 +105,9 @@ impl<'a, N: Naming, R: Wait, G: Gate, const K: usize> Session<'a, N, R, G, K> {
         if let Work::OfTask { task, slot, event } = *work {
             return self.of_task(task, slot, event, room);
         }
-        if let Work::OnSlot { slot, event } = *work && K != 1 {
+        if let Work::OnSlot { slot, event } = *work
+            && K != 1
+        {
             return self.on_slot_unnoted(slot, event, room);
         }
         if self.lacks(most_receipts(self.shared.count(), work)) {

@@ -13,7 +13,8 @@ pub returns-in-Ok-clause-carried : goal.returns-in-Ok-clause-carried
 returns-in-Ok-clause-carried g c =
     let many = c.count.ensures.count in
     let same = ap (λ (v : SessionView). v.slots) c.self.view_is in
-    subst (λ (n : Result (List (List ℕ)) Refusal). Carries (g.row.K == 1) g.N.Naming.page_bytes c.args.self.now (on_slot c.args.self.now.slots c.args.slot Ls) (names_reply n) c.add.new.self) c.in-Ok.is
+    subst (λ (n : Result (List (List ℕ)) Refusal). Carries (g.row.K == 1) g.N.Naming.page_bytes c.args.self.now
+    (on_slot c.args.self.now.slots c.args.slot Ls) (names_reply n) c.add.new.self) c.in-Ok.is
     (on_slot_made (g.row.K == 1) g.N.Naming.page_bytes c.args.self.now c.add.new.self c.args.slot Ls (names_reply c.enter_names-names.result.0)
     (let under = c.if-at-count.false in omega (arith, many, same, under))
     (made_added (g.row.K == 1) g.N.Naming.page_bytes c.args.self.now c.add.new.self (OnSlot c.args.slot Ls) (names_reply c.enter_names-names.result.0) c.enter_names-names.result.1
@@ -23,7 +24,8 @@ pub returns-in-Err-clause-carried : goal.returns-in-Err-clause-carried
 returns-in-Err-clause-carried g c =
     let many = c.count.ensures.count in
     let same = ap (λ (v : SessionView). v.slots) c.self.view_is in
-    subst (λ (n : Result (List (List ℕ)) Refusal). Carries (g.row.K == 1) g.N.Naming.page_bytes c.args.self.now (on_slot c.args.self.now.slots c.args.slot Ls) (names_reply n) c.add.new.self) c.in-Err.is
+    subst (λ (n : Result (List (List ℕ)) Refusal). Carries (g.row.K == 1) g.N.Naming.page_bytes c.args.self.now
+    (on_slot c.args.self.now.slots c.args.slot Ls) (names_reply n) c.add.new.self) c.in-Err.is
     (on_slot_made (g.row.K == 1) g.N.Naming.page_bytes c.args.self.now c.add.new.self c.args.slot Ls (names_reply c.enter_names-names.result.0)
     (let under = c.if-at-count.false in omega (arith, many, same, under))
     (made_added (g.row.K == 1) g.N.Naming.page_bytes c.args.self.now c.add.new.self (OnSlot c.args.slot Ls) (names_reply c.enter_names-names.result.0) c.enter_names-names.result.1

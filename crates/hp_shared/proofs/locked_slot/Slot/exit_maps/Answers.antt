@@ -51,17 +51,17 @@ pub returns-clause-done : goal.returns-clause-done
 returns-clause-done g c =
     let s = c.self.inside in
     let a = goal.at.returns-clause-done g c in
-          subst (λ (v : SlotView). IsSlotEventDone g.N.Naming.page_bytes v (record {
-            number = s.number;
-            mount = c.leave-told.new.mount;
-            entries = g.T.Trail.entries c.note.new.trail;
-            left = g.T.Trail.left c.note.new.trail;
-            extra = g.T.Trail.extra c.note.new.trail;
-          })
-          (ExitMaps c.args.task) (Ok Done) (g.D.SessionDoor.asked c.leave-told.new.door) c.note.result) c.self.view_is
-          (record {
-            changes = c.leave-told.ensures.went g.N.Naming.page_bytes s.number;
-            entries = entries g a.After-note;
-            told = subst (λ (x : Reply). IsReceipt (g.T.Trail.entries s.trail) (AtSlot s.number) (OnSlot s.number (ExitMaps c.args.task)) x
-                c.note.result) c.leave-told.ensures.reply (c.note.ensures.receipt (ExitMaps c.args.task) (refl, refl));
-          })
+    subst (λ (v : SlotView). IsSlotEventDone g.N.Naming.page_bytes v (record {
+      number = s.number;
+      mount = c.leave-told.new.mount;
+      entries = g.T.Trail.entries c.note.new.trail;
+      left = g.T.Trail.left c.note.new.trail;
+      extra = g.T.Trail.extra c.note.new.trail;
+    })
+    (ExitMaps c.args.task) (Ok Done) (g.D.SessionDoor.asked c.leave-told.new.door) c.note.result) c.self.view_is
+    (record {
+      changes = c.leave-told.ensures.went g.N.Naming.page_bytes s.number;
+      entries = entries g a.After-note;
+      told = subst (λ (x : Reply). IsReceipt (g.T.Trail.entries s.trail) (AtSlot s.number) (OnSlot s.number (ExitMaps c.args.task)) x
+          c.note.result) c.leave-told.ensures.reply (c.note.ensures.receipt (ExitMaps c.args.task) (refl, refl));
+    })

@@ -33,19 +33,19 @@ invariant_of-self-2 g c =
 pub returns-clause-done : goal.returns-clause-done
 returns-clause-done g c =
     let s = c.self.inside in
-          subst (λ (v : SlotView). IsSlotEvent ⊥ g.N.Naming.page_bytes v (record {
-            number = s.number;
-            mount = c.fork-told.new.mount;
-            entries = g.T.Trail.entries c.note-receipt.new.trail;
-            left = g.T.Trail.left c.note-receipt.new.trail;
-            extra = g.T.Trail.extra c.note-receipt.new.trail;
-          })
-          (ForkMaps c.args.parent c.args.child) (told_reply c.fork-told.result) (g.D.SessionDoor.asked c.fork-told.new.door) c.note-receipt.result) c.self.view_is
-          (event_done ⊥ g.N.Naming.page_bytes s.number (g.T.Trail.entries s.trail) (g.T.Trail.left s.trail) (g.T.Trail.extra s.trail) s.mount
-          (ForkMaps c.args.parent c.args.child) (told_reply c.fork-told.result) (g.D.SessionDoor.asked c.fork-told.new.door) c.fork-told.new.mount
-          (went_acted ⊥ g.N.Naming.page_bytes s.number s.mount (ForkMaps c.args.parent c.args.child) (told_reply c.fork-told.result)
-          (g.D.SessionDoor.asked c.fork-told.new.door) c.fork-told.new.mount c.fork-told.ensures.noted
-          (c.fork-told.ensures.went g.N.Naming.page_bytes s.number))
-          c.fork-told.ensures.noted (g.T.Trail.entries c.note-receipt.new.trail) (g.T.Trail.left c.note-receipt.new.trail)
-          (g.T.Trail.extra c.note-receipt.new.trail) c.note-receipt.result (entries g (goal.at.returns-clause-done g c).After-note-receipt)
-          (c.note-receipt.ensures.receipt (ForkMaps c.args.parent c.args.child) (refl, refl)))
+    subst (λ (v : SlotView). IsSlotEvent ⊥ g.N.Naming.page_bytes v (record {
+      number = s.number;
+      mount = c.fork-told.new.mount;
+      entries = g.T.Trail.entries c.note-receipt.new.trail;
+      left = g.T.Trail.left c.note-receipt.new.trail;
+      extra = g.T.Trail.extra c.note-receipt.new.trail;
+    })
+    (ForkMaps c.args.parent c.args.child) (told_reply c.fork-told.result) (g.D.SessionDoor.asked c.fork-told.new.door) c.note-receipt.result) c.self.view_is
+    (event_done ⊥ g.N.Naming.page_bytes s.number (g.T.Trail.entries s.trail) (g.T.Trail.left s.trail) (g.T.Trail.extra s.trail) s.mount
+    (ForkMaps c.args.parent c.args.child) (told_reply c.fork-told.result) (g.D.SessionDoor.asked c.fork-told.new.door) c.fork-told.new.mount
+    (went_acted ⊥ g.N.Naming.page_bytes s.number s.mount (ForkMaps c.args.parent c.args.child) (told_reply c.fork-told.result)
+    (g.D.SessionDoor.asked c.fork-told.new.door) c.fork-told.new.mount c.fork-told.ensures.noted
+    (c.fork-told.ensures.went g.N.Naming.page_bytes s.number))
+    c.fork-told.ensures.noted (g.T.Trail.entries c.note-receipt.new.trail) (g.T.Trail.left c.note-receipt.new.trail)
+    (g.T.Trail.extra c.note-receipt.new.trail) c.note-receipt.result (entries g (goal.at.returns-clause-done g c).After-note-receipt)
+    (c.note-receipt.ensures.receipt (ForkMaps c.args.parent c.args.child) (refl, refl)))

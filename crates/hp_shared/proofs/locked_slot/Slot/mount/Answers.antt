@@ -32,21 +32,21 @@ returns-then-is_full-clause-keeps g c =
 pub returns-then-is_full-clause-done : goal.returns-then-is_full-clause-done
 returns-then-is_full-clause-done g c =
     let s = c.self.inside in
-          subst (λ (v : SlotView). IsSlotEvent (g.D.PoolDoor.is_full c.mount-told.new.door) g.N.Naming.page_bytes v
-          (record {
-            number = s.number;
-            mount = c.mount-told.new.mount;
-            entries = g.T.Trail.entries s.trail;
-            left = g.T.Trail.left s.trail;
-            extra = g.T.Trail.extra s.trail;
-          })
-          (Mounting c.args.options.now) (told_reply c.mount-told.result) (g.D.SessionDoor.asked c.mount-told.new.door) None) c.self.view_is
-          (event_full (g.D.PoolDoor.is_full c.mount-told.new.door) g.N.Naming.page_bytes s.number (g.T.Trail.entries s.trail) (g.T.Trail.left s.trail)
-          (g.T.Trail.extra s.trail) s.mount (Mounting c.args.options.now) (told_reply c.mount-told.result)
-          (g.D.SessionDoor.asked c.mount-told.new.door) c.mount-told.new.mount (subst
-          (λ (n : ℕ). IsActedOr (g.D.PoolDoor.is_full c.mount-told.new.door) n s.number s.mount (Mounting c.args.options.now)
-          (told_reply c.mount-told.result) (g.D.SessionDoor.asked c.mount-told.new.door) c.mount-told.new.mount) c.requires.page_bytes
-          (c.mount-told.ensures.done s.number)) (sym c.is_full.ensures ∙ c.if-is_full.true))
+    subst (λ (v : SlotView). IsSlotEvent (g.D.PoolDoor.is_full c.mount-told.new.door) g.N.Naming.page_bytes v
+    (record {
+      number = s.number;
+      mount = c.mount-told.new.mount;
+      entries = g.T.Trail.entries s.trail;
+      left = g.T.Trail.left s.trail;
+      extra = g.T.Trail.extra s.trail;
+    })
+    (Mounting c.args.options.now) (told_reply c.mount-told.result) (g.D.SessionDoor.asked c.mount-told.new.door) None) c.self.view_is
+    (event_full (g.D.PoolDoor.is_full c.mount-told.new.door) g.N.Naming.page_bytes s.number (g.T.Trail.entries s.trail) (g.T.Trail.left s.trail)
+    (g.T.Trail.extra s.trail) s.mount (Mounting c.args.options.now) (told_reply c.mount-told.result)
+    (g.D.SessionDoor.asked c.mount-told.new.door) c.mount-told.new.mount (subst
+    (λ (n : ℕ). IsActedOr (g.D.PoolDoor.is_full c.mount-told.new.door) n s.number s.mount (Mounting c.args.options.now)
+    (told_reply c.mount-told.result) (g.D.SessionDoor.asked c.mount-told.new.door) c.mount-told.new.mount) c.requires.page_bytes
+    (c.mount-told.ensures.done s.number)) (sym c.is_full.ensures ∙ c.if-is_full.true))
 
 module _ (g : Over) (c : After-note-receipt g) where
   went : Went g.N.Naming.page_bytes c.self.inside.number c.self.inside.mount (Mounting c.args.options.now) (told_reply c.mount-told.result)
@@ -81,20 +81,20 @@ pub returns-clause-done : goal.returns-clause-done
 returns-clause-done g c =
     let a = (goal.at.returns-clause-done g c).After-note-receipt in
     let s = c.self.inside in
-          subst (λ (v : SlotView). IsSlotEvent (g.D.PoolDoor.is_full c.mount-told.new.door) g.N.Naming.page_bytes v
-          (record {
-            number = s.number;
-            mount = c.mount-told.new.mount;
-            entries = g.T.Trail.entries c.note-receipt.new.trail;
-            left = g.T.Trail.left c.note-receipt.new.trail;
-            extra = g.T.Trail.extra c.note-receipt.new.trail;
-          })
-          (Mounting c.args.options.now) (told_reply c.mount-told.result) (g.D.SessionDoor.asked c.mount-told.new.door) c.note-receipt.result) c.self.view_is
-          (event_done (g.D.PoolDoor.is_full c.mount-told.new.door) g.N.Naming.page_bytes s.number (g.T.Trail.entries s.trail) (g.T.Trail.left s.trail)
-          (g.T.Trail.extra s.trail) s.mount (Mounting c.args.options.now) (told_reply c.mount-told.result)
-          (g.D.SessionDoor.asked c.mount-told.new.door) c.mount-told.new.mount (subst
-          (λ (n : ℕ). IsActedOr (g.D.PoolDoor.is_full c.mount-told.new.door) n s.number s.mount (Mounting c.args.options.now)
-          (told_reply c.mount-told.result) (g.D.SessionDoor.asked c.mount-told.new.door) c.mount-told.new.mount) c.requires.page_bytes
-          (c.mount-told.ensures.done s.number)) (sym c.is_full.ensures ∙ c.if-is_full.false)
-          (g.T.Trail.entries c.note-receipt.new.trail) (g.T.Trail.left c.note-receipt.new.trail) (g.T.Trail.extra c.note-receipt.new.trail)
-          c.note-receipt.result (entries g a) (c.note-receipt.ensures.receipt (Mounting c.args.options.now) (both g a)))
+    subst (λ (v : SlotView). IsSlotEvent (g.D.PoolDoor.is_full c.mount-told.new.door) g.N.Naming.page_bytes v
+    (record {
+      number = s.number;
+      mount = c.mount-told.new.mount;
+      entries = g.T.Trail.entries c.note-receipt.new.trail;
+      left = g.T.Trail.left c.note-receipt.new.trail;
+      extra = g.T.Trail.extra c.note-receipt.new.trail;
+    })
+    (Mounting c.args.options.now) (told_reply c.mount-told.result) (g.D.SessionDoor.asked c.mount-told.new.door) c.note-receipt.result) c.self.view_is
+    (event_done (g.D.PoolDoor.is_full c.mount-told.new.door) g.N.Naming.page_bytes s.number (g.T.Trail.entries s.trail) (g.T.Trail.left s.trail)
+    (g.T.Trail.extra s.trail) s.mount (Mounting c.args.options.now) (told_reply c.mount-told.result)
+    (g.D.SessionDoor.asked c.mount-told.new.door) c.mount-told.new.mount (subst
+    (λ (n : ℕ). IsActedOr (g.D.PoolDoor.is_full c.mount-told.new.door) n s.number s.mount (Mounting c.args.options.now)
+    (told_reply c.mount-told.result) (g.D.SessionDoor.asked c.mount-told.new.door) c.mount-told.new.mount) c.requires.page_bytes
+    (c.mount-told.ensures.done s.number)) (sym c.is_full.ensures ∙ c.if-is_full.false)
+    (g.T.Trail.entries c.note-receipt.new.trail) (g.T.Trail.left c.note-receipt.new.trail) (g.T.Trail.extra c.note-receipt.new.trail)
+    c.note-receipt.result (entries g a) (c.note-receipt.ensures.receipt (Mounting c.args.options.now) (both g a)))

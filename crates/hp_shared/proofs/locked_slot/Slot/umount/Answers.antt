@@ -28,19 +28,19 @@ invariant_of-self-2 g c =
 pub returns-clause-done : goal.returns-clause-done
 returns-clause-done g c =
     let s = c.self.inside in
-          subst (λ (v : SlotView). IsSlotEvent ⊥ g.N.Naming.page_bytes v (record {
-            number = s.number;
-            mount = c.unmount-told.new.mount;
-            entries = g.T.Trail.entries c.note-receipt.new.trail;
-            left = g.T.Trail.left c.note-receipt.new.trail;
-            extra = g.T.Trail.extra c.note-receipt.new.trail;
-          })
-          Umount (told_reply c.unmount-told.result) (g.D.SessionDoor.asked c.unmount-told.new.door) c.note-receipt.result) c.self.view_is
-          (event_done ⊥ g.N.Naming.page_bytes s.number (g.T.Trail.entries s.trail) (g.T.Trail.left s.trail) (g.T.Trail.extra s.trail) s.mount Umount
-          (told_reply c.unmount-told.result) (g.D.SessionDoor.asked c.unmount-told.new.door) c.unmount-told.new.mount
-          (went_acted ⊥ g.N.Naming.page_bytes s.number s.mount Umount (told_reply c.unmount-told.result)
-          (g.D.SessionDoor.asked c.unmount-told.new.door) c.unmount-told.new.mount c.unmount-told.ensures.noted
-          (c.unmount-told.ensures.went g.N.Naming.page_bytes))
-          c.unmount-told.ensures.noted (g.T.Trail.entries c.note-receipt.new.trail) (g.T.Trail.left c.note-receipt.new.trail)
-          (g.T.Trail.extra c.note-receipt.new.trail) c.note-receipt.result (entries g (goal.at.returns-clause-done g c).After-note-receipt)
-          (c.note-receipt.ensures.receipt Umount (refl, refl)))
+    subst (λ (v : SlotView). IsSlotEvent ⊥ g.N.Naming.page_bytes v (record {
+      number = s.number;
+      mount = c.unmount-told.new.mount;
+      entries = g.T.Trail.entries c.note-receipt.new.trail;
+      left = g.T.Trail.left c.note-receipt.new.trail;
+      extra = g.T.Trail.extra c.note-receipt.new.trail;
+    })
+    Umount (told_reply c.unmount-told.result) (g.D.SessionDoor.asked c.unmount-told.new.door) c.note-receipt.result) c.self.view_is
+    (event_done ⊥ g.N.Naming.page_bytes s.number (g.T.Trail.entries s.trail) (g.T.Trail.left s.trail) (g.T.Trail.extra s.trail) s.mount Umount
+    (told_reply c.unmount-told.result) (g.D.SessionDoor.asked c.unmount-told.new.door) c.unmount-told.new.mount
+    (went_acted ⊥ g.N.Naming.page_bytes s.number s.mount Umount (told_reply c.unmount-told.result)
+    (g.D.SessionDoor.asked c.unmount-told.new.door) c.unmount-told.new.mount c.unmount-told.ensures.noted
+    (c.unmount-told.ensures.went g.N.Naming.page_bytes))
+    c.unmount-told.ensures.noted (g.T.Trail.entries c.note-receipt.new.trail) (g.T.Trail.left c.note-receipt.new.trail)
+    (g.T.Trail.extra c.note-receipt.new.trail) c.note-receipt.result (entries g (goal.at.returns-clause-done g c).After-note-receipt)
+    (c.note-receipt.ensures.receipt Umount (refl, refl)))
