@@ -75,6 +75,9 @@ pub fn serve_over<R: Threads + Wait + Sync, C: Connections, W: Sink, E: Sink>(
         (W.contents output.new) (E.is_sure faults.old) (E.contents faults.old)
         (E.contents faults.new) result }
 {
+    if machine.ask_whole(alloc).is_err() {
+        return report(Ended::Failed(ServeFault::Memory), faults);
+    }
     let Ok(blanks) = Blanks::new(alloc, &machine.frames, machine.page as usize) else {
         return report(Ended::Failed(ServeFault::Memory), faults);
     };

@@ -104,6 +104,9 @@ fn run_on<R: Source, W: Sink>(
     ensures script { OnOk result (AnswersKnown (chosen (choice_of config.now))
         R.remaining W.contents input.old output.old output.new) }
 {
+    if config.ask_whole(alloc).is_err() {
+        return Err(RunFault::Memory);
+    }
     let Ok(blanks) = Blanks::new(alloc, &config.frames, config.page as usize) else {
         return Err(RunFault::Memory);
     };

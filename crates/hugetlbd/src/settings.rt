@@ -1,7 +1,7 @@
 //! What the words of a command line ask for.
 
 use clap::Error;
-use std::alloc::{AllocError, AllocFailed};
+use std::alloc::{AllocError, AllocFailed, Global};
 
 /// The machine of a run.
 #[derive(Debug, Drop)]
@@ -12,6 +12,20 @@ pub struct Machine {
     pub page: u64,
     /// How many slots there are; the first is mounted.
     pub slots: u64,
+}
+
+impl Machine {
+    /// Asks for the bytes of all pages in one piece, and gives them back. It is refused where the system would not grant so
+    /// many: node by node it might, and end the process when the pages are touched.
+    #[inline(never)]
+    pub fn ask_whole(&self, alloc: Global) -> Result<(), AllocError> {
+        let mut bytes = 0usize;
+        for frames in &self.frames {
+            bytes = bytes.saturating_add((*frames as usize).saturating_mul(self.page as usize));
+        }
+        let _whole: Vec<u8> = Vec::with_capacity(alloc, bytes)?;
+        Ok(())
+    }
 }
 
 /// What a server is asked for.

@@ -6,6 +6,6 @@ use Rattle.hp_sessions.proofs.session.Session.enter_table_unnoted.Goals as goal
 
 pub returns : goal.returns
 returns g c =
-    let done = c.event_unnoted.ensures in
+    let done = c.event_unnoted.ensures.done in
     unnoted_handed (g.row.K == 1) g.N.Naming.page_bytes (OnTasks c.args.event) (table_reply c.event_unnoted.result) c.requires
     (told_open _ _ _ c.args.event (table_reply c.event_unnoted.result) done.changes) (_, _, _, done.changes)
