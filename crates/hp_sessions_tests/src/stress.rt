@@ -1,5 +1,5 @@
 //! Many sessions that do random steps at once.
-ghost use Rattle.std.specs.Prelude.{◌≡◌, ◌∷◌, []};
+ghost use Rattle.std.specs.Prelude.{◌≡◌, ◌<◌, ◌∷◌, [], max};
 ghost use Rattle.hp_nodes.specs.Ledgers.{AreFrames};
 ghost use Rattle.hp_pool.specs.Ledgers.{AreLedgers};
 
@@ -46,7 +46,9 @@ impl Dice {
         x
     }
 
-    fn below(&mut self, most: u64) -> u64 {
+    fn below(&mut self, most: u64) -> u64
+        ensures { result < max most 1 }
+    {
         self.next() % most.max(1)
     }
 }

@@ -2,5 +2,5 @@ use denote.Param.Send.{sendable}
 use Rattle.hp_sessions.proofs.Crossing.{shared_sync}
 use Rattle.hp_sessions_tests.proofs.stress.eight.Goals as goal
 
-pub join-requires-send-F : goal.join-requires-send-F
-join-requires-send-F g c κs within = search (sendable, shared_sync) depth 40
+pub join-one-requires-send-F : goal.join-one-requires-send-F
+join-one-requires-send-F g c κs within = search (sendable, shared_sync) depth 40
