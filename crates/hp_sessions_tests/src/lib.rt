@@ -1,6 +1,8 @@
-//! Tests of sessions: threads on one machine.
+//! Tests of the machine that threads share, and of sessions on it.
 #![tactic(auto)]
 
+#[cfg(test)]
+mod closing;
 #[cfg(test)]
 mod gates;
 #[cfg(test)]

@@ -1,0 +1,90 @@
+//! Machines that no session worked on, taken apart and closed.
+ghost use Rattle.std.specs.Prelude.{◌≡◌, ◌∷◌, []};
+ghost use Rattle.hp_nodes.specs.Ledgers.{AreFrames};
+ghost use Rattle.hp_pool.specs.Ledgers.{AreLedgers};
+
+use crate::same::same;
+use hp_model::naming::Naming;
+use hp_pool::Blanks;
+use hp_sessions::{Shared, audit};
+use std::alloc::Global;
+use std::marker::Brand;
+use std::process::Abort;
+use std::sync::Wait;
+use std::thread;
+use std::thread::Threads;
+
+const PLACES: usize = 10;
+
+// Two threads look at one machine.
+fn looked_at<N: Naming + Send + Sync, R: Threads + Wait + Sync, const K: usize>(
+    rt: &R,
+    shared: &Shared<N, K>,
+) -> (u64, u64) {
+    thread::join(rt, move || shared.page_bytes(), move || shared.slots())
+}
+
+// A machine of three slots, which is closed at once: its audit is this.
+fn closes<N: Naming + Send + Sync, R: Threads + Wait + Abort + Sync, const K: usize>(
+    rt: &R,
+    alloc: Global,
+    blanks: Blanks,
+    wanted: Option<bool>,
+)
+    requires ledgers { AreLedgers N.Naming blanks }
+    requires frames { AreFrames N.frames (4 ∷ 2 ∷ []) }
+    requires bytes { N.page_bytes ≡ 1024 }
+{
+    let shared = Shared::<N, K>::new(alloc, &[4, 2], 1024, 3, PLACES, blanks).expect(rt, "memory");
+    let (page, slots) = looked_at(rt, &shared);
+    same!(rt; [page, slots], [1024, 3]);
+    let closed = shared.close(alloc, Vec::new(alloc)).expect(rt, "memory");
+    same!(rt; closed.audit, wanted);
+    same!(rt; closed.page, 1024);
+    let counts = closed.counts;
+    same!(rt; [counts.total, counts.free, counts.rsvd, counts.surp], [0, 0, 0, 0]);
+}
+
+#[test]
+fn a_machine_with_a_trace_is_audited(rt: HostRuntime) {
+    let blanks = Blanks::new(rt.alloc(), &[4, 2], 1024).expect(&rt, "memory");
+    closes::<Brand, HostRuntime, 1>(&rt, rt.alloc(), blanks, Some(true));
+}
+
+#[test]
+fn a_machine_without_a_trace_has_no_audit(rt: HostRuntime) {
+    let blanks = Blanks::new(rt.alloc(), &[4, 2], 1024).expect(&rt, "memory");
+    closes::<Brand, HostRuntime, 0>(&rt, rt.alloc(), blanks, None);
+}
+
+// Whether trails are kept, and how many entries they have.
+fn parts<N: Naming, R: Abort, const K: usize>(
+    rt: &R,
+    alloc: Global,
+    blanks: Blanks,
+) -> Option<[usize; 3]>
+    requires ledgers { AreLedgers N.Naming blanks }
+    requires frames { AreFrames N.frames (4 ∷ 2 ∷ []) }
+    requires bytes { N.page_bytes ≡ 1024 }
+{
+    let shared = Shared::<N, K>::new(alloc, &[4, 2], 1024, 3, PLACES, blanks).expect(rt, "memory");
+    let (system, kept) = shared.into_parts();
+    let counts = system.close();
+    same!(rt; [counts.total, counts.free, counts.rsvd, counts.surp], [0, 0, 0, 0]);
+    let trails = kept?;
+    let events = audit(alloc, &trails, Vec::new(alloc)).expect(rt, "trails that are joined");
+    same!(rt; events.len(), 0);
+    Some([trails.tasks.len(), trails.pool.len(), trails.slots.len()])
+}
+
+#[test]
+fn a_trace_has_a_trail_for_each_slot(rt: HostRuntime) {
+    let blanks = Blanks::new(rt.alloc(), &[4, 2], 1024).expect(&rt, "memory");
+    same!(rt; parts::<Brand, HostRuntime, 1>(&rt, rt.alloc(), blanks), Some([0, 0, 3]));
+}
+
+#[test]
+fn without_a_trace_there_is_no_trail(rt: HostRuntime) {
+    let blanks = Blanks::new(rt.alloc(), &[4, 2], 1024).expect(&rt, "memory");
+    same!(rt; parts::<Brand, HostRuntime, 0>(&rt, rt.alloc(), blanks), None);
+}

@@ -1,0 +1,18 @@
+-- A machine between steps has a pool that is ready for a section.
+use Rattle.std.proofs.Common.{◌≡◌, ℕ, suc, ◌+◌, ◌-◌, ◌≤◌, List, [], ◌∷◌, length, refl, ap, subst, arith}
+use Rattle.hp_model.specs.machine.Machine.{pool_of, rows_of}
+use Rattle.hp_model.specs.machine.State.{Node, State}
+use Rattle.hp_mount_door.specs.Door.{IsReady as IsReadyPool}
+use Rattle.hp_system.specs.Kept.{IsReady, Machine}
+
+long_rows : (s : State) (k : ℕ) (nodes : List Node) → length (rows_of s k nodes) ≡ length nodes
+long_rows s k [] = refl
+long_rows s k (n ∷ ns) = ap suc (long_rows s (k + 1) ns)
+
+pub ready_pool : (m : Machine) → IsReady m → IsReadyPool m.pool
+ready_pool m r =
+    let total = r.settled.pool.total in
+    let surplus = r.settled.pool.surplus in
+    let nodes = r.settled.nodes in
+    let here : IsReadyPool (pool_of m.state) = record { settled = omega (arith, total, surplus); nodes = omega (arith, nodes, long_rows m.state 0 m.state.nodes) } in
+    subst IsReadyPool r.tied here
