@@ -1,4 +1,4 @@
-//! Tests of sessions: threads on one machine.
+//! Tests of the machine that threads share, and of sessions on it.
 #![tactic(auto)]
 
 #[cfg(test)]

@@ -1,6 +1,8 @@
 use Rattle.std.proofs.Common.{◌≡◌, ◌∙◌, ℕ, List, ap, arith}
+use denote.Param.Send.{sendable}
 use Rattle.hp_locked.specs.Views.{frames_list}
 use Rattle.hp_model.specs.machine.Machine.{start}
+use Rattle.hp_sessions.proofs.Crossing.{shared_sync}
 use Rattle.hp_sessions.proofs.Opened.{frames_named}
 use Rattle.hp_sessions.specs.Sharing.{SharedView}
 use Rattle.hugetlbd.proofs.Serving.{as_asked, leaves}
@@ -23,3 +25,6 @@ returns g c =
       prints = e.3;
       says = e.4;
     }
+
+pub serve_sessions-requires-sync-M : goal.serve_sessions-requires-sync-M
+serve_sessions-requires-sync-M g c κs within = search (sendable, shared_sync) depth 40
