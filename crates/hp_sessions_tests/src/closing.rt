@@ -45,16 +45,40 @@ fn closes<N: Naming + Send + Sync, R: Threads + Wait + Abort + Sync, const K: us
     same!(rt; [counts.total, counts.free, counts.rsvd, counts.surp], [0, 0, 0, 0]);
 }
 
+fn closes_traced<N: Naming + Send + Sync, R: Threads + Wait + Abort + Sync>(
+    rt: &R,
+    alloc: Global,
+    blanks: Blanks,
+)
+    requires ledgers { AreLedgers N.Naming blanks }
+    requires frames { AreFrames N.frames (4 ∷ 2 ∷ []) }
+    requires bytes { N.page_bytes ≡ 1024 }
+{
+    closes::<N, R, 1>(rt, alloc, blanks, Some(true));
+}
+
+fn closes_untraced<N: Naming + Send + Sync, R: Threads + Wait + Abort + Sync>(
+    rt: &R,
+    alloc: Global,
+    blanks: Blanks,
+)
+    requires ledgers { AreLedgers N.Naming blanks }
+    requires frames { AreFrames N.frames (4 ∷ 2 ∷ []) }
+    requires bytes { N.page_bytes ≡ 1024 }
+{
+    closes::<N, R, 0>(rt, alloc, blanks, None);
+}
+
 #[test]
 fn a_machine_with_a_trace_is_audited(rt: HostRuntime) {
     let blanks = Blanks::new(rt.alloc(), &[4, 2], 1024).expect(&rt, "memory");
-    closes::<Brand, HostRuntime, 1>(&rt, rt.alloc(), blanks, Some(true));
+    closes_traced::<Brand, HostRuntime>(&rt, rt.alloc(), blanks);
 }
 
 #[test]
 fn a_machine_without_a_trace_has_no_audit(rt: HostRuntime) {
     let blanks = Blanks::new(rt.alloc(), &[4, 2], 1024).expect(&rt, "memory");
-    closes::<Brand, HostRuntime, 0>(&rt, rt.alloc(), blanks, None);
+    closes_untraced::<Brand, HostRuntime>(&rt, rt.alloc(), blanks);
 }
 
 // Whether trails are kept, and how many entries they have.
@@ -77,14 +101,30 @@ fn parts<N: Naming, R: Abort, const K: usize>(
     Some([trails.tasks.len(), trails.pool.len(), trails.slots.len()])
 }
 
+fn parts_traced<N: Naming, R: Abort>(rt: &R, alloc: Global, blanks: Blanks) -> Option<[usize; 3]>
+    requires ledgers { AreLedgers N.Naming blanks }
+    requires frames { AreFrames N.frames (4 ∷ 2 ∷ []) }
+    requires bytes { N.page_bytes ≡ 1024 }
+{
+    parts::<N, R, 1>(rt, alloc, blanks)
+}
+
+fn parts_untraced<N: Naming, R: Abort>(rt: &R, alloc: Global, blanks: Blanks) -> Option<[usize; 3]>
+    requires ledgers { AreLedgers N.Naming blanks }
+    requires frames { AreFrames N.frames (4 ∷ 2 ∷ []) }
+    requires bytes { N.page_bytes ≡ 1024 }
+{
+    parts::<N, R, 0>(rt, alloc, blanks)
+}
+
 #[test]
 fn a_trace_has_a_trail_for_each_slot(rt: HostRuntime) {
     let blanks = Blanks::new(rt.alloc(), &[4, 2], 1024).expect(&rt, "memory");
-    same!(rt; parts::<Brand, HostRuntime, 1>(&rt, rt.alloc(), blanks), Some([0, 0, 3]));
+    same!(rt; parts_traced::<Brand, HostRuntime>(&rt, rt.alloc(), blanks), Some([0, 0, 3]));
 }
 
 #[test]
 fn without_a_trace_there_is_no_trail(rt: HostRuntime) {
     let blanks = Blanks::new(rt.alloc(), &[4, 2], 1024).expect(&rt, "memory");
-    same!(rt; parts::<Brand, HostRuntime, 0>(&rt, rt.alloc(), blanks), None);
+    same!(rt; parts_untraced::<Brand, HostRuntime>(&rt, rt.alloc(), blanks), None);
 }

@@ -284,14 +284,38 @@ fn run<N: Naming + Send + Sync, R: Threads + Wait + Abort + Sync, const K: usize
     same!(rt; closed.counts.rsvd, 0);
 }
 
+fn run_traced<N: Naming + Send + Sync, R: Threads + Wait + Abort + Sync>(
+    rt: &R,
+    alloc: Global,
+    blanks: Blanks,
+)
+    requires ledgers { AreLedgers N.Naming blanks }
+    requires frames { AreFrames N.frames (4 ∷ 4 ∷ []) }
+    requires bytes { N.page_bytes ≡ 1024 }
+{
+    run::<N, R, 1>(rt, alloc, blanks, Some(true));
+}
+
+fn run_untraced<N: Naming + Send + Sync, R: Threads + Wait + Abort + Sync>(
+    rt: &R,
+    alloc: Global,
+    blanks: Blanks,
+)
+    requires ledgers { AreLedgers N.Naming blanks }
+    requires frames { AreFrames N.frames (4 ∷ 4 ∷ []) }
+    requires bytes { N.page_bytes ≡ 1024 }
+{
+    run::<N, R, 0>(rt, alloc, blanks, None);
+}
+
 #[test]
 fn eight_sessions_with_a_trace(rt: HostRuntime) {
     let blanks = Blanks::new(rt.alloc(), &[4, 4], 1024).expect(&rt, "memory");
-    run::<Brand, HostRuntime, 1>(&rt, rt.alloc(), blanks, Some(true));
+    run_traced::<Brand, HostRuntime>(&rt, rt.alloc(), blanks);
 }
 
 #[test]
 fn eight_sessions_without_a_trace(rt: HostRuntime) {
     let blanks = Blanks::new(rt.alloc(), &[4, 4], 1024).expect(&rt, "memory");
-    run::<Brand, HostRuntime, 0>(&rt, rt.alloc(), blanks, None);
+    run_untraced::<Brand, HostRuntime>(&rt, rt.alloc(), blanks);
 }
