@@ -35,11 +35,11 @@ class Case:
 
 def replies_in(text):
     """Cuts a text into replies, of which one that begins `text N` has N more lines."""
-    lines, replies = text.splitlines(keepends=True), []
-    while lines:
-        count = 1 + (int(lines[0].split()[1]) if lines[0].startswith(b"text ") else 0)
-        replies.append(b"".join(lines[:count]))
-        lines = lines[count:]
+    lines, replies, at = text.splitlines(keepends=True), [], 0
+    while at < len(lines):
+        end = at + 1 + (int(lines[at].split()[1]) if lines[at].startswith(b"text ") else 0)
+        replies.append(b"".join(lines[at:end]))
+        at = end
     return replies
 
 
