@@ -13,9 +13,7 @@ use Rattle.hp_model.specs.files.Ranges.{within}
 use Rattle.hp_model.proofs.Counting.{count_alike, count_parted, count_within, alike_in}
 use Rattle.hp_model.proofs.Ranges.{within-in, within-true, within-below, within-past}
 use Rattle.hp_model.proofs.Editing.{length-edit_range, get_or-edit_below, get_or-edit_within, get_or-edit_past}
-use Rattle.hp_inode.specs.Entries.{count_in}
-use Rattle.hp_inode.specs.Marks.{marked}
-use Rattle.hp_inode.specs.Rows.{Rows, page_in}
+use Rattle.hp_inode.specs.Blocks.{WordBlocks, entered_count, entered_at, RowBlocks, page_at}
 use Rattle.hp_inode.specs.Kept.{cell_by, cell_of, cells_of, IsKept}
 use Rattle.hp_inode.proofs.CellFacts.{length-cells, cell_in-cells, has_page_cell}
 
@@ -36,9 +34,9 @@ count_less p a b n le =
 pub part_cell : (xs : List (Cell ℕ)) (a b j : ℕ) → j < b - a → get_or (part a b xs) j Hole ≡ cell_in xs (a + j)
 part_cell xs a b j lt = get_or-take (b - a) (drop a xs) j Hole lt ∙ get_or-drop a xs j Hole
 
-module _ (len m : ℕ) (e new : List ℕ) (rows : Rows) (a b : ℕ) (kept : IsKept len m e rows) (le : b ≤ len) (gone : (k : ℕ) → marked new k ≡ (marked e k && not (within a b k))) where
-  here : (k : ℕ) → cell_of new rows k ≡ cell_by (marked e k && not (within a b k)) (page_in rows k)
-  here k = ap (λ t. cell_by t (page_in rows k)) (gone k)
+module _ (len m : ℕ) (e new : WordBlocks) (rows : RowBlocks) (a b : ℕ) (kept : IsKept len m e rows) (le : b ≤ len) (gone : (k : ℕ) → entered_at new k ≡ (entered_at e k && not (within a b k))) where
+  here : (k : ℕ) → cell_of new rows k ≡ cell_by (entered_at e k && not (within a b k)) (page_at rows k)
+  here k = ap (λ t. cell_by t (page_at rows k)) (gone k)
 
   in_by : (x w : Bool) (o : Option ℕ) → w ≡ true → cell_by (x && not w) o ≡ Hole
   in_by true w o is = rw is refl
@@ -49,7 +47,7 @@ module _ (len m : ℕ) (e new : List ℕ) (rows : Rows) (a b : ℕ) (kept : IsKe
   out_by false w o is = refl
 
   untouched : (k : ℕ) → within a b k ≡ false → cell_of new rows k ≡ cell_in (cells_of len e rows) k
-  untouched k out = here k ∙ out_by (marked e k) (within a b k) (page_in rows k) out ∙ sym (cell_in-cells len m e rows kept k)
+  untouched k out = here k ∙ out_by (entered_at e k) (within a b k) (page_at rows k) out ∙ sym (cell_in-cells len m e rows kept k)
 
   pub dropped_cells : cells_of len new rows ≡ edit_range (λ cell. Hole) a b (cells_of len e rows)
   dropped_cells =
@@ -59,15 +57,17 @@ module _ (len m : ℕ) (e new : List ℕ) (rows : Rows) (a b : ℕ) (kept : IsKe
       sym (fill_by_all (cell_of new rows) (edit_range f a b xs) len Hole (length-edit_range f a b xs ∙ long) (λ k lt.
       ⊎_elim (λ (below : k < a). get_or-edit_below f a b xs k Hole below (omega (arith, lt, long)) ∙ sym (untouched k (within-below a b k below)))
       (λ (from : a ≤ k). ⊎_elim
-      (λ (high : k < b). get_or-edit_within f a b xs k Hole from high (omega (arith, le, long)) ∙ sym (here k ∙ in_by (marked e k) (within a b k) (page_in rows k) (within-true a b k from high)))
+      (λ (high : k < b). get_or-edit_within f a b xs k Hole from high (omega (arith, le, long)) ∙ sym (here k ∙ in_by (entered_at e k) (within a b k) (page_at rows k) (within-true a b k from high)))
       (λ (past : b ≤ k). get_or-edit_past f a b xs k Hole from past (omega (arith, lt, long)) ∙ sym (untouched k (within-past a b k past)))
       (cases_lt k b))
       (cases_lt k a)))
 
-  pub count_gone : count_in new 0 len + count_in e a b ≡ m
-  count_gone = omega (arith, count_alike (marked new) (λ i. marked e i && not (within a b i)) gone (range_with_len 0 (len - 0)), count_less (marked e) a b (len - 0) (omega (arith, le)), kept.counted)
+  pub count_gone : entered_count new 0 len + entered_count e a b ≡ m
+  count_gone =
+      let same = count_alike (entered_at new) (λ i. entered_at e i && not (within a b i)) gone (range_with_len 0 (len - 0)) in
+      omega (arith, same, count_less (entered_at e) a b (len - 0) (omega (arith, le)), kept.counted)
 
-  pub dropped_kept : All (λ (cell : Cell ℕ). has_page cell ≡ false) (part a b (cells_of len e rows)) → (taken : ℕ) → taken ≡ count_in e a b → IsKept len (m - taken) new rows
+  pub dropped_kept : All (λ (cell : Cell ℕ). has_page cell ≡ false) (part a b (cells_of len e rows)) → (taken : ℕ) → taken ≡ entered_count e a b → IsKept len (m - taken) new rows
   dropped_kept pageless taken is = record {
     small = kept.small;
     below = λ i in'. kept.below i (was i in');
@@ -76,10 +76,10 @@ module _ (len m : ℕ) (e new : List ℕ) (rows : Rows) (a b : ℕ) (kept : IsKe
     slots = λ i in'. kept.slots i (was i in');
   }
     where
-      was : (i : ℕ) → marked new i ≡ true → marked e i ≡ true
-      was i in' = (and_parts (marked e i) (not (within a b i)) (sym (gone i) ∙ in')).0
+      was : (i : ℕ) → entered_at new i ≡ true → entered_at e i ≡ true
+      was i in' = (and_parts (entered_at e i) (not (within a b i)) (sym (gone i) ∙ in')).0
 
-      clash : (i : ℕ) → IsSome (page_in rows i) → within a b i ≡ true → ⊥
+      clash : (i : ℕ) → IsSome (page_at rows i) → within a b i ≡ true → ⊥
       clash i page inside =
           let low : a ≤ i = (within-in a b i inside).0 in
           let high : i < b = (within-in a b i inside).1 in
@@ -90,5 +90,5 @@ module _ (len m : ℕ) (e new : List ℕ) (rows : Rows) (a b : ℕ) (kept : IsKe
           true≢false (sym (has_page_cell len m e rows kept i ∙ page) ∙ ap has_page (sym read) ∙ test)
 
 -- as many as a range has are entered in all
-pub count_few : (len m : ℕ) (e : List ℕ) (rows : Rows) (a b : ℕ) → IsKept len m e rows → b ≤ len → count_in e a b ≤ m
-count_few len m e rows a b kept le = omega (arith, count_less (marked e) a b (len - 0) (omega (arith, le)), kept.counted)
+pub count_few : (len m : ℕ) (e : WordBlocks) (rows : RowBlocks) (a b : ℕ) → IsKept len m e rows → b ≤ len → entered_count e a b ≤ m
+count_few len m e rows a b kept le = omega (arith, count_less (entered_at e) a b (len - 0) (omega (arith, le)), kept.counted)

@@ -1,3 +1,4 @@
+mod Blocks
 mod Bare
 mod CellFacts
 mod Dropped

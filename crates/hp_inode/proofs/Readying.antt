@@ -11,48 +11,46 @@ use Rattle.hp_model.specs.declared.cell.Cell.{Cell}
 use Rattle.hp_model.specs.declared.cell.Cell.TheVariants.{Hole}
 use Rattle.hp_model.specs.files.File.{at_least, cells_to, entered, has_page}
 use Rattle.hp_model.specs.Lists.{edit_range}
-use Rattle.hp_inode.specs.Entries.{missing_in}
+use Rattle.hp_inode.specs.Blocks.{WordBlocks, missing_count, entered_at, RowBlocks, page_at, has_slot_at}
 use Rattle.hp_inode.specs.Kept.{IsKept, cells_of}
 use Rattle.hp_inode.specs.Ready.{IsReady}
-use Rattle.hp_inode.specs.Marks.{marked}
-use Rattle.hp_inode.specs.Rows.{Rows, page_in, has_slot}
 use Rattle.hp_inode.proofs.CellFacts.{length-cells, resized, resized_kept}
 use Rattle.hp_inode.proofs.Reserved.{reserved_cells, reserved_kept}
 
 -- no more are entered than the length, nor missing than the range has
-pub few_entered : (len m : ℕ) (e : List ℕ) (rows : Rows) → IsKept len m e rows → m ≤ len
+pub few_entered : (len m : ℕ) (e : WordBlocks) (rows : RowBlocks) → IsKept len m e rows → m ≤ len
 few_entered len m e rows kept =
     let counted = kept.counted in
-    omega (arith, counted, count_by-le-length (marked e) (range_with_len 0 (len - 0)), length-range_with_len 0 (len - 0))
+    omega (arith, counted, count_by-le-length (entered_at e) (range_with_len 0 (len - 0)), length-range_with_len 0 (len - 0))
 
-pub few_missing : (e : List ℕ) (a b : ℕ) → missing_in e a b ≤ b
-few_missing e a b = omega (arith, count_by-le-length (λ i. not (marked e i)) (range_with_len a (b - a)), length-range_with_len a (b - a))
+pub few_missing : (e : WordBlocks) (a b : ℕ) → missing_count e a b ≤ b
+few_missing e a b = omega (arith, count_by-le-length (λ i. not (entered_at e i)) (range_with_len a (b - a)), length-range_with_len a (b - a))
 
 -- with no range
-pub unready : (len m pages : ℕ) (e : List ℕ) (rows : Rows) (a : ℕ) → IsKept len m e rows → pages ≡ count_by has_page (cells_of len e rows) → IsReady len m pages e rows a 0
+pub unready : (len m pages : ℕ) (e : WordBlocks) (rows : RowBlocks) (a : ℕ) → IsKept len m e rows → pages ≡ count_by has_page (cells_of len e rows) → IsReady len m pages e rows a 0
 unready len m pages e rows a kept paged = record {
   kept = kept;
   paged = paged;
   small = omega arith;
   slots = λ k low high. absurd (omega (arith, high));
-  room = λ some. absurd (omega (arith, some));
+  room = λ k low high. absurd (omega (arith, high));
 }
 
 -- with the same entries in more words, the same pages, and more slots
-module _ (len m : ℕ) (e new : List ℕ) (rows made : Rows) (same : (k : ℕ) → marked new k ≡ marked e k) (pages : (k : ℕ) → page_in made k ≡ page_in rows k) where
+module _ (len m : ℕ) (e new : WordBlocks) (rows made : RowBlocks) (same : (k : ℕ) → entered_at new k ≡ entered_at e k) (pages : (k : ℕ) → page_at made k ≡ page_at rows k) where
   pub same_cells : cells_of len new made ≡ cells_of len e rows
   same_cells = search rules
 
-  same_kept : IsKept len m e rows → ((k : ℕ) → has_slot rows k ≡ true → has_slot made k ≡ true) → IsKept len m new made
+  same_kept : IsKept len m e rows → ((k : ℕ) → has_slot_at rows k ≡ true → has_slot_at made k ≡ true) → IsKept len m new made
   same_kept kept stay = record {
     small = kept.small;
     below = λ i in'. kept.below i (sym (same i) ∙ in');
-    counted = count_alike (marked new) (marked e) same (range_with_len 0 (len - 0)) ∙ kept.counted;
+    counted = count_alike (entered_at new) (entered_at e) same (range_with_len 0 (len - 0)) ∙ kept.counted;
     paged = λ i some. same i ∙ kept.paged i (subst IsSome (pages i) some);
     slots = λ i in'. stay i (kept.slots i (sym (same i) ∙ in'));
   }
 
-  pub same_unready : {paged low high : ℕ} → IsReady len m paged e rows low high → ((k : ℕ) → has_slot rows k ≡ true → has_slot made k ≡ true) → (a : ℕ) → IsReady len m paged new made a 0
+  pub same_unready : {paged low high : ℕ} → IsReady len m paged e rows low high → ((k : ℕ) → has_slot_at rows k ≡ true → has_slot_at made k ≡ true) → (a : ℕ) → IsReady len m paged new made a 0
   same_unready ready stay a = unready _ _ _ _ _ a (same_kept ready.kept stay) (ready.paged ∙ ap (count_by has_page) (sym same_cells))
 
 -- a list with the length asked for
@@ -60,7 +58,7 @@ pub long_enough : (b : ℕ) (cells : List (Cell ℕ)) → b ≤ length cells →
 long_enough b cells le = ap (λ n. cells ++ replicate n Hole) {x = b - length cells} {y = 0} (omega (arith, le)) ∙ append-nil cells
 
 -- made longer
-module _ (len m : ℕ) (e : List ℕ) (rows : Rows) (b long : ℕ) (kept : IsKept len m e rows) (small : b < 2 ^ 32) (long_is : long ≡ max len b) where
+module _ (len m : ℕ) (e : WordBlocks) (rows : RowBlocks) (b long : ℕ) (kept : IsKept len m e rows) (small : b < 2 ^ 32) (long_is : long ≡ max len b) where
   past : drop long (cells_of len e rows) ≡ []
   past = (let here = length-cells len e rows in drop_all long (cells_of len e rows) (omega (arith, long_is, here)))
 
@@ -81,8 +79,8 @@ module _ (len m : ℕ) (e : List ℕ) (rows : Rows) (b long : ℕ) (kept : IsKep
   longer_cells = resized len m e rows kept long holes ∙ lengthened
 
 -- made longer, and entered
-module _ (len m : ℕ) (e new : List ℕ) (rows : Rows) (a b long missing pages : ℕ) (ready : IsReady len m pages e rows a b) (long_is : long ≡ max len b)
-    (missing_is : missing ≡ missing_in e a b) (holds_new : (k : ℕ) → marked new k ≡ (marked e k || within a b k)) where
+module _ (len m : ℕ) (e new : WordBlocks) (rows : RowBlocks) (a b long missing pages : ℕ) (ready : IsReady len m pages e rows a b) (long_is : long ≡ max len b)
+    (missing_is : missing ≡ missing_count e a b) (holds_new : (k : ℕ) → entered_at new k ≡ (entered_at e k || within a b k)) where
   longer : IsKept long m e rows
   longer = longer_kept len m e rows b long ready.kept ready.small long_is
 

@@ -13,7 +13,7 @@ use Rattle.std.proofs.lemmas.Nat.Bits.{bit_at-zero}
 use Rattle.hp_model.proofs.Counting.{count_split, count_outside, alike_in}
 use Rattle.hp_model.proofs.Ranges.{within-in, within-true, within-below, within-past}
 use Rattle.hp_model.specs.files.Ranges.{within}
-use Rattle.hp_inode.specs.Entries.{IsBlank, IsEntries, IsRemoved}
+use Rattle.hp_inode.specs.EntryBlock.{IsBlank, IsEntries, IsRemoved}
 use Rattle.hp_inode.specs.Marks.{marked, FindsWithin}
 use Rattle.hp_inode.proofs.Bits.{word_counted}
 use Rattle.hp_inode.proofs.Cleared.{kept}
@@ -22,7 +22,7 @@ use Rattle.hp_inode.proofs.Words.{unmarked_past}
 
 -- ---- one range after another
 
-parts_left : (x : Bool) (a m b k : ℕ) → a ≤ m → m ≤ b → ((x && not (within a m k)) && not (within m b k)) ≡ (x && not (within a b k))
+pub parts_left : (x : Bool) (a m b k : ℕ) → a ≤ m → m ≤ b → ((x && not (within a m k)) && not (within m b k)) ≡ (x && not (within a b k))
 parts_left true a m b k low high = grind (arith, nat_tests)
 parts_left false a m b k low high = refl
 

@@ -1,10 +1,10 @@
 -- An inode after a range was entered.
-use Rattle.std.proofs.Common.{◌≡◌, ℕ, ◌+◌, ◌-◌, ◌<◌, ◌≤◌, Bool, true, false, not, ◌&&◌, ◌||◌, Option, None, Some, sym, refl, ap, ◌∙◌, subst, arith, ⊎_elim, List}
+use Rattle.std.proofs.Common.{◌≡◌, ℕ, ◌+◌, ◌-◌, ◌<◌, ◌≤◌, Bool, true, false, not, ◌&&◌, ◌||◌, Option, None, Some, sym, refl, ap, ◌∙◌, subst, arith, ⊎_elim}
 use Rattle.std.specs.List.{range_with_len, count_by}
 use Rattle.std.specs.Prelude.{IsSome}
 use Rattle.std.proofs.lemmas.Bool.{cases_lt, or_cases, or_left, and_parts, and_right}
 use Rattle.std.proofs.lemmas.List.FromFn.{fill_by_all}
-use Rattle.hp_inode.specs.Entries.{count_in, missing_in}
+use Rattle.hp_inode.specs.Blocks.{WordBlocks, entered_count, missing_count, entered_at, RowBlocks, page_at, has_slot_at}
 use Rattle.hp_model.specs.files.Ranges.{within}
 use Rattle.hp_model.proofs.Counting.{count_alike, count_or, count_within, alike_in}
 use Rattle.hp_model.proofs.Ranges.{within-in, within-true, within-below, within-past}
@@ -12,8 +12,6 @@ use Rattle.hp_model.proofs.Editing.{length-edit_range, get_or-edit_below, get_or
 use Rattle.hp_model.specs.declared.cell.Cell.TheVariants.{Hole}
 use Rattle.hp_model.specs.files.File.{entered, cell_in}
 use Rattle.hp_model.specs.Lists.{edit_range}
-use Rattle.hp_inode.specs.Marks.{marked}
-use Rattle.hp_inode.specs.Rows.{Rows, page_in, has_slot}
 use Rattle.hp_inode.specs.Kept.{cell_by, cell_of, cells_of, IsKept}
 use Rattle.hp_inode.proofs.CellFacts.{length-cells, cell_in-cells}
 
@@ -36,21 +34,23 @@ count_more p a b n le =
     let fresh = alike_in more (λ i. not (p i)) a (b - a) (λ i low high. rw (within-true a b i low (omega (arith, low, high))) refl) in
     omega (arith, split, same, there, fresh)
 
-module _ (len m : ℕ) (e new : List ℕ) (rows made : Rows) (a b : ℕ) (kept : IsKept len m e rows) (le : b ≤ len)
-    (holds_new : (k : ℕ) → marked new k ≡ (marked e k || within a b k)) (pages : (k : ℕ) → page_in made k ≡ page_in rows k) where
-  cases_new : (k : ℕ) (P : Type 0) → (marked e k ≡ true → P) → (a ≤ k → k < b → P) → marked new k ≡ true → P
-  cases_new k P was now p = ⊎_elim was (λ w. now (within-in a b k w).0 (within-in a b k w).1) (or_cases (marked e k) (within a b k) (sym (holds_new k) ∙ p))
+module _ (len m : ℕ) (e new : WordBlocks) (rows made : RowBlocks) (a b : ℕ) (kept : IsKept len m e rows) (le : b ≤ len)
+    (holds_new : (k : ℕ) → entered_at new k ≡ (entered_at e k || within a b k)) (pages : (k : ℕ) → page_at made k ≡ page_at rows k) where
+  cases_new : (k : ℕ) (P : Type 0) → (entered_at e k ≡ true → P) → (a ≤ k → k < b → P) → entered_at new k ≡ true → P
+  cases_new k P was now p = ⊎_elim was (λ w. now (within-in a b k w).0 (within-in a b k w).1) (or_cases (entered_at e k) (within a b k) (sym (holds_new k) ∙ p))
 
-  pub count_new : count_in new 0 len ≡ m + missing_in e a b
-  count_new = omega (arith, count_alike (marked new) (λ i. marked e i || within a b i) holds_new (range_with_len 0 (len - 0)), count_more (marked e) a b (len - 0) (omega (arith, le)), kept.counted)
+  pub count_new : entered_count new 0 len ≡ m + missing_count e a b
+  count_new =
+      let same = count_alike (entered_at new) (λ i. entered_at e i || within a b i) holds_new (range_with_len 0 (len - 0)) in
+      omega (arith, same, count_more (entered_at e) a b (len - 0) (omega (arith, le)), kept.counted)
 
-  pub reserved_kept : ((k : ℕ) → has_slot rows k ≡ true → has_slot made k ≡ true) → ((k : ℕ) → a ≤ k → k < b → has_slot made k ≡ true) → IsKept len (m + missing_in e a b) new made
+  pub reserved_kept : ((k : ℕ) → has_slot_at rows k ≡ true → has_slot_at made k ≡ true) → ((k : ℕ) → a ≤ k → k < b → has_slot_at made k ≡ true) → IsKept len (m + missing_count e a b) new made
   reserved_kept stay fresh = record {
     small = kept.small;
     counted = count_new;
     below = λ i in'. cases_new i (i < len) (kept.below i) (λ low high. omega (arith, high, le)) in';
     paged = λ i some. holds_new i ∙ or_left _ _ (kept.paged i (subst IsSome (pages i) some));
-    slots = λ i in'. cases_new i (has_slot made i ≡ true) (λ was. stay i (kept.slots i was)) (fresh i) in';
+    slots = λ i in'. cases_new i (has_slot_at made i ≡ true) (λ was. stay i (kept.slots i was)) (fresh i) in';
   }
 
   entered_by : (x w : Bool) (o : Option ℕ) → (IsSome o → x ≡ true) → w ≡ true → cell_by (x || w) o ≡ entered (cell_by x o)
@@ -66,15 +66,15 @@ module _ (len m : ℕ) (e new : List ℕ) (rows made : Rows) (a b : ℕ) (kept :
   same_by true w o e = refl
   same_by false w o e = rw e refl
 
-  here : (k : ℕ) → cell_of new made k ≡ cell_by (marked e k || within a b k) (page_in rows k)
-  here k = ap (λ t. cell_by t (page_in made k)) (holds_new k) ∙ ap (cell_by (marked e k || within a b k)) (pages k)
+  here : (k : ℕ) → cell_of new made k ≡ cell_by (entered_at e k || within a b k) (page_at rows k)
+  here k = ap (λ t. cell_by t (page_at made k)) (holds_new k) ∙ ap (cell_by (entered_at e k || within a b k)) (pages k)
 
   -- where the range has the index, and where it doesn't
   touched : (k : ℕ) → a ≤ k → k < b → cell_of new made k ≡ entered (cell_in (cells_of len e rows) k)
-  touched k low high = here k ∙ entered_by (marked e k) (within a b k) (page_in rows k) (kept.paged k) (within-true a b k low high) ∙ ap entered (sym (cell_in-cells len m e rows kept k))
+  touched k low high = here k ∙ entered_by (entered_at e k) (within a b k) (page_at rows k) (kept.paged k) (within-true a b k low high) ∙ ap entered (sym (cell_in-cells len m e rows kept k))
 
   untouched : (k : ℕ) → within a b k ≡ false → cell_of new made k ≡ cell_in (cells_of len e rows) k
-  untouched k out = here k ∙ same_by (marked e k) (within a b k) (page_in rows k) out ∙ sym (cell_in-cells len m e rows kept k)
+  untouched k out = here k ∙ same_by (entered_at e k) (within a b k) (page_at rows k) out ∙ sym (cell_in-cells len m e rows kept k)
 
   pub reserved_cells : cells_of len new made ≡ edit_range entered a b (cells_of len e rows)
   reserved_cells = sym (fill_by_all (cell_of new made) (edit_range entered a b (cells_of len e rows)) len Hole (length-edit_range entered a b (cells_of len e rows) ∙ length-cells len e rows) (λ k lt.

@@ -1,4 +1,5 @@
-pub mod Entries
+pub mod Blocks
+pub mod EntryBlock
 pub mod Form
 pub mod Kept
 pub mod Marks

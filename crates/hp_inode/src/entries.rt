@@ -1,198 +1,196 @@
-//! Which indices are entered, a bit for each: a range takes a step for each word of 64 indices.
-ghost use Rattle.std.specs.Prelude.{ℕ, ◌≡◌, ◌+◌, ◌-◌, ◌*◌, ◌/◌, ◌<◌, ◌≤◌, ◌^◌, ◌&&◌, ◌||◌, [], not, length, OnOk, OnErr};
+//! Which indices are entered, in blocks of 65,536.
+ghost use Rattle.std.specs.Prelude.{ℕ, ◌≡◌, ◌≢◌, ◌*◌, ◌<◌, ◌≤◌, ◌^◌, ◌&&◌, ◌||◌, [], length, not, true, OnOk, MatchOption};
+ghost use Rattle.std.specs.List.{slice_index_or};
 ghost use Rattle.hp_model.specs.files.Ranges.{within};
-ghost use Rattle.hp_inode.specs.Entries.{count_in, missing_in, FindsWord, IsEntries, IsRemoved};
+ghost use Rattle.hp_inode.specs.Blocks.{entered_at, has_place, entered_count, missing_count};
+ghost use Rattle.hp_inode.specs.EntryBlock.{count_in, missing_in};
 ghost use Rattle.hp_inode.specs.Marks.{marked};
 
-use crate::marks::{
-    WORD, bits_within, clear_marks, first_within, make_places, set_mark, set_marks,
-};
-use smallvec::SmallVec;
+use crate::block::{BLOCK, within_block};
+use crate::entry_block::EntryBlock;
 use std::alloc::{AllocError, Global};
 use std::marker::Model;
 
-/// A set of indices, and a mark at each word of it that has one, so that words with none are passed 64 at a step.
-/// Contracts see the words. Only `make_room` asks for memory, and for the first 64 indices it takes none.
+/// A set of indices. Contracts see the words of its blocks. Only `make_room` asks for memory, and for the first 64
+/// indices it takes none.
 #[derive(Drop)]
 pub struct Entries {
-    words: SmallVec<u64, 1>,
-    marks: SmallVec<u64, 1>,
+    alloc: Global,
+    first: EntryBlock,
+    // those after the first, up to the last that has had an entry
+    rest: Vec<EntryBlock>,
 }
 
 impl Model for Entries {
-    ghost use Rattle.std.specs.Prelude.{List, ℕ};
-    ghost use Rattle.hp_inode.specs.Entries.{IsEntries};
+    ghost use Rattle.std.specs.Prelude.{◌∷◌};
+    ghost use Rattle.hp_inode.specs.Blocks.{WordBlocks};
 
-    ghost Value = { List ℕ };
+    ghost Value = { WordBlocks };
 
-    ghost view = { λ e. e.words.items };
-
-    ghost invariant = { λ e. IsEntries e.words.items e.marks.items };
+    ghost view = { λ e. e.first ∷ e.rest.items };
 }
 
 impl Entries {
     /// The empty set.
     pub fn new(alloc: Global) -> Self
-        ensures { result ≡ [] }
+        ensures { (i : ℕ) → entered_at result i ≡ entered_at [] i }
     {
         Entries {
-            words: SmallVec::new(alloc),
-            marks: SmallVec::new(alloc),
+            alloc,
+            first: EntryBlock::new(alloc),
+            rest: Vec::new(alloc),
+        }
+    }
+
+    // The block with this number, if it was made.
+    fn block(&self, at: u64) -> Option<&EntryBlock>
+        ensures { MatchOption result (slice_index_or self.now at [] ≡ [])
+            (λ block. slice_index_or self.now at [] ≡ block.now) }
+    {
+        if at == 0 {
+            return Some(&self.first);
+        }
+        let at = at as usize - 1;
+        if at < self.rest.len() {
+            Some(&self.rest[at])
+        } else {
+            None
         }
     }
 
     /// Whether the index `i` is in the set.
     pub fn contains(&self, i: u64) -> bool
-        ensures { result ≡ marked self.now i }
+        ensures { result ≡ entered_at self.now i }
     {
-        let words = self.words.as_slice();
-        let at = i as usize / WORD;
-        at < words.len() && words[at] >> (i as usize % WORD) & 1 == 1
-    }
-
-    // How many indices from `a` up to `b` are in the set.
-    fn count(&self, a: u64, b: u64) -> u64
-        ensures { result ≡ count_in self.now a b }
-    {
-        let (a, b) = (a as usize, b as usize);
-        let end = b.div_ceil(WORD);
-        let mut count = 0;
-        let mut at = a / WORD;
-        while let Some(next) = self.next_word(at, end) {
-            count += u64::from(
-                (self.words.as_slice()[next] & bits_within(next, a, b)).count_ones(),
-            );
-            at = next + 1;
+        match self.block(i / BLOCK) {
+            Some(block) => block.contains(i % BLOCK),
+            None => false,
         }
-        count
     }
 
     /// How many indices from `a` up to `b` are not in the set.
     pub fn missing(&self, a: u64, b: u64) -> u64
-        ensures { result ≡ missing_in self.now a b }
+        ensures { result ≡ missing_count self.now a b }
     {
-        b.saturating_sub(a) - self.count(a, b)
+        let mut missing = 0;
+        let mut at = a;
+        while at < b {
+            let count = within_block(at, b);
+            let from = at % BLOCK;
+            missing += self.missing_in(at / BLOCK, from, from + count);
+            at += count;
+        }
+        missing
+    }
+
+    // How many indices of one block from `from` up to `to` are not in the set.
+    fn missing_in(&self, at: u64, from: u64, to: u64) -> u64
+        ensures { result ≡ missing_in (slice_index_or self.now at []) from to }
+    {
+        match self.block(at) {
+            Some(block) => block.missing(from, to),
+            None => to.saturating_sub(from),
+        }
     }
 
     /// Makes room for the indices from `a` up to `b`. For none it takes no memory.
     pub fn make_room(&mut self, a: u64, b: u64) -> Result<(), AllocError>
         requires { b < 2 ^ 32 }
-        ensures ok { OnOk result (a < b → b ≤ 64 * length self.new) }
-        ensures same { (k : ℕ) → marked self.new k ≡ marked self.old k }
-        ensures err { OnErr result (self.new ≡ self.old) }
+        ensures ok { OnOk result ((k : ℕ) → a ≤ k → k < b → has_place self.new k ≡ true) }
+        ensures same { (k : ℕ) → entered_at self.new k ≡ entered_at self.old k }
     {
-        if a >= b {
-            return Ok(());
+        let mut at = a;
+        while at < b {
+            let count = within_block(at, b);
+            let from = at % BLOCK;
+            self.make_in(at / BLOCK, from, from + count)?;
+            at += count;
         }
-        make_places(&mut self.marks, (b as usize).div_ceil(WORD))?;
-        make_places(&mut self.words, b as usize)?;
         Ok(())
+    }
+
+    // Makes room for the indices from `from` up to `to` of one block.
+    fn make_in(&mut self, at: u64, from: u64, to: u64) -> Result<(), AllocError>
+        requires some { from < to }
+        requires block { to ≤ 65536 }
+        ensures ok { OnOk result (to ≤ 64 * length (slice_index_or self.new at [])) }
+        ensures same { (k : ℕ) → marked (slice_index_or self.new at []) k
+            ≡ marked (slice_index_or self.old at []) k }
+        ensures others { (j : ℕ) → j ≢ at
+            → slice_index_or self.new j [] ≡ slice_index_or self.old j [] }
+    {
+        if at == 0 {
+            return self.first.make_room(from, to);
+        }
+        let at = at as usize - 1;
+        while self.rest.len() <= at {
+            self.rest.push(EntryBlock::new(self.alloc))?;
+        }
+        self.rest[at].make_room(from, to)
     }
 
     /// Puts the indices from `a` up to `b` in.
     pub fn add(&mut self, a: u64, b: u64)
-        requires { a < b → b ≤ 64 * length self.old }
-        ensures { (k : ℕ) → marked self.new k ≡ (marked self.old k || within a b k) }
+        requires { (k : ℕ) → a ≤ k → k < b → has_place self.old k ≡ true }
+        ensures { (k : ℕ) → entered_at self.new k ≡ (entered_at self.old k || within a b k) }
     {
-        if a >= b {
+        let mut at = a;
+        while at < b {
+            let count = within_block(at, b);
+            let from = at % BLOCK;
+            self.add_in(at / BLOCK, from, from + count);
+            at += count;
+        }
+    }
+
+    // Puts the indices from `from` up to `to` of one block in.
+    fn add_in(&mut self, at: u64, from: u64, to: u64)
+        requires some { from < to }
+        requires room { to ≤ 64 * length (slice_index_or self.old at []) }
+        ensures here { (k : ℕ) → marked (slice_index_or self.new at []) k
+            ≡ (marked (slice_index_or self.old at []) k || within from to k) }
+        ensures others { (j : ℕ) → j ≢ at
+            → slice_index_or self.new j [] ≡ slice_index_or self.old j [] }
+    {
+        if at == 0 {
+            self.first.add(from, to);
             return;
         }
-        let (a, b) = (a as usize, b as usize);
-        set_marks(self.words.as_mut_slice(), a, b);
-        set_marks(self.marks.as_mut_slice(), a / WORD, b.div_ceil(WORD));
+        self.rest[at as usize - 1].add(from, to);
     }
 
     /// Takes the indices from `a` up to `b` out, and answers how many there were.
     pub fn remove(&mut self, a: u64, b: u64) -> u64
-        ensures count { result ≡ count_in self.old a b }
-        ensures left { (k : ℕ) → marked self.new k ≡ (marked self.old k && not (within a b k)) }
+        ensures count { result ≡ entered_count self.old a b }
+        ensures left { (k : ℕ) → entered_at self.new k
+            ≡ (entered_at self.old k && not (within a b k)) }
     {
-        let (a, b) = (a as usize, (b as usize).min(WORD * self.words.len()));
-        if a >= b {
+        let mut removed = 0;
+        let mut at = a;
+        while at < b {
+            let count = within_block(at, b);
+            let from = at % BLOCK;
+            removed += self.remove_in(at / BLOCK, from, from + count);
+            at += count;
+        }
+        removed
+    }
+
+    // Takes the indices from `from` up to `to` of one block out, and answers how many there were.
+    fn remove_in(&mut self, at: u64, from: u64, to: u64) -> u64
+        ensures count { result ≡ count_in (slice_index_or self.old at []) from to }
+        ensures here { (k : ℕ) → marked (slice_index_or self.new at []) k
+            ≡ (marked (slice_index_or self.old at []) k && not (within from to k)) }
+        ensures others { (j : ℕ) → j ≢ at
+            → slice_index_or self.new j [] ≡ slice_index_or self.old j [] }
+    {
+        if at == 0 {
+            return self.first.remove(from, to);
+        }
+        let at = at as usize - 1;
+        if at >= self.rest.len() {
             return 0;
         }
-        let (first, last) = (a / WORD, (b - 1) / WORD);
-        if first == last {
-            return self.remove_in_word(a, b);
-        }
-        let head = self.remove_in_word(a, WORD * (first + 1));
-        let middle = self.remove_words(first + 1, last);
-        head + middle + self.remove_in_word(WORD * last, b)
+        self.rest[at].remove(from, to)
     }
-
-    // Takes the indices of one word from `a` up to `b` out, and answers how many there were.
-    fn remove_in_word(&mut self, a: usize, b: usize) -> u64
-        requires some { a < b }
-        requires one { b ≤ 64 * (a / 64) + 64 }
-        requires within { b ≤ 64 * length self.old }
-        ensures removed { IsRemoved a b self.old self.new result }
-        ensures len { length self.new ≡ length self.old }
-    {
-        let at = a / WORD;
-        let bits = bits_within(at, a, b);
-        let word = self.words.as_slice()[at];
-        let left = word & !bits;
-        self.words.as_mut_slice()[at] = left;
-        set_mark(self.marks.as_mut_slice(), at, left != 0);
-        u64::from((word & bits).count_ones())
-    }
-
-    // Takes the indices of the words from `from` up to `end` out, and answers how many there were.
-    fn remove_words(&mut self, from: usize, end: usize) -> u64
-        requires order { from ≤ end }
-        requires within { end ≤ length self.old }
-        ensures removed { IsRemoved (64 * from) (64 * end) self.old self.new result }
-        ensures len { length self.new ≡ length self.old }
-    {
-        let count = clear_words(self.words.as_mut_slice(), self.marks.as_slice(), from, end);
-        clear_marks(self.marks.as_mut_slice(), from, end);
-        count
-    }
-
-    // The first of the words from `from` up to `end` that has an index.
-    fn next_word(&self, from: usize, end: usize) -> Option<usize>
-        ensures { FindsWord self.now from end result }
-    {
-        first_within(self.marks.as_slice(), from, end)
-    }
-}
-
-// Clears the words from `from` up to `end`, and answers how many bits they had. Those with no mark are passed.
-fn clear_words(words: &mut [u64], marks: &[u64], from: usize, end: usize) -> u64
-    requires entries { IsEntries words.old marks.now }
-    requires order { from ≤ end }
-    requires within { end ≤ length words.old }
-    ensures { IsRemoved (64 * from) (64 * end) words.old words.new result }
-{
-    let mut count = 0;
-    let mut at = from;
-    while at < end {
-        let word = words[at];
-        if word == 0 {
-            at = first_within(marks, at + 1, end).unwrap_or(end);
-        } else {
-            words[at] = 0;
-            let next = clear_full(words, at + 1, end);
-            count += u64::from(word.count_ones()) + 64 * (next - at - 1) as u64;
-            at = next;
-        }
-    }
-    count
-}
-
-// Clears the full words from `from` on, up to `end` at most, and answers where they end.
-fn clear_full(words: &mut [u64], from: usize, end: usize) -> usize
-    requires order { from ≤ end }
-    requires within { end ≤ length words.old }
-    ensures from { from ≤ result }
-    ensures to { result ≤ end }
-    ensures removed { IsRemoved (64 * from) (64 * result) words.old words.new
-        (64 * (result - from)) }
-{
-    let mut at = from;
-    while at < end && words[at] == u64::MAX {
-        words[at] = 0;
-        at += 1;
-    }
-    at
 }

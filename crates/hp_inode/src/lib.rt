@@ -14,11 +14,14 @@ pub use ready::ReadyInode;
 use std::alloc::{AllocError, Global};
 use std::marker::Model;
 
+mod block;
 mod chunk;
 mod entries;
+mod entry_block;
 mod form;
 mod indices;
 mod marks;
+mod page_block;
 mod ready;
 mod table;
 

@@ -1,149 +1,150 @@
-//! Pages by index, in chunks of 64 slots: an index's slot is found in one step, and so is a chunk with pages.
-ghost use Rattle.std.specs.Prelude.{ℕ, ◌≡◌, ◌/◌, ◌<◌, ◌≤◌, ◌^◌, ◌++◌, ◌∷◌, [], length, OnOk, OnErr, true, None};
+//! Pages by index, in blocks of 65,536.
+ghost use Rattle.std.specs.Prelude.{ℕ, ◌≡◌, ◌≢◌, ◌/◌, ◌<◌, ◌≤◌, ◌^◌, [], OnOk, true, MatchOption};
 ghost use Rattle.std.specs.List.{slice_index_or};
-ghost use Rattle.hp_inode.specs.Rows.{page_in, has_slot, FindsSlot, FindsPage};
+ghost use Rattle.hp_inode.specs.Blocks.{page_at, has_slot_at, FindsPageAt};
+ghost use Rattle.hp_inode.specs.Rows.{page_in, has_slot, FindsPage};
 
-use crate::chunk::{CHUNK, Chunk};
-use crate::marks::{first_from, make_places, set_mark};
+use crate::block::{BLOCK, within_block};
+use crate::page_block::PageBlock;
 use hp_model::page_no::PageNo;
-use smallvec::SmallVec;
 use std::alloc::{AllocError, Global};
 use std::marker::Model;
 
-/// The chunks of a file, with a mark at each that has a page.
+/// The pages of a file. Contracts see the rows of its blocks.
 #[derive(Drop)]
 pub struct PageTable {
-    chunks: Vec<Chunk>,
-    marks: SmallVec<u64, 1>,
     alloc: Global,
+    first: PageBlock,
+    // those after the first, up to the last that has had a slot
+    rest: Vec<PageBlock>,
 }
 
 impl Model for PageTable {
-    ghost use Rattle.hp_inode.specs.Rows.{Rows, IsTable};
+    ghost use Rattle.std.specs.Prelude.{◌∷◌};
+    ghost use Rattle.hp_inode.specs.Blocks.{RowBlocks, AreBlocks};
 
-    ghost Value = { Rows };
+    ghost Value = { RowBlocks };
 
-    ghost view = { λ t. t.chunks.items };
+    ghost view = { λ t. t.first ∷ t.rest.items };
 
-    ghost invariant = { λ t. IsTable t.chunks.items t.marks.items };
+    ghost invariant = { λ t. AreBlocks (t.first ∷ t.rest.items) };
 }
 
 impl PageTable {
     pub fn new(alloc: Global) -> Self
-        ensures { result ≡ [] }
+        ensures pages { (i : ℕ) → page_at result i ≡ page_at [] i }
+        ensures slots { (i : ℕ) → has_slot_at result i ≡ has_slot_at [] i }
     {
         PageTable {
-            chunks: Vec::new(alloc),
-            marks: SmallVec::new(alloc),
             alloc,
+            first: PageBlock::new(alloc),
+            rest: Vec::new(alloc),
+        }
+    }
+
+    // The block with this number, if it was made.
+    fn block(&self, at: u64) -> Option<&PageBlock>
+        ensures { MatchOption result (slice_index_or self.now at [] ≡ [])
+            (λ block. slice_index_or self.now at [] ≡ block.now) }
+    {
+        if at == 0 {
+            return Some(&self.first);
+        }
+        let at = at as usize - 1;
+        if at < self.rest.len() {
+            Some(&self.rest[at])
+        } else {
+            None
         }
     }
 
     pub fn page_at(&self, i: u64) -> Option<PageNo>
-        ensures { result ≡ page_in self.now i }
+        ensures { result ≡ page_at self.now i }
     {
-        let at = (i / CHUNK) as usize;
-        if at < self.chunks.len() {
-            self.chunks[at].get((i % CHUNK) as usize)
-        } else {
-            None
+        match self.block(i / BLOCK) {
+            Some(block) => block.page_at(i % BLOCK),
+            None => None,
         }
     }
 
     pub fn set(&mut self, i: u64, page: Option<PageNo>)
-        requires { has_slot self.old i ≡ true }
-        ensures here { page_in self.new i ≡ page }
-        ensures others { (k : ℕ) → (k ≡ i → ⊥) → page_in self.new k ≡ page_in self.old k }
-        ensures slots { (k : ℕ) → has_slot self.new k ≡ has_slot self.old k }
+        requires { has_slot_at self.old i ≡ true }
+        ensures here { page_at self.new i ≡ page }
+        ensures others { (k : ℕ) → (k ≡ i → ⊥) → page_at self.new k ≡ page_at self.old k }
+        ensures slots { (k : ℕ) → has_slot_at self.new k ≡ has_slot_at self.old k }
     {
-        let at = (i / CHUNK) as usize;
-        self.chunks[at].set((i % CHUNK) as usize, page);
-        let some = self.chunks[at].has_page();
-        set_mark(self.marks.as_mut_slice(), at, some);
+        if i < BLOCK {
+            self.first.set(i, page);
+            return;
+        }
+        self.rest[(i / BLOCK) as usize - 1].set(i % BLOCK, page);
     }
 
     /// The first index with a page, of those from `a` on.
     pub fn first_from(&self, a: u64) -> Option<u64>
-        ensures { FindsPage self.now a result }
+        ensures { FindsPageAt self.now a result }
     {
-        let at = (a / CHUNK) as usize;
-        if let Some(k) = self.slot_from(at, (a % CHUNK) as usize) {
-            return Some(at as u64 * CHUNK + k as u64);
+        let mut at = a / BLOCK;
+        let mut from = a % BLOCK;
+        while at <= self.rest.len() as u64 {
+            if let Some(k) = self.first_in(at, from) {
+                return Some(at * BLOCK + k);
+            }
+            at += 1;
+            from = 0;
         }
-        let next = first_from(self.marks.as_slice(), at + 1)?;
-        let k = self.slot_from(next, 0)?;
-        Some(next as u64 * CHUNK + k as u64)
+        None
     }
 
-    // The first slot of a chunk with a page, of those from `n` on.
-    fn slot_from(&self, at: usize, n: usize) -> Option<usize>
-        ensures { FindsSlot (slice_index_or self.now at []) n result }
+    // The first index of a block with a page, of those from `from` on.
+    fn first_in(&self, at: u64, from: u64) -> Option<u64>
+        ensures { FindsPage (slice_index_or self.now at []) from result }
     {
-        if at < self.chunks.len() {
-            self.chunks[at].first_from(n)
-        } else {
-            None
-        }
+        self.block(at)?.first_from(from)
     }
 
     /// Makes a slot for each index from `a` up to `b`.
     pub fn make_slots(&mut self, a: u64, b: u64) -> Result<(), AllocError>
         requires { b < 2 ^ 32 }
-        ensures pages { (k : ℕ) → page_in self.new k ≡ page_in self.old k }
-        ensures kept { (k : ℕ) → has_slot self.old k ≡ true → has_slot self.new k ≡ true }
-        ensures made { OnOk result ((k : ℕ) → a ≤ k → k < b → has_slot self.new k ≡ true) }
-        ensures below { (k : ℕ) → k / 64 < a / 64 → has_slot self.new k ≡ has_slot self.old k }
+        ensures pages { (k : ℕ) → page_at self.new k ≡ page_at self.old k }
+        ensures kept { (k : ℕ) → has_slot_at self.old k ≡ true → has_slot_at self.new k ≡ true }
+        ensures made { OnOk result ((k : ℕ) → a ≤ k → k < b → has_slot_at self.new k ≡ true) }
+        ensures below { (k : ℕ) → k / 64 < a / 64
+            → has_slot_at self.new k ≡ has_slot_at self.old k }
     {
-        if a < b {
-            let (from, end) = ((a / CHUNK) as usize, ((b - 1) / CHUNK + 1) as usize);
-            for at in self.made_to(from, end)..end {
-                self.make_chunk(at)?;
-            }
+        let mut at = a;
+        while at < b {
+            let count = within_block(at, b);
+            let from = at % BLOCK;
+            self.make_in(at / BLOCK, from, from + count)?;
+            at += count;
         }
         Ok(())
     }
 
-    // Passes the chunks from `from` up to `end` that have their slots, and answers where they end.
-    fn made_to(&self, from: usize, end: usize) -> usize
-        requires { from ≤ end }
-        ensures from { from ≤ result }
-        ensures to { result ≤ end }
-        ensures made { (k : ℕ) → from ≤ k / 64 → k / 64 < result → has_slot self.now k ≡ true }
+    // Makes a slot for each index of a block from `from` up to `to`.
+    fn make_in(&mut self, at: u64, from: u64, to: u64) -> Result<(), AllocError>
+        requires few { at < 65536 }
+        requires block { to ≤ 65536 }
+        ensures pages { (k : ℕ) → page_in (slice_index_or self.new at []) k
+            ≡ page_in (slice_index_or self.old at []) k }
+        ensures kept { (k : ℕ) → has_slot (slice_index_or self.old at []) k ≡ true
+            → has_slot (slice_index_or self.new at []) k ≡ true }
+        ensures made { OnOk result ((k : ℕ) → from ≤ k → k < to
+            → has_slot (slice_index_or self.new at []) k ≡ true) }
+        ensures below { (k : ℕ) → k / 64 < from / 64
+            → has_slot (slice_index_or self.new at []) k
+            ≡ has_slot (slice_index_or self.old at []) k }
+        ensures others { (j : ℕ) → j ≢ at
+            → slice_index_or self.new j [] ≡ slice_index_or self.old j [] }
     {
-        let chunks = self.chunks.as_slice();
-        let mut at = from;
-        while at < end.min(chunks.len()) && !chunks[at].is_empty() {
-            at += 1;
+        if at == 0 {
+            return self.first.make_slots(from, to);
         }
-        at
-    }
-
-    // Makes the slots of one chunk.
-    fn make_chunk(&mut self, at: usize) -> Result<(), AllocError>
-        requires { at < 2 ^ 32 }
-        ensures pages { (k : ℕ) → page_in self.new k ≡ page_in self.old k }
-        ensures kept { (k : ℕ) → has_slot self.old k ≡ true → has_slot self.new k ≡ true }
-        ensures made { OnOk result ((k : ℕ) → k / 64 ≡ at → has_slot self.new k ≡ true) }
-        ensures others { (k : ℕ) → (k / 64 ≡ at → ⊥) → has_slot self.new k ≡ has_slot self.old k }
-    {
-        while self.chunks.len() <= at {
-            self.push_chunk()?;
+        let at = at as usize - 1;
+        while self.rest.len() <= at {
+            self.rest.push(PageBlock::new(self.alloc))?;
         }
-        if !self.chunks[at].is_empty() {
-            return Ok(());
-        }
-        self.chunks[at] = Chunk::with_slots(self.alloc)?;
-        Ok(())
-    }
-
-    // One chunk more, with no slots.
-    fn push_chunk(&mut self) -> Result<(), AllocError>
-        requires { length self.old < 2 ^ 32 }
-        ensures ok { OnOk result (self.new ≡ self.old ++ [] ∷ []) }
-        ensures err { OnErr result (self.new ≡ self.old) }
-    {
-        make_places(&mut self.marks, self.chunks.len() + 1)?;
-        self.chunks.push(Chunk::new(self.alloc))?;
-        Ok(())
+        self.rest[at].make_slots(from, to)
     }
 }

@@ -12,7 +12,7 @@ use std::test::Fail;
 fn owned(alloc: Global, a: u64, b: u64) -> Result<Mapping, AllocError>
     requires { a ≤ b }
 {
-    Mapping::new(alloc, 0, 7, 3, a, b, MapFlags::OWNER)
+    Mapping::new(alloc, 12, 7, 3, a, b, MapFlags::OWNER)
 }
 
 // The same, tried again where memory is refused.
@@ -220,6 +220,22 @@ fn is_large<R: Abort>(rt: &R, map: &mut Mapping) -> Result<(), AllocError> {
 fn places_of_a_large_map_are_written_by_chunks(rt: HostRuntime) -> Result<(), Fail> {
     let mut map = owned(rt.alloc(), 5, 60_005)?;
     let ended = is_large(&rt, &mut map);
+    drop(map);
+    Ok(ended?)
+}
+
+// The tags of a map and of its child are those that their makers gave.
+fn is_tagged<R: Abort>(rt: &R, map: &Mapping) -> Result<(), AllocError> {
+    let child = map.fork_for(13, 8)?;
+    same!(rt; [map.tag(), child.tag()], [12, 13]);
+    drop(child);
+    Ok(())
+}
+
+#[test]
+fn a_map_keeps_its_tag(rt: HostRuntime) -> Result<(), Fail> {
+    let map = owned(rt.alloc(), 10, 20)?;
+    let ended = is_tagged(&rt, &map);
     drop(map);
     Ok(ended?)
 }

@@ -1,28 +1,26 @@
-use Rattle.std.proofs.Common.{rules, ap, ◌∙◌, ◌≡◌, ◌≤◌, ◌*◌, ◌||◌, ◌/◌, ◌%◌, ◌+◌, min, ℕ, length}
-use Rattle.hp_model.specs.files.Ranges.{within}
-use Rattle.hp_inode.specs.Marks.{marked}
-use Rattle.hp_inode.proofs.Spread.{spread_entries}
-use Rattle.hp_inode.proofs.Tables.{written_back}
+use Rattle.std.proofs.Common.{◌+◌, ◌-◌, ◌*◌, ◌/◌, ◌%◌, ◌<◌, ◌≤◌, length, ltb, ap, ◌∙◌, arith}
+use Rattle.hp_inode.proofs.Blocks.{room_for, added}
 use Rattle.hp_inode.proofs.entries.Entries.add.Goals as goal
 
-pub invariant_of-self : goal.invariant_of-self
-invariant_of-self c =
-    let words = c.self.inside.words.items in
-    let marks = c.self.inside.marks.items in
-    let a = c.args.a in
-    let b = c.args.b in
-    let enough : b ≤ 64 * length words = rw c.self.view_is (c.requires c.if-a-b.false) in
-    let long : length c.set_marks.new.words ≡ length words = search rules in
-    let longs : length c.set_marks-2.new.words ≡ length marks = search rules in
-    let here : (k : ℕ) → marked c.set_marks.new.words k ≡ (marked words k || within a b k) = λ k. c.set_marks.ensures k ∙ ap (λ ws. marked ws k || within a b k) c.as_mut_slice.ensures.value in
-    let above : (k : ℕ) → marked c.set_marks-2.new.words k ≡ (marked marks k || within (a / 64) (b / 64 + min 1 (b % 64)) k) =
-    λ k. c.set_marks-2.ensures k ∙ ap (λ ws. marked ws k || within (a / 64) c.div_ceil.result k) c.as_mut_slice-2.ensures.value ∙ ap (λ n. marked marks k || within (a / 64) n k) c.div_ceil.ensures in
-    rw (written_back words c.set_marks.new.words long, written_back marks c.set_marks-2.new.words longs)
-    (spread_entries words marks c.set_marks.new.words c.set_marks-2.new.words a b c.self.invariant enough long longs here above)
+pub add_in-requires-clause-room : goal.add_in-requires-clause-room
+add_in-requires-clause-room c =
+    let at = c.loop-at.at in
+    let count = c.within_block-count.result in
+    let fits : at % 65536 + count ≤ 65536 = omega (arith, c.within_block-count.ensures) in
+    let some : 0 < count = omega (arith, c.within_block-count.ensures, c.loop-at-test.true) in
+    room_for c.loop-at.self at count fits some (c.loop-at.invariant.room (at + count - 1) (omega (arith, some)) (omega (arith, some, c.within_block-count.ensures, c.loop-at-test.true)))
 
-pub returns : goal.returns
-returns c k =
-    let words = c.self.inside.words.items in
-    let long : length c.set_marks.new.words ≡ length words = search rules in
-    rw (written_back words c.set_marks.new.words long)
-    (c.set_marks.ensures k ∙ ap (λ ws. marked ws k || within c.args.a c.args.b k) (c.as_mut_slice.ensures.value ∙ c.self.view_is))
+pub loop-at-preserved : goal.loop-at-preserved
+loop-at-preserved c =
+    let at = c.loop-at.at in
+    let count = c.within_block-count.result in
+    let held = c.loop-at.invariant in
+    let fits : at % 65536 + count ≤ 65536 = omega (arith, c.within_block-count.ensures) in
+    record {
+      from = omega (arith, held.from);
+      to = omega (arith, c.within_block-count.ensures, c.loop-at-test.true, held.from);
+      done = added c.loop-at.self c.add_in.new.self at count fits c.add_in.ensures.others c.args.self.now c.args.a held.from c.add_in.ensures.here held.done;
+      room = λ k low high.
+          ap (λ words. ltb (k % 65536) (64 * length words)) (c.add_in.ensures.others (k / 65536) (λ here. absurd (omega (arith, here, low, high, c.within_block-count.ensures, c.loop-at-test.true))))
+          ∙ held.room k (omega (arith, low)) high;
+    }

@@ -1,16 +1,37 @@
-use Rattle.std.proofs.Common.{arith, ◌-◌}
-use Rattle.std.specs.List.{range_with_len}
-use Rattle.std.proofs.lemmas.List.FromFn.{length-range_with_len}
-use Rattle.hp_model.proofs.Counting.{count_not}
-use Rattle.hp_inode.specs.Marks.{marked}
+use Rattle.std.proofs.Common.{ℕ, Bool, ◌+◌, ◌-◌, ◌%◌, ◌≤◌, not, ◌∙◌, arith}
+use Rattle.hp_inode.specs.Blocks.{entered_at}
+use Rattle.hp_inode.proofs.Blocks.{counted_on, few_in, missed_here}
 use Rattle.hp_inode.proofs.entries.Entries.missing.Goals as goal
 
-pub overflow_sub-result : goal.overflow_sub-result
-overflow_sub-result c =
-    let range = range_with_len c.args.a (c.args.b - c.args.a) in
-    omega (arith, count_not (marked c.args.self.now) range, length-range_with_len c.args.a (c.args.b - c.args.a))
+pub overflow_add-missing : goal.overflow_add-missing
+overflow_add-missing c =
+    let at = c.loop-at.at in
+    let count = c.within_block-count.result in
+    let fits : at % 65536 + count ≤ 65536 = omega (arith, c.within_block-count.ensures) in
+    let absent : ℕ → Bool = λ i. not (entered_at c.args.self.now i) in
+    let part = c.missing_in-missing.ensures ∙ missed_here c.args.self.now at count fits in
+    omega (
+      arith,
+      part,
+      few_in absent at count,
+      few_in absent c.args.a (at - c.args.a),
+      c.loop-at.invariant.counted,
+      c.loop-at.invariant.from,
+      c.within_block-count.ensures,
+      c.loop-at-test.true,
+      c.ranges.b.fits,
+    )
 
-pub returns : goal.returns
-returns c =
-    let range = range_with_len c.args.a (c.args.b - c.args.a) in
-    omega (arith, count_not (marked c.args.self.now) range, length-range_with_len c.args.a (c.args.b - c.args.a))
+pub loop-at-preserved : goal.loop-at-preserved
+loop-at-preserved c =
+    let at = c.loop-at.at in
+    let count = c.within_block-count.result in
+    let held = c.loop-at.invariant in
+    let fits : at % 65536 + count ≤ 65536 = omega (arith, c.within_block-count.ensures) in
+    let absent : ℕ → Bool = λ i. not (entered_at c.args.self.now i) in
+    let part = c.missing_in-missing.ensures ∙ missed_here c.args.self.now at count fits in
+    record {
+      from = omega (arith, held.from);
+      to = omega (arith, c.within_block-count.ensures, c.loop-at-test.true, held.from);
+      counted = omega (arith, part, held.counted, counted_on absent c.args.a at count held.from);
+    }

@@ -1,11 +1,16 @@
-use Rattle.std.proofs.Common.{ℕ, ◌≡◌, ◌/◌, ◌<◌, ◌≤◌, true}
-use Rattle.hp_inode.specs.Rows.{page_in, has_slot}
+use Rattle.std.proofs.Common.{ℕ, ◌≡◌, ◌-◌, ◌/◌, ◌<◌, ◌≤◌, max, true}
+use Rattle.hp_inode.specs.Blocks.{page_at, has_slot_at}
 use Rattle.hp_inode.proofs.table.PageTable.make_slots.Given as goal
 
 abbrev pub invariant-loop-at : goal.invariant-loop-at
 invariant-loop-at l = record {
-  pages : (k : ℕ) → page_in l.self k ≡ page_in l.fn.self k;
-  kept : (k : ℕ) → has_slot l.fn.self k ≡ true → has_slot l.self k ≡ true;
-  made : (k : ℕ) → l.a / 64 ≤ k / 64 → k / 64 < l.at → has_slot l.self k ≡ true;
-  below : (k : ℕ) → k / 64 < l.a / 64 → has_slot l.self k ≡ has_slot l.fn.self k;
+  from : l.a ≤ l.at;
+  to : l.at ≤ max l.a l.b;
+  pages : (k : ℕ) → page_at l.self k ≡ page_at l.fn.self k;
+  kept : (k : ℕ) → has_slot_at l.fn.self k ≡ true → has_slot_at l.self k ≡ true;
+  made : (k : ℕ) → l.a ≤ k → k < l.at → has_slot_at l.self k ≡ true;
+  below : (k : ℕ) → k / 64 < l.a / 64 → has_slot_at l.self k ≡ has_slot_at l.fn.self k;
 }
+
+abbrev pub decreases-loop-at : goal.decreases-loop-at
+decreases-loop-at l = l.b - l.at

@@ -1,31 +1,71 @@
-use Rattle.std.proofs.Common.{◌≡◌, ◌/◌, ◌∙◌, ap, rules, length, get_or, None, true, sym}
-use Rattle.std.proofs.lemmas.List.{get_or-set_same}
-use Rattle.hp_inode.specs.Marks.{marked}
-use Rattle.hp_inode.specs.Rows.{has_slot}
-use Rattle.hp_inode.proofs.Tables.{chunk_there, page_in_set, page_in_others, has_slot_set, table_set, written_back}
+use Rattle.std.proofs.Common.{◌≡◌, ◌-◌, ◌/◌, ◌%◌, ◌∷◌, set, true, sym, ap, ◌∙◌, arith}
+use Rattle.std.proofs.lemmas.List.{length-set}
+use Rattle.hp_inode.specs.Blocks.{has_slot_at}
+use Rattle.hp_inode.specs.Rows.{page_in, has_slot}
+use Rattle.hp_inode.proofs.Blocks.{as_before, changed_here, changed_others, first_changed, kept_blocks, others_stay, read_is, slotted, there}
 use Rattle.hp_inode.proofs.table.PageTable.set.Goals as goal
 
 pub invariant_of-self : goal.invariant_of-self
 invariant_of-self c =
-    let rows = c.self.inside.chunks.items in
-    let slot : has_slot rows c.args.i ≡ true = rw c.self.view_is c.requires in
-    let there = chunk_there rows c.args.i c.args.page c.set.new.self c.index_mut.result.now slot c.index_mut.ensures.value c.set.ensures in
-    let same : c.index.result.now ≡ c.set.new.self = c.index.ensures ∙ get_or-set_same rows (c.args.i / 64) c.set.new.self c.index.result.now there in
-    let long : length c.set_mark.new.words ≡ length c.self.inside.marks.items = search rules in
-    rw (written_back c.self.inside.marks.items c.set_mark.new.words long)
-    (table_set rows c.args.i c.args.page c.set.new.self c.index_mut.result.now slot c.index_mut.ensures.value c.set.ensures c.self.inside.marks.items
-    c.set_mark.new.words c.has_page-some.result c.self.invariant long c.set_mark.ensures.here
-    (λ j other. c.set_mark.ensures.others j other ∙ ap (λ ws. marked ws j) c.as_mut_slice.ensures.value)
-    (λ on none. c.has_page-some.ensures.some on (λ k. ap (λ r. get_or r k None) same ∙ none k))
-    (λ off k. ap (λ r. get_or r k None) (sym same) ∙ c.has_page-some.ensures.none off k))
+    let first = c.self.inside.first in
+    let rest = c.self.inside.rest.items in
+    kept_blocks (first ∷ rest) (c.set.new.self ∷ rest) 0 (first_changed first c.set.new.self rest) c.self.invariant.few
+    (λ k past. c.set.ensures.others k (λ same. absurd (omega (arith, past, same, c.if-i-lt-BLOCK.true)))) c.self.invariant
+
+pub returns-then-i-lt-BLOCK-clause-others : goal.returns-then-i-lt-BLOCK-clause-others
+returns-then-i-lt-BLOCK-clause-others c =
+    let first = c.self.inside.first in
+    let rest = c.self.inside.rest.items in
+    rw (← c.self.view_is) (others_stay (first ∷ rest) (c.set.new.self ∷ rest) 0 (first_changed first c.set.new.self rest) c.args.i c.args.i
+    (omega (arith, c.if-i-lt-BLOCK.true)) (omega (arith, c.if-i-lt-BLOCK.true)) c.set.ensures.others)
+
+pub invariant_of-self-2 : goal.invariant_of-self-2
+invariant_of-self-2 c =
+    let first = c.self.inside.first in
+    let rest = c.self.inside.rest.items in
+    let at = c.args.i / 65536 in
+    let later : at ≡ 0 → ⊥ = λ is. omega (arith, is, c.if-i-lt-BLOCK.false) in
+    let slot : has_slot_at (first ∷ rest) c.args.i ≡ true = rw c.self.view_is c.requires in
+    let lt = there first rest at later (slotted (first ∷ rest) c.args.i slot) in
+    let was = read_is first rest at later c.index_mut.result.now lt c.index_mut.ensures.value in
+    kept_blocks (first ∷ rest) (first ∷ set rest (at - 1) c.set-2.new.self) at (changed_others first rest at later c.set-2.new.self)
+    (omega (arith, c.self.invariant.few, length-set rest (at - 1) c.set-2.new.self))
+    (λ k past. ap (λ block. page_in block k) (changed_here first rest at later c.set-2.new.self lt) ∙ c.set-2.ensures.others k (λ same. absurd (omega (arith, past, same)))
+    ∙ ap (λ block. page_in block k) (sym was))
+    c.self.invariant
 
 pub returns-clause-here : goal.returns-clause-here
-returns-clause-here c = page_in_set c.self.inside.chunks.items c.args.i c.args.page c.set.new.self c.index_mut.result.now (rw c.self.view_is c.requires) c.index_mut.ensures.value c.set.ensures
+returns-clause-here c =
+    let first = c.self.inside.first in
+    let rest = c.self.inside.rest.items in
+    let at = c.args.i / 65536 in
+    let later : at ≡ 0 → ⊥ = λ is. omega (arith, is, c.if-i-lt-BLOCK.false) in
+    let slot : has_slot_at (first ∷ rest) c.args.i ≡ true = rw c.self.view_is c.requires in
+    let lt = there first rest at later (slotted (first ∷ rest) c.args.i slot) in
+    ap (λ block. page_in block (c.args.i % 65536)) (changed_here first rest at later c.set-2.new.self lt) ∙ c.set-2.ensures.here
 
 pub returns-clause-others : goal.returns-clause-others
-returns-clause-others c k differs = rw (← c.self.view_is) (page_in_others c.self.inside.chunks.items c.args.i c.args.page c.set.new.self
-    c.index_mut.result.now (rw c.self.view_is c.requires) c.index_mut.ensures.value c.set.ensures k differs)
+returns-clause-others c =
+    let first = c.self.inside.first in
+    let rest = c.self.inside.rest.items in
+    let at = c.args.i / 65536 in
+    let place = c.args.i % 65536 in
+    let later : at ≡ 0 → ⊥ = λ is. omega (arith, is, c.if-i-lt-BLOCK.false) in
+    let slot : has_slot_at (first ∷ rest) c.args.i ≡ true = rw c.self.view_is c.requires in
+    let lt = there first rest at later (slotted (first ∷ rest) c.args.i slot) in
+    let was = read_is first rest at later c.index_mut.result.now lt c.index_mut.ensures.value in
+    rw (← c.self.view_is) (others_stay (first ∷ rest) (first ∷ set rest (at - 1) c.set-2.new.self) at (changed_others first rest at later c.set-2.new.self) c.args.i place
+    (omega arith) (omega arith)
+    (λ k differs. ap (λ block. page_in block k) (changed_here first rest at later c.set-2.new.self lt) ∙ c.set-2.ensures.others k differs ∙ ap (λ block. page_in block k) (sym was)))
 
 pub returns-clause-slots : goal.returns-clause-slots
-returns-clause-slots c k = rw (← c.self.view_is) (has_slot_set c.self.inside.chunks.items c.args.i c.args.page c.set.new.self c.index_mut.result.now
-    (rw c.self.view_is c.requires) c.index_mut.ensures.value c.set.ensures k)
+returns-clause-slots c =
+    let first = c.self.inside.first in
+    let rest = c.self.inside.rest.items in
+    let at = c.args.i / 65536 in
+    let later : at ≡ 0 → ⊥ = λ is. omega (arith, is, c.if-i-lt-BLOCK.false) in
+    let slot : has_slot_at (first ∷ rest) c.args.i ≡ true = rw c.self.view_is c.requires in
+    let lt = there first rest at later (slotted (first ∷ rest) c.args.i slot) in
+    let was = read_is first rest at later c.index_mut.result.now lt c.index_mut.ensures.value in
+    rw (← c.self.view_is) (as_before has_slot (first ∷ rest) (first ∷ set rest (at - 1) c.set-2.new.self) at (changed_others first rest at later c.set-2.new.self)
+    (λ k. ap (λ block. has_slot block k) (changed_here first rest at later c.set-2.new.self lt) ∙ c.set-2.ensures.slots k ∙ ap (λ block. has_slot block k) (sym was)))

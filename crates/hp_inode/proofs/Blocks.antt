@@ -1,0 +1,235 @@
+-- A change of one block, as a change of the indices of all.
+use Rattle.std.proofs.Common.{◌≡◌, ◌≢◌, ℕ, zero, suc, ◌+◌, ◌-◌, ◌*◌, ◌/◌, ◌%◌, ◌<◌, ◌≤◌, Bool, true, false, not, ◌&&◌, ◌||◌}
+use Rattle.std.proofs.Common.{List, [], ◌∷◌, length, get_or, set, cond, None, sym, refl, ap, ◌∙◌, arith, ⊎_elim}
+use Rattle.std.specs.List.{range_with_len, count_by}
+use Rattle.std.proofs.Math.Bool.{or-false, and-true}
+use Rattle.std.proofs.lemmas.Bool.{cases_lt, cases_eq, ltb-true}
+use Rattle.std.proofs.lemmas.Bool.Decides.{nat_tests}
+use Rattle.std.proofs.lemmas.List.{get_or-set_same, get_or-set_other, get_or_past, get_or_read, nil_from_length}
+use Rattle.std.proofs.lemmas.List.FromFn.{length-range_with_len}
+use Rattle.std.proofs.lemmas.List.Sums.{count_by-le-length}
+use Rattle.hp_model.proofs.Counting.{alike_in, count_cons, count_not, count_split, count_outside}
+use Rattle.hp_model.proofs.Ranges.{within-true, within-below, within-past}
+use Rattle.hp_model.specs.files.Ranges.{within}
+use Rattle.hp_inode.specs.Blocks.{WordBlocks, RowBlocks, AreBlocks, block_at, entered_at, has_place, page_at, has_slot_at}
+use Rattle.hp_inode.specs.EntryBlock.{count_in, missing_in}
+use Rattle.hp_inode.specs.Marks.{marked}
+use Rattle.hp_inode.specs.Rows.{page_in, has_slot}
+use Rattle.hp_inode.proofs.Removed.{parts_left}
+use Rattle.hp_inode.proofs.Words.{unmarked_past}
+
+-- ---- one block for another
+
+-- another first block
+pub first_changed : {X : Type 0} (old new : List X) (rest : List (List X)) (j : ℕ) → j ≢ 0 → get_or (new ∷ rest) j [] ≡ get_or (old ∷ rest) j []
+first_changed old new rest zero other = absurd (other refl)
+first_changed old new rest (suc j) other = refl
+
+-- one block of those after the first
+module _ {X : Type 0} (first : List X) (rest : List (List X)) (at : ℕ) (later : (at ≡ 0 → ⊥)) where
+  next : suc (at - 1) ≡ at
+  next = omega (arith, later)
+
+  pub block_there : get_or (first ∷ rest) at [] ≡ get_or rest (at - 1) []
+  block_there = sym (ap (λ n. get_or (first ∷ rest) n []) next)
+
+  pub there : 0 < length (get_or (first ∷ rest) at []) → at - 1 < length rest
+  there some = ⊎_elim (λ (lt : at - 1 < length rest). lt)
+      (λ (le : length rest ≤ at - 1). let none : length (get_or (first ∷ rest) at []) ≡ 0 = ap length (block_there ∙ get_or_past rest (at - 1) [] le) in absurd (omega (arith, some, none)))
+      (cases_lt (at - 1) (length rest))
+
+  pub past : length rest ≤ at - 1 → get_or (first ∷ rest) at [] ≡ []
+  past le = block_there ∙ get_or_past rest (at - 1) [] le
+
+  pub read_is : (read : List X) → at - 1 < length rest → read ≡ get_or rest (at - 1) read → get_or (first ∷ rest) at [] ≡ read
+  read_is read lt is = block_there ∙ sym (get_or_read rest (at - 1) read lt is [])
+
+  module _ (made : List X) where
+    pub changed_here : at - 1 < length rest → get_or (first ∷ set rest (at - 1) made) at [] ≡ made
+    changed_here lt = sym (ap (λ n. get_or (first ∷ set rest (at - 1) made) n []) next) ∙ get_or-set_same rest (at - 1) made [] lt
+
+    pub changed_others : (j : ℕ) → j ≢ at → get_or (first ∷ set rest (at - 1) made) j [] ≡ get_or (first ∷ rest) j []
+    changed_others zero other = refl
+    changed_others (suc j) other = get_or-set_other rest (at - 1) j made [] (λ same. other (ap suc same ∙ next))
+
+-- ---- the indices of a block
+
+module _ (at count : ℕ) (fits : at % 65536 + count ≤ 65536) where
+  pub same_block : (k : ℕ) → at ≤ k → k < at + count → k / 65536 ≡ at / 65536
+  same_block k low high = omega (arith, low, high, fits)
+
+  within_here : (k : ℕ) → k / 65536 ≡ at / 65536 → within (at % 65536) (at % 65536 + count) (k % 65536) ≡ within at (at + count) k
+  within_here k here = ⊎_elim
+      (λ (below : k < at). within-below (at % 65536) (at % 65536 + count) (k % 65536) (omega (arith, below, here)) ∙ sym (within-below at (at + count) k below))
+      (λ (from : at ≤ k). ⊎_elim
+      (λ (lt : k < at + count). within-true (at % 65536) (at % 65536 + count) (k % 65536) (omega (arith, from, here)) (omega (arith, lt, here)) ∙ sym (within-true at (at + count) k from lt))
+      (λ (past : at + count ≤ k). within-past (at % 65536) (at % 65536 + count) (k % 65536) (omega (arith, past, here)) ∙ sym (within-past at (at + count) k past))
+      (cases_lt k (at + count)))
+      (cases_lt k at)
+
+  within_other : (k : ℕ) → k / 65536 ≢ at / 65536 → within at (at + count) k ≡ false
+  within_other k other = ⊎_elim
+      (λ (below : k < at). within-below at (at + count) k below)
+      (λ (from : at ≤ k). ⊎_elim
+      (λ (lt : k < at + count). absurd (other (same_block k from lt)))
+      (λ (past : at + count ≤ k). within-past at (at + count) k past)
+      (cases_lt k (at + count)))
+      (cases_lt k at)
+
+-- ---- one block changed
+
+-- all blocks but one are as they were
+abbrev pub KeepsOthers : {X : Type 0} → List (List X) → List (List X) → ℕ → Type 0
+KeepsOthers old new q = (j : ℕ) → j ≢ q → get_or new j [] ≡ get_or old j []
+
+joined_or : (x : Bool) (a m b k : ℕ) → a ≤ m → m ≤ b → ((x || within a m k) || within m b k) ≡ (x || within a b k)
+joined_or true a m b k low high = refl
+joined_or false a m b k low high = grind (arith, nat_tests)
+
+-- what is seen of the indices of a block stays, and so does what is seen of all
+pub as_before : {X B : Type 0} (see : List X → ℕ → B) (old new : List (List X)) (q : ℕ) → KeepsOthers old new q →
+    ((k : ℕ) → see (get_or new q []) k ≡ see (get_or old q []) k) → (k : ℕ) → see (block_at new k) (k % 65536) ≡ see (block_at old k) (k % 65536)
+as_before see old new q others here k = ⊎_elim
+    (λ (same : k / 65536 ≡ q). ap (λ j. see (get_or new j []) (k % 65536)) same ∙ here (k % 65536) ∙ ap (λ j. see (get_or old j []) (k % 65536)) (sym same))
+    (λ (other : k / 65536 ≢ q). ap (λ block. see block (k % 65536)) (others (k / 65536) other))
+    (cases_eq (k / 65536) q)
+
+module _ (old new : WordBlocks) (at count : ℕ) (fits : at % 65536 + count ≤ 65536) (others : KeepsOthers old new (at / 65536)) where
+  stays : (k : ℕ) → k / 65536 ≢ at / 65536 → entered_at new k ≡ entered_at old k
+  stays k other = ap (λ words. marked words (k % 65536)) (others (k / 65536) other)
+
+  here_at : (k : ℕ) → k / 65536 ≡ at / 65536 → (words : WordBlocks) → entered_at words k ≡ marked (get_or words (at / 65536) []) (k % 65536)
+  here_at k here words = ap (λ q. marked (get_or words q []) (k % 65536)) here
+
+  pub added : (start : WordBlocks) (a : ℕ) → a ≤ at →
+      ((k : ℕ) → marked (get_or new (at / 65536) []) k ≡ (marked (get_or old (at / 65536) []) k || within (at % 65536) (at % 65536 + count) k)) →
+      ((k : ℕ) → entered_at old k ≡ (entered_at start k || within a at k)) → (k : ℕ) → entered_at new k ≡ (entered_at start k || within a (at + count) k)
+  added start a low here done k = step ∙ ap (λ t. t || within at (at + count) k) (done k) ∙ joined_or (entered_at start k) a at (at + count) k low (omega arith)
+    where
+      step : entered_at new k ≡ (entered_at old k || within at (at + count) k)
+      step = ⊎_elim
+          (λ (same : k / 65536 ≡ at / 65536). here_at k same new ∙ here (k % 65536) ∙ ap (λ t. t || within (at % 65536) (at % 65536 + count) (k % 65536)) (sym (here_at k same old))
+          ∙ ap (λ t. entered_at old k || t) (within_here at count fits k same))
+          (λ (other : k / 65536 ≢ at / 65536). stays k other ∙ sym (ap (λ t. entered_at old k || t) (within_other at count fits k other) ∙ or-false (entered_at old k)))
+          (cases_eq (k / 65536) (at / 65536))
+
+  pub taken_out : (start : WordBlocks) (a : ℕ) → a ≤ at →
+      ((k : ℕ) → marked (get_or new (at / 65536) []) k ≡ (marked (get_or old (at / 65536) []) k && not (within (at % 65536) (at % 65536 + count) k))) →
+      ((k : ℕ) → entered_at old k ≡ (entered_at start k && not (within a at k))) → (k : ℕ) → entered_at new k ≡ (entered_at start k && not (within a (at + count) k))
+  taken_out start a low here done k = step ∙ ap (λ t. t && not (within at (at + count) k)) (done k) ∙ parts_left (entered_at start k) a at (at + count) k low (omega arith)
+    where
+      step : entered_at new k ≡ (entered_at old k && not (within at (at + count) k))
+      step = ⊎_elim
+          (λ (same : k / 65536 ≡ at / 65536). here_at k same new ∙ here (k % 65536)
+          ∙ ap (λ t. t && not (within (at % 65536) (at % 65536 + count) (k % 65536))) (sym (here_at k same old))
+          ∙ ap (λ t. entered_at old k && not t) (within_here at count fits k same))
+          (λ (other : k / 65536 ≢ at / 65536). stays k other ∙ sym (ap (λ t. entered_at old k && not t) (within_other at count fits k other) ∙ and-true (entered_at old k)))
+          (cases_eq (k / 65536) (at / 65536))
+
+-- places up to the end of a part, by its last
+pub room_for : (words : WordBlocks) (at count : ℕ) → at % 65536 + count ≤ 65536 → 0 < count → has_place words (at + count - 1) ≡ true →
+    at % 65536 + count ≤ 64 * length (get_or words (at / 65536) [])
+room_for words at count fits some has =
+    let block : (at + count - 1) / 65536 ≡ at / 65536 = omega (arith, fits, some) in
+    let place : (at + count - 1) % 65536 ≡ at % 65536 + count - 1 = omega (arith, fits, some) in
+    omega (arith, some, place, ltb-true _ _ has, ap (λ q. length (get_or words q [])) block)
+
+-- ---- how many
+
+pub count_moved : (p r : ℕ → Bool) (x y n : ℕ) → ((j : ℕ) → j < n → p (x + j) ≡ r (y + j)) → count_by p (range_with_len x n) ≡ count_by r (range_with_len y n)
+count_moved p r x y zero same = refl
+count_moved p r x y (suc n) same =
+    let first : p x ≡ r y = ap p {x = x} {y = x + 0} (omega arith) ∙ same 0 (omega arith) ∙ ap r {x = y + 0} {y = y} (omega arith) in
+    let rest = count_moved p r (x + 1) (y + 1) n (λ j lt.
+    ap p {x = x + 1 + j} {y = x + (j + 1)} (omega arith) ∙ same (j + 1) (omega (arith, lt)) ∙ ap r {x = y + (j + 1)} {y = y + 1 + j} (omega arith)) in
+    count_cons p x (range_with_len (x + 1) n) ∙ ap (λ t. cond {A = ℕ} t 1 0 + count_by p (range_with_len (x + 1) n)) first ∙ ap (λ k. cond {A = ℕ} (r y) 1 0 + k) rest
+    ∙ sym (count_cons r y (range_with_len (y + 1) n))
+
+module _ (words : WordBlocks) (at count : ℕ) (fits : at % 65536 + count ≤ 65536) where
+  at_place : (j : ℕ) → j < count → entered_at words (at + j) ≡ marked (get_or words (at / 65536) []) (at % 65536 + j)
+  at_place j lt =
+      let block : (at + j) / 65536 ≡ at / 65536 = omega (arith, fits, lt) in
+      let place : (at + j) % 65536 ≡ at % 65536 + j = omega (arith, fits, lt) in
+      ap (λ q. marked (get_or words q []) ((at + j) % 65536)) block ∙ ap (marked (get_or words (at / 65536) [])) place
+
+  back : at % 65536 + count - at % 65536 ≡ count
+  back = omega arith
+
+  pub counted_here : count_in (get_or words (at / 65536) []) (at % 65536) (at % 65536 + count) ≡ count_by (entered_at words) (range_with_len at count)
+  counted_here =
+      ap (λ n. count_by (marked (get_or words (at / 65536) [])) (range_with_len (at % 65536) n)) back
+      ∙ count_moved (marked (get_or words (at / 65536) [])) (entered_at words) (at % 65536) at count (λ j lt. sym (at_place j lt))
+
+  pub missed_here : missing_in (get_or words (at / 65536) []) (at % 65536) (at % 65536 + count) ≡ count_by (λ i. not (entered_at words i)) (range_with_len at count)
+  missed_here =
+      ap (λ n. count_by (λ i. not (marked (get_or words (at / 65536) []) i)) (range_with_len (at % 65536) n)) back
+      ∙ count_moved (λ i. not (marked (get_or words (at / 65536) []) i)) (λ i. not (entered_at words i)) (at % 65536) at count (λ j lt. ap not (sym (at_place j lt)))
+
+pub none_missed : (a b : ℕ) → b - a ≡ missing_in [] a b
+none_missed a b =
+    let unmarked = count_outside (marked []) a (b - a) (λ i low high. unmarked_past [] i (omega arith)) in
+    omega (arith, count_not (marked []) (range_with_len a (b - a)), unmarked, length-range_with_len a (b - a))
+
+pub none_counted : (a b : ℕ) → 0 ≡ count_in [] a b
+none_counted a b = sym (count_outside (marked []) a (b - a) (λ i low high. unmarked_past [] i (omega arith)))
+
+pub few_in : (p : ℕ → Bool) (a n : ℕ) → count_by p (range_with_len a n) ≤ n
+few_in p a n = omega (arith, count_by-le-length p (range_with_len a n), length-range_with_len a n)
+
+-- what was not taken out yet
+pub still_entered : (start now : WordBlocks) (a at count : ℕ) → ((k : ℕ) → entered_at now k ≡ (entered_at start k && not (within a at k))) →
+    count_by (entered_at now) (range_with_len at count) ≡ count_by (entered_at start) (range_with_len at count)
+still_entered start now a at count left =
+    alike_in (entered_at now) (entered_at start) at count (λ k low high. left k ∙ ap (λ t. entered_at start k && not t) (within-past a at k low) ∙ and-true (entered_at start k))
+
+-- further by a part
+pub counted_on : (p : ℕ → Bool) (a at count : ℕ) → a ≤ at → count_by p (range_with_len a (at - a)) + count_by p (range_with_len at count) ≡ count_by p (range_with_len a (at + count - a))
+counted_on p a at count low =
+    let start : a + (at - a) ≡ at = omega (arith, low) in
+    let long : at - a + count ≡ at + count - a = omega (arith, low) in
+    ap (λ s. count_by p (range_with_len a (at - a)) + count_by p (range_with_len s count)) (sym start) ∙ sym (count_split p a (at - a) count)
+    ∙ ap (λ n. count_by p (range_with_len a n)) long
+
+-- ---- pages
+
+-- with the same pages in each block
+pub same_blocks : (old new : RowBlocks) → length new ≤ 65536 → ((j k : ℕ) → 65536 ≤ k → page_in (get_or new j []) k ≡ page_in (get_or old j []) k) → AreBlocks old → AreBlocks new
+same_blocks old new few same are = record { few = few; within = λ j k past. same j k past ∙ are.within j k past }
+
+module _ (old new : RowBlocks) (q : ℕ) (others : KeepsOthers old new q) where
+  pub kept_blocks : length new ≤ 65536 → ((k : ℕ) → 65536 ≤ k → page_in (get_or new q []) k ≡ page_in (get_or old q []) k) → AreBlocks old → AreBlocks new
+  kept_blocks few here are = same_blocks old new few (λ j k past. ⊎_elim
+      (λ (same : j ≡ q). ap (λ n. page_in (get_or new n []) k) same ∙ here k past ∙ ap (λ n. page_in (get_or old n []) k) (sym same))
+      (λ (other : j ≢ q). ap (λ block. page_in block k) (others j other))
+      (cases_eq j q)) are
+
+  -- one page changed
+  pub others_stay : (i place : ℕ) → i / 65536 ≡ q → i % 65536 ≡ place →
+      ((k : ℕ) → (k ≡ place → ⊥) → page_in (get_or new q []) k ≡ page_in (get_or old q []) k) → (k : ℕ) → (k ≡ i → ⊥) → page_at new k ≡ page_at old k
+  others_stay i place block_is place_is same k differs = ⊎_elim
+      (λ (here : k / 65536 ≡ q).
+      ap (λ n. page_in (get_or new n []) (k % 65536)) here ∙ same (k % 65536) (λ e. differs (omega (arith, e, here, block_is, place_is))) ∙ ap (λ n. page_in (get_or old n []) (k % 65536)) (sym here))
+      (λ (other : k / 65536 ≢ q). ap (λ block. page_in block (k % 65536)) (others (k / 65536) other))
+      (cases_eq (k / 65536) q)
+
+pub slotted : (rows : RowBlocks) (i : ℕ) → has_slot_at rows i ≡ true → 0 < length (get_or rows (i / 65536) [])
+slotted rows i has = ⊎_elim
+    (λ (none : length (get_or rows (i / 65536) []) ≡ 0).
+    let nowhere : has_slot [] (i % 65536) ≡ true = sym (ap (λ block. has_slot block (i % 65536)) (nil_from_length (get_or rows (i / 65536) []) none)) ∙ has in
+    absurd (omega (arith, ltb-true (i % 65536 % 64) 0 nowhere)))
+    (λ (some : length (get_or rows (i / 65536) []) ≢ 0). omega (arith, some))
+    (cases_eq (length (get_or rows (i / 65536) [])) 0)
+
+-- ---- the first page
+
+module _ (rows : RowBlocks) (a at from : ℕ) (low : a ≤ at * 65536 + from) (before : (k : ℕ) → a ≤ k → k < at * 65536 + from → page_at rows k ≡ None) where
+  page_here : (k : ℕ) → k / 65536 ≡ at → page_at rows k ≡ page_in (get_or rows at []) (k % 65536)
+  page_here k same = ap (λ q. page_in (get_or rows q []) (k % 65536)) same
+
+  pub none_to_next : ((k : ℕ) → from ≤ k → page_in (get_or rows at []) k ≡ None) → (k : ℕ) → a ≤ k → k < (at + 1) * 65536 → page_at rows k ≡ None
+  none_to_next none k above below = ⊎_elim
+      (λ (early : k < at * 65536 + from). before k above early)
+      (λ (late : at * 65536 + from ≤ k).
+      let same : k / 65536 ≡ at = omega (arith, late, below) in
+      page_here k same ∙ none (k % 65536) (omega (arith, late, same)))
+      (cases_lt k (at * 65536 + from))

@@ -1,0 +1,16 @@
+use Rattle.std.proofs.Common.{arith, ◌-◌}
+use Rattle.std.specs.List.{range_with_len}
+use Rattle.std.proofs.lemmas.List.FromFn.{length-range_with_len}
+use Rattle.hp_model.proofs.Counting.{count_not}
+use Rattle.hp_inode.specs.Marks.{marked}
+use Rattle.hp_inode.proofs.entry_block.EntryBlock.missing.Goals as goal
+
+pub overflow_sub-result : goal.overflow_sub-result
+overflow_sub-result c =
+    let range = range_with_len c.args.a (c.args.b - c.args.a) in
+    omega (arith, count_not (marked c.args.self.now) range, length-range_with_len c.args.a (c.args.b - c.args.a))
+
+pub returns : goal.returns
+returns c =
+    let range = range_with_len c.args.a (c.args.b - c.args.a) in
+    omega (arith, count_not (marked c.args.self.now) range, length-range_with_len c.args.a (c.args.b - c.args.a))

@@ -1,0 +1,51 @@
+-- Entries and pages in blocks of 65,536 indices; past the last block there are none.
+--     entered_at words i      whether the index is entered
+--     page_at rows i, has_slot_at rows i      the page of an index, and whether there is a slot for it
+--     has_place words i      whether the index can be entered with no memory
+use Rattle.std.specs.Prelude.{ℕ, ◌≡◌, ◌-◌, ◌*◌, ◌/◌, ◌%◌, ◌<◌, ◌≤◌, Bool, not, List, [], length, nat_lt, Option, None, IsSome, MatchOption}
+use Rattle.std.specs.List.{slice_index_or, range_with_len, count_by}
+use Rattle.hp_inode.specs.Marks.{marked}
+use Rattle.hp_inode.specs.Rows.{Rows, page_in, has_slot}
+
+-- the block of an index
+abbrev pub block_at : {X : Type 0} → List (List X) → ℕ → List X
+block_at blocks i = slice_index_or blocks (i / 65536) []
+
+abbrev pub WordBlocks : Type 0
+WordBlocks = List (List ℕ)
+
+abbrev pub RowBlocks : Type 0
+RowBlocks = List Rows
+
+abbrev pub entered_at : WordBlocks → ℕ → Bool
+entered_at words i = marked (block_at words i) (i % 65536)
+
+abbrev pub has_place : WordBlocks → ℕ → Bool
+has_place words i = nat_lt (i % 65536) (64 * length (block_at words i))
+
+abbrev pub page_at : RowBlocks → ℕ → Option ℕ
+page_at rows i = page_in (block_at rows i) (i % 65536)
+
+abbrev pub has_slot_at : RowBlocks → ℕ → Bool
+has_slot_at rows i = has_slot (block_at rows i) (i % 65536)
+
+-- how many from a up to b are entered, and how many aren't
+abbrev pub entered_count : WordBlocks → ℕ → ℕ → ℕ
+entered_count words a b = count_by (entered_at words) (range_with_len a (b - a))
+
+abbrev pub missing_count : WordBlocks → ℕ → ℕ → ℕ
+missing_count words a b = count_by (λ i. not (entered_at words i)) (range_with_len a (b - a))
+
+-- the first index with a page, of those from a on, or none where there is none
+pub record IsFirstPageAt (rows : RowBlocks) (a i : ℕ) : Type 0 where
+  pub from : a ≤ i
+  pub here : IsSome (page_at rows i)
+  pub none_before : (k : ℕ) → a ≤ k → k < i → page_at rows k ≡ None
+
+abbrev pub FindsPageAt : RowBlocks → ℕ → Option ℕ → Type 0
+FindsPageAt rows a found = MatchOption found ((k : ℕ) → a ≤ k → page_at rows k ≡ None) (IsFirstPageAt rows a)
+
+-- few blocks, and no page past a block's end
+pub record AreBlocks (rows : RowBlocks) : Type 0 where
+  pub few : length rows ≤ 65536
+  pub within : (j k : ℕ) → 65536 ≤ k → page_in (slice_index_or rows j []) k ≡ None
