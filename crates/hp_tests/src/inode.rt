@@ -4,6 +4,7 @@ ghost use Rattle.std.specs.Prelude.{◌<◌, ◌^◌};
 use crate::same::same;
 use hp_inode::Inode;
 use hp_model::page_no::PageNo;
+use hp_region::RegionList;
 use std::alloc::{AllocError, Global};
 use std::process::Abort;
 use std::test::Fail;
@@ -231,4 +232,58 @@ fn is_entered<R: Abort>(rt: &R, inode: &Inode) {
     has_len(rt, inode, 600);
     shows(rt, inode, 599, (true, None));
     shows(rt, inode, 3, (false, None));
+}
+
+// A file of five blocks, and how often it is changed.
+const LEN: u64 = 300_000;
+
+const TURNS: u32 = 300;
+
+// The next of a row of numbers without order.
+fn next(seed: &mut u64) -> u64 {
+    *seed = seed
+        .wrapping_mul(6_364_136_223_846_793_005)
+        .wrapping_add(1_442_695_040_888_963_407);
+    *seed >> 33
+}
+
+// A range of the file: short, within a block, or over several.
+fn any_range(seed: &mut u64) -> (u64, u64) {
+    let start = next(seed) % LEN;
+    let most = match next(seed) % 4 {
+        0 => 8,
+        1 => 70,
+        2 => 3_000,
+        _ => LEN,
+    };
+    (start, (start + 1 + next(seed) % most).min(LEN))
+}
+
+// The file's entries are the indices of the set, whatever was entered and dropped before.
+fn agrees<R: Abort>(rt: &R, inode: &mut Inode, set: &mut RegionList) -> Result<(), AllocError> {
+    let mut seed = 7;
+    for _ in 0..TURNS {
+        let (a, b) = any_range(&mut seed);
+        if next(&mut seed) % 2 == 0 {
+            reserve(rt, inode, a, b)?;
+            set.add(a, b)?;
+        } else {
+            drops(rt, inode, a, b, set.remove(a, b)?);
+        }
+        let (a, b) = any_range(&mut seed);
+        lacks(rt, inode, a, b, set.missing(a, b));
+        same!(rt; inode.entered(a), set.contains(a));
+        same!(rt; inode.entry_count(), set.count(0, LEN));
+    }
+    Ok(())
+}
+
+#[test]
+fn entries_are_those_of_a_plain_set(rt: HostRuntime) -> Result<(), Fail> {
+    let mut inode = sized(&rt, rt.alloc(), LEN);
+    let mut set = RegionList::new(rt.alloc());
+    let ended = agrees(&rt, &mut inode, &mut set);
+    drop(inode);
+    drop(set);
+    Ok(ended?)
 }
