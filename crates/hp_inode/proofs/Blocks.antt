@@ -11,7 +11,7 @@ use Rattle.std.proofs.lemmas.List.Sums.{count_by-le-length}
 use Rattle.hp_model.proofs.Counting.{alike_in, count_cons, count_not, count_split, count_outside}
 use Rattle.hp_model.proofs.Ranges.{within-true, within-below, within-past}
 use Rattle.hp_model.specs.files.Ranges.{within}
-use Rattle.hp_inode.specs.Blocks.{WordBlocks, RowBlocks, AreBlocks, block_at, entered_at, has_place, page_at, has_slot_at}
+use Rattle.hp_inode.specs.Blocks.{WordBlocks, RowBlocks, AreBlocks, block_at, entered_at, has_place, page_at, has_slot_at, entered_count, missing_count}
 use Rattle.hp_inode.specs.EntryBlock.{count_in, missing_in}
 use Rattle.hp_inode.specs.Marks.{marked}
 use Rattle.hp_inode.specs.Rows.{page_in, has_slot}
@@ -126,6 +126,20 @@ module _ (old new : WordBlocks) (at count : ℕ) (fits : at % 65536 + count ≤ 
           (λ (other : k / 65536 ≢ at / 65536). stays k other ∙ sym (ap (λ t. entered_at old k && not t) (within_other at count fits k other) ∙ and-true (entered_at old k)))
           (cases_eq (k / 65536) (at / 65536))
 
+-- ---- the first block
+
+pub near : (first : List ℕ) (rest : WordBlocks) (k : ℕ) → k < 65536 → entered_at (first ∷ rest) k ≡ marked first k
+near first rest k lt =
+    ap (λ q. marked (get_or (first ∷ rest) q []) (k % 65536)) {x = k / 65536} {y = 0} (omega (arith, lt)) ∙ ap (marked first) {x = k % 65536} {y = k} (omega (arith, lt))
+
+module _ (first : List ℕ) (rest : WordBlocks) where
+  module _ (a b : ℕ) (le : b ≤ 65536) where
+    pub near_counted : count_in first a b ≡ entered_count (first ∷ rest) a b
+    near_counted = alike_in (marked first) (entered_at (first ∷ rest)) a (b - a) (λ k low high. sym (near first rest k (omega (arith, low, high, le))))
+
+    pub near_missing : missing_in first a b ≡ missing_count (first ∷ rest) a b
+    near_missing = alike_in (λ k. not (marked first k)) (λ k. not (entered_at (first ∷ rest) k)) a (b - a) (λ k low high. ap not (sym (near first rest k (omega (arith, low, high, le)))))
+
 -- places up to the end of a part, by its last
 pub room_for : (words : WordBlocks) (at count : ℕ) → at % 65536 + count ≤ 65536 → 0 < count → has_place words (at + count - 1) ≡ true →
     at % 65536 + count ≤ 64 * length (get_or words (at / 65536) [])
@@ -219,6 +233,39 @@ slotted rows i has = ⊎_elim
     absurd (omega (arith, ltb-true (i % 65536 % 64) 0 nowhere)))
     (λ (some : length (get_or rows (i / 65536) []) ≢ 0). omega (arith, some))
     (cases_eq (length (get_or rows (i / 65536) [])) 0)
+
+-- ---- slots that are made
+
+module _ (start old new : RowBlocks) (a at count : ℕ) (low : a ≤ at) (fits : at % 65536 + count ≤ 65536) (others : KeepsOthers old new (at / 65536)) where
+  slot_here : (k : ℕ) → k / 65536 ≡ at / 65536 → (rows : RowBlocks) → has_slot_at rows k ≡ has_slot (get_or rows (at / 65536) []) (k % 65536)
+  slot_here k same rows = ap (λ q. has_slot (get_or rows q []) (k % 65536)) same
+
+  slot_other : (k : ℕ) → k / 65536 ≢ at / 65536 → has_slot_at new k ≡ has_slot_at old k
+  slot_other k other = ap (λ block. has_slot block (k % 65536)) (others (k / 65536) other)
+
+  module _ (kept : (k : ℕ) → has_slot (get_or old (at / 65536) []) k ≡ true → has_slot (get_or new (at / 65536) []) k ≡ true) where
+    pub slots_stay : (k : ℕ) → has_slot_at old k ≡ true → has_slot_at new k ≡ true
+    slots_stay k has = ⊎_elim
+        (λ (same : k / 65536 ≡ at / 65536). slot_here k same new ∙ kept (k % 65536) (sym (slot_here k same old) ∙ has))
+        (λ (other : k / 65536 ≢ at / 65536). slot_other k other ∙ has)
+        (cases_eq (k / 65536) (at / 65536))
+
+    pub slots_made : ((k : ℕ) → at % 65536 ≤ k → k < at % 65536 + count → has_slot (get_or new (at / 65536) []) k ≡ true) →
+        ((k : ℕ) → a ≤ k → k < at → has_slot_at old k ≡ true) → (k : ℕ) → a ≤ k → k < at + count → has_slot_at new k ≡ true
+    slots_made made before k from below = ⊎_elim
+        (λ (early : k < at). slots_stay k (before k from early))
+        (λ (late : at ≤ k).
+        let same = same_block at count fits k late below in
+        slot_here k same new ∙ made (k % 65536) (omega (arith, late, same)) (omega (arith, below, same)))
+        (cases_lt k at)
+
+  pub slots_below : ((k : ℕ) → k / 64 < at % 65536 / 64 → has_slot (get_or new (at / 65536) []) k ≡ has_slot (get_or old (at / 65536) []) k) →
+      ((k : ℕ) → k / 64 < a / 64 → has_slot_at old k ≡ has_slot_at start k) → (k : ℕ) → k / 64 < a / 64 → has_slot_at new k ≡ has_slot_at start k
+  slots_below here before k below = ⊎_elim
+      (λ (same : k / 65536 ≡ at / 65536). slot_here k same new ∙ here (k % 65536) (omega (arith, same, below, low)) ∙ sym (slot_here k same old))
+      (λ (other : k / 65536 ≢ at / 65536). slot_other k other)
+      (cases_eq (k / 65536) (at / 65536))
+      ∙ before k below
 
 -- ---- the first page
 

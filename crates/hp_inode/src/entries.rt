@@ -43,6 +43,7 @@ impl Entries {
     }
 
     // The block with this number, if it was made.
+    #[inline(always)]
     fn block(&self, at: u64) -> Option<&EntryBlock>
         ensures { MatchOption result (slice_index_or self.now at [] ≡ [])
             (λ block. slice_index_or self.now at [] ≡ block.now) }
@@ -59,6 +60,7 @@ impl Entries {
     }
 
     /// Whether the index `i` is in the set.
+    #[inline(always)]
     pub fn contains(&self, i: u64) -> bool
         ensures { result ≡ entered_at self.now i }
     {
@@ -72,6 +74,9 @@ impl Entries {
     pub fn missing(&self, a: u64, b: u64) -> u64
         ensures { result ≡ missing_count self.now a b }
     {
+        if b <= BLOCK {
+            return self.first.missing(a, b);
+        }
         let mut missing = 0;
         let mut at = a;
         while at < b {
@@ -99,6 +104,9 @@ impl Entries {
         ensures ok { OnOk result ((k : ℕ) → a ≤ k → k < b → has_place self.new k ≡ true) }
         ensures same { (k : ℕ) → entered_at self.new k ≡ entered_at self.old k }
     {
+        if b <= BLOCK {
+            return self.first.make_room(a, b);
+        }
         let mut at = a;
         while at < b {
             let count = within_block(at, b);
@@ -134,6 +142,10 @@ impl Entries {
         requires { (k : ℕ) → a ≤ k → k < b → has_place self.old k ≡ true }
         ensures { (k : ℕ) → entered_at self.new k ≡ (entered_at self.old k || within a b k) }
     {
+        if b <= BLOCK {
+            self.first.add(a, b);
+            return;
+        }
         let mut at = a;
         while at < b {
             let count = within_block(at, b);
@@ -165,6 +177,9 @@ impl Entries {
         ensures left { (k : ℕ) → entered_at self.new k
             ≡ (entered_at self.old k && not (within a b k)) }
     {
+        if b <= BLOCK {
+            return self.first.remove(a, b);
+        }
         let mut removed = 0;
         let mut at = a;
         while at < b {

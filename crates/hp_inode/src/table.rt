@@ -43,6 +43,7 @@ impl PageTable {
     }
 
     // The block with this number, if it was made.
+    #[inline(always)]
     fn block(&self, at: u64) -> Option<&PageBlock>
         ensures { MatchOption result (slice_index_or self.now at [] ≡ [])
             (λ block. slice_index_or self.now at [] ≡ block.now) }
@@ -58,6 +59,7 @@ impl PageTable {
         }
     }
 
+    #[inline(always)]
     pub fn page_at(&self, i: u64) -> Option<PageNo>
         ensures { result ≡ page_at self.now i }
     {
@@ -67,6 +69,7 @@ impl PageTable {
         }
     }
 
+    #[inline(always)]
     pub fn set(&mut self, i: u64, page: Option<PageNo>)
         requires { has_slot_at self.old i ≡ true }
         ensures here { page_at self.new i ≡ page }
@@ -112,6 +115,9 @@ impl PageTable {
         ensures below { (k : ℕ) → k / 64 < a / 64
             → has_slot_at self.new k ≡ has_slot_at self.old k }
     {
+        if b <= BLOCK {
+            return self.first.make_slots(a, b);
+        }
         let mut at = a;
         while at < b {
             let count = within_block(at, b);
