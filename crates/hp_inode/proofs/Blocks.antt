@@ -1,9 +1,10 @@
 -- A change of one block, as a change of the indices of all.
 use Rattle.std.proofs.Common.{◌≡◌, ◌≢◌, ℕ, zero, suc, ◌+◌, ◌-◌, ◌*◌, ◌/◌, ◌%◌, ◌<◌, ◌≤◌, Bool, true, false, not, ◌&&◌, ◌||◌}
-use Rattle.std.proofs.Common.{List, [], ◌∷◌, length, get_or, set, cond, None, sym, refl, ap, ◌∙◌, arith, ⊎_elim}
+use Rattle.std.proofs.Common.{List, [], ◌∷◌, length, get_or, set, cond, None, sym, refl, ap, ◌∙◌, arith, ⊎_elim, Option, Some, IsSome, subst}
+use Rattle.std.specs.Option.{is_some}
 use Rattle.std.specs.List.{range_with_len, count_by}
 use Rattle.std.proofs.Math.Bool.{or-false, and-true}
-use Rattle.std.proofs.lemmas.Bool.{cases_lt, cases_eq, ltb-true}
+use Rattle.std.proofs.lemmas.Bool.{cases_lt, cases_eq, ltb-true, false≢true}
 use Rattle.std.proofs.lemmas.Bool.Decides.{nat_tests}
 use Rattle.std.proofs.lemmas.List.{get_or-set_same, get_or-set_other, get_or_past, get_or_read, nil_from_length}
 use Rattle.std.proofs.lemmas.List.FromFn.{length-range_with_len}
@@ -11,10 +12,10 @@ use Rattle.std.proofs.lemmas.List.Sums.{count_by-le-length}
 use Rattle.hp_model.proofs.Counting.{alike_in, count_cons, count_not, count_split, count_outside}
 use Rattle.hp_model.proofs.Ranges.{within-true, within-below, within-past}
 use Rattle.hp_model.specs.files.Ranges.{within}
-use Rattle.hp_inode.specs.Blocks.{WordBlocks, RowBlocks, AreBlocks, block_at, entered_at, has_place, page_at, has_slot_at, entered_count, missing_count}
+use Rattle.hp_inode.specs.Blocks.{WordBlocks, RowBlocks, AreBlocks, block_at, entered_at, has_place, page_at, has_slot_at, entered_count, missing_count, FindsPageAt}
 use Rattle.hp_inode.specs.EntryBlock.{count_in, missing_in}
 use Rattle.hp_inode.specs.Marks.{marked}
-use Rattle.hp_inode.specs.Rows.{page_in, has_slot}
+use Rattle.hp_inode.specs.Rows.{page_in, has_slot, FindsPage, Rows}
 use Rattle.hp_inode.proofs.Removed.{parts_left}
 use Rattle.hp_inode.proofs.Words.{unmarked_past}
 
@@ -280,3 +281,24 @@ module _ (rows : RowBlocks) (a at from : ℕ) (low : a ≤ at * 65536 + from) (b
       let same : k / 65536 ≡ at = omega (arith, late, below) in
       page_here k same ∙ none (k % 65536) (omega (arith, late, same)))
       (cases_lt k (at * 65536 + from))
+
+-- in a file of one block
+module _ (first : Rows) (are : AreBlocks (first ∷ [])) (a : ℕ) where
+  only : (k : ℕ) → k < 65536 → page_at (first ∷ []) k ≡ page_in first k
+  only k lt = ap (λ q. page_in (get_or (first ∷ []) q []) (k % 65536)) {x = k / 65536} {y = 0} (omega (arith, lt)) ∙ ap (page_in first) {x = k % 65536} {y = k} (omega (arith, lt))
+
+  none_past : (k : ℕ) → 65536 ≤ k → page_at (first ∷ []) k ≡ None
+  none_past k le = ap (λ block. page_in block (k % 65536)) (get_or_past (first ∷ []) (k / 65536) [] (omega (arith, le)))
+
+  pub finds_only : (found : Option ℕ) → FindsPage first a found → FindsPageAt (first ∷ []) a found
+  finds_only None none = λ k above. ⊎_elim (λ (lt : k < 65536). only k lt ∙ none k above) (none_past k) (cases_lt k 65536)
+  finds_only (Some i) is_first =
+      let small : i < 65536 = ⊎_elim
+      (λ (lt : i < 65536). lt)
+      (λ (past : 65536 ≤ i). absurd (false≢true (ap is_some (sym (are.within 0 i past)) ∙ is_first.here)))
+      (cases_lt i 65536) in
+      record {
+        from = is_first.from;
+        here = subst IsSome (sym (only i small)) is_first.here;
+        none_before = λ k above below. only k (omega (arith, below, small)) ∙ is_first.none_before k above below;
+      }

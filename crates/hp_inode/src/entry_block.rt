@@ -90,6 +90,7 @@ impl EntryBlock {
     }
 
     /// Puts the indices from `a` up to `b` in.
+    #[inline(always)]
     pub fn add(&mut self, a: u64, b: u64)
         requires { a < b → b ≤ 64 * length self.old }
         ensures { (k : ℕ) → marked self.new k ≡ (marked self.old k || within a b k) }
@@ -103,6 +104,7 @@ impl EntryBlock {
     }
 
     /// Takes the indices from `a` up to `b` out, and answers how many there were.
+    #[inline(always)]
     pub fn remove(&mut self, a: u64, b: u64) -> u64
         ensures count { result ≡ count_in self.old a b }
         ensures left { (k : ℕ) → marked self.new k ≡ (marked self.old k && not (within a b k)) }

@@ -87,6 +87,7 @@ impl PageBlock {
     }
 
     /// Makes a slot for each index from `a` up to `b`.
+    #[inline(always)]
     pub fn make_slots(&mut self, a: u64, b: u64) -> Result<(), AllocError>
         requires { b < 2 ^ 32 }
         ensures pages { (k : ℕ) → page_in self.new k ≡ page_in self.old k }

@@ -87,6 +87,9 @@ impl PageTable {
     pub fn first_from(&self, a: u64) -> Option<u64>
         ensures { FindsPageAt self.now a result }
     {
+        if self.rest.is_empty() {
+            return self.first.first_from(a);
+        }
         let mut at = a / BLOCK;
         let mut from = a % BLOCK;
         while at <= self.rest.len() as u64 {
