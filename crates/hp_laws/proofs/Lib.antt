@@ -32,6 +32,7 @@ pub mod ReservationsMade
 pub mod TestsDecide
 pub mod SettingsKept
 pub mod GoneAfter
+pub mod Elsewhere
 pub mod WholeMaps
 pub mod UnmapsCut
 pub mod MountsMade

@@ -20,6 +20,7 @@ use Rattle.hp_laws.specs.Laws.{KeepsGoing, PromisesAreKept}
 use Rattle.hp_laws.proofs.Answered.{step_leaves, step_tells}
 use Rattle.hp_laws.proofs.Backed.{Stops, fault_goes, fault_stops, load_goes, load_stops, store_goes, store_stops}
 use Rattle.hp_laws.proofs.CountsHold.{counts_are_sums, limits_hold, minimums_hold}
+use Rattle.hp_laws.proofs.Elsewhere.{step_elsewhere}
 use Rattle.hp_laws.proofs.Fades.{AllFade, exit_fade, fork_fade}
 use Rattle.hp_laws.proofs.GoneAfter.{step_gone}
 use Rattle.hp_laws.proofs.Limited.{step_keeps}
@@ -142,4 +143,5 @@ promised s step reply t st is =
       whole = step_whole s reply t step is;
       gone = step_gone s reply t step is;
       reads = step_reads s reply t step is;
+      elsewhere = step_elsewhere s reply t step is;
     }

@@ -15,5 +15,8 @@ pub mod Settled
 pub mod Tests
 pub mod Settings
 pub mod Gone
+pub mod Named
+pub mod Lost
+pub mod Kept
 pub mod Promises
 pub mod Copying

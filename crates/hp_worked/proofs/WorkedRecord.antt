@@ -123,6 +123,16 @@ stat_drops_entries : IsPromised mounted (Stat 2 (codes "a")) (Ok (StatAnswer 3 0
 stat_drops_entries promised =
     (let wrong : 0 ≡ 3 = ap (λ (xs : List Slot). cells_on (slice_index_or xs 2 None)) (promised.reads refl) in absurd (omega (arith, wrong)))
 
+-- ---- steps that take entries on a slot that they are not on
+
+connect_drops_entries : IsPromised mounted (Connect 3 0) (Ok Done) (with_slot (plain_step mounted (Connect 3 0)).1 2 (bare (slot_at mounted 2))) → ⊥
+connect_drops_entries promised =
+    (let wrong : 0 ≡ 3 = ap cells_on (promised.elsewhere 2 refl) in absurd (omega (arith, wrong)))
+
+create_drops_entries_elsewhere : IsPromised mounted (Create 0 (codes "b")) (Ok Done) (with_slot (plain_step mounted (Create 0 (codes "b"))).1 2 (bare (slot_at mounted 2))) → ⊥
+create_drops_entries_elsewhere promised =
+    (let wrong : 0 ≡ 3 = ap cells_on (promised.elsewhere 2 refl) in absurd (omega (arith, wrong)))
+
 -- ---- an exit that keeps the maps of its task, and an umount that keeps the mount
 
 exit_keeps_maps : IsPromised shared (Exit 1) (Ok Done) (record shared { table = [] }) → ⊥

@@ -22,15 +22,17 @@ use Rattle.hp_model.specs.declared.step.Step.TheVariants.{Anon, Attach, Create a
 use Rattle.hp_model.specs.declared.step.Step.TheVariants.{Load, Ls, Map as MapStep, Meminfo, Mount as MountStep, Nodes, Punch as PunchStep}
 use Rattle.hp_model.specs.declared.step.Step.TheVariants.{Read as ReadStep, Stat, Store, Truncate as TruncateStep, Umount, Unlink as UnlinkStep, Unmap as UnmapStep}
 use Rattle.hp_model.specs.machine.Plan.{slot_usage, IsWithinLimit}
-use Rattle.hp_model.specs.files.CopyWrite.{holds}
 use Rattle.hp_model.specs.files.File.{File, cell_at, has_page, is_entered, new_file}
 pub use Rattle.hp_model.specs.files.File.{file_in, map_in}
 use Rattle.hp_model.specs.files.GiveBack.{without_task}
 use Rattle.hp_model.specs.machine.Gone.{IsGone}
+use Rattle.hp_model.specs.machine.Kept.{is_on}
+pub use Rattle.hp_model.specs.machine.Lost.{IsLost, IsLostTo, is_same_copy}
 use Rattle.hp_model.specs.machine.Machine.{committed_pages, counts_in, pool_of}
 use Rattle.hp_model.specs.files.MakeMap.{mapped, new_map, reserves}
 pub use Rattle.hp_model.specs.files.Mapping.{no_map}
 use Rattle.hp_model.specs.files.Mapping.{Map, copy_of, is_map, is_mapped, is_shared, place_at, without_range}
+pub use Rattle.hp_model.specs.machine.Named.{is_at, is_in, is_shared_of, map_named, means_file, named_on, spot_on}
 use Rattle.hp_model.specs.files.MountCounts.{usage_of}
 use Rattle.hp_model.specs.pool.NodeRows.{total_of}
 use Rattle.hp_model.specs.files.Page.{Copy, zeros}
@@ -48,14 +50,6 @@ use Rattle.hp_model.specs.machine.Table.{home_of}
 pub use Rattle.hp_model.specs.machine.Tests.{is_cut_off, is_for_pages}
 use Rattle.hp_model.specs.machine.Tests.{MeetsTests}
 use Rattle.hp_model.specs.files.Value.{shown, value}
-
-abbrev pub spot_on : Slot → (task number : ℕ) → Option Spot
-spot_on None task number = None
-spot_on (Some m) task number = spot m (is_map task number)
-
--- the map of the task with the number, if it is there
-abbrev pub map_named : State → (slot task number : ℕ) → Option Spot
-map_named s slot task number = spot_on (slot_at s slot) task number
 
 -- ---- accesses whose page is kept for them
 
@@ -106,21 +100,6 @@ shown_in s slot file i = shown_on s.page_size (slot_at s slot) file i
 abbrev pub over : (offset : ℕ) → (bytes old : List ℕ) → List ℕ
 over offset bytes old = take offset old ++ bytes ++ drop (offset + length bytes) old
 
-abbrev pub is_shared_of : Option Spot → ℕ → Bool
-is_shared_of None file = false
-is_shared_of (Some s) file = is_shared s.map.sharing && (s.file_no == file)
-
-abbrev pub named_on : Slot → List ℕ → Option (ℕ × File)
-named_on None name = None
-named_on (Some m) name = file_named m name
-
--- the name means that file
-abbrev pub means_file : Slot → List ℕ → (file : ℕ) → Bool
-means_file slot name file = elim (named_on slot name) [ None ↦ false | Some f ↦ f.0 == file ]
-
-abbrev pub is_in : (a b i : ℕ) → Bool
-is_in a b i = nat_le a i && nat_lt i b
-
 -- what the step makes of the bytes there: a store through a shared map of that file writes them, and what is cut off or punched is zeros
 abbrev pub stored_over : State → Step → Reply → (slot file i : ℕ) → List ℕ → List ℕ
 stored_over s (Store task slot number i offset bytes) (Ok a) k file j old =
@@ -163,11 +142,6 @@ abbrev pub reaches : Option Spot → Map → (file map i : ℕ) → Bool
 reaches None old file map i = false
 reaches (Some s) old file map i = (s.file_no == file) && (if is_shared s.map.sharing then not (is_some (copy_of (place_at old i))) else (s.map_no == map))
 
--- the map of the task with the number stands there
-abbrev pub is_at : Option Spot → (file map : ℕ) → Bool
-is_at None file map = false
-is_at (Some s) file map = (s.file_no == file) && (s.map_no == map)
-
 -- what the step makes of the bytes that a map shows: a store writes them, what is cut off or punched is zeros, and where a map is unmapped
 -- the file is left
 abbrev pub seen_over : State → Step → Reply → (slot file map i : ℕ) → List ℕ → List ℕ
@@ -180,26 +154,6 @@ seen_over s (PunchStep slot name from to) (Ok a) k file map j old =
 seen_over s (UnmapStep task slot number from to) (Ok a) k file map j old =
     if (slot == k) && (is_at (map_named s slot task number) file map && is_in from to j) then shown_in s k file j else old
 seen_over s step reply k file map j old = old
-
-abbrev pub is_same_copy : Place Copy → Place Copy → Bool
-is_same_copy p q = elim (copy_of p) [ None ↦ false | Some copy ↦ holds copy.stamp q ]
-
--- a map held the copy that an owner's map, `own` and then `after`, writes into: at the very index of that write
--- the owner has it still, and the map, which is marked, has none
-pub record IsLost (own after : Map) (i : ℕ) (old new : Map) (j : ℕ) : Type 0 where
-  pub index : j ≡ i
-  pub private : is_shared own.sharing ≡ false
-  pub owner : own.owner ≡ true
-  pub held : is_same_copy (place_at own i) (place_at old j) ≡ true
-  pub kept : is_same_copy (place_at own i) (place_at after i) ≡ true
-  pub lost : copy_of (place_at new j) ≡ None
-  pub marked : new.unmapped ≡ true
-
--- another map of the owner's file, p before and q after, has lost its copy to it
-abbrev pub IsLostTo : (owner after : Option Spot) → (i : ℕ) (p q : Spot) (j : ℕ) → Type 0
-IsLostTo (Some o) (Some a) i p q j =
-    (o.file_no ≡ p.file_no) × IsLost o.map a.map i p.map q.map j × (p.map_no ≡ o.map_no → ⊥)
-IsLostTo owner after i p q j = ⊥
 
 -- the copy went to the map of the task with the number, as it was and is
 abbrev pub IsTakenBy : State → State → (slot task number i : ℕ) (p q : Spot) (j : ℕ) → Type 0
@@ -508,6 +462,8 @@ pub record IsPromised (s : State) (step : Step) (reply : Reply) (t : State) : Ty
   pub gone : IsGone step reply t
   -- a step that only reads leaves all files, maps and reservations as they were
   pub reads : only_reads step ≡ true → t.slots ≡ s.slots
+  -- a step leaves every slot that it is not on as it was
+  pub elsewhere : (slot : ℕ) → is_on step slot ≡ false → slot_at t slot ≡ slot_at s slot
   -- a step is refused by the first of its tests that fails; where none fails, and there are pages and memory, it is done
   pub tests : MeetsTests s step reply
 
