@@ -10,7 +10,7 @@ use Rattle.hp_model.specs.declared.event.SlotEvent.TheVariants as slot
 use Rattle.hp_model.specs.declared.step.Step.{Step}
 use Rattle.hp_model.specs.machine.Event.{IsEvent}
 use Rattle.hp_model.specs.machine.Kept.{is_on}
-use Rattle.hp_model.specs.machine.Plan.{Ask, Finish, Outcome, Plan, Reply, Slot}
+use Rattle.hp_model.specs.machine.Plan.{Ask, Finish, Plan, Reply, Slot}
 use Rattle.hp_model.specs.machine.SlotEvent.{slot_event}
 use Rattle.hp_model.specs.machine.State.{State, slot_at}
 use Rattle.hp_model.specs.machine.Step.{IsStep}
@@ -24,7 +24,7 @@ off_slot k o (slot.ExitMaps task) whole off same = cc
 off_slot k o (slot.Anon task home n sharing reserving) whole off same = eqb-false 0 o off (sym (same ∙ eqb-true k 0 whole))
 off_slot k o other whole off same = eqb-false k o off (sym same)
 
-any_outcome : (p : Plan) → Always (λ o. Unit {0}) p
+pub any_outcome : (p : Plan) → Always (λ o. Unit {0}) p
 any_outcome (Finish o) = tt
 any_outcome (Ask sec f) = λ a. tt
 

@@ -33,6 +33,9 @@ pub mod TestsDecide
 pub mod SettingsKept
 pub mod GoneAfter
 pub mod Elsewhere
+pub mod KeptPlaces
+pub mod KeptSlot
+pub mod EventKeeps
 pub mod WholeMaps
 pub mod UnmapsCut
 pub mod MountsMade

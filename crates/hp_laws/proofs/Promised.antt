@@ -21,6 +21,7 @@ use Rattle.hp_laws.proofs.Answered.{step_leaves, step_tells}
 use Rattle.hp_laws.proofs.Backed.{Stops, fault_goes, fault_stops, load_goes, load_stops, store_goes, store_stops}
 use Rattle.hp_laws.proofs.CountsHold.{counts_are_sums, limits_hold, minimums_hold}
 use Rattle.hp_laws.proofs.Elsewhere.{step_elsewhere}
+use Rattle.hp_laws.proofs.EventKeeps.{step_own}
 use Rattle.hp_laws.proofs.Fades.{AllFade, exit_fade, fork_fade}
 use Rattle.hp_laws.proofs.GoneAfter.{step_gone}
 use Rattle.hp_laws.proofs.Limited.{step_keeps}
@@ -144,4 +145,5 @@ promised s step reply t st is =
       gone = step_gone s reply t step is;
       reads = step_reads s reply t step is;
       elsewhere = step_elsewhere s reply t step is;
+      kept = step_own s st reply t step after is;
     }

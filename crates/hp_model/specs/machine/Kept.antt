@@ -1,5 +1,6 @@
 -- What a step leaves as it was: all other slots, and on its own the places of maps and the cells of files that it does not reach.
 use Rattle.std.specs.Prelude.{◌≡◌, ◌⊎◌, ℕ, ◌+◌, ◌&&◌, ◌==◌, Bool, true, false, Option, Some, is_some, Ok, Err, List, nat_le}
+use Rattle.std.specs.Str.{bytes_eq}
 use Rattle.hp_model.specs.declared.cell.Cell.{Cell}
 use Rattle.hp_model.specs.declared.cell.Cell.TheVariants.{Hole}
 use Rattle.hp_model.specs.declared.step.Intent.TheVariants.{Read, Write}
@@ -104,10 +105,14 @@ pub record KeepsMap (x : Slot) (step : Step) (y : Slot) (p q : Spot) : Type 0 wh
   pub cells : (j : ℕ) → KeepsCell x step p.file_no p.file q.file j
   pub marked : q.map.unmapped ≡ true → (p.map.unmapped ≡ true) ⊎ Marks x step y p q
 
+abbrev pub unlinks : Step → List ℕ → Bool
+unlinks (Unlink k gone) name = bytes_eq gone name
+unlinks step name = false
+
 -- the step's slot, x before and y after, keeps all maps and files so
 pub record Keeps (x : Slot) (step : Step) (y : Slot) : Type 0 where
   pub maps : (task number : ℕ) (p q : Spot) → spot_on x task number ≡ Some p → spot_on y task number ≡ Some q → KeepsMap x step y p q
-  pub files : (name : List ℕ) (f g : ℕ × File) → named_on x name ≡ Some f → named_on y name ≡ Some g
+  pub files : (name : List ℕ) (f g : ℕ × File) → unlinks step name ≡ false → named_on x name ≡ Some f → named_on y name ≡ Some g
       → (j : ℕ) → KeepsCell x step f.0 f.1 g.1 j
 
 -- what an unmap, a fork and an exit leave, and a refusal, is told elsewhere

@@ -1,6 +1,6 @@
 -- What the machine promises of each step.
 use Rattle.std.specs.Prelude.{◌≡◌, ◌≢◌, ◌⊎◌, ℕ, ◌+◌, ◌<◌, ◌≤◌, ◌&&◌, ◌||◌, ◌==◌, Bool, true, false, not, Option}
-use Rattle.std.specs.Prelude.{None, Some, is_some, option_map, Ok, Err, List, ◌++◌, length, max, take, drop, if◌then◌else◌, nat_le, nat_lt}
+use Rattle.std.specs.Prelude.{None, Some, is_some, option_map, Ok, Err, List, ◌++◌, length, max, take, drop, if◌then◌else◌, nat_le}
 use Rattle.std.specs.Bool.{MatchBool}
 use Rattle.std.specs.List.{count_by, filter_map}
 use Rattle.std.specs.Str.{bytes_eq}
@@ -13,7 +13,6 @@ use Rattle.hp_model.specs.declared.refusal.Refusal.{Refusal}
 use Rattle.hp_model.specs.declared.refusal.Refusal.TheVariants.{OutOfMemory}
 use Rattle.hp_model.specs.declared.step.Intent.{Intent}
 use Rattle.hp_model.specs.declared.step.Intent.TheVariants.{Read, Write}
-use Rattle.hp_model.specs.declared.place.Place.{Place}
 use Rattle.hp_model.specs.declared.place.Place.TheVariants.{Gone}
 use Rattle.hp_model.specs.declared.step.Reserving.{Reserving}
 use Rattle.hp_model.specs.declared.step.Sharing.{Sharing}
@@ -26,24 +25,24 @@ use Rattle.hp_model.specs.files.File.{File, cell_at, has_page, is_entered, new_f
 pub use Rattle.hp_model.specs.files.File.{file_in, map_in}
 use Rattle.hp_model.specs.files.GiveBack.{without_task}
 use Rattle.hp_model.specs.machine.Gone.{IsGone}
-use Rattle.hp_model.specs.machine.Kept.{is_on}
+use Rattle.hp_model.specs.machine.Kept.{KeepsOwn, is_on}
 pub use Rattle.hp_model.specs.machine.Lost.{IsLost, IsLostTo, is_same_copy}
 use Rattle.hp_model.specs.machine.Machine.{committed_pages, counts_in, pool_of}
 use Rattle.hp_model.specs.files.MakeMap.{mapped, new_map, reserves}
 pub use Rattle.hp_model.specs.files.Mapping.{no_map}
-use Rattle.hp_model.specs.files.Mapping.{Map, copy_of, is_map, is_mapped, is_shared, place_at, without_range}
+use Rattle.hp_model.specs.files.Mapping.{Map, copy_of, is_mapped, is_shared, place_at, without_range}
 pub use Rattle.hp_model.specs.machine.Named.{is_at, is_in, is_shared_of, map_named, means_file, named_on, spot_on}
 use Rattle.hp_model.specs.files.MountCounts.{usage_of}
 use Rattle.hp_model.specs.pool.NodeRows.{total_of}
-use Rattle.hp_model.specs.files.Page.{Copy, zeros}
+use Rattle.hp_model.specs.files.Page.{zeros}
 use Rattle.hp_model.specs.machine.Plan.{Reply, Slot}
 use Rattle.hp_model.specs.files.Reserved.{is_reserved}
 use Rattle.hp_model.specs.pool.Resize.{node_counts}
 use Rattle.hp_model.specs.machine.Run.{RunsBy}
 use Rattle.hp_model.specs.machine.Settings.{IsSet, Mounts, only_reads}
 use Rattle.hp_model.specs.machine.Settled.{AreCounted}
-use Rattle.hp_model.specs.machine.SlotEvent.{bytes_answer, file_named}
-use Rattle.hp_model.specs.files.Spot.{Spot, spot}
+use Rattle.hp_model.specs.machine.SlotEvent.{bytes_answer}
+use Rattle.hp_model.specs.files.Spot.{Spot}
 use Rattle.hp_model.specs.machine.State.{State, slot_at, with_slot}
 use Rattle.hp_model.specs.machine.Step.{IsStep}
 use Rattle.hp_model.specs.machine.Table.{home_of}
@@ -336,10 +335,12 @@ Ranges s step reply t = Unit {0}
 
 -- ---- what an unmap leaves
 
--- the map, p before and q after, has its places as they were, copies and reservations with them, but for those that are cut; its file has all its cells
+-- the map, p before and q after, has its places as they were, copies and reservations with them, but for those that are cut; its file has
+-- all its cells, and it is marked just where it was
 abbrev pub IsCutTo : (cut : Bool) → (from to : ℕ) → (p q : Spot) → Type 0
 IsCutTo cut from to p q =
     ((i : ℕ) → place_at q.map i ≡ (if cut && is_in from to i then Gone else place_at p.map i)) × (q.file.cells ≡ p.file.cells)
+    × (q.map.unmapped ≡ p.map.unmapped)
 
 -- an unmap cuts the range from the map that it names, and nothing from any other
 abbrev pub Unmaps : State → Step → Reply → State → Type 0
@@ -462,6 +463,9 @@ pub record IsPromised (s : State) (step : Step) (reply : Reply) (t : State) : Ty
   pub gone : IsGone step reply t
   -- a step that only reads leaves all files, maps and reservations as they were
   pub reads : only_reads step ≡ true → t.slots ≡ s.slots
+  -- on its own slot a step leaves the places of all maps and the cells of all files as they were, what is reserved with them, but for
+  -- what it reaches; and it marks only maps that lose a copy
+  pub kept : KeepsOwn s step reply t
   -- a step leaves every slot that it is not on as it was
   pub elsewhere : (slot : ℕ) → is_on step slot ≡ false → slot_at t slot ≡ slot_at s slot
   -- a step is refused by the first of its tests that fails; where none fails, and there are pages and memory, it is done
