@@ -36,6 +36,7 @@ pub mod Elsewhere
 pub mod KeptPlaces
 pub mod KeptSlot
 pub mod EventKeeps
+pub mod Shortage
 pub mod WholeMaps
 pub mod UnmapsCut
 pub mod MountsMade

@@ -31,6 +31,7 @@ use Rattle.hp_laws.proofs.MountsMade.{step_mounted}
 use Rattle.hp_laws.proofs.Outcomes.{Always, event_ends, reply_of}
 use Rattle.hp_laws.proofs.ReservationsMade.{step_ranges}
 use Rattle.hp_laws.proofs.SettingsKept.{step_reads, step_sets}
+use Rattle.hp_laws.proofs.Shortage.{step_short}
 use Rattle.hp_laws.proofs.SlotKept.{slot_keeps}
 use Rattle.hp_laws.proofs.SlotShows.{Loads, load_loads}
 use Rattle.hp_laws.proofs.StaysSettled.{step_settled}
@@ -145,5 +146,6 @@ promised s step reply t st is =
       gone = step_gone s reply t step is;
       reads = step_reads s reply t step is;
       elsewhere = step_elsewhere s reply t step is;
+      short = step_short s reply t step is;
       kept = step_own s st reply t step after is;
     }

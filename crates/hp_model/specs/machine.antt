@@ -18,5 +18,6 @@ pub mod Gone
 pub mod Named
 pub mod Lost
 pub mod Kept
+pub mod Short
 pub mod Promises
 pub mod Copying

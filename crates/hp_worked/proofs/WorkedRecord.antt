@@ -8,7 +8,7 @@ use Rattle.hp_model.specs.declared.place.Place.TheVariants.{Gone, Live}
 use Rattle.hp_model.specs.files.Mapping.{copy_of, is_live, is_unconsumed, place_at, with_place}
 use Rattle.hp_model.specs.files.Spot.{Spot}
 use Rattle.hp_model.specs.declared.refusal.Refusal.{Refusal}
-use Rattle.hp_model.specs.declared.refusal.Refusal.TheVariants.{Busy, NoPages, NoSuchMap, OutOfMemory, OutOfRange, TakenByOwner}
+use Rattle.hp_model.specs.declared.refusal.Refusal.TheVariants.{Busy, MountFull, NoPages, NoSuchMap, OutOfMemory, OutOfRange, TakenByOwner}
 use Rattle.hp_model.specs.declared.step.Reserving.TheVariants.{NoReserve, Reserve}
 use Rattle.hp_model.specs.declared.step.Sharing.TheVariants.{Private, Shared}
 use Rattle.hp_model.specs.declared.step.Step.{Step}
@@ -77,6 +77,27 @@ refuses_all promised = (let wrong : false ≡ true = promised.tests in cc)
 -- and one that answers what it should refuse
 answers_without_a_map : IsPromised shared (Unmap 1 0 9 0 1) (Ok Done) shared → ⊥
 answers_without_a_map promised = (let wrong : Ok Done ≡ Err NoSuchMap = promised.tests in cc)
+
+-- ---- refusals for want of pages where there are pages, or none is asked for
+
+-- of two pages one is committed
+map_finds_no_page : IsPromised shared reserving (Err NoPages) shared → ⊥
+map_finds_no_page promised = (let wrong : true ≡ false = promised.short.1 in cc)
+
+-- the whole range has entries, and the mount is at its limit
+map_is_past_the_limit : IsPromised mounted (Map 1 2 (codes "a") 0 3 Shared Reserve) (Err MountFull) mounted → ⊥
+map_is_past_the_limit promised = (let wrong : false ≡ true = promised.short in cc)
+
+-- a mount without a minimum
+mount_finds_no_page : IsPromised shared (Mount 2 (codes "size=3K")) (Err NoPages) shared → ⊥
+mount_finds_no_page promised = (let wrong : true ≡ false = promised.short in cc)
+
+-- all pages are committed, and the child reads the copy that it has
+load_finds_no_page : IsPromised forked (Load 2 0 1 0 0 1) (Err NoPages) forked → ⊥
+load_finds_no_page promised = (let wrong : true ≡ false = promised.short.1 in cc)
+
+fork_finds_no_page : IsPromised forked (Fork 1 3) (Err NoPages) forked → ⊥
+fork_finds_no_page promised = (let wrong : true ≡ false = promised.short in cc)
 
 -- ---- tasks, nr and overcommit
 

@@ -1,5 +1,5 @@
 -- What the machine promises of each step.
-use Rattle.std.specs.Prelude.{◌≡◌, ◌≢◌, ◌⊎◌, ℕ, ◌+◌, ◌<◌, ◌≤◌, ◌&&◌, ◌||◌, ◌==◌, Bool, true, false, not, Option}
+use Rattle.std.specs.Prelude.{◌≡◌, ◌≢◌, ◌⊎◌, ℕ, ◌+◌, ◌<◌, ◌≤◌, ◌&&◌, ◌==◌, Bool, true, false, not, Option}
 use Rattle.std.specs.Prelude.{None, Some, is_some, option_map, Ok, Err, List, ◌++◌, length, max, take, drop, if◌then◌else◌, nat_le}
 use Rattle.std.specs.Bool.{MatchBool}
 use Rattle.std.specs.List.{count_by, filter_map}
@@ -11,7 +11,6 @@ use Rattle.hp_model.specs.declared.event.Event.TheVariants.{Slot as OnSlot}
 use Rattle.hp_model.specs.declared.event.SlotEvent.TheVariants.{Mount as MountEvent}
 use Rattle.hp_model.specs.declared.refusal.Refusal.{Refusal}
 use Rattle.hp_model.specs.declared.refusal.Refusal.TheVariants.{OutOfMemory}
-use Rattle.hp_model.specs.declared.step.Intent.{Intent}
 use Rattle.hp_model.specs.declared.step.Intent.TheVariants.{Read, Write}
 use Rattle.hp_model.specs.declared.place.Place.TheVariants.{Gone}
 use Rattle.hp_model.specs.declared.step.Reserving.{Reserving}
@@ -40,6 +39,8 @@ use Rattle.hp_model.specs.files.Reserved.{is_reserved}
 use Rattle.hp_model.specs.pool.Resize.{node_counts}
 use Rattle.hp_model.specs.machine.Run.{RunsBy}
 use Rattle.hp_model.specs.machine.Settings.{IsSet, Mounts, only_reads}
+pub use Rattle.hp_model.specs.machine.Short.{is_backed, owns_copy}
+use Rattle.hp_model.specs.machine.Short.{MeetsShortage}
 use Rattle.hp_model.specs.machine.Settled.{AreCounted}
 use Rattle.hp_model.specs.machine.SlotEvent.{bytes_answer}
 use Rattle.hp_model.specs.files.Spot.{Spot}
@@ -51,16 +52,6 @@ use Rattle.hp_model.specs.machine.Tests.{MeetsTests}
 use Rattle.hp_model.specs.files.Value.{shown, value}
 
 -- ---- accesses whose page is kept for them
-
--- the owner of a private map has a copy there
-abbrev pub owns_copy : Map → ℕ → Bool
-owns_copy m i = not (is_shared m.sharing) && (m.owner && is_some (copy_of (place_at m i)))
-
--- the index is reserved to the map, or an owner writes into its copy
-abbrev pub is_backed : Intent → Option Spot → ℕ → Bool
-is_backed intent None i = false
-is_backed Read (Some s) i = is_reserved s.file s.map i
-is_backed Write (Some s) i = is_reserved s.file s.map i || owns_copy s.map i
 
 abbrev pub is_backed_step : State → Step → Bool
 is_backed_step s (Fault task slot number i intent) = is_backed intent (map_named s slot task number) i
@@ -470,6 +461,8 @@ pub record IsPromised (s : State) (step : Step) (reply : Reply) (t : State) : Ty
   pub elsewhere : (slot : ℕ) → is_on step slot ≡ false → slot_at t slot ≡ slot_at s slot
   -- a step is refused by the first of its tests that fails; where none fails, and there are pages and memory, it is done
   pub tests : MeetsTests s step reply
+  -- one that is refused for want of pages lacks what it asks for, in its mount or in the pool
+  pub short : MeetsShortage s step reply
 
 -- these steps may be refused memory: one that makes a file, a map or a list of names, a fork, and an access that nothing backs
 abbrev pub takes_memory : State → Step → Bool
