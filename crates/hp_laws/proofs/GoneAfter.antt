@@ -68,7 +68,7 @@ none_weaker task number (x ∷ xs) none = by_test (is_of task x) refl none (λ r
     by_test true is none rest = (let wrong : (is_of task x || list_any (is_of task) xs) ≡ true = rw is refl in cc)
     by_test false is none rest = rw is (rest (subst (λ b. (b || list_any (is_of task) xs) ≡ false) is none))
 
-no_map_of : (task number : ℕ) (x : Slot) → has_maps_of task x ≡ false → map_of x task number ≡ None
+pub no_map_of : (task number : ℕ) (x : Slot) → has_maps_of task x ≡ false → map_of x task number ≡ None
 no_map_of task number None none = refl
 no_map_of task number (Some m) none =
     let has = λ (f : File). list_any (is_map task number) f.maps in

@@ -37,6 +37,7 @@ pub mod KeptPlaces
 pub mod KeptSlot
 pub mod EventKeeps
 pub mod Shortage
+pub mod ChildsMaps
 pub mod WholeMaps
 pub mod UnmapsCut
 pub mod MountsMade

@@ -19,6 +19,7 @@ use Rattle.hp_model.specs.machine.Step.{IsStep}
 use Rattle.hp_laws.specs.Laws.{KeepsGoing, PromisesAreKept}
 use Rattle.hp_laws.proofs.Answered.{step_leaves, step_tells}
 use Rattle.hp_laws.proofs.Backed.{Stops, fault_goes, fault_stops, load_goes, load_stops, store_goes, store_stops}
+use Rattle.hp_laws.proofs.ChildsMaps.{step_forks}
 use Rattle.hp_laws.proofs.CountsHold.{counts_are_sums, limits_hold, minimums_hold}
 use Rattle.hp_laws.proofs.Elsewhere.{step_elsewhere}
 use Rattle.hp_laws.proofs.EventKeeps.{step_own}
@@ -146,6 +147,7 @@ promised s step reply t st is =
       gone = step_gone s reply t step is;
       reads = step_reads s reply t step is;
       elsewhere = step_elsewhere s reply t step is;
+      forks = step_forks s reply t step is;
       short = step_short s reply t step is;
       kept = step_own s st reply t step after is;
     }

@@ -555,13 +555,14 @@ reply_plain (Refused r) h = h
 reply_plain (Answered a new) h = tt
 
 module _ (reply : Reply) (t : State) where
-  exits_plain : (task : ℕ) (ks : List ℕ) (next : Script) → ((u : State) → IsScript u next reply t → Plain reply) → (u : State) → IsScript u (exit_slots ks task next) reply t → Plain reply
-  exits_plain task [] next h u is = h u is
-  exits_plain task (k ∷ ks) next h u is =
-      either_way (has_maps_of task (slot_at u k)) (λ it. exits_plain task ks next h it.1 it.3) (λ it. exits_plain task ks next h u it) is
+  -- what all ends of the rest lead to
+  pub exits_lead : (P : Type 0) (task : ℕ) (ks : List ℕ) (next : Script) → ((u : State) → IsScript u next reply t → P) → (u : State) → IsScript u (exit_slots ks task next) reply t → P
+  exits_lead P task [] next h u is = h u is
+  exits_lead P task (k ∷ ks) next h u is =
+      either_way (has_maps_of task (slot_at u k)) (λ it. exits_lead P task ks next h it.1 it.3) (λ it. exits_lead P task ks next h u it) is
 
   undone_plain : (done : List ℕ) (child : ℕ) (r : Refusal) → Plain (Err r) → (u : State) → IsScript u (undone done child r) reply t → Plain reply
-  undone_plain done child r h u is = exits_plain child done _ (λ v it. subst Plain (sym it.3.0) h) u is
+  undone_plain done child r h u is = exits_lead (Plain reply) child done _ (λ v it. subst Plain (sym it.3.0) h) u is
 
   forks_plain : (parent child : ℕ) (ks done : List ℕ) (u : State) → IsScript u (fork_slots ks done parent child) reply t → Plain reply
   forks_plain parent child [] done u is = subst Plain (sym is.0) tt
@@ -592,7 +593,7 @@ module _ (reply : Reply) (t : State) where
     exit_plain : (task : ℕ) → IsScripted s (step.Exit task) reply t → Plain reply
     exit_plain task is =
         when_plain is.0 is.1 (exit_slots (range_with_len 0 (length s.slots)) task (Answer_with (Ok Done))) (table_reply (table.Remove task) is.0 is.1 is.2)
-        (λ u it. exits_plain task (range_with_len 0 (length s.slots)) (Answer_with (Ok Done)) (λ v end. subst Plain (sym end.0) tt) u it) is.3
+        (λ u it. exits_lead (Plain reply) task (range_with_len 0 (length s.slots)) (Answer_with (Ok Done)) (λ v end. subst Plain (sym end.0) tt) u it) is.3
 
 -- ---- each step
 

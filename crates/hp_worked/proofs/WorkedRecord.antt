@@ -273,6 +273,45 @@ punch_drops_entries promised =
     (let kept = (promised.kept 2 refl).files (codes "a") (first_file mounted) (first_file punched_bare) refl refl refl 1 in
     ⊎_elim (λ same. (let wrong : false ≡ true = ap is_entered same in cc)) (λ cut. (let wrong : false ≡ true = cut.0 in cc)) kept)
 
+-- ---- a fork that gives the child a map without its copies, one that owns, a map more, and a map of another file
+
+abbrev unforked : State
+unforked = after_all machine (Nr 2 ∷ Connect 1 0 ∷ Create 0 (codes "a") ∷ Create 0 (codes "b") ∷ Map 1 0 (codes "a") 0 2 Private Reserve ∷ Store 1 0 1 0 0 (5 ∷ []) ∷ [])
+
+abbrev after_fork : State
+after_fork = (plain_step unforked (Fork 1 2)).1
+
+abbrev fork_loses : State
+fork_loses = with_map_of 1 (with_place (child_in after_fork).map 0 (Live false None)) after_fork
+
+abbrev copy_at : Option Spot → ℕ → Bool
+copy_at o i = is_some (copy_of (place_at (spot_or o).map i))
+
+child_has_no_copy : IsPromised unforked (Fork 1 2) (Ok Done) fork_loses → ⊥
+child_has_no_copy promised =
+    (let kept = (promised.forks 0 1 refl).1 in
+    let wrong : false ≡ true = ap (λ o. copy_at o 0) kept.1 ∙ ap (λ x. is_some (copy_of (place_at x 0))) kept.2 in cc)
+
+child_owns : IsPromised unforked (Fork 1 2) (Ok Done) (with_map_of 1 (record (child_in after_fork).map { owner = true }) after_fork) → ⊥
+child_owns promised =
+    (let kept = (promised.forks 0 1 refl).1 in
+    let wrong : true ≡ false = ap (λ o. (spot_or o).map.owner) kept.1 ∙ ap (λ x. x.owner) kept.2 in cc)
+
+abbrev fork_makes_one_more : State
+fork_makes_one_more = (plain_step after_fork (Map 2 0 (codes "a") 0 1 Private NoReserve)).1
+
+child_has_a_map_more : IsPromised unforked (Fork 1 2) (Ok Done) fork_makes_one_more → ⊥
+child_has_a_map_more promised = (let wrong : true ≡ false = ap is_some (promised.forks 0 2 refl) in cc)
+
+-- the child's map stands on the second file
+abbrev elsewhere : Slot → Slot
+elsewhere None = None
+elsewhere (Some m) =
+    Some (with_file (with_file m 0 (record (file_in m 0) { maps = (parent_in after_fork).map ∷ [] })) 1 (record (file_in m 1) { maps = (child_in after_fork).map ∷ [] }))
+
+child_maps_another_file : IsPromised unforked (Fork 1 2) (Ok Done) (with_slot after_fork 0 (elsewhere (slot_at after_fork 0))) → ⊥
+child_maps_another_file promised = (let wrong : false ≡ true = (promised.forks 0 1 refl).0 in cc)
+
 -- ---- an exit of the child that spends an index of its parent
 
 abbrev after_exit : State

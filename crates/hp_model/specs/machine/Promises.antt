@@ -29,7 +29,7 @@ pub use Rattle.hp_model.specs.machine.Lost.{IsLost, IsLostTo, is_same_copy}
 use Rattle.hp_model.specs.machine.Machine.{committed_pages, counts_in, pool_of}
 use Rattle.hp_model.specs.files.MakeMap.{mapped, new_map, reserves}
 pub use Rattle.hp_model.specs.files.Mapping.{no_map}
-use Rattle.hp_model.specs.files.Mapping.{Map, copy_of, is_mapped, is_shared, place_at, without_range}
+use Rattle.hp_model.specs.files.Mapping.{Map, map_for, copy_of, is_mapped, is_shared, place_at, without_range}
 pub use Rattle.hp_model.specs.machine.Named.{is_at, is_in, is_shared_of, map_named, means_file, named_on, spot_on}
 use Rattle.hp_model.specs.files.MountCounts.{usage_of}
 use Rattle.hp_model.specs.pool.NodeRows.{total_of}
@@ -340,6 +340,22 @@ Unmaps s (UnmapStep owner k gone from to) (Ok a) t =
     → (q : Spot) × (map_named t k task number ≡ Some q) × IsCutTo ((task == owner) && (number == gone)) from to p q
 Unmaps s step reply t = Unit {0}
 
+-- ---- the child of a fork
+
+-- the child's map by a number, of the same file as its parent's: as that was, with its range, copies and mark, and owner of nothing;
+-- and none where its parent has none
+abbrev pub IsChildOf : (child : ℕ) (was parents childs : Option Spot) → Type 0
+IsChildOf child None parents childs = childs ≡ None
+IsChildOf child (Some p) parents childs =
+    SameFiles true parents childs × ((q : Spot) × (childs ≡ Some q) × (q.map ≡ map_for child p.map))
+
+-- a child that had no map has those of its parent
+abbrev pub Forks : State → Step → Reply → State → Type 0
+Forks s (Fork parent child) (Ok a) t =
+    (slot number : ℕ) → map_named s slot child number ≡ None
+    → IsChildOf child (map_named s slot parent number) (map_named t slot parent number) (map_named t slot child number)
+Forks s step reply t = Unit {0}
+
 -- ---- what a fork and an exit leave
 
 -- every map of other tasks is as it was, with its copies, marks and reservations, and its file has all its cells
@@ -450,6 +466,8 @@ pub record IsPromised (s : State) (step : Step) (reply : Reply) (t : State) : Ty
   pub unmaps : Unmaps s step reply t
   -- a fork and an exit leave every map of other tasks as it was
   pub whole : LeavesWhole s step t
+  -- a fork gives the child the maps of its parent, on every slot
+  pub forks : Forks s step reply t
   -- what a step ends is gone: a mount, and a task's maps
   pub gone : IsGone step reply t
   -- a step that only reads leaves all files, maps and reservations as they were
