@@ -38,7 +38,7 @@ use Rattle.hp_laws.proofs.Stored.{ready}
 
 -- ---- a map that may lose its copies of a stamp
 
-any_there : {X : Type 0} (t : X → Bool) (d : X) (xs : List X) → list_any t xs ≡ true → (k : ℕ) × (k < length xs) × (t (get_or xs k d) ≡ true)
+pub any_there : {X : Type 0} (t : X → Bool) (d : X) (xs : List X) → list_any t xs ≡ true → (k : ℕ) × (k < length xs) × (t (get_or xs k d) ≡ true)
 any_there t d [] e = cc
 any_there t d (x ∷ xs) e =
     ⊎_elim (λ here. (0, omega arith, here)) (λ later. (let there = any_there t d xs later in (suc there.0, omega (arith, there.1), there.2))) (or_cases (t x) (list_any t xs) e)

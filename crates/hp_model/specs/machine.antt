@@ -14,8 +14,8 @@ pub mod Sound
 pub mod Settled
 pub mod Tests
 pub mod Settings
-pub mod Gone
 pub mod Named
+pub mod Gone
 pub mod Lost
 pub mod Kept
 pub mod Short

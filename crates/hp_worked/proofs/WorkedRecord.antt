@@ -155,13 +155,16 @@ create_drops_entries_elsewhere : IsPromised mounted (Create 0 (codes "b")) (Ok D
 create_drops_entries_elsewhere promised =
     (let wrong : 0 ≡ 3 = ap cells_on (promised.elsewhere 2 refl) in absurd (omega (arith, wrong)))
 
--- ---- an exit that keeps the maps of its task, and an umount that keeps the mount
+-- ---- an exit that keeps the maps of its task, an umount that keeps the mount, and an unmap of all that keeps the number
 
 exit_keeps_maps : IsPromised shared (Exit 1) (Ok Done) (record shared { table = [] }) → ⊥
 exit_keeps_maps promised = (let wrong : true ≡ false = ap is_some (promised.gone 0 1) in cc)
 
 umount_keeps_the_mount : IsPromised mounted (Umount 2) (Ok Done) mounted → ⊥
 umount_keeps_the_mount promised = (let wrong : true ≡ false = ap is_some promised.gone in cc)
+
+unmap_keeps_the_number : IsPromised shared (Unmap 1 0 1 0 1) (Ok Done) shared → ⊥
+unmap_keeps_the_number promised = (let wrong : true ≡ false = ap is_some (promised.gone refl) in cc)
 
 -- ---- a mount with other limits than its options mean
 

@@ -1,7 +1,7 @@
 -- What names and numbers mean on a slot.
 use Rattle.std.specs.Prelude.{ℕ, ◌&&◌, ◌==◌, Bool, false, Option, None, Some, List, nat_le, nat_lt}
 use Rattle.hp_model.specs.files.File.{File}
-use Rattle.hp_model.specs.files.Mapping.{is_map, is_shared}
+use Rattle.hp_model.specs.files.Mapping.{is_map, is_mapped, is_shared, without_range}
 use Rattle.hp_model.specs.files.Spot.{Spot, spot}
 use Rattle.hp_model.specs.machine.Plan.{Slot}
 use Rattle.hp_model.specs.machine.SlotEvent.{file_named}
@@ -34,3 +34,8 @@ is_in a b i = nat_le a i && nat_lt i b
 abbrev pub is_at : Option Spot → (file map : ℕ) → Bool
 is_at None file map = false
 is_at (Some s) file map = (s.file_no == file) && (s.map_no == map)
+
+-- whether an index of the map stays mapped
+abbrev pub stays_mapped : Option Spot → (from to : ℕ) → Bool
+stays_mapped None from to = false
+stays_mapped (Some s) from to = is_mapped (without_range from to s.map)

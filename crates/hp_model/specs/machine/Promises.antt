@@ -29,8 +29,8 @@ pub use Rattle.hp_model.specs.machine.Lost.{IsLost, IsLostTo, is_same_copy}
 use Rattle.hp_model.specs.machine.Machine.{committed_pages, counts_in, pool_of}
 use Rattle.hp_model.specs.files.MakeMap.{mapped, new_map, reserves}
 pub use Rattle.hp_model.specs.files.Mapping.{no_map}
-use Rattle.hp_model.specs.files.Mapping.{Map, map_for, copy_of, is_mapped, is_shared, place_at, without_range}
-pub use Rattle.hp_model.specs.machine.Named.{is_at, is_in, is_shared_of, map_named, means_file, named_on, spot_on}
+use Rattle.hp_model.specs.files.Mapping.{Map, map_for, copy_of, is_shared, place_at}
+pub use Rattle.hp_model.specs.machine.Named.{is_at, is_in, is_shared_of, map_named, means_file, named_on, spot_on, stays_mapped}
 use Rattle.hp_model.specs.files.MountCounts.{usage_of}
 use Rattle.hp_model.specs.pool.NodeRows.{total_of}
 use Rattle.hp_model.specs.files.Page.{zeros}
@@ -167,11 +167,6 @@ is_unmounted step reply slot = false
 abbrev pub is_ended_name : Step → Reply → (slot : ℕ) → List ℕ → Bool
 is_ended_name (UnlinkStep k gone) (Ok a) slot name = (k == slot) && bytes_eq gone name
 is_ended_name step reply slot name = is_unmounted step reply slot
-
--- whether an index of the map stays mapped
-abbrev pub stays_mapped : Option Spot → (from to : ℕ) → Bool
-stays_mapped None from to = false
-stays_mapped (Some s) from to = is_mapped (without_range from to s.map)
 
 -- the number was ended by this step: its last index was unmapped, its task left, its mount went; or a fork ended the child's old maps
 abbrev pub is_ended_number : State → Step → Reply → (slot task number : ℕ) → Bool
@@ -468,8 +463,8 @@ pub record IsPromised (s : State) (step : Step) (reply : Reply) (t : State) : Ty
   pub whole : LeavesWhole s step t
   -- a fork gives the child the maps of its parent, on every slot
   pub forks : Forks s step reply t
-  -- what a step ends is gone: a mount, and a task's maps
-  pub gone : IsGone step reply t
+  -- what a step ends is gone: a mount, a task's maps, and the number of a map that is all unmapped
+  pub gone : IsGone s step reply t
   -- a step that only reads leaves all files, maps and reservations as they were
   pub reads : only_reads step ≡ true → t.slots ≡ s.slots
   -- on its own slot a step leaves the places of all maps and the cells of all files as they were, what is reserved with them, but for
