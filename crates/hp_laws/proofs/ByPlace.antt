@@ -38,7 +38,7 @@ module _ (size : ℕ) (m n : Mount) where
   -- what was lost by place was lost by number
   module _ (task number : ℕ) (stays : (o : Spot) → spot m (is_map task number) ≡ Some o → (q : Spot) × (spot n (is_map task number) ≡ Some q) × (places q ≡ places o)) (p q : Spot) (x i : ℕ)
       (old : map_on (Some m) p.file_no p.map_no ≡ p.map) (new : map_on (Some n) p.file_no p.map_no ≡ q.map) where
-    by_owner : (o : Option Spot) → spot m (is_map task number) ≡ o
+    pub by_owner : (o : Option Spot) → spot m (is_map task number) ≡ o
         → IsLostAt o (λ y. map_on (Some n) y.file_no y.map_no) x (map_on (Some m) p.file_no p.map_no) (map_on (Some n) p.file_no p.map_no) p.file_no p.map_no i
         → IsLostTo o (spot n (is_map task number)) x p q i
     by_owner None named lost = absurd lost

@@ -133,7 +133,7 @@ module _ (size a b : ℕ) (f : File) where
       by_test y x false = refl
 
 module _ (size n : ℕ) (f : File) where
-  cell_kept : (x : ℕ) → get_or (cells_to n f.cells) x Hole ≡ get_or (take n f.cells) x Hole
+  pub cell_kept : (x : ℕ) → get_or (cells_to n f.cells) x Hole ≡ get_or (take n f.cells) x Hole
   cell_kept x = same_more (λ (c : Cell Page). c) Hole (take n f.cells) (replicate (n - length f.cells) Hole) (λ j. same_none (λ (c : Cell Page). c) Hole (n - length f.cells) j) x
 
   cut_cells : (x : ℕ) (c : Bool) → nat_le n x ≡ c → look size x (truncated n f) ≡ (if c then zeros size else look size x f)
@@ -252,7 +252,7 @@ module _ (size : ℕ) (m : Mount) (sound : IsSoundMount m) (name : List ℕ) (q 
         | inr other ↦ ap (λ f. (map_in f p.map_no).unmapped) (file_other p.file_no other) ∙ marked
       ]
 
-  same_keys : keys after ≡ keys m
+  pub same_keys : keys after ≡ keys m
   same_keys =
       file_put m q.0 q.1 g (file_at m (has_name name) q named).is
       (ap (λ n. (n, map shape_of g.maps)) is.name ∙ ap (λ ks. (q.1.name, ks)) (ap (map shape_of) is.maps ∙ key_map shape_of h is.shape q.1.maps))

@@ -274,6 +274,10 @@ module _ (m : Mount) (h : File → File) (ok : Map → Bool) (each : FilesFollow
     apart = λ a b q o found_q found_o. refl;
   }
 
+  pub edit_stays : (k : ℕ) → edit_follows.to k ≡ k
+  unfolding edit_follows
+  edit_stays k = refl
+
 -- ---- maps that go, and maps that are made for a child
 
 abbrev pub thin : (Map → Bool) → File → File

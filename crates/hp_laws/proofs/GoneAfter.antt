@@ -20,7 +20,8 @@ use Rattle.hp_model.specs.files.GiveBack.{file_without, is_kept, without_task}
 use Rattle.hp_model.specs.files.Mapping.{Map, is_map, is_of}
 use Rattle.hp_model.specs.Lists.{is_among}
 use Rattle.hp_model.specs.machine.Event.{IsEvent, has_maps_of, with_table}
-use Rattle.hp_model.specs.machine.Gone.{IsGone, map_of}
+use Rattle.hp_model.specs.machine.Gone.{IsGone}
+use Rattle.hp_model.specs.machine.Named.{spot_on}
 use Rattle.hp_model.specs.machine.Plan.{Answered, Choice, Outcome, Refused, Reply, Slot, gives}
 use Rattle.hp_model.specs.machine.SlotEvent.{slot_event, umount_tests}
 use Rattle.hp_model.specs.machine.State.{State, slot_at}
@@ -32,6 +33,9 @@ use Rattle.hp_laws.proofs.Naming.{found_not}
 use Rattle.hp_laws.proofs.Outcomes.{Always, event_ends, reply_of}
 use Rattle.hp_laws.proofs.SlotShows.{always_gives, always_unless}
 use Rattle.hp_laws.proofs.Undone.{either_with, exit_becomes}
+use Rattle.hp_model.specs.machine.Settled.{IsSettledState}
+use Rattle.hp_laws.proofs.Tied.{left_sound}
+use Rattle.hp_laws.proofs.UnmapEnds.{Ends, unmap_ends}
 use Rattle.hp_laws.proofs.Whole.{by_event, is_whole, step_of}
 
 -- ---- a slot without the task's maps
@@ -68,7 +72,7 @@ none_weaker task number (x ∷ xs) none = by_test (is_of task x) refl none (λ r
     by_test true is none rest = (let wrong : (is_of task x || list_any (is_of task) xs) ≡ true = rw is refl in cc)
     by_test false is none rest = rw is (rest (subst (λ b. (b || list_any (is_of task) xs) ≡ false) is none))
 
-no_map_of : (task number : ℕ) (x : Slot) → has_maps_of task x ≡ false → map_of x task number ≡ None
+pub no_map_of : (task number : ℕ) (x : Slot) → has_maps_of task x ≡ false → spot_on x task number ≡ None
 no_map_of task number None none = refl
 no_map_of task number (Some m) none =
     let has = λ (f : File). list_any (is_map task number) f.maps in
@@ -115,13 +119,13 @@ module _ (task : ℕ) where
 
 -- ---- steps
 
-module _ (s : State) where
-  exit_gone : (task : ℕ) (reply : Reply) (t : State) → IsScripted s (step.Exit task) reply t → IsGone (step.Exit task) reply t
+module _ (s : State) (st : IsSettledState s) where
+  exit_gone : (task : ℕ) (reply : Reply) (t : State) → IsScripted s (step.Exit task) reply t → IsGone s (step.Exit task) reply t
   exit_gone task (Err r) t is = tt
   exit_gone task (Ok a) t is = by_home (home_of s.table task) is.0 is.1 is.2.2 is.3
     where
       by_home : (o : Option ℕ) (q : Reply) (mid : State) → with_table s (when_known s.table o (λ home. (Ok Done, removed s.table task))) ≡ (q, mid)
-          → IsScript mid (when_done q (exit_slots (range_with_len 0 (length s.slots)) task (Answer_with (Ok Done)))) (Ok a) t → IsGone (step.Exit task) (Ok a) t
+          → IsScript mid (when_done q (exit_slots (range_with_len 0 (length s.slots)) task (Answer_with (Ok Done)))) (Ok a) t → IsGone s (step.Exit task) (Ok a) t
       by_home None q mid e go =
           let first = ap (λ (y : Reply × State). y.0) e in
           (let never : Ok a ≡ Err NoSuchTask =
@@ -142,14 +146,25 @@ module _ (s : State) where
   umount_none size k c None = tt
   umount_none size k c (Some m) = always_unless NoMount (λ r. tt) (umount_tests k m) (gives Done (Some m) None) (always_gives NoMount Done (Some m) None refl)
 
-  umount_gone : (t : State) (k : ℕ) → k < length s.slots → (o : Outcome) → NoMount o → t.slots ≡ slice_set s.slots k (left_by (slot_at s k) o) → IsGone (step.Umount k) (reply_of o) t
+  umount_gone : (t : State) (k : ℕ) → k < length s.slots → (o : Outcome) → NoMount o → t.slots ≡ slice_set s.slots k (left_by (slot_at s k) o) → IsGone s (step.Umount k) (reply_of o) t
   umount_gone t k l (Refused r) none slots = tt
   umount_gone t k l (Answered a new) none slots = ap (λ (xs : List Slot). slice_index_or xs k None) slots ∙ get_or-set_same s.slots k new None l ∙ none
 
-  event_gone : (e : Event) (reply : Reply) (t : State) → is_whole e ≡ true → IsEvent s e reply t → IsGone (step_of e) reply t
+  number_gone : (t : State) (k task number a b : ℕ) → k < length s.slots → (o : Outcome) → Ends task number a b (slot_at s k) o → t.slots ≡ slice_set s.slots k (left_by (slot_at s k) o)
+      → IsGone s (step.Unmap task k number a b) (reply_of o) t
+  number_gone t k task number a b l (Refused r) ends slots = tt
+  number_gone t k task number a b l (Answered x new) ends slots = λ none.
+      subst (λ y. spot_on y task number ≡ None) (sym (ap (λ (xs : List Slot). slice_index_or xs k None) slots ∙ get_or-set_same s.slots k new None l)) (ends none)
+
+  event_gone : (e : Event) (reply : Reply) (t : State) → is_whole e ≡ true → IsEvent s e reply t → IsGone s (step_of e) reply t
   event_gone (OnSlot k slot.Umount) reply t whole is =
       let ends = event_ends NoMount s k slot.Umount reply t (λ c. umount_none s.page_size k c (slot_at s k)) is in
-      subst (λ r. IsGone (step.Umount k) r t) (sym ends.replied) (umount_gone t k (ltb-true k (length s.slots) is.1.0) ends.outcome ends.holds ends.slots)
+      subst (λ r. IsGone s (step.Umount k) r t) (sym ends.replied) (umount_gone t k (ltb-true k (length s.slots) is.1.0) ends.outcome ends.holds ends.slots)
+  event_gone (OnSlot k (slot.Unmap task number a b)) reply t whole is =
+      let l = ltb-true k (length s.slots) is.1.0 in
+      let old = slot_at s k in
+      let ends = event_ends (Ends task number a b old) s k (slot.Unmap task number a b) reply t (λ c. unmap_ends task number a b s.page_size k c old (left_sound s k l st)) is in
+      subst (λ r. IsGone s (step.Unmap task k number a b) r t) (sym ends.replied) (number_gone t k task number a b l ends.outcome ends.holds ends.slots)
   event_gone (OnSlot k (slot.ExitMaps task)) reply t whole is = cc
   event_gone (OnSlot k (slot.ForkMaps parent child)) reply t whole is = cc
   event_gone (OnSlot k other) reply t whole is = tt
@@ -158,10 +173,11 @@ module _ (s : State) where
   event_gone (OnPool pool.Meminfo) reply t whole is = tt
   event_gone (OnPool other) reply t whole is = tt
 
-  early_gone : (x : Step) (r : Refusal) → IsGone x (Err r) s
+  early_gone : (x : Step) (r : Refusal) → IsGone s x (Err r) s
   early_gone (step.Umount k) r = tt
   early_gone (step.Exit task) r = tt
+  early_gone (step.Unmap task k number a b) r = tt
   early_gone other r = tt
 
-  pub step_gone : (reply : Reply) (t : State) (x : Step) → IsStep s x reply t → IsGone x reply t
-  step_gone reply t x is = by_event s (λ x reply t. IsGone x reply t) (λ x r early. early_gone x r) event_gone (λ parent child reply t it. tt) exit_gone reply t x is
+  pub step_gone : (reply : Reply) (t : State) (x : Step) → IsStep s x reply t → IsGone s x reply t
+  step_gone reply t x is = by_event s (λ x reply t. IsGone s x reply t) (λ x r early. early_gone x r) event_gone (λ parent child reply t it. tt) exit_gone reply t x is

@@ -31,7 +31,14 @@ pub mod Backed
 pub mod ReservationsMade
 pub mod TestsDecide
 pub mod SettingsKept
+pub mod UnmapEnds
 pub mod GoneAfter
+pub mod Elsewhere
+pub mod KeptPlaces
+pub mod KeptSlot
+pub mod EventKeeps
+pub mod Shortage
+pub mod ChildsMaps
 pub mod WholeMaps
 pub mod UnmapsCut
 pub mod MountsMade

@@ -65,7 +65,7 @@ spot_in_file m test = by_found (found (λ (f : File). list_any test f.maps) m.fi
 pub spot_none : (m : Mount) (test : Map → Bool) → found (λ (f : File). list_any test f.maps) m.files ≡ None → spot m test ≡ None
 spot_none m test e = spot_in_file m test ∙ ap (in_file test) e
 
-spot_some : (m : Mount) (test : Map → Bool) (f : ℕ × File) (q : ℕ × Map) → found (λ (f : File). list_any test f.maps) m.files ≡ Some f → found test f.1.maps ≡ Some q
+pub spot_some : (m : Mount) (test : Map → Bool) (f : ℕ × File) (q : ℕ × Map) → found (λ (f : File). list_any test f.maps) m.files ≡ Some f → found test f.1.maps ≡ Some q
     → spot m test ≡ Some (spot_in f q)
 spot_some m test f q e w = spot_in_file m test ∙ ap (in_file test) e ∙ ap (option_map (spot_in f)) w
 

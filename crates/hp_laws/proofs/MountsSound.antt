@@ -29,7 +29,7 @@ bit_le true true h = omega arith
 bit_le true false h = (let e = h refl in cc)
 bit_le false b h = omega arith
 
-count_maps : (p : Map → Bool) (fs : List File) → count_by p (flat_map (λ f. f.maps) fs) ≡ sum_by (λ f. count_by p f.maps) fs
+pub count_maps : (p : Map → Bool) (fs : List File) → count_by p (flat_map (λ f. f.maps) fs) ≡ sum_by (λ f. count_by p f.maps) fs
 count_maps p [] = refl
 count_maps p (f ∷ fs) =
     let both = sum_by-append (λ x. bit (p x)) f.maps (flat_map (λ f. f.maps) fs) in

@@ -19,7 +19,10 @@ use Rattle.hp_model.specs.machine.Step.{IsStep}
 use Rattle.hp_laws.specs.Laws.{KeepsGoing, PromisesAreKept}
 use Rattle.hp_laws.proofs.Answered.{step_leaves, step_tells}
 use Rattle.hp_laws.proofs.Backed.{Stops, fault_goes, fault_stops, load_goes, load_stops, store_goes, store_stops}
+use Rattle.hp_laws.proofs.ChildsMaps.{step_forks}
 use Rattle.hp_laws.proofs.CountsHold.{counts_are_sums, limits_hold, minimums_hold}
+use Rattle.hp_laws.proofs.Elsewhere.{step_elsewhere}
+use Rattle.hp_laws.proofs.EventKeeps.{step_own}
 use Rattle.hp_laws.proofs.Fades.{AllFade, exit_fade, fork_fade}
 use Rattle.hp_laws.proofs.GoneAfter.{step_gone}
 use Rattle.hp_laws.proofs.Limited.{step_keeps}
@@ -29,6 +32,7 @@ use Rattle.hp_laws.proofs.MountsMade.{step_mounted}
 use Rattle.hp_laws.proofs.Outcomes.{Always, event_ends, reply_of}
 use Rattle.hp_laws.proofs.ReservationsMade.{step_ranges}
 use Rattle.hp_laws.proofs.SettingsKept.{step_reads, step_sets}
+use Rattle.hp_laws.proofs.Shortage.{step_short}
 use Rattle.hp_laws.proofs.SlotKept.{slot_keeps}
 use Rattle.hp_laws.proofs.SlotShows.{Loads, load_loads}
 use Rattle.hp_laws.proofs.StaysSettled.{step_settled}
@@ -140,6 +144,10 @@ promised s step reply t st is =
       mounted = step_mounted s reply t step is;
       unmaps = step_unmaps s reply t step is;
       whole = step_whole s reply t step is;
-      gone = step_gone s reply t step is;
+      gone = step_gone s st reply t step is;
       reads = step_reads s reply t step is;
+      elsewhere = step_elsewhere s reply t step is;
+      forks = step_forks s reply t step is;
+      short = step_short s reply t step is;
+      kept = step_own s st reply t step after is;
     }

@@ -26,13 +26,13 @@ module _ (m : Map) (i : ℕ) (c : Bool) (o : Option Copy) (is : place_at m i ≡
   from : nat_lt i m.start ≡ false
   from = not_below (nat_lt i m.start) (slice_index_or m.places (i - m.start) Gone) c o is
 
-  written_at : place_at (map_written i offset bytes m) i ≡ place_written offset bytes (place_at m i)
+  pub written_at : place_at (map_written i offset bytes m) i ≡ place_written offset bytes (place_at m i)
   written_at =
       ap (λ b. if b then Gone else slice_index_or (edit_at (place_written offset bytes) m.places (i - m.start)) (i - m.start) Gone) from
       ∙ edit_here (place_written offset bytes) Gone refl m.places (i - m.start)
       ∙ sym (ap (λ b. place_written offset bytes (if b then Gone else slice_index_or m.places (i - m.start) Gone)) from)
 
-  written_off : (x : ℕ) → (x ≡ i → ⊥) → place_at (map_written i offset bytes m) x ≡ place_at m x
+  pub written_off : (x : ℕ) → (x ≡ i → ⊥) → place_at (map_written i offset bytes m) x ≡ place_at m x
   written_off x other =
       let low = ltb-false i m.start from in
       elim (nat_lt x m.start) as (λ b. nat_lt x m.start ≡ b → (if b then Gone else slice_index_or
@@ -48,7 +48,7 @@ no_copy : (p : Place Copy) → copy_of (without_copy p) ≡ None
 no_copy Gone = refl
 no_copy (Live consumed copy) = refl
 
-dropped_at : (stamp : ℕ) (m : Map) (x : ℕ) → place_at (record m { unmapped = true; places = map (drop_stamp stamp) m.places }) x ≡ drop_stamp stamp (place_at m x)
+pub dropped_at : (stamp : ℕ) (m : Map) (x : ℕ) → place_at (record m { unmapped = true; places = map (drop_stamp stamp) m.places }) x ≡ drop_stamp stamp (place_at m x)
 dropped_at stamp m x =
     elim (nat_lt x m.start) as (λ b. (if b then Gone else slice_index_or (map (drop_stamp stamp) m.places) (x - m.start) Gone)
     ≡ drop_stamp stamp (if b then Gone else slice_index_or m.places (x - m.start) Gone)) [
@@ -77,13 +77,13 @@ robs size stamp m x v =
           | false ↦ λ e. inl (ap (λ q. by_place size q v) at ∙ ap (λ b. by_place size (if b then without_copy (place_at m x) else place_at m x) v) e)
         ] refl
 
-held_copy : (stamp : ℕ) (p : Place Copy) → holds stamp p ≡ true → (a : Copy) × (copy_of p ≡ Some a) × (a.stamp ≡ stamp)
+pub held_copy : (stamp : ℕ) (p : Place Copy) → holds stamp p ≡ true → (a : Copy) × (copy_of p ≡ Some a) × (a.stamp ≡ stamp)
 held_copy stamp Gone e = cc
 held_copy stamp (Live c None) e = cc
 held_copy stamp (Live c (Some a)) e = (a, refl, eqb-true a.stamp stamp e)
 
 -- a copy whose bytes are written stays the same copy
-same_written : (offset : ℕ) (bytes : List ℕ) (p q : Place Copy) → is_same_copy p (place_written offset bytes q) ≡ is_same_copy p q
+pub same_written : (offset : ℕ) (bytes : List ℕ) (p q : Place Copy) → is_same_copy p (place_written offset bytes q) ≡ is_same_copy p q
 same_written offset bytes Gone q = refl
 same_written offset bytes (Live c None) q = refl
 same_written offset bytes (Live c (Some a)) Gone = refl
@@ -142,7 +142,7 @@ module _ (size : ℕ) (m : Mount) (sound : IsSoundMount m) (s : Spot) (at : IsSp
   -- ---- through a private map
 
   -- before the bytes are written: the map has a copy, and shows what it showed
-  record Mine (n : Mount) : Type 0 where
+  pub record Mine (n : Mount) : Type 0 where
     pub own : Own size m s at i n
     pub self : (x : ℕ) → seen size s.map_no x (file_in n s.file_no) ≡ here s.file_no s.map_no x
     pub there : (j l x : ℕ) → (j ≡ s.file_no → ⊥) → seen size l x (file_in n j) ≡ here j l x
@@ -154,28 +154,28 @@ module _ (size : ℕ) (m : Mount) (sound : IsSoundMount m) (s : Spot) (at : IsSp
       record { own = done.1 apart; self = λ x. same.maps s.file_no s.map_no x; there = λ j l x other. same.maps j l x; beside = λ l x other. inl (same.maps s.file_no l x) }
 
   module _ (stamp : ℕ) where
-    abbrev left : File
+    abbrev pub left : File
     left = with_map (record s.file { maps = map (robbed stamp) s.file.maps }) s.map_no s.map
 
-    abbrev back : Mount
+    abbrev pub back : Mount
     back = record m { files = set m.files s.file_no left }
 
-    file_left : file_in back s.file_no ≡ left
+    pub file_left : file_in back s.file_no ≡ left
     file_left = get_or-set_same m.files s.file_no left (new_file None) at.file.within
 
-    file_was : file_in m s.file_no ≡ s.file
+    pub file_was : file_in m s.file_no ≡ s.file
     file_was = at.file.is (new_file None)
 
-    map_left : map_in left s.map_no ≡ s.map
+    pub map_left : map_in left s.map_no ≡ s.map
     map_left =
         (let long = length-map s.file.maps (robbed stamp) in
         let within = at.map.within in get_or-set_same (map (robbed stamp) s.file.maps) s.map_no s.map no_map (omega (arith, long, within)))
 
-    map_beside : (l : ℕ) → (l ≡ s.map_no → ⊥) → map_in left l ≡ robbed stamp (map_in s.file l)
+    pub map_beside : (l : ℕ) → (l ≡ s.map_no → ⊥) → map_in left l ≡ robbed stamp (map_in s.file l)
     map_beside l other = get_or-set_other (map (robbed stamp) s.file.maps) s.map_no l s.map no_map other ∙ get_map (robbed stamp) no_map refl s.file.maps l
 
     -- who holds the stamp holds it at the owner's index
-    at_index : (consumed : Bool) (copy : Copy) → copy.stamp ≡ stamp → place_at s.map i ≡ Live consumed (Some copy) → (l x : ℕ) → holds stamp (place_at (map_in s.file l) x) ≡ true → x ≡ i
+    pub at_index : (consumed : Bool) (copy : Copy) → copy.stamp ≡ stamp → place_at s.map i ≡ Live consumed (Some copy) → (l x : ℕ) → holds stamp (place_at (map_in s.file l) x) ≡ true → x ≡ i
     at_index consumed copy named is l x holds_it =
         let held = held_copy stamp (place_at (map_in s.file l) x) holds_it in
         let own : HasCopy (map_in s.file s.map_no) i copy = ap (λ y. copy_of (place_at y i)) (at.map.is no_map) ∙ ap copy_of is in
@@ -210,37 +210,37 @@ module _ (size : ℕ) (m : Mount) (sound : IsSoundMount m) (s : Spot) (at : IsSp
           (robs size stamp (map_in s.file l) x (look size x s.file));
     }
 
-  mine : (n : Mount) → is_shared s.map.sharing ≡ false → Result size m s at i n → Mine n
+  pub mine : (n : Mount) → is_shared s.map.sharing ≡ false → Result size m s at i n → Mine n
   mine n apart done =
       ⊎_elim (λ copied. copied_mine n apart copied)
       (λ taken. subst (λ y. Mine y) (sym taken.left) (back_mine taken.copy.stamp taken.consumed taken.copy refl taken.is taken.owner taken.apart)) done
 
   module _ (n : Mount) (apart : is_shared s.map.sharing ≡ false) (is : Mine n) where
-    abbrev after : Mount
+    abbrev pub after : Mount
     after = written n s i offset bytes
 
-    abbrev f : File
+    abbrev pub f : File
     f = file_in n s.file_no
 
-    abbrev g : File
+    abbrev pub g : File
     g = record f { maps = edit_at (map_written i offset bytes) f.maps s.map_no }
 
     edits_none : file_written s i offset bytes (new_file None) ≡ new_file None
     edits_none = ap (λ b. if b then new_file None else new_file None) apart
 
-    file_here : file_in after s.file_no ≡ g
+    pub file_here : file_in after s.file_no ≡ g
     file_here =
         edit_here (file_written s i offset bytes) (new_file None) edits_none n.files s.file_no
         ∙ ap (λ b. if b then record f { cells = edit_at (cell_written offset bytes) f.cells i } else g) apart
 
-    map_other : (l : ℕ) → (l ≡ s.map_no → ⊥) → map_in g l ≡ map_in f l
+    pub map_other : (l : ℕ) → (l ≡ s.map_no → ⊥) → map_in g l ≡ map_in f l
     map_other l other = edit_other (map_written i offset bytes) no_map f.maps s.map_no l other
 
-    map_here : map_in g s.map_no ≡ map_written i offset bytes (map_in f s.map_no)
+    pub map_here : map_in g s.map_no ≡ map_written i offset bytes (map_in f s.map_no)
     map_here = edit_here (map_written i offset bytes) no_map refl f.maps s.map_no
 
     -- what stands at the owner's place afterwards
-    own_after : place_at (map_in (file_in after s.file_no) s.map_no) i ≡ place_written offset bytes (place_at (map_in f s.map_no) i)
+    pub own_after : place_at (map_in (file_in after s.file_no) s.map_no) i ≡ place_written offset bytes (place_at (map_in f s.map_no) i)
     own_after =
         let own = is.own in ap (λ y. place_at (map_in y s.map_no) i) file_here ∙ ap (λ y. place_at y i) map_here ∙ written_at (map_in f s.map_no) i own.consumed (Some own.copy) own.is offset bytes
 
@@ -326,7 +326,7 @@ module _ (size : ℕ) (m : Mount) (sound : IsSoundMount m) (s : Spot) (at : IsSp
 
   -- ---- marks
 
-  edit_marks : (l : ℕ) (f : File) → marked l (file_written s i offset bytes f) ≡ marked l f
+  pub edit_marks : (l : ℕ) (f : File) → marked l (file_written s i offset bytes f) ≡ marked l f
   edit_marks l f =
       cond_both (is_shared s.map.sharing) (record f { cells = edit_at (cell_written offset bytes) f.cells i })
       (record f { maps = edit_at (map_written i offset bytes) f.maps s.map_no }) (λ g. marked l g ≡ marked l f)

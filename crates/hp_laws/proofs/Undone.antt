@@ -81,7 +81,7 @@ module _ (child : ℕ) where
   abbrev without : Slot → Slot
   without x = option_map (without_task child) x
 
-  abbrev BecomesBy : (Mount → Mount) → Slot → Outcome → Type 0
+  abbrev pub BecomesBy : (Mount → Mount) → Slot → Outcome → Type 0
   BecomesBy f old (Refused r) = Unit {0}
   BecomesBy f old (Answered a new) = new ≡ option_map f old
 
@@ -93,7 +93,7 @@ module _ (child : ℕ) where
   exit_gives size k c None = tt
   exit_gives size k c (Some m) = gives_back Done (Some m) (Some (without_task child m))
 
-  fork_becomes : (parent size k : ℕ) (c : Choice) (old : Slot) → Always (BecomesBy (forked parent child) old) (slot_event size k c old (slot.ForkMaps parent child))
+  pub fork_becomes : (parent size k : ℕ) (c : Choice) (old : Slot) → Always (BecomesBy (forked parent child) old) (slot_event size k c old (slot.ForkMaps parent child))
   fork_becomes parent size k c None = tt
   fork_becomes parent size k c (Some m) =
       always_unless (BecomesBy (forked parent child) (Some m)) (λ r. tt) (fork_tests c m parent child) (gives Done (Some m) (Some (forked parent child m)))

@@ -46,6 +46,10 @@ module _ (owner gone a b : ℕ) where
   cut_places true y i = place_ranged (λ p. Gone) refl a b y i
   cut_places false y i = refl
 
+  same_mark : (c : Bool) (y : Map) → (if c then without_range a b y else y).unmapped ≡ y.unmapped
+  same_mark true y = refl
+  same_mark false y = refl
+
   unmap_leaves : (size k : ℕ) (c : Choice) (old : Slot) → Always (CutsTo old) (slot_event size k c old (slot.Unmap owner gone a b))
   unmap_leaves size k c None = tt
   unmap_leaves size k c (Some m) =
@@ -64,6 +68,7 @@ module _ (owner gone a b : ℕ) where
             (
               λ i. ap (λ y. place_at y i) kept.2 ∙ cut_places (is_map owner gone p.map) p.map i ∙ ap (λ c. if c && is_in a b i then Gone else place_at p.map i) named,
               kept.3,
+              ap (λ (y : Map). y.unmapped) kept.2 ∙ same_mark (is_map owner gone p.map) p.map,
             ),
           )
 

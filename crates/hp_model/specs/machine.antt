@@ -14,6 +14,10 @@ pub mod Sound
 pub mod Settled
 pub mod Tests
 pub mod Settings
+pub mod Named
 pub mod Gone
+pub mod Lost
+pub mod Kept
+pub mod Short
 pub mod Promises
 pub mod Copying

@@ -1,24 +1,25 @@
 -- For the fields of the promises a wrong machine that the record refuses: a reply, or a state after the step.
-use Rattle.std.proofs.Common.{◌≡◌, ℕ, ◌≤◌, ◌∙◌, Bool, true, false, None, Option, Some, Ok, Err, List, [], ◌∷◌, length, replicate, refl, ap, arith}
+use Rattle.std.proofs.Common.{◌≡◌, ⊎_elim, ℕ, ◌≤◌, ◌∙◌, Bool, true, false, None, Option, Some, Ok, Err, List, [], ◌∷◌, length, replicate, refl, ap, arith}
 use Rattle.std.specs.List.{slice_index_or}
 use Rattle.std.specs.Prelude.{codes, is_some}
 use Rattle.hp_model.specs.declared.answer.Answer.TheVariants.{Done, MapNo, Number, Stat as StatAnswer}
 use Rattle.hp_model.specs.declared.cell.Cell.TheVariants.{Entered}
 use Rattle.hp_model.specs.declared.place.Place.TheVariants.{Gone, Live}
-use Rattle.hp_model.specs.files.Mapping.{is_live, is_unconsumed, place_at, with_place}
+use Rattle.hp_model.specs.files.Mapping.{copy_of, is_live, is_unconsumed, place_at, with_place}
 use Rattle.hp_model.specs.files.Spot.{Spot}
 use Rattle.hp_model.specs.declared.refusal.Refusal.{Refusal}
-use Rattle.hp_model.specs.declared.refusal.Refusal.TheVariants.{Busy, NoPages, NoSuchMap, OutOfMemory, OutOfRange, TakenByOwner}
+use Rattle.hp_model.specs.declared.refusal.Refusal.TheVariants.{Busy, MountFull, NoPages, NoSuchMap, OutOfMemory, OutOfRange, TakenByOwner}
 use Rattle.hp_model.specs.declared.step.Reserving.TheVariants.{NoReserve, Reserve}
-use Rattle.hp_model.specs.declared.step.Sharing.TheVariants.{Shared}
+use Rattle.hp_model.specs.declared.step.Sharing.TheVariants.{Private, Shared}
 use Rattle.hp_model.specs.declared.step.Step.{Step}
-use Rattle.hp_model.specs.declared.step.Step.TheVariants.{Connect, Create, Df, Exit, Fork, Load, Map, Mount, Nr, Stat, Umount, Unmap}
-use Rattle.hp_model.specs.files.File.{file_in, with_file}
+use Rattle.hp_model.specs.declared.step.Step.TheVariants.{Connect, Create, Df, Exit, Fault, Fork, Load, Map, Mount, Nr, Punch, Stat, Store, Umount, Unmap}
+use Rattle.hp_model.specs.declared.step.Intent.TheVariants.{Read}
+use Rattle.hp_model.specs.files.File.{File, file_in, is_entered, new_file, with_file}
 use Rattle.hp_model.specs.machine.Plain.{plain_step}
 use Rattle.hp_model.specs.machine.Plan.{Reply, Slot}
 use Rattle.hp_model.specs.machine.Promises.{IsPromised, IsPromisedStep}
 use Rattle.hp_model.specs.machine.State.{State, slot_at, with_slot}
-use Rattle.hp_worked.proofs.WorkedPromises.{child_in, forked, into_first, mounted, parent_in, robbed, shared, spot_or, unmapped_first, with_map_of, without_pages}
+use Rattle.hp_worked.proofs.WorkedPromises.{after_all, child_in, forked, into_first, mounted, parent_in, robbed, shared, spot_or, unmapped_first, with_map_of, without_pages}
 use Rattle.hp_worked.proofs.WorkedWords.{machine}
 
 abbrev refusal_of : Reply → Refusal
@@ -77,6 +78,27 @@ refuses_all promised = (let wrong : false ≡ true = promised.tests in cc)
 answers_without_a_map : IsPromised shared (Unmap 1 0 9 0 1) (Ok Done) shared → ⊥
 answers_without_a_map promised = (let wrong : Ok Done ≡ Err NoSuchMap = promised.tests in cc)
 
+-- ---- refusals for want of pages where there are pages, or none is asked for
+
+-- of two pages one is committed
+map_finds_no_page : IsPromised shared reserving (Err NoPages) shared → ⊥
+map_finds_no_page promised = (let wrong : true ≡ false = promised.short.1 in cc)
+
+-- the whole range has entries, and the mount is at its limit
+map_is_past_the_limit : IsPromised mounted (Map 1 2 (codes "a") 0 3 Shared Reserve) (Err MountFull) mounted → ⊥
+map_is_past_the_limit promised = (let wrong : false ≡ true = promised.short in cc)
+
+-- a mount without a minimum
+mount_finds_no_page : IsPromised shared (Mount 2 (codes "size=3K")) (Err NoPages) shared → ⊥
+mount_finds_no_page promised = (let wrong : true ≡ false = promised.short in cc)
+
+-- all pages are committed, and the child reads the copy that it has
+load_finds_no_page : IsPromised forked (Load 2 0 1 0 0 1) (Err NoPages) forked → ⊥
+load_finds_no_page promised = (let wrong : true ≡ false = promised.short.1 in cc)
+
+fork_finds_no_page : IsPromised forked (Fork 1 3) (Err NoPages) forked → ⊥
+fork_finds_no_page promised = (let wrong : true ≡ false = promised.short in cc)
+
 -- ---- tasks, nr and overcommit
 
 abbrev home_or : Option ℕ → ℕ
@@ -123,13 +145,26 @@ stat_drops_entries : IsPromised mounted (Stat 2 (codes "a")) (Ok (StatAnswer 3 0
 stat_drops_entries promised =
     (let wrong : 0 ≡ 3 = ap (λ (xs : List Slot). cells_on (slice_index_or xs 2 None)) (promised.reads refl) in absurd (omega (arith, wrong)))
 
--- ---- an exit that keeps the maps of its task, and an umount that keeps the mount
+-- ---- steps that take entries on a slot that they are not on
+
+connect_drops_entries : IsPromised mounted (Connect 3 0) (Ok Done) (with_slot (plain_step mounted (Connect 3 0)).1 2 (bare (slot_at mounted 2))) → ⊥
+connect_drops_entries promised =
+    (let wrong : 0 ≡ 3 = ap cells_on (promised.elsewhere 2 refl) in absurd (omega (arith, wrong)))
+
+create_drops_entries_elsewhere : IsPromised mounted (Create 0 (codes "b")) (Ok Done) (with_slot (plain_step mounted (Create 0 (codes "b"))).1 2 (bare (slot_at mounted 2))) → ⊥
+create_drops_entries_elsewhere promised =
+    (let wrong : 0 ≡ 3 = ap cells_on (promised.elsewhere 2 refl) in absurd (omega (arith, wrong)))
+
+-- ---- an exit that keeps the maps of its task, an umount that keeps the mount, and an unmap of all that keeps the number
 
 exit_keeps_maps : IsPromised shared (Exit 1) (Ok Done) (record shared { table = [] }) → ⊥
 exit_keeps_maps promised = (let wrong : true ≡ false = ap is_some (promised.gone 0 1) in cc)
 
 umount_keeps_the_mount : IsPromised mounted (Umount 2) (Ok Done) mounted → ⊥
 umount_keeps_the_mount promised = (let wrong : true ≡ false = ap is_some promised.gone in cc)
+
+unmap_keeps_the_number : IsPromised shared (Unmap 1 0 1 0 1) (Ok Done) shared → ⊥
+unmap_keeps_the_number promised = (let wrong : true ≡ false = ap is_some (promised.gone refl) in cc)
 
 -- ---- a mount with other limits than its options mean
 
@@ -171,6 +206,114 @@ unmap_takes_from_another_map : IsPromised forked unmapped_first (Ok Done) child_
 unmap_takes_from_another_map promised =
     (let kept = promised.unmaps 2 1 (child_in forked) refl refl in
     let wrong : false ≡ true = ap (λ o. live_at o 1) kept.1 ∙ ap is_live (kept.2.0 1) in cc)
+
+unmap_marks_another_map : IsPromised forked unmapped_first (Ok Done) (with_map_of 1 (record (child_in after_unmap).map { unmapped = true }) after_unmap) → ⊥
+unmap_marks_another_map promised =
+    (let kept = promised.unmaps 2 1 (child_in forked) refl refl in
+    let wrong : true ≡ false = ap (λ o. (spot_or o).map.unmapped) kept.1 ∙ kept.2.2 in cc)
+
+-- ---- a fault that spends an index of another task's map, or marks its own map
+
+abbrev child_reads : Step
+child_reads = Fault 2 0 1 0 Read
+
+abbrev after_read : State
+after_read = (plain_step forked child_reads).1
+
+abbrev read_spends : State
+read_spends = with_map_of 0 (with_place (parent_in after_read).map 1 (Live true None)) after_read
+
+fault_spends_another_index : IsPromised forked child_reads (Ok Done) read_spends → ⊥
+fault_spends_another_index promised =
+    (let kept = (promised.kept 0 refl).maps 1 1 (parent_in forked) (parent_in read_spends) refl refl in
+    ⊎_elim (λ same. (let wrong : false ≡ true = ap is_unconsumed same in cc)) (λ spent. (let wrong : false ≡ true = spent.own in cc)) (kept.places 1))
+
+abbrev read_marks : State
+read_marks = with_map_of 1 (record (child_in after_read).map { unmapped = true }) after_read
+
+fault_marks_its_map : IsPromised forked child_reads (Ok Done) read_marks → ⊥
+fault_marks_its_map promised =
+    (let kept = (promised.kept 0 refl).maps 2 1 (child_in forked) (child_in read_marks) refl refl in
+    ⊎_elim (λ was. (let wrong : false ≡ true = was in cc)) (λ lost. lost) (kept.marked refl))
+
+-- ---- an owner's store that leaves its index reserved
+
+abbrev reserved : State
+reserved = after_all machine (Nr 2 ∷ Connect 1 0 ∷ Create 0 (codes "a") ∷ Map 1 0 (codes "a") 0 2 Private Reserve ∷ [])
+
+abbrev first_store : Step
+first_store = Store 1 0 1 0 0 (5 ∷ [])
+
+abbrev unspent_after : State
+unspent_after =
+    let t : State = (plain_step reserved first_store).1 in
+    with_map_of 0 (with_place (parent_in t).map 0 (Live false (copy_of (place_at (parent_in t).map 0)))) t
+
+store_spends_nothing : IsPromised reserved first_store (Ok Done) unspent_after → ⊥
+store_spends_nothing promised =
+    (let kept = (promised.kept 0 refl).maps 1 1 (parent_in reserved) (parent_in unspent_after) refl refl in
+    ⊎_elim (λ same. (let wrong : true ≡ false = ap (λ p. is_some (copy_of p)) same in cc))
+    (λ changed. ⊎_elim (λ spent. (let wrong : true ≡ false = spent.spent refl in cc)) (λ taken. taken.0.2 refl) changed) (kept.places 0))
+
+-- ---- a create, a map and a punch that drop entries of a file
+
+abbrev first_file : State → ℕ × File
+first_file t = (0, elim (slot_at t 2) [ None ↦ new_file None | Some m ↦ file_in m 0 ])
+
+abbrev created_bare : State
+created_bare = (let t : State = (plain_step mounted (Create 2 (codes "b"))).1 in with_slot t 2 (bare (slot_at t 2)))
+
+create_drops_entries : IsPromised mounted (Create 2 (codes "b")) (Ok Done) created_bare → ⊥
+create_drops_entries promised =
+    (let kept = (promised.kept 2 refl).files (codes "a") (first_file mounted) (first_file created_bare) refl refl refl 1 in
+    ⊎_elim (λ same. (let wrong : false ≡ true = ap is_entered same in cc)) (λ never. never) kept)
+
+abbrev punched_bare : State
+punched_bare = (let t : State = (plain_step mounted (Punch 2 (codes "a") 0 1)).1 in with_slot t 2 (bare (slot_at t 2)))
+
+punch_drops_entries : IsPromised mounted (Punch 2 (codes "a") 0 1) (Ok Done) punched_bare → ⊥
+punch_drops_entries promised =
+    (let kept = (promised.kept 2 refl).files (codes "a") (first_file mounted) (first_file punched_bare) refl refl refl 1 in
+    ⊎_elim (λ same. (let wrong : false ≡ true = ap is_entered same in cc)) (λ cut. (let wrong : false ≡ true = cut.0 in cc)) kept)
+
+-- ---- a fork that gives the child a map without its copies, one that owns, a map more, and a map of another file
+
+abbrev unforked : State
+unforked = after_all machine (Nr 2 ∷ Connect 1 0 ∷ Create 0 (codes "a") ∷ Create 0 (codes "b") ∷ Map 1 0 (codes "a") 0 2 Private Reserve ∷ Store 1 0 1 0 0 (5 ∷ []) ∷ [])
+
+abbrev after_fork : State
+after_fork = (plain_step unforked (Fork 1 2)).1
+
+abbrev fork_loses : State
+fork_loses = with_map_of 1 (with_place (child_in after_fork).map 0 (Live false None)) after_fork
+
+abbrev copy_at : Option Spot → ℕ → Bool
+copy_at o i = is_some (copy_of (place_at (spot_or o).map i))
+
+child_has_no_copy : IsPromised unforked (Fork 1 2) (Ok Done) fork_loses → ⊥
+child_has_no_copy promised =
+    (let kept = (promised.forks 0 1 refl).1 in
+    let wrong : false ≡ true = ap (λ o. copy_at o 0) kept.1 ∙ ap (λ x. is_some (copy_of (place_at x 0))) kept.2 in cc)
+
+child_owns : IsPromised unforked (Fork 1 2) (Ok Done) (with_map_of 1 (record (child_in after_fork).map { owner = true }) after_fork) → ⊥
+child_owns promised =
+    (let kept = (promised.forks 0 1 refl).1 in
+    let wrong : true ≡ false = ap (λ o. (spot_or o).map.owner) kept.1 ∙ ap (λ x. x.owner) kept.2 in cc)
+
+abbrev fork_makes_one_more : State
+fork_makes_one_more = (plain_step after_fork (Map 2 0 (codes "a") 0 1 Private NoReserve)).1
+
+child_has_a_map_more : IsPromised unforked (Fork 1 2) (Ok Done) fork_makes_one_more → ⊥
+child_has_a_map_more promised = (let wrong : true ≡ false = ap is_some (promised.forks 0 2 refl) in cc)
+
+-- the child's map stands on the second file
+abbrev elsewhere : Slot → Slot
+elsewhere None = None
+elsewhere (Some m) =
+    Some (with_file (with_file m 0 (record (file_in m 0) { maps = (parent_in after_fork).map ∷ [] })) 1 (record (file_in m 1) { maps = (child_in after_fork).map ∷ [] }))
+
+child_maps_another_file : IsPromised unforked (Fork 1 2) (Ok Done) (with_slot after_fork 0 (elsewhere (slot_at after_fork 0))) → ⊥
+child_maps_another_file promised = (let wrong : false ≡ true = (promised.forks 0 1 refl).0 in cc)
 
 -- ---- an exit of the child that spends an index of its parent
 

@@ -1,19 +1,15 @@
 -- What is gone after a step.
-use Rattle.std.specs.Prelude.{◌≡◌, ℕ, Option, None, Some, Ok}
+use Rattle.std.specs.Prelude.{◌≡◌, ℕ, false, None, Ok}
 use Rattle.hp_model.specs.declared.step.Step.{Step}
-use Rattle.hp_model.specs.declared.step.Step.TheVariants.{Exit, Umount}
-use Rattle.hp_model.specs.files.Mapping.{is_map}
-use Rattle.hp_model.specs.files.Spot.{Spot, spot}
-use Rattle.hp_model.specs.machine.Plan.{Reply, Slot}
+use Rattle.hp_model.specs.declared.step.Step.TheVariants.{Exit, Umount, Unmap}
+use Rattle.hp_model.specs.machine.Named.{map_named, stays_mapped}
+use Rattle.hp_model.specs.machine.Plan.{Reply}
 use Rattle.hp_model.specs.machine.State.{State, slot_at}
 
--- the map of the task with the number
-abbrev pub map_of : Slot → (task number : ℕ) → Option Spot
-map_of None task number = None
-map_of (Some m) task number = spot m (is_map task number)
-
--- an umount leaves no mount there, and an exit no map of its task on any slot
-abbrev pub IsGone : Step → Reply → State → Type 0
-IsGone (Umount k) (Ok a) t = slot_at t k ≡ None
-IsGone (Exit task) (Ok a) t = (slot number : ℕ) → map_of (slot_at t slot) task number ≡ None
-IsGone step reply t = Unit {0}
+-- an umount leaves no mount there, an exit no map of its task on any slot, and an unmap no map of the number of which no index is left
+abbrev pub IsGone : State → Step → Reply → State → Type 0
+IsGone s (Umount k) (Ok a) t = slot_at t k ≡ None
+IsGone s (Exit task) (Ok a) t = (slot number : ℕ) → map_named t slot task number ≡ None
+IsGone s (Unmap task k number from to) (Ok a) t =
+    stays_mapped (map_named s k task number) from to ≡ false → map_named t k task number ≡ None
+IsGone s step reply t = Unit {0}

@@ -1,6 +1,6 @@
 -- What the machine promises of each step.
-use Rattle.std.specs.Prelude.{◌≡◌, ◌≢◌, ◌⊎◌, ℕ, ◌+◌, ◌<◌, ◌≤◌, ◌&&◌, ◌||◌, ◌==◌, Bool, true, false, not, Option}
-use Rattle.std.specs.Prelude.{None, Some, is_some, option_map, Ok, Err, List, ◌++◌, length, max, take, drop, if◌then◌else◌, nat_le, nat_lt}
+use Rattle.std.specs.Prelude.{◌≡◌, ◌≢◌, ◌⊎◌, ℕ, ◌+◌, ◌<◌, ◌≤◌, ◌&&◌, ◌==◌, Bool, true, false, not, Option}
+use Rattle.std.specs.Prelude.{None, Some, is_some, option_map, Ok, Err, List, ◌++◌, length, max, take, drop, if◌then◌else◌, nat_le}
 use Rattle.std.specs.Bool.{MatchBool}
 use Rattle.std.specs.List.{count_by, filter_map}
 use Rattle.std.specs.Str.{bytes_eq}
@@ -11,9 +11,7 @@ use Rattle.hp_model.specs.declared.event.Event.TheVariants.{Slot as OnSlot}
 use Rattle.hp_model.specs.declared.event.SlotEvent.TheVariants.{Mount as MountEvent}
 use Rattle.hp_model.specs.declared.refusal.Refusal.{Refusal}
 use Rattle.hp_model.specs.declared.refusal.Refusal.TheVariants.{OutOfMemory}
-use Rattle.hp_model.specs.declared.step.Intent.{Intent}
 use Rattle.hp_model.specs.declared.step.Intent.TheVariants.{Read, Write}
-use Rattle.hp_model.specs.declared.place.Place.{Place}
 use Rattle.hp_model.specs.declared.place.Place.TheVariants.{Gone}
 use Rattle.hp_model.specs.declared.step.Reserving.{Reserving}
 use Rattle.hp_model.specs.declared.step.Sharing.{Sharing}
@@ -22,26 +20,30 @@ use Rattle.hp_model.specs.declared.step.Step.TheVariants.{Anon, Attach, Create a
 use Rattle.hp_model.specs.declared.step.Step.TheVariants.{Load, Ls, Map as MapStep, Meminfo, Mount as MountStep, Nodes, Punch as PunchStep}
 use Rattle.hp_model.specs.declared.step.Step.TheVariants.{Read as ReadStep, Stat, Store, Truncate as TruncateStep, Umount, Unlink as UnlinkStep, Unmap as UnmapStep}
 use Rattle.hp_model.specs.machine.Plan.{slot_usage, IsWithinLimit}
-use Rattle.hp_model.specs.files.CopyWrite.{holds}
 use Rattle.hp_model.specs.files.File.{File, cell_at, has_page, is_entered, new_file}
 pub use Rattle.hp_model.specs.files.File.{file_in, map_in}
 use Rattle.hp_model.specs.files.GiveBack.{without_task}
 use Rattle.hp_model.specs.machine.Gone.{IsGone}
+use Rattle.hp_model.specs.machine.Kept.{KeepsOwn, is_on}
+pub use Rattle.hp_model.specs.machine.Lost.{IsLost, IsLostTo, is_same_copy}
 use Rattle.hp_model.specs.machine.Machine.{committed_pages, counts_in, pool_of}
 use Rattle.hp_model.specs.files.MakeMap.{mapped, new_map, reserves}
 pub use Rattle.hp_model.specs.files.Mapping.{no_map}
-use Rattle.hp_model.specs.files.Mapping.{Map, copy_of, is_map, is_mapped, is_shared, place_at, without_range}
+use Rattle.hp_model.specs.files.Mapping.{Map, map_for, copy_of, is_shared, place_at}
+pub use Rattle.hp_model.specs.machine.Named.{is_at, is_in, is_shared_of, map_named, means_file, named_on, spot_on, stays_mapped}
 use Rattle.hp_model.specs.files.MountCounts.{usage_of}
 use Rattle.hp_model.specs.pool.NodeRows.{total_of}
-use Rattle.hp_model.specs.files.Page.{Copy, zeros}
+use Rattle.hp_model.specs.files.Page.{zeros}
 use Rattle.hp_model.specs.machine.Plan.{Reply, Slot}
 use Rattle.hp_model.specs.files.Reserved.{is_reserved}
 use Rattle.hp_model.specs.pool.Resize.{node_counts}
 use Rattle.hp_model.specs.machine.Run.{RunsBy}
 use Rattle.hp_model.specs.machine.Settings.{IsSet, Mounts, only_reads}
+pub use Rattle.hp_model.specs.machine.Short.{is_backed, owns_copy}
+use Rattle.hp_model.specs.machine.Short.{MeetsShortage}
 use Rattle.hp_model.specs.machine.Settled.{AreCounted}
-use Rattle.hp_model.specs.machine.SlotEvent.{bytes_answer, file_named}
-use Rattle.hp_model.specs.files.Spot.{Spot, spot}
+use Rattle.hp_model.specs.machine.SlotEvent.{bytes_answer}
+use Rattle.hp_model.specs.files.Spot.{Spot}
 use Rattle.hp_model.specs.machine.State.{State, slot_at, with_slot}
 use Rattle.hp_model.specs.machine.Step.{IsStep}
 use Rattle.hp_model.specs.machine.Table.{home_of}
@@ -49,25 +51,7 @@ pub use Rattle.hp_model.specs.machine.Tests.{is_cut_off, is_for_pages}
 use Rattle.hp_model.specs.machine.Tests.{MeetsTests}
 use Rattle.hp_model.specs.files.Value.{shown, value}
 
-abbrev pub spot_on : Slot → (task number : ℕ) → Option Spot
-spot_on None task number = None
-spot_on (Some m) task number = spot m (is_map task number)
-
--- the map of the task with the number, if it is there
-abbrev pub map_named : State → (slot task number : ℕ) → Option Spot
-map_named s slot task number = spot_on (slot_at s slot) task number
-
 -- ---- accesses whose page is kept for them
-
--- the owner of a private map has a copy there
-abbrev pub owns_copy : Map → ℕ → Bool
-owns_copy m i = not (is_shared m.sharing) && (m.owner && is_some (copy_of (place_at m i)))
-
--- the index is reserved to the map, or an owner writes into its copy
-abbrev pub is_backed : Intent → Option Spot → ℕ → Bool
-is_backed intent None i = false
-is_backed Read (Some s) i = is_reserved s.file s.map i
-is_backed Write (Some s) i = is_reserved s.file s.map i || owns_copy s.map i
 
 abbrev pub is_backed_step : State → Step → Bool
 is_backed_step s (Fault task slot number i intent) = is_backed intent (map_named s slot task number) i
@@ -105,21 +89,6 @@ shown_in s slot file i = shown_on s.page_size (slot_at s slot) file i
 -- the bytes with others over them from the offset on
 abbrev pub over : (offset : ℕ) → (bytes old : List ℕ) → List ℕ
 over offset bytes old = take offset old ++ bytes ++ drop (offset + length bytes) old
-
-abbrev pub is_shared_of : Option Spot → ℕ → Bool
-is_shared_of None file = false
-is_shared_of (Some s) file = is_shared s.map.sharing && (s.file_no == file)
-
-abbrev pub named_on : Slot → List ℕ → Option (ℕ × File)
-named_on None name = None
-named_on (Some m) name = file_named m name
-
--- the name means that file
-abbrev pub means_file : Slot → List ℕ → (file : ℕ) → Bool
-means_file slot name file = elim (named_on slot name) [ None ↦ false | Some f ↦ f.0 == file ]
-
-abbrev pub is_in : (a b i : ℕ) → Bool
-is_in a b i = nat_le a i && nat_lt i b
 
 -- what the step makes of the bytes there: a store through a shared map of that file writes them, and what is cut off or punched is zeros
 abbrev pub stored_over : State → Step → Reply → (slot file i : ℕ) → List ℕ → List ℕ
@@ -163,11 +132,6 @@ abbrev pub reaches : Option Spot → Map → (file map i : ℕ) → Bool
 reaches None old file map i = false
 reaches (Some s) old file map i = (s.file_no == file) && (if is_shared s.map.sharing then not (is_some (copy_of (place_at old i))) else (s.map_no == map))
 
--- the map of the task with the number stands there
-abbrev pub is_at : Option Spot → (file map : ℕ) → Bool
-is_at None file map = false
-is_at (Some s) file map = (s.file_no == file) && (s.map_no == map)
-
 -- what the step makes of the bytes that a map shows: a store writes them, what is cut off or punched is zeros, and where a map is unmapped
 -- the file is left
 abbrev pub seen_over : State → Step → Reply → (slot file map i : ℕ) → List ℕ → List ℕ
@@ -180,26 +144,6 @@ seen_over s (PunchStep slot name from to) (Ok a) k file map j old =
 seen_over s (UnmapStep task slot number from to) (Ok a) k file map j old =
     if (slot == k) && (is_at (map_named s slot task number) file map && is_in from to j) then shown_in s k file j else old
 seen_over s step reply k file map j old = old
-
-abbrev pub is_same_copy : Place Copy → Place Copy → Bool
-is_same_copy p q = elim (copy_of p) [ None ↦ false | Some copy ↦ holds copy.stamp q ]
-
--- a map held the copy that an owner's map, `own` and then `after`, writes into: at the very index of that write
--- the owner has it still, and the map, which is marked, has none
-pub record IsLost (own after : Map) (i : ℕ) (old new : Map) (j : ℕ) : Type 0 where
-  pub index : j ≡ i
-  pub private : is_shared own.sharing ≡ false
-  pub owner : own.owner ≡ true
-  pub held : is_same_copy (place_at own i) (place_at old j) ≡ true
-  pub kept : is_same_copy (place_at own i) (place_at after i) ≡ true
-  pub lost : copy_of (place_at new j) ≡ None
-  pub marked : new.unmapped ≡ true
-
--- another map of the owner's file, p before and q after, has lost its copy to it
-abbrev pub IsLostTo : (owner after : Option Spot) → (i : ℕ) (p q : Spot) (j : ℕ) → Type 0
-IsLostTo (Some o) (Some a) i p q j =
-    (o.file_no ≡ p.file_no) × IsLost o.map a.map i p.map q.map j × (p.map_no ≡ o.map_no → ⊥)
-IsLostTo owner after i p q j = ⊥
 
 -- the copy went to the map of the task with the number, as it was and is
 abbrev pub IsTakenBy : State → State → (slot task number i : ℕ) (p q : Spot) (j : ℕ) → Type 0
@@ -223,11 +167,6 @@ is_unmounted step reply slot = false
 abbrev pub is_ended_name : Step → Reply → (slot : ℕ) → List ℕ → Bool
 is_ended_name (UnlinkStep k gone) (Ok a) slot name = (k == slot) && bytes_eq gone name
 is_ended_name step reply slot name = is_unmounted step reply slot
-
--- whether an index of the map stays mapped
-abbrev pub stays_mapped : Option Spot → (from to : ℕ) → Bool
-stays_mapped None from to = false
-stays_mapped (Some s) from to = is_mapped (without_range from to s.map)
 
 -- the number was ended by this step: its last index was unmapped, its task left, its mount went; or a fork ended the child's old maps
 abbrev pub is_ended_number : State → Step → Reply → (slot task number : ℕ) → Bool
@@ -382,10 +321,12 @@ Ranges s step reply t = Unit {0}
 
 -- ---- what an unmap leaves
 
--- the map, p before and q after, has its places as they were, copies and reservations with them, but for those that are cut; its file has all its cells
+-- the map, p before and q after, has its places as they were, copies and reservations with them, but for those that are cut; its file has
+-- all its cells, and it is marked just where it was
 abbrev pub IsCutTo : (cut : Bool) → (from to : ℕ) → (p q : Spot) → Type 0
 IsCutTo cut from to p q =
     ((i : ℕ) → place_at q.map i ≡ (if cut && is_in from to i then Gone else place_at p.map i)) × (q.file.cells ≡ p.file.cells)
+    × (q.map.unmapped ≡ p.map.unmapped)
 
 -- an unmap cuts the range from the map that it names, and nothing from any other
 abbrev pub Unmaps : State → Step → Reply → State → Type 0
@@ -393,6 +334,22 @@ Unmaps s (UnmapStep owner k gone from to) (Ok a) t =
     (task number : ℕ) (p : Spot) → is_ended_number s (UnmapStep owner k gone from to) (Ok a) k task number ≡ false → map_named s k task number ≡ Some p
     → (q : Spot) × (map_named t k task number ≡ Some q) × IsCutTo ((task == owner) && (number == gone)) from to p q
 Unmaps s step reply t = Unit {0}
+
+-- ---- the child of a fork
+
+-- the child's map by a number, of the same file as its parent's: as that was, with its range, copies and mark, and owner of nothing;
+-- and none where its parent has none
+abbrev pub IsChildOf : (child : ℕ) (was parents childs : Option Spot) → Type 0
+IsChildOf child None parents childs = childs ≡ None
+IsChildOf child (Some p) parents childs =
+    SameFiles true parents childs × ((q : Spot) × (childs ≡ Some q) × (q.map ≡ map_for child p.map))
+
+-- a child that had no map has those of its parent
+abbrev pub Forks : State → Step → Reply → State → Type 0
+Forks s (Fork parent child) (Ok a) t =
+    (slot number : ℕ) → map_named s slot child number ≡ None
+    → IsChildOf child (map_named s slot parent number) (map_named t slot parent number) (map_named t slot child number)
+Forks s step reply t = Unit {0}
 
 -- ---- what a fork and an exit leave
 
@@ -504,12 +461,21 @@ pub record IsPromised (s : State) (step : Step) (reply : Reply) (t : State) : Ty
   pub unmaps : Unmaps s step reply t
   -- a fork and an exit leave every map of other tasks as it was
   pub whole : LeavesWhole s step t
-  -- what a step ends is gone: a mount, and a task's maps
-  pub gone : IsGone step reply t
+  -- a fork gives the child the maps of its parent, on every slot
+  pub forks : Forks s step reply t
+  -- what a step ends is gone: a mount, a task's maps, and the number of a map that is all unmapped
+  pub gone : IsGone s step reply t
   -- a step that only reads leaves all files, maps and reservations as they were
   pub reads : only_reads step ≡ true → t.slots ≡ s.slots
+  -- on its own slot a step leaves the places of all maps and the cells of all files as they were, what is reserved with them, but for
+  -- what it reaches; and it marks only maps that lose a copy
+  pub kept : KeepsOwn s step reply t
+  -- a step leaves every slot that it is not on as it was
+  pub elsewhere : (slot : ℕ) → is_on step slot ≡ false → slot_at t slot ≡ slot_at s slot
   -- a step is refused by the first of its tests that fails; where none fails, and there are pages and memory, it is done
   pub tests : MeetsTests s step reply
+  -- one that is refused for want of pages lacks what it asks for, in its mount or in the pool
+  pub short : MeetsShortage s step reply
 
 -- these steps may be refused memory: one that makes a file, a map or a list of names, a fork, and an access that nothing backs
 abbrev pub takes_memory : State → Step → Bool
