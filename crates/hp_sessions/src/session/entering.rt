@@ -51,6 +51,7 @@ impl<'a, N: Naming, R: Wait, G: Gate, const K: usize> Session<'a, N, R, G, K> {
     }
 
     // An event of the task table where no entries are kept: what it answers.
+    #[inline(always)]
     pub(super) fn enter_table_unnoted(&self, event: TableEvent) -> TableTold
         requires { (K == 1) ≡ false }
         ensures { IsHanded (K == 1) N.page_bytes (OnTasks event) (table_reply result) None }
@@ -113,6 +114,7 @@ impl<'a, N: Naming, R: Wait, G: Gate, const K: usize> Session<'a, N, R, G, K> {
     }
 
     // An event of the mount of a slot where no entries are kept.
+    #[inline(always)]
     pub(super) fn enter_slot_unnoted<'b>(
         &self,
         at: usize,

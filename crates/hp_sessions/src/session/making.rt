@@ -26,6 +26,7 @@ use std::sync::Wait;
 
 impl<'a, N: Naming, R: Wait, G: Gate, const K: usize> Session<'a, N, R, G, K> {
     // An event of the task table.
+    #[inline(always)]
     pub(super) fn make_table(&mut self, event: TableEvent) -> TableTold
         requires { HasRoom (K == 1) 1 self.old }
         ensures made { IsMade (K == 1) N.page_bytes self.old (OnTasks event) (table_reply result)
@@ -50,6 +51,7 @@ impl<'a, N: Naming, R: Wait, G: Gate, const K: usize> Session<'a, N, R, G, K> {
     }
 
     // The home of a task; or why it isn't there, which is then the step's reply.
+    #[inline(never)]
     pub(super) fn find(&mut self, task: u64) -> Result<u64, Refusal>
         requires { HasRoom (K == 1) 1 self.old }
         ensures found { IfOk result (λ home. (f : ℕ → Script) →
@@ -66,6 +68,7 @@ impl<'a, N: Naming, R: Wait, G: Gate, const K: usize> Session<'a, N, R, G, K> {
     }
 
     // The same where no entries are kept.
+    #[inline(always)]
     pub(super) fn find_unnoted(&mut self, task: u64) -> Result<u64, Refusal>
         requires { (K == 1) ≡ false }
         ensures found { IfOk result (λ home. (f : ℕ → Script) →
@@ -82,6 +85,7 @@ impl<'a, N: Naming, R: Wait, G: Gate, const K: usize> Session<'a, N, R, G, K> {
     }
 
     // An event of the mount of a slot, if there is one of that number.
+    #[inline(never)]
     pub(super) fn make_slot<'b>(
         &mut self,
         slot: u64,
@@ -111,6 +115,7 @@ impl<'a, N: Naming, R: Wait, G: Gate, const K: usize> Session<'a, N, R, G, K> {
     }
 
     // The same where no entries are kept.
+    #[inline(always)]
     pub(super) fn make_slot_unnoted<'b>(
         &mut self,
         slot: u64,
