@@ -80,6 +80,17 @@ impl<'a, N: Naming, R: Wait, G: Gate, const K: usize> Session<'a, N, R, G, K> {
         }
     }
 
+    // An event of the pool alone where no entries are kept.
+    pub(super) fn enter_pool_unnoted(&self, event: PoolEvent) -> Result<Told<'static>, Refusal>
+        requires unkept { (K == 1) ≡ false }
+        ensures handed { IsHanded (K == 1) N.page_bytes (OnPool event) (told_reply result) None }
+        ensures limits { IsWithinLimits (told_reply result) }
+    {
+        let shared = self.shared;
+        let told = shared.core.lock(self.rt).event_unnoted(event);
+        told.told()
+    }
+
     // An event of the mount of a slot.
     pub(super) fn enter_slot<'b>(
         &self,

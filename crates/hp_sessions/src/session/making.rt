@@ -26,13 +26,15 @@ use std::sync::Wait;
 
 impl<'a, N: Naming, R: Wait, G: Gate, const K: usize> Session<'a, N, R, G, K> {
     // An event of the task table.
-    #[inline(always)]
     pub(super) fn make_table(&mut self, event: TableEvent) -> TableTold
         requires { HasRoom (K == 1) 1 self.old }
         ensures made { IsMade (K == 1) N.page_bytes self.old (OnTasks event) (table_reply result)
             self.new }
         ensures grows { Grows 1 self.old self.new }
     {
+        if K != 1 {
+            return self.enter_table_unnoted(event);
+        }
         let (told, receipt) = self.enter_table(event);
         self.add(receipt);
         told
@@ -45,6 +47,9 @@ impl<'a, N: Naming, R: Wait, G: Gate, const K: usize> Session<'a, N, R, G, K> {
             self.new }
         ensures limits { IsWithinLimits (told_reply result) }
     {
+        if K != 1 {
+            return self.enter_pool_unnoted(event);
+        }
         let (told, receipt) = self.enter_pool(event);
         self.add(receipt);
         told

@@ -18,6 +18,7 @@ use super::notes::{Copies, copies, twice};
 use crate::work::{Work, most_receipts, work_of};
 use hp_locked::Gate;
 use hp_model::answer::Reply;
+use hp_model::event::TableEvent;
 use hp_model::naming::Naming;
 use hp_model::refusal::Refusal;
 use hp_model::service::Access;
@@ -50,6 +51,27 @@ impl<'a, N: Naming, R: Wait, G: Gate, const K: usize> Session<'a, N, R, G, K> {
             self.new }
         ensures limits { IsWithinLimits (told_reply result) }
     {
+        if let Step::Attach { task } = step
+            && K != 1
+        {
+            return table_told(self.make_table(TableEvent::Find { task: *task }));
+        }
+        if let Step::Fault {
+            task,
+            slot,
+            map,
+            index,
+            intent,
+        } = step
+        {
+            let event = MountEvent::Fault {
+                task: *task,
+                map: *map,
+                index: *index,
+                intent: *intent,
+            };
+            return self.of_task(*task, *slot, event, room);
+        }
         let work = work_of(step);
         self.do_work(&work, room)
     }
@@ -95,7 +117,7 @@ impl<'a, N: Naming, R: Wait, G: Gate, const K: usize> Session<'a, N, R, G, K> {
     }
 
     // What a step asks of which part.
-    #[inline(always)]
+    #[inline(never)]
     fn do_work<'b>(&mut self, work: &Work<'_>, room: &'b mut [u8]) -> Result<Told<'b>, Refusal>
         requires room { 256 ≤ length room.old }
         requires apart { IsApart work.now }
