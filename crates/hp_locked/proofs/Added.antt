@@ -15,7 +15,7 @@ use Rattle.hp_pool.specs.Sums.{idle_pool}
 use Rattle.std.proofs.lemmas.Bool.{lt-ltb, ltb-true}
 use Rattle.hp_mount_door.specs.Door.{IsReady, GivesBack, by_node}
 use Rattle.std.specs.List.{sum}
-use Rattle.std.specs.Prelude.{IfSome, IfNone, ◌+◌, ◌*◌, ◌<◌, ◌≤◌}
+use Rattle.std.specs.Prelude.{IfSome, IfNone, is_some, ◌+◌, ◌*◌, ◌<◌, ◌≤◌}
 use Rattle.hp_model.specs.files.Page.{Page}
 use Rattle.hp_model.specs.declared.entry.Asked.{Asked}
 use Rattle.hp_model.specs.declared.section.Section.TheVariants.{GiveBack}
@@ -211,3 +211,14 @@ event_ready p q e r step ready is =
 
 pub set_ready : (p q : Pool) (n : ℕ) → q ≡ set_nr n p → IsReady p → IsSettled q → IsReady q
 set_ready p q n is ready = event_ready p q (Nr n) (Ok (Number (set_nr n p).nr)) (ap (λ (x : Pool). (Ok (Number (set_nr n p).nr), x)) (sym is)) ready
+
+-- where no entries are kept
+pub unnoted : (o : Option (List PoolEntry)) (e : PoolEntry) → is_some o ≡ false → o ≡ added o e
+unnoted None e unkept = refl
+unnoted (Some es) e unkept = cc
+
+pub unnoted_stays : (start : Pool) (o : Option (List PoolEntry)) (left : Option ℕ) (extra : ℕ) (p : Pool) (e : PoolEntry) (q : Pool) → IsCore start o left extra p → IsPoolStep p e q →
+    IsReady q → (IsSettled q → IsSettledPool q) → is_some o ≡ false → left ≡ None → IsCore start o left extra q
+unnoted_stays start o left extra p e q core step ready law unkept uncounted =
+    entry_noted start o o left left extra extra p e q core (unnoted o e unkept) (uncounted ∙ sym (ap one_less uncounted)) refl step ready law
+    (ap (λ (l : Option ℕ). has_room false l extra) uncounted)

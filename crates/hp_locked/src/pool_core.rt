@@ -279,6 +279,18 @@ impl<N: Naming, T: Trail<PoolEntry>> Core<N, T> {
         let receipt = note_event(trail, event, told);
         Ok((told, receipt))
     }
+
+    /// An event of the pool alone where no entries are kept: its answer. There is no receipt.
+    pub fn event_unnoted(&mut self, event: PoolEvent) -> PoolTold
+        requires unkept { T.keeps ≡ false }
+        ensures done { IsPoolEventDone self.old self.new event (pool_reply result) }
+        ensures limits { IsWithinLimits (pool_reply result) }
+    {
+        let Core { pool, trail: _ } = self;
+        let told = answered(pool, event);
+        pool.law();
+        told
+    }
 }
 
 // The share of a mount with these options, with its section and the pool's answer.

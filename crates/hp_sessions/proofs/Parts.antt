@@ -9,7 +9,8 @@ use Rattle.hp_model.specs.declared.entry.Part.{Part}
 use Rattle.hp_model.specs.declared.entry.Receipt.{Receipt}
 use Rattle.hp_model.specs.declared.entry.SlotEntry.{SlotEntry}
 use Rattle.hp_model.specs.declared.event.Event.{Event}
-use Rattle.hp_model.specs.declared.event.Event.TheVariants.{Slot as OnSlot}
+use Rattle.hp_model.specs.declared.event.Event.TheVariants.{Pool as OnPool, Slot as OnSlot}
+use Rattle.hp_model.specs.declared.event.PoolEvent.{PoolEvent}
 use Rattle.hp_model.specs.declared.event.SlotEvent.{SlotEvent}
 use Rattle.hp_model.specs.declared.event.SlotEvent.TheVariants as slot
 use Rattle.hp_model.specs.declared.event.TableEvent.{TableEvent}
@@ -38,7 +39,8 @@ use Rattle.hp_laws.proofs.Shown.{On}
 use Rattle.hp_laws.proofs.SlotShows.{always_value}
 use Rattle.hp_locked.specs.declared.pool_told.PoolTold.{PoolTold}
 use Rattle.hp_locked.specs.declared.pool_told.PoolTold.TheVariants as pool
-use Rattle.hp_locked.specs.Told.{IsReceipt, pool_reply}
+use Rattle.hp_locked.specs.Told.{IsPoolEventDone, IsReceipt, pool_reply}
+use Rattle.hp_locked.specs.Views.{CoreView}
 use Rattle.hp_mount.specs.declared.event.MountEvent.{MountEvent}
 use Rattle.hp_mount.specs.declared.event.MountEvent.TheVariants as m
 use Rattle.hp_mount.specs.Event.{event_of}
@@ -118,6 +120,10 @@ pool_open pool.TooMuch = refl
 pool_open (pool.Number n) = refl
 pool_open (pool.Numbers counts) = refl
 pool_open (pool.PerNode nodes rows) = refl
+
+-- an event of the pool that was done could be answered so
+pub pool_can : (size : ℕ) (old new : CoreView) (e : PoolEvent) (reply : Reply) → IsPoolEventDone old new e reply → CanAnswer size (OnPool e) reply
+pool_can size old new e reply done = (old.pool, new.pool, done.changes)
 
 -- ---- a slot
 

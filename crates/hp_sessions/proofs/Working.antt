@@ -3,7 +3,11 @@ use Rattle.std.proofs.Common.{◌≡◌, ◌+◌, ◌<◌, ◌≤◌, ℕ, List,
 use denote.Ref.{Bor}
 use Rattle.hp_model.specs.declared.refusal.Refusal.TheVariants.{OutOfMemory, TraceFull}
 use Rattle.hp_model.specs.declared.service.Access.{Access}
+use Rattle.hp_model.specs.declared.event.Event.TheVariants.{Tasks as OnTasks}
+use Rattle.hp_model.specs.declared.event.TableEvent.TheVariants.{Find}
+use Rattle.hp_model.specs.declared.step.Intent.{Intent}
 use Rattle.hp_model.specs.declared.step.Step.{Step}
+use Rattle.hp_model.specs.declared.step.Step.TheVariants.{Attach, Fault}
 use Rattle.hp_model.specs.machine.Accesses.{load_step, store_step}
 use Rattle.hp_mount.specs.declared.event.MountEvent.TheVariants as m
 use Rattle.hp_model.specs.machine.Plan.{Reply}
@@ -11,9 +15,9 @@ use Rattle.hp_model.specs.machine.Step.{script}
 use Rattle.hp_model.specs.threads.Telling.{most_receipts}
 use Rattle.hp_sessions.specs.declared.work.Work.{Work}
 use Rattle.hp_sessions.specs.declared.work.Work.TheVariants.{OfTask}
-use Rattle.hp_sessions.specs.Calls.{Carries, HasRoom, IsAnswered, IsRefusedFirst, SessionView}
+use Rattle.hp_sessions.specs.Calls.{Carries, HasRoom, IsAnswered, IsMade, IsRefusedFirst, SessionView}
 use Rattle.hp_sessions.specs.Works.{IsRefusedWork, IsWork, IsWorked, work_carries, work_receipts, work_script}
-use Rattle.hp_sessions.proofs.Carrying.{answered, refused_first}
+use Rattle.hp_sessions.proofs.Carrying.{answered, only_made, refused_first}
 
 -- what was done of the work is what was done of the step
 pub step_answered : (kept : Bool) (size : ℕ) (s t : SessionView) (step : Step) (w : Work) (reply : Reply) → IsWork step w → IsWorked kept size s w reply t → IsAnswered kept size s step reply t
@@ -52,3 +56,16 @@ pub store_worked : (kept : Bool) (size : ℕ) (s t : SessionView) (a : Access) (
 store_worked kept size s t a bytes reply done =
     step_answered kept size s t (store_step a bytes.now) (OfTask a.task a.slot (m.Store a.task a.map a.index a.offset bytes)) reply
     (record { script = λ n. refl; receipts = λ n. refl; carries = refl; apart = refl }) done
+
+-- ---- a fault, and a look-up where no entries are kept
+
+pub fault_worked : (kept : Bool) (size : ℕ) (s t : SessionView) (task k number index : ℕ) (intent : Intent) (reply : Reply) →
+    IsWorked kept size s (OfTask task k (m.Fault task number index intent)) reply t → IsAnswered kept size s (Fault task k number index intent) reply t
+fault_worked kept size s t task k number index intent reply done =
+    step_answered kept size s t (Fault task k number index intent) (OfTask task k (m.Fault task number index intent)) reply
+    (record { script = λ n. refl; receipts = λ n. refl; carries = refl; apart = refl }) done
+
+pub attach_answered : (kept : Bool) (size : ℕ) (s t : SessionView) (task : ℕ) (reply : Reply) → kept ≡ false → IsMade kept size s (OnTasks (Find task)) reply t →
+    IsAnswered kept size s (Attach task) reply t
+attach_answered kept size s t task reply unkept made =
+    answered kept size s t (Attach task) reply (λ is. (let none = sym is ∙ unkept in cc)) (only_made kept size s t (OnTasks (Find task)) reply made)

@@ -45,6 +45,7 @@ pub(crate) enum Work<'x> {
 }
 
 // What a step asks.
+#[inline(always)]
 pub(crate) fn work_of<'x>(step: &Step<'x>) -> Work<'x>
     ensures { IsWork step.now result }
 {

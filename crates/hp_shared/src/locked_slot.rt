@@ -179,6 +179,7 @@ impl<N: Naming, T: Trail<SlotEntry>> Slot<N, T> {
 
     /// An event of a mount but a list of names, where no entries are kept: its reply, with bytes in the front of the room. There
     /// is no receipt. (An `event` hands back room for one, which costs more than a load.)
+    #[inline(always)]
     pub fn event_unnoted<
         'a,
         D: SessionDoor<Share = Subpool<N>, Page = Page<N>, Going = PageStore<N>>,

@@ -26,6 +26,7 @@ use hp_store::PageStore;
 use hp_subpool::Subpool;
 
 // What an event asks of a slot, through a door that was not used.
+#[inline(always)]
 pub(crate) fn act<
     'a,
     N: Naming,

@@ -116,6 +116,7 @@ impl<N: Naming, T: Trail<TableEntry>> Table<N, T> {
     }
 
     /// An event of the table where no entries are kept: its answer. There is no receipt.
+    #[inline(always)]
     pub fn event_unnoted(&mut self, event: TableEvent) -> TableTold
         requires unkept { T.keeps ≡ false }
         ensures done { IsTableEventDone (length (frames_list N.frames)) self.old self.new event
@@ -151,6 +152,7 @@ fn removes(tasks: &TaskTable, event: TableEvent) -> bool
 }
 
 // What the table answers to an event.
+#[inline(always)]
 fn answered(tasks: &mut TaskTable, nodes: u64, event: TableEvent) -> TableTold
     ensures { table_event nodes tasks.old event ≡ (table_reply result, tasks.new) }
 {

@@ -51,6 +51,7 @@ impl<'a, N: Naming, R: Wait, G: Gate, const K: usize> Session<'a, N, R, G, K> {
     }
 
     // An event of the task table where no entries are kept: what it answers.
+    #[inline(always)]
     pub(super) fn enter_table_unnoted(&self, event: TableEvent) -> TableTold
         requires { (K == 1) ≡ false }
         ensures { IsHanded (K == 1) N.page_bytes (OnTasks event) (table_reply result) None }
@@ -77,6 +78,17 @@ impl<'a, N: Naming, R: Wait, G: Gate, const K: usize> Session<'a, N, R, G, K> {
             Err(_full) => (Err(Refusal::TraceFull), None),
             Ok((told, receipt)) => (told.told(), receipt),
         }
+    }
+
+    // An event of the pool alone where no entries are kept.
+    pub(super) fn enter_pool_unnoted(&self, event: PoolEvent) -> Result<Told<'static>, Refusal>
+        requires unkept { (K == 1) ≡ false }
+        ensures handed { IsHanded (K == 1) N.page_bytes (OnPool event) (told_reply result) None }
+        ensures limits { IsWithinLimits (told_reply result) }
+    {
+        let shared = self.shared;
+        let told = shared.core.lock(self.rt).event_unnoted(event);
+        told.told()
     }
 
     // An event of the mount of a slot.
@@ -113,6 +125,7 @@ impl<'a, N: Naming, R: Wait, G: Gate, const K: usize> Session<'a, N, R, G, K> {
     }
 
     // An event of the mount of a slot where no entries are kept.
+    #[inline(always)]
     pub(super) fn enter_slot_unnoted<'b>(
         &self,
         at: usize,

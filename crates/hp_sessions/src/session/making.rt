@@ -32,6 +32,9 @@ impl<'a, N: Naming, R: Wait, G: Gate, const K: usize> Session<'a, N, R, G, K> {
             self.new }
         ensures grows { Grows 1 self.old self.new }
     {
+        if K != 1 {
+            return self.enter_table_unnoted(event);
+        }
         let (told, receipt) = self.enter_table(event);
         self.add(receipt);
         told
@@ -44,12 +47,16 @@ impl<'a, N: Naming, R: Wait, G: Gate, const K: usize> Session<'a, N, R, G, K> {
             self.new }
         ensures limits { IsWithinLimits (told_reply result) }
     {
+        if K != 1 {
+            return self.enter_pool_unnoted(event);
+        }
         let (told, receipt) = self.enter_pool(event);
         self.add(receipt);
         told
     }
 
     // The home of a task; or why it isn't there, which is then the step's reply.
+    #[inline(never)]
     pub(super) fn find(&mut self, task: u64) -> Result<u64, Refusal>
         requires { HasRoom (K == 1) 1 self.old }
         ensures found { IfOk result (λ home. (f : ℕ → Script) →
@@ -66,6 +73,7 @@ impl<'a, N: Naming, R: Wait, G: Gate, const K: usize> Session<'a, N, R, G, K> {
     }
 
     // The same where no entries are kept.
+    #[inline(always)]
     pub(super) fn find_unnoted(&mut self, task: u64) -> Result<u64, Refusal>
         requires { (K == 1) ≡ false }
         ensures found { IfOk result (λ home. (f : ℕ → Script) →
@@ -82,6 +90,7 @@ impl<'a, N: Naming, R: Wait, G: Gate, const K: usize> Session<'a, N, R, G, K> {
     }
 
     // An event of the mount of a slot, if there is one of that number.
+    #[inline(never)]
     pub(super) fn make_slot<'b>(
         &mut self,
         slot: u64,
@@ -111,6 +120,7 @@ impl<'a, N: Naming, R: Wait, G: Gate, const K: usize> Session<'a, N, R, G, K> {
     }
 
     // The same where no entries are kept.
+    #[inline(always)]
     pub(super) fn make_slot_unnoted<'b>(
         &mut self,
         slot: u64,

@@ -18,6 +18,7 @@ use super::notes::{Copies, copies, twice};
 use crate::work::{Work, most_receipts, work_of};
 use hp_locked::Gate;
 use hp_model::answer::Reply;
+use hp_model::event::TableEvent;
 use hp_model::naming::Naming;
 use hp_model::refusal::Refusal;
 use hp_model::service::Access;
@@ -50,6 +51,27 @@ impl<'a, N: Naming, R: Wait, G: Gate, const K: usize> Session<'a, N, R, G, K> {
             self.new }
         ensures limits { IsWithinLimits (told_reply result) }
     {
+        if let Step::Attach { task } = step
+            && K != 1
+        {
+            return table_told(self.make_table(TableEvent::Find { task: *task }));
+        }
+        if let Step::Fault {
+            task,
+            slot,
+            map,
+            index,
+            intent,
+        } = step
+        {
+            let event = MountEvent::Fault {
+                task: *task,
+                map: *map,
+                index: *index,
+                intent: *intent,
+            };
+            return self.of_task(*task, *slot, event, room);
+        }
         let work = work_of(step);
         self.do_work(&work, room)
     }
@@ -95,6 +117,7 @@ impl<'a, N: Naming, R: Wait, G: Gate, const K: usize> Session<'a, N, R, G, K> {
     }
 
     // What a step asks of which part.
+    #[inline(never)]
     fn do_work<'b>(&mut self, work: &Work<'_>, room: &'b mut [u8]) -> Result<Told<'b>, Refusal>
         requires room { 256 ≤ length room.old }
         requires apart { IsApart work.now }
@@ -133,6 +156,7 @@ impl<'a, N: Naming, R: Wait, G: Gate, const K: usize> Session<'a, N, R, G, K> {
     }
 
     // An event of a mount, for a task that is looked up first.
+    #[inline(always)]
     fn of_task<'b>(
         &mut self,
         task: u64,
@@ -164,6 +188,7 @@ impl<'a, N: Naming, R: Wait, G: Gate, const K: usize> Session<'a, N, R, G, K> {
     }
 
     // An event of a mount where no entries are kept.
+    #[inline(always)]
     fn on_slot_unnoted<'b>(
         &mut self,
         slot: u64,
@@ -181,6 +206,7 @@ impl<'a, N: Naming, R: Wait, G: Gate, const K: usize> Session<'a, N, R, G, K> {
     }
 
     // An event of a mount for a task, where no entries are kept: nothing is copied, and there is no receipt to move.
+    #[inline(always)]
     fn of_task_unnoted<'b>(
         &mut self,
         task: u64,
@@ -204,6 +230,7 @@ impl<'a, N: Naming, R: Wait, G: Gate, const K: usize> Session<'a, N, R, G, K> {
     }
 
     // Whether there is no room for so many receipts, where they are kept.
+    #[inline(always)]
     fn lacks(&self, receipts: usize) -> bool
         ensures { MatchBool result
             (((K == 1) ≡ true) × (self.now.room < length self.now.receipts + receipts))
@@ -213,6 +240,7 @@ impl<'a, N: Naming, R: Wait, G: Gate, const K: usize> Session<'a, N, R, G, K> {
     }
 
     // Copies of what an event carries, where entries are kept.
+    #[inline(always)]
     fn copies(&self, event: &MountEvent<'_>) -> Result<Option<Copies>, AllocError>
         ensures copies { IfOk result (λ c. (K == 1) ≡ true →
             AreCopies (bytes_of (event_of 0 event.now)) c) }
@@ -253,6 +281,7 @@ fn whole(told: Result<Told<'_>, Refusal>) -> Reply
 }
 
 // The bytes of a load's reply.
+#[inline(always)]
 fn into_bytes<'b>(told: Result<Told<'b>, Refusal>) -> Result<&'b [u8], Refusal>
     requires bytes { IfOk told (λ told. IsBytes (told_answer told)) }
     requires limits { IsWithinLimits (told_reply told) }
@@ -267,6 +296,7 @@ fn into_bytes<'b>(told: Result<Told<'b>, Refusal>) -> Result<&'b [u8], Refusal>
 }
 
 // That a store is done.
+#[inline(always)]
 fn into_done(told: Result<Told<'_>, Refusal>) -> Result<(), Refusal>
     requires { IfOk told (λ told. told_answer told ≡ Done) }
     ensures { done_reply result ≡ told_reply told.entry }
@@ -278,6 +308,7 @@ fn into_done(told: Result<Told<'_>, Refusal>) -> Result<(), Refusal>
 }
 
 // What an event of the task table answers.
+#[inline(always)]
 fn table_told(told: TableTold) -> Result<Told<'static>, Refusal>
     ensures reply { told_reply result ≡ table_reply told }
     ensures limits { IsWithinLimits (told_reply result) }
