@@ -2,9 +2,9 @@
 #![tactic(auto)]
 
 #[cfg(test)]
-mod full;
-#[cfg(test)]
 mod gate;
+#[cfg(test)]
+mod lines;
 #[cfg(test)]
 mod over_tcp;
 #[cfg(test)]

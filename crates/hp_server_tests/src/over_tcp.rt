@@ -30,13 +30,16 @@ const STARTED: &[u8] = b"ok 4\nok\nok\nok\nok\nok\nok\nok 1\nok 1\n";
 // Of a page on each of the two slots, what the other session is told once it stored: of the first either nothing was done
 // yet, or its section was.
 const HELD_AT_THE_SLOT: &[u8] =
-    b"ok\ntext 6\nHugePages_Total:       4\nHugePages_Free:        3\nHugePages_Rsvd:        1\n";
+    b"ok\ntext 6\nHugePages_Total:       4\nHugePages_Free:        3\nHugePages_Rsvd:        1\n\
+HugePages_Surp:        0\nHugepagesize:          1 kB\nHugetlb:               4 kB\n";
 
 const HELD_AT_THE_NODE: &[u8] =
-    b"ok\ntext 6\nHugePages_Total:       4\nHugePages_Free:        2\nHugePages_Rsvd:        0\n";
+    b"ok\ntext 6\nHugePages_Total:       4\nHugePages_Free:        2\nHugePages_Rsvd:        0\n\
+HugePages_Surp:        0\nHugepagesize:          1 kB\nHugetlb:               4 kB\n";
 
 const BOTH_STORED: &[u8] =
-    b"text 6\nHugePages_Total:       4\nHugePages_Free:        2\nHugePages_Rsvd:        0\n";
+    b"text 6\nHugePages_Total:       4\nHugePages_Free:        2\nHugePages_Rsvd:        0\n\
+HugePages_Surp:        0\nHugepagesize:          1 kB\nHugetlb:               4 kB\n";
 
 const AT_THE_END: &[u8] =
     b"audit ok\nHugePages_Total:       4\nHugePages_Free:        4\nHugePages_Rsvd:        0\n";

@@ -1,4 +1,4 @@
-//! Sessions whose trails or rooms are full.
+//! One session's lines: where trails or its room are full, and with maps on several slots.
 ghost use Rattle.std.specs.Prelude.{◌≡◌, ◌≤◌, ◌∷◌, []};
 ghost use Rattle.hp_nodes.specs.Ledgers.{AreFrames};
 ghost use Rattle.hp_pool.specs.Ledgers.{AreLedgers};
@@ -52,7 +52,7 @@ fn closed<N: Naming, R: Wait + Abort>(
     requires places { places ≤ 16777216 }
 {
     let shared = Shared::<N, 1>::new(alloc, &[4, 4], 1024, 4, places, blanks).expect(rt, "memory");
-    let told = answered(rt, alloc, &shared, 16, lines, replies);
+    let told = answered(rt, alloc, &shared, 100, lines, replies);
     let count = told.len();
     let mut all = Vec::with_capacity(alloc, 1).expect(rt, "memory");
     all.push_reserved(told);
@@ -117,4 +117,25 @@ error 23 TraceFull\nerror 23 TraceFull\nok\n",
 fn a_full_room_refuses_before_the_first_event(rt: HostRuntime) {
     let blanks = Blanks::new(rt.alloc(), &[4, 4], 1024).expect(&rt, "memory");
     same!(rt; full_room::<Brand, HostRuntime>(&rt, rt.alloc(), blanks), 2);
+}
+
+#[test]
+fn a_fork_and_an_exit_pass_all_slots(rt: HostRuntime) {
+    let blanks = Blanks::new(rt.alloc(), &[4, 4], 1024).expect(&rt, "memory");
+    let (_receipts, left) = closed::<Brand, HostRuntime>(
+        &rt,
+        rt.alloc(),
+        blanks,
+        100,
+        b"nr 8\nconnect 1 0\nmount 1 -\nmount 3 -\ncreate 0 a\ncreate 1 a\ncreate 3 a\n\
+map 1 0 a 0 1 private\nmap 1 1 a 0 1 private\nmap 1 3 a 0 1 private\n\
+store 1 0 1 0 0 a0\nstore 1 1 1 0 0 a1\nstore 1 3 1 0 0 a3\n\
+fork 1 2\nstat 0 a\nstat 1 a\nstat 3 a\nexit 1\nstat 0 a\nstat 1 a\nstat 3 a\n\
+load 2 0 1 0 0 1\nload 2 1 1 0 0 1\nload 2 3 1 0 0 1\nexit 2\nstat 0 a\nstat 1 a\nstat 3 a\n",
+        b"ok 8\nok\nok\nok\nok\nok\nok\nok 1\nok 1\nok 1\nok\nok\nok\n\
+ok\nok 1 0 0 2\nok 1 0 0 2\nok 1 0 0 2\nok\nok 1 0 0 1\nok 1 0 0 1\nok 1 0 0 1\n\
+ok a0\nok a1\nok a3\nok\nok 1 0 0 0\nok 1 0 0 0\nok 1 0 0 0\n",
+    );
+    same!(rt; left.audit, Some(true));
+    same!(rt; [left.counts.total, left.counts.free, left.counts.rsvd], [8, 8, 0]);
 }
