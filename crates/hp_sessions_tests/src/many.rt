@@ -44,7 +44,10 @@ fn start<N: Naming, R: Wait + Abort, const K: usize>(
     let _pages = session.call(&Step::Nr { pages: 5 });
     let _file = session.call(&Step::Create { slot: 0, name });
     for task in 1..TASKS + 1 {
-        let _task = session.call(&Step::Connect { task, home: task % 2 });
+        let _task = session.call(&Step::Connect {
+            task,
+            home: task % 2,
+        });
         let _map = session.call(&Step::Map {
             task,
             slot: 0,
