@@ -120,18 +120,12 @@ fn row<
     let mut connections = Listening::new(listener, Vec::new(alloc));
     let hold = Hold::new(rt, place);
     let mut output = Vec::new(alloc);
-    let (told, status) = join(
-        rt,
-        || clients(rt, at, &hold, meanwhile),
-        || serves::<N, R, Listening<Vec<u8>>>(
-            rt,
-            alloc,
-            blanks,
-            &hold,
-            &mut connections,
-            &mut output,
-        ),
-    );
+    let serving = ||
+        requires ledgers { AreLedgers N.Naming blanks }
+        requires frames { AreFrames N.frames (4 ∷ 4 ∷ []) }
+        requires bytes { N.page_bytes ≡ 1024 }
+    { serves::<N, R, Listening<Vec<u8>>>(rt, alloc, blanks, &hold, &mut connections, &mut output) };
+    let (told, status) = join(rt, || clients(rt, at, &hold, meanwhile), serving);
     told.expect(rt, "clients that are served");
     same!(rt; status, 0);
     assert!(rt; hold.left() > 0, "the other session was held too");

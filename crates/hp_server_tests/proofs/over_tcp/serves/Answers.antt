@@ -5,7 +5,6 @@ use Rattle.std.proofs.Crossing.{crosses}
 use Rattle.hp_sessions.proofs.Crossing.{shared_sync}
 use Rattle.hp_server_tests.specs.contracts.gate.Held as Held
 use Rattle.hp_server_tests.specs.contracts.gate.Hold as Hold
-use Rattle.hp_server_tests.specs.contracts.gate.Place as Place
 use Rattle.hp_server_tests.proofs.over_tcp.serves.Goals as goal
 
 hold_sync : (κ : NamedLft) (R : RattleType) → IsSync R → IsSync (Hold.the_row κ R)
@@ -14,11 +13,5 @@ hold_sync κ R r = search (sendable, crosses) depth 60 fits 5000
 held_sync : (κ : NamedLft) (R : RattleType) → IsSync R → IsSync (Held.the_row κ R)
 held_sync κ R r = search (sendable, crosses, hold_sync) depth 60 fits 5000
 
-pub attempt_b : goal.serve_sessions-requires-sync-M
-attempt_b g c κs within = search (sendable, shared_sync, held_sync) depth 40
-
-pub attempt_c : goal.serve_sessions-requires-sync-M
-attempt_c g c κs within = search (sendable, shared_sync, hold_sync) depth 60 fits 5000
-
 pub serve_sessions-requires-sync-M : goal.serve_sessions-requires-sync-M
-serve_sessions-requires-sync-M g c κs within = search (sendable, shared_sync) depth 40
+serve_sessions-requires-sync-M g c κs within = search (sendable, shared_sync, held_sync) depth 40
