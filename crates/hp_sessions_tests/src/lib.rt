@@ -6,8 +6,12 @@ mod closing;
 #[cfg(test)]
 mod gates;
 #[cfg(test)]
+mod many;
+#[cfg(test)]
 mod rows;
 #[cfg(test)]
 mod same;
+#[cfg(test)]
+mod steps;
 #[cfg(test)]
 mod stress;

@@ -1,0 +1,11 @@
+//! Tests of the machine that threads share, served over connections.
+#![tactic(auto)]
+
+#[cfg(test)]
+mod gate;
+#[cfg(test)]
+mod lines;
+#[cfg(test)]
+mod over_tcp;
+#[cfg(test)]
+mod same;

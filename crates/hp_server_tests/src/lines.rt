@@ -1,0 +1,141 @@
+//! One session's lines: where trails or its room are full, and with maps on several slots.
+ghost use Rattle.std.specs.Prelude.{◌≡◌, ◌≤◌, ◌∷◌, []};
+ghost use Rattle.hp_nodes.specs.Ledgers.{AreFrames};
+ghost use Rattle.hp_pool.specs.Ledgers.{AreLedgers};
+
+use crate::same::same;
+use hp_model::entry::Receipt;
+use hp_model::naming::Naming;
+use hp_pool::Blanks;
+use hp_server::{Open, Waiting};
+use hp_serving::serve_session;
+use hp_sessions::{Closed, Shared};
+use std::alloc::Global;
+use std::marker::Brand;
+use std::process::Abort;
+use std::sync::Wait;
+
+// The receipts that a session has of these lines, with room for so many, and whether it was answered so.
+fn answered<N: Naming, R: Wait + Abort, const K: usize>(
+    rt: &R,
+    alloc: Global,
+    shared: &Shared<N, K>,
+    room: usize,
+    lines: &[u8],
+    replies: &[u8],
+) -> Vec<Receipt> {
+    let host = Waiting {
+        rt,
+        shared,
+        gate: &Open,
+        room,
+    };
+    let mut input = lines;
+    let mut output = Vec::new(alloc);
+    let told = serve_session(alloc, &&host, &mut input, &mut output).expect(rt, "memory");
+    same!(rt; output.as_slice(), replies);
+    told
+}
+
+// A session that is answered so on a machine whose trails have so many places each: how many receipts it has, and what is left.
+fn closed<N: Naming, R: Wait + Abort>(
+    rt: &R,
+    alloc: Global,
+    blanks: Blanks,
+    places: usize,
+    lines: &[u8],
+    replies: &[u8],
+) -> (usize, Closed)
+    requires ledgers { AreLedgers N.Naming blanks }
+    requires frames { AreFrames N.frames (4 ∷ 4 ∷ []) }
+    requires bytes { N.page_bytes ≡ 1024 }
+    requires places { places ≤ 16777216 }
+{
+    let shared = Shared::<N, 1>::new(alloc, &[4, 4], 1024, 4, places, blanks).expect(rt, "memory");
+    let told = answered(rt, alloc, &shared, 100, lines, replies);
+    let count = told.len();
+    let mut all = Vec::with_capacity(alloc, 1).expect(rt, "memory");
+    all.push_reserved(told);
+    (count, shared.close(alloc, all).expect(rt, "memory"))
+}
+
+// Where a session has room for two receipts: how many entries the task table has.
+fn full_room<N: Naming, R: Wait + Abort>(rt: &R, alloc: Global, blanks: Blanks) -> usize
+    requires ledgers { AreLedgers N.Naming blanks }
+    requires frames { AreFrames N.frames (4 ∷ 4 ∷ []) }
+    requires bytes { N.page_bytes ≡ 1024 }
+{
+    let shared = Shared::<N, 1>::new(alloc, &[4, 4], 1024, 4, 16, blanks).expect(rt, "memory");
+    let lines = b"connect 1 0\nload 1 0 1 0 0 1\nattach 1\nconnect 2 0\n";
+    let replies = b"ok\nerror 23 TraceFull\nok 0\nerror 23 TraceFull\n";
+    let told = answered(rt, alloc, &shared, 2, lines, replies);
+    same!(rt; told.len(), 2);
+    let (system, trails) = shared.into_parts();
+    system.close();
+    let Some(trails) = trails else {
+        panic!(rt; "no trails");
+    };
+    trails.tasks.len()
+}
+
+#[test]
+fn full_trails_of_tasks_and_of_the_pool(rt: HostRuntime) {
+    let blanks = Blanks::new(rt.alloc(), &[4, 4], 1024).expect(&rt, "memory");
+    let (receipts, left) = closed::<Brand, HostRuntime>(
+        &rt,
+        rt.alloc(),
+        blanks,
+        2,
+        b"connect 1 0\nconnect 2 0\nconnect 3 0\nnr 4\nnr 5\nnr 6\nmeminfo\nattach 2\nexit 1\nexit 1\n",
+        b"ok\nok\nerror 23 TraceFull\nok 4\nok 5\nerror 23 TraceFull\nerror 23 TraceFull\nerror 23 TraceFull\n\
+ok\nerror 23 TraceFull\n",
+    );
+    same!(rt; receipts, 5);
+    same!(rt; left.audit, Some(true));
+    same!(rt; left.counts.free, 5);
+}
+
+#[test]
+fn full_trails_do_not_keep_a_page(rt: HostRuntime) {
+    let blanks = Blanks::new(rt.alloc(), &[4, 4], 1024).expect(&rt, "memory");
+    let (receipts, left) = closed::<Brand, HostRuntime>(
+        &rt,
+        rt.alloc(),
+        blanks,
+        3,
+        b"connect 1 0\nnr 2\ncreate 0 a\nmap 1 0 a 0 1 private\nstore 1 0 1 0 0 ff\nload 1 0 1 0 0 1\nls 0\n\
+unlink 0 a\nmeminfo\nexit 1\n",
+        b"ok\nok 2\nok\nok 1\nok\nerror 23 TraceFull\nerror 23 TraceFull\n\
+error 23 TraceFull\nerror 23 TraceFull\nok\n",
+    );
+    same!(rt; receipts, 9);
+    same!(rt; left.audit, Some(true));
+    same!(rt; [left.counts.total, left.counts.free, left.counts.rsvd], [2, 2, 0]);
+}
+
+#[test]
+fn a_full_room_refuses_before_the_first_event(rt: HostRuntime) {
+    let blanks = Blanks::new(rt.alloc(), &[4, 4], 1024).expect(&rt, "memory");
+    same!(rt; full_room::<Brand, HostRuntime>(&rt, rt.alloc(), blanks), 2);
+}
+
+#[test]
+fn a_fork_and_an_exit_pass_all_slots(rt: HostRuntime) {
+    let blanks = Blanks::new(rt.alloc(), &[4, 4], 1024).expect(&rt, "memory");
+    let (_receipts, left) = closed::<Brand, HostRuntime>(
+        &rt,
+        rt.alloc(),
+        blanks,
+        100,
+        b"nr 8\nconnect 1 0\nmount 1 -\nmount 3 -\ncreate 0 a\ncreate 1 a\ncreate 3 a\n\
+map 1 0 a 0 1 private\nmap 1 1 a 0 1 private\nmap 1 3 a 0 1 private\n\
+store 1 0 1 0 0 a0\nstore 1 1 1 0 0 a1\nstore 1 3 1 0 0 a3\n\
+fork 1 2\nstat 0 a\nstat 1 a\nstat 3 a\nexit 1\nstat 0 a\nstat 1 a\nstat 3 a\n\
+load 2 0 1 0 0 1\nload 2 1 1 0 0 1\nload 2 3 1 0 0 1\nexit 2\nstat 0 a\nstat 1 a\nstat 3 a\n",
+        b"ok 8\nok\nok\nok\nok\nok\nok\nok 1\nok 1\nok 1\nok\nok\nok\n\
+ok\nok 1 0 0 2\nok 1 0 0 2\nok 1 0 0 2\nok\nok 1 0 0 1\nok 1 0 0 1\nok 1 0 0 1\n\
+ok a0\nok a1\nok a3\nok\nok 1 0 0 0\nok 1 0 0 0\nok 1 0 0 0\n",
+    );
+    same!(rt; left.audit, Some(true));
+    same!(rt; [left.counts.total, left.counts.free, left.counts.rsvd], [8, 8, 0]);
+}

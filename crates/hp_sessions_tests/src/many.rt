@@ -1,0 +1,142 @@
+//! Many short runs of three sessions at once.
+ghost use Rattle.std.specs.Prelude.{◌≡◌, ◌∷◌, []};
+ghost use Rattle.hp_nodes.specs.Ledgers.{AreFrames};
+ghost use Rattle.hp_pool.specs.Ledgers.{AreLedgers};
+
+use crate::gates::{Free, Slow};
+use crate::same::same;
+use crate::steps::{Dice, any_step};
+use hp_model::entry::Receipt;
+use hp_model::lent::Lent;
+use hp_model::naming::Naming;
+use hp_model::step::{Reserving, Sharing, Step};
+use hp_pool::Blanks;
+use hp_sessions::{Session, Shared};
+use std::alloc::Global;
+use std::marker::Brand;
+use std::process::Abort;
+use std::sync::Wait;
+use std::thread;
+use std::thread::Threads;
+use std::time::Clock;
+
+const RUNS: u64 = 1000;
+
+const STEPS: u64 = 40;
+
+const TASKS: u64 = 3;
+
+const SLOTS: u64 = 2;
+
+const ROOM: usize = 300;
+
+const PLACES: usize = 1000;
+
+// Three tasks, pages, and a file that two of the tasks have maps of.
+fn start<N: Naming, R: Wait + Abort, const K: usize>(
+    rt: &R,
+    alloc: Global,
+    shared: &Shared<N, K>,
+) -> Vec<Receipt> {
+    let free = Free {};
+    let mut session = Session::open(alloc, rt, shared, &free, ROOM).expect(rt, "memory");
+    let name = Lent::new(b"a");
+    let _pages = session.call(&Step::Nr { pages: 5 });
+    let _file = session.call(&Step::Create { slot: 0, name });
+    for task in 1..TASKS + 1 {
+        let _task = session.call(&Step::Connect {
+            task,
+            home: task % 2,
+        });
+        let _map = session.call(&Step::Map {
+            task,
+            slot: 0,
+            name: Lent::new(b"a"),
+            from: 0,
+            pages: 2,
+            sharing: if task == 1 {
+                Sharing::Private
+            } else {
+                Sharing::Shared
+            },
+            reserving: Reserving::Reserve,
+        });
+    }
+    session.finish()
+}
+
+// A session that does random steps: its receipts.
+fn work<N: Naming, R: Wait + Abort + Clock, const K: usize>(
+    rt: &R,
+    alloc: Global,
+    shared: &Shared<N, K>,
+    seed: u64,
+) -> Vec<Receipt> {
+    let slow = Slow::new(rt);
+    let mut session = Session::open(alloc, rt, shared, &slow, ROOM).expect(rt, "memory");
+    let mut dice = Dice::new(seed, TASKS, SLOTS);
+    for _step in 0..STEPS {
+        let _reply = session.call(&any_step(&mut dice));
+    }
+    session.finish()
+}
+
+fn two<N: Naming + Send + Sync, R: Threads + Wait + Abort + Clock + Sync, const K: usize>(
+    rt: &R,
+    alloc: Global,
+    shared: &Shared<N, K>,
+    seed: u64,
+) -> (Vec<Receipt>, Vec<Receipt>) {
+    thread::join(
+        rt,
+        move || work(rt, alloc, shared, seed),
+        move || work(rt, alloc, shared, seed.wrapping_add(1_000_000)),
+    )
+}
+
+fn three<N: Naming + Send + Sync, R: Threads + Wait + Abort + Clock + Sync, const K: usize>(
+    rt: &R,
+    alloc: Global,
+    shared: &Shared<N, K>,
+    seed: u64,
+) -> (Vec<Receipt>, (Vec<Receipt>, Vec<Receipt>)) {
+    thread::join(
+        rt,
+        move || work(rt, alloc, shared, seed),
+        move || two(rt, alloc, shared, seed.wrapping_add(2_000_000)),
+    )
+}
+
+fn run<N: Naming + Send + Sync, R: Threads + Wait + Abort + Clock + Sync>(
+    rt: &R,
+    alloc: Global,
+    blanks: Blanks,
+    seed: u64,
+)
+    requires ledgers { AreLedgers N.Naming blanks }
+    requires frames { AreFrames N.frames (4 ∷ 4 ∷ []) }
+    requires bytes { N.page_bytes ≡ 1024 }
+{
+    let shared = Shared::<N, 1>::new(alloc, &[4, 4], 1024, SLOTS as usize, PLACES, blanks).expect(
+        rt, "memory",
+    );
+    let begun = start(rt, alloc, &shared);
+    let (one, (two, three)) = three(rt, alloc, &shared, seed);
+    let mut told = Vec::with_capacity(alloc, 4).expect(rt, "memory");
+    told.push_reserved(begun);
+    told.push_reserved(one);
+    told.push_reserved(two);
+    told.push_reserved(three);
+    let closed = shared.close(alloc, told).expect(rt, "memory");
+    same!(rt; closed.audit, Some(true));
+    same!(rt; closed.counts.free, closed.counts.total);
+    same!(rt; closed.counts.rsvd, 0);
+}
+
+#[test]
+fn a_thousand_short_runs(rt: HostRuntime) {
+    for seed in 1..RUNS + 1 {
+        let blanks = Blanks::new(rt.alloc(), &[4, 4], 1024).expect(&rt, "memory");
+        run::<Brand, HostRuntime>(&rt, rt.alloc(), blanks, seed);
+    }
+}
