@@ -93,6 +93,9 @@ pub fn copied_event(alloc: Global, event: &SlotEvent) -> Result<SlotEvent, Alloc
         SlotEvent::Mount { options } => SlotEvent::Mount {
             options: copied_bytes(alloc, options)?,
         },
+        SlotEvent::Remount { options } => SlotEvent::Remount {
+            options: copied_bytes(alloc, options)?,
+        },
         SlotEvent::Umount => SlotEvent::Umount,
         SlotEvent::Create { name } => SlotEvent::Create {
             name: copied_bytes(alloc, name)?,

@@ -23,6 +23,10 @@ pub enum SlotEvent {
     Mount {
         options: Bytes,
     },
+    /// The slot's part of `Step::Remount`.
+    Remount {
+        options: Bytes,
+    },
     /// The slot's part of `Step::Umount`.
     Umount,
     /// The slot's part of `Step::Create`.

@@ -49,6 +49,11 @@ pub enum Step<'a> {
         slot: u64,
         options: Lent<'a>,
     },
+    /// Sets a mount's limits by options. Answers `Done`.
+    Remount {
+        slot: u64,
+        options: Lent<'a>,
+    },
     /// Closes a slot without maps, with its files. Answers `Done`.
     Umount {
         slot: u64,

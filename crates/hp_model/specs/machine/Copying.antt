@@ -3,7 +3,7 @@ use Rattle.std.specs.Prelude.{Bool, true, false, Ok, Err}
 use Rattle.hp_model.specs.declared.answer.Answer.{Answer}
 use Rattle.hp_model.specs.declared.answer.Answer.TheVariants.{Names}
 use Rattle.hp_model.specs.declared.event.SlotEvent.{SlotEvent}
-use Rattle.hp_model.specs.declared.event.SlotEvent.TheVariants.{Mount, Create, Unlink, Truncate, Punch, Read, Stat, Map, Store}
+use Rattle.hp_model.specs.declared.event.SlotEvent.TheVariants.{Mount, Remount, Create, Unlink, Truncate, Punch, Read, Stat, Map, Store}
 use Rattle.hp_model.specs.machine.Plan.{Reply}
 
 -- the answer is a list of names
@@ -18,6 +18,7 @@ reply_has_names (Err r) = false
 -- the event has a name, options or bytes
 abbrev pub has_bytes : SlotEvent → Bool
 has_bytes (Mount options) = true
+has_bytes (Remount options) = true
 has_bytes (Create name) = true
 has_bytes (Unlink name) = true
 has_bytes (Truncate name pages) = true

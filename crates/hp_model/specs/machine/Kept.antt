@@ -6,7 +6,7 @@ use Rattle.hp_model.specs.declared.cell.Cell.TheVariants.{Hole}
 use Rattle.hp_model.specs.declared.step.Intent.TheVariants.{Read, Write}
 use Rattle.hp_model.specs.declared.step.Step.{Step}
 use Rattle.hp_model.specs.declared.step.Step.TheVariants.{Anon, Create, Df, Exit, Fault, Fork, Load, Ls, Map as MapStep, Mount}
-use Rattle.hp_model.specs.declared.step.Step.TheVariants.{Punch, Read as ReadStep, Stat, Store, Truncate, Umount, Unlink, Unmap}
+use Rattle.hp_model.specs.declared.step.Step.TheVariants.{Punch, Read as ReadStep, Remount, Stat, Store, Truncate, Umount, Unlink, Unmap}
 use Rattle.hp_model.specs.files.File.{File, cell_at, cell_punched, entered, has_page}
 use Rattle.hp_model.specs.files.MakeMap.{reserves}
 use Rattle.hp_model.specs.files.Mapping.{copy_of, is_shared, is_unconsumed, place_at, without_copy}
@@ -24,6 +24,7 @@ abbrev pub is_on : Step → (slot : ℕ) → Bool
 is_on (Fork parent child) slot = true
 is_on (Exit task) slot = true
 is_on (Mount k options) slot = k == slot
+is_on (Remount k options) slot = k == slot
 is_on (Umount k) slot = k == slot
 is_on (Create k name) slot = k == slot
 is_on (Unlink k name) slot = k == slot

@@ -21,7 +21,7 @@ pub data Outcome : Type 0 where
   Refused : Refusal → Outcome
   Answered : Answer → Slot → Outcome
 
--- done at once; or a section, which a mount's limits make depend on nr, and what follows from the pool's answer
+-- done at once; or a section, which the limits of a mount or a remount make depend on nr, and what follows from the pool's answer
 pub data Plan : Type 0 where
   Finish : Outcome → Plan
   Ask : (ℕ → Section) → (PoolAnswer → Outcome) → Plan

@@ -18,7 +18,7 @@ use Rattle.hp_model.specs.declared.step.Sharing.{Sharing}
 use Rattle.hp_model.specs.declared.step.Step.{Step}
 use Rattle.hp_model.specs.declared.step.Step.TheVariants.{Anon, Attach, Create as CreateStep, Df, Exit, Fault, Fork}
 use Rattle.hp_model.specs.declared.step.Step.TheVariants.{Load, Ls, Map as MapStep, Meminfo, Mount as MountStep, Nodes, Punch as PunchStep}
-use Rattle.hp_model.specs.declared.step.Step.TheVariants.{Read as ReadStep, Stat, Store, Truncate as TruncateStep, Umount, Unlink as UnlinkStep, Unmap as UnmapStep}
+use Rattle.hp_model.specs.declared.step.Step.TheVariants.{Read as ReadStep, Remount, Stat, Store, Truncate as TruncateStep, Umount, Unlink as UnlinkStep, Unmap as UnmapStep}
 use Rattle.hp_model.specs.machine.Plan.{slot_usage, IsWithinLimit}
 use Rattle.hp_model.specs.files.File.{File, cell_at, has_page, is_entered, new_file}
 pub use Rattle.hp_model.specs.files.File.{file_in, map_in}
@@ -162,6 +162,11 @@ LosesTo s step t k p q j = ⊥
 abbrev pub is_unmounted : Step → Reply → ℕ → Bool
 is_unmounted (Umount k) (Ok a) slot = k == slot
 is_unmounted step reply slot = false
+
+-- the limits of the slot's mount were ended by this step: a remount set others, or the mount went
+abbrev pub is_relimited : Step → Reply → ℕ → Bool
+is_relimited (Remount k options) (Ok a) slot = k == slot
+is_relimited step reply slot = is_unmounted step reply slot
 
 -- the name was ended by this step: it was unlinked, or its mount went
 abbrev pub is_ended_name : Step → Reply → (slot : ℕ) → List ℕ → Bool
@@ -403,7 +408,7 @@ abbrev pub least_of : Slot → ℕ
 least_of None = 0
 least_of (Some m) = m.limits.min
 
--- a mount that stays has the limits that its options made
+-- the mount stays, and has the limits that it had
 abbrev pub SameLimits : (old new : Slot) → Type 0
 SameLimits None new = Unit {0}
 SameLimits (Some m) None = ⊥
@@ -426,8 +431,8 @@ pub record IsPromised (s : State) (step : Step) (reply : Reply) (t : State) : Ty
   pub counts : AreCounted t
   -- a step that raises what a mount uses ends within the mount's limit
   pub limits : (slot : ℕ) → slot < length s.slots → slot_usage (slot_at s slot) < slot_usage (slot_at t slot) → IsWithinLimit (slot_at t slot)
-  -- a mount and its limits stay until its umount
-  pub mounts : (slot : ℕ) → is_unmounted step reply slot ≡ false → SameLimits (slot_at s slot) (slot_at t slot)
+  -- a mount stays until its umount, and its limits until its umount or a remount
+  pub mounts : (slot : ℕ) → is_relimited step reply slot ≡ false → SameLimits (slot_at s slot) (slot_at t slot)
   -- the pool has the pages of each mount's minimum, beside all that is committed to the other mounts
   pub minimums : (slot : ℕ) → least_of (slot_at t slot) + committed_pages (with_slot t slot None) ≤ total_of (pool_of t).nodes.rows
   -- a load answers what its map showed
@@ -455,7 +460,7 @@ pub record IsPromised (s : State) (step : Step) (reply : Reply) (t : State) : Ty
   pub cut_off : is_cut_off_step s step ≡ true → is_refused reply ≡ true
   -- what the step makes of tasks, nr and overcommit, and nothing else does
   pub settings : IsSet s step reply t
-  -- a mount has the limits that its options mean
+  -- a mount has the limits that its options mean, and a remount leaves its files and maps as they were
   pub mounted : Mounts s step reply t
   -- an unmap takes its range from the map that it names, and leaves all else that is reserved and mapped
   pub unmaps : Unmaps s step reply t

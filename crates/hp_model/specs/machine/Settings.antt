@@ -4,7 +4,7 @@ use Rattle.hp_model.specs.declared.answer.Answer.TheVariants.{Number}
 use Rattle.hp_model.specs.declared.limits.Limits.{Limits}
 use Rattle.hp_model.specs.declared.refusal.Refusal.{Refusal}
 use Rattle.hp_model.specs.declared.step.Step.{Step}
-use Rattle.hp_model.specs.declared.step.Step.TheVariants.{Attach, Connect, Df, Exit, Fork, Ls, Meminfo, Mount, Nodes, Nr, Overcommit, Read, Stat}
+use Rattle.hp_model.specs.declared.step.Step.TheVariants.{Attach, Connect, Df, Exit, Fork, Ls, Meminfo, Mount, Nodes, Nr, Overcommit, Read, Remount, Stat}
 use Rattle.hp_model.specs.files.Options.{limits, wanted_of}
 use Rattle.hp_model.specs.machine.Machine.{pool_of}
 use Rattle.hp_model.specs.machine.Plan.{Reply, Slot}
@@ -60,7 +60,14 @@ abbrev pub IsMountedWith : (old new : Slot) → Result Limits Refusal → Type 0
 IsMountedWith old new (Err r) = ⊥
 IsMountedWith old new (Ok l) = (old ≡ None) × (new ≡ Some (record { limits = l; files = [] }))
 
--- a mount that is answered has the limits that its options mean at this nr
+-- the mount that was there, with its files and maps, and with these limits
+abbrev pub IsRemountedWith : (old new : Slot) → Result Limits Refusal → Type 0
+IsRemountedWith None new l = ⊥
+IsRemountedWith (Some m) new (Err r) = ⊥
+IsRemountedWith (Some m) new (Ok l) = new ≡ Some (record m { limits = l })
+
+-- a mount that is answered, or remounted, has the limits that its options mean at this nr
 abbrev pub Mounts : State → Step → Reply → State → Type 0
 Mounts s (Mount k options) (Ok a) t = IsMountedWith (slot_at s k) (slot_at t k) (limits s.nr s.page_size (wanted_of options))
+Mounts s (Remount k options) (Ok a) t = IsRemountedWith (slot_at s k) (slot_at t k) (limits s.nr s.page_size (wanted_of options))
 Mounts s step reply t = Unit {0}

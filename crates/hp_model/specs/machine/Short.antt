@@ -1,22 +1,23 @@
 -- What a step asks of the pool and of its mount, and when it may be refused for want of it.
-use Rattle.std.specs.Prelude.{Result, ◌≡◌, ℕ, ◌&&◌, ◌||◌, Bool, true, false, not, Option, None, Some, is_some, Ok, Err, if◌then◌else◌}
+use Rattle.std.specs.Prelude.{Result, ◌≡◌, ℕ, ◌-◌, ◌&&◌, ◌||◌, Bool, true, false, not, Option, None, Some, is_some, Ok, Err, if◌then◌else◌}
 use Rattle.hp_model.specs.declared.limits.Limits.{Limits}
 use Rattle.hp_model.specs.declared.refusal.Refusal.{Refusal}
 use Rattle.hp_model.specs.declared.refusal.Refusal.TheVariants.{MountFull, NoPages}
 use Rattle.hp_model.specs.declared.step.Intent.{Intent}
 use Rattle.hp_model.specs.declared.step.Intent.TheVariants.{Read, Write}
 use Rattle.hp_model.specs.declared.step.Step.{Step}
-use Rattle.hp_model.specs.declared.step.Step.TheVariants.{Anon, Fault, Load, Map as MapStep, Mount as MountStep, Store}
+use Rattle.hp_model.specs.declared.step.Step.TheVariants.{Anon, Fault, Load, Map as MapStep, Mount as MountStep, Remount, Store}
 use Rattle.hp_model.specs.files.CopyWrite.{is_held_once}
 use Rattle.hp_model.specs.files.File.{File, Mount, cell_at, has_page, new_file}
 use Rattle.hp_model.specs.files.MakeMap.{asked}
 use Rattle.hp_model.specs.files.Mapping.{Map, copy_of, is_map, is_shared, place_at}
+use Rattle.hp_model.specs.files.MountCounts.{committed_of}
 use Rattle.hp_model.specs.files.Options.{limits, wanted_of}
 use Rattle.hp_model.specs.files.Reserved.{is_reserved}
 use Rattle.hp_model.specs.files.Spot.{Spot, spot}
 use Rattle.hp_model.specs.machine.Machine.{pool_of}
 use Rattle.hp_model.specs.machine.Plan.{Reply, Slot}
-use Rattle.hp_model.specs.machine.SlotEvent.{file_named}
+use Rattle.hp_model.specs.machine.SlotEvent.{committed_with, file_named}
 use Rattle.hp_model.specs.machine.State.{State, slot_at}
 use Rattle.hp_model.specs.machine.Tests.{is_for_pages}
 use Rattle.hp_model.specs.pool.Grant.{can_grant, is_full, rise}
@@ -74,10 +75,21 @@ abbrev pub IsMountShort : Pool → Result Limits Refusal → Refusal → Type 0
 IsMountShort p (Ok l) NoPages = can_grant l.min p ≡ false
 IsMountShort p l r = is_for_pages r ≡ false
 
+-- a remount is short where the pool cannot commit what its minimum adds
+abbrev pub IsRemountShort : Pool → Mount → Result Limits Refusal → Refusal → Type 0
+IsRemountShort p m (Ok l) NoPages = can_grant (committed_with m l.min - committed_of m) p ≡ false
+IsRemountShort p m l r = is_for_pages r ≡ false
+
+abbrev pub IsRemountShortOn : Pool → Slot → Result Limits Refusal → Refusal → Type 0
+IsRemountShortOn p None l r = is_for_pages r ≡ false
+IsRemountShortOn p (Some m) l r = IsRemountShort p m l r
+
 -- a step that is refused for want of pages lacks what it asks for
 abbrev pub MeetsShortage : State → Step → Reply → Type 0
 MeetsShortage s step (Ok a) = Unit {0}
 MeetsShortage s (MountStep k options) (Err r) = IsMountShort (pool_of s) (limits s.nr s.page_size (wanted_of options)) r
+MeetsShortage s (Remount k options) (Err r) =
+    IsRemountShortOn (pool_of s) (slot_at s k) (limits s.nr s.page_size (wanted_of options)) r
 MeetsShortage s (MapStep task k name a n sharing reserving) (Err r) =
     IsShortOn (pool_of s) (slot_at s k) (MapStep task k name a n sharing reserving) r
 MeetsShortage s (Anon task n sharing reserving) (Err r) = IsShortOn (pool_of s) (slot_at s 0) (Anon task n sharing reserving) r

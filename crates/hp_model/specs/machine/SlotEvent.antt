@@ -1,5 +1,5 @@
 -- The events of a slot.
-use Rattle.std.specs.Prelude.{ℕ, ◌+◌, ◌-◌, ◌&&◌, ◌||◌, ◌==◌, Bool, false, not, Option, None, Some, is_some, Result}
+use Rattle.std.specs.Prelude.{ℕ, ◌+◌, ◌-◌, ◌&&◌, ◌||◌, ◌==◌, Bool, false, not, max, Option, None, Some, is_some, Result}
 use Rattle.std.specs.Prelude.{Ok, Err, List, [], ◌∷◌, ◌++◌, length, take, drop, replicate, if◌then◌else◌, nat_lt, nat_le}
 use Rattle.std.specs.List.{list_all, count_by, filter_map}
 use Rattle.std.specs.Str.{bytes_eq}
@@ -9,7 +9,7 @@ use Rattle.hp_model.specs.declared.refusal.Refusal.{Refusal}
 use Rattle.hp_model.specs.declared.refusal.Refusal.TheVariants.{OutOfMemory, NoPages, BeyondEnd, NoSuchSlot, SlotTaken, NoSuchFile, FileExists}
 use Rattle.hp_model.specs.declared.refusal.Refusal.TheVariants.{NoInodes, BadName, NoSuchMap, OutOfRange, CrossesPage, Busy, TooMany}
 use Rattle.hp_model.specs.declared.event.SlotEvent.{SlotEvent}
-use Rattle.hp_model.specs.declared.event.SlotEvent.TheVariants.{Mount as MountEvent, Umount, Create, Unlink, Truncate, Punch, Read as ReadEvent, Ls, Stat}
+use Rattle.hp_model.specs.declared.event.SlotEvent.TheVariants.{Mount as MountEvent, Remount, Umount, Create, Unlink, Truncate, Punch, Read as ReadEvent, Ls, Stat}
 use Rattle.hp_model.specs.declared.event.SlotEvent.TheVariants.{Df, Map as MapEvent, Anon, Unmap, Fault, Load, Store, ForkMaps, ExitMaps}
 use Rattle.hp_model.specs.declared.step.Intent.{Intent}
 use Rattle.hp_model.specs.declared.step.Sharing.{Sharing}
@@ -23,10 +23,10 @@ use Rattle.hp_model.specs.pool.Grant.{is_over}
 use Rattle.hp_model.specs.Lists.{found, is_among}
 use Rattle.hp_model.specs.files.MakeMap.{tasks_of, next_number, asked, mapped, with_new}
 use Rattle.hp_model.specs.files.Mapping.{place_at, is_live, is_map}
-use Rattle.hp_model.specs.files.MountCounts.{usage_of}
+use Rattle.hp_model.specs.files.MountCounts.{committed_of, usage_of}
 use Rattle.hp_model.specs.files.Options.{wanted_of, limits}
 use Rattle.hp_model.specs.machine.Plan.{Slot, Outcome, Refused, Answered, Plan, Finish, Ask, Choice, refuse, unless, with_value, and_then, grant, gives}
-use Rattle.hp_model.specs.pool.Pool.{Section, ReadAndGrant, GrantAndReturn, PoolAnswer}
+use Rattle.hp_model.specs.pool.Pool.{Section, ReadAndGrant, ReadAndGiveBack, GrantAndReturn, PoolAnswer}
 use Rattle.hp_model.specs.Profile.{most_files, most_maps, most_tasks, most_file_pages, most_map_pages, most_bytes, most_name_bytes}
 use Rattle.hp_model.specs.files.Spot.{Spot, spot, written, again}
 use Rattle.hp_model.specs.files.Value.{shown, value}
@@ -50,7 +50,7 @@ is_name_byte c = is_between 65 90 c || is_between 97 122 c || is_between 48 57 c
 abbrev pub is_name : List ℕ → Bool
 is_name name = is_between 1 most_name_bytes (length name) && list_all is_name_byte name
 
--- ---- mount and umount
+-- ---- mount
 
 abbrev pub mount_pages : Choice → Result Limits Refusal → ℕ
 mount_pages c (Err e) = 0
@@ -71,6 +71,35 @@ abbrev pub mount_on : Choice → (size : ℕ) → List ℕ → Plan
 mount_on c size text =
     Ask (λ nr. mount_section c (mount_pages c (limits nr size (wanted_of text))))
     (λ a. mount_outcome c a (limits a.nr size (wanted_of text)))
+
+-- ---- remount
+
+-- what the pool has committed to the mount with this minimum
+abbrev pub committed_with : Mount → (min : ℕ) → ℕ
+committed_with m min = max (usage_of m) min
+
+-- a remount reads nr, with what the new minimum adds to the mount's commitments, or takes from them
+abbrev pub remount_section : Mount → Result Limits Refusal → Section
+remount_section m (Err e) = ReadAndGrant 0
+remount_section m (Ok l) =
+    if nat_lt (committed_with m l.min) (committed_of m)
+    then ReadAndGiveBack (committed_of m - committed_with m l.min)
+    else ReadAndGrant (committed_with m l.min - committed_of m)
+
+-- the mount has these limits, and its files as they were
+abbrev pub remount_outcome : Mount → PoolAnswer → Result Limits Refusal → Outcome
+remount_outcome m a (Err e) = Refused e
+remount_outcome m a (Ok l) = if a.granted then Answered Done (Some (record m { limits = l })) else Refused NoPages
+
+abbrev pub remount_tests : (slot : ℕ) → List (Bool × Refusal)
+remount_tests slot = (slot == 0, SlotTaken) ∷ []
+
+abbrev pub remount : (size slot : ℕ) → Mount → List ℕ → Plan
+remount size slot m text =
+    unless (remount_tests slot)
+    (Ask (λ nr. remount_section m (limits nr size (wanted_of text))) (λ a. remount_outcome m a (limits a.nr size (wanted_of text))))
+
+-- ---- umount
 
 abbrev pub has_maps : Mount → Bool
 has_maps m = nat_lt 0 (length (maps_of m))
@@ -220,6 +249,7 @@ exit_maps m task = gives Done (Some m) (Some (without_task task m))
 
 abbrev pub on_mount : (size slot : ℕ) → Choice → Mount → SlotEvent → Plan
 on_mount size slot c m (MountEvent options) = refuse SlotTaken
+on_mount size slot c m (Remount options) = remount size slot m options
 on_mount size slot c m Umount = umount slot m
 on_mount size slot c m (Create name) = create c m name
 on_mount size slot c m (Unlink name) = with_value (file_named m name) NoSuchFile (unlink m)

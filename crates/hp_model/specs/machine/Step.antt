@@ -12,7 +12,7 @@ use Rattle.hp_model.specs.declared.event.SlotEvent.{SlotEvent}
 use Rattle.hp_model.specs.declared.event.SlotEvent.TheVariants as slot
 use Rattle.hp_model.specs.declared.event.PoolEvent.TheVariants as pool
 use Rattle.hp_model.specs.declared.step.Step.{Step}
-use Rattle.hp_model.specs.declared.step.Step.TheVariants.{Connect, Attach, Fork, Exit, Mount, Umount, Create, Unlink, Truncate, Punch, Read, Ls}
+use Rattle.hp_model.specs.declared.step.Step.TheVariants.{Connect, Attach, Fork, Exit, Mount, Remount, Umount, Create, Unlink, Truncate, Punch, Read, Ls}
 use Rattle.hp_model.specs.declared.step.Step.TheVariants.{Stat, Map, Anon, Unmap, Fault, Load, Store, Nr, Overcommit, Meminfo, Nodes, Df}
 use Rattle.hp_model.specs.machine.Event.{IsEvent, has_maps_of}
 use Rattle.hp_model.specs.machine.Plan.{Reply}
@@ -73,6 +73,7 @@ script n (Attach task) = only (Tasks (table.Find task))
 script n (Fork parent child) = Do (Tasks (table.FindAndAdd parent child)) (λ r. when_done r (fork_slots (range_with_len 0 n) [] parent child))
 script n (Exit task) = Do (Tasks (table.Remove task)) (λ r. when_done r (exit_slots (range_with_len 0 n) task (Answer_with (Ok Done))))
 script n (Mount k options) = on_slot n k (slot.Mount options)
+script n (Remount k options) = on_slot n k (slot.Remount options)
 script n (Umount k) = on_slot n k slot.Umount
 script n (Create k name) = on_slot n k (slot.Create name)
 script n (Unlink k name) = on_slot n k (slot.Unlink name)

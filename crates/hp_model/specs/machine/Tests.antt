@@ -1,13 +1,15 @@
 -- The tests of a step, in their order: refusals that want for neither pages nor memory.
-use Rattle.std.specs.Prelude.{◌≡◌, ℕ, ◌&&◌, Bool, true, false, not, Option, None, Some, is_some, Ok, Err, List, [], ◌∷◌, ◌++◌, length, if◌then◌else◌, nat_le, nat_lt}
+use Rattle.std.specs.Prelude.{◌≡◌, ℕ, ◌&&◌, ◌==◌, Bool, true, false, not, Option, None, Some, is_some, Ok, Err, List, Result, [], ◌∷◌, ◌++◌, length, if◌then◌else◌, nat_le, nat_lt}
+use Rattle.hp_model.specs.declared.limits.Limits.{Limits}
 use Rattle.hp_model.specs.declared.refusal.Refusal.{Refusal}
 use Rattle.hp_model.specs.declared.refusal.Refusal.TheVariants.{MountFull, NoPages, NoSuchFile, NoSuchMap, NoSuchNode, NoSuchSlot, NoSuchTask}
 use Rattle.hp_model.specs.declared.refusal.Refusal.TheVariants.{OutOfMemory, OutOfRange, SlotTaken, TakenByOwner, TaskExists, TooMany}
 use Rattle.hp_model.specs.declared.step.Step.{Step}
 use Rattle.hp_model.specs.declared.step.Step.TheVariants.{Anon, Attach, Connect, Create, Df, Exit, Fault, Fork, Load, Ls, Map, Mount as MountStep}
-use Rattle.hp_model.specs.declared.step.Step.TheVariants.{Overcommit, Punch, Read, Stat, Store, Truncate, Umount, Unlink, Unmap}
+use Rattle.hp_model.specs.declared.step.Step.TheVariants.{Overcommit, Punch, Read, Remount, Stat, Store, Truncate, Umount, Unlink, Unmap}
 use Rattle.hp_model.specs.files.File.{Mount}
 use Rattle.hp_model.specs.files.Mapping.{copy_of, is_map, is_shared, place_at}
+use Rattle.hp_model.specs.files.Options.{limits, wanted_of}
 use Rattle.hp_model.specs.files.Spot.{Spot, spot}
 use Rattle.hp_model.specs.machine.Plan.{Choice, Reply}
 use Rattle.hp_model.specs.machine.SlotEvent.{anon_tests, byte_tests, create_tests, fault_tests, file_named, is_bad_range, map_tests, read_tests, umount_tests}
@@ -36,6 +38,15 @@ is_cut_off (Some s) i = not (is_shared s.map.sharing) && (s.map.unmapped && not 
 
 abbrev pub cut_off_test : ℕ → Spot → List (Bool × Refusal)
 cut_off_test i s = (is_cut_off (Some s) i, TakenByOwner) ∷ []
+
+-- what the options of a mount are refused, by themselves
+abbrev pub refused_limits : Result Limits Refusal → Option Refusal
+refused_limits (Ok l) = None
+refused_limits (Err r) = Some r
+
+-- a remount of this slot, whose options mean these limits
+abbrev pub failed_remount : (slot : ℕ) → Result Limits Refusal → Option Refusal
+failed_remount slot l = if slot == 0 then Some SlotTaken else refused_limits l
 
 -- of a step on a slot with this mount, once its task is found
 abbrev pub failed_on : (size : ℕ) → Mount → Step → Option Refusal
@@ -70,6 +81,8 @@ failed s (Connect task home) = first_failed ((nat_le (length s.nodes) home, NoSu
 failed s (Attach task) = if_there (home_of s.table task) NoSuchTask (λ home. None)
 failed s (Exit task) = if_there (home_of s.table task) NoSuchTask (λ home. None)
 failed s (Overcommit n) = first_failed ((not (nat_le n most_overcommit), OutOfRange) ∷ [])
+failed s (Remount k options) =
+    if_there (slot_at s k) NoSuchSlot (λ m. failed_remount k (limits s.nr s.page_size (wanted_of options)))
 failed s (Umount k) = failed_at s k (Umount k)
 failed s (Create k name) = failed_at s k (Create k name)
 failed s (Unlink k name) = failed_at s k (Unlink k name)

@@ -7,7 +7,7 @@ use Rattle.hp_model.specs.declared.node.Kind.TheVariants.{Free}
 use Rattle.hp_model.specs.declared.node.NodeRow.{NodeRow}
 pub use Rattle.hp_model.specs.declared.section.PoolAnswer.{PoolAnswer}
 pub use Rattle.hp_model.specs.declared.section.Section.{Section}
-pub use Rattle.hp_model.specs.declared.section.Section.TheVariants.{Grant, GrantPage, TakePage, GiveBack, ReadAndGrant, GrantAndReturn}
+pub use Rattle.hp_model.specs.declared.section.Section.TheVariants.{Grant, GrantPage, TakePage, GiveBack, ReadAndGrant, ReadAndGiveBack, GrantAndReturn}
 
 -- ---- pages taken and put
 
@@ -74,6 +74,7 @@ section p (TakePage home) = (granted_at (take_node home p), page_taken home p)
 section p (GiveBack puts k) = (granted_at 0, settled (released k (puts_from 0 puts p)))
 section p (ReadAndGrant d) =
     if can_grant d p then (record { granted = true; node = 0; nr = p.nr }, granted 0 d p) else (record { granted = false; node = 0; nr = p.nr }, p)
+section p (ReadAndGiveBack k) = (record { granted = true; node = 0; nr = p.nr }, settled (released k p))
 section p (GrantAndReturn d) =
     if can_grant d p
     then (record { granted = true; node = 0; nr = p.nr }, settled (released d (granted 0 d p)))

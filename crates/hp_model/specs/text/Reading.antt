@@ -43,6 +43,13 @@ mount_of pieces = do
   done ← end_at options.1
   Ok (step.Mount slot.0 options.0)
 
+unfoldable pub remount_of : List (List ℕ) → Result Step Refusal
+remount_of pieces = do
+  slot ← number_at pieces
+  options ← word_at slot.1
+  done ← end_at options.1
+  Ok (step.Remount slot.0 options.0)
+
 unfoldable pub umount_of : List (List ℕ) → Result Step Refusal
 umount_of pieces = do
   slot ← number_at pieces
@@ -207,6 +214,7 @@ pool_command command pieces =
 unfoldable pub slot_command : List ℕ → List (List ℕ) → Result Step Refusal
 slot_command command pieces =
     if bytes_eq command (codes "mount") then mount_of pieces
+    else if bytes_eq command (codes "remount") then remount_of pieces
     else if bytes_eq command (codes "umount") then umount_of pieces
     else if bytes_eq command (codes "create") then create_of pieces
     else if bytes_eq command (codes "unlink") then unlink_of pieces

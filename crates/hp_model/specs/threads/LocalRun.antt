@@ -12,7 +12,7 @@ abbrev pub Gives : Outcome → Slot → Reply → Slot → Type 0
 Gives (Refused r) old reply new = (reply ≡ Err r) × (new ≡ old)
 Gives (Answered a slot) old reply new = (reply ≡ Ok a) × (new ≡ slot)
 
--- the plan goes on by these answers of the pool; nr is part of the answer to a mount alone
+-- the plan goes on by these answers of the pool; nr is part of the answer to a mount and a remount alone
 abbrev pub Goes : Plan → Option Asked → Slot → Reply → Slot → Type 0
 Goes (Finish o) None old reply new = Gives o old reply new
 Goes (Finish o) (Some asked) old reply new = ⊥

@@ -6,7 +6,7 @@ use Rattle.hp_model.specs.declared.event.Event.TheVariants.{Slot as OnSlot}
 use Rattle.hp_model.specs.declared.event.SlotEvent.TheVariants.{ExitMaps}
 use Rattle.hp_model.specs.declared.refusal.Refusal.TheVariants.{TraceFull}
 use Rattle.hp_model.specs.declared.step.Step.{Step}
-use Rattle.hp_model.specs.declared.step.Step.TheVariants.{Fork, Exit, Mount, Create, Unlink, Truncate, Punch, Read, Stat, Map, Anon, Unmap, Fault, Load, Store}
+use Rattle.hp_model.specs.declared.step.Step.TheVariants.{Fork, Exit, Mount, Remount, Create, Unlink, Truncate, Punch, Read, Stat, Map, Anon, Unmap, Fault, Load, Store}
 use Rattle.hp_model.specs.machine.Plan.{Reply}
 use Rattle.hp_model.specs.machine.Step.{Answer_with, Do, Script, Where_mapped, script}
 
@@ -46,6 +46,7 @@ ReceiptsTell slots step receipts reply = TellsStep slots step (map told_of recei
 -- The step has a name, options or bytes. Where a trail is kept they are copied before the first event.
 abbrev pub carries_bytes : Step → Bool
 carries_bytes (Mount k options) = true
+carries_bytes (Remount k options) = true
 carries_bytes (Create k name) = true
 carries_bytes (Unlink k name) = true
 carries_bytes (Truncate k name pages) = true
