@@ -18,7 +18,7 @@ use Rattle.hp_model.specs.declared.event.TableEvent.{TableEvent}
 use Rattle.hp_model.specs.declared.event.TableEvent.TheVariants.{Add, Find, FindAndAdd, Remove}
 use Rattle.hp_model.specs.declared.refusal.Refusal.TheVariants.{NoSuchNode, NoSuchTask, TaskExists, TooMany, OutOfRange}
 use Rattle.hp_model.specs.declared.section.PoolAnswer.{PoolAnswer}
-use Rattle.hp_model.specs.declared.section.Section.TheVariants.{GiveBack, Grant, GrantPage, TakePage, ReadAndGrant, GrantAndReturn}
+use Rattle.hp_model.specs.declared.section.Section.TheVariants.{GiveBack, Grant, GrantPage, TakePage, ReadAndGiveBack, ReadAndGrant, GrantAndReturn}
 use Rattle.hp_model.specs.files.File.{Mount, maps_of}
 use Rattle.hp_model.specs.files.GiveBack.{without_task}
 use Rattle.hp_model.specs.files.MakeMap.{tasks_of}
@@ -150,6 +150,7 @@ pub slot_places : (size k : ℕ) (c : Choice) (old : Slot) (e : SlotEvent) → t
 slot_places size k c (Some m) (slot.ExitMaps task) few = exit_places size k c m task few (has_maps_of task (Some m)) refl
 slot_places size k c None (slot.ExitMaps task) few = leaves_few size k c None (slot.ExitMaps task) few refl
 slot_places size k c old (slot.Mount options) few = leaves_few size k c old (slot.Mount options) few refl
+slot_places size k c old (slot.Remount options) few = leaves_few size k c old (slot.Remount options) few refl
 slot_places size k c old slot.Umount few = leaves_few size k c old slot.Umount few refl
 slot_places size k c old (slot.Create name) few = leaves_few size k c old (slot.Create name) few refl
 slot_places size k c old (slot.Unlink name) few = leaves_few size k c old (slot.Unlink name) few refl
@@ -256,5 +257,6 @@ pool_places p q e s then step held = (
     less (OfSlot (GrantPage home d) a) step held t = cc
     less (OfSlot (TakePage home) a) step held t = cc
     less (OfSlot (ReadAndGrant d) a) step held t = cc
+    less (OfSlot (ReadAndGiveBack k) a) step held t = cc
     less (OfSlot (GrantAndReturn d) a) step held t = cc
     less (OfPool e r) step held t = cc

@@ -54,7 +54,7 @@ use Rattle.hp_laws.proofs.Cuts.{cell_kept, place_ranged, punch_cut, ranged, rang
 use Rattle.hp_laws.proofs.Elsewhere.{any_outcome}
 use Rattle.hp_laws.proofs.Keys.{Where, keys, places}
 use Rattle.hp_laws.proofs.KeptPlaces.{Held, access_held, store_held}
-use Rattle.hp_laws.proofs.KeptSlot.{Each, NoCell, NoPlace, cut_keeps, kept_keeps, means_it, new_keeps, only_file, only_spot, put_kept, same_keeps, sweep_kept}
+use Rattle.hp_laws.proofs.KeptSlot.{Each, NoCell, NoPlace, alike_keeps, cut_keeps, kept_keeps, means_it, new_keeps, only_file, only_spot, put_kept, same_keeps, sweep_kept}
 use Rattle.hp_laws.proofs.Looks.{same_more, same_none}
 use Rattle.hp_laws.proofs.Seen.{IsLostAt}
 use Rattle.hp_laws.proofs.Meanings.{fault_on, load_on, placed_map, placed_new, placed_same, store_on}
@@ -65,7 +65,7 @@ use Rattle.hp_laws.proofs.Placed.{Placed, lead_same, placed}
 use Rattle.hp_laws.proofs.Shown.{On, Result, on_follows, on_weaker, write_done}
 use Rattle.hp_laws.proofs.SlotKept.{always_both}
 use Rattle.hp_laws.proofs.Tied.{left_sound}
-use Rattle.hp_laws.proofs.SlotShows.{always_gives, always_grant, always_mount, always_unless, always_value, bytes_on}
+use Rattle.hp_laws.proofs.SlotShows.{always_gives, always_grant, always_mount, always_remount, always_unless, always_value, bytes_on}
 use Rattle.hp_laws.proofs.Whole.{by_event, is_whole, slot_step, step_of}
 
 -- a slot that is sound afterwards keeps its maps and files
@@ -356,6 +356,9 @@ module _ (size k : ℕ) (c : Choice) (m : Mount) (sound : IsSoundMount m) where
 
   mount_kept : (e : SlotEvent) → Always (KeepsOn (Some m) k e) (on_mount size k c m e)
   mount_kept (slot.Mount options) = tt
+  mount_kept (slot.Remount options) =
+      always_remount (KeepsTo (Some m) (step.Remount k options)) (λ r. tt) m
+      (λ l whole. alike_keeps (Some m) (Some (record m { limits = l })) (step.Remount k options) (λ t u. refl) (λ name. refl)) size k options
   mount_kept slot.Umount =
       tested (step.Umount k) (umount_tests k m) (gives Done (Some m) None)
       (always_gives (KeepsTo (Some m) (step.Umount k)) Done (Some m) None (λ whole. record { maps = λ t u p q was is. cc; files = λ name f g goes was is. cc }))

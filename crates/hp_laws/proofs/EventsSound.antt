@@ -50,7 +50,7 @@ use Rattle.hp_laws.proofs.MountsSound.{cut_sound, edit_sound, filtered_numbers, 
 use Rattle.hp_laws.proofs.Outcomes.{always_if, always_test, always_then, always_weaker, outcome_if}
 use Rattle.hp_laws.proofs.Shown.{On, on_follows, on_grant_page, on_reserved_page, on_weaker}
 use Rattle.hp_laws.proofs.Single.{bit}
-use Rattle.hp_laws.proofs.SlotShows.{always_gives, always_mount, always_unless}
+use Rattle.hp_laws.proofs.SlotShows.{always_gives, always_mount, always_remount, always_unless}
 use Rattle.hp_laws.proofs.SlotsBalanced.{new_in_file}
 use Rattle.hp_laws.proofs.LeavesWalk.{Leaves, leaves_walk}
 use Rattle.hp_laws.proofs.Walk.{walk}
@@ -313,6 +313,8 @@ GoesOn old o = IsSound (left_by old o)
 pub slots_stay_sound : SlotsStaySound
 slots_stay_sound size k c None (slot.Mount options) new sound = always_mount (GoesOn None) (λ r. tt) empty_sound c size options
 slots_stay_sound size k c None other new sound = tt
+slots_stay_sound size k c (Some m) (slot.Remount options) new sound =
+    always_remount (GoesOn (Some m)) (λ r. sound) m (λ l. record { files = sound.files; stamps = sound.stamps; numbers = sound.numbers }) size k options
 slots_stay_sound size k c (Some m) slot.Umount new sound = always_unless (GoesOn (Some m)) (λ r. sound) (umount_tests k m) (gives Done (Some m) None)
     (always_gives (GoesOn (Some m)) Done (Some m) None tt)
 slots_stay_sound size k c (Some m) e new sound =

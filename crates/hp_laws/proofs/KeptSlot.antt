@@ -16,7 +16,7 @@ use Rattle.hp_model.specs.files.Page.{Copy, Page}
 use Rattle.hp_model.specs.files.Spot.{Spot, spot}
 use Rattle.hp_model.specs.machine.Kept.{ChangesCell, ChangesPlace, Keeps, KeepsMap, unlinks}
 use Rattle.hp_model.specs.machine.Plan.{Slot}
-use Rattle.hp_model.specs.machine.Promises.{file_in, map_in, means_file, no_map, spot_on}
+use Rattle.hp_model.specs.machine.Promises.{file_in, map_in, means_file, named_on, no_map, spot_on}
 use Rattle.hp_model.specs.machine.SlotEvent.{file_named, has_name}
 use Rattle.hp_laws.proofs.Accessed.{get_mapped}
 use Rattle.hp_laws.proofs.Follows.{sweep_follows}
@@ -30,14 +30,18 @@ only_spot o q r e w = (let same : Some q ≡ Some r = sym e ∙ w in cc)
 pub only_file : (o : Option (ℕ × File)) (f g : ℕ × File) → o ≡ Some f → o ≡ Some g → f ≡ g
 only_file o f g e w = (let same : Some f ≡ Some g = sym e ∙ w in cc)
 
+-- a slot with all its files and maps as they were
+pub alike_keeps : (x y : Slot) (step : Step) → ((task number : ℕ) → spot_on y task number ≡ spot_on x task number) → ((name : List ℕ) → named_on y name ≡ named_on x name) → Keeps x step y
+alike_keeps x y step spots names = record {
+  maps = λ task number p q found there.
+      (let same : p ≡ q = only_spot (spot_on x task number) p q found (sym (spots task number) ∙ there) in
+      subst (λ r. KeepsMap x step y p r) same (record { places = λ j. inl refl; cells = λ j. inl refl; marked = λ marked. inl marked }));
+  files = λ name f g goes_on named there j. inl (ap (λ (h : ℕ × File). cell_at h.1 j) (sym (only_file _ f g named (sym (names name) ∙ there))));
+}
+
 -- a slot that is as it was
 pub same_keeps : (x : Slot) (step : Step) → Keeps x step x
-same_keeps x step = record {
-  maps = λ task number p q found there.
-      (let same : p ≡ q = only_spot (spot_on x task number) p q found there in
-      subst (λ r. KeepsMap x step x p r) same (record { places = λ j. inl refl; cells = λ j. inl refl; marked = λ marked. inl marked }));
-  files = λ name f g goes_on named there j. inl (ap (λ (h : ℕ × File). cell_at h.1 j) (sym (only_file _ f g named there)));
-}
+same_keeps x step = alike_keeps x x step (λ task number. refl) (λ name. refl)
 
 -- ---- events that change marks of no map
 

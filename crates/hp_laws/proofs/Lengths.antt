@@ -16,7 +16,7 @@ use Rattle.hp_model.specs.pool.NodeRows.{shrink_row, add_surplus_row, total_of, 
 use Rattle.hp_model.specs.pool.Pool.{section, granted_at, no_pages, page_taken, take_node, kept_times, puts_from, released, settled, give_back_times}
 use Rattle.hp_model.specs.declared.section.PoolAnswer.{PoolAnswer}
 use Rattle.hp_model.specs.declared.section.Section.{Section}
-use Rattle.hp_model.specs.declared.section.Section.TheVariants.{Grant, GrantPage, TakePage, GiveBack, ReadAndGrant, GrantAndReturn}
+use Rattle.hp_model.specs.declared.section.Section.TheVariants.{Grant, GrantPage, TakePage, GiveBack, ReadAndGrant, ReadAndGiveBack, GrantAndReturn}
 use Rattle.hp_model.specs.pool.PoolCounts.{Pool, rsvd}
 use Rattle.hp_model.specs.machine.Plan.{Reply}
 use Rattle.hp_model.specs.Profile.{most_overcommit}
@@ -89,6 +89,7 @@ long_section p (GiveBack puts k) = long_settled (released k (puts_from 0 puts p)
 long_section p (ReadAndGrant d) =
     cond_both (can_grant d p) (record { granted = true; node = 0; nr = p.nr }, granted 0 d p) (record { granted = false; node = 0; nr = p.nr }, p) (Long p)
     (λ e. long_granted 0 d p) (λ e. refl)
+long_section p (ReadAndGiveBack k) = long_settled (released k p)
 long_section p (GrantAndReturn d) =
     cond_both (can_grant d p) (record { granted = true; node = 0; nr = p.nr }, settled (released d (granted 0 d p))) (record { granted = false; node = 0; nr = p.nr }, p) (Long p)
     (λ e. long_settled (released d (granted 0 d p)) ∙ long_granted 0 d p) (λ e. refl)

@@ -41,6 +41,7 @@ pub mod Shortage
 pub mod ChildsMaps
 pub mod WholeMaps
 pub mod UnmapsCut
+pub mod Remounts
 pub mod MountsMade
 pub mod Promised
 pub mod Small

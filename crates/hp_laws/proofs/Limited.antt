@@ -1,4 +1,4 @@
--- A mount and its limits stay until its umount.
+-- A mount stays until its umount, and its limits until its umount or a remount.
 use Rattle.std.proofs.Common.{◌≡◌, ℕ, false, None, Some, length, refl}
 use Rattle.hp_model.specs.declared.answer.Answer.TheVariants.{Done}
 use Rattle.hp_model.specs.declared.event.SlotEvent.{SlotEvent}
@@ -7,13 +7,13 @@ use Rattle.hp_model.specs.declared.step.Step.{Step}
 use Rattle.hp_model.specs.files.Access.{access}
 use Rattle.hp_model.specs.files.File.{Mount}
 use Rattle.hp_model.specs.machine.Plan.{Choice, Answered, Slot, Reply}
-use Rattle.hp_model.specs.machine.Promises.{is_unmounted, SameLimits}
+use Rattle.hp_model.specs.machine.Promises.{is_relimited, SameLimits}
 use Rattle.hp_model.specs.machine.SlotEvent.{byte_access, fault_tests, on_mount, slot_event}
 use Rattle.hp_model.specs.files.Spot.{written}
 use Rattle.hp_model.specs.machine.State.{State}
 use Rattle.hp_model.specs.machine.Step.{IsStep}
 use Rattle.hp_laws.proofs.Accessed.{access_on, bytes_on}
-use Rattle.hp_laws.proofs.Lifted.{EndsBy, KeepsBut, ends_on, ends_open, ends_unless, is_umount, step_by}
+use Rattle.hp_laws.proofs.Lifted.{EndsBy, KeepsBut, ends_on, ends_open, ends_unless, relimits, step_by}
 use Rattle.hp_laws.proofs.Outcomes.{Always, always_then, always_weaker}
 use Rattle.hp_laws.proofs.Shown.{On, on_follows}
 use Rattle.hp_laws.proofs.SlotShows.{always_unless}
@@ -49,11 +49,11 @@ module _ (size k : ℕ) (c : Choice) (m : Mount) where
 
 -- ---- a slot
 
--- but for an umount's answer, the slot has the mount that it had, with its limits
-slot_keeps : (size k : ℕ) (c : Choice) (old : Slot) (e : SlotEvent) → Always (EndsBy SameLimits (is_umount e) old) (slot_event size k c old e)
+-- but for the answer of an umount or a remount, the slot has the mount that it had, with its limits
+slot_keeps : (size k : ℕ) (c : Choice) (old : Slot) (e : SlotEvent) → Always (EndsBy SameLimits (relimits e) old) (slot_event size k c old e)
 slot_keeps size k c None e = ends_open size k c e SameLimits (λ new. tt)
 slot_keeps size k c (Some m) e =
-    ends_unless SameLimits (Some m) (is_umount e) (on_mount size k c m e)
+    ends_unless SameLimits (Some m) (relimits e) (on_mount size k c m e)
     (λ is. always_weaker (On (λ n. n.limits ≡ m.limits)) (EndsBy SameLimits false (Some m))
     (ends_on SameLimits m (λ n. n.limits ≡ m.limits) (λ n h. h)) (on_mount size k c m e)
     (walk size k c m (Always (On (λ n. n.limits ≡ m.limits))) (leaves_walk size k c m (λ n. n.limits ≡ m.limits) (limits_stay size k c m)) e is))
@@ -62,5 +62,5 @@ same_limits : (old : Slot) → SameLimits old old
 same_limits None = tt
 same_limits (Some m) = refl
 
-pub step_keeps : (s : State) (reply : Reply) (t : State) (step : Step) → IsStep s step reply t → KeepsBut SameLimits (is_unmounted step reply) s t
+pub step_keeps : (s : State) (reply : Reply) (t : State) (step : Step) → IsStep s step reply t → KeepsBut SameLimits (is_relimited step reply) s t
 step_keeps s reply t step is = step_by SameLimits same_limits slot_keeps (λ size gone x y fades. fades.limits) s reply t step is

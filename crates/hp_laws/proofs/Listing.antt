@@ -1,70 +1,42 @@
 -- Only the event that asks for the names of files answers a list of names.
-use Rattle.std.proofs.Common.{◌≡◌, subst, ℕ, suc, ◌+◌, ◌*◌, ◌^◌, ◌<◌, ◌≤◌, ◌||◌, ◌&&◌, ◌==◌, ◌∙◌, Bool, true, false, not, Option, None, Some}
-use Rattle.std.proofs.Common.{is_some, Ok, Err, List, [], ◌∷◌, ◌++◌, drop, replicate, map, length, refl, sym, ap, arith, if◌then◌else◌, cond, nat_lt, nat_le}
-use Rattle.std.specs.List.{All, filter, position_or_len, range_with_len}
-use Rattle.std.proofs.lemmas.Bool.{cond_both, leb-false, ltb-false, or_parts}
-use Rattle.std.proofs.lemmas.List.{length-map}
-use Rattle.std.proofs.lemmas.List.Elements.{All-cons, All-head, All-replicate, All-tail, All-take}
-use Rattle.std.proofs.lemmas.List.FromFn.{length-range_with_len}
-use Rattle.std.proofs.lemmas.List.Sums.{sum_by-cons}
+use Rattle.std.proofs.Common.{◌≡◌, ℕ, ◌+◌, ◌≤◌, ◌||◌, ◌&&◌, ◌==◌, Bool, true, false, not, None, Some}
+use Rattle.std.proofs.Common.{is_some, List, [], ◌∷◌, drop, length, refl, if◌then◌else◌, nat_lt, nat_le}
+use Rattle.std.proofs.lemmas.Bool.{leb-false, ltb-false}
 use Rattle.hp_model.specs.declared.answer.Answer.TheVariants.{Done, Home, MapNo, Number, Bytes, Stat, Usage, Names, Numbers, PerNode}
-use Rattle.hp_model.specs.declared.event.Event.{Event}
-use Rattle.hp_model.specs.declared.event.Event.TheVariants.{Tasks, Slot as OnSlot, Pool as OnPool}
-use Rattle.hp_model.specs.declared.event.PoolEvent.{PoolEvent}
-use Rattle.hp_model.specs.declared.event.TableEvent.{TableEvent}
-use Rattle.hp_model.specs.declared.answer.NodeCount.{NodeCount}
 use Rattle.hp_model.specs.declared.cell.Cell.{Cell}
 use Rattle.hp_model.specs.declared.cell.Cell.TheVariants.{Hole, Entered, Present}
 use Rattle.hp_model.specs.declared.place.Place.{Place}
 use Rattle.hp_model.specs.declared.place.Place.TheVariants.{Gone, Live}
 use Rattle.hp_model.specs.declared.section.Section.TheVariants.{GrantPage}
-use Rattle.hp_model.specs.declared.event.PoolEvent.TheVariants as pool
 use Rattle.hp_model.specs.declared.event.SlotEvent.{SlotEvent}
 use Rattle.hp_model.specs.declared.event.SlotEvent.TheVariants as slot
-use Rattle.hp_model.specs.declared.event.TableEvent.TheVariants as table
-use Rattle.hp_model.specs.declared.node.NodeRow.{NodeRow}
 use Rattle.hp_model.specs.declared.refusal.Refusal.{Refusal}
 use Rattle.hp_model.specs.declared.refusal.Refusal.TheVariants.{MountFull, NoPages, OutOfMemory, OutOfRange, CrossesPage, TooMany, BeyondEnd, NoSuchMap}
-use Rattle.hp_model.specs.declared.refusal.Refusal.TheVariants.{NoSuchFile, NoSuchNode, TaskExists, BadName, FileExists, NoInodes, Busy}
+use Rattle.hp_model.specs.declared.refusal.Refusal.TheVariants.{NoSuchFile, BadName, FileExists, NoInodes, Busy}
 use Rattle.hp_model.specs.declared.step.Intent.{Intent}
 use Rattle.hp_model.specs.declared.step.Intent.TheVariants.{Read, Write}
 use Rattle.hp_model.specs.declared.step.Reserving.{Reserving}
 use Rattle.hp_model.specs.declared.step.Sharing.{Sharing}
-use Rattle.hp_model.specs.declared.step.Step.{Step}
-use Rattle.hp_model.specs.declared.step.Step.TheVariants.{Exit, Fork}
 use Rattle.hp_model.specs.files.Access.{access, new_copy, private_access, shared_access}
 use Rattle.hp_model.specs.files.CopyWrite.{copy_write, is_held_once, taken_back}
-use Rattle.hp_model.specs.machine.Event.{IsEvent, has_maps_of}
 use Rattle.hp_model.specs.files.Fork.{forked}
 use Rattle.hp_model.specs.files.GiveBack.{punched, truncated, unlinked, unmapped_from, without_task}
-use Rattle.hp_model.specs.files.File.{File, Mount, cell_at, has_page, maps_of, new_file, with_file}
+use Rattle.hp_model.specs.files.File.{File, Mount, cell_at, has_page, new_file, with_file}
 use Rattle.hp_model.specs.pool.Grant.{is_full, is_over, rise}
-use Rattle.hp_model.specs.Lists.{is_among}
-use Rattle.hp_model.specs.machine.Machine.{committed_pages, pool_of, rows_of}
-use Rattle.hp_model.specs.files.MakeMap.{asked, mapped, next_number, numbers_of, with_new}
-use Rattle.hp_model.specs.files.Mapping.{is_map, is_of, is_shared, place_at}
-use Rattle.hp_model.specs.pool.NodeRows.{IsRow, total_of, frames_of}
+use Rattle.hp_model.specs.files.MakeMap.{asked, mapped, next_number, with_new}
+use Rattle.hp_model.specs.files.Mapping.{is_map, is_shared, place_at}
 use Rattle.hp_model.specs.files.Page.{Copy, Page}
-use Rattle.hp_model.specs.pool.PoolCounts.{Pool}
-use Rattle.hp_model.specs.machine.Plan.{Ask, grant_page, when_granted, with_value, Reply, Slot, Outcome, Refused, Answered, Plan, Finish, Choice, unless, continued, grant, gives}
-use Rattle.hp_model.specs.Profile.{most_overcommit, most_bytes, most_file_pages, most_files, most_map_pages, most_maps}
-use Rattle.hp_model.specs.machine.Promises.{is_usage}
-use Rattle.hp_model.specs.pool.Resize.{no_count, node_count, pool_event}
-use Rattle.hp_model.specs.machine.Settled.{IsSettledState}
+use Rattle.hp_model.specs.machine.Plan.{Ask, grant_page, when_granted, with_value, Slot, Outcome, Refused, Answered, Plan, Finish, Choice, unless, continued, grant, gives}
+use Rattle.hp_model.specs.Profile.{most_bytes, most_file_pages, most_files, most_map_pages}
 use Rattle.hp_model.specs.machine.SlotEvent.{anon_tests, edited, fault, fault_tests, fork_tests, is_bad_range, on_mount, punch, read}
 use Rattle.hp_model.specs.machine.SlotEvent.{truncate, unlink, unmap, are_too_many_maps, byte_access, bytes_answer, file_named, has_maps, is_beyond}
-use Rattle.hp_model.specs.machine.SlotEvent.{is_name, is_new_task_over, is_unmapped, load, map_file, slot_event, store}
+use Rattle.hp_model.specs.machine.SlotEvent.{is_name, is_unmapped, load, map_file, slot_event, store}
 use Rattle.hp_model.specs.files.Spot.{Spot, again, copied, spot, written}
-use Rattle.hp_model.specs.machine.State.{Node, State, slot_at}
-use Rattle.hp_model.specs.machine.Step.{Answer_with, Do, IsScript, IsStep, Script, Where_mapped, exit_slots, fork_slots, or_undone, script, when_done}
-use Rattle.hp_model.specs.machine.Table.{Table, added, home_of, is_crowded, is_known, or_refused, removed, table_event, when_known}
 use Rattle.hp_model.specs.files.Value.{shown, value}
-use Rattle.hp_model.specs.text.Writing.{IsWithinLimits}
 use Rattle.hp_laws.proofs.MountMoves.{IsSpot, spot_is}
-use Rattle.hp_laws.proofs.Outcomes.{either_way, Always, always_if, outcome_if, always_test, always_then, always_weaker, event_ends, reply_of}
+use Rattle.hp_laws.proofs.Outcomes.{Always, always_if, outcome_if, always_test, always_then, always_weaker}
 use Rattle.hp_laws.proofs.Shown.{On, Same, Result, on_weaker, read_same, write_done}
-use Rattle.hp_laws.proofs.Whole.{by_event, is_whole, step_of}
-use Rattle.hp_laws.proofs.SlotShows.{always_gives, always_grant, always_mount, always_unless, always_value, bytes_on}
+use Rattle.hp_laws.proofs.SlotShows.{always_gives, always_grant, always_mount, always_remount, always_unless, always_value, bytes_on}
 use Rattle.hp_model.specs.declared.answer.Answer.{Answer}
 use Rattle.hp_model.specs.machine.Copying.{has_names}
 use Rattle.hp_model.specs.machine.SlotEvent.{stat}
@@ -235,6 +207,7 @@ module _ (size k : ℕ) (c : Choice) (m : Mount) where
 
   mounted_unlisted : (e : SlotEvent) → lists_names e ≡ false → Always Unlisted (on_mount size k c m e)
   mounted_unlisted (slot.Mount options) e = tt
+  mounted_unlisted (slot.Remount options) e = always_remount Unlisted (λ r. tt) m (λ l. tt) size k options
   mounted_unlisted slot.Umount e = umount_unlisted size k c (Some m)
   mounted_unlisted (slot.Create name) e = create_unlisted size k c (Some m) name
   mounted_unlisted (slot.Unlink name) e = of_file name (unlink m) (λ q. done_unlisted (edited m q.0 (unlinked q.1)))

@@ -27,7 +27,7 @@ use Rattle.hp_model.specs.machine.Plan.{Answered, Ask, Choice, Finish, Outcome, 
 use Rattle.hp_model.specs.machine.SlotEvent.{byte_access, byte_tests, bytes_answer, edited, fault_tests, on_mount}
 use Rattle.hp_model.specs.files.Spot.{Spot, again, written}
 use Rattle.hp_model.specs.files.Value.{value}
-use Rattle.hp_laws.proofs.Walk.{Walks, plan_unless, walk_all}
+use Rattle.hp_laws.proofs.Walk.{Walks, plan_unless, remounting, walk_all}
 
 module _ (W : Plan → Type 0) where
   pub record PlanRules : Type 0 where
@@ -37,6 +37,7 @@ module _ (W : Plan → Type 0) where
     pub pages_or : (home k : ℕ) (n : ℕ → Slot) (other : Slot) → W (Ask (λ nr. GrantPage home k) (λ a. if a.granted then Answered Done (n a.node) else Answered Done other))
     pub takes : (home : ℕ) (n : ℕ → Slot) → W (Ask (λ nr. TakePage home) (λ a. Answered Done (n a.node)))
     pub puts : (pages : List ℕ) (k : ℕ) (a : Answer) (s : Slot) → W (Ask (λ nr. GiveBack pages k) (λ answer. Answered a s))
+    pub remounts : (size : ℕ) (m : Mount) (options : List ℕ) → W (remounting size m options)
     pub follows : (answer : Mount → Answer) (h : Mount → Mount) (p : Plan) → W p → W (and_then (λ m. Answered (answer m) (Some (h m))) p)
 
   module _ (rules : PlanRules) where
@@ -143,4 +144,4 @@ module _ (W : Plan → Type 0) where
     }
 
     pub plan_walk : (size k : ℕ) (c : Choice) (m : Mount) (e : SlotEvent) → W (on_mount size k c m e)
-    plan_walk size k c m e = walk_all size k c m W (plan_walks size k c m) (plan_gives Done (Some m) None) e
+    plan_walk size k c m e = walk_all size k c m W (plan_walks size k c m) (rules.remounts size m) (plan_gives Done (Some m) None) e

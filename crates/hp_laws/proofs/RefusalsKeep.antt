@@ -1,5 +1,5 @@
 -- A refused event leaves everything as it was.
-use Rattle.std.proofs.Common.{◌≡◌, subst, ℕ, ◌+◌, ◌-◌, Bool, true, false, Option, None, Some, Result, Ok, Err, List, [], ◌∷◌, length, refl, sym, ap, ◌∙◌, arith, if◌then◌else◌, nat_le}
+use Rattle.std.proofs.Common.{◌≡◌, subst, ℕ, ◌+◌, ◌-◌, Bool, true, false, Option, None, Some, Result, Ok, Err, List, [], ◌∷◌, length, refl, sym, ap, ◌∙◌, arith, if◌then◌else◌, nat_le, nat_lt}
 use Rattle.std.specs.Bool.{MatchBool}
 use Rattle.std.specs.Prelude.{max}
 use Rattle.std.proofs.lemmas.Bool.{cond_both}
@@ -23,19 +23,20 @@ use Rattle.hp_model.specs.pool.NodeRows.{total_of, surp_of}
 use Rattle.hp_model.specs.machine.Promises.{is_late, SameButNodes}
 use Rattle.hp_laws.specs.Laws.{RefusalsChangeNothing}
 use Rattle.hp_model.specs.machine.Machine.{pool_of, with_pool}
+use Rattle.hp_model.specs.files.MountCounts.{committed_of}
 use Rattle.hp_model.specs.files.Options.{limits, wanted_of}
 use Rattle.hp_model.specs.machine.Plan.{Reply, Slot, Outcome, Refused, Answered, Plan, Finish, Ask, Choice, continued, and_then, when_granted}
 use Rattle.hp_model.specs.pool.Pool.{section, granted_at, no_pages, released, settled as settled_pool, take_node, page_taken, give_back_times}
 use Rattle.hp_model.specs.declared.section.PoolAnswer.{PoolAnswer}
-use Rattle.hp_model.specs.declared.section.Section.TheVariants.{ReadAndGrant, GrantAndReturn}
+use Rattle.hp_model.specs.declared.section.Section.TheVariants.{ReadAndGiveBack, ReadAndGrant, GrantAndReturn}
 use Rattle.hp_model.specs.pool.PoolCounts.{Pool}
 use Rattle.hp_model.specs.Profile.{most_overcommit}
 use Rattle.hp_model.specs.pool.Resize.{pool_event}
 use Rattle.hp_model.specs.machine.Settled.{IsSettledPool, IsSettledState}
-use Rattle.hp_model.specs.machine.SlotEvent.{slot_event, on_mount, on_none, mount_section, mount_pages, mount_outcome}
+use Rattle.hp_model.specs.machine.SlotEvent.{slot_event, on_mount, on_none, mount_section, mount_pages, mount_outcome, committed_with, remount_outcome, remount_section}
 use Rattle.hp_model.specs.machine.State.{State, slot_at}
 use Rattle.hp_model.specs.machine.Table.{Table, table_event, or_refused, when_known, home_of, is_known, is_crowded, added, removed}
-use Rattle.hp_laws.proofs.SlotsBalanced.{tells_nr}
+use Rattle.hp_laws.proofs.SlotsBalanced.{remount_tells, tells_nr}
 use Rattle.hp_laws.proofs.PlanRules.{PlanRules, plan_walk}
 use Rattle.hp_laws.proofs.Tied.{pool_back}
 
@@ -73,6 +74,31 @@ both_answer : (b : Bool) (a1 a2 : Answer) (s1 s2 : Slot) (r : Refusal) → (if�
 both_answer true a1 a2 s1 s2 r e = cc
 both_answer false a1 a2 s1 s2 r e = cc
 
+-- a grant of nothing leaves a settled pool as it is
+pub granted_none : (p : Pool) → total_of p.nodes.rows ≡ max p.nr p.committed → granted 0 0 p ≡ p
+granted_none p total =
+    let none : p.committed + 0 - total_of p.nodes.rows ≡ 0 = omega (arith, total) in
+    let same : p.committed + 0 ≡ p.committed = omega arith in
+    ap (λ k. record p { committed = p.committed + 0; nodes = surplus_times 0 k p.nodes }) none ∙ ap (λ c. record p { committed = c }) same
+
+-- the section of a remount that is refused
+remount_keeps : (m : Mount) (l : Result Limits Refusal) (p : Pool) (r : Refusal) → IsSettledPool p → remount_outcome m (section p (remount_section m l)).0 l ≡ Refused r
+    → (section p (remount_section m l)).1 ≡ p
+remount_keeps m (Err e) p r st is = granted_none p st.total
+remount_keeps m (Ok l) p r st is = by_minimum (nat_lt (committed_with m l.min) (committed_of m)) is
+  where
+    by_test : (b : Bool) (q : Pool)
+        → remount_outcome m (if◌then◌else◌ {A = PoolAnswer × Pool} b (record { granted = true; node = 0; nr = p.nr }, q) (record { granted = false; node = 0; nr = p.nr }, p)).0 (Ok l) ≡ Refused r
+        → (if◌then◌else◌ {A = PoolAnswer × Pool} b (record { granted = true; node = 0; nr = p.nr }, q) (record { granted = false; node = 0; nr = p.nr }, p)).1 ≡ p
+    by_test true q is = cc
+    by_test false q is = refl
+
+    by_minimum : (less : Bool)
+        → remount_outcome m (section p (if less then ReadAndGiveBack (committed_of m - committed_with m l.min) else ReadAndGrant (committed_with m l.min - committed_of m))).0 (Ok l) ≡ Refused r
+        → (section p (if less then ReadAndGiveBack (committed_of m - committed_with m l.min) else ReadAndGrant (committed_with m l.min - committed_of m))).1 ≡ p
+    by_minimum true is = cc
+    by_minimum false is = by_test (can_grant (committed_with m l.min - committed_of m) p) (granted 0 (committed_with m l.min - committed_of m) p) is
+
 keep_rules : PlanRules (IsKept never)
 keep_rules = record {
   done = done;
@@ -86,17 +112,16 @@ keep_rules = record {
   pages_or = λ home k n other. record { keeps = λ p r st late is. absurd (both_answer _ _ _ _ _ r is) };
   takes = λ home n. record { keeps = λ p r st late is. cc };
   puts = λ pages k a s. record { keeps = λ p r st late is. cc };
+  remounts = λ size m options. record {
+    keeps = λ p r st late is.
+        (let l = limits p.nr size (wanted_of options) in
+        remount_keeps m l p r st
+        (subst (λ nr. remount_outcome m (section p (remount_section m l)).0 (limits nr size (wanted_of options)) ≡ Refused r) (remount_tells p m l) is));
+  };
   follows = keeps_then;
 }
 
 -- ---- a mount
-
--- a grant of nothing leaves a settled pool as it is
-pub granted_none : (p : Pool) → total_of p.nodes.rows ≡ max p.nr p.committed → granted 0 0 p ≡ p
-granted_none p total =
-    let none : p.committed + 0 - total_of p.nodes.rows ≡ 0 = omega (arith, total) in
-    let same : p.committed + 0 ≡ p.committed = omega arith in
-    ap (λ k. record p { committed = p.committed + 0; nodes = surplus_times 0 k p.nodes }) none ∙ ap (λ c. record p { committed = c }) same
 
 settled_already : (p : Pool) → IsSettledPool p → settled_pool (released 0 p) ≡ p
 settled_already p s =

@@ -10,7 +10,7 @@ use Rattle.hp_model.specs.pool.NodeRows.{used as row_used}
 use Rattle.hp_model.specs.pool.Pool.{take_node, page_taken, puts_from, released, settled as settled_pool, granted_at, no_pages, section}
 use Rattle.hp_model.specs.declared.section.PoolAnswer.{PoolAnswer}
 use Rattle.hp_model.specs.declared.section.Section.{Section}
-use Rattle.hp_model.specs.declared.section.Section.TheVariants.{Grant, GrantPage, TakePage, GiveBack, ReadAndGrant, GrantAndReturn}
+use Rattle.hp_model.specs.declared.section.Section.TheVariants.{Grant, GrantPage, TakePage, GiveBack, ReadAndGrant, ReadAndGiveBack, GrantAndReturn}
 use Rattle.hp_model.specs.pool.PoolCounts.{Pool, used}
 use Rattle.hp_model.specs.machine.Settled.{IsSettledPool}
 use Rattle.hp_model.proofs.RowMoves.{used_sum}
@@ -74,7 +74,7 @@ pub record IsWanted (p : Pool) (sec : Section) (a : PoolAnswer) (f g : ℕ → �
   pub few : k ≤ 4
   pub long : length p.nodes.rows ≡ k
   pub was : map row_used p.nodes.rows ≡ map f (range_with_len 0 k)
-  pub commits : c + lowered_by sec ≡ p.committed + raised_by sec a
+  pub commits : c + lowered_by sec a ≡ p.committed + raised_by sec a
   pub pages : (n : ℕ) → n < 4 → g n + put_at n sec ≡ f n + taken_at n sec a
   pub covered : takes_page sec a ≡ true → used p + 1 ≤ p.committed + raised_by sec a
   pub within : sum (map g (range_with_len 0 k)) ≤ c
@@ -169,4 +169,5 @@ section_leads p (TakePage home) f g c k s w =
     let within = taken.1 in (taken.0, (λ e. omega (arith, within, long)))
 section_leads p (GiveBack puts j) f g c k s w = (given_back puts j p f g c k s w.few w.long w.was (let x = w.commits in omega (arith, x)) w.pages w.within, (λ e. cc))
 section_leads p (ReadAndGrant d) f g c k s w = read_case p d (can_grant d p) f g c k s refl w
+section_leads p (ReadAndGiveBack j) f g c k s w = (given_back [] j p f g c k s w.few w.long w.was (let x = w.commits in omega (arith, x)) w.pages w.within, (λ e. cc))
 section_leads p (GrantAndReturn d) f g c k s w = return_case p d (can_grant d p) f g c k s refl w

@@ -1,5 +1,5 @@
 -- A step that is refused for want of pages lacks what it asks for: past its mount's limit, or more than the pool can commit.
-use Rattle.std.proofs.Common.{◌≡◌, subst, ℕ, ◌&&◌, ◌||◌, ◌==◌, Bool, true, false, not, Option, None, Some, is_some, Result, Ok, Err, List, [], ◌∷◌}
+use Rattle.std.proofs.Common.{◌≡◌, subst, ℕ, ◌-◌, ◌&&◌, ◌||◌, ◌==◌, Bool, true, false, not, Option, None, Some, is_some, Result, Ok, Err, List, [], ◌∷◌}
 use Rattle.std.proofs.Common.{◌++◌, length, refl, sym, ap, ◌∙◌, if◌then◌else◌, nat_le, nat_lt}
 use Rattle.std.proofs.lemmas.Bool.{and_parts, cond_both, eqb-true}
 use Rattle.std.specs.List.{range_with_len}
@@ -16,7 +16,7 @@ use Rattle.hp_model.specs.declared.limits.Limits.{Limits}
 use Rattle.hp_model.specs.declared.place.Place.{Place}
 use Rattle.hp_model.specs.declared.place.Place.TheVariants.{Gone, Live}
 use Rattle.hp_model.specs.declared.refusal.Refusal.{Refusal}
-use Rattle.hp_model.specs.declared.refusal.Refusal.TheVariants.{BadOption, MinOverSize, SlotTaken, MountFull, NoPages, NoSuchFile, NoSuchMap}
+use Rattle.hp_model.specs.declared.refusal.Refusal.TheVariants.{BadOption, MinOverSize, SlotTaken, MountFull, NoPages, NoSuchFile, NoSuchMap, NoSuchSlot}
 use Rattle.hp_model.specs.declared.refusal.Refusal.TheVariants.{NoSuchNode, OutOfMemory, OutOfRange, TakenByOwner, TaskExists, TooMany}
 use Rattle.hp_model.specs.declared.section.PoolAnswer.{PoolAnswer}
 use Rattle.hp_model.specs.declared.section.Section.TheVariants.{Grant, GrantAndReturn, GrantPage, ReadAndGrant}
@@ -31,6 +31,7 @@ use Rattle.hp_model.specs.files.CopyWrite.{copy_write, is_held_once}
 use Rattle.hp_model.specs.files.File.{File, Mount, cell_at, has_page, is_entered, new_file}
 use Rattle.hp_model.specs.files.MakeMap.{asked}
 use Rattle.hp_model.specs.files.Mapping.{copy_of, is_map, is_shared, is_unconsumed, place_at}
+use Rattle.hp_model.specs.files.MountCounts.{committed_of}
 use Rattle.hp_model.specs.files.Options.{Wanted, checked, is_below_min, limits, limits_of, wanted_of}
 use Rattle.hp_model.specs.files.Page.{Copy, Page}
 use Rattle.hp_model.specs.files.Reserved.{is_reserved}
@@ -41,10 +42,10 @@ use Rattle.hp_model.specs.machine.Machine.{pool_of, with_pool}
 use Rattle.hp_model.specs.machine.Plan.{Answered, Ask, Choice, Finish, Outcome, Plan, Refused, Reply, Slot, and_then, continued, gives, grant}
 use Rattle.hp_model.specs.machine.Plan.{grant_page, refuse, unless, when_granted, with_value}
 use Rattle.hp_model.specs.machine.Promises.{is_for_pages}
-use Rattle.hp_model.specs.machine.Short.{IsMountShort, IsShort, IsShortOn, MeetsShortage, asked_of, asks, has_own, is_backed, owns_copy, page_for}
+use Rattle.hp_model.specs.machine.Short.{IsMountShort, IsRemountShort, IsRemountShortOn, IsShort, IsShortOn, MeetsShortage, asked_of, asks, has_own, is_backed, owns_copy, page_for}
 use Rattle.hp_model.specs.machine.SlotEvent.{anon_tests, create_tests, edited, fork_tests, is_bad_range, mount_section, punch, read, read_tests, stat}
 use Rattle.hp_model.specs.machine.SlotEvent.{truncate, umount_tests, unlink, unmap, byte_access, byte_tests, bytes_answer, fault, fault_tests}
-use Rattle.hp_model.specs.machine.SlotEvent.{file_named, load, map_anon, map_file, map_tests, mount_outcome, mount_pages, slot_event, store}
+use Rattle.hp_model.specs.machine.SlotEvent.{committed_with, file_named, load, map_anon, map_file, map_tests, mount_outcome, mount_pages, remount_outcome, slot_event, store}
 use Rattle.hp_model.specs.machine.State.{State, slot_at}
 use Rattle.hp_model.specs.machine.Step.{Answer_with, IsScript, IsScripted, IsStep, Script, exit_slots, fork_slots, or_undone, undone, when_done}
 use Rattle.hp_model.specs.machine.Table.{Table, added, home_of, is_crowded, is_known, or_refused, table_event, when_known}
@@ -58,9 +59,24 @@ use Rattle.hp_model.specs.pool.PoolCounts.{Pool}
 use Rattle.hp_model.specs.files.GiveBack.{punched, truncated, unlinked, unmapped_from, without_task}
 use Rattle.hp_model.specs.files.Fork.{forked}
 use Rattle.hp_laws.specs.Laws.{KeepsGoing}
+use Rattle.hp_laws.proofs.Remounts.{remount_ends, remount_told, told_granted}
 use Rattle.hp_laws.proofs.SlotShows.{always_gives}
 use Rattle.hp_laws.proofs.Outcomes.{Always, either_way, reply_of}
 use Rattle.hp_laws.proofs.Whole.{by_event, early_pages, is_early, is_whole, slot_step, step_of}
+
+-- ---- limits
+
+-- what options are refused is no refusal for pages
+checked_plain : (l : Limits) (r : Refusal) → checked l ≡ Err r → is_for_pages r ≡ false
+checked_plain l r e = by_test (is_below_min l.max l.min) e
+  where
+    by_test : (b : Bool) → (if b then Err MinOverSize else Ok l) ≡ Err r → is_for_pages r ≡ false
+    by_test true e = (let same : MinOverSize ≡ r = cc in ap is_for_pages (sym same))
+    by_test false e = cc
+
+limits_plain : (nr size : ℕ) (w : Option Wanted) (r : Refusal) → limits nr size w ≡ Err r → is_for_pages r ≡ false
+limits_plain nr size None r e = (let same : BadOption ≡ r = cc in ap is_for_pages (sym same))
+limits_plain nr size (Some w) r e = checked_plain (limits_of nr size w) r e
 
 -- ---- outcomes at the state's pool
 
@@ -329,17 +345,6 @@ module _ (s : State) where
     MountShort options (Refused r) = IsMountShort (pool_of s) (limits s.nr size (wanted_of options)) r
     MountShort options (Answered a new) = Unit {0}
 
-    checked_plain : (l : Limits) (r : Refusal) → checked l ≡ Err r → is_for_pages r ≡ false
-    checked_plain l r e = by_test (is_below_min l.max l.min) e
-      where
-        by_test : (b : Bool) → (if b then Err MinOverSize else Ok l) ≡ Err r → is_for_pages r ≡ false
-        by_test true e = (let same : MinOverSize ≡ r = cc in ap is_for_pages (sym same))
-        by_test false e = cc
-
-    limits_plain : (nr : ℕ) (w : Option Wanted) (r : Refusal) → limits nr size w ≡ Err r → is_for_pages r ≡ false
-    limits_plain nr None r e = (let same : BadOption ≡ r = cc in ap is_for_pages (sym same))
-    limits_plain nr (Some w) r e = checked_plain (limits_of nr size w) r e
-
     section_told : (d : ℕ) → (a : PoolAnswer) → a ≡ (section (pool_of s) (mount_section c d)).0 → (a.nr ≡ s.nr) × (a.granted ≡ can_grant d (pool_of s))
     section_told d a is = subst (λ (x : PoolAnswer). (x.nr ≡ s.nr) × (x.granted ≡ can_grant d (pool_of s))) (sym is) (by_kind c.after_grant)
       where
@@ -351,7 +356,7 @@ module _ (s : State) where
     -- what the answer leads to, by the limits
     mount_leads : (options : List ℕ) (x : Result Limits Refusal) → limits s.nr size (wanted_of options) ≡ x → (a : PoolAnswer) → a.granted ≡ can_grant (mount_pages c x) (pool_of s)
         → MountShort options (mount_outcome c a x)
-    mount_leads options (Err r) is a told = subst (λ y. IsMountShort (pool_of s) y r) (sym is) (limits_plain s.nr (wanted_of options) r is)
+    mount_leads options (Err r) is a told = subst (λ y. IsMountShort (pool_of s) y r) (sym is) (limits_plain s.nr size (wanted_of options) r is)
     mount_leads options (Ok l) is a told = by_refused c.refused refl
       where
         by_granted : (late b : Bool) → b ≡ can_grant l.min (pool_of s)
@@ -407,6 +412,7 @@ module _ (s : State) where
 
     abbrev is_plain : SlotEvent → Bool
     is_plain (slot.Mount options) = false
+    is_plain (slot.Remount options) = false
     is_plain (slot.Map task home name a n sharing reserving) = false
     is_plain (slot.Anon task home n sharing reserving) = false
     is_plain (slot.Fault task home number i t) = false
@@ -416,8 +422,10 @@ module _ (s : State) where
 
     goes_event : (old : Slot) (e : SlotEvent) → is_plain e ≡ true → At KeepsGoing (slot_event size k c old e)
     goes_event None (slot.Mount options) plain = cc
+    goes_event None (slot.Remount options) plain = cc
     goes_event None e plain = refl
     goes_event (Some m) (slot.Mount options) plain = cc
+    goes_event (Some m) (slot.Remount options) plain = cc
     goes_event (Some m) (slot.Map task home name a n sharing reserving) plain = cc
     goes_event (Some m) (slot.Anon task home n sharing reserving) plain = cc
     goes_event (Some m) (slot.Fault task home number i t) plain = cc
@@ -440,6 +448,11 @@ module _ (s : State) where
 
   -- ---- steps of one event
 
+  -- what is told apart, of the pool and the limits at once
+  abbrev is_remount : SlotEvent → Bool
+  is_remount (slot.Remount options) = true
+  is_remount e = false
+
   at_weaker : (P Q : Outcome → Type 0) → ((o : Outcome) → P o → Q o) → (p : Plan) → At P p → At Q p
   at_weaker P Q h (Finish o) at = h o at
   at_weaker P Q h (Ask sec f) at = h (f (section (pool_of s) (sec s.nr)).0) at
@@ -450,6 +463,7 @@ module _ (s : State) where
   module _ (c : Choice) (k : ℕ) where
     plain_meets : (e : SlotEvent) → is_plain c s.page_size k e ≡ true → (o : Outcome) → KeepsGoing o → Meets k e o
     plain_meets (slot.Mount options) plain o h = cc
+    plain_meets (slot.Remount options) plain o h = cc
     plain_meets (slot.Map task home name a n sharing reserving) plain o h = cc
     plain_meets (slot.Anon task home n sharing reserving) plain o h = cc
     plain_meets (slot.Fault task home number i t) plain o h = cc
@@ -492,25 +506,26 @@ module _ (s : State) where
     store_meets task home number i offset bytes (Refused r) h = h
     store_meets task home number i offset bytes (Answered x new) h = tt
 
-    meets : (e : SlotEvent) → is_whole (OnSlot k e) ≡ true → At (Meets k e) (slot_event s.page_size k c (slot_at s k) e)
-    meets (slot.Mount options) whole =
+    meets : (e : SlotEvent) → is_remount e ≡ false → is_whole (OnSlot k e) ≡ true → At (Meets k e) (slot_event s.page_size k c (slot_at s k) e)
+    meets (slot.Mount options) other whole =
         turn (slot.Mount options) (MountShort c s.page_size k options) (mount_meets options) (of_mount c s.page_size k (slot_at s k) options)
-    meets (slot.Map task home name a n sharing reserving) whole =
+    meets (slot.Map task home name a n sharing reserving) other whole =
         turn (slot.Map task home name a n sharing reserving) (ShortOn (slot_at s k) (step.Map task k name a n sharing reserving))
         (map_meets task home name a n sharing reserving) (of_map c s.page_size k (slot_at s k) task home name a n sharing reserving)
-    meets (slot.Anon task home n sharing reserving) whole =
+    meets (slot.Anon task home n sharing reserving) other whole =
         turn (slot.Anon task home n sharing reserving) (ShortOn (slot_at s k) (step.Anon task n sharing reserving))
         (anon_meets (eqb-true k 0 whole) task home n sharing reserving) (of_anon c s.page_size k (slot_at s k) task home n sharing reserving)
-    meets (slot.Fault task home number i t) whole =
+    meets (slot.Fault task home number i t) other whole =
         turn (slot.Fault task home number i t) (ShortOn (slot_at s k) (step.Fault task k number i t)) (fault_meets task home number i t)
         (of_fault c s.page_size k (slot_at s k) task home number i t)
-    meets (slot.Load task home number i offset count) whole =
+    meets (slot.Load task home number i offset count) other whole =
         turn (slot.Load task home number i offset count) (ShortOn (slot_at s k) (step.Load task k number i offset count))
         (load_meets task home number i offset count) (of_load c s.page_size k (slot_at s k) task home number i offset count)
-    meets (slot.Store task home number i offset bytes) whole =
+    meets (slot.Store task home number i offset bytes) other whole =
         turn (slot.Store task home number i offset bytes) (ShortOn (slot_at s k) (step.Store task k number i offset bytes))
         (store_meets task home number i offset bytes) (of_store c s.page_size k (slot_at s k) task home number i offset bytes)
-    meets e whole = of_plain e refl
+    meets (slot.Remount options) other whole = cc
+    meets e other whole = of_plain e refl
 
 -- ---- the table and the pool
 
@@ -600,6 +615,7 @@ module _ (reply : Reply) (t : State) where
 module _ (s : State) where
   abbrev none_asked : Step → Bool
   none_asked (step.Mount k options) = false
+  none_asked (step.Remount k options) = false
   none_asked (step.Map task k name a n sharing reserving) = false
   none_asked (step.Anon task n sharing reserving) = false
   none_asked (step.Fault task k number i t) = false
@@ -609,6 +625,7 @@ module _ (s : State) where
 
   by_plain : (x : Step) → none_asked x ≡ true → (reply : Reply) → Plain reply → MeetsShortage s x reply
   by_plain (step.Mount k options) none reply h = cc
+  by_plain (step.Remount k options) none reply h = cc
   by_plain (step.Map task k name a n sharing reserving) none reply h = cc
   by_plain (step.Anon task n sharing reserving) none reply h = cc
   by_plain (step.Fault task k number i t) none reply h = cc
@@ -626,8 +643,53 @@ module _ (s : State) where
   plain_mount (Ok l) other e = e
   plain_mount (Err x) r e = e
 
+  plain_remount : (old : Slot) (l : Result Limits Refusal) (r : Refusal) → is_for_pages r ≡ false → IsRemountShortOn (pool_of s) old l r
+  plain_remount None l r e = e
+  plain_remount (Some m) (Ok l) NoPages e = cc
+  plain_remount (Some m) (Ok l) other e = e
+  plain_remount (Some m) (Err x) r e = e
+
+  -- what a remount of an open slot lacks
+  remount_short : (k : ℕ) (options : List ℕ) (m : Mount) (reply : Reply) (t : State) → slot_at s k ≡ Some m → IsEvent s (OnSlot k (slot.Remount options)) reply t
+      → MeetsShortage s (step.Remount k options) reply
+  remount_short k options m reply t there is =
+      subst (λ r. MeetsShortage s (step.Remount k options) r) (sym (remount_ends s k options m there reply t is).replied)
+      (by_limits (k == 0) (limits s.nr s.page_size (wanted_of options)) refl (remount_told s k options m) (told_granted s k options m))
+    where
+      plainly : (r : Refusal) → is_for_pages r ≡ false → MeetsShortage s (step.Remount k options) (Err r)
+      plainly r e = plain_remount (slot_at s k) (limits s.nr s.page_size (wanted_of options)) r e
+
+      by_granted : (l : Limits) → limits s.nr s.page_size (wanted_of options) ≡ Ok l → (b : Bool)
+          → (b ≡ false → can_grant (committed_with m l.min - committed_of m) (pool_of s) ≡ false)
+          → MeetsShortage s (step.Remount k options) (reply_of (if b then Answered Done (Some (record m { limits = l })) else Refused NoPages))
+      by_granted l wanted true lacks = tt
+      by_granted l wanted false lacks =
+          subst (λ old. IsRemountShortOn (pool_of s) old (limits s.nr s.page_size (wanted_of options)) NoPages) (sym there)
+          (subst (λ x. IsRemountShort (pool_of s) m x NoPages) (sym wanted) (lacks refl))
+
+      by_limits : (first : Bool) (x : Result Limits Refusal) → limits s.nr s.page_size (wanted_of options) ≡ x → (a : PoolAnswer)
+          → ((l : Limits) → limits s.nr s.page_size (wanted_of options) ≡ Ok l → a.granted ≡ false → can_grant (committed_with m l.min - committed_of m) (pool_of s) ≡ false)
+          → MeetsShortage s (step.Remount k options) (reply_of (if first then Refused SlotTaken else remount_outcome m a x))
+      by_limits true x wanted a lacks = plainly SlotTaken refl
+      by_limits false (Err r) wanted a lacks = plainly r (limits_plain s.nr s.page_size (wanted_of options) r wanted)
+      by_limits false (Ok l) wanted a lacks = by_granted l wanted a.granted (lacks l wanted)
+
+  event_remount : (k : ℕ) (options : List ℕ) (old : Slot) → slot_at s k ≡ old → (reply : Reply) (t : State) → IsEvent s (OnSlot k (slot.Remount options)) reply t
+      → MeetsShortage s (step.Remount k options) reply
+  event_remount k options (Some m) there reply t is = remount_short k options m reply t there is
+  event_remount k options None there reply t is =
+      let e = subst (λ (x : Slot). planned s k (slot_event s.page_size k is.0 x (slot.Remount options)) ≡ (reply, t)) there is.2 in
+      subst (λ r. MeetsShortage s (step.Remount k options) r) (ap (λ (q : Reply × State). q.0) e)
+      (plain_remount (slot_at s k) (limits s.nr s.page_size (wanted_of options)) NoSuchSlot refl)
+
+  event_other : (k : ℕ) (e : SlotEvent) (reply : Reply) (t : State) → is_remount s e ≡ false → is_whole (OnSlot k e) ≡ true → IsEvent s (OnSlot k e) reply t
+      → MeetsShortage s (slot_step k e) reply
+  event_other k e reply t other whole is =
+      let it = event_at s (Meets s k e) k e reply t (λ c. meets s c k e other whole) is in subst (λ r. MeetsShortage s (slot_step k e) r) (sym it.2) it.1
+
   early_short : (x : Step) (r : Refusal) → is_early r ≡ true → MeetsShortage s x (Err r)
   early_short (step.Mount k options) r early = plain_mount (limits s.nr s.page_size (wanted_of options)) r (early_pages r early)
+  early_short (step.Remount k options) r early = plain_remount (slot_at s k) (limits s.nr s.page_size (wanted_of options)) r (early_pages r early)
   early_short (step.Map task k name a n sharing reserving) r early = plain_on (slot_at s k) (step.Map task k name a n sharing reserving) r (early_pages r early)
   early_short (step.Anon task n sharing reserving) r early = plain_on (slot_at s 0) (step.Anon task n sharing reserving) r (early_pages r early)
   early_short (step.Fault task k number i t) r early = plain_on (slot_at s k) (step.Fault task k number i t) r (early_pages r early)
@@ -636,8 +698,8 @@ module _ (s : State) where
   early_short x r early = early_pages r early
 
   event_short : (e : Event) (reply : Reply) (t : State) → is_whole e ≡ true → IsEvent s e reply t → MeetsShortage s (step_of e) reply
-  event_short (OnSlot k e) reply t whole is =
-      let it = event_at s (Meets s k e) k e reply t (λ c. meets s c k e whole) is in subst (λ r. MeetsShortage s (slot_step k e) r) (sym it.2) it.1
+  event_short (OnSlot k (slot.Remount options)) reply t whole is = event_remount k options (slot_at s k) refl reply t is
+  event_short (OnSlot k e) reply t whole is = event_other k e reply t refl whole is
   event_short (Tasks (table.Add task home)) reply t whole is = by_plain (step.Connect task home) refl reply (table_reply reply t s (table.Add task home) reply t is)
   event_short (Tasks (table.Find task)) reply t whole is = by_plain (step.Attach task) refl reply (table_reply reply t s (table.Find task) reply t is)
   event_short (Tasks (table.FindAndAdd parent child)) reply t whole is = cc

@@ -33,7 +33,7 @@ use Rattle.hp_laws.proofs.Outcomes.{Always, always_test, always_weaker}
 use Rattle.hp_laws.proofs.Placed.{Placed}
 use Rattle.hp_laws.proofs.Seen.{IsLostAt, touched_marks, touched_seen}
 use Rattle.hp_laws.proofs.Shown.{On, Result, Same, read_same, write_done}
-use Rattle.hp_laws.proofs.SlotShows.{Loads, Quiet, Stores, always_gives, always_grant, always_unless, always_value, anon_quiet, create_quiet, load_loads, map_quiet, store_stores}
+use Rattle.hp_laws.proofs.SlotShows.{Loads, Quiet, Stores, always_gives, always_grant, always_remount, always_unless, always_value, anon_quiet, create_quiet, load_loads, map_quiet, store_stores}
 use Rattle.hp_laws.proofs.Stored.{ready}
 use Rattle.hp_laws.proofs.Unmaps.{exit_keeps, fork_keeps, same_keeps, unmap_keeps}
 
@@ -162,6 +162,10 @@ module _ (size k : ℕ) (c : Choice) (m : Mount) where
 
   mount_keeps : IsSoundMount m → (e : SlotEvent) → Always (KeepsSlot size (Some m) e) (on_mount size k c m e)
   mount_keeps sound (slot.Mount options) = tt
+  mount_keeps sound (slot.Remount options) =
+      quiet_event (slot.Remount options) (λ j x old. refl) (λ j l x old. refl) (on_mount size k c m (slot.Remount options))
+      (always_remount (Quiet size (Some m)) (λ r. (λ j x. refl, λ j l x. refl, λ j l. refl)) m (λ l. (λ j x. refl, λ j l x. refl, λ j l. refl)) size k options)
+      (always_remount (On (Placed m)) (λ r. tt) m (λ l. placed_same m (record m { limits = l }) refl) size k options)
   mount_keeps sound slot.Umount = tested slot.Umount (umount_tests k m) (gives Done (Some m) None) umounts
   mount_keeps sound (slot.Create name) =
       quiet_event (slot.Create name) (λ j x old. refl) (λ j l x old. refl) (on_mount size k c m (slot.Create name)) (create_quiet size k c (Some m) name)

@@ -31,17 +31,17 @@ use Rattle.hp_model.specs.declared.section.Section.TheVariants.{Grant, GiveBack}
 use Rattle.hp_model.specs.Profile.{most_bytes, most_file_pages, most_files, most_map_pages}
 use Rattle.hp_model.specs.machine.Promises.{file_in, spot_on, IsLoaded, shown_on, seen_on, map_in, map_on, no_map, over, is_shared_of, reaches}
 use Rattle.hp_model.specs.machine.SlotEvent.{anon_tests, are_too_many_maps, byte_access, bytes_answer, file_named, has_name, is_beyond, is_name}
-use Rattle.hp_model.specs.machine.SlotEvent.{is_unmapped, load, map_file, mount_on, mount_outcome, slot_event, store}
+use Rattle.hp_model.specs.machine.SlotEvent.{is_unmapped, load, map_file, mount_on, mount_outcome, remount, remount_outcome, remount_tests, slot_event, store}
 use Rattle.hp_model.specs.machine.Sound.{IsSound, IsSoundMount}
 use Rattle.hp_model.specs.files.Spot.{Spot, again, spot, written}
 use Rattle.hp_model.specs.files.Value.{shown, value}
 use Rattle.hp_laws.proofs.Looks.{same_edit_range, same_more, same_none, same_one, same_put}
 use Rattle.hp_laws.proofs.MountMoves.{IsSpot, file_at, spot_is}
-use Rattle.hp_laws.proofs.Outcomes.{Always, always_if, always_test, always_then}
+use Rattle.hp_laws.proofs.Outcomes.{Always, always_if, always_test, always_then, outcome_if}
 use Rattle.hp_laws.proofs.Seen.{IsLostAt, store_seen, store_marks}
 use Rattle.hp_laws.proofs.Shown.{marked, look, seen, by_place, On, Same, Result, read_same, write_done}
 use Rattle.hp_laws.proofs.Stored.{ready, stored}
-use Rattle.hp_laws.proofs.Walk.{plan_unless, plan_value}
+use Rattle.hp_laws.proofs.Walk.{plan_unless, plan_value, remounting}
 
 -- ---- outcomes that may be a refusal
 
@@ -79,6 +79,18 @@ always_mount P stops h c size options a = by_limits (limits a.nr size (wanted_of
     by_limits : (r : ResultOf Limits Refusal) → P (mount_outcome c a r)
     by_limits (Err e) = stops e
     by_limits (Ok l) = by_tests c.refused a.granted c.after_grant (Answered Done (Some (record { limits = l; files = [] }))) (h l)
+
+pub always_remounting : (P : Outcome → Type 0) → ((r : Refusal) → P (Refused r)) → (m : Mount) → ((l : Limits) → P (Answered Done (Some (record m { limits = l }))))
+    → (size : ℕ) (options : List ℕ) → Always P (remounting size m options)
+always_remounting P stops m h size options a = by_limits (limits a.nr size (wanted_of options))
+  where
+    by_limits : (r : ResultOf Limits Refusal) → P (remount_outcome m a r)
+    by_limits (Err e) = stops e
+    by_limits (Ok l) = outcome_if P a.granted (Answered Done (Some (record m { limits = l }))) (Refused NoPages) (h l) (stops NoPages)
+
+pub always_remount : (P : Outcome → Type 0) → ((r : Refusal) → P (Refused r)) → (m : Mount) → ((l : Limits) → P (Answered Done (Some (record m { limits = l }))))
+    → (size k : ℕ) (options : List ℕ) → Always P (remount size k m options)
+always_remount P stops m h size k options = always_unless P stops (remount_tests k) (remounting size m options) (always_remounting P stops m h size options)
 
 -- ---- events that leave what files show
 

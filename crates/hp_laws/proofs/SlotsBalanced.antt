@@ -1,7 +1,7 @@
 -- Each event on a slot balances.
-use Rattle.std.proofs.Common.{◌≡◌, inl, subst, ℕ, ◌+◌, Bool, true, false, ◌||◌, ◌==◌, None, Some, Result, Ok, Err, List, [], ◌∷◌, length, refl, ap, ◌∙◌, arith, if◌then◌else◌, nat_lt}
+use Rattle.std.proofs.Common.{◌≡◌, inl, subst, ℕ, ◌+◌, ◌-◌, Bool, true, false, ◌||◌, ◌==◌, None, Some, Result, Ok, Err, List, [], ◌∷◌, length, refl, ap, ◌∙◌, arith, if◌then◌else◌, nat_lt}
 use Rattle.std.specs.List.{list_any, flat_map}
-use Rattle.std.proofs.lemmas.Bool.{cond_both, not-true, leb-false, false_from_ne_true, both_ways}
+use Rattle.std.proofs.lemmas.Bool.{cond_both, not-true, leb-false, ltb-true, ltb-false, false_from_ne_true, both_ways}
 use Rattle.std.proofs.lemmas.List.Folds.{list_any_at}
 use Rattle.hp_model.specs.declared.answer.Answer.TheVariants.{Done, MapNo}
 use Rattle.hp_model.specs.declared.event.SlotEvent.{SlotEvent}
@@ -20,15 +20,15 @@ use Rattle.hp_model.specs.pool.Grant.{can_grant, granted}
 use Rattle.hp_model.specs.Lists.{is_among}
 use Rattle.hp_model.specs.files.MakeMap.{asked, mapped, next_number}
 use Rattle.hp_model.specs.files.Mapping.{is_map}
-use Rattle.hp_model.specs.files.MountCounts.{stamps_of, file_pages_at, pages_at}
+use Rattle.hp_model.specs.files.MountCounts.{committed_of, stamps_of, file_pages_at, pages_at}
 use Rattle.hp_model.specs.files.Options.{limits, wanted_of}
 use Rattle.hp_model.specs.machine.Plan.{Slot, Plan, Choice, refuse, unless, gives}
 use Rattle.hp_model.specs.pool.Pool.{section, settled, released}
 use Rattle.hp_model.specs.declared.section.PoolAnswer.{PoolAnswer}
-use Rattle.hp_model.specs.declared.section.Section.TheVariants.{GrantAndReturn, ReadAndGrant}
+use Rattle.hp_model.specs.declared.section.Section.TheVariants.{GrantAndReturn, ReadAndGiveBack, ReadAndGrant}
 use Rattle.hp_model.specs.pool.PoolCounts.{Pool}
 use Rattle.hp_model.specs.Profile.{most_bytes}
-use Rattle.hp_model.specs.machine.SlotEvent.{on_mount, on_none, mount_section, mount_pages, mount_outcome, fault, byte_access, load, store, is_beyond, bytes_answer, is_unmapped}
+use Rattle.hp_model.specs.machine.SlotEvent.{on_mount, on_none, mount_section, mount_pages, mount_outcome, committed_with, remount_outcome, remount_section, fault, byte_access, load, store, is_beyond, bytes_answer, is_unmapped}
 use Rattle.hp_model.specs.machine.Sound.{IsSoundFile, IsSoundMount}
 use Rattle.hp_model.specs.files.Spot.{Spot, written, again}
 use Rattle.hp_model.specs.files.Value.{value}
@@ -129,6 +129,33 @@ pub tells_nr : (p : Pool) (after_grant : Bool) (d : ℕ) → (section p (if afte
 tells_nr p true d = told p d (settled (released d (granted 0 d p)))
 tells_nr p false d = told p d (granted 0 d p)
 
+-- ---- remount
+
+remount_by : (m : Mount) (granted : Bool) (node nr : ℕ) (l : Result Limits Refusal)
+    → Moves (Some m) (remount_section m l) (record { granted = granted; node = node; nr = nr }) (left_by (Some m) (remount_outcome m (record { granted = granted; node = node; nr = nr }) l))
+remount_by m true node nr (Err e) = stays (Some m)
+remount_by m false node nr (Err e) = stays (Some m)
+remount_by m granted node nr (Ok l) = by_minimum granted (nat_lt (committed_with m l.min) (committed_of m)) refl
+  where
+    by_minimum : (granted less : Bool) → nat_lt (committed_with m l.min) (committed_of m) ≡ less
+        → Moves (Some m) (if less then ReadAndGiveBack (committed_of m - committed_with m l.min) else ReadAndGrant (committed_with m l.min - committed_of m))
+        (record { granted = granted; node = node; nr = nr }) (left_by (Some m) (remount_outcome m (record { granted = granted; node = node; nr = nr }) (Ok l)))
+    by_minimum false true is = stays (Some m)
+    by_minimum false false is = stays (Some m)
+    by_minimum true true is =
+        let less = ltb-true (committed_with m l.min) (committed_of m) is in
+        record { committed = omega (arith, less); pages = λ n lt. refl; covered = λ e. cc; far = λ n. omega arith; limited = inl (omega arith) }
+    by_minimum true false is =
+        let more = ltb-false (committed_with m l.min) (committed_of m) is in
+        record { committed = omega (arith, more); pages = λ n lt. refl; covered = λ e. cc; far = λ n. omega arith; limited = inl (omega arith) }
+
+pub remount_tells : (p : Pool) (m : Mount) (l : Result Limits Refusal) → (section p (remount_section m l)).0.nr ≡ p.nr
+remount_tells p m (Err e) = told p 0 (granted 0 0 p)
+remount_tells p m (Ok l) =
+    let more = committed_with m l.min - committed_of m in
+    cond_both (nat_lt (committed_with m l.min) (committed_of m)) (ReadAndGiveBack (committed_of m - committed_with m l.min)) (ReadAndGrant more)
+    (λ sec. (section p sec).0.nr ≡ p.nr) (λ e. refl) (λ e. told p more (granted 0 more p))
+
 on_none_balanced : (size : ℕ) (c : Choice) (e : SlotEvent) → IsBalanced None (on_none size c e)
 on_none_balanced size c (MountEvent options) = (
   (λ a. mount_by c.stamp c.refused c.after_grant a.granted a.node a.nr (limits a.nr size (wanted_of options))),
@@ -171,6 +198,10 @@ module _ (size slot : ℕ) (c : Choice) (m : Mount) (sound : IsSoundMount m) (ne
   on_mount_balanced : (e : SlotEvent) → IsBalanced (Some m) (on_mount size slot c m e)
   on_mount_balanced e =
       walk_all size slot c m (IsBalanced (Some m)) events_balanced
+      (λ options. (
+        (λ a. remount_by m a.granted a.node a.nr (limits a.nr size (wanted_of options))),
+        (λ p. ap (λ nr. remount_section m (limits nr size (wanted_of options))) (remount_tells p m (limits p.nr size (wanted_of options)))),
+      ))
       (balanced_gives Done (Some m) None (record { committed = omega arith; each = λ n. omega arith; usage = omega arith })) e
 
 pub slots_are_balanced : SlotsAreBalanced

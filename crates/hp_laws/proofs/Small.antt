@@ -64,7 +64,7 @@ use Rattle.hp_laws.proofs.MountMoves.{IsSpot, spot_is}
 use Rattle.hp_laws.proofs.Outcomes.{either_way, Always, always_if, outcome_if, always_test, always_then, always_weaker, event_ends, reply_of}
 use Rattle.hp_laws.proofs.Shown.{On, Same, Result, on_weaker, read_same, write_done}
 use Rattle.hp_laws.proofs.Whole.{by_event, is_whole, step_of}
-use Rattle.hp_laws.proofs.SlotShows.{always_gives, always_grant, always_mount, always_unless, always_value, bytes_on}
+use Rattle.hp_laws.proofs.SlotShows.{always_gives, always_grant, always_mount, always_remount, always_unless, always_value, bytes_on}
 
 abbrev pub Small : Outcome → Type 0
 Small o = IsWithinLimits (reply_of o)
@@ -300,6 +300,7 @@ module _ (size k : ℕ) (c : Choice) (m : Mount) where
 
   mounted_small : (e : SlotEvent) → tells_all e ≡ false → Always Small (on_mount size k c m e)
   mounted_small (slot.Mount options) e = tt
+  mounted_small (slot.Remount options) e = always_remount Small (λ r. tt) m (λ l. tt) size k options
   mounted_small slot.Umount e = umount_small size k c (Some m)
   mounted_small (slot.Create name) e = create_small size k c (Some m) name
   mounted_small (slot.Unlink name) e = of_file name (unlink m) (λ q. done_small (edited m q.0 (unlinked q.1)))

@@ -12,7 +12,7 @@ use Rattle.hp_model.specs.declared.event.TableEvent.TheVariants as table
 use Rattle.hp_model.specs.declared.refusal.Refusal.{Refusal}
 use Rattle.hp_model.specs.declared.refusal.Refusal.TheVariants.{NoSuchSlot}
 use Rattle.hp_model.specs.declared.step.Step.{Step}
-use Rattle.hp_model.specs.declared.step.Step.TheVariants.{Connect, Attach, Fork, Exit, Mount, Umount, Create, Unlink, Truncate, Punch, Read, Ls}
+use Rattle.hp_model.specs.declared.step.Step.TheVariants.{Connect, Attach, Fork, Exit, Mount, Remount, Umount, Create, Unlink, Truncate, Punch, Read, Ls}
 use Rattle.hp_model.specs.declared.step.Step.TheVariants.{Stat, Map, Anon, Unmap, Fault, Load, Store, Nr, Overcommit, Meminfo, Nodes, Df}
 use Rattle.hp_model.specs.machine.Plan.{Reply}
 use Rattle.hp_model.specs.machine.Step.{Answer_with, Do, Script, Where_mapped, exit_slots, fork_slots, home_in, on_slot, only, or_undone, script, undone, when_done}
@@ -123,6 +123,7 @@ steps slots (Exit task) =
     let is : suc slots ≡ slots + 1 = omega arith in
     subst (λ n. AtMost n (script slots (Exit task))) is all
 steps slots (Mount k options) = slot_one slots k (slot.Mount options)
+steps slots (Remount k options) = slot_one slots k (slot.Remount options)
 steps slots (Umount k) = slot_one slots k slot.Umount
 steps slots (Create k name) = slot_one slots k (slot.Create name)
 steps slots (Unlink k name) = slot_one slots k (slot.Unlink name)

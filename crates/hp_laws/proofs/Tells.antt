@@ -9,9 +9,9 @@ use Rattle.hp_model.specs.machine.Plan.{Answered, Slot, Plan, Finish, Ask, Choic
 use Rattle.hp_model.specs.pool.Pool.{section}
 use Rattle.hp_model.specs.declared.section.PoolAnswer.{PoolAnswer}
 use Rattle.hp_model.specs.pool.PoolCounts.{Pool}
-use Rattle.hp_model.specs.machine.SlotEvent.{slot_event, on_none, mount_section, mount_pages}
+use Rattle.hp_model.specs.machine.SlotEvent.{slot_event, on_none, mount_section, mount_pages, remount_section}
 use Rattle.hp_laws.proofs.PlanRules.{PlanRules, plan_gives, plan_walk}
-use Rattle.hp_laws.proofs.SlotsBalanced.{tells_nr}
+use Rattle.hp_laws.proofs.SlotsBalanced.{remount_tells, tells_nr}
 
 -- what is asked for by the nr of the answer is what is asked for by the pool's
 abbrev pub Tells : Plan → Type 0
@@ -26,6 +26,9 @@ tell_rules = record {
   pages_or = λ home k n other p a q h. refl;
   takes = λ home n p a q h. refl;
   puts = λ pages k a s p b q h. refl;
+  remounts = λ size m options p a q h.
+      (let l = λ (nr : ℕ). limits nr size (wanted_of options) in
+      let same : p.nr ≡ a.nr = sym (remount_tells p m (l a.nr)) ∙ ap (λ (x : PoolAnswer × Pool). x.0.nr) h in ap (λ nr. remount_section m (l nr)) same);
   follows = tells_then;
 }
   where

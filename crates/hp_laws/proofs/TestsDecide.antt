@@ -1,6 +1,6 @@
 -- A step is refused by the first of its tests that fails; one that fails none is done, where there are pages and memory.
 use Rattle.std.specs.List.{range_with_len}
-use Rattle.std.proofs.Common.{◌≡◌, subst, ℕ, ◌+◌, ◌&&◌, ◌||◌, ◌==◌, Bool, true, false, not, None, Option, Some, is_some, Ok, Err, List, [], ◌∷◌}
+use Rattle.std.proofs.Common.{◌≡◌, subst, ℕ, ◌+◌, ◌&&◌, ◌||◌, ◌==◌, Bool, true, false, not, None, Option, Some, is_some, Result as ResultOf, Ok, Err, List, [], ◌∷◌}
 use Rattle.std.proofs.Common.{◌++◌, length, refl, sym, ap, ◌∙◌, if◌then◌else◌, nat_le, nat_lt}
 use Rattle.std.proofs.lemmas.Bool.{ltb-false}
 use Rattle.std.proofs.lemmas.List.{get_or_past}
@@ -12,11 +12,12 @@ use Rattle.hp_model.specs.declared.event.PoolEvent.TheVariants as pool
 use Rattle.hp_model.specs.declared.event.SlotEvent.{SlotEvent}
 use Rattle.hp_model.specs.declared.event.SlotEvent.TheVariants as slot
 use Rattle.hp_model.specs.declared.event.TableEvent.TheVariants as table
+use Rattle.hp_model.specs.declared.limits.Limits.{Limits}
 use Rattle.hp_model.specs.declared.place.Place.{Place}
 use Rattle.hp_model.specs.declared.place.Place.TheVariants.{Gone, Live}
 use Rattle.hp_model.specs.declared.refusal.Refusal.{Refusal}
 use Rattle.hp_model.specs.declared.refusal.Refusal.TheVariants.{BadName, BeyondEnd, CrossesPage, FileExists, MountFull, NoPages, NoSuchFile, NoSuchMap, NoSuchNode, NoSuchSlot, NoSuchTask}
-use Rattle.hp_model.specs.declared.refusal.Refusal.TheVariants.{NoInodes, OutOfMemory, OutOfRange, TakenByOwner, TaskExists, TooMany}
+use Rattle.hp_model.specs.declared.refusal.Refusal.TheVariants.{NoInodes, OutOfMemory, OutOfRange, SlotTaken, TakenByOwner, TaskExists, TooMany}
 use Rattle.hp_model.specs.declared.step.Intent.{Intent}
 use Rattle.hp_model.specs.declared.step.Intent.TheVariants.{Read, Write}
 use Rattle.hp_model.specs.declared.step.Sharing.{Sharing}
@@ -27,21 +28,23 @@ use Rattle.hp_model.specs.files.Access.{access, new_copy, private_access, shared
 use Rattle.hp_model.specs.files.CopyWrite.{copy_write, is_held_once, owner_write, taken_back}
 use Rattle.hp_model.specs.files.File.{Mount, cell_at, has_page, new_file}
 use Rattle.hp_model.specs.files.Mapping.{copy_of, is_live, is_map, is_shared, place_at}
+use Rattle.hp_model.specs.files.Options.{limits, wanted_of}
 use Rattle.hp_model.specs.files.Page.{Copy, Page}
 use Rattle.hp_model.specs.files.Spot.{Spot, again, spot, written}
 use Rattle.hp_model.specs.files.Value.{value}
-use Rattle.hp_model.specs.machine.Event.{IsEvent, with_table}
+use Rattle.hp_model.specs.machine.Event.{IsEvent, planned, with_table}
 use Rattle.hp_model.specs.machine.Plan.{Answered, Ask, Choice, Finish, Outcome, Plan, Refused, Reply, Slot, continued, gives, grant, grant_page, refuse, unless, when_granted, with_value}
 use Rattle.hp_model.specs.machine.SlotEvent.{anon_tests, byte_access, byte_tests, bytes_answer, edited, fault, fault_tests, file_named, is_bad_range, is_beyond, is_name, is_unmapped, load}
-use Rattle.hp_model.specs.machine.SlotEvent.{map_file, map_tests, punch, read, read_tests, slot_event, stat, store, truncate, umount_tests, unlink, unmap}
+use Rattle.hp_model.specs.machine.SlotEvent.{map_file, map_tests, punch, read, read_tests, remount_outcome, slot_event, stat, store, truncate, umount_tests, unlink, unmap}
 use Rattle.hp_model.specs.machine.State.{State, slot_at}
 use Rattle.hp_model.specs.machine.Step.{Answer_with, IsScript, IsScripted, IsStep, Script, exit_slots, finding, home_in, on_slot, only, when_done}
 use Rattle.hp_model.specs.machine.Table.{Table, added, home_of, is_crowded, is_known, or_refused, removed, when_known}
-use Rattle.hp_model.specs.machine.Tests.{IsRefusedBy, MeetsTests, cut_off_test, failed, failed_at, failed_by, failed_on, first_failed, if_there, is_short}
+use Rattle.hp_model.specs.machine.Tests.{IsRefusedBy, MeetsTests, cut_off_test, failed, failed_at, failed_by, failed_on, failed_remount, first_failed, if_there, is_short, refused_limits}
 use Rattle.hp_model.specs.files.GiveBack.{punched, truncated, unlinked, unmapped_from}
 use Rattle.hp_model.specs.files.MakeMap.{asked, with_new}
 use Rattle.hp_model.specs.machine.Machine.{pool_of}
 use Rattle.hp_model.specs.pool.Grant.{is_full, is_over, rise}
+use Rattle.hp_model.specs.declared.section.PoolAnswer.{PoolAnswer}
 use Rattle.hp_model.specs.declared.section.Section.TheVariants.{Grant, GrantPage}
 use Rattle.hp_model.specs.pool.PoolCounts.{Pool}
 use Rattle.hp_model.specs.pool.Resize.{pool_event}
@@ -50,6 +53,7 @@ use Rattle.hp_model.specs.declared.event.PoolEvent.{PoolEvent}
 use Rattle.hp_model.specs.Profile.{most_bytes, most_file_pages, most_files, most_overcommit}
 use Rattle.hp_laws.proofs.Fades.{exits_done}
 use Rattle.hp_laws.proofs.Outcomes.{Always, always_if, always_then, event_ends, only_goes, outcome_if, reply_of}
+use Rattle.hp_laws.proofs.Remounts.{remount_ends, remount_told}
 use Rattle.hp_laws.proofs.SlotShows.{always_gives}
 
 -- ---- outcomes
@@ -342,6 +346,30 @@ module _ (s : State) (reply : Reply) (t : State) where
   overcommit_meets n true p q = refl
   overcommit_meets n false p q = refl
 
+  remount_meets : (k : ℕ) (options : List ℕ) → IsScripted s (step.Remount k options) reply t → IsRefusedBy (failed s (step.Remount k options)) reply
+  remount_meets k options is = by_test (nat_lt k (length s.slots)) refl is
+    where
+      by_limits : (m : Mount) (first : Bool) (a : PoolAnswer) (l : ResultOf Limits Refusal)
+          → IsRefusedBy (if first then Some SlotTaken else refused_limits l) (reply_of (if first then Refused SlotTaken else remount_outcome m a l))
+      by_limits m true a l = refl
+      by_limits m false a (Err r) = refl
+      by_limits m false a (Ok l) = granted_short a.granted (Answered Done (Some (record m { limits = l }))) refl
+
+      by_slot : (old : Slot) → slot_at s k ≡ old → IsEvent s (OnSlot k (slot.Remount options)) reply t
+          → IsRefusedBy (if_there old NoSuchSlot (λ m. failed_remount k (limits s.nr s.page_size (wanted_of options)))) reply
+      by_slot None there it =
+          let e = subst (λ (x : Slot). planned s k (slot_event s.page_size k it.0 x (slot.Remount options)) ≡ (reply, t)) there it.2 in sym (ap (λ (q : Reply × State). q.0) e)
+      by_slot (Some m) there it =
+          subst (λ r. IsRefusedBy (failed_remount k (limits s.nr s.page_size (wanted_of options))) r) (sym (remount_ends s k options m there reply t it).replied)
+          (by_limits m (k == 0) (remount_told s k options m) (limits s.nr s.page_size (wanted_of options)))
+
+      by_test : (b : Bool) → nat_lt k (length s.slots) ≡ b → IsScript s (if b then only (OnSlot k (slot.Remount options)) else Answer_with (Err NoSuchSlot)) reply t
+          → IsRefusedBy (failed s (step.Remount k options)) reply
+      by_test true there it = by_slot (slot_at s k) refl (only_goes s (OnSlot k (slot.Remount options)) reply t it)
+      by_test false none it =
+          subst (λ (o : Slot). IsRefusedBy (if_there o NoSuchSlot (λ m. failed_remount k (limits s.nr s.page_size (wanted_of options)))) reply)
+          (sym (get_or_past s.slots k None (ltb-false k (length s.slots) none))) it.0
+
   scripted_meets : (x : Step) → IsScripted s x reply t → MeetsTests s x reply
   scripted_meets (step.Connect task home) is =
       subst (λ r. IsRefusedBy (failed s (step.Connect task home)) r) (ap (λ (q : Reply × State). q.0) (only_goes s (Tasks (table.Add task home)) reply t is).2)
@@ -350,6 +378,7 @@ module _ (s : State) (reply : Reply) (t : State) where
   scripted_meets (step.Fork parent child) is = tt
   scripted_meets (step.Exit task) is = exit_meets task is
   scripted_meets (step.Mount k options) is = tt
+  scripted_meets (step.Remount k options) is = remount_meets k options is
   scripted_meets (step.Umount k) is = slot_meets k (step.Umount k) slot.Umount (λ c. of_umount s.page_size k c (slot_at s k)) is
   scripted_meets (step.Create k name) is = slot_meets k (step.Create k name) (slot.Create name) (λ c. of_create s.page_size k c (slot_at s k) name) is
   scripted_meets (step.Unlink k name) is = slot_meets k (step.Unlink k name) (slot.Unlink name) (λ c. of_unlink s.page_size k c (slot_at s k) name) is

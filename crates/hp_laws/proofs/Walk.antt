@@ -17,10 +17,11 @@ use Rattle.hp_model.specs.files.GiveBack.{punched, truncated, unlinked, unmapped
 use Rattle.hp_model.specs.files.MakeMap.{asked, mapped, next_number, with_new}
 use Rattle.hp_model.specs.files.Mapping.{is_map}
 use Rattle.hp_model.specs.files.MountCounts.{usage_of}
-use Rattle.hp_model.specs.machine.Plan.{Answered, Choice, Finish, Plan, gives, grant, refuse, unless, with_value}
+use Rattle.hp_model.specs.machine.Plan.{Answered, Ask, Choice, Finish, Plan, gives, grant, refuse, unless, with_value}
 use Rattle.hp_model.specs.Profile.{most_file_pages}
 use Rattle.hp_model.specs.machine.SlotEvent.{anon_tests, bytes_answer, create_tests, edited, fault, file_named, fork_tests, has_name, is_bad_range, load, map_file}
-use Rattle.hp_model.specs.machine.SlotEvent.{map_tests, on_mount, punch, read, read_tests, stat, store, truncate, umount_tests, unlink, unmap}
+use Rattle.hp_model.specs.machine.SlotEvent.{map_tests, on_mount, punch, read, read_tests, remount_outcome, remount_section, remount_tests, stat, store, truncate, umount_tests, unlink, unmap}
+use Rattle.hp_model.specs.files.Options.{limits, wanted_of}
 use Rattle.hp_model.specs.files.Spot.{Spot, spot}
 use Rattle.hp_model.specs.files.Value.{shown}
 use Rattle.hp_laws.proofs.MountMoves.{IsFileAt, IsSpot, file_at, spot_is}
@@ -38,9 +39,15 @@ module _ (W : Plan → Type 0) (refuses : (r : Refusal) → W (refuse r)) where
 
 -- ---- events
 
-abbrev pub is_umount : SlotEvent → Bool
-is_umount slot.Umount = true
-is_umount other = false
+-- a remount, its tests passed
+abbrev pub remounting : (size : ℕ) → Mount → List ℕ → Plan
+remounting size m text = Ask (λ nr. remount_section m (limits nr size (wanted_of text))) (λ a. remount_outcome m a (limits a.nr size (wanted_of text)))
+
+-- it ends the mount, or sets its limits
+abbrev pub relimits : SlotEvent → Bool
+relimits (slot.Remount options) = true
+relimits slot.Umount = true
+relimits other = false
 
 module _ (size k : ℕ) (c : Choice) (m : Mount) (W : Plan → Type 0) where
   -- of what each event comes to, its tests passed
@@ -74,9 +81,10 @@ module _ (size k : ℕ) (c : Choice) (m : Mount) (W : Plan → Type 0) where
     of_map : (task number : ℕ) (f : Spot → Plan) → ((s : Spot) → IsSpot m s → W (f s)) → W (with_value (spot m (is_map task number)) NoSuchMap f)
     of_map task number f h = plan_value W walks.refuses (spot m (is_map task number)) NoSuchMap f (λ s is. h s (spot_is m (is_map task number) s is))
 
-    -- so it is of each event but an umount
-    pub walk : (e : SlotEvent) → is_umount e ≡ false → W (on_mount size k c m e)
+    -- so it is of each event but a remount and an umount
+    pub walk : (e : SlotEvent) → relimits e ≡ false → W (on_mount size k c m e)
     walk (slot.Mount options) stays = walks.refuses SlotTaken
+    walk (slot.Remount options) stays = cc
     walk slot.Umount stays = cc
     walk (slot.Create name) stays = tested (create_tests c m name) (Finish (Answered Done (Some (with_new m (new_file (Some name)))))) (walks.creates name)
     walk (slot.Unlink name) stays = of_file name (unlink m) walks.unlinks
@@ -112,7 +120,8 @@ module _ (size k : ℕ) (c : Choice) (m : Mount) (W : Plan → Type 0) where
     walk (slot.ForkMaps parent child) stays = tested (fork_tests c m parent child) (gives Done (Some m) (Some (forked parent child m))) (walks.forks parent child)
     walk (slot.ExitMaps task) stays = walks.exits task
 
-    -- and of that too, where it is of giving all back
-    pub walk_all : W (gives Done (Some m) None) → (e : SlotEvent) → W (on_mount size k c m e)
-    walk_all none slot.Umount = tested (umount_tests k m) (gives Done (Some m) None) none
-    walk_all none e = walk e refl
+    -- and of these too, where it is of setting limits and of giving all back
+    pub walk_all : ((options : List ℕ) → W (remounting size m options)) → W (gives Done (Some m) None) → (e : SlotEvent) → W (on_mount size k c m e)
+    walk_all remounts none (slot.Remount options) = tested (remount_tests k) (remounting size m options) (remounts options)
+    walk_all remounts none slot.Umount = tested (umount_tests k m) (gives Done (Some m) None) none
+    walk_all remounts none e = walk e refl

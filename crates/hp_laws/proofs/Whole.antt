@@ -9,7 +9,7 @@ use Rattle.hp_model.specs.declared.event.TableEvent.TheVariants as table
 use Rattle.hp_model.specs.declared.refusal.Refusal.{Refusal}
 use Rattle.hp_model.specs.declared.refusal.Refusal.TheVariants.{MountFull, NoPages, NoSuchSlot, NoSuchTask}
 use Rattle.hp_model.specs.declared.step.Step.{Step}
-use Rattle.hp_model.specs.declared.step.Step.TheVariants.{Connect, Attach, Fork, Exit, Mount, Umount, Create, Unlink, Truncate, Punch, Read, Ls}
+use Rattle.hp_model.specs.declared.step.Step.TheVariants.{Connect, Attach, Fork, Exit, Mount, Remount, Umount, Create, Unlink, Truncate, Punch, Read, Ls}
 use Rattle.hp_model.specs.declared.step.Step.TheVariants.{Stat, Map, Anon, Unmap, Fault, Load, Store, Nr, Overcommit, Meminfo, Nodes, Df}
 use Rattle.hp_model.specs.machine.Event.{IsEvent}
 use Rattle.hp_model.specs.machine.Plan.{Reply}
@@ -31,6 +31,7 @@ is_whole other = true
 
 abbrev pub slot_step : ℕ → SlotEvent → Step
 slot_step k (slot.Mount options) = Mount k options
+slot_step k (slot.Remount options) = Remount k options
 slot_step k slot.Umount = Umount k
 slot_step k (slot.Create name) = Create k name
 slot_step k (slot.Unlink name) = Unlink k name
@@ -101,6 +102,7 @@ module _ (s : State) (P : Step → Reply → State → Type 0) (early : (step : 
   by_script (Fork parent child) is = forks parent child reply t is
   by_script (Exit task) is = exits task reply t is
   by_script (Mount k options) is = by_slot k (slot.Mount options) refl is
+  by_script (Remount k options) is = by_slot k (slot.Remount options) refl is
   by_script (Umount k) is = by_slot k slot.Umount refl is
   by_script (Create k name) is = by_slot k (slot.Create name) refl is
   by_script (Unlink k name) is = by_slot k (slot.Unlink name) refl is

@@ -5,7 +5,7 @@ use Rattle.hp_model.specs.machine.Plan.{Slot, Outcome, Refused, Answered, Plan, 
 use Rattle.hp_model.specs.pool.Pool.{section}
 use Rattle.hp_model.specs.declared.section.PoolAnswer.{PoolAnswer}
 use Rattle.hp_model.specs.declared.section.Section.{Section}
-use Rattle.hp_model.specs.declared.section.Section.TheVariants.{Grant, GrantPage, TakePage, GiveBack, ReadAndGrant, GrantAndReturn}
+use Rattle.hp_model.specs.declared.section.Section.TheVariants.{Grant, GrantPage, TakePage, GiveBack, ReadAndGrant, ReadAndGiveBack, GrantAndReturn}
 use Rattle.hp_model.specs.pool.PoolCounts.{Pool}
 
 -- what the section, answered so, adds to the pool's commitment, and what it takes from it
@@ -15,11 +15,13 @@ raised_by (GrantPage home pages) a = if a.granted then pages else 0
 raised_by (TakePage home) a = 0
 raised_by (GiveBack puts pages) a = 0
 raised_by (ReadAndGrant pages) a = if a.granted then pages else 0
+raised_by (ReadAndGiveBack pages) a = 0
 raised_by (GrantAndReturn pages) a = 0
 
-abbrev pub lowered_by : Section → ℕ
-lowered_by (GiveBack puts pages) = pages
-lowered_by other = 0
+abbrev pub lowered_by : Section → PoolAnswer → ℕ
+lowered_by (GiveBack puts pages) a = pages
+lowered_by (ReadAndGiveBack pages) a = if a.granted then pages else 0
+lowered_by other a = 0
 
 abbrev pub takes_page : Section → PoolAnswer → Bool
 takes_page (GrantPage home pages) a = a.granted
@@ -49,7 +51,7 @@ pub record Change (old new : Slot) (raised lowered : ℕ) (taken put : ℕ → �
   pub limited : IsLimited old new
 
 abbrev pub Moves : Slot → Section → PoolAnswer → Slot → Type 0
-Moves old s a new = Change old new (raised_by s a) (lowered_by s) (λ n. taken_at n s a) (λ n. put_at n s) (takes_page s a)
+Moves old s a new = Change old new (raised_by s a) (lowered_by s a) (λ n. taken_at n s a) (λ n. put_at n s) (takes_page s a)
 
 abbrev pub Stays : Slot → Slot → Type 0
 Stays old new = Change old new 0 0 (λ n. 0) (λ n. 0) false
