@@ -28,7 +28,8 @@ use Rattle.hp_model.specs.declared.section.PoolAnswer.{PoolAnswer}
 use Rattle.hp_model.specs.declared.section.Section.TheVariants.{GrantAndReturn, ReadAndGiveBack, ReadAndGrant}
 use Rattle.hp_model.specs.pool.PoolCounts.{Pool}
 use Rattle.hp_model.specs.Profile.{most_bytes}
-use Rattle.hp_model.specs.machine.SlotEvent.{on_mount, on_none, mount_section, mount_pages, mount_outcome, committed_with, remount_outcome, remount_section, fault, byte_access, load, store, is_beyond, bytes_answer, is_unmapped}
+use Rattle.hp_model.specs.machine.SlotEvent.{on_mount, on_none, mount_section, mount_pages, mount_outcome, fault, byte_access, load, store, is_beyond, bytes_answer, is_unmapped}
+use Rattle.hp_model.specs.machine.SlotEvent.{committed_with, remount_outcome, remount_section}
 use Rattle.hp_model.specs.machine.Sound.{IsSoundFile, IsSoundMount}
 use Rattle.hp_model.specs.files.Spot.{Spot, written, again}
 use Rattle.hp_model.specs.files.Value.{value}

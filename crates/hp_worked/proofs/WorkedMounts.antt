@@ -96,6 +96,35 @@ mount_options_and_slots = record {
       ++ codes "error 9 SlotTaken\nerror 19 Busy\nerror 8 NoSuchSlot\n";
 }
 
+abbrev pub remount_sets_the_limits : Worked
+remount_sets_the_limits = record {
+  machine = machine;
+  input =
+      codes "nr 4\nconnect 1 0\nconnect 2 1\nmount 2 size=3K\ncreate 2 a\nmap 1 2 a 0 3 shared\nmeminfo\n"
+      ++ codes "remount 2 size=2K,min_size=1K\nmeminfo\ndf 2\nmap 2 2 a 0 3 shared\nmap 2 2 a 3 1 shared\n"
+      ++ codes "truncate 2 a 0\nmeminfo\nremount 2 min_size=5K\ndf 2\nremount 2 min_size=4K\nmeminfo\ndf 2\n"
+      ++ codes "remount 2 size=50%,min_size=4K\nremount 0 -\nremount 3 -\nremount 2 -\nmeminfo\novercommit 1\n"
+      ++ codes "remount 2 min_size=5K\nmeminfo\nremount 2 -\nmeminfo\n";
+  replies =
+      codes "ok 4\nok\nok\nok\nok\nok 1\ntext 6\nHugePages_Total:       4\nHugePages_Free:        4\n"
+      ++ codes "HugePages_Rsvd:        3\nHugePages_Surp:        0\nHugepagesize:          1 kB\n"
+      ++ codes "Hugetlb:               4 kB\nok\ntext 6\nHugePages_Total:       4\nHugePages_Free:        4\n"
+      ++ codes "HugePages_Rsvd:        3\nHugePages_Surp:        0\nHugepagesize:          1 kB\n"
+      ++ codes "Hugetlb:               4 kB\nok 2 1 3 - 1\nok 1\nerror 3 MountFull\nok\ntext 6\n"
+      ++ codes "HugePages_Total:       4\nHugePages_Free:        4\nHugePages_Rsvd:        1\n"
+      ++ codes "HugePages_Surp:        0\nHugepagesize:          1 kB\nHugetlb:               4 kB\n"
+      ++ codes "error 2 NoPages\nok 2 1 0 - 1\nok\ntext 6\nHugePages_Total:       4\nHugePages_Free:        4\n"
+      ++ codes "HugePages_Rsvd:        4\nHugePages_Surp:        0\nHugepagesize:          1 kB\n"
+      ++ codes "Hugetlb:               4 kB\nok - 4 0 - 1\nerror 10 MinOverSize\nerror 9 SlotTaken\n"
+      ++ codes "error 8 NoSuchSlot\nok\ntext 6\nHugePages_Total:       4\nHugePages_Free:        4\n"
+      ++ codes "HugePages_Rsvd:        0\nHugePages_Surp:        0\nHugepagesize:          1 kB\n"
+      ++ codes "Hugetlb:               4 kB\nok\nok\ntext 6\nHugePages_Total:       5\nHugePages_Free:        5\n"
+      ++ codes "HugePages_Rsvd:        5\nHugePages_Surp:        1\nHugepagesize:          1 kB\n"
+      ++ codes "Hugetlb:               5 kB\nok\ntext 6\nHugePages_Total:       4\nHugePages_Free:        4\n"
+      ++ codes "HugePages_Rsvd:        0\nHugePages_Surp:        0\nHugepagesize:          1 kB\n"
+      ++ codes "Hugetlb:               4 kB\n";
+}
+
 abbrev pub shared_map_past_mount_size : Worked
 shared_map_past_mount_size = record {
   machine = machine;

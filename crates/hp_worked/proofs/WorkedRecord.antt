@@ -4,15 +4,16 @@ use Rattle.std.specs.List.{slice_index_or}
 use Rattle.std.specs.Prelude.{codes, is_some}
 use Rattle.hp_model.specs.declared.answer.Answer.TheVariants.{Done, MapNo, Number, Stat as StatAnswer}
 use Rattle.hp_model.specs.declared.cell.Cell.TheVariants.{Entered}
+use Rattle.hp_model.specs.declared.limits.Limits.{Limits}
 use Rattle.hp_model.specs.declared.place.Place.TheVariants.{Gone, Live}
 use Rattle.hp_model.specs.files.Mapping.{copy_of, is_live, is_unconsumed, place_at, with_place}
 use Rattle.hp_model.specs.files.Spot.{Spot}
 use Rattle.hp_model.specs.declared.refusal.Refusal.{Refusal}
-use Rattle.hp_model.specs.declared.refusal.Refusal.TheVariants.{Busy, MountFull, NoPages, NoSuchMap, OutOfMemory, OutOfRange, TakenByOwner}
+use Rattle.hp_model.specs.declared.refusal.Refusal.TheVariants.{Busy, MinOverSize, MountFull, NoPages, NoSuchMap, OutOfMemory, OutOfRange, SlotTaken, TakenByOwner}
 use Rattle.hp_model.specs.declared.step.Reserving.TheVariants.{NoReserve, Reserve}
 use Rattle.hp_model.specs.declared.step.Sharing.TheVariants.{Private, Shared}
 use Rattle.hp_model.specs.declared.step.Step.{Step}
-use Rattle.hp_model.specs.declared.step.Step.TheVariants.{Connect, Create, Df, Exit, Fault, Fork, Load, Map, Mount, Nr, Punch, Stat, Store, Umount, Unmap}
+use Rattle.hp_model.specs.declared.step.Step.TheVariants.{Connect, Create, Df, Exit, Fault, Fork, Load, Map, Mount, Nr, Punch, Remount, Stat, Store, Umount, Unmap}
 use Rattle.hp_model.specs.declared.step.Intent.TheVariants.{Read}
 use Rattle.hp_model.specs.files.File.{File, file_in, is_entered, new_file, with_file}
 use Rattle.hp_model.specs.machine.Plain.{plain_step}
@@ -174,6 +175,74 @@ max_of (Some m) = m.limits.max
 
 mounted_without_its_limit : IsPromised shared (Mount 2 (codes "size=3K")) (Ok Done) (plain_step shared (Mount 2 (codes "-"))).1 → ⊥
 mounted_without_its_limit promised = (let wrong : false ≡ true = ap (λ x. is_some (max_of x)) promised.mounted.1 in cc)
+
+-- ---- a remount that leaves the old limit, drops a file, loses reservations, changes another mount, and raises a minimum that nothing backs
+
+abbrev smaller : Step
+smaller = Remount 2 (codes "size=2K,min_size=2K")
+
+remounted_with_its_old_limit : IsPromised mounted smaller (Ok Done) mounted → ⊥
+remounted_with_its_old_limit promised =
+    (let wrong : 3 ≡ 2 = ap (λ x. home_or (max_of x)) promised.mounted in absurd (omega (arith, wrong)))
+
+abbrev remounted_to : (Slot → Slot) → State
+remounted_to h = (let t : State = (plain_step mounted smaller).1 in with_slot t 2 (h (slot_at t 2)))
+
+abbrev without_files : Slot → Slot
+without_files None = None
+without_files (Some m) = Some (record m { files = [] })
+
+abbrev files_on : Slot → ℕ
+files_on None = 0
+files_on (Some m) = length m.files
+
+remount_drops_a_file : IsPromised mounted smaller (Ok Done) (remounted_to without_files) → ⊥
+remount_drops_a_file promised = (let wrong : 0 ≡ 1 = ap files_on promised.mounted in absurd (omega (arith, wrong)))
+
+remount_loses_reservations : IsPromised mounted smaller (Ok Done) (remounted_to bare) → ⊥
+remount_loses_reservations promised = (let wrong : 0 ≡ 3 = ap cells_on promised.mounted in absurd (omega (arith, wrong)))
+
+abbrev with_limit : (max min : ℕ) → Slot → Slot
+with_limit max min None = None
+with_limit max min (Some m) = Some (record m { limits = record { max = Some max; min = min; inodes = None } })
+
+abbrev another_limited : State
+another_limited = (let t : State = (plain_step mounted smaller).1 in with_slot t 0 (with_limit 1 0 (slot_at t 0)))
+
+remount_changes_another_mount : IsPromised mounted smaller (Ok Done) another_limited → ⊥
+remount_changes_another_mount promised = (let wrong : true ≡ false = ap (λ (l : Limits). is_some l.max) (promised.mounts 0 refl) in cc)
+
+-- and a step that is no remount has set limits
+create_changes_limits : IsPromised mounted (Create 2 (codes "b")) (Ok Done) (with_slot mounted 2 (with_limit 9 2 (slot_at mounted 2))) → ⊥
+create_changes_limits promised =
+    (let wrong : 9 ≡ 3 = ap (λ (l : Limits). home_or l.max) (promised.mounts 2 refl) in absurd (omega (arith, wrong)))
+
+-- of 4 pages 5 are promised
+abbrev past_the_pool : Step
+past_the_pool = Remount 2 (codes "size=9K,min_size=5K")
+
+minimum_raised_without_a_grant : IsPromised mounted past_the_pool (Ok Done) (with_slot mounted 2 (with_limit 9 5 (slot_at mounted 2))) → ⊥
+minimum_raised_without_a_grant promised = (let wrong : 5 ≤ 4 = promised.minimums 2 in absurd (omega (arith, wrong)))
+
+-- ---- a remount below what is used that is refused, one of slot 0, and one that is refused memory
+
+remount_below_usage_finds_no_page : IsPromised mounted smaller (Err NoPages) mounted → ⊥
+remount_below_usage_finds_no_page promised = (let wrong : true ≡ false = promised.short in cc)
+
+remount_below_usage_is_full : IsPromised mounted smaller (Err MountFull) mounted → ⊥
+remount_below_usage_is_full promised = (let wrong : true ≡ false = promised.short in cc)
+
+remount_below_usage_is_busy : IsPromised mounted smaller (Err Busy) mounted → ⊥
+remount_below_usage_is_busy promised = (let wrong : false ≡ true = promised.tests in cc)
+
+first_slot_is_remounted : IsPromised mounted (Remount 0 (codes "-")) (Ok Done) mounted → ⊥
+first_slot_is_remounted promised = (let wrong : Ok Done ≡ Err SlotTaken = promised.tests in cc)
+
+remount_with_a_minimum_over_its_size : IsPromised mounted (Remount 2 (codes "size=1K,min_size=2K")) (Ok Done) mounted → ⊥
+remount_with_a_minimum_over_its_size promised = (let wrong : Ok Done ≡ Err MinOverSize = promised.tests in cc)
+
+remount_takes_memory : IsPromisedStep mounted smaller (Err OutOfMemory) mounted → ⊥
+remount_takes_memory promised = promised.2 refl refl
 
 -- ---- an unmap that spends an index past its range, that leaves its range mapped, and that takes an index of another task's map
 
