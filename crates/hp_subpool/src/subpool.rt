@@ -157,8 +157,8 @@ impl<N: Naming> Subpool<N> {
     }
 
     /// Sets the limit and the minimum anew (`admin-guide/mm/hugetlbpage.rst`). The pool commits what the minimum adds,
-    /// at home node 0, or takes back what it leaves: it may then have surplus pages that it doesn't need, until it is
-    /// settled. What is in use and held stays, also past the limit, which then stops growth alone.
+    /// at home node 0, or takes back what it leaves, and gives the surplus pages back that it then doesn't need. What is in
+    /// use and held stays, also past the limit, which then stops growth alone.
     ///
     /// Refused as NoPages where the pool can't commit what the minimum adds.
     pub fn set_limits(
@@ -173,12 +173,14 @@ impl<N: Naming> Subpool<N> {
             × (pool.new ≡ with_minimum self.old min pool.old)) }
         ensures err { IfErr result (λ e. e ≡ Refusal.NoPages) }
         ensures same { OnErr result ((self.new ≡ self.old) × (pool.new ≡ pool.old)) }
+        ensures settled { IsSettled pool.new }
     {
         let own = min.saturating_sub(self.used());
         let kept = self.own.amount();
         if own < kept {
             let part = self.own.split(kept - own);
             pool.release(part);
+            pool.settle();
         } else {
             let part = pool.reserve(0, own - kept)?;
             self.own.join(part);
