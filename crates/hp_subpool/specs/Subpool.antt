@@ -1,6 +1,7 @@
 -- What a mount may use of the pool, and what it has of it.
-use Rattle.std.specs.Prelude.{ℕ, ◌+◌, ◌-◌, ◌&&◌, not, Bool, Option, max, nat_lt}
-use Rattle.hp_model.specs.pool.Grant.{can_grant, is_over}
+use Rattle.std.specs.Prelude.{ℕ, ◌+◌, ◌-◌, ◌&&◌, not, Bool, Option, max, nat_lt, if◌then◌else◌}
+use Rattle.hp_model.specs.pool.Grant.{can_grant, granted, is_over}
+use Rattle.hp_model.specs.pool.Pool.{released, settled}
 use Rattle.hp_model.specs.pool.PoolCounts.{Pool}
 
 -- the most pages (None is no limit), the pages that stay committed at least, the pages in use, and the reservations that files and maps hold
@@ -51,3 +52,26 @@ with_reserves k s = record s { held = s.held + k }
 -- a page more, for a reservation that was held
 abbrev pub with_page : Subpool → Subpool
 with_page s = record s { held = s.held - 1; pages = s.pages + 1 }
+
+-- ---- other limits
+
+abbrev pub with_limits : (max : Option ℕ) → (min : ℕ) → Subpool → Subpool
+with_limits max min s = record s { max = max; min = min }
+
+-- what the pool has committed to the mount with this minimum; how far that is above what it has now, and how far below
+abbrev pub committed_with : Subpool → (min : ℕ) → ℕ
+committed_with s min = max (used s) min
+
+abbrev pub gain : Subpool → (min : ℕ) → ℕ
+gain s min = committed_with s min - committed_of s
+
+abbrev pub loss : Subpool → (min : ℕ) → ℕ
+loss s min = committed_of s - committed_with s min
+
+-- this minimum takes from what the pool has committed
+abbrev pub is_loss : Subpool → (min : ℕ) → Bool
+is_loss s min = nat_lt (committed_with s min) (committed_of s)
+
+-- the pool once it committed what the minimum adds, at home node 0, or took back what it leaves
+abbrev pub with_minimum : Subpool → (min : ℕ) → Pool → Pool
+with_minimum s min pool = if is_loss s min then settled (released (loss s min) pool) else granted 0 (gain s min) pool

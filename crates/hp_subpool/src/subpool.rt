@@ -3,7 +3,7 @@ ghost use Rattle.std.specs.Prelude.{◌≡◌, ◌+◌, ◌-◌, ◌<◌, ◌≤
 ghost use Rattle.hp_model.specs.pool.Grant.{can_grant, granted, is_over};
 ghost use Rattle.hp_model.specs.pool.Pool.{take_node, page_taken, kept_times, released};
 ghost use Rattle.hp_model.specs.pool.PoolCounts.{IsSettled, rsvd, used as in_use};
-ghost use Rattle.hp_subpool.specs.Subpool.{used, own_reserve, committed_of, rise, fall, is_full, can_get, lacks_pages, opened, with_reserves, with_page};
+ghost use Rattle.hp_subpool.specs.Subpool.{used, own_reserve, committed_of, rise, fall, gain, is_full, can_get, lacks_pages, opened, with_limits, with_minimum, with_reserves, with_page};
 
 use hp_model::naming::Naming;
 use hp_model::refusal::Refusal;
@@ -154,6 +154,40 @@ impl<N: Naming> Subpool<N> {
         let kept = part.split(own - self.own.amount());
         self.own.join(kept);
         pool.release(part);
+    }
+
+    /// Sets the limit and the minimum anew (`admin-guide/mm/hugetlbpage.rst`). The pool commits what the minimum adds,
+    /// at home node 0, or takes back what it leaves, and gives the surplus pages back that it then doesn't need. What is in
+    /// use and held stays, also past the limit, which then stops growth alone.
+    ///
+    /// Refused as NoPages where the pool can't commit what the minimum adds.
+    pub fn set_limits(
+        &mut self,
+        pool: &mut Pool<N>,
+        max: Option<u64>,
+        min: u64,
+    ) -> Result<(), Refusal>
+        requires { IsSettled pool.old }
+        ensures granted { IsOk result ↔ IsTrue (can_grant (gain self.old min) pool.old) }
+        ensures ok { OnOk result ((self.new ≡ with_limits max min self.old)
+            × (pool.new ≡ with_minimum self.old min pool.old)) }
+        ensures err { IfErr result (λ e. e ≡ Refusal.NoPages) }
+        ensures same { OnErr result ((self.new ≡ self.old) × (pool.new ≡ pool.old)) }
+        ensures settled { IsSettled pool.new }
+    {
+        let own = min.saturating_sub(self.used());
+        let kept = self.own.amount();
+        if own < kept {
+            let part = self.own.split(kept - own);
+            pool.release(part);
+            pool.settle();
+        } else {
+            let part = pool.reserve(0, own - kept)?;
+            self.own.join(part);
+        }
+        self.max = max;
+        self.min = min;
+        Ok(())
     }
 
     /// The most pages, where there is a limit.
