@@ -31,6 +31,7 @@ pub mod Backed
 pub mod ReservationsMade
 pub mod TestsDecide
 pub mod SettingsKept
+pub mod UnlinkEnds
 pub mod UnmapEnds
 pub mod GoneAfter
 pub mod Elsewhere

@@ -12,7 +12,7 @@ use Rattle.hp_model.specs.declared.refusal.Refusal.TheVariants.{Busy, MountFull,
 use Rattle.hp_model.specs.declared.step.Reserving.TheVariants.{NoReserve, Reserve}
 use Rattle.hp_model.specs.declared.step.Sharing.TheVariants.{Private, Shared}
 use Rattle.hp_model.specs.declared.step.Step.{Step}
-use Rattle.hp_model.specs.declared.step.Step.TheVariants.{Connect, Create, Df, Exit, Fault, Fork, Load, Map, Mount, Nr, Punch, Stat, Store, Umount, Unmap}
+use Rattle.hp_model.specs.declared.step.Step.TheVariants.{Connect, Create, Df, Exit, Fault, Fork, Load, Map, Mount, Nr, Punch, Stat, Store, Umount, Unlink, Unmap}
 use Rattle.hp_model.specs.declared.step.Intent.TheVariants.{Read}
 use Rattle.hp_model.specs.files.File.{File, file_in, is_entered, new_file, with_file}
 use Rattle.hp_model.specs.machine.Plain.{plain_step}
@@ -155,13 +155,17 @@ create_drops_entries_elsewhere : IsPromised mounted (Create 0 (codes "b")) (Ok D
 create_drops_entries_elsewhere promised =
     (let wrong : 0 ≡ 3 = ap cells_on (promised.elsewhere 2 refl) in absurd (omega (arith, wrong)))
 
--- ---- an exit that keeps the maps of its task, an umount that keeps the mount, and an unmap of all that keeps the number
+-- ---- an exit that keeps the maps of its task, an umount that keeps the mount, an unlink that keeps the name, and an unmap of all that keeps
+-- the number
 
 exit_keeps_maps : IsPromised shared (Exit 1) (Ok Done) (record shared { table = [] }) → ⊥
 exit_keeps_maps promised = (let wrong : true ≡ false = ap is_some (promised.gone 0 1) in cc)
 
 umount_keeps_the_mount : IsPromised mounted (Umount 2) (Ok Done) mounted → ⊥
 umount_keeps_the_mount promised = (let wrong : true ≡ false = ap is_some promised.gone in cc)
+
+unlink_keeps_the_name : IsPromised shared (Unlink 0 (codes "a")) (Ok Done) shared → ⊥
+unlink_keeps_the_name promised = (let wrong : true ≡ false = ap is_some promised.gone in cc)
 
 unmap_keeps_the_number : IsPromised shared (Unmap 1 0 1 0 1) (Ok Done) shared → ⊥
 unmap_keeps_the_number promised = (let wrong : true ≡ false = ap is_some (promised.gone refl) in cc)
