@@ -69,6 +69,7 @@ pub mod Meant
 pub mod Follows
 pub mod ByPlace
 pub mod Cuts
+pub mod FilesStay
 pub mod Unmaps
 pub mod SlotKept
 pub mod Fades
