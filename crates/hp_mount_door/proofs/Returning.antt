@@ -20,11 +20,11 @@ use Rattle.hp_mount_door.specs.Door.{by_node, GivesBack, IsReady}
 
 -- ---- as many rows
 
-surplus_len : (home k : ℕ) (s : NodeRows) → length (surplus_times home k s).rows ≡ length s.rows
+pub surplus_len : (home k : ℕ) (s : NodeRows) → length (surplus_times home k s).rows ≡ length s.rows
 surplus_len home zero s = refl
 surplus_len home (suc k) s = length-set (surplus_times home k s).rows _ _ ∙ surplus_len home k s
 
-given_len : (k : ℕ) (s : NodeRows) → length (give_back_times k s).rows ≡ length s.rows
+pub given_len : (k : ℕ) (s : NodeRows) → length (give_back_times k s).rows ≡ length s.rows
 given_len zero s = refl
 given_len (suc k) s = one (give_back_times k s) ∙ given_len k s
   where
