@@ -1,5 +1,5 @@
 -- A mount's limits are set through a door.
-use Rattle.std.proofs.Common.{◌≡◌, ℕ, ◌+◌, ◌-◌, Option, Some, None, Ok, Err, List, length, sym, subst, ap, ◌∙◌, arith}
+use Rattle.std.proofs.Common.{◌≡◌, ℕ, ◌+◌, ◌-◌, Option, Some, None, Ok, Err, List, length, ap, ◌∙◌, arith}
 use Rattle.std.specs.Prelude.{OnErr, Result}
 use Rattle.std.proofs.lemmas.Bool.{cond_both}
 use Rattle.hp_model.specs.declared.limits.Limits.{Limits}
@@ -55,7 +55,7 @@ pub limited_ready : (s : Subpool) (min : ℕ) (p q : Pool) → q ≡ with_minimu
 limited_ready s min p q is stays ready =
     let nodes = ready.nodes in
     let rows : length (with_minimum s min p).nodes.rows ≡ length p.nodes.rows = cond_both (is_loss s min) (settled (released (loss s min) p)) (granted 0 (gain s min) p)
-      (λ (x : Pool). length x.nodes.rows ≡ length p.nodes.rows) (λ t. given_len (surp_of p.nodes.rows - (p.committed - loss s min - p.nr)) p.nodes)
-      (λ t. surplus_len 0 (p.committed + gain s min - total_of p.nodes.rows) p.nodes) in
+    (λ (x : Pool). length x.nodes.rows ≡ length p.nodes.rows) (λ t. given_len (surp_of p.nodes.rows - (p.committed - loss s min - p.nr)) p.nodes)
+    (λ t. surplus_len 0 (p.committed + gain s min - total_of p.nodes.rows) p.nodes) in
     let same = ap (λ (x : Pool). length x.nodes.rows) is ∙ rows in
     record { settled = stays; nodes = omega (arith, nodes, same) }

@@ -8,13 +8,13 @@ use Rattle.std.proofs.lemmas.List.{length-append, length-set}
 use Rattle.std.proofs.lemmas.List.Sums.{sum_by-cons, sum_by_push}
 use Rattle.hp_model.specs.declared.node.NodeRow.{NodeRow}
 use Rattle.hp_model.specs.pool.Grant.{granted, surplus_times}
-use Rattle.hp_model.specs.pool.NodeRows.{NodeRows, at_row, give_back_row, given_back, lowest, promote_row, put_row, shrink_row, surp_of, total_of}
+use Rattle.hp_model.specs.pool.NodeRows.{NodeRows, at_row, give_back_row, given_back, lowest, promote_row, shrink_row, surp_of, total_of}
 use Rattle.hp_model.specs.declared.node.Kind.TheVariants.{Free, FreeSurplus, Surplus}
 use Rattle.hp_model.specs.declared.refusal.Refusal.{Refusal}
 use Rattle.hp_model.specs.files.Page.{Page}
 use Rattle.hp_model.specs.pool.Pool.{give_back_times, kept_times, page_kept, page_taken, granted_at, puts_from, released, section, settled}
 use Rattle.hp_model.specs.pool.PoolCounts.{IsSettled, Pool}
-use Rattle.hp_model.proofs.RowMoves.{page_in, put_rows, puts_are}
+use Rattle.hp_model.proofs.RowMoves.{put_rows, puts_are}
 use Rattle.hp_subpool.specs.Subpool.{Subpool, committed_of, fall, used}
 use Rattle.hp_mount_door.specs.Door.{by_node, GivesBack, IsReady}
 
