@@ -332,7 +332,7 @@ pub slots_stay_sound : SlotsStaySound
 slots_stay_sound size k c None (slot.Mount options) new sound = always_mount (GoesOn None) (λ r. tt) empty_sound c size options
 slots_stay_sound size k c None other new sound = tt
 slots_stay_sound size k c (Some m) (slot.Remount options) new sound =
-    always_remount (GoesOn (Some m)) (λ r. sound) m (λ l. record { files = sound.files; stamps = sound.stamps; numbers = sound.numbers }) size k options
+    always_remount (GoesOn (Some m)) (λ r. sound) m (λ l. record { files = sound.files; stamps = sound.stamps; numbers = sound.numbers; names = sound.names }) size k options
 slots_stay_sound size k c (Some m) slot.Umount new sound = always_unless (GoesOn (Some m)) (λ r. sound) (umount_tests k m) (gives Done (Some m) None)
     (always_gives (GoesOn (Some m)) Done (Some m) None tt)
 slots_stay_sound size k c (Some m) e new sound =
