@@ -1,23 +1,15 @@
 -- A mount's section through a door.
-use Rattle.std.proofs.Common.{◌≡◌, ℕ, Option, Some, None, Ok, Err, List}
+use Rattle.std.proofs.Common.{◌≡◌, ℕ, Ok, Err, List}
 use Rattle.std.specs.Prelude.{Result}
-use Rattle.std.proofs.lemmas.Bool.{cond_both}
 use Rattle.hp_model.specs.declared.limits.Limits.{Limits}
 use Rattle.hp_model.specs.declared.refusal.Refusal.{Refusal}
 use Rattle.hp_model.specs.declared.refusal.Refusal.TheVariants as r
 use Rattle.hp_model.specs.declared.section.PoolAnswer.{PoolAnswer}
 use Rattle.hp_model.specs.declared.section.Section.{Section}
-use Rattle.hp_model.specs.files.Options.{Wanted, checked, is_below_min, limits, limits_of, wanted_of}
+use Rattle.hp_model.specs.files.Options.{limits, wanted_of}
+use Rattle.hp_mount_door.proofs.Limiting.{never_full}
 use Rattle.hp_subpool.specs.Subpool.{Subpool}
 use Rattle.hp_locked.specs.Opened.{IsOpenedAt, IsShareOf, shown}
-
-never_checked : (l : Limits) → checked l ≡ Err r.TraceFull → ⊥
-never_checked l = cond_both (is_below_min l.max l.min) (Err r.MinOverSize) (Ok l) (λ (x : Result Limits Refusal). x ≡ Err r.TraceFull → ⊥) (λ t e. cc) (λ t e. cc)
-
--- options are never refused so
-never_full : (nr size : ℕ) (w : Option Wanted) → limits nr size w ≡ Err r.TraceFull → ⊥
-never_full nr size None e = cc
-never_full nr size (Some w) e = never_checked (limits_of nr size w) e
 
 full_is : (l : Result Limits Refusal) (nr : ℕ) (s : Section) (a : PoolAnswer) → IsShareOf l nr (Err r.TraceFull) s a → l ≡ Err r.TraceFull
 full_is (Err e) nr s a h = (let same = h.0 in cc)

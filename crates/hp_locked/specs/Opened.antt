@@ -1,5 +1,5 @@
 -- The section of a mount: nr is read, and the minimum that the options mean at it is granted.
-use Rattle.std.specs.Prelude.{◌≡◌, ℕ, Bool, true, false, List, Result, Ok, Err}
+use Rattle.std.specs.Prelude.{◌≡◌, ℕ, true, false, List, Result, Ok, Err}
 use Rattle.hp_model.specs.declared.limits.Limits.{Limits}
 use Rattle.hp_model.specs.declared.refusal.Refusal.{Refusal}
 use Rattle.hp_model.specs.declared.refusal.Refusal.TheVariants.{NoPages, TraceFull}
@@ -7,10 +7,8 @@ use Rattle.hp_model.specs.declared.section.PoolAnswer.{PoolAnswer}
 use Rattle.hp_model.specs.declared.section.Section.{Section}
 use Rattle.hp_model.specs.declared.section.Section.TheVariants.{ReadAndGrant}
 use Rattle.hp_model.specs.files.Options.{limits, wanted_of}
+use Rattle.hp_mount_door.specs.Limits.{read_nr}
 use Rattle.hp_subpool.specs.Subpool.{Subpool, opened}
-
-abbrev pub read_nr : Bool → ℕ → PoolAnswer
-read_nr granted nr = record { granted = granted; node = 0; nr = nr }
 
 -- by what the options mean: refused, or a share with their minimum, or NoPages for that
 abbrev pub IsShareOf : Result Limits Refusal → (nr : ℕ) → Result (Subpool × Limits) Refusal → Section → PoolAnswer → Type 0

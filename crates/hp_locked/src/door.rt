@@ -152,6 +152,22 @@ impl<'a, N: Naming, R: Wait, G: Gate, T: Trail<PoolEntry>> PoolDoor for Door<'a,
         self.asked = core.put(share, parcel, reserves);
     }
 
+    fn limits(
+        &mut self,
+        share: &mut Subpool<N>,
+        page_bytes: u64,
+        options: &[u8],
+    ) -> Result<Option<u64>, Refusal> {
+        let set = self.core.lock(self.rt).limits(share, page_bytes, options);
+        match set {
+            Err(_full) => Err(Refusal::TraceFull),
+            Ok((files, asked)) => {
+                self.asked = Some(asked);
+                files
+            }
+        }
+    }
+
     fn close(&mut self, share: Subpool<N>, going: PageStore<N>) {
         let mut spent = going;
         let parcel = self.nodes.gather(self.rt, self.gate, &mut spent);

@@ -12,10 +12,11 @@ ghost use Rattle.hp_model.specs.pool.Resize.{node_counts, pool_event};
 ghost use Rattle.hp_model.specs.text.Writing.{IsWithinLimits};
 ghost use Rattle.hp_model.specs.threads.Closing.{to_return};
 ghost use Rattle.hp_mount_door.specs.Door.{IsReady, grant_for, page_for, with_granted, with_less, with_page, with_reserves};
+ghost use Rattle.hp_mount_door.specs.Limits.{IsLimitedBy};
 ghost use Rattle.hp_pool.specs.Sums.{idle_pool};
 ghost use Rattle.hp_subpool.specs.Subpool.{committed_of, fall, is_full as ShareIsFull, rise, used};
 ghost use Rattle.hp_trail.specs.Keeping.{added, has_room, one_less};
-ghost use Rattle.hp_locked.specs.Opened.{IsShareOf, read_nr};
+ghost use Rattle.hp_locked.specs.Opened.{IsShareOf};
 ghost use Rattle.hp_locked.specs.Told.{IsPoolEventDone, IsReceipt, pool_reply};
 ghost use Rattle.hp_locked.specs.Views.{IsAnswered, IsFresh, IsGiven, IsPlace, IsPoolTrail, IsSection, IsUnasked, frames_list};
 
@@ -29,6 +30,7 @@ use hp_model::naming::Naming;
 use hp_model::refusal::Refusal;
 use hp_model::section::{PoolAnswer, Section};
 use hp_mount_door::Parcel;
+use hp_mount_door::limits::{read_nr, set_limits};
 use hp_options::options::parse_options;
 use hp_permit::Claim;
 use hp_pool::Pool;
@@ -258,6 +260,34 @@ impl<N: Naming, T: Trail<PoolEntry>> Core<N, T> {
         Ok((share, asked))
     }
 
+    /// Sets a share's limits to what the options mean at nr, for pages of so many bytes: the limit of files, or BadOption,
+    /// MinOverSize or NoPages; and the section. At `Err` the trail is full, and nothing changed.
+    pub fn limits(
+        &mut self,
+        share: &mut Subpool<N>,
+        page_bytes: u64,
+        options: &[u8],
+    ) -> Result<(Result<Option<u64>, Refusal>, Asked), Full>
+        requires { 0 < page_bytes }
+        ensures section { IfOk result (λ r. IsSection self.old self.new r.1) }
+        ensures set { IfOk result (λ r. IsLimitedBy (limits self.old.pool.nr page_bytes
+            (wanted_of options.now))
+            self.old.pool.nr share.old share.new r.0 r.1.section r.1.answer) }
+        ensures full { OnErr result (has_room false self.old.left self.old.extra ≡ false) }
+        ensures keeps { OnErr result (T.keeps ≡ true) }
+        ensures same { OnErr result (self.new ≡ self.old) }
+        ensures unchanged { OnErr result (share.new ≡ share.old) }
+    {
+        let Core { pool, trail } = self;
+        if !trail.has_room(false) {
+            return Err(Full {});
+        }
+        let (files, section, answer) = set_limits(pool, share, page_bytes, options);
+        pool.law();
+        let asked = note(trail, section, answer);
+        Ok((files, asked))
+    }
+
     /// An event of the pool alone: its answer, and its receipt where entries are kept. At `Err` the trail is full, and
     /// nothing changed.
     pub fn event(&mut self, event: PoolEvent) -> Result<(PoolTold, Option<Receipt>), Full>
@@ -321,16 +351,6 @@ fn opened_share<N: Naming>(
                 Err(refusal) => (Err(refusal), section, read_nr(false, nr)),
             }
         }
-    }
-}
-
-fn read_nr(granted: bool, nr: u64) -> PoolAnswer
-    ensures { result ≡ read_nr granted nr }
-{
-    PoolAnswer {
-        granted,
-        node: 0,
-        nr,
     }
 }
 

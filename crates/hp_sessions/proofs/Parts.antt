@@ -186,6 +186,12 @@ umount_absent kept size k r is =
     subst (λ x. IsHanded kept size (OnSlot k slot.Umount) (Err x) None) (sym is)
     (absent_handed kept size k slot.Umount NoSuchSlot refl refl (None, None, None, (fresh_choice false None, is_fresh false None, (refl, refl))))
 
+pub remounting_absent : (kept : Bool) (size k : ℕ) (options : List ℕ) (r : Refusal) → r ≡ (if kept then TraceFull else NoSuchSlot) →
+    IsHanded kept size (OnSlot k (slot.Remount options)) (Err r) None
+remounting_absent kept size k options r is =
+    subst (λ x. IsHanded kept size (OnSlot k (slot.Remount options)) (Err x) None) (sym is)
+    (absent_handed kept size k (slot.Remount options) NoSuchSlot refl refl (None, None, None, (fresh_choice false None, is_fresh false None, (refl, refl))))
+
 -- a mount is refused where a slot is mounted
 pub mounting_absent : (kept : Bool) (size k : ℕ) (options : List ℕ) (r : Refusal) → r ≡ (if kept then TraceFull else SlotTaken) →
     IsHanded kept size (OnSlot k (slot.Mount options)) (Err r) None

@@ -15,7 +15,7 @@ use Rattle.hp_model.specs.threads.Telling.{carries_bytes, most_receipts}
 use Rattle.hp_laws.specs.Answers.{lists_names}
 use Rattle.hp_mount.specs.Event.{event_of}
 use Rattle.hp_sessions.specs.declared.work.Work.{Work}
-use Rattle.hp_sessions.specs.declared.work.Work.TheVariants.{Tasks, Pool, Fork, Exit, Mount, Umount, Names, OnSlot, OfTask}
+use Rattle.hp_sessions.specs.declared.work.Work.TheVariants.{Tasks, Pool, Fork, Exit, Mount, Remount, Umount, Names, OnSlot, OfTask}
 use Rattle.hp_sessions.specs.Calls.{Carries, SessionView}
 
 -- ---- the step that it stands for
@@ -26,6 +26,7 @@ work_script n (Pool e) = only (OnPool e)
 work_script n (Fork parent child) = script n (step.Fork parent child)
 work_script n (Exit task) = script n (step.Exit task)
 work_script n (Mount k options) = on_slot n k (slot.Mount options.now)
+work_script n (Remount k options) = on_slot n k (slot.Remount options.now)
 work_script n (Umount k) = on_slot n k slot.Umount
 work_script n (Names k) = on_slot n k slot.Ls
 work_script n (OnSlot k e) = on_slot n k (event_of 0 e)
@@ -41,6 +42,7 @@ work_receipts n other = 1
 -- it has a name, options or bytes
 abbrev pub work_carries : Work → Bool
 work_carries (Mount k options) = true
+work_carries (Remount k options) = true
 work_carries (OnSlot k e) = has_bytes (event_of 0 e)
 work_carries (OfTask task k e) = has_bytes (event_of 0 e)
 work_carries other = false
@@ -77,6 +79,7 @@ IsWorked kept size s w reply t =
 -- the name, the options or the bytes of an event
 abbrev pub bytes_of : SlotEvent → List ℕ
 bytes_of (slot.Mount options) = options
+bytes_of (slot.Remount options) = options
 bytes_of (slot.Create name) = name
 bytes_of (slot.Unlink name) = name
 bytes_of (slot.Truncate name pages) = name

@@ -24,6 +24,10 @@ pub(crate) enum Work<'x> {
         slot: u64,
         options: &'x [u8],
     },
+    Remount {
+        slot: u64,
+        options: &'x [u8],
+    },
     Umount {
         slot: u64,
     },
@@ -61,6 +65,10 @@ pub(crate) fn work_of<'x>(step: &Step<'x>) -> Work<'x>
         },
         Step::Exit { task } => Work::Exit { task: *task },
         Step::Mount { slot, options } => Work::Mount {
+            slot: *slot,
+            options: options.as_slice(),
+        },
+        Step::Remount { slot, options } => Work::Remount {
             slot: *slot,
             options: options.as_slice(),
         },
@@ -245,6 +253,7 @@ pub(crate) fn most_receipts(slots: usize, work: &Work<'_>) -> usize
         Work::Tasks(_)
         | Work::Pool(_)
         | Work::Mount { .. }
+        | Work::Remount { .. }
         | Work::Umount { .. }
         | Work::Names { .. }
         | Work::OnSlot { .. } => 1,

@@ -101,6 +101,7 @@ gave (Answered a s) old reply new g = g.0
 usage_is : (e : SlotEvent) → tells_all e ≡ is_usage e
 usage_is (slot.Mount options) = refl
 usage_is slot.Umount = refl
+usage_is (slot.Remount options) = refl
 usage_is (slot.Create name) = refl
 usage_is (slot.Unlink name) = refl
 usage_is (slot.Truncate name n) = refl

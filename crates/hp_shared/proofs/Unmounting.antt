@@ -1,9 +1,9 @@
--- Mount and umount of a slot, through a session's door.
+-- Mount, remount and umount of a slot, through a session's door.
 use Rattle.std.proofs.Common.{◌≡◌, ℕ, ◌==◌, Bool, true, false, cond, Option, None, Some, Ok, Err, List, [], refl, sym, ap, ◌∙◌, subst}
 use Rattle.std.specs.Prelude.{Result, is_some}
 use Rattle.hp_model.specs.declared.answer.Answer.TheVariants.{Done}
 use Rattle.hp_model.specs.declared.entry.Asked.{Asked}
-use Rattle.hp_model.specs.declared.event.SlotEvent.TheVariants.{Mount as Mounting, Umount}
+use Rattle.hp_model.specs.declared.event.SlotEvent.TheVariants.{Mount as Mounting, Remount, Umount}
 use Rattle.hp_model.specs.declared.limits.Limits.{Limits}
 use Rattle.hp_model.specs.declared.refusal.Refusal.{Refusal}
 use Rattle.hp_model.specs.declared.refusal.Refusal.TheVariants as r
@@ -112,6 +112,24 @@ taken full size k text m asked none = (
   is_fresh false (Some m),
   subst (λ (x : Option Asked). Goes (slot_event size k (fresh_choice false (Some m)) (Some m) (Mounting text)) x (Some m) (Err r.SlotTaken) (Some m)) (sym none) (refl, refl),
 )
+
+-- ---- remount
+
+pub limits_none : (full : Type 0) (size k : ℕ) (text : List ℕ) (asked : Option Asked) → asked ≡ None → IsActedOr full size k None (Remount text) (Err r.NoSuchSlot) asked None
+limits_none full size k text asked none = (
+  fresh_choice false None,
+  is_fresh false None,
+  subst (λ (x : Option Asked). Goes (slot_event size k (fresh_choice false None) None (Remount text)) x None (Err r.NoSuchSlot) None) (sym none) (refl, refl),
+)
+
+pub limits_first : (full : Type 0) (size k : ℕ) (text : List ℕ) (m : Mount) (asked : Option Asked) → k ≡ 0 → asked ≡ None → IsActedOr full size k (Some m) (Remount text) (Err r.SlotTaken) asked (Some m)
+limits_first full size k text m asked first none =
+    let c : Choice = fresh_choice false (Some m) in (
+      c,
+      is_fresh false (Some m),
+      subst (λ (x : Option Asked). Goes (slot_event size k c (Some m) (Remount text)) x (Some m) (Err r.SlotTaken) (Some m)) (sym none)
+          (subst (λ n. Goes (slot_event size n c (Some m) (Remount text)) None (Some m) (Err r.SlotTaken) (Some m)) (sym first) (refl, refl)),
+    )
 
 -- ---- what a door opened
 

@@ -1,7 +1,7 @@
 //! A slot with its trail.
 ghost use Rattle.std.specs.Prelude.{◌≡◌, ◌⊎◌, ◌<◌, ◌≤◌, ◌==◌, Ok, ℕ, [], length, true, false, None, Some, is_some};
 ghost use Rattle.hp_model.specs.declared.answer.Answer.TheVariants.{Done};
-ghost use Rattle.hp_model.specs.declared.event.SlotEvent.TheVariants.{ExitMaps, ForkMaps, Ls, Mount as Mounting, Umount};
+ghost use Rattle.hp_model.specs.declared.event.SlotEvent.TheVariants.{ExitMaps, ForkMaps, Ls, Mount as Mounting, Remount, Umount};
 ghost use Rattle.hp_model.specs.declared.entry.Part.TheVariants.{Slot as AtSlot};
 ghost use Rattle.hp_model.specs.declared.event.Event.TheVariants.{Slot as OnSlot};
 ghost use Rattle.hp_model.specs.declared.event.SlotEvent.{SlotEvent as SlotEventValue};
@@ -20,7 +20,7 @@ ghost use Rattle.hp_subpool.specs.Subpool.{Subpool as ShareValue};
 ghost use Rattle.hp_shared.specs.Slots.{AreNoted, IsSlotEvent, IsSlotEventDone, IsSlotTrail, is_trace_full, names_reply, slot_start};
 ghost use Rattle.hp_trail.specs.Keeping.{added, has_room, one_less};
 
-use crate::mounting::{mount as open, unmount};
+use crate::mounting::{mount as open, remount as set_limits, unmount};
 use crate::names::{Listing, list, list_thrice};
 use crate::slot::{act, copied, fork, is_full, leave};
 use hp_locked::SessionDoor;
@@ -347,6 +347,47 @@ impl<N: Naming, T: Trail<SlotEntry>> Slot<N, T> {
             return (Err(Refusal::TraceFull), None);
         }
         let told = open(mount, door, alloc, page_bytes, options);
+        if is_full(&told) {
+            return (told, None);
+        }
+        let receipt = note(trail, *number, noted, door.asked(), &told);
+        (told, receipt)
+    }
+
+    /// Sets the limits of the slot's mount anew, to what the options mean: the receipt where entries are kept. For these the
+    /// event is given twice. Refused as NoSuchSlot, SlotTaken, BadOption, MinOverSize or NoPages. Answered TraceFull, and then
+    /// nothing changed, where the trail has no room, or the door has none for its section.
+    pub fn remount<D: SessionDoor<Share = Subpool<N>, Page = Page<N>, Going = PageStore<N>>>(
+        &mut self,
+        door: &mut D,
+        page_bytes: u64,
+        options: &[u8],
+        noted: Option<(SlotEvent, SlotEvent)>,
+    ) -> (Result<Told<'static>, Refusal>, Option<Receipt>)
+        requires shares { (s : ShareValue) → D.share_of s ≡ s }
+        requires ready { D.is_ready door.old }
+        requires page_bytes { page_bytes ≡ N.page_bytes }
+        requires bytes { 0 < page_bytes }
+        requires noted { AreNoted self.old.entries (Remount options.now) noted }
+        ensures done { IsSlotEvent (D.is_full door.new) N.page_bytes self.old self.new
+            (Remount options.now)
+            (told_reply result.0) (D.asked door.new) result.1 }
+        ensures number { self.new.number ≡ self.old.number }
+        ensures keeps { is_trace_full (told_reply result.0) ≡ true
+            → (T.keeps ≡ true) ⊎ D.is_full door.new }
+        ensures given { is_trace_full (told_reply result.0) ≡ false
+            → is_some result.1 ≡ T.keeps }
+        ensures limits { IsWithinLimits (told_reply result.0) }
+    {
+        let Slot {
+            number,
+            mount,
+            trail,
+        } = self;
+        if !trail.has_room(false) {
+            return (Err(Refusal::TraceFull), None);
+        }
+        let told = set_limits(mount, *number, door, page_bytes, options);
         if is_full(&told) {
             return (told, None);
         }

@@ -4,7 +4,7 @@ ghost use Rattle.std.specs.Bool.{MatchBool};
 ghost use Rattle.hp_laws.specs.Answers.{lists_names};
 ghost use Rattle.hp_model.specs.declared.answer.Answer.TheVariants.{Done};
 ghost use Rattle.hp_model.specs.declared.event.Event.TheVariants.{Tasks as OnTasks, Slot as OnSlot, Pool as OnPool};
-ghost use Rattle.hp_model.specs.declared.event.SlotEvent.TheVariants.{ExitMaps, ForkMaps, Ls, Mount as Mounting, Umount};
+ghost use Rattle.hp_model.specs.declared.event.SlotEvent.TheVariants.{ExitMaps, ForkMaps, Ls, Mount as Mounting, Remount as Remounting, Umount};
 ghost use Rattle.hp_model.specs.declared.refusal.Refusal.TheVariants.{TraceFull};
 ghost use Rattle.hp_model.specs.machine.Told.{told_reply};
 ghost use Rattle.hp_model.specs.text.Writing.{IsWithinLimits};
@@ -15,7 +15,7 @@ ghost use Rattle.hp_sessions.specs.Calls.{IsHanded};
 ghost use Rattle.hp_sessions.specs.Works.{AreCopies, bytes_of};
 
 use super::Session;
-use super::notes::{Copies, events, mountings};
+use super::notes::{Copies, events, mountings, remountings};
 use hp_locked::{Core, Door, Gate};
 use hp_model::entry::{PoolEntry, Receipt, SlotEntry, TableEntry};
 use hp_model::event::{PoolEvent, TableEvent};
@@ -179,6 +179,35 @@ impl<'a, N: Naming, R: Wait, G: Gate, const K: usize> Session<'a, N, R, G, K> {
         };
         let mut door = Door::new(self.rt, self.gate, &shared.core, &shared.nodes);
         slot.mount(&mut door, shared.alloc, shared.page_size(), options, noted)
+    }
+
+    // Sets the limits of a slot's mount anew.
+    pub(super) fn enter_remount(
+        &self,
+        at: usize,
+        options: &[u8],
+        copies: Option<Copies>,
+    ) -> (Result<Told<'static>, Refusal>, Option<Receipt>)
+        requires within { at < self.now.slots }
+        requires copies { (K == 1) ≡ true → AreCopies options.now copies }
+        ensures handed { IsHanded (K == 1) N.page_bytes (OnSlot at (Remounting options.now))
+            (told_reply result.0) result.1 }
+        ensures limits { IsWithinLimits (told_reply result.0) }
+    {
+        let shared = self.shared;
+        let mut value = shared.slots[at].lock(self.rt);
+        self.gate.enter(at as u64);
+        let slot: &mut Slot<N, Trace<SlotEntry, K>> = &mut value;
+        if slot.number() != at as u64 {
+            return (Err(absent::<K>(Refusal::NoSuchSlot)), None);
+        }
+        let noted = if slot.is_kept() {
+            remountings(copies)
+        } else {
+            None
+        };
+        let mut door = Door::new(self.rt, self.gate, &shared.core, &shared.nodes);
+        slot.remount(&mut door, shared.page_size(), options, noted)
     }
 
     // Ends the mount of a slot.

@@ -3,7 +3,7 @@ ghost use Rattle.std.specs.Prelude.{◌≡◌, ◌≢◌, ◌<◌, ◌≤◌, �
 ghost use Rattle.std.specs.Bool.{MatchBool};
 ghost use Rattle.hp_laws.specs.Answers.{lists_names};
 ghost use Rattle.hp_model.specs.declared.event.Event.TheVariants.{Tasks as OnTasks, Slot as OnSlot, Pool as OnPool};
-ghost use Rattle.hp_model.specs.declared.event.SlotEvent.TheVariants.{ForkMaps, Ls, Mount as Mounting, Umount as Umounting};
+ghost use Rattle.hp_model.specs.declared.event.SlotEvent.TheVariants.{ForkMaps, Ls, Mount as Mounting, Remount as Remounting, Umount as Umounting};
 ghost use Rattle.hp_model.specs.machine.Step.{Script, exit_slot, finding, on_slot};
 ghost use Rattle.hp_model.specs.machine.Told.{told_answer, told_reply};
 ghost use Rattle.hp_model.specs.text.Writing.{IsWithinLimits};
@@ -164,6 +164,29 @@ impl<'a, N: Naming, R: Wait, G: Gate, const K: usize> Session<'a, N, R, G, K> {
             return Err(Refusal::NoSuchSlot);
         }
         let (told, receipt) = self.enter_mount(at, options, copies);
+        self.add(receipt);
+        told
+    }
+
+    // Sets the limits of a slot's mount anew, if there is a slot of that number.
+    pub(super) fn make_remount(
+        &mut self,
+        slot: u64,
+        options: &[u8],
+        copies: Option<Copies>,
+    ) -> Result<Told<'static>, Refusal>
+        requires places { HasRoom (K == 1) 1 self.old }
+        requires copies { (K == 1) ≡ true → AreCopies options.now copies }
+        ensures carried { Carries (K == 1) N.page_bytes self.old
+            (on_slot self.old.slots slot (Remounting options.now))
+            (told_reply result) self.new }
+        ensures limits { IsWithinLimits (told_reply result) }
+    {
+        let at = slot as usize;
+        if at >= self.shared.count() {
+            return Err(Refusal::NoSuchSlot);
+        }
+        let (told, receipt) = self.enter_remount(at, options, copies);
         self.add(receipt);
         told
     }

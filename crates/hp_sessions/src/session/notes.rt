@@ -1,7 +1,7 @@
 //! Copies for an entry and for a receipt.
 ghost use Rattle.std.specs.Prelude.{◌≡◌, ◌<◌, ℕ, List, length, true, IfOk, OnErr, Some};
 ghost use Rattle.hp_model.specs.machine.Copying.{has_bytes};
-ghost use Rattle.hp_model.specs.declared.event.SlotEvent.TheVariants.{Mount as Mounting};
+ghost use Rattle.hp_model.specs.declared.event.SlotEvent.TheVariants.{Mount as Mounting, Remount as Remounting};
 ghost use Rattle.hp_mount.specs.Event.{event_of};
 ghost use Rattle.hp_sessions.specs.Works.{AreCopies, AreEvents, bytes_of};
 
@@ -74,6 +74,18 @@ pub(super) fn mountings(copies: Option<Copies>) -> Option<(SlotEvent, SlotEvent)
     Some((
         SlotEvent::Mount { options: one },
         SlotEvent::Mount { options: two },
+    ))
+}
+
+// A remount's event twice, with copies of its options.
+pub(super) fn remountings(copies: Option<Copies>) -> Option<(SlotEvent, SlotEvent)>
+    ensures { (options : List ℕ) → AreCopies options copies
+        → AreEvents (Remounting options) result }
+{
+    let (one, two) = copies?;
+    Some((
+        SlotEvent::Remount { options: one },
+        SlotEvent::Remount { options: two },
     ))
 }
 

@@ -145,6 +145,10 @@ impl<'a, N: Naming, R: Wait, G: Gate, const K: usize> Session<'a, N, R, G, K> {
                 Ok(copies) => self.make_mount(slot, options, copies),
                 Err(AllocError) => Err(Refusal::OutOfMemory),
             },
+            Work::Remount { slot, options } => match self.options_twice(options) {
+                Ok(copies) => self.make_remount(slot, options, copies),
+                Err(AllocError) => Err(Refusal::OutOfMemory),
+            },
             Work::Umount { slot } => self.make_umount(slot),
             Work::Names { slot } => self.make_names(slot),
             Work::OnSlot { slot, event } => match self.copies(&event) {

@@ -1,0 +1,23 @@
+use Rattle.std.proofs.Common.{◌==◌, ap, arith}
+use Rattle.hp_model.specs.declared.event.Event.TheVariants.{Slot as OnSlot}
+use Rattle.hp_model.specs.declared.event.SlotEvent.TheVariants.{Remount as Remounting}
+use Rattle.hp_model.specs.machine.Told.{told_reply}
+use Rattle.hp_sessions.specs.Calls.{SessionView}
+use Rattle.hp_sessions.proofs.Carrying.{made_added, no_slot, on_slot_made}
+use Rattle.hp_sessions.proofs.session.Session.make_remount.Goals as goal
+
+pub returns-then-at-count-clause-carried : goal.returns-then-at-count-clause-carried
+returns-then-at-count-clause-carried g c =
+    let many = c.count.ensures.count in
+    let same = ap (λ (v : SessionView). v.slots) c.self.view_is in
+    no_slot (g.row.K == 1) g.N.Naming.page_bytes c.args.self.now c.args.slot (Remounting c.args.options.now) (let over = c.if-at-count.true in omega (arith, many, same, over))
+
+pub returns-clause-carried : goal.returns-clause-carried
+returns-clause-carried g c =
+    let many = c.count.ensures.count in
+    let same = ap (λ (v : SessionView). v.slots) c.self.view_is in
+    let e = Remounting c.args.options.now in
+    on_slot_made (g.row.K == 1) g.N.Naming.page_bytes c.args.self.now c.add.new.self c.args.slot e (told_reply c.enter_remount-told.result.0)
+    (let under = c.if-at-count.false in omega (arith, many, same, under))
+    (made_added (g.row.K == 1) g.N.Naming.page_bytes c.args.self.now c.add.new.self (OnSlot c.args.slot e) (told_reply c.enter_remount-told.result.0) c.enter_remount-told.result.1
+    c.enter_remount-told.ensures.handed c.add.ensures)
