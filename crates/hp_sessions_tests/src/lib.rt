@@ -8,6 +8,8 @@ mod gates;
 #[cfg(test)]
 mod many;
 #[cfg(test)]
+mod remounting;
+#[cfg(test)]
 mod rows;
 #[cfg(test)]
 mod same;

@@ -24,14 +24,14 @@ use std::time::Clock;
 const ROOM: usize = 100;
 
 // A session's call, of which nothing is carried through a test.
-fn call<N: Naming, R: Wait, G: Gate, const K: usize>(
+pub(crate) fn call<N: Naming, R: Wait, G: Gate, const K: usize>(
     session: &mut Session<'_, N, R, G, K>,
     step: &Step<'_>,
 ) -> Reply {
     session.call(step)
 }
 
-fn opened<'a, N: Naming, R: Wait + Abort, G: Gate, const K: usize>(
+pub(crate) fn opened<'a, N: Naming, R: Wait + Abort, G: Gate, const K: usize>(
     rt: &'a R,
     alloc: Global,
     shared: &'a Shared<N, K>,
@@ -64,7 +64,7 @@ fn store_of(task: u64, bytes: &[u8]) -> Step<'_> {
 }
 
 // Total, Free, Rsvd and Surp.
-fn counts<N: Naming, R: Wait, G: Gate, const K: usize>(
+pub(crate) fn counts<N: Naming, R: Wait, G: Gate, const K: usize>(
     session: &mut Session<'_, N, R, G, K>,
 ) -> Option<[u64; 4]> {
     match call(session, &Step::Meminfo) {

@@ -144,7 +144,7 @@ fn file_step(dice: &mut Dice, slot: u64) -> Step<'static> {
 }
 
 fn machine_step(dice: &mut Dice, slot: u64) -> Step<'static> {
-    match dice.below(7) {
+    match dice.below(8) {
         0 => Step::Overcommit {
             pages: dice.below(3),
         },
@@ -152,6 +152,10 @@ fn machine_step(dice: &mut Dice, slot: u64) -> Step<'static> {
         2 => Step::Nodes,
         3 => Step::Umount { slot },
         4 => Step::Mount {
+            slot,
+            options: one_of(dice, &OPTIONS),
+        },
+        5 => Step::Remount {
             slot,
             options: one_of(dice, &OPTIONS),
         },

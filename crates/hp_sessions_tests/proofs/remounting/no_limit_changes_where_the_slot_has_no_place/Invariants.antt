@@ -1,0 +1,5 @@
+use Rattle.hp_pool.specs.Ledgers.{names_of}
+use Rattle.hp_sessions_tests.proofs.remounting.no_limit_changes_where_the_slot_has_no_place.Given as goal
+
+abbrev pub ghosts-slot_full : goal.ghosts-slot_full
+ghosts-slot_full g a = names_of a.blanks 1024
