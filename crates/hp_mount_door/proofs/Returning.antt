@@ -8,23 +8,23 @@ use Rattle.std.proofs.lemmas.List.{length-append, length-set}
 use Rattle.std.proofs.lemmas.List.Sums.{sum_by-cons, sum_by_push}
 use Rattle.hp_model.specs.declared.node.NodeRow.{NodeRow}
 use Rattle.hp_model.specs.pool.Grant.{granted, surplus_times}
-use Rattle.hp_model.specs.pool.NodeRows.{NodeRows, at_row, give_back_row, given_back, lowest, promote_row, put_row, shrink_row, surp_of, total_of}
+use Rattle.hp_model.specs.pool.NodeRows.{NodeRows, at_row, give_back_row, given_back, lowest, promote_row, shrink_row, surp_of, total_of}
 use Rattle.hp_model.specs.declared.node.Kind.TheVariants.{Free, FreeSurplus, Surplus}
 use Rattle.hp_model.specs.declared.refusal.Refusal.{Refusal}
 use Rattle.hp_model.specs.files.Page.{Page}
 use Rattle.hp_model.specs.pool.Pool.{give_back_times, kept_times, page_kept, page_taken, granted_at, puts_from, released, section, settled}
 use Rattle.hp_model.specs.pool.PoolCounts.{IsSettled, Pool}
-use Rattle.hp_model.proofs.RowMoves.{page_in, put_rows, puts_are}
+use Rattle.hp_model.proofs.RowMoves.{put_rows, puts_are}
 use Rattle.hp_subpool.specs.Subpool.{Subpool, committed_of, fall, used}
 use Rattle.hp_mount_door.specs.Door.{by_node, GivesBack, IsReady}
 
 -- ---- as many rows
 
-surplus_len : (home k : ℕ) (s : NodeRows) → length (surplus_times home k s).rows ≡ length s.rows
+pub surplus_len : (home k : ℕ) (s : NodeRows) → length (surplus_times home k s).rows ≡ length s.rows
 surplus_len home zero s = refl
 surplus_len home (suc k) s = length-set (surplus_times home k s).rows _ _ ∙ surplus_len home k s
 
-given_len : (k : ℕ) (s : NodeRows) → length (give_back_times k s).rows ≡ length s.rows
+pub given_len : (k : ℕ) (s : NodeRows) → length (give_back_times k s).rows ≡ length s.rows
 given_len zero s = refl
 given_len (suc k) s = one (give_back_times k s) ∙ given_len k s
   where

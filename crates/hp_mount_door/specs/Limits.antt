@@ -24,7 +24,8 @@ IsLimitedBy (Ok l) nr old new (Ok files) s a =
 IsLimitedBy (Ok l) nr old new (Err e) s a = (e ≡ NoPages) × (new ≡ old) × (s ≡ minimum_section old l.min) × (a ≡ read_nr false nr)
 
 -- at some nr, by a section of the door; or TraceFull, and then there was none
-abbrev pub IsLimitedAt : {X : Type 0} → (took : X → Section → PoolAnswer → X → Type 0) → (full : X → Type 0) → (size : ℕ) → (text : List ℕ) → (share left : Subpool) → (old new : X) → Result (Option ℕ) Refusal → Type 0
+abbrev pub IsLimitedAt : {X : Type 0} → (took : X → Section → PoolAnswer → X → Type 0) → (full : X → Type 0) → (size : ℕ) → (text : List ℕ)
+    → (share left : Subpool) → (old new : X) → Result (Option ℕ) Refusal → Type 0
 IsLimitedAt took full size text share left old new (Err TraceFull) = (left ≡ share) × (new ≡ old) × full new
 IsLimitedAt took full size text share left old new got =
     (nr : ℕ) × (s : Section) × (a : PoolAnswer) × IsLimitedBy (limits nr size (wanted_of text)) nr share left got s a × took old s a new

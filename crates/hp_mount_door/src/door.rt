@@ -6,6 +6,7 @@ ghost use Rattle.hp_model.specs.declared.section.Section.{Section};
 ghost use Rattle.hp_model.specs.declared.section.Section.TheVariants.{TakePage};
 ghost use Rattle.hp_model.specs.pool.Pool.{granted_at};
 ghost use Rattle.hp_subpool.specs.Subpool.{Subpool as ShareValue, committed_of, fall, is_full as ShareIsFull, rise, used};
+ghost use Rattle.hp_mount_door.specs.Limits.{IsLimitedAt};
 ghost use Rattle.hp_mount_door.specs.Door.{IsDoorRefusal, IsRefusedAt, GivesBack, grant_for, page_for, with_page, with_granted, with_reserves, with_less};
 
 use hp_model::refusal::Refusal;
@@ -104,6 +105,25 @@ pub trait PoolDoor {
         ensures share { share_of share.new
             ≡ with_less (length (going_of going.old)) reserves (share_of share.old) }
         ensures going { going.new ≡ emptied going.old }
+        ensures left { is_left self.new };
+
+    /// Sets the share's limits to what the options mean at the pool's nr, for pages of `page_bytes` bytes, and answers the
+    /// limit of files. It is always a section. What the minimum adds is committed at home node 0, and what it leaves is given
+    /// back. What is in use and held stays.
+    ///
+    /// Refused as BadOption, MinOverSize or NoPages, and as TraceFull where the section can't be noted. Then the share
+    /// stays as it was.
+    fn limits(
+        &mut self,
+        share: &mut Self::Share,
+        page_bytes: u64,
+        options: &[u8],
+    ) -> Result<Option<u64>, Refusal>
+        requires ready { is_ready self.old }
+        requires bytes { 0 < page_bytes }
+        ensures set { IsLimitedAt took is_full page_bytes options.now (share_of share.old)
+            (share_of share.new) self.old self.new result }
+        ensures unchanged { OnErr result (share.new ≡ share.old) }
         ensures left { is_left self.new };
 
     /// Ends a share, all of whose pages go back, with its reservations and its minimum. Where that is nothing there is

@@ -2,6 +2,7 @@
 #![tactic(auto)]
 
 mod door;
+pub mod limits;
 mod own;
 mod parcel;
 

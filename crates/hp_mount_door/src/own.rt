@@ -14,6 +14,7 @@ ghost use Rattle.hp_subpool.specs.Subpool.{fall, opened};
 ghost use Rattle.hp_mount_door.specs.Door.{by_node, IsReady};
 
 use crate::door::PoolDoor;
+use crate::limits::set_limits;
 use crate::parcel::Parcel;
 use hp_model::answer::{Counts, NodeCount};
 use hp_model::naming::Naming;
@@ -238,6 +239,16 @@ impl<N: Naming> PoolDoor for OwnPool<N> {
         put_pages(&mut self.pool, &mut self.frames, share, going);
         share.put_reserves(&mut self.pool, reserves);
         self.pool.settle();
+    }
+
+    fn limits(
+        &mut self,
+        share: &mut Subpool<N>,
+        page_bytes: u64,
+        options: &[u8],
+    ) -> Result<Option<u64>, Refusal> {
+        let (files, _section, _answer) = set_limits(&mut self.pool, share, page_bytes, options);
+        files
     }
 
     fn close(&mut self, share: Subpool<N>, going: PageStore<N>) {
