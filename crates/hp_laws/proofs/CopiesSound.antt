@@ -14,6 +14,7 @@ use Rattle.hp_model.specs.files.File.{File, Mount, file_in, map_in, new_file, wi
 use Rattle.hp_model.specs.files.Mapping.{Map, copy_of, is_map, is_shared, is_unconsumed, no_map, place_at, with_place}
 use Rattle.hp_model.specs.files.MountCounts.{stamps_of}
 use Rattle.hp_model.specs.files.Page.{Copy}
+use Rattle.hp_model.specs.machine.SlotEvent.{has_name}
 use Rattle.hp_model.specs.machine.Sound.{HasCopy, IsCopyPlace, IsSoundFile, IsSoundMap, IsSoundMount, file_has, is_stamp, map_has, owns_stamp, place_has}
 use Rattle.hp_model.specs.files.Spot.{Spot}
 use Rattle.hp_laws.proofs.Copies.{file_copy, file_has_stamp, file_there, has_stamp, live_of, map_copy, map_there}
@@ -211,6 +212,11 @@ module _ (m : Mount) (s : Spot) (at : IsSpot m s) (i : ℕ) (c : Bool) (o : Opti
             let same = ap (λ x. bit (p x)) (at.map.is s.map) in
             let one = sound.numbers task number in
             omega (arith, whole, maps, same, one));
+        names = λ name.
+            (let here = sum_by-set (λ x. bit (has_name name x)) m.files s.file_no new s.file at.file.within in
+            let was = ap (λ x. bit (has_name name x)) (at.file.is s.file) in
+            let one = sound.names name in
+            omega (arith, here, was, one));
       }
 
 -- ---- an owner takes its copy back
@@ -260,7 +266,7 @@ module _ (m : Mount) (s : Spot) (at : IsSpot m s) (i : ℕ) (copy : Copy) (has :
 
   pub back_sound : IsSoundMount back
   back_sound =
-      put_sound m s.file_no s.file left at.file (back_keeps s.file s.map_no copy.stamp s.map at.map)
+      put_sound m s.file_no s.file left at.file (back_keeps s.file s.map_no copy.stamp s.map at.map) (λ name. omega arith)
       (λ task number. (let p : Map → Bool = is_map task number in
       let there = at.map.within in
       let all : List Map = map (robbed copy.stamp) s.file.maps in

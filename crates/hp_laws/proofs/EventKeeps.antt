@@ -3,8 +3,8 @@ use Rattle.std.proofs.Common.{◌≡◌, ⊎_elim, inl, inr, ◌⊎◌, ℕ, ◌
 use Rattle.std.proofs.Common.{Option, None, Some, is_some, Ok, Err, List, [], ◌∷◌, length, get_or, refl, sym, ap, ◌∙◌, subst, arith, if◌then◌else◌, nat_le, nat_lt}
 use Rattle.std.specs.List.{slice_index_or, slice_set}
 use Rattle.std.specs.Str.{bytes_eq}
-use Rattle.std.proofs.lemmas.Bool.{cases_lt, eqb-true, leb-false, leb-true, ltb-false, ltb-true}
-use Rattle.std.proofs.lemmas.List.{get_or-set_same, get_or-take, get_or_append_left, get_or_past, length-append, length-replicate, length-take}
+use Rattle.std.proofs.lemmas.Bool.{cases_eq, cases_lt, eqb-true, leb-false, leb-true, ltb-false, ltb-true}
+use Rattle.std.proofs.lemmas.List.{get_or-set_other, get_or-set_same, get_or-take, get_or_append_left, get_or_past, length-append, length-replicate, length-take}
 use Rattle.std.proofs.lemmas.List.Elements.{All-get_or}
 use Rattle.hp_model.specs.declared.answer.Answer.{Answer}
 use Rattle.hp_model.specs.declared.event.PoolEvent.{PoolEvent}
@@ -30,19 +30,19 @@ use Rattle.hp_model.specs.declared.step.Sharing.TheVariants.{Private, Shared}
 use Rattle.hp_model.specs.files.Access.{access}
 use Rattle.hp_model.specs.files.File.{File, Mount, at_least, cell_at, cell_punched, entered, has_page, new_file, with_file}
 use Rattle.hp_model.specs.Lists.{edit_range}
-use Rattle.hp_model.specs.files.GiveBack.{punched, swept, truncated, unlinked}
+use Rattle.hp_model.specs.files.GiveBack.{file_unmapped, punched, swept, truncated, unlinked, unmapped_from}
 use Rattle.hp_model.specs.files.MakeMap.{asked, mapped, new_map, next_number, reserves, with_new}
 use Rattle.hp_model.specs.files.Mapping.{Map, copy_of, is_map, is_shared, is_unconsumed, map_punched, place_at, without_copy}
 use Rattle.hp_model.specs.files.Page.{Copy, Page}
 use Rattle.hp_model.specs.files.Spot.{Spot, again, spot, written}
 use Rattle.hp_model.specs.files.Value.{value}
 use Rattle.hp_model.specs.machine.Event.{IsEvent}
-use Rattle.hp_model.specs.machine.Kept.{ChangesCell, ChangesPlace, IsFilled, IsSpent, IsTaken, Keeps, KeepsCell, KeepsMap, KeepsOwn, Marks}
+use Rattle.hp_model.specs.machine.Kept.{ChangesCell, ChangesPlace, IsFilled, IsSpent, IsTaken, Keeps, KeepsCell, KeepsFiles, KeepsMap, KeepsOwn, Marks}
 use Rattle.hp_model.specs.machine.Plan.{Answered, Choice, Finish, Outcome, Plan, Refused, Reply, Slot, gives, grant, unless, with_value}
 use Rattle.hp_model.specs.machine.Promises.{IsLostTo, file_in, is_at, is_in, is_shared_of, map_in, map_on, means_file, no_map}
 use Rattle.hp_model.specs.machine.Settled.{IsSettledState}
 use Rattle.hp_model.specs.machine.SlotEvent.{anon_tests, byte_access, bytes_answer, create_tests, edited, fault, file_named, has_name, is_bad_range, is_beyond}
-use Rattle.hp_model.specs.machine.SlotEvent.{is_unmapped, load, map_file, map_tests, on_mount, punch, read, read_tests, slot_event, stat, store, truncate, umount_tests, unlink}
+use Rattle.hp_model.specs.machine.SlotEvent.{is_unmapped, load, map_file, map_tests, on_mount, punch, read, read_tests, slot_event, stat, store, truncate, umount_tests, unlink, unmap}
 use Rattle.hp_model.specs.machine.Sound.{IsSound, IsSoundMap, IsSoundFile, IsSoundMount}
 use Rattle.hp_model.specs.machine.State.{State, slot_at}
 use Rattle.hp_model.specs.machine.Step.{IsStep}
@@ -52,6 +52,8 @@ use Rattle.hp_laws.specs.Balance.{left_by}
 use Rattle.hp_laws.proofs.ByPlace.{by_owner}
 use Rattle.hp_laws.proofs.Cuts.{cell_kept, place_ranged, punch_cut, ranged, ranged_out, same_keys, truncate_cut, unlink_keeps}
 use Rattle.hp_laws.proofs.Elsewhere.{any_outcome}
+use Rattle.hp_laws.proofs.Fades.{exit_fade, fork_fade}
+use Rattle.hp_laws.proofs.FilesStay.{files_same, files_stay}
 use Rattle.hp_laws.proofs.Keys.{Where, keys, places}
 use Rattle.hp_laws.proofs.KeptPlaces.{Held, access_held, store_held}
 use Rattle.hp_laws.proofs.KeptSlot.{Each, NoCell, NoPlace, alike_keeps, cut_keeps, kept_keeps, means_it, new_keeps, only_file, only_spot, put_kept, same_keeps, sweep_kept}
@@ -259,9 +261,9 @@ module _ (size : ℕ) (m : Mount) (sound : IsSoundMount m) (task number i : ℕ)
 
 -- ---- events
 
--- an unmap, a fork and an exit are told elsewhere
+-- of an unmap the files alone; a fork and an exit are told elsewhere
 abbrev KeepsOn : Slot → ℕ → SlotEvent → Outcome → Type 0
-KeepsOn x k (slot.Unmap task number a b) o = Unit {0}
+KeepsOn x k (slot.Unmap task number a b) o = KeepsFiles x (left_by x o)
 KeepsOn x k (slot.ForkMaps parent child) o = Unit {0}
 KeepsOn x k (slot.ExitMaps task) o = Unit {0}
 KeepsOn x k e o = KeepsTo x (slot_step k e) o
@@ -394,7 +396,11 @@ module _ (size k : ℕ) (c : Choice) (m : Mount) (sound : IsSoundMount m) where
       tested x (anon_tests m task n) (grant c m home (asked sharing reserving 0 n (new_file None)) (Answered (MapNo (next_number task m)) (Some (with_new m f))))
       (always_grant (KeepsTo (Some m) x) (λ r. tt) c m home (asked sharing reserving 0 n (new_file None)) (Answered (MapNo (next_number task m)) (Some (with_new m f)))
       (λ whole. new_keeps m x f (placed_new m f)))
-  mount_kept (slot.Unmap task number a b) = any_outcome (on_mount size k c m (slot.Unmap task number a b))
+  mount_kept (slot.Unmap task number a b) =
+      let P : Outcome → Type 0 = λ o. KeepsFiles (Some m) (left_by (Some m) o) in
+      always_value P (λ r. files_same (Some m)) (spot m (is_map task number)) NoSuchMap (unmap m task number a b)
+      (λ p found. always_unless P (λ r. files_same (Some m)) ((is_bad_range a b, OutOfRange) ∷ []) (gives Done (Some m) (Some (unmapped_from task number a b m)))
+      (always_gives P Done (Some m) (Some (unmapped_from task number a b m)) (files_stay m (file_unmapped (is_map task number) a b) (λ f. refl) (λ f. refl))))
   mount_kept (slot.Fault task home number i intent) = of_fault task home number i intent
   mount_kept (slot.Load task home number i offset count) = of_load task home number i offset count
   mount_kept (slot.Store task home number i offset bytes) = of_store task home number i offset bytes
@@ -407,6 +413,7 @@ none_kept x y = record { maps = λ t u p q was is. cc; files = λ name f g goes 
 slot_kept : (size k : ℕ) (c : Choice) (old : Slot) (e : SlotEvent) → IsSound old → Always (KeepsOn old k e) (slot_event size k c old e)
 slot_kept size k c None (slot.Mount options) sound =
     always_mount (KeepsTo None (step.Mount k options)) (λ r. tt) (λ l whole. none_kept (step.Mount k options) (Some (record { limits = l; files = [] }))) c size options
+slot_kept size k c None (slot.Unmap task number a b) sound = files_same None
 slot_kept size k c None other sound = tt
 slot_kept size k c (Some m) e sound = mount_kept size k c m sound e
 
@@ -422,9 +429,15 @@ module _ (s : State) (st : IsSettledState s) (t : State) (tt_sound : (k : ℕ) �
 
   outcome_kept : (k : ℕ) (e : SlotEvent) (o : Outcome) → is_whole (OnSlot k e) ≡ true → k < length s.slots → t.slots ≡ slice_set s.slots k (left_by (slot_at s k) o)
       → KeepsOn (slot_at s k) k e o → KeepsOwn s (slot_step k e) (reply_of o) t
-  outcome_kept k (slot.Unmap task number a b) o whole l slots keeps = tt
-  outcome_kept k (slot.ForkMaps parent child) o whole l slots keeps = tt
-  outcome_kept k (slot.ExitMaps task) o whole l slots keeps = tt
+  outcome_kept k (slot.Unmap task number a b) o whole l slots keeps = λ z.
+      subst (λ (xs : List Slot). KeepsFiles (slot_at s z) (slice_index_or xs z None)) (sym slots)
+      (⊎_elim
+      (λ same. subst (λ i. KeepsFiles (slot_at s i) (slice_index_or (slice_set s.slots k (left_by (slot_at s k) o)) i None)) (sym same)
+      (subst (λ x. KeepsFiles (slot_at s k) x) (sym (get_or-set_same s.slots k (left_by (slot_at s k) o) None l)) keeps))
+      (λ other. subst (λ x. KeepsFiles (slot_at s z) x) (sym (get_or-set_other s.slots k z (left_by (slot_at s k) o) None other)) (files_same (slot_at s z)))
+      (cases_eq z k))
+  outcome_kept k (slot.ForkMaps parent child) o whole l slots keeps = cc
+  outcome_kept k (slot.ExitMaps task) o whole l slots keeps = cc
   outcome_kept k e (Refused r) whole l slots keeps = tt
   outcome_kept k (slot.Anon task home n sharing reserving) (Answered a y) whole l slots keeps = λ o on.
       own_slot (step.Anon task n sharing reserving) k a y l slots keeps o (ap (λ z. z == o) (eqb-true k 0 whole) ∙ on)
@@ -435,8 +448,8 @@ module _ (s : State) (st : IsSettledState s) (t : State) (tt_sound : (k : ℕ) �
       let l = ltb-true k (length s.slots) is.1.0 in
       let ends = event_ends (KeepsOn (slot_at s k) k e) s k e reply t (λ c. slot_kept s.page_size k c (slot_at s k) e (left_sound s k l st)) is in
       subst (λ r. KeepsOwn s (slot_step k e) r t) (sym ends.replied) (outcome_kept k e ends.outcome whole l ends.slots ends.holds)
-  event_kept (Tasks (table.FindAndAdd parent child)) reply whole is = tt
-  event_kept (Tasks (table.Remove task)) reply whole is = tt
+  event_kept (Tasks (table.FindAndAdd parent child)) reply whole is = cc
+  event_kept (Tasks (table.Remove task)) reply whole is = cc
   event_kept (Tasks (table.Add task home)) (Ok a) whole is = λ o on. cc
   event_kept (Tasks (table.Find task)) (Ok a) whole is = λ o on. cc
   event_kept (OnPool e) (Ok a) whole is = pool_kept e a
@@ -454,9 +467,9 @@ module _ (s : State) (st : IsSettledState s) (t : State) (tt_sound : (k : ℕ) �
   event_kept (OnPool pool.Nodes) (Err r) whole is = tt
 
 early_kept : (s : State) (x : Step) (r : Refusal) → KeepsOwn s x (Err r) s
-early_kept s (step.Unmap task k number a b) r = tt
-early_kept s (step.Fork parent child) r = tt
-early_kept s (step.Exit task) r = tt
+early_kept s (step.Unmap task k number a b) r = λ o. files_same (slot_at s o)
+early_kept s (step.Fork parent child) r = λ o. files_same (slot_at s o)
+early_kept s (step.Exit task) r = λ o. files_same (slot_at s o)
 early_kept s other r = tt
 
 sound_at : (t : State) → IsSettledState t → (k : ℕ) → IsSound (slot_at t k)
@@ -466,4 +479,4 @@ pub step_own : (s : State) → IsSettledState s → (reply : Reply) (t : State) 
 step_own s st reply t x after is =
     by_event s (λ x reply t. IsSettledState t → KeepsOwn s x reply t) (λ x r early settled. early_kept s x r)
     (λ e reply t whole it settled. event_kept s st t (sound_at t settled) e reply whole it)
-    (λ parent child reply t it settled. tt) (λ task reply t it settled. tt) reply t x is after
+    (λ parent child reply t it settled k. ((fork_fade s parent child reply t it).slots k).files) (λ task reply t it settled k. ((exit_fade s task reply t it).slots k).files) reply t x is after

@@ -1,10 +1,12 @@
 -- Each event on a slot leaves it sound, whatever fresh stamp is chosen.
-use Rattle.std.proofs.Common.{◌≡◌, ℕ, ◌+◌, ◌-◌, ◌<◌, ◌≤◌, ◌&&◌, ◌||◌, ◌==◌, Bool, true, false, not, Option, None, Some}
+use Rattle.std.proofs.Common.{◌≡◌, ℕ, ◌+◌, ◌-◌, ◌<◌, ◌≤◌, ◌&&◌, ◌||◌, ◌==◌, Bool, true, false, not, Option, None, Some, is_some}
 use Rattle.std.proofs.Common.{List, [], ◌∷◌, ◌++◌, length, map, set, arith, refl, sym, ap, ◌∙◌, subst, nat_lt, if◌then◌else◌}
 use Rattle.std.specs.List.{count_by, flat_map, list_any}
+use Rattle.std.specs.Str.{bytes_eq}
 use Rattle.std.proofs.lemmas.Bool.{and_parts, both_ways, cond_both, eq-eqb, eqb-true, leb-false, not-true}
 use Rattle.std.proofs.lemmas.List.{get_or_default, length-set}
 use Rattle.std.proofs.lemmas.List.Sums.{sum_by-append, sum_by-cons}
+use Rattle.std.proofs.lemmas.Slice.Eq.{bytes_eq-Decides}
 use Rattle.hp_model.specs.declared.answer.Answer.TheVariants.{Done}
 use Rattle.hp_model.specs.declared.cell.Cell.{Cell}
 use Rattle.hp_model.specs.declared.cell.Cell.TheVariants.{Entered, Hole, Present}
@@ -31,7 +33,7 @@ use Rattle.hp_model.specs.files.Page.{Copy, Page, overwritten, zeros}
 use Rattle.hp_model.specs.machine.Plan.{Ask, Answered, Choice, Finish, Outcome, Refused, Slot, gives, unless}
 use Rattle.hp_model.specs.Profile.{most_bytes}
 use Rattle.hp_model.specs.machine.Sound.{HasCopy, IsSound, IsSoundFile, IsSoundMap, IsSoundMount, is_stamp}
-use Rattle.hp_model.specs.machine.SlotEvent.{byte_access, fault, is_beyond, is_unmapped, on_mount, umount_tests}
+use Rattle.hp_model.specs.machine.SlotEvent.{byte_access, fault, file_named, has_name, is_beyond, is_unmapped, on_mount, umount_tests}
 use Rattle.hp_model.specs.files.Spot.{Spot, cell_written, copied, file_written, map_written, place_written, written}
 use Rattle.hp_model.specs.files.Value.{value}
 use Rattle.hp_model.proofs.Editing.{length-edit_at}
@@ -44,9 +46,9 @@ use Rattle.hp_laws.proofs.FilesSound.{cells_keep, mapped_keeps, punched_keeps, t
 use Rattle.hp_laws.proofs.Holding.{stamps_are}
 use Rattle.hp_laws.proofs.Lesser.{KeepsFile, keeps_less, less_all}
 use Rattle.hp_laws.proofs.Looks.{edit_set}
-use Rattle.hp_laws.proofs.Made.{number_unused}
+use Rattle.hp_laws.proofs.Made.{found_none, named_none, number_unused}
 use Rattle.hp_laws.proofs.MountMoves.{IsFileAt, IsSpot}
-use Rattle.hp_laws.proofs.MountsSound.{cut_sound, edit_sound, filtered_numbers, forked_sound, mapped_numbers, new_sound, put_sound, set_sound, swept_sound}
+use Rattle.hp_laws.proofs.MountsSound.{NoOtherName, cut_sound, edit_sound, filtered_numbers, forked_sound, mapped_numbers, new_sound, put_sound, set_sound, swept_sound}
 use Rattle.hp_laws.proofs.Outcomes.{always_if, always_test, always_then, always_weaker, outcome_if}
 use Rattle.hp_laws.proofs.Shown.{On, on_follows, on_grant_page, on_reserved_page, on_weaker}
 use Rattle.hp_laws.proofs.Single.{bit}
@@ -75,6 +77,20 @@ new_number m task a n sharing reserving xs t u one =
       | false ↦ λ e. (let is = ap bit e in omega (arith, both, last, one, is))
     ] refl
 
+-- ---- a file more
+
+-- a name that is not there is of the new file alone
+new_name : (m : Mount) (name other : List ℕ) → is_some (file_named m name) ≡ false → count_by (has_name other) m.files ≤ 1
+    → count_by (has_name other) m.files + bit (has_name other (new_file (Some name))) ≤ 1
+new_name m name other unused one =
+    elim (bytes_eq name other) as (λ b. bytes_eq name other ≡ b → count_by (has_name other) m.files + bit (has_name other (new_file (Some name))) ≤ 1) [
+      | true ↦ λ e. (let same = (bytes_eq-Decides name other).0 e in
+          let none = none_counted (has_name other) m.files (subst (λ n. list_any (has_name n) m.files ≡ false) same (found_none (has_name name) m.files (named_none (file_named m name) unused))) in
+          let is = ap bit e in
+          omega (arith, none, is))
+      | false ↦ λ e. (let is = ap bit e in omega (arith, one, is))
+    ] refl
+
 -- ---- accesses
 
 live_consumed : (b : Bool) (copy : Copy) → is_unconsumed (Live b (Some copy)) ≡ false → b ≡ true
@@ -85,7 +101,7 @@ module _ (m : Mount) (sound : IsSoundMount m) (s : Spot) (at : IsSpot m s) where
   -- other cells
   cells_sound : (cells : List (Cell Page)) → length s.file.cells ≤ length cells → IsSoundMount (with_file m s.file_no (record s.file { cells = cells }))
   cells_sound cells long =
-      put_sound m s.file_no s.file (record s.file { cells = cells }) at.file (cells_keep s.file cells long) (λ task number. omega arith) sound
+      put_sound m s.file_no s.file (record s.file { cells = cells }) at.file (cells_keep s.file cells long) (λ name. omega arith) (λ task number. omega arith) sound
 
   -- what an access leaves: after a write through a private map, a copy of its own there
   abbrev Left : Intent → (i : ℕ) → Mount → Type 0
@@ -200,6 +216,7 @@ module _ (n : Mount) (sound : IsSoundMount n) (s : Spot) (i offset : ℕ) (bytes
       let is = λ (f : File). ap (λ b. if b then h f else record f { maps = edit_at (map_written i offset bytes) f.maps s.map_no }) e in
       edit_sound n s.file_no (file_written s i offset bytes)
       (λ f. subst (KeepsFile f) (sym (is f)) (cells_keep f (edit_at (cell_written offset bytes) f.cells i) (let same = length-edit_at (cell_written offset bytes) f.cells i in omega (arith, same))))
+      (λ f name. (let same = ap (λ g. bit (has_name name g)) (is f) in omega (arith, same)))
       (λ task number f. (let same = ap (λ g. count_by (is_map task number) g.maps) (is f) in omega (arith, same))) sound
 
   -- the copy has the same stamp, and other bytes
@@ -244,13 +261,13 @@ read_left m sound s at i Read n h = h
 read_left m sound s at i Write n h = h.0
 
 pub empty_sound : (l : Limits) → IsSoundMount (record { limits = l; files = [] })
-empty_sound l = record { files = λ k d l. absurd (omega (arith, l)); stamps = λ stamp. omega arith; numbers = λ task number. omega arith }
+empty_sound l = record { files = λ k d l. absurd (omega (arith, l)); stamps = λ stamp. omega arith; numbers = λ task number. omega arith; names = λ name. omega arith }
 
 module _ (size k : ℕ) (c : Choice) (m : Mount) (sound : IsSoundMount m) (new : is_among c.stamp (flat_map stamps_of m.files) ≡ false) where
   -- a file in another form, and without what is not kept
-  edited_sound : (q : ℕ × File) (g : File) → IsFileAt m q.0 q.1 → KeepsFile q.1 g → ((task number : ℕ) → count_by (is_map task number) g.maps ≤ count_by (is_map task number) q.1.maps)
-      → IsSoundMount (swept (with_file m q.0 g))
-  edited_sound q g at keeps numbers = swept_sound (with_file m q.0 g) (put_sound m q.0 q.1 g at keeps numbers sound)
+  edited_sound : (q : ℕ × File) (g : File) → IsFileAt m q.0 q.1 → KeepsFile q.1 g → NoOtherName q.1 g
+      → ((task number : ℕ) → count_by (is_map task number) g.maps ≤ count_by (is_map task number) q.1.maps) → IsSoundMount (swept (with_file m q.0 g))
+  edited_sound q g at keeps names numbers = swept_sound (with_file m q.0 g) (put_sound m q.0 q.1 g at keeps names numbers sound)
 
   punched_numbers : (a b task number : ℕ) (f : File) → count_by (is_map task number) (map (map_punched a b) f.maps) ≤ count_by (is_map task number) f.maps
   punched_numbers a b task number f = mapped_numbers (map_punched a b) (λ x. refl) (λ x. refl) task number f.maps
@@ -259,7 +276,7 @@ module _ (size k : ℕ) (c : Choice) (m : Mount) (sound : IsSoundMount m) (new :
   unmapped_sound test a b =
       let cut : Map → Map = map_unmapped test a b in
       swept_sound (record m { files = map (file_unmapped test a b) m.files })
-      (cut_sound m (file_unmapped test a b) (unmapped_keeps test a b)
+      (cut_sound m (file_unmapped test a b) (unmapped_keeps test a b) (λ f name. omega arith)
       (λ task number f. filtered_numbers (is_left test) task number f.maps (map cut f.maps)
       (mapped_numbers cut (λ x. cond_both (test x) (without_range a b x) x (λ y. y.task ≡ x.task) (λ e. refl) (λ e. refl))
       (λ x. cond_both (test x) (without_range a b x) x (λ y. y.number ≡ x.number) (λ e. refl) (λ e. refl)) task number f.maps)) sound)
@@ -267,25 +284,26 @@ module _ (size k : ℕ) (c : Choice) (m : Mount) (sound : IsSoundMount m) (new :
   without_sound : (task : ℕ) → IsSoundMount (without_task task m)
   without_sound gone =
       swept_sound (record m { files = map (file_without gone) m.files })
-      (cut_sound m (file_without gone) (without_keeps gone) (λ task number f. filtered_numbers (λ x. not (is_of gone x)) task number f.maps f.maps (omega arith)) sound)
+      (cut_sound m (file_without gone) (without_keeps gone) (λ f name. omega arith) (λ task number f. filtered_numbers (λ x. not (is_of gone x)) task number f.maps f.maps (omega arith)) sound)
 
   stays_sound : Leaves size k c m IsSoundMount
   stays_sound = record {
     same = sound;
-    creates = λ name.
+    creates = λ name unused.
         (let g : File = new_file (Some name) in
-        new_sound m g (keeps_less (new_file None) g (less_all []) (omega arith)) (λ task number. (let one = sound.numbers task number in omega (arith, one))) sound);
-    unlinks = λ q at. edited_sound q (unlinked q.1) at (unlinked_keeps q.1) (λ task number. omega arith);
-    truncates = λ n q at. edited_sound q (truncated n q.1) at (truncated_keeps n q.1) (λ task number. punched_numbers n (n + length q.1.cells) task number q.1);
-    punches = λ a b q at. edited_sound q (punched a b q.1) at (punched_keeps a b q.1) (λ task number. punched_numbers a b task number q.1);
+        new_sound m g (keeps_less (new_file None) g (less_all []) (omega arith)) (λ task number. (let one = sound.numbers task number in omega (arith, one)))
+        (λ other. new_name m name other unused (sound.names other)) sound);
+    unlinks = λ q at. edited_sound q (unlinked q.1) at (unlinked_keeps q.1) (λ name. omega arith) (λ task number. omega arith);
+    truncates = λ n q at. edited_sound q (truncated n q.1) at (truncated_keeps n q.1) (λ name. omega arith) (λ task number. punched_numbers n (n + length q.1.cells) task number q.1);
+    punches = λ a b q at. edited_sound q (punched a b q.1) at (punched_keeps a b q.1) (λ name. omega arith) (λ task number. punched_numbers a b task number q.1);
     maps = λ task a n sharing reserving q at.
         (let number = next_number task m in
-        set_sound m q.0 q.1 (mapped task number a n sharing reserving q.1) at (mapped_keeps task number a n sharing reserving q.1)
+        set_sound m q.0 q.1 (mapped task number a n sharing reserving q.1) at (mapped_keeps task number a n sharing reserving q.1) (λ name. omega arith)
         (λ t u. new_number m task a n sharing reserving q.1.maps t u (sound.numbers t u)) sound);
     anons = λ task n sharing reserving.
         (let number = next_number task m in
         new_sound m (mapped task number 0 n sharing reserving (new_file None)) (mapped_keeps task number 0 n sharing reserving (new_file None))
-        (λ t u. new_number m task 0 n sharing reserving [] t u (sound.numbers t u)) sound);
+        (λ t u. new_number m task 0 n sharing reserving [] t u (sound.numbers t u)) (λ name. (let one = sound.names name in omega (arith, one))) sound);
     unmaps = λ task number a b. unmapped_sound (is_map task number) a b;
     forks = λ parent child. forked_sound parent child m sound;
     exits = λ task. without_sound task;
@@ -314,7 +332,7 @@ pub slots_stay_sound : SlotsStaySound
 slots_stay_sound size k c None (slot.Mount options) new sound = always_mount (GoesOn None) (λ r. tt) empty_sound c size options
 slots_stay_sound size k c None other new sound = tt
 slots_stay_sound size k c (Some m) (slot.Remount options) new sound =
-    always_remount (GoesOn (Some m)) (λ r. sound) m (λ l. record { files = sound.files; stamps = sound.stamps; numbers = sound.numbers }) size k options
+    always_remount (GoesOn (Some m)) (λ r. sound) m (λ l. record { files = sound.files; stamps = sound.stamps; numbers = sound.numbers; names = sound.names }) size k options
 slots_stay_sound size k c (Some m) slot.Umount new sound = always_unless (GoesOn (Some m)) (λ r. sound) (umount_tests k m) (gives Done (Some m) None)
     (always_gives (GoesOn (Some m)) Done (Some m) None tt)
 slots_stay_sound size k c (Some m) e new sound =

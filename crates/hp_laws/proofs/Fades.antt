@@ -14,6 +14,7 @@ use Rattle.hp_model.specs.machine.Event.{IsEvent, has_maps_of, with_table}
 use Rattle.hp_model.specs.files.File.{Mount}
 use Rattle.hp_model.specs.files.Fork.{file_forked, forked}
 use Rattle.hp_model.specs.files.GiveBack.{file_without, without_task}
+use Rattle.hp_model.specs.machine.Kept.{KeepsFiles}
 use Rattle.hp_model.specs.machine.Plan.{Choice, Outcome, Refused, Answered, Reply, Slot, gives, slot_usage}
 use Rattle.hp_model.specs.machine.Promises.{SameFiles, SameLimits, spot_on}
 use Rattle.hp_model.specs.machine.SlotEvent.{fork_tests, slot_event}
@@ -24,6 +25,7 @@ use Rattle.hp_model.specs.machine.Step.{Answer_with, Do, IsScripted, IsScript, S
 use Rattle.hp_laws.specs.Balance.{Always, left_by}
 use Rattle.hp_laws.proofs.Changes.{KeptMap, SlotKeeps}
 use Rattle.hp_laws.proofs.Falls.{forked_falls, without_falls}
+use Rattle.hp_laws.proofs.FilesStay.{files_same, files_stay, files_then}
 use Rattle.hp_laws.proofs.Follows.{both_same}
 use Rattle.hp_laws.proofs.MountMoves.{files_sweep}
 use Rattle.hp_laws.proofs.Outcomes.{either_way, event_ends}
@@ -44,6 +46,7 @@ pub record Fades (size gone : ℕ) (x y : Slot) : Type 0 where
   pub limits : SameLimits x y
   pub usage : slot_usage y ≤ slot_usage x
   pub whole : Whole gone x y
+  pub files : KeepsFiles x y
 
 module _ (size gone : ℕ) where
   none_keeps : SlotKeeps size None (slot.ExitMaps gone) None
@@ -54,9 +57,15 @@ module _ (size gone : ℕ) where
   }
 
   pub stays : (x : Slot) → Fades size gone x x
-  stays None = record { keeps = none_keeps; limits = tt; usage = omega arith; whole = λ task number p other found. (p, found, refl, refl) }
+  stays None = record { keeps = none_keeps; limits = tt; usage = omega arith; whole = λ task number p other found. (p, found, refl, refl); files = files_same None }
   stays (Some m) =
-      record { keeps = same_keeps size m (slot.ExitMaps gone) (λ j x old. refl) (λ j l x old. refl); limits = refl; usage = omega arith; whole = λ task number p other found. (p, found, refl, refl) }
+      record {
+        keeps = same_keeps size m (slot.ExitMaps gone) (λ j x old. refl) (λ j l x old. refl);
+        limits = refl;
+        usage = omega arith;
+        whole = λ task number p other found. (p, found, refl, refl);
+        files = files_same (Some m);
+      }
 
   -- one after the other
   module _ (x y z : Slot) where
@@ -99,12 +108,24 @@ module _ (size gone : ℕ) where
   fades_then x y z a b =
       let first = a.usage in
       let second = b.usage in
-      record { keeps = keeps_then x y z a.keeps b.keeps; limits = limits_then x y z a.limits b.limits; usage = omega (arith, first, second); whole = whole_then x y z a.whole b.whole }
+      record {
+        keeps = keeps_then x y z a.keeps b.keeps;
+        limits = limits_then x y z a.limits b.limits;
+        usage = omega (arith, first, second);
+        whole = whole_then x y z a.whole b.whole;
+        files = files_then x y z a.files b.files;
+      }
 
   -- ---- one event
 
   pub exit_fades : (m : Mount) → Fades size gone (Some m) (Some (without_task gone m))
-  exit_fades m = record { keeps = exit_keeps size m gone; limits = refl; usage = (files_sweep m (file_without gone) (without_falls gone)).usage; whole = exit_whole size m gone }
+  exit_fades m = record {
+    keeps = exit_keeps size m gone;
+    limits = refl;
+    usage = (files_sweep m (file_without gone) (without_falls gone)).usage;
+    whole = exit_whole size m gone;
+    files = files_stay m (file_without gone) (λ f. refl) (λ f. refl);
+  }
 
   -- a child's maps end by its fork as by its exit
   fork_map : (x y : Slot) (parent : ℕ) (p q : Spot) (i : ℕ) → KeptMap size x (slot.ForkMaps parent gone) y p q i → KeptMap size x (slot.ExitMaps gone) y p q i
@@ -127,6 +148,7 @@ module _ (size gone : ℕ) where
         limits = refl;
         usage = (files_sweep m (file_forked parent gone) (forked_falls parent gone)).usage;
         whole = fork_whole size m parent gone;
+        files = files_stay m (file_forked parent gone) (λ f. refl) (λ f. refl);
       }
 
   abbrev FadesTo : Slot → Outcome → Type 0

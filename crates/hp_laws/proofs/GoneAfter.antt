@@ -1,4 +1,4 @@
--- What a step ends is gone: after an umount there is no mount, and after an exit no map of the task on any slot.
+-- What a step ends is gone: after an umount there is no mount, after an unlink no file of the name, and after an exit no map of the task on any slot.
 use Rattle.std.proofs.Common.{◌≡◌, ⊎_elim, subst, ℕ, ◌<◌, ◌==◌, ◌||◌, Bool, true, false, not, None, Option, Some, Ok, Err, List, [], ◌∷◌, length, map, option_map, refl, sym, ap, ◌∙◌, arith}
 use Rattle.std.specs.List.{filter, list_any, range_with_len, slice_index_or, slice_set}
 use Rattle.std.proofs.lemmas.Bool.{cases_eq, cases_lt, eq-eqb, eqb-true, false_from_ne_true, ltb-true}
@@ -21,7 +21,7 @@ use Rattle.hp_model.specs.files.Mapping.{Map, is_map, is_of}
 use Rattle.hp_model.specs.Lists.{is_among}
 use Rattle.hp_model.specs.machine.Event.{IsEvent, has_maps_of, with_table}
 use Rattle.hp_model.specs.machine.Gone.{IsGone}
-use Rattle.hp_model.specs.machine.Named.{spot_on}
+use Rattle.hp_model.specs.machine.Named.{named_on, spot_on}
 use Rattle.hp_model.specs.machine.Plan.{Answered, Choice, Outcome, Refused, Reply, Slot, gives}
 use Rattle.hp_model.specs.machine.SlotEvent.{slot_event, umount_tests}
 use Rattle.hp_model.specs.machine.State.{State, slot_at}
@@ -35,6 +35,7 @@ use Rattle.hp_laws.proofs.SlotShows.{always_gives, always_unless}
 use Rattle.hp_laws.proofs.Undone.{either_with, exit_becomes}
 use Rattle.hp_model.specs.machine.Settled.{IsSettledState}
 use Rattle.hp_laws.proofs.Tied.{left_sound}
+use Rattle.hp_laws.proofs.UnlinkEnds.{Nameless, unlink_ends}
 use Rattle.hp_laws.proofs.UnmapEnds.{Ends, unmap_ends}
 use Rattle.hp_laws.proofs.Whole.{by_event, is_whole, step_of}
 
@@ -156,10 +157,21 @@ module _ (s : State) (st : IsSettledState s) where
   number_gone t k task number a b l (Answered x new) ends slots = λ none.
       subst (λ y. spot_on y task number ≡ None) (sym (ap (λ (xs : List Slot). slice_index_or xs k None) slots ∙ get_or-set_same s.slots k new None l)) (ends none)
 
+  name_gone : (t : State) (k : ℕ) (name : List ℕ) → k < length s.slots → (o : Outcome) → Nameless name o → t.slots ≡ slice_set s.slots k (left_by (slot_at s k) o)
+      → IsGone s (step.Unlink k name) (reply_of o) t
+  name_gone t k name l (Refused r) none slots = tt
+  name_gone t k name l (Answered a new) none slots =
+      ap (λ (xs : List Slot). named_on (slice_index_or xs k None) name) slots ∙ ap (λ x. named_on x name) (get_or-set_same s.slots k new None l) ∙ none
+
   event_gone : (e : Event) (reply : Reply) (t : State) → is_whole e ≡ true → IsEvent s e reply t → IsGone s (step_of e) reply t
   event_gone (OnSlot k slot.Umount) reply t whole is =
       let ends = event_ends NoMount s k slot.Umount reply t (λ c. umount_none s.page_size k c (slot_at s k)) is in
       subst (λ r. IsGone s (step.Umount k) r t) (sym ends.replied) (umount_gone t k (ltb-true k (length s.slots) is.1.0) ends.outcome ends.holds ends.slots)
+  event_gone (OnSlot k (slot.Unlink name)) reply t whole is =
+      let l = ltb-true k (length s.slots) is.1.0 in
+      let old = slot_at s k in
+      let ends = event_ends (Nameless name) s k (slot.Unlink name) reply t (λ c. unlink_ends name s.page_size k c old (left_sound s k l st)) is in
+      subst (λ r. IsGone s (step.Unlink k name) r t) (sym ends.replied) (name_gone t k name l ends.outcome ends.holds ends.slots)
   event_gone (OnSlot k (slot.Unmap task number a b)) reply t whole is =
       let l = ltb-true k (length s.slots) is.1.0 in
       let old = slot_at s k in
@@ -176,6 +188,7 @@ module _ (s : State) (st : IsSettledState s) where
   early_gone : (x : Step) (r : Refusal) → IsGone s x (Err r) s
   early_gone (step.Umount k) r = tt
   early_gone (step.Exit task) r = tt
+  early_gone (step.Unlink k name) r = tt
   early_gone (step.Unmap task k number a b) r = tt
   early_gone other r = tt
 

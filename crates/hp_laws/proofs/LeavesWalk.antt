@@ -1,5 +1,5 @@
 -- What holds of each mount that a change leaves holds of each that an event leaves.
-use Rattle.std.proofs.Common.{ℕ, Some, None, List}
+use Rattle.std.proofs.Common.{◌≡◌, ℕ, false, Some, None, is_some, List}
 use Rattle.hp_model.specs.declared.answer.Answer.TheVariants.{Done, MapNo}
 use Rattle.hp_model.specs.declared.step.Intent.{Intent}
 use Rattle.hp_model.specs.declared.step.Intent.TheVariants.{Read}
@@ -10,7 +10,7 @@ use Rattle.hp_model.specs.files.Fork.{forked}
 use Rattle.hp_model.specs.files.GiveBack.{punched, swept, truncated, unlinked, unmapped_from, without_task}
 use Rattle.hp_model.specs.files.MakeMap.{asked, mapped, next_number, with_new}
 use Rattle.hp_model.specs.machine.Plan.{Answered, Choice, gives}
-use Rattle.hp_model.specs.machine.SlotEvent.{byte_access, bytes_answer, fault, store}
+use Rattle.hp_model.specs.machine.SlotEvent.{byte_access, bytes_answer, fault, file_named, store}
 use Rattle.hp_model.specs.files.Spot.{Spot, again}
 use Rattle.hp_model.specs.files.Value.{value}
 use Rattle.hp_laws.specs.Balance.{Always}
@@ -24,7 +24,7 @@ module _ (size slot : ℕ) (c : Choice) (m : Mount) (Q : Mount → Type 0) where
   -- each change that an event makes leaves it so
   pub record Leaves : Type 0 where
     pub same : Q m
-    pub creates : (name : List ℕ) → Q (with_new m (new_file (Some name)))
+    pub creates : (name : List ℕ) → is_some (file_named m name) ≡ false → Q (with_new m (new_file (Some name)))
     pub unlinks : (q : ℕ × File) → IsFileAt m q.0 q.1 → Q (swept (with_file m q.0 (unlinked q.1)))
     pub truncates : (n : ℕ) (q : ℕ × File) → IsFileAt m q.0 q.1 → Q (swept (with_file m q.0 (truncated n q.1)))
     pub punches : (a b : ℕ) (q : ℕ × File) → IsFileAt m q.0 q.1 → Q (swept (with_file m q.0 (punched a b q.1)))

@@ -31,6 +31,7 @@ pub mod Backed
 pub mod ReservationsMade
 pub mod TestsDecide
 pub mod SettingsKept
+pub mod UnlinkEnds
 pub mod UnmapEnds
 pub mod GoneAfter
 pub mod Elsewhere
@@ -69,6 +70,7 @@ pub mod Meant
 pub mod Follows
 pub mod ByPlace
 pub mod Cuts
+pub mod FilesStay
 pub mod Unmaps
 pub mod SlotKept
 pub mod Fades

@@ -29,7 +29,7 @@ module _ (size k : ℕ) (c : Choice) (m : Mount) where
   limits_stay : Leaves size k c m Stays
   limits_stay = record {
     same = refl;
-    creates = λ name. refl;
+    creates = λ name new. refl;
     unlinks = λ q at. refl;
     truncates = λ n q at. refl;
     punches = λ a b q at. refl;

@@ -161,11 +161,11 @@ FileMade old name (Refused r) = Unit {0}
 FileMade old name (Answered a new) = IsNewFile old new name
 
 -- a file of the name is not there, and is found once it is made
-named_none : {X : Type 0} (o : Option X) → is_some o ≡ false → o ≡ None
+pub named_none : {X : Type 0} (o : Option X) → is_some o ≡ false → o ≡ None
 named_none None e = refl
 named_none (Some x) e = cc
 
-found_none : {X : Type 0} (t : X → Bool) (xs : List X) → found t xs ≡ None → list_any t xs ≡ false
+pub found_none : {X : Type 0} (t : X → Bool) (xs : List X) → found t xs ≡ None → list_any t xs ≡ false
 found_none t [] e = refl
 found_none {X = X} t (x ∷ xs) e = by_head (t x) refl (found t xs) refl e (found_none t xs)
   where

@@ -1,4 +1,4 @@
--- A mount stays sound where its files do, and where no number comes twice.
+-- A mount stays sound where its files do, and where no number and no name comes twice.
 use Rattle.std.proofs.Common.{◌≡◌, ℕ, ◌+◌, ◌≤◌, Bool, true, false, ◌&&◌, ◌==◌, not, None, List, [], ◌∷◌, ◌++◌, length, map, cond, arith, refl, sym, ap, ◌∙◌, subst, if◌then◌else◌, nat_lt}
 use Rattle.std.specs.List.{count_by, filter, flat_map, sum_by}
 use Rattle.std.proofs.lemmas.Bool.{and_from, and_parts, both_ways, eq-eqb, eqb-true, ltb-false, ltb-true, not-true}
@@ -12,6 +12,7 @@ use Rattle.hp_model.specs.Lists.{edit_at}
 use Rattle.hp_model.specs.files.MakeMap.{with_new}
 use Rattle.hp_model.specs.files.Mapping.{Map, is_map, is_of, map_for}
 use Rattle.hp_model.specs.files.Page.{Copy}
+use Rattle.hp_model.specs.machine.SlotEvent.{has_name}
 use Rattle.hp_model.specs.machine.Sound.{FileHasCopy, IsSoundFile, IsSoundMount, file_has, is_stamp}
 use Rattle.hp_model.proofs.Counting.{count_map}
 use Rattle.hp_laws.proofs.Copies.{map_there}
@@ -38,6 +39,10 @@ count_maps p (f ∷ fs) =
 holds_le : (f g : File) (stamp : ℕ) → KeepsFile f g → bit (file_has (is_stamp stamp) g) ≤ bit (file_has (is_stamp stamp) f)
 holds_le f g stamp keeps = bit_le (file_has (is_stamp stamp) g) (file_has (is_stamp stamp) f) (keeps_stamps f g stamp keeps)
 
+-- g has no name but that of f
+abbrev pub NoOtherName : File → File → Type 0
+NoOtherName f g = (name : List ℕ) → bit (has_name name g) ≤ bit (has_name name f)
+
 pub set_count : (p : Map → Bool) (m : Mount) (j : ℕ) (f g : File) → IsFileAt m j f → count_by p (maps_of (with_file m j g)) + count_by p f.maps ≡ count_by p (maps_of m) + count_by p g.maps
 set_count p m j f g at =
     let here = sum_by-set (λ x. count_by p x.maps) m.files j g f at.within in
@@ -47,10 +52,10 @@ set_count p m j f g at =
     omega (arith, here, was, old, new)
 
 -- a file in the place of another, with numbers that the mount does not use
-pub set_sound : (m : Mount) (j : ℕ) (f g : File) → IsFileAt m j f → KeepsFile f g
+pub set_sound : (m : Mount) (j : ℕ) (f g : File) → IsFileAt m j f → KeepsFile f g → NoOtherName f g
     → ((task number : ℕ) → count_by (is_map task number) (maps_of m) + count_by (is_map task number) g.maps ≤ count_by (is_map task number) f.maps + 1)
     → IsSoundMount m → IsSoundMount (with_file m j g)
-set_sound m j f g at keeps numbers sound = record {
+set_sound m j f g at keeps names numbers sound = record {
   files = All-set IsSoundFile m.files j g (keeps.sound (subst IsSoundFile (at.is f) (sound.files j f at.within))) sound.files;
   stamps = λ stamp.
       (let here = sum_by-set (λ x. bit (file_has (is_stamp stamp) x)) m.files j g f at.within in
@@ -59,23 +64,29 @@ set_sound m j f g at keeps numbers sound = record {
       omega (arith, here, was, one, holds_le f g stamp keeps));
   numbers = λ task number.
       (let set = set_count (is_map task number) m j f g at in let one = numbers task number in omega (arith, set, one));
+  names = λ name.
+      (let here = sum_by-set (λ x. bit (has_name name x)) m.files j g f at.within in
+      let was = ap (λ x. bit (has_name name x)) (at.is f) in
+      let one = sound.names name in
+      let none = names name in
+      omega (arith, here, was, one, none));
 }
 
 -- with numbers of its own
-pub put_sound : (m : Mount) (j : ℕ) (f g : File) → IsFileAt m j f → KeepsFile f g
+pub put_sound : (m : Mount) (j : ℕ) (f g : File) → IsFileAt m j f → KeepsFile f g → NoOtherName f g
     → ((task number : ℕ) → count_by (is_map task number) g.maps ≤ count_by (is_map task number) f.maps) → IsSoundMount m → IsSoundMount (with_file m j g)
-put_sound m j f g at keeps numbers sound =
-    set_sound m j f g at keeps (λ task number. (let one = sound.numbers task number in let fewer = numbers task number in omega (arith, one, fewer))) sound
+put_sound m j f g at keeps names numbers sound =
+    set_sound m j f g at keeps names (λ task number. (let one = sound.numbers task number in let fewer = numbers task number in omega (arith, one, fewer))) sound
 
 -- a file in another form
-pub edit_sound : (m : Mount) (j : ℕ) (h : File → File) → ((f : File) → KeepsFile f (h f))
+pub edit_sound : (m : Mount) (j : ℕ) (h : File → File) → ((f : File) → KeepsFile f (h f)) → ((f : File) → NoOtherName f (h f))
     → ((task number : ℕ) (f : File) → count_by (is_map task number) (h f).maps ≤ count_by (is_map task number) f.maps) → IsSoundMount m → IsSoundMount (record m { files = edit_at h m.files j })
-edit_sound m j h keeps numbers sound =
+edit_sound m j h keeps names numbers sound =
     let f : File = file_in m j in
     elim (nat_lt j (length m.files)) as (λ b. nat_lt j (length m.files) ≡ b → IsSoundMount (record m { files = edit_at h m.files j })) [
       | true ↦ λ e. (let there = ltb-true j (length m.files) e in
           subst (λ fs. IsSoundMount (record m { files = fs })) (sym (edit_set h (new_file None) m.files j there))
-          (put_sound m j f (h f) (record { within = there; is = λ d. get_or_default m.files j d (new_file None) there }) (keeps f) (λ task number. numbers task number f) sound))
+          (put_sound m j f (h f) (record { within = there; is = λ d. get_or_default m.files j d (new_file None) there }) (keeps f) (names f) (λ task number. numbers task number f) sound))
       | false ↦ λ e. subst (λ fs. IsSoundMount (record m { files = fs })) (sym (edit_past h m.files j (ltb-false j (length m.files) e))) sound
     ] refl
 
@@ -91,24 +102,28 @@ swept_sound m sound = record {
       let new = count_maps p (filter is_kept m.files) in
       let one = sound.numbers task number in
       omega (arith, fewer, old, new, one));
+  names = λ name. (let fewer = sum_by-filter_le (λ x. bit (has_name name x)) is_kept m.files in let one = sound.names name in omega (arith, fewer, one));
 }
 
 -- each file is changed
-pub files_sound : (m : Mount) (h : File → File) → ((f : File) → KeepsFile f (h f))
+pub files_sound : (m : Mount) (h : File → File) → ((f : File) → KeepsFile f (h f)) → ((f : File) → NoOtherName f (h f))
     → ((task number : ℕ) → sum_by (λ f. count_by (is_map task number) f.maps) (map h m.files) ≤ 1) → IsSoundMount m → IsSoundMount (record m { files = map h m.files })
-files_sound m h keeps numbers sound = record {
+files_sound m h keeps names numbers sound = record {
   files = All-map IsSoundFile h m.files (All-weaker IsSoundFile (λ f. IsSoundFile (h f)) (λ f. (keeps f).sound) m.files sound.files);
   stamps = λ stamp.
       (let fewer = sum_by-map_le (λ x. bit (file_has (is_stamp stamp) x)) h (λ f. holds_le f (h f) stamp (keeps f)) m.files in
       let one = sound.stamps stamp in omega (arith, fewer, one));
   numbers = λ task number. (let new = count_maps (is_map task number) (map h m.files) in let one = numbers task number in omega (arith, new, one));
+  names = λ name.
+      (let fewer = sum_by-map_le (λ x. bit (has_name name x)) h (λ f. names f name) m.files in
+      let one = sound.names name in omega (arith, fewer, one));
 }
 
 -- each with numbers of its own
-pub cut_sound : (m : Mount) (h : File → File) → ((f : File) → KeepsFile f (h f))
+pub cut_sound : (m : Mount) (h : File → File) → ((f : File) → KeepsFile f (h f)) → ((f : File) → NoOtherName f (h f))
     → ((task number : ℕ) (f : File) → count_by (is_map task number) (h f).maps ≤ count_by (is_map task number) f.maps) → IsSoundMount m → IsSoundMount (record m { files = map h m.files })
-cut_sound m h keeps numbers sound =
-    files_sound m h keeps
+cut_sound m h keeps names numbers sound =
+    files_sound m h keeps names
     (λ task number. (let p : Map → Bool = is_map task number in
     let fewer = sum_by-map_le (λ f. count_by p f.maps) h (numbers task number) m.files in
     let old = count_maps p m.files in
@@ -117,8 +132,9 @@ cut_sound m h keeps numbers sound =
 
 -- a file more, that has no copies
 pub new_sound : (m : Mount) (g : File) → KeepsFile (new_file None) g
-    → ((task number : ℕ) → count_by (is_map task number) (maps_of m) + count_by (is_map task number) g.maps ≤ 1) → IsSoundMount m → IsSoundMount (with_new m g)
-new_sound m g keeps numbers sound =
+    → ((task number : ℕ) → count_by (is_map task number) (maps_of m) + count_by (is_map task number) g.maps ≤ 1)
+    → ((name : List ℕ) → count_by (has_name name) m.files + bit (has_name name g) ≤ 1) → IsSoundMount m → IsSoundMount (with_new m g)
+new_sound m g keeps numbers names sound =
     let empty : IsSoundFile (new_file None) = record { maps = λ k d l. absurd (omega (arith, l)); copies = λ i j a b x y same. absurd (none_has i a x); owners = λ stamp. omega arith } in
     record {
       files = All-push IsSoundFile m.files g sound.files (keeps.sound empty);
@@ -135,6 +151,11 @@ new_sound m g keeps numbers sound =
           let new = count_maps p (m.files ++ g ∷ []) in
           let one = numbers task number in
           omega (arith, both, last, old, new, one));
+      names = λ name.
+          (let both = sum_by-append (λ x. bit (has_name name x)) m.files (g ∷ []) in
+          let last = sum_by-cons (λ x. bit (has_name name x)) g [] in
+          let one = names name in
+          omega (arith, both, last, one));
     }
   where
     none_has : (i : ℕ) (a : Copy) → FileHasCopy (new_file None) i a → ⊥
@@ -219,7 +240,7 @@ module _ (parent child task number : ℕ) where
 pub forked_sound : (parent child : ℕ) (m : Mount) → IsSoundMount m → IsSoundMount (forked parent child m)
 forked_sound parent child m sound =
     swept_sound (record m { files = map (file_forked parent child) m.files })
-    (files_sound m (file_forked parent child) (forked_keeps parent child)
+    (files_sound m (file_forked parent child) (forked_keeps parent child) (λ f name. omega arith)
     (λ task number. (let p : Map → Bool = was parent child task number in
     let fewer = sum_by-map_under (λ f. count_by (is_map task number) f.maps) (λ f. count_by p f.maps) (file_forked parent child) (forked_count parent child task number) m.files in
     let old = count_maps p m.files in

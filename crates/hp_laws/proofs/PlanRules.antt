@@ -123,7 +123,7 @@ module _ (W : Plan → Type 0) where
     plan_walks size k c m = record {
       refuses = λ r. rules.done (Refused r);
       same = λ a. rules.done (Answered a (Some m));
-      creates = λ name. rules.done (Answered Done (Some (with_new m (new_file (Some name)))));
+      creates = λ name new. rules.done (Answered Done (Some (with_new m (new_file (Some name)))));
       unlinks = λ q at. plan_gives Done (Some m) (edited m q.0 (unlinked q.1));
       truncates = λ n q at. plan_gives Done (Some m) (edited m q.0 (truncated n q.1));
       punches = λ a b q at. plan_gives Done (Some m) (edited m q.0 (punched a b q.1));

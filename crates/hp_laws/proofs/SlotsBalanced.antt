@@ -174,7 +174,7 @@ module _ (size slot : ℕ) (c : Choice) (m : Mount) (sound : IsSoundMount m) (ne
   events_balanced = record {
     refuses = λ r. stays (Some m);
     same = λ a. stays (Some m);
-    creates = λ name. grown_same m _ (new_grows m (Some name) (new_file (Some name)) 0 (same_file (new_file (Some name))));
+    creates = λ name new. grown_same m _ (new_grows m (Some name) (new_file (Some name)) 0 (same_file (new_file (Some name))));
     unlinks = λ q at. falls _ (file_sweeps m q.0 q.1 (unlinked q.1) at (unlinked_falls q.1));
     truncates = λ n q at. falls _ (file_sweeps m q.0 q.1 (truncated n q.1) at (truncated_falls n q.1));
     punches = λ a b q at. falls _ (file_sweeps m q.0 q.1 (punched a b q.1) at (punched_falls a b q.1));

@@ -1,5 +1,5 @@
 -- One walk over the events of an open mount: what holds of the plan of each change holds of the plan of each event.
-use Rattle.std.proofs.Common.{◌≡◌, ℕ, Bool, true, false, Option, None, Some, List, [], ◌∷◌, length, nat_lt, refl}
+use Rattle.std.proofs.Common.{◌≡◌, ℕ, Bool, true, false, not, Option, None, Some, is_some, List, [], ◌∷◌, length, drop, nat_lt, refl, if◌then◌else◌}
 use Rattle.std.proofs.lemmas.Bool.{cond_both}
 use Rattle.std.specs.List.{count_by, filter_map}
 use Rattle.hp_model.specs.declared.answer.Answer.{Answer}
@@ -7,7 +7,7 @@ use Rattle.hp_model.specs.declared.answer.Answer.TheVariants.{Done, MapNo, Names
 use Rattle.hp_model.specs.declared.event.SlotEvent.{SlotEvent}
 use Rattle.hp_model.specs.declared.event.SlotEvent.TheVariants as slot
 use Rattle.hp_model.specs.declared.refusal.Refusal.{Refusal}
-use Rattle.hp_model.specs.declared.refusal.Refusal.TheVariants.{NoSuchFile, NoSuchMap, OutOfMemory, OutOfRange, SlotTaken}
+use Rattle.hp_model.specs.declared.refusal.Refusal.TheVariants.{BadName, FileExists, NoSuchFile, NoSuchMap, OutOfMemory, OutOfRange, SlotTaken}
 use Rattle.hp_model.specs.declared.step.Intent.{Intent}
 use Rattle.hp_model.specs.declared.step.Reserving.{Reserving}
 use Rattle.hp_model.specs.declared.step.Sharing.{Sharing}
@@ -19,7 +19,7 @@ use Rattle.hp_model.specs.files.Mapping.{is_map}
 use Rattle.hp_model.specs.files.MountCounts.{usage_of}
 use Rattle.hp_model.specs.machine.Plan.{Answered, Ask, Choice, Finish, Plan, gives, grant, refuse, unless, with_value}
 use Rattle.hp_model.specs.Profile.{most_file_pages}
-use Rattle.hp_model.specs.machine.SlotEvent.{anon_tests, bytes_answer, create_tests, edited, fault, file_named, fork_tests, has_name, is_bad_range, load, map_file}
+use Rattle.hp_model.specs.machine.SlotEvent.{anon_tests, bytes_answer, create_tests, edited, fault, file_named, fork_tests, has_name, is_bad_range, is_name, load, map_file}
 use Rattle.hp_model.specs.machine.SlotEvent.{map_tests, on_mount, punch, read, read_tests, remount_outcome, remount_section, remount_tests, stat, store, truncate, umount_tests, unlink, unmap}
 use Rattle.hp_model.specs.files.Options.{limits, wanted_of}
 use Rattle.hp_model.specs.files.Spot.{Spot, spot}
@@ -54,7 +54,7 @@ module _ (size k : ℕ) (c : Choice) (m : Mount) (W : Plan → Type 0) where
   pub record Walks : Type 0 where
     pub refuses : (r : Refusal) → W (refuse r)
     pub same : (a : Answer) → W (Finish (Answered a (Some m)))
-    pub creates : (name : List ℕ) → W (Finish (Answered Done (Some (with_new m (new_file (Some name))))))
+    pub creates : (name : List ℕ) → is_some (file_named m name) ≡ false → W (Finish (Answered Done (Some (with_new m (new_file (Some name))))))
     pub unlinks : (q : ℕ × File) → IsFileAt m q.0 q.1 → W (gives Done (Some m) (edited m q.0 (unlinked q.1)))
     pub truncates : (n : ℕ) (q : ℕ × File) → IsFileAt m q.0 q.1 → W (gives Done (Some m) (edited m q.0 (truncated n q.1)))
     pub punches : (a b : ℕ) (q : ℕ × File) → IsFileAt m q.0 q.1 → W (gives Done (Some m) (edited m q.0 (punched a b q.1)))
@@ -86,7 +86,11 @@ module _ (size k : ℕ) (c : Choice) (m : Mount) (W : Plan → Type 0) where
     walk (slot.Mount options) stays = walks.refuses SlotTaken
     walk (slot.Remount options) stays = cc
     walk slot.Umount stays = cc
-    walk (slot.Create name) stays = tested (create_tests c m name) (Finish (Answered Done (Some (with_new m (new_file (Some name)))))) (walks.creates name)
+    walk (slot.Create name) stays =
+        let created = Finish (Answered Done (Some (with_new m (new_file (Some name))))) in
+        let rest = drop 2 (create_tests c m name) in
+        tested ((not (is_name name), BadName) ∷ []) (if is_some (file_named m name) then refuse FileExists else unless rest created)
+        (cond_both (is_some (file_named m name)) (refuse FileExists) (unless rest created) W (λ e. walks.refuses FileExists) (λ e. tested rest created (walks.creates name e)))
     walk (slot.Unlink name) stays = of_file name (unlink m) walks.unlinks
     walk (slot.Truncate name n) stays =
         of_file name (truncate m n) (λ q at. tested ((nat_lt most_file_pages n, OutOfRange) ∷ []) (gives Done (Some m) (edited m q.0 (truncated n q.1))) (walks.truncates n q at))

@@ -1,9 +1,9 @@
 -- For the fields of the promises a wrong machine that the record refuses: a reply, or a state after the step.
 use Rattle.std.proofs.Common.{◌≡◌, ⊎_elim, ℕ, ◌≤◌, ◌∙◌, Bool, true, false, None, Option, Some, Ok, Err, List, [], ◌∷◌, length, replicate, refl, ap, arith}
-use Rattle.std.specs.List.{slice_index_or}
+use Rattle.std.specs.List.{count_by, slice_index_or}
 use Rattle.std.specs.Prelude.{codes, is_some}
 use Rattle.hp_model.specs.declared.answer.Answer.TheVariants.{Done, MapNo, Number, Stat as StatAnswer}
-use Rattle.hp_model.specs.declared.cell.Cell.TheVariants.{Entered}
+use Rattle.hp_model.specs.declared.cell.Cell.TheVariants.{Entered, Hole}
 use Rattle.hp_model.specs.declared.limits.Limits.{Limits}
 use Rattle.hp_model.specs.declared.place.Place.TheVariants.{Gone, Live}
 use Rattle.hp_model.specs.files.Mapping.{copy_of, is_live, is_unconsumed, place_at, with_place}
@@ -13,7 +13,7 @@ use Rattle.hp_model.specs.declared.refusal.Refusal.TheVariants.{Busy, MinOverSiz
 use Rattle.hp_model.specs.declared.step.Reserving.TheVariants.{NoReserve, Reserve}
 use Rattle.hp_model.specs.declared.step.Sharing.TheVariants.{Private, Shared}
 use Rattle.hp_model.specs.declared.step.Step.{Step}
-use Rattle.hp_model.specs.declared.step.Step.TheVariants.{Connect, Create, Df, Exit, Fault, Fork, Load, Map, Mount, Nr, Punch, Remount, Stat, Store, Umount, Unmap}
+use Rattle.hp_model.specs.declared.step.Step.TheVariants.{Connect, Create, Df, Exit, Fault, Fork, Load, Map, Mount, Nr, Punch, Remount, Stat, Store, Umount, Unlink, Unmap}
 use Rattle.hp_model.specs.declared.step.Intent.TheVariants.{Read}
 use Rattle.hp_model.specs.files.File.{File, file_in, is_entered, new_file, with_file}
 use Rattle.hp_model.specs.machine.Plain.{plain_step}
@@ -156,13 +156,17 @@ create_drops_entries_elsewhere : IsPromised mounted (Create 0 (codes "b")) (Ok D
 create_drops_entries_elsewhere promised =
     (let wrong : 0 ≡ 3 = ap cells_on (promised.elsewhere 2 refl) in absurd (omega (arith, wrong)))
 
--- ---- an exit that keeps the maps of its task, an umount that keeps the mount, and an unmap of all that keeps the number
+-- ---- an exit that keeps the maps of its task, an umount that keeps the mount, an unlink that keeps the name, and an unmap of all that keeps
+-- the number
 
 exit_keeps_maps : IsPromised shared (Exit 1) (Ok Done) (record shared { table = [] }) → ⊥
 exit_keeps_maps promised = (let wrong : true ≡ false = ap is_some (promised.gone 0 1) in cc)
 
 umount_keeps_the_mount : IsPromised mounted (Umount 2) (Ok Done) mounted → ⊥
 umount_keeps_the_mount promised = (let wrong : true ≡ false = ap is_some promised.gone in cc)
+
+unlink_keeps_the_name : IsPromised shared (Unlink 0 (codes "a")) (Ok Done) shared → ⊥
+unlink_keeps_the_name promised = (let wrong : true ≡ false = ap is_some promised.gone in cc)
 
 unmap_keeps_the_number : IsPromised shared (Unmap 1 0 1 0 1) (Ok Done) shared → ⊥
 unmap_keeps_the_number promised = (let wrong : true ≡ false = ap is_some (promised.gone refl) in cc)
@@ -396,3 +400,33 @@ child_leaves_a_spent_index : IsPromised forked (Exit 2) (Ok Done) exit_spends �
 child_leaves_a_spent_index promised =
     (let kept = promised.whole 0 1 1 (parent_in forked) refl refl in
     let wrong : false ≡ true = ap (λ o. reserve_at o 1) kept.1 ∙ ap (λ x. is_unconsumed (place_at x 1)) kept.2 in cc)
+
+-- ---- an unmap and an exit of a file's last map that drop its entries, and a fork that drops those of a file without maps
+
+abbrev unentered : State → State
+unentered t = elim (slot_at t 2) [ None ↦ t | Some m ↦ with_slot t 2 (Some (with_file m 0 (record (file_in m 0) { cells = replicate 3 Hole }))) ]
+
+abbrev entries_of : Option (ℕ × File) → ℕ
+entries_of None = 99
+entries_of (Some f) = count_by is_entered f.1.cells
+
+abbrev unmapped_all : Step
+unmapped_all = Unmap 1 2 1 0 3
+
+unmap_drops_entries : IsPromised mounted unmapped_all (Ok Done) (unentered (plain_step mounted unmapped_all).1) → ⊥
+unmap_drops_entries promised =
+    (let kept = promised.kept 2 (codes "a") (first_file mounted) refl in
+    let wrong : 0 ≡ 3 = ap entries_of kept.1 ∙ ap (count_by is_entered) kept.2 in absurd (omega (arith, wrong)))
+
+exit_drops_entries : IsPromised mounted (Exit 1) (Ok Done) (unentered (plain_step mounted (Exit 1)).1) → ⊥
+exit_drops_entries promised =
+    (let kept = promised.kept 2 (codes "a") (first_file mounted) refl in
+    let wrong : 0 ≡ 3 = ap entries_of kept.1 ∙ ap (count_by is_entered) kept.2 in absurd (omega (arith, wrong)))
+
+abbrev without_maps : State
+without_maps = (plain_step mounted unmapped_all).1
+
+fork_drops_entries : IsPromised without_maps (Fork 1 2) (Ok Done) (unentered (plain_step without_maps (Fork 1 2)).1) → ⊥
+fork_drops_entries promised =
+    (let kept = promised.kept 2 (codes "a") (first_file without_maps) refl in
+    let wrong : 0 ≡ 3 = ap entries_of kept.1 ∙ ap (count_by is_entered) kept.2 in absurd (omega (arith, wrong)))

@@ -95,6 +95,10 @@ past_the_length sound = let wrong : 0 < 0 = ((sound.files 0 (new_file None) (ome
 in_two_files : IsSoundMount (with_new forked file) → ⊥
 in_two_files sound = let wrong : 2 ≤ 1 = sound.stamps copy.stamp in absurd (omega (arith, wrong))
 
+-- two files have one name
+name_of_two_files : IsSoundMount (with_new forked (new_file (Some (codes "a")))) → ⊥
+name_of_two_files sound = let wrong : 2 ≤ 1 = sound.names (codes "a") in absurd (omega (arith, wrong))
+
 -- two maps of one task have one number
 number_of_two_maps : IsSoundMount (with_child (record child { task = 1 })) → ⊥
 number_of_two_maps sound = let wrong : 2 ≤ 1 = sound.numbers 1 1 in absurd (omega (arith, wrong))

@@ -116,10 +116,18 @@ pub record Keeps (x : Slot) (step : Step) (y : Slot) : Type 0 where
   pub files : (name : List ℕ) (f g : ℕ × File) → unlinks step name ≡ false → named_on x name ≡ Some f → named_on y name ≡ Some g
       → (j : ℕ) → KeepsCell x step f.0 f.1 g.1 j
 
--- what an unmap, a fork and an exit leave, and a refusal, is told elsewhere
+-- each file that has a name keeps it and all its cells, with their entries and pages
+abbrev pub KeepsFiles : (x y : Slot) → Type 0
+KeepsFiles x y =
+    (name : List ℕ) (f : ℕ × File) → named_on x name ≡ Some f → (g : ℕ × File) × (named_on y name ≡ Some g) × (g.1.cells ≡ f.1.cells)
+
+abbrev pub KeepsAllFiles : (s t : State) → Type 0
+KeepsAllFiles s t = (slot : ℕ) → KeepsFiles (slot_at s slot) (slot_at t slot)
+
+-- what an unmap, a fork and an exit leave of maps is told elsewhere, and so is what a refusal leaves
 abbrev pub KeepsOwn : State → Step → Reply → State → Type 0
-KeepsOwn s (Unmap task k number a b) reply t = Unit {0}
-KeepsOwn s (Fork parent child) reply t = Unit {0}
-KeepsOwn s (Exit task) reply t = Unit {0}
+KeepsOwn s (Unmap task k number a b) reply t = KeepsAllFiles s t
+KeepsOwn s (Fork parent child) reply t = KeepsAllFiles s t
+KeepsOwn s (Exit task) reply t = KeepsAllFiles s t
 KeepsOwn s step (Ok a) t = (slot : ℕ) → is_on step slot ≡ true → Keeps (slot_at s slot) step (slot_at t slot)
 KeepsOwn s step (Err r) t = Unit {0}

@@ -468,7 +468,7 @@ pub record IsPromised (s : State) (step : Step) (reply : Reply) (t : State) : Ty
   pub whole : LeavesWhole s step t
   -- a fork gives the child the maps of its parent, on every slot
   pub forks : Forks s step reply t
-  -- what a step ends is gone: a mount, a task's maps, and the number of a map that is all unmapped
+  -- what a step ends is gone: a mount, a task's maps, a file's name, and the number of a map that is all unmapped
   pub gone : IsGone s step reply t
   -- a step that only reads leaves all files, maps and reservations as they were
   pub reads : only_reads step ≡ true → t.slots ≡ s.slots

@@ -1,10 +1,11 @@
 -- What holds of the copies and the maps of every slot, whatever events made them.
-use Rattle.std.specs.Prelude.{◌≡◌, ℕ, ◌≤◌, ◌<◌, ◌&&◌, ◌==◌, Bool, true, false, None, Some, length}
+use Rattle.std.specs.Prelude.{◌≡◌, ℕ, ◌≤◌, ◌<◌, ◌&&◌, ◌==◌, Bool, true, false, None, Some, List, length}
 use Rattle.std.specs.List.{All, count_by, list_any}
 use Rattle.hp_model.specs.files.File.{File, Mount, map_in, maps_of}
 use Rattle.hp_model.specs.files.Mapping.{Map, copy_of, is_map, is_shared, is_unconsumed, place_at}
 use Rattle.hp_model.specs.files.Page.{Copy}
 use Rattle.hp_model.specs.machine.Plan.{Slot}
+use Rattle.hp_model.specs.machine.SlotEvent.{has_name}
 use Rattle.hp_model.specs.declared.place.Place.{Place}
 use Rattle.hp_model.specs.declared.place.Place.TheVariants.{Gone, Live}
 
@@ -60,6 +61,8 @@ pub record IsSoundMount (m : Mount) : Type 0 where
   pub stamps : (stamp : ℕ) → count_by (file_has (is_stamp stamp)) m.files ≤ 1
   -- a task's number is of one map
   pub numbers : (task number : ℕ) → count_by (is_map task number) (maps_of m) ≤ 1
+  -- a name is of one file: an unlinked or an anonymous one has none
+  pub names : (name : List ℕ) → count_by (has_name name) m.files ≤ 1
 
 abbrev pub IsSound : Slot → Type 0
 IsSound None = Unit {0}
