@@ -11,5 +11,6 @@ pub mod Making
 pub mod NameBytes
 pub mod Ending
 pub mod Giving
+pub mod Remounting
 pub mod Leaving
 pub mod Forking

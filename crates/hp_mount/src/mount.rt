@@ -24,6 +24,7 @@ mod looking;
 mod making;
 mod private;
 mod reach;
+mod remounting;
 
 use crate::event::MountEvent;
 use hp_model::naming::Naming;

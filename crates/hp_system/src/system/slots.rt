@@ -3,7 +3,7 @@ ghost use Rattle.std.specs.Prelude.{◌≡◌, ◌≢◌, ◌<◌, ◌≤◌, �
 ghost use Rattle.hp_model.specs.machine.Event.{has_maps_of};
 ghost use Rattle.std.specs.List.{range_with_len};
 ghost use Rattle.hp_model.specs.declared.refusal.Refusal.TheVariants as Refusal;
-ghost use Rattle.hp_model.specs.declared.event.SlotEvent.TheVariants.{Mount as Mounting, Umount as Umounting};
+ghost use Rattle.hp_model.specs.declared.event.SlotEvent.TheVariants.{Mount as Mounting, Remount as Remounting, Umount as Umounting};
 ghost use Rattle.hp_model.specs.files.Options.{limits, wanted_of};
 ghost use Rattle.hp_model.specs.machine.Accesses.{done_reply};
 ghost use Rattle.hp_model.specs.machine.State.{slot_at};
@@ -67,6 +67,36 @@ impl<N: Naming> System<N> {
             None => Ok(()),
             Some(_old) => unreachable!(),
         }
+    }
+
+    // Sets all three limits of a slot's mount anew by options: a section of the pool, at home node 0. Files and maps stay
+    // as they are. It takes no memory, and a few words of work.
+    //
+    // Refused, and then nothing changes, by the first of these that holds (profile):
+    // - NoSuchSlot: there is no such slot, or it is not mounted.
+    // - SlotTaken: it is slot 0.
+    // - BadOption, MinOverSize and NoPages: see `Mount::remount`.
+    #[inline(never)]
+    pub(crate) fn remount(&mut self, slot: u64, options: &Lent<'_>) -> Result<(), Refusal>
+        requires ready { IsReady self.old }
+        ensures done { DoesOnSlot self.old.state slot (Remounting options.now)
+            (done_reply result) self.new.state }
+        ensures memory { done_reply result ≢ Err Refusal.OutOfMemory }
+        ensures size { self.new.state.page_size ≡ self.old.state.page_size }
+        ensures ready { IsReady self.new }
+    {
+        let page_bytes = self.page_bytes();
+        let at = slot as usize;
+        if at >= self.slots.len() {
+            return Err(Refusal::NoSuchSlot);
+        }
+        let Some(mount) = &mut self.slots[at] else {
+            return Err(Refusal::NoSuchSlot);
+        };
+        if at == 0 {
+            return Err(Refusal::SlotTaken);
+        }
+        mount.remount(&mut self.pool, page_bytes, options.as_slice())
     }
 
     // Ends the mount of a slot, with its files. Their pages and reservations go back to the pool, and

@@ -266,6 +266,7 @@ impl<N: Naming> System<N> {
             Step::Fork { parent, child } => tell_done(self.fork(*parent, *child), reply),
             Step::Exit { task } => tell_done(self.exit(*task), reply),
             Step::Mount { slot, options } => tell_done(self.mount(*slot, options), reply),
+            Step::Remount { slot, options } => tell_done(self.remount(*slot, options), reply),
             Step::Umount { slot } => tell_done(self.umount(*slot), reply),
             Step::Ls { slot } => {
                 event = MountEvent::Ls;

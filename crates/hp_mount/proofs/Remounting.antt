@@ -1,0 +1,139 @@
+-- Other limits for a mount, by what its door did.
+use Rattle.std.proofs.Common.{◌≡◌, ◌≢◌, ℕ, ◌-◌, ◌==◌, Bool, true, false, cond, Option, None, Some, Result as ResultOf, Ok, Err, List, refl, sym, ap, subst, ◌∙◌, arith}
+use Rattle.std.specs.Prelude.{if◌then◌else◌, max, nat_lt}
+use Rattle.hp_model.specs.declared.answer.Answer.TheVariants.{Done}
+use Rattle.hp_model.specs.declared.event.SlotEvent.TheVariants.{Remount}
+use Rattle.hp_model.specs.declared.limits.Limits.{Limits}
+use Rattle.hp_model.specs.declared.refusal.Refusal.{Refusal}
+use Rattle.hp_model.specs.declared.refusal.Refusal.TheVariants as r
+use Rattle.hp_model.specs.declared.section.PoolAnswer.{PoolAnswer}
+use Rattle.hp_model.specs.declared.section.Section.{Section}
+use Rattle.hp_model.specs.declared.section.Section.TheVariants.{ReadAndGiveBack, ReadAndGrant}
+use Rattle.hp_model.specs.files.File.{Mount}
+use Rattle.hp_model.specs.files.Options.{Wanted, checked, is_below_min, limits, limits_of, wanted_of}
+use Rattle.hp_model.specs.machine.Plan.{Answered, Ask, Plan, Refused, Reply, Slot, refuse}
+use Rattle.hp_model.specs.machine.SlotEvent.{remount, remount_outcome, remount_section}
+use Rattle.hp_model.specs.threads.LocalRun.{Gives, ThroughDoor}
+use Rattle.hp_mount_door.specs.Limits.{IsLimitedAt, IsLimitedBy, minimum_section, read_nr}
+use Rattle.hp_mount_files.specs.Files.{Files}
+use Rattle.hp_mount.specs.Done.{Enters, IsDone, MayEnter}
+use Rattle.hp_mount.specs.Kept.{IsKept, mount_of}
+use Rattle.hp_mount.proofs.Ways.{fresh_choice, is_fresh}
+use Rattle.hp_subpool.specs.Subpool.{Subpool, used, with_limits}
+
+-- ---- what options are refused
+
+-- never for want of memory
+checked_apart : (l : Limits) → checked l ≡ Err r.OutOfMemory → ⊥
+checked_apart l e = by_test (is_below_min l.max l.min) e
+  where
+    by_test : (b : Bool) → (if b then Err r.MinOverSize else Ok l) ≡ Err r.OutOfMemory → ⊥
+    by_test true e = cc
+    by_test false e = cc
+
+limits_apart : (nr size : ℕ) (w : Option Wanted) → limits nr size w ≡ Err r.OutOfMemory → ⊥
+limits_apart nr size None e = cc
+limits_apart nr size (Some w) e = checked_apart (limits_of nr size w) e
+
+-- the refusal, as another reply
+as_reply : (e x : Refusal) → ◌≡◌ {A = ResultOf (Option ℕ) Refusal} (Err e) (Err x) → ◌≡◌ {A = Reply} (Err e) (Err x)
+as_reply e x is = (let same : e ≡ x = cc in ap (λ y. Err y) same)
+
+module _ {X : Type 0} (took : X → Section → PoolAnswer → X → Type 0) (full : X → Type 0) (size : ℕ) (text : List ℕ) (s new : Subpool) (door left : X) where
+  abbrev means : ℕ → ResultOf Limits Refusal
+  means nr = limits nr size (wanted_of text)
+
+  pub limits_memory : (e : Refusal) → IsLimitedAt took full size text s new door left (Err e) → e ≡ r.OutOfMemory → ⊥
+  limits_memory r.OutOfMemory h is = by_limits (means h.0) refl h.3
+    where
+      by_limits : (x : ResultOf Limits Refusal) → means h.0 ≡ x → IsLimitedBy x h.0 s new (Err r.OutOfMemory) h.1 h.2 → ⊥
+      by_limits (Err e) wanted by = (let same : r.OutOfMemory ≡ e = cc in limits_apart h.0 size (wanted_of text) (wanted ∙ ap (λ y. Err y) (sym same)))
+      by_limits (Ok l) wanted by = (let never : r.OutOfMemory ≡ r.NoPages = by.0 in cc)
+  limits_memory other h is = cc
+
+  -- ---- the mount
+
+  module _ (v : Files) (inodes : Option ℕ) (kept : IsKept s v (mount_of s inodes v.files)) (k : ℕ) (apart : (k == 0) ≡ false) where
+    abbrev m : Mount
+    m = mount_of s inodes v.files
+
+    abbrev asks : Plan
+    asks = Ask (λ nr. remount_section m (means nr)) (λ a. remount_outcome m a (means a.nr))
+
+    plan_is : remount size k m text ≡ asks
+    plan_is = ap (λ b. if b then refuse r.SlotTaken else asks) apart
+
+    -- the share's section is the mount's
+    section_is : (l : Limits) → minimum_section s l.min ≡ remount_section m (Ok l)
+    section_is l =
+        ap (λ u. if nat_lt (max u l.min) (max u s.min) then ReadAndGiveBack (max u s.min - max u l.min) else ReadAndGrant (max u l.min - max u s.min)) kept.used
+
+    through : (nr : ℕ) (sec : Section) (a : PoolAnswer) (x : ResultOf Limits Refusal) (reply : Reply) (n : Slot) → means nr ≡ x → a.nr ≡ nr → sec ≡ remount_section m x
+        → took door sec a left → Gives (remount_outcome m a x) (Some m) reply n → ThroughDoor took (remount size k m text) (Some m) door reply n left
+    through nr sec a x reply n wanted told same t gives =
+        let is : means a.nr ≡ x = ap means told ∙ wanted in
+        subst (λ p. ThroughDoor took p (Some m) door reply n left) (sym plan_is)
+        (a, subst (λ y. took door y a left) (same ∙ ap (remount_section m) (sym is)) t, subst (λ y. Gives (remount_outcome m a y) (Some m) reply n) (sym is) gives)
+
+    -- refused, whatever the pool granted
+    refusal_is : (l : Limits) (a : PoolAnswer) (e : Refusal) (n : Slot) → a.granted ≡ false → e ≡ r.NoPages → n ≡ Some m → Gives (remount_outcome m a (Ok l)) (Some m) (Err e) n
+    refusal_is l a e n denied is same =
+        subst (λ b. Gives (if b then Answered Done (Some (record m { limits = l })) else Refused r.NoPages) (Some m) (Err e) n) (sym denied) (ap (λ y. Err y) is, same)
+
+    answer_is : (l : Limits) (a : PoolAnswer) (n : Slot) → a.granted ≡ true → n ≡ Some (record m { limits = l }) → Gives (remount_outcome m a (Ok l)) (Some m) (Ok Done) n
+    answer_is l a n granted same = subst (λ b. Gives (if b then Answered Done (Some (record m { limits = l })) else Refused r.NoPages) (Some m) (Ok Done) n) (sym granted) (refl, same)
+
+    pub remount_refused : (e : Refusal) → IsLimitedAt took full size text s new door left (Err e)
+        → IsDone took full size k (Some m) door (Remount text) (Err e) (Some (mount_of new inodes v.files)) left
+    remount_refused r.TraceFull h = (
+      ap (λ x. Some (mount_of x inodes v.files)) h.0,
+      (h.1, h.2),
+      (fresh_choice false (Some m), is_fresh false (Some m), subst Enters (sym plan_is) tt),
+    )
+    remount_refused e h = (fresh_choice false (Some m), is_fresh false (Some m), by_limits (means h.0) refl h.3)
+      where
+        by_limits : (x : ResultOf Limits Refusal) → means h.0 ≡ x → IsLimitedBy x h.0 s new (Err e) h.1 h.2
+            → ThroughDoor took (remount size k m text) (Some m) door (Err e) (Some (mount_of new inodes v.files)) left
+        by_limits (Err x) wanted by =
+            through h.0 h.1 h.2 (Err x) (Err e) _ wanted (ap (λ (a : PoolAnswer). a.nr) by.3) by.2 h.4
+            (as_reply e x by.0, ap (λ y. Some (mount_of y inodes v.files)) by.1)
+        by_limits (Ok l) wanted by =
+            through h.0 h.1 h.2 (Ok l) (Err e) _ wanted (ap (λ (a : PoolAnswer). a.nr) by.3) (by.2 ∙ section_is l) h.4
+            (refusal_is l h.2 e _ (ap (λ (a : PoolAnswer). a.granted) by.3) by.0 (ap (λ y. Some (mount_of y inodes v.files)) by.1))
+
+    pub remount_set : (files : Option ℕ) → IsLimitedAt took full size text s new door left (Ok files)
+        → IsDone took full size k (Some m) door (Remount text) (Ok Done) (Some (mount_of new files v.files)) left
+    remount_set files h = (fresh_choice false (Some m), is_fresh false (Some m), by_limits (means h.0) refl h.3)
+      where
+        by_limits : (x : ResultOf Limits Refusal) → means h.0 ≡ x → IsLimitedBy x h.0 s new (Ok files) h.1 h.2
+            → ThroughDoor took (remount size k m text) (Some m) door (Ok Done) (Some (mount_of new files v.files)) left
+        by_limits (Err x) wanted by = (let never : Ok files ≡ Err x = by.0 in cc)
+        by_limits (Ok l) wanted by =
+            through h.0 h.1 h.2 (Ok l) (Ok Done) _ wanted (ap (λ (a : PoolAnswer). a.nr) by.3) (by.2 ∙ section_is l) h.4
+            (answer_is l h.2 _ (ap (λ (a : PoolAnswer). a.granted) by.3)
+            (ap (λ y. Some (mount_of y files v.files)) by.1 ∙ ap (λ y. Some (mount_of (with_limits l.max l.min s) y v.files)) by.0))
+
+  -- ---- what the share keeps
+
+  counts : (got : ResultOf (Option ℕ) Refusal) → IsLimitedAt took full size text s new door left got → (new.pages ≡ s.pages) × (new.held ≡ s.held)
+  counts (Err r.TraceFull) h = (ap (λ (x : Subpool). x.pages) h.0, ap (λ (x : Subpool). x.held) h.0)
+  counts (Err e) h = by_limits (means h.0) h.3
+    where
+      by_limits : (x : ResultOf Limits Refusal) → IsLimitedBy x h.0 s new (Err e) h.1 h.2 → (new.pages ≡ s.pages) × (new.held ≡ s.held)
+      by_limits (Err x) by = (ap (λ (x : Subpool). x.pages) by.1, ap (λ (x : Subpool). x.held) by.1)
+      by_limits (Ok l) by = (ap (λ (x : Subpool). x.pages) by.1, ap (λ (x : Subpool). x.held) by.1)
+  counts (Ok files) h = by_limits (means h.0) h.3
+    where
+      by_limits : (x : ResultOf Limits Refusal) → IsLimitedBy x h.0 s new (Ok files) h.1 h.2 → (new.pages ≡ s.pages) × (new.held ≡ s.held)
+      by_limits (Err x) by = (let never : Ok files ≡ Err x = by.0 in cc)
+      by_limits (Ok l) by = (ap (λ (x : Subpool). x.pages) by.1, ap (λ (x : Subpool). x.held) by.1)
+
+  pub relimited_kept : (v : Files) (inodes later : Option ℕ) (got : ResultOf (Option ℕ) Refusal) → IsKept s v (mount_of s inodes v.files)
+      → IsLimitedAt took full size text s new door left got → IsKept new v (mount_of new later v.files)
+  relimited_kept v inodes later got kept h =
+      let pages = (counts got h).0 in
+      let held = (counts got h).1 in
+      let was = kept.pages in
+      let used = kept.used in
+      let room = kept.room in
+      record { pages = pages ∙ was; used = omega (arith, pages, held, used); room = omega (arith, held, room); going = kept.going; few = kept.few }
