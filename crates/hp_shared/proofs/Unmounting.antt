@@ -122,7 +122,8 @@ limits_none full size k text asked none = (
   subst (λ (x : Option Asked). Goes (slot_event size k (fresh_choice false None) None (Remount text)) x None (Err r.NoSuchSlot) None) (sym none) (refl, refl),
 )
 
-pub limits_first : (full : Type 0) (size k : ℕ) (text : List ℕ) (m : Mount) (asked : Option Asked) → k ≡ 0 → asked ≡ None → IsActedOr full size k (Some m) (Remount text) (Err r.SlotTaken) asked (Some m)
+pub limits_first : (full : Type 0) (size k : ℕ) (text : List ℕ) (m : Mount) (asked : Option Asked) → k ≡ 0 → asked ≡ None →
+    IsActedOr full size k (Some m) (Remount text) (Err r.SlotTaken) asked (Some m)
 limits_first full size k text m asked first none =
     let c : Choice = fresh_choice false (Some m) in (
       c,

@@ -4,6 +4,7 @@
 mod locked_slot;
 mod mounting;
 mod names;
+mod remounting;
 mod slot;
 mod table;
 mod table_told;

@@ -20,8 +20,9 @@ ghost use Rattle.hp_subpool.specs.Subpool.{Subpool as ShareValue};
 ghost use Rattle.hp_shared.specs.Slots.{AreNoted, IsSlotEvent, IsSlotEventDone, IsSlotTrail, is_trace_full, names_reply, slot_start};
 ghost use Rattle.hp_trail.specs.Keeping.{added, has_room, one_less};
 
-use crate::mounting::{mount as open, remount as set_limits, unmount};
+use crate::mounting::{mount as open, unmount};
 use crate::names::{Listing, list, list_thrice};
+use crate::remounting::remount as set_limits;
 use crate::slot::{act, copied, fork, is_full, leave};
 use hp_locked::SessionDoor;
 use hp_model::answer::Reply;

@@ -1,6 +1,6 @@
-//! Mount, remount and umount of a slot.
+//! Mount and umount of a slot.
 ghost use Rattle.std.specs.Prelude.{◌≡◌, ◌<◌, ◌≤◌, ℕ, [], Ok, Err, None, Some, true, false};
-ghost use Rattle.hp_model.specs.declared.event.SlotEvent.TheVariants.{Mount as Mounting, Remount, Umount};
+ghost use Rattle.hp_model.specs.declared.event.SlotEvent.TheVariants.{Mount as Mounting, Umount};
 ghost use Rattle.hp_model.specs.machine.Copying.{reply_has_names};
 ghost use Rattle.hp_model.specs.machine.Told.{told_reply};
 ghost use Rattle.hp_model.specs.text.Writing.{IsWithinLimits};
@@ -88,35 +88,4 @@ pub(crate) fn mount<
             }
         }
     }
-}
-
-// Sets the limits of the mount of a slot of this number anew, to what the options mean. Refused as NoSuchSlot where it is not
-// mounted, as SlotTaken where it is slot 0, and as BadOption, MinOverSize or NoPages, the first of these that holds; as TraceFull
-// where the door has no room.
-pub(crate) fn remount<
-    N: Naming,
-    D: SessionDoor<Share = Subpool<N>, Page = Page<N>, Going = PageStore<N>>,
->(
-    mount: &mut Option<Mount<N>>,
-    number: u64,
-    door: &mut D,
-    page_bytes: u64,
-    options: &[u8],
-) -> Result<Told<'static>, Refusal>
-    requires shares { (s : ShareValue) → D.share_of s ≡ s }
-    requires ready { D.is_ready door.old }
-    requires bytes { 0 < page_bytes }
-    ensures done { IsActedOr (D.is_full door.new) page_bytes number mount.old
-        (Remount options.now)
-        (told_reply result) (D.asked door.new) mount.new }
-    ensures limits { IsWithinLimits (told_reply result) }
-    ensures plain { reply_has_names (told_reply result) ≡ false }
-{
-    let Some(open) = mount else {
-        return Err(Refusal::NoSuchSlot);
-    };
-    if number == 0 {
-        return Err(Refusal::SlotTaken);
-    }
-    Told::done(open.remount(door, page_bytes, options))
 }

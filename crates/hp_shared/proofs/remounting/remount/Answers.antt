@@ -7,7 +7,7 @@ use Rattle.hp_model.specs.machine.Told.{told_reply}
 use Rattle.hp_shared.specs.Slots.{IsActedOr}
 use Rattle.hp_shared.proofs.Acting.{acted_or}
 use Rattle.hp_shared.proofs.Unmounting.{limits_first, limits_none}
-use Rattle.hp_shared.proofs.mounting.remount.Goals as goal
+use Rattle.hp_shared.proofs.remounting.remount.Goals as goal
 
 pub returns-clause-done : goal.returns-clause-done
 returns-clause-done g c =
