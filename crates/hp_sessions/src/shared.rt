@@ -31,15 +31,17 @@ pub(crate) const MOST_TASKS: usize = 256;
 /// The machine that threads share: the task table, the pool and each slot under a lock of its own, and the frames of each
 /// node under one. Where K is 1 each part keeps a trail of its events, where K is 0 none.
 ///
+/// What every step reads comes first, and each of the locks that steps take lies on cache lines of its own.
+///
 /// Nothing is known of a part until its lock is held. The machine can't be dropped: `into_parts` takes it apart and `close`
 /// ends it, once no session is left on it.
 pub struct Shared<N: Naming, const K: usize> {
     pub(crate) page_bytes: usize,
     pub(crate) alloc: Global,
+    pub(crate) slots: Vec<CachePadded<Mutex<Slot<N, Trace<SlotEntry, K>>>>>,
     pub(crate) table: CachePadded<Mutex<Table<N, Trace<TableEntry, K>>>>,
     pub(crate) core: CachePadded<Mutex<Core<N, Trace<PoolEntry, K>>>>,
     pub(crate) nodes: NodeLocks<N>,
-    pub(crate) slots: Vec<CachePadded<Mutex<Slot<N, Trace<SlotEntry, K>>>>>,
     pub(crate) spare: Mutex<Spare<N>>,
 }
 
