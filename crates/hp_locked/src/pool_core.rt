@@ -311,6 +311,7 @@ impl<N: Naming, T: Trail<PoolEntry>> Core<N, T> {
     }
 
     /// An event of the pool alone where no entries are kept: its answer. There is no receipt.
+    #[inline(always)]
     pub fn event_unnoted(&mut self, event: PoolEvent) -> PoolTold
         requires unkept { T.keeps ≡ false }
         ensures done { IsPoolEventDone self.old self.new event (pool_reply result) }
@@ -355,6 +356,7 @@ fn opened_share<N: Naming>(
 }
 
 // What the pool answers to an event.
+#[inline(always)]
 fn answered<N: Naming>(pool: &mut Pool<N>, event: PoolEvent) -> PoolTold
     requires { IsReady pool.old }
     ensures event { pool_event pool.old event ≡ (pool_reply result, pool.new) }

@@ -33,6 +33,7 @@ impl PoolTold {
     }
 
     /// For the caller.
+    #[inline(always)]
     pub fn told(self) -> Result<Told<'static>, Refusal>
         ensures { told_reply result ≡ pool_reply self }
     {

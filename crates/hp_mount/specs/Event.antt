@@ -22,6 +22,12 @@ event_of home (Store task map index offset bytes) = slot.Store task home map ind
 event_of home Ls = slot.Ls
 event_of home Usage = slot.Df
 
+-- it answers bytes, for which it is given room
+abbrev pub shows_bytes : MountEvent → Bool
+shows_bytes (Read name index offset count) = true
+shows_bytes (Load task map index offset count) = true
+shows_bytes other = false
+
 -- it answers the mount's numbers or names, or a file's numbers
 abbrev pub is_usage : SlotEvent → Bool
 is_usage slot.Df = true

@@ -13,7 +13,7 @@ ghost use Rattle.hp_store.specs.Store.{Store as StoreValue, page_at};
 ghost use Rattle.hp_subpool.specs.Subpool.{Subpool as ShareValue};
 ghost use Rattle.hp_mount.specs.Alone.{IsDoneAlone};
 ghost use Rattle.hp_mount.specs.Done.{IsDone};
-ghost use Rattle.hp_mount.specs.Event.{event_of, is_usage};
+ghost use Rattle.hp_mount.specs.Event.{event_of, is_usage, shows_bytes};
 ghost use Rattle.hp_mount.specs.Kept.{mount_of};
 ghost use Rattle.hp_mount.specs.Memory.{asks_memory};
 
@@ -105,7 +105,7 @@ impl<N: Naming> Mount<N> {
     ///
     /// Refused as the definitions say, and then nothing changes; as TraceFull where the door has no room to note a section.
     /// An access asks for no memory where its index is reserved to its map, or where it makes neither a page nor a copy.
-    /// Bytes are answered in the front of the room.
+    /// Bytes are answered in the front of the room, which has 256 where an event answers any.
     #[inline(always)]
     pub fn apply<'a, D: PoolDoor<Share = Subpool<N>, Page = Page<N>, Going = PageStore<N>>>(
         &mut self,
@@ -121,7 +121,7 @@ impl<N: Naming> Mount<N> {
         requires emptied { (s : StoreValue) → D.emptied s ≡ record s { going = [] } }
         requires ready { D.is_ready door.old }
         requires page_bytes { page_bytes ≡ N.page_bytes }
-        requires room { 256 ≤ length room.old }
+        requires room { shows_bytes event ≡ true → 256 ≤ length room.old }
         ensures done { (k : ℕ) → IsDone D.took D.is_full N.page_bytes k (Some self.old) door.old
             (event_of home event.entry) (told_reply result) (Some self.new) door.new }
         ensures left { D.is_left door.new }

@@ -2,6 +2,7 @@
 use denote.Param.Send.{IsSend, IsSync, sendable, view_send, view_sync}
 use denote.Param.SendFields.{declared_send, declared_sync}
 use denote.RattleType.{RattleType}
+use Rattle.crossbeam_utils.specs.contracts.cache_padded.CachePadded as CachePadded
 use Rattle.hp_locked.specs.contracts.nodes.NodeLocks as NodeLocks
 use Rattle.hp_locked.specs.contracts.pool_core.Core as Core
 use Rattle.hp_model.specs.declared.entry.PoolEntry.{PoolEntry}
@@ -21,6 +22,12 @@ use Rattle.hp_system.specs.contracts.table.TaskTable as TaskTable
 use Rattle.hp_trail.specs.declared.trail.Trail as trail
 use Rattle.std.proofs.Crossing as global
 use Rattle.std.proofs.Crossing.{crosses}
+
+padded_send : (T : RattleType) → IsSend T → IsSend (CachePadded.the_row T)
+padded_send T t = search (sendable, crosses) depth 30
+
+padded_sync : (T : RattleType) → IsSync T → IsSync (CachePadded.the_row T)
+padded_sync T t = search (sendable, crosses) depth 30
 
 task_table_send : IsSend TaskTable.the_row
 task_table_send = search (sendable, crosses) depth 30
@@ -50,13 +57,13 @@ module _ (N : RattleType) (names : Ghosts N.Denot) where
     (
       global.send,
       (
-        search (sendable, crosses, table_send, trace_send, table_entry_send) depth 30,
+        search (sendable, crosses, padded_send, slot_send, trace_send, slot_entry_send) depth 30,
         (
-          search (sendable, crosses, core_send, trace_send, pool_entry_send) depth 30,
+          search (sendable, crosses, padded_send, table_send, trace_send, table_entry_send) depth 30,
           (
-            nodes_send,
+            search (sendable, crosses, padded_send, core_send, trace_send, pool_entry_send) depth 30,
             (
-              search (sendable, crosses, slot_send, trace_send, slot_entry_send) depth 30,
+              nodes_send,
               (
                 search (sendable, crosses, spare_send) depth 30,
                 tt,
@@ -74,13 +81,13 @@ module _ (N : RattleType) (names : Ghosts N.Denot) where
     (
       global.sync,
       (
-        search (sendable, crosses, table_send, trace_send, table_entry_send) depth 30,
+        search (sendable, crosses, padded_sync, slot_send, trace_send, slot_entry_send) depth 30,
         (
-          search (sendable, crosses, core_send, trace_send, pool_entry_send) depth 30,
+          search (sendable, crosses, padded_sync, table_send, trace_send, table_entry_send) depth 30,
           (
-            nodes_sync,
+            search (sendable, crosses, padded_sync, core_send, trace_send, pool_entry_send) depth 30,
             (
-              search (sendable, crosses, slot_send, trace_send, slot_entry_send) depth 30,
+              nodes_sync,
               (
                 search (sendable, crosses, spare_send) depth 30,
                 tt,

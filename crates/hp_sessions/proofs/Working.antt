@@ -3,15 +3,14 @@ use Rattle.std.proofs.Common.{◌≡◌, ◌+◌, ◌<◌, ◌≤◌, ℕ, List,
 use denote.Ref.{Bor}
 use Rattle.hp_model.specs.declared.refusal.Refusal.TheVariants.{OutOfMemory, TraceFull}
 use Rattle.hp_model.specs.declared.service.Access.{Access}
-use Rattle.hp_model.specs.declared.event.Event.TheVariants.{Tasks as OnTasks}
-use Rattle.hp_model.specs.declared.event.TableEvent.TheVariants.{Find}
+use Rattle.hp_model.specs.declared.event.Event.{Event}
 use Rattle.hp_model.specs.declared.step.Intent.{Intent}
 use Rattle.hp_model.specs.declared.step.Step.{Step}
-use Rattle.hp_model.specs.declared.step.Step.TheVariants.{Attach, Fault}
+use Rattle.hp_model.specs.declared.step.Step.TheVariants.{Fault}
 use Rattle.hp_model.specs.machine.Accesses.{load_step, store_step}
 use Rattle.hp_mount.specs.declared.event.MountEvent.TheVariants as m
 use Rattle.hp_model.specs.machine.Plan.{Reply}
-use Rattle.hp_model.specs.machine.Step.{script}
+use Rattle.hp_model.specs.machine.Step.{only, script}
 use Rattle.hp_model.specs.threads.Telling.{most_receipts}
 use Rattle.hp_sessions.specs.declared.work.Work.{Work}
 use Rattle.hp_sessions.specs.declared.work.Work.TheVariants.{OfTask}
@@ -57,7 +56,7 @@ store_worked kept size s t a bytes reply done =
     step_answered kept size s t (store_step a bytes.now) (OfTask a.task a.slot (m.Store a.task a.map a.index a.offset bytes)) reply
     (record { script = λ n. refl; receipts = λ n. refl; carries = refl; apart = refl }) done
 
--- ---- a fault, and a look-up where no entries are kept
+-- ---- a fault, and an event alone where no entries are kept
 
 pub fault_worked : (kept : Bool) (size : ℕ) (s t : SessionView) (task k number index : ℕ) (intent : Intent) (reply : Reply) →
     IsWorked kept size s (OfTask task k (m.Fault task number index intent)) reply t → IsAnswered kept size s (Fault task k number index intent) reply t
@@ -65,7 +64,7 @@ fault_worked kept size s t task k number index intent reply done =
     step_answered kept size s t (Fault task k number index intent) (OfTask task k (m.Fault task number index intent)) reply
     (record { script = λ n. refl; receipts = λ n. refl; carries = refl; apart = refl }) done
 
-pub attach_answered : (kept : Bool) (size : ℕ) (s t : SessionView) (task : ℕ) (reply : Reply) → kept ≡ false → IsMade kept size s (OnTasks (Find task)) reply t →
-    IsAnswered kept size s (Attach task) reply t
-attach_answered kept size s t task reply unkept made =
-    answered kept size s t (Attach task) reply (λ is. (let none = sym is ∙ unkept in cc)) (only_made kept size s t (OnTasks (Find task)) reply made)
+pub alone_answered : (kept : Bool) (size : ℕ) (s t : SessionView) (step : Step) (e : Event) (reply : Reply) → kept ≡ false → script s.slots step ≡ only e → IsMade kept size s e reply t →
+    IsAnswered kept size s step reply t
+alone_answered kept size s t step e reply unkept is made =
+    answered kept size s t step reply (λ k. (let none = sym k ∙ unkept in cc)) (subst (λ c. Carries kept size s c reply t) (sym is) (only_made kept size s t e reply made))

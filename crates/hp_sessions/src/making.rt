@@ -7,6 +7,7 @@ ghost use Rattle.hp_locked.specs.Views.{IsFresh};
 ghost use Rattle.hp_trail.specs.Keeping.{extra_if, kept_if, left_if};
 
 use crate::shared::MOST_TASKS;
+use crossbeam_utils::CachePadded;
 use hp_model::entry::SlotEntry;
 use hp_model::naming::Naming;
 use hp_mount::Mount;
@@ -98,7 +99,7 @@ pub(crate) fn first_mount<N: Naming>(alloc: Global, pool: &mut OwnPool<N>) -> Mo
 pub(crate) fn lock_slots<N: Naming, const K: usize>(
     first: Mount<N>,
     trails: Vec<FreshTrail<K>>,
-    locks: &mut Vec<Mutex<Slot<N, Trace<SlotEntry, K>>>>,
+    locks: &mut Vec<CachePadded<Mutex<Slot<N, Trace<SlotEntry, K>>>>>,
 )
     requires first { first ≡ open_mount }
     requires some { 0 < vec_len trails }
@@ -110,9 +111,17 @@ pub(crate) fn lock_slots<N: Naming, const K: usize>(
     let Some(trail) = rest.pop() else {
         unreachable!()
     };
-    locks.push_reserved(Mutex::new(Slot::new(0, Some(first), trail.into_trail())));
+    locks.push_reserved(CachePadded::new(Mutex::new(Slot::new(
+        0,
+        Some(first),
+        trail.into_trail(),
+    ))));
     while let Some(trail) = rest.pop() {
         let number = locks.len() as u64;
-        locks.push_reserved(Mutex::new(Slot::new(number, None, trail.into_trail())));
+        locks.push_reserved(CachePadded::new(Mutex::new(Slot::new(
+            number,
+            None,
+            trail.into_trail(),
+        ))));
     }
 }

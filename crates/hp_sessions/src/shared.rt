@@ -12,6 +12,7 @@ ghost use Rattle.hp_trail.specs.Walk.{trails_of};
 use crate::making::{all_frames, first_mount, lock_slots, open_trail, open_trails};
 use crate::parting::take_slots;
 use crate::spare::Spare;
+use crossbeam_utils::CachePadded;
 use hp_locked::{Core, NodeLocks};
 use hp_model::entry::{PoolEntry, SlotEntry, TableEntry};
 use hp_model::naming::Naming;
@@ -30,15 +31,17 @@ pub(crate) const MOST_TASKS: usize = 256;
 /// The machine that threads share: the task table, the pool and each slot under a lock of its own, and the frames of each
 /// node under one. Where K is 1 each part keeps a trail of its events, where K is 0 none.
 ///
+/// What every step reads comes first, and each of the locks that steps take lies on cache lines of its own.
+///
 /// Nothing is known of a part until its lock is held. The machine can't be dropped: `into_parts` takes it apart and `close`
 /// ends it, once no session is left on it.
 pub struct Shared<N: Naming, const K: usize> {
     pub(crate) page_bytes: usize,
     pub(crate) alloc: Global,
-    pub(crate) table: Mutex<Table<N, Trace<TableEntry, K>>>,
-    pub(crate) core: Mutex<Core<N, Trace<PoolEntry, K>>>,
+    pub(crate) slots: Vec<CachePadded<Mutex<Slot<N, Trace<SlotEntry, K>>>>>,
+    pub(crate) table: CachePadded<Mutex<Table<N, Trace<TableEntry, K>>>>,
+    pub(crate) core: CachePadded<Mutex<Core<N, Trace<PoolEntry, K>>>>,
     pub(crate) nodes: NodeLocks<N>,
-    pub(crate) slots: Vec<Mutex<Slot<N, Trace<SlotEntry, K>>>>,
     pub(crate) spare: Mutex<Spare<N>>,
 }
 
@@ -118,8 +121,12 @@ impl<N: Naming, const K: usize> Shared<N, K> {
                 Ok(Shared {
                     page_bytes,
                     alloc,
-                    table: Mutex::new(Table::new(frames.len() as u64, tasks, task_trail)),
-                    core: Mutex::new(Core::new(pool, pool_trail)),
+                    table: CachePadded::new(Mutex::new(Table::new(
+                        frames.len() as u64,
+                        tasks,
+                        task_trail,
+                    ))),
+                    core: CachePadded::new(Mutex::new(Core::new(pool, pool_trail))),
                     nodes: NodeLocks::new(stocks),
                     slots: locks,
                     spare: Mutex::new(spare),
@@ -162,8 +169,8 @@ impl<N: Naming, const K: usize> Shared<N, K> {
             slots,
             spare,
         } = self;
-        let (tasks, task_trail) = table.into_inner().into_parts();
-        let (pool, pool_trail) = core.into_inner().into_parts();
+        let (tasks, task_trail) = table.into_inner().into_inner().into_parts();
+        let (pool, pool_trail) = core.into_inner().into_inner().into_parts();
         let (mut mounts, mut trails) = spare.into_inner().into_room();
         let in_order = take_slots(slots, &mut mounts, &mut trails);
         let parts = Parts {

@@ -14,7 +14,7 @@ ghost use Rattle.hp_model.specs.text.Writing.{IsWithinLimits};
 ghost use Rattle.hp_laws.specs.Answers.{lists_names};
 ghost use Rattle.hp_locked.specs.Told.{IsReceipt};
 ghost use Rattle.hp_locked.specs.Views.{IsFresh};
-ghost use Rattle.hp_mount.specs.Event.{event_of};
+ghost use Rattle.hp_mount.specs.Event.{event_of, shows_bytes};
 ghost use Rattle.hp_store.specs.Store.{Store as StoreValue, page_at};
 ghost use Rattle.hp_subpool.specs.Subpool.{Subpool as ShareValue};
 ghost use Rattle.hp_shared.specs.Slots.{AreNoted, IsSlotEvent, IsSlotEventDone, IsSlotTrail, is_trace_full, names_reply, slot_start};
@@ -149,7 +149,7 @@ impl<N: Naming, T: Trail<SlotEntry>> Slot<N, T> {
         requires emptied { (s : StoreValue) → D.emptied s ≡ record s { going = [] } }
         requires ready { D.is_ready door.old }
         requires page_bytes { page_bytes ≡ N.page_bytes }
-        requires room { 256 ≤ length room.old }
+        requires room { shows_bytes event ≡ true → 256 ≤ length room.old }
         requires apart { lists_names (event_of home event) ≡ false }
         requires noted { AreNoted self.old.entries (event_of home event) noted }
         ensures done { IsSlotEvent (D.is_full door.new) N.page_bytes self.old self.new
@@ -198,7 +198,7 @@ impl<N: Naming, T: Trail<SlotEntry>> Slot<N, T> {
         requires emptied { (s : StoreValue) → D.emptied s ≡ record s { going = [] } }
         requires ready { D.is_ready door.old }
         requires page_bytes { page_bytes ≡ N.page_bytes }
-        requires room { 256 ≤ length room.old }
+        requires room { shows_bytes event ≡ true → 256 ≤ length room.old }
         requires apart { lists_names (event_of home event) ≡ false }
         requires unkept { T.keeps ≡ false }
         ensures done { IsSlotEvent (D.is_full door.new) N.page_bytes self.old self.new

@@ -6,7 +6,7 @@ ghost use Rattle.hp_model.specs.machine.Copying.{has_names, reply_has_names};
 ghost use Rattle.hp_model.specs.machine.Told.{told_answer, told_reply};
 ghost use Rattle.hp_model.specs.text.Writing.{HasSmallAnswer, IsWithinLimits};
 ghost use Rattle.hp_laws.specs.Answers.{lists_names};
-ghost use Rattle.hp_mount.specs.Event.{event_of};
+ghost use Rattle.hp_mount.specs.Event.{event_of, shows_bytes};
 ghost use Rattle.hp_store.specs.Store.{Store as StoreValue};
 ghost use Rattle.hp_subpool.specs.Subpool.{Subpool as ShareValue};
 ghost use Rattle.hp_model.specs.declared.answer.Answer.TheVariants.{Done};
@@ -45,7 +45,7 @@ pub(crate) fn act<
     requires emptied { (s : StoreValue) → D.emptied s ≡ record s { going = [] } }
     requires ready { D.is_ready door.old }
     requires page_bytes { page_bytes ≡ N.page_bytes }
-    requires room { 256 ≤ length room.old }
+    requires room { shows_bytes event ≡ true → 256 ≤ length room.old }
     ensures done { (k : ℕ) → IsActedOr (D.is_full door.new) N.page_bytes k mount.old
         (event_of home event.entry)
         (told_reply result) (D.asked door.new) mount.new }

@@ -8,7 +8,7 @@ ghost use Rattle.hp_model.specs.declared.event.SlotEvent.TheVariants.{ExitMaps, 
 ghost use Rattle.hp_model.specs.declared.refusal.Refusal.TheVariants.{TraceFull};
 ghost use Rattle.hp_model.specs.machine.Told.{told_reply};
 ghost use Rattle.hp_model.specs.text.Writing.{IsWithinLimits};
-ghost use Rattle.hp_mount.specs.Event.{event_of};
+ghost use Rattle.hp_mount.specs.Event.{event_of, shows_bytes};
 ghost use Rattle.hp_shared.specs.Slots.{names_reply};
 ghost use Rattle.hp_shared.specs.Tables.{table_reply};
 ghost use Rattle.hp_sessions.specs.Calls.{IsHanded};
@@ -26,7 +26,16 @@ use hp_model::told::Told;
 use hp_mount::MountEvent;
 use hp_shared::{Slot, Table, TableTold};
 use hp_trail::trace::Trace;
-use std::sync::Wait;
+use std::sync::{Mutex, MutexGuard, Wait};
+
+// Takes a lock. Where it is free no call is made.
+#[inline(always)]
+fn hold<'b, T, R: Wait>(lock: &'b Mutex<T>, rt: &R) -> MutexGuard<'b, T> {
+    match lock.try_lock() {
+        Some(guard) => guard,
+        None => lock.lock(rt),
+    }
+}
 
 // At each place stands the slot of that number. If there stood another, no event would be made: where entries are kept that
 // is told as TraceFull.
@@ -42,7 +51,7 @@ impl<'a, N: Naming, R: Wait, G: Gate, const K: usize> Session<'a, N, R, G, K> {
         ensures { IsHanded (K == 1) N.page_bytes (OnTasks event) (table_reply result.0) result.1 }
     {
         let shared = self.shared;
-        let mut value = shared.table.lock(self.rt);
+        let mut value = hold(&shared.table, self.rt);
         let table: &mut Table<N, Trace<TableEntry, K>> = &mut value;
         match table.event(event) {
             Err(_full) => (TableTold::Refused(Refusal::TraceFull), None),
@@ -57,7 +66,7 @@ impl<'a, N: Naming, R: Wait, G: Gate, const K: usize> Session<'a, N, R, G, K> {
         ensures { IsHanded (K == 1) N.page_bytes (OnTasks event) (table_reply result) None }
     {
         let shared = self.shared;
-        let mut value = shared.table.lock(self.rt);
+        let mut value = hold(&shared.table, self.rt);
         let table: &mut Table<N, Trace<TableEntry, K>> = &mut value;
         table.event_unnoted(event)
     }
@@ -72,7 +81,7 @@ impl<'a, N: Naming, R: Wait, G: Gate, const K: usize> Session<'a, N, R, G, K> {
         ensures limits { IsWithinLimits (told_reply result.0) }
     {
         let shared = self.shared;
-        let mut value = shared.core.lock(self.rt);
+        let mut value = hold(&shared.core, self.rt);
         let core: &mut Core<N, Trace<PoolEntry, K>> = &mut value;
         match core.event(event) {
             Err(_full) => (Err(Refusal::TraceFull), None),
@@ -81,13 +90,14 @@ impl<'a, N: Naming, R: Wait, G: Gate, const K: usize> Session<'a, N, R, G, K> {
     }
 
     // An event of the pool alone where no entries are kept.
+    #[inline(always)]
     pub(super) fn enter_pool_unnoted(&self, event: PoolEvent) -> Result<Told<'static>, Refusal>
         requires unkept { (K == 1) ≡ false }
         ensures handed { IsHanded (K == 1) N.page_bytes (OnPool event) (told_reply result) None }
         ensures limits { IsWithinLimits (told_reply result) }
     {
         let shared = self.shared;
-        let told = shared.core.lock(self.rt).event_unnoted(event);
+        let told = hold(&shared.core, self.rt).event_unnoted(event);
         told.told()
     }
 
@@ -101,7 +111,7 @@ impl<'a, N: Naming, R: Wait, G: Gate, const K: usize> Session<'a, N, R, G, K> {
         room: &'b mut [u8],
     ) -> (Result<Told<'b>, Refusal>, Option<Receipt>)
         requires within { at < self.now.slots }
-        requires room { 256 ≤ length room.old }
+        requires room { shows_bytes event ≡ true → 256 ≤ length room.old }
         requires apart { lists_names (event_of home event) ≡ false }
         requires copies { (K == 1) ≡ true → AreCopies (bytes_of (event_of 0 event)) copies }
         ensures handed { IsHanded (K == 1) N.page_bytes (OnSlot at (event_of home event.entry))
@@ -109,7 +119,7 @@ impl<'a, N: Naming, R: Wait, G: Gate, const K: usize> Session<'a, N, R, G, K> {
         ensures limits { IsWithinLimits (told_reply result.0) }
     {
         let shared = self.shared;
-        let mut value = shared.slots[at].lock(self.rt);
+        let mut value = hold(&shared.slots[at], self.rt);
         self.gate.enter(at as u64);
         let slot: &mut Slot<N, Trace<SlotEntry, K>> = &mut value;
         if slot.number() != at as u64 {
@@ -135,14 +145,14 @@ impl<'a, N: Naming, R: Wait, G: Gate, const K: usize> Session<'a, N, R, G, K> {
     ) -> Result<Told<'b>, Refusal>
         requires unkept { (K == 1) ≡ false }
         requires within { at < self.now.slots }
-        requires room { 256 ≤ length room.old }
+        requires room { shows_bytes event ≡ true → 256 ≤ length room.old }
         requires apart { lists_names (event_of home event) ≡ false }
         ensures handed { IsHanded (K == 1) N.page_bytes (OnSlot at (event_of home event.entry))
             (told_reply result) None }
         ensures limits { IsWithinLimits (told_reply result) }
     {
         let shared = self.shared;
-        let mut value = shared.slots[at].lock(self.rt);
+        let mut value = hold(&shared.slots[at], self.rt);
         self.gate.enter(at as u64);
         let slot: &mut Slot<N, Trace<SlotEntry, K>> = &mut value;
         if slot.number() != at as u64 {
@@ -166,7 +176,7 @@ impl<'a, N: Naming, R: Wait, G: Gate, const K: usize> Session<'a, N, R, G, K> {
         ensures limits { IsWithinLimits (told_reply result.0) }
     {
         let shared = self.shared;
-        let mut value = shared.slots[at].lock(self.rt);
+        let mut value = hold(&shared.slots[at], self.rt);
         self.gate.enter(at as u64);
         let slot: &mut Slot<N, Trace<SlotEntry, K>> = &mut value;
         if slot.number() != at as u64 {
@@ -221,7 +231,7 @@ impl<'a, N: Naming, R: Wait, G: Gate, const K: usize> Session<'a, N, R, G, K> {
         ensures limits { IsWithinLimits (told_reply result.0) }
     {
         let shared = self.shared;
-        let mut value = shared.slots[at].lock(self.rt);
+        let mut value = hold(&shared.slots[at], self.rt);
         self.gate.enter(at as u64);
         let slot: &mut Slot<N, Trace<SlotEntry, K>> = &mut value;
         if slot.number() != at as u64 {
@@ -239,7 +249,7 @@ impl<'a, N: Naming, R: Wait, G: Gate, const K: usize> Session<'a, N, R, G, K> {
         ensures limits { IsWithinLimits (names_reply result.0) }
     {
         let shared = self.shared;
-        let mut value = shared.slots[at].lock(self.rt);
+        let mut value = hold(&shared.slots[at], self.rt);
         self.gate.enter(at as u64);
         let slot: &mut Slot<N, Trace<SlotEntry, K>> = &mut value;
         if slot.number() != at as u64 {
@@ -261,7 +271,7 @@ impl<'a, N: Naming, R: Wait, G: Gate, const K: usize> Session<'a, N, R, G, K> {
             (OnSlot at (ForkMaps parent child)) (told_reply r.0) r.1) }
     {
         let shared = self.shared;
-        let mut value = shared.slots[at].lock(self.rt);
+        let mut value = hold(&shared.slots[at], self.rt);
         self.gate.enter(at as u64);
         let slot: &mut Slot<N, Trace<SlotEntry, K>> = &mut value;
         if slot.number() != at as u64 || !slot.has_maps(parent) {
@@ -278,7 +288,7 @@ impl<'a, N: Naming, R: Wait, G: Gate, const K: usize> Session<'a, N, R, G, K> {
             (Ok Done) result.1) (result.1 ≡ None) }
     {
         let shared = self.shared;
-        let mut value = shared.slots[at].lock(self.rt);
+        let mut value = hold(&shared.slots[at], self.rt);
         self.gate.enter(at as u64);
         let slot: &mut Slot<N, Trace<SlotEntry, K>> = &mut value;
         if slot.number() != at as u64 || !slot.has_maps(task) {

@@ -7,7 +7,7 @@ ghost use Rattle.hp_model.specs.declared.event.SlotEvent.TheVariants.{ForkMaps, 
 ghost use Rattle.hp_model.specs.machine.Step.{Script, exit_slot, finding, on_slot};
 ghost use Rattle.hp_model.specs.machine.Told.{told_answer, told_reply};
 ghost use Rattle.hp_model.specs.text.Writing.{IsWithinLimits};
-ghost use Rattle.hp_mount.specs.Event.{event_of};
+ghost use Rattle.hp_mount.specs.Event.{event_of, shows_bytes};
 ghost use Rattle.hp_shared.specs.Tables.{table_reply};
 ghost use Rattle.hp_sessions.specs.Calls.{Carries, Grows, HasRoom, IsMade, Leads};
 ghost use Rattle.hp_sessions.specs.Forks.{IsForked};
@@ -41,6 +41,7 @@ impl<'a, N: Naming, R: Wait, G: Gate, const K: usize> Session<'a, N, R, G, K> {
     }
 
     // An event of the pool alone.
+    #[inline(always)]
     pub(super) fn make_pool(&mut self, event: PoolEvent) -> Result<Told<'static>, Refusal>
         requires { HasRoom (K == 1) 1 self.old }
         ensures made { IsMade (K == 1) N.page_bytes self.old (OnPool event) (told_reply result)
@@ -100,7 +101,7 @@ impl<'a, N: Naming, R: Wait, G: Gate, const K: usize> Session<'a, N, R, G, K> {
         room: &'b mut [u8],
     ) -> Result<Told<'b>, Refusal>
         requires places { HasRoom (K == 1) 1 self.old }
-        requires room { 256 ≤ length room.old }
+        requires room { shows_bytes event ≡ true → 256 ≤ length room.old }
         requires apart { lists_names (event_of home event) ≡ false }
         requires copies { (K == 1) ≡ true → AreCopies (bytes_of (event_of 0 event)) copies }
         ensures carried { Carries (K == 1) N.page_bytes self.old
@@ -129,7 +130,7 @@ impl<'a, N: Naming, R: Wait, G: Gate, const K: usize> Session<'a, N, R, G, K> {
         room: &'b mut [u8],
     ) -> Result<Told<'b>, Refusal>
         requires unkept { (K == 1) ≡ false }
-        requires room { 256 ≤ length room.old }
+        requires room { shows_bytes event ≡ true → 256 ≤ length room.old }
         requires apart { lists_names (event_of home event) ≡ false }
         ensures carried { Carries (K == 1) N.page_bytes self.old
             (on_slot self.old.slots slot (event_of home event.entry))

@@ -7,7 +7,7 @@ ghost use Rattle.hp_model.specs.machine.Accesses.{bytes_reply, done_reply, load_
 ghost use Rattle.hp_model.specs.machine.Copying.{has_bytes};
 ghost use Rattle.hp_model.specs.machine.Told.{told_answer, told_reply};
 ghost use Rattle.hp_model.specs.text.Writing.{IsWithinLimits};
-ghost use Rattle.hp_mount.specs.Event.{event_of};
+ghost use Rattle.hp_mount.specs.Event.{event_of, shows_bytes};
 ghost use Rattle.hp_shared.specs.Tables.{table_reply};
 ghost use Rattle.hp_sessions.specs.declared.work.Work.TheVariants.{OfTask as OfATask, OnSlot as OnASlot};
 ghost use Rattle.hp_sessions.specs.Calls.{HasRoom, IsAnswered};
@@ -18,7 +18,7 @@ use super::notes::{Copies, copies, twice};
 use crate::work::{Work, most_receipts, work_of};
 use hp_locked::Gate;
 use hp_model::answer::Reply;
-use hp_model::event::TableEvent;
+use hp_model::event::{PoolEvent, TableEvent};
 use hp_model::naming::Naming;
 use hp_model::refusal::Refusal;
 use hp_model::service::Access;
@@ -55,6 +55,16 @@ impl<'a, N: Naming, R: Wait, G: Gate, const K: usize> Session<'a, N, R, G, K> {
             && K != 1
         {
             return table_told(self.make_table(TableEvent::Find { task: *task }));
+        }
+        if let Step::Meminfo = step
+            && K != 1
+        {
+            return self.make_pool(PoolEvent::Meminfo);
+        }
+        if let Step::Nodes = step
+            && K != 1
+        {
+            return self.make_pool(PoolEvent::Nodes);
         }
         if let Step::Fault {
             task,
@@ -111,8 +121,7 @@ impl<'a, N: Naming, R: Wait, G: Gate, const K: usize> Session<'a, N, R, G, K> {
             offset: access.offset,
             bytes,
         };
-        let mut room = [0u8; 256];
-        let told = self.of_task(access.task, access.slot, event, &mut room);
+        let told = self.of_task(access.task, access.slot, event, &mut []);
         into_done(told)
     }
 
@@ -168,7 +177,7 @@ impl<'a, N: Naming, R: Wait, G: Gate, const K: usize> Session<'a, N, R, G, K> {
         event: MountEvent<'_>,
         room: &'b mut [u8],
     ) -> Result<Told<'b>, Refusal>
-        requires room { 256 ≤ length room.old }
+        requires room { shows_bytes event ≡ true → 256 ≤ length room.old }
         requires apart { lists_names (event_of 0 event) ≡ false }
         ensures worked { IsWorked (K == 1) N.page_bytes self.old (OfATask task slot event.entry)
             (told_reply result) self.new }
@@ -200,7 +209,7 @@ impl<'a, N: Naming, R: Wait, G: Gate, const K: usize> Session<'a, N, R, G, K> {
         room: &'b mut [u8],
     ) -> Result<Told<'b>, Refusal>
         requires unkept { (K == 1) ≡ false }
-        requires room { 256 ≤ length room.old }
+        requires room { shows_bytes event ≡ true → 256 ≤ length room.old }
         requires apart { lists_names (event_of 0 event) ≡ false }
         ensures worked { IsWorked (K == 1) N.page_bytes self.old (OnASlot slot event.entry)
             (told_reply result) self.new }
@@ -219,7 +228,7 @@ impl<'a, N: Naming, R: Wait, G: Gate, const K: usize> Session<'a, N, R, G, K> {
         room: &'b mut [u8],
     ) -> Result<Told<'b>, Refusal>
         requires unkept { (K == 1) ≡ false }
-        requires room { 256 ≤ length room.old }
+        requires room { shows_bytes event ≡ true → 256 ≤ length room.old }
         requires apart { lists_names (event_of 0 event) ≡ false }
         ensures worked { IsWorked (K == 1) N.page_bytes self.old (OfATask task slot event.entry)
             (told_reply result) self.new }

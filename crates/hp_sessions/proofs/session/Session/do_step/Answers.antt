@@ -1,12 +1,14 @@
-use Rattle.std.proofs.Common.{◌==◌, sym, subst}
+use Rattle.std.proofs.Common.{◌==◌, refl, sym, subst}
 use Rattle.std.proofs.lemmas.Bool.{ne_eqb}
+use Rattle.hp_model.specs.declared.event.Event.TheVariants.{Tasks as OnTasks}
+use Rattle.hp_model.specs.declared.event.TableEvent.TheVariants.{Find}
 use Rattle.hp_model.specs.declared.step.Step.{Step}
 use Rattle.hp_model.specs.declared.step.Step.TheVariants.{Attach, Fault}
 use Rattle.hp_model.specs.machine.Plan.{Reply}
 use Rattle.hp_model.specs.machine.Told.{told_reply}
 use Rattle.hp_sessions.specs.Calls.{IsAnswered}
 use Rattle.hp_shared.specs.Tables.{table_reply}
-use Rattle.hp_sessions.proofs.Working.{attach_answered, fault_worked}
+use Rattle.hp_sessions.proofs.Working.{alone_answered, fault_worked}
 use Rattle.hp_sessions.proofs.session.Session.do_step.Goals as goal
 
 pub returns-clause-answered : goal.returns-clause-answered
@@ -16,7 +18,8 @@ returns-clause-answered g c =
     let t = c.make_table.new.self in
     subst (λ (x : Step). IsAnswered (g.row.K == 1) size s x (told_reply c.table_told.result) t) (sym c.in-Attach.is)
     (subst (λ (r : Reply). IsAnswered (g.row.K == 1) size s (Attach c.in-Attach.task) r t) (sym c.table_told.ensures.reply)
-    (attach_answered (g.row.K == 1) size s t c.in-Attach.task (table_reply c.make_table.result) (ne_eqb g.row.K 1 c.if-this-ne1.true) c.make_table.ensures.made))
+    (alone_answered (g.row.K == 1) size s t (Attach c.in-Attach.task) (OnTasks (Find c.in-Attach.task)) (table_reply c.make_table.result)
+    (ne_eqb g.row.K 1 c.if-this-ne1.true) refl c.make_table.ensures.made))
 
 pub returns-in-Fault-clause-answered : goal.returns-in-Fault-clause-answered
 returns-in-Fault-clause-answered g c =
