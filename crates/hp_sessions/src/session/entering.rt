@@ -205,7 +205,7 @@ impl<'a, N: Naming, R: Wait, G: Gate, const K: usize> Session<'a, N, R, G, K> {
         ensures limits { IsWithinLimits (told_reply result.0) }
     {
         let shared = self.shared;
-        let mut value = shared.slots[at].lock(self.rt);
+        let mut value = hold(&shared.slots[at], self.rt);
         self.gate.enter(at as u64);
         let slot: &mut Slot<N, Trace<SlotEntry, K>> = &mut value;
         if slot.number() != at as u64 {
