@@ -93,7 +93,7 @@ impl<N: Naming> System<N> {
         let Some(mount) = &mut self.slots[at] else {
             return Err(Refusal::NoSuchSlot);
         };
-        if at == 0 {
+        if slot == 0 {
             return Err(Refusal::SlotTaken);
         }
         mount.remount(&mut self.pool, page_bytes, options.as_slice())

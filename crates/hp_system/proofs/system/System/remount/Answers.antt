@@ -46,7 +46,7 @@ returns-clause-ready g c =
     let reply = done_reply c.remount.result in
     let within : c.args.slot < length s.slots.items = omega (arith, c.if-at-len.false, c.len.ensures) in
     let here = read_slot s.slots.items c.args.slot c.index_mut.result.now old within c.index_mut.ensures.value c.in-Some.is in
-    let other : (c.args.slot == 0) ≡ false = grind (arith, nat_tests, c.if-at-eq0.false) in
+    let other : (c.args.slot == 0) ≡ false = grind (arith, nat_tests, c.if-slot-eq0.false) in
     let done = never_full (λ (x : Choice). slot_event s.page_bytes c.args.slot x old e) old new s.pool c.remount.new.door reply (c.remount.ensures.done c.args.slot other) in
     ready_by (kept_after s.page_bytes g.N.Naming.page_bytes s.table s.slots.items c.args.slot old new s.pool c.remount.new.door e reply
     (kept_by c.args.self.now c.self.invariant c.self.view_is c.requires.ready) within here refl done)
