@@ -39,11 +39,13 @@ pub(crate) fn remount<
     ensures limits { IsWithinLimits (told_reply result) }
     ensures plain { reply_has_names (told_reply result) ≡ false }
 {
-    let Some(open) = mount else {
-        return Err(Refusal::NoSuchSlot);
-    };
-    if number == 0 {
-        return Err(Refusal::SlotTaken);
+    match mount {
+        None => Err(Refusal::NoSuchSlot),
+        Some(open) => {
+            if number == 0 {
+                return Err(Refusal::SlotTaken);
+            }
+            Told::done(open.remount(door, page_bytes, options))
+        }
     }
-    Told::done(open.remount(door, page_bytes, options))
 }
