@@ -1,5 +1,5 @@
 -- Other limits for a mount, by what its door did.
-use Rattle.std.proofs.Common.{◌≡◌, ◌≢◌, ℕ, ◌-◌, ◌==◌, Bool, true, false, cond, Option, None, Some, Result as ResultOf, Ok, Err, List, refl, sym, ap, subst, ◌∙◌, arith}
+use Rattle.std.proofs.Common.{◌≡◌, ℕ, ◌-◌, ◌==◌, Bool, true, false, Option, None, Some, Result as ResultOf, Ok, Err, List, refl, sym, ap, subst, ◌∙◌, arith}
 use Rattle.std.specs.Prelude.{if◌then◌else◌, max, nat_lt}
 use Rattle.hp_model.specs.declared.answer.Answer.TheVariants.{Done}
 use Rattle.hp_model.specs.declared.event.SlotEvent.TheVariants.{Remount}
@@ -14,12 +14,12 @@ use Rattle.hp_model.specs.files.Options.{Wanted, checked, is_below_min, limits, 
 use Rattle.hp_model.specs.machine.Plan.{Answered, Ask, Plan, Refused, Reply, Slot, refuse}
 use Rattle.hp_model.specs.machine.SlotEvent.{remount, remount_outcome, remount_section}
 use Rattle.hp_model.specs.threads.LocalRun.{Gives, ThroughDoor}
-use Rattle.hp_mount_door.specs.Limits.{IsLimitedAt, IsLimitedBy, minimum_section, read_nr}
+use Rattle.hp_mount_door.specs.Limits.{IsLimitedAt, IsLimitedBy, minimum_section}
 use Rattle.hp_mount_files.specs.Files.{Files}
-use Rattle.hp_mount.specs.Done.{Enters, IsDone, MayEnter}
+use Rattle.hp_mount.specs.Done.{Enters, IsDone}
 use Rattle.hp_mount.specs.Kept.{IsKept, mount_of}
 use Rattle.hp_mount.proofs.Ways.{fresh_choice, is_fresh}
-use Rattle.hp_subpool.specs.Subpool.{Subpool, used, with_limits}
+use Rattle.hp_subpool.specs.Subpool.{Subpool, with_limits}
 
 -- ---- what options are refused
 

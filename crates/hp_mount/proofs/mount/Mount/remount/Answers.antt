@@ -1,4 +1,4 @@
-use Rattle.std.proofs.Common.{Err, Ok, Some, sym, subst}
+use Rattle.std.proofs.Common.{Err, Ok, Some, subst}
 use Rattle.std.proofs.lemmas.Result.{err_from_is_err_and}
 use Rattle.hp_model.specs.declared.answer.Answer.TheVariants.{Done}
 use Rattle.hp_model.specs.declared.event.SlotEvent.TheVariants.{Remount}
