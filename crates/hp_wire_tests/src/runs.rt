@@ -1,9 +1,11 @@
 //! Runs on a small service.
+ghost use Rattle.std.specs.Prelude.{◌≢◌, IfErr};
 
 use crate::ends::{Client, Counter, Nowhere, Reader, Writer};
 use crate::same::same;
 use crate::sample::Sample;
 use hp_wire::fault::RunFault;
+use hp_wire::fixed_buffer::FixedBuffer;
 use hp_wire::running::run_lines;
 use std::alloc::Global;
 use std::cell::Cell;
@@ -136,6 +138,47 @@ fn runs_over_a_sure_writer(rt: HostRuntime) -> Result<(), Fail> {
     let mut sample = Sample { calls: 0 };
     let count = run_lines(rt.alloc(), &mut rest, &mut Nowhere, &mut sample)?;
     same!(rt; count, 11);
+    Ok(())
+}
+
+// The script is in memory, and its replies go into a caller's buffer: neither can fail.
+fn answer_into(alloc: Global, replies: &mut FixedBuffer<'_>) -> Result<u64, RunFault>
+    ensures reader { IfErr result (λ e. e ≢ RunFault.Read) }
+    ensures writer { IfErr result (λ e. e ≢ RunFault.Write) }
+{
+    let mut rest = SCRIPT;
+    let mut sample = Sample { calls: 0 };
+    run_lines(alloc, &mut rest, replies, &mut sample)
+}
+
+#[test]
+fn fills_a_callers_buffer_with_the_replies(rt: HostRuntime) -> Result<(), Fail> {
+    for room in [256usize, 257, 300] {
+        let mut space = [b'.'; 300];
+        let mut replies = FixedBuffer::new(&mut space[..room]);
+        same!(rt; answer_into(rt.alloc(), &mut replies)?, 11);
+        same!(rt; replies.count(), 256, "of {room}");
+        same!(rt; replies.whole(), Some(REPLIES), "of {room}");
+        same!(rt; replies.front(), REPLIES, "of {room}");
+        same!(rt; &space[..256], REPLIES, "of {room}");
+        same!(rt; &space[256..], &[b'.'; 44], "of {room}");
+    }
+    Ok(())
+}
+
+#[test]
+fn a_buffer_that_is_too_small_gets_the_front(rt: HostRuntime) -> Result<(), Fail> {
+    for room in [0usize, 1, 4, 5, 255] {
+        let mut space = [b'.'; 300];
+        let mut replies = FixedBuffer::new(&mut space[..room]);
+        same!(rt; answer_into(rt.alloc(), &mut replies)?, 11);
+        same!(rt; replies.count(), 256, "of {room}");
+        same!(rt; replies.whole(), None, "of {room}");
+        same!(rt; replies.front().len(), room);
+        same!(rt; REPLIES.starts_with(replies.front()), true, "of {room}");
+        same!(rt; REPLIES.starts_with(&space[..room]), true, "of {room}");
+        same!(rt; space[room..].iter().all(|byte| *byte == b'.'), true, "of {room}");
+    }
     Ok(())
 }
 
