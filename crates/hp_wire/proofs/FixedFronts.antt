@@ -1,68 +1,65 @@
--- What a buffer of fixed room holds after a write: the front of all that was written.
-use Rattle.std.proofs.Common.{◌≡◌, ◌⊎◌, ⊎_elim, inl, inr, ℕ, ◌+◌, ◌-◌, ◌<◌, ◌≤◌, min, List, ◌++◌, length, take, drop, refl, sym, ap, ◌∙◌, arith, length-append}
+-- What a buffer of fixed room holds after a write: the front of all that was written, and behind it what it held at first.
+use Rattle.std.proofs.Common.{◌≡◌, ⊎_elim, ℕ, ◌+◌, ◌-◌, ◌<◌, ◌≤◌, min, List, ◌++◌, length, take, drop, sym, ap, ◌∙◌, arith, length-append}
 use Rattle.std.proofs.lemmas.Bool.{cases_lt}
-use Rattle.std.proofs.lemmas.List.{append-nil, length-drop, length-take-le, take-append-le, take-take, take_all}
-use Rattle.std.proofs.Math.Seq.{take-append-add}
-use Rattle.std.proofs.lemmas.Slice.{take-put_mid}
-use borrow.Rule.Slice.PartMut.{put_mid, same_len_mid}
+use Rattle.std.proofs.lemmas.List.{append-nil, append_assoc, drop-drop, drop_all, length-drop, length-take, take-append-le, take_all}
+use Rattle.std.proofs.Math.Seq.{drop-append_seam, take-append-add, take-append_seam}
+use Rattle.hp_wire.specs.Filled.{filled}
+use borrow.Rule.Slice.PartMut.{put_mid}
 
--- the bytes that fit, from the end of the front on
-module _ (old before bytes part : List ℕ) (at k : ℕ) (ends : at ≡ min (length before) (length old)) (fit : k ≡ min (length bytes) (length old - at))
-    (copied : part ≡ take k bytes) (front : take (length old) before ≡ take (length before) old) where
-  abbrev new : List ℕ
-  new = put_mid at k old part
+module _ (start written : List ℕ) where
+  abbrev front : List ℕ
+  front = take (length start) written
 
-  few : length part ≡ k
-  few = ap length copied ∙ length-take-le k bytes (omega (arith, fit))
+  front_ends : length front ≡ min (length start) (length written)
+  front_ends = length-take (length start) written
 
-  pub same_room : length new ≡ length old
-  same_room = same_len_mid at k old part (few ∙ sym (length-take-le k (drop at old) (omega (arith, fit, length-drop at old))))
+  pub same_room : length (filled start written) ≡ length start
+  same_room = omega (arith, length-append front (drop (length written) start), front_ends, length-drop (length written) start)
 
-  -- up to the end of the bytes that fit
-  filled : take (at + k) new ≡ take at old ++ take k bytes
-  filled = take-put_mid at k old part (at + k) (omega (arith, few)) (omega (arith, ends)) ∙ ap (λ ys. take at old ++ ys) copied
+  -- the bytes that fit, from the end of the front on
+  module _ (bytes part : List ℕ) (at k : ℕ) (ends : at ≡ min (length written) (length start)) (fit : k ≡ min (length bytes) (length start - at)) (copied : part ≡ take k bytes) where
+    here : at ≡ length front
+    here = omega (arith, front_ends, ends)
 
-  same_front : take at old ≡ take at before
-  same_front =
-      sym (take-take at (length before) old (omega (arith, ends))) ∙ ap (take at) (sym front) ∙ take-take at (length old) before (omega (arith, ends))
+    split : put_mid at k (filled start written) part ≡ front ++ (take k bytes ++ drop k (drop (length written) start))
+    split =
+        ap (λ n. take n (filled start written) ++ (part ++ drop k (drop n (filled start written)))) here
+        ∙ ap (λ xs. xs ++ (part ++ drop k (drop (length front) (filled start written)))) (take-append_seam front (drop (length written) start))
+        ∙ ap (λ xs. front ++ (part ++ drop k xs)) seam ∙ ap (λ xs. front ++ (xs ++ drop k (drop (length written) start))) copied
+      where
+        seam : drop (length front) (filled start written) ≡ drop (length written) start
+        seam = drop-append_seam front (drop (length written) start)
 
-  full : length old ≤ length before → take (length old) (before ++ bytes) ≡ take (length (before ++ bytes)) new
-  full past =
-      take-append-le (length old) before bytes past ∙ ap (λ n. take n before) {x = length old} {y = at} (omega (arith, ends, past)) ∙ sym same_front
-      ∙ sym nothing ∙ sym (filled) ∙ all ∙ sym (take_all (length (before ++ bytes)) new (omega (arith, same_room, length-append before bytes, past)))
-    where
-      nothing : take at old ++ take k bytes ≡ take at old
-      nothing = ap (λ n. take at old ++ take n bytes) {x = k} {y = 0} (omega (arith, fit, ends, past)) ∙ append-nil (take at old)
+    rest : drop k (drop (length written) start) ≡ drop (length (written ++ bytes)) start
+    rest =
+        drop-drop k (length written) start
+        ∙ ⊎_elim
+        (λ some. drop_all (length written + k) start (omega (arith, ends, fit, some))
+        ∙ sym (drop_all (length (written ++ bytes)) start (omega (arith, ends, length-append written bytes, some))))
+        (λ all. ap (λ n. drop n start) {x = length written + k} {y = length (written ++ bytes)} (omega (arith, length-append written bytes, fit, all)))
+        (cases_lt (length start - at) (length bytes))
 
-      all : take (at + k) new ≡ new
-      all = take_all (at + k) new (omega (arith, same_room, ends, fit, past))
+    grown : front ++ take k bytes ≡ take (length start) (written ++ bytes)
+    grown = ⊎_elim with_room full (cases_lt (length written) (length start))
+      where
+        with_room : length written < length start → front ++ take k bytes ≡ take (length start) (written ++ bytes)
+        with_room room =
+            ap (λ xs. xs ++ take k bytes) (take_all (length start) written (omega (arith, room))) ∙ ap (λ xs. written ++ xs) part_is
+            ∙ sym (take-append-add written bytes (length start - length written))
+            ∙ ap (λ n. take n (written ++ bytes)) {x = length written + (length start - length written)} {y = length start} (omega (arith, room))
+          where
+            part_is : take k bytes ≡ take (length start - length written) bytes
+            part_is =
+                ⊎_elim
+                (λ some. ap (λ n. take n bytes) {x = k} {y = length start - length written} (omega (arith, ends, fit, some, room)))
+                (λ all. take_all k bytes (omega (arith, fit, all)) ∙ sym (take_all (length start - length written) bytes (omega (arith, ends, all, room))))
+                (cases_lt (length start - at) (length bytes))
 
-  pub front_grows : take (length new) (before ++ bytes) ≡ take (length (before ++ bytes)) new
-  front_grows = ap (λ n. take n (before ++ bytes)) same_room ∙ ⊎_elim (λ room. with_room room) full (cases_lt (length before) (length old))
-    where
-      with_room : length before < length old → take (length old) (before ++ bytes) ≡ take (length (before ++ bytes)) new
-      with_room room =
-          by_rest ∙ ap (λ xs. xs ++ take (length old - length before) bytes) whole ∙ fits (cases_lt (length old - at) (length bytes))
-        where
-          -- all that was written before stands there
-          whole : before ≡ take at old
-          whole = sym (take_all at before (omega (arith, ends, room))) ∙ sym same_front
+        full : length start ≤ length written → front ++ take k bytes ≡ take (length start) (written ++ bytes)
+        full past =
+            ap (λ n. front ++ take n bytes) {x = k} {y = 0} (omega (arith, fit, ends, past)) ∙ append-nil front ∙ sym (take-append-le (length start) written bytes past)
 
-          by_rest : take (length old) (before ++ bytes) ≡ before ++ take (length old - length before) bytes
-          by_rest =
-              ap (λ n. take n (before ++ bytes)) {x = length old} {y = length before + (length old - length before)} (omega (arith, room))
-              ∙ take-append-add before bytes (length old - length before)
-
-          rest : length old - length before ≡ length old - at
-          rest = omega (arith, ends, room)
-
-          fits : (length old - at < length bytes) ⊎ (length bytes ≤ length old - at)
-              → take at old ++ take (length old - length before) bytes ≡ take (length (before ++ bytes)) new
-          fits (inl more) =
-              ap (λ n. take at old ++ take n bytes) {x = length old - length before} {y = k} (omega (arith, rest, fit, more)) ∙ sym filled
-              ∙ take_all (at + k) new (omega (arith, same_room, fit, more, ends, room))
-              ∙ sym (take_all (length (before ++ bytes)) new (omega (arith, same_room, length-append before bytes, more, ends, room)))
-          fits (inr all) =
-              ap (λ xs. take at old ++ xs)
-              (take_all (length old - length before) bytes (omega (arith, rest, all)) ∙ sym (take_all k bytes (omega (arith, fit, all))))
-              ∙ sym filled ∙ ap (λ n. take n new) {x = at + k} {y = length (before ++ bytes)} (omega (arith, length-append before bytes, fit, all, ends, room))
+    pub still_filled : put_mid at k (filled start written) part ≡ filled start (written ++ bytes)
+    still_filled =
+        split ∙ sym (append_assoc front (take k bytes) (drop k (drop (length written) start)))
+        ∙ ap (λ xs. xs ++ drop k (drop (length written) start)) grown ∙ ap (λ xs. take (length start) (written ++ bytes) ++ xs) rest

@@ -1,5 +1,6 @@
 //! A writer into a caller's buffer, of which no write fails.
-ghost use Rattle.std.specs.Prelude.{◌≡◌, ◌-◌, ◌^◌, ◌<◌, min, [], ◌++◌, length, take, drop, IfSome, Some};
+ghost use Rattle.std.specs.Prelude.{◌≡◌, ◌-◌, ◌^◌, ◌<◌, min, [], ◌++◌, length, take, IfSome, Some};
+ghost use Rattle.hp_wire.specs.Filled.{filled};
 
 use crate::ends::Sink;
 use crate::written::Written;
@@ -11,9 +12,9 @@ use std::io::Write;
 pub struct FixedBuffer<'a> {
     buffer: &'a mut [u8],
     count: u64,
+    start: Written,
     written: Written,
-    ghost front: { take (length buffer.now) written.bytes
-        ≡ take (length written.bytes) buffer.now },
+    ghost holds: { buffer.now ≡ filled start.bytes written.bytes },
     ghost counted: { count ≡ min (length written.bytes) (2 ^ 64 - 1) },
 }
 
@@ -21,12 +22,14 @@ impl<'a> FixedBuffer<'a> {
     /// Nothing is written yet.
     pub fn new(buffer: &'a mut [u8]) -> FixedBuffer<'a>
         ensures none { result.written.bytes ≡ [] }
-        ensures same { result.buffer.now ≡ buffer.old }
+        ensures start { result.start.bytes ≡ buffer.old }
         ensures same_reference { result.buffer.ghost_name ≡ buffer.entry.ghost_name }
     {
+        let start = Written::with(&Written::new(), buffer);
         FixedBuffer {
             buffer,
             count: 0,
+            start,
             written: Written::new(),
         }
     }
@@ -40,7 +43,7 @@ impl<'a> FixedBuffer<'a> {
 
     /// What was written, from the front on, as far as there is room.
     pub fn front(&self) -> &[u8]
-        ensures { result.now ≡ take (length self.now.buffer.now) self.now.written.bytes }
+        ensures { result.now ≡ take (length self.now.start.bytes) self.now.written.bytes }
     {
         let end = self.end();
         &self.buffer[..end]
@@ -49,7 +52,7 @@ impl<'a> FixedBuffer<'a> {
     /// All that was written, where there was room for it.
     pub fn whole(&self) -> Option<&[u8]>
         ensures there { IfSome result (λ bytes. bytes.now ≡ self.now.written.bytes) }
-        ensures none { result ≡ None → length self.now.buffer.now < length self.now.written.bytes }
+        ensures none { result ≡ None → length self.now.start.bytes < length self.now.written.bytes }
     {
         if self.count > self.buffer.len() as u64 {
             return None;
@@ -59,7 +62,7 @@ impl<'a> FixedBuffer<'a> {
 
     // Where the front ends in the buffer.
     fn end(&self) -> usize
-        ensures { result ≡ min (length self.now.written.bytes) (length self.now.buffer.now) }
+        ensures { result ≡ min (length self.now.written.bytes) (length self.now.start.bytes) }
     {
         self.count.min(self.buffer.len() as u64) as usize
     }
@@ -67,9 +70,7 @@ impl<'a> FixedBuffer<'a> {
     /// Writes the bytes: those that fit behind the front, and the rest of the buffer stays.
     pub fn add(&mut self, bytes: &[u8])
         ensures written { self.new.written.bytes ≡ self.old.written.bytes ++ bytes.now }
-        ensures room { length self.new.buffer.now ≡ length self.old.buffer.now }
-        ensures rest { drop (length self.new.written.bytes) self.new.buffer.now
-            ≡ drop (length self.new.written.bytes) self.old.buffer.now }
+        ensures start { self.new.start.bytes ≡ self.old.start.bytes }
         ensures same_reference { self.new.buffer.ghost_name ≡ self.old.buffer.ghost_name }
     {
         let end = self.end();
@@ -95,6 +96,8 @@ impl Write for FixedBuffer<'_> {
 
 impl Sink for FixedBuffer<'_> {
     ghost is_sure = { λ _. Unit {0} };
+
+    ghost lent = { λ w. Some (w.buffer.ghost_name, w.start.bytes) };
 
     fn write_some(&mut self, buf: &[u8]) -> io::Result<usize> {
         self.add(buf);

@@ -1,5 +1,6 @@
 //! Runs on a small service.
-ghost use Rattle.std.specs.Prelude.{◌≢◌, IfErr};
+ghost use Rattle.std.specs.Prelude.{◌≡◌, ◌≢◌, ℕ, List, length, min, IfErr, IfOk};
+ghost use Rattle.hp_wire.specs.Filled.{filled};
 
 use crate::ends::{Client, Counter, Nowhere, Reader, Writer};
 use crate::same::same;
@@ -141,27 +142,29 @@ fn runs_over_a_sure_writer(rt: HostRuntime) -> Result<(), Fail> {
     Ok(())
 }
 
-// The script is in memory, and its replies go into a caller's buffer: neither can fail.
-fn answer_into(alloc: Global, replies: &mut FixedBuffer<'_>) -> Result<u64, RunFault>
+// The script is in memory, and its replies go into a caller's buffer: neither can fail. It says how many bytes they have.
+fn answer_into(alloc: Global, buffer: &mut [u8]) -> Result<u64, RunFault>
+    ensures filled { (text : List ℕ) × (buffer.new ≡ filled buffer.old text)
+        × IfOk result (λ n. n ≡ min (length text) u64.MAX) }
     ensures reader { IfErr result (λ e. e ≢ RunFault.Read) }
     ensures writer { IfErr result (λ e. e ≢ RunFault.Write) }
 {
     let mut rest = SCRIPT;
+    let mut replies = FixedBuffer::new(buffer);
     let mut sample = Sample { calls: 0 };
-    run_lines(alloc, &mut rest, replies, &mut sample)
+    match run_lines(alloc, &mut rest, &mut replies, &mut sample) {
+        Ok(_) => Ok(replies.count()),
+        Err(fault) => Err(fault),
+    }
 }
 
 #[test]
 fn fills_a_callers_buffer_with_the_replies(rt: HostRuntime) -> Result<(), Fail> {
     for room in [256usize, 257, 300] {
         let mut space = [b'.'; 300];
-        let mut replies = FixedBuffer::new(&mut space[..room]);
-        same!(rt; answer_into(rt.alloc(), &mut replies)?, 11);
-        same!(rt; replies.count(), 256, "of {room}");
-        same!(rt; replies.whole(), Some(REPLIES), "of {room}");
-        same!(rt; replies.front(), REPLIES, "of {room}");
+        same!(rt; answer_into(rt.alloc(), &mut space[..room])?, 256, "of {room}");
         same!(rt; &space[..256], REPLIES, "of {room}");
-        same!(rt; &space[256..], &[b'.'; 44], "of {room}");
+        same!(rt; space[256..].iter().all(|byte| *byte == b'.'), true, "of {room}");
     }
     Ok(())
 }
@@ -170,15 +173,24 @@ fn fills_a_callers_buffer_with_the_replies(rt: HostRuntime) -> Result<(), Fail> 
 fn a_buffer_that_is_too_small_gets_the_front(rt: HostRuntime) -> Result<(), Fail> {
     for room in [0usize, 1, 4, 5, 255] {
         let mut space = [b'.'; 300];
-        let mut replies = FixedBuffer::new(&mut space[..room]);
-        same!(rt; answer_into(rt.alloc(), &mut replies)?, 11);
-        same!(rt; replies.count(), 256, "of {room}");
-        same!(rt; replies.whole(), None, "of {room}");
-        same!(rt; replies.front().len(), room);
-        same!(rt; REPLIES.starts_with(replies.front()), true, "of {room}");
+        same!(rt; answer_into(rt.alloc(), &mut space[..room])?, 256, "of {room}");
         same!(rt; REPLIES.starts_with(&space[..room]), true, "of {room}");
         same!(rt; space[room..].iter().all(|byte| *byte == b'.'), true, "of {room}");
     }
+    Ok(())
+}
+
+#[test]
+fn a_fixed_buffer_shows_what_was_written(rt: HostRuntime) -> Result<(), Fail> {
+    let mut space = [b'.'; 6];
+    let mut buffer = FixedBuffer::new(&mut space);
+    same!(rt; buffer.whole(), Some(b"".as_slice()));
+    buffer.add(b"abcd");
+    same!(rt; buffer.whole(), Some(b"abcd".as_slice()));
+    buffer.add(b"efgh");
+    same!(rt; buffer.count(), 8);
+    same!(rt; buffer.front(), b"abcdef".as_slice());
+    same!(rt; buffer.whole(), None);
     Ok(())
 }
 

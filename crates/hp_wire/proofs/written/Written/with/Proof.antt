@@ -21,7 +21,7 @@ use denote.Shadow.{pure_i}
 use denote.Signature.{plain, types_at}
 use denote.Slice.{slice_val}
 use denote.Steps.{nothing}
-use denote.Triple.Clauses.{Clauses, Ended, closing}
+use denote.Triple.Clauses.{Clauses, closing}
 use denote.Triple.Entry.{alive}
 use denote.Triple.Spec.{Meets, triple_of}
 use denote.Triple.Table.{entered}
