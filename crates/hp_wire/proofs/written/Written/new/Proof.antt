@@ -1,3 +1,4 @@
+-- `new` makes the empty struct, without bytes. Assumes `Logic`.
 use mathlib.Core.Path.{refl}
 use mathlib.Core.List.{[], ◌∷◌}
 use seplogic.Ra.Ura.{Ura}
