@@ -6,4 +6,5 @@ pub mod Turns
 pub mod Endings
 pub mod Scripts
 pub mod Added
+pub mod FixedFronts
 pub mod Seen

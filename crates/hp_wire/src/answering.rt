@@ -45,6 +45,7 @@ impl Replies {
         ensures page { self.new.page ≡ self.old.page }
         ensures sure { W.is_sure writer.old → IsOk result }
         ensures stays { W.is_sure writer.old → W.is_sure writer.new }
+        ensures lent { W.lent writer.new ≡ W.lent writer.old }
         ensures ready { S.is_ready service.new }
     {
         let (left, count) = self.answer_lines(chunk, service, writer)?;
@@ -68,6 +69,7 @@ impl Replies {
         ensures page { self.new.page ≡ self.old.page }
         ensures sure { W.is_sure writer.old → IsOk result }
         ensures stays { W.is_sure writer.old → W.is_sure writer.new }
+        ensures lent { W.lent writer.new ≡ W.lent writer.old }
         ensures ready { S.is_ready service.new }
     {
         let mut room = [0u8; ROOM];
@@ -97,6 +99,7 @@ impl Replies {
         ensures page { self.new.page ≡ self.old.page }
         ensures sure { W.is_sure writer.old → IsOk result }
         ensures stays { W.is_sure writer.old → W.is_sure writer.new }
+        ensures lent { W.lent writer.new ≡ W.lent writer.old }
         ensures ready { S.is_ready service.new }
     {
         self.make_room(writer)?;
@@ -216,6 +219,7 @@ impl Replies {
             (text_of_refusals self.old.page (unended_by held))) }
         ensures sure { W.is_sure writer.old → IsOk result }
         ensures stays { W.is_sure writer.old → W.is_sure writer.new }
+        ensures lent { W.lent writer.new ≡ W.lent writer.old }
     {
         let mut lines = count;
         if held > 0 {

@@ -1,5 +1,5 @@
 //! What lines are read from and replies are written to.
-ghost use Rattle.std.specs.Prelude.{◌≡◌, ◌<◌, length, IsOk, IfOk, IfErr, OnOk};
+ghost use Rattle.std.specs.Prelude.{◌≡◌, ◌<◌, ℕ, List, None, Option, length, IsOk, IfOk, IfErr, OnOk};
 ghost use Rattle.std.specs.Io.{ReadsAtMost, WritesAtMost};
 ghost use Rattle.std.specs.Io.KnownBytes.{ReadConsumes, WriteAppends};
 ghost use Rattle.hp_wire.specs.Sent.{Writes, WritesFront};
@@ -27,6 +27,9 @@ pub trait Sink: Write {
     /// No write fails from here on, and one of a byte or more writes at least one.
     ghost is_sure: { Self → Type 0 } = { λ _. ⊥ };
 
+    /// A borrow that the writer was given, which no write changes: its name, and the bytes that were there.
+    ghost lent: { Self → Option (ℕ × List ℕ) } = { λ _. None };
+
     /// Writes some of the bytes from the front on, and says how many, as `write` does.
     fn write_some(&mut self, buf: &[u8]) -> io::Result<usize>
         ensures bound { WritesAtMost result buf.now }
@@ -34,7 +37,8 @@ pub trait Sink: Write {
             result buf.now }
         ensures sure { is_sure self.old → IsOk result }
         ensures some { is_sure self.old → 0 < length buf.now → IfOk result (λ n. 0 < n) }
-        ensures stays { is_sure self.old → is_sure self.new };
+        ensures stays { is_sure self.old → is_sure self.new }
+        ensures lent { lent self.new ≡ lent self.old };
 }
 
 impl Source for &[u8] {
@@ -76,6 +80,7 @@ pub fn write_whole<W: Sink>(writer: &mut W, bytes: &[u8]) -> Result<(), RunFault
     ensures cut { IfErr result (WritesFront W.contents writer.old writer.new bytes.now) }
     ensures sure { W.is_sure writer.old → IsOk result }
     ensures stays { W.is_sure writer.old → W.is_sure writer.new }
+    ensures lent { W.lent writer.new ≡ W.lent writer.old }
 {
     let mut at = 0;
     while at < bytes.len() {

@@ -4,9 +4,11 @@
 mod answering;
 pub mod ends;
 pub mod fault;
+pub mod fixed_buffer;
 mod replies;
 pub mod running;
 pub mod script;
 mod unanswered;
+mod written;
 
 pub use hp_wire_lines::{reading, words, writing};

@@ -99,6 +99,7 @@ impl Replies {
         ensures cut { IfErr result (WritesFront W.contents writer.old writer.new self.old.text) }
         ensures sure { W.is_sure writer.old → IsOk result }
         ensures stays { W.is_sure writer.old → W.is_sure writer.new }
+        ensures lent { W.lent writer.new ≡ W.lent writer.old }
     {
         if self.waiting.len() > ROOM - LONGEST {
             return self.send(writer);
@@ -114,6 +115,7 @@ impl Replies {
         ensures cut { IfErr result (WritesFront W.contents writer.old writer.new self.old.text) }
         ensures sure { W.is_sure writer.old → IsOk result }
         ensures stays { W.is_sure writer.old → W.is_sure writer.new }
+        ensures lent { W.lent writer.new ≡ W.lent writer.old }
     {
         write_whole(writer, self.waiting.as_slice())?;
         self.waiting.clear();

@@ -34,6 +34,7 @@ pub fn run_lines<R: Source, W: Sink, S: Service>(
     ensures whole { OnOk result (IsAtEnd (R.remaining reader.new)) }
     ensures sure_reader { R.is_sure reader.old → IfErr result (λ e. e ≢ RunFault.Read) }
     ensures sure_writer { W.is_sure writer.old → IfErr result (λ e. e ≢ RunFault.Write) }
+    ensures lent { W.lent writer.new ≡ W.lent writer.old }
     ensures ready { S.is_ready service.new }
 {
     let Ok((mut unanswered, mut replies)) = rooms(alloc, service.page_bytes()) else {
@@ -67,6 +68,7 @@ fn serve<R: Source, W: Sink, S: Service>(
     ensures whole { OnOk result (IsAtEnd (R.remaining reader.new)) }
     ensures sure_reader { R.is_sure reader.old → IfErr result (λ e. e ≢ RunFault.Read) }
     ensures sure_writer { W.is_sure writer.old → IfErr result (λ e. e ≢ RunFault.Write) }
+    ensures lent { W.lent writer.new ≡ W.lent writer.old }
     ensures ready { S.is_ready service.new }
 {
     let mut total = 0u64;

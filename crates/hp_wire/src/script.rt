@@ -1,5 +1,5 @@
 //! Runs over the lines of a script.
-ghost use Rattle.std.specs.Prelude.{◌≤◌, IfErr, IfSome, OnOk};
+ghost use Rattle.std.specs.Prelude.{◌≡◌, ◌≤◌, IfErr, IfSome, OnOk};
 ghost use Rattle.hp_model.specs.machine.Promises.{IsPromisedStep};
 ghost use Rattle.hp_system.specs.Kept.{IsReady};
 ghost use Rattle.hp_wire.specs.Served.{AnswersInput, IsMemoryOrTooLong, ServesInput};
@@ -33,6 +33,7 @@ pub fn run_script<N: Naming, R: Source, W: Sink>(
         (W.contents writer.old) (W.contents writer.new))) }
     ensures never { R.is_sure reader.old → W.is_sure writer.old
         → IfErr result IsMemoryOrTooLong }
+    ensures lent { W.lent writer.new ≡ W.lent writer.old }
     ensures ready { IsReady machine.new }
 {
     run_lines(alloc, reader, writer, machine)

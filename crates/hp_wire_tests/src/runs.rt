@@ -1,9 +1,12 @@
 //! Runs on a small service.
+ghost use Rattle.std.specs.Prelude.{◌≡◌, ◌≢◌, ℕ, List, length, min, IfErr, IfOk};
+ghost use Rattle.hp_wire.specs.Filled.{filled};
 
 use crate::ends::{Client, Counter, Nowhere, Reader, Writer};
 use crate::same::same;
 use crate::sample::Sample;
 use hp_wire::fault::RunFault;
+use hp_wire::fixed_buffer::FixedBuffer;
 use hp_wire::running::run_lines;
 use std::alloc::Global;
 use std::cell::Cell;
@@ -136,6 +139,58 @@ fn runs_over_a_sure_writer(rt: HostRuntime) -> Result<(), Fail> {
     let mut sample = Sample { calls: 0 };
     let count = run_lines(rt.alloc(), &mut rest, &mut Nowhere, &mut sample)?;
     same!(rt; count, 11);
+    Ok(())
+}
+
+// The script is in memory, and its replies go into a caller's buffer: neither can fail. It says how many bytes they have.
+fn answer_into(alloc: Global, buffer: &mut [u8]) -> Result<u64, RunFault>
+    ensures filled { (text : List ℕ) × (buffer.new ≡ filled buffer.old text)
+        × IfOk result (λ n. n ≡ min (length text) u64.MAX) }
+    ensures reader { IfErr result (λ e. e ≢ RunFault.Read) }
+    ensures writer { IfErr result (λ e. e ≢ RunFault.Write) }
+{
+    let mut rest = SCRIPT;
+    let mut replies = FixedBuffer::new(buffer);
+    let mut sample = Sample { calls: 0 };
+    match run_lines(alloc, &mut rest, &mut replies, &mut sample) {
+        Ok(_) => Ok(replies.count()),
+        Err(fault) => Err(fault),
+    }
+}
+
+#[test]
+fn fills_a_callers_buffer_with_the_replies(rt: HostRuntime) -> Result<(), Fail> {
+    for room in [256usize, 257, 300] {
+        let mut space = [b'.'; 300];
+        same!(rt; answer_into(rt.alloc(), &mut space[..room])?, 256, "of {room}");
+        same!(rt; space.starts_with(REPLIES), true, "of {room}");
+        same!(rt; space.ends_with(&[b'.'; 44]), true, "of {room}");
+    }
+    Ok(())
+}
+
+#[test]
+fn a_buffer_that_is_too_small_gets_the_front(rt: HostRuntime) -> Result<(), Fail> {
+    for room in [0usize, 1, 4, 5, 255] {
+        let mut space = [b'.'; 300];
+        same!(rt; answer_into(rt.alloc(), &mut space[..room])?, 256, "of {room}");
+        same!(rt; REPLIES.starts_with(&space[..room]), true, "of {room}");
+        same!(rt; space[room..].iter().all(|byte| *byte == b'.'), true, "of {room}");
+    }
+    Ok(())
+}
+
+#[test]
+fn a_fixed_buffer_shows_what_was_written(rt: HostRuntime) -> Result<(), Fail> {
+    let mut space = [b'.'; 6];
+    let mut buffer = FixedBuffer::new(&mut space);
+    same!(rt; buffer.whole(), Some(b"".as_slice()));
+    buffer.add(b"abcd");
+    same!(rt; buffer.whole(), Some(b"abcd".as_slice()));
+    buffer.add(b"efgh");
+    same!(rt; buffer.count(), 8);
+    same!(rt; buffer.front(), b"abcdef".as_slice());
+    same!(rt; buffer.whole(), None);
     Ok(())
 }
 

@@ -1,4 +1,4 @@
-use Rattle.std.proofs.Common.{length, ◌-◌, ◌≤◌, take}
+use Rattle.std.proofs.Common.{◌≡◌, length, ◌-◌, ◌≤◌, take}
 use Rattle.std.specs.Io.KnownBytes.{Appends}
 use Rattle.hp_wire.proofs.ends.write_whole.Given as goal
 
@@ -7,6 +7,7 @@ invariant-loop-at g l = record {
   sent : Appends (g.W.Write.contents l.initial.writer) (g.W.Write.contents l.writer) (take l.at l.bytes);
   within : l.at ≤ length l.bytes;
   sure : g.W.Sink.is_sure l.fn.writer → g.W.Sink.is_sure l.writer;
+  lent : g.W.Sink.lent l.writer ≡ g.W.Sink.lent l.fn.writer;
 }
 
 abbrev pub decreases-loop-at : goal.decreases-loop-at

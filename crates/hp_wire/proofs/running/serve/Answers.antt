@@ -58,6 +58,7 @@ loop-preserved g c =
       none = c.in_ok-left.ensures.none;
       reader = λ s. c.read.ensures.stays (i.reader s);
       writer = λ s. c.answer_chunk-in-loop.ensures.stays (i.writer s);
+      lent = c.answer_chunk-in-loop.ensures.lent ∙ i.lent;
     }
 
 pub returns-clause-served : goal.returns-clause-served

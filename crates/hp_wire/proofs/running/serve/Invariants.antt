@@ -15,4 +15,5 @@ invariant-loop g l = record {
   none : l.replies.text ≡ [];
   reader : g.R.Source.is_sure l.fn.reader → g.R.Source.is_sure l.reader;
   writer : g.W.Sink.is_sure l.fn.writer → g.W.Sink.is_sure l.writer;
+  lent : g.W.Sink.lent l.writer ≡ g.W.Sink.lent l.fn.writer;
 }

@@ -6,7 +6,7 @@ use Rattle.hp_wire.proofs.LineCuts.{none_off, one_off}
 use Rattle.hp_wire.proofs.replies.Replies.answer_lines.Goals as goal
 
 pub loop-line-init : goal.loop-line-init
-loop-line-init g c = ([], record { answered = answered_none; cut = none_off c.args.bytes.now; count = refl; few = omega arith; ready = c.requires.ready; page = refl; sure = λ s. s })
+loop-line-init g c = ([], record { answered = answered_none; cut = none_off c.args.bytes.now; count = refl; few = omega arith; ready = c.requires.ready; page = refl; sure = λ s. s; lent = refl })
 
 pub loop-line-preserved : goal.loop-line-preserved
 loop-line-preserved g c =
@@ -25,6 +25,7 @@ loop-line-preserved g c =
         ready = c.answer_line.ensures.ready;
         page = c.answer_line.ensures.page ∙ i.1.page;
         sure = λ s. c.answer_line.ensures.stays (i.1.sure s);
+        lent = c.answer_line.ensures.lent ∙ i.1.lent;
       },
     )
 

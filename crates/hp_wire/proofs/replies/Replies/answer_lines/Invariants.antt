@@ -13,6 +13,7 @@ invariant-loop-line g l = (done : List Line) × record {
   ready : g.S.Service.is_ready l.service;
   page : l.self.page ≡ l.fn.self.page;
   sure : g.W.Sink.is_sure l.fn.writer → g.W.Sink.is_sure l.writer;
+  lent : g.W.Sink.lent l.writer ≡ g.W.Sink.lent l.fn.writer;
 }
 
 abbrev pub decreases-loop-line : goal.decreases-loop-line
