@@ -18,6 +18,7 @@ pub enum Command {
     Unmap,
     Fault,
     Mount,
+    Remount,
     Umount,
     Create,
     Unlink,
@@ -67,6 +68,8 @@ fn slot_command(word: &[u8]) -> Option<Command>
 {
     if is_known(word, b"mount") {
         Some(Command::Mount)
+    } else if is_known(word, b"remount") {
+        Some(Command::Remount)
     } else if is_known(word, b"umount") {
         Some(Command::Umount)
     } else if is_known(word, b"create") {

@@ -1,6 +1,6 @@
 //! The steps of the commands, by what stands after each command's word.
 ghost use Rattle.std.specs.Prelude.{◌≡◌, length};
-ghost use Rattle.hp_model.specs.text.Reading.{anon_of, attach_of, connect_of, create_of, df_of, exit_of, fault_of, fork_of, load_of, ls_of, map_of, meminfo_of, mount_of, nodes_of, nr_of, overcommit_of, punch_of, read_of, stat_of, store_of, truncate_of, umount_of, unlink_of, unmap_of};
+ghost use Rattle.hp_model.specs.text.Reading.{anon_of, attach_of, connect_of, create_of, df_of, exit_of, fault_of, fork_of, load_of, ls_of, map_of, meminfo_of, mount_of, nodes_of, nr_of, overcommit_of, punch_of, read_of, remount_of, stat_of, store_of, truncate_of, umount_of, unlink_of, unmap_of};
 
 use crate::accesses::{loading, storing};
 use crate::parts::{intent, reserving, sharing, word};
@@ -176,6 +176,16 @@ pub fn mount<'a>(words: &mut Words<'a>) -> Result<Step<'a>, Refusal>
     let options = word(words)?;
     words.end()?;
     Ok(Step::Mount { slot, options })
+}
+
+#[tactic(auto, unfolding(hp_model::specs::text::Reading::remount_of))]
+pub fn remount<'a>(words: &mut Words<'a>) -> Result<Step<'a>, Refusal>
+    ensures { result ≡ remount_of words.old }
+{
+    let slot = words.number()?;
+    let options = word(words)?;
+    words.end()?;
+    Ok(Step::Remount { slot, options })
 }
 
 #[tactic(auto, unfolding(hp_model::specs::text::Reading::umount_of))]

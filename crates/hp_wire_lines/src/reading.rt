@@ -6,7 +6,7 @@ ghost use Rattle.hp_model.specs.text.Reading.{step_of_bytes, step_of_command};
 use crate::command::{Command, command_of};
 use crate::commands::{
     anon, attach, connect, create, df, exit, fault, fork, load, ls, map, meminfo, mount, nodes, nr,
-    overcommit, punch, read, stat, store, truncate, umount, unlink, unmap,
+    overcommit, punch, read, remount, stat, store, truncate, umount, unlink, unmap,
 };
 use crate::known::is_known;
 use crate::words::Words;
@@ -74,6 +74,7 @@ pub fn step_of_word<'a>(word: &[u8], words: &mut Words<'a>) -> Result<Step<'a>, 
         Some(Command::Unmap) => unmap(words),
         Some(Command::Fault) => fault(words),
         Some(Command::Mount) => mount(words),
+        Some(Command::Remount) => remount(words),
         Some(Command::Umount) => umount(words),
         Some(Command::Create) => create(words),
         Some(Command::Unlink) => unlink(words),
