@@ -122,8 +122,8 @@ def nodes(reply, first, more):
     return [Node(*map(int, line.split(" "))) for line in text(reply, first, more)]
 
 
-VALUES = {"connect": done, "attach": number, "fork": done, "exit": done, "mount": done, "umount": done, "create": done, "unlink": done,
-          "truncate": done, "punch": done, "read": data, "ls": text, "stat": stat, "map": number, "anon": number, "unmap": done,
+VALUES = {"connect": done, "attach": number, "fork": done, "exit": done, "mount": done, "remount": done, "umount": done, "create": done,
+          "unlink": done, "truncate": done, "punch": done, "read": data, "ls": text, "stat": stat, "map": number, "anon": number, "unmap": done,
           "fault": done, "load": data, "store": done, "nr": number, "overcommit": done, "meminfo": meminfo, "nodes": nodes, "df": usage}
 
 
@@ -201,6 +201,9 @@ class Session:
 
     def mount(self, slot, options="-"):
         self.ask("mount", slot, options)
+
+    def remount(self, slot, options="-"):
+        self.ask("remount", slot, options)
 
     def umount(self, slot):
         self.ask("umount", slot)
