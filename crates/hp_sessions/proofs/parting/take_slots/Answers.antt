@@ -1,5 +1,5 @@
 use Rattle.std.proofs.Common.{◌≡◌, ◌==◌, true, length, sym, ◌∙◌, arith}
-use Rattle.std.proofs.lemmas.Bool.{false≢true}
+use Rattle.std.proofs.lemmas.Bool.{eqb-true, false≢true}
 use Rattle.hp_sessions.specs.Sharing.{AreGathered}
 use Rattle.hp_trail.specs.Walk.{lists}
 use Rattle.hp_sessions.proofs.Gathered.{slot_gathered}
@@ -20,8 +20,9 @@ loop-slot-preserved g c =
       runs = λ keeps order.
           elim c.if-in_order.branch as (λ _. AreGathered g.N.Naming.page_bytes (lists c.push_reserved-in-Some.new.self.items) c.push_reserved.new.self.items) [
             | then-in_order w ↦
-                let here : c.into_parts-number.result.0 ≡ length c.loop-slot.mounts.items = grind (arith, w.in_order-is, order, w.len.ensures, c.loop-slot.mounts.ok.0) in
-                slot_gathered (g.row.K == 1) g.N.Naming.page_bytes c.into_inner.result.number c.into_inner.result.entries c.into_inner.result.mount c.into_parts-number.result.1
+                let here : c.into_parts-number.result.0 ≡ length c.loop-slot.mounts.items =
+                (let same = eqb-true c.into_parts-number.result.0 w.len.result (sym w.in_order-is ∙ order) in omega (arith, same, w.len.ensures, c.loop-slot.mounts.ok.0)) in
+                slot_gathered (g.row.K == 1) g.N.Naming.page_bytes c.into_inner-in-Some.result.number c.into_inner-in-Some.result.entries c.into_inner-in-Some.result.mount c.into_parts-number.result.1
                 c.into_parts-number.result.2 c.into_entries.result c.loop-slot.trails.items c.push_reserved-in-Some.new.self.items c.loop-slot.mounts.items
                 c.push_reserved.new.self.items keeps (was.runs keeps w.if-in_order.true) (sym parts.number ∙ here) parts.run parts.entries parts.mount c.into_entries.ensures
                 noted.items mounted.items

@@ -1,9 +1,10 @@
 use Rattle.std.proofs.Common.{◌==◌, refl, sym, subst}
 use Rattle.std.proofs.lemmas.Bool.{ne_eqb}
-use Rattle.hp_model.specs.declared.event.Event.TheVariants.{Tasks as OnTasks}
+use Rattle.hp_model.specs.declared.event.Event.TheVariants.{Pool as OnPool, Tasks as OnTasks}
+use Rattle.hp_model.specs.declared.event.PoolEvent.TheVariants as pool
 use Rattle.hp_model.specs.declared.event.TableEvent.TheVariants.{Find}
 use Rattle.hp_model.specs.declared.step.Step.{Step}
-use Rattle.hp_model.specs.declared.step.Step.TheVariants.{Attach, Fault}
+use Rattle.hp_model.specs.declared.step.Step.TheVariants.{Attach, Fault, Meminfo, Nodes}
 use Rattle.hp_model.specs.machine.Plan.{Reply}
 use Rattle.hp_model.specs.machine.Told.{told_reply}
 use Rattle.hp_sessions.specs.Calls.{IsAnswered}
@@ -29,3 +30,17 @@ returns-in-Fault-clause-answered g c =
     let f = c.in-Fault in
     subst (λ (x : Step). IsAnswered (g.row.K == 1) size s x (told_reply c.of_task.result) t) (sym f.is)
     (fault_worked (g.row.K == 1) size s t f.task f.slot f.map f.index f.intent (told_reply c.of_task.result) c.of_task.ensures.worked)
+
+pub returns-2-clause-answered : goal.returns-2-clause-answered
+returns-2-clause-answered g c =
+    let t = c.make_pool.new.self in
+    subst (λ (x : Step). IsAnswered (g.row.K == 1) g.N.Naming.page_bytes c.args.self.now x (told_reply c.make_pool.result) t) (sym c.in-Meminfo.is)
+    (alone_answered (g.row.K == 1) g.N.Naming.page_bytes c.args.self.now t Meminfo (OnPool pool.Meminfo) (told_reply c.make_pool.result)
+    (ne_eqb g.row.K 1 c.if-this-ne1-2.true) refl c.make_pool.ensures.made)
+
+pub returns-3-clause-answered : goal.returns-3-clause-answered
+returns-3-clause-answered g c =
+    let t = c.make_pool-2.new.self in
+    subst (λ (x : Step). IsAnswered (g.row.K == 1) g.N.Naming.page_bytes c.args.self.now x (told_reply c.make_pool-2.result) t) (sym c.in-Nodes.is)
+    (alone_answered (g.row.K == 1) g.N.Naming.page_bytes c.args.self.now t Nodes (OnPool pool.Nodes) (told_reply c.make_pool-2.result)
+    (ne_eqb g.row.K 1 c.if-this-ne1-3.true) refl c.make_pool-2.ensures.made)

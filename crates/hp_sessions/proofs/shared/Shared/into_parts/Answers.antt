@@ -21,10 +21,10 @@ returns-clause-trails g c =
     let pool = c.into_parts-pool in
     let tabled : IsTableTrail (length fs) (kept_if keeps tasks.result.1) tasks.result.0 =
     subst (λ t. IsTableTrail (length fs) (kept_if keeps tasks.result.1) t) (sym tasks.ensures.tasks)
-    (subst (λ o. IsTableTrail (length fs) o c.into_inner.result.tasks) (sym tasks.ensures.entries) tasks.ensures.run) in
+    (subst (λ o. IsTableTrail (length fs) o c.into_inner-2.result.tasks) (sym tasks.ensures.entries) tasks.ensures.run) in
     let pooled : IsPoolTrail (idle_pool fs) (kept_if keeps pool.result.1) pool.result.0 =
     subst (λ (p : Pool). IsPoolTrail (idle_pool fs) (kept_if keeps pool.result.1) p) (sym pool.ensures.pool)
-    (subst (λ o. IsPoolTrail (idle_pool fs) o c.into_inner-2.result.pool) (sym pool.ensures.entries) pool.ensures.run) in
+    (subst (λ o. IsPoolTrail (idle_pool fs) o c.into_inner-4.result.pool) (sym pool.ensures.entries) pool.ensures.run) in
     let ends = given_ends keeps c.take_slots-in_order.result fs g.N.Naming.page_bytes (vec_len s.slots) tasks.result.1 pool.result.1
     c.take_slots-in_order.new.trails.items tasks.result.0 c.take_slots-in_order.new.mounts.items pool.result.0 c.trails_in-kept.result
     c.self.invariant.any c.take_slots-in_order.ensures.count tabled pooled c.take_slots-in_order.ensures.runs c.trails_in-kept.ensures.given in
