@@ -101,6 +101,19 @@ impl<N: Naming> PoolDoor for Noting<N> {
         PoolDoor::put(&mut self.pool, share, going, reserves);
     }
 
+    fn limits(
+        &mut self,
+        share: &mut Subpool<N>,
+        page_bytes: u64,
+        options: &[u8],
+    ) -> Result<Option<u64>, Refusal> {
+        if self.places == 0 {
+            return Err(Refusal::TraceFull);
+        }
+        self.places -= 1;
+        PoolDoor::limits(&mut self.pool, share, page_bytes, options)
+    }
+
     fn close(&mut self, share: Subpool<N>, going: PageStore<N>) {
         PoolDoor::close(&mut self.pool, share, going);
     }
