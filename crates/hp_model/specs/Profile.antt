@@ -21,11 +21,12 @@ abbrev pub most_maps : ℕ
 most_maps = 4096
 
 abbrev pub most_tasks : ℕ
-most_tasks = 256
+most_tasks = 4096
 
 abbrev pub most_file_pages : ℕ
-most_file_pages = 1048576
+most_file_pages = 16777216
 
+-- pages of a map, and indices that one step fills
 abbrev pub most_map_pages : ℕ
 most_map_pages = 65536
 

@@ -11,5 +11,6 @@ pub mod MakeMap
 pub mod Access
 pub mod CopyWrite
 pub mod Fork
+pub mod Fill
 pub mod GiveBack
 pub mod Options

@@ -112,6 +112,11 @@ pub fn copied_event(alloc: Global, event: &SlotEvent) -> Result<SlotEvent, Alloc
             from: *from,
             to: *to,
         },
+        SlotEvent::Preallocate { name, from, to } => SlotEvent::Preallocate {
+            name: copied_bytes(alloc, name)?,
+            from: *from,
+            to: *to,
+        },
         SlotEvent::Read {
             name,
             index,

@@ -48,6 +48,12 @@ pub enum SlotEvent {
         from: u64,
         to: u64,
     },
+    /// The slot's part of `Step::Preallocate`.
+    Preallocate {
+        name: Bytes,
+        from: u64,
+        to: u64,
+    },
     /// The slot's part of `Step::Read`.
     Read {
         name: Bytes,

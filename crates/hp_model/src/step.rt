@@ -81,6 +81,14 @@ pub enum Step<'a> {
         from: u64,
         to: u64,
     },
+    /// Gives each index from `from` up to, not including, `to` of a file a page, and the file at least this length.
+    /// Answers `Done`.
+    Preallocate {
+        slot: u64,
+        name: Lent<'a>,
+        from: u64,
+        to: u64,
+    },
     /// Answers `count` bytes from byte `offset` of the page at `index` of a file.
     Read {
         slot: u64,

@@ -3,7 +3,7 @@ use Rattle.std.specs.Prelude.{Bool, true, false, Ok, Err}
 use Rattle.hp_model.specs.declared.answer.Answer.{Answer}
 use Rattle.hp_model.specs.declared.answer.Answer.TheVariants.{Names}
 use Rattle.hp_model.specs.declared.event.SlotEvent.{SlotEvent}
-use Rattle.hp_model.specs.declared.event.SlotEvent.TheVariants.{Mount, Remount, Create, Unlink, Truncate, Punch, Read, Stat, Map, Store}
+use Rattle.hp_model.specs.declared.event.SlotEvent.TheVariants.{Mount, Remount, Create, Unlink, Truncate, Punch, Preallocate, Read, Stat, Map, Store}
 use Rattle.hp_model.specs.machine.Plan.{Reply}
 
 -- the answer is a list of names
@@ -23,6 +23,7 @@ has_bytes (Create name) = true
 has_bytes (Unlink name) = true
 has_bytes (Truncate name pages) = true
 has_bytes (Punch name a b) = true
+has_bytes (Preallocate name a b) = true
 has_bytes (Read name i offset count) = true
 has_bytes (Stat name) = true
 has_bytes (Map task home name a pages sharing reserving) = true

@@ -6,7 +6,7 @@ use Rattle.hp_model.specs.declared.cell.Cell.TheVariants.{Hole}
 use Rattle.hp_model.specs.declared.step.Intent.TheVariants.{Read, Write}
 use Rattle.hp_model.specs.declared.step.Step.{Step}
 use Rattle.hp_model.specs.declared.step.Step.TheVariants.{Anon, Create, Df, Exit, Fault, Fork, Load, Ls, Map as MapStep, Mount}
-use Rattle.hp_model.specs.declared.step.Step.TheVariants.{Punch, Read as ReadStep, Remount, Stat, Store, Truncate, Umount, Unlink, Unmap}
+use Rattle.hp_model.specs.declared.step.Step.TheVariants.{Preallocate, Punch, Read as ReadStep, Remount, Stat, Store, Truncate, Umount, Unlink, Unmap}
 use Rattle.hp_model.specs.files.File.{File, cell_at, cell_punched, entered, has_page}
 use Rattle.hp_model.specs.files.MakeMap.{reserves}
 use Rattle.hp_model.specs.files.Mapping.{copy_of, is_shared, is_unconsumed, place_at, without_copy}
@@ -30,6 +30,7 @@ is_on (Create k name) slot = k == slot
 is_on (Unlink k name) slot = k == slot
 is_on (Truncate k name n) slot = k == slot
 is_on (Punch k name a b) slot = k == slot
+is_on (Preallocate k name a b) slot = k == slot
 is_on (ReadStep k name i offset count) slot = k == slot
 is_on (Ls k) slot = k == slot
 is_on (Stat k name) slot = k == slot
@@ -90,6 +91,8 @@ ChangesCell x (Fault task k number i intent) file j old new = IsFilled (spot_on 
 ChangesCell x (Store task k number i offset bytes) file j old new = IsFilled (spot_on x task number) i file j new
 ChangesCell x (Truncate k name n) file j old new = ((means_file x name file && nat_le n j) ≡ true) × (new ≡ Hole)
 ChangesCell x (Punch k name a b) file j old new = ((means_file x name file && is_in a b j) ≡ true) × (new ≡ cell_punched old)
+ChangesCell x (Preallocate k name a b) file j old new =
+    ((means_file x name file && is_in a b j) ≡ true) × (has_page old ≡ false) × (has_page new ≡ true)
 ChangesCell x (MapStep task k name a n sharing reserving) file j old new =
     ((is_shared sharing && (reserves reserving && (means_file x name file && is_in a (a + n) j))) ≡ true) × (new ≡ entered old)
 ChangesCell x step file j old new = ⊥

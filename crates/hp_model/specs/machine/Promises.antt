@@ -17,7 +17,7 @@ use Rattle.hp_model.specs.declared.step.Reserving.{Reserving}
 use Rattle.hp_model.specs.declared.step.Sharing.{Sharing}
 use Rattle.hp_model.specs.declared.step.Step.{Step}
 use Rattle.hp_model.specs.declared.step.Step.TheVariants.{Anon, Attach, Create as CreateStep, Df, Exit, Fault, Fork}
-use Rattle.hp_model.specs.declared.step.Step.TheVariants.{Load, Ls, Map as MapStep, Meminfo, Mount as MountStep, Nodes, Punch as PunchStep}
+use Rattle.hp_model.specs.declared.step.Step.TheVariants.{Load, Ls, Map as MapStep, Meminfo, Mount as MountStep, Nodes, Preallocate, Punch as PunchStep}
 use Rattle.hp_model.specs.declared.step.Step.TheVariants.{Read as ReadStep, Remount, Stat, Store, Truncate as TruncateStep, Umount, Unlink as UnlinkStep, Unmap as UnmapStep}
 use Rattle.hp_model.specs.machine.Plan.{slot_usage, IsWithinLimit}
 use Rattle.hp_model.specs.files.File.{File, cell_at, has_page, is_entered, new_file}
@@ -290,10 +290,22 @@ IsNewAnon old new task number n sharing reserving =
 abbrev pub IsNewFile : (old new : Slot) → List ℕ → Type 0
 IsNewFile old new name = (named_on old name ≡ None) × ((place : ℕ) × (named_on new name ≡ Some (place, new_file (Some name))))
 
+abbrev pub pages_of_file : Option (ℕ × File) → ℕ
+pages_of_file None = 0
+pages_of_file (Some f) = length f.1.cells
+
+-- the file of the name is as long as it was, or reaches to b where that is longer, and has a page at each index of the range
+pub record HasPages (old new : Slot) (name : List ℕ) (a b : ℕ) : Type 0 where
+  pub file : ℕ × File
+  pub named : named_on new name ≡ Some file
+  pub length : length file.1.cells ≡ max (pages_of_file (named_on old name)) b
+  pub pages : (i : ℕ) → is_in a b i ≡ true → has_page (cell_at file.1 i) ≡ true
+
 -- a created file is new and empty; a map's number is one that the task did not use, and means a map of that file, range and sharing,
--- or of a file of its own
+-- or of a file of its own; and a file that is preallocated has all pages of the range
 abbrev pub Makes : State → Step → Reply → State → Type 0
 Makes s (CreateStep k name) (Ok a) t = IsNewFile (slot_at s k) (slot_at t k) name
+Makes s (Preallocate k name a b) (Ok answer) t = HasPages (slot_at s k) (slot_at t k) name a b
 Makes s (MapStep task k name a n sharing reserving) (Ok (MapNo number)) t =
     IsNewMap (slot_at s k) (slot_at t k) name (new_map task number a n sharing reserving)
 Makes s (MapStep task k name a n sharing reserving) (Ok other) t = ⊥
@@ -302,10 +314,6 @@ Makes s (Anon task n sharing reserving) (Ok other) t = ⊥
 Makes s step reply t = Unit {0}
 
 -- ---- what a map reserves
-
-abbrev pub pages_of_file : Option (ℕ × File) → ℕ
-pages_of_file None = 0
-pages_of_file (Some f) = length f.1.cells
 
 -- the map's file is as long as it was, or as long as the range from a on needs, where that is longer; and if the map reserves, each
 -- index of the range is reserved to it
@@ -482,10 +490,11 @@ pub record IsPromised (s : State) (step : Step) (reply : Reply) (t : State) : Ty
   -- one that is refused for want of pages lacks what it asks for, in its mount or in the pool
   pub short : MeetsShortage s step reply
 
--- these steps may be refused memory: one that makes a file, a map or a list of names, a fork, and an access that nothing backs
+-- these steps may be refused memory: one that makes a file, a map or a list of names, a preallocation, a fork, and an access that nothing backs
 abbrev pub takes_memory : State → Step → Bool
 takes_memory s (CreateStep k name) = true
 takes_memory s (Ls k) = true
+takes_memory s (Preallocate k name a b) = true
 takes_memory s (MapStep task k name a n sharing reserving) = true
 takes_memory s (Anon task n sharing reserving) = true
 takes_memory s (Fork parent child) = true

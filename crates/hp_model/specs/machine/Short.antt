@@ -6,7 +6,7 @@ use Rattle.hp_model.specs.declared.refusal.Refusal.TheVariants.{MountFull, NoPag
 use Rattle.hp_model.specs.declared.step.Intent.{Intent}
 use Rattle.hp_model.specs.declared.step.Intent.TheVariants.{Read, Write}
 use Rattle.hp_model.specs.declared.step.Step.{Step}
-use Rattle.hp_model.specs.declared.step.Step.TheVariants.{Anon, Fault, Load, Map as MapStep, Mount as MountStep, Remount, Store}
+use Rattle.hp_model.specs.declared.step.Step.TheVariants.{Anon, Fault, Load, Map as MapStep, Mount as MountStep, Preallocate, Remount, Store}
 use Rattle.hp_model.specs.files.CopyWrite.{is_held_once}
 use Rattle.hp_model.specs.files.File.{File, Mount, cell_at, has_page, new_file}
 use Rattle.hp_model.specs.files.MakeMap.{asked}
@@ -17,7 +17,7 @@ use Rattle.hp_model.specs.files.Reserved.{is_reserved}
 use Rattle.hp_model.specs.files.Spot.{Spot, spot}
 use Rattle.hp_model.specs.machine.Machine.{pool_of}
 use Rattle.hp_model.specs.machine.Plan.{Reply, Slot}
-use Rattle.hp_model.specs.machine.SlotEvent.{committed_with, file_named}
+use Rattle.hp_model.specs.machine.SlotEvent.{committed_with, file_named, unentered}
 use Rattle.hp_model.specs.machine.State.{State, slot_at}
 use Rattle.hp_model.specs.machine.Tests.{is_for_pages}
 use Rattle.hp_model.specs.pool.Grant.{can_grant, is_full, rise}
@@ -51,9 +51,11 @@ abbrev pub asked_of : Option (ℕ × File) → (File → ℕ) → ℕ
 asked_of None pages = 0
 asked_of (Some f) pages = pages f.1
 
--- the pages that it asks its mount for: those that a map reserves, or the one that an access needs
+-- the pages that it asks its mount for: those that a map reserves, those of indices that a preallocation enters, or the one that an
+-- access needs
 abbrev pub asks : Mount → Step → ℕ
 asks m (MapStep task k name a n sharing reserving) = asked_of (file_named m name) (asked sharing reserving a n)
+asks m (Preallocate k name a b) = asked_of (file_named m name) (unentered a b)
 asks m (Anon task n sharing reserving) = asked sharing reserving 0 n (new_file None)
 asks m (Fault task k number i intent) = page_for intent (spot m (is_map task number)) i
 asks m (Load task k number i offset count) = page_for Read (spot m (is_map task number)) i
@@ -92,6 +94,7 @@ MeetsShortage s (Remount k options) (Err r) =
     IsRemountShortOn (pool_of s) (slot_at s k) (limits s.nr s.page_size (wanted_of options)) r
 MeetsShortage s (MapStep task k name a n sharing reserving) (Err r) =
     IsShortOn (pool_of s) (slot_at s k) (MapStep task k name a n sharing reserving) r
+MeetsShortage s (Preallocate k name a b) (Err r) = IsShortOn (pool_of s) (slot_at s k) (Preallocate k name a b) r
 MeetsShortage s (Anon task n sharing reserving) (Err r) = IsShortOn (pool_of s) (slot_at s 0) (Anon task n sharing reserving) r
 MeetsShortage s (Fault task k number i intent) (Err r) = IsShortOn (pool_of s) (slot_at s k) (Fault task k number i intent) r
 MeetsShortage s (Load task k number i offset count) (Err r) =

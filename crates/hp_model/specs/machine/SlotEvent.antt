@@ -6,27 +6,30 @@ use Rattle.std.specs.Str.{bytes_eq}
 use Rattle.hp_model.specs.declared.answer.Answer.{Answer}
 use Rattle.hp_model.specs.declared.answer.Answer.TheVariants.{Done, MapNo, Bytes, Stat as StatAnswer, Usage as UsageAnswer, Names}
 use Rattle.hp_model.specs.declared.refusal.Refusal.{Refusal}
-use Rattle.hp_model.specs.declared.refusal.Refusal.TheVariants.{OutOfMemory, NoPages, BeyondEnd, NoSuchSlot, SlotTaken, NoSuchFile, FileExists}
+use Rattle.hp_model.specs.declared.refusal.Refusal.TheVariants.{OutOfMemory, NoPages, MountFull, BeyondEnd, NoSuchSlot, SlotTaken, NoSuchFile, FileExists}
 use Rattle.hp_model.specs.declared.refusal.Refusal.TheVariants.{NoInodes, BadName, NoSuchMap, OutOfRange, CrossesPage, Busy, TooMany}
 use Rattle.hp_model.specs.declared.event.SlotEvent.{SlotEvent}
-use Rattle.hp_model.specs.declared.event.SlotEvent.TheVariants.{Mount as MountEvent, Remount, Umount, Create, Unlink, Truncate, Punch, Read as ReadEvent, Ls, Stat}
+use Rattle.hp_model.specs.declared.event.SlotEvent.TheVariants.{Mount as MountEvent, Remount, Umount, Create, Unlink, Truncate, Punch, Preallocate, Read as ReadEvent, Ls, Stat}
 use Rattle.hp_model.specs.declared.event.SlotEvent.TheVariants.{Df, Map as MapEvent, Anon, Unmap, Fault, Load, Store, ForkMaps, ExitMaps}
 use Rattle.hp_model.specs.declared.step.Intent.{Intent}
 use Rattle.hp_model.specs.declared.step.Sharing.{Sharing}
 use Rattle.hp_model.specs.declared.step.Reserving.{Reserving}
 use Rattle.hp_model.specs.declared.step.Intent.TheVariants.{Read, Write}
+use Rattle.hp_model.specs.declared.step.Reserving.TheVariants.{Reserve}
+use Rattle.hp_model.specs.declared.step.Sharing.TheVariants.{Shared}
 use Rattle.hp_model.specs.files.Access.{access}
 use Rattle.hp_model.specs.files.File.{File, cell_at, is_entered, has_page, with_file, maps_of, new_file, Mount}
+use Rattle.hp_model.specs.files.Fill.{filled, lacking, nodes_of}
 use Rattle.hp_model.specs.files.Fork.{forked}
 use Rattle.hp_model.specs.files.GiveBack.{unmapped_from, without_task, punched, truncated, unlinked, swept}
-use Rattle.hp_model.specs.pool.Grant.{is_over}
+use Rattle.hp_model.specs.pool.Grant.{is_full, is_over, rise}
 use Rattle.hp_model.specs.Lists.{found, is_among}
 use Rattle.hp_model.specs.files.MakeMap.{tasks_of, next_number, asked, mapped, with_new}
 use Rattle.hp_model.specs.files.Mapping.{place_at, is_live, is_map}
 use Rattle.hp_model.specs.files.MountCounts.{committed_of, usage_of}
 use Rattle.hp_model.specs.files.Options.{wanted_of, limits}
-use Rattle.hp_model.specs.machine.Plan.{Slot, Outcome, Refused, Answered, Plan, Finish, Ask, Choice, refuse, unless, with_value, and_then, grant, gives}
-use Rattle.hp_model.specs.pool.Pool.{Section, ReadAndGrant, ReadAndGiveBack, GrantAndReturn, PoolAnswer}
+use Rattle.hp_model.specs.machine.Plan.{Slot, Outcome, Refused, Answered, Plan, Finish, Ask, Choice, refuse, unless, with_value, and_then, grant, gives, when_granted}
+use Rattle.hp_model.specs.pool.Pool.{Section, FillPages, ReadAndGrant, ReadAndGiveBack, GrantAndReturn, PoolAnswer}
 use Rattle.hp_model.specs.Profile.{most_files, most_maps, most_tasks, most_file_pages, most_map_pages, most_bytes, most_name_bytes}
 use Rattle.hp_model.specs.files.Spot.{Spot, spot, written, again}
 use Rattle.hp_model.specs.files.Value.{shown, value}
@@ -137,6 +140,33 @@ is_bad_range a b = nat_le b a || nat_lt most_file_pages b
 
 abbrev pub punch : Mount → (a b : ℕ) → ℕ × File → Plan
 punch m a b f = unless ((is_bad_range a b, OutOfRange) ∷ []) (gives Done (Some m) (edited m f.0 (punched a b f.1)))
+
+-- ---- preallocate
+
+abbrev pub preallocate_tests : (a b : ℕ) → List (Bool × Refusal)
+preallocate_tests a b = (is_bad_range a b, OutOfRange) ∷ (nat_lt most_map_pages (b - a), TooMany) ∷ []
+
+-- the indices from a up to b without an entry
+abbrev pub unentered : (a b : ℕ) → File → ℕ
+unentered a b f = asked Shared Reserve a (b - a) f
+
+-- the file with pages of the nodes that the pool answers
+abbrev pub preallocated : (size : ℕ) → Mount → (a b : ℕ) → ℕ × File → PoolAnswer → Outcome
+preallocated size m a b f answer =
+    when_granted (Answered Done (Some (with_file m f.0 (filled size a b (nodes_of (lacking a b f.1) answer.pages) f.1)))) answer
+
+-- what has no entry is granted, and a page is taken for each index without one
+abbrev pub fill : Choice → (size : ℕ) → Mount → (a b : ℕ) → ℕ × File → Plan
+fill c size m a b f =
+    unless ((is_full m (unentered a b f.1), MountFull) ∷ (c.refused, OutOfMemory) ∷ [])
+    (Ask (λ nr. FillPages (rise m (unentered a b f.1)) (lacking a b f.1)) (preallocated size m a b f))
+
+abbrev pub preallocate : Choice → (size : ℕ) → Mount → (a b : ℕ) → ℕ × File → Plan
+preallocate c size m a b f =
+    unless (preallocate_tests a b)
+    (if lacking a b f.1 == 0 then Finish (Answered Done (Some m)) else fill c size m a b f)
+
+-- ---- what a file tells
 
 abbrev pub bytes_answer : (offset count : ℕ) → List ℕ → Answer
 bytes_answer offset count page = Bytes count (take count (drop offset page) ++ replicate (most_bytes - count) 0)
@@ -255,6 +285,7 @@ on_mount size slot c m (Create name) = create c m name
 on_mount size slot c m (Unlink name) = with_value (file_named m name) NoSuchFile (unlink m)
 on_mount size slot c m (Truncate name pages) = with_value (file_named m name) NoSuchFile (truncate m pages)
 on_mount size slot c m (Punch name a b) = with_value (file_named m name) NoSuchFile (punch m a b)
+on_mount size slot c m (Preallocate name a b) = with_value (file_named m name) NoSuchFile (preallocate c size m a b)
 on_mount size slot c m (ReadEvent name i offset count) = with_value (file_named m name) NoSuchFile (read size m i offset count)
 on_mount size slot c m Ls = list c m
 on_mount size slot c m (Stat name) = with_value (file_named m name) NoSuchFile (stat m)

@@ -12,7 +12,7 @@ use Rattle.hp_model.specs.declared.event.SlotEvent.{SlotEvent}
 use Rattle.hp_model.specs.declared.event.SlotEvent.TheVariants as slot
 use Rattle.hp_model.specs.declared.event.PoolEvent.TheVariants as pool
 use Rattle.hp_model.specs.declared.step.Step.{Step}
-use Rattle.hp_model.specs.declared.step.Step.TheVariants.{Connect, Attach, Fork, Exit, Mount, Remount, Umount, Create, Unlink, Truncate, Punch, Read, Ls}
+use Rattle.hp_model.specs.declared.step.Step.TheVariants.{Connect, Attach, Fork, Exit, Mount, Remount, Umount, Create, Unlink, Truncate, Punch, Preallocate, Read, Ls}
 use Rattle.hp_model.specs.declared.step.Step.TheVariants.{Stat, Map, Anon, Unmap, Fault, Load, Store, Nr, Overcommit, Meminfo, Nodes, Df}
 use Rattle.hp_model.specs.machine.Event.{IsEvent, has_maps_of}
 use Rattle.hp_model.specs.machine.Plan.{Reply}
@@ -79,6 +79,7 @@ script n (Create k name) = on_slot n k (slot.Create name)
 script n (Unlink k name) = on_slot n k (slot.Unlink name)
 script n (Truncate k name pages) = on_slot n k (slot.Truncate name pages)
 script n (Punch k name a b) = on_slot n k (slot.Punch name a b)
+script n (Preallocate k name a b) = on_slot n k (slot.Preallocate name a b)
 script n (Read k name i offset count) = on_slot n k (slot.Read name i offset count)
 script n (Ls k) = on_slot n k slot.Ls
 script n (Stat k name) = on_slot n k (slot.Stat name)

@@ -6,13 +6,13 @@ use Rattle.hp_model.specs.declared.refusal.Refusal.TheVariants.{MountFull, NoPag
 use Rattle.hp_model.specs.declared.refusal.Refusal.TheVariants.{OutOfMemory, OutOfRange, SlotTaken, TakenByOwner, TaskExists, TooMany}
 use Rattle.hp_model.specs.declared.step.Step.{Step}
 use Rattle.hp_model.specs.declared.step.Step.TheVariants.{Anon, Attach, Connect, Create, Df, Exit, Fault, Fork, Load, Ls, Map, Mount as MountStep}
-use Rattle.hp_model.specs.declared.step.Step.TheVariants.{Overcommit, Punch, Read, Remount, Stat, Store, Truncate, Umount, Unlink, Unmap}
+use Rattle.hp_model.specs.declared.step.Step.TheVariants.{Overcommit, Preallocate, Punch, Read, Remount, Stat, Store, Truncate, Umount, Unlink, Unmap}
 use Rattle.hp_model.specs.files.File.{Mount}
 use Rattle.hp_model.specs.files.Mapping.{copy_of, is_map, is_shared, place_at}
 use Rattle.hp_model.specs.files.Options.{limits, wanted_of}
 use Rattle.hp_model.specs.files.Spot.{Spot, spot}
 use Rattle.hp_model.specs.machine.Plan.{Choice, Reply}
-use Rattle.hp_model.specs.machine.SlotEvent.{anon_tests, byte_tests, create_tests, fault_tests, file_named, is_bad_range, map_tests, read_tests, umount_tests}
+use Rattle.hp_model.specs.machine.SlotEvent.{anon_tests, byte_tests, create_tests, fault_tests, file_named, is_bad_range, map_tests, preallocate_tests, read_tests, umount_tests}
 use Rattle.hp_model.specs.machine.State.{State, slot_at}
 use Rattle.hp_model.specs.machine.Table.{home_of, is_crowded, is_known}
 use Rattle.hp_model.specs.Profile.{most_file_pages, most_overcommit}
@@ -56,6 +56,7 @@ failed_on size m (Create k name) = first_failed (create_tests with_memory m name
 failed_on size m (Unlink k name) = if_there (file_named m name) NoSuchFile (λ f. None)
 failed_on size m (Truncate k name n) = if_there (file_named m name) NoSuchFile (λ f. first_failed ((nat_lt most_file_pages n, OutOfRange) ∷ []))
 failed_on size m (Punch k name a b) = if_there (file_named m name) NoSuchFile (λ f. first_failed ((is_bad_range a b, OutOfRange) ∷ []))
+failed_on size m (Preallocate k name a b) = if_there (file_named m name) NoSuchFile (λ f. first_failed (preallocate_tests a b))
 failed_on size m (Read k name i offset count) = if_there (file_named m name) NoSuchFile (λ f. first_failed (read_tests size i offset count f.1))
 failed_on size m (Stat k name) = if_there (file_named m name) NoSuchFile (λ f. None)
 failed_on size m (Map task k name a n sharing reserving) = if_there (file_named m name) NoSuchFile (λ f. first_failed (map_tests m task a n))
@@ -88,6 +89,7 @@ failed s (Create k name) = failed_at s k (Create k name)
 failed s (Unlink k name) = failed_at s k (Unlink k name)
 failed s (Truncate k name n) = failed_at s k (Truncate k name n)
 failed s (Punch k name a b) = failed_at s k (Punch k name a b)
+failed s (Preallocate k name a b) = failed_at s k (Preallocate k name a b)
 failed s (Read k name i offset count) = failed_at s k (Read k name i offset count)
 failed s (Ls k) = failed_at s k (Ls k)
 failed s (Stat k name) = failed_at s k (Stat k name)

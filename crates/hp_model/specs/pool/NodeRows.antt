@@ -1,5 +1,5 @@
 -- The rows of the nodes and the moves of pages and frames between them.
-use Rattle.std.specs.Prelude.{ℕ, ◌+◌, ◌-◌, ◌≤◌, ◌==◌, Bool, ◌&&◌, if◌then◌else◌, nat_lt, List, length, drop, sum_by, slice_index_or, slice_set}
+use Rattle.std.specs.Prelude.{ℕ, zero, suc, ◌+◌, ◌-◌, ◌≤◌, ◌==◌, Bool, ◌&&◌, if◌then◌else◌, nat_lt, List, length, drop, sum_by, slice_index_or, slice_set}
 use Rattle.std.specs.List.{position_or_len}
 use Rattle.hp_model.specs.declared.node.NodeRow.{NodeRow}
 use Rattle.hp_model.specs.declared.node.Kind.{Kind}
@@ -85,6 +85,11 @@ at_row f i rows = slice_set rows i (f (row_at rows i))
 -- the moves
 abbrev pub taken : ℕ → NodeRows → NodeRows
 taken home s = record s { rows = at_row take_row (near Free home s.rows) s.rows }
+
+-- so many pages taken, one after another
+abbrev pub taken_times : (home n : ℕ) → NodeRows → NodeRows
+taken_times home zero s = s
+taken_times home (suc n) s = taken home (taken_times home n s)
 
 abbrev pub put_at : ℕ → NodeRows → NodeRows
 put_at node s = record s { rows = at_row put_row node s.rows }

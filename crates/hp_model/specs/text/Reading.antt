@@ -87,6 +87,15 @@ punch_of pieces = do
   done ← end_at to.1
   Ok (step.Punch slot.0 name.0 from.0 to.0)
 
+unfoldable pub preallocate_of : List (List ℕ) → Result Step Refusal
+preallocate_of pieces = do
+  slot ← number_at pieces
+  name ← word_at slot.1
+  from ← number_at name.1
+  to ← number_at from.1
+  done ← end_at to.1
+  Ok (step.Preallocate slot.0 name.0 from.0 to.0)
+
 unfoldable pub read_of : List (List ℕ) → Result Step Refusal
 read_of pieces = do
   slot ← number_at pieces
@@ -220,6 +229,7 @@ slot_command command pieces =
     else if bytes_eq command (codes "unlink") then unlink_of pieces
     else if bytes_eq command (codes "truncate") then truncate_of pieces
     else if bytes_eq command (codes "punch") then punch_of pieces
+    else if bytes_eq command (codes "preallocate") then preallocate_of pieces
     else if bytes_eq command (codes "read") then read_of pieces
     else if bytes_eq command (codes "ls") then ls_of pieces
     else if bytes_eq command (codes "stat") then stat_of pieces

@@ -6,7 +6,7 @@ use Rattle.hp_model.specs.declared.event.Event.TheVariants.{Slot as OnSlot}
 use Rattle.hp_model.specs.declared.event.SlotEvent.TheVariants.{ExitMaps}
 use Rattle.hp_model.specs.declared.refusal.Refusal.TheVariants.{TraceFull}
 use Rattle.hp_model.specs.declared.step.Step.{Step}
-use Rattle.hp_model.specs.declared.step.Step.TheVariants.{Fork, Exit, Mount, Remount, Create, Unlink, Truncate, Punch, Read, Stat, Map, Anon, Unmap, Fault, Load, Store}
+use Rattle.hp_model.specs.declared.step.Step.TheVariants.{Fork, Exit, Mount, Remount, Create, Unlink, Truncate, Punch, Preallocate, Read, Stat, Map, Anon, Unmap, Fault, Load, Store}
 use Rattle.hp_model.specs.machine.Plan.{Reply}
 use Rattle.hp_model.specs.machine.Step.{Answer_with, Do, Script, Where_mapped, script}
 
@@ -51,6 +51,7 @@ carries_bytes (Create k name) = true
 carries_bytes (Unlink k name) = true
 carries_bytes (Truncate k name pages) = true
 carries_bytes (Punch k name a b) = true
+carries_bytes (Preallocate k name a b) = true
 carries_bytes (Read k name i offset count) = true
 carries_bytes (Stat k name) = true
 carries_bytes (Map task k name a pages sharing reserving) = true
