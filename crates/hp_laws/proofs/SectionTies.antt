@@ -120,7 +120,7 @@ page_leads p home f g c k s few was commits pages covered =
       one.1,
     )
 
-other_node : (node n : ℕ) → node < n → cond (node == n) 1 0 ≡ 0
+other_node : (node n : ℕ) → node < n → ◌≡◌ {A = ℕ} (cond (node == n) 1 0) 0
 other_node node n l = ap (λ b. cond b 1 0) (ne_eqb node n (λ same. omega (arith, l, same)))
 
 page_case : (p : Pool) (home d : ℕ) (b : Bool) (f g : ℕ → ℕ) (c k : ℕ) → IsSettledPool p → can_grant d p ≡ b
@@ -280,7 +280,7 @@ fill_case p d n true f g c k s e w =
     let wide : length q.nodes.rows ≡ k = long_q mid n small first.settled all ∙ long_mid ∙ long in
     let wide_list : length (map row_used q.nodes.rows) ≡ k = length-map q.nodes.rows row_used ∙ wide in
     let each = λ (i : ℕ) (l : i < k).
-    (let was = row_list mid i ∙ refl in
+    (let was = row_list mid i in
     let old = ap (λ us. slice_index_or us i 0) (first.is_used ∙ w.was) ∙ at_range f 0 k i l ∙ ap f {x = 0 + i} {y = i} (omega arith) in
     let took_there = taken_there mid n small first.settled all i (omega (arith, l, few)) in
     let more = all.each i in
