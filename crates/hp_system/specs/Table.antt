@@ -1,5 +1,5 @@
 -- The task table as it is kept.
-use Rattle.std.specs.Prelude.{◌≡◌, ℕ, ◌≤◌, ◌==◌, List, length}
+use Rattle.std.specs.Prelude.{ℕ, ◌≤◌, ◌==◌}
 use Rattle.std.specs.List.{count_by}
 use Rattle.hp_model.specs.machine.Table.{Table}
 use Rattle.hp_model.specs.Profile.{most_tasks}
@@ -8,6 +8,6 @@ use Rattle.hp_model.specs.Profile.{most_tasks}
 abbrev pub HasEachOnce : Table → Type 0
 HasEachOnce tasks = (task : ℕ) → count_by (λ e. e.0 == task) tasks ≤ 1
 
--- there is room for all tasks, and a note for each rest of a task's number by 16384
-abbrev pub IsTable : Table → (room : ℕ) → (noted : List ℕ) → Type 0
-IsTable tasks room noted = HasEachOnce tasks × (most_tasks ≤ room) × (length noted ≡ 16384)
+-- there is room for all tasks
+abbrev pub IsTable : Table → (room : ℕ) → Type 0
+IsTable tasks room = HasEachOnce tasks × (most_tasks ≤ room)

@@ -16,7 +16,7 @@ const NOTED: usize = 4 * MOST_TASKS;
 #[derive(Drop)]
 pub struct TaskTable {
     tasks: Vec<(u64, u64)>,
-    noted: Vec<u16>,
+    noted: Box<[u16; NOTED]>,
 }
 
 impl Model for TaskTable {
@@ -28,7 +28,7 @@ impl Model for TaskTable {
 
     ghost view = { λ a. a.tasks.items };
 
-    ghost invariant = { λ a. IsTable a.tasks.items (vec_capacity a.tasks) a.noted.items };
+    ghost invariant = { λ a. IsTable a.tasks.items (vec_capacity a.tasks) };
 }
 
 ghost use Rattle.std.specs.Prelude.{◌≡◌, ◌≢◌, ◌<◌, ℕ, length, [], IfOk, Ok, Err, IsTrue, is_some, None};
@@ -46,7 +46,7 @@ impl TaskTable {
     {
         Ok(TaskTable {
             tasks: Vec::with_capacity(alloc, MOST_TASKS)?,
-            noted: vec![in alloc; 0u16; NOTED]?,
+            noted: Box::new(alloc, [0; NOTED])?,
         })
     }
 
@@ -158,18 +158,12 @@ fn place_of(task: u64) -> usize
 }
 
 // Notes where a task stands.
-fn note(noted: &mut [u16], task: u64, at: usize)
-    requires { length noted.old ≡ 16384 }
-    ensures { length noted.new ≡ 16384 }
-{
+fn note(noted: &mut [u16; NOTED], task: u64, at: usize) {
     noted[place_of(task)] = (at % 65_536) as u16;
 }
 
 // Notes where each task from a place on stands.
-fn note_from(noted: &mut [u16], tasks: &[(u64, u64)], from: usize)
-    requires { length noted.old ≡ 16384 }
-    ensures { length noted.new ≡ 16384 }
-{
+fn note_from(noted: &mut [u16; NOTED], tasks: &[(u64, u64)], from: usize) {
     for (at, entry) in tasks.iter().enumerate().skip(from) {
         note(noted, entry.0, at);
     }
