@@ -1,5 +1,5 @@
 //! The nodes together, and the moves of pages and frames among them.
-ghost use Rattle.std.specs.Prelude.{◌≡◌, ◌+◌, ◌-◌, ◌<◌, ◌≤◌, if◌then◌else◌, length, min, ℕ, ◌==◌, All, IsTrue, IfOk};
+ghost use Rattle.std.specs.Prelude.{◌≡◌, ◌+◌, ◌-◌, ◌<◌, ◌≤◌, ◌^◌, if◌then◌else◌, length, min, ℕ, ◌==◌, All, IsTrue, IfOk};
 ghost use Rattle.hp_model.specs.pool.Resize.{node_count};
 ghost use Rattle.hp_nodes.specs.Kept.{idle_nodes};
 ghost use Rattle.hp_nodes.specs.Ledgers.{AreAll, AreFrames};
@@ -157,6 +157,7 @@ impl<N: Naming> NodeLists<N> {
         ensures sound { free_of self.old.rows ≤ total_of self.old.rows }
         ensures node { result.node ≡ near Kind.Free home self.old.rows }
         ensures amount { result.amount ≡ min most (row_at self.old.rows result.node).free }
+        ensures few { N.frames result.node < 2 ^ 64 }
         ensures some { 0 < result.amount }
         ensures used { (k : ℕ) → used (row_at self.new.rows k)
             ≡ used (row_at self.old.rows k) + (if result.node == k then result.amount else 0) }
