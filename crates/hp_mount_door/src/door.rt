@@ -1,20 +1,22 @@
 //! Doors to the pool.
-ghost use Rattle.std.specs.Prelude.{◌≡◌, ℕ, ◌+◌, ◌<◌, ◌≤◌, ◌^◌, false, List, length, IfOk, IfErr, IsOk, OnOk, OnErr};
+ghost use Rattle.std.specs.Prelude.{◌≡◌, ℕ, ◌+◌, ◌<◌, ◌≤◌, ◌^◌, false, List, [], length, IfOk, IfErr, IsOk, OnOk, OnErr};
 ghost use Rattle.hp_model.specs.files.Page.{Page as PageValue};
 ghost use Rattle.hp_model.specs.declared.section.PoolAnswer.{PoolAnswer};
 ghost use Rattle.hp_model.specs.declared.section.Section.{Section};
 ghost use Rattle.hp_model.specs.declared.section.Section.TheVariants.{TakePage};
-ghost use Rattle.hp_model.specs.pool.Pool.{granted_at};
+ghost use Rattle.hp_model.specs.pool.Pool.{filled_by, granted_at};
 ghost use Rattle.hp_subpool.specs.Subpool.{Subpool as ShareValue, committed_of, fall, is_full as ShareIsFull, rise, used};
+ghost use Rattle.hp_store.specs.Batch.{Batch as BatchValue};
+ghost use Rattle.hp_mount_door.specs.Filling.{AreRising, fill_for, with_filled};
 ghost use Rattle.hp_mount_door.specs.Limits.{IsLimitedAt};
-ghost use Rattle.hp_mount_door.specs.Door.{IsDoorRefusal, IsRefusedAt, GivesBack, grant_for, page_for, with_page, with_granted, with_reserves, with_less};
+ghost use Rattle.hp_mount_door.specs.Door.{IsDoorRefusal, IsRefusedAt, GivesBack, by_node, grant_for, page_for, with_page, with_granted, with_reserves, with_less};
 
 use hp_model::refusal::Refusal;
 
 /// A way to the pool. Each call is one section of the pool at most.
 ///
-/// The types are a share of the pool, a page, and pages that nobody holds any more. What they mean is said by
-/// `share_of`, `page_of` and `going_of`, since a type of a trait can have no bound here. A caller asks that they mean
+/// The types are a share of the pool, a page, pages that nobody holds any more, and pages that were taken at once. What
+/// they mean is said by `share_of`, `page_of`, `going_of` and `batch_of`, since a type of a trait can have no bound here. A caller asks that they mean
 /// themselves.
 pub trait PoolDoor {
     type Share;
@@ -23,11 +25,15 @@ pub trait PoolDoor {
 
     type Going;
 
+    type Batch;
+
     ghost share_of: { Self.Share → ShareValue };
 
     ghost page_of: { Self.Page → PageValue };
 
     ghost going_of: { Self.Going → List PageValue };
+
+    ghost batch_of: { Self.Batch → BatchValue };
 
     // the same without the pages that go
     ghost emptied: { Self.Going → Self.Going };
@@ -92,6 +98,33 @@ pub trait PoolDoor {
         ensures err { IfErr result (λ e.
             IsDoorRefusal e ⊥ ((self.new ≡ self.old) × is_full self.new)) }
         ensures unchanged { OnErr result (share.new ≡ share.old) }
+        ensures left { is_left self.new };
+
+    /// Reserves k pages more for the share, and takes `count` of those that it then holds into an empty batch: of the
+    /// lowest nodes first, in the order in which they come out of it. It is always a section.
+    ///
+    /// Refused as `get` is. Then the share and the batch stay as they were.
+    fn fill(
+        &mut self,
+        share: &mut Self::Share,
+        k: u64,
+        count: u64,
+        batch: &mut Self::Batch,
+    ) -> Result<(), Refusal>
+        requires ready { is_ready self.old }
+        requires within { ShareIsFull (share_of share.old) k ≡ false }
+        requires few { used (share_of share.old) + k < 2 ^ 64 }
+        requires held { count ≤ (share_of share.old).held + k }
+        requires batch { batch_of batch.old ≡ record { pages = []; room = count } }
+        ensures ok { IsOk result → took self.old (fill_for k count (share_of share.old))
+            (filled_by (by_node (batch_of batch.new).pages)) self.new }
+        ensures pages { IsOk result → AreRising count (batch_of batch.new).pages }
+        ensures share { OnOk result (share_of share.new
+            ≡ with_filled k count (share_of share.old)) }
+        ensures err { IfErr result (λ e.
+            IsRefusedAt took is_full (fill_for k count (share_of share.old)) self.old self.new e) }
+        ensures unchanged { OnErr result (share.new ≡ share.old) }
+        ensures empty { OnErr result (batch.new ≡ batch.old) }
         ensures left { is_left self.new };
 
     /// Puts the pages that go back at their nodes, and gives so many reservations back. What the minimum asks for stays

@@ -66,7 +66,7 @@ impl<N: Naming, const K: usize> NodeFrames<N, K> {
     pub fn draw(&mut self, claim: Claim<N>) -> PageDraft<N>
         requires own { claim.node ≡ K }
         requires one { claim.amount ≡ 1 }
-        ensures node { result ≡ K }
+        ensures node { result.node ≡ K }
         ensures left { self.new + 1 ≡ self.old }
     {
         let node = claim.node();

@@ -53,6 +53,10 @@ with_reserves k s = record s { held = s.held + k }
 abbrev pub with_page : Subpool → Subpool
 with_page s = record s { held = s.held - 1; pages = s.pages + 1 }
 
+-- so many pages more, for reservations that were held
+abbrev pub with_pages : ℕ → Subpool → Subpool
+with_pages n s = record s { held = s.held - n; pages = s.pages + n }
+
 -- ---- other limits
 
 abbrev pub with_limits : (max : Option ℕ) → (min : ℕ) → Subpool → Subpool
