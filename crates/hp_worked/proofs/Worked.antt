@@ -138,7 +138,10 @@ all_work = (
                                                             (refl, refl),
                                                             (
                                                               (refl, refl),
-                                                              ((refl, refl), ((refl, refl), ((refl, refl), ((refl, refl), ((refl, refl), ((refl, refl), ((refl, refl), ((refl, refl), ((refl, refl), tt))))))))),
+                                                              (
+                                                                (refl, refl),
+                                                                ((refl, refl), ((refl, refl), ((refl, refl), ((refl, refl), ((refl, refl), ((refl, refl), ((refl, refl), ((refl, refl), tt)))))))),
+                                                              ),
                                                             ),
                                                           ),
                                                         ),
