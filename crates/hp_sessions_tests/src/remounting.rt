@@ -117,7 +117,12 @@ fn minimum<N: Naming, R: Wait + Abort, G: Gate, const K: usize>(
 }
 
 // The machine is closed with what its session was told, and all is joined.
-pub(crate) fn ended<N: Naming, R: Abort>(rt: &R, alloc: Global, shared: Shared<N, 1>, told: Vec<Receipt>) {
+pub(crate) fn ended<N: Naming, R: Abort>(
+    rt: &R,
+    alloc: Global,
+    shared: Shared<N, 1>,
+    told: Vec<Receipt>,
+) {
     let mut all = Vec::with_capacity(alloc, 1).expect(rt, "memory");
     all.push_reserved(told);
     let closed = shared.close(alloc, all).expect(rt, "memory");

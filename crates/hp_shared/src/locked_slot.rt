@@ -135,7 +135,15 @@ impl<N: Naming, T: Trail<SlotEntry>> Slot<N, T> {
     /// An event of a mount but a list of names: its reply, with bytes in the front of the room, and its receipt where
     /// entries are kept. For these the event is given twice. Answered TraceFull, and then nothing changed, where the trail
     /// has no room, or where the event enters a section of the pool and the door has none.
-    pub fn event<'a, D: SessionDoor<Share = Subpool<N>, Page = Page<N>, Going = PageStore<N>, Batch = PageBatch<N>>>(
+    pub fn event<
+        'a,
+        D: SessionDoor<
+            Share = Subpool<N>,
+            Page = Page<N>,
+            Going = PageStore<N>,
+            Batch = PageBatch<N>,
+        >,
+    >(
         &mut self,
         door: &mut D,
         page_bytes: u64,
@@ -185,7 +193,12 @@ impl<N: Naming, T: Trail<SlotEntry>> Slot<N, T> {
     #[inline(always)]
     pub fn event_unnoted<
         'a,
-        D: SessionDoor<Share = Subpool<N>, Page = Page<N>, Going = PageStore<N>, Batch = PageBatch<N>>,
+        D: SessionDoor<
+            Share = Subpool<N>,
+            Page = Page<N>,
+            Going = PageStore<N>,
+            Batch = PageBatch<N>,
+        >,
     >(
         &mut self,
         door: &mut D,
