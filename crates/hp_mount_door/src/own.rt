@@ -12,8 +12,10 @@ ghost use Rattle.hp_pool.specs.Sums.{idle_pool};
 ghost use Rattle.hp_store.specs.Store.{page_at};
 ghost use Rattle.hp_subpool.specs.Subpool.{fall, opened};
 ghost use Rattle.hp_mount_door.specs.Door.{by_node, IsReady};
+ghost use Rattle.hp_mount_door.specs.Filling.{AreRising};
 
 use crate::door::PoolDoor;
+use crate::filling::{add_part, take_pages};
 use crate::limits::set_limits;
 use crate::parcel::Parcel;
 use hp_model::answer::{Counts, NodeCount};
@@ -21,7 +23,7 @@ use hp_model::naming::Naming;
 use hp_model::refusal::Refusal;
 use hp_nodes::{Frames, Page};
 use hp_pool::{Blanks, Pool};
-use hp_store::PageStore;
+use hp_store::{PageBatch, PageStore};
 use hp_subpool::Subpool;
 use std::alloc::{AllocError, Global};
 use std::marker::Model;
@@ -193,6 +195,19 @@ fn put_pages<N: Naming>(
     parcel.put(pool, share);
 }
 
+// Draws the pages of the claims, those of the highest node first, so that those of the lowest come out of the batch first.
+fn add_pages<N: Naming>(frames: &mut Frames<N>, parcel: Parcel<N>, batch: &mut PageBatch<N>)
+    requires { batch.old ≡ record { pages = []; room = sum parcel } }
+    ensures counts { by_node batch.new.pages ≡ parcel }
+    ensures rising { AreRising (sum parcel) batch.new.pages }
+{
+    let (zero, one, two, three) = parcel.into_claims();
+    add_part(&mut frames.three, three, batch);
+    add_part(&mut frames.two, two, batch);
+    add_part(&mut frames.one, one, batch);
+    add_part(&mut frames.zero, zero, batch);
+}
+
 impl<N: Naming> PoolDoor for OwnPool<N> {
     type Share = Subpool<N>;
 
@@ -200,11 +215,15 @@ impl<N: Naming> PoolDoor for OwnPool<N> {
 
     type Going = PageStore<N>;
 
+    type Batch = PageBatch<N>;
+
     ghost share_of = { λ s. s };
 
     ghost page_of = { λ p. p };
 
     ghost going_of = { λ s. s.going };
+
+    ghost batch_of = { λ b. b };
 
     ghost emptied = { λ s. record s { going = [] } };
 
@@ -233,6 +252,20 @@ impl<N: Naming> PoolDoor for OwnPool<N> {
     fn take_page(&mut self, share: &mut Subpool<N>, home: usize) -> Result<Page<N>, Refusal> {
         let claim = share.take_one(&mut self.pool, home);
         Ok(self.frames.redeem(claim))
+    }
+
+    fn fill(
+        &mut self,
+        share: &mut Subpool<N>,
+        k: u64,
+        count: u64,
+        batch: &mut PageBatch<N>,
+    ) -> Result<(), Refusal> {
+        let Some(parcel) = take_pages(&mut self.pool, share, k, count) else {
+            return Err(Refusal::NoPages);
+        };
+        add_pages(&mut self.frames, parcel, batch);
+        Ok(())
     }
 
     fn put(&mut self, share: &mut Subpool<N>, going: &mut PageStore<N>, reserves: u64) {
