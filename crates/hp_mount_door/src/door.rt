@@ -119,8 +119,8 @@ pub trait PoolDoor {
         ensures ok { IsOk result → took self.old (fill_for k count (share_of share.old))
             (filled_by (by_node (batch_of batch.new).pages)) self.new }
         ensures pages { IsOk result → AreRising count (batch_of batch.new).pages }
-        ensures share { OnOk result
-            (share_of share.new ≡ with_filled k count (share_of share.old)) }
+        ensures share { OnOk result (share_of share.new
+            ≡ with_filled k count (share_of share.old)) }
         ensures err { IfErr result (λ e.
             IsRefusedAt took is_full (fill_for k count (share_of share.old)) self.old self.new e) }
         ensures unchanged { OnErr result (share.new ≡ share.old) }
