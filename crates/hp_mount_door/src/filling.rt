@@ -6,7 +6,6 @@ ghost use Rattle.hp_model.specs.pool.PoolCounts.{IsSettled};
 ghost use Rattle.hp_subpool.specs.Subpool.{is_full as ShareIsFull, used};
 ghost use Rattle.hp_mount_door.specs.Door.{IsReady};
 ghost use Rattle.hp_mount_door.specs.Filling.{fill_for, nodes_in, with_filled, with_pages};
-ghost use Rattle.hp_mount_door.specs.Parcel.{IsPart, amount_of};
 
 use crate::parcel::Parcel;
 use hp_model::naming::Naming;
@@ -61,21 +60,19 @@ fn take_claims<N: Naming>(pool: &mut Pool<N>, share: &mut Subpool<N>, count: u64
     parcel
 }
 
-/// Draws the pages of a claim on frames of node K, if there is one, and adds them to a batch. No byte is written.
-pub fn add_part<N: Naming, const K: usize>(
+/// Draws the pages of a claim on frames of node K, and adds them to a batch. No byte is written.
+pub fn add_claim<N: Naming, const K: usize>(
     frames: &mut NodeFrames<N, K>,
-    part: Option<Claim<N>>,
+    mut claim: Claim<N>,
     batch: &mut PageBatch<N>,
 )
-    requires part { IsPart K part }
-    requires room { amount_of part ≤ batch.old.room }
+    requires own { claim.node ≡ K }
+    requires some { 0 < claim.amount }
+    requires room { claim.amount ≤ batch.old.room }
     ensures pages { nodes_in batch.new.pages
-        ≡ replicate (amount_of part) K ++ nodes_in batch.old.pages }
-    ensures room { batch.new.room + amount_of part ≡ batch.old.room }
+        ≡ replicate claim.amount K ++ nodes_in batch.old.pages }
+    ensures room { batch.new.room + claim.amount ≡ batch.old.room }
 {
-    let Some(mut claim) = part else {
-        return;
-    };
     while claim.amount() > 1 {
         let one = claim.split_at(K, 1);
         batch.add(frames.draw(one));

@@ -1,5 +1,5 @@
 //! The door of one thread, which never lacks room to note a section.
-ghost use Rattle.std.specs.Prelude.{◌≡◌, ℕ, ◌+◌, ◌-◌, ◌<◌, ◌≤◌, [], ◌∷◌, length, None, All, IsTrue, IfOk, IfErr, IsOk, ◌↔◌};
+ghost use Rattle.std.specs.Prelude.{◌≡◌, ℕ, ◌+◌, ◌-◌, ◌<◌, ◌≤◌, [], ◌∷◌, ◌++◌, length, replicate, None, All, IsTrue, IfOk, IfErr, IsOk, ◌↔◌};
 ghost use Rattle.std.specs.List.{sum};
 ghost use Rattle.hp_model.specs.pool.Grant.{can_grant, granted};
 ghost use Rattle.hp_model.specs.pool.NodeRows.{row_at, total_of, free_of, surp_of};
@@ -12,16 +12,18 @@ ghost use Rattle.hp_pool.specs.Sums.{idle_pool};
 ghost use Rattle.hp_store.specs.Store.{page_at};
 ghost use Rattle.hp_subpool.specs.Subpool.{fall, opened};
 ghost use Rattle.hp_mount_door.specs.Door.{by_node, IsReady};
-ghost use Rattle.hp_mount_door.specs.Filling.{AreRising};
+ghost use Rattle.hp_mount_door.specs.Filling.{AreRising, nodes_in};
+ghost use Rattle.hp_mount_door.specs.Parcel.{IsPart, amount_of};
 
 use crate::door::PoolDoor;
-use crate::filling::{add_part, take_pages};
+use crate::filling::{add_claim, take_pages};
 use crate::limits::set_limits;
 use crate::parcel::Parcel;
 use hp_model::answer::{Counts, NodeCount};
 use hp_model::naming::Naming;
 use hp_model::refusal::Refusal;
-use hp_nodes::{Frames, Page};
+use hp_nodes::{Frames, NodeFrames, Page};
+use hp_permit::Claim;
 use hp_pool::{Blanks, Pool};
 use hp_store::{PageBatch, PageStore};
 use hp_subpool::Subpool;
@@ -193,6 +195,23 @@ fn put_pages<N: Naming>(
     let mut parcel = Parcel::new();
     gather(frames, going, &mut parcel);
     parcel.put(pool, share);
+}
+
+// Draws the pages of a claim on node K's frames, if there is one.
+fn add_part<N: Naming, const K: usize>(
+    frames: &mut NodeFrames<N, K>,
+    part: Option<Claim<N>>,
+    batch: &mut PageBatch<N>,
+)
+    requires part { IsPart K part }
+    requires room { amount_of part ≤ batch.old.room }
+    ensures pages { nodes_in batch.new.pages
+        ≡ replicate (amount_of part) K ++ nodes_in batch.old.pages }
+    ensures room { batch.new.room + amount_of part ≡ batch.old.room }
+{
+    if let Some(claim) = part {
+        add_claim(frames, claim, batch);
+    }
 }
 
 // Draws the pages of the claims, those of the highest node first, so that those of the lowest come out of the batch first.

@@ -1,7 +1,7 @@
 use Rattle.std.proofs.Common.{◌≡◌, ◌+◌, ◌<◌, ◌++◌}
 use Rattle.std.specs.Prelude.{replicate}
 use Rattle.hp_mount_door.specs.Filling.{nodes_in}
-use Rattle.hp_mount_door.proofs.filling.add_part.Given as goal
+use Rattle.hp_mount_door.proofs.filling.add_claim.Given as goal
 
 abbrev pub invariant-loop-claim : goal.invariant-loop-claim
 invariant-loop-claim g l = record {
