@@ -16,8 +16,8 @@ use hp_model::refusal::Refusal;
 /// A way to the pool. Each call is one section of the pool at most.
 ///
 /// The types are a share of the pool, a page, pages that nobody holds any more, and pages that were taken at once. What
-/// they mean is said by `share_of`, `page_of`, `going_of` and `batch_of`, since a type of a trait can have no bound here. A caller asks that they mean
-/// themselves.
+/// they mean is said by `share_of`, `page_of`, `going_of` and `batch_of`, since a type of a trait can have no bound here. A
+/// caller asks that they mean themselves.
 pub trait PoolDoor {
     type Share;
 

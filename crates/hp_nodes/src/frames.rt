@@ -101,10 +101,10 @@ impl<N: Naming, const K: usize> NodeFrames<N, K> {
 
 /// The frames of all nodes that nobody holds, for one thread. It can't be dropped: `close` ends it.
 pub struct Frames<N: Naming> {
-    zero: NodeFrames<N, 0>,
-    one: NodeFrames<N, 1>,
-    two: NodeFrames<N, 2>,
-    three: NodeFrames<N, 3>,
+    pub zero: NodeFrames<N, 0>,
+    pub one: NodeFrames<N, 1>,
+    pub two: NodeFrames<N, 2>,
+    pub three: NodeFrames<N, 3>,
 }
 
 impl<N: Naming> Frames<N> {
