@@ -18,7 +18,7 @@ use Rattle.hp_model.specs.declared.event.TableEvent.{TableEvent}
 use Rattle.hp_model.specs.declared.event.TableEvent.TheVariants.{Add, Find, FindAndAdd, Remove}
 use Rattle.hp_model.specs.declared.refusal.Refusal.TheVariants.{NoSuchNode, NoSuchTask, TaskExists, TooMany, OutOfRange}
 use Rattle.hp_model.specs.declared.section.PoolAnswer.{PoolAnswer}
-use Rattle.hp_model.specs.declared.section.Section.TheVariants.{GiveBack, Grant, GrantPage, TakePage, ReadAndGiveBack, ReadAndGrant, GrantAndReturn}
+use Rattle.hp_model.specs.declared.section.Section.TheVariants.{GiveBack, Grant, GrantPage, TakePage, ReadAndGiveBack, ReadAndGrant, GrantAndReturn, FillPages}
 use Rattle.hp_model.specs.files.File.{Mount, maps_of}
 use Rattle.hp_model.specs.files.GiveBack.{without_task}
 use Rattle.hp_model.specs.files.MakeMap.{tasks_of}
@@ -156,6 +156,7 @@ slot_places size k c old (slot.Create name) few = leaves_few size k c old (slot.
 slot_places size k c old (slot.Unlink name) few = leaves_few size k c old (slot.Unlink name) few refl
 slot_places size k c old (slot.Truncate name n) few = leaves_few size k c old (slot.Truncate name n) few refl
 slot_places size k c old (slot.Punch name a b) few = leaves_few size k c old (slot.Punch name a b) few refl
+slot_places size k c old (slot.Preallocate name a b) few = leaves_few size k c old (slot.Preallocate name a b) few refl
 slot_places size k c old (slot.Read name i offset count) few = leaves_few size k c old (slot.Read name i offset count) few refl
 slot_places size k c old slot.Ls few = leaves_few size k c old slot.Ls few refl
 slot_places size k c old (slot.Stat name) few = leaves_few size k c old (slot.Stat name) few refl
@@ -256,6 +257,7 @@ pool_places p q e s then step held = (
     less (OfSlot (Grant home d) a) step held t = cc
     less (OfSlot (GrantPage home d) a) step held t = cc
     less (OfSlot (TakePage home) a) step held t = cc
+    less (OfSlot (FillPages d n) a) step held t = cc
     less (OfSlot (ReadAndGrant d) a) step held t = cc
     less (OfSlot (ReadAndGiveBack k) a) step held t = cc
     less (OfSlot (GrantAndReturn d) a) step held t = cc

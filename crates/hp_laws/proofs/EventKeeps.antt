@@ -1,5 +1,5 @@
 -- A step leaves on its own slot the places of maps and the cells of files as they were, but for what it reaches.
-use Rattle.std.proofs.Common.{◌≡◌, ⊎_elim, inl, inr, ◌⊎◌, ℕ, ◌+◌, ◌-◌, ◌<◌, Bool, true, false, ◌&&◌, ◌==◌, not, replicate, take}
+use Rattle.std.proofs.Common.{◌≡◌, ⊎_elim, inl, inr, ◌⊎◌, ℕ, ◌+◌, ◌-◌, ◌<◌, Bool, true, false, ◌&&◌, ◌==◌, not, replicate, take, ◌≤◌}
 use Rattle.std.proofs.Common.{Option, None, Some, is_some, Ok, Err, List, [], ◌∷◌, length, get_or, refl, sym, ap, ◌∙◌, subst, arith, if◌then◌else◌, nat_le, nat_lt}
 use Rattle.std.specs.List.{slice_index_or, slice_set}
 use Rattle.std.specs.Str.{bytes_eq}
@@ -41,7 +41,7 @@ use Rattle.hp_model.specs.machine.Kept.{ChangesCell, ChangesPlace, IsFilled, IsS
 use Rattle.hp_model.specs.machine.Plan.{Answered, Choice, Finish, Outcome, Plan, Refused, Reply, Slot, gives, grant, unless, with_value}
 use Rattle.hp_model.specs.machine.Promises.{IsLostTo, file_in, is_at, is_in, is_shared_of, map_in, map_on, means_file, no_map}
 use Rattle.hp_model.specs.machine.Settled.{IsSettledState}
-use Rattle.hp_model.specs.machine.SlotEvent.{anon_tests, byte_access, bytes_answer, create_tests, edited, fault, file_named, has_name, is_bad_range, is_beyond}
+use Rattle.hp_model.specs.machine.SlotEvent.{anon_tests, byte_access, bytes_answer, create_tests, edited, fault, file_named, has_name, is_bad_range, is_beyond, preallocate}
 use Rattle.hp_model.specs.machine.SlotEvent.{is_unmapped, load, map_file, map_tests, on_mount, punch, read, read_tests, slot_event, stat, store, truncate, umount_tests, unlink, unmap}
 use Rattle.hp_model.specs.machine.Sound.{IsSound, IsSoundMap, IsSoundFile, IsSoundMount}
 use Rattle.hp_model.specs.machine.State.{State, slot_at}
@@ -59,7 +59,7 @@ use Rattle.hp_laws.proofs.KeptPlaces.{Held, access_held, store_held}
 use Rattle.hp_laws.proofs.KeptSlot.{Each, NoCell, NoPlace, alike_keeps, cut_keeps, kept_keeps, means_it, new_keeps, only_file, only_spot, put_kept, same_keeps, sweep_kept}
 use Rattle.hp_laws.proofs.Looks.{same_more, same_none}
 use Rattle.hp_laws.proofs.Seen.{IsLostAt}
-use Rattle.hp_laws.proofs.Meanings.{fault_on, load_on, placed_map, placed_new, placed_same, store_on}
+use Rattle.hp_laws.proofs.Meanings.{fault_on, load_on, placed_map, placed_new, placed_same, store_on, placed_filled}
 use Rattle.hp_laws.proofs.MountMoves.{IsSpot, file_at, spot_is}
 use Rattle.hp_laws.proofs.Named.{map_shown}
 use Rattle.hp_laws.proofs.Outcomes.{Always, always_test, always_then, always_weaker, event_ends, reply_of}
@@ -67,8 +67,12 @@ use Rattle.hp_laws.proofs.Placed.{Placed, lead_same, placed}
 use Rattle.hp_laws.proofs.Shown.{On, Result, on_follows, on_weaker, write_done}
 use Rattle.hp_laws.proofs.SlotKept.{always_both}
 use Rattle.hp_laws.proofs.Tied.{left_sound}
-use Rattle.hp_laws.proofs.SlotShows.{always_gives, always_grant, always_mount, always_remount, always_unless, always_value, bytes_on}
+use Rattle.hp_laws.proofs.SlotShows.{always_gives, always_grant, always_mount, always_remount, always_unless, always_value, bytes_on, always_preallocate}
 use Rattle.hp_laws.proofs.Whole.{by_event, is_whole, slot_step, step_of}
+use Rattle.hp_model.specs.files.Fill.{filled, lacking, nodes_of}
+use Rattle.hp_laws.proofs.Filled.{filled_index}
+use Rattle.hp_laws.proofs.NodesOf.{length-nodes_of}
+use Rattle.std.proofs.lemmas.Bool.Decides.{nat_tests}
 
 -- a slot that is sound afterwards keeps its maps and files
 abbrev KeepsTo : Slot → Step → Outcome → Type 0
@@ -179,6 +183,29 @@ module _ (m : Mount) (task k : ℕ) (name : List ℕ) (a n : ℕ) (q : ℕ × Fi
       kept_keeps m Each NoPlace c (step.Map task k name a n sharing reserving) (with_file m q.0 g) (λ p r i never. absurd never) (λ file i old new to. to) (λ other goes. refl)
       (put_kept m name q named g Each NoPlace c (λ other f ok e. stays.names other f e) (λ t u p found. stays.numbers t u p found) (map_cell number sharing reserving)
       (λ l within. (let there = get_or_append_left q.1.maps (new_map task number a n sharing reserving ∷ []) no_map l within in (λ i. inl (ap (λ y. place_at y i) there), ap (λ y. y.unmapped) there))))
+
+-- ---- pages of a range
+
+module _ (m : Mount) (k size : ℕ) (name : List ℕ) (a b : ℕ) (pages : List ℕ) (q : ℕ × File) (named : file_named m name ≡ Some q) where
+  abbrev full : File
+  full = filled size a b (nodes_of (lacking a b q.1) pages) q.1
+
+  abbrev FillCell : (file i : ℕ) → Cell Page → Cell Page → Type 0
+  FillCell file i old new = ((means_file (Some m) name file && is_in a b i) ≡ true) × (has_page old ≡ false) × (has_page new ≡ true)
+
+  in_it : (i : ℕ) → a ≤ i → i < b → is_in a b i ≡ true
+  in_it i low high = grind (arith, nat_tests)
+
+  fill_kept : Keeps (Some m) (step.Preallocate k name a b) (Some (with_file m q.0 full))
+  fill_kept =
+      let nodes = nodes_of (lacking a b q.1) pages in
+      let stays = placed_filled m size a b nodes name q named in
+      kept_keeps m Each NoPlace FillCell (step.Preallocate k name a b) (with_file m q.0 full) (λ p r i never. absurd never) (λ file i old new to. to) (λ other goes. refl)
+      (put_kept m name q named full Each NoPlace FillCell (λ other f ok e. stays.names other f e) (λ t u p found. stays.numbers t u p found)
+      (λ i. ⊎_elim (λ same. inl same)
+      (λ new. inr (ap (λ x. x && is_in a b i) (means_it m name q named q.1) ∙ in_it i new.low new.high, new.lacked, ap has_page new.is))
+      (filled_index size a b nodes q.1 (length-nodes_of (lacking a b q.1) pages) i))
+      (λ l within. (λ i. inl refl, refl)))
 
 -- ---- accesses
 
@@ -377,6 +404,10 @@ module _ (size k : ℕ) (c : Choice) (m : Mount) (sound : IsSoundMount m) where
       of_file (step.Punch k name a b) name (punch m a b)
       (λ q named. tested (step.Punch k name a b) ((is_bad_range a b, OutOfRange) ∷ []) (gives Done (Some m) (edited m q.0 (punched a b q.1)))
       (given (step.Punch k name a b) (swept (with_file m q.0 (punched a b q.1))) (punch_kept m sound k name q named a b)))
+  mount_kept (slot.Preallocate name a b) =
+      let x : Step = step.Preallocate k name a b in
+      of_file x name (preallocate c size m a b)
+      (λ q named. always_preallocate (KeepsTo (Some m) x) (λ r. tt) c size m a b q (λ whole. same_keeps (Some m) x) (λ pages whole. fill_kept m k size name a b pages q named))
   mount_kept (slot.Read name i offset count) =
       of_file (step.Read k name i offset count) name (read size m i offset count)
       (λ q named. tested (step.Read k name i offset count) (read_tests size i offset count q.1) _ (λ whole. same_keeps (Some m) (step.Read k name i offset count)))

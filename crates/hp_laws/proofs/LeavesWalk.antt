@@ -1,23 +1,26 @@
 -- What holds of each mount that a change leaves holds of each that an event leaves.
-use Rattle.std.proofs.Common.{◌≡◌, ℕ, false, Some, None, is_some, List}
+use Rattle.std.proofs.Common.{◌≡◌, ℕ, false, Some, None, is_some, List, [], ◌∷◌}
 use Rattle.hp_model.specs.declared.answer.Answer.TheVariants.{Done, MapNo}
 use Rattle.hp_model.specs.declared.step.Intent.{Intent}
 use Rattle.hp_model.specs.declared.step.Intent.TheVariants.{Read}
 use Rattle.hp_model.specs.declared.step.Reserving.{Reserving}
 use Rattle.hp_model.specs.declared.step.Sharing.{Sharing}
 use Rattle.hp_model.specs.files.File.{File, Mount, new_file, with_file}
+use Rattle.hp_model.specs.files.Fill.{filled, lacking, nodes_of}
 use Rattle.hp_model.specs.files.Fork.{forked}
 use Rattle.hp_model.specs.files.GiveBack.{punched, swept, truncated, unlinked, unmapped_from, without_task}
 use Rattle.hp_model.specs.files.MakeMap.{asked, mapped, next_number, with_new}
+use Rattle.hp_model.specs.declared.refusal.Refusal.TheVariants.{MountFull, OutOfMemory}
+use Rattle.hp_model.specs.pool.Grant.{is_full, rise}
 use Rattle.hp_model.specs.machine.Plan.{Answered, Choice, gives}
-use Rattle.hp_model.specs.machine.SlotEvent.{byte_access, bytes_answer, fault, file_named, store}
+use Rattle.hp_model.specs.machine.SlotEvent.{byte_access, bytes_answer, fault, file_named, store, unentered}
 use Rattle.hp_model.specs.files.Spot.{Spot, again}
 use Rattle.hp_model.specs.files.Value.{value}
 use Rattle.hp_laws.specs.Balance.{Always}
 use Rattle.hp_laws.proofs.MountMoves.{IsFileAt, IsSpot}
 use Rattle.hp_laws.proofs.Outcomes.{always_then}
 use Rattle.hp_laws.proofs.Shown.{On, on_follows}
-use Rattle.hp_laws.proofs.SlotShows.{always_gives, always_grant}
+use Rattle.hp_laws.proofs.SlotShows.{always_fill, always_gives, always_grant}
 use Rattle.hp_laws.proofs.Walk.{Walks}
 
 module _ (size slot : ℕ) (c : Choice) (m : Mount) (Q : Mount → Type 0) where
@@ -28,6 +31,7 @@ module _ (size slot : ℕ) (c : Choice) (m : Mount) (Q : Mount → Type 0) where
     pub unlinks : (q : ℕ × File) → IsFileAt m q.0 q.1 → Q (swept (with_file m q.0 (unlinked q.1)))
     pub truncates : (n : ℕ) (q : ℕ × File) → IsFileAt m q.0 q.1 → Q (swept (with_file m q.0 (truncated n q.1)))
     pub punches : (a b : ℕ) (q : ℕ × File) → IsFileAt m q.0 q.1 → Q (swept (with_file m q.0 (punched a b q.1)))
+    pub fills : (a b : ℕ) (pages : List ℕ) (q : ℕ × File) → IsFileAt m q.0 q.1 → Q (with_file m q.0 (filled size a b (nodes_of (lacking a b q.1) pages) q.1))
     pub maps : (task a n : ℕ) (sharing : Sharing) (reserving : Reserving) (q : ℕ × File) → IsFileAt m q.0 q.1
         → Q (with_file m q.0 (mapped task (next_number task m) a n sharing reserving q.1))
     pub anons : (task n : ℕ) (sharing : Sharing) (reserving : Reserving) → Q (with_new m (mapped task (next_number task m) 0 n sharing reserving (new_file None)))
@@ -49,6 +53,9 @@ module _ (size slot : ℕ) (c : Choice) (m : Mount) (Q : Mount → Type 0) where
     unlinks = λ q at. gives_on (swept (with_file m q.0 (unlinked q.1))) (leaves.unlinks q at);
     truncates = λ n q at. gives_on (swept (with_file m q.0 (truncated n q.1))) (leaves.truncates n q at);
     punches = λ a b q at. gives_on (swept (with_file m q.0 (punched a b q.1))) (leaves.punches a b q at);
+    fills = λ a b q at.
+        always_fill (On Q) (λ r. tt) ((is_full m (unentered a b q.1), MountFull) ∷ (c.refused, OutOfMemory) ∷ []) (rise m (unentered a b q.1)) (lacking a b q.1)
+        (λ pages. Answered Done (Some (with_file m q.0 (filled size a b (nodes_of (lacking a b q.1) pages) q.1)))) (λ pages. leaves.fills a b pages q at);
     maps = λ task home a n sharing reserving q at.
         always_grant (On Q) (λ r. tt) c m home (asked sharing reserving a n q.1)
         (Answered (MapNo (next_number task m)) (Some (with_file m q.0 (mapped task (next_number task m) a n sharing reserving q.1)))) (leaves.maps task a n sharing reserving q at);

@@ -11,12 +11,12 @@ use Rattle.hp_model.specs.declared.answer.Answer.TheVariants.{Done}
 use Rattle.hp_model.specs.declared.refusal.Refusal.TheVariants.{OutOfRange}
 use Rattle.hp_model.specs.pool.Grant.{can_grant, granted, surplus_times}
 use Rattle.hp_model.specs.machine.Machine.{pool_of, with_pool, rows_of, node_of}
-use Rattle.hp_model.specs.pool.NodeRows.{NodeRows, at_row, row_at, lowest, near, next_from, give_back_row, promote_row, demote_row, grow_row, put_row, take_row}
+use Rattle.hp_model.specs.pool.NodeRows.{NodeRows, at_row, row_at, lowest, near, next_from, give_back_row, promote_row, demote_row, grow_row, put_row, take_row, taken_times}
 use Rattle.hp_model.specs.pool.NodeRows.{shrink_row, add_surplus_row, total_of, grown, shrunk, promoted, demoted, given_back, free_of, surp_of, frames_of}
-use Rattle.hp_model.specs.pool.Pool.{section, granted_at, no_pages, page_taken, take_node, kept_times, puts_from, released, settled, give_back_times}
+use Rattle.hp_model.specs.pool.Pool.{section, filled_by, granted_at, no_pages, page_taken, pages_taken, read_nr, take_node, takes_of, kept_times, puts_from, released, settled, give_back_times}
 use Rattle.hp_model.specs.declared.section.PoolAnswer.{PoolAnswer}
 use Rattle.hp_model.specs.declared.section.Section.{Section}
-use Rattle.hp_model.specs.declared.section.Section.TheVariants.{Grant, GrantPage, TakePage, GiveBack, ReadAndGrant, ReadAndGiveBack, GrantAndReturn}
+use Rattle.hp_model.specs.declared.section.Section.TheVariants.{Grant, GrantPage, TakePage, FillPages, GiveBack, ReadAndGrant, ReadAndGiveBack, GrantAndReturn}
 use Rattle.hp_model.specs.pool.PoolCounts.{Pool, rsvd}
 use Rattle.hp_model.specs.machine.Plan.{Reply}
 use Rattle.hp_model.specs.Profile.{most_overcommit}
@@ -44,6 +44,10 @@ long_give_back_times (suc k) s = long_given_back (give_back_times k s) ∙ long_
 long_surplus_times : (home k : ℕ) (s : NodeRows) → length (surplus_times home k s).rows ≡ length s.rows
 long_surplus_times home zero s = refl
 long_surplus_times home (suc k) s = long_row add_surplus_row (near Idle home (surplus_times home k s).rows) (surplus_times home k s).rows ∙ long_surplus_times home k s
+
+long_taken_times : (k : ℕ) (s : NodeRows) → length (taken_times 0 k s).rows ≡ length s.rows
+long_taken_times zero s = refl
+long_taken_times (suc k) s = long_row take_row (near Free 0 (taken_times 0 k s).rows) (taken_times 0 k s).rows ∙ long_taken_times k s
 
 long_raised : (s : NodeRows) → length (raised s).rows ≡ length s.rows
 long_raised s = cond_both (nat_lt 0 (surp_of s.rows)) (promoted s) (grown s) (λ (x : NodeRows). length x.rows ≡ length s.rows)
@@ -85,13 +89,16 @@ long_section p (GrantPage home d) =
     cond_both (can_grant d p) (granted_at (take_node home (granted home d p)), page_taken home (granted home d p)) (no_pages, p) (Long p)
     (λ e. long_row take_row (near Free home (granted home d p).nodes.rows) (granted home d p).nodes.rows ∙ long_granted home d p) (λ e. refl)
 long_section p (TakePage home) = long_row take_row (near Free home p.nodes.rows) p.nodes.rows
+long_section p (FillPages d n) =
+    cond_both (can_grant d p) (filled_by (takes_of n (granted 0 d p)), pages_taken n (granted 0 d p)) (no_pages, p) (Long p)
+    (λ e. long_taken_times n (granted 0 d p).nodes ∙ long_granted 0 d p) (λ e. refl)
 long_section p (GiveBack puts k) = long_settled (released k (puts_from 0 puts p)) ∙ long_puts 0 puts p
 long_section p (ReadAndGrant d) =
-    cond_both (can_grant d p) (record { granted = true; node = 0; nr = p.nr }, granted 0 d p) (record { granted = false; node = 0; nr = p.nr }, p) (Long p)
+    cond_both (can_grant d p) (read_nr true p, granted 0 d p) (read_nr false p, p) (Long p)
     (λ e. long_granted 0 d p) (λ e. refl)
 long_section p (ReadAndGiveBack k) = long_settled (released k p)
 long_section p (GrantAndReturn d) =
-    cond_both (can_grant d p) (record { granted = true; node = 0; nr = p.nr }, settled (released d (granted 0 d p))) (record { granted = false; node = 0; nr = p.nr }, p) (Long p)
+    cond_both (can_grant d p) (read_nr true p, settled (released d (granted 0 d p))) (read_nr false p, p) (Long p)
     (λ e. long_settled (released d (granted 0 d p)) ∙ long_granted 0 d p) (λ e. refl)
 
 pub long_event : (p : Pool) (e : PoolEvent) → length (pool_event p e).1.nodes.rows ≡ length p.nodes.rows

@@ -1,4 +1,7 @@
 pub mod Reserved
+pub mod NodesOf
+pub mod Fills
+pub mod Filled
 pub mod CountSteps
 pub mod Doors
 pub mod Holding

@@ -33,6 +33,7 @@ module _ (size k : ℕ) (c : Choice) (m : Mount) where
     unlinks = λ q at. refl;
     truncates = λ n q at. refl;
     punches = λ a b q at. refl;
+    fills = λ a b pages q at. refl;
     maps = λ task a n sharing reserving q at. refl;
     anons = λ task n sharing reserving. refl;
     unmaps = λ task number a b. refl;

@@ -28,7 +28,7 @@ use Rattle.hp_model.specs.files.Mapping.{is_map, is_shared, place_at}
 use Rattle.hp_model.specs.files.Page.{Copy, Page}
 use Rattle.hp_model.specs.machine.Plan.{Ask, grant_page, when_granted, with_value, Slot, Outcome, Refused, Answered, Plan, Finish, Choice, unless, continued, grant, gives}
 use Rattle.hp_model.specs.Profile.{most_bytes, most_file_pages, most_files, most_map_pages}
-use Rattle.hp_model.specs.machine.SlotEvent.{anon_tests, edited, fault, fault_tests, fork_tests, is_bad_range, on_mount, punch, read}
+use Rattle.hp_model.specs.machine.SlotEvent.{anon_tests, edited, fault, fault_tests, fork_tests, is_bad_range, on_mount, punch, read, preallocate}
 use Rattle.hp_model.specs.machine.SlotEvent.{truncate, unlink, unmap, are_too_many_maps, byte_access, bytes_answer, file_named, has_maps, is_beyond}
 use Rattle.hp_model.specs.machine.SlotEvent.{is_name, is_unmapped, load, map_file, slot_event, store}
 use Rattle.hp_model.specs.files.Spot.{Spot, again, copied, spot, written}
@@ -36,7 +36,7 @@ use Rattle.hp_model.specs.files.Value.{shown, value}
 use Rattle.hp_laws.proofs.MountMoves.{IsSpot, spot_is}
 use Rattle.hp_laws.proofs.Outcomes.{Always, always_if, outcome_if, always_test, always_then, always_weaker}
 use Rattle.hp_laws.proofs.Shown.{On, Same, Result, on_weaker, read_same, write_done}
-use Rattle.hp_laws.proofs.SlotShows.{always_gives, always_grant, always_mount, always_remount, always_unless, always_value, bytes_on}
+use Rattle.hp_laws.proofs.SlotShows.{always_gives, always_grant, always_mount, always_remount, always_unless, always_value, bytes_on, always_preallocate}
 use Rattle.hp_model.specs.declared.answer.Answer.{Answer}
 use Rattle.hp_model.specs.machine.Copying.{has_names}
 use Rattle.hp_model.specs.machine.SlotEvent.{stat}
@@ -213,6 +213,7 @@ module _ (size k : ℕ) (c : Choice) (m : Mount) where
   mounted_unlisted (slot.Unlink name) e = of_file name (unlink m) (λ q. done_unlisted (edited m q.0 (unlinked q.1)))
   mounted_unlisted (slot.Truncate name n) e = of_file name (truncate m n) (λ q. tested ((nat_lt most_file_pages n, OutOfRange) ∷ []) _ (done_unlisted (edited m q.0 (truncated n q.1))))
   mounted_unlisted (slot.Punch name a b) e = of_file name (punch m a b) (λ q. tested ((is_bad_range a b, OutOfRange) ∷ []) _ (done_unlisted (edited m q.0 (punched a b q.1))))
+  mounted_unlisted (slot.Preallocate name a b) e = of_file name (preallocate c size m a b) (λ q. always_preallocate Unlisted (λ r. tt) c size m a b q tt (λ pages. tt))
   mounted_unlisted (slot.Read name i offset count) e = of_file name (read size m i offset count) (read_unlisted size m i offset count)
   mounted_unlisted slot.Ls e = cc
   mounted_unlisted (slot.Stat name) e = of_file name (stat m) (λ q. tt)

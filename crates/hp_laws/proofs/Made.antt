@@ -1,41 +1,49 @@
 -- A created file and a new map are what their reply says.
-use Rattle.std.proofs.Common.{◌≡◌, subst, ℕ, ◌<◌, ◌||◌, Bool, true, false, not, None, Option, Some, Err, List}
+use Rattle.std.proofs.Common.{◌≡◌, subst, ℕ, ◌<◌, ◌||◌, Bool, true, false, not, None, Option, Some, Err, List, nat_le, nat_lt, ◌≤◌, max, ◌==◌, ⊎_elim, arith, ◌-◌}
 use Rattle.std.proofs.Common.{[], ◌∷◌, ◌++◌, length, drop, is_some, option_map, refl, sym, ap, ◌∙◌, get_or, if◌then◌else◌}
 use Rattle.std.specs.List.{flat_map, list_any, slice_index_or, slice_set}
-use Rattle.std.proofs.lemmas.Bool.{eq-eqb, eqb-true, false_from_ne_true, ltb-true}
-use Rattle.std.proofs.lemmas.List.{get_or-set_same}
+use Rattle.std.proofs.lemmas.Bool.{eq-eqb, eqb-true, false_from_ne_true, ltb-true, and_parts, cases_lt, leb-false, leb-true, or_parts}
+use Rattle.std.proofs.lemmas.List.{get_or-set_same, get_or_past}
 use Rattle.std.proofs.lemmas.Slice.Eq.{bytes_eq-Decides}
 use Rattle.std.proofs.lemmas.List.Folds.{list_any_at}
 use Rattle.hp_model.specs.declared.answer.Answer.TheVariants.{Done, MapNo}
 use Rattle.hp_model.specs.declared.refusal.Refusal.{Refusal}
-use Rattle.hp_model.specs.declared.refusal.Refusal.TheVariants.{BadName, FileExists, NoSuchFile}
+use Rattle.hp_model.specs.declared.refusal.Refusal.TheVariants.{BadName, FileExists, NoSuchFile, MountFull, OutOfMemory, OutOfRange}
 use Rattle.hp_model.specs.declared.step.Reserving.{Reserving}
 use Rattle.hp_model.specs.declared.step.Sharing.{Sharing}
 use Rattle.hp_model.specs.declared.step.Step.{Step}
-use Rattle.hp_model.specs.declared.step.Step.TheVariants.{Anon as AnonStep, Create as CreateStep, Map as MapStep}
+use Rattle.hp_model.specs.declared.step.Step.TheVariants.{Anon as AnonStep, Create as CreateStep, Map as MapStep, Preallocate}
 use Rattle.hp_model.specs.declared.event.Event.{Event}
 use Rattle.hp_model.specs.declared.event.Event.TheVariants.{Tasks, Slot as OnSlot, Pool as OnPool}
 use Rattle.hp_model.specs.declared.event.PoolEvent.TheVariants as pool
 use Rattle.hp_model.specs.declared.event.TableEvent.TheVariants as table
-use Rattle.hp_model.specs.files.File.{File, Mount, maps_of, new_file, with_file}
+use Rattle.hp_model.specs.files.File.{File, Mount, maps_of, new_file, with_file, at_least, has_page}
 use Rattle.hp_model.specs.Lists.{found, one_on}
 use Rattle.hp_model.specs.files.MakeMap.{asked, mapped, new_map, next_number, numbers_of, with_new}
 use Rattle.hp_model.specs.files.Mapping.{Map, is_map}
 use Rattle.hp_model.specs.machine.Plan.{Choice, Outcome, Refused, Answered, Finish, Plan, Reply, Slot, grant, unless}
-use Rattle.hp_model.specs.machine.Promises.{IsNewAnon, IsNewFile, IsNewMap, Makes}
+use Rattle.hp_model.specs.machine.Promises.{IsNewAnon, IsNewFile, IsNewMap, Makes, HasPages, named_on, pages_of_file}
 use Rattle.hp_model.specs.machine.State.{State, slot_at}
 use Rattle.hp_model.specs.machine.Step.{IsStep}
 use Rattle.hp_model.specs.machine.Event.{IsEvent}
 use Rattle.hp_laws.specs.Balance.{left_by}
-use Rattle.hp_model.specs.machine.SlotEvent.{anon_tests, create_tests, file_named, has_name, is_name, map_file, map_tests, slot_event}
+use Rattle.hp_model.specs.machine.SlotEvent.{anon_tests, create_tests, file_named, has_name, is_name, map_file, map_tests}
+use Rattle.hp_model.specs.machine.SlotEvent.{slot_event, fill, is_bad_range, preallocate, preallocate_tests, unentered}
 use Rattle.hp_model.specs.declared.event.SlotEvent.TheVariants as slot
 use Rattle.hp_model.specs.files.Spot.{Spot, spot, spot_in}
 use Rattle.hp_model.proofs.Distinct.{or_assoc}
 use Rattle.hp_laws.proofs.Naming.{found_again, found_last, found_not, found_put, least_is_unused, number_used}
-use Rattle.hp_laws.proofs.Outcomes.{Always, always_test, event_ends, reply_of}
+use Rattle.hp_laws.proofs.Outcomes.{Always, always_if, always_test, event_ends, reply_of}
 use Rattle.hp_laws.proofs.Places.{found_place}
-use Rattle.hp_laws.proofs.SlotShows.{always_grant, always_unless, always_value}
+use Rattle.hp_laws.proofs.SlotShows.{always_grant, always_unless, always_value, always_fill}
 use Rattle.hp_laws.proofs.Whole.{by_event, is_whole, step_of}
+use Rattle.hp_model.specs.declared.cell.Cell.TheVariants.{Hole}
+use Rattle.hp_laws.proofs.Fills.{all_there}
+use Rattle.hp_model.specs.files.Fill.{filled, lacking, nodes_of}
+use Rattle.hp_laws.proofs.Filled.{filled_there, length-filled, length-longer, same_longer}
+use Rattle.hp_model.specs.pool.Grant.{is_full, rise}
+use Rattle.hp_laws.proofs.NodesOf.{length-nodes_of}
+use Rattle.hp_model.specs.Profile.{most_file_pages}
 
 -- ---- a map's number is not used before
 
@@ -153,6 +161,59 @@ anon_made size k c (Some m) task home n sharing reserving =
     let done : Outcome = Answered (MapNo (next_number task m)) (Some (with_new m (mapped task (next_number task m) 0 n sharing reserving (new_file None)))) in
     always_unless P (λ r. tt) (anon_tests m task n) (grant c m home wanted done) (always_grant P (λ r. tt) c m home wanted done (anon_is_new m task n sharing reserving))
 
+-- ---- a preallocation
+
+abbrev PagesMade : Slot → List ℕ → (a b : ℕ) → Outcome → Type 0
+PagesMade old name a b (Refused r) = Unit {0}
+PagesMade old name a b (Answered x new) = HasPages old new name a b
+
+module _ (m : Mount) (name : List ℕ) (a b : ℕ) (q : ℕ × File) (is : file_named m name ≡ Some q) (good : is_bad_range a b ≡ false) where
+  some_range : a < b
+  some_range = leb-false b a (or_parts (nat_le b a) (nat_lt most_file_pages b) good).0
+
+  was_long : pages_of_file (named_on (Some m) name) ≡ length q.1.cells
+  was_long = ap pages_of_file is
+
+  -- where nothing lacks a page the file is long enough
+  full_has : lacking a b q.1 ≡ 0 → HasPages (Some m) (Some m) name a b
+  full_has none =
+      let there = λ (i : ℕ) (low : a ≤ i) (high : i < b). sym (ap has_page (same_longer 0 a b [] q.1 i))
+      ∙ all_there a b (at_least b q.1.cells) none i low high (omega (arith, high, length-longer 0 a b [] q.1)) in
+      let long : b ≤ length q.1.cells =
+      ⊎_elim (λ (l : length q.1.cells < b). (let last = there (b - 1) (omega (arith, some_range)) (omega (arith, some_range)) in
+      let past = ap has_page (get_or_past q.1.cells (b - 1) Hole (omega (arith, l))) in absurd (let no : true ≡ false = sym last ∙ past in cc)))
+      (λ (l : b ≤ length q.1.cells). l) (cases_lt (length q.1.cells) b) in
+      record {
+        file = q;
+        named = is;
+        length = omega (arith, was_long, long);
+        pages = λ i within. (let parts = and_parts (nat_le a i) (nat_lt i b) within in there i (leb-true a i parts.0) (ltb-true i b parts.1));
+      }
+
+  fill_has : (size : ℕ) (pages : List ℕ) → HasPages (Some m) (Some (with_file m q.0 (filled size a b (nodes_of (lacking a b q.1) pages) q.1))) name a b
+  fill_has size pages =
+      let nodes = nodes_of (lacking a b q.1) pages in
+      let all = length-nodes_of (lacking a b q.1) pages in
+      let g : File = filled size a b nodes q.1 in
+      record {
+        file = (q.0, g);
+        named = found_again (has_name name) m.files q g is (found_place (has_name name) m.files q is).passes;
+        length = length-filled size a b nodes q.1 all ∙ ap (λ n. max n b) (sym was_long);
+        pages = λ i within. (let parts = and_parts (nat_le a i) (nat_lt i b) within in filled_there size a b nodes q.1 all i (leb-true a i parts.0) (ltb-true i b parts.1));
+      }
+
+preallocate_made : (size k : ℕ) (c : Choice) (old : Slot) (name : List ℕ) (a b : ℕ) → Always (PagesMade old name a b) (slot_event size k c old (slot.Preallocate name a b))
+preallocate_made size k c None name a b = tt
+preallocate_made size k c (Some m) name a b =
+    let P = PagesMade (Some m) name a b in
+    always_value P (λ r. tt) (file_named m name) NoSuchFile (preallocate c size m a b)
+    (λ q is. (let goes = if lacking a b q.1 == 0 then Finish (Answered Done (Some m)) else fill c size m a b q in
+    always_test P (is_bad_range a b) OutOfRange (unless (drop 1 (preallocate_tests a b)) goes) tt
+    (λ good. always_unless P (λ r. tt) (drop 1 (preallocate_tests a b)) goes
+    (always_if P (lacking a b q.1 == 0) (Finish (Answered Done (Some m))) (fill c size m a b q) (λ e. full_has m name a b q is good (eqb-true (lacking a b q.1) 0 e))
+    (λ e. always_fill P (λ r. tt) ((is_full m (unentered a b q.1), MountFull) ∷ (c.refused, OutOfMemory) ∷ []) (rise m (unentered a b q.1)) (lacking a b q.1)
+    (λ pages. Answered Done (Some (with_file m q.0 (filled size a b (nodes_of (lacking a b q.1) pages) q.1)))) (λ pages. fill_has m name a b q is good size pages))))))
+
 same_name : (name : List ℕ) → has_name name (new_file (Some name)) ≡ true
 same_name name = (bytes_eq-Decides name name).1 refl
 
@@ -195,6 +256,7 @@ module _ (s : State) where
   makes_none t (CreateStep k name) r = tt
   makes_none t (MapStep task k name a n sharing reserving) r = tt
   makes_none t (AnonStep task n sharing reserving) r = tt
+  makes_none t (Preallocate k name a b) r = tt
   makes_none t other r = tt
 
   module _ (t : State) (k : ℕ) (l : k < length s.slots) where
@@ -205,6 +267,11 @@ module _ (s : State) where
     file_makes : (name : List ℕ) (o : Outcome) → FileMade (slot_at s k) name o → t.slots ≡ slice_set s.slots k (left_by (slot_at s k) o) → Makes s (CreateStep k name) (reply_of o) t
     file_makes name (Refused r) h slots = tt
     file_makes name (Answered a new) h slots = subst (λ n. IsNewFile (slot_at s k) n name) (sym (left_there new slots)) h
+
+    pages_make : (name : List ℕ) (a b : ℕ) (o : Outcome) → PagesMade (slot_at s k) name a b o → t.slots ≡ slice_set s.slots k (left_by (slot_at s k) o)
+        → Makes s (Preallocate k name a b) (reply_of o) t
+    pages_make name a b (Refused r) h slots = tt
+    pages_make name a b (Answered x new) h slots = subst (λ n. HasPages (slot_at s k) n name a b) (sym (left_there new slots)) h
 
     map_makes : (task : ℕ) (name : List ℕ) (a n : ℕ) (sharing : Sharing) (reserving : Reserving) (o : Outcome) → MapMade (slot_at s k) name task a n sharing reserving o
         → t.slots ≡ slice_set s.slots k (left_by (slot_at s k) o) → Makes s (MapStep task k name a n sharing reserving) (reply_of o) t
@@ -224,6 +291,9 @@ module _ (s : State) where
   event_makes (OnSlot k (slot.Create name)) reply t whole is =
       let ends = event_ends (FileMade (slot_at s k) name) s k (slot.Create name) reply t (λ c. create_made s.page_size k c (slot_at s k) name) is in
       subst (λ x. Makes s (CreateStep k name) x t) (sym ends.replied) (file_makes t k (ltb-true k (length s.slots) is.1.0) name ends.outcome ends.holds ends.slots)
+  event_makes (OnSlot k (slot.Preallocate name a b)) reply t whole is =
+      let ends = event_ends (PagesMade (slot_at s k) name a b) s k (slot.Preallocate name a b) reply t (λ c. preallocate_made s.page_size k c (slot_at s k) name a b) is in
+      subst (λ x. Makes s (Preallocate k name a b) x t) (sym ends.replied) (pages_make t k (ltb-true k (length s.slots) is.1.0) name a b ends.outcome ends.holds ends.slots)
   event_makes (OnSlot k (slot.Map task home name a n sharing reserving)) reply t whole is =
       let e = slot.Map task home name a n sharing reserving in
       let ends = event_ends (MapMade (slot_at s k) name task a n sharing reserving) s k e reply t (λ c. map_made s.page_size k c (slot_at s k) task home name a n sharing reserving) is in

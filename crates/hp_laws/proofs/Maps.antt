@@ -26,16 +26,16 @@ use Rattle.hp_model.proofs.Editing.{sum_by-edit_range}
 use Rattle.hp_laws.proofs.Single.{bit}
 
 -- the cells, and how many of them wait for a page more than before
-record CellsWait (xs ys : List (Cell Page)) (u : ℕ) : Type 0 where
-  pages : count_by has_page ys ≡ count_by has_page xs
-  waits : count_by is_waiting ys ≡ count_by is_waiting xs + u
-  each : (n : ℕ) → count_by (is_page_at n) ys ≡ count_by (is_page_at n) xs
+pub record CellsWait (xs ys : List (Cell Page)) (u : ℕ) : Type 0 where
+  pub pages : count_by has_page ys ≡ count_by has_page xs
+  pub waits : count_by is_waiting ys ≡ count_by is_waiting xs + u
+  pub each : (n : ℕ) → count_by (is_page_at n) ys ≡ count_by (is_page_at n) xs
 
 longer : (test : Cell Page → Bool) → test Hole ≡ false → (n : ℕ) (xs : List (Cell Page)) → count_by test (at_least n xs) ≡ count_by test xs
 longer test none n xs =
     omega (arith, sum_by-append (λ x. cond (test x) 1 0) xs (replicate (n - length xs) Hole), no_holes test none (n - length xs))
 
-cells_longer : (n : ℕ) (xs : List (Cell Page)) → CellsWait xs (at_least n xs) 0
+pub cells_longer : (n : ℕ) (xs : List (Cell Page)) → CellsWait xs (at_least n xs) 0
 cells_longer n xs = record {
   pages = longer has_page refl n xs;
   waits = (let same = longer is_waiting refl n xs in omega (arith, same));

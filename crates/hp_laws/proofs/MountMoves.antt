@@ -12,6 +12,8 @@ use Rattle.hp_model.specs.files.MountCounts.{file_pages, file_reserves, file_pag
 use Rattle.hp_model.specs.files.Spot.{Spot, spot, spot_in}
 use Rattle.hp_laws.proofs.Falls.{FileFalls}
 use Rattle.hp_laws.proofs.FileMoves.{FileGrows, IsMapAt}
+use Rattle.hp_laws.proofs.Filled.{FileFills}
+use Rattle.hp_laws.proofs.NodesOf.{count_of}
 use Rattle.hp_laws.proofs.Places.{found_place, sum_by-edit_at, sum_by-map_le, sum_by-filter_le}
 
 -- k pages more at the node, and the usage u more
@@ -19,6 +21,13 @@ pub record MountGrows (m n : Mount) (node k u : ℕ) : Type 0 where
   pub pages : pages_of n ≡ pages_of m + k
   pub usage : usage_of n ≡ usage_of m + u
   pub each : (x : ℕ) → pages_at x n ≡ pages_at x m + cond (node == x) k 0
+  pub limits : n.limits ≡ m.limits
+
+-- a page more at each of these nodes, and the usage u more
+pub record MountFills (m n : Mount) (nodes : List ℕ) (u : ℕ) : Type 0 where
+  pub pages : pages_of n ≡ pages_of m + length nodes
+  pub usage : usage_of n ≡ usage_of m + u
+  pub each : (x : ℕ) → pages_at x n ≡ pages_at x m + count_of x nodes
   pub limits : n.limits ≡ m.limits
 
 pub record IsFileAt (m : Mount) (at_no : ℕ) (f : File) : Type 0 where
@@ -35,6 +44,19 @@ file_grows m at_no f g node k u at grows =
       pages = omega (arith, pages, was, grows.pages);
       usage = omega (arith, pages, was, reserves, had, grows.usage);
       each = λ x. omega (arith, sum_by-set (file_pages_at x) m.files at_no g f at.within, ap (file_pages_at x) (at.is f), grows.each x);
+      limits = refl;
+    }
+
+pub file_fills : (m : Mount) (at_no : ℕ) (f g : File) (nodes : List ℕ) (u : ℕ) → IsFileAt m at_no f → FileFills f g nodes u → MountFills m (with_file m at_no g) nodes u
+file_fills m at_no f g nodes u at fills =
+    let pages = sum_by-set file_pages m.files at_no g f at.within in
+    let reserves = sum_by-set file_reserves m.files at_no g f at.within in
+    let was = ap file_pages (at.is f) in
+    let had = ap file_reserves (at.is f) in
+    record {
+      pages = omega (arith, pages, was, fills.pages);
+      usage = omega (arith, pages, was, reserves, had, fills.usage);
+      each = λ x. omega (arith, sum_by-set (file_pages_at x) m.files at_no g f at.within, ap (file_pages_at x) (at.is f), fills.each x);
       limits = refl;
     }
 

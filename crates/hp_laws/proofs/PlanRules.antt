@@ -11,20 +11,22 @@ use Rattle.hp_model.specs.declared.place.Place.{Place}
 use Rattle.hp_model.specs.declared.place.Place.TheVariants.{Gone, Live}
 use Rattle.hp_model.specs.declared.refusal.Refusal.{Refusal}
 use Rattle.hp_model.specs.declared.refusal.Refusal.TheVariants.{MountFull, OutOfMemory, OutOfRange, TakenByOwner}
-use Rattle.hp_model.specs.declared.section.Section.TheVariants.{GiveBack, Grant, GrantPage, TakePage}
+use Rattle.hp_model.specs.declared.section.Section.TheVariants.{FillPages, GiveBack, Grant, GrantPage, TakePage}
 use Rattle.hp_model.specs.declared.step.Intent.{Intent}
 use Rattle.hp_model.specs.declared.step.Intent.TheVariants.{Read, Write}
 use Rattle.hp_model.specs.files.Access.{access, new_copy, private_access, shared_access, uncopied_access}
 use Rattle.hp_model.specs.files.CopyWrite.{copy_write, is_held_once, owner_write, taken_back}
 use Rattle.hp_model.specs.files.File.{Mount, cell_at, has_page, new_file, with_cell, with_file, with_map}
+use Rattle.hp_model.specs.files.Fill.{filled, lacking, nodes_of}
 use Rattle.hp_model.specs.files.Fork.{forked}
 use Rattle.hp_model.specs.files.GiveBack.{punched, truncated, unlinked, unmapped_from, without_task}
 use Rattle.hp_model.specs.pool.Grant.{is_full, rise}
 use Rattle.hp_model.specs.files.MakeMap.{asked, mapped, next_number, with_new}
 use Rattle.hp_model.specs.files.Mapping.{is_shared, place_at, with_place}
 use Rattle.hp_model.specs.files.Page.{Copy, Page, zeros}
-use Rattle.hp_model.specs.machine.Plan.{Answered, Ask, Choice, Finish, Outcome, Plan, Refused, Slot, and_then, fall_of, gives, grant, grant_page, puts_of, refuse, reserved_page, unless, when_granted}
-use Rattle.hp_model.specs.machine.SlotEvent.{byte_access, byte_tests, bytes_answer, edited, fault_tests, on_mount}
+use Rattle.hp_model.specs.machine.Plan.{Answered, Ask, Choice, Finish, Outcome, Plan, Refused, Slot, and_then}
+use Rattle.hp_model.specs.machine.Plan.{fall_of, gives, grant, grant_page, puts_of, refuse, reserved_page, unless, when_granted}
+use Rattle.hp_model.specs.machine.SlotEvent.{byte_access, byte_tests, bytes_answer, edited, fault_tests, on_mount, preallocated, unentered}
 use Rattle.hp_model.specs.files.Spot.{Spot, again, written}
 use Rattle.hp_model.specs.files.Value.{value}
 use Rattle.hp_laws.proofs.Walk.{Walks, plan_unless, remounting, walk_all}
@@ -36,6 +38,7 @@ module _ (W : Plan → Type 0) where
     pub pages : (home k : ℕ) (n : ℕ → Slot) → W (Ask (λ nr. GrantPage home k) (λ a. when_granted (Answered Done (n a.node)) a))
     pub pages_or : (home k : ℕ) (n : ℕ → Slot) (other : Slot) → W (Ask (λ nr. GrantPage home k) (λ a. if a.granted then Answered Done (n a.node) else Answered Done other))
     pub takes : (home : ℕ) (n : ℕ → Slot) → W (Ask (λ nr. TakePage home) (λ a. Answered Done (n a.node)))
+    pub fills : (k n : ℕ) (next : List ℕ → Slot) → W (Ask (λ nr. FillPages k n) (λ a. when_granted (Answered Done (next a.pages)) a))
     pub puts : (pages : List ℕ) (k : ℕ) (a : Answer) (s : Slot) → W (Ask (λ nr. GiveBack pages k) (λ answer. Answered a s))
     pub remounts : (size : ℕ) (m : Mount) (options : List ℕ) → W (remounting size m options)
     pub follows : (answer : Mount → Answer) (h : Mount → Mount) (p : Plan) → W p → W (and_then (λ m. Answered (answer m) (Some (h m))) p)
@@ -127,6 +130,10 @@ module _ (W : Plan → Type 0) where
       unlinks = λ q at. plan_gives Done (Some m) (edited m q.0 (unlinked q.1));
       truncates = λ n q at. plan_gives Done (Some m) (edited m q.0 (truncated n q.1));
       punches = λ a b q at. plan_gives Done (Some m) (edited m q.0 (punched a b q.1));
+      fills = λ a b q at.
+          tested ((is_full m (unentered a b q.1), MountFull) ∷ (c.refused, OutOfMemory) ∷ [])
+          (Ask (λ nr. FillPages (rise m (unentered a b q.1)) (lacking a b q.1)) (preallocated size m a b q))
+          (rules.fills (rise m (unentered a b q.1)) (lacking a b q.1) (λ pages. Some (with_file m q.0 (filled size a b (nodes_of (lacking a b q.1) pages) q.1))));
       maps = λ task home a n sharing reserving q at.
           plan_grant c m home (asked sharing reserving a n q.1) (MapNo (next_number task m)) (Some (with_file m q.0 (mapped task (next_number task m) a n sharing reserving q.1)));
       anons = λ task home n sharing reserving.

@@ -14,7 +14,7 @@ use Rattle.hp_model.specs.declared.refusal.Refusal.{Refusal}
 use Rattle.hp_model.specs.declared.refusal.Refusal.TheVariants.{NoSuchFile, NoSuchNode, NoSuchTask, OutOfMemory, OutOfRange, TaskExists, TooMany}
 use Rattle.hp_model.specs.declared.section.PoolAnswer.{PoolAnswer}
 use Rattle.hp_model.specs.declared.section.Section.{Section}
-use Rattle.hp_model.specs.declared.section.Section.TheVariants.{Grant, GrantAndReturn, GrantPage, GiveBack, ReadAndGiveBack, ReadAndGrant, TakePage}
+use Rattle.hp_model.specs.declared.section.Section.TheVariants.{Grant, GrantAndReturn, GrantPage, GiveBack, ReadAndGiveBack, ReadAndGrant, TakePage, FillPages}
 use Rattle.hp_model.specs.declared.step.Step.{Step}
 use Rattle.hp_model.specs.declared.step.Step.TheVariants as step
 use Rattle.hp_model.specs.machine.Event.{IsEvent, has_maps_of, with_pool_reply, with_table}
@@ -50,6 +50,7 @@ section_numbers : (p : Pool) (x : Section) → Numbers p (section p x)
 section_numbers p (Grant home d) = cond_both (can_grant d p) _ _ (Numbers p) (λ e. (refl, refl)) (λ e. (refl, refl))
 section_numbers p (GrantPage home d) = cond_both (can_grant d p) _ _ (Numbers p) (λ e. (refl, refl)) (λ e. (refl, refl))
 section_numbers p (TakePage home) = (refl, refl)
+section_numbers p (FillPages d n) = cond_both (can_grant d p) _ _ (Numbers p) (λ e. (refl, refl)) (λ e. (refl, refl))
 section_numbers p (GiveBack puts k) = (ap (λ (q : Pool). q.nr) (puts_are puts p), ap (λ (q : Pool). q.overcommit) (puts_are puts p))
 section_numbers p (ReadAndGrant d) = cond_both (can_grant d p) _ _ (Numbers p) (λ e. (refl, refl)) (λ e. (refl, refl))
 section_numbers p (ReadAndGiveBack k) = (refl, refl)

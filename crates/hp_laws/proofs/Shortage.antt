@@ -19,7 +19,7 @@ use Rattle.hp_model.specs.declared.refusal.Refusal.{Refusal}
 use Rattle.hp_model.specs.declared.refusal.Refusal.TheVariants.{BadOption, MinOverSize, SlotTaken, MountFull, NoPages, NoSuchFile, NoSuchMap, NoSuchSlot}
 use Rattle.hp_model.specs.declared.refusal.Refusal.TheVariants.{NoSuchNode, OutOfMemory, OutOfRange, TakenByOwner, TaskExists, TooMany}
 use Rattle.hp_model.specs.declared.section.PoolAnswer.{PoolAnswer}
-use Rattle.hp_model.specs.declared.section.Section.TheVariants.{Grant, GrantAndReturn, GrantPage, ReadAndGrant}
+use Rattle.hp_model.specs.declared.section.Section.TheVariants.{Grant, GrantAndReturn, GrantPage, ReadAndGrant, FillPages}
 use Rattle.hp_model.specs.declared.step.Intent.{Intent}
 use Rattle.hp_model.specs.declared.step.Intent.TheVariants.{Read, Write}
 use Rattle.hp_model.specs.declared.step.Reserving.{Reserving}
@@ -28,7 +28,7 @@ use Rattle.hp_model.specs.declared.step.Step.{Step}
 use Rattle.hp_model.specs.declared.step.Step.TheVariants as step
 use Rattle.hp_model.specs.files.Access.{access, new_copy, private_access, shared_access, uncopied_access}
 use Rattle.hp_model.specs.files.CopyWrite.{copy_write, is_held_once}
-use Rattle.hp_model.specs.files.File.{File, Mount, cell_at, has_page, is_entered, new_file}
+use Rattle.hp_model.specs.files.File.{File, Mount, cell_at, has_page, is_entered, new_file, with_file}
 use Rattle.hp_model.specs.files.MakeMap.{asked}
 use Rattle.hp_model.specs.files.Mapping.{copy_of, is_map, is_shared, is_unconsumed, place_at}
 use Rattle.hp_model.specs.files.MountCounts.{committed_of}
@@ -43,7 +43,8 @@ use Rattle.hp_model.specs.machine.Plan.{Answered, Ask, Choice, Finish, Outcome, 
 use Rattle.hp_model.specs.machine.Plan.{grant_page, refuse, unless, when_granted, with_value}
 use Rattle.hp_model.specs.machine.Promises.{is_for_pages}
 use Rattle.hp_model.specs.machine.Short.{IsMountShort, IsRemountShort, IsRemountShortOn, IsShort, IsShortOn, MeetsShortage, asked_of, asks, has_own, is_backed, owns_copy, page_for}
-use Rattle.hp_model.specs.machine.SlotEvent.{anon_tests, create_tests, edited, fork_tests, is_bad_range, mount_section, punch, read, read_tests, stat}
+use Rattle.hp_model.specs.machine.SlotEvent.{anon_tests, create_tests, edited, fork_tests, is_bad_range, mount_section, punch, read}
+use Rattle.hp_model.specs.machine.SlotEvent.{read_tests, stat, fill, preallocate, preallocate_tests, preallocated, unentered}
 use Rattle.hp_model.specs.machine.SlotEvent.{truncate, umount_tests, unlink, unmap, byte_access, byte_tests, bytes_answer, fault, fault_tests}
 use Rattle.hp_model.specs.machine.SlotEvent.{committed_with, file_named, load, map_anon, map_file, map_tests, mount_outcome, mount_pages, remount_outcome, slot_event, store}
 use Rattle.hp_model.specs.machine.State.{State, slot_at}
@@ -63,6 +64,7 @@ use Rattle.hp_laws.proofs.Remounts.{remount_ends, remount_told, told_granted}
 use Rattle.hp_laws.proofs.SlotShows.{always_gives}
 use Rattle.hp_laws.proofs.Outcomes.{Always, either_way, reply_of}
 use Rattle.hp_laws.proofs.Whole.{by_event, early_pages, is_early, is_whole, slot_step, step_of}
+use Rattle.hp_model.specs.files.Fill.{filled, lacking, nodes_of}
 
 -- ---- limits
 
@@ -131,6 +133,19 @@ module _ (s : State) where
 
   page_granted : (home d : ℕ) → (section (pool_of s) (GrantPage home d)).0.granted ≡ can_grant d (pool_of s)
   page_granted home d = cond_both (can_grant d (pool_of s)) _ _ (λ (x : PoolAnswer × Pool). x.0.granted ≡ can_grant d (pool_of s)) (λ e. sym e) (λ e. sym e)
+
+  fill_granted : (d n : ℕ) → (section (pool_of s) (FillPages d n)).0.granted ≡ can_grant d (pool_of s)
+  fill_granted d n = cond_both (can_grant d (pool_of s)) _ _ (λ (x : PoolAnswer × Pool). x.0.granted ≡ can_grant d (pool_of s)) (λ e. sym e) (λ e. sym e)
+
+  fill_lacks : (c : Choice) (size : ℕ) (m : Mount) (a b : ℕ) (f : ℕ × File) → At (Lacks m (unentered a b f.1)) (fill c size m a b f)
+  fill_lacks c size m a b f =
+      let pages = unentered a b f.1 in
+      let n = lacking a b f.1 in
+      let q = (section (pool_of s) (FillPages (rise m pages) n)).0 in
+      let o : Outcome = Answered Done (Some (with_file m f.0 (filled size a b (nodes_of n q.pages) f.1))) in
+      at_if (Lacks m pages) (is_full m pages) (refuse MountFull) _ (λ full. full)
+      (λ room. at_test (Lacks m pages) c.refused OutOfMemory (Ask (λ nr. FillPages (rise m pages) n) (preallocated size m a b f)) tt
+      (granted_lacks m pages (can_grant (rise m pages) (pool_of s)) o room refl tt q (fill_granted (rise m pages) n)))
 
   grant_lacks : (c : Choice) (m : Mount) (home pages : ℕ) (o : Outcome) → Lacks m pages o → At (Lacks m pages) (grant c m home pages o)
   grant_lacks c m home pages o h =
@@ -291,6 +306,18 @@ module _ (s : State) where
             let pages = asked sharing reserving a n f.1 in
             at_tests (Lacks m pages) (plain_short m pages) (map_tests m task a n) refl _ (grant_lacks c m home pages _ tt)
 
+    of_preallocate : (old : Slot) (name : List ℕ) (a b : ℕ) → At (ShortOn old (step.Preallocate k name a b)) (slot_event size k c old (slot.Preallocate name a b))
+    of_preallocate None name a b = refl
+    of_preallocate (Some m) name a b =
+        at_short m (step.Preallocate k name a b) (with_value (file_named m name) NoSuchFile (preallocate c size m a b)) (by_file (file_named m name))
+      where
+        by_file : (o : Option (ℕ × File)) → At (Lacks m (asked_of o (unentered a b))) (with_value o NoSuchFile (preallocate c size m a b))
+        by_file None = tt
+        by_file (Some f) =
+            let pages = unentered a b f.1 in
+            at_tests (Lacks m pages) (plain_short m pages) (preallocate_tests a b) refl _
+            (at_if (Lacks m pages) (lacking a b f.1 == 0) (Finish (Answered Done (Some m))) (fill c size m a b f) (λ e. tt) (λ e. fill_lacks c size m a b f))
+
     of_anon : (old : Slot) (task home n : ℕ) (sharing : Sharing) (reserving : Reserving)
         → At (ShortOn old (step.Anon task n sharing reserving)) (slot_event size k c old (slot.Anon task home n sharing reserving))
     of_anon None task home n sharing reserving = refl
@@ -413,6 +440,7 @@ module _ (s : State) where
     abbrev is_plain : SlotEvent → Bool
     is_plain (slot.Mount options) = false
     is_plain (slot.Remount options) = false
+    is_plain (slot.Preallocate name a b) = false
     is_plain (slot.Map task home name a n sharing reserving) = false
     is_plain (slot.Anon task home n sharing reserving) = false
     is_plain (slot.Fault task home number i t) = false
@@ -426,6 +454,7 @@ module _ (s : State) where
     goes_event None e plain = refl
     goes_event (Some m) (slot.Mount options) plain = cc
     goes_event (Some m) (slot.Remount options) plain = cc
+    goes_event (Some m) (slot.Preallocate name a b) plain = cc
     goes_event (Some m) (slot.Map task home name a n sharing reserving) plain = cc
     goes_event (Some m) (slot.Anon task home n sharing reserving) plain = cc
     goes_event (Some m) (slot.Fault task home number i t) plain = cc
@@ -464,6 +493,7 @@ module _ (s : State) where
     plain_meets : (e : SlotEvent) → is_plain c s.page_size k e ≡ true → (o : Outcome) → KeepsGoing o → Meets k e o
     plain_meets (slot.Mount options) plain o h = cc
     plain_meets (slot.Remount options) plain o h = cc
+    plain_meets (slot.Preallocate name a b) plain o h = cc
     plain_meets (slot.Map task home name a n sharing reserving) plain o h = cc
     plain_meets (slot.Anon task home n sharing reserving) plain o h = cc
     plain_meets (slot.Fault task home number i t) plain o h = cc
@@ -487,6 +517,10 @@ module _ (s : State) where
         → ShortOn (slot_at s k) (step.Map task k name a n sharing reserving) o → Meets k (slot.Map task home name a n sharing reserving) o
     map_meets task home name a n sharing reserving (Refused r) h = h
     map_meets task home name a n sharing reserving (Answered x new) h = tt
+
+    fill_meets : (name : List ℕ) (a b : ℕ) (o : Outcome) → ShortOn (slot_at s k) (step.Preallocate k name a b) o → Meets k (slot.Preallocate name a b) o
+    fill_meets name a b (Refused r) h = h
+    fill_meets name a b (Answered x new) h = tt
 
     anon_meets : k ≡ 0 → (task home n : ℕ) (sharing : Sharing) (reserving : Reserving) (o : Outcome)
         → ShortOn (slot_at s k) (step.Anon task n sharing reserving) o → Meets k (slot.Anon task home n sharing reserving) o
@@ -512,6 +546,8 @@ module _ (s : State) where
     meets (slot.Map task home name a n sharing reserving) other whole =
         turn (slot.Map task home name a n sharing reserving) (ShortOn (slot_at s k) (step.Map task k name a n sharing reserving))
         (map_meets task home name a n sharing reserving) (of_map c s.page_size k (slot_at s k) task home name a n sharing reserving)
+    meets (slot.Preallocate name a b) other whole =
+        turn (slot.Preallocate name a b) (ShortOn (slot_at s k) (step.Preallocate k name a b)) (fill_meets name a b) (of_preallocate c s.page_size k (slot_at s k) name a b)
     meets (slot.Anon task home n sharing reserving) other whole =
         turn (slot.Anon task home n sharing reserving) (ShortOn (slot_at s k) (step.Anon task n sharing reserving))
         (anon_meets (eqb-true k 0 whole) task home n sharing reserving) (of_anon c s.page_size k (slot_at s k) task home n sharing reserving)
@@ -616,6 +652,7 @@ module _ (s : State) where
   abbrev none_asked : Step → Bool
   none_asked (step.Mount k options) = false
   none_asked (step.Remount k options) = false
+  none_asked (step.Preallocate k name a b) = false
   none_asked (step.Map task k name a n sharing reserving) = false
   none_asked (step.Anon task n sharing reserving) = false
   none_asked (step.Fault task k number i t) = false
@@ -626,6 +663,7 @@ module _ (s : State) where
   by_plain : (x : Step) → none_asked x ≡ true → (reply : Reply) → Plain reply → MeetsShortage s x reply
   by_plain (step.Mount k options) none reply h = cc
   by_plain (step.Remount k options) none reply h = cc
+  by_plain (step.Preallocate k name a b) none reply h = cc
   by_plain (step.Map task k name a n sharing reserving) none reply h = cc
   by_plain (step.Anon task n sharing reserving) none reply h = cc
   by_plain (step.Fault task k number i t) none reply h = cc
@@ -690,6 +728,7 @@ module _ (s : State) where
   early_short : (x : Step) (r : Refusal) → is_early r ≡ true → MeetsShortage s x (Err r)
   early_short (step.Mount k options) r early = plain_mount (limits s.nr s.page_size (wanted_of options)) r (early_pages r early)
   early_short (step.Remount k options) r early = plain_remount (slot_at s k) (limits s.nr s.page_size (wanted_of options)) r (early_pages r early)
+  early_short (step.Preallocate k name a b) r early = plain_on (slot_at s k) (step.Preallocate k name a b) r (early_pages r early)
   early_short (step.Map task k name a n sharing reserving) r early = plain_on (slot_at s k) (step.Map task k name a n sharing reserving) r (early_pages r early)
   early_short (step.Anon task n sharing reserving) r early = plain_on (slot_at s 0) (step.Anon task n sharing reserving) r (early_pages r early)
   early_short (step.Fault task k number i t) r early = plain_on (slot_at s k) (step.Fault task k number i t) r (early_pages r early)

@@ -17,7 +17,7 @@ use Rattle.hp_model.specs.files.Mapping.{is_map, map_punched}
 use Rattle.hp_model.specs.machine.Plan.{Ask, Choice, Outcome, Refused, Answered, Finish, Plan, Slot, gives, grant, unless, with_value}
 use Rattle.hp_model.specs.Profile.{most_file_pages}
 use Rattle.hp_model.specs.machine.Promises.{is_in, map_on, shown_on, seen_on, spot_on}
-use Rattle.hp_model.specs.machine.SlotEvent.{anon_tests, create_tests, edited, fault, file_named, fork_tests, is_bad_range, is_beyond, is_unmapped, map_file, map_tests}
+use Rattle.hp_model.specs.machine.SlotEvent.{anon_tests, create_tests, edited, fault, file_named, fork_tests, is_bad_range, is_beyond, is_unmapped, map_file, map_tests, preallocate}
 use Rattle.hp_model.specs.machine.SlotEvent.{on_mount, punch, read, read_tests, slot_event, stat, truncate, umount_tests, unlink, unmap}
 use Rattle.hp_model.specs.machine.Sound.{IsSound, IsSoundMount}
 use Rattle.hp_model.specs.files.Spot.{Spot, spot}
@@ -27,15 +27,17 @@ use Rattle.hp_laws.proofs.Changes.{KeepsSlot, LosesBy, SlotKeeps, seen_by, store
 use Rattle.hp_laws.proofs.Cuts.{cut_keeps, punch_cut, truncate_cut, unlink_keeps}
 use Rattle.hp_laws.proofs.Follows.{follow, sweep_follows}
 use Rattle.hp_laws.proofs.Keys.{keys}
-use Rattle.hp_laws.proofs.Meanings.{fault_on, load_on, placed_map, placed_new, placed_on, placed_same, store_on}
+use Rattle.hp_laws.proofs.Meanings.{fault_on, load_on, placed_map, placed_new, placed_on, placed_same, store_on, placed_filled}
 use Rattle.hp_laws.proofs.MountMoves.{IsSpot, spot_is}
 use Rattle.hp_laws.proofs.Outcomes.{Always, always_test, always_weaker}
 use Rattle.hp_laws.proofs.Placed.{Placed}
 use Rattle.hp_laws.proofs.Seen.{IsLostAt, touched_marks, touched_seen}
 use Rattle.hp_laws.proofs.Shown.{On, Result, Same, read_same, write_done}
-use Rattle.hp_laws.proofs.SlotShows.{Loads, Quiet, Stores, always_gives, always_grant, always_remount, always_unless, always_value, anon_quiet, create_quiet, load_loads, map_quiet, store_stores}
+use Rattle.hp_laws.proofs.SlotShows.{Loads, Quiet, Stores, always_gives, always_grant, always_remount, always_unless, always_value}
+use Rattle.hp_laws.proofs.SlotShows.{anon_quiet, create_quiet, load_loads, map_quiet, store_stores, always_preallocate, preallocate_quiet}
 use Rattle.hp_laws.proofs.Stored.{ready}
 use Rattle.hp_laws.proofs.Unmaps.{exit_keeps, fork_keeps, same_keeps, unmap_keeps}
+use Rattle.hp_model.specs.files.Fill.{lacking, nodes_of}
 
 -- both of what holds whatever the pool answers
 pub always_both : (P Q R : Outcome → Type 0) → ((o : Outcome) → P o → Q o → R o) → (p : Plan) → Always P p → Always Q p → Always R p
@@ -187,6 +189,11 @@ module _ (size k : ℕ) (c : Choice) (m : Mount) where
       (given (slot.Punch name a b) (swept (with_file m q.0 (punched a b q.1)))
       (swept_keeps (slot.Punch name a b) (with_file m q.0 (punched a b q.1)) (λ p r i lost. lost)
       (cut_keeps size m sound name q named (punched a b q.1) (map_punched a b) (is_in a b) (punch_cut size a b q.1) (slot.Punch name a b) (λ j x old. refl) (λ j l x old. refl)))))
+  mount_keeps sound (slot.Preallocate name a b) =
+      let e : SlotEvent = slot.Preallocate name a b in
+      quiet_event e (λ j x old. refl) (λ j l x old. refl) (on_mount size k c m e) (preallocate_quiet size k c (Some m) name a b)
+      (always_value (On (Placed m)) (λ r. tt) (file_named m name) NoSuchFile (preallocate c size m a b)
+      (λ q named. always_preallocate (On (Placed m)) (λ r. tt) c size m a b q (placed_same m m refl) (λ pages. placed_filled m size a b (nodes_of (lacking a b q.1) pages) name q named)))
   mount_keeps sound (slot.Read name i offset count) =
       of_file (slot.Read name i offset count) name (read size m i offset count)
       (λ q named. tested (slot.Read name i offset count) (read_tests size i offset count q.1) _ (same_keeps size m (slot.Read name i offset count) (λ j x old. refl) (λ j l x old. refl)))

@@ -1,5 +1,5 @@
 -- What a slot's files show after a file or a map is made, a load and a store, and what a load answers.
-use Rattle.std.proofs.Common.{◌≡◌, ◌⊎◌, ℕ, zero, suc, ◌+◌, ◌<◌, Bool, true, false, ◌&&◌, ◌||◌, ◌==◌, not, Option, None, Some}
+use Rattle.std.proofs.Common.{◌≡◌, ◌⊎◌, ℕ, zero, suc, ◌+◌, ◌<◌, Bool, true, false, ◌&&◌, ◌||◌, ◌==◌, not, Option, None, Some, ⊎_elim}
 use Rattle.std.proofs.Common.{is_some, Result as ResultOf, Ok, Err, List, [], ◌∷◌, length, replicate, refl, sym, ap, ◌∙◌, if◌then◌else◌, nat_lt, nat_le, ◌-◌}
 use Rattle.std.specs.List.{slice_index_or, sum}
 use Rattle.std.proofs.lemmas.Bool.{cond_both, leb-false}
@@ -19,18 +19,18 @@ use Rattle.hp_model.specs.declared.step.Reserving.{Reserving}
 use Rattle.hp_model.specs.declared.step.Sharing.{Sharing}
 use Rattle.hp_model.specs.files.Access.{access}
 use Rattle.hp_laws.specs.Balance.{left_by}
-use Rattle.hp_model.specs.files.File.{File, Mount, at_least, entered, new_file, with_file}
-use Rattle.hp_model.specs.pool.Grant.{is_full, is_over, rise}
+use Rattle.hp_model.specs.files.File.{File, Mount, at_least, entered, new_file, with_file, cell_at, has_page}
+use Rattle.hp_model.specs.pool.Grant.{is_full, is_over, rise, granted}
 use Rattle.hp_model.specs.files.MakeMap.{asked, mapped, new_map, next_number, reserves, with_new}
 use Rattle.hp_model.specs.Lists.{edit_range}
 use Rattle.hp_model.specs.files.Mapping.{Map, copy_of, is_map, is_shared, place_at}
 use Rattle.hp_model.specs.files.Options.{limits, wanted_of}
-use Rattle.hp_model.specs.files.Page.{Page, Copy}
+use Rattle.hp_model.specs.files.Page.{Page, Copy, zeros}
 use Rattle.hp_model.specs.machine.Plan.{Slot, Outcome, Refused, Answered, Plan, Finish, Ask, Choice, refuse, unless, with_value, continued, grant, when_granted, gives, puts_of, fall_of}
-use Rattle.hp_model.specs.declared.section.Section.TheVariants.{Grant, GiveBack}
+use Rattle.hp_model.specs.declared.section.Section.TheVariants.{FillPages, Grant, GiveBack}
 use Rattle.hp_model.specs.Profile.{most_bytes, most_file_pages, most_files, most_map_pages}
 use Rattle.hp_model.specs.machine.Promises.{file_in, spot_on, IsLoaded, shown_on, seen_on, map_in, map_on, no_map, over, is_shared_of, reaches}
-use Rattle.hp_model.specs.machine.SlotEvent.{anon_tests, are_too_many_maps, byte_access, bytes_answer, file_named, has_name, is_beyond, is_name}
+use Rattle.hp_model.specs.machine.SlotEvent.{anon_tests, are_too_many_maps, byte_access, bytes_answer, file_named, has_name, is_beyond, is_name, fill, preallocate, preallocate_tests, unentered}
 use Rattle.hp_model.specs.machine.SlotEvent.{is_unmapped, load, map_file, mount_on, mount_outcome, remount, remount_outcome, remount_tests, slot_event, store}
 use Rattle.hp_model.specs.machine.Sound.{IsSound, IsSoundMount}
 use Rattle.hp_model.specs.files.Spot.{Spot, again, spot, written}
@@ -42,6 +42,9 @@ use Rattle.hp_laws.proofs.Seen.{IsLostAt, store_seen, store_marks}
 use Rattle.hp_laws.proofs.Shown.{marked, look, seen, by_place, On, Same, Result, read_same, write_done}
 use Rattle.hp_laws.proofs.Stored.{ready, stored}
 use Rattle.hp_laws.proofs.Walk.{plan_unless, plan_value, remounting}
+use Rattle.hp_model.specs.files.Fill.{filled, lacking, nodes_of}
+use Rattle.hp_laws.proofs.Filled.{filled_index}
+use Rattle.hp_laws.proofs.NodesOf.{length-nodes_of}
 
 -- ---- outcomes that may be a refusal
 
@@ -60,6 +63,21 @@ pub always_grant : (P : Outcome → Type 0) → ((r : Refusal) → P (Refused r)
 always_grant P stops c m home k o h =
     always_unless P stops ((is_full m k, MountFull) ∷ (c.refused, OutOfMemory) ∷ []) (if rise m k == 0 then Finish o else Ask (λ nr. Grant home (rise m k)) (when_granted o))
     (always_if P (rise m k == 0) (Finish o) (Ask (λ nr. Grant home (rise m k)) (when_granted o)) (λ e. h) (λ e a. granted_or P stops a.granted o h))
+
+-- pages of a range, whose nodes the pool answers
+pub always_fill : (P : Outcome → Type 0) → ((r : Refusal) → P (Refused r)) → (ts : List (Bool × Refusal)) (d n : ℕ) (o : List ℕ → Outcome) → ((pages : List ℕ) → P (o pages))
+    → Always P (unless ts (Ask (λ nr. FillPages d n) (λ a. when_granted (o a.pages) a)))
+always_fill P stops ts d n o h =
+    always_unless P stops ts (Ask (λ nr. FillPages d n) (λ a. when_granted (o a.pages) a)) (λ a. granted_or P stops a.granted (o a.pages) (h a.pages))
+
+-- where nothing of the range lacks a page, and else
+pub always_preallocate : (P : Outcome → Type 0) → ((r : Refusal) → P (Refused r)) → (c : Choice) (size : ℕ) (m : Mount) (a b : ℕ) (q : ℕ × File) → P (Answered Done (Some m))
+    → ((pages : List ℕ) → P (Answered Done (Some (with_file m q.0 (filled size a b (nodes_of (lacking a b q.1) pages) q.1))))) → Always P (preallocate c size m a b q)
+always_preallocate P stops c size m a b q none h =
+    always_unless P stops (preallocate_tests a b) (if lacking a b q.1 == 0 then Finish (Answered Done (Some m)) else fill c size m a b q)
+    (always_if P (lacking a b q.1 == 0) (Finish (Answered Done (Some m))) (fill c size m a b q) (λ e. none)
+    (λ e. always_fill P stops ((is_full m (unentered a b q.1), MountFull) ∷ (c.refused, OutOfMemory) ∷ []) (rise m (unentered a b q.1)) (lacking a b q.1)
+    (λ pages. Answered Done (Some (with_file m q.0 (filled size a b (nodes_of (lacking a b q.1) pages) q.1)))) h))
 
 pub always_gives : (P : Outcome → Type 0) (a : Answer) (old new : Slot) → P (Answered a new) → Always P (gives a old new)
 always_gives P a old new h =
@@ -128,6 +146,33 @@ mapped_shows size task number a n sharing reserving f x =
     cond_both (is_shared sharing && reserves reserving) (edit_range entered a (a + n) (at_least (a + n) cells)) (at_least (a + n) cells) (λ cs. look size x (record f { cells = cs }) ≡ look size x f)
     (λ e. same_edit_range (shown size) Hole entered (entered_shows size) a (a + n) (at_least (a + n) cells) x ∙ long)
     (λ e. long)
+
+zero_shows : (size : ℕ) (c : Cell Page) → has_page c ≡ false → shown size c ≡ zeros size
+zero_shows size Hole none = refl
+zero_shows size Entered none = refl
+zero_shows size (Present page) none = cc
+
+filled_shows : (size a b : ℕ) (pages : List ℕ) (f : File) (x : ℕ) → look size x (filled size a b (nodes_of (lacking a b f) pages) f) ≡ look size x f
+filled_shows size a b pages f x =
+    ⊎_elim (λ same. ap (shown size) same)
+    (λ new. ap (shown size) new.is ∙ new.holds ∙ sym (zero_shows size (cell_at f x) new.lacked))
+    (filled_index size a b (nodes_of (lacking a b f) pages) f (length-nodes_of (lacking a b f) pages) x)
+
+pub preallocate_quiet : (size k : ℕ) (c : Choice) (old : Slot) (name : List ℕ) (a b : ℕ) → Always (Quiet size old) (slot_event size k c old (slot.Preallocate name a b))
+preallocate_quiet size k c None name a b = (λ j x. refl, λ j l x. refl, λ j l. refl)
+preallocate_quiet size k c (Some m) name a b =
+    let P = Quiet size (Some m) in
+    let stops = refused_quiet size (Some m) in
+    always_value P stops (file_named m name) NoSuchFile (preallocate c size m a b)
+    (λ q e. (let at = file_at m (has_name name) q e in
+    always_preallocate P stops c size m a b q (λ j x. refl, λ j l x. refl, λ j l. refl)
+    (λ pages. (let g : File = filled size a b (nodes_of (lacking a b q.1) pages) q.1 in
+    let shows = filled_shows size a b pages q.1 in (
+      λ j x. same_put (look size x) (new_file None) m.files q.0 g at.within (shows x ∙ sym (ap (look size x) (at.is (new_file None)))) j,
+      λ j l x. same_put (seen size l x) (new_file None) m.files q.0 g at.within
+          (ap (by_place size (place_at (map_in q.1 l) x)) (shows x) ∙ sym (ap (seen size l x) (at.is (new_file None)))) j,
+      λ j l. same_put (marked l) (new_file None) m.files q.0 g at.within (sym (ap (marked l) (at.is (new_file None)))) j,
+    )))))
 
 -- a new map has no copies
 none_yet : (n j : ℕ) → copy_of {C = Copy} (slice_index_or (replicate n (Live false None)) j Gone) ≡ None

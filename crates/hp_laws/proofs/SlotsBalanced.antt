@@ -13,7 +13,8 @@ use Rattle.hp_model.specs.declared.step.Intent.TheVariants.{Read, Write}
 use Rattle.hp_model.specs.files.Access.{access}
 use Rattle.hp_laws.specs.Balance.{Change, Moves, IsBalanced, left_by}
 use Rattle.hp_laws.specs.Laws.{SlotsAreBalanced}
-use Rattle.hp_model.specs.files.File.{new_file, File, Mount}
+use Rattle.hp_model.specs.files.File.{new_file, with_file, File, Mount}
+use Rattle.hp_model.specs.files.Fill.{filled, lacking, nodes_of}
 use Rattle.hp_model.specs.files.Fork.{file_forked}
 use Rattle.hp_model.specs.files.GiveBack.{file_unmapped, file_without, punched, truncated, unlinked}
 use Rattle.hp_model.specs.pool.Grant.{can_grant, granted}
@@ -23,12 +24,12 @@ use Rattle.hp_model.specs.files.Mapping.{is_map}
 use Rattle.hp_model.specs.files.MountCounts.{committed_of, stamps_of, file_pages_at, pages_at}
 use Rattle.hp_model.specs.files.Options.{limits, wanted_of}
 use Rattle.hp_model.specs.machine.Plan.{Slot, Plan, Choice, refuse, unless, gives}
-use Rattle.hp_model.specs.pool.Pool.{section, settled, released}
+use Rattle.hp_model.specs.pool.Pool.{read_nr, section, settled, released}
 use Rattle.hp_model.specs.declared.section.PoolAnswer.{PoolAnswer}
 use Rattle.hp_model.specs.declared.section.Section.TheVariants.{GrantAndReturn, ReadAndGiveBack, ReadAndGrant}
 use Rattle.hp_model.specs.pool.PoolCounts.{Pool}
 use Rattle.hp_model.specs.Profile.{most_bytes}
-use Rattle.hp_model.specs.machine.SlotEvent.{on_mount, on_none, mount_section, mount_pages, mount_outcome, fault, byte_access, load, store, is_beyond, bytes_answer, is_unmapped}
+use Rattle.hp_model.specs.machine.SlotEvent.{on_mount, on_none, mount_section, mount_pages, mount_outcome, fault, byte_access, load, store, is_beyond, bytes_answer, is_unmapped, unentered}
 use Rattle.hp_model.specs.machine.SlotEvent.{committed_with, remount_outcome, remount_section}
 use Rattle.hp_model.specs.machine.Sound.{IsSoundFile, IsSoundMount}
 use Rattle.hp_model.specs.files.Spot.{Spot, written, again}
@@ -39,9 +40,11 @@ use Rattle.hp_model.proofs.Distinct.{is_among-append}
 use Rattle.hp_laws.proofs.Copies.{agreed_file}
 use Rattle.hp_laws.proofs.Falls.{unmapped_falls, without_falls, forked_falls, punched_falls, truncated_falls, unlinked_falls}
 use Rattle.hp_laws.proofs.FileMoves.{FileGrows}
+use Rattle.hp_laws.proofs.Filled.{filled_fills}
+use Rattle.hp_laws.proofs.NodesOf.{length-nodes_of}
 use Rattle.hp_laws.proofs.Maps.{mapped_grows}
-use Rattle.hp_laws.proofs.MountMoves.{MountFalls, MountGrows, IsSpot, IsFileAt, nothing_more, file_grows, new_grows, file_sweeps, files_sweep}
-use Rattle.hp_laws.proofs.Plans.{stays, grown_same, balanced_unless, balanced_grant, balanced_gives, balanced_then, mount_falls}
+use Rattle.hp_laws.proofs.MountMoves.{MountFalls, MountGrows, IsSpot, IsFileAt, nothing_more, file_fills, file_grows, new_grows, file_sweeps, files_sweep}
+use Rattle.hp_laws.proofs.Plans.{stays, grown_same, balanced_unless, balanced_fill, balanced_grant, balanced_gives, balanced_then, mount_falls}
 use Rattle.hp_laws.proofs.Walk.{Walks, walk_all}
 
 -- ---- a new stamp
@@ -96,34 +99,34 @@ module _ (c : Choice) (size : ℕ) (m : Mount) (sound : IsSoundMount m) (new : i
 
 -- ---- mount
 
-nothing : Change None None 0 0 (λ n. 0) (λ n. 0) false
+nothing : Change None None 0 0 (λ n. 0) (λ n. 0) 0
 nothing = stays None
 
-mount_by : (stamp : ℕ) (refused after_grant granted : Bool) (node nr : ℕ) (l : Result Limits Refusal)
+mount_by : (stamp : ℕ) (refused after_grant granted : Bool) (node nr : ℕ) (pages : List ℕ) (l : Result Limits Refusal)
     → Moves None (mount_section (record { stamp = stamp; refused = refused; after_grant = after_grant }) (mount_pages (record { stamp = stamp; refused = refused; after_grant = after_grant }) l))
-    (record { granted = granted; node = node; nr = nr })
-    (left_by None (mount_outcome (record { stamp = stamp; refused = refused; after_grant = after_grant }) (record { granted = granted; node = node; nr = nr }) l))
-mount_by stamp refused true granted node nr (Err e) = nothing
-mount_by stamp refused false true node nr (Err e) = nothing
-mount_by stamp refused false false node nr (Err e) = nothing
-mount_by stamp true true granted node nr (Ok l) = nothing
-mount_by stamp true false true node nr (Ok l) = nothing
-mount_by stamp true false false node nr (Ok l) = nothing
-mount_by stamp false true true node nr (Ok l) = nothing
-mount_by stamp false true false node nr (Ok l) = nothing
-mount_by stamp false false false node nr (Ok l) = nothing
-mount_by stamp false false true node nr (Ok l) = record {
+    (record { granted = granted; node = node; nr = nr; pages = pages })
+    (left_by None (mount_outcome (record { stamp = stamp; refused = refused; after_grant = after_grant }) (record { granted = granted; node = node; nr = nr; pages = pages }) l))
+mount_by stamp refused true granted node nr pages (Err e) = nothing
+mount_by stamp refused false true node nr pages (Err e) = nothing
+mount_by stamp refused false false node nr pages (Err e) = nothing
+mount_by stamp true true granted node nr pages (Ok l) = nothing
+mount_by stamp true false true node nr pages (Ok l) = nothing
+mount_by stamp true false false node nr pages (Ok l) = nothing
+mount_by stamp false true true node nr pages (Ok l) = nothing
+mount_by stamp false true false node nr pages (Ok l) = nothing
+mount_by stamp false false false node nr pages (Ok l) = nothing
+mount_by stamp false false true node nr pages (Ok l) = record {
   committed = omega arith;
   pages = λ n lt. refl;
-  covered = λ e. cc;
+  covered = omega arith;
   far = λ n. omega arith;
   limited = inl (omega arith);
 }
 
-told : (p : Pool) (d : ℕ) (q : Pool) → (if◌then◌else◌ {A = PoolAnswer × Pool} (can_grant d p) (record { granted = true; node = 0; nr = p.nr }, q)
-    (record { granted = false; node = 0; nr = p.nr }, p)).0.nr ≡ p.nr
+told : (p : Pool) (d : ℕ) (q : Pool) → (if◌then◌else◌ {A = PoolAnswer × Pool} (can_grant d p) (read_nr true p, q)
+    (read_nr false p, p)).0.nr ≡ p.nr
 told p d q =
-    cond_both (can_grant d p) (record { granted = true; node = 0; nr = p.nr }, q) (record { granted = false; node = 0; nr = p.nr }, p)
+    cond_both (can_grant d p) (read_nr true p, q) (read_nr false p, p)
     (λ (x : PoolAnswer × Pool). x.0.nr ≡ p.nr) (λ e. refl) (λ e. refl)
 
 pub tells_nr : (p : Pool) (after_grant : Bool) (d : ℕ) → (section p (if after_grant then GrantAndReturn d else ReadAndGrant d)).0.nr ≡ p.nr
@@ -132,23 +135,24 @@ tells_nr p false d = told p d (granted 0 d p)
 
 -- ---- remount
 
-remount_by : (m : Mount) (granted : Bool) (node nr : ℕ) (l : Result Limits Refusal)
-    → Moves (Some m) (remount_section m l) (record { granted = granted; node = node; nr = nr }) (left_by (Some m) (remount_outcome m (record { granted = granted; node = node; nr = nr }) l))
-remount_by m true node nr (Err e) = stays (Some m)
-remount_by m false node nr (Err e) = stays (Some m)
-remount_by m granted node nr (Ok l) = by_minimum granted (nat_lt (committed_with m l.min) (committed_of m)) refl
+remount_by : (m : Mount) (granted : Bool) (node nr : ℕ) (pages : List ℕ) (l : Result Limits Refusal)
+    → Moves (Some m) (remount_section m l) (record { granted = granted; node = node; nr = nr; pages = pages })
+    (left_by (Some m) (remount_outcome m (record { granted = granted; node = node; nr = nr; pages = pages }) l))
+remount_by m true node nr pages (Err e) = stays (Some m)
+remount_by m false node nr pages (Err e) = stays (Some m)
+remount_by m granted node nr pages (Ok l) = by_minimum granted (nat_lt (committed_with m l.min) (committed_of m)) refl
   where
     by_minimum : (granted less : Bool) → nat_lt (committed_with m l.min) (committed_of m) ≡ less
         → Moves (Some m) (if less then ReadAndGiveBack (committed_of m - committed_with m l.min) else ReadAndGrant (committed_with m l.min - committed_of m))
-        (record { granted = granted; node = node; nr = nr }) (left_by (Some m) (remount_outcome m (record { granted = granted; node = node; nr = nr }) (Ok l)))
+        (record { granted = granted; node = node; nr = nr; pages = pages }) (left_by (Some m) (remount_outcome m (record { granted = granted; node = node; nr = nr; pages = pages }) (Ok l)))
     by_minimum false true is = stays (Some m)
     by_minimum false false is = stays (Some m)
     by_minimum true true is =
         let less = ltb-true (committed_with m l.min) (committed_of m) is in
-        record { committed = omega (arith, less); pages = λ n lt. refl; covered = λ e. cc; far = λ n. omega arith; limited = inl (omega arith) }
+        record { committed = omega (arith, less); pages = λ n lt. refl; covered = omega arith; far = λ n. omega arith; limited = inl (omega arith) }
     by_minimum true false is =
         let more = ltb-false (committed_with m l.min) (committed_of m) is in
-        record { committed = omega (arith, more); pages = λ n lt. refl; covered = λ e. cc; far = λ n. omega arith; limited = inl (omega arith) }
+        record { committed = omega (arith, more); pages = λ n lt. refl; covered = omega arith; far = λ n. omega arith; limited = inl (omega arith) }
 
 pub remount_tells : (p : Pool) (m : Mount) (l : Result Limits Refusal) → (section p (remount_section m l)).0.nr ≡ p.nr
 remount_tells p m (Err e) = told p 0 (granted 0 0 p)
@@ -159,7 +163,7 @@ remount_tells p m (Ok l) =
 
 on_none_balanced : (size : ℕ) (c : Choice) (e : SlotEvent) → IsBalanced None (on_none size c e)
 on_none_balanced size c (MountEvent options) = (
-  (λ a. mount_by c.stamp c.refused c.after_grant a.granted a.node a.nr (limits a.nr size (wanted_of options))),
+  (λ a. mount_by c.stamp c.refused c.after_grant a.granted a.node a.nr a.pages (limits a.nr size (wanted_of options))),
   (λ p. ap (λ nr. mount_section c (mount_pages c (limits nr size (wanted_of options)))) (tells_nr p c.after_grant (mount_pages c (limits p.nr size (wanted_of options))))),
 )
 on_none_balanced size c other = nothing
@@ -178,6 +182,9 @@ module _ (size slot : ℕ) (c : Choice) (m : Mount) (sound : IsSoundMount m) (ne
     unlinks = λ q at. falls _ (file_sweeps m q.0 q.1 (unlinked q.1) at (unlinked_falls q.1));
     truncates = λ n q at. falls _ (file_sweeps m q.0 q.1 (truncated n q.1) at (truncated_falls n q.1));
     punches = λ a b q at. falls _ (file_sweeps m q.0 q.1 (punched a b q.1) at (punched_falls a b q.1));
+    fills = λ a b q at.
+        balanced_fill c m (λ nodes. with_file m q.0 (filled size a b nodes q.1)) (lacking a b q.1) (unentered a b q.1)
+        (λ pages. file_fills m q.0 q.1 _ _ _ at (filled_fills size a b (nodes_of (lacking a b q.1) pages) q.1 (length-nodes_of (lacking a b q.1) pages)));
     maps = λ task home a n sharing reserving q at.
         (let k = asked sharing reserving a n q.1 in
         let number = next_number task m in
@@ -200,7 +207,7 @@ module _ (size slot : ℕ) (c : Choice) (m : Mount) (sound : IsSoundMount m) (ne
   on_mount_balanced e =
       walk_all size slot c m (IsBalanced (Some m)) events_balanced
       (λ options. (
-        (λ a. remount_by m a.granted a.node a.nr (limits a.nr size (wanted_of options))),
+        (λ a. remount_by m a.granted a.node a.nr a.pages (limits a.nr size (wanted_of options))),
         (λ p. ap (λ nr. remount_section m (limits nr size (wanted_of options))) (remount_tells p m (limits p.nr size (wanted_of options)))),
       ))
       (balanced_gives Done (Some m) None (record { committed = omega arith; each = λ n. omega arith; usage = omega arith })) e

@@ -51,7 +51,7 @@ use Rattle.hp_model.specs.Profile.{most_overcommit, most_bytes, most_file_pages,
 use Rattle.hp_model.specs.machine.Promises.{is_usage}
 use Rattle.hp_model.specs.pool.Resize.{no_count, node_count, pool_event}
 use Rattle.hp_model.specs.machine.Settled.{IsSettledState}
-use Rattle.hp_model.specs.machine.SlotEvent.{anon_tests, edited, fault, fault_tests, fork_tests, is_bad_range, on_mount, punch, read}
+use Rattle.hp_model.specs.machine.SlotEvent.{anon_tests, edited, fault, fault_tests, fork_tests, is_bad_range, on_mount, punch, read, preallocate}
 use Rattle.hp_model.specs.machine.SlotEvent.{truncate, unlink, unmap, are_too_many_maps, byte_access, bytes_answer, file_named, has_maps, is_beyond}
 use Rattle.hp_model.specs.machine.SlotEvent.{is_name, is_new_task_over, is_unmapped, load, map_file, slot_event, store}
 use Rattle.hp_model.specs.files.Spot.{Spot, again, copied, spot, written}
@@ -64,7 +64,7 @@ use Rattle.hp_laws.proofs.MountMoves.{IsSpot, spot_is}
 use Rattle.hp_laws.proofs.Outcomes.{either_way, Always, always_if, outcome_if, always_test, always_then, always_weaker, event_ends, reply_of}
 use Rattle.hp_laws.proofs.Shown.{On, Same, Result, on_weaker, read_same, write_done}
 use Rattle.hp_laws.proofs.Whole.{by_event, is_whole, step_of}
-use Rattle.hp_laws.proofs.SlotShows.{always_gives, always_grant, always_mount, always_remount, always_unless, always_value, bytes_on}
+use Rattle.hp_laws.proofs.SlotShows.{always_gives, always_grant, always_mount, always_remount, always_unless, always_value, bytes_on, always_preallocate}
 
 abbrev pub Small : Outcome → Type 0
 Small o = IsWithinLimits (reply_of o)
@@ -306,6 +306,7 @@ module _ (size k : ℕ) (c : Choice) (m : Mount) where
   mounted_small (slot.Unlink name) e = of_file name (unlink m) (λ q. done_small (edited m q.0 (unlinked q.1)))
   mounted_small (slot.Truncate name n) e = of_file name (truncate m n) (λ q. tested ((nat_lt most_file_pages n, OutOfRange) ∷ []) _ (done_small (edited m q.0 (truncated n q.1))))
   mounted_small (slot.Punch name a b) e = of_file name (punch m a b) (λ q. tested ((is_bad_range a b, OutOfRange) ∷ []) _ (done_small (edited m q.0 (punched a b q.1))))
+  mounted_small (slot.Preallocate name a b) e = of_file name (preallocate c size m a b) (λ q. always_preallocate Small (λ r. tt) c size m a b q tt (λ pages. tt))
   mounted_small (slot.Read name i offset count) e = of_file name (read size m i offset count) (read_small size m i offset count)
   mounted_small slot.Ls e = cc
   mounted_small (slot.Stat name) e = cc

@@ -12,7 +12,7 @@ use Rattle.hp_model.specs.declared.event.TableEvent.TheVariants as table
 use Rattle.hp_model.specs.declared.refusal.Refusal.{Refusal}
 use Rattle.hp_model.specs.declared.refusal.Refusal.TheVariants.{NoSuchSlot}
 use Rattle.hp_model.specs.declared.step.Step.{Step}
-use Rattle.hp_model.specs.declared.step.Step.TheVariants.{Connect, Attach, Fork, Exit, Mount, Remount, Umount, Create, Unlink, Truncate, Punch, Read, Ls}
+use Rattle.hp_model.specs.declared.step.Step.TheVariants.{Connect, Attach, Fork, Exit, Mount, Remount, Umount, Create, Unlink, Truncate, Punch, Preallocate, Read, Ls}
 use Rattle.hp_model.specs.declared.step.Step.TheVariants.{Stat, Map, Anon, Unmap, Fault, Load, Store, Nr, Overcommit, Meminfo, Nodes, Df}
 use Rattle.hp_model.specs.machine.Plan.{Reply}
 use Rattle.hp_model.specs.machine.Step.{Answer_with, Do, Script, Where_mapped, exit_slots, fork_slots, home_in, on_slot, only, or_undone, script, undone, when_done}
@@ -129,6 +129,7 @@ steps slots (Create k name) = slot_one slots k (slot.Create name)
 steps slots (Unlink k name) = slot_one slots k (slot.Unlink name)
 steps slots (Truncate k name pages) = slot_one slots k (slot.Truncate name pages)
 steps slots (Punch k name a b) = slot_one slots k (slot.Punch name a b)
+steps slots (Preallocate k name a b) = slot_one slots k (slot.Preallocate name a b)
 steps slots (Read k name i offset count) = slot_one slots k (slot.Read name i offset count)
 steps slots (Ls k) = slot_one slots k slot.Ls
 steps slots (Stat k name) = slot_one slots k (slot.Stat name)

@@ -25,6 +25,7 @@ tell_rules = record {
   pages = λ home k n p a q h. refl;
   pages_or = λ home k n other p a q h. refl;
   takes = λ home n p a q h. refl;
+  fills = λ k n next p a q h. refl;
   puts = λ pages k a s p b q h. refl;
   remounts = λ size m options p a q h.
       (let l = λ (nr : ℕ). limits nr size (wanted_of options) in

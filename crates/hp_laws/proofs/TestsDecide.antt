@@ -34,7 +34,8 @@ use Rattle.hp_model.specs.files.Spot.{Spot, again, spot, written}
 use Rattle.hp_model.specs.files.Value.{value}
 use Rattle.hp_model.specs.machine.Event.{IsEvent, planned, with_table}
 use Rattle.hp_model.specs.machine.Plan.{Answered, Ask, Choice, Finish, Outcome, Plan, Refused, Reply, Slot, continued, gives, grant, grant_page, refuse, unless, when_granted, with_value}
-use Rattle.hp_model.specs.machine.SlotEvent.{anon_tests, byte_access, byte_tests, bytes_answer, edited, fault, fault_tests, file_named, is_bad_range, is_beyond, is_name, is_unmapped, load}
+use Rattle.hp_model.specs.machine.SlotEvent.{anon_tests, byte_access, byte_tests, bytes_answer, edited, fault, fault_tests, file_named}
+use Rattle.hp_model.specs.machine.SlotEvent.{is_bad_range, is_beyond, is_name, is_unmapped, load, fill, preallocate, preallocate_tests}
 use Rattle.hp_model.specs.machine.SlotEvent.{map_file, map_tests, punch, read, read_tests, remount_outcome, slot_event, stat, store, truncate, umount_tests, unlink, unmap}
 use Rattle.hp_model.specs.machine.State.{State, slot_at}
 use Rattle.hp_model.specs.machine.Step.{Answer_with, IsScript, IsScripted, IsStep, Script, exit_slots, finding, home_in, on_slot, only, when_done}
@@ -55,6 +56,7 @@ use Rattle.hp_laws.proofs.Fades.{exits_done}
 use Rattle.hp_laws.proofs.Outcomes.{Always, always_if, always_then, event_ends, only_goes, outcome_if, reply_of}
 use Rattle.hp_laws.proofs.Remounts.{remount_ends, remount_told}
 use Rattle.hp_laws.proofs.SlotShows.{always_gives}
+use Rattle.hp_model.specs.files.Fill.{lacking}
 
 -- ---- outcomes
 
@@ -221,6 +223,13 @@ module _ (size k : ℕ) (c : Choice) where
       let ts : List (Bool × Refusal) = (is_bad_range a b, OutOfRange) ∷ [] in
       fits_there (file_named m name) NoSuchFile (λ f. first_failed ts) (punch m a b) (λ f. fits_tested ts _ (gives_short (Some m) (edited m f.0 (punched a b f.1))))
 
+  of_preallocate : (old : Slot) (name : List ℕ) (a b : ℕ) → Decides old (step.Preallocate k name a b) (slot.Preallocate name a b)
+  of_preallocate None name a b = refl
+  of_preallocate (Some m) name a b =
+      fits_there (file_named m name) NoSuchFile (λ f. first_failed (preallocate_tests a b)) (preallocate c size m a b)
+      (λ f. fits_tested (preallocate_tests a b) _ (always_if Short (lacking a b f.1 == 0) (Finish (Answered Done (Some m))) (fill c size m a b f) (λ e. refl)
+      (λ e. short_test _ MountFull _ refl (short_test c.refused OutOfMemory _ refl (λ answer. granted_short answer.granted _ refl)))))
+
   of_read : (old : Slot) (name : List ℕ) (i offset count : ℕ) → Decides old (step.Read k name i offset count) (slot.Read name i offset count)
   of_read None name i offset count = refl
   of_read (Some m) name i offset count =
@@ -384,6 +393,8 @@ module _ (s : State) (reply : Reply) (t : State) where
   scripted_meets (step.Unlink k name) is = slot_meets k (step.Unlink k name) (slot.Unlink name) (λ c. of_unlink s.page_size k c (slot_at s k) name) is
   scripted_meets (step.Truncate k name n) is = slot_meets k (step.Truncate k name n) (slot.Truncate name n) (λ c. of_truncate s.page_size k c (slot_at s k) name n) is
   scripted_meets (step.Punch k name a b) is = slot_meets k (step.Punch k name a b) (slot.Punch name a b) (λ c. of_punch s.page_size k c (slot_at s k) name a b) is
+  scripted_meets (step.Preallocate k name a b) is =
+      slot_meets k (step.Preallocate k name a b) (slot.Preallocate name a b) (λ c. of_preallocate s.page_size k c (slot_at s k) name a b) is
   scripted_meets (step.Read k name i offset count) is =
       slot_meets k (step.Read k name i offset count) (slot.Read name i offset count) (λ c. of_read s.page_size k c (slot_at s k) name i offset count) is
   scripted_meets (step.Ls k) is = slot_meets k (step.Ls k) slot.Ls (λ c. of_ls s.page_size k c (slot_at s k)) is

@@ -1,11 +1,10 @@
 -- The pool's numbers as sums over the slots are those that an event leaves.
-use Rattle.std.proofs.Common.{◌≡◌, subst, ℕ, ◌+◌, ◌-◌, ◌<◌, ◌≤◌, Bool, true, false, ◌&&◌, ◌==◌, None, List, [], ◌∷◌, length, map, refl, sym, ap, ◌∙◌, cond, arith}
+use Rattle.std.proofs.Common.{◌≡◌, subst, ℕ, ◌+◌, ◌-◌, ◌<◌, ◌≤◌, None, List, [], ◌∷◌, length, map, refl, sym, ap, ◌∙◌, arith}
 use Rattle.std.specs.List.{sum, slice_set, range_with_len, All}
-use Rattle.std.proofs.lemmas.Bool.{ne_eqb}
 use Rattle.std.proofs.lemmas.List.{length-map, set-get_or}
 use Rattle.std.proofs.lemmas.List.Elements.{All-head, All-tail, All-set}
 use Rattle.std.proofs.lemmas.List.Sums.{sum_by-set, sum-map, sum_by-le-sum_by}
-use Rattle.hp_laws.specs.Balance.{Always, Moves, takes_page, left_by, IsBalanced}
+use Rattle.hp_laws.specs.Balance.{Always, Moves, taken_at, left_by, IsBalanced}
 use Rattle.hp_model.specs.machine.Event.{planned, settled}
 use Rattle.hp_model.specs.machine.Machine.{pool_of, with_pool, rows_of, node_of, committed_pages, used_at}
 use Rattle.hp_model.specs.pool.NodeRows.{IsRow, used as row_used}
@@ -72,10 +71,6 @@ module _ (s : State) (st : IsSettledState s) (xs : List Slot) (sound : All IsSou
         },
       )
 
-none_taken : (b : Bool) (node n k : ℕ) → (b ≡ true → node < k) → k ≤ n → ◌≡◌ {A = ℕ} (cond (b && (node == n)) 1 0) 0
-none_taken false node n k h l = refl
-none_taken true node n k h l = (let within = h refl in let other = ap (λ x. cond x 1 0 + 0) (ne_eqb node n (λ e. omega (arith, e, within, l))) in omega (arith, other))
-
 module _ (s : State) (k : ℕ) (st : IsSettledState s) (new : Slot) (sound : IsSound new) (q : Pool) where
   abbrev after_it : State
   after_it = with_slot (with_pool s q) k new
@@ -104,16 +99,16 @@ module _ (s : State) (k : ℕ) (st : IsSettledState s) (new : Slot) (sound : IsS
         was = st.used;
         commits = omega (arith, commits, change_commits);
         pages = λ n lt. (let sums = sum_by-set (slot_pages_at n) s.slots k new None l in let e = change.pages n lt in omega (arith, sums, e));
-        covered = λ e. (let room = change.covered e in omega (arith, room, used, used_sums, all_pages, without, uncommitted, others));
+        covered = (let room = change.covered in omega (arith, room, used, used_sums, all_pages, without, uncommitted, others));
         within = omega (arith, new_sums, new_below);
       }
 
-  homed_after : (sec : Section) (a : PoolAnswer) → k < length s.slots → Moves (slot_at s k) sec a new → (takes_page sec a ≡ true → a.node < length s.nodes)
+  homed_after : (sec : Section) (a : PoolAnswer) → k < length s.slots → Moves (slot_at s k) sec a new → ((n : ℕ) → length s.nodes ≤ n → taken_at n sec a ≡ 0)
       → (n : ℕ) → length s.nodes ≤ n → used_at n after_it ≡ 0
   homed_after sec a l change there n le =
       let sums = sum_by-set (slot_pages_at n) s.slots k new None l in
       let far = change.far n in
-      let none = none_taken (takes_page sec a) a.node n (length s.nodes) there le in
+      let none = there n le in
       let was = st.homed n le in
       omega (arith, sums, far, none, was)
 
@@ -138,7 +133,7 @@ plan_tied s k (Finish o) l st b sound =
     let new : Slot = left_by (slot_at s k) o in
     let p : Pool = pool_of s in
     let w = wanted s k st new sound p (Grant 0 0) no_pages l b in
-    let homed = homed_after s k st new sound p (Grant 0 0) no_pages l b (λ e. cc) in
+    let homed = homed_after s k st new sound p (Grant 0 0) no_pages l b (λ n far. refl) in
     let leads = relead p p _ _ _ _ (unchanged p st.pool) (let x = w.commits in omega (arith, x))
     (same_list p (λ n. used_at n s) (λ n. used_at n (with_slot (with_pool s p) k new)) (length s.nodes) w.few w.was w.pages) in
     let t = tied s st (slice_set s.slots k new) (All-set IsSound s.slots k new sound st.slots) p leads homed in

@@ -1,5 +1,5 @@
 -- One walk over the events of an open mount: what holds of the plan of each change holds of the plan of each event.
-use Rattle.std.proofs.Common.{◌≡◌, ℕ, Bool, true, false, not, Option, None, Some, is_some, List, [], ◌∷◌, length, drop, nat_lt, refl, if◌then◌else◌}
+use Rattle.std.proofs.Common.{◌≡◌, ◌==◌, ℕ, Bool, true, false, not, Option, None, Some, is_some, List, [], ◌∷◌, length, drop, nat_lt, refl, if◌then◌else◌}
 use Rattle.std.proofs.lemmas.Bool.{cond_both}
 use Rattle.std.specs.List.{count_by, filter_map}
 use Rattle.hp_model.specs.declared.answer.Answer.{Answer}
@@ -12,6 +12,7 @@ use Rattle.hp_model.specs.declared.step.Intent.{Intent}
 use Rattle.hp_model.specs.declared.step.Reserving.{Reserving}
 use Rattle.hp_model.specs.declared.step.Sharing.{Sharing}
 use Rattle.hp_model.specs.files.File.{File, Mount, cell_at, has_page, is_entered, new_file, with_file}
+use Rattle.hp_model.specs.files.Fill.{lacking}
 use Rattle.hp_model.specs.files.Fork.{forked}
 use Rattle.hp_model.specs.files.GiveBack.{punched, truncated, unlinked, unmapped_from, without_task}
 use Rattle.hp_model.specs.files.MakeMap.{asked, mapped, next_number, with_new}
@@ -19,8 +20,9 @@ use Rattle.hp_model.specs.files.Mapping.{is_map}
 use Rattle.hp_model.specs.files.MountCounts.{usage_of}
 use Rattle.hp_model.specs.machine.Plan.{Answered, Ask, Choice, Finish, Plan, gives, grant, refuse, unless, with_value}
 use Rattle.hp_model.specs.Profile.{most_file_pages}
-use Rattle.hp_model.specs.machine.SlotEvent.{anon_tests, bytes_answer, create_tests, edited, fault, file_named, fork_tests, has_name, is_bad_range, is_name, load, map_file}
-use Rattle.hp_model.specs.machine.SlotEvent.{map_tests, on_mount, punch, read, read_tests, remount_outcome, remount_section, remount_tests, stat, store, truncate, umount_tests, unlink, unmap}
+use Rattle.hp_model.specs.machine.SlotEvent.{anon_tests, bytes_answer, create_tests, edited, fault, file_named, fill, fork_tests, has_name, is_bad_range, is_name, load, map_file}
+use Rattle.hp_model.specs.machine.SlotEvent.{map_tests, on_mount, preallocate, preallocate_tests, punch, read, read_tests, remount_outcome}
+use Rattle.hp_model.specs.machine.SlotEvent.{remount_section, remount_tests, stat, store, truncate, umount_tests, unlink, unmap}
 use Rattle.hp_model.specs.files.Options.{limits, wanted_of}
 use Rattle.hp_model.specs.files.Spot.{Spot, spot}
 use Rattle.hp_model.specs.files.Value.{shown}
@@ -58,6 +60,7 @@ module _ (size k : ℕ) (c : Choice) (m : Mount) (W : Plan → Type 0) where
     pub unlinks : (q : ℕ × File) → IsFileAt m q.0 q.1 → W (gives Done (Some m) (edited m q.0 (unlinked q.1)))
     pub truncates : (n : ℕ) (q : ℕ × File) → IsFileAt m q.0 q.1 → W (gives Done (Some m) (edited m q.0 (truncated n q.1)))
     pub punches : (a b : ℕ) (q : ℕ × File) → IsFileAt m q.0 q.1 → W (gives Done (Some m) (edited m q.0 (punched a b q.1)))
+    pub fills : (a b : ℕ) (q : ℕ × File) → IsFileAt m q.0 q.1 → W (fill c size m a b q)
     pub maps : (task home a n : ℕ) (sharing : Sharing) (reserving : Reserving) (q : ℕ × File) → IsFileAt m q.0 q.1
         → W (grant c m home (asked sharing reserving a n q.1)
         (Answered (MapNo (next_number task m)) (Some (with_file m q.0 (mapped task (next_number task m) a n sharing reserving q.1)))))
@@ -96,6 +99,10 @@ module _ (size k : ℕ) (c : Choice) (m : Mount) (W : Plan → Type 0) where
         of_file name (truncate m n) (λ q at. tested ((nat_lt most_file_pages n, OutOfRange) ∷ []) (gives Done (Some m) (edited m q.0 (truncated n q.1))) (walks.truncates n q at))
     walk (slot.Punch name a b) stays =
         of_file name (punch m a b) (λ q at. tested ((is_bad_range a b, OutOfRange) ∷ []) (gives Done (Some m) (edited m q.0 (punched a b q.1))) (walks.punches a b q at))
+    walk (slot.Preallocate name a b) stays =
+        of_file name (preallocate c size m a b)
+        (λ q at. tested (preallocate_tests a b) (if lacking a b q.1 == 0 then Finish (Answered Done (Some m)) else fill c size m a b q)
+        (cond_both (lacking a b q.1 == 0) (Finish (Answered Done (Some m))) (fill c size m a b q) W (λ e. walks.same Done) (λ e. walks.fills a b q at)))
     walk (slot.Read name i offset count) stays =
         of_file name (read size m i offset count)
         (λ q at. (let answer = bytes_answer offset count (shown size (cell_at q.1 i)) in tested (read_tests size i offset count q.1) (Finish (Answered answer (Some m))) (walks.same answer)))

@@ -9,7 +9,7 @@ use Rattle.hp_model.specs.declared.event.TableEvent.TheVariants as table
 use Rattle.hp_model.specs.declared.refusal.Refusal.{Refusal}
 use Rattle.hp_model.specs.declared.refusal.Refusal.TheVariants.{MountFull, NoPages, NoSuchSlot, NoSuchTask}
 use Rattle.hp_model.specs.declared.step.Step.{Step}
-use Rattle.hp_model.specs.declared.step.Step.TheVariants.{Connect, Attach, Fork, Exit, Mount, Remount, Umount, Create, Unlink, Truncate, Punch, Read, Ls}
+use Rattle.hp_model.specs.declared.step.Step.TheVariants.{Connect, Attach, Fork, Exit, Mount, Remount, Umount, Create, Unlink, Truncate, Punch, Preallocate, Read, Ls}
 use Rattle.hp_model.specs.declared.step.Step.TheVariants.{Stat, Map, Anon, Unmap, Fault, Load, Store, Nr, Overcommit, Meminfo, Nodes, Df}
 use Rattle.hp_model.specs.machine.Event.{IsEvent}
 use Rattle.hp_model.specs.machine.Plan.{Reply}
@@ -37,6 +37,7 @@ slot_step k (slot.Create name) = Create k name
 slot_step k (slot.Unlink name) = Unlink k name
 slot_step k (slot.Truncate name pages) = Truncate k name pages
 slot_step k (slot.Punch name a b) = Punch k name a b
+slot_step k (slot.Preallocate name a b) = Preallocate k name a b
 slot_step k (slot.Read name i offset count) = Read k name i offset count
 slot_step k slot.Ls = Ls k
 slot_step k (slot.Stat name) = Stat k name
@@ -108,6 +109,7 @@ module _ (s : State) (P : Step → Reply → State → Type 0) (early : (step : 
   by_script (Unlink k name) is = by_slot k (slot.Unlink name) refl is
   by_script (Truncate k name pages) is = by_slot k (slot.Truncate name pages) refl is
   by_script (Punch k name a b) is = by_slot k (slot.Punch name a b) refl is
+  by_script (Preallocate k name a b) is = by_slot k (slot.Preallocate name a b) refl is
   by_script (Read k name i offset count) is = by_slot k (slot.Read name i offset count) refl is
   by_script (Ls k) is = by_slot k slot.Ls refl is
   by_script (Stat k name) is = by_slot k (slot.Stat name) refl is

@@ -18,7 +18,7 @@ use Rattle.hp_model.specs.threads.PoolRun.{IsPoolStep}
 use Rattle.hp_model.specs.threads.Telling.{Tells, TellsFront, most_receipts}
 use Rattle.hp_laws.specs.Balance.{Always, left_by}
 
--- 256 places are enough for the table
+-- as many places as there may be tasks are enough for the table
 abbrev pub TablePlaces : Type 0
 TablePlaces =
     (nodes : ℕ) (table : Table) (e : TableEvent) → to_remove table ≤ most_tasks →

@@ -68,12 +68,12 @@ pub fn trails_join()
     ensures { JoinedLaw }
 {}
 
-/// In the table, 256 places are enough for the removals of tasks that may yet come, whatever else is done.
+/// In the table, as many places as there may be tasks are enough for the removals of tasks that may yet come, whatever else is done.
 pub fn table_places_are_enough()
     ensures { TablePlaces }
 {}
 
-/// In a slot, 256 places are enough for the exits of tasks with maps that may yet come.
+/// In a slot, as many places as there may be tasks are enough for the exits of tasks with maps that may yet come.
 pub fn slot_places_are_enough()
     ensures { SlotPlaces }
 {}

@@ -9,4 +9,5 @@ pub mod WorkedLines
 pub mod WorkedPromises
 pub mod WorkedSound
 pub mod WorkedRecord
+pub mod WorkedPreallocate
 pub mod Worked

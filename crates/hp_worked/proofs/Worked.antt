@@ -4,17 +4,17 @@ use Rattle.std.specs.Fmt.{digits}
 use Rattle.hex.specs.Hex.{encode_with, decode_pairs}
 use Rattle.hp_model.specs.machine.Plain.{plain_text}
 use Rattle.hp_model.specs.text.Reading.{step_of_bytes, step_of_command, slot_command, pool_command, connect_of, attach_of, fork_of, exit_of, mount_of, remount_of, umount_of}
-use Rattle.hp_model.specs.text.Reading.{create_of, unlink_of, truncate_of, punch_of, read_of, ls_of, stat_of, map_of, anon_of, unmap_of}
+use Rattle.hp_model.specs.text.Reading.{create_of, unlink_of, truncate_of, punch_of, preallocate_of, read_of, ls_of, stat_of, map_of, anon_of, unmap_of}
 use Rattle.hp_model.specs.text.Reading.{fault_of, load_of, store_of, nr_of, overcommit_of, meminfo_of, nodes_of, df_of}
 use Rattle.hp_model.specs.text.Words.{piece_at, end_at, word_at, number_at, hex_at, sharing_at, intent_at, reserving_at}
 use Rattle.hp_worked.proofs.Agreement.{text_agrees}
 use Rattle.hp_worked.proofs.WorkedSharing.{empty_pool_counts, empty_pool_meminfo, grow_and_shrink_go_round_the_nodes, lower_nr_below_pages_in_use}
 use Rattle.hp_worked.proofs.WorkedSharing.{nr_up_and_down_with_surplus, one_node_of_one_frame, overcommit_makes_surplus, overcommit_past_its_limit}
-use Rattle.hp_worked.proofs.WorkedSharing.{punch_ends_only_filled_reservations, second_reservation_refused, shared_map_first_store, stored_run}
+use Rattle.hp_worked.proofs.WorkedSharing.{preallocate_fills_a_range, punch_ends_only_filled_reservations, second_reservation_refused, shared_map_first_store, stored_run}
 use Rattle.hp_worked.proofs.WorkedSharing.{surplus_pages_all_in_use, surplus_pages_leave_the_pool, truncate_and_lengthen_again, unlinked_file_lives_with_its_maps}
 use Rattle.hp_worked.proofs.WorkedMounts.{file_names_and_inodes, mount_minimum_and_size, mount_minimum_filled_again}
 use Rattle.hp_worked.proofs.WorkedMounts.{mount_minimum_past_the_pool, mount_minimum_refused_after_shrink, mount_option_table}
-use Rattle.hp_worked.proofs.WorkedMounts.{mount_options_and_slots, remount_sets_the_limits, shared_map_past_mount_size, tasks_maps_and_access_refusals}
+use Rattle.hp_worked.proofs.WorkedMounts.{mount_options_and_slots, preallocate_past_mount_size, remount_sets_the_limits, shared_map_past_mount_size, tasks_maps_and_access_refusals}
 use Rattle.hp_worked.proofs.WorkedPrivate.{child_copy_refused, grandchildren_and_a_surplus_copy, owner_copies_where_a_page_is_left}
 use Rattle.hp_worked.proofs.WorkedPrivate.{owner_takes_page_from_child, partial_unmap_exit_and_all_frames, private_copy_over_file_page}
 use Rattle.hp_worked.proofs.WorkedPrivate.{private_read_of_hole_keeps_zeros, reused_page_is_zero, reused_page_is_zero_256_bytes}
@@ -39,6 +39,7 @@ scripts =
     one_node_of_one_frame ∷
     overcommit_makes_surplus ∷
     overcommit_past_its_limit ∷
+    preallocate_fills_a_range ∷
     punch_ends_only_filled_reservations ∷
     second_reservation_refused ∷
     shared_map_first_store ∷
@@ -54,6 +55,7 @@ scripts =
     mount_minimum_refused_after_shrink ∷
     mount_option_table ∷
     mount_options_and_slots ∷
+    preallocate_past_mount_size ∷
     remount_sets_the_limits ∷
     shared_map_past_mount_size ∷
     tasks_maps_and_access_refusals ∷
@@ -134,7 +136,7 @@ all_work = (
                                                           (refl, refl),
                                                           (
                                                             (refl, refl),
-                                                            ((refl, refl), ((refl, refl), ((refl, refl), ((refl, refl), ((refl, refl), ((refl, refl), ((refl, refl), ((refl, refl), tt)))))))),
+                                                            ((refl, refl), ((refl, refl), ((refl, refl), ((refl, refl), ((refl, refl), ((refl, refl), ((refl, refl), ((refl, refl), ((refl, refl), ((refl, refl), tt)))))))))),
                                                           ),
                                                         ),
                                                       ),

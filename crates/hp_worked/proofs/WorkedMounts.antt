@@ -96,6 +96,18 @@ mount_options_and_slots = record {
       ++ codes "error 9 SlotTaken\nerror 19 Busy\nerror 8 NoSuchSlot\n";
 }
 
+abbrev pub preallocate_past_mount_size : Worked
+preallocate_past_mount_size = record {
+  machine = machine;
+  input =
+      codes "nr 4\nmount 2 size=1K\ncreate 2 x\npreallocate 2 x 0 2\nstat 2 x\npreallocate 2 x 0 1\n"
+      ++ codes "meminfo\n";
+  replies =
+      codes "ok 4\nok\nok\nerror 3 MountFull\nok 0 0 0 0\nok\ntext 6\nHugePages_Total:       4\n"
+      ++ codes "HugePages_Free:        3\nHugePages_Rsvd:        0\nHugePages_Surp:        0\n"
+      ++ codes "Hugepagesize:          1 kB\nHugetlb:               4 kB\n";
+}
+
 abbrev pub remount_sets_the_limits : Worked
 remount_sets_the_limits = record {
   machine = machine;

@@ -23,7 +23,7 @@ use Rattle.hp_model.specs.machine.State.{State, slot_at, with_slot}
 use Rattle.hp_worked.proofs.WorkedPromises.{after_all, child_in, forked, into_first, mounted, parent_in, robbed, shared, spot_or, unmapped_first, with_map_of, without_pages}
 use Rattle.hp_worked.proofs.WorkedWords.{machine}
 
-abbrev refusal_of : Reply → Refusal
+abbrev pub refusal_of : Reply → Refusal
 refusal_of (Ok a) = Busy
 refusal_of (Err r) = r
 

@@ -30,8 +30,9 @@ abbrev slot_event : Test SlotEvent.enum.D
 slot_event =
     let mapped = field_then number (field_then number (field_then sharing (last_field reserving))) in
     let at_page = field_then number three_numbers in
+    let named_range = field_then numbers (field_then number number_last) in
     variants SlotEvent.enum (
-    bytes_last ▹ bytes_last ▹ no_field ▹ bytes_last ▹ bytes_last ▹ field_then numbers number_last ▹ field_then numbers (field_then number number_last) ▹ field_then
+    bytes_last ▹ bytes_last ▹ no_field ▹ bytes_last ▹ bytes_last ▹ field_then numbers number_last ▹ named_range ▹ named_range ▹ field_then
     numbers three_numbers ▹ no_field ▹ bytes_last ▹ no_field
     ▹ field_then number (field_then number (field_then numbers mapped)) ▹ field_then number mapped ▹ at_page ▹ field_then number
     (field_then number (field_then number (field_then number (last_field intent))))
