@@ -3,16 +3,20 @@ use Rattle.std.proofs.Common.{◌≡◌, ◌≢◌, ℕ, zero, suc, ◌+◌, ◌
 use Rattle.std.specs.Prelude.{slice_index_or, slice_set}
 use Rattle.std.specs.List.{count_by, position_or_len}
 use Rattle.std.proofs.lemmas.Bool.{cases_eq, cases_lt}
-use Rattle.std.proofs.lemmas.List.{drop-set-add, drop-set-lt, drop_more, get_or-drop, get_or-set_other, get_or-set_same, length-append, length-drop, length-set, length-take, take-append-drop, take-set-le}
+use Rattle.std.proofs.lemmas.List.{drop-set-add, drop-set-lt, drop_more, get_or-drop, get_or-set_other, get_or-set_same, length-append, length-drop, length-set, length-take, set-set, take-append-drop, take-set-le}
 use Rattle.std.proofs.lemmas.List.Sums.{position_or_len_is}
 use Rattle.std.proofs.Math.Seq.{drop-append_seam, take-append_seam}
 use Rattle.hp_model.specs.declared.cell.Cell.{Cell}
 use Rattle.hp_model.specs.declared.cell.Cell.TheVariants.{Hole, Entered, Present}
-use Rattle.hp_model.specs.files.File.{cell_in, entered, has_page, is_entered}
+use Rattle.hp_model.specs.files.File.{File, cell_in, entered, has_page, is_entered, new_file, with_cell}
 use Rattle.hp_model.specs.files.Fill.{cells_filled, lacks_page, next_bare, zero_page}
 use Rattle.hp_model.specs.files.Page.{Page}
 use Rattle.hp_model.specs.Lists.{edit_range, part}
 use Rattle.hp_model.proofs.Counting.{count_cons}
+use Rattle.hp_mount_files.specs.declared.file.CellState.{CellState}
+use Rattle.hp_mount_files.specs.declared.file.CellState.TheVariants as state
+use Rattle.hp_mount_files.specs.Files.{Files, file_at, filled_at}
+use Rattle.hp_mount_files.specs.States.{IsState}
 
 abbrev pub zeros_of : (size : ℕ) → List Page → List Page
 zeros_of size pages = map (λ (page : Page). zero_page size page.node) pages
@@ -120,6 +124,33 @@ module _ (size a b i : ℕ) (old now : List (Cell Page)) (all left : List Page) 
           earlier : (j : ℕ) → j < i + 1 → j ≢ i → j < i
           earlier j upto apart = ⊎_elim (λ (l : j < i). l) (λ (l : i ≤ j). absurd (apart (omega (arith, l, upto)))) (cases_lt j i)
 
+-- an index that needs none
+pub putting_stays : (size a b i : ℕ) (old now : List (Cell Page)) (all left : List Page) → IsPutting size a b i old now all left → a ≤ i → i < b
+    → (r : CellState) → (r ≡ state.Entered → ⊥) → IsState r (cell_in now i) → IsPutting size a b (i + 1) old now all left
+putting_stays size a b i old now all left is low high state.Hole other here = absurd (putting_no_hole size a b i old now all left is low high here)
+putting_stays size a b i old now all left is low high state.Entered other here = absurd (other refl)
+putting_stays size a b i old now all left is low high state.Present other here = putting_passes size a b i old now all left is low high here.0 here.1
+
+-- the file that gets a page, and all files
+module _ (k i : ℕ) (q : Page) (old now new : Files) (l : k < length old.files) (new_is : new ≡ filled_at k i q now)
+    (now_is : now.files ≡ slice_set old.files k (record (file_at old.files k) { cells = (file_at now.files k).cells })) where
+  abbrev cells : List (Cell Page)
+  cells = (file_at now.files k).cells
+
+  pub cells_put : (file_at new.files k).cells ≡ slice_set cells i (Present q)
+  cells_put =
+      let within : k < length now.files = (let same = ap length now_is in let long = length-set old.files k (record (file_at old.files k) { cells = cells }) in omega (arith, l, same, long)) in
+      ap (λ (v : Files). (file_at v.files k).cells) new_is ∙ ap (λ (f : File). f.cells) (get_or-set_same now.files k (with_cell (file_at now.files k) i (Present q)) (new_file None) within)
+
+  pub files_put : new.files ≡ slice_set old.files k (record (file_at old.files k) { cells = (file_at new.files k).cells })
+  files_put =
+      let f : File = file_at old.files k in
+      let g : File = record f { cells = cells } in
+      let there : file_at now.files k ≡ g = ap (λ fs. file_at fs k) now_is ∙ get_or-set_same old.files k g (new_file None) l in
+      ap (λ (v : Files). v.files) new_is ∙ ap (λ h. slice_set now.files k (with_cell h i (Present q))) there
+      ∙ ap (λ fs. slice_set fs k (with_cell g i (Present q))) now_is ∙ set-set old.files k g (with_cell g i (Present q))
+      ∙ ap (λ cs. slice_set old.files k (record f { cells = cs })) (sym cells_put)
+
 pub putting_ends : (size a b : ℕ) (old now : List (Cell Page)) (all left : List Page) → IsPutting size a b b old now all left → (left ≡ []) × (now ≡ cells_filled a (zeros_of size all) old)
 putting_ends size a b old now all left is =
     let none : b - b ≡ 0 = omega arith in
@@ -196,7 +227,7 @@ module _ {P : Type 0} where
       ∙ ap (λ ys. ys ++ laid ps (drop (length front) (front ++ back))) (take-append_seam front back)
       ∙ ap (λ ys. front ++ laid ps ys) (drop-append_seam front back) ∙ ap (λ ys. front ++ ys) (laid_entered (b - a) ps (drop a xs) count) ∙ sym (filled_laid a ps xs)
 
-  lacks_entered : (c : Cell P) → lacks_page (entered c) ≡ lacks_page c
+  pub lacks_entered : (c : Cell P) → lacks_page (entered c) ≡ lacks_page c
   lacks_entered Hole = refl
   lacks_entered Entered = refl
   lacks_entered (Present q) = refl

@@ -74,22 +74,20 @@ impl<N: Naming> Files<N> {
         ensures left { D.is_left door.new }
     {
         let reserves = share.held().saturating_add(k);
-        if self.make_room(reserves as usize).is_err() {
+        let Ok(()) = self.make_room(reserves as usize) else {
             return Err(Refusal::OutOfMemory);
-        }
+        };
         let Ok(mut batch) = PageBatch::new(self.alloc, count as usize) else {
             return Err(Refusal::OutOfMemory);
         };
         let at = &mut self.list[file];
-        match at.take_pages(
+        if let Err(refusal) = at.take_pages(
             self.alloc, door, share, from, to, k, count, &mut batch,
         ) {
-            Ok(()) => Ok(batch),
-            Err(refusal) => {
-                batch.close();
-                Err(refusal)
-            }
+            batch.close();
+            return Err(refusal);
         }
+        Ok(batch)
     }
 
     // The next page of a batch, with zeros for what its last holder wrote, is put at an entered index that has none.
@@ -159,7 +157,7 @@ impl<N: Naming> Files<N> {
         ensures filled { OnOk result ((takes : List ℕ)
             × IsTaking D.took D.is_full k count share.old door.old result takes share.new door.new
             × (self.new ≡ pages_at N.page_bytes file from to (nodes_of count takes)
-              (max self.old.room (share.old.held + k) - count) self.old)) }
+            (max self.old.room (share.old.held + k) - count) self.old)) }
         ensures err { OnErr result (self.new ≡ record self.old { room = self.new.room }) }
         ensures more { OnErr result (self.old.room ≤ self.new.room) }
         ensures refused { OnErr result (IsTaking D.took D.is_full k count share.old door.old
