@@ -31,7 +31,7 @@ module _ {X : Type 0} (took : X → Section → PoolAnswer → X → Type 0) (fu
   abbrev after : Plan
   after = gives Done (Some m) (Some (forked parent child m))
 
-  pub too_many : (4096 < maps) ⊎ (256 < tasks) → Tried took full (λ c. fork_maps c m parent child) (Some m) door (Err r.TooMany) (Some m) door
+  pub too_many : (4096 < maps) ⊎ (4096 < tasks) → Tried took full (λ c. fork_maps c m parent child) (Some m) door (Err r.TooMany) (Some m) door
   too_many many = (
     fresh_choice false (Some m),
     is_fresh false (Some m),
@@ -44,13 +44,13 @@ module _ {X : Type 0} (took : X → Section → PoolAnswer → X → Type 0) (fu
       either_true true = refl
       either_true false = refl
 
-      over : (4096 < maps) ⊎ (256 < tasks) → (nat_lt 4096 maps || nat_lt 256 tasks) ≡ true
-      over (inl l) = (let t : nat_lt 4096 maps ≡ true = grind (arith, nat_tests, l) in ap (λ b. b || nat_lt 256 tasks) t)
-      over (inr l) = (let t : nat_lt 256 tasks ≡ true = grind (arith, nat_tests, l) in ap (λ b. nat_lt 4096 maps || b) t ∙ either_true (nat_lt 4096 maps))
+      over : (4096 < maps) ⊎ (4096 < tasks) → (nat_lt 4096 maps || nat_lt 4096 tasks) ≡ true
+      over (inl l) = (let t : nat_lt 4096 maps ≡ true = grind (arith, nat_tests, l) in ap (λ b. b || nat_lt 4096 tasks) t)
+      over (inr l) = (let t : nat_lt 4096 tasks ≡ true = grind (arith, nat_tests, l) in ap (λ b. nat_lt 4096 maps || b) t ∙ either_true (nat_lt 4096 maps))
 
-  module _ (few : maps ≤ 4096) (few_tasks : tasks ≤ 256) where
-    under : (nat_lt 4096 maps || nat_lt 256 tasks) ≡ false
-    under = (let a : nat_lt 4096 maps ≡ false = grind (arith, nat_tests, few) in let b : nat_lt 256 tasks ≡ false = grind (arith, nat_tests, few_tasks) in ap (λ t. t || nat_lt 256 tasks) a ∙ b)
+  module _ (few : maps ≤ 4096) (few_tasks : tasks ≤ 4096) where
+    under : (nat_lt 4096 maps || nat_lt 4096 tasks) ≡ false
+    under = (let a : nat_lt 4096 maps ≡ false = grind (arith, nat_tests, few) in let b : nat_lt 4096 tasks ≡ false = grind (arith, nat_tests, few_tasks) in ap (λ t. t || nat_lt 4096 tasks) a ∙ b)
 
     pub no_memory : Tried took full (λ c. fork_maps c m parent child) (Some m) door (Err r.OutOfMemory) (Some m) door
     no_memory = (

@@ -139,16 +139,16 @@ module _ {X : Type 0} (took : X → Section → PoolAnswer → X → Type 0) (fu
 
 -- ---- tests of a range and of a length
 
-pub bad_range : (a b : ℕ) → (b ≤ a) ⊎ ((a < b) × (1048576 < b)) → first_of ((is_bad_range a b, r.OutOfRange) ∷ []) ≡ Some r.OutOfRange
+pub bad_range : (a b : ℕ) → (b ≤ a) ⊎ ((a < b) × (16777216 < b)) → first_of ((is_bad_range a b, r.OutOfRange) ∷ []) ≡ Some r.OutOfRange
 bad_range a b bad = ap (λ t. first_of ((t, r.OutOfRange) ∷ [])) (⊎_elim
     (λ (l : b ≤ a). (let t : is_bad_range a b ≡ true = grind (arith, nat_tests, l) in t))
-    (λ (l : (a < b) × (1048576 < b)). (let past = l.1 in let t : is_bad_range a b ≡ true = grind (arith, nat_tests, past) in t)) bad)
+    (λ (l : (a < b) × (16777216 < b)). (let past = l.1 in let t : is_bad_range a b ≡ true = grind (arith, nat_tests, past) in t)) bad)
 
-pub good_range : (a b : ℕ) → a < b → b ≤ 1048576 → first_of ((is_bad_range a b, r.OutOfRange) ∷ []) ≡ None
+pub good_range : (a b : ℕ) → a < b → b ≤ 16777216 → first_of ((is_bad_range a b, r.OutOfRange) ∷ []) ≡ None
 good_range a b l few = (let t : is_bad_range a b ≡ false = grind (arith, nat_tests, l, few) in ap (λ t. first_of ((t, r.OutOfRange) ∷ [])) t)
 
-pub long_file : (n : ℕ) → 1048576 < n → first_of ((nat_lt 1048576 n, r.OutOfRange) ∷ []) ≡ Some r.OutOfRange
-long_file n l = (let t : nat_lt 1048576 n ≡ true = grind (arith, nat_tests, l) in ap (λ t. first_of ((t, r.OutOfRange) ∷ [])) t)
+pub long_file : (n : ℕ) → 16777216 < n → first_of ((nat_lt 16777216 n, r.OutOfRange) ∷ []) ≡ Some r.OutOfRange
+long_file n l = (let t : nat_lt 16777216 n ≡ true = grind (arith, nat_tests, l) in ap (λ t. first_of ((t, r.OutOfRange) ∷ [])) t)
 
-pub short_file : (n : ℕ) → n ≤ 1048576 → first_of ((nat_lt 1048576 n, r.OutOfRange) ∷ []) ≡ None
-short_file n l = (let t : nat_lt 1048576 n ≡ false = grind (arith, nat_tests, l) in ap (λ t. first_of ((t, r.OutOfRange) ∷ [])) t)
+pub short_file : (n : ℕ) → n ≤ 16777216 → first_of ((nat_lt 16777216 n, r.OutOfRange) ∷ []) ≡ None
+short_file n l = (let t : nat_lt 16777216 n ≡ false = grind (arith, nat_tests, l) in ap (λ t. first_of ((t, r.OutOfRange) ∷ [])) t)

@@ -120,7 +120,7 @@ module _ {X : Type 0} (took : X → Section → PoolAnswer → X → Type 0) (fu
     of_map : plan ≡ unless ((is_bad_range a b, r.OutOfRange) ∷ []) after
     of_map = ap (λ o. with_value o r.NoSuchMap (unmap m task number a b)) there
 
-    pub bad_indices : (b ≤ a) ⊎ ((a < b) × (1048576 < b)) → Tried took full (λ c. plan) (Some m) door (Err r.OutOfRange) (Some m) door
+    pub bad_indices : (b ≤ a) ⊎ ((a < b) × (16777216 < b)) → Tried took full (λ c. plan) (Some m) door (Err r.OutOfRange) (Some m) door
     bad_indices bad = (
       fresh_choice false (Some m),
       is_fresh false (Some m),
@@ -129,7 +129,7 @@ module _ {X : Type 0} (took : X → Section → PoolAnswer → X → Type 0) (fu
           (refused_at took m r.OutOfRange door),
     )
 
-    pub indices_left : a < b → b ≤ 1048576 → (n : Mount) (left : X) → ThroughDoor took after (Some m) door (Ok Done) (Some n) left → Tried took full (λ c. plan) (Some m) door (Ok Done) (Some n) left
+    pub indices_left : a < b → b ≤ 16777216 → (n : Mount) (left : X) → ThroughDoor took after (Some m) door (Ok Done) (Some n) left → Tried took full (λ c. plan) (Some m) door (Ok Done) (Some n) left
     indices_left l few n left h = (
       fresh_choice false (Some m),
       is_fresh false (Some m),

@@ -3,7 +3,7 @@ use Rattle.std.specs.Prelude.{ℕ, Bool, true, false}
 use Rattle.hp_model.specs.declared.event.SlotEvent.{SlotEvent}
 use Rattle.hp_model.specs.declared.event.SlotEvent.TheVariants as slot
 use Rattle.hp_mount.specs.declared.event.MountEvent.{MountEvent}
-use Rattle.hp_mount.specs.declared.event.MountEvent.TheVariants.{Create, Unlink, Truncate, Punch, Stat, Read, Map, Anon, Unmap, Fault, Load, Store, Ls, Usage}
+use Rattle.hp_mount.specs.declared.event.MountEvent.TheVariants.{Create, Unlink, Truncate, Punch, Preallocate, Stat, Read, Map, Anon, Unmap, Fault, Load, Store, Ls, Usage}
 
 -- the event, of a task with that home
 abbrev pub event_of : (home : ℕ) → MountEvent → SlotEvent
@@ -11,6 +11,7 @@ event_of home (Create name) = slot.Create name.now
 event_of home (Unlink name) = slot.Unlink name.now
 event_of home (Truncate name pages) = slot.Truncate name.now pages
 event_of home (Punch name start end) = slot.Punch name.now start end
+event_of home (Preallocate name start end) = slot.Preallocate name.now start end
 event_of home (Stat name) = slot.Stat name.now
 event_of home (Read name index offset count) = slot.Read name.now index offset count
 event_of home (Map task name start pages sharing reserving) = slot.Map task home name.now start pages sharing reserving

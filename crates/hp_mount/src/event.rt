@@ -25,6 +25,13 @@ pub enum MountEvent<'a> {
         start: u64,
         end: u64,
     },
+    /// Gives each index of a file from `start` up to `end` that has no page a page of zeros; the file gets longer where the
+    /// range ends past its end.
+    Preallocate {
+        name: &'a [u8],
+        start: u64,
+        end: u64,
+    },
     /// Answers a file's length, its pages, its entered indices and its maps.
     Stat {
         name: &'a [u8],

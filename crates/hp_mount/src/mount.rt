@@ -9,6 +9,7 @@ ghost use Rattle.hp_model.specs.machine.Plan.{gives};
 ghost use Rattle.hp_model.specs.machine.SlotEvent.{has_maps};
 ghost use Rattle.hp_model.specs.machine.Told.{told_reply};
 ghost use Rattle.hp_model.specs.text.Writing.{IsWithinLimit, IsWithinLimits};
+ghost use Rattle.hp_store.specs.Batch.{Batch as BatchValue};
 ghost use Rattle.hp_store.specs.Store.{Store as StoreValue, page_at};
 ghost use Rattle.hp_subpool.specs.Subpool.{Subpool as ShareValue};
 ghost use Rattle.hp_mount.specs.Alone.{IsDoneAlone};
@@ -17,6 +18,7 @@ ghost use Rattle.hp_mount.specs.Event.{event_of, is_usage, shows_bytes};
 ghost use Rattle.hp_mount.specs.Kept.{mount_of};
 ghost use Rattle.hp_mount.specs.Memory.{asks_memory};
 
+mod filling;
 mod forking;
 mod giving;
 mod leaving;
@@ -33,7 +35,7 @@ use hp_model::told::Told;
 use hp_mount_door::PoolDoor;
 use hp_mount_files::{Files, MapRange};
 use hp_nodes::Page;
-use hp_store::PageStore;
+use hp_store::{PageBatch, PageStore};
 use hp_subpool::Subpool;
 pub use reach::MapAccess;
 use std::alloc::Global;
@@ -107,7 +109,15 @@ impl<N: Naming> Mount<N> {
     /// An access asks for no memory where its index is reserved to its map, or where it makes neither a page nor a copy.
     /// Bytes are answered in the front of the room, which has 256 where an event answers any.
     #[inline(always)]
-    pub fn apply<'a, D: PoolDoor<Share = Subpool<N>, Page = Page<N>, Going = PageStore<N>>>(
+    pub fn apply<
+        'a,
+        D: PoolDoor<
+            Share = Subpool<N>,
+            Page = Page<N>,
+            Going = PageStore<N>,
+            Batch = PageBatch<N>,
+        >,
+    >(
         &mut self,
         door: &mut D,
         page_bytes: u64,
@@ -119,6 +129,7 @@ impl<N: Naming> Mount<N> {
         requires pages { (p : PageValue) → D.page_of p ≡ p }
         requires going { (s : StoreValue) → D.going_of s ≡ s.going }
         requires emptied { (s : StoreValue) → D.emptied s ≡ record s { going = [] } }
+        requires batches { (b : BatchValue) → D.batch_of b ≡ b }
         requires ready { D.is_ready door.old }
         requires page_bytes { page_bytes ≡ N.page_bytes }
         requires room { shows_bytes event ≡ true → 256 ≤ length room.old }
@@ -138,6 +149,9 @@ impl<N: Naming> Mount<N> {
             MountEvent::Truncate { name, pages } => Told::done(self.truncate(door, name, pages)),
             MountEvent::Punch { name, start, end } => {
                 Told::done(self.punch(door, name, start, end))
+            }
+            MountEvent::Preallocate { name, start, end } => {
+                Told::done(self.preallocate(door, name, start, end))
             }
             MountEvent::Stat { name } => self.stat(name),
             MountEvent::Read {

@@ -1,5 +1,5 @@
 //! Pages on their way into a store.
-ghost use Rattle.std.specs.Prelude.{◌≡◌, ◌-◌, ◌<◌, [], ◌∷◌, ◌++◌, IfOk, option_to_list};
+ghost use Rattle.std.specs.Prelude.{◌≡◌, ◌-◌, ◌<◌, [], ◌∷◌, ◌++◌, IfNone, IfOk, option_to_list};
 
 use hp_model::naming::Naming;
 use hp_nodes::{Page, PageDraft};
@@ -51,6 +51,7 @@ impl<N: Naming> PageBatch<N> {
     pub fn next(&mut self) -> Option<Page<N>>
         ensures pages { self.old.pages ≡ option_to_list result ++ self.new.pages }
         ensures room { self.new.room ≡ self.old.room }
+        ensures none { IfNone result (self.old.pages ≡ []) }
     {
         let draft = self.pages.pop()?;
         Some(draft.into_page())

@@ -21,7 +21,7 @@ impl<N: Naming> Mount<N> {
     /// but for what the minimum keeps.
     ///
     /// Refused, and then nothing changes, by the first of these that holds:
-    /// - TooMany: after it there are more than 4,096 maps, or maps of more than 256 tasks (profile).
+    /// - TooMany: after it there are more than 4,096 maps, or maps of more than 4,096 tasks (profile).
     /// - OutOfMemory: memory for the child's maps is refused.
     ///
     /// It takes a step for each place of the parent's maps, and for each file and map.

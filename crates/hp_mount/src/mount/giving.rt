@@ -48,7 +48,7 @@ impl<N: Naming> Mount<N> {
     ///
     /// Refused, and then nothing changes, by the first of these that holds:
     /// - NoSuchFile: no file has the name.
-    /// - OutOfRange: `pages` is above 1,048,576 (profile).
+    /// - OutOfRange: `pages` is above 16,777,216 (profile).
     pub fn truncate<D: PoolDoor<Share = Subpool<N>, Going = PageStore<N>>>(
         &mut self,
         door: &mut D,
@@ -81,7 +81,7 @@ impl<N: Naming> Mount<N> {
     ///
     /// Refused, and then nothing changes, by the first of these that holds:
     /// - NoSuchFile: no file has the name.
-    /// - OutOfRange: the range is empty, or `end` is above 1,048,576 (profile).
+    /// - OutOfRange: the range is empty, or `end` is above 16,777,216 (profile).
     pub fn punch<D: PoolDoor<Share = Subpool<N>, Going = PageStore<N>>>(
         &mut self,
         door: &mut D,

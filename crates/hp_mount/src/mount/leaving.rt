@@ -68,7 +68,7 @@ impl<N: Naming> Mount<N> {
     ///
     /// Refused, and then nothing changes, by the first of these that holds:
     /// - NoSuchMap: the task has no map of that number.
-    /// - OutOfRange: the range is empty, or `end` is above 1,048,576 (profile).
+    /// - OutOfRange: the range is empty, or `end` is above 16,777,216 (profile).
     pub fn unmap<D: PoolDoor<Share = Subpool<N>, Going = PageStore<N>>>(
         &mut self,
         door: &mut D,

@@ -6,6 +6,7 @@ ghost use Rattle.hp_model.specs.declared.event.SlotEvent.TheVariants.{Anon, Crea
 ghost use Rattle.hp_model.specs.files.File.{maps_of, with_file};
 ghost use Rattle.hp_model.specs.pool.Grant.{is_over};
 ghost use Rattle.hp_model.specs.Lists.{is_among};
+ghost use Rattle.hp_model.specs.Profile.{most_file_pages};
 ghost use Rattle.hp_model.specs.files.MakeMap.{asked, mapped, next_number, tasks_of};
 ghost use Rattle.hp_model.specs.machine.Accesses.{done_reply};
 ghost use Rattle.hp_model.specs.machine.Plan.{Answered, grant};
@@ -28,17 +29,17 @@ use hp_subpool::Subpool;
 use std::alloc::AllocError;
 
 /// The most pages that a file may have.
-pub(crate) const MOST_FILE_PAGES: u64 = 1_048_576;
+pub(crate) const MOST_FILE_PAGES: u64 = 16_777_216;
 
-// The most pages that a map may have.
-const MOST_MAP_PAGES: u64 = 65_536;
+// The most pages that a map may have, and indices that are filled at once.
+pub(super) const MOST_MAP_PAGES: u64 = 65_536;
 
 // The most files, maps and tasks with maps on a mount.
 const MOST_FILES: usize = 1024;
 
 pub(super) const MOST_MAPS: u64 = 4096;
 
-pub(super) const MOST_TASKS: u64 = 256;
+pub(super) const MOST_TASKS: u64 = 4096;
 
 // 1 for each byte that a name may have: A-Z a-z 0-9 . _ -
 const NAME_BYTES: &[u8; 256] = &[
@@ -137,7 +138,7 @@ impl<N: Naming> Mount<N> {
             ≡ not (is_among range.now.task (tasks_of self.now))) }
         ensures pass { OnOk result (why_no_map self.now range.now ≡ None) }
         ensures few { OnOk result (length (maps_of self.now) < 4096) }
-        ensures reach { OnOk result (range.now.start + range.now.pages ≤ 1048576) }
+        ensures reach { OnOk result (range.now.start + range.now.pages ≤ most_file_pages) }
         ensures err { IfErr result (λ e. why_no_map self.now range.now ≡ Some e) }
     {
         let pages = range.pages;
@@ -166,7 +167,7 @@ impl<N: Naming> Mount<N> {
         requires shares { (s : ShareValue) → D.share_of s ≡ s }
         requires ready { D.is_ready door.old }
         requires file { file < length self.old.files }
-        requires reach { range.now.start + range.now.pages ≤ 1048576 }
+        requires reach { range.now.start + range.now.pages ≤ most_file_pages }
         requires few { length (maps_of self.old) < 4096 }
         requires number { next.number ≡ next_number range.now.task self.old }
         requires first { next.is_first ≡ not (is_among range.now.task (tasks_of self.old)) }
@@ -225,7 +226,7 @@ impl<N: Naming> Mount<N> {
         ensures pass { OnOk result (why_no_anon self.now range.now.task range.now.pages ≡ None) }
         ensures few { OnOk result (length (maps_of self.now) < 4096) }
         ensures files { OnOk result (length self.now.files < 1024) }
-        ensures reach { OnOk result (range.now.start + range.now.pages ≤ 1048576) }
+        ensures reach { OnOk result (range.now.start + range.now.pages ≤ most_file_pages) }
         ensures err { IfErr result (λ e. why_no_anon self.now range.now.task range.now.pages
             ≡ Some e) }
     {
@@ -252,7 +253,7 @@ impl<N: Naming> Mount<N> {
     ) -> Result<(), Refusal>
         requires shares { (s : ShareValue) → D.share_of s ≡ s }
         requires ready { D.is_ready door.old }
-        requires reach { range.now.start + range.now.pages ≤ 1048576 }
+        requires reach { range.now.start + range.now.pages ≤ most_file_pages }
         requires few { length (maps_of self.old) < 4096 }
         requires files { length self.old.files < 1024 }
         requires number { next.number ≡ next_number range.now.task self.old }

@@ -73,7 +73,7 @@ returns-then-saturating_sub-gt-MOST_TASKS-clause-done g c size k =
     let parents = byte_is (nat_lt 0 c.map_count_for-of_parent.result) in
     let children = byte_is (nat_lt 0 c.map_count_for-of_child.result) in
     let counted = tasks_are m c.args.parent c.args.child c.requires.apart in
-    let past : 256 < length (tasks_of (forked c.args.parent c.args.child m)) =
+    let past : 4096 < length (tasks_of (forked c.args.parent c.args.child m)) =
     (omega (
       arith,
       counted,
@@ -117,7 +117,7 @@ returns-in_default-clause-done g c size k =
     let parents = byte_is (nat_lt 0 c.map_count_for-of_parent.result) in
     let children = byte_is (nat_lt 0 c.map_count_for-of_child.result) in
     let counted = tasks_are m c.args.parent c.args.child c.requires.apart in
-    let few_tasks : length (tasks_of (forked c.args.parent c.args.child m)) ≤ 256 =
+    let few_tasks : length (tasks_of (forked c.args.parent c.args.child m)) ≤ 4096 =
     (omega (
       arith,
       counted,
@@ -163,7 +163,7 @@ returns-clause-done g c size k =
     let parents = byte_is (nat_lt 0 c.map_count_for-of_parent.result) in
     let children = byte_is (nat_lt 0 c.map_count_for-of_child.result) in
     let counted = tasks_are m c.args.parent c.args.child c.requires.apart in
-    let few_tasks : length (tasks_of next) ≤ 256 = (omega (
+    let few_tasks : length (tasks_of next) ≤ 4096 = (omega (
       arith,
       counted,
       of_parent,

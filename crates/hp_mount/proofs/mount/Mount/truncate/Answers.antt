@@ -20,7 +20,7 @@ returns-in_default-clause-done g c size k =
     let full = g.D.PoolDoor.is_full in
     let door = c.args.door.now in
     subst (λ (x : Mount). IsDone took full size k (Some x) door (Truncate c.args.name.now c.args.pages) (Err NoSuchFile) (Some x) door) c.self.view_is
-    (nowhere took full (mount_of o.share o.inodes o.files.files) c.args.name.now ((nat_lt 1048576 c.args.pages, OutOfRange) ∷ []) (truncated c.args.pages) door c.in_default.ensures.none)
+    (nowhere took full (mount_of o.share o.inodes o.files.files) c.args.name.now ((nat_lt 16777216 c.args.pages, OutOfRange) ∷ []) (truncated c.args.pages) door c.in_default.ensures.none)
 
 pub returns-then-pages-gt-MOST_FILE_PAGES-clause-done : goal.returns-then-pages-gt-MOST_FILE_PAGES-clause-done
 returns-then-pages-gt-MOST_FILE_PAGES-clause-done g c size k =
@@ -29,7 +29,7 @@ returns-then-pages-gt-MOST_FILE_PAGES-clause-done g c size k =
     let full = g.D.PoolDoor.is_full in
     let door = c.args.door.now in
     subst (λ (x : Mount). IsDone took full size k (Some x) door (Truncate c.args.name.now c.args.pages) (Err OutOfRange) (Some x) door) c.self.view_is
-    (out_of_range took full (mount_of o.share o.inodes o.files.files) c.args.name.now ((nat_lt 1048576 c.args.pages, OutOfRange) ∷ [])
+    (out_of_range took full (mount_of o.share o.inodes o.files.files) c.args.name.now ((nat_lt 16777216 c.args.pages, OutOfRange) ∷ [])
     (truncated c.args.pages) door c.in-Some.file c.in-Some.ensures.some.is (long_file c.args.pages c.if-pages-gt-MOST_FILE_PAGES.true))
 
 pub invariant_of-self : goal.invariant_of-self
@@ -52,7 +52,7 @@ returns-clause-done g c size k =
     let left = c.give_back.new.door in
     let changed = truncated c.args.pages (file_at o.files.files file) in
     subst (λ (x : Mount). IsDone took full size k (Some x) door (Truncate c.args.name.now c.args.pages) (Ok Done) (Some n) left) c.self.view_is
-    (gave_back took full m c.args.name.now ((nat_lt 1048576 c.args.pages, OutOfRange) ∷ []) (truncated c.args.pages) door file
+    (gave_back took full m c.args.name.now ((nat_lt 16777216 c.args.pages, OutOfRange) ∷ []) (truncated c.args.pages) door file
     c.in-Some.ensures.some.is (short_file c.args.pages c.if-pages-gt-MOST_FILE_PAGES.false) n left
     (subst (λ (x : Mount). ThroughDoor took (gives Done (Some m) (edited m file changed)) (Some m) door (Ok Done) (Some x) left)
     (sym (left_is o.share o.files c.truncate-reserves.new.self o.inodes c.self.invariant file changed c.truncate-reserves.result

@@ -1,0 +1,108 @@
+//! Indices of a file that are filled before they are reached.
+ghost use Rattle.std.specs.Prelude.{◌≡◌, ◌≢◌, ◌<◌, ◌≤◌, Err, IfNone, IfSome, None, Some, ℕ, length};
+ghost use Rattle.hp_model.specs.declared.event.SlotEvent.TheVariants.{Preallocate};
+ghost use Rattle.hp_model.specs.declared.refusal.Refusal.TheVariants as Refusal;
+ghost use Rattle.hp_model.specs.files.Fill.{lacking};
+ghost use Rattle.hp_model.specs.machine.Accesses.{done_reply};
+ghost use Rattle.hp_model.specs.machine.Promises.{file_in};
+ghost use Rattle.hp_model.specs.machine.SlotEvent.{fill, preallocate_tests};
+ghost use Rattle.hp_model.specs.Profile.{most_file_pages};
+ghost use Rattle.hp_store.specs.Batch.{Batch as BatchValue};
+ghost use Rattle.hp_subpool.specs.Subpool.{Subpool as ShareValue};
+ghost use Rattle.hp_mount.specs.Done.{IsDone, Tried};
+ghost use Rattle.hp_mount.specs.Found.{first_of};
+
+use super::Mount;
+use super::making::{MOST_FILE_PAGES, MOST_MAP_PAGES};
+use hp_model::naming::Naming;
+use hp_model::refusal::Refusal;
+use hp_mount_door::PoolDoor;
+use hp_store::PageBatch;
+use hp_subpool::Subpool;
+
+// What filling a range of a file is refused before its pages are counted, if anything.
+fn refused_range(start: u64, end: u64) -> Option<Refusal>
+    ensures refused { result ≡ first_of (preallocate_tests start end) }
+    ensures order { IfNone result (start < end) }
+    ensures reach { IfNone result (end ≤ most_file_pages) }
+    ensures noted { IfSome result (λ r. r ≢ Refusal.TraceFull) }
+{
+    if end <= start || end > MOST_FILE_PAGES {
+        return Some(Refusal::OutOfRange);
+    }
+    if end - start > MOST_MAP_PAGES {
+        return Some(Refusal::TooMany);
+    }
+    None
+}
+
+impl<N: Naming> Mount<N> {
+    // Fills the indices of a file that have no page, of which there are `count`.
+    fn fill<D: PoolDoor<Share = Subpool<N>, Batch = PageBatch<N>>>(
+        &mut self,
+        door: &mut D,
+        file: usize,
+        start: u64,
+        end: u64,
+        count: u64,
+    ) -> Result<(), Refusal>
+        requires shares { (s : ShareValue) → D.share_of s ≡ s }
+        requires batches { (b : BatchValue) → D.batch_of b ≡ b }
+        requires ready { D.is_ready door.old }
+        requires file { file < length self.old.files }
+        requires order { start < end }
+        requires reach { end ≤ most_file_pages }
+        requires count { count ≡ lacking start end (file_in self.old file) }
+        ensures done { Tried D.took D.is_full
+            (λ c. fill c N.page_bytes self.old start end (file, file_in self.old file))
+            (Some self.old) door.old (done_reply result) (Some self.new) door.new }
+        ensures left { D.is_left door.new }
+    {
+        let k = self.files.unentered(file, start, end);
+        if self.share.is_full(k) {
+            return Err(Refusal::MountFull);
+        }
+        let files = &mut self.files;
+        match files.preallocate(door, &mut self.share, file, start, end, k, count) {
+            Ok(()) => Ok(()),
+            Err(refusal) => Err(refusal),
+        }
+    }
+
+    /// Gives each index of a file from `start` up to `end` that has no page a page of zeros; the file gets longer where it
+    /// ends before. An index without an entry is granted, and one with an entry gets the page of its reservation: all in one
+    /// section. Where each index has its page nothing is asked, and nothing changes.
+    ///
+    /// Refused, and then nothing changes, by the first of these that holds, and as TraceFull where the door has no room to
+    /// note the section:
+    /// - NoSuchFile: no file has the name.
+    /// - OutOfRange: the range is empty, or `end` is above 16,777,216 (profile).
+    /// - TooMany: there are more than 65,536 indices (profile).
+    /// - MountFull, OutOfMemory or NoPages.
+    pub fn preallocate<D: PoolDoor<Share = Subpool<N>, Batch = PageBatch<N>>>(
+        &mut self,
+        door: &mut D,
+        name: &[u8],
+        start: u64,
+        end: u64,
+    ) -> Result<(), Refusal>
+        requires shares { (s : ShareValue) → D.share_of s ≡ s }
+        requires batches { (b : BatchValue) → D.batch_of b ≡ b }
+        requires ready { D.is_ready door.old }
+        ensures done { (k : ℕ) → IsDone D.took D.is_full N.page_bytes k (Some self.old) door.old
+            (Preallocate name.now start end) (done_reply result) (Some self.new) door.new }
+        ensures left { D.is_left door.new }
+    {
+        let Some(file) = self.files.named(name) else {
+            return Err(Refusal::NoSuchFile);
+        };
+        if let Some(refusal) = refused_range(start, end) {
+            return Err(refusal);
+        }
+        let count = self.files.lacking(file, start, end);
+        if count == 0 {
+            return Ok(());
+        }
+        self.fill(door, file, start, end, count)
+    }
+}

@@ -1,0 +1,22 @@
+use Rattle.std.proofs.Common.{◌≡◌, ◌<◌, ◌+◌, ◌-◌, length, ap, drop, subst, sym, take, ◌∙◌, arith}
+use Rattle.std.specs.List.{count_by}
+use Rattle.hp_model.specs.files.File.{at_least, is_hole}
+use Rattle.hp_model.specs.machine.SlotEvent.{unentered}
+use Rattle.hp_mount_files.specs.Files.{Files, file_at}
+use Rattle.hp_mount_files.specs.Numbered.{NumberedFile}
+use Rattle.hp_mount_files.proofs.Holes.{asked_shown}
+use Rattle.hp_mount_files.proofs.Views.{files_len, read_is}
+use Rattle.hp_mount_files.proofs.files.Files.unentered.Goals as goal
+
+pub returns : goal.returns
+returns g c =
+    let s = c.self.inside in
+    let a = c.args.from in
+    let b = c.args.to in
+    let order = c.requires.order in
+    let end : b ≡ a + (b - a) = omega (arith, order) in
+    let within : c.args.file < length s.list.files = (let same = files_len s.store s.list.files in
+    let inside = subst (λ (v : Files). c.args.file < length v.files) (sym c.self.view_is) c.requires.file in omega (arith, same, inside)) in
+    c.missing.ensures
+    ∙ ap (λ (f : NumberedFile). count_by is_hole (take (b - a) (drop a (at_least b f.cells)))) (read_is s.list.files c.args.file c.index.result.now within c.index.ensures)
+    ∙ asked_shown s.store s.list.files c.args.file a (b - a) b within end ∙ ap (λ (v : Files). unentered a b (file_at v.files c.args.file)) c.self.view_is
