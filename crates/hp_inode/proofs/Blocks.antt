@@ -1,6 +1,6 @@
 -- A change of one block, as a change of the indices of all.
-use Rattle.std.proofs.Common.{◌≡◌, ◌≢◌, ℕ, zero, suc, ◌+◌, ◌-◌, ◌*◌, ◌/◌, ◌%◌, ◌<◌, ◌≤◌, Bool, true, false, not, ◌&&◌, ◌||◌}
-use Rattle.std.proofs.Common.{List, [], ◌∷◌, length, get_or, set, cond, None, sym, refl, ap, ◌∙◌, arith, ⊎_elim, Option, Some, IsSome, subst}
+use Rattle.std.proofs.Common.{◌≡◌, ◌≢◌, ℕ, zero, suc, ◌+◌, ◌-◌, ◌*◌, ◌/◌, ◌%◌, ◌<◌, ◌≤◌, min, Bool, true, false, not, ◌&&◌, ◌||◌}
+use Rattle.std.proofs.Common.{List, [], ◌∷◌, ◌++◌, length, get_or, set, cond, None, sym, refl, ap, ◌∙◌, arith, ⊎_elim, Option, Some, IsSome, subst}
 use Rattle.std.specs.Option.{is_some}
 use Rattle.std.specs.List.{range_with_len, count_by}
 use Rattle.std.proofs.Math.Bool.{or-false, and-true}
@@ -12,7 +12,7 @@ use Rattle.std.proofs.lemmas.List.Sums.{count_by-le-length}
 use Rattle.hp_model.proofs.Counting.{alike_in, count_cons, count_not, count_split, count_outside}
 use Rattle.hp_model.proofs.Ranges.{within-true, within-below, within-past}
 use Rattle.hp_model.specs.files.Ranges.{within}
-use Rattle.hp_inode.specs.Blocks.{WordBlocks, RowBlocks, AreBlocks, block_at, entered_at, has_place, page_at, has_slot_at, entered_count, missing_count, FindsPageAt}
+use Rattle.hp_inode.specs.Blocks.{WordBlocks, RowBlocks, AreBlocks, block_at, entered_at, has_place, page_at, has_slot_at, entered_count, missing_count, FindsPageAt, IsRowTable}
 use Rattle.hp_inode.specs.EntryBlock.{count_in, missing_in}
 use Rattle.hp_inode.specs.Marks.{marked}
 use Rattle.hp_inode.specs.Rows.{page_in, has_slot, FindsPage, Rows}
@@ -281,6 +281,43 @@ module _ (rows : RowBlocks) (a at from : ℕ) (low : a ≤ at * 65536 + from) (b
       let same : k / 65536 ≡ at = omega (arith, late, below) in
       page_here k same ∙ none (k % 65536) (omega (arith, late, same)))
       (cases_lt k (at * 65536 + from))
+
+-- ---- blocks of which the first have no page
+
+-- an empty block at the end is as none
+pub empty_pushed : {X : Type 0} (blocks : List (List X)) (j : ℕ) → get_or (blocks ++ [] ∷ []) j [] ≡ get_or blocks j []
+empty_pushed [] zero = refl
+empty_pushed [] (suc j) = refl
+empty_pushed (x ∷ xs) zero = refl
+empty_pushed (x ∷ xs) (suc j) = empty_pushed xs j
+
+-- no page comes before the first ones that had none
+pub table_as_before : (old new : RowBlocks) (bare : ℕ) → AreBlocks new → ((k : ℕ) → page_at new k ≡ page_at old k) → IsRowTable old bare → IsRowTable new bare
+table_as_before old new bare are same was =
+    record { blocks = are; few = was.few; none_before = λ k below. same k ∙ was.none_before k below }
+
+-- a page comes at index i, or goes
+pub table_set : (old new : RowBlocks) (bare after i : ℕ) → after ≡ min bare (i / 65536) → AreBlocks new → ((k : ℕ) → (k ≡ i → ⊥) → page_at new k ≡ page_at old k)
+    → IsRowTable old bare → IsRowTable new after
+table_set old new bare after i is are others was =
+    record {
+      blocks = are;
+      few = omega (arith, was.few, is);
+      none_before = λ k below. others k (λ same. absurd (omega (arith, below, same, is))) ∙ was.none_before k (omega (arith, below, is));
+    }
+
+-- the first page from a on was at index i, and went
+pub table_taken : (old new : RowBlocks) (bare after a i : ℕ) → a ≤ bare * 65536 → ((k : ℕ) → a ≤ k → k < i → page_at old k ≡ None)
+    → ((k : ℕ) → (k ≡ i → ⊥) → page_at new k ≡ page_at old k) → i / 65536 ≤ 65536 → IsRowTable old bare → IsRowTable new after → IsRowTable new (i / 65536)
+table_taken old new bare after a i low none others few was is =
+    record {
+      blocks = is.blocks;
+      few = few;
+      none_before = λ k below. others k (λ same. absurd (omega (arith, below, same))) ∙ ⊎_elim
+          (λ (early : k < a). was.none_before k (omega (arith, early, low)))
+          (λ (late : a ≤ k). none k late (omega (arith, below)))
+          (cases_lt k a);
+    }
 
 -- in a file of one block
 module _ (first : Rows) (are : AreBlocks (first ∷ [])) (a : ℕ) where

@@ -49,3 +49,9 @@ FindsPageAt rows a found = MatchOption found ((k : ℕ) → a ≤ k → page_at 
 pub record AreBlocks (rows : RowBlocks) : Type 0 where
   pub few : length rows ≤ 65536
   pub within : (j k : ℕ) → 65536 ≤ k → page_in (slice_index_or rows j []) k ≡ None
+
+-- blocks, of which those before `bare` have no page
+pub record IsRowTable (rows : RowBlocks) (bare : ℕ) : Type 0 where
+  pub blocks : AreBlocks rows
+  pub few : bare ≤ 65536
+  pub none_before : (k : ℕ) → k < bare * 65536 → page_at rows k ≡ None

@@ -174,7 +174,7 @@ impl Indices {
             return None;
         }
         let page = self.page_at(i);
-        self.table.set(i, None);
+        self.table.take_out(a, i);
         self.pages -= 1;
         self.drop_entries(i, i + 1);
         page

@@ -1,5 +1,5 @@
 //! Pages by index, in blocks of 65,536.
-ghost use Rattle.std.specs.Prelude.{ℕ, ◌≡◌, ◌≢◌, ◌/◌, ◌<◌, ◌≤◌, ◌^◌, [], OnOk, true, MatchOption};
+ghost use Rattle.std.specs.Prelude.{ℕ, ◌≡◌, ◌≢◌, ◌+◌, ◌*◌, ◌/◌, ◌<◌, ◌≤◌, ◌^◌, [], OnOk, true, MatchOption};
 ghost use Rattle.std.specs.List.{slice_index_or};
 ghost use Rattle.hp_inode.specs.Blocks.{page_at, has_slot_at, FindsPageAt};
 ghost use Rattle.hp_inode.specs.Rows.{page_in, has_slot, FindsPage};
@@ -17,17 +17,19 @@ pub struct PageTable {
     first: PageBlock,
     // those after the first, up to the last that has had a slot
     rest: Vec<PageBlock>,
+    // no block before this one has a page
+    bare: u64,
 }
 
 impl Model for PageTable {
     ghost use Rattle.std.specs.Prelude.{◌∷◌};
-    ghost use Rattle.hp_inode.specs.Blocks.{RowBlocks, AreBlocks};
+    ghost use Rattle.hp_inode.specs.Blocks.{RowBlocks, IsRowTable};
 
     ghost Value = { RowBlocks };
 
     ghost view = { λ t. t.first ∷ t.rest.items };
 
-    ghost invariant = { λ t. AreBlocks (t.first ∷ t.rest.items) };
+    ghost invariant = { λ t. IsRowTable (t.first ∷ t.rest.items) t.bare };
 }
 
 impl PageTable {
@@ -39,6 +41,7 @@ impl PageTable {
             alloc,
             first: PageBlock::new(alloc),
             rest: Vec::new(alloc),
+            bare: 0,
         }
     }
 
@@ -76,11 +79,42 @@ impl PageTable {
         ensures others { (k : ℕ) → (k ≡ i → ⊥) → page_at self.new k ≡ page_at self.old k }
         ensures slots { (k : ℕ) → has_slot_at self.new k ≡ has_slot_at self.old k }
     {
+        self.bare = self.bare.min(i / BLOCK);
         if i < BLOCK {
             self.first.set(i, page);
             return;
         }
         self.rest[(i / BLOCK) as usize - 1].set(i % BLOCK, page);
+    }
+
+    /// Takes the page of index `i` out, which is the first of those from `a` on.
+    pub fn take_out(&mut self, a: u64, i: u64)
+        requires slot { has_slot_at self.old i ≡ true }
+        requires none { (k : ℕ) → a ≤ k → k < i → page_at self.old k ≡ None }
+        ensures here { page_at self.new i ≡ None }
+        ensures others { (k : ℕ) → (k ≡ i → ⊥) → page_at self.new k ≡ page_at self.old k }
+        ensures slots { (k : ℕ) → has_slot_at self.new k ≡ has_slot_at self.old k }
+    {
+        let all_before = a <= self.bare * BLOCK;
+        self.set(i, None);
+        if all_before {
+            self.bare = i / BLOCK;
+        }
+    }
+
+    // Where to look for the first page, of those from `a` on: a block, and an index in it.
+    #[inline(always)]
+    fn start(&self, a: u64) -> (u64, u64)
+        ensures small { result.1 < 65536 }
+        ensures from { a ≤ result.0 * 65536 + result.1 }
+        ensures none { (k : ℕ) → a ≤ k → k < result.0 * 65536 + result.1
+            → page_at self.now k ≡ None }
+    {
+        if a < self.bare * BLOCK {
+            (self.bare, 0)
+        } else {
+            (a / BLOCK, a % BLOCK)
+        }
     }
 
     /// The first index with a page, of those from `a` on.
@@ -90,8 +124,7 @@ impl PageTable {
         if self.rest.is_empty() {
             return self.first.first_from(a);
         }
-        let mut at = a / BLOCK;
-        let mut from = a % BLOCK;
+        let (mut at, mut from) = self.start(a);
         while at <= self.rest.len() as u64 {
             if let Some(k) = self.first_in(at, from) {
                 return Some(at * BLOCK + k);

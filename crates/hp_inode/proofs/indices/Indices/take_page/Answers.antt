@@ -42,23 +42,26 @@ returns-clause-none c is =
     let read = rw (← c.self.view_is) at c.page_at-page.ensures in
     absurd (false≢true (ap is_some (sym is ∙ read ∙ sym (page_at_cell _ _ _ _ c.self.invariant.kept c.in_ok-i.i)) ∙ c.in_ok-i.ensures.here))
 
-pub set-requires : goal.set-requires
-set-requires c = c.self.invariant.kept.slots c.in_ok-i.i (c.self.invariant.kept.paged c.in_ok-i.i c.in_ok-i.ensures.here)
+pub take_out-requires-clause-none : goal.take_out-requires-clause-none
+take_out-requires-clause-none c = c.in_ok-i.ensures.none_before
+
+pub take_out-requires-clause-slot : goal.take_out-requires-clause-slot
+take_out-requires-clause-slot c = c.self.invariant.kept.slots c.in_ok-i.i (c.self.invariant.kept.paged c.in_ok-i.i c.in_ok-i.ensures.here)
 
 pub invariant_of-self : goal.invariant_of-self
 invariant_of-self c =
     let s = c.self.inside in
     let here = c.self.invariant.kept.paged c.in_ok-i.i c.in_ok-i.ensures.here in
-    let emptied = changed _ _ _ _ c.self.invariant.kept c.in_ok-i.i None _ here c.set.ensures.here c.set.ensures.others in
+    let emptied = changed _ _ _ _ c.self.invariant.kept c.in_ok-i.i None _ here c.take_out.ensures.here c.take_out.ensures.others in
     let there = has_page_cell _ _ _ _ c.self.invariant.kept c.in_ok-i.i ∙ c.in_ok-i.ensures.here in
     let below = paged_below _ _ _ _ c.self.invariant.kept c.args.a c.args.b c.in_ok-i.i c.in_ok-i.ensures.here in
     let fewer = taken_paged (cells_of s.len s.entries s.table) c.in_ok-i.i there (omega (arith, below, length-cells s.len s.entries s.table)) in
     let same = ap (count_by has_page) emptied in
     record {
-      kept = changed_kept _ _ _ _ c.self.invariant.kept c.in_ok-i.i None _ here c.set.ensures.here c.set.ensures.others c.set.ensures.slots;
+      kept = changed_kept _ _ _ _ c.self.invariant.kept c.in_ok-i.i None _ here c.take_out.ensures.here c.take_out.ensures.others c.take_out.ensures.slots;
       paged = omega (arith, c.self.invariant.paged, fewer, same);
       small = c.self.invariant.small;
-      slots = λ k low high. c.set.ensures.slots k ∙ c.self.invariant.slots k low high;
+      slots = λ k low high. c.take_out.ensures.slots k ∙ c.self.invariant.slots k low high;
       room = c.self.invariant.room;
     }
 
@@ -72,12 +75,12 @@ overflow_sub-self c =
 pub drop_entries-requires-clause-within : goal.drop_entries-requires-clause-within
 drop_entries-requires-clause-within c =
     let below = paged_below _ _ _ _ c.self.invariant.kept c.args.a c.args.b c.in_ok-i.i c.in_ok-i.ensures.here in
-    omega (arith, below, length-cells c.self.inside.len c.self.inside.entries c.set.new.self)
+    omega (arith, below, length-cells c.self.inside.len c.self.inside.entries c.take_out.new.self)
 
 pub drop_entries-requires-clause-pageless : goal.drop_entries-requires-clause-pageless
 drop_entries-requires-clause-pageless c =
     let below = paged_below _ _ _ _ c.self.invariant.kept c.args.a c.args.b c.in_ok-i.i c.in_ok-i.ensures.here in
-    let emptied = changed _ _ _ _ c.self.invariant.kept c.in_ok-i.i None _ (c.self.invariant.kept.paged c.in_ok-i.i c.in_ok-i.ensures.here) c.set.ensures.here c.set.ensures.others in
+    let emptied = changed _ _ _ _ c.self.invariant.kept c.in_ok-i.i None _ (c.self.invariant.kept.paged c.in_ok-i.i c.in_ok-i.ensures.here) c.take_out.ensures.here c.take_out.ensures.others in
     entered_alone _ _ c.in_ok-i.i emptied (omega (arith, below, length-cells c.self.inside.len c.self.inside.entries c.self.inside.table))
 
 pub returns-clause-page : goal.returns-clause-page
@@ -90,7 +93,7 @@ returns-clause-cells c =
     let xs = cells_of c.self.inside.len c.self.inside.entries c.self.inside.table in
     let there = found_page _ _ _ _ c.self.invariant.kept c.args.a c.args.b c.in_ok-i.i c.in_ok-i.ensures (omega arith) in
     let below = paged_below _ _ _ _ c.self.invariant.kept c.args.a c.args.b c.in_ok-i.i c.in_ok-i.ensures.here in
-    let emptied = changed _ _ _ _ c.self.invariant.kept c.in_ok-i.i None _ (c.self.invariant.kept.paged c.in_ok-i.i c.in_ok-i.ensures.here) c.set.ensures.here c.set.ensures.others in
+    let emptied = changed _ _ _ _ c.self.invariant.kept c.in_ok-i.i None _ (c.self.invariant.kept.paged c.in_ok-i.i c.in_ok-i.ensures.here) c.take_out.ensures.here c.take_out.ensures.others in
     let back : c.in_ok-i.i ≡ c.args.a + (c.in_ok-i.i - c.args.a) = omega (arith, c.in_ok-i.ensures.from) in
     rw (← c.self.view_is, there)
     (c.drop_entries.ensures.cells ∙ ap (edit_range (λ cell. Hole) c.in_ok-i.i (c.in_ok-i.i + 1)) emptied

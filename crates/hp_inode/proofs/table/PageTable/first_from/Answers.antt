@@ -12,7 +12,7 @@ returns-then-is_empty c =
     let rest = c.self.inside.rest.items in
     let none : rest ≡ [] = nil_from_length rest (omega (arith, c.self.inside.rest.ok.0, eqb-true (vec_len c.self.inside.rest) 0 (sym c.if-is_empty.ensures))) in
     rw (← c.self.view_is) (subst (λ (blocks : RowBlocks). FindsPageAt (first ∷ blocks) c.args.a c.first_from.result) (sym none)
-    (finds_only first (subst (λ (blocks : RowBlocks). AreBlocks (first ∷ blocks)) none c.self.invariant) c.args.a c.first_from.result c.first_from.ensures))
+    (finds_only first (subst (λ (blocks : RowBlocks). AreBlocks (first ∷ blocks)) none c.self.invariant.blocks) c.args.a c.first_from.result c.first_from.ensures))
 
 pub loop-at-preserved : goal.loop-at-preserved
 loop-at-preserved c =

@@ -2,15 +2,19 @@ use Rattle.std.proofs.Common.{◌≡◌, ◌-◌, ◌/◌, ◌%◌, ◌∷◌, s
 use Rattle.std.proofs.lemmas.List.{length-set}
 use Rattle.hp_inode.specs.Blocks.{has_slot_at}
 use Rattle.hp_inode.specs.Rows.{page_in, has_slot}
-use Rattle.hp_inode.proofs.Blocks.{as_before, changed_here, changed_others, first_changed, kept_blocks, others_stay, read_is, slotted, there}
+use Rattle.hp_inode.proofs.Blocks.{as_before, changed_here, changed_others, first_changed, kept_blocks, others_stay, read_is, slotted, table_set, there}
 use Rattle.hp_inode.proofs.table.PageTable.set.Goals as goal
 
 pub invariant_of-self : goal.invariant_of-self
 invariant_of-self c =
     let first = c.self.inside.first in
     let rest = c.self.inside.rest.items in
-    kept_blocks (first ∷ rest) (c.set.new.self ∷ rest) 0 (first_changed first c.set.new.self rest) c.self.invariant.few
-    (λ k past. c.set.ensures.others k (λ same. absurd (omega (arith, past, same, c.if-i-lt-BLOCK.true)))) c.self.invariant
+    table_set (first ∷ rest) (c.set.new.self ∷ rest) c.self.inside.bare c.min-self-inside.result c.args.i c.min-self-inside.ensures
+    (kept_blocks (first ∷ rest) (c.set.new.self ∷ rest) 0 (first_changed first c.set.new.self rest) c.self.invariant.blocks.few
+    (λ k past. c.set.ensures.others k (λ same. absurd (omega (arith, past, same, c.if-i-lt-BLOCK.true)))) c.self.invariant.blocks)
+    (others_stay (first ∷ rest) (c.set.new.self ∷ rest) 0 (first_changed first c.set.new.self rest) c.args.i c.args.i
+    (omega (arith, c.if-i-lt-BLOCK.true)) (omega (arith, c.if-i-lt-BLOCK.true)) c.set.ensures.others)
+    c.self.invariant
 
 pub returns-then-i-lt-BLOCK-clause-others : goal.returns-then-i-lt-BLOCK-clause-others
 returns-then-i-lt-BLOCK-clause-others c =
@@ -28,10 +32,15 @@ invariant_of-self-2 c =
     let slot : has_slot_at (first ∷ rest) c.args.i ≡ true = rw c.self.view_is c.requires in
     let lt = there first rest at later (slotted (first ∷ rest) c.args.i slot) in
     let was = read_is first rest at later c.index_mut.result.now lt c.index_mut.ensures.value in
-    kept_blocks (first ∷ rest) (first ∷ set rest (at - 1) c.set-2.new.self) at (changed_others first rest at later c.set-2.new.self)
-    (omega (arith, c.self.invariant.few, length-set rest (at - 1) c.set-2.new.self))
+    let others = changed_others first rest at later c.set-2.new.self in
+    table_set (first ∷ rest) (first ∷ set rest (at - 1) c.set-2.new.self) c.self.inside.bare c.min-self-inside.result c.args.i c.min-self-inside.ensures
+    (kept_blocks (first ∷ rest) (first ∷ set rest (at - 1) c.set-2.new.self) at others
+    (omega (arith, c.self.invariant.blocks.few, length-set rest (at - 1) c.set-2.new.self))
     (λ k past. ap (λ block. page_in block k) (changed_here first rest at later c.set-2.new.self lt) ∙ c.set-2.ensures.others k (λ same. absurd (omega (arith, past, same)))
     ∙ ap (λ block. page_in block k) (sym was))
+    c.self.invariant.blocks)
+    (others_stay (first ∷ rest) (first ∷ set rest (at - 1) c.set-2.new.self) at others c.args.i (c.args.i % 65536) (omega arith) (omega arith)
+    (λ k differs. ap (λ block. page_in block k) (changed_here first rest at later c.set-2.new.self lt) ∙ c.set-2.ensures.others k differs ∙ ap (λ block. page_in block k) (sym was)))
     c.self.invariant
 
 pub returns-clause-here : goal.returns-clause-here
