@@ -123,8 +123,9 @@ def nodes(reply, first, more):
 
 
 VALUES = {"connect": done, "attach": number, "fork": done, "exit": done, "mount": done, "remount": done, "umount": done, "create": done,
-          "unlink": done, "truncate": done, "punch": done, "read": data, "ls": text, "stat": stat, "map": number, "anon": number, "unmap": done,
-          "fault": done, "load": data, "store": done, "nr": number, "overcommit": done, "meminfo": meminfo, "nodes": nodes, "df": usage}
+          "unlink": done, "truncate": done, "punch": done, "preallocate": done, "read": data, "ls": text, "stat": stat, "map": number,
+          "anon": number, "unmap": done, "fault": done, "load": data, "store": done, "nr": number, "overcommit": done, "meminfo": meminfo,
+          "nodes": nodes, "df": usage}
 
 
 class Session:
@@ -219,6 +220,9 @@ class Session:
 
     def punch(self, slot, name, first, end):
         self.ask("punch", slot, name, first, end)
+
+    def preallocate(self, slot, name, first, end):
+        self.ask("preallocate", slot, name, first, end)
 
     def read(self, slot, name, index, offset, count):
         return self.ask("read", slot, name, index, offset, count)

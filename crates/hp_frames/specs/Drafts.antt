@@ -1,9 +1,9 @@
--- A draft, as what was drawn.
-use Rattle.std.specs.Prelude.{length}
-use Rattle.hp_frames.specs.Drawn.{Drawn}
+-- A draft, as the frame that it is once it is made.
+use Rattle.hp_model.specs.files.Page.{zeros}
+use Rattle.hp_frames.specs.Frame.{Frame}
 use Rattle.hp_frames.specs.declared.draft.Draft.{Draft}
 use Rattle.hp_frames.specs.declared.draft.Draft.TheVariants.{Used, Fresh}
 
-abbrev pub drawn : Draft → Drawn
-drawn (Used f) = record { node = f.node; memory = f.memory; page_bytes = length f.bytes }
-drawn (Fresh f) = f
+abbrev pub made : Draft → Frame
+made (Used f) = f
+made (Fresh f) = record { node = f.node; memory = f.memory; bytes = zeros f.page_bytes }

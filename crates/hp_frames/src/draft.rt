@@ -1,6 +1,7 @@
 //! A frame that was taken and may not be written yet.
-ghost use Rattle.std.specs.Prelude.{◌≡◌, ◌≤◌, length};
-ghost use Rattle.hp_frames.specs.Drafts.{drawn};
+ghost use Rattle.std.specs.Prelude.{◌≡◌, ◌≤◌};
+ghost use Rattle.hp_frames.specs.Drafts.{made};
+ghost use Rattle.hp_model.specs.files.Page.{zeros};
 
 use crate::frame::Frame;
 use linked_list_allocator::Block;
@@ -43,8 +44,11 @@ impl Fresh {
     }
 
     fn into_frame(self) -> Frame
-        ensures of { (result.node ≡ self.node) × (result.memory ≡ self.memory) }
-        ensures bytes { length result.bytes ≡ self.page_bytes }
+        ensures { result ≡ record {
+          node = self.node;
+          memory = self.memory;
+          bytes = zeros self.page_bytes;
+        } }
     {
         let Fresh {
             block,
@@ -65,8 +69,7 @@ pub enum Draft {
 impl Draft {
     /// The frame. A fresh one is filled here, with whatever time that takes.
     pub fn into_frame(self) -> Frame
-        ensures of { (result.node ≡ (drawn self).node) × (result.memory ≡ (drawn self).memory) }
-        ensures bytes { length result.bytes ≡ (drawn self).page_bytes }
+        ensures { result ≡ made self }
     {
         match self {
             Draft::Used(frame) => frame,

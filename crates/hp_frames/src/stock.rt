@@ -1,8 +1,8 @@
 //! The frames of a node that nobody holds.
 ghost use Rattle.std.specs.Prelude.{◌≡◌, ◌+◌, ◌-◌, ◌<◌, ◌≤◌, ◌*◌, ◌^◌, IfOk, IfSome, length};
 ghost use Rattle.linked_list_allocator.specs.Region.{block_size};
-ghost use Rattle.hp_frames.specs.Drafts.{drawn};
-ghost use Rattle.hp_frames.specs.Stock.{with_here};
+ghost use Rattle.hp_frames.specs.Drafts.{made};
+ghost use Rattle.hp_frames.specs.Stock.{IsOf, with_here};
 
 use crate::draft::{Draft, Fresh};
 use crate::frame::Frame;
@@ -79,11 +79,7 @@ impl Stock {
     pub fn draw(&mut self) -> Draft
         requires { 0 < self.old.here }
         ensures left { self.new ≡ with_here (self.old.here - 1) self.old }
-        ensures draft { drawn result ≡ record {
-          node = self.old.node;
-          memory = self.old.memory;
-          page_bytes = self.old.page_bytes;
-        } }
+        ensures draft { IsOf self.old.node self.old.memory self.old.page_bytes (made result) }
     {
         if let Some(frame) = self.returned.pop() {
             return Draft::Used(frame);

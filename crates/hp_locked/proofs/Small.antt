@@ -1,5 +1,5 @@
 -- What an event of the pool alone tells is within the limits of a reply's text.
-use Rattle.std.proofs.Common.{◌≡◌, ℕ, ◌+◌, ◌*◌, ◌≤◌, Bool, true, false, cond, List, [], ◌∷◌, ◌++◌, Ok, Err, length, map, replicate, refl, sym, ap, subst, ◌∙◌, arith, nat_le}
+use Rattle.std.proofs.Common.{◌≡◌, ◌*◌, ◌≤◌, List, [], ◌∷◌, ◌++◌, Ok, Err, length, map, replicate, sym, ap, subst, ◌∙◌, arith, nat_le}
 use Rattle.std.specs.List.{All}
 use Rattle.std.proofs.lemmas.Bool.{cond_both}
 use Rattle.std.proofs.lemmas.List.Elements.{All-cons, All-head, All-replicate, All-tail, All-take}

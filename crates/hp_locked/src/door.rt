@@ -16,7 +16,7 @@ use hp_model::naming::Naming;
 use hp_model::refusal::Refusal;
 use hp_mount_door::PoolDoor;
 use hp_nodes::Page;
-use hp_store::PageStore;
+use hp_store::{PageBatch, PageStore};
 use hp_subpool::Subpool;
 use hp_trail::trail::Trail;
 use std::sync::{Mutex, Wait};
@@ -85,11 +85,15 @@ impl<'a, N: Naming, R: Wait, G: Gate, T: Trail<PoolEntry>> PoolDoor for Door<'a,
 
     type Going = PageStore<N>;
 
+    type Batch = PageBatch<N>;
+
     ghost share_of = { λ s. s };
 
     ghost page_of = { λ p. p };
 
     ghost going_of = { λ s. s.going };
+
+    ghost batch_of = { λ b. b };
 
     ghost emptied = { λ s. record s { going = [] } };
 
@@ -141,6 +145,29 @@ impl<'a, N: Naming, R: Wait, G: Gate, T: Trail<PoolEntry>> PoolDoor for Door<'a,
             Ok((claim, asked)) => {
                 self.asked = Some(asked);
                 Ok(self.nodes.redeem(self.rt, self.gate, claim))
+            }
+        }
+    }
+
+    fn fill(
+        &mut self,
+        share: &mut Subpool<N>,
+        k: u64,
+        count: u64,
+        batch: &mut PageBatch<N>,
+    ) -> Result<(), Refusal> {
+        let got = self.core.lock(self.rt).fill(share, k, count);
+        match got {
+            Err(_full) => Err(Refusal::TraceFull),
+            Ok((parcel, asked)) => {
+                self.asked = Some(asked);
+                match parcel {
+                    Some(parcel) => {
+                        self.nodes.add_pages(self.rt, self.gate, parcel, batch);
+                        Ok(())
+                    }
+                    None => Err(Refusal::NoPages),
+                }
             }
         }
     }

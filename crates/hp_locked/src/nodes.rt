@@ -1,14 +1,17 @@
 //! A lock for the frames of each node.
-ghost use Rattle.std.specs.Prelude.{◌≡◌, ◌<◌, ◌^◌, [], length};
+ghost use Rattle.std.specs.Prelude.{◌≡◌, ◌+◌, ◌<◌, ◌≤◌, ◌^◌, ◌++◌, [], length, replicate};
 ghost use Rattle.std.specs.List.{sum};
 ghost use Rattle.hp_mount_door.specs.Door.{by_node};
+ghost use Rattle.hp_mount_door.specs.Filling.{AreRising, nodes_in};
+ghost use Rattle.hp_mount_door.specs.Parcel.{IsPart, amount_of};
 
 use crate::gate::Gate;
 use hp_model::naming::Naming;
 use hp_mount_door::Parcel;
+use hp_mount_door::filling::add_claim;
 use hp_nodes::{Frames, NodeFrames, Page, PageDraft};
 use hp_permit::Claim;
-use hp_store::PageStore;
+use hp_store::{PageBatch, PageStore};
 use std::sync::{Mutex, Wait};
 
 /// The frames of each node that nobody holds, under a lock of its own. No page is filled, read or written under one.
@@ -27,11 +30,33 @@ fn draw_at<N: Naming, R: Wait, G: Gate, const K: usize>(
 ) -> PageDraft<N>
     requires node { claim.node ≡ K }
     requires one { claim.amount ≡ 1 }
-    ensures { result ≡ claim.node }
+    ensures { result.node ≡ claim.node }
 {
     let mut frames = lock.lock(rt);
     gate.frame(K as u64);
     frames.draw(claim)
+}
+
+// Draws the pages of a claim on node K's frames, if there is one, in one hold of its lock.
+fn add_part_at<N: Naming, R: Wait, G: Gate, const K: usize>(
+    rt: &R,
+    gate: &G,
+    lock: &Mutex<NodeFrames<N, K>>,
+    part: Option<Claim<N>>,
+    batch: &mut PageBatch<N>,
+)
+    requires part { IsPart K part }
+    requires room { amount_of part ≤ batch.old.room }
+    ensures pages { nodes_in batch.new.pages
+        ≡ replicate (amount_of part) K ++ nodes_in batch.old.pages }
+    ensures room { batch.new.room + amount_of part ≡ batch.old.room }
+{
+    if let Some(claim) = part {
+        let mut value = lock.lock(rt);
+        gate.frame(K as u64);
+        let frames: &mut NodeFrames<N, K> = &mut value;
+        add_claim(frames, claim, batch);
+    }
 }
 
 fn give_at<N: Naming, R: Wait, G: Gate, const K: usize>(
@@ -89,6 +114,26 @@ impl<N: Naming> NodeLocks<N> {
             _ => draw_at(rt, gate, &self.three, claim),
         };
         draft.into_page()
+    }
+
+    /// Draws the pages of the claims, those of the highest node first, so that those of the lowest come out of the batch
+    /// first. Each node's lock is held once, and no page is made under it. Never refused.
+    pub fn add_pages<R: Wait, G: Gate>(
+        &self,
+        rt: &R,
+        gate: &G,
+        parcel: Parcel<N>,
+        batch: &mut PageBatch<N>,
+    )
+        requires { batch.old ≡ record { pages = []; room = sum parcel } }
+        ensures counts { by_node batch.new.pages ≡ parcel }
+        ensures rising { AreRising (sum parcel) batch.new.pages }
+    {
+        let (zero, one, two, three) = parcel.into_claims();
+        add_part_at(rt, gate, &self.three, three, batch);
+        add_part_at(rt, gate, &self.two, two, batch);
+        add_part_at(rt, gate, &self.one, one, batch);
+        add_part_at(rt, gate, &self.zero, zero, batch);
     }
 
     /// The claim of a page that comes back. Never refused.

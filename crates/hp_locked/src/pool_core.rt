@@ -4,7 +4,7 @@ ghost use Rattle.std.specs.List.{sum};
 ghost use Rattle.hp_model.specs.declared.entry.PoolEntry.TheVariants.{OfSlot};
 ghost use Rattle.hp_model.specs.declared.section.Section.TheVariants.{GiveBack, TakePage};
 ghost use Rattle.hp_model.specs.pool.NodeRows.{frames_of};
-ghost use Rattle.hp_model.specs.pool.Pool.{granted_at, no_pages, puts_from, released, section, settled};
+ghost use Rattle.hp_model.specs.pool.Pool.{filled_by, granted_at, no_pages, puts_from, released, section, settled};
 ghost use Rattle.hp_model.specs.declared.entry.Part.TheVariants.{Pool as AtPool};
 ghost use Rattle.hp_model.specs.declared.event.Event.TheVariants.{Pool as OfPool};
 ghost use Rattle.hp_model.specs.files.Options.{limits, wanted_of};
@@ -12,6 +12,7 @@ ghost use Rattle.hp_model.specs.pool.Resize.{node_counts, pool_event};
 ghost use Rattle.hp_model.specs.text.Writing.{IsWithinLimits};
 ghost use Rattle.hp_model.specs.threads.Closing.{to_return};
 ghost use Rattle.hp_mount_door.specs.Door.{IsReady, grant_for, page_for, with_granted, with_less, with_page, with_reserves};
+ghost use Rattle.hp_mount_door.specs.Filling.{fill_for, with_filled};
 ghost use Rattle.hp_mount_door.specs.Limits.{IsLimitedBy};
 ghost use Rattle.hp_pool.specs.Sums.{idle_pool};
 ghost use Rattle.hp_subpool.specs.Subpool.{committed_of, fall, is_full as ShareIsFull, rise, used};
@@ -30,6 +31,7 @@ use hp_model::naming::Naming;
 use hp_model::refusal::Refusal;
 use hp_model::section::{PoolAnswer, Section};
 use hp_mount_door::Parcel;
+use hp_mount_door::filling::take_pages;
 use hp_mount_door::limits::{read_nr, set_limits};
 use hp_options::options::parse_options;
 use hp_permit::Claim;
@@ -205,6 +207,43 @@ impl<N: Naming, T: Trail<PoolEntry>> Core<N, T> {
         pool.law();
         let asked = note(trail, section, answer);
         Ok((claim, asked))
+    }
+
+    /// Reserves k pages more for the share, and takes the claims of `count` that it then holds: these, where that was granted,
+    /// and the section. At `Err` the trail is full, and nothing changed.
+    pub fn fill(
+        &mut self,
+        share: &mut Subpool<N>,
+        k: u64,
+        count: u64,
+    ) -> Result<(Option<Parcel<N>>, Asked), Full>
+        requires within { ShareIsFull share.old k ≡ false }
+        requires few { used share.old + k < 2 ^ 64 }
+        requires held { count ≤ share.old.held + k }
+        ensures section { IfOk result (λ r. IsSection self.old self.new r.1) }
+        ensures asks { IfOk result (λ r. r.1.section ≡ fill_for k count share.old) }
+        ensures some { IfOk result (λ r. IfSome r.0 (λ parcel. (r.1.answer ≡ filled_by parcel)
+            × (share.new ≡ with_filled k count share.old))) }
+        ensures all { IfOk result (λ r. IfSome r.0 (λ parcel. sum parcel ≡ count)) }
+        ensures none { IfOk result (λ r. IfNone r.0
+            ((r.1.answer ≡ no_pages) × (share.new ≡ share.old))) }
+        ensures full { OnErr result (has_room false self.old.left self.old.extra ≡ false) }
+        ensures keeps { OnErr result (T.keeps ≡ true) }
+        ensures same { OnErr result (self.new ≡ self.old) }
+        ensures unchanged { OnErr result (share.new ≡ share.old) }
+    {
+        let Core { pool, trail } = self;
+        if !trail.has_room(false) {
+            return Err(Full {});
+        }
+        let section = Section::FillPages {
+            pages: asked_for(share, k),
+            count,
+        };
+        let (parcel, answer) = filled(pool, share, k, count);
+        pool.law();
+        let asked = note(trail, section, answer);
+        Ok((parcel, asked))
     }
 
     /// Puts the pages that go back by their claims, and gives so many reservations back: the section, where there is one.
@@ -497,6 +536,38 @@ fn paged<N: Naming>(
     }
 }
 
+// The claims of many pages, by a grant, with the pool's answer.
+fn filled<N: Naming>(
+    pool: &mut Pool<N>,
+    share: &mut Subpool<N>,
+    k: u64,
+    count: u64,
+) -> (Option<Parcel<N>>, PoolAnswer)
+    requires ready { IsReady pool.old }
+    requires within { ShareIsFull share.old k ≡ false }
+    requires few { used share.old + k < 2 ^ 64 }
+    requires held { count ≤ share.old.held + k }
+    ensures section { section pool.old (fill_for k count share.old) ≡ (result.1, pool.new) }
+    ensures some { IfSome result.0 (λ parcel. (result.1 ≡ filled_by parcel)
+        × (share.new ≡ with_filled k count share.old)) }
+    ensures all { IfSome result.0 (λ parcel. sum parcel ≡ count) }
+    ensures none { IfNone result.0 ((result.1 ≡ no_pages) × (share.new ≡ share.old)) }
+    ensures ready { IsReady pool.new }
+{
+    match take_pages(pool, share, k, count) {
+        Some(parcel) => {
+            let answer = PoolAnswer {
+                granted: true,
+                node: 0,
+                nr: 0,
+                pages: parcel.counts(),
+            };
+            (Some(parcel), answer)
+        }
+        None => (None, refused()),
+    }
+}
+
 // How far k pages more raise what is committed to the share.
 fn asked_for<N: Naming>(share: &Subpool<N>, k: u64) -> u64
     requires { used share.now + k < 2 ^ 64 }
@@ -560,6 +631,7 @@ fn granted(node: u64) -> PoolAnswer
         granted: true,
         node,
         nr: 0,
+        pages: [0; 4],
     }
 }
 
@@ -570,5 +642,6 @@ fn refused() -> PoolAnswer
         granted: false,
         node: 0,
         nr: 0,
+        pages: [0; 4],
     }
 }

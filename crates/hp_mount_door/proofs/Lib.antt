@@ -1,2 +1,3 @@
 pub mod Limiting
 pub mod Returning
+pub mod Takings

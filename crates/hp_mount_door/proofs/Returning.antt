@@ -174,7 +174,7 @@ one_counted all pages rest counts next page is below next_is h =
       sums = (let more = ap sum next_is ∙ bumped_sum counts page.node within in omega (arith, more, long, h.sums));
     }
 
-four_are : (counts : List ℕ) (f : ℕ → ℕ) → length counts ≡ 4 → ((n : ℕ) → n < 4 → slice_index counts n ≡ f n) → counts ≡ map f (range_with_len 0 4)
+pub four_are : (counts : List ℕ) (f : ℕ → ℕ) → length counts ≡ 4 → ((n : ℕ) → n < 4 → slice_index counts n ≡ f n) → counts ≡ map f (range_with_len 0 4)
 four_are [] f l h = absurd (omega (arith, l))
 four_are (a ∷ []) f l h = absurd (omega (arith, l))
 four_are (a ∷ b ∷ []) f l h = absurd (omega (arith, l))

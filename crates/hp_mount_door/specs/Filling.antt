@@ -16,6 +16,9 @@ fill_for k count s = FillPages (rise s k) count
 abbrev pub with_filled : (k count : ℕ) → Subpool → Subpool
 with_filled k count s = with_pages count (with_reserves k s)
 
+abbrev pub nodes_in : List Page → List ℕ
+nodes_in pages = map (λ (page : Page). page.node) pages
+
 -- they are so many pages, whose nodes rise
 abbrev pub AreRising : (count : ℕ) → List Page → Type 0
-AreRising count pages = map (λ (page : Page). page.node) pages ≡ nodes_of count (by_node pages)
+AreRising count pages = nodes_in pages ≡ nodes_of count (by_node pages)

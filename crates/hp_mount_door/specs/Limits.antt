@@ -7,10 +7,11 @@ use Rattle.hp_model.specs.declared.section.PoolAnswer.{PoolAnswer}
 use Rattle.hp_model.specs.declared.section.Section.{Section}
 use Rattle.hp_model.specs.declared.section.Section.TheVariants.{ReadAndGiveBack, ReadAndGrant}
 use Rattle.hp_model.specs.files.Options.{limits, wanted_of}
+use Rattle.hp_model.specs.pool.Pool.{no_takes}
 use Rattle.hp_subpool.specs.Subpool.{Subpool, gain, is_loss, loss, with_limits}
 
 abbrev pub read_nr : Bool → ℕ → PoolAnswer
-read_nr granted nr = record { granted = granted; node = 0; nr = nr }
+read_nr granted nr = record { granted = granted; node = 0; nr = nr; pages = no_takes }
 
 -- what another minimum asks of the pool, or gives back to it
 abbrev pub minimum_section : Subpool → (min : ℕ) → Section

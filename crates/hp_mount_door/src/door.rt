@@ -16,8 +16,8 @@ use hp_model::refusal::Refusal;
 /// A way to the pool. Each call is one section of the pool at most.
 ///
 /// The types are a share of the pool, a page, pages that nobody holds any more, and pages that were taken at once. What
-/// they mean is said by `share_of`, `page_of`, `going_of` and `batch_of`, since a type of a trait can have no bound here. A caller asks that they mean
-/// themselves.
+/// they mean is said by `share_of`, `page_of`, `going_of` and `batch_of`, since a type of a trait can have no bound here. A
+/// caller asks that they mean themselves.
 pub trait PoolDoor {
     type Share;
 
@@ -119,7 +119,8 @@ pub trait PoolDoor {
         ensures ok { IsOk result → took self.old (fill_for k count (share_of share.old))
             (filled_by (by_node (batch_of batch.new).pages)) self.new }
         ensures pages { IsOk result → AreRising count (batch_of batch.new).pages }
-        ensures share { OnOk result (share_of share.new ≡ with_filled k count (share_of share.old)) }
+        ensures share { OnOk result (share_of share.new
+            ≡ with_filled k count (share_of share.old)) }
         ensures err { IfErr result (λ e.
             IsRefusedAt took is_full (fill_for k count (share_of share.old)) self.old self.new e) }
         ensures unchanged { OnErr result (share.new ≡ share.old) }

@@ -2,6 +2,7 @@
 #![tactic(auto)]
 
 mod door;
+pub mod filling;
 pub mod limits;
 mod own;
 mod parcel;

@@ -70,5 +70,6 @@ pub fn read_nr(granted: bool, nr: u64) -> PoolAnswer
         granted,
         node: 0,
         nr,
+        pages: [0; 4],
     }
 }

@@ -1,5 +1,5 @@
 //! The door of one thread, which never lacks room to note a section.
-ghost use Rattle.std.specs.Prelude.{◌≡◌, ℕ, ◌+◌, ◌-◌, ◌<◌, ◌≤◌, [], ◌∷◌, length, None, All, IsTrue, IfOk, IfErr, IsOk, ◌↔◌};
+ghost use Rattle.std.specs.Prelude.{◌≡◌, ℕ, ◌+◌, ◌-◌, ◌<◌, ◌≤◌, [], ◌∷◌, ◌++◌, length, replicate, None, All, IsTrue, IfOk, IfErr, IsOk, ◌↔◌};
 ghost use Rattle.std.specs.List.{sum};
 ghost use Rattle.hp_model.specs.pool.Grant.{can_grant, granted};
 ghost use Rattle.hp_model.specs.pool.NodeRows.{row_at, total_of, free_of, surp_of};
@@ -12,16 +12,20 @@ ghost use Rattle.hp_pool.specs.Sums.{idle_pool};
 ghost use Rattle.hp_store.specs.Store.{page_at};
 ghost use Rattle.hp_subpool.specs.Subpool.{fall, opened};
 ghost use Rattle.hp_mount_door.specs.Door.{by_node, IsReady};
+ghost use Rattle.hp_mount_door.specs.Filling.{AreRising, nodes_in};
+ghost use Rattle.hp_mount_door.specs.Parcel.{IsPart, amount_of};
 
 use crate::door::PoolDoor;
+use crate::filling::{add_claim, take_pages};
 use crate::limits::set_limits;
 use crate::parcel::Parcel;
 use hp_model::answer::{Counts, NodeCount};
 use hp_model::naming::Naming;
 use hp_model::refusal::Refusal;
-use hp_nodes::{Frames, Page};
+use hp_nodes::{Frames, NodeFrames, Page};
+use hp_permit::Claim;
 use hp_pool::{Blanks, Pool};
-use hp_store::PageStore;
+use hp_store::{PageBatch, PageStore};
 use hp_subpool::Subpool;
 use std::alloc::{AllocError, Global};
 use std::marker::Model;
@@ -193,6 +197,36 @@ fn put_pages<N: Naming>(
     parcel.put(pool, share);
 }
 
+// Draws the pages of a claim on node K's frames, if there is one.
+fn add_part<N: Naming, const K: usize>(
+    frames: &mut NodeFrames<N, K>,
+    part: Option<Claim<N>>,
+    batch: &mut PageBatch<N>,
+)
+    requires part { IsPart K part }
+    requires room { amount_of part ≤ batch.old.room }
+    ensures pages { nodes_in batch.new.pages
+        ≡ replicate (amount_of part) K ++ nodes_in batch.old.pages }
+    ensures room { batch.new.room + amount_of part ≡ batch.old.room }
+{
+    if let Some(claim) = part {
+        add_claim(frames, claim, batch);
+    }
+}
+
+// Draws the pages of the claims, those of the highest node first, so that those of the lowest come out of the batch first.
+fn add_pages<N: Naming>(frames: &mut Frames<N>, parcel: Parcel<N>, batch: &mut PageBatch<N>)
+    requires { batch.old ≡ record { pages = []; room = sum parcel } }
+    ensures counts { by_node batch.new.pages ≡ parcel }
+    ensures rising { AreRising (sum parcel) batch.new.pages }
+{
+    let (zero, one, two, three) = parcel.into_claims();
+    add_part(&mut frames.three, three, batch);
+    add_part(&mut frames.two, two, batch);
+    add_part(&mut frames.one, one, batch);
+    add_part(&mut frames.zero, zero, batch);
+}
+
 impl<N: Naming> PoolDoor for OwnPool<N> {
     type Share = Subpool<N>;
 
@@ -200,11 +234,15 @@ impl<N: Naming> PoolDoor for OwnPool<N> {
 
     type Going = PageStore<N>;
 
+    type Batch = PageBatch<N>;
+
     ghost share_of = { λ s. s };
 
     ghost page_of = { λ p. p };
 
     ghost going_of = { λ s. s.going };
+
+    ghost batch_of = { λ b. b };
 
     ghost emptied = { λ s. record s { going = [] } };
 
@@ -233,6 +271,20 @@ impl<N: Naming> PoolDoor for OwnPool<N> {
     fn take_page(&mut self, share: &mut Subpool<N>, home: usize) -> Result<Page<N>, Refusal> {
         let claim = share.take_one(&mut self.pool, home);
         Ok(self.frames.redeem(claim))
+    }
+
+    fn fill(
+        &mut self,
+        share: &mut Subpool<N>,
+        k: u64,
+        count: u64,
+        batch: &mut PageBatch<N>,
+    ) -> Result<(), Refusal> {
+        let Some(parcel) = take_pages(&mut self.pool, share, k, count) else {
+            return Err(Refusal::NoPages);
+        };
+        add_pages(&mut self.frames, parcel, batch);
+        Ok(())
     }
 
     fn put(&mut self, share: &mut Subpool<N>, going: &mut PageStore<N>, reserves: u64) {

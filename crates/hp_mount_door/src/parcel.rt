@@ -1,4 +1,4 @@
-//! Claims on pages that go back together.
+//! Claims on pages that go back together, or were taken together.
 ghost use Rattle.std.specs.Prelude.{◌≡◌, ◌+◌, ◌-◌, ◌<◌, ◌≤◌, ◌^◌, [], ◌∷◌, length, slice_index, slice_set};
 ghost use Rattle.std.specs.List.{sum};
 ghost use Rattle.hp_model.specs.pool.Pool.{kept_times, puts_from, released};
@@ -13,9 +13,9 @@ use hp_subpool::Subpool;
 use std::marker::Model;
 use std::mem;
 
-/// Claims on pages of each node, to be put back at once. Contracts see how many of each.
+/// Claims on pages of each node, to be put back at once, or drawn. Contracts see how many of each.
 ///
-/// It can't be dropped: `put` ends it.
+/// It can't be dropped: `put` ends it, or `into_claims`.
 pub struct Parcel<N: Naming> {
     zero: Option<Claim<N>>,
     one: Option<Claim<N>>,
@@ -120,6 +120,29 @@ impl<N: Naming> Parcel<N> {
             amount(&self.two),
             amount(&self.three),
         ]
+    }
+
+    /// The claims of each node.
+    pub fn into_claims(
+        self,
+    ) -> (
+        Option<Claim<N>>,
+        Option<Claim<N>>,
+        Option<Claim<N>>,
+        Option<Claim<N>>,
+    )
+        ensures counts { self ≡ amount_of result.0 ∷ amount_of result.1 ∷ amount_of result.2
+            ∷ amount_of result.3 ∷ [] }
+        ensures parts { IsPart 0 result.0 × IsPart 1 result.1 × IsPart 2 result.2
+            × IsPart 3 result.3 }
+    {
+        let Parcel {
+            zero,
+            one,
+            two,
+            three,
+        } = self;
+        (zero, one, two, three)
     }
 
     /// Puts the pages back at their nodes, in four moves. What the minimum asks for stays promised. The pool may then have

@@ -1,5 +1,4 @@
 -- What pages, the lists and the frames of the nodes own names no thread.
-use Rattle.std.proofs.Common.{ℕ}
 use denote.Param.Send.{IsSend, sendable}
 use denote.RattleType.{RattleType}
 use Rattle.hp_frames.proofs.Crossing.{frame_send, stock_send}

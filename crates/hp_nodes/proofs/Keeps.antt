@@ -3,13 +3,15 @@ use Rattle.std.specs.Prelude.{slice_set, slice_index, All, if◌then◌else◌}
 use Rattle.std.proofs.lemmas.Grind.{common_steps}
 use Rattle.std.proofs.lemmas.List.{get_or-set_same, get_or-set_other, length-set, get_or_past}
 use Rattle.std.proofs.lemmas.List.Elements.{All-set, All-map}
-use Rattle.std.proofs.lemmas.Bool.{cases_eq, cases_lt}
+use Rattle.std.proofs.Common.{eq-eqb}
+use Rattle.std.proofs.lemmas.Bool.{cases_eq, cases_lt, cond-true}
+use Rattle.std.proofs.lemmas.Bool.Decides.{nat_tests}
 use Rattle.hp_model.specs.declared.node.NodeRow.{NodeRow}
-use Rattle.hp_model.specs.pool.NodeRows.{IsRow, row_at, no_row, used, idle_row, take_row, free_of, total_of}
+use Rattle.hp_model.specs.pool.NodeRows.{IsRow, row_at, no_row, used, idle_row, free_of, total_of}
 use Rattle.hp_model.proofs.Sums.{free_le_total}
 use Rattle.hp_nodes.specs.Kept.{IsKept}
 use Rattle.hp_nodes.specs.Ledgers.{AreAll, AreFrames}
-use Rattle.hp_nodes.specs.Moves.{put_by}
+use Rattle.hp_nodes.specs.Moves.{put_by, take_by}
 use Rattle.hp_nodes.proofs.Sums.{put_sums}
 
 -- ---- rows
@@ -34,6 +36,22 @@ used_below rows here some =
     elim (cases_lt here (length rows)) as (λ _. here < length rows) [
       | inl below ↦ below
       | inr past ↦ let e : used (row_at rows here) ≡ 0 = ap used (get_or_past rows here no_row past) in absurd (omega arith)
+    ]
+
+-- what is in use at each node where so many free pages go out
+pub used_more : (rows : List NodeRow) (i n : ℕ) (y : NodeRow) → i < length rows → IsRow (row_at rows i) → n ≤ (row_at rows i).free → y ≡ take_by n (row_at rows i)
+    → (k : ℕ) → used (row_at (slice_set rows i y) k) ≡ used (row_at rows k) + (if i == k then n else 0)
+used_more rows i n y below sound free y_is k =
+    elim (cases_eq i k) as (λ _. used (row_at (slice_set rows i y) k) ≡ used (row_at rows k) + (if i == k then n else 0)) [
+      | inl e ↦
+          let here = ap used (get_or-set_same rows i y no_row below) in
+          let more : used y ≡ used (row_at rows i) + n = omega (arith, ap (λ (r : NodeRow). r.free) y_is, ap (λ (r : NodeRow). r.total) y_is, sound.free_in, free) in
+          let test : (if i == k then n else 0) ≡ n = cond-true _ _ _ (eq-eqb i k e) in
+          subst (λ j. used (row_at (slice_set rows i y) j) ≡ used (row_at rows j) + (if i == k then n else 0)) e (omega (arith, here, more, test))
+      | inr apart ↦
+          let there = ap used (get_or-set_other rows i k y no_row (λ e. apart (sym e))) in
+          let test : (if i == k then n else 0) ≡ 0 = grind (arith, nat_tests) in
+          omega (arith, there, test)
     ]
 
 module _ {frames : ℕ → ℕ} where
@@ -84,26 +102,26 @@ module _ {frames : ℕ → ℕ} where
       each (suc (suc (suc zero))) l = refl
       each (suc (suc (suc (suc k)))) l = absurd (omega (arith, l))
 
-  -- a free page has a claim here
-  pub some_claimed : (rows : List NodeRow) (growth release : ℕ) (claims : List ℕ) (here : ℕ) → IsKept frames rows growth release claims → here < length rows → 0 < (row_at rows here).free
-      → 1 ≤ slice_index claims here
-  some_claimed rows growth release claims here h in_rows free =
+  -- free pages have claims here
+  pub some_claimed : (rows : List NodeRow) (growth release : ℕ) (claims : List ℕ) (here : ℕ) → IsKept frames rows growth release claims → here < length rows
+      → (row_at rows here).free ≤ slice_index claims here
+  some_claimed rows growth release claims here h in_rows =
       let below : here < 4 = omega (arith, in_rows, h.few) in
       let r : IsRow (row_at rows here) = h.sound here no_row in_rows in
-      omega (arith, h.counted here below, h.framed here below, r.total_in, r.free_in, free)
+      omega (arith, h.counted here below, h.framed here below, r.total_in, r.free_in)
 
-  -- a free page goes out
-  pub kept_take : (rows : List NodeRow) (growth release : ℕ) (claims left : List ℕ) (here : ℕ) (y : NodeRow) →
-      IsKept frames rows growth release claims → here < length rows → 0 < (row_at rows here).free
-      → y ≡ take_row (row_at rows here) → IsRow y → left ≡ slice_set claims here (slice_index claims here - 1) → IsKept frames (slice_set rows here y) growth release left
-  kept_take rows growth release claims left here y h in_rows free y_is sound left_is =
+  -- so many free pages go out
+  pub kept_take : (rows : List NodeRow) (growth release : ℕ) (claims left : List ℕ) (here amount : ℕ) (y : NodeRow) →
+      IsKept frames rows growth release claims → here < length rows → amount ≤ (row_at rows here).free
+      → y ≡ take_by amount (row_at rows here) → IsRow y → left ≡ slice_set claims here (slice_index claims here - amount) → IsKept frames (slice_set rows here y) growth release left
+  kept_take rows growth release claims left here amount y h in_rows free y_is sound left_is =
       let below : here < 4 = omega (arith, in_rows, h.few) in
       let r : IsRow (row_at rows here) = h.sound here no_row in_rows in
-      let one = some_claimed rows growth release claims here h in_rows free in
-      let n = slice_index claims here - 1 in
+      let enough = some_claimed rows growth release claims here h in_rows in
+      let n = slice_index claims here - amount in
       let mine : slice_index left here ≡ n = ap (λ xs. slice_index xs here) left_is ∙ get_or-set_same claims here n 0 (omega (arith, below, h.four)) in
       kept_set rows growth release claims left here y h in_rows sound (ap (λ x. x.frames) y_is ∙ h.framed here below) (ap length left_is ∙ length-set claims here n ∙ h.four)
-      (omega (arith, mine, ap used y_is, h.counted here below, free, r.free_in, one))
+      (omega (arith, mine, ap used y_is, h.counted here below, free, r.free_in, enough))
       (λ k lt apart. ap (λ xs. slice_index xs k) left_is ∙ get_or-set_other claims here k n 0 (λ e. apart (sym e)))
 
   -- where claims come back, so many pages were in use there

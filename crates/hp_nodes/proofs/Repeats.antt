@@ -10,11 +10,11 @@ use Rattle.std.proofs.lemmas.List.Folds.{position_or_len-set}
 use Rattle.hp_model.specs.declared.node.Kind.{Kind}
 use Rattle.hp_model.specs.declared.node.Kind.TheVariants.{Free, Idle, Surplus, Persistent, FreeSurplus}
 use Rattle.hp_model.specs.declared.node.NodeRow.{NodeRow}
-use Rattle.hp_model.specs.pool.NodeRows.{NodeRows, at_row, row_at, no_row, has, lowest, near, surplus_added}
+use Rattle.hp_model.specs.pool.NodeRows.{NodeRows, at_row, row_at, no_row, has, lowest, near, taken, taken_times, take_row, surplus_added}
 use Rattle.hp_model.specs.pool.NodeRows.{promoted, demoted, given_back, add_surplus_row, give_back_row, shrink_row, promote_row, demote_row}
 use Rattle.hp_model.proofs.Picks.{near_pick}
 use Rattle.hp_nodes.proofs.Sums.{same_row}
-use Rattle.hp_nodes.specs.Moves.{amount, shrink_by, add_surplus_by, give_back_by, promote_by, demote_by}
+use Rattle.hp_nodes.specs.Moves.{amount, take_by, shrink_by, add_surplus_by, give_back_by, promote_by, demote_by}
 
 -- the first time or the last apart
 pub once_more : {X : Type 0} (f : X → X) (n : ℕ) (x : X) → f (iterate f n x) ≡ iterate f n (f x)
@@ -125,6 +125,23 @@ added_at home s n y h enough is =
     (λ j l. (let still : has Idle (add_surplus_by j r) ≡ true = grind (arith, nat_tests) in
     let next : add_surplus_row (add_surplus_by j r) ≡ add_surplus_by (j + 1) r = same_row _ _ _ _ _ _ _ _ refl (omega arith) (omega arith) (omega arith) in
     again add_surplus_row s i _ (add_surplus_by j r) (add_surplus_by (j + 1) r) pick.within (near_stays Idle home s.rows (add_surplus_by j r) pick.within pick.has_it still) next))
+    ∙ ap (with_row s i) (sym is)
+
+taken_are : (home n : ℕ) (s : NodeRows) → iterate (taken home) n s ≡ taken_times home n s
+taken_are home zero s = refl
+taken_are home (suc n) s = sym (once_more (taken home) n s) ∙ ap (taken home) (taken_are home n s)
+
+pub taken_at : (home : ℕ) (s : NodeRows) (n : ℕ) (y : NodeRow) → lowest Free s.rows < length s.rows → n ≤ (row_at s.rows (near Free home s.rows)).free
+    → y ≡ take_by n (row_at s.rows (near Free home s.rows)) → taken_times home n s ≡ with_row s (near Free home s.rows) y
+taken_at home s n y h enough is =
+    let i = near Free home s.rows in
+    let r = row_at s.rows i in
+    let pick = near_pick Free home s.rows h in
+    let start : take_by 0 r ≡ r = ap (λ k. record r { free = k }) (omega arith) in
+    sym (taken_are home n s)
+    ∙ one_node (taken home) (λ j. take_by j r) s i n start
+    (λ j l. (let still : has Free (take_by j r) ≡ true = grind (arith, nat_tests) in
+    again take_row s i _ (take_by j r) (take_by (j + 1) r) pick.within (near_stays Free home s.rows (take_by j r) pick.within pick.has_it still) (ap (λ k. record r { free = k }) (omega arith))))
     ∙ ap (with_row s i) (sym is)
 
 -- ---- moves of two nodes

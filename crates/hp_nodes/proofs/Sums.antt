@@ -4,7 +4,7 @@ use Rattle.std.specs.Prelude.{slice_set}
 use Rattle.std.proofs.lemmas.List.Sums.{sum_by-set, get_or-le-sum_by}
 use Rattle.hp_model.specs.declared.node.NodeRow.{NodeRow}
 use Rattle.hp_model.specs.pool.NodeRows.{row_at, no_row, sum_row, frames_of, total_of, free_of, surp_of}
-use Rattle.hp_nodes.specs.Moves.{put_by, grow_by, shrink_by, add_surplus_by, give_back_by, promote_by, demote_by}
+use Rattle.hp_nodes.specs.Moves.{take_by, put_by, grow_by, shrink_by, add_surplus_by, give_back_by, promote_by, demote_by}
 
 abbrev pub row : ℕ → ℕ → ℕ → ℕ → NodeRow
 row a b c d = record { frames = a; total = b; free = c; surp = d }
@@ -25,6 +25,12 @@ sums_as rows i y sums h frames total free surp =
     let n : free_of (slice_set rows i y) ≡ sums.free = omega (arith, sum_by-set (λ (r : NodeRow). r.free) rows i y no_row h) in
     let u : surp_of (slice_set rows i y) ≡ sums.surp = omega (arith, sum_by-set (λ (r : NodeRow). r.surp) rows i y no_row h) in
     same_row _ _ _ _ _ _ _ _ f t n u
+
+pub take_sums : (rows : List NodeRow) (i k : ℕ) (y : NodeRow) → i < length rows → y ≡ take_by k (row_at rows i) → k ≤ (row_at rows i).free →
+    sum_row (slice_set rows i y) ≡ take_by k (sum_row rows)
+take_sums rows i k y h e free =
+    let b = get_or-le-sum_by (λ (r : NodeRow). r.free) rows i no_row h in
+    rw e (sums_as rows i (take_by k (row_at rows i)) (take_by k (sum_row rows)) h (omega arith) (omega arith) (omega arith) (omega arith))
 
 pub put_sums : (rows : List NodeRow) (i k : ℕ) (y : NodeRow) → i < length rows → y ≡ put_by k (row_at rows i) → sum_row (slice_set rows i y) ≡ put_by k (sum_row rows)
 put_sums rows i k y h e = rw e (sums_as rows i (put_by k (row_at rows i)) (put_by k (sum_row rows)) h (omega arith) (omega arith) (omega arith) (omega arith))

@@ -13,6 +13,9 @@ amount Surplus r = r.surp
 amount Persistent r = r.total - r.surp
 amount FreeSurplus r = min r.free r.surp
 
+abbrev pub take_by : ℕ → NodeRow → NodeRow
+take_by k r = record r { free = r.free - k }
+
 abbrev pub put_by : ℕ → NodeRow → NodeRow
 put_by k r = record r { free = r.free + k }
 

@@ -1,14 +1,14 @@
 //! A page that was taken and may not be written yet.
 ghost use Rattle.std.specs.Prelude.{◌≡◌};
-ghost use Rattle.hp_frames.specs.Drafts.{drawn};
-ghost use Rattle.hp_nodes.specs.Kept.{IsDraft};
+ghost use Rattle.hp_frames.specs.Drafts.{made};
+ghost use Rattle.hp_nodes.specs.Kept.{IsPage};
 
 use crate::page::{Marks, Page};
 use hp_frames::Draft;
 use hp_model::naming::Naming;
 use std::marker::Model;
 
-/// What was drawn for a claim: a page that no byte of was written for. Contracts see its node.
+/// What was drawn for a claim: a page that no byte of was written for. Contracts see the page that it is once it is made.
 ///
 /// It can't be dropped: `into_page` makes the page, away from the lock under which it was drawn.
 pub struct PageDraft<N: Naming> {
@@ -17,28 +17,28 @@ pub struct PageDraft<N: Naming> {
 }
 
 impl<N: Naming> Model for PageDraft<N> {
-    ghost use Rattle.std.specs.Prelude.{ℕ};
-    ghost use Rattle.hp_frames.specs.Drafts.{drawn};
-    ghost use Rattle.hp_nodes.specs.Kept.{IsDraft};
+    ghost use Rattle.hp_frames.specs.Drafts.{made};
+    ghost use Rattle.hp_model.specs.files.Page.{Page};
+    ghost use Rattle.hp_nodes.specs.Kept.{IsPage};
 
-    ghost Value = { ℕ };
+    ghost Value = { Page };
 
-    ghost view = { λ d. (drawn d.draft).node };
+    ghost view = { λ d. record { node = (made d.draft).node; bytes = (made d.draft).bytes } };
 
-    ghost invariant = { λ d. IsDraft N.memory N.page_bytes (drawn d.draft) d.mark };
+    ghost invariant = { λ d. IsPage N.memory N.page_bytes (made d.draft) d.mark };
 }
 
 impl<N: Naming> PageDraft<N> {
     pub(crate) fn new(draft: Draft, mark: Marks<N>) -> Self
-        requires { IsDraft N.memory N.page_bytes (drawn draft) mark }
-        ensures { result ≡ (drawn draft).node }
+        requires { IsPage N.memory N.page_bytes (made draft) mark }
+        ensures { result.node ≡ (made draft).node }
     {
         PageDraft { draft, mark }
     }
 
     /// The page, with the bytes that its last holder left. Where it had none, it is filled with zeros here.
     pub fn into_page(self) -> Page<N>
-        ensures { result.node ≡ self }
+        ensures { result ≡ self }
     {
         let PageDraft { draft, mark } = self;
         Page::new(draft.into_frame(), mark)

@@ -66,7 +66,7 @@ impl<N: Naming, const K: usize> NodeFrames<N, K> {
     pub fn draw(&mut self, claim: Claim<N>) -> PageDraft<N>
         requires own { claim.node ≡ K }
         requires one { claim.amount ≡ 1 }
-        ensures node { result ≡ K }
+        ensures node { result.node ≡ K }
         ensures left { self.new + 1 ≡ self.old }
     {
         let node = claim.node();
@@ -101,10 +101,10 @@ impl<N: Naming, const K: usize> NodeFrames<N, K> {
 
 /// The frames of all nodes that nobody holds, for one thread. It can't be dropped: `close` ends it.
 pub struct Frames<N: Naming> {
-    zero: NodeFrames<N, 0>,
-    one: NodeFrames<N, 1>,
-    two: NodeFrames<N, 2>,
-    three: NodeFrames<N, 3>,
+    pub zero: NodeFrames<N, 0>,
+    pub one: NodeFrames<N, 1>,
+    pub two: NodeFrames<N, 2>,
+    pub three: NodeFrames<N, 3>,
 }
 
 impl<N: Naming> Frames<N> {

@@ -1,11 +1,11 @@
 //! The nodes together, and the moves of pages and frames among them.
-ghost use Rattle.std.specs.Prelude.{◌≡◌, ◌+◌, ◌-◌, ◌<◌, ◌≤◌, if◌then◌else◌, length, All, IsTrue, IfOk};
+ghost use Rattle.std.specs.Prelude.{◌≡◌, ◌+◌, ◌-◌, ◌<◌, ◌≤◌, ◌^◌, if◌then◌else◌, length, min, ℕ, ◌==◌, All, IsTrue, IfOk};
 ghost use Rattle.hp_model.specs.pool.Resize.{node_count};
 ghost use Rattle.hp_nodes.specs.Kept.{idle_nodes};
 ghost use Rattle.hp_nodes.specs.Ledgers.{AreAll, AreFrames};
-ghost use Rattle.hp_nodes.specs.Moves.{put_by, puts_at, grow_by, shrink_by, add_surplus_by, give_back_by, promote_by, demote_by};
+ghost use Rattle.hp_nodes.specs.Moves.{take_by, put_by, puts_at, grow_by, shrink_by, add_surplus_by, give_back_by, promote_by, demote_by};
 ghost use Rattle.std.specs.Fn.{iterate};
-ghost use Rattle.hp_model.specs.pool.NodeRows.{IsRow, after, at_row, lowest, near, some_has, row_at, taken, surplus_added, grown, shrunk, promoted, demoted, given_back, sum_row, free_of, total_of, take_row};
+ghost use Rattle.hp_model.specs.pool.NodeRows.{IsRow, used, after, at_row, lowest, near, some_has, row_at, taken, taken_times, surplus_added, grown, shrunk, promoted, demoted, given_back, sum_row, free_of, total_of, take_row};
 
 use crate::node::Node;
 use crate::rounds::{grow_each, having, least, shrink_each};
@@ -144,6 +144,29 @@ impl<N: Naming> NodeLists<N> {
         let at = near(&self.nodes, Kind::Free, home);
         self.nodes[at].take();
         self.claims.take(at, 1)
+    }
+
+    /// The claim of free pages, at most so many, in one move: of the home node if it has one, else of the lowest node that
+    /// has; all that the node has free where that is less.
+    #[tactic(auto, using(crate::proofs::Repeats::taken_at, crate::proofs::Sums::take_sums, crate::proofs::Keeps::used_more, hp_model::proofs::Sums::free_le_total))]
+    pub fn take_some(&mut self, home: usize, most: u64) -> Claim<N>
+        requires some { 0 < most }
+        requires free { IsTrue (some_has Kind.Free self.old.rows) }
+        ensures moved { self.new ≡ taken_times home result.amount self.old }
+        ensures sums { sum_row self.new.rows ≡ take_by result.amount (sum_row self.old.rows) }
+        ensures sound { free_of self.old.rows ≤ total_of self.old.rows }
+        ensures node { result.node ≡ near Kind.Free home self.old.rows }
+        ensures amount { result.amount ≡ min most (row_at self.old.rows result.node).free }
+        ensures few { N.frames result.node < 2 ^ 64 }
+        ensures some { 0 < result.amount }
+        ensures used { (k : ℕ) → used (row_at self.new.rows k)
+            ≡ used (row_at self.old.rows k) + (if result.node == k then result.amount else 0) }
+    {
+        let at = near(&self.nodes, Kind::Free, home);
+        let node = &mut self.nodes[at];
+        let count = most.min(node.amount(Kind::Free));
+        node.take_many(count);
+        self.claims.take(at, count)
     }
 
     /// So many pages come back to their node, by their claim. Never refused, and takes no memory.

@@ -1,7 +1,7 @@
 //! One node: its row.
 ghost use Rattle.std.specs.Prelude.{◌≡◌, ◌+◌, ◌-◌, ◌<◌, ◌≤◌};
 ghost use Rattle.hp_model.specs.pool.NodeRows.{has, used, take_row, IsRow};
-ghost use Rattle.hp_nodes.specs.Moves.{amount, put_by, grow_by, shrink_by, add_surplus_by, give_back_by, promote_by, demote_by};
+ghost use Rattle.hp_nodes.specs.Moves.{amount, take_by, put_by, grow_by, shrink_by, add_surplus_by, give_back_by, promote_by, demote_by};
 
 use hp_model::node::{Kind, NodeRow};
 use std::marker::Model;
@@ -72,6 +72,15 @@ impl Node {
         ensures sound { IsRow self.new }
     {
         self.row.free -= 1;
+    }
+
+    /// So many free pages are in use now.
+    pub fn take_many(&mut self, count: u64)
+        requires { count ≤ self.old.free }
+        ensures row { self.new ≡ take_by count self.old }
+        ensures sound { IsRow self.new }
+    {
+        self.row.free -= count;
     }
 
     /// So many pages in use are free now.

@@ -37,7 +37,7 @@ impl<N: Naming> Page<N> {
 
     pub(crate) fn new(frame: Frame, mark: Marks<N>) -> Self
         requires { IsPage N.memory N.page_bytes frame mark }
-        ensures { result.node ≡ frame.node }
+        ensures { result ≡ record { node = frame.node; bytes = frame.bytes } }
     {
         Page { frame, mark }
     }

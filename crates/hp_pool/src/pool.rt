@@ -1,9 +1,9 @@
 //! The pool.
-ghost use Rattle.std.specs.Prelude.{◌≡◌, ◌+◌, ◌-◌, ◌<◌, ◌≤◌, length, All, IsTrue, IfOk, IfErr, IsOk, ◌↔◌};
+ghost use Rattle.std.specs.Prelude.{◌≡◌, ◌+◌, ◌-◌, ◌<◌, ◌≤◌, ◌^◌, ◌==◌, ℕ, if◌then◌else◌, length, min, All, IsTrue, IfOk, IfErr, IsOk, ◌↔◌};
 ghost use Rattle.hp_model.specs.machine.Settled.{IsSettledPool};
-ghost use Rattle.hp_model.specs.pool.NodeRows.{IsRow, row_at, frames_of, total_of, free_of, surp_of};
+ghost use Rattle.hp_model.specs.pool.NodeRows.{IsRow, row_at, used as used_at, frames_of, total_of, free_of, surp_of};
 ghost use Rattle.hp_model.specs.pool.Grant.{can_grant, granted};
-ghost use Rattle.hp_model.specs.pool.Pool.{take_node, page_taken, kept_times, released, settled};
+ghost use Rattle.hp_model.specs.pool.Pool.{take_node, page_taken, pages_taken, kept_times, released, settled};
 ghost use Rattle.hp_model.specs.pool.PoolCounts.{IsSettled, counts_of, rsvd, used};
 ghost use Rattle.hp_model.specs.pool.Resize.{set_nr, node_count};
 ghost use Rattle.hp_nodes.specs.Ledgers.{AreAll, AreFrames};
@@ -125,6 +125,31 @@ impl<N: Naming> Pool<N> {
     {
         self.book.retire(permit);
         self.lists.take(home)
+    }
+
+    /// Takes the claim of free pages, at most so many, by as much of a permit, in one move: of the lowest node that has a
+    /// free page; all that it has free where that is less. Never refused.
+    #[tactic(auto, using(hp_model::proofs::Sums::some_free))]
+    pub fn take_some(&mut self, permit: &mut Permit<N>, most: u64) -> Claim<N>
+        requires some { 0 < most }
+        requires promised { most ≤ permit.old }
+        ensures moved { self.new ≡ pages_taken result.amount self.old }
+        ensures permit { permit.new + result.amount ≡ permit.old }
+        ensures node { result.node ≡ take_node 0 self.old }
+        ensures amount { result.amount
+            ≡ min most (row_at self.old.nodes.rows result.node).free }
+        ensures few { N.frames result.node < 2 ^ 64 }
+        ensures some { 0 < result.amount }
+        ensures used { (k : ℕ) → used_at (row_at self.new.nodes.rows k)
+            ≡ used_at (row_at self.old.nodes.rows k)
+            + (if result.node == k then result.amount else 0) }
+        ensures settled { IsSettled self.old → IsSettled self.new }
+    {
+        self.book.check(permit);
+        let claim = self.lists.take_some(0, most);
+        let part = permit.split(claim.amount());
+        self.book.retire(part);
+        claim
     }
 
     /// Puts pages back at their node, by their claim, and commits so many less. Never refused.

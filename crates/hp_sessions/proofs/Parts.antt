@@ -132,6 +132,7 @@ mount_has_place k home (m.Create name) = refl
 mount_has_place k home (m.Unlink name) = refl
 mount_has_place k home (m.Truncate name pages) = refl
 mount_has_place k home (m.Punch name start end) = refl
+mount_has_place k home (m.Preallocate name start end) = refl
 mount_has_place k home (m.Stat name) = refl
 mount_has_place k home (m.Read name index offset count) = refl
 mount_has_place k home (m.Map task name start pages sharing reserving) = refl

@@ -84,6 +84,7 @@ bytes_of (slot.Create name) = name
 bytes_of (slot.Unlink name) = name
 bytes_of (slot.Truncate name pages) = name
 bytes_of (slot.Punch name a b) = name
+bytes_of (slot.Preallocate name a b) = name
 bytes_of (slot.Read name i offset count) = name
 bytes_of (slot.Stat name) = name
 bytes_of (slot.Map task home name a pages sharing reserving) = name

@@ -3,16 +3,17 @@ ghost use Rattle.std.specs.Prelude.{◌≡◌, ◌<◌, ◌≤◌, ◌==◌, [],
 ghost use Rattle.std.specs.List.{sum};
 ghost use Rattle.hp_model.specs.machine.Machine.{open_mount};
 ghost use Rattle.hp_model.specs.pool.PoolCounts.{IsSettled};
+ghost use Rattle.hp_model.specs.Profile.{most_tasks};
 ghost use Rattle.hp_locked.specs.Views.{IsFresh};
 ghost use Rattle.hp_trail.specs.Keeping.{extra_if, kept_if, left_if};
 
-use crate::shared::MOST_TASKS;
 use crossbeam_utils::CachePadded;
 use hp_model::entry::SlotEntry;
 use hp_model::naming::Naming;
 use hp_mount::Mount;
 use hp_mount_door::OwnPool;
 use hp_shared::Slot;
+use hp_system::MOST_TASKS;
 use hp_trail::trace::Trace;
 use std::alloc::{AllocError, Global};
 use std::sync::Mutex;
@@ -51,14 +52,14 @@ pub(crate) fn open_trail<E: Drop, const K: usize>(
 pub(crate) struct FreshTrail<const K: usize> {
     trail: Trace<SlotEntry, K>,
     ghost none: { trail.entries ≡ [] },
-    ghost enough: { 256 ≤ extra_if (K == 1) trail },
+    ghost enough: { most_tasks ≤ extra_if (K == 1) trail },
 }
 
 impl<const K: usize> FreshTrail<K> {
     fn into_trail(self) -> Trace<SlotEntry, K>
         ensures fresh { IsFresh (kept_if (K == 1) result) }
         ensures counted { kept_if (K == 1) result ≡ None → left_if (K == 1) result ≡ None }
-        ensures enough { 256 ≤ extra_if (K == 1) result }
+        ensures enough { most_tasks ≤ extra_if (K == 1) result }
     {
         let FreshTrail { trail } = self;
         trail

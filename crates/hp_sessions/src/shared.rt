@@ -19,14 +19,11 @@ use hp_model::naming::Naming;
 use hp_mount_door::OwnPool;
 use hp_pool::Blanks;
 use hp_shared::{Slot, Table};
-use hp_system::{Parts, System, TaskTable};
+use hp_system::{MOST_TASKS, Parts, System, TaskTable};
 use hp_trail::trace::Trace;
 use std::alloc::{AllocError, Global};
 use std::marker::Model;
 use std::sync::Mutex;
-
-/// The most tasks that there may be.
-pub(crate) const MOST_TASKS: usize = 256;
 
 /// The machine that threads share: the task table, the pool and each slot under a lock of its own, and the frames of each
 /// node under one. Where K is 1 each part keeps a trail of its events, where K is 0 none.

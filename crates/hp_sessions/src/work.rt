@@ -105,6 +105,19 @@ pub(crate) fn work_of<'x>(step: &Step<'x>) -> Work<'x>
                 end: *to,
             },
         },
+        Step::Preallocate {
+            slot,
+            name,
+            from,
+            to,
+        } => Work::OnSlot {
+            slot: *slot,
+            event: MountEvent::Preallocate {
+                name: name.as_slice(),
+                start: *from,
+                end: *to,
+            },
+        },
         Step::Read {
             slot,
             name,

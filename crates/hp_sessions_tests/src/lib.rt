@@ -8,6 +8,8 @@ mod gates;
 #[cfg(test)]
 mod many;
 #[cfg(test)]
+mod preallocating;
+#[cfg(test)]
 mod remounting;
 #[cfg(test)]
 mod rows;

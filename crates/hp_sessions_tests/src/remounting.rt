@@ -20,9 +20,9 @@ use std::marker::Brand;
 use std::process::Abort;
 use std::sync::Wait;
 
-const PLACES: usize = 100;
+pub(crate) const PLACES: usize = 100;
 
-fn mount<N: Naming, R: Wait, G: Gate, const K: usize>(
+pub(crate) fn mount<N: Naming, R: Wait, G: Gate, const K: usize>(
     session: &mut Session<'_, N, R, G, K>,
     options: &[u8],
 ) -> Reply {
@@ -117,7 +117,7 @@ fn minimum<N: Naming, R: Wait + Abort, G: Gate, const K: usize>(
 }
 
 // The machine is closed with what its session was told, and all is joined.
-fn ended<N: Naming, R: Abort>(rt: &R, alloc: Global, shared: Shared<N, 1>, told: Vec<Receipt>) {
+pub(crate) fn ended<N: Naming, R: Abort>(rt: &R, alloc: Global, shared: Shared<N, 1>, told: Vec<Receipt>) {
     let mut all = Vec::with_capacity(alloc, 1).expect(rt, "memory");
     all.push_reserved(told);
     let closed = shared.close(alloc, all).expect(rt, "memory");

@@ -112,6 +112,7 @@ mount_event s home (m.Create name) = refl
 mount_event s home (m.Unlink name) = refl
 mount_event s home (m.Truncate name pages) = refl
 mount_event s home (m.Punch name start end) = refl
+mount_event s home (m.Preallocate name start end) = refl
 mount_event s home (m.Stat name) = refl
 mount_event s home (m.Read name index offset count) = refl
 mount_event s home (m.Map task name start pages sharing reserving) = refl

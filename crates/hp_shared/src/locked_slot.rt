@@ -15,6 +15,7 @@ ghost use Rattle.hp_laws.specs.Answers.{lists_names};
 ghost use Rattle.hp_locked.specs.Told.{IsReceipt};
 ghost use Rattle.hp_locked.specs.Views.{IsFresh};
 ghost use Rattle.hp_mount.specs.Event.{event_of, shows_bytes};
+ghost use Rattle.hp_store.specs.Batch.{Batch as BatchValue};
 ghost use Rattle.hp_store.specs.Store.{Store as StoreValue, page_at};
 ghost use Rattle.hp_subpool.specs.Subpool.{Subpool as ShareValue};
 ghost use Rattle.hp_shared.specs.Slots.{AreNoted, IsSlotEvent, IsSlotEventDone, IsSlotTrail, is_trace_full, names_reply, slot_start};
@@ -35,7 +36,7 @@ use hp_model::told::Told;
 use hp_mount::{Mount, MountEvent};
 use hp_mount_door::PoolDoor;
 use hp_nodes::Page;
-use hp_store::PageStore;
+use hp_store::{PageBatch, PageStore};
 use hp_subpool::Subpool;
 use hp_trail::trail::Trail;
 use std::alloc::Global;
@@ -134,7 +135,7 @@ impl<N: Naming, T: Trail<SlotEntry>> Slot<N, T> {
     /// An event of a mount but a list of names: its reply, with bytes in the front of the room, and its receipt where
     /// entries are kept. For these the event is given twice. Answered TraceFull, and then nothing changed, where the trail
     /// has no room, or where the event enters a section of the pool and the door has none.
-    pub fn event<'a, D: SessionDoor<Share = Subpool<N>, Page = Page<N>, Going = PageStore<N>>>(
+    pub fn event<'a, D: SessionDoor<Share = Subpool<N>, Page = Page<N>, Going = PageStore<N>, Batch = PageBatch<N>>>(
         &mut self,
         door: &mut D,
         page_bytes: u64,
@@ -146,6 +147,7 @@ impl<N: Naming, T: Trail<SlotEntry>> Slot<N, T> {
         requires shares { (s : ShareValue) → D.share_of s ≡ s }
         requires pages { (p : PageValue) → D.page_of p ≡ p }
         requires going { (s : StoreValue) → D.going_of s ≡ s.going }
+        requires batches { (b : BatchValue) → D.batch_of b ≡ b }
         requires emptied { (s : StoreValue) → D.emptied s ≡ record s { going = [] } }
         requires ready { D.is_ready door.old }
         requires page_bytes { page_bytes ≡ N.page_bytes }
@@ -183,7 +185,7 @@ impl<N: Naming, T: Trail<SlotEntry>> Slot<N, T> {
     #[inline(always)]
     pub fn event_unnoted<
         'a,
-        D: SessionDoor<Share = Subpool<N>, Page = Page<N>, Going = PageStore<N>>,
+        D: SessionDoor<Share = Subpool<N>, Page = Page<N>, Going = PageStore<N>, Batch = PageBatch<N>>,
     >(
         &mut self,
         door: &mut D,
@@ -195,6 +197,7 @@ impl<N: Naming, T: Trail<SlotEntry>> Slot<N, T> {
         requires shares { (s : ShareValue) → D.share_of s ≡ s }
         requires pages { (p : PageValue) → D.page_of p ≡ p }
         requires going { (s : StoreValue) → D.going_of s ≡ s.going }
+        requires batches { (b : BatchValue) → D.batch_of b ≡ b }
         requires emptied { (s : StoreValue) → D.emptied s ≡ record s { going = [] } }
         requires ready { D.is_ready door.old }
         requires page_bytes { page_bytes ≡ N.page_bytes }

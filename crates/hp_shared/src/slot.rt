@@ -7,6 +7,7 @@ ghost use Rattle.hp_model.specs.machine.Told.{told_answer, told_reply};
 ghost use Rattle.hp_model.specs.text.Writing.{HasSmallAnswer, IsWithinLimits};
 ghost use Rattle.hp_laws.specs.Answers.{lists_names};
 ghost use Rattle.hp_mount.specs.Event.{event_of, shows_bytes};
+ghost use Rattle.hp_store.specs.Batch.{Batch as BatchValue};
 ghost use Rattle.hp_store.specs.Store.{Store as StoreValue};
 ghost use Rattle.hp_subpool.specs.Subpool.{Subpool as ShareValue};
 ghost use Rattle.hp_model.specs.declared.answer.Answer.TheVariants.{Done};
@@ -22,7 +23,7 @@ use hp_model::told::Told;
 use hp_mount::{Mount, MountEvent};
 use hp_mount_door::PoolDoor;
 use hp_nodes::Page;
-use hp_store::PageStore;
+use hp_store::{PageBatch, PageStore};
 use hp_subpool::Subpool;
 
 // What an event asks of a slot, through a door that was not used.
@@ -30,7 +31,7 @@ use hp_subpool::Subpool;
 pub(crate) fn act<
     'a,
     N: Naming,
-    D: SessionDoor<Share = Subpool<N>, Page = Page<N>, Going = PageStore<N>>,
+    D: SessionDoor<Share = Subpool<N>, Page = Page<N>, Going = PageStore<N>, Batch = PageBatch<N>>,
 >(
     mount: &mut Option<Mount<N>>,
     door: &mut D,
@@ -42,6 +43,7 @@ pub(crate) fn act<
     requires shares { (s : ShareValue) → D.share_of s ≡ s }
     requires pages { (p : PageValue) → D.page_of p ≡ p }
     requires going { (s : StoreValue) → D.going_of s ≡ s.going }
+    requires batches { (b : BatchValue) → D.batch_of b ≡ b }
     requires emptied { (s : StoreValue) → D.emptied s ≡ record s { going = [] } }
     requires ready { D.is_ready door.old }
     requires page_bytes { page_bytes ≡ N.page_bytes }

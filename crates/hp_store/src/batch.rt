@@ -2,14 +2,14 @@
 ghost use Rattle.std.specs.Prelude.{◌≡◌, ◌-◌, ◌<◌, [], ◌∷◌, ◌++◌, IfNone, IfOk, option_to_list};
 
 use hp_model::naming::Naming;
-use hp_nodes::Page;
+use hp_nodes::{Page, PageDraft};
 use std::alloc::{AllocError, Global};
 use std::marker::Model;
 
-/// Pages that were taken from the pool at once. The last one that was added comes out first. It can't be dropped: `close`
-/// ends it.
+/// Pages that were taken from the pool at once, and are made as they come out: until then no byte of them is written. The
+/// last one that was added comes out first. It can't be dropped: `close` ends it.
 pub struct PageBatch<N: Naming> {
-    pages: Vec<Page<N>>,
+    pages: Vec<PageDraft<N>>,
     room: usize,
 }
 
@@ -35,8 +35,8 @@ impl<N: Naming> PageBatch<N> {
         })
     }
 
-    /// Adds a page, which is then the next. Takes no memory.
-    pub fn add(&mut self, page: Page<N>)
+    /// Adds a page, which is then the next. Takes no memory, and writes no page.
+    pub fn add(&mut self, page: PageDraft<N>)
         requires { 0 < self.old.room }
         ensures { self.new ≡ record {
           pages = page ∷ self.old.pages;
@@ -47,13 +47,14 @@ impl<N: Naming> PageBatch<N> {
         self.pages.push_reserved(page);
     }
 
-    /// The next page.
+    /// The next page, with the bytes that its last holder left, or zeros where it had none.
     pub fn next(&mut self) -> Option<Page<N>>
         ensures pages { self.old.pages ≡ option_to_list result ++ self.new.pages }
         ensures room { self.new.room ≡ self.old.room }
         ensures none { IfNone result (self.old.pages ≡ []) }
     {
-        self.pages.pop()
+        let draft = self.pages.pop()?;
+        Some(draft.into_page())
     }
 
     /// Ends an empty batch.

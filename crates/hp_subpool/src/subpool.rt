@@ -1,9 +1,10 @@
 //! The subpool.
-ghost use Rattle.std.specs.Prelude.{◌≡◌, ◌+◌, ◌-◌, ◌<◌, ◌≤◌, ◌^◌, IsTrue, IfOk, IfErr, IsOk, OnOk, OnErr, Err, ◌↔◌};
+ghost use Rattle.std.specs.Prelude.{◌≡◌, ◌+◌, ◌-◌, ◌<◌, ◌≤◌, ◌^◌, ◌==◌, ℕ, if◌then◌else◌, min, IsTrue, IfOk, IfErr, IsOk, OnOk, OnErr, Err, ◌↔◌};
 ghost use Rattle.hp_model.specs.pool.Grant.{can_grant, granted, is_over};
-ghost use Rattle.hp_model.specs.pool.Pool.{take_node, page_taken, kept_times, released};
+ghost use Rattle.hp_model.specs.pool.Pool.{take_node, page_taken, pages_taken, kept_times, released};
+ghost use Rattle.hp_model.specs.pool.NodeRows.{row_at, used as used_at};
 ghost use Rattle.hp_model.specs.pool.PoolCounts.{IsSettled, rsvd, used as in_use};
-ghost use Rattle.hp_subpool.specs.Subpool.{used, own_reserve, committed_of, rise, fall, gain, is_full, can_get, lacks_pages, opened, with_limits, with_minimum, with_reserves, with_page};
+ghost use Rattle.hp_subpool.specs.Subpool.{used, own_reserve, committed_of, rise, fall, gain, is_full, can_get, lacks_pages, opened, with_limits, with_minimum, with_reserves, with_page, with_pages};
 
 use hp_model::naming::Naming;
 use hp_model::refusal::Refusal;
@@ -120,6 +121,29 @@ impl<N: Naming> Subpool<N> {
         self.pages += 1;
         let permit = self.held.split(1);
         pool.take(home, permit)
+    }
+
+    /// Takes the claim of pages for reservations that are held, at most so many, in one move: of the lowest node that has a
+    /// free page; all that it has free where that is less. Never refused.
+    pub fn take_some(&mut self, pool: &mut Pool<N>, most: u64) -> Claim<N>
+        requires some { 0 < most }
+        requires held { most ≤ self.old.held }
+        ensures sub { self.new ≡ with_pages result.amount self.old }
+        ensures pool { pool.new ≡ pages_taken result.amount pool.old }
+        ensures node { result.node ≡ take_node 0 pool.old }
+        ensures amount { result.amount
+            ≡ min most (row_at pool.old.nodes.rows result.node).free }
+        ensures few { N.frames result.node < 2 ^ 64 }
+        ensures some { 0 < result.amount }
+        ensures within { result.amount ≤ most }
+        ensures used { (k : ℕ) → used_at (row_at pool.new.nodes.rows k)
+            ≡ used_at (row_at pool.old.nodes.rows k)
+            + (if result.node == k then result.amount else 0) }
+        ensures settled { IsSettled pool.old → IsSettled pool.new }
+    {
+        let claim = pool.take_some(&mut self.held, most);
+        self.pages += claim.amount();
+        claim
     }
 
     /// Puts pages back at their node, by their claim. What the minimum asks for stays promised.

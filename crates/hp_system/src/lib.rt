@@ -6,4 +6,4 @@ mod system;
 mod table;
 
 pub use system::{Parts, System};
-pub use table::TaskTable;
+pub use table::{MOST_TASKS, TaskTable};

@@ -4,8 +4,11 @@ use hp_model::refusal::Refusal;
 use std::alloc::{AllocError, Global};
 use std::marker::Model;
 
+/// The most tasks that there may be.
+pub const MOST_TASKS: usize = 4096;
+
 // How many numbers stand for tasks' places: four for each task that there may be.
-const NOTED: usize = 1024;
+const NOTED: usize = 4 * MOST_TASKS;
 
 /// The tasks with their home nodes, in order of adding, each once. There is room for all of them.
 ///
@@ -13,7 +16,7 @@ const NOTED: usize = 1024;
 #[derive(Drop)]
 pub struct TaskTable {
     tasks: Vec<(u64, u64)>,
-    noted: [u8; NOTED],
+    noted: Box<[u16; NOTED]>,
 }
 
 impl Model for TaskTable {
@@ -33,16 +36,17 @@ ghost use Rattle.hp_model.specs.declared.event.TableEvent.TheVariants.{Add, Find
 ghost use Rattle.hp_model.specs.declared.refusal.Refusal.TheVariants as Refusal;
 ghost use Rattle.hp_mount.specs.Done.{done};
 ghost use Rattle.hp_model.specs.machine.Accesses.{done_reply};
+ghost use Rattle.hp_model.specs.Profile.{most_tasks};
 ghost use Rattle.hp_model.specs.machine.Table.{home_of, added, removed, is_known, is_crowded, table_event};
 
 impl TaskTable {
-    /// No task, and room for 256.
+    /// No task, and room for 4,096.
     pub fn new(alloc: Global) -> Result<TaskTable, AllocError>
         ensures { IfOk result (λ t. t ≡ []) }
     {
         Ok(TaskTable {
-            tasks: Vec::with_capacity(alloc, 256)?,
-            noted: [0; NOTED],
+            tasks: Vec::with_capacity(alloc, MOST_TASKS)?,
+            noted: Box::new(alloc, [0; NOTED])?,
         })
     }
 
@@ -66,11 +70,11 @@ impl TaskTable {
     fn is_full(&self) -> bool
         ensures { result ≡ is_crowded self.now }
     {
-        self.tasks.len() >= 256
+        self.tasks.len() >= MOST_TASKS
     }
 
     fn add(&mut self, task: u64, home: u64)
-        requires room { length self.old < 256 }
+        requires room { length self.old < most_tasks }
         requires absent { home_of self.old task ≡ None }
         ensures { self.new ≡ added self.old task home }
     {
@@ -96,12 +100,22 @@ impl TaskTable {
         Ok(())
     }
 
+    // No task that stands before this place moves when this one goes.
+    fn first_to_move(&self, task: u64) -> usize {
+        let at = self.noted[place_of(task)] as usize;
+        match self.tasks.get(at) {
+            Some(entry) if entry.0 == task => at,
+            _ => 0,
+        }
+    }
+
     /// Takes a task out, if it is there.
     pub fn remove(&mut self, task: u64)
         ensures { self.new ≡ removed self.old task }
     {
+        let from = self.first_to_move(task);
         self.tasks.retain(|e| e.0 != task);
-        note_all(&mut self.noted, &self.tasks);
+        note_from(&mut self.noted, &self.tasks, from);
     }
 
     /// Adds a task with its home, which is one of so many nodes. Refused as NoSuchNode, TaskExists or TooMany; then nothing
@@ -138,19 +152,19 @@ impl TaskTable {
 
 // Which number stands for a task's place.
 fn place_of(task: u64) -> usize
-    ensures { result < 1024 }
+    ensures { result < 16384 }
 {
     (task % NOTED as u64) as usize
 }
 
 // Notes where a task stands.
-fn note(noted: &mut [u8; NOTED], task: u64, at: usize) {
-    noted[place_of(task)] = (at % 256) as u8;
+fn note(noted: &mut [u16; NOTED], task: u64, at: usize) {
+    noted[place_of(task)] = (at % 65_536) as u16;
 }
 
-// Notes where each task stands.
-fn note_all(noted: &mut [u8; NOTED], tasks: &[(u64, u64)]) {
-    for (at, entry) in tasks.iter().enumerate() {
+// Notes where each task from a place on stands.
+fn note_from(noted: &mut [u16; NOTED], tasks: &[(u64, u64)], from: usize) {
+    for (at, entry) in tasks.iter().enumerate().skip(from) {
         note(noted, entry.0, at);
     }
 }

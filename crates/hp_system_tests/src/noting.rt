@@ -14,7 +14,7 @@ use hp_mount::{MapAccess, MapRange, Mount};
 use hp_mount_door::{OwnPool, PoolDoor};
 use hp_nodes::Page;
 use hp_pool::Blanks;
-use hp_store::PageStore;
+use hp_store::{PageBatch, PageStore};
 use hp_subpool::Subpool;
 use std::alloc::Global;
 use std::marker::Brand;
@@ -46,11 +46,15 @@ impl<N: Naming> PoolDoor for Noting<N> {
 
     type Going = PageStore<N>;
 
+    type Batch = PageBatch<N>;
+
     ghost share_of = { λ s. s };
 
     ghost page_of = { λ p. p };
 
     ghost going_of = { λ s. s.going };
+
+    ghost batch_of = { λ b. b };
 
     ghost emptied = { λ s. record s { going = [] } };
 
@@ -95,6 +99,22 @@ impl<N: Naming> PoolDoor for Noting<N> {
         self.places -= 1;
         self.taken.reserved = self.taken.reserved.saturating_add(1);
         self.pool.take_page(share, home)
+    }
+
+    fn fill(
+        &mut self,
+        share: &mut Subpool<N>,
+        k: u64,
+        count: u64,
+        batch: &mut PageBatch<N>,
+    ) -> Result<(), Refusal> {
+        if self.places == 0 {
+            return Err(Refusal::TraceFull);
+        }
+        self.places -= 1;
+        self.taken.granted = self.taken.granted.saturating_add(k);
+        self.taken.reserved = self.taken.reserved.saturating_add(count.saturating_sub(k));
+        PoolDoor::fill(&mut self.pool, share, k, count, batch)
     }
 
     fn put(&mut self, share: &mut Subpool<N>, going: &mut PageStore<N>, reserves: u64) {

@@ -4,10 +4,10 @@ use Rattle.hp_model.specs.declared.refusal.Refusal.{Refusal}
 use Rattle.hp_model.specs.declared.refusal.Refusal.TheVariants.{BadLine}
 use Rattle.hp_model.specs.declared.step.Step.{Step}
 use Rattle.hp_model.specs.text.Reading.{connect_of, attach_of, fork_of, exit_of, map_of, anon_of, unmap_of, fault_of, mount_of, remount_of, umount_of, create_of}
-use Rattle.hp_model.specs.text.Reading.{unlink_of, truncate_of, punch_of, read_of, ls_of, stat_of, df_of, nr_of, overcommit_of, meminfo_of, nodes_of}
+use Rattle.hp_model.specs.text.Reading.{unlink_of, truncate_of, punch_of, preallocate_of, read_of, ls_of, stat_of, df_of, nr_of, overcommit_of, meminfo_of, nodes_of}
 use Rattle.hp_wire_lines.specs.declared.command.Command.{Command}
 use Rattle.hp_wire_lines.specs.declared.command.Command.TheVariants.{Connect, Attach, Fork, Exit, Map, Anon, Unmap, Fault, Mount, Remount, Umount, Create}
-use Rattle.hp_wire_lines.specs.declared.command.Command.TheVariants.{Unlink, Truncate, Punch, Read, Ls, Stat, Df, Nr, Overcommit, Meminfo, Nodes}
+use Rattle.hp_wire_lines.specs.declared.command.Command.TheVariants.{Unlink, Truncate, Punch, Preallocate, Read, Ls, Stat, Df, Nr, Overcommit, Meminfo, Nodes}
 
 -- by the words after it. With no command the line is bad
 abbrev pub step_as : Option Command → List (List ℕ) → Result Step Refusal
@@ -26,6 +26,7 @@ step_as (Some Create) words = create_of words
 step_as (Some Unlink) words = unlink_of words
 step_as (Some Truncate) words = truncate_of words
 step_as (Some Punch) words = punch_of words
+step_as (Some Preallocate) words = preallocate_of words
 step_as (Some Read) words = read_of words
 step_as (Some Ls) words = ls_of words
 step_as (Some Stat) words = stat_of words

@@ -24,6 +24,7 @@ pub enum Command {
     Unlink,
     Truncate,
     Punch,
+    Preallocate,
     Read,
     Ls,
     Stat,
@@ -80,6 +81,8 @@ fn slot_command(word: &[u8]) -> Option<Command>
         Some(Command::Truncate)
     } else if is_known(word, b"punch") {
         Some(Command::Punch)
+    } else if is_known(word, b"preallocate") {
+        Some(Command::Preallocate)
     } else if is_known(word, b"read") {
         Some(Command::Read)
     } else if is_known(word, b"ls") {

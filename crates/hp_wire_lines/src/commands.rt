@@ -1,6 +1,6 @@
 //! The steps of the commands, by what stands after each command's word.
 ghost use Rattle.std.specs.Prelude.{◌≡◌, length};
-ghost use Rattle.hp_model.specs.text.Reading.{anon_of, attach_of, connect_of, create_of, df_of, exit_of, fault_of, fork_of, load_of, ls_of, map_of, meminfo_of, mount_of, nodes_of, nr_of, overcommit_of, punch_of, read_of, remount_of, stat_of, store_of, truncate_of, umount_of, unlink_of, unmap_of};
+ghost use Rattle.hp_model.specs.text.Reading.{anon_of, attach_of, connect_of, create_of, df_of, exit_of, fault_of, fork_of, load_of, ls_of, map_of, meminfo_of, mount_of, nodes_of, nr_of, overcommit_of, preallocate_of, punch_of, read_of, remount_of, stat_of, store_of, truncate_of, umount_of, unlink_of, unmap_of};
 
 use crate::accesses::{loading, storing};
 use crate::parts::{intent, reserving, sharing, word};
@@ -238,6 +238,23 @@ pub fn punch<'a>(words: &mut Words<'a>) -> Result<Step<'a>, Refusal>
     let to = words.number()?;
     words.end()?;
     Ok(Step::Punch {
+        slot,
+        name,
+        from,
+        to,
+    })
+}
+
+#[tactic(auto, unfolding(hp_model::specs::text::Reading::preallocate_of))]
+pub fn preallocate<'a>(words: &mut Words<'a>) -> Result<Step<'a>, Refusal>
+    ensures { result ≡ preallocate_of words.old }
+{
+    let slot = words.number()?;
+    let name = word(words)?;
+    let from = words.number()?;
+    let to = words.number()?;
+    words.end()?;
+    Ok(Step::Preallocate {
         slot,
         name,
         from,

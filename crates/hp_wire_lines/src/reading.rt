@@ -6,7 +6,7 @@ ghost use Rattle.hp_model.specs.text.Reading.{step_of_bytes, step_of_command};
 use crate::command::{Command, command_of};
 use crate::commands::{
     anon, attach, connect, create, df, exit, fault, fork, load, ls, map, meminfo, mount, nodes, nr,
-    overcommit, punch, read, remount, stat, store, truncate, umount, unlink, unmap,
+    overcommit, preallocate, punch, read, remount, stat, store, truncate, umount, unlink, unmap,
 };
 use crate::known::is_known;
 use crate::words::Words;
@@ -80,6 +80,7 @@ pub fn step_of_word<'a>(word: &[u8], words: &mut Words<'a>) -> Result<Step<'a>, 
         Some(Command::Unlink) => unlink(words),
         Some(Command::Truncate) => truncate(words),
         Some(Command::Punch) => punch(words),
+        Some(Command::Preallocate) => preallocate(words),
         Some(Command::Read) => read(words),
         Some(Command::Ls) => ls(words),
         Some(Command::Stat) => stat(words),

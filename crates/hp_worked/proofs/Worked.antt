@@ -74,7 +74,7 @@ scripts =
 
 all_work : AllWork scripts
 unfolding step_of_bytes piece_at end_at word_at number_at hex_at sharing_at intent_at reserving_at step_of_command slot_command pool_command
-    connect_of attach_of fork_of exit_of mount_of remount_of umount_of create_of unlink_of truncate_of punch_of read_of ls_of stat_of map_of anon_of unmap_of
+    connect_of attach_of fork_of exit_of mount_of remount_of umount_of create_of unlink_of truncate_of punch_of preallocate_of read_of ls_of stat_of map_of anon_of unmap_of
     fault_of load_of store_of nr_of overcommit_of meminfo_of nodes_of df_of digits encode_with decode_pairs
 all_work = (
   (refl, refl),
@@ -136,7 +136,13 @@ all_work = (
                                                           (refl, refl),
                                                           (
                                                             (refl, refl),
-                                                            ((refl, refl), ((refl, refl), ((refl, refl), ((refl, refl), ((refl, refl), ((refl, refl), ((refl, refl), ((refl, refl), ((refl, refl), ((refl, refl), tt)))))))))),
+                                                            (
+                                                              (refl, refl),
+                                                              (
+                                                                (refl, refl),
+                                                                ((refl, refl), ((refl, refl), ((refl, refl), ((refl, refl), ((refl, refl), ((refl, refl), ((refl, refl), ((refl, refl), tt)))))))),
+                                                              ),
+                                                            ),
                                                           ),
                                                         ),
                                                       ),

@@ -100,10 +100,10 @@ abbrev pub preallocate_past_mount_size : Worked
 preallocate_past_mount_size = record {
   machine = machine;
   input =
-      codes "nr 4\nmount 2 size=1K\ncreate 2 x\npreallocate 2 x 0 2\nstat 2 x\npreallocate 2 x 0 1\n"
+      codes "nr 4\nconnect 1 0\nconnect 2 1\nmount 2 size=1K\ncreate 2 x\npreallocate 2 x 0 2\nstat 2 x\npreallocate 2 x 0 1\n"
       ++ codes "meminfo\n";
   replies =
-      codes "ok 4\nok\nok\nerror 3 MountFull\nok 0 0 0 0\nok\ntext 6\nHugePages_Total:       4\n"
+      codes "ok 4\nok\nok\nok\nok\nerror 3 MountFull\nok 0 0 0 0\nok\ntext 6\nHugePages_Total:       4\n"
       ++ codes "HugePages_Free:        3\nHugePages_Rsvd:        0\nHugePages_Surp:        0\n"
       ++ codes "Hugepagesize:          1 kB\nHugetlb:               4 kB\n";
 }

@@ -1,5 +1,5 @@
 -- Wrong machines of a preallocation, each refused by what is promised or by what a step is.
-use Rattle.std.proofs.Common.{◌≡◌, ⊎_elim, ℕ, ◌+◌, ◌∙◌, Bool, true, false, None, Some, Ok, Err, Option, List, [], ◌∷◌, length, refl, ap, arith}
+use Rattle.std.proofs.Common.{◌≡◌, ⊎_elim, ℕ, ◌∙◌, Bool, true, false, None, Some, Ok, Err, Option, List, [], ◌∷◌, length, refl, ap, arith}
 use Rattle.std.specs.List.{count_by, slice_index_or, slice_set}
 use Rattle.std.specs.Prelude.{codes}
 use Rattle.hp_model.specs.declared.answer.Answer.TheVariants.{Done}

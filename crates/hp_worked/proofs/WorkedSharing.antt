@@ -119,12 +119,12 @@ abbrev pub preallocate_fills_a_range : Worked
 preallocate_fills_a_range = record {
   machine = machine;
   input =
-      codes "nr 4\nconnect 1 0\ncreate 0 a\npreallocate 0 a 0 2\nmeminfo\nnodes\nstat 0 a\n"
+      codes "nr 4\nconnect 1 0\nconnect 2 1\ncreate 0 a\npreallocate 0 a 0 2\nmeminfo\nnodes\nstat 0 a\n"
       ++ codes "map 1 0 a 0 4 shared\nmeminfo\npreallocate 0 a 1 4\nmeminfo\npreallocate 0 a 4 5\nstat 0 a\n"
       ++ codes "punch 0 a 0 1\nmeminfo\npreallocate 0 a 0 1\nmeminfo\nload 1 0 1 0 0 1\npreallocate 0 a 3 3\n"
       ++ codes "preallocate 0 a 0 65537\n";
   replies =
-      codes "ok 4\nok\nok\nok\ntext 6\nHugePages_Total:       4\nHugePages_Free:        2\n"
+      codes "ok 4\nok\nok\nok\nok\ntext 6\nHugePages_Total:       4\nHugePages_Free:        2\n"
       ++ codes "HugePages_Rsvd:        0\nHugePages_Surp:        0\nHugepagesize:          1 kB\n"
       ++ codes "Hugetlb:               4 kB\ntext 2\n0 2 0 0\n1 2 2 0\nok 2 2 2 0\nok 1\ntext 6\n"
       ++ codes "HugePages_Total:       4\nHugePages_Free:        2\nHugePages_Rsvd:        2\n"

@@ -22,6 +22,7 @@ fn carried<'x>(event: &MountEvent<'x>) -> &'x [u8]
         | MountEvent::Unlink { name }
         | MountEvent::Truncate { name, .. }
         | MountEvent::Punch { name, .. }
+        | MountEvent::Preallocate { name, .. }
         | MountEvent::Stat { name }
         | MountEvent::Read { name, .. }
         | MountEvent::Map { name, .. } => name,
@@ -99,6 +100,11 @@ fn owned(event: &MountEvent<'_>, home: u64, bytes: Bytes) -> SlotEvent
         MountEvent::Unlink { .. } => SlotEvent::Unlink { name: bytes },
         MountEvent::Truncate { pages, .. } => SlotEvent::Truncate { name: bytes, pages },
         MountEvent::Punch { start, end, .. } => SlotEvent::Punch {
+            name: bytes,
+            from: start,
+            to: end,
+        },
+        MountEvent::Preallocate { start, end, .. } => SlotEvent::Preallocate {
             name: bytes,
             from: start,
             to: end,

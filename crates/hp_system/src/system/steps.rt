@@ -30,7 +30,7 @@ impl<N: Naming> System<N> {
     /// Refused, and then nothing changes, by the first of these that holds (profile):
     /// - NoSuchNode: there is no node `home`.
     /// - TaskExists: the task is there.
-    /// - TooMany: there are 256 tasks.
+    /// - TooMany: there are 4,096 tasks.
     pub fn connect(&mut self, task: u64, home: u64) -> Result<(), Refusal>
         requires ready { IsReady self.old }
         ensures step { IsStep self.old.state (Connect task home) (done_reply result)
@@ -66,7 +66,8 @@ impl<N: Naming> System<N> {
     /// Refused, and then the child is not there and has no map, by the first of these that holds (profile):
     /// - NoSuchTask: the parent is not there.
     /// - TaskExists: the child is there.
-    /// - TooMany: there are 256 tasks; or with the child a slot would have more than 4,096 maps, or maps of more than 256 tasks.
+    /// - TooMany: there are 4,096 tasks; or with the child a slot would have more than 4,096 maps, or maps of more than 4,096
+    ///   tasks.
     /// - OutOfMemory: memory for the child's maps is refused.
     #[inline(never)]
     pub fn fork(&mut self, parent: u64, child: u64) -> Result<(), Refusal>
@@ -185,7 +186,7 @@ impl<N: Naming> System<N> {
     /// its limit, and minimums stay committed; a load answers what its map shows, and a file shows what
     /// was stored through its maps, until an umount ends it.
     ///
-    /// Refused as the step's own function is. Only a step that makes a file, a map or a list of names, a fork, and an
+    /// Refused as the step's own function is. Only a step that makes a file, a map or a list of names, a preallocation, a fork, and an
     /// access that nothing backs, can be refused memory.
     pub fn apply(&mut self, step: &Step<'_>) -> Reply
         requires ready { IsReady self.old }
@@ -299,6 +300,19 @@ impl<N: Naming> System<N> {
                 to,
             } => {
                 event = MountEvent::Punch {
+                    name: name.as_slice(),
+                    start: *from,
+                    end: *to,
+                };
+                self.on_slot(*slot, 0, &event, room, reply)
+            }
+            Step::Preallocate {
+                slot,
+                name,
+                from,
+                to,
+            } => {
+                event = MountEvent::Preallocate {
                     name: name.as_slice(),
                     start: *from,
                     end: *to,

@@ -3,7 +3,7 @@ use Rattle.hp_model.specs.declared.entry.PoolEntry.TheVariants.{OfPool}
 use Rattle.hp_pool.specs.Sums.{idle_pool}
 use Rattle.hp_locked.specs.Told.{pool_reply}
 use Rattle.hp_locked.specs.Views.{frames_list}
-use Rattle.hp_locked.proofs.Added.{unnoted, unnoted_stays}
+use Rattle.hp_locked.proofs.Added.{unnoted_stays}
 use Rattle.hp_locked.proofs.Small.{event_small}
 use Rattle.hp_locked.proofs.pool_core.Core.event_unnoted.Goals as goal
 

@@ -12,4 +12,4 @@ invariant_of-self g c =
     let here : at < length s.nodes.items = search rules in
     let free : 0 < (row_at s.nodes.items at).free = search rules in
     let y_is = c.take.ensures.row ∙ ap take_row (get_or_read s.nodes.items _ _ here c.index_mut.ensures.value no_row) in
-    kept_take _ _ _ _ _ _ _ c.self.invariant here free y_is c.take.ensures.sound (search rules)
+    kept_take _ _ _ _ _ _ 1 _ c.self.invariant here free y_is c.take.ensures.sound (search rules)

@@ -1,4 +1,4 @@
-use Rattle.std.proofs.Common.{◌≡◌, ◌+◌, ◌∙◌, ap}
+use Rattle.std.proofs.Common.{◌+◌, ◌∙◌, ap}
 use Rattle.hp_pool.proofs.Runs.{kept_is}
 use Rattle.hp_pool.proofs.pool.Pool.put_keep.Goals as goal
 

@@ -5,7 +5,7 @@ use Rattle.hp_system.proofs.table.TaskTable.home.Goals as goal
 
 pub returns-in-Some : goal.returns-in-Some
 returns-in-Some c =
-    let at : ℕ = get_or c.self.inside.noted c.place_of.result 0 in
+    let at : ℕ = get_or c.deref-2.result.now c.place_of.result 0 in
     let e = c.in-Some.entry.now in
     let there = c.in-Some.ensures.lookup in
     let within : at < length c.self.inside.tasks.items = subst (λ l. at < length l) c.deref.ensures.value (ltb-true at (length c.deref.result.now) (sym there.0)) in
