@@ -14,3 +14,4 @@ pub mod Giving
 pub mod Remounting
 pub mod Leaving
 pub mod Forking
+pub mod Filling

@@ -111,12 +111,7 @@ impl<N: Naming> Mount<N> {
     #[inline(always)]
     pub fn apply<
         'a,
-        D: PoolDoor<
-            Share = Subpool<N>,
-            Page = Page<N>,
-            Going = PageStore<N>,
-            Batch = PageBatch<N>,
-        >,
+        D: PoolDoor<Share = Subpool<N>, Page = Page<N>, Going = PageStore<N>, Batch = PageBatch<N>>,
     >(
         &mut self,
         door: &mut D,

@@ -1,7 +1,6 @@
 //! Indices of a file that are filled before they are reached.
-ghost use Rattle.std.specs.Prelude.{◌≡◌, ◌≢◌, ◌<◌, ◌≤◌, Err, IfNone, IfSome, None, Some, ℕ, length};
+ghost use Rattle.std.specs.Prelude.{◌≡◌, ◌<◌, ◌≤◌, IfNone, Some, ℕ, length};
 ghost use Rattle.hp_model.specs.declared.event.SlotEvent.TheVariants.{Preallocate};
-ghost use Rattle.hp_model.specs.declared.refusal.Refusal.TheVariants as Refusal;
 ghost use Rattle.hp_model.specs.files.Fill.{lacking};
 ghost use Rattle.hp_model.specs.machine.Accesses.{done_reply};
 ghost use Rattle.hp_model.specs.machine.Promises.{file_in};
@@ -25,7 +24,6 @@ fn refused_range(start: u64, end: u64) -> Option<Refusal>
     ensures refused { result ≡ first_of (preallocate_tests start end) }
     ensures order { IfNone result (start < end) }
     ensures reach { IfNone result (end ≤ most_file_pages) }
-    ensures noted { IfSome result (λ r. r ≢ Refusal.TraceFull) }
 {
     if end <= start || end > MOST_FILE_PAGES {
         return Some(Refusal::OutOfRange);
@@ -63,10 +61,10 @@ impl<N: Naming> Mount<N> {
             return Err(Refusal::MountFull);
         }
         let files = &mut self.files;
-        match files.preallocate(door, &mut self.share, file, start, end, k, count) {
-            Ok(()) => Ok(()),
-            Err(refusal) => Err(refusal),
+        if let Err(refusal) = files.preallocate(door, &mut self.share, file, start, end, k, count) {
+            return Err(refusal);
         }
+        Ok(())
     }
 
     /// Gives each index of a file from `start` up to `end` that has no page a page of zeros; the file gets longer where it
