@@ -11,7 +11,7 @@ use Rattle.std.specs.List.{count_by}
 use Rattle.hp_model.specs.declared.place.Place.{Place}
 use Rattle.hp_model.specs.declared.place.Place.TheVariants.{Gone}
 use Rattle.hp_model.specs.files.Mapping.{copy_of, unconsumed}
-use Rattle.hp_mapping.specs.Mapped.{fresh, IsRun}
+use Rattle.hp_mapping.specs.Mapped.{fresh, IsPlaceRun}
 use Rattle.hp_mapping.specs.Chunks.{all_places, slot_of, IsChunked, IsSame}
 use Rattle.hp_mapping.proofs.MarkedPlaces.{forked_at}
 
@@ -254,7 +254,7 @@ module _ (count : ℕ) (homes : List ℕ) (places : List (Place ℕ)) (chunked :
   part_long = (let a = length-take (length run) (drop at (all_places count homes places)) in let b = length-drop at (all_places count homes places) in
       let c = long count homes places in omega (arith, a, b, c, run_long, in_count))
 
-  pub is_run : IsRun at (all_places count homes places) run
+  pub is_run : IsPlaceRun at (all_places count homes places) run
   is_run = record {
     some = omega (arith, run_long, some);
     run_is = same_lists run part (run_long ∙ sym part_long) (λ k d below. (
