@@ -23,9 +23,6 @@ use Rattle.hp_model.specs.Profile.{most_overcommit}
 use Rattle.hp_model.specs.pool.Resize.{pool_event, raised, raise_times, lowered, lower_times}
 use Rattle.hp_model.specs.machine.State.{State, Node}
 
-abbrev IsLong : ℕ → NodeRows → Type 0
-IsLong n s = length s.rows ≡ n
-
 long_row : (f : NodeRow → NodeRow) (i : ℕ) (rows : List NodeRow) → length (at_row f i rows) ≡ length rows
 long_row f i rows = length-set rows i (f (row_at rows i))
 

@@ -104,21 +104,6 @@ lowest_read words w some small few =
     let bits = bit_at-trailing_zeros w64 (slice_index words w) some small in
     (omega (arith, bits.0), lowest_of_word words w some small)
 
--- no mark up to a word, nor in the word
-pub blank_more : (words : List ℕ) (a w : ℕ) → IsUnmarked a (64 * w) words → slice_index words w ≡ 0 → IsUnmarked a (64 * (w + 1)) words
-blank_more words a w blank e k from below =
-    elim (cases_lt k (64 * w)) as (λ _. mark_at words k ≡ 0) [
-      | inl less ↦ blank k from less
-      | inr here ↦ let q : k / 64 ≡ w = omega arith in zero_mark words k (ap (slice_index words) q ∙ e)
-    ]
-
-pub blank_all : (words : List ℕ) (a w : ℕ) → IsUnmarked a (64 * w) words → length words ≤ w → IsUnmarkedFrom a words
-blank_all words a w blank past k from =
-    elim (cases_lt k (64 * w)) as (λ _. mark_at words k ≡ 0) [
-      | inl less ↦ blank k from less
-      | inr here ↦ past_mark words k (omega arith)
-    ]
-
 -- the lowest mark after words without one
 pub lowest_after : (words : List ℕ) (a w at : ℕ) → a ≤ 64 * w → IsUnmarked a (64 * w) words → IsLowest (64 * w) at words → IsLowest a at words
 lowest_after words a w at le blank l = record {
@@ -141,13 +126,6 @@ blank_words words above a v w s first between k from below =
       | inr past ↦ zero_mark words k (s.zero_word (k / 64) (between (k / 64) (omega arith) (omega arith)))
     ]
 
-pub blank_words_from : (words above : List ℕ) (a v : ℕ) → IsSummed words above → IsUnmarked a (64 * v) words → IsUnmarkedFrom v above → IsUnmarkedFrom a words
-blank_words_from words above a v s first rest k from =
-    elim (cases_lt k (64 * v)) as (λ _. mark_at words k ≡ 0) [
-      | inl less ↦ first k from less
-      | inr past ↦ zero_mark words k (s.zero_word (k / 64) (rest (k / 64) (omega arith)))
-    ]
-
 -- one word changed, and it has a mark still
 pub summed_kept : (old new above : List ℕ) (w : ℕ) → IsSummed old above → KeepsWords w old new → length new ≡ length old → 0 < slice_index new w →
     slice_index new w ≤ slice_index old w → IsSummed new above
@@ -164,7 +142,3 @@ summed_kept old new above w s keeps len some fewer = record {
       ];
   room = omega (arith, s.room);
 }
-
--- a mark is 0 or 1
-pub mark_small : (words : List ℕ) (k : ℕ) → mark_at words k < 2
-mark_small words k = bit_at-lt (slice_index words (k / 64)) (k % 64)

@@ -126,12 +126,6 @@ removed_between low a b (suc n) (suc m) (s ∷ ss) p lt le fa ba fb bb =
     rw (left, no_right, same) (ap (λ r. s ∷ r) (removed_between (s.end + 1) a b n m ss p.2 lt (omega (arith, le))
     (All-tail (λ s. s.end ≤ a) s (take n ss) fa) ba (All-tail (λ s. s.end ≤ b) s (take m ss) fb) bb))
 
-pub left_of_at : (a n : ℕ) (xs : List Span) (d : Span) → n < length xs → left_of a (drop n xs) ≡ left_piece a (get_or xs n d)
-left_of_at a n xs d lt = ap (left_of a) (drop_more xs n d lt)
-
-pub right_of_at : (b n : ℕ) (xs : List Span) (d : Span) → n < length xs → right_of b (drop n xs) ≡ record { start = max b (get_or xs n d).start; end = (get_or xs n d).end } ∷ drop (n + 1) xs
-right_of_at b n xs d lt = ap (right_of b) (drop_more xs n d lt)
-
 -- from facts at each place to facts of a front and of the rest
 pub all_front : (n t : ℕ) (xs : List Span) → n ≤ length xs → ((k : ℕ) (d : Span) → k < n → (get_or xs k d).end ≤ t) → All (λ s. s.end ≤ t) (take n xs)
 all_front n t xs le each k d lt = rw (get_or-take n xs k d (omega (arith, lt, length-take-le n xs le))) (each k d (omega (arith, lt, length-take-le n xs le)))
