@@ -28,14 +28,3 @@ fill_entry-reserves f i page l is =
     let step = count-set is_waiting f i (Present page) l in
     let was = ap (share is_waiting) is in
     omega (arith, step, was)
-
--- and on the mount
-pub fill_entry-usage : (m : Mount) (k i : ℕ) (page : Page) (d : File) → k < length m.files → i < length (slice_index_or m.files k d).cells
-    → cell_at (slice_index_or m.files k d) i ≡ Entered
-    → usage_of (with_file m k (with_cell (slice_index_or m.files k d) i (Present page))) ≡ usage_of m
-fill_entry-usage m k i page d lk li is =
-    let f : File = slice_index_or m.files k d in
-    let g : File = with_cell f i (Present page) in
-    let pages = sum_by-set file_pages m.files k g d lk in
-    let reserves = sum_by-set file_reserves m.files k g d lk in
-    omega (arith, pages, reserves, fill_entry-pages f i page li is, fill_entry-reserves f i page li is)

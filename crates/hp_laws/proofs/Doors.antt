@@ -14,9 +14,6 @@ use Rattle.hp_model.specs.declared.section.Section.TheVariants.{Grant}
 abbrev pub calm : Choice
 calm = record { stamp = 0; refused = false; after_grant = false }
 
-zero_test : (n : ℕ) → n ≡ 0 → (n == 0) ≡ true
-zero_test n e = ap (λ k. k == 0) e
-
 above_test : (n : ℕ) → 0 < n → (n == 0) ≡ false
 above_test n l = grind (arith, l)
 
@@ -31,10 +28,6 @@ module _ {X : Type 0} (took : X → Section → PoolAnswer → X → Type 0) (m 
   picked full none e z h =
       let P : Bool → Bool → Type 0 = λ a b. ThroughDoor took (cond a (refuse MountFull) (cond b (Finish o) (Ask (λ nr. Grant home (rise m k)) (when_granted o)))) (Some m) door reply new left in
       subst (λ a. P a (rise m k == 0)) (sym e) (subst (λ b. P full b) (sym z) h)
-
-  -- the minimum covers it
-  pub grant_at_once : is_full m k ≡ false → rise m k ≡ 0 → Gives o (Some m) reply new → left ≡ door → (c : Choice) × ThroughDoor took (grant c m home k o) (Some m) door reply new left
-  grant_at_once e z h same = (calm, picked false true e (zero_test _ z) (h, same))
 
   pub grant_given : is_full m k ≡ false → 0 < rise m k → took door (Grant home (rise m k)) (granted_at 0) left → Gives o (Some m) reply new →
       (c : Choice) × ThroughDoor took (grant c m home k o) (Some m) door reply new left

@@ -69,7 +69,7 @@ use Rattle.hp_laws.proofs.SlotKept.{always_both}
 use Rattle.hp_laws.proofs.Tied.{left_sound}
 use Rattle.hp_laws.proofs.SlotShows.{always_gives, always_grant, always_mount, always_remount, always_unless, always_value, bytes_on, always_preallocate}
 use Rattle.hp_laws.proofs.Whole.{by_event, is_whole, slot_step, step_of}
-use Rattle.hp_model.specs.files.Fill.{filled, lacking, nodes_of}
+use Rattle.hp_model.specs.files.Fill.{lacking, range_filled, rising_nodes}
 use Rattle.hp_laws.proofs.Filled.{filled_index}
 use Rattle.hp_laws.proofs.NodesOf.{length-nodes_of}
 use Rattle.std.proofs.lemmas.Bool.Decides.{nat_tests}
@@ -188,7 +188,7 @@ module _ (m : Mount) (task k : ℕ) (name : List ℕ) (a n : ℕ) (q : ℕ × Fi
 
 module _ (m : Mount) (k size : ℕ) (name : List ℕ) (a b : ℕ) (pages : List ℕ) (q : ℕ × File) (named : file_named m name ≡ Some q) where
   abbrev full : File
-  full = filled size a b (nodes_of (lacking a b q.1) pages) q.1
+  full = range_filled size a b (rising_nodes (lacking a b q.1) pages) q.1
 
   abbrev FillCell : (file i : ℕ) → Cell Page → Cell Page → Type 0
   FillCell file i old new = ((means_file (Some m) name file && is_in a b i) ≡ true) × (has_page old ≡ false) × (has_page new ≡ true)
@@ -198,7 +198,7 @@ module _ (m : Mount) (k size : ℕ) (name : List ℕ) (a b : ℕ) (pages : List 
 
   fill_kept : Keeps (Some m) (step.Preallocate k name a b) (Some (with_file m q.0 full))
   fill_kept =
-      let nodes = nodes_of (lacking a b q.1) pages in
+      let nodes = rising_nodes (lacking a b q.1) pages in
       let stays = placed_filled m size a b nodes name q named in
       kept_keeps m Each NoPlace FillCell (step.Preallocate k name a b) (with_file m q.0 full) (λ p r i never. absurd never) (λ file i old new to. to) (λ other goes. refl)
       (put_kept m name q named full Each NoPlace FillCell (λ other f ok e. stays.names other f e) (λ t u p found. stays.numbers t u p found)

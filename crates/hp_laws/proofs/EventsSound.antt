@@ -56,7 +56,7 @@ use Rattle.hp_laws.proofs.SlotShows.{always_gives, always_mount, always_remount,
 use Rattle.hp_laws.proofs.SlotsBalanced.{new_in_file}
 use Rattle.hp_laws.proofs.LeavesWalk.{Leaves, leaves_walk}
 use Rattle.hp_laws.proofs.Walk.{walk}
-use Rattle.hp_model.specs.files.Fill.{filled, lacking, nodes_of}
+use Rattle.hp_model.specs.files.Fill.{lacking, range_filled, rising_nodes}
 use Rattle.hp_laws.proofs.Filled.{length-filled}
 use Rattle.hp_laws.proofs.NodesOf.{length-nodes_of}
 
@@ -300,8 +300,8 @@ module _ (size k : ℕ) (c : Choice) (m : Mount) (sound : IsSoundMount m) (new :
     truncates = λ n q at. edited_sound q (truncated n q.1) at (truncated_keeps n q.1) (λ name. omega arith) (λ task number. punched_numbers n (n + length q.1.cells) task number q.1);
     punches = λ a b q at. edited_sound q (punched a b q.1) at (punched_keeps a b q.1) (λ name. omega arith) (λ task number. punched_numbers a b task number q.1);
     fills = λ a b pages q at.
-        (let nodes = nodes_of (lacking a b q.1) pages in
-        let g : File = filled size a b nodes q.1 in
+        (let nodes = rising_nodes (lacking a b q.1) pages in
+        let g : File = range_filled size a b nodes q.1 in
         let long = length-filled size a b nodes q.1 (length-nodes_of (lacking a b q.1) pages) in
         put_sound m q.0 q.1 g at (cells_keep q.1 g.cells (omega (arith, long))) (λ name. omega arith) (λ task number. omega arith) sound);
     maps = λ task a n sharing reserving q at.

@@ -7,7 +7,7 @@ use Rattle.std.proofs.lemmas.List.Elements.{All-map}
 use Rattle.hp_model.specs.declared.cell.Cell.{Cell}
 use Rattle.hp_model.specs.declared.cell.Cell.TheVariants.{Hole}
 use Rattle.hp_model.specs.files.File.{File, at_least, cell_at, cell_in, has_page, is_hole}
-use Rattle.hp_model.specs.files.Fill.{cells_filled, filled, lacking, zero_page}
+use Rattle.hp_model.specs.files.Fill.{cells_filled, lacking, range_filled, zero_page}
 use Rattle.hp_model.specs.files.MountCounts.{file_pages, file_pages_at, file_reserves}
 use Rattle.hp_model.specs.files.Page.{Page, zeros}
 use Rattle.hp_model.specs.Lists.{part}
@@ -56,7 +56,7 @@ module _ (size a b : ℕ) (nodes : List ℕ) (f : File) where
     fill : Fill a b longer (cells_filled a pages longer) pages
     fill = fills a b pages longer few
 
-    pub filled_fills : FileFills f (filled size a b nodes f) nodes (unentered a b f)
+    pub filled_fills : FileFills f (range_filled size a b nodes f) nodes (unentered a b f)
     filled_fills =
         let long = cells_longer b f.cells in
         let pages_of_all = length-map nodes (zero_page size) in
@@ -74,21 +74,21 @@ module _ (size a b : ℕ) (nodes : List ℕ) (f : File) where
           each = λ n. (let here = fill.each n in let first = long.each n in omega (arith, here, first, count_map (λ (p : Page). p.node == n) (zero_page size) nodes));
         }
 
-    pub length-filled : length (filled size a b nodes f).cells ≡ max (length f.cells) b
+    pub length-filled : length (range_filled size a b nodes f).cells ≡ max (length f.cells) b
     length-filled = fill.long ∙ length-longer
 
     -- the page at each index of the range
-    pub filled_there : (i : ℕ) → a ≤ i → i < b → has_page (cell_at (filled size a b nodes f) i) ≡ true
+    pub filled_there : (i : ℕ) → a ≤ i → i < b → has_page (cell_at (range_filled size a b nodes f) i) ≡ true
     filled_there i low high =
         let left = fill.left in
         let pages_of_all = length-map nodes (zero_page size) in
         all_there a b (cells_filled a pages longer) (omega (arith, left, pages_of_all, all)) i low high (omega (arith, high, length-filled))
 
     -- index by index: as it was, or a page of zeros where there was none
-    pub filled_index : (i : ℕ) → (cell_at (filled size a b nodes f) i ≡ cell_at f i) ⊎ IsNew a b (λ p. p.bytes ≡ zeros size) f.cells (filled size a b nodes f).cells i
+    pub filled_index : (i : ℕ) → (cell_at (range_filled size a b nodes f) i ≡ cell_at f i) ⊎ IsNew a b (λ p. p.bytes ≡ zeros size) f.cells (range_filled size a b nodes f).cells i
     filled_index i =
         let zero : All (λ (p : Page). p.bytes ≡ zeros size) pages = All-map (λ (p : Page). p.bytes ≡ zeros size) (zero_page size) nodes (λ k d l. refl) in
-        ⊎_elim (λ (stays : cell_at (filled size a b nodes f) i ≡ cell_in longer i). inl (stays ∙ same_longer i))
+        ⊎_elim (λ (stays : cell_at (range_filled size a b nodes f) i ≡ cell_in longer i). inl (stays ∙ same_longer i))
         (λ new. inr (record {
           low = new.low;
           high = new.high;

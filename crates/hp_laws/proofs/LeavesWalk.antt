@@ -6,7 +6,7 @@ use Rattle.hp_model.specs.declared.step.Intent.TheVariants.{Read}
 use Rattle.hp_model.specs.declared.step.Reserving.{Reserving}
 use Rattle.hp_model.specs.declared.step.Sharing.{Sharing}
 use Rattle.hp_model.specs.files.File.{File, Mount, new_file, with_file}
-use Rattle.hp_model.specs.files.Fill.{filled, lacking, nodes_of}
+use Rattle.hp_model.specs.files.Fill.{lacking, range_filled, rising_nodes}
 use Rattle.hp_model.specs.files.Fork.{forked}
 use Rattle.hp_model.specs.files.GiveBack.{punched, swept, truncated, unlinked, unmapped_from, without_task}
 use Rattle.hp_model.specs.files.MakeMap.{asked, mapped, next_number, with_new}
@@ -31,7 +31,7 @@ module _ (size slot : ℕ) (c : Choice) (m : Mount) (Q : Mount → Type 0) where
     pub unlinks : (q : ℕ × File) → IsFileAt m q.0 q.1 → Q (swept (with_file m q.0 (unlinked q.1)))
     pub truncates : (n : ℕ) (q : ℕ × File) → IsFileAt m q.0 q.1 → Q (swept (with_file m q.0 (truncated n q.1)))
     pub punches : (a b : ℕ) (q : ℕ × File) → IsFileAt m q.0 q.1 → Q (swept (with_file m q.0 (punched a b q.1)))
-    pub fills : (a b : ℕ) (pages : List ℕ) (q : ℕ × File) → IsFileAt m q.0 q.1 → Q (with_file m q.0 (filled size a b (nodes_of (lacking a b q.1) pages) q.1))
+    pub fills : (a b : ℕ) (pages : List ℕ) (q : ℕ × File) → IsFileAt m q.0 q.1 → Q (with_file m q.0 (range_filled size a b (rising_nodes (lacking a b q.1) pages) q.1))
     pub maps : (task a n : ℕ) (sharing : Sharing) (reserving : Reserving) (q : ℕ × File) → IsFileAt m q.0 q.1
         → Q (with_file m q.0 (mapped task (next_number task m) a n sharing reserving q.1))
     pub anons : (task n : ℕ) (sharing : Sharing) (reserving : Reserving) → Q (with_new m (mapped task (next_number task m) 0 n sharing reserving (new_file None)))
@@ -55,7 +55,7 @@ module _ (size slot : ℕ) (c : Choice) (m : Mount) (Q : Mount → Type 0) where
     punches = λ a b q at. gives_on (swept (with_file m q.0 (punched a b q.1))) (leaves.punches a b q at);
     fills = λ a b q at.
         always_fill (On Q) (λ r. tt) ((is_full m (unentered a b q.1), MountFull) ∷ (c.refused, OutOfMemory) ∷ []) (rise m (unentered a b q.1)) (lacking a b q.1)
-        (λ pages. Answered Done (Some (with_file m q.0 (filled size a b (nodes_of (lacking a b q.1) pages) q.1)))) (λ pages. leaves.fills a b pages q at);
+        (λ pages. Answered Done (Some (with_file m q.0 (range_filled size a b (rising_nodes (lacking a b q.1) pages) q.1)))) (λ pages. leaves.fills a b pages q at);
     maps = λ task home a n sharing reserving q at.
         always_grant (On Q) (λ r. tt) c m home (asked sharing reserving a n q.1)
         (Answered (MapNo (next_number task m)) (Some (with_file m q.0 (mapped task (next_number task m) a n sharing reserving q.1)))) (leaves.maps task a n sharing reserving q at);

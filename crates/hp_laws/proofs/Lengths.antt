@@ -13,7 +13,7 @@ use Rattle.hp_model.specs.pool.Grant.{can_grant, granted, surplus_times}
 use Rattle.hp_model.specs.machine.Machine.{pool_of, with_pool, rows_of, node_of}
 use Rattle.hp_model.specs.pool.NodeRows.{NodeRows, at_row, row_at, lowest, near, next_from, give_back_row, promote_row, demote_row, grow_row, put_row, take_row, taken_times}
 use Rattle.hp_model.specs.pool.NodeRows.{shrink_row, add_surplus_row, total_of, grown, shrunk, promoted, demoted, given_back, free_of, surp_of, frames_of}
-use Rattle.hp_model.specs.pool.Pool.{section, filled_by, granted_at, no_pages, page_taken, pages_taken, read_nr, take_node, takes_of, kept_times, puts_from, released, settled, give_back_times}
+use Rattle.hp_model.specs.pool.Pool.{section, filled_by, granted_at, no_pages, page_taken, pages_taken, nr_answer, take_node, takes_of, kept_times, puts_from, released, settled, give_back_times}
 use Rattle.hp_model.specs.declared.section.PoolAnswer.{PoolAnswer}
 use Rattle.hp_model.specs.declared.section.Section.{Section}
 use Rattle.hp_model.specs.declared.section.Section.TheVariants.{Grant, GrantPage, TakePage, FillPages, GiveBack, ReadAndGrant, ReadAndGiveBack, GrantAndReturn}
@@ -22,9 +22,6 @@ use Rattle.hp_model.specs.machine.Plan.{Reply}
 use Rattle.hp_model.specs.Profile.{most_overcommit}
 use Rattle.hp_model.specs.pool.Resize.{pool_event, raised, raise_times, lowered, lower_times}
 use Rattle.hp_model.specs.machine.State.{State, Node}
-
-abbrev IsLong : ℕ → NodeRows → Type 0
-IsLong n s = length s.rows ≡ n
 
 long_row : (f : NodeRow → NodeRow) (i : ℕ) (rows : List NodeRow) → length (at_row f i rows) ≡ length rows
 long_row f i rows = length-set rows i (f (row_at rows i))
@@ -94,11 +91,11 @@ long_section p (FillPages d n) =
     (λ e. long_taken_times n (granted 0 d p).nodes ∙ long_granted 0 d p) (λ e. refl)
 long_section p (GiveBack puts k) = long_settled (released k (puts_from 0 puts p)) ∙ long_puts 0 puts p
 long_section p (ReadAndGrant d) =
-    cond_both (can_grant d p) (read_nr true p, granted 0 d p) (read_nr false p, p) (Long p)
+    cond_both (can_grant d p) (nr_answer true p, granted 0 d p) (nr_answer false p, p) (Long p)
     (λ e. long_granted 0 d p) (λ e. refl)
 long_section p (ReadAndGiveBack k) = long_settled (released k p)
 long_section p (GrantAndReturn d) =
-    cond_both (can_grant d p) (read_nr true p, settled (released d (granted 0 d p))) (read_nr false p, p) (Long p)
+    cond_both (can_grant d p) (nr_answer true p, settled (released d (granted 0 d p))) (nr_answer false p, p) (Long p)
     (λ e. long_settled (released d (granted 0 d p)) ∙ long_granted 0 d p) (λ e. refl)
 
 pub long_event : (p : Pool) (e : PoolEvent) → length (pool_event p e).1.nodes.rows ≡ length p.nodes.rows

@@ -39,7 +39,7 @@ use Rattle.hp_laws.proofs.SlotShows.{always_grant, always_unless, always_value, 
 use Rattle.hp_laws.proofs.Whole.{by_event, is_whole, step_of}
 use Rattle.hp_model.specs.declared.cell.Cell.TheVariants.{Hole}
 use Rattle.hp_laws.proofs.Fills.{all_there}
-use Rattle.hp_model.specs.files.Fill.{filled, lacking, nodes_of}
+use Rattle.hp_model.specs.files.Fill.{lacking, range_filled, rising_nodes}
 use Rattle.hp_laws.proofs.Filled.{filled_there, length-filled, length-longer, same_longer}
 use Rattle.hp_model.specs.pool.Grant.{is_full, rise}
 use Rattle.hp_laws.proofs.NodesOf.{length-nodes_of}
@@ -190,11 +190,11 @@ module _ (m : Mount) (name : List ℕ) (a b : ℕ) (q : ℕ × File) (is : file_
         pages = λ i within. (let parts = and_parts (nat_le a i) (nat_lt i b) within in there i (leb-true a i parts.0) (ltb-true i b parts.1));
       }
 
-  fill_has : (size : ℕ) (pages : List ℕ) → HasPages (Some m) (Some (with_file m q.0 (filled size a b (nodes_of (lacking a b q.1) pages) q.1))) name a b
+  fill_has : (size : ℕ) (pages : List ℕ) → HasPages (Some m) (Some (with_file m q.0 (range_filled size a b (rising_nodes (lacking a b q.1) pages) q.1))) name a b
   fill_has size pages =
-      let nodes = nodes_of (lacking a b q.1) pages in
+      let nodes = rising_nodes (lacking a b q.1) pages in
       let all = length-nodes_of (lacking a b q.1) pages in
-      let g : File = filled size a b nodes q.1 in
+      let g : File = range_filled size a b nodes q.1 in
       record {
         file = (q.0, g);
         named = found_again (has_name name) m.files q g is (found_place (has_name name) m.files q is).passes;
@@ -212,7 +212,7 @@ preallocate_made size k c (Some m) name a b =
     (λ good. always_unless P (λ r. tt) (drop 1 (preallocate_tests a b)) goes
     (always_if P (lacking a b q.1 == 0) (Finish (Answered Done (Some m))) (fill c size m a b q) (λ e. full_has m name a b q is good (eqb-true (lacking a b q.1) 0 e))
     (λ e. always_fill P (λ r. tt) ((is_full m (unentered a b q.1), MountFull) ∷ (c.refused, OutOfMemory) ∷ []) (rise m (unentered a b q.1)) (lacking a b q.1)
-    (λ pages. Answered Done (Some (with_file m q.0 (filled size a b (nodes_of (lacking a b q.1) pages) q.1)))) (λ pages. fill_has m name a b q is good size pages))))))
+    (λ pages. Answered Done (Some (with_file m q.0 (range_filled size a b (rising_nodes (lacking a b q.1) pages) q.1)))) (λ pages. fill_has m name a b q is good size pages))))))
 
 same_name : (name : List ℕ) → has_name name (new_file (Some name)) ≡ true
 same_name name = (bytes_eq-Decides name name).1 refl

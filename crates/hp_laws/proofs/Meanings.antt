@@ -28,7 +28,7 @@ use Rattle.hp_laws.proofs.MountMoves.{IsSpot, spot_is}
 use Rattle.hp_laws.proofs.Outcomes.{Always, always_then, always_weaker}
 use Rattle.hp_laws.proofs.Shown.{On, on_follows, on_weaker}
 use Rattle.hp_laws.proofs.SlotShows.{always_unless, always_value}
-use Rattle.hp_model.specs.files.Fill.{filled}
+use Rattle.hp_model.specs.files.Fill.{range_filled}
 
 -- ---- keys of longer lists
 
@@ -77,10 +77,10 @@ module _ (m : Mount) where
       (lead_added (keys m) f.0 (file_key f.1) (shape_of (new_map task number a n sharing reserving))
       (λ d. key_at file_key m.files f.0 f.1 d at.within ∙ ap file_key (at.is f.1)) (no_key task a n sharing reserving)))
 
-  pub placed_filled : (size a b : ℕ) (nodes : List ℕ) (name : List ℕ) (f : ℕ × File) → file_named m name ≡ Some f → Placed m (with_file m f.0 (filled size a b nodes f.1))
+  pub placed_filled : (size a b : ℕ) (nodes : List ℕ) (name : List ℕ) (f : ℕ × File) → file_named m name ≡ Some f → Placed m (with_file m f.0 (range_filled size a b nodes f.1))
   placed_filled size a b nodes name f is =
-      placed_same (with_file m f.0 (filled size a b nodes f.1))
-      (file_put m f.0 f.1 (filled size a b nodes f.1) (λ d. (found_place (has_name name) m.files f is).is d) refl)
+      placed_same (with_file m f.0 (range_filled size a b nodes f.1))
+      (file_put m f.0 f.1 (range_filled size a b nodes f.1) (λ d. (found_place (has_name name) m.files f is).is d) refl)
 
 -- what a store writes leaves names and numbers
 written_key : (s : Spot) (i offset : ℕ) (bytes : List ℕ) (f : File) → file_key (file_written s i offset bytes f) ≡ file_key f

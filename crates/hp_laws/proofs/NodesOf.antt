@@ -5,7 +5,7 @@ use Rattle.std.proofs.lemmas.Bool.{eq-eqb, ne_eqb}
 use Rattle.std.proofs.lemmas.List.{length-append, length-replicate, length-take}
 use Rattle.std.proofs.lemmas.List.Sums.{sum_by-append, sum_by-cons}
 use Rattle.std.proofs.Math.Seq.{take-append_seam}
-use Rattle.hp_model.specs.files.Fill.{nodes_from, nodes_of}
+use Rattle.hp_model.specs.files.Fill.{nodes_from, rising_nodes}
 use Rattle.hp_model.proofs.Counting.{count_cons}
 use Rattle.hp_laws.proofs.Single.{bit}
 
@@ -13,7 +13,7 @@ use Rattle.hp_laws.proofs.Single.{bit}
 abbrev pub count_of : ℕ → List ℕ → ℕ
 count_of n nodes = count_by (λ k. k == n) nodes
 
-pub length-nodes_of : (n : ℕ) (counts : List ℕ) → length (nodes_of n counts) ≡ n
+pub length-nodes_of : (n : ℕ) (counts : List ℕ) → length (rising_nodes n counts) ≡ n
 length-nodes_of n counts =
     let both = length-append (nodes_from 0 counts) (replicate n 0) in
     let more = length-replicate {A = ℕ} n 0 in
@@ -27,7 +27,7 @@ length-nodes_from node (k ∷ ks) =
     omega (arith, both, here, length-nodes_from (node + 1) ks, sum_by-cons (λ (x : ℕ). x) k ks)
 
 -- where the counts say of all pages where they are
-pub nodes_all : (n : ℕ) (counts : List ℕ) → sum counts ≡ n → nodes_of n counts ≡ nodes_from 0 counts
+pub nodes_all : (n : ℕ) (counts : List ℕ) → sum counts ≡ n → rising_nodes n counts ≡ nodes_from 0 counts
 nodes_all n counts is =
     let all : List ℕ = nodes_from 0 counts in
     ap (λ k. take k (all ++ replicate n 0)) {x = n} {y = length all} (sym (length-nodes_from 0 counts ∙ is)) ∙ take-append_seam all (replicate n 0)

@@ -17,7 +17,7 @@ use Rattle.hp_model.specs.declared.step.Intent.TheVariants.{Read, Write}
 use Rattle.hp_model.specs.files.Access.{access, new_copy, private_access, shared_access, uncopied_access}
 use Rattle.hp_model.specs.files.CopyWrite.{copy_write, is_held_once, owner_write, taken_back}
 use Rattle.hp_model.specs.files.File.{Mount, cell_at, has_page, new_file, with_cell, with_file, with_map}
-use Rattle.hp_model.specs.files.Fill.{filled, lacking, nodes_of}
+use Rattle.hp_model.specs.files.Fill.{lacking, range_filled, rising_nodes}
 use Rattle.hp_model.specs.files.Fork.{forked}
 use Rattle.hp_model.specs.files.GiveBack.{punched, truncated, unlinked, unmapped_from, without_task}
 use Rattle.hp_model.specs.pool.Grant.{is_full, rise}
@@ -133,7 +133,7 @@ module _ (W : Plan → Type 0) where
       fills = λ a b q at.
           tested ((is_full m (unentered a b q.1), MountFull) ∷ (c.refused, OutOfMemory) ∷ [])
           (Ask (λ nr. FillPages (rise m (unentered a b q.1)) (lacking a b q.1)) (preallocated size m a b q))
-          (rules.fills (rise m (unentered a b q.1)) (lacking a b q.1) (λ pages. Some (with_file m q.0 (filled size a b (nodes_of (lacking a b q.1) pages) q.1))));
+          (rules.fills (rise m (unentered a b q.1)) (lacking a b q.1) (λ pages. Some (with_file m q.0 (range_filled size a b (rising_nodes (lacking a b q.1) pages) q.1))));
       maps = λ task home a n sharing reserving q at.
           plan_grant c m home (asked sharing reserving a n q.1) (MapNo (next_number task m)) (Some (with_file m q.0 (mapped task (next_number task m) a n sharing reserving q.1)));
       anons = λ task home n sharing reserving.

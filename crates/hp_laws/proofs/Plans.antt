@@ -13,7 +13,7 @@ use Rattle.hp_model.specs.declared.refusal.Refusal.TheVariants.{NoPages, MountFu
 use Rattle.hp_laws.specs.Balance.{Change, Stays, IsBalanced, IsLimited, left_by}
 use Rattle.hp_model.specs.machine.Plan.{slot_usage}
 use Rattle.hp_model.specs.files.File.{Mount}
-use Rattle.hp_model.specs.files.Fill.{nodes_of}
+use Rattle.hp_model.specs.files.Fill.{rising_nodes}
 use Rattle.hp_model.specs.pool.Grant.{rise, is_full, is_over}
 use Rattle.hp_model.specs.files.MountCounts.{pages_at, usage_of}
 use Rattle.hp_model.specs.machine.Plan.{Slot, Outcome, Refused, Answered, Plan, Finish, Ask, Choice, refuse, unless, continued}
@@ -122,17 +122,17 @@ balanced_reserved_page m home n grows =
 
 -- ---- pages of a range
 
-filled_granted : (m : Mount) (n : List ℕ → Mount) (k u : ℕ) (b : Bool) (pages : List ℕ) → is_full m u ≡ false → MountFills m (n (nodes_of k pages)) (nodes_of k pages) u
-    → Change (Some m) (left_by (Some m) (if b then Answered Done (Some (n (nodes_of k pages))) else Refused NoPages)) (if b then rise m u else 0) 0
-    (λ x. if b then count_of x (nodes_of k pages) else 0) (λ x. 0) (if b then k else 0)
+filled_granted : (m : Mount) (n : List ℕ → Mount) (k u : ℕ) (b : Bool) (pages : List ℕ) → is_full m u ≡ false → MountFills m (n (rising_nodes k pages)) (rising_nodes k pages) u
+    → Change (Some m) (left_by (Some m) (if b then Answered Done (Some (n (rising_nodes k pages))) else Refused NoPages)) (if b then rise m u else 0) 0
+    (λ x. if b then count_of x (rising_nodes k pages) else 0) (λ x. 0) (if b then k else 0)
 filled_granted m n k u true pages room grows =
-    subst (Change (Some m) (Some (n (nodes_of k pages))) (rise m u) 0 (λ x. count_of x (nodes_of k pages)) (λ x. 0)) (length-nodes_of k pages)
-    (grown_filled m (n (nodes_of k pages)) (nodes_of k pages) u room grows)
+    subst (Change (Some m) (Some (n (rising_nodes k pages))) (rise m u) 0 (λ x. count_of x (rising_nodes k pages)) (λ x. 0)) (length-nodes_of k pages)
+    (grown_filled m (n (rising_nodes k pages)) (rising_nodes k pages) u room grows)
 filled_granted m n k u false pages room grows = stays (Some m)
 
-pub balanced_fill : (c : Choice) (m : Mount) (n : List ℕ → Mount) (k u : ℕ) → ((pages : List ℕ) → MountFills m (n (nodes_of k pages)) (nodes_of k pages) u)
+pub balanced_fill : (c : Choice) (m : Mount) (n : List ℕ → Mount) (k u : ℕ) → ((pages : List ℕ) → MountFills m (n (rising_nodes k pages)) (rising_nodes k pages) u)
     → IsBalanced (Some m) (unless ((is_full m u, MountFull) ∷ (c.refused, OutOfMemory) ∷ [])
-    (Ask (λ nr. FillPages (rise m u) k) (λ a. when_granted (Answered Done (Some (n (nodes_of k a.pages)))) a)))
+    (Ask (λ nr. FillPages (rise m u) k) (λ a. when_granted (Answered Done (Some (n (rising_nodes k a.pages)))) a)))
 balanced_fill c m n k u grows =
     balanced_test (Some m) (is_full m u) MountFull ((c.refused, OutOfMemory) ∷ []) _
     (λ room. ((λ a. filled_granted m n k u a.granted a.pages room (grows a.pages)), (λ p. refl)))

@@ -26,7 +26,7 @@ use Rattle.hp_model.specs.machine.Machine.{pool_of, with_pool}
 use Rattle.hp_model.specs.files.MountCounts.{committed_of}
 use Rattle.hp_model.specs.files.Options.{limits, wanted_of}
 use Rattle.hp_model.specs.machine.Plan.{Reply, Slot, Outcome, Refused, Answered, Plan, Finish, Ask, Choice, continued, and_then, when_granted}
-use Rattle.hp_model.specs.pool.Pool.{section, filled_by, granted_at, no_pages, pages_taken, read_nr, released, takes_of, settled as settled_pool, take_node, page_taken, give_back_times}
+use Rattle.hp_model.specs.pool.Pool.{section, filled_by, granted_at, no_pages, pages_taken, nr_answer, released, takes_of, settled as settled_pool, take_node, page_taken, give_back_times}
 use Rattle.hp_model.specs.declared.section.PoolAnswer.{PoolAnswer}
 use Rattle.hp_model.specs.declared.section.Section.TheVariants.{ReadAndGiveBack, ReadAndGrant, GrantAndReturn}
 use Rattle.hp_model.specs.pool.PoolCounts.{Pool}
@@ -88,8 +88,8 @@ remount_keeps m (Err e) p r st is = granted_none p st.total
 remount_keeps m (Ok l) p r st is = by_minimum (nat_lt (committed_with m l.min) (committed_of m)) is
   where
     by_test : (b : Bool) (q : Pool)
-        → remount_outcome m (if◌then◌else◌ {A = PoolAnswer × Pool} b (read_nr true p, q) (read_nr false p, p)).0 (Ok l) ≡ Refused r
-        → (if◌then◌else◌ {A = PoolAnswer × Pool} b (read_nr true p, q) (read_nr false p, p)).1 ≡ p
+        → remount_outcome m (if◌then◌else◌ {A = PoolAnswer × Pool} b (nr_answer true p, q) (nr_answer false p, p)).0 (Ok l) ≡ Refused r
+        → (if◌then◌else◌ {A = PoolAnswer × Pool} b (nr_answer true p, q) (nr_answer false p, p)).1 ≡ p
     by_test true q is = cc
     by_test false q is = refl
 
@@ -142,7 +142,7 @@ late_memory r = false
 -- what a mount's section and its outcome are, by what is wanted and what is chosen
 mount_keeps : (stamp : ℕ) (refused after_grant granted_it : Bool) (l : Result Limits Refusal) (p q : Pool) (r : Refusal) → late_memory r ≡ false
     → (granted_it ≡ true → mount_pages (record { stamp = stamp; refused = refused; after_grant = after_grant }) l ≡ 0 → q ≡ p) → (granted_it ≡ false → q ≡ p)
-    → mount_outcome (record { stamp = stamp; refused = refused; after_grant = after_grant }) (read_nr granted_it p) l ≡ Refused r → q ≡ p
+    → mount_outcome (record { stamp = stamp; refused = refused; after_grant = after_grant }) (nr_answer granted_it p) l ≡ Refused r → q ≡ p
 unfolding late_memory
 mount_keeps stamp refused after_grant false l p q r late free none is = none refl
 mount_keeps stamp refused after_grant true (Err e) p q r late free none is = free refl refl
@@ -156,8 +156,8 @@ mount_section_keeps : (c : Choice) (l : Result Limits Refusal) (p : Pool) (r : R
 mount_section_keeps c l p r st late is = by_choice c.after_grant refl is
   where
     by_test : (b : Bool) (q : Pool) → (mount_pages c l ≡ 0 → q ≡ p)
-        → mount_outcome c (if◌then◌else◌ {A = PoolAnswer × Pool} b (read_nr true p, q) (read_nr false p, p)).0 l ≡ Refused r
-        → (if◌then◌else◌ {A = PoolAnswer × Pool} b (read_nr true p, q) (read_nr false p, p)).1 ≡ p
+        → mount_outcome c (if◌then◌else◌ {A = PoolAnswer × Pool} b (nr_answer true p, q) (nr_answer false p, p)).0 l ≡ Refused r
+        → (if◌then◌else◌ {A = PoolAnswer × Pool} b (nr_answer true p, q) (nr_answer false p, p)).1 ≡ p
     by_test true q free is = mount_keeps c.stamp c.refused c.after_grant true l p q r late (λ yes none. free none) (λ no. cc) is
     by_test false q free is = refl
 

@@ -8,9 +8,9 @@ use Rattle.hp_laws.specs.Balance.{raised_by, lowered_by, takes, taken_at, put_at
 use Rattle.hp_model.specs.pool.Grant.{can_grant, granted}
 use Rattle.hp_model.specs.Lists.{edit_at}
 use Rattle.hp_model.specs.declared.node.NodeRow.{NodeRow}
-use Rattle.hp_model.specs.files.Fill.{nodes_of}
+use Rattle.hp_model.specs.files.Fill.{rising_nodes}
 use Rattle.hp_model.specs.pool.NodeRows.{no_row, row_at, used as row_used}
-use Rattle.hp_model.specs.pool.Pool.{take_node, page_taken, pages_taken, puts_from, released, settled as settled_pool, filled_by, granted_at, no_pages, read_nr, section, takes_at, takes_of}
+use Rattle.hp_model.specs.pool.Pool.{take_node, page_taken, pages_taken, puts_from, released, settled as settled_pool, filled_by, granted_at, no_pages, nr_answer, section, takes_at, takes_of}
 use Rattle.hp_model.specs.declared.section.PoolAnswer.{PoolAnswer}
 use Rattle.hp_model.specs.declared.section.Section.{Section}
 use Rattle.hp_model.specs.declared.section.Section.TheVariants.{Grant, GrantPage, TakePage, FillPages, GiveBack, ReadAndGrant, ReadAndGiveBack, GrantAndReturn}
@@ -105,7 +105,7 @@ grant_case p home d true f g c k s e w = (relead p (granted home d p) _ _ _ _ (c
 grant_case p home d false f g c k s e w = (relead p p _ _ _ _ (unchanged p s) (let x = w.commits in omega (arith, x)) (same_list p f g k w.few w.was w.pages), (λ n far. refl))
 
 read_case : (p : Pool) (d : ℕ) (b : Bool) (f g : ℕ → ℕ) (c k : ℕ) → IsSettledPool p → can_grant d p ≡ b
-    → Goal p (if b then (read_nr true p, granted 0 d p) else (read_nr false p, p)) (ReadAndGrant d) f g c k
+    → Goal p (if b then (nr_answer true p, granted 0 d p) else (nr_answer false p, p)) (ReadAndGrant d) f g c k
 read_case p d true f g c k s e w = (relead p (granted 0 d p) _ _ _ _ (committed 0 d p s e) (let x = w.commits in omega (arith, x)) (same_list p f g k w.few w.was w.pages), (λ n far. refl))
 read_case p d false f g c k s e w = (relead p p _ _ _ _ (unchanged p s) (let x = w.commits in omega (arith, x)) (same_list p f g k w.few w.was w.pages), (λ n far. refl))
 
@@ -244,12 +244,12 @@ module _ (p : Pool) (n : ℕ) (few : length p.nodes.rows ≤ 4) (s : IsSettledPo
       let more = t.more in
       omega (arith, sums, more, used_is p s, used_is q t.settled)
 
-  taken_there : (k : ℕ) → k < 4 → count_of k (nodes_of n (takes_of n p)) ≡ used_at_row q k - used_at_row p k
+  taken_there : (k : ℕ) → k < 4 → count_of k (rising_nodes n (takes_of n p)) ≡ used_at_row q k - used_at_row p k
   taken_there k l =
       ap (count_of k) (nodes_all n (takes_of n p) takes_all) ∙ counted_from 0 k k (takes_of n p) (omega arith)
       ∙ at_range (takes_at p.nodes q.nodes) 0 4 k l ∙ ap (takes_at p.nodes q.nodes) {x = 0 + k} {y = k} (omega arith)
 
-  taken_far : (k : ℕ) → length p.nodes.rows ≤ k → count_of k (nodes_of n (takes_of n p)) ≡ 0
+  taken_far : (k : ℕ) → length p.nodes.rows ≤ k → count_of k (rising_nodes n (takes_of n p)) ≡ 0
   taken_far k far =
       let at = ap (count_of k) (nodes_all n (takes_of n p) takes_all) ∙ counted_from 0 k k (takes_of n p) (omega arith) in
       ⊎_elim
@@ -315,7 +315,7 @@ given_back puts j p f g c k s few long was commits pages within =
     (omega (arith, commits)) refl
 
 return_case : (p : Pool) (d : ℕ) (b : Bool) (f g : ℕ → ℕ) (c k : ℕ) → IsSettledPool p → can_grant d p ≡ b
-    → Goal p (if b then (read_nr true p, settled_pool (released d (granted 0 d p))) else (read_nr false p, p)) (GrantAndReturn d) f g c k
+    → Goal p (if b then (nr_answer true p, settled_pool (released d (granted 0 d p))) else (nr_answer false p, p)) (GrantAndReturn d) f g c k
 return_case p d true f g c k s e w =
     let mid : Pool = granted 0 d p in
     let first = committed 0 d p s e in

@@ -96,9 +96,6 @@ forks_set (k ∷ ks) done parent child a u t is =
 
 -- ---- homes
 
-abbrev one_home : ℕ × ℕ → ℕ
-one_home x = x.1
-
 home_added : (table : Table) (new home task : ℕ) → is_known table new ≡ false → home_of (added table new home) task ≡ (if new == task then Some home else home_of table task)
 home_added [] new home task e = by_test (new == task) refl
   where

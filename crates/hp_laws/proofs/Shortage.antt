@@ -64,7 +64,7 @@ use Rattle.hp_laws.proofs.Remounts.{remount_ends, remount_told, told_granted}
 use Rattle.hp_laws.proofs.SlotShows.{always_gives}
 use Rattle.hp_laws.proofs.Outcomes.{Always, either_way, reply_of}
 use Rattle.hp_laws.proofs.Whole.{by_event, early_pages, is_early, is_whole, slot_step, step_of}
-use Rattle.hp_model.specs.files.Fill.{filled, lacking, nodes_of}
+use Rattle.hp_model.specs.files.Fill.{lacking, range_filled, rising_nodes}
 
 -- ---- limits
 
@@ -142,7 +142,7 @@ module _ (s : State) where
       let pages = unentered a b f.1 in
       let n = lacking a b f.1 in
       let q = (section (pool_of s) (FillPages (rise m pages) n)).0 in
-      let o : Outcome = Answered Done (Some (with_file m f.0 (filled size a b (nodes_of n q.pages) f.1))) in
+      let o : Outcome = Answered Done (Some (with_file m f.0 (range_filled size a b (rising_nodes n q.pages) f.1))) in
       at_if (Lacks m pages) (is_full m pages) (refuse MountFull) _ (λ full. full)
       (λ room. at_test (Lacks m pages) c.refused OutOfMemory (Ask (λ nr. FillPages (rise m pages) n) (preallocated size m a b f)) tt
       (granted_lacks m pages (can_grant (rise m pages) (pool_of s)) o room refl tt q (fill_granted (rise m pages) n)))

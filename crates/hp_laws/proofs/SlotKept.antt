@@ -37,7 +37,7 @@ use Rattle.hp_laws.proofs.SlotShows.{Loads, Quiet, Stores, always_gives, always_
 use Rattle.hp_laws.proofs.SlotShows.{anon_quiet, create_quiet, load_loads, map_quiet, store_stores, always_preallocate, preallocate_quiet}
 use Rattle.hp_laws.proofs.Stored.{ready}
 use Rattle.hp_laws.proofs.Unmaps.{exit_keeps, fork_keeps, same_keeps, unmap_keeps}
-use Rattle.hp_model.specs.files.Fill.{lacking, nodes_of}
+use Rattle.hp_model.specs.files.Fill.{lacking, rising_nodes}
 
 -- both of what holds whatever the pool answers
 pub always_both : (P Q R : Outcome → Type 0) → ((o : Outcome) → P o → Q o → R o) → (p : Plan) → Always P p → Always Q p → Always R p
@@ -193,7 +193,7 @@ module _ (size k : ℕ) (c : Choice) (m : Mount) where
       let e : SlotEvent = slot.Preallocate name a b in
       quiet_event e (λ j x old. refl) (λ j l x old. refl) (on_mount size k c m e) (preallocate_quiet size k c (Some m) name a b)
       (always_value (On (Placed m)) (λ r. tt) (file_named m name) NoSuchFile (preallocate c size m a b)
-      (λ q named. always_preallocate (On (Placed m)) (λ r. tt) c size m a b q (placed_same m m refl) (λ pages. placed_filled m size a b (nodes_of (lacking a b q.1) pages) name q named)))
+      (λ q named. always_preallocate (On (Placed m)) (λ r. tt) c size m a b q (placed_same m m refl) (λ pages. placed_filled m size a b (rising_nodes (lacking a b q.1) pages) name q named)))
   mount_keeps sound (slot.Read name i offset count) =
       of_file (slot.Read name i offset count) name (read size m i offset count)
       (λ q named. tested (slot.Read name i offset count) (read_tests size i offset count q.1) _ (same_keeps size m (slot.Read name i offset count) (λ j x old. refl) (λ j l x old. refl)))

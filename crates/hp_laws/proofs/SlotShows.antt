@@ -42,7 +42,7 @@ use Rattle.hp_laws.proofs.Seen.{IsLostAt, store_seen, store_marks}
 use Rattle.hp_laws.proofs.Shown.{marked, look, seen, by_place, On, Same, Result, read_same, write_done}
 use Rattle.hp_laws.proofs.Stored.{ready, stored}
 use Rattle.hp_laws.proofs.Walk.{plan_unless, plan_value, remounting}
-use Rattle.hp_model.specs.files.Fill.{filled, lacking, nodes_of}
+use Rattle.hp_model.specs.files.Fill.{lacking, range_filled, rising_nodes}
 use Rattle.hp_laws.proofs.Filled.{filled_index}
 use Rattle.hp_laws.proofs.NodesOf.{length-nodes_of}
 
@@ -72,12 +72,12 @@ always_fill P stops ts d n o h =
 
 -- where nothing of the range lacks a page, and else
 pub always_preallocate : (P : Outcome → Type 0) → ((r : Refusal) → P (Refused r)) → (c : Choice) (size : ℕ) (m : Mount) (a b : ℕ) (q : ℕ × File) → P (Answered Done (Some m))
-    → ((pages : List ℕ) → P (Answered Done (Some (with_file m q.0 (filled size a b (nodes_of (lacking a b q.1) pages) q.1))))) → Always P (preallocate c size m a b q)
+    → ((pages : List ℕ) → P (Answered Done (Some (with_file m q.0 (range_filled size a b (rising_nodes (lacking a b q.1) pages) q.1))))) → Always P (preallocate c size m a b q)
 always_preallocate P stops c size m a b q none h =
     always_unless P stops (preallocate_tests a b) (if lacking a b q.1 == 0 then Finish (Answered Done (Some m)) else fill c size m a b q)
     (always_if P (lacking a b q.1 == 0) (Finish (Answered Done (Some m))) (fill c size m a b q) (λ e. none)
     (λ e. always_fill P stops ((is_full m (unentered a b q.1), MountFull) ∷ (c.refused, OutOfMemory) ∷ []) (rise m (unentered a b q.1)) (lacking a b q.1)
-    (λ pages. Answered Done (Some (with_file m q.0 (filled size a b (nodes_of (lacking a b q.1) pages) q.1)))) h))
+    (λ pages. Answered Done (Some (with_file m q.0 (range_filled size a b (rising_nodes (lacking a b q.1) pages) q.1)))) h))
 
 pub always_gives : (P : Outcome → Type 0) (a : Answer) (old new : Slot) → P (Answered a new) → Always P (gives a old new)
 always_gives P a old new h =
@@ -152,11 +152,11 @@ zero_shows size Hole none = refl
 zero_shows size Entered none = refl
 zero_shows size (Present page) none = cc
 
-filled_shows : (size a b : ℕ) (pages : List ℕ) (f : File) (x : ℕ) → look size x (filled size a b (nodes_of (lacking a b f) pages) f) ≡ look size x f
+filled_shows : (size a b : ℕ) (pages : List ℕ) (f : File) (x : ℕ) → look size x (range_filled size a b (rising_nodes (lacking a b f) pages) f) ≡ look size x f
 filled_shows size a b pages f x =
     ⊎_elim (λ same. ap (shown size) same)
     (λ new. ap (shown size) new.is ∙ new.holds ∙ sym (zero_shows size (cell_at f x) new.lacked))
-    (filled_index size a b (nodes_of (lacking a b f) pages) f (length-nodes_of (lacking a b f) pages) x)
+    (filled_index size a b (rising_nodes (lacking a b f) pages) f (length-nodes_of (lacking a b f) pages) x)
 
 pub preallocate_quiet : (size k : ℕ) (c : Choice) (old : Slot) (name : List ℕ) (a b : ℕ) → Always (Quiet size old) (slot_event size k c old (slot.Preallocate name a b))
 preallocate_quiet size k c None name a b = (λ j x. refl, λ j l x. refl, λ j l. refl)
@@ -166,7 +166,7 @@ preallocate_quiet size k c (Some m) name a b =
     always_value P stops (file_named m name) NoSuchFile (preallocate c size m a b)
     (λ q e. (let at = file_at m (has_name name) q e in
     always_preallocate P stops c size m a b q (λ j x. refl, λ j l x. refl, λ j l. refl)
-    (λ pages. (let g : File = filled size a b (nodes_of (lacking a b q.1) pages) q.1 in
+    (λ pages. (let g : File = range_filled size a b (rising_nodes (lacking a b q.1) pages) q.1 in
     let shows = filled_shows size a b pages q.1 in (
       λ j x. same_put (look size x) (new_file None) m.files q.0 g at.within (shows x ∙ sym (ap (look size x) (at.is (new_file None)))) j,
       λ j l x. same_put (seen size l x) (new_file None) m.files q.0 g at.within

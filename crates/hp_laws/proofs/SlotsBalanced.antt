@@ -14,7 +14,7 @@ use Rattle.hp_model.specs.files.Access.{access}
 use Rattle.hp_laws.specs.Balance.{Change, Moves, IsBalanced, left_by}
 use Rattle.hp_laws.specs.Laws.{SlotsAreBalanced}
 use Rattle.hp_model.specs.files.File.{new_file, with_file, File, Mount}
-use Rattle.hp_model.specs.files.Fill.{filled, lacking, nodes_of}
+use Rattle.hp_model.specs.files.Fill.{lacking, range_filled, rising_nodes}
 use Rattle.hp_model.specs.files.Fork.{file_forked}
 use Rattle.hp_model.specs.files.GiveBack.{file_unmapped, file_without, punched, truncated, unlinked}
 use Rattle.hp_model.specs.pool.Grant.{can_grant, granted}
@@ -24,7 +24,7 @@ use Rattle.hp_model.specs.files.Mapping.{is_map}
 use Rattle.hp_model.specs.files.MountCounts.{committed_of, stamps_of, file_pages_at, pages_at}
 use Rattle.hp_model.specs.files.Options.{limits, wanted_of}
 use Rattle.hp_model.specs.machine.Plan.{Slot, Plan, Choice, refuse, unless, gives}
-use Rattle.hp_model.specs.pool.Pool.{read_nr, section, settled, released}
+use Rattle.hp_model.specs.pool.Pool.{nr_answer, section, settled, released}
 use Rattle.hp_model.specs.declared.section.PoolAnswer.{PoolAnswer}
 use Rattle.hp_model.specs.declared.section.Section.TheVariants.{GrantAndReturn, ReadAndGiveBack, ReadAndGrant}
 use Rattle.hp_model.specs.pool.PoolCounts.{Pool}
@@ -123,10 +123,10 @@ mount_by stamp false false true node nr pages (Ok l) = record {
   limited = inl (omega arith);
 }
 
-told : (p : Pool) (d : ℕ) (q : Pool) → (if◌then◌else◌ {A = PoolAnswer × Pool} (can_grant d p) (read_nr true p, q)
-    (read_nr false p, p)).0.nr ≡ p.nr
+told : (p : Pool) (d : ℕ) (q : Pool) → (if◌then◌else◌ {A = PoolAnswer × Pool} (can_grant d p) (nr_answer true p, q)
+    (nr_answer false p, p)).0.nr ≡ p.nr
 told p d q =
-    cond_both (can_grant d p) (read_nr true p, q) (read_nr false p, p)
+    cond_both (can_grant d p) (nr_answer true p, q) (nr_answer false p, p)
     (λ (x : PoolAnswer × Pool). x.0.nr ≡ p.nr) (λ e. refl) (λ e. refl)
 
 pub tells_nr : (p : Pool) (after_grant : Bool) (d : ℕ) → (section p (if after_grant then GrantAndReturn d else ReadAndGrant d)).0.nr ≡ p.nr
@@ -183,8 +183,8 @@ module _ (size slot : ℕ) (c : Choice) (m : Mount) (sound : IsSoundMount m) (ne
     truncates = λ n q at. falls _ (file_sweeps m q.0 q.1 (truncated n q.1) at (truncated_falls n q.1));
     punches = λ a b q at. falls _ (file_sweeps m q.0 q.1 (punched a b q.1) at (punched_falls a b q.1));
     fills = λ a b q at.
-        balanced_fill c m (λ nodes. with_file m q.0 (filled size a b nodes q.1)) (lacking a b q.1) (unentered a b q.1)
-        (λ pages. file_fills m q.0 q.1 _ _ _ at (filled_fills size a b (nodes_of (lacking a b q.1) pages) q.1 (length-nodes_of (lacking a b q.1) pages)));
+        balanced_fill c m (λ nodes. with_file m q.0 (range_filled size a b nodes q.1)) (lacking a b q.1) (unentered a b q.1)
+        (λ pages. file_fills m q.0 q.1 _ _ _ at (filled_fills size a b (rising_nodes (lacking a b q.1) pages) q.1 (length-nodes_of (lacking a b q.1) pages)));
     maps = λ task home a n sharing reserving q at.
         (let k = asked sharing reserving a n q.1 in
         let number = next_number task m in

@@ -132,10 +132,6 @@ module _ (s : State) (st : IsSettledState s) where
       let total = st.pool.total in
       (omega (arith, most, below, total), omega arith, omega arith, omega arith)
 
--- no more is committed than there can be frames
-pub committed_few : (s : State) → IsSettledState s → committed_pages s ≤ 262144
-committed_few s st = (let most = most_frames_in s st in let below = (in_pool s st).total in let total = st.pool.total in omega (arith, most, below, total))
-
 -- ---- the task table
 
 or_small : (ts : List (Bool × Refusal)) (old new : Table) → IsWithinLimits (or_refused ts old (Ok Done, new)).0

@@ -1,7 +1,7 @@
 -- The tie of slots and pool: what a section with its answer moves in the pool's numbers is what its event moves in the slot's counts.
 use Rattle.std.specs.Prelude.{◌≡◌, ◌⊎◌, ℕ, ◌+◌, ◌<◌, ◌≤◌, ◌&&◌, ◌==◌, if◌then◌else◌}
 use Rattle.std.specs.List.{count_by, slice_index_or}
-use Rattle.hp_model.specs.files.Fill.{nodes_of}
+use Rattle.hp_model.specs.files.Fill.{rising_nodes}
 use Rattle.hp_model.specs.machine.Plan.{Slot, Outcome, Refused, Answered, Plan, Finish, Ask, slot_committed, slot_pages, slot_pages_at, slot_usage, IsWithinLimit}
 use Rattle.hp_model.specs.pool.Pool.{section}
 use Rattle.hp_model.specs.declared.section.PoolAnswer.{PoolAnswer}
@@ -36,7 +36,7 @@ takes other a = 0
 abbrev pub taken_at : ℕ → Section → PoolAnswer → ℕ
 taken_at n (GrantPage home pages) a = if a.granted && (a.node == n) then 1 else 0
 taken_at n (TakePage home) a = if a.node == n then 1 else 0
-taken_at n (FillPages pages count) a = if a.granted then count_by (λ k. k == n) (nodes_of count a.pages) else 0
+taken_at n (FillPages pages count) a = if a.granted then count_by (λ k. k == n) (rising_nodes count a.pages) else 0
 taken_at n other a = 0
 
 abbrev pub put_at : ℕ → Section → ℕ

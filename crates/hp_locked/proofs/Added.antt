@@ -22,7 +22,7 @@ use Rattle.hp_model.specs.declared.section.Section.TheVariants.{GiveBack}
 use Rattle.hp_model.specs.pool.Pool.{granted_at, no_pages}
 use Rattle.hp_subpool.specs.Subpool.{Subpool}
 use Rattle.std.specs.Bool.{MatchBool}
-use Rattle.hp_trail.specs.Keeping.{added, has_room, one_less}
+use Rattle.hp_trail.specs.Keeping.{has_room, one_less, with_entry}
 use Rattle.hp_locked.specs.Views.{IsFresh, Asks, HasPlaces, IsAnswered, CoreView, IsCore, IsGiven, IsPlace, IsPoolTrail}
 use Rattle.hp_model.specs.threads.Closing.{to_return}
 use Rattle.hp_laws.proofs.Closing.{most_return, step_frames}
@@ -61,7 +61,7 @@ pub pool_push : (p : Pool) (es : List PoolEntry) (m : Pool) (e : PoolEntry) (q :
 pool_push p [] m e q run step = (q, subst (λ (x : Pool). IsPoolStep x e q) (sym run) step, refl)
 pool_push p (x ∷ es) m e q run step = (run.0, run.1, pool_push run.0 es m e q run.2 step)
 
-pub pool_added : (start : Pool) (o : Option (List PoolEntry)) (m : Pool) (e : PoolEntry) (q : Pool) → IsPoolTrail start o m → IsPoolStep m e q → IsPoolTrail start (added o e) q
+pub pool_added : (start : Pool) (o : Option (List PoolEntry)) (m : Pool) (e : PoolEntry) (q : Pool) → IsPoolTrail start o m → IsPoolStep m e q → IsPoolTrail start (with_entry o e) q
 pool_added start None m e q run step = tt
 pool_added start (Some es) m e q run step = pool_push start es m e q run step
 
@@ -101,7 +101,7 @@ has_place None extra n places some = refl
 has_place (Some l) extra n places some = lt-ltb 0 l (omega (arith, places, some))
 
 module _ (start : Pool) (o o2 : Option (List PoolEntry)) (left left2 : Option ℕ) (extra extra2 : ℕ) (p : Pool) (e : PoolEntry) (q : Pool) (core : IsCore start o left extra p)
-    (noted : o2 ≡ added o e) (lessens : left2 ≡ one_less left) (stays : extra2 ≡ extra) (step : IsPoolStep p e q) (ready : IsReady q) (law : IsSettled q → IsSettledPool q) where
+    (noted : o2 ≡ with_entry o e) (lessens : left2 ≡ one_less left) (stays : extra2 ≡ extra) (step : IsPoolStep p e q) (ready : IsReady q) (law : IsSettled q → IsSettledPool q) where
   as_noted : HasPlaces (one_less left) (to_return q) → IsCore start o2 left2 extra2 q
   as_noted places = record {
     trail = subst (λ (x : Option (List PoolEntry)). IsPoolTrail start x q) (sym noted) (pool_added start o p e q core.trail step);
@@ -124,7 +124,7 @@ module _ (start : Pool) (o o2 : Option (List PoolEntry)) (left left2 : Option �
   given_back less = as_noted (closed left (to_return p) (to_return q) core.places less)
 
 pub section_noted : (start : Pool) (o o2 : Option (List PoolEntry)) (left left2 : Option ℕ) (extra extra2 : ℕ) (p : Pool) (s : Section) (a : PoolAnswer) (q : Pool) → IsCore start o left extra p
-    → o2 ≡ added o (OfSlot s a) → left2 ≡ one_less left → extra2 ≡ extra → section p s ≡ (a, q) → IsReady q → (IsSettled q → IsSettledPool q) →
+    → o2 ≡ with_entry o (OfSlot s a) → left2 ≡ one_less left → extra2 ≡ extra → section p s ≡ (a, q) → IsReady q → (IsSettled q → IsSettledPool q) →
     has_room false left extra ≡ true → IsCore start o2 left2 extra2 q
 section_noted start o o2 left left2 extra extra2 p s a q core noted lessens stays step ready law room =
     entry_noted start o o2 left left2 extra extra2 p (OfSlot s a) q core noted lessens stays step ready law room
@@ -136,7 +136,7 @@ module _ {X : Type 0} (E : X → Option (List PoolEntry)) (L : X → Option ℕ)
 
   abbrev Noted : List ℕ → ℕ → Asked → Type 0
   Noted counts m a = (a.section ≡ GiveBack counts m) × (a.answer ≡ granted_at 0) × IsPlace (E old) a.place
-      × (E new ≡ added (E old) (OfSlot a.section a.answer)) × (0 < sum counts + m) × (L new ≡ one_less (L old)) × (R new ≡ R old)
+      × (E new ≡ with_entry (E old) (OfSlot a.section a.answer)) × (0 < sum counts + m) × (L new ≡ one_less (L old)) × (R new ≡ R old)
 
   -- the section as it is said of the pool
   gave : (a : Asked) → q ≡ settled (released k (puts_from 0 puts p)) → Noted puts k a → section p a.section ≡ (a.answer, q)
@@ -213,7 +213,7 @@ pub set_ready : (p q : Pool) (n : ℕ) → q ≡ set_nr n p → IsReady p → Is
 set_ready p q n is ready = event_ready p q (Nr n) (Ok (Number (set_nr n p).nr)) (ap (λ (x : Pool). (Ok (Number (set_nr n p).nr), x)) (sym is)) ready
 
 -- where no entries are kept
-pub unnoted : (o : Option (List PoolEntry)) (e : PoolEntry) → is_some o ≡ false → o ≡ added o e
+pub unnoted : (o : Option (List PoolEntry)) (e : PoolEntry) → is_some o ≡ false → o ≡ with_entry o e
 unnoted None e unkept = refl
 unnoted (Some es) e unkept = cc
 

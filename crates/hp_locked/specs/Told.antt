@@ -9,7 +9,7 @@ use Rattle.hp_model.specs.declared.event.PoolEvent.{PoolEvent}
 use Rattle.hp_model.specs.declared.refusal.Refusal.TheVariants.{OutOfRange}
 use Rattle.hp_model.specs.machine.Plan.{Reply}
 use Rattle.hp_model.specs.pool.Resize.{pool_event}
-use Rattle.hp_trail.specs.Keeping.{added}
+use Rattle.hp_trail.specs.Keeping.{with_entry}
 use Rattle.hp_locked.specs.declared.pool_told.PoolTold.{PoolTold}
 use Rattle.hp_locked.specs.declared.pool_told.PoolTold.TheVariants.{Done, TooMuch, Number, Numbers, PerNode}
 use Rattle.hp_locked.specs.Views.{CoreView, IsPlace}
@@ -30,4 +30,4 @@ IsReceipt entries part e reply (Some r) =
 -- an event of the pool changed its numbers, with this reply, and added its entry
 pub record IsPoolEventDone (old new : CoreView) (e : PoolEvent) (reply : Reply) : Type 0 where
   pub changes : pool_event old.pool e ≡ (reply, new.pool)
-  pub entries : new.entries ≡ added old.entries (OfPool e reply)
+  pub entries : new.entries ≡ with_entry old.entries (OfPool e reply)

@@ -16,7 +16,7 @@ use Rattle.hp_model.specs.threads.Closing.{to_return}
 use Rattle.hp_model.specs.threads.PoolRun.{IsPoolRun}
 use Rattle.hp_mount_door.specs.Door.{IsReady}
 use Rattle.hp_subpool.specs.Subpool.{Subpool, rise, with_reserves}
-use Rattle.hp_trail.specs.Keeping.{added}
+use Rattle.hp_trail.specs.Keeping.{with_entry}
 
 -- the frames of each node that a machine has: of its four names of nodes those with some
 abbrev pub frames_list : (ℕ → ℕ) → List ℕ
@@ -56,7 +56,7 @@ IsPlace (Some es) n = n ≡ length es
 -- a section added its entry, changed the numbers by it, and gave its answer and its place
 pub record IsSection (old new : CoreView) (asked : Asked) : Type 0 where
   pub changes : section old.pool asked.section ≡ (asked.answer, new.pool)
-  pub entries : new.entries ≡ added old.entries (OfSlot asked.section asked.answer)
+  pub entries : new.entries ≡ with_entry old.entries (OfSlot asked.section asked.answer)
   pub place : IsPlace old.entries asked.place
 
 -- reservations that the minimum covers: no section

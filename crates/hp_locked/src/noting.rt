@@ -3,7 +3,7 @@ ghost use Rattle.std.specs.Prelude.{◌≡◌, true, is_some};
 ghost use Rattle.hp_model.specs.declared.entry.Part.TheVariants.{Pool as AtPool};
 ghost use Rattle.hp_model.specs.declared.entry.PoolEntry.TheVariants.{OfPool, OfSlot};
 ghost use Rattle.hp_model.specs.declared.event.Event.TheVariants.{Pool as OnPool};
-ghost use Rattle.hp_trail.specs.Keeping.{added, has_room, one_less};
+ghost use Rattle.hp_trail.specs.Keeping.{has_room, one_less, with_entry};
 ghost use Rattle.hp_locked.specs.Told.{IsReceipt, pool_reply};
 ghost use Rattle.hp_locked.specs.Views.{IsPlace};
 
@@ -20,7 +20,8 @@ pub(crate) fn note<T: Trail<PoolEntry>>(
     answer: PoolAnswer,
 ) -> Asked
     requires { has_room true (T.left trail.old) (T.extra trail.old) ≡ true }
-    ensures entries { T.entries trail.new ≡ added (T.entries trail.old) (OfSlot section answer) }
+    ensures entries { T.entries trail.new
+        ≡ with_entry (T.entries trail.old) (OfSlot section answer) }
     ensures left { T.left trail.new ≡ one_less (T.left trail.old) }
     ensures extra { T.extra trail.new ≡ T.extra trail.old }
     ensures place { IsPlace (T.entries trail.old) result.place }
@@ -43,7 +44,7 @@ pub(crate) fn note_event<T: Trail<PoolEntry>>(
     told: PoolTold,
 ) -> Option<Receipt>
     requires { has_room true (T.left trail.old) (T.extra trail.old) ≡ true }
-    ensures entries { T.entries trail.new ≡ added (T.entries trail.old)
+    ensures entries { T.entries trail.new ≡ with_entry (T.entries trail.old)
         (OfPool event (pool_reply told)) }
     ensures left { T.left trail.new ≡ one_less (T.left trail.old) }
     ensures extra { T.extra trail.new ≡ T.extra trail.old }

@@ -16,7 +16,7 @@ ghost use Rattle.hp_mount_door.specs.Filling.{fill_for, with_filled};
 ghost use Rattle.hp_mount_door.specs.Limits.{IsLimitedBy};
 ghost use Rattle.hp_pool.specs.Sums.{idle_pool};
 ghost use Rattle.hp_subpool.specs.Subpool.{committed_of, fall, is_full as ShareIsFull, rise, used};
-ghost use Rattle.hp_trail.specs.Keeping.{added, has_room, one_less};
+ghost use Rattle.hp_trail.specs.Keeping.{has_room, one_less, with_entry};
 ghost use Rattle.hp_locked.specs.Opened.{IsShareOf};
 ghost use Rattle.hp_locked.specs.Told.{IsPoolEventDone, IsReceipt, pool_reply};
 ghost use Rattle.hp_locked.specs.Views.{IsAnswered, IsFresh, IsGiven, IsPlace, IsPoolTrail, IsSection, IsUnasked, frames_list};
@@ -440,7 +440,7 @@ fn given<T: Trail<PoolEntry>>(trail: &mut T, puts: [u64; 4], pages: u64) -> Opti
     requires { 0 < sum puts + pages → has_room true (T.left trail.old) (T.extra trail.old) ≡ true }
     ensures some { IfSome result (λ a. (a.section ≡ GiveBack puts pages) × (a.answer ≡ granted_at 0)
         × IsPlace (T.entries trail.old) a.place
-        × (T.entries trail.new ≡ added (T.entries trail.old) (OfSlot a.section a.answer))
+        × (T.entries trail.new ≡ with_entry (T.entries trail.old) (OfSlot a.section a.answer))
         × (0 < sum puts + pages)
         × (T.left trail.new ≡ one_less (T.left trail.old))
         × (T.extra trail.new ≡ T.extra trail.old)) }

@@ -11,7 +11,7 @@ use Rattle.std.specs.List.{count_by}
 use Rattle.hp_model.specs.declared.place.Place.{Place}
 use Rattle.hp_model.specs.declared.place.Place.TheVariants.{Gone}
 use Rattle.hp_model.specs.files.Mapping.{copy_of, unconsumed}
-use Rattle.hp_mapping.specs.Mapped.{fresh, IsRun}
+use Rattle.hp_mapping.specs.Mapped.{fresh, IsPlaceRun}
 use Rattle.hp_mapping.specs.Chunks.{all_places, slot_of, IsChunked, IsSame}
 use Rattle.hp_mapping.proofs.MarkedPlaces.{forked_at}
 
@@ -80,15 +80,6 @@ module _ (count : ℕ) (homes : List ℕ) (places : List (Place ℕ)) (chunked :
         let index = chunked.apart (at / 64) (k / 64) home own in
         other (omega (arith, same, index))
 
-    -- it is changed
-    pub chunked_set : IsChunked homes (slice_set places slot p)
-    chunked_set = record {
-      blank = λ k less. get_or-set_other places slot k p Gone (λ same. absurd (omega (arith, same, less, own))) ∙ chunked.blank k less;
-      within = λ w. (let fits = chunked.within w in omega (arith, fits, length-set places slot p));
-      apart = chunked.apart;
-      used = length-set places slot p ∙ chunked.used;
-    }
-
     pub set_place : at < count → all_places count homes (slice_set places slot p) ≡ slice_set (all_places count homes places) at p
     set_place less =
         let old = all_places count homes places in
@@ -104,9 +95,6 @@ module _ (count : ℕ) (homes : List ℕ) (places : List (Place ℕ)) (new : Lis
   as_before : all_places count new now ≡ all_places count homes places
   as_before = same_as count homes places (all_places count new now) (long count new now) (λ k below. get_place count new now k below ∙ same k)
 
-  pub touched_within : slot < length now
-  touched_within = (let fits = slot_within count new now chunked at in omega (arith, fits, slot_is))
-
   pub get_touched : (d : Place ℕ) → slice_index_or now slot d ≡ slice_index_or (all_places count homes places) at Gone
   get_touched d = place_is count new now chunked at slot less slot_is d ∙ ap (λ xs. slice_index_or xs at Gone) as_before
 
@@ -114,9 +102,6 @@ module _ (count : ℕ) (homes : List ℕ) (places : List (Place ℕ)) (new : Lis
     pub set_touched : all_places count new (slice_set now slot p) ≡ slice_set (all_places count homes places) at p
     set_touched =
         ap (λ s. all_places count new (slice_set now s p)) slot_is ∙ set_place count new now chunked at p own less ∙ ap (λ xs. slice_set xs at p) as_before
-
-    pub chunked_touched : IsChunked new (slice_set now slot p)
-    chunked_touched = subst (λ s. IsChunked new (slice_set now s p)) (sym slot_is) (chunked_set count new now chunked at p own)
 
 -- ---- all are fresh
 
@@ -254,7 +239,7 @@ module _ (count : ℕ) (homes : List ℕ) (places : List (Place ℕ)) (chunked :
   part_long = (let a = length-take (length run) (drop at (all_places count homes places)) in let b = length-drop at (all_places count homes places) in
       let c = long count homes places in omega (arith, a, b, c, run_long, in_count))
 
-  pub is_run : IsRun at (all_places count homes places) run
+  pub is_run : IsPlaceRun at (all_places count homes places) run
   is_run = record {
     some = omega (arith, run_long, some);
     run_is = same_lists run part (run_long ∙ sym part_long) (λ k d below. (

@@ -5,7 +5,7 @@ use Rattle.std.proofs.lemmas.Bool.{cases_lt}
 use Rattle.std.proofs.lemmas.List.{get_or-set_same, get_or-set_other, get_or-replicate, get_or_past, length-replicate, length-set}
 use Rattle.std.proofs.lemmas.Nat.Bits.{bit_at_ones, bit_at_ones_above, bit_at-zero}
 use Rattle.std.specs.Int.{bit_at}
-use Rattle.hp_mapping.specs.Marks.{mark_at, IsBlankFrom, IsSummed}
+use Rattle.hp_mapping.specs.Marks.{mark_at, IsUnmarkedFrom, IsSummed}
 use Rattle.hp_mapping.proofs.MarkedWords.{mark_in, some_bit}
 
 -- words full of marks, but for the last
@@ -34,7 +34,7 @@ module _ (count last : ℕ) (full : List ℕ) (full_is : full ≡ replicate (cou
             ap (λ w. bit_at (slice_index words w) (k % 64)) same ∙ ap (λ n. bit_at n (k % 64)) at_last ∙ bit_at_ones (count % 64) (k % 64) (omega arith)
       ]
 
-  pub all_blank : IsBlankFrom count words
+  pub all_blank : IsUnmarkedFrom count words
   all_blank k from =
       elim (cases_lt (count / 64) (k / 64)) as (λ _. mark_at words k ≡ 0) [
         | inl more ↦ ap (λ n. bit_at n (k % 64)) (past (k / 64) more) ∙ bit_at-zero (k % 64)
@@ -56,7 +56,7 @@ module _ (count last : ℕ) (full : List ℕ) (full_is : full ≡ replicate (cou
 -- a mark above for each word that has one
 pub summed_all : (count d : ℕ) (words above : List ℕ) → d ≡ count / 64 + min 1 (count % 64)
     → ((k : ℕ) → k < count → mark_at words k ≡ 1) → ((w : ℕ) → count ≤ 64 * w → slice_index words w ≡ 0) → length words ≡ count / 64 + 1
-    → ((k : ℕ) → k < d → mark_at above k ≡ 1) → IsBlankFrom d above → length above ≡ d / 64 + 1
+    → ((k : ℕ) → k < d → mark_at above k ≡ 1) → IsUnmarkedFrom d above → length above ≡ d / 64 + 1
     → IsSummed words above
 summed_all count d words above d_is marked zeros len marked_above blank_above len_above = record {
   zero_word = λ w none.

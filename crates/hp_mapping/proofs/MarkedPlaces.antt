@@ -11,7 +11,7 @@ use Rattle.hp_model.specs.declared.place.Place.{Place}
 use Rattle.hp_model.specs.declared.place.Place.TheVariants.{Gone, Live}
 use Rattle.hp_model.specs.files.Mapping.{copy_of, is_live, unconsumed, without_copy}
 use Rattle.hp_mapping.specs.Mapped.{has_copy, with_copy}
-use Rattle.hp_mapping.specs.Marks.{mark_at, one_if, AreCounted, ChangesMark, IsPlaced, IsBlankFrom, IsLowest}
+use Rattle.hp_mapping.specs.Marks.{mark_at, one_if, AreCopiesCounted, ChangesMark, ArePlacesMarked, IsUnmarkedFrom, IsLowest}
 
 unmarked : (b : Bool) → one_if b ≡ 0 → b ≡ false
 unmarked true e = absurd (omega arith)
@@ -45,8 +45,8 @@ new_test test places old new at mark p within is changes fits k =
       | inr other ↦ changes.others k other ∙ is k ∙ ap (λ q. one_if (test q)) (sym (get_or-set_other places at k p Gone other))
     ]
 
-pub placed_same : (places : List (Place ℕ)) (live copies : List ℕ) (at : ℕ) (p : Place ℕ) → IsPlaced places live copies → at < length places
-    → is_live p ≡ is_live (slice_index_or places at Gone) → has_copy p ≡ has_copy (slice_index_or places at Gone) → IsPlaced (slice_set places at p) live copies
+pub placed_same : (places : List (Place ℕ)) (live copies : List ℕ) (at : ℕ) (p : Place ℕ) → ArePlacesMarked places live copies → at < length places
+    → is_live p ≡ is_live (slice_index_or places at Gone) → has_copy p ≡ has_copy (slice_index_or places at Gone) → ArePlacesMarked (slice_set places at p) live copies
 placed_same places live copies at p s within same_live same_copy = record {
   live_is = same_test is_live places live at p within s.live_is same_live;
   copies_is = same_test has_copy places copies at p within s.copies_is same_copy;
@@ -54,8 +54,8 @@ placed_same places live copies at p s within same_live same_copy = record {
   copies_room = omega (arith, length-set places at p, s.copies_room);
 }
 
-pub placed_copy : (places : List (Place ℕ)) (live copies new : List ℕ) (at mark : ℕ) (p : Place ℕ) → IsPlaced places live copies → at < length places
-    → is_live p ≡ is_live (slice_index_or places at Gone) → ChangesMark at mark copies new → mark ≡ one_if (has_copy p) → IsPlaced (slice_set places at p) live new
+pub placed_copy : (places : List (Place ℕ)) (live copies new : List ℕ) (at mark : ℕ) (p : Place ℕ) → ArePlacesMarked places live copies → at < length places
+    → is_live p ≡ is_live (slice_index_or places at Gone) → ChangesMark at mark copies new → mark ≡ one_if (has_copy p) → ArePlacesMarked (slice_set places at p) live new
 placed_copy places live copies new at mark p s within same changes fits = record {
   live_is = same_test is_live places live at p within s.live_is same;
   copies_is = new_test has_copy places copies new at mark p within s.copies_is changes fits;
@@ -63,8 +63,8 @@ placed_copy places live copies new at mark p s within same changes fits = record
   copies_room = omega (arith, length-set places at p, s.copies_room, changes.len);
 }
 
-pub placed_live : (places : List (Place ℕ)) (live copies new : List ℕ) (at mark : ℕ) (p : Place ℕ) → IsPlaced places live copies → at < length places
-    → has_copy p ≡ has_copy (slice_index_or places at Gone) → ChangesMark at mark live new → mark ≡ one_if (is_live p) → IsPlaced (slice_set places at p) new copies
+pub placed_live : (places : List (Place ℕ)) (live copies new : List ℕ) (at mark : ℕ) (p : Place ℕ) → ArePlacesMarked places live copies → at < length places
+    → has_copy p ≡ has_copy (slice_index_or places at Gone) → ChangesMark at mark live new → mark ≡ one_if (is_live p) → ArePlacesMarked (slice_set places at p) new copies
 placed_live places live copies new at mark p s within same changes fits = record {
   live_is = new_test is_live places live new at mark p within s.live_is changes fits;
   copies_is = same_test has_copy places copies at p within s.copies_is same;
@@ -86,16 +86,16 @@ live_within (p ∷ places) zero live = omega arith
 live_within (p ∷ places) (suc at) live = let rest = live_within places at live in omega arith
 
 -- a live place got a copy
-pub placed_copied : (places : List (Place ℕ)) (live copies new : List ℕ) (at page : ℕ) → IsPlaced places live copies
-    → is_live (slice_index_or places at Gone) ≡ true → ChangesMark at 1 copies new → IsPlaced (slice_set places at (with_copy page (slice_index_or places at Gone))) live new
+pub placed_copied : (places : List (Place ℕ)) (live copies new : List ℕ) (at page : ℕ) → ArePlacesMarked places live copies
+    → is_live (slice_index_or places at Gone) ≡ true → ChangesMark at 1 copies new → ArePlacesMarked (slice_set places at (with_copy page (slice_index_or places at Gone))) live new
 placed_copied places live copies new at page s here changes =
     placed_copy places live copies new at 1 (with_copy page (slice_index_or places at Gone)) s (live_within places at here)
     (copy_live page (slice_index_or places at Gone)) changes (copy_some page (slice_index_or places at Gone) here)
 
 -- ---- all places
 
-pub placed_fresh : (n : ℕ) (live copies : List ℕ) → ((k : ℕ) → k < n → mark_at live k ≡ 1) → IsBlankFrom n live → IsBlankFrom 0 copies → n ≤ 64 * length live → n ≤ 64 * length copies
-    → IsPlaced (replicate n (Live false None)) live copies
+pub placed_fresh : (n : ℕ) (live copies : List ℕ) → ((k : ℕ) → k < n → mark_at live k ≡ 1) → IsUnmarkedFrom n live → IsUnmarkedFrom 0 copies → n ≤ 64 * length live → n ≤ 64 * length copies
+    → ArePlacesMarked (replicate n (Live false None)) live copies
 placed_fresh n live copies marked rest blank live_room copies_room =
     let fresh : Place ℕ = Live false None in
     let all : List (Place ℕ) = replicate n fresh in
@@ -127,7 +127,7 @@ forked_at [] k = refl
 forked_at (p ∷ places) zero = refl
 forked_at (p ∷ places) (suc k) = forked_at places k
 
-pub placed_forked : (places : List (Place ℕ)) (live copies : List ℕ) → IsPlaced places live copies → IsPlaced (map unconsumed places) live copies
+pub placed_forked : (places : List (Place ℕ)) (live copies : List ℕ) → ArePlacesMarked places live copies → ArePlacesMarked (map unconsumed places) live copies
 placed_forked places live copies s = record {
   live_is = λ k. s.live_is k ∙ ap one_if (sym (live_forked (slice_index_or places k Gone)) ∙ ap is_live (sym (forked_at places k)));
   copies_is = λ k. s.copies_is k ∙ ap one_if (sym (copy_forked (slice_index_or places k Gone)) ∙ ap has_copy (sym (forked_at places k)));
@@ -145,8 +145,8 @@ any_none [] none = refl
 any_none (p ∷ places) none = rw (none 0) (any_none places (λ k. none (suc k)))
 
 -- whether a live place is left is whether a mark is
-pub some_live : (found : Option ℕ) (places : List (Place ℕ)) (live copies : List ℕ) → IsPlaced places live copies
-    → IfSome found (λ at. IsLowest 0 at live) → IfNone found (IsBlankFrom 0 live) → is_some found ≡ list_any is_live places
+pub some_live : (found : Option ℕ) (places : List (Place ℕ)) (live copies : List ℕ) → ArePlacesMarked places live copies
+    → IfSome found (λ at. IsLowest 0 at live) → IfNone found (IsUnmarkedFrom 0 live) → is_some found ≡ list_any is_live places
 some_live None places live copies s some none = sym (any_none places (λ k. unmarked (is_live (slice_index_or places k Gone)) (sym (s.live_is k) ∙ none k (omega arith))))
 some_live (Some at) places live copies s some none = sym (any_at places at (marked (is_live (slice_index_or places at Gone)) (sym (s.live_is at) ∙ some.marked)))
 
@@ -180,11 +180,11 @@ count_forked (p ∷ places) =
 
 -- ---- places with their marks and their count
 
-pub counted_fresh : (n : ℕ) (live copies : List ℕ) → ((k : ℕ) → k < n → mark_at live k ≡ 1) → IsBlankFrom n live → IsBlankFrom 0 copies → n ≤ 64 * length live → n ≤ 64 * length copies
-    → AreCounted 0 (replicate n (Live false None)) live copies
+pub counted_fresh : (n : ℕ) (live copies : List ℕ) → ((k : ℕ) → k < n → mark_at live k ≡ 1) → IsUnmarkedFrom n live → IsUnmarkedFrom 0 copies → n ≤ 64 * length live → n ≤ 64 * length copies
+    → AreCopiesCounted 0 (replicate n (Live false None)) live copies
 counted_fresh n live copies marked rest blank live_room copies_room = record { placed = placed_fresh n live copies marked rest blank live_room copies_room; count_is = sym (count_fresh n) }
 
-pub counted_forked : (count : ℕ) (places : List (Place ℕ)) (live copies : List ℕ) → AreCounted count places live copies → AreCounted count (map unconsumed places) live copies
+pub counted_forked : (count : ℕ) (places : List (Place ℕ)) (live copies : List ℕ) → AreCopiesCounted count places live copies → AreCopiesCounted count (map unconsumed places) live copies
 counted_forked count places live copies s = record { placed = placed_forked places live copies s.placed; count_is = s.count_is ∙ sym (count_forked places) }
 
 copy_none : (p : Place ℕ) → copy_of p ≡ None → has_copy p ≡ false
@@ -195,9 +195,9 @@ one_at_most true = omega arith
 one_at_most false = omega arith
 
 -- a place got a copy: it was bare, or it had another
-pub counted_copied : (count more : ℕ) (places : List (Place ℕ)) (live copies new : List ℕ) (at page : ℕ) (bare : Bool) → AreCounted count places live copies
+pub counted_copied : (count more : ℕ) (places : List (Place ℕ)) (live copies new : List ℕ) (at page : ℕ) (bare : Bool) → AreCopiesCounted count places live copies
     → is_live (slice_index_or places at Gone) ≡ true → ChangesMark at 1 copies new → more ≡ bool_byte bare → bare ≡ not (has_copy (slice_index_or places at Gone))
-    → AreCounted (count + more) (slice_set places at (with_copy page (slice_index_or places at Gone))) live new
+    → AreCopiesCounted (count + more) (slice_set places at (with_copy page (slice_index_or places at Gone))) live new
 counted_copied count more places live copies new at page bare s here changes more_is bare_is = record {
   placed = placed_copied places live copies new at page s.placed here changes;
   count_is = by (has_copy (slice_index_or places at Gone)) refl (more_is ∙ ap bool_byte bare_is);
@@ -218,8 +218,9 @@ counted_copied count more places live copies new at page bare s here changes mor
         omega (arith, none, step, s.count_is))
 
 -- a copy went
-pub counted_bare : (count : ℕ) (places : List (Place ℕ)) (live copies new : List ℕ) (at : ℕ) → AreCounted count places live copies
-    → is_some (copy_of (slice_index_or places at Gone)) ≡ true → ChangesMark at 0 copies new → AreCounted (count - 1) (slice_set places at (without_copy (slice_index_or places at Gone))) live new
+pub counted_bare : (count : ℕ) (places : List (Place ℕ)) (live copies new : List ℕ) (at : ℕ) → AreCopiesCounted count places live copies
+    → is_some (copy_of (slice_index_or places at Gone)) ≡ true → ChangesMark at 0 copies new
+    → AreCopiesCounted (count - 1) (slice_set places at (without_copy (slice_index_or places at Gone))) live new
 counted_bare count places live copies new at s here changes =
     let within = live_within places at (copied_live (slice_index_or places at Gone) here) in
     let step = count_less places at (without_copy (slice_index_or places at Gone)) within (bare_copy (slice_index_or places at Gone)) here in
@@ -242,8 +243,8 @@ counted_bare count places live copies new at s here changes =
     bare_live (Live was copy) = refl
 
 -- a place without a copy left
-pub counted_left : (count : ℕ) (places : List (Place ℕ)) (live copies new : List ℕ) (at : ℕ) → AreCounted count places live copies
-    → is_live (slice_index_or places at Gone) ≡ true → copy_of (slice_index_or places at Gone) ≡ None → ChangesMark at 0 live new → AreCounted count (slice_set places at Gone) new copies
+pub counted_left : (count : ℕ) (places : List (Place ℕ)) (live copies new : List ℕ) (at : ℕ) → AreCopiesCounted count places live copies
+    → is_live (slice_index_or places at Gone) ≡ true → copy_of (slice_index_or places at Gone) ≡ None → ChangesMark at 0 live new → AreCopiesCounted count (slice_set places at Gone) new copies
 counted_left count places live copies new at s here clear changes =
     let within = live_within places at here in
     let none = sym (copy_none (slice_index_or places at Gone) clear) in

@@ -6,7 +6,7 @@ use Rattle.std.proofs.lemmas.Nat.{pow-add}
 use Rattle.std.proofs.lemmas.Nat.Bits.{bit_at-zero, bit_at_above, bit_at_ones_above, bit_at-trailing_zeros, bit_at-lt}
 use Rattle.std.proofs.Math.Nat.{div-div-eq-div-mul, div-le_self}
 use Rattle.std.specs.Int.{bit_at, trailing_zeros}
-use Rattle.hp_mapping.specs.Marks.{mark_at, IsBlank, IsBlankFrom, IsLowest, IsSummed, KeepsWords}
+use Rattle.hp_mapping.specs.Marks.{mark_at, IsUnmarked, IsUnmarkedFrom, IsLowest, IsSummed, KeepsWords}
 
 -- ---- the bits of a word from a on
 
@@ -71,7 +71,7 @@ mark_in_word word k small =
     ap (λ w. bit_at (slice_index (word ∷ []) w) (k % 64)) q ∙ ap (bit_at word) r
 
 -- a word with the bits below one
-pub ones_blank : (bit : ℕ) → IsBlankFrom bit ((2 ^ bit - 1) ∷ [])
+pub ones_blank : (bit : ℕ) → IsUnmarkedFrom bit ((2 ^ bit - 1) ∷ [])
 ones_blank bit k from =
     elim (cases_lt k 64) as (λ _. mark_at ((2 ^ bit - 1) ∷ []) k ≡ 0) [
       | inl small ↦ mark_in_word (2 ^ bit - 1) k small ∙ bit_at_ones_above bit k from
@@ -104,23 +104,8 @@ lowest_read words w some small few =
     let bits = bit_at-trailing_zeros w64 (slice_index words w) some small in
     (omega (arith, bits.0), lowest_of_word words w some small)
 
--- no mark up to a word, nor in the word
-pub blank_more : (words : List ℕ) (a w : ℕ) → IsBlank a (64 * w) words → slice_index words w ≡ 0 → IsBlank a (64 * (w + 1)) words
-blank_more words a w blank e k from below =
-    elim (cases_lt k (64 * w)) as (λ _. mark_at words k ≡ 0) [
-      | inl less ↦ blank k from less
-      | inr here ↦ let q : k / 64 ≡ w = omega arith in zero_mark words k (ap (slice_index words) q ∙ e)
-    ]
-
-pub blank_all : (words : List ℕ) (a w : ℕ) → IsBlank a (64 * w) words → length words ≤ w → IsBlankFrom a words
-blank_all words a w blank past k from =
-    elim (cases_lt k (64 * w)) as (λ _. mark_at words k ≡ 0) [
-      | inl less ↦ blank k from less
-      | inr here ↦ past_mark words k (omega arith)
-    ]
-
 -- the lowest mark after words without one
-pub lowest_after : (words : List ℕ) (a w at : ℕ) → a ≤ 64 * w → IsBlank a (64 * w) words → IsLowest (64 * w) at words → IsLowest a at words
+pub lowest_after : (words : List ℕ) (a w at : ℕ) → a ≤ 64 * w → IsUnmarked a (64 * w) words → IsLowest (64 * w) at words → IsLowest a at words
 lowest_after words a w at le blank l = record {
   from = omega (arith, l.from);
   marked = l.marked;
@@ -134,18 +119,11 @@ lowest_after words a w at le blank l = record {
 -- ---- the marks of words
 
 -- words without a mark of their own have none
-pub blank_words : (words above : List ℕ) (a v w : ℕ) → IsSummed words above → IsBlank a (64 * v) words → IsBlank v w above → IsBlank a (64 * w) words
+pub blank_words : (words above : List ℕ) (a v w : ℕ) → IsSummed words above → IsUnmarked a (64 * v) words → IsUnmarked v w above → IsUnmarked a (64 * w) words
 blank_words words above a v w s first between k from below =
     elim (cases_lt k (64 * v)) as (λ _. mark_at words k ≡ 0) [
       | inl less ↦ first k from less
       | inr past ↦ zero_mark words k (s.zero_word (k / 64) (between (k / 64) (omega arith) (omega arith)))
-    ]
-
-pub blank_words_from : (words above : List ℕ) (a v : ℕ) → IsSummed words above → IsBlank a (64 * v) words → IsBlankFrom v above → IsBlankFrom a words
-blank_words_from words above a v s first rest k from =
-    elim (cases_lt k (64 * v)) as (λ _. mark_at words k ≡ 0) [
-      | inl less ↦ first k from less
-      | inr past ↦ zero_mark words k (s.zero_word (k / 64) (rest (k / 64) (omega arith)))
     ]
 
 -- one word changed, and it has a mark still
@@ -164,7 +142,3 @@ summed_kept old new above w s keeps len some fewer = record {
       ];
   room = omega (arith, s.room);
 }
-
--- a mark is 0 or 1
-pub mark_small : (words : List ℕ) (k : ℕ) → mark_at words k < 2
-mark_small words k = bit_at-lt (slice_index words (k / 64)) (k % 64)

@@ -22,8 +22,8 @@ pub record IsChunked (homes : List ℕ) (places : List (Place ℕ)) : Type 0 whe
   pub used : length places ≡ 64 + 64 * count_by (λ home. nat_lt 0 home) homes
 
 -- there is room for a chunk of each
-abbrev pub HasRoom : List ℕ → Vec (Place ℕ) → Type 0
-HasRoom homes places = 64 + 64 * length homes ≤ vec_capacity places
+abbrev pub HasChunkRoom : List ℕ → Vec (Place ℕ) → Type 0
+HasChunkRoom homes places = 64 + 64 * length homes ≤ vec_capacity places
 
 -- each place is as it was
 abbrev pub IsSame : List ℕ → List (Place ℕ) → List ℕ → List (Place ℕ) → Type 0

@@ -16,7 +16,7 @@ abbrev pub with_fresh : ℕ → List (Place ℕ) → List (Place ℕ)
 with_fresh count first = first ++ replicate (count - length first) fresh
 
 -- some of the places, from one on
-pub record IsRun (at : ℕ) (places run : List (Place ℕ)) : Type 0 where
+pub record IsPlaceRun (at : ℕ) (places run : List (Place ℕ)) : Type 0 where
   pub some : 0 < length run
   pub run_is : run ≡ take (length run) (drop at places)
 
@@ -43,8 +43,8 @@ abbrev pub IsClear : ℕ → ℕ → Mapping ℕ → Type 0
 IsClear a b m = (k : ℕ) → a ≤ k → k < b → copy_of (place_at m k) ≡ None
 
 -- the reservations of all places, if the map owns them
-abbrev pub reserves_of : Bool → List (Place ℕ) → ℕ
-reserves_of owner places = if owner then count_by is_unconsumed places else 0
+abbrev pub owned_reserves : Bool → List (Place ℕ) → ℕ
+owned_reserves owner places = if owner then count_by is_unconsumed places else 0
 
 -- the reservations from a up to b
 abbrev pub reserves_in : ℕ → ℕ → Mapping ℕ → ℕ
@@ -69,5 +69,5 @@ at_index f at places = slice_set places at (f (slice_index_or places at Gone))
 abbrev pub HasNoCopy : ℕ → ℕ → List (Place ℕ) → Type 0
 HasNoCopy a b places = (k : ℕ) → a ≤ k → k < b → copy_of (slice_index_or places k Gone) ≡ None
 
-abbrev pub IsGone : ℕ → ℕ → List (Place ℕ) → Type 0
-IsGone a b places = (k : ℕ) → a ≤ k → k < b → slice_index_or places k Gone ≡ Gone
+abbrev pub AreGone : ℕ → ℕ → List (Place ℕ) → Type 0
+AreGone a b places = (k : ℕ) → a ≤ k → k < b → slice_index_or places k Gone ≡ Gone

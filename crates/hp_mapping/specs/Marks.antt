@@ -12,17 +12,17 @@ abbrev pub mark_at : List ℕ → ℕ → ℕ
 mark_at words k = bit_at (slice_index words (k / 64)) (k % 64)
 
 -- no mark from a up to b
-abbrev pub IsBlank : ℕ → ℕ → List ℕ → Type 0
-IsBlank a b words = (k : ℕ) → a ≤ k → k < b → mark_at words k ≡ 0
+abbrev pub IsUnmarked : ℕ → ℕ → List ℕ → Type 0
+IsUnmarked a b words = (k : ℕ) → a ≤ k → k < b → mark_at words k ≡ 0
 
-abbrev pub IsBlankFrom : ℕ → List ℕ → Type 0
-IsBlankFrom a words = (k : ℕ) → a ≤ k → mark_at words k ≡ 0
+abbrev pub IsUnmarkedFrom : ℕ → List ℕ → Type 0
+IsUnmarkedFrom a words = (k : ℕ) → a ≤ k → mark_at words k ≡ 0
 
 -- the lowest mark from a on
 pub record IsLowest (a at : ℕ) (words : List ℕ) : Type 0 where
   pub from : a ≤ at
   pub marked : mark_at words at ≡ 1
-  pub blank : IsBlank a at words
+  pub blank : IsUnmarked a at words
 
 -- the mark of one number is now this
 pub record ChangesMark (at mark : ℕ) (old new : List ℕ) : Type 0 where
@@ -45,13 +45,13 @@ one_if true = 1
 one_if false = 0
 
 -- the marks say which places are live, and which have a copy
-pub record IsPlaced (places : List (Place ℕ)) (live copies : List ℕ) : Type 0 where
+pub record ArePlacesMarked (places : List (Place ℕ)) (live copies : List ℕ) : Type 0 where
   pub live_is : (k : ℕ) → mark_at live k ≡ one_if (is_live (slice_index_or places k Gone))
   pub copies_is : (k : ℕ) → mark_at copies k ≡ one_if (has_copy (slice_index_or places k Gone))
   pub live_room : length places ≤ 64 * length live
   pub copies_room : length places ≤ 64 * length copies
 
 -- and so many have a copy
-pub record AreCounted (count : ℕ) (places : List (Place ℕ)) (live copies : List ℕ) : Type 0 where
-  pub placed : IsPlaced places live copies
+pub record AreCopiesCounted (count : ℕ) (places : List (Place ℕ)) (live copies : List ℕ) : Type 0 where
+  pub placed : ArePlacesMarked places live copies
   pub count_is : count ≡ count_by has_copy places

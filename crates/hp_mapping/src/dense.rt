@@ -2,7 +2,7 @@
 ghost use Rattle.std.specs.Prelude.{◌≡◌, ◌+◌, ◌-◌, ◌^◌, ◌<◌, ◌≤◌, ◌++◌, length, map, not, replicate, slice_index_or, slice_set, vec_capacity, vec_len, IsTrue, IsSome, IfOk};
 ghost use Rattle.hp_model.specs.declared.place.Place.TheVariants.{Gone};
 ghost use Rattle.hp_model.specs.files.Mapping.{is_live, copy_of, is_unconsumed, without_copy, unconsumed};
-ghost use Rattle.hp_mapping.specs.Mapped.{at_index, consumed, fresh, has_copy, with_copy, with_fresh, IsRun};
+ghost use Rattle.hp_mapping.specs.Mapped.{at_index, consumed, fresh, has_copy, with_copy, with_fresh, IsPlaceRun};
 
 use crate::packed_place::{PackedPlace, all_forked, copy_in};
 use hp_model::page_no::PageNo;
@@ -60,7 +60,7 @@ impl Dense {
     /// The places from one that has a copy up to the last one that was ever touched.
     pub(crate) fn run_from(&self, at: usize) -> &[PackedPlace]
         requires { IsSome (copy_of (slice_index_or self.now at Gone)) }
-        ensures { IsRun at self.now result.now }
+        ensures { IsPlaceRun at self.now result.now }
     {
         &self.touched[at..]
     }

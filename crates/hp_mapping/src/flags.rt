@@ -2,7 +2,7 @@
 ghost use Rattle.std.specs.Prelude.{⊤, ◌≡◌, [], ◌∷◌, true, false, codes};
 ghost use Rattle.std.specs.Int.RustNames.{bit_and, bit_or};
 ghost use Rattle.hp_model.specs.files.Mapping.{is_shared};
-ghost use Rattle.hp_mapping.specs.Flags.{has_owner, has_unmapped, sharing_of};
+ghost use Rattle.hp_mapping.specs.Flags.{has_owner, has_unmapped, sharing_of_bits};
 
 use bitflags::{Flag, Flags, bitflag_items};
 
@@ -44,7 +44,7 @@ impl Flags for MapFlags {
 
 impl MapFlags {
     pub fn is_shared(self) -> bool
-        ensures { result ≡ is_shared (sharing_of self.0) }
+        ensures { result ≡ is_shared (sharing_of_bits self.0) }
     {
         self.contains(MapFlags::SHARED)
     }
@@ -65,7 +65,7 @@ impl MapFlags {
     pub(crate) fn marked(self) -> Self
         ensures unmapped { has_unmapped result.0 ≡ true }
         ensures owner { has_owner result.0 ≡ has_owner self.0 }
-        ensures sharing { sharing_of result.0 ≡ sharing_of self.0 }
+        ensures sharing { sharing_of_bits result.0 ≡ sharing_of_bits self.0 }
     {
         self.union(MapFlags::UNMAPPED)
     }
@@ -74,7 +74,7 @@ impl MapFlags {
     pub(crate) fn without_owner(self) -> Self
         ensures owner { has_owner result.0 ≡ false }
         ensures unmapped { has_unmapped result.0 ≡ has_unmapped self.0 }
-        ensures sharing { sharing_of result.0 ≡ sharing_of self.0 }
+        ensures sharing { sharing_of_bits result.0 ≡ sharing_of_bits self.0 }
     {
         self.difference(MapFlags::OWNER)
     }

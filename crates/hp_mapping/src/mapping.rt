@@ -3,8 +3,8 @@ ghost use Rattle.std.specs.Prelude.{◌≡◌, ℕ, ◌+◌, ◌-◌, ◌<◌, �
 ghost use Rattle.std.specs.List.{count_by};
 ghost use Rattle.hp_model.specs.declared.place.Place.TheVariants.{Gone, Live};
 ghost use Rattle.hp_model.specs.files.Mapping.{place_at, is_live, is_mapped, is_shared, copy_of, without_copy, without_range, map_for};
-ghost use Rattle.hp_mapping.specs.Flags.{has_owner, has_unmapped, sharing_of};
-ghost use Rattle.hp_mapping.specs.Mapped.{at_place, consumed, with_copy, has_copy, has_reserve, IsClear, IsRun, reserves_in, reserves_of, TakesLowest};
+ghost use Rattle.hp_mapping.specs.Flags.{has_owner, has_unmapped, sharing_of_bits};
+ghost use Rattle.hp_mapping.specs.Mapped.{at_place, consumed, with_copy, has_copy, has_reserve, IsClear, IsPlaceRun, reserves_in, owned_reserves, TakesLowest};
 
 use crate::flags::MapFlags;
 use crate::packed_place::PackedPlace;
@@ -32,8 +32,8 @@ pub struct Mapping {
 impl Model for Mapping {
     ghost use Rattle.std.specs.Prelude.{ℕ, length, ◌≡◌, ◌+◌, ◌<◌, ◌^◌};
     ghost use Rattle.hp_model.specs.files.Mapping.{Mapping};
-    ghost use Rattle.hp_mapping.specs.Flags.{has_owner, has_unmapped, sharing_of};
-    ghost use Rattle.hp_mapping.specs.Mapped.{reserves_of};
+    ghost use Rattle.hp_mapping.specs.Flags.{has_owner, has_unmapped, sharing_of_bits};
+    ghost use Rattle.hp_mapping.specs.Mapped.{owned_reserves};
 
     ghost Value = { Mapping ℕ };
 
@@ -41,14 +41,14 @@ impl Model for Mapping {
       task = m.task;
       number = m.number;
       start = m.start;
-      sharing = sharing_of m.flags.0;
+      sharing = sharing_of_bits m.flags.0;
       owner = has_owner m.flags.0;
       unmapped = has_unmapped m.flags.0;
       places = m.places;
     } };
 
     ghost invariant = { λ m. m.start + length m.places < 2 ^ 64
-        × m.reserves ≡ reserves_of (has_owner m.flags.0) m.places };
+        × m.reserves ≡ owned_reserves (has_owner m.flags.0) m.places };
 }
 
 impl Mapping {
@@ -68,7 +68,7 @@ impl Mapping {
           task = task;
           number = number;
           start = a;
-          sharing = sharing_of flags.0;
+          sharing = sharing_of_bits flags.0;
           owner = has_owner flags.0;
           unmapped = has_unmapped flags.0;
           places = replicate (b - a) (Live false None);
@@ -141,7 +141,7 @@ impl Mapping {
     /// ever touched, of a large one the rest of its chunk. They go no step beyond the range.
     pub fn run_from(&self, i: u64) -> &[PackedPlace]
         requires { IsSome (copy_of (place_at self.now i)) }
-        ensures { IsRun (i - self.now.start) self.now.places result.now }
+        ensures { IsPlaceRun (i - self.now.start) self.now.places result.now }
     {
         self.places.run_from((i - self.start) as usize)
     }
@@ -155,7 +155,7 @@ impl Mapping {
 
     /// How many reservations the map holds itself. No place is walked.
     pub fn reserve_count(&self) -> u64
-        ensures { result ≡ reserves_of self.now.owner self.now.places }
+        ensures { result ≡ owned_reserves self.now.owner self.now.places }
     {
         self.reserves
     }

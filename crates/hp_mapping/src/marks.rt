@@ -1,6 +1,6 @@
 //! The marks of a map, few or many.
 ghost use Rattle.std.specs.Prelude.{◌≡◌, ℕ, ◌*◌, ◌<◌, ◌≤◌, length, IfOk, IfSome, IfNone};
-ghost use Rattle.hp_mapping.specs.Marks.{mark_at, IsBlankFrom, IsLowest, ChangesMark};
+ghost use Rattle.hp_mapping.specs.Marks.{mark_at, IsUnmarkedFrom, IsLowest, ChangesMark};
 
 use crate::summed::Summed;
 use crate::word::Word;
@@ -34,7 +34,7 @@ impl Model for Marks {
 impl Marks {
     /// For the numbers below `count`, with no mark.
     pub(crate) fn new(alloc: Global, count: usize) -> Result<Self, AllocError>
-        ensures blank { IfOk result (λ m. IsBlankFrom 0 m) }
+        ensures blank { IfOk result (λ m. IsUnmarkedFrom 0 m) }
         ensures room { IfOk result (λ m. count ≤ 64 * length m) }
     {
         let form = if count < MANY {
@@ -48,7 +48,7 @@ impl Marks {
     /// Marks of all numbers below `count`.
     pub(crate) fn all(alloc: Global, count: usize) -> Result<Self, AllocError>
         ensures marked { IfOk result (λ m. (k : ℕ) → k < count → mark_at m k ≡ 1) }
-        ensures blank { IfOk result (λ m. IsBlankFrom count m) }
+        ensures blank { IfOk result (λ m. IsUnmarkedFrom count m) }
         ensures room { IfOk result (λ m. count ≤ 64 * length m) }
     {
         let form = if count < MANY {
@@ -93,7 +93,7 @@ impl Marks {
     /// The lowest mark from `from` on.
     pub(crate) fn next(&self, from: usize) -> Option<usize>
         ensures some { IfSome result (λ at. IsLowest from at self.now) }
-        ensures none { IfNone result (IsBlankFrom from self.now) }
+        ensures none { IfNone result (IsUnmarkedFrom from self.now) }
     {
         match &self.form {
             Form::Few(word) => word.next(from),

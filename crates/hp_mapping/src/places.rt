@@ -4,7 +4,7 @@ ghost use Rattle.std.specs.List.{count_by, list_any};
 ghost use Rattle.hp_model.specs.declared.place.Place.TheVariants.{Gone, Live};
 ghost use Rattle.hp_model.specs.Lists.{edit_range, part};
 ghost use Rattle.hp_model.specs.files.Mapping.{is_live, copy_of, is_unconsumed, without_copy, unconsumed};
-ghost use Rattle.hp_mapping.specs.Mapped.{at_index, consumed, has_copy, with_copy, HasNoCopy, IsGone, IsRun};
+ghost use Rattle.hp_mapping.specs.Mapped.{at_index, consumed, has_copy, with_copy, HasNoCopy, AreGone, IsPlaceRun};
 
 use crate::marks::Marks;
 use crate::packed_place::PackedPlace;
@@ -26,13 +26,13 @@ pub(crate) struct Places {
 impl Model for Places {
     ghost use Rattle.std.specs.Prelude.{ℕ, List};
     ghost use Rattle.hp_model.specs.declared.place.Place.{Place};
-    ghost use Rattle.hp_mapping.specs.Marks.{AreCounted};
+    ghost use Rattle.hp_mapping.specs.Marks.{AreCopiesCounted};
 
     ghost Value = { List (Place ℕ) };
 
     ghost view = { λ p. p.places };
 
-    ghost invariant = { λ p. AreCounted p.copy_count p.places p.live p.copies };
+    ghost invariant = { λ p. AreCopiesCounted p.copy_count p.places p.live p.copies };
 }
 
 impl Places {
@@ -75,7 +75,7 @@ impl Places {
     /// Places that stand one behind another, from one that has a copy on.
     pub(crate) fn run_from(&self, at: usize) -> &[PackedPlace]
         requires { IsSome (copy_of (slice_index_or self.now at Gone)) }
-        ensures { IsRun at self.now result.now }
+        ensures { IsPlaceRun at self.now result.now }
     {
         self.places.run_from(at)
     }
@@ -156,8 +156,8 @@ impl Places {
         ensures from { IfSome result (λ at. from ≤ at) }
         ensures below { IfSome result (λ at. at < to) }
         ensures live { IfSome result (λ at. IsTrue (is_live (slice_index_or self.now at Gone))) }
-        ensures gone { IfSome result (λ at. IsGone from at self.now) }
-        ensures none { IfNone result (IsGone from to self.now) }
+        ensures gone { IfSome result (λ at. AreGone from at self.now) }
+        ensures none { IfNone result (AreGone from to self.now) }
     {
         let at = self.live.next(from)?;
         if at < to { Some(at) } else { None }

@@ -2,7 +2,7 @@
 ghost use Rattle.std.specs.Prelude.{◌≡◌, ◌^◌, ◌<◌, length, map, not, replicate, slice_index_or, slice_set, IsSome, IfOk};
 ghost use Rattle.hp_model.specs.declared.place.Place.TheVariants.{Gone};
 ghost use Rattle.hp_model.specs.files.Mapping.{is_live, copy_of, is_unconsumed, without_copy, unconsumed};
-ghost use Rattle.hp_mapping.specs.Mapped.{at_index, consumed, fresh, has_copy, with_copy, IsRun};
+ghost use Rattle.hp_mapping.specs.Mapped.{at_index, consumed, fresh, has_copy, with_copy, IsPlaceRun};
 
 use crate::dense::Dense;
 use crate::packed_place::PackedPlace;
@@ -73,7 +73,7 @@ impl Row {
     /// Places that stand one behind another, from one that has a copy on.
     pub(crate) fn run_from(&self, at: usize) -> &[PackedPlace]
         requires { IsSome (copy_of (slice_index_or self.now at Gone)) }
-        ensures { IsRun at self.now result.now }
+        ensures { IsPlaceRun at self.now result.now }
     {
         match &self.form {
             Form::Dense(dense) => dense.run_from(at),

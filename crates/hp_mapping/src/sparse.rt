@@ -2,8 +2,8 @@
 ghost use Rattle.std.specs.Prelude.{◌≡◌, ℕ, ◌+◌, ◌*◌, ◌/◌, ◌^◌, ◌<◌, ◌≤◌, ◌++◌, length, map, not, replicate, slice_index, slice_index_or, slice_set, vec_capacity, vec_len, IsSome, IfNone, IfOk, IfSome};
 ghost use Rattle.hp_model.specs.declared.place.Place.TheVariants.{Gone};
 ghost use Rattle.hp_model.specs.files.Mapping.{is_live, copy_of, is_unconsumed, without_copy, unconsumed};
-ghost use Rattle.hp_mapping.specs.Mapped.{at_index, consumed, fresh, has_copy, with_copy, IsRun};
-ghost use Rattle.hp_mapping.specs.Chunks.{slot_of, IsChunked, HasRoom, IsSame};
+ghost use Rattle.hp_mapping.specs.Mapped.{at_index, consumed, fresh, has_copy, with_copy, IsPlaceRun};
+ghost use Rattle.hp_mapping.specs.Chunks.{slot_of, IsChunked, HasChunkRoom, IsSame};
 
 use crate::packed_place::{PackedPlace, all_forked, copy_in};
 use hp_model::page_no::PageNo;
@@ -28,14 +28,15 @@ pub(crate) struct Sparse {
 impl Model for Sparse {
     ghost use Rattle.std.specs.Prelude.{ℕ, List, length, ◌*◌, ◌^◌, ◌≤◌};
     ghost use Rattle.hp_model.specs.declared.place.Place.{Place};
-    ghost use Rattle.hp_mapping.specs.Chunks.{all_places, IsChunked, HasRoom};
+    ghost use Rattle.hp_mapping.specs.Chunks.{HasChunkRoom, IsChunked, all_places};
 
     ghost Value = { List (Place ℕ) };
 
     ghost view = { λ r. all_places r.count r.homes.items r.places.items };
 
-    ghost invariant = { λ r. IsChunked r.homes.items r.places.items × HasRoom r.homes.items r.places
-        × (r.count ≤ 64 * length r.homes.items) × (length r.homes.items ≤ 2 ^ 26) };
+    ghost invariant = { λ r. IsChunked r.homes.items r.places.items
+        × HasChunkRoom r.homes.items r.places × (r.count ≤ 64 * length r.homes.items)
+        × (length r.homes.items ≤ 2 ^ 26) };
 }
 
 impl Sparse {
@@ -112,7 +113,7 @@ impl Sparse {
     /// The places of a chunk from one that has a copy on.
     pub(crate) fn run_from(&self, at: usize) -> &[PackedPlace]
         requires { IsSome (copy_of (slice_index_or self.now at Gone)) }
-        ensures { IsRun at self.now result.now }
+        ensures { IsPlaceRun at self.now result.now }
     {
         let slot = slot_of(&self.homes, at);
         let len = (CHUNK - at % CHUNK).min(self.count - at);
@@ -185,12 +186,12 @@ fn push_fresh(places: &mut Vec<PackedPlace>)
 // A chunk comes for the places that have none of their own, which are fresh.
 fn add_chunk(homes: &mut Vec<u32>, places: &mut Vec<PackedPlace>, index: usize)
     requires chunked { IsChunked homes.old.items places.old.items }
-    requires room { HasRoom homes.old.items places.old }
+    requires room { HasChunkRoom homes.old.items places.old }
     requires few { length homes.old.items ≤ 2 ^ 26 }
     requires within { index < length homes.old.items }
     requires none { slice_index homes.old.items index ≡ 0 }
     ensures chunked { IsChunked homes.new.items places.new.items }
-    ensures room { HasRoom homes.new.items places.new }
+    ensures room { HasChunkRoom homes.new.items places.new }
     ensures len { length homes.new.items ≡ length homes.old.items }
     ensures own { 0 < slice_index homes.new.items index }
     ensures same { IsSame homes.old.items places.old.items homes.new.items places.new.items }
@@ -202,11 +203,11 @@ fn add_chunk(homes: &mut Vec<u32>, places: &mut Vec<PackedPlace>, index: usize)
 // The place comes into a chunk of its own. Answers where it stands.
 fn touch(homes: &mut Vec<u32>, places: &mut Vec<PackedPlace>, at: usize) -> usize
     requires chunked { IsChunked homes.old.items places.old.items }
-    requires room { HasRoom homes.old.items places.old }
+    requires room { HasChunkRoom homes.old.items places.old }
     requires few { length homes.old.items ≤ 2 ^ 26 }
     requires within { at / 64 < length homes.old.items }
     ensures chunked { IsChunked homes.new.items places.new.items }
-    ensures room { HasRoom homes.new.items places.new }
+    ensures room { HasChunkRoom homes.new.items places.new }
     ensures len { length homes.new.items ≡ length homes.old.items }
     ensures own { 0 < slice_index homes.new.items (at / 64) }
     ensures same { IsSame homes.old.items places.old.items homes.new.items places.new.items }

@@ -1,6 +1,6 @@
 //! Many marks, which are found without a step for each number that has none.
 ghost use Rattle.std.specs.Prelude.{◌≡◌, ℕ, ◌*◌, ◌<◌, ◌≤◌, length, IfOk, IfSome, IfNone};
-ghost use Rattle.hp_mapping.specs.Marks.{mark_at, IsBlankFrom, IsLowest, ChangesMark};
+ghost use Rattle.hp_mapping.specs.Marks.{mark_at, IsUnmarkedFrom, IsLowest, ChangesMark};
 
 use crate::words::Words;
 use std::alloc::{AllocError, Global};
@@ -28,7 +28,7 @@ impl Model for Summed {
 impl Summed {
     /// For the numbers below `count`, with no mark.
     pub(crate) fn new(alloc: Global, count: usize) -> Result<Self, AllocError>
-        ensures blank { IfOk result (λ m. IsBlankFrom 0 m) }
+        ensures blank { IfOk result (λ m. IsUnmarkedFrom 0 m) }
         ensures room { IfOk result (λ m. count ≤ 64 * length m) }
     {
         let words = Words::new(alloc, count)?;
@@ -39,7 +39,7 @@ impl Summed {
     /// Marks of all numbers below `count`.
     pub(crate) fn all(alloc: Global, count: usize) -> Result<Self, AllocError>
         ensures marked { IfOk result (λ m. (k : ℕ) → k < count → mark_at m k ≡ 1) }
-        ensures blank { IfOk result (λ m. IsBlankFrom count m) }
+        ensures blank { IfOk result (λ m. IsUnmarkedFrom count m) }
         ensures room { IfOk result (λ m. count ≤ 64 * length m) }
     {
         let words = Words::all(alloc, count)?;
@@ -76,7 +76,7 @@ impl Summed {
     /// The lowest mark from `from` on.
     pub(crate) fn next(&self, from: usize) -> Option<usize>
         ensures some { IfSome result (λ at. IsLowest from at self.now) }
-        ensures none { IfNone result (IsBlankFrom from self.now) }
+        ensures none { IfNone result (IsUnmarkedFrom from self.now) }
     {
         if let Some(at) = self.words.next_in_word(from) {
             return Some(at);

@@ -1,6 +1,6 @@
 //! Marks in a word.
 ghost use Rattle.std.specs.Prelude.{◌*◌, ◌<◌, ◌≤◌, ◌≡◌, ℕ, length, IfSome, IfNone};
-ghost use Rattle.hp_mapping.specs.Marks.{mark_at, IsBlankFrom, IsLowest, ChangesMark};
+ghost use Rattle.hp_mapping.specs.Marks.{mark_at, IsUnmarkedFrom, IsLowest, ChangesMark};
 
 use crate::bits::{bits_below, lowest_from, with_bit, without_bit};
 use std::marker::Model;
@@ -24,7 +24,7 @@ impl Word {
     pub(crate) fn all(count: usize) -> Self
         requires { count < 64 }
         ensures marked { (k : ℕ) → k < count → mark_at result k ≡ 1 }
-        ensures blank { IsBlankFrom count result }
+        ensures blank { IsUnmarkedFrom count result }
         ensures room { length result ≡ 1 }
     {
         Word {
@@ -56,7 +56,7 @@ impl Word {
     /// The lowest mark from `from` on.
     pub(crate) fn next(&self, from: usize) -> Option<usize>
         ensures some { IfSome result (λ at. IsLowest from at self.now) }
-        ensures none { IfNone result (IsBlankFrom from self.now) }
+        ensures none { IfNone result (IsUnmarkedFrom from self.now) }
     {
         let bits = self.bits;
         if from < 64 {

@@ -1,6 +1,6 @@
 //! Marks in words.
 ghost use Rattle.std.specs.Prelude.{◌≡◌, ℕ, ◌+◌, ◌*◌, ◌/◌, ◌<◌, ◌≤◌, ◌↔◌, length, replicate, slice_index, slice_set, IsTrue, IfOk, IfSome, IfNone};
-ghost use Rattle.hp_mapping.specs.Marks.{mark_at, IsBlank, IsBlankFrom, IsLowest, ChangesMark, KeepsWords};
+ghost use Rattle.hp_mapping.specs.Marks.{mark_at, IsUnmarked, IsUnmarkedFrom, IsLowest, ChangesMark, KeepsWords};
 
 use crate::bits::{bits_below, lowest_from, with_bit, without_bit};
 use smallvec::SmallVec;
@@ -26,7 +26,7 @@ impl Model for Words {
 impl Words {
     /// Words for the numbers below `count`, with no mark.
     pub(crate) fn new(alloc: Global, count: usize) -> Result<Self, AllocError>
-        ensures blank { IfOk result (λ m. IsBlankFrom 0 m) }
+        ensures blank { IfOk result (λ m. IsUnmarkedFrom 0 m) }
         ensures zero { IfOk result (λ m. (w : ℕ) → slice_index m w ≡ 0) }
         ensures room { IfOk result (λ m. count ≤ 64 * length m) }
     {
@@ -37,7 +37,7 @@ impl Words {
     /// Words for the numbers below `count`, which all have a mark.
     pub(crate) fn all(alloc: Global, count: usize) -> Result<Self, AllocError>
         ensures marked { IfOk result (λ m. (k : ℕ) → k < count → mark_at m k ≡ 1) }
-        ensures blank { IfOk result (λ m. IsBlankFrom count m) }
+        ensures blank { IfOk result (λ m. IsUnmarkedFrom count m) }
         ensures zero { IfOk result (λ m. (w : ℕ) → count ≤ 64 * w → slice_index m w ≡ 0) }
         ensures len { IfOk result (λ m. length m ≡ count / 64 + 1) }
     {
@@ -96,7 +96,7 @@ impl Words {
     /// The lowest mark from `from` on in its word.
     pub(crate) fn next_in_word(&self, from: usize) -> Option<usize>
         ensures some { IfSome result (λ at. IsLowest from at self.now) }
-        ensures none { IfNone result (IsBlank from (64 * (from / 64) + 64) self.now) }
+        ensures none { IfNone result (IsUnmarked from (64 * (from / 64) + 64) self.now) }
     {
         let index = from / 64;
         let word = *self.words.as_slice().get(index)?;
@@ -116,7 +116,7 @@ impl Words {
     /// The lowest mark from `from` on, with a step for each word.
     pub(crate) fn next(&self, from: usize) -> Option<usize>
         ensures some { IfSome result (λ at. IsLowest from at self.now) }
-        ensures none { IfNone result (IsBlankFrom from self.now) }
+        ensures none { IfNone result (IsUnmarkedFrom from self.now) }
     {
         if let Some(at) = self.next_in_word(from) {
             return Some(at);

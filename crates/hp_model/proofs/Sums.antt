@@ -152,16 +152,6 @@ free_le_total (r ∷ rs) h =
     let rest = free_le_total rs (λ k d below. h (suc k) d (omega arith)) in
     omega (arith, here.free_in, rest, sum_by-cons (λ (x : NodeRow). x.free) r rs, sum_by-cons (λ (x : NodeRow). x.total) r rs)
 
--- a node with a page in use makes the sums differ
-pub free_lt_total : (rows : List NodeRow) (i : ℕ) → All IsRow rows → i < length rows → 0 < used (row_at rows i) → free_of rows < total_of rows
-free_lt_total rows i h below some =
-    let r : IsRow (row_at rows i) = h i no_row below in
-    let y = put_row (row_at rows i) in
-    let sound : IsRow y = record { free_in = omega arith; surp_in = r.surp_in; total_in = r.total_in; few = r.few } in
-    let s = sums_at rows i y below in
-    let le = free_le_total (slice_set rows i y) (All-set IsRow rows i y sound h) in
-    omega (arith, s.1, s.2, le)
-
 pub idle_total : (frames : List ℕ) → total_of (map idle_row frames) ≡ 0
 idle_total [] = refl
 idle_total (f ∷ fs) = omega (arith, sum_by-cons (λ (x : NodeRow). x.total) (idle_row f) (map idle_row fs), idle_total fs)

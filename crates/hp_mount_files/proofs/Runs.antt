@@ -4,7 +4,7 @@ use Rattle.std.specs.Prelude.{IsSome}
 use Rattle.std.specs.List.{sum_by}
 use Rattle.std.proofs.lemmas.List.{drop-append-le, drop-drop, get_or-drop, get_or-take, length-drop, length-take, take-append-drop}
 use Rattle.std.proofs.lemmas.List.Sums.{sum_by-append, sum_by-take-drop}
-use Rattle.hp_mapping.specs.Mapped.{IsRun}
+use Rattle.hp_mapping.specs.Mapped.{IsPlaceRun}
 use Rattle.hp_model.specs.declared.place.Place.{Place}
 use Rattle.hp_model.specs.declared.place.Place.TheVariants.{Gone}
 use Rattle.hp_model.specs.files.Mapping.{copy_of}
@@ -13,7 +13,7 @@ use Rattle.hp_mount_files.specs.Forking.{IsShared}
 use Rattle.hp_mount_files.specs.Held.{in_place}
 use Rattle.hp_mount_files.proofs.Sharing.{share_none, share_then}
 
-module _ (at : ℕ) (places run : List (Place ℕ)) (is : IsRun at places run) where
+module _ (at : ℕ) (places run : List (Place ℕ)) (is : IsPlaceRun at places run) where
   -- what stands behind it
   abbrev pub behind : List (Place ℕ)
   behind = drop (length run) (drop at places)

@@ -1,6 +1,6 @@
 //! The map that a task may make next.
 ghost use Rattle.std.specs.Prelude.{◌≡◌, ◌+◌, ◌<◌, ◌≤◌, ◌^◌, ◌&&◌, not, false, IfOk, None};
-ghost use Rattle.hp_mapping.specs.Flags.{has_owner, has_unmapped, sharing_of};
+ghost use Rattle.hp_mapping.specs.Flags.{has_owner, has_unmapped, sharing_of_bits};
 ghost use Rattle.hp_model.specs.declared.step.Sharing.TheVariants.{Private};
 ghost use Rattle.hp_model.specs.files.File.{File, new_file};
 ghost use Rattle.hp_model.specs.files.MakeMap.{reserves};
@@ -51,7 +51,7 @@ impl MapRange {
 
     // A private map with reservations is their owner.
     fn flags(&self) -> MapFlags
-        ensures sharing { sharing_of result.0 ≡ self.now.sharing }
+        ensures sharing { sharing_of_bits result.0 ≡ self.now.sharing }
         ensures owner { has_owner result.0
             ≡ not (is_shared self.now.sharing) && reserves self.now.reserving }
         ensures unmapped { has_unmapped result.0 ≡ false }

@@ -9,16 +9,16 @@ use Rattle.std.proofs.lemmas.List.{drop_more, drop_all, take_more_set, drop-set-
 use Rattle.std.proofs.lemmas.List.Elements.{All-head, All-tail}
 use Rattle.hp_region.specs.declared.spans.Span.{Span}
 use Rattle.hp_model.specs.files.Ranges.{within}
-use Rattle.hp_region.specs.Spans.{holds, IsApart, added, removed, left_piece, left_of, right_of}
+use Rattle.hp_region.specs.Spans.{spans_hold, AreSpansApart, range_added, range_removed, left_piece, left_of, right_of}
 use Rattle.hp_region.proofs.Members.{holds_below}
 use Rattle.hp_region.proofs.Apart.{apart_lower}
 
-ends_above : (low : ℕ) (xs : List Span) (j : ℕ) (d : Span) → IsApart low xs → j < length xs → low < (get_or xs j d).end
+ends_above : (low : ℕ) (xs : List Span) (j : ℕ) (d : Span) → AreSpansApart low xs → j < length xs → low < (get_or xs j d).end
 ends_above low [] j d p lt = absurd (omega (arith, lt))
 ends_above low (s ∷ ss) zero d p lt = omega (arith, p.0, p.1)
 ends_above low (s ∷ ss) (suc j) d p lt = omega (arith, p.0, p.1, ends_above (s.end + 1) ss j d p.2 (omega (arith, lt)))
 
-pub ends_rise : (low : ℕ) (xs : List Span) → IsApart low xs → IsNonDecreasingBy (λ s. s.end) xs
+pub ends_rise : (low : ℕ) (xs : List Span) → AreSpansApart low xs → IsNonDecreasingBy (λ s. s.end) xs
 ends_rise low [] p i j d le lt = absurd (omega (arith, lt))
 ends_rise low (s ∷ ss) p zero zero d le lt = omega arith
 ends_rise low (s ∷ ss) p zero (suc j) d le lt = omega (arith, ends_above (s.end + 1) ss j d p.2 (omega (arith, lt)))
@@ -26,8 +26,8 @@ ends_rise low (s ∷ ss) p (suc i) zero d le lt = absurd (omega (arith, le))
 ends_rise low (s ∷ ss) p (suc i) (suc j) d le lt = ends_rise (s.end + 1) ss p.2 i j d (omega (arith, le)) (omega (arith, lt))
 
 -- the index is in the first interval that ends after it, or in none
-pub holds_at : (low i at : ℕ) (xs : List Span) (d : Span) → IsApart low xs → All (λ s. s.end ≤ i) (take at xs) → All (λ s. i < s.end) (drop at xs) →
-    at < length xs → holds xs i ≡ leb (get_or xs at d).start i
+pub holds_at : (low i at : ℕ) (xs : List Span) (d : Span) → AreSpansApart low xs → All (λ s. s.end ≤ i) (take at xs) → All (λ s. i < s.end) (drop at xs) →
+    at < length xs → spans_hold xs i ≡ leb (get_or xs at d).start i
 holds_at low i at [] d p front back lt = absurd (omega (arith, lt))
 holds_at low i zero (s ∷ ss) d p front back lt =
     let first : i < s.end = All-head (λ s. i < s.end) s ss back in
@@ -37,7 +37,7 @@ holds_at low i (suc at) (s ∷ ss) d p front back lt =
     let outside : within s.start s.end i ≡ false = grind (arith, nat_tests) in
     rw outside (holds_at (s.end + 1) i at ss d p.2 (All-tail (λ s. s.end ≤ i) s (take at ss) front) back (omega (arith, lt)))
 
-pub holds_past : (i at : ℕ) (xs : List Span) → All (λ s. s.end ≤ i) (take at xs) → length xs ≤ at → holds xs i ≡ false
+pub holds_past : (i at : ℕ) (xs : List Span) → All (λ s. s.end ≤ i) (take at xs) → length xs ≤ at → spans_hold xs i ≡ false
 holds_past i at [] front le = refl
 holds_past i zero (s ∷ ss) front le = absurd (omega (arith, le))
 holds_past i (suc at) (s ∷ ss) front le =
@@ -46,7 +46,7 @@ holds_past i (suc at) (s ∷ ss) front le =
     rw outside (holds_past i at ss (All-tail (λ s. s.end ≤ i) s (take at ss) front) (omega (arith, le)))
 
 -- adding: what ends before the range stays
-pub added_front : (low a b n : ℕ) (xs : List Span) → IsApart low xs → All (λ s. s.end ≤ a - 1) (take n xs) → added a b xs ≡ take n xs ++ added a b (drop n xs)
+pub added_front : (low a b n : ℕ) (xs : List Span) → AreSpansApart low xs → All (λ s. s.end ≤ a - 1) (take n xs) → range_added a b xs ≡ take n xs ++ range_added a b (drop n xs)
 added_front low a b zero xs p front = refl
 added_front low a b (suc n) [] p front = refl
 added_front low a b (suc n) (s ∷ ss) p front =
@@ -56,17 +56,17 @@ added_front low a b (suc n) (s ∷ ss) p front =
 
 -- one that touches is joined
 pub added_more : (a b n : ℕ) (xs : List Span) (d : Span) → n < length xs → a ≤ (get_or xs n d).end → (get_or xs n d).start ≤ b →
-    added a b (drop n xs) ≡ added (min a (get_or xs n d).start) (max b (get_or xs n d).end) (drop (n + 1) xs)
+    range_added a b (drop n xs) ≡ range_added (min a (get_or xs n d).start) (max b (get_or xs n d).end) (drop (n + 1) xs)
 added_more a b n xs d lt left right =
     let s = get_or xs n d in
     let not_before : ltb s.end a ≡ false = grind (arith, nat_tests) in
     let not_after : ltb b s.start ≡ false = grind (arith, nat_tests) in
     rw (drop_more xs n d lt, not_before, not_after) refl
 
-pub added_end : (a b n : ℕ) (xs : List Span) → length xs ≤ n → added a b (drop n xs) ≡ record { start = a; end = b } ∷ drop n xs
+pub added_end : (a b n : ℕ) (xs : List Span) → length xs ≤ n → range_added a b (drop n xs) ≡ record { start = a; end = b } ∷ drop n xs
 added_end a b n xs le = rw (drop_all n xs le) refl
 
-pub added_stop : (a b n : ℕ) (xs : List Span) (d : Span) → n < length xs → a ≤ (get_or xs n d).end → b < (get_or xs n d).start → added a b (drop n xs) ≡ record { start = a; end = b } ∷ drop n xs
+pub added_stop : (a b n : ℕ) (xs : List Span) (d : Span) → n < length xs → a ≤ (get_or xs n d).end → b < (get_or xs n d).start → range_added a b (drop n xs) ≡ record { start = a; end = b } ∷ drop n xs
 added_stop a b n xs d lt left after =
     let s = get_or xs n d in
     let not_before : ltb s.end a ≡ false = grind (arith, nat_tests) in
@@ -78,7 +78,7 @@ pub written_over : {X : Type 0} (xs : List X) (n m : ℕ) (x : X) → n < m → 
 written_over xs n m x lt in' = rw (take_more_set xs n x in', drop-set-lt m xs n x lt) (append_assoc (take n xs) (x ∷ []) (drop m xs))
 
 -- removing: the intervals before, what is left of the one at `from`, what is left of the one at `to`, and those behind
-removed_behind : (a b : ℕ) (xs : List Span) → IsApart b xs → a < b → removed a b xs ≡ xs
+removed_behind : (a b : ℕ) (xs : List Span) → AreSpansApart b xs → a < b → range_removed a b xs ≡ xs
 removed_behind a b [] p lt = refl
 removed_behind a b (s ∷ ss) p lt =
     let no_left : ltb s.start a ≡ false = grind (arith, nat_tests, p.0) in
@@ -86,7 +86,8 @@ removed_behind a b (s ∷ ss) p lt =
     let same : max b s.start ≡ s.start = omega (arith, p.0) in
     rw (no_left, right, same) (ap (λ r. s ∷ r) (removed_behind a b ss (apart_lower b (s.end + 1) ss (omega (arith, p.0, p.1)) p.2) lt))
 
-removed_within : (low a b n : ℕ) (xs : List Span) → IsApart low xs → a ≤ low → a < b → All (λ s. s.end ≤ b) (take n xs) → All (λ s. b < s.end) (drop n xs) → removed a b xs ≡ right_of b (drop n xs)
+removed_within : (low a b n : ℕ) (xs : List Span) → AreSpansApart low xs → a ≤ low → a < b → All (λ s. s.end ≤ b) (take n xs) → All (λ s. b < s.end) (drop n xs)
+    → range_removed a b xs ≡ right_of b (drop n xs)
 removed_within low a b zero [] p le lt front back = refl
 removed_within low a b (suc n) [] p le lt front back = refl
 removed_within low a b zero (s ∷ ss) p le lt front back =
@@ -100,9 +101,9 @@ removed_within low a b (suc n) (s ∷ ss) p le lt front back =
     let no_right : ltb b s.end ≡ false = grind (arith, nat_tests) in
     rw (no_left, no_right) (removed_within (s.end + 1) a b n ss p.2 (omega (arith, p.0, p.1)) lt (All-tail (λ s. s.end ≤ b) s (take n ss) front) back)
 
-pub removed_between : (low a b n m : ℕ) (xs : List Span) → IsApart low xs → a < b → n ≤ m → All (λ s. s.end ≤ a) (take n xs) →
+pub removed_between : (low a b n m : ℕ) (xs : List Span) → AreSpansApart low xs → a < b → n ≤ m → All (λ s. s.end ≤ a) (take n xs) →
     All (λ s. a < s.end) (drop n xs) → All (λ s. s.end ≤ b) (take m xs) → All (λ s. b < s.end) (drop m xs) →
-    removed a b xs ≡ take n xs ++ (left_of a (drop n xs) ++ right_of b (drop m xs))
+    range_removed a b xs ≡ take n xs ++ (left_of a (drop n xs) ++ right_of b (drop m xs))
 removed_between low a b zero zero [] p lt le fa ba fb bb = refl
 removed_between low a b zero (suc m) [] p lt le fa ba fb bb = refl
 removed_between low a b (suc n) zero [] p lt le fa ba fb bb = refl
@@ -124,12 +125,6 @@ removed_between low a b (suc n) (suc m) (s ∷ ss) p lt le fa ba fb bb =
     let same : min a s.end ≡ s.end = omega arith in
     rw (left, no_right, same) (ap (λ r. s ∷ r) (removed_between (s.end + 1) a b n m ss p.2 lt (omega (arith, le))
     (All-tail (λ s. s.end ≤ a) s (take n ss) fa) ba (All-tail (λ s. s.end ≤ b) s (take m ss) fb) bb))
-
-pub left_of_at : (a n : ℕ) (xs : List Span) (d : Span) → n < length xs → left_of a (drop n xs) ≡ left_piece a (get_or xs n d)
-left_of_at a n xs d lt = ap (left_of a) (drop_more xs n d lt)
-
-pub right_of_at : (b n : ℕ) (xs : List Span) (d : Span) → n < length xs → right_of b (drop n xs) ≡ record { start = max b (get_or xs n d).start; end = (get_or xs n d).end } ∷ drop (n + 1) xs
-right_of_at b n xs d lt = ap (right_of b) (drop_more xs n d lt)
 
 -- from facts at each place to facts of a front and of the rest
 pub all_front : (n t : ℕ) (xs : List Span) → n ≤ length xs → ((k : ℕ) (d : Span) → k < n → (get_or xs k d).end ≤ t) → All (λ s. s.end ≤ t) (take n xs)
@@ -166,7 +161,8 @@ here_of n xs s lt read = drop_more xs n s lt ∙ ap (λ x. x ∷ drop (n + 1) xs
 ends_here : (n t : ℕ) (xs : List Span) (s : Span) → n < length xs → s ≡ get_or xs n s → All (λ x. t < x.end) (drop n xs) → t < s.end
 ends_here n t xs s lt read all = All-head (λ x. t < x.end) s (drop (n + 1) xs) (subst (All (λ x. t < x.end)) (here_of n xs s lt read) all)
 
-pub added_at : (a b n m : ℕ) (xs : List Span) (s : Span) → IsApart 0 xs → All (λ s. s.end ≤ a - 1) (take n xs) → added a b (drop n xs) ≡ s ∷ drop m xs → added a b xs ≡ take n xs ++ s ∷ drop m xs
+pub added_at : (a b n m : ℕ) (xs : List Span) (s : Span) → AreSpansApart 0 xs → All (λ s. s.end ≤ a - 1) (take n xs) → range_added a b (drop n xs) ≡ s ∷ drop m xs
+    → range_added a b xs ≡ take n xs ++ s ∷ drop m xs
 added_at a b n m xs s p front joined = added_front 0 a b n xs p front ∙ ap (λ r. take n xs ++ r) joined
 
 -- one interval that begins before the range and ends after it

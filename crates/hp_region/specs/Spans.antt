@@ -1,8 +1,8 @@
 -- The intervals of a region list, each from its start up to its end, in rising order, none touching the next.
---     IsApart low xs      they are so, and begin at low or later
---     holds xs q      q is in one of them
+--     AreSpansApart low xs      they are so, and begin at low or later
+--     spans_hold xs q      q is in one of them
 --     indices_of xs      the set of what they hold
---     added a b xs, removed a b xs      the intervals with the indices from a up to b, and without them
+--     range_added a b xs, range_removed a b xs      the intervals with the indices from a up to b, and without them
 --     covered a b xs      how many of these they hold
 use Rattle.std.specs.Prelude.{ℕ, ◌+◌, ◌-◌, ◌<◌, ◌≤◌, min, max, Bool, false, ◌||◌, List, [], ◌∷◌, ◌++◌, if◌then◌else◌, nat_lt}
 use Rattle.std.specs.Ordering.{nat_cmp}
@@ -11,24 +11,24 @@ use Rattle.hp_model.specs.files.Ranges.{within}
 use Rattle.hp_region.specs.declared.spans.Span.{Span}
 use Rattle.hp_region.specs.Region.{range_set}
 
-abbrev pub holds : List Span → ℕ → Bool
-holds [] q = false
-holds (s ∷ ss) q = within s.start s.end q || holds ss q
+abbrev pub spans_hold : List Span → ℕ → Bool
+spans_hold [] q = false
+spans_hold (s ∷ ss) q = within s.start s.end q || spans_hold ss q
 
-abbrev pub IsApart : ℕ → List Span → Type 0
-IsApart low [] = Unit {0}
-IsApart low (s ∷ ss) = (low ≤ s.start) × (s.start < s.end) × IsApart (s.end + 1) ss
+abbrev pub AreSpansApart : ℕ → List Span → Type 0
+AreSpansApart low [] = Unit {0}
+AreSpansApart low (s ∷ ss) = (low ≤ s.start) × (s.start < s.end) × AreSpansApart (s.end + 1) ss
 
 abbrev pub indices_of : List Span → set.FinSet nat_cmp
 indices_of [] = set.empty
 indices_of (s ∷ ss) = set.union (range_set s.start s.end) (indices_of ss)
 
-abbrev pub added : ℕ → ℕ → List Span → List Span
-added a b [] = record { start = a; end = b } ∷ []
-added a b (s ∷ ss) =
-    if nat_lt s.end a then s ∷ added a b ss
+abbrev pub range_added : ℕ → ℕ → List Span → List Span
+range_added a b [] = record { start = a; end = b } ∷ []
+range_added a b (s ∷ ss) =
+    if nat_lt s.end a then s ∷ range_added a b ss
     else if nat_lt b s.start then record { start = a; end = b } ∷ s ∷ ss
-    else added (min a s.start) (max b s.end) ss
+    else range_added (min a s.start) (max b s.end) ss
 
 -- what is left of an interval below a, and from b on
 abbrev pub left_piece : ℕ → Span → List Span
@@ -37,9 +37,9 @@ left_piece a s = if nat_lt s.start a then record { start = s.start; end = min a 
 abbrev pub right_piece : ℕ → Span → List Span
 right_piece b s = if nat_lt b s.end then record { start = max b s.start; end = s.end } ∷ [] else []
 
-abbrev pub removed : ℕ → ℕ → List Span → List Span
-removed a b [] = []
-removed a b (s ∷ ss) = left_piece a s ++ (right_piece b s ++ removed a b ss)
+abbrev pub range_removed : ℕ → ℕ → List Span → List Span
+range_removed a b [] = []
+range_removed a b (s ∷ ss) = left_piece a s ++ (right_piece b s ++ range_removed a b ss)
 
 abbrev pub overlap : ℕ → ℕ → Span → ℕ
 overlap a b s = min b s.end - max a s.start

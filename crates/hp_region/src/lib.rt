@@ -3,7 +3,7 @@
 
 ghost use Rattle.std.specs.Prelude.{◌≡◌, ◌+◌, ◌-◌, ◌<◌, ◌≤◌, OnOk, OnErr, IfOk, IsOk};
 ghost use Rattle.std.specs.FinSet as set;
-ghost use Rattle.hp_region.specs.Region.{range_set, count_in, missing_in};
+ghost use Rattle.hp_region.specs.Region.{range_set, members_in, missing_members};
 
 use spans::{Span, add_span, count_spans, ending_by, remove_span};
 use std::alloc::{AllocError, Global};
@@ -21,7 +21,7 @@ impl Model for RegionList {
     ghost use Rattle.std.specs.Prelude.{◌-◌, vec_len};
     ghost use Rattle.std.specs.Vec.{vec_capacity};
     ghost use Rattle.hp_region.specs.Region.{Region, region_code};
-    ghost use Rattle.hp_region.specs.Spans.{indices_of, IsApart};
+    ghost use Rattle.hp_region.specs.Spans.{indices_of, AreSpansApart};
 
     ghost Value = { Region };
 
@@ -32,7 +32,7 @@ impl Model for RegionList {
       room = vec_capacity r.spans - vec_len r.spans;
     } };
 
-    ghost invariant = { λ r. IsApart 0 r.spans.items };
+    ghost invariant = { λ r. AreSpansApart 0 r.spans.items };
 }
 
 impl RegionList {
@@ -55,14 +55,14 @@ impl RegionList {
 
     /// How many indices from `a` up to `b` are in the set.
     pub fn count(&self, a: u64, b: u64) -> u64
-        ensures { result ≡ count_in self.now.indices a b }
+        ensures { result ≡ members_in self.now.indices a b }
     {
         count_spans(&self.spans, a, b)
     }
 
     /// How many indices from `a` up to `b` are not in the set.
     pub fn missing(&self, a: u64, b: u64) -> u64
-        ensures { result ≡ missing_in self.now.indices a b }
+        ensures { result ≡ missing_members self.now.indices a b }
     {
         b.saturating_sub(a) - self.count(a, b)
     }
@@ -93,13 +93,13 @@ impl RegionList {
     /// Takes the indices from `a` up to `b` out, and answers how many there were. With no room it may ask for memory,
     /// since an interval may be split, and at an error the set stays.
     pub fn remove(&mut self, a: u64, b: u64) -> Result<u64, AllocError>
-        ensures count { IfOk result (λ n. n ≡ count_in self.old.indices a b) }
+        ensures count { IfOk result (λ n. n ≡ members_in self.old.indices a b) }
         ensures ok { OnOk result (self.new.indices
             ≡ set.difference self.old.indices (range_set a b)) }
         ensures err { OnErr result (self.new.indices ≡ self.old.indices) }
         ensures in_room { 0 < self.old.room → IsOk result }
         ensures room { self.old.room ≤ self.new.room + 1 }
-        ensures none { count_in self.old.indices a b ≡ 0 → IsOk result × (self.new ≡ self.old) }
+        ensures none { members_in self.old.indices a b ≡ 0 → IsOk result × (self.new ≡ self.old) }
     {
         let count = self.count(a, b);
         if count > 0 {

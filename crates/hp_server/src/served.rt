@@ -3,7 +3,7 @@ ghost use Rattle.std.specs.Prelude.{IfOk};
 ghost use Rattle.hp_locked.specs.Views.{frames_list};
 ghost use Rattle.hp_model.specs.machine.Machine.{start};
 ghost use Rattle.hp_server.specs.Left.{MayLeave};
-ghost use Rattle.hp_serving.specs.Ended.{IsWithinLimits};
+ghost use Rattle.hp_serving.specs.Ended.{IsOfMachine};
 
 use crate::host::Waiting;
 use hp_locked::Gate;
@@ -48,7 +48,7 @@ impl<N: Naming, G: Gate + Drop, const K: usize> Machine for Served<N, G, K> {
     fn close(self, alloc: Global, told: Vec<Vec<Receipt>>) -> Result<Closed, AllocError>
         ensures leaves { IfOk result (MayLeave K (start (frames_list N.frames)
             self.shared.page_size self.shared.slots)) }
-        ensures limits { IfOk result IsWithinLimits }
+        ensures limits { IfOk result IsOfMachine }
     {
         let Served {
             shared,

@@ -16,8 +16,8 @@ line_of_fault Write = codes "hugetlbd: write failed\n"
 line_of_fault Network = codes "hugetlbd: network failed\n"
 
 -- the counts and the page are those of a machine
-abbrev pub IsWithinLimits : Closed → Type 0
-IsWithinLimits closed = (closed.page ≤ 2097152) × (closed.counts.total ≤ 262144)
+abbrev pub IsOfMachine : Closed → Type 0
+IsOfMachine closed = (closed.page ≤ 2097152) × (closed.counts.total ≤ 262144)
 
 abbrev pub text_of_audit : Option Bool → List ℕ
 text_of_audit None = []

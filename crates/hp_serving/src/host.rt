@@ -1,6 +1,6 @@
 //! What sessions are opened on.
 ghost use Rattle.std.specs.Prelude.{◌≤◌, IfOk};
-ghost use Rattle.hp_serving.specs.Ended.{IsWithinLimits};
+ghost use Rattle.hp_serving.specs.Ended.{IsOfMachine};
 ghost use Rattle.hp_serving.specs.declared.host.Closed.{Closed as TheClosed};
 
 use hp_model::answer::Counts;
@@ -66,7 +66,7 @@ pub trait Machine {
     /// where it keeps them. Refused is only the comparison, for want of memory; then it is closed too.
     fn close(self, alloc: Global, told: Vec<Self::Told>) -> Result<Closed, AllocError>
         ensures leaves { IfOk result (may_leave self) }
-        ensures limits { IfOk result IsWithinLimits };
+        ensures limits { IfOk result IsOfMachine };
 
     /// Closes the machine after a fault.
     fn abandon(self);

@@ -1,7 +1,7 @@
 //! All sessions of a machine, from its first to its close.
 ghost use Rattle.std.specs.Prelude.{◌≡◌, ◌≤◌, [], ◌++◌, vec_capacity, IfOk, IfErr, IfSome, IsOk, OnOk};
 ghost use Rattle.hp_wire.specs.Sent.{Writes, WritesFront};
-ghost use Rattle.hp_serving.specs.Ended.{IsWithinLimits, LeavesAsked, Prints, Says, SaysEnd, line_of_fault, status_after, status_of, text_of_audit, text_of_close};
+ghost use Rattle.hp_serving.specs.Ended.{IsOfMachine, LeavesAsked, Prints, Says, SaysEnd, line_of_fault, status_after, status_of, text_of_audit, text_of_close};
 ghost use Rattle.hp_serving.specs.declared.sessions.Ended.{Ended as TheEnd};
 
 use crate::connections::Connections;
@@ -119,7 +119,7 @@ fn all_told<T: Drop>(filed: Vec<OnceLock<T>>, mut told: Vec<T>) -> Vec<T> {
 
 // Prints what is left of the machine.
 fn print<W: Sink>(closed: Closed, text: &mut Vec<u8>, output: &mut W) -> Result<(), RunFault>
-    requires limits { IsWithinLimits closed }
+    requires limits { IsOfMachine closed }
     requires empty { text.old.items ≡ [] }
     requires room { 256 ≤ vec_capacity text.old }
     ensures sent { OnOk result (Writes W.contents output.old output.new (text_of_close closed)) }

@@ -2,7 +2,7 @@
 ghost use Rattle.std.specs.Prelude.{IfOk};
 ghost use Rattle.hp_model.specs.machine.Told.{told_reply};
 ghost use Rattle.hp_model.specs.text.Writing.{IsWithinLimits};
-ghost use Rattle.hp_serving.specs.Ended.{IsWithinLimits as IsClosedWithin};
+ghost use Rattle.hp_serving.specs.Ended.{IsOfMachine};
 
 use hp_model::answer::{Counts, Reply};
 use hp_model::refusal::Refusal;
@@ -159,7 +159,7 @@ impl Machine for Small {
     /// Its counts tell how many sessions were told how much.
     fn close(self, _alloc: Global, told: Vec<u64>) -> Result<Closed, AllocError>
         ensures leaves { IfOk result (λ closed. Unit {0}) }
-        ensures limits { IfOk result IsClosedWithin }
+        ensures limits { IfOk result IsOfMachine }
     {
         let mut sum = 0u64;
         for one in told.iter() {

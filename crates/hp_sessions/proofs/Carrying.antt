@@ -20,8 +20,8 @@ use Rattle.hp_model.specs.machine.Table.{Table, home_of, when_known}
 use Rattle.hp_model.specs.threads.JointRun.{option_cons}
 use Rattle.hp_model.specs.threads.Telling.{Tells, TellsFront, TellsStep, has_place, most_receipts, told_of}
 use Rattle.hp_shared.specs.Slots.{is_trace_full}
-use Rattle.hp_sessions.specs.Calls.{AreAdded, AreAnswers, CanAnswer, Carries, Grows, HasRoom, HasRoomFor, IsAnswered, IsHanded, IsMade, IsRefusedFirst}
-use Rattle.hp_sessions.specs.Calls.{IsTold, IsToldOf, Leads, SessionView, TellsOrStops, noted}
+use Rattle.hp_sessions.specs.Calls.{AreAdded, AreAnswers, CanAnswer, Carries, Grows, HasReceiptRoom, HasRoomFor, IsCallAnswered, IsHanded, IsMade, IsRefusedFirst}
+use Rattle.hp_sessions.specs.Calls.{IsToldByReceipts, IsToldOf, Leads, SessionView, TellsOrStops, noted}
 
 -- ---- cases of a test
 
@@ -200,7 +200,7 @@ never_full false A B h = (refl, h)
 
 -- carried out, the step is answered
 pub answered : (kept : Bool) (size : ℕ) (s t : SessionView) (step : Step) (reply : Reply) → (kept ≡ true → HasRoomFor s step) →
-    Carries kept size s (script s.slots step) reply t → IsAnswered kept size s step reply t
+    Carries kept size s (script s.slots step) reply t → IsCallAnswered kept size s step reply t
 answered true size s t step reply room c =
     inl (
       room refl,
@@ -214,7 +214,7 @@ answered true size s t step reply room c =
 answered false size s t step reply room c =
     let told = never_full (is_trace_full reply) (TellsFront (script s.slots step) c.events) (Tells (script s.slots step) c.events reply) c.tells in (c.added, told.0, (c.events, c.answers, told.1))
 
-pub refused_first : (size : ℕ) (s : SessionView) (step : Step) (reply : Reply) → IsRefusedFirst s step reply → IsAnswered true size s step reply s
+pub refused_first : (size : ℕ) (s : SessionView) (step : Step) (reply : Reply) → IsRefusedFirst s step reply → IsCallAnswered true size s step reply s
 refused_first size s step reply h = inr (refl, h)
 
 -- ---- a receipt
@@ -271,7 +271,7 @@ grows_then a b s t u g h = record {
   few = (let one = g.few in let two = h.few in omega (arith, one, two));
 }
 
-pub room_after : (kept : Bool) (n m k : ℕ) (s t : SessionView) → HasRoom kept n s → Grows m s t → m + k ≤ n → HasRoom kept k t
+pub room_after : (kept : Bool) (n m k : ℕ) (s t : SessionView) → HasReceiptRoom kept n s → Grows m s t → m + k ≤ n → HasReceiptRoom kept k t
 room_after kept n m k s t has g less k' =
     let all = has k' in let few = g.few in let room = g.room in omega (arith, all, few, room, less)
 

@@ -22,7 +22,7 @@ use Rattle.hp_shared.specs.Tables.{table_reply}
 use Rattle.hp_model.specs.declared.entry.Receipt.{Receipt}
 use Rattle.hp_model.specs.threads.JointRun.{option_cons}
 use Rattle.hp_sessions.specs.Calls.{Carries, IsHanded, IsMade, Leads, SessionView, noted}
-use Rattle.hp_sessions.specs.Forks.{IsForked, marked}
+use Rattle.hp_sessions.specs.Forks.{IsForked, marked_below}
 use Rattle.hp_sessions.proofs.Carrying.{ends, goes_on, is_full, made_added, nothing_added, refused_made, stops, where_mapped, where_other}
 
 range_more : (a n : ℕ) → range_with_len a (suc n) ≡ range_with_len a n ++ (a + n) ∷ []
@@ -60,12 +60,12 @@ module _ (n : ℕ) where
       ∙ ap (λ ks. cond (g a) (a ∷ ks) ks) rest
 
 -- the next slot is done or not
-pub marked_next : (done : List Bool) (at : ℕ) (b : Bool) → slice_index_or done at false ≡ b → marked done (at + 1) ≡ marked done at ++ cond b (at ∷ []) []
+pub marked_next : (done : List Bool) (at : ℕ) (b : Bool) → slice_index_or done at false ≡ b → marked_below done (at + 1) ≡ marked_below done at ++ cond b (at ∷ []) []
 marked_next done at b is =
     let test : ℕ → Bool = λ k. slice_index_or done k false in
-    ap (filter test) (first_more at) ∙ filter-append test (range_with_len 0 at) (at ∷ []) ∙ ap (λ c. marked done at ++ cond c (at ∷ []) []) is
+    ap (filter test) (first_more at) ∙ filter-append test (range_with_len 0 at) (at ∷ []) ∙ ap (λ c. marked_below done at ++ cond c (at ∷ []) []) is
 
-pub marked_set : (done : List Bool) (at : ℕ) (b : Bool) → at < length done → marked (slice_set done at b) (at + 1) ≡ marked done at ++ cond b (at ∷ []) []
+pub marked_set : (done : List Bool) (at : ℕ) (b : Bool) → at < length done → marked_below (slice_set done at b) (at + 1) ≡ marked_below done at ++ cond b (at ∷ []) []
 marked_set done at b within =
     marked_next (slice_set done at b) at b (get_or-set_same done at b false within)
     ∙ ap (λ ks. ks ++ cond b (at ∷ []) [])
@@ -170,7 +170,7 @@ module _ (kept : Bool) (size : ℕ) where
 
     -- what is left of a fork at the slot `at` of n
     abbrev pub left_at : List Bool → (at n : ℕ) → Script
-    left_at done at n = fork_slots (range_with_len at (n - at)) (marked done at) parent child
+    left_at done at n = fork_slots (range_with_len at (n - at)) (marked_below done at) parent child
 
     next_of : (at n : ℕ) → at < n → range_with_len at (n - at) ≡ at ∷ range_with_len (at + 1) (n - (at + 1))
     next_of at n below = ap (range_with_len at) {x = n - at} {y = suc (n - (at + 1))} (omega (arith, below))
@@ -180,45 +180,46 @@ module _ (kept : Bool) (size : ℕ) where
         → Leads kept size s (left_at done at n) t (left_at (slice_set done at b) (at + 1) n)
     next_slot s t done at n b below within made reply u c =
         let ks = range_with_len (at + 1) (n - (at + 1)) in
-        subst (λ xs. Carries kept size s (fork_slots xs (marked done at) parent child) reply u) (sym (next_of at n below))
+        subst (λ xs. Carries kept size s (fork_slots xs (marked_below done at) parent child) reply u) (sym (next_of at n below))
         (by b made (subst (λ xs. Carries kept size t (fork_slots ks xs parent child) reply u) (marked_set done at b within) c))
       where
         by : (b : Bool) → MatchBool b (IsForked kept size at parent child s t) (t ≡ s) →
-            Carries kept size t (fork_slots (range_with_len (at + 1) (n - (at + 1))) (marked done at ++ cond b (at ∷ []) []) parent child) reply u →
-            Carries kept size s (fork_slots (at ∷ range_with_len (at + 1) (n - (at + 1))) (marked done at) parent child) reply u
-        by true made c = forked_more s t at (range_with_len (at + 1) (n - (at + 1))) (marked done at) made reply u c
+            Carries kept size t (fork_slots (range_with_len (at + 1) (n - (at + 1))) (marked_below done at ++ cond b (at ∷ []) []) parent child) reply u →
+            Carries kept size s (fork_slots (at ∷ range_with_len (at + 1) (n - (at + 1))) (marked_below done at) parent child) reply u
+        by true made c = forked_more s t at (range_with_len (at + 1) (n - (at + 1))) (marked_below done at) made reply u c
         by false same c =
-            forked_none s t at (range_with_len (at + 1) (n - (at + 1))) (marked done at) same reply u
-            (subst (λ xs. Carries kept size t (fork_slots (range_with_len (at + 1) (n - (at + 1))) xs parent child) reply u) (append-nil (marked done at)) c)
+            forked_none s t at (range_with_len (at + 1) (n - (at + 1))) (marked_below done at) same reply u
+            (subst (λ xs. Carries kept size t (fork_slots (range_with_len (at + 1) (n - (at + 1))) xs parent child) reply u) (append-nil (marked_below done at)) c)
 
     pub slot_stops : (s t : SessionView) (done : List Bool) (at n : ℕ) (x : Refusal) → at < n → is_trace_full (Err x) ≡ true → IsMade kept size s (OnSlot at (ForkMaps parent child)) (Err x) t →
         Carries kept size s (left_at done at n) (Err x) t
     slot_stops s t done at n x below full made =
-        subst (λ xs. Carries kept size s (fork_slots xs (marked done at) parent child) (Err x) t) (sym (next_of at n below))
-        (fork_stops s t at (range_with_len (at + 1) (n - (at + 1))) (marked done at) x full made)
+        subst (λ xs. Carries kept size s (fork_slots xs (marked_below done at) parent child) (Err x) t) (sym (next_of at n below))
+        (fork_stops s t at (range_with_len (at + 1) (n - (at + 1))) (marked_below done at) x full made)
 
     pub slot_refused : (s t : SessionView) (done : List Bool) (at n : ℕ) (x : Refusal) → at < n → is_trace_full (Err x) ≡ false →
-        IsMade kept size s (OnSlot at (ForkMaps parent child)) (Err x) t → Leads kept size s (left_at done at n) t (undone (marked done at) child x)
+        IsMade kept size s (OnSlot at (ForkMaps parent child)) (Err x) t → Leads kept size s (left_at done at n) t (undone (marked_below done at) child x)
     slot_refused s t done at n x below clear made reply u c =
-        subst (λ xs. Carries kept size s (fork_slots xs (marked done at) parent child) reply u) (sym (next_of at n below))
-        (fork_refused s t at (range_with_len (at + 1) (n - (at + 1))) (marked done at) x clear made reply u c)
+        subst (λ xs. Carries kept size s (fork_slots xs (marked_below done at) parent child) reply u) (sym (next_of at n below))
+        (fork_refused s t at (range_with_len (at + 1) (n - (at + 1))) (marked_below done at) x clear made reply u c)
 
     -- no slot is left
     pub all_forked : (s : SessionView) (done : List Bool) (at n : ℕ) → n ≤ at → Carries kept size s (left_at done at n) (Ok Done) s
     all_forked s done at n over =
-        subst (λ xs. Carries kept size s (fork_slots xs (marked done at) parent child) (Ok Done) s)
+        subst (λ xs. Carries kept size s (fork_slots xs (marked_below done at) parent child) (Ok Done) s)
         (sym (ap (range_with_len at) {x = n - at} {y = 0} (omega (arith, over)))) (ends kept size s (Ok Done) refl)
 
   -- ---- undoing
 
-  pub undo_next : (s t u : SessionView) (done : List Bool) (at child : ℕ) → slice_index_or done at false ≡ true → Exited s (marked done at) child t →
-      ((next : Script) → Leads kept size t (exit_slot at child next) u next) → Exited s (marked done (at + 1)) child u
+  pub undo_next : (s t u : SessionView) (done : List Bool) (at child : ℕ) → slice_index_or done at false ≡ true → Exited s (marked_below done at) child t →
+      ((next : Script) → Leads kept size t (exit_slot at child next) u next) → Exited s (marked_below done (at + 1)) child u
   undo_next s t u done at child is first then =
-      subst (λ ks. Exited s ks child u) (sym (marked_next done at true is)) (exited_more s t u (marked done at) at child first then)
+      subst (λ ks. Exited s ks child u) (sym (marked_next done at true is)) (exited_more s t u (marked_below done at) at child first then)
 
-  pub undo_other : (s t : SessionView) (done : List Bool) (at child : ℕ) → slice_index_or done at false ≡ false → Exited s (marked done at) child t → Exited s (marked done (at + 1)) child t
+  pub undo_other : (s t : SessionView) (done : List Bool) (at child : ℕ) → slice_index_or done at false ≡ false → Exited s (marked_below done at) child t
+      → Exited s (marked_below done (at + 1)) child t
   undo_other s t done at child is first =
-      subst (λ ks. Exited s ks child t) (sym (marked_next done at false is ∙ append-nil (marked done at))) first
+      subst (λ ks. Exited s ks child t) (sym (marked_next done at false is ∙ append-nil (marked_below done at))) first
 
   pub undo_stops : (s t u : SessionView) (ks : List ℕ) (child : ℕ) (x : Refusal) → Exited s ks child t → IsMade kept size t (OnTasks (Remove child)) (Err TraceFull) u →
       Carries kept size s (undone ks child x) (Err TraceFull) u

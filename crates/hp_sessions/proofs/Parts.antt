@@ -45,7 +45,7 @@ use Rattle.hp_mount.specs.declared.event.MountEvent.{MountEvent}
 use Rattle.hp_mount.specs.declared.event.MountEvent.TheVariants as m
 use Rattle.hp_mount.specs.Event.{event_of}
 use Rattle.hp_mount.proofs.Ways.{fresh_choice, is_fresh}
-use Rattle.hp_shared.specs.Slots.{AreNoted, IsSlotEvent, IsSlotEventDone, SlotView, Went, is_trace_full}
+use Rattle.hp_shared.specs.Slots.{AreEventsToNote, IsSlotEvent, IsSlotEventDone, SlotView, Went, is_trace_full}
 use Rattle.hp_shared.proofs.Acting.{always_came, none_acted}
 use Rattle.hp_sessions.specs.Calls.{CanAnswer, IsHanded, IsToldOf}
 use Rattle.hp_sessions.specs.Works.{AreEvents, HasAnswerOf, IsBytes}
@@ -269,15 +269,15 @@ handed_fits kept size k e a receipt handed = fits size k e a handed.0
 
 -- ---- copies
 
-pub noted_as : (entries : Option (List SlotEntry)) (e : SlotEvent) (both : Option (SlotEvent × SlotEvent)) → AreEvents e both → AreNoted entries e both
+pub noted_as : (entries : Option (List SlotEntry)) (e : SlotEvent) (both : Option (SlotEvent × SlotEvent)) → AreEvents e both → AreEventsToNote entries e both
 noted_as entries e None h = absurd h
 noted_as entries e (Some both) h = h
 
-pub noted_then : (entries : Option (List SlotEntry)) (e : SlotEvent) (noted both : Option (SlotEvent × SlotEvent)) → noted ≡ both → AreEvents e both → AreNoted entries e noted
-noted_then entries e noted both is h = subst (λ x. AreNoted entries e x) (sym is) (noted_as entries e both h)
+pub noted_then : (entries : Option (List SlotEntry)) (e : SlotEvent) (noted both : Option (SlotEvent × SlotEvent)) → noted ≡ both → AreEvents e both → AreEventsToNote entries e noted
+noted_then entries e noted both is h = subst (λ x. AreEventsToNote entries e x) (sym is) (noted_as entries e both h)
 
-pub noted_else : (entries : Option (List SlotEntry)) (e : SlotEvent) (noted : Option (SlotEvent × SlotEvent)) → noted ≡ None → is_some entries ≡ false → AreNoted entries e noted
-noted_else None e noted is none = subst (λ x. AreNoted None e x) (sym is) refl
+pub noted_else : (entries : Option (List SlotEntry)) (e : SlotEvent) (noted : Option (SlotEvent × SlotEvent)) → noted ≡ None → is_some entries ≡ false → AreEventsToNote entries e noted
+noted_else None e noted is none = subst (λ x. AreEventsToNote None e x) (sym is) refl
 noted_else (Some es) e noted is none = cc
 
 pub either_kept : {P : Type 0} (b : Bool) → (b ≡ true) ⊎ (P × (b ≡ true)) → b ≡ true

@@ -10,7 +10,7 @@ use Rattle.hp_model.specs.machine.State.{Node, State, slot_at}
 use Rattle.hp_model.specs.machine.Table.{Table}
 use Rattle.hp_model.specs.pool.PoolCounts.{Pool}
 use Rattle.hp_model.specs.threads.JointRun.{HasParts, Trails}
-use Rattle.hp_system.specs.Kept.{IsReady, Machine, state_of}
+use Rattle.hp_system.specs.Kept.{IsReadyMachine, Machine, state_of}
 use Rattle.hp_model.specs.declared.refusal.Refusal.{Refusal}
 use Rattle.hp_trail.specs.Audit.{IsJointList, IsUnjoined}
 use Rattle.std.specs.Global.{Vec}
@@ -34,7 +34,7 @@ state_is end size table xs p slots pool =
 settled_so : (s : State) (size : ℕ) (table : Table) → IsSettledState s → IsSettledState (with_other s size table)
 settled_so s size table h = record { pool = h.pool; used = h.used; homed = h.homed; slots = h.slots; nodes = h.nodes }
 
-ready_at : (s end : State) (t : Trails) (m : Machine) → EndsRuns s t m → IsSettledState end → HasParts end (length s.slots) m.state.table (slot_at m.state) m.pool → IsReady m
+ready_at : (s end : State) (t : Trails) (m : Machine) → EndsRuns s t m → IsSettledState end → HasParts end (length s.slots) m.state.table (slot_at m.state) m.pool → IsReadyMachine m
 ready_at s end t m ends settled has =
     let same : end.slots ≡ m.state.slots = ext_get_or None end.slots m.state.slots (has.count ∙ sym ends.count) (λ k below. has.slots k (omega (arith, below, has.count))) in
     let is : m.state ≡ with_other end m.state.page_size m.state.table =
@@ -45,13 +45,13 @@ ready_at s end t m ends settled has =
     }
 
 pub joined_ready : (s : State) (t : Trails) (receipts : List (List Receipt)) (events : List Event) (m : Machine) → IsSettledState s → EndsRuns s t m
-    → IsJointList t receipts events → IsReady m
+    → IsJointList t receipts events → IsReadyMachine m
 joined_ready s t receipts events m settled ends joint =
     let run = joint.run s m.state.table (slot_at m.state) m.pool settled ends.runs in
     ready_at s run.0 t m ends run.2 run.3
 
 pub when_joined : (t : Trails) (told : List (List Receipt)) (r : Result (Vec Event) Refusal)
     → MatchResult r (λ events. IsJointList t told events.items) (IsUnjoined t told)
-    → OnOk r ((s : State) (m : Machine) → IsSettledState s → EndsRuns s t m → IsReady m)
+    → OnOk r ((s : State) (m : Machine) → IsSettledState s → EndsRuns s t m → IsReadyMachine m)
 when_joined t told (Ok events) h = λ s m settled ends. joined_ready s t told events.items m settled ends h
 when_joined t told (Err e) h = tt

@@ -56,7 +56,7 @@ abbrev pub HasRoomFor : SessionView → Step → Type 0
 HasRoomFor s step = length s.receipts + most_receipts s.slots step ≤ s.room
 
 -- the step's events came one after another, each with its receipt, and the reply is the step's by them
-pub record IsTold (size : ℕ) (s : SessionView) (step : Step) (reply : Reply) (t : SessionView) : Type 0 where
+pub record IsToldByReceipts (size : ℕ) (s : SessionView) (step : Step) (reply : Reply) (t : SessionView) : Type 0 where
   pub added : List Receipt
   pub noted : t ≡ noted s added
   pub answers : AreAnswers size (map told_of added)
@@ -71,9 +71,9 @@ IsRefusedFirst s step reply =
 -- what a call answers and leaves. Where entries are kept, the receipts of the step's events are added, in order; or none, as it
 -- is refused before the first. Where none are kept, the reply is the step's by some events that could be answered so, and it
 -- is never TraceFull
-abbrev pub IsAnswered : (kept : Bool) (size : ℕ) → SessionView → Step → Reply → SessionView → Type 0
-IsAnswered true size s step reply t = (HasRoomFor s step × IsTold size s step reply t) ⊎ ((t ≡ s) × IsRefusedFirst s step reply)
-IsAnswered false size s step reply t =
+abbrev pub IsCallAnswered : (kept : Bool) (size : ℕ) → SessionView → Step → Reply → SessionView → Type 0
+IsCallAnswered true size s step reply t = (HasRoomFor s step × IsToldByReceipts size s step reply t) ⊎ ((t ≡ s) × IsRefusedFirst s step reply)
+IsCallAnswered false size s step reply t =
     (t ≡ s) × (is_trace_full reply ≡ false) × ((xs : List (Event × Reply)) × AreAnswers size xs × Tells (script s.slots step) xs reply)
 
 -- ---- a part of a step
@@ -104,8 +104,8 @@ abbrev pub Leads : (kept : Bool) (size : ℕ) → SessionView → Script → Ses
 Leads kept size s c t next = (reply : Reply) (u : SessionView) → Carries kept size t next reply u → Carries kept size s c reply u
 
 -- there is room for n receipts more, where entries are kept
-abbrev pub HasRoom : (kept : Bool) (n : ℕ) → SessionView → Type 0
-HasRoom kept n s = kept ≡ true → length s.receipts + n ≤ s.room
+abbrev pub HasReceiptRoom : (kept : Bool) (n : ℕ) → SessionView → Type 0
+HasReceiptRoom kept n s = kept ≡ true → length s.receipts + n ≤ s.room
 
 -- at most n receipts came
 pub record Grows (n : ℕ) (s t : SessionView) : Type 0 where

@@ -7,8 +7,8 @@ use Rattle.hp_model.specs.declared.event.SlotEvent.TheVariants.{ForkMaps}
 use Rattle.hp_sessions.specs.Calls.{IsMade, SessionView}
 
 -- the marked ones below n
-abbrev pub marked : List Bool → (n : ℕ) → List ℕ
-marked done n = filter (λ k. slice_index_or done k false) (range_with_len 0 n)
+abbrev pub marked_below : List Bool → (n : ℕ) → List ℕ
+marked_below done n = filter (λ k. slice_index_or done k false) (range_with_len 0 n)
 
 -- the parent's maps on this slot became the child's as well
 abbrev pub IsForked : (kept : Bool) (size k parent child : ℕ) → SessionView → SessionView → Type 0

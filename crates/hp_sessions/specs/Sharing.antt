@@ -19,7 +19,7 @@ pub record SharedView : Type 0 where
   pub page_size : ℕ
   pub slots : ℕ
 
-pub record IsShared (bytes : ℕ) (frames : ℕ → ℕ) (s : SharedView) : Type 0 where
+pub record IsSharedMachine (bytes : ℕ) (frames : ℕ → ℕ) (s : SharedView) : Type 0 where
   pub size : s.page_size ≡ bytes
   pub some : 0 < s.page_size
   pub most : s.page_size ≤ 2097152

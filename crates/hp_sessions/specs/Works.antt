@@ -48,17 +48,17 @@ work_carries (OfTask task k e) = has_bytes (event_of 0 e)
 work_carries other = false
 
 -- lists are asked for by `Names` alone
-abbrev pub IsApart : Work → Type 0
-IsApart (OnSlot k e) = lists_names (event_of 0 e) ≡ false
-IsApart (OfTask task k e) = lists_names (event_of 0 e) ≡ false
-IsApart other = Unit {0}
+abbrev pub ListsByNamesAlone : Work → Type 0
+ListsByNamesAlone (OnSlot k e) = lists_names (event_of 0 e) ≡ false
+ListsByNamesAlone (OfTask task k e) = lists_names (event_of 0 e) ≡ false
+ListsByNamesAlone other = Unit {0}
 
 -- the step, by what it asks of which part
 pub record IsWork (s : Step) (w : Work) : Type 0 where
   pub script : (n : ℕ) → script n s ≡ work_script n w
   pub receipts : (n : ℕ) → most_receipts n s ≡ work_receipts n w
   pub carries : carries_bytes s ≡ work_carries w
-  pub apart : IsApart w
+  pub apart : ListsByNamesAlone w
 
 -- ---- what is answered
 
@@ -77,19 +77,19 @@ IsWorked kept size s w reply t =
 -- ---- events of a mount
 
 -- the name, the options or the bytes of an event
-abbrev pub bytes_of : SlotEvent → List ℕ
-bytes_of (slot.Mount options) = options
-bytes_of (slot.Remount options) = options
-bytes_of (slot.Create name) = name
-bytes_of (slot.Unlink name) = name
-bytes_of (slot.Truncate name pages) = name
-bytes_of (slot.Punch name a b) = name
-bytes_of (slot.Preallocate name a b) = name
-bytes_of (slot.Read name i offset count) = name
-bytes_of (slot.Stat name) = name
-bytes_of (slot.Map task home name a pages sharing reserving) = name
-bytes_of (slot.Store task home number i offset bytes) = bytes
-bytes_of other = []
+abbrev pub bytes_of_event : SlotEvent → List ℕ
+bytes_of_event (slot.Mount options) = options
+bytes_of_event (slot.Remount options) = options
+bytes_of_event (slot.Create name) = name
+bytes_of_event (slot.Unlink name) = name
+bytes_of_event (slot.Truncate name pages) = name
+bytes_of_event (slot.Punch name a b) = name
+bytes_of_event (slot.Preallocate name a b) = name
+bytes_of_event (slot.Read name i offset count) = name
+bytes_of_event (slot.Stat name) = name
+bytes_of_event (slot.Map task home name a pages sharing reserving) = name
+bytes_of_event (slot.Store task home number i offset bytes) = bytes
+bytes_of_event other = []
 
 -- two copies of these
 abbrev pub AreCopies : List ℕ → Option (List ℕ × List ℕ) → Type 0

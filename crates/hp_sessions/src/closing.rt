@@ -6,7 +6,7 @@ ghost use Rattle.hp_model.specs.machine.Settled.{IsSettledState};
 ghost use Rattle.hp_model.specs.machine.State.{State};
 ghost use Rattle.hp_sessions.specs.Joined.{AreJoined, entries_of};
 ghost use Rattle.hp_sessions.specs.Sharing.{EndsRuns, WasJoined};
-ghost use Rattle.hp_system.specs.Kept.{IsReady, Machine};
+ghost use Rattle.hp_system.specs.Kept.{IsReadyMachine, Machine};
 ghost use Rattle.hp_trail.specs.Audit.{IsJointList, IsUnjoined};
 ghost use Rattle.hp_trail.specs.Walk.{lists};
 
@@ -28,7 +28,7 @@ pub fn audit(alloc: Global, trails: &Trails, told: Vec<Vec<Receipt>>) -> Result<
         let all = lists told.items in
         MatchResult result (λ events. IsJointList t all events.items) (IsUnjoined t all) }
     ensures ready { OnOk result ((s : State) (m : Machine) → IsSettledState s
-        → EndsRuns s (entries_of trails.now) m → IsReady m) }
+        → EndsRuns s (entries_of trails.now) m → IsReadyMachine m) }
 {
     join(alloc, &trails.tasks, &trails.pool, &trails.slots, told)
 }

@@ -44,13 +44,13 @@ pub struct Shared<N: Naming, const K: usize> {
 
 impl<N: Naming, const K: usize> Model for Shared<N, K> {
     ghost use Rattle.std.specs.Prelude.{vec_len};
-    ghost use Rattle.hp_sessions.specs.Sharing.{IsShared, SharedView};
+    ghost use Rattle.hp_sessions.specs.Sharing.{IsSharedMachine, SharedView};
 
     ghost Value = { SharedView };
 
     ghost view = { λ s. record { page_size = s.page_bytes; slots = vec_len s.slots } };
 
-    ghost invariant = { λ s. IsShared N.page_bytes N.frames
+    ghost invariant = { λ s. IsSharedMachine N.page_bytes N.frames
         (record { page_size = s.page_bytes; slots = vec_len s.slots }) };
 }
 

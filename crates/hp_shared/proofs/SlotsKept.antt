@@ -12,7 +12,7 @@ use Rattle.hp_model.specs.threads.Closing.{KeepsPlaces, removes_maps, to_exit}
 use Rattle.hp_model.specs.threads.LocalRun.{IsLocalRun, IsLocalStep}
 use Rattle.hp_laws.proofs.Closing.{slot_places}
 use Rattle.hp_locked.specs.Views.{HasPlaces, IsFresh as IsFreshTrail}
-use Rattle.hp_trail.specs.Keeping.{added, has_room, one_less}
+use Rattle.hp_trail.specs.Keeping.{has_room, one_less, with_entry}
 use Rattle.hp_shared.specs.Slots.{IsActedOr, IsLockedSlot, IsSlotEvent, IsSlotEventDone, IsSlotTrail, SlotView, Went, is_trace_full, slot_start}
 use Rattle.std.specs.Bool.{MatchBool}
 use Rattle.hp_model.specs.declared.entry.Part.TheVariants.{Slot as AtSlot}
@@ -31,11 +31,11 @@ slot_push : (size k : ℕ) (s : Slot) (es : List SlotEntry) (m : Slot) (e : Slot
 slot_push size k s [] m e q run step = (q, subst (λ (x : Slot). IsLocalStep size k x e q) (sym run) step, refl)
 slot_push size k s (x ∷ es) m e q run step = (run.0, run.1, slot_push size k run.0 es m e q run.2 step)
 
-slot_added : (size k : ℕ) (o : Option (List SlotEntry)) (m : Slot) (e : SlotEntry) (q : Slot) → IsSlotTrail size k o m → IsLocalStep size k m e q → IsSlotTrail size k (added o e) q
+slot_added : (size k : ℕ) (o : Option (List SlotEntry)) (m : Slot) (e : SlotEntry) (q : Slot) → IsSlotTrail size k o m → IsLocalStep size k m e q → IsSlotTrail size k (with_entry o e) q
 slot_added size k None m e q run step = tt
 slot_added size k (Some es) m e q run step = slot_push size k (slot_start k) es m e q run step
 
-never_none : (o : Option (List SlotEntry)) (e : SlotEntry) → added o e ≡ None → o ≡ None
+never_none : (o : Option (List SlotEntry)) (e : SlotEntry) → with_entry o e ≡ None → o ≡ None
 never_none None e is = refl
 never_none (Some es) e is = cc
 
@@ -49,7 +49,7 @@ module _ (size k : ℕ) (o : Option (List SlotEntry)) (left : Option ℕ) (extra
   left_after left2 lessens stays (Some es) is = lessens (ap is_some is)
 
   pub slot_noted : (o2 : Option (List SlotEntry)) (left2 : Option ℕ) (extra2 : ℕ) → IsTrue (is_slot_event old e) →
-      o2 ≡ added o (record { event = e; reply = reply; asked = asked }) → (is_some o ≡ true → left2 ≡ one_less left) → (o ≡ None → left2 ≡ left) →
+      o2 ≡ with_entry o (record { event = e; reply = reply; asked = asked }) → (is_some o ≡ true → left2 ≡ one_less left) → (o ≡ None → left2 ≡ left) →
       extra2 ≡ extra
       → (removes_maps old e ≡ false → has_room false left extra ≡ true) → IsLockedSlot size k o2 left2 extra2 new
   slot_noted o2 left2 extra2 is_event noted lessens kept stays room =
@@ -154,7 +154,7 @@ module _ (full : Type 0) (size k : ℕ) (entries : Option (List SlotEntry)) (lef
       full_put (is_trace_full reply) (Full new None) (IsSlotEventDone size (with_mount old) (with_mount new) e reply asked None) is (ap with_mount t.0, refl, t.1, inr (t.2, t.3))
 
   pub event_done : is_trace_full reply ≡ false → (entries2 : Option (List SlotEntry)) (left2 : Option ℕ) (extra2 : ℕ) (receipt : Option Receipt) →
-      entries2 ≡ added entries (record { event = e; reply = reply; asked = asked })
+      entries2 ≡ with_entry entries (record { event = e; reply = reply; asked = asked })
       → IsReceipt entries (AtSlot k) (OnSlot k e) reply receipt → IsSlotEvent full size (with_mount old)
       (record { number = k; mount = new; entries = entries2; left = left2; extra = extra2 }) e reply asked receipt
   event_done is entries2 left2 extra2 receipt noted told =
@@ -177,7 +177,7 @@ pub kept_none : (o : Option (List SlotEntry)) → is_some o ≡ false → o ≡ 
 kept_none None e = refl
 kept_none (Some es) e = cc
 
-pub none_added : (o : Option (List SlotEntry)) (e : SlotEntry) → o ≡ None → o ≡ added o e
+pub none_added : (o : Option (List SlotEntry)) (e : SlotEntry) → o ≡ None → o ≡ with_entry o e
 none_added None e is = refl
 none_added (Some es) e is = cc
 
@@ -185,7 +185,7 @@ none_added (Some es) e is = cc
 
 module _ (full : Type 0) (size k : ℕ) (o : Option (List SlotEntry)) (left : Option ℕ) (extra : ℕ) (old : Slot) (e : SlotEvent) (reply : Reply)
     (asked : Option Asked) (new : Slot) (acted : IsActedOr full size k old e reply asked new) (unkept : is_some o ≡ false) where
-  is_noted : o ≡ added o (record { event = e; reply = reply; asked = asked })
+  is_noted : o ≡ with_entry o (record { event = e; reply = reply; asked = asked })
   is_noted = none_added o (record { event = e; reply = reply; asked = asked }) (kept_none o unkept)
 
   pub unnoted_stays : IsTrue (is_slot_event old e) → IsLockedSlot size k o left extra old → IsLockedSlot size k o left extra new

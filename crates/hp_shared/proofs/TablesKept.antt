@@ -9,7 +9,7 @@ use Rattle.hp_model.specs.threads.Closing.{KeepsPlaces, removes_task, to_remove}
 use Rattle.hp_model.specs.threads.TableRun.{IsTableRun}
 use Rattle.hp_laws.proofs.Closing.{table_places}
 use Rattle.hp_locked.specs.Views.{HasPlaces, IsFresh}
-use Rattle.hp_trail.specs.Keeping.{added, has_room, one_less}
+use Rattle.hp_trail.specs.Keeping.{has_room, one_less, with_entry}
 use Rattle.hp_shared.specs.Tables.{IsLockedTable, IsTableTrail}
 use Rattle.hp_shared.proofs.Places.{has_closing, or_room, places_after, room_closing}
 use Rattle.std.specs.Prelude.{Result, is_some, ◌||◌}
@@ -39,7 +39,7 @@ table_push nodes t [] m e q run step = (q, subst (λ (x : Table). table_event no
 table_push nodes t (x ∷ es) m e q run step = (run.0, run.1, table_push nodes run.0 es m e q run.2 step)
 
 table_added : (nodes : ℕ) (o : Option (List TableEntry)) (m : Table) (e : TableEntry) (q : Table) → IsTableTrail nodes o m →
-    table_event nodes m e.event ≡ (e.reply, q) → IsTableTrail nodes (added o e) q
+    table_event nodes m e.event ≡ (e.reply, q) → IsTableTrail nodes (with_entry o e) q
 table_added nodes None m e q run step = tt
 table_added nodes (Some es) m e q run step = table_push nodes [] es m e q run step
 
@@ -48,7 +48,7 @@ module _ (nodes : ℕ) (o : Option (List TableEntry)) (left : Option ℕ) (extra
   keeps : KeepsPlaces most_tasks (to_remove t) (to_remove q) (removes_task t e)
   keeps = subst (λ (x : Reply × Table). KeepsPlaces most_tasks (to_remove t) (to_remove x.1) (removes_task t e)) step (table_places nodes t e was.few)
 
-  pub table_noted : (o2 : Option (List TableEntry)) (left2 : Option ℕ) (extra2 : ℕ) → o2 ≡ added o (record { event = e; reply = reply }) →
+  pub table_noted : (o2 : Option (List TableEntry)) (left2 : Option ℕ) (extra2 : ℕ) → o2 ≡ with_entry o (record { event = e; reply = reply }) →
       left2 ≡ one_less left → extra2 ≡ extra → (removes_task t e ≡ false → has_room false left extra ≡ true)
       → IsLockedTable nodes o2 left2 extra2 q
   table_noted o2 left2 extra2 noted lessens stays room = record {
@@ -78,7 +78,7 @@ done_same (Err e) = refl
 -- where no entries are kept
 module _ (nodes : ℕ) (o : Option (List TableEntry)) (left : Option ℕ) (extra : ℕ) (t : Table) (e : TableEvent) (reply : Reply) (q : Table)
     (step : table_event nodes t e ≡ (reply, q)) where
-  pub unnoted : (o : Option (List TableEntry)) → is_some o ≡ false → o ≡ added o (record { event = e; reply = reply })
+  pub unnoted : (o : Option (List TableEntry)) → is_some o ≡ false → o ≡ with_entry o (record { event = e; reply = reply })
   unnoted None unkept = refl
   unnoted (Some es) unkept = cc
 

@@ -20,7 +20,7 @@ use Rattle.hp_model.specs.threads.LocalRun.{Goes, IsLocalRun}
 use Rattle.hp_locked.specs.Told.{IsReceipt}
 use Rattle.hp_locked.specs.Views.{HasPlaces}
 use Rattle.hp_mount.specs.Done.{MayEnter}
-use Rattle.hp_trail.specs.Keeping.{added, has_room}
+use Rattle.hp_trail.specs.Keeping.{has_room, with_entry}
 
 abbrev pub is_trace_full : Reply → Bool
 is_trace_full (Err TraceFull) = true
@@ -69,7 +69,7 @@ pub record IsLockedSlot (size k : ℕ) (entries : Option (List SlotEntry)) (left
 -- an event changed the slot, with this reply, and added its entry with the section that was entered
 pub record IsSlotEventDone (size : ℕ) (old new : SlotView) (e : SlotEvent) (reply : Reply) (asked : Option Asked) (receipt : Option Receipt) : Type 0 where
   pub changes : Went size old.number old.mount e reply asked new.mount
-  pub entries : new.entries ≡ added old.entries (record { event = e; reply = reply; asked = asked })
+  pub entries : new.entries ≡ with_entry old.entries (record { event = e; reply = reply; asked = asked })
   pub told : IsReceipt old.entries (AtSlot old.number) (OnSlot old.number e) reply receipt
 
 -- it did; or it is answered TraceFull, and nothing changed: the trail had no room for an entry, or the event enters a section
@@ -82,9 +82,9 @@ IsSlotEvent full size old new e reply asked receipt =
     (IsSlotEventDone size old new e reply asked receipt)
 
 -- the event for an entry and again for a receipt, where entries are kept
-abbrev pub AreNoted : Option (List SlotEntry) → SlotEvent → Option (SlotEvent × SlotEvent) → Type 0
-AreNoted entries e None = entries ≡ None
-AreNoted entries e (Some both) = (both.0 ≡ e) × (both.1 ≡ e)
+abbrev pub AreEventsToNote : Option (List SlotEntry) → SlotEvent → Option (SlotEvent × SlotEvent) → Type 0
+AreEventsToNote entries e None = entries ≡ None
+AreEventsToNote entries e (Some both) = (both.0 ≡ e) × (both.1 ≡ e)
 
 -- the reply with a list of names, or with its refusal
 abbrev pub names_reply : Result (List (List ℕ)) Refusal → Reply

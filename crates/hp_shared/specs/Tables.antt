@@ -9,7 +9,7 @@ use Rattle.hp_model.specs.Profile.{most_tasks}
 use Rattle.hp_model.specs.threads.Closing.{to_remove}
 use Rattle.hp_model.specs.threads.TableRun.{IsTableRun}
 use Rattle.hp_locked.specs.Views.{HasPlaces}
-use Rattle.hp_trail.specs.Keeping.{added}
+use Rattle.hp_trail.specs.Keeping.{with_entry}
 use Rattle.hp_shared.specs.declared.table_told.TableTold.{TableTold}
 use Rattle.hp_shared.specs.declared.table_told.TableTold.TheVariants.{Done, Home, Refused}
 
@@ -40,4 +40,4 @@ pub record IsLockedTable (nodes : ℕ) (entries : Option (List TableEntry)) (lef
 -- an event changed the tasks, with this reply, and added its entry
 pub record IsTableEventDone (nodes : ℕ) (old new : TableView) (e : TableEvent) (reply : Reply) : Type 0 where
   pub changes : table_event nodes old.tasks e ≡ (reply, new.tasks)
-  pub entries : new.entries ≡ added old.entries (record { event = e; reply = reply })
+  pub entries : new.entries ≡ with_entry old.entries (record { event = e; reply = reply })

@@ -18,8 +18,8 @@ ghost use Rattle.hp_mount.specs.Event.{event_of, shows_bytes};
 ghost use Rattle.hp_store.specs.Batch.{Batch as BatchValue};
 ghost use Rattle.hp_store.specs.Store.{Store as StoreValue, page_at};
 ghost use Rattle.hp_subpool.specs.Subpool.{Subpool as ShareValue};
-ghost use Rattle.hp_shared.specs.Slots.{AreNoted, IsSlotEvent, IsSlotEventDone, IsSlotTrail, is_trace_full, names_reply, slot_start};
-ghost use Rattle.hp_trail.specs.Keeping.{added, has_room, one_less};
+ghost use Rattle.hp_shared.specs.Slots.{AreEventsToNote, IsSlotEvent, IsSlotEventDone, IsSlotTrail, is_trace_full, names_reply, slot_start};
+ghost use Rattle.hp_trail.specs.Keeping.{has_room, one_less, with_entry};
 
 use crate::mounting::{mount as open, unmount};
 use crate::names::{Listing, list, list_thrice};
@@ -161,7 +161,7 @@ impl<N: Naming, T: Trail<SlotEntry>> Slot<N, T> {
         requires page_bytes { page_bytes ≡ N.page_bytes }
         requires room { shows_bytes event ≡ true → 256 ≤ length room.old }
         requires apart { lists_names (event_of home event) ≡ false }
-        requires noted { AreNoted self.old.entries (event_of home event) noted }
+        requires noted { AreEventsToNote self.old.entries (event_of home event) noted }
         ensures done { IsSlotEvent (D.is_full door.new) N.page_bytes self.old self.new
             (event_of home event.entry)
             (told_reply result.0) (D.asked door.new) result.1 }
@@ -344,7 +344,7 @@ impl<N: Naming, T: Trail<SlotEntry>> Slot<N, T> {
         requires ready { D.is_ready door.old }
         requires page_bytes { page_bytes ≡ N.page_bytes }
         requires bytes { 0 < page_bytes }
-        requires noted { AreNoted self.old.entries (Mounting options.now) noted }
+        requires noted { AreEventsToNote self.old.entries (Mounting options.now) noted }
         ensures done { IsSlotEvent (D.is_full door.new) N.page_bytes self.old self.new
             (Mounting options.now)
             (told_reply result.0) (D.asked door.new) result.1 }
@@ -385,7 +385,7 @@ impl<N: Naming, T: Trail<SlotEntry>> Slot<N, T> {
         requires ready { D.is_ready door.old }
         requires page_bytes { page_bytes ≡ N.page_bytes }
         requires bytes { 0 < page_bytes }
-        requires noted { AreNoted self.old.entries (Remount options.now) noted }
+        requires noted { AreEventsToNote self.old.entries (Remount options.now) noted }
         ensures done { IsSlotEvent (D.is_full door.new) N.page_bytes self.old self.new
             (Remount options.now)
             (told_reply result.0) (D.asked door.new) result.1 }
@@ -449,7 +449,7 @@ impl<N: Naming, T: Trail<SlotEntry>> Slot<N, T> {
 fn note_names<T: Trail<SlotEntry>>(trail: &mut T, slot: u64, reply: Reply, again: Reply) -> Receipt
     requires room { has_room true (T.left trail.old) (T.extra trail.old) ≡ true }
     requires kept { is_some (T.entries trail.old) ≡ true }
-    ensures entries { T.entries trail.new ≡ added (T.entries trail.old)
+    ensures entries { T.entries trail.new ≡ with_entry (T.entries trail.old)
         (record { event = Ls; reply = reply; asked = None }) }
     ensures left { T.left trail.new ≡ one_less (T.left trail.old) }
     ensures extra { T.extra trail.new ≡ T.extra trail.old }
@@ -485,15 +485,15 @@ fn note<T: Trail<SlotEntry>>(
     requires noted { noted ≡ None → T.entries trail.old ≡ None }
     requires small { IsWithinLimits (told_reply told.now) }
     requires plain { reply_has_names (told_reply told.now) ≡ false }
-    ensures entries { (e : SlotEventValue) → AreNoted (T.entries trail.old) e noted
-        → T.entries trail.new ≡ added (T.entries trail.old)
+    ensures entries { (e : SlotEventValue) → AreEventsToNote (T.entries trail.old) e noted
+        → T.entries trail.new ≡ with_entry (T.entries trail.old)
         (record { event = e; reply = told_reply told.now; asked = asked }) }
     ensures left { is_some (T.entries trail.old) ≡ true →
         T.left trail.new ≡ one_less (T.left trail.old) }
     ensures none { T.entries trail.old ≡ None → T.left trail.new ≡ T.left trail.old }
     ensures extra { T.extra trail.new ≡ T.extra trail.old }
     ensures given { is_some result ≡ T.keeps }
-    ensures receipt { (e : SlotEventValue) → AreNoted (T.entries trail.old) e noted
+    ensures receipt { (e : SlotEventValue) → AreEventsToNote (T.entries trail.old) e noted
         → IsReceipt (T.entries trail.old) (AtSlot slot) (OnSlot slot e) (told_reply told.now)
         result }
 {

@@ -9,7 +9,7 @@ ghost use Rattle.hp_model.specs.threads.Closing.{removes_task};
 ghost use Rattle.hp_locked.specs.Told.{IsReceipt};
 ghost use Rattle.hp_locked.specs.Views.{IsFresh, frames_list};
 ghost use Rattle.hp_shared.specs.Tables.{IsTableEventDone, IsTableTrail, table_reply};
-ghost use Rattle.hp_trail.specs.Keeping.{added, has_room, one_less};
+ghost use Rattle.hp_trail.specs.Keeping.{has_room, one_less, with_entry};
 
 use crate::table_told::TableTold;
 use hp_locked::Full;
@@ -179,7 +179,7 @@ fn done(ended: Result<(), Refusal>) -> TableTold
 // Notes an event with its answer, and makes its receipt where entries are kept.
 fn note<T: Trail<TableEntry>>(trail: &mut T, event: TableEvent, told: TableTold) -> Option<Receipt>
     requires { has_room true (T.left trail.old) (T.extra trail.old) ≡ true }
-    ensures entries { T.entries trail.new ≡ added (T.entries trail.old)
+    ensures entries { T.entries trail.new ≡ with_entry (T.entries trail.old)
         (record { event = event; reply = table_reply told }) }
     ensures left { T.left trail.new ≡ one_less (T.left trail.old) }
     ensures extra { T.extra trail.new ≡ T.extra trail.old }

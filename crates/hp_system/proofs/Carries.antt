@@ -27,7 +27,7 @@ use Rattle.hp_mount.specs.Done.{Tried}
 use Rattle.hp_mount.specs.Event.{event_of}
 use Rattle.hp_mount_door.specs.Door.{IsReady as IsReadyPool}
 use Rattle.hp_system.specs.Event.{IsCarried, took}
-use Rattle.hp_system.specs.Kept.{machine_of, state_of, IsReady, IsSized, Machine}
+use Rattle.hp_system.specs.Kept.{machine_of, state_of, IsReadyMachine, IsSized, Machine}
 
 abbrev pub calm : Choice
 calm = record { stamp = 0; refused = false; after_grant = false }
@@ -39,12 +39,12 @@ pub record IsKept (page_size bytes : ℕ) (table : Table) (slots : List Slot) (p
   pub tied : pool_of (state_of page_size table slots p) ≡ p
   pub settled : IsSettledState (state_of page_size table slots p)
 
-pub kept_by : {size bytes : ℕ} {t : Table} {xs : List Slot} {p : Pool} (m : Machine) → IsSized size bytes → machine_of size t xs p ≡ m → IsReady m → IsKept size bytes t xs p
+pub kept_by : {size bytes : ℕ} {t : Table} {xs : List Slot} {p : Pool} (m : Machine) → IsSized size bytes → machine_of size t xs p ≡ m → IsReadyMachine m → IsKept size bytes t xs p
 kept_by m sized is r =
-    let h = subst IsReady (sym is) r in
+    let h = subst IsReadyMachine (sym is) r in
     record { size = sized.size; some = sized.some; tied = h.tied; settled = h.settled }
 
-pub ready_by : {size bytes : ℕ} {t : Table} {xs : List Slot} {p : Pool} → IsKept size bytes t xs p → IsReady (machine_of size t xs p)
+pub ready_by : {size bytes : ℕ} {t : Table} {xs : List Slot} {p : Pool} → IsKept size bytes t xs p → IsReadyMachine (machine_of size t xs p)
 ready_by kept = record { tied = kept.tied; settled = kept.settled }
 
 -- the slot of number k

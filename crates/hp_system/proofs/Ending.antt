@@ -31,7 +31,7 @@ use Rattle.hp_laws.proofs.Tied.{plan_tied}
 use Rattle.hp_model.specs.threads.LocalRun.{ThroughDoor}
 use Rattle.hp_laws.proofs.Tells.{tells_gives}
 use Rattle.hp_system.specs.Event.{AllGo, Exits, IsExit, SlotGoes, took}
-use Rattle.hp_system.specs.Kept.{IsReady, IsSized, Machine, all_free, machine_of, state_of}
+use Rattle.hp_system.specs.Kept.{IsReadyMachine, IsSized, Machine, all_free, machine_of, state_of}
 use Rattle.hp_system.proofs.Carries.{kept_after, kept_by, plan_is, slot_in, IsKept}
 use Rattle.hp_system.proofs.Start.{sum_none}
 
@@ -192,7 +192,7 @@ all_end size bytes n t start (x ∷ xs) rest p q went was =
 
 -- where the pool's numbers were the sums, all pages are free once all slots are gone
 pub all_are_free : (size bytes : ℕ) (t : Table) (xs : List Slot) (p q : Pool) (m : Machine) → IsSized size bytes → machine_of size t xs p ≡ m
-    → AllGo xs p q → IsReady m → counts_of q ≡ all_free m.state
+    → AllGo xs p q → IsReadyMachine m → counts_of q ≡ all_free m.state
 all_are_free size bytes t xs p q m sized is went ready =
     let ends = all_end size bytes (length xs) t p xs [] p q went (begins size bytes t xs p (kept_by m sized is ready)) in
     all_gone size bytes (length xs) t p q m.state [] refl ends (ap (λ (x : Machine). x.state.nr) is) (ap (λ (x : Machine). x.state.overcommit) is)

@@ -37,7 +37,7 @@ pub record IsSized (page_size bytes : ℕ) : Type 0 where
   pub some : 0 < page_size
 
 -- What each step wants of the machine, and keeps: the pool's own numbers are the sums over files and maps, and settled.
-pub record IsReady (m : Machine) : Type 0 where
+pub record IsReadyMachine (m : Machine) : Type 0 where
   pub tied : pool_of m.state ≡ m.pool
   pub settled : IsSettledState m.state
 

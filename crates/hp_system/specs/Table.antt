@@ -9,5 +9,5 @@ abbrev pub HasEachOnce : Table → Type 0
 HasEachOnce tasks = (task : ℕ) → count_by (λ e. e.0 == task) tasks ≤ 1
 
 -- there is room for all tasks
-abbrev pub IsTable : Table → (room : ℕ) → Type 0
-IsTable tasks room = HasEachOnce tasks × (most_tasks ≤ room)
+abbrev pub IsTaskTable : Table → (room : ℕ) → Type 0
+IsTaskTable tasks room = HasEachOnce tasks × (most_tasks ≤ room)

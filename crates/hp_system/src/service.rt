@@ -10,13 +10,13 @@ use hp_model::told::Told;
 
 impl<N: Naming> Service for System<N> {
     ghost use Rattle.hp_model.specs.machine.Promises.{IsPromisedStep};
-    ghost use Rattle.hp_system.specs.Kept.{IsReady};
+    ghost use Rattle.hp_system.specs.Kept.{IsReadyMachine};
 
     ghost may_answer = { λ old step reply new. IsPromisedStep old.state step reply new.state };
 
     ghost page = { λ s. s.state.page_size };
 
-    ghost is_ready = { IsReady };
+    ghost is_ready = { IsReadyMachine };
 
     fn call(&mut self, step: &Step<'_>) -> Reply {
         self.apply(step)

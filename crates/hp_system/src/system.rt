@@ -7,7 +7,7 @@ ghost use Rattle.hp_pool.specs.Ledgers.{AreLedgers};
 ghost use Rattle.hp_model.specs.machine.SlotEvent.{has_maps};
 ghost use Rattle.hp_mount_door.specs.Door.{IsReady as IsReadyPool};
 ghost use Rattle.hp_system.specs.Event.{AllExit, AllGo};
-ghost use Rattle.hp_system.specs.Kept.{all_free, IsReady, machine_of};
+ghost use Rattle.hp_system.specs.Kept.{all_free, IsReadyMachine, machine_of};
 
 mod accesses;
 mod slots;
@@ -23,7 +23,7 @@ use std::alloc::{AllocError, Global};
 use std::marker::Model;
 
 /// The machine. Contracts see its state and the pool's own numbers. Each step wants that these are the sums over files and
-/// maps (`IsReady`), and keeps it. It can't be dropped: `close` ends it.
+/// maps (`IsReadyMachine`), and keeps it. It can't be dropped: `close` ends it.
 pub struct System<N: Naming> {
     page_bytes: usize,
     alloc: Global,
@@ -65,7 +65,7 @@ impl<N: Naming> System<N> {
         requires ledgers { AreLedgers N.Naming blanks }
         requires frames { AreFrames N.frames frames.now }
         ensures start { IfOk result (λ s. s.state ≡ start frames.now page_bytes slots) }
-        ensures ready { IfOk result (λ s. IsReady s) }
+        ensures ready { IfOk result (λ s. IsReadyMachine s) }
     {
         let table = TaskTable::new(alloc)?;
         let mut mounts = Vec::with_capacity(alloc, slots as usize)?;
@@ -101,7 +101,7 @@ impl<N: Naming> System<N> {
         requires ready { IsReadyPool self.pool }
         ensures counts { (left : PoolValue) × AllGo self.state.slots self.pool left
             × (result ≡ counts_of left) }
-        ensures free { IsReady self → result ≡ all_free self.state }
+        ensures free { IsReadyMachine self → result ≡ all_free self.state }
         ensures few { result.total ≤ 262144 }
     {
         let System {

@@ -22,13 +22,13 @@ pub struct TaskTable {
 impl Model for TaskTable {
     ghost use Rattle.std.specs.Prelude.{◌≤◌, vec_capacity};
     ghost use Rattle.hp_model.specs.machine.Table.{Table};
-    ghost use Rattle.hp_system.specs.Table.{IsTable};
+    ghost use Rattle.hp_system.specs.Table.{IsTaskTable};
 
     ghost Value = { Table };
 
     ghost view = { λ a. a.tasks.items };
 
-    ghost invariant = { λ a. IsTable a.tasks.items (vec_capacity a.tasks) };
+    ghost invariant = { λ a. IsTaskTable a.tasks.items (vec_capacity a.tasks) };
 }
 
 ghost use Rattle.std.specs.Prelude.{◌≡◌, ◌≢◌, ◌<◌, ℕ, length, [], IfOk, Ok, Err, IsTrue, is_some, None};

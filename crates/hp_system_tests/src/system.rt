@@ -2,7 +2,7 @@
 ghost use Rattle.std.specs.Prelude.{◌≡◌, ◌∷◌, []};
 ghost use Rattle.hp_nodes.specs.Ledgers.{AreFrames};
 ghost use Rattle.hp_pool.specs.Ledgers.{AreLedgers};
-ghost use Rattle.hp_system.specs.Kept.{IsReady};
+ghost use Rattle.hp_system.specs.Kept.{IsReadyMachine};
 
 use crate::same::same;
 use hp_model::answer::{Answer, Counts, Reply};
@@ -32,8 +32,8 @@ fn all_free(pages: u64) -> Counts {
 
 // Steps in a list are answered one after another.
 fn runs<N: Naming, R: Abort>(rt: &R, alloc: Global, system: &mut System<N>)
-    requires { IsReady system.old }
-    ensures { IsReady system.new }
+    requires { IsReadyMachine system.old }
+    ensures { IsReadyMachine system.new }
 {
     let steps = [
         Step::Connect { task: 9, home: 0 },
@@ -71,23 +71,23 @@ fn steps(rt: HostRuntime) {
 // The machine's calls, of which each is asked for one thing: what they promise is not carried through a whole test.
 
 fn apply<N: Naming>(system: &mut System<N>, step: &Step<'_>) -> Reply
-    requires { IsReady system.old }
-    ensures { IsReady system.new }
+    requires { IsReadyMachine system.old }
+    ensures { IsReadyMachine system.new }
 {
     system.apply(step)
 }
 
 fn call<N: Naming>(system: &mut System<N>, step: &Step<'_>) -> Reply
-    requires { IsReady system.old }
-    ensures { IsReady system.new }
+    requires { IsReadyMachine system.old }
+    ensures { IsReadyMachine system.new }
 {
     system.call(step)
 }
 
 // Whether the step is answered with these bytes, in the caller's room.
 fn shows<N: Naming>(system: &mut System<N>, step: &Step<'_>, wanted: &[u8]) -> bool
-    requires { IsReady system.old }
-    ensures { IsReady system.new }
+    requires { IsReadyMachine system.old }
+    ensures { IsReadyMachine system.new }
 {
     let mut room = [255u8; 256];
     let mut reply = Ok(Told::Done);
@@ -100,8 +100,8 @@ fn shows<N: Naming>(system: &mut System<N>, step: &Step<'_>, wanted: &[u8]) -> b
 
 // How many names are answered, or why none is.
 fn names<N: Naming>(system: &mut System<N>) -> Result<usize, Refusal>
-    requires { IsReady system.old }
-    ensures { IsReady system.new }
+    requires { IsReadyMachine system.old }
+    ensures { IsReadyMachine system.new }
 {
     let mut room = [255u8; 256];
     let mut reply = Ok(Told::Done);
@@ -115,8 +115,8 @@ fn names<N: Naming>(system: &mut System<N>) -> Result<usize, Refusal>
 
 // Bytes of a file are answered in the caller's room, and in the answer itself.
 fn shows_zeros<N: Naming, R: Abort>(rt: &R, system: &mut System<N>)
-    requires { IsReady system.old }
-    ensures { IsReady system.new }
+    requires { IsReadyMachine system.old }
+    ensures { IsReadyMachine system.new }
 {
     let truncate = Step::Truncate {
         slot: 0,

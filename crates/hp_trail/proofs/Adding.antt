@@ -12,16 +12,16 @@ use Rattle.hp_model.specs.declared.entry.PoolEntry.TheVariants.{OfSlot, OfPool}
 use Rattle.hp_model.specs.declared.entry.Receipt.{Receipt}
 use Rattle.hp_model.specs.threads.Differ.{entry_at, of_pool}
 use Rattle.hp_model.specs.threads.JointRun.{Trails, slot_trail, Entry, InTasks, InSlot, InPool, event_of}
-use Rattle.hp_trail.specs.Tellers.{Added, AddsPool, AddsSlot, AddsTask, ClaimsSection, Fit, Rows, Stands, asked_of, teller}
+use Rattle.hp_trail.specs.Tellers.{Added, AddsPool, AddsSlot, AddsTask, ClaimsSection, Fit, Stands, TellerRows, asked_section, teller}
 use Rattle.hp_trail.proofs.Indexing.{claim_long, claim_other, claim_same, row_there, some_is}
 
-module _ (t : Trails) (w : Rows) (r : Receipt) (s : ℕ) (fit : Fit t w) where
-  abbrev Others : Entry → Rows → Part → ℕ → Type 0
+module _ (t : Trails) (w : TellerRows) (r : Receipt) (s : ℕ) (fit : Fit t w) where
+  abbrev Others : Entry → TellerRows → Part → ℕ → Type 0
   Others e w' part place =
       (teller w' part place ≡ teller w part place)
-      ⊎ (((part ≡ r.part) × (place ≡ r.place)) ⊎ ((a : Asked) × (asked_of e ≡ Some a) × (part ≡ AtPool) × (place ≡ a.place)))
+      ⊎ (((part ≡ r.part) × (place ≡ r.place)) ⊎ ((a : Asked) × (asked_section e ≡ Some a) × (part ≡ AtPool) × (place ≡ a.place)))
 
-  one_row : (e : Entry) (w' : Rows) (part : Part) (place : ℕ) → r.part ≡ part
+  one_row : (e : Entry) (w' : TellerRows) (part : Part) (place : ℕ) → r.part ≡ part
       → (teller w' part place ≡ teller w part place) ⊎ (place ≡ r.place) → Others e w' part place
   one_row e w' part place is (inl same) = inl same
   one_row e w' part place is (inr own) = inr (inl (sym is, own))
@@ -46,7 +46,7 @@ module _ (t : Trails) (w : Rows) (r : Receipt) (s : ℕ) (fit : Fit t w) where
       others AtPool place = inl refl
 
   event_of_pool : (x : PoolEntry) → option_map event_of (of_pool x) ≡ Some (r.event, r.reply)
-      → (e : Entry) × (of_pool x ≡ Some e) × (event_of e ≡ (r.event, r.reply)) × (asked_of e ≡ None)
+      → (e : Entry) × (of_pool x ≡ Some e) × (event_of e ≡ (r.event, r.reply)) × (asked_section e ≡ None)
   event_of_pool (OfSlot section answer) e = cc
   event_of_pool (OfPool v a) e = (InPool v a, refl, some_is (event_of (InPool v a)) (r.event, r.reply) e, refl)
 
@@ -91,7 +91,7 @@ module _ (t : Trails) (w : Rows) (r : Receipt) (s : ℕ) (fit : Fit t w) where
     };
   }
     where
-      new : Rows
+      new : TellerRows
       new = record w { slots = rows'; pool = row' }
 
       there : k < length w.slots

@@ -18,7 +18,7 @@ use Rattle.hp_model.specs.declared.section.Section.{Section}
 use Rattle.hp_model.specs.threads.Differ.{Asks, Has, HasCircle, InPoolAt, IsBefore, entry_at, of_pool}
 use Rattle.hp_model.specs.threads.JointRun.{Trails, slot_trail, Entry, InTasks, InSlot, InPool}
 use Rattle.hp_model.specs.machine.Plan.{Reply}
-use Rattle.hp_trail.specs.Walk.{Cursors, at, cursor, session}
+use Rattle.hp_trail.specs.Walk.{Cursors, cursor, cursor_at, session}
 
 -- a list that is as long has an element there
 there_below : {X : Type 0} (xs : List X) (m n : ℕ) (x : X) → m < n → slice_get xs n ≡ Some x → (y : X) × (slice_get xs m ≡ Some y)
@@ -39,15 +39,15 @@ module _ (t : Trails) (receipts : List (List Receipt)) (c : Cursors) where
     pub right : (s j : ℕ) (r : Receipt) → Has receipts s j r → entry_at t r.part r.place ≢ None
     -- each event that is left is told by a receipt that is left
     pub told : (part : Part) (place : ℕ) → entry_at t part place ≢ None → cursor c part ≤ place
-        → (s : ℕ) × (j : ℕ) × (r : Receipt) × (at c.sessions s ≤ j) × Has receipts s j r × (r.part ≡ part) × (r.place ≡ place)
+        → (s : ℕ) × (j : ℕ) × (r : Receipt) × (cursor_at c.sessions s ≤ j) × Has receipts s j r × (r.part ≡ part) × (r.place ≡ place)
     -- and the other way round
-    pub left : (s j : ℕ) (r : Receipt) → at c.sessions s ≤ j → Has receipts s j r → cursor c r.part ≤ r.place
+    pub left : (s j : ℕ) (r : Receipt) → cursor_at c.sessions s ≤ j → Has receipts s j r → cursor c r.part ≤ r.place
     pub once : (s i j : ℕ) (r q : Receipt) → Has receipts s i r → Has receipts s j q → r.part ≡ q.part → r.place ≡ q.place → i ≡ j
     -- a section that is left is of an event that is left
     pub claimed : (section : Section) (answer : PoolAnswer) → slice_get t.pool c.pool ≡ Some (OfSlot section answer)
-        → (k : ℕ) × (i : ℕ) × (asked : Asked) × Asks t k i asked × (asked.place ≡ c.pool) × (at c.slots k ≤ i)
+        → (k : ℕ) × (i : ℕ) × (asked : Asked) × Asks t k i asked × (asked.place ≡ c.pool) × (cursor_at c.slots k ≤ i)
     -- a session's next receipt, where its entry comes next in its trail, is of a slot's event whose section does not come next
-    pub blocked : (s : ℕ) (r : Receipt) → Has receipts s (at c.sessions s) r → r.place ≡ cursor c r.part
+    pub blocked : (s : ℕ) (r : Receipt) → Has receipts s (cursor_at c.sessions s) r → r.place ≡ cursor c r.part
         → (k : ℕ) × (asked : Asked) × (r.part ≡ AtSlot k) × Asks t k r.place asked × (c.pool < asked.place) × (slice_get t.pool asked.place ≢ None)
 
   module _ (h : IsStuck) where
@@ -122,20 +122,20 @@ module _ (t : Trails) (receipts : List (List Receipt)) (c : Cursors) where
     at_cursor : (b : Part) (j : ℕ) → entry_at t b j ≢ None → cursor c b ≡ j → Earlier b j
     at_cursor b j some is =
         let x = h.told b j some (omega (arith, is)) in
-        by_index x.0 x.1 x.2 x.4 x.5 x.6 (either (at c.sessions x.0) x.1 x.3)
+        by_index x.0 x.1 x.2 x.4 x.5 x.6 (either (cursor_at c.sessions x.0) x.1 x.3)
       where
-        by_index : (s i : ℕ) (r : Receipt) → Has receipts s i r → r.part ≡ b → r.place ≡ j → (at c.sessions s < i) ⊎ (at c.sessions s ≡ i) → Earlier b j
+        by_index : (s i : ℕ) (r : Receipt) → Has receipts s i r → r.part ≡ b → r.place ≡ j → (cursor_at c.sessions s < i) ⊎ (cursor_at c.sessions s ≡ i) → Earlier b j
         by_index s i r has part place (inl l) =
-            let first = there_below (session receipts s) (at c.sessions s) i r l has in (
+            let first = there_below (session receipts s) (cursor_at c.sessions s) i r l has in (
               first.0.part,
               first.0.place,
-              left_at first.0.part first.0.place (h.left s (at c.sessions s) first.0 (omega arith) first.1),
-              h.right s (at c.sessions s) first.0 first.1,
-              (λ e. (let same = h.once s (at c.sessions s) i first.0 r first.1 has (e.0 ∙ sym part) (e.1 ∙ sym place) in omega (arith, same, l))),
-              inr (inr (s, at c.sessions s, i, first.0, r, first.1, has, l, refl, refl, part, place)),
+              left_at first.0.part first.0.place (h.left s (cursor_at c.sessions s) first.0 (omega arith) first.1),
+              h.right s (cursor_at c.sessions s) first.0 first.1,
+              (λ e. (let same = h.once s (cursor_at c.sessions s) i first.0 r first.1 has (e.0 ∙ sym part) (e.1 ∙ sym place) in omega (arith, same, l))),
+              inr (inr (s, cursor_at c.sessions s, i, first.0, r, first.1, has, l, refl, refl, part, place)),
             )
         by_index s i r has part place (inr e) =
-            let next : Has receipts s (at c.sessions s) r = subst (λ (n : ℕ). Has receipts s n r) (sym e) has in
+            let next : Has receipts s (cursor_at c.sessions s) r = subst (λ (n : ℕ). Has receipts s n r) (sym e) has in
             let k = h.blocked s r next (place ∙ sym is ∙ ap (cursor c) (sym part)) in
             let here = waits k.0 r.place k.1 k.3 k.4 k.5 in
             subst (λ (p : Part). Earlier p j) (sym k.2 ∙ part) (subst (λ (n : ℕ). Earlier (AtSlot k.0) n) place here)
@@ -154,10 +154,10 @@ module _ (t : Trails) (receipts : List (List Receipt)) (c : Cursors) where
         by_entry : (o : Option SlotEntry) → slice_get (slot_trail t k) j ≡ o → Earlier (AtSlot k) j
         by_entry None e = absurd (some (ap (option_map (InSlot k)) e))
         by_entry (Some x) e =
-            let y = there_below (slot_trail t k) (at c.slots k) j x l e in (
+            let y = there_below (slot_trail t k) (cursor_at c.slots k) j x l e in (
               AtSlot k,
-              at c.slots k,
-              left_at (AtSlot k) (at c.slots k) (omega arith),
+              cursor_at c.slots k,
+              left_at (AtSlot k) (cursor_at c.slots k) (omega arith),
               (λ none. no_entry (InSlot k y.0) (sym (ap (option_map (InSlot k)) y.1) ∙ none)),
               (λ e. omega (arith, e.1, l)),
               inl (refl, l),

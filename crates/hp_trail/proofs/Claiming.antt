@@ -9,7 +9,7 @@ use Rattle.hp_model.specs.declared.entry.PoolEntry.TheVariants.{OfSlot}
 use Rattle.hp_model.specs.declared.entry.Receipt.{Receipt}
 use Rattle.hp_model.specs.declared.entry.SlotEntry.{SlotEntry}
 use Rattle.hp_model.specs.threads.JointRun.{Entry}
-use Rattle.hp_trail.specs.Tellers.{Adds, Claims, ClaimsSection, Finds, Misses, Refuses, RefusesSection, Stands, TellsOf, slot_event}
+use Rattle.hp_trail.specs.Tellers.{AddsEntry, Claims, ClaimsSection, Finds, Misses, RefusesEntry, RefusesSection, Stands, TellsOf, entry_of_slot}
 use Rattle.hp_trail.specs.Walk.{lists}
 use Rattle.hp_trail.proofs.Indexing.{element_at, get_there, lists_long, lists_read, row_there, some_is}
 
@@ -28,10 +28,10 @@ module _ {X : Type 0} (entry : X → Option Entry) (trail : List X) (r : Receipt
     pub other_misses : (TellsOf (entry x) r → ⊥) → Misses entry trail r
     other_misses other y at same = other (subst (λ (z : X). TellsOf (entry z) r) (some_is y x (sym at ∙ element_at trail r.place x below read)) same)
 
-    pub noted : (row row' : List ℕ) (s : ℕ) → TellsOf (entry x) r → Claims row r.place s row' → Adds entry trail row r s row'
+    pub noted : (row row' : List ℕ) (s : ℕ) → TellsOf (entry x) r → Claims row r.place s row' → AddsEntry entry trail row r s row'
     noted row row' s same claims = (x, finds same, claims)
 
-    pub noted_before : (row : List ℕ) → TellsOf (entry x) r → slice_index_or row r.place 0 ≢ 0 → Refuses entry trail row r
+    pub noted_before : (row : List ℕ) → TellsOf (entry x) r → slice_index_or row r.place 0 ≢ 0 → RefusesEntry entry trail row r
     noted_before row same taken = inr (x, finds same, taken)
 
 -- ---- a section in the pool's trail
@@ -55,7 +55,7 @@ module _ (pool : List PoolEntry) (row : List ℕ) (asked : Option Asked) (a : As
 
 -- ---- a trail among the slots'
 
-pub no_trail : (slots : List (Vec SlotEntry)) (k : ℕ) (r : Receipt) → false ≡ ltb k (length slots) → Misses (slot_event k) (slice_index_or (lists slots) k []) r
+pub no_trail : (slots : List (Vec SlotEntry)) (k : ℕ) (r : Receipt) → false ≡ ltb k (length slots) → Misses (entry_of_slot k) (slice_index_or (lists slots) k []) r
 no_trail slots k r past e at same =
     let there = row_there (lists slots) k r.place (get_there (slice_index_or (lists slots) k []) r.place e at) in
     false≢true (past ∙ lt-ltb k (length slots) (omega (arith, there, lists_long slots)))

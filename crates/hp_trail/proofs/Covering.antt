@@ -9,8 +9,8 @@ use Rattle.hp_model.specs.declared.entry.Part.TheVariants.{Tasks, Slot as AtSlot
 use Rattle.hp_model.specs.declared.entry.Receipt.{Receipt}
 use Rattle.hp_model.specs.threads.Differ.{Has, entry_at}
 use Rattle.hp_model.specs.threads.JointRun.{Trails, slot_trail, Entry, InTasks, InSlot, InPool, Item, part_of, receipt_of, slot_entry, task_entry, placed}
-use Rattle.hp_trail.specs.Tellers.{AreTold, Rows, teller}
-use Rattle.hp_trail.specs.Walk.{AreCovered, Cursors, Goes, GoesOn, IsBlocked, Passes, Took, Waits, at, cursor, receipts_left, session}
+use Rattle.hp_trail.specs.Tellers.{AreTold, TellerRows, teller}
+use Rattle.hp_trail.specs.Walk.{AreCovered, Cursors, GoesNumbered, GoesOn, IsBlocked, Passes, Took, Waits, cursor, cursor_at, receipts_left, session}
 use Rattle.hp_trail.proofs.Indexing.{get_there, row_there, some_is}
 use Rattle.hp_trail.proofs.Taking.{stands_at, StandsAt}
 
@@ -20,7 +20,7 @@ module _ (t : Trails) (receipts : List (List Receipt)) (c d : Cursors) where
       → (cursor d p ≡ cursor c p) ⊎ ((p ≡ part_of i.entry) ⊎ (p ≡ AtPool))
   moved i h Tasks place e there = by_entry i.entry refl h.tasks
     where
-      by_entry : (x : Entry) → i.entry ≡ x → Goes t.tasks c.tasks (placed i.place (task_entry x)) d.tasks → (d.tasks ≡ c.tasks) ⊎ ((Tasks ≡ part_of i.entry) ⊎ (Tasks ≡ AtPool))
+      by_entry : (x : Entry) → i.entry ≡ x → GoesNumbered t.tasks c.tasks (placed i.place (task_entry x)) d.tasks → (d.tasks ≡ c.tasks) ⊎ ((Tasks ≡ part_of i.entry) ⊎ (Tasks ≡ AtPool))
       by_entry (InTasks x) is g = inr (inl (sym (ap part_of is)))
       by_entry (InSlot k x) is g = inl g
       by_entry (InPool v a) is g = inl g
@@ -37,60 +37,61 @@ module _ (t : Trails) (receipts : List (List Receipt)) (c d : Cursors) where
               by_kind (InSlot j y) is s = (let same : j ≡ k = cc in subst (λ (n : ℕ). n < length t.slots) same (row_there t.slots j place (get_there (slot_trail t j) place y s)))
               by_kind (InPool v a) is s = cc
 
-      by_entry : (x : Entry) → i.entry ≡ x → Goes (slot_trail t k) (at c.slots k) (placed i.place (slot_entry k x)) (at d.slots k)
-          → (at d.slots k ≡ at c.slots k) ⊎ ((AtSlot k ≡ part_of i.entry) ⊎ (AtSlot k ≡ AtPool))
+      by_entry : (x : Entry) → i.entry ≡ x → GoesNumbered (slot_trail t k) (cursor_at c.slots k) (placed i.place (slot_entry k x)) (cursor_at d.slots k)
+          → (cursor_at d.slots k ≡ cursor_at c.slots k) ⊎ ((AtSlot k ≡ part_of i.entry) ⊎ (AtSlot k ≡ AtPool))
       by_entry (InTasks x) is g = inl g
       by_entry (InSlot j x) is g = by_test (j == k) refl g
         where
-          by_test : (b : Bool) → (j == k) ≡ b → Goes (slot_trail t k) (at c.slots k) (placed i.place (cond b (Some x) None)) (at d.slots k)
-              → (at d.slots k ≡ at c.slots k) ⊎ ((AtSlot k ≡ part_of i.entry) ⊎ (AtSlot k ≡ AtPool))
+          by_test : (b : Bool) → (j == k) ≡ b → GoesNumbered (slot_trail t k) (cursor_at c.slots k) (placed i.place (cond b (Some x) None)) (cursor_at d.slots k)
+              → (cursor_at d.slots k ≡ cursor_at c.slots k) ⊎ ((AtSlot k ≡ part_of i.entry) ⊎ (AtSlot k ≡ AtPool))
           by_test true same g = inr (inl (ap AtSlot (sym (eqb-true j k same)) ∙ sym (ap part_of is)))
           by_test false same g = inl g
       by_entry (InPool v a) is g = inl g
   moved i h AtPool place e there = inr (inr refl)
 
   -- the cursor of another session stays
-  apart_stays : (i : Item) (s u : ℕ) → Passes t receipts c i d → i.by ≡ s → u < length receipts → u ≢ s → at d.sessions u ≡ at c.sessions u
+  apart_stays : (i : Item) (s u : ℕ) → Passes t receipts c i d → i.by ≡ s → u < length receipts → u ≢ s → cursor_at d.sessions u ≡ cursor_at c.sessions u
   apart_stays i s u h by l ne =
       elim (eqb_tells i.by u) [
         | inl w ↦ absurd (ne (sym w.1 ∙ by))
-        | inr w ↦ subst (λ (b : Bool). GoesOn (session receipts u) (at c.sessions u) (cond b (Some (receipt_of i)) None) (at d.sessions u)) w.0 (h.told u l)
+        | inr w ↦ subst (λ (b : Bool). GoesOn (session receipts u) (cursor_at c.sessions u) (cond b (Some (receipt_of i)) None) (cursor_at d.sessions u)) w.0 (h.told u l)
       ]
 
-  own_moves : (i : Item) (s : ℕ) → Passes t receipts c i d → i.by ≡ s → (at d.sessions s ≡ at c.sessions s + 1) × (at c.sessions s < length (session receipts s))
+  own_moves : (i : Item) (s : ℕ) → Passes t receipts c i d → i.by ≡ s → (cursor_at d.sessions s ≡ cursor_at c.sessions s + 1) × (cursor_at c.sessions s < length (session receipts s))
   own_moves i s h by =
-      let g = subst (λ (b : Bool). GoesOn (session receipts i.by) (at c.sessions i.by) (cond b (Some (receipt_of i)) None) (at d.sessions i.by)) (eq-eqb i.by i.by refl) (h.told i.by h.by) in
-      subst (λ (n : ℕ). (at d.sessions n ≡ at c.sessions n + 1) × (at c.sessions n < length (session receipts n))) by
-      (g.1, get_there (session receipts i.by) (at c.sessions i.by) (receipt_of i) g.0)
+      let g = subst (λ (b : Bool). GoesOn (session receipts i.by) (cursor_at c.sessions i.by) (cond b (Some (receipt_of i)) None) (cursor_at d.sessions i.by))
+      (eq-eqb i.by i.by refl) (h.told i.by h.by) in
+      subst (λ (n : ℕ). (cursor_at d.sessions n ≡ cursor_at c.sessions n + 1) × (cursor_at c.sessions n < length (session receipts n))) by
+      (g.1, get_there (session receipts i.by) (cursor_at c.sessions i.by) (receipt_of i) g.0)
 
-  module _ (rows : Rows) (h : AreTold t receipts rows) (s : ℕ) (part : Part) (took : Took t receipts s part c d) (work : List ℕ)
+  module _ (rows : TellerRows) (h : AreTold t receipts rows) (s : ℕ) (part : Part) (took : Took t receipts s part c d) (work : List ℕ)
       (woken : (p : Part) → (p ≡ part) ⊎ (p ≡ AtPool) → (u : ℕ) → teller rows p (cursor d p) ≡ u + 1 → Contains work u) where
     -- another session that waited is woken, or waits still
-    still : (u : ℕ) → u < length receipts → at d.sessions u ≡ at c.sessions u → Waits t receipts c u → Contains work u ⊎ Waits t receipts d u
-    still u l same waits = by_next (slice_get (session receipts u) (at c.sessions u)) refl
+    still : (u : ℕ) → u < length receipts → cursor_at d.sessions u ≡ cursor_at c.sessions u → Waits t receipts c u → Contains work u ⊎ Waits t receipts d u
+    still u l same waits = by_next (slice_get (session receipts u) (cursor_at c.sessions u)) refl
       where
-        waits_by : (r : Receipt) → Has receipts u (at c.sessions u) r → IsBlocked t d r → Waits t receipts d u
+        waits_by : (r : Receipt) → Has receipts u (cursor_at c.sessions u) r → IsBlocked t d r → Waits t receipts d u
         waits_by r has blocked q has' =
-            let there : Has receipts u (at c.sessions u) q = subst (λ (n : ℕ). Has receipts u n q) same has' in
+            let there : Has receipts u (cursor_at c.sessions u) q = subst (λ (n : ℕ). Has receipts u n q) same has' in
             subst (λ (x : Receipt). IsBlocked t d x) (some_is r q (sym has ∙ there)) blocked
 
-        by_next : (o : Option Receipt) → slice_get (session receipts u) (at c.sessions u) ≡ o → Contains work u ⊎ Waits t receipts d u
-        by_next None none = inr (λ r has. (let there : Has receipts u (at c.sessions u) r = subst (λ (n : ℕ). Has receipts u n r) same has in cc))
+        by_next : (o : Option Receipt) → slice_get (session receipts u) (cursor_at c.sessions u) ≡ o → Contains work u ⊎ Waits t receipts d u
+        by_next None none = inr (λ r has. (let there : Has receipts u (cursor_at c.sessions u) r = subst (λ (n : ℕ). Has receipts u n r) same has in cc))
         by_next (Some r) has =
             elim (waits r has) [
               | inl ne ↦
                   elim (eqb_tells r.place (cursor d r.part)) [
                     | inl w ↦
-                        let e = h.right u (at c.sessions u) r has in
+                        let e = h.right u (cursor_at c.sessions u) r has in
                         elim (moved took.0 took.1 r.part r.place e.0 e.1.there) [
                           | inl stays ↦ absurd (ne (w.1 ∙ stays))
-                          | inr x ↦ inl (woken r.part (by_part x) u (ap (teller rows r.part) (sym w.1) ∙ h.noted u (at c.sessions u) r has))
+                          | inr x ↦ inl (woken r.part (by_part x) u (ap (teller rows r.part) (sym w.1) ∙ h.noted u (cursor_at c.sessions u) r has))
                         ]
                     | inr w ↦ inr (waits_by r has (inl w.1))
                   ]
               | inr x ↦
                   elim (eqb_tells x.1.place d.pool) [
-                    | inl w ↦ inl (woken AtPool (inr refl) u (ap (teller rows AtPool) (sym w.1) ∙ (h.section u (at c.sessions u) r x.0 x.1 has x.2 x.3).1))
+                    | inl w ↦ inl (woken AtPool (inr refl) u (ap (teller rows AtPool) (sym w.1) ∙ (h.section u (cursor_at c.sessions u) r x.0 x.1 has x.2 x.3).1))
                     | inr w ↦ inr (waits_by r has (inr (x.0, x.1, x.2, x.3, w.1)))
                   ]
             ]
@@ -146,8 +147,8 @@ fewer (rs ∷ rss) f g (suc s) l some own others =
     omega (arith, first, rest)
 
 pub one_fewer : (t : Trails) (receipts : List (List Receipt)) (c d : Cursors) (s : ℕ) (part : Part) → Took t receipts s part c d →
-    receipts_left receipts (at d.sessions) + 1 ≡ receipts_left receipts (at c.sessions)
+    receipts_left receipts (cursor_at d.sessions) + 1 ≡ receipts_left receipts (cursor_at c.sessions)
 one_fewer t receipts c d s part took =
     let own = own_moves t receipts c d took.0 s took.1 took.2 in
-    let below = row_there receipts s (at c.sessions s) own.1 in
-    fewer receipts (at c.sessions) (at d.sessions) s below own.1 own.0 (λ u l ne. apart_stays t receipts c d took.0 s u took.1 took.2 l ne)
+    let below = row_there receipts s (cursor_at c.sessions s) own.1 in
+    fewer receipts (cursor_at c.sessions) (cursor_at d.sessions) s below own.1 own.0 (λ u l ne. apart_stays t receipts c d took.0 s u took.1 took.2 l ne)

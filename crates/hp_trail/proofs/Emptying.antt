@@ -123,17 +123,6 @@ module _ (receipts : List (List Receipt)) (items : List Item) (is_told : IsTold 
                 | inr w ↦ ap (λ b. cond b (Some (receipt_of last.last)) None) w.0
               ]
 
-pub emptying_none : (receipts : List (List Receipt)) (items : List Item) (order : List ℕ) → IsTold receipts items → map session_of items ≡ order → IsEmptying items (length receipts) order receipts []
-emptying_none receipts items order is_told ordered = record {
-  front = items;
-  back = [];
-  all = sym (append-nil items);
-  ordered = ordered;
-  count = refl;
-  kept = λ s l. sym (is_told.each s l);
-  taken = refl;
-}
-
 pub all_taken : (items : List Item) (n : ℕ) (order : List ℕ) (left : List (List Receipt)) (events : List Event) →
     IsEmptying items n order left events → order ≡ [] → map happened items ≡ reverse events
 all_taken items n order left events h none = no_front h.front h.back h.all (h.ordered ∙ none) ∙ sym h.taken

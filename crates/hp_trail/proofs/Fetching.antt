@@ -11,8 +11,8 @@ use Rattle.hp_model.specs.declared.entry.SlotEntry.{SlotEntry}
 use Rattle.hp_model.specs.declared.entry.TableEntry.{TableEntry}
 use Rattle.hp_model.specs.threads.Differ.{of_pool}
 use Rattle.hp_model.specs.threads.JointRun.{InTasks, InSlot, Trails, slot_trail}
-use Rattle.hp_trail.specs.Tellers.{asked_of}
-use Rattle.hp_trail.specs.Walk.{Cursors, Walking, at, lists, next_section}
+use Rattle.hp_trail.specs.Tellers.{asked_section}
+use Rattle.hp_trail.specs.Walk.{Cursors, Walking, cursor_at, lists, next_section}
 use Rattle.hp_trail.proofs.Indexing.{get_there, lists_long, lists_read, read_at, row_there}
 
 module _ {X : Type 0} (vs : List (Vec X)) (s i : ℕ) where
@@ -39,15 +39,16 @@ none_is (Some x) none = absurd (none x refl)
 -- ---- the section of an entry
 
 module _ (w now : Walking) (p : Part) (k : ℕ) (same : w ≡ now) (part : p ≡ AtSlot k) where
-  section_of : (o : Option SlotEntry) → slice_get (slot_trail w.trails k) (at w.cursors.slots k) ≡ o → next_section now.trails now.cursors p ≡ option_and_then asked_of (option_map (InSlot k) o)
+  section_of : (o : Option SlotEntry) → slice_get (slot_trail w.trails k) (cursor_at w.cursors.slots k) ≡ o
+      → next_section now.trails now.cursors p ≡ option_and_then asked_section (option_map (InSlot k) o)
   section_of o is =
       ap (next_section now.trails now.cursors) part ∙ ap (λ (v : Walking). next_section v.trails v.cursors (AtSlot k)) (sym same)
-      ∙ ap (λ e. option_and_then asked_of (option_map (InSlot k) e)) is
+      ∙ ap (λ e. option_and_then asked_section (option_map (InSlot k) e)) is
 
-  pub section_none : ((e : SlotEntry) → slice_get (slot_trail w.trails k) (at w.cursors.slots k) ≡ Some e → ⊥) → next_section now.trails now.cursors p ≡ None
-  section_none none = section_of None (none_is (slice_get (slot_trail w.trails k) (at w.cursors.slots k)) none)
+  pub section_none : ((e : SlotEntry) → slice_get (slot_trail w.trails k) (cursor_at w.cursors.slots k) ≡ Some e → ⊥) → next_section now.trails now.cursors p ≡ None
+  section_none none = section_of None (none_is (slice_get (slot_trail w.trails k) (cursor_at w.cursors.slots k)) none)
 
-  pub section_some : (e : SlotEntry) → slice_get (slot_trail w.trails k) (at w.cursors.slots k) ≡ Some e → next_section now.trails now.cursors p ≡ e.asked
+  pub section_some : (e : SlotEntry) → slice_get (slot_trail w.trails k) (cursor_at w.cursors.slots k) ≡ Some e → next_section now.trails now.cursors p ≡ e.asked
   section_some e is = section_of (Some e) is
 
 module _ (t : Trails) (c : Cursors) where
@@ -55,13 +56,13 @@ module _ (t : Trails) (c : Cursors) where
   pub section_elsewhere : (p : Part) → ((k : ℕ) → p ≡ AtSlot k → ⊥) → next_section t c p ≡ None
   section_elsewhere Tasks other = by_entry (slice_get t.tasks c.tasks)
     where
-      by_entry : (o : Option TableEntry) → option_and_then asked_of (option_map InTasks o) ≡ None
+      by_entry : (o : Option TableEntry) → option_and_then asked_section (option_map InTasks o) ≡ None
       by_entry None = refl
       by_entry (Some e) = refl
   section_elsewhere (AtSlot k) other = absurd (other k refl)
   section_elsewhere AtPool other = by_entry (slice_get t.pool c.pool)
     where
-      by_entry : (o : Option PoolEntry) → option_and_then asked_of (option_and_then of_pool o) ≡ None
+      by_entry : (o : Option PoolEntry) → option_and_then asked_section (option_and_then of_pool o) ≡ None
       by_entry None = refl
       by_entry (Some (OfSlot section answer)) = refl
       by_entry (Some (OfPool v r)) = refl

@@ -15,11 +15,6 @@ lists_long (v ∷ vs) = ap suc (lists_long vs)
 pub some_is : {X : Type 0} (a b : X) → Some a ≡ Some b → a ≡ b
 some_is a b e = cc
 
-pub lists_at : {X : Type 0} (vs : List (Vec X)) (k : ℕ) (v : Vec X) → slice_get vs k ≡ Some v → slice_index_or (lists vs) k [] ≡ v.items
-lists_at [] k v e = cc
-lists_at (x ∷ xs) zero v e = ap (λ w. w.items) (some_is x v e)
-lists_at (x ∷ xs) (suc k) v e = lists_at xs k v e
-
 pub lists_read : {X : Type 0} (vs : List (Vec X)) (k : ℕ) (v : Vec X) → k < length vs → v ≡ slice_index_or vs k v → slice_index_or (lists vs) k [] ≡ v.items
 lists_read [] k v l e = absurd (omega (arith, l))
 lists_read (x ∷ xs) zero v l e = ap (λ w. w.items) (sym e)

@@ -7,8 +7,8 @@ use Rattle.hp_model.specs.declared.entry.Part.{Part}
 use Rattle.hp_model.specs.declared.entry.Part.TheVariants.{Pool as AtPool}
 use Rattle.hp_model.specs.declared.entry.Receipt.{Receipt}
 use Rattle.hp_model.specs.threads.JointRun.{Trails}
-use Rattle.hp_trail.specs.Tellers.{AreTold, Rows, teller}
-use Rattle.hp_trail.specs.Walk.{AreCovered, IsWoken, Passed, Took, Waits, Walking, WalkedBy, at, cursor, receipts_left}
+use Rattle.hp_trail.specs.Tellers.{AreTold, TellerRows, teller}
+use Rattle.hp_trail.specs.Walk.{AreCovered, IsWoken, Passed, Took, Waits, Walking, WalkedBy, cursor_at, cursor, receipts_left}
 use Rattle.hp_trail.proofs.Covering.{covered_on, covered_without, one_fewer}
 use Rattle.hp_trail.proofs.Walking.{walked_on}
 
@@ -19,7 +19,7 @@ pub record IsJoining (t : Trails) (receipts : List (List Receipt)) (w : Walking)
   pub walked : WalkedBy t receipts w.cursors order
   pub covered : AreCovered t receipts w.cursors work
 
-module _ (t : Trails) (receipts : List (List Receipt)) (rows : Rows) (told : AreTold t receipts rows) (w w' : Walking) (s : ℕ) (order work rest : List ℕ) (h : IsJoining t receipts w order work)
+module _ (t : Trails) (receipts : List (List Receipt)) (rows : TellerRows) (told : AreTold t receipts rows) (w w' : Walking) (s : ℕ) (order work rest : List ℕ) (h : IsJoining t receipts w order work)
     (popped : work ≡ rest ++ s ∷ []) where
   covered : AreCovered t receipts w.cursors (rest ++ s ∷ [])
   covered = subst (λ xs. AreCovered t receipts w.cursors xs) popped h.covered
@@ -51,7 +51,7 @@ module _ (t : Trails) (receipts : List (List Receipt)) (rows : Rows) (told : Are
           (two.kept s (one.kept s (Contains-push rest s)));
     }
 
-    pub smaller : length work' + 3 * receipts_left receipts (at w'.cursors.sessions) < length work + 3 * receipts_left receipts (at w.cursors.sessions)
+    pub smaller : length work' + 3 * receipts_left receipts (cursor_at w'.cursors.sessions) < length work + 3 * receipts_left receipts (cursor_at w.cursors.sessions)
     smaller =
         let fewer = one_fewer t receipts w.cursors w'.cursors s part took in
         let long = length-append rest (s ∷ []) in

@@ -16,7 +16,7 @@ use Rattle.hp_model.specs.declared.section.PoolAnswer.{PoolAnswer}
 use Rattle.hp_model.specs.declared.section.Section.{Section}
 use Rattle.hp_model.specs.threads.Differ.{Asks, Differ, Has, entry_at, of_pool}
 use Rattle.hp_model.specs.threads.JointRun.{Trails, slot_trail, Entry, InTasks, InSlot, InPool}
-use Rattle.hp_trail.specs.Tellers.{Added, AreListed, AreTold, Fit, Gap, IsNotFree, IsPast, IsRefused, NoGap, Rows, Source, Stands, Tells, asked_of, blank, no_tellers, row, teller}
+use Rattle.hp_trail.specs.Tellers.{Added, AreListed, AreTold, Fit, Gap, IsNotFree, IsPast, IsRefused, NoGap, Source, Stands, TellerRows, TellsEntry, asked_section, blank, no_tellers, row, teller}
 use Rattle.hp_trail.proofs.Indexing.{get_there, row_there, some_is, there_get, zeros_at}
 
 some_none : {X : Type 0} (x : X) (o : Option X) → o ≡ Some x → o ≡ None → ⊥
@@ -31,7 +31,7 @@ nonzero n e = absurd (omega (arith, e))
 split : (i j : ℕ) → i < j + 1 → (i < j) ⊎ (i ≡ j)
 split i j l = elim (eqb_tells i j) [ inl w ↦ inr w.1 | inr w ↦ (let ne = w.1 in inl (omega (arith, l, ne))) ]
 
-teller_at : (w : Rows) (p q : Part) (m n : ℕ) → p ≡ q → m ≡ n → teller w p m ≡ teller w q n
+teller_at : (w : TellerRows) (p q : Part) (m n : ℕ) → p ≡ q → m ≡ n → teller w p m ≡ teller w q n
 teller_at w p q m n x y = ap (λ (o : Part). teller w o m) x ∙ ap (teller w q) y
 
 entry_same : (t : Trails) (p q : Part) (m n : ℕ) → p ≡ q → m ≡ n → entry_at t p m ≡ entry_at t q n
@@ -41,29 +41,29 @@ entry_same t p q m n x y = ap (λ (o : Part). entry_at t o m) x ∙ ap (entry_at
 
 module _ (t : Trails) where
   -- an event with a section is a slot's
-  pub asks_of : (p : Part) (place : ℕ) (e : Entry) (a : Asked) → entry_at t p place ≡ Some e → asked_of e ≡ Some a → (k : ℕ) × (p ≡ AtSlot k) × Asks t k place a
+  pub asks_of : (p : Part) (place : ℕ) (e : Entry) (a : Asked) → entry_at t p place ≡ Some e → asked_section e ≡ Some a → (k : ℕ) × (p ≡ AtSlot k) × Asks t k place a
   asks_of Tasks place e a at is = by_entry (slice_get t.tasks place) at
     where
       by_entry : (o : Option TableEntry) → option_map InTasks o ≡ Some e → (k : ℕ) × (Tasks ≡ AtSlot k) × Asks t k place a
       by_entry None same = cc
-      by_entry (Some x) same = (let none = ap asked_of (some_is (InTasks x) e same) in cc)
+      by_entry (Some x) same = (let none = ap asked_section (some_is (InTasks x) e same) in cc)
   asks_of (AtSlot k) place e a at is = by_entry (slice_get (slot_trail t k) place) refl at
     where
       by_entry : (o : Option SlotEntry) → slice_get (slot_trail t k) place ≡ o → option_map (InSlot k) o ≡ Some e → (n : ℕ) × (AtSlot k ≡ AtSlot n) × Asks t n place a
       by_entry None there same = cc
-      by_entry (Some x) there same = (k, refl, record { entry = x; there = there; asks = ap asked_of (some_is (InSlot k x) e same) ∙ is })
+      by_entry (Some x) there same = (k, refl, record { entry = x; there = there; asks = ap asked_section (some_is (InSlot k x) e same) ∙ is })
   asks_of AtPool place e a at is = by_entry (slice_get t.pool place) at
     where
       by_entry : (o : Option PoolEntry) → option_and_then of_pool o ≡ Some e → (k : ℕ) × (AtPool ≡ AtSlot k) × Asks t k place a
       by_entry None same = cc
       by_entry (Some (OfSlot section answer)) same = cc
-      by_entry (Some (OfPool v r)) same = (let none = ap asked_of (some_is (InPool v r) e same) in cc)
+      by_entry (Some (OfPool v r)) same = (let none = ap asked_section (some_is (InPool v r) e same) in cc)
 
   -- the other way round
-  pub asked_from : (p : Part) (place k : ℕ) (e : Entry) (a : Asked) → p ≡ AtSlot k → entry_at t p place ≡ Some e → Asks t k place a → asked_of e ≡ Some a
+  pub asked_from : (p : Part) (place k : ℕ) (e : Entry) (a : Asked) → p ≡ AtSlot k → entry_at t p place ≡ Some e → Asks t k place a → asked_section e ≡ Some a
   asked_from p place k e a part at asks =
       let same : InSlot k asks.entry ≡ e = some_is (InSlot k asks.entry) e (sym (ap (option_map (InSlot k)) asks.there) ∙ sym (ap (λ (o : Part). entry_at t o place) part) ∙ at) in
-      ap asked_of (sym same) ∙ asks.asks
+      ap asked_section (sym same) ∙ asks.asks
 
   -- where a section stands in the pool's trail, no event does
   pub no_event : (place : ℕ) (section : Section) (answer : PoolAnswer) (e : Entry) → slice_get t.pool place ≡ Some (OfSlot section answer) → entry_at t AtPool place ≡ Some e → ⊥
@@ -80,7 +80,7 @@ module _ (t : Trails) where
     past_grows s j u i (inl l) = inl l
     past_grows s j u i (inr x) = (let l = x.1 in inr (x.0, omega (arith, l)))
 
-    module _ (s j : ℕ) (r : Receipt) (w w' : Rows) (has : Has receipts s j r) (l : AreListed t receipts s j w) (a : Added t r s w w') where
+    module _ (s j : ℕ) (r : Receipt) (w w' : TellerRows) (has : Has receipts s j r) (l : AreListed t receipts s j w) (a : Added t r s w w') where
       -- a place that was noted stays so
       kept : (part : Part) (place n : ℕ) → teller w part place ≡ n + 1 → teller w' part place ≡ n + 1
       kept part place n is =
@@ -127,11 +127,11 @@ module _ (t : Trails) where
                 ]
           ]
 
-      right : (u i : ℕ) (q : Receipt) → IsPast s (j + 1) u i → Has receipts u i q → (e : Entry) × Tells t q e
+      right : (u i : ℕ) (q : Receipt) → IsPast s (j + 1) u i → Has receipts u i q → (e : Entry) × TellsEntry t q e
       right u i q past h =
           elim (past_more s j u i past) [
             | inl old ↦ l.right u i q old h
-            | inr new ↦ subst (λ (x : Receipt). (e : Entry) × Tells t x e) (sym (new_is u i q new.0 new.1 h)) (a.entry, a.tells)
+            | inr new ↦ subst (λ (x : Receipt). (e : Entry) × TellsEntry t x e) (sym (new_is u i q new.0 new.1 h)) (a.entry, a.tells)
           ]
 
       noted : (u i : ℕ) (q : Receipt) → IsPast s (j + 1) u i → Has receipts u i q → teller w' q.part q.place ≡ u + 1
@@ -208,7 +208,7 @@ module _ (t : Trails) where
     -- ---- a session more, and the start
 
     -- what holds of receipts that are past by one count holds by another
-    moved : (s j u j' : ℕ) (w : Rows) → ((v i : ℕ) (q : Receipt) → Has receipts v i q → IsPast u j' v i → IsPast s j v i) → ((v i : ℕ) → IsPast s j v i → IsPast u j' v i)
+    moved : (s j u j' : ℕ) (w : TellerRows) → ((v i : ℕ) (q : Receipt) → Has receipts v i q → IsPast u j' v i → IsPast s j v i) → ((v i : ℕ) → IsPast s j v i → IsPast u j' v i)
         → AreListed t receipts s j w → AreListed t receipts u j' w
     moved s j u j' w back on l = record {
       right = λ v i q past h. l.right v i q (back v i q h past) h;
@@ -221,7 +221,7 @@ module _ (t : Trails) where
       apart = λ v i z h q p k m x y past past' at at'. l.apart v i z h q p k m x y (back v i q at past) (back z h p at' past') at at';
     }
 
-    pub next_session : (s : ℕ) (w : Rows) → AreListed t receipts s (length (slice_index_or receipts s [])) w → AreListed t receipts (s + 1) 0 w
+    pub next_session : (s : ℕ) (w : TellerRows) → AreListed t receipts s (length (slice_index_or receipts s [])) w → AreListed t receipts (s + 1) 0 w
     next_session s w l = moved s (length (slice_index_or receipts s [])) (s + 1) 0 w back on l
       where
         back : (v i : ℕ) (q : Receipt) → Has receipts v i q → IsPast (s + 1) 0 v i → IsPast s (length (slice_index_or receipts s [])) v i
@@ -262,7 +262,7 @@ module _ (t : Trails) where
 
     -- ---- a receipt that can't be added
 
-    pub refused_differ : (s j : ℕ) (r : Receipt) (w : Rows) → Has receipts s j r → AreListed t receipts s j w → IsRefused t r w → Differ t receipts
+    pub refused_differ : (s j : ℕ) (r : Receipt) (w : TellerRows) → Has receipts s j r → AreListed t receipts s j w → IsRefused t r w → Differ t receipts
     refused_differ s j r w has l (inl wrong) = inr (inr (inr (inl record { session = s; i = j; receipt = r; has = has; other = wrong })))
     refused_differ s j r w has l (inr (inl taken)) =
         let x = l.source r.part r.place taken.2 in
@@ -324,7 +324,7 @@ module _ (t : Trails) where
 
     -- ---- all receipts
 
-    module _ (w : Rows) (fit : Fit t w) (l : AreListed t receipts (length receipts) 0 w) where
+    module _ (w : TellerRows) (fit : Fit t w) (l : AreListed t receipts (length receipts) 0 w) where
       past : (s i : ℕ) (r : Receipt) → Has receipts s i r → IsPast (length receipts) 0 s i
       past s i r has = inl (row_there receipts s i (get_there (slice_index_or receipts s []) i r has))
 

@@ -17,7 +17,7 @@ use Rattle.hp_model.specs.threads.Differ.{Has}
 use Rattle.hp_model.specs.machine.Plan.{Reply}
 use Rattle.hp_model.specs.threads.JointRun.{Trails, slot_trail, Entry, InTasks, InSlot, InPool, Item, option_cons, keep, numbered, placed}
 use Rattle.hp_model.specs.threads.JointRun.{task_entry, slot_entry, section_entry, pool_entry, task_part, slot_part, pool_part, told, part_of, receipt_of, IsThere}
-use Rattle.hp_trail.specs.Walk.{Cursors, at, cursor, session, Walked}
+use Rattle.hp_trail.specs.Walk.{Cursors, cursor_at, cursor, session, Walked}
 use Rattle.hp_trail.proofs.Indexing.{some_is}
 
 -- ---- lists
@@ -133,31 +133,31 @@ module _ (t : Trails) (receipts : List (List Receipt)) (c : Cursors) (items : Li
           let r = numbered_is 0 c.tasks t.tasks m.0 (i.place, e) (ap (λ xs. slice_get xs m.0) (sym w.tasks) ∙ m.1) in omega (arith, r.0, r.1)
       by_entry (InSlot k e) i is there has =
           let m = kept (slot_part k) items i (i.place, e) n has (ap (λ x. slot_part k (record i { entry = x })) is ∙ own_slot k i.place e) in
-          let r = numbered_is 0 (at c.slots k) (slot_trail t k) m.0 (i.place, e) (ap (λ xs. slice_get xs m.0) (sym (w.slots k there)) ∙ m.1) in omega (arith, r.0, r.1)
+          let r = numbered_is 0 (cursor_at c.slots k) (slot_trail t k) m.0 (i.place, e) (ap (λ xs. slice_get xs m.0) (sym (w.slots k there)) ∙ m.1) in omega (arith, r.0, r.1)
       by_entry (InPool e a) i is there has =
           let m = kept pool_part items i (i.place, OfPool e a) n has (ap (λ x. pool_part (record i { entry = x })) is) in
           let r = numbered_is 0 c.pool t.pool m.0 (i.place, OfPool e a) (ap (λ xs. slice_get xs m.0) (sym w.pool) ∙ m.1) in omega (arith, r.0, r.1)
 
   -- a receipt that was passed tells of a place that was passed
-  pub passed_place : (s j : ℕ) (r : Receipt) → s < length receipts → j < at c.sessions s → Has receipts s j r → r.place < cursor c r.part
+  pub passed_place : (s j : ℕ) (r : Receipt) → s < length receipts → j < cursor_at c.sessions s → Has receipts s j r → r.place < cursor c r.part
   passed_place s j r l before has =
-      let taken = take_at (at c.sessions s) (session receipts s) j r before has in
+      let taken = take_at (cursor_at c.sessions s) (session receipts s) j r before has in
       let i = kept_from (told s) items r j (ap (λ xs. slice_get xs j) (w.told s l) ∙ taken) in
       let is : r ≡ receipt_of i.1 = (told_is s i.1 r i.3).1 in
       subst (λ (x : Receipt). x.place < cursor c x.part) (sym is) (below i.1 i.0 i.2 (all_at (λ (x : Item). IsThere (length t.slots) x.entry) items i.0 i.1 i.2 w.there))
 
   -- an item is told by a receipt that was passed
   told_by : (i : Item) (n : ℕ) → slice_get items n ≡ Some i
-      → (s : ℕ) × (j : ℕ) × (s < length receipts) × (j < at c.sessions s) × Has receipts s j (receipt_of i)
+      → (s : ℕ) × (j : ℕ) × (s < length receipts) × (j < cursor_at c.sessions s) × Has receipts s j (receipt_of i)
   told_by i n has =
       let l : i.by < length receipts = all_at (λ (x : Item). x.by < length receipts) items n i has w.by in
       let own : told i.by i ≡ Some (receipt_of i) = ap (λ b. cond b (Some (receipt_of i)) None) (eq-eqb i.by i.by refl) in
       let m = kept (told i.by) items i (receipt_of i) n has own in
-      let r = take_is (at c.sessions i.by) (session receipts i.by) m.0 (receipt_of i) (ap (λ xs. slice_get xs m.0) (sym (w.told i.by l)) ∙ m.1) in
+      let r = take_is (cursor_at c.sessions i.by) (session receipts i.by) m.0 (receipt_of i) (ap (λ xs. slice_get xs m.0) (sym (w.told i.by l)) ∙ m.1) in
       (i.by, m.0, l, r.0, r.1)
 
   abbrev pub Told : Part → ℕ → Type 0
-  Told part place = (s : ℕ) × (j : ℕ) × (r : Receipt) × (s < length receipts) × (j < at c.sessions s) × Has receipts s j r × (r.part ≡ part) × (r.place ≡ place)
+  Told part place = (s : ℕ) × (j : ℕ) × (r : Receipt) × (s < length receipts) × (j < cursor_at c.sessions s) × Has receipts s j r × (r.part ≡ part) × (r.place ≡ place)
 
   told_at : (i : Item) (n : ℕ) (part : Part) (place : ℕ) → slice_get items n ≡ Some i → part_of i.entry ≡ part → i.place ≡ place → Told part place
   told_at i n part place has is at =
@@ -172,9 +172,9 @@ module _ (t : Trails) (receipts : List (List Receipt)) (c : Cursors) (items : Li
       told_at i.1 i.0 Tasks place i.2 is.0 (is.1 ∙ omega arith)
 
   -- and so is an event of a slot
-  pub passed_slot : (k place : ℕ) (e : SlotEntry) → k < length t.slots → place < at c.slots k → slice_get (slot_trail t k) place ≡ Some e → Told (AtSlot k) place
+  pub passed_slot : (k place : ℕ) (e : SlotEntry) → k < length t.slots → place < cursor_at c.slots k → slice_get (slot_trail t k) place ≡ Some e → Told (AtSlot k) place
   passed_slot k place e there l has =
-      let within = numbered_at 0 (at c.slots k) (slot_trail t k) place e l has in
+      let within = numbered_at 0 (cursor_at c.slots k) (slot_trail t k) place e l has in
       let i = kept_from (slot_part k) items (0 + place, e) place (ap (λ xs. slice_get xs place) (w.slots k there) ∙ within) in
       let is = slot_is k i.1.entry i.1.place (0 + place, e) i.3 in
       told_at i.1 i.0 (AtSlot k) place i.2 is.0 (is.1 ∙ omega arith)
@@ -188,9 +188,9 @@ module _ (t : Trails) (receipts : List (List Receipt)) (c : Cursors) (items : Li
       told_at i.1 i.0 AtPool place i.2 is.0 (is.1 ∙ omega arith)
 
   -- the section of a slot's event that was passed is below the pool's cursor
-  pub passed_section : (k place : ℕ) (e : SlotEntry) (a : Asked) → k < length t.slots → place < at c.slots k → slice_get (slot_trail t k) place ≡ Some e → e.asked ≡ Some a → a.place < c.pool
+  pub passed_section : (k place : ℕ) (e : SlotEntry) (a : Asked) → k < length t.slots → place < cursor_at c.slots k → slice_get (slot_trail t k) place ≡ Some e → e.asked ≡ Some a → a.place < c.pool
   passed_section k place e a there l has asked =
-      let within = numbered_at 0 (at c.slots k) (slot_trail t k) place e l has in
+      let within = numbered_at 0 (cursor_at c.slots k) (slot_trail t k) place e l has in
       let i = kept_from (slot_part k) items (0 + place, e) place (ap (λ xs. slice_get xs place) (w.slots k there) ∙ within) in
       let own = slot_entry_is k i.1.entry i.1.place (0 + place, e) i.3 in
       let m = kept pool_part items i.1 (a.place, OfSlot a.section a.answer) i.0 i.2 (ap (λ x. pool_part (record i.1 { entry = x })) own ∙ ap section_entry asked) in
@@ -207,13 +207,13 @@ module _ (t : Trails) (receipts : List (List Receipt)) (c : Cursors) (items : Li
 
   -- what was passed in the pool's trail as a section is that of a slot's event that was passed
   pub section_passed : (place : ℕ) (section : Section) (answer : PoolAnswer) → place < c.pool → slice_get t.pool place ≡ Some (OfSlot section answer)
-      → (k : ℕ) × (i : ℕ) × (e : SlotEntry) × (a : Asked) × (k < length t.slots) × (i < at c.slots k) × (slice_get (slot_trail t k) i ≡ Some e) × (e.asked ≡ Some a) × (a.place ≡ place)
+      → (k : ℕ) × (i : ℕ) × (e : SlotEntry) × (a : Asked) × (k < length t.slots) × (i < cursor_at c.slots k) × (slice_get (slot_trail t k) i ≡ Some e) × (e.asked ≡ Some a) × (a.place ≡ place)
   section_passed place section answer l has =
       let there = numbered_at 0 c.pool t.pool place (OfSlot section answer) l has in
       let i = kept_from pool_part items (0 + place, OfSlot section answer) place (ap (λ xs. slice_get xs place) w.pool ∙ there) in
       let found = in_slot i.1 i.1.entry refl (all_at (λ (x : Item). IsThere (length t.slots) x.entry) items i.0 i.1 i.2 w.there) i.3 in
       let m = kept (slot_part found.0) items i.1 (i.1.place, found.1) i.0 i.2 (ap (λ x. placed i.1.place (slot_entry found.0 x)) found.3 ∙ own_slot found.0 i.1.place found.1) in
-      let r = numbered_is 0 (at c.slots found.0) (slot_trail t found.0) m.0 (i.1.place, found.1) (ap (λ xs. slice_get xs m.0) (sym (w.slots found.0 found.4)) ∙ m.1) in
+      let r = numbered_is 0 (cursor_at c.slots found.0) (slot_trail t found.0) m.0 (i.1.place, found.1) (ap (λ xs. slice_get xs m.0) (sym (w.slots found.0 found.4)) ∙ m.1) in
       (found.0, m.0, found.1, found.2, found.4, r.1, r.2, found.5, found.6 ∙ omega arith)
     where
       in_slot : (i : Item) (x : Entry) → i.entry ≡ x → IsThere (length t.slots) x → pool_entry i.place x ≡ Some (0 + place, OfSlot section answer)

@@ -15,8 +15,8 @@ use Rattle.hp_model.specs.declared.section.PoolAnswer.{PoolAnswer}
 use Rattle.hp_model.specs.declared.section.Section.{Section}
 use Rattle.hp_model.specs.threads.Differ.{Asks, Differ, Has, entry_at, of_pool}
 use Rattle.hp_model.specs.threads.JointRun.{Trails, slot_trail, InTasks, InSlot, InPool, Item}
-use Rattle.hp_trail.specs.Tellers.{AreTold, Rows}
-use Rattle.hp_trail.specs.Walk.{Cursors, HaveEnded, IsLeft, JoinsBy, Waits, Walked, WalkedBy, at, cursor, session}
+use Rattle.hp_trail.specs.Tellers.{AreTold, TellerRows}
+use Rattle.hp_trail.specs.Walk.{Cursors, HasReceiptsLeft, HaveEnded, JoinsBy, Waits, Walked, WalkedBy, cursor, cursor_at, session}
 use Rattle.hp_trail.proofs.Circle.{IsStuck, circle}
 use Rattle.hp_trail.proofs.Indexing.{get_there, row_there, there_get}
 use Rattle.hp_trail.proofs.Passing.{Told, passed_place, passed_task, passed_slot, passed_pool, passed_section, section_passed}
@@ -25,7 +25,7 @@ use Rattle.hp_trail.proofs.Walking.{joined}
 some_not_none : {X : Type 0} (x : X) (o : Option X) → o ≡ Some x → o ≢ None
 some_not_none x o a b = cc
 
-module _ (t : Trails) (receipts : List (List Receipt)) (c : Cursors) (items : List Item) (w : Walked t receipts c items) (rows : Rows) (h : AreTold t receipts rows) where
+module _ (t : Trails) (receipts : List (List Receipt)) (c : Cursors) (items : List Item) (w : Walked t receipts c items) (rows : TellerRows) (h : AreTold t receipts rows) where
   right : (s j : ℕ) (r : Receipt) → Has receipts s j r → entry_at t r.part r.place ≢ None
   right s j r has = (let e = h.right s j r has in some_not_none e.0 (entry_at t r.part r.place) e.1.there)
 
@@ -52,23 +52,23 @@ module _ (t : Trails) (receipts : List (List Receipt)) (c : Cursors) (items : Li
       by_entry (Some (OfPool v a)) e = passed_pool t receipts c items w place v a l e
 
   -- a receipt that is left is of an event that is left
-  left_of : (s j : ℕ) (r : Receipt) → at c.sessions s ≤ j → Has receipts s j r → cursor c r.part ≤ r.place
+  left_of : (s j : ℕ) (r : Receipt) → cursor_at c.sessions s ≤ j → Has receipts s j r → cursor c r.part ≤ r.place
   left_of s j r l has =
       elim (cases_lt r.place (cursor c r.part)) [
         | inl below ↦
             let x = passed_told r.part r.place (right s j r has) below in
             let same = h.once s j x.0 x.1 r x.2 has x.5 (sym x.6) (sym x.7) in
-            let moved : x.1 < at c.sessions s = subst (λ (n : ℕ). x.1 < at c.sessions n) (sym same.0) x.4 in
+            let moved : x.1 < cursor_at c.sessions s = subst (λ (n : ℕ). x.1 < cursor_at c.sessions n) (sym same.0) x.4 in
             absurd (omega (arith, same.1, moved, l))
         | inr above ↦ above
       ]
 
   -- and an event that is left is told by a receipt that is left
   told_left : (part : Part) (place : ℕ) → entry_at t part place ≢ None → cursor c part ≤ place
-      → (s : ℕ) × (j : ℕ) × (r : Receipt) × (at c.sessions s ≤ j) × Has receipts s j r × (r.part ≡ part) × (r.place ≡ place)
+      → (s : ℕ) × (j : ℕ) × (r : Receipt) × (cursor_at c.sessions s ≤ j) × Has receipts s j r × (r.part ≡ part) × (r.place ≡ place)
   told_left part place some l =
       let x = h.told part place some in
-      elim (cases_lt x.1 (at c.sessions x.0)) [
+      elim (cases_lt x.1 (cursor_at c.sessions x.0)) [
         | inl before ↦
             let below : x.2.place < cursor c x.2.part = passed_place t receipts c items w x.0 x.1 x.2 (session_there x.0 x.1 x.2 x.3) before x.3 in
             let same : cursor c x.2.part ≡ cursor c part = ap (cursor c) x.4 in
@@ -78,10 +78,10 @@ module _ (t : Trails) (receipts : List (List Receipt)) (c : Cursors) (items : Li
 
   -- a section at the pool's cursor is of an event that is left
   claimed : (section : Section) (answer : PoolAnswer) → slice_get t.pool c.pool ≡ Some (OfSlot section answer)
-      → (k : ℕ) × (i : ℕ) × (asked : Asked) × Asks t k i asked × (asked.place ≡ c.pool) × (at c.slots k ≤ i)
+      → (k : ℕ) × (i : ℕ) × (asked : Asked) × Asks t k i asked × (asked.place ≡ c.pool) × (cursor_at c.slots k ≤ i)
   claimed section answer stands =
       let x = h.claimed c.pool section answer stands in
-      elim (cases_lt x.1 (at c.slots x.0)) [
+      elim (cases_lt x.1 (cursor_at c.slots x.0)) [
         | inl before ↦
             let there = row_there t.slots x.0 x.1 (get_there (slot_trail t x.0) x.1 x.3.entry x.3.there) in
             let below = passed_section t receipts c items w x.0 x.1 x.3.entry x.2 there before x.3.there x.3.asks in
@@ -90,34 +90,34 @@ module _ (t : Trails) (receipts : List (List Receipt)) (c : Cursors) (items : Li
       ]
 
   -- a section that waits is past the pool's cursor
-  later : (s : ℕ) (r : Receipt) (k : ℕ) (a : Asked) → Has receipts s (at c.sessions s) r → r.part ≡ AtSlot k → Asks t k r.place a → a.place ≢ c.pool → c.pool < a.place
+  later : (s : ℕ) (r : Receipt) (k : ℕ) (a : Asked) → Has receipts s (cursor_at c.sessions s) r → r.part ≡ AtSlot k → Asks t k r.place a → a.place ≢ c.pool → c.pool < a.place
   later s r k a has part asks ne =
       elim (cases_lt a.place c.pool) [
         | inl before ↦
-            let stands = h.section s (at c.sessions s) r k a has part asks in
+            let stands = h.section s (cursor_at c.sessions s) r k a has part asks in
             let x = section_passed t receipts c items w a.place a.section a.answer before stands.0 in
             let y = passed_slot t receipts c items w x.0 x.1 x.2 x.4 x.5 x.6 in
             let asks' : Asks t x.0 y.2.place x.3 = subst (λ (n : ℕ). Asks t x.0 n x.3) (sym y.7) record { entry = x.2; there = x.6; asks = x.7 } in
-            let same = h.apart s (at c.sessions s) y.0 y.1 r y.2 k x.0 a x.3 has y.5 part y.6 asks asks' (sym x.8) in
-            let moved : y.1 < at c.sessions s = subst (λ (n : ℕ). y.1 < at c.sessions n) (sym same.0) y.4 in
+            let same = h.apart s (cursor_at c.sessions s) y.0 y.1 r y.2 k x.0 a x.3 has y.5 part y.6 asks asks' (sym x.8) in
+            let moved : y.1 < cursor_at c.sessions s = subst (λ (n : ℕ). y.1 < cursor_at c.sessions n) (sym same.0) y.4 in
             absurd (omega (arith, same.1, moved))
         | inr after ↦ omega (arith, after, ne)
       ]
 
-  blocked : ((s : ℕ) → s < length receipts → Waits t receipts c s) → (s : ℕ) (r : Receipt) → Has receipts s (at c.sessions s) r → r.place ≡ cursor c r.part
+  blocked : ((s : ℕ) → s < length receipts → Waits t receipts c s) → (s : ℕ) (r : Receipt) → Has receipts s (cursor_at c.sessions s) r → r.place ≡ cursor c r.part
       → (k : ℕ) × (asked : Asked) × (r.part ≡ AtSlot k) × Asks t k r.place asked × (c.pool < asked.place) × (slice_get t.pool asked.place ≢ None)
   blocked waits s r has at_cursor =
-      elim (waits s (session_there s (at c.sessions s) r has) r has) [
+      elim (waits s (session_there s (cursor_at c.sessions s) r has) r has) [
         | inl ne ↦ absurd (ne at_cursor)
         | inr x ↦
-            let stands = h.section s (at c.sessions s) r x.0 x.1 has x.2 x.3 in
+            let stands = h.section s (cursor_at c.sessions s) r x.0 x.1 has x.2 x.3 in
             (x.0, x.1, x.2, x.3, later s r x.0 x.1 has x.2 x.3 x.4, some_not_none (OfSlot x.1.section x.1.answer) (slice_get t.pool x.1.place) stands.0)
       ]
 
   -- no session can go on, and some receipt is left
-  pub stuck_differs : ((s : ℕ) → s < length receipts → Waits t receipts c s) → IsLeft receipts c → Differ t receipts
+  pub stuck_differs : ((s : ℕ) → s < length receipts → Waits t receipts c s) → HasReceiptsLeft receipts c → Differ t receipts
   stuck_differs waits left =
-      let r = there_get (session receipts left.0) (at c.sessions left.0) left.2 in
+      let r = there_get (session receipts left.0) (cursor_at c.sessions left.0) left.2 in
       let stuck : IsStuck t receipts c = record {
         right = right;
         told = told_left;
@@ -127,7 +127,7 @@ module _ (t : Trails) (receipts : List (List Receipt)) (c : Cursors) (items : Li
         blocked = blocked waits;
       } in
       inr (inr (inr (inr (inr (inr
-      (circle t receipts c stuck r.0.part r.0.place (left_of left.0 (at c.sessions left.0) r.0 (omega arith) r.1) (right left.0 (at c.sessions left.0) r.0 r.1)))))))
+      (circle t receipts c stuck r.0.part r.0.place (left_of left.0 (cursor_at c.sessions left.0) r.0 (omega arith) r.1) (right left.0 (cursor_at c.sessions left.0) r.0 r.1)))))))
 
   -- all receipts were passed, and with them all trails
   module _ (ended : HaveEnded receipts c) where
@@ -151,12 +151,12 @@ module _ (t : Trails) (receipts : List (List Receipt)) (c : Cursors) (items : Li
           | inr l ↦ l
         ]
 
-    whole_slots : (k : ℕ) → k < length t.slots → length (slot_trail t k) ≤ at c.slots k
+    whole_slots : (k : ℕ) → k < length t.slots → length (slot_trail t k) ≤ cursor_at c.slots k
     whole_slots k there =
-        elim (cases_lt (at c.slots k) (length (slot_trail t k))) [
+        elim (cases_lt (cursor_at c.slots k) (length (slot_trail t k))) [
           | inl l ↦
-              let x = there_get (slot_trail t k) (at c.slots k) l in
-              let below = all_passed (AtSlot k) (at c.slots k) (some_not_none (InSlot k x.0) (entry_at t (AtSlot k) (at c.slots k)) (ap (option_map (InSlot k)) x.1)) in
+              let x = there_get (slot_trail t k) (cursor_at c.slots k) l in
+              let below = all_passed (AtSlot k) (cursor_at c.slots k) (some_not_none (InSlot k x.0) (entry_at t (AtSlot k) (cursor_at c.slots k)) (ap (option_map (InSlot k)) x.1)) in
               absurd (omega (arith, below))
           | inr l ↦ l
         ]
@@ -177,7 +177,7 @@ module _ (t : Trails) (receipts : List (List Receipt)) (c : Cursors) (items : Li
             let below = all_passed AtPool c.pool (some_not_none (InPool v a) (entry_at t AtPool c.pool) (ap (option_and_then of_pool) stands)) in
             absurd (omega (arith, below))
 
-pub ended_joins : (t : Trails) (receipts : List (List Receipt)) (c : Cursors) (order : List ℕ) (rows : Rows) → WalkedBy t receipts c order →
+pub ended_joins : (t : Trails) (receipts : List (List Receipt)) (c : Cursors) (order : List ℕ) (rows : TellerRows) → WalkedBy t receipts c order →
     AreTold t receipts rows → HaveEnded receipts c → JoinsBy t receipts order
 ended_joins t receipts c order rows w h ended = (
   w.0,

@@ -6,7 +6,7 @@ use Rattle.std.proofs.lemmas.List.Elements.{All-append, All-cons, All-nil}
 use Rattle.hp_model.specs.declared.entry.Receipt.{Receipt}
 use Rattle.hp_model.specs.threads.JointRun.{Trails, slot_trail, Item, option_cons, keep, numbered, task_part, slot_part, pool_part, told, IsThere, Joins}
 use Rattle.hp_model.specs.declared.entry.Part.{Part}
-use Rattle.hp_trail.specs.Walk.{Cursors, at, session, Walked, Goes, GoesOn, Passes, HaveEnded, Took, at_start, WalkedBy}
+use Rattle.hp_trail.specs.Walk.{Cursors, cursor_at, session, Walked, GoesNumbered, GoesOn, Passes, HaveEnded, Took, at_start, WalkedBy}
 use Rattle.hp_trail.proofs.Indexing.{map_snoc, some_is, zeros_at}
 
 pub keep_snoc : {X Y : Type 0} (f : X → Option Y) (xs : List X) (x : X) → keep f (xs ++ x ∷ []) ≡ keep f xs ++ option_cons (f x) []
@@ -35,7 +35,8 @@ numbered_snoc a (suc c) (y ∷ ys) x e =
     let more : suc c + 1 ≡ suc (c + 1) = omega arith in
     ap (λ n. numbered a (take n (y ∷ ys))) more ∙ ap (λ zs. (a, y) ∷ zs) (numbered_snoc (a + 1) c ys x e ∙ ap (λ n. numbered (a + 1) (take c ys) ++ (n, x) ∷ []) place)
 
-pub goes : {X : Type 0} (f : Item → Option (ℕ × X)) (items : List Item) (i : Item) (xs : List X) (c d : ℕ) (o : Option (ℕ × X)) → f i ≡ o → keep f items ≡ numbered 0 (take c xs) → Goes xs c o d
+pub goes : {X : Type 0} (f : Item → Option (ℕ × X)) (items : List Item) (i : Item) (xs : List X) (c d : ℕ) (o : Option (ℕ × X)) → f i ≡ o
+    → keep f items ≡ numbered 0 (take c xs) → GoesNumbered xs c o d
     → keep f (items ++ i ∷ []) ≡ numbered 0 (take d xs)
 goes f items i xs c d None is so_far h =
     keep_snoc f items i ∙ ap (λ o. keep f items ++ option_cons o []) is ∙ append-nil (keep f items) ∙ so_far ∙ ap (λ n. numbered 0 (take n xs)) (sym h)
@@ -56,7 +57,7 @@ goes_on f items i xs c d (Some x) is so_far h =
 -- every trail was passed
 pub record IsWhole (t : Trails) (c : Cursors) : Type 0 where
   pub tasks : length t.tasks ≤ c.tasks
-  pub slots : (k : ℕ) → k < length t.slots → length (slot_trail t k) ≤ at c.slots k
+  pub slots : (k : ℕ) → k < length t.slots → length (slot_trail t k) ≤ cursor_at c.slots k
   pub pool : length t.pool ≤ c.pool
 
 module _ (t : Trails) (sessions : List (List Receipt)) where
@@ -64,11 +65,11 @@ module _ (t : Trails) (sessions : List (List Receipt)) where
   pub passed : (c d : Cursors) (items : List Item) (i : Item) → Walked t sessions c items → Passes t sessions c i d → Walked t sessions d (items ++ i ∷ [])
   passed c d items i w p = record {
     tasks = goes task_part items i t.tasks c.tasks d.tasks (task_part i) refl w.tasks p.tasks;
-    slots = λ k l. goes (slot_part k) items i (slot_trail t k) (at c.slots k) (at d.slots k) (slot_part k i) refl (w.slots k l) (p.slots k l);
+    slots = λ k l. goes (slot_part k) items i (slot_trail t k) (cursor_at c.slots k) (cursor_at d.slots k) (slot_part k i) refl (w.slots k l) (p.slots k l);
     pool = goes pool_part items i t.pool c.pool d.pool (pool_part i) refl w.pool p.pool;
     there = All-append (λ (i : Item). IsThere (length t.slots) i.entry) items (i ∷ []) w.there
         (All-cons (λ (i : Item). IsThere (length t.slots) i.entry) i [] p.there (All-nil (λ (i : Item). IsThere (length t.slots) i.entry)));
-    told = λ s l. goes_on (told s) items i (session sessions s) (at c.sessions s) (at d.sessions s) (told s i) refl (w.told s l) (p.told s l);
+    told = λ s l. goes_on (told s) items i (session sessions s) (cursor_at c.sessions s) (cursor_at d.sessions s) (told s i) refl (w.told s l) (p.told s l);
     by = All-append (λ (i : Item). i.by < length sessions) items (i ∷ []) w.by (All-cons (λ (i : Item). i.by < length sessions) i [] p.by (All-nil (λ (i : Item). i.by < length sessions)));
   }
 
@@ -77,11 +78,11 @@ module _ (t : Trails) (sessions : List (List Receipt)) where
   joined c items w whole e = record {
     order = record {
       tasks = w.tasks ∙ ap (numbered 0) (take_all c.tasks t.tasks whole.tasks);
-      slots = λ k l. w.slots k l ∙ ap (numbered 0) (take_all (at c.slots k) (slot_trail t k) (whole.slots k l));
+      slots = λ k l. w.slots k l ∙ ap (numbered 0) (take_all (cursor_at c.slots k) (slot_trail t k) (whole.slots k l));
       pool = w.pool ∙ ap (numbered 0) (take_all c.pool t.pool whole.pool);
       there = w.there;
     };
-    told = record { each = λ s l. w.told s l ∙ take_all (at c.sessions s) (session sessions s) (e s l); by = w.by };
+    told = record { each = λ s l. w.told s l ∙ take_all (cursor_at c.sessions s) (session sessions s) (e s l); by = w.by };
   }
 
 pub started : (t : Trails) (receipts : List (List Receipt)) (slots sessions : ℕ) → WalkedBy t receipts (at_start slots sessions) []

@@ -26,9 +26,9 @@ one_less None = None
 one_less (Some left) = Some (left - 1)
 
 -- one entry more, where entries are kept
-abbrev pub added : {X : Type 0} → Option (List X) → X → Option (List X)
-added None e = None
-added (Some es) e = Some (es ++ e ∷ [])
+abbrev pub with_entry : {X : Type 0} → Option (List X) → X → Option (List X)
+with_entry None e = None
+with_entry (Some es) e = Some (es ++ e ∷ [])
 
 -- ---- by whether entries are kept
 

@@ -16,21 +16,21 @@ use Rattle.hp_model.specs.threads.Differ.{Asks, Has, entry_at, of_pool}
 use Rattle.hp_model.specs.threads.JointRun.{Trails, slot_trail, Entry, InTasks, InSlot, InPool, event_of}
 
 -- for each place of each trail the number of the session that tells of it, plus 1, or 0
-pub record Rows : Type 0 where
+pub record TellerRows : Type 0 where
   pub tasks : List ℕ
   pub slots : List (List ℕ)
   pub pool : List ℕ
 
-abbrev pub row : Rows → Part → List ℕ
+abbrev pub row : TellerRows → Part → List ℕ
 row w Tasks = w.tasks
 row w (AtSlot k) = slice_index_or w.slots k []
 row w AtPool = w.pool
 
-abbrev pub teller : Rows → Part → ℕ → ℕ
+abbrev pub teller : TellerRows → Part → ℕ → ℕ
 teller w part place = slice_index_or (row w part) place 0
 
 -- a row for each trail, as long as it
-pub record Fit (t : Trails) (w : Rows) : Type 0 where
+pub record Fit (t : Trails) (w : TellerRows) : Type 0 where
   pub tasks : length w.tasks ≡ length t.tasks
   pub count : length w.slots ≡ length t.slots
   pub slots : (k : ℕ) → length (slice_index_or w.slots k []) ≡ length (slot_trail t k)
@@ -39,7 +39,7 @@ pub record Fit (t : Trails) (w : Rows) : Type 0 where
 -- ---- one receipt
 
 -- the receipt tells of this entry, which stands at its place
-pub record Tells (t : Trails) (r : Receipt) (entry : Entry) : Type 0 where
+pub record TellsEntry (t : Trails) (r : Receipt) (entry : Entry) : Type 0 where
   pub there : entry_at t r.part r.place ≡ Some entry
   pub same : event_of entry ≡ (r.event, r.reply)
 
@@ -58,23 +58,23 @@ abbrev pub ClaimsSection : List PoolEntry → List ℕ → Option Asked → ℕ 
 ClaimsSection pool row None s row' = row' ≡ row
 ClaimsSection pool row (Some a) s row' = Stands pool a × Claims row a.place s row'
 
-abbrev pub asked_of : Entry → Option Asked
-asked_of (InTasks e) = None
-asked_of (InSlot k e) = e.asked
-asked_of (InPool e r) = None
+abbrev pub asked_section : Entry → Option Asked
+asked_section (InTasks e) = None
+asked_section (InSlot k e) = e.asked
+asked_section (InPool e r) = None
 
 -- a receipt of the session is added
-pub record Added (t : Trails) (r : Receipt) (s : ℕ) (w w' : Rows) : Type 0 where
+pub record Added (t : Trails) (r : Receipt) (s : ℕ) (w w' : TellerRows) : Type 0 where
   pub entry : Entry
-  pub tells : Tells t r entry
+  pub tells : TellsEntry t r entry
   pub free : teller w r.part r.place ≡ 0
   pub own : teller w' r.part r.place ≡ s + 1
-  pub section : (a : Asked) → asked_of entry ≡ Some a
+  pub section : (a : Asked) → asked_section entry ≡ Some a
       → Stands t.pool a × (teller w AtPool a.place ≡ 0) × (teller w' AtPool a.place ≡ s + 1)
   pub others : (part : Part) (place : ℕ)
       → (teller w' part place ≡ teller w part place)
       ⊎ (((part ≡ r.part) × (place ≡ r.place))
-      ⊎ ((a : Asked) × (asked_of entry ≡ Some a) × (part ≡ AtPool) × (place ≡ a.place)))
+      ⊎ ((a : Asked) × (asked_section entry ≡ Some a) × (part ≡ AtPool) × (place ≡ a.place)))
   pub fit : Fit t w'
 
 -- the section is not at its place in the pool's trail, or that place is claimed
@@ -85,11 +85,11 @@ IsNotFree pool row a =
 
 -- a receipt can't be added: it does not tell what stands at its place, or a session tells of it
 -- already, or the entry's section is no such section or is claimed
-abbrev pub IsRefused : Trails → Receipt → Rows → Type 0
+abbrev pub IsRefused : Trails → Receipt → TellerRows → Type 0
 IsRefused t r w =
     (option_map event_of (entry_at t r.part r.place) ≢ Some (r.event, r.reply))
-    ⊎ (((e : Entry) × Tells t r e × (teller w r.part r.place ≢ 0))
-    ⊎ ((e : Entry) × (a : Asked) × Tells t r e × (asked_of e ≡ Some a)
+    ⊎ (((e : Entry) × TellsEntry t r e × (teller w r.part r.place ≢ 0))
+    ⊎ ((e : Entry) × (a : Asked) × TellsEntry t r e × (asked_section e ≡ Some a)
     × (teller w r.part r.place ≡ 0)
     × IsNotFree t.pool w.pool a))
 
@@ -110,32 +110,32 @@ abbrev pub Misses : {X : Type 0} → (X → Option Entry) → List X → Receipt
 Misses {X} entry trail r = (e : X) → slice_get trail r.place ≡ Some e → TellsOf (entry e) r → ⊥
 
 -- an entry's session is noted
-abbrev pub Adds : {X : Type 0} → (X → Option Entry) → List X → List ℕ → Receipt → ℕ → List ℕ
+abbrev pub AddsEntry : {X : Type 0} → (X → Option Entry) → List X → List ℕ → Receipt → ℕ → List ℕ
     → Type 0
-Adds {X} entry trail row r s row' = (e : X) × Finds entry trail r e × Claims row r.place s row'
+AddsEntry {X} entry trail row r s row' = (e : X) × Finds entry trail r e × Claims row r.place s row'
 
 -- or can't be
-abbrev pub Refuses : {X : Type 0} → (X → Option Entry) → List X → List ℕ → Receipt → Type 0
-Refuses {X} entry trail row r = Misses entry trail r
+abbrev pub RefusesEntry : {X : Type 0} → (X → Option Entry) → List X → List ℕ → Receipt → Type 0
+RefusesEntry {X} entry trail row r = Misses entry trail r
     ⊎ ((e : X) × Finds entry trail r e × (slice_index_or row r.place 0 ≢ 0))
 
-abbrev pub task_event : TableEntry → Option Entry
-task_event e = Some (InTasks e)
+abbrev pub entry_of_tasks : TableEntry → Option Entry
+entry_of_tasks e = Some (InTasks e)
 
-abbrev pub slot_event : ℕ → SlotEntry → Option Entry
-slot_event k e = Some (InSlot k e)
+abbrev pub entry_of_slot : ℕ → SlotEntry → Option Entry
+entry_of_slot k e = Some (InSlot k e)
 
 abbrev pub AddsTask : List TableEntry → List ℕ → Receipt → ℕ → List ℕ → Type 0
-AddsTask = Adds task_event
+AddsTask = AddsEntry entry_of_tasks
 
 abbrev pub RefusesTask : List TableEntry → List ℕ → Receipt → Type 0
-RefusesTask = Refuses task_event
+RefusesTask = RefusesEntry entry_of_tasks
 
 abbrev pub AddsPool : List PoolEntry → List ℕ → Receipt → ℕ → List ℕ → Type 0
-AddsPool = Adds of_pool
+AddsPool = AddsEntry of_pool
 
 abbrev pub RefusesPool : List PoolEntry → List ℕ → Receipt → Type 0
-RefusesPool = Refuses of_pool
+RefusesPool = RefusesEntry of_pool
 
 abbrev pub RefusesSection : List PoolEntry → List ℕ → Option Asked → Type 0
 RefusesSection pool row None = ⊥
@@ -146,7 +146,7 @@ pub record AddsSlot (slots : List (List SlotEntry)) (pool : List PoolEntry)
     (rows : List (List ℕ)) (row : List ℕ) (k : ℕ) (r : Receipt) (s : ℕ)
     (rows' : List (List ℕ)) (row' : List ℕ) : Type 0 where
   pub entry : SlotEntry
-  pub finds : Finds (slot_event k) (slice_index_or slots k []) r entry
+  pub finds : Finds (entry_of_slot k) (slice_index_or slots k []) r entry
   pub claimed : List ℕ
   pub claims : Claims (slice_index_or rows k []) r.place s claimed
   pub moves : rows' ≡ slice_set rows k claimed
@@ -155,8 +155,8 @@ pub record AddsSlot (slots : List (List SlotEntry)) (pool : List PoolEntry)
 abbrev pub RefusesSlot : List (List SlotEntry) → List PoolEntry → List (List ℕ) → List ℕ → ℕ
     → Receipt → Type 0
 RefusesSlot slots pool rows row k r =
-    Refuses (slot_event k) (slice_index_or slots k []) (slice_index_or rows k []) r
-    ⊎ ((e : SlotEntry) × Finds (slot_event k) (slice_index_or slots k []) r e
+    RefusesEntry (entry_of_slot k) (slice_index_or slots k []) (slice_index_or rows k []) r
+    ⊎ ((e : SlotEntry) × Finds (entry_of_slot k) (slice_index_or slots k []) r e
     × (slice_index_or (slice_index_or rows k []) r.place 0 ≡ 0)
     × RefusesSection pool row e.asked)
 
@@ -166,7 +166,7 @@ RefusesSlot slots pool rows row k r =
 abbrev pub blank : {X : Type 0} → List X → List ℕ
 blank trail = replicate (length trail) 0
 
-abbrev pub no_tellers : ℕ → List (List SlotEntry) → ℕ → Rows
+abbrev pub no_tellers : ℕ → List (List SlotEntry) → ℕ → TellerRows
 no_tellers tasks slots pool =
     record { tasks = replicate tasks 0; slots = map blank slots; pool = replicate pool 0 }
 
@@ -175,7 +175,7 @@ abbrev pub IsPast : (s j u i : ℕ) → Type 0
 IsPast s j u i = (u < s) ⊎ ((u ≡ s) × (i < j))
 
 -- the place has this session's receipt, or the section of this receipt's entry
-pub record Source (t : Trails) (receipts : List (List Receipt)) (s j : ℕ) (w : Rows)
+pub record Source (t : Trails) (receipts : List (List Receipt)) (s j : ℕ) (w : TellerRows)
     (part : Part) (place : ℕ) : Type 0 where
   pub session : ℕ
   pub i : ℕ
@@ -189,9 +189,9 @@ pub record Source (t : Trails) (receipts : List (List Receipt)) (s j : ℕ) (w :
 
 -- the receipts before receipt j of session s are those that the rows tell of
 pub record AreListed (t : Trails) (receipts : List (List Receipt)) (s j : ℕ)
-    (w : Rows) : Type 0 where
+    (w : TellerRows) : Type 0 where
   pub right : (u i : ℕ) (r : Receipt) → IsPast s j u i → Has receipts u i r
-      → (e : Entry) × Tells t r e
+      → (e : Entry) × TellsEntry t r e
   pub noted : (u i : ℕ) (r : Receipt) → IsPast s j u i → Has receipts u i r
       → teller w r.part r.place ≡ u + 1
   pub section : (u i : ℕ) (r : Receipt) (k : ℕ) (a : Asked) → IsPast s j u i → Has receipts u i r
@@ -209,7 +209,7 @@ pub record AreListed (t : Trails) (receipts : List (List Receipt)) (s j : ℕ)
 
 -- each receipt tells what stands at its place
 abbrev pub AreRight : Trails → List (List Receipt) → Type 0
-AreRight t receipts = (s i : ℕ) (r : Receipt) → Has receipts s i r → (e : Entry) × Tells t r e
+AreRight t receipts = (s i : ℕ) (r : Receipt) → Has receipts s i r → (e : Entry) × TellsEntry t r e
 
 -- and the section of what it tells of stands at its place in the pool's trail
 abbrev pub HaveSections : Trails → List (List Receipt) → Type 0
@@ -218,7 +218,7 @@ HaveSections t receipts = (s i : ℕ) (r : Receipt) (k : ℕ) (a : Asked) → Ha
 
 -- a place that no session tells of: of the task table, of a slot, or of the pool where no other
 -- is left
-pub record Gap (w : Rows) : Type 0 where
+pub record Gap (w : TellerRows) : Type 0 where
   pub part : Part
   pub place : ℕ
   pub within : place < length (row w part)
@@ -226,12 +226,12 @@ pub record Gap (w : Rows) : Type 0 where
   pub slots : part ≡ AtPool → (k i : ℕ) → i < length (slice_index_or w.slots k [])
       → slice_index_or (slice_index_or w.slots k []) i 0 ≢ 0
 
-abbrev pub NoGap : Rows → Type 0
+abbrev pub NoGap : TellerRows → Type 0
 NoGap w = (part : Part) (place : ℕ) → place < length (row w part) → teller w part place ≢ 0
 
 -- trails and receipts fit each other but for their order: each receipt tells of an event, each
 -- event has one receipt, and each section in the pool's trail is that of one slot's entry
-pub record AreTold (t : Trails) (receipts : List (List Receipt)) (w : Rows) : Type 0 where
+pub record AreTold (t : Trails) (receipts : List (List Receipt)) (w : TellerRows) : Type 0 where
   pub right : AreRight t receipts
   pub noted : (s i : ℕ) (r : Receipt) → Has receipts s i r → teller w r.part r.place ≡ s + 1
   pub section : (s i : ℕ) (r : Receipt) (k : ℕ) (a : Asked) → Has receipts s i r

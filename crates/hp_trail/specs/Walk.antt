@@ -2,7 +2,7 @@
 use Rattle.std.specs.Prelude.{◌≡◌, ◌≢◌, ◌⊎◌, ℕ, suc, ◌+◌, ◌-◌, ◌<◌, ◌≤◌, Option, None, Some, List, [], ◌∷◌, length, map, take, replicate}
 use Rattle.std.specs.Global.{Vec}
 use Rattle.std.specs.Option.{option_and_then}
-use Rattle.hp_trail.specs.Tellers.{Stands, asked_of}
+use Rattle.hp_trail.specs.Tellers.{Stands, asked_section}
 use Rattle.std.specs.List.{All, Contains, slice_get, slice_index_or, slice_set}
 use Rattle.hp_model.specs.declared.entry.Asked.{Asked}
 use Rattle.hp_model.specs.declared.entry.Part.{Part}
@@ -33,13 +33,13 @@ pub record Walking : Type 0 where
   pub receipts : List (List Receipt)
   pub cursors : Cursors
 
-abbrev pub at : List ℕ → ℕ → ℕ
-at cursors k = slice_index_or cursors k 0
+abbrev pub cursor_at : List ℕ → ℕ → ℕ
+cursor_at cursors k = slice_index_or cursors k 0
 
 -- the place that comes next in the part's trail
 abbrev pub cursor : Cursors → Part → ℕ
 cursor c Tasks = c.tasks
-cursor c (AtSlot k) = at c.slots k
+cursor c (AtSlot k) = cursor_at c.slots k
 cursor c AtPool = c.pool
 
 abbrev pub part_length : Trails → Part → ℕ
@@ -50,13 +50,13 @@ part_length t AtPool = length t.pool
 -- what comes next in the part's trail is passed
 abbrev pub past : Part → Cursors → Cursors
 past Tasks c = record c { tasks = c.tasks + 1 }
-past (AtSlot k) c = record c { slots = slice_set c.slots k (at c.slots k + 1) }
+past (AtSlot k) c = record c { slots = slice_set c.slots k (cursor_at c.slots k + 1) }
 past AtPool c = record c { pool = c.pool + 1 }
 
 -- ---- the section of the entry that comes next in the part's trail
 
 abbrev pub next_section : Trails → Cursors → Part → Option Asked
-next_section t c part = option_and_then asked_of (entry_at t part (cursor c part))
+next_section t c part = option_and_then asked_section (entry_at t part (cursor c part))
 
 -- it stands at its place in the pool's trail
 abbrev pub SectionStands : Trails → Option Asked → Type 0
@@ -86,17 +86,17 @@ pub record Walked (t : Trails) (sessions : List (List Receipt)) (c : Cursors)
     (items : List Item) : Type 0 where
   pub tasks : keep task_part items ≡ numbered 0 (take c.tasks t.tasks)
   pub slots : (k : ℕ) → k < length t.slots
-      → keep (slot_part k) items ≡ numbered 0 (take (at c.slots k) (slot_trail t k))
+      → keep (slot_part k) items ≡ numbered 0 (take (cursor_at c.slots k) (slot_trail t k))
   pub pool : keep pool_part items ≡ numbered 0 (take c.pool t.pool)
   pub there : All (λ i. IsThere (length t.slots) i.entry) items
   pub told : (s : ℕ) → s < length sessions
-      → keep (told s) items ≡ take (at c.sessions s) (session sessions s)
+      → keep (told s) items ≡ take (cursor_at c.sessions s) (session sessions s)
   pub by : All (λ i. i.by < length sessions) items
 
 -- the cursor goes on by what comes next, where there is something, and stays where there is nothing
-abbrev pub Goes : {X : Type 0} → List X → ℕ → Option (ℕ × X) → ℕ → Type 0
-Goes xs c None d = d ≡ c
-Goes xs c (Some p) d = (p.0 ≡ c) × (slice_get xs c ≡ Some p.1) × (d ≡ c + 1)
+abbrev pub GoesNumbered : {X : Type 0} → List X → ℕ → Option (ℕ × X) → ℕ → Type 0
+GoesNumbered xs c None d = d ≡ c
+GoesNumbered xs c (Some p) d = (p.0 ≡ c) × (slice_get xs c ≡ Some p.1) × (d ≡ c + 1)
 
 abbrev pub GoesOn : {X : Type 0} → List X → ℕ → Option X → ℕ → Type 0
 GoesOn xs c None d = d ≡ c
@@ -105,13 +105,13 @@ GoesOn xs c (Some x) d = (slice_get xs c ≡ Some x) × (d ≡ c + 1)
 -- the item comes next in each of its parts, and the cursors pass it
 pub record Passes (t : Trails) (sessions : List (List Receipt)) (c : Cursors) (i : Item)
     (d : Cursors) : Type 0 where
-  pub tasks : Goes t.tasks c.tasks (task_part i) d.tasks
+  pub tasks : GoesNumbered t.tasks c.tasks (task_part i) d.tasks
   pub slots : (k : ℕ) → k < length t.slots
-      → Goes (slot_trail t k) (at c.slots k) (slot_part k i) (at d.slots k)
-  pub pool : Goes t.pool c.pool (pool_part i) d.pool
+      → GoesNumbered (slot_trail t k) (cursor_at c.slots k) (slot_part k i) (cursor_at d.slots k)
+  pub pool : GoesNumbered t.pool c.pool (pool_part i) d.pool
   pub there : IsThere (length t.slots) i.entry
   pub told : (s : ℕ) → s < length sessions
-      → GoesOn (session sessions s) (at c.sessions s) (told s i) (at d.sessions s)
+      → GoesOn (session sessions s) (cursor_at c.sessions s) (told s i) (cursor_at d.sessions s)
   pub by : i.by < length sessions
 
 -- the next receipt of the session is passed, with an event of this part
@@ -121,7 +121,7 @@ Took t receipts s part c d = (i : Item) × Passes t receipts c i d × (i.by ≡ 
 
 -- the receipt comes next in the session
 abbrev pub HasNext : Walking → ℕ → Receipt → Type 0
-HasNext w s r = Has w.receipts s (at w.cursors.sessions s) r
+HasNext w s r = Has w.receipts s (cursor_at w.cursors.sessions s) r
 
 -- the part and place of the receipt that comes next, if there is one
 abbrev pub IsNext : Walking → ℕ → Option (Part × ℕ) → Type 0
@@ -137,7 +137,7 @@ IsBlocked t c r =
 
 -- the session is at its end, or its next receipt is blocked
 abbrev pub Waits : Trails → List (List Receipt) → Cursors → ℕ → Type 0
-Waits t receipts c s = (r : Receipt) → Has receipts s (at c.sessions s) r → IsBlocked t c r
+Waits t receipts c s = (r : Receipt) → Has receipts s (cursor_at c.sessions s) r → IsBlocked t c r
 
 -- what an attempt to pass the session's next receipt does: it passes an event of the part, or the
 -- session waits
@@ -155,12 +155,12 @@ at_start slots sessions =
 
 -- every receipt was passed
 abbrev pub HaveEnded : List (List Receipt) → Cursors → Type 0
-HaveEnded receipts c = (s : ℕ) → s < length receipts → length (session receipts s) ≤ at c.sessions s
+HaveEnded receipts c = (s : ℕ) → s < length receipts → length (session receipts s) ≤ cursor_at c.sessions s
 
 -- some receipt was not
-abbrev pub IsLeft : List (List Receipt) → Cursors → Type 0
-IsLeft receipts c = (s : ℕ) × (s < length receipts)
-    × (at c.sessions s < length (session receipts s))
+abbrev pub HasReceiptsLeft : List (List Receipt) → Cursors → Type 0
+HasReceiptsLeft receipts c = (s : ℕ) × (s < length receipts)
+    × (cursor_at c.sessions s < length (session receipts s))
 
 -- items that were passed in this order of sessions
 abbrev pub WalkedBy : Trails → List (List Receipt) → Cursors → List ℕ → Type 0

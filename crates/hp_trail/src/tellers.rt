@@ -22,10 +22,10 @@ pub(crate) struct Tellers {
 }
 
 impl Model for Tellers {
-    ghost use Rattle.hp_trail.specs.Tellers.{Rows};
+    ghost use Rattle.hp_trail.specs.Tellers.{TellerRows};
     ghost use Rattle.hp_trail.specs.Walk.{lists};
 
-    ghost Value = { Rows };
+    ghost Value = { TellerRows };
 
     ghost view = { λ w. record {
       tasks = w.tasks.items;

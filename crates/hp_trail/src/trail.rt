@@ -1,6 +1,6 @@
 //! Where the entries of one part go.
 ghost use Rattle.std.specs.Prelude.{◌≡◌, ℕ, Bool, List, Option, Some, None, is_some, true, false, length};
-ghost use Rattle.hp_trail.specs.Keeping.{added, has_room, one_less};
+ghost use Rattle.hp_trail.specs.Keeping.{has_room, one_less, with_entry};
 
 /// Keeps the entries of one part, or nothing.
 ///
@@ -40,7 +40,7 @@ pub trait Trail<E> {
     /// Adds an entry.
     fn push(&mut self, entry: E)
         requires { has_room true (left self.old) (extra self.old) ≡ true }
-        ensures entries { entries self.new ≡ added (entries self.old) entry }
+        ensures entries { entries self.new ≡ with_entry (entries self.old) entry }
         ensures left { left self.new ≡ one_less (left self.old) }
         ensures extra { extra self.new ≡ extra self.old };
 

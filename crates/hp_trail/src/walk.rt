@@ -1,7 +1,7 @@
 //! Walking through trails and receipts, one event at a time.
 ghost use Rattle.std.specs.Prelude.{◌≡◌, ◌<◌, true, false, length, IfOk, MatchOption};
 ghost use Rattle.hp_trail.specs.Tellers.{AreRight, HaveSections};
-ghost use Rattle.hp_trail.specs.Walk.{ComesNext, HaveEnded, IsLater, IsLeft, IsNext, Passed, SectionStands, at_start, cursor, lists, next_section, part_length, past, past_section, trails_of};
+ghost use Rattle.hp_trail.specs.Walk.{ComesNext, HasReceiptsLeft, HaveEnded, IsLater, IsNext, Passed, SectionStands, at_start, cursor, lists, next_section, part_length, past, past_section, trails_of};
 
 use hp_model::entry::{Asked, Part, PoolEntry, Receipt, SlotEntry, TableEntry};
 use std::alloc::{AllocError, Global};
@@ -164,7 +164,7 @@ impl<'a> Walk<'a> {
     /// Whether all receipts were passed.
     pub(crate) fn has_ended(&self) -> bool
         ensures ended { result ≡ true → HaveEnded self.now.receipts self.now.cursors }
-        ensures left { result ≡ false → IsLeft self.now.receipts self.now.cursors }
+        ensures left { result ≡ false → HasReceiptsLeft self.now.receipts self.now.cursors }
     {
         for (session, told) in self.receipts.iter().enumerate() {
             if self.session_cursors[session] < told.len() {

@@ -12,7 +12,7 @@ use Rattle.hp_model.specs.declared.refusal.Refusal.{Refusal}
 use Rattle.hp_model.specs.declared.refusal.Refusal.TheVariants.{BadLine, LineTooLong}
 use Rattle.hp_model.specs.text.Writing.{text, line_of}
 use Rattle.hp_wire.specs.Answered.{Ran, RanInPart}
-use Rattle.hp_wire.specs.Sent.{AppendsFront, IsCut}
+use Rattle.hp_wire.specs.Sent.{AppendsFront, IsWriteCut}
 use Rattle.hp_wire.specs.Unanswered.{Gets}
 use Rattle.hp_wire.specs.Served.{Serves, unended_by, text_of_refusals}
 use Rattle.hp_wire.specs.declared.fault.RunFault.{RunFault}
@@ -83,7 +83,7 @@ finished_at : {S : Type 0} (may_answer : S → Step → Reply → S → Type 0) 
     (held : List ℕ) (total count : ℕ) (result : Result ℕ RunFault)
     → (p : Progress may_answer page r0 r s0 s w0 w held total count) → q ≡ page → total ≤ 1073741824
     → IfOk result (λ m. m ≡ count + length (unended_by (length held))) → OnOk result (Appends w w1 (text_of_refusals q (unended_by (length held))))
-    → IfErr result (IsCut w w1 (text_of_refusals q (unended_by (length held))))
+    → IfErr result (IsWriteCut w w1 (text_of_refusals q (unended_by (length held))))
     → Serves may_answer page s0 s w0 w1 p.input result
 finished_at may_answer page q r0 r s0 s w0 w w1 held total count (Ok m) p same within all written cut =
     let rs = unended_by (length held) in (
@@ -99,7 +99,7 @@ pub finished : {S : Type 0} {may_answer : S → Step → Reply → S → Type 0}
     {held chunk : List ℕ} {n total count : ℕ} (w1 : Option (List ℕ)) (result : Result ℕ RunFault)
     → Progress may_answer page r0 r s0 s w0 w held total count → Gets held chunk r r1 n → n ≡ 0 → q ≡ page → total ≤ 1073741824
     → IfOk result (λ m. m ≡ count + length (unended_by (length chunk))) → OnOk result (Appends w w1 (text_of_refusals q (unended_by (length chunk))))
-    → IfErr result (IsCut w w1 (text_of_refusals q (unended_by (length chunk))))
+    → IfErr result (IsWriteCut w w1 (text_of_refusals q (unended_by (length chunk))))
     → (input : List ℕ) × Consumes r0 r1 input × Serves may_answer page s0 s w0 w1 input result
 finished {may_answer} {page} {q} {r0} {r} {r1} {s0} {s} {w0} {w} {held} {chunk} {total} {count} w1 result before got none_read same within all written cut =
     let none : got.bytes ≡ [] = nil_from_length got.bytes (sym got.all ∙ none_read) in

@@ -3,7 +3,7 @@ use Rattle.std.proofs.Common.{◌≡◌, ⊎_elim, ℕ, ◌+◌, ◌-◌, ◌<�
 use Rattle.std.proofs.lemmas.Bool.{cases_lt}
 use Rattle.std.proofs.lemmas.List.{append-nil, append_assoc, drop-drop, drop_all, length-drop, length-take, take-append-le, take_all}
 use Rattle.std.proofs.Math.Seq.{drop-append_seam, take-append-add, take-append_seam}
-use Rattle.hp_wire.specs.Filled.{filled}
+use Rattle.hp_wire.specs.Filled.{buffer_filled}
 use borrow.Rule.Slice.PartMut.{put_mid}
 
 module _ (start written : List ℕ) where
@@ -13,7 +13,7 @@ module _ (start written : List ℕ) where
   front_ends : length front ≡ min (length start) (length written)
   front_ends = length-take (length start) written
 
-  pub same_room : length (filled start written) ≡ length start
+  pub same_room : length (buffer_filled start written) ≡ length start
   same_room = omega (arith, length-append front (drop (length written) start), front_ends, length-drop (length written) start)
 
   -- the bytes that fit, from the end of the front on
@@ -21,13 +21,13 @@ module _ (start written : List ℕ) where
     here : at ≡ length front
     here = omega (arith, front_ends, ends)
 
-    split : put_mid at k (filled start written) part ≡ front ++ (take k bytes ++ drop k (drop (length written) start))
+    split : put_mid at k (buffer_filled start written) part ≡ front ++ (take k bytes ++ drop k (drop (length written) start))
     split =
-        ap (λ n. take n (filled start written) ++ (part ++ drop k (drop n (filled start written)))) here
-        ∙ ap (λ xs. xs ++ (part ++ drop k (drop (length front) (filled start written)))) (take-append_seam front (drop (length written) start))
+        ap (λ n. take n (buffer_filled start written) ++ (part ++ drop k (drop n (buffer_filled start written)))) here
+        ∙ ap (λ xs. xs ++ (part ++ drop k (drop (length front) (buffer_filled start written)))) (take-append_seam front (drop (length written) start))
         ∙ ap (λ xs. front ++ (part ++ drop k xs)) seam ∙ ap (λ xs. front ++ (xs ++ drop k (drop (length written) start))) copied
       where
-        seam : drop (length front) (filled start written) ≡ drop (length written) start
+        seam : drop (length front) (buffer_filled start written) ≡ drop (length written) start
         seam = drop-append_seam front (drop (length written) start)
 
     rest : drop k (drop (length written) start) ≡ drop (length (written ++ bytes)) start
@@ -59,7 +59,7 @@ module _ (start written : List ℕ) where
         full past =
             ap (λ n. front ++ take n bytes) {x = k} {y = 0} (omega (arith, fit, ends, past)) ∙ append-nil front ∙ sym (take-append-le (length start) written bytes past)
 
-    pub still_filled : put_mid at k (filled start written) part ≡ filled start (written ++ bytes)
+    pub still_filled : put_mid at k (buffer_filled start written) part ≡ buffer_filled start (written ++ bytes)
     still_filled =
         split ∙ sym (append_assoc front (take k bytes) (drop k (drop (length written) start)))
         ∙ ap (λ xs. xs ++ drop k (drop (length written) start)) grown ∙ ap (λ xs. take (length start) (written ++ bytes) ++ xs) rest

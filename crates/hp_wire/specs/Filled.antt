@@ -2,5 +2,5 @@
 use Rattle.std.specs.Prelude.{ℕ, List, ◌++◌, length, take, drop}
 
 -- the front of what was written, and behind it what the buffer held at first
-abbrev pub filled : (start written : List ℕ) → List ℕ
-filled start written = take (length start) written ++ drop (length written) start
+abbrev pub buffer_filled : (start written : List ℕ) → List ℕ
+buffer_filled start written = take (length start) written ++ drop (length written) start

@@ -1,6 +1,6 @@
 //! A writer into a caller's buffer, of which no write fails.
 ghost use Rattle.std.specs.Prelude.{◌≡◌, ◌-◌, ◌^◌, ◌<◌, min, [], ◌++◌, length, take, IfSome, Some};
-ghost use Rattle.hp_wire.specs.Filled.{filled};
+ghost use Rattle.hp_wire.specs.Filled.{buffer_filled};
 
 use crate::ends::Sink;
 use crate::written::Written;
@@ -14,7 +14,7 @@ pub struct FixedBuffer<'a> {
     count: u64,
     start: Written,
     written: Written,
-    ghost holds: { buffer.now ≡ filled start.bytes written.bytes },
+    ghost holds: { buffer.now ≡ buffer_filled start.bytes written.bytes },
     ghost counted: { count ≡ min (length written.bytes) (2 ^ 64 - 1) },
 }
 

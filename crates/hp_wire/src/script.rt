@@ -1,7 +1,7 @@
 //! Runs over the lines of a script.
 ghost use Rattle.std.specs.Prelude.{◌≡◌, ◌≤◌, IfErr, IfSome, OnOk};
 ghost use Rattle.hp_model.specs.machine.Promises.{IsPromisedStep};
-ghost use Rattle.hp_system.specs.Kept.{IsReady};
+ghost use Rattle.hp_system.specs.Kept.{IsReadyMachine};
 ghost use Rattle.hp_wire.specs.Served.{AnswersInput, IsMemoryOrTooLong, ServesInput};
 
 use crate::ends::{Sink, Source};
@@ -24,7 +24,7 @@ pub fn run_script<N: Naming, R: Source, W: Sink>(
     machine: &mut System<N>,
 ) -> Result<u64, RunFault>
     requires page { machine.old.state.page_size ≤ 2097152 }
-    requires ready { IsReady machine.old }
+    requires ready { IsReadyMachine machine.old }
     ensures served { ServesInput IsPromisedStep (λ state. state.page_size) R.remaining W.contents
         machine.old.state machine.new.state reader.old reader.new writer.old writer.new result }
     ensures script { IfSome (R.remaining reader.old) (λ input. OnOk result
@@ -34,7 +34,7 @@ pub fn run_script<N: Naming, R: Source, W: Sink>(
     ensures never { R.is_sure reader.old → W.is_sure writer.old
         → IfErr result IsMemoryOrTooLong }
     ensures lent { W.lent writer.new ≡ W.lent writer.old }
-    ensures ready { IsReady machine.new }
+    ensures ready { IsReadyMachine machine.new }
 {
     run_lines(alloc, reader, writer, machine)
 }

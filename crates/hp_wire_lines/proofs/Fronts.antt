@@ -86,13 +86,6 @@ ends_here value n more some few fits =
     ∙ ap (λ t. ok_or (when (t && true && nat_lt value (2 ^ 64)) value) BadLine >>= (λ number. Ok (number, more))) b
     ∙ ap (λ t. ok_or (when t value) BadLine >>= (λ number. Ok (number, more))) c
 
--- a number ends at the line's end
-pub taken_at_end : (line : List ℕ) (value n at : ℕ) → at ≡ length line → 0 < n → n ≤ 20 → value < 2 ^ 64
-    → number_after value n (pieces_from at line) ≡ Ok (value, pieces_from (at + 1) line)
-taken_at_end line value n at is some few fits =
-    ap (number_after value n) (within at line (omega arith) ∙ ap pieces_of_line (drop_of_length-le line (omega arith)))
-    ∙ ends_here value n [] some few fits ∙ ap (λ more. Ok (value, more)) (sym (past (at + 1) line (omega arith)))
-
 -- a number ends at a space
 pub taken_at_space : (line : List ℕ) (value n at : ℕ) → at < length line → get_or line at 0 ≡ 32 → 0 < n → n ≤ 20 → value < 2 ^ 64
     → number_after value n (pieces_from at line) ≡ Ok (value, pieces_from (at + 1) line)

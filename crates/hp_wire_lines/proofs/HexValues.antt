@@ -49,19 +49,6 @@ value_is xs c h l = (value_in xs c h l).0
 pub value_some : (xs : List ℕ) (c : ℕ) → are_values xs 0 ≡ true → c < length xs → nat_lt (slice_index xs c) 16 ≡ is_some (hex_digit_value c)
 value_some xs c h l = (value_in xs c h l).1
 
-pair_by : (high low i : ℕ) (a b : Option ℕ) → nat_lt (unwrap_or a 16) 16 ≡ true → nat_lt (unwrap_or b 16) 16 ≡ true
-    → (digit_or_error high i a >>= (λ h. digit_or_error low (i + 1) b >>= (λ l. Ok (h * 16 + l)))) ≡ Ok (unwrap_or a 16 * 16 + unwrap_or b 16)
-pair_by high low i (Some h) (Some l) p q = refl
-pair_by high low i (Some h) None p q = cc
-pair_by high low i None b p q = cc
-
-pub pair_reads : (high low x y i : ℕ) → IsValueOf x high → IsValueOf y low → x < 16 → y < 16 → pair_value high low i ≡ Ok (x * 16 + y)
-pair_reads high low x y i hx hy lx ly =
-    let tx : nat_lt x 16 ≡ true = grind (arith, nat_tests, lx) in
-    let ty : nat_lt y 16 ≡ true = grind (arith, nat_tests, ly) in
-    pair_by high low i (hex_digit_value high) (hex_digit_value low) (ap (λ n. nat_lt n 16) (sym hx.0) ∙ tx) (ap (λ n. nat_lt n 16) (sym hy.0) ∙ ty)
-    ∙ ap (λ n. Ok (n * 16 + unwrap_or (hex_digit_value low) 16)) (sym hx.0) ∙ ap (λ n. Ok (x * 16 + n)) (sym hy.0)
-
 bad_by : (high low i : ℕ) (a b : Option ℕ) → (is_some a && is_some b) ≡ false
     → (e : FromHexError) × ((digit_or_error high i a >>= (λ h. digit_or_error low (i + 1) b >>= (λ l. Ok (h * 16 + l)))) ≡ Err e)
 bad_by high low i (Some h) (Some l) p = cc

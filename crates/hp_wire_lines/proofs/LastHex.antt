@@ -10,7 +10,7 @@ use Rattle.hp_model.specs.text.Words.{Read, bytes_of_hex, end_at, hex_at, piece_
 use Rattle.hp_model.specs.declared.refusal.Refusal.{Refusal}
 use Rattle.hp_model.specs.declared.refusal.Refusal.TheVariants.{BadLine}
 use Rattle.hp_wire_lines.proofs.Pieces.{first_piece}
-use Rattle.hp_wire_lines.specs.Words.{Gives, last_hex}
+use Rattle.hp_wire_lines.specs.Words.{IsReadAs, last_hex}
 
 -- ---- a space among digits
 
@@ -117,6 +117,6 @@ pub then_last : {A : Type 0} (f : List ℕ → A) (pieces : List (List ℕ))
     → (hex_at pieces >>= (λ bytes. end_at bytes.1 >>= (λ done. Ok (f bytes.0)))) ≡ (last_hex pieces >>= (λ bytes. Ok (f bytes)))
 then_last f pieces = then_by f (hex_at pieces)
 
-pub given : {X Y : Type 0} (view : X → Y) (r : Result X Refusal) (read other : Result Y Refusal) → other ≡ read → Gives view r read → Gives view r other
+pub given : {X Y : Type 0} (view : X → Y) (r : Result X Refusal) (read other : Result Y Refusal) → other ≡ read → IsReadAs view r read → IsReadAs view r other
 given view (Ok x) read other same h = same ∙ h
 given view (Err e) read other same h = same ∙ h

@@ -9,9 +9,9 @@ use Rattle.hp_model.specs.files.Options.{when}
 use Rattle.hp_model.specs.text.Words.{Read, end_at, hex_at, pieces_of_line, ◌>>=◌}
 
 -- what a function read, seen by `view`, is what the definition reads
-abbrev pub Gives : {X Y : Type 0} → (X → Y) → Result X Refusal → Result Y Refusal → Type 0
-Gives view (Ok x) read = read ≡ Ok (view x)
-Gives view (Err e) read = read ≡ Err e
+abbrev pub IsReadAs : {X Y : Type 0} → (X → Y) → Result X Refusal → Result Y Refusal → Type 0
+IsReadAs view (Ok x) read = read ≡ Ok (view x)
+IsReadAs view (Err e) read = read ≡ Err e
 
 -- the same of a reader, which leaves these pieces
 abbrev pub Takes : {X Y : Type 0} → (X → Y) → Result X Refusal → List (List ℕ) → Read Y → Type 0

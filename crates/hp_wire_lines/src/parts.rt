@@ -1,7 +1,7 @@
 //! What the words of a line say.
 ghost use Rattle.std.specs.Prelude.{◌≡◌, ◌≤◌, length};
 ghost use Rattle.hp_model.specs.text.Words.{word_at, sharing_at, intent_at, reserving_at, bytes_of_hex};
-ghost use Rattle.hp_wire_lines.specs.Words.{Gives, Takes, last_hex};
+ghost use Rattle.hp_wire_lines.specs.Words.{IsReadAs, Takes, last_hex};
 
 use crate::hex_digits::decode;
 use crate::known::is_known;
@@ -71,7 +71,7 @@ pub fn reserving(words: &mut Words<'_>) -> Result<Reserving, Refusal>
 #[inline(always)]
 pub fn last_hex<'a>(words: &Words<'_>, room: &'a mut [u8]) -> Result<&'a [u8], Refusal>
     requires { length room.old ≡ 512 }
-    ensures { Gives (λ x. x.now) result (last_hex words.now) }
+    ensures { IsReadAs (λ x. x.now) result (last_hex words.now) }
 {
     // A space is no digit, so the digits need not be cut off first.
     let rest = words.rest()?;
@@ -81,7 +81,7 @@ pub fn last_hex<'a>(words: &Words<'_>, room: &'a mut [u8]) -> Result<&'a [u8], R
 // The bytes of hex digits, in the front of the room. At least two digits.
 fn decoded<'a>(piece: &[u8], room: &'a mut [u8]) -> Result<&'a [u8], Refusal>
     requires { (length piece.now ≤ 1024) × (length room.old ≡ 512) }
-    ensures { Gives (λ x. x.now) result (bytes_of_hex piece.now) }
+    ensures { IsReadAs (λ x. x.now) result (bytes_of_hex piece.now) }
 {
     if piece.is_empty() || piece.len() % 2 != 0 {
         return Err(Refusal::BadLine);

@@ -1,6 +1,6 @@
 //! Runs on a small service.
 ghost use Rattle.std.specs.Prelude.{◌≡◌, ◌≢◌, ℕ, List, length, min, IfErr, IfOk};
-ghost use Rattle.hp_wire.specs.Filled.{filled};
+ghost use Rattle.hp_wire.specs.Filled.{buffer_filled};
 
 use crate::ends::{Client, Counter, Nowhere, Reader, Writer};
 use crate::same::same;
@@ -144,7 +144,7 @@ fn runs_over_a_sure_writer(rt: HostRuntime) -> Result<(), Fail> {
 
 // The script is in memory, and its replies go into a caller's buffer: neither can fail. It says how many bytes they have.
 fn answer_into(alloc: Global, buffer: &mut [u8]) -> Result<u64, RunFault>
-    ensures filled { (text : List ℕ) × (buffer.new ≡ filled buffer.old text)
+    ensures filled { (text : List ℕ) × (buffer.new ≡ buffer_filled buffer.old text)
         × IfOk result (λ n. n ≡ min (length text) u64.MAX) }
     ensures reader { IfErr result (λ e. e ≢ RunFault.Read) }
     ensures writer { IfErr result (λ e. e ≢ RunFault.Write) }

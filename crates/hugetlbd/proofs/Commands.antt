@@ -14,8 +14,8 @@ use Rattle.clap.specs.declared.builder.command.Command.{Command}
 use Rattle.clap.specs.declared.builder.command.Command.TheViews.{out-Command}
 use Rattle.clap.specs.declared.parser.matches.ArgMatches.{ArgMatches}
 use Rattle.clap.specs.declared.parser.matches.ArgMatches.TheViews.{out-ArgMatches, out-SubCommand}
-use Rattle.hugetlbd.specs.Asked.{Asks, AsksToServe, IsLocal, IsRight, Sets, SetsServing, has_option_first, has_options, hugetlbd, is_serve, machine_options, options_of, with_version}
-use Rattle.hugetlbd.specs.Config.{Choice}
+use Rattle.hugetlbd.specs.Asked.{AsksForScript, AsksToServe, IsLocal, IsRight, Sets, SetsServing, has_option_first, has_options, hugetlbd, is_serve, machine_options, options_given, with_version}
+use Rattle.hugetlbd.specs.Config.{MachineChoice}
 use Rattle.hugetlbd.specs.declared.settings.Serving.{Serving}
 
 -- an argument was added
@@ -88,18 +88,18 @@ option_first words top sub f = ap₂ (◌&&◌) (ap is_some f.sub_is) (ap (has_o
 pub is_right : (words : List Text) (top : List Row) (sub : Option (Text × List Row)) → Found words top sub → (is_some sub && has_options machine_options top) ≡ false → IsRight words
 is_right words top sub f behind = record { faultless = f.faultless; behind = option_first words top sub f ∙ behind }
 
-pub options_are : (words : List Text) (top : List Row) (sub : Option (Text × List Row)) → Found words top sub → options_of words ≡ option_map_or (λ p. p.1) sub top
+pub options_are : (words : List Text) (top : List Row) (sub : Option (Text × List Row)) → Found words top sub → options_given words ≡ option_map_or (λ p. p.1) sub top
 options_are words top sub f = ap₂ (option_map_or (λ p. p.1)) f.sub_is f.top_is
 
-pub asks : (words : List Text) (top : List Row) (sub : Option (Text × List Row)) (c : Choice) → Found words top sub → (is_some sub && has_options machine_options top) ≡ false
-    → is_serve sub ≡ false → Sets (option_map_or (λ p. p.1) sub top) c → Asks words c
+pub asks : (words : List Text) (top : List Row) (sub : Option (Text × List Row)) (c : MachineChoice) → Found words top sub → (is_some sub && has_options machine_options top) ≡ false
+    → is_serve sub ≡ false → Sets (option_map_or (λ p. p.1) sub top) c → AsksForScript words c
 asks words top sub c f behind script sets = record {
   right = is_right words top sub f behind;
   script = ap is_serve f.sub_is ∙ script;
   sets = subst (λ (rows : List Row). Sets rows c) (sym (options_are words top sub f)) sets;
 }
 
-pub asks_to : (words : List Text) (top : List Row) (sub : Option (Text × List Row)) (c : Choice) (s : Serving) → Found words top sub
+pub asks_to : (words : List Text) (top : List Row) (sub : Option (Text × List Row)) (c : MachineChoice) (s : Serving) → Found words top sub
     → (is_some sub && has_options machine_options top) ≡ false → is_serve sub ≡ true → Sets (option_map_or (λ p. p.1) sub top) c
     → SetsServing (option_map_or (λ p. p.1) sub top) s → AsksToServe words c s
 asks_to words top sub c s f behind serve sets serving = record {

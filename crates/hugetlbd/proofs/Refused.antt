@@ -12,9 +12,9 @@ use Rattle.clap.specs.declared.error.kind.ErrorKind.{ErrorKind}
 use Rattle.clap.specs.declared.error.kind.ErrorKind.TheVariants.{OutOfMemory}
 use Rattle.hugetlbd.proofs.Commands.{Found, is_right, options_are}
 use Rattle.hp_model.specs.text.Words.{number_of}
-use Rattle.hugetlbd.specs.Asked.{Asks, AsksToServe, CanBe, HasBadValue, IsGood, IsRefusedFor, IsRight, IsWrongIn, IsWrongOf, Sets, SetsServing, Setting}
-use Rattle.hugetlbd.specs.Asked.{has_options, hugetlbd, is_serve, machine_options, node_frames, options_of, pieces, serving_options, settings_of}
-use Rattle.hugetlbd.specs.Config.{Choice, IsFrames, IsPage, IsServing, IsWithin, IsWithinLimits}
+use Rattle.hugetlbd.specs.Asked.{AsksForScript, AsksToServe, CanBe, HasBadValue, IsGood, IsRefusedFor, IsRight, IsWrongIn, IsWrongOf, Sets, SetsServing, Setting}
+use Rattle.hugetlbd.specs.Asked.{comma_pieces, has_options, hugetlbd, is_serve, machine_options, node_frames, options_given, serving_options, settings_of}
+use Rattle.hugetlbd.specs.Config.{IsFrames, IsMachineWithin, IsPageSize, IsServing, IsWithin, MachineChoice}
 use Rattle.hugetlbd.specs.declared.settings.Serving.{Serving}
 use Rattle.hugetlbd.specs.Program.{AsksForText, IsStatusOfWrong, text_asked, text_for}
 use Rattle.hugetlbd.specs.declared.settings.Wrong.{Wrong}
@@ -99,7 +99,7 @@ none_bad [] options name good bad = bad
 none_bad (s ∷ rest) options name good (inl bad) = not_both s (first_of s.name options) good.0 bad.1
 none_bad (s ∷ rest) options name good (inr bad) = none_bad rest options name good.1 bad.1
 
-good_frames : (given : Option Text) (fs usual : List ℕ) → MatchOption given (fs ≡ usual) (λ text. map number_of (pieces text) ≡ map Ok fs) → IsFrames fs
+good_frames : (given : Option Text) (fs usual : List ℕ) → MatchOption given (fs ≡ usual) (λ text. map number_of (comma_pieces text) ≡ map Ok fs) → IsFrames fs
     → MatchOption given (false ≡ false) (CanBe node_frames)
 good_frames None fs usual reads fits = refl
 good_frames (Some text) fs usual reads fits = (fs, reads, fits)
@@ -114,10 +114,10 @@ good_given : (given : Option Text) (n : ℕ) (Fits : ℕ → Type 0) → IsSomeA
 good_given None n Fits reads fits = absurd reads
 good_given (Some text) n Fits reads fits = (n, reads, fits)
 
-pub good_machine : (options : List Row) (c : Choice) → Sets options c → IsWithinLimits c → AllGood machine_options options
+pub good_machine : (options : List Row) (c : MachineChoice) → Sets options c → IsMachineWithin c → AllGood machine_options options
 unfolding AllGood
 good_machine options c sets fits =
-    (good_frames _ c.frames _ sets.frames fits.frames, (good_number _ c.page _ IsPage sets.page fits.page, (good_number _ c.slots _ (IsWithin 1 64) sets.slots fits.slots, tt)))
+    (good_frames _ c.frames _ sets.frames fits.frames, (good_number _ c.page _ IsPageSize sets.page fits.page, (good_number _ c.slots _ (IsWithin 1 64) sets.slots fits.slots, tt)))
 
 good_serving : (options : List Row) (s : Serving) → SetsServing options s → IsServing s → AllGood serving_options options
 unfolding AllGood
@@ -128,29 +128,29 @@ good_serving options s sets fits =
     let room = good_given _ s.room (IsWithin 0 16777216) sets.room fits.room in
     (port, (sessions, (workers, (room, tt))))
 
-right_memory : (words : List Text) (w : Wrong) → IsRefusedFor words w → IsRight words → AllGood (settings_of words) (options_of words) → w ≡ Memory
+right_memory : (words : List Text) (w : Wrong) → IsRefusedFor words w → IsRight words → AllGood (settings_of words) (options_given words) → w ≡ Memory
 right_memory words Memory refused right good = refl
 right_memory words (Parse error) refused right good = absurd (subst (IsAmong (kind_of error)) right.faultless refused.1)
 right_memory words OptionFirst refused right good = (let both : true ≡ false = sym refused.1 ∙ right.behind in cc)
-right_memory words (BadValue name) refused right good = absurd (none_bad (settings_of words) (options_of words) name.now good refused.1)
+right_memory words (BadValue name) refused right good = absurd (none_bad (settings_of words) (options_given words) name.now good refused.1)
 
 -- right words are refused only for want of memory
-pub only_memory : (words : List Text) (w : Wrong) (c : Choice) → IsRefusedFor words w → Asks words c → IsWithinLimits c → w ≡ Memory
+pub only_memory : (words : List Text) (w : Wrong) (c : MachineChoice) → IsRefusedFor words w → AsksForScript words c → IsMachineWithin c → w ≡ Memory
 only_memory words w c refused a fits =
-    right_memory words w refused a.right (subst (λ (b : Bool). AllGood (if b then machine_options ++ serving_options else machine_options) (options_of words)) (sym a.script)
-    (good_machine (options_of words) c a.sets fits))
+    right_memory words w refused a.right (subst (λ (b : Bool). AllGood (if b then machine_options ++ serving_options else machine_options) (options_given words)) (sym a.script)
+    (good_machine (options_given words) c a.sets fits))
 
-pub only_memory_to_serve : (words : List Text) (w : Wrong) (c : Choice) (s : Serving) → IsRefusedFor words w → AsksToServe words c s → IsWithinLimits c → IsServing s
+pub only_memory_to_serve : (words : List Text) (w : Wrong) (c : MachineChoice) (s : Serving) → IsRefusedFor words w → AsksToServe words c s → IsMachineWithin c → IsServing s
     → w ≡ Memory
 only_memory_to_serve words w c s refused a fits serves =
-    right_memory words w refused a.right (subst (λ (b : Bool). AllGood (if b then machine_options ++ serving_options else machine_options) (options_of words)) (sym a.serve)
-    (all_good machine_options serving_options (options_of words) (good_machine (options_of words) c a.sets fits) (good_serving (options_of words) s a.serving serves)))
+    right_memory words w refused a.right (subst (λ (b : Bool). AllGood (if b then machine_options ++ serving_options else machine_options) (options_given words)) (sym a.serve)
+    (all_good machine_options serving_options (options_given words) (good_machine (options_given words) c a.sets fits) (good_serving (options_given words) s a.serving serves)))
 
 -- so they end in status 1
-pub right_is_1 : (words : List Text) (w : Wrong) (status : ℕ) (c : Choice) → IsRefusedFor words w → IsStatusOfWrong w status → Asks words c → IsWithinLimits c → status ≡ 1
+pub right_is_1 : (words : List Text) (w : Wrong) (status : ℕ) (c : MachineChoice) → IsRefusedFor words w → IsStatusOfWrong w status → AsksForScript words c → IsMachineWithin c → status ≡ 1
 right_is_1 words w status c refused is a fits = subst (λ (x : Wrong). IsStatusOfWrong x status) (only_memory words w c refused a fits) is
 
-pub serves_is_1 : (words : List Text) (w : Wrong) (status : ℕ) (c : Choice) (s : Serving) → IsRefusedFor words w → IsStatusOfWrong w status → AsksToServe words c s → IsWithinLimits c
+pub serves_is_1 : (words : List Text) (w : Wrong) (status : ℕ) (c : MachineChoice) (s : Serving) → IsRefusedFor words w → IsStatusOfWrong w status → AsksToServe words c s → IsMachineWithin c
     → IsServing s → status ≡ 1
 serves_is_1 words w status c s refused is a fits serves =
     subst (λ (x : Wrong). IsStatusOfWrong x status) (only_memory_to_serve words w c s refused a fits serves) is

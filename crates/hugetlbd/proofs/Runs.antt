@@ -8,10 +8,10 @@ use Rattle.hp_mount_door.specs.Door.{IsReady as IsReadyPool}
 use Rattle.hp_serving.specs.Ended as serving
 use Rattle.hp_serving.specs.declared.sessions.Ended.{Ended}
 use Rattle.hp_serving.specs.declared.sessions.Ended.TheVariants.{Printed, Unprinted, Failed}
-use Rattle.hp_system.specs.Kept.{IsReady, Machine}
+use Rattle.hp_system.specs.Kept.{IsReadyMachine, Machine}
 use Rattle.hp_wire.specs.Served.{AnswersInput, Serves, IsMemoryOrTooLong}
 use Rattle.hp_wire.specs.declared.fault.RunFault.{RunFault}
-use Rattle.hugetlbd.specs.Program.{AnswersScript, Run, status_of}
+use Rattle.hugetlbd.specs.Program.{AnswersScript, Run, status_of_run}
 
 -- the machine ran
 pub run_ended : (s t machine : State) (r0 r1 w0 w1 : Option (List ℕ)) (result : Result ℕ RunFault) (reads writes : Type 0) → s ≡ machine
@@ -35,7 +35,7 @@ script_answered s t machine None w0 w1 (Ok n) same h = tt
 script_answered s t machine (Some xs) w0 w1 (Ok n) same h = (t, subst (λ (u : State). AnswersInput IsPromisedStep u.page_size xs u t w0 w1) same h)
 
 -- a run that ended well answered the script
-pub answered_well : (machine : State) (r0 w0 w1 : Option (List ℕ)) (ended : Result ℕ RunFault) (status : ℕ) → status ≡ status_of ended
+pub answered_well : (machine : State) (r0 w0 w1 : Option (List ℕ)) (ended : Result ℕ RunFault) (status : ℕ) → status ≡ status_of_run ended
     → OnOk ended (IfSome r0 (λ script. AnswersScript machine script w0 w1)) → status ≡ 0 → IfSome r0 (λ script. AnswersScript machine script w0 w1)
 answered_well machine r0 w0 w1 (Ok n) status same h zero = h
 answered_well machine r0 w0 w1 (Err e) status same h zero = absurd (omega (arith, same, zero))
@@ -46,7 +46,7 @@ pub answered_as : (machine other : State) (r0 w0 w1 : Option (List ℕ)) → mac
 answered_as machine other r0 w0 w1 same h = subst (λ (m : State). IfSome r0 (λ script. AnswersScript m script w0 w1)) same h
 
 -- a run ends with status 0 or 1
-pub ends_below_2 : (ended : Result ℕ RunFault) (status : ℕ) → status ≡ status_of ended → status ≡ 2 → ⊥
+pub ends_below_2 : (ended : Result ℕ RunFault) (status : ℕ) → status ≡ status_of_run ended → status ≡ 2 → ⊥
 ends_below_2 (Ok n) status same two = omega (arith, same, two)
 ends_below_2 (Err e) status same two = omega (arith, same, two)
 
@@ -70,7 +70,7 @@ long_rows s k [] = refl
 long_rows s k (n ∷ ns) = ap suc (long_rows s (k + 1) ns)
 
 -- a machine between steps has a pool that is ready for a section
-pub ready_pool : (m : Machine) → IsReady m → IsReadyPool m.pool
+pub ready_pool : (m : Machine) → IsReadyMachine m → IsReadyPool m.pool
 ready_pool m r =
     let total = r.settled.pool.total in
     let surplus = r.settled.pool.surplus in

@@ -4,12 +4,13 @@ use Rattle.std.proofs.lemmas.Option.{none-some}
 use Rattle.std.specs.Io.KnownBytes.{Appends}
 use Rattle.clap.specs.Values.{kind_of}
 use Rattle.clap.specs.declared.error.Error.{Error}
-use Rattle.hp_wire.specs.Sent.{AppendsFront, IsCut}
+use Rattle.hp_wire.specs.Sent.{AppendsFront, IsWriteCut}
 use Rattle.hp_wire.specs.Served.{text_of_fault}
 use Rattle.hp_wire.specs.declared.fault.RunFault.{RunFault}
 use Rattle.hp_wire.specs.declared.fault.RunFault.TheVariants as fault
 use Rattle.hp_wire.proofs.Known.{appends_then, front_whole, front_then, front_more}
-use Rattle.hugetlbd.specs.Program.{Refuses, Says, named, text_for}
+use Rattle.hp_serving.specs.Ended.{Says}
+use Rattle.hugetlbd.specs.Program.{Refuses, named, text_for}
 use Rattle.hugetlbd.specs.declared.settings.Wrong.TheVariants.{Parse}
 
 -- a text that is written part after part is cut within one of them
@@ -40,7 +41,7 @@ sent_fourth a b c d e what of (Ok x) h k m n =
 sent_fourth a b c d e what of (Err f) h k m n = n
 
 -- and it is whole where no write fails
-pub says_of : {X : Type 0} (sure : Type 0) (a b : Option (List ℕ)) (text : List ℕ) (result : Result X RunFault) → OnOk result (Appends a b text) → IfErr result (IsCut a b text)
+pub says_of : {X : Type 0} (sure : Type 0) (a b : Option (List ℕ)) (text : List ℕ) (result : Result X RunFault) → OnOk result (Appends a b text) → IfErr result (IsWriteCut a b text)
     → (sure → IsOk result) → Says sure a b text
 says_of sure a b text (Ok x) h k s = (front_whole a b text h, λ i. h)
 says_of sure a b text (Err e) h k s = (k.1, λ i. (let never : false ≡ true = s i in cc))

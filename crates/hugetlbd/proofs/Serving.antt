@@ -7,8 +7,8 @@ use Rattle.hp_serving.specs.declared.host.Closed.{Closed}
 use Rattle.hp_serving.specs.declared.sessions.Ended.{Ended}
 use Rattle.hp_serving.specs.declared.sessions.Ended.TheVariants.{Printed, Unprinted, Failed}
 use Rattle.hp_sessions.specs.Sharing.{WasJoined}
-use Rattle.hugetlbd.specs.Config.{Choice, chosen}
-use Rattle.hugetlbd.specs.Program.{MayLeave}
+use Rattle.hugetlbd.specs.Config.{MachineChoice, chosen}
+use Rattle.hugetlbd.specs.Program.{MayBeLeft}
 use Rattle.hugetlbd.specs.declared.settings.Serving.{Serving}
 
 pub leaves : (A B : Closed → Type 0) (ended : Ended) → ((x : Closed) → A x → B x) → LeavesAsked A ended → LeavesAsked B ended
@@ -17,8 +17,8 @@ leaves A B (Unprinted closed) more left = more closed left
 leaves A B (Failed fault) more left = tt
 
 -- a machine that started as the one that was asked for
-pub as_asked : (c : Choice) (s : Serving) (keeps : ℕ) (machine : State) → machine ≡ chosen c → (keeps == 1) ≡ nat_lt 0 s.room → (x : Closed)
-    → left.MayLeave keeps machine x → MayLeave c s x
+pub as_asked : (c : MachineChoice) (s : Serving) (keeps : ℕ) (machine : State) → machine ≡ chosen c → (keeps == 1) ≡ nat_lt 0 s.room → (x : Closed)
+    → left.MayLeave keeps machine x → MayBeLeft c s x
 as_asked c s keeps machine same kept x h = record {
   page = h.page ∙ ap (λ (m : State). m.page_size) same;
   audited = h.audited ∙ kept;

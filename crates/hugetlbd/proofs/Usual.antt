@@ -6,35 +6,35 @@ use Rattle.clap.proofs.OnLiterals.{clap_on_literals}
 use Rattle.clap.specs.Words.{Text}
 use Rattle.hp_model.specs.machine.Machine.{start}
 use Rattle.hugetlbd.proofs.Refused.{only_memory, right_is_1}
-use Rattle.hugetlbd.specs.Asked.{Asks, AsksToServe, IsRefusedFor, Sets}
-use Rattle.hugetlbd.specs.Config.{Choice, IsWithinLimits, chosen, usual}
+use Rattle.hugetlbd.specs.Asked.{AsksForScript, AsksToServe, IsRefusedFor, Sets}
+use Rattle.hugetlbd.specs.Config.{IsMachineWithin, MachineChoice, chosen, usual}
 use Rattle.hugetlbd.specs.Program.{IsStatusOfWrong, text_asked}
 use Rattle.hugetlbd.specs.declared.settings.Serving.{Serving}
 use Rattle.hugetlbd.specs.declared.settings.Wrong.{Wrong}
 
-sets_usual : (c : Choice) → Sets [] c → chosen c ≡ chosen usual
+sets_usual : (c : MachineChoice) → Sets [] c → chosen c ≡ chosen usual
 sets_usual c s =
     ap (λ (fs : List ℕ). start fs c.page c.slots) s.frames ∙ ap (λ (p : ℕ). start usual.frames p c.slots) s.page ∙ ap (λ (n : ℕ). start usual.frames usual.page n) s.slots
 
-pub no_words : (words : List Text) (c : Choice) → length words ≤ 1 → Asks words c → chosen c ≡ chosen usual
+pub no_words : (words : List Text) (c : MachineChoice) → length words ≤ 1 → AsksForScript words c → chosen c ≡ chosen usual
 unfolding clap_on_literals
 no_words [] c few a = sets_usual c a.sets
 no_words (w ∷ []) c few a = sets_usual c a.sets
 no_words (w ∷ v ∷ rest) c few a = absurd (omega (arith, few))
 
 -- they ask for the usual machine
-usual_asked : (words : List Text) → length words ≤ 1 → Asks words usual
+usual_asked : (words : List Text) → length words ≤ 1 → AsksForScript words usual
 unfolding clap_on_literals
 usual_asked [] few = record { right = record { faultless = refl; behind = refl }; script = refl; sets = record { frames = refl; page = refl; slots = refl } }
 usual_asked (w ∷ []) few = record { right = record { faultless = refl; behind = refl }; script = refl; sets = record { frames = refl; page = refl; slots = refl } }
 usual_asked (w ∷ v ∷ rest) few = absurd (omega (arith, few))
 
 -- and for no server
-pub few_serve_not : (words : List Text) (c : Choice) (s : Serving) → length words ≤ 1 → AsksToServe words c s → ⊥
+pub few_serve_not : (words : List Text) (c : MachineChoice) (s : Serving) → length words ≤ 1 → AsksToServe words c s → ⊥
 few_serve_not words c s few a = (let both : false ≡ true = sym (usual_asked words few).script ∙ a.serve in cc)
 
 -- which is within the limits
-usual_fits : IsWithinLimits usual
+usual_fits : IsMachineWithin usual
 unfolding ones
 usual_fits = record { frames = search rules; page = search rules; slots = search rules }
 

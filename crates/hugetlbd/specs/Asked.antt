@@ -18,7 +18,7 @@ use Rattle.clap.specs.declared.parser.matches.ArgMatches.{ArgMatches}
 use Rattle.clap.specs.Words.{found_of, rows_of}
 use Rattle.std.specs.Borrow.{Bor}
 use Rattle.hp_model.specs.text.Words.{number_of}
-use Rattle.hugetlbd.specs.Config.{Choice, IsFrames, IsPage, IsWithin, choice_of, usual}
+use Rattle.hugetlbd.specs.Config.{IsFrames, IsPageSize, IsWithin, MachineChoice, choice_of, usual}
 use Rattle.hugetlbd.specs.declared.settings.Config.{Config}
 use Rattle.hugetlbd.specs.declared.settings.Config.TheVariants.{Script, Serve}
 use Rattle.hugetlbd.specs.declared.settings.Serving.{Serving}
@@ -28,8 +28,8 @@ use Rattle.hugetlbd.specs.declared.settings.Wrong.TheVariants.{Memory, Parse, Ba
 -- ---- the options, and what each can have as its value
 
 -- what stands between the commas
-abbrev pub pieces : Text → List Text
-pieces text = slice_split (λ b. b == 44) text
+abbrev pub comma_pieces : Text → List Text
+comma_pieces text = slice_split (λ b. b == 44) text
 
 -- the values of an option: frames of nodes, bytes of a page, or numbers between two bounds
 pub data Values : Type 0 where
@@ -39,8 +39,8 @@ pub data Values : Type 0 where
 
 -- the text is one of these values
 abbrev pub CanBe : Values → Text → Type 0
-CanBe node_frames text = (fs : List ℕ) × (map number_of (pieces text) ≡ map Ok fs) × IsFrames fs
-CanBe page_bytes text = (n : ℕ) × (number_of text ≡ Ok n) × IsPage n
+CanBe node_frames text = (fs : List ℕ) × (map number_of (comma_pieces text) ≡ map Ok fs) × IsFrames fs
+CanBe page_bytes text = (n : ℕ) × (number_of text ≡ Ok n) × IsPageSize n
 CanBe (between low high) text = (n : ℕ) × (number_of text ≡ Ok n) × IsWithin low high n
 
 pub record Setting : Type 0 where
@@ -79,11 +79,11 @@ abbrev pub with_options : List Setting → App → App
 with_options [] a = a
 with_options (s ∷ rest) a = with_options rest (with_rule a (option s.name s.is_required))
 
-abbrev pub script : App
-script = with_options machine_options (new_app (codes "script"))
+abbrev pub script_app : App
+script_app = with_options machine_options (new_app (codes "script"))
 
-abbrev pub serve : App
-serve = with_options (machine_options ++ serving_options) (new_app (codes "serve"))
+abbrev pub serve_app : App
+serve_app = with_options (machine_options ++ serving_options) (new_app (codes "serve"))
 
 -- it can be asked for its version
 abbrev pub with_version : App → App
@@ -92,7 +92,7 @@ with_version a = record a { top = record a.top { has_version = true } }
 -- the program's options and its version, and its subcommands with theirs
 abbrev pub hugetlbd : App
 hugetlbd = with_subcommand (with_subcommand (with_options machine_options
-    (with_version (new_app (codes "hugetlbd")))) script.top) serve.top
+    (with_version (new_app (codes "hugetlbd")))) script_app.top) serve_app.top
 
 -- no option of the command stands for its subcommands too
 abbrev pub IsLocal : Command → Type 0
@@ -105,8 +105,8 @@ options_in matches = rows_of (found_of matches)
 -- ---- right words
 
 -- the option of this name is given, as this number
-abbrev pub IsGiven : Text → List Row → ℕ → Type 0
-IsGiven name options n = IsSomeAnd (first_of name options) (λ text. number_of text ≡ Ok n)
+abbrev pub IsOptionGiven : Text → List Row → ℕ → Type 0
+IsOptionGiven name options n = IsSomeAnd (first_of name options) (λ text. number_of text ≡ Ok n)
 
 -- it is given so, or left out, and this is the usual number
 abbrev pub IsGivenOr : ℕ → Text → List Row → ℕ → Type 0
@@ -114,18 +114,18 @@ IsGivenOr usual name options n =
     MatchOption (first_of name options) (n ≡ usual) (λ text. number_of text ≡ Ok n)
 
 -- the machine of these options
-pub record Sets (options : List Row) (c : Choice) : Type 0 where
+pub record Sets (options : List Row) (c : MachineChoice) : Type 0 where
   pub frames : MatchOption (first_of (codes "frames") options) (c.frames ≡ usual.frames)
-      (λ text. map number_of (pieces text) ≡ map Ok c.frames)
+      (λ text. map number_of (comma_pieces text) ≡ map Ok c.frames)
   pub page : IsGivenOr usual.page (codes "page") options c.page
   pub slots : IsGivenOr usual.slots (codes "slots") options c.slots
 
 -- the server of these options
 pub record SetsServing (options : List Row) (s : Serving) : Type 0 where
-  pub port : IsGiven (codes "port") options s.port
-  pub sessions : IsGiven (codes "sessions") options s.sessions
-  pub workers : IsGiven (codes "workers") options s.workers
-  pub room : IsGiven (codes "trace") options s.room
+  pub port : IsOptionGiven (codes "port") options s.port
+  pub sessions : IsOptionGiven (codes "sessions") options s.sessions
+  pub workers : IsOptionGiven (codes "workers") options s.workers
+  pub room : IsOptionGiven (codes "trace") options s.room
 
 -- one of these options is given
 abbrev pub has_options : List Setting → List Row → Bool
@@ -144,8 +144,8 @@ abbrev pub asks_to_serve : List Text → Bool
 asks_to_serve words = is_serve (subcommand_of hugetlbd words)
 
 -- the options that count: those of the subcommand, where there is one
-abbrev pub options_of : List Text → List Row
-options_of words = option_map_or (λ p. p.1) (subcommand_of hugetlbd words) (matches_of hugetlbd words)
+abbrev pub options_given : List Text → List Row
+options_given words = option_map_or (λ p. p.1) (subcommand_of hugetlbd words) (matches_of hugetlbd words)
 
 -- the words are a right command line
 pub record IsRight (words : List Text) : Type 0 where
@@ -153,20 +153,20 @@ pub record IsRight (words : List Text) : Type 0 where
   pub behind : has_option_first words ≡ false
 
 -- and ask for a script on this machine
-pub record Asks (words : List Text) (c : Choice) : Type 0 where
+pub record AsksForScript (words : List Text) (c : MachineChoice) : Type 0 where
   pub right : IsRight words
   pub script : asks_to_serve words ≡ false
-  pub sets : Sets (options_of words) c
+  pub sets : Sets (options_given words) c
 
 -- and ask for this server, on this machine
-pub record AsksToServe (words : List Text) (c : Choice) (s : Serving) : Type 0 where
+pub record AsksToServe (words : List Text) (c : MachineChoice) (s : Serving) : Type 0 where
   pub right : IsRight words
   pub serve : asks_to_serve words ≡ true
-  pub sets : Sets (options_of words) c
-  pub serving : SetsServing (options_of words) s
+  pub sets : Sets (options_given words) c
+  pub serving : SetsServing (options_given words) s
 
 abbrev pub AsksFor : List Text → Config → Type 0
-AsksFor words (Script m) = Asks words (choice_of m)
+AsksFor words (Script m) = AsksForScript words (choice_of m)
 AsksFor words (Serve m s) = AsksToServe words (choice_of m) s
 
 -- ---- wrong words
@@ -222,7 +222,7 @@ abbrev pub IsRefusedFor : List Text → Wrong → Type 0
 IsRefusedFor words Memory = Unit {0}
 IsRefusedFor words (Parse error) = (takes hugetlbd words ≡ false) × IsAmong (kind_of error) (fault_of hugetlbd words)
 IsRefusedFor words OptionFirst = (fault_of hugetlbd words ≡ []) × (has_option_first words ≡ true)
-IsRefusedFor words (BadValue name) = IsRight words × HasBadValue (settings_of words) (options_of words) name.now
+IsRefusedFor words (BadValue name) = IsRight words × HasBadValue (settings_of words) (options_given words) name.now
 
 -- why clap's refusal is passed on
 abbrev pub IsWrongOf : Error → Wrong → Type 0

@@ -9,20 +9,20 @@ use Rattle.hugetlbd.specs.declared.settings.Machine.{Machine}
 use Rattle.hugetlbd.specs.declared.settings.Serving.{Serving}
 
 -- what a machine starts from
-pub record Choice : Type 0 where
+pub record MachineChoice : Type 0 where
   pub frames : List ℕ
   pub page : ℕ
   pub slots : ℕ
 
 -- the machine at its start
-abbrev pub chosen : Choice → State
+abbrev pub chosen : MachineChoice → State
 chosen c = start c.frames c.page c.slots
 
 -- two nodes of 4 frames, pages of 1,024 bytes, 4 slots
-abbrev pub usual : Choice
+abbrev pub usual : MachineChoice
 usual = record { frames = 4 ∷ 4 ∷ []; page = 1024; slots = 4 }
 
-abbrev pub choice_of : Machine → Choice
+abbrev pub choice_of : Machine → MachineChoice
 choice_of m = record { frames = m.frames.items; page = m.page; slots = m.slots }
 
 -- 1 to 4 nodes of 1 to 65,536 frames
@@ -30,15 +30,15 @@ abbrev pub IsFrames : List ℕ → Type 0
 IsFrames fs = (1 ≤ length fs) × (length fs ≤ 4) × All (λ f. (1 ≤ f) × (f ≤ 65536)) fs
 
 -- 1,024 to 2,097,152 bytes, a power of two
-abbrev pub IsPage : ℕ → Type 0
-IsPage n = (1024 ≤ n) × (n ≤ 2097152) × IsTrue (is_power_of_two n)
+abbrev pub IsPageSize : ℕ → Type 0
+IsPageSize n = (1024 ≤ n) × (n ≤ 2097152) × IsTrue (is_power_of_two n)
 
 abbrev pub IsWithin : ℕ → ℕ → ℕ → Type 0
 IsWithin low high n = (low ≤ n) × (n ≤ high)
 
-pub record IsWithinLimits (c : Choice) : Type 0 where
+pub record IsMachineWithin (c : MachineChoice) : Type 0 where
   pub frames : IsFrames c.frames
-  pub page : IsPage c.page
+  pub page : IsPageSize c.page
   pub slots : IsWithin 1 64 c.slots
 
 -- what a server is asked for
@@ -49,5 +49,5 @@ pub record IsServing (s : Serving) : Type 0 where
   pub room : IsWithin 0 16777216 s.room
 
 abbrev pub IsConfigWithin : Config → Type 0
-IsConfigWithin (Script m) = IsWithinLimits (choice_of m)
-IsConfigWithin (Serve m s) = IsWithinLimits (choice_of m) × IsServing s
+IsConfigWithin (Script m) = IsMachineWithin (choice_of m)
+IsConfigWithin (Serve m s) = IsMachineWithin (choice_of m) × IsServing s

@@ -15,11 +15,12 @@ use Rattle.hp_wire.specs.declared.fault.RunFault.{RunFault}
 use Rattle.hp_wire.specs.declared.fault.RunFault.TheVariants as fault
 use Rattle.hp_model.specs.declared.entry.Receipt.{Receipt}
 use Rattle.hp_serving.specs.Ended as serving
+use Rattle.hp_serving.specs.Ended.{Says}
 use Rattle.hp_serving.specs.declared.host.Closed.{Closed}
 use Rattle.hp_serving.specs.declared.sessions.Ended.{Ended}
 use Rattle.hp_sessions.specs.Sharing.{WasJoined}
-use Rattle.hugetlbd.specs.Asked.{Asks, AsksToServe, IsRefusedFor, hugetlbd}
-use Rattle.hugetlbd.specs.Config.{Choice, IsServing, IsWithinLimits, chosen}
+use Rattle.hugetlbd.specs.Asked.{AsksForScript, AsksToServe, IsRefusedFor, hugetlbd}
+use Rattle.hugetlbd.specs.Config.{IsMachineWithin, IsServing, MachineChoice, chosen}
 use Rattle.hugetlbd.specs.declared.config.TheConstants.{HELP, VERSION}
 use Rattle.hugetlbd.specs.declared.settings.Serving.{Serving}
 use Rattle.hugetlbd.specs.declared.settings.Wrong.{Wrong}
@@ -35,9 +36,9 @@ AnswersKnown machine remaining contents input before after =
     IfSome (remaining input) (λ script. AnswersScript machine script (contents before) (contents after))
 
 -- the status of a process for the way that its run ended
-abbrev pub status_of : Result ℕ RunFault → ℕ
-status_of (Ok count) = 0
-status_of (Err fault) = 1
+abbrev pub status_of_run : Result ℕ RunFault → ℕ
+status_of_run (Ok count) = 0
+status_of_run (Err fault) = 1
 
 -- what the machine read, did and wrote until the run ended; and it ends so only for want of memory or at the limit, where the ends are sure
 pub record Run (machine : State) (unread left : Option (List ℕ)) (sure : Type 0) (before after : Option (List ℕ)) (ended : Result ℕ RunFault) : Type 0 where
@@ -81,14 +82,10 @@ IsStatusOfWrong OptionFirst status = status ≡ 2
 abbrev pub named : List ℕ → List ℕ
 named text = codes "hugetlbd: " ++ text ++ codes "\n"
 
--- this is written, or a front of it where a write failed, as none does at a sure end
-abbrev pub Says : Type 0 → Option (List ℕ) → Option (List ℕ) → List ℕ → Type 0
-Says sure before after text = AppendsFront before after text × (sure → Appends before after text)
-
 -- of the way that a run ended: nothing, or the line of its fault
-abbrev pub SaysEnd : Type 0 → Option (List ℕ) → Option (List ℕ) → Result ℕ RunFault → Type 0
-SaysEnd sure before after (Ok count) = after ≡ before
-SaysEnd sure before after (Err fault) = Says sure before after (named (text_of_fault fault))
+abbrev pub SaysRunEnd : Type 0 → Option (List ℕ) → Option (List ℕ) → Result ℕ RunFault → Type 0
+SaysRunEnd sure before after (Ok count) = after ≡ before
+SaysRunEnd sure before after (Err fault) = Says sure before after (named (text_of_fault fault))
 
 -- of words that give no configuration: the line of what is wrong with them, and of a text asked for
 -- that can't be written; clap's refusal has a text of its own
@@ -118,16 +115,16 @@ pub record Refuses {W : Type 0} (contents : W → Option (List ℕ)) (is_sure : 
 
 -- What may be left of the machine that was asked for, once it is closed. It was audited just where there was room for
 -- entries; and where the audit was right, the sessions' events were one run of it, at whose end all its pages are free.
-pub record MayLeave (c : Choice) (s : Serving) (closed : Closed) : Type 0 where
+pub record MayBeLeft (c : MachineChoice) (s : Serving) (closed : Closed) : Type 0 where
   pub page : closed.page ≡ c.page
   pub audited : is_some closed.audit ≡ nat_lt 0 s.room
   pub joined : closed.audit ≡ Some true → (told : List (List Receipt)) × WasJoined (chosen c) told closed.counts
 
 -- how the serving of all sessions ended, what was printed and said then, and the status
-pub record IsServed (c : Choice) (s : Serving) (before after : Option (List ℕ)) (sure : Type 0) (unsaid said : Option (List ℕ))
+pub record IsServingEnded (c : MachineChoice) (s : Serving) (before after : Option (List ℕ)) (sure : Type 0) (unsaid said : Option (List ℕ))
     (status : ℕ) : Type 0 where
   pub ended : Ended
-  pub leaves : serving.LeavesAsked (MayLeave c s) ended
+  pub leaves : serving.LeavesAsked (MayBeLeft c s) ended
   pub ends : status ≡ serving.status_of ended
   pub prints : serving.Prints before after ended
   pub says : serving.SaysEnd sure unsaid said ended

@@ -3,8 +3,8 @@ ghost use Rattle.std.specs.Prelude.{◌≡◌, ◌≤◌, ◌∷◌, [], false, 
 ghost use Rattle.std.specs.Str.{bytes_eq};
 ghost use Rattle.clap.specs.Words.{app_of, first_of, rule_of};
 ghost use Rattle.hp_model.specs.text.Words.{number_of};
-ghost use Rattle.hugetlbd.specs.Asked.{AsksFor, IsBadValue, IsLocal, IsNoneWithin, IsNumberOr, IsNumberWithin, IsRefusedFor, IsWrongFrames, IsWrongIn, IsWrongOf, Sets, SetsServing, hugetlbd, machine_options, option, options_in, has_options, pieces, script, serve, serving_options, with_options};
-ghost use Rattle.hugetlbd.specs.Config.{IsConfigWithin, IsFrames, IsServing, IsWithinLimits, choice_of};
+ghost use Rattle.hugetlbd.specs.Asked.{AsksFor, IsBadValue, IsLocal, IsNoneWithin, IsNumberOr, IsNumberWithin, IsRefusedFor, IsWrongFrames, IsWrongIn, IsWrongOf, Sets, SetsServing, hugetlbd, machine_options, option, options_in, has_options, comma_pieces, script_app, serve_app, serving_options, with_options};
+ghost use Rattle.hugetlbd.specs.Config.{IsConfigWithin, IsFrames, IsMachineWithin, IsServing, choice_of};
 
 use crate::settings::{Config, Machine, Serving, Wrong};
 use clap::error::ErrorKind;
@@ -114,14 +114,14 @@ fn command<'a>(alloc: Global) -> Result<Command<'a>, AllocError>
 }
 
 fn script_command<'a>(alloc: Global) -> Result<Command<'a>, AllocError>
-    ensures app { IfOk result (λ c. app_of c ≡ script) }
+    ensures app { IfOk result (λ c. app_of c ≡ script_app) }
     ensures local { IfOk result IsLocal }
 {
     with_machine(alloc, Command::new(alloc, "script").override_usage(USAGE))
 }
 
 fn serve_command<'a>(alloc: Global) -> Result<Command<'a>, AllocError>
-    ensures app { IfOk result (λ c. app_of c ≡ serve) }
+    ensures app { IfOk result (λ c. app_of c ≡ serve_app) }
     ensures local { IfOk result IsLocal }
 {
     with_machine(
@@ -179,7 +179,7 @@ fn has_option(matches: &ArgMatches<'_>) -> bool
 }
 
 fn machine_of(alloc: Global, matches: &ArgMatches<'_>) -> Result<Machine, Wrong>
-    ensures limits { IfOk result (λ m. IsWithinLimits (choice_of m)) }
+    ensures limits { IfOk result (λ m. IsMachineWithin (choice_of m)) }
     ensures sets { IfOk result (λ m. Sets (options_in matches.now) (choice_of m)) }
     ensures wrong { IfErr result (IsWrongIn machine_options (options_in matches.now)) }
 {
@@ -229,7 +229,7 @@ fn two_nodes(alloc: Global) -> Result<Vec<u64>, AllocError>
 // The frames of 1 to 4 nodes, with one comma between two.
 #[tactic(auto, using(crate::proofs::Frames::frame_read, crate::proofs::Frames::last_frame_read))]
 fn frames_of(alloc: Global, text: &[u8]) -> Result<Vec<u64>, Wrong>
-    ensures reads { IfOk result (λ v. map number_of (pieces text.now) ≡ map Ok v.items) }
+    ensures reads { IfOk result (λ v. map number_of (comma_pieces text.now) ≡ map Ok v.items) }
     ensures limits { IfOk result (λ v. IsFrames v.items) }
     ensures wrong { IfErr result (IsWrongFrames text.now) }
 {

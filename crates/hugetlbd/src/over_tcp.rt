@@ -3,8 +3,8 @@ ghost use Rattle.std.specs.Prelude.{◌≡◌, ◌==◌, nat_lt};
 ghost use Rattle.std.specs.Thread.{IsSync};
 ghost use Rattle.hp_nodes.specs.Ledgers.{AreFrames};
 ghost use Rattle.hp_pool.specs.Ledgers.{AreLedgers};
-ghost use Rattle.hugetlbd.specs.Config.{IsServing, IsWithinLimits, choice_of};
-ghost use Rattle.hugetlbd.specs.Program.{IsServed};
+ghost use Rattle.hugetlbd.specs.Config.{IsMachineWithin, IsServing, choice_of};
+ghost use Rattle.hugetlbd.specs.Program.{IsServingEnded};
 
 use crate::server::Server;
 use crate::settings::{Machine, Serving};
@@ -69,9 +69,9 @@ pub fn serve_over<R: Threads + Wait + Sync, C: Connections, W: Sink, E: Sink>(
     output: &mut W,
     faults: &mut E,
 ) -> u8
-    requires limits { IsWithinLimits (choice_of machine.now) }
+    requires limits { IsMachineWithin (choice_of machine.now) }
     requires serving { IsServing serving }
-    ensures { IsServed (choice_of machine.now) serving (W.contents output.old)
+    ensures { IsServingEnded (choice_of machine.now) serving (W.contents output.old)
         (W.contents output.new) (E.is_sure faults.old) (E.contents faults.old)
         (E.contents faults.new) result }
 {
@@ -104,12 +104,12 @@ fn serve_kept<N: Naming + Send + Sync, R: Threads + Wait + Sync, C: Connections,
     output: &mut W,
     faults: &mut E,
 ) -> u8
-    requires limits { IsWithinLimits (choice_of machine.now) }
+    requires limits { IsMachineWithin (choice_of machine.now) }
     requires serving { IsServing serving }
     requires bytes { N.page_bytes ≡ machine.now.page }
     requires ledgers { AreLedgers N.Naming blanks }
     requires frames { AreFrames N.frames machine.now.frames.items }
-    ensures { IsServed (choice_of machine.now) serving (W.contents output.old)
+    ensures { IsServingEnded (choice_of machine.now) serving (W.contents output.old)
         (W.contents output.new) (E.is_sure faults.old) (E.contents faults.old)
         (E.contents faults.new) result }
 {
@@ -156,13 +156,13 @@ fn serve_on<
     output: &mut W,
     faults: &mut E,
 ) -> u8
-    requires limits { IsWithinLimits (choice_of machine.now) }
+    requires limits { IsMachineWithin (choice_of machine.now) }
     requires serving { IsServing serving }
     requires keeps { (K == 1) ≡ nat_lt 0 serving.room }
     requires bytes { N.page_bytes ≡ machine.now.page }
     requires ledgers { AreLedgers N.Naming blanks }
     requires frames { AreFrames N.frames machine.now.frames.items }
-    ensures { IsServed (choice_of machine.now) serving (W.contents output.old)
+    ensures { IsServingEnded (choice_of machine.now) serving (W.contents output.old)
         (W.contents output.new) (E.is_sure faults.old) (E.contents faults.old)
         (E.contents faults.new) result }
 {

@@ -7,9 +7,10 @@ ghost use Rattle.hp_wire.specs.Sent.{Writes, WritesFront};
 ghost use Rattle.hp_wire.specs.declared.fault.RunFault.{RunFault as TheFault};
 ghost use Rattle.hp_nodes.specs.Ledgers.{AreFrames};
 ghost use Rattle.hp_pool.specs.Ledgers.{AreLedgers};
-ghost use Rattle.hugetlbd.specs.Asked.{Asks, AsksToServe, IsRefusedFor, hugetlbd};
-ghost use Rattle.hugetlbd.specs.Config.{Choice, IsServing, IsWithinLimits, chosen, choice_of, usual};
-ghost use Rattle.hugetlbd.specs.Program.{AnswersKnown, AsksForText, IsServed, Refuses, RunsOn, Says, SaysEnd, named, status_of, text_for};
+ghost use Rattle.hugetlbd.specs.Asked.{AsksForScript, AsksToServe, IsRefusedFor, hugetlbd};
+ghost use Rattle.hugetlbd.specs.Config.{MachineChoice, IsServing, IsMachineWithin, chosen, choice_of, usual};
+ghost use Rattle.hp_serving.specs.Ended.{Says};
+ghost use Rattle.hugetlbd.specs.Program.{AnswersKnown, AsksForText, IsServingEnded, Refuses, RunsOn, SaysRunEnd, named, status_of_run, text_for};
 ghost use Rattle.hugetlbd.specs.declared.settings.Serving.{Serving as TheServing};
 ghost use Rattle.hugetlbd.specs.declared.settings.Wrong.{Wrong as TheWrong};
 
@@ -46,33 +47,35 @@ pub fn program<'a, S: AsStr, V: Server, R: Source, W: Sink, E: Sink>(
 ) -> u8
     requires server { V.can_serve server }
     ensures ended { let asked = map S.text words.entry.now in
-        ((c : Choice) × Asks asked c × IsWithinLimits c
-        × (ended : Result ℕ TheFault) × (result ≡ status_of ended)
+        ((c : MachineChoice) × AsksForScript asked c × IsMachineWithin c
+        × (ended : Result ℕ TheFault) × (result ≡ status_of_run ended)
         × RunsOn (chosen c) R.remaining W.contents
         (R.is_sure input.old × W.is_sure output.old)
         input.old input.new output.old output.new ended
-        × SaysEnd (E.is_sure faults.old) (E.contents faults.old) (E.contents faults.new) ended)
-        ⊎ ((c : Choice) × (s : TheServing) × AsksToServe asked c s × IsWithinLimits c
+        × SaysRunEnd (E.is_sure faults.old) (E.contents faults.old) (E.contents faults.new) ended)
+        ⊎ ((c : MachineChoice) × (s : TheServing) × AsksToServe asked c s × IsMachineWithin c
         × IsServing s × (input.new ≡ input.old)
-        × IsServed c s (W.contents output.old) (W.contents output.new)
+        × IsServingEnded c s (W.contents output.old) (W.contents output.new)
         (E.is_sure faults.old) (E.contents faults.old) (E.contents faults.new) result)
         ⊎ ((wrong : TheWrong) × IsRefusedFor asked wrong × (input.new ≡ input.old)
         × Refuses W.contents W.is_sure output.old output.new
         (E.is_sure faults.old) (E.contents faults.old) (E.contents faults.new) wrong result) }
-    ensures right { (c : Choice) → Asks (map S.text words.entry.now) c → IsWithinLimits c
+    ensures right { (c : MachineChoice) → AsksForScript (map S.text words.entry.now) c
+        → IsMachineWithin c → result ≢ 2 }
+    ensures serves { (c : MachineChoice) → (s : TheServing)
+        → AsksToServe (map S.text words.entry.now) c s → IsMachineWithin c → IsServing s
         → result ≢ 2 }
-    ensures serves { (c : Choice) → (s : TheServing) → AsksToServe (map S.text words.entry.now) c s
-        → IsWithinLimits c → IsServing s → result ≢ 2 }
     ensures script { let asked = map S.text words.entry.now in
         result ≡ 0 → ((input.new ≡ input.old) × (takes hugetlbd asked ≡ false)
         × (text : Text) × AsksForText asked text × Writes W.contents output.old output.new text)
-        ⊎ ((c : Choice) × Asks asked c
+        ⊎ ((c : MachineChoice) × AsksForScript asked c
         × AnswersKnown (chosen c) R.remaining W.contents input.old output.old output.new)
-        ⊎ ((input.new ≡ input.old) × (c : Choice) × (s : TheServing) × AsksToServe asked c s) }
+        ⊎ ((input.new ≡ input.old) × (c : MachineChoice) × (s : TheServing)
+        × AsksToServe asked c s) }
     ensures usual { length words.entry.now ≤ 1 → result ≡ 0
         → AnswersKnown (chosen usual) R.remaining W.contents input.old output.old output.new }
     ensures alone { length words.entry.now ≤ 1
-        → ((ended : Result ℕ TheFault) × (result ≡ status_of ended)
+        → ((ended : Result ℕ TheFault) × (result ≡ status_of_run ended)
         × RunsOn (chosen usual) R.remaining W.contents
         (R.is_sure input.old × W.is_sure output.old)
         input.old input.new output.old output.new ended)
@@ -97,7 +100,7 @@ fn run_on<R: Source, W: Sink>(
     input: &mut R,
     output: &mut W,
 ) -> Result<u64, RunFault>
-    requires limits { IsWithinLimits (choice_of config.now) }
+    requires limits { IsMachineWithin (choice_of config.now) }
     ensures run { RunsOn (chosen (choice_of config.now)) R.remaining W.contents
         (R.is_sure input.old × W.is_sure output.old)
         input.old input.new output.old output.new result }
@@ -121,7 +124,7 @@ fn run_machine<N: Naming, R: Source, W: Sink>(
     input: &mut R,
     output: &mut W,
 ) -> Result<u64, RunFault>
-    requires limits { IsWithinLimits (choice_of config.now) }
+    requires limits { IsMachineWithin (choice_of config.now) }
     requires bytes { N.page_bytes ≡ config.now.page }
     requires ledgers { AreLedgers N.Naming blanks }
     requires frames { AreFrames N.frames config.now.frames.items }
@@ -149,8 +152,8 @@ fn run_machine<N: Naming, R: Source, W: Sink>(
 /// The status for the way that a run ended. A fault is named on `faults`; where that fails too, the
 /// status alone tells.
 pub fn report<E: Sink>(ended: Result<u64, RunFault>, faults: &mut E) -> u8
-    ensures status { result ≡ status_of ended }
-    ensures says { SaysEnd (E.is_sure faults.old)
+    ensures status { result ≡ status_of_run ended }
+    ensures says { SaysRunEnd (E.is_sure faults.old)
         (E.contents faults.old) (E.contents faults.new) ended }
 {
     match ended {

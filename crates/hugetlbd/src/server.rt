@@ -1,6 +1,6 @@
 //! What serves sessions, where the words ask for it.
-ghost use Rattle.hugetlbd.specs.Config.{IsServing, IsWithinLimits, choice_of};
-ghost use Rattle.hugetlbd.specs.Program.{IsServed};
+ghost use Rattle.hugetlbd.specs.Config.{IsMachineWithin, IsServing, choice_of};
+ghost use Rattle.hugetlbd.specs.Program.{IsServingEnded};
 
 use crate::settings::{Machine, Serving};
 use hp_wire::ends::Sink;
@@ -22,9 +22,9 @@ pub trait Server: Drop {
         faults: &mut E,
     ) -> u8
         requires can { can_serve self }
-        requires limits { IsWithinLimits (choice_of machine.now) }
+        requires limits { IsMachineWithin (choice_of machine.now) }
         requires serving { IsServing serving }
-        ensures { IsServed (choice_of machine.now) serving (W.contents output.old)
+        ensures { IsServingEnded (choice_of machine.now) serving (W.contents output.old)
             (W.contents output.new) (E.is_sure faults.old) (E.contents faults.old)
             (E.contents faults.new) result };
 }

@@ -30,12 +30,12 @@ nodes_from node [] = []
 nodes_from node (k ∷ ks) = replicate k node ++ nodes_from (node + 1) ks
 
 -- the nodes of n pages, rising, of which there are so many at each node
-abbrev pub nodes_of : (n : ℕ) → List ℕ → List ℕ
-nodes_of n counts = take n (nodes_from 0 counts ++ replicate n 0)
+abbrev pub rising_nodes : (n : ℕ) → List ℕ → List ℕ
+rising_nodes n counts = take n (nodes_from 0 counts ++ replicate n 0)
 
 abbrev pub zero_page : (size node : ℕ) → Page
 zero_page size node = record { node = node; bytes = zeros size }
 
 -- the file reaches to b at least, and has pages of zeros of these nodes from index a on
-abbrev pub filled : (size a b : ℕ) → (nodes : List ℕ) → File → File
-filled size a b nodes f = record f { cells = cells_filled a (map (zero_page size) nodes) (at_least b f.cells) }
+abbrev pub range_filled : (size a b : ℕ) → (nodes : List ℕ) → File → File
+range_filled size a b nodes f = record f { cells = cells_filled a (map (zero_page size) nodes) (at_least b f.cells) }

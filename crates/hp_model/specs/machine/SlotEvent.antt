@@ -19,7 +19,7 @@ use Rattle.hp_model.specs.declared.step.Reserving.TheVariants.{Reserve}
 use Rattle.hp_model.specs.declared.step.Sharing.TheVariants.{Shared}
 use Rattle.hp_model.specs.files.Access.{access}
 use Rattle.hp_model.specs.files.File.{File, cell_at, is_entered, has_page, with_file, maps_of, new_file, Mount}
-use Rattle.hp_model.specs.files.Fill.{filled, lacking, nodes_of}
+use Rattle.hp_model.specs.files.Fill.{lacking, range_filled, rising_nodes}
 use Rattle.hp_model.specs.files.Fork.{forked}
 use Rattle.hp_model.specs.files.GiveBack.{unmapped_from, without_task, punched, truncated, unlinked, swept}
 use Rattle.hp_model.specs.pool.Grant.{is_full, is_over, rise}
@@ -153,7 +153,7 @@ unentered a b f = asked Shared Reserve a (b - a) f
 -- the file with pages of the nodes that the pool answers
 abbrev pub preallocated : (size : ℕ) → Mount → (a b : ℕ) → ℕ × File → PoolAnswer → Outcome
 preallocated size m a b f answer =
-    when_granted (Answered Done (Some (with_file m f.0 (filled size a b (nodes_of (lacking a b f.1) answer.pages) f.1)))) answer
+    when_granted (Answered Done (Some (with_file m f.0 (range_filled size a b (rising_nodes (lacking a b f.1) answer.pages) f.1)))) answer
 
 -- what has no entry is granted, and a page is taken for each index without one
 abbrev pub fill : Choice → (size : ℕ) → Mount → (a b : ℕ) → ℕ × File → Plan

@@ -86,8 +86,8 @@ abbrev pub filled_by : List ℕ → PoolAnswer
 filled_by takes = record { granted = true; node = 0; nr = 0; pages = takes }
 
 -- nr was read
-abbrev pub read_nr : (granted : Bool) → Pool → PoolAnswer
-read_nr granted p = record { granted = granted; node = 0; nr = p.nr; pages = no_takes }
+abbrev pub nr_answer : (granted : Bool) → Pool → PoolAnswer
+nr_answer granted p = record { granted = granted; node = 0; nr = p.nr; pages = no_takes }
 
 abbrev pub section : Pool → Section → PoolAnswer × Pool
 section p (Grant home d) = if can_grant d p then (granted_at 0, granted home d p) else (no_pages, p)
@@ -102,7 +102,7 @@ section p (FillPages d n) =
     else (no_pages, p)
 section p (GiveBack puts k) = (granted_at 0, settled (released k (puts_from 0 puts p)))
 section p (ReadAndGrant d) =
-    if can_grant d p then (read_nr true p, granted 0 d p) else (read_nr false p, p)
-section p (ReadAndGiveBack k) = (read_nr true p, settled (released k p))
+    if can_grant d p then (nr_answer true p, granted 0 d p) else (nr_answer false p, p)
+section p (ReadAndGiveBack k) = (nr_answer true p, settled (released k p))
 section p (GrantAndReturn d) =
-    if can_grant d p then (read_nr true p, settled (released d (granted 0 d p))) else (read_nr false p, p)
+    if can_grant d p then (nr_answer true p, settled (released d (granted 0 d p))) else (nr_answer false p, p)

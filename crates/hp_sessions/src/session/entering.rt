@@ -12,7 +12,7 @@ ghost use Rattle.hp_mount.specs.Event.{event_of, shows_bytes};
 ghost use Rattle.hp_shared.specs.Slots.{names_reply};
 ghost use Rattle.hp_shared.specs.Tables.{table_reply};
 ghost use Rattle.hp_sessions.specs.Calls.{IsHanded};
-ghost use Rattle.hp_sessions.specs.Works.{AreCopies, bytes_of};
+ghost use Rattle.hp_sessions.specs.Works.{AreCopies, bytes_of_event};
 
 use super::Session;
 use super::notes::{Copies, events, mountings, remountings};
@@ -113,7 +113,7 @@ impl<'a, N: Naming, R: Wait, G: Gate, const K: usize> Session<'a, N, R, G, K> {
         requires within { at < self.now.slots }
         requires room { shows_bytes event ≡ true → 256 ≤ length room.old }
         requires apart { lists_names (event_of home event) ≡ false }
-        requires copies { (K == 1) ≡ true → AreCopies (bytes_of (event_of 0 event)) copies }
+        requires copies { (K == 1) ≡ true → AreCopies (bytes_of_event (event_of 0 event)) copies }
         ensures handed { IsHanded (K == 1) N.page_bytes (OnSlot at (event_of home event.entry))
             (told_reply result.0) result.1 }
         ensures limits { IsWithinLimits (told_reply result.0) }

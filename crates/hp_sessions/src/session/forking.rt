@@ -7,8 +7,8 @@ ghost use Rattle.hp_model.specs.machine.Accesses.{done_reply};
 ghost use Rattle.hp_model.specs.machine.Step.{Script, exit_slots, fork_slots, script, undone};
 ghost use Rattle.hp_shared.specs.Slots.{is_trace_full};
 ghost use Rattle.hp_shared.specs.Tables.{table_reply};
-ghost use Rattle.hp_sessions.specs.Calls.{Carries, Grows, HasRoom, Leads};
-ghost use Rattle.hp_sessions.specs.Forks.{marked};
+ghost use Rattle.hp_sessions.specs.Calls.{Carries, Grows, HasReceiptRoom, Leads};
+ghost use Rattle.hp_sessions.specs.Forks.{marked_below};
 
 use super::Session;
 use hp_locked::Gate;
@@ -24,7 +24,7 @@ const MOST_SLOTS: usize = 64;
 impl<'a, N: Naming, R: Wait, G: Gate, const K: usize> Session<'a, N, R, G, K> {
     // Ends a task, and then its maps go, slot after slot.
     pub(super) fn exit(&mut self, task: u64) -> Result<(), Refusal>
-        requires { HasRoom (K == 1) (self.old.slots + 1) self.old }
+        requires { HasReceiptRoom (K == 1) (self.old.slots + 1) self.old }
         ensures { Carries (K == 1) N.page_bytes self.old (script self.old.slots (Exit task))
             (done_reply result) self.new }
     {
@@ -40,7 +40,7 @@ impl<'a, N: Naming, R: Wait, G: Gate, const K: usize> Session<'a, N, R, G, K> {
     // Adds a child of a task, which gets its parent's maps, slot after slot. Where a slot refuses, the child goes again, with
     // its maps; but not where there was no place for an event.
     pub(super) fn fork(&mut self, parent: u64, child: u64) -> Result<(), Refusal>
-        requires { HasRoom (K == 1) (2 * self.old.slots + 1) self.old }
+        requires { HasReceiptRoom (K == 1) (2 * self.old.slots + 1) self.old }
         ensures { Carries (K == 1) N.page_bytes self.old (script self.old.slots (Fork parent child))
             (done_reply result) self.new }
     {
@@ -53,7 +53,7 @@ impl<'a, N: Naming, R: Wait, G: Gate, const K: usize> Session<'a, N, R, G, K> {
 
     // The parent's maps become the child's as well, slot after slot.
     fn fork_slots(&mut self, parent: u64, child: u64) -> Result<(), Refusal>
-        requires places { HasRoom (K == 1) (2 * self.old.slots) self.old }
+        requires places { HasReceiptRoom (K == 1) (2 * self.old.slots) self.old }
         requires apart { (parent == child) ≡ false }
         ensures { Carries (K == 1) N.page_bytes self.old
             (fork_slots (range_with_len 0 self.old.slots) [] parent child)
@@ -82,12 +82,12 @@ impl<'a, N: Naming, R: Wait, G: Gate, const K: usize> Session<'a, N, R, G, K> {
         child: u64,
         refusal: Refusal,
     ) -> Refusal
-        requires places { HasRoom (K == 1) (count + 1) self.old }
+        requires places { HasReceiptRoom (K == 1) (count + 1) self.old }
         requires within { count ≤ self.old.slots }
         requires few { count ≤ 64 }
         requires noted { is_trace_full (Err refusal) ≡ false }
         ensures { Carries (K == 1) N.page_bytes self.old
-            (undone (marked done.now count) child refusal) (Err result) self.new }
+            (undone (marked_below done.now count) child refusal) (Err result) self.new }
     {
         for at in 0..count {
             if is_done(done, at) {

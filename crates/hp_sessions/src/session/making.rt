@@ -9,9 +9,9 @@ ghost use Rattle.hp_model.specs.machine.Told.{told_answer, told_reply};
 ghost use Rattle.hp_model.specs.text.Writing.{IsWithinLimits};
 ghost use Rattle.hp_mount.specs.Event.{event_of, shows_bytes};
 ghost use Rattle.hp_shared.specs.Tables.{table_reply};
-ghost use Rattle.hp_sessions.specs.Calls.{Carries, Grows, HasRoom, IsMade, Leads};
+ghost use Rattle.hp_sessions.specs.Calls.{Carries, Grows, HasReceiptRoom, IsMade, Leads};
 ghost use Rattle.hp_sessions.specs.Forks.{IsForked};
-ghost use Rattle.hp_sessions.specs.Works.{AreCopies, HasAnswerOf, bytes_of};
+ghost use Rattle.hp_sessions.specs.Works.{AreCopies, HasAnswerOf, bytes_of_event};
 
 use super::Session;
 use super::notes::Copies;
@@ -27,7 +27,7 @@ use std::sync::Wait;
 impl<'a, N: Naming, R: Wait, G: Gate, const K: usize> Session<'a, N, R, G, K> {
     // An event of the task table.
     pub(super) fn make_table(&mut self, event: TableEvent) -> TableTold
-        requires { HasRoom (K == 1) 1 self.old }
+        requires { HasReceiptRoom (K == 1) 1 self.old }
         ensures made { IsMade (K == 1) N.page_bytes self.old (OnTasks event) (table_reply result)
             self.new }
         ensures grows { Grows 1 self.old self.new }
@@ -43,7 +43,7 @@ impl<'a, N: Naming, R: Wait, G: Gate, const K: usize> Session<'a, N, R, G, K> {
     // An event of the pool alone.
     #[inline(always)]
     pub(super) fn make_pool(&mut self, event: PoolEvent) -> Result<Told<'static>, Refusal>
-        requires { HasRoom (K == 1) 1 self.old }
+        requires { HasReceiptRoom (K == 1) 1 self.old }
         ensures made { IsMade (K == 1) N.page_bytes self.old (OnPool event) (told_reply result)
             self.new }
         ensures limits { IsWithinLimits (told_reply result) }
@@ -59,7 +59,7 @@ impl<'a, N: Naming, R: Wait, G: Gate, const K: usize> Session<'a, N, R, G, K> {
     // The home of a task; or why it isn't there, which is then the step's reply.
     #[inline(never)]
     pub(super) fn find(&mut self, task: u64) -> Result<u64, Refusal>
-        requires { HasRoom (K == 1) 1 self.old }
+        requires { HasReceiptRoom (K == 1) 1 self.old }
         ensures found { IfOk result (λ home. (f : ℕ → Script) →
             Leads (K == 1) N.page_bytes self.old (finding task f) self.new (f home)) }
         ensures refused { IfErr result (λ refusal. (f : ℕ → Script) →
@@ -100,10 +100,10 @@ impl<'a, N: Naming, R: Wait, G: Gate, const K: usize> Session<'a, N, R, G, K> {
         copies: Option<Copies>,
         room: &'b mut [u8],
     ) -> Result<Told<'b>, Refusal>
-        requires places { HasRoom (K == 1) 1 self.old }
+        requires places { HasReceiptRoom (K == 1) 1 self.old }
         requires room { shows_bytes event ≡ true → 256 ≤ length room.old }
         requires apart { lists_names (event_of home event) ≡ false }
-        requires copies { (K == 1) ≡ true → AreCopies (bytes_of (event_of 0 event)) copies }
+        requires copies { (K == 1) ≡ true → AreCopies (bytes_of_event (event_of 0 event)) copies }
         ensures carried { Carries (K == 1) N.page_bytes self.old
             (on_slot self.old.slots slot (event_of home event.entry))
             (told_reply result) self.new }
@@ -153,7 +153,7 @@ impl<'a, N: Naming, R: Wait, G: Gate, const K: usize> Session<'a, N, R, G, K> {
         options: &[u8],
         copies: Option<Copies>,
     ) -> Result<Told<'static>, Refusal>
-        requires places { HasRoom (K == 1) 1 self.old }
+        requires places { HasReceiptRoom (K == 1) 1 self.old }
         requires copies { (K == 1) ≡ true → AreCopies options.now copies }
         ensures carried { Carries (K == 1) N.page_bytes self.old
             (on_slot self.old.slots slot (Mounting options.now))
@@ -176,7 +176,7 @@ impl<'a, N: Naming, R: Wait, G: Gate, const K: usize> Session<'a, N, R, G, K> {
         options: &[u8],
         copies: Option<Copies>,
     ) -> Result<Told<'static>, Refusal>
-        requires places { HasRoom (K == 1) 1 self.old }
+        requires places { HasReceiptRoom (K == 1) 1 self.old }
         requires copies { (K == 1) ≡ true → AreCopies options.now copies }
         ensures carried { Carries (K == 1) N.page_bytes self.old
             (on_slot self.old.slots slot (Remounting options.now))
@@ -194,7 +194,7 @@ impl<'a, N: Naming, R: Wait, G: Gate, const K: usize> Session<'a, N, R, G, K> {
 
     // Ends the mount of a slot.
     pub(super) fn make_umount(&mut self, slot: u64) -> Result<Told<'static>, Refusal>
-        requires { HasRoom (K == 1) 1 self.old }
+        requires { HasReceiptRoom (K == 1) 1 self.old }
         ensures carried { Carries (K == 1) N.page_bytes self.old
             (on_slot self.old.slots slot Umounting) (told_reply result) self.new }
         ensures limits { IsWithinLimits (told_reply result) }
@@ -210,7 +210,7 @@ impl<'a, N: Naming, R: Wait, G: Gate, const K: usize> Session<'a, N, R, G, K> {
 
     // The names of a slot's files.
     pub(super) fn make_names(&mut self, slot: u64) -> Result<Told<'static>, Refusal>
-        requires { HasRoom (K == 1) 1 self.old }
+        requires { HasReceiptRoom (K == 1) 1 self.old }
         ensures carried { Carries (K == 1) N.page_bytes self.old (on_slot self.old.slots slot Ls)
             (told_reply result) self.new }
         ensures limits { IsWithinLimits (told_reply result) }
@@ -229,7 +229,7 @@ impl<'a, N: Naming, R: Wait, G: Gate, const K: usize> Session<'a, N, R, G, K> {
 
     // Gives a child the maps that its parent has on a slot: whether it has any there.
     pub(super) fn make_fork(&mut self, at: usize, parent: u64, child: u64) -> Result<bool, Refusal>
-        requires places { HasRoom (K == 1) 1 self.old }
+        requires places { HasReceiptRoom (K == 1) 1 self.old }
         requires within { at < self.old.slots }
         requires apart { (parent == child) ≡ false }
         ensures made { IfOk result (λ forked. MatchBool forked
@@ -253,7 +253,7 @@ impl<'a, N: Naming, R: Wait, G: Gate, const K: usize> Session<'a, N, R, G, K> {
 
     // The maps that a task has on a slot go.
     pub(super) fn make_exit(&mut self, at: usize, task: u64)
-        requires places { HasRoom (K == 1) 1 self.old }
+        requires places { HasReceiptRoom (K == 1) 1 self.old }
         requires within { at < self.old.slots }
         ensures leads { (next : Script) → Leads (K == 1) N.page_bytes self.old
             (exit_slot at task next) self.new next }

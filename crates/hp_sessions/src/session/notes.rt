@@ -3,7 +3,7 @@ ghost use Rattle.std.specs.Prelude.{◌≡◌, ◌<◌, ℕ, List, length, true,
 ghost use Rattle.hp_model.specs.machine.Copying.{has_bytes};
 ghost use Rattle.hp_model.specs.declared.event.SlotEvent.TheVariants.{Mount as Mounting, Remount as Remounting};
 ghost use Rattle.hp_mount.specs.Event.{event_of};
-ghost use Rattle.hp_sessions.specs.Works.{AreCopies, AreEvents, bytes_of};
+ghost use Rattle.hp_sessions.specs.Works.{AreCopies, AreEvents, bytes_of_event};
 
 use hp_model::bytes::Bytes;
 use hp_model::event::SlotEvent;
@@ -15,7 +15,7 @@ pub(super) type Copies = (Bytes, Bytes);
 
 // The name or the bytes that an event has.
 fn carried<'x>(event: &MountEvent<'x>) -> &'x [u8]
-    ensures { result.now ≡ bytes_of (event_of 0 event.now) }
+    ensures { result.now ≡ bytes_of_event (event_of 0 event.now) }
 {
     match event {
         MountEvent::Create { name }
@@ -48,7 +48,8 @@ pub(super) fn twice(alloc: Global, bytes: &[u8]) -> Result<Copies, AllocError>
 
 // Two copies of what an event carries. Memory is asked for where that is anything.
 pub(super) fn copies(alloc: Global, event: &MountEvent<'_>) -> Result<Copies, AllocError>
-    ensures copies { IfOk result (λ both. AreCopies (bytes_of (event_of 0 event.now)) (Some both)) }
+    ensures copies { IfOk result
+        (λ both. AreCopies (bytes_of_event (event_of 0 event.now)) (Some both)) }
     ensures memory { OnErr result (has_bytes (event_of 0 event.now) ≡ true) }
 {
     twice(alloc, carried(event))
@@ -60,7 +61,7 @@ pub(super) fn events(
     home: u64,
     copies: Option<Copies>,
 ) -> Option<(SlotEvent, SlotEvent)>
-    requires { AreCopies (bytes_of (event_of 0 event.now)) copies }
+    requires { AreCopies (bytes_of_event (event_of 0 event.now)) copies }
     ensures { AreEvents (event_of home event.now) result }
 {
     let (one, two) = copies?;
@@ -92,7 +93,7 @@ pub(super) fn remountings(copies: Option<Copies>) -> Option<(SlotEvent, SlotEven
 
 // The event of a task with that home, with this name or these bytes.
 fn owned(event: &MountEvent<'_>, home: u64, bytes: Bytes) -> SlotEvent
-    requires { bytes ≡ bytes_of (event_of 0 event.now) }
+    requires { bytes ≡ bytes_of_event (event_of 0 event.now) }
     ensures { result ≡ event_of home event.now }
 {
     match *event {

@@ -1,6 +1,6 @@
 //! A session as a service.
 ghost use Rattle.std.specs.Prelude.{◌==◌};
-ghost use Rattle.hp_sessions.specs.Calls.{IsAnswered};
+ghost use Rattle.hp_sessions.specs.Calls.{IsCallAnswered};
 
 use super::Session;
 use hp_locked::Gate;
@@ -14,7 +14,7 @@ use std::sync::Wait;
 
 impl<'a, N: Naming, R: Wait, G: Gate, const K: usize> Service for Session<'a, N, R, G, K> {
     ghost may_answer = { λ old step reply new.
-        IsAnswered (K == 1) N.page_bytes old step reply new };
+        IsCallAnswered (K == 1) N.page_bytes old step reply new };
 
     ghost page = { λ s. N.page_bytes };
 

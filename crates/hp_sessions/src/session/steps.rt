@@ -10,8 +10,8 @@ ghost use Rattle.hp_model.specs.text.Writing.{IsWithinLimits};
 ghost use Rattle.hp_mount.specs.Event.{event_of, shows_bytes};
 ghost use Rattle.hp_shared.specs.Tables.{table_reply};
 ghost use Rattle.hp_sessions.specs.declared.work.Work.TheVariants.{OfTask as OfATask, OnSlot as OnASlot};
-ghost use Rattle.hp_sessions.specs.Calls.{HasRoom, IsAnswered};
-ghost use Rattle.hp_sessions.specs.Works.{AreCopies, HasAnswerOf, IsApart, IsBytes, IsWorked, bytes_of};
+ghost use Rattle.hp_sessions.specs.Calls.{HasReceiptRoom, IsCallAnswered};
+ghost use Rattle.hp_sessions.specs.Works.{AreCopies, HasAnswerOf, IsBytes, IsWorked, ListsByNamesAlone, bytes_of_event};
 
 use super::Session;
 use super::notes::{Copies, copies, twice};
@@ -37,7 +37,7 @@ impl<'a, N: Naming, R: Wait, G: Gate, const K: usize> Session<'a, N, R, G, K> {
     /// trail has no place for one; and OutOfMemory before the first where there is no room for a copy of its name, options or
     /// bytes.
     pub fn call(&mut self, step: &Step<'_>) -> Reply
-        ensures answered { IsAnswered (K == 1) N.page_bytes self.old step.now result self.new }
+        ensures answered { IsCallAnswered (K == 1) N.page_bytes self.old step.now result self.new }
         ensures limits { IsWithinLimits result }
     {
         let mut room = [0u8; 256];
@@ -47,7 +47,8 @@ impl<'a, N: Naming, R: Wait, G: Gate, const K: usize> Session<'a, N, R, G, K> {
     /// Answers a step as `call` does. Bytes are in the front of the room.
     pub fn do_step<'b>(&mut self, step: &Step<'_>, room: &'b mut [u8]) -> Result<Told<'b>, Refusal>
         requires { 256 ≤ length room.old }
-        ensures answered { IsAnswered (K == 1) N.page_bytes self.old step.now (told_reply result)
+        ensures answered { IsCallAnswered (K == 1) N.page_bytes self.old step.now
+            (told_reply result)
             self.new }
         ensures limits { IsWithinLimits (told_reply result) }
     {
@@ -94,7 +95,8 @@ impl<'a, N: Naming, R: Wait, G: Gate, const K: usize> Session<'a, N, R, G, K> {
         room: &'b mut [u8],
     ) -> Result<&'b [u8], Refusal>
         requires { 256 ≤ length room.old }
-        ensures answered { IsAnswered (K == 1) N.page_bytes self.old (load_step access.now count)
+        ensures answered { IsCallAnswered (K == 1) N.page_bytes self.old
+            (load_step access.now count)
             (bytes_reply result) self.new }
         ensures few { IfOk result (λ bytes. length bytes.now ≤ 256) }
     {
@@ -111,7 +113,7 @@ impl<'a, N: Naming, R: Wait, G: Gate, const K: usize> Session<'a, N, R, G, K> {
 
     /// Does the step of a store of these bytes, as `call` does.
     pub fn store(&mut self, access: &Access, bytes: &[u8]) -> Result<(), Refusal>
-        ensures { IsAnswered (K == 1) N.page_bytes self.old (store_step access.now bytes.now)
+        ensures { IsCallAnswered (K == 1) N.page_bytes self.old (store_step access.now bytes.now)
             (done_reply result) self.new }
     {
         let event = MountEvent::Store {
@@ -129,7 +131,7 @@ impl<'a, N: Naming, R: Wait, G: Gate, const K: usize> Session<'a, N, R, G, K> {
     #[inline(never)]
     fn do_work<'b>(&mut self, work: &Work<'_>, room: &'b mut [u8]) -> Result<Told<'b>, Refusal>
         requires room { 256 ≤ length room.old }
-        requires apart { IsApart work.now }
+        requires apart { ListsByNamesAlone work.now }
         ensures worked { IsWorked (K == 1) N.page_bytes self.old work.now (told_reply result)
             self.new }
         ensures limits { IsWithinLimits (told_reply result) }
@@ -247,7 +249,7 @@ impl<'a, N: Naming, R: Wait, G: Gate, const K: usize> Session<'a, N, R, G, K> {
     fn lacks(&self, receipts: usize) -> bool
         ensures { MatchBool result
             (((K == 1) ≡ true) × (self.now.room < length self.now.receipts + receipts))
-            (HasRoom (K == 1) receipts self.now) }
+            (HasReceiptRoom (K == 1) receipts self.now) }
     {
         K == 1 && self.left() < receipts
     }
@@ -256,7 +258,7 @@ impl<'a, N: Naming, R: Wait, G: Gate, const K: usize> Session<'a, N, R, G, K> {
     #[inline(always)]
     fn copies(&self, event: &MountEvent<'_>) -> Result<Option<Copies>, AllocError>
         ensures copies { IfOk result (λ c. (K == 1) ≡ true →
-            AreCopies (bytes_of (event_of 0 event.now)) c) }
+            AreCopies (bytes_of_event (event_of 0 event.now)) c) }
         ensures memory { OnErr result (((K == 1) ≡ true)
             × (has_bytes (event_of 0 event.now) ≡ true)) }
     {

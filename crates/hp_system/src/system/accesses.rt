@@ -7,7 +7,7 @@ ghost use Rattle.hp_model.specs.machine.State.{slot_at};
 ghost use Rattle.hp_model.specs.machine.Step.{IsStep};
 ghost use Rattle.hp_mount.specs.Memory.{asks_memory};
 ghost use Rattle.hp_system.specs.Event.{DoesOnSlot, load_event, store_event};
-ghost use Rattle.hp_system.specs.Kept.{IsReady};
+ghost use Rattle.hp_system.specs.Kept.{IsReadyMachine};
 
 use super::System;
 use hp_model::naming::Naming;
@@ -27,7 +27,7 @@ impl<N: Naming> System<N> {
         count: u64,
         room: &'a mut [u8],
     ) -> Result<&'a [u8], Refusal>
-        requires ready { IsReady self.old }
+        requires ready { IsReadyMachine self.old }
         requires room { 256 ≤ length room.old }
         ensures step { IsStep self.old.state (load_step access.now count)
             (bytes_reply result) self.new.state }
@@ -37,14 +37,14 @@ impl<N: Naming> System<N> {
             → result ≢ Err Refusal.OutOfMemory }
         ensures size { self.new.state.page_size ≡ self.old.state.page_size }
         ensures few { IfOk result (λ bytes. length bytes.now ≤ 256) }
-        ensures ready { IsReady self.new }
+        ensures ready { IsReadyMachine self.new }
     {
         self.load_of_task(access, count, room)
     }
 
     /// Does the step of a store of these bytes, as `apply` does. Refused as a load of as many bytes.
     pub fn store(&mut self, access: &Access, bytes: &[u8]) -> Result<(), Refusal>
-        requires ready { IsReady self.old }
+        requires ready { IsReadyMachine self.old }
         ensures step { IsStep self.old.state (store_step access.now bytes.now)
             (done_reply result) self.new.state }
         ensures promised { IsPromised self.old.state (store_step access.now bytes.now)
@@ -52,7 +52,7 @@ impl<N: Naming> System<N> {
         ensures memory { takes_memory self.old.state (store_step access.now bytes.now) ≡ false
             → result ≢ Err Refusal.OutOfMemory }
         ensures size { self.new.state.page_size ≡ self.old.state.page_size }
-        ensures ready { IsReady self.new }
+        ensures ready { IsReadyMachine self.new }
     {
         self.store_of_task(access, bytes)
     }
@@ -64,7 +64,7 @@ impl<N: Naming> System<N> {
         count: u64,
         room: &'a mut [u8],
     ) -> Result<&'a [u8], Refusal>
-        requires ready { IsReady self.old }
+        requires ready { IsReadyMachine self.old }
         requires room { 256 ≤ length room.old }
         ensures step { IsStep self.old.state (load_step access.now count)
             (bytes_reply result) self.new.state }
@@ -72,7 +72,7 @@ impl<N: Naming> System<N> {
             (load_event access.now count 0) ≡ false → result ≢ Err Refusal.OutOfMemory }
         ensures size { self.new.state.page_size ≡ self.old.state.page_size }
         ensures few { IfOk result (λ bytes. length bytes.now ≤ 256) }
-        ensures ready { IsReady self.new }
+        ensures ready { IsReadyMachine self.new }
     {
         match self.table.home(access.task) {
             Some(home) => self.load_on_slot(home, access, count, room),
@@ -82,13 +82,13 @@ impl<N: Naming> System<N> {
 
     #[inline(always)]
     fn store_of_task(&mut self, access: &Access, bytes: &[u8]) -> Result<(), Refusal>
-        requires ready { IsReady self.old }
+        requires ready { IsReadyMachine self.old }
         ensures step { IsStep self.old.state (store_step access.now bytes.now)
             (done_reply result) self.new.state }
         ensures memory { asks_memory (slot_at self.old.state access.now.slot)
             (store_event access.now bytes.now 0) ≡ false → result ≢ Err Refusal.OutOfMemory }
         ensures size { self.new.state.page_size ≡ self.old.state.page_size }
-        ensures ready { IsReady self.new }
+        ensures ready { IsReadyMachine self.new }
     {
         match self.table.home(access.task) {
             Some(home) => self.store_on_slot(home, access, bytes),
@@ -105,7 +105,7 @@ impl<N: Naming> System<N> {
         count: u64,
         room: &'a mut [u8],
     ) -> Result<&'a [u8], Refusal>
-        requires ready { IsReady self.old }
+        requires ready { IsReadyMachine self.old }
         requires room { 256 ≤ length room.old }
         ensures done { DoesOnSlot self.old.state access.now.slot (load_event access.now count home)
             (bytes_reply result) self.new.state }
@@ -113,7 +113,7 @@ impl<N: Naming> System<N> {
             (load_event access.now count home) ≡ false → result ≢ Err Refusal.OutOfMemory }
         ensures size { self.new.state.page_size ≡ self.old.state.page_size }
         ensures few { IfOk result (λ bytes. length bytes.now ≤ 256) }
-        ensures ready { IsReady self.new }
+        ensures ready { IsReadyMachine self.new }
     {
         let page_bytes = self.page_bytes();
         let at = access.slot as usize;
@@ -142,13 +142,13 @@ impl<N: Naming> System<N> {
     // A store for a task with that home node, whose slot is there or not.
     #[inline(always)]
     fn store_on_slot(&mut self, home: u64, access: &Access, bytes: &[u8]) -> Result<(), Refusal>
-        requires ready { IsReady self.old }
+        requires ready { IsReadyMachine self.old }
         ensures done { DoesOnSlot self.old.state access.now.slot
             (store_event access.now bytes.now home) (done_reply result) self.new.state }
         ensures memory { asks_memory (slot_at self.old.state access.now.slot)
             (store_event access.now bytes.now home) ≡ false → result ≢ Err Refusal.OutOfMemory }
         ensures size { self.new.state.page_size ≡ self.old.state.page_size }
-        ensures ready { IsReady self.new }
+        ensures ready { IsReadyMachine self.new }
     {
         let page_bytes = self.page_bytes();
         let at = access.slot as usize;

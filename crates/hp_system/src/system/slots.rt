@@ -12,7 +12,7 @@ ghost use Rattle.hp_model.specs.text.Writing.{IsWithinLimits};
 ghost use Rattle.hp_mount.specs.Event.{event_of, is_usage};
 ghost use Rattle.hp_mount.specs.Memory.{asks_memory};
 ghost use Rattle.hp_system.specs.Event.{AreExited, AreForked, DoesOfTask, DoesOnSlot, IsForkedOn, mapped_slots};
-ghost use Rattle.hp_system.specs.Kept.{IsReady};
+ghost use Rattle.hp_system.specs.Kept.{IsReadyMachine};
 
 use super::System;
 use hp_model::lent::Lent;
@@ -46,12 +46,12 @@ impl<N: Naming> System<N> {
     //   than all frames.
     #[inline(never)]
     pub(crate) fn mount(&mut self, slot: u64, options: &Lent<'_>) -> Result<(), Refusal>
-        requires ready { IsReady self.old }
+        requires ready { IsReadyMachine self.old }
         ensures done { DoesOnSlot self.old.state slot (Mounting options.now)
             (done_reply result) self.new.state }
         ensures memory { done_reply result ≢ Err Refusal.OutOfMemory }
         ensures size { self.new.state.page_size ≡ self.old.state.page_size }
-        ensures ready { IsReady self.new }
+        ensures ready { IsReadyMachine self.new }
     {
         let at = slot as usize;
         if at >= self.slots.len() {
@@ -78,12 +78,12 @@ impl<N: Naming> System<N> {
     // - BadOption, MinOverSize and NoPages: see `Mount::remount`.
     #[inline(never)]
     pub(crate) fn remount(&mut self, slot: u64, options: &Lent<'_>) -> Result<(), Refusal>
-        requires ready { IsReady self.old }
+        requires ready { IsReadyMachine self.old }
         ensures done { DoesOnSlot self.old.state slot (Remounting options.now)
             (done_reply result) self.new.state }
         ensures memory { done_reply result ≢ Err Refusal.OutOfMemory }
         ensures size { self.new.state.page_size ≡ self.old.state.page_size }
-        ensures ready { IsReady self.new }
+        ensures ready { IsReadyMachine self.new }
     {
         let page_bytes = self.page_bytes();
         let at = slot as usize;
@@ -107,11 +107,11 @@ impl<N: Naming> System<N> {
     // - Busy: it is slot 0, or a task has a map there.
     #[inline(never)]
     pub(crate) fn umount(&mut self, slot: u64) -> Result<(), Refusal>
-        requires ready { IsReady self.old }
+        requires ready { IsReadyMachine self.old }
         ensures done { DoesOnSlot self.old.state slot Umounting (done_reply result) self.new.state }
         ensures memory { done_reply result ≢ Err Refusal.OutOfMemory }
         ensures size { self.new.state.page_size ≡ self.old.state.page_size }
-        ensures ready { IsReady self.new }
+        ensures ready { IsReadyMachine self.new }
     {
         let at = slot as usize;
         if at >= self.slots.len() {
@@ -147,7 +147,7 @@ impl<N: Naming> System<N> {
         room: &'a mut [u8],
         reply: &mut Result<Told<'a>, Refusal>,
     )
-        requires ready { IsReady self.old }
+        requires ready { IsReadyMachine self.old }
         requires room { 256 ≤ length room.old }
         ensures done { DoesOnSlot self.old.state slot (event_of home event.now)
             (told_reply reply.new) self.new.state }
@@ -156,7 +156,7 @@ impl<N: Naming> System<N> {
         ensures limits { is_usage (event_of home event.now) ≡ true
             → IsWithinLimits (told_reply reply.new) }
         ensures size { self.new.state.page_size ≡ self.old.state.page_size }
-        ensures ready { IsReady self.new }
+        ensures ready { IsReadyMachine self.new }
     {
         let page_bytes = self.page_bytes();
         let at = slot as usize;
@@ -181,14 +181,14 @@ impl<N: Naming> System<N> {
         room: &'a mut [u8],
         reply: &mut Result<Told<'a>, Refusal>,
     )
-        requires ready { IsReady self.old }
+        requires ready { IsReadyMachine self.old }
         requires room { 256 ≤ length room.old }
         ensures done { DoesOfTask self.old.state task slot (λ home. event_of home event.now)
             (told_reply reply.new) self.new.state }
         ensures memory { asks_memory (slot_at self.old.state slot) (event_of 0 event.now) ≡ false
             → told_reply reply.new ≢ Err Refusal.OutOfMemory }
         ensures size { self.new.state.page_size ≡ self.old.state.page_size }
-        ensures ready { IsReady self.new }
+        ensures ready { IsReadyMachine self.new }
     {
         match self.table.home(task) {
             Some(home) => self.on_slot(slot, home, event, room, reply),
@@ -198,13 +198,13 @@ impl<N: Naming> System<N> {
 
     // A task's maps on a slot go, if it has any there.
     fn exit_slot(&mut self, at: usize, task: u64)
-        requires ready { IsReady self.old }
+        requires ready { IsReadyMachine self.old }
         requires within { at < length self.old.state.slots }
         ensures done { AreExited self.old.state (at ∷ []) task self.new.state }
         ensures others { (k : ℕ) → k ≢ at → slot_at self.new.state k ≡ slot_at self.old.state k }
         ensures slots { length self.new.state.slots ≡ length self.old.state.slots }
         ensures size { self.new.state.page_size ≡ self.old.state.page_size }
-        ensures ready { IsReady self.new }
+        ensures ready { IsReadyMachine self.new }
     {
         if let Some(mount) = &mut self.slots[at] {
             if mount.has_maps(task) {
@@ -215,12 +215,12 @@ impl<N: Naming> System<N> {
 
     // A task's maps on all slots go, slot after slot.
     pub(crate) fn exit_slots(&mut self, task: u64)
-        requires ready { IsReady self.old }
+        requires ready { IsReadyMachine self.old }
         ensures done { AreExited self.old.state (range_with_len 0 (length self.old.state.slots))
             task
             self.new.state }
         ensures size { self.new.state.page_size ≡ self.old.state.page_size }
-        ensures ready { IsReady self.new }
+        ensures ready { IsReadyMachine self.new }
     {
         for at in 0..self.slots.len() {
             self.exit_slot(at, task);
@@ -240,14 +240,14 @@ impl<N: Naming> System<N> {
 
     // Gives a child the maps that its parent has on a slot. Refused as TooMany or OutOfMemory, and then nothing changes.
     fn fork_slot(&mut self, at: usize, parent: u64, child: u64) -> Result<(), Refusal>
-        requires ready { IsReady self.old }
+        requires ready { IsReadyMachine self.old }
         requires within { at < length self.old.state.slots }
         requires apart { parent ≢ child }
         ensures done { IsForkedOn self.old.state at parent child (done_reply result)
             self.new.state }
         ensures slots { length self.new.state.slots ≡ length self.old.state.slots }
         ensures size { self.new.state.page_size ≡ self.old.state.page_size }
-        ensures ready { IsReady self.new }
+        ensures ready { IsReadyMachine self.new }
     {
         let Some(mount) = &mut self.slots[at] else {
             return Ok(());
@@ -260,12 +260,12 @@ impl<N: Naming> System<N> {
 
     // The maps of a child go again, on the slots below `count` where its parent has maps.
     fn undo_fork(&mut self, count: usize, parent: u64, child: u64)
-        requires ready { IsReady self.old }
+        requires ready { IsReadyMachine self.old }
         requires within { count ≤ length self.old.state.slots }
         ensures done { AreExited self.old.state (mapped_slots self.old.state count parent) child
             self.new.state }
         ensures size { self.new.state.page_size ≡ self.old.state.page_size }
-        ensures ready { IsReady self.new }
+        ensures ready { IsReadyMachine self.new }
     {
         for at in 0..count {
             if self.has_maps(at, parent) {
@@ -276,11 +276,11 @@ impl<N: Naming> System<N> {
 
     // Gives a child the maps that its parent has on all slots. Where a slot refuses, those that were made go again.
     pub(crate) fn fork_slots(&mut self, parent: u64, child: u64) -> Result<(), Refusal>
-        requires ready { IsReady self.old }
+        requires ready { IsReadyMachine self.old }
         requires apart { parent ≢ child }
         ensures done { AreForked self.old.state parent child result self.new.state }
         ensures size { self.new.state.page_size ≡ self.old.state.page_size }
-        ensures ready { IsReady self.new }
+        ensures ready { IsReadyMachine self.new }
     {
         for at in 0..self.slots.len() {
             if let Err(refusal) = self.fork_slot(at, parent, child) {

@@ -10,7 +10,7 @@ ghost use Rattle.hp_model.specs.machine.Told.{told_reply};
 ghost use Rattle.hp_model.specs.pool.Resize.{node_counts};
 ghost use Rattle.hp_model.specs.text.Writing.{IsWithinLimits};
 ghost use Rattle.hp_model.specs.machine.Promises.{takes_memory};
-ghost use Rattle.hp_system.specs.Kept.{IsReady};
+ghost use Rattle.hp_system.specs.Kept.{IsReadyMachine};
 
 use super::System;
 use hp_model::answer::{Counts, NodeCount, Reply};
@@ -32,12 +32,12 @@ impl<N: Naming> System<N> {
     /// - TaskExists: the task is there.
     /// - TooMany: there are 4,096 tasks.
     pub fn connect(&mut self, task: u64, home: u64) -> Result<(), Refusal>
-        requires ready { IsReady self.old }
+        requires ready { IsReadyMachine self.old }
         ensures step { IsStep self.old.state (Connect task home) (done_reply result)
             self.new.state }
         ensures memory { done_reply result ≢ Err Refusal.OutOfMemory }
         ensures size { self.new.state.page_size ≡ self.old.state.page_size }
-        ensures ready { IsReady self.new }
+        ensures ready { IsReadyMachine self.new }
     {
         let nodes = self.pool.len() as u64;
         self.table.add_task(nodes, task, home)
@@ -47,12 +47,12 @@ impl<N: Naming> System<N> {
     ///
     /// Refused as NoSuchTask where the task is not there.
     pub fn attach(&mut self, task: u64) -> Result<Told<'static>, Refusal>
-        requires ready { IsReady self.old }
+        requires ready { IsReadyMachine self.old }
         ensures step { IsStep self.old.state (Attach task) (told_reply result) self.new.state }
         ensures memory { told_reply result ≢ Err Refusal.OutOfMemory }
         ensures limits { IsWithinLimits (told_reply result) }
         ensures size { self.new.state.page_size ≡ self.old.state.page_size }
-        ensures ready { IsReady self.new }
+        ensures ready { IsReadyMachine self.new }
     {
         match self.table.home(task) {
             Some(home) => Ok(Told::Home(home)),
@@ -71,11 +71,11 @@ impl<N: Naming> System<N> {
     /// - OutOfMemory: memory for the child's maps is refused.
     #[inline(never)]
     pub fn fork(&mut self, parent: u64, child: u64) -> Result<(), Refusal>
-        requires ready { IsReady self.old }
+        requires ready { IsReadyMachine self.old }
         ensures step { IsStep self.old.state (Fork parent child) (done_reply result)
             self.new.state }
         ensures size { self.new.state.page_size ≡ self.old.state.page_size }
-        ensures ready { IsReady self.new }
+        ensures ready { IsReadyMachine self.new }
     {
         if let Err(refusal) = self.table.add_child(parent, child) {
             return Err(refusal);
@@ -95,11 +95,11 @@ impl<N: Naming> System<N> {
     /// Refused as NoSuchTask where the task is not there, and then nothing changes. It takes no memory.
     #[inline(never)]
     pub fn exit(&mut self, task: u64) -> Result<(), Refusal>
-        requires ready { IsReady self.old }
+        requires ready { IsReadyMachine self.old }
         ensures step { IsStep self.old.state (Exit task) (done_reply result) self.new.state }
         ensures memory { done_reply result ≢ Err Refusal.OutOfMemory }
         ensures size { self.new.state.page_size ≡ self.old.state.page_size }
-        ensures ready { IsReady self.new }
+        ensures ready { IsReadyMachine self.new }
     {
         if let Err(refusal) = self.table.remove_task(task) {
             return Err(refusal);
@@ -112,10 +112,10 @@ impl<N: Naming> System<N> {
     /// rises, surplus pages become persistent first, and then frames are taken; where it falls, free pages that nobody is
     /// promised leave, and of the others as many become surplus (`admin-guide/mm/hugetlbpage.rst`). Never refused.
     pub fn set_nr(&mut self, pages: u64) -> u64
-        requires ready { IsReady self.old }
+        requires ready { IsReadyMachine self.old }
         ensures step { IsStep self.old.state (Nr pages) (Ok (Number result)) self.new.state }
         ensures size { self.new.state.page_size ≡ self.old.state.page_size }
-        ensures ready { IsReady self.new }
+        ensures ready { IsReadyMachine self.new }
     {
         self.pool.set_nr(pages)
     }
@@ -124,11 +124,11 @@ impl<N: Naming> System<N> {
     ///
     /// Refused as OutOfRange where `pages` is above 4,294,967,295 (profile), and then nothing changes.
     pub fn set_overcommit(&mut self, pages: u64) -> Result<(), Refusal>
-        requires ready { IsReady self.old }
+        requires ready { IsReadyMachine self.old }
         ensures step { IsStep self.old.state (Overcommit pages) (done_reply result) self.new.state }
         ensures memory { done_reply result ≢ Err Refusal.OutOfMemory }
         ensures size { self.new.state.page_size ≡ self.old.state.page_size }
-        ensures ready { IsReady self.new }
+        ensures ready { IsReadyMachine self.new }
     {
         if pages > MOST_OVERCOMMIT {
             return Err(Refusal::OutOfRange);
@@ -139,7 +139,7 @@ impl<N: Naming> System<N> {
 
     // A row for each node, and rows of zeros past the last.
     fn node_counts(&self) -> [NodeCount; 4]
-        requires { IsReady self.now }
+        requires { IsReadyMachine self.now }
         ensures { result ≡ node_counts self.now.pool }
     {
         let none = NodeCount {
@@ -158,10 +158,10 @@ impl<N: Naming> System<N> {
     /// changes nothing.
     #[inline(never)]
     pub fn nodes(&mut self) -> Told<'static>
-        requires ready { IsReady self.old }
+        requires ready { IsReadyMachine self.old }
         ensures step { IsStep self.old.state Nodes (told_reply (Ok result)) self.new.state }
         ensures size { self.new.state.page_size ≡ self.old.state.page_size }
-        ensures ready { IsReady self.new }
+        ensures ready { IsReadyMachine self.new }
     {
         let nodes = self.pool.len() as u64;
         let rows = self.node_counts();
@@ -172,10 +172,10 @@ impl<N: Naming> System<N> {
     /// (`admin-guide/mm/hugetlbpage.rst`). Never refused, and changes nothing.
     #[inline(never)]
     pub fn meminfo(&mut self) -> Counts
-        requires ready { IsReady self.old }
+        requires ready { IsReadyMachine self.old }
         ensures step { IsStep self.old.state Meminfo (Ok (Numbers result)) self.new.state }
         ensures size { self.new.state.page_size ≡ self.old.state.page_size }
-        ensures ready { IsReady self.new }
+        ensures ready { IsReadyMachine self.new }
     {
         self.pool.counts()
     }
@@ -189,14 +189,14 @@ impl<N: Naming> System<N> {
     /// Refused as the step's own function is. Only a step that makes a file, a map or a list of names, a preallocation, a fork, and an
     /// access that nothing backs, can be refused memory.
     pub fn apply(&mut self, step: &Step<'_>) -> Reply
-        requires ready { IsReady self.old }
+        requires ready { IsReadyMachine self.old }
         ensures step { IsStep self.old.state step.now result self.new.state }
         ensures promised { IsPromised self.old.state step.now result self.new.state }
         ensures memory { takes_memory self.old.state step.now ≡ false
             → result ≢ Err Refusal.OutOfMemory }
         ensures size { self.new.state.page_size ≡ self.old.state.page_size }
         ensures limits { IsWithinLimits result }
-        ensures ready { IsReady self.new }
+        ensures ready { IsReadyMachine self.new }
     {
         let mut room = [0u8; 256];
         let mut reply = Ok(Told::Done);
@@ -208,11 +208,11 @@ impl<N: Naming> System<N> {
     #[inline(always)]
     #[tactic(auto, unfolding(hp_model::specs::machine::Step::IsStep))]
     fn tell_nodes(&mut self, reply: &mut Result<Told<'_>, Refusal>)
-        requires ready { IsReady self.old }
+        requires ready { IsReadyMachine self.old }
         ensures step { IsStep self.old.state Nodes (told_reply reply.new) self.new.state }
         ensures memory { told_reply reply.new ≢ Err Refusal.OutOfMemory }
         ensures size { self.new.state.page_size ≡ self.old.state.page_size }
-        ensures ready { IsReady self.new }
+        ensures ready { IsReadyMachine self.new }
     {
         *reply = Ok(self.nodes());
     }
@@ -220,11 +220,11 @@ impl<N: Naming> System<N> {
     // The reply of `Meminfo`.
     #[inline(always)]
     fn tell_meminfo(&mut self, reply: &mut Result<Told<'_>, Refusal>)
-        requires ready { IsReady self.old }
+        requires ready { IsReadyMachine self.old }
         ensures step { IsStep self.old.state Meminfo (told_reply reply.new) self.new.state }
         ensures memory { told_reply reply.new ≢ Err Refusal.OutOfMemory }
         ensures size { self.new.state.page_size ≡ self.old.state.page_size }
-        ensures ready { IsReady self.new }
+        ensures ready { IsReadyMachine self.new }
     {
         *reply = Ok(Told::Numbers(self.meminfo()));
     }
@@ -232,12 +232,12 @@ impl<N: Naming> System<N> {
     // The reply of `Attach`.
     #[inline(always)]
     fn tell_home(&mut self, task: u64, reply: &mut Result<Told<'_>, Refusal>)
-        requires ready { IsReady self.old }
+        requires ready { IsReadyMachine self.old }
         ensures step { IsStep self.old.state (Attach task) (told_reply reply.new) self.new.state }
         ensures memory { told_reply reply.new ≢ Err Refusal.OutOfMemory }
         ensures limits { IsWithinLimits (told_reply reply.new) }
         ensures size { self.new.state.page_size ≡ self.old.state.page_size }
-        ensures ready { IsReady self.new }
+        ensures ready { IsReadyMachine self.new }
     {
         *reply = self.attach(task);
     }
@@ -250,14 +250,14 @@ impl<N: Naming> System<N> {
         room: &'a mut [u8],
         reply: &mut Result<Told<'a>, Refusal>,
     )
-        requires ready { IsReady self.old }
+        requires ready { IsReadyMachine self.old }
         requires room { 256 ≤ length room.old }
         ensures step { IsStep self.old.state step.now (told_reply reply.new) self.new.state }
         ensures usage { is_usage step.now ≡ true → IsWithinLimits (told_reply reply.new) }
         ensures memory { takes_memory self.old.state step.now ≡ false
             → told_reply reply.new ≢ Err Refusal.OutOfMemory }
         ensures size { self.new.state.page_size ≡ self.old.state.page_size }
-        ensures ready { IsReady self.new }
+        ensures ready { IsReadyMachine self.new }
     {
         // One place for what is asked, in all arms: a place of its own for each would be cleared for every step.
         let mut event = MountEvent::Ls;
@@ -446,12 +446,12 @@ impl<N: Naming> System<N> {
     /// Does steps one after another, and answers their replies, each as `apply` promises. Room for the
     /// replies is made first: where it is refused, nothing is done.
     pub fn run(&mut self, alloc: Global, steps: &[Step<'_>]) -> Result<Vec<Reply>, AllocError>
-        requires ready { IsReady self.old }
+        requires ready { IsReadyMachine self.old }
         ensures run { IfOk result (λ replies. IsPromisedRun self.old.state steps.now
             replies.items self.new.state) }
         ensures size { self.new.state.page_size ≡ self.old.state.page_size }
         ensures err { OnErr result (self.new ≡ self.old) }
-        ensures ready { IsReady self.new }
+        ensures ready { IsReadyMachine self.new }
     {
         let mut replies = Vec::with_capacity(alloc, steps.len())?;
         for step in steps {

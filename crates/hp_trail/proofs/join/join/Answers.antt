@@ -6,8 +6,8 @@ use Rattle.std.proofs.lemmas.List.Elements.{Contains-append_left, Contains-push}
 use Rattle.hp_model.specs.declared.entry.Receipt.{Receipt}
 use Rattle.hp_model.specs.threads.Differ.{Differ}
 use Rattle.hp_model.specs.threads.JointRun.{Trails}
-use Rattle.hp_trail.specs.Tellers.{AreTold, Rows}
-use Rattle.hp_trail.specs.Walk.{AreCovered, HaveEnded, IsLeft, JoinsBy, WalkedBy, Walking, lists, trails_of}
+use Rattle.hp_trail.specs.Tellers.{AreTold, TellerRows}
+use Rattle.hp_trail.specs.Walk.{AreCovered, HasReceiptsLeft, HaveEnded, JoinsBy, WalkedBy, Walking, lists, trails_of}
 use Rattle.hp_trail.proofs.Covering.{all_wait}
 use Rattle.hp_trail.proofs.Indexing.{lists_long}
 use Rattle.hp_trail.proofs.Stuck.{ended_joins, stuck_differs}
@@ -26,7 +26,7 @@ pub pass_all-requires-clause-told : goal.pass_all-requires-clause-told
 pass_all-requires-clause-told c =
     let t : Trails = trails_of c.args.tasks.now c.args.slots.now c.args.pool.now in
     let receipts : List (List Receipt) = lists c.args.receipts.now in
-    let told : AreTold t receipts c.in-Some.tellers = subst (λ o. MatchOption o (Differ t receipts) (λ (w : Rows). AreTold t receipts w)) c.in-Some.is c.in_ok-tellers.ensures in
+    let told : AreTold t receipts c.in-Some.tellers = subst (λ o. MatchOption o (Differ t receipts) (λ (w : TellerRows). AreTold t receipts w)) c.in-Some.is c.in_ok-tellers.ensures in
     subst (λ (w : Walking). AreTold w.trails w.receipts c.in-Some.tellers) (sym c.in_ok-walk.ensures) told
 
 pub pass_all-requires-clause-walked : goal.pass_all-requires-clause-walked
@@ -43,11 +43,11 @@ pub returns-then-not-has_ended : goal.returns-then-not-has_ended
 returns-then-not-has_ended c =
     let t : Trails = trails_of c.args.tasks.now c.args.slots.now c.args.pool.now in
     let receipts : List (List Receipt) = lists c.args.receipts.now in
-    let told : AreTold t receipts c.in-Some.tellers = subst (λ o. MatchOption o (Differ t receipts) (λ (w : Rows). AreTold t receipts w)) c.in-Some.is c.in_ok-tellers.ensures in
+    let told : AreTold t receipts c.in-Some.tellers = subst (λ o. MatchOption o (Differ t receipts) (λ (w : TellerRows). AreTold t receipts w)) c.in-Some.is c.in_ok-tellers.ensures in
     let walk = c.in_ok-walk.walk in
     let cursors = c.pass_all.new.walk.cursors in
     let passed = c.in_ok-pass_all.ensures in
-    let left : IsLeft walk.receipts cursors = subst (λ (rs : List (List Receipt)). IsLeft rs cursors) passed.receipts (c.if-not-has_ended.ensures.left refl) in
+    let left : HasReceiptsLeft walk.receipts cursors = subst (λ (rs : List (List Receipt)). HasReceiptsLeft rs cursors) passed.receipts (c.if-not-has_ended.ensures.left refl) in
     subst (λ (w : Walking). Differ w.trails w.receipts) c.in_ok-walk.ensures
     (stuck_differs walk.trails walk.receipts cursors passed.walked.0 passed.walked.1 c.in-Some.tellers
     (subst (λ (w : Walking). AreTold w.trails w.receipts c.in-Some.tellers) (sym c.in_ok-walk.ensures) told)
@@ -57,7 +57,7 @@ pub returns : goal.returns
 returns c =
     let t : Trails = trails_of c.args.tasks.now c.args.slots.now c.args.pool.now in
     let receipts : List (List Receipt) = lists c.args.receipts.now in
-    let told : AreTold t receipts c.in-Some.tellers = subst (λ o. MatchOption o (Differ t receipts) (λ (w : Rows). AreTold t receipts w)) c.in-Some.is c.in_ok-tellers.ensures in
+    let told : AreTold t receipts c.in-Some.tellers = subst (λ o. MatchOption o (Differ t receipts) (λ (w : TellerRows). AreTold t receipts w)) c.in-Some.is c.in_ok-tellers.ensures in
     let walk = c.in_ok-walk.walk in
     let cursors = c.pass_all.new.walk.cursors in
     let passed = c.in_ok-pass_all.ensures in

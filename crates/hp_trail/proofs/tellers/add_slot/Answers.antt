@@ -1,7 +1,7 @@
 use Rattle.std.proofs.Common.{◌≡◌, ◌≢◌, ◌<◌, length, inl, inr, refl, ap, arith}
 use Rattle.std.proofs.lemmas.Bool.{false≢true}
 use Rattle.std.specs.List.{slice_index_or}
-use Rattle.hp_trail.specs.Tellers.{Claims, Finds, Misses, slot_event}
+use Rattle.hp_trail.specs.Tellers.{Claims, Finds, Misses, entry_of_slot}
 use Rattle.hp_trail.proofs.Claiming.{finds, list_read, moved, no_trail, other_misses, past_misses}
 use Rattle.hp_trail.proofs.Indexing.{lists_set}
 use Rattle.hp_trail.proofs.tellers.add_slot.Goals as goal
@@ -18,7 +18,7 @@ returns-in_default-get-clause-added c e = absurd (false≢true e)
 pub returns-in_default-get-clause-refused : goal.returns-in_default-get-clause-refused
 returns-in_default-get-clause-refused c e =
     let slot = c.in-Some.ensures.lookup in
-    let entry = slot_event c.args.slot in
+    let entry = entry_of_slot c.args.slot in
     inl (inl (moved c.args.slots.now c.args.slot c.in-Some.trail.now c.deref.result.now slot.3.0 slot.1 c.deref.ensures.value (λ xs. Misses entry xs c.args.receipt.now)
     (past_misses entry c.deref.result.now c.args.receipt.now c.in_default-get.ensures.lookup.0)))
 
@@ -29,7 +29,7 @@ pub returns-then-not-tells_slot-clause-refused : goal.returns-then-not-tells_slo
 returns-then-not-tells_slot-clause-refused c e =
     let slot = c.in-Some.ensures.lookup in
     let found = c.in-Some-get.ensures.lookup in
-    let entry = slot_event c.args.slot in
+    let entry = entry_of_slot c.args.slot in
     inl (inl (moved c.args.slots.now c.args.slot c.in-Some.trail.now c.deref.result.now slot.3.0 slot.1 c.deref.ensures.value (λ xs. Misses entry xs c.args.receipt.now)
     (other_misses entry c.deref.result.now c.args.receipt.now c.in-Some-get.entry.now found.3.0 found.1 (c.if-not-tells_slot.ensures.other refl))))
 
@@ -53,7 +53,7 @@ pub returns-then-not-claim-clause-refused : goal.returns-then-not-claim-clause-r
 returns-then-not-claim-clause-refused c e =
     let slot = c.in-Some.ensures.lookup in
     let found = c.in-Some-get.ensures.lookup in
-    let entry = slot_event c.args.slot in
+    let entry = entry_of_slot c.args.slot in
     let there = moved c.args.slots.now c.args.slot c.in-Some.trail.now c.deref.result.now slot.3.0 slot.1 c.deref.ensures.value (λ xs. Finds entry xs c.args.receipt.now c.in-Some-get.entry.now)
     (finds entry c.deref.result.now c.args.receipt.now c.in-Some-get.entry.now found.3.0 found.1 (c.if-not-tells_slot.ensures.same refl)) in
     let below : c.args.slot < length c.args.rows.now.items = omega (arith, c.requires.count, slot.3.0) in
@@ -74,7 +74,7 @@ pub returns-clause-added : goal.returns-clause-added
 returns-clause-added c e =
     let slot = c.in-Some.ensures.lookup in
     let found = c.in-Some-get.ensures.lookup in
-    let entry = slot_event c.args.slot in
+    let entry = entry_of_slot c.args.slot in
     let below : c.args.slot < length c.args.rows.now.items = omega (arith, c.requires.count, slot.3.0) in
     record {
       entry = c.in-Some-get.entry.now;
@@ -91,7 +91,7 @@ pub returns-clause-refused : goal.returns-clause-refused
 returns-clause-refused c e =
     let slot = c.in-Some.ensures.lookup in
     let found = c.in-Some-get.ensures.lookup in
-    let entry = slot_event c.args.slot in
+    let entry = entry_of_slot c.args.slot in
     let there = moved c.args.slots.now c.args.slot c.in-Some.trail.now c.deref.result.now slot.3.0 slot.1 c.deref.ensures.value (λ xs. Finds entry xs c.args.receipt.now c.in-Some-get.entry.now)
     (finds entry c.deref.result.now c.args.receipt.now c.in-Some-get.entry.now found.3.0 found.1 (c.if-not-tells_slot.ensures.same refl)) in
     let below : c.args.slot < length c.args.rows.now.items = omega (arith, c.requires.count, slot.3.0) in

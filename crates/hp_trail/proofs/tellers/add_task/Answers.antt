@@ -1,6 +1,6 @@
 use Rattle.std.proofs.Common.{◌∙◌, inl, sym, refl, arith}
 use Rattle.std.proofs.lemmas.Bool.{false≢true}
-use Rattle.hp_trail.specs.Tellers.{task_event}
+use Rattle.hp_trail.specs.Tellers.{entry_of_tasks}
 use Rattle.hp_trail.proofs.Claiming.{past_misses, other_misses, noted, noted_before}
 use Rattle.hp_trail.proofs.tellers.add_task.Goals as goal
 
@@ -8,7 +8,7 @@ pub returns-in_default-clause-added : goal.returns-in_default-clause-added
 returns-in_default-clause-added c e = absurd (false≢true e)
 
 pub returns-in_default-clause-refused : goal.returns-in_default-clause-refused
-returns-in_default-clause-refused c e = inl (past_misses task_event c.args.trail.now c.args.receipt.now c.in_default.ensures.lookup.0)
+returns-in_default-clause-refused c e = inl (past_misses entry_of_tasks c.args.trail.now c.args.receipt.now c.in_default.ensures.lookup.0)
 
 pub claim-requires-clause-place : goal.claim-requires-clause-place
 claim-requires-clause-place c = omega (arith, c.requires.row, c.in-Some.ensures.lookup.3.0)
@@ -19,13 +19,13 @@ claim-requires-clause-session c = c.requires.session
 pub returns-then-tells_task-clause-added : goal.returns-then-tells_task-clause-added
 returns-then-tells_task-clause-added c e =
     let found = c.in-Some.ensures.lookup in
-    noted task_event c.args.trail.now c.args.receipt.now c.in-Some.entry.now found.3.0 found.1 c.args.row.now.items c.claim.new.row.items c.args.session
+    noted entry_of_tasks c.args.trail.now c.args.receipt.now c.in-Some.entry.now found.3.0 found.1 c.args.row.now.items c.claim.new.row.items c.args.session
     (c.if-tells_task.ensures.same refl) (c.claim.ensures.claims e)
 
 pub returns-then-tells_task-clause-refused : goal.returns-then-tells_task-clause-refused
 returns-then-tells_task-clause-refused c e =
     let found = c.in-Some.ensures.lookup in
-    noted_before task_event c.args.trail.now c.args.receipt.now c.in-Some.entry.now found.3.0 found.1 c.args.row.now.items (c.if-tells_task.ensures.same refl)
+    noted_before entry_of_tasks c.args.trail.now c.args.receipt.now c.in-Some.entry.now found.3.0 found.1 c.args.row.now.items (c.if-tells_task.ensures.same refl)
     (c.claim.ensures.taken e)
 
 pub returns-else-tells_task-clause-added : goal.returns-else-tells_task-clause-added
@@ -34,4 +34,4 @@ returns-else-tells_task-clause-added c e = absurd (false≢true (sym c.if-tells_
 pub returns-else-tells_task-clause-refused : goal.returns-else-tells_task-clause-refused
 returns-else-tells_task-clause-refused c e =
     let found = c.in-Some.ensures.lookup in
-    inl (other_misses task_event c.args.trail.now c.args.receipt.now c.in-Some.entry.now found.3.0 found.1 (c.if-tells_task.ensures.other refl))
+    inl (other_misses entry_of_tasks c.args.trail.now c.args.receipt.now c.in-Some.entry.now found.3.0 found.1 (c.if-tells_task.ensures.other refl))

@@ -3,7 +3,7 @@ use Rattle.std.specs.List.{count_by}
 use Rattle.hp_model.specs.declared.place.Place.TheVariants.{Gone}
 use Rattle.hp_model.specs.files.Mapping.{is_unconsumed}
 use Rattle.hp_model.proofs.Editing.{length-edit_range}
-use Rattle.hp_mapping.specs.Mapped.{reserves_of}
+use Rattle.hp_mapping.specs.Mapped.{owned_reserves}
 use Rattle.hp_mapping.proofs.Ranges.{clear_places, freed_range, freed_reserves}
 use Rattle.hp_mapping.proofs.mapping.Mapping.unmap.Goals as goal
 
@@ -15,7 +15,7 @@ leave_range-freed-requires-clause-clear c =
 pub overflow_sub-self : goal.overflow_sub-self
 overflow_sub-self c =
     let s = c.self.inside in
-    let whole = c.self.invariant.1 ∙ ap (λ o. reserves_of o s.places) (sym c.if-not-is_owner.ensures) in
+    let whole = c.self.invariant.1 ∙ ap (λ o. owned_reserves o s.places) (sym c.if-not-is_owner.ensures) in
     let parts = freed_range c.offset-from.result c.offset-to.result s.places in
     omega (arith, whole, parts, c.leave_range-freed.ensures.freed)
 
@@ -23,8 +23,8 @@ pub invariant_of-self-2 : goal.invariant_of-self-2
 invariant_of-self-2 c =
     let s = c.self.inside in
     let new = c.leave_range-freed.new.self in
-    let owned = ap (λ o. reserves_of o new) (sym c.if-not-is_owner.ensures) in
-    let whole = c.self.invariant.1 ∙ ap (λ o. reserves_of o s.places) (sym c.if-not-is_owner.ensures) in
+    let owned = ap (λ o. owned_reserves o new) (sym c.if-not-is_owner.ensures) in
+    let whole = c.self.invariant.1 ∙ ap (λ o. owned_reserves o s.places) (sym c.if-not-is_owner.ensures) in
     let parts = freed_range c.offset-from.result c.offset-to.result s.places in
     let left = ap (count_by is_unconsumed) c.leave_range-freed.ensures.left in
     let long = ap length c.leave_range-freed.ensures.left ∙ length-edit_range (λ p. Gone) c.offset-from.result c.offset-to.result s.places in

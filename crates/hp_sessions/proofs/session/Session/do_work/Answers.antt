@@ -2,7 +2,7 @@ use Rattle.std.proofs.Common.{◌==◌, sym, ap, subst, ◌∙◌, arith}
 use Rattle.hp_model.specs.declared.event.Event.TheVariants.{Tasks as OnTasks, Pool as OnPool}
 use Rattle.hp_model.specs.machine.Plan.{Reply}
 use Rattle.hp_model.specs.machine.Told.{told_reply}
-use Rattle.hp_sessions.specs.Calls.{HasRoom, IsMade}
+use Rattle.hp_sessions.specs.Calls.{HasReceiptRoom, IsMade}
 use Rattle.hp_sessions.specs.Works.{IsWorked, work_receipts}
 use Rattle.hp_sessions.specs.declared.work.Work.{Work}
 use Rattle.hp_sessions.specs.declared.work.Work.TheVariants.{Tasks, Pool}
@@ -16,7 +16,7 @@ returns-in-Tasks g c =
     let s = c.args.self.now in
     let t = c.make_table.new.self in
     let n = c.most_receipts.ensures ∙ ap (work_receipts c.count.result) c.in-Tasks.is in
-    let room : HasRoom (g.row.K == 1) 1 s = λ k. (let has = c.if-lacks.ensures k in omega (arith, has, n)) in
+    let room : HasReceiptRoom (g.row.K == 1) 1 s = λ k. (let has = c.if-lacks.ensures k in omega (arith, has, n)) in
     let made = subst (λ (r : Reply). IsMade (g.row.K == 1) size s (OnTasks c.in-Tasks.event) r t) (sym c.table_told.ensures.reply) c.make_table.ensures.made in
     record {
       worked = subst (λ (w : Work). IsWorked (g.row.K == 1) size s w (told_reply c.table_told.result) t) (sym c.in-Tasks.is)
@@ -31,7 +31,7 @@ returns-in-Pool g c =
     let s = c.args.self.now in
     let t = c.make_pool.new.self in
     let n = c.most_receipts.ensures ∙ ap (work_receipts c.count.result) c.in-Pool.is in
-    let room : HasRoom (g.row.K == 1) 1 s = λ k. (let has = c.if-lacks.ensures k in omega (arith, has, n)) in
+    let room : HasReceiptRoom (g.row.K == 1) 1 s = λ k. (let has = c.if-lacks.ensures k in omega (arith, has, n)) in
     record {
       worked = subst (λ (w : Work). IsWorked (g.row.K == 1) size s w (told_reply c.make_pool.result) t) (sym c.in-Pool.is)
           (worked (g.row.K == 1) size s t (Pool c.in-Pool.event) (told_reply c.make_pool.result) room

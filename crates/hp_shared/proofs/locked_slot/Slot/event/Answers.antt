@@ -1,9 +1,9 @@
 use Rattle.std.proofs.Common.{◌≡◌, inr, Option, None, sym, ap, ◌∙◌, subst}
 use Rattle.hp_model.specs.declared.entry.Asked.{Asked}
 use Rattle.hp_model.specs.machine.Told.{told_reply}
-use Rattle.hp_trail.specs.Keeping.{added}
+use Rattle.hp_trail.specs.Keeping.{with_entry}
 use Rattle.hp_mount.specs.Event.{event_of}
-use Rattle.hp_shared.specs.Slots.{AreNoted, IsSlotEvent, SlotView, Went}
+use Rattle.hp_shared.specs.Slots.{AreEventsToNote, IsSlotEvent, SlotView, Went}
 use Rattle.hp_shared.proofs.SlotsKept.{event_done, event_full, event_went, full_stays, mount_event, slot_noted, was_full}
 use Rattle.hp_shared.proofs.locked_slot.Slot.event.Given.{Over}
 use Rattle.hp_shared.proofs.locked_slot.Slot.event.Goals as goal
@@ -47,13 +47,14 @@ module _ (g : Over) (c : After-note-receipt g) where
       (told_reply c.act-told.result)
       (g.D.SessionDoor.asked c.act-told.new.door) c.act-told.new.mount (c.act-told.ensures.done c.self.inside.number) (sym c.is_full.ensures ∙ c.if-is_full.false)
 
-  both : AreNoted (g.T.Trail.entries c.self.inside.trail) (event_of c.args.home c.args.event) c.args.noted
-  both = subst (λ (v : SlotView). AreNoted v.entries (event_of c.args.home c.args.event) c.args.noted) (sym c.self.view_is) c.requires.noted
+  both : AreEventsToNote (g.T.Trail.entries c.self.inside.trail) (event_of c.args.home c.args.event) c.args.noted
+  both = subst (λ (v : SlotView). AreEventsToNote v.entries (event_of c.args.home c.args.event) c.args.noted) (sym c.self.view_is) c.requires.noted
 
-  entries : g.T.Trail.entries c.note-receipt.new.trail ≡ added (g.T.Trail.entries c.self.inside.trail)
+  entries : g.T.Trail.entries c.note-receipt.new.trail ≡ with_entry (g.T.Trail.entries c.self.inside.trail)
       (record { event = event_of c.args.home c.args.event; reply = told_reply c.act-told.result; asked = g.D.SessionDoor.asked c.act-told.new.door })
   entries = c.note-receipt.ensures.entries (event_of c.args.home c.args.event) both
-      ∙ ap (λ (a : Option Asked). added (g.T.Trail.entries c.self.inside.trail) (record { event = event_of c.args.home c.args.event; reply = told_reply c.act-told.result; asked = a })) c.asked.ensures
+      ∙ ap (λ (a : Option Asked). with_entry (g.T.Trail.entries c.self.inside.trail)
+      (record { event = event_of c.args.home c.args.event; reply = told_reply c.act-told.result; asked = a })) c.asked.ensures
 
 pub invariant_of-self-2 : goal.invariant_of-self-2
 invariant_of-self-2 g c =

@@ -13,7 +13,7 @@ use Rattle.hp_shared.proofs.SlotsKept.{exit_fits, slot_noted}
 use Rattle.hp_shared.proofs.locked_slot.Slot.exit_maps.Given.{Over}
 use Rattle.hp_shared.proofs.locked_slot.Slot.exit_maps.Goals as goal
 use Rattle.hp_shared.proofs.locked_slot.Slot.exit_maps.Goals.{After-leave-told, After-note}
-use Rattle.hp_trail.specs.Keeping.{added}
+use Rattle.hp_trail.specs.Keeping.{with_entry}
 
 module _ (g : Over) (c : After-leave-told g) where
   mapped : has_maps_of c.args.task c.self.inside.mount ≡ true
@@ -27,11 +27,11 @@ note-requires-clause-room g c =
     c.self.invariant (c.leave-told.ensures.went g.N.Naming.page_bytes s.number) (mapped g (goal.at.note-requires-clause-room g c).After-leave-told)
 
 module _ (g : Over) (c : After-note g) where
-  entries : g.T.Trail.entries c.note.new.trail ≡ added (g.T.Trail.entries c.self.inside.trail)
+  entries : g.T.Trail.entries c.note.new.trail ≡ with_entry (g.T.Trail.entries c.self.inside.trail)
       (record { event = ExitMaps c.args.task; reply = Ok Done; asked = g.D.SessionDoor.asked c.leave-told.new.door })
   entries = c.note.ensures.entries (ExitMaps c.args.task) (refl, refl)
-      ∙ ap (λ (a : Option Asked). added (g.T.Trail.entries c.self.inside.trail) (record { event = ExitMaps c.args.task; reply = told_reply c.leave-told.result; asked = a })) c.asked.ensures
-      ∙ ap (λ (x : Reply). added (g.T.Trail.entries c.self.inside.trail) (record {
+      ∙ ap (λ (a : Option Asked). with_entry (g.T.Trail.entries c.self.inside.trail) (record { event = ExitMaps c.args.task; reply = told_reply c.leave-told.result; asked = a })) c.asked.ensures
+      ∙ ap (λ (x : Reply). with_entry (g.T.Trail.entries c.self.inside.trail) (record {
         event = ExitMaps c.args.task;
         reply = x;
         asked = g.D.SessionDoor.asked c.leave-told.new.door;

@@ -7,17 +7,17 @@ use Rattle.hp_shared.proofs.SlotsKept.{event_done, slot_noted, went_acted}
 use Rattle.hp_shared.proofs.locked_slot.Slot.fork_maps.Given.{Over}
 use Rattle.hp_shared.proofs.locked_slot.Slot.fork_maps.Goals as goal
 use Rattle.hp_shared.proofs.locked_slot.Slot.fork_maps.Goals.{After-note-receipt}
-use Rattle.hp_trail.specs.Keeping.{added}
+use Rattle.hp_trail.specs.Keeping.{with_entry}
 
 module _ (g : Over) (c : After-note-receipt g) where
-  entries : g.T.Trail.entries c.note-receipt.new.trail ≡ added (g.T.Trail.entries c.self.inside.trail)
+  entries : g.T.Trail.entries c.note-receipt.new.trail ≡ with_entry (g.T.Trail.entries c.self.inside.trail)
       (record {
         event = ForkMaps c.args.parent c.args.child;
         reply = told_reply c.fork-told.result;
         asked = g.D.SessionDoor.asked c.fork-told.new.door;
       })
   entries = c.note-receipt.ensures.entries (ForkMaps c.args.parent c.args.child) (refl, refl)
-      ∙ ap (λ (a : Option Asked). added (g.T.Trail.entries c.self.inside.trail)
+      ∙ ap (λ (a : Option Asked). with_entry (g.T.Trail.entries c.self.inside.trail)
       (record { event = ForkMaps c.args.parent c.args.child; reply = told_reply c.fork-told.result; asked = a })) c.asked.ensures
 
 pub invariant_of-self-2 : goal.invariant_of-self-2

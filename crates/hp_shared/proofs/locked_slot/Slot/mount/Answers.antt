@@ -1,9 +1,9 @@
 use Rattle.std.proofs.Common.{◌≡◌, inr, ℕ, Option, None, refl, sym, ap, ◌∙◌, subst}
 use Rattle.hp_model.specs.declared.entry.Asked.{Asked}
 use Rattle.hp_model.specs.machine.Told.{told_reply}
-use Rattle.hp_trail.specs.Keeping.{added}
+use Rattle.hp_trail.specs.Keeping.{with_entry}
 use Rattle.hp_model.specs.declared.event.SlotEvent.TheVariants.{Mount as Mounting}
-use Rattle.hp_shared.specs.Slots.{AreNoted, IsActedOr, IsSlotEvent, SlotView, Went}
+use Rattle.hp_shared.specs.Slots.{AreEventsToNote, IsActedOr, IsSlotEvent, SlotView, Went}
 use Rattle.hp_shared.proofs.SlotsKept.{event_done, event_full, event_went, full_stays, slot_noted, was_full}
 use Rattle.hp_shared.proofs.locked_slot.Slot.mount.Given.{Over}
 use Rattle.hp_shared.proofs.locked_slot.Slot.mount.Goals as goal
@@ -59,13 +59,14 @@ module _ (g : Over) (c : After-note-receipt g) where
       (told_reply c.mount-told.result) (g.D.SessionDoor.asked c.mount-told.new.door) c.mount-told.new.mount) c.requires.page_bytes
       (c.mount-told.ensures.done c.self.inside.number)) (sym c.is_full.ensures ∙ c.if-is_full.false)
 
-  both : AreNoted (g.T.Trail.entries c.self.inside.trail) (Mounting c.args.options.now) c.args.noted
-  both = subst (λ (v : SlotView). AreNoted v.entries (Mounting c.args.options.now) c.args.noted) (sym c.self.view_is) c.requires.noted
+  both : AreEventsToNote (g.T.Trail.entries c.self.inside.trail) (Mounting c.args.options.now) c.args.noted
+  both = subst (λ (v : SlotView). AreEventsToNote v.entries (Mounting c.args.options.now) c.args.noted) (sym c.self.view_is) c.requires.noted
 
-  entries : g.T.Trail.entries c.note-receipt.new.trail ≡ added (g.T.Trail.entries c.self.inside.trail)
+  entries : g.T.Trail.entries c.note-receipt.new.trail ≡ with_entry (g.T.Trail.entries c.self.inside.trail)
       (record { event = Mounting c.args.options.now; reply = told_reply c.mount-told.result; asked = g.D.SessionDoor.asked c.mount-told.new.door })
   entries = c.note-receipt.ensures.entries (Mounting c.args.options.now) both
-      ∙ ap (λ (a : Option Asked). added (g.T.Trail.entries c.self.inside.trail) (record { event = Mounting c.args.options.now; reply = told_reply c.mount-told.result; asked = a })) c.asked.ensures
+      ∙ ap (λ (a : Option Asked). with_entry (g.T.Trail.entries c.self.inside.trail)
+      (record { event = Mounting c.args.options.now; reply = told_reply c.mount-told.result; asked = a })) c.asked.ensures
 
 pub invariant_of-self-2 : goal.invariant_of-self-2
 invariant_of-self-2 g c =

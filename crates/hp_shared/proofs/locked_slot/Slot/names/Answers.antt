@@ -10,7 +10,7 @@ use Rattle.hp_shared.proofs.SlotsKept.{event_done, kept_none, none_added, slot_n
 use Rattle.hp_shared.proofs.locked_slot.Slot.names.Given.{Over}
 use Rattle.hp_shared.proofs.locked_slot.Slot.names.Goals as goal
 use Rattle.hp_shared.proofs.locked_slot.Slot.names.Goals.{After-note_names-receipt}
-use Rattle.hp_trail.specs.Keeping.{added}
+use Rattle.hp_trail.specs.Keeping.{with_entry}
 
 pub returns-then-not-is_kept-clause-done : goal.returns-then-not-is_kept-clause-done
 returns-then-not-is_kept-clause-done g c =
@@ -28,9 +28,9 @@ module _ (g : Over) (c : After-note_names-receipt g) where
   kept : is_some (g.T.Trail.entries c.self.inside.trail) ≡ true
   kept = (let is = c.is_kept.ensures.kept in let t = c.if-not-is_kept.false in cc)
 
-  entries : g.T.Trail.entries c.note_names-receipt.new.trail ≡ added (g.T.Trail.entries c.self.inside.trail)
+  entries : g.T.Trail.entries c.note_names-receipt.new.trail ≡ with_entry (g.T.Trail.entries c.self.inside.trail)
       (record { event = Ls; reply = names_reply c.list_thrice-names.result.names; asked = None })
-  entries = c.note_names-receipt.ensures.entries ∙ ap (λ (x : Reply). added (g.T.Trail.entries c.self.inside.trail)
+  entries = c.note_names-receipt.ensures.entries ∙ ap (λ (x : Reply). with_entry (g.T.Trail.entries c.self.inside.trail)
       (record { event = Ls; reply = x; asked = None })) c.list_thrice-names.ensures.reply
 
 pub invariant_of-self-2 : goal.invariant_of-self-2

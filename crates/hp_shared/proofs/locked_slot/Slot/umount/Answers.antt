@@ -7,13 +7,13 @@ use Rattle.hp_shared.proofs.SlotsKept.{event_done, slot_noted, went_acted}
 use Rattle.hp_shared.proofs.locked_slot.Slot.umount.Given.{Over}
 use Rattle.hp_shared.proofs.locked_slot.Slot.umount.Goals as goal
 use Rattle.hp_shared.proofs.locked_slot.Slot.umount.Goals.{After-note-receipt}
-use Rattle.hp_trail.specs.Keeping.{added}
+use Rattle.hp_trail.specs.Keeping.{with_entry}
 
 module _ (g : Over) (c : After-note-receipt g) where
-  entries : g.T.Trail.entries c.note-receipt.new.trail ≡ added (g.T.Trail.entries c.self.inside.trail)
+  entries : g.T.Trail.entries c.note-receipt.new.trail ≡ with_entry (g.T.Trail.entries c.self.inside.trail)
       (record { event = Umount; reply = told_reply c.unmount-told.result; asked = g.D.SessionDoor.asked c.unmount-told.new.door })
   entries = c.note-receipt.ensures.entries Umount (refl, refl)
-      ∙ ap (λ (a : Option Asked). added (g.T.Trail.entries c.self.inside.trail) (record { event = Umount; reply = told_reply c.unmount-told.result; asked = a })) c.asked.ensures
+      ∙ ap (λ (a : Option Asked). with_entry (g.T.Trail.entries c.self.inside.trail) (record { event = Umount; reply = told_reply c.unmount-told.result; asked = a })) c.asked.ensures
 
 pub invariant_of-self-2 : goal.invariant_of-self-2
 invariant_of-self-2 g c =

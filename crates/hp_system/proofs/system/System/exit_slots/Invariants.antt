@@ -1,7 +1,7 @@
 use Rattle.std.proofs.Common.{◌≡◌, length}
 use Rattle.std.specs.List.{range_with_len}
 use Rattle.hp_system.specs.Event.{AreExited}
-use Rattle.hp_system.specs.Kept.{IsReady}
+use Rattle.hp_system.specs.Kept.{IsReadyMachine}
 use Rattle.hp_system.proofs.system.System.exit_slots.Given as goal
 
 abbrev pub invariant-loop-at : goal.invariant-loop-at
@@ -9,5 +9,5 @@ invariant-loop-at g l = record {
   done : AreExited l.fn.self.state (range_with_len 0 l.at) l.fn.task l.self.state;
   slots : length l.self.state.slots ≡ length l.fn.self.state.slots;
   size : l.self.state.page_size ≡ l.fn.self.state.page_size;
-  ready : IsReady l.self;
+  ready : IsReadyMachine l.self;
 }

@@ -4,7 +4,7 @@ use Rattle.hp_model.specs.machine.Plan.{Reply}
 use Rattle.hp_model.specs.machine.State.{State}
 use Rattle.hp_model.specs.machine.Step.{IsScript, fork_slots}
 use Rattle.hp_system.specs.Event.{mapped_slots}
-use Rattle.hp_system.specs.Kept.{IsReady}
+use Rattle.hp_system.specs.Kept.{IsReadyMachine}
 use Rattle.hp_system.proofs.system.System.fork_slots.Given as goal
 
 abbrev pub invariant-loop-at : goal.invariant-loop-at
@@ -14,5 +14,5 @@ invariant-loop-at g l = record {
       → IsScript l.fn.self.state (fork_slots (range_with_len 0 (length l.fn.self.state.slots)) [] l.fn.parent l.fn.child) reply u;
   slots : length l.self.state.slots ≡ length l.fn.self.state.slots;
   size : l.self.state.page_size ≡ l.fn.self.state.page_size;
-  ready : IsReady l.self;
+  ready : IsReadyMachine l.self;
 }

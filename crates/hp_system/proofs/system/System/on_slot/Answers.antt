@@ -8,7 +8,7 @@ use Rattle.hp_mount.specs.Event.{event_of}
 use Rattle.hp_system.specs.Event.{IsCarried}
 use Rattle.hp_system.proofs.Carries.{happens, kept_after, never_full, ready, unmounted, kept_by, ready_by}
 use Rattle.hp_system.proofs.MachineSteps.{machine_back, read_slot, slot_done, slot_same, state_back}
-use Rattle.hp_system.specs.Kept.{Machine, IsReady}
+use Rattle.hp_system.specs.Kept.{Machine, IsReadyMachine}
 use Rattle.hp_system.proofs.system.System.on_slot.Goals as goal
 
 pub returns-in_default-clause-done : goal.returns-in_default-clause-done
@@ -34,7 +34,7 @@ apply-requires-clause-ready g c = (let s = c.self.inside in ready s.page_bytes g
 pub returns-in_default-clause-ready : goal.returns-in_default-clause-ready
 returns-in_default-clause-ready g c =
     let x = c.index_mut.result.now in
-    subst IsReady (machine_back c.args.slot x c.args.self.now c.index_mut.ensures.value c.self.view_is) c.requires.ready
+    subst IsReadyMachine (machine_back c.args.slot x c.args.self.now c.index_mut.ensures.value c.self.view_is) c.requires.ready
 
 pub returns-clause-ready : goal.returns-clause-ready
 returns-clause-ready g c =

@@ -8,7 +8,7 @@ use Rattle.hp_model.specs.machine.Step.{IsScript, on_slot}
 use Rattle.hp_system.proofs.Carries.{calm, kept_after, ready, kept_by, ready_by}
 use Rattle.hp_system.proofs.MachineSteps.{machine_back, read_slot, slot_done, slot_same, state_back}
 use Rattle.hp_system.proofs.Mounting.{remount_carried, remount_first}
-use Rattle.hp_system.specs.Kept.{Machine, IsReady}
+use Rattle.hp_system.specs.Kept.{Machine, IsReadyMachine}
 use Rattle.hp_system.proofs.system.System.remount.Goals as goal
 
 pub returns-in_default-clause-done : goal.returns-in_default-clause-done
@@ -29,7 +29,7 @@ returns-in_default-clause-done g c =
 pub returns-in_default-clause-ready : goal.returns-in_default-clause-ready
 returns-in_default-clause-ready g c =
     let x = c.index_mut.result.now in
-    subst IsReady (machine_back c.args.slot x c.args.self.now c.index_mut.ensures.value c.self.view_is) c.requires.ready
+    subst IsReadyMachine (machine_back c.args.slot x c.args.self.now c.index_mut.ensures.value c.self.view_is) c.requires.ready
 
 pub remount-requires-clause-ready : goal.remount-requires-clause-ready
 remount-requires-clause-ready g c = (let s = c.self.inside in ready s.page_bytes g.N.Naming.page_bytes s.table s.slots.items s.pool

@@ -7,7 +7,7 @@ use Rattle.hp_model.specs.machine.Step.{IsScript, on_slot}
 use Rattle.hp_system.specs.Event.{IsCarried, store_event}
 use Rattle.hp_system.proofs.Carries.{calm, kept_after, never_full, ready, kept_by, ready_by}
 use Rattle.hp_system.proofs.MachineSteps.{machine_back, read_slot, slot_done, slot_same, state_back}
-use Rattle.hp_system.specs.Kept.{Machine, IsReady}
+use Rattle.hp_system.specs.Kept.{Machine, IsReadyMachine}
 use Rattle.hp_system.proofs.system.System.store_on_slot.Goals as goal
 
 pub returns-in_default-clause-done : goal.returns-in_default-clause-done
@@ -32,7 +32,7 @@ store-requires-clause-ready g c = (let s = c.self.inside in ready s.page_bytes g
 pub returns-in_default-clause-ready : goal.returns-in_default-clause-ready
 returns-in_default-clause-ready g c =
     let x = c.index_mut.result.now in
-    subst IsReady (machine_back c.args.access.now.slot x c.args.self.now c.index_mut.ensures.value c.self.view_is) c.requires.ready
+    subst IsReadyMachine (machine_back c.args.access.now.slot x c.args.self.now c.index_mut.ensures.value c.self.view_is) c.requires.ready
 
 pub returns-clause-ready : goal.returns-clause-ready
 returns-clause-ready g c =

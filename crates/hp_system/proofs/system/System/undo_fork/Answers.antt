@@ -2,7 +2,7 @@ use Rattle.std.proofs.Common.{◌≡◌, ◌+◌, length, sym, subst, ap, ◌∙
 use Rattle.hp_model.specs.machine.Event.{has_maps_of}
 use Rattle.hp_model.specs.machine.State.{slot_at}
 use Rattle.hp_system.specs.Event.{AreExited, mapped_slots}
-use Rattle.hp_system.specs.Kept.{IsReady, Machine}
+use Rattle.hp_system.specs.Kept.{IsReadyMachine, Machine}
 use Rattle.hp_system.proofs.Forking.{more_mapped, more_other}
 use Rattle.hp_system.proofs.MachineSteps.{exited_more}
 use Rattle.hp_system.proofs.system.System.undo_fork.Goals as goal
@@ -43,7 +43,7 @@ loop-at-preserved g c =
         | else-has_maps w ↦ ap (λ (x : Machine). x.state.page_size) w.self-is ∙ was.size
       ];
       ready = elim c.if-has_maps.branch [
-        | then-has_maps w ↦ subst (λ (x : Machine). IsReady x) (sym w.self-is) w.exit_slot.ensures.ready
-        | else-has_maps w ↦ subst (λ (x : Machine). IsReady x) (sym w.self-is) was.ready
+        | then-has_maps w ↦ subst (λ (x : Machine). IsReadyMachine x) (sym w.self-is) w.exit_slot.ensures.ready
+        | else-has_maps w ↦ subst (λ (x : Machine). IsReadyMachine x) (sym w.self-is) was.ready
       ];
     }

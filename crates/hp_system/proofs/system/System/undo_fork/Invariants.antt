@@ -1,7 +1,7 @@
 use Rattle.std.proofs.Common.{◌≡◌, ◌≤◌, ℕ, length}
 use Rattle.hp_model.specs.machine.State.{slot_at}
 use Rattle.hp_system.specs.Event.{AreExited, mapped_slots}
-use Rattle.hp_system.specs.Kept.{IsReady}
+use Rattle.hp_system.specs.Kept.{IsReadyMachine}
 use Rattle.hp_system.proofs.system.System.undo_fork.Given as goal
 
 abbrev pub invariant-loop-at : goal.invariant-loop-at
@@ -10,5 +10,5 @@ invariant-loop-at g l = record {
   same : (j : ℕ) → l.at ≤ j → slot_at l.self.state j ≡ slot_at l.fn.self.state j;
   slots : length l.self.state.slots ≡ length l.fn.self.state.slots;
   size : l.self.state.page_size ≡ l.fn.self.state.page_size;
-  ready : IsReady l.self;
+  ready : IsReadyMachine l.self;
 }

@@ -2,7 +2,7 @@ use Rattle.std.proofs.Common.{◌≡◌, ◌≢◌, ◌<◌, inl, inr, Bool, eqb
 use Rattle.std.specs.List.{IsAnyAnswer, slice_index_or}
 use Rattle.std.proofs.lemmas.Bool.Decides.{eqb_tells}
 use Rattle.hp_model.specs.declared.entry.Part.TheVariants.{Slot as AtSlot, Pool as AtPool}
-use Rattle.hp_trail.specs.Tellers.{Gap, Rows}
+use Rattle.hp_trail.specs.Tellers.{Gap, TellerRows}
 use Rattle.hp_trail.specs.Walk.{lists}
 use Rattle.hp_trail.proofs.Indexing.{empty_at, filled, lists_long, lists_read, row_there}
 use Rattle.hp_trail.proofs.tellers.Tellers.has_gap.Goals as goal
@@ -17,7 +17,7 @@ returns-then-contains-2-clause-gap c e =
     let here : slice_index_or (lists c.self.inside.slots.items) k [] ≡ c.deref-in-loop-row.result.now =
     ap (λ xs. slice_index_or (lists xs) k []) (sym c.deref-row-items.ensures.value) ∙ lists_read rows k c.row-item.result c.loop-row-test.true c.row-item.is ∙ sym c.deref-in-loop-row.ensures.value in
     let x = c.if-contains-2.ensures.cases in
-    subst (λ (w : Rows). Gap w) c.self.view_is
+    subst (λ (w : TellerRows). Gap w) c.self.view_is
     record {
       part = AtSlot k;
       place = x.0;
@@ -43,7 +43,7 @@ pub returns-clause-gap : goal.returns-clause-gap
 returns-clause-gap c e =
     let row : List ℕ = c.deref-2.result.now in
     let x = subst (λ (b : Bool). IsAnyAnswer {X = ℕ} (λ y b. eqb y 0 ≡ b) row b) e c.contains-2.ensures.cases in
-    subst (λ (w : Rows). Gap w) c.self.view_is
+    subst (λ (w : TellerRows). Gap w) c.self.view_is
     record {
       part = AtPool;
       place = x.0;

@@ -1,7 +1,7 @@
 use Rattle.std.proofs.Common.{◌≡◌, ℕ, [], length, refl, sym, ap, ◌∙◌, subst, arith}
 use Rattle.std.specs.List.{slice_index_or}
 use Rattle.hp_model.specs.threads.JointRun.{Trails}
-use Rattle.hp_trail.specs.Tellers.{AreListed, Fit, Rows}
+use Rattle.hp_trail.specs.Tellers.{AreListed, Fit, TellerRows}
 use Rattle.hp_trail.specs.Walk.{lists, trails_of}
 use Rattle.hp_trail.proofs.Indexing.{lists_long, lists_read, read_at}
 use Rattle.hp_trail.proofs.Listing.{all_told, fit_none, gap_differs, listed_more, listed_none, next_session, refused_differ}
@@ -11,8 +11,8 @@ pub loop-session-init : goal.loop-session-init
 loop-session-init c =
     let t : Trails = trails_of c.args.tasks.now c.args.slots.now c.args.pool.now in
     record {
-      fit = subst (λ (w : Rows). Fit t w) (sym c.in_ok-tellers.ensures) (fit_none t);
-      listed = subst (λ (w : Rows). AreListed t (lists c.args.receipts.now) 0 0 w) (sym c.in_ok-tellers.ensures) (listed_none t (lists c.args.receipts.now));
+      fit = subst (λ (w : TellerRows). Fit t w) (sym c.in_ok-tellers.ensures) (fit_none t);
+      listed = subst (λ (w : TellerRows). AreListed t (lists c.args.receipts.now) 0 0 w) (sym c.in_ok-tellers.ensures) (listed_none t (lists c.args.receipts.now));
     }
 
 pub returns-then-not-add : goal.returns-then-not-add

@@ -1,6 +1,6 @@
 use Rattle.std.proofs.Common.{◌≡◌, ◌-◌, length, take, ℕ, ◌+◌, List, sym, ap, ◌∙◌, arith, length-append}
 use borrow.Rule.Slice.PartMut.{put_mid}
-use Rattle.hp_wire.specs.Filled.{filled}
+use Rattle.hp_wire.specs.Filled.{buffer_filled}
 use Rattle.hp_wire.proofs.FixedFronts.{same_room, still_filled}
 use Rattle.hp_wire.proofs.fixed_buffer.FixedBuffer.add.Goals as goal
 
@@ -17,6 +17,6 @@ invariant_of-self c =
     let still = still_filled start old.written.bytes c.args.bytes.now c.copy_from_slice.new.self c.end-end.result k c.end-end.ensures
     (omega (arith, c.end-end.ensures, c.min-len.ensures, room)) copied in
     record {
-      holds = ap (λ (xs : List ℕ). put_mid c.end-end.result k xs c.copy_from_slice.new.self) old.holds ∙ still ∙ ap (filled start) (sym added);
+      holds = ap (λ (xs : List ℕ). put_mid c.end-end.result k xs c.copy_from_slice.new.self) old.holds ∙ still ∙ ap (buffer_filled start) (sym added);
       counted = omega (arith, c.saturating_add-self.ensures, old.counted, ap length added, length-append old.written.bytes c.args.bytes.now);
     }
