@@ -11,7 +11,7 @@ use Rattle.hp_model.specs.declared.section.PoolAnswer.{PoolAnswer}
 use Rattle.hp_model.specs.declared.section.Section.{Section}
 use Rattle.hp_model.specs.declared.section.Section.TheVariants.{FillPages}
 use Rattle.hp_model.specs.files.File.{File, Mount, new_file, with_file}
-use Rattle.hp_model.specs.files.Fill.{filled, lacking, nodes_of}
+use Rattle.hp_model.specs.files.Fill.{lacking, range_filled, rising_nodes}
 use Rattle.hp_model.specs.machine.Plan.{Answered, Ask, Choice, Finish, Plan, Reply, Slot, refuse, unless, with_value}
 use Rattle.hp_model.specs.machine.Promises.{file_in}
 use Rattle.hp_model.specs.machine.SlotEvent.{file_named, fill, is_bad_range, preallocate, preallocate_tests, preallocated, slot_event, unentered}
@@ -43,14 +43,14 @@ module _ (s : Subpool) (v : Files) (inodes : Option ℕ) (c : IsKept s v (mount_
 
   module _ (takes : List ℕ) where
     abbrev g : File
-    g = filled size a b (nodes_of count takes) (file_at v.files k)
+    g = range_filled size a b (rising_nodes count takes) (file_at v.files k)
 
-    long : length (nodes_of count takes) ≡ count
+    long : length (rising_nodes count takes) ≡ count
     long = length-nodes_of count takes
 
-    fills : MountFills m (with_file m k g) (nodes_of count takes) (unentered a b (file_at v.files k))
-    fills = file_fills m k (file_at v.files k) g (nodes_of count takes) (unentered a b (file_at v.files k))
-        (record { within = l; is = λ d. get_or_default v.files k d (new_file None) l }) (filled_fills size a b (nodes_of count takes) (file_at v.files k) (long ∙ count_is))
+    fills : MountFills m (with_file m k g) (rising_nodes count takes) (unentered a b (file_at v.files k))
+    fills = file_fills m k (file_at v.files k) g (rising_nodes count takes) (unentered a b (file_at v.files k))
+        (record { within = l; is = λ d. get_or_default v.files k d (new_file None) l }) (filled_fills size a b (rising_nodes count takes) (file_at v.files k) (long ∙ count_is))
 
   -- those with entries have reservations
   pub enough_held : count ≤ s.held + more
@@ -64,7 +64,7 @@ module _ (s : Subpool) (v : Files) (inodes : Option ℕ) (c : IsKept s v (mount_
       omega (arith, pages, usage, wide, had, was, more_is)
 
   module _ (takes : List ℕ) (new : Subpool) (w : Files) (new_is : new ≡ with_filled more count s)
-      (w_is : w ≡ pages_at size k a b (nodes_of count takes) (max v.room (s.held + more) - count) v) where
+      (w_is : w ≡ pages_at size k a b (rising_nodes count takes) (max v.room (s.held + more) - count) v) where
     pub filled_left : mount_of new inodes w.files ≡ with_file m k (g takes)
     filled_left = mount_left s new inodes (slice_set v.files k (g takes)) w.files
         (ap (λ (x : Subpool). x.max) new_is) (ap (λ (x : Subpool). x.min) new_is) (ap (λ (x : Files). x.files) w_is)
@@ -118,7 +118,7 @@ module _ {X : Type 0} (took : X → Section → PoolAnswer → X → Type 0) (fu
     section_is = ap (λ d. FillPages d count) (rise_is ∙ ap (rise m) more_is) ∙ ap (FillPages (rise m (unentered a b f))) count_is
 
     pub fill_given : (takes : List ℕ) (new : Subpool) (left : X) (n : Mount) → IsTaking took full more count s door (Ok tt) takes new left →
-        n ≡ with_file m k (filled size a b (nodes_of count takes) f) → Tried took full plan (Some m) door (Ok Done) (Some n) left
+        n ≡ with_file m k (range_filled size a b (rising_nodes count takes) f) → Tried took full plan (Some m) door (Ok Done) (Some n) left
     fill_given takes new left n given n_is =
         let c : Choice = fresh_choice false (Some m) in (
           c,
@@ -126,7 +126,7 @@ module _ {X : Type 0} (took : X → Section → PoolAnswer → X → Type 0) (fu
           tests c false false room refl (Ok Done) (Some n) left (
             filled_by takes,
             subst (λ e. took door e (filled_by takes) left) section_is given.section,
-            (refl, ap Some (n_is ∙ ap (λ q. with_file m k (filled size a b (nodes_of q takes) f)) count_is)),
+            (refl, ap Some (n_is ∙ ap (λ q. with_file m k (range_filled size a b (rising_nodes q takes) f)) count_is)),
           ),
         )
 

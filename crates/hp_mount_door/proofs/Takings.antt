@@ -7,7 +7,7 @@ use Rattle.std.proofs.lemmas.List.{length-append, length-replicate, length-set}
 use Rattle.std.proofs.lemmas.List.Folds.{sum_by-replicate}
 use Rattle.std.proofs.lemmas.List.Sums.{sum_by-append, sum_by-cons}
 use Rattle.std.proofs.Math.Seq.{take-append_seam}
-use Rattle.hp_model.specs.files.Fill.{nodes_from, nodes_of}
+use Rattle.hp_model.specs.files.Fill.{nodes_from, rising_nodes}
 use Rattle.hp_model.specs.files.Page.{Page}
 use Rattle.hp_model.specs.pool.NodeRows.{NodeRows, row_at, taken, taken_times, used}
 use Rattle.hp_model.specs.pool.Pool.{pages_taken, takes_at, takes_of}
@@ -138,7 +138,7 @@ rising : (a b c d count : ℕ) (pages : List Page) → nodes_in pages ≡ in_ord
 rising a b c d count pages is all =
     let counts = counted_by_node a b c d pages is in
     let long : length (in_order a b c d) ≡ count = in_order_length a b c d ∙ all in
-    is ∙ sym (ap (nodes_of count) counts ∙ ap (λ n. take n (in_order a b c d ++ replicate count 0)) (sym long) ∙ take-append_seam (in_order a b c d) (replicate count 0))
+    is ∙ sym (ap (rising_nodes count) counts ∙ ap (λ n. take n (in_order a b c d ++ replicate count 0)) (sym long) ∙ take-append_seam (in_order a b c d) (replicate count 0))
 
 -- pages are added of the highest node first
 pub all_in_order : (a b c d : ℕ) (counts : List ℕ) (empty three two one all : List Page) → empty ≡ [] → counts ≡ a ∷ b ∷ c ∷ d ∷ []

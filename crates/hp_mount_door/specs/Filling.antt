@@ -2,7 +2,7 @@
 use Rattle.std.specs.Prelude.{◌≡◌, ℕ, List, map}
 use Rattle.hp_model.specs.declared.section.Section.{Section}
 use Rattle.hp_model.specs.declared.section.Section.TheVariants.{FillPages}
-use Rattle.hp_model.specs.files.Fill.{nodes_of}
+use Rattle.hp_model.specs.files.Fill.{rising_nodes}
 use Rattle.hp_model.specs.files.Page.{Page}
 use Rattle.hp_mount_door.specs.Door.{by_node}
 use Rattle.hp_subpool.specs.Subpool.{Subpool, rise}
@@ -21,4 +21,4 @@ nodes_in pages = map (λ (page : Page). page.node) pages
 
 -- they are so many pages, whose nodes rise
 abbrev pub AreRising : (count : ℕ) → List Page → Type 0
-AreRising count pages = nodes_in pages ≡ nodes_of count (by_node pages)
+AreRising count pages = nodes_in pages ≡ rising_nodes count (by_node pages)

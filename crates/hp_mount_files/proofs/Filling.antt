@@ -9,7 +9,7 @@ use Rattle.std.proofs.Math.Seq.{drop-append_seam, take-append_seam}
 use Rattle.hp_model.specs.declared.cell.Cell.{Cell}
 use Rattle.hp_model.specs.declared.cell.Cell.TheVariants.{Hole, Entered, Present}
 use Rattle.hp_model.specs.files.File.{File, at_least, cell_at, cell_in, entered, is_entered, new_file, page_of}
-use Rattle.hp_model.specs.files.Fill.{cells_filled, filled, lacking, lacks_page, nodes_of, zero_page}
+use Rattle.hp_model.specs.files.Fill.{cells_filled, lacking, lacks_page, range_filled, rising_nodes, zero_page}
 use Rattle.hp_model.specs.files.Page.{Page}
 use Rattle.hp_model.specs.Lists.{edit_range, part}
 use Rattle.hp_model.proofs.Counting.{count_alike, count_cons, count_map}
@@ -177,19 +177,19 @@ module _ (size k a b : ℕ) (v : Files) (l : k < length v.files) (order : a ≤ 
         ∙ count_map lacks_page entered (part a b xs) ∙ count_alike (λ c. lacks_page (entered c)) lacks_page lacks_entered (part a b xs))
 
     module _ (count : ℕ) (pages : List Page) (rising : AreRising count pages) (count_is : count ≡ lacking a b f) where
-      zeros_are : zeros_of size pages ≡ map (zero_page size) (nodes_of count (by_node pages))
+      zeros_are : zeros_of size pages ≡ map (zero_page size) (rising_nodes count (by_node pages))
       zeros_are = sym (map-map (zero_page size) (λ (p : Page). p.node) pages) ∙ ap (map (zero_page size)) rising
 
       wide : length (zeros_of size pages) ≡ count_by lacks_page (part a b xs)
       wide = length-map pages (λ (p : Page). zero_page size p.node) ∙ rising_length count pages rising ∙ count_is
 
-      file_filled : with_zeros size a pages (file_at (entered_at k a b room v).files k) ≡ filled size a b (nodes_of count (by_node pages)) f
+      file_filled : with_zeros size a pages (file_at (entered_at k a b room v).files k) ≡ range_filled size a b (rising_nodes count (by_node pages)) f
       file_filled =
           ap (with_zeros size a pages) there
           ∙ ap (λ cs. record f { cells = cs }) (filled_entered a b (zeros_of size pages) xs (omega (arith, order, long)) wide ∙ ap (λ ps. cells_filled a ps xs) zeros_are)
 
-      pub all_filled : zeros_at size k a pages (entered_at k a b room v) ≡ pages_at size k a b (nodes_of count (by_node pages)) (room - count) v
+      pub all_filled : zeros_at size k a pages (entered_at k a b room v) ≡ pages_at size k a b (rising_nodes count (by_node pages)) (room - count) v
       all_filled =
           ap (λ g. record v { files = slice_set (slice_set v.files k (with_entries a b f)) k g; room = room - length pages }) file_filled
-          ∙ ap (λ fs. record v { files = fs; room = room - length pages }) (set-set v.files k (with_entries a b f) (filled size a b (nodes_of count (by_node pages)) f))
-          ∙ ap (λ n. pages_at size k a b (nodes_of count (by_node pages)) (room - n) v) (rising_length count pages rising)
+          ∙ ap (λ fs. record v { files = fs; room = room - length pages }) (set-set v.files k (with_entries a b f) (range_filled size a b (rising_nodes count (by_node pages)) f))
+          ∙ ap (λ n. pages_at size k a b (rising_nodes count (by_node pages)) (room - n) v) (rising_length count pages rising)

@@ -5,7 +5,7 @@ use Rattle.hp_model.specs.declared.refusal.Refusal.TheVariants.{OutOfMemory}
 use Rattle.hp_model.specs.declared.section.PoolAnswer.{PoolAnswer}
 use Rattle.hp_model.specs.declared.section.Section.{Section}
 use Rattle.hp_model.specs.files.File.{File, at_least, entered}
-use Rattle.hp_model.specs.files.Fill.{cells_filled, filled, nodes_of, zero_page}
+use Rattle.hp_model.specs.files.Fill.{cells_filled, range_filled, rising_nodes, zero_page}
 use Rattle.hp_model.specs.files.Page.{Page}
 use Rattle.hp_model.specs.Lists.{edit_range}
 use Rattle.hp_model.specs.pool.Pool.{filled_by}
@@ -32,7 +32,7 @@ zeros_at size k a pages v = record (with_file_at k (with_zeros size a pages (fil
 
 -- the indices of a file from a up to b are filled by pages of these nodes, and there is this room
 abbrev pub pages_at : (size k a b : ℕ) → (nodes : List ℕ) → (room : ℕ) → Files → Files
-pages_at size k a b nodes room v = record (with_file_at k (filled size a b nodes (file_at v.files k)) v) { room = room }
+pages_at size k a b nodes room v = record (with_file_at k (range_filled size a b nodes (file_at v.files k)) v) { room = room }
 
 module _ {X : Type 0} (took : X → Section → PoolAnswer → X → Type 0) (full : X → Type 0) (k count : ℕ) (s : Subpool) (d : X) where
   -- so many pages of these numbers by node come by a section

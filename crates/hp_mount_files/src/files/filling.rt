@@ -5,7 +5,7 @@ ghost use Rattle.hp_model.specs.Lists.{part};
 ghost use Rattle.hp_model.specs.Profile.{most_file_pages};
 ghost use Rattle.hp_model.specs.declared.cell.Cell.TheVariants.{Entered};
 ghost use Rattle.hp_model.specs.files.File.{cell_at, is_entered};
-ghost use Rattle.hp_model.specs.files.Fill.{lacking, lacks_page, nodes_of, zero_page};
+ghost use Rattle.hp_model.specs.files.Fill.{lacking, lacks_page, rising_nodes, zero_page};
 ghost use Rattle.hp_model.specs.files.MountCounts.{file_pages};
 ghost use Rattle.hp_model.specs.files.Page.{Page};
 ghost use Rattle.hp_model.specs.machine.SlotEvent.{unentered};
@@ -156,7 +156,7 @@ impl<N: Naming> Files<N> {
         requires pages { share.old.pages ≡ sum_by file_pages self.old.files }
         ensures filled { OnOk result ((takes : List ℕ)
             × IsTaking D.took D.is_full k count share.old door.old result takes share.new door.new
-            × (self.new ≡ pages_at N.page_bytes file from to (nodes_of count takes)
+            × (self.new ≡ pages_at N.page_bytes file from to (rising_nodes count takes)
             (max self.old.room (share.old.held + k) - count) self.old)) }
         ensures err { OnErr result (self.new ≡ record self.old { room = self.new.room }) }
         ensures more { OnErr result (self.old.room ≤ self.new.room) }

@@ -1,6 +1,6 @@
 use Rattle.std.proofs.Common.{◌<◌, length, refl, sym, ap, subst, ◌∙◌}
 use Rattle.hp_model.specs.files.File.{Mount, with_file}
-use Rattle.hp_model.specs.files.Fill.{filled, lacking, nodes_of}
+use Rattle.hp_model.specs.files.Fill.{lacking, range_filled, rising_nodes}
 use Rattle.hp_model.specs.machine.Promises.{file_in}
 use Rattle.hp_model.specs.machine.SlotEvent.{unentered}
 use Rattle.hp_mount.specs.Kept.{mount_of}
@@ -49,7 +49,7 @@ returns-clause-done g c =
     (rise_as o.share o.files o.inodes a.self.now c.self.invariant c.self.view_is c.unentered-k.result) done.0 c.preallocate.new.share c.preallocate.new.door _ done.1
     (filled_left o.share o.files o.inodes c.self.invariant a.file within size a.start a.end c.unentered-k.result a.count c.unentered-k.ensures count_is done.0 c.preallocate.new.share
     c.preallocate.new.self done.1.share done.2
-    ∙ ap (λ (x : Mount). with_file x a.file (filled size a.start a.end (nodes_of a.count done.0) (file_in x a.file))) c.self.view_is)
+    ∙ ap (λ (x : Mount). with_file x a.file (range_filled size a.start a.end (rising_nodes a.count done.0) (file_in x a.file))) c.self.view_is)
 
 pub returns-in-Err-clause-done : goal.returns-in-Err-clause-done
 returns-in-Err-clause-done g c =
