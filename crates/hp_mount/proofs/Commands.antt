@@ -25,7 +25,7 @@ use Rattle.hp_model.specs.machine.SlotEvent.{bytes_answer, is_unmapped, is_beyon
 use Rattle.hp_model.specs.files.Spot.{Spot, again, written, file_written, cell_written, map_written, place_written}
 use Rattle.hp_model.specs.declared.step.Intent.{Intent}
 use Rattle.hp_model.specs.declared.step.Intent.TheVariants.{Read, Write}
-use Rattle.hp_mount_files.specs.declared.files.MapPlace.{MapPlace}
+use Rattle.hp_lookup.specs.declared.map_place.MapPlace.{MapPlace}
 use Rattle.hp_mount.specs.Done.{Enters, IsAccessed, Tried}
 use Rattle.hp_mount.specs.Found.{IsPlaced, IsTouched, first_of, spot_at, spot_of, tests_of, why_not, with_place_at}
 use Rattle.hp_mount.specs.declared.mount.reach.Asked.{Asked}

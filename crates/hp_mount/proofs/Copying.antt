@@ -18,9 +18,9 @@ use Rattle.hp_model.specs.files.Page.{Copy, Page}
 use Rattle.hp_model.specs.Lists.{is_among}
 use Rattle.hp_model.specs.machine.Plan.{Choice}
 use Rattle.hp_mount_door.specs.Door.{with_granted, with_page}
-use Rattle.hp_mount_files.specs.Dropping.{IsLeft}
-use Rattle.hp_mount_files.specs.Files.{Files, copied_at, file_at, parted_at, taken_back_at}
-use Rattle.hp_mount_files.specs.States.{AreAgreed}
+use Rattle.hp_lookup.specs.Dropping.{IsLeft}
+use Rattle.hp_lookup.specs.Files.{Files, copied_at, file_at, parted_at, taken_back_at}
+use Rattle.hp_file.specs.States.{AreAgreed}
 use Rattle.hp_mount.specs.Found.{has_reserve, with_place_at}
 use Rattle.hp_mount.specs.Kept.{IsKept, mount_of}
 use Rattle.hp_mount.proofs.Keeping.{grown, grows, mount_left}

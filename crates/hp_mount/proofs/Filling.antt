@@ -23,8 +23,8 @@ use Rattle.hp_laws.proofs.Filled.{filled_fills}
 use Rattle.hp_laws.proofs.MountMoves.{MountFills, file_fills}
 use Rattle.hp_laws.proofs.NodesOf.{length-nodes_of}
 use Rattle.hp_mount_door.specs.Filling.{with_filled}
-use Rattle.hp_mount_files.specs.Files.{Files, file_at}
-use Rattle.hp_mount_files.specs.Filling.{IsTaking, pages_at}
+use Rattle.hp_lookup.specs.Files.{Files, file_at}
+use Rattle.hp_file.specs.Filling.{IsTaking, pages_at}
 use Rattle.hp_mount.specs.Done.{Enters, Through, Tried}
 use Rattle.hp_mount.specs.Found.{first_of}
 use Rattle.hp_mount.specs.Kept.{IsKept, mount_of}

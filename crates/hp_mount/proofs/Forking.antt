@@ -14,8 +14,8 @@ use Rattle.hp_model.specs.threads.LocalRun.{ThroughDoor}
 use Rattle.std.specs.List.{count_by, list_any}
 use Rattle.hp_model.specs.files.Mapping.{Map, is_of}
 use Rattle.hp_model.proofs.Counting.{count_cons}
-use Rattle.hp_mount_files.specs.Places.{all_maps, all_tasks}
-use Rattle.hp_mount_files.proofs.ForkCounts.{count_after, tasks_after}
+use Rattle.hp_lookup.specs.Places.{all_maps, all_tasks}
+use Rattle.hp_lookup.proofs.ForkCounts.{count_after, tasks_after}
 use Rattle.hp_mount.specs.Done.{Tried}
 use Rattle.hp_mount.specs.Found.{first_of}
 use Rattle.hp_mount.proofs.Commands.{tests_fail, tests_pass}

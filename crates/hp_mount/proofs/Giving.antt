@@ -20,8 +20,8 @@ use Rattle.hp_model.specs.machine.Promises.{file_in}
 use Rattle.hp_model.specs.machine.SlotEvent.{edited, file_named, is_bad_range}
 use Rattle.hp_model.specs.threads.LocalRun.{ThroughDoor}
 use Rattle.hp_mount_door.specs.Door.{GivesBack, with_less}
-use Rattle.hp_mount_files.specs.Dropping.{IsLeft}
-use Rattle.hp_mount_files.specs.Files.{Files, edited_at}
+use Rattle.hp_lookup.specs.Dropping.{IsLeft}
+use Rattle.hp_lookup.specs.Files.{Files, edited_at}
 use Rattle.hp_mount.specs.Done.{Tried}
 use Rattle.hp_mount.specs.Found.{first_of}
 use Rattle.hp_mount.specs.Kept.{IsKept, mount_of}

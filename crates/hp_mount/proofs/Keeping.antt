@@ -17,9 +17,9 @@ use Rattle.hp_laws.proofs.Maps.{mapped_grows}
 use Rattle.hp_laws.proofs.FileMoves as moves
 use Rattle.hp_laws.proofs.FileMoves.{FileGrows}
 use Rattle.hp_laws.proofs.MountMoves.{MountGrows, IsFileAt, file_grows, new_grows}
-use Rattle.hp_mount_files.specs.declared.next_map.MapRange.{MapRange}
-use Rattle.hp_mount_files.specs.Asking.{wants}
-use Rattle.hp_mount_files.specs.Files.{Files, file_at, filled_at, mapped_at, with_anon, with_cell_at}
+use Rattle.hp_lookup.specs.declared.next_map.MapRange.{MapRange}
+use Rattle.hp_lookup.specs.Asking.{wants}
+use Rattle.hp_lookup.specs.Files.{Files, file_at, filled_at, mapped_at, with_anon, with_cell_at}
 use Rattle.hp_mount.specs.Kept.{IsKept, mount_of}
 use Rattle.hp_subpool.specs.Subpool as share
 use Rattle.hp_subpool.specs.Subpool.{Subpool, used}

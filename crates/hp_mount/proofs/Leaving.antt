@@ -21,10 +21,10 @@ use Rattle.hp_model.specs.machine.Event.{has_maps_of}
 use Rattle.hp_model.specs.machine.Plan.{Plan, gives, unless, with_value}
 use Rattle.hp_model.specs.machine.SlotEvent.{is_bad_range, unmap}
 use Rattle.hp_model.specs.threads.LocalRun.{ThroughDoor}
-use Rattle.hp_mount_files.specs.Asking.{is_first_of}
-use Rattle.hp_mount_files.specs.Files.{Files}
-use Rattle.hp_mount_files.specs.Places.{all_maps, all_tasks}
-use Rattle.hp_mount_files.proofs.MapNumbers.{among_distinct}
+use Rattle.hp_lookup.specs.Asking.{is_first_of}
+use Rattle.hp_lookup.specs.Files.{Files}
+use Rattle.hp_lookup.specs.Places.{all_maps, all_tasks}
+use Rattle.hp_lookup.proofs.MapNumbers.{among_distinct}
 use Rattle.hp_mount.specs.Done.{Tried}
 use Rattle.hp_mount.specs.Kept.{IsKept, mount_of}
 use Rattle.hp_mount.proofs.Commands.{tests_fail, tests_pass}

@@ -22,8 +22,8 @@ use Rattle.hp_model.specs.pool.Pool.{granted_at, no_pages}
 use Rattle.hp_model.specs.Profile.{most_file_pages, most_files, most_map_pages}
 use Rattle.hp_model.specs.machine.Promises.{file_in}
 use Rattle.hp_model.specs.machine.SlotEvent.{anon_tests, are_too_many_maps, file_named, map_file, slot_event}
-use Rattle.hp_mount_files.specs.Asking.{IsAsked, IsGranted}
-use Rattle.hp_mount_files.specs.Files.{Files}
+use Rattle.hp_lookup.specs.Asking.{IsAsked, IsGranted}
+use Rattle.hp_lookup.specs.Files.{Files}
 use Rattle.hp_mount.specs.Alone.{IsDoneAlone}
 use Rattle.hp_mount.specs.Done.{Enters, Through, Tried}
 use Rattle.hp_mount.specs.Found.{first_of}

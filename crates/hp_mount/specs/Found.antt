@@ -15,7 +15,7 @@ use Rattle.hp_model.specs.files.Spot.{Spot, spot}
 use Rattle.hp_mount.specs.declared.mount.reach.Asked.{Asked}
 use Rattle.hp_mount.specs.declared.mount.reach.Asked.TheVariants.{Page, Bytes}
 use Rattle.hp_mount.specs.declared.mount.reach.MapAccess.{MapAccess}
-use Rattle.hp_mount_files.specs.declared.files.MapPlace.{MapPlace}
+use Rattle.hp_lookup.specs.declared.map_place.MapPlace.{MapPlace}
 use Rattle.hp_model.specs.files.Mapping.{Map, is_live, is_map, is_shared, is_unconsumed, place_at, with_place}
 
 -- the map at a place of a file's maps

@@ -12,8 +12,8 @@ use Rattle.hp_model.specs.machine.Plan.{Answered, Choice, Plan, Reply, grant}
 use Rattle.hp_model.specs.Profile.{most_file_pages, most_files, most_map_pages}
 use Rattle.hp_model.specs.machine.Promises.{file_in}
 use Rattle.hp_model.specs.machine.SlotEvent.{anon_tests, are_too_many_maps, file_named, is_name}
-use Rattle.hp_mount_files.specs.Asking.{wants, with_range}
-use Rattle.hp_mount_files.specs.declared.next_map.MapRange.{MapRange}
+use Rattle.hp_lookup.specs.Asking.{wants, with_range}
+use Rattle.hp_lookup.specs.declared.next_map.MapRange.{MapRange}
 use Rattle.hp_mount.specs.Found.{first_of}
 
 abbrev pub create_tests : Mount → List ℕ → List (Bool × Refusal)

@@ -7,16 +7,16 @@ use Rattle.hp_model.specs.files.File.{new_file}
 use Rattle.hp_model.specs.files.MakeMap.{mapped, numbers_of}
 use Rattle.hp_model.specs.Lists.{is_among}
 use Rattle.hp_store.specs.Store.{Store}
-use Rattle.hp_mount_files.specs.Asking.{entered_from}
-use Rattle.hp_mount_files.specs.Hints.{IsFiles, IsMoreByMap, Noted, has_key}
-use Rattle.hp_mount_files.specs.Keyed.{is_key, keys_in, label_of}
-use Rattle.hp_mount_files.specs.Numbered.{NumberedFile, file_shown, files_shown, new_mapping, with_mapping}
-use Rattle.hp_mount_files.specs.Places.{all_maps}
-use Rattle.hp_mount_files.proofs.Level.{more_level, none_level}
-use Rattle.hp_mount_files.proofs.Mapped.{file_count, mapped_shown}
-use Rattle.hp_mount_files.proofs.NewKey.{keys_few, no_pair, other_key}
+use Rattle.hp_lookup.specs.Asking.{entered_from}
+use Rattle.hp_lookup.specs.Hints.{IsFiles, IsMoreByMap, Noted, has_key}
+use Rattle.hp_lookup.specs.Keyed.{is_key, keys_in, label_of}
+use Rattle.hp_lookup.specs.Numbered.{NumberedFile, file_shown, files_shown, new_mapping, with_mapping}
+use Rattle.hp_lookup.specs.Places.{all_maps}
+use Rattle.hp_lookup.proofs.Level.{more_level, none_level}
+use Rattle.hp_lookup.proofs.Mapped.{file_count, mapped_shown}
+use Rattle.hp_lookup.proofs.NewKey.{keys_few, no_pair, other_key}
 use Rattle.hp_mount_files.proofs.Pushing.{pushed}
-use Rattle.hp_mount_files.proofs.Views.{view}
+use Rattle.hp_lookup.proofs.Views.{view}
 
 abbrev pub nameless : NumberedFile
 nameless = record { name = None; cells = []; maps = [] }

@@ -14,18 +14,18 @@ use Rattle.hp_model.specs.files.MountCounts.{file_pages, stamps_of}
 use Rattle.hp_model.specs.files.Page.{Copy}
 use Rattle.hp_model.specs.machine.Sound.{file_has, is_stamp, map_has, place_has}
 use Rattle.hp_store.specs.Store.{Store, held_count, holders_of, page_at}
-use Rattle.hp_mount_files.specs.Files.{file_at}
-use Rattle.hp_mount_files.specs.Held.{IsHeld, in_cell, in_file, in_map, in_place}
-use Rattle.hp_mount_files.specs.Numbered.{NumberedFile, copy_shown, file_shown, files_shown, map_shown, mapping_at, no_mapping, numbered_at, page_in, place_shown}
-use Rattle.hp_mount_files.specs.Places.{map_at}
-use Rattle.hp_mount_files.specs.States.{AreAgreed, is_stamp_at}
-use Rattle.hp_mount_files.proofs.Cells.{file_is, no_file}
-use Rattle.hp_mount_files.proofs.Drops.{live_copy, place_inside}
-use Rattle.hp_mount_files.proofs.Lifting.{at_most, is_it}
+use Rattle.hp_lookup.specs.Files.{file_at}
+use Rattle.hp_lookup.specs.Held.{IsHeld, in_cell, in_file, in_map, in_place}
+use Rattle.hp_lookup.specs.Numbered.{NumberedFile, copy_shown, file_shown, files_shown, map_shown, mapping_at, no_mapping, numbered_at, page_in, place_shown}
+use Rattle.hp_lookup.specs.Places.{map_at}
+use Rattle.hp_file.specs.States.{AreAgreed, is_stamp_at}
+use Rattle.hp_lookup.proofs.Cells.{file_is, no_file}
+use Rattle.hp_file.proofs.Drops.{live_copy, place_inside}
+use Rattle.hp_lookup.proofs.Lifting.{at_most, is_it}
 use Rattle.hp_mount_files.proofs.Placing.{none_or_some}
 use Rattle.hp_mount_files.proofs.PutCopy.{jl_in, mapping, seen_place, within, x_is}
-use Rattle.hp_mount_files.proofs.Stored.{stored_pages}
-use Rattle.hp_mount_files.proofs.Views.{copy_seen, no_copy_seen}
+use Rattle.hp_lookup.proofs.Stored.{stored_pages}
+use Rattle.hp_lookup.proofs.Views.{copy_seen, no_copy_seen}
 
 -- ---- by what is shown
 

@@ -11,19 +11,19 @@ use Rattle.hp_model.specs.files.MountCounts.{stamps_of}
 use Rattle.hp_model.specs.files.Spot.{place_written}
 use Rattle.hp_store.specs.Store.{Holding, Store, holders_of, page_at}
 use Rattle.hp_store.specs.Store as store
-use Rattle.hp_mount_files.specs.declared.copy_state.CopyState.TheVariants as state
-use Rattle.hp_mount_files.specs.Files.{file_at, placed_at}
-use Rattle.hp_mount_files.specs.Held.{IsHeld, in_cell, in_file, in_map, in_place}
-use Rattle.hp_mount_files.specs.Numbered.{NumberedFile, cell_shown, file_shown, files_shown, map_shown, no_mapping, numbered_at, page_in, place_shown}
-use Rattle.hp_mount_files.specs.Places.{map_at}
-use Rattle.hp_mount_files.specs.States.{IsCopyState}
-use Rattle.hp_mount_files.proofs.Cells as cells
-use Rattle.hp_mount_files.proofs.Cells.{file_is, no_file, write_agrees, write_held}
+use Rattle.hp_lookup.specs.declared.copy_state.CopyState.TheVariants as state
+use Rattle.hp_lookup.specs.Files.{file_at, placed_at}
+use Rattle.hp_lookup.specs.Held.{IsHeld, in_cell, in_file, in_map, in_place}
+use Rattle.hp_lookup.specs.Numbered.{NumberedFile, cell_shown, file_shown, files_shown, map_shown, no_mapping, numbered_at, page_in, place_shown}
+use Rattle.hp_lookup.specs.Places.{map_at}
+use Rattle.hp_file.specs.States.{IsCopyState}
+use Rattle.hp_lookup.proofs.Cells as cells
+use Rattle.hp_lookup.proofs.Cells.{file_is, no_file, write_agrees, write_held}
 use Rattle.hp_mount_files.proofs.CopyHeld.{holders_counted, stamp_there, y_is}
-use Rattle.hp_mount_files.proofs.Drops.{live_copy, place_here, place_inside}
-use Rattle.hp_mount_files.proofs.Lifting.{at_most, cell_same, file_same, is_it, map_but, map_same, map_shows_same, place_same}
+use Rattle.hp_file.proofs.Drops.{live_copy, place_here, place_inside}
+use Rattle.hp_lookup.proofs.Lifting.{at_most, cell_same, file_same, is_it, map_but, map_same, map_shows_same, place_same}
 use Rattle.hp_mount_files.proofs.PutCopy.{jl_in, mapping, seen, seen_place, within}
-use Rattle.hp_mount_files.proofs.Views.{some_of, some_within, view}
+use Rattle.hp_lookup.proofs.Views.{some_of, some_within, view}
 
 module _ (s : Store) (more : ℕ) (fs : List NumberedFile) (h : IsHeld s more fs) (k j i : ℕ) (l : k < length (files_shown s fs))
     (jl : j < length (file_at (files_shown s fs) k).maps) (x : NumberedFile) (read : x ≡ slice_index_or fs k x) (y : Mapping ℕ)

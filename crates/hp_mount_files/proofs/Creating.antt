@@ -6,12 +6,12 @@ use Rattle.std.proofs.lemmas.Slice.Eq.{bytes_eq-Decides}
 use Rattle.hp_model.specs.Lists.{found}
 use Rattle.hp_model.specs.machine.SlotEvent.{has_name}
 use Rattle.hp_store.specs.Store.{Store}
-use Rattle.hp_mount_files.specs.Hints.{IsFiles, IsMoreByName, Noted, has_name as has_noted}
-use Rattle.hp_mount_files.specs.Keyed.{has_label, labels_of}
-use Rattle.hp_mount_files.specs.Numbered.{NumberedFile, files_shown}
-use Rattle.hp_mount_files.proofs.Level.{none_level}
+use Rattle.hp_lookup.specs.Hints.{IsFiles, IsMoreByName, Noted, has_name as has_noted}
+use Rattle.hp_lookup.specs.Keyed.{has_label, labels_of}
+use Rattle.hp_lookup.specs.Numbered.{NumberedFile, files_shown}
+use Rattle.hp_lookup.proofs.Level.{none_level}
 use Rattle.hp_mount_files.proofs.Pushing.{pushed}
-use Rattle.hp_mount_files.proofs.Unique.{names_counted, none_found}
+use Rattle.hp_lookup.proofs.Unique.{names_counted, none_found}
 
 abbrev pub empty_file : List ℕ → NumberedFile
 empty_file name = record { name = Some name; cells = []; maps = [] }

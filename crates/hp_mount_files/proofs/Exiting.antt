@@ -11,21 +11,21 @@ use Rattle.hp_model.specs.files.GiveBack.{file_without, is_kept}
 use Rattle.hp_model.specs.files.Mapping.{Map, Mapping, is_map, is_of, map_punched}
 use Rattle.hp_model.proofs.Counting.{count_cons, count_map}
 use Rattle.hp_store.specs.Store.{Store}
-use Rattle.hp_mount_files.specs.Dropping.{IsDropping, IsLeft}
-use Rattle.hp_mount_files.specs.Forking.{maps_named}
-use Rattle.hp_mount_files.specs.Held.{in_file, in_files, in_map}
-use Rattle.hp_mount_files.specs.Hints.{IsFiles, Noted, has_key}
-use Rattle.hp_mount_files.specs.Keyed.{Label, is_key, key_of, keys_in, label_of, labels_of, maps_for}
-use Rattle.hp_mount_files.specs.Leaving.{HasLeft, emptied, file_owed, is_used, left_by, map_sum}
-use Rattle.hp_mount_files.specs.Numbered.{NumberedFile, file_shown, files_shown, map_shown, with_truncated}
-use Rattle.hp_mount_files.proofs.Cutting.{none_mapped}
-use Rattle.hp_mount_files.proofs.Drops.{drop_as}
-use Rattle.hp_mount_files.proofs.FileLeaves.{empty_file, others}
-use Rattle.hp_mount_files.proofs.Level.{filtered_level}
-use Rattle.hp_mount_files.proofs.Leaving.{left_gives, left_keeps, left_noted, left_shows, keys_less}
-use Rattle.hp_mount_files.proofs.Mapped.{sum_through}
-use Rattle.hp_mount_files.proofs.Tallies.{own_maps}
-use Rattle.hp_mount_files.proofs.Views.{view}
+use Rattle.hp_lookup.specs.Dropping.{IsDropping, IsLeft}
+use Rattle.hp_lookup.specs.Forking.{maps_named}
+use Rattle.hp_lookup.specs.Held.{in_file, in_files, in_map}
+use Rattle.hp_lookup.specs.Hints.{IsFiles, Noted, has_key}
+use Rattle.hp_lookup.specs.Keyed.{Label, is_key, key_of, keys_in, label_of, labels_of, maps_for}
+use Rattle.hp_lookup.specs.Leaving.{HasLeft, emptied, file_owed, is_used, left_by, map_sum}
+use Rattle.hp_lookup.specs.Numbered.{NumberedFile, file_shown, files_shown, map_shown, with_truncated}
+use Rattle.hp_file.proofs.Cutting.{none_mapped}
+use Rattle.hp_file.proofs.Drops.{drop_as}
+use Rattle.hp_file.proofs.FileLeaves.{empty_file, others}
+use Rattle.hp_lookup.proofs.Level.{filtered_level}
+use Rattle.hp_lookup.proofs.Leaving.{left_gives, left_keeps, left_noted, left_shows, keys_less}
+use Rattle.hp_lookup.proofs.Mapped.{sum_through}
+use Rattle.hp_lookup.proofs.Tallies.{own_maps}
+use Rattle.hp_lookup.proofs.Views.{view}
 
 -- ---- files that are empty go
 

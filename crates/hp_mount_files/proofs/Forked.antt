@@ -15,20 +15,20 @@ use Rattle.hp_model.specs.files.File.{File}
 use Rattle.hp_model.specs.files.Mapping.{Mapping, copy_of, is_map, is_of, map_for, place_at, unconsumed}
 use Rattle.hp_model.proofs.Counting.{count_cons, count_map}
 use Rattle.hp_store.specs.Store.{Store}
-use Rattle.hp_mount_files.specs.Forking.{IsSharing, children_of, with_children}
-use Rattle.hp_mount_files.specs.Held.{IsHeld, in_cell, in_cells, in_file, in_files, in_map, in_place, more_in}
-use Rattle.hp_mount_files.specs.Hints.{IsFiles, Noted, has_key, has_name as has_noted}
-use Rattle.hp_mount_files.specs.Keyed.{IsKeyed, Label, has_label, is_listed, key_of, keys_in, label_of, labels_of, maps_for}
-use Rattle.hp_mount_files.specs.Leaving.{file_owed, map_sum, owed}
-use Rattle.hp_mount_files.specs.Level.{AreLevel, copy_in}
-use Rattle.hp_mount_files.specs.Numbered.{NumberedFile, file_shown, files_shown, map_shown, numbered_at, place_shown}
-use Rattle.hp_mount_files.proofs.Cells.{no_file}
-use Rattle.hp_mount_files.proofs.Cutting.{none_mapped}
+use Rattle.hp_lookup.specs.Forking.{IsSharing, children_of, with_children}
+use Rattle.hp_lookup.specs.Held.{IsHeld, in_cell, in_cells, in_file, in_files, in_map, in_place, more_in}
+use Rattle.hp_lookup.specs.Hints.{IsFiles, Noted, has_key, has_name as has_noted}
+use Rattle.hp_lookup.specs.Keyed.{IsKeyed, Label, has_label, is_listed, key_of, keys_in, label_of, labels_of, maps_for}
+use Rattle.hp_lookup.specs.Leaving.{file_owed, map_sum, owed}
+use Rattle.hp_lookup.specs.Level.{AreLevel, copy_in}
+use Rattle.hp_lookup.specs.Numbered.{NumberedFile, file_shown, files_shown, map_shown, numbered_at, place_shown}
+use Rattle.hp_lookup.proofs.Cells.{no_file}
+use Rattle.hp_file.proofs.Cutting.{none_mapped}
 use Rattle.hp_mount_files.proofs.Exiting.{keys_are, maps_in}
-use Rattle.hp_mount_files.proofs.Level.{fewer_level, kept_copy, mapped_copy}
-use Rattle.hp_mount_files.proofs.Mapped.{sum_mapped, sum_through}
-use Rattle.hp_mount_files.proofs.Staying.{files_stay}
-use Rattle.hp_mount_files.proofs.Tallies.{own_maps}
+use Rattle.hp_lookup.proofs.Level.{fewer_level, kept_copy, mapped_copy}
+use Rattle.hp_lookup.proofs.Mapped.{sum_mapped, sum_through}
+use Rattle.hp_lookup.proofs.Staying.{files_stay}
+use Rattle.hp_lookup.proofs.Tallies.{own_maps}
 
 -- ---- one map of a child
 

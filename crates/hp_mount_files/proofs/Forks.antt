@@ -13,27 +13,27 @@ use Rattle.hp_model.specs.files.GiveBack.{file_without, is_kept}
 use Rattle.hp_model.specs.files.Mapping.{Map, Mapping, is_map, is_of, map_for, map_punched}
 use Rattle.hp_model.proofs.Counting.{count_not}
 use Rattle.hp_store.specs.Store.{Store, held_count, holders_of, page_at}
-use Rattle.hp_mount_files.specs.Dropping.{IsLeft, count_at}
-use Rattle.hp_mount_files.specs.Files.{Files}
-use Rattle.hp_mount_files.specs.Forking.{AreReady, HaveJoined, HaveNoted, HaveRoom, IsSharing, children_of, in_list, in_lists, joined, list_copies, maps_named, maps_of, with_children}
-use Rattle.hp_mount_files.specs.Held.{in_map}
-use Rattle.hp_mount_files.specs.Hints.{AreSame, IsFiles, Noted}
-use Rattle.hp_mount_files.specs.Keyed.{IsKeyed, Label, is_listed, keys_in, label_of, labels_of, maps_for}
-use Rattle.hp_mount_files.specs.Leaving.{HasLeft, emptied, is_used, left_by, map_sum}
-use Rattle.hp_mount_files.specs.Numbered.{NumberedFile, files_shown, with_truncated}
-use Rattle.hp_mount_files.specs.Places.{all_maps}
-use Rattle.hp_mount_files.proofs.Entering.{room_keeps, room_view}
+use Rattle.hp_lookup.specs.Dropping.{IsLeft, count_at}
+use Rattle.hp_lookup.specs.Files.{Files}
+use Rattle.hp_lookup.specs.Forking.{AreReady, HaveJoined, HaveNoted, HaveRoom, IsSharing, children_of, in_list, in_lists, joined, list_copies, maps_named, maps_of, with_children}
+use Rattle.hp_lookup.specs.Held.{in_map}
+use Rattle.hp_lookup.specs.Hints.{AreSame, IsFiles, Noted}
+use Rattle.hp_lookup.specs.Keyed.{IsKeyed, Label, is_listed, keys_in, label_of, labels_of, maps_for}
+use Rattle.hp_lookup.specs.Leaving.{HasLeft, emptied, is_used, left_by, map_sum}
+use Rattle.hp_lookup.specs.Numbered.{NumberedFile, files_shown, with_truncated}
+use Rattle.hp_lookup.specs.Places.{all_maps}
+use Rattle.hp_file.proofs.Entering.{room_keeps, room_view}
 use Rattle.hp_mount_files.proofs.Exiting.{exit_files, exit_keeps, exit_keys, exit_left, keys_gone, named_labelled}
-use Rattle.hp_mount_files.proofs.FileLeaves.{empty_file}
+use Rattle.hp_file.proofs.FileLeaves.{empty_file}
 use Rattle.hp_mount_files.proofs.Forked.{few_kids, fork_held, fork_keeps, fork_keyed, fork_shows, in_kids, owed_same, tally_more}
 use Rattle.hp_mount_files.proofs.Joining.{none_joined}
-use Rattle.hp_mount_files.proofs.Keys.{noted_same}
-use Rattle.hp_mount_files.proofs.Leaving.{files_owe, used_label, used_sum}
-use Rattle.hp_mount_files.proofs.Sharing.{share_as}
-use Rattle.hp_mount_files.proofs.Stored.{stored_at, stored_pages}
-use Rattle.hp_mount_files.proofs.Tallies.{maps_labelled, none_leave}
-use Rattle.hp_mount_files.proofs.Unique.{maps_counted}
-use Rattle.hp_mount_files.proofs.Views.{view}
+use Rattle.hp_lookup.proofs.Keys.{noted_same}
+use Rattle.hp_lookup.proofs.Leaving.{files_owe, used_label, used_sum}
+use Rattle.hp_file.proofs.Sharing.{share_as}
+use Rattle.hp_lookup.proofs.Stored.{stored_at, stored_pages}
+use Rattle.hp_lookup.proofs.Tallies.{maps_labelled, none_leave}
+use Rattle.hp_lookup.proofs.Unique.{maps_counted}
+use Rattle.hp_lookup.proofs.Views.{view}
 
 -- ---- files that are used
 

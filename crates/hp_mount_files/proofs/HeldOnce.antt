@@ -9,17 +9,17 @@ use Rattle.hp_model.specs.files.File.{File}
 use Rattle.hp_model.specs.files.Mapping.{copy_of, place_at}
 use Rattle.hp_model.specs.files.Page.{Page}
 use Rattle.hp_store.specs.Store.{Store, holders_of, inserted, page_at}
-use Rattle.hp_mount_files.specs.declared.copy_state.CopyState.TheVariants as state
-use Rattle.hp_mount_files.specs.Files.{file_at}
-use Rattle.hp_mount_files.specs.Held.{IsHeld}
-use Rattle.hp_mount_files.specs.Numbered.{NumberedFile, copy_shown, file_shown, files_shown, map_shown, mapping_at}
-use Rattle.hp_mount_files.specs.Places.{map_at}
-use Rattle.hp_mount_files.specs.States.{IsCopyState}
-use Rattle.hp_mount_files.specs.Taking.{first_copy}
-use Rattle.hp_mount_files.proofs.Cells.{file_is, inserted_is, no_file}
+use Rattle.hp_lookup.specs.declared.copy_state.CopyState.TheVariants as state
+use Rattle.hp_lookup.specs.Files.{file_at}
+use Rattle.hp_lookup.specs.Held.{IsHeld}
+use Rattle.hp_lookup.specs.Numbered.{NumberedFile, copy_shown, file_shown, files_shown, map_shown, mapping_at}
+use Rattle.hp_lookup.specs.Places.{map_at}
+use Rattle.hp_file.specs.States.{IsCopyState}
+use Rattle.hp_file.specs.Taking.{first_copy}
+use Rattle.hp_lookup.proofs.Cells.{file_is, inserted_is, no_file}
 use Rattle.hp_mount_files.proofs.CopyHeld.{copy_there, held_once, map_reads}
 use Rattle.hp_mount_files.proofs.PutCopy.{live, mapping, put, put_in, put_keeps, put_there, within}
-use Rattle.hp_mount_files.proofs.Views.{files_len}
+use Rattle.hp_lookup.proofs.Views.{files_len}
 
 -- ---- the file that code leaves
 

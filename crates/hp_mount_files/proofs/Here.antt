@@ -3,10 +3,10 @@ use Rattle.std.proofs.Common.{◌≡◌, ℕ, ◌<◌, length, ap, subst, sym, �
 use Rattle.hp_model.specs.declared.place.Place.{Place}
 use Rattle.hp_model.specs.files.Mapping.{place_at}
 use Rattle.hp_model.specs.files.Page.{Copy}
-use Rattle.hp_mount_files.specs.declared.copy_state.CopyState.{CopyState}
-use Rattle.hp_mount_files.specs.Files.{Files, file_at}
-use Rattle.hp_mount_files.specs.Places.{map_at}
-use Rattle.hp_mount_files.specs.States.{IsCopyState}
+use Rattle.hp_lookup.specs.declared.copy_state.CopyState.{CopyState}
+use Rattle.hp_lookup.specs.Files.{Files, file_at}
+use Rattle.hp_lookup.specs.Places.{map_at}
+use Rattle.hp_file.specs.States.{IsCopyState}
 
 module _ {v w : Files} (view : v ≡ w) (k : ℕ) where
   pub file_here : k < length w.files → k < length v.files

@@ -7,10 +7,10 @@ use Rattle.std.proofs.lemmas.Bool.{cases_lt}
 use Rattle.std.proofs.lemmas.List.{length-append, length-map, nil_from_length, take-set}
 use Rattle.std.proofs.lemmas.List.Sums.{length-filter, sum_by-append, sum_by-cons, sum_by-drop_more, sum_by-set, sum_by_more}
 use Rattle.hp_model.specs.files.Mapping.{Mapping, is_of, map_for}
-use Rattle.hp_mount_files.specs.Forking.{AreFilled, AreReady, children_of, HasRoom, HaveRoom, IsReady, joined, joined_at, list_length, maps_of, with_list}
-use Rattle.hp_mount_files.specs.Numbered.{NumberedFile, numbered_at}
-use Rattle.hp_mount_files.proofs.Cells.{no_file}
-use Rattle.hp_mount_files.proofs.Sharing.{sum_end}
+use Rattle.hp_lookup.specs.Forking.{AreFilled, AreReady, children_of, HasRoom, HaveRoom, IsReady, joined, joined_at, list_length, maps_of, with_list}
+use Rattle.hp_lookup.specs.Numbered.{NumberedFile, numbered_at}
+use Rattle.hp_lookup.proofs.Cells.{no_file}
+use Rattle.hp_file.proofs.Sharing.{sum_end}
 
 module _ (parent child : ℕ) where
   -- a list more

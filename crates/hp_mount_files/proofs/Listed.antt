@@ -7,7 +7,7 @@ use Rattle.std.proofs.lemmas.List.Edits.{length-remove}
 use Rattle.std.proofs.lemmas.List.Elements.{All-pop, All-push}
 use Rattle.std.proofs.lemmas.List.Quantifiers.{all_pairs_push, all_pairs_remove}
 use Rattle.hp_mount_files.specs.FileList.{IsOrder, files_in}
-use Rattle.hp_mount_files.specs.Numbered.{NumberedFile, numbered_at}
+use Rattle.hp_lookup.specs.Numbered.{NumberedFile, numbered_at}
 use Rattle.hp_mount_files.proofs.Ordered.{all_remove, others, push_map, remove_map, set_map}
 
 abbrev Apart : List ℕ → Type 0

@@ -5,7 +5,7 @@ use Rattle.std.proofs.lemmas.List.{append-nil}
 use Rattle.std.proofs.lemmas.List.Elements.{All-append, All-cons, All-nil, filter_map-append}
 use Rattle.hp_model.specs.files.File.{File}
 use Rattle.hp_store.specs.Store.{Store}
-use Rattle.hp_mount_files.specs.Numbered.{NumberedFile, files_shown}
+use Rattle.hp_lookup.specs.Numbered.{NumberedFile, files_shown}
 
 abbrev pub names_in : List NumberedFile → List (List ℕ)
 names_in fs = filter_map (λ f. f.name) fs

@@ -7,11 +7,11 @@ use Rattle.hp_model.specs.files.File.{File, Mount}
 use Rattle.hp_model.specs.files.GiveBack.{file_unmapped, file_without, is_kept, is_left, map_unmapped}
 use Rattle.hp_model.specs.files.Mapping.{Map, is_map, is_mapped, is_of, without_range}
 use Rattle.hp_model.specs.Lists.{is_among}
-use Rattle.hp_mount_files.specs.Asking.{is_first_of}
-use Rattle.hp_mount_files.specs.Dropping.{IsLeft}
-use Rattle.hp_mount_files.specs.Files.{Files}
-use Rattle.hp_mount_files.specs.Places.{all_maps, all_tasks, mount_with}
-use Rattle.hp_mount_files.proofs.MapNumbers.{among_distinct}
+use Rattle.hp_lookup.specs.Asking.{is_first_of}
+use Rattle.hp_lookup.specs.Dropping.{IsLeft}
+use Rattle.hp_lookup.specs.Files.{Files}
+use Rattle.hp_lookup.specs.Places.{all_maps, all_tasks, mount_with}
+use Rattle.hp_lookup.proofs.MapNumbers.{among_distinct}
 
 -- a mount of some files
 abbrev mount_of : List File → Mount

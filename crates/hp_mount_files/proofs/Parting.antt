@@ -13,25 +13,25 @@ use Rattle.hp_model.specs.files.MountCounts.{stamps_of}
 use Rattle.hp_model.specs.files.Page.{Copy, Page}
 use Rattle.hp_store.specs.Store as store
 use Rattle.hp_store.specs.Store.{Holding, Store, holders_of, inserted, page_at}
-use Rattle.hp_mount_files.specs.declared.copy_state.CopyState.TheVariants as state
-use Rattle.hp_mount_files.specs.Dropping.{IsDropping}
-use Rattle.hp_mount_files.specs.Files.{file_at, parted_at}
-use Rattle.hp_mount_files.specs.Held.{IsHeld, in_place, more_in}
-use Rattle.hp_mount_files.specs.Level.{AreLevel}
-use Rattle.hp_mount_files.specs.Numbered.{NumberedFile, files_shown, mapping_at, numbered_at, place_shown}
-use Rattle.hp_mount_files.specs.Places.{map_at}
-use Rattle.hp_mount_files.specs.States.{IsCopyState}
-use Rattle.hp_mount_files.proofs.Cells.{free_is_fresh, no_file, inserted_agrees, inserted_is, inserted_more, some_put}
+use Rattle.hp_lookup.specs.declared.copy_state.CopyState.TheVariants as state
+use Rattle.hp_lookup.specs.Dropping.{IsDropping}
+use Rattle.hp_lookup.specs.Files.{file_at, parted_at}
+use Rattle.hp_lookup.specs.Held.{IsHeld, in_place, more_in}
+use Rattle.hp_lookup.specs.Level.{AreLevel}
+use Rattle.hp_lookup.specs.Numbered.{NumberedFile, files_shown, mapping_at, numbered_at, place_shown}
+use Rattle.hp_lookup.specs.Places.{map_at}
+use Rattle.hp_file.specs.States.{IsCopyState}
+use Rattle.hp_lookup.proofs.Cells.{free_is_fresh, no_file, inserted_agrees, inserted_is, inserted_more, some_put}
 use Rattle.hp_mount_files.proofs.Copies.{fresh_stands, with_copy_at}
 use Rattle.hp_mount_files.proofs.CopyHeld.{holders_counted, in_maps, map_reads, number_there, stamp_there}
-use Rattle.hp_mount_files.proofs.Drops.{drop_more, drop_next, drop_start, one_at, place_here}
-use Rattle.hp_mount_files.proofs.FirstCopy.{live_inside}
+use Rattle.hp_file.proofs.Drops.{drop_more, drop_next, drop_start, one_at, place_here}
+use Rattle.hp_file.proofs.FirstCopy.{live_inside}
 use Rattle.hp_mount_files.proofs.HeldOnce.{once_left}
-use Rattle.hp_mount_files.proofs.Lifting.{is_it, is_other}
+use Rattle.hp_lookup.proofs.Lifting.{is_it, is_other}
 use Rattle.hp_mount_files.proofs.Placing.{place_held}
 use Rattle.hp_mount_files.proofs.PutCopy.{jl_in, mapping, put_in, put_levels, put_there, put_shows, seen_place, within, x_is}
-use Rattle.hp_mount_files.proofs.Staying.{files_stay}
-use Rattle.hp_mount_files.proofs.Views.{files_len, view}
+use Rattle.hp_lookup.proofs.Staying.{files_stay}
+use Rattle.hp_lookup.proofs.Views.{files_len, view}
 
 shown_live : (s : Store) (p : Place ℕ) (c : Bool) (copy : Copy) (q : ℕ) → copy_of p ≡ Some q → place_shown s p ≡ Live c (Some copy) → p ≡ Live c (Some q)
 shown_live s Gone c copy q there e = cc

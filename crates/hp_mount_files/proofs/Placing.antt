@@ -9,12 +9,12 @@ use Rattle.hp_model.specs.declared.place.Place.{Place}
 use Rattle.hp_model.specs.declared.place.Place.TheVariants.{Gone}
 use Rattle.hp_model.specs.files.Mapping.{Mapping}
 use Rattle.hp_store.specs.Store.{Store, holders_of, page_at}
-use Rattle.hp_mount_files.specs.Dropping.{HasHolders}
-use Rattle.hp_mount_files.specs.Held.{IsHeld, in_cell, in_cells, in_file, in_files, in_map, in_place, more_in}
-use Rattle.hp_mount_files.specs.Numbered.{NumberedFile, mapping_at, no_mapping, numbered_at}
-use Rattle.hp_mount_files.proofs.Cells.{no_file}
-use Rattle.hp_mount_files.proofs.GivingBack.{in_all}
-use Rattle.hp_mount_files.proofs.Lifting.{at_most}
+use Rattle.hp_lookup.specs.Dropping.{HasHolders}
+use Rattle.hp_lookup.specs.Held.{IsHeld, in_cell, in_cells, in_file, in_files, in_map, in_place, more_in}
+use Rattle.hp_lookup.specs.Numbered.{NumberedFile, mapping_at, no_mapping, numbered_at}
+use Rattle.hp_lookup.proofs.Cells.{no_file}
+use Rattle.hp_lookup.proofs.GivingBack.{in_all}
+use Rattle.hp_lookup.proofs.Lifting.{at_most}
 
 pub none_or_some : (n : ℕ) → (n ≡ 0) ⊎ (0 < n)
 none_or_some zero = inl refl

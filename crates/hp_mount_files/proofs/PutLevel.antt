@@ -9,13 +9,13 @@ use Rattle.std.proofs.lemmas.List.Sums.{sum_by-cons}
 use Rattle.hp_model.specs.declared.place.Place.{Place}
 use Rattle.hp_model.specs.declared.place.Place.TheVariants.{Gone, Live}
 use Rattle.hp_model.specs.files.Mapping.{Mapping, copy_of, is_live, place_at, with_place}
-use Rattle.hp_mount_files.specs.Held.{in_map, in_place}
-use Rattle.hp_mount_files.specs.Level.{copy_in}
-use Rattle.hp_mount_files.specs.Numbered.{no_mapping}
-use Rattle.hp_mount_files.proofs.Drops.{live_copy, place_inside}
-use Rattle.hp_mount_files.proofs.FirstCopy.{live_inside}
-use Rattle.hp_mount_files.proofs.Level.{bare_map, clash}
-use Rattle.hp_mount_files.proofs.Lifting.{at_most, is_it}
+use Rattle.hp_lookup.specs.Held.{in_map, in_place}
+use Rattle.hp_lookup.specs.Level.{copy_in}
+use Rattle.hp_lookup.specs.Numbered.{no_mapping}
+use Rattle.hp_file.proofs.Drops.{live_copy, place_inside}
+use Rattle.hp_file.proofs.FirstCopy.{live_inside}
+use Rattle.hp_lookup.proofs.Level.{bare_map, clash}
+use Rattle.hp_lookup.proofs.Lifting.{at_most, is_it}
 
 -- a number that stands nowhere is no copy
 pub no_copy_in : (n : ℕ) (ms : List (Mapping ℕ)) → sum_by (in_map n) ms ≡ 0 → (b i : ℕ) → copy_in ms b i ≢ Some n

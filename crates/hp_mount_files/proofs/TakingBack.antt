@@ -20,27 +20,27 @@ use Rattle.hp_model.specs.files.MountCounts.{file_reserves}
 use Rattle.hp_model.specs.files.Page.{Copy}
 use Rattle.hp_model.specs.machine.Promises.{no_map}
 use Rattle.hp_store.specs.Store.{Store}
-use Rattle.hp_mount_files.specs.Dropping.{IsDropping, IsLeft}
-use Rattle.hp_mount_files.specs.Files.{file_at, taken_back_at}
-use Rattle.hp_mount_files.specs.Held.{in_cell, in_file, in_map, in_place, more_in}
-use Rattle.hp_mount_files.specs.Hints.{IsFiles, Noted}
-use Rattle.hp_mount_files.specs.Places.{map_at}
-use Rattle.hp_mount_files.specs.Keyed.{key_of, label_of}
-use Rattle.hp_mount_files.specs.Level.{AreLevel, copy_in}
-use Rattle.hp_mount_files.specs.Numbered.{NumberedFile, copy_shown, file_shown, files_shown, map_shown, mapping_at, no_mapping, place_shown}
-use Rattle.hp_mount_files.specs.States.{IsCopyState}
-use Rattle.hp_mount_files.specs.declared.copy_state.CopyState.TheVariants as state
-use Rattle.hp_mount_files.specs.Taking.{has_number, robbed_at, with_taken_back}
+use Rattle.hp_lookup.specs.Dropping.{IsDropping, IsLeft}
+use Rattle.hp_lookup.specs.Files.{file_at, taken_back_at}
+use Rattle.hp_lookup.specs.Held.{in_cell, in_file, in_map, in_place, more_in}
+use Rattle.hp_lookup.specs.Hints.{IsFiles, Noted}
+use Rattle.hp_lookup.specs.Places.{map_at}
+use Rattle.hp_lookup.specs.Keyed.{key_of, label_of}
+use Rattle.hp_lookup.specs.Level.{AreLevel, copy_in}
+use Rattle.hp_lookup.specs.Numbered.{NumberedFile, copy_shown, file_shown, files_shown, map_shown, mapping_at, no_mapping, place_shown}
+use Rattle.hp_file.specs.States.{IsCopyState}
+use Rattle.hp_lookup.specs.declared.copy_state.CopyState.TheVariants as state
+use Rattle.hp_file.specs.Taking.{has_number, robbed_at, with_taken_back}
 use Rattle.hp_mount_files.proofs.Copies.{any_none}
 use Rattle.hp_mount_files.proofs.CopyHeld.{agreed_shown, jl_read, map_reads, no_cells, number_there, stamp_there}
-use Rattle.hp_mount_files.proofs.Drops.{less_copy, live_copy, place_here, place_inside}
-use Rattle.hp_mount_files.proofs.GivingBack.{given_shows, keeps, leaves}
+use Rattle.hp_file.proofs.Drops.{less_copy, live_copy, place_here, place_inside}
+use Rattle.hp_lookup.proofs.GivingBack.{given_shows, keeps, leaves}
 use Rattle.hp_mount_files.proofs.HeldOnce.{once_left}
-use Rattle.hp_mount_files.proofs.Keys.{set_read}
-use Rattle.hp_mount_files.proofs.Level.{fewer_level, level_read, mapped_copy, same_level}
-use Rattle.hp_mount_files.proofs.Lifting.{at_most, is_it, map_but}
+use Rattle.hp_lookup.proofs.Keys.{set_read}
+use Rattle.hp_lookup.proofs.Level.{fewer_level, level_read, mapped_copy, same_level}
+use Rattle.hp_lookup.proofs.Lifting.{at_most, is_it, map_but}
 use Rattle.hp_mount_files.proofs.Placing.{none_or_some}
-use Rattle.hp_mount_files.proofs.Views.{copy_seen, file_read, files_len, read_is, shown_place, view}
+use Rattle.hp_lookup.proofs.Views.{copy_seen, file_read, files_len, read_is, shown_place, view}
 
 -- ---- lists
 

@@ -17,24 +17,24 @@ use Rattle.hp_model.specs.files.MountCounts.{file_reserves, is_waiting, owner_re
 use Rattle.hp_model.specs.machine.SlotEvent.{has_name}
 use Rattle.hp_laws.proofs.Places.{found_place}
 use Rattle.hp_store.specs.Store.{Store, holders_of, page_at}
-use Rattle.hp_mount_files.specs.Dropping.{IsDropping, IsLeft}
-use Rattle.hp_mount_files.specs.Files.{edited_at, file_at}
-use Rattle.hp_mount_files.specs.Held.{IsHeld, in_cell, in_cells, in_file, in_files, more_in}
-use Rattle.hp_mount_files.specs.Hints.{AreNoted, IsFiles, IsMoreBut, Noted, has_name as has_noted}
-use Rattle.hp_mount_files.specs.Keyed.{Label, has_label, is_key, is_listed, is_name_of, key_of, keys_in, label_of, labels_of, maps_for}
-use Rattle.hp_mount_files.specs.Places.{IsNamed}
-use Rattle.hp_mount_files.specs.Level.{AreLevel}
-use Rattle.hp_mount_files.specs.Numbered.{NumberedFile, file_shown, files_shown, map_shown, numbered_at}
-use Rattle.hp_mount_files.proofs.Alike.{alike_held}
-use Rattle.hp_mount_files.proofs.Cells.{file_is, no_file}
-use Rattle.hp_mount_files.proofs.GivingBack.{all_kept, in_all, kept_label, waits_shown}
-use Rattle.hp_mount_files.proofs.Level.{level_set, same_level}
-use Rattle.hp_mount_files.proofs.Lifting.{at_most}
-use Rattle.hp_mount_files.proofs.Mapped.{sum_through}
-use Rattle.hp_mount_files.proofs.Staying.{files_stay}
-use Rattle.hp_mount_files.proofs.Stored.{stored_at, stored_pages}
-use Rattle.hp_mount_files.proofs.Unique.{named_shown}
-use Rattle.hp_mount_files.proofs.Views.{files_len, read_is, view}
+use Rattle.hp_lookup.specs.Dropping.{IsDropping, IsLeft}
+use Rattle.hp_lookup.specs.Files.{edited_at, file_at}
+use Rattle.hp_lookup.specs.Held.{IsHeld, in_cell, in_cells, in_file, in_files, more_in}
+use Rattle.hp_lookup.specs.Hints.{AreNoted, IsFiles, IsMoreBut, Noted, has_name as has_noted}
+use Rattle.hp_lookup.specs.Keyed.{Label, has_label, is_key, is_listed, is_name_of, key_of, keys_in, label_of, labels_of, maps_for}
+use Rattle.hp_lookup.specs.Places.{IsNamed}
+use Rattle.hp_lookup.specs.Level.{AreLevel}
+use Rattle.hp_lookup.specs.Numbered.{NumberedFile, file_shown, files_shown, map_shown, numbered_at}
+use Rattle.hp_lookup.proofs.Alike.{alike_held}
+use Rattle.hp_lookup.proofs.Cells.{file_is, no_file}
+use Rattle.hp_lookup.proofs.GivingBack.{all_kept, in_all, kept_label, waits_shown}
+use Rattle.hp_lookup.proofs.Level.{level_set, same_level}
+use Rattle.hp_lookup.proofs.Lifting.{at_most}
+use Rattle.hp_lookup.proofs.Mapped.{sum_through}
+use Rattle.hp_lookup.proofs.Staying.{files_stay}
+use Rattle.hp_lookup.proofs.Stored.{stored_at, stored_pages}
+use Rattle.hp_lookup.proofs.Unique.{named_shown}
+use Rattle.hp_lookup.proofs.Views.{files_len, read_is, view}
 
 -- what code read there twice
 pub same_maps : (s : Store) (fs : List NumberedFile) (k : ℕ) (name : List ℕ) → IsNamed (files_shown s fs) name k → (x z : NumberedFile) →

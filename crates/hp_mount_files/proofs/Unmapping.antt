@@ -20,30 +20,30 @@ use Rattle.hp_model.specs.files.Spot.{Spot, spot, spot_in}
 use Rattle.hp_model.specs.Lists.{found}
 use Rattle.hp_model.proofs.Counting.{count_cons}
 use Rattle.hp_store.specs.Store.{Store, holders_of, page_at}
-use Rattle.hp_mount_files.specs.Dropping.{IsDropping, IsLeft}
-use Rattle.hp_mount_files.specs.Files.{file_at}
-use Rattle.hp_mount_files.specs.Held.{in_file, in_files, in_map, more_in}
-use Rattle.hp_mount_files.specs.Hints.{AreNoted, IsFiles, Noted, has_key, is_pair}
-use Rattle.hp_mount_files.specs.Keyed.{Label, is_listed, key_of, keys_in, label_of, labels_of, maps_for}
-use Rattle.hp_mount_files.specs.Level.{AreLevel}
-use Rattle.hp_mount_files.specs.Leaving.{IsMoreButMap, cut_map, file_owed, is_used, left_at, left_from, map_sum, stays, swept_at}
-use Rattle.hp_mount_files.specs.Numbered.{NumberedFile, file_shown, files_shown, map_shown, mapping_at, no_mapping, numbered_at, place_shown}
-use Rattle.hp_mount_files.specs.Places.{IsFound, mount_with, spot_of}
-use Rattle.hp_mount_files.proofs.Cells.{file_is, no_file}
-use Rattle.hp_mount_files.proofs.Drops.{drop_as, drop_then}
-use Rattle.hp_mount_files.proofs.Ended.{removed_set}
+use Rattle.hp_lookup.specs.Dropping.{IsDropping, IsLeft}
+use Rattle.hp_lookup.specs.Files.{file_at}
+use Rattle.hp_lookup.specs.Held.{in_file, in_files, in_map, more_in}
+use Rattle.hp_lookup.specs.Hints.{AreNoted, IsFiles, Noted, has_key, is_pair}
+use Rattle.hp_lookup.specs.Keyed.{Label, is_listed, key_of, keys_in, label_of, labels_of, maps_for}
+use Rattle.hp_lookup.specs.Level.{AreLevel}
+use Rattle.hp_lookup.specs.Leaving.{IsMoreButMap, cut_map, file_owed, is_used, left_at, left_from, map_sum, stays, swept_at}
+use Rattle.hp_lookup.specs.Numbered.{NumberedFile, file_shown, files_shown, map_shown, mapping_at, no_mapping, numbered_at, place_shown}
+use Rattle.hp_lookup.specs.Places.{IsFound, mount_with, spot_of}
+use Rattle.hp_lookup.proofs.Cells.{file_is, no_file}
+use Rattle.hp_file.proofs.Drops.{drop_as, drop_then}
+use Rattle.hp_file.proofs.Ended.{removed_set}
 use Rattle.hp_mount_files.proofs.Exiting.{keys_are, maps_in}
-use Rattle.hp_mount_files.proofs.FileLeaves.{empty_file}
-use Rattle.hp_mount_files.proofs.Finding.{any_shown}
-use Rattle.hp_mount_files.proofs.Keys.{labels_stay, same_label}
-use Rattle.hp_mount_files.proofs.Leaves.{left_fewer}
-use Rattle.hp_mount_files.proofs.Level.{cut_less, filtered_level, mapped_level}
-use Rattle.hp_mount_files.proofs.Leaving.{keys_less, left_gives, left_keeps, left_noted, left_shows, used_label}
-use Rattle.hp_mount_files.proofs.Lifting.{at_most, map_but}
-use Rattle.hp_mount_files.proofs.Mapped.{map_edited, sum_through}
-use Rattle.hp_mount_files.proofs.Tallies.{own_maps}
-use Rattle.hp_mount_files.proofs.Unique.{alone_at, some_pass}
-use Rattle.hp_mount_files.proofs.Views.{files_len, read_is, view}
+use Rattle.hp_file.proofs.FileLeaves.{empty_file}
+use Rattle.hp_lookup.proofs.Finding.{any_shown}
+use Rattle.hp_lookup.proofs.Keys.{labels_stay, same_label}
+use Rattle.hp_file.proofs.Leaves.{left_fewer}
+use Rattle.hp_lookup.proofs.Level.{cut_less, filtered_level, mapped_level}
+use Rattle.hp_lookup.proofs.Leaving.{keys_less, left_gives, left_keeps, left_noted, left_shows, used_label}
+use Rattle.hp_lookup.proofs.Lifting.{at_most, map_but}
+use Rattle.hp_lookup.proofs.Mapped.{map_edited, sum_through}
+use Rattle.hp_lookup.proofs.Tallies.{own_maps}
+use Rattle.hp_lookup.proofs.Unique.{alone_at, some_pass}
+use Rattle.hp_lookup.proofs.Views.{files_len, read_is, view}
 
 -- ---- lists of which one element changes, and may go
 

@@ -17,9 +17,9 @@ use Rattle.hp_model.specs.files.Mapping.{Map, is_map, is_of}
 use Rattle.hp_model.specs.files.Spot.{spot, spot_in}
 use Rattle.hp_model.proofs.Counting.{count_not, count_outside}
 use Rattle.hp_model.proofs.Distinct.{is_among-append}
-use Rattle.hp_mount_files.specs.declared.files.MapPlace.{MapPlace}
-use Rattle.hp_mount_files.specs.Places.{all_maps, has_it, mount_with, IsFound, IsMissing}
-use Rattle.hp_mount_files.proofs.MapNumbers.{among_distinct, few_among}
+use Rattle.hp_lookup.specs.declared.map_place.MapPlace.{MapPlace}
+use Rattle.hp_lookup.specs.Places.{all_maps, has_it, mount_with, IsFound, IsMissing}
+use Rattle.hp_lookup.proofs.MapNumbers.{among_distinct, few_among}
 
 -- ---- the numbers below n are used
 

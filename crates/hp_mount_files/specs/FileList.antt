@@ -1,7 +1,7 @@
 -- Files in places that they keep, in their order. No public clause cites this module.
 use Rattle.std.specs.Prelude.{◌≢◌, ℕ, ◌+◌, ◌-◌, ◌<◌, ◌≤◌, ◌^◌, List, length, map, min}
 use Rattle.std.specs.List.{All, AllPairs}
-use Rattle.hp_mount_files.specs.Numbered.{NumberedFile, numbered_at}
+use Rattle.hp_lookup.specs.Numbered.{NumberedFile, numbered_at}
 
 -- files in order, and for how many more there is room
 pub record Listed : Type 0 where

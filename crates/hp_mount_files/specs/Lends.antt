@@ -3,8 +3,8 @@ use Rattle.std.specs.Prelude.{ℕ}
 use Rattle.std.specs.Borrow.{Fml, Lends, MutBor}
 use Rattle.std.specs.List.{slice_set}
 use Rattle.hp_mount_files.specs.FileList.{Listed}
-use Rattle.hp_mount_files.specs.Numbered.{NumberedFile}
-use Rattle.hp_mount_files.specs.contracts.file.File.{the_row as file_row}
+use Rattle.hp_lookup.specs.Numbered.{NumberedFile}
+use Rattle.hp_file.specs.contracts.file.File.{the_row as file_row}
 use Rattle.hp_mount_files.specs.contracts.file_list.FileList.{the_row}
 
 -- the list with a file in the place of another

@@ -2,10 +2,10 @@
 ghost use Rattle.std.specs.Prelude.{◌≡◌, ◌+◌, ◌<◌, ◌++◌, ◌∷◌, [], length, slice_index_or, IfNone, IfSome, OnOk, OnErr};
 ghost use Rattle.std.specs.Borrow.{sem};
 ghost use Rattle.std.specs.List.{filter, remove, slice_set};
-ghost use Rattle.hp_mount_files.specs.Leaving.{is_used};
+ghost use Rattle.hp_lookup.specs.Leaving.{is_used};
 
-use crate::file::File;
-use crate::spot::Spot;
+use hp_file::File;
+use hp_lookup::Spot;
 use std::alloc::{AllocError, Global};
 use std::marker::Model;
 use std::mem;

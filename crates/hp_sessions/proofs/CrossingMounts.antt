@@ -19,15 +19,15 @@ use Rattle.hp_mapping.specs.contracts.summed.Summed as Summed
 use Rattle.hp_mapping.specs.contracts.words.Words as Words
 use Rattle.hp_model.specs.declared.naming.Naming.{Ghosts}
 use Rattle.hp_mount.specs.contracts.mount.Mount as Mount
-use Rattle.hp_mount_files.specs.contracts.file.File as File
+use Rattle.hp_file.specs.contracts.file.File as File
 use Rattle.hp_mount_files.specs.contracts.file_list.FileList as FileList
 use Rattle.hp_mount_files.specs.contracts.files.Files as Files
-use Rattle.hp_mount_files.specs.contracts.hints.Hints as Hints
-use Rattle.hp_mount_files.specs.contracts.name.FileName as FileName
-use Rattle.hp_mount_files.specs.contracts.name.FileName.TheInside as FileNameInside
-use Rattle.hp_mount_files.specs.contracts.name_bytes.NameBytes as NameBytes
-use Rattle.hp_mount_files.specs.contracts.tagged.Tagged as Tagged
-use Rattle.hp_mount_files.specs.contracts.task_counts.TaskCounts as TaskCounts
+use Rattle.hp_lookup.specs.contracts.hints.Hints as Hints
+use Rattle.hp_lookup.specs.contracts.name.FileName as FileName
+use Rattle.hp_lookup.specs.contracts.name.FileName.TheInside as FileNameInside
+use Rattle.hp_lookup.specs.contracts.name_bytes.NameBytes as NameBytes
+use Rattle.hp_lookup.specs.contracts.tagged.Tagged as Tagged
+use Rattle.hp_lookup.specs.contracts.task_counts.TaskCounts as TaskCounts
 use Rattle.hp_nodes.proofs.Crossing.{page_send}
 use Rattle.hp_permit.proofs.Crossing.{permit_send}
 use Rattle.hp_store.specs.contracts.holdings.Holdings as Holdings

@@ -9,7 +9,7 @@ ghost use Rattle.hp_model.specs.machine.Event.{has_maps_of};
 ghost use Rattle.hp_model.specs.machine.Accesses.{done_reply};
 ghost use Rattle.hp_store.specs.Store.{Store as StoreValue};
 ghost use Rattle.hp_subpool.specs.Subpool.{Subpool as ShareValue};
-ghost use Rattle.hp_mount_files.specs.Places.{IsFirstTask};
+ghost use Rattle.hp_lookup.specs.Places.{IsFirstTask};
 ghost use Rattle.hp_mount.specs.Done.{IsDone};
 
 use super::Mount;

@@ -7,10 +7,10 @@ ghost use Rattle.hp_model.specs.files.Mapping.{copy_of, is_live, is_shared, plac
 ghost use Rattle.hp_model.specs.files.MountCounts.{usage_of};
 ghost use Rattle.hp_model.specs.files.Page.{Page as PageValue};
 ghost use Rattle.hp_model.specs.machine.Promises.{file_in, is_backed, map_in};
-ghost use Rattle.hp_mount_files.specs.declared.copy_state.CopyState.TheVariants as CopyState;
-ghost use Rattle.hp_mount_files.specs.Files.{file_at};
-ghost use Rattle.hp_mount_files.specs.Places.{shown_at};
-ghost use Rattle.hp_mount_files.specs.States.{AreAgreed, IsCopyState};
+ghost use Rattle.hp_lookup.specs.declared.copy_state.CopyState.TheVariants as CopyState;
+ghost use Rattle.hp_lookup.specs.Files.{file_at};
+ghost use Rattle.hp_lookup.specs.Places.{shown_at};
+ghost use Rattle.hp_file.specs.States.{AreAgreed, IsCopyState};
 ghost use Rattle.hp_subpool.specs.Subpool.{Subpool as ShareValue};
 ghost use Rattle.hp_mount.specs.Done.{IsAccessed};
 ghost use Rattle.hp_mount.specs.Found.{IsTouched, NeedsCopy, has_reserve, shows_page as is_shown, spot_at};

@@ -11,13 +11,13 @@ ghost use Rattle.hp_model.specs.files.Page.{Page};
 ghost use Rattle.hp_model.specs.machine.SlotEvent.{unentered};
 ghost use Rattle.hp_mount_door.specs.Door.{by_node};
 ghost use Rattle.hp_mount_door.specs.Filling.{AreRising};
-ghost use Rattle.hp_mount_files.specs.Files.{file_at, filled_at};
-ghost use Rattle.hp_mount_files.specs.Filling.{IsTaking, entered_at, pages_at, reply_of, zeros_at};
+ghost use Rattle.hp_lookup.specs.Files.{file_at, filled_at};
+ghost use Rattle.hp_file.specs.Filling.{IsTaking, entered_at, pages_at, reply_of, zeros_at};
 ghost use Rattle.hp_store.specs.Batch.{Batch as BatchValue};
 ghost use Rattle.hp_subpool.specs.Subpool.{Subpool as ShareValue, is_full, used};
 
 use super::Files;
-use crate::file::CellState;
+use hp_file::CellState;
 use hp_model::naming::Naming;
 use hp_model::refusal::Refusal;
 use hp_mount_door::PoolDoor;

@@ -5,16 +5,15 @@ ghost use Rattle.hp_model.specs.files.GiveBack.{file_unmapped, file_without, is_
 ghost use Rattle.hp_model.specs.files.Mapping.{is_map};
 ghost use Rattle.hp_model.specs.files.MountCounts.{file_reserves};
 ghost use Rattle.hp_store.specs.Store.{holders_of, page_at};
-ghost use Rattle.hp_mount_files.specs.Dropping.{HasHolders, IsDropping, IsLeft};
-ghost use Rattle.hp_mount_files.specs.Places.{IsFirstTask, IsFound, all_maps};
-ghost use Rattle.hp_mount_files.specs.Held.{in_files, more_in};
-ghost use Rattle.hp_mount_files.specs.Keyed.{is_listed, labels_of, maps_for};
-ghost use Rattle.hp_mount_files.specs.Leaving.{HasLeft, file_owed, map_sum, swept_at};
+ghost use Rattle.hp_lookup.specs.Dropping.{HasHolders, IsDropping, IsLeft};
+ghost use Rattle.hp_lookup.specs.Places.{IsFirstTask, IsFound, all_maps};
+ghost use Rattle.hp_lookup.specs.Held.{in_files, more_in};
+ghost use Rattle.hp_lookup.specs.Keyed.{is_listed, labels_of, maps_for};
+ghost use Rattle.hp_lookup.specs.Leaving.{HasLeft, file_owed, map_sum, swept_at};
 
 use super::{Files, MapPlace};
-use crate::departed::Departed;
 use crate::file_list::FileList;
-use crate::hints::Hints;
+use hp_lookup::{Departed, Hints};
 use hp_model::naming::Naming;
 use hp_store::PageStore;
 

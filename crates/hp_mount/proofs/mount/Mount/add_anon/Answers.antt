@@ -2,7 +2,7 @@ use Rattle.std.proofs.Common.{◌<◌, None, Ok, Some, length, refl, sym, ap, su
 use Rattle.hp_model.specs.declared.answer.Answer.TheVariants.{MapNo}
 use Rattle.hp_model.specs.files.File.{Mount, new_file}
 use Rattle.hp_model.specs.files.MakeMap.{with_new}
-use Rattle.hp_mount_files.specs.Asking.{with_range}
+use Rattle.hp_lookup.specs.Asking.{with_range}
 use Rattle.hp_mount.specs.Done.{Tried}
 use Rattle.hp_mount.specs.Kept.{mount_of}
 use Rattle.hp_mount.specs.Making.{anon_plan}

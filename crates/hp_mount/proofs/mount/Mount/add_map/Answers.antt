@@ -1,8 +1,8 @@
 use Rattle.std.proofs.Common.{◌<◌, Ok, Err, Some, length, refl, sym, ap, subst, ◌∙◌}
 use Rattle.hp_model.specs.declared.answer.Answer.TheVariants.{MapNo}
 use Rattle.hp_model.specs.files.File.{Mount, with_file}
-use Rattle.hp_mount_files.specs.Asking.{IsAsked, IsGranted, with_range}
-use Rattle.hp_mount_files.specs.Files.{file_at}
+use Rattle.hp_lookup.specs.Asking.{IsAsked, IsGranted, with_range}
+use Rattle.hp_lookup.specs.Files.{file_at}
 use Rattle.hp_mount.specs.Done.{Tried}
 use Rattle.hp_mount.specs.Kept.{mount_of}
 use Rattle.hp_mount.specs.Making.{map_plan}

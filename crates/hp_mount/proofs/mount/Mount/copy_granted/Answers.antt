@@ -10,7 +10,7 @@ use Rattle.hp_model.specs.files.Value.{value}
 use Rattle.hp_model.specs.machine.Promises.{file_in, map_in}
 use Rattle.hp_model.specs.pool.Grant as grant
 use Rattle.hp_mount_door.specs.Door.{with_granted}
-use Rattle.hp_mount_files.specs.Files.{Files, copied_at, file_at}
+use Rattle.hp_lookup.specs.Files.{Files, copied_at, file_at}
 use Rattle.hp_mount.specs.Found.{has_reserve, with_place_at}
 use Rattle.hp_mount.specs.Kept.{IsKept, mount_of}
 use Rattle.hp_mount.proofs.Copying as keeps

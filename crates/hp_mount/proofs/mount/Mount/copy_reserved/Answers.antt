@@ -19,7 +19,7 @@ use Rattle.std.specs.List.{flat_map}
 use Rattle.hp_model.specs.files.MountCounts.{stamps_of}
 use Rattle.hp_model.specs.Lists.{is_among}
 use Rattle.hp_mount.specs.Kept.{IsKept, mount_of}
-use Rattle.hp_mount_files.specs.Files.{Files, copied_at, file_at}
+use Rattle.hp_lookup.specs.Files.{Files, copied_at, file_at}
 use Rattle.hp_mount.proofs.mount.Mount.copy_reserved.Given.{Over}
 use Rattle.hp_mount.proofs.mount.Mount.copy_reserved.Goals as goal
 use Rattle.hp_mount.proofs.mount.Mount.copy_reserved.Goals.{After-self}

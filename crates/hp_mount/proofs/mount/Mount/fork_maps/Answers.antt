@@ -9,9 +9,9 @@ use Rattle.hp_model.specs.files.File.{Mount, maps_of}
 use Rattle.hp_model.specs.files.MakeMap.{tasks_of}
 use Rattle.hp_model.specs.machine.Plan.{gives}
 use Rattle.hp_model.specs.threads.LocalRun.{ThroughDoor}
-use Rattle.hp_mount_files.proofs.NewKey.{byte_few, byte_is}
+use Rattle.hp_lookup.proofs.NewKey.{byte_few, byte_is}
 use Rattle.hp_mount.specs.Done.{IsDone}
-use Rattle.hp_mount_files.specs.Files.{Files}
+use Rattle.hp_lookup.specs.Files.{Files}
 use Rattle.hp_mount.specs.Kept.{IsKept, mount_of}
 use Rattle.hp_mount.proofs.Forking.{forks, maps_are, no_memory, tasks_are, too_many}
 use Rattle.hp_mount.proofs.Giving.{gave_through, keeps, leaves}

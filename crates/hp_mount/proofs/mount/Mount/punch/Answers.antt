@@ -7,7 +7,7 @@ use Rattle.hp_model.specs.files.GiveBack.{punched}
 use Rattle.hp_model.specs.machine.Plan.{gives}
 use Rattle.hp_model.specs.machine.SlotEvent.{edited, is_bad_range}
 use Rattle.hp_model.specs.threads.LocalRun.{ThroughDoor}
-use Rattle.hp_mount_files.specs.Files.{file_at}
+use Rattle.hp_lookup.specs.Files.{file_at}
 use Rattle.hp_mount.specs.Done.{IsDone}
 use Rattle.hp_mount.specs.Kept.{mount_of}
 use Rattle.hp_mount.proofs.Giving.{bad_range, gave_back, given, good_range, kept, left_is, nowhere, out_of_range}

@@ -16,9 +16,9 @@ use Rattle.hp_model.specs.machine.Promises.{file_in, map_in}
 use Rattle.hp_model.specs.pool.Grant as grant
 use Rattle.hp_model.specs.pool.Pool.{no_pages}
 use Rattle.hp_mount_door.specs.Door.{IsDoorRefusal, with_granted}
-use Rattle.hp_mount_files.specs.Dropping.{IsLeft}
-use Rattle.hp_mount_files.specs.Files.{Files, file_at, parted_at, taken_back_at}
-use Rattle.hp_mount_files.specs.States.{AreAgreed}
+use Rattle.hp_lookup.specs.Dropping.{IsLeft}
+use Rattle.hp_lookup.specs.Files.{Files, file_at, parted_at, taken_back_at}
+use Rattle.hp_file.specs.States.{AreAgreed}
 use Rattle.hp_mount.specs.Found.{IsTouched, with_place_at}
 use Rattle.hp_mount.specs.Kept.{IsKept, mount_of}
 use Rattle.hp_mount.proofs.Copying as keeps

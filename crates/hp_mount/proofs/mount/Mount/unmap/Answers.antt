@@ -9,7 +9,7 @@ use Rattle.hp_model.specs.files.GiveBack.{file_unmapped, is_kept, unmapped_from}
 use Rattle.hp_model.specs.files.Mapping.{is_map}
 use Rattle.hp_model.specs.machine.Plan.{gives}
 use Rattle.hp_model.specs.threads.LocalRun.{ThroughDoor}
-use Rattle.hp_mount_files.specs.Places.{spot_of}
+use Rattle.hp_lookup.specs.Places.{spot_of}
 use Rattle.hp_mount.specs.Done.{IsDone}
 use Rattle.hp_mount.specs.Kept.{mount_of}
 use Rattle.hp_mount.proofs.Giving.{gave_through, keeps, leaves}

@@ -2,7 +2,7 @@ use Rattle.std.proofs.Common.{◌<◌, ◌≤◌, length, refl, sym, ap, subst, 
 use Rattle.hp_model.specs.files.File.{Mount, cell_at, with_cell, with_file}
 use Rattle.hp_model.specs.machine.Promises.{file_in}
 use Rattle.hp_model.specs.files.Spot.{cell_written}
-use Rattle.hp_mount_files.specs.Files.{Files, file_at}
+use Rattle.hp_lookup.specs.Files.{Files, file_at}
 use Rattle.hp_mount.proofs.Commands.{write_grows}
 use Rattle.hp_mount.proofs.Keeping.{grown}
 use Rattle.hp_mount.proofs.mount.Mount.write.Goals as goal

@@ -3,9 +3,9 @@ use Rattle.hp_laws.proofs.Copies.{live_of}
 use Rattle.hp_model.specs.files.File.{Mount, file_in, map_in, with_map}
 use Rattle.hp_model.specs.files.Mapping.{place_at, with_place}
 use Rattle.hp_model.specs.files.Spot.{place_written}
-use Rattle.hp_mount_files.specs.declared.copy_state.CopyState.TheVariants as state
-use Rattle.hp_mount_files.specs.Files.{Files, file_at}
-use Rattle.hp_mount_files.specs.States.{IsCopyState}
+use Rattle.hp_lookup.specs.declared.copy_state.CopyState.TheVariants as state
+use Rattle.hp_lookup.specs.Files.{Files, file_at}
+use Rattle.hp_file.specs.States.{IsCopyState}
 use Rattle.hp_mount.proofs.Commands.{private_grows}
 use Rattle.hp_mount.proofs.Keeping.{grown}
 use Rattle.hp_mount.proofs.mount.Mount.write_copy.Goals as goal

@@ -1,6 +1,6 @@
 use Rattle.std.specs.Prelude.{◌≡◌, ◌≤◌, ◌++◌, drop, length, take}
 use Rattle.std.specs.List.{filter}
-use Rattle.hp_mount_files.specs.Leaving.{is_used}
+use Rattle.hp_lookup.specs.Leaving.{is_used}
 use Rattle.hp_mount_files.proofs.file_list.FileList.retain_used.Given as goal
 
 abbrev pub invariant-loop-at : goal.invariant-loop-at

@@ -3,7 +3,7 @@ use Rattle.std.specs.Prelude.{slice_index_or, slice_set, vec_capacity}
 use Rattle.std.proofs.lemmas.Grind.{get_or_default_zero}
 use Rattle.std.proofs.lemmas.List.{get_or-map, get_or_default, length-map}
 use Rattle.hp_mount_files.specs.FileList.{Listed, files_in}
-use Rattle.hp_mount_files.specs.Numbered.{NumberedFile, numbered_at}
+use Rattle.hp_lookup.specs.Numbered.{NumberedFile, numbered_at}
 use Rattle.hp_mount_files.proofs.Listed.{set_files}
 use Rattle.hp_mount_files.proofs.file_list.FileListIndexMutUsize.index_mut.Goals as goal
 

@@ -2,8 +2,8 @@ use Rattle.std.proofs.Common.{◌<◌, length, sym, subst, ap, ◌∙◌}
 use Rattle.hp_model.specs.files.File.{cell_at}
 use Rattle.hp_model.specs.files.Value.{shown}
 use Rattle.hp_store.specs.Store.{page_at}
-use Rattle.hp_mount_files.specs.Files.{Files, file_at}
-use Rattle.hp_mount_files.proofs.Views.{bytes_same, no_page_bytes, page_bytes}
+use Rattle.hp_lookup.specs.Files.{Files, file_at}
+use Rattle.hp_lookup.proofs.Views.{bytes_same, no_page_bytes, page_bytes}
 use Rattle.hp_mount_files.proofs.files.Files.bytes.Goals as goal
 
 pub returns-in-Some-clause-some : goal.returns-in-Some-clause-some

@@ -2,10 +2,10 @@ use Rattle.std.proofs.Common.{◌≡◌, [], ap, sym, ◌∙◌, arith}
 use Rattle.std.specs.List.{sum_by}
 use Rattle.std.proofs.lemmas.List.Sums.{sum_by_push}
 use Rattle.hp_model.specs.files.MountCounts.{file_pages, file_pages_at}
-use Rattle.hp_mount_files.specs.Files.{Files}
-use Rattle.hp_mount_files.specs.Held.{in_file, in_files}
-use Rattle.hp_mount_files.proofs.Drops.{drop_then, gone_nodes, gone_pages}
-use Rattle.hp_mount_files.proofs.Stored.{stored_at, stored_pages}
+use Rattle.hp_lookup.specs.Files.{Files}
+use Rattle.hp_lookup.specs.Held.{in_file, in_files}
+use Rattle.hp_file.proofs.Drops.{drop_then, gone_nodes, gone_pages}
+use Rattle.hp_lookup.proofs.Stored.{stored_at, stored_pages}
 use Rattle.hp_mount_files.proofs.files.Files.close.Goals as goal
 
 pub close-requires-clause-held : goal.close-requires-clause-held

@@ -1,6 +1,6 @@
 use Rattle.std.specs.Prelude.{◌≡◌, length}
-use Rattle.hp_mount_files.specs.Dropping.{IsDropping}
-use Rattle.hp_mount_files.specs.Held.{in_files, more_in}
+use Rattle.hp_lookup.specs.Dropping.{IsDropping}
+use Rattle.hp_lookup.specs.Held.{in_files, more_in}
 use Rattle.hp_mount_files.proofs.files.Files.close.Given as goal
 
 abbrev pub invariant-loop-file : goal.invariant-loop-file

@@ -5,11 +5,11 @@ use Rattle.std.proofs.lemmas.Bool.Decides.{nat_tests}
 use Rattle.hp_model.specs.files.Mapping.{place_at}
 use Rattle.hp_model.specs.files.MountCounts.{file_pages}
 use Rattle.hp_store.specs.Store.{holders_of, page_at}
-use Rattle.hp_mount_files.specs.declared.copy_state.CopyState.TheVariants as state
-use Rattle.hp_mount_files.specs.Files.{Files, file_at}
-use Rattle.hp_mount_files.specs.Numbered.{copy_shown}
-use Rattle.hp_mount_files.specs.Places.{map_at}
-use Rattle.hp_mount_files.specs.States.{AreAgreed, IsCopyState}
+use Rattle.hp_lookup.specs.declared.copy_state.CopyState.TheVariants as state
+use Rattle.hp_lookup.specs.Files.{Files, file_at}
+use Rattle.hp_lookup.specs.Numbered.{copy_shown}
+use Rattle.hp_lookup.specs.Places.{map_at}
+use Rattle.hp_file.specs.States.{AreAgreed, IsCopyState}
 use Rattle.hp_mount_files.proofs.CopyHeld.{agreed_there, copy_there, few_there, held_once}
 use Rattle.hp_mount_files.proofs.Here.{file_here, map_here}
 use Rattle.hp_mount_files.proofs.files.Files.copy.Goals as goal

@@ -1,9 +1,9 @@
 use Rattle.std.proofs.Common.{◌≡◌, ◌∷◌, ◌++◌, [], true, None, Some, ap, subst, sym, ◌∙◌}
 use Rattle.hp_model.specs.Lists.{found}
 use Rattle.hp_model.specs.machine.SlotEvent.{has_name}
-use Rattle.hp_mount_files.specs.Tally.{count_of}
-use Rattle.hp_mount_files.specs.Files.{Files}
-use Rattle.hp_mount_files.specs.Hints.{IsMoreByName, has_name as has_noted}
+use Rattle.hp_lookup.specs.Tally.{count_of}
+use Rattle.hp_lookup.specs.Files.{Files}
+use Rattle.hp_lookup.specs.Hints.{IsMoreByName, has_name as has_noted}
 use Rattle.hp_mount_files.proofs.Creating.{created}
 use Rattle.hp_mount_files.proofs.files.Files.create.Goals as goal
 

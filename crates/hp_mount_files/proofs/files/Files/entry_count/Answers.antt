@@ -1,8 +1,8 @@
 use Rattle.std.proofs.Common.{◌<◌, length, sym, subst, ap, ◌∙◌}
 use Rattle.std.specs.List.{count_by}
 use Rattle.hp_model.specs.files.File.{File, is_entered}
-use Rattle.hp_mount_files.specs.Files.{Files, file_at}
-use Rattle.hp_mount_files.proofs.Views.{entries_shown, file_read}
+use Rattle.hp_lookup.specs.Files.{Files, file_at}
+use Rattle.hp_lookup.proofs.Views.{entries_shown, file_read}
 use Rattle.hp_mount_files.proofs.files.Files.entry_count.Goals as goal
 
 pub returns : goal.returns

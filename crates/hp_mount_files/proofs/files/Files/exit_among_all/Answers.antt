@@ -2,13 +2,13 @@ use Rattle.std.proofs.Common.{◌≡◌, map, ap, subst, sym, refl, ◌∙◌, a
 use Rattle.std.specs.List.{filter, sum_by}
 use Rattle.hp_model.specs.files.GiveBack.{file_without, is_kept}
 use Rattle.hp_model.specs.files.MountCounts.{file_reserves}
-use Rattle.hp_mount_files.specs.Dropping.{IsLeft}
-use Rattle.hp_mount_files.specs.Files.{Files}
+use Rattle.hp_lookup.specs.Dropping.{IsLeft}
+use Rattle.hp_lookup.specs.Files.{Files}
 use Rattle.hp_mount_files.proofs.Exiting.{exit_files, exit_keeps, exit_left}
-use Rattle.hp_mount_files.proofs.GivingBack.{all_kept}
-use Rattle.hp_mount_files.proofs.Leaving.{files_owe}
+use Rattle.hp_lookup.proofs.GivingBack.{all_kept}
+use Rattle.hp_lookup.proofs.Leaving.{files_owe}
 use Rattle.hp_mount_files.proofs.OneByOne.{none_leaves}
-use Rattle.hp_mount_files.proofs.Views.{view}
+use Rattle.hp_lookup.proofs.Views.{view}
 use Rattle.hp_mount_files.proofs.files.Files.exit_among_all.Goals as goal
 
 pub drop_maps_of-gone-requires-clause-few : goal.drop_maps_of-gone-requires-clause-few

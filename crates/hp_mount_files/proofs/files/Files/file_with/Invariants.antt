@@ -1,6 +1,6 @@
 use Rattle.std.specs.Prelude.{◌≡◌, ℕ, ◌<◌, false, slice_index_or}
-use Rattle.hp_mount_files.specs.Numbered.{NumberedFile}
-use Rattle.hp_mount_files.proofs.Finding.{has_numbered}
+use Rattle.hp_lookup.specs.Numbered.{NumberedFile}
+use Rattle.hp_lookup.proofs.Finding.{has_numbered}
 use Rattle.hp_mount_files.proofs.files.Files.file_with.Given as goal
 
 abbrev pub invariant-loop-at : goal.invariant-loop-at

@@ -1,9 +1,9 @@
 use Rattle.std.proofs.Common.{arith, ◌≡◌, subst}
 use Rattle.std.specs.Prelude.{IfNone, IfSome, []}
-use Rattle.hp_mount_files.specs.Files.{Files}
-use Rattle.hp_mount_files.specs.Numbered.{files_shown}
-use Rattle.hp_mount_files.specs.Places.{IsFirstTask, all_maps}
-use Rattle.hp_mount_files.proofs.FirstTask.{all_tasks_are, first_none, first_some}
+use Rattle.hp_lookup.specs.Files.{Files}
+use Rattle.hp_lookup.specs.Numbered.{files_shown}
+use Rattle.hp_lookup.specs.Places.{IsFirstTask, all_maps}
+use Rattle.hp_file.proofs.FirstTask.{all_tasks_are, first_none, first_some}
 use Rattle.hp_mount_files.proofs.files.Files.first_task.Goals as goal
 
 pub returns-clause-some : goal.returns-clause-some

@@ -1,6 +1,6 @@
 use Rattle.std.specs.Prelude.{◌≡◌, None, take}
-use Rattle.hp_mount_files.specs.Leaving.{least_among}
-use Rattle.hp_mount_files.proofs.FirstTask.{tasks_of}
+use Rattle.hp_lookup.specs.Leaving.{least_among}
+use Rattle.hp_file.proofs.FirstTask.{tasks_of}
 use Rattle.hp_mount_files.proofs.files.Files.first_task.Given as goal
 
 abbrev pub invariant-loop-at : goal.invariant-loop-at

@@ -1,8 +1,8 @@
 use Rattle.std.proofs.Common.{[], ◌-◌, refl, ap, ◌∙◌}
 use Rattle.hp_store.specs.Store.{Store}
-use Rattle.hp_mount_files.specs.Files.{Files}
-use Rattle.hp_mount_files.proofs.Staying.{files_stay}
-use Rattle.hp_mount_files.proofs.Views.{view}
+use Rattle.hp_lookup.specs.Files.{Files}
+use Rattle.hp_lookup.proofs.Staying.{files_stay}
+use Rattle.hp_lookup.proofs.Views.{view}
 use Rattle.hp_mount_files.proofs.files.Files.give_back.Goals as goal
 
 pub returns-clause-going : goal.returns-clause-going

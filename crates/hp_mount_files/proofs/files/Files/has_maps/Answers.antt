@@ -1,7 +1,7 @@
 use Rattle.std.proofs.Common.{ap, not, ◌∙◌}
-use Rattle.hp_mount_files.specs.Asking.{is_first_of}
-use Rattle.hp_mount_files.specs.Files.{Files}
-use Rattle.hp_mount_files.proofs.Tallies.{has_some}
+use Rattle.hp_lookup.specs.Asking.{is_first_of}
+use Rattle.hp_lookup.specs.Files.{Files}
+use Rattle.hp_lookup.proofs.Tallies.{has_some}
 use Rattle.hp_mount_files.proofs.files.Files.has_maps.Goals as goal
 
 pub returns : goal.returns

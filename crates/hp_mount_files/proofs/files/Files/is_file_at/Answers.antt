@@ -1,8 +1,8 @@
 use Rattle.std.proofs.Common.{subst, sym, ◌∙◌, arith}
-use Rattle.hp_mount_files.specs.Tally.{count_of}
-use Rattle.hp_mount_files.specs.Files.{Files}
-use Rattle.hp_mount_files.specs.Places.{IsNamed}
-use Rattle.hp_mount_files.proofs.Unique.{named_here}
+use Rattle.hp_lookup.specs.Tally.{count_of}
+use Rattle.hp_lookup.specs.Files.{Files}
+use Rattle.hp_lookup.specs.Places.{IsNamed}
+use Rattle.hp_lookup.proofs.Unique.{named_here}
 use Rattle.hp_mount_files.proofs.files.Files.is_file_at.Goals as goal
 
 pub returns : goal.returns

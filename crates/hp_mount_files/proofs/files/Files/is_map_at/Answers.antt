@@ -1,8 +1,8 @@
 use Rattle.std.proofs.Common.{subst, arith}
-use Rattle.hp_mount_files.specs.Tally.{count_of}
-use Rattle.hp_mount_files.specs.Files.{Files}
-use Rattle.hp_mount_files.specs.Places.{IsFound}
-use Rattle.hp_mount_files.proofs.Unique.{map_here}
+use Rattle.hp_lookup.specs.Tally.{count_of}
+use Rattle.hp_lookup.specs.Files.{Files}
+use Rattle.hp_lookup.specs.Places.{IsFound}
+use Rattle.hp_lookup.proofs.Unique.{map_here}
 use Rattle.hp_mount_files.proofs.files.Files.is_map_at.Goals as goal
 
 pub returns : goal.returns

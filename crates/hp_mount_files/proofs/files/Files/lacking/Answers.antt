@@ -3,10 +3,10 @@ use Rattle.std.specs.List.{count_by}
 use Rattle.hp_model.specs.files.File.{at_least}
 use Rattle.hp_model.specs.files.Fill.{lacking, lacks_page}
 use Rattle.hp_model.specs.Lists.{part}
-use Rattle.hp_mount_files.specs.Files.{Files, file_at}
-use Rattle.hp_mount_files.specs.Numbered.{NumberedFile}
-use Rattle.hp_mount_files.proofs.Filling.{lacking_shown}
-use Rattle.hp_mount_files.proofs.Views.{files_len, read_is}
+use Rattle.hp_lookup.specs.Files.{Files, file_at}
+use Rattle.hp_lookup.specs.Numbered.{NumberedFile}
+use Rattle.hp_file.proofs.Filling.{lacking_shown}
+use Rattle.hp_lookup.proofs.Views.{files_len, read_is}
 use Rattle.hp_mount_files.proofs.files.Files.lacking.Goals as goal
 
 pub returns : goal.returns

@@ -1,6 +1,6 @@
 use Rattle.std.proofs.Common.{sym, ◌∙◌}
 use Rattle.hp_model.specs.files.MakeMap.{numbers_of}
-use Rattle.hp_mount_files.specs.Places.{all_maps}
+use Rattle.hp_lookup.specs.Places.{all_maps}
 use Rattle.hp_mount_files.proofs.Used.{least_is, used_next}
 use Rattle.hp_mount_files.proofs.files.Files.least_unused.Goals as goal
 

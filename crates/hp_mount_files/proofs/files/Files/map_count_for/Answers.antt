@@ -1,9 +1,9 @@
 use Rattle.std.proofs.Common.{ap, ◌∙◌}
 use Rattle.std.specs.List.{count_by}
 use Rattle.hp_model.specs.files.Mapping.{is_of}
-use Rattle.hp_mount_files.specs.Files.{Files}
-use Rattle.hp_mount_files.specs.Places.{all_maps}
-use Rattle.hp_mount_files.proofs.Tallies.{maps_tallied}
+use Rattle.hp_lookup.specs.Files.{Files}
+use Rattle.hp_lookup.specs.Places.{all_maps}
+use Rattle.hp_lookup.proofs.Tallies.{maps_tallied}
 use Rattle.hp_mount_files.proofs.files.Files.map_count_for.Goals as goal
 
 pub returns : goal.returns

@@ -1,9 +1,9 @@
 use Rattle.std.proofs.Common.{◌<◌, length, sym, subst, ap, ◌∙◌}
 use Rattle.std.proofs.lemmas.List.{length-map}
 use Rattle.hp_model.specs.files.File.{File}
-use Rattle.hp_mount_files.specs.Files.{Files, file_at}
-use Rattle.hp_mount_files.specs.Numbered.{map_shown}
-use Rattle.hp_mount_files.proofs.Views.{file_read}
+use Rattle.hp_lookup.specs.Files.{Files, file_at}
+use Rattle.hp_lookup.specs.Numbered.{map_shown}
+use Rattle.hp_lookup.proofs.Views.{file_read}
 use Rattle.hp_mount_files.proofs.files.Files.map_count_of.Goals as goal
 
 pub returns : goal.returns

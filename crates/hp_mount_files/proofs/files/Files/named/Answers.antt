@@ -1,9 +1,9 @@
 use Rattle.std.proofs.Common.{◌≡◌, None, subst}
 use Rattle.hp_model.specs.Lists.{found}
 use Rattle.hp_model.specs.machine.SlotEvent.{has_name}
-use Rattle.hp_mount_files.specs.Tally.{count_of}
-use Rattle.hp_mount_files.specs.Files.{Files}
-use Rattle.hp_mount_files.proofs.Unique.{no_name_here}
+use Rattle.hp_lookup.specs.Tally.{count_of}
+use Rattle.hp_lookup.specs.Files.{Files}
+use Rattle.hp_lookup.proofs.Unique.{no_name_here}
 use Rattle.hp_mount_files.proofs.files.Files.named.Goals as goal
 
 pub returns-in_default-clause-none : goal.returns-in_default-clause-none

@@ -2,12 +2,12 @@ use Rattle.std.proofs.Common.{◌≡◌, ◌∙◌, ◌<◌, ◌≤◌, None, ap
 use Rattle.std.proofs.lemmas.List.Sums.{position_or_len_is}
 use Rattle.hp_model.specs.Lists.{found}
 use Rattle.hp_model.specs.machine.SlotEvent.{has_name}
-use Rattle.hp_mount_files.specs.Files.{Files}
-use Rattle.hp_mount_files.specs.Keyed.{has_label, label_of}
-use Rattle.hp_mount_files.specs.Numbered.{NumberedFile}
-use Rattle.hp_mount_files.specs.Places.{IsNamed}
-use Rattle.hp_mount_files.proofs.Cells.{no_file}
-use Rattle.hp_mount_files.proofs.Unique.{named_first, named_nowhere}
+use Rattle.hp_lookup.specs.Files.{Files}
+use Rattle.hp_lookup.specs.Keyed.{has_label, label_of}
+use Rattle.hp_lookup.specs.Numbered.{NumberedFile}
+use Rattle.hp_lookup.specs.Places.{IsNamed}
+use Rattle.hp_lookup.proofs.Cells.{no_file}
+use Rattle.hp_lookup.proofs.Unique.{named_first, named_nowhere}
 use Rattle.hp_mount_files.proofs.files.Files.named_among_all.Goals as goal
 
 pub returns-then-is_named-clause-some : goal.returns-then-is_named-clause-some

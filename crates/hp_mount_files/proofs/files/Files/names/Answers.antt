@@ -4,9 +4,9 @@ use Rattle.std.specs.Prelude.{vec_len, vec_capacity}
 use Rattle.std.proofs.lemmas.List.{length-append, take_all, take_more}
 use Rattle.std.proofs.lemmas.List.Elements.{All-nil}
 use Rattle.hp_model.specs.files.File.{File}
-use Rattle.hp_mount_files.specs.Files.{Files}
+use Rattle.hp_lookup.specs.Files.{Files}
 use Rattle.hp_mount_files.proofs.Listing.{AreShort, names_in, names_more, names_none, names_same, names_shown, short_more}
-use Rattle.hp_mount_files.proofs.Views.{files_len}
+use Rattle.hp_lookup.proofs.Views.{files_len}
 use Rattle.hp_mount_files.proofs.files.Files.names.Goals.{in-Some+in_ok-copied, in_default}
 use Rattle.hp_mount_files.proofs.files.Files.names.Goals as goal
 

@@ -5,13 +5,13 @@ use Rattle.hp_mapping.specs.Mapped.{at_place, with_copy}
 use Rattle.hp_model.specs.files.Mapping.{place_at}
 use Rattle.hp_model.specs.files.MountCounts.{stamps_of}
 use Rattle.hp_model.specs.Lists.{is_among}
-use Rattle.hp_mount_files.specs.Tally.{count_of}
-use Rattle.hp_mount_files.specs.declared.copy_state.CopyState.TheVariants as state
-use Rattle.hp_mount_files.specs.Files.{Files, parted_at}
-use Rattle.hp_mount_files.specs.Keyed.{label_of}
-use Rattle.hp_mount_files.specs.Numbered.{files_shown, mapping_at}
-use Rattle.hp_mount_files.specs.Places.{map_at}
-use Rattle.hp_mount_files.proofs.Keys.{files_same, same_label}
+use Rattle.hp_lookup.specs.Tally.{count_of}
+use Rattle.hp_lookup.specs.declared.copy_state.CopyState.TheVariants as state
+use Rattle.hp_lookup.specs.Files.{Files, parted_at}
+use Rattle.hp_lookup.specs.Keyed.{label_of}
+use Rattle.hp_lookup.specs.Numbered.{files_shown, mapping_at}
+use Rattle.hp_lookup.specs.Places.{map_at}
+use Rattle.hp_lookup.proofs.Keys.{files_same, same_label}
 use Rattle.hp_mount_files.proofs.Parting.{number, part_keeps, part_levels, part_once, part_view, room_there, still_there}
 use Rattle.hp_mount_files.proofs.PutCopy.{put_fresh}
 use Rattle.hp_mount_files.proofs.Here.{file_here, map_here, place_here, state_here}

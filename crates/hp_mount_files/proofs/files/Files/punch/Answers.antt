@@ -1,11 +1,11 @@
 use Rattle.std.proofs.Common.{◌<◌, length, ap, subst, sym, ◌∙◌}
 use Rattle.std.specs.Prelude.{slice_set}
 use Rattle.hp_model.specs.files.GiveBack.{punched}
-use Rattle.hp_mount_files.specs.Tally.{count_of}
-use Rattle.hp_mount_files.specs.Dropping.{IsLeft}
-use Rattle.hp_mount_files.specs.Files.{Files, edited_at, file_at}
-use Rattle.hp_mount_files.proofs.GivingBack.{punch_files, punch_keeps, punch_left}
-use Rattle.hp_mount_files.proofs.Views.{view}
+use Rattle.hp_lookup.specs.Tally.{count_of}
+use Rattle.hp_lookup.specs.Dropping.{IsLeft}
+use Rattle.hp_lookup.specs.Files.{Files, edited_at, file_at}
+use Rattle.hp_lookup.proofs.GivingBack.{punch_files, punch_keeps, punch_left}
+use Rattle.hp_lookup.proofs.Views.{view}
 use Rattle.hp_mount_files.proofs.files.Files.punch.Goals as goal
 
 pub invariant_of-self : goal.invariant_of-self

@@ -2,17 +2,17 @@ use Rattle.std.proofs.Common.{◌≡◌, ◌==◌, ℕ, ◌+◌, ◌<◌, cond, 
 use Rattle.hp_model.specs.Lists.{is_among}
 use Rattle.hp_model.specs.files.File.{new_file}
 use Rattle.hp_model.specs.files.MakeMap.{mapped, numbers_of}
-use Rattle.hp_mount_files.specs.Tally.{count_of}
-use Rattle.hp_mount_files.specs.Asking.{entered_from, next_of}
-use Rattle.hp_mount_files.specs.Files.{Files}
-use Rattle.hp_mount_files.specs.Hints.{IsFiles}
-use Rattle.hp_mount_files.specs.Numbered.{files_shown, with_mapping}
-use Rattle.hp_mount_files.specs.Places.{all_maps}
+use Rattle.hp_lookup.specs.Tally.{count_of}
+use Rattle.hp_lookup.specs.Asking.{entered_from, next_of}
+use Rattle.hp_lookup.specs.Files.{Files}
+use Rattle.hp_lookup.specs.Hints.{IsFiles}
+use Rattle.hp_lookup.specs.Numbered.{files_shown, with_mapping}
+use Rattle.hp_lookup.specs.Places.{all_maps}
 use Rattle.hp_mount_files.proofs.Anon.{anon, anon_files, anon_view, nameless}
-use Rattle.hp_mount_files.proofs.Keys.{files_noted, files_recounted, then_map}
-use Rattle.hp_mount_files.proofs.NewKey.{maps_few}
-use Rattle.hp_mount_files.proofs.MapNumbers.{unused_is_new}
-use Rattle.hp_mount_files.proofs.Tallies.{tally_few}
+use Rattle.hp_lookup.proofs.Keys.{files_noted, files_recounted, then_map}
+use Rattle.hp_lookup.proofs.NewKey.{maps_few}
+use Rattle.hp_lookup.proofs.MapNumbers.{unused_is_new}
+use Rattle.hp_lookup.proofs.Tallies.{tally_few}
 use Rattle.hp_mount_files.proofs.files.Files.put_anon.Given.{Over}
 use Rattle.hp_mount_files.proofs.files.Files.put_anon.Goals as goal
 

@@ -2,18 +2,18 @@ use Rattle.std.proofs.Common.{◌≡◌, ◌==◌, ℕ, ◌+◌, ◌<◌, cond, 
 use Rattle.std.proofs.lemmas.List.{set-get_or}
 use Rattle.hp_model.specs.Lists.{is_among}
 use Rattle.hp_model.specs.files.MakeMap.{mapped, numbers_of}
-use Rattle.hp_mount_files.specs.Tally.{count_of}
-use Rattle.hp_mount_files.specs.Asking.{entered_from, next_of}
-use Rattle.hp_mount_files.specs.Files.{Files, file_at, with_file_at}
-use Rattle.hp_mount_files.specs.Hints.{IsFiles}
-use Rattle.hp_mount_files.specs.Numbered.{files_shown, new_mapping, with_mapping}
-use Rattle.hp_mount_files.specs.Places.{all_maps}
-use Rattle.hp_mount_files.proofs.Keys.{files_noted, files_recounted, then_map}
-use Rattle.hp_mount_files.proofs.Mapped.{map_files, map_view}
-use Rattle.hp_mount_files.proofs.NewKey.{maps_few}
-use Rattle.hp_mount_files.proofs.MapNumbers.{unused_is_new}
-use Rattle.hp_mount_files.proofs.Tallies.{tally_few}
-use Rattle.hp_mount_files.proofs.Views.{files_len}
+use Rattle.hp_lookup.specs.Tally.{count_of}
+use Rattle.hp_lookup.specs.Asking.{entered_from, next_of}
+use Rattle.hp_lookup.specs.Files.{Files, file_at, with_file_at}
+use Rattle.hp_lookup.specs.Hints.{IsFiles}
+use Rattle.hp_lookup.specs.Numbered.{files_shown, new_mapping, with_mapping}
+use Rattle.hp_lookup.specs.Places.{all_maps}
+use Rattle.hp_lookup.proofs.Keys.{files_noted, files_recounted, then_map}
+use Rattle.hp_lookup.proofs.Mapped.{map_files, map_view}
+use Rattle.hp_lookup.proofs.NewKey.{maps_few}
+use Rattle.hp_lookup.proofs.MapNumbers.{unused_is_new}
+use Rattle.hp_lookup.proofs.Tallies.{tally_few}
+use Rattle.hp_lookup.proofs.Views.{files_len}
 use Rattle.hp_mount_files.proofs.files.Files.put_map.Given.{Over}
 use Rattle.hp_mount_files.proofs.files.Files.put_map.Goals as goal
 

@@ -3,8 +3,8 @@ use Rattle.std.specs.Prelude.{slice_set}
 use Rattle.hp_model.specs.files.Fill.{zero_page}
 use Rattle.hp_model.specs.files.Page.{Page}
 use Rattle.hp_store.specs.Batch.{Batch}
-use Rattle.hp_mount_files.specs.Files.{Files, file_at}
-use Rattle.hp_mount_files.proofs.Zeros.{IsPutting, cells_put, files_put, putting_puts, putting_some, putting_stays}
+use Rattle.hp_lookup.specs.Files.{Files, file_at}
+use Rattle.hp_file.proofs.Zeros.{IsPutting, cells_put, files_put, putting_puts, putting_some, putting_stays}
 use Rattle.hp_mount_files.proofs.files.Files.put_pages.Goals.{in-Entered, in_default}
 use Rattle.hp_mount_files.proofs.files.Files.put_pages.Goals as goal
 

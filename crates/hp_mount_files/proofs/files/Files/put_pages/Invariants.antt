@@ -1,7 +1,7 @@
 use Rattle.std.proofs.Common.{◌≡◌, ◌+◌, ◌-◌, ◌≤◌, length}
 use Rattle.std.specs.Prelude.{slice_set}
-use Rattle.hp_mount_files.specs.Files.{file_at}
-use Rattle.hp_mount_files.proofs.Zeros.{IsPutting}
+use Rattle.hp_lookup.specs.Files.{file_at}
+use Rattle.hp_file.proofs.Zeros.{IsPutting}
 use Rattle.hp_mount_files.proofs.files.Files.put_pages.Given as goal
 
 abbrev pub invariant-loop-index : goal.invariant-loop-index

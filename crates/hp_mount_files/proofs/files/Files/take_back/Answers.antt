@@ -2,12 +2,12 @@ use Rattle.std.proofs.Common.{◌≡◌, Option, None, Some, refl, ap, subst, �
 use Rattle.std.specs.Prelude.{IsSome, slice_set}
 use Rattle.hp_model.specs.files.Mapping.{copy_of, place_at}
 use Rattle.hp_model.specs.files.Page.{Copy}
-use Rattle.hp_mount_files.specs.Tally.{count_of}
-use Rattle.hp_mount_files.specs.Dropping.{IsLeft}
-use Rattle.hp_mount_files.specs.Files.{Files, taken_back_at}
-use Rattle.hp_mount_files.specs.Places.{map_at}
+use Rattle.hp_lookup.specs.Tally.{count_of}
+use Rattle.hp_lookup.specs.Dropping.{IsLeft}
+use Rattle.hp_lookup.specs.Files.{Files, taken_back_at}
+use Rattle.hp_lookup.specs.Places.{map_at}
 use Rattle.hp_mount_files.proofs.TakingBack.{back_files, back_keeps, back_left, back_once}
-use Rattle.hp_mount_files.proofs.Views.{view}
+use Rattle.hp_lookup.proofs.Views.{view}
 use Rattle.hp_mount_files.proofs.Here.{file_here, map_here}
 use Rattle.hp_mount_files.proofs.files.Files.take_back.Goals as goal
 

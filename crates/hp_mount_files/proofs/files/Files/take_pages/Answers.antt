@@ -1,13 +1,13 @@
 use Rattle.std.proofs.Common.{◌≡◌, ◌+◌, ◌<◌, ◌≤◌, length, max, ap, sym, subst, ◌∙◌, arith}
-use Rattle.hp_mount_files.specs.Files.{Files}
-use Rattle.hp_mount_files.specs.Filling.{entered_at}
-use Rattle.hp_mount_files.specs.Keyed.{label_of}
-use Rattle.hp_mount_files.specs.Numbered.{NumberedFile, files_shown}
-use Rattle.hp_mount_files.specs.Tally.{count_of}
-use Rattle.hp_mount_files.proofs.Filling.{range_held, range_view}
-use Rattle.hp_mount_files.proofs.Keys.{files_same}
-use Rattle.hp_mount_files.proofs.Level.{same_level}
-use Rattle.hp_mount_files.proofs.Views.{files_len}
+use Rattle.hp_lookup.specs.Files.{Files}
+use Rattle.hp_file.specs.Filling.{entered_at}
+use Rattle.hp_lookup.specs.Keyed.{label_of}
+use Rattle.hp_lookup.specs.Numbered.{NumberedFile, files_shown}
+use Rattle.hp_lookup.specs.Tally.{count_of}
+use Rattle.hp_file.proofs.Filling.{range_held, range_view}
+use Rattle.hp_lookup.proofs.Keys.{files_same}
+use Rattle.hp_lookup.proofs.Level.{same_level}
+use Rattle.hp_lookup.proofs.Views.{files_len}
 use Rattle.hp_mount_files.proofs.files.Files.take_pages.Goals as goal
 
 pub invariant_of-self-2 : goal.invariant_of-self-2

@@ -1,11 +1,11 @@
 use Rattle.std.proofs.Common.{ap, length, ◌∙◌}
 use Rattle.std.specs.List.{flat_map}
 use Rattle.hp_model.specs.Lists.{distinct}
-use Rattle.hp_mount_files.specs.Files.{Files}
-use Rattle.hp_mount_files.specs.Keyed.{labels_of, tasks_in}
-use Rattle.hp_mount_files.specs.Places.{all_tasks}
-use Rattle.hp_mount_files.proofs.Tallies.{tasks_tallied}
-use Rattle.hp_mount_files.proofs.Unique.{tasks_counted}
+use Rattle.hp_lookup.specs.Files.{Files}
+use Rattle.hp_lookup.specs.Keyed.{labels_of, tasks_in}
+use Rattle.hp_lookup.specs.Places.{all_tasks}
+use Rattle.hp_lookup.proofs.Tallies.{tasks_tallied}
+use Rattle.hp_lookup.proofs.Unique.{tasks_counted}
 use Rattle.hp_mount_files.proofs.files.Files.task_count.Goals as goal
 
 pub returns : goal.returns

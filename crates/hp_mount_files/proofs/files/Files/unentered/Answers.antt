@@ -2,10 +2,10 @@ use Rattle.std.proofs.Common.{◌≡◌, ◌<◌, ◌+◌, ◌-◌, length, ap, 
 use Rattle.std.specs.List.{count_by}
 use Rattle.hp_model.specs.files.File.{at_least, is_hole}
 use Rattle.hp_model.specs.machine.SlotEvent.{unentered}
-use Rattle.hp_mount_files.specs.Files.{Files, file_at}
-use Rattle.hp_mount_files.specs.Numbered.{NumberedFile}
-use Rattle.hp_mount_files.proofs.Holes.{asked_shown}
-use Rattle.hp_mount_files.proofs.Views.{files_len, read_is}
+use Rattle.hp_lookup.specs.Files.{Files, file_at}
+use Rattle.hp_lookup.specs.Numbered.{NumberedFile}
+use Rattle.hp_lookup.proofs.Holes.{asked_shown}
+use Rattle.hp_lookup.proofs.Views.{files_len, read_is}
 use Rattle.hp_mount_files.proofs.files.Files.unentered.Goals as goal
 
 pub returns : goal.returns

@@ -5,16 +5,16 @@ use Rattle.hp_model.specs.files.GiveBack.{file_unmapped, is_kept}
 use Rattle.hp_model.specs.files.Mapping.{Mapping, is_map, is_mapped, without_range}
 use Rattle.hp_model.specs.files.MountCounts.{file_reserves}
 use Rattle.std.proofs.lemmas.List.Sums.{get_or-le-sum_by}
-use Rattle.hp_mount_files.specs.Held.{in_file}
-use Rattle.hp_mount_files.specs.Tally.{count_of}
-use Rattle.hp_mount_files.specs.Dropping.{IsLeft}
-use Rattle.hp_mount_files.specs.Files.{Files}
-use Rattle.hp_mount_files.specs.Leaving.{file_owed}
-use Rattle.hp_mount_files.specs.Numbered.{files_shown, mapping_at}
-use Rattle.hp_mount_files.specs.Places.{IsFound}
-use Rattle.hp_mount_files.proofs.Leaving.{files_owe}
+use Rattle.hp_lookup.specs.Held.{in_file}
+use Rattle.hp_lookup.specs.Tally.{count_of}
+use Rattle.hp_lookup.specs.Dropping.{IsLeft}
+use Rattle.hp_lookup.specs.Files.{Files}
+use Rattle.hp_lookup.specs.Leaving.{file_owed}
+use Rattle.hp_lookup.specs.Numbered.{files_shown, mapping_at}
+use Rattle.hp_lookup.specs.Places.{IsFound}
+use Rattle.hp_lookup.proofs.Leaving.{files_owe}
 use Rattle.hp_mount_files.proofs.Unmapping.{enough_held, few_reserves, some_maps, stays_files, stays_keeps, stays_left, went_files, went_keeps, went_left}
-use Rattle.hp_mount_files.proofs.Views.{files_len, view}
+use Rattle.hp_lookup.proofs.Views.{files_len, view}
 use Rattle.hp_mount_files.proofs.files.Files.unmap.Given.{Over}
 use Rattle.hp_mount_files.proofs.files.Files.unmap.Goals as goal
 use Rattle.hp_mount_files.proofs.files.Files.unmap.Goals.{After-unmap-gone, After-sweep_file-entries}

@@ -4,11 +4,11 @@ use Rattle.hp_model.specs.declared.step.Sharing.{Sharing}
 use Rattle.hp_model.specs.declared.step.Sharing.TheVariants.{Shared}
 use Rattle.hp_model.specs.files.File.{at_least, is_hole}
 use Rattle.hp_model.specs.files.MakeMap.{asked}
-use Rattle.hp_mount_files.specs.Asking.{entered_from}
-use Rattle.hp_mount_files.specs.Files.{Files, file_at}
-use Rattle.hp_mount_files.specs.Numbered.{NumberedFile}
-use Rattle.hp_mount_files.proofs.Holes.{wanted_shown}
-use Rattle.hp_mount_files.proofs.Views.{files_len, read_is}
+use Rattle.hp_lookup.specs.Asking.{entered_from}
+use Rattle.hp_lookup.specs.Files.{Files, file_at}
+use Rattle.hp_lookup.specs.Numbered.{NumberedFile}
+use Rattle.hp_lookup.proofs.Holes.{wanted_shown}
+use Rattle.hp_lookup.proofs.Views.{files_len, read_is}
 use Rattle.hp_mount_files.proofs.files.Files.wanted.Goals as goal
 
 pub returns-in-Shared : goal.returns-in-Shared

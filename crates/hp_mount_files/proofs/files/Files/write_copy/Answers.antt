@@ -1,10 +1,10 @@
 use Rattle.std.proofs.Common.{◌<◌, length, ap, subst, sym, ◌∙◌}
 use Rattle.hp_model.specs.files.Mapping.{place_at}
 use Rattle.hp_model.specs.files.Spot.{place_written}
-use Rattle.hp_mount_files.specs.declared.copy_state.CopyState.TheVariants as state
-use Rattle.hp_mount_files.specs.Files.{Files, file_at, placed_at}
-use Rattle.hp_mount_files.specs.Places.{map_at}
-use Rattle.hp_mount_files.specs.States.{IsCopyState}
+use Rattle.hp_lookup.specs.declared.copy_state.CopyState.TheVariants as state
+use Rattle.hp_lookup.specs.Files.{Files, file_at, placed_at}
+use Rattle.hp_lookup.specs.Places.{map_at}
+use Rattle.hp_file.specs.States.{IsCopyState}
 use Rattle.hp_mount_files.proofs.CopyWritten.{copy_alone, copy_write_keeps, copy_write_view}
 use Rattle.hp_mount_files.proofs.files.Files.write_copy.Goals as goal
 

@@ -1,7 +1,7 @@
 use Rattle.std.proofs.Common.{ap, arith, ◌+◌, ◌-◌, ◌^◌, ◌<◌}
 use Rattle.std.specs.List.{sum_by}
-use Rattle.hp_mount_files.specs.Forking.{copies_in, list_copies}
-use Rattle.hp_mount_files.proofs.Sharing.{sum_end, sum_read}
+use Rattle.hp_lookup.specs.Forking.{copies_in, list_copies}
+use Rattle.hp_file.proofs.Sharing.{sum_end, sum_read}
 use Rattle.hp_mount_files.proofs.files.forking.all_copies.Goals as goal
 
 pub loop-list-preserved : goal.loop-list-preserved

@@ -1,6 +1,6 @@
 use Rattle.std.proofs.Common.{◌≡◌, ◌+◌, ◌-◌, ◌<◌, ◌^◌, drop}
 use Rattle.std.specs.List.{sum_by}
-use Rattle.hp_mount_files.specs.Forking.{list_copies}
+use Rattle.hp_lookup.specs.Forking.{list_copies}
 use Rattle.hp_mount_files.proofs.files.forking.all_copies.Given as goal
 
 abbrev pub invariant-loop-list : goal.invariant-loop-list

@@ -1,6 +1,6 @@
 use Rattle.std.proofs.Common.{◌≡◌, ◌+◌, ◌-◌}
 use Rattle.std.specs.List.{sum_by}
-use Rattle.hp_mount_files.specs.Forking.{AreFilled, list_length}
+use Rattle.hp_lookup.specs.Forking.{AreFilled, list_length}
 use Rattle.hp_mount_files.proofs.files.forking.children.Given as goal
 
 abbrev pub invariant-loop-left : goal.invariant-loop-left

@@ -2,7 +2,7 @@ use Rattle.std.proofs.Common.{◌≡◌, ◌+◌, ◌∷◌, ◌++◌, [], ap, a
 use Rattle.std.specs.Prelude.{slice_index_or}
 use Rattle.std.specs.List.{sum_by}
 use Rattle.std.proofs.lemmas.List.{length-append, length-take-le, take_more}
-use Rattle.hp_mount_files.specs.Forking.{AreReady, maps_of}
+use Rattle.hp_lookup.specs.Forking.{AreReady, maps_of}
 use Rattle.hp_mount_files.proofs.Joining.{fewer_behind, more_within, ready_push, ready_rest}
 use Rattle.hp_mount_files.proofs.files.forking.children_among_all.Goals as goal
 

@@ -1,7 +1,7 @@
 use Rattle.std.proofs.Common.{◌≡◌, ◌-◌, ◌≤◌, drop, length, take}
 use Rattle.std.specs.Prelude.{vec_capacity}
 use Rattle.std.specs.List.{sum_by}
-use Rattle.hp_mount_files.specs.Forking.{AreReady, maps_of}
+use Rattle.hp_lookup.specs.Forking.{AreReady, maps_of}
 use Rattle.hp_mount_files.proofs.files.forking.children_among_all.Given as goal
 
 abbrev pub invariant-loop-left : goal.invariant-loop-left

@@ -1,7 +1,7 @@
 use Rattle.std.proofs.Common.{◌≡◌, ◌-◌, ◌≤◌, length}
 use Rattle.std.specs.Prelude.{vec_capacity}
 use Rattle.std.specs.List.{sum_by}
-use Rattle.hp_mount_files.specs.Forking.{list_length}
+use Rattle.hp_lookup.specs.Forking.{list_length}
 use Rattle.hp_mount_files.proofs.files.forking.empty_lists.Given as goal
 
 abbrev pub invariant-loop-alloc : goal.invariant-loop-alloc

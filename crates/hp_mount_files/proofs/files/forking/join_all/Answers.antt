@@ -2,12 +2,12 @@ use Rattle.std.proofs.Common.{◌≡◌, [], ℕ, ◌+◌, ◌-◌, ap, arith, l
 use Rattle.std.specs.List.{sum_by}
 use Rattle.std.proofs.lemmas.List.{get_or-set_same, nil_from_length}
 use Rattle.std.proofs.lemmas.List.Sums.{sum_by_push, sum_by-take-le}
-use Rattle.hp_mount_files.specs.Forking.{HasNoted, HasRoom, HaveNoted, HaveRoom, in_list, in_lists, joined, joined_at, list_copies, maps_of, with_list}
-use Rattle.hp_mount_files.specs.Numbered.{numbered_at}
-use Rattle.hp_mount_files.proofs.Cells.{no_file}
+use Rattle.hp_lookup.specs.Forking.{HasNoted, HasRoom, HaveNoted, HaveRoom, in_list, in_lists, joined, joined_at, list_copies, maps_of, with_list}
+use Rattle.hp_lookup.specs.Numbered.{numbered_at}
+use Rattle.hp_lookup.proofs.Cells.{no_file}
 use Rattle.hp_mount_files.proofs.Joining.{last_joined, last_keys, last_none, last_room, last_within, none_joined, rest_none, rest_room}
-use Rattle.hp_mount_files.proofs.Noting.{noted_bare_all, noted_at}
-use Rattle.hp_mount_files.proofs.Sharing.{share_as, share_then}
+use Rattle.hp_file.proofs.Noting.{noted_bare_all, noted_at}
+use Rattle.hp_file.proofs.Sharing.{share_as, share_then}
 use Rattle.hp_mount_files.proofs.files.forking.join_all.Goals as goal
 
 pub loop-list-init : goal.loop-list-init

@@ -1,7 +1,7 @@
 use Rattle.std.proofs.Common.{◌≡◌, ℕ, ◌+◌, ◌-◌, ◌≤◌, length, take}
 use Rattle.std.specs.List.{sum_by}
-use Rattle.hp_mount_files.specs.Forking.{HaveNoted, HaveRoom, IsSharing, in_lists, joined, list_copies, maps_of}
-use Rattle.hp_mount_files.specs.Held.{more_in}
+use Rattle.hp_lookup.specs.Forking.{HaveNoted, HaveRoom, IsSharing, in_lists, joined, list_copies, maps_of}
+use Rattle.hp_lookup.specs.Held.{more_in}
 use Rattle.hp_mount_files.proofs.files.forking.join_all.Given as goal
 
 abbrev pub invariant-loop-list : goal.invariant-loop-list

@@ -1,5 +1,5 @@
-use Rattle.hp_mount_files.specs.Numbered.{numbered_at}
-use Rattle.hp_mount_files.proofs.Noting.{noted_bare}
+use Rattle.hp_lookup.specs.Numbered.{numbered_at}
+use Rattle.hp_file.proofs.Noting.{noted_bare}
 use Rattle.hp_mount_files.proofs.files.forking.join_at.Goals as goal
 
 pub returns-then-is_empty-clause-noted : goal.returns-then-is_empty-clause-noted

@@ -3,13 +3,13 @@ use Rattle.std.specs.Prelude.{slice_index_or, slice_set}
 use Rattle.std.specs.List.{sum_by}
 use Rattle.std.proofs.lemmas.List.{length-set}
 use Rattle.std.proofs.lemmas.List.Sums.{get_or-le-sum_by, sum_by-set, sum_by_more}
-use Rattle.hp_mount_files.specs.Forking.{maps_named}
-use Rattle.hp_mount_files.specs.Held.{in_file, in_files}
-use Rattle.hp_mount_files.specs.Leaving.{emptied, file_owed, left_by}
-use Rattle.hp_mount_files.specs.Numbered.{NumberedFile}
-use Rattle.hp_mount_files.proofs.Drops.{drop_then}
-use Rattle.hp_mount_files.proofs.Leaves.{gone_then}
-use Rattle.hp_mount_files.proofs.Punched.{first_next, first_step}
+use Rattle.hp_lookup.specs.Forking.{maps_named}
+use Rattle.hp_lookup.specs.Held.{in_file, in_files}
+use Rattle.hp_lookup.specs.Leaving.{emptied, file_owed, left_by}
+use Rattle.hp_lookup.specs.Numbered.{NumberedFile}
+use Rattle.hp_file.proofs.Drops.{drop_then}
+use Rattle.hp_file.proofs.Leaves.{gone_then}
+use Rattle.hp_file.proofs.Punched.{first_next, first_step}
 use Rattle.hp_mount_files.proofs.files.leaving.drop_maps_of.Goals as goal
 
 pub loop-at-preserved : goal.loop-at-preserved

@@ -1,11 +1,11 @@
 use Rattle.std.specs.Prelude.{◌≡◌, ◌+◌, length, take}
 use Rattle.std.specs.List.{sum_by}
-use Rattle.hp_mount_files.specs.Dropping.{IsDropping}
-use Rattle.hp_mount_files.specs.Forking.{maps_named}
-use Rattle.hp_mount_files.specs.Held.{in_files, more_in}
-use Rattle.hp_mount_files.specs.Leaving.{IsMoreButTask, emptied, file_owed, left_by, map_sum}
-use Rattle.hp_mount_files.specs.Numbered.{NumberedFile}
-use Rattle.hp_mount_files.proofs.Punched.{first_mapped}
+use Rattle.hp_lookup.specs.Dropping.{IsDropping}
+use Rattle.hp_lookup.specs.Forking.{maps_named}
+use Rattle.hp_lookup.specs.Held.{in_files, more_in}
+use Rattle.hp_lookup.specs.Leaving.{IsMoreButTask, emptied, file_owed, left_by, map_sum}
+use Rattle.hp_lookup.specs.Numbered.{NumberedFile}
+use Rattle.hp_file.proofs.Punched.{first_mapped}
 use Rattle.hp_mount_files.proofs.files.leaving.drop_maps_of.Given as goal
 
 abbrev pub invariant-loop-at : goal.invariant-loop-at

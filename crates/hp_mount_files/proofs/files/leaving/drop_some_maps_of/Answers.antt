@@ -1,11 +1,11 @@
 use Rattle.std.proofs.Common.{sym, ◌∙◌, arith}
 use Rattle.std.specs.List.{sum_by}
-use Rattle.hp_mount_files.specs.Forking.{maps_named}
-use Rattle.hp_mount_files.specs.Held.{in_files}
-use Rattle.hp_mount_files.proofs.Drops.{drop_start}
-use Rattle.hp_mount_files.proofs.Leaves.{gone_then, none_gone}
-use Rattle.hp_mount_files.proofs.Noting.{named_all}
-use Rattle.hp_mount_files.proofs.Tallies.{maps_labelled, none_leave}
+use Rattle.hp_lookup.specs.Forking.{maps_named}
+use Rattle.hp_lookup.specs.Held.{in_files}
+use Rattle.hp_file.proofs.Drops.{drop_start}
+use Rattle.hp_file.proofs.Leaves.{gone_then, none_gone}
+use Rattle.hp_file.proofs.Noting.{named_all}
+use Rattle.hp_lookup.proofs.Tallies.{maps_labelled, none_leave}
 use Rattle.hp_mount_files.proofs.files.leaving.drop_some_maps_of.Goals as goal
 
 pub returns-then-count-eq0 : goal.returns-then-count-eq0

@@ -1,7 +1,7 @@
 use Rattle.std.proofs.Common.{ap, arith}
 use Rattle.std.proofs.lemmas.List.Sums.{get_or-le-sum_by, sum_by-remove}
-use Rattle.hp_mount_files.specs.Held.{in_file, in_files}
-use Rattle.hp_mount_files.proofs.Drops.{drop_as}
+use Rattle.hp_lookup.specs.Held.{in_file, in_files}
+use Rattle.hp_file.proofs.Drops.{drop_as}
 use Rattle.hp_mount_files.proofs.files.leaving.sweep_file.Goals as goal
 
 pub close-requires-clause-held : goal.close-requires-clause-held

@@ -1,0 +1,195 @@
+-- Indices of a file get entries, and those without a page pages of zeros.
+use Rattle.std.proofs.Common.{◌≡◌, ℕ, zero, suc, ◌+◌, ◌-◌, ◌<◌, ◌≤◌, true, cond, Option, None, List, [], ◌∷◌, ◌++◌, append_assoc, length, map, take, drop, replicate, refl, sym, ap, ◌∙◌, arith}
+use Rattle.std.specs.Prelude.{is_some, slice_index_or, slice_set}
+use Rattle.std.specs.List.{count_by, sum_by}
+use Rattle.std.proofs.lemmas.List.{get_or-drop, get_or-set_same, length-append, length-drop, length-map, length-replicate, length-take, map-append, map-set, set-set, take_more}
+use Rattle.std.proofs.lemmas.Simd.{map-map}
+use Rattle.std.proofs.lemmas.List.Sums.{sum_by-append, sum_by-cons}
+use Rattle.std.proofs.Math.Seq.{drop-append_seam, take-append_seam}
+use Rattle.hp_model.specs.declared.cell.Cell.{Cell}
+use Rattle.hp_model.specs.declared.cell.Cell.TheVariants.{Hole, Entered, Present}
+use Rattle.hp_model.specs.files.File.{File, at_least, cell_at, cell_in, entered, is_entered, new_file, page_of}
+use Rattle.hp_model.specs.files.Fill.{cells_filled, lacking, lacks_page, range_filled, rising_nodes, zero_page}
+use Rattle.hp_model.specs.files.Page.{Page}
+use Rattle.hp_model.specs.Lists.{edit_range, part}
+use Rattle.hp_model.proofs.Counting.{count_alike, count_cons, count_map}
+use Rattle.hp_model.proofs.Editing.{get_or-edit_within}
+use Rattle.hp_laws.proofs.NodesOf.{length-nodes_of}
+use Rattle.hp_mount_door.specs.Door.{by_node}
+use Rattle.hp_mount_door.specs.Filling.{AreRising}
+use Rattle.hp_store.specs.Store.{Store}
+use Rattle.hp_lookup.specs.Files.{Files, file_at}
+use Rattle.hp_file.specs.Filling.{entered_at, pages_at, with_entries, with_zeros, zeros_at}
+use Rattle.hp_lookup.specs.Held.{IsHeld, in_cell, in_file}
+use Rattle.hp_lookup.specs.Numbered.{NumberedFile, cell_shown, file_shown, files_shown, map_shown, numbered_at}
+use Rattle.hp_lookup.proofs.Alike.{alike_held}
+use Rattle.hp_lookup.proofs.Cells.{file_is}
+use Rattle.hp_lookup.proofs.Mapped.{map_drop, map_edited, map_replicate, map_take, sum_edited}
+use Rattle.hp_lookup.proofs.Views.{read_is, view}
+use Rattle.hp_file.proofs.Zeros.{filled_entered, lacks_entered, zeros_of}
+
+-- ---- how many indices of a range have no page
+
+module _ {P : Type 0} where
+  -- past the end there is none
+  longer_read : (cells : List (Cell P)) (r i : ℕ) → cell_in (cells ++ replicate r Hole) i ≡ cell_in cells i
+  longer_read [] zero i = refl
+  longer_read [] (suc r) zero = refl
+  longer_read [] (suc r) (suc i) = longer_read [] r i
+  longer_read (c ∷ cells) r zero = refl
+  longer_read (c ∷ cells) r (suc i) = longer_read cells r i
+
+  longer_length : (cells : List (Cell P)) (b : ℕ) → b ≤ length (at_least b cells)
+  longer_length cells b = omega (arith, length-append cells (replicate (b - length cells) Hole), length-replicate {A = Cell P} (b - length cells) Hole)
+
+  -- a part of a list, an index further on
+  part_more : (xs : List (Cell P)) (a i : ℕ) → a ≤ i → i < length xs → part a (i + 1) xs ≡ part a i xs ++ cell_in xs i ∷ []
+  part_more xs a i low within =
+      let n : i + 1 - a ≡ i - a + 1 = omega (arith, low) in
+      let at : a + (i - a) ≡ i = omega (arith, low) in
+      ap (λ k. take k (drop a xs)) n ∙ take_more (drop a xs) (i - a) Hole (omega (arith, low, within, length-drop a xs))
+      ∙ ap (λ c. part a i xs ++ c ∷ []) (get_or-drop a xs (i - a) Hole ∙ ap (cell_in xs) at)
+
+  -- the part of a list that was edited
+  part_edited : (h : Cell P → Cell P) (a b : ℕ) (xs : List (Cell P)) → b ≤ length xs → a ≤ b → part a b (edit_range h a b xs) ≡ map h (part a b xs)
+  part_edited h a b xs long order =
+      let front : List (Cell P) = take a xs in
+      let mid : List (Cell P) = map h (part a b xs) in
+      let rest : List (Cell P) = drop (b - a) (drop a xs) in
+      let wide : length front ≡ a = length-take a xs ∙ omega (arith, long, order) in
+      let deep : length mid ≡ b - a = length-map (part a b xs) h ∙ length-take (b - a) (drop a xs) ∙ omega (arith, length-drop a xs, long, order) in
+      ap (λ ys. take (b - a) (drop a ys)) (append_assoc front mid rest)
+      ∙ ap (λ n. take (b - a) (drop n (front ++ (mid ++ rest)))) (sym wide) ∙ ap (take (b - a)) (drop-append_seam front (mid ++ rest))
+      ∙ ap (λ n. take n (mid ++ rest)) (sym deep) ∙ take-append_seam mid rest
+
+  lacks_by : (c : Cell P) (o : Option P) → o ≡ page_of c → cond (is_some o) 0 1 ≡ cond {A = ℕ} (lacks_page c) 1 0
+  lacks_by Hole o e = ap (λ o. cond {A = ℕ} (is_some o) 0 1) e
+  lacks_by Entered o e = ap (λ o. cond {A = ℕ} (is_some o) 0 1) e
+  lacks_by (Present p) o e = ap (λ o. cond {A = ℕ} (is_some o) 0 1) e
+
+  pub lacking_more : (cells : List (Cell P)) (a b i : ℕ) (o : Option P) → a ≤ i → i < b → o ≡ page_of (cell_in cells i)
+      → count_by lacks_page (part a (i + 1) (at_least b cells)) ≡ count_by lacks_page (part a i (at_least b cells)) + cond (is_some o) 0 1
+  lacking_more cells a b i o low high is =
+      let xs : List (Cell P) = at_least b cells in
+      let long = longer_length cells b in
+      let c : Cell P = cell_in xs i in
+      let here = lacks_by c o (is ∙ ap page_of (sym (longer_read cells (b - length cells) i))) in
+      let parts = sum_by-append (λ c. cond {A = ℕ} (lacks_page c) 1 0) (part a i xs) (c ∷ []) in
+      let one = count_cons lacks_page c [] in
+      ap (count_by lacks_page) (part_more xs a i low (omega (arith, high, long))) ∙ omega (arith, parts, one, here)
+
+-- ---- what is shown
+
+lacks_shown : (s : Store) (c : Cell ℕ) → lacks_page (cell_shown s c) ≡ lacks_page c
+lacks_shown s Hole = refl
+lacks_shown s Entered = refl
+lacks_shown s (Present n) = refl
+
+entered_shown : (s : Store) (c : Cell ℕ) → cell_shown s (entered c) ≡ entered (cell_shown s c)
+entered_shown s Hole = refl
+entered_shown s Entered = refl
+entered_shown s (Present n) = refl
+
+entered_counts : (n : ℕ) (c : Cell ℕ) → in_cell n (entered c) ≡ in_cell n c
+entered_counts n Hole = refl
+entered_counts n Entered = refl
+entered_counts n (Present k) = refl
+
+longer_shown : (s : Store) (b : ℕ) (cells : List (Cell ℕ)) → map (cell_shown s) (at_least b cells) ≡ at_least b (map (cell_shown s) cells)
+longer_shown s b cells =
+    map-append (cell_shown s) cells (replicate (b - length cells) Hole)
+    ∙ ap (λ cs. map (cell_shown s) cells ++ cs) (map_replicate (cell_shown s) (b - length cells) Hole)
+    ∙ ap (λ m. map (cell_shown s) cells ++ replicate (b - m) Hole) (sym (length-map cells (cell_shown s)))
+
+pub lacking_shown : (s : Store) (fs : List NumberedFile) (k a b : ℕ) → k < length fs
+    → count_by lacks_page (part a b (at_least b (numbered_at fs k).cells)) ≡ lacking a b (file_at (files_shown s fs) k)
+lacking_shown s fs k a b l =
+    let cells : List (Cell ℕ) = (numbered_at fs k).cells in
+    sym (count_map lacks_page (cell_shown s) (part a b (at_least b cells)) ∙ count_alike (λ c. lacks_page (cell_shown s c)) lacks_page (lacks_shown s) (part a b (at_least b cells)))
+    ∙ ap (count_by lacks_page) (map_take (cell_shown s) (b - a) (drop a (at_least b cells))
+    ∙ ap (take (b - a)) (map_drop (cell_shown s) a (at_least b cells) ∙ ap (drop a) (longer_shown s b cells)))
+    ∙ ap (lacking a b) (sym (file_is s fs k l))
+
+-- ---- a range is entered: x is what code read, and g what it leaves
+
+module _ (s : Store) (more : ℕ) (fs : List NumberedFile) (h : IsHeld s more fs) (k a b : ℕ) (l : k < length fs) (x g : NumberedFile)
+    (read : x ≡ slice_index_or fs k x) (g_is : g ≡ record x { cells = edit_range entered a b (at_least b x.cells) }) where
+  at : x ≡ numbered_at fs k
+  at = read_is fs k x l read
+
+  cells_count : (n : ℕ) → sum_by (in_cell n) (edit_range entered a b (at_least b x.cells)) ≡ sum_by (in_cell n) x.cells
+  cells_count n =
+      let whole = sum_by-append (in_cell n) x.cells (replicate (b - length x.cells) Hole) in
+      let none = holes_count (b - length x.cells) in
+      sum_edited (in_cell n) entered (entered_counts n) a b (at_least b x.cells) ∙ omega (arith, whole, none)
+    where
+      holes_count : (r : ℕ) → sum_by (in_cell n) (replicate r Hole) ≡ 0
+      holes_count zero = refl
+      holes_count (suc r) = (let rest = holes_count r in omega (arith, rest, sum_by-cons (in_cell n) Hole (replicate r Hole)))
+
+  pub range_held : IsHeld s more (slice_set fs k g)
+  range_held = alike_held s more fs h k l g
+      (λ n. ap (λ (f : NumberedFile). sum_by (in_cell n) f.cells) g_is ∙ cells_count n ∙ ap (λ (f : NumberedFile). sum_by (in_cell n) f.cells) at)
+      (λ n. (let cells = cells_count n in let same = ap (in_file n) at in ap (in_file n) g_is ∙ omega (arith, cells, same)))
+
+  range_shown : file_shown s g ≡ with_entries a b (file_shown s x)
+  range_shown =
+      ap (file_shown s) g_is
+      ∙ ap (λ cs. record (file_shown s x) { cells = cs }) (map_edited (cell_shown s) entered entered (entered_shown s) a b (at_least b x.cells) ∙ ap (edit_range entered a b) (longer_shown s b x.cells))
+
+  pub range_view : view s more (slice_set fs k g) ≡ entered_at k a b (s.room - more) (view s more fs)
+  range_view =
+      ap (λ xs. record (view s more fs) { files = xs }) (map-set (file_shown s) fs k g
+      ∙ ap (slice_set (files_shown s fs) k) (range_shown ∙ ap (with_entries a b) (ap (file_shown s) at ∙ sym (file_is s fs k l))))
+
+-- ---- the pages that were taken are put
+
+-- so many pages as were asked for
+pub rising_length : (count : ℕ) (pages : List Page) → AreRising count pages → length pages ≡ count
+rising_length count pages rising = sym (length-map pages (λ (p : Page). p.node)) ∙ ap length rising ∙ length-nodes_of count (by_node pages)
+
+module _ (size k a b : ℕ) (v : Files) (l : k < length v.files) (order : a ≤ b) where
+  abbrev f : File
+  f = file_at v.files k
+
+  abbrev xs : List (Cell Page)
+  xs = at_least b f.cells
+
+  long : b ≤ length xs
+  long = longer_length f.cells b
+
+  module _ (room : ℕ) where
+    -- the file with its entries
+    pub there : file_at (entered_at k a b room v).files k ≡ with_entries a b f
+    there = get_or-set_same v.files k (with_entries a b f) (new_file None) l
+
+    pub entries_there : (i : ℕ) → a ≤ i → i < b → is_entered (cell_at (file_at (entered_at k a b room v).files k) i) ≡ true
+    entries_there i low high = ap (λ (g : File). is_entered (cell_at g i)) there ∙ ap is_entered (get_or-edit_within entered a b xs i Hole low high long) ∙ is (cell_in xs i)
+      where
+        is : (c : Cell Page) → is_entered (entered c) ≡ true
+        is Hole = refl
+        is Entered = refl
+        is (Present p) = refl
+
+    pub lacking_there : (count : ℕ) → count ≡ lacking a b f → count ≡ count_by lacks_page (part a b (file_at (entered_at k a b room v).files k).cells)
+    lacking_there count is =
+        is ∙ sym (ap (λ (g : File). count_by lacks_page (part a b g.cells)) there ∙ ap (count_by lacks_page) (part_edited entered a b xs long order)
+        ∙ count_map lacks_page entered (part a b xs) ∙ count_alike (λ c. lacks_page (entered c)) lacks_page lacks_entered (part a b xs))
+
+    module _ (count : ℕ) (pages : List Page) (rising : AreRising count pages) (count_is : count ≡ lacking a b f) where
+      zeros_are : zeros_of size pages ≡ map (zero_page size) (rising_nodes count (by_node pages))
+      zeros_are = sym (map-map (zero_page size) (λ (p : Page). p.node) pages) ∙ ap (map (zero_page size)) rising
+
+      wide : length (zeros_of size pages) ≡ count_by lacks_page (part a b xs)
+      wide = length-map pages (λ (p : Page). zero_page size p.node) ∙ rising_length count pages rising ∙ count_is
+
+      file_filled : with_zeros size a pages (file_at (entered_at k a b room v).files k) ≡ range_filled size a b (rising_nodes count (by_node pages)) f
+      file_filled =
+          ap (with_zeros size a pages) there
+          ∙ ap (λ cs. record f { cells = cs }) (filled_entered a b (zeros_of size pages) xs (omega (arith, order, long)) wide ∙ ap (λ ps. cells_filled a ps xs) zeros_are)
+
+      pub all_filled : zeros_at size k a pages (entered_at k a b room v) ≡ pages_at size k a b (rising_nodes count (by_node pages)) (room - count) v
+      all_filled =
+          ap (λ g. record v { files = slice_set (slice_set v.files k (with_entries a b f)) k g; room = room - length pages }) file_filled
+          ∙ ap (λ fs. record v { files = fs; room = room - length pages }) (set-set v.files k (with_entries a b f) (range_filled size a b (rising_nodes count (by_node pages)) f))
+          ∙ ap (λ n. pages_at size k a b (rising_nodes count (by_node pages)) (room - n) v) (rising_length count pages rising)

@@ -1,0 +1,146 @@
+-- Indices that leave a map, and what it holds of them.
+use Rattle.std.proofs.Common.{◌≡◌, ℕ, ◌+◌, ◌-◌, ◌<◌, ◌≤◌, ◌==◌, ◌&&◌, Bool, true, false, cond, ⊎_elim, None, take, drop, refl, sym, ap, ◌∙◌, arith}
+use Rattle.std.specs.Prelude.{slice_index_or}
+use Rattle.std.specs.List.{count_by}
+use Rattle.std.proofs.lemmas.Bool.{cases_lt, eqb-true, ltb-false}
+use Rattle.std.specs.Prelude.{nat_lt}
+use Rattle.hp_model.proofs.Editing.{sum_by-edit_range}
+use Rattle.std.proofs.lemmas.List.Sums.{sum_by-take-drop}
+use Rattle.hp_mapping.proofs.Ranges.{freed_range}
+use Rattle.hp_file.proofs.Cutting.{none_mapped, punched_place}
+use Rattle.hp_lookup.proofs.Mapped.{sum_edited}
+use Rattle.hp_mapping.specs.Mapped.{IsClear, reserves_in}
+use Rattle.hp_model.specs.declared.place.Place.{Place}
+use Rattle.hp_model.specs.declared.place.Place.TheVariants.{Gone, Live}
+use Rattle.hp_model.specs.files.Mapping.{Mapping, copy_of, is_of, is_unconsumed, map_punched, without_copy, without_range}
+use Rattle.hp_model.specs.Lists.{edit_range, part}
+use Rattle.hp_model.proofs.Editing.{length-edit_range}
+use Rattle.hp_laws.proofs.Cuts.{ranged}
+use Rattle.hp_lookup.specs.Held.{in_map, in_place}
+use Rattle.hp_lookup.specs.Hints.{Noted, has_key}
+use Rattle.hp_lookup.specs.Leaving.{IsMoreButMap, IsMoreButTask, map_named, owed}
+use Rattle.hp_file.proofs.Punched.{edited_alike, in_from}
+
+-- ---- copies go first
+
+bare_place : (p : Place ℕ) → copy_of (without_copy p) ≡ None
+bare_place Gone = refl
+bare_place (Live c o) = refl
+
+-- no copy is left from a to b
+pub punched_clear : (a b : ℕ) (m : Mapping ℕ) → IsClear a b (map_punched a b m)
+punched_clear a b m k from below = either (nat_lt k m.start) refl
+  where
+    either : (t : Bool) → nat_lt k m.start ≡ t → copy_of (cond t Gone (slice_index_or (edit_range without_copy (a - m.start) (b - m.start) m.places) (k - m.start) Gone)) ≡ None
+    either true e = refl
+    either false e =
+        let low = ltb-false k m.start e in
+        ap copy_of (ranged without_copy (a - m.start) (b - m.start) m.places (k - m.start) Gone refl
+        ∙ ap (λ t. cond t (without_copy (slice_index_or m.places (k - m.start) Gone)) (slice_index_or m.places (k - m.start) Gone))
+        (in_from (a - m.start) (b - m.start) (k - m.start) (omega (arith, from)) (omega (arith, below, low))))
+        ∙ bare_place (slice_index_or m.places (k - m.start) Gone)
+
+-- the same indices leave
+pub punched_left : (a b : ℕ) (m : Mapping ℕ) → without_range a b (map_punched a b m) ≡ without_range a b m
+punched_left a b m =
+    ap (λ ps. record m { places = ps }) (edited_alike (λ p. Gone) Gone refl (a - m.start) (b - m.start) m.places
+    (edit_range without_copy (a - m.start) (b - m.start) m.places) (length-edit_range without_copy (a - m.start) (b - m.start) m.places)
+    (λ k in'. refl)
+    (λ k out. ranged without_copy (a - m.start) (b - m.start) m.places k Gone refl ∙ ap (λ t. cond t (without_copy (slice_index_or m.places k Gone)) (slice_index_or m.places k Gone)) out))
+
+-- ---- the reservations of the range
+
+owes_bare : (p : Place ℕ) → cond {A = ℕ} (is_unconsumed (without_copy p)) 1 0 ≡ cond (is_unconsumed p) 1 0
+owes_bare Gone = refl
+owes_bare (Live true o) = refl
+owes_bare (Live false o) = refl
+
+pub punched_reserves : (a b : ℕ) (m : Mapping ℕ) → reserves_in a b (map_punched a b m) ≡ reserves_in a b m
+punched_reserves a b m =
+    let low : ℕ = a - m.start in
+    let high : ℕ = b - m.start in
+    let bare = edit_range without_copy low high m.places in
+    let one = freed_range low high bare in
+    let other = freed_range low high m.places in
+    let all = sum_edited (λ (p : Place ℕ). cond {A = ℕ} (is_unconsumed p) 1 0) without_copy owes_bare low high m.places in
+    let left = ap (λ (x : Mapping ℕ). count_by is_unconsumed x.places) (punched_left a b m) in
+    ap (λ n. cond m.owner n 0) (omega (arith, one, other, all, left))
+
+-- what is left and what the range had
+pub left_owed : (a b : ℕ) (m : Mapping ℕ) → reserves_in a b m + owed (without_range a b m) ≡ owed m
+left_owed a b m = either m.owner
+  where
+    either : (t : Bool) → cond t (count_by is_unconsumed (part (a - m.start) (b - m.start) m.places)) 0
+        + cond t (count_by is_unconsumed (edit_range (λ p. Gone) (a - m.start) (b - m.start) m.places)) 0 ≡ cond t (count_by is_unconsumed m.places) 0
+    either true = (let parts = freed_range (a - m.start) (b - m.start) m.places in omega (arith, parts))
+    either false = refl
+
+-- ---- the numbers that are left
+
+-- a number stands where it stands once the copies went
+pub left_holds : (n a b : ℕ) (m : Mapping ℕ) → in_map n (without_range a b m) ≡ in_map n (map_punched a b m)
+left_holds n a b m =
+    let low : ℕ = a - m.start in
+    let high : ℕ = b - m.start in
+    let mid = take (high - low) (drop low m.places) in
+    let gone = sum_by-edit_range (in_place n) (λ p. Gone) low high m.places in
+    let bare = sum_by-edit_range (in_place n) without_copy low high m.places in
+    let none = none_mapped (in_place n) (λ p. Gone) (λ p. refl) mid in
+    let also = none_mapped (in_place n) without_copy (punched_place n) mid in
+    omega (arith, gone, bare, none, also)
+
+pub left_fewer : (n a b : ℕ) (m : Mapping ℕ) → in_map n (without_range a b m) ≤ in_map n m
+left_fewer n a b m =
+    let low : ℕ = a - m.start in
+    let high : ℕ = b - m.start in
+    let mid = take (high - low) (drop low m.places) in
+    let gone = sum_by-edit_range (in_place n) (λ p. Gone) low high m.places in
+    let none = none_mapped (in_place n) (λ p. Gone) (λ p. refl) mid in
+    let front = sum_by-take-drop (in_place n) m.places low in
+    let back = sum_by-take-drop (in_place n) (drop low m.places) (high - low) in
+    omega (arith, gone, none, front, back)
+
+-- ---- what was noted
+
+module _ (task : ℕ) where
+  pub none_gone : (n : Noted) → IsMoreButTask task (λ q. 0) n n
+  none_gone n = record {
+    names = λ name e. e;
+    keys = λ other number apart e. e;
+    gone = λ number some. absurd (omega (arith, some));
+    less = record { names = λ name e. e; keys = λ other number e. e };
+    room = omega arith;
+  }
+
+  pub gone_then : (f g h : ℕ → ℕ) (old mid new : Noted) → IsMoreButTask task f old mid → IsMoreButTask task g mid new → ((q : ℕ) → h q ≤ f q + g q) → IsMoreButTask task h old new
+  gone_then f g h old mid new first then each = record {
+    names = λ name e. first.names name (then.names name e);
+    keys = λ other number apart e. first.keys other number apart (then.keys other number apart e);
+    gone = λ number some. ⊎_elim (λ (one : 0 < f number). then.less.keys task number (first.gone number one))
+        (λ (none : f number ≤ 0). then.gone number (let all = each number in omega (arith, some, none, all))) (cases_lt 0 (f number));
+    less = record { names = λ name e. then.less.names name (first.less.names name e); keys = λ other number e. then.less.keys other number (first.less.keys other number e) };
+    room = (let one = first.room in let two = then.room in omega (arith, one, two));
+  }
+
+  -- one map
+  pub map_gone : (m : Mapping ℕ) (old new : Noted) → IsMoreButMap task m.number old new → IsMoreButTask task (map_named task m) old new
+  map_gone m old new is = record {
+    names = is.names;
+    keys = λ other number apart e. is.keys other number (ap (λ b. b && (number == m.number)) apart) e;
+    gone = λ number some. at number some (m.number == number) refl;
+    less = is.less;
+    room = is.room;
+  }
+    where
+      at : (q : ℕ) → 0 < map_named task m q → (b : Bool) → (m.number == q) ≡ b → has_key task q new ≡ false
+      at q some true same = ap (λ i. has_key task i new) (sym (eqb-true m.number q same)) ∙ is.gone
+      at q some false apart = absurd (unnamed (m.task == task) (ap (λ b. cond {A = ℕ} ((m.task == task) && b) 1 0) apart))
+        where
+          unnamed : (b : Bool) → map_named task m q ≡ cond {A = ℕ} (b && false) 1 0 → ⊥
+          unnamed true e = omega (arith, some, e)
+          unnamed false e = omega (arith, some, e)
+
+  -- a map of another task
+  pub map_stays : (m : Mapping ℕ) (n : Noted) → is_of task m ≡ false → IsMoreButTask task (map_named task m) n n
+  map_stays m n other = gone_then (λ q. 0) (λ q. 0) (map_named task m) n n n (none_gone n) (none_gone n)
+      (λ q. (let none = ap (λ b. cond {A = ℕ} (b && (m.number == q)) 1 0) other in omega (arith, none)))

@@ -1,0 +1,14 @@
+pub mod Entering
+pub mod FirstCopy
+pub mod Punched
+pub mod Cutting
+pub mod Drops
+pub mod Leaves
+pub mod FileLeaves
+pub mod FirstTask
+pub mod Ended
+pub mod Sharing
+pub mod Noting
+pub mod Runs
+pub mod Filling
+pub mod Zeros

@@ -1,0 +1,18 @@
+use Rattle.std.proofs.Common.{◌≡◌, ◌+◌, ◌-◌, ◌≤◌, drop}
+use Rattle.std.specs.List.{count_by}
+use Rattle.hp_mapping.specs.Mapped.{has_copy}
+use Rattle.hp_lookup.specs.Forking.{IsShared, copies_in}
+use Rattle.hp_lookup.specs.Held.{more_in}
+use Rattle.hp_file.proofs.forking.share_map.Given as goal
+
+abbrev pub invariant-loop-at : goal.invariant-loop-at
+invariant-loop-at g l = record {
+  start : l.map.start ≤ l.from;
+  up_to : l.from ≤ l.end;
+  shared : IsShared l.map.places (drop (l.from - l.map.start) l.map.places) l.initial.store l.store;
+  counted : l.more ≡ more_in l.store.pages;
+  more : l.more + count_by has_copy (drop (l.from - l.map.start) l.map.places) ≡ l.initial.more + copies_in l.map;
+}
+
+abbrev pub decreases-loop-at : goal.decreases-loop-at
+decreases-loop-at g l = l.end - l.from

@@ -1,0 +1,60 @@
+use Rattle.std.proofs.Common.{◌+◌, ◌∷◌, drop, refl, sym, ◌∙◌, arith}
+use Rattle.std.specs.List.{sum_by}
+use Rattle.hp_lookup.specs.Held.{in_place}
+use Rattle.hp_lookup.proofs.Lifting.{is_it}
+use Rattle.hp_file.proofs.Sharing.{copied_in, drop_read, has_one, shared_as, shared_none, shared_one, some_one, shared_then, sum_read}
+use Rattle.hp_file.proofs.forking.share_run.Goals as goal
+
+pub loop-at-init : goal.loop-at-init
+loop-at-init g c = record {
+  high = omega arith;
+  shared = shared_none c.args.places.now c.args.store.now c.requires.some;
+  counted = omega (arith, c.requires.counted);
+  copies = omega arith;
+}
+
+pub add_holder-requires-clause-held : goal.add_holder-requires-clause-held
+add_holder-requires-clause-held g c =
+    let ps = c.args.places.now in
+    let number = c.in-Some.number in
+    let was = c.loop-at.invariant in
+    let p = c.index-places-at.result in
+    let step = sum_read (in_place number) ps c.loop-at.at p c.loop-at-test.true c.index-places-at.is in
+    let here = copied_in number number p (sym c.copy_in.ensures ∙ c.in-Some.is) in
+    let one = is_it number in
+    let less = was.shared.less number in
+    let held = was.shared.sharing.held number in
+    let all = c.requires.held number in
+    omega (arith, step, here, one, less, held, all)
+
+pub add_holder-requires-clause-some : goal.add_holder-requires-clause-some
+add_holder-requires-clause-some g c = c.loop-at.invariant.shared.sharing.some
+
+pub add_holder-requires-clause-few : goal.add_holder-requires-clause-few
+add_holder-requires-clause-few g c =
+    let ps = c.args.places.now in
+    let was = c.loop-at.invariant in
+    let p = c.index-places-at.result in
+    let step = sum_read has_one ps c.loop-at.at p c.loop-at-test.true c.index-places-at.is in
+    let one = some_one p c.in-Some.number (sym c.copy_in.ensures ∙ c.in-Some.is) in
+    omega (arith, step, one, was.counted, was.copies, c.requires.few)
+
+pub loop-at-preserved : goal.loop-at-preserved
+loop-at-preserved g c =
+    let ps = c.args.places.now in
+    let i = c.loop-at.at in
+    let was = c.loop-at.invariant in
+    let p = c.index-places-at.result in
+    let number = c.in-Some.number in
+    let is = sym c.copy_in.ensures ∙ c.in-Some.is in
+    let step = sum_read has_one ps i p c.loop-at-test.true c.index-places-at.is in
+    let one = some_one p number is in
+    record {
+      high = omega (arith, c.loop-at-test.true);
+      shared = shared_then ps (drop i ps) (drop (i + 1) ps) c.args.store.now c.loop-at.store c.add_holder.new.store was.shared
+          (shared_as (drop i ps) (p ∷ drop (i + 1) ps) (drop (i + 1) ps) (drop (i + 1) ps) c.loop-at.store c.add_holder.new.store
+          (shared_one p (drop (i + 1) ps) number c.loop-at.store c.add_holder.new.store is c.add_holder.ensures.sharing)
+          (λ n. drop_read (sum_by (in_place n)) ps i p c.loop-at-test.true c.index-places-at.is) (λ n. refl));
+      counted = omega (arith, was.counted, c.add_holder.ensures.counted);
+      copies = omega (arith, step, one, was.copies);
+    }

@@ -1,0 +1,295 @@
+//! What files and maps hold goes.
+ghost use Rattle.std.specs.Prelude.{◌≡◌, ℕ, ◌+◌, ◌<◌, ◌≤◌, ◌^◌, List, IsSome, drop, length, map, slice_index_or, slice_set};
+ghost use Rattle.std.specs.List.{count_by, sum_by};
+ghost use Rattle.hp_model.specs.files.File.{cell_punched};
+ghost use Rattle.hp_model.specs.declared.place.Place.TheVariants.{Gone};
+ghost use Rattle.hp_model.specs.files.Mapping.{copy_of, is_map, map_punched, without_range};
+ghost use Rattle.hp_mapping.specs.Mapped.{reserves_in};
+ghost use Rattle.hp_model.specs.Lists.{edit_range};
+ghost use Rattle.hp_store.specs.Store.{dropped, holders_of, page_at};
+ghost use Rattle.hp_lookup.specs.Dropping.{HasHolders, IsDropping};
+ghost use Rattle.hp_lookup.specs.Held.{in_cell, in_map, in_place, more_in};
+ghost use Rattle.hp_lookup.specs.Numbered.{no_mapping};
+ghost use Rattle.hp_file.specs.Taking.{robbed_at};
+ghost use Rattle.hp_lookup.specs.Leaving.{IsMoreButTask, ended_for, map_named, owed};
+
+use hp_inode::Inode;
+use hp_lookup::Hints;
+use hp_mapping::{Mapping, PackedPlace, copy_in};
+use hp_model::naming::Naming;
+use hp_model::page_no::PageNo;
+use hp_store::PageStore;
+
+/// A holder of a page goes, and with its last one the page. `more` counts holders beyond the first of each page.
+pub fn drop_holder<N: Naming>(number: PageNo, store: &mut PageStore<N>, more: &mut usize)
+    requires held { 0 < holders_of (page_at store.old number) }
+    requires counted { more.old ≡ more_in store.old.pages }
+    ensures dropped { store.new ≡ dropped number store.old }
+    ensures counted { more.new ≡ more_in store.new.pages }
+{
+    if !store.drop_one(number) {
+        *more -= 1;
+    }
+}
+
+/// Takes the pages of a file's indices from `a` up to `b`, with their entries. Entries without a page stay. It takes a
+/// step for each page that was there.
+pub fn drop_pages<N: Naming>(
+    inode: &mut Inode,
+    a: u64,
+    b: u64,
+    store: &mut PageStore<N>,
+    more: &mut usize,
+)
+    requires held { (n : ℕ) → sum_by (in_cell n) inode.old ≤ holders_of (page_at store.old n) }
+    requires some { HasHolders store.old }
+    requires counted { more.old ≡ more_in store.old.pages }
+    ensures cells { inode.new ≡ edit_range cell_punched a b inode.old }
+    ensures dropping { IsDropping (λ n. sum_by (in_cell n) inode.old)
+        (λ n. sum_by (in_cell n) inode.new)
+        store.old store.new }
+    ensures counted { more.new ≡ more_in store.new.pages }
+{
+    while let Some(number) = inode.take_page(a, b) {
+        drop_holder(number, store, more);
+    }
+}
+
+// A holder of a page goes, and with its last one the page. `gone` counts the pages that went.
+fn drop_counting<N: Naming>(number: PageNo, store: &mut PageStore<N>, gone: &mut usize)
+    requires held { 0 < holders_of (page_at store.old number) }
+    requires few { gone.old < 2 ^ 63 }
+    ensures dropped { store.new ≡ dropped number store.old }
+    ensures counted { more_in store.new.pages + gone.old + 1 ≡ more_in store.old.pages + gone.new }
+    ensures one { gone.new ≤ gone.old + 1 }
+{
+    if store.drop_one(number) {
+        *gone += 1;
+    }
+}
+
+// The copies of some places go, up to the first place without a copy, which is answered.
+fn drop_run<N: Naming>(places: &[PackedPlace], store: &mut PageStore<N>, more: &mut usize) -> usize
+    requires held { (n : ℕ) → sum_by (in_place n) places.now ≤ holders_of (page_at store.old n) }
+    requires some { HasHolders store.old }
+    requires counted { more.old ≡ more_in store.old.pages }
+    ensures past { IsSome (copy_of (slice_index_or places.now 0 Gone)) → 0 < result }
+    ensures within { result ≤ length places.now }
+    ensures dropping { IsDropping (λ n. sum_by (in_place n) places.now)
+        (λ n. sum_by (in_place n) (drop result places.now)) store.old store.new }
+    ensures counted { more.new ≡ more_in store.new.pages }
+{
+    let mut at = 0;
+    let mut gone = 0;
+    while at < places.len() {
+        let Some(number) = copy_in(&places[at]) else {
+            break;
+        };
+        drop_counting(number, store, &mut gone);
+        at += 1;
+    }
+    *more -= at - gone;
+    at
+}
+
+/// The copies of a map that is gone go. It takes a step for each.
+pub fn drop_map<N: Naming>(map: &Mapping, store: &mut PageStore<N>, more: &mut usize)
+    requires held { (n : ℕ) → in_map n map.now ≤ holders_of (page_at store.old n) }
+    requires some { HasHolders store.old }
+    requires counted { more.old ≡ more_in store.old.pages }
+    ensures dropping { IsDropping (λ n. in_map n map.now) (λ n. 0) store.old store.new }
+    ensures counted { more.new ≡ more_in store.new.pages }
+{
+    let end = map.end();
+    let mut from = map.start();
+    while let Some(at) = map.lowest_copy(from, end) {
+        let past = drop_run(map.run_from(at), store, more);
+        from = at + past as u64;
+    }
+}
+
+/// Takes a map's private copies of the indices from `a` up to `b`. It takes a step for each copy that was there.
+pub fn drop_copies<N: Naming>(
+    map: &mut Mapping,
+    a: u64,
+    b: u64,
+    store: &mut PageStore<N>,
+    more: &mut usize,
+)
+    requires held { (n : ℕ) → in_map n map.old ≤ holders_of (page_at store.old n) }
+    requires some { HasHolders store.old }
+    requires counted { more.old ≡ more_in store.old.pages }
+    ensures map { map.new ≡ map_punched a b map.old }
+    ensures dropping { IsDropping (λ n. in_map n map.old) (λ n. in_map n map.new) store.old
+        store.new }
+    ensures counted { more.new ≡ more_in store.new.pages }
+{
+    while let Some(number) = map.take_copy(a, b) {
+        drop_holder(number, store, more);
+    }
+}
+
+/// The same of each of some maps.
+pub fn drop_all_copies<N: Naming>(
+    maps: &mut [Mapping],
+    a: u64,
+    b: u64,
+    store: &mut PageStore<N>,
+    more: &mut usize,
+)
+    requires held { (n : ℕ) → sum_by (in_map n) maps.old ≤ holders_of (page_at store.old n) }
+    requires some { HasHolders store.old }
+    requires counted { more.old ≡ more_in store.old.pages }
+    ensures maps { maps.new ≡ map (map_punched a b) maps.old }
+    ensures dropping { IsDropping (λ n. sum_by (in_map n) maps.old)
+        (λ n. sum_by (in_map n) maps.new)
+        store.old store.new }
+    ensures counted { more.new ≡ more_in store.new.pages }
+{
+    for map in maps.iter_mut() {
+        drop_copies(map, a, b, store, more);
+    }
+}
+
+// A map that has the page as its copy at an index loses it, and is marked.
+fn take_from<N: Naming>(
+    map: &mut Mapping,
+    index: u64,
+    number: PageNo,
+    store: &mut PageStore<N>,
+    more: &mut usize,
+)
+    requires held { (n : ℕ) → in_map n map.old ≤ holders_of (page_at store.old n) }
+    requires some { HasHolders store.old }
+    requires counted { more.old ≡ more_in store.old.pages }
+    ensures map { map.new ≡ robbed_at number index map.old }
+    ensures dropping { IsDropping (λ n. in_map n map.old) (λ n. in_map n map.new) store.old
+        store.new }
+    ensures counted { more.new ≡ more_in store.new.pages }
+{
+    if map.copy_at(index) != Some(number) {
+        return;
+    }
+    map.take_away(index);
+    drop_holder(number, store, more);
+}
+
+/// All maps but one lose the page as their copy at an index, and are marked. It takes a step for each.
+pub fn take_from_others<N: Naming>(
+    maps: &mut [Mapping],
+    keeper: usize,
+    index: u64,
+    number: PageNo,
+    store: &mut PageStore<N>,
+    more: &mut usize,
+)
+    requires keeper { keeper < length maps.old }
+    requires held { (n : ℕ) → sum_by (in_map n) maps.old ≤ holders_of (page_at store.old n) }
+    requires some { HasHolders store.old }
+    requires counted { more.old ≡ more_in store.old.pages }
+    ensures maps { maps.new ≡ slice_set (map (robbed_at number index) maps.old) keeper
+        (slice_index_or maps.old keeper no_mapping) }
+    ensures dropping { IsDropping (λ n. sum_by (in_map n) maps.old)
+        (λ n. sum_by (in_map n) maps.new)
+        store.old store.new }
+    ensures counted { more.new ≡ more_in store.new.pages }
+{
+    for (at, map) in maps.iter_mut().enumerate() {
+        if at == keeper {
+            continue;
+        }
+        take_from(map, index, number, store, more);
+    }
+}
+
+/// A file's indices from `a` up to `b` leave a map, with its copies of them. Answers how many reservations that frees. It
+/// takes a step for each index that was there.
+pub fn leave_range<N: Naming>(
+    map: &mut Mapping,
+    a: u64,
+    b: u64,
+    store: &mut PageStore<N>,
+    more: &mut usize,
+) -> u64
+    requires order { a ≤ b }
+    requires held { (n : ℕ) → in_map n map.old ≤ holders_of (page_at store.old n) }
+    requires some { HasHolders store.old }
+    requires counted { more.old ≡ more_in store.old.pages }
+    ensures map { map.new ≡ without_range a b map.old }
+    ensures dropping { IsDropping (λ n. in_map n map.old) (λ n. in_map n map.new) store.old
+        store.new }
+    ensures counted { more.new ≡ more_in store.new.pages }
+    ensures freed { result ≡ reserves_in a b map.old }
+{
+    drop_copies(map, a, b, store, more);
+    map.unmap(a, b)
+}
+
+// A map of the task loses all its indices, with what it holds, and is noted no more. Answers how many reservations went.
+fn end_map_of<N: Naming>(
+    task: u64,
+    map: &mut Mapping,
+    hints: &mut Hints,
+    store: &mut PageStore<N>,
+    more: &mut usize,
+) -> u64
+    requires held { (n : ℕ) → in_map n map.old ≤ holders_of (page_at store.old n) }
+    requires some { HasHolders store.old }
+    requires counted { more.old ≡ more_in store.old.pages }
+    ensures map { map.new ≡ ended_for task map.old }
+    ensures dropping { IsDropping (λ n. in_map n map.old) (λ n. in_map n map.new) store.old
+        store.new }
+    ensures counted { more.new ≡ more_in store.new.pages }
+    ensures reserves { result + owed map.new ≡ owed map.old }
+    ensures hints { IsMoreButTask task (map_named task map.old) hints.old hints.new }
+{
+    if map.task() != task {
+        return 0;
+    }
+    hints.forget_map(task, map.number());
+    let start = map.start();
+    let end = map.end();
+    leave_range(map, start, end, store, more)
+}
+
+/// The maps of a task lose all their indices, with what they hold, and are noted no more. Answers how many reservations
+/// went.
+pub fn end_maps_of<N: Naming>(
+    task: u64,
+    maps: &mut [Mapping],
+    hints: &mut Hints,
+    store: &mut PageStore<N>,
+    more: &mut usize,
+) -> u64
+    requires held { (n : ℕ) → sum_by (in_map n) maps.old ≤ holders_of (page_at store.old n) }
+    requires some { HasHolders store.old }
+    requires counted { more.old ≡ more_in store.old.pages }
+    requires few { sum_by owed maps.old < 2 ^ 64 }
+    ensures maps { maps.new ≡ map (ended_for task) maps.old }
+    ensures dropping { IsDropping (λ n. sum_by (in_map n) maps.old)
+        (λ n. sum_by (in_map n) maps.new)
+        store.old store.new }
+    ensures counted { more.new ≡ more_in store.new.pages }
+    ensures reserves { result + sum_by owed maps.new ≡ sum_by owed maps.old }
+    ensures hints { IsMoreButTask task (λ number. count_by (is_map task number) maps.old)
+        hints.old hints.new }
+{
+    let mut reserves = 0;
+    for map in maps.iter_mut() {
+        reserves += end_map_of(task, map, hints, store, more);
+    }
+    reserves
+}
+
+/// The copies of maps that are gone go. It takes a step for each map and copy.
+pub fn drop_maps<N: Naming>(maps: &[Mapping], store: &mut PageStore<N>, more: &mut usize)
+    requires held { (n : ℕ) → sum_by (in_map n) maps.now ≤ holders_of (page_at store.old n) }
+    requires some { HasHolders store.old }
+    requires counted { more.old ≡ more_in store.old.pages }
+    ensures dropping { IsDropping (λ n. sum_by (in_map n) maps.now) (λ n. 0) store.old store.new }
+    ensures counted { more.new ≡ more_in store.new.pages }
+{
+    for map in maps {
+        drop_map(map, store, more);
+    }
+}

@@ -1,0 +1,487 @@
+//! A file, with its pages by number.
+ghost use Rattle.std.specs.Prelude.{◌≡◌, ◌^◌, ◌-◌, drop, take, ◌++◌, ◌∷◌, ◌≤◌, List, ℕ, true, ◌+◌, ◌<◌, length, false, slice_set, None, Some, IfNone, IfOk, IfSome, [], OnOk, OnErr, IsSome, IsTrue};
+ghost use Rattle.hp_model.specs.declared.cell.Cell.TheVariants.{Hole, Entered, Present};
+ghost use Rattle.std.specs.List.{list_any, position_or_len, slice_index_or};
+ghost use Rattle.hp_model.specs.files.Mapping.{copy_of, is_map, is_live, is_of, place_at};
+ghost use Rattle.hp_mapping.specs.Mapped.{at_place, with_copy};
+ghost use Rattle.hp_file.specs.Taking.{first_copy, with_taken_back};
+ghost use Rattle.hp_lookup.specs.Asking.{IsAsked};
+ghost use Rattle.hp_subpool.specs.Subpool.{Subpool as ShareValue, is_full, used};
+ghost use Rattle.hp_store.specs.Store.{holders_of, page_at};
+ghost use Rattle.hp_lookup.specs.Dropping.{HasHolders, IsDropping};
+ghost use Rattle.hp_lookup.specs.Held.{in_file, more_in};
+ghost use Rattle.hp_model.specs.files.MountCounts.{is_waiting};
+ghost use Rattle.hp_lookup.specs.Keyed.{is_name_of};
+ghost use Rattle.hp_lookup.specs.Numbered.{mapping_at, with_mapping, with_punched, with_truncated};
+ghost use Rattle.hp_model.specs.Lists.{edit_range};
+ghost use Rattle.hp_model.specs.files.File.{at_least, cell_in, entered, has_page, is_hole, page_of, is_entered};
+ghost use Rattle.std.specs.List.{count_by};
+
+mod filling;
+mod forking;
+mod leaving;
+
+use crate::dropping::{drop_all_copies, drop_maps, drop_pages, take_from_others};
+use hp_inode::Inode;
+use hp_lookup::FileName;
+use hp_mapping::Mapping;
+use hp_model::naming::Naming;
+use hp_model::page_no::PageNo;
+use hp_model::refusal::Refusal;
+use hp_mount_door::PoolDoor;
+use hp_store::PageStore;
+use hp_subpool::Subpool;
+use std::alloc::{AllocError, Global};
+use std::marker::Model;
+use std::mem;
+
+/// What stands at an index of a file.
+#[derive(Clone, Copy, Debug, PartialEq, Eq)]
+pub enum CellState {
+    Hole,
+    Entered,
+    Present,
+}
+
+/// A file: its maps in order of making, its indices with their pages' numbers, and its name if it has one. What an access looks
+/// at stands first.
+#[derive(Drop)]
+pub struct File {
+    maps: Vec<Mapping>,
+    inode: Inode,
+    name: Option<FileName>,
+}
+
+impl Model for File {
+    ghost use Rattle.hp_lookup.specs.Numbered.{NumberedFile};
+
+    ghost Value = { NumberedFile };
+
+    ghost view = { λ f. record {
+      name = f.name;
+      cells = f.inode;
+      maps = f.maps.items;
+    } };
+}
+
+impl File {
+    // Inlined, so that the name is not moved on the way.
+    #[inline(always)]
+    pub fn new(alloc: Global, name: Option<FileName>) -> Self
+        ensures { result ≡ record { name = name; cells = []; maps = [] } }
+    {
+        File {
+            maps: Vec::new(alloc),
+            inode: Inode::new(alloc),
+            name,
+        }
+    }
+
+    /// Where a map with the tag stands, if it is there.
+    pub fn map_tagged(&self, tag: u64) -> usize {
+        self.maps.partition_point(|m| m.tag() < tag)
+    }
+
+    /// Ends the file with its maps. What they hold goes. Answers how many entries without a page it had.
+    pub fn close<N: Naming>(self, store: &mut PageStore<N>, more: &mut usize) -> u64
+        requires held { (n : ℕ) → in_file n self ≤ holders_of (page_at store.old n) }
+        requires some { HasHolders store.old }
+        requires counted { more.old ≡ more_in store.old.pages }
+        ensures dropping { IsDropping (λ n. in_file n self) (λ n. 0) store.old store.new }
+        ensures counted { more.new ≡ more_in store.new.pages }
+        ensures entries { result ≡ count_by is_waiting self.cells }
+    {
+        let File {
+            name: _,
+            mut inode,
+            maps,
+        } = self;
+        let len = inode.len();
+        drop_pages(&mut inode, 0, len, store, more);
+        drop_maps(&maps, store, more);
+        inode.drop_entries(0, len)
+    }
+
+    /// Takes the name away.
+    pub fn drop_name(&mut self)
+        ensures { self.new ≡ record self.old { name = None } }
+    {
+        self.name = None;
+    }
+
+    /// The pages of the indices from `a` up to `b` go with their entries, and so do private copies of them. Entries
+    /// without a page stay.
+    pub fn punch<N: Naming>(
+        &mut self,
+        a: u64,
+        b: u64,
+        store: &mut PageStore<N>,
+        more: &mut usize,
+    )
+        requires held { (n : ℕ) → in_file n self.old ≤ holders_of (page_at store.old n) }
+        requires some { HasHolders store.old }
+        requires counted { more.old ≡ more_in store.old.pages }
+        ensures file { self.new ≡ with_punched a b self.old }
+        ensures dropping { IsDropping (λ n. in_file n self.old) (λ n. in_file n self.new)
+            store.old store.new }
+        ensures counted { more.new ≡ more_in store.new.pages }
+    {
+        drop_pages(&mut self.inode, a, b, store, more);
+        drop_all_copies(&mut self.maps, a, b, store, more);
+    }
+
+    /// Makes the file `len` indices long. Pages, entries and private copies from there on go. Answers how many entries
+    /// without a page went.
+    pub fn truncate<N: Naming>(
+        &mut self,
+        len: u64,
+        store: &mut PageStore<N>,
+        more: &mut usize,
+    ) -> u64
+        requires held { (n : ℕ) → in_file n self.old ≤ holders_of (page_at store.old n) }
+        requires some { HasHolders store.old }
+        requires counted { more.old ≡ more_in store.old.pages }
+        requires small { len < 2 ^ 32 }
+        ensures file { self.new ≡ with_truncated len self.old }
+        ensures dropping { IsDropping (λ n. in_file n self.old) (λ n. in_file n self.new)
+            store.old store.new }
+        ensures counted { more.new ≡ more_in store.new.pages }
+        ensures entries { result ≡ count_by is_waiting (drop len self.old.cells) }
+    {
+        let end = self.inode.len();
+        self.punch(len, len + end, store, more);
+        let inode = &mut self.inode;
+        let entries = inode.drop_entries(len.min(end), end);
+        inode.set_len(len);
+        entries
+    }
+
+    pub fn len(&self) -> u64
+        ensures { result ≡ length self.now.cells }
+    {
+        self.inode.len()
+    }
+
+    /// How many indices have a page.
+    pub fn page_count(&self) -> u64
+        ensures { result ≡ count_by has_page self.now.cells }
+    {
+        self.inode.page_count()
+    }
+
+    /// How many indices are entered, with a page or without.
+    pub fn entry_count(&self) -> u64
+        ensures { result ≡ count_by is_entered self.now.cells }
+    {
+        self.inode.entry_count()
+    }
+
+    pub fn page_at(&self, index: u64) -> Option<PageNo>
+        ensures { result ≡ page_of (cell_in self.now.cells index) }
+    {
+        self.inode.page_at(index)
+    }
+
+    pub fn entered(&self, index: u64) -> bool
+        ensures { result ≡ is_entered (cell_in self.now.cells index) }
+    {
+        self.inode.entered(index)
+    }
+
+    /// The page of an entered index.
+    pub fn fill(&mut self, index: u64, number: PageNo)
+        requires { cell_in self.old.cells index ≡ Entered }
+        ensures { self.new ≡ record self.old {
+          cells = slice_set self.old.cells index (Present number);
+        } }
+    {
+        self.inode.fill(index, number);
+    }
+
+    // The index behind one below the length.
+    fn after(&self, index: u64) -> u64
+        requires { index < length self.now.cells }
+        ensures { result ≡ index + 1 }
+    {
+        let len = self.inode.len();
+        if index < len { index + 1 } else { len }
+    }
+
+    /// Enters an index that is a hole, and makes the room for its page and for its removal.
+    pub fn enter(&mut self, index: u64) -> Result<(), AllocError>
+        requires below { index < length self.old.cells }
+        requires hole { cell_in self.old.cells index ≡ Hole }
+        ensures ok { OnOk result (self.new ≡ record self.old {
+          cells = slice_set self.old.cells index Entered;
+        }) }
+        ensures err { OnErr result (self.new ≡ self.old) }
+    {
+        let end = self.after(index);
+        self.inode.reserve_range(index, end)?;
+        Ok(())
+    }
+
+    /// An entered index without a page is a hole.
+    pub fn leave(&mut self, index: u64)
+        requires below { index < length self.old.cells }
+        requires entered { cell_in self.old.cells index ≡ Entered }
+        ensures { self.new ≡ record self.old { cells = slice_set self.old.cells index Hole } }
+    {
+        let end = self.after(index);
+        self.inode.drop_entries(index, end);
+    }
+
+    /// How many indices from `a` up to `b` have no entry. Past the end none has.
+    pub fn missing(&self, a: u64, b: u64) -> u64
+        requires { a ≤ b }
+        ensures { result ≡ count_by is_hole (take (b - a) (drop a (at_least b self.now.cells))) }
+    {
+        let inode = &self.inode;
+        let known = b.min(inode.len());
+        inode.missing(a, known) + (b - known.max(a))
+    }
+
+    /// Adds a map, and enters its indices from `from` on; the file gets longer where the map reaches past its end. The
+    /// pages of the `wanted` indices without an entry are reserved through the door. Refused as OutOfMemory before the
+    /// door, or as the door refuses; then nothing changes.
+    pub fn add_map<N: Naming, D: PoolDoor<Share = Subpool<N>>>(
+        &mut self,
+        alloc: Global,
+        door: &mut D,
+        share: &mut Subpool<N>,
+        home: usize,
+        wanted: u64,
+        from: u64,
+        map: Mapping,
+    ) -> Result<(), Refusal>
+        requires shares { (s : ShareValue) → D.share_of s ≡ s }
+        requires ready { D.is_ready door.old }
+        requires within { is_full share.old wanted ≡ false }
+        requires few { used share.old + wanted < 2 ^ 64 }
+        requires reach { map.start + length map.places < 2 ^ 32 }
+        ensures ok { OnOk result (self.new ≡ with_mapping from map self.old) }
+        ensures err { OnErr result (self.new ≡ self.old) }
+        ensures asked { IsAsked D.took D.is_full home wanted share.old door.old result share.new
+            door.new }
+        ensures left { D.is_left door.new }
+    {
+        if self.maps.reserve(1).is_err() {
+            drop(map);
+            return Err(Refusal::OutOfMemory);
+        }
+        let end = map.end();
+        let inode = &mut self.inode;
+        match enter_range(inode, alloc, door, share, home, wanted, from, end) {
+            Ok(()) => {
+                self.maps.push_reserved(map);
+                Ok(())
+            }
+            Err(refusal) => {
+                drop(map);
+                Err(refusal)
+            }
+        }
+    }
+
+    /// The place of the task's map of that number, or how many maps there are.
+    pub fn place_of(&self, task: u64, number: u64) -> usize
+        ensures { result ≡ position_or_len (is_map task number) self.now.maps }
+    {
+        let maps = self.maps.as_slice();
+        maps.iter()
+            .position(|m| is_map(m, task, number))
+            .unwrap_or(maps.len())
+    }
+
+    /// The map at a place.
+    pub fn map(&self, at: usize) -> &Mapping
+        requires { at < length self.now.maps }
+        ensures { result.now ≡ slice_index_or self.now.maps at result.now }
+    {
+        &self.maps[at]
+    }
+
+    /// The page is the copy at a map's index, and an owner's reservation for it is consumed.
+    pub fn put_copy(&mut self, map: usize, index: u64, number: PageNo)
+        requires within { map < length self.old.maps }
+        requires live { IsTrue (is_live (place_at (mapping_at self.old map) index)) }
+        ensures { self.new ≡ record self.old {
+          maps = slice_set self.old.maps map
+              (at_place (first_copy (mapping_at self.old map).owner number) index
+              (mapping_at self.old map));
+        } }
+    {
+        let at = &mut self.maps[map];
+        at.set_copy(index, number);
+        if at.is_owner() {
+            at.consume(index);
+        }
+    }
+
+    /// The page takes the place of the copy at a map's index, which is answered.
+    pub fn replace_copy(&mut self, map: usize, index: u64, number: PageNo) -> PageNo
+        requires within { map < length self.old.maps }
+        requires copy { IsSome (copy_of (place_at (mapping_at self.old map) index)) }
+        ensures old { copy_of (place_at (mapping_at self.old map) index) ≡ Some result }
+        ensures file { self.new ≡ record self.old {
+          maps = slice_set self.old.maps map
+              (at_place (with_copy number) index (mapping_at self.old map));
+        } }
+    {
+        let at = &mut self.maps[map];
+        let old = at.copy_at(index).unwrap();
+        at.set_copy(index, number);
+        old
+    }
+
+    /// All other maps lose a map's copy at an index, and are marked.
+    pub fn take_back<N: Naming>(
+        &mut self,
+        map: usize,
+        index: u64,
+        store: &mut PageStore<N>,
+        more: &mut usize,
+    )
+        requires within { map < length self.old.maps }
+        requires copy { IsSome (copy_of (place_at (mapping_at self.old map) index)) }
+        requires held { (n : ℕ) → in_file n self.old ≤ holders_of (page_at store.old n) }
+        requires some { HasHolders store.old }
+        requires counted { more.old ≡ more_in store.old.pages }
+        ensures file { (number : ℕ) → copy_of (place_at (mapping_at self.old map) index)
+            ≡ Some number
+            → self.new ≡ with_taken_back number map index self.old }
+        ensures dropping { IsDropping (λ n. in_file n self.old) (λ n. in_file n self.new)
+            store.old store.new }
+        ensures counted { more.new ≡ more_in store.new.pages }
+    {
+        let number = self.maps[map].copy_at(index).unwrap();
+        take_from_others(&mut self.maps, map, index, number, store, more);
+    }
+
+    /// Whether the task's map of that number stands at a place.
+    pub fn is_map_at(&self, at: usize, task: u64, number: u64) -> bool
+        ensures within { IsTrue result → at < length self.now.maps }
+        ensures map { IsTrue result → is_map task number (mapping_at self.now at) ≡ true }
+    {
+        match self.maps.get(at) {
+            Some(map) => is_map(map, task, number),
+            None => false,
+        }
+    }
+
+    /// How many maps it has.
+    pub fn map_count(&self) -> usize
+        ensures { result ≡ length self.now.maps }
+    {
+        self.maps.len()
+    }
+
+    /// The name, if it has one.
+    pub fn name(&self) -> Option<&[u8]>
+        ensures some { IfSome result (λ name. self.now.name ≡ Some name.now) }
+        ensures few { IfSome result (λ name. length name.now ≤ 64) }
+        ensures none { IfNone result (self.now.name ≡ None) }
+    {
+        match &self.name {
+            Some(name) => Some(name.as_slice()),
+            None => None,
+        }
+    }
+
+    pub fn is_named(&self, name: &[u8]) -> bool
+        ensures { result ≡ is_name_of name.now self.now.name }
+    {
+        match &self.name {
+            Some(own) => own.as_slice() == name,
+            None => false,
+        }
+    }
+
+    /// Whether it has the task's map of that number.
+    pub fn has_map(&self, task: u64, number: u64) -> bool
+        ensures { result ≡ list_any (is_map task number) self.now.maps }
+    {
+        self.maps.iter().any(|m| is_map(m, task, number))
+    }
+}
+
+fn is_map(map: &Mapping, task: u64, number: u64) -> bool
+    ensures { result ≡ is_map task number map.now }
+{
+    map.task() == task && map.number() == number
+}
+
+// Reserves the pages that a map asks for, through the door.
+fn ask<N: Naming, D: PoolDoor<Share = Subpool<N>>>(
+    door: &mut D,
+    share: &mut Subpool<N>,
+    home: usize,
+    wanted: u64,
+) -> Result<(), Refusal>
+    requires shares { (s : ShareValue) → D.share_of s ≡ s }
+    requires ready { D.is_ready door.old }
+    requires within { is_full share.old wanted ≡ false }
+    requires few { used share.old + wanted < 2 ^ 64 }
+    ensures asked { IsAsked D.took D.is_full home wanted share.old door.old result share.new
+        door.new }
+    ensures left { D.is_left door.new }
+{
+    match door.get(share, home, wanted) {
+        Ok(()) => Ok(()),
+        Err(refusal) => Err(refusal),
+    }
+}
+
+// Enters the indices of an inode from `from` up to `end`, if there are any; it gets longer where `end` is past its end. The
+// rest is as `add_map` says.
+fn enter_range<N: Naming, D: PoolDoor<Share = Subpool<N>>>(
+    inode: &mut Inode,
+    alloc: Global,
+    door: &mut D,
+    share: &mut Subpool<N>,
+    home: usize,
+    wanted: u64,
+    from: u64,
+    end: u64,
+) -> Result<(), Refusal>
+    requires shares { (s : ShareValue) → D.share_of s ≡ s }
+    requires ready { D.is_ready door.old }
+    requires within { is_full share.old wanted ≡ false }
+    requires few { used share.old + wanted < 2 ^ 64 }
+    requires reach { end < 2 ^ 32 }
+    ensures ok { OnOk result (inode.new ≡ edit_range entered from end (at_least end inode.old)) }
+    ensures err { OnErr result (inode.new ≡ inode.old) }
+    ensures asked { IsAsked D.took D.is_full home wanted share.old door.old result share.new
+        door.new }
+    ensures left { D.is_left door.new }
+{
+    if from >= end {
+        ask(door, share, home, wanted)?;
+        inode.lengthen(end);
+        return Ok(());
+    }
+    let taken = mem::replace(inode, Inode::new(alloc));
+    match taken.prepare(from, end) {
+        Ok(ready) => match ask(door, share, home, wanted) {
+            Ok(()) => {
+                put_back(inode, ready.enter());
+                Ok(())
+            }
+            Err(refusal) => {
+                put_back(inode, ready.leave());
+                Err(refusal)
+            }
+        },
+        Err(taken) => {
+            put_back(inode, taken);
+            Err(Refusal::OutOfMemory)
+        }
+    }
+}
+
+// What was taken out of its place is there again.
+fn put_back(place: &mut Inode, taken: Inode)
+    ensures { place.new ≡ taken }
+{
+    *place = taken;
+}

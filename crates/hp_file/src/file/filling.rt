@@ -1,0 +1,123 @@
+//! Indices of a file that get entries and pages.
+ghost use Rattle.std.specs.Prelude.{◌≡◌, ◌+◌, ◌<◌, ◌≤◌, ◌^◌, [], false, OnErr, OnOk};
+ghost use Rattle.std.specs.List.{count_by};
+ghost use Rattle.hp_model.specs.Lists.{edit_range, part};
+ghost use Rattle.hp_model.specs.files.File.{at_least, entered};
+ghost use Rattle.hp_model.specs.files.Fill.{lacks_page};
+ghost use Rattle.hp_mount_door.specs.Door.{by_node};
+ghost use Rattle.hp_mount_door.specs.Filling.{AreRising};
+ghost use Rattle.hp_file.specs.Filling.{IsTaking};
+ghost use Rattle.hp_store.specs.Batch.{Batch as BatchValue};
+ghost use Rattle.hp_subpool.specs.Subpool.{Subpool as ShareValue, is_full, used};
+
+use super::{File, put_back};
+use hp_inode::Inode;
+use hp_model::naming::Naming;
+use hp_model::refusal::Refusal;
+use hp_mount_door::PoolDoor;
+use hp_store::PageBatch;
+use hp_subpool::Subpool;
+use std::alloc::Global;
+use std::mem;
+
+// How many indices from `a` up to `b` have no page. Past the end none has.
+fn lacking(inode: &Inode, a: u64, b: u64) -> u64
+    requires { a ≤ b }
+    ensures { result ≡ count_by lacks_page (part a b (at_least b inode.now)) }
+{
+    let mut count = 0;
+    for index in a..b {
+        if inode.page_at(index).is_none() {
+            count += 1;
+        }
+    }
+    count
+}
+
+// Fills an empty batch through the door.
+fn fill<N: Naming, D: PoolDoor<Share = Subpool<N>, Batch = PageBatch<N>>>(
+    door: &mut D,
+    share: &mut Subpool<N>,
+    k: u64,
+    count: u64,
+    batch: &mut PageBatch<N>,
+) -> Result<(), Refusal>
+    requires shares { (s : ShareValue) → D.share_of s ≡ s }
+    requires batches { (b : BatchValue) → D.batch_of b ≡ b }
+    requires ready { D.is_ready door.old }
+    requires within { is_full share.old k ≡ false }
+    requires few { used share.old + k < 2 ^ 64 }
+    requires held { count ≤ share.old.held + k }
+    requires batch { batch.old ≡ record { pages = []; room = count } }
+    ensures taken { IsTaking D.took D.is_full k count share.old door.old result
+        (by_node batch.new.pages) share.new door.new }
+    ensures rising { OnOk result (AreRising count batch.new.pages) }
+    ensures empty { OnErr result (batch.new.pages ≡ []) }
+    ensures left { D.is_left door.new }
+{
+    match door.fill(share, k, count, batch) {
+        Ok(()) => Ok(()),
+        Err(refusal) => Err(refusal),
+    }
+}
+
+impl File {
+    /// How many indices from `a` up to `b` have no page. Past the end none has. It takes a step for each.
+    pub fn lacking(&self, a: u64, b: u64) -> u64
+        requires { a ≤ b }
+        ensures { result ≡ count_by lacks_page (part a b (at_least b self.now.cells)) }
+    {
+        lacking(&self.inode, a, b)
+    }
+
+    /// Enters the indices from `a` up to `b`, which makes the file longer where `b` is past its end, and fills an empty
+    /// batch through the door. Refused as OutOfMemory before the door, or as the door refuses; then nothing changes.
+    pub fn take_pages<N: Naming, D: PoolDoor<Share = Subpool<N>, Batch = PageBatch<N>>>(
+        &mut self,
+        alloc: Global,
+        door: &mut D,
+        share: &mut Subpool<N>,
+        a: u64,
+        b: u64,
+        k: u64,
+        count: u64,
+        batch: &mut PageBatch<N>,
+    ) -> Result<(), Refusal>
+        requires shares { (s : ShareValue) → D.share_of s ≡ s }
+        requires batches { (b : BatchValue) → D.batch_of b ≡ b }
+        requires ready { D.is_ready door.old }
+        requires reach { b < 2 ^ 32 }
+        requires within { is_full share.old k ≡ false }
+        requires few { used share.old + k < 2 ^ 64 }
+        requires held { count ≤ share.old.held + k }
+        requires batch { batch.old ≡ record { pages = []; room = count } }
+        ensures ok { OnOk result (self.new ≡ record self.old {
+          cells = edit_range entered a b (at_least b self.old.cells);
+        }) }
+        ensures err { OnErr result (self.new ≡ self.old) }
+        ensures taken { IsTaking D.took D.is_full k count share.old door.old result
+            (by_node batch.new.pages) share.new door.new }
+        ensures rising { OnOk result (AreRising count batch.new.pages) }
+        ensures empty { OnErr result (batch.new.pages ≡ []) }
+        ensures left { D.is_left door.new }
+    {
+        let inode = &mut self.inode;
+        let taken = mem::replace(inode, Inode::new(alloc));
+        match taken.prepare(a, b) {
+            Ok(ready) => match fill(door, share, k, count, batch) {
+                Ok(()) => {
+                    put_back(inode, ready.enter());
+                    Ok(())
+                }
+                Err(refusal) => {
+                    put_back(inode, ready.leave());
+                    Err(refusal)
+                }
+            },
+            Err(taken) => {
+                put_back(inode, taken);
+                Err(Refusal::OutOfMemory)
+            }
+        }
+    }
+}

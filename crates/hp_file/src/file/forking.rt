@@ -1,0 +1,72 @@
+//! A child's maps of a file.
+ghost use Rattle.std.specs.Prelude.{◌≡◌, ◌++◌, ◌^◌, ◌+◌, ◌≤◌, ℕ, length, vec_capacity, IfOk};
+ghost use Rattle.hp_store.specs.Store.{holders_of, page_at};
+ghost use Rattle.hp_lookup.specs.Dropping.{HasHolders};
+ghost use Rattle.hp_lookup.specs.Forking.{HasNoted, IsReady, IsSharing, in_list, list_copies, maps_of, with_list};
+ghost use Rattle.hp_lookup.specs.Held.{more_in};
+
+use super::File;
+use crate::forking::{children, share_all};
+use hp_lookup::{FileTag, Hints, MapPlace, MapTag, Tags};
+use hp_mapping::Mapping;
+use hp_model::naming::Naming;
+use hp_store::PageStore;
+use std::alloc::{AllocError, Global};
+
+impl File {
+    /// The maps that a child gets for those of a parent, in a list that has room for all the file's maps.
+    pub fn children(
+        &self,
+        alloc: Global,
+        tags: &mut Tags,
+        parent: u64,
+        child: u64,
+    ) -> Result<Vec<Mapping>, AllocError>
+        ensures { IfOk result (IsReady parent child self.now) }
+    {
+        let list = children(&self.maps, alloc, tags, parent, child)?;
+        Ok(list)
+    }
+
+    /// Maps come behind its own, and each of their copies has a holder more.
+    pub fn join<N: Naming>(
+        &mut self,
+        mut list: Vec<Mapping>,
+        store: &mut PageStore<N>,
+        more: &mut usize,
+    )
+        requires room { length list.items + length self.old.maps ≤ vec_capacity list }
+        requires held { (n : ℕ) → in_list n list ≤ holders_of (page_at store.old n) }
+        requires some { HasHolders store.old }
+        requires counted { more.old ≡ more_in store.old.pages }
+        requires few { more.old + list_copies list ≤ 2 ^ 32 }
+        ensures file { self.new ≡ with_list self.old list }
+        ensures sharing { IsSharing (λ n. in_list n list) store.old store.new }
+        ensures counted { more.new ≡ more_in store.new.pages }
+        ensures more { more.new ≡ more.old + list_copies list }
+    {
+        share_all(&list, store, more);
+        let added = list.len();
+        list.append(&mut self.maps).unwrap();
+        list.rotate_left(added);
+        self.maps = list;
+    }
+
+    /// The file stands at a place: notes where a task's maps stand, and their tags. There is room for them. Takes a step for
+    /// each map.
+    pub fn note_maps(&self, task: u64, file: FileTag, hints: &mut Hints)
+        requires { maps_of task self.now ≤ hints.old.room }
+        ensures { HasNoted task self.now hints.old hints.new }
+    {
+        for (map, mapping) in self.maps.iter().enumerate() {
+            if mapping.task() == task {
+                let at = MapPlace {
+                    file: file.at(),
+                    map,
+                };
+                let tag = MapTag::new(at, file.tag(), mapping.tag());
+                hints.note_map(task, mapping.number(), tag).unwrap();
+            }
+        }
+    }
+}

@@ -1,0 +1,37 @@
+-- A file for another in which each number stands at as many places.
+use Rattle.std.proofs.Common.{◌≡◌, ◌≢◌, ◌==◌, ⊎_elim, true, false, ℕ, ◌<◌, List, length, sym, ap, subst, ◌∙◌, arith}
+use Rattle.std.specs.Prelude.{slice_set}
+use Rattle.std.specs.List.{sum_by}
+use Rattle.std.proofs.lemmas.Bool.Decides.{eqb_tells}
+use Rattle.std.proofs.lemmas.List.{get_or-set_same, get_or-set_other, length-set}
+use Rattle.std.proofs.lemmas.List.Sums.{sum_by-set}
+use Rattle.hp_store.specs.Store.{Store}
+use Rattle.hp_lookup.specs.Held.{IsHeld, in_cell, in_cells, in_file, in_files}
+use Rattle.hp_lookup.specs.Numbered.{NumberedFile, numbered_at}
+use Rattle.hp_lookup.proofs.Cells.{no_file}
+
+module _ (s : Store) (more : ℕ) (fs : List NumberedFile) (h : IsHeld s more fs) (k : ℕ) (l : k < length fs) (g : NumberedFile)
+    (cells_as : (n : ℕ) → sum_by (in_cell n) g.cells ≡ sum_by (in_cell n) (numbered_at fs k).cells)
+    (file_as : (n : ℕ) → in_file n g ≡ in_file n (numbered_at fs k)) where
+  files_as : (n : ℕ) → in_files n (slice_set fs k g) ≡ in_files n fs
+  files_as n = (let step = sum_by-set (in_file n) fs k g no_file l in let same = file_as n in omega (arith, step, same))
+
+  own_as : (n : ℕ) → in_cells n (slice_set fs k g) ≡ in_cells n fs
+  own_as n = (let step = sum_by-set (λ (x : NumberedFile). sum_by (in_cell n) x.cells) fs k g no_file l in let same = cells_as n in omega (arith, step, same))
+
+  at_as : (n j : ℕ) → in_file n (numbered_at (slice_set fs k g) j) ≡ in_file n (numbered_at fs j)
+  at_as n j = ⊎_elim
+      (λ (e : ((j == k) ≡ true) × (j ≡ k)). (ap (λ x. in_file n (numbered_at (slice_set fs k g) x)) e.1
+      ∙ ap (in_file n) (get_or-set_same fs k g no_file l) ∙ file_as n ∙ ap (λ x. in_file n (numbered_at fs x)) (sym e.1)))
+      (λ (e : ((j == k) ≡ false) × (j ≢ k)). ap (in_file n) (get_or-set_other fs k j g no_file e.1))
+      (eqb_tells j k)
+
+  pub alike_held : IsHeld s more (slice_set fs k g)
+  alike_held = record {
+    held = λ n. h.held n ∙ sym (files_as n);
+    some = h.some;
+    alone = λ n some. files_as n ∙ h.alone n (subst (λ x. 0 < x) (own_as n) some);
+    apart = λ n j lj some. files_as n ∙ h.apart n j (subst (λ x. j < x) (length-set fs k g) lj) (subst (λ x. 0 < x) (at_as n j) some) ∙ sym (at_as n j);
+    counted = h.counted;
+    parts = h.parts;
+  }

@@ -1,0 +1,13 @@
+pub mod Numbered
+pub mod Held
+pub mod Files
+pub mod Places
+pub mod Keyed
+pub mod Tally
+pub mod Hints
+pub mod Asking
+pub mod Dropping
+pub mod Level
+pub mod Leaving
+pub mod Forking
+pub mod Name

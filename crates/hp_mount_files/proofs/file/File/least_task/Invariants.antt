@@ -1,6 +1,0 @@
-use Rattle.std.specs.Prelude.{◌≡◌, map, take}
-use Rattle.hp_mount_files.specs.Leaving.{least_among}
-use Rattle.hp_mount_files.proofs.file.File.least_task.Given as goal
-
-abbrev pub invariant-loop-map : goal.invariant-loop-map
-invariant-loop-map l = l.least ≡ least_among l.fn.known (map (λ m. m.task) (take l.map-index l.maps))

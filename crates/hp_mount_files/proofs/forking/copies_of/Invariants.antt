@@ -1,7 +1,0 @@
-use Rattle.std.proofs.Common.{◌≡◌, ◌+◌, ◌-◌, ◌<◌, ◌^◌, drop}
-use Rattle.std.specs.List.{sum_by}
-use Rattle.hp_mount_files.specs.Forking.{copies_in}
-use Rattle.hp_mount_files.proofs.forking.copies_of.Given as goal
-
-abbrev pub invariant-loop-map : goal.invariant-loop-map
-invariant-loop-map l = l.count < 2 ^ 64 - 1 → l.count + sum_by copies_in (drop l.map-index l.maps) ≡ sum_by copies_in l.maps
