@@ -135,7 +135,8 @@ module _ (s : Store) (more : ℕ) (fs : List NumberedFile) (h : IsHeld s more fs
   range_shown : file_shown s g ≡ with_entries a b (file_shown s x)
   range_shown =
       ap (file_shown s) g_is
-      ∙ ap (λ cs. record (file_shown s x) { cells = cs }) (map_edited (cell_shown s) entered entered (entered_shown s) a b (at_least b x.cells) ∙ ap (edit_range entered a b) (longer_shown s b x.cells))
+      ∙ ap (λ cs. record (file_shown s x) { cells = cs }) (map_edited (cell_shown s) entered entered (entered_shown s) a b (at_least b x.cells)
+      ∙ ap (edit_range entered a b) (longer_shown s b x.cells))
 
   pub range_view : view s more (slice_set fs k g) ≡ entered_at k a b (s.room - more) (view s more fs)
   range_view =

@@ -111,13 +111,7 @@ impl File {
 
     /// The pages of the indices from `a` up to `b` go with their entries, and so do private copies of them. Entries
     /// without a page stay.
-    pub fn punch<N: Naming>(
-        &mut self,
-        a: u64,
-        b: u64,
-        store: &mut PageStore<N>,
-        more: &mut usize,
-    )
+    pub fn punch<N: Naming>(&mut self, a: u64, b: u64, store: &mut PageStore<N>, more: &mut usize)
         requires held { (n : ℕ) → in_file n self.old ≤ holders_of (page_at store.old n) }
         requires some { HasHolders store.old }
         requires counted { more.old ≡ more_in store.old.pages }

@@ -66,12 +66,7 @@ impl MapRange {
     /// The map, which has no copy yet.
     // Inlined, so that it is not moved on the way.
     #[inline(always)]
-    pub fn mapping(
-        &self,
-        alloc: Global,
-        tag: u64,
-        number: u64,
-    ) -> Result<Mapping, AllocError>
+    pub fn mapping(&self, alloc: Global, tag: u64, number: u64) -> Result<Mapping, AllocError>
         requires { self.now.start + self.now.pages < 2 ^ 64 }
         ensures { IfOk result (λ map. map ≡ new_mapping self.now.task number self.now.start
             self.now.pages self.now.sharing self.now.reserving) }

@@ -1,5 +1,6 @@
 -- A range of a file that is filled, by what code did.
-use Rattle.std.proofs.Common.{◌≡◌, ℕ, ◌+◌, ◌-◌, ◌<◌, ◌≤◌, ◌==◌, ⊎_elim, ◌⊎◌, inl, inr, Bool, true, false, cond, List, [], ◌∷◌, Option, None, Some, Ok, Err, length, max, refl, sym, ap, subst, ◌∙◌, arith, nat_lt}
+use Rattle.std.proofs.Common.{◌≡◌, ℕ, ◌+◌, ◌-◌, ◌<◌, ◌≤◌, ◌==◌, ⊎_elim, ◌⊎◌, inl, inr, Bool, true, false, cond, List, [], ◌∷◌, Option, None, Some, Ok, Err}
+use Rattle.std.proofs.Common.{length, max, refl, sym, ap, subst, ◌∙◌, arith, nat_lt}
 use Rattle.std.specs.Prelude.{slice_set}
 use Rattle.std.proofs.lemmas.Bool.Decides.{nat_tests}
 use Rattle.std.proofs.lemmas.List.{get_or_default, length-set}
@@ -197,7 +198,8 @@ module _ {X : Type 0} (took : X → Section → PoolAnswer → X → Type 0) (fu
     refused_by : (e : Refusal) → first_of (preallocate_tests a b) ≡ Some e → Through took event (Some m) door (Err e) (Some m) door
     refused_by e h =
         let c : Choice = fresh_choice false (Some m) in
-        (c, is_fresh false (Some m), subst (λ p. ThroughDoor took p (Some m) door (Err e) (Some m) door) (sym (of_file c ∙ tests_fail (preallocate_tests a b) (after c) e h)) (refused_at took m e door))
+        (c, is_fresh false (Some m), subst (λ p. ThroughDoor took p (Some m) door (Err e) (Some m) door)
+        (sym (of_file c ∙ tests_fail (preallocate_tests a b) (after c) e h)) (refused_at took m e door))
 
     pub fill_refused : (e : Refusal) → first_of (preallocate_tests a b) ≡ Some e → Tried took full event (Some m) door (Err e) (Some m) door
     fill_refused r.TraceFull h = absurd (never_fill (is_bad_range a b) (nat_lt most_map_pages (b - a)) h)

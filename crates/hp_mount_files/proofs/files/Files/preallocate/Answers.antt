@@ -35,5 +35,6 @@ returns-in-Ok-clause-filled g c =
       by_node c.in-Ok.got.pages,
       c.in-Ok.ensures.taken,
       c.put_pages.ensures.put ∙ ap (zeros_at g.N.Naming.page_bytes a.file a.from c.in-Ok.got.pages) c.in-Ok.ensures.ok
-          ∙ all_filled g.N.Naming.page_bytes a.file a.from a.to a.self.now c.requires.file c.requires.order (max a.self.now.room (a.share.now.held + a.k)) a.count c.in-Ok.got.pages c.in-Ok.ensures.rising c.requires.count,
+          ∙ all_filled g.N.Naming.page_bytes a.file a.from a.to a.self.now c.requires.file c.requires.order (max a.self.now.room (a.share.now.held + a.k))
+          a.count c.in-Ok.got.pages c.in-Ok.ensures.rising c.requires.count,
     )

@@ -46,7 +46,8 @@ loop-index-preserved g c =
           let spent = ap (λ (v : Files). v.room) new_is in
           record {
             putting = subst (λ cs. IsPutting size a b (i + 1) first cs all c.match-cell.batch.pages) (sym (cells_put k i q init now c.match-cell.self c.requires.file new_is was.files))
-                (putting_puts size a b i first (file_at now.files k).cells all left was.putting c.loop-index.auto.index c.loop-index-test.true w.in-Entered.ensures p q c.match-cell.batch.pages left_is refl);
+                (putting_puts size a b i first (file_at now.files k).cells all left was.putting
+                c.loop-index.auto.index c.loop-index-test.true w.in-Entered.ensures p q c.match-cell.batch.pages left_is refl);
             files = files_put k i q init now c.match-cell.self c.requires.file new_is was.files;
             going = ap (λ (v : Files). v.going) new_is ∙ was.going;
             room = omega (arith, was.room, was.fits, fewer, spent);
@@ -54,7 +55,8 @@ loop-index-preserved g c =
           }
       | in_default w ↦
           let left_is = ap (λ (x : Batch). x.pages) w.batch-is in
-          let stays = putting_stays size a b i first (file_at now.files k).cells all left was.putting c.loop-index.auto.index c.loop-index-test.true c.cell.result w.in_default.not-Entered c.cell.ensures in
+          let stays = putting_stays size a b i first (file_at now.files k).cells all left was.putting
+          c.loop-index.auto.index c.loop-index-test.true c.cell.result w.in_default.not-Entered c.cell.ensures in
           let cells = ap (λ (v : Files). (file_at v.files k).cells) w.self-is in
           let same = ap length left_is in
           let spent = ap (λ (v : Files). v.room) w.self-is in

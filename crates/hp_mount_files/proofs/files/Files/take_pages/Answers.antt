@@ -29,6 +29,7 @@ returns-clause-ok g c =
     let within : c.args.file < length s.list.files = (let same = files_len s.store s.list.files in omega (arith, same, shown)) in
     let a = c.args in
     let reserves : c.saturating_add-reserves.result ≡ a.share.now.held + a.k = omega (arith, c.held.ensures, c.saturating_add-reserves.ensures, c.in-Ok.ensures.few) in
-    range_view s.store s.more s.list.files c.self.invariant.held a.file a.from a.to within c.index_mut-at.result.now c.take_pages.new.self c.index_mut-at.ensures.value c.in_default-take_pages.ensures.ok
+    range_view s.store s.more s.list.files c.self.invariant.held a.file a.from a.to within
+    c.index_mut-at.result.now c.take_pages.new.self c.index_mut-at.ensures.value c.in_default-take_pages.ensures.ok
     ∙ ap (λ (v : Files). entered_at a.file a.from a.to v.room v) (c.self.view_is ∙ c.in-Ok.ensures.ok)
     ∙ ap (λ n. entered_at a.file a.from a.to (max a.self.now.room n) a.self.now) reserves
