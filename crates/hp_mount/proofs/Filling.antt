@@ -197,9 +197,12 @@ module _ {X : Type 0} (took : X → Section → PoolAnswer → X → Type 0) (fu
 
     refused_by : (e : Refusal) → first_of (preallocate_tests a b) ≡ Some e → Through took event (Some m) door (Err e) (Some m) door
     refused_by e h =
-        let c : Choice = fresh_choice false (Some m) in
-        (c, is_fresh false (Some m), subst (λ p. ThroughDoor took p (Some m) door (Err e) (Some m) door)
-        (sym (of_file c ∙ tests_fail (preallocate_tests a b) (after c) e h)) (refused_at took m e door))
+        let c : Choice = fresh_choice false (Some m) in (
+          c,
+          is_fresh false (Some m),
+          subst (λ p. ThroughDoor took p (Some m) door (Err e) (Some m) door)
+              (sym (of_file c ∙ tests_fail (preallocate_tests a b) (after c) e h)) (refused_at took m e door),
+        )
 
     pub fill_refused : (e : Refusal) → first_of (preallocate_tests a b) ≡ Some e → Tried took full event (Some m) door (Err e) (Some m) door
     fill_refused r.TraceFull h = absurd (never_fill (is_bad_range a b) (nat_lt most_map_pages (b - a)) h)
