@@ -4,4 +4,5 @@ mod MachineSteps
 mod Mounting
 pub mod Start
 mod Tasks
+mod Slots
 mod Forking

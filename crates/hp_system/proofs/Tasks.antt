@@ -21,7 +21,7 @@ module _ {X : Type 0} (p : X → Bool) where
       let rest = find_alone d xs (omega (arith, count_cons p x xs, few)) at (omega (arith, within)) passes in
       ap (λ b. cond b (Some x) (find p xs)) other ∙ rest
 
-  none_found : {Y : Type 0} (f : X → Y) (xs : List X) → option_map f (find p xs) ≡ None → count_by p xs ≡ 0
+  pub none_found : {Y : Type 0} (f : X → Y) (xs : List X) → option_map f (find p xs) ≡ None → count_by p xs ≡ 0
   none_found f [] none = refl
   none_found f (x ∷ xs) none =
       elim (p x) as (λ b. p x ≡ b → option_map f (cond b (Some x) (find p xs)) ≡ None → count_by p (x ∷ xs) ≡ 0) [

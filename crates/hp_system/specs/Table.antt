@@ -1,6 +1,6 @@
 -- The task table as it is kept.
-use Rattle.std.specs.Prelude.{ℕ, ◌≤◌, ◌==◌}
-use Rattle.std.specs.List.{count_by}
+use Rattle.std.specs.Prelude.{◌≡◌, ℕ, ◌*◌, ◌<◌, ◌≤◌, ◌==◌, ◌%◌, Bool, false, List, length, Option, None, Some}
+use Rattle.std.specs.List.{count_by, filter_map, slice_index_or}
 use Rattle.hp_model.specs.machine.Table.{Table}
 use Rattle.hp_model.specs.Profile.{most_tasks}
 
@@ -8,6 +8,32 @@ use Rattle.hp_model.specs.Profile.{most_tasks}
 abbrev pub HasEachOnce : Table → Type 0
 HasEachOnce tasks = (task : ℕ) → count_by (λ e. e.0 == task) tasks ≤ 1
 
--- there is room for all tasks
-abbrev pub IsTaskTable : Table → (room : ℕ) → Type 0
-IsTaskTable tasks room = HasEachOnce tasks × (most_tasks ≤ room)
+-- a task with its home, or a gap
+abbrev pub Slot : Type 0
+Slot = Option (ℕ × ℕ)
+
+abbrev pub slot_at : List Slot → ℕ → Slot
+slot_at slots at = slice_index_or slots at None
+
+-- the tasks, without the gaps
+abbrev pub tasks_in : List Slot → Table
+tasks_in slots = filter_map (λ slot. slot) slots
+
+abbrev pub has_task : ℕ → Slot → Bool
+has_task task None = false
+has_task task (Some e) = e.0 == task
+
+-- how many tasks have this rest by 16384
+abbrev pub count_of_rest : ℕ → Table → ℕ
+count_of_rest rest tasks = count_by (λ e. e.0 % 16384 == rest) tasks
+
+abbrev pub AreCounted : List Slot → (counts : List ℕ) → Type 0
+AreCounted slots counts = (rest : ℕ) → rest < 16384 → slice_index_or counts rest 0 ≡ count_of_rest rest (tasks_in slots)
+
+-- each task once, in room for twice as many slots as there may be tasks
+pub record IsTaskTable (slots : List Slot) (capacity total : ℕ) (counts : List ℕ) : Type 0 where
+  pub once : HasEachOnce (tasks_in slots)
+  pub room : 2 * most_tasks ≤ capacity
+  pub count : total ≡ length (tasks_in slots)
+  pub long : length counts ≡ 16384
+  pub counted : AreCounted slots counts
