@@ -228,6 +228,26 @@ fn accesses_in_turn<N: Naming, R: Abort>(rt: &R, door: &mut Noting<N>, mount: &m
     same!(rt; used(mount), usage(2, 1));
 }
 
+fn preallocate_pages<N: Naming>(door: &mut Noting<N>, mount: &mut Mount<N>) -> Result<(), Refusal>
+    requires { IsReady door.old.pool }
+    ensures { IsReady door.new.pool }
+{
+    mount.preallocate(door, b"a", 0, 2)
+}
+
+// A range is refused where the door has no place, and gets its pages with one. Where all are there no section is asked for.
+fn preallocates_in_turn<N: Naming, R: Abort>(rt: &R, door: &mut Noting<N>, mount: &mut Mount<N>)
+    requires { IsReady door.old.pool }
+    ensures { IsReady door.new.pool }
+{
+    same!(rt; preallocate_pages(door, mount), Err(Refusal::TraceFull));
+    same!(rt; used(mount), usage(2, 1));
+    door.places = 1;
+    same!(rt; preallocate_pages(door, mount), Ok(()));
+    same!(rt; preallocate_pages(door, mount), Ok(()));
+    same!(rt; used(mount), usage(2, 1));
+}
+
 // A private map of a new file is refused where the door has no place, and goes through with one.
 fn anon_in_turn<N: Naming, R: Abort>(rt: &R, door: &mut Noting<N>, mount: &mut Mount<N>)
     requires { IsReady door.old.pool }
@@ -275,6 +295,7 @@ fn run<N: Naming, R: Abort>(rt: &R, alloc: Global, blanks: Blanks)
     };
     maps_in_turn(rt, &mut door, &mut mount);
     accesses_in_turn(rt, &mut door, &mut mount);
+    preallocates_in_turn(rt, &mut door, &mut mount);
     anon_in_turn(rt, &mut door, &mut mount);
     a_page_by_a_grant(rt, alloc, &mut door);
     mount.exit_maps(&mut door, 7);
@@ -292,7 +313,7 @@ fn run<N: Naming, R: Abort>(rt: &R, alloc: Global, blanks: Blanks)
         Taken {
             reserves: 3,
             granted: 0,
-            reserved: 1
+            reserved: 2
         }
     );
     let counts = pool.close();
