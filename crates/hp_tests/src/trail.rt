@@ -42,6 +42,7 @@ fn granted() -> PoolAnswer {
         granted: true,
         node: 0,
         nr: 0,
+        pages: [0; 4],
     }
 }
 
