@@ -7,9 +7,9 @@ use Rattle.hp_model.specs.declared.section.PoolAnswer.{PoolAnswer}
 use Rattle.hp_model.specs.declared.section.Section.{Section}
 use Rattle.hp_model.specs.machine.Accesses.{bytes_reply, done_reply}
 use Rattle.hp_model.specs.machine.Plan.{Reply, Slot}
-use Rattle.hp_mount.specs.declared.event.MountEvent.{MountEvent}
+use Rattle.hp_events.specs.declared.event.MountEvent.{MountEvent}
 use Rattle.hp_mount.specs.Done.{IsDone}
-use Rattle.hp_mount.specs.Event.{event_of}
+use Rattle.hp_events.specs.Event.{event_of}
 use denote.Ref.{Bor}
 
 -- an event with its reply, by other words for both

@@ -1,10 +1,8 @@
 //! One mount's events: its files, their pages and their maps, through any door to the pool.
 #![tactic(auto)]
 
-mod event;
 mod mount;
 
-pub use event::MountEvent;
 pub use hp_mount_door::PoolDoor;
 pub use hp_mount_files::MapRange;
 pub use mount::{MapAccess, Mount};

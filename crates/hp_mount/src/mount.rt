@@ -14,7 +14,7 @@ ghost use Rattle.hp_store.specs.Store.{Store as StoreValue, page_at};
 ghost use Rattle.hp_subpool.specs.Subpool.{Subpool as ShareValue};
 ghost use Rattle.hp_mount.specs.Alone.{IsDoneAlone};
 ghost use Rattle.hp_mount.specs.Done.{IsDone};
-ghost use Rattle.hp_mount.specs.Event.{event_of, is_usage, shows_bytes};
+ghost use Rattle.hp_events.specs.Event.{event_of, is_usage, shows_bytes};
 ghost use Rattle.hp_mount.specs.Kept.{mount_of};
 ghost use Rattle.hp_mount.specs.Memory.{asks_memory};
 
@@ -28,7 +28,7 @@ mod private;
 mod reach;
 mod remounting;
 
-use crate::event::MountEvent;
+use hp_events::MountEvent;
 use hp_model::naming::Naming;
 use hp_model::refusal::Refusal;
 use hp_model::told::Told;

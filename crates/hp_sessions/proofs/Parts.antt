@@ -41,9 +41,9 @@ use Rattle.hp_locked.specs.declared.pool_told.PoolTold.{PoolTold}
 use Rattle.hp_locked.specs.declared.pool_told.PoolTold.TheVariants as pool
 use Rattle.hp_locked.specs.Told.{IsPoolEventDone, IsReceipt, pool_reply}
 use Rattle.hp_locked.specs.Views.{CoreView}
-use Rattle.hp_mount.specs.declared.event.MountEvent.{MountEvent}
-use Rattle.hp_mount.specs.declared.event.MountEvent.TheVariants as m
-use Rattle.hp_mount.specs.Event.{event_of}
+use Rattle.hp_events.specs.declared.event.MountEvent.{MountEvent}
+use Rattle.hp_events.specs.declared.event.MountEvent.TheVariants as m
+use Rattle.hp_events.specs.Event.{event_of}
 use Rattle.hp_mount.proofs.Ways.{fresh_choice, is_fresh}
 use Rattle.hp_shared.specs.Slots.{AreEventsToNote, IsSlotEvent, IsSlotEventDone, SlotView, Went, is_trace_full}
 use Rattle.hp_shared.proofs.Acting.{always_came, none_acted}

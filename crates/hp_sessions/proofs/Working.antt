@@ -8,14 +8,15 @@ use Rattle.hp_model.specs.declared.step.Intent.{Intent}
 use Rattle.hp_model.specs.declared.step.Step.{Step}
 use Rattle.hp_model.specs.declared.step.Step.TheVariants.{Fault}
 use Rattle.hp_model.specs.machine.Accesses.{load_step, store_step}
-use Rattle.hp_mount.specs.declared.event.MountEvent.TheVariants as m
+use Rattle.hp_events.specs.declared.event.MountEvent.TheVariants as m
 use Rattle.hp_model.specs.machine.Plan.{Reply}
 use Rattle.hp_model.specs.machine.Step.{only, script}
 use Rattle.hp_model.specs.threads.Telling.{most_receipts}
-use Rattle.hp_sessions.specs.declared.work.Work.{Work}
-use Rattle.hp_sessions.specs.declared.work.Work.TheVariants.{OfTask}
+use Rattle.hp_events.specs.declared.work.Work.{Work}
+use Rattle.hp_events.specs.declared.work.Work.TheVariants.{OfTask}
 use Rattle.hp_sessions.specs.Calls.{Carries, HasReceiptRoom, IsCallAnswered, IsMade, IsRefusedFirst, SessionView}
-use Rattle.hp_sessions.specs.Works.{IsRefusedWork, IsWork, IsWorked, work_carries, work_receipts, work_script}
+use Rattle.hp_events.specs.Works.{IsWork, work_carries, work_receipts, work_script}
+use Rattle.hp_sessions.specs.Works.{IsRefusedWork, IsWorked}
 use Rattle.hp_sessions.proofs.Carrying.{answered, only_made, refused_first}
 
 -- what was done of the work is what was done of the step

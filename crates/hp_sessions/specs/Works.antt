@@ -1,66 +1,14 @@
--- What a step asks of which part.
-use Rattle.std.specs.Prelude.{◌≡◌, ◌⊎◌, ℕ, ◌+◌, ◌*◌, ◌<◌, ◌≤◌, Bool, true, false, Option, None, Some, Ok, Err, List, [], ◌∷◌, length}
+-- What a session answers to what a step asks.
+use Rattle.std.specs.Prelude.{◌≡◌, ◌⊎◌, ℕ, ◌+◌, ◌<◌, ◌≤◌, Bool, true, Option, None, Some, Err, List, [], length}
 use Rattle.hp_model.specs.declared.answer.Answer.{Answer}
 use Rattle.hp_model.specs.declared.answer.Answer.TheVariants.{Bytes, Done}
-use Rattle.hp_model.specs.declared.event.Event.TheVariants.{Tasks as OnTasks, Pool as OnPool}
 use Rattle.hp_model.specs.declared.event.SlotEvent.{SlotEvent}
 use Rattle.hp_model.specs.declared.event.SlotEvent.TheVariants as slot
 use Rattle.hp_model.specs.declared.refusal.Refusal.TheVariants.{OutOfMemory, TraceFull}
-use Rattle.hp_model.specs.declared.step.Step.{Step}
-use Rattle.hp_model.specs.declared.step.Step.TheVariants as step
-use Rattle.hp_model.specs.machine.Copying.{has_bytes}
 use Rattle.hp_model.specs.machine.Plan.{Reply}
-use Rattle.hp_model.specs.machine.Step.{Script, finding, on_slot, only, script}
-use Rattle.hp_model.specs.threads.Telling.{carries_bytes, most_receipts}
-use Rattle.hp_laws.specs.Answers.{lists_names}
-use Rattle.hp_mount.specs.Event.{event_of}
-use Rattle.hp_sessions.specs.declared.work.Work.{Work}
-use Rattle.hp_sessions.specs.declared.work.Work.TheVariants.{Tasks, Pool, Fork, Exit, Mount, Remount, Umount, Names, OnSlot, OfTask}
+use Rattle.hp_events.specs.declared.work.Work.{Work}
+use Rattle.hp_events.specs.Works.{work_carries, work_receipts, work_script}
 use Rattle.hp_sessions.specs.Calls.{Carries, SessionView}
-
--- ---- the step that it stands for
-
-abbrev pub work_script : (slots : ℕ) → Work → Script
-work_script n (Tasks e) = only (OnTasks e)
-work_script n (Pool e) = only (OnPool e)
-work_script n (Fork parent child) = script n (step.Fork parent child)
-work_script n (Exit task) = script n (step.Exit task)
-work_script n (Mount k options) = on_slot n k (slot.Mount options.now)
-work_script n (Remount k options) = on_slot n k (slot.Remount options.now)
-work_script n (Umount k) = on_slot n k slot.Umount
-work_script n (Names k) = on_slot n k slot.Ls
-work_script n (OnSlot k e) = on_slot n k (event_of 0 e)
-work_script n (OfTask task k e) = finding task (λ home. on_slot n k (event_of home e))
-
--- the most receipts that it brings
-abbrev pub work_receipts : (slots : ℕ) → Work → ℕ
-work_receipts n (Fork parent child) = 2 * n + 1
-work_receipts n (Exit task) = n + 1
-work_receipts n (OfTask task k e) = 2
-work_receipts n other = 1
-
--- it has a name, options or bytes
-abbrev pub work_carries : Work → Bool
-work_carries (Mount k options) = true
-work_carries (Remount k options) = true
-work_carries (OnSlot k e) = has_bytes (event_of 0 e)
-work_carries (OfTask task k e) = has_bytes (event_of 0 e)
-work_carries other = false
-
--- lists are asked for by `Names` alone
-abbrev pub ListsByNamesAlone : Work → Type 0
-ListsByNamesAlone (OnSlot k e) = lists_names (event_of 0 e) ≡ false
-ListsByNamesAlone (OfTask task k e) = lists_names (event_of 0 e) ≡ false
-ListsByNamesAlone other = Unit {0}
-
--- the step, by what it asks of which part
-pub record IsWork (s : Step) (w : Work) : Type 0 where
-  pub script : (n : ℕ) → script n s ≡ work_script n w
-  pub receipts : (n : ℕ) → most_receipts n s ≡ work_receipts n w
-  pub carries : carries_bytes s ≡ work_carries w
-  pub apart : ListsByNamesAlone w
-
--- ---- what is answered
 
 -- there is no room for the receipts, or no memory for a copy of what it carries
 abbrev pub IsRefusedWork : SessionView → Work → Reply → Type 0

@@ -1,14 +1,7 @@
-//! The machine that threads share, and their sessions on it.
+//! Sessions on the machine that threads share.
 #![tactic(auto)]
 
-mod closing;
-mod making;
-mod parting;
 mod session;
-mod shared;
-mod spare;
-mod work;
 
-pub use closing::{Closed, audit};
+pub use hp_shared_machine::{Closed, Shared, Trails, audit};
 pub use session::Session;
-pub use shared::{Shared, Trails};

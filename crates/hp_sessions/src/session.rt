@@ -10,10 +10,10 @@ mod notes;
 mod service;
 mod steps;
 
-use crate::shared::Shared;
 use hp_locked::Gate;
 use hp_model::entry::Receipt;
 use hp_model::naming::Naming;
+use hp_shared_machine::Shared;
 use std::alloc::{AllocError, Global};
 use std::marker::Model;
 use std::sync::Wait;
@@ -60,7 +60,7 @@ impl<'a, N: Naming, R: Wait, G: Gate, const K: usize> Session<'a, N, R, G, K> {
         ensures room { IfOk result (λ s. (K == 1) ≡ true → s.room ≡ room) }
         ensures page { N.page_bytes ≤ 2097152 }
     {
-        let _law = shared.page_bytes;
+        let _bytes = shared.page_bytes();
         let mut receipts = Vec::new(alloc);
         let room = if K == 1 { room } else { 0 };
         receipts.reserve(room)?;
@@ -96,22 +96,5 @@ impl<'a, N: Naming, R: Wait, G: Gate, const K: usize> Session<'a, N, R, G, K> {
         if let Some(receipt) = receipt {
             self.receipts.push_reserved(receipt);
         }
-    }
-}
-
-impl<N: Naming, const K: usize> Shared<N, K> {
-    // The bytes of a page, as the machine's names have them.
-    fn page_size(&self) -> u64
-        ensures { result ≡ N.page_bytes }
-    {
-        self.page_bytes as u64
-    }
-
-    // How many slots there are.
-    fn count(&self) -> usize
-        ensures count { result ≡ self.now.slots }
-        ensures few { result ≤ 64 }
-    {
-        self.slots.len()
     }
 }

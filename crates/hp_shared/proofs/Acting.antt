@@ -18,10 +18,10 @@ use Rattle.hp_laws.proofs.Listing.{names_are_listed}
 use Rattle.hp_laws.proofs.Outcomes.{reply_of}
 use Rattle.hp_laws.proofs.Small.{Small, slot_small, tells_all}
 use Rattle.hp_locked.specs.Views.{Asks}
-use Rattle.hp_mount.specs.declared.event.MountEvent.{MountEvent}
-use Rattle.hp_mount.specs.declared.event.MountEvent.TheVariants as m
+use Rattle.hp_events.specs.declared.event.MountEvent.{MountEvent}
+use Rattle.hp_events.specs.declared.event.MountEvent.TheVariants as m
 use Rattle.hp_mount.specs.Done.{IsDone, Through}
-use Rattle.hp_mount.specs.Event.{event_of, is_usage}
+use Rattle.hp_events.specs.Event.{event_of, is_usage}
 use Rattle.hp_mount.proofs.Ways.{fresh_choice, is_fresh}
 use Rattle.hp_shared.specs.Slots.{IsActedOr, Went}
 

@@ -6,7 +6,7 @@ ghost use Rattle.hp_model.specs.machine.Copying.{has_names, reply_has_names};
 ghost use Rattle.hp_model.specs.machine.Told.{told_answer, told_reply};
 ghost use Rattle.hp_model.specs.text.Writing.{HasSmallAnswer, IsWithinLimits};
 ghost use Rattle.hp_laws.specs.Answers.{lists_names};
-ghost use Rattle.hp_mount.specs.Event.{event_of, shows_bytes};
+ghost use Rattle.hp_events.specs.Event.{event_of, shows_bytes};
 ghost use Rattle.hp_store.specs.Batch.{Batch as BatchValue};
 ghost use Rattle.hp_store.specs.Store.{Store as StoreValue};
 ghost use Rattle.hp_subpool.specs.Subpool.{Subpool as ShareValue};
@@ -15,12 +15,13 @@ ghost use Rattle.hp_model.specs.declared.event.SlotEvent.TheVariants.{ExitMaps, 
 ghost use Rattle.hp_model.specs.machine.Event.{has_maps_of};
 ghost use Rattle.hp_shared.specs.Slots.{IsActedOr, Went, is_trace_full};
 
+use hp_events::MountEvent;
 use hp_locked::SessionDoor;
 use hp_model::answer::{Answer, Reply};
 use hp_model::naming::Naming;
 use hp_model::refusal::Refusal;
 use hp_model::told::Told;
-use hp_mount::{Mount, MountEvent};
+use hp_mount::Mount;
 use hp_mount_door::PoolDoor;
 use hp_nodes::Page;
 use hp_store::{PageBatch, PageStore};

@@ -21,10 +21,10 @@ use Rattle.hp_model.specs.machine.Table.{Table}
 use Rattle.hp_laws.specs.Laws.{pool_after}
 use Rattle.hp_laws.proofs.StaysSettled.{pool_is_tied, event_settled}
 use Rattle.hp_laws.proofs.Tells.{Tells, slot_event_tells}
-use Rattle.hp_mount.specs.declared.event.MountEvent.{MountEvent}
-use Rattle.hp_mount.specs.declared.event.MountEvent.TheVariants as event
+use Rattle.hp_events.specs.declared.event.MountEvent.{MountEvent}
+use Rattle.hp_events.specs.declared.event.MountEvent.TheVariants as event
 use Rattle.hp_mount.specs.Done.{Tried}
-use Rattle.hp_mount.specs.Event.{event_of}
+use Rattle.hp_events.specs.Event.{event_of}
 use Rattle.hp_mount_door.specs.Door.{IsReady as IsReadyPool}
 use Rattle.hp_system.specs.Event.{IsCarried, took}
 use Rattle.hp_system.specs.Kept.{machine_of, state_of, IsReadyMachine, IsSized, Machine}

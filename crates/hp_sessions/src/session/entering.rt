@@ -8,7 +8,7 @@ ghost use Rattle.hp_model.specs.declared.event.SlotEvent.TheVariants.{ExitMaps, 
 ghost use Rattle.hp_model.specs.declared.refusal.Refusal.TheVariants.{TraceFull};
 ghost use Rattle.hp_model.specs.machine.Told.{told_reply};
 ghost use Rattle.hp_model.specs.text.Writing.{IsWithinLimits};
-ghost use Rattle.hp_mount.specs.Event.{event_of, shows_bytes};
+ghost use Rattle.hp_events.specs.Event.{event_of, shows_bytes};
 ghost use Rattle.hp_shared.specs.Slots.{names_reply};
 ghost use Rattle.hp_shared.specs.Tables.{table_reply};
 ghost use Rattle.hp_sessions.specs.Calls.{IsHanded};
@@ -16,6 +16,7 @@ ghost use Rattle.hp_sessions.specs.Works.{AreCopies, bytes_of_event};
 
 use super::Session;
 use super::notes::{Copies, events, mountings, remountings};
+use hp_events::MountEvent;
 use hp_locked::{Core, Door, Gate};
 use hp_model::entry::{PoolEntry, Receipt, SlotEntry, TableEntry};
 use hp_model::event::{PoolEvent, TableEvent};
@@ -23,7 +24,6 @@ use hp_model::names::Names;
 use hp_model::naming::Naming;
 use hp_model::refusal::Refusal;
 use hp_model::told::Told;
-use hp_mount::MountEvent;
 use hp_shared::{Slot, Table, TableTold};
 use hp_trail::trace::Trace;
 use std::sync::{Mutex, MutexGuard, Wait};
@@ -51,7 +51,7 @@ impl<'a, N: Naming, R: Wait, G: Gate, const K: usize> Session<'a, N, R, G, K> {
         ensures { IsHanded (K == 1) N.page_bytes (OnTasks event) (table_reply result.0) result.1 }
     {
         let shared = self.shared;
-        let mut value = hold(&shared.table, self.rt);
+        let mut value = hold(shared.table(), self.rt);
         let table: &mut Table<N, Trace<TableEntry, K>> = &mut value;
         match table.event(event) {
             Err(_full) => (TableTold::Refused(Refusal::TraceFull), None),
@@ -66,7 +66,7 @@ impl<'a, N: Naming, R: Wait, G: Gate, const K: usize> Session<'a, N, R, G, K> {
         ensures { IsHanded (K == 1) N.page_bytes (OnTasks event) (table_reply result) None }
     {
         let shared = self.shared;
-        let mut value = hold(&shared.table, self.rt);
+        let mut value = hold(shared.table(), self.rt);
         let table: &mut Table<N, Trace<TableEntry, K>> = &mut value;
         table.event_unnoted(event)
     }
@@ -81,7 +81,7 @@ impl<'a, N: Naming, R: Wait, G: Gate, const K: usize> Session<'a, N, R, G, K> {
         ensures limits { IsWithinLimits (told_reply result.0) }
     {
         let shared = self.shared;
-        let mut value = hold(&shared.core, self.rt);
+        let mut value = hold(shared.core(), self.rt);
         let core: &mut Core<N, Trace<PoolEntry, K>> = &mut value;
         match core.event(event) {
             Err(_full) => (Err(Refusal::TraceFull), None),
@@ -97,7 +97,7 @@ impl<'a, N: Naming, R: Wait, G: Gate, const K: usize> Session<'a, N, R, G, K> {
         ensures limits { IsWithinLimits (told_reply result) }
     {
         let shared = self.shared;
-        let told = hold(&shared.core, self.rt).event_unnoted(event);
+        let told = hold(shared.core(), self.rt).event_unnoted(event);
         told.told()
     }
 
@@ -119,7 +119,7 @@ impl<'a, N: Naming, R: Wait, G: Gate, const K: usize> Session<'a, N, R, G, K> {
         ensures limits { IsWithinLimits (told_reply result.0) }
     {
         let shared = self.shared;
-        let mut value = hold(&shared.slots[at], self.rt);
+        let mut value = hold(shared.slot(at), self.rt);
         self.gate.enter(at as u64);
         let slot: &mut Slot<N, Trace<SlotEntry, K>> = &mut value;
         if slot.number() != at as u64 {
@@ -130,8 +130,8 @@ impl<'a, N: Naming, R: Wait, G: Gate, const K: usize> Session<'a, N, R, G, K> {
         } else {
             None
         };
-        let mut door = Door::new(self.rt, self.gate, &shared.core, &shared.nodes);
-        slot.event(&mut door, shared.page_size(), home, event, noted, room)
+        let mut door = Door::new(self.rt, self.gate, shared.core(), shared.nodes());
+        slot.event(&mut door, shared.page_bytes(), home, event, noted, room)
     }
 
     // An event of the mount of a slot where no entries are kept.
@@ -152,14 +152,14 @@ impl<'a, N: Naming, R: Wait, G: Gate, const K: usize> Session<'a, N, R, G, K> {
         ensures limits { IsWithinLimits (told_reply result) }
     {
         let shared = self.shared;
-        let mut value = hold(&shared.slots[at], self.rt);
+        let mut value = hold(shared.slot(at), self.rt);
         self.gate.enter(at as u64);
         let slot: &mut Slot<N, Trace<SlotEntry, K>> = &mut value;
         if slot.number() != at as u64 {
             return Err(absent::<K>(Refusal::NoSuchSlot));
         }
-        let mut door = Door::new(self.rt, self.gate, &shared.core, &shared.nodes);
-        slot.event_unnoted(&mut door, shared.page_size(), home, event, room)
+        let mut door = Door::new(self.rt, self.gate, shared.core(), shared.nodes());
+        slot.event_unnoted(&mut door, shared.page_bytes(), home, event, room)
     }
 
     // Mounts a slot.
@@ -176,7 +176,7 @@ impl<'a, N: Naming, R: Wait, G: Gate, const K: usize> Session<'a, N, R, G, K> {
         ensures limits { IsWithinLimits (told_reply result.0) }
     {
         let shared = self.shared;
-        let mut value = hold(&shared.slots[at], self.rt);
+        let mut value = hold(shared.slot(at), self.rt);
         self.gate.enter(at as u64);
         let slot: &mut Slot<N, Trace<SlotEntry, K>> = &mut value;
         if slot.number() != at as u64 {
@@ -187,8 +187,14 @@ impl<'a, N: Naming, R: Wait, G: Gate, const K: usize> Session<'a, N, R, G, K> {
         } else {
             None
         };
-        let mut door = Door::new(self.rt, self.gate, &shared.core, &shared.nodes);
-        slot.mount(&mut door, shared.alloc, shared.page_size(), options, noted)
+        let mut door = Door::new(self.rt, self.gate, shared.core(), shared.nodes());
+        slot.mount(
+            &mut door,
+            shared.alloc(),
+            shared.page_bytes(),
+            options,
+            noted,
+        )
     }
 
     // Sets the limits of a slot's mount anew.
@@ -205,7 +211,7 @@ impl<'a, N: Naming, R: Wait, G: Gate, const K: usize> Session<'a, N, R, G, K> {
         ensures limits { IsWithinLimits (told_reply result.0) }
     {
         let shared = self.shared;
-        let mut value = hold(&shared.slots[at], self.rt);
+        let mut value = hold(shared.slot(at), self.rt);
         self.gate.enter(at as u64);
         let slot: &mut Slot<N, Trace<SlotEntry, K>> = &mut value;
         if slot.number() != at as u64 {
@@ -216,8 +222,8 @@ impl<'a, N: Naming, R: Wait, G: Gate, const K: usize> Session<'a, N, R, G, K> {
         } else {
             None
         };
-        let mut door = Door::new(self.rt, self.gate, &shared.core, &shared.nodes);
-        slot.remount(&mut door, shared.page_size(), options, noted)
+        let mut door = Door::new(self.rt, self.gate, shared.core(), shared.nodes());
+        slot.remount(&mut door, shared.page_bytes(), options, noted)
     }
 
     // Ends the mount of a slot.
@@ -231,13 +237,13 @@ impl<'a, N: Naming, R: Wait, G: Gate, const K: usize> Session<'a, N, R, G, K> {
         ensures limits { IsWithinLimits (told_reply result.0) }
     {
         let shared = self.shared;
-        let mut value = hold(&shared.slots[at], self.rt);
+        let mut value = hold(shared.slot(at), self.rt);
         self.gate.enter(at as u64);
         let slot: &mut Slot<N, Trace<SlotEntry, K>> = &mut value;
         if slot.number() != at as u64 {
             return (Err(absent::<K>(Refusal::NoSuchSlot)), None);
         }
-        let mut door = Door::new(self.rt, self.gate, &shared.core, &shared.nodes);
+        let mut door = Door::new(self.rt, self.gate, shared.core(), shared.nodes());
         slot.umount(&mut door)
     }
 
@@ -249,13 +255,13 @@ impl<'a, N: Naming, R: Wait, G: Gate, const K: usize> Session<'a, N, R, G, K> {
         ensures limits { IsWithinLimits (names_reply result.0) }
     {
         let shared = self.shared;
-        let mut value = hold(&shared.slots[at], self.rt);
+        let mut value = hold(shared.slot(at), self.rt);
         self.gate.enter(at as u64);
         let slot: &mut Slot<N, Trace<SlotEntry, K>> = &mut value;
         if slot.number() != at as u64 {
             return (Err(absent::<K>(Refusal::NoSuchSlot)), None);
         }
-        slot.names(shared.alloc)
+        slot.names(shared.alloc())
     }
 
     // Gives a child the maps that its parent has on a slot, if it has any there: whether there was an event.
@@ -271,13 +277,13 @@ impl<'a, N: Naming, R: Wait, G: Gate, const K: usize> Session<'a, N, R, G, K> {
             (OnSlot at (ForkMaps parent child)) (told_reply r.0) r.1) }
     {
         let shared = self.shared;
-        let mut value = hold(&shared.slots[at], self.rt);
+        let mut value = hold(shared.slot(at), self.rt);
         self.gate.enter(at as u64);
         let slot: &mut Slot<N, Trace<SlotEntry, K>> = &mut value;
         if slot.number() != at as u64 || !slot.has_maps(parent) {
             return None;
         }
-        let mut door = Door::new(self.rt, self.gate, &shared.core, &shared.nodes);
+        let mut door = Door::new(self.rt, self.gate, shared.core(), shared.nodes());
         Some(slot.fork_maps(&mut door, parent, child))
     }
 
@@ -288,13 +294,13 @@ impl<'a, N: Naming, R: Wait, G: Gate, const K: usize> Session<'a, N, R, G, K> {
             (Ok Done) result.1) (result.1 ≡ None) }
     {
         let shared = self.shared;
-        let mut value = hold(&shared.slots[at], self.rt);
+        let mut value = hold(shared.slot(at), self.rt);
         self.gate.enter(at as u64);
         let slot: &mut Slot<N, Trace<SlotEntry, K>> = &mut value;
         if slot.number() != at as u64 || !slot.has_maps(task) {
             return (false, None);
         }
-        let mut door = Door::new(self.rt, self.gate, &shared.core, &shared.nodes);
+        let mut door = Door::new(self.rt, self.gate, shared.core(), shared.nodes());
         (true, slot.exit_maps(&mut door, task))
     }
 }

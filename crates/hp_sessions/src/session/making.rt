@@ -7,7 +7,7 @@ ghost use Rattle.hp_model.specs.declared.event.SlotEvent.TheVariants.{ForkMaps, 
 ghost use Rattle.hp_model.specs.machine.Step.{Script, exit_slot, finding, on_slot};
 ghost use Rattle.hp_model.specs.machine.Told.{told_answer, told_reply};
 ghost use Rattle.hp_model.specs.text.Writing.{IsWithinLimits};
-ghost use Rattle.hp_mount.specs.Event.{event_of, shows_bytes};
+ghost use Rattle.hp_events.specs.Event.{event_of, shows_bytes};
 ghost use Rattle.hp_shared.specs.Tables.{table_reply};
 ghost use Rattle.hp_sessions.specs.Calls.{Carries, Grows, HasReceiptRoom, IsMade, Leads};
 ghost use Rattle.hp_sessions.specs.Forks.{IsForked};
@@ -15,12 +15,12 @@ ghost use Rattle.hp_sessions.specs.Works.{AreCopies, HasAnswerOf, bytes_of_event
 
 use super::Session;
 use super::notes::Copies;
+use hp_events::MountEvent;
 use hp_locked::Gate;
 use hp_model::event::{PoolEvent, TableEvent};
 use hp_model::naming::Naming;
 use hp_model::refusal::Refusal;
 use hp_model::told::Told;
-use hp_mount::MountEvent;
 use hp_shared::TableTold;
 use std::sync::Wait;
 

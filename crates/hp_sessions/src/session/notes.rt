@@ -2,12 +2,12 @@
 ghost use Rattle.std.specs.Prelude.{◌≡◌, ◌<◌, ℕ, List, length, true, IfOk, OnErr, Some};
 ghost use Rattle.hp_model.specs.machine.Copying.{has_bytes};
 ghost use Rattle.hp_model.specs.declared.event.SlotEvent.TheVariants.{Mount as Mounting, Remount as Remounting};
-ghost use Rattle.hp_mount.specs.Event.{event_of};
+ghost use Rattle.hp_events.specs.Event.{event_of};
 ghost use Rattle.hp_sessions.specs.Works.{AreCopies, AreEvents, bytes_of_event};
 
+use hp_events::MountEvent;
 use hp_model::bytes::Bytes;
 use hp_model::event::SlotEvent;
-use hp_mount::MountEvent;
 use std::alloc::{AllocError, Global};
 
 /// The same bytes twice.

@@ -7,15 +7,16 @@ ghost use Rattle.hp_model.specs.machine.Accesses.{bytes_reply, done_reply, load_
 ghost use Rattle.hp_model.specs.machine.Copying.{has_bytes};
 ghost use Rattle.hp_model.specs.machine.Told.{told_answer, told_reply};
 ghost use Rattle.hp_model.specs.text.Writing.{IsWithinLimits};
-ghost use Rattle.hp_mount.specs.Event.{event_of, shows_bytes};
+ghost use Rattle.hp_events.specs.Event.{event_of, shows_bytes};
 ghost use Rattle.hp_shared.specs.Tables.{table_reply};
-ghost use Rattle.hp_sessions.specs.declared.work.Work.TheVariants.{OfTask as OfATask, OnSlot as OnASlot};
+ghost use Rattle.hp_events.specs.declared.work.Work.TheVariants.{OfTask as OfATask, OnSlot as OnASlot};
 ghost use Rattle.hp_sessions.specs.Calls.{HasReceiptRoom, IsCallAnswered};
-ghost use Rattle.hp_sessions.specs.Works.{AreCopies, HasAnswerOf, IsBytes, IsWorked, ListsByNamesAlone, bytes_of_event};
+ghost use Rattle.hp_events.specs.Works.{ListsByNamesAlone};
+ghost use Rattle.hp_sessions.specs.Works.{AreCopies, HasAnswerOf, IsBytes, IsWorked, bytes_of_event};
 
 use super::Session;
 use super::notes::{Copies, copies, twice};
-use crate::work::{Work, most_receipts, work_of};
+use hp_events::{MountEvent, Work, most_receipts, work_of};
 use hp_locked::Gate;
 use hp_model::answer::Reply;
 use hp_model::event::{PoolEvent, TableEvent};
@@ -24,7 +25,6 @@ use hp_model::refusal::Refusal;
 use hp_model::service::Access;
 use hp_model::step::Step;
 use hp_model::told::Told;
-use hp_mount::MountEvent;
 use hp_shared::TableTold;
 use std::alloc::AllocError;
 use std::sync::Wait;
@@ -264,7 +264,7 @@ impl<'a, N: Naming, R: Wait, G: Gate, const K: usize> Session<'a, N, R, G, K> {
     {
         let shared = self.shared;
         if K == 1 {
-            Ok(Some(copies(shared.alloc, event)?))
+            Ok(Some(copies(shared.alloc(), event)?))
         } else {
             Ok(None)
         }
@@ -277,7 +277,7 @@ impl<'a, N: Naming, R: Wait, G: Gate, const K: usize> Session<'a, N, R, G, K> {
     {
         let shared = self.shared;
         if K == 1 {
-            Ok(Some(twice(shared.alloc, options)?))
+            Ok(Some(twice(shared.alloc(), options)?))
         } else {
             Ok(None)
         }

@@ -9,18 +9,19 @@ ghost use Rattle.hp_model.specs.machine.Accesses.{done_reply};
 ghost use Rattle.hp_model.specs.machine.State.{slot_at};
 ghost use Rattle.hp_model.specs.machine.Told.{told_reply};
 ghost use Rattle.hp_model.specs.text.Writing.{IsWithinLimits};
-ghost use Rattle.hp_mount.specs.Event.{event_of, is_usage};
+ghost use Rattle.hp_events.specs.Event.{event_of, is_usage};
 ghost use Rattle.hp_mount.specs.Memory.{asks_memory};
 ghost use Rattle.hp_system.specs.Event.{AreExited, AreForked, DoesOfTask, DoesOnSlot, IsForkedOn, mapped_slots};
 ghost use Rattle.hp_system.specs.Kept.{IsReadyMachine};
 
 use super::System;
+use hp_events::MountEvent;
 use hp_model::lent::Lent;
 use hp_model::limits::Limits;
 use hp_model::naming::Naming;
 use hp_model::refusal::Refusal;
 use hp_model::told::Told;
-use hp_mount::{Mount, MountEvent};
+use hp_mount::Mount;
 use hp_options::options::parse_options;
 use std::mem;
 

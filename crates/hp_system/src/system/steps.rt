@@ -13,12 +13,12 @@ ghost use Rattle.hp_model.specs.machine.Promises.{takes_memory};
 ghost use Rattle.hp_system.specs.Kept.{IsReadyMachine};
 
 use super::System;
+use hp_events::MountEvent;
 use hp_model::answer::{Counts, NodeCount, Reply};
 use hp_model::naming::Naming;
 use hp_model::refusal::Refusal;
 use hp_model::step::Step;
 use hp_model::told::Told;
-use hp_mount::MountEvent;
 use std::alloc::{AllocError, Global};
 
 /// The most that overcommit may be set to, in pages.

@@ -3,9 +3,10 @@ use Rattle.hp_model.specs.declared.event.Event.TheVariants.{Tasks as OnTasks, Po
 use Rattle.hp_model.specs.machine.Plan.{Reply}
 use Rattle.hp_model.specs.machine.Told.{told_reply}
 use Rattle.hp_sessions.specs.Calls.{HasReceiptRoom, IsMade}
-use Rattle.hp_sessions.specs.Works.{IsWorked, work_receipts}
-use Rattle.hp_sessions.specs.declared.work.Work.{Work}
-use Rattle.hp_sessions.specs.declared.work.Work.TheVariants.{Tasks, Pool}
+use Rattle.hp_events.specs.Works.{work_receipts}
+use Rattle.hp_sessions.specs.Works.{IsWorked}
+use Rattle.hp_events.specs.declared.work.Work.{Work}
+use Rattle.hp_events.specs.declared.work.Work.TheVariants.{Tasks, Pool}
 use Rattle.hp_sessions.proofs.Carrying.{only_made}
 use Rattle.hp_sessions.proofs.Working.{worked}
 use Rattle.hp_sessions.proofs.session.Session.do_work.Goals as goal

@@ -2,7 +2,7 @@ use Rattle.std.proofs.Common.{◌≡◌, inr, Option, None, sym, ap, ◌∙◌, 
 use Rattle.hp_model.specs.declared.entry.Asked.{Asked}
 use Rattle.hp_model.specs.machine.Told.{told_reply}
 use Rattle.hp_trail.specs.Keeping.{with_entry}
-use Rattle.hp_mount.specs.Event.{event_of}
+use Rattle.hp_events.specs.Event.{event_of}
 use Rattle.hp_shared.specs.Slots.{AreEventsToNote, IsSlotEvent, SlotView, Went}
 use Rattle.hp_shared.proofs.SlotsKept.{event_done, event_full, event_went, full_stays, mount_event, slot_noted, was_full}
 use Rattle.hp_shared.proofs.locked_slot.Slot.event.Given.{Over}

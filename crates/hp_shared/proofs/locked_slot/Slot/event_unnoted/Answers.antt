@@ -1,6 +1,6 @@
 use Rattle.std.proofs.Common.{◌≡◌, None, ◌∙◌, subst}
 use Rattle.hp_model.specs.machine.Told.{told_reply}
-use Rattle.hp_mount.specs.Event.{event_of}
+use Rattle.hp_events.specs.Event.{event_of}
 use Rattle.hp_shared.specs.Slots.{IsSlotEvent, SlotView}
 use Rattle.hp_shared.proofs.SlotsKept.{mount_event, unnoted_done, unnoted_stays, was_full}
 use Rattle.hp_shared.proofs.locked_slot.Slot.event_unnoted.Goals as goal

@@ -4,7 +4,7 @@ use Rattle.hp_model.specs.machine.Plan.{Choice, Slot}
 use Rattle.hp_model.specs.machine.SlotEvent.{slot_event}
 use Rattle.hp_model.specs.machine.Step.{IsScript, on_slot}
 use Rattle.hp_model.specs.machine.Told.{told_reply}
-use Rattle.hp_mount.specs.Event.{event_of}
+use Rattle.hp_events.specs.Event.{event_of}
 use Rattle.hp_system.specs.Event.{IsCarried}
 use Rattle.hp_system.proofs.Carries.{happens, kept_after, never_full, ready, unmounted, kept_by, ready_by}
 use Rattle.hp_system.proofs.MachineSteps.{machine_back, read_slot, slot_done, slot_same, state_back}

@@ -1,0 +1,37 @@
+-- What a step asks of a mount, as an event of the definitions.
+use Rattle.std.specs.Prelude.{ℕ, Bool, true, false}
+use Rattle.hp_model.specs.declared.event.SlotEvent.{SlotEvent}
+use Rattle.hp_model.specs.declared.event.SlotEvent.TheVariants as slot
+use Rattle.hp_events.specs.declared.event.MountEvent.{MountEvent}
+use Rattle.hp_events.specs.declared.event.MountEvent.TheVariants.{Create, Unlink, Truncate, Punch, Preallocate, Stat, Read, Map, Anon, Unmap, Fault, Load, Store, Ls, Usage}
+
+-- the event, of a task with that home
+abbrev pub event_of : (home : ℕ) → MountEvent → SlotEvent
+event_of home (Create name) = slot.Create name.now
+event_of home (Unlink name) = slot.Unlink name.now
+event_of home (Truncate name pages) = slot.Truncate name.now pages
+event_of home (Punch name start end) = slot.Punch name.now start end
+event_of home (Preallocate name start end) = slot.Preallocate name.now start end
+event_of home (Stat name) = slot.Stat name.now
+event_of home (Read name index offset count) = slot.Read name.now index offset count
+event_of home (Map task name start pages sharing reserving) = slot.Map task home name.now start pages sharing reserving
+event_of home (Anon task pages sharing reserving) = slot.Anon task home pages sharing reserving
+event_of home (Unmap task map start end) = slot.Unmap task map start end
+event_of home (Fault task map index intent) = slot.Fault task home map index intent
+event_of home (Load task map index offset count) = slot.Load task home map index offset count
+event_of home (Store task map index offset bytes) = slot.Store task home map index offset bytes.now
+event_of home Ls = slot.Ls
+event_of home Usage = slot.Df
+
+-- it answers bytes, for which it is given room
+abbrev pub shows_bytes : MountEvent → Bool
+shows_bytes (Read name index offset count) = true
+shows_bytes (Load task map index offset count) = true
+shows_bytes other = false
+
+-- it answers the mount's numbers or names, or a file's numbers
+abbrev pub is_usage : SlotEvent → Bool
+is_usage slot.Df = true
+is_usage slot.Ls = true
+is_usage (slot.Stat name) = true
+is_usage other = false

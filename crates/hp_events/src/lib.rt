@@ -1,0 +1,8 @@
+//! What a step asks of which part of the machine.
+#![tactic(auto)]
+
+mod event;
+mod work;
+
+pub use event::MountEvent;
+pub use work::{Work, most_receipts, work_of};

@@ -1,0 +1,100 @@
+-- What the machine that threads share owns names no thread.
+use denote.Param.Send.{IsSend, IsSync, sendable, view_send, view_sync}
+use denote.Param.SendFields.{declared_send, declared_sync}
+use denote.RattleType.{RattleType}
+use Rattle.crossbeam_utils.specs.contracts.cache_padded.CachePadded as CachePadded
+use Rattle.hp_locked.specs.contracts.nodes.NodeLocks as NodeLocks
+use Rattle.hp_locked.specs.contracts.pool_core.Core as Core
+use Rattle.hp_model.specs.declared.entry.PoolEntry.{PoolEntry}
+use Rattle.hp_model.specs.declared.entry.SlotEntry.{SlotEntry}
+use Rattle.hp_model.specs.declared.entry.TableEntry.{TableEntry}
+use Rattle.hp_model.specs.declared.naming.Naming.{Ghosts}
+use Rattle.hp_nodes.proofs.Crossing.{node_frames_send}
+use Rattle.hp_pool.proofs.Crossing.{pool_send}
+use Rattle.hp_shared_machine.proofs.CrossingEntries.{pool_entry_send, slot_entry_send, table_entry_send, trace_send}
+use Rattle.hp_shared_machine.proofs.CrossingMounts.{mount_send}
+use Rattle.hp_shared_machine.specs.contracts.shared.Shared as Shared
+use Rattle.hp_shared_machine.specs.contracts.shared.Shared.TheInside as Inside
+use Rattle.hp_shared_machine.specs.contracts.spare.Spare as Spare
+use Rattle.hp_shared.specs.contracts.locked_slot.Slot as Slot
+use Rattle.hp_shared.specs.contracts.table.Table as Table
+use Rattle.hp_system.specs.contracts.table.TaskTable as TaskTable
+use Rattle.hp_trail.specs.declared.trail.Trail as trail
+use Rattle.std.proofs.Crossing as global
+use Rattle.std.proofs.Crossing.{crosses}
+
+padded_send : (T : RattleType) → IsSend T → IsSend (CachePadded.the_row T)
+padded_send T t = search (sendable, crosses) depth 30
+
+padded_sync : (T : RattleType) → IsSync T → IsSync (CachePadded.the_row T)
+padded_sync T t = search (sendable, crosses) depth 30
+
+task_table_send : IsSend TaskTable.the_row
+task_table_send = search (sendable, crosses) depth 30
+
+module _ (N : RattleType) (names : Ghosts N.Denot) where
+  table_send : (T : RattleType) (keeps : trail.Ghosts T.Denot TableEntry) → IsSend T → IsSend (Table.the_row N T names keeps)
+  table_send T keeps t = search (sendable, task_table_send) depth 30
+
+  core_send : (T : RattleType) (keeps : trail.Ghosts T.Denot PoolEntry) → IsSend T → IsSend (Core.the_row N T names keeps)
+  core_send T keeps t = search (sendable, pool_send) depth 30
+
+  slot_send : (T : RattleType) (keeps : trail.Ghosts T.Denot SlotEntry) → IsSend T → IsSend (Slot.the_row N T names keeps)
+  slot_send T keeps t = search (sendable, mount_send) depth 30
+
+  spare_send : IsSend (Spare.the_row N names)
+  spare_send = search (sendable, crosses, mount_send, slot_entry_send) depth 40
+
+  nodes_send : IsSend (NodeLocks.the_row N names)
+  nodes_send = search (sendable, crosses, node_frames_send) depth 30
+
+  nodes_sync : IsSync (NodeLocks.the_row N names)
+  nodes_sync = search (sendable, crosses, node_frames_send) depth 30
+
+  pub shared_send : (k : RattleType) → IsSend (Shared.the_row N k names)
+  shared_send k = view_send (Inside.the_row N k names) _ _ _ _ (declared_send (Inside.the_type N k names) (
+    search sendable,
+    (
+      global.send,
+      (
+        search (sendable, crosses, padded_send, slot_send, trace_send, slot_entry_send) depth 30,
+        (
+          search (sendable, crosses, padded_send, table_send, trace_send, table_entry_send) depth 30,
+          (
+            search (sendable, crosses, padded_send, core_send, trace_send, pool_entry_send) depth 30,
+            (
+              nodes_send,
+              (
+                search (sendable, crosses, spare_send) depth 30,
+                tt,
+              ),
+            ),
+          ),
+        ),
+      ),
+    ),
+  ))
+
+  pub shared_sync : (k : RattleType) → IsSync (Shared.the_row N k names)
+  shared_sync k = view_sync (Inside.the_row N k names) _ _ _ _ (declared_sync (Inside.the_type N k names) (
+    search sendable,
+    (
+      global.sync,
+      (
+        search (sendable, crosses, padded_sync, slot_send, trace_send, slot_entry_send) depth 30,
+        (
+          search (sendable, crosses, padded_sync, table_send, trace_send, table_entry_send) depth 30,
+          (
+            search (sendable, crosses, padded_sync, core_send, trace_send, pool_entry_send) depth 30,
+            (
+              nodes_sync,
+              (
+                search (sendable, crosses, spare_send) depth 30,
+                tt,
+              ),
+            ),
+          ),
+        ),
+      ),
+    ),
+  ))

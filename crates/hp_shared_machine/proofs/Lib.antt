@@ -1,0 +1,6 @@
+pub mod Opened
+mod Gathered
+mod Ready
+mod CrossingEntries
+mod CrossingMounts
+pub mod Crossing

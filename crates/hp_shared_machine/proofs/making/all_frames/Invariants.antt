@@ -1,0 +1,9 @@
+use Rattle.std.proofs.Common.{◌≡◌, ◌≤◌, ◌*◌, take}
+use Rattle.std.specs.List.{sum}
+use Rattle.hp_shared_machine.proofs.making.all_frames.Given as goal
+
+abbrev pub invariant-loop-count : goal.invariant-loop-count
+invariant-loop-count l = record {
+  all : l.all ≡ sum (take l.count-index l.frames);
+  few : l.all ≤ l.count-index * 65536;
+}

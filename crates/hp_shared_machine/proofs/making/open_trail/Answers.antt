@@ -1,0 +1,13 @@
+use Rattle.std.proofs.Common.{◌≡◌, ◌≤◌, ◌==◌, None, sym, subst}
+use Rattle.std.specs.Prelude.{IfOk}
+use Rattle.hp_locked.specs.Views.{IsFresh}
+use Rattle.hp_trail.specs.Keeping.{extra_if, kept_if, left_if, opened_if}
+use Rattle.hp_shared_machine.proofs.Opened.{has_extra_ok, is_empty_ok, is_fresh_ok}
+use Rattle.hp_shared_machine.proofs.making.open_trail.Goals as goal
+
+pub returns : goal.returns
+returns g c = record {
+  fresh = is_fresh_ok _ (g.row.K == 1) c.args.places c.args.extra c.open.result c.open.ensures;
+  none = is_empty_ok _ (g.row.K == 1) c.args.places c.args.extra c.open.result c.open.ensures;
+  enough = has_extra_ok _ (g.row.K == 1) c.args.places c.args.extra c.open.result c.requires.extra c.open.ensures;
+}

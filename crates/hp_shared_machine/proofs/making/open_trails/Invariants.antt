@@ -1,0 +1,9 @@
+use Rattle.std.proofs.Common.{◌≡◌, ◌≤◌}
+use Rattle.std.specs.Prelude.{vec_len, vec_capacity}
+use Rattle.hp_shared_machine.proofs.making.open_trails.Given as goal
+
+abbrev pub invariant-loop : goal.invariant-loop
+invariant-loop g l = record {
+  many : vec_len l.trails ≡ l.counter;
+  room : l.slots ≤ vec_capacity l.trails;
+}

@@ -1,0 +1,44 @@
+use Rattle.std.proofs.Common.{◌≡◌, ◌*◌, ◌≤◌, length, map, sym, ap, subst, ◌∙◌, arith}
+use Rattle.std.specs.List.{All, sum}
+use Rattle.hp_locked.specs.Views.{frames_list}
+use Rattle.hp_model.specs.pool.NodeRows.{frames_of, idle_row}
+use Rattle.hp_model.specs.pool.PoolCounts.{IsSettled, Pool}
+use Rattle.hp_mount_door.specs.Door.{IsReady}
+use Rattle.hp_pool.specs.Sums.{idle_pool}
+use Rattle.hp_shared_machine.proofs.Opened.{frames_named, idle_ready, rows_have}
+use Rattle.hp_shared_machine.proofs.shared.Shared.new.Goals as goal
+
+pub first_mount-first-requires : goal.first_mount-first-requires
+first_mount-first-requires g c = record { settled = subst (λ (p : Pool). IsSettled p) (sym c.in-Ok-new.ensures) (idle_ready c.args.frames.now c.requires.few).settled }
+
+pub new-requires-in-Ok-new-clause-nodes : goal.new-requires-in-Ok-new-clause-nodes
+new-requires-in-Ok-new-clause-nodes g c =
+    sym (ap length (frames_named g.N.Naming.frames c.args.frames.now c.requires.some c.requires.few c.requires.each c.requires.frames))
+
+pub new-requires-in-Ok-new-4-clause-start : goal.new-requires-in-Ok-new-4-clause-start
+new-requires-in-Ok-new-4-clause-start g c =
+    let named = frames_named g.N.Naming.frames c.args.frames.now c.requires.some c.requires.few c.requires.each c.requires.frames in
+    c.into_parts-pool.ensures ∙ (c.first_mount-first.ensures.pool ∙ (c.in-Ok-new.ensures ∙ ap idle_pool (sym named)))
+
+pub new-requires-in-Ok-new-4-clause-ready : goal.new-requires-in-Ok-new-4-clause-ready
+new-requires-in-Ok-new-4-clause-ready g c =
+    subst (λ (p : Pool). IsReady p) (sym (c.into_parts-pool.ensures ∙ (c.first_mount-first.ensures.pool ∙ c.in-Ok-new.ensures))) (idle_ready c.args.frames.now c.requires.few)
+
+pub new-requires-in-Ok-new-4-clause-enough : goal.new-requires-in-Ok-new-4-clause-enough
+new-requires-in-Ok-new-4-clause-enough g c =
+    let named = frames_named g.N.Naming.frames c.args.frames.now c.requires.some c.requires.few c.requires.each c.requires.frames in
+    let rows : frames_of (map idle_row (frames_list g.N.Naming.frames)) ≡ sum c.args.frames.now = ap (λ fs. frames_of (map idle_row fs)) named ∙ rows_have c.args.frames.now in
+    omega (arith, rows, c.all_frames.ensures.all, c.in_ok-pool_trail.ensures.enough)
+
+pub invariant_of-result : goal.invariant_of-result
+invariant_of-result g c =
+    let named = frames_named g.N.Naming.frames c.args.frames.now c.requires.some c.requires.few c.requires.each c.requires.frames in
+    record {
+      size = c.requires.page_bytes;
+      some = c.requires.bytes;
+      most = c.requires.few_bytes;
+      any = omega (arith, c.lock_slots.ensures, c.in_ok-slot_trails.ensures, c.requires.slots);
+      few = omega (arith, c.lock_slots.ensures, c.in_ok-slot_trails.ensures, c.requires.few_slots);
+      nodes = omega (arith, ap length named, c.requires.few);
+      small = subst (λ xs. All (λ f. f ≤ 65536) xs) (sym named) c.requires.small;
+    }

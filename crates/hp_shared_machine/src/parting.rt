@@ -1,0 +1,40 @@
+//! The parts of a machine once no thread has them.
+ghost use Rattle.std.specs.Prelude.{◌≡◌, ◌≤◌, ◌==◌, [], true, length, vec_len, vec_capacity};
+ghost use Rattle.hp_shared_machine.specs.Sharing.{AreGathered};
+ghost use Rattle.hp_trail.specs.Walk.{lists};
+
+use crossbeam_utils::CachePadded;
+use hp_model::entry::SlotEntry;
+use hp_model::naming::Naming;
+use hp_mount::Mount;
+use hp_shared::Slot;
+use hp_trail::trace::Trace;
+use std::sync::Mutex;
+
+// Takes the slots from under their locks: their mounts and their trails, for which there is room. Whether each has its place
+// as its number.
+pub(crate) fn take_slots<N: Naming, const K: usize>(
+    slots: Vec<CachePadded<Mutex<Slot<N, Trace<SlotEntry, K>>>>>,
+    mounts: &mut Vec<Option<Mount<N>>>,
+    trails: &mut Vec<Vec<SlotEntry>>,
+) -> bool
+    requires few { vec_len slots ≤ 64 }
+    requires mounts_fit { 64 ≤ vec_capacity mounts.old }
+    requires trails_fit { 64 ≤ vec_capacity trails.old }
+    requires no_mounts { mounts.old.items ≡ [] }
+    requires no_trails { trails.old.items ≡ [] }
+    ensures count { length mounts.new.items ≡ vec_len slots }
+    ensures runs { (K == 1) ≡ true → result ≡ true
+        → AreGathered N.page_bytes (lists trails.new.items) mounts.new.items }
+{
+    let mut in_order = true;
+    let mut rest = slots.into_iter();
+    while let Some(slot) = rest.next() {
+        let (number, mount, trail) = slot.into_inner().into_inner().into_parts();
+        in_order = in_order && number == mounts.len() as u64;
+        mounts.push_reserved(mount);
+        trails.push_reserved(trail.into_entries());
+    }
+    rest.destroy_empty();
+    in_order
+}

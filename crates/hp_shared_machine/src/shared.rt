@@ -1,0 +1,240 @@
+//! The machine that threads share.
+ghost use Rattle.std.specs.Prelude.{◌≡◌, ◌<◌, ◌≤◌, ◌==◌, [], false, true, length, vec_len, vec_capacity, All, IfOk, IfSome, None};
+ghost use Rattle.hp_locked.specs.Views.{frames_list};
+ghost use Rattle.hp_model.specs.machine.Machine.{start};
+ghost use Rattle.hp_mount_door.specs.Door.{IsReady as IsReadyPool};
+ghost use Rattle.hp_nodes.specs.Ledgers.{AreFrames};
+ghost use Rattle.hp_pool.specs.Ledgers.{AreLedgers};
+ghost use Rattle.hp_shared_machine.specs.Joined.{entries_of};
+ghost use Rattle.hp_shared_machine.specs.Sharing.{EndsRuns};
+ghost use Rattle.hp_trail.specs.Walk.{trails_of};
+
+use crate::making::{all_frames, first_mount, lock_slots, open_trail, open_trails};
+use crate::parting::take_slots;
+use crate::spare::Spare;
+use crossbeam_utils::CachePadded;
+use hp_locked::{Core, NodeLocks};
+use hp_model::entry::{PoolEntry, SlotEntry, TableEntry};
+use hp_model::naming::Naming;
+use hp_mount_door::OwnPool;
+use hp_pool::Blanks;
+use hp_shared::{Slot, Table};
+use hp_system::{MOST_TASKS, Parts, System, TaskTable};
+use hp_trail::trace::Trace;
+use std::alloc::{AllocError, Global};
+use std::marker::Model;
+use std::sync::Mutex;
+
+/// The machine that threads share: the task table, the pool and each slot under a lock of its own, and the frames of each
+/// node under one. Where K is 1 each part keeps a trail of its events, where K is 0 none.
+///
+/// What every step reads comes first, and each of the locks that steps take lies on cache lines of its own.
+///
+/// Nothing is known of a part until its lock is held. The machine can't be dropped: `into_parts` takes it apart and `close`
+/// ends it, once no session is left on it.
+pub struct Shared<N: Naming, const K: usize> {
+    page_bytes: usize,
+    alloc: Global,
+    slots: Vec<CachePadded<Mutex<Slot<N, Trace<SlotEntry, K>>>>>,
+    table: CachePadded<Mutex<Table<N, Trace<TableEntry, K>>>>,
+    core: CachePadded<Mutex<Core<N, Trace<PoolEntry, K>>>>,
+    nodes: NodeLocks<N>,
+    spare: Mutex<Spare<N>>,
+}
+
+impl<N: Naming, const K: usize> Model for Shared<N, K> {
+    ghost use Rattle.std.specs.Prelude.{vec_len};
+    ghost use Rattle.hp_shared_machine.specs.Sharing.{IsSharedMachine, SharedView};
+
+    ghost Value = { SharedView };
+
+    ghost view = { λ s. record { page_size = s.page_bytes; slots = vec_len s.slots } };
+
+    ghost invariant = { λ s. IsSharedMachine N.page_bytes N.frames
+        (record { page_size = s.page_bytes; slots = vec_len s.slots }) };
+}
+
+/// The entries of all parts, each in its order.
+#[derive(Drop)]
+pub struct Trails {
+    pub tasks: Vec<TableEntry>,
+    pub pool: Vec<PoolEntry>,
+    /// Those of each slot.
+    pub slots: Vec<Vec<SlotEntry>>,
+}
+
+impl<N: Naming, const K: usize> Shared<N, K> {
+    /// A machine of 1 to 4 nodes with so many frames each, of `page_bytes` bytes, which the blanks have, and with so many
+    /// slots. It starts as `System::new` has it. Where K is 1 each trail has `places` places, and beyond these those that
+    /// entries which take away may need.
+    ///
+    /// Takes the memory of the slots, the task table and the trails at once. Where some is refused, all is given back before
+    /// the error is answered.
+    pub fn new(
+        alloc: Global,
+        frames: &[u64],
+        page_bytes: usize,
+        slots: usize,
+        places: usize,
+        blanks: Blanks,
+    ) -> Result<Self, AllocError>
+        requires some { 0 < length frames.now }
+        requires few { length frames.now ≤ 4 }
+        requires each { All (λ f. 0 < f) frames.now }
+        requires small { All (λ f. f ≤ 65536) frames.now }
+        requires slots { 0 < slots }
+        requires few_slots { slots ≤ 64 }
+        requires places { places ≤ 16777216 }
+        requires bytes { 0 < page_bytes }
+        requires few_bytes { page_bytes ≤ 2097152 }
+        requires page_bytes { page_bytes ≡ N.page_bytes }
+        requires ledgers { AreLedgers N.Naming blanks }
+        requires frames { AreFrames N.frames frames.now }
+        ensures { IfOk result (λ s. s ≡ record { page_size = page_bytes; slots = slots }) }
+    {
+        let tasks = TaskTable::new(alloc)?;
+        let task_trail = open_trail(alloc, places, MOST_TASKS)?;
+        let pool_trail = open_trail(alloc, places, 2 * all_frames(frames))?;
+        let slot_trails = open_trails(alloc, slots, places)?;
+        let spare = Spare::open(alloc)?;
+        let mut locks = match Vec::with_capacity(alloc, slots) {
+            Ok(locks) => locks,
+            Err(error) => {
+                spare.close();
+                return Err(error);
+            }
+        };
+        match OwnPool::new(alloc, frames, blanks) {
+            Err(error) => {
+                locks.destroy_empty();
+                spare.close();
+                Err(error)
+            }
+            Ok(own) => {
+                let mut own = own;
+                let first = first_mount(alloc, &mut own);
+                lock_slots(first, slot_trails, &mut locks);
+                let (pool, stocks) = own.into_parts();
+                Ok(Shared {
+                    page_bytes,
+                    alloc,
+                    table: CachePadded::new(Mutex::new(Table::new(
+                        frames.len() as u64,
+                        tasks,
+                        task_trail,
+                    ))),
+                    core: CachePadded::new(Mutex::new(Core::new(pool, pool_trail))),
+                    nodes: NodeLocks::new(stocks),
+                    slots: locks,
+                    spare: Mutex::new(spare),
+                })
+            }
+        }
+    }
+
+    /// The bytes of a page.
+    #[inline(always)]
+    pub fn page_bytes(&self) -> u64
+        ensures bytes { result ≡ self.now.page_size }
+        ensures named { result ≡ N.page_bytes }
+        ensures most { result ≤ 2097152 }
+    {
+        self.page_bytes as u64
+    }
+
+    /// How many slots there are.
+    #[inline(always)]
+    pub fn count(&self) -> usize
+        ensures count { result ≡ self.now.slots }
+        ensures few { result ≤ 64 }
+    {
+        self.slots.len()
+    }
+
+    /// What memory is taken from.
+    pub fn alloc(&self) -> Global {
+        self.alloc
+    }
+
+    /// The task table under its lock.
+    #[inline(always)]
+    pub fn table(&self) -> &Mutex<Table<N, Trace<TableEntry, K>>> {
+        &self.table
+    }
+
+    /// The pool under its lock.
+    #[inline(always)]
+    pub fn core(&self) -> &Mutex<Core<N, Trace<PoolEntry, K>>> {
+        &self.core
+    }
+
+    /// The frames of each node under a lock.
+    #[inline(always)]
+    pub fn nodes(&self) -> &NodeLocks<N> {
+        &self.nodes
+    }
+
+    /// The slot at this place under its lock. A lock tells nothing of its value: that it is the slot of this number is asked
+    /// of the slot itself.
+    #[inline(always)]
+    pub fn slot(&self, at: usize) -> &Mutex<Slot<N, Trace<SlotEntry, K>>>
+        requires { at < self.now.slots }
+    {
+        &self.slots[at]
+    }
+
+    /// The machine by itself, with all that is on it, and the trails where K is 1. These are runs of its parts, from the
+    /// start of the machine to where it is. Never refused; it takes no memory.
+    pub fn into_parts(self) -> (System<N>, Option<Trails>)
+        ensures ready { IsReadyPool result.0.pool }
+        ensures page { result.0.state.page_size ≡ self.page_size }
+        ensures slots { length result.0.state.slots ≡ self.slots }
+        ensures none { (K == 1) ≡ false → result.1 ≡ None }
+        ensures trails { IfSome result.1 (λ t. EndsRuns
+            (start (frames_list N.frames) self.page_size self.slots)
+            (entries_of t) result.0) }
+    {
+        let Shared {
+            page_bytes,
+            alloc,
+            table,
+            core,
+            nodes,
+            slots,
+            spare,
+        } = self;
+        let (tasks, task_trail) = table.into_inner().into_inner().into_parts();
+        let (pool, pool_trail) = core.into_inner().into_inner().into_parts();
+        let (mut mounts, mut trails) = spare.into_inner().into_room();
+        let in_order = take_slots(slots, &mut mounts, &mut trails);
+        let parts = Parts {
+            page_bytes,
+            slots: mounts,
+            table: tasks,
+            pool: OwnPool::from_parts(pool, nodes.into_frames()),
+        };
+        let kept = trails_in(in_order, task_trail, pool_trail, trails);
+        (System::from_parts(alloc, parts), kept)
+    }
+}
+
+// The trails, where they are kept and those of the slots are in order.
+fn trails_in<const K: usize>(
+    in_order: bool,
+    tasks: Trace<TableEntry, K>,
+    pool: Trace<PoolEntry, K>,
+    slots: Vec<Vec<SlotEntry>>,
+) -> Option<Trails>
+    ensures none { (K == 1) ≡ false → result ≡ None }
+    ensures given { IfSome result (λ t. ((K == 1) ≡ true) × (in_order ≡ true)
+        × (entries_of t ≡ trails_of tasks.entry.entries slots.items pool.entry.entries)) }
+{
+    if K != 1 || !in_order {
+        return None;
+    }
+    Some(Trails {
+        tasks: tasks.into_entries(),
+        pool: pool.into_entries(),
+        slots,
+    })
+}
