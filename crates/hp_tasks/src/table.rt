@@ -1,0 +1,217 @@
+//! A task table over a `Vec`.
+
+use hp_model::refusal::Refusal;
+use std::alloc::{AllocError, Global};
+use std::marker::Model;
+
+/// The most tasks that there may be.
+pub const MOST_TASKS: usize = 4096;
+
+// Tasks stand in so many slots at most: as many are gaps, before the gaps are closed.
+const MOST_SLOTS: usize = 2 * MOST_TASKS;
+
+// Tasks' numbers are taken by their rest: four for each task that there may be.
+const RESTS: usize = 4 * MOST_TASKS;
+
+type Slot = Option<(u64, u64)>;
+
+/// The tasks with their home nodes, in order of adding, each once. There is room for all of them.
+///
+/// By the rest of a task's number it is noted where the task stood, which is looked at first and never trusted, and how many
+/// tasks there are with that rest. So a task is found, or known not to be there, without a walk, but for tasks of one rest.
+#[derive(Drop)]
+pub struct TaskTable {
+    slots: Vec<Slot>,
+    count: usize,
+    places: Box<[u16; RESTS]>,
+    counts: Box<[u16; RESTS]>,
+}
+
+impl Model for TaskTable {
+    ghost use Rattle.std.specs.Prelude.{vec_capacity};
+    ghost use Rattle.hp_model.specs.machine.Table.{Table};
+    ghost use Rattle.hp_tasks.specs.Table.{IsTaskTable, tasks_in};
+
+    ghost Value = { Table };
+
+    ghost view = { λ a. tasks_in a.slots.items };
+
+    ghost invariant = { λ a. IsTaskTable a.slots.items (vec_capacity a.slots) a.count
+        a.counts.value };
+}
+
+ghost use Rattle.std.specs.Prelude.{◌≡◌, ◌≢◌, ◌<◌, ◌%◌, ℕ, length, true, vec_capacity, [], IfOk, IfSome, Ok, Err, IsTrue, is_some, None, Some};
+ghost use Rattle.std.specs.List.{position};
+ghost use Rattle.hp_model.specs.declared.event.TableEvent.TheVariants.{Add, FindAndAdd, Remove};
+ghost use Rattle.hp_model.specs.declared.refusal.Refusal.TheVariants as Refusal;
+ghost use Rattle.hp_model.specs.machine.Accesses.{done_reply};
+ghost use Rattle.hp_model.specs.Profile.{most_tasks};
+ghost use Rattle.hp_model.specs.machine.Table.{home_of, added, removed, is_known, is_crowded, table_event};
+ghost use Rattle.hp_tasks.specs.Table.{AreCounted, has_task, slot_at, tasks_in};
+
+// Which number stands for a task's.
+fn rest_of(task: u64) -> usize
+    ensures rest { result ≡ task % 16384 }
+    ensures below { result < 16384 }
+{
+    (task % RESTS as u64) as usize
+}
+
+// Where a task stands, found by going over all slots.
+fn place_among_all(slots: &[Slot], task: u64) -> Option<usize>
+    ensures { result ≡ position (has_task task) slots.now }
+{
+    slots.iter().position(|slot| match slot {
+        Some(entry) => entry.0 == task,
+        None => false,
+    })
+}
+
+// Where a task stands.
+fn place_in(
+    slots: &[Slot],
+    places: &[u16; RESTS],
+    counts: &[u16; RESTS],
+    task: u64,
+) -> Option<usize>
+    requires { AreCounted slots.now counts.now }
+    ensures some { IfSome result (λ at. has_task task (slot_at slots.now at) ≡ true) }
+    ensures below { IfSome result (λ at. at < length slots.now) }
+    ensures none { result ≡ None → home_of (tasks_in slots.now) task ≡ None }
+{
+    let rest = rest_of(task);
+    let at = places[rest] as usize;
+    match slots.get(at) {
+        Some(Some(entry)) if entry.0 == task => Some(at),
+        _ if counts[rest] == 0 => None,
+        _ => place_among_all(slots, task),
+    }
+}
+
+// Notes where each task stands.
+fn note_all(places: &mut [u16; RESTS], slots: &[Slot]) {
+    for (at, slot) in slots.iter().enumerate() {
+        if let Some(entry) = slot {
+            places[rest_of(entry.0)] = (at % 65_536) as u16;
+        }
+    }
+}
+
+// So that there is a slot for one task more. Where there is none, the gaps are closed.
+fn make_slot(slots: &mut Vec<Slot>, places: &mut [u16; RESTS])
+    requires few { length (tasks_in slots.old.items) < 4096 }
+    ensures tasks { tasks_in slots.new.items ≡ tasks_in slots.old.items }
+    ensures room { length slots.new.items < 8192 }
+    ensures capacity { vec_capacity slots.new ≡ vec_capacity slots.old }
+{
+    if slots.len() < MOST_SLOTS {
+        return;
+    }
+    slots.retain(|slot| slot.is_some());
+    note_all(places, slots);
+}
+
+impl TaskTable {
+    /// No task, and room for 4,096.
+    pub fn new(alloc: Global) -> Result<TaskTable, AllocError>
+        ensures { IfOk result (λ t. t ≡ []) }
+    {
+        Ok(TaskTable {
+            slots: Vec::with_capacity(alloc, MOST_SLOTS)?,
+            count: 0,
+            places: Box::new(alloc, [0; RESTS])?,
+            counts: Box::new(alloc, [0; RESTS])?,
+        })
+    }
+
+    /// The home node of a task.
+    pub fn home(&self, task: u64) -> Option<u64>
+        ensures { result ≡ home_of self.now task }
+    {
+        let at = place_in(&self.slots, &self.places, &self.counts, task)?;
+        match self.slots[at] {
+            Some(entry) => Some(entry.1),
+            None => None,
+        }
+    }
+
+    fn is_full(&self) -> bool
+        ensures { result ≡ is_crowded self.now }
+    {
+        self.count >= MOST_TASKS
+    }
+
+    fn add(&mut self, task: u64, home: u64)
+        requires room { length self.old < most_tasks }
+        requires absent { home_of self.old task ≡ None }
+        ensures { self.new ≡ added self.old task home }
+    {
+        make_slot(&mut self.slots, &mut self.places);
+        let rest = rest_of(task);
+        self.places[rest] = (self.slots.len() % 65_536) as u16;
+        self.counts[rest] += 1;
+        self.count += 1;
+        self.slots.push_reserved(Some((task, home)));
+    }
+
+    /// Adds a child of a task, with its home node. Refused as NoSuchTask, TaskExists or TooMany; then nothing changes.
+    pub fn add_child(&mut self, parent: u64, child: u64) -> Result<(), Refusal>
+        ensures { (nodes : ℕ) → table_event nodes self.old (FindAndAdd parent child)
+            ≡ (done_reply result, self.new) }
+    {
+        let Some(home) = self.home(parent) else {
+            return Err(Refusal::NoSuchTask);
+        };
+        if self.home(child).is_some() {
+            return Err(Refusal::TaskExists);
+        }
+        if self.is_full() {
+            return Err(Refusal::TooMany);
+        }
+        self.add(child, home);
+        Ok(())
+    }
+
+    /// Takes a task out, if it is there. What stands behind it stays where it is.
+    pub fn remove(&mut self, task: u64)
+        ensures { self.new ≡ removed self.old task }
+    {
+        let Some(at) = place_in(&self.slots, &self.places, &self.counts, task) else {
+            return;
+        };
+        self.slots[at] = None;
+        self.counts[rest_of(task)] -= 1;
+        self.count -= 1;
+    }
+
+    /// Adds a task with its home, which is one of so many nodes. Refused as NoSuchNode, TaskExists or TooMany; then nothing
+    /// changes. It asks for no memory.
+    pub fn add_task(&mut self, nodes: u64, task: u64, home: u64) -> Result<(), Refusal>
+        ensures { table_event nodes self.old (Add task home) ≡ (done_reply result, self.new) }
+    {
+        if home >= nodes {
+            return Err(Refusal::NoSuchNode);
+        }
+        if self.home(task).is_some() {
+            return Err(Refusal::TaskExists);
+        }
+        if self.is_full() {
+            return Err(Refusal::TooMany);
+        }
+        self.add(task, home);
+        Ok(())
+    }
+
+    /// Takes a task out. Refused as NoSuchTask where it is not there, and then nothing changes. It asks for no memory.
+    pub fn remove_task(&mut self, task: u64) -> Result<(), Refusal>
+        ensures event { (nodes : ℕ) → table_event nodes self.old (Remove task)
+            ≡ (done_reply result, self.new) }
+        ensures memory { result ≢ Err Refusal.OutOfMemory }
+    {
+        if self.home(task).is_none() {
+            return Err(Refusal::NoSuchTask);
+        }
+        self.remove(task);
+        Ok(())
+    }
+}
