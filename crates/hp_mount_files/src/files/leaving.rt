@@ -7,8 +7,9 @@ ghost use Rattle.hp_model.specs.files.MountCounts.{file_reserves};
 ghost use Rattle.hp_lookup.specs.Dropping.{IsLeft};
 ghost use Rattle.hp_lookup.specs.Places.{IsFirstTask, IsFound, all_maps};
 
-use super::{Files, MapPlace};
+use super::Files;
 use hp_file_list::{MOST_MAPS, drop_maps_of, sweep_file};
+use hp_lookup::MapPlace;
 use hp_model::naming::Naming;
 
 impl<N: Naming> Files<N> {

@@ -3,7 +3,7 @@ use Rattle.hp_model.specs.declared.section.Section.TheVariants.{Grant}
 use Rattle.hp_model.specs.pool.Pool.{granted_at}
 use Rattle.hp_mount_door.specs.Door.{with_reserves}
 use Rattle.hp_subpool.specs.Subpool.{Subpool, rise}
-use Rattle.hp_file.proofs.file.ask.Goals as goal
+use Rattle.hp_file.proofs.file.adding.ask.Goals as goal
 
 pub returns-in-Ok-clause-asked : goal.returns-in-Ok-clause-asked
 returns-in-Ok-clause-asked g c =
