@@ -1,39 +1,32 @@
 //! A file, with its pages by number.
-ghost use Rattle.std.specs.Prelude.{◌≡◌, ◌^◌, ◌-◌, drop, take, ◌++◌, ◌∷◌, ◌≤◌, List, ℕ, true, ◌+◌, ◌<◌, length, false, slice_set, None, Some, IfNone, IfOk, IfSome, [], OnOk, OnErr, IsSome, IsTrue};
+ghost use Rattle.std.specs.Prelude.{◌≡◌, ◌^◌, ◌-◌, drop, take, ◌≤◌, ℕ, true, ◌+◌, ◌<◌, length, slice_set, None, Some, IfNone, IfSome, [], OnOk, OnErr, IsTrue};
 ghost use Rattle.hp_model.specs.declared.cell.Cell.TheVariants.{Hole, Entered, Present};
 ghost use Rattle.std.specs.List.{list_any, position_or_len, slice_index_or};
-ghost use Rattle.hp_model.specs.files.Mapping.{copy_of, is_map, is_live, is_of, place_at};
-ghost use Rattle.hp_mapping.specs.Mapped.{at_place, with_copy};
-ghost use Rattle.hp_file.specs.Taking.{first_copy, with_taken_back};
-ghost use Rattle.hp_lookup.specs.Asking.{IsAsked};
-ghost use Rattle.hp_subpool.specs.Subpool.{Subpool as ShareValue, is_full, used};
+ghost use Rattle.hp_model.specs.files.Mapping.{is_map};
 ghost use Rattle.hp_store.specs.Store.{holders_of, page_at};
 ghost use Rattle.hp_lookup.specs.Dropping.{HasHolders, IsDropping};
 ghost use Rattle.hp_lookup.specs.Held.{in_file, more_in};
 ghost use Rattle.hp_model.specs.files.MountCounts.{is_waiting};
 ghost use Rattle.hp_lookup.specs.Keyed.{is_name_of};
-ghost use Rattle.hp_lookup.specs.Numbered.{mapping_at, with_mapping, with_punched, with_truncated};
-ghost use Rattle.hp_model.specs.Lists.{edit_range};
-ghost use Rattle.hp_model.specs.files.File.{at_least, cell_in, entered, has_page, is_hole, page_of, is_entered};
+ghost use Rattle.hp_lookup.specs.Numbered.{mapping_at, with_punched, with_truncated};
+ghost use Rattle.hp_model.specs.files.File.{at_least, cell_in, has_page, is_hole, page_of, is_entered};
 ghost use Rattle.std.specs.List.{count_by};
 
+mod adding;
+mod copies;
 mod filling;
 mod forking;
 mod leaving;
 
-use crate::dropping::{drop_all_copies, drop_maps, drop_pages, take_from_others};
+use crate::dropping::{drop_all_copies, drop_maps, drop_pages};
 use hp_inode::Inode;
 use hp_lookup::FileName;
 use hp_mapping::Mapping;
 use hp_model::naming::Naming;
 use hp_model::page_no::PageNo;
-use hp_model::refusal::Refusal;
-use hp_mount_door::PoolDoor;
 use hp_store::PageStore;
-use hp_subpool::Subpool;
 use std::alloc::{AllocError, Global};
 use std::marker::Model;
-use std::mem;
 
 /// What stands at an index of a file.
 #[derive(Clone, Copy, Debug, PartialEq, Eq)]
@@ -235,48 +228,6 @@ impl File {
         inode.missing(a, known) + (b - known.max(a))
     }
 
-    /// Adds a map, and enters its indices from `from` on; the file gets longer where the map reaches past its end. The
-    /// pages of the `wanted` indices without an entry are reserved through the door. Refused as OutOfMemory before the
-    /// door, or as the door refuses; then nothing changes.
-    pub fn add_map<N: Naming, D: PoolDoor<Share = Subpool<N>>>(
-        &mut self,
-        alloc: Global,
-        door: &mut D,
-        share: &mut Subpool<N>,
-        home: usize,
-        wanted: u64,
-        from: u64,
-        map: Mapping,
-    ) -> Result<(), Refusal>
-        requires shares { (s : ShareValue) → D.share_of s ≡ s }
-        requires ready { D.is_ready door.old }
-        requires within { is_full share.old wanted ≡ false }
-        requires few { used share.old + wanted < 2 ^ 64 }
-        requires reach { map.start + length map.places < 2 ^ 32 }
-        ensures ok { OnOk result (self.new ≡ with_mapping from map self.old) }
-        ensures err { OnErr result (self.new ≡ self.old) }
-        ensures asked { IsAsked D.took D.is_full home wanted share.old door.old result share.new
-            door.new }
-        ensures left { D.is_left door.new }
-    {
-        if self.maps.reserve(1).is_err() {
-            drop(map);
-            return Err(Refusal::OutOfMemory);
-        }
-        let end = map.end();
-        let inode = &mut self.inode;
-        match enter_range(inode, alloc, door, share, home, wanted, from, end) {
-            Ok(()) => {
-                self.maps.push_reserved(map);
-                Ok(())
-            }
-            Err(refusal) => {
-                drop(map);
-                Err(refusal)
-            }
-        }
-    }
-
     /// The place of the task's map of that number, or how many maps there are.
     pub fn place_of(&self, task: u64, number: u64) -> usize
         ensures { result ≡ position_or_len (is_map task number) self.now.maps }
@@ -293,63 +244,6 @@ impl File {
         ensures { result.now ≡ slice_index_or self.now.maps at result.now }
     {
         &self.maps[at]
-    }
-
-    /// The page is the copy at a map's index, and an owner's reservation for it is consumed.
-    pub fn put_copy(&mut self, map: usize, index: u64, number: PageNo)
-        requires within { map < length self.old.maps }
-        requires live { IsTrue (is_live (place_at (mapping_at self.old map) index)) }
-        ensures { self.new ≡ record self.old {
-          maps = slice_set self.old.maps map
-              (at_place (first_copy (mapping_at self.old map).owner number) index
-              (mapping_at self.old map));
-        } }
-    {
-        let at = &mut self.maps[map];
-        at.set_copy(index, number);
-        if at.is_owner() {
-            at.consume(index);
-        }
-    }
-
-    /// The page takes the place of the copy at a map's index, which is answered.
-    pub fn replace_copy(&mut self, map: usize, index: u64, number: PageNo) -> PageNo
-        requires within { map < length self.old.maps }
-        requires copy { IsSome (copy_of (place_at (mapping_at self.old map) index)) }
-        ensures old { copy_of (place_at (mapping_at self.old map) index) ≡ Some result }
-        ensures file { self.new ≡ record self.old {
-          maps = slice_set self.old.maps map
-              (at_place (with_copy number) index (mapping_at self.old map));
-        } }
-    {
-        let at = &mut self.maps[map];
-        let old = at.copy_at(index).unwrap();
-        at.set_copy(index, number);
-        old
-    }
-
-    /// All other maps lose a map's copy at an index, and are marked.
-    pub fn take_back<N: Naming>(
-        &mut self,
-        map: usize,
-        index: u64,
-        store: &mut PageStore<N>,
-        more: &mut usize,
-    )
-        requires within { map < length self.old.maps }
-        requires copy { IsSome (copy_of (place_at (mapping_at self.old map) index)) }
-        requires held { (n : ℕ) → in_file n self.old ≤ holders_of (page_at store.old n) }
-        requires some { HasHolders store.old }
-        requires counted { more.old ≡ more_in store.old.pages }
-        ensures file { (number : ℕ) → copy_of (place_at (mapping_at self.old map) index)
-            ≡ Some number
-            → self.new ≡ with_taken_back number map index self.old }
-        ensures dropping { IsDropping (λ n. in_file n self.old) (λ n. in_file n self.new)
-            store.old store.new }
-        ensures counted { more.new ≡ more_in store.new.pages }
-    {
-        let number = self.maps[map].copy_at(index).unwrap();
-        take_from_others(&mut self.maps, map, index, number, store, more);
     }
 
     /// Whether the task's map of that number stands at a place.
@@ -403,79 +297,4 @@ fn is_map(map: &Mapping, task: u64, number: u64) -> bool
     ensures { result ≡ is_map task number map.now }
 {
     map.task() == task && map.number() == number
-}
-
-// Reserves the pages that a map asks for, through the door.
-fn ask<N: Naming, D: PoolDoor<Share = Subpool<N>>>(
-    door: &mut D,
-    share: &mut Subpool<N>,
-    home: usize,
-    wanted: u64,
-) -> Result<(), Refusal>
-    requires shares { (s : ShareValue) → D.share_of s ≡ s }
-    requires ready { D.is_ready door.old }
-    requires within { is_full share.old wanted ≡ false }
-    requires few { used share.old + wanted < 2 ^ 64 }
-    ensures asked { IsAsked D.took D.is_full home wanted share.old door.old result share.new
-        door.new }
-    ensures left { D.is_left door.new }
-{
-    match door.get(share, home, wanted) {
-        Ok(()) => Ok(()),
-        Err(refusal) => Err(refusal),
-    }
-}
-
-// Enters the indices of an inode from `from` up to `end`, if there are any; it gets longer where `end` is past its end. The
-// rest is as `add_map` says.
-fn enter_range<N: Naming, D: PoolDoor<Share = Subpool<N>>>(
-    inode: &mut Inode,
-    alloc: Global,
-    door: &mut D,
-    share: &mut Subpool<N>,
-    home: usize,
-    wanted: u64,
-    from: u64,
-    end: u64,
-) -> Result<(), Refusal>
-    requires shares { (s : ShareValue) → D.share_of s ≡ s }
-    requires ready { D.is_ready door.old }
-    requires within { is_full share.old wanted ≡ false }
-    requires few { used share.old + wanted < 2 ^ 64 }
-    requires reach { end < 2 ^ 32 }
-    ensures ok { OnOk result (inode.new ≡ edit_range entered from end (at_least end inode.old)) }
-    ensures err { OnErr result (inode.new ≡ inode.old) }
-    ensures asked { IsAsked D.took D.is_full home wanted share.old door.old result share.new
-        door.new }
-    ensures left { D.is_left door.new }
-{
-    if from >= end {
-        ask(door, share, home, wanted)?;
-        inode.lengthen(end);
-        return Ok(());
-    }
-    let taken = mem::replace(inode, Inode::new(alloc));
-    match taken.prepare(from, end) {
-        Ok(ready) => match ask(door, share, home, wanted) {
-            Ok(()) => {
-                put_back(inode, ready.enter());
-                Ok(())
-            }
-            Err(refusal) => {
-                put_back(inode, ready.leave());
-                Err(refusal)
-            }
-        },
-        Err(taken) => {
-            put_back(inode, taken);
-            Err(Refusal::OutOfMemory)
-        }
-    }
-}
-
-// What was taken out of its place is there again.
-fn put_back(place: &mut Inode, taken: Inode)
-    ensures { place.new ≡ taken }
-{
-    *place = taken;
 }

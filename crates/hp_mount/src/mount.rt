@@ -18,12 +18,14 @@ ghost use Rattle.hp_events.specs.Event.{event_of, is_usage, shows_bytes};
 ghost use Rattle.hp_mount.specs.Kept.{mount_of};
 ghost use Rattle.hp_mount.specs.Memory.{asks_memory};
 
+mod contents;
 mod filling;
 mod forking;
 mod giving;
 mod leaving;
 mod looking;
 mod making;
+mod placing;
 mod private;
 mod reach;
 mod remounting;

@@ -10,7 +10,8 @@ ghost use Rattle.hp_file.specs.Filling.{IsTaking};
 ghost use Rattle.hp_store.specs.Batch.{Batch as BatchValue};
 ghost use Rattle.hp_subpool.specs.Subpool.{Subpool as ShareValue, is_full, used};
 
-use super::{File, put_back};
+use super::File;
+use super::adding::put_back;
 use hp_inode::Inode;
 use hp_model::naming::Naming;
 use hp_model::refusal::Refusal;

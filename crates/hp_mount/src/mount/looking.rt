@@ -13,7 +13,7 @@ ghost use Rattle.hp_mount.specs.Alone.{IsDoneAlone};
 ghost use Rattle.hp_mount.specs.Found.{first_of};
 
 use super::Mount;
-use super::reach::{bytes_of, zeros_of};
+use super::contents::{bytes_of, zeros_of};
 use hp_model::naming::Naming;
 use hp_model::refusal::Refusal;
 use hp_model::told::Told;

@@ -1,24 +1,19 @@
 //! Accesses through maps: each sees to it that there is a page.
-ghost use Rattle.std.specs.Prelude.{◌≡◌, ◌≢◌, ℕ, ◌+◌, ◌<◌, ◌≤◌, ◌^◌, length, take, drop, Ok, Err, IfErr, IfOk, OnOk, OnErr, Some, None, true, false, IfNone, IfSome};
+ghost use Rattle.std.specs.Prelude.{◌≡◌, ◌≢◌, ℕ, ◌<◌, ◌≤◌, length, Ok, Err, IfOk, Some, true, false};
 ghost use Rattle.hp_model.specs.declared.cell.Cell.TheVariants.{Entered, Hole};
-ghost use Rattle.hp_model.specs.files.Access.{shared_access, access};
 ghost use Rattle.hp_model.specs.declared.event.SlotEvent.TheVariants.{Load, Store, Fault};
 ghost use Rattle.hp_model.specs.files.Mapping.{is_live, is_shared, place_at};
 ghost use Rattle.hp_model.specs.machine.Accesses.{bytes_reply, done_reply};
-ghost use Rattle.hp_model.specs.machine.SlotEvent.{byte_tests, fault_tests};
-ghost use Rattle.hp_model.specs.files.Value.{value};
 ghost use Rattle.hp_model.specs.declared.refusal.Refusal.TheVariants as Refusal;
-ghost use Rattle.hp_model.specs.files.File.{cell_at, is_entered, with_cell, with_file};
-ghost use Rattle.hp_model.specs.files.MountCounts.{usage_of};
-ghost use Rattle.hp_model.specs.files.Page.{Page as PageValue, zeros};
+ghost use Rattle.hp_model.specs.files.File.{cell_at, is_entered};
+ghost use Rattle.hp_model.specs.files.Page.{Page as PageValue};
 ghost use Rattle.hp_model.specs.machine.Promises.{file_in, is_backed, map_in};
 ghost use Rattle.hp_model.specs.declared.step.Intent.TheVariants.{Read, Write};
-ghost use Rattle.hp_model.specs.files.Spot.{Spot, cell_written, place_written};
 ghost use Rattle.hp_lookup.specs.declared.copy_state.CopyState.TheVariants as CopyState;
 ghost use Rattle.hp_file.specs.States.{IsCopyState};
 ghost use Rattle.hp_subpool.specs.Subpool.{Subpool as ShareValue};
 ghost use Rattle.hp_mount.specs.Done.{IsAccessed, IsDone, IsReached};
-ghost use Rattle.hp_mount.specs.Found.{Fits, with_place_at, IsPlaced, IsTouched, first_of, spot_at, spot_of, tests_of, why_not};
+ghost use Rattle.hp_mount.specs.Found.{IsTouched, spot_at, spot_of};
 
 use super::Mount;
 use hp_model::naming::Naming;
@@ -176,98 +171,6 @@ impl<N: Naming> Mount<N> {
         }
     }
 
-    // What a load or a store of so many bytes is refused before its access, if anything.
-    #[inline(always)]
-    fn refused_bytes(
-        &self,
-        page_bytes: u64,
-        at: MapPlace,
-        index: u64,
-        offset: u64,
-        count: u64,
-    ) -> Option<Refusal>
-        requires file { at.file < length self.now.files }
-        requires map { at.map < length (file_in self.now at.file).maps }
-        ensures refused { result
-            ≡ first_of (byte_tests page_bytes index offset count
-            (spot_at self.now at.file at.map)) }
-        ensures below { IfNone result (index < length (file_in self.now at.file).cells) }
-        ensures live { IfNone result
-            (is_live (place_at (map_in (file_in self.now at.file) at.map) index) ≡ true) }
-        ensures fits { IfNone result (offset + count ≤ page_bytes) }
-        ensures few { IfNone result (count ≤ 256) }
-    {
-        let live = self.files.is_live(at, index);
-        if !live || count == 0 {
-            return Some(Refusal::OutOfRange);
-        }
-        if offset > page_bytes || count > page_bytes - offset {
-            return Some(Refusal::CrossesPage);
-        }
-        if count > 256 {
-            return Some(Refusal::TooMany);
-        }
-        if index >= self.files.len(at.file) {
-            return Some(Refusal::BeyondEnd);
-        }
-        None
-    }
-
-    // What a fault is refused before its access, if anything.
-    fn refused_page(&self, at: MapPlace, index: u64) -> Option<Refusal>
-        requires file { at.file < length self.now.files }
-        requires map { at.map < length (file_in self.now at.file).maps }
-        ensures refused { result ≡ first_of (fault_tests index (spot_at self.now at.file at.map)) }
-        ensures below { IfNone result (index < length (file_in self.now at.file).cells) }
-        ensures live { IfNone result
-            (is_live (place_at (map_in (file_in self.now at.file) at.map) index) ≡ true) }
-    {
-        if !self.files.is_live(at, index) {
-            return Some(Refusal::OutOfRange);
-        }
-        if index >= self.files.len(at.file) {
-            return Some(Refusal::BeyondEnd);
-        }
-        None
-    }
-
-    // What an access is refused before it begins, if anything.
-    #[inline(always)]
-    fn refused(&self, page_bytes: u64, at: MapPlace, index: u64, asked: Asked) -> Option<Refusal>
-        requires file { at.file < length self.now.files }
-        requires map { at.map < length (file_in self.now at.file).maps }
-        ensures refused { result
-            ≡ first_of (tests_of page_bytes index asked (spot_at self.now at.file at.map)) }
-        ensures below { IfNone result (index < length (file_in self.now at.file).cells) }
-        ensures live { IfNone result
-            (is_live (place_at (map_in (file_in self.now at.file) at.map) index) ≡ true) }
-        ensures fits { IfNone result (Fits page_bytes asked) }
-    {
-        match asked {
-            Asked::Page => self.refused_page(at, index),
-            Asked::Bytes { offset, count } => {
-                self.refused_bytes(page_bytes, at, index, offset, count)
-            }
-        }
-    }
-
-    // Where the map of an access stands, or why the access does not begin.
-    #[inline(always)]
-    fn place(&self, page_bytes: u64, access: &MapAccess, asked: Asked) -> Result<MapPlace, Refusal>
-        ensures placed { IfOk result (λ at. IsPlaced self.now access.now asked page_bytes at) }
-        ensures fits { OnOk result (Fits page_bytes asked) }
-        ensures refused { IfErr result (λ e. why_not self.now access.now asked page_bytes
-            ≡ Some e) }
-    {
-        let Some(at) = self.files.find(access.task, access.map) else {
-            return Err(Refusal::NoSuchMap);
-        };
-        match self.refused(page_bytes, at, access.index, asked) {
-            Some(refusal) => Err(refusal),
-            None => Ok(at),
-        }
-    }
-
     /// Sees to it that a map shows a page at an index, or for a write that it has one to write into.
     #[inline(never)]
     pub fn fault<D: PoolDoor<Share = Subpool<N>, Page = Page<N>>>(
@@ -369,83 +272,4 @@ impl<N: Naming> Mount<N> {
         self.write(at.file, access.index, offset as usize, bytes);
         Ok(())
     }
-
-    // Writes bytes into a file's page, if there is one.
-    fn write(&mut self, file: usize, index: u64, offset: usize, bytes: &[u8])
-        requires file { file < length self.old.files }
-        requires below { index < length (file_in self.old file).cells }
-        requires fits { offset + length bytes.now ≤ N.page_bytes }
-        ensures { self.new ≡ with_file self.old file (with_cell (file_in self.old file) index
-            (cell_written offset bytes.now (cell_at (file_in self.old file) index))) }
-    {
-        self.files.write(file, index, offset, bytes);
-    }
-
-    // Writes bytes into a copy that the map alone holds.
-    fn write_copy(&mut self, at: MapPlace, index: u64, offset: usize, bytes: &[u8])
-        requires file { at.file < length self.old.files }
-        requires map { at.map < length (file_in self.old at.file).maps }
-        requires once { IsCopyState CopyState.HeldOnce (file_in self.old at.file)
-            (place_at (map_in (file_in self.old at.file) at.map) index) }
-        requires fits { offset + length bytes.now ≤ N.page_bytes }
-        ensures { self.new ≡ with_place_at self.old at.file at.map index
-            (place_written offset bytes.now
-            (place_at (map_in (file_in self.old at.file) at.map) index)) }
-    {
-        self.files.write_copy(at, index, offset, bytes);
-    }
-
-    // `count` bytes of what a map shows, in the front of the room.
-    fn shown_bytes<'a>(
-        &self,
-        at: MapPlace,
-        index: u64,
-        offset: usize,
-        count: usize,
-        room: &'a mut [u8],
-    ) -> &'a [u8]
-        requires file { at.file < length self.now.files }
-        requires map { at.map < length (file_in self.now at.file).maps }
-        requires within { offset + count ≤ N.page_bytes }
-        requires room { count ≤ length room.old }
-        ensures shown { result.now ≡ take count (drop offset
-            (value N.page_bytes (file_in self.now at.file)
-            (map_in (file_in self.now at.file) at.map) index)) }
-        ensures all { length result.now ≡ count }
-    {
-        match self.files.shown(at, index) {
-            Some(page) => {
-                let (front, _) = room.split_at_mut(count);
-                page.copy_to(offset, front);
-                front
-            }
-            None => zeros_of(count, room),
-        }
-    }
-}
-
-/// `count` bytes of a page, in the front of the room.
-pub(super) fn bytes_of<'a>(page: &[u8], offset: usize, count: usize, room: &'a mut [u8]) -> &'a [u8]
-    requires within { offset + count ≤ length page.now }
-    requires room { count ≤ length room.old }
-    ensures bytes { result.now ≡ take count (drop offset page.now) }
-    ensures all { length result.now ≡ count }
-{
-    let (front, _) = room.split_at_mut(count);
-    let (_, rest) = page.split_at(offset);
-    let (wanted, _) = rest.split_at(count);
-    front.copy_from_slice(wanted);
-    front
-}
-
-/// `count` zeros, in the front of the room.
-pub(super) fn zeros_of<'a>(count: usize, room: &'a mut [u8]) -> &'a [u8]
-    requires room { count ≤ length room.old }
-    ensures zeros { (size offset : ℕ) → offset + count ≤ size
-        → result.now ≡ take count (drop offset (zeros size)) }
-    ensures all { length result.now ≡ count }
-{
-    let (front, _) = room.split_at_mut(count);
-    front.fill(0);
-    front
 }

@@ -14,9 +14,9 @@ ghost use Rattle.hp_lookup.specs.Files.{copied_at, file_at, parted_at, placed_at
 ghost use Rattle.hp_lookup.specs.Places.{map_at};
 ghost use Rattle.hp_file.specs.States.{AreAgreed, IsCopyState};
 
-use super::{Files, MapPlace};
+use super::Files;
 use hp_file::drop_holder;
-use hp_lookup::CopyState;
+use hp_lookup::{CopyState, MapPlace};
 use hp_model::naming::Naming;
 use hp_model::page_no::PageNo;
 use hp_nodes::Page;

@@ -4,7 +4,7 @@ use Rattle.hp_model.specs.files.Mapping.{place_at}
 use Rattle.hp_model.specs.machine.Promises.{file_in, map_in}
 use Rattle.hp_mount.proofs.Private as private
 use Rattle.hp_mount.specs.Found.{shows_page}
-use Rattle.hp_mount_files.proofs.PutCopy.{bare_place}
+use Rattle.hp_file_list.proofs.PutCopy.{bare_place}
 use Rattle.hp_mount.proofs.mount.Mount.reach_bare.Goals as goal
 
 pub returns-then-is_unmapped-clause-done : goal.returns-then-is_unmapped-clause-done

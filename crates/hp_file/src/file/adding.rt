@@ -1,0 +1,136 @@
+//! A map that comes, with what it reserves.
+ghost use Rattle.std.specs.Prelude.{◌≡◌, ◌^◌, ◌+◌, ◌<◌, length, false, OnOk, OnErr};
+ghost use Rattle.hp_lookup.specs.Asking.{IsAsked};
+ghost use Rattle.hp_subpool.specs.Subpool.{Subpool as ShareValue, is_full, used};
+ghost use Rattle.hp_lookup.specs.Numbered.{with_mapping};
+ghost use Rattle.hp_model.specs.Lists.{edit_range};
+ghost use Rattle.hp_model.specs.files.File.{at_least, entered};
+
+use super::File;
+use hp_inode::Inode;
+use hp_mapping::Mapping;
+use hp_model::naming::Naming;
+use hp_model::refusal::Refusal;
+use hp_mount_door::PoolDoor;
+use hp_subpool::Subpool;
+use std::alloc::Global;
+use std::mem;
+
+// Reserves the pages that a map asks for, through the door.
+fn ask<N: Naming, D: PoolDoor<Share = Subpool<N>>>(
+    door: &mut D,
+    share: &mut Subpool<N>,
+    home: usize,
+    wanted: u64,
+) -> Result<(), Refusal>
+    requires shares { (s : ShareValue) → D.share_of s ≡ s }
+    requires ready { D.is_ready door.old }
+    requires within { is_full share.old wanted ≡ false }
+    requires few { used share.old + wanted < 2 ^ 64 }
+    ensures asked { IsAsked D.took D.is_full home wanted share.old door.old result share.new
+        door.new }
+    ensures left { D.is_left door.new }
+{
+    match door.get(share, home, wanted) {
+        Ok(()) => Ok(()),
+        Err(refusal) => Err(refusal),
+    }
+}
+
+// What was taken out of its place is there again.
+pub(super) fn put_back(place: &mut Inode, taken: Inode)
+    ensures { place.new ≡ taken }
+{
+    *place = taken;
+}
+
+// Enters the indices of an inode from `from` up to `end`, if there are any; it gets longer where `end` is past its end. The
+// rest is as `add_map` says.
+fn enter_range<N: Naming, D: PoolDoor<Share = Subpool<N>>>(
+    inode: &mut Inode,
+    alloc: Global,
+    door: &mut D,
+    share: &mut Subpool<N>,
+    home: usize,
+    wanted: u64,
+    from: u64,
+    end: u64,
+) -> Result<(), Refusal>
+    requires shares { (s : ShareValue) → D.share_of s ≡ s }
+    requires ready { D.is_ready door.old }
+    requires within { is_full share.old wanted ≡ false }
+    requires few { used share.old + wanted < 2 ^ 64 }
+    requires reach { end < 2 ^ 32 }
+    ensures ok { OnOk result (inode.new ≡ edit_range entered from end (at_least end inode.old)) }
+    ensures err { OnErr result (inode.new ≡ inode.old) }
+    ensures asked { IsAsked D.took D.is_full home wanted share.old door.old result share.new
+        door.new }
+    ensures left { D.is_left door.new }
+{
+    if from >= end {
+        ask(door, share, home, wanted)?;
+        inode.lengthen(end);
+        return Ok(());
+    }
+    let taken = mem::replace(inode, Inode::new(alloc));
+    match taken.prepare(from, end) {
+        Ok(ready) => match ask(door, share, home, wanted) {
+            Ok(()) => {
+                put_back(inode, ready.enter());
+                Ok(())
+            }
+            Err(refusal) => {
+                put_back(inode, ready.leave());
+                Err(refusal)
+            }
+        },
+        Err(taken) => {
+            put_back(inode, taken);
+            Err(Refusal::OutOfMemory)
+        }
+    }
+}
+
+impl File {
+    /// Adds a map, and enters its indices from `from` on; the file gets longer where the map reaches past its end. The
+    /// pages of the `wanted` indices without an entry are reserved through the door. Refused as OutOfMemory before the
+    /// door, or as the door refuses; then nothing changes.
+    pub fn add_map<N: Naming, D: PoolDoor<Share = Subpool<N>>>(
+        &mut self,
+        alloc: Global,
+        door: &mut D,
+        share: &mut Subpool<N>,
+        home: usize,
+        wanted: u64,
+        from: u64,
+        map: Mapping,
+    ) -> Result<(), Refusal>
+        requires shares { (s : ShareValue) → D.share_of s ≡ s }
+        requires ready { D.is_ready door.old }
+        requires within { is_full share.old wanted ≡ false }
+        requires few { used share.old + wanted < 2 ^ 64 }
+        requires reach { map.start + length map.places < 2 ^ 32 }
+        ensures ok { OnOk result (self.new ≡ with_mapping from map self.old) }
+        ensures err { OnErr result (self.new ≡ self.old) }
+        ensures asked { IsAsked D.took D.is_full home wanted share.old door.old result share.new
+            door.new }
+        ensures left { D.is_left door.new }
+    {
+        if self.maps.reserve(1).is_err() {
+            drop(map);
+            return Err(Refusal::OutOfMemory);
+        }
+        let end = map.end();
+        let inode = &mut self.inode;
+        match enter_range(inode, alloc, door, share, home, wanted, from, end) {
+            Ok(()) => {
+                self.maps.push_reserved(map);
+                Ok(())
+            }
+            Err(refusal) => {
+                drop(map);
+                Err(refusal)
+            }
+        }
+    }
+}

@@ -1,0 +1,112 @@
+//! Where an access goes, or why it does not begin.
+ghost use Rattle.std.specs.Prelude.{◌≡◌, ◌+◌, ◌<◌, ◌≤◌, length, IfErr, IfOk, OnOk, Some, true, IfNone};
+ghost use Rattle.hp_model.specs.files.Mapping.{is_live, place_at};
+ghost use Rattle.hp_model.specs.machine.SlotEvent.{byte_tests, fault_tests};
+ghost use Rattle.hp_model.specs.machine.Promises.{file_in, map_in};
+ghost use Rattle.hp_mount.specs.Found.{Fits, IsPlaced, first_of, spot_at, tests_of, why_not};
+
+use super::Mount;
+use super::reach::{Asked, MapAccess};
+use hp_model::naming::Naming;
+use hp_model::refusal::Refusal;
+use hp_mount_files::MapPlace;
+use hp_nodes::Page;
+
+impl<N: Naming> Mount<N> {
+    // What a load or a store of so many bytes is refused before its access, if anything.
+    #[inline(always)]
+    fn refused_bytes(
+        &self,
+        page_bytes: u64,
+        at: MapPlace,
+        index: u64,
+        offset: u64,
+        count: u64,
+    ) -> Option<Refusal>
+        requires file { at.file < length self.now.files }
+        requires map { at.map < length (file_in self.now at.file).maps }
+        ensures refused { result
+            ≡ first_of (byte_tests page_bytes index offset count
+            (spot_at self.now at.file at.map)) }
+        ensures below { IfNone result (index < length (file_in self.now at.file).cells) }
+        ensures live { IfNone result
+            (is_live (place_at (map_in (file_in self.now at.file) at.map) index) ≡ true) }
+        ensures fits { IfNone result (offset + count ≤ page_bytes) }
+        ensures few { IfNone result (count ≤ 256) }
+    {
+        let live = self.files.is_live(at, index);
+        if !live || count == 0 {
+            return Some(Refusal::OutOfRange);
+        }
+        if offset > page_bytes || count > page_bytes - offset {
+            return Some(Refusal::CrossesPage);
+        }
+        if count > 256 {
+            return Some(Refusal::TooMany);
+        }
+        if index >= self.files.len(at.file) {
+            return Some(Refusal::BeyondEnd);
+        }
+        None
+    }
+
+    // What a fault is refused before its access, if anything.
+    fn refused_page(&self, at: MapPlace, index: u64) -> Option<Refusal>
+        requires file { at.file < length self.now.files }
+        requires map { at.map < length (file_in self.now at.file).maps }
+        ensures refused { result ≡ first_of (fault_tests index (spot_at self.now at.file at.map)) }
+        ensures below { IfNone result (index < length (file_in self.now at.file).cells) }
+        ensures live { IfNone result
+            (is_live (place_at (map_in (file_in self.now at.file) at.map) index) ≡ true) }
+    {
+        if !self.files.is_live(at, index) {
+            return Some(Refusal::OutOfRange);
+        }
+        if index >= self.files.len(at.file) {
+            return Some(Refusal::BeyondEnd);
+        }
+        None
+    }
+
+    // What an access is refused before it begins, if anything.
+    #[inline(always)]
+    fn refused(&self, page_bytes: u64, at: MapPlace, index: u64, asked: Asked) -> Option<Refusal>
+        requires file { at.file < length self.now.files }
+        requires map { at.map < length (file_in self.now at.file).maps }
+        ensures refused { result
+            ≡ first_of (tests_of page_bytes index asked (spot_at self.now at.file at.map)) }
+        ensures below { IfNone result (index < length (file_in self.now at.file).cells) }
+        ensures live { IfNone result
+            (is_live (place_at (map_in (file_in self.now at.file) at.map) index) ≡ true) }
+        ensures fits { IfNone result (Fits page_bytes asked) }
+    {
+        match asked {
+            Asked::Page => self.refused_page(at, index),
+            Asked::Bytes { offset, count } => {
+                self.refused_bytes(page_bytes, at, index, offset, count)
+            }
+        }
+    }
+
+    // Where the map of an access stands, or why the access does not begin.
+    #[inline(always)]
+    pub(super) fn place(
+        &self,
+        page_bytes: u64,
+        access: &MapAccess,
+        asked: Asked,
+    ) -> Result<MapPlace, Refusal>
+        ensures placed { IfOk result (λ at. IsPlaced self.now access.now asked page_bytes at) }
+        ensures fits { OnOk result (Fits page_bytes asked) }
+        ensures refused { IfErr result (λ e. why_not self.now access.now asked page_bytes
+            ≡ Some e) }
+    {
+        let Some(at) = self.files.find(access.task, access.map) else {
+            return Err(Refusal::NoSuchMap);
+        };
+        match self.refused(page_bytes, at, access.index, asked) {
+            Some(refusal) => Err(refusal),
+            None => Ok(at),
+        }
+    }
+}

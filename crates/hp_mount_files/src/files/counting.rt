@@ -1,0 +1,131 @@
+//! How many files, maps and tasks there are, and their names and numbers.
+ghost use Rattle.std.specs.Prelude.{◌≡◌, not, ◌<◌, ◌≤◌, length, IfOk};
+ghost use Rattle.hp_model.specs.files.File.{has_page, is_entered};
+ghost use Rattle.hp_lookup.specs.Files.{file_at};
+ghost use Rattle.hp_lookup.specs.Asking.{is_first_of, next_of};
+ghost use Rattle.std.specs.List.{All, count_by, filter_map};
+ghost use Rattle.hp_model.specs.Lists.{is_among};
+ghost use Rattle.hp_model.specs.files.MakeMap.{numbers_of};
+ghost use Rattle.hp_lookup.specs.Places.{all_maps, all_tasks};
+
+use super::Files;
+use hp_lookup::NextMap;
+use hp_model::bytes::Bytes;
+use hp_model::names::Names;
+use hp_model::naming::Naming;
+use std::alloc::AllocError;
+
+impl<N: Naming> Files<N> {
+    /// How many files there are.
+    pub fn count(&self) -> usize
+        ensures { result ≡ length self.now.files }
+    {
+        self.list.len()
+    }
+
+    /// How many maps the files have.
+    pub fn map_count(&self) -> u64
+        ensures { result ≡ length (all_maps self.now.files) }
+    {
+        self.maps
+    }
+
+    /// How many tasks have maps of the files.
+    pub fn task_count(&self) -> u64
+        ensures { result ≡ length (all_tasks self.now.files) }
+    {
+        self.counts.len() as u64
+    }
+
+    /// Whether the task has a map.
+    pub fn has_maps(&self, task: u64) -> bool
+        ensures { result ≡ not (is_first_of task self.now.files) }
+    {
+        self.counts.count(task) > 0
+    }
+
+    /// The number that the task's next map gets, which is the least that none of its maps has.
+    pub fn next_map(&self, task: u64) -> NextMap
+        requires { length (all_maps self.now.files) < 4096 }
+        ensures number { result.number ≡ next_of task self.now.files }
+        ensures first { result.is_first ≡ is_first_of task self.now.files }
+    {
+        if !self.has_maps(task) {
+            return NextMap {
+                number: 1,
+                is_first: true,
+            };
+        }
+        NextMap {
+            number: self.least_unused(task),
+            is_first: false,
+        }
+    }
+
+    // Whether the task has a map of the number.
+    fn is_used(&self, task: u64, number: u64) -> bool
+        ensures { result ≡ is_among number (numbers_of task (all_maps self.now.files)) }
+    {
+        self.find(task, number).is_some()
+    }
+
+    // The least number from 1 on that none of the task's maps has.
+    fn least_unused(&self, task: u64) -> u64
+        requires { length (all_maps self.now.files) < 4096 }
+        ensures { result ≡ next_of task self.now.files }
+    {
+        let mut number = 1;
+        while self.is_used(task, number) {
+            number += 1;
+        }
+        number
+    }
+
+    /// The names of the files that have one, in order of creation. Refused where memory is.
+    pub fn names(&self) -> Result<Names, AllocError>
+        ensures names { IfOk result (λ names. names ≡ filter_map (λ f. f.name) self.now.files) }
+        ensures few { IfOk result (λ names. length names ≤ length self.now.files) }
+        ensures short { IfOk result (λ names. All (λ name. length name ≤ 64) names) }
+    {
+        let files = &self.list;
+        let mut names = Vec::with_capacity(self.alloc, files.len())?;
+        for at in 0..files.len() {
+            if let Some(name) = files[at].name() {
+                names.push_reserved(Bytes::copied(self.alloc, name)?);
+            }
+        }
+        Ok(Names::new(names))
+    }
+
+    /// The length of a file.
+    pub fn len(&self, file: usize) -> u64
+        requires { file < length self.now.files }
+        ensures { result ≡ length (file_at self.now.files file).cells }
+    {
+        self.list[file].len()
+    }
+
+    /// How many pages a file has of its own. No index is walked.
+    pub fn page_count(&self, file: usize) -> u64
+        requires { file < length self.now.files }
+        ensures { result ≡ count_by has_page (file_at self.now.files file).cells }
+    {
+        self.list[file].page_count()
+    }
+
+    /// How many indices of a file are entered, with a page or without. No index is walked.
+    pub fn entry_count(&self, file: usize) -> u64
+        requires { file < length self.now.files }
+        ensures { result ≡ count_by is_entered (file_at self.now.files file).cells }
+    {
+        self.list[file].entry_count()
+    }
+
+    /// How many maps a file has, of all tasks.
+    pub fn map_count_of(&self, file: usize) -> usize
+        requires { file < length self.now.files }
+        ensures { result ≡ length (file_at self.now.files file).maps }
+    {
+        self.list[file].map_count()
+    }
+}
