@@ -2,6 +2,7 @@ pub mod Blocks
 pub mod EntryBlock
 pub mod Form
 pub mod Kept
+pub mod Later
 pub mod Marks
 pub mod Rows
 pub mod Ready

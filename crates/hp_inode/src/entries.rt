@@ -8,6 +8,7 @@ ghost use Rattle.hp_inode.specs.Marks.{marked};
 
 use crate::block::{BLOCK, within_block};
 use crate::entry_block::EntryBlock;
+use crate::later_entries::LaterEntries;
 use std::alloc::{AllocError, Global};
 use std::marker::Model;
 
@@ -18,7 +19,7 @@ pub struct Entries {
     alloc: Global,
     first: EntryBlock,
     // those after the first, up to the last that has had an entry
-    rest: Vec<EntryBlock>,
+    rest: Vec<LaterEntries>,
 }
 
 impl Model for Entries {
@@ -53,7 +54,7 @@ impl Entries {
         }
         let at = at as usize - 1;
         if at < self.rest.len() {
-            Some(&self.rest[at])
+            self.rest[at].get()
         } else {
             None
         }
@@ -132,9 +133,9 @@ impl Entries {
         }
         let at = at as usize - 1;
         while self.rest.len() <= at {
-            self.rest.push(EntryBlock::new(self.alloc))?;
+            self.rest.push(LaterEntries::new())?;
         }
-        self.rest[at].make_room(from, to)
+        self.rest[at].make_room(self.alloc, from, to)
     }
 
     /// Puts the indices from `a` up to `b` in.

@@ -20,6 +20,8 @@ mod entries;
 mod entry_block;
 mod form;
 mod indices;
+mod later_entries;
+mod later_pages;
 mod marks;
 mod page_block;
 mod ready;

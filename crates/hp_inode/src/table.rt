@@ -5,6 +5,7 @@ ghost use Rattle.hp_inode.specs.Blocks.{page_at, has_slot_at, FindsPageAt};
 ghost use Rattle.hp_inode.specs.Rows.{page_in, has_slot, FindsPage};
 
 use crate::block::{BLOCK, within_block};
+use crate::later_pages::LaterPages;
 use crate::page_block::PageBlock;
 use hp_model::page_no::PageNo;
 use std::alloc::{AllocError, Global};
@@ -16,7 +17,7 @@ pub struct PageTable {
     alloc: Global,
     first: PageBlock,
     // those after the first, up to the last that has had a slot
-    rest: Vec<PageBlock>,
+    rest: Vec<LaterPages>,
     // no block before this one has a page
     bare: u64,
 }
@@ -56,7 +57,7 @@ impl PageTable {
         }
         let at = at as usize - 1;
         if at < self.rest.len() {
-            Some(&self.rest[at])
+            self.rest[at].get()
         } else {
             None
         }
@@ -185,8 +186,8 @@ impl PageTable {
         }
         let at = at as usize - 1;
         while self.rest.len() <= at {
-            self.rest.push(PageBlock::new(self.alloc))?;
+            self.rest.push(LaterPages::new())?;
         }
-        self.rest[at].make_slots(from, to)
+        self.rest[at].make_slots(self.alloc, from, to)
     }
 }
