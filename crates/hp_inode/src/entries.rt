@@ -132,6 +132,9 @@ impl Entries {
             return self.first.make_room(from, to);
         }
         let at = at as usize - 1;
+        if self.rest.len() <= at {
+            self.rest.reserve_exact(at + 1 - self.rest.len())?;
+        }
         while self.rest.len() <= at {
             self.rest.push(LaterEntries::new())?;
         }

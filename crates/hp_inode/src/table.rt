@@ -185,6 +185,9 @@ impl PageTable {
             return self.first.make_slots(from, to);
         }
         let at = at as usize - 1;
+        if self.rest.len() <= at {
+            self.rest.reserve_exact(at + 1 - self.rest.len())?;
+        }
         while self.rest.len() <= at {
             self.rest.push(LaterPages::new())?;
         }
