@@ -1,20 +1,24 @@
 -- What a step asks of which part.
 use Rattle.std.specs.Prelude.{◌≡◌, ℕ, ◌+◌, ◌*◌, Bool, true, false}
-use Rattle.hp_model.specs.declared.event.Event.TheVariants.{Tasks as OnTasks, Pool as OnPool}
+use Rattle.hp_model.specs.declared.event.Event.TheVariants.{Pool as OnPool}
 use Rattle.hp_model.specs.declared.event.SlotEvent.TheVariants as slot
 use Rattle.hp_model.specs.declared.step.Step.{Step}
 use Rattle.hp_model.specs.declared.step.Step.TheVariants as step
 use Rattle.hp_model.specs.machine.Copying.{has_bytes}
+use Rattle.hp_model.specs.machine.Promises.{takes_memory, is_usage as is_usage_step}
+use Rattle.hp_model.specs.machine.State.{State, slot_at}
 use Rattle.hp_model.specs.machine.Step.{Script, finding, on_slot, only, script}
 use Rattle.hp_model.specs.threads.Telling.{carries_bytes, most_receipts}
 use Rattle.hp_laws.specs.Answers.{lists_names}
-use Rattle.hp_events.specs.Event.{event_of}
+use Rattle.hp_events.specs.Event.{event_of, is_usage}
+use Rattle.hp_events.specs.Memory.{asks_memory}
 use Rattle.hp_events.specs.declared.work.Work.{Work}
-use Rattle.hp_events.specs.declared.work.Work.TheVariants.{Tasks, Pool, Fork, Exit, Mount, Remount, Umount, Names, OnSlot, OfTask}
+use Rattle.hp_events.specs.declared.work.Work.TheVariants.{Connect, Attach, Pool, Fork, Exit, Mount, Remount, Umount, Names, OnSlot, OfTask}
 
 -- the step that it stands for
 abbrev pub work_script : (slots : ℕ) → Work → Script
-work_script n (Tasks e) = only (OnTasks e)
+work_script n (Connect task home) = script n (step.Connect task home)
+work_script n (Attach task) = script n (step.Attach task)
 work_script n (Pool e) = only (OnPool e)
 work_script n (Fork parent child) = script n (step.Fork parent child)
 work_script n (Exit task) = script n (step.Exit task)
@@ -46,9 +50,26 @@ ListsByNamesAlone (OnSlot k e) = lists_names (event_of 0 e) ≡ false
 ListsByNamesAlone (OfTask task k e) = lists_names (event_of 0 e) ≡ false
 ListsByNamesAlone other = Unit {0}
 
+-- it answers numbers or names as they stand
+abbrev pub is_usage_work : Work → Bool
+is_usage_work (Attach task) = true
+is_usage_work (Names k) = true
+is_usage_work (OnSlot k e) = is_usage (event_of 0 e)
+is_usage_work other = false
+
+-- it may be refused memory
+abbrev pub takes_memory_for : State → Work → Bool
+takes_memory_for m (Fork parent child) = true
+takes_memory_for m (Names k) = true
+takes_memory_for m (OnSlot k e) = asks_memory (slot_at m k) (event_of 0 e)
+takes_memory_for m (OfTask task k e) = asks_memory (slot_at m k) (event_of 0 e)
+takes_memory_for m other = false
+
 -- the step, by what it asks of which part
 pub record IsWork (s : Step) (w : Work) : Type 0 where
   pub script : (n : ℕ) → script n s ≡ work_script n w
   pub receipts : (n : ℕ) → most_receipts n s ≡ work_receipts n w
   pub carries : carries_bytes s ≡ work_carries w
   pub apart : ListsByNamesAlone w
+  pub usage : is_usage_step s ≡ is_usage_work w
+  pub memory : (m : State) → takes_memory m s ≡ takes_memory_for m w

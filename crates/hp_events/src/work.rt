@@ -3,15 +3,20 @@ ghost use Rattle.std.specs.Prelude.{◌≡◌, ◌*◌, ◌≤◌};
 ghost use Rattle.hp_events.specs.Works.{IsWork, work_receipts};
 
 use crate::event::MountEvent;
-use hp_model::event::{PoolEvent, TableEvent};
+use hp_model::event::PoolEvent;
 use hp_model::step::Step;
 
-// A step, by the part that it asks. Names, options and bytes are the step's own.
+/// A step, by the part that it asks. Names, options and bytes are the step's own.
 #[derive(Clone, Copy, Drop)]
 pub enum Work<'x> {
-    // An event of the task table.
-    Tasks(TableEvent),
-    // An event of the pool alone.
+    Connect {
+        task: u64,
+        home: u64,
+    },
+    Attach {
+        task: u64,
+    },
+    /// An event of the pool alone.
     Pool(PoolEvent),
     Fork {
         parent: u64,
@@ -31,16 +36,16 @@ pub enum Work<'x> {
     Umount {
         slot: u64,
     },
-    // The names of a slot's files.
+    /// The names of a slot's files.
     Names {
         slot: u64,
     },
-    // An event of a mount.
+    /// An event of a mount.
     OnSlot {
         slot: u64,
         event: MountEvent<'x>,
     },
-    // An event of a mount, for a task that is looked up first.
+    /// An event of a mount, for a task that is looked up first.
     OfTask {
         task: u64,
         slot: u64,
@@ -48,17 +53,17 @@ pub enum Work<'x> {
     },
 }
 
-// What a step asks.
+/// What a step asks.
 #[inline(always)]
 pub fn work_of<'x>(step: &Step<'x>) -> Work<'x>
     ensures { IsWork step.now result }
 {
     match step {
-        Step::Connect { task, home } => Work::Tasks(TableEvent::Add {
+        Step::Connect { task, home } => Work::Connect {
             task: *task,
             home: *home,
-        }),
-        Step::Attach { task } => Work::Tasks(TableEvent::Find { task: *task }),
+        },
+        Step::Attach { task } => Work::Attach { task: *task },
         Step::Fork { parent, child } => Work::Fork {
             parent: *parent,
             child: *child,
@@ -254,7 +259,7 @@ pub fn work_of<'x>(step: &Step<'x>) -> Work<'x>
     }
 }
 
-// The most receipts that it brings, on so many slots.
+/// The most receipts that it brings, on so many slots.
 pub fn most_receipts(slots: usize, work: &Work<'_>) -> usize
     requires { slots ≤ 64 }
     ensures { result ≡ work_receipts slots work.now }
@@ -263,7 +268,8 @@ pub fn most_receipts(slots: usize, work: &Work<'_>) -> usize
         Work::Fork { .. } => 2 * slots + 1,
         Work::Exit { .. } => slots + 1,
         Work::OfTask { .. } => 2,
-        Work::Tasks(_)
+        Work::Connect { .. }
+        | Work::Attach { .. }
         | Work::Pool(_)
         | Work::Mount { .. }
         | Work::Remount { .. }

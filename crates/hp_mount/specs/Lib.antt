@@ -3,4 +3,3 @@ pub mod Done
 pub mod Found
 pub mod Alone
 pub mod Making
-pub mod Memory

@@ -16,7 +16,7 @@ ghost use Rattle.hp_mount.specs.Alone.{IsDoneAlone};
 ghost use Rattle.hp_mount.specs.Done.{IsDone};
 ghost use Rattle.hp_events.specs.Event.{event_of, is_usage, shows_bytes};
 ghost use Rattle.hp_mount.specs.Kept.{mount_of};
-ghost use Rattle.hp_mount.specs.Memory.{asks_memory};
+ghost use Rattle.hp_events.specs.Memory.{asks_memory};
 
 mod contents;
 mod filling;

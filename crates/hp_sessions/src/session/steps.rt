@@ -148,7 +148,10 @@ impl<'a, N: Naming, R: Wait, G: Gate, const K: usize> Session<'a, N, R, G, K> {
             return Err(Refusal::TraceFull);
         }
         match *work {
-            Work::Tasks(event) => table_told(self.make_table(event)),
+            Work::Connect { task, home } => {
+                table_told(self.make_table(TableEvent::Add { task, home }))
+            }
+            Work::Attach { task } => table_told(self.make_table(TableEvent::Find { task })),
             Work::Pool(event) => self.make_pool(event),
             Work::Fork { parent, child } => Told::done(self.fork(parent, child)),
             Work::Exit { task } => Told::done(self.exit(task)),

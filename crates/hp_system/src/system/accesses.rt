@@ -5,7 +5,7 @@ ghost use Rattle.hp_model.specs.machine.Accesses.{bytes_reply, done_reply, load_
 ghost use Rattle.hp_model.specs.machine.Promises.{IsPromised, takes_memory};
 ghost use Rattle.hp_model.specs.machine.State.{slot_at};
 ghost use Rattle.hp_model.specs.machine.Step.{IsStep};
-ghost use Rattle.hp_mount.specs.Memory.{asks_memory};
+ghost use Rattle.hp_events.specs.Memory.{asks_memory};
 ghost use Rattle.hp_system.specs.Event.{DoesOnSlot, load_event, store_event};
 ghost use Rattle.hp_system.specs.Kept.{IsReadyMachine};
 

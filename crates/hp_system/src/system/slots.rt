@@ -10,13 +10,12 @@ ghost use Rattle.hp_model.specs.machine.State.{slot_at};
 ghost use Rattle.hp_model.specs.machine.Told.{told_reply};
 ghost use Rattle.hp_model.specs.text.Writing.{IsWithinLimits};
 ghost use Rattle.hp_events.specs.Event.{event_of, is_usage};
-ghost use Rattle.hp_mount.specs.Memory.{asks_memory};
+ghost use Rattle.hp_events.specs.Memory.{asks_memory};
 ghost use Rattle.hp_system.specs.Event.{AreExited, AreForked, DoesOfTask, DoesOnSlot, IsForkedOn, mapped_slots};
 ghost use Rattle.hp_system.specs.Kept.{IsReadyMachine};
 
 use super::System;
 use hp_events::MountEvent;
-use hp_model::lent::Lent;
 use hp_model::limits::Limits;
 use hp_model::naming::Naming;
 use hp_model::refusal::Refusal;
@@ -28,11 +27,11 @@ use std::mem;
 impl<N: Naming> System<N> {
     // The limits that a mount's options mean at this moment: sizes in percent are of nr
     // (`admin-guide/mm/hugetlbpage.rst`). Refused as BadOption or MinOverSize.
-    fn limits(&self, options: &Lent<'_>) -> Result<Limits, Refusal>
+    fn limits(&self, options: &[u8]) -> Result<Limits, Refusal>
         ensures { result ≡ limits self.now.state.nr self.now.state.page_size
             (wanted_of options.now) }
     {
-        parse_options(options.as_slice(), self.pool.nr(), self.page_bytes())
+        parse_options(options, self.pool.nr(), self.page_bytes())
     }
 
     // Mounts a slot with options, and commits the minimum that they ask for: a section of the pool, at
@@ -46,7 +45,7 @@ impl<N: Naming> System<N> {
     // - NoPages: with the minimum more pages would be committed than nr and overcommit together, or
     //   than all frames.
     #[inline(never)]
-    pub(crate) fn mount(&mut self, slot: u64, options: &Lent<'_>) -> Result<(), Refusal>
+    pub(crate) fn mount(&mut self, slot: u64, options: &[u8]) -> Result<(), Refusal>
         requires ready { IsReadyMachine self.old }
         ensures done { DoesOnSlot self.old.state slot (Mounting options.now)
             (done_reply result) self.new.state }
@@ -78,7 +77,7 @@ impl<N: Naming> System<N> {
     // - SlotTaken: it is slot 0.
     // - BadOption, MinOverSize and NoPages: see `Mount::remount`.
     #[inline(never)]
-    pub(crate) fn remount(&mut self, slot: u64, options: &Lent<'_>) -> Result<(), Refusal>
+    pub(crate) fn remount(&mut self, slot: u64, options: &[u8]) -> Result<(), Refusal>
         requires ready { IsReadyMachine self.old }
         ensures done { DoesOnSlot self.old.state slot (Remounting options.now)
             (done_reply result) self.new.state }
@@ -97,7 +96,7 @@ impl<N: Naming> System<N> {
         if slot == 0 {
             return Err(Refusal::SlotTaken);
         }
-        mount.remount(&mut self.pool, page_bytes, options.as_slice())
+        mount.remount(&mut self.pool, page_bytes, options)
     }
 
     // Ends the mount of a slot, with its files. Their pages and reservations go back to the pool, and

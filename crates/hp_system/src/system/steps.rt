@@ -1,11 +1,13 @@
 //! Steps of all kinds.
 ghost use Rattle.std.specs.Prelude.{◌≡◌, ◌≢◌, ◌≤◌, true, false, length, Err, IfOk, Ok, OnErr};
+ghost use Rattle.hp_events.specs.Works.{is_usage_work, takes_memory_for, work_script};
 ghost use Rattle.hp_model.specs.declared.answer.Answer.TheVariants.{Number, Numbers};
+ghost use Rattle.hp_model.specs.declared.event.Event.TheVariants.{Pool as OnPool};
 ghost use Rattle.hp_model.specs.declared.refusal.Refusal.TheVariants as Refusal;
 ghost use Rattle.hp_model.specs.declared.step.Step.TheVariants.{Attach, Connect, Exit, Fork, Nr, Overcommit, Meminfo, Nodes};
 ghost use Rattle.hp_model.specs.machine.Promises.{is_usage, IsPromised, IsPromisedRun};
 ghost use Rattle.hp_model.specs.machine.Accesses.{done_reply};
-ghost use Rattle.hp_model.specs.machine.Step.{IsStep};
+ghost use Rattle.hp_model.specs.machine.Step.{IsScript, IsStep, only};
 ghost use Rattle.hp_model.specs.machine.Told.{told_reply};
 ghost use Rattle.hp_model.specs.pool.Resize.{node_counts};
 ghost use Rattle.hp_model.specs.text.Writing.{IsWithinLimits};
@@ -13,8 +15,9 @@ ghost use Rattle.hp_model.specs.machine.Promises.{takes_memory};
 ghost use Rattle.hp_system.specs.Kept.{IsReadyMachine};
 
 use super::System;
-use hp_events::MountEvent;
+use hp_events::{MountEvent, Work, work_of};
 use hp_model::answer::{Counts, NodeCount, Reply};
+use hp_model::event::PoolEvent;
 use hp_model::naming::Naming;
 use hp_model::refusal::Refusal;
 use hp_model::step::Step;
@@ -242,8 +245,60 @@ impl<N: Naming> System<N> {
         *reply = self.attach(task);
     }
 
-    // The step's own function. The reply is put in its place, and bytes in the front of the room.
+    // The reply of an event of the pool alone.
+    #[inline(always)]
+    fn tell_pool(&mut self, event: PoolEvent, reply: &mut Result<Told<'_>, Refusal>)
+        requires ready { IsReadyMachine self.old }
+        ensures done { IsScript self.old.state (only (OnPool event)) (told_reply reply.new)
+            self.new.state }
+        ensures memory { told_reply reply.new ≢ Err Refusal.OutOfMemory }
+        ensures size { self.new.state.page_size ≡ self.old.state.page_size }
+        ensures ready { IsReadyMachine self.new }
+    {
+        match event {
+            PoolEvent::Nr { pages } => tell_number(self.set_nr(pages), reply),
+            PoolEvent::Overcommit { pages } => tell_done(self.set_overcommit(pages), reply),
+            PoolEvent::Meminfo => self.tell_meminfo(reply),
+            PoolEvent::Nodes => self.tell_nodes(reply),
+        }
+    }
+
+    // What a step asks of which part. The reply is put in its place, and bytes in the front of the room.
+    #[inline(always)]
     #[tactic(auto, unfolding(hp_model::specs::machine::Step::IsStep))]
+    fn do_work<'a>(
+        &mut self,
+        work: &Work<'_>,
+        room: &'a mut [u8],
+        reply: &mut Result<Told<'a>, Refusal>,
+    )
+        requires ready { IsReadyMachine self.old }
+        requires room { 256 ≤ length room.old }
+        ensures done { IsScript self.old.state
+            (work_script (length self.old.state.slots) work.now) (told_reply reply.new)
+            self.new.state }
+        ensures usage { is_usage_work work.now ≡ true → IsWithinLimits (told_reply reply.new) }
+        ensures memory { takes_memory_for self.old.state work.now ≡ false
+            → told_reply reply.new ≢ Err Refusal.OutOfMemory }
+        ensures size { self.new.state.page_size ≡ self.old.state.page_size }
+        ensures ready { IsReadyMachine self.new }
+    {
+        match *work {
+            Work::Connect { task, home } => tell_done(self.connect(task, home), reply),
+            Work::Attach { task } => self.tell_home(task, reply),
+            Work::Pool(event) => self.tell_pool(event, reply),
+            Work::Fork { parent, child } => tell_done(self.fork(parent, child), reply),
+            Work::Exit { task } => tell_done(self.exit(task), reply),
+            Work::Mount { slot, options } => tell_done(self.mount(slot, options), reply),
+            Work::Remount { slot, options } => tell_done(self.remount(slot, options), reply),
+            Work::Umount { slot } => tell_done(self.umount(slot), reply),
+            Work::Names { slot } => self.on_slot(slot, 0, &MountEvent::Ls, room, reply),
+            Work::OnSlot { slot, event } => self.on_slot(slot, 0, &event, room, reply),
+            Work::OfTask { task, slot, event } => self.of_task(task, slot, &event, room, reply),
+        }
+    }
+
+    // The step's own function.
     pub(crate) fn do_step<'a>(
         &mut self,
         step: &Step<'_>,
@@ -259,188 +314,8 @@ impl<N: Naming> System<N> {
         ensures size { self.new.state.page_size ≡ self.old.state.page_size }
         ensures ready { IsReadyMachine self.new }
     {
-        // One place for what is asked, in all arms: a place of its own for each would be cleared for every step.
-        let mut event = MountEvent::Ls;
-        match step {
-            Step::Connect { task, home } => tell_done(self.connect(*task, *home), reply),
-            Step::Attach { task } => self.tell_home(*task, reply),
-            Step::Fork { parent, child } => tell_done(self.fork(*parent, *child), reply),
-            Step::Exit { task } => tell_done(self.exit(*task), reply),
-            Step::Mount { slot, options } => tell_done(self.mount(*slot, options), reply),
-            Step::Remount { slot, options } => tell_done(self.remount(*slot, options), reply),
-            Step::Umount { slot } => tell_done(self.umount(*slot), reply),
-            Step::Ls { slot } => {
-                event = MountEvent::Ls;
-                self.on_slot(*slot, 0, &event, room, reply)
-            }
-            Step::Df { slot } => {
-                event = MountEvent::Usage;
-                self.on_slot(*slot, 0, &event, room, reply)
-            }
-            Step::Create { slot, name } => {
-                let name = name.as_slice();
-                event = MountEvent::Create { name };
-                self.on_slot(*slot, 0, &event, room, reply)
-            }
-            Step::Unlink { slot, name } => {
-                let name = name.as_slice();
-                event = MountEvent::Unlink { name };
-                self.on_slot(*slot, 0, &event, room, reply)
-            }
-            Step::Truncate { slot, name, pages } => {
-                let name = name.as_slice();
-                let pages = *pages;
-                event = MountEvent::Truncate { name, pages };
-                self.on_slot(*slot, 0, &event, room, reply)
-            }
-            Step::Punch {
-                slot,
-                name,
-                from,
-                to,
-            } => {
-                event = MountEvent::Punch {
-                    name: name.as_slice(),
-                    start: *from,
-                    end: *to,
-                };
-                self.on_slot(*slot, 0, &event, room, reply)
-            }
-            Step::Preallocate {
-                slot,
-                name,
-                from,
-                to,
-            } => {
-                event = MountEvent::Preallocate {
-                    name: name.as_slice(),
-                    start: *from,
-                    end: *to,
-                };
-                self.on_slot(*slot, 0, &event, room, reply)
-            }
-            Step::Stat { slot, name } => {
-                let name = name.as_slice();
-                event = MountEvent::Stat { name };
-                self.on_slot(*slot, 0, &event, room, reply)
-            }
-            Step::Read {
-                slot,
-                name,
-                index,
-                offset,
-                count,
-            } => {
-                event = MountEvent::Read {
-                    name: name.as_slice(),
-                    index: *index,
-                    offset: *offset,
-                    count: *count,
-                };
-                self.on_slot(*slot, 0, &event, room, reply)
-            }
-            Step::Map {
-                task,
-                slot,
-                name,
-                from,
-                pages,
-                sharing,
-                reserving,
-            } => {
-                event = MountEvent::Map {
-                    task: *task,
-                    name: name.as_slice(),
-                    start: *from,
-                    pages: *pages,
-                    sharing: *sharing,
-                    reserving: *reserving,
-                };
-                self.of_task(*task, *slot, &event, room, reply)
-            }
-            Step::Anon {
-                task,
-                pages,
-                sharing,
-                reserving,
-            } => {
-                event = MountEvent::Anon {
-                    task: *task,
-                    pages: *pages,
-                    sharing: *sharing,
-                    reserving: *reserving,
-                };
-                self.of_task(*task, 0, &event, room, reply)
-            }
-            Step::Unmap {
-                task,
-                slot,
-                map,
-                from,
-                to,
-            } => {
-                event = MountEvent::Unmap {
-                    task: *task,
-                    map: *map,
-                    start: *from,
-                    end: *to,
-                };
-                self.of_task(*task, *slot, &event, room, reply)
-            }
-            Step::Fault {
-                task,
-                slot,
-                map,
-                index,
-                intent,
-            } => {
-                event = MountEvent::Fault {
-                    task: *task,
-                    map: *map,
-                    index: *index,
-                    intent: *intent,
-                };
-                self.of_task(*task, *slot, &event, room, reply)
-            }
-            Step::Load {
-                task,
-                slot,
-                map,
-                index,
-                offset,
-                count,
-            } => {
-                event = MountEvent::Load {
-                    task: *task,
-                    map: *map,
-                    index: *index,
-                    offset: *offset,
-                    count: *count,
-                };
-                self.of_task(*task, *slot, &event, room, reply)
-            }
-            Step::Store {
-                task,
-                slot,
-                map,
-                index,
-                offset,
-                bytes,
-            } => {
-                event = MountEvent::Store {
-                    task: *task,
-                    map: *map,
-                    index: *index,
-                    offset: *offset,
-                    bytes: bytes.as_slice(),
-                };
-                self.of_task(*task, *slot, &event, room, reply)
-            }
-            Step::Nr { pages } => tell_number(self.set_nr(*pages), reply),
-            Step::Overcommit { pages } => tell_done(self.set_overcommit(*pages), reply),
-            Step::Meminfo => self.tell_meminfo(reply),
-            Step::Nodes => self.tell_nodes(reply),
-        }
+        let work = work_of(step);
+        self.do_work(&work, room, reply);
     }
 
     /// Does steps one after another, and answers their replies, each as `apply` promises. Room for the

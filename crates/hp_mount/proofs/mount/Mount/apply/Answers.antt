@@ -6,7 +6,7 @@ use Rattle.hp_model.specs.machine.SlotEvent.{slot_event}
 use Rattle.hp_model.specs.machine.Told.{told_reply}
 use Rattle.hp_events.specs.declared.event.MountEvent.{MountEvent}
 use Rattle.hp_events.specs.Event.{event_of}
-use Rattle.hp_mount.specs.Memory.{asks_memory}
+use Rattle.hp_events.specs.Memory.{asks_memory}
 use Rattle.hp_mount.proofs.Replies.{bytes_not_memory, done_not_memory, told_as}
 use Rattle.hp_mount.proofs.Ways.{alone_is_done}
 use Rattle.hp_mount.proofs.mount.Mount.apply.Goals as goal

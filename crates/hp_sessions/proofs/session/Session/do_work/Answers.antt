@@ -1,29 +1,45 @@
 use Rattle.std.proofs.Common.{◌==◌, sym, ap, subst, ◌∙◌, arith}
 use Rattle.hp_model.specs.declared.event.Event.TheVariants.{Tasks as OnTasks, Pool as OnPool}
+use Rattle.hp_model.specs.declared.event.TableEvent.TheVariants.{Add, Find}
 use Rattle.hp_model.specs.machine.Plan.{Reply}
 use Rattle.hp_model.specs.machine.Told.{told_reply}
 use Rattle.hp_sessions.specs.Calls.{HasReceiptRoom, IsMade}
 use Rattle.hp_events.specs.Works.{work_receipts}
 use Rattle.hp_sessions.specs.Works.{IsWorked}
 use Rattle.hp_events.specs.declared.work.Work.{Work}
-use Rattle.hp_events.specs.declared.work.Work.TheVariants.{Tasks, Pool}
+use Rattle.hp_events.specs.declared.work.Work.TheVariants.{Connect, Attach, Pool}
 use Rattle.hp_sessions.proofs.Carrying.{only_made}
 use Rattle.hp_sessions.proofs.Working.{worked}
 use Rattle.hp_sessions.proofs.session.Session.do_work.Goals as goal
 
-pub returns-in-Tasks : goal.returns-in-Tasks
-returns-in-Tasks g c =
+pub returns-in-Connect : goal.returns-in-Connect
+returns-in-Connect g c =
     let size = g.N.Naming.page_bytes in
     let s = c.args.self.now in
     let t = c.make_table.new.self in
-    let n = c.most_receipts.ensures ∙ ap (work_receipts c.count.result) c.in-Tasks.is in
+    let n = c.most_receipts.ensures ∙ ap (work_receipts c.count.result) c.in-Connect.is in
     let room : HasReceiptRoom (g.row.K == 1) 1 s = λ k. (let has = c.if-lacks.ensures k in omega (arith, has, n)) in
-    let made = subst (λ (r : Reply). IsMade (g.row.K == 1) size s (OnTasks c.in-Tasks.event) r t) (sym c.table_told.ensures.reply) c.make_table.ensures.made in
+    let made = subst (λ (r : Reply). IsMade (g.row.K == 1) size s (OnTasks (Add c.in-Connect.task c.in-Connect.home)) r t) (sym c.table_told.ensures.reply) c.make_table.ensures.made in
     record {
-      worked = subst (λ (w : Work). IsWorked (g.row.K == 1) size s w (told_reply c.table_told.result) t) (sym c.in-Tasks.is)
-          (worked (g.row.K == 1) size s t (Tasks c.in-Tasks.event) (told_reply c.table_told.result) room
-          (only_made (g.row.K == 1) size s t (OnTasks c.in-Tasks.event) (told_reply c.table_told.result) made));
+      worked = subst (λ (w : Work). IsWorked (g.row.K == 1) size s w (told_reply c.table_told.result) t) (sym c.in-Connect.is)
+          (worked (g.row.K == 1) size s t (Connect c.in-Connect.task c.in-Connect.home) (told_reply c.table_told.result) room
+          (only_made (g.row.K == 1) size s t (OnTasks (Add c.in-Connect.task c.in-Connect.home)) (told_reply c.table_told.result) made));
       limits = c.table_told.ensures.limits;
+    }
+
+pub returns-in-Attach : goal.returns-in-Attach
+returns-in-Attach g c =
+    let size = g.N.Naming.page_bytes in
+    let s = c.args.self.now in
+    let t = c.make_table-2.new.self in
+    let n = c.most_receipts.ensures ∙ ap (work_receipts c.count.result) c.in-Attach.is in
+    let room : HasReceiptRoom (g.row.K == 1) 1 s = λ k. (let has = c.if-lacks.ensures k in omega (arith, has, n)) in
+    let made = subst (λ (r : Reply). IsMade (g.row.K == 1) size s (OnTasks (Find c.in-Attach.task)) r t) (sym c.table_told-2.ensures.reply) c.make_table-2.ensures.made in
+    record {
+      worked = subst (λ (w : Work). IsWorked (g.row.K == 1) size s w (told_reply c.table_told-2.result) t) (sym c.in-Attach.is)
+          (worked (g.row.K == 1) size s t (Attach c.in-Attach.task) (told_reply c.table_told-2.result) room
+          (only_made (g.row.K == 1) size s t (OnTasks (Find c.in-Attach.task)) (told_reply c.table_told-2.result) made));
+      limits = c.table_told-2.ensures.limits;
     }
 
 pub returns-in-Pool : goal.returns-in-Pool

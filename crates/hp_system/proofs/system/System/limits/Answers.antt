@@ -10,5 +10,5 @@ parse_options-requires g c = subst (λ n. 0 < n) (sym (c.page_bytes.ensures ∙ 
 pub returns : goal.returns
 returns g c =
     let text = wanted_of c.args.options.now in
-    c.parse_options.ensures ∙ ap (λ t. limits c.nr.result c.page_bytes.result (wanted_of t)) c.as_slice.ensures ∙ ap (λ n. limits n c.page_bytes.result text) c.nr.ensures
+    c.parse_options.ensures ∙ ap (λ n. limits n c.page_bytes.result text) c.nr.ensures
     ∙ ap (λ b. limits c.self.inside.pool.nr b text) c.page_bytes.ensures ∙ ap (λ (x : State). limits x.nr c.args.self.now.state.page_size text) (ap (λ (x : Machine). x.state) c.self.view_is)

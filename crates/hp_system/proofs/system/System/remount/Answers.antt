@@ -58,7 +58,7 @@ returns-clause-done g c =
     let other : (c.args.slot == 0) ≡ false = grind (arith, nat_tests, c.if-slot-eq0.false) in
     let bytes = c.page_bytes-page_bytes.ensures ∙ sym (ap (λ (x : Machine). x.state.page_size) c.self.view_is) in
     let done = remount_carried s.page_bytes c.args.slot s.pool c.remount.new.door c.in-Some.mount c.remount.new.self c.args.options.now reply
-    c.page_bytes-page_bytes.result c.as_slice.result.now bytes c.as_slice.ensures (c.remount.ensures.done c.args.slot other) in
+    c.page_bytes-page_bytes.result bytes (c.remount.ensures.done c.args.slot other) in
     slot_done s.page_bytes g.N.Naming.page_bytes s.table s.slots.items s.pool
     (kept_by c.args.self.now c.self.invariant c.self.view_is c.requires.ready) c.args.self.now.state (ap (λ (x : Machine). x.state) c.self.view_is) c.args.slot
     within old here e refl new c.remount.new.door reply done
@@ -75,6 +75,6 @@ returns-clause-ready g c =
     let other : (c.args.slot == 0) ≡ false = grind (arith, nat_tests, c.if-slot-eq0.false) in
     let bytes = c.page_bytes-page_bytes.ensures ∙ sym (ap (λ (x : Machine). x.state.page_size) c.self.view_is) in
     let done = remount_carried s.page_bytes c.args.slot s.pool c.remount.new.door c.in-Some.mount c.remount.new.self c.args.options.now reply
-    c.page_bytes-page_bytes.result c.as_slice.result.now bytes c.as_slice.ensures (c.remount.ensures.done c.args.slot other) in
+    c.page_bytes-page_bytes.result bytes (c.remount.ensures.done c.args.slot other) in
     ready_by (kept_after s.page_bytes g.N.Naming.page_bytes s.table s.slots.items c.args.slot old new s.pool c.remount.new.door e reply
     (kept_by c.args.self.now c.self.invariant c.self.view_is c.requires.ready) within here refl done)
