@@ -3,14 +3,14 @@ ghost use Rattle.std.specs.Prelude.{◌≡◌, ◌≤◌, ◌∷◌, [], false, 
 ghost use Rattle.std.specs.Str.{bytes_eq};
 ghost use Rattle.clap.specs.Words.{app_of, first_of, rule_of};
 ghost use Rattle.hp_model.specs.text.Words.{number_of};
-ghost use Rattle.hugetlbd.specs.Asked.{AsksFor, IsBadValue, IsLocal, IsNoneWithin, IsNumberOr, IsNumberWithin, IsRefusedFor, IsWrongFrames, IsWrongIn, IsWrongOf, Sets, SetsServing, hugetlbd, machine_options, option, options_in, has_options, comma_pieces, script_app, serve_app, serving_options, with_options};
-ghost use Rattle.hugetlbd.specs.Config.{IsConfigWithin, IsFrames, IsMachineWithin, IsServing, choice_of};
+ghost use Rattle.hp_words.specs.Asked.{AsksFor, IsBadValue, IsLocal, IsNoneWithin, IsNumberOr, IsNumberWithin, IsRefusedFor, IsWrongFrames, IsWrongIn, IsWrongOf, Sets, SetsServing, hugetlbd, machine_options, option, options_in, has_options, comma_pieces, script_app, serve_app, serving_options, with_options};
+ghost use Rattle.hp_words.specs.Config.{IsConfigWithin, IsFrames, IsMachineWithin, IsServing, choice_of};
 
 use crate::settings::{Config, Machine, Serving, Wrong};
 use clap::error::ErrorKind;
 use clap::{Arg, ArgAction, ArgMatches, Command, Error};
 use hp_text::pieces::first_piece;
-use hp_wire::words::number_of;
+use hp_wire_lines::words::number_of;
 use std::alloc::{AllocError, Global};
 use std::convert::AsStr;
 

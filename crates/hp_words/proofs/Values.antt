@@ -5,7 +5,7 @@ use Rattle.std.specs.Int.{is_power_of_two}
 use lib.Count.{ones}
 use Rattle.clap.specs.Words.{Text}
 use Rattle.hp_model.specs.text.Words.{number_of}
-use Rattle.hugetlbd.specs.Asked.{CanBe, page_bytes}
+use Rattle.hp_words.specs.Asked.{CanBe, page_bytes}
 
 bad_shown : (given : Option (Bor Text)) (Fits : Text → Type 0) → IsSomeAnd given (λ text. Fits text.now → ⊥)
     → MatchOption (option_map (λ s. s.now) given) (false ≡ true) (λ text. Fits text → ⊥)

@@ -6,7 +6,7 @@ use Rattle.std.proofs.lemmas.List.{length-append, length-map}
 use Rattle.std.proofs.lemmas.List.Splits.{length-slice_split}
 use Rattle.hp_model.specs.text.Words.{number_of}
 use Rattle.hp_model.specs.declared.refusal.Refusal.{Refusal}
-use Rattle.hugetlbd.specs.Asked.{CanBe, comma_pieces, node_frames}
+use Rattle.hp_words.specs.Asked.{CanBe, comma_pieces, node_frames}
 
 one_more : (frames : List ℕ) (n : ℕ) (left : List (Result ℕ Refusal)) → map Ok frames ++ Ok n ∷ left ≡ map Ok (frames ++ n ∷ []) ++ left
 one_more [] n left = refl

@@ -1,6 +1,6 @@
 use Rattle.std.proofs.Common.{refl, inr, arith}
-use Rattle.hugetlbd.proofs.Frames.{piece_read, too_many}
-use Rattle.hugetlbd.proofs.config.frames_of.Goals as goal
+use Rattle.hp_words.proofs.Frames.{piece_read, too_many}
+use Rattle.hp_words.proofs.config.frames_of.Goals as goal
 
 pub returns-in_default-clause-wrong : goal.returns-in_default-clause-wrong
 returns-in_default-clause-wrong c =

@@ -1,6 +1,6 @@
 use Rattle.std.proofs.lemmas.Result.{IfOk-weaker}
-use Rattle.hugetlbd.proofs.Commands.{keeps_local}
-use Rattle.hugetlbd.proofs.config.with_machine.Goals as goal
+use Rattle.hp_words.proofs.Commands.{keeps_local}
+use Rattle.hp_words.proofs.config.with_machine.Goals as goal
 
 pub returns-clause-local : goal.returns-clause-local
 returns-clause-local c =

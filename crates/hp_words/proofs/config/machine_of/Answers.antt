@@ -1,7 +1,7 @@
 use Rattle.std.proofs.Common.{refl, rules, inl, inr}
-use Rattle.hugetlbd.proofs.Values.{bad_value, page_is_bad}
-use Rattle.hugetlbd.specs.Asked.{CanBe, page_bytes}
-use Rattle.hugetlbd.proofs.config.machine_of.Goals as goal
+use Rattle.hp_words.proofs.Values.{bad_value, page_is_bad}
+use Rattle.hp_words.specs.Asked.{CanBe, page_bytes}
+use Rattle.hp_words.proofs.config.machine_of.Goals as goal
 
 pub returns-then-not-is_power_of_two-clause-wrong : goal.returns-then-not-is_power_of_two-clause-wrong
 returns-then-not-is_power_of_two-clause-wrong c = inr (

@@ -1,8 +1,8 @@
 use Rattle.std.proofs.Common.{◌∙◌, ap}
 use Rattle.std.proofs.lemmas.Result.{IfOk-weaker}
-use Rattle.hugetlbd.proofs.Commands.{adds_rule, keeps_app, keeps_globals, keeps_local}
-use Rattle.hugetlbd.specs.Asked.{machine_options, with_options}
-use Rattle.hugetlbd.proofs.config.serve_command.Goals as goal
+use Rattle.hp_words.proofs.Commands.{adds_rule, keeps_app, keeps_globals, keeps_local}
+use Rattle.hp_words.specs.Asked.{machine_options, with_options}
+use Rattle.hp_words.proofs.config.serve_command.Goals as goal
 
 pub returns-clause-app : goal.returns-clause-app
 returns-clause-app c =

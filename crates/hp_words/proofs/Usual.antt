@@ -1,16 +1,13 @@
 -- A command line with no words after the program's name asks for the usual machine.
-use Rattle.std.proofs.Common.{◌≡◌, ◌∷◌, ◌∙◌, ◌≤◌, ℕ, List, [], length, map, None, true, false, refl, sym, ap, subst, arith, rules}
+use Rattle.std.proofs.Common.{◌≡◌, ◌∷◌, ◌∙◌, ◌≤◌, ℕ, List, [], length, map, true, false, refl, sym, ap, subst, arith, rules}
 use Rattle.std.proofs.lemmas.List.{length-map}
 use lib.Count.{ones}
 use Rattle.clap.proofs.OnLiterals.{clap_on_literals}
 use Rattle.clap.specs.Words.{Text}
 use Rattle.hp_model.specs.machine.Machine.{start}
-use Rattle.hugetlbd.proofs.Refused.{only_memory, right_is_1}
-use Rattle.hugetlbd.specs.Asked.{AsksForScript, AsksToServe, IsRefusedFor, Sets}
-use Rattle.hugetlbd.specs.Config.{IsMachineWithin, MachineChoice, chosen, usual}
-use Rattle.hugetlbd.specs.Program.{IsStatusOfWrong, text_asked}
-use Rattle.hugetlbd.specs.declared.settings.Serving.{Serving}
-use Rattle.hugetlbd.specs.declared.settings.Wrong.{Wrong}
+use Rattle.hp_words.specs.Asked.{AsksForScript, AsksToServe, Sets}
+use Rattle.hp_words.specs.Config.{IsMachineWithin, MachineChoice, chosen, usual}
+use Rattle.hp_words.specs.declared.settings.Serving.{Serving}
 
 sets_usual : (c : MachineChoice) → Sets [] c → chosen c ≡ chosen usual
 sets_usual c s =
@@ -23,7 +20,7 @@ no_words (w ∷ []) c few a = sets_usual c a.sets
 no_words (w ∷ v ∷ rest) c few a = absurd (omega (arith, few))
 
 -- they ask for the usual machine
-usual_asked : (words : List Text) → length words ≤ 1 → AsksForScript words usual
+pub usual_asked : (words : List Text) → length words ≤ 1 → AsksForScript words usual
 unfolding clap_on_literals
 usual_asked [] few = record { right = record { faultless = refl; behind = refl }; script = refl; sets = record { frames = refl; page = refl; slots = refl } }
 usual_asked (w ∷ []) few = record { right = record { faultless = refl; behind = refl }; script = refl; sets = record { frames = refl; page = refl; slots = refl } }
@@ -34,17 +31,9 @@ pub few_serve_not : (words : List Text) (c : MachineChoice) (s : Serving) → le
 few_serve_not words c s few a = (let both : false ≡ true = sym (usual_asked words few).script ∙ a.serve in cc)
 
 -- which is within the limits
-usual_fits : IsMachineWithin usual
+pub usual_fits : IsMachineWithin usual
 unfolding ones
 usual_fits = record { frames = search rules; page = search rules; slots = search rules }
-
--- so they end in status 1, where they are refused
-pub few_is_1 : (words : List Text) (w : Wrong) (status : ℕ) → length words ≤ 1 → IsRefusedFor words w → IsStatusOfWrong w status → status ≡ 1
-few_is_1 words w status few refused is = right_is_1 words w status usual refused is (usual_asked words few) usual_fits
-
--- and ask for no text
-pub few_ask_no_text : (words : List Text) (w : Wrong) → length words ≤ 1 → IsRefusedFor words w → text_asked w ≡ None
-few_ask_no_text words w few refused = ap text_asked (only_memory words w usual refused (usual_asked words few) usual_fits)
 
 pub few_texts : {X : Type 0} (text : X → Text) (words : List X) → length words ≤ 1 → length (map text words) ≤ 1
 few_texts text words few = subst (λ (n : ℕ). n ≤ 1) (sym (length-map words text)) few

@@ -1,9 +1,9 @@
 use Rattle.std.proofs.Common.{◌∙◌, map, true, false, None, Some, refl, sym}
 use Rattle.std.proofs.lemmas.Result.{err_from_is_err_and}
-use Rattle.hugetlbd.proofs.Commands.{asks, asks_to, found, none_met, option_first, sub_met}
-use Rattle.hugetlbd.proofs.Refused.{good_machine, refused_for, wrong_behind, wrong_in, wrong_in_front}
-use Rattle.hugetlbd.specs.Asked.{machine_options, options_in, serving_options}
-use Rattle.hugetlbd.proofs.config.config.Goals as goal
+use Rattle.hp_words.proofs.Commands.{asks, asks_to, found, none_met, option_first, sub_met}
+use Rattle.hp_words.proofs.Refused.{good_machine, refused_for, wrong_behind, wrong_in, wrong_in_front}
+use Rattle.hp_words.specs.Asked.{machine_options, options_in, serving_options}
+use Rattle.hp_words.proofs.config.config.Goals as goal
 
 pub returns-in-None-clause-asked : goal.returns-in-None-clause-asked
 returns-in-None-clause-asked g c =

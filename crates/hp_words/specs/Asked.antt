@@ -18,12 +18,12 @@ use Rattle.clap.specs.declared.parser.matches.ArgMatches.{ArgMatches}
 use Rattle.clap.specs.Words.{found_of, rows_of}
 use Rattle.std.specs.Borrow.{Bor}
 use Rattle.hp_model.specs.text.Words.{number_of}
-use Rattle.hugetlbd.specs.Config.{IsFrames, IsPageSize, IsWithin, MachineChoice, choice_of, usual}
-use Rattle.hugetlbd.specs.declared.settings.Config.{Config}
-use Rattle.hugetlbd.specs.declared.settings.Config.TheVariants.{Script, Serve}
-use Rattle.hugetlbd.specs.declared.settings.Serving.{Serving}
-use Rattle.hugetlbd.specs.declared.settings.Wrong.{Wrong}
-use Rattle.hugetlbd.specs.declared.settings.Wrong.TheVariants.{Memory, Parse, BadValue, OptionFirst}
+use Rattle.hp_words.specs.Config.{IsFrames, IsPageSize, IsWithin, MachineChoice, choice_of, usual}
+use Rattle.hp_words.specs.declared.settings.Config.{Config}
+use Rattle.hp_words.specs.declared.settings.Config.TheVariants.{Script, Serve}
+use Rattle.hp_words.specs.declared.settings.Serving.{Serving}
+use Rattle.hp_words.specs.declared.settings.Wrong.{Wrong}
+use Rattle.hp_words.specs.declared.settings.Wrong.TheVariants.{Memory, Parse, BadValue, OptionFirst}
 
 -- ---- the options, and what each can have as its value
 

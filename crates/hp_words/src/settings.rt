@@ -65,7 +65,7 @@ pub enum Wrong {
 
 impl From<AllocError> for Wrong {
     ghost use Rattle.std.specs.Prelude.{◌≡◌};
-    ghost use Rattle.hugetlbd.specs.declared.settings.Wrong.TheVariants.{Memory};
+    ghost use Rattle.hp_words.specs.declared.settings.Wrong.TheVariants.{Memory};
 
     ghost from_gives = { λ _ e. e ≡ Memory };
 
@@ -76,7 +76,7 @@ impl From<AllocError> for Wrong {
 
 impl<T: Drop> From<AllocFailed<T>> for Wrong {
     ghost use Rattle.std.specs.Prelude.{◌≡◌};
-    ghost use Rattle.hugetlbd.specs.declared.settings.Wrong.TheVariants.{Memory};
+    ghost use Rattle.hp_words.specs.declared.settings.Wrong.TheVariants.{Memory};
 
     ghost from_gives = { λ _ e. e ≡ Memory };
 

@@ -3,10 +3,10 @@ use Rattle.std.specs.Prelude.{◌≤◌, ℕ, List, [], ◌∷◌, IsTrue, All, 
 use Rattle.std.specs.Int.{is_power_of_two}
 use Rattle.hp_model.specs.machine.Machine.{start}
 use Rattle.hp_model.specs.machine.State.{State}
-use Rattle.hugetlbd.specs.declared.settings.Config.{Config}
-use Rattle.hugetlbd.specs.declared.settings.Config.TheVariants.{Script, Serve}
-use Rattle.hugetlbd.specs.declared.settings.Machine.{Machine}
-use Rattle.hugetlbd.specs.declared.settings.Serving.{Serving}
+use Rattle.hp_words.specs.declared.settings.Config.{Config}
+use Rattle.hp_words.specs.declared.settings.Config.TheVariants.{Script, Serve}
+use Rattle.hp_words.specs.declared.settings.Machine.{Machine}
+use Rattle.hp_words.specs.declared.settings.Serving.{Serving}
 
 -- what a machine starts from
 pub record MachineChoice : Type 0 where

@@ -14,9 +14,9 @@ use Rattle.clap.specs.declared.builder.command.Command.{Command}
 use Rattle.clap.specs.declared.builder.command.Command.TheViews.{out-Command}
 use Rattle.clap.specs.declared.parser.matches.ArgMatches.{ArgMatches}
 use Rattle.clap.specs.declared.parser.matches.ArgMatches.TheViews.{out-ArgMatches, out-SubCommand}
-use Rattle.hugetlbd.specs.Asked.{AsksForScript, AsksToServe, IsLocal, IsRight, Sets, SetsServing, has_option_first, has_options, hugetlbd, is_serve, machine_options, options_given, with_version}
-use Rattle.hugetlbd.specs.Config.{MachineChoice}
-use Rattle.hugetlbd.specs.declared.settings.Serving.{Serving}
+use Rattle.hp_words.specs.Asked.{AsksForScript, AsksToServe, IsLocal, IsRight, Sets, SetsServing, has_option_first, has_options, hugetlbd, is_serve, machine_options, options_given, with_version}
+use Rattle.hp_words.specs.Config.{MachineChoice}
+use Rattle.hp_words.specs.declared.settings.Serving.{Serving}
 
 -- an argument was added
 pub adds_rule : (a b : Command) (x : Arg) (app : App) (rule : Rule) → AddsArg a x b → x.global ≡ false → app_of a ≡ app → rule_of x ≡ rule

@@ -1,9 +1,9 @@
 use Rattle.std.proofs.Common.{◌∙◌, refl, ap, ap₂}
 use Rattle.std.proofs.lemmas.Result.{IfOk-weaker}
 use Rattle.clap.specs.Words.{App, with_subcommand}
-use Rattle.hugetlbd.proofs.Commands.{adds_version, keeps_app}
-use Rattle.hugetlbd.specs.Asked.{machine_options, with_options}
-use Rattle.hugetlbd.proofs.config.command.Goals as goal
+use Rattle.hp_words.proofs.Commands.{adds_version, keeps_app}
+use Rattle.hp_words.specs.Asked.{machine_options, with_options}
+use Rattle.hp_words.proofs.config.command.Goals as goal
 
 pub returns : goal.returns
 returns c =

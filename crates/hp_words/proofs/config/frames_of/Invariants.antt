@@ -1,7 +1,7 @@
 use Rattle.std.proofs.Common.{◌≡◌, ◌≤◌, ◌++◌, length, map, All, Ok}
 use Rattle.hp_model.specs.text.Words.{number_of}
-use Rattle.hugetlbd.specs.Asked.{comma_pieces}
-use Rattle.hugetlbd.proofs.config.frames_of.Given as goal
+use Rattle.hp_words.specs.Asked.{comma_pieces}
+use Rattle.hp_words.proofs.config.frames_of.Given as goal
 
 abbrev pub invariant-loop : goal.invariant-loop
 invariant-loop l = record {
