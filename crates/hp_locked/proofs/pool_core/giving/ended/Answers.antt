@@ -2,7 +2,7 @@ use Rattle.std.proofs.Common.{ap, arith}
 use Rattle.hp_model.specs.pool.PoolCounts.{used}
 use Rattle.hp_subpool.specs.Subpool.{committed_of}
 use Rattle.hp_locked.proofs.Giving.{all_moved, close_covers, lowers, ready_after, same_after}
-use Rattle.hp_locked.proofs.pool_core.ended.Goals as goal
+use Rattle.hp_locked.proofs.pool_core.giving.ended.Goals as goal
 
 pub returns-clause-moved : goal.returns-clause-moved
 returns-clause-moved g c =

@@ -1,5 +1,5 @@
 use Rattle.hp_mount_door.proofs.Returning.{granted_ready, taken_ready}
-use Rattle.hp_locked.proofs.pool_core.paged.Goals as goal
+use Rattle.hp_locked.proofs.pool_core.taking.paged.Goals as goal
 
 pub returns-in-Ok-clause-ready : goal.returns-in-Ok-clause-ready
 returns-in-Ok-clause-ready g c =

@@ -3,7 +3,7 @@ use Rattle.std.specs.List.{sum}
 use Rattle.hp_model.specs.pool.PoolCounts.{used}
 use Rattle.hp_subpool.specs.Subpool.{fall}
 use Rattle.hp_locked.proofs.Giving.{both_moved, lowers, puts_cover, ready_after, same_after}
-use Rattle.hp_locked.proofs.pool_core.returned.Goals as goal
+use Rattle.hp_locked.proofs.pool_core.giving.returned.Goals as goal
 
 pub returns-clause-moved : goal.returns-clause-moved
 returns-clause-moved g c =
