@@ -10,7 +10,7 @@ use Rattle.hp_model.specs.pool.PoolCounts.{IsSettled, Pool, used as in_use}
 use Rattle.hp_model.specs.threads.Closing.{to_return}
 use Rattle.hp_model.proofs.RowMoves.{puts_are}
 use Rattle.hp_mount_door.specs.Door.{IsReady, by_node}
-use Rattle.hp_mount_door.proofs.Returning.{all_given, both_given, settled_ready, share_given}
+use Rattle.hp_own_pool.proofs.Returning.{all_given, both_given, settled_ready, share_given}
 use Rattle.hp_subpool.specs.Subpool.{Subpool, committed_of, fall, used}
 
 -- ---- pages that are counted so

@@ -7,7 +7,7 @@ use Rattle.hp_model.specs.declared.refusal.Refusal.TheVariants as r
 use Rattle.hp_model.specs.declared.section.PoolAnswer.{PoolAnswer}
 use Rattle.hp_model.specs.declared.section.Section.{Section}
 use Rattle.hp_model.specs.files.Options.{limits, wanted_of}
-use Rattle.hp_mount_door.proofs.Limiting.{never_full}
+use Rattle.hp_own_pool.proofs.Limiting.{never_full}
 use Rattle.hp_subpool.specs.Subpool.{Subpool}
 use Rattle.hp_locked.specs.Opened.{IsOpenedAt, IsShareOf, shown}
 

@@ -3,13 +3,13 @@ ghost use Rattle.std.specs.Prelude.{◌≡◌, ◌+◌, ◌<◌, ◌≤◌, ◌^
 ghost use Rattle.std.specs.List.{sum};
 ghost use Rattle.hp_mount_door.specs.Door.{by_node};
 ghost use Rattle.hp_mount_door.specs.Filling.{AreRising, nodes_in};
-ghost use Rattle.hp_mount_door.specs.Parcel.{IsPart, amount_of};
+ghost use Rattle.hp_own_pool.specs.Parcel.{IsPart, amount_of};
 
 use crate::gate::Gate;
 use hp_model::naming::Naming;
-use hp_mount_door::Parcel;
-use hp_mount_door::filling::add_claim;
 use hp_nodes::{Frames, NodeFrames, Page, PageDraft};
+use hp_own_pool::Parcel;
+use hp_own_pool::filling::add_claim;
 use hp_permit::Claim;
 use hp_store::{PageBatch, PageStore};
 use std::sync::{Mutex, Wait};

@@ -11,7 +11,7 @@ use crossbeam_utils::CachePadded;
 use hp_model::entry::SlotEntry;
 use hp_model::naming::Naming;
 use hp_mount::Mount;
-use hp_mount_door::OwnPool;
+use hp_own_pool::OwnPool;
 use hp_shared::Slot;
 use hp_system::MOST_TASKS;
 use hp_trail::trace::Trace;

@@ -16,7 +16,7 @@ use crossbeam_utils::CachePadded;
 use hp_locked::{Core, NodeLocks};
 use hp_model::entry::{PoolEntry, SlotEntry, TableEntry};
 use hp_model::naming::Naming;
-use hp_mount_door::OwnPool;
+use hp_own_pool::OwnPool;
 use hp_pool::Blanks;
 use hp_shared::{Slot, Table};
 use hp_system::{MOST_TASKS, Parts, System, TaskTable};

@@ -17,7 +17,7 @@ use crate::table::TaskTable;
 use hp_model::answer::Counts;
 use hp_model::naming::Naming;
 use hp_mount::Mount;
-use hp_mount_door::OwnPool;
+use hp_own_pool::OwnPool;
 use hp_pool::Blanks;
 use std::alloc::{AllocError, Global};
 use std::marker::Model;

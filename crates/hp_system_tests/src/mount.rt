@@ -10,7 +10,7 @@ use hp_model::naming::Naming;
 use hp_model::refusal::Refusal;
 use hp_model::step::{Intent, Reserving, Sharing};
 use hp_mount::{MapAccess, MapRange, Mount};
-use hp_mount_door::OwnPool;
+use hp_own_pool::OwnPool;
 use hp_pool::Blanks;
 use std::alloc::Global;
 use std::marker::Brand;

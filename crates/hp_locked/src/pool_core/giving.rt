@@ -15,7 +15,7 @@ use crate::noting::note;
 use hp_model::entry::{Asked, PoolEntry};
 use hp_model::naming::Naming;
 use hp_model::section::Section;
-use hp_mount_door::Parcel;
+use hp_own_pool::Parcel;
 use hp_pool::Pool;
 use hp_subpool::Subpool;
 use hp_trail::trail::Trail;

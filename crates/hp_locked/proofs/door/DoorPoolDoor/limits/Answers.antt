@@ -1,6 +1,6 @@
 use Rattle.std.proofs.Common.{◌≡◌, None, Some, true, refl}
 use Rattle.hp_locked.specs.Views.{Asks}
-use Rattle.hp_mount_door.proofs.Limiting.{limited_at, refused_stays}
+use Rattle.hp_own_pool.proofs.Limiting.{limited_at, refused_stays}
 use Rattle.hp_locked.proofs.Added.{asks_it}
 use Rattle.hp_locked.proofs.door.DoorPoolDoor.limits.Goals as goal
 

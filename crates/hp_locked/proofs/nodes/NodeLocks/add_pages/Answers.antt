@@ -1,7 +1,7 @@
 use Rattle.std.proofs.Common.{ap}
 use Rattle.hp_store.specs.Batch.{Batch}
-use Rattle.hp_mount_door.specs.Parcel.{amount_of}
-use Rattle.hp_mount_door.proofs.Takings.{all_in_order}
+use Rattle.hp_own_pool.specs.Parcel.{amount_of}
+use Rattle.hp_own_pool.proofs.Takings.{all_in_order}
 use Rattle.hp_locked.proofs.nodes.NodeLocks.add_pages.Goals as goal
 
 pub returns-clause-counts : goal.returns-clause-counts

@@ -3,7 +3,7 @@ use Rattle.std.specs.Prelude.{slice_index, slice_set}
 use Rattle.hp_permit.specs.Claim.{Claim}
 use Rattle.hp_store.specs.Store.{Store}
 use Rattle.std.proofs.lemmas.List.{nil_from_length}
-use Rattle.hp_mount_door.proofs.Returning.{all_counted, one_counted}
+use Rattle.hp_own_pool.proofs.Returning.{all_counted, one_counted}
 use Rattle.hp_locked.proofs.nodes.NodeLocks.gather.Goals as goal
 
 pub loop-page-preserved : goal.loop-page-preserved

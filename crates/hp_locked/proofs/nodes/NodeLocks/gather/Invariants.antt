@@ -1,5 +1,5 @@
 use Rattle.std.specs.Prelude.{◌≡◌, [], length}
-use Rattle.hp_mount_door.proofs.Returning.{AreCounted}
+use Rattle.hp_own_pool.proofs.Returning.{AreCounted}
 use Rattle.hp_locked.proofs.nodes.NodeLocks.gather.Given as goal
 
 abbrev pub invariant-loop-page : goal.invariant-loop-page

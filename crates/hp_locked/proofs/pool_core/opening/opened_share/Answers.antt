@@ -1,5 +1,5 @@
 use Rattle.std.proofs.Common.{Ok}
-use Rattle.hp_mount_door.proofs.Returning.{granted_ready}
+use Rattle.hp_own_pool.proofs.Returning.{granted_ready}
 use Rattle.hp_locked.proofs.pool_core.opening.opened_share.Goals as goal
 
 pub returns-in-Ok-open-clause-ready : goal.returns-in-Ok-open-clause-ready

@@ -1,4 +1,4 @@
-use Rattle.hp_mount_door.proofs.Returning.{granted_ready, taken_ready}
+use Rattle.hp_own_pool.proofs.Returning.{granted_ready, taken_ready}
 use Rattle.hp_locked.proofs.pool_core.taking.paged.Goals as goal
 
 pub returns-in-Ok-clause-ready : goal.returns-in-Ok-clause-ready

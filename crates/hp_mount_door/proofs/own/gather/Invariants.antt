@@ -1,9 +1,0 @@
-use Rattle.std.specs.Prelude.{◌≡◌, [], length}
-use Rattle.hp_mount_door.proofs.Returning.{AreCounted}
-use Rattle.hp_mount_door.proofs.own.gather.Given as goal
-
-abbrev pub invariant-loop-page : goal.invariant-loop-page
-invariant-loop-page g l = AreCounted l.fn.going.going l.going.going l.parcel × (record l.going { going = [] } ≡ record l.fn.going { going = [] })
-
-abbrev pub decreases-loop-page : goal.decreases-loop-page
-decreases-loop-page g l = length l.going.going
