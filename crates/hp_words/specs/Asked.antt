@@ -1,5 +1,5 @@
 -- What the words of a command line ask for. The first word is the program's name.
-use Rattle.std.specs.Prelude.{◌≡◌, ◌≢◌, ◌≤◌, ◌⊎◌, ◌==◌, ◌&&◌, ◌++◌, ◌∷◌, ℕ, Bool, true, false, if◌then◌else◌, is_some, List, [], map, Option, Some, IfSome, IsSomeAnd, MatchOption, Ok, codes}
+use Rattle.std.specs.Prelude.{◌≡◌, ◌≢◌, ◌≤◌, ◌⊎◌, ◌==◌, ◌&&◌, ◌++◌, ◌∷◌, ℕ, Bool, true, false, if◌then◌else◌, is_some, List, [], map, Option, Some, IsSomeAnd, MatchOption, Ok, codes}
 use Rattle.std.specs.List.{list_any, slice_split}
 use Rattle.std.specs.Option.{option_map_or}
 use Rattle.std.specs.Str.{bytes_eq}

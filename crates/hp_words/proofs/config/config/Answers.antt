@@ -1,4 +1,4 @@
-use Rattle.std.proofs.Common.{◌∙◌, map, true, false, None, Some, refl, sym}
+use Rattle.std.proofs.Common.{◌∙◌, map, true, false, refl, sym}
 use Rattle.std.proofs.lemmas.Result.{err_from_is_err_and}
 use Rattle.hp_words.proofs.Commands.{asks, asks_to, found, none_met, option_first, sub_met}
 use Rattle.hp_words.proofs.Refused.{good_machine, refused_for, wrong_behind, wrong_in, wrong_in_front}
