@@ -18,7 +18,7 @@ use Rattle.hp_sessions.specs.contracts.shared.Shared.TheInside as Inside
 use Rattle.hp_sessions.specs.contracts.spare.Spare as Spare
 use Rattle.hp_shared.specs.contracts.locked_slot.Slot as Slot
 use Rattle.hp_shared.specs.contracts.table.Table as Table
-use Rattle.hp_system.specs.contracts.table.TaskTable as TaskTable
+use Rattle.hp_tasks.specs.contracts.table.TaskTable as TaskTable
 use Rattle.hp_trail.specs.declared.trail.Trail as trail
 use Rattle.std.proofs.Crossing as global
 use Rattle.std.proofs.Crossing.{crosses}

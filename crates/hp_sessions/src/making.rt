@@ -13,7 +13,7 @@ use hp_model::naming::Naming;
 use hp_mount::Mount;
 use hp_own_pool::OwnPool;
 use hp_shared::Slot;
-use hp_system::MOST_TASKS;
+use hp_tasks::MOST_TASKS;
 use hp_trail::trace::Trace;
 use std::alloc::{AllocError, Global};
 use std::sync::Mutex;

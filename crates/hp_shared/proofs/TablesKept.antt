@@ -1,5 +1,5 @@
 -- The table's trail keeps its fact with one entry more.
-use Rattle.std.proofs.Common.{◌≡◌, ℕ, ◌≤◌, Bool, true, false, List, [], ◌∷◌, ◌++◌, Option, None, Some, Ok, Err, length, refl, sym, ap, ◌∙◌, subst, arith}
+use Rattle.std.proofs.Common.{◌≡◌, ℕ, ◌≤◌, Bool, true, false, List, [], ◌∷◌, ◌++◌, Option, None, Some, length, refl, sym, ap, ◌∙◌, subst, arith}
 use Rattle.hp_model.specs.declared.entry.TableEntry.{TableEntry}
 use Rattle.hp_model.specs.declared.event.TableEvent.{TableEvent}
 use Rattle.hp_model.specs.machine.Plan.{Reply}
@@ -12,10 +12,7 @@ use Rattle.hp_locked.specs.Views.{HasPlaces, IsFresh}
 use Rattle.hp_trail.specs.Keeping.{has_room, one_less, with_entry}
 use Rattle.hp_shared.specs.Tables.{IsLockedTable, IsTableTrail}
 use Rattle.hp_shared.proofs.Places.{has_closing, or_room, places_after, room_closing}
-use Rattle.std.specs.Prelude.{Result, is_some, ◌||◌}
-use Rattle.hp_model.specs.declared.refusal.Refusal.{Refusal}
-use Rattle.hp_model.specs.machine.Accesses.{done_reply}
-use Rattle.hp_mount.specs.Done.{done}
+use Rattle.std.specs.Prelude.{is_some, ◌||◌}
 
 pub fresh_table : (nodes : ℕ) (o : Option (List TableEntry)) (left : Option ℕ) (extra : ℕ) (t : Table) → t ≡ [] → IsFresh o → most_tasks ≤ extra → IsLockedTable nodes o left extra t
 fresh_table nodes o left extra t is fresh enough = record {
@@ -69,11 +66,6 @@ module _ (nodes : ℕ) (o : Option (List TableEntry)) (left : Option ℕ) (extra
       by : (b : Bool) → removes_task t e ≡ b → has_room true left extra ≡ true
       by true is = removal_fits is
       by false is = room_closing left extra (or_room (removes_task t e) (has_room false left extra) may is)
-
--- the two words for the reply of what answers nothing
-pub done_same : (r : Result (Unit {0}) Refusal) → done r ≡ done_reply r
-done_same (Ok x) = refl
-done_same (Err e) = refl
 
 -- where no entries are kept
 module _ (nodes : ℕ) (o : Option (List TableEntry)) (left : Option ℕ) (extra : ℕ) (t : Table) (e : TableEvent) (reply : Reply) (q : Table)

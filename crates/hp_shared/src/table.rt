@@ -17,7 +17,7 @@ use hp_model::entry::{Part, Receipt, TableEntry};
 use hp_model::event::{Event, TableEvent};
 use hp_model::naming::Naming;
 use hp_model::refusal::Refusal;
-use hp_system::TaskTable;
+use hp_tasks::TaskTable;
 use hp_trail::trail::Trail;
 use std::marker::{Model, PhantomData};
 

@@ -3,6 +3,4 @@ mod Ending
 mod MachineSteps
 mod Mounting
 pub mod Start
-mod Tasks
-mod Slots
 mod Forking

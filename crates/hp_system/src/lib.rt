@@ -3,7 +3,5 @@
 
 mod service;
 mod system;
-mod table;
 
 pub use system::{Parts, System};
-pub use table::{MOST_TASKS, TaskTable};

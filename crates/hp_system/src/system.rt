@@ -13,12 +13,12 @@ mod accesses;
 mod slots;
 mod steps;
 
-use crate::table::TaskTable;
 use hp_model::answer::Counts;
 use hp_model::naming::Naming;
 use hp_mount::Mount;
 use hp_own_pool::OwnPool;
 use hp_pool::Blanks;
+use hp_tasks::TaskTable;
 use std::alloc::{AllocError, Global};
 use std::marker::Model;
 

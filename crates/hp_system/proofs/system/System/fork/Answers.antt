@@ -1,7 +1,7 @@
 use Rattle.std.proofs.Common.{Err, Ok, length, refl, sym, subst, ap, ◌∙◌}
 use Rattle.hp_model.specs.declared.answer.Answer.TheVariants.{Done}
 use Rattle.hp_model.specs.declared.event.TableEvent.TheVariants.{FindAndAdd, Remove}
-use Rattle.hp_mount.specs.Done.{done}
+use Rattle.hp_model.specs.machine.Accesses.{done_reply}
 use Rattle.hp_system.proofs.Carries.{kept_with_table, kept_by, ready_by}
 use Rattle.hp_system.proofs.Forking.{child_is_another, fork_done, fork_refused, fork_undone}
 use Rattle.hp_system.proofs.MachineSteps.{taken_out, table_goes}
@@ -21,7 +21,7 @@ fork_slots-requires-clause-ready g c =
 
 pub fork_slots-requires-clause-apart : goal.fork_slots-requires-clause-apart
 fork_slots-requires-clause-apart g c =
-    let gives = c.add_child.ensures 0 ∙ ap (λ r. (done r, c.add_child.new.self)) c.in_default.is in
+    let gives = c.add_child.ensures 0 ∙ ap (λ r. (done_reply r, c.add_child.new.self)) c.in_default.is in
     child_is_another 0 c.args.parent c.args.child c.self.inside.table c.add_child.new.self Done gives
 
 pub returns-in-Err-clause-step : goal.returns-in-Err-clause-step
@@ -29,7 +29,7 @@ returns-in-Err-clause-step g c =
     let s = c.self.inside in
     let nodes = length s.pool.nodes.rows in
     let was = c.args.self.now.state in
-    let gives = c.add_child.ensures nodes ∙ ap (λ r. (done r, c.add_child.new.self)) c.in-Err.is in
+    let gives = c.add_child.ensures nodes ∙ ap (λ r. (done_reply r, c.add_child.new.self)) c.in-Err.is in
     fork_refused was (state_of s.page_bytes c.add_child.new.self s.slots.items s.pool) c.args.parent c.args.child c.in-Err.refusal
     (table_goes s.page_bytes s.table s.slots.items s.pool (FindAndAdd c.args.parent c.args.child) (Err c.in-Err.refusal) c.add_child.new.self nodes
     was refl gives (ap (λ (x : Machine). x.state) c.self.view_is))
@@ -40,7 +40,7 @@ returns-in-Ok-clause-step g c =
     let nodes = length s.pool.nodes.rows in
     let was = c.args.self.now.state in
     let mid = state_of s.page_bytes c.add_child.new.self s.slots.items s.pool in
-    let gives = c.add_child.ensures nodes ∙ ap (λ r. (done r, c.add_child.new.self)) c.in_default.is in
+    let gives = c.add_child.ensures nodes ∙ ap (λ r. (done_reply r, c.add_child.new.self)) c.in_default.is in
     let made = subst (λ r. AreForked mid c.args.parent c.args.child r c.fork_slots.new.self.state) c.in-Ok.is c.fork_slots.ensures.done in
     fork_done was mid c.fork_slots.new.self.state c.args.parent c.args.child Done
     (table_goes s.page_bytes s.table s.slots.items s.pool (FindAndAdd c.args.parent c.args.child) (Ok Done) c.add_child.new.self nodes was refl gives (ap (λ (x : Machine). x.state) c.self.view_is))
@@ -59,7 +59,7 @@ returns-in-Err-fork_slots-clause-step g c =
     let nodes = length s.pool.nodes.rows in
     let was = c.args.self.now.state in
     let mid = state_of s.page_bytes c.add_child.new.self s.slots.items s.pool in
-    let gives = c.add_child.ensures nodes ∙ ap (λ r. (done r, c.add_child.new.self)) c.in_default.is in
+    let gives = c.add_child.ensures nodes ∙ ap (λ r. (done_reply r, c.add_child.new.self)) c.in_default.is in
     let made = subst (λ r. AreForked mid c.args.parent c.args.child r c.fork_slots.new.self.state) c.in-Err-fork_slots.is c.fork_slots.ensures.done in
     let later = length t.pool.nodes.rows in
     let taken = taken_out c.args.child later t.table in

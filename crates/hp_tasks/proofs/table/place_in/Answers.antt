@@ -1,7 +1,7 @@
 use Rattle.std.proofs.Common.{ap, sym, ◌∙◌}
-use Rattle.hp_system.specs.Table.{count_of_rest, tasks_in}
-use Rattle.hp_system.proofs.Slots.{found_some, none_at, none_of_rest}
-use Rattle.hp_system.proofs.table.place_in.Goals as goal
+use Rattle.hp_tasks.specs.Table.{count_of_rest, tasks_in}
+use Rattle.hp_tasks.proofs.Slots.{found_some, none_at, none_of_rest}
+use Rattle.hp_tasks.proofs.table.place_in.Goals as goal
 
 pub returns-in_default-clause-none : goal.returns-in_default-clause-none
 returns-in_default-clause-none c is =

@@ -8,7 +8,7 @@ use Rattle.hp_laws.proofs.Places.{sum_by-filter_le}
 use Rattle.hp_laws.proofs.Single.{bit, some_counted}
 use Rattle.hp_model.proofs.Counting.{count_cons}
 use Rattle.hp_model.specs.machine.Table.{Table, added, home_of, removed}
-use Rattle.hp_system.specs.Table.{HasEachOnce}
+use Rattle.hp_tasks.specs.Table.{HasEachOnce}
 
 module _ {X : Type 0} (p : X → Bool) where
   -- the only one that passes is the first

@@ -11,7 +11,7 @@ use Rattle.std.proofs.lemmas.List.Quantifiers.{position-Some}
 use Rattle.hp_laws.proofs.Single.{bit}
 use Rattle.hp_model.proofs.Counting.{count_cons}
 use Rattle.hp_model.specs.machine.Table.{Table, home_of, removed}
-use Rattle.hp_system.specs.Table.{AreCounted, Slot, count_of_rest, has_task, slot_at, tasks_in}
+use Rattle.hp_tasks.specs.Table.{AreCounted, Slot, count_of_rest, has_task, slot_at, tasks_in}
 
 -- ---- a task that is not there
 

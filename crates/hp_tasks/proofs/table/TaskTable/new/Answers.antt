@@ -1,8 +1,8 @@
 use Rattle.std.proofs.Common.{◌≡◌, ◌≤◌, ◌==◌, ℕ, List, [], length, replicate, refl, sym, subst, ap, ◌∙◌, arith}
 use Rattle.std.specs.List.{count_by, slice_index_or}
 use Rattle.std.proofs.lemmas.List.{get_or-replicate, length-replicate}
-use Rattle.hp_system.specs.Table.{Slot, count_of_rest, tasks_in}
-use Rattle.hp_system.proofs.table.TaskTable.new.Goals as goal
+use Rattle.hp_tasks.specs.Table.{Slot, count_of_rest, tasks_in}
+use Rattle.hp_tasks.proofs.table.TaskTable.new.Goals as goal
 
 pub invariant_of-result : goal.invariant_of-result
 invariant_of-result c =

@@ -1,9 +1,9 @@
 use Rattle.std.proofs.Common.{rules, arith, ap, sym, ◌∙◌, length}
 use Rattle.std.specs.Option.{is_some}
 use Rattle.std.proofs.lemmas.Fn.{filter_same}
-use Rattle.hp_system.specs.Table.{tasks_in}
-use Rattle.hp_system.proofs.Slots.{closed, closed_length}
-use Rattle.hp_system.proofs.table.make_slot.Goals as goal
+use Rattle.hp_tasks.specs.Table.{tasks_in}
+use Rattle.hp_tasks.proofs.Slots.{closed, closed_length}
+use Rattle.hp_tasks.proofs.table.make_slot.Goals as goal
 
 pub returns-clause-tasks : goal.returns-clause-tasks
 returns-clause-tasks c = ap tasks_in (filter_same _ is_some _ (λ x b f' k. search rules) _ _ c.retain.ensures.filtered) ∙ closed c.args.slots.now.items

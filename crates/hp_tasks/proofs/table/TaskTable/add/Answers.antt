@@ -2,11 +2,11 @@ use Rattle.std.proofs.Common.{◌≡◌, ℕ, ◌+◌, ◌++◌, ◌∷◌, [], 
 use Rattle.std.proofs.lemmas.List.{length-append, length-set}
 use Rattle.std.proofs.lemmas.List.Elements.{filter_map-append}
 use Rattle.hp_model.specs.machine.Table.{Table, added, home_of}
-use Rattle.hp_system.specs.Table.{AreCounted, HasEachOnce, Slot, tasks_in}
-use Rattle.hp_system.proofs.Slots.{counted_more}
-use Rattle.hp_system.proofs.Tasks.{once_added}
-use Rattle.hp_system.proofs.table.TaskTable.add.Goals as goal
-use Rattle.hp_system.proofs.table.TaskTable.add.Goals.{After-push_reserved}
+use Rattle.hp_tasks.specs.Table.{AreCounted, HasEachOnce, Slot, tasks_in}
+use Rattle.hp_tasks.proofs.Slots.{counted_more}
+use Rattle.hp_tasks.proofs.Tasks.{once_added}
+use Rattle.hp_tasks.proofs.table.TaskTable.add.Goals as goal
+use Rattle.hp_tasks.proofs.table.TaskTable.add.Goals.{After-push_reserved}
 
 module _ (c : After-push_reserved) where
   abbrev tasks : Table

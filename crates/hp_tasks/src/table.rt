@@ -30,7 +30,7 @@ pub struct TaskTable {
 impl Model for TaskTable {
     ghost use Rattle.std.specs.Prelude.{vec_capacity};
     ghost use Rattle.hp_model.specs.machine.Table.{Table};
-    ghost use Rattle.hp_system.specs.Table.{IsTaskTable, tasks_in};
+    ghost use Rattle.hp_tasks.specs.Table.{IsTaskTable, tasks_in};
 
     ghost Value = { Table };
 
@@ -44,11 +44,10 @@ ghost use Rattle.std.specs.Prelude.{◌≡◌, ◌≢◌, ◌<◌, ◌%◌, ℕ,
 ghost use Rattle.std.specs.List.{position};
 ghost use Rattle.hp_model.specs.declared.event.TableEvent.TheVariants.{Add, FindAndAdd, Remove};
 ghost use Rattle.hp_model.specs.declared.refusal.Refusal.TheVariants as Refusal;
-ghost use Rattle.hp_mount.specs.Done.{done};
 ghost use Rattle.hp_model.specs.machine.Accesses.{done_reply};
 ghost use Rattle.hp_model.specs.Profile.{most_tasks};
 ghost use Rattle.hp_model.specs.machine.Table.{home_of, added, removed, is_known, is_crowded, table_event};
-ghost use Rattle.hp_system.specs.Table.{AreCounted, has_task, slot_at, tasks_in};
+ghost use Rattle.hp_tasks.specs.Table.{AreCounted, has_task, slot_at, tasks_in};
 
 // Which number stands for a task's.
 fn rest_of(task: u64) -> usize
@@ -158,7 +157,7 @@ impl TaskTable {
     /// Adds a child of a task, with its home node. Refused as NoSuchTask, TaskExists or TooMany; then nothing changes.
     pub fn add_child(&mut self, parent: u64, child: u64) -> Result<(), Refusal>
         ensures { (nodes : ℕ) → table_event nodes self.old (FindAndAdd parent child)
-            ≡ (done result, self.new) }
+            ≡ (done_reply result, self.new) }
     {
         let Some(home) = self.home(parent) else {
             return Err(Refusal::NoSuchTask);

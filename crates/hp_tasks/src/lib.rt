@@ -1,0 +1,6 @@
+//! The tasks with their home nodes.
+#![tactic(auto)]
+
+mod table;
+
+pub use table::{MOST_TASKS, TaskTable};
