@@ -1,7 +1,5 @@
 //! A slot with its trail.
-ghost use Rattle.std.specs.Prelude.{◌≡◌, ◌⊎◌, ◌<◌, ◌≤◌, ◌==◌, Ok, ℕ, [], length, true, false, None, Some, is_some};
-ghost use Rattle.hp_model.specs.declared.answer.Answer.TheVariants.{Done};
-ghost use Rattle.hp_model.specs.declared.event.SlotEvent.TheVariants.{ExitMaps, ForkMaps, Ls, Mount as Mounting, Remount, Umount};
+ghost use Rattle.std.specs.Prelude.{◌≡◌, ◌⊎◌, ◌≤◌, [], length, true, false, None, is_some};
 ghost use Rattle.hp_model.specs.declared.entry.Part.TheVariants.{Slot as AtSlot};
 ghost use Rattle.hp_model.specs.declared.event.Event.TheVariants.{Slot as OnSlot};
 ghost use Rattle.hp_model.specs.declared.event.SlotEvent.{SlotEvent as SlotEventValue};
@@ -16,21 +14,20 @@ ghost use Rattle.hp_locked.specs.Told.{IsReceipt};
 ghost use Rattle.hp_locked.specs.Views.{IsFresh};
 ghost use Rattle.hp_events.specs.Event.{event_of, shows_bytes};
 ghost use Rattle.hp_store.specs.Batch.{Batch as BatchValue};
-ghost use Rattle.hp_store.specs.Store.{Store as StoreValue, page_at};
+ghost use Rattle.hp_store.specs.Store.{Store as StoreValue};
 ghost use Rattle.hp_subpool.specs.Subpool.{Subpool as ShareValue};
-ghost use Rattle.hp_shared.specs.Slots.{AreEventsToNote, IsSlotEvent, IsSlotEventDone, IsSlotTrail, is_trace_full, names_reply, slot_start};
+ghost use Rattle.hp_shared.specs.Slots.{AreEventsToNote, IsSlotEvent, IsSlotTrail, is_trace_full, slot_start};
 ghost use Rattle.hp_trail.specs.Keeping.{has_room, one_less, with_entry};
 
-use crate::mounting::{mount as open, unmount};
-use crate::names::{Listing, list, list_thrice};
-use crate::remounting::remount as set_limits;
-use crate::slot::{act, copied, fork, is_full, leave};
+mod listing;
+mod mounts;
+mod tasks;
+
+use crate::slot::{act, copied, is_full};
 use hp_events::MountEvent;
 use hp_locked::SessionDoor;
-use hp_model::answer::Reply;
 use hp_model::entry::{Asked, Part, Receipt, SlotEntry};
 use hp_model::event::{Event, SlotEvent};
-use hp_model::names::Names;
 use hp_model::naming::Naming;
 use hp_model::refusal::Refusal;
 use hp_model::told::Told;
@@ -40,7 +37,6 @@ use hp_nodes::Page;
 use hp_store::{PageBatch, PageStore};
 use hp_subpool::Subpool;
 use hp_trail::trail::Trail;
-use std::alloc::Global;
 use std::marker::Model;
 
 /// A slot with its trail.
@@ -232,246 +228,6 @@ impl<N: Naming, T: Trail<SlotEntry>> Slot<N, T> {
         } = self;
         act(mount, door, page_bytes, home, event, room)
     }
-
-    /// The maps of a task, which has some on the slot, go: the receipt where entries are kept. Never refused.
-    pub fn exit_maps<D: SessionDoor<Share = Subpool<N>, Page = Page<N>, Going = PageStore<N>>>(
-        &mut self,
-        door: &mut D,
-        task: u64,
-    ) -> Option<Receipt>
-        requires shares { (s : ShareValue) → D.share_of s ≡ s }
-        requires going { (s : StoreValue) → D.going_of s ≡ s.going }
-        requires emptied { (s : StoreValue) → D.emptied s ≡ record s { going = [] } }
-        requires ready { D.is_ready door.old }
-        requires has { has_maps_of task self.old.mount ≡ true }
-        ensures done { IsSlotEventDone N.page_bytes self.old self.new (ExitMaps task) (Ok Done)
-            (D.asked door.new) result }
-        ensures number { self.new.number ≡ self.old.number }
-        ensures given { is_some result ≡ T.keeps }
-    {
-        let Slot {
-            number,
-            mount,
-            trail,
-        } = self;
-        let told = leave(mount, door, task);
-        let events = Some((SlotEvent::ExitMaps { task }, SlotEvent::ExitMaps { task }));
-        note(trail, *number, events, door.asked(), &told)
-    }
-
-    /// The maps of a task, which has some on the slot, become its child's as well: the receipt where entries are kept.
-    /// Answered TraceFull, and then nothing changed, where the trail has no room.
-    pub fn fork_maps<D: SessionDoor<Share = Subpool<N>, Page = Page<N>, Going = PageStore<N>>>(
-        &mut self,
-        door: &mut D,
-        parent: u64,
-        child: u64,
-    ) -> (Result<Told<'static>, Refusal>, Option<Receipt>)
-        requires shares { (s : ShareValue) → D.share_of s ≡ s }
-        requires going { (s : StoreValue) → D.going_of s ≡ s.going }
-        requires emptied { (s : StoreValue) → D.emptied s ≡ record s { going = [] } }
-        requires ready { D.is_ready door.old }
-        requires has { has_maps_of parent self.old.mount ≡ true }
-        requires apart { (parent == child) ≡ false }
-        ensures done { IsSlotEvent ⊥ N.page_bytes self.old self.new (ForkMaps parent child)
-            (told_reply result.0) (D.asked door.new) result.1 }
-        ensures number { self.new.number ≡ self.old.number }
-        ensures keeps { is_trace_full (told_reply result.0) ≡ true → T.keeps ≡ true }
-        ensures given { is_trace_full (told_reply result.0) ≡ false
-            → is_some result.1 ≡ T.keeps }
-        ensures limits { IsWithinLimits (told_reply result.0) }
-    {
-        let Slot {
-            number,
-            mount,
-            trail,
-        } = self;
-        if !trail.has_room(false) {
-            return (Err(Refusal::TraceFull), None);
-        }
-        let told = fork(mount, door, parent, child);
-        let events = Some((
-            SlotEvent::ForkMaps { parent, child },
-            SlotEvent::ForkMaps { parent, child },
-        ));
-        let receipt = note(trail, *number, events, door.asked(), &told);
-        (told, receipt)
-    }
-
-    /// Ends the slot's mount: the receipt where entries are kept. Refused as NoSuchSlot or Busy. Answered TraceFull, and then
-    /// nothing changed, where the trail has no room.
-    pub fn umount<D: SessionDoor<Share = Subpool<N>, Page = Page<N>, Going = PageStore<N>>>(
-        &mut self,
-        door: &mut D,
-    ) -> (Result<Told<'static>, Refusal>, Option<Receipt>)
-        requires shares { (s : ShareValue) → D.share_of s ≡ s }
-        requires going { (s : StoreValue) → D.going_of s ≡ s.going }
-        requires spent { (s : StoreValue) → ((n : ℕ) → page_at s n ≡ None) → D.is_spent s }
-        requires ready { D.is_ready door.old }
-        ensures done { IsSlotEvent ⊥ N.page_bytes self.old self.new Umount
-            (told_reply result.0) (D.asked door.new) result.1 }
-        ensures number { self.new.number ≡ self.old.number }
-        ensures keeps { is_trace_full (told_reply result.0) ≡ true → T.keeps ≡ true }
-        ensures given { is_trace_full (told_reply result.0) ≡ false
-            → is_some result.1 ≡ T.keeps }
-        ensures limits { IsWithinLimits (told_reply result.0) }
-    {
-        let Slot {
-            number,
-            mount,
-            trail,
-        } = self;
-        if !trail.has_room(false) {
-            return (Err(Refusal::TraceFull), None);
-        }
-        let told = unmount(mount, *number, door);
-        let events = Some((SlotEvent::Umount, SlotEvent::Umount));
-        let receipt = note(trail, *number, events, door.asked(), &told);
-        (told, receipt)
-    }
-
-    /// Mounts the slot with options: the receipt where entries are kept. For these the event is given twice. Refused as
-    /// SlotTaken, BadOption, MinOverSize or NoPages. Answered TraceFull, and then nothing changed, where the trail has no room,
-    /// or the door has none for its section.
-    pub fn mount<D: SessionDoor<Share = Subpool<N>, Page = Page<N>, Going = PageStore<N>>>(
-        &mut self,
-        door: &mut D,
-        alloc: Global,
-        page_bytes: u64,
-        options: &[u8],
-        noted: Option<(SlotEvent, SlotEvent)>,
-    ) -> (Result<Told<'static>, Refusal>, Option<Receipt>)
-        requires shares { (s : ShareValue) → D.share_of s ≡ s }
-        requires ready { D.is_ready door.old }
-        requires page_bytes { page_bytes ≡ N.page_bytes }
-        requires bytes { 0 < page_bytes }
-        requires noted { AreEventsToNote self.old.entries (Mounting options.now) noted }
-        ensures done { IsSlotEvent (D.is_full door.new) N.page_bytes self.old self.new
-            (Mounting options.now)
-            (told_reply result.0) (D.asked door.new) result.1 }
-        ensures number { self.new.number ≡ self.old.number }
-        ensures keeps { is_trace_full (told_reply result.0) ≡ true
-            → (T.keeps ≡ true) ⊎ D.is_full door.new }
-        ensures given { is_trace_full (told_reply result.0) ≡ false
-            → is_some result.1 ≡ T.keeps }
-        ensures limits { IsWithinLimits (told_reply result.0) }
-    {
-        let Slot {
-            number,
-            mount,
-            trail,
-        } = self;
-        if !trail.has_room(false) {
-            return (Err(Refusal::TraceFull), None);
-        }
-        let told = open(mount, door, alloc, page_bytes, options);
-        if is_full(&told) {
-            return (told, None);
-        }
-        let receipt = note(trail, *number, noted, door.asked(), &told);
-        (told, receipt)
-    }
-
-    /// Sets the limits of the slot's mount anew, to what the options mean: the receipt where entries are kept. For these the
-    /// event is given twice. Refused as NoSuchSlot, SlotTaken, BadOption, MinOverSize or NoPages. Answered TraceFull, and then
-    /// nothing changed, where the trail has no room, or the door has none for its section.
-    pub fn remount<D: SessionDoor<Share = Subpool<N>, Page = Page<N>, Going = PageStore<N>>>(
-        &mut self,
-        door: &mut D,
-        page_bytes: u64,
-        options: &[u8],
-        noted: Option<(SlotEvent, SlotEvent)>,
-    ) -> (Result<Told<'static>, Refusal>, Option<Receipt>)
-        requires shares { (s : ShareValue) → D.share_of s ≡ s }
-        requires ready { D.is_ready door.old }
-        requires page_bytes { page_bytes ≡ N.page_bytes }
-        requires bytes { 0 < page_bytes }
-        requires noted { AreEventsToNote self.old.entries (Remount options.now) noted }
-        ensures done { IsSlotEvent (D.is_full door.new) N.page_bytes self.old self.new
-            (Remount options.now)
-            (told_reply result.0) (D.asked door.new) result.1 }
-        ensures number { self.new.number ≡ self.old.number }
-        ensures keeps { is_trace_full (told_reply result.0) ≡ true
-            → (T.keeps ≡ true) ⊎ D.is_full door.new }
-        ensures given { is_trace_full (told_reply result.0) ≡ false
-            → is_some result.1 ≡ T.keeps }
-        ensures limits { IsWithinLimits (told_reply result.0) }
-    {
-        let Slot {
-            number,
-            mount,
-            trail,
-        } = self;
-        if !trail.has_room(false) {
-            return (Err(Refusal::TraceFull), None);
-        }
-        let told = set_limits(mount, *number, door, page_bytes, options);
-        if is_full(&told) {
-            return (told, None);
-        }
-        let receipt = note(trail, *number, noted, door.asked(), &told);
-        (told, receipt)
-    }
-
-    /// The names of the slot's files, in order of creation, and the receipt where entries are kept. Refused as NoSuchSlot, or
-    /// as OutOfMemory where the list, or its copy for an entry or a receipt, has no room. Answered TraceFull, and then
-    /// nothing changed, where the trail has no room.
-    pub fn names(&mut self, alloc: Global) -> (Result<Names, Refusal>, Option<Receipt>)
-        ensures done { IsSlotEvent ⊥ N.page_bytes self.old self.new Ls (names_reply result.0) None
-            result.1 }
-        ensures number { self.new.number ≡ self.old.number }
-        ensures keeps { is_trace_full (names_reply result.0) ≡ true → T.keeps ≡ true }
-        ensures given { is_trace_full (names_reply result.0) ≡ false
-            → is_some result.1 ≡ T.keeps }
-        ensures limits { IsWithinLimits (names_reply result.0) }
-    {
-        let Slot {
-            number,
-            mount,
-            trail,
-        } = self;
-        if !trail.has_room(false) {
-            return (Err(Refusal::TraceFull), None);
-        }
-        if !trail.is_kept() {
-            return (list(mount), None);
-        }
-        let Listing {
-            names,
-            reply,
-            again,
-        } = list_thrice(alloc, mount);
-        let receipt = note_names(trail, *number, reply, again);
-        (names, Some(receipt))
-    }
-}
-
-// Notes a list of names, and makes its receipt.
-fn note_names<T: Trail<SlotEntry>>(trail: &mut T, slot: u64, reply: Reply, again: Reply) -> Receipt
-    requires room { has_room true (T.left trail.old) (T.extra trail.old) ≡ true }
-    requires kept { is_some (T.entries trail.old) ≡ true }
-    ensures entries { T.entries trail.new ≡ with_entry (T.entries trail.old)
-        (record { event = Ls; reply = reply; asked = None }) }
-    ensures left { T.left trail.new ≡ one_less (T.left trail.old) }
-    ensures extra { T.extra trail.new ≡ T.extra trail.old }
-    ensures receipt { IsReceipt (T.entries trail.old) (AtSlot slot) (OnSlot slot Ls) again
-        (Some result) }
-{
-    let receipt = Receipt {
-        part: Part::Slot(slot),
-        place: trail.place(),
-        event: Event::Slot {
-            slot,
-            event: SlotEvent::Ls,
-        },
-        reply: again,
-    };
-    trail.push(SlotEntry {
-        event: SlotEvent::Ls,
-        reply,
-        asked: None,
-    });
-    receipt
 }
 
 // Notes an event with its reply and the section that it entered, where entries are kept, and makes its receipt.

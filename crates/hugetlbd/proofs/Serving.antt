@@ -7,9 +7,9 @@ use Rattle.hp_serving.specs.declared.host.Closed.{Closed}
 use Rattle.hp_serving.specs.declared.sessions.Ended.{Ended}
 use Rattle.hp_serving.specs.declared.sessions.Ended.TheVariants.{Printed, Unprinted, Failed}
 use Rattle.hp_shared_machine.specs.Sharing.{WasJoined}
-use Rattle.hugetlbd.specs.Config.{MachineChoice, chosen}
+use Rattle.hp_words.specs.Config.{MachineChoice, chosen}
 use Rattle.hugetlbd.specs.Program.{MayBeLeft}
-use Rattle.hugetlbd.specs.declared.settings.Serving.{Serving}
+use Rattle.hp_words.specs.declared.settings.Serving.{Serving}
 
 pub leaves : (A B : Closed → Type 0) (ended : Ended) → ((x : Closed) → A x → B x) → LeavesAsked A ended → LeavesAsked B ended
 leaves A B (Printed closed) more left = more closed left

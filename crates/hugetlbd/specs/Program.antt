@@ -19,12 +19,12 @@ use Rattle.hp_serving.specs.Ended.{Says}
 use Rattle.hp_serving.specs.declared.host.Closed.{Closed}
 use Rattle.hp_serving.specs.declared.sessions.Ended.{Ended}
 use Rattle.hp_shared_machine.specs.Sharing.{WasJoined}
-use Rattle.hugetlbd.specs.Asked.{AsksForScript, AsksToServe, IsRefusedFor, hugetlbd}
-use Rattle.hugetlbd.specs.Config.{IsMachineWithin, IsServing, MachineChoice, chosen}
-use Rattle.hugetlbd.specs.declared.config.TheConstants.{HELP, VERSION}
-use Rattle.hugetlbd.specs.declared.settings.Serving.{Serving}
-use Rattle.hugetlbd.specs.declared.settings.Wrong.{Wrong}
-use Rattle.hugetlbd.specs.declared.settings.Wrong.TheVariants.{Memory, Parse, BadValue, OptionFirst}
+use Rattle.hp_words.specs.Asked.{AsksForScript, AsksToServe, IsRefusedFor, hugetlbd}
+use Rattle.hp_words.specs.Config.{IsMachineWithin, IsServing, MachineChoice, chosen}
+use Rattle.hp_words.specs.declared.config.TheConstants.{HELP, VERSION}
+use Rattle.hp_words.specs.declared.settings.Serving.{Serving}
+use Rattle.hp_words.specs.declared.settings.Wrong.{Wrong}
+use Rattle.hp_words.specs.declared.settings.Wrong.TheVariants.{Memory, Parse, BadValue, OptionFirst}
 
 -- this machine gives replies to the script's lines, one after another, and what was written is their text
 abbrev pub AnswersScript : State → List ℕ → Option (List ℕ) → Option (List ℕ) → Type 0

@@ -1,14 +1,12 @@
 //! The service over a script, with lines on standard input and replies on standard output; or over sessions of TCP.
 #![tactic(auto)]
 
-mod config;
 mod over_tcp;
 mod program;
 mod server;
-mod settings;
 
+use hp_words::settings::Wrong;
 use over_tcp::OverTcp;
-use settings::Wrong;
 use std::alloc::{AllocError, Global};
 use std::env::{self, Env};
 use std::io::{self, ErrorKind, Write};

@@ -1,9 +1,9 @@
 //! What serves sessions, where the words ask for it.
-ghost use Rattle.hugetlbd.specs.Config.{IsMachineWithin, IsServing, choice_of};
+ghost use Rattle.hp_words.specs.Config.{IsMachineWithin, IsServing, choice_of};
 ghost use Rattle.hugetlbd.specs.Program.{IsServingEnded};
 
-use crate::settings::{Machine, Serving};
 use hp_wire::ends::Sink;
+use hp_words::settings::{Machine, Serving};
 use std::alloc::Global;
 
 /// A server of sessions.

@@ -6,7 +6,7 @@ use Rattle.hp_shared_machine.proofs.Crossing.{shared_sync}
 use Rattle.hp_shared_machine.proofs.Opened.{frames_named}
 use Rattle.hp_shared_machine.specs.Sharing.{SharedView}
 use Rattle.hugetlbd.proofs.Serving.{as_asked, leaves}
-use Rattle.hugetlbd.specs.Config.{choice_of, chosen}
+use Rattle.hp_words.specs.Config.{choice_of, chosen}
 use Rattle.hugetlbd.proofs.over_tcp.serve_on.Goals as goal
 
 pub returns : goal.returns

@@ -1,9 +1,9 @@
 use Rattle.std.proofs.Common.{◌∙◌, ap, map, inl, inr, refl, subst, sym, arith}
-use Rattle.hugetlbd.specs.Asked.{AsksForScript}
-use Rattle.hugetlbd.specs.Config.{MachineChoice, choice_of, chosen, usual}
+use Rattle.hp_words.specs.Asked.{AsksForScript}
+use Rattle.hp_words.specs.Config.{MachineChoice, choice_of, chosen, usual}
 use Rattle.hugetlbd.proofs.Runs.{answered_well, answered_as, ends_below_2, ran_as, served_not_2}
-use Rattle.hugetlbd.proofs.Refused.{not_taken, right_is_1, serves_is_1, told_as_asked}
-use Rattle.hugetlbd.proofs.Usual.{few_is_1, few_ask_no_text, few_serve_not, few_texts, no_words}
+use Rattle.hp_words.proofs.Usual.{few_serve_not, few_texts, no_words}
+use Rattle.hugetlbd.proofs.Refused.{few_is_1, few_ask_no_text, not_taken, right_is_1, serves_is_1, told_as_asked}
 use Rattle.hugetlbd.proofs.program.program.Goals as goal
 
 pub returns-in-Ok-Script-clause-usual : goal.returns-in-Ok-Script-clause-usual

@@ -1,0 +1,117 @@
+//! What goes back to the pool, under its lock.
+ghost use Rattle.std.specs.Prelude.{◌≡◌, ◌+◌, ◌<◌, ◌≤◌, true, IfSome, IfNone};
+ghost use Rattle.std.specs.List.{sum};
+ghost use Rattle.hp_model.specs.declared.entry.PoolEntry.TheVariants.{OfSlot};
+ghost use Rattle.hp_model.specs.declared.section.Section.TheVariants.{GiveBack};
+ghost use Rattle.hp_model.specs.pool.Pool.{granted_at, puts_from, released, settled};
+ghost use Rattle.hp_model.specs.threads.Closing.{to_return};
+ghost use Rattle.hp_mount_door.specs.Door.{IsReady, with_less};
+ghost use Rattle.hp_subpool.specs.Subpool.{committed_of, fall};
+ghost use Rattle.hp_trail.specs.Keeping.{has_room, one_less, with_entry};
+ghost use Rattle.hp_locked.specs.Views.{IsGiven, IsPlace};
+
+use super::{Core, committed, granted};
+use crate::noting::note;
+use hp_model::entry::{Asked, PoolEntry};
+use hp_model::naming::Naming;
+use hp_model::section::Section;
+use hp_own_pool::Parcel;
+use hp_pool::Pool;
+use hp_subpool::Subpool;
+use hp_trail::trail::Trail;
+
+impl<N: Naming, T: Trail<PoolEntry>> Core<N, T> {
+    /// Puts the pages that go back by their claims, and gives so many reservations back: the section, where there is one.
+    /// Never refused.
+    pub fn put(&mut self, share: &mut Subpool<N>, parcel: Parcel<N>, reserves: u64) -> Option<Asked>
+        requires pages { sum parcel ≤ share.old.pages }
+        requires held { reserves ≤ share.old.held }
+        ensures given { IsGiven parcel (fall share.old (sum parcel + reserves)) self.old
+            self.new result }
+        ensures share { share.new ≡ with_less (sum parcel) reserves share.old }
+    {
+        let Core { pool, trail } = self;
+        let (puts, pages) = returned(pool, share, parcel, reserves);
+        pool.law();
+        given(trail, puts, pages)
+    }
+
+    /// Ends a share, all of whose pages go back: the section, where there is one. Never refused.
+    pub fn close(&mut self, share: Subpool<N>, parcel: Parcel<N>) -> Option<Asked>
+        requires pages { sum parcel ≡ share.pages }
+        ensures given { IsGiven parcel (committed_of share) self.old self.new result }
+    {
+        let Core { pool, trail } = self;
+        let (puts, pages) = ended(pool, share, parcel);
+        pool.law();
+        given(trail, puts, pages)
+    }
+}
+
+// Notes what was given back, if that is anything.
+fn given<T: Trail<PoolEntry>>(trail: &mut T, puts: [u64; 4], pages: u64) -> Option<Asked>
+    requires { 0 < sum puts + pages → has_room true (T.left trail.old) (T.extra trail.old) ≡ true }
+    ensures some { IfSome result (λ a. (a.section ≡ GiveBack puts pages) × (a.answer ≡ granted_at 0)
+        × IsPlace (T.entries trail.old) a.place
+        × (T.entries trail.new ≡ with_entry (T.entries trail.old) (OfSlot a.section a.answer))
+        × (0 < sum puts + pages)
+        × (T.left trail.new ≡ one_less (T.left trail.old))
+        × (T.extra trail.new ≡ T.extra trail.old)) }
+    ensures none { IfNone result ((trail.new ≡ trail.old) × (sum puts + pages ≡ 0)) }
+{
+    if puts[0] == 0 && puts[1] == 0 && puts[2] == 0 && puts[3] == 0 && pages == 0 {
+        return None;
+    }
+    Some(note(trail, Section::GiveBack { puts, pages }, granted(0)))
+}
+
+// Gives pages and reservations back: the pages by node, and how far the commitment falls.
+fn returned<N: Naming>(
+    pool: &mut Pool<N>,
+    share: &mut Subpool<N>,
+    parcel: Parcel<N>,
+    reserves: u64,
+) -> ([u64; 4], u64)
+    requires ready { IsReady pool.old }
+    requires pages { sum parcel ≤ share.old.pages }
+    requires held { reserves ≤ share.old.held }
+    ensures puts { result.0 ≡ parcel }
+    ensures fall { result.1 ≡ fall share.old (sum parcel + reserves) }
+    ensures moved { pool.new ≡ settled (released (fall share.old (sum parcel + reserves))
+        (puts_from 0 parcel pool.old)) }
+    ensures same { sum parcel + fall share.old (sum parcel + reserves) ≡ 0 → pool.new ≡ pool.old }
+    ensures share { share.new ≡ with_less (sum parcel) reserves share.old }
+    ensures ready { IsReady pool.new }
+    ensures less { 0 < sum parcel + fall share.old (sum parcel + reserves)
+        → to_return pool.new < to_return pool.old }
+{
+    let before = committed(share);
+    let puts = parcel.counts();
+    parcel.put(pool, share);
+    share.put_reserves(pool, reserves);
+    pool.settle();
+    (puts, before - committed(share))
+}
+
+// Ends a share: its pages by node, and its commitment.
+fn ended<N: Naming>(pool: &mut Pool<N>, share: Subpool<N>, parcel: Parcel<N>) -> ([u64; 4], u64)
+    requires ready { IsReady pool.old }
+    requires pages { sum parcel ≡ share.pages }
+    ensures puts { result.0 ≡ parcel }
+    ensures fall { result.1 ≡ committed_of share }
+    ensures moved { pool.new ≡ settled (released (committed_of share)
+        (puts_from 0 parcel pool.old)) }
+    ensures same { sum parcel + committed_of share ≡ 0 → pool.new ≡ pool.old }
+    ensures ready { IsReady pool.new }
+    ensures less { 0 < sum parcel + committed_of share → to_return pool.new < to_return pool.old }
+{
+    let all = committed(&share);
+    let mut last = share;
+    let puts = parcel.counts();
+    parcel.put(pool, &mut last);
+    let held = last.used();
+    last.put_reserves(pool, held);
+    last.close(pool);
+    pool.settle();
+    (puts, all)
+}

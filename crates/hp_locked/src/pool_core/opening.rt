@@ -1,0 +1,110 @@
+//! A mount's share and its limits, under the pool's lock.
+ghost use Rattle.std.specs.Prelude.{◌≡◌, ◌<◌, true, false, IfOk, OnErr};
+ghost use Rattle.hp_model.specs.pool.Pool.{section};
+ghost use Rattle.hp_model.specs.files.Options.{limits, wanted_of};
+ghost use Rattle.hp_mount_door.specs.Door.{IsReady};
+ghost use Rattle.hp_mount_door.specs.Limits.{IsLimitedBy};
+ghost use Rattle.hp_trail.specs.Keeping.{has_room};
+ghost use Rattle.hp_locked.specs.Opened.{IsShareOf};
+ghost use Rattle.hp_locked.specs.Views.{IsSection};
+
+use super::{Core, Full};
+use crate::noting::note;
+use hp_model::entry::{Asked, PoolEntry};
+use hp_model::limits::Limits;
+use hp_model::naming::Naming;
+use hp_model::refusal::Refusal;
+use hp_model::section::{PoolAnswer, Section};
+use hp_options::options::parse_options;
+use hp_own_pool::limits::{read_nr, set_limits};
+use hp_pool::Pool;
+use hp_subpool::Subpool;
+use hp_trail::trail::Trail;
+
+impl<N: Naming, T: Trail<PoolEntry>> Core<N, T> {
+    /// The section of a mount: reads nr, and commits the minimum that the options mean at it, for pages of so many bytes.
+    /// The share and the limits, or BadOption, MinOverSize or NoPages; and the section. At `Err` the trail is full, and
+    /// nothing changed.
+    pub fn open(
+        &mut self,
+        options: &[u8],
+        page_bytes: u64,
+    ) -> Result<(Result<(Subpool<N>, Limits), Refusal>, Asked), Full>
+        requires { 0 < page_bytes }
+        ensures section { IfOk result (λ r. IsSection self.old self.new r.1) }
+        ensures opens { IfOk result (λ r. IsShareOf (limits self.old.pool.nr page_bytes
+            (wanted_of options.now))
+            self.old.pool.nr r.0 r.1.section r.1.answer) }
+        ensures full { OnErr result (has_room false self.old.left self.old.extra ≡ false) }
+        ensures keeps { OnErr result (T.keeps ≡ true) }
+        ensures same { OnErr result (self.new ≡ self.old) }
+    {
+        let Core { pool, trail } = self;
+        if !trail.has_room(false) {
+            return Err(Full {});
+        }
+        let (share, section, answer) = opened_share(pool, options, page_bytes);
+        pool.law();
+        let asked = note(trail, section, answer);
+        Ok((share, asked))
+    }
+
+    /// Sets a share's limits to what the options mean at nr, for pages of so many bytes: the limit of files, or BadOption,
+    /// MinOverSize or NoPages; and the section. At `Err` the trail is full, and nothing changed.
+    pub fn limits(
+        &mut self,
+        share: &mut Subpool<N>,
+        page_bytes: u64,
+        options: &[u8],
+    ) -> Result<(Result<Option<u64>, Refusal>, Asked), Full>
+        requires { 0 < page_bytes }
+        ensures section { IfOk result (λ r. IsSection self.old self.new r.1) }
+        ensures set { IfOk result (λ r. IsLimitedBy (limits self.old.pool.nr page_bytes
+            (wanted_of options.now))
+            self.old.pool.nr share.old share.new r.0 r.1.section r.1.answer) }
+        ensures full { OnErr result (has_room false self.old.left self.old.extra ≡ false) }
+        ensures keeps { OnErr result (T.keeps ≡ true) }
+        ensures same { OnErr result (self.new ≡ self.old) }
+        ensures unchanged { OnErr result (share.new ≡ share.old) }
+    {
+        let Core { pool, trail } = self;
+        if !trail.has_room(false) {
+            return Err(Full {});
+        }
+        let (files, section, answer) = set_limits(pool, share, page_bytes, options);
+        pool.law();
+        let asked = note(trail, section, answer);
+        Ok((files, asked))
+    }
+}
+
+// The share of a mount with these options, with its section and the pool's answer.
+fn opened_share<N: Naming>(
+    pool: &mut Pool<N>,
+    options: &[u8],
+    page_bytes: u64,
+) -> (Result<(Subpool<N>, Limits), Refusal>, Section, PoolAnswer)
+    requires ready { IsReady pool.old }
+    requires bytes { 0 < page_bytes }
+    ensures section { section pool.old result.1 ≡ (result.2, pool.new) }
+    ensures opens { IsShareOf (limits pool.old.nr page_bytes (wanted_of options.now))
+        pool.old.nr result.0 result.1 result.2 }
+    ensures ready { IsReady pool.new }
+{
+    pool.law();
+    let nr = pool.nr();
+    match parse_options(options, nr, page_bytes) {
+        Err(refusal) => (
+            Err(refusal),
+            Section::ReadAndGrant { pages: 0 },
+            read_nr(true, nr),
+        ),
+        Ok(limits) => {
+            let section = Section::ReadAndGrant { pages: limits.min };
+            match Subpool::open(pool, limits.max, limits.min) {
+                Ok(share) => (Ok((share, limits)), section, read_nr(true, nr)),
+                Err(refusal) => (Err(refusal), section, read_nr(false, nr)),
+            }
+        }
+    }
+}

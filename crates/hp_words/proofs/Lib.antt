@@ -1,0 +1,5 @@
+pub mod Commands
+pub mod Frames
+pub mod Refused
+pub mod Usual
+pub mod Values
