@@ -133,6 +133,10 @@ pub near : (first : List ℕ) (rest : WordBlocks) (k : ℕ) → k < 65536 → en
 near first rest k lt =
     ap (λ q. marked (get_or (first ∷ rest) q []) (k % 65536)) {x = k / 65536} {y = 0} (omega (arith, lt)) ∙ ap (marked first) {x = k % 65536} {y = k} (omega (arith, lt))
 
+pub near_page : (first : Rows) (rest : RowBlocks) (k : ℕ) → k < 65536 → page_in first k ≡ page_at (first ∷ rest) k
+near_page first rest k lt = sym (ap (λ q. page_in (get_or (first ∷ rest) q []) (k % 65536)) {x = k / 65536} {y = 0} (omega (arith, lt))
+    ∙ ap (page_in first) {x = k % 65536} {y = k} (omega (arith, lt)))
+
 module _ (first : List ℕ) (rest : WordBlocks) where
   module _ (a b : ℕ) (le : b ≤ 65536) where
     pub near_counted : count_in first a b ≡ entered_count (first ∷ rest) a b

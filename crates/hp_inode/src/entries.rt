@@ -65,6 +65,17 @@ impl Entries {
     pub fn contains(&self, i: u64) -> bool
         ensures { result ≡ entered_at self.now i }
     {
+        if i < BLOCK {
+            return self.first.contains(i);
+        }
+        self.later_contains(i)
+    }
+
+    // Whether an index after the first block is in the set, out of line, so that an access to a small file is small.
+    #[inline(never)]
+    fn later_contains(&self, i: u64) -> bool
+        ensures { result ≡ entered_at self.now i }
+    {
         match self.block(i / BLOCK) {
             Some(block) => block.contains(i % BLOCK),
             None => false,

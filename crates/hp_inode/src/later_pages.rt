@@ -40,6 +40,7 @@ impl LaterPages {
         }
     }
 
+    #[inline(never)]
     pub fn set(&mut self, i: u64, page: Option<PageNo>)
         requires { has_slot self.old i ≡ true }
         ensures here { page_in self.new i ≡ page }

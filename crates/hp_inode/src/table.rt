@@ -67,10 +67,18 @@ impl PageTable {
     pub fn page_at(&self, i: u64) -> Option<PageNo>
         ensures { result ≡ page_at self.now i }
     {
-        match self.block(i / BLOCK) {
-            Some(block) => block.page_at(i % BLOCK),
-            None => None,
+        if i < BLOCK {
+            return self.first.page_at(i);
         }
+        self.later_page(i)
+    }
+
+    // The page of an index after the first block, out of line, so that an access to a small file is small.
+    #[inline(never)]
+    fn later_page(&self, i: u64) -> Option<PageNo>
+        ensures { result ≡ page_at self.now i }
+    {
+        self.block(i / BLOCK)?.page_at(i % BLOCK)
     }
 
     #[inline(always)]

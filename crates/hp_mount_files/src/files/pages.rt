@@ -41,6 +41,7 @@ impl<N: Naming> Files<N> {
     }
 
     /// What stands at an index.
+    #[inline(always)]
     pub fn cell(&self, file: usize, index: u64) -> CellState
         requires { file < length self.now.files }
         ensures { IsState result (cell_at (file_at self.now.files file) index) }

@@ -268,22 +268,22 @@ impl<N: Naming> System<N> {
     #[tactic(auto, unfolding(hp_model::specs::machine::Step::IsStep))]
     fn do_work<'a>(
         &mut self,
-        work: &Work<'_>,
+        work: Work<'_>,
         room: &'a mut [u8],
         reply: &mut Result<Told<'a>, Refusal>,
     )
         requires ready { IsReadyMachine self.old }
         requires room { 256 ≤ length room.old }
         ensures done { IsScript self.old.state
-            (work_script (length self.old.state.slots) work.now) (told_reply reply.new)
+            (work_script (length self.old.state.slots) work.entry) (told_reply reply.new)
             self.new.state }
-        ensures usage { is_usage_work work.now ≡ true → IsWithinLimits (told_reply reply.new) }
-        ensures memory { takes_memory_for self.old.state work.now ≡ false
+        ensures usage { is_usage_work work.entry ≡ true → IsWithinLimits (told_reply reply.new) }
+        ensures memory { takes_memory_for self.old.state work.entry ≡ false
             → told_reply reply.new ≢ Err Refusal.OutOfMemory }
         ensures size { self.new.state.page_size ≡ self.old.state.page_size }
         ensures ready { IsReadyMachine self.new }
     {
-        match *work {
+        match work {
             Work::Connect { task, home } => tell_done(self.connect(task, home), reply),
             Work::Attach { task } => self.tell_home(task, reply),
             Work::Pool(event) => self.tell_pool(event, reply),
@@ -314,8 +314,7 @@ impl<N: Naming> System<N> {
         ensures size { self.new.state.page_size ≡ self.old.state.page_size }
         ensures ready { IsReadyMachine self.new }
     {
-        let work = work_of(step);
-        self.do_work(&work, room, reply);
+        self.do_work(work_of(step), room, reply);
     }
 
     /// Does steps one after another, and answers their replies, each as `apply` promises. Room for the
