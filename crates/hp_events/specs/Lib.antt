@@ -1,3 +1,4 @@
 pub mod Event
 pub mod Works
 pub mod Memory
+pub mod Copies

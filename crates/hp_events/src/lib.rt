@@ -1,6 +1,7 @@
 //! What a step asks of which part of the machine.
 #![tactic(auto)]
 
+pub mod copies;
 mod event;
 mod work;
 

@@ -48,7 +48,8 @@ use Rattle.hp_mount.proofs.Ways.{fresh_choice, is_fresh}
 use Rattle.hp_shared.specs.Slots.{AreEventsToNote, IsSlotEvent, IsSlotEventDone, SlotView, Went, is_trace_full}
 use Rattle.hp_shared.proofs.Acting.{always_came, none_acted}
 use Rattle.hp_sessions.specs.Calls.{CanAnswer, IsHanded, IsToldOf}
-use Rattle.hp_sessions.specs.Works.{AreEvents, HasAnswerOf, IsBytes}
+use Rattle.hp_events.specs.Copies.{AreEvents}
+use Rattle.hp_sessions.specs.Works.{HasAnswerOf, IsBytes}
 
 map_match : (b : Bool) (A B C D : Type 0) → (b ≡ true → A → C) → (b ≡ false → B → D) → MatchBool b A B → MatchBool b C D
 map_match true A B C D f g t = f refl t

@@ -1,5 +1,5 @@
 -- What a session answers to what a step asks.
-use Rattle.std.specs.Prelude.{◌≡◌, ◌⊎◌, ℕ, ◌+◌, ◌<◌, ◌≤◌, Bool, true, Option, None, Some, Err, List, [], length}
+use Rattle.std.specs.Prelude.{◌≡◌, ◌⊎◌, ℕ, ◌+◌, ◌<◌, ◌≤◌, Bool, true, Err, length}
 use Rattle.hp_model.specs.declared.answer.Answer.{Answer}
 use Rattle.hp_model.specs.declared.answer.Answer.TheVariants.{Bytes, Done}
 use Rattle.hp_model.specs.declared.event.SlotEvent.{SlotEvent}
@@ -22,32 +22,7 @@ IsWorked kept size s w reply t =
     (((kept ≡ true → length s.receipts + work_receipts s.slots w ≤ s.room) × Carries kept size s (work_script s.slots w) reply t)
     ⊎ ((kept ≡ true) × (t ≡ s) × IsRefusedWork s w reply))
 
--- ---- events of a mount
-
--- the name, the options or the bytes of an event
-abbrev pub bytes_of_event : SlotEvent → List ℕ
-bytes_of_event (slot.Mount options) = options
-bytes_of_event (slot.Remount options) = options
-bytes_of_event (slot.Create name) = name
-bytes_of_event (slot.Unlink name) = name
-bytes_of_event (slot.Truncate name pages) = name
-bytes_of_event (slot.Punch name a b) = name
-bytes_of_event (slot.Preallocate name a b) = name
-bytes_of_event (slot.Read name i offset count) = name
-bytes_of_event (slot.Stat name) = name
-bytes_of_event (slot.Map task home name a pages sharing reserving) = name
-bytes_of_event (slot.Store task home number i offset bytes) = bytes
-bytes_of_event other = []
-
--- two copies of these
-abbrev pub AreCopies : List ℕ → Option (List ℕ × List ℕ) → Type 0
-AreCopies bytes None = ⊥
-AreCopies bytes (Some both) = (both.0 ≡ bytes) × (both.1 ≡ bytes)
-
--- the event twice
-abbrev pub AreEvents : SlotEvent → Option (SlotEvent × SlotEvent) → Type 0
-AreEvents e None = ⊥
-AreEvents e (Some both) = (both.0 ≡ e) × (both.1 ≡ e)
+-- ---- answers
 
 abbrev pub IsBytes : Answer → Type 0
 IsBytes (Bytes count bytes) = Unit {0}

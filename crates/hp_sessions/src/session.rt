@@ -6,7 +6,6 @@ ghost use Rattle.hp_sessions.specs.Calls.{noted};
 mod entering;
 mod forking;
 mod making;
-mod notes;
 mod service;
 mod steps;
 

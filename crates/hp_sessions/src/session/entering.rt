@@ -12,11 +12,11 @@ ghost use Rattle.hp_events.specs.Event.{event_of, shows_bytes};
 ghost use Rattle.hp_shared.specs.Slots.{names_reply};
 ghost use Rattle.hp_shared.specs.Tables.{table_reply};
 ghost use Rattle.hp_sessions.specs.Calls.{IsHanded};
-ghost use Rattle.hp_sessions.specs.Works.{AreCopies, bytes_of_event};
+ghost use Rattle.hp_events.specs.Copies.{AreCopies, bytes_of_event};
 
 use super::Session;
-use super::notes::{Copies, events, mountings, remountings};
 use hp_events::MountEvent;
+use hp_events::copies::{Copies, events, mountings, remountings};
 use hp_locked::{Core, Door, Gate};
 use hp_model::entry::{PoolEntry, Receipt, SlotEntry, TableEntry};
 use hp_model::event::{PoolEvent, TableEvent};

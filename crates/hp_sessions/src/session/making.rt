@@ -11,11 +11,12 @@ ghost use Rattle.hp_events.specs.Event.{event_of, shows_bytes};
 ghost use Rattle.hp_shared.specs.Tables.{table_reply};
 ghost use Rattle.hp_sessions.specs.Calls.{Carries, Grows, HasReceiptRoom, IsMade, Leads};
 ghost use Rattle.hp_sessions.specs.Forks.{IsForked};
-ghost use Rattle.hp_sessions.specs.Works.{AreCopies, HasAnswerOf, bytes_of_event};
+ghost use Rattle.hp_events.specs.Copies.{AreCopies, bytes_of_event};
+ghost use Rattle.hp_sessions.specs.Works.{HasAnswerOf};
 
 use super::Session;
-use super::notes::Copies;
 use hp_events::MountEvent;
+use hp_events::copies::Copies;
 use hp_locked::Gate;
 use hp_model::event::{PoolEvent, TableEvent};
 use hp_model::naming::Naming;

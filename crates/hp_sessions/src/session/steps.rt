@@ -12,10 +12,11 @@ ghost use Rattle.hp_shared.specs.Tables.{table_reply};
 ghost use Rattle.hp_events.specs.declared.work.Work.TheVariants.{OfTask as OfATask, OnSlot as OnASlot};
 ghost use Rattle.hp_sessions.specs.Calls.{HasReceiptRoom, IsCallAnswered};
 ghost use Rattle.hp_events.specs.Works.{ListsByNamesAlone};
-ghost use Rattle.hp_sessions.specs.Works.{AreCopies, HasAnswerOf, IsBytes, IsWorked, bytes_of_event};
+ghost use Rattle.hp_events.specs.Copies.{AreCopies, bytes_of_event};
+ghost use Rattle.hp_sessions.specs.Works.{HasAnswerOf, IsBytes, IsWorked};
 
 use super::Session;
-use super::notes::{Copies, copies, twice};
+use hp_events::copies::{Copies, copies, twice};
 use hp_events::{MountEvent, Work, most_receipts, work_of};
 use hp_locked::Gate;
 use hp_model::answer::Reply;

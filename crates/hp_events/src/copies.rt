@@ -1,17 +1,17 @@
-//! Copies for an entry and for a receipt.
+//! An event with bytes of its own, for an entry and for a receipt.
 ghost use Rattle.std.specs.Prelude.{◌≡◌, ◌<◌, ℕ, List, length, true, IfOk, OnErr, Some};
 ghost use Rattle.hp_model.specs.machine.Copying.{has_bytes};
 ghost use Rattle.hp_model.specs.declared.event.SlotEvent.TheVariants.{Mount as Mounting, Remount as Remounting};
 ghost use Rattle.hp_events.specs.Event.{event_of};
-ghost use Rattle.hp_sessions.specs.Works.{AreCopies, AreEvents, bytes_of_event};
+ghost use Rattle.hp_events.specs.Copies.{AreCopies, AreEvents, bytes_of_event};
 
-use hp_events::MountEvent;
+use crate::event::MountEvent;
 use hp_model::bytes::Bytes;
 use hp_model::event::SlotEvent;
 use std::alloc::{AllocError, Global};
 
 /// The same bytes twice.
-pub(super) type Copies = (Bytes, Bytes);
+pub type Copies = (Bytes, Bytes);
 
 // The name or the bytes that an event has.
 fn carried<'x>(event: &MountEvent<'x>) -> &'x [u8]
@@ -36,8 +36,8 @@ fn carried<'x>(event: &MountEvent<'x>) -> &'x [u8]
     }
 }
 
-// Two copies of bytes.
-pub(super) fn twice(alloc: Global, bytes: &[u8]) -> Result<Copies, AllocError>
+/// Two copies of bytes.
+pub fn twice(alloc: Global, bytes: &[u8]) -> Result<Copies, AllocError>
     ensures copies { IfOk result (λ both. AreCopies bytes.now (Some both)) }
     ensures memory { OnErr result (64 < length bytes.now) }
 {
@@ -46,8 +46,8 @@ pub(super) fn twice(alloc: Global, bytes: &[u8]) -> Result<Copies, AllocError>
     Ok((one, two))
 }
 
-// Two copies of what an event carries. Memory is asked for where that is anything.
-pub(super) fn copies(alloc: Global, event: &MountEvent<'_>) -> Result<Copies, AllocError>
+/// Two copies of what an event carries. Memory is asked for where that is anything.
+pub fn copies(alloc: Global, event: &MountEvent<'_>) -> Result<Copies, AllocError>
     ensures copies { IfOk result
         (λ both. AreCopies (bytes_of_event (event_of 0 event.now)) (Some both)) }
     ensures memory { OnErr result (has_bytes (event_of 0 event.now) ≡ true) }
@@ -55,8 +55,8 @@ pub(super) fn copies(alloc: Global, event: &MountEvent<'_>) -> Result<Copies, Al
     twice(alloc, carried(event))
 }
 
-// The event twice, with these copies.
-pub(super) fn events(
+/// The event twice, with these copies.
+pub fn events(
     event: &MountEvent<'_>,
     home: u64,
     copies: Option<Copies>,
@@ -68,8 +68,8 @@ pub(super) fn events(
     Some((owned(event, home, one), owned(event, home, two)))
 }
 
-// A mount's event twice, with copies of its options.
-pub(super) fn mountings(copies: Option<Copies>) -> Option<(SlotEvent, SlotEvent)>
+/// A mount's event twice, with copies of its options.
+pub fn mountings(copies: Option<Copies>) -> Option<(SlotEvent, SlotEvent)>
     ensures { (options : List ℕ) → AreCopies options copies → AreEvents (Mounting options) result }
 {
     let (one, two) = copies?;
@@ -79,8 +79,8 @@ pub(super) fn mountings(copies: Option<Copies>) -> Option<(SlotEvent, SlotEvent)
     ))
 }
 
-// A remount's event twice, with copies of its options.
-pub(super) fn remountings(copies: Option<Copies>) -> Option<(SlotEvent, SlotEvent)>
+/// A remount's event twice, with copies of its options.
+pub fn remountings(copies: Option<Copies>) -> Option<(SlotEvent, SlotEvent)>
     ensures { (options : List ℕ) → AreCopies options copies
         → AreEvents (Remounting options) result }
 {
