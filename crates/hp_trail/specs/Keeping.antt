@@ -9,6 +9,10 @@ pub record Keeping (X : Type 0) : Type 0 where
   pub places : ℕ
   pub extra : ℕ
 
+-- the places that any trail may have for closing entries
+abbrev pub most_extra : ℕ
+most_extra = 524288
+
 -- the places that no entry has
 abbrev pub places_left : {X : Type 0} → Keeping X → ℕ
 places_left k = k.places + k.extra - length k.entries
@@ -43,7 +47,7 @@ left_if false k = None
 -- where nothing is kept, there are as many places for closing entries as any trail has
 abbrev pub extra_if : {X : Type 0} → Bool → Keeping X → ℕ
 extra_if true k = k.extra
-extra_if false k = 524288
+extra_if false k = most_extra
 
 -- nothing in it yet, with these places where entries are kept
 abbrev pub opened_if : {X : Type 0} → Bool → (places extra : ℕ) → Keeping X
