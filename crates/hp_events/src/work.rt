@@ -1,5 +1,6 @@
 //! What a step asks of which part.
 ghost use Rattle.std.specs.Prelude.{◌≡◌, ◌*◌, ◌≤◌};
+ghost use Rattle.hp_model.specs.Profile.{most_slots};
 ghost use Rattle.hp_events.specs.Works.{IsWork, work_receipts};
 
 use crate::event::MountEvent;
@@ -261,7 +262,7 @@ pub fn work_of<'x>(step: &Step<'x>) -> Work<'x>
 
 /// The most receipts that it brings, on so many slots.
 pub fn most_receipts(slots: usize, work: &Work<'_>) -> usize
-    requires { slots ≤ 64 }
+    requires { slots ≤ most_slots }
     ensures { result ≡ work_receipts slots work.now }
 {
     match work {

@@ -10,6 +10,7 @@ ghost use Rattle.hp_model.specs.files.MountCounts.{is_waiting};
 ghost use Rattle.hp_lookup.specs.Keyed.{is_name_of};
 ghost use Rattle.hp_lookup.specs.Numbered.{mapping_at, with_punched, with_truncated};
 ghost use Rattle.hp_model.specs.files.File.{at_least, cell_in, has_page, is_hole, page_of, is_entered};
+ghost use Rattle.hp_model.specs.Profile.{most_name_bytes};
 ghost use Rattle.std.specs.List.{count_by};
 
 mod adding;
@@ -267,7 +268,7 @@ impl File {
     /// The name, if it has one.
     pub fn name(&self) -> Option<&[u8]>
         ensures some { IfSome result (λ name. self.now.name ≡ Some name.now) }
-        ensures few { IfSome result (λ name. length name.now ≤ 64) }
+        ensures few { IfSome result (λ name. length name.now ≤ most_name_bytes) }
         ensures none { IfNone result (self.now.name ≡ None) }
     {
         match &self.name {

@@ -9,11 +9,11 @@ ghost use Rattle.hp_lookup.specs.Leaving.{is_used};
 ghost use Rattle.hp_lookup.specs.Numbered.{numbered_at};
 
 use crate::file_list::FileList;
-use crate::leaving::MOST_MAPS;
 use hp_file::copies_of;
 use hp_lookup::{FileTag, Hints, Tags};
 use hp_mapping::Mapping;
 use hp_model::naming::Naming;
+use hp_model::profile::MOST_MAPS;
 use hp_store::PageStore;
 use std::alloc::{AllocError, Global};
 

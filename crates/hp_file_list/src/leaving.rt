@@ -12,9 +12,6 @@ use hp_lookup::{Departed, Hints};
 use hp_model::naming::Naming;
 use hp_store::PageStore;
 
-/// A mount has no more maps, so no map has a greater number.
-pub const MOST_MAPS: u64 = 4096;
-
 /// All maps of a task go from each of some files. A file that is left without name and maps loses its pages and entries.
 pub fn drop_maps_of<N: Naming>(
     task: u64,

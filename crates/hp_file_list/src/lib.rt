@@ -7,4 +7,4 @@ mod leaving;
 
 pub use file_list::FileList;
 pub use forking::{children, join_all, retain_some_used, room_for};
-pub use leaving::{MOST_MAPS, drop_maps_of, drop_some_maps_of, sweep_file};
+pub use leaving::{drop_maps_of, drop_some_maps_of, sweep_file};

@@ -1,5 +1,6 @@
 -- What contracts see of a node's frames that nobody holds, and what is kept of them.
 use Rattle.std.specs.Prelude.{◌≡◌, ℕ, ◌+◌, ◌*◌, ◌^◌, ◌<◌, ◌≤◌, List, [], ◌∷◌, length, All}
+use Rattle.hp_model.specs.Profile.{most_frames}
 use Rattle.linked_list_allocator.specs.Region.{Region, block_size}
 use Rattle.linked_list_allocator.specs.Holes.{Span}
 use Rattle.hp_frames.specs.Frame.{Frame}
@@ -21,7 +22,7 @@ IsOf node memory page_bytes f = (f.node ≡ node) × (f.memory ≡ memory) × (l
 
 -- what is kept: a place for each frame that may come back, and room in the block for those that were never cut
 pub record IsStocked (fresh all room page_bytes : ℕ) (holes : List Span) (memory : Region) (node : ℕ) (returned : List Frame) : Type 0 where
-  pub few : all ≤ 65536
+  pub few : all ≤ most_frames
   pub within : fresh + length returned ≤ all
   pub places : all ≤ room
   pub small : 0 < fresh → page_bytes < 2 ^ 63

@@ -1,5 +1,6 @@
 //! The frames of a node that nobody holds.
 ghost use Rattle.std.specs.Prelude.{◌≡◌, ◌+◌, ◌-◌, ◌<◌, ◌≤◌, ◌*◌, ◌^◌, IfOk, IfSome, length};
+ghost use Rattle.hp_model.specs.Profile.{most_frames};
 ghost use Rattle.linked_list_allocator.specs.Region.{block_size};
 ghost use Rattle.hp_frames.specs.Drafts.{made};
 ghost use Rattle.hp_frames.specs.Stock.{IsOf, with_here};
@@ -56,7 +57,7 @@ impl Stock {
     ///
     /// Takes all the memory that they will ever need. Where it is refused, nothing is kept.
     pub fn new(alloc: Global, node: u8, frames: u64, page_bytes: usize) -> Result<Self, AllocError>
-        requires { frames ≤ 65536 }
+        requires { frames ≤ most_frames }
         ensures { IfOk result (λ s. (s.node ≡ node) × (s.page_bytes ≡ page_bytes)
             × (s.all ≡ frames) × (s.here ≡ frames)) }
     {
@@ -115,7 +116,7 @@ impl Stock {
 
 // How many bytes so many frames take in a block, where a block can have so many.
 fn size_of_all(frames: u64, page_bytes: usize) -> Option<usize>
-    requires { frames ≤ 65536 }
+    requires { frames ≤ most_frames }
     ensures { IfSome result (λ n. (n ≡ frames * block_size page_bytes) × (n < 2 ^ 63)
         × (page_bytes < 2 ^ 63)) }
 {

@@ -47,7 +47,7 @@ use Rattle.hp_model.specs.pool.NodeRows.{IsRow, total_of, frames_of}
 use Rattle.hp_model.specs.files.Page.{Copy, Page}
 use Rattle.hp_model.specs.pool.PoolCounts.{Pool}
 use Rattle.hp_model.specs.machine.Plan.{Ask, grant_page, when_granted, with_value, Reply, Slot, Outcome, Refused, Answered, Plan, Finish, Choice, unless, continued, grant, gives}
-use Rattle.hp_model.specs.Profile.{most_overcommit, most_bytes, most_file_pages, most_files, most_map_pages, most_maps}
+use Rattle.hp_model.specs.Profile.{most_overcommit, most_bytes, most_file_pages, most_files, most_map_pages, most_maps, most_frames, most_frames_in_all}
 use Rattle.hp_model.specs.machine.Promises.{is_usage}
 use Rattle.hp_model.specs.pool.Resize.{no_count, node_count, pool_event}
 use Rattle.hp_model.specs.machine.Settled.{IsSettledState}
@@ -99,7 +99,7 @@ rows_many s a (x ∷ xs) = ap suc (rows_many s (a + 1) xs)
 
 record Few (rows : List NodeRow) : Type 0 where
   pub total : total_of rows ≤ frames_of rows
-  pub frames : frames_of rows ≤ 65536 * length rows
+  pub frames : frames_of rows ≤ most_frames * length rows
 
 few : (rows : List NodeRow) → All IsRow rows → Few rows
 few [] all = record { total = omega arith; frames = omega arith }
@@ -119,7 +119,7 @@ module _ (s : State) (st : IsSettledState s) where
   in_pool : Few (pool_of s).nodes.rows
   in_pool = few (pool_of s).nodes.rows st.pool.rows
 
-  most_frames_in : frames_of (pool_of s).nodes.rows ≤ 262144
+  most_frames_in : frames_of (pool_of s).nodes.rows ≤ most_frames_in_all
   most_frames_in = (let frames = in_pool.frames in let many = rows_many s 0 s.nodes in let nodes = st.nodes in omega (arith, frames, many, nodes))
 
   nr_small : (n : ℕ) → IsWithinLimits (pool_event (pool_of s) (pool.Nr n)).0
@@ -346,7 +346,7 @@ table_small n x (table.Remove task) e = by_home (home_of x task)
     by_home (Some home) = tt
 
 abbrev IsSmallRow : NodeCount → Type 0
-IsSmallRow r = (r.total ≤ 65536) × (r.free ≤ r.total) × (r.surp ≤ r.total)
+IsSmallRow r = (r.total ≤ most_frames) × (r.free ≤ r.total) × (r.surp ≤ r.total)
 
 -- the rows that are answered
 rows_small : (rows : List NodeRow) → All IsRow rows → All IsSmallRow (map node_count rows ++ replicate 4 no_count)

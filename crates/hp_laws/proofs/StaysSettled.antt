@@ -18,7 +18,7 @@ use Rattle.hp_model.specs.machine.Machine.{pool_of, with_pool, rows_of, row_of, 
 use Rattle.hp_model.specs.pool.NodeRows.{IsRow, used as row_used, total_of, surp_of}
 use Rattle.hp_model.specs.machine.Plan.{Reply, Slot, slot_committed, slot_pages_at}
 use Rattle.hp_model.specs.pool.PoolCounts.{Pool}
-use Rattle.hp_model.specs.Profile.{most_overcommit}
+use Rattle.hp_model.specs.Profile.{most_overcommit, most_frames}
 use Rattle.hp_model.specs.pool.Resize.{pool_event, set_nr}
 use Rattle.hp_model.specs.machine.Run.{IsRun}
 use Rattle.hp_model.specs.machine.Settled.{IsSettledState}
@@ -53,13 +53,13 @@ record Starts (s : State) (a : ℕ) (frames : List ℕ) : Type 0 where
   pub surplus : surp_of (idle_rows s a frames) ≡ 0
   pub used : map row_used (idle_rows s a frames) ≡ map (λ n. used_at n s) (range_with_len a (length (map idle_node frames)))
 
-starts : (s : State) → ((n : ℕ) → used_at n s ≡ 0) → (a : ℕ) (frames : List ℕ) → All (λ f. f ≤ 65536) frames → Starts s a frames
+starts : (s : State) → ((n : ℕ) → used_at n s ≡ 0) → (a : ℕ) (frames : List ℕ) → All (λ f. f ≤ most_frames) frames → Starts s a frames
 starts s none a [] small = record { rows = All-nil IsRow; total = refl; surplus = refl; used = refl }
 starts s none a (x ∷ xs) small =
-    let rest = starts s none (a + 1) xs (All-tail (λ f. f ≤ 65536) x xs small) in
+    let rest = starts s none (a + 1) xs (All-tail (λ f. f ≤ most_frames) x xs small) in
     let total = rest.total in
     let surplus = rest.surplus in
-    let few : x ≤ 65536 = All-head (λ f. f ≤ 65536) x xs small in
+    let few : x ≤ most_frames = All-head (λ f. f ≤ most_frames) x xs small in
     let r : NodeRow = row_of s a (idle_node x) in
     let here : row_used r ≡ used_at a s = omega (arith, none a) in
     record {

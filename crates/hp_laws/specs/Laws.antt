@@ -29,6 +29,7 @@ use Rattle.hp_model.specs.files.Spot.{Spot}
 use Rattle.hp_model.specs.machine.State.{State, slot_at}
 use Rattle.hp_model.specs.machine.Step.{IsStep}
 use Rattle.hp_model.specs.machine.Table.{Table}
+use Rattle.hp_model.specs.Profile.{most_nodes, most_frames}
 use Rattle.hp_laws.specs.Balance.{Always, IsBalanced, left_by}
 
 abbrev pub KeepsGoing : Outcome → Type 0
@@ -89,7 +90,7 @@ PoolIsTied =
 
 -- the machine starts so
 abbrev pub StartIsSettled : Type 0
-StartIsSettled = (frames : List ℕ) (page_size slots : ℕ) → length frames ≤ 4 → All (λ f. f ≤ 65536) frames → IsSettledState (start frames page_size slots)
+StartIsSettled = (frames : List ℕ) (page_size slots : ℕ) → length frames ≤ most_nodes → All (λ f. f ≤ most_frames) frames → IsSettledState (start frames page_size slots)
 
 -- and is so after each event and each step of every run
 abbrev pub RunsAreSettled : Type 0

@@ -15,12 +15,12 @@ use Rattle.hp_model.specs.machine.Settled.{IsSettledPool}
 use Rattle.hp_model.specs.pool.NodeRows.{IsRow, frames_of, total_of}
 use Rattle.hp_model.specs.pool.PoolCounts.{Pool}
 use Rattle.hp_model.specs.pool.Resize.{no_count, node_count, pool_event}
-use Rattle.hp_model.specs.Profile.{most_overcommit}
+use Rattle.hp_model.specs.Profile.{most_overcommit, most_frames, most_frames_in_all}
 use Rattle.hp_model.specs.text.Writing.{IsWithinLimits}
 
 record Few (rows : List NodeRow) : Type 0 where
   pub total : total_of rows ≤ frames_of rows
-  pub frames : frames_of rows ≤ 65536 * length rows
+  pub frames : frames_of rows ≤ most_frames * length rows
 
 few : (rows : List NodeRow) → All IsRow rows → Few rows
 few [] all = record { total = omega arith; frames = omega arith }
@@ -37,7 +37,7 @@ few (r ∷ rows) all =
     }
 
 abbrev IsSmallRow : NodeCount → Type 0
-IsSmallRow r = (r.total ≤ 65536) × (r.free ≤ r.total) × (r.surp ≤ r.total)
+IsSmallRow r = (r.total ≤ most_frames) × (r.free ≤ r.total) × (r.surp ≤ r.total)
 
 rows_small : (rows : List NodeRow) → All IsRow rows → All IsSmallRow (map node_count rows ++ replicate 4 no_count)
 rows_small [] all = All-replicate IsSmallRow 4 no_count (omega arith, omega arith, omega arith)
@@ -52,10 +52,10 @@ module _ (p : Pool) (st : IsSettledPool p) (nodes : length p.nodes.rows ≤ 4) w
   in_pool : Few p.nodes.rows
   in_pool = few p.nodes.rows st.rows
 
-  most_frames_in : frames_of p.nodes.rows ≤ 262144
+  most_frames_in : frames_of p.nodes.rows ≤ most_frames_in_all
   most_frames_in = (let frames = in_pool.frames in omega (arith, frames, nodes))
 
-  nr_small : p.nr ≤ 262144
+  nr_small : p.nr ≤ most_frames_in_all
   nr_small = (let most = most_frames_in in let below = in_pool.total in let total = st.total in omega (arith, most, below, total))
 
   meminfo_small : IsWithinLimits (pool_event p pool.Meminfo).0

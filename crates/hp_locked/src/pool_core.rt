@@ -23,14 +23,12 @@ use hp_model::answer::NodeCount;
 use hp_model::entry::{PoolEntry, Receipt};
 use hp_model::event::PoolEvent;
 use hp_model::naming::Naming;
+use hp_model::profile::MOST_OVERCOMMIT;
 use hp_model::section::PoolAnswer;
 use hp_pool::Pool;
 use hp_subpool::Subpool;
 use hp_trail::trail::Trail;
 use std::marker::Model;
-
-/// The most that overcommit may be set to, in pages.
-const MOST_OVERCOMMIT: u64 = 4_294_967_295;
 
 /// There was no room in the trail.
 #[derive(Clone, Copy, Debug, PartialEq, Eq)]

@@ -11,3 +11,4 @@ pub mod Level
 pub mod Leaving
 pub mod Forking
 pub mod Name
+pub mod Spots

@@ -4,13 +4,14 @@ ghost use Rattle.std.specs.Cmp.Lexicographic.{pointwise, nat_list_eq_equiv};
 ghost use Rattle.std.specs.Cmp.{partial_equiv_from_equiv};
 ghost use Rattle.std.specs.Cmp.Rules.{hashing};
 ghost use Rattle.std.proofs.Common.{rules};
+ghost use Rattle.hp_model.specs.Profile.{most_name_bytes};
 
 use crate::name_bytes::NameBytes;
 use std::alloc::{AllocError, Global};
 use std::hash::{Hash, Hasher};
 use std::marker::Model;
 
-/// The name of a file: at most 64 bytes. It is hashed in one piece. Contracts see the list of them.
+/// The name of a file: at most `MOST_NAME_BYTES`. It is hashed in one piece. Contracts see the list of them.
 #[derive(Drop)]
 pub struct FileName {
     bytes: NameBytes,
@@ -18,20 +19,21 @@ pub struct FileName {
 
 impl Model for FileName {
     ghost use Rattle.std.specs.Prelude.{List, ℕ, ◌≤◌, length};
+    ghost use Rattle.hp_model.specs.Profile.{most_name_bytes};
     ghost use Rattle.hp_lookup.specs.Name.{HasRoom, bytes_of};
 
     ghost Value = { List ℕ };
 
     ghost view = { λ n. bytes_of n.bytes };
 
-    ghost invariant = { λ n. (length (bytes_of n.bytes) ≤ 64) × HasRoom n.bytes };
+    ghost invariant = { λ n. (length (bytes_of n.bytes) ≤ most_name_bytes) × HasRoom n.bytes };
 }
 
 impl FileName {
     /// A copy of some bytes. Refused where memory is, and never up to 30 bytes.
     #[inline(always)]
     pub fn new(alloc: Global, name: &[u8]) -> Result<Self, AllocError>
-        requires { length name.now ≤ 64 }
+        requires { length name.now ≤ most_name_bytes }
         ensures copy { IfOk result (λ own. own ≡ name.now) }
         ensures few { length name.now ≤ 30 → IsOk result }
     {
@@ -51,7 +53,7 @@ impl FileName {
     #[inline(always)]
     pub fn as_slice(&self) -> &[u8]
         ensures name { result.now ≡ self.now }
-        ensures few { length result.now ≤ 64 }
+        ensures few { length result.now ≤ most_name_bytes }
     {
         self.bytes.as_slice()
     }

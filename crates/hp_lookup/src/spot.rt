@@ -1,5 +1,6 @@
 //! Where a file lies, with its tag.
 ghost use Rattle.std.specs.Prelude.{◌≡◌, ◌%◌};
+ghost use Rattle.hp_lookup.specs.Spots.{all_places};
 
 use std::marker::Model;
 
@@ -11,13 +12,13 @@ const TAGS: u64 = 1 << 48;
 
 /// A tag's last 48 bits above a number's last 16.
 pub fn word_of(tag: u64, number: u64) -> u64
-    ensures { result % 65536 ≡ number % 65536 }
+    ensures { result % all_places ≡ number % all_places }
 {
     tag % TAGS * PLACES + number % PLACES
 }
 
 pub fn number_in(word: u64) -> u16
-    ensures { result ≡ word % 65536 }
+    ensures { result ≡ word % all_places }
 {
     (word % PLACES) as u16
 }
@@ -35,10 +36,11 @@ pub struct Spot {
 
 impl Model for Spot {
     ghost use Rattle.std.specs.Prelude.{ℕ, ◌%◌};
+    ghost use Rattle.hp_lookup.specs.Spots.{all_places};
 
     ghost Value = { ℕ };
 
-    ghost view = { λ s. s.word % 65536 };
+    ghost view = { λ s. s.word % all_places };
 }
 
 impl Spot {

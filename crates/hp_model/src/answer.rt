@@ -1,6 +1,7 @@
 //! What a step or an event answers.
 
 use crate::names::Names;
+use crate::profile::MOST_BYTES;
 use crate::refusal::Refusal;
 
 /// The pool's numbers, in pages (`admin-guide/mm/hugetlbpage.rst`, on HugePages_Total, _Free, _Rsvd and _Surp).
@@ -42,7 +43,7 @@ pub enum Answer {
     /// The first `count` of these bytes; the others are zero.
     Bytes {
         count: u64,
-        bytes: [u8; 256],
+        bytes: [u8; MOST_BYTES],
     },
     /// A file's length, pages present, indices entered, and maps by all tasks.
     Stat {

@@ -11,6 +11,7 @@ pub mod limits;
 pub mod naming;
 pub mod node;
 pub mod place;
+pub mod profile;
 pub mod refusal;
 pub mod section;
 pub mod service;

@@ -1,6 +1,7 @@
 //! What answers steps.
 ghost use Rattle.std.specs.Prelude.{◌≡◌, ◌≤◌, ℕ, length, IfOk};
 ghost use Rattle.hp_model.specs.declared.step.Step.{Step as TheStep};
+ghost use Rattle.hp_model.specs.Profile.{most_bytes};
 ghost use Rattle.hp_model.specs.machine.Accesses.{bytes_reply, done_reply, load_step, store_step};
 ghost use Rattle.hp_model.specs.machine.Plan.{Reply as TheReply};
 ghost use Rattle.hp_model.specs.machine.Told.{told_reply};
@@ -50,7 +51,7 @@ pub trait Service {
         reply: &mut Result<Told<'a>, Refusal>,
     )
         requires ready { is_ready self.old }
-        requires room { 256 ≤ length room.old }
+        requires room { most_bytes ≤ length room.old }
         ensures answered { may_answer self.old step.now (told_reply reply.new) self.new }
         ensures ready { is_ready self.new }
         ensures same_page { page self.new ≡ page self.old }
@@ -64,12 +65,12 @@ pub trait Service {
         room: &'a mut [u8],
     ) -> Result<&'a [u8], Refusal>
         requires ready { is_ready self.old }
-        requires room { 256 ≤ length room.old }
+        requires room { most_bytes ≤ length room.old }
         ensures answered { may_answer self.old (load_step access.now count)
             (bytes_reply result) self.new }
         ensures ready { is_ready self.new }
         ensures same_page { page self.new ≡ page self.old }
-        ensures few { IfOk result (λ bytes. length bytes.now ≤ 256) };
+        ensures few { IfOk result (λ bytes. length bytes.now ≤ most_bytes) };
 
     /// Does the step of a store of these bytes.
     fn store(&mut self, access: &Access, bytes: &[u8]) -> Result<(), Refusal>

@@ -1,12 +1,14 @@
 //! What a step or an event answers, where its bytes stay where they are.
 ghost use Rattle.std.specs.Prelude.{◌≡◌, ◌≤◌, length};
 ghost use Rattle.hp_model.specs.declared.told.Told.TheVariants.{Bytes};
+ghost use Rattle.hp_model.specs.Profile.{most_bytes};
 ghost use Rattle.hp_model.specs.machine.Accesses.{bytes_reply, done_reply};
 ghost use Rattle.hp_model.specs.machine.Told.{map_reply, told_answer, told_reply};
 ghost use Rattle.hp_model.specs.text.Writing.{HasSmallAnswer};
 
 use crate::answer::{Answer, Counts, NodeCount};
 use crate::names::Names;
+use crate::profile::MOST_BYTES;
 use crate::refusal::Refusal;
 
 /// An `Answer` of less than half the size: bytes lie in the caller's room.
@@ -20,7 +22,7 @@ pub enum Told<'a> {
     MapNo(u64),
     /// A number of pages.
     Number(u64),
-    /// Bytes, at most 256.
+    /// Bytes, at most `MOST_BYTES`.
     Bytes(&'a [u8]),
     /// A file's length, pages present, indices entered, and maps by all tasks.
     Stat {
@@ -126,10 +128,10 @@ impl<'a> Told<'a> {
 
 // The answer with a copy of these bytes.
 fn copied(bytes: &[u8]) -> Answer
-    requires { length bytes.now ≤ 256 }
+    requires { length bytes.now ≤ most_bytes }
     ensures { result ≡ told_answer (Bytes bytes.entry) }
 {
-    let mut all = [0u8; 256];
+    let mut all = [0u8; MOST_BYTES];
     let (front, _) = all.split_at_mut(bytes.len());
     front.copy_from_slice(bytes);
     Answer::Bytes {

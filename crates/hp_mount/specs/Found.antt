@@ -17,6 +17,7 @@ use Rattle.hp_mount.specs.declared.mount.reach.Asked.TheVariants.{Page, Bytes}
 use Rattle.hp_mount.specs.declared.mount.reach.MapAccess.{MapAccess}
 use Rattle.hp_lookup.specs.declared.map_place.MapPlace.{MapPlace}
 use Rattle.hp_model.specs.files.Mapping.{Map, is_live, is_map, is_shared, is_unconsumed, place_at, with_place}
+use Rattle.hp_model.specs.Profile.{most_bytes}
 
 -- the map at a place of a file's maps
 abbrev pub spot_at : Mount → (file map : ℕ) → Spot
@@ -38,7 +39,7 @@ tests_of size i (Bytes offset count) s = byte_tests size i offset count s
 -- the bytes lie in one page, and an answer holds them
 abbrev pub Fits : (size : ℕ) → Asked → Type 0
 Fits size Page = Unit {0}
-Fits size (Bytes offset count) = (offset + count ≤ size) × (count ≤ 256)
+Fits size (Bytes offset count) = (offset + count ≤ size) × (count ≤ most_bytes)
 
 -- why it does not begin, if anything: there is no such map, or else the first of its tests that fails
 abbrev pub why_not : Mount → MapAccess → Asked → (size : ℕ) → Option Refusal

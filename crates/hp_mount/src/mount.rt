@@ -9,6 +9,7 @@ ghost use Rattle.hp_model.specs.machine.Plan.{gives};
 ghost use Rattle.hp_model.specs.machine.SlotEvent.{has_maps};
 ghost use Rattle.hp_model.specs.machine.Told.{told_reply};
 ghost use Rattle.hp_model.specs.text.Writing.{IsWithinLimit, IsWithinLimits};
+ghost use Rattle.hp_model.specs.Profile.{most_bytes};
 ghost use Rattle.hp_store.specs.Batch.{Batch as BatchValue};
 ghost use Rattle.hp_store.specs.Store.{Store as StoreValue, page_at};
 ghost use Rattle.hp_subpool.specs.Subpool.{Subpool as ShareValue};
@@ -109,7 +110,7 @@ impl<N: Naming> Mount<N> {
     ///
     /// Refused as the definitions say, and then nothing changes; as TraceFull where the door has no room to note a section.
     /// An access asks for no memory where its index is reserved to its map, or where it makes neither a page nor a copy.
-    /// Bytes are answered in the front of the room, which has 256 where an event answers any.
+    /// Bytes are answered in the front of the room, which has `MOST_BYTES` where an event answers any.
     #[inline(always)]
     pub fn apply<
         'a,
@@ -129,7 +130,7 @@ impl<N: Naming> Mount<N> {
         requires batches { (b : BatchValue) → D.batch_of b ≡ b }
         requires ready { D.is_ready door.old }
         requires page_bytes { page_bytes ≡ N.page_bytes }
-        requires room { shows_bytes event ≡ true → 256 ≤ length room.old }
+        requires room { shows_bytes event ≡ true → most_bytes ≤ length room.old }
         ensures done { (k : ℕ) → IsDone D.took D.is_full N.page_bytes k (Some self.old) door.old
             (event_of home event.entry) (told_reply result) (Some self.new) door.new }
         ensures left { D.is_left door.new }

@@ -1,6 +1,7 @@
 -- What the pages of a machine begin with.
 use Rattle.std.specs.Prelude.{◌≡◌, ℕ, ◌<◌, ◌≤◌, ◌==◌, List, [], ◌∷◌, if◌then◌else◌, slice_index}
 use Rattle.hp_model.specs.declared.naming.Naming.{Ghosts}
+use Rattle.hp_model.specs.Profile.{most_frames}
 use Rattle.hp_nodes.specs.declared.blanks.Blanks.{Blanks}
 use Rattle.hp_nodes.specs.declared.blanks.NodeBlanks.{NodeBlanks}
 
@@ -15,7 +16,7 @@ AreFrames frames counts = (k : ℕ) → k < 4 → frames k ≡ slice_index count
 -- ledgers with a part for each frame of a node, and all those frames, of so many bytes
 pub record IsNode (node count page_bytes : ℕ) (b : NodeBlanks) : Type 0 where
   pub count_is : b.count ≡ count
-  pub few : count ≤ 65536
+  pub few : count ≤ most_frames
   pub claims_are : b.claims.parts ≡ count
   pub pages_are : b.pages.parts ≡ count
   pub node_is : b.stock.node ≡ node

@@ -1,5 +1,6 @@
 //! What the pages of a machine are made of and count in.
 ghost use Rattle.std.specs.Prelude.{◌≡◌, ◌≤◌, length, slice_index, All, IfOk};
+ghost use Rattle.hp_model.specs.Profile.{most_frames};
 ghost use Rattle.hp_nodes.specs.Ledgers.{AreFrames, AreFull, IsNode, counts_of};
 
 use hp_frames::Stock;
@@ -26,7 +27,7 @@ pub struct Blanks {
 
 impl NodeBlanks {
     fn new(alloc: Global, node: u8, count: u64, page_bytes: usize) -> Result<Self, AllocError>
-        requires { count ≤ 65536 }
+        requires { count ≤ most_frames }
         ensures { IfOk result (λ b. IsNode node count page_bytes b) }
     {
         let stock = Stock::new(alloc, node, count, page_bytes)?;
@@ -41,9 +42,9 @@ impl NodeBlanks {
 
 // The frames of a node, and none where there is no such node.
 fn count_at(frames: &[u64], node: usize) -> u64
-    requires { All (λ f. f ≤ 65536) frames.now }
+    requires { All (λ f. f ≤ most_frames) frames.now }
     ensures count { result ≡ slice_index frames.now node }
-    ensures few { result ≤ 65536 }
+    ensures few { result ≤ most_frames }
 {
     if node < frames.len() { frames[node] } else { 0 }
 }
@@ -55,7 +56,7 @@ impl Blanks {
     /// error is answered.
     pub fn new(alloc: Global, frames: &[u64], page_bytes: usize) -> Result<Self, AllocError>
         requires few { length frames.now ≤ 4 }
-        requires small { All (λ f. f ≤ 65536) frames.now }
+        requires small { All (λ f. f ≤ most_frames) frames.now }
         ensures frames { IfOk result (λ b. AreFrames (counts_of b) frames.now) }
         ensures full { IfOk result (λ b. AreFull page_bytes b) }
     {

@@ -6,6 +6,7 @@ ghost use Rattle.hp_nodes.specs.Ledgers.{AreAll, AreFrames};
 ghost use Rattle.hp_nodes.specs.Moves.{take_by, put_by, puts_at, grow_by, shrink_by, add_surplus_by, give_back_by, promote_by, demote_by};
 ghost use Rattle.std.specs.Fn.{iterate};
 ghost use Rattle.hp_model.specs.pool.NodeRows.{IsRow, used, after, at_row, lowest, near, some_has, row_at, taken, taken_times, surplus_added, grown, shrunk, promoted, demoted, given_back, sum_row, free_of, total_of, take_row};
+ghost use Rattle.hp_model.specs.Profile.{most_frames, most_frames_in_all};
 
 use crate::node::Node;
 use crate::rounds::{grow_each, having, least, shrink_each};
@@ -49,7 +50,7 @@ impl<N: Naming> NodeLists<N> {
     pub fn new(alloc: Global, frames: &[u64], claims: ClaimSet<N>) -> Result<Self, AllocError>
         requires some { 0 < length frames.now }
         requires few { length frames.now ≤ 4 }
-        requires small { All (λ f. f ≤ 65536) frames.now }
+        requires small { All (λ f. f ≤ most_frames) frames.now }
         requires claims { AreAll N.frames claims }
         requires frames { AreFrames N.frames frames.now }
         ensures { IfOk result (λ s. s ≡ idle_nodes frames.now) }
@@ -102,7 +103,7 @@ impl<N: Naming> NodeLists<N> {
         ensures free { result.free ≤ result.total }
         ensures surp { result.surp ≤ result.total }
         ensures total { result.total ≤ result.frames }
-        ensures few { result.frames ≤ 262144 }
+        ensures few { result.frames ≤ most_frames_in_all }
     {
         let mut sums = NodeRow {
             frames: 0,

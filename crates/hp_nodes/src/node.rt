@@ -1,6 +1,7 @@
 //! One node: its row.
 ghost use Rattle.std.specs.Prelude.{◌≡◌, ◌+◌, ◌-◌, ◌<◌, ◌≤◌};
 ghost use Rattle.hp_model.specs.pool.NodeRows.{has, used, take_row, IsRow};
+ghost use Rattle.hp_model.specs.Profile.{most_frames};
 ghost use Rattle.hp_nodes.specs.Moves.{amount, take_by, put_by, grow_by, shrink_by, add_surplus_by, give_back_by, promote_by, demote_by};
 
 use hp_model::node::{Kind, NodeRow};
@@ -26,7 +27,7 @@ impl Model for Node {
 impl Node {
     /// All frames are idle.
     pub fn new(frames: u64) -> Self
-        requires { frames ≤ 65536 }
+        requires { frames ≤ most_frames }
         ensures { result ≡ record { frames = frames; total = 0; free = 0; surp = 0 } }
     {
         Node {

@@ -6,6 +6,7 @@ ghost use Rattle.hp_model.specs.pool.NodeRows.{row_at, total_of, free_of, surp_o
 ghost use Rattle.hp_model.specs.pool.Pool.{puts_from, released, section};
 ghost use Rattle.hp_model.specs.pool.PoolCounts.{IsSettled, counts_of};
 ghost use Rattle.hp_model.specs.pool.Resize.{set_nr, node_count};
+ghost use Rattle.hp_model.specs.Profile.{most_frames, most_overcommit};
 ghost use Rattle.hp_nodes.specs.Ledgers.{AreFrames};
 ghost use Rattle.hp_pool.specs.Ledgers.{AreLedgers};
 ghost use Rattle.hp_pool.specs.Sums.{idle_pool};
@@ -53,7 +54,7 @@ impl<N: Naming> OwnPool<N> {
     pub fn new(alloc: Global, frames: &[u64], blanks: Blanks) -> Result<Self, AllocError>
         requires some { 0 < length frames.now }
         requires few { length frames.now ≤ 4 }
-        requires small { All (λ f. f ≤ 65536) frames.now }
+        requires small { All (λ f. f ≤ most_frames) frames.now }
         requires ledgers { AreLedgers N.Naming blanks }
         requires frames { AreFrames N.frames frames.now }
         ensures { IfOk result (λ p. p ≡ idle_pool frames.now) }
@@ -111,7 +112,7 @@ impl<N: Naming> OwnPool<N> {
 
     /// Sets how many surplus pages may be made. It changes no page.
     pub fn set_overcommit(&mut self, n: u64)
-        requires within { n ≤ 4294967295 }
+        requires within { n ≤ most_overcommit }
         requires settled { IsSettled self.old }
         ensures moved { self.new ≡ record self.old { overcommit = n } }
         ensures settled { IsSettled self.new }

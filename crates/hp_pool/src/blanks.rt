@@ -1,5 +1,6 @@
 //! What a machine is made of, before any type stands for it.
 ghost use Rattle.std.specs.Prelude.{◌≡◌, ◌≤◌, length, All, IfOk};
+ghost use Rattle.hp_model.specs.Profile.{most_frames};
 ghost use Rattle.hp_nodes.specs.Ledgers.{AreFrames, AreFull, counts_of};
 ghost use Rattle.hp_pool.specs.Ledgers.{IsWhole};
 
@@ -22,7 +23,7 @@ impl Blanks {
     /// error is answered.
     pub fn new(alloc: Global, frames: &[u64], page_bytes: usize) -> Result<Self, AllocError>
         requires few { length frames.now ≤ 4 }
-        requires small { All (λ f. f ≤ 65536) frames.now }
+        requires small { All (λ f. f ≤ most_frames) frames.now }
         ensures whole { IfOk result (λ b. IsWhole b.permits) }
         ensures frames { IfOk result (λ b. AreFrames (counts_of b.nodes) frames.now) }
         ensures full { IfOk result (λ b. AreFull page_bytes b.nodes) }

@@ -6,6 +6,7 @@ ghost use Rattle.hp_model.specs.pool.Grant.{can_grant, granted};
 ghost use Rattle.hp_model.specs.pool.Pool.{take_node, page_taken, pages_taken, kept_times, released, settled};
 ghost use Rattle.hp_model.specs.pool.PoolCounts.{IsSettled, counts_of, rsvd, used};
 ghost use Rattle.hp_model.specs.pool.Resize.{set_nr, node_count};
+ghost use Rattle.hp_model.specs.Profile.{most_frames, most_overcommit};
 ghost use Rattle.hp_nodes.specs.Ledgers.{AreAll, AreFrames};
 ghost use Rattle.hp_pool.specs.Ledgers.{IsLedger};
 ghost use Rattle.hp_pool.specs.Sums.{idle_pool};
@@ -72,7 +73,7 @@ impl<N: Naming> Pool<N> {
     ) -> Result<Self, AllocError>
         requires some { 0 < length frames.now }
         requires few { length frames.now ≤ 4 }
-        requires small { All (λ f. f ≤ 65536) frames.now }
+        requires small { All (λ f. f ≤ most_frames) frames.now }
         requires permits { IsLedger N.permits permits }
         requires claims { AreAll N.frames claims }
         requires frames { AreFrames N.frames frames.now }
@@ -218,7 +219,7 @@ impl<N: Naming> Pool<N> {
 
     /// Sets how many surplus pages may be made. It changes no page.
     pub fn set_overcommit(&mut self, n: u64)
-        requires within { n ≤ 4294967295 }
+        requires within { n ≤ most_overcommit }
         requires settled { IsSettled self.old }
         ensures moved { self.new ≡ record self.old { overcommit = n } }
         ensures settled { IsSettled self.new }

@@ -2,6 +2,7 @@
 use Rattle.std.specs.Prelude.{◌≡◌, ◌≤◌, ◌++◌, ℕ, Bool, true, false, List, [], Option, Some, None, codes}
 use Rattle.std.specs.Io.KnownBytes.{Appends}
 use Rattle.hp_model.specs.text.Writing.{meminfo_text}
+use Rattle.hp_model.specs.Profile.{most_frames_in_all, most_page_bytes}
 use Rattle.hp_wire.specs.Sent.{AppendsFront}
 use Rattle.hp_serving.specs.declared.fault.ServeFault.{ServeFault}
 use Rattle.hp_serving.specs.declared.fault.ServeFault.TheVariants.{Memory, Write, Network}
@@ -17,7 +18,7 @@ line_of_fault Network = codes "hugetlbd: network failed\n"
 
 -- the counts and the page are those of a machine
 abbrev pub IsOfMachine : Closed → Type 0
-IsOfMachine closed = (closed.page ≤ 2097152) × (closed.counts.total ≤ 262144)
+IsOfMachine closed = (closed.page ≤ most_page_bytes) × (closed.counts.total ≤ most_frames_in_all)
 
 abbrev pub text_of_audit : Option Bool → List ℕ
 text_of_audit None = []

@@ -1,5 +1,6 @@
 //! What sessions are opened on.
 ghost use Rattle.std.specs.Prelude.{◌≤◌, IfOk};
+ghost use Rattle.hp_model.specs.Profile.{most_page_bytes};
 ghost use Rattle.hp_serving.specs.Ended.{IsOfMachine};
 ghost use Rattle.hp_serving.specs.declared.host.Closed.{Closed as TheClosed};
 
@@ -27,7 +28,7 @@ pub trait Host {
     fn open(&self, alloc: Global) -> Result<Self::Session, AllocError>
         ensures opened { IfOk result Self.is_opened }
         ensures ready { IfOk result Self.Session.is_ready }
-        ensures page { IfOk result (λ session. Self.Session.page session ≤ 2097152) };
+        ensures page { IfOk result (λ session. Self.Session.page session ≤ most_page_bytes) };
 
     /// Ends a session.
     fn finish(session: Self::Session) -> Self::Told

@@ -1,6 +1,7 @@
 //! A session on a machine that threads share.
 ghost use Rattle.std.specs.Prelude.{◌≡◌, ◌+◌, ◌<◌, ◌≤◌, ◌==◌, [], true, length, IfOk, IfSome};
 ghost use Rattle.hp_model.specs.threads.JointRun.{option_cons};
+ghost use Rattle.hp_model.specs.Profile.{most_page_bytes};
 ghost use Rattle.hp_sessions.specs.Calls.{noted};
 
 mod entering;
@@ -57,7 +58,7 @@ impl<'a, N: Naming, R: Wait, G: Gate, const K: usize> Session<'a, N, R, G, K> {
         ensures slots { IfOk result (λ s. s.slots ≡ shared.entry.now.slots) }
         ensures none { IfOk result (λ s. s.receipts ≡ []) }
         ensures room { IfOk result (λ s. (K == 1) ≡ true → s.room ≡ room) }
-        ensures page { N.page_bytes ≤ 2097152 }
+        ensures page { N.page_bytes ≤ most_page_bytes }
     {
         let _bytes = shared.page_bytes();
         let mut receipts = Vec::new(alloc);

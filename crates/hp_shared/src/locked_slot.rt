@@ -7,7 +7,7 @@ ghost use Rattle.hp_model.specs.files.Page.{Page as PageValue};
 ghost use Rattle.hp_model.specs.machine.Copying.{reply_has_names};
 ghost use Rattle.hp_model.specs.machine.Event.{has_maps_of};
 ghost use Rattle.hp_model.specs.machine.Told.{told_reply};
-ghost use Rattle.hp_model.specs.Profile.{most_tasks};
+ghost use Rattle.hp_model.specs.Profile.{most_tasks, most_bytes};
 ghost use Rattle.hp_model.specs.text.Writing.{IsWithinLimits};
 ghost use Rattle.hp_laws.specs.Answers.{lists_names};
 ghost use Rattle.hp_locked.specs.Told.{IsReceipt};
@@ -156,7 +156,7 @@ impl<N: Naming, T: Trail<SlotEntry>> Slot<N, T> {
         requires emptied { (s : StoreValue) → D.emptied s ≡ record s { going = [] } }
         requires ready { D.is_ready door.old }
         requires page_bytes { page_bytes ≡ N.page_bytes }
-        requires room { shows_bytes event ≡ true → 256 ≤ length room.old }
+        requires room { shows_bytes event ≡ true → most_bytes ≤ length room.old }
         requires apart { lists_names (event_of home event) ≡ false }
         requires noted { AreEventsToNote self.old.entries (event_of home event) noted }
         ensures done { IsSlotEvent (D.is_full door.new) N.page_bytes self.old self.new
@@ -211,7 +211,7 @@ impl<N: Naming, T: Trail<SlotEntry>> Slot<N, T> {
         requires emptied { (s : StoreValue) → D.emptied s ≡ record s { going = [] } }
         requires ready { D.is_ready door.old }
         requires page_bytes { page_bytes ≡ N.page_bytes }
-        requires room { shows_bytes event ≡ true → 256 ≤ length room.old }
+        requires room { shows_bytes event ≡ true → most_bytes ≤ length room.old }
         requires apart { lists_names (event_of home event) ≡ false }
         requires unkept { T.keeps ≡ false }
         ensures done { IsSlotEvent (D.is_full door.new) N.page_bytes self.old self.new

@@ -13,12 +13,14 @@ ghost use Rattle.hp_subpool.specs.Subpool.{Subpool as ShareValue};
 ghost use Rattle.hp_model.specs.declared.answer.Answer.TheVariants.{Done};
 ghost use Rattle.hp_model.specs.declared.event.SlotEvent.TheVariants.{ExitMaps, ForkMaps};
 ghost use Rattle.hp_model.specs.machine.Event.{has_maps_of};
+ghost use Rattle.hp_model.specs.Profile.{most_bytes};
 ghost use Rattle.hp_shared.specs.Slots.{IsActedOr, Went, is_trace_full};
 
 use hp_events::MountEvent;
 use hp_locked::SessionDoor;
 use hp_model::answer::{Answer, Reply};
 use hp_model::naming::Naming;
+use hp_model::profile::MOST_BYTES;
 use hp_model::refusal::Refusal;
 use hp_model::told::Told;
 use hp_mount::Mount;
@@ -48,7 +50,7 @@ pub(crate) fn act<
     requires emptied { (s : StoreValue) → D.emptied s ≡ record s { going = [] } }
     requires ready { D.is_ready door.old }
     requires page_bytes { page_bytes ≡ N.page_bytes }
-    requires room { shows_bytes event ≡ true → 256 ≤ length room.old }
+    requires room { shows_bytes event ≡ true → most_bytes ≤ length room.old }
     ensures done { (k : ℕ) → IsActedOr (D.is_full door.new) N.page_bytes k mount.old
         (event_of home event.entry)
         (told_reply result) (D.asked door.new) mount.new }
@@ -119,11 +121,11 @@ fn copied_answer(told: &Told<'_>) -> Answer
 }
 
 fn copied_bytes(bytes: &[u8]) -> Answer
-    requires { length bytes.now ≤ 256 }
+    requires { length bytes.now ≤ most_bytes }
     ensures { result ≡ Bytes (length bytes.now) (bytes.now
-        ++ replicate (256 - length bytes.now) 0) }
+        ++ replicate (most_bytes - length bytes.now) 0) }
 {
-    let mut all = [0u8; 256];
+    let mut all = [0u8; MOST_BYTES];
     let (front, _) = all.split_at_mut(bytes.len());
     front.copy_from_slice(bytes);
     Answer::Bytes {

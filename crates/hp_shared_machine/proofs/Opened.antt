@@ -12,7 +12,7 @@ use Rattle.hp_mount_door.specs.Door.{IsReady}
 use Rattle.hp_pool.specs.Sums.{idle_pool}
 use Rattle.std.proofs.lemmas.List.{length-map}
 use Rattle.hp_nodes.specs.Ledgers.{AreFrames}
-use Rattle.hp_trail.specs.Keeping.{Keeping, extra_if, kept_if, left_if, opened_if}
+use Rattle.hp_trail.specs.Keeping.{Keeping, extra_if, kept_if, left_if, opened_if, most_extra}
 
 -- an opened trail has nothing in it, and its closing places
 pub is_fresh : (X : Type 0) (keeps : Bool) (places extra : ℕ) → IsFresh (kept_if keeps (opened_if {X = X} keeps places extra))
@@ -31,7 +31,7 @@ is_empty : (X : Type 0) (keeps : Bool) (places extra : ℕ) → (opened_if {X = 
 is_empty X true places extra = refl
 is_empty X false places extra = refl
 
-pub has_extra : (X : Type 0) (keeps : Bool) (places extra : ℕ) → extra ≤ 524288 → extra ≤ extra_if keeps (opened_if {X = X} keeps places extra)
+pub has_extra : (X : Type 0) (keeps : Bool) (places extra : ℕ) → extra ≤ most_extra → extra ≤ extra_if keeps (opened_if {X = X} keeps places extra)
 has_extra X true places extra few = omega arith
 has_extra X false places extra few = few
 
@@ -46,7 +46,7 @@ pub is_empty_ok : (X : Type 0) {E : Type 0} (keeps : Bool) (places extra : ℕ) 
 is_empty_ok X keeps places extra (Ok t) is = ap (λ (x : Keeping X). x.entries) is ∙ is_empty X keeps places extra
 is_empty_ok X keeps places extra (Err e) is = tt
 
-pub has_extra_ok : (X : Type 0) {E : Type 0} (keeps : Bool) (places extra : ℕ) (r : Result (Keeping X) E) → extra ≤ 524288 → IfOk r (λ t. t ≡ opened_if keeps places extra)
+pub has_extra_ok : (X : Type 0) {E : Type 0} (keeps : Bool) (places extra : ℕ) (r : Result (Keeping X) E) → extra ≤ most_extra → IfOk r (λ t. t ≡ opened_if keeps places extra)
     → IfOk r (λ t. extra ≤ extra_if keeps t)
 has_extra_ok X keeps places extra (Ok t) few is = subst (λ x. extra ≤ extra_if keeps x) (sym is) (has_extra X keeps places extra few)
 has_extra_ok X keeps places extra (Err e) few is = tt

@@ -9,6 +9,7 @@ use Rattle.hp_model.specs.machine.Plan.{Slot}
 use Rattle.hp_model.specs.machine.State.{State, slot_at}
 use Rattle.hp_model.specs.threads.JointRun.{AreRuns, Trails}
 use Rattle.hp_model.specs.threads.LocalRun.{IsLocalRun}
+use Rattle.hp_model.specs.Profile.{most_frames, most_page_bytes, most_slots}
 use Rattle.hp_locked.specs.Views.{frames_list}
 use Rattle.hp_shared.specs.Slots.{slot_start}
 use Rattle.hp_system.specs.Kept.{Machine, all_free, machine_of}
@@ -22,11 +23,11 @@ pub record SharedView : Type 0 where
 pub record IsSharedMachine (bytes : ℕ) (frames : ℕ → ℕ) (s : SharedView) : Type 0 where
   pub size : s.page_size ≡ bytes
   pub some : 0 < s.page_size
-  pub most : s.page_size ≤ 2097152
+  pub most : s.page_size ≤ most_page_bytes
   pub any : 0 < s.slots
-  pub few : s.slots ≤ 64
+  pub few : s.slots ≤ most_slots
   pub nodes : length (frames_list frames) ≤ 4
-  pub small : All (λ f. f ≤ 65536) (frames_list frames)
+  pub small : All (λ f. f ≤ most_frames) (frames_list frames)
 
 -- each slot's trail is a run of it, from its start to this mount
 pub record AreGathered (size : ℕ) (trails : List (List SlotEntry)) (mounts : List Slot) : Type 0 where

@@ -4,6 +4,7 @@ ghost use Rattle.hp_locked.specs.Views.{frames_list};
 ghost use Rattle.hp_model.specs.machine.Machine.{start};
 ghost use Rattle.hp_model.specs.machine.Settled.{IsSettledState};
 ghost use Rattle.hp_model.specs.machine.State.{State};
+ghost use Rattle.hp_model.specs.Profile.{most_frames_in_all, most_page_bytes};
 ghost use Rattle.hp_shared_machine.specs.Joined.{AreJoined, entries_of};
 ghost use Rattle.hp_shared_machine.specs.Sharing.{EndsRuns, WasJoined};
 ghost use Rattle.hp_system.specs.Kept.{IsReadyMachine, Machine};
@@ -72,8 +73,8 @@ impl<N: Naming, const K: usize> Shared<N, K> {
     /// the memory to join them is, and then the machine is closed as well.
     pub fn close(self, alloc: Global, told: Vec<Vec<Receipt>>) -> Result<Closed, AllocError>
         ensures page { IfOk result (λ c. c.page ≡ self.page_size) }
-        ensures small { IfOk result (λ c. c.page ≤ 2097152) }
-        ensures few { IfOk result (λ c. c.counts.total ≤ 262144) }
+        ensures small { IfOk result (λ c. c.page ≤ most_page_bytes) }
+        ensures few { IfOk result (λ c. c.counts.total ≤ most_frames_in_all) }
         ensures audited { IfOk result (λ c. is_some c.audit ≡ (K == 1)) }
         ensures joined { IfOk result (λ c. c.audit ≡ Some true → WasJoined
             (start (frames_list N.frames) self.page_size self.slots) (lists told.items)

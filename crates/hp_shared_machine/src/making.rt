@@ -3,17 +3,17 @@ ghost use Rattle.std.specs.Prelude.{◌≡◌, ◌<◌, ◌≤◌, ◌==◌, [],
 ghost use Rattle.std.specs.List.{sum};
 ghost use Rattle.hp_model.specs.machine.Machine.{open_mount};
 ghost use Rattle.hp_model.specs.pool.PoolCounts.{IsSettled};
-ghost use Rattle.hp_model.specs.Profile.{most_tasks};
+ghost use Rattle.hp_model.specs.Profile.{most_tasks, most_frames, most_frames_in_all, most_places};
 ghost use Rattle.hp_locked.specs.Views.{IsFresh};
-ghost use Rattle.hp_trail.specs.Keeping.{extra_if, kept_if, left_if};
+ghost use Rattle.hp_trail.specs.Keeping.{extra_if, kept_if, left_if, most_extra};
 
 use crossbeam_utils::CachePadded;
 use hp_model::entry::SlotEntry;
 use hp_model::naming::Naming;
+use hp_model::profile::MOST_TASKS;
 use hp_mount::Mount;
 use hp_own_pool::OwnPool;
 use hp_shared::Slot;
-use hp_tasks::MOST_TASKS;
 use hp_trail::trace::Trace;
 use std::alloc::{AllocError, Global};
 use std::sync::Mutex;
@@ -21,9 +21,9 @@ use std::sync::Mutex;
 // The frames of all nodes.
 pub(crate) fn all_frames(frames: &[u64]) -> usize
     requires few { length frames.now ≤ 4 }
-    requires small { All (λ f. f ≤ 65536) frames.now }
+    requires small { All (λ f. f ≤ most_frames) frames.now }
     ensures all { result ≡ sum frames.now }
-    ensures few { result ≤ 262144 }
+    ensures few { result ≤ most_frames_in_all }
 {
     let mut all = 0;
     for count in frames {
@@ -38,8 +38,8 @@ pub(crate) fn open_trail<E: Drop, const K: usize>(
     places: usize,
     extra: usize,
 ) -> Result<Trace<E, K>, AllocError>
-    requires places { places ≤ 16777216 }
-    requires extra { extra ≤ 524288 }
+    requires places { places ≤ most_places }
+    requires extra { extra ≤ most_extra }
     ensures none { IfOk result (λ t. t.entries ≡ []) }
     ensures fresh { IfOk result (λ t. IsFresh (kept_if (K == 1) t)) }
     ensures enough { IfOk result (λ t. extra ≤ extra_if (K == 1) t) }
@@ -72,7 +72,7 @@ pub(crate) fn open_trails<const K: usize>(
     slots: usize,
     places: usize,
 ) -> Result<Vec<FreshTrail<K>>, AllocError>
-    requires places { places ≤ 16777216 }
+    requires places { places ≤ most_places }
     ensures count { IfOk result (λ v. vec_len v ≡ slots) }
 {
     let mut trails = Vec::with_capacity(alloc, slots)?;

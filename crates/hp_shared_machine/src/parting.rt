@@ -1,5 +1,6 @@
 //! The parts of a machine once no thread has them.
 ghost use Rattle.std.specs.Prelude.{◌≡◌, ◌≤◌, ◌==◌, [], true, length, vec_len, vec_capacity};
+ghost use Rattle.hp_model.specs.Profile.{most_slots};
 ghost use Rattle.hp_shared_machine.specs.Sharing.{AreGathered};
 ghost use Rattle.hp_trail.specs.Walk.{lists};
 
@@ -18,9 +19,9 @@ pub(crate) fn take_slots<N: Naming, const K: usize>(
     mounts: &mut Vec<Option<Mount<N>>>,
     trails: &mut Vec<Vec<SlotEntry>>,
 ) -> bool
-    requires few { vec_len slots ≤ 64 }
-    requires mounts_fit { 64 ≤ vec_capacity mounts.old }
-    requires trails_fit { 64 ≤ vec_capacity trails.old }
+    requires few { vec_len slots ≤ most_slots }
+    requires mounts_fit { most_slots ≤ vec_capacity mounts.old }
+    requires trails_fit { most_slots ≤ vec_capacity trails.old }
     requires no_mounts { mounts.old.items ≡ [] }
     requires no_trails { trails.old.items ≡ [] }
     ensures count { length mounts.new.items ≡ vec_len slots }

@@ -2,6 +2,7 @@
 ghost use Rattle.std.specs.Prelude.{◌≡◌, ◌<◌, ◌≤◌, ◌==◌, [], false, true, length, vec_len, vec_capacity, All, IfOk, IfSome, None};
 ghost use Rattle.hp_locked.specs.Views.{frames_list};
 ghost use Rattle.hp_model.specs.machine.Machine.{start};
+ghost use Rattle.hp_model.specs.Profile.{most_frames, most_page_bytes, most_places, most_slots};
 ghost use Rattle.hp_mount_door.specs.Door.{IsReady as IsReadyPool};
 ghost use Rattle.hp_nodes.specs.Ledgers.{AreFrames};
 ghost use Rattle.hp_pool.specs.Ledgers.{AreLedgers};
@@ -16,11 +17,12 @@ use crossbeam_utils::CachePadded;
 use hp_locked::{Core, NodeLocks};
 use hp_model::entry::{PoolEntry, SlotEntry, TableEntry};
 use hp_model::naming::Naming;
+use hp_model::profile::MOST_TASKS;
 use hp_own_pool::OwnPool;
 use hp_pool::Blanks;
 use hp_shared::{Slot, Table};
 use hp_system::{Parts, System};
-use hp_tasks::{MOST_TASKS, TaskTable};
+use hp_tasks::TaskTable;
 use hp_trail::trace::Trace;
 use std::alloc::{AllocError, Global};
 use std::marker::Model;
@@ -82,12 +84,12 @@ impl<N: Naming, const K: usize> Shared<N, K> {
         requires some { 0 < length frames.now }
         requires few { length frames.now ≤ 4 }
         requires each { All (λ f. 0 < f) frames.now }
-        requires small { All (λ f. f ≤ 65536) frames.now }
+        requires small { All (λ f. f ≤ most_frames) frames.now }
         requires slots { 0 < slots }
-        requires few_slots { slots ≤ 64 }
-        requires places { places ≤ 16777216 }
+        requires few_slots { slots ≤ most_slots }
+        requires places { places ≤ most_places }
         requires bytes { 0 < page_bytes }
-        requires few_bytes { page_bytes ≤ 2097152 }
+        requires few_bytes { page_bytes ≤ most_page_bytes }
         requires page_bytes { page_bytes ≡ N.page_bytes }
         requires ledgers { AreLedgers N.Naming blanks }
         requires frames { AreFrames N.frames frames.now }
@@ -138,7 +140,7 @@ impl<N: Naming, const K: usize> Shared<N, K> {
     pub fn page_bytes(&self) -> u64
         ensures bytes { result ≡ self.now.page_size }
         ensures named { result ≡ N.page_bytes }
-        ensures most { result ≤ 2097152 }
+        ensures most { result ≤ most_page_bytes }
     {
         self.page_bytes as u64
     }
@@ -147,7 +149,7 @@ impl<N: Naming, const K: usize> Shared<N, K> {
     #[inline(always)]
     pub fn count(&self) -> usize
         ensures count { result ≡ self.now.slots }
-        ensures few { result ≤ 64 }
+        ensures few { result ≤ most_slots }
     {
         self.slots.len()
     }

@@ -1,21 +1,20 @@
 //! Room for the parts of all slots.
 ghost use Rattle.std.specs.Prelude.{◌≡◌, ◌≤◌, [], vec_capacity};
+ghost use Rattle.hp_model.specs.Profile.{most_slots};
 
 use hp_model::entry::SlotEntry;
 use hp_model::naming::Naming;
+use hp_model::profile::MOST_SLOTS;
 use hp_mount::Mount;
 use std::alloc::{AllocError, Global};
-
-/// The most slots that there may be.
-const MOST_SLOTS: usize = 64;
 
 // Room for the mounts and the trails of all slots, which is made at the start. It stands under a lock, since what holds
 // permits is not `Sync`.
 pub(crate) struct Spare<N: Naming> {
     mounts: Vec<Option<Mount<N>>>,
     trails: Vec<Vec<SlotEntry>>,
-    ghost mounts_fit: { 64 ≤ vec_capacity mounts },
-    ghost trails_fit: { 64 ≤ vec_capacity trails },
+    ghost mounts_fit: { most_slots ≤ vec_capacity mounts },
+    ghost trails_fit: { most_slots ≤ vec_capacity trails },
     ghost no_mounts: { mounts.items ≡ [] },
     ghost no_trails: { trails.items ≡ [] },
 }
@@ -35,8 +34,8 @@ impl<N: Naming> Spare<N> {
 
     // For mounts and for trails.
     pub(crate) fn into_room(self) -> (Vec<Option<Mount<N>>>, Vec<Vec<SlotEntry>>)
-        ensures mounts_fit { 64 ≤ vec_capacity result.0 }
-        ensures trails_fit { 64 ≤ vec_capacity result.1 }
+        ensures mounts_fit { most_slots ≤ vec_capacity result.0 }
+        ensures trails_fit { most_slots ≤ vec_capacity result.1 }
         ensures no_mounts { result.0.items ≡ [] }
         ensures no_trails { result.1.items ≡ [] }
     {

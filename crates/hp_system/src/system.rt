@@ -5,6 +5,7 @@ ghost use Rattle.hp_model.specs.pool.PoolCounts.{IsSettled, Pool as PoolValue, c
 ghost use Rattle.hp_nodes.specs.Ledgers.{AreFrames};
 ghost use Rattle.hp_pool.specs.Ledgers.{AreLedgers};
 ghost use Rattle.hp_model.specs.machine.SlotEvent.{has_maps};
+ghost use Rattle.hp_model.specs.Profile.{most_frames, most_frames_in_all};
 ghost use Rattle.hp_mount_door.specs.Door.{IsReady as IsReadyPool};
 ghost use Rattle.hp_system.specs.Event.{AllExit, AllGo};
 ghost use Rattle.hp_system.specs.Kept.{all_free, IsReadyMachine, machine_of};
@@ -58,7 +59,7 @@ impl<N: Naming> System<N> {
     ) -> Result<Self, AllocError>
         requires some { 0 < length frames.now }
         requires few { length frames.now ≤ 4 }
-        requires small { All (λ f. f ≤ 65536) frames.now }
+        requires small { All (λ f. f ≤ most_frames) frames.now }
         requires slots { 0 < slots }
         requires bytes { 0 < page_bytes }
         requires page_bytes { page_bytes ≡ N.page_bytes }
@@ -102,7 +103,7 @@ impl<N: Naming> System<N> {
         ensures counts { (left : PoolValue) × AllGo self.state.slots self.pool left
             × (result ≡ counts_of left) }
         ensures free { IsReadyMachine self → result ≡ all_free self.state }
-        ensures few { result.total ≤ 262144 }
+        ensures few { result.total ≤ most_frames_in_all }
     {
         let System {
             page_bytes: _,

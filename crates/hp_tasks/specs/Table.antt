@@ -23,17 +23,21 @@ abbrev pub has_task : ℕ → Slot → Bool
 has_task task None = false
 has_task task (Some e) = e.0 == task
 
--- how many tasks have this rest by 16384
+-- tasks' numbers are told apart by their rest by this
+abbrev pub rests : ℕ
+rests = 4 * most_tasks
+
+-- how many tasks have this rest
 abbrev pub count_of_rest : ℕ → Table → ℕ
-count_of_rest rest tasks = count_by (λ e. e.0 % 16384 == rest) tasks
+count_of_rest rest tasks = count_by (λ e. e.0 % rests == rest) tasks
 
 abbrev pub AreCounted : List Slot → (counts : List ℕ) → Type 0
-AreCounted slots counts = (rest : ℕ) → rest < 16384 → slice_index_or counts rest 0 ≡ count_of_rest rest (tasks_in slots)
+AreCounted slots counts = (rest : ℕ) → rest < rests → slice_index_or counts rest 0 ≡ count_of_rest rest (tasks_in slots)
 
 -- each task once, in room for twice as many slots as there may be tasks
 pub record IsTaskTable (slots : List Slot) (capacity total : ℕ) (counts : List ℕ) : Type 0 where
   pub once : HasEachOnce (tasks_in slots)
   pub room : 2 * most_tasks ≤ capacity
   pub count : total ≡ length (tasks_in slots)
-  pub long : length counts ≡ 16384
+  pub long : length counts ≡ rests
   pub counted : AreCounted slots counts

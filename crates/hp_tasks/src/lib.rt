@@ -3,4 +3,4 @@
 
 mod table;
 
-pub use table::{MOST_TASKS, TaskTable};
+pub use table::TaskTable;

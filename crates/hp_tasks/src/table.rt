@@ -1,11 +1,9 @@
 //! A task table over a `Vec`.
 
+use hp_model::profile::MOST_TASKS;
 use hp_model::refusal::Refusal;
 use std::alloc::{AllocError, Global};
 use std::marker::Model;
-
-/// The most tasks that there may be.
-pub const MOST_TASKS: usize = 4096;
 
 // Tasks stand in so many slots at most: as many are gaps, before the gaps are closed.
 const MOST_SLOTS: usize = 2 * MOST_TASKS;
@@ -40,19 +38,19 @@ impl Model for TaskTable {
         a.counts.value };
 }
 
-ghost use Rattle.std.specs.Prelude.{◌≡◌, ◌≢◌, ◌<◌, ◌%◌, ℕ, length, true, vec_capacity, [], IfOk, IfSome, Ok, Err, IsTrue, is_some, None, Some};
+ghost use Rattle.std.specs.Prelude.{◌≡◌, ◌≢◌, ◌<◌, ◌*◌, ◌%◌, ℕ, length, true, vec_capacity, [], IfOk, IfSome, Ok, Err, IsTrue, is_some, None, Some};
 ghost use Rattle.std.specs.List.{position};
 ghost use Rattle.hp_model.specs.declared.event.TableEvent.TheVariants.{Add, FindAndAdd, Remove};
 ghost use Rattle.hp_model.specs.declared.refusal.Refusal.TheVariants as Refusal;
 ghost use Rattle.hp_model.specs.machine.Accesses.{done_reply};
 ghost use Rattle.hp_model.specs.Profile.{most_tasks};
 ghost use Rattle.hp_model.specs.machine.Table.{home_of, added, removed, is_known, is_crowded, table_event};
-ghost use Rattle.hp_tasks.specs.Table.{AreCounted, has_task, slot_at, tasks_in};
+ghost use Rattle.hp_tasks.specs.Table.{AreCounted, has_task, slot_at, tasks_in, rests};
 
 // Which number stands for a task's.
 fn rest_of(task: u64) -> usize
-    ensures rest { result ≡ task % 16384 }
-    ensures below { result < 16384 }
+    ensures rest { result ≡ task % rests }
+    ensures below { result < rests }
 {
     (task % RESTS as u64) as usize
 }
@@ -99,9 +97,9 @@ fn note_all(places: &mut [u16; RESTS], slots: &[Slot]) {
 
 // So that there is a slot for one task more. Where there is none, the gaps are closed.
 fn make_slot(slots: &mut Vec<Slot>, places: &mut [u16; RESTS])
-    requires few { length (tasks_in slots.old.items) < 4096 }
+    requires few { length (tasks_in slots.old.items) < most_tasks }
     ensures tasks { tasks_in slots.new.items ≡ tasks_in slots.old.items }
-    ensures room { length slots.new.items < 8192 }
+    ensures room { length slots.new.items < 2 * most_tasks }
     ensures capacity { vec_capacity slots.new ≡ vec_capacity slots.old }
 {
     if slots.len() < MOST_SLOTS {
@@ -112,7 +110,7 @@ fn make_slot(slots: &mut Vec<Slot>, places: &mut [u16; RESTS])
 }
 
 impl TaskTable {
-    /// No task, and room for 4,096.
+    /// No task, and room for all that there may be.
     pub fn new(alloc: Global) -> Result<TaskTable, AllocError>
         ensures { IfOk result (λ t. t ≡ []) }
     {

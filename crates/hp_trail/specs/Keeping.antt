@@ -1,6 +1,7 @@
 -- What a trail keeps, and the room that it has.
-use Rattle.std.specs.Prelude.{◌≡◌, refl, ℕ, ◌+◌, ◌-◌, Bool, true, false, Option, None, Some, is_some, List, [], ◌∷◌, ◌++◌, length, nat_lt}
+use Rattle.std.specs.Prelude.{◌≡◌, refl, ℕ, ◌+◌, ◌-◌, ◌*◌, Bool, true, false, Option, None, Some, is_some, List, [], ◌∷◌, ◌++◌, length, nat_lt}
 use Rattle.std.proofs.lemmas.Bool.{true≢false}
+use Rattle.hp_model.specs.Profile.{most_frames_in_all}
 
 -- the entries so far, the places for entries of every kind, and those beyond for closing entries
 -- alone
@@ -8,6 +9,10 @@ pub record Keeping (X : Type 0) : Type 0 where
   pub entries : List X
   pub places : ℕ
   pub extra : ℕ
+
+-- the places that any trail may have for closing entries: two for each frame
+abbrev pub most_extra : ℕ
+most_extra = 2 * most_frames_in_all
 
 -- the places that no entry has
 abbrev pub places_left : {X : Type 0} → Keeping X → ℕ
@@ -43,7 +48,7 @@ left_if false k = None
 -- where nothing is kept, there are as many places for closing entries as any trail has
 abbrev pub extra_if : {X : Type 0} → Bool → Keeping X → ℕ
 extra_if true k = k.extra
-extra_if false k = 524288
+extra_if false k = most_extra
 
 -- nothing in it yet, with these places where entries are kept
 abbrev pub opened_if : {X : Type 0} → Bool → (places extra : ℕ) → Keeping X

@@ -1,6 +1,7 @@
 //! A trail that keeps its entries.
 ghost use Rattle.std.specs.Prelude.{◌≡◌, ◌≤◌, ◌+◌, [], Some, true, refl, IfOk, vec_len, vec_capacity};
-ghost use Rattle.hp_trail.specs.Keeping.{left_if_not, places_left};
+ghost use Rattle.hp_model.specs.Profile.{most_places};
+ghost use Rattle.hp_trail.specs.Keeping.{left_if_not, places_left, most_extra};
 
 use crate::trail::Trail;
 use std::alloc::{AllocError, Global};
@@ -28,8 +29,8 @@ impl<E> Model for Kept<E> {
 impl<E: Drop> Kept<E> {
     /// A trail with room for `places` entries, and for `extra` closing ones more.
     pub fn open(alloc: Global, places: usize, extra: usize) -> Result<Kept<E>, AllocError>
-        requires places { places ≤ 16777216 }
-        requires extra { extra ≤ 524288 }
+        requires places { places ≤ most_places }
+        requires extra { extra ≤ most_extra }
         ensures { IfOk result (λ k. k ≡ record { entries = []; places = places; extra = extra }) }
     {
         let mut items = Vec::new(alloc);

@@ -1,6 +1,7 @@
 //! A trail that keeps its entries or not, by a parameter of its type.
 ghost use Rattle.std.specs.Prelude.{◌≡◌, ◌≤◌, ◌==◌, true, IfOk};
-ghost use Rattle.hp_trail.specs.Keeping.{extra_if, kept_if, left_if, kept_if_keeps, left_if_not, opened_if};
+ghost use Rattle.hp_model.specs.Profile.{most_places};
+ghost use Rattle.hp_trail.specs.Keeping.{extra_if, kept_if, left_if, kept_if_keeps, left_if_not, opened_if, most_extra};
 
 use crate::kept::Kept;
 use crate::trail::Trail;
@@ -24,8 +25,8 @@ impl<E, const K: usize> Model for Trace<E, K> {
 impl<E: Drop, const K: usize> Trace<E, K> {
     /// A trail with room for `places` entries, and for `extra` closing ones more, where it keeps them.
     pub fn open(alloc: Global, places: usize, extra: usize) -> Result<Self, AllocError>
-        requires places { places ≤ 16777216 }
-        requires extra { extra ≤ 524288 }
+        requires places { places ≤ most_places }
+        requires extra { extra ≤ most_extra }
         ensures { IfOk result (λ t. t ≡ opened_if (K == 1) places extra) }
     {
         let kept = if K == 1 {

@@ -13,13 +13,14 @@ ghost use Rattle.hp_wire_lines.specs.Accesses.{is_access};
 use crate::ends::Sink;
 use crate::fault::RunFault;
 use crate::replies::Replies;
+use hp_model::profile::MOST_LINE_BYTES;
 use hp_model::refusal::Refusal;
 use hp_model::service::Service;
 use hp_model::step::Step;
 use hp_model::told::Told;
 use hp_text::pieces::first_long_piece;
 use hp_wire_lines::accesses::{loading, storing};
-use hp_wire_lines::reading::{LINE_LIMIT, LineKind, kind_of_line, step_of_word};
+use hp_wire_lines::reading::{LineKind, kind_of_line, step_of_word};
 use hp_wire_lines::words::Words;
 
 // The room for the bytes of a store that is read, or of a page that is shown: made once for many lines.
@@ -116,7 +117,7 @@ impl Replies {
             service.old service.new self.old self.new }
         ensures ready { S.is_ready service.new }
     {
-        if line.len() > LINE_LIMIT {
+        if line.len() > MOST_LINE_BYTES {
             return self.add_refusal(Refusal::LineTooLong);
         }
         match kind_of_line(line) {
@@ -223,7 +224,7 @@ impl Replies {
     {
         let mut lines = count;
         if held > 0 {
-            let refusal = if held <= LINE_LIMIT {
+            let refusal = if held <= MOST_LINE_BYTES {
                 Refusal::BadLine
             } else {
                 Refusal::LineTooLong

@@ -3,6 +3,7 @@ ghost use Rattle.std.specs.Prelude.{◌≡◌, ◌≤◌, ◌++◌, [], length, 
 ghost use Rattle.hp_model.specs.machine.Accesses.{bytes_reply, done_reply};
 ghost use Rattle.hp_model.specs.machine.Told.{told_reply};
 ghost use Rattle.hp_model.specs.text.Writing.{IsWithinLimits, line_of};
+ghost use Rattle.hp_model.specs.Profile.{most_bytes, most_page_bytes};
 ghost use Rattle.hp_wire.specs.Answered.{LosesNone};
 ghost use Rattle.hp_wire.specs.Sent.{Writes, WritesFront};
 ghost use Rattle.hp_wire.specs.Waiting.{HasRoomForOne};
@@ -28,19 +29,20 @@ pub struct Replies {
 
 impl Model for Replies {
     ghost use Rattle.std.specs.Prelude.{◌≤◌, vec_capacity};
+    ghost use Rattle.hp_model.specs.Profile.{most_page_bytes};
     ghost use Rattle.hp_wire.specs.Waiting.{Waiting};
 
     ghost Value = { Waiting };
 
     ghost view = { λ r. record { page = r.page; text = r.waiting.items } };
 
-    ghost invariant = { λ r. (r.page ≤ 2097152) × (131072 ≤ vec_capacity r.waiting) };
+    ghost invariant = { λ r. (r.page ≤ most_page_bytes) × (131072 ≤ vec_capacity r.waiting) };
 }
 
 impl Replies {
     /// No replies yet. All memory for their text is asked for here.
     pub fn new(alloc: Global, page: u64) -> Result<Replies, AllocError>
-        requires { page ≤ 2097152 }
+        requires { page ≤ most_page_bytes }
         ensures { IfOk result (λ replies. (replies.page ≡ page) × (replies.text ≡ [])) }
     {
         let waiting = Vec::with_capacity(alloc, ROOM)?;
@@ -62,7 +64,7 @@ impl Replies {
     /// Adds the text of what a load answered.
     #[inline(always)]
     pub fn add_loaded(&mut self, loaded: Result<&[u8], Refusal>)
-        requires few { IfOk loaded (λ bytes. length bytes.now ≤ 256) }
+        requires few { IfOk loaded (λ bytes. length bytes.now ≤ most_bytes) }
         requires room { HasRoomForOne self.old }
         ensures page { self.new.page ≡ self.old.page }
         ensures text { self.new.text ≡ self.old.text

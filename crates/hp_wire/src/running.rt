@@ -1,23 +1,22 @@
 //! Runs over the lines of an input.
 ghost use Rattle.std.specs.Prelude.{◌≡◌, ◌≢◌, ◌≤◌, [], IfErr, IfOk, OnOk};
 ghost use Rattle.std.specs.Io.KnownBytes.{IsAtEnd};
+ghost use Rattle.hp_model.specs.Profile.{most_page_bytes};
 ghost use Rattle.hp_wire.specs.Served.{ServesInput};
 
 use crate::ends::{Sink, Source};
 use crate::fault::RunFault;
 use crate::replies::Replies;
 use crate::unanswered::Unanswered;
+use hp_model::profile::MOST_INPUT_BYTES;
 use hp_model::service::Service;
 use std::alloc::{AllocError, Global};
-
-/// The most bytes that an input may have.
-pub const INPUT_LIMIT: u64 = 1_073_741_824;
 
 /// Answers the lines of the reader on the writer, one reply for each, and says how many lines there were.
 ///
 /// All memory but the service's is asked for before the first read, and all replies to the lines that were read are
-/// written before the next read. A line has at most 1,024 bytes, the input
-/// 1,073,741,824. `Memory` leaves everything as it was. After `Read` the lines that had ended are answered, and so
+/// written before the next read. A line has at most `MOST_LINE_BYTES`, the input
+/// `MOST_INPUT_BYTES`. `Memory` leaves everything as it was. After `Read` the lines that had ended are answered, and so
 /// after `TooLong` those that had ended within the limit. After `Write` the steps that were done stand, and a front
 /// of the text of their replies is written. A reader or a writer that cannot fail is never answered `Read` or
 /// `Write`.
@@ -27,7 +26,7 @@ pub fn run_lines<R: Source, W: Sink, S: Service>(
     writer: &mut W,
     service: &mut S,
 ) -> Result<u64, RunFault>
-    requires page { S.page service.old ≤ 2097152 }
+    requires page { S.page service.old ≤ most_page_bytes }
     requires ready { S.is_ready service.old }
     ensures served { ServesInput S.may_answer S.page R.remaining W.contents
         service.old service.new reader.old reader.new writer.old writer.new result }
@@ -45,7 +44,7 @@ pub fn run_lines<R: Source, W: Sink, S: Service>(
 
 // The room for what is read and for the replies.
 fn rooms(alloc: Global, page: u64) -> Result<(Unanswered, Replies), AllocError>
-    requires { page ≤ 2097152 }
+    requires { page ≤ most_page_bytes }
     ensures { IfOk result (λ x. (x.0 ≡ []) × (x.1.page ≡ page) × (x.1.text ≡ [])) }
 {
     let unanswered = Unanswered::new(alloc)?;
@@ -73,14 +72,14 @@ fn serve<R: Source, W: Sink, S: Service>(
 {
     let mut total = 0u64;
     let mut count = 0u64;
-    for _ in 0..INPUT_LIMIT + 2 {
-        let n = unanswered.read(reader, (INPUT_LIMIT + 1 - total) as usize)?;
+    for _ in 0..MOST_INPUT_BYTES + 2 {
+        let n = unanswered.read(reader, (MOST_INPUT_BYTES + 1 - total) as usize)?;
         let bytes = unanswered.bytes();
         if n == 0 {
             return replies.finish(bytes.len(), count, writer);
         }
         total += n as u64;
-        if total > INPUT_LIMIT {
+        if total > MOST_INPUT_BYTES {
             replies.answer_chunk(&bytes[..bytes.len() - 1], service, writer)?;
             return Err(RunFault::TooLong);
         }

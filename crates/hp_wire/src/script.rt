@@ -1,6 +1,7 @@
 //! Runs over the lines of a script.
 ghost use Rattle.std.specs.Prelude.{◌≡◌, ◌≤◌, IfErr, IfSome, OnOk};
 ghost use Rattle.hp_model.specs.machine.Promises.{IsPromisedStep};
+ghost use Rattle.hp_model.specs.Profile.{most_page_bytes};
 ghost use Rattle.hp_system.specs.Kept.{IsReadyMachine};
 ghost use Rattle.hp_wire.specs.Served.{AnswersInput, IsMemoryOrTooLong, ServesInput};
 
@@ -23,7 +24,7 @@ pub fn run_script<N: Naming, R: Source, W: Sink>(
     writer: &mut W,
     machine: &mut System<N>,
 ) -> Result<u64, RunFault>
-    requires page { machine.old.state.page_size ≤ 2097152 }
+    requires page { machine.old.state.page_size ≤ most_page_bytes }
     requires ready { IsReadyMachine machine.old }
     ensures served { ServesInput IsPromisedStep (λ state. state.page_size) R.remaining W.contents
         machine.old.state machine.new.state reader.old reader.new writer.old writer.new result }

@@ -5,7 +5,7 @@ ghost use Rattle.hp_wire.specs.Unanswered.{FailsToRead, Gets, GetsAt};
 
 use crate::ends::Source;
 use crate::fault::RunFault;
-use hp_wire_lines::reading::LINE_LIMIT;
+use hp_model::profile::MOST_LINE_BYTES;
 use std::alloc::{AllocError, Global};
 use std::marker::Model;
 
@@ -68,7 +68,7 @@ impl Unanswered {
         ensures { self.new ≡ take 1025 (drop (length self.old - left) self.old) }
     {
         let from = self.end - left;
-        self.end = left.min(LINE_LIMIT + 1);
+        self.end = left.min(MOST_LINE_BYTES + 1);
         move_to_front(&mut self.buffer, from, self.end);
     }
 }

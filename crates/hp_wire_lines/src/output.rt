@@ -2,6 +2,7 @@
 ghost use Rattle.std.specs.Prelude.{◌≡◌, ◌≤◌, ◌*◌, ◌++◌, codes, decimal, length};
 ghost use Rattle.hex.specs.Hex.{encode_lower};
 ghost use Rattle.hp_model.specs.text.Writing.{spaced, limit_text};
+ghost use Rattle.hp_model.specs.Profile.{most_bytes};
 ghost use Rattle.hp_text.specs.Output.{HasRoom, Adds};
 
 use hp_text::output::{push_byte, push_number};
@@ -40,7 +41,7 @@ pub fn push_limit(out: &mut Vec<u8>, limit: Option<u64>)
 
 /// Adds bytes in hex digits, in lower case.
 pub fn push_hex(out: &mut Vec<u8>, bytes: &[u8])
-    requires few { length bytes.now ≤ 256 }
+    requires few { length bytes.now ≤ most_bytes }
     requires room { HasRoom out.old 512 }
     ensures adds { Adds out.old out.new (encode_lower bytes.now) }
     ensures short { length (encode_lower bytes.now) ≤ 512 }

@@ -1,6 +1,7 @@
 //! What the words of a line say.
 ghost use Rattle.std.specs.Prelude.{◌≡◌, ◌≤◌, length};
 ghost use Rattle.hp_model.specs.text.Words.{word_at, sharing_at, intent_at, reserving_at, bytes_of_hex};
+ghost use Rattle.hp_model.specs.Profile.{most_line_bytes};
 ghost use Rattle.hp_wire_lines.specs.Words.{IsReadAs, Takes, last_hex};
 
 use crate::hex_digits::decode;
@@ -80,7 +81,7 @@ pub fn last_hex<'a>(words: &Words<'_>, room: &'a mut [u8]) -> Result<&'a [u8], R
 
 // The bytes of hex digits, in the front of the room. At least two digits.
 fn decoded<'a>(piece: &[u8], room: &'a mut [u8]) -> Result<&'a [u8], Refusal>
-    requires { (length piece.now ≤ 1024) × (length room.old ≡ 512) }
+    requires { (length piece.now ≤ most_line_bytes) × (length room.old ≡ 512) }
     ensures { IsReadAs (λ x. x.now) result (bytes_of_hex piece.now) }
 {
     if piece.is_empty() || piece.len() % 2 != 0 {

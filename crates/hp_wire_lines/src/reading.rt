@@ -2,6 +2,7 @@
 ghost use Rattle.std.specs.Prelude.{◌≡◌, ◌≤◌, length, false};
 ghost use Rattle.hp_wire_lines.specs.Accesses.{is_access, IsKind};
 ghost use Rattle.hp_model.specs.text.Reading.{step_of_bytes, step_of_command};
+ghost use Rattle.hp_model.specs.Profile.{most_line_bytes};
 
 use crate::command::{Command, command_of};
 use crate::commands::{
@@ -12,9 +13,6 @@ use crate::known::is_known;
 use crate::words::Words;
 use hp_model::refusal::Refusal;
 use hp_model::step::Step;
-
-/// The most bytes that a line may have.
-pub const LINE_LIMIT: usize = 1024;
 
 /// A load or a store, by the words after the line's first, or a line of another word.
 #[derive(Drop)]
@@ -28,7 +26,7 @@ pub enum LineKind<'a> {
 #[tactic(auto, unfolding(hp_model::specs::text::Reading::step_of_bytes, hp_model::specs::text::Reading::step_of_command))]
 #[inline(always)]
 pub fn kind_of_line<'a>(line: &'a [u8]) -> Result<LineKind<'a>, Refusal>
-    requires { length line.now ≤ 1024 }
+    requires { length line.now ≤ most_line_bytes }
     ensures { IsKind result line.now }
 {
     let mut words = Words::new(line);
@@ -45,7 +43,7 @@ pub fn kind_of_line<'a>(line: &'a [u8]) -> Result<LineKind<'a>, Refusal>
 /// The step that a line reads as, or `BadLine`. The bytes of a store lie in the room, and other bytes in the line.
 #[tactic(auto, unfolding(hp_model::specs::text::Reading::step_of_bytes))]
 pub fn step_of_line<'a>(line: &'a [u8], room: &'a mut [u8]) -> Result<Step<'a>, Refusal>
-    requires line { length line.now ≤ 1024 }
+    requires line { length line.now ≤ most_line_bytes }
     requires room { length room.old ≡ 512 }
     ensures { result ≡ step_of_bytes line.now }
 {

@@ -3,6 +3,7 @@ ghost use Rattle.std.specs.Prelude.{◌≡◌, ◌+◌, ◌-◌, ◌<◌, ◌≤
 ghost use Rattle.std.specs.Int.{IsInRange};
 ghost use Rattle.std.specs.List.{list_all};
 ghost use Rattle.hp_model.specs.text.Words.{is_word_byte, number_at, number_of, piece_at, pieces_of_line};
+ghost use Rattle.hp_model.specs.Profile.{most_line_bytes};
 ghost use Rattle.hp_wire_lines.specs.Words.{between, number_after, piece_with, pieces_from};
 
 use hp_model::refusal::Refusal;
@@ -19,7 +20,8 @@ pub struct Words<'a> {
 }
 
 impl<'a> Model for Words<'a> {
-    ghost use Rattle.std.specs.Prelude.{ℕ, ◌≤◌, List, length};
+    ghost use Rattle.std.specs.Prelude.{ℕ, ◌+◌, ◌≤◌, List, length};
+    ghost use Rattle.hp_model.specs.Profile.{most_line_bytes};
     ghost use Rattle.hp_wire_lines.specs.Words.{pieces_from};
 
     ghost Value = { List (List ℕ) };
@@ -27,17 +29,18 @@ impl<'a> Model for Words<'a> {
     // The pieces between the spaces.
     ghost view = { λ w. pieces_from w.at w.line.now };
 
-    ghost invariant = { λ w. (length w.line.now ≤ 1024) × (w.at ≤ 1025) };
+    ghost invariant = { λ w. (length w.line.now ≤ most_line_bytes) × (w.at ≤ most_line_bytes + 1) };
 }
 
 impl<'a> Words<'a> {
+    ghost use Rattle.hp_model.specs.Profile.{most_line_bytes};
     ghost use Rattle.hp_model.specs.text.Words.{pieces_of_line, piece_at, number_at, word_at, end_at};
     ghost use Rattle.hp_wire_lines.specs.Words.{Takes};
     ghost use Rattle.std.specs.Prelude.{◌≡◌, ◌≤◌, [], length, IfOk, MatchResult};
 
     #[inline(always)]
     pub fn new(line: &'a [u8]) -> Words<'a>
-        requires { length line.now ≤ 1024 }
+        requires { length line.now ≤ most_line_bytes }
         ensures { result ≡ pieces_of_line line.entry.now }
     {
         Words { line, at: 0 }
@@ -47,7 +50,7 @@ impl<'a> Words<'a> {
     #[inline(always)]
     pub fn piece(&mut self) -> Result<&'a [u8], Refusal>
         ensures value { Takes (λ x. x.now) result self.new (piece_at self.old) }
-        ensures short { IfOk result (λ x. length x.now ≤ 1024) }
+        ensures short { IfOk result (λ x. length x.now ≤ most_line_bytes) }
     {
         let line = self.line;
         let from = self.at;
@@ -63,7 +66,7 @@ impl<'a> Words<'a> {
     #[inline(always)]
     pub fn short_piece(&mut self) -> Result<&'a [u8], Refusal>
         ensures value { Takes (λ x. x.now) result self.new (piece_at self.old) }
-        ensures short { IfOk result (λ x. length x.now ≤ 1024) }
+        ensures short { IfOk result (λ x. length x.now ≤ most_line_bytes) }
     {
         let line = self.line;
         let from = self.at;
@@ -152,7 +155,7 @@ impl<'a> Words<'a> {
     #[inline(always)]
     pub fn rest(&self) -> Result<&'a [u8], Refusal>
         ensures { MatchResult result
-            (λ rest. (self.now ≡ pieces_of_line rest.now) × (length rest.now ≤ 1024))
+            (λ rest. (self.now ≡ pieces_of_line rest.now) × (length rest.now ≤ most_line_bytes))
             (λ e. (self.now ≡ []) × (e ≡ Refusal.BadLine)) }
     {
         if self.at > self.line.len() {
@@ -181,7 +184,7 @@ const SHORT: usize = 8;
 // Where the piece from a place on ends, if a space ends it that is near.
 #[inline(always)]
 fn near_end(line: &[u8], from: usize) -> Option<usize>
-    requires { (length line.now ≤ 1024) × (from ≤ 1025) }
+    requires { (length line.now ≤ most_line_bytes) × (from ≤ most_line_bytes + 1) }
     ensures { IfSome result (λ end. (from ≤ end) × (end < length line.now)
         × (piece_at (pieces_from from line.now)
         ≡ Ok (between from end line.now, pieces_from (end + 1) line.now))) }
@@ -200,7 +203,7 @@ fn near_end(line: &[u8], from: usize) -> Option<usize>
 // Where the printed characters from a place on end. One stands there.
 #[inline(always)]
 fn end_of_word(line: &[u8], from: usize) -> usize
-    requires line { length line.now ≤ 1024 }
+    requires line { length line.now ≤ most_line_bytes }
     requires from { from < length line.now }
     requires printed { is_word_byte (slice_index line.now from) ≡ true }
     ensures behind { from < result }
@@ -233,7 +236,7 @@ const DIGITS: usize = 19;
 // The number of the digits from a place on, where there is one, and where they end.
 #[inline(always)]
 fn front_number(line: &[u8], from: usize) -> (u64, usize)
-    requires line { length line.now ≤ 1024 }
+    requires line { length line.now ≤ most_line_bytes }
     requires from { from < length line.now }
     requires digit { IsInRange 48 57 (slice_index line.now from) }
     ensures behind { from < result.1 }

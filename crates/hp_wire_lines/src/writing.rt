@@ -6,6 +6,7 @@ ghost use Rattle.hp_model.specs.machine.Accesses.{bytes_reply, done_reply};
 ghost use Rattle.hp_model.specs.machine.Told.{told_answer, told_reply};
 ghost use Rattle.hp_model.specs.text.Writing.{newline, number_line, spaced, heading, meminfo_text, rows_text, names_text, answer_text, line_of, HasSmallAnswer, IsWithinLimits};
 ghost use Rattle.hp_model.specs.declared.answer.Answer.TheVariants.{Usage as UsageAnswer};
+ghost use Rattle.hp_model.specs.Profile.{most_bytes, most_files, most_frames_in_all, most_name_bytes, most_page_bytes};
 ghost use Rattle.hp_wire_lines.specs.Rows.{row_line};
 ghost use Rattle.hp_text.specs.Output.{HasRoom, Adds};
 
@@ -22,7 +23,7 @@ pub const LONGEST: usize = 66_586;
 
 /// Adds the lines of a reply to what waits to be written, where a page has `page` bytes. It takes no memory.
 pub fn line_of_reply(page: u64, reply: &Result<Told<'_>, Refusal>, out: &mut Vec<u8>)
-    requires page { page ≤ 2097152 }
+    requires page { page ≤ most_page_bytes }
     requires limits { IsWithinLimits (told_reply reply.now) }
     requires room { HasRoom out.old 66586 }
     ensures { Adds out.old out.new (line_of page (told_reply reply.now)) }
@@ -36,7 +37,7 @@ pub fn line_of_reply(page: u64, reply: &Result<Told<'_>, Refusal>, out: &mut Vec
 /// Adds the line of what a load answered. It takes no memory.
 #[inline(always)]
 pub fn line_of_load(loaded: Result<&[u8], Refusal>, out: &mut Vec<u8>)
-    requires few { IfOk loaded (λ bytes. length bytes.now ≤ 256) }
+    requires few { IfOk loaded (λ bytes. length bytes.now ≤ most_bytes) }
     requires room { HasRoom out.old 1024 }
     ensures { (page : ℕ) → Adds out.old out.new (line_of page (bytes_reply loaded.entry)) }
 {
@@ -70,7 +71,7 @@ fn push_ok(out: &mut Vec<u8>)
 }
 
 fn push_told(page: u64, told: &Told<'_>, out: &mut Vec<u8>)
-    requires page { page ≤ 2097152 }
+    requires page { page ≤ most_page_bytes }
     requires limits { HasSmallAnswer (told_answer told.now) }
     requires room { HasRoom out.old 66586 }
     ensures { Adds out.old out.new (answer_text page (told_answer told.now)) }
@@ -109,7 +110,7 @@ fn push_numbers(out: &mut Vec<u8>, numbers: &[u64])
 }
 
 fn push_bytes(out: &mut Vec<u8>, bytes: &[u8])
-    requires few { length bytes.now ≤ 256 }
+    requires few { length bytes.now ≤ most_bytes }
     requires room { HasRoom out.old 1024 }
     ensures { Adds out.old out.new (codes "ok " ++ encode_lower bytes.now ++ newline) }
 {
@@ -139,7 +140,8 @@ fn push_usage(
 }
 
 fn push_names(out: &mut Vec<u8>, names: &[Bytes])
-    requires limits { (length names.now ≤ 1024) × All (λ name. length name ≤ 64) names.now }
+    requires limits { (length names.now ≤ most_files)
+        × All (λ name. length name ≤ most_name_bytes) names.now }
     requires room { HasRoom out.old 66586 }
     ensures { Adds out.old out.new (heading (length names.now) ++ names_text names.now) }
 {
@@ -148,7 +150,7 @@ fn push_names(out: &mut Vec<u8>, names: &[Bytes])
 }
 
 fn push_name_lines(out: &mut Vec<u8>, names: &[Bytes])
-    requires limits { All (λ name. length name ≤ 64) names.now }
+    requires limits { All (λ name. length name ≤ most_name_bytes) names.now }
     requires room { HasRoom out.old (65 * length names.now) }
     ensures { Adds out.old out.new (names_text names.now) }
 {
@@ -202,8 +204,8 @@ fn push_row(out: &mut Vec<u8>, node: u64, row: NodeCount)
 }
 
 fn push_counts(page: u64, counts: Counts, out: &mut Vec<u8>)
-    requires page { page ≤ 2097152 }
-    requires limits { counts.total ≤ 262144 }
+    requires page { page ≤ most_page_bytes }
+    requires limits { counts.total ≤ most_frames_in_all }
     requires room { HasRoom out.old 512 }
     ensures { Adds out.old out.new (heading 6 ++ meminfo_text page counts) }
 {

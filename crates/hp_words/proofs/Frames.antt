@@ -6,6 +6,7 @@ use Rattle.std.proofs.lemmas.List.{length-append, length-map}
 use Rattle.std.proofs.lemmas.List.Splits.{length-slice_split}
 use Rattle.hp_model.specs.text.Words.{number_of}
 use Rattle.hp_model.specs.declared.refusal.Refusal.{Refusal}
+use Rattle.hp_model.specs.Profile.{most_frames}
 use Rattle.hp_words.specs.Asked.{CanBe, comma_pieces, node_frames}
 
 one_more : (frames : List ℕ) (n : ℕ) (left : List (Result ℕ Refusal)) → map Ok frames ++ Ok n ∷ left ≡ map Ok (frames ++ n ∷ []) ++ left
@@ -32,7 +33,7 @@ length-oks fs = length-map {B = Result ℕ Refusal} fs Ok
 
 -- a text that can be frames has those of a node in each piece
 pub piece_read : (all piece rest : List ℕ) (more : List (List ℕ)) (frames : List ℕ) → map number_of (comma_pieces all) ≡ map Ok frames ++ map number_of (comma_pieces rest)
-    → comma_pieces rest ≡ piece ∷ more → CanBe node_frames all → (n : ℕ) × (number_of piece ≡ Ok n) × (1 ≤ n) × (n ≤ 65536)
+    → comma_pieces rest ≡ piece ∷ more → CanBe node_frames all → (n : ℕ) × (number_of piece ≡ Ok n) × (1 ≤ n) × (n ≤ most_frames)
 piece_read all piece rest more frames so_far cut can =
     let k = length (oks frames) in
     let left = map number_of more in

@@ -12,9 +12,10 @@ use Rattle.clap.specs.declared.error.kind.ErrorKind.{ErrorKind}
 use Rattle.clap.specs.declared.error.kind.ErrorKind.TheVariants.{OutOfMemory}
 use Rattle.hp_words.proofs.Commands.{Found, is_right, options_are}
 use Rattle.hp_model.specs.text.Words.{number_of}
+use Rattle.hp_model.specs.Profile.{most_places}
 use Rattle.hp_words.specs.Asked.{AsksForScript, AsksToServe, CanBe, HasBadValue, IsGood, IsRefusedFor, IsRight, IsWrongIn, IsWrongOf, Sets, SetsServing, Setting}
 use Rattle.hp_words.specs.Asked.{comma_pieces, has_options, hugetlbd, is_serve, machine_options, node_frames, options_given, serving_options, settings_of}
-use Rattle.hp_words.specs.Config.{IsFrames, IsMachineWithin, IsPageSize, IsServing, IsWithin, MachineChoice}
+use Rattle.hp_words.specs.Config.{IsFrames, IsMachineWithin, IsPageSize, IsServing, IsWithin, MachineChoice, most_port, most_sessions, most_workers}
 use Rattle.hp_words.specs.declared.settings.Serving.{Serving}
 use Rattle.hp_words.specs.declared.settings.Wrong.{Wrong}
 use Rattle.hp_words.specs.declared.settings.Wrong.TheVariants.{Memory, Parse, BadValue, OptionFirst}
@@ -121,10 +122,10 @@ good_machine options c sets fits =
 good_serving : (options : List Row) (s : Serving) → SetsServing options s → IsServing s → AllGood serving_options options
 unfolding AllGood
 good_serving options s sets fits =
-    let port = good_given _ s.port (IsWithin 0 65535) sets.port fits.port in
-    let sessions = good_given _ s.sessions (IsWithin 1 65535) sets.sessions fits.sessions in
-    let workers = good_given _ s.workers (IsWithin 1 64) sets.workers fits.workers in
-    let room = good_given _ s.room (IsWithin 0 16777216) sets.room fits.room in
+    let port = good_given _ s.port (IsWithin 0 most_port) sets.port fits.port in
+    let sessions = good_given _ s.sessions (IsWithin 1 most_sessions) sets.sessions fits.sessions in
+    let workers = good_given _ s.workers (IsWithin 1 most_workers) sets.workers fits.workers in
+    let room = good_given _ s.room (IsWithin 0 most_places) sets.room fits.room in
     (port, (sessions, (workers, (room, tt))))
 
 right_memory : (words : List Text) (w : Wrong) → IsRefusedFor words w → IsRight words → AllGood (settings_of words) (options_given words) → w ≡ Memory

@@ -18,7 +18,8 @@ use Rattle.clap.specs.declared.parser.matches.ArgMatches.{ArgMatches}
 use Rattle.clap.specs.Words.{found_of, rows_of}
 use Rattle.std.specs.Borrow.{Bor}
 use Rattle.hp_model.specs.text.Words.{number_of}
-use Rattle.hp_words.specs.Config.{IsFrames, IsPageSize, IsWithin, MachineChoice, choice_of, usual}
+use Rattle.hp_model.specs.Profile.{most_places, most_slots}
+use Rattle.hp_words.specs.Config.{IsFrames, IsPageSize, IsWithin, MachineChoice, choice_of, usual, most_port, most_sessions, most_workers}
 use Rattle.hp_words.specs.declared.settings.Config.{Config}
 use Rattle.hp_words.specs.declared.settings.Config.TheVariants.{Script, Serve}
 use Rattle.hp_words.specs.declared.settings.Serving.{Serving}
@@ -57,13 +58,13 @@ required name values = record { name = name; values = values; is_required = true
 
 abbrev pub machine_options : List Setting
 machine_options = optional (codes "frames") node_frames ∷ optional (codes "page") page_bytes
-    ∷ optional (codes "slots") (between 1 64) ∷ []
+    ∷ optional (codes "slots") (between 1 most_slots) ∷ []
 
 abbrev pub serving_options : List Setting
-serving_options = required (codes "port") (between 0 65535)
-    ∷ required (codes "sessions") (between 1 65535)
-    ∷ required (codes "workers") (between 1 64)
-    ∷ required (codes "trace") (between 0 16777216) ∷ []
+serving_options = required (codes "port") (between 0 most_port)
+    ∷ required (codes "sessions") (between 1 most_sessions)
+    ∷ required (codes "workers") (between 1 most_workers)
+    ∷ required (codes "trace") (between 0 most_places) ∷ []
 
 -- ---- the command line, as clap reads it
 

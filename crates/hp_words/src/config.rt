@@ -9,6 +9,9 @@ ghost use Rattle.hp_words.specs.Config.{IsConfigWithin, IsFrames, IsMachineWithi
 use crate::settings::{Config, Machine, Serving, Wrong};
 use clap::error::ErrorKind;
 use clap::{Arg, ArgAction, ArgMatches, Command, Error};
+use hp_model::profile::{
+    LEAST_PAGE_BYTES, MOST_FRAMES, MOST_NODES, MOST_PAGE_BYTES, MOST_PLACES, MOST_SLOTS,
+};
 use hp_text::pieces::first_piece;
 use hp_wire_lines::words::number_of;
 use std::alloc::{AllocError, Global};
@@ -20,6 +23,16 @@ const USAGE: &str = "hugetlbd [script] [OPTIONS] < FILE";
 // And how it serves.
 const SERVE_USAGE: &str =
     "hugetlbd serve --port <P> --sessions <N> --workers <W> --trace <ROOM> [OPTIONS]";
+
+// The size of a page where none is asked for, in bytes.
+const USUAL_PAGE_BYTES: u64 = 1024;
+
+const MOST_PORT: u64 = 65_535;
+
+// Sessions that are served, and those that are served side by side.
+const MOST_SESSIONS: u64 = 65_535;
+
+const MOST_WORKERS: u64 = 64;
 
 /// What is printed where the words ask for help.
 pub const HELP: &str = "\
@@ -187,11 +200,17 @@ fn machine_of(alloc: Global, matches: &ArgMatches<'_>) -> Result<Machine, Wrong>
         None => two_nodes(alloc)?,
         Some(text) => frames_of(alloc, text.as_bytes())?,
     };
-    let page = number_or(text_of(matches, "page"), "page", 1024, 1024, 2_097_152)?;
+    let page = number_or(
+        text_of(matches, "page"),
+        "page",
+        USUAL_PAGE_BYTES,
+        LEAST_PAGE_BYTES,
+        MOST_PAGE_BYTES,
+    )?;
     if !page.is_power_of_two() {
         return Err(Wrong::BadValue("page"));
     }
-    let slots = number_or(text_of(matches, "slots"), "slots", 4, 1, 64)?;
+    let slots = number_or(text_of(matches, "slots"), "slots", 4, 1, MOST_SLOTS as u64)?;
     Ok(Machine {
         frames,
         page,
@@ -204,10 +223,10 @@ fn serving_of(matches: &ArgMatches<'_>) -> Result<Serving, Wrong>
     ensures sets { IfOk result (SetsServing (options_in matches.now)) }
     ensures wrong { IfErr result (IsWrongIn serving_options (options_in matches.now)) }
 {
-    let port = number(text_of(matches, "port"), "port", 0, 65_535)?;
-    let sessions = number(text_of(matches, "sessions"), "sessions", 1, 65_535)?;
-    let workers = number(text_of(matches, "workers"), "workers", 1, 64)?;
-    let room = number(text_of(matches, "trace"), "trace", 0, 16_777_216)?;
+    let port = number(text_of(matches, "port"), "port", 0, MOST_PORT)?;
+    let sessions = number(text_of(matches, "sessions"), "sessions", 1, MOST_SESSIONS)?;
+    let workers = number(text_of(matches, "workers"), "workers", 1, MOST_WORKERS)?;
+    let room = number(text_of(matches, "trace"), "trace", 0, MOST_PLACES)?;
     Ok(Serving {
         port: port as u16,
         sessions: sessions as usize,
@@ -235,9 +254,9 @@ fn frames_of(alloc: Global, text: &[u8]) -> Result<Vec<u64>, Wrong>
 {
     let mut frames = Vec::new(alloc);
     let mut rest = text;
-    for _ in 0..4usize {
+    for _ in 0..MOST_NODES {
         let (piece, more) = first_piece(b',', rest);
-        let Some(n) = number_between(piece, 1, 65_536) else {
+        let Some(n) = number_between(piece, 1, MOST_FRAMES) else {
             return Err(Wrong::BadValue("frames"));
         };
         frames.push(n)?;

@@ -31,6 +31,7 @@ use Rattle.hp_model.specs.declared.section.Section.TheVariants.{Grant}
 use Rattle.hp_model.specs.pool.PoolCounts.{Pool}
 use Rattle.hp_model.specs.pool.Resize.{pool_event}
 use Rattle.hp_model.specs.machine.State.{State, slot_at}
+use Rattle.hp_model.specs.Profile.{most_frames}
 use Rattle.hp_laws.proofs.JoinedRun.{joined_law}
 use Rattle.hp_laws.proofs.StaysSettled.{start_is_settled}
 
@@ -161,8 +162,8 @@ runs = record {
   pool = (pool_1, refl, (pool_2, refl, refl));
 }
 
-few : All (λ (f : ℕ). f ≤ 65536) (4 ∷ 4 ∷ [])
-few = All-cons (λ (f : ℕ). f ≤ 65536) 4 (4 ∷ []) (omega arith) (All-cons (λ (f : ℕ). f ≤ 65536) 4 [] (omega arith) (All-nil (λ (f : ℕ). f ≤ 65536)))
+few : All (λ (f : ℕ). f ≤ most_frames) (4 ∷ 4 ∷ [])
+few = All-cons (λ (f : ℕ). f ≤ most_frames) 4 (4 ∷ []) (omega arith) (All-cons (λ (f : ℕ). f ≤ most_frames) 4 [] (omega arith) (All-nil (λ (f : ℕ). f ≤ most_frames)))
 
 pub joint_run : (end : State) × IsJointRun machine (trails 1 1) items end
 joint_run =

@@ -1,6 +1,7 @@
 -- The rows of the nodes and the moves of pages and frames between them.
 use Rattle.std.specs.Prelude.{ℕ, zero, suc, ◌+◌, ◌-◌, ◌≤◌, ◌==◌, Bool, ◌&&◌, if◌then◌else◌, nat_lt, List, length, drop, sum_by, slice_index_or, slice_set}
 use Rattle.std.specs.List.{position_or_len}
+use Rattle.hp_model.specs.Profile.{most_frames}
 use Rattle.hp_model.specs.declared.node.NodeRow.{NodeRow}
 use Rattle.hp_model.specs.declared.node.Kind.{Kind}
 use Rattle.hp_model.specs.declared.node.Kind.TheVariants.{Free, Idle, Surplus, Persistent, FreeSurplus}
@@ -122,7 +123,7 @@ pub record IsRow (r : NodeRow) : Type 0 where
   pub free_in : r.free ≤ r.total
   pub surp_in : r.surp ≤ r.total
   pub total_in : r.total ≤ r.frames
-  pub few : r.frames ≤ 65536
+  pub few : r.frames ≤ most_frames
 
 -- the sums over all nodes
 abbrev pub frames_of : List NodeRow → ℕ

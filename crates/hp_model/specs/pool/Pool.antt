@@ -1,6 +1,7 @@
 -- What one hold of the pool's lock does to its numbers.
 use Rattle.std.specs.Prelude.{ℕ, zero, suc, ◌+◌, ◌-◌, ◌≡◌, ◌≤◌, Bool, true, false, List, [], ◌∷◌, map, if◌then◌else◌}
 use Rattle.std.specs.List.{range_with_len}
+use Rattle.hp_model.specs.Profile.{most_frames_in_all, most_overcommit}
 use Rattle.hp_model.specs.pool.Grant.{can_grant, granted}
 use Rattle.hp_model.specs.pool.NodeRows.{NodeRows, near, row_at, surp_of, taken, taken_times, used, put_at, given_back}
 use Rattle.hp_model.specs.pool.PoolCounts.{Pool}
@@ -56,8 +57,8 @@ settled p = record p { nodes = give_back_times (surp_of p.nodes.rows - (p.commit
 pub record IsPool (nr overcommit reserved : ℕ) (sum : NodeRow) : Type 0 where
   pub persistent : sum.total ≡ nr + sum.surp
   pub backed : reserved ≤ sum.free
-  pub few : overcommit ≤ 4294967295
-  pub small : sum.total ≤ 262144
+  pub few : overcommit ≤ most_overcommit
+  pub small : sum.total ≤ most_frames_in_all
 
 -- k pages are put at the node, and stay promised
 abbrev pub kept_times : ℕ → ℕ → Pool → Pool

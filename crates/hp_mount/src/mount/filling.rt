@@ -12,8 +12,8 @@ ghost use Rattle.hp_mount.specs.Done.{IsDone, Tried};
 ghost use Rattle.hp_mount.specs.Found.{first_of};
 
 use super::Mount;
-use super::making::{MOST_FILE_PAGES, MOST_MAP_PAGES};
 use hp_model::naming::Naming;
+use hp_model::profile::{MOST_FILE_PAGES, MOST_MAP_PAGES};
 use hp_model::refusal::Refusal;
 use hp_mount_door::PoolDoor;
 use hp_store::PageBatch;

@@ -8,8 +8,8 @@ ghost use Rattle.hp_subpool.specs.Subpool.{Subpool as ShareValue};
 ghost use Rattle.hp_mount.specs.Done.{IsDone};
 
 use super::Mount;
-use super::making::MOST_FILE_PAGES;
 use hp_model::naming::Naming;
+use hp_model::profile::MOST_FILE_PAGES;
 use hp_model::refusal::Refusal;
 use hp_mount_door::PoolDoor;
 use hp_store::PageStore;

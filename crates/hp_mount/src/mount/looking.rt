@@ -9,12 +9,14 @@ ghost use Rattle.hp_model.specs.machine.Accesses.{bytes_reply};
 ghost use Rattle.hp_model.specs.machine.SlotEvent.{read_tests};
 ghost use Rattle.hp_model.specs.machine.Told.{told_reply};
 ghost use Rattle.hp_model.specs.text.Writing.{IsWithinLimits};
+ghost use Rattle.hp_model.specs.Profile.{most_bytes};
 ghost use Rattle.hp_mount.specs.Alone.{IsDoneAlone};
 ghost use Rattle.hp_mount.specs.Found.{first_of};
 
 use super::Mount;
 use super::contents::{bytes_of, zeros_of};
 use hp_model::naming::Naming;
+use hp_model::profile::MOST_BYTES;
 use hp_model::refusal::Refusal;
 use hp_model::told::Told;
 use std::alloc::AllocError;
@@ -67,7 +69,7 @@ impl<N: Naming> Mount<N> {
         ensures first { result
             ≡ first_of (read_tests page_bytes index offset count (file_in self.now file)) }
         ensures fits { IfNone result (offset + count ≤ page_bytes) }
-        ensures few { IfNone result (count ≤ 256) }
+        ensures few { IfNone result (count ≤ most_bytes) }
         ensures memory { IfSome result (λ r. r ≢ Refusal.OutOfMemory) }
         ensures noted { IfSome result (λ r. r ≢ Refusal.TraceFull) }
     {
@@ -77,7 +79,7 @@ impl<N: Naming> Mount<N> {
         if offset > page_bytes || count > page_bytes - offset {
             return Some(Refusal::CrossesPage);
         }
-        if count > 256 {
+        if count > MOST_BYTES as u64 {
             return Some(Refusal::TooMany);
         }
         None
@@ -113,7 +115,7 @@ impl<N: Naming> Mount<N> {
     /// - NoSuchFile: no file has the name.
     /// - OutOfRange: `count` is 0, or the index is not below the file's length.
     /// - CrossesPage: the bytes reach past the end of the page.
-    /// - TooMany: `count` is above 256.
+    /// - TooMany: `count` is above `MOST_BYTES`.
     pub fn read<'a>(
         &self,
         page_bytes: u64,
@@ -124,7 +126,7 @@ impl<N: Naming> Mount<N> {
         room: &'a mut [u8],
     ) -> Result<&'a [u8], Refusal>
         requires page_bytes { page_bytes ≡ N.page_bytes }
-        requires room { 256 ≤ length room.old }
+        requires room { most_bytes ≤ length room.old }
         ensures done { (k : ℕ) → IsDoneAlone N.page_bytes k (Some self.now)
             (Read name.now index offset count) (bytes_reply result) (Some self.now) }
         ensures memory { bytes_reply result ≢ Err Refusal.OutOfMemory }

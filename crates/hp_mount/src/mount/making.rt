@@ -6,7 +6,7 @@ ghost use Rattle.hp_model.specs.declared.event.SlotEvent.TheVariants.{Anon, Crea
 ghost use Rattle.hp_model.specs.files.File.{maps_of, with_file};
 ghost use Rattle.hp_model.specs.pool.Grant.{is_over};
 ghost use Rattle.hp_model.specs.Lists.{is_among};
-ghost use Rattle.hp_model.specs.Profile.{most_file_pages};
+ghost use Rattle.hp_model.specs.Profile.{most_file_pages, most_files, most_maps, most_name_bytes};
 ghost use Rattle.hp_model.specs.files.MakeMap.{asked, mapped, next_number, tasks_of};
 ghost use Rattle.hp_model.specs.machine.Accesses.{done_reply};
 ghost use Rattle.hp_model.specs.machine.Plan.{Answered, grant};
@@ -21,6 +21,7 @@ ghost use Rattle.hp_mount.specs.Making.{anon_plan, create_tests, map_event, map_
 
 use super::Mount;
 use hp_model::naming::Naming;
+use hp_model::profile::{MOST_FILE_PAGES, MOST_FILES, MOST_MAP_PAGES, MOST_MAPS, MOST_NAME_BYTES};
 use hp_model::refusal::Refusal;
 use hp_model::step::{Reserving, Sharing};
 use hp_mount_door::PoolDoor;
@@ -28,18 +29,8 @@ use hp_mount_files::{MapRange, NextMap};
 use hp_subpool::Subpool;
 use std::alloc::AllocError;
 
-/// The most pages that a file may have.
-pub(crate) const MOST_FILE_PAGES: u64 = 16_777_216;
-
-// The most pages that a map may have, and indices that are filled at once.
-pub(super) const MOST_MAP_PAGES: u64 = 65_536;
-
-// The most files, maps and tasks with maps on a mount.
-const MOST_FILES: usize = 1024;
-
-pub(super) const MOST_MAPS: u64 = 4096;
-
-pub(super) const MOST_TASKS: u64 = 4096;
+// Tasks with maps on a mount.
+pub(super) const MOST_TASKS: u64 = hp_model::profile::MOST_TASKS as u64;
 
 // 1 for each byte that a name may have: A-Z a-z 0-9 . _ -
 const NAME_BYTES: &[u8; 256] = &[
@@ -62,12 +53,12 @@ fn is_name_byte(c: u8) -> bool
 /// Whether a file may be named so.
 fn is_name(name: &[u8]) -> bool
     ensures is { result ≡ is_name name.now }
-    ensures few { IsTrue result → length name.now ≤ 64 }
+    ensures few { IsTrue result → length name.now ≤ most_name_bytes }
 {
     if name.len() < 1 {
         return false;
     }
-    if name.len() > 64 {
+    if name.len() > MOST_NAME_BYTES {
         return false;
     }
     name.iter().all(|c| is_name_byte(*c))
@@ -76,7 +67,7 @@ fn is_name(name: &[u8]) -> bool
 impl<N: Naming> Mount<N> {
     // Whether one file more is past the limit of files.
     fn is_without_inodes(&self) -> bool
-        requires { length self.now.files < 1024 }
+        requires { length self.now.files < most_files }
         ensures { result ≡ is_over self.now.limits.inodes (length self.now.files + 1) }
     {
         match self.inodes {
@@ -96,8 +87,8 @@ impl<N: Naming> Mount<N> {
     fn refused_file(&self, name: &[u8]) -> Option<Refusal>
         ensures first { result ≡ first_of (create_tests self.now name.now) }
         ensures noted { IfSome result (λ r. r ≢ Refusal.TraceFull) }
-        ensures short { IfNone result (length name.now ≤ 64) }
-        ensures few { IfNone result (length self.now.files < 1024) }
+        ensures short { IfNone result (length name.now ≤ most_name_bytes) }
+        ensures few { IfNone result (length self.now.files < most_files) }
     {
         if !is_name(name) {
             return Some(Refusal::BadName);
@@ -137,7 +128,7 @@ impl<N: Naming> Mount<N> {
         ensures first { IfOk result (λ next. next.is_first
             ≡ not (is_among range.now.task (tasks_of self.now))) }
         ensures pass { OnOk result (why_no_map self.now range.now ≡ None) }
-        ensures few { OnOk result (length (maps_of self.now) < 4096) }
+        ensures few { OnOk result (length (maps_of self.now) < most_maps) }
         ensures reach { OnOk result (range.now.start + range.now.pages ≤ most_file_pages) }
         ensures err { IfErr result (λ e. why_no_map self.now range.now ≡ Some e) }
     {
@@ -168,7 +159,7 @@ impl<N: Naming> Mount<N> {
         requires ready { D.is_ready door.old }
         requires file { file < length self.old.files }
         requires reach { range.now.start + range.now.pages ≤ most_file_pages }
-        requires few { length (maps_of self.old) < 4096 }
+        requires few { length (maps_of self.old) < most_maps }
         requires number { next.number ≡ next_number range.now.task self.old }
         requires first { next.is_first ≡ not (is_among range.now.task (tasks_of self.old)) }
         ensures done { Tried D.took D.is_full (map_plan self.old range.now next.number home file)
@@ -224,8 +215,8 @@ impl<N: Naming> Mount<N> {
         ensures first { IfOk result (λ next. next.is_first
             ≡ not (is_among range.now.task (tasks_of self.now))) }
         ensures pass { OnOk result (why_no_anon self.now range.now.task range.now.pages ≡ None) }
-        ensures few { OnOk result (length (maps_of self.now) < 4096) }
-        ensures files { OnOk result (length self.now.files < 1024) }
+        ensures few { OnOk result (length (maps_of self.now) < most_maps) }
+        ensures files { OnOk result (length self.now.files < most_files) }
         ensures reach { OnOk result (range.now.start + range.now.pages ≤ most_file_pages) }
         ensures err { IfErr result (λ e. why_no_anon self.now range.now.task range.now.pages
             ≡ Some e) }
@@ -254,8 +245,8 @@ impl<N: Naming> Mount<N> {
         requires shares { (s : ShareValue) → D.share_of s ≡ s }
         requires ready { D.is_ready door.old }
         requires reach { range.now.start + range.now.pages ≤ most_file_pages }
-        requires few { length (maps_of self.old) < 4096 }
-        requires files { length self.old.files < 1024 }
+        requires few { length (maps_of self.old) < most_maps }
+        requires files { length self.old.files < most_files }
         requires number { next.number ≡ next_number range.now.task self.old }
         requires first { next.is_first ≡ not (is_among range.now.task (tasks_of self.old)) }
         ensures done { Tried D.took D.is_full (anon_plan self.old range.now next.number home)

@@ -3,11 +3,13 @@ ghost use Rattle.std.specs.Prelude.{◌≡◌, ◌+◌, ◌<◌, ◌≤◌, leng
 ghost use Rattle.hp_model.specs.files.Mapping.{is_live, place_at};
 ghost use Rattle.hp_model.specs.machine.SlotEvent.{byte_tests, fault_tests};
 ghost use Rattle.hp_model.specs.machine.Promises.{file_in, map_in};
+ghost use Rattle.hp_model.specs.Profile.{most_bytes};
 ghost use Rattle.hp_mount.specs.Found.{Fits, IsPlaced, first_of, spot_at, tests_of, why_not};
 
 use super::Mount;
 use super::reach::{Asked, MapAccess};
 use hp_model::naming::Naming;
+use hp_model::profile::MOST_BYTES;
 use hp_model::refusal::Refusal;
 use hp_mount_files::MapPlace;
 use hp_nodes::Page;
@@ -32,7 +34,7 @@ impl<N: Naming> Mount<N> {
         ensures live { IfNone result
             (is_live (place_at (map_in (file_in self.now at.file) at.map) index) ≡ true) }
         ensures fits { IfNone result (offset + count ≤ page_bytes) }
-        ensures few { IfNone result (count ≤ 256) }
+        ensures few { IfNone result (count ≤ most_bytes) }
     {
         let live = self.files.is_live(at, index);
         if !live || count == 0 {
@@ -41,7 +43,7 @@ impl<N: Naming> Mount<N> {
         if offset > page_bytes || count > page_bytes - offset {
             return Some(Refusal::CrossesPage);
         }
-        if count > 256 {
+        if count > MOST_BYTES as u64 {
             return Some(Refusal::TooMany);
         }
         if index >= self.files.len(at.file) {

@@ -9,6 +9,7 @@ ghost use Rattle.hp_model.specs.files.File.{cell_at, is_entered};
 ghost use Rattle.hp_model.specs.files.Page.{Page as PageValue};
 ghost use Rattle.hp_model.specs.machine.Promises.{file_in, is_backed, map_in};
 ghost use Rattle.hp_model.specs.declared.step.Intent.TheVariants.{Read, Write};
+ghost use Rattle.hp_model.specs.Profile.{most_bytes};
 ghost use Rattle.hp_lookup.specs.declared.copy_state.CopyState.TheVariants as CopyState;
 ghost use Rattle.hp_file.specs.States.{IsCopyState};
 ghost use Rattle.hp_subpool.specs.Subpool.{Subpool as ShareValue};
@@ -213,14 +214,14 @@ impl<N: Naming> Mount<N> {
         requires pages { (p : PageValue) → D.page_of p ≡ p }
         requires ready { D.is_ready door.old }
         requires page_bytes { page_bytes ≡ N.page_bytes }
-        requires room { 256 ≤ length room.old }
+        requires room { most_bytes ≤ length room.old }
         ensures done { (k : ℕ) → IsDone D.took D.is_full N.page_bytes k (Some self.old) door.old
             (Load access.now.task home access.now.map access.now.index offset count)
             (bytes_reply result) (Some self.new) door.new }
         ensures left { D.is_left door.new }
         ensures memory { is_backed Read (spot_of access.now self.old) access.now.index ≡ true
             → result ≢ Err Refusal.OutOfMemory }
-        ensures few { IfOk result (λ bytes. length bytes.now ≤ 256) }
+        ensures few { IfOk result (λ bytes. length bytes.now ≤ most_bytes) }
     {
         let at = match self.place(page_bytes, access, Asked::Bytes { offset, count }) {
             Ok(at) => at,

@@ -6,6 +6,7 @@ ghost use Rattle.hp_lookup.specs.Asking.{is_first_of, next_of};
 ghost use Rattle.std.specs.List.{All, count_by, filter_map};
 ghost use Rattle.hp_model.specs.Lists.{is_among};
 ghost use Rattle.hp_model.specs.files.MakeMap.{numbers_of};
+ghost use Rattle.hp_model.specs.Profile.{most_maps, most_name_bytes};
 ghost use Rattle.hp_lookup.specs.Places.{all_maps, all_tasks};
 
 use super::Files;
@@ -46,7 +47,7 @@ impl<N: Naming> Files<N> {
 
     /// The number that the task's next map gets, which is the least that none of its maps has.
     pub fn next_map(&self, task: u64) -> NextMap
-        requires { length (all_maps self.now.files) < 4096 }
+        requires { length (all_maps self.now.files) < most_maps }
         ensures number { result.number ≡ next_of task self.now.files }
         ensures first { result.is_first ≡ is_first_of task self.now.files }
     {
@@ -71,7 +72,7 @@ impl<N: Naming> Files<N> {
 
     // The least number from 1 on that none of the task's maps has.
     fn least_unused(&self, task: u64) -> u64
-        requires { length (all_maps self.now.files) < 4096 }
+        requires { length (all_maps self.now.files) < most_maps }
         ensures { result ≡ next_of task self.now.files }
     {
         let mut number = 1;
@@ -85,7 +86,7 @@ impl<N: Naming> Files<N> {
     pub fn names(&self) -> Result<Names, AllocError>
         ensures names { IfOk result (λ names. names ≡ filter_map (λ f. f.name) self.now.files) }
         ensures few { IfOk result (λ names. length names ≤ length self.now.files) }
-        ensures short { IfOk result (λ names. All (λ name. length name ≤ 64) names) }
+        ensures short { IfOk result (λ names. All (λ name. length name ≤ most_name_bytes) names) }
     {
         let files = &self.list;
         let mut names = Vec::with_capacity(self.alloc, files.len())?;

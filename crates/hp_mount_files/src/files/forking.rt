@@ -7,6 +7,7 @@ ghost use Rattle.hp_model.specs.files.Fork.{file_forked};
 ghost use Rattle.hp_model.specs.files.GiveBack.{is_kept};
 ghost use Rattle.hp_model.specs.files.Mapping.{is_of};
 ghost use Rattle.hp_model.specs.files.MountCounts.{file_reserves};
+ghost use Rattle.hp_model.specs.Profile.{most_maps};
 
 use super::Files;
 use hp_file_list::{children, drop_some_maps_of, join_all, retain_some_used, room_for};
@@ -32,7 +33,7 @@ impl<N: Naming> Files<N> {
         requires few { sum_by file_reserves self.old.files < 2 ^ 64 }
         requires maps { length (all_maps (filter is_kept
             (map (file_forked parent child) self.old.files)))
-            ≤ 4096 }
+            ≤ most_maps }
         ensures files { OnOk result (self.new.files
             ≡ filter is_kept (map (file_forked parent child) self.old.files)) }
         ensures left { IfOk result (λ reserves.

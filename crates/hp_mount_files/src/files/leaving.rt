@@ -8,9 +8,10 @@ ghost use Rattle.hp_lookup.specs.Dropping.{IsLeft};
 ghost use Rattle.hp_lookup.specs.Places.{IsFirstTask, IsFound, all_maps};
 
 use super::Files;
-use hp_file_list::{MOST_MAPS, drop_maps_of, sweep_file};
+use hp_file_list::{drop_maps_of, sweep_file};
 use hp_lookup::MapPlace;
 use hp_model::naming::Naming;
+use hp_model::profile::MOST_MAPS;
 
 impl<N: Naming> Files<N> {
     /// The least number of a task that has a map, if there is a map. It takes a step for each file and map.

@@ -4,7 +4,7 @@ ghost use Rattle.hp_lookup.specs.Files.{file_at, with_anon, with_file_at, mapped
 ghost use Rattle.hp_lookup.specs.Asking.{IsAsked, is_first_of, next_of, wants, with_range};
 ghost use Rattle.hp_subpool.specs.Subpool.{Subpool as ShareValue, is_full, used};
 ghost use Rattle.std.specs.List.{sum_by};
-ghost use Rattle.hp_model.specs.Profile.{most_file_pages};
+ghost use Rattle.hp_model.specs.Profile.{most_file_pages, most_maps, most_name_bytes};
 ghost use Rattle.hp_model.specs.files.MountCounts.{file_pages};
 ghost use Rattle.hp_model.specs.files.File.{new_file};
 ghost use Rattle.hp_model.specs.Lists.{found};
@@ -25,7 +25,7 @@ impl<N: Naming> Files<N> {
     /// Makes a file of length 0, with a name that no other has. Refused where memory is, and then nothing changes.
     pub fn create(&mut self, name: &[u8]) -> Result<(), AllocError>
         requires new { found (has_name name.now) self.old.files ≡ None }
-        requires few { length name.now ≤ 64 }
+        requires few { length name.now ≤ most_name_bytes }
         ensures ok { OnOk result (self.new
             ≡ record self.old { files = self.old.files ++ new_file (Some name.now) ∷ [] }) }
         ensures err { OnErr result (self.new ≡ self.old) }
@@ -70,7 +70,7 @@ impl<N: Naming> Files<N> {
         requires ready { D.is_ready door.old }
         requires file { file < length self.old.files }
         requires reach { range.now.start + range.now.pages ≤ most_file_pages }
-        requires maps { length (all_maps self.old.files) < 4096 }
+        requires maps { length (all_maps self.old.files) < most_maps }
         requires number { next.number ≡ next_of range.now.task self.old.files }
         requires first { next.is_first ≡ is_first_of range.now.task self.old.files }
         requires within { is_full share.old (wants range.now (file_at self.old.files file))
@@ -134,7 +134,7 @@ impl<N: Naming> Files<N> {
         requires ready { D.is_ready door.old }
         requires file { file < length self.old.files }
         requires reach { range.now.start + range.now.pages ≤ most_file_pages }
-        requires maps { length (all_maps self.old.files) < 4096 }
+        requires maps { length (all_maps self.old.files) < most_maps }
         requires number { next.number ≡ next_of range.now.task self.old.files }
         requires first { next.is_first ≡ is_first_of range.now.task self.old.files }
         requires within { is_full share.old (wants range.now (file_at self.old.files file))
@@ -172,7 +172,7 @@ impl<N: Naming> Files<N> {
         requires shares { (s : ShareValue) → D.share_of s ≡ s }
         requires ready { D.is_ready door.old }
         requires reach { range.now.start + range.now.pages ≤ most_file_pages }
-        requires maps { length (all_maps self.old.files) < 4096 }
+        requires maps { length (all_maps self.old.files) < most_maps }
         requires number { next.number ≡ next_of range.now.task self.old.files }
         requires first { next.is_first ≡ is_first_of range.now.task self.old.files }
         requires within { is_full share.old (wants range.now (new_file None)) ≡ false }
@@ -238,7 +238,7 @@ impl<N: Naming> Files<N> {
         requires shares { (s : ShareValue) → D.share_of s ≡ s }
         requires ready { D.is_ready door.old }
         requires reach { range.now.start + range.now.pages ≤ most_file_pages }
-        requires maps { length (all_maps self.old.files) < 4096 }
+        requires maps { length (all_maps self.old.files) < most_maps }
         requires number { next.number ≡ next_of range.now.task self.old.files }
         requires first { next.is_first ≡ is_first_of range.now.task self.old.files }
         requires within { is_full share.old (wants range.now (new_file None)) ≡ false }

@@ -8,6 +8,7 @@ ghost use Rattle.hp_model.specs.declared.event.SlotEvent.TheVariants.{ExitMaps, 
 ghost use Rattle.hp_model.specs.declared.refusal.Refusal.TheVariants.{TraceFull};
 ghost use Rattle.hp_model.specs.machine.Told.{told_reply};
 ghost use Rattle.hp_model.specs.text.Writing.{IsWithinLimits};
+ghost use Rattle.hp_model.specs.Profile.{most_bytes};
 ghost use Rattle.hp_events.specs.Event.{event_of, shows_bytes};
 ghost use Rattle.hp_shared.specs.Slots.{names_reply};
 ghost use Rattle.hp_shared.specs.Tables.{table_reply};
@@ -111,7 +112,7 @@ impl<'a, N: Naming, R: Wait, G: Gate, const K: usize> Session<'a, N, R, G, K> {
         room: &'b mut [u8],
     ) -> (Result<Told<'b>, Refusal>, Option<Receipt>)
         requires within { at < self.now.slots }
-        requires room { shows_bytes event ≡ true → 256 ≤ length room.old }
+        requires room { shows_bytes event ≡ true → most_bytes ≤ length room.old }
         requires apart { lists_names (event_of home event) ≡ false }
         requires copies { (K == 1) ≡ true → AreCopies (bytes_of_event (event_of 0 event)) copies }
         ensures handed { IsHanded (K == 1) N.page_bytes (OnSlot at (event_of home event.entry))
@@ -145,7 +146,7 @@ impl<'a, N: Naming, R: Wait, G: Gate, const K: usize> Session<'a, N, R, G, K> {
     ) -> Result<Told<'b>, Refusal>
         requires unkept { (K == 1) ≡ false }
         requires within { at < self.now.slots }
-        requires room { shows_bytes event ≡ true → 256 ≤ length room.old }
+        requires room { shows_bytes event ≡ true → most_bytes ≤ length room.old }
         requires apart { lists_names (event_of home event) ≡ false }
         ensures handed { IsHanded (K == 1) N.page_bytes (OnSlot at (event_of home event.entry))
             (told_reply result) None }

@@ -5,6 +5,7 @@ ghost use Rattle.hp_model.specs.declared.answer.Answer.TheVariants.{Done};
 ghost use Rattle.hp_model.specs.declared.step.Step.TheVariants.{Exit, Fork};
 ghost use Rattle.hp_model.specs.machine.Accesses.{done_reply};
 ghost use Rattle.hp_model.specs.machine.Step.{Script, exit_slots, fork_slots, script, undone};
+ghost use Rattle.hp_model.specs.Profile.{most_slots};
 ghost use Rattle.hp_shared.specs.Slots.{is_trace_full};
 ghost use Rattle.hp_shared.specs.Tables.{table_reply};
 ghost use Rattle.hp_sessions.specs.Calls.{Carries, Grows, HasReceiptRoom, Leads};
@@ -14,12 +15,10 @@ use super::Session;
 use hp_locked::Gate;
 use hp_model::event::TableEvent;
 use hp_model::naming::Naming;
+use hp_model::profile::MOST_SLOTS;
 use hp_model::refusal::Refusal;
 use hp_shared::TableTold;
 use std::sync::Wait;
-
-/// The most slots.
-const MOST_SLOTS: usize = 64;
 
 impl<'a, N: Naming, R: Wait, G: Gate, const K: usize> Session<'a, N, R, G, K> {
     // Ends a task, and then its maps go, slot after slot.
@@ -84,7 +83,7 @@ impl<'a, N: Naming, R: Wait, G: Gate, const K: usize> Session<'a, N, R, G, K> {
     ) -> Refusal
         requires places { HasReceiptRoom (K == 1) (count + 1) self.old }
         requires within { count ≤ self.old.slots }
-        requires few { count ≤ 64 }
+        requires few { count ≤ most_slots }
         requires noted { is_trace_full (Err refusal) ≡ false }
         ensures { Carries (K == 1) N.page_bytes self.old
             (undone (marked_below done.now count) child refusal) (Err result) self.new }
@@ -103,7 +102,7 @@ impl<'a, N: Naming, R: Wait, G: Gate, const K: usize> Session<'a, N, R, G, K> {
 }
 
 fn is_done(done: &[bool; MOST_SLOTS], at: usize) -> bool
-    requires { at < 64 }
+    requires { at < most_slots }
     ensures { result ≡ slice_index_or done.now at false }
 {
     done[at]

@@ -7,6 +7,7 @@ ghost use Rattle.hp_model.specs.declared.event.SlotEvent.TheVariants.{ForkMaps, 
 ghost use Rattle.hp_model.specs.machine.Step.{Script, exit_slot, finding, on_slot};
 ghost use Rattle.hp_model.specs.machine.Told.{told_answer, told_reply};
 ghost use Rattle.hp_model.specs.text.Writing.{IsWithinLimits};
+ghost use Rattle.hp_model.specs.Profile.{most_bytes};
 ghost use Rattle.hp_events.specs.Event.{event_of, shows_bytes};
 ghost use Rattle.hp_shared.specs.Tables.{table_reply};
 ghost use Rattle.hp_sessions.specs.Calls.{Carries, Grows, HasReceiptRoom, IsMade, Leads};
@@ -102,7 +103,7 @@ impl<'a, N: Naming, R: Wait, G: Gate, const K: usize> Session<'a, N, R, G, K> {
         room: &'b mut [u8],
     ) -> Result<Told<'b>, Refusal>
         requires places { HasReceiptRoom (K == 1) 1 self.old }
-        requires room { shows_bytes event ≡ true → 256 ≤ length room.old }
+        requires room { shows_bytes event ≡ true → most_bytes ≤ length room.old }
         requires apart { lists_names (event_of home event) ≡ false }
         requires copies { (K == 1) ≡ true → AreCopies (bytes_of_event (event_of 0 event)) copies }
         ensures carried { Carries (K == 1) N.page_bytes self.old
@@ -131,7 +132,7 @@ impl<'a, N: Naming, R: Wait, G: Gate, const K: usize> Session<'a, N, R, G, K> {
         room: &'b mut [u8],
     ) -> Result<Told<'b>, Refusal>
         requires unkept { (K == 1) ≡ false }
-        requires room { shows_bytes event ≡ true → 256 ≤ length room.old }
+        requires room { shows_bytes event ≡ true → most_bytes ≤ length room.old }
         requires apart { lists_names (event_of home event) ≡ false }
         ensures carried { Carries (K == 1) N.page_bytes self.old
             (on_slot self.old.slots slot (event_of home event.entry))

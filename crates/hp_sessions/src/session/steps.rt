@@ -7,6 +7,7 @@ ghost use Rattle.hp_model.specs.machine.Accesses.{bytes_reply, done_reply, load_
 ghost use Rattle.hp_model.specs.machine.Copying.{has_bytes};
 ghost use Rattle.hp_model.specs.machine.Told.{told_answer, told_reply};
 ghost use Rattle.hp_model.specs.text.Writing.{IsWithinLimits};
+ghost use Rattle.hp_model.specs.Profile.{most_bytes};
 ghost use Rattle.hp_events.specs.Event.{event_of, shows_bytes};
 ghost use Rattle.hp_shared.specs.Tables.{table_reply};
 ghost use Rattle.hp_events.specs.declared.work.Work.TheVariants.{OfTask as OfATask, OnSlot as OnASlot};
@@ -22,6 +23,7 @@ use hp_locked::Gate;
 use hp_model::answer::Reply;
 use hp_model::event::{PoolEvent, TableEvent};
 use hp_model::naming::Naming;
+use hp_model::profile::MOST_BYTES;
 use hp_model::refusal::Refusal;
 use hp_model::service::Access;
 use hp_model::step::Step;
@@ -41,13 +43,13 @@ impl<'a, N: Naming, R: Wait, G: Gate, const K: usize> Session<'a, N, R, G, K> {
         ensures answered { IsCallAnswered (K == 1) N.page_bytes self.old step.now result self.new }
         ensures limits { IsWithinLimits result }
     {
-        let mut room = [0u8; 256];
+        let mut room = [0u8; MOST_BYTES];
         whole(self.do_step(step, &mut room))
     }
 
     /// Answers a step as `call` does. Bytes are in the front of the room.
     pub fn do_step<'b>(&mut self, step: &Step<'_>, room: &'b mut [u8]) -> Result<Told<'b>, Refusal>
-        requires { 256 ≤ length room.old }
+        requires { most_bytes ≤ length room.old }
         ensures answered { IsCallAnswered (K == 1) N.page_bytes self.old step.now
             (told_reply result)
             self.new }
@@ -95,11 +97,11 @@ impl<'a, N: Naming, R: Wait, G: Gate, const K: usize> Session<'a, N, R, G, K> {
         count: u64,
         room: &'b mut [u8],
     ) -> Result<&'b [u8], Refusal>
-        requires { 256 ≤ length room.old }
+        requires { most_bytes ≤ length room.old }
         ensures answered { IsCallAnswered (K == 1) N.page_bytes self.old
             (load_step access.now count)
             (bytes_reply result) self.new }
-        ensures few { IfOk result (λ bytes. length bytes.now ≤ 256) }
+        ensures few { IfOk result (λ bytes. length bytes.now ≤ most_bytes) }
     {
         let event = MountEvent::Load {
             task: access.task,
@@ -131,7 +133,7 @@ impl<'a, N: Naming, R: Wait, G: Gate, const K: usize> Session<'a, N, R, G, K> {
     // What a step asks of which part.
     #[inline(never)]
     fn do_work<'b>(&mut self, work: &Work<'_>, room: &'b mut [u8]) -> Result<Told<'b>, Refusal>
-        requires room { 256 ≤ length room.old }
+        requires room { most_bytes ≤ length room.old }
         requires apart { ListsByNamesAlone work.now }
         ensures worked { IsWorked (K == 1) N.page_bytes self.old work.now (told_reply result)
             self.new }
@@ -183,7 +185,7 @@ impl<'a, N: Naming, R: Wait, G: Gate, const K: usize> Session<'a, N, R, G, K> {
         event: MountEvent<'_>,
         room: &'b mut [u8],
     ) -> Result<Told<'b>, Refusal>
-        requires room { shows_bytes event ≡ true → 256 ≤ length room.old }
+        requires room { shows_bytes event ≡ true → most_bytes ≤ length room.old }
         requires apart { lists_names (event_of 0 event) ≡ false }
         ensures worked { IsWorked (K == 1) N.page_bytes self.old (OfATask task slot event.entry)
             (told_reply result) self.new }
@@ -215,7 +217,7 @@ impl<'a, N: Naming, R: Wait, G: Gate, const K: usize> Session<'a, N, R, G, K> {
         room: &'b mut [u8],
     ) -> Result<Told<'b>, Refusal>
         requires unkept { (K == 1) ≡ false }
-        requires room { shows_bytes event ≡ true → 256 ≤ length room.old }
+        requires room { shows_bytes event ≡ true → most_bytes ≤ length room.old }
         requires apart { lists_names (event_of 0 event) ≡ false }
         ensures worked { IsWorked (K == 1) N.page_bytes self.old (OnASlot slot event.entry)
             (told_reply result) self.new }
@@ -234,7 +236,7 @@ impl<'a, N: Naming, R: Wait, G: Gate, const K: usize> Session<'a, N, R, G, K> {
         room: &'b mut [u8],
     ) -> Result<Told<'b>, Refusal>
         requires unkept { (K == 1) ≡ false }
-        requires room { shows_bytes event ≡ true → 256 ≤ length room.old }
+        requires room { shows_bytes event ≡ true → most_bytes ≤ length room.old }
         requires apart { lists_names (event_of 0 event) ≡ false }
         ensures worked { IsWorked (K == 1) N.page_bytes self.old (OfATask task slot event.entry)
             (told_reply result) self.new }
@@ -305,7 +307,7 @@ fn into_bytes<'b>(told: Result<Told<'b>, Refusal>) -> Result<&'b [u8], Refusal>
     requires bytes { IfOk told (λ told. IsBytes (told_answer told)) }
     requires limits { IsWithinLimits (told_reply told) }
     ensures reply { bytes_reply result ≡ told_reply told.entry }
-    ensures few { IfOk result (λ bytes. length bytes.now ≤ 256) }
+    ensures few { IfOk result (λ bytes. length bytes.now ≤ most_bytes) }
 {
     match told {
         Ok(Told::Bytes(bytes)) => Ok(bytes),

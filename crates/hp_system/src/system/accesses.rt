@@ -5,6 +5,7 @@ ghost use Rattle.hp_model.specs.machine.Accesses.{bytes_reply, done_reply, load_
 ghost use Rattle.hp_model.specs.machine.Promises.{IsPromised, takes_memory};
 ghost use Rattle.hp_model.specs.machine.State.{slot_at};
 ghost use Rattle.hp_model.specs.machine.Step.{IsStep};
+ghost use Rattle.hp_model.specs.Profile.{most_bytes};
 ghost use Rattle.hp_events.specs.Memory.{asks_memory};
 ghost use Rattle.hp_system.specs.Event.{DoesOnSlot, load_event, store_event};
 ghost use Rattle.hp_system.specs.Kept.{IsReadyMachine};
@@ -19,7 +20,7 @@ impl<N: Naming> System<N> {
     /// Does the step of a load of `count` bytes, as `apply` does, and answers them in the front of the room.
     ///
     /// Refused, and then nothing changes, by the first of these that holds: NoSuchTask, NoSuchSlot, NoSuchMap;
-    /// OutOfRange where the index is not mapped or no byte is asked for, CrossesPage, TooMany above 256 bytes, BeyondEnd;
+    /// OutOfRange where the index is not mapped or no byte is asked for, CrossesPage, TooMany above `MOST_BYTES`, BeyondEnd;
     /// and where no page is there or reserved, MountFull, OutOfMemory or NoPages.
     pub fn load<'a>(
         &mut self,
@@ -28,7 +29,7 @@ impl<N: Naming> System<N> {
         room: &'a mut [u8],
     ) -> Result<&'a [u8], Refusal>
         requires ready { IsReadyMachine self.old }
-        requires room { 256 ≤ length room.old }
+        requires room { most_bytes ≤ length room.old }
         ensures step { IsStep self.old.state (load_step access.now count)
             (bytes_reply result) self.new.state }
         ensures promised { IsPromised self.old.state (load_step access.now count)
@@ -36,7 +37,7 @@ impl<N: Naming> System<N> {
         ensures memory { takes_memory self.old.state (load_step access.now count) ≡ false
             → result ≢ Err Refusal.OutOfMemory }
         ensures size { self.new.state.page_size ≡ self.old.state.page_size }
-        ensures few { IfOk result (λ bytes. length bytes.now ≤ 256) }
+        ensures few { IfOk result (λ bytes. length bytes.now ≤ most_bytes) }
         ensures ready { IsReadyMachine self.new }
     {
         self.load_of_task(access, count, room)
@@ -65,13 +66,13 @@ impl<N: Naming> System<N> {
         room: &'a mut [u8],
     ) -> Result<&'a [u8], Refusal>
         requires ready { IsReadyMachine self.old }
-        requires room { 256 ≤ length room.old }
+        requires room { most_bytes ≤ length room.old }
         ensures step { IsStep self.old.state (load_step access.now count)
             (bytes_reply result) self.new.state }
         ensures memory { asks_memory (slot_at self.old.state access.now.slot)
             (load_event access.now count 0) ≡ false → result ≢ Err Refusal.OutOfMemory }
         ensures size { self.new.state.page_size ≡ self.old.state.page_size }
-        ensures few { IfOk result (λ bytes. length bytes.now ≤ 256) }
+        ensures few { IfOk result (λ bytes. length bytes.now ≤ most_bytes) }
         ensures ready { IsReadyMachine self.new }
     {
         match self.table.home(access.task) {
@@ -106,13 +107,13 @@ impl<N: Naming> System<N> {
         room: &'a mut [u8],
     ) -> Result<&'a [u8], Refusal>
         requires ready { IsReadyMachine self.old }
-        requires room { 256 ≤ length room.old }
+        requires room { most_bytes ≤ length room.old }
         ensures done { DoesOnSlot self.old.state access.now.slot (load_event access.now count home)
             (bytes_reply result) self.new.state }
         ensures memory { asks_memory (slot_at self.old.state access.now.slot)
             (load_event access.now count home) ≡ false → result ≢ Err Refusal.OutOfMemory }
         ensures size { self.new.state.page_size ≡ self.old.state.page_size }
-        ensures few { IfOk result (λ bytes. length bytes.now ≤ 256) }
+        ensures few { IfOk result (λ bytes. length bytes.now ≤ most_bytes) }
         ensures ready { IsReadyMachine self.new }
     {
         let page_bytes = self.page_bytes();

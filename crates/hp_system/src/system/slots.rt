@@ -9,6 +9,7 @@ ghost use Rattle.hp_model.specs.machine.Accesses.{done_reply};
 ghost use Rattle.hp_model.specs.machine.State.{slot_at};
 ghost use Rattle.hp_model.specs.machine.Told.{told_reply};
 ghost use Rattle.hp_model.specs.text.Writing.{IsWithinLimits};
+ghost use Rattle.hp_model.specs.Profile.{most_bytes};
 ghost use Rattle.hp_events.specs.Event.{event_of, is_usage};
 ghost use Rattle.hp_events.specs.Memory.{asks_memory};
 ghost use Rattle.hp_system.specs.Event.{AreExited, AreForked, DoesOfTask, DoesOnSlot, IsForkedOn, mapped_slots};
@@ -148,7 +149,7 @@ impl<N: Naming> System<N> {
         reply: &mut Result<Told<'a>, Refusal>,
     )
         requires ready { IsReadyMachine self.old }
-        requires room { 256 ≤ length room.old }
+        requires room { most_bytes ≤ length room.old }
         ensures done { DoesOnSlot self.old.state slot (event_of home event.now)
             (told_reply reply.new) self.new.state }
         ensures memory { asks_memory (slot_at self.old.state slot) (event_of home event.now)
@@ -182,7 +183,7 @@ impl<N: Naming> System<N> {
         reply: &mut Result<Told<'a>, Refusal>,
     )
         requires ready { IsReadyMachine self.old }
-        requires room { 256 ≤ length room.old }
+        requires room { most_bytes ≤ length room.old }
         ensures done { DoesOfTask self.old.state task slot (λ home. event_of home event.now)
             (told_reply reply.new) self.new.state }
         ensures memory { asks_memory (slot_at self.old.state slot) (event_of 0 event.now) ≡ false

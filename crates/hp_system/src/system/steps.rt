@@ -12,6 +12,7 @@ ghost use Rattle.hp_model.specs.machine.Told.{told_reply};
 ghost use Rattle.hp_model.specs.pool.Resize.{node_counts};
 ghost use Rattle.hp_model.specs.text.Writing.{IsWithinLimits};
 ghost use Rattle.hp_model.specs.machine.Promises.{takes_memory};
+ghost use Rattle.hp_model.specs.Profile.{most_bytes};
 ghost use Rattle.hp_system.specs.Kept.{IsReadyMachine};
 
 use super::System;
@@ -19,13 +20,11 @@ use hp_events::{MountEvent, Work, work_of};
 use hp_model::answer::{Counts, NodeCount, Reply};
 use hp_model::event::PoolEvent;
 use hp_model::naming::Naming;
+use hp_model::profile::{MOST_BYTES, MOST_OVERCOMMIT};
 use hp_model::refusal::Refusal;
 use hp_model::step::Step;
 use hp_model::told::Told;
 use std::alloc::{AllocError, Global};
-
-/// The most that overcommit may be set to, in pages.
-const MOST_OVERCOMMIT: u64 = 4_294_967_295;
 
 impl<N: Naming> System<N> {
     /// Adds a task with its home node, from which its pages come first.
@@ -201,7 +200,7 @@ impl<N: Naming> System<N> {
         ensures limits { IsWithinLimits result }
         ensures ready { IsReadyMachine self.new }
     {
-        let mut room = [0u8; 256];
+        let mut room = [0u8; MOST_BYTES];
         let mut reply = Ok(Told::Done);
         self.do_step(step, &mut room, &mut reply);
         whole(reply)
@@ -273,7 +272,7 @@ impl<N: Naming> System<N> {
         reply: &mut Result<Told<'a>, Refusal>,
     )
         requires ready { IsReadyMachine self.old }
-        requires room { 256 ≤ length room.old }
+        requires room { most_bytes ≤ length room.old }
         ensures done { IsScript self.old.state
             (work_script (length self.old.state.slots) work.entry) (told_reply reply.new)
             self.new.state }
@@ -306,7 +305,7 @@ impl<N: Naming> System<N> {
         reply: &mut Result<Told<'a>, Refusal>,
     )
         requires ready { IsReadyMachine self.old }
-        requires room { 256 ≤ length room.old }
+        requires room { most_bytes ≤ length room.old }
         ensures step { IsStep self.old.state step.now (told_reply reply.new) self.new.state }
         ensures usage { is_usage step.now ≡ true → IsWithinLimits (told_reply reply.new) }
         ensures memory { takes_memory self.old.state step.now ≡ false

@@ -18,8 +18,8 @@ returns-in_err-answer_chunk-clause-served g c =
     let some : 0 < c.in_ok-n.n = omega arith in
     rw (e.1, e.2, cut.0) (cut_short i.progress got (but_one got some) i.page cut.1)
 
-pub returns-then-total-gt-INPUT_LIMIT-clause-served : goal.returns-then-total-gt-INPUT_LIMIT-clause-served
-returns-then-total-gt-INPUT_LIMIT-clause-served g c =
+pub returns-then-total-gt-MOST_INPUT_BYTES-clause-served : goal.returns-then-total-gt-MOST_INPUT_BYTES-clause-served
+returns-then-total-gt-MOST_INPUT_BYTES-clause-served g c =
     let i = c.loop.invariant in
     let got = gets_as c.bytes-bytes.ensures c.in_ok-n.ensures.got in
     let some : 0 < c.in_ok-n.n = omega arith in

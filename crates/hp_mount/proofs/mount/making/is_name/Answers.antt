@@ -10,5 +10,5 @@ pub returns-clause-is : goal.returns-clause-is
 returns-clause-is c =
     let bytes : c.all.result ≡ list_all is_name_byte c.args.name.now = all_from_yields_List is_name_byte _ _ c.all.result c.all.ensures.ran
     (YieldsList-from_slice c.args.name.now c.iter.ensures.rest) (λ x b q k. search (rules, tests)) in
-    let inside : is_between 1 64 (length c.args.name.now) ≡ true = grind (arith, nat_tests, c.if-name-lt1.false, c.if-name-gt64.false) in
+    let inside : is_between 1 64 (length c.args.name.now) ≡ true = grind (arith, nat_tests, c.if-name-lt1.false, c.if-name-gt-MOST_NAME_BYTES.false) in
     rw (bytes, inside) refl

@@ -2,7 +2,7 @@ use Rattle.std.proofs.Common.{◌≡◌, ℕ, ◌+◌, ◌++◌, ◌∷◌, [], 
 use Rattle.std.proofs.lemmas.List.{length-append, length-set}
 use Rattle.std.proofs.lemmas.List.Elements.{filter_map-append}
 use Rattle.hp_model.specs.machine.Table.{Table, added, home_of}
-use Rattle.hp_tasks.specs.Table.{AreCounted, HasEachOnce, Slot, tasks_in}
+use Rattle.hp_tasks.specs.Table.{AreCounted, HasEachOnce, Slot, tasks_in, rests}
 use Rattle.hp_tasks.proofs.Slots.{counted_more}
 use Rattle.hp_tasks.proofs.Tasks.{once_added}
 use Rattle.hp_tasks.proofs.table.TaskTable.add.Goals as goal
@@ -21,7 +21,7 @@ pub invariant_of-self : goal.invariant_of-self
 invariant_of-self c =
     let absent = subst (λ (t : Table). home_of t c.args.task ≡ None) (sym c.self.view_is) c.requires.absent in
     let counts = c.deref_mut-3.result.now in
-    let long : length counts ≡ 16384 = ap length c.deref_mut-3.ensures.value ∙ c.self.invariant.long in
+    let long : length counts ≡ rests = ap length c.deref_mut-3.ensures.value ∙ c.self.invariant.long in
     let counted = subst (AreCounted c.self.inside.slots.items) (sym c.deref_mut-3.ensures.value) c.self.invariant.counted in
     record {
       once = subst HasEachOnce (sym (more c)) (once_added (tasks c) c.args.task c.args.home absent c.self.invariant.once);

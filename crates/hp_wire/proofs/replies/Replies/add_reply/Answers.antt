@@ -6,8 +6,8 @@ use Rattle.hp_model.specs.text.Reading.{step_of, step_of_bytes}
 use Rattle.hp_wire.proofs.Added.{not_read}
 use Rattle.hp_wire.proofs.replies.Replies.add_reply.Goals as goal
 
-pub returns-then-line-gt-LINE_LIMIT-clause-answered : goal.returns-then-line-gt-LINE_LIMIT-clause-answered
-returns-then-line-gt-LINE_LIMIT-clause-answered g c =
+pub returns-then-line-gt-MOST_LINE_BYTES-clause-answered : goal.returns-then-line-gt-MOST_LINE_BYTES-clause-answered
+returns-then-line-gt-MOST_LINE_BYTES-clause-answered g c =
     let line = c.args.line.now in
     let long : nat_le (length line) 1024 ≡ false = grind (arith, nat_tests) in
     let same : step_of (ended line) ≡ Err LineTooLong = ap (λ b. step_of (cond {A = Line} b (Ok line) (Err LineTooLong))) long in
