@@ -7,9 +7,17 @@ use Rattle.std.specs.List.{slice_index_or, range_with_len, count_by}
 use Rattle.hp_inode.specs.Marks.{marked}
 use Rattle.hp_inode.specs.Rows.{Rows, page_in, has_slot}
 
+-- indices of a block
+abbrev pub block_size : ℕ
+block_size = 65536
+
+-- blocks of a file
+abbrev pub most_blocks : ℕ
+most_blocks = 65536
+
 -- the block of an index
 abbrev pub block_at : {X : Type 0} → List (List X) → ℕ → List X
-block_at blocks i = slice_index_or blocks (i / 65536) []
+block_at blocks i = slice_index_or blocks (i / block_size) []
 
 abbrev pub WordBlocks : Type 0
 WordBlocks = List (List ℕ)
@@ -18,16 +26,16 @@ abbrev pub RowBlocks : Type 0
 RowBlocks = List Rows
 
 abbrev pub entered_at : WordBlocks → ℕ → Bool
-entered_at words i = marked (block_at words i) (i % 65536)
+entered_at words i = marked (block_at words i) (i % block_size)
 
 abbrev pub has_place : WordBlocks → ℕ → Bool
-has_place words i = nat_lt (i % 65536) (64 * length (block_at words i))
+has_place words i = nat_lt (i % block_size) (64 * length (block_at words i))
 
 abbrev pub page_at : RowBlocks → ℕ → Option ℕ
-page_at rows i = page_in (block_at rows i) (i % 65536)
+page_at rows i = page_in (block_at rows i) (i % block_size)
 
 abbrev pub has_slot_at : RowBlocks → ℕ → Bool
-has_slot_at rows i = has_slot (block_at rows i) (i % 65536)
+has_slot_at rows i = has_slot (block_at rows i) (i % block_size)
 
 -- how many from a up to b are entered, and how many aren't
 abbrev pub entered_count : WordBlocks → ℕ → ℕ → ℕ
@@ -47,11 +55,11 @@ FindsPageAt rows a found = MatchOption found ((k : ℕ) → a ≤ k → page_at 
 
 -- few blocks, and no page past a block's end
 pub record AreBlocks (rows : RowBlocks) : Type 0 where
-  pub few : length rows ≤ 65536
-  pub within : (j k : ℕ) → 65536 ≤ k → page_in (slice_index_or rows j []) k ≡ None
+  pub few : length rows ≤ most_blocks
+  pub within : (j k : ℕ) → block_size ≤ k → page_in (slice_index_or rows j []) k ≡ None
 
 -- blocks, of which those before `bare` have no page
 pub record IsRowTable (rows : RowBlocks) (bare : ℕ) : Type 0 where
   pub blocks : AreBlocks rows
-  pub few : bare ≤ 65536
-  pub none_before : (k : ℕ) → k < bare * 65536 → page_at rows k ≡ None
+  pub few : bare ≤ most_blocks
+  pub none_before : (k : ℕ) → k < bare * block_size → page_at rows k ≡ None

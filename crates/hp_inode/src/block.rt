@@ -1,5 +1,6 @@
 //! Blocks of 65,536 indices. Below an index that is far out the blocks without entries take 16 bytes each.
 ghost use Rattle.std.specs.Prelude.{◌≡◌, ◌-◌, ◌%◌, ◌<◌, min};
+ghost use Rattle.hp_inode.specs.Blocks.{block_size};
 
 /// How many indices a block is for.
 pub const BLOCK: u64 = 65_536;
@@ -8,7 +9,7 @@ pub const BLOCK: u64 = 65_536;
 #[inline(always)]
 pub fn within_block(at: u64, end: u64) -> u64
     requires { at < end }
-    ensures { result ≡ min (65536 - at % 65536) (end - at) }
+    ensures { result ≡ min (block_size - at % block_size) (end - at) }
 {
     (BLOCK - at % BLOCK).min(end - at)
 }

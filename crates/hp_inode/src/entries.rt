@@ -2,7 +2,7 @@
 ghost use Rattle.std.specs.Prelude.{ℕ, ◌≡◌, ◌≢◌, ◌*◌, ◌<◌, ◌≤◌, ◌^◌, ◌&&◌, ◌||◌, [], length, not, true, OnOk, MatchOption};
 ghost use Rattle.std.specs.List.{slice_index_or};
 ghost use Rattle.hp_model.specs.files.Ranges.{within};
-ghost use Rattle.hp_inode.specs.Blocks.{entered_at, has_place, entered_count, missing_count};
+ghost use Rattle.hp_inode.specs.Blocks.{block_size, entered_at, has_place, entered_count, missing_count};
 ghost use Rattle.hp_inode.specs.EntryBlock.{count_in, missing_in};
 ghost use Rattle.hp_inode.specs.Marks.{marked};
 
@@ -132,7 +132,7 @@ impl Entries {
     // Makes room for the indices from `from` up to `to` of one block.
     fn make_in(&mut self, at: u64, from: u64, to: u64) -> Result<(), AllocError>
         requires some { from < to }
-        requires block { to ≤ 65536 }
+        requires block { to ≤ block_size }
         ensures ok { OnOk result (to ≤ 64 * length (slice_index_or self.new at [])) }
         ensures same { (k : ℕ) → marked (slice_index_or self.new at []) k
             ≡ marked (slice_index_or self.old at []) k }

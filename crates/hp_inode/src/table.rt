@@ -1,7 +1,7 @@
 //! Pages by index, in blocks of 65,536.
 ghost use Rattle.std.specs.Prelude.{ℕ, ◌≡◌, ◌≢◌, ◌+◌, ◌*◌, ◌/◌, ◌<◌, ◌≤◌, ◌^◌, [], OnOk, true, MatchOption};
 ghost use Rattle.std.specs.List.{slice_index_or};
-ghost use Rattle.hp_inode.specs.Blocks.{page_at, has_slot_at, FindsPageAt};
+ghost use Rattle.hp_inode.specs.Blocks.{block_size, most_blocks, page_at, has_slot_at, FindsPageAt};
 ghost use Rattle.hp_inode.specs.Rows.{page_in, has_slot, FindsPage};
 
 use crate::block::{BLOCK, within_block};
@@ -114,9 +114,9 @@ impl PageTable {
     // Where to look for the first page, of those from `a` on: a block, and an index in it.
     #[inline(always)]
     fn start(&self, a: u64) -> (u64, u64)
-        ensures small { result.1 < 65536 }
-        ensures from { a ≤ result.0 * 65536 + result.1 }
-        ensures none { (k : ℕ) → a ≤ k → k < result.0 * 65536 + result.1
+        ensures small { result.1 < block_size }
+        ensures from { a ≤ result.0 * block_size + result.1 }
+        ensures none { (k : ℕ) → a ≤ k → k < result.0 * block_size + result.1
             → page_at self.now k ≡ None }
     {
         if a < self.bare * BLOCK {
@@ -175,8 +175,8 @@ impl PageTable {
 
     // Makes a slot for each index of a block from `from` up to `to`.
     fn make_in(&mut self, at: u64, from: u64, to: u64) -> Result<(), AllocError>
-        requires few { at < 65536 }
-        requires block { to ≤ 65536 }
+        requires few { at < most_blocks }
+        requires block { to ≤ block_size }
         ensures pages { (k : ℕ) → page_in (slice_index_or self.new at []) k
             ≡ page_in (slice_index_or self.old at []) k }
         ensures kept { (k : ℕ) → has_slot (slice_index_or self.old at []) k ≡ true
