@@ -246,6 +246,7 @@ impl<N: Naming> System<N> {
 
     // The reply of an event of the pool alone.
     #[inline(always)]
+    #[tactic(auto, unfolding(hp_model::specs::machine::Step::IsStep))]
     fn tell_pool(&mut self, event: PoolEvent, reply: &mut Result<Told<'_>, Refusal>)
         requires ready { IsReadyMachine self.old }
         ensures done { IsScript self.old.state (only (OnPool event)) (told_reply reply.new)

@@ -1,5 +1,4 @@
-use Rattle.std.proofs.Common.{◌≢◌, Err, length, sym, subst, ◌∙◌}
-use Rattle.hp_model.specs.declared.refusal.Refusal.TheVariants.{OutOfMemory}
+use Rattle.std.proofs.Common.{length, sym, subst, ◌∙◌}
 use Rattle.hp_model.specs.machine.Step.{IsScript}
 use Rattle.hp_model.specs.machine.Told.{told_reply}
 use Rattle.hp_system.proofs.system.System.do_step.Goals as goal
