@@ -15,7 +15,7 @@ use Rattle.hp_model.specs.Lists.{edit_range, part}
 use Rattle.hp_model.specs.machine.Promises.{is_in}
 use Rattle.hp_model.proofs.Counting.{count_cons}
 use Rattle.hp_model.proofs.Editing.{length-edit_range, sum_by-edit_range}
-use Rattle.hp_laws.proofs.Cuts.{ranged}
+use Rattle.hp_laws.proofs.ending.Cuts.{ranged}
 use Rattle.hp_lookup.specs.Held.{in_cell, in_map, in_place}
 use Rattle.hp_lookup.specs.Numbered.{NumberedFile, with_punched, with_truncated}
 use Rattle.hp_file.proofs.Drops.{part_at}

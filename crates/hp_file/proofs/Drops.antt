@@ -19,7 +19,7 @@ use Rattle.hp_model.specs.files.Page.{Page}
 use Rattle.hp_store.specs.Store as store
 use Rattle.hp_store.specs.Store.{Holding, Store, held_count, held_once_less, holders_of, one_if_held, page_at}
 use Rattle.hp_model.specs.machine.Promises.{is_in}
-use Rattle.hp_laws.proofs.Places.{found_place}
+use Rattle.hp_laws.proofs.lists.Places.{found_place}
 use Rattle.hp_mapping.proofs.Ranges.{at_start}
 use Rattle.hp_lookup.specs.Numbered.{page_in}
 use Rattle.hp_lookup.specs.Dropping.{HasHolders, IsDropping, at_node, count_at}

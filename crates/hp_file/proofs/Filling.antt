@@ -14,7 +14,7 @@ use Rattle.hp_model.specs.files.Page.{Page}
 use Rattle.hp_model.specs.Lists.{edit_range, part}
 use Rattle.hp_model.proofs.Counting.{count_alike, count_cons, count_map}
 use Rattle.hp_model.proofs.Editing.{get_or-edit_within}
-use Rattle.hp_laws.proofs.NodesOf.{length-nodes_of}
+use Rattle.hp_laws.proofs.lists.NodesOf.{length-nodes_of}
 use Rattle.hp_mount_door.specs.Door.{by_node}
 use Rattle.hp_mount_door.specs.Filling.{AreRising}
 use Rattle.hp_store.specs.Store.{Store}

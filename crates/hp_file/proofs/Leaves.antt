@@ -15,7 +15,7 @@ use Rattle.hp_model.specs.declared.place.Place.TheVariants.{Gone, Live}
 use Rattle.hp_model.specs.files.Mapping.{Mapping, copy_of, is_of, is_unconsumed, map_punched, without_copy, without_range}
 use Rattle.hp_model.specs.Lists.{edit_range, part}
 use Rattle.hp_model.proofs.Editing.{length-edit_range}
-use Rattle.hp_laws.proofs.Cuts.{ranged}
+use Rattle.hp_laws.proofs.ending.Cuts.{ranged}
 use Rattle.hp_lookup.specs.Held.{in_map, in_place}
 use Rattle.hp_lookup.specs.Hints.{Noted, has_key}
 use Rattle.hp_lookup.specs.Leaving.{IsMoreButMap, IsMoreButTask, map_named, owed}

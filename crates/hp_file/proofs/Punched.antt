@@ -7,7 +7,7 @@ use Rattle.std.proofs.lemmas.List.{get_or_default, get_or-set_other, get_or-set_
 use Rattle.hp_model.specs.Lists.{edit_range}
 use Rattle.hp_model.specs.machine.Promises.{is_in}
 use Rattle.hp_model.proofs.Editing.{length-edit_range}
-use Rattle.hp_laws.proofs.Cuts.{ranged}
+use Rattle.hp_laws.proofs.ending.Cuts.{ranged}
 
 pub in_from : (a b i : ℕ) → a ≤ i → i < b → is_in a b i ≡ true
 in_from a b i low high = grind (arith, nat_tests)

@@ -14,7 +14,7 @@ use Rattle.hp_model.specs.files.MountCounts.{stamps_of}
 use Rattle.hp_model.specs.files.Page.{Page, Copy}
 use Rattle.hp_model.specs.machine.Sound.{place_has, map_has, is_stamp}
 use Rattle.hp_model.proofs.Distinct.{is_among-append}
-use Rattle.hp_laws.proofs.Holding.{stamps_are}
+use Rattle.hp_laws.proofs.counts.CopiesHeld.{stamps_are}
 use Rattle.hp_store.specs.Store.{Store, page_at, holders_of, first_held}
 use Rattle.hp_lookup.specs.Files.{file_at}
 use Rattle.hp_lookup.specs.Numbered.{NumberedFile, mapping_at, no_mapping, numbered_at, page_in, place_shown, map_shown, file_shown, files_shown}

@@ -6,7 +6,7 @@ use Rattle.std.proofs.lemmas.Bool.{cases_lt, eqb-true}
 use Rattle.std.proofs.lemmas.Bool.Decides.{nat_tests}
 use Rattle.std.proofs.lemmas.List.{length-map}
 use Rattle.std.proofs.lemmas.List.Sums.{sum_by-cons}
-use Rattle.hp_laws.proofs.Places.{sum_by-filter_le}
+use Rattle.hp_laws.proofs.lists.Places.{sum_by-filter_le}
 use Rattle.hp_model.specs.files.GiveBack.{file_without, is_kept}
 use Rattle.hp_model.specs.files.Mapping.{Map, Mapping, is_map, is_of, map_punched}
 use Rattle.hp_model.proofs.Counting.{count_cons, count_map}

@@ -7,8 +7,8 @@ use Rattle.std.proofs.lemmas.Bool.Decides.{eqb_tells}
 use Rattle.std.proofs.lemmas.List.{get_or-map, get_or-set_other, get_or-set_same, length-map, length-set, map-set}
 use Rattle.std.proofs.lemmas.List.Folds.{list_any_at}
 use Rattle.std.proofs.lemmas.List.Sums.{sum_by-cons, sum_by-set}
-use Rattle.hp_laws.proofs.CopyWrites.{takes_back}
-use Rattle.hp_laws.proofs.Copies.{live_of}
+use Rattle.hp_laws.proofs.steps.CopyWrites.{takes_back}
+use Rattle.hp_laws.proofs.counts.Copies.{live_of}
 use Rattle.hp_mapping.proofs.Ranges.{at_start}
 use Rattle.hp_mapping.specs.Mapped.{at_place}
 use Rattle.hp_model.specs.declared.place.Place.{Place}

@@ -25,8 +25,8 @@ use Rattle.std.specs.Bool.{MatchBool}
 use Rattle.hp_trail.specs.Keeping.{has_room, one_less, with_entry}
 use Rattle.hp_locked.specs.Views.{IsFresh, Asks, HasPlaces, IsAnswered, CoreView, IsCore, IsGiven, IsPlace, IsPoolTrail}
 use Rattle.hp_model.specs.threads.Closing.{to_return}
-use Rattle.hp_laws.proofs.Closing.{most_return, step_frames}
-use Rattle.hp_laws.proofs.Lengths.{long_event}
+use Rattle.hp_laws.proofs.settled.Closing.{most_return, step_frames}
+use Rattle.hp_laws.proofs.sections.Lengths.{long_event}
 use Rattle.hp_model.specs.declared.event.PoolEvent.{PoolEvent}
 use Rattle.hp_model.specs.machine.Plan.{Reply}
 use Rattle.hp_model.specs.pool.Grant.{granted, surplus_times}

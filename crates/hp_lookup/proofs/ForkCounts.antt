@@ -7,7 +7,7 @@ use Rattle.std.proofs.lemmas.Bool.Decides.{nat_tests}
 use Rattle.std.proofs.lemmas.List.{length-append}
 use Rattle.std.proofs.lemmas.List.Folds.{list_any-append}
 use Rattle.std.proofs.lemmas.List.Sums.{sum_by-append, sum_by-cons}
-use Rattle.hp_laws.proofs.Holding.{one_more_member}
+use Rattle.hp_laws.proofs.counts.CopiesHeld.{one_more_member}
 use Rattle.hp_model.specs.files.File.{File}
 use Rattle.hp_model.specs.files.Fork.{file_forked}
 use Rattle.hp_model.specs.files.GiveBack.{is_kept}

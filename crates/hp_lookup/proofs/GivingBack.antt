@@ -18,7 +18,7 @@ use Rattle.hp_model.specs.files.Page.{Copy, Page}
 use Rattle.hp_model.specs.Lists.{edit_range}
 use Rattle.hp_model.proofs.Counting.{count_alike, count_map}
 use Rattle.hp_model.proofs.Editing.{sum_by-edit_range}
-use Rattle.hp_laws.proofs.Places.{sum_by-map_le}
+use Rattle.hp_laws.proofs.lists.Places.{sum_by-map_le}
 use Rattle.hp_store.specs.Store.{Store, holders_of, page_at}
 use Rattle.hp_lookup.specs.Dropping.{IsDropping, IsLeft}
 use Rattle.hp_lookup.specs.Files.{edited_at, file_at}

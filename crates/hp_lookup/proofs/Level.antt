@@ -12,7 +12,7 @@ use Rattle.hp_model.specs.declared.place.Place.TheVariants.{Gone, Live}
 use Rattle.hp_model.specs.Lists.{edit_range}
 use Rattle.hp_model.specs.files.Mapping.{Mapping, copy_of, map_punched, place_at, without_copy, without_range}
 use Rattle.hp_model.specs.machine.Promises.{is_in}
-use Rattle.hp_laws.proofs.Cuts.{ranged}
+use Rattle.hp_laws.proofs.ending.Cuts.{ranged}
 use Rattle.hp_lookup.specs.Level.{AreLevel, copy_in}
 use Rattle.hp_lookup.specs.Numbered.{NumberedFile, no_mapping}
 

@@ -12,8 +12,8 @@ use Rattle.hp_model.specs.declared.cell.Cell.TheVariants.{Hole}
 use Rattle.hp_model.specs.declared.place.Place.TheVariants.{Gone, Live}
 use Rattle.hp_model.specs.files.Page.{Copy}
 use Rattle.hp_model.specs.Lists.{edit_at}
-use Rattle.hp_laws.proofs.FileMoves.{FileGrows, live_at}
-use Rattle.hp_laws.proofs.CopyWrites.{writes}
+use Rattle.hp_laws.proofs.counts.FileMoves.{FileGrows, live_at}
+use Rattle.hp_laws.proofs.steps.CopyWrites.{writes}
 use Rattle.hp_model.specs.threads.LocalRun.{ThroughDoor}
 use Rattle.hp_model.specs.files.Mapping.{Map, copy_of, is_shared, is_unconsumed, place_at, with_place}
 use Rattle.hp_model.specs.machine.Accesses.{done_reply}

@@ -5,8 +5,8 @@ use Rattle.std.specs.Bool.{IsTrue}
 use Rattle.std.specs.List.{flat_map, sum_by}
 use Rattle.std.proofs.lemmas.Bool.{and_parts, or_parts}
 use Rattle.std.proofs.lemmas.List.{get_or_default}
-use Rattle.hp_laws.proofs.CopyWrites.{copy_parts, takes_back}
-use Rattle.hp_laws.proofs.FileMoves.{IsMapAt, copy_consumes, copy_grows}
+use Rattle.hp_laws.proofs.steps.CopyWrites.{copy_parts, takes_back}
+use Rattle.hp_laws.proofs.counts.FileMoves.{IsMapAt, copy_consumes, copy_grows}
 use Rattle.hp_model.proofs.Distinct.{is_among-append}
 use Rattle.hp_model.specs.declared.place.Place.{Place}
 use Rattle.hp_model.specs.declared.place.Place.TheVariants.{Live}

@@ -20,9 +20,9 @@ use Rattle.hp_model.specs.pool.Grant.{is_full, rise}
 use Rattle.hp_model.specs.pool.Pool.{filled_by, no_pages}
 use Rattle.hp_model.specs.Profile.{most_files, most_map_pages}
 use Rattle.hp_model.specs.threads.LocalRun.{ThroughDoor}
-use Rattle.hp_laws.proofs.Filled.{filled_fills}
-use Rattle.hp_laws.proofs.MountMoves.{MountFills, file_fills}
-use Rattle.hp_laws.proofs.NodesOf.{length-nodes_of}
+use Rattle.hp_laws.proofs.counts.Filled.{filled_fills}
+use Rattle.hp_laws.proofs.counts.MountMoves.{MountFills, file_fills}
+use Rattle.hp_laws.proofs.lists.NodesOf.{length-nodes_of}
 use Rattle.hp_mount_door.specs.Filling.{with_filled}
 use Rattle.hp_lookup.specs.Files.{Files, file_at}
 use Rattle.hp_file.specs.Filling.{IsTaking, pages_at}

@@ -13,10 +13,10 @@ use Rattle.hp_model.specs.machine.Promises.{file_in}
 use Rattle.hp_model.specs.declared.step.Reserving.{Reserving}
 use Rattle.hp_model.specs.declared.step.Sharing.{Sharing}
 use Rattle.hp_model.specs.files.MakeMap.{asked, mapped, with_new}
-use Rattle.hp_laws.proofs.Maps.{mapped_grows}
-use Rattle.hp_laws.proofs.FileMoves as moves
-use Rattle.hp_laws.proofs.FileMoves.{FileGrows}
-use Rattle.hp_laws.proofs.MountMoves.{MountGrows, IsFileAt, file_grows, new_grows}
+use Rattle.hp_laws.proofs.counts.OneMapMore.{mapped_grows}
+use Rattle.hp_laws.proofs.counts.FileMoves as moves
+use Rattle.hp_laws.proofs.counts.FileMoves.{FileGrows}
+use Rattle.hp_laws.proofs.counts.MountMoves.{MountGrows, IsFileAt, file_grows, new_grows}
 use Rattle.hp_lookup.specs.declared.next_map.MapRange.{MapRange}
 use Rattle.hp_lookup.specs.Asking.{wants}
 use Rattle.hp_lookup.specs.Files.{Files, file_at, filled_at, mapped_at, with_anon, with_cell_at}

@@ -2,7 +2,7 @@
 use Rattle.std.proofs.Common.{◌≡◌, ℕ, ◌+◌, ◌==◌, ◌||◌, Bool, true, false, not, cond, None, List, [], ◌∷◌, map, refl, sym, ap, ◌∙◌, arith}
 use Rattle.std.specs.List.{filter, list_any}
 use Rattle.std.proofs.lemmas.Bool.{and_parts}
-use Rattle.hp_laws.proofs.Swept.{without_after, without_none}
+use Rattle.hp_laws.proofs.ending.Swept.{without_after, without_none}
 use Rattle.hp_model.specs.files.File.{File, Mount}
 use Rattle.hp_model.specs.files.GiveBack.{file_unmapped, file_without, is_kept, is_left, map_unmapped}
 use Rattle.hp_model.specs.files.Mapping.{Map, is_map, is_mapped, is_of, without_range}

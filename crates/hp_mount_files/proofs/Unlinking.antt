@@ -15,7 +15,7 @@ use Rattle.hp_model.specs.files.File.{new_file}
 use Rattle.hp_model.specs.files.GiveBack.{is_kept, unlinked}
 use Rattle.hp_model.specs.files.MountCounts.{file_reserves, is_waiting, owner_reserves}
 use Rattle.hp_model.specs.machine.SlotEvent.{has_name}
-use Rattle.hp_laws.proofs.Places.{found_place}
+use Rattle.hp_laws.proofs.lists.Places.{found_place}
 use Rattle.hp_store.specs.Store.{Store, holders_of, page_at}
 use Rattle.hp_lookup.specs.Dropping.{IsDropping, IsLeft}
 use Rattle.hp_lookup.specs.Files.{edited_at, file_at}

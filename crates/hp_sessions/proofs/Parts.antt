@@ -32,11 +32,11 @@ use Rattle.hp_model.specs.threads.LocalRun.{Gives}
 use Rattle.hp_laws.specs.Answers.{lists_names}
 use Rattle.hp_model.specs.threads.Telling.{has_place}
 use Rattle.hp_laws.specs.Balance.{Always}
-use Rattle.hp_laws.proofs.Accessed.{bytes_on}
-use Rattle.hp_laws.proofs.MountMoves.{IsSpot, spot_is}
-use Rattle.hp_laws.proofs.Outcomes.{always_then}
-use Rattle.hp_laws.proofs.Shown.{On}
-use Rattle.hp_laws.proofs.SlotShows.{always_value}
+use Rattle.hp_laws.proofs.names.Accessed.{bytes_on}
+use Rattle.hp_laws.proofs.counts.MountMoves.{IsSpot, spot_is}
+use Rattle.hp_laws.proofs.steps.Outcomes.{always_then}
+use Rattle.hp_laws.proofs.accesses.Shown.{On}
+use Rattle.hp_laws.proofs.accesses.SlotShows.{always_value}
 use Rattle.hp_locked.specs.declared.pool_told.PoolTold.{PoolTold}
 use Rattle.hp_locked.specs.declared.pool_told.PoolTold.TheVariants as pool
 use Rattle.hp_locked.specs.Told.{IsPoolEventDone, IsReceipt, pool_reply}

@@ -14,9 +14,9 @@ use Rattle.hp_model.specs.text.Writing.{IsWithinLimits}
 use Rattle.hp_model.specs.threads.LocalRun.{Gives, Goes, ThroughDoor}
 use Rattle.hp_laws.specs.Answers.{HasNoNames, lists_names}
 use Rattle.hp_laws.specs.Balance.{Always, left_by}
-use Rattle.hp_laws.proofs.Listing.{names_are_listed}
-use Rattle.hp_laws.proofs.Outcomes.{reply_of}
-use Rattle.hp_laws.proofs.Small.{Small, slot_small, tells_all}
+use Rattle.hp_laws.proofs.promises.Listing.{names_are_listed}
+use Rattle.hp_laws.proofs.steps.Outcomes.{reply_of}
+use Rattle.hp_laws.proofs.promises.SmallReplies.{Small, slot_small, tells_all}
 use Rattle.hp_locked.specs.Views.{Asks}
 use Rattle.hp_events.specs.declared.event.MountEvent.{MountEvent}
 use Rattle.hp_events.specs.declared.event.MountEvent.TheVariants as m

@@ -10,7 +10,7 @@ use Rattle.hp_model.specs.machine.SlotEvent.{slot_event}
 use Rattle.hp_model.specs.Profile.{most_tasks}
 use Rattle.hp_model.specs.threads.Closing.{KeepsPlaces, removes_maps, to_exit}
 use Rattle.hp_model.specs.threads.LocalRun.{IsLocalRun, IsLocalStep}
-use Rattle.hp_laws.proofs.Closing.{slot_places}
+use Rattle.hp_laws.proofs.settled.Closing.{slot_places}
 use Rattle.hp_locked.specs.Views.{HasPlaces, IsFresh as IsFreshTrail}
 use Rattle.hp_trail.specs.Keeping.{has_room, one_less, with_entry}
 use Rattle.hp_shared.specs.Slots.{IsActedOr, IsLockedSlot, IsSlotEvent, IsSlotEventDone, IsSlotTrail, SlotView, Went, is_trace_full, slot_start}

@@ -7,7 +7,7 @@ use Rattle.hp_model.specs.machine.Table.{Table, table_event}
 use Rattle.hp_model.specs.Profile.{most_tasks}
 use Rattle.hp_model.specs.threads.Closing.{KeepsPlaces, removes_task, to_remove}
 use Rattle.hp_model.specs.threads.TableRun.{IsTableRun}
-use Rattle.hp_laws.proofs.Closing.{table_places}
+use Rattle.hp_laws.proofs.settled.Closing.{table_places}
 use Rattle.hp_locked.specs.Views.{HasPlaces, IsFresh}
 use Rattle.hp_trail.specs.Keeping.{has_room, one_less, with_entry}
 use Rattle.hp_shared.specs.Tables.{IsLockedTable, IsTableTrail}

@@ -19,8 +19,8 @@ use Rattle.hp_model.specs.machine.SlotEvent.{slot_event}
 use Rattle.hp_model.specs.machine.State.{State}
 use Rattle.hp_model.specs.machine.Table.{Table}
 use Rattle.hp_laws.specs.Laws.{pool_after}
-use Rattle.hp_laws.proofs.StaysSettled.{pool_is_tied, event_settled}
-use Rattle.hp_laws.proofs.Tells.{Tells, slot_event_tells}
+use Rattle.hp_laws.proofs.settled.StaysSettled.{pool_is_tied, event_settled}
+use Rattle.hp_laws.proofs.steps.Tells.{Tells, slot_event_tells}
 use Rattle.hp_events.specs.declared.event.MountEvent.{MountEvent}
 use Rattle.hp_events.specs.declared.event.MountEvent.TheVariants as event
 use Rattle.hp_mount.specs.Done.{Tried}

@@ -24,12 +24,12 @@ use Rattle.hp_mount_door.specs.Door.{IsReady as IsReadyPool}
 use Rattle.hp_model.specs.machine.Sound.{IsSound}
 use Rattle.hp_model.specs.machine.State.{State}
 use Rattle.hp_model.specs.machine.Table.{Table}
-use Rattle.hp_laws.proofs.Plans.{balanced_gives}
+use Rattle.hp_laws.proofs.steps.Plans.{balanced_gives}
 use Rattle.hp_model.proofs.RowMoves.{puts_are}
-use Rattle.hp_laws.proofs.SlotShows.{always_gives}
-use Rattle.hp_laws.proofs.Tied.{plan_tied}
+use Rattle.hp_laws.proofs.accesses.SlotShows.{always_gives}
+use Rattle.hp_laws.proofs.sections.PoolTied.{plan_tied}
 use Rattle.hp_model.specs.threads.LocalRun.{ThroughDoor}
-use Rattle.hp_laws.proofs.Tells.{tells_gives}
+use Rattle.hp_laws.proofs.steps.Tells.{tells_gives}
 use Rattle.hp_system.specs.Event.{AllGo, Exits, IsExit, SlotGoes, took}
 use Rattle.hp_system.specs.Kept.{IsReadyMachine, IsSized, Machine, all_free, machine_of, state_of}
 use Rattle.hp_system.proofs.Carries.{kept_after, kept_by, plan_is, slot_in, IsKept}

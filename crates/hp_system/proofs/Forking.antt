@@ -22,10 +22,10 @@ use Rattle.hp_model.specs.machine.State.{State, slot_at}
 use Rattle.hp_model.specs.machine.Table.{Table, added, home_of, is_crowded, is_known, or_refused, table_event, when_known}
 use Rattle.hp_model.specs.machine.Step.{Do, IsScript, IsStep, Script, fork_slots, or_undone, undone}
 use Rattle.hp_laws.specs.Balance.{Always, left_by}
-use Rattle.hp_laws.proofs.Outcomes.{event_ends, reply_of}
-use Rattle.hp_laws.proofs.Parents.{parent_stays}
-use Rattle.hp_laws.proofs.RefusalsKeep.{refusals_change_nothing}
-use Rattle.hp_laws.proofs.SlotShows.{always_gives, always_unless}
+use Rattle.hp_laws.proofs.steps.Outcomes.{event_ends, reply_of}
+use Rattle.hp_laws.proofs.promises.Parents.{parent_stays}
+use Rattle.hp_laws.proofs.steps.RefusalsKeep.{refusals_change_nothing}
+use Rattle.hp_laws.proofs.accesses.SlotShows.{always_gives, always_unless}
 use Rattle.hp_system.specs.Event.{AreExited, AreForked, IsForkedOn, mapped_slots}
 use Rattle.hp_system.proofs.MachineSteps.{first_more}
 

@@ -30,7 +30,7 @@ use Rattle.hp_model.specs.machine.Plan.{Reply, Slot}
 use Rattle.hp_model.specs.Profile.{most_overcommit}
 use Rattle.hp_model.specs.pool.PoolCounts.{Pool}
 use Rattle.hp_model.specs.pool.Resize.{no_count, node_count, node_counts, pool_event, set_nr}
-use Rattle.hp_laws.proofs.Tied.{pool_back}
+use Rattle.hp_laws.proofs.sections.PoolTied.{pool_back}
 use Rattle.hp_model.specs.declared.answer.NodeCount.{NodeCount}
 use Rattle.hp_model.specs.machine.State.{State, slot_at}
 use Rattle.hp_model.specs.machine.Step.{Script, Answer_with, Do, exit_slot, exit_slots, on_slot, only, finding, IsScript, IsStep}

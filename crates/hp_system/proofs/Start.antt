@@ -9,7 +9,7 @@ use Rattle.hp_model.specs.machine.Plan.{Slot, slot_committed}
 use Rattle.hp_model.specs.pool.PoolCounts.{Pool}
 use Rattle.hp_model.specs.machine.Settled.{IsSettledState}
 use Rattle.hp_model.specs.machine.State.{State}
-use Rattle.hp_laws.proofs.StaysSettled.{start_is_settled}
+use Rattle.hp_laws.proofs.settled.StaysSettled.{start_is_settled}
 use Rattle.hp_system.proofs.Carries.{IsKept}
 use Rattle.hp_system.specs.Kept.{state_of}
 

@@ -8,7 +8,7 @@ use Rattle.std.proofs.lemmas.List.{get_or-set_same, get_or-set_other}
 use Rattle.std.proofs.lemmas.List.Sums.{sum_by-append}
 use Rattle.std.proofs.lemmas.Iterator.Adapters.{position_from-zero}
 use Rattle.std.proofs.lemmas.List.Quantifiers.{position-Some}
-use Rattle.hp_laws.proofs.Single.{bit}
+use Rattle.hp_laws.proofs.lists.AtMostOne.{bit}
 use Rattle.hp_model.proofs.Counting.{count_cons}
 use Rattle.hp_model.specs.machine.Table.{Table, home_of, removed}
 use Rattle.hp_tasks.specs.Table.{AreCounted, Slot, count_of_rest, has_task, slot_at, tasks_in, rests}

@@ -4,8 +4,8 @@ use Rattle.std.specs.List.{count_by, find}
 use Rattle.std.specs.Option.{option_map}
 use Rattle.std.proofs.lemmas.Bool.{false_from_ne_true}
 use Rattle.std.proofs.lemmas.List.Sums.{sum_by-append}
-use Rattle.hp_laws.proofs.Places.{sum_by-filter_le}
-use Rattle.hp_laws.proofs.Single.{bit, some_counted}
+use Rattle.hp_laws.proofs.lists.Places.{sum_by-filter_le}
+use Rattle.hp_laws.proofs.lists.AtMostOne.{bit, some_counted}
 use Rattle.hp_model.proofs.Counting.{count_cons}
 use Rattle.hp_model.specs.machine.Table.{Table, added, home_of, removed}
 use Rattle.hp_tasks.specs.Table.{HasEachOnce}

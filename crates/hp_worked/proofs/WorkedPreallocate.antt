@@ -23,7 +23,7 @@ use Rattle.hp_model.specs.machine.Plan.{Reply, Slot}
 use Rattle.hp_model.specs.machine.Promises.{IsPromised, takes_memory}
 use Rattle.hp_model.specs.machine.State.{State, slot_at, with_slot}
 use Rattle.hp_model.specs.machine.Step.{IsStep}
-use Rattle.hp_laws.proofs.Outcomes.{only_goes}
+use Rattle.hp_laws.proofs.steps.Outcomes.{only_goes}
 use Rattle.hp_worked.proofs.WorkedPromises.{after_all, mounted}
 use Rattle.hp_worked.proofs.WorkedRecord.{refusal_of}
 use Rattle.hp_worked.proofs.WorkedWords.{machine}

@@ -32,8 +32,8 @@ use Rattle.hp_model.specs.pool.PoolCounts.{Pool}
 use Rattle.hp_model.specs.pool.Resize.{pool_event}
 use Rattle.hp_model.specs.machine.State.{State, slot_at}
 use Rattle.hp_model.specs.Profile.{most_frames}
-use Rattle.hp_laws.proofs.JoinedRun.{joined_law}
-use Rattle.hp_laws.proofs.StaysSettled.{start_is_settled}
+use Rattle.hp_laws.proofs.settled.JoinedRun.{joined_law}
+use Rattle.hp_laws.proofs.settled.StaysSettled.{start_is_settled}
 
 -- ---- the trails
 

@@ -1,4 +1,4 @@
-use Rattle.hp_laws.proofs.CountsHold.{limits_hold}
+use Rattle.hp_laws.proofs.settled.CountsHold.{limits_hold}
 use Rattle.hp_laws.proofs.limits_hold.Goals as goal
 
 pub returns : goal.returns

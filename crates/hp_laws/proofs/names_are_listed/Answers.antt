@@ -1,4 +1,4 @@
-use Rattle.hp_laws.proofs.Listing.{names_are_listed}
+use Rattle.hp_laws.proofs.promises.Listing.{names_are_listed}
 use Rattle.hp_laws.proofs.names_are_listed.Goals as goal
 
 pub returns : goal.returns

@@ -1,4 +1,4 @@
-use Rattle.hp_laws.proofs.Reserved.{copy_keeps}
+use Rattle.hp_laws.proofs.accesses.Reserved.{copy_keeps}
 use Rattle.hp_laws.proofs.owners_write.Goals as goal
 
 pub returns : goal.returns

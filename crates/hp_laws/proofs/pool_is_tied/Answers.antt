@@ -1,4 +1,4 @@
-use Rattle.hp_laws.proofs.StaysSettled.{pool_is_tied}
+use Rattle.hp_laws.proofs.settled.StaysSettled.{pool_is_tied}
 use Rattle.hp_laws.proofs.pool_is_tied.Goals as goal
 
 pub returns : goal.returns

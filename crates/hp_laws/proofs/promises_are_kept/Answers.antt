@@ -1,4 +1,4 @@
-use Rattle.hp_laws.proofs.Promised.{promised}
+use Rattle.hp_laws.proofs.promises.Promised.{promised}
 use Rattle.hp_laws.proofs.promises_are_kept.Goals as goal
 
 pub returns : goal.returns

@@ -1,4 +1,4 @@
-use Rattle.hp_laws.proofs.Telling.{receipts_are_few}
+use Rattle.hp_laws.proofs.settled.FewEvents.{receipts_are_few}
 use Rattle.hp_laws.proofs.receipts_are_few.Goals as goal
 
 pub returns : goal.returns

@@ -1,4 +1,4 @@
-use Rattle.hp_laws.proofs.StaysSettled.{runs_are_settled}
+use Rattle.hp_laws.proofs.settled.StaysSettled.{runs_are_settled}
 use Rattle.hp_laws.proofs.runs_are_settled.Goals as goal
 
 pub returns : goal.returns

@@ -1,4 +1,4 @@
-use Rattle.hp_laws.proofs.JoinedRun.{joined_law}
+use Rattle.hp_laws.proofs.settled.JoinedRun.{joined_law}
 use Rattle.hp_laws.proofs.trails_join.Goals as goal
 
 pub returns : goal.returns

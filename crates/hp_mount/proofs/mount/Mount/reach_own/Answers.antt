@@ -27,7 +27,7 @@ use Rattle.hp_mount.proofs.Private as private
 use Rattle.hp_mount.proofs.Private.{back_touched, copy_value, place_touched, stamped_fresh}
 use Rattle.hp_mount.proofs.Shared.{same_touched}
 use Rattle.hp_subpool.specs.Subpool as share
-use Rattle.hp_laws.proofs.Copies.{live_of}
+use Rattle.hp_laws.proofs.counts.Copies.{live_of}
 use Rattle.hp_mount.proofs.mount.Mount.reach_own.Given.{Over}
 use Rattle.hp_mount.proofs.mount.Mount.reach_own.Goals as goal
 use Rattle.hp_mount.proofs.mount.Mount.reach_own.Goals.{After-is_full}

@@ -1,7 +1,7 @@
 use Rattle.std.proofs.Common.{◌≡◌, false, Ok, Some, length, refl, sym, ap, subst, ◌∙◌, arith}
 use Rattle.hp_model.specs.declared.answer.Answer.TheVariants.{Done}
 use Rattle.hp_model.specs.declared.step.Intent.TheVariants.{Write}
-use Rattle.hp_laws.proofs.Copies.{live_of}
+use Rattle.hp_laws.proofs.counts.Copies.{live_of}
 use Rattle.hp_model.specs.files.File.{Mount, file_in, map_in}
 use Rattle.hp_model.specs.files.Mapping.{is_shared, place_at}
 use Rattle.hp_model.specs.machine.Plan.{and_then}

@@ -1,5 +1,5 @@
 use Rattle.std.proofs.Common.{◌<◌, ◌≤◌, length, refl, sym, ap, subst, arith}
-use Rattle.hp_laws.proofs.Copies.{live_of}
+use Rattle.hp_laws.proofs.counts.Copies.{live_of}
 use Rattle.hp_model.specs.files.File.{Mount, file_in, map_in, with_map}
 use Rattle.hp_model.specs.files.Mapping.{place_at, with_place}
 use Rattle.hp_model.specs.files.Spot.{place_written}

@@ -1,6 +1,6 @@
 use Rattle.std.proofs.Common.{◌≡◌, false, refl, ap, subst, ◌∙◌}
 use Rattle.std.specs.List.{flat_map}
-use Rattle.hp_laws.proofs.Copies.{live_of}
+use Rattle.hp_laws.proofs.counts.Copies.{live_of}
 use Rattle.hp_mapping.specs.Mapped.{at_place, with_copy}
 use Rattle.hp_model.specs.files.Mapping.{place_at}
 use Rattle.hp_model.specs.files.MountCounts.{stamps_of}

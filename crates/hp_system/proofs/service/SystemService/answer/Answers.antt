@@ -1,5 +1,5 @@
-use Rattle.hp_laws.proofs.Promised.{promised}
-use Rattle.hp_laws.proofs.Small.{within_limits}
+use Rattle.hp_laws.proofs.promises.Promised.{promised}
+use Rattle.hp_laws.proofs.promises.SmallReplies.{within_limits}
 use Rattle.hp_model.specs.machine.Told.{told_reply}
 use Rattle.hp_system.proofs.service.SystemService.answer.Goals as goal
 

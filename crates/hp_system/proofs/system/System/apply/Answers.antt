@@ -1,6 +1,6 @@
 use Rattle.std.proofs.Common.{sym, subst}
-use Rattle.hp_laws.proofs.Promised.{promised}
-use Rattle.hp_laws.proofs.Small.{within_limits}
+use Rattle.hp_laws.proofs.promises.Promised.{promised}
+use Rattle.hp_laws.proofs.promises.SmallReplies.{within_limits}
 use Rattle.hp_model.specs.machine.Promises.{IsPromised}
 use Rattle.hp_model.specs.machine.Told.{told_reply}
 use Rattle.hp_model.specs.text.Writing.{IsWithinLimits}

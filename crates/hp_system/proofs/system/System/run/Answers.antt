@@ -1,7 +1,7 @@
 use Rattle.std.proofs.Common.{◌≡◌, ◌+◌, ◌∷◌, ◌++◌, [], take, sym, subst, ap, ◌∙◌, arith}
 use Rattle.std.proofs.lemmas.List.{take_more}
 use Rattle.hp_model.specs.machine.Promises.{IsPromisedRun, IsPromisedStep}
-use Rattle.hp_laws.proofs.Runs.{run_more}
+use Rattle.hp_laws.proofs.steps.Runs.{run_more}
 use Rattle.hp_system.proofs.system.System.run.Goals as goal
 
 pub loop-step-preserved : goal.loop-step-preserved

@@ -1,5 +1,5 @@
 use Rattle.hp_model.specs.machine.Accesses.{done_reply, store_step}
-use Rattle.hp_laws.proofs.Promised.{promised}
+use Rattle.hp_laws.proofs.promises.Promised.{promised}
 use Rattle.hp_system.proofs.system.System.store.Goals as goal
 
 pub returns-clause-promised : goal.returns-clause-promised

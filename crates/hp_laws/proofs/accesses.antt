@@ -1,0 +1,9 @@
+-- What files and maps show after loads, stores and faults.
+pub mod Reserved
+pub mod Shown
+pub mod StoredFiles
+pub mod SlotShows
+pub mod Backed
+pub mod KeptPlaces
+pub mod StoredMaps
+pub mod CopiesSound

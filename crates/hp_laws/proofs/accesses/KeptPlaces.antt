@@ -1,0 +1,457 @@
+-- What an access, and a store after it, makes of the places of maps and of the cells of files.
+use Rattle.std.proofs.Common.{◌≡◌, ⊎_elim, inl, inr, ◌⊎◌, map, ℕ, suc, ◌+◌, ◌-◌, ◌<◌, Bool, true, false, ◌&&◌, ◌==◌, not}
+use Rattle.std.proofs.Common.{Option, None, Some, is_some, List, [], ◌∷◌, length, get_or, refl, sym, ap, ◌∙◌, subst, arith, if◌then◌else◌, nat_lt}
+use Rattle.std.specs.List.{slice_index_or, list_any}
+use Rattle.std.proofs.lemmas.Bool.{cases_eq, cond_both, eq-eqb, ltb-true, or_cases}
+use Rattle.std.proofs.lemmas.List.{get_or-set_same, get_or-set_other}
+use Rattle.std.proofs.lemmas.List.Folds.{list_any_at}
+use Rattle.hp_model.specs.declared.answer.Answer.TheVariants.{Done}
+use Rattle.hp_model.specs.declared.cell.Cell.{Cell}
+use Rattle.hp_model.specs.declared.cell.Cell.TheVariants.{Hole, Entered, Present}
+use Rattle.hp_model.specs.declared.place.Place.{Place}
+use Rattle.hp_model.specs.declared.place.Place.TheVariants.{Gone, Live}
+use Rattle.hp_model.specs.declared.refusal.Refusal.TheVariants.{TakenByOwner}
+use Rattle.hp_model.specs.declared.section.Section.TheVariants.{GrantPage}
+use Rattle.hp_model.specs.declared.step.Intent.{Intent}
+use Rattle.hp_model.specs.declared.step.Intent.TheVariants.{Read, Write}
+use Rattle.hp_model.specs.files.Access.{shared_access, new_copy, uncopied_access, private_access, access}
+use Rattle.hp_model.specs.files.CopyWrite.{holds, drop_stamp, robbed, taken_back, is_held_once, copy_write}
+use Rattle.hp_model.specs.files.File.{File, Mount, cell_at, has_page, new_file, with_cell, with_file, with_map}
+use Rattle.hp_model.specs.Lists.{edit_at}
+use Rattle.hp_model.specs.files.Mapping.{Map, copy_of, is_shared, place_at, with_place, without_copy}
+use Rattle.hp_model.specs.files.Page.{Page, Copy, zeros}
+use Rattle.hp_model.specs.files.Spot.{Spot, cell_written, copied, file_written, map_written, place_written, written}
+use Rattle.hp_model.specs.files.Value.{value}
+use Rattle.hp_model.specs.machine.Kept.{IsFilled}
+use Rattle.hp_model.specs.machine.Plan.{Answered, Ask, Choice, Finish, Outcome}
+use Rattle.hp_model.specs.machine.Promises.{file_in, is_at, is_same_copy, map_in, no_map}
+use Rattle.hp_model.specs.machine.Sound.{IsSoundMount}
+use Rattle.hp_model.specs.pool.Grant.{is_full, rise}
+use Rattle.hp_laws.proofs.counts.Copies.{live_of}
+use Rattle.hp_laws.proofs.counts.FileMoves.{live_at}
+use Rattle.hp_laws.proofs.lists.Looks.{edit_here, edit_other, same_edit}
+use Rattle.hp_laws.proofs.counts.MountMoves.{IsSpot}
+use Rattle.hp_laws.proofs.steps.Outcomes.{Always, always_if, always_test, outcome_if}
+use Rattle.hp_laws.proofs.accesses.StoredMaps.{IsLostAt, at_index, back, dropped_at, edit_marks, held_copy, left, map_beside, map_left, mine, same_written, written_at, written_off}
+use Rattle.hp_laws.proofs.accesses.Shown.{On, Own, Result, marked, on_grant_page, on_reserved_page, place_other, place_put}
+use Rattle.hp_laws.proofs.accesses.StoredFiles.{ready}
+
+-- ---- a map that may lose its copies of a stamp
+
+pub any_there : {X : Type 0} (t : X → Bool) (d : X) (xs : List X) → list_any t xs ≡ true → (k : ℕ) × (k < length xs) × (t (get_or xs k d) ≡ true)
+any_there t d [] e = cc
+any_there t d (x ∷ xs) e =
+    ⊎_elim (λ here. (0, omega arith, here)) (λ later. (let there = any_there t d xs later in (suc there.0, omega (arith, there.1), there.2))) (or_cases (t x) (list_any t xs) e)
+
+held_there : (stamp : ℕ) (y : Map) (x : ℕ) → holds stamp (place_at y x) ≡ true → list_any (holds stamp) y.places ≡ true
+held_there stamp y x e =
+    let held = held_copy stamp (place_at y x) e in
+    let live = live_of (place_at y x) held.0 held.1 in
+    let at = live_at y x live.0 (Some held.0) live.1 in
+    list_any_at (holds stamp) y.places (x - y.start) Gone at.within (ap (holds stamp) (at.is ∙ sym live.1) ∙ e)
+
+robbed_place : (stamp : ℕ) (y : Map) (x : ℕ) → place_at (robbed stamp y) x ≡ drop_stamp stamp (place_at y x)
+robbed_place stamp y x =
+    cond_both (list_any (holds stamp) y.places) (record y { unmapped = true; places = map (drop_stamp stamp) y.places }) y
+    (λ z. place_at z x ≡ drop_stamp stamp (place_at y x)) (λ some. dropped_at stamp y x) (λ none. not_held none (holds stamp (place_at y x)) refl)
+  where
+    not_held : list_any (holds stamp) y.places ≡ false → (b : Bool) → holds stamp (place_at y x) ≡ b → place_at y x ≡ drop_stamp stamp (place_at y x)
+    not_held none true e = (let some = held_there stamp y x e in cc)
+    not_held none false e = ap (λ b. if b then without_copy (place_at y x) else place_at y x) (sym e)
+
+-- it has a place that was so
+robbed_mark : (stamp : ℕ) (y : Map) → ((robbed stamp y).unmapped ≡ y.unmapped) ⊎ (((robbed stamp y).unmapped ≡ true) × ((x : ℕ) × (holds stamp (place_at y x) ≡ true)))
+robbed_mark stamp y =
+    cond_both (list_any (holds stamp) y.places) (record y { unmapped = true; places = map (drop_stamp stamp) y.places }) y
+    (λ z. (z.unmapped ≡ y.unmapped) ⊎ ((z.unmapped ≡ true) × ((x : ℕ) × (holds stamp (place_at y x) ≡ true))))
+    (λ some. (let there = any_there (holds stamp) Gone y.places some in inr (refl, (y.start + there.0, ap (holds stamp) (from_start there.0) ∙ there.2)))) (λ none. inl refl)
+  where
+    from_start : (k : ℕ) → place_at y (y.start + k) ≡ get_or y.places k Gone
+    from_start k =
+        cond_both (nat_lt (y.start + k) y.start) Gone (slice_index_or y.places (y.start + k - y.start) Gone) (λ p. p ≡ get_or y.places k Gone)
+        (λ low. (let less = ltb-true (y.start + k) y.start low in absurd (omega (arith, less))))
+        (λ high. ap (λ n. slice_index_or y.places n Gone) (let same : y.start + k - y.start ≡ k = omega arith in same))
+
+-- ---- an access
+
+module _ (size : ℕ) (m : Mount) (sound : IsSoundMount m) (s : Spot) (at : IsSpot m s) (i : ℕ) (intent : Intent) where
+  abbrev was : (j l : ℕ) → Map
+  was j l = map_in (file_in m j) l
+
+  abbrev now : Mount → (j l : ℕ) → Map
+  now n j l = map_in (file_in n j) l
+
+  -- a write took the map's copy back
+  abbrev pub LostAt : Mount → (j l x : ℕ) → Type 0
+  LostAt n j l x = (intent ≡ Write) × IsLostAt (Some s) (λ o. map_in (file_in n o.file_no) o.map_no) i (was j l) (now n j l) j l x
+
+  -- the place is the access's own, and has a copy
+  pub record OwnAt (n : Mount) (j l x : ℕ) : Type 0 where
+    pub own : is_at (Some s) j l ≡ true
+    pub index : i ≡ x
+    pub copy : is_some (copy_of (place_at (now n j l) x)) ≡ true
+
+  abbrev pub PlaceAt : Mount → (j l x : ℕ) → Type 0
+  PlaceAt n j l x =
+      (place_at (now n j l) x ≡ place_at (was j l) x) ⊎ (OwnAt n j l x ⊎ (LostAt n j l x × (place_at (now n j l) x ≡ without_copy (place_at (was j l) x))))
+
+  abbrev pub CellAt : Mount → (j x : ℕ) → Type 0
+  CellAt n j x = (cell_at (file_in n j) x ≡ cell_at (file_in m j) x) ⊎ IsFilled (Some s) i j x (cell_at (file_in n j) x)
+
+  abbrev pub MarkAt : Mount → (j l : ℕ) → Type 0
+  MarkAt n j l = ((now n j l).unmapped ≡ (was j l).unmapped) ⊎ LostAt n j l i
+
+  pub record Held (n : Mount) : Type 0 where
+    pub places : (j l x : ℕ) → PlaceAt n j l x
+    pub cells : (j x : ℕ) → CellAt n j x
+    pub marks : (j l : ℕ) → MarkAt n j l
+
+  idle : Held m
+  idle = record { places = λ j l x. inl refl; cells = λ j x. inl refl; marks = λ j l. inl refl }
+
+  file_was : file_in m s.file_no ≡ s.file
+  file_was = at.file.is (new_file None)
+
+  -- another file stands in the place of the spot's
+  module _ (g : File) where
+    abbrev put : Mount
+    put = with_file m s.file_no g
+
+    file_here : file_in put s.file_no ≡ g
+    file_here = get_or-set_same m.files s.file_no g (new_file None) at.file.within
+
+    file_there : (j : ℕ) → (j ≡ s.file_no → ⊥) → file_in put j ≡ file_in m j
+    file_there j other = get_or-set_other m.files s.file_no j g (new_file None) other
+
+    put_held : ((l x : ℕ) → PlaceAt put s.file_no l x) → ((x : ℕ) → CellAt put s.file_no x) → ((l : ℕ) → MarkAt put s.file_no l) → Held put
+    put_held places cells marks = record {
+      places = λ j l x. elim (cases_eq j s.file_no) as (λ _. PlaceAt put j l x) [
+        | inl same ↦ subst (λ k. PlaceAt put k l x) (sym same) (places l x)
+        | inr other ↦ inl (ap (λ f. place_at (map_in f l) x) (file_there j other))
+      ];
+      cells = λ j x. elim (cases_eq j s.file_no) as (λ _. CellAt put j x) [
+        | inl same ↦ subst (λ k. CellAt put k x) (sym same) (cells x)
+        | inr other ↦ inl (ap (λ f. cell_at f x) (file_there j other))
+      ];
+      marks = λ j l. elim (cases_eq j s.file_no) as (λ _. MarkAt put j l) [
+        | inl same ↦ subst (λ k. MarkAt put k l) (sym same) (marks l)
+        | inr other ↦ inl (ap (λ f. (map_in f l).unmapped) (file_there j other))
+      ];
+    }
+
+    -- what is seen of both files is the same
+    both : {Y : Type 0} (v : File → Y) → v g ≡ v s.file → v (file_in put s.file_no) ≡ v (file_in m s.file_no)
+    both v same = ap v file_here ∙ same ∙ sym (ap v file_was)
+
+  fill_held : (page : Page) → is_shared s.map.sharing ≡ true → i < length s.file.cells → Held (with_file m s.file_no (with_cell s.file i (Present page)))
+  fill_held page shared l =
+      let g : File = with_cell s.file i (Present page) in
+      put_held g (λ k x. inl (both g (λ f. place_at (map_in f k) x) refl))
+      (λ x. elim (cases_eq x i) as (λ _. CellAt (with_file m s.file_no g) s.file_no x) [
+        | inl same ↦ subst (λ y. CellAt (with_file m s.file_no g) s.file_no y) (sym same) (inr (
+          ap (λ b. b && (s.file_no == s.file_no)) shared ∙ eq-eqb s.file_no s.file_no refl,
+          refl,
+          ap (λ f. has_page (cell_at f i)) (file_here g) ∙ ap has_page (get_or-set_same s.file.cells i (Present page) Hole l),
+        ))
+        | inr other ↦ inl (both g (λ f. cell_at f x) (get_or-set_other s.file.cells i x (Present page) Hole other))
+      ])
+      (λ k. inl (both g (λ f. (map_in f k).unmapped) refl))
+
+  copy_held : (c d : Bool) (o : Option Copy) (new : Copy) → place_at s.map i ≡ Live c o → Held (with_file m s.file_no (with_map s.file s.map_no (with_place s.map i (Live d (Some new)))))
+  copy_held c d o new is =
+      let p : Place Copy = Live d (Some new) in
+      let y : Map = with_place s.map i p in
+      let g : File = with_map s.file s.map_no y in
+      let n : Mount = with_file m s.file_no g in
+      let here : map_in g s.map_no ≡ y = get_or-set_same s.file.maps s.map_no y no_map at.map.within in
+      let there : (l : ℕ) → (l ≡ s.map_no → ⊥) → map_in g l ≡ map_in s.file l = λ l other. get_or-set_other s.file.maps s.map_no l y no_map other in
+      put_held g
+      (λ l x. elim (cases_eq l s.map_no) as (λ _. PlaceAt n s.file_no l x) [
+        | inl same ↦ subst (λ k. PlaceAt n s.file_no k x) (sym same)
+            (elim (cases_eq x i) as (λ _. PlaceAt n s.file_no s.map_no x) [
+              | inl index ↦ subst (λ z. PlaceAt n s.file_no s.map_no z) (sym index) (inr (inl (record {
+                own = ap (λ b. b && (s.map_no == s.map_no)) (eq-eqb s.file_no s.file_no refl) ∙ eq-eqb s.map_no s.map_no refl;
+                index = refl;
+                copy = ap (λ f. is_some (copy_of (place_at (map_in f s.map_no) i))) (file_here g) ∙ ap (λ z. is_some (copy_of (place_at z i))) here
+                    ∙ ap (λ q. is_some (copy_of q)) (place_put s.map i c o is p);
+              })))
+              | inr other ↦ inl (both g (λ f. place_at (map_in f s.map_no) x) (ap (λ z. place_at z x) here ∙ place_other s.map i c o is p x other ∙ sym (ap (λ z. place_at z x) (at.map.is no_map))))
+            ])
+        | inr other ↦ inl (both g (λ f. place_at (map_in f l) x) (ap (λ z. place_at z x) (there l other)))
+      ])
+      (λ x. inl (both g (λ f. cell_at f x) refl))
+      (λ l. elim (cases_eq l s.map_no) as (λ _. MarkAt n s.file_no l) [
+        | inl same ↦ subst (λ k. MarkAt n s.file_no k) (sym same) (inl (both g (λ f. (map_in f s.map_no).unmapped) (ap (λ z. z.unmapped) here ∙ sym (ap (λ z. z.unmapped) (at.map.is no_map)))))
+        | inr other ↦ inl (both g (λ f. (map_in f l).unmapped) (ap (λ z. z.unmapped) (there l other)))
+      ])
+
+  -- an owner took its copy back
+  module _ (consumed : Bool) (copy : Copy) (is : place_at s.map i ≡ Live consumed (Some copy)) (owner : s.map.owner ≡ true) (apart : is_shared s.map.sharing ≡ false) (writes : intent ≡ Write) where
+    abbrev robs : Mount
+    robs = back size m sound s at i 0 [] copy.stamp
+
+    abbrev bare : File
+    bare = left size m sound s at i 0 [] copy.stamp
+
+    own_map : map_in bare s.map_no ≡ s.map
+    own_map = map_left size m sound s at i 0 [] copy.stamp
+
+    beside : (l : ℕ) → (l ≡ s.map_no → ⊥) → map_in bare l ≡ robbed copy.stamp (map_in s.file l)
+    beside l other = map_beside size m sound s at i 0 [] copy.stamp l other
+
+    place_beside : (l x : ℕ) → (l ≡ s.map_no → ⊥) → place_at (map_in bare l) x ≡ drop_stamp copy.stamp (place_at (map_in s.file l) x)
+    place_beside l x other = ap (λ y. place_at y x) (beside l other) ∙ robbed_place copy.stamp (map_in s.file l) x
+
+    dropped : (l x : ℕ) → (l ≡ s.map_no → ⊥) → holds copy.stamp (place_at (map_in s.file l) x) ≡ true → place_at (map_in bare l) x ≡ without_copy (place_at (map_in s.file l) x)
+    dropped l x other held = place_beside l x other ∙ ap (λ b. if b then without_copy (place_at (map_in s.file l) x) else place_at (map_in s.file l) x) held
+
+    none_left : (p : Place Copy) → copy_of (without_copy p) ≡ None
+    none_left Gone = refl
+    none_left (Live c o) = refl
+
+    some_marked : (l x : ℕ) → holds copy.stamp (place_at (map_in s.file l) x) ≡ true → (robbed copy.stamp (map_in s.file l)).unmapped ≡ true
+    some_marked l x held =
+        ap (λ b. (if b then record (map_in s.file l) { unmapped = true; places = map (drop_stamp copy.stamp) (map_in s.file l).places } else map_in s.file l).unmapped)
+        (held_there copy.stamp (map_in s.file l) x held)
+
+    lost_beside : (l x : ℕ) → (l ≡ s.map_no → ⊥) → holds copy.stamp (place_at (map_in s.file l) x) ≡ true → LostAt robs s.file_no l x
+    lost_beside l x other held = (
+      writes,
+      (
+        refl,
+        record {
+          index = at_index size m sound s at i 0 [] copy.stamp consumed copy refl is l x held;
+          private = apart;
+          owner = owner;
+          held = ap (λ q. is_same_copy q (place_at (was s.file_no l) x)) is ∙ ap (λ f. holds copy.stamp (place_at (map_in f l) x)) file_was ∙ held;
+          kept = ap (λ q. is_same_copy q (place_at (now robs s.file_no s.map_no) i)) is
+              ∙ ap (λ f. holds copy.stamp (place_at (map_in f s.map_no) i)) (file_here bare) ∙ ap (λ y. holds copy.stamp (place_at y i)) own_map
+              ∙ ap (holds copy.stamp) is ∙ eq-eqb copy.stamp copy.stamp refl;
+          lost = ap (λ f. copy_of (place_at (map_in f l) x)) (file_here bare) ∙ ap copy_of (dropped l x other held) ∙ none_left (place_at (map_in s.file l) x);
+          marked = ap (λ f. (map_in f l).unmapped) (file_here bare) ∙ ap (λ y. y.unmapped) (beside l other) ∙ some_marked l x held;
+        },
+        other,
+      ),
+    )
+
+    place_robbed : (l x : ℕ) → (l ≡ s.map_no → ⊥) → (b : Bool) → holds copy.stamp (place_at (map_in s.file l) x) ≡ b → PlaceAt robs s.file_no l x
+    place_robbed l x other true held =
+        inr (inr (lost_beside l x other held, ap (λ f. place_at (map_in f l) x) (file_here bare) ∙ dropped l x other held ∙ sym (ap (λ f. without_copy (place_at (map_in f l) x)) file_was)))
+    place_robbed l x other false e =
+        inl (both bare (λ f. place_at (map_in f l) x) (place_beside l x other ∙ ap (λ b. if b then without_copy (place_at (map_in s.file l) x) else place_at (map_in s.file l) x) e))
+
+    mark_robbed : (l : ℕ) → (l ≡ s.map_no → ⊥) → MarkAt robs s.file_no l
+    mark_robbed l other =
+        ⊎_elim (λ same. inl (both bare (λ f. (map_in f l).unmapped) (ap (λ y. y.unmapped) (beside l other) ∙ same)))
+        (λ some. (let held = some.1.1 in
+        let index = at_index size m sound s at i 0 [] copy.stamp consumed copy refl is l some.1.0 held in
+        inr (lost_beside l i other (subst (λ x. holds copy.stamp (place_at (map_in s.file l) x) ≡ true) index held))))
+        (robbed_mark copy.stamp (map_in s.file l))
+
+    back_held : Held robs
+    back_held = put_held bare
+        (λ l x. elim (cases_eq l s.map_no) as (λ _. PlaceAt robs s.file_no l x) [
+          | inl same ↦ subst (λ k. PlaceAt robs s.file_no k x) (sym same) (inl (both bare (λ f. place_at (map_in f s.map_no) x) (ap (λ y. place_at y x) (own_map ∙ sym (at.map.is no_map)))))
+          | inr other ↦ place_robbed l x other (holds copy.stamp (place_at (map_in s.file l) x)) refl
+        ])
+        (λ x. inl (both bare (λ f. cell_at f x) refl))
+        (λ l. elim (cases_eq l s.map_no) as (λ _. MarkAt robs s.file_no l) [
+          | inl same ↦ subst (λ k. MarkAt robs s.file_no k) (sym same) (inl (both bare (λ f. (map_in f s.map_no).unmapped) (ap (λ y. y.unmapped) (own_map ∙ sym (at.map.is no_map)))))
+          | inr other ↦ mark_robbed l other
+        ])
+
+  -- ---- the walk
+
+  module _ (c : Choice) (home : ℕ) where
+    shared_held : (cell : Cell Page) → is_shared s.map.sharing ≡ true → i < length s.file.cells → Always (On Held) (shared_access c size m s home i cell)
+    shared_held (Present page) shared l = idle
+    shared_held Entered shared l = on_reserved_page Held home _ (λ node. fill_held (record { node = node; bytes = zeros size }) shared l)
+    shared_held Hole shared l = on_grant_page Held c m home _ (λ node. fill_held (record { node = node; bytes = zeros size }) shared l)
+
+    new_held : (consumed : Bool) → place_at s.map i ≡ Live consumed None → Always (On Held) (new_copy c size m s home i consumed)
+    new_held consumed is =
+        let fresh : ℕ → Copy = λ node. record { stamp = c.stamp; page = record { node = node; bytes = value size s.file s.map i } } in
+        always_if (On Held) (s.map.owner && not consumed) _ _
+        (λ e. on_reserved_page Held home _ (λ node. copy_held consumed true None (fresh node) is)) (λ e. on_grant_page Held c m home _ (λ node. copy_held consumed consumed None (fresh node) is))
+
+    uncopied_held : (consumed : Bool) (t : Intent) → place_at s.map i ≡ Live consumed None → Always (On Held) (uncopied_access c size m s home i consumed t)
+    uncopied_held consumed Write is = new_held consumed is
+    uncopied_held consumed Read is = always_if (On Held) (has_page (cell_at s.file i)) (Finish (Answered Done (Some m))) (new_copy c size m s home i consumed) (λ e. idle) (λ e. new_held consumed is)
+
+    write_held : (consumed : Bool) (copy : Copy) → intent ≡ Write → is_shared s.map.sharing ≡ false → place_at s.map i ≡ Live consumed (Some copy)
+        → Always (On Held) (copy_write c m s home i consumed copy)
+    write_held consumed copy writes apart is =
+        let own : ℕ → Copy = λ node. record { stamp = c.stamp; page = record { node = node; bytes = copy.page.bytes } } in
+        let fresh : ℕ → Outcome = λ node. copied m s i consumed (own node) in
+        let taken : Outcome = taken_back m s copy.stamp in
+        always_if (On Held) (is_held_once s.file copy.stamp) _ _ (λ e. idle)
+        (λ e. always_if (On Held) s.map.owner _ _
+        (λ owner. always_if (On Held) (is_full m 1) (Finish taken) (Ask (λ nr. GrantPage home (rise m 1)) (λ a. if a.granted then fresh a.node else taken))
+        (λ full. back_held consumed copy is owner apart writes)
+        (λ room a. outcome_if (On Held) a.granted (fresh a.node) taken (copy_held consumed consumed (Some copy) (own a.node) is) (back_held consumed copy is owner apart writes)))
+        (λ other. on_grant_page Held c m home _ (λ node. copy_held consumed consumed (Some copy) (own node) is)))
+
+    private_held : (p : Place Copy) (t : Intent) → intent ≡ t → is_shared s.map.sharing ≡ false → place_at s.map i ≡ p → Always (On Held) (private_access c size m s home i p t)
+    private_held Gone t same apart is = tt
+    private_held (Live consumed (Some copy)) Read same apart is = idle
+    private_held (Live consumed (Some copy)) Write same apart is = write_held consumed copy same apart is
+    private_held (Live consumed None) t same apart is = always_test (On Held) s.map.unmapped TakenByOwner (uncopied_access c size m s home i consumed t) tt (λ e. uncopied_held consumed t is)
+
+    pub access_held : i < length s.file.cells → Always (On Held) (access c size m s home i intent)
+    access_held l =
+        always_if (On Held) (is_shared s.map.sharing) _ _ (λ e. shared_held (cell_at s.file i) e l) (λ e. private_held (place_at s.map i) intent refl e refl)
+
+  -- ---- what a store writes
+
+  module _ (offset : ℕ) (bytes : List ℕ) (n : Mount) (held : Held n) (done : Result size m s at i n) where
+    abbrev w : Mount
+    w = written n s i offset bytes
+
+    abbrev edit : File → File
+    edit f = file_written s i offset bytes f
+
+    other_file : (j : ℕ) → (j ≡ s.file_no → ⊥) → file_in w j ≡ file_in n j
+    other_file j other = edit_other edit (new_file None) n.files s.file_no j other
+
+    same_marks : (j l : ℕ) → (now w j l).unmapped ≡ (now n j l).unmapped
+    same_marks j l = same_edit (marked l) (new_file None) edit (edit_marks size m sound s at i offset bytes l) n.files s.file_no j
+
+    page_stays : (c : Cell Page) → has_page (cell_written offset bytes c) ≡ has_page c
+    page_stays Hole = refl
+    page_stays Entered = refl
+    page_stays (Present page) = refl
+
+    -- ---- through a shared map
+
+    module _ (e : is_shared s.map.sharing ≡ true) where
+      shared_edit : (f : File) → edit f ≡ record f { cells = edit_at (cell_written offset bytes) f.cells i }
+      shared_edit f = ap (λ b. if b then record f { cells = edit_at (cell_written offset bytes) f.cells i } else record f { maps = edit_at (map_written i offset bytes) f.maps s.map_no }) e
+
+      same_map : (j l : ℕ) → now w j l ≡ now n j l
+      same_map j l = same_edit (λ f. map_in f l) (new_file None) edit (λ f. ap (λ g. map_in g l) (shared_edit f)) n.files s.file_no j
+
+      shared_place : (j l x : ℕ) → PlaceAt w j l x
+      shared_place j l x =
+          ⊎_elim (λ same. inl (ap (λ y. place_at y x) (same_map j l) ∙ same))
+          (λ rest. ⊎_elim
+          (λ own. inr (inl (record { own = own.own; index = own.index; copy = ap (λ y. is_some (copy_of (place_at y x))) (same_map j l) ∙ own.copy })))
+          (λ lost. (let apart = lost.0.1.1.private in cc)) rest) (held.places j l x)
+
+      other_cell : (j x : ℕ) → (x ≡ i → ⊥) → cell_at (file_in w j) x ≡ cell_at (file_in n j) x
+      other_cell j x other =
+          same_edit (λ f. cell_at f x) (new_file None) edit
+          (λ f. ap (λ g. cell_at g x) (shared_edit f) ∙ edit_other (cell_written offset bytes) Hole f.cells i x other) n.files s.file_no j
+
+      cell_same : (j x : ℕ) → cell_at (file_in w j) x ≡ cell_at (file_in n j) x → CellAt w j x
+      cell_same j x same =
+          ⊎_elim (λ was. inl (same ∙ was)) (λ filled. inr (filled.0, filled.1, ap has_page same ∙ filled.2)) (held.cells j x)
+
+      cell_here : CellAt w s.file_no i
+      cell_here = inr (
+        ap (λ b. b && (s.file_no == s.file_no)) e ∙ eq-eqb s.file_no s.file_no refl,
+        refl,
+        ap (λ f. has_page (cell_at f i)) (edit_here edit (new_file None) (shared_edit (new_file None)) n.files s.file_no ∙ shared_edit (file_in n s.file_no))
+            ∙ ap has_page (edit_here (cell_written offset bytes) Hole refl (file_in n s.file_no).cells i) ∙ page_stays (cell_at (file_in n s.file_no) i)
+            ∙ (ready size m s at i n done).present e,
+      )
+
+      shared_written : Held w
+      shared_written = record {
+        places = shared_place;
+        cells = λ j x. elim (cases_eq j s.file_no) as (λ _. CellAt w j x) [
+          | inl same ↦ subst (λ k. CellAt w k x) (sym same)
+              (elim (cases_eq x i) as (λ _. CellAt w s.file_no x) [
+                | inl index ↦ subst (λ y. CellAt w s.file_no y) (sym index) cell_here
+                | inr other ↦ cell_same s.file_no x (other_cell s.file_no x other)
+              ])
+          | inr other ↦ cell_same j x (ap (λ f. cell_at f x) (other_file j other))
+        ];
+        marks = λ j l. ⊎_elim (λ same. inl (same_marks j l ∙ same)) (λ lost. (let apart = lost.1.1.private in cc)) (held.marks j l);
+      }
+
+    -- ---- through a private map
+
+    module _ (e : is_shared s.map.sharing ≡ false) where
+      private_edit : (f : File) → edit f ≡ record f { maps = edit_at (map_written i offset bytes) f.maps s.map_no }
+      private_edit f = ap (λ b. if b then record f { cells = edit_at (cell_written offset bytes) f.cells i } else record f { maps = edit_at (map_written i offset bytes) f.maps s.map_no }) e
+
+      same_cell : (j x : ℕ) → cell_at (file_in w j) x ≡ cell_at (file_in n j) x
+      same_cell j x = same_edit (λ f. cell_at f x) (new_file None) edit (λ f. ap (λ g. cell_at g x) (private_edit f)) n.files s.file_no j
+
+      abbrev o : Own size m s at i n
+      o = (mine size m sound s at i offset bytes n e done).own
+
+      file_edited : file_in w s.file_no ≡ record (file_in n s.file_no) { maps = edit_at (map_written i offset bytes) (file_in n s.file_no).maps s.map_no }
+      file_edited = edit_here edit (new_file None) (private_edit (new_file None)) n.files s.file_no ∙ private_edit (file_in n s.file_no)
+
+      map_edited : now w s.file_no s.map_no ≡ map_written i offset bytes (now n s.file_no s.map_no)
+      map_edited = ap (λ f. map_in f s.map_no) file_edited ∙ edit_here (map_written i offset bytes) no_map refl (file_in n s.file_no).maps s.map_no
+
+      map_apart : (l : ℕ) → (l ≡ s.map_no → ⊥) → now w s.file_no l ≡ now n s.file_no l
+      map_apart l other = ap (λ f. map_in f l) file_edited ∙ edit_other (map_written i offset bytes) no_map (file_in n s.file_no).maps s.map_no l other
+
+      own_written : place_at (now w s.file_no s.map_no) i ≡ place_written offset bytes (place_at (now n s.file_no s.map_no) i)
+      own_written = ap (λ y. place_at y i) map_edited ∙ written_at (now n s.file_no s.map_no) i o.consumed (Some o.copy) o.is offset bytes
+
+      lost_still : (j l x : ℕ) → place_at (now w j l) x ≡ place_at (now n j l) x → LostAt n j l x → LostAt w j l x
+      lost_still j l x same lost = (
+        lost.0,
+        (
+          lost.1.0,
+          record {
+            index = lost.1.1.index;
+            private = lost.1.1.private;
+            owner = lost.1.1.owner;
+            held = lost.1.1.held;
+            kept = ap (is_same_copy (place_at s.map i)) own_written ∙ same_written offset bytes (place_at s.map i) (place_at (now n s.file_no s.map_no) i) ∙ lost.1.1.kept;
+            lost = ap copy_of same ∙ lost.1.1.lost;
+            marked = same_marks j l ∙ lost.1.1.marked;
+          },
+          lost.1.2,
+        ),
+      )
+
+      place_same : (j l x : ℕ) → place_at (now w j l) x ≡ place_at (now n j l) x → PlaceAt w j l x
+      place_same j l x same =
+          ⊎_elim (λ was. inl (same ∙ was))
+          (λ rest. inr (⊎_elim (λ own. inl (record { own = own.own; index = own.index; copy = ap (λ p. is_some (copy_of p)) same ∙ own.copy }))
+          (λ lost. inr (lost_still j l x same lost.0, same ∙ lost.1)) rest)) (held.places j l x)
+
+      own_place : PlaceAt w s.file_no s.map_no i
+      own_place = inr (inl (record {
+        own = ap (λ b. b && (s.map_no == s.map_no)) (eq-eqb s.file_no s.file_no refl) ∙ eq-eqb s.map_no s.map_no refl;
+        index = refl;
+        copy = ap (λ p. is_some (copy_of p)) (own_written ∙ ap (place_written offset bytes) o.is);
+      }))
+
+      place_apart : (l x : ℕ) → (l ≡ s.map_no → ⊥) → place_at (now w s.file_no l) x ≡ place_at (now n s.file_no l) x
+      place_apart l x other = ap (λ y. place_at y x) (map_apart l other)
+
+      private_place : (j l x : ℕ) → PlaceAt w j l x
+      private_place j l x = elim (cases_eq j s.file_no) as (λ _. PlaceAt w j l x) [
+        | inl same ↦ subst (λ k. PlaceAt w k l x) (sym same)
+            (elim (cases_eq l s.map_no) as (λ _. PlaceAt w s.file_no l x) [
+              | inl mine ↦ subst (λ k. PlaceAt w s.file_no k x) (sym mine)
+                  (elim (cases_eq x i) as (λ _. PlaceAt w s.file_no s.map_no x) [
+                    | inl index ↦ subst (λ y. PlaceAt w s.file_no s.map_no y) (sym index) own_place
+                    | inr other ↦ place_same s.file_no s.map_no x (ap (λ y. place_at y x) map_edited ∙ written_off (now n s.file_no s.map_no) i o.consumed (Some o.copy) o.is offset bytes x other)
+                  ])
+              | inr other ↦ place_same s.file_no l x (place_apart l x other)
+            ])
+        | inr other ↦ place_same j l x (ap (λ f. place_at (map_in f l) x) (other_file j other))
+      ]
+
+      private_mark : (j l : ℕ) → LostAt n j l i → MarkAt w j l
+      private_mark j l lost =
+          inr (lost_still j l i
+          (subst (λ k. place_at (now w k l) i ≡ place_at (now n k l) i) lost.1.0 (place_apart l i lost.1.2)) lost)
+
+      private_written : Held w
+      private_written = record {
+        places = private_place;
+        cells = λ j x. ⊎_elim (λ was. inl (same_cell j x ∙ was)) (λ filled. inr (filled.0, filled.1, ap has_page (same_cell j x) ∙ filled.2)) (held.cells j x);
+        marks = λ j l. ⊎_elim (λ same. inl (same_marks j l ∙ same)) (λ lost. private_mark j l lost) (held.marks j l);
+      }
+
+    pub store_held : Held w
+    store_held = elim (is_shared s.map.sharing) as (λ b. is_shared s.map.sharing ≡ b → Held w) [ true ↦ λ e. shared_written e | false ↦ λ e. private_written e ] refl

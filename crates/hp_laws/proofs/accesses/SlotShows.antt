@@ -1,0 +1,313 @@
+-- What a slot's files show after a file or a map is made, a load and a store, and what a load answers.
+use Rattle.std.proofs.Common.{◌≡◌, ◌⊎◌, ℕ, zero, suc, ◌+◌, ◌<◌, Bool, true, false, ◌&&◌, ◌||◌, ◌==◌, not, Option, None, Some, ⊎_elim}
+use Rattle.std.proofs.Common.{is_some, Result as ResultOf, Ok, Err, List, [], ◌∷◌, length, replicate, refl, sym, ap, ◌∙◌, if◌then◌else◌, nat_lt, nat_le, ◌-◌}
+use Rattle.std.specs.List.{slice_index_or, sum}
+use Rattle.std.proofs.lemmas.Bool.{cond_both, leb-false}
+use Rattle.hp_model.specs.declared.answer.Answer.{Answer}
+use Rattle.hp_model.specs.declared.answer.Answer.TheVariants.{Done, MapNo}
+use Rattle.hp_model.specs.declared.cell.Cell.{Cell}
+use Rattle.hp_model.specs.declared.cell.Cell.TheVariants.{Hole, Entered, Present}
+use Rattle.hp_model.specs.declared.event.SlotEvent.TheVariants as slot
+use Rattle.hp_model.specs.declared.limits.Limits.{Limits}
+use Rattle.hp_model.specs.declared.place.Place.{Place}
+use Rattle.hp_model.specs.declared.place.Place.TheVariants.{Gone, Live}
+use Rattle.hp_model.specs.declared.refusal.Refusal.{Refusal}
+use Rattle.hp_model.specs.declared.refusal.Refusal.TheVariants.{NoPages, MountFull, OutOfMemory, OutOfRange, CrossesPage, TooMany, BeyondEnd, NoSuchMap, NoSuchFile, BadName, FileExists, NoInodes}
+use Rattle.hp_model.specs.declared.step.Intent.{Intent}
+use Rattle.hp_model.specs.declared.step.Intent.TheVariants.{Read, Write}
+use Rattle.hp_model.specs.declared.step.Reserving.{Reserving}
+use Rattle.hp_model.specs.declared.step.Sharing.{Sharing}
+use Rattle.hp_model.specs.files.Access.{access}
+use Rattle.hp_laws.specs.Balance.{left_by}
+use Rattle.hp_model.specs.files.File.{File, Mount, at_least, entered, new_file, with_file, cell_at, has_page}
+use Rattle.hp_model.specs.pool.Grant.{is_full, is_over, rise, granted}
+use Rattle.hp_model.specs.files.MakeMap.{asked, mapped, new_map, next_number, reserves, with_new}
+use Rattle.hp_model.specs.Lists.{edit_range}
+use Rattle.hp_model.specs.files.Mapping.{Map, copy_of, is_map, is_shared, place_at}
+use Rattle.hp_model.specs.files.Options.{limits, wanted_of}
+use Rattle.hp_model.specs.files.Page.{Page, Copy, zeros}
+use Rattle.hp_model.specs.machine.Plan.{Slot, Outcome, Refused, Answered, Plan, Finish, Ask, Choice, refuse, unless, with_value, continued, grant, when_granted, gives, puts_of, fall_of}
+use Rattle.hp_model.specs.declared.section.Section.TheVariants.{FillPages, Grant, GiveBack}
+use Rattle.hp_model.specs.Profile.{most_bytes, most_file_pages, most_files, most_map_pages}
+use Rattle.hp_model.specs.machine.Promises.{file_in, spot_on, IsLoaded, shown_on, seen_on, map_in, map_on, no_map, over, is_shared_of, reaches}
+use Rattle.hp_model.specs.machine.SlotEvent.{anon_tests, are_too_many_maps, byte_access, bytes_answer, file_named, has_name, is_beyond, is_name, fill, preallocate, preallocate_tests, unentered}
+use Rattle.hp_model.specs.machine.SlotEvent.{is_unmapped, load, map_file, mount_on, mount_outcome, remount, remount_outcome, remount_tests, slot_event, store}
+use Rattle.hp_model.specs.machine.Sound.{IsSound, IsSoundMount}
+use Rattle.hp_model.specs.files.Spot.{Spot, again, spot, written}
+use Rattle.hp_model.specs.files.Value.{shown, value}
+use Rattle.hp_laws.proofs.lists.Looks.{same_edit_range, same_more, same_none, same_one, same_put}
+use Rattle.hp_laws.proofs.counts.MountMoves.{IsSpot, file_at, spot_is}
+use Rattle.hp_laws.proofs.steps.Outcomes.{Always, always_if, always_test, always_then, outcome_if}
+use Rattle.hp_laws.proofs.accesses.StoredMaps.{IsLostAt, store_seen, store_marks}
+use Rattle.hp_laws.proofs.accesses.Shown.{marked, look, seen, by_place, On, Same, Result, read_same, write_done}
+use Rattle.hp_laws.proofs.accesses.StoredFiles.{ready, stored}
+use Rattle.hp_laws.proofs.steps.Walk.{plan_unless, plan_value, remounting}
+use Rattle.hp_model.specs.files.Fill.{lacking, range_filled, rising_nodes}
+use Rattle.hp_laws.proofs.counts.Filled.{filled_index}
+use Rattle.hp_laws.proofs.lists.NodesOf.{length-nodes_of}
+
+-- ---- outcomes that may be a refusal
+
+pub always_unless : (P : Outcome → Type 0) → ((r : Refusal) → P (Refused r)) → (ts : List (Bool × Refusal)) (p : Plan) → Always P p → Always P (unless ts p)
+always_unless P stops ts p h = plan_unless (Always P) stops ts p h
+
+pub always_value : {X : Type 0} (P : Outcome → Type 0) → ((r : Refusal) → P (Refused r)) → (o : Option X) (r : Refusal) (f : X → Plan) →
+    ((x : X) → o ≡ Some x → Always P (f x)) → Always P (with_value o r f)
+always_value P stops o r f h = plan_value (Always P) stops o r f h
+
+granted_or : (P : Outcome → Type 0) → ((r : Refusal) → P (Refused r)) → (b : Bool) (o : Outcome) → P o → P (if b then o else Refused NoPages)
+granted_or P stops true o h = h
+granted_or P stops false o h = stops NoPages
+
+pub always_grant : (P : Outcome → Type 0) → ((r : Refusal) → P (Refused r)) → (c : Choice) (m : Mount) (home k : ℕ) (o : Outcome) → P o → Always P (grant c m home k o)
+always_grant P stops c m home k o h =
+    always_unless P stops ((is_full m k, MountFull) ∷ (c.refused, OutOfMemory) ∷ []) (if rise m k == 0 then Finish o else Ask (λ nr. Grant home (rise m k)) (when_granted o))
+    (always_if P (rise m k == 0) (Finish o) (Ask (λ nr. Grant home (rise m k)) (when_granted o)) (λ e. h) (λ e a. granted_or P stops a.granted o h))
+
+-- pages of a range, whose nodes the pool answers
+pub always_fill : (P : Outcome → Type 0) → ((r : Refusal) → P (Refused r)) → (ts : List (Bool × Refusal)) (d n : ℕ) (o : List ℕ → Outcome) → ((pages : List ℕ) → P (o pages))
+    → Always P (unless ts (Ask (λ nr. FillPages d n) (λ a. when_granted (o a.pages) a)))
+always_fill P stops ts d n o h =
+    always_unless P stops ts (Ask (λ nr. FillPages d n) (λ a. when_granted (o a.pages) a)) (λ a. granted_or P stops a.granted (o a.pages) (h a.pages))
+
+-- where nothing of the range lacks a page, and else
+pub always_preallocate : (P : Outcome → Type 0) → ((r : Refusal) → P (Refused r)) → (c : Choice) (size : ℕ) (m : Mount) (a b : ℕ) (q : ℕ × File) → P (Answered Done (Some m))
+    → ((pages : List ℕ) → P (Answered Done (Some (with_file m q.0 (range_filled size a b (rising_nodes (lacking a b q.1) pages) q.1))))) → Always P (preallocate c size m a b q)
+always_preallocate P stops c size m a b q none h =
+    always_unless P stops (preallocate_tests a b) (if lacking a b q.1 == 0 then Finish (Answered Done (Some m)) else fill c size m a b q)
+    (always_if P (lacking a b q.1 == 0) (Finish (Answered Done (Some m))) (fill c size m a b q) (λ e. none)
+    (λ e. always_fill P stops ((is_full m (unentered a b q.1), MountFull) ∷ (c.refused, OutOfMemory) ∷ []) (rise m (unentered a b q.1)) (lacking a b q.1)
+    (λ pages. Answered Done (Some (with_file m q.0 (range_filled size a b (rising_nodes (lacking a b q.1) pages) q.1)))) h))
+
+pub always_gives : (P : Outcome → Type 0) (a : Answer) (old new : Slot) → P (Answered a new) → Always P (gives a old new)
+always_gives P a old new h =
+    always_if P ((sum (puts_of old new) == 0) && (fall_of old new == 0)) (Finish (Answered a new)) (Ask (λ nr. GiveBack (puts_of old new) (fall_of old new)) (λ answer. Answered a new))
+    (λ e. h) (λ e answer. h)
+
+pub always_mount : (P : Outcome → Type 0) → ((r : Refusal) → P (Refused r)) → ((l : Limits) → P (Answered Done (Some (record { limits = l; files = [] }))))
+    → (c : Choice) (size : ℕ) (options : List ℕ) → Always P (mount_on c size options)
+always_mount P stops h c size options a = by_limits (limits a.nr size (wanted_of options))
+  where
+    by_tests : (refused granted late : Bool) (o : Outcome) → P o → P (if refused then Refused OutOfMemory else if not granted then Refused NoPages else if late then Refused OutOfMemory else o)
+    by_tests true granted late o g = stops OutOfMemory
+    by_tests false false late o g = stops NoPages
+    by_tests false true true o g = stops OutOfMemory
+    by_tests false true false o g = g
+
+    by_limits : (r : ResultOf Limits Refusal) → P (mount_outcome c a r)
+    by_limits (Err e) = stops e
+    by_limits (Ok l) = by_tests c.refused a.granted c.after_grant (Answered Done (Some (record { limits = l; files = [] }))) (h l)
+
+pub always_remounting : (P : Outcome → Type 0) → ((r : Refusal) → P (Refused r)) → (m : Mount) → ((l : Limits) → P (Answered Done (Some (record m { limits = l }))))
+    → (size : ℕ) (options : List ℕ) → Always P (remounting size m options)
+always_remounting P stops m h size options a = by_limits (limits a.nr size (wanted_of options))
+  where
+    by_limits : (r : ResultOf Limits Refusal) → P (remount_outcome m a r)
+    by_limits (Err e) = stops e
+    by_limits (Ok l) = outcome_if P a.granted (Answered Done (Some (record m { limits = l }))) (Refused NoPages) (h l) (stops NoPages)
+
+pub always_remount : (P : Outcome → Type 0) → ((r : Refusal) → P (Refused r)) → (m : Mount) → ((l : Limits) → P (Answered Done (Some (record m { limits = l }))))
+    → (size k : ℕ) (options : List ℕ) → Always P (remount size k m options)
+always_remount P stops m h size k options = always_unless P stops (remount_tests k) (remounting size m options) (always_remounting P stops m h size options)
+
+-- ---- events that leave what files show
+
+abbrev pub Quiet : (size : ℕ) → Slot → Outcome → Type 0
+Quiet size old o =
+    ((j x : ℕ) → shown_on size (left_by old o) j x ≡ shown_on size old j x) × ((j l x : ℕ) → seen_on size (left_by old o) j l x ≡ seen_on size old j l x)
+    × ((j l : ℕ) → (map_on (left_by old o) j l).unmapped ≡ (map_on old j l).unmapped)
+
+refused_quiet : (size : ℕ) (old : Slot) (r : Refusal) → Quiet size old (Refused r)
+refused_quiet size old r = (λ j x. refl, λ j l x. refl, λ j l. refl)
+
+pub create_quiet : (size k : ℕ) (c : Choice) (old : Slot) (name : List ℕ) → Always (Quiet size old) (slot_event size k c old (slot.Create name))
+create_quiet size k c None name = (λ j x. refl, λ j l x. refl, λ j l. refl)
+create_quiet size k c (Some m) name =
+    let f : File = new_file (Some name) in
+    always_unless (Quiet size (Some m)) (refused_quiet size (Some m))
+    ((not (is_name name), BadName) ∷ (is_some (file_named m name), FileExists) ∷ (nat_le most_files (length m.files), TooMany)
+    ∷ (is_over m.limits.inodes (length m.files + 1), NoInodes) ∷ (c.refused, OutOfMemory) ∷ [])
+    (Finish (Answered Done (Some (with_new m f)))) (
+      λ j x. same_more (look size x) (new_file None) m.files (f ∷ []) (λ i. same_one (look size x) (new_file None) f refl i) j,
+      λ j l x. same_more (seen size l x) (new_file None) m.files (f ∷ []) (λ i. same_one (seen size l x) (new_file None) f refl i) j,
+      λ j l. same_more (marked l) (new_file None) m.files (f ∷ []) (λ i. same_one (marked l) (new_file None) f refl i) j,
+    )
+
+entered_shows : (size : ℕ) (c : Cell Page) → shown size (entered c) ≡ shown size c
+entered_shows size Hole = refl
+entered_shows size Entered = refl
+entered_shows size (Present page) = refl
+
+mapped_shows : (size task number a n : ℕ) (sharing : Sharing) (reserving : Reserving) (f : File) (x : ℕ) → look size x (mapped task number a n sharing reserving f) ≡ look size x f
+mapped_shows size task number a n sharing reserving f x =
+    let cells = f.cells in
+    let long : look size x (record f { cells = at_least (a + n) cells }) ≡ look size x f =
+    same_more (shown size) Hole cells (replicate (a + n - length cells) Hole) (λ j. same_none (shown size) Hole (a + n - length cells) j) x in
+    cond_both (is_shared sharing && reserves reserving) (edit_range entered a (a + n) (at_least (a + n) cells)) (at_least (a + n) cells) (λ cs. look size x (record f { cells = cs }) ≡ look size x f)
+    (λ e. same_edit_range (shown size) Hole entered (entered_shows size) a (a + n) (at_least (a + n) cells) x ∙ long)
+    (λ e. long)
+
+zero_shows : (size : ℕ) (c : Cell Page) → has_page c ≡ false → shown size c ≡ zeros size
+zero_shows size Hole none = refl
+zero_shows size Entered none = refl
+zero_shows size (Present page) none = cc
+
+filled_shows : (size a b : ℕ) (pages : List ℕ) (f : File) (x : ℕ) → look size x (range_filled size a b (rising_nodes (lacking a b f) pages) f) ≡ look size x f
+filled_shows size a b pages f x =
+    ⊎_elim (λ same. ap (shown size) same)
+    (λ new. ap (shown size) new.is ∙ new.holds ∙ sym (zero_shows size (cell_at f x) new.lacked))
+    (filled_index size a b (rising_nodes (lacking a b f) pages) f (length-nodes_of (lacking a b f) pages) x)
+
+pub preallocate_quiet : (size k : ℕ) (c : Choice) (old : Slot) (name : List ℕ) (a b : ℕ) → Always (Quiet size old) (slot_event size k c old (slot.Preallocate name a b))
+preallocate_quiet size k c None name a b = (λ j x. refl, λ j l x. refl, λ j l. refl)
+preallocate_quiet size k c (Some m) name a b =
+    let P = Quiet size (Some m) in
+    let stops = refused_quiet size (Some m) in
+    always_value P stops (file_named m name) NoSuchFile (preallocate c size m a b)
+    (λ q e. (let at = file_at m (has_name name) q e in
+    always_preallocate P stops c size m a b q (λ j x. refl, λ j l x. refl, λ j l. refl)
+    (λ pages. (let g : File = range_filled size a b (rising_nodes (lacking a b q.1) pages) q.1 in
+    let shows = filled_shows size a b pages q.1 in (
+      λ j x. same_put (look size x) (new_file None) m.files q.0 g at.within (shows x ∙ sym (ap (look size x) (at.is (new_file None)))) j,
+      λ j l x. same_put (seen size l x) (new_file None) m.files q.0 g at.within
+          (ap (by_place size (place_at (map_in q.1 l) x)) (shows x) ∙ sym (ap (seen size l x) (at.is (new_file None)))) j,
+      λ j l. same_put (marked l) (new_file None) m.files q.0 g at.within (sym (ap (marked l) (at.is (new_file None)))) j,
+    )))))
+
+-- a new map has no copies
+none_yet : (n j : ℕ) → copy_of {C = Copy} (slice_index_or (replicate n (Live false None)) j Gone) ≡ None
+none_yet zero j = refl
+none_yet (suc n) zero = refl
+none_yet (suc n) (suc j) = none_yet n j
+
+none_at : (task number a n : ℕ) (sharing : Sharing) (reserving : Reserving) (x : ℕ) → copy_of (place_at (new_map task number a n sharing reserving) x) ≡ None
+none_at task number a n sharing reserving x =
+    cond_both (nat_lt x a) Gone (slice_index_or (replicate n (Live false None)) (x - a) Gone) (λ (p : Place Copy). copy_of p ≡ None) (λ e. refl) (λ e. none_yet n (x - a))
+
+none_past : (x : ℕ) → copy_of (place_at no_map x) ≡ None
+none_past x = cond_both (nat_lt x 0) Gone Gone (λ (p : Place Copy). copy_of p ≡ None) (λ e. refl) (λ e. refl)
+
+mapped_seen : (size task number a n : ℕ) (sharing : Sharing) (reserving : Reserving) (f : File) (l x : ℕ) → seen size l x (mapped task number a n sharing reserving f) ≡ seen size l x f
+mapped_seen size task number a n sharing reserving f l x =
+    let more : Map = new_map task number a n sharing reserving in
+    let by_copy : Option Copy → List ℕ = λ o. elim o [ None ↦ look size x f | Some copy ↦ copy.page.bytes ] in
+    ap (by_place size (place_at (map_in (mapped task number a n sharing reserving f) l) x)) (mapped_shows size task number a n sharing reserving f x)
+    ∙ same_more (λ (y : Map). value size f y x) no_map f.maps (more ∷ [])
+    (λ j. same_one (λ (y : Map). value size f y x) no_map more (ap by_copy (none_at task number a n sharing reserving x) ∙ sym (ap by_copy (none_past x))) j) l
+
+mapped_marks : (task number a n : ℕ) (sharing : Sharing) (reserving : Reserving) (f : File) (l : ℕ) → marked l (mapped task number a n sharing reserving f) ≡ marked l f
+mapped_marks task number a n sharing reserving f l =
+    let more : Map = new_map task number a n sharing reserving in same_more (λ (y : Map). y.unmapped) no_map f.maps (more ∷ []) (λ j. same_one (λ (y : Map). y.unmapped) no_map more refl j) l
+
+pub map_quiet : (size k : ℕ) (c : Choice) (old : Slot) (task home : ℕ) (name : List ℕ) (a n : ℕ) (sharing : Sharing) (reserving : Reserving)
+    → Always (Quiet size old) (slot_event size k c old (slot.Map task home name a n sharing reserving))
+map_quiet size k c None task home name a n sharing reserving = (λ j x. refl, λ j l x. refl, λ j l. refl)
+map_quiet size k c (Some m) task home name a n sharing reserving =
+    let P = Quiet size (Some m) in
+    let stops = refused_quiet size (Some m) in
+    let number = next_number task m in
+    always_value P stops (file_named m name) NoSuchFile (map_file c m task home a n sharing reserving)
+    (λ q e. (let at = file_at m (has_name name) q e in
+    let more : File = mapped task number a n sharing reserving q.1 in
+    let left : Outcome = Answered (MapNo number) (Some (with_file m q.0 more)) in
+    always_unless P stops (((n == 0) || nat_lt most_file_pages (a + n), OutOfRange) ∷ (nat_lt most_map_pages n || are_too_many_maps m task, TooMany) ∷ [])
+    (grant c m home (asked sharing reserving a n q.1) left)
+    (always_grant P stops c m home (asked sharing reserving a n q.1) left (
+      λ j x. same_put (look size x) (new_file None) m.files q.0 more at.within (mapped_shows size task number a n sharing reserving q.1 x ∙ sym (ap (look size x) (at.is (new_file None)))) j,
+      λ j l x. same_put (seen size l x) (new_file None) m.files q.0 more at.within (mapped_seen size task number a n sharing reserving q.1 l x ∙ sym (ap (seen size l x) (at.is (new_file None)))) j,
+      λ j l. same_put (marked l) (new_file None) m.files q.0 more at.within (mapped_marks task number a n sharing reserving q.1 l ∙ sym (ap (marked l) (at.is (new_file None)))) j,
+    ))))
+
+pub anon_quiet : (size k : ℕ) (c : Choice) (m : Mount) (task home n : ℕ) (sharing : Sharing) (reserving : Reserving)
+    → Always (Quiet size (Some m)) (slot_event size k c (Some m) (slot.Anon task home n sharing reserving))
+anon_quiet size k c m task home n sharing reserving =
+    let P = Quiet size (Some m) in
+    let stops = refused_quiet size (Some m) in
+    let number = next_number task m in
+    let bare : File = new_file None in
+    let f : File = mapped task number 0 n sharing reserving bare in
+    let left : Outcome = Answered (MapNo number) (Some (with_new m f)) in
+    always_unless P stops (anon_tests m task n) (grant c m home (asked sharing reserving 0 n bare) left)
+    (always_grant P stops c m home (asked sharing reserving 0 n bare) left (
+      λ j x. same_more (look size x) bare m.files (f ∷ []) (λ i. same_one (look size x) bare f (mapped_shows size task number 0 n sharing reserving bare x) i) j,
+      λ j l x. same_more (seen size l x) bare m.files (f ∷ []) (λ i. same_one (seen size l x) bare f (mapped_seen size task number 0 n sharing reserving bare l x) i) j,
+      λ j l. same_more (marked l) bare m.files (f ∷ []) (λ i. same_one (marked l) bare f (mapped_marks task number 0 n sharing reserving bare l) i) j,
+    ))
+
+-- ---- accesses
+
+module _ (size : ℕ) (c : Choice) (m : Mount) (home i : ℕ) where
+  pub bytes_on : (Q : Mount → Type 0) (offset count : ℕ) (intent : Intent) (s : Spot) →
+      (i < length s.file.cells → Always (On Q) (access c size m s home i intent)) → Always (On Q) (byte_access c size m home i offset count intent s)
+  bytes_on Q offset count intent s h =
+      always_unless (On Q) (λ r. tt) ((is_unmapped s i || (count == 0), OutOfRange) ∷ (nat_lt size (offset + count), CrossesPage)
+      ∷ (nat_lt most_bytes count, TooMany) ∷ []) (if is_beyond s i then refuse BeyondEnd else access c size m s home i intent)
+      (always_test (On Q) (is_beyond s i) BeyondEnd (access c size m s home i intent) tt (λ e. h (leb-false (length s.file.cells) i e)))
+
+-- the files show what they showed, and an answer is what the map shows
+pub record Loads (size : ℕ) (old : Slot) (o : Option Spot) (i offset count : ℕ) (out : Outcome) : Type 0 where
+  pub quiet : Quiet size old out
+  pub loaded : (a : Answer) (new : Slot) → out ≡ Answered a new → IsLoaded size old o i offset count a
+
+load_refused : (size : ℕ) (old : Slot) (o : Option Spot) (i offset count : ℕ) (r : Refusal) → Loads size old o i offset count (Refused r)
+load_refused size old o i offset count r = record { quiet = (λ j x. refl, λ j l x. refl, λ j l. refl); loaded = λ a new e. cc }
+
+-- a spot's map is the one at its places
+spot_seen : (size : ℕ) (m : Mount) (s : Spot) (at : IsSpot m s) (i : ℕ) → seen size s.map_no i (file_in m s.file_no) ≡ value size s.file s.map i
+spot_seen size m s at i = ap (seen size s.map_no i) (at.file.is (new_file None)) ∙ ap (λ y. value size s.file y i) (at.map.is no_map)
+
+load_ends : (size : ℕ) (m : Mount) (s : Spot) (at : IsSpot m s) (i offset count : ℕ) (o : Outcome) → On (Same size m s at i) o
+    → Loads size (Some m) (Some s) i offset count (continued (λ n. Answered (bytes_answer offset count (value size (again n s).file (again n s).map i)) (Some n)) o)
+load_ends size m s at i offset count (Refused r) on = load_refused size (Some m) (Some s) i offset count r
+load_ends size m s at i offset count (Answered a None) on = absurd on
+load_ends size m s at i offset count (Answered a (Some n)) on = record {
+  quiet = (on.cells, on.maps, on.marks);
+  loaded = λ b new e. (let first : bytes_answer offset count (value size (again n s).file (again n s).map i) ≡ b = cc in
+      sym first ∙ ap (bytes_answer offset count) (on.value ∙ sym (spot_seen size m s at i)));
+}
+
+pub load_loads : (size k : ℕ) (c : Choice) (old : Slot) (task home number i offset count : ℕ)
+    → Always (Loads size old (spot_on old task number) i offset count) (slot_event size k c old (slot.Load task home number i offset count))
+load_loads size k c None task home number i offset count = load_refused size None None i offset count _
+load_loads size k c (Some m) task home number i offset count = by_spot (spot m (is_map task number)) (λ s e. spot_is m (is_map task number) s e)
+  where
+    by_spot : (o : Option Spot) → ((s : Spot) → o ≡ Some s → IsSpot m s) → Always (Loads size (Some m) o i offset count) (with_value o NoSuchMap (load c size m home i offset count))
+    by_spot None is = load_refused size (Some m) None i offset count NoSuchMap
+    by_spot (Some s) is =
+        let at = is s refl in
+        always_then (On (Same size m s at i)) (Loads size (Some m) (Some s) i offset count) (λ n. Answered (bytes_answer offset count (value size (again n s).file (again n s).map i)) (Some n))
+        (load_ends size m s at i offset count) (byte_access c size m home i offset count Read s)
+        (bytes_on size c m home i (Same size m s at i) offset count Read s (read_same size m s at i c home))
+
+-- the bytes are over what the shared map's file shows there, and nothing else
+abbrev pub Stores : (size : ℕ) → Slot → Option Spot → (i offset : ℕ) → List ℕ → Outcome → Type 0
+Stores size old o i offset bytes (Refused r) = Unit {0}
+Stores size old o i offset bytes (Answered a new) =
+    ((j x : ℕ) → shown_on size new j x ≡ (if (i == x) && is_shared_of o j then over offset bytes (shown_on size old j x) else shown_on size old j x))
+    × ((j l x : ℕ) →
+    (seen_on size new j l x ≡ (if (i == x) && reaches o (map_on old j l) j l x then over offset bytes (seen_on size old j l x) else seen_on size old j l x))
+    ⊎ IsLostAt o (λ y. map_on new y.file_no y.map_no) i (map_on old j l) (map_on new j l) j l x)
+    × ((j l : ℕ) → (map_on old j l).unmapped ≡ true → (map_on new j l).unmapped ≡ true)
+
+store_ends : (size : ℕ) (m : Mount) (sound : IsSoundMount m) (s : Spot) (at : IsSpot m s) (i offset : ℕ) (bytes : List ℕ) (o : Outcome) → On (Result size m s at i) o
+    → Stores size (Some m) (Some s) i offset bytes (continued (λ n. Answered Done (Some (written n s i offset bytes))) o)
+store_ends size m sound s at i offset bytes (Refused r) on = tt
+store_ends size m sound s at i offset bytes (Answered a None) on = absurd on
+store_ends size m sound s at i offset bytes (Answered a (Some n)) on = (
+  λ j x. stored size m s at i n (ready size m s at i n on) offset bytes (i == x) (is_shared s.map.sharing) (s.file_no == j) j x refl refl refl,
+  store_seen size m sound s at i offset bytes n on,
+  store_marks size m sound s at i offset bytes n on,
+)
+
+pub store_stores : (size k : ℕ) (c : Choice) (old : Slot) → IsSound old → (task home number i offset : ℕ) (bytes : List ℕ)
+    → Always (Stores size old (spot_on old task number) i offset bytes) (slot_event size k c old (slot.Store task home number i offset bytes))
+store_stores size k c None sound task home number i offset bytes = tt
+store_stores size k c (Some m) sound task home number i offset bytes = by_spot (spot m (is_map task number)) (λ s e. spot_is m (is_map task number) s e)
+  where
+    by_spot : (o : Option Spot) → ((s : Spot) → o ≡ Some s → IsSpot m s) → Always (Stores size (Some m) o i offset bytes) (with_value o NoSuchMap (store c size m home i offset bytes))
+    by_spot None is = tt
+    by_spot (Some s) is =
+        let at = is s refl in
+        always_then (On (Result size m s at i)) (Stores size (Some m) (Some s) i offset bytes) (λ n. Answered Done (Some (written n s i offset bytes)))
+        (store_ends size m sound s at i offset bytes) (byte_access c size m home i offset (length bytes) Write s)
+        (bytes_on size c m home i (Result size m s at i) offset (length bytes) Write s (write_done size m s at i c home))

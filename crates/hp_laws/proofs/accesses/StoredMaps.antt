@@ -1,0 +1,378 @@
+-- What maps show after a store, and after a fault that writes.
+use Rattle.std.proofs.Common.{◌≡◌, ⊎_elim, inl, inr, ◌⊎◌, map, ℕ, ◌-◌, Bool, true, false, ◌&&◌, ◌==◌, not}
+use Rattle.std.proofs.Common.{Option, None, Some, is_some, List, set, refl, sym, ap, ◌∙◌, subst, arith, if◌then◌else◌, nat_lt}
+use Rattle.std.specs.List.{slice_index_or, list_any}
+use Rattle.std.proofs.lemmas.Bool.{cases_eq, cond_both, eq-eqb, ltb-false, eqb-true, eqb-false}
+use Rattle.std.proofs.lemmas.List.{get_or-set_same, get_or-set_other, length-map}
+use Rattle.hp_model.specs.declared.place.Place.{Place}
+use Rattle.hp_model.specs.declared.place.Place.TheVariants.{Gone, Live}
+use Rattle.hp_model.specs.files.CopyWrite.{holds, drop_stamp, robbed}
+use Rattle.hp_model.specs.files.File.{File, Mount, new_file, with_map}
+use Rattle.hp_model.specs.Lists.{edit_at}
+use Rattle.hp_model.specs.files.Mapping.{Map, copy_of, is_shared, place_at, without_copy}
+use Rattle.hp_model.specs.files.Page.{Copy}
+use Rattle.hp_model.specs.machine.Promises.{file_in, map_in, no_map, over, is_same_copy, IsLost}
+use Rattle.hp_model.specs.files.Spot.{Spot, cell_written, file_written, map_written, place_written, written}
+use Rattle.hp_model.specs.machine.Sound.{HasCopy, IsSoundMount}
+use Rattle.hp_laws.proofs.accesses.CopiesSound.{same_index}
+use Rattle.hp_laws.proofs.lists.Looks.{edit_here, edit_other, get_map, same_edit}
+use Rattle.hp_laws.proofs.counts.MountMoves.{IsSpot}
+use Rattle.hp_laws.proofs.accesses.Shown.{marked, look, seen, by_place, not_below, Own, Copied, Result}
+use Rattle.hp_laws.proofs.accesses.StoredFiles.{ready, stored}
+
+-- ---- one place of a map that is written
+
+module _ (m : Map) (i : ℕ) (c : Bool) (o : Option Copy) (is : place_at m i ≡ Live c o) (offset : ℕ) (bytes : List ℕ) where
+  from : nat_lt i m.start ≡ false
+  from = not_below (nat_lt i m.start) (slice_index_or m.places (i - m.start) Gone) c o is
+
+  pub written_at : place_at (map_written i offset bytes m) i ≡ place_written offset bytes (place_at m i)
+  written_at =
+      ap (λ b. if b then Gone else slice_index_or (edit_at (place_written offset bytes) m.places (i - m.start)) (i - m.start) Gone) from
+      ∙ edit_here (place_written offset bytes) Gone refl m.places (i - m.start)
+      ∙ sym (ap (λ b. place_written offset bytes (if b then Gone else slice_index_or m.places (i - m.start) Gone)) from)
+
+  pub written_off : (x : ℕ) → (x ≡ i → ⊥) → place_at (map_written i offset bytes m) x ≡ place_at m x
+  written_off x other =
+      let low = ltb-false i m.start from in
+      elim (nat_lt x m.start) as (λ b. nat_lt x m.start ≡ b → (if b then Gone else slice_index_or
+      (edit_at (place_written offset bytes) m.places (i - m.start)) (x - m.start) Gone)
+      ≡ (if b then Gone else slice_index_or m.places (x - m.start) Gone)) [
+        | true ↦ λ e. refl
+        | false ↦ λ e. edit_other (place_written offset bytes) Gone m.places (i - m.start) (x - m.start) (λ same. other (omega (arith, same, low, ltb-false x m.start e)))
+      ] refl
+
+-- ---- a map that may lose its copies of a stamp
+
+no_copy : (p : Place Copy) → copy_of (without_copy p) ≡ None
+no_copy Gone = refl
+no_copy (Live consumed copy) = refl
+
+pub dropped_at : (stamp : ℕ) (m : Map) (x : ℕ) → place_at (record m { unmapped = true; places = map (drop_stamp stamp) m.places }) x ≡ drop_stamp stamp (place_at m x)
+dropped_at stamp m x =
+    elim (nat_lt x m.start) as (λ b. (if b then Gone else slice_index_or (map (drop_stamp stamp) m.places) (x - m.start) Gone)
+    ≡ drop_stamp stamp (if b then Gone else slice_index_or m.places (x - m.start) Gone)) [
+      | true ↦ refl
+      | false ↦ get_map (drop_stamp stamp) Gone refl m.places (x - m.start)
+    ]
+
+-- it shows what it showed, or had the copy and has none now
+abbrev Robs : (size stamp : ℕ) (old new : Map) (x : ℕ) (v : List ℕ) → Type 0
+Robs size stamp old new x v = (by_place size (place_at new x) v ≡ by_place size (place_at old x) v)
+    ⊎ ((holds stamp (place_at old x) ≡ true) × (copy_of (place_at new x) ≡ None) × (new.unmapped ≡ true))
+
+robs : (size stamp : ℕ) (m : Map) (x : ℕ) (v : List ℕ) → Robs size stamp m (robbed stamp m) x v
+robs size stamp m x v =
+    let less : Map = record m { unmapped = true; places = map (drop_stamp stamp) m.places } in
+    let p : Place Copy = place_at m x in
+    cond_both (list_any (holds stamp) m.places) less m (λ r. Robs size stamp m r x v)
+    (λ some. by_drop p (dropped_at stamp m x))
+    (λ none. inl refl)
+  where
+    by_drop : (p : Place Copy) → place_at (record m { unmapped = true; places = map (drop_stamp stamp) m.places }) x
+        ≡ drop_stamp stamp (place_at m x) → Robs size stamp m (record m { unmapped = true; places = map (drop_stamp stamp) m.places }) x v
+    by_drop p at =
+        elim (holds stamp (place_at m x)) as (λ b. holds stamp (place_at m x) ≡ b → Robs size stamp m (record m { unmapped = true; places = map (drop_stamp stamp) m.places }) x v) [
+          | true ↦ λ e. inr (e, ap copy_of at ∙ ap (λ b. copy_of (if b then without_copy (place_at m x) else place_at m x)) e ∙ no_copy (place_at m x), refl)
+          | false ↦ λ e. inl (ap (λ q. by_place size q v) at ∙ ap (λ b. by_place size (if b then without_copy (place_at m x) else place_at m x) v) e)
+        ] refl
+
+pub held_copy : (stamp : ℕ) (p : Place Copy) → holds stamp p ≡ true → (a : Copy) × (copy_of p ≡ Some a) × (a.stamp ≡ stamp)
+held_copy stamp Gone e = cc
+held_copy stamp (Live c None) e = cc
+held_copy stamp (Live c (Some a)) e = (a, refl, eqb-true a.stamp stamp e)
+
+-- a copy whose bytes are written stays the same copy
+pub same_written : (offset : ℕ) (bytes : List ℕ) (p q : Place Copy) → is_same_copy p (place_written offset bytes q) ≡ is_same_copy p q
+same_written offset bytes Gone q = refl
+same_written offset bytes (Live c None) q = refl
+same_written offset bytes (Live c (Some a)) Gone = refl
+same_written offset bytes (Live c (Some a)) (Live d None) = refl
+same_written offset bytes (Live c (Some a)) (Live d (Some b)) = refl
+
+-- ---- a store
+
+-- by places: the map at these places lost its copy to the owner, whose map stands where it stood
+abbrev pub IsLostAt : Option Spot → (Spot → Map) → (i : ℕ) (old new : Map) (file map j : ℕ) → Type 0
+IsLostAt None after i old new file map j = ⊥
+IsLostAt (Some o) after i old new file map j = (o.file_no ≡ file) × IsLost o.map (after o) i old new j × (map ≡ o.map_no → ⊥)
+
+module _ (size : ℕ) (m : Mount) (sound : IsSoundMount m) (s : Spot) (at : IsSpot m s) (i offset : ℕ) (bytes : List ℕ) where
+  abbrev Lost : Mount → (j l x : ℕ) → Type 0
+  Lost n j l x = IsLostAt (Some s) (λ o. map_in (file_in n o.file_no) o.map_no) i (map_in (file_in m j) l) (map_in (file_in n j) l) j l x
+
+  abbrev here : (j l x : ℕ) → List ℕ
+  here j l x = seen size l x (file_in m j)
+
+  -- what the store reaches is written
+  abbrev Seen : Mount → (j l x : ℕ) → Type 0
+  Seen n j l x =
+      (seen size l x (file_in n j) ≡ (if (i == x) && ((s.file_no == j) && (if is_shared s.map.sharing
+      then not (is_some (copy_of (place_at (map_in (file_in m j) l) x))) else (s.map_no == l))) then over offset bytes (here j l x)
+      else here j l x))
+      ⊎ Lost n j l x
+
+  -- ---- through a shared map
+
+  pick : (a d : Bool) (o : Option Copy) (v : List ℕ)
+      → (elim o [ None ↦ (if a && (true && d) then over offset bytes v else v) | Some copy ↦ copy.page.bytes ])
+      ≡ (if a && (d && not (is_some o)) then over offset bytes (elim o [ None ↦ v | Some copy ↦ copy.page.bytes ]) else (elim o [ None ↦ v | Some copy ↦ copy.page.bytes ]))
+  pick true true None v = refl
+  pick true false None v = refl
+  pick false d None v = refl
+  pick true true (Some copy) v = refl
+  pick true false (Some copy) v = refl
+  pick false d (Some copy) v = refl
+
+  shared_seen : (n : Mount) → is_shared s.map.sharing ≡ true → Copied size m s at i n → (j l x : ℕ) → Seen (written n s i offset bytes) j l x
+  shared_seen n e done j l x =
+      let w : Mount = written n s i offset bytes in
+      let edit : File → File = λ f. file_written s i offset bytes f in
+      let maps_stay : map_in (file_in w j) l ≡ map_in (file_in m j) l =
+      same_edit (λ f. map_in f l) (new_file None) edit
+      (λ f. ap (λ b. map_in (if b then record f { cells = edit_at (cell_written offset bytes) f.cells i }
+      else record f { maps = edit_at (map_written i offset bytes) f.maps s.map_no }) l) e) n.files s.file_no j
+      ∙ done.0.held e j l in
+      let o = copy_of (place_at (map_in (file_in m j) l) x) in
+      let cells = stored size m s at i n (ready size m s at i n (inl done)) offset bytes (i == x) true (s.file_no == j) j x refl e refl in
+      inl (ap (λ y. by_place size (place_at y x) (look size x (file_in w j))) maps_stay ∙ ap (by_place size (place_at (map_in (file_in m j) l) x)) cells
+      ∙ pick (i == x) (s.file_no == j) o (look size x (file_in m j))
+      ∙ ap (λ b. if (i == x) && ((s.file_no == j) && (if b then not (is_some o) else (s.map_no == l))) then over offset bytes (here j l x) else here j l x) (sym e))
+
+  -- ---- through a private map
+
+  -- before the bytes are written: the map has a copy, and shows what it showed
+  pub record Mine (n : Mount) : Type 0 where
+    pub own : Own size m s at i n
+    pub self : (x : ℕ) → seen size s.map_no x (file_in n s.file_no) ≡ here s.file_no s.map_no x
+    pub there : (j l x : ℕ) → (j ≡ s.file_no → ⊥) → seen size l x (file_in n j) ≡ here j l x
+    pub beside : (l x : ℕ) → (l ≡ s.map_no → ⊥) → (seen size l x (file_in n s.file_no) ≡ here s.file_no l x) ⊎ Lost n s.file_no l x
+
+  copied_mine : (n : Mount) → is_shared s.map.sharing ≡ false → Copied size m s at i n → Mine n
+  copied_mine n apart done =
+      let same = done.0 in
+      record { own = done.1 apart; self = λ x. same.maps s.file_no s.map_no x; there = λ j l x other. same.maps j l x; beside = λ l x other. inl (same.maps s.file_no l x) }
+
+  module _ (stamp : ℕ) where
+    abbrev pub left : File
+    left = with_map (record s.file { maps = map (robbed stamp) s.file.maps }) s.map_no s.map
+
+    abbrev pub back : Mount
+    back = record m { files = set m.files s.file_no left }
+
+    pub file_left : file_in back s.file_no ≡ left
+    file_left = get_or-set_same m.files s.file_no left (new_file None) at.file.within
+
+    pub file_was : file_in m s.file_no ≡ s.file
+    file_was = at.file.is (new_file None)
+
+    pub map_left : map_in left s.map_no ≡ s.map
+    map_left =
+        (let long = length-map s.file.maps (robbed stamp) in
+        let within = at.map.within in get_or-set_same (map (robbed stamp) s.file.maps) s.map_no s.map no_map (omega (arith, long, within)))
+
+    pub map_beside : (l : ℕ) → (l ≡ s.map_no → ⊥) → map_in left l ≡ robbed stamp (map_in s.file l)
+    map_beside l other = get_or-set_other (map (robbed stamp) s.file.maps) s.map_no l s.map no_map other ∙ get_map (robbed stamp) no_map refl s.file.maps l
+
+    -- who holds the stamp holds it at the owner's index
+    pub at_index : (consumed : Bool) (copy : Copy) → copy.stamp ≡ stamp → place_at s.map i ≡ Live consumed (Some copy) → (l x : ℕ) → holds stamp (place_at (map_in s.file l) x) ≡ true → x ≡ i
+    at_index consumed copy named is l x holds_it =
+        let held = held_copy stamp (place_at (map_in s.file l) x) holds_it in
+        let own : HasCopy (map_in s.file s.map_no) i copy = ap (λ y. copy_of (place_at y i)) (at.map.is no_map) ∙ ap copy_of is in
+        let there : (k z : ℕ) (a : Copy) → HasCopy (map_in s.file k) z a → HasCopy (map_in (file_in m s.file_no) k) z a = λ k z a. subst (λ f. HasCopy (map_in f k) z a) (sym file_was) in
+        (same_index m sound s.file_no l x s.map_no i held.0 copy (there l x held.0 held.1) (there s.map_no i copy own) (held.2 ∙ sym named)).0
+
+    back_mine : (consumed : Bool) (copy : Copy) → copy.stamp ≡ stamp → place_at s.map i ≡ Live consumed (Some copy) → s.map.owner ≡ true → is_shared s.map.sharing ≡ false → Mine back
+    back_mine consumed copy named is owner apart = record {
+      own = record { consumed = consumed; copy = copy; is = ap (λ f. place_at (map_in f s.map_no) i) file_left ∙ ap (λ y. place_at y i) map_left ∙ is };
+      self = λ x.
+          ap (seen size s.map_no x) file_left ∙ ap (λ y. by_place size (place_at y x) (look size x s.file)) (map_left ∙ sym (at.map.is no_map))
+          ∙ sym (ap (seen size s.map_no x) file_was);
+      there = λ j l x other. ap (seen size l x) (get_or-set_other m.files s.file_no j left (new_file None) other);
+      beside = λ l x other.
+          ⊎_elim
+          (λ same. inl (ap (seen size l x) file_left ∙ ap (λ y. by_place size (place_at y x) (look size x s.file)) (map_beside l other) ∙ same ∙ sym (ap (seen size l x) file_was)))
+          (λ lost. inr (
+            refl,
+            record {
+              index = at_index consumed copy named is l x lost.0;
+              private = apart;
+              owner = owner;
+              held = ap (λ q. is_same_copy q (place_at (map_in (file_in m s.file_no) l) x)) is ∙ ap (λ q. holds q (place_at (map_in (file_in m s.file_no) l) x)) named
+                  ∙ ap (λ f. holds stamp (place_at (map_in f l) x)) file_was ∙ lost.0;
+              kept = ap (λ q. is_same_copy q (place_at (map_in (file_in back s.file_no) s.map_no) i)) is
+                  ∙ ap (holds copy.stamp) (ap (λ f. place_at (map_in f s.map_no) i) file_left ∙ ap (λ y. place_at y i) map_left ∙ is) ∙ eq-eqb copy.stamp copy.stamp refl;
+              lost = ap (λ f. copy_of (place_at (map_in f l) x)) file_left ∙ ap (λ y. copy_of (place_at y x)) (map_beside l other) ∙ lost.1;
+              marked = ap (λ f. (map_in f l).unmapped) file_left ∙ ap (λ y. y.unmapped) (map_beside l other) ∙ lost.2;
+            },
+            other,
+          ))
+          (robs size stamp (map_in s.file l) x (look size x s.file));
+    }
+
+  pub mine : (n : Mount) → is_shared s.map.sharing ≡ false → Result size m s at i n → Mine n
+  mine n apart done =
+      ⊎_elim (λ copied. copied_mine n apart copied)
+      (λ taken. subst (λ y. Mine y) (sym taken.left) (back_mine taken.copy.stamp taken.consumed taken.copy refl taken.is taken.owner taken.apart)) done
+
+  module _ (n : Mount) (apart : is_shared s.map.sharing ≡ false) (is : Mine n) where
+    abbrev pub after : Mount
+    after = written n s i offset bytes
+
+    abbrev pub f : File
+    f = file_in n s.file_no
+
+    abbrev pub g : File
+    g = record f { maps = edit_at (map_written i offset bytes) f.maps s.map_no }
+
+    edits_none : file_written s i offset bytes (new_file None) ≡ new_file None
+    edits_none = ap (λ b. if b then new_file None else new_file None) apart
+
+    pub file_here : file_in after s.file_no ≡ g
+    file_here =
+        edit_here (file_written s i offset bytes) (new_file None) edits_none n.files s.file_no
+        ∙ ap (λ b. if b then record f { cells = edit_at (cell_written offset bytes) f.cells i } else g) apart
+
+    pub map_other : (l : ℕ) → (l ≡ s.map_no → ⊥) → map_in g l ≡ map_in f l
+    map_other l other = edit_other (map_written i offset bytes) no_map f.maps s.map_no l other
+
+    pub map_here : map_in g s.map_no ≡ map_written i offset bytes (map_in f s.map_no)
+    map_here = edit_here (map_written i offset bytes) no_map refl f.maps s.map_no
+
+    -- what stands at the owner's place afterwards
+    pub own_after : place_at (map_in (file_in after s.file_no) s.map_no) i ≡ place_written offset bytes (place_at (map_in f s.map_no) i)
+    own_after =
+        let own = is.own in ap (λ y. place_at (map_in y s.map_no) i) file_here ∙ ap (λ y. place_at y i) map_here ∙ written_at (map_in f s.map_no) i own.consumed (Some own.copy) own.is offset bytes
+
+    -- the test of what is reached, by its three parts
+    abbrev Tested : (a d b : Bool) → (j l x : ℕ) → Type 0
+    Tested a d b j l x = (seen size l x (file_in after j) ≡ (if a && (d && b) then over offset bytes (here j l x) else here j l x)) ⊎ Lost after j l x
+
+    in_other_file : (a b : Bool) (j l x : ℕ) → (j ≡ s.file_no → ⊥) → Tested a false b j l x
+    in_other_file a b j l x other =
+        let same = ap (seen size l x) (edit_other (file_written s i offset bytes) (new_file None) n.files s.file_no j other) ∙ is.there j l x other in
+        inl (same ∙ untested a)
+      where
+        untested : (a : Bool) → here j l x ≡ (if a && (false && b) then over offset bytes (here j l x) else here j l x)
+        untested true = refl
+        untested false = refl
+
+    in_other_map : (a : Bool) (l x : ℕ) → (l ≡ s.map_no → ⊥) → Tested a true false s.file_no l x
+    in_other_map a l x other =
+        ⊎_elim
+        (λ same. inl (ap (seen size l x) file_here ∙ ap (λ y. by_place size (place_at y x) (look size x f)) (map_other l other) ∙ same ∙ untested a))
+        (λ lost. (let new : map_in (file_in after s.file_no) l ≡ map_in f l = ap (λ y. map_in y l) file_here ∙ map_other l other in
+        inr (
+          lost.0,
+          record {
+            index = lost.1.index;
+            private = lost.1.private;
+            owner = lost.1.owner;
+            held = lost.1.held;
+            kept = ap (is_same_copy (place_at s.map i)) own_after ∙ same_written offset bytes (place_at s.map i) (place_at (map_in f s.map_no) i) ∙ lost.1.kept;
+            lost = ap (λ y. copy_of (place_at y x)) new ∙ lost.1.lost;
+            marked = ap (λ y. y.unmapped) new ∙ lost.1.marked;
+          },
+          lost.2,
+        )))
+        (is.beside l x other)
+      where
+        untested : (a : Bool) → here s.file_no l x ≡ (if a && (true && false) then over offset bytes (here s.file_no l x) else here s.file_no l x)
+        untested true = refl
+        untested false = refl
+
+    seen_after : (x : ℕ) → seen size s.map_no x (file_in after s.file_no) ≡ by_place size (place_at (map_written i offset bytes (map_in f s.map_no)) x) (look size x f)
+    seen_after x = ap (seen size s.map_no x) file_here ∙ ap (λ y. by_place size (place_at y x) (look size x f)) map_here
+
+    at_other : (x : ℕ) → (x ≡ i → ⊥) → Tested false true true s.file_no s.map_no x
+    at_other x other =
+        let own = is.own in
+        inl (seen_after x ∙ ap (λ q. by_place size q (look size x f)) (written_off (map_in f s.map_no) i own.consumed (Some own.copy) own.is offset bytes x other) ∙ is.self x)
+
+    at_here : Tested true true true s.file_no s.map_no i
+    at_here =
+        let own = is.own in
+        let was : own.copy.page.bytes ≡ here s.file_no s.map_no i = sym (ap (λ q. by_place size q (look size i f)) own.is) ∙ is.self i in
+        inl (seen_after i ∙ ap (λ q. by_place size q (look size i f)) (written_at (map_in f s.map_no) i own.consumed (Some own.copy) own.is offset bytes ∙ ap (place_written offset bytes) own.is)
+        ∙ ap (over offset bytes) was)
+
+    same_number : (a b : ℕ) → (a == b) ≡ true → b ≡ a
+    same_number a b e = sym (eqb-true a b e)
+
+    tested : (a d b : Bool) (j l x : ℕ) → (i == x) ≡ a → (s.file_no == j) ≡ d → (s.map_no == l) ≡ b → Tested a d b j l x
+    tested a false b j l x ea ed eb = in_other_file a b j l x (λ same. eqb-false s.file_no j ed (sym same))
+    tested a true false j l x ea ed eb =
+        subst (λ y. Tested a true false y l x) (eqb-true s.file_no j ed) (in_other_map a l x (λ same. eqb-false s.map_no l eb (sym same)))
+    tested false true true j l x ea ed eb =
+        subst (λ y. Tested false true true y l x) (eqb-true s.file_no j ed)
+        (subst (λ y. Tested false true true s.file_no y x) (eqb-true s.map_no l eb) (at_other x (λ same. eqb-false i x ea (sym same))))
+    tested true true true j l x ea ed eb =
+        subst (λ y. Tested true true true y l x) (eqb-true s.file_no j ed)
+        (subst (λ y. Tested true true true s.file_no y x) (eqb-true s.map_no l eb) (subst (λ y. Tested true true true s.file_no s.map_no y) (eqb-true i x ea) at_here))
+
+    private_seen : (j l x : ℕ) → Seen after j l x
+    private_seen j l x =
+        let shown = copy_of (place_at (map_in (file_in m j) l) x) in
+        subst (λ b. (seen size l x (file_in after j) ≡ (if (i == x) && ((s.file_no == j) && (if b then not (is_some shown) else (s.map_no == l)))
+        then over offset bytes (here j l x) else here j l x)) ⊎ Lost after j l x) (sym apart)
+        (tested (i == x) (s.file_no == j) (s.map_no == l) j l x refl refl refl)
+
+  pub store_seen : (n : Mount) → Result size m s at i n → (j l x : ℕ) → Seen (written n s i offset bytes) j l x
+  store_seen n done j l x =
+      elim (is_shared s.map.sharing) as (λ b. is_shared s.map.sharing ≡ b → Seen (written n s i offset bytes) j l x) [
+        | true ↦ λ e. ⊎_elim (λ copied. shared_seen n e copied j l x) (λ taken. (let apart = taken.apart in cc)) done
+        | false ↦ λ e. private_seen n e (mine n e done) j l x
+      ] refl
+
+  -- ---- marks
+
+  pub edit_marks : (l : ℕ) (f : File) → marked l (file_written s i offset bytes f) ≡ marked l f
+  edit_marks l f =
+      cond_both (is_shared s.map.sharing) (record f { cells = edit_at (cell_written offset bytes) f.cells i })
+      (record f { maps = edit_at (map_written i offset bytes) f.maps s.map_no }) (λ g. marked l g ≡ marked l f)
+      (λ e. refl) (λ e. same_edit (λ (y : Map). y.unmapped) no_map (map_written i offset bytes) (λ y. refl) f.maps s.map_no l)
+
+  robbed_marks : (stamp : ℕ) (y : Map) → y.unmapped ≡ true → (robbed stamp y).unmapped ≡ true
+  robbed_marks stamp y e =
+      cond_both (list_any (holds stamp) y.places) (record y { unmapped = true; places = map (drop_stamp stamp) y.places }) y (λ r. r.unmapped ≡ true) (λ some. refl) (λ none. e)
+
+  left_marks : (stamp l : ℕ) → marked l s.file ≡ true → marked l (left stamp) ≡ true
+  left_marks stamp l e =
+      elim (cases_eq l s.map_no) as (λ _. marked l (left stamp) ≡ true) [
+        | inl same ↦ subst (λ y. marked y (left stamp) ≡ true) (sym same) (ap (λ y. y.unmapped) (map_left stamp ∙ sym (at.map.is no_map)) ∙ subst (λ y. marked y s.file ≡ true) same e)
+        | inr other ↦ ap (λ y. y.unmapped) (map_beside stamp l other) ∙ robbed_marks stamp (map_in s.file l) e
+      ]
+
+  back_marks : (stamp j l : ℕ) → marked l (file_in m j) ≡ true → marked l (file_in (back stamp) j) ≡ true
+  back_marks stamp j l e =
+      elim (cases_eq j s.file_no) as (λ _. marked l (file_in (back stamp) j) ≡ true) [
+        | inl same ↦
+            subst (λ y. marked l (file_in (back stamp) y) ≡ true) (sym same)
+            (ap (marked l) (file_left stamp) ∙ left_marks stamp l (ap (marked l) (sym (file_was stamp)) ∙ subst (λ y. marked l (file_in m y) ≡ true) same e))
+        | inr other ↦ ap (marked l) (get_or-set_other m.files s.file_no j (left stamp) (new_file None) other) ∙ e
+      ]
+
+  pub store_marks : (n : Mount) → Result size m s at i n → (j l : ℕ) → marked l (file_in m j) ≡ true → marked l (file_in (written n s i offset bytes) j) ≡ true
+  store_marks n done j l e =
+      same_edit (marked l) (new_file None) (file_written s i offset bytes) (edit_marks l) n.files s.file_no j
+      ∙ ⊎_elim (λ copied. copied.0.marks j l ∙ e) (λ taken. ap (λ y. marked l (file_in y j)) taken.left ∙ back_marks taken.copy.stamp j l e) done
+
+  -- ---- a write that is only a fault
+
+  in_mine : (n : Mount) → Mine n → (j l x : ℕ) → (seen size l x (file_in n j) ≡ here j l x) ⊎ Lost n j l x
+  in_mine n own j l x =
+      elim (cases_eq j s.file_no) as (λ _. (seen size l x (file_in n j) ≡ here j l x) ⊎ Lost n j l x) [
+        | inl same ↦ subst (λ k. (seen size l x (file_in n k) ≡ here k l x) ⊎ Lost n k l x) (sym same)
+            (elim (cases_eq l s.map_no) as (λ _. (seen size l x (file_in n s.file_no) ≡ here s.file_no l x) ⊎ Lost n s.file_no l x) [
+              | inl own_map ↦ subst (λ k. (seen size k x (file_in n s.file_no) ≡ here s.file_no k x) ⊎ Lost n s.file_no k x) (sym own_map) (inl (own.self x))
+              | inr other ↦ own.beside l x other
+            ])
+        | inr other ↦ inl (own.there j l x other)
+      ]
+
+  pub touched_seen : (n : Mount) → Result size m s at i n → (j l x : ℕ) → (seen size l x (file_in n j) ≡ here j l x) ⊎ Lost n j l x
+  touched_seen n done j l x = ⊎_elim (λ copied. inl (copied.0.maps j l x)) (λ taken. in_mine n (mine n taken.apart done) j l x) done
+
+  pub touched_marks : (n : Mount) → Result size m s at i n → (j l : ℕ) → marked l (file_in m j) ≡ true → marked l (file_in n j) ≡ true
+  touched_marks n done j l e =
+      ⊎_elim (λ copied. copied.0.marks j l ∙ e) (λ taken. ap (λ y. marked l (file_in y j)) taken.left ∙ back_marks taken.copy.stamp j l e) done

@@ -1,0 +1,10 @@
+-- What is left after unmaps, unlinks, umounts and exits.
+pub mod UnlinkEnds
+pub mod UnmapEnds
+pub mod GoneAfter
+pub mod UnmapsCut
+pub mod Cuts
+pub mod Unmaps
+pub mod Fades
+pub mod Swept
+pub mod RefusedForks

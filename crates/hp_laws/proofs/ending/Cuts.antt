@@ -1,0 +1,331 @@
+-- What files and maps show after a range of a file or of a map is gone.
+use Rattle.std.proofs.Common.{◌≡◌, ⊎_elim, inl, inr, ◌⊎◌, subst, ℕ, ◌+◌, ◌-◌, ◌<◌, ◌≤◌, ◌&&◌, ◌==◌, Bool, true, false, Option}
+use Rattle.std.proofs.Common.{None, Some, List, length, map, replicate, take, get_or, option_map, refl, sym, ap, ◌∙◌, arith, if◌then◌else◌, nat_le, nat_lt}
+use Rattle.std.specs.List.{list_any}
+use Rattle.std.specs.Str.{bytes_eq}
+use Rattle.std.proofs.lemmas.Slice.Eq.{bytes_eq-Decides}
+use Rattle.std.proofs.lemmas.Bool.{cases_eq, cases_lt, eq-eqb, eqb-true, false_from_ne_true, leb-false, leb-true, ltb-false, ltb-true}
+use Rattle.std.proofs.lemmas.List.{get_or-set_other, get_or-set_same, get_or-take, get_or_past, length-take}
+use Rattle.std.proofs.lemmas.List.Elements.{All-get_or}
+use Rattle.hp_model.specs.declared.cell.Cell.{Cell}
+use Rattle.hp_model.specs.declared.cell.Cell.TheVariants.{Hole, Entered, Present}
+use Rattle.hp_model.specs.declared.event.SlotEvent.{SlotEvent}
+use Rattle.hp_model.specs.declared.event.SlotEvent.TheVariants as slot
+use Rattle.hp_model.specs.declared.place.Place.{Place}
+use Rattle.hp_model.specs.declared.place.Place.TheVariants.{Gone, Live}
+use Rattle.hp_model.specs.files.File.{File, Mount, cell_at, cell_punched, cells_to, new_file, with_file}
+use Rattle.hp_model.specs.files.GiveBack.{punched, truncated, unlinked}
+use Rattle.hp_model.specs.Lists.{edit_range, found}
+use Rattle.hp_model.specs.files.Mapping.{Map, copy_of, is_map, map_punched, no_map, place_at, without_copy}
+use Rattle.hp_model.specs.files.Page.{Copy, Page, zeros}
+use Rattle.hp_model.specs.machine.Promises.{file_in, is_in, map_in, means_file, shape_of}
+use Rattle.hp_model.specs.machine.SlotEvent.{file_named, has_name}
+use Rattle.hp_model.specs.machine.Sound.{IsSoundFile, IsSoundMap, IsSoundMount}
+use Rattle.hp_model.specs.files.Spot.{Spot, spot, spot_in}
+use Rattle.hp_model.specs.files.Value.{shown, value}
+use Rattle.hp_model.proofs.Editing.{get_or-edit_below, get_or-edit_in, get_or-edit_past, length-edit_range}
+use Rattle.hp_laws.proofs.names.Accessed.{file_put, get_mapped, key_map, pages_same}
+use Rattle.hp_laws.proofs.names.ByPlace.{PlaceKeeps}
+use Rattle.hp_laws.proofs.names.Changes.{seen_by, stored_by}
+use Rattle.hp_laws.proofs.names.Follows.{some_file}
+use Rattle.hp_laws.proofs.names.Keys.{keys, places}
+use Rattle.hp_laws.proofs.lists.Looks.{same_more, same_none, same_put}
+use Rattle.hp_laws.proofs.making.FilesMade.{in_file, spot_in_file}
+use Rattle.hp_laws.proofs.counts.MountMoves.{file_at, spot_is}
+use Rattle.hp_laws.proofs.names.Placed.{found_set, lead_same, placed, put_at}
+use Rattle.hp_laws.proofs.lists.Places.{found_place}
+use Rattle.hp_laws.proofs.accesses.Shown.{by_place, look, seen}
+
+-- ---- a range of a list
+
+module _ {X : Type 0} (f : X → X) (a b : ℕ) (xs : List X) (k : ℕ) (d : X) where
+  beyond : length xs ≤ k → get_or (edit_range f a b xs) k d ≡ d
+  beyond past = (let same = length-edit_range f a b xs in get_or_past (edit_range f a b xs) k d (omega (arith, past, same)))
+
+  pub ranged_in : f d ≡ d → a ≤ k → k < b → get_or (edit_range f a b xs) k d ≡ f (get_or xs k d)
+  ranged_in none from to =
+      ⊎_elim (λ l. get_or-edit_in f a b xs k d from to l) (λ past. beyond past ∙ sym none ∙ sym (ap f (get_or_past xs k d past))) (cases_lt k (length xs))
+
+  pub ranged_out : (k < a) ⊎ (b ≤ k) → get_or (edit_range f a b xs) k d ≡ get_or xs k d
+  ranged_out out =
+      ⊎_elim
+      (λ l. ⊎_elim (λ low. get_or-edit_below f a b xs k d low l)
+      (λ high. ⊎_elim (λ low. get_or-edit_below f a b xs k d low l) (λ from. get_or-edit_past f a b xs k d from high l) (cases_lt k a)) out)
+      (λ past. beyond past ∙ sym (get_or_past xs k d past)) (cases_lt k (length xs))
+
+  pub ranged : f d ≡ d → get_or (edit_range f a b xs) k d ≡ (if is_in a b k then f (get_or xs k d) else get_or xs k d)
+  ranged none = by_tests (nat_le a k) (nat_lt k b) refl refl
+    where
+      by_tests : (x y : Bool) → nat_le a k ≡ x → nat_lt k b ≡ y → get_or (edit_range f a b xs) k d ≡ (if x && y then f (get_or xs k d) else get_or xs k d)
+      by_tests true true from to = ranged_in none (leb-true a k from) (ltb-true k b to)
+      by_tests true false from to = ranged_out (inr (ltb-false k b to))
+      by_tests false y from to = ranged_out (inl (leb-false a k from))
+
+-- of a map's places
+pub place_ranged : (g : Place Copy → Place Copy) → g Gone ≡ Gone → (a b : ℕ) (y : Map) (i : ℕ)
+    → place_at (record y { places = edit_range g (a - y.start) (b - y.start) y.places }) i ≡ (if is_in a b i then g (place_at y i) else place_at y i)
+place_ranged g none a b y i = by_start (nat_lt i y.start) refl
+  where
+    either : (c : Bool) → Gone ≡ (if c then g Gone else Gone)
+    either true = sym none
+    either false = refl
+
+    by_tests : y.start ≤ i → (c d : Bool) → nat_le a i ≡ c → nat_lt i b ≡ d
+        → get_or (edit_range g (a - y.start) (b - y.start) y.places) (i - y.start) Gone ≡ (if c && d then g (get_or y.places (i - y.start) Gone) else get_or y.places (i - y.start) Gone)
+    by_tests above true true from to =
+        let low = leb-true a i from in
+        let high = ltb-true i b to in
+        ranged_in g (a - y.start) (b - y.start) y.places (i - y.start) Gone none (omega (arith, low, above)) (omega (arith, high, above))
+    by_tests above true false from to =
+        let high = ltb-false i b to in ranged_out g (a - y.start) (b - y.start) y.places (i - y.start) Gone (inr (omega (arith, high, above)))
+    by_tests above false d from to =
+        let low = leb-false a i from in ranged_out g (a - y.start) (b - y.start) y.places (i - y.start) Gone (inl (omega (arith, low, above)))
+
+    by_start : (c : Bool) → nat_lt i y.start ≡ c
+        → (if c then Gone else get_or (edit_range g (a - y.start) (b - y.start) y.places) (i - y.start) Gone)
+        ≡ (if is_in a b i then g (if c then Gone else get_or y.places (i - y.start) Gone) else (if c then Gone else get_or y.places (i - y.start) Gone))
+    by_start true below = either (is_in a b i)
+    by_start false above = by_tests (ltb-false i y.start above) (nat_le a i) (nat_lt i b) refl refl
+
+-- ---- a file of which indices are cut off
+
+-- it shows zeros there, and so do its maps
+pub record IsCut (size : ℕ) (f g : File) (h : Map → Map) (cut : ℕ → Bool) : Type 0 where
+  pub maps : g.maps ≡ map h f.maps
+  pub name : g.name ≡ f.name
+  pub shape : (y : Map) → shape_of (h y) ≡ shape_of y
+  pub marks : (y : Map) → (h y).unmapped ≡ y.unmapped
+  pub cells : (x : ℕ) → look size x g ≡ (if cut x then zeros size else look size x f)
+  pub seen : (y : Map) → IsSoundMap (length f.cells) y → (x : ℕ) → value size g (h y) x ≡ (if cut x then zeros size else value size f y x)
+
+no_copy : (size : ℕ) (p : Place Copy) (v : List ℕ) → by_place size (without_copy p) v ≡ v
+no_copy size Gone v = refl
+no_copy size (Live consumed copy) v = refl
+
+punched_shows : (size : ℕ) (c : Cell Page) → shown size (cell_punched c) ≡ zeros size
+punched_shows size Hole = refl
+punched_shows size Entered = refl
+punched_shows size (Present page) = refl
+
+module _ (size a b : ℕ) (f : File) where
+  punch_cells : (x : ℕ) → look size x (punched a b f) ≡ (if is_in a b x then zeros size else look size x f)
+  punch_cells x = ap (shown size) (ranged cell_punched a b f.cells x Hole refl) ∙ by_test (is_in a b x)
+    where
+      by_test : (c : Bool) → shown size (if c then cell_punched (cell_at f x) else cell_at f x) ≡ (if c then zeros size else look size x f)
+      by_test true = punched_shows size (cell_at f x)
+      by_test false = refl
+
+  pub punch_cut : IsCut size f (punched a b f) (map_punched a b) (is_in a b)
+  punch_cut = record {
+    maps = refl;
+    name = refl;
+    shape = λ y. pages_same y y.unmapped (map_punched a b y).places (length-edit_range without_copy (a - y.start) (b - y.start) y.places);
+    marks = λ y. refl;
+    cells = punch_cells;
+    seen = λ y sound x.
+        ap (λ p. by_place size p (look size x (punched a b f))) (place_ranged without_copy refl a b y x)
+        ∙ ap (by_place size (if is_in a b x then without_copy (place_at y x) else place_at y x)) (punch_cells x) ∙ by_test y x (is_in a b x);
+  }
+    where
+      by_test : (y : Map) (x : ℕ) (c : Bool)
+          → by_place size (if c then without_copy (place_at y x) else place_at y x) (if c then zeros size else look size x f) ≡ (if c then zeros size else value size f y x)
+      by_test y x true = no_copy size (place_at y x) (zeros size)
+      by_test y x false = refl
+
+module _ (size n : ℕ) (f : File) where
+  pub cell_kept : (x : ℕ) → get_or (cells_to n f.cells) x Hole ≡ get_or (take n f.cells) x Hole
+  cell_kept x = same_more (λ (c : Cell Page). c) Hole (take n f.cells) (replicate (n - length f.cells) Hole) (λ j. same_none (λ (c : Cell Page). c) Hole (n - length f.cells) j) x
+
+  cut_cells : (x : ℕ) (c : Bool) → nat_le n x ≡ c → look size x (truncated n f) ≡ (if c then zeros size else look size x f)
+  cut_cells x true past =
+      let long = length-take n f.cells in
+      let from = leb-true n x past in
+      ap (shown size) (cell_kept x ∙ get_or_past (take n f.cells) x Hole (omega (arith, long, from)))
+  cut_cells x false below = ap (shown size) (cell_kept x ∙ get_or-take n f.cells x Hole (leb-false n x below))
+
+  none_beyond : (y : Map) → IsSoundMap (length f.cells) y → (x : ℕ) → length f.cells ≤ x → (v : List ℕ) → by_place size (place_at y x) v ≡ v
+  none_beyond y sound x past v = by_copy (copy_of (place_at y x)) refl
+    where
+      by_copy : (o : Option Copy) → copy_of (place_at y x) ≡ o → (elim o [ None ↦ v | Some copy ↦ copy.page.bytes ]) ≡ v
+      by_copy None e = refl
+      by_copy (Some copy) e = (let below = (sound x copy e).below in absurd (omega (arith, below, past)))
+
+  cut_seen : (y : Map) → IsSoundMap (length f.cells) y → (x : ℕ) (c : Bool) → nat_le n x ≡ c →
+      value size (truncated n f) (map_punched n (n + length f.cells) y) x ≡ (if c then zeros size else value size f y x)
+  cut_seen y sound x c e =
+      ap (λ p. by_place size p (look size x (truncated n f))) (place_ranged without_copy refl n (n + length f.cells) y x)
+      ∙ ap (by_place size (if is_in n (n + length f.cells) x then without_copy (place_at y x) else place_at y x)) (cut_cells x c e)
+      ∙ by_tests c (nat_lt x (n + length f.cells)) e refl
+    where
+      by_tests : (c d : Bool) → nat_le n x ≡ c → nat_lt x (n + length f.cells) ≡ d
+          → by_place size (if nat_le n x && d then without_copy (place_at y x) else place_at y x) (if c then zeros size else look size x f) ≡ (if c then zeros size else value size f y x)
+      by_tests true true from to = ap (λ z. by_place size (if z && true then without_copy (place_at y x) else place_at y x) (zeros size)) from ∙ no_copy size (place_at y x) (zeros size)
+      by_tests true false from to =
+          let high = ltb-false x (n + length f.cells) to in
+          ap (λ z. by_place size (if z && false then without_copy (place_at y x) else place_at y x) (zeros size)) from ∙ none_beyond y sound x (omega (arith, high)) (zeros size)
+      by_tests false d from to = ap (λ z. by_place size (if z && d then without_copy (place_at y x) else place_at y x) (look size x f)) from
+
+  pub truncate_cut : IsCut size f (truncated n f) (map_punched n (n + length f.cells)) (nat_le n)
+  truncate_cut = record {
+    maps = refl;
+    name = refl;
+    shape = λ y. pages_same y y.unmapped (map_punched n (n + length f.cells) y).places (length-edit_range without_copy (n - y.start) (n + length f.cells - y.start) y.places);
+    marks = λ y. refl;
+    cells = λ x. cut_cells x (nat_le n x) refl;
+    seen = λ y sound x. cut_seen y sound x (nat_le n x) refl;
+  }
+
+-- ---- its mount
+
+module _ (size : ℕ) (m : Mount) (sound : IsSoundMount m) (name : List ℕ) (q : ℕ × File) (named : file_named m name ≡ Some q) (g : File)
+    (h : Map → Map) (cut : ℕ → Bool) (is : IsCut size q.1 g h cut) where
+  abbrev after : Mount
+  after = with_file m q.0 g
+
+  abbrev cut_off : Bool → List ℕ → List ℕ
+  cut_off b old = if b then zeros size else old
+
+  file_was : file_in m q.0 ≡ q.1
+  file_was = (file_at m (has_name name) q named).is (new_file None)
+
+  file_now : file_in after q.0 ≡ g
+  file_now = get_or-set_same m.files q.0 g (new_file None) (file_at m (has_name name) q named).within
+
+  file_other : (j : ℕ) → (j ≡ q.0 → ⊥) → file_in after j ≡ file_in m j
+  file_other j other = get_or-set_other m.files q.0 j g (new_file None) other
+
+  means : (j : ℕ) → means_file (Some m) name j ≡ (q.0 == j)
+  means j = ap (λ (o : Option (ℕ × File)). elim o [ None ↦ false | Some f ↦ f.0 == j ]) named
+
+  -- the test of what is cut off, there and elsewhere
+  cut_here : (x : ℕ) (old : List ℕ) → cut_off (cut x) old ≡ cut_off (means_file (Some m) name q.0 && cut x) old
+  cut_here x old = ap (λ b. cut_off (b && cut x) old) (sym (means q.0 ∙ eq-eqb q.0 q.0 refl))
+
+  cut_there : (j x : ℕ) → (j ≡ q.0 → ⊥) → (old : List ℕ) → old ≡ cut_off (means_file (Some m) name j && cut x) old
+  cut_there j x other old = ap (λ b. cut_off (b && cut x) old) (sym (means j ∙ false_from_ne_true (q.0 == j) (λ e. other (sym (eqb-true q.0 j e)))))
+
+  cells_cut : (j x : ℕ) → look size x (file_in after j) ≡ cut_off (means_file (Some m) name j && cut x) (look size x (file_in m j))
+  cells_cut j x = elim (cases_eq j q.0) as (λ _. look size x (file_in after j) ≡ cut_off (means_file (Some m) name j && cut x) (look size x (file_in m j))) [
+    | inl same ↦ subst (λ k. look size x (file_in after k) ≡ cut_off (means_file (Some m) name k && cut x) (look size x (file_in m k))) (sym same)
+        (ap (look size x) file_now ∙ is.cells x ∙ ap (λ f. cut_off (cut x) (look size x f)) (sym file_was) ∙ cut_here x (look size x (file_in m q.0)))
+    | inr other ↦ ap (look size x) (file_other j other) ∙ cut_there j x other (look size x (file_in m j))
+  ]
+
+  -- the map at a place of the file
+  module _ (l : ℕ) (within : l < length q.1.maps) where
+    map_now : map_in (file_in after q.0) l ≡ h (map_in q.1 l)
+    map_now = ap (λ f. map_in f l) file_now ∙ ap (λ ms. get_or ms l no_map) is.maps ∙ get_mapped h q.1.maps l no_map within
+
+    map_sound : IsSoundMap (length q.1.cells) (map_in q.1 l)
+    map_sound =
+        let at = file_at m (has_name name) q named in
+        let whole = subst IsSoundFile file_was (All-get_or IsSoundFile m.files q.0 (new_file None) at.within sound.files) in
+        All-get_or (IsSoundMap (length q.1.cells)) q.1.maps l no_map within whole.maps
+
+    seen_cut : (x : ℕ) → seen size l x (file_in after q.0) ≡ cut_off (means_file (Some m) name q.0 && cut x) (seen size l x (file_in m q.0))
+    seen_cut x =
+        ap (λ y. value size (file_in after q.0) y x) map_now ∙ ap (λ f. value size f (h (map_in q.1 l)) x) file_now ∙ is.seen (map_in q.1 l) map_sound x
+        ∙ ap (λ f. cut_off (cut x) (seen size l x f)) (sym file_was) ∙ cut_here x (seen size l x (file_in m q.0))
+
+  within_file : (p : Spot) (test : Map → Bool) → spot m test ≡ Some p → p.file_no ≡ q.0 → p.map_no < length q.1.maps
+  within_file p test found same =
+      let at = spot_is m test p found in
+      let file : p.file ≡ q.1 = sym (at.file.is (new_file None)) ∙ ap (file_in m) same ∙ file_was in
+      subst (λ f. p.map_no < length f.maps) file at.map.within
+
+  maps_cut : (test : Map → Bool) (x : ℕ) (p : Spot) → spot m test ≡ Some p
+      → seen size p.map_no x (file_in after p.file_no) ≡ cut_off (means_file (Some m) name p.file_no && cut x) (seen size p.map_no x (file_in m p.file_no))
+  maps_cut test x p found =
+      elim (cases_eq p.file_no q.0) as
+      (λ _. seen size p.map_no x (file_in after p.file_no) ≡ cut_off (means_file (Some m) name p.file_no && cut x) (seen size p.map_no x (file_in m p.file_no))) [
+        | inl same ↦ subst (λ k. seen size p.map_no x (file_in after k) ≡ cut_off (means_file (Some m) name k && cut x) (seen size p.map_no x (file_in m k))) (sym same)
+            (seen_cut p.map_no (within_file p test found same) x)
+        | inr other ↦ ap (seen size p.map_no x) (file_other p.file_no other) ∙ cut_there p.file_no x other (seen size p.map_no x (file_in m p.file_no))
+      ]
+
+  marks_cut : (test : Map → Bool) (p : Spot) → spot m test ≡ Some p → (map_in (file_in m p.file_no) p.map_no).unmapped ≡ true → (map_in (file_in after p.file_no) p.map_no).unmapped ≡ true
+  marks_cut test p found marked =
+      elim (cases_eq p.file_no q.0) as (λ _. (map_in (file_in after p.file_no) p.map_no).unmapped ≡ true) [
+        | inl same ↦ subst (λ k. (map_in (file_in after k) p.map_no).unmapped ≡ true) (sym same)
+            (ap (λ y. y.unmapped) (map_now p.map_no (within_file p test found same)) ∙ is.marks (map_in q.1 p.map_no)
+            ∙ ap (λ f. (map_in f p.map_no).unmapped) (sym file_was) ∙ subst (λ k. (map_in (file_in m k) p.map_no).unmapped ≡ true) same marked)
+        | inr other ↦ ap (λ f. (map_in f p.map_no).unmapped) (file_other p.file_no other) ∙ marked
+      ]
+
+  pub same_keys : keys after ≡ keys m
+  same_keys =
+      file_put m q.0 q.1 g (file_at m (has_name name) q named).is
+      (ap (λ n. (n, map shape_of g.maps)) is.name ∙ ap (λ ks. (q.1.name, ks)) (ap (map shape_of) is.maps ∙ key_map shape_of h is.shape q.1.maps))
+
+  pub cut_keeps : (e : SlotEvent)
+      → ((j x : ℕ) (old : List ℕ) → cut_off (means_file (Some m) name j && cut x) old ≡ stored_by size (Some m) e j x old)
+      → ((j l x : ℕ) (old : List ℕ) → cut_off (means_file (Some m) name j && cut x) old ≡ seen_by size (Some m) e j l x old)
+      → PlaceKeeps size m e after
+  cut_keeps e stores sees =
+      let stays = placed m after (lead_same (keys m) (keys after) same_keys) in
+      record {
+        names = λ name f goes_on e. stays.names name f e;
+        numbers = λ task number p goes_on e. stays.numbers task number p e;
+        cells = λ j x. cells_cut j x ∙ stores j x (look size x (file_in m j));
+        maps = λ task number x p found. inl (maps_cut (is_map task number) x p found ∙ sees p.file_no p.map_no x (seen size p.map_no x (file_in m p.file_no)));
+        marks = λ task number p found marked. marks_cut (is_map task number) p found marked;
+      }
+
+-- ---- a file that loses its name
+
+module _ (size : ℕ) (m : Mount) (name : List ℕ) (q : ℕ × File) (named : file_named m name ≡ Some q) where
+  abbrev left : Mount
+  left = with_file m q.0 (unlinked q.1)
+
+  same_look : {Y : Type 0} (v : File → Y) → v (unlinked q.1) ≡ v q.1 → (j : ℕ) → v (file_in left j) ≡ v (file_in m j)
+  same_look v same j =
+      let at = file_at m (has_name name) q named in
+      same_put v (new_file None) m.files q.0 (unlinked q.1) at.within (same ∙ sym (ap v (at.is (new_file None)))) j
+
+  -- another name is not that of the file
+  not_named : (other : List ℕ) → bytes_eq name other ≡ false → has_name other q.1 ≡ false
+  not_named other apart = by_name q.1.name (found_place (has_name name) m.files q named).passes
+    where
+      by_name : (o : Option (List ℕ)) → (elim o [ None ↦ false | Some n ↦ bytes_eq n name ]) ≡ true → (elim o [ None ↦ false | Some n ↦ bytes_eq n other ]) ≡ false
+      by_name None e = cc
+      by_name (Some n) e = subst (λ k. bytes_eq k other ≡ false) (sym ((bytes_eq-Decides n name).0 e)) apart
+
+  -- the file that was found, and its maps
+  abbrev moved : ℕ × File → ℕ × File
+  moved f = put_at q.0 (unlinked q.1) f
+
+  maps_same : (test : File → Bool) (f : ℕ × File) → found test m.files ≡ Some f → (moved f).1.maps ≡ f.1.maps
+  maps_same test f e = by_place (f.0 == q.0) refl
+    where
+      by_place : (b : Bool) → (f.0 == q.0) ≡ b → (if b then unlinked q.1 else f.1).maps ≡ f.1.maps
+      by_place false other = refl
+      by_place true same =
+          ap (λ (g : File). g.maps)
+          (sym ((file_at m (has_name name) q named).is (new_file None)) ∙ ap (file_in m) (sym (eqb-true f.0 q.0 same)) ∙ (file_at m test f e).is (new_file None))
+
+  number_stays : (test : Map → Bool) (p : Spot) → spot m test ≡ Some p → (r : Spot) × (spot left test ≡ Some r) × (places r ≡ places p)
+  number_stays test p e =
+      let has = λ (f : File). list_any test f.maps in
+      let there = some_file m test (found has m.files) p (sym (spot_in_file m test) ∙ e) in
+      let f = there.0 in
+      let w = there.2.0 in
+      let was : has (unlinked q.1) ≡ has (get_or m.files q.0 (unlinked q.1)) = sym (ap has ((file_at m (has_name name) q named).is (unlinked q.1))) in (
+        spot_in (moved f) w,
+        spot_in_file left test ∙ ap (in_file test) (found_set has m.files q.0 (unlinked q.1) was ∙ ap (option_map (put_at q.0 (unlinked q.1))) there.1)
+            ∙ ap (option_map (spot_in (moved f))) (ap (found test) (maps_same has f there.1) ∙ there.2.1),
+        ap places there.2.2,
+      )
+
+  pub unlink_keeps : PlaceKeeps size m (slot.Unlink name) left
+  unlink_keeps = record {
+    names = λ other f goes_on e. (
+      (f.0, if f.0 == q.0 then unlinked q.1 else f.1),
+      found_set (has_name other) m.files q.0 (unlinked q.1) (sym (ap (has_name other) ((file_at m (has_name name) q named).is (unlinked q.1)) ∙ not_named other goes_on))
+          ∙ ap (option_map (put_at q.0 (unlinked q.1))) e,
+      refl,
+    );
+    numbers = λ task number p goes_on e. number_stays (is_map task number) p e;
+    cells = λ j x. same_look (look size x) refl j;
+    maps = λ task number x p found. inl (same_look (seen size p.map_no x) refl p.file_no);
+    marks = λ task number p found marked. same_look (λ f. (map_in f p.map_no).unmapped) refl p.file_no ∙ marked;
+  }

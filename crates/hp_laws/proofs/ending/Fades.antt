@@ -1,0 +1,290 @@
+-- What a script keeps whose events on slots only end maps of one task: a fork's, or an exit's.
+use Rattle.std.proofs.Common.{false, ◌≡◌, ⊎_elim, inl, inr, subst, ℕ, ◌<◌, ◌≤◌, ◌==◌, Option, None, Some, Ok, Err, List, [], ◌∷◌, ◌++◌, length, refl, sym, ap, ◌∙◌, arith}
+use Rattle.std.specs.List.{range_with_len, slice_index_or, slice_set}
+use Rattle.std.proofs.lemmas.Bool.{cases_eq, ltb-true}
+use Rattle.std.proofs.lemmas.List.{get_or-set_other, get_or-set_same}
+use Rattle.hp_model.specs.declared.answer.Answer.TheVariants.{Done}
+use Rattle.hp_model.specs.declared.event.Event.{Event}
+use Rattle.hp_model.specs.declared.event.Event.TheVariants.{Tasks, Slot as OnSlot, Pool as OnPool}
+use Rattle.hp_model.specs.declared.event.SlotEvent.{SlotEvent}
+use Rattle.hp_model.specs.declared.event.SlotEvent.TheVariants as slot
+use Rattle.hp_model.specs.declared.refusal.Refusal.{Refusal}
+use Rattle.hp_model.specs.declared.step.Step.TheVariants.{Exit, Fork}
+use Rattle.hp_model.specs.machine.Event.{IsEvent, has_maps_of, with_table}
+use Rattle.hp_model.specs.files.File.{Mount}
+use Rattle.hp_model.specs.files.Fork.{file_forked, forked}
+use Rattle.hp_model.specs.files.GiveBack.{file_without, without_task}
+use Rattle.hp_model.specs.machine.Kept.{KeepsFiles}
+use Rattle.hp_model.specs.machine.Plan.{Choice, Outcome, Refused, Answered, Reply, Slot, gives, slot_usage}
+use Rattle.hp_model.specs.machine.Promises.{SameFiles, SameLimits, spot_on}
+use Rattle.hp_model.specs.machine.SlotEvent.{fork_tests, slot_event}
+use Rattle.hp_model.specs.files.Spot.{Spot}
+use Rattle.hp_model.specs.machine.State.{State, slot_at}
+use Rattle.hp_model.specs.machine.Table.{home_of, removed, when_known}
+use Rattle.hp_model.specs.machine.Step.{Answer_with, Do, IsScripted, IsScript, Script, Where_mapped, exit_slots, fork_slots, or_undone, script, undone, when_done}
+use Rattle.hp_laws.specs.Balance.{Always, left_by}
+use Rattle.hp_laws.proofs.names.Changes.{KeptMap, SlotKeeps}
+use Rattle.hp_laws.proofs.counts.Falls.{forked_falls, without_falls}
+use Rattle.hp_laws.proofs.names.FilesStay.{files_same, files_stay, files_then}
+use Rattle.hp_laws.proofs.names.Follows.{both_same}
+use Rattle.hp_laws.proofs.counts.MountMoves.{files_sweep}
+use Rattle.hp_laws.proofs.steps.Outcomes.{either_way, event_ends}
+use Rattle.hp_laws.proofs.accesses.SlotShows.{always_gives, always_unless}
+use Rattle.hp_laws.proofs.ending.Unmaps.{exit_keeps, exit_whole, fork_keeps, fork_whole, same_keeps}
+
+-- ---- one slot
+
+-- every other map is as it was, and its file's cells
+abbrev pub Whole : (gone : ℕ) → (x y : Slot) → Type 0
+Whole gone x y =
+    (task number : ℕ) (p : Spot) → (gone == task) ≡ false → spot_on x task number ≡ Some p
+    → (q : Spot) × (spot_on y task number ≡ Some q) × (q.map ≡ p.map) × (q.file.cells ≡ p.file.cells)
+
+-- but for maps of the task, a slot keeps what its names and numbers mean, and its limits, and uses no more
+pub record Fades (size gone : ℕ) (x y : Slot) : Type 0 where
+  pub keeps : SlotKeeps size x (slot.ExitMaps gone) y
+  pub limits : SameLimits x y
+  pub usage : slot_usage y ≤ slot_usage x
+  pub whole : Whole gone x y
+  pub files : KeepsFiles x y
+
+module _ (size gone : ℕ) where
+  none_keeps : SlotKeeps size None (slot.ExitMaps gone) None
+  none_keeps = record {
+    names = λ name i f goes_on named. cc;
+    numbers = λ task number i p goes_on found. cc;
+    together = λ a b p o goes_on stays found there. cc;
+  }
+
+  pub stays : (x : Slot) → Fades size gone x x
+  stays None = record { keeps = none_keeps; limits = tt; usage = omega arith; whole = λ task number p other found. (p, found, refl, refl); files = files_same None }
+  stays (Some m) =
+      record {
+        keeps = same_keeps size m (slot.ExitMaps gone) (λ j x old. refl) (λ j l x old. refl);
+        limits = refl;
+        usage = omega arith;
+        whole = λ task number p other found. (p, found, refl, refl);
+        files = files_same (Some m);
+      }
+
+  -- one after the other
+  module _ (x y z : Slot) where
+    map_then : (p q r : Spot) (i : ℕ) → KeptMap size x (slot.ExitMaps gone) y p q i → KeptMap size y (slot.ExitMaps gone) z q r i → KeptMap size x (slot.ExitMaps gone) z p r i
+    map_then p q r i first second = record {
+      shape = second.shape ∙ first.shape;
+      file = λ name goes_on named. second.file name goes_on (first.file name goes_on named);
+      marked = λ marked. second.marked (first.marked marked);
+      shows = ⊎_elim (λ a. ⊎_elim (λ b. inl (b ∙ a)) (λ lost. absurd lost) second.shows) (λ lost. absurd lost) first.shows;
+    }
+
+    keeps_then : SlotKeeps size x (slot.ExitMaps gone) y → SlotKeeps size y (slot.ExitMaps gone) z → SlotKeeps size x (slot.ExitMaps gone) z
+    keeps_then first second = record {
+      names = λ name i f goes_on named.
+          (let g = first.names name i f goes_on named in let h = second.names name i g.0 goes_on g.1 in (h.0, h.1, h.2 ∙ g.2));
+      numbers = λ task number i p goes_on found.
+          (let q = first.numbers task number i p goes_on found in
+          let r = second.numbers task number i q.0 goes_on q.1 in (r.0, r.1, map_then p q.0 r.0 i q.2 r.2));
+      together = λ a b p o goes_a goes_b found_a found_b.
+          (let q = first.numbers a.0 a.1 0 p goes_a found_a in
+          let w = first.numbers b.0 b.1 0 o goes_b found_b in
+          subst (λ c. SameFiles c (spot_on z a.0 a.1) (spot_on z b.0 b.1))
+          (both_same (p.file_no == o.file_no) (spot_on y a.0 a.1) (spot_on y b.0 b.1) (first.together a b p o goes_a goes_b found_a found_b) q.0 w.0 q.1 w.1)
+          (second.together a b q.0 w.0 goes_a goes_b q.1 w.1));
+    }
+
+  limits_then : (x y z : Slot) → SameLimits x y → SameLimits y z → SameLimits x z
+  limits_then None y z a b = tt
+  limits_then (Some m) None z a b = absurd a
+  limits_then (Some m) (Some n) None a b = absurd b
+  limits_then (Some m) (Some n) (Some o) a b = b ∙ a
+
+  whole_then : (x y z : Slot) → Whole gone x y → Whole gone y z → Whole gone x z
+  whole_then x y z a b task number p other found =
+      let q = a task number p other found in
+      let r = b task number q.0 other q.1 in
+      (r.0, r.1, r.2 ∙ q.2, r.3 ∙ q.3)
+
+  pub fades_then : (x y z : Slot) → Fades size gone x y → Fades size gone y z → Fades size gone x z
+  fades_then x y z a b =
+      let first = a.usage in
+      let second = b.usage in
+      record {
+        keeps = keeps_then x y z a.keeps b.keeps;
+        limits = limits_then x y z a.limits b.limits;
+        usage = omega (arith, first, second);
+        whole = whole_then x y z a.whole b.whole;
+        files = files_then x y z a.files b.files;
+      }
+
+  -- ---- one event
+
+  pub exit_fades : (m : Mount) → Fades size gone (Some m) (Some (without_task gone m))
+  exit_fades m = record {
+    keeps = exit_keeps size m gone;
+    limits = refl;
+    usage = (files_sweep m (file_without gone) (without_falls gone)).usage;
+    whole = exit_whole size m gone;
+    files = files_stay m (file_without gone) (λ f. refl) (λ f. refl);
+  }
+
+  -- a child's maps end by its fork as by its exit
+  fork_map : (x y : Slot) (parent : ℕ) (p q : Spot) (i : ℕ) → KeptMap size x (slot.ForkMaps parent gone) y p q i → KeptMap size x (slot.ExitMaps gone) y p q i
+  fork_map x y parent p q i kept = record {
+    shape = kept.shape;
+    file = kept.file;
+    marked = kept.marked;
+    shows = ⊎_elim (λ same. inl same) (λ lost. absurd lost) kept.shows;
+  }
+
+  pub fork_fades : (m : Mount) (parent : ℕ) → Fades size gone (Some m) (Some (forked parent gone m))
+  fork_fades m parent =
+      let kept = fork_keeps size m parent gone in
+      record {
+        keeps = record {
+          names = kept.names;
+          numbers = λ task number i p goes_on found. (let q = kept.numbers task number i p goes_on found in (q.0, q.1, fork_map (Some m) (Some (forked parent gone m)) parent p q.0 i q.2));
+          together = kept.together;
+        };
+        limits = refl;
+        usage = (files_sweep m (file_forked parent gone) (forked_falls parent gone)).usage;
+        whole = fork_whole size m parent gone;
+        files = files_stay m (file_forked parent gone) (λ f. refl) (λ f. refl);
+      }
+
+  abbrev FadesTo : Slot → Outcome → Type 0
+  FadesTo old (Refused r) = Unit {0}
+  FadesTo old (Answered a new) = Fades size gone old new
+
+  exits : (k : ℕ) (c : Choice) (old : Slot) → Always (FadesTo old) (slot_event size k c old (slot.ExitMaps gone))
+  exits k c None = tt
+  exits k c (Some m) = always_gives (FadesTo (Some m)) Done (Some m) (Some (without_task gone m)) (exit_fades m)
+
+  forks : (k : ℕ) (c : Choice) (old : Slot) (parent : ℕ) → Always (FadesTo old) (slot_event size k c old (slot.ForkMaps parent gone))
+  forks k c None parent = tt
+  forks k c (Some m) parent =
+      always_unless (FadesTo (Some m)) (λ r. tt) (fork_tests c m parent gone) (gives Done (Some m) (Some (forked parent gone m)))
+      (always_gives (FadesTo (Some m)) Done (Some m) (Some (forked parent gone m)) (fork_fades m parent))
+
+-- ---- states
+
+pub record AllFade (gone : ℕ) (s t : State) : Type 0 where
+  pub size : t.page_size ≡ s.page_size
+  pub slots : (k : ℕ) → Fades s.page_size gone (slot_at s k) (slot_at t k)
+
+-- the event is of the task table, or ends maps of the task
+abbrev pub IsOf : ℕ → Event → Type 0
+IsOf gone (Tasks e) = Unit {0}
+IsOf gone (OnSlot k (slot.ExitMaps task)) = task ≡ gone
+IsOf gone (OnSlot k (slot.ForkMaps parent child)) = child ≡ gone
+IsOf gone e = ⊥
+
+module _ (gone : ℕ) where
+  same_fades : (s t : State) → t.page_size ≡ s.page_size → t.slots ≡ s.slots → AllFade gone s t
+  same_fades s t size slots = record {
+    size = size;
+    slots = λ k. subst (λ (xs : List Slot). Fades s.page_size gone (slot_at s k) (slice_index_or xs k None)) (sym slots) (stays s.page_size gone (slot_at s k));
+  }
+
+  set_fades : (s t : State) (k : ℕ) (n : Slot) → k < length s.slots → t.page_size ≡ s.page_size → t.slots ≡ slice_set s.slots k n → Fades s.page_size gone (slot_at s k) n → AllFade gone s t
+  set_fades s t k n l size slots fades = record {
+    size = size;
+    slots = λ o. subst (λ (xs : List Slot). Fades s.page_size gone (slot_at s o) (slice_index_or xs o None)) (sym slots)
+        (elim (cases_eq o k) as (λ _. Fades s.page_size gone (slot_at s o) (slice_index_or (slice_set s.slots k n) o None)) [
+          | inl same ↦ subst (λ i. Fades s.page_size gone (slot_at s i) (slice_index_or (slice_set s.slots k n) i None)) (sym same)
+              (subst (λ x. Fades s.page_size gone (slot_at s k) x) (sym (get_or-set_same s.slots k n None l)) fades)
+          | inr other ↦ subst (λ x. Fades s.page_size gone (slot_at s o) x) (sym (get_or-set_other s.slots k o n None other)) (stays s.page_size gone (slot_at s o))
+        ]);
+  }
+
+  slot_fades : (s : State) (k : ℕ) (e : SlotEvent) (reply : Reply) (t : State) → ((c : Choice) → Always (FadesTo s.page_size gone (slot_at s k)) (slot_event s.page_size k c (slot_at s k) e))
+      → IsEvent s (OnSlot k e) reply t → AllFade gone s t
+  slot_fades s k e reply t all is =
+      let ends = event_ends (FadesTo s.page_size gone (slot_at s k)) s k e reply t all is in by_outcome ends.outcome ends.holds ends.size ends.slots
+    where
+      by_outcome : (o : Outcome) → FadesTo s.page_size gone (slot_at s k) o → t.page_size ≡ s.page_size → t.slots ≡ slice_set s.slots k (left_by (slot_at s k) o) → AllFade gone s t
+      by_outcome (Refused r) h size slots = set_fades s t k (slot_at s k) (ltb-true k (length s.slots) is.1.0) size slots (stays s.page_size gone (slot_at s k))
+      by_outcome (Answered a new) h size slots = set_fades s t k new (ltb-true k (length s.slots) is.1.0) size slots h
+
+  event_fades : (s : State) (e : Event) (reply : Reply) (t : State) → IsOf gone e → IsEvent s e reply t → AllFade gone s t
+  event_fades s (Tasks e) reply t of is =
+      let left = ap (λ (q : Reply × State). q.1) is.2 in same_fades s t (sym (ap (λ x. x.page_size) left)) (sym (ap (λ x. x.slots) left))
+  event_fades s (OnSlot k (slot.ExitMaps task)) reply t of is =
+      slot_fades s k (slot.ExitMaps task) reply t
+      (λ c. subst (λ x. Always (FadesTo s.page_size gone (slot_at s k)) (slot_event s.page_size k c (slot_at s k) (slot.ExitMaps x))) (sym of) (exits s.page_size gone k c (slot_at s k))) is
+  event_fades s (OnSlot k (slot.ForkMaps parent child)) reply t of is =
+      slot_fades s k (slot.ForkMaps parent child) reply t
+      (λ c. subst (λ x. Always (FadesTo s.page_size gone (slot_at s k)) (slot_event s.page_size k c (slot_at s k) (slot.ForkMaps parent x))) (sym of)
+      (forks s.page_size gone k c (slot_at s k) parent)) is
+  event_fades s (OnSlot k other) reply t of is = absurd of
+  event_fades s (OnPool e) reply t of is = absurd of
+
+  all_then : (s m t : State) → AllFade gone s m → AllFade gone m t → AllFade gone s t
+  all_then s m t a b = record {
+    size = b.size ∙ a.size;
+    slots = λ k. fades_then s.page_size gone (slot_at s k) (slot_at m k) (slot_at t k) (a.slots k) (subst (λ n. Fades n gone (slot_at m k) (slot_at t k)) a.size (b.slots k));
+  }
+
+  -- ---- scripts
+
+  abbrev pub AllOf : Script → Type 0
+  AllOf (Answer_with r) = Unit {0}
+  AllOf (Do e next) = IsOf gone e × ((r : Reply) → AllOf (next r))
+  AllOf (Where_mapped k task mapped other) = AllOf mapped × AllOf other
+
+  pub script_fades : (c : Script) → AllOf c → (s : State) (reply : Reply) (t : State) → IsScript s c reply t → AllFade gone s t
+  script_fades (Answer_with r) all s reply t is = same_fades s t (ap (λ x. x.page_size) is.1) (ap (λ x. x.slots) is.1)
+  script_fades (Do e next) all s reply t is = all_then s is.1 t (event_fades s e is.0 is.1 all.0 is.2) (script_fades (next is.0) (all.1 is.0) is.1 reply t is.3)
+  script_fades (Where_mapped k task mapped other) all s reply t is =
+      either_way (has_maps_of task (slot_at s k)) (λ it. script_fades mapped all.0 s reply t it) (λ it. script_fades other all.1 s reply t it) is
+
+  exits_of : (ks : List ℕ) (next : Script) → AllOf next → AllOf (exit_slots ks gone next)
+  exits_of [] next all = all
+  exits_of (k ∷ ks) next all = ((refl, λ r. exits_of ks next all), exits_of ks next all)
+
+  undone_of : (done : List ℕ) (r : Refusal) → AllOf (undone done gone r)
+  undone_of done r = exits_of done _ (tt, λ reply. tt)
+
+  or_of : (done : List ℕ) (r : Reply) (next : Script) → AllOf next → AllOf (or_undone done gone r next)
+  or_of done (Err r) next all = undone_of done r
+  or_of done (Ok a) next all = all
+
+  forks_of : (ks done : List ℕ) (parent : ℕ) → AllOf (fork_slots ks done parent gone)
+  forks_of [] done parent = tt
+  forks_of (k ∷ ks) done parent = ((refl, λ r. or_of done r (fork_slots ks (done ++ k ∷ []) parent gone) (forks_of ks (done ++ k ∷ []) parent)), forks_of ks done parent)
+
+  when_of : (r : Reply) (next : Script) → AllOf next → AllOf (when_done r next)
+  when_of (Err r) next all = tt
+  when_of (Ok a) next all = all
+
+-- ---- fork and exit
+
+pub fork_fade : (s : State) (parent child : ℕ) (reply : Reply) (t : State) → IsScripted s (Fork parent child) reply t → AllFade child s t
+fork_fade s parent child reply t is =
+    let ks = range_with_len 0 (length s.slots) in
+    script_fades child (script (length s.slots) (Fork parent child))
+    (tt, λ r. when_of child r (fork_slots ks [] parent child) (forks_of child ks [] parent)) s reply t is
+
+pub exit_fade : (s : State) (task : ℕ) (reply : Reply) (t : State) → IsScripted s (Exit task) reply t → AllFade task s t
+exit_fade s task reply t is =
+    let ks = range_with_len 0 (length s.slots) in
+    script_fades task (script (length s.slots) (Exit task))
+    (tt, λ r. when_of task r (exit_slots ks task (Answer_with (Ok Done))) (exits_of task ks (Answer_with (Ok Done)) tt)) s reply t is
+
+pub exits_done : (task : ℕ) (r : Refusal) (t : State) (ks : List ℕ) (s : State) → IsScript s (exit_slots ks task (Answer_with (Ok Done))) (Err r) t → ⊥
+exits_done task r t [] s is = (let never : Err r ≡ Ok Done = is.0 in cc)
+exits_done task r t (k ∷ ks) s is = either_way (has_maps_of task (slot_at s k)) (λ it. exits_done task r t ks it.1 it.3) (λ it. exits_done task r t ks s it) is
+
+-- what a refused exit left is as it was
+pub exit_refused : (s : State) (task : ℕ) (r : Refusal) (t : State) → IsScripted s (Exit task) (Err r) t → t ≡ s
+exit_refused s task r t is = by_home (home_of s.table task) is.0 is.1 is.2.2 is.3
+  where
+    by_home : (o : Option ℕ) (q : Reply) (mid : State) → with_table s (when_known s.table o (λ home. (Ok Done, removed s.table task))) ≡ (q, mid)
+        → IsScript mid (when_done q (exit_slots (range_with_len 0 (length s.slots)) task (Answer_with (Ok Done)))) (Err r) t → t ≡ s
+    by_home None q mid e go =
+        let first = ap (λ (x : Reply × State). x.0) e in
+        let second : s ≡ mid = ap (λ (x : Reply × State). x.1) e in
+        (subst (λ x. IsScript mid (when_done x (exit_slots (range_with_len 0 (length s.slots)) task (Answer_with (Ok Done)))) (Err r) t) (sym first) go).1 ∙ sym second
+    by_home (Some home) q mid e go =
+        let first = ap (λ (x : Reply × State). x.0) e in
+        absurd (exits_done task r t (range_with_len 0 (length s.slots)) mid
+        (subst (λ x. IsScript mid (when_done x (exit_slots (range_with_len 0 (length s.slots)) task (Answer_with (Ok Done)))) (Err r) t) (sym first) go))

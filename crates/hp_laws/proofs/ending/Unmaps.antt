@@ -1,0 +1,252 @@
+-- What names and numbers mean after a range of a map is unmapped, and where maps of a task go or are made for a child.
+use Rattle.std.proofs.Common.{◌≡◌, inl, subst, ℕ, ◌-◌, ◌&&◌, ◌==◌, Bool, true, false, not, Option, None, Some, List, [], ◌∷◌, map, refl, sym, ap, ◌∙◌, if◌then◌else◌}
+use Rattle.std.specs.List.{list_any}
+use Rattle.std.proofs.lemmas.Bool.{and_parts, cond_both, eq-eqb, eqb-false, eqb-true, false_from_ne_true, or_left, or_right}
+use Rattle.hp_model.specs.declared.event.SlotEvent.{SlotEvent}
+use Rattle.hp_model.specs.declared.event.SlotEvent.TheVariants as slot
+use Rattle.hp_model.specs.declared.place.Place.TheVariants.{Gone}
+use Rattle.hp_model.specs.files.File.{File, Mount, new_file}
+use Rattle.hp_model.specs.files.Fork.{file_forked, forked}
+use Rattle.hp_model.specs.files.GiveBack.{file_unmapped, file_without, is_left, map_unmapped, swept, unmapped_from, without_task}
+use Rattle.hp_model.specs.Lists.{found}
+use Rattle.hp_model.specs.files.Mapping.{Map, is_map, is_mapped, no_map, place_at, without_range}
+use Rattle.hp_model.specs.machine.Promises.{file_in, is_at, is_in, map_in, map_on, seen_on, shape_of, shown_on, stays_mapped}
+use Rattle.hp_model.specs.files.Spot.{Spot, spot}
+use Rattle.hp_model.specs.files.Value.{value}
+use Rattle.hp_model.proofs.Editing.{length-edit_range}
+use Rattle.hp_laws.proofs.names.Accessed.{get_mapped, key_map, pages_same}
+use Rattle.hp_laws.proofs.names.ByPlace.{PlaceKeeps, by_place}
+use Rattle.hp_laws.proofs.names.Changes.{LosesBy, SlotKeeps, ends_number, seen_by, stored_by}
+use Rattle.hp_laws.proofs.ending.Cuts.{place_ranged}
+use Rattle.hp_laws.proofs.names.Follows.{FilesFollow, edit_follows, follow, fork_follows, is_not_of, some_file, sweep_follows, thin, thin_follows}
+use Rattle.hp_laws.proofs.names.Keys.{Where, file_key, keys}
+use Rattle.hp_laws.proofs.lists.Looks.{get_map}
+use Rattle.hp_laws.proofs.making.FilesMade.{spot_in_file}
+use Rattle.hp_laws.proofs.counts.MountMoves.{spot_is}
+use Rattle.hp_laws.proofs.names.Named.{map_shown}
+use Rattle.hp_laws.proofs.names.Placed.{lead_same, placed}
+use Rattle.hp_laws.proofs.lists.Places.{found_place}
+use Rattle.hp_laws.proofs.accesses.Shown as shows
+
+-- a map that is found passes
+pub spot_passes : (m : Mount) (test : Map → Bool) (s : Spot) → spot m test ≡ Some s → test s.map ≡ true
+spot_passes m test s e =
+    let there = some_file m test (found (λ (f : File). list_any test f.maps) m.files) s (sym (spot_in_file m test) ∙ e) in
+    ap (λ (y : Spot). test y.map) (sym there.2.2) ∙ (found_place test there.0.1.maps there.2.0 there.2.1).passes
+
+not_not : (c : Bool) → not c ≡ false → c ≡ true
+not_not true e = refl
+not_not false e = cc
+
+twice : {X : Type 0} (f g : X → X) (xs : List X) → map g (map f xs) ≡ map (λ x. g (f x)) xs
+twice f g [] = refl
+twice f g (x ∷ xs) = ap (λ ys. g (f x) ∷ ys) (twice f g xs)
+
+module _ (size : ℕ) (m : Mount) (task number a b : ℕ) where
+  abbrev test : Map → Bool
+  test y = is_map task number y
+
+  abbrev cut : Map → Map
+  cut y = map_unmapped (is_map task number) a b y
+
+  abbrev cut_file : File → File
+  cut_file f = record f { maps = map (map_unmapped (is_map task number) a b) f.maps }
+
+  -- the range is gone, and maps without an index are there still
+  abbrev middle : Mount
+  middle = record m { files = map cut_file m.files }
+
+  cut_shape : (y : Map) → shape_of (cut y) ≡ shape_of y
+  cut_shape y =
+      cond_both (test y) (without_range a b y) y (λ z. shape_of z ≡ shape_of y)
+      (λ e. pages_same y y.unmapped (without_range a b y).places (length-edit_range (λ p. Gone) (a - y.start) (b - y.start) y.places)) (λ e. refl)
+
+  same_keys : keys middle ≡ keys m
+  same_keys = key_map file_key cut_file (λ f. ap (λ ks. (f.name, ks)) (key_map shape_of cut cut_shape f.maps)) m.files
+
+  file_now : (j : ℕ) → file_in middle j ≡ cut_file (file_in m j)
+  file_now j = get_map cut_file (new_file None) refl m.files j
+
+  -- of a map that is found
+  module _ (t u : ℕ) (p : Spot) (e : spot m (is_map t u) ≡ Some p) where
+    map_now : map_on (Some middle) p.file_no p.map_no ≡ cut p.map
+    map_now =
+        let at = spot_is m (is_map t u) p e in
+        ap (λ f. map_in f p.map_no) (file_now p.file_no ∙ ap cut_file (at.file.is (new_file None))) ∙ get_mapped cut p.file.maps p.map_no no_map at.map.within ∙ ap cut (at.map.is no_map)
+
+    -- it is the one of the event's number where it passes the event's test
+    same_number : test p.map ≡ true → spot m (is_map task number) ≡ Some p
+    same_number on =
+        let here = and_parts (p.map.task == task) (p.map.number == number) on in
+        let mine = and_parts (p.map.task == t) (p.map.number == u) (spot_passes m (is_map t u) p e) in
+        subst (λ x. spot m (is_map x number) ≡ Some p) (sym (eqb-true p.map.task t mine.0) ∙ eqb-true p.map.task task here.0)
+        (subst (λ x. spot m (is_map t x) ≡ Some p) (sym (eqb-true p.map.number u mine.1) ∙ eqb-true p.map.number number here.1) e)
+
+    agrees : is_at (spot m (is_map task number)) p.file_no p.map_no ≡ test p.map
+    agrees = by_test (test p.map) refl
+      where
+        not_at : test p.map ≡ false → (o : Option Spot) → spot m (is_map task number) ≡ o → is_at o p.file_no p.map_no ≡ false
+        not_at off None w = refl
+        not_at off (Some s) w =
+            false_from_ne_true ((s.file_no == p.file_no) && (s.map_no == p.map_no))
+            (λ both. (let parts = and_parts (s.file_no == p.file_no) (s.map_no == p.map_no) both in
+            let same : s.map ≡ p.map =
+            sym (map_shown (Some m) task number s w) ∙ ap (λ j. map_on (Some m) j s.map_no) (eqb-true s.file_no p.file_no parts.0)
+            ∙ ap (map_on (Some m) p.file_no) (eqb-true s.map_no p.map_no parts.1) ∙ map_shown (Some m) t u p e in
+            let on : test p.map ≡ true = ap (λ y. is_map task number y) (sym same) ∙ spot_passes m (is_map task number) s w in
+            cc))
+
+        by_test : (c : Bool) → test p.map ≡ c → is_at (spot m (is_map task number)) p.file_no p.map_no ≡ c
+        by_test true on = ap (λ o. is_at o p.file_no p.map_no) (same_number on) ∙ ap (λ c. c && (p.map_no == p.map_no)) (eq-eqb p.file_no p.file_no refl) ∙ eq-eqb p.map_no p.map_no refl
+        by_test false off = not_at off (spot m (is_map task number)) refl
+
+    -- what it shows
+    seen_now : (x : ℕ) → seen_on size (Some middle) p.file_no p.map_no x
+        ≡ (if is_at (spot m (is_map task number)) p.file_no p.map_no && is_in a b x then shown_on size (Some m) p.file_no x else seen_on size (Some m) p.file_no p.map_no x)
+    seen_now x =
+        let at = spot_is m (is_map t u) p e in
+        let old : seen_on size (Some m) p.file_no p.map_no x ≡ value size (file_in m p.file_no) p.map x = ap (λ y. value size (file_in m p.file_no) y x) (map_shown (Some m) t u p e) in
+        ap (λ y. value size (file_in middle p.file_no) y x) map_now
+        ∙ ap (λ f. value size f (cut p.map) x) (file_now p.file_no)
+        ∙ by_test (test p.map) refl
+        ∙ ap (λ v. if test p.map && is_in a b x then shown_on size (Some m) p.file_no x else v) (sym old)
+        ∙ ap (λ c. if c && is_in a b x then shown_on size (Some m) p.file_no x else seen_on size (Some m) p.file_no p.map_no x) (sym agrees)
+      where
+        gone : (c : Bool) → shows.by_place size (if c then Gone else place_at p.map x) (shown_on size (Some m) p.file_no x)
+            ≡ (if c then shown_on size (Some m) p.file_no x else value size (file_in m p.file_no) p.map x)
+        gone true = refl
+        gone false = refl
+
+        by_test : (c : Bool) → test p.map ≡ c → shows.by_place size (place_at (if c then without_range a b p.map else p.map) x) (shown_on size (Some m) p.file_no x)
+            ≡ (if c && is_in a b x then shown_on size (Some m) p.file_no x else value size (file_in m p.file_no) p.map x)
+        by_test true on = ap (λ q. shows.by_place size q (shown_on size (Some m) p.file_no x)) (place_ranged (λ q. Gone) refl a b p.map x) ∙ gone (is_in a b x)
+        by_test false off = refl
+
+  cut_keeps : PlaceKeeps size m (slot.Unmap task number a b) middle
+  cut_keeps =
+      let stays = placed m middle (lead_same (keys m) (keys middle) same_keys) in
+      record {
+        names = λ name f goes_on e. stays.names name f e;
+        numbers = λ t u p goes_on e. stays.numbers t u p e;
+        cells = λ j x. ap (shows.look size x) (file_now j);
+        maps = λ t u x p e. inl (seen_now t u p e x);
+        marks = λ t u p e marked.
+            ap (λ (y : Map). y.unmapped) (map_now t u p e) ∙ still_marked (test p.map) p.map ∙ ap (λ (y : Map). y.unmapped) (sym (map_shown (Some m) t u p e)) ∙ marked;
+      }
+    where
+      still_marked : (c : Bool) (y : Map) → (if c then without_range a b y else y).unmapped ≡ y.unmapped
+      still_marked true y = refl
+      still_marked false y = refl
+
+  -- a number that does not end has a map that stays
+  number_left : (t u : ℕ) (q : Spot) → ends_number (Some m) (slot.Unmap task number a b) t u ≡ false → spot middle (is_map t u) ≡ Some q → is_left (is_map task number) q.map ≡ true
+  number_left t u q goes_on e =
+      let back = (placed middle m (lead_same (keys middle) (keys m) (sym same_keys))).numbers t u q e in
+      let p = back.0 in
+      let now : cut p.map ≡ q.map = sym (map_now t u p back.1) ∙ ap (λ (x : Where). map_on (Some middle) x.0 x.1) back.2 ∙ map_shown (Some middle) t u q e in
+      subst (λ y. is_left (is_map task number) y ≡ true) now (by_test p back.1 (test p.map) refl)
+    where
+      by_test : (p : Spot) → spot m (is_map t u) ≡ Some p → (c : Bool) → test p.map ≡ c → is_left (is_map task number) (if c then without_range a b p.map else p.map) ≡ true
+      by_test p found false off = or_right (is_mapped p.map) (not (test p.map)) (ap not off)
+      by_test p found true on =
+          let here = and_parts (p.map.task == task) (p.map.number == number) on in
+          let mine = and_parts (p.map.task == t) (p.map.number == u) (spot_passes m (is_map t u) p found) in
+          let tasks : (task == t) ≡ true = eq-eqb task t (sym (eqb-true p.map.task task here.0) ∙ eqb-true p.map.task t mine.0) in
+          let numbers : (number == u) ≡ true = eq-eqb number u (sym (eqb-true p.map.number number here.1) ∙ eqb-true p.map.number u mine.1) in
+          let stays : not (stays_mapped (spot m (is_map t u)) a b) ≡ false =
+          ap (λ c. c && not (stays_mapped (spot m (is_map t u)) a b)) (sym numbers)
+          ∙ ap (λ c. c && ((number == u) && not (stays_mapped (spot m (is_map t u)) a b))) (sym tasks) ∙ goes_on in
+          or_left (is_mapped (without_range a b p.map)) (not (test (without_range a b p.map)))
+          (ap (λ o. stays_mapped o a b) (sym found) ∙ not_not (stays_mapped (spot m (is_map t u)) a b) stays)
+
+  pub unmap_keeps : SlotKeeps size (Some m) (slot.Unmap task number a b) (Some (unmapped_from task number a b m))
+  unmap_keeps =
+      let e : SlotEvent = slot.Unmap task number a b in
+      let keep : Map → Bool = is_left (is_map task number) in
+      let thinned : Mount = record middle { files = map (thin keep) middle.files } in
+      let first : SlotKeeps size (Some m) e (Some middle) = by_place size m middle e cut_keeps in
+      let second : SlotKeeps size (Some m) e (Some thinned) =
+      follow size (Some m) e middle thinned keep (edit_follows middle (thin keep) keep (thin_follows keep)) first number_left (λ p q i lost. lost) in
+      let same : thinned.files ≡ map (file_unmapped (is_map task number) a b) m.files = twice cut_file (thin keep) m.files in
+      follow size (Some m) e (record m { files = map (file_unmapped (is_map task number) a b) m.files }) (unmapped_from task number a b m) (λ y. true)
+      (sweep_follows (record m { files = map (file_unmapped (is_map task number) a b) m.files })) (subst (λ fs. SlotKeeps size (Some m) e (Some (record m { files = fs }))) same second)
+      (λ t u q goes_on found. refl) (λ p q i lost. lost)
+
+  -- a map that stays has its places as they were, but for those of the range where it is the one of the event, and its file its cells
+  pub unmap_cuts : (t u : ℕ) (p : Spot) → ends_number (Some m) (slot.Unmap task number a b) t u ≡ false → spot m (is_map t u) ≡ Some p
+      → (q : Spot) × (spot (unmapped_from task number a b m) (is_map t u) ≡ Some q) × (q.map ≡ cut p.map) × (q.file.cells ≡ p.file.cells)
+  unmap_cuts t u p goes_on found =
+      let keep : Map → Bool = is_left (is_map task number) in
+      let first = (placed m middle (lead_same (keys m) (keys middle) same_keys)).numbers t u p found in
+      let q : Spot = first.0 in
+      let was = spot_is m (is_map t u) p found in
+      let is = spot_is middle (is_map t u) q first.1 in
+      let place : q.file_no ≡ p.file_no = ap (λ (x : Where). x.0) first.2 in
+      let map_q : q.map ≡ cut p.map = sym (map_shown (Some middle) t u q first.1) ∙ ap (λ (x : Where). map_on (Some middle) x.0 x.1) first.2 ∙ map_now t u p found in
+      let cells_q : q.file.cells ≡ p.file.cells =
+      ap (λ (f : File). f.cells) (sym (is.file.is (new_file None)) ∙ ap (file_in middle) place ∙ file_now p.file_no) ∙ ap (λ (f : File). f.cells) (was.file.is (new_file None)) in
+      let thinned : Mount = record middle { files = map (thin keep) middle.files } in
+      let second = (edit_follows middle (thin keep) keep (thin_follows keep)).numbers t u q first.1 (number_left t u q goes_on first.1) in
+      let same : thinned.files ≡ map (file_unmapped (is_map task number) a b) m.files = twice cut_file (thin keep) m.files in
+      let whole : Mount = record m { files = map (file_unmapped (is_map task number) a b) m.files } in
+      let there : spot whole (is_map t u) ≡ Some second.0 = ap (λ (fs : List File). spot (record m { files = fs }) (is_map t u)) (sym same) ∙ second.1 in
+      let third = (sweep_follows whole).numbers t u second.0 there refl in
+      (third.0, third.1, third.3 ∙ second.3 ∙ map_q, third.4 ∙ second.4 ∙ cells_q)
+
+-- ---- an event that changes nothing that is seen
+
+module _ (size : ℕ) (m : Mount) (e : SlotEvent) (stores : (j x : ℕ) (old : List ℕ) → old ≡ stored_by size (Some m) e j x old)
+    (sees : (j l x : ℕ) (old : List ℕ) → old ≡ seen_by size (Some m) e j l x old) where
+  pub same_keeps : SlotKeeps size (Some m) e (Some m)
+  same_keeps =
+      by_place size m m e (record {
+        names = λ name f goes_on named. (f, named, refl);
+        numbers = λ task number p goes_on found. (p, found, refl);
+        cells = λ j x. stores j x (shown_on size (Some m) j x);
+        maps = λ task number x p found. inl (sees p.file_no p.map_no x (seen_on size (Some m) p.file_no p.map_no x));
+        marks = λ task number p found marked. marked;
+      })
+
+  -- but for the maps of a task, of which the numbers end
+  module _ (gone : ℕ) (h : File → File) (each : FilesFollow h (is_not_of gone)) (ends : (t u : ℕ) → ends_number (Some m) e t u ≡ (gone == t))
+      (none : (n : Mount) (p q : Spot) (i : ℕ) → LosesBy (Some m) e (Some n) p q i → ⊥) where
+    abbrev others : Mount
+    others = record m { files = map h m.files }
+
+    not_gone : (t u : ℕ) (q : Spot) → ends_number (Some m) e t u ≡ false → spot m (is_map t u) ≡ Some q → is_not_of gone q.map ≡ true
+    not_gone t u q goes_on found =
+        let mine = eqb-true q.map.task t (and_parts (q.map.task == t) (q.map.number == u) (spot_passes m (is_map t u) q found)).0 in
+        let apart : (gone == t) ≡ false = sym (ends t u) ∙ goes_on in
+        ap not (false_from_ne_true (q.map.task == gone) (λ same. eqb-false gone t apart (sym (eqb-true q.map.task gone same) ∙ mine)))
+
+    pub task_keeps : SlotKeeps size (Some m) e (Some (swept others))
+    task_keeps =
+        follow size (Some m) e others (swept others) (λ y. true) (sweep_follows others)
+        (follow size (Some m) e m others (is_not_of gone) (edit_follows m h (is_not_of gone) each) same_keeps not_gone (none m))
+        (λ t u q goes_on found. refl) (none others)
+
+    -- and every other map is as it was, and its file's cells
+    pub task_whole : (t u : ℕ) (p : Spot) → ends_number (Some m) e t u ≡ false → spot m (is_map t u) ≡ Some p
+        → (q : Spot) × (spot (swept others) (is_map t u) ≡ Some q) × (q.map ≡ p.map) × (q.file.cells ≡ p.file.cells)
+    task_whole t u p goes_on found =
+        let first = (edit_follows m h (is_not_of gone) each).numbers t u p found (not_gone t u p goes_on found) in
+        let second = (sweep_follows others).numbers t u first.0 first.1 refl in
+        (second.0, second.1, second.3 ∙ first.3, second.4 ∙ first.4)
+
+pub exit_whole : (size : ℕ) (m : Mount) (task t u : ℕ) (p : Spot) → (task == t) ≡ false → spot m (is_map t u) ≡ Some p
+    → (q : Spot) × (spot (without_task task m) (is_map t u) ≡ Some q) × (q.map ≡ p.map) × (q.file.cells ≡ p.file.cells)
+exit_whole size m task =
+    task_whole size m (slot.ExitMaps task) (λ j x old. refl) (λ j l x old. refl) task (file_without task) (thin_follows (is_not_of task)) (λ t u. refl) (λ n p q i lost. lost)
+
+pub fork_whole : (size : ℕ) (m : Mount) (parent child t u : ℕ) (p : Spot) → (child == t) ≡ false → spot m (is_map t u) ≡ Some p
+    → (q : Spot) × (spot (forked parent child m) (is_map t u) ≡ Some q) × (q.map ≡ p.map) × (q.file.cells ≡ p.file.cells)
+fork_whole size m parent child =
+    task_whole size m (slot.ForkMaps parent child) (λ j x old. refl) (λ j l x old. refl) child (file_forked parent child) (fork_follows parent child) (λ t u. refl) (λ n p q i lost. lost)
+
+pub exit_keeps : (size : ℕ) (m : Mount) (task : ℕ) → SlotKeeps size (Some m) (slot.ExitMaps task) (Some (without_task task m))
+exit_keeps size m task =
+    task_keeps size m (slot.ExitMaps task) (λ j x old. refl) (λ j l x old. refl) task (file_without task) (thin_follows (is_not_of task)) (λ t u. refl) (λ n p q i lost. lost)
+
+pub fork_keeps : (size : ℕ) (m : Mount) (parent child : ℕ) → SlotKeeps size (Some m) (slot.ForkMaps parent child) (Some (forked parent child m))
+fork_keeps size m parent child =
+    task_keeps size m (slot.ForkMaps parent child) (λ j x old. refl) (λ j l x old. refl) child (file_forked parent child) (fork_follows parent child) (λ t u. refl) (λ n p q i lost. lost)

@@ -1,0 +1,513 @@
+-- A step leaves on its own slot the places of maps and the cells of files as they were, but for what it reaches.
+use Rattle.std.proofs.Common.{◌≡◌, ⊎_elim, inl, inr, ◌⊎◌, ℕ, ◌+◌, ◌-◌, ◌<◌, Bool, true, false, ◌&&◌, ◌==◌, not, replicate, take, ◌≤◌}
+use Rattle.std.proofs.Common.{Option, None, Some, is_some, Ok, Err, List, [], ◌∷◌, length, get_or, refl, sym, ap, ◌∙◌, subst, arith, if◌then◌else◌, nat_le, nat_lt}
+use Rattle.std.specs.List.{slice_index_or, slice_set}
+use Rattle.std.specs.Str.{bytes_eq}
+use Rattle.std.proofs.lemmas.Bool.{cases_eq, cases_lt, eqb-true, leb-false, leb-true, ltb-false, ltb-true}
+use Rattle.std.proofs.lemmas.List.{get_or-set_other, get_or-set_same, get_or-take, get_or_append_left, get_or_past, length-append, length-replicate, length-take}
+use Rattle.std.proofs.lemmas.List.Elements.{All-get_or}
+use Rattle.hp_model.specs.declared.answer.Answer.{Answer}
+use Rattle.hp_model.specs.declared.event.PoolEvent.{PoolEvent}
+use Rattle.hp_model.specs.declared.answer.Answer.TheVariants.{Done, MapNo}
+use Rattle.hp_model.specs.declared.cell.Cell.{Cell}
+use Rattle.hp_model.specs.declared.cell.Cell.TheVariants.{Hole}
+use Rattle.hp_model.specs.declared.event.Event.{Event}
+use Rattle.hp_model.specs.declared.event.Event.TheVariants.{Tasks, Slot as OnSlot, Pool as OnPool}
+use Rattle.hp_model.specs.declared.event.PoolEvent.TheVariants as pool
+use Rattle.hp_model.specs.declared.event.SlotEvent.{SlotEvent}
+use Rattle.hp_model.specs.declared.event.SlotEvent.TheVariants as slot
+use Rattle.hp_model.specs.declared.event.TableEvent.TheVariants as table
+use Rattle.hp_model.specs.declared.refusal.Refusal.{Refusal}
+use Rattle.hp_model.specs.declared.refusal.Refusal.TheVariants.{BeyondEnd, NoSuchFile, NoSuchMap, OutOfMemory, OutOfRange}
+use Rattle.hp_model.specs.declared.step.Intent.{Intent}
+use Rattle.hp_model.specs.declared.step.Intent.TheVariants.{Read, Write}
+use Rattle.hp_model.specs.declared.step.Reserving.{Reserving}
+use Rattle.hp_model.specs.declared.step.Sharing.{Sharing}
+use Rattle.hp_model.specs.declared.step.Step.{Step}
+use Rattle.hp_model.specs.declared.step.Step.TheVariants as step
+use Rattle.hp_model.specs.declared.step.Reserving.TheVariants.{NoReserve, Reserve}
+use Rattle.hp_model.specs.declared.step.Sharing.TheVariants.{Private, Shared}
+use Rattle.hp_model.specs.files.Access.{access}
+use Rattle.hp_model.specs.files.File.{File, Mount, at_least, cell_at, cell_punched, entered, has_page, new_file, with_file}
+use Rattle.hp_model.specs.Lists.{edit_range}
+use Rattle.hp_model.specs.files.GiveBack.{file_unmapped, punched, swept, truncated, unlinked, unmapped_from}
+use Rattle.hp_model.specs.files.MakeMap.{asked, mapped, new_map, next_number, reserves, with_new}
+use Rattle.hp_model.specs.files.Mapping.{Map, copy_of, is_map, is_shared, is_unconsumed, map_punched, place_at, without_copy}
+use Rattle.hp_model.specs.files.Page.{Copy, Page}
+use Rattle.hp_model.specs.files.Spot.{Spot, again, spot, written}
+use Rattle.hp_model.specs.files.Value.{value}
+use Rattle.hp_model.specs.machine.Event.{IsEvent}
+use Rattle.hp_model.specs.machine.Kept.{ChangesCell, ChangesPlace, IsFilled, IsSpent, IsTaken, Keeps, KeepsCell, KeepsFiles, KeepsMap, KeepsOwn, Marks}
+use Rattle.hp_model.specs.machine.Plan.{Answered, Choice, Finish, Outcome, Plan, Refused, Reply, Slot, gives, grant, unless, with_value}
+use Rattle.hp_model.specs.machine.Promises.{IsLostTo, file_in, is_at, is_in, is_shared_of, map_in, map_on, means_file, no_map}
+use Rattle.hp_model.specs.machine.Settled.{IsSettledState}
+use Rattle.hp_model.specs.machine.SlotEvent.{anon_tests, byte_access, bytes_answer, create_tests, edited, fault, file_named, has_name, is_bad_range, is_beyond, preallocate}
+use Rattle.hp_model.specs.machine.SlotEvent.{is_unmapped, load, map_file, map_tests, on_mount, punch, read, read_tests, slot_event, stat, store, truncate, umount_tests, unlink, unmap}
+use Rattle.hp_model.specs.machine.Sound.{IsSound, IsSoundMap, IsSoundFile, IsSoundMount}
+use Rattle.hp_model.specs.machine.State.{State, slot_at}
+use Rattle.hp_model.specs.machine.Step.{IsStep}
+use Rattle.hp_model.specs.Profile.{most_file_pages}
+use Rattle.hp_model.proofs.Editing.{get_or-edit_in}
+use Rattle.hp_laws.specs.Balance.{left_by}
+use Rattle.hp_laws.proofs.names.ByPlace.{by_owner}
+use Rattle.hp_laws.proofs.ending.Cuts.{cell_kept, place_ranged, punch_cut, ranged, ranged_out, same_keys, truncate_cut, unlink_keeps}
+use Rattle.hp_laws.proofs.keeping.OtherSlots.{any_outcome}
+use Rattle.hp_laws.proofs.ending.Fades.{exit_fade, fork_fade}
+use Rattle.hp_laws.proofs.names.FilesStay.{files_same, files_stay}
+use Rattle.hp_laws.proofs.names.Keys.{Where, keys, places}
+use Rattle.hp_laws.proofs.accesses.KeptPlaces.{Held, access_held, store_held}
+use Rattle.hp_laws.proofs.keeping.KeptSlot.{Each, NoCell, NoPlace, alike_keeps, cut_keeps, kept_keeps, means_it, new_keeps, only_file, only_spot, put_kept, same_keeps, sweep_kept}
+use Rattle.hp_laws.proofs.lists.Looks.{same_more, same_none}
+use Rattle.hp_laws.proofs.accesses.StoredMaps.{IsLostAt}
+use Rattle.hp_laws.proofs.names.Meanings.{fault_on, load_on, placed_map, placed_new, placed_same, store_on, placed_filled}
+use Rattle.hp_laws.proofs.counts.MountMoves.{IsSpot, file_at, spot_is}
+use Rattle.hp_laws.proofs.names.Named.{map_shown}
+use Rattle.hp_laws.proofs.steps.Outcomes.{Always, always_test, always_then, always_weaker, event_ends, reply_of}
+use Rattle.hp_laws.proofs.names.Placed.{Placed, lead_same, placed}
+use Rattle.hp_laws.proofs.accesses.Shown.{On, Result, on_follows, on_weaker, write_done}
+use Rattle.hp_laws.proofs.keeping.SlotKept.{always_both}
+use Rattle.hp_laws.proofs.sections.PoolTied.{left_sound}
+use Rattle.hp_laws.proofs.accesses.SlotShows.{always_gives, always_grant, always_mount, always_remount, always_unless, always_value, bytes_on, always_preallocate}
+use Rattle.hp_laws.proofs.steps.Whole.{by_event, is_whole, slot_step, step_of}
+use Rattle.hp_model.specs.files.Fill.{lacking, range_filled, rising_nodes}
+use Rattle.hp_laws.proofs.counts.Filled.{filled_index}
+use Rattle.hp_laws.proofs.lists.NodesOf.{length-nodes_of}
+use Rattle.std.proofs.lemmas.Bool.Decides.{nat_tests}
+
+-- a slot that is sound afterwards keeps its maps and files
+abbrev KeepsTo : Slot → Step → Outcome → Type 0
+KeepsTo x step (Refused r) = Unit {0}
+KeepsTo x step (Answered a y) = IsSound y → Keeps x step y
+
+-- ---- names and files
+
+module _ (m : Mount) (sound : IsSoundMount m) (k : ℕ) (name : List ℕ) (q : ℕ × File) (named : file_named m name ≡ Some q) where
+  abbrev bare : Mount
+  bare = with_file m q.0 (unlinked q.1)
+
+  no_not : (b : Bool) → not b ≡ true → b ≡ false
+  no_not true e = cc
+  no_not false e = refl
+
+  unlink_kept : Keeps (Some m) (step.Unlink k name) (Some (swept bare))
+  unlink_kept =
+      let stays = unlink_keeps 0 m name q named in
+      let ok : List ℕ → Bool = λ other. not (bytes_eq name other) in
+      kept_keeps m ok NoPlace NoCell (step.Unlink k name) (swept bare) (λ p r i never. absurd never) (λ file i old new never. absurd never) (λ other goes. ap not goes)
+      (sweep_kept m ok NoPlace NoCell bare
+      (put_kept m name q named (unlinked q.1) ok NoPlace NoCell
+      (λ other f goes e. stays.names other f (no_not (bytes_eq name other) goes) e) (λ task number p found. stays.numbers task number p refl found)
+      (λ i. inl refl) (λ l within. (λ i. inl refl, refl))))
+
+  module _ (n : ℕ) where
+    abbrev cut_file : File
+    cut_file = truncated n q.1
+
+    past_cell : (i : ℕ) (c : Bool) → nat_le n i ≡ c → (cell_at cut_file i ≡ cell_at q.1 i) ⊎ ((nat_le n i ≡ true) × (cell_at cut_file i ≡ Hole))
+    past_cell i true past =
+        let long = length-take n q.1.cells in
+        let from = leb-true n i past in
+        inr (past, cell_kept 0 n q.1 i ∙ get_or_past (take n q.1.cells) i Hole (omega (arith, long, from)))
+    past_cell i false below = inl (cell_kept 0 n q.1 i ∙ get_or-take n q.1.cells i Hole (leb-false n i below))
+
+    past_place : (y : Map) (i : ℕ) → (place_at (map_punched n (n + length q.1.cells) y) i ≡ place_at y i)
+        ⊎ ((nat_le n i ≡ true) × (place_at (map_punched n (n + length q.1.cells) y) i ≡ without_copy (place_at y i)))
+    past_place y i = by_tests (nat_le n i) (nat_lt i (n + length q.1.cells)) (place_ranged without_copy refl n (n + length q.1.cells) y i)
+      where
+        by_tests : (c d : Bool) → place_at (map_punched n (n + length q.1.cells) y) i ≡ (if c && d then without_copy (place_at y i) else place_at y i)
+            → (place_at (map_punched n (n + length q.1.cells) y) i ≡ place_at y i) ⊎ ((c ≡ true) × (place_at (map_punched n (n + length q.1.cells) y) i ≡ without_copy (place_at y i)))
+        by_tests true true e = inr (refl, e)
+        by_tests true false e = inl e
+        by_tests false d e = inl e
+
+    truncate_kept : Keeps (Some m) (step.Truncate k name n) (Some (swept (with_file m q.0 cut_file)))
+    truncate_kept =
+        let after : Mount = with_file m q.0 cut_file in
+        let same = same_keys 0 m sound name q named cut_file (map_punched n (n + length q.1.cells)) (nat_le n) (truncate_cut 0 n q.1) in
+        cut_keeps m name q named cut_file (map_punched n (n + length q.1.cells)) (nat_le n) (λ c. Hole) (placed m after (lead_same (keys m) (keys after) same)) refl (λ y. refl)
+        (λ i. past_cell i (nat_le n i) refl) past_place (step.Truncate k name n) (λ y p r i to. to) (λ file i old new to. to)
+
+  module _ (a b : ℕ) where
+    abbrev holed : File
+    holed = punched a b q.1
+
+    in_range : {X : Type 0} (c : Bool) (new old cut : X) → new ≡ (if c then cut else old) → (new ≡ old) ⊎ ((c ≡ true) × (new ≡ cut))
+    in_range true new old cut e = inr (refl, e)
+    in_range false new old cut e = inl e
+
+    punch_kept : Keeps (Some m) (step.Punch k name a b) (Some (swept (with_file m q.0 holed)))
+    punch_kept =
+        let after : Mount = with_file m q.0 holed in
+        let same = same_keys 0 m sound name q named holed (map_punched a b) (is_in a b) (punch_cut 0 a b q.1) in
+        cut_keeps m name q named holed (map_punched a b) (is_in a b) cell_punched (placed m after (lead_same (keys m) (keys after) same)) refl (λ y. refl)
+        (λ i. in_range (is_in a b i) (cell_at holed i) (cell_at q.1 i) (cell_punched (cell_at q.1 i)) (ranged cell_punched a b q.1.cells i Hole refl))
+        (λ y i. in_range (is_in a b i) (place_at (map_punched a b y) i) (place_at y i) (without_copy (place_at y i)) (place_ranged without_copy refl a b y i))
+        (step.Punch k name a b) (λ y p r i to. to) (λ file i old new to. to)
+
+-- ---- a map more
+
+module _ (m : Mount) (task k : ℕ) (name : List ℕ) (a n : ℕ) (q : ℕ × File) (named : file_named m name ≡ Some q) where
+  abbrev long : List (Cell Page)
+  long = at_least (a + n) q.1.cells
+
+  long_cell : (i : ℕ) → get_or (at_least (a + n) q.1.cells) i Hole ≡ cell_at q.1 i
+  long_cell i = same_more (λ (c : Cell Page). c) Hole q.1.cells (replicate (a + n - length q.1.cells) Hole) (λ j. same_none (λ (c : Cell Page). c) Hole (a + n - length q.1.cells) j) i
+
+  entered_cell : (i : ℕ) (c d : Bool) → nat_le a i ≡ c → nat_lt i (a + n) ≡ d
+      → (get_or (edit_range entered a (a + n) long) i Hole ≡ cell_at q.1 i) ⊎ ((is_in a (a + n) i ≡ true) × (get_or (edit_range entered a (a + n) long) i Hole ≡ entered (cell_at q.1 i)))
+  entered_cell i true true from to =
+      let low = leb-true a i from in
+      let high = ltb-true i (a + n) to in
+      let pages : i < length long = omega (arith, high, length-append q.1.cells (replicate (a + n - length q.1.cells) Hole), length-replicate {A = Cell Page} (a + n - length q.1.cells) Hole) in
+      inr (ap (λ b. b && nat_lt i (a + n)) from ∙ to, get_or-edit_in entered a (a + n) long i Hole low high pages ∙ ap entered (long_cell i))
+  entered_cell i true false from to = inl (ranged_out entered a (a + n) long i Hole (inr (ltb-false i (a + n) to)) ∙ long_cell i)
+  entered_cell i false d from to = inl (ranged_out entered a (a + n) long i Hole (inl (leb-false a i from)) ∙ long_cell i)
+
+  abbrev MapCell : Sharing → Reserving → (file i : ℕ) → Cell Page → Cell Page → Type 0
+  MapCell sharing reserving file i old new = ((is_shared sharing && (reserves reserving && (means_file (Some m) name file && is_in a (a + n) i))) ≡ true) × (new ≡ entered old)
+
+  map_cell : (number : ℕ) (sharing : Sharing) (reserving : Reserving) (i : ℕ)
+      → (cell_at (mapped task number a n sharing reserving q.1) i ≡ cell_at q.1 i) ⊎ MapCell sharing reserving q.0 i (cell_at q.1 i) (cell_at (mapped task number a n sharing reserving q.1) i)
+  map_cell number Shared Reserve i =
+      ⊎_elim (λ same. inl same) (λ on. inr (ap (λ b. b && is_in a (a + n) i) (means_it m name q named q.1) ∙ on.0, on.1)) (entered_cell i (nat_le a i) (nat_lt i (a + n)) refl refl)
+  map_cell number Shared NoReserve i = inl (long_cell i)
+  map_cell number Private reserving i = inl (long_cell i)
+
+  map_kept : (sharing : Sharing) (reserving : Reserving)
+      → Keeps (Some m) (step.Map task k name a n sharing reserving) (Some (with_file m q.0 (mapped task (next_number task m) a n sharing reserving q.1)))
+  map_kept sharing reserving =
+      let number = next_number task m in
+      let g : File = mapped task number a n sharing reserving q.1 in
+      let stays = placed_map m task a n sharing reserving name q named in
+      let c = MapCell sharing reserving in
+      kept_keeps m Each NoPlace c (step.Map task k name a n sharing reserving) (with_file m q.0 g) (λ p r i never. absurd never) (λ file i old new to. to) (λ other goes. refl)
+      (put_kept m name q named g Each NoPlace c (λ other f ok e. stays.names other f e) (λ t u p found. stays.numbers t u p found) (map_cell number sharing reserving)
+      (λ l within. (let there = get_or_append_left q.1.maps (new_map task number a n sharing reserving ∷ []) no_map l within in (λ i. inl (ap (λ y. place_at y i) there), ap (λ y. y.unmapped) there))))
+
+-- ---- pages of a range
+
+module _ (m : Mount) (k size : ℕ) (name : List ℕ) (a b : ℕ) (pages : List ℕ) (q : ℕ × File) (named : file_named m name ≡ Some q) where
+  abbrev full : File
+  full = range_filled size a b (rising_nodes (lacking a b q.1) pages) q.1
+
+  abbrev FillCell : (file i : ℕ) → Cell Page → Cell Page → Type 0
+  FillCell file i old new = ((means_file (Some m) name file && is_in a b i) ≡ true) × (has_page old ≡ false) × (has_page new ≡ true)
+
+  in_it : (i : ℕ) → a ≤ i → i < b → is_in a b i ≡ true
+  in_it i low high = grind (arith, nat_tests)
+
+  fill_kept : Keeps (Some m) (step.Preallocate k name a b) (Some (with_file m q.0 full))
+  fill_kept =
+      let nodes = rising_nodes (lacking a b q.1) pages in
+      let stays = placed_filled m size a b nodes name q named in
+      kept_keeps m Each NoPlace FillCell (step.Preallocate k name a b) (with_file m q.0 full) (λ p r i never. absurd never) (λ file i old new to. to) (λ other goes. refl)
+      (put_kept m name q named full Each NoPlace FillCell (λ other f ok e. stays.names other f e) (λ t u p found. stays.numbers t u p found)
+      (λ i. ⊎_elim (λ same. inl same)
+      (λ new. inr (ap (λ x. x && is_in a b i) (means_it m name q named q.1) ∙ in_it i new.low new.high, new.lacked, ap has_page new.is))
+      (filled_index size a b nodes q.1 (length-nodes_of (lacking a b q.1) pages) i))
+      (λ l within. (λ i. inl refl, refl)))
+
+-- ---- accesses
+
+some_copy : (o : Option Copy) → is_some o ≡ true → (copy : Copy) × (o ≡ Some copy)
+some_copy None e = cc
+some_copy (Some copy) e = (copy, refl)
+
+spot_sound : (n : Mount) (sound : IsSoundMount n) (q : Spot) → IsSpot n q → IsSoundMap (length q.file.cells) q.map
+spot_sound n sound q at =
+    let whole : IsSoundFile q.file = subst IsSoundFile (at.file.is (new_file None)) (All-get_or IsSoundFile n.files q.file_no (new_file None) at.file.within sound.files) in
+    subst (IsSoundMap (length q.file.cells)) (at.map.is no_map) (All-get_or (IsSoundMap (length q.file.cells)) q.file.maps q.map_no no_map at.map.within whole.maps)
+
+module _ (size : ℕ) (m : Mount) (sound : IsSoundMount m) (task number i : ℕ) (intent : Intent) (s : Spot) (found : spot m (is_map task number) ≡ Some s) where
+  abbrev at : IsSpot m s
+  at = spot_is m (is_map task number) s found
+
+  abbrev Holds : Mount → Type 0
+  Holds n = Held size m sound s at i intent n
+
+  module _ (n : Mount) (held : Held size m sound s (spot_is m (is_map task number) s found) i intent n) (stays : Placed m n) (whole : IsSoundMount n) (x : Step)
+      (as_spent : (p q : Spot) (j : ℕ) → IsSpent (spot m (is_map task number)) i p q j → ChangesPlace (Some m) x (Some n) p q j)
+      (as_taken : (p q : Spot) (j : ℕ) → intent ≡ Write → IsTaken (spot m (is_map task number)) (spot n (is_map task number)) i p q j → ChangesPlace (Some m) x (Some n) p q j)
+      (as_filled : (file j : ℕ) (old new : Cell Page) → IsFilled (spot m (is_map task number)) i file j new → ChangesCell (Some m) x file j old new)
+      (as_mark : (p q : Spot) → intent ≡ Write → IsLostTo (spot m (is_map task number)) (spot n (is_map task number)) i p q i → Marks (Some m) x (Some n) p q) where
+    module _ (t u : ℕ) (p q : Spot) (was : spot m (is_map t u) ≡ Some p) (is : spot n (is_map t u) ≡ Some q) where
+      same : places q ≡ places p
+      same = (let r = stays.numbers t u p was in ap places (only_spot (spot n (is_map t u)) q r.0 is r.1) ∙ r.2)
+
+      old_map : map_in (file_in m p.file_no) p.map_no ≡ p.map
+      old_map = map_shown (Some m) t u p was
+
+      new_map_is : map_in (file_in n p.file_no) p.map_no ≡ q.map
+      new_map_is = ap (λ (y : Where). map_on (Some n) y.0 y.1) (sym same) ∙ map_shown (Some n) t u q is
+
+      old_file : file_in m p.file_no ≡ p.file
+      old_file = (spot_is m (is_map t u) p was).file.is (new_file None)
+
+      new_file_is : file_in n p.file_no ≡ q.file
+      new_file_is = ap (λ (y : Where). file_in n y.0) (sym same) ∙ (spot_is n (is_map t u) q is).file.is (new_file None)
+
+      lost_to : (j : ℕ) → IsLostAt (Some s) (λ o. map_in (file_in n o.file_no) o.map_no) i (map_in (file_in m p.file_no) p.map_no) (map_in (file_in n p.file_no) p.map_no) p.file_no p.map_no j
+          → IsLostTo (spot m (is_map task number)) (spot n (is_map task number)) i p q j
+      lost_to j lost =
+          subst (λ o. IsLostTo o (spot n (is_map task number)) i p q j) (sym found)
+          (by_owner size m n task number (λ o named. stays.numbers task number o named) p q i j old_map new_map_is (Some s) found lost)
+
+      spent : (j : ℕ) → is_some (copy_of (place_at q.map j)) ≡ true → q.map.owner ≡ true → is_unconsumed (place_at q.map j) ≡ false
+      spent j some owner =
+          let copy = some_copy (copy_of (place_at q.map j)) some in
+          (spot_sound n whole q (spot_is n (is_map t u) q is) j copy.0 copy.1).consumed owner
+
+      map_holds : KeepsMap (Some m) x (Some n) p q
+      map_holds = record {
+        places = λ j. ⊎_elim (λ e. inl (ap (λ y. place_at y j) (sym new_map_is) ∙ e ∙ ap (λ y. place_at y j) old_map))
+            (λ rest. inr (⊎_elim (λ own. (let some = ap (λ y. is_some (copy_of (place_at y j))) (sym new_map_is) ∙ own.copy in
+            as_spent p q j (record { own = ap (λ o. is_at o p.file_no p.map_no) found ∙ own.own; index = own.index; copy = some; spent = spent j some })))
+            (λ lost. as_taken p q j lost.0.0 (lost_to j lost.0.1, ap (λ y. place_at y j) (sym new_map_is) ∙ lost.1 ∙ ap (λ y. without_copy (place_at y j)) old_map)) rest))
+            (held.places p.file_no p.map_no j);
+        cells = λ j. ⊎_elim (λ e. inl (ap (λ f. cell_at f j) (sym new_file_is) ∙ e ∙ ap (λ f. cell_at f j) old_file))
+            (λ filled. inr (as_filled p.file_no j (cell_at p.file j) (cell_at q.file j)
+            (ap (λ o. is_shared_of o p.file_no) found ∙ filled.0, filled.1, ap (λ f. has_page (cell_at f j)) (sym new_file_is) ∙ filled.2)))
+            (held.cells p.file_no j);
+        marked = λ marked. ⊎_elim (λ e. inl (ap (λ y. y.unmapped) (sym old_map) ∙ sym e ∙ ap (λ y. y.unmapped) new_map_is ∙ marked))
+            (λ lost. inr (as_mark p q lost.0 (lost_to i lost.1))) (held.marks p.file_no p.map_no);
+      }
+
+    file_holds : (name : List ℕ) (f g : ℕ × File) → file_named m name ≡ Some f → file_named n name ≡ Some g → (j : ℕ) → KeepsCell (Some m) x f.0 f.1 g.1 j
+    file_holds name f g was is j =
+        let h = stays.names name f was in
+        let same : g.0 ≡ f.0 = ap (λ (y : ℕ × File). y.0) (only_file (file_named n name) g h.0 is h.1) ∙ h.2 in
+        let old_file : file_in m f.0 ≡ f.1 = (file_at m (has_name name) f was).is (new_file None) in
+        let new_file_is : file_in n f.0 ≡ g.1 = ap (file_in n) (sym same) ∙ (file_at n (has_name name) g is).is (new_file None) in
+        ⊎_elim (λ e. inl (ap (λ y. cell_at y j) (sym new_file_is) ∙ e ∙ ap (λ y. cell_at y j) old_file))
+        (λ filled. inr (as_filled f.0 j (cell_at f.1 j) (cell_at g.1 j)
+        (ap (λ o. is_shared_of o f.0) found ∙ filled.0, filled.1, ap (λ y. has_page (cell_at y j)) (sym new_file_is) ∙ filled.2)))
+        (held.cells f.0 j)
+
+    access_kept : Keeps (Some m) x (Some n)
+    access_kept = record { maps = map_holds; files = λ name f g goes was is j. file_holds name f g was is j }
+
+-- ---- events
+
+-- of an unmap the files alone; a fork and an exit are told elsewhere
+abbrev KeepsOn : Slot → ℕ → SlotEvent → Outcome → Type 0
+KeepsOn x k (slot.Unmap task number a b) o = KeepsFiles x (left_by x o)
+KeepsOn x k (slot.ForkMaps parent child) o = Unit {0}
+KeepsOn x k (slot.ExitMaps task) o = Unit {0}
+KeepsOn x k e o = KeepsTo x (slot_step k e) o
+
+module _ (size k : ℕ) (c : Choice) (m : Mount) (sound : IsSoundMount m) where
+  abbrev Stays : Mount → Type 0
+  Stays n = keys n ≡ keys m
+
+  -- where keys stay and the mount is sound afterwards
+  abbrev KeptIf : Step → Mount → Type 0
+  KeptIf x n = keys n ≡ keys m → IsSoundMount n → Keeps (Some m) x (Some n)
+
+  joined : (x : Step) (o : Outcome) → On (KeptIf x) o → On Stays o → KeepsTo (Some m) x o
+  joined x (Refused r) h stays = tt
+  joined x (Answered a None) h stays = absurd h
+  joined x (Answered a (Some n)) h stays = λ whole. h stays whole
+
+  both_on : (P Q : Mount → Type 0) (o : Outcome) → On P o → On Q o → On (λ n. P n × Q n) o
+  both_on P Q (Refused r) p q = tt
+  both_on P Q (Answered a None) p q = absurd p
+  both_on P Q (Answered a (Some n)) p q = (p, q)
+
+  module _ (task home number i : ℕ) where
+    fault_kept : (intent : Intent) (s : Spot) (found : spot m (is_map task number) ≡ Some s) (n : Mount) → Held size m sound s (spot_is m (is_map task number) s found) i intent n
+        → KeptIf (step.Fault task k number i intent) n
+    fault_kept Read s found n held same whole =
+        access_kept size m sound task number i Read s found n held (placed_same m n same) whole (step.Fault task k number i Read)
+        (λ p q j own. own) (λ p q j writes taken. (let never : Read ≡ Write = writes in cc)) (λ file j old new to. to) (λ p q writes lost. (let never : Read ≡ Write = writes in cc))
+    fault_kept Write s found n held same whole =
+        access_kept size m sound task number i Write s found n held (placed_same m n same) whole (step.Fault task k number i Write)
+        (λ p q j own. inl own) (λ p q j writes taken. inr taken) (λ file j old new to. to) (λ p q writes lost. lost)
+
+    of_fault : (intent : Intent) → Always (KeepsTo (Some m) (step.Fault task k number i intent)) (with_value (spot m (is_map task number)) NoSuchMap (fault c size m home i intent))
+    of_fault intent =
+        let x : Step = step.Fault task k number i intent in
+        let plan = with_value (spot m (is_map task number)) NoSuchMap (fault c size m home i intent) in
+        always_both (On (KeptIf x)) (On Stays) (KeepsTo (Some m) x) (joined x) plan
+        (always_value (On (KeptIf x)) (λ r. tt) (spot m (is_map task number)) NoSuchMap (fault c size m home i intent)
+        (λ s found. (let at = spot_is m (is_map task number) s found in
+        always_test (On (KeptIf x)) (is_unmapped s i) OutOfRange _ tt
+        (λ live. always_test (On (KeptIf x)) (is_beyond s i) BeyondEnd (access c size m s home i intent) tt
+        (λ below. always_weaker (On (Held size m sound s at i intent)) (On (KeptIf x)) (on_weaker (Held size m sound s at i intent) (KeptIf x) (fault_kept intent s found))
+        (access c size m s home i intent)
+        (access_held size m sound s at i intent c home (leb-false (length s.file.cells) i below)))))))
+        (fault_on c m size task number home i intent)
+
+    of_load : (offset count : ℕ) → Always (KeepsTo (Some m) (step.Load task k number i offset count)) (with_value (spot m (is_map task number)) NoSuchMap (load c size m home i offset count))
+    of_load offset count =
+        let x : Step = step.Load task k number i offset count in
+        let plan = with_value (spot m (is_map task number)) NoSuchMap (load c size m home i offset count) in
+        always_both (On (KeptIf x)) (On Stays) (KeepsTo (Some m) x) (joined x) plan
+        (always_value (On (KeptIf x)) (λ r. tt) (spot m (is_map task number)) NoSuchMap (load c size m home i offset count)
+        (λ s found. (let at = spot_is m (is_map task number) s found in
+        let H : Mount → Type 0 = Held size m sound s at i Read in
+        let f : Mount → Outcome = λ n. Answered (bytes_answer offset count (value size (again n s).file (again n s).map i)) (Some n) in
+        always_then (On H) (On (KeptIf x)) f (on_follows H (KeptIf x) f
+        (λ n held same whole. access_kept size m sound task number i Read s found n held (placed_same m n same) whole x
+        (λ p q j own. own) (λ p q j writes taken. (let never : Read ≡ Write = writes in cc)) (λ file j old new to. to) (λ p q writes lost. (let never : Read ≡ Write = writes in cc))))
+        (byte_access c size m home i offset count Read s) (bytes_on size c m home i H offset count Read s (λ l. access_held size m sound s at i Read c home l)))))
+        (load_on c m size task number home i offset count)
+
+    of_store : (offset : ℕ) (bytes : List ℕ)
+        → Always (KeepsTo (Some m) (step.Store task k number i offset bytes)) (with_value (spot m (is_map task number)) NoSuchMap (store c size m home i offset bytes))
+    of_store offset bytes =
+        let x : Step = step.Store task k number i offset bytes in
+        let plan = with_value (spot m (is_map task number)) NoSuchMap (store c size m home i offset bytes) in
+        always_both (On (KeptIf x)) (On Stays) (KeepsTo (Some m) x) (joined x) plan
+        (always_value (On (KeptIf x)) (λ r. tt) (spot m (is_map task number)) NoSuchMap (store c size m home i offset bytes)
+        (λ s found. (let at = spot_is m (is_map task number) s found in
+        let H : Mount → Type 0 = Held size m sound s at i Write in
+        let R : Mount → Type 0 = Result size m s at i in
+        let Q : Mount → Type 0 = λ n. Held size m sound s at i Write n × Result size m s at i n in
+        let f : Mount → Outcome = λ n. Answered Done (Some (written n s i offset bytes)) in
+        always_then (On Q) (On (KeptIf x)) f (on_follows Q (KeptIf x) f
+        (λ n held same whole. access_kept size m sound task number i Write s found (written n s i offset bytes) (store_held size m sound s at i Write offset bytes n held.0 held.1)
+        (placed_same m (written n s i offset bytes) same) whole x
+        (λ p q j own. inl own) (λ p q j writes taken. inr taken) (λ file j old new to. to) (λ p q writes lost. lost)))
+        (byte_access c size m home i offset (length bytes) Write s)
+        (bytes_on size c m home i Q offset (length bytes) Write s
+        (λ l. always_both (On H) (On R) (On Q) (both_on H R) (access c size m s home i Write) (access_held size m sound s at i Write c home l) (write_done size m s at i c home l))))))
+        (store_on c m size task number home i offset bytes)
+
+  given : (x : Step) (n : Mount) → Keeps (Some m) x (Some n) → Always (KeepsTo (Some m) x) (gives Done (Some m) (Some n))
+  given x n h = always_gives (KeepsTo (Some m) x) Done (Some m) (Some n) (λ whole. h)
+
+  of_file : (x : Step) (name : List ℕ) (f : ℕ × File → Plan) → ((q : ℕ × File) → file_named m name ≡ Some q → Always (KeepsTo (Some m) x) (f q))
+      → Always (KeepsTo (Some m) x) (with_value (file_named m name) NoSuchFile f)
+  of_file x name f h = always_value (KeepsTo (Some m) x) (λ r. tt) (file_named m name) NoSuchFile f h
+
+  tested : (x : Step) (ts : List (Bool × Refusal)) (p : Plan) → Always (KeepsTo (Some m) x) p → Always (KeepsTo (Some m) x) (unless ts p)
+  tested x ts p h = always_unless (KeepsTo (Some m) x) (λ r. tt) ts p h
+
+  mount_kept : (e : SlotEvent) → Always (KeepsOn (Some m) k e) (on_mount size k c m e)
+  mount_kept (slot.Mount options) = tt
+  mount_kept (slot.Remount options) =
+      always_remount (KeepsTo (Some m) (step.Remount k options)) (λ r. tt) m
+      (λ l whole. alike_keeps (Some m) (Some (record m { limits = l })) (step.Remount k options) (λ t u. refl) (λ name. refl)) size k options
+  mount_kept slot.Umount =
+      tested (step.Umount k) (umount_tests k m) (gives Done (Some m) None)
+      (always_gives (KeepsTo (Some m) (step.Umount k)) Done (Some m) None (λ whole. record { maps = λ t u p q was is. cc; files = λ name f g goes was is. cc }))
+  mount_kept (slot.Create name) =
+      tested (step.Create k name) (create_tests c m name) (Finish (Answered Done (Some (with_new m (new_file (Some name))))))
+      (λ whole. new_keeps m (step.Create k name) (new_file (Some name)) (placed_new m (new_file (Some name))))
+  mount_kept (slot.Unlink name) =
+      of_file (step.Unlink k name) name (unlink m) (λ q named. given (step.Unlink k name) (swept (with_file m q.0 (unlinked q.1))) (unlink_kept m sound k name q named))
+  mount_kept (slot.Truncate name n) =
+      of_file (step.Truncate k name n) name (truncate m n)
+      (λ q named. tested (step.Truncate k name n) ((nat_lt most_file_pages n, OutOfRange) ∷ []) (gives Done (Some m) (edited m q.0 (truncated n q.1)))
+      (given (step.Truncate k name n) (swept (with_file m q.0 (truncated n q.1))) (truncate_kept m sound k name q named n)))
+  mount_kept (slot.Punch name a b) =
+      of_file (step.Punch k name a b) name (punch m a b)
+      (λ q named. tested (step.Punch k name a b) ((is_bad_range a b, OutOfRange) ∷ []) (gives Done (Some m) (edited m q.0 (punched a b q.1)))
+      (given (step.Punch k name a b) (swept (with_file m q.0 (punched a b q.1))) (punch_kept m sound k name q named a b)))
+  mount_kept (slot.Preallocate name a b) =
+      let x : Step = step.Preallocate k name a b in
+      of_file x name (preallocate c size m a b)
+      (λ q named. always_preallocate (KeepsTo (Some m) x) (λ r. tt) c size m a b q (λ whole. same_keeps (Some m) x) (λ pages whole. fill_kept m k size name a b pages q named))
+  mount_kept (slot.Read name i offset count) =
+      of_file (step.Read k name i offset count) name (read size m i offset count)
+      (λ q named. tested (step.Read k name i offset count) (read_tests size i offset count q.1) _ (λ whole. same_keeps (Some m) (step.Read k name i offset count)))
+  mount_kept slot.Ls = tested (step.Ls k) ((c.refused, OutOfMemory) ∷ []) _ (λ whole. same_keeps (Some m) (step.Ls k))
+  mount_kept (slot.Stat name) = of_file (step.Stat k name) name (stat m) (λ q named whole. same_keeps (Some m) (step.Stat k name))
+  mount_kept slot.Df = λ whole. same_keeps (Some m) (step.Df k)
+  mount_kept (slot.Map task home name a n sharing reserving) =
+      let x : Step = step.Map task k name a n sharing reserving in
+      let number = next_number task m in
+      of_file x name (map_file c m task home a n sharing reserving)
+      (λ q named. (let new = with_file m q.0 (mapped task number a n sharing reserving q.1) in
+      tested x (map_tests m task a n) (grant c m home (asked sharing reserving a n q.1) (Answered (MapNo number) (Some new)))
+      (always_grant (KeepsTo (Some m) x) (λ r. tt) c m home (asked sharing reserving a n q.1) (Answered (MapNo number) (Some new)) (λ whole. map_kept m task k name a n q named sharing reserving))))
+  mount_kept (slot.Anon task home n sharing reserving) =
+      let x : Step = step.Anon task n sharing reserving in
+      let f = mapped task (next_number task m) 0 n sharing reserving (new_file None) in
+      tested x (anon_tests m task n) (grant c m home (asked sharing reserving 0 n (new_file None)) (Answered (MapNo (next_number task m)) (Some (with_new m f))))
+      (always_grant (KeepsTo (Some m) x) (λ r. tt) c m home (asked sharing reserving 0 n (new_file None)) (Answered (MapNo (next_number task m)) (Some (with_new m f)))
+      (λ whole. new_keeps m x f (placed_new m f)))
+  mount_kept (slot.Unmap task number a b) =
+      let P : Outcome → Type 0 = λ o. KeepsFiles (Some m) (left_by (Some m) o) in
+      always_value P (λ r. files_same (Some m)) (spot m (is_map task number)) NoSuchMap (unmap m task number a b)
+      (λ p found. always_unless P (λ r. files_same (Some m)) ((is_bad_range a b, OutOfRange) ∷ []) (gives Done (Some m) (Some (unmapped_from task number a b m)))
+      (always_gives P Done (Some m) (Some (unmapped_from task number a b m)) (files_stay m (file_unmapped (is_map task number) a b) (λ f. refl) (λ f. refl))))
+  mount_kept (slot.Fault task home number i intent) = of_fault task home number i intent
+  mount_kept (slot.Load task home number i offset count) = of_load task home number i offset count
+  mount_kept (slot.Store task home number i offset bytes) = of_store task home number i offset bytes
+  mount_kept (slot.ForkMaps parent child) = any_outcome (on_mount size k c m (slot.ForkMaps parent child))
+  mount_kept (slot.ExitMaps task) = any_outcome (on_mount size k c m (slot.ExitMaps task))
+
+none_kept : (x : Step) (y : Slot) → Keeps None x y
+none_kept x y = record { maps = λ t u p q was is. cc; files = λ name f g goes was is. cc }
+
+slot_kept : (size k : ℕ) (c : Choice) (old : Slot) (e : SlotEvent) → IsSound old → Always (KeepsOn old k e) (slot_event size k c old e)
+slot_kept size k c None (slot.Mount options) sound =
+    always_mount (KeepsTo None (step.Mount k options)) (λ r. tt) (λ l whole. none_kept (step.Mount k options) (Some (record { limits = l; files = [] }))) c size options
+slot_kept size k c None (slot.Unmap task number a b) sound = files_same None
+slot_kept size k c None other sound = tt
+slot_kept size k c (Some m) e sound = mount_kept size k c m sound e
+
+-- ---- steps
+
+module _ (s : State) (st : IsSettledState s) (t : State) (tt_sound : (k : ℕ) → IsSound (slot_at t k)) where
+  own_slot : (x : Step) (k : ℕ) (a : Answer) (y : Slot) → k < length s.slots → t.slots ≡ slice_set s.slots k y → KeepsTo (slot_at s k) x (Answered a y)
+      → (o : ℕ) → (k == o) ≡ true → Keeps (slot_at s o) x (slot_at t o)
+  own_slot x k a y l slots keeps o on =
+      let there : slot_at t k ≡ y = ap (λ (xs : List Slot). slice_index_or xs k None) slots ∙ get_or-set_same s.slots k y None l in
+      subst (λ z. Keeps (slot_at s z) x (slot_at t z)) (eqb-true k o on)
+      (subst (λ z. Keeps (slot_at s k) x z) (sym there) (keeps (subst IsSound there (tt_sound k))))
+
+  outcome_kept : (k : ℕ) (e : SlotEvent) (o : Outcome) → is_whole (OnSlot k e) ≡ true → k < length s.slots → t.slots ≡ slice_set s.slots k (left_by (slot_at s k) o)
+      → KeepsOn (slot_at s k) k e o → KeepsOwn s (slot_step k e) (reply_of o) t
+  outcome_kept k (slot.Unmap task number a b) o whole l slots keeps = λ z.
+      subst (λ (xs : List Slot). KeepsFiles (slot_at s z) (slice_index_or xs z None)) (sym slots)
+      (⊎_elim
+      (λ same. subst (λ i. KeepsFiles (slot_at s i) (slice_index_or (slice_set s.slots k (left_by (slot_at s k) o)) i None)) (sym same)
+      (subst (λ x. KeepsFiles (slot_at s k) x) (sym (get_or-set_same s.slots k (left_by (slot_at s k) o) None l)) keeps))
+      (λ other. subst (λ x. KeepsFiles (slot_at s z) x) (sym (get_or-set_other s.slots k z (left_by (slot_at s k) o) None other)) (files_same (slot_at s z)))
+      (cases_eq z k))
+  outcome_kept k (slot.ForkMaps parent child) o whole l slots keeps = cc
+  outcome_kept k (slot.ExitMaps task) o whole l slots keeps = cc
+  outcome_kept k e (Refused r) whole l slots keeps = tt
+  outcome_kept k (slot.Anon task home n sharing reserving) (Answered a y) whole l slots keeps = λ o on.
+      own_slot (step.Anon task n sharing reserving) k a y l slots keeps o (ap (λ z. z == o) (eqb-true k 0 whole) ∙ on)
+  outcome_kept k e (Answered a y) whole l slots keeps = λ o on. own_slot (slot_step k e) k a y l slots keeps o on
+
+  event_kept : (e : Event) (reply : Reply) → is_whole e ≡ true → IsEvent s e reply t → KeepsOwn s (step_of e) reply t
+  event_kept (OnSlot k e) reply whole is =
+      let l = ltb-true k (length s.slots) is.1.0 in
+      let ends = event_ends (KeepsOn (slot_at s k) k e) s k e reply t (λ c. slot_kept s.page_size k c (slot_at s k) e (left_sound s k l st)) is in
+      subst (λ r. KeepsOwn s (slot_step k e) r t) (sym ends.replied) (outcome_kept k e ends.outcome whole l ends.slots ends.holds)
+  event_kept (Tasks (table.FindAndAdd parent child)) reply whole is = cc
+  event_kept (Tasks (table.Remove task)) reply whole is = cc
+  event_kept (Tasks (table.Add task home)) (Ok a) whole is = λ o on. cc
+  event_kept (Tasks (table.Find task)) (Ok a) whole is = λ o on. cc
+  event_kept (OnPool e) (Ok a) whole is = pool_kept e a
+    where
+      pool_kept : (e : PoolEvent) (a : Answer) → KeepsOwn s (step_of (OnPool e)) (Ok a) t
+      pool_kept (pool.Nr n) a = λ o on. cc
+      pool_kept (pool.Overcommit n) a = λ o on. cc
+      pool_kept pool.Meminfo a = λ o on. cc
+      pool_kept pool.Nodes a = λ o on. cc
+  event_kept (Tasks (table.Add task home)) (Err r) whole is = tt
+  event_kept (Tasks (table.Find task)) (Err r) whole is = tt
+  event_kept (OnPool (pool.Nr n)) (Err r) whole is = tt
+  event_kept (OnPool (pool.Overcommit n)) (Err r) whole is = tt
+  event_kept (OnPool pool.Meminfo) (Err r) whole is = tt
+  event_kept (OnPool pool.Nodes) (Err r) whole is = tt
+
+early_kept : (s : State) (x : Step) (r : Refusal) → KeepsOwn s x (Err r) s
+early_kept s (step.Unmap task k number a b) r = λ o. files_same (slot_at s o)
+early_kept s (step.Fork parent child) r = λ o. files_same (slot_at s o)
+early_kept s (step.Exit task) r = λ o. files_same (slot_at s o)
+early_kept s other r = tt
+
+sound_at : (t : State) → IsSettledState t → (k : ℕ) → IsSound (slot_at t k)
+sound_at t st k = ⊎_elim (λ l. left_sound t k l st) (λ past. subst IsSound (sym (get_or_past t.slots k None past)) tt) (cases_lt k (length t.slots))
+
+pub step_own : (s : State) → IsSettledState s → (reply : Reply) (t : State) (x : Step) → IsSettledState t → IsStep s x reply t → KeepsOwn s x reply t
+step_own s st reply t x after is =
+    by_event s (λ x reply t. IsSettledState t → KeepsOwn s x reply t) (λ x r early settled. early_kept s x r)
+    (λ e reply t whole it settled. event_kept s st t (sound_at t settled) e reply whole it)
+    (λ parent child reply t it settled k. ((fork_fade s parent child reply t it).slots k).files) (λ task reply t it settled k. ((exit_fade s task reply t it).slots k).files) reply t x is after

@@ -1,0 +1,316 @@
+-- What steps make of the tasks, of nr and of overcommit; and steps that only read leave all slots.
+use Rattle.std.proofs.Common.{◌≡◌, subst, ℕ, ◌==◌, Bool, true, false, None, Option, Some, Ok, Err, List, [], ◌∷◌, ◌++◌, length, is_some, nat_le, option_map, refl, sym, ap, ◌∙◌, if◌then◌else◌}
+use Rattle.std.specs.List.{filter_map, find, range_with_len, slice_set}
+use Rattle.std.proofs.lemmas.Bool.{cond_both, eq-eqb, eqb-true, false_from_ne_true}
+use Rattle.hp_model.specs.declared.answer.Answer.{Answer}
+use Rattle.hp_model.specs.declared.answer.Answer.TheVariants.{Done, Home, Names}
+use Rattle.hp_model.specs.declared.event.Event.{Event}
+use Rattle.hp_model.specs.declared.event.Event.TheVariants.{Tasks, Slot as OnSlot, Pool as OnPool}
+use Rattle.hp_model.specs.declared.event.PoolEvent.TheVariants as pool
+use Rattle.hp_model.specs.declared.event.SlotEvent.{SlotEvent}
+use Rattle.hp_model.specs.declared.event.SlotEvent.TheVariants as slot
+use Rattle.hp_model.specs.declared.event.TableEvent.TheVariants as table
+use Rattle.hp_model.specs.declared.refusal.Refusal.{Refusal}
+use Rattle.hp_model.specs.declared.refusal.Refusal.TheVariants.{NoSuchFile, NoSuchNode, NoSuchTask, OutOfMemory, OutOfRange, TaskExists, TooMany}
+use Rattle.hp_model.specs.declared.section.PoolAnswer.{PoolAnswer}
+use Rattle.hp_model.specs.declared.section.Section.{Section}
+use Rattle.hp_model.specs.declared.section.Section.TheVariants.{Grant, GrantAndReturn, GrantPage, GiveBack, ReadAndGiveBack, ReadAndGrant, TakePage, FillPages}
+use Rattle.hp_model.specs.declared.step.Step.{Step}
+use Rattle.hp_model.specs.declared.step.Step.TheVariants as step
+use Rattle.hp_model.specs.machine.Event.{IsEvent, has_maps_of, with_pool_reply, with_table}
+use Rattle.hp_model.specs.machine.Machine.{pool_of}
+use Rattle.hp_model.specs.machine.Plan.{Answered, Ask, Choice, Finish, Outcome, Plan, Reply, Slot}
+use Rattle.hp_model.specs.machine.Settings.{IsSet, TellsNr, home_after, nr_after, only_reads, overcommit_after}
+use Rattle.hp_model.specs.machine.Settled.{IsSettledState}
+use Rattle.hp_model.specs.Profile.{most_overcommit}
+use Rattle.hp_model.specs.machine.SlotEvent.{bytes_answer, file_named, read, read_tests, slot_event, stat}
+use Rattle.hp_model.specs.files.File.{cell_at}
+use Rattle.hp_model.specs.files.Value.{shown}
+use Rattle.hp_laws.specs.Balance.{left_by}
+use Rattle.hp_laws.proofs.ending.Fades.{exit_refused}
+use Rattle.hp_laws.proofs.accesses.SlotShows.{always_unless, always_value}
+use Rattle.std.proofs.lemmas.List.{set-get_or}
+use Rattle.hp_model.specs.machine.State.{State, slot_at}
+use Rattle.hp_model.specs.machine.Step.{Answer_with, IsScript, IsScripted, IsStep, exit_slots, fork_slots, or_undone, undone, when_done}
+use Rattle.hp_model.specs.machine.Table.{Table, added, home_of, is_crowded, is_known, or_refused, removed, when_known}
+use Rattle.hp_model.specs.pool.Grant.{can_grant}
+use Rattle.hp_model.specs.pool.Pool.{section}
+use Rattle.hp_model.specs.pool.PoolCounts.{Pool}
+use Rattle.hp_laws.proofs.steps.Outcomes.{Always, either_way, event_ends}
+use Rattle.hp_model.proofs.RowMoves.{puts_are}
+use Rattle.hp_laws.proofs.ending.RefusedForks.{Gives, SameSetting, event_setting, fork_refused}
+use Rattle.hp_laws.proofs.steps.Whole.{by_event, is_whole, slot_step, step_of}
+
+-- ---- a slot's event leaves the table, nr and overcommit
+
+abbrev Numbers : Pool → PoolAnswer × Pool → Type 0
+Numbers p q = (q.1.nr ≡ p.nr) × (q.1.overcommit ≡ p.overcommit)
+
+section_numbers : (p : Pool) (x : Section) → Numbers p (section p x)
+section_numbers p (Grant home d) = cond_both (can_grant d p) _ _ (Numbers p) (λ e. (refl, refl)) (λ e. (refl, refl))
+section_numbers p (GrantPage home d) = cond_both (can_grant d p) _ _ (Numbers p) (λ e. (refl, refl)) (λ e. (refl, refl))
+section_numbers p (TakePage home) = (refl, refl)
+section_numbers p (FillPages d n) = cond_both (can_grant d p) _ _ (Numbers p) (λ e. (refl, refl)) (λ e. (refl, refl))
+section_numbers p (GiveBack puts k) = (ap (λ (q : Pool). q.nr) (puts_are puts p), ap (λ (q : Pool). q.overcommit) (puts_are puts p))
+section_numbers p (ReadAndGrant d) = cond_both (can_grant d p) _ _ (Numbers p) (λ e. (refl, refl)) (λ e. (refl, refl))
+section_numbers p (ReadAndGiveBack k) = (refl, refl)
+section_numbers p (GrantAndReturn d) = cond_both (can_grant d p) _ _ (Numbers p) (λ e. (refl, refl)) (λ e. (refl, refl))
+
+all_give : (p : Plan) → Gives p
+all_give (Finish o) = tt
+all_give (Ask sec f) = λ p. section_numbers p (sec p.nr)
+
+slot_setting : (s : State) (k : ℕ) (e : SlotEvent) (reply : Reply) (t : State) → IsEvent s (OnSlot k e) reply t → SameSetting s t
+slot_setting s k e reply t is = event_setting s k e reply t (λ c. all_give (slot_event s.page_size k c (slot_at s k) e)) is
+
+setting_then : (s m t : State) → SameSetting s m → SameSetting m t → SameSetting s t
+setting_then s m t a b = record { table = b.table ∙ a.table; nr = b.nr ∙ a.nr; overcommit = b.overcommit ∙ a.overcommit }
+
+setting_same : (s t : State) → t ≡ s → SameSetting s t
+setting_same s t same = record { table = ap (λ x. x.table) same; nr = ap (λ x. x.nr) same; overcommit = ap (λ x. x.overcommit) same }
+
+-- ---- exit and fork, slot by slot
+
+exits_set : (task : ℕ) (r : Reply) (ks : List ℕ) (u t : State) → IsScript u (exit_slots ks task (Answer_with (Ok Done))) r t → SameSetting u t
+exits_set task r [] u t is = setting_same u t is.1
+exits_set task r (k ∷ ks) u t is =
+    either_way (has_maps_of task (slot_at u k)) (λ it. setting_then u it.1 t (slot_setting u k (slot.ExitMaps task) it.0 it.1 it.2) (exits_set task r ks it.1 t it.3))
+    (λ it. exits_set task r ks u t it) is
+
+undone_refused : (done : List ℕ) (child : ℕ) (r : Refusal) (a : Answer) (u t : State) → IsScript u (undone done child r) (Ok a) t → ⊥
+undone_refused [] child r a u t is = (let never : Ok a ≡ Err r = is.3.0 in cc)
+undone_refused (k ∷ ks) child r a u t is = either_way (has_maps_of child (slot_at u k)) (λ it. undone_refused ks child r a it.1 t it.3) (λ it. undone_refused ks child r a u t it) is
+
+forks_set : (ks done : List ℕ) (parent child : ℕ) (a : Answer) (u t : State) → IsScript u (fork_slots ks done parent child) (Ok a) t → SameSetting u t
+forks_set [] done parent child a u t is = setting_same u t is.1
+forks_set (k ∷ ks) done parent child a u t is =
+    either_way (has_maps_of parent (slot_at u k))
+    (λ it. setting_then u it.1 t (slot_setting u k (slot.ForkMaps parent child) it.0 it.1 it.2)
+    (goes it.0 it.1 it.3 (λ go. forks_set ks (done ++ k ∷ []) parent child a it.1 t go)))
+    (λ it. forks_set ks done parent child a u t it) is
+  where
+    goes : (q : Reply) (v : State) → IsScript v (or_undone done child q (fork_slots ks (done ++ k ∷ []) parent child)) (Ok a) t
+        → (IsScript v (fork_slots ks (done ++ k ∷ []) parent child) (Ok a) t → SameSetting v t) → SameSetting v t
+    goes (Ok b) v go rest = rest go
+    goes (Err r) v go rest = absurd (undone_refused done child r a v t go)
+
+-- ---- homes
+
+home_added : (table : Table) (new home task : ℕ) → is_known table new ≡ false → home_of (added table new home) task ≡ (if new == task then Some home else home_of table task)
+home_added [] new home task e = by_test (new == task) refl
+  where
+    by_test : (b : Bool) → (new == task) ≡ b → home_of (added [] new home) task ≡ (if new == task then Some home else None)
+    by_test true is = rw is refl
+    by_test false is = rw is refl
+home_added (x ∷ xs) new home task e =
+    by_tests (x.0 == task) refl (x.0 == new) refl (λ known. home_added xs new home task known)
+  where
+    by_tests : (b : Bool) → (x.0 == task) ≡ b → (c : Bool) → (x.0 == new) ≡ c
+        → (is_known xs new ≡ false → home_of (added xs new home) task ≡ (if new == task then Some home else home_of xs task))
+        → home_of (added (x ∷ xs) new home) task ≡ (if new == task then Some home else home_of (x ∷ xs) task)
+    by_tests b is true at rest = (let known : is_known (x ∷ xs) new ≡ true = rw at refl in cc)
+    by_tests true is false at rest =
+        let apart : (new == task) ≡ false =
+        false_from_ne_true (new == task) (λ same. (let wrong : (x.0 == new) ≡ true = eq-eqb x.0 new (eqb-true x.0 task is ∙ sym (eqb-true new task same)) in cc)) in rw (is, apart) refl
+    by_tests false is false at rest =
+        rw is (rest (subst (λ b. is_some (option_map (λ (q : ℕ × ℕ). q.1) (if b then Some x else find (λ (q : ℕ × ℕ). q.0 == new) xs)) ≡ false) at e))
+
+home_removed : (table : Table) (gone task : ℕ) → home_of (removed table gone) task ≡ (if gone == task then None else home_of table task)
+home_removed [] gone task = by_test (gone == task)
+  where
+    by_test : (b : Bool) → home_of [] task ≡ (if b then None else home_of [] task)
+    by_test true = refl
+    by_test false = refl
+home_removed (x ∷ xs) gone task = by_tests (x.0 == gone) refl (gone == task) refl (x.0 == task) refl (home_removed xs gone task)
+  where
+    by_tests : (a : Bool) → (x.0 == gone) ≡ a → (b : Bool) → (gone == task) ≡ b → (c : Bool) → (x.0 == task) ≡ c
+        → home_of (removed xs gone) task ≡ (if gone == task then None else home_of xs task)
+        → home_of (removed (x ∷ xs) gone) task ≡ (if gone == task then None else home_of (x ∷ xs) task)
+    by_tests true left true same c at rest = rw (left, same) (rest ∙ rw same refl)
+    by_tests true left false apart true at rest =
+        (let wrong : (gone == task) ≡ true = eq-eqb gone task (sym (eqb-true x.0 gone left) ∙ eqb-true x.0 task at) in cc)
+    by_tests true left false apart false at rest = rw (left, apart, at) (rest ∙ rw apart refl)
+    by_tests false stays true same true at rest =
+        (let wrong : (x.0 == gone) ≡ true = eq-eqb x.0 gone (eqb-true x.0 task at ∙ sym (eqb-true gone task same)) in cc)
+    by_tests false stays true same false at rest = rw (stays, same, at) (rest ∙ rw same refl)
+    by_tests false stays false apart true at rest = rw (stays, apart, at) refl
+    by_tests false stays false apart false at rest = rw (stays, apart, at) (rest ∙ rw apart refl)
+
+-- ---- steps
+
+module _ (s : State) where
+  -- nothing is set
+  unset : (x : Step) (reply : Reply) (t : State) → ((task : ℕ) → home_of s.table task ≡ home_after s x reply task) → nr_after s x reply ≡ s.nr → overcommit_after s x reply ≡ s.overcommit
+      → TellsNr x reply t → SameSetting s t → IsSet s x reply t
+  unset x reply t homes nr overcommit told same = record {
+    homes = λ task. ap (λ tb. home_of tb task) same.table ∙ homes task;
+    nr = same.nr ∙ sym nr;
+    overcommit = same.overcommit ∙ sym overcommit;
+    told = told;
+  }
+
+  -- a task is added, and the rest leaves the table
+  one_added : (x : Step) (a : Answer) (new home : ℕ) (u t : State) → is_known s.table new ≡ false → u ≡ record s { table = added s.table new home } → SameSetting u t
+      → ((task : ℕ) → (if new == task then Some home else home_of s.table task) ≡ home_after s x (Ok a) task) → nr_after s x (Ok a) ≡ s.nr → overcommit_after s x (Ok a) ≡ s.overcommit
+      → TellsNr x (Ok a) t → IsSet s x (Ok a) t
+  one_added x a new home u t unknown made same homes nr overcommit told = record {
+    homes = λ task. ap (λ tb. home_of tb task) (same.table ∙ ap (λ y. y.table) made) ∙ home_added s.table new home task unknown ∙ homes task;
+    nr = same.nr ∙ ap (λ y. y.nr) made ∙ sym nr;
+    overcommit = same.overcommit ∙ ap (λ y. y.overcommit) made ∙ sym overcommit;
+    told = told;
+  }
+
+  connect_sets : (new home : ℕ) (reply : Reply) (t : State) → IsEvent s (Tasks (table.Add new home)) reply t → IsSet s (step.Connect new home) reply t
+  connect_sets new home reply t is = by_tests (nat_le (length s.nodes) home) (is_known s.table new) refl (is_crowded s.table) reply t is.2
+    where
+      refused : (r : Refusal) (reply : Reply) (t : State) → with_table s (Err r, s.table) ≡ (reply, t) → IsSet s (step.Connect new home) reply t
+      refused r reply t e =
+          subst (λ (q : Reply × State). IsSet s (step.Connect new home) q.0 q.1) e
+          (unset (step.Connect new home) (Err r) s (λ task. refl) refl refl tt (setting_same s s refl))
+
+      by_tests : (a b : Bool) → is_known s.table new ≡ b → (d : Bool) (reply : Reply) (t : State)
+          → with_table s (or_refused ((a, NoSuchNode) ∷ (b, TaskExists) ∷ (d, TooMany) ∷ []) s.table (Ok Done, added s.table new home)) ≡ (reply, t) → IsSet s (step.Connect new home) reply t
+      by_tests true b known d reply t e = refused NoSuchNode reply t e
+      by_tests false true known d reply t e = refused TaskExists reply t e
+      by_tests false false known true reply t e = refused TooMany reply t e
+      by_tests false false known false reply t e =
+          let u : State = record s { table = added s.table new home } in
+          subst (λ (q : Reply × State). IsSet s (step.Connect new home) q.0 q.1) e
+          (one_added (step.Connect new home) Done new home u u known refl (setting_same u u refl) (λ task. refl) refl refl tt)
+
+  fork_sets : (parent child : ℕ) (a : Answer) (t : State) → IsScripted s (step.Fork parent child) (Ok a) t → IsSet s (step.Fork parent child) (Ok a) t
+  fork_sets parent child a t is = by_home (home_of s.table parent) refl is.0 is.1 is.2.2 is.3
+    where
+      left_same : (q : Reply) (mid : State) (x : Refusal) → Err x ≡ q → IsScript mid (when_done q (fork_slots (range_with_len 0 (length s.slots)) [] parent child)) (Ok a) t
+          → IsSet s (step.Fork parent child) (Ok a) t
+      left_same q mid x first go =
+          (let never : Ok a ≡ Err x = (subst (λ y. IsScript mid (when_done y (fork_slots (range_with_len 0 (length s.slots)) [] parent child)) (Ok a) t) (sym first) go).0 in cc)
+
+      by_tests : (home : ℕ) → home_of s.table parent ≡ Some home → (b : Bool) → is_known s.table child ≡ b → (d : Bool) (q : Reply) (mid : State)
+          → with_table s (or_refused ((b, TaskExists) ∷ (d, TooMany) ∷ []) s.table (Ok Done, added s.table child home)) ≡ (q, mid)
+          → IsScript mid (when_done q (fork_slots (range_with_len 0 (length s.slots)) [] parent child)) (Ok a) t → IsSet s (step.Fork parent child) (Ok a) t
+      by_tests home known true there d q mid e go = left_same q mid TaskExists (ap (λ (y : Reply × State). y.0) e) go
+      by_tests home known false there true q mid e go = left_same q mid TooMany (ap (λ (y : Reply × State). y.0) e) go
+      by_tests home known false there false q mid e go =
+          let first : Ok Done ≡ q = ap (λ (y : Reply × State). y.0) e in
+          let second : record s { table = added s.table child home } ≡ mid = ap (λ (y : Reply × State). y.1) e in
+          let rest = subst (λ y. IsScript mid (when_done y (fork_slots (range_with_len 0 (length s.slots)) [] parent child)) (Ok a) t) (sym first) go in
+          one_added (step.Fork parent child) a child home mid t there (sym second) (forks_set (range_with_len 0 (length s.slots)) [] parent child a mid t rest)
+          (λ task. ap (λ o. if child == task then o else home_of s.table task) (sym known)) refl refl tt
+
+      by_home : (o : Option ℕ) → home_of s.table parent ≡ o → (q : Reply) (mid : State)
+          → with_table s (when_known s.table o (λ home. or_refused ((is_known s.table child, TaskExists) ∷ (is_crowded s.table, TooMany) ∷ []) s.table (Ok Done, added s.table child home))) ≡ (q, mid)
+          → IsScript mid (when_done q (fork_slots (range_with_len 0 (length s.slots)) [] parent child)) (Ok a) t → IsSet s (step.Fork parent child) (Ok a) t
+      by_home None known q mid e go = left_same q mid NoSuchTask (ap (λ (y : Reply × State). y.0) e) go
+      by_home (Some home) known q mid e go = by_tests home known (is_known s.table child) refl (is_crowded s.table) q mid e go
+
+  exit_sets : (gone : ℕ) (a : Answer) (t : State) → IsScripted s (step.Exit gone) (Ok a) t → IsSet s (step.Exit gone) (Ok a) t
+  exit_sets gone a t is = by_home (home_of s.table gone) is.0 is.1 is.2.2 is.3
+    where
+      by_home : (o : Option ℕ) (q : Reply) (mid : State) → with_table s (when_known s.table o (λ home. (Ok Done, removed s.table gone))) ≡ (q, mid)
+          → IsScript mid (when_done q (exit_slots (range_with_len 0 (length s.slots)) gone (Answer_with (Ok Done)))) (Ok a) t → IsSet s (step.Exit gone) (Ok a) t
+      by_home None q mid e go =
+          let first = ap (λ (y : Reply × State). y.0) e in
+          (let never : Ok a ≡ Err NoSuchTask = (subst (λ y. IsScript mid (when_done y (exit_slots (range_with_len 0 (length s.slots)) gone (Answer_with (Ok Done)))) (Ok a) t) (sym first) go).0 in cc)
+      by_home (Some home) q mid e go =
+          let first = ap (λ (y : Reply × State). y.0) e in
+          let second : record s { table = removed s.table gone } ≡ mid = ap (λ (y : Reply × State). y.1) e in
+          let same = exits_set gone (Ok a) (range_with_len 0 (length s.slots)) mid t
+          (subst (λ y. IsScript mid (when_done y (exit_slots (range_with_len 0 (length s.slots)) gone (Answer_with (Ok Done)))) (Ok a) t) (sym first) go) in
+          record {
+            homes = λ task. ap (λ tb. home_of tb task) (same.table ∙ sym (ap (λ y. y.table) second)) ∙ home_removed s.table gone task;
+            nr = same.nr ∙ sym (ap (λ y. y.nr) second);
+            overcommit = same.overcommit ∙ sym (ap (λ y. y.overcommit) second);
+            told = tt;
+          }
+
+  -- what of the steps leaves all as it was
+  record Unset (x : Step) (reply : Reply) : Type 0 where
+    homes : (task : ℕ) → home_of s.table task ≡ home_after s x reply task
+    nr : nr_after s x reply ≡ s.nr
+    overcommit : overcommit_after s x reply ≡ s.overcommit
+    told : (t : State) → TellsNr x reply t
+
+  refused_unset : (x : Step) (r : Refusal) → Unset x (Err r)
+  refused_unset (step.Connect new home) r = record { homes = λ task. refl; nr = refl; overcommit = refl; told = λ t. tt }
+  refused_unset (step.Fork parent child) r = record { homes = λ task. refl; nr = refl; overcommit = refl; told = λ t. tt }
+  refused_unset (step.Exit gone) r = record { homes = λ task. refl; nr = refl; overcommit = refl; told = λ t. tt }
+  refused_unset (step.Nr n) r = record { homes = λ task. refl; nr = refl; overcommit = refl; told = λ t. tt }
+  refused_unset (step.Overcommit n) r = record { homes = λ task. refl; nr = refl; overcommit = refl; told = λ t. tt }
+  refused_unset other r = record { homes = λ task. refl; nr = refl; overcommit = refl; told = λ t. tt }
+
+  slot_unset : (k : ℕ) (e : SlotEvent) (reply : Reply) → is_whole (OnSlot k e) ≡ true → Unset (slot_step k e) reply
+  slot_unset k (slot.ForkMaps parent child) reply whole = cc
+  slot_unset k (slot.ExitMaps task) reply whole = cc
+  slot_unset k other reply whole = record { homes = λ task. refl; nr = refl; overcommit = refl; told = λ t. tt }
+
+  leaves : (x : Step) (reply : Reply) (t : State) → Unset x reply → SameSetting s t → IsSet s x reply t
+  leaves x reply t un same = unset x reply t un.homes un.nr un.overcommit (un.told t) same
+
+  limit_sets : (n : ℕ) (b : Bool) (reply : Reply) (t : State)
+      → with_pool_reply s (if b then (Ok Done, record (pool_of s) { overcommit = n }) else (Err OutOfRange, pool_of s)) ≡ (reply, t) → IsSet s (step.Overcommit n) reply t
+  limit_sets n true reply t e =
+      subst (λ (q : Reply × State). IsSet s (step.Overcommit n) q.0 q.1) e (record { homes = λ task. refl; nr = refl; overcommit = refl; told = tt })
+  limit_sets n false reply t e =
+      subst (λ (q : Reply × State). IsSet s (step.Overcommit n) q.0 q.1) e (record { homes = λ task. refl; nr = refl; overcommit = refl; told = tt })
+
+  event_sets : (e : Event) (reply : Reply) (t : State) → is_whole e ≡ true → IsEvent s e reply t → IsSet s (step_of e) reply t
+  event_sets (Tasks (table.Add new home)) reply t whole is = connect_sets new home reply t is
+  event_sets (Tasks (table.Find task)) reply t whole is = by_home (home_of s.table task) is.2
+    where
+      by_home : (o : Option ℕ) → with_table s (when_known s.table o (λ home. (Ok (Home home), s.table))) ≡ (reply, t) → IsSet s (step.Attach task) reply t
+      by_home None e = subst (λ (q : Reply × State). IsSet s (step.Attach task) q.0 q.1) e (record { homes = λ other. refl; nr = refl; overcommit = refl; told = tt })
+      by_home (Some home) e = subst (λ (q : Reply × State). IsSet s (step.Attach task) q.0 q.1) e (record { homes = λ other. refl; nr = refl; overcommit = refl; told = tt })
+  event_sets (Tasks (table.FindAndAdd parent child)) reply t whole is = cc
+  event_sets (Tasks (table.Remove task)) reply t whole is = cc
+  event_sets (OnSlot k e) reply t whole is = leaves (slot_step k e) reply t (slot_unset k e reply whole) (slot_setting s k e reply t is)
+  event_sets (OnPool (pool.Nr n)) reply t whole is =
+      subst (λ (q : Reply × State). IsSet s (step.Nr n) q.0 q.1) is.2 (record { homes = λ task. refl; nr = refl; overcommit = refl; told = refl })
+  event_sets (OnPool (pool.Overcommit n)) reply t whole is = limit_sets n (nat_le n most_overcommit) reply t is.2
+  event_sets (OnPool pool.Meminfo) reply t whole is =
+      subst (λ (q : Reply × State). IsSet s step.Meminfo q.0 q.1) is.2 (record { homes = λ task. refl; nr = refl; overcommit = refl; told = tt })
+  event_sets (OnPool pool.Nodes) reply t whole is =
+      subst (λ (q : Reply × State). IsSet s step.Nodes q.0 q.1) is.2 (record { homes = λ task. refl; nr = refl; overcommit = refl; told = tt })
+
+  forked_sets : IsSettledState s → (parent child : ℕ) (reply : Reply) (t : State) → IsScripted s (step.Fork parent child) reply t → IsSet s (step.Fork parent child) reply t
+  forked_sets st parent child (Ok a) t is = fork_sets parent child a t is
+  forked_sets st parent child (Err r) t is =
+      let left = fork_refused s st parent child r t is in
+      leaves (step.Fork parent child) (Err r) t (refused_unset (step.Fork parent child) r) (record { table = left.table; nr = left.nr; overcommit = left.overcommit })
+
+  exited_sets : (gone : ℕ) (reply : Reply) (t : State) → IsScripted s (step.Exit gone) reply t → IsSet s (step.Exit gone) reply t
+  exited_sets gone (Ok a) t is = exit_sets gone a t is
+  exited_sets gone (Err r) t is = leaves (step.Exit gone) (Err r) t (refused_unset (step.Exit gone) r) (setting_same s t (exit_refused s gone r t is))
+
+  pub step_sets : IsSettledState s → (reply : Reply) (t : State) (x : Step) → IsStep s x reply t → IsSet s x reply t
+  step_sets st reply t x is =
+      by_event s (λ x reply t. IsSet s x reply t) (λ x r early. leaves x (Err r) s (refused_unset x r) (setting_same s s refl)) event_sets (forked_sets st) exited_sets reply t x is
+
+-- ---- steps that only read
+
+abbrev Same : Slot → Outcome → Type 0
+Same old o = left_by old o ≡ old
+
+reads_same : (size k : ℕ) (c : Choice) (old : Slot) (e : SlotEvent) → only_reads (slot_step k e) ≡ true → Always (Same old) (slot_event size k c old e)
+reads_same size k c None (slot.Mount options) on = cc
+reads_same size k c None other on = refl
+reads_same size k c (Some m) (slot.Read name i offset count) on =
+    always_value (Same (Some m)) (λ r. refl) (file_named m name) NoSuchFile (read size m i offset count)
+    (λ f is. always_unless (Same (Some m)) (λ r. refl) (read_tests size i offset count f.1) (Finish (Answered (bytes_answer offset count (shown size (cell_at f.1 i))) (Some m))) refl)
+reads_same size k c (Some m) slot.Ls on =
+    always_unless (Same (Some m)) (λ r. refl) ((c.refused, OutOfMemory) ∷ []) (Finish (Answered (Names (filter_map (λ f. f.name) m.files)) (Some m))) refl
+reads_same size k c (Some m) (slot.Stat name) on = always_value (Same (Some m)) (λ r. refl) (file_named m name) NoSuchFile (stat m) (λ f is. refl)
+reads_same size k c (Some m) slot.Df on = refl
+reads_same size k c (Some m) other on = cc
+
+module _ (s : State) where
+  event_reads : (e : Event) (reply : Reply) (t : State) → is_whole e ≡ true → IsEvent s e reply t → only_reads (step_of e) ≡ true → t.slots ≡ s.slots
+  event_reads (Tasks e) reply t whole is on = sym (ap (λ (q : Reply × State). q.1.slots) is.2)
+  event_reads (OnPool e) reply t whole is on = sym (ap (λ (q : Reply × State). q.1.slots) is.2)
+  event_reads (OnSlot k e) reply t whole is on =
+      let ends = event_ends (Same (slot_at s k)) s k e reply t (λ c. reads_same s.page_size k c (slot_at s k) e on) is in
+      ends.slots ∙ ap (λ n. slice_set s.slots k n) ends.holds ∙ set-get_or s.slots k None
+
+  pub step_reads : (reply : Reply) (t : State) (x : Step) → IsStep s x reply t → only_reads x ≡ true → t.slots ≡ s.slots
+  step_reads reply t x is =
+      by_event s (λ x reply t. only_reads x ≡ true → t.slots ≡ s.slots) (λ x r early on. refl) event_reads (λ parent child reply t it on. cc) (λ task reply t it on. cc) reply t x is

@@ -1,0 +1,109 @@
+-- The number of a new map is one that its task doesn't use, and where such a map is found.
+use Rattle.std.proofs.Common.{◌≡◌, ⊎_elim, inl, inr, ◌⊎◌, subst, ℕ, zero, suc, ◌+◌, ◌<◌, ◌≤◌, ◌||◌, ◌==◌, Bool, true}
+use Rattle.std.proofs.Common.{false, None, Option, Some, List, [], ◌∷◌, ◌++◌, length, option_map, add-one, not, refl, ap, arith, if◌then◌else◌}
+use Rattle.std.specs.List.{list_any, position_or_len, range_with_len, slice_set}
+use Rattle.std.proofs.lemmas.Bool.{eqb-true, false_from_ne_true, or_cases}
+use Rattle.hp_model.specs.Lists.{distinct, found, is_among, least_unused, one_on}
+use Rattle.hp_model.specs.files.MakeMap.{numbers_of}
+use Rattle.hp_model.specs.files.Mapping.{Map, is_map}
+use Rattle.hp_laws.proofs.counts.CopiesHeld.{fewer_members}
+
+-- ---- the least unused number
+
+distinct_few : (xs : List ℕ) → length (distinct xs) ≤ length xs
+distinct_few [] = omega arith
+distinct_few (x ∷ xs) = few_more (is_among x xs) (distinct_few xs)
+  where
+    few_more : (b : Bool) → length (distinct xs) ≤ length xs → length (if b then distinct xs else x ∷ distinct xs) ≤ suc (length xs)
+    few_more true l = omega (arith, l)
+    few_more false l = omega (arith, l)
+
+below_range : (q a k : ℕ) → q < a → is_among q (range_with_len a k) ≡ false
+below_range q a zero l = refl
+below_range q a (suc k) l = rw (false_from_ne_true (a == q) (λ e. (let same = eqb-true a q e in absurd (omega (arith, same, l)))), below_range q (a + 1) k (omega (arith, l))) refl
+
+distinct_range : (a k : ℕ) → length (distinct (range_with_len a k)) ≡ k
+distinct_range a zero = refl
+distinct_range a (suc k) = rw (below_range a (a + 1) k (omega arith)) (omega (arith, distinct_range (a + 1) k))
+
+-- the first number of the range that passes, or none passes
+abbrev FirstOrNone : (ℕ → Bool) → ℕ → List ℕ → Type 0
+FirstOrNone t a ns = (t (a + position_or_len t ns) ≡ true) ⊎ ((q : ℕ) → is_among q ns ≡ true → t q ≡ false)
+
+first_or_none : (t : ℕ → Bool) (a k : ℕ) → FirstOrNone t a (range_with_len a k)
+first_or_none t a zero = inr (λ q e. cc)
+first_or_none t a (suc k) = by_test (t a) refl (first_or_none t (a + 1) k)
+  where
+    by_test : (b : Bool) → t a ≡ b → FirstOrNone t (a + 1) (range_with_len (a + 1) k) → FirstOrNone t a (range_with_len a (suc k))
+    by_test true is rest = inl (rw is (subst (λ x. t x ≡ true) {x = a} {y = a + 0} (omega arith) is))
+    by_test false is (inl e) = inl (rw is (subst (λ x. t x ≡ true) {x = a + 1 + position_or_len t (range_with_len (a + 1) k)}
+        {y = a + (1 + position_or_len t (range_with_len (a + 1) k))} (omega arith) e))
+    by_test false is (inr none) = inr (λ q e. ⊎_elim (λ here. subst (λ x. t x ≡ false) (eqb-true a q here) is) (λ later. none q later) (or_cases (a == q) (is_among q (range_with_len (a + 1) k)) e))
+
+not_not : (b : Bool) → not b ≡ true → b ≡ false
+not_not true e = cc
+not_not false e = refl
+
+not_false : (b : Bool) → not b ≡ false → b ≡ true
+not_false true e = refl
+not_false false e = cc
+
+pub least_is_unused : (xs : List ℕ) → is_among (least_unused xs) xs ≡ false
+least_is_unused xs =
+    ⊎_elim (λ e. not_not (is_among (least_unused xs) xs) e)
+    (λ none. (let few = fewer_members (range_with_len 1 (length xs + 1)) xs (λ q e. not_false (is_among q xs) (none q e)) in
+    absurd (omega (arith, few, distinct_range 1 (length xs + 1), distinct_few xs))))
+    (first_or_none (λ n. not (is_among n xs)) 1 (length xs + 1))
+
+-- ---- maps of a task by their numbers
+
+pub number_used : (task n : ℕ) (ms : List Map) → list_any (is_map task n) ms ≡ is_among n (numbers_of task ms)
+number_used task n [] = refl
+number_used task n (m ∷ ms) = by_task (m.task == task) refl (number_used task n ms)
+  where
+    by_task : (b : Bool) → (m.task == task) ≡ b → list_any (is_map task n) ms ≡ is_among n (numbers_of task ms) → list_any (is_map task n) (m ∷ ms) ≡ is_among n (numbers_of task (m ∷ ms))
+    by_task true is rest = rw (is, rest) refl
+    by_task false is rest = rw (is, rest) refl
+
+-- ---- what is found after a change
+
+-- where none passes, the first does not, and none of the others
+none_first : (a b : Bool) → (a || b) ≡ false → a ≡ false
+none_first true b e = cc
+none_first false b e = refl
+
+none_later : (a b : Bool) → (a || b) ≡ false → b ≡ false
+none_later true b e = cc
+none_later false b e = e
+
+module _ {X : Type 0} (t : X → Bool) where
+  pub found_not : (xs : List X) → list_any t xs ≡ false → found t xs ≡ None
+  found_not [] none = refl
+  found_not (x ∷ xs) none = rw (none_first (t x) (list_any t xs) none, found_not xs (none_later (t x) (list_any t xs) none)) refl
+
+  pub found_last : (xs : List X) (y : X) → list_any t xs ≡ false → t y ≡ true → found t (xs ++ y ∷ []) ≡ Some (length xs, y)
+  found_last [] y none is = rw is refl
+  found_last (x ∷ xs) y none is = rw (none_first (t x) (list_any t xs) none, found_last xs y (none_later (t x) (list_any t xs) none) is)
+      (ap (λ (n : ℕ). Some (n, y)) {x = length xs + 1} {y = suc (length xs)} (omega arith))
+
+  -- one is put in the place of another, where none passes
+  pub found_put : (xs : List X) (k : ℕ) (y : X) → k < length xs → list_any t xs ≡ false → t y ≡ true → found t (slice_set xs k y) ≡ Some (k, y)
+  found_put [] k y l none is = absurd (omega (arith, l))
+  found_put (x ∷ xs) zero y l none is = rw is refl
+  found_put (x ∷ xs) (suc k) y l none is =
+      rw (none_first (t x) (list_any t xs) none, found_put xs k y (omega (arith, l)) (none_later (t x) (list_any t xs) none) is)
+      (ap (λ (n : ℕ). Some (n, y)) {x = k + 1} {y = suc k} (omega arith))
+
+  -- the one that was found is put again, and still passes
+  again_step : (x : X) (xs : List X) (q : ℕ × X) (y : X) → ((p : ℕ × X) → found t xs ≡ Some p → found t (slice_set xs p.0 y) ≡ Some (p.0, y)) → t y ≡ true
+      → (b : Bool) → t x ≡ b → (r : Option (ℕ × X)) → found t xs ≡ r → (if b then Some (0, x) else option_map one_on r) ≡ Some q → found t (slice_set (x ∷ xs) q.0 y) ≡ Some (q.0, y)
+  again_step x xs q y rest is true here r was e =
+      subst (λ (p : ℕ × X). found t (slice_set (x ∷ xs) p.0 y) ≡ Some (p.0, y)) (let same : (0, x) ≡ q = cc in same) (rw is refl)
+  again_step x xs q y rest is false here None was e = cc
+  again_step x xs q y rest is false here (Some p) was e =
+      subst (λ (p : ℕ × X). found t (slice_set (x ∷ xs) p.0 y) ≡ Some (p.0, y)) (let same : (p.0 + 1, p.1) ≡ q = cc in same)
+      (rw (add-one, here, rest p was) (ap (λ (n : ℕ). Some (n, y)) {x = p.0 + 1} {y = suc p.0} (omega arith)))
+
+  pub found_again : (xs : List X) (q : ℕ × X) (y : X) → found t xs ≡ Some q → t y ≡ true → found t (slice_set xs q.0 y) ≡ Some (q.0, y)
+  found_again [] q y e is = cc
+  found_again (x ∷ xs) q y e is = again_step x xs q y (λ p w. found_again xs p y w is) is (t x) refl (found t xs) refl e

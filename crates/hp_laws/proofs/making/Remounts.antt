@@ -1,0 +1,77 @@
+-- What a remount of an open slot answers and leaves, at the pool that stands.
+use Rattle.std.proofs.Common.{◌≡◌, subst, ℕ, ◌-◌, ◌==◌, Bool, true, false, Some, Result as ResultOf, Ok, List, refl, sym, ap, if◌then◌else◌, nat_lt}
+use Rattle.std.specs.List.{slice_set}
+use Rattle.std.proofs.lemmas.Bool.{cond_both}
+use Rattle.hp_model.specs.declared.event.Event.TheVariants.{Slot as OnSlot}
+use Rattle.hp_model.specs.declared.event.SlotEvent.TheVariants as slot
+use Rattle.hp_model.specs.declared.limits.Limits.{Limits}
+use Rattle.hp_model.specs.declared.refusal.Refusal.{Refusal}
+use Rattle.hp_model.specs.declared.refusal.Refusal.TheVariants.{SlotTaken}
+use Rattle.hp_model.specs.declared.section.PoolAnswer.{PoolAnswer}
+use Rattle.hp_model.specs.declared.section.Section.TheVariants.{ReadAndGiveBack, ReadAndGrant}
+use Rattle.hp_model.specs.files.File.{Mount}
+use Rattle.hp_model.specs.files.MountCounts.{committed_of}
+use Rattle.hp_model.specs.files.Options.{limits, wanted_of}
+use Rattle.hp_model.specs.machine.Event.{IsEvent, planned, settled}
+use Rattle.hp_model.specs.machine.Machine.{pool_of, with_pool}
+use Rattle.hp_model.specs.machine.Plan.{Answered, Outcome, Refused, Reply, Slot, refuse}
+use Rattle.hp_model.specs.machine.SlotEvent.{committed_with, remount_outcome, remount_section, slot_event}
+use Rattle.hp_model.specs.machine.State.{State, slot_at}
+use Rattle.hp_model.specs.pool.Grant.{can_grant}
+use Rattle.hp_model.specs.pool.Pool.{section}
+use Rattle.hp_model.specs.pool.PoolCounts.{Pool}
+use Rattle.hp_laws.specs.Balance.{left_by}
+use Rattle.hp_laws.proofs.steps.Outcomes.{reply_of}
+use Rattle.hp_laws.proofs.steps.SlotsBalanced.{remount_tells}
+use Rattle.hp_laws.proofs.sections.PoolTied.{settled_is}
+use Rattle.hp_laws.proofs.steps.Walk.{remounting}
+
+-- the reply is that of the outcome, and so is the slot that is left
+pub record EndsIn (s : State) (k : ℕ) (o : Outcome) (reply : Reply) (t : State) : Type 0 where
+  pub replied : reply ≡ reply_of o
+  pub slots : t.slots ≡ slice_set s.slots k (left_by (slot_at s k) o)
+
+settled_ends : (u : State) (k : ℕ) (o : Outcome) → EndsIn u k o (settled u k o).0 (settled u k o).1
+settled_ends u k (Refused r) = record { replied = refl; slots = ap (λ x. x.slots) (settled_is u k (Refused r)) }
+settled_ends u k (Answered a new) = record { replied = refl; slots = refl }
+
+module _ (s : State) (k : ℕ) (options : List ℕ) (m : Mount) where
+  abbrev pub wanted : ResultOf Limits Refusal
+  wanted = limits s.nr s.page_size (wanted_of options)
+
+  -- what the pool answers
+  abbrev pub remount_told : PoolAnswer
+  remount_told = (section (pool_of s) (remount_section m wanted)).0
+
+  abbrev pub remount_left : Outcome
+  remount_left = if k == 0 then Refused SlotTaken else remount_outcome m remount_told wanted
+
+  open_ends : EndsIn s k (remount_outcome m remount_told wanted) (planned s k (remounting s.page_size m options)).0 (planned s k (remounting s.page_size m options)).1
+  open_ends =
+      let q : PoolAnswer × Pool = section (pool_of s) (remount_section m wanted) in
+      let u : State = with_pool s q.1 in
+      let ends = λ (nr : ℕ). remount_outcome m q.0 (limits nr s.page_size (wanted_of options)) in
+      let nr : q.0.nr ≡ s.nr = remount_tells (pool_of s) m wanted in
+      let at = settled_ends u k (ends s.nr) in
+      subst (λ n. EndsIn s k (ends s.nr) (settled u k (ends n)).0 (settled u k (ends n)).1) (sym nr) (record { replied = at.replied; slots = at.slots })
+
+  pub remount_ends : slot_at s k ≡ Some m → (reply : Reply) (t : State) → IsEvent s (OnSlot k (slot.Remount options)) reply t → EndsIn s k remount_left reply t
+  remount_ends there reply t is =
+      subst (λ (q : Reply × State). EndsIn s k remount_left q.0 q.1)
+      (subst (λ (x : Slot). planned s k (slot_event s.page_size k is.0 x (slot.Remount options)) ≡ (reply, t)) there is.2) (by_test (k == 0))
+    where
+      by_test : (b : Bool)
+          → EndsIn s k (if b then Refused SlotTaken else remount_outcome m remount_told wanted)
+          (planned s k (if b then refuse SlotTaken else remounting s.page_size m options)).0 (planned s k (if b then refuse SlotTaken else remounting s.page_size m options)).1
+      by_test true = settled_ends s k (Refused SlotTaken)
+      by_test false = open_ends
+
+  -- it grants what the pool can commit; and giving back is never refused
+  pub told_granted : (l : Limits) → wanted ≡ Ok l → remount_told.granted ≡ false → can_grant (committed_with m l.min - committed_of m) (pool_of s) ≡ false
+  told_granted l is =
+      let less : ℕ = committed_of m - committed_with m l.min in
+      let more : ℕ = committed_with m l.min - committed_of m in
+      subst (λ (r : ResultOf Limits Refusal). (section (pool_of s) (remount_section m r)).0.granted ≡ false → can_grant more (pool_of s) ≡ false) (sym is)
+      (cond_both (nat_lt (committed_with m l.min) (committed_of m)) (ReadAndGiveBack less) (ReadAndGrant more)
+      (λ sec. (section (pool_of s) sec).0.granted ≡ false → can_grant more (pool_of s) ≡ false) (λ e no. cc)
+      (λ e. cond_both (can_grant more (pool_of s)) _ _ (λ (x : PoolAnswer × Pool). x.0.granted ≡ false → can_grant more (pool_of s) ≡ false) (λ can no. cc) (λ can no. can)))

@@ -1,0 +1,9 @@
+-- What a step answers, why it is refused, and what is promised of it.
+pub mod TestsDecide
+pub mod Shortage
+pub mod ChildsMaps
+pub mod Promised
+pub mod SmallReplies
+pub mod Answered
+pub mod Parents
+pub mod Listing

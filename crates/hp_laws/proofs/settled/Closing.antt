@@ -1,0 +1,264 @@
+-- What takes away leaves less to take.
+use Rattle.std.proofs.Common.{◌≡◌, ℕ, zero, suc, ◌+◌, ◌-◌, ◌*◌, ◌<◌, ◌≤◌, Bool, true, false, not, ◌||◌, ◌==◌, None, Some}
+use Rattle.std.proofs.Common.{Ok, Err, Option, List, [], ◌∷◌, length, map, cond, arith, refl, sym, ap, ◌∙◌, subst, nat_le}
+use Rattle.std.specs.Prelude.{is_some}
+use Rattle.std.specs.List.{filter, find, sum, slice_index_or, list_any}
+use Rattle.std.specs.Option.{option_map}
+use Rattle.std.proofs.lemmas.Bool.{cond_both, eqb-true, ltb-true, leb-false}
+use Rattle.std.proofs.lemmas.List.{length-map, length-append}
+use Rattle.std.proofs.lemmas.List.Sums.{sum_by-cons}
+use Rattle.hp_model.specs.declared.answer.Answer.TheVariants.{Done, Home}
+use Rattle.hp_model.specs.declared.entry.PoolEntry.{PoolEntry}
+use Rattle.hp_model.specs.declared.entry.PoolEntry.TheVariants.{OfPool, OfSlot}
+use Rattle.hp_model.specs.declared.event.PoolEvent.{PoolEvent}
+use Rattle.hp_model.specs.declared.event.PoolEvent.TheVariants.{Nr, Overcommit, Meminfo, Nodes}
+use Rattle.hp_model.specs.declared.event.SlotEvent.{SlotEvent}
+use Rattle.hp_model.specs.declared.event.SlotEvent.TheVariants as slot
+use Rattle.hp_model.specs.declared.event.TableEvent.{TableEvent}
+use Rattle.hp_model.specs.declared.event.TableEvent.TheVariants.{Add, Find, FindAndAdd, Remove}
+use Rattle.hp_model.specs.declared.refusal.Refusal.TheVariants.{NoSuchNode, NoSuchTask, TaskExists, TooMany, OutOfRange}
+use Rattle.hp_model.specs.declared.section.PoolAnswer.{PoolAnswer}
+use Rattle.hp_model.specs.declared.section.Section.TheVariants.{GiveBack, Grant, GrantPage, TakePage, ReadAndGiveBack, ReadAndGrant, GrantAndReturn, FillPages}
+use Rattle.hp_model.specs.files.File.{Mount, maps_of}
+use Rattle.hp_model.specs.files.GiveBack.{without_task}
+use Rattle.hp_model.specs.files.MakeMap.{tasks_of}
+use Rattle.hp_model.specs.files.Mapping.{Map, is_of}
+use Rattle.hp_model.specs.Lists.{distinct, is_among}
+use Rattle.hp_model.specs.machine.Event.{has_maps_of}
+use Rattle.hp_model.specs.machine.Plan.{Choice, Reply, Slot}
+use Rattle.hp_model.specs.machine.Settled.{IsSettledPool}
+use Rattle.hp_model.specs.machine.SlotEvent.{slot_event}
+use Rattle.hp_model.specs.machine.Table.{Table, added, home_of, is_crowded, is_known, or_refused, removed, table_event, when_known}
+use Rattle.hp_model.specs.pool.NodeRows.{frames_of, used as row_used}
+use Rattle.hp_model.specs.pool.Pool.{puts_from, released, settled}
+use Rattle.hp_model.specs.pool.PoolCounts.{Pool}
+use Rattle.hp_model.specs.pool.Resize.{pool_event, set_nr}
+use Rattle.hp_model.specs.Profile.{most_overcommit, most_tasks}
+use Rattle.hp_model.specs.threads.Closing.{GivesWhatIsInUse, IsInUse, KeepsPlaces, is_giving_back, removes_maps, removes_task, to_exit, to_return}
+use Rattle.hp_model.specs.threads.PoolRun.{IsPoolStep}
+use Rattle.hp_model.proofs.RowMoves.{same_frames, used_sum}
+use Rattle.hp_laws.specs.Balance.{Always, left_by}
+use Rattle.hp_laws.proofs.settled.FewTasks.{FewSlot, exit_fewer, slots_stay_few}
+use Rattle.hp_laws.proofs.steps.Outcomes.{always_weaker}
+use Rattle.hp_laws.proofs.sections.SectionFrames.{section_frames}
+use Rattle.hp_laws.proofs.sections.Sections.{gave_back, set_leads, total-le-frames}
+use Rattle.hp_laws.proofs.accesses.SlotShows.{always_gives}
+
+-- ---- the table
+
+abbrev Keeps : Table → Bool → Reply × Table → Type 0
+Keeps t is_one r = KeepsPlaces most_tasks (length t) (length r.1) is_one
+
+same_table : (t : Table) (r : Reply) → length t ≤ most_tasks → Keeps t false (r, t)
+same_table t r few = record { enough = few; less = λ e. cc }
+
+one_more : (t : Table) (task home : ℕ) → is_crowded t ≡ false → Keeps t false (Ok Done, added t task home)
+one_more t task home e = record { enough = (let l = leb-false most_tasks (length t) e in omega (arith, l, length-append t ((task, home) ∷ []))); less = λ e. cc }
+
+-- the last of the tests is that there is room
+adds : (t : Table) (task home : ℕ) → length t ≤ most_tasks → Keeps t false (or_refused ((is_known t task, TaskExists) ∷ (is_crowded t, TooMany) ∷ []) t (Ok Done, added t task home))
+adds t task home few =
+    cond_both (is_known t task) (Err TaskExists, t) (or_refused ((is_crowded t, TooMany) ∷ []) t (Ok Done, added t task home)) (Keeps t false) (λ e. same_table t (Err TaskExists) few)
+    (λ e. cond_both (is_crowded t) (Err TooMany, t) (Ok Done, added t task home) (Keeps t false) (λ e. same_table t (Err TooMany) few) (one_more t task home))
+
+no_longer : {X : Type 0} (p : X → Bool) (xs : List X) → length (filter p xs) ≤ length xs
+no_longer p [] = omega arith
+no_longer p (x ∷ xs) = cond_both (p x) (x ∷ filter p xs) (filter p xs) (λ ys. length ys ≤ suc (length xs))
+    (λ e. (let l = no_longer p xs in omega (arith, l))) (λ e. (let l = no_longer p xs in omega (arith, l)))
+
+-- where one passes, fewer do not
+shorter : {X Y : Type 0} (p : X → Bool) (f : X → Y) (xs : List X) → is_some (option_map f (find p xs)) ≡ true → length (filter (λ x. not (p x)) xs) < length xs
+shorter p f [] e = cc
+shorter p f (x ∷ xs) e = go (p x) (shorter p f xs) e
+  where
+    go : (b : Bool) → (is_some (option_map f (find p xs)) ≡ true → length (filter (λ x. not (p x)) xs) < length xs) → is_some (option_map f (cond b (Some x) (find p xs))) ≡ true
+        → length (cond (not b) (x ∷ filter (λ x. not (p x)) xs) (filter (λ x. not (p x)) xs)) < suc (length xs)
+    go true rest e = (let l = no_longer (λ x. not (p x)) xs in omega (arith, l))
+    go false rest e = (let l = rest e in omega (arith, l))
+
+pub table_places : (nodes : ℕ) (t : Table) (e : TableEvent) → length t ≤ most_tasks → Keeps t (removes_task t e) (table_event nodes t e)
+table_places nodes t (Add task home) few =
+    cond_both (nat_le nodes home) (Err NoSuchNode, t) (or_refused ((is_known t task, TaskExists) ∷ (is_crowded t, TooMany) ∷ []) t (Ok Done, added t task home)) (Keeps t false)
+    (λ e. same_table t (Err NoSuchNode) few) (λ e. adds t task home few)
+table_places nodes t (Find task) few = at (home_of t task)
+  where
+    at : (o : Option ℕ) → Keeps t false (when_known t o (λ home. (Ok (Home home), t)))
+    at None = same_table t (Err NoSuchTask) few
+    at (Some home) = same_table t (Ok (Home home)) few
+table_places nodes t (FindAndAdd parent child) few = at (home_of t parent)
+  where
+    at : (o : Option ℕ) → Keeps t false (when_known t o (λ home. or_refused ((is_known t child, TaskExists) ∷ (is_crowded t, TooMany) ∷ []) t (Ok Done, added t child home)))
+    at None = same_table t (Err NoSuchTask) few
+    at (Some home) = adds t child home few
+table_places nodes t (Remove task) few = at (home_of t task) refl
+  where
+    at : (o : Option ℕ) → home_of t task ≡ o → Keeps t (is_some o) (when_known t o (λ home. (Ok Done, removed t task)))
+    at None is = same_table t (Err NoSuchTask) few
+    at (Some home) is =
+        let less = shorter {X = ℕ × ℕ} (λ e. e.0 == task) (λ e. e.1) t (ap is_some is) in
+        record { enough = omega (arith, less, few); less = λ e. less }
+
+-- ---- a slot
+
+few_of : (s : Slot) → to_exit s ≤ most_tasks → FewSlot s
+few_of None l = tt
+few_of (Some m) l = l
+
+enough_of : (s : Slot) → FewSlot s → to_exit s ≤ most_tasks
+enough_of None f = omega arith
+enough_of (Some m) f = f
+
+or_true : (a b : Bool) → b ≡ true → (a || b) ≡ true
+or_true true b e = refl
+or_true false b e = e
+
+or_else : (a b c : Bool) → (b ≡ true → c ≡ true) → (a || b) ≡ true → (a || c) ≡ true
+or_else true b c h e = refl
+or_else false b c h e = h e
+
+in_distinct : (q : ℕ) (xs : List ℕ) → is_among q xs ≡ true → is_among q (distinct xs) ≡ true
+in_distinct q [] e = e
+in_distinct q (x ∷ xs) e =
+    cond_both (is_among x xs) (distinct xs) (x ∷ distinct xs) (λ (l : List ℕ). is_among q l ≡ true) (λ t. in_distinct q xs (hidden (x == q) refl e t))
+    (λ t. or_else (x == q) (is_among q xs) (is_among q (distinct xs)) (in_distinct q xs) e)
+  where
+    hidden : (b : Bool) → (x == q) ≡ b → (b || is_among q xs) ≡ true → is_among x xs ≡ true → is_among q xs ≡ true
+    hidden true is e t = subst (λ n. is_among n xs ≡ true) (eqb-true x q is) t
+    hidden false is e t = e
+
+has_task : (q : ℕ) (xs : List Map) → list_any (is_of q) xs ≡ true → is_among q (map (λ (x : Map). x.task) xs) ≡ true
+has_task q [] e = e
+has_task q (x ∷ xs) e = or_else (x.task == q) (list_any (is_of q) xs) (is_among q (map (λ (x : Map). x.task) xs)) (has_task q xs) e
+
+leaves_few : (size k : ℕ) (c : Choice) (old : Slot) (e : SlotEvent) → to_exit old ≤ most_tasks → removes_maps old e ≡ false
+    → Always (λ o. KeepsPlaces most_tasks (to_exit old) (to_exit (left_by old o)) (removes_maps old e)) (slot_event size k c old e)
+leaves_few size k c old e few other =
+    always_weaker (λ o. FewSlot (left_by old o)) (λ o. KeepsPlaces most_tasks (to_exit old) (to_exit (left_by old o)) (removes_maps old e))
+    (λ o f. record { enough = enough_of (left_by old o) f; less = λ t. absurd (let no : true ≡ false = sym t ∙ other in cc) }) (slot_event size k c old e)
+    (slots_stay_few size k c old e (few_of old few))
+
+exit_places : (size k : ℕ) (c : Choice) (m : Mount) (task : ℕ) → length (tasks_of m) ≤ most_tasks → (b : Bool) → has_maps_of task (Some m) ≡ b
+    → Always (λ o. KeepsPlaces most_tasks (to_exit (Some m)) (to_exit (left_by (Some m) o)) (has_maps_of task (Some m))) (slot_event size k c (Some m) (slot.ExitMaps task))
+exit_places size k c m task few false is = leaves_few size k c (Some m) (slot.ExitMaps task) few is
+exit_places size k c m task few true is =
+    let less = exit_fewer task m (in_distinct task (map (λ (x : Map). x.task) (maps_of m)) (has_task task (maps_of m) is)) in
+    always_gives (λ o. KeepsPlaces most_tasks (to_exit (Some m)) (to_exit (left_by (Some m) o)) (has_maps_of task (Some m))) Done (Some m) (Some (without_task task m))
+    (record { enough = omega (arith, less, few); less = λ e. less })
+
+pub slot_places : (size k : ℕ) (c : Choice) (old : Slot) (e : SlotEvent) → to_exit old ≤ most_tasks
+    → Always (λ o. KeepsPlaces most_tasks (to_exit old) (to_exit (left_by old o)) (removes_maps old e)) (slot_event size k c old e)
+slot_places size k c (Some m) (slot.ExitMaps task) few = exit_places size k c m task few (has_maps_of task (Some m)) refl
+slot_places size k c None (slot.ExitMaps task) few = leaves_few size k c None (slot.ExitMaps task) few refl
+slot_places size k c old (slot.Mount options) few = leaves_few size k c old (slot.Mount options) few refl
+slot_places size k c old (slot.Remount options) few = leaves_few size k c old (slot.Remount options) few refl
+slot_places size k c old slot.Umount few = leaves_few size k c old slot.Umount few refl
+slot_places size k c old (slot.Create name) few = leaves_few size k c old (slot.Create name) few refl
+slot_places size k c old (slot.Unlink name) few = leaves_few size k c old (slot.Unlink name) few refl
+slot_places size k c old (slot.Truncate name n) few = leaves_few size k c old (slot.Truncate name n) few refl
+slot_places size k c old (slot.Punch name a b) few = leaves_few size k c old (slot.Punch name a b) few refl
+slot_places size k c old (slot.Preallocate name a b) few = leaves_few size k c old (slot.Preallocate name a b) few refl
+slot_places size k c old (slot.Read name i offset count) few = leaves_few size k c old (slot.Read name i offset count) few refl
+slot_places size k c old slot.Ls few = leaves_few size k c old slot.Ls few refl
+slot_places size k c old (slot.Stat name) few = leaves_few size k c old (slot.Stat name) few refl
+slot_places size k c old slot.Df few = leaves_few size k c old slot.Df few refl
+slot_places size k c old (slot.Map task home name a n sharing reserving) few = leaves_few size k c old (slot.Map task home name a n sharing reserving) few refl
+slot_places size k c old (slot.Anon task home n sharing reserving) few = leaves_few size k c old (slot.Anon task home n sharing reserving) few refl
+slot_places size k c old (slot.Unmap task number a b) few = leaves_few size k c old (slot.Unmap task number a b) few refl
+slot_places size k c old (slot.Fault task home number i intent) few = leaves_few size k c old (slot.Fault task home number i intent) few refl
+slot_places size k c old (slot.Load task home number i offset count) few = leaves_few size k c old (slot.Load task home number i offset count) few refl
+slot_places size k c old (slot.Store task home number i offset bytes) few = leaves_few size k c old (slot.Store task home number i offset bytes) few refl
+slot_places size k c old (slot.ForkMaps parent child) few = leaves_few size k c old (slot.ForkMaps parent child) few refl
+
+-- ---- the pool
+
+pub most_return : (p : Pool) → IsSettledPool p → to_return p ≤ 2 * frames_of p.nodes.rows
+most_return p s =
+    let total = s.total in
+    let used = s.used in
+    let le = total-le-frames p.nodes.rows s.rows in
+    omega (arith, le, total, used)
+
+-- what is left of each
+abbrev minus : List ℕ → List ℕ → List ℕ
+minus [] ps = []
+minus (u ∷ us) [] = u ∷ us
+minus (u ∷ us) (p ∷ ps) = (u - p) ∷ minus us ps
+
+long : (us ps : List ℕ) → length (minus us ps) ≡ length us
+long [] ps = refl
+long (u ∷ us) [] = refl
+long (u ∷ us) (p ∷ ps) = ap suc (long us ps)
+
+nothing : (n : ℕ) → ◌≡◌ {A = ℕ} (slice_index_or [] n 0) 0
+nothing zero = refl
+nothing (suc n) = refl
+
+abbrev Within : List ℕ → List ℕ → Type 0
+Within ps us = (n : ℕ) → slice_index_or ps n 0 ≤ slice_index_or us n 0
+
+behind : (p u : ℕ) (ps us : List ℕ) → Within (p ∷ ps) (u ∷ us) → Within ps us
+behind p u ps us within n = within (suc n)
+
+each : (us ps : List ℕ) → Within ps us → (n : ℕ) → n < length us → slice_index_or (minus us ps) n 0 + slice_index_or ps n 0 ≡ slice_index_or us n 0
+each [] ps within n l = absurd (omega (arith, l))
+each (u ∷ us) [] within n l = omega (arith, nothing n)
+each (u ∷ us) (p ∷ ps) within zero l = (let le = within 0 in omega (arith, le))
+each (u ∷ us) (p ∷ ps) within (suc n) l = each us ps (behind p u ps us within) n (omega (arith, l))
+
+none : (ps : List ℕ) → Within ps [] → sum ps ≡ 0
+none [] within = refl
+none (p ∷ ps) within = (let here = within 0 in let rest = none ps (λ n. within (suc n)) in omega (arith, sum_by-cons (λ x. x) p ps, here, rest))
+
+sums : (us ps : List ℕ) → Within ps us → sum (minus us ps) + sum ps ≡ sum us
+sums [] ps within = omega (arith, none ps within)
+sums (u ∷ us) [] within = omega arith
+sums (u ∷ us) (p ∷ ps) within =
+    let le = within 0 in
+    let rest = sums us ps (behind p u ps us within) in
+    omega (arith, sum_by-cons (λ x. x) p ps, sum_by-cons (λ x. x) u us, sum_by-cons (λ x. x) (u - p) (minus us ps), le, rest)
+
+given_less : (puts : List ℕ) (k : ℕ) (p q : Pool) → IsSettledPool p → IsInUse puts k p → q ≡ settled (released k (puts_from 0 puts p)) → 0 < sum puts + k → to_return q < to_return p
+given_less puts k p q s held is some =
+    let us : List ℕ = map row_used p.nodes.rows in
+    let parts = sums us puts held.pages in
+    let uses = used_sum p.nodes.rows s.rows in
+    let covered = held.committed in
+    let gave = gave_back puts k (minus us puts) p s (long us puts ∙ length-map p.nodes.rows row_used)
+    (λ n l. each us puts held.pages n (omega (arith, l, length-map p.nodes.rows row_used))) (omega (arith, parts, uses, covered)) in
+    let after = used_sum (settled (released k (puts_from 0 puts p))).nodes.rows gave.settled.rows in
+    let same = ap sum gave.is_used in
+    let left = gave.is_committed in
+    let less : to_return (settled (released k (puts_from 0 puts p))) < to_return p = omega (arith, parts, uses, covered, after, same, left, some) in
+    subst (λ (x : Pool). to_return x < to_return p) (sym is) less
+
+event_frames : (p : Pool) (e : PoolEvent) → IsSettledPool p → frames_of (pool_event p e).1.nodes.rows ≡ frames_of p.nodes.rows
+event_frames p (Nr n) s = same_frames (set_nr n p).nodes.rows p.nodes.rows (set_leads n p s).frames
+event_frames p (Overcommit n) s =
+    cond_both (nat_le n most_overcommit) (Ok Done, record p { overcommit = n }) (Err OutOfRange, p) (λ (x : Reply × Pool). frames_of x.1.nodes.rows ≡ frames_of p.nodes.rows) (λ e. refl) (λ e. refl)
+event_frames p Meminfo s = refl
+event_frames p Nodes s = refl
+
+pub step_frames : (p q : Pool) (e : PoolEntry) → IsSettledPool p → IsPoolStep p e q → frames_of q.nodes.rows ≡ frames_of p.nodes.rows
+step_frames p q (OfSlot sec a) s step = section_frames p sec a q step
+step_frames p q (OfPool e r) s step = ap (λ (x : Reply × Pool). frames_of x.1.nodes.rows) (sym step) ∙ event_frames p e s
+
+pub pool_places : (p q : Pool) (e : PoolEntry) → IsSettledPool p → IsSettledPool q → IsPoolStep p e q → GivesWhatIsInUse p e
+    → KeepsPlaces (2 * frames_of p.nodes.rows) (to_return p) (to_return q) (is_giving_back e) × (frames_of q.nodes.rows ≡ frames_of p.nodes.rows)
+pool_places p q e s then step held = (
+  record {
+    enough = (let most = most_return q then in let same = step_frames p q e s step in omega (arith, most, same));
+    less = less e step held;
+  },
+  step_frames p q e s step,
+)
+  where
+    less : (e : PoolEntry) → IsPoolStep p e q → GivesWhatIsInUse p e → is_giving_back e ≡ true → to_return q < to_return p
+    less (OfSlot (GiveBack puts k) a) step held t = given_less puts k p q s held (sym (ap (λ (x : PoolAnswer × Pool). x.1) step)) (ltb-true 0 (sum puts + k) t)
+    less (OfSlot (Grant home d) a) step held t = cc
+    less (OfSlot (GrantPage home d) a) step held t = cc
+    less (OfSlot (TakePage home) a) step held t = cc
+    less (OfSlot (FillPages d n) a) step held t = cc
+    less (OfSlot (ReadAndGrant d) a) step held t = cc
+    less (OfSlot (ReadAndGiveBack k) a) step held t = cc
+    less (OfSlot (GrantAndReturn d) a) step held t = cc
+    less (OfPool e r) step held t = cc

@@ -1,0 +1,73 @@
+-- What holds of each mount that a change leaves holds of each that an event leaves.
+use Rattle.std.proofs.Common.{◌≡◌, ℕ, false, Some, None, is_some, List, [], ◌∷◌}
+use Rattle.hp_model.specs.declared.answer.Answer.TheVariants.{Done, MapNo}
+use Rattle.hp_model.specs.declared.step.Intent.{Intent}
+use Rattle.hp_model.specs.declared.step.Intent.TheVariants.{Read}
+use Rattle.hp_model.specs.declared.step.Reserving.{Reserving}
+use Rattle.hp_model.specs.declared.step.Sharing.{Sharing}
+use Rattle.hp_model.specs.files.File.{File, Mount, new_file, with_file}
+use Rattle.hp_model.specs.files.Fill.{lacking, range_filled, rising_nodes}
+use Rattle.hp_model.specs.files.Fork.{forked}
+use Rattle.hp_model.specs.files.GiveBack.{punched, swept, truncated, unlinked, unmapped_from, without_task}
+use Rattle.hp_model.specs.files.MakeMap.{asked, mapped, next_number, with_new}
+use Rattle.hp_model.specs.declared.refusal.Refusal.TheVariants.{MountFull, OutOfMemory}
+use Rattle.hp_model.specs.pool.Grant.{is_full, rise}
+use Rattle.hp_model.specs.machine.Plan.{Answered, Choice, gives}
+use Rattle.hp_model.specs.machine.SlotEvent.{byte_access, bytes_answer, fault, file_named, store, unentered}
+use Rattle.hp_model.specs.files.Spot.{Spot, again}
+use Rattle.hp_model.specs.files.Value.{value}
+use Rattle.hp_laws.specs.Balance.{Always}
+use Rattle.hp_laws.proofs.counts.MountMoves.{IsFileAt, IsSpot}
+use Rattle.hp_laws.proofs.steps.Outcomes.{always_then}
+use Rattle.hp_laws.proofs.accesses.Shown.{On, on_follows}
+use Rattle.hp_laws.proofs.accesses.SlotShows.{always_fill, always_gives, always_grant}
+use Rattle.hp_laws.proofs.steps.Walk.{Walks}
+
+module _ (size slot : ℕ) (c : Choice) (m : Mount) (Q : Mount → Type 0) where
+  -- each change that an event makes leaves it so
+  pub record Leaves : Type 0 where
+    pub same : Q m
+    pub creates : (name : List ℕ) → is_some (file_named m name) ≡ false → Q (with_new m (new_file (Some name)))
+    pub unlinks : (q : ℕ × File) → IsFileAt m q.0 q.1 → Q (swept (with_file m q.0 (unlinked q.1)))
+    pub truncates : (n : ℕ) (q : ℕ × File) → IsFileAt m q.0 q.1 → Q (swept (with_file m q.0 (truncated n q.1)))
+    pub punches : (a b : ℕ) (q : ℕ × File) → IsFileAt m q.0 q.1 → Q (swept (with_file m q.0 (punched a b q.1)))
+    pub fills : (a b : ℕ) (pages : List ℕ) (q : ℕ × File) → IsFileAt m q.0 q.1 → Q (with_file m q.0 (range_filled size a b (rising_nodes (lacking a b q.1) pages) q.1))
+    pub maps : (task a n : ℕ) (sharing : Sharing) (reserving : Reserving) (q : ℕ × File) → IsFileAt m q.0 q.1
+        → Q (with_file m q.0 (mapped task (next_number task m) a n sharing reserving q.1))
+    pub anons : (task n : ℕ) (sharing : Sharing) (reserving : Reserving) → Q (with_new m (mapped task (next_number task m) 0 n sharing reserving (new_file None)))
+    pub unmaps : (task number a b : ℕ) → Q (unmapped_from task number a b m)
+    pub forks : (parent child : ℕ) → Q (forked parent child m)
+    pub exits : (task : ℕ) → Q (without_task task m)
+    pub faults : (s : Spot) → IsSpot m s → (home i : ℕ) (intent : Intent) → Always (On Q) (fault c size m home i intent s)
+    pub reads : (s : Spot) → IsSpot m s → (home i offset count : ℕ) → Always (On Q) (byte_access c size m home i offset count Read s)
+    pub stores : (s : Spot) → IsSpot m s → (home i offset : ℕ) (bytes : List ℕ) → Always (On Q) (store c size m home i offset bytes s)
+
+  gives_on : (n : Mount) → Q n → Always (On Q) (gives Done (Some m) (Some n))
+  gives_on n h = always_gives (On Q) Done (Some m) (Some n) h
+
+  pub leaves_walk : Leaves → Walks size slot c m (Always (On Q))
+  leaves_walk leaves = record {
+    refuses = λ r. tt;
+    same = λ a. leaves.same;
+    creates = leaves.creates;
+    unlinks = λ q at. gives_on (swept (with_file m q.0 (unlinked q.1))) (leaves.unlinks q at);
+    truncates = λ n q at. gives_on (swept (with_file m q.0 (truncated n q.1))) (leaves.truncates n q at);
+    punches = λ a b q at. gives_on (swept (with_file m q.0 (punched a b q.1))) (leaves.punches a b q at);
+    fills = λ a b q at.
+        always_fill (On Q) (λ r. tt) ((is_full m (unentered a b q.1), MountFull) ∷ (c.refused, OutOfMemory) ∷ []) (rise m (unentered a b q.1)) (lacking a b q.1)
+        (λ pages. Answered Done (Some (with_file m q.0 (range_filled size a b (rising_nodes (lacking a b q.1) pages) q.1)))) (λ pages. leaves.fills a b pages q at);
+    maps = λ task home a n sharing reserving q at.
+        always_grant (On Q) (λ r. tt) c m home (asked sharing reserving a n q.1)
+        (Answered (MapNo (next_number task m)) (Some (with_file m q.0 (mapped task (next_number task m) a n sharing reserving q.1)))) (leaves.maps task a n sharing reserving q at);
+    anons = λ task home n sharing reserving.
+        always_grant (On Q) (λ r. tt) c m home (asked sharing reserving 0 n (new_file None))
+        (Answered (MapNo (next_number task m)) (Some (with_new m (mapped task (next_number task m) 0 n sharing reserving (new_file None))))) (leaves.anons task n sharing reserving);
+    unmaps = λ task number a b. gives_on (unmapped_from task number a b m) (leaves.unmaps task number a b);
+    forks = λ parent child. gives_on (forked parent child m) (leaves.forks parent child);
+    exits = λ task. gives_on (without_task task m) (leaves.exits task);
+    faults = leaves.faults;
+    loads = λ s at home i offset count.
+        (let answer = λ (n : Mount). Answered (bytes_answer offset count (value size (again n s).file (again n s).map i)) (Some n) in
+        always_then (On Q) (On Q) answer (on_follows Q Q answer (λ n h. h)) (byte_access c size m home i offset count Read s) (leaves.reads s at home i offset count));
+    stores = leaves.stores;
+  }

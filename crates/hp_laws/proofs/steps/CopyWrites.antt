@@ -1,0 +1,286 @@
+-- A write into a copy that other maps hold too: a copy of its own, or the owner takes the copy back.
+use Rattle.std.proofs.Common.{◌≡◌, ⊎_elim, inl, inr, ◌⊎◌, subst, ℕ, ◌-◌, ◌<◌, Bool, true, false, ◌&&◌, ◌||◌, ◌==◌}
+use Rattle.std.proofs.Common.{not, None, Some, List, [], ◌∷◌, length, map, refl, sym, ap, ◌∙◌, cond, arith, if◌then◌else◌}
+use Rattle.std.specs.List.{list_any, slice_index_or, count_by}
+use Rattle.std.proofs.lemmas.List.{length-map, get_or-map}
+use Rattle.std.proofs.lemmas.Bool.{or_left, or_right, true_from_ne_false, both_ways, eq-eqb, eqb-true, and_from, and_parts, and_right, or_cases}
+use Rattle.std.proofs.lemmas.List.Folds.{list_any_at}
+use Rattle.std.proofs.lemmas.List.Sums.{sum_by-set}
+use Rattle.hp_model.specs.files.CopyWrite.{is_held_once, robbed, drop_stamp, holds}
+use Rattle.hp_model.specs.files.File.{with_map, has_page, File}
+use Rattle.hp_model.specs.Lists.{is_among, edit_at}
+use Rattle.hp_model.specs.files.Mapping.{with_place, without_copy, Map, place_at, is_unconsumed}
+use Rattle.hp_model.specs.files.MountCounts.{owner_reserves, stamps_of, is_waiting, is_page_at}
+use Rattle.hp_model.specs.files.Page.{overwritten, Page, Copy}
+use Rattle.hp_model.specs.machine.Sound.{place_has, map_has, file_has, is_stamp}
+use Rattle.hp_model.specs.files.Spot.{cell_written, place_written, map_written}
+use Rattle.hp_model.specs.declared.cell.Cell.{Cell}
+use Rattle.hp_model.specs.declared.cell.Cell.TheVariants.{Hole, Entered, Present}
+use Rattle.hp_model.specs.declared.place.Place.{Place}
+use Rattle.hp_model.specs.declared.place.Place.TheVariants.{Gone, Live}
+use Rattle.hp_laws.proofs.counts.FileMoves.{or_false, FileGrows, IsMapAt, IsLiveAt, live_at, reserves_step, same_owed, held_in, maps_count, none_held, agreed_test, spent}
+use Rattle.hp_laws.proofs.counts.CopiesHeld.{is_stamp_at, IsAgreed, stamps_grow, stamps_at_grow, stamps_stay, stamps_at_stay, weaker}
+use Rattle.hp_laws.proofs.lists.Places.{any_two, any_unset, any_set_up, any_set_at, any_map_up, any_map_down, any_either, any_of_set, sum_by-map_same, any_edit_at, sum_by-edit_at}
+use Rattle.hp_laws.proofs.lists.AtMostOne.{bit}
+
+the_other : (a b c : Bool) → c ≡ (a || b) → (a ≡ true → b ≡ true) → b ≡ c
+the_other true b c e h = h refl ∙ sym e
+the_other false b c e h = sym e
+
+module _ (f : File) (k : ℕ) (m : Map) (i : ℕ) (c : Bool) (old new : Copy) (here : IsMapAt f k m) (is : place_at m i ≡ Live c (Some old)) where
+  abbrev rest : File
+  rest = with_map f k (with_place m i (Live c None))
+
+  abbrev after : File
+  after = with_map f k (with_place m i (Live c (Some new)))
+
+  at : IsLiveAt m i c (Some old)
+  at = live_at m i c (Some old) is
+
+  rest_has : (t : ℕ → ℕ → Bool) → file_has t f ≡ (t old.stamp old.page.node || file_has t rest)
+  rest_has t =
+      any_unset (map_has t) (t old.stamp old.page.node) f.maps k (with_place m i (Live c None)) m here.within
+      (ap (map_has t) (here.is m) ∙ any_unset (place_has t) (t old.stamp old.page.node) m.places (i - m.start) (Live c None) Gone at.within
+      (ap (place_has t) at.is ∙ or_false (t old.stamp old.page.node)))
+
+  after_has : (t : ℕ → ℕ → Bool) → file_has t after ≡ (t new.stamp new.page.node || file_has t rest)
+  after_has t =
+      any_two (map_has t) (t new.stamp new.page.node) f.maps k (with_place m i (Live c (Some new))) (with_place m i (Live c None)) here.within
+      (any_two (place_has t) (t new.stamp new.page.node) m.places (i - m.start) (Live c (Some new)) (Live c None) at.within (or_false (t new.stamp new.page.node)))
+
+  held_still : is_held_once f old.stamp ≡ false → file_has (is_stamp old.stamp) rest ≡ true
+  held_still more =
+      true_from_ne_false (file_has (is_stamp old.stamp) rest)
+      (λ none. (let q : ℕ = old.stamp in
+      let zero_left = none_held q rest.maps none in
+      let total = maps_count q f.maps in
+      let maps = sum_by-set (held_in q) f.maps k (with_place m i (Live c None)) m here.within in
+      let was = ap (held_in q) (here.is m) in
+      let places = sum_by-set (λ (p : Place Copy). cond (place_has (is_stamp q) p) 1 0) m.places (i - m.start) (Live c None) Gone at.within in
+      let share = ap (λ (p : Place Copy). bit (place_has (is_stamp q) p)) at.is in
+      let one = ap bit (eq-eqb q q refl) in
+      let once : count_by (λ n. n == q) (stamps_of f) ≡ 1 = omega (arith, zero_left, total, maps, was, places, share, one) in
+      both_ways (is_held_once f old.stamp) more (eq-eqb (count_by (λ n. n == q) (stamps_of f)) 1 once)))
+
+  same_rest : IsAgreed f → is_held_once f old.stamp ≡ false → (t : ℕ → ℕ → Bool) → file_has t rest ≡ file_has t f
+  same_rest agreed more t =
+      the_other (t old.stamp old.page.node) (file_has t rest) (file_has t f) (rest_has t)
+      (λ passes. agreed_test t old.stamp old.page.node f rest agreed (λ u e. rest_has u ∙ or_right (u old.stamp old.page.node) _ e)
+      (rest_has (is_stamp_at old.page.node old.stamp) ∙ or_left (is_stamp_at old.page.node old.stamp old.stamp old.page.node) _
+      (and_from (old.page.node == old.page.node) (old.stamp == old.stamp) (eq-eqb old.page.node old.page.node refl) (eq-eqb old.stamp old.stamp refl)))
+      (held_still more) passes)
+
+  -- a copy of its own, by a grant
+  pub copy_parts : IsAgreed f → is_held_once f old.stamp ≡ false → is_among new.stamp (stamps_of f) ≡ false → FileGrows f (with_map f k (with_place m i (Live c (Some new)))) new.page.node 1 1
+  copy_parts agreed more fresh =
+      let has = λ (t : ℕ → ℕ → Bool). after_has t ∙ ap (λ b. t new.stamp new.page.node || b) (same_rest agreed more t) in
+      let stamps = stamps_grow new.stamp new.page.node f after has fresh in
+      let reserves = reserves_step f k m i c c (Some old) (Some new) here at in
+      let same = same_owed m c (Some old) (Some new) in
+      record {
+        pages = omega (arith, stamps);
+        usage = omega (arith, stamps, reserves, same);
+        each = λ n. omega (arith, stamps_at_grow n new.stamp new.page.node f after has fresh);
+      }
+
+-- ---- the owner takes the copy back
+
+dropped_down : (t : ℕ → ℕ → Bool) (b : Bool) (p : Place Copy) → place_has t (if b then without_copy p else p) ≡ true → place_has t p ≡ true
+dropped_down t true Gone e = e
+dropped_down t true (Live c o) e = cc
+dropped_down t false p e = e
+
+robbed_if : (t : ℕ → ℕ → Bool) (stamp : ℕ) (b : Bool) (m : Map) → map_has t (if b then record m { unmapped = true; places = map (drop_stamp stamp) m.places } else m) ≡ true → map_has t m ≡ true
+robbed_if t stamp true m e = any_map_down (place_has t) (place_has t) (drop_stamp stamp) (λ p. dropped_down t (holds stamp p) p) m.places e
+robbed_if t stamp false m e = e
+
+robbed_down : (t : ℕ → ℕ → Bool) (stamp : ℕ) (m : Map) → map_has t (robbed stamp m) ≡ true → map_has t m ≡ true
+robbed_down t stamp m e = robbed_if t stamp (list_any (holds stamp) m.places) m e
+
+-- tests of other stamps
+abbrev but : ℕ → (ℕ → ℕ → Bool) → ℕ → ℕ → Bool
+but stamp t s n = t s n && not (s == stamp)
+
+abbrev only : ℕ → (ℕ → ℕ → Bool) → ℕ → ℕ → Bool
+only stamp t s n = t s n && (s == stamp)
+
+kept_if : (q : ℕ → ℕ → Bool) (c : Bool) (copy : Copy) (b : Bool) → (b ≡ true → q copy.stamp copy.page.node ≡ false) →
+    q copy.stamp copy.page.node ≡ true → place_has q (if b then Live c None else Live c (Some copy)) ≡ true
+kept_if q c copy true h e = absurd (both_ways (q copy.stamp copy.page.node) (h refl) e)
+kept_if q c copy false h e = e
+
+kept_place : (t : ℕ → ℕ → Bool) (stamp : ℕ) (p : Place Copy) → place_has (but stamp t) p ≡ true → place_has (but stamp t) (drop_stamp stamp p) ≡ true
+kept_place t stamp Gone e = e
+kept_place t stamp (Live c None) e = e
+kept_place t stamp (Live c (Some copy)) e =
+    kept_if (but stamp t) c copy (copy.stamp == stamp) (λ is. and_right (t copy.stamp copy.page.node) (not (copy.stamp == stamp)) (ap not is)) e
+
+kept_map : (t : ℕ → ℕ → Bool) (stamp : ℕ) (b : Bool) (m : Map) → map_has (but stamp t) m ≡ true
+    → map_has (but stamp t) (if b then record m { unmapped = true; places = map (drop_stamp stamp) m.places } else m) ≡ true
+kept_map t stamp true m e = any_map_up (place_has (but stamp t)) (place_has (but stamp t)) (drop_stamp stamp) (kept_place t stamp) m.places e
+kept_map t stamp false m e = e
+
+robbed_keeps : (t : ℕ → ℕ → Bool) (stamp : ℕ) (m : Map) → map_has (but stamp t) m ≡ true → map_has (but stamp t) (robbed stamp m) ≡ true
+robbed_keeps t stamp m e = kept_map t stamp (list_any (holds stamp) m.places) m e
+
+-- either the stamp or another passes
+which_stamp : (a b : Bool) → a ≡ true → ((a && not b) ≡ true) ⊎ ((a && b) ≡ true)
+which_stamp true true e = inr refl
+which_stamp true false e = inl refl
+which_stamp false b e = cc
+
+which_place : (t : ℕ → ℕ → Bool) (stamp : ℕ) (p : Place Copy) → place_has t p ≡ true → (place_has (but stamp t) p ≡ true) ⊎ (place_has (only stamp t) p ≡ true)
+which_place t stamp Gone e = inl e
+which_place t stamp (Live c None) e = inl e
+which_place t stamp (Live c (Some copy)) e = which_stamp (t copy.stamp copy.page.node) (copy.stamp == stamp) e
+
+which : (t : ℕ → ℕ → Bool) (stamp : ℕ) (f : File) → file_has t f ≡ true → (file_has (but stamp t) f ≡ true) ⊎ (file_has (only stamp t) f ≡ true)
+which t stamp f e =
+    any_either (map_has t) (map_has (but stamp t)) (map_has (only stamp t))
+    (λ m. any_either (place_has t) (place_has (but stamp t)) (place_has (only stamp t)) (which_place t stamp) m.places) f.maps e
+
+-- a copy that passes
+pub record Holds (t : ℕ → ℕ → Bool) (has : (ℕ → ℕ → Bool) → Bool) : Type 0 where
+  pub stamp : ℕ
+  pub node : ℕ
+  pub passes : t stamp node ≡ true
+  pub held : has (is_stamp_at node stamp) ≡ true
+
+place_some : (t : ℕ → ℕ → Bool) (p : Place Copy) → place_has t p ≡ true → Holds t (λ u. place_has u p)
+place_some t Gone e = cc
+place_some t (Live c None) e = cc
+place_some t (Live c (Some copy)) e = record {
+  stamp = copy.stamp;
+  node = copy.page.node;
+  passes = e;
+  held = and_from (copy.page.node == copy.page.node) (copy.stamp == copy.stamp) (eq-eqb copy.page.node copy.page.node refl) (eq-eqb copy.stamp copy.stamp refl);
+}
+
+any_some : {X : Type 0} (t : ℕ → ℕ → Bool) (has : (ℕ → ℕ → Bool) → X → Bool) → ((x : X) → has t x ≡ true → Holds t (λ u. has u x)) → (xs : List X) →
+    list_any (has t) xs ≡ true → Holds t (λ u. list_any (has u) xs)
+any_some t has h [] e = cc
+any_some t has h (x ∷ xs) e =
+    ⊎_elim (λ l. (let s = h x l in record { stamp = s.stamp; node = s.node; passes = s.passes; held = or_left (has (is_stamp_at s.node s.stamp) x) _ s.held }))
+    (λ r. (let s = any_some t has h xs r in record { stamp = s.stamp; node = s.node; passes = s.passes; held = or_right (has (is_stamp_at s.node s.stamp) x) _ s.held }))
+    (or_cases (has t x) (list_any (has t) xs) e)
+
+pub some_copy : (t : ℕ → ℕ → Bool) (f : File) → file_has t f ≡ true → Holds t (λ u. file_has u f)
+some_copy t f e = any_some t map_has (λ m. any_some t place_has (place_some t) m.places) f.maps e
+
+same_bool : (a b : Bool) → (a ≡ true → b ≡ true) → (b ≡ true → a ≡ true) → a ≡ b
+same_bool true b f g = sym (f refl)
+same_bool false true f g = g refl
+same_bool false false f g = refl
+
+unconsumed_if : (b : Bool) (p : Place Copy) → is_unconsumed (if b then without_copy p else p) ≡ is_unconsumed p
+unconsumed_if true Gone = refl
+unconsumed_if true (Live true o) = refl
+unconsumed_if true (Live false o) = refl
+unconsumed_if false p = refl
+
+robbed_reserves : (stamp : ℕ) (b : Bool) (m : Map) → owner_reserves (if b then record m { unmapped = true; places = map (drop_stamp stamp) m.places } else m) ≡ owner_reserves m
+robbed_reserves stamp true m =
+    ap (λ n. cond m.owner n 0) (sum_by-map_same (λ (p : Place Copy). cond (is_unconsumed p) 1 0) (drop_stamp stamp) (λ p. ap bit (unconsumed_if (holds stamp p) p)) m.places)
+robbed_reserves stamp false m = refl
+
+module _ (f : File) (k : ℕ) (m : Map) (i : ℕ) (c : Bool) (copy : Copy) (here : IsMapAt f k m) (is : place_at m i ≡ Live c (Some copy)) where
+  abbrev left : List Map
+  left = map (robbed copy.stamp) f.maps
+
+  abbrev back : File
+  back = with_map (record f { maps = map (robbed copy.stamp) f.maps }) k m
+
+  has_its_copy : (t : ℕ → ℕ → Bool) → t copy.stamp copy.page.node ≡ true → map_has t m ≡ true
+  has_its_copy t e = let at = live_at m i c (Some copy) is in list_any_at (place_has t) m.places (i - m.start) Gone at.within (ap (place_has t) at.is ∙ e)
+
+  in_file : (t : ℕ → ℕ → Bool) → map_has t m ≡ true → file_has t f ≡ true
+  in_file t e = list_any_at (map_has t) f.maps k m here.within (ap (map_has t) (here.is m) ∙ e)
+
+  robbed_here : slice_index_or left k m ≡ robbed copy.stamp m
+  robbed_here = get_or-map (robbed copy.stamp) f.maps k m m here.within ∙ ap (robbed copy.stamp) (here.is m)
+
+  within_left : k < length left
+  within_left = let long = length-map f.maps (robbed copy.stamp) in let l = here.within in omega (arith, long, l)
+
+  back_down : (t : ℕ → ℕ → Bool) → file_has t back ≡ true → file_has t f ≡ true
+  back_down t e =
+      ⊎_elim (λ l. any_map_down (map_has t) (map_has t) (robbed copy.stamp) (robbed_down t copy.stamp) f.maps l)
+      (λ r. in_file t r) (any_of_set (map_has t) left k m e)
+
+  back_up : IsAgreed f → (t : ℕ → ℕ → Bool) → file_has t f ≡ true → file_has t back ≡ true
+  back_up agreed t e =
+      let stamp : ℕ = copy.stamp in
+      ⊎_elim
+      (λ l. weaker (but stamp t) t back (λ s n both. (and_parts (t s n) (not (s == stamp)) both).0)
+      (any_set_up (map_has (but stamp t)) left k m m (λ h. robbed_down (but stamp t) stamp m (sym (ap (map_has (but stamp t)) robbed_here) ∙ h))
+      (any_map_up (map_has (but stamp t)) (map_has (but stamp t)) (robbed stamp) (robbed_keeps t stamp) f.maps l)))
+      (λ r. (let s = some_copy (only stamp t) f r in
+      let parts = and_parts (t s.stamp s.node) (s.stamp == stamp) s.passes in
+      let is_stamp_of : s.stamp ≡ stamp = eqb-true s.stamp stamp parts.1 in
+      let held : file_has (is_stamp_at s.node stamp) f ≡ true = subst (λ (q : ℕ). file_has (is_stamp_at s.node q) f ≡ true) is_stamp_of s.held in
+      let mine : file_has (is_stamp_at copy.page.node stamp) f ≡ true = in_file (is_stamp_at copy.page.node stamp) (has_its_copy (is_stamp_at copy.page.node stamp)
+      (and_from (copy.page.node == copy.page.node) (stamp == stamp) (eq-eqb copy.page.node copy.page.node refl) (eq-eqb stamp stamp refl))) in
+      let node = agreed stamp s.node copy.page.node held mine in
+      any_set_at (map_has t) left k m within_left (has_its_copy t (sym (ap (λ x. t x s.node) is_stamp_of ∙ ap (λ x. t stamp x) node) ∙ parts.0))))
+      (which t stamp f e)
+
+  pub takes_back : IsAgreed f → FileGrows f (with_map (record f { maps = map (robbed copy.stamp) f.maps }) k m) 0 0 0
+  takes_back agreed =
+      let has = λ (t : ℕ → ℕ → Bool). same_bool (file_has t back) (file_has t f) (back_down t) (back_up agreed t) in
+      let stamps = stamps_stay f back has in
+      let maps = sum_by-set owner_reserves left k m m within_left in
+      let here_is = ap owner_reserves robbed_here in
+      let robbed_is = robbed_reserves copy.stamp (list_any (holds copy.stamp) m.places) m in
+      let all = sum_by-map_same owner_reserves (robbed copy.stamp) (λ x. robbed_reserves copy.stamp (list_any (holds copy.stamp) x.places) x) f.maps in
+      record {
+        pages = omega (arith, stamps);
+        usage = omega (arith, stamps, maps, here_is, robbed_is, all);
+        each = λ n. omega (arith, stamps_at_stay n f back has, spent (0 == n));
+      }
+
+-- ---- bytes written into a page
+
+cell_same : (offset : ℕ) (bytes : List ℕ) (test : Cell Page → Bool) → ((p q : Page) → p.node ≡ q.node → test (Present p) ≡ test (Present q)) →
+    (x : Cell Page) → bit (test (cell_written offset bytes x)) ≡ bit (test x)
+cell_same offset bytes test h Hole = refl
+cell_same offset bytes test h Entered = refl
+cell_same offset bytes test h (Present page) = ap bit (h (overwritten offset bytes page) page refl)
+
+place_same : (t : ℕ → ℕ → Bool) (offset : ℕ) (bytes : List ℕ) (p : Place Copy) → place_has t (place_written offset bytes p) ≡ place_has t p
+place_same t offset bytes Gone = refl
+place_same t offset bytes (Live c None) = refl
+place_same t offset bytes (Live c (Some copy)) = refl
+
+place_owes : (offset : ℕ) (bytes : List ℕ) (p : Place Copy) → bit (is_unconsumed (place_written offset bytes p)) ≡ bit (is_unconsumed p)
+place_owes offset bytes Gone = refl
+place_owes offset bytes (Live c None) = refl
+place_owes offset bytes (Live true (Some copy)) = refl
+place_owes offset bytes (Live false (Some copy)) = refl
+
+map_owes : (i offset : ℕ) (bytes : List ℕ) (m : Map) → owner_reserves (map_written i offset bytes m) ≡ owner_reserves m
+map_owes i offset bytes m =
+    ap (λ n. cond m.owner n 0) (sum_by-edit_at (λ (p : Place Copy). cond (is_unconsumed p) 1 0) (place_written offset bytes) (place_owes offset bytes) m.places (i - m.start))
+
+pub writes : (b : Bool) (k i offset : ℕ) (bytes : List ℕ) (f : File)
+    → FileGrows f (if b then record f { cells = edit_at (cell_written offset bytes) f.cells i } else record f { maps = edit_at (map_written i offset bytes) f.maps k }) 0 0 0
+writes true k i offset bytes f =
+    let count = λ (test : Cell Page → Bool) (h : (p q : Page) → p.node ≡ q.node → test (Present p) ≡ test (Present q)).
+    sum_by-edit_at (λ x. cond (test x) 1 0) (cell_written offset bytes) (cell_same offset bytes test h) f.cells i in
+    let pages = count has_page (λ p q e. refl) in
+    let waits = count is_waiting (λ p q e. refl) in
+    record {
+      pages = omega (arith, pages);
+      usage = omega (arith, pages, waits);
+      each = λ n. omega (arith, count (is_page_at n) (λ p q e. ap (λ x. x == n) e), spent (0 == n));
+    }
+writes false k i offset bytes f =
+    let g : File = record f { maps = edit_at (map_written i offset bytes) f.maps k } in
+    let has = λ (t : ℕ → ℕ → Bool). any_edit_at (map_has t) (map_written i offset bytes)
+    (λ m. any_edit_at (place_has t) (place_written offset bytes) (place_same t offset bytes) m.places (i - m.start)) f.maps k in
+    let stamps = stamps_stay f g has in
+    let owes = sum_by-edit_at owner_reserves (map_written i offset bytes) (map_owes i offset bytes) f.maps k in
+    record {
+      pages = omega (arith, stamps);
+      usage = omega (arith, stamps, owes);
+      each = λ n. omega (arith, stamps_at_stay n f g has, spent (0 == n));
+    }

@@ -1,0 +1,217 @@
+-- Each event on a slot balances.
+use Rattle.std.proofs.Common.{◌≡◌, inl, subst, ℕ, ◌+◌, ◌-◌, Bool, true, false, ◌||◌, ◌==◌, None, Some, Result, Ok, Err, List, [], ◌∷◌, length, refl, ap, ◌∙◌, arith, if◌then◌else◌, nat_lt}
+use Rattle.std.specs.List.{list_any, flat_map}
+use Rattle.std.proofs.lemmas.Bool.{cond_both, not-true, leb-false, ltb-true, ltb-false, false_from_ne_true, both_ways}
+use Rattle.std.proofs.lemmas.List.Folds.{list_any_at}
+use Rattle.hp_model.specs.declared.answer.Answer.TheVariants.{Done, MapNo}
+use Rattle.hp_model.specs.declared.event.SlotEvent.{SlotEvent}
+use Rattle.hp_model.specs.declared.event.SlotEvent.TheVariants.{Mount as MountEvent}
+use Rattle.hp_model.specs.declared.refusal.Refusal.{Refusal}
+use Rattle.hp_model.specs.declared.refusal.Refusal.TheVariants.{BeyondEnd, TooMany, OutOfRange, CrossesPage}
+use Rattle.hp_model.specs.declared.step.Intent.{Intent}
+use Rattle.hp_model.specs.declared.step.Intent.TheVariants.{Read, Write}
+use Rattle.hp_model.specs.files.Access.{access}
+use Rattle.hp_laws.specs.Balance.{Change, Moves, IsBalanced, left_by}
+use Rattle.hp_laws.specs.Laws.{SlotsAreBalanced}
+use Rattle.hp_model.specs.files.File.{new_file, with_file, File, Mount}
+use Rattle.hp_model.specs.files.Fill.{lacking, range_filled, rising_nodes}
+use Rattle.hp_model.specs.files.Fork.{file_forked}
+use Rattle.hp_model.specs.files.GiveBack.{file_unmapped, file_without, punched, truncated, unlinked}
+use Rattle.hp_model.specs.pool.Grant.{can_grant, granted}
+use Rattle.hp_model.specs.Lists.{is_among}
+use Rattle.hp_model.specs.files.MakeMap.{asked, mapped, next_number}
+use Rattle.hp_model.specs.files.Mapping.{is_map}
+use Rattle.hp_model.specs.files.MountCounts.{committed_of, stamps_of, file_pages_at, pages_at}
+use Rattle.hp_model.specs.files.Options.{limits, wanted_of}
+use Rattle.hp_model.specs.machine.Plan.{Slot, Plan, Choice, refuse, unless, gives}
+use Rattle.hp_model.specs.pool.Pool.{nr_answer, section, settled, released}
+use Rattle.hp_model.specs.declared.section.PoolAnswer.{PoolAnswer}
+use Rattle.hp_model.specs.declared.section.Section.TheVariants.{GrantAndReturn, ReadAndGiveBack, ReadAndGrant}
+use Rattle.hp_model.specs.pool.PoolCounts.{Pool}
+use Rattle.hp_model.specs.Profile.{most_bytes}
+use Rattle.hp_model.specs.machine.SlotEvent.{on_mount, on_none, mount_section, mount_pages, mount_outcome, fault, byte_access, load, store, is_beyond, bytes_answer, is_unmapped, unentered}
+use Rattle.hp_model.specs.machine.SlotEvent.{committed_with, remount_outcome, remount_section}
+use Rattle.hp_model.specs.machine.Sound.{IsSoundFile, IsSoundMount}
+use Rattle.hp_model.specs.files.Spot.{Spot, written, again}
+use Rattle.hp_model.specs.files.Value.{value}
+use Rattle.hp_model.specs.declared.limits.Limits.{Limits}
+use Rattle.hp_laws.proofs.steps.Accesses.{access_balanced, written_same}
+use Rattle.hp_model.proofs.Distinct.{is_among-append}
+use Rattle.hp_laws.proofs.counts.Copies.{agreed_file}
+use Rattle.hp_laws.proofs.counts.Falls.{unmapped_falls, without_falls, forked_falls, punched_falls, truncated_falls, unlinked_falls}
+use Rattle.hp_laws.proofs.counts.FileMoves.{FileGrows}
+use Rattle.hp_laws.proofs.counts.Filled.{filled_fills}
+use Rattle.hp_laws.proofs.lists.NodesOf.{length-nodes_of}
+use Rattle.hp_laws.proofs.counts.OneMapMore.{mapped_grows}
+use Rattle.hp_laws.proofs.counts.MountMoves.{MountFalls, MountGrows, IsSpot, IsFileAt, nothing_more, file_fills, file_grows, new_grows, file_sweeps, files_sweep}
+use Rattle.hp_laws.proofs.steps.Plans.{stays, grown_same, balanced_unless, balanced_fill, balanced_grant, balanced_gives, balanced_then, mount_falls}
+use Rattle.hp_laws.proofs.steps.Walk.{Walks, walk_all}
+
+-- ---- a new stamp
+
+among_files : (q : ℕ) (fs : List File) → is_among q (flat_map stamps_of fs) ≡ list_any (λ f. is_among q (stamps_of f)) fs
+among_files q [] = refl
+among_files q (f ∷ fs) = is_among-append q (stamps_of f) (flat_map stamps_of fs) ∙ ap (λ b. is_among q (stamps_of f) || b) (among_files q fs)
+
+pub new_in_file : (q : ℕ) (m : Mount) (at_no : ℕ) (f : File) → IsFileAt m at_no f → is_among q (flat_map stamps_of m.files) ≡ false → is_among q (stamps_of f) ≡ false
+new_in_file q m at_no f at new =
+    false_from_ne_true (is_among q (stamps_of f))
+    (λ e. both_ways (is_among q (flat_map stamps_of m.files)) new
+    (among_files q m.files ∙ list_any_at (λ f. is_among q (stamps_of f)) m.files at_no f at.within (ap (λ f. is_among q (stamps_of f)) (at.is f) ∙ e)))
+
+-- ---- what changes nothing
+
+same_file : (f : File) → FileGrows f f 0 0 0
+same_file f = record { pages = omega arith; usage = omega arith; each = λ n. nothing_more (0 == n) (file_pages_at n f) }
+
+same_mount : (m : Mount) → MountGrows m m 0 0 0
+same_mount m = record { pages = omega arith; usage = omega arith; each = λ n. nothing_more (0 == n) (pages_at n m); limits = refl }
+
+-- ---- accesses
+
+balanced_last : (old : Slot) (b : Bool) (r : Refusal) (p : Plan) → (b ≡ false → IsBalanced old p) → IsBalanced old (unless ((b, r) ∷ []) p)
+balanced_last old b r p h = cond_both b (refuse r) p (IsBalanced old) (λ e. stays old) h
+
+module _ (c : Choice) (size : ℕ) (m : Mount) (sound : IsSoundMount m) (new : is_among c.stamp (flat_map stamps_of m.files) ≡ false) (home i : ℕ) (s : Spot) (at : IsSpot m s) where
+  guarded : (intent : Intent) → IsBalanced (Some m) (unless ((is_beyond s i, BeyondEnd) ∷ []) (access c size m s home i intent))
+  guarded intent =
+      balanced_last (Some m) (is_beyond s i) BeyondEnd (access c size m s home i intent)
+      (λ e. access_balanced c size m s at (agreed_file s.file (subst IsSoundFile (at.file.is s.file) (sound.files s.file_no s.file at.file.within)))
+      (new_in_file c.stamp m s.file_no s.file at.file new) home i intent (leb-false (length s.file.cells) i e))
+
+  fault_balanced : (intent : Intent) → IsBalanced (Some m) (fault c size m home i intent s)
+  fault_balanced intent = balanced_unless (Some m) ((is_unmapped s i, OutOfRange) ∷ []) (unless ((is_beyond s i, BeyondEnd) ∷ []) (access c size m s home i intent)) (guarded intent)
+
+  byte_balanced : (offset count : ℕ) (intent : Intent) → IsBalanced (Some m) (byte_access c size m home i offset count intent s)
+  byte_balanced offset count intent =
+      balanced_unless (Some m) ((is_unmapped s i || (count == 0), OutOfRange) ∷ (nat_lt size (offset + count), CrossesPage)
+      ∷ (nat_lt most_bytes count, TooMany) ∷ []) (unless ((is_beyond s i, BeyondEnd) ∷ []) (access c size m s home i intent)) (guarded intent)
+
+  load_balanced : (offset count : ℕ) → IsBalanced (Some m) (load c size m home i offset count s)
+  load_balanced offset count =
+      balanced_then (Some m) (λ n. bytes_answer offset count (value size (again n s).file (again n s).map i)) (λ n. n) (byte_access c size m home i offset count Read s)
+      same_mount (byte_balanced offset count Read)
+
+  store_balanced : (offset : ℕ) (bytes : List ℕ) → IsBalanced (Some m) (store c size m home i offset bytes s)
+  store_balanced offset bytes =
+      balanced_then (Some m) (λ n. Done) (λ n. written n s i offset bytes) (byte_access c size m home i offset (length bytes) Write s)
+      (λ n. written_same n s i offset bytes) (byte_balanced offset (length bytes) Write)
+
+-- ---- mount
+
+nothing : Change None None 0 0 (λ n. 0) (λ n. 0) 0
+nothing = stays None
+
+mount_by : (stamp : ℕ) (refused after_grant granted : Bool) (node nr : ℕ) (pages : List ℕ) (l : Result Limits Refusal)
+    → Moves None (mount_section (record { stamp = stamp; refused = refused; after_grant = after_grant }) (mount_pages (record { stamp = stamp; refused = refused; after_grant = after_grant }) l))
+    (record { granted = granted; node = node; nr = nr; pages = pages })
+    (left_by None (mount_outcome (record { stamp = stamp; refused = refused; after_grant = after_grant }) (record { granted = granted; node = node; nr = nr; pages = pages }) l))
+mount_by stamp refused true granted node nr pages (Err e) = nothing
+mount_by stamp refused false true node nr pages (Err e) = nothing
+mount_by stamp refused false false node nr pages (Err e) = nothing
+mount_by stamp true true granted node nr pages (Ok l) = nothing
+mount_by stamp true false true node nr pages (Ok l) = nothing
+mount_by stamp true false false node nr pages (Ok l) = nothing
+mount_by stamp false true true node nr pages (Ok l) = nothing
+mount_by stamp false true false node nr pages (Ok l) = nothing
+mount_by stamp false false false node nr pages (Ok l) = nothing
+mount_by stamp false false true node nr pages (Ok l) = record {
+  committed = omega arith;
+  pages = λ n lt. refl;
+  covered = omega arith;
+  far = λ n. omega arith;
+  limited = inl (omega arith);
+}
+
+told : (p : Pool) (d : ℕ) (q : Pool) → (if◌then◌else◌ {A = PoolAnswer × Pool} (can_grant d p) (nr_answer true p, q)
+    (nr_answer false p, p)).0.nr ≡ p.nr
+told p d q =
+    cond_both (can_grant d p) (nr_answer true p, q) (nr_answer false p, p)
+    (λ (x : PoolAnswer × Pool). x.0.nr ≡ p.nr) (λ e. refl) (λ e. refl)
+
+pub tells_nr : (p : Pool) (after_grant : Bool) (d : ℕ) → (section p (if after_grant then GrantAndReturn d else ReadAndGrant d)).0.nr ≡ p.nr
+tells_nr p true d = told p d (settled (released d (granted 0 d p)))
+tells_nr p false d = told p d (granted 0 d p)
+
+-- ---- remount
+
+remount_by : (m : Mount) (granted : Bool) (node nr : ℕ) (pages : List ℕ) (l : Result Limits Refusal)
+    → Moves (Some m) (remount_section m l) (record { granted = granted; node = node; nr = nr; pages = pages })
+    (left_by (Some m) (remount_outcome m (record { granted = granted; node = node; nr = nr; pages = pages }) l))
+remount_by m true node nr pages (Err e) = stays (Some m)
+remount_by m false node nr pages (Err e) = stays (Some m)
+remount_by m granted node nr pages (Ok l) = by_minimum granted (nat_lt (committed_with m l.min) (committed_of m)) refl
+  where
+    by_minimum : (granted less : Bool) → nat_lt (committed_with m l.min) (committed_of m) ≡ less
+        → Moves (Some m) (if less then ReadAndGiveBack (committed_of m - committed_with m l.min) else ReadAndGrant (committed_with m l.min - committed_of m))
+        (record { granted = granted; node = node; nr = nr; pages = pages }) (left_by (Some m) (remount_outcome m (record { granted = granted; node = node; nr = nr; pages = pages }) (Ok l)))
+    by_minimum false true is = stays (Some m)
+    by_minimum false false is = stays (Some m)
+    by_minimum true true is =
+        let less = ltb-true (committed_with m l.min) (committed_of m) is in
+        record { committed = omega (arith, less); pages = λ n lt. refl; covered = omega arith; far = λ n. omega arith; limited = inl (omega arith) }
+    by_minimum true false is =
+        let more = ltb-false (committed_with m l.min) (committed_of m) is in
+        record { committed = omega (arith, more); pages = λ n lt. refl; covered = omega arith; far = λ n. omega arith; limited = inl (omega arith) }
+
+pub remount_tells : (p : Pool) (m : Mount) (l : Result Limits Refusal) → (section p (remount_section m l)).0.nr ≡ p.nr
+remount_tells p m (Err e) = told p 0 (granted 0 0 p)
+remount_tells p m (Ok l) =
+    let more = committed_with m l.min - committed_of m in
+    cond_both (nat_lt (committed_with m l.min) (committed_of m)) (ReadAndGiveBack (committed_of m - committed_with m l.min)) (ReadAndGrant more)
+    (λ sec. (section p sec).0.nr ≡ p.nr) (λ e. refl) (λ e. told p more (granted 0 more p))
+
+on_none_balanced : (size : ℕ) (c : Choice) (e : SlotEvent) → IsBalanced None (on_none size c e)
+on_none_balanced size c (MountEvent options) = (
+  (λ a. mount_by c.stamp c.refused c.after_grant a.granted a.node a.nr a.pages (limits a.nr size (wanted_of options))),
+  (λ p. ap (λ nr. mount_section c (mount_pages c (limits nr size (wanted_of options)))) (tells_nr p c.after_grant (mount_pages c (limits p.nr size (wanted_of options))))),
+)
+on_none_balanced size c other = nothing
+
+-- ---- the events of a mount
+
+module _ (size slot : ℕ) (c : Choice) (m : Mount) (sound : IsSoundMount m) (new : is_among c.stamp (flat_map stamps_of m.files) ≡ false) where
+  falls : (n : Mount) → MountFalls m n → IsBalanced (Some m) (gives Done (Some m) (Some n))
+  falls n less = balanced_gives Done (Some m) (Some n) (mount_falls m n less)
+
+  events_balanced : Walks size slot c m (IsBalanced (Some m))
+  events_balanced = record {
+    refuses = λ r. stays (Some m);
+    same = λ a. stays (Some m);
+    creates = λ name new. grown_same m _ (new_grows m (Some name) (new_file (Some name)) 0 (same_file (new_file (Some name))));
+    unlinks = λ q at. falls _ (file_sweeps m q.0 q.1 (unlinked q.1) at (unlinked_falls q.1));
+    truncates = λ n q at. falls _ (file_sweeps m q.0 q.1 (truncated n q.1) at (truncated_falls n q.1));
+    punches = λ a b q at. falls _ (file_sweeps m q.0 q.1 (punched a b q.1) at (punched_falls a b q.1));
+    fills = λ a b q at.
+        balanced_fill c m (λ nodes. with_file m q.0 (range_filled size a b nodes q.1)) (lacking a b q.1) (unentered a b q.1)
+        (λ pages. file_fills m q.0 q.1 _ _ _ at (filled_fills size a b (rising_nodes (lacking a b q.1) pages) q.1 (length-nodes_of (lacking a b q.1) pages)));
+    maps = λ task home a n sharing reserving q at.
+        (let k = asked sharing reserving a n q.1 in
+        let number = next_number task m in
+        balanced_grant c m _ home k (MapNo number)
+        (file_grows m q.0 q.1 (mapped task number a n sharing reserving q.1) 0 0 k at (mapped_grows task number a n sharing reserving q.1)));
+    anons = λ task home n sharing reserving.
+        (let k = asked sharing reserving 0 n (new_file None) in
+        let number = next_number task m in
+        balanced_grant c m _ home k (MapNo number)
+        (new_grows m None (mapped task number 0 n sharing reserving (new_file None)) k (mapped_grows task number 0 n sharing reserving (new_file None))));
+    unmaps = λ task number a b. falls _ (files_sweep m (file_unmapped (is_map task number) a b) (unmapped_falls (is_map task number) a b));
+    forks = λ parent child. falls _ (files_sweep m (file_forked parent child) (forked_falls parent child));
+    exits = λ task. falls _ (files_sweep m (file_without task) (without_falls task));
+    faults = λ s at home i intent. fault_balanced c size m sound new home i s at intent;
+    loads = λ s at home i offset count. load_balanced c size m sound new home i s at offset count;
+    stores = λ s at home i offset bytes. store_balanced c size m sound new home i s at offset bytes;
+  }
+
+  on_mount_balanced : (e : SlotEvent) → IsBalanced (Some m) (on_mount size slot c m e)
+  on_mount_balanced e =
+      walk_all size slot c m (IsBalanced (Some m)) events_balanced
+      (λ options. (
+        (λ a. remount_by m a.granted a.node a.nr a.pages (limits a.nr size (wanted_of options))),
+        (λ p. ap (λ nr. remount_section m (limits nr size (wanted_of options))) (remount_tells p m (limits p.nr size (wanted_of options)))),
+      ))
+      (balanced_gives Done (Some m) None (record { committed = omega arith; each = λ n. omega arith; usage = omega arith })) e
+
+pub slots_are_balanced : SlotsAreBalanced
+slots_are_balanced size slot c None e new sound = on_none_balanced size c e
+slots_are_balanced size slot c (Some m) e new sound = on_mount_balanced size slot c m sound (not-true _ new) e
