@@ -1,12 +1,12 @@
 //! The nodes together, and the moves of pages and frames among them.
 ghost use Rattle.std.specs.Prelude.{◌≡◌, ◌+◌, ◌-◌, ◌<◌, ◌≤◌, ◌^◌, if◌then◌else◌, length, min, ℕ, ◌==◌, All, IsTrue, IfOk};
 ghost use Rattle.hp_model.specs.pool.Resize.{node_count};
+ghost use Rattle.hp_model.specs.Profile.{most_frames, most_frames_in_all};
 ghost use Rattle.hp_nodes.specs.Kept.{idle_nodes};
 ghost use Rattle.hp_nodes.specs.Ledgers.{AreAll, AreFrames};
 ghost use Rattle.hp_nodes.specs.Moves.{take_by, put_by, puts_at, grow_by, shrink_by, add_surplus_by, give_back_by, promote_by, demote_by};
 ghost use Rattle.std.specs.Fn.{iterate};
 ghost use Rattle.hp_model.specs.pool.NodeRows.{IsRow, used, after, at_row, lowest, near, some_has, row_at, taken, taken_times, surplus_added, grown, shrunk, promoted, demoted, given_back, sum_row, free_of, total_of, take_row};
-ghost use Rattle.hp_model.specs.Profile.{most_frames, most_frames_in_all};
 
 use crate::node::Node;
 use crate::rounds::{grow_each, having, least, shrink_each};

@@ -20,6 +20,7 @@ use Rattle.hp_model.specs.declared.event.TableEvent.TheVariants.{Add, Find}
 use Rattle.hp_model.specs.declared.step.Sharing.TheVariants.{Shared}
 use Rattle.hp_model.specs.declared.step.Reserving.TheVariants.{Reserve}
 use Rattle.hp_model.specs.threads.Differ.{Asks, IsBefore, Differ, Has, LostSection, SharedSection, entry_at}
+use Rattle.hp_model.specs.Profile.{most_frames}
 use Rattle.hp_model.specs.files.File.{with_file, new_file}
 use Rattle.hp_model.specs.threads.JointRun.{keep, numbered, slot_part, told, Trails, slot_trail, Entry, InTasks, InSlot, InPool, Item, IsThere, Joins, AreRuns, IsJointRun}
 use Rattle.hp_model.specs.threads.LocalRun.{IsLocalRun}
