@@ -3,7 +3,6 @@ pub mod NodesOf
 pub mod Fills
 pub mod Filled
 pub mod CountSteps
-pub mod Doors
 pub mod Holding
 pub mod Places
 pub mod FileMoves
