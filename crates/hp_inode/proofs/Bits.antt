@@ -18,9 +18,6 @@ use Rattle.hp_model.specs.files.Ranges.{within}
 has : ℕ → ℕ → Bool
 has n i = eqb (bit_at n i) 1
 
-bit_cases : (n i : ℕ) (P : Type 0) → (bit_at n i ≡ 0 → P) → (bit_at n i ≡ 1 → P) → P
-bit_cases n i P none one = ⊎_elim (λ (lt : bit_at n i < 1). none (omega (arith, lt))) (λ (le : 1 ≤ bit_at n i). one (omega (arith, le, bit_at-lt n i))) (cases_lt (bit_at n i) 1)
-
 both : (x y : ℕ) → x < 2 → y < 2 → eqb (min x y) 1 ≡ (eqb x 1 && eqb y 1)
 both x y u v = grind (arith, nat_tests)
 

@@ -310,19 +310,6 @@ table_set old new bare after i is are others was =
       none_before = λ k below. others k (λ same. absurd (omega (arith, below, same, is))) ∙ was.none_before k (omega (arith, below, is));
     }
 
--- the first page from a on was at index i, and went
-pub table_taken : (old new : RowBlocks) (bare after a i : ℕ) → a ≤ bare * 65536 → ((k : ℕ) → a ≤ k → k < i → page_at old k ≡ None)
-    → ((k : ℕ) → (k ≡ i → ⊥) → page_at new k ≡ page_at old k) → i / 65536 ≤ 65536 → IsRowTable old bare → IsRowTable new after → IsRowTable new (i / 65536)
-table_taken old new bare after a i low none others few was is =
-    record {
-      blocks = is.blocks;
-      few = few;
-      none_before = λ k below. others k (λ same. absurd (omega (arith, below, same))) ∙ ⊎_elim
-          (λ (early : k < a). was.none_before k (omega (arith, early, low)))
-          (λ (late : a ≤ k). none k late (omega (arith, below)))
-          (cases_lt k a);
-    }
-
 -- in a file of one block
 module _ (first : Rows) (are : AreBlocks (first ∷ [])) (a : ℕ) where
   only : (k : ℕ) → k < 65536 → page_at (first ∷ []) k ≡ page_in first k

@@ -1,11 +1,11 @@
 -- Marks of a range, set or cleared a word at a time, and how many of a range are set.
 use Rattle.std.proofs.Common.{◌≡◌, ℕ, ◌+◌, ◌-◌, ◌*◌, ◌/◌, ◌%◌, ◌^◌, ◌<◌, ◌≤◌, min, Bool, true, false, not, ◌&&◌, ◌||◌, eqb, List}
-use Rattle.std.proofs.Common.{length, get_or, set, take, sym, refl, ap, ◌∙◌, arith, ◌⊎◌, inl, inr, ⊎_elim, Option, None, Some, bit_and, bit_or, count_ones}
+use Rattle.std.proofs.Common.{length, get_or, set, sym, refl, ap, ◌∙◌, arith, ◌⊎◌, ⊎_elim, Option, None, Some, bit_and, bit_or, count_ones}
 use Rattle.std.specs.Int.{bit_at, bit_not, w64}
 use Rattle.std.specs.List.{range_with_len, count_by}
 use Rattle.std.proofs.Math.Bool.{or-false, or-true, and-true, and-false}
 use Rattle.std.proofs.lemmas.Bool.{cases_lt, cases_eq, and_parts, or_cases, or_parts, or_from, true≢false, false_from_ne_true}
-use Rattle.std.proofs.lemmas.List.{get_or-set_same, get_or-set_other, get_or-take, length-take, length-set}
+use Rattle.std.proofs.lemmas.List.{get_or-set_same, get_or-set_other, length-set}
 use Rattle.std.proofs.lemmas.List.FromFn.{length-range_with_len}
 use Rattle.std.proofs.lemmas.List.Sums.{count_by-le-length}
 use Rattle.std.proofs.lemmas.Nat.{and_le_r}
@@ -14,9 +14,8 @@ use Rattle.hp_model.proofs.Counting.{count_split, count_outside, count_within, a
 use Rattle.hp_model.proofs.Ranges.{within-in, within-true, within-below, within-past}
 use Rattle.hp_model.specs.files.Ranges.{within}
 use Rattle.hp_inode.specs.EntryBlock.{count_in, IsBlank, IsEntries, FindsWord}
-use Rattle.hp_inode.specs.Marks.{marked, IsFirstFrom, IsFirstWithin, FindsWithin}
+use Rattle.hp_inode.specs.Marks.{marked, FindsWithin}
 use Rattle.hp_inode.proofs.Bits.{has_and, has_or, has_not, word_counted}
-use Rattle.hp_inode.proofs.Words.{unmarked_past}
 
 -- ---- one word for another
 
@@ -192,42 +191,6 @@ module _ (words : List ℕ) (a b : ℕ) where
       sym (counted_blank (64 * at) (64 * at + b) (omega arith) (λ k low high below. blank k low (omega (arith, below, end_is)))) ∙ counted_all (64 * at + b) (omega arith)
 
 -- ---- the first word with a mark, of some of the words
-
-module _ (marks : List ℕ) (n : ℕ) where
-  pub marked_taken : (k : ℕ) → marked (take n marks) k ≡ true → marked marks k ≡ true
-  marked_taken k on = ⊎_elim
-      (λ (lt : k / 64 < n). ap (λ w. eqb (bit_at w (k % 64)) 1) (sym (get_or-take n marks (k / 64) 0 lt)) ∙ on)
-      (λ (le : n ≤ k / 64). absurd (true≢false (sym on ∙ unmarked_past (take n marks) k (omega (arith, le, length-take n marks)))))
-      (cases_lt (k / 64) n)
-
-  pub unmarked_taken : (k : ℕ) → (k / 64 < n ⊎ length marks ≤ k / 64) → marked (take n marks) k ≡ false → marked marks k ≡ false
-  unmarked_taken k where' off = ⊎_elim
-      (λ (lt : k / 64 < n). ap (λ w. eqb (bit_at w (k % 64)) 1) (sym (get_or-take n marks (k / 64) 0 lt)) ∙ off)
-      (λ (le : length marks ≤ k / 64). unmarked_past marks k (omega (arith, le)))
-      where'
-
-module _ (marks : List ℕ) (from end searched : ℕ) (searched_is : searched ≡ min (end / 64 + min 1 (end % 64)) (length marks)) where
-  unmarked_before : (k : ℕ) → k < end → marked (take searched marks) k ≡ false → marked marks k ≡ false
-  unmarked_before k lt off = unmarked_taken marks searched k side off
-    where
-      side : k / 64 < searched ⊎ length marks ≤ k / 64
-      side = ⊎_elim (λ (less : k / 64 < length marks). inl (omega (arith, less, lt, searched_is))) (λ (past : length marks ≤ k / 64). inr past) (cases_lt (k / 64) (length marks))
-
-  pub none_within : ((k : ℕ) → from ≤ k → marked (take searched marks) k ≡ false) → (k : ℕ) → from ≤ k → k < end → marked marks k ≡ false
-  none_within none k low high = unmarked_before k high (none k low)
-
-  pub none_within_past : (i : ℕ) → IsFirstFrom (take searched marks) from i → end ≤ i → (k : ℕ) → from ≤ k → k < end → marked marks k ≡ false
-  none_within_past i first past k low high = unmarked_before k high (first.none_before k low (omega (arith, high, past)))
-
-  pub first_within_is : (i : ℕ) → IsFirstFrom (take searched marks) from i → i < end → IsFirstWithin marks from end i
-  first_within_is i first lt = record {
-    below = lt;
-    first = record {
-      from = first.from;
-      here = marked_taken marks searched i first.here;
-      none_before = λ k low high. unmarked_before k (omega (arith, high, lt)) (first.none_before k low high);
-    };
-  }
 
 module _ (words marks : List ℕ) (is : IsEntries words marks) where
   pub blank_words : (at end : ℕ) → ((j : ℕ) → at ≤ j → j < end → marked marks j ≡ false) → IsBlank words (64 * at) (64 * end)

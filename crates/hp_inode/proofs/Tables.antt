@@ -39,12 +39,6 @@ table_marked rows marks new is few more same = record {
   none = λ j k off. is.none j k (sym (same j) ∙ off);
 }
 
-pub page_in_pushed : (rows : Rows) (k : ℕ) → page_in (rows ++ [] ∷ []) k ≡ page_in rows k
-page_in_pushed rows k = ap (λ r. get_or r (k % 64) None) (get_or_pushed rows [] (k / 64))
-
-pub has_slot_pushed : (rows : Rows) (k : ℕ) → has_slot (rows ++ [] ∷ []) k ≡ has_slot rows k
-has_slot_pushed rows k = ap (λ r. ltb (k % 64) (length r)) (get_or_pushed rows [] (k / 64))
-
 -- what a write through a slice of a whole list leaves
 pub written_back : {X : Type 0} (xs ws : List X) → length ws ≡ length xs → refill (length xs) xs ws ≡ ws
 written_back xs ws same = rw (drop_all (length ws) xs (omega (arith, same)), append-nil ws) (take_all (length xs) ws (omega (arith, same)))

@@ -67,9 +67,6 @@ module _ (words : List ℕ) (n : ℕ) where
         (cases_lt k (64 * q));
   }
 
-  pub none_anywhere : ((k : ℕ) → n ≤ k → k < 64 * length words → marked words k ≡ false) → (k : ℕ) → n ≤ k → marked words k ≡ false
-  none_anywhere none k from = ⊎_elim (λ (lt : k < 64 * length words). none k from lt) (λ (le : 64 * length words ≤ k). unmarked_past words k le) (cases_lt k (64 * length words))
-
 -- ---- a word with the bits below a place cleared
 
 module _ (word place m : ℕ) (mask : m ≡ 2 ^ 64 - 2 ^ place) where
@@ -115,6 +112,3 @@ later_found words n at word read some small from before =
     let low = bit_at-trailing_zeros w64 word some small in
     first_in_word words n at (trailing_zeros w64 word) (omega (arith, from)) low.0 (ap (λ w. bit_at w (trailing_zeros w64 word)) (sym read) ∙ low.1)
     (λ i less high. ap (λ w. bit_at w i) (sym read) ∙ low.2 i less) before
-
-pub later_none : (words : List ℕ) (n at : ℕ) → get_or words at 0 ≡ 0 → ((k : ℕ) → n ≤ k → k < 64 * at → marked words k ≡ false) → (k : ℕ) → n ≤ k → k < 64 * (at + 1) → marked words k ≡ false
-later_none words n at none before = none_in_word words n at (λ i lt from. ap (λ w. bit_at w i) none ∙ bit_at-zero i) before

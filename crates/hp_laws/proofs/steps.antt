@@ -1,5 +1,4 @@
 -- One walk over the plans of all events, how they balance, and from events to steps.
-pub mod Doors
 pub mod CopyWrites
 pub mod Plans
 pub mod Accesses

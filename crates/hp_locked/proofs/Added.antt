@@ -1,5 +1,5 @@
 -- A trail keeps its fact with one entry more.
-use Rattle.std.proofs.Common.{◌≡◌, ◌-◌, length, Bool, true, false, arith, ℕ, List, [], ◌∷◌, ◌++◌, Option, Some, None, Ok, refl, sym, ap, ◌∙◌, subst}
+use Rattle.std.proofs.Common.{◌≡◌, length, Bool, true, false, arith, ℕ, List, [], ◌∷◌, ◌++◌, Option, Some, None, Ok, refl, sym, ap, ◌∙◌, subst}
 use Rattle.hp_model.specs.declared.entry.PoolEntry.{PoolEntry}
 use Rattle.hp_model.specs.declared.entry.PoolEntry.TheVariants.{OfSlot}
 use Rattle.hp_model.specs.declared.section.PoolAnswer.{PoolAnswer}
@@ -8,7 +8,7 @@ use Rattle.hp_model.specs.pool.Pool.{puts_from, released, section, settled}
 use Rattle.hp_model.specs.pool.PoolCounts.{Pool}
 use Rattle.hp_model.specs.threads.PoolRun.{IsPoolRun, IsPoolStep}
 use Rattle.hp_model.specs.machine.Settled.{IsSettledPool}
-use Rattle.hp_model.specs.pool.NodeRows.{frames_of, total_of}
+use Rattle.hp_model.specs.pool.NodeRows.{frames_of}
 use Rattle.hp_model.specs.pool.PoolCounts.{IsSettled}
 use Rattle.hp_model.proofs.Sums.{idle_total}
 use Rattle.hp_pool.specs.Sums.{idle_pool}
@@ -29,7 +29,7 @@ use Rattle.hp_laws.proofs.settled.Closing.{most_return, step_frames}
 use Rattle.hp_laws.proofs.sections.Lengths.{long_event}
 use Rattle.hp_model.specs.declared.event.PoolEvent.{PoolEvent}
 use Rattle.hp_model.specs.machine.Plan.{Reply}
-use Rattle.hp_model.specs.pool.Grant.{granted, surplus_times}
+use Rattle.hp_model.specs.pool.Grant.{granted}
 use Rattle.hp_model.specs.pool.Resize.{pool_event, set_nr}
 use Rattle.hp_model.specs.declared.answer.Answer.TheVariants.{Number}
 use Rattle.hp_model.specs.declared.event.PoolEvent.TheVariants.{Nr}
@@ -192,14 +192,6 @@ module _ {X : Type 0} (asked : X → Option Asked) (d e : X) (pages : List Page)
   pub door_gives : (puts : List ℕ) (m : ℕ) (t : Option Asked) → puts ≡ by_node pages → m ≡ k → IsGiven puts m old new t → asked e ≡ t →
       (t ≡ None → e ≡ d) → GivesBack (λ x s a y. Asks (asked y) s a) pages k d e
   door_gives puts m t same falls given = door_is t (subst (λ (x : List ℕ). IsGiven x k old new t) same (subst (λ (x : ℕ). IsGiven puts x old new t) falls given))
-
--- a grant of nothing changes nothing
-pub granted_nothing : (p : Pool) → IsSettledPool p → granted 0 0 p ≡ p
-granted_nothing p s =
-    let total = s.total in
-    let none : p.committed + 0 - total_of p.nodes.rows ≡ 0 = omega (arith, total) in
-    let same : p.committed + 0 ≡ p.committed = omega arith in
-    ap (λ n. record p { committed = p.committed + 0; nodes = surplus_times 0 n p.nodes }) none ∙ ap (λ n. record p { committed = n }) same
 
 -- an event leaves the pool ready
 pub event_ready : (p q : Pool) (e : PoolEvent) (r : Reply) → pool_event p e ≡ (r, q) → IsReady p → IsSettled q → IsReady q

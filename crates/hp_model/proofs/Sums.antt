@@ -3,12 +3,11 @@ use Rattle.std.specs.Prelude.{slice_set, sum_by, map, All}
 use Rattle.std.specs.List.{position_or_len, prefix_len}
 use Rattle.std.proofs.lemmas.Bool.Decides.{nat_tests}
 use Rattle.std.proofs.lemmas.Bool.{cases_lt}
-use Rattle.std.proofs.lemmas.List.Elements.{All-set}
 use Rattle.std.proofs.lemmas.List.Sums.{sum_by-set, sum_by-cons, get_or-le-sum_by}
 use Rattle.hp_model.specs.declared.node.NodeRow.{NodeRow}
 use Rattle.hp_model.specs.declared.node.Kind.{Kind}
 use Rattle.hp_model.specs.declared.node.Kind.TheVariants.{Free, Idle, Surplus, Persistent}
-use Rattle.hp_model.specs.pool.NodeRows.{IsRow, idle_row, used, row_at, no_row, has, lowest, some_has, sum_row, frames_of, total_of}
+use Rattle.hp_model.specs.pool.NodeRows.{IsRow, idle_row, row_at, no_row, has, lowest, some_has, sum_row, frames_of, total_of}
 use Rattle.hp_model.specs.pool.NodeRows.{free_of, surp_of, take_row, put_row, grow_row, shrink_row, add_surplus_row, give_back_row, promote_row, demote_row}
 
 abbrev row : ℕ → ℕ → ℕ → ℕ → NodeRow

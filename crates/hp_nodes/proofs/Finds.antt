@@ -1,4 +1,4 @@
-use Rattle.std.proofs.Common.{ℕ, ◌≡◌, ◌+◌, ◌<◌, ◌≤◌, Bool, true, false, cond, ltb, IsTrue, List, length, drop, Some, None, rules, tests, arith}
+use Rattle.std.proofs.Common.{ℕ, ◌≡◌, ◌+◌, ◌<◌, ◌≤◌, true, false, cond, ltb, List, length, drop, Some, None, arith}
 use Rattle.std.specs.Prelude.{unwrap_or}
 use Rattle.std.proofs.lemmas.Bool.Decides.{nat_tests}
 use Rattle.std.proofs.lemmas.Grind.{common_steps}
@@ -38,9 +38,6 @@ has_ahead kind rows from h =
 
 pub found_or_len : (n p : ℕ) → p ≤ n → unwrap_or (cond (ltb p n) (Some p) None) n ≡ p
 found_or_len n p h = grind (arith, nat_tests)
-
-pub is_true : (b : Bool) → b ≡ true → IsTrue b
-is_true b h = search (rules, tests)
 
 -- where no node has both, a node with a free page has no surplus
 pub no_surplus : (rows : List NodeRow) (i : ℕ) → lowest FreeSurplus rows ≡ length rows → i < length rows → 0 < (row_at rows i).free → (row_at rows i).surp ≡ 0

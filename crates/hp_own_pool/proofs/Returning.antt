@@ -55,24 +55,6 @@ abbrev firsts : (k : ℕ) → (ℕ → ℕ) → List ℕ
 firsts zero f = []
 firsts (suc k) f = f 0 ∷ firsts k (λ n. f (suc n))
 
-put_nothing : (ks : List ℕ) (rows : List NodeRow) → sum ks ≡ 0 → put_rows ks rows ≡ rows
-put_nothing [] rows e = refl
-put_nothing (k ∷ ks) [] e = refl
-put_nothing (k ∷ ks) (r ∷ rows) e =
-    let parts = sum_by-cons (λ x. x) k ks in
-    ap (λ x. record r { free = x } ∷ put_rows ks rows) (omega (arith, e, parts)) ∙ ap (λ rs. r ∷ rs) (put_nothing ks rows (omega (arith, e, parts)))
-
-firsts_none : (k : ℕ) (f : ℕ → ℕ) → ((n : ℕ) → f n ≡ 0) → sum (firsts k f) ≡ 0
-firsts_none zero f h = refl
-firsts_none (suc k) f h = (let first = h 0 in omega (arith, first, sum_by-cons (λ x. x) (f 0) (firsts k (λ n. f (suc n))), firsts_none k (λ n. f (suc n)) (λ n. h (suc n))))
-
-firsts_same : (k : ℕ) (f g : ℕ → ℕ) → ((n : ℕ) → f n ≡ g n) → firsts k f ≡ firsts k g
-firsts_same zero f g h = refl
-firsts_same (suc k) f g h = ap (λ x. x ∷ firsts k (λ n. f (suc n))) (h 0) ∙ ap (λ xs. g 0 ∷ xs) (firsts_same k (λ n. f (suc n)) (λ n. g (suc n)) (λ n. h (suc n)))
-
-put_none : (k : ℕ) (f : ℕ → ℕ) (rows : List NodeRow) → ((n : ℕ) → f n ≡ 0) → put_rows (firsts k f) rows ≡ rows
-put_none k f rows h = put_nothing (firsts k f) rows (firsts_none k f h)
-
 -- ---- the pool
 
 falls_both : (x y z c : ℕ) → z ≤ y → y ≤ x → c - (x - y) - (y - z) ≡ c - (x - z)

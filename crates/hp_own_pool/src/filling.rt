@@ -1,5 +1,5 @@
 //! Many pages at once: the section of the pool, and the pages of its claims.
-ghost use Rattle.std.specs.Prelude.{◌≡◌, ◌+◌, ◌<◌, ◌≤◌, ◌^◌, ◌++◌, [], false, length, map, replicate, IfNone, IfSome};
+ghost use Rattle.std.specs.Prelude.{◌≡◌, ◌+◌, ◌<◌, ◌≤◌, ◌^◌, ◌++◌, false, replicate, IfNone, IfSome};
 ghost use Rattle.std.specs.List.{sum};
 ghost use Rattle.hp_model.specs.pool.Pool.{filled_by, no_pages, pages_taken, section, takes_of};
 ghost use Rattle.hp_model.specs.pool.PoolCounts.{IsSettled};

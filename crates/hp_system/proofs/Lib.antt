@@ -4,3 +4,4 @@ mod MachineSteps
 mod Mounting
 pub mod Start
 mod Forking
+pub mod Ready

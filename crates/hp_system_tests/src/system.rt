@@ -51,7 +51,7 @@ fn runs<N: Naming, R: Abort>(rt: &R, alloc: Global, system: &mut System<N>)
     assert!(rt; replies.as_slice() == expected.as_slice());
 }
 
-#[tactic(auto, using(crate::proofs::Ready::ready_pool))]
+#[tactic(auto, using(hp_system::proofs::Ready::ready_pool))]
 fn run<N: Naming, R: Abort>(rt: &R, alloc: Global, blanks: Blanks)
     requires ledgers { AreLedgers N.Naming blanks }
     requires frames { AreFrames N.frames (4 ∷ 4 ∷ []) }
@@ -140,7 +140,7 @@ fn shows_zeros<N: Naming, R: Abort>(rt: &R, system: &mut System<N>)
 }
 
 // Machines that are made, used and closed give back all that they held.
-#[tactic(auto, using(crate::proofs::Ready::ready_pool))]
+#[tactic(auto, using(hp_system::proofs::Ready::ready_pool))]
 fn come_and_go<N: Naming, R: Abort>(rt: &R, alloc: Global, blanks: Blanks)
     requires ledgers { AreLedgers N.Naming blanks }
     requires frames { AreFrames N.frames (4 ∷ 4 ∷ []) }

@@ -1,26 +1,15 @@
 -- A task that is in the table once.
-use Rattle.std.proofs.Common.{◌≡◌, ℕ, zero, suc, ◌+◌, ◌<◌, ◌≤◌, ◌==◌, Bool, true, false, not, eqb-true, eq-eqb, None, Some, List, [], ◌∷◌, length, get_or, cond, arith, refl, ap, sym, subst, ◌∙◌}
+use Rattle.std.proofs.Common.{◌≡◌, ℕ, zero, ◌+◌, ◌≤◌, ◌==◌, Bool, true, false, not, eqb-true, None, Some, List, [], ◌∷◌, cond, arith, refl, ap, subst}
 use Rattle.std.specs.List.{count_by, find}
 use Rattle.std.specs.Option.{option_map}
-use Rattle.std.proofs.lemmas.Bool.{false_from_ne_true}
 use Rattle.std.proofs.lemmas.List.Sums.{sum_by-append}
 use Rattle.hp_laws.proofs.lists.Places.{sum_by-filter_le}
-use Rattle.hp_laws.proofs.lists.AtMostOne.{bit, some_counted}
+use Rattle.hp_laws.proofs.lists.AtMostOne.{bit}
 use Rattle.hp_model.proofs.Counting.{count_cons}
 use Rattle.hp_model.specs.machine.Table.{Table, added, home_of, removed}
 use Rattle.hp_tasks.specs.Table.{HasEachOnce}
 
 module _ {X : Type 0} (p : X → Bool) where
-  -- the only one that passes is the first
-  pub find_alone : (d : X) (xs : List X) → count_by p xs ≤ 1 → (at : ℕ) → at < length xs → p (get_or xs at d) ≡ true → find p xs ≡ Some (get_or xs at d)
-  find_alone d [] few at within passes = absurd (omega (arith, within))
-  find_alone d (x ∷ xs) few zero within passes = ap (λ b. cond b (Some x) (find p xs)) passes
-  find_alone d (x ∷ xs) few (suc at) within passes =
-      let behind = some_counted p d xs at (omega (arith, within)) passes in
-      let other = false_from_ne_true (p x) (λ e. (let one = ap bit e in absurd (omega (arith, count_cons p x xs, one, behind, few)))) in
-      let rest = find_alone d xs (omega (arith, count_cons p x xs, few)) at (omega (arith, within)) passes in
-      ap (λ b. cond b (Some x) (find p xs)) other ∙ rest
-
   pub none_found : {Y : Type 0} (f : X → Y) (xs : List X) → option_map f (find p xs) ≡ None → count_by p xs ≡ 0
   none_found f [] none = refl
   none_found f (x ∷ xs) none =
@@ -31,11 +20,6 @@ module _ {X : Type 0} (p : X → Bool) where
     where
       not_none : {Y : Type 0} (y : Y) → Some y ≡ None → ⊥
       not_none y e = cc
-
-pub home_at : (table : Table) → HasEachOnce table → (at task : ℕ) (e : ℕ × ℕ) → at < length table → e ≡ get_or table at e → e.0 ≡ task → home_of table task ≡ Some e.1
-home_at table once at task e within is mine =
-    let passes = eq-eqb (get_or table at e).0 task (ap (λ x. x.0) (sym is) ∙ mine) in
-    ap (option_map (λ e. e.1)) (find_alone (λ e. e.0 == task) e table (once task) at within passes) ∙ ap (λ x. Some x.1) (sym is)
 
 pub once_added : (table : Table) (task home : ℕ) → home_of table task ≡ None → HasEachOnce table → HasEachOnce (added table task home)
 once_added table task home none once t =

@@ -1,14 +1,11 @@
 -- A run of a machine, from the run of one that starts as it.
-use Rattle.std.proofs.Common.{◌≡◌, ◌≤◌, ◌+◌, ℕ, suc, Bool, true, false, List, [], ◌∷◌, length, refl, ap, arith, subst, Option, Some, None, Result, Ok, Err, OnOk, IfErr, IfSome}
+use Rattle.std.proofs.Common.{◌≡◌, ◌≤◌, ℕ, Bool, true, false, List, arith, subst, Option, Some, None, Result, Ok, Err, OnOk, IfErr, IfSome}
 use Rattle.std.specs.Io.KnownBytes.{Consumes}
 use Rattle.hp_model.specs.machine.Promises.{IsPromisedStep}
-use Rattle.hp_model.specs.machine.Machine.{pool_of, rows_of}
-use Rattle.hp_model.specs.machine.State.{Node, State}
-use Rattle.hp_mount_door.specs.Door.{IsReady as IsReadyPool}
+use Rattle.hp_model.specs.machine.State.{State}
 use Rattle.hp_serving.specs.Ended as serving
 use Rattle.hp_serving.specs.declared.sessions.Ended.{Ended}
 use Rattle.hp_serving.specs.declared.sessions.Ended.TheVariants.{Printed, Unprinted, Failed}
-use Rattle.hp_system.specs.Kept.{IsReadyMachine, Machine}
 use Rattle.hp_wire.specs.Served.{AnswersInput, Serves, IsMemoryOrTooLong}
 use Rattle.hp_wire.specs.declared.fault.RunFault.{RunFault}
 use Rattle.hugetlbd.specs.Program.{AnswersScript, Run, status_of_run}
@@ -64,16 +61,3 @@ pub served_not_2 : (ended : Ended) (status : ℕ) → status ≡ serving.status_
 served_not_2 (Printed closed) status same two = after_not_2 closed.audit 0 status (omega arith) same two
 served_not_2 (Unprinted closed) status same two = after_not_2 closed.audit 1 status (omega arith) same two
 served_not_2 (Failed fault) status same two = omega (arith, same, two)
-
-long_rows : (s : State) (k : ℕ) (ns : List Node) → length (rows_of s k ns) ≡ length ns
-long_rows s k [] = refl
-long_rows s k (n ∷ ns) = ap suc (long_rows s (k + 1) ns)
-
--- a machine between steps has a pool that is ready for a section
-pub ready_pool : (m : Machine) → IsReadyMachine m → IsReadyPool m.pool
-ready_pool m r =
-    let total = r.settled.pool.total in
-    let surplus = r.settled.pool.surplus in
-    let nodes = r.settled.nodes in
-    let here : IsReadyPool (pool_of m.state) = record { settled = omega (arith, total, surplus); nodes = omega (arith, nodes, long_rows m.state 0 m.state.nodes) } in
-    subst IsReadyPool r.tied here

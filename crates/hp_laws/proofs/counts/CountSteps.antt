@@ -1,9 +1,9 @@
 -- How the counts of a file change with one of its indices.
 use Rattle.std.proofs.Common.{◌≡◌, ℕ, ◌+◌, ◌<◌, Bool, cond, length, ap, arith}
-use Rattle.std.specs.List.{slice_set, slice_index_or, count_by}
+use Rattle.std.specs.List.{slice_set, count_by}
 use Rattle.std.proofs.lemmas.List.Sums.{sum_by-set}
-use Rattle.hp_model.specs.files.File.{with_cell, with_file, File, cell_at, has_page, Mount}
-use Rattle.hp_model.specs.files.MountCounts.{file_pages, file_reserves, is_waiting, usage_of}
+use Rattle.hp_model.specs.files.File.{with_cell, File, cell_at, has_page}
+use Rattle.hp_model.specs.files.MountCounts.{file_pages, file_reserves, is_waiting}
 use Rattle.hp_model.specs.files.Page.{Page}
 use Rattle.hp_model.specs.declared.cell.Cell.{Cell}
 use Rattle.hp_model.specs.declared.cell.Cell.TheVariants.{Hole, Entered, Present}

@@ -40,7 +40,7 @@ use Rattle.hp_model.specs.files.GiveBack.{punched, truncated, unlinked, unmapped
 use Rattle.hp_model.specs.files.File.{File, Mount, cell_at, has_page, maps_of, new_file, with_file}
 use Rattle.hp_model.specs.pool.Grant.{is_full, is_over, rise}
 use Rattle.hp_model.specs.Lists.{is_among}
-use Rattle.hp_model.specs.machine.Machine.{committed_pages, pool_of, rows_of}
+use Rattle.hp_model.specs.machine.Machine.{pool_of, rows_of}
 use Rattle.hp_model.specs.files.MakeMap.{asked, mapped, next_number, numbers_of, with_new}
 use Rattle.hp_model.specs.files.Mapping.{is_map, is_of, is_shared, place_at}
 use Rattle.hp_model.specs.pool.NodeRows.{IsRow, total_of, frames_of}

@@ -107,7 +107,7 @@ long_event p (Overcommit n) =
 long_event p Meminfo = refl
 long_event p Nodes = refl
 
-long_rows : (s : State) (a : ℕ) (ns : List Node) → length (rows_of s a ns) ≡ length ns
+pub long_rows : (s : State) (a : ℕ) (ns : List Node) → length (rows_of s a ns) ≡ length ns
 long_rows s a [] = refl
 long_rows s a (n ∷ ns) = ap suc (long_rows s (a + 1) ns)
 

@@ -19,6 +19,7 @@ use Rattle.hp_laws.specs.Laws.{pool_after}
 use Rattle.hp_model.specs.machine.Sound.{IsSound}
 use Rattle.hp_model.specs.machine.State.{State, Node, with_slot, slot_at}
 use Rattle.hp_model.specs.declared.node.NodeRow.{NodeRow}
+use Rattle.hp_laws.proofs.sections.Lengths.{long_rows}
 use Rattle.hp_laws.proofs.counts.NodeSums.{slot_below, swap_le, once_in_range, pages-le-committed}
 use Rattle.hp_laws.proofs.sections.SectionTies.{IsWanted, used_is, same_list, relead, section_leads}
 use Rattle.hp_laws.proofs.sections.Sections.{Leads, long_as, unchanged}
@@ -35,10 +36,6 @@ rows_back t a (r ∷ rows) all e =
     let same : r.total - used_at a t ≡ r.free = omega (arith, is, free) in
     ap (λ x. record { frames = r.frames; total = r.total; free = x; surp = r.surp } ∷ rows_of t (a + 1) (map node_of rows)) same
     ∙ ap (λ xs. r ∷ xs) (rows_back t (a + 1) rows (All-tail IsRow r rows all) rest)
-
-long_rows : (s : State) (a : ℕ) (ns : List Node) → length (rows_of s a ns) ≡ length ns
-long_rows s a [] = refl
-long_rows s a (n ∷ ns) = omega (arith, long_rows s (a + 1) ns)
 
 nodes_back : (s : State) (a : ℕ) (ns : List Node) → map node_of (rows_of s a ns) ≡ ns
 nodes_back s a [] = refl

@@ -108,10 +108,6 @@ enough_of : (s : Slot) → FewSlot s → to_exit s ≤ most_tasks
 enough_of None f = omega arith
 enough_of (Some m) f = f
 
-or_true : (a b : Bool) → b ≡ true → (a || b) ≡ true
-or_true true b e = refl
-or_true false b e = e
-
 or_else : (a b c : Bool) → (b ≡ true → c ≡ true) → (a || b) ≡ true → (a || c) ≡ true
 or_else true b c h e = refl
 or_else false b c h e = h e

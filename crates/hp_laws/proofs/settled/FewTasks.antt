@@ -65,10 +65,6 @@ fewer xs ys within =
     let same = same_members (ys ++ xs) ys (λ q. is_among-append q ys xs ∙ covers (is_among q ys) (is_among q xs) (within q)) in
     omega (arith, more, same)
 
-or_left : (a b : Bool) → a ≡ true → (a || b) ≡ true
-or_left true b e = refl
-or_left false b e = cc
-
 or_right : (a b : Bool) → b ≡ true → (a || b) ≡ true
 or_right true b e = refl
 or_right false b e = e

@@ -12,12 +12,3 @@ run_more R s mid t [] [] step reply run next = (t, subst (λ x. R x step reply t
 run_more R s mid t (x ∷ xs) (r ∷ rs) step reply run next = (run.0, run.1, run_more R run.0 mid t xs rs step reply run.2 next)
 run_more R s mid t [] (r ∷ rs) step reply run next = absurd run
 run_more R s mid t (x ∷ xs) [] step reply run next = absurd run
-
--- each step is also one of another kind, as long as P holds
-pub run_by : (P : State → Type 0) (R Q : State → Step → Reply → State → Type 0) → ((s : State) (step : Step) (reply : Reply) (t : State) → P s → R s step reply t → Q s step reply t × P t)
-    → (s : State) (steps : List Step) (replies : List Reply) (t : State) → P s → RunsBy R s steps replies t → RunsBy Q s steps replies t
-run_by P R Q h s [] [] t holds run = run
-run_by P R Q h s (x ∷ xs) (r ∷ rs) t holds run =
-    let next = h s x r run.0 holds run.1 in (run.0, next.0, run_by P R Q h run.0 xs rs t next.1 run.2)
-run_by P R Q h s [] (r ∷ rs) t holds run = absurd run
-run_by P R Q h s (x ∷ xs) [] t holds run = absurd run

@@ -1,4 +1,4 @@
-use Rattle.std.proofs.Common.{rules, arith, ap, sym, ◌∙◌, length}
+use Rattle.std.proofs.Common.{rules, arith, ap, ◌∙◌, length}
 use Rattle.std.specs.Option.{is_some}
 use Rattle.std.proofs.lemmas.Fn.{filter_same}
 use Rattle.hp_tasks.specs.Table.{tasks_in}

@@ -1,6 +1,7 @@
 use Rattle.std.proofs.Common.{◌≡◌, ◌∙◌, ℕ, List, ap, rules}
 use Rattle.hp_model.specs.machine.Machine.{start}
-use Rattle.hugetlbd.proofs.Runs.{ready_pool, run_ended, script_answered}
+use Rattle.hp_system.proofs.Ready.{ready_pool}
+use Rattle.hugetlbd.proofs.Runs.{run_ended, script_answered}
 use Rattle.hugetlbd.proofs.program.run_machine.Goals as goal
 
 pub returns-clause-run : goal.returns-clause-run

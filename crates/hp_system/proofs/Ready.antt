@@ -1,13 +1,9 @@
 -- A machine between steps has a pool that is ready for a section.
-use Rattle.std.proofs.Common.{◌≡◌, ℕ, suc, ◌+◌, ◌-◌, ◌≤◌, List, [], ◌∷◌, length, refl, ap, subst, arith}
-use Rattle.hp_model.specs.machine.Machine.{pool_of, rows_of}
-use Rattle.hp_model.specs.machine.State.{Node, State}
+use Rattle.std.proofs.Common.{arith, subst}
+use Rattle.hp_model.specs.machine.Machine.{pool_of}
+use Rattle.hp_laws.proofs.sections.Lengths.{long_rows}
 use Rattle.hp_mount_door.specs.Door.{IsReady as IsReadyPool}
 use Rattle.hp_system.specs.Kept.{IsReadyMachine, Machine}
-
-long_rows : (s : State) (k : ℕ) (nodes : List Node) → length (rows_of s k nodes) ≡ length nodes
-long_rows s k [] = refl
-long_rows s k (n ∷ ns) = ap suc (long_rows s (k + 1) ns)
 
 pub ready_pool : (m : Machine) → IsReadyMachine m → IsReadyPool m.pool
 ready_pool m r =
