@@ -1,9 +1,10 @@
 use Rattle.std.proofs.Common.{length, sym, subst, ◌∙◌}
-use Rattle.hp_model.specs.machine.Step.{IsScript}
+use Rattle.hp_model.specs.machine.Step.{IsScript, IsStep}
 use Rattle.hp_model.specs.machine.Told.{told_reply}
 use Rattle.hp_system.proofs.system.System.do_step.Goals as goal
 
 pub returns-clause-step : goal.returns-clause-step
+unfolding IsStep
 returns-clause-step g c =
     let s = c.args.self.now.state in
     subst (λ script. IsScript s script (told_reply c.do_work.new.reply) c.do_work.new.self.state) (sym (c.work_of.ensures.script (length s.slots))) c.do_work.ensures.done
