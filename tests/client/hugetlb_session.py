@@ -278,13 +278,13 @@ class Session:
         self._writes = None
 
     def wait_for_end(self):
-        """Waits until the service has ended the session too, and drops what it still sends."""
+        """Waits until the service has ended the session too, and drops what it still sends. Answers whether it was ended, and not cut off."""
         while self._ready(False)[0]:
             try:
                 if not os.read(self._reads, 65536):
-                    return
+                    return True
             except ConnectionError:
-                return
+                return False
         raise TimeoutError(f"the service did not end in {self._seconds} seconds")
 
     def close(self):
