@@ -80,7 +80,7 @@ impl<N: Naming, const K: usize> Shared<N, K> {
             (start (frames_list N.frames) self.page_size self.slots) (lists told.items)
             c.counts) }
     {
-        let page = self.page_bytes();
+        let page = self.page_bytes as u64;
         let (system, trails) = self.into_parts();
         let joined = is_joined::<K>(alloc, trails, told);
         let counts = system.close();

@@ -36,7 +36,7 @@ use std::sync::Mutex;
 /// Nothing is known of a part until its lock is held. The machine can't be dropped: `into_parts` takes it apart and `close`
 /// ends it, once no session is left on it.
 pub struct Shared<N: Naming, const K: usize> {
-    page_bytes: usize,
+    pub(crate) page_bytes: usize,
     alloc: Global,
     slots: Vec<CachePadded<Mutex<Slot<N, Trace<SlotEntry, K>>>>>,
     table: CachePadded<Mutex<Table<N, Trace<TableEntry, K>>>>,
