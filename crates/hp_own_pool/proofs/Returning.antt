@@ -55,6 +55,13 @@ abbrev firsts : (k : ℕ) → (ℕ → ℕ) → List ℕ
 firsts zero f = []
 firsts (suc k) f = f 0 ∷ firsts k (λ n. f (suc n))
 
+put_nothing : (ks : List ℕ) (rows : List NodeRow) → sum ks ≡ 0 → put_rows ks rows ≡ rows
+put_nothing [] rows e = refl
+put_nothing (k ∷ ks) [] e = refl
+put_nothing (k ∷ ks) (r ∷ rows) e =
+    let parts = sum_by-cons (λ x. x) k ks in
+    ap (λ x. record r { free = x } ∷ put_rows ks rows) (omega (arith, e, parts)) ∙ ap (λ rs. r ∷ rs) (put_nothing ks rows (omega (arith, e, parts)))
+
 -- ---- the pool
 
 falls_both : (x y z c : ℕ) → z ≤ y → y ≤ x → c - (x - y) - (y - z) ≡ c - (x - z)
