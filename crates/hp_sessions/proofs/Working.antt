@@ -50,13 +50,13 @@ pub load_worked : (kept : Bool) (size : ℕ) (s t : SessionView) (a : Access) (c
     IsWorked kept size s (OfTask a.task a.slot (m.Load a.task a.map a.index a.offset count)) reply t → IsCallAnswered kept size s (load_step a count) reply t
 load_worked kept size s t a count reply done =
     step_answered kept size s t (load_step a count) (OfTask a.task a.slot (m.Load a.task a.map a.index a.offset count)) reply
-    (record { script = λ n. refl; receipts = λ n. refl; carries = refl; apart = refl }) done
+    (record { script = λ n. refl; receipts = λ n. refl; carries = refl; apart = refl; usage = refl; memory = λ state. refl }) done
 
 pub store_worked : (kept : Bool) (size : ℕ) (s t : SessionView) (a : Access) (bytes : Bor (List ℕ)) (reply : Reply) →
     IsWorked kept size s (OfTask a.task a.slot (m.Store a.task a.map a.index a.offset bytes)) reply t → IsCallAnswered kept size s (store_step a bytes.now) reply t
 store_worked kept size s t a bytes reply done =
     step_answered kept size s t (store_step a bytes.now) (OfTask a.task a.slot (m.Store a.task a.map a.index a.offset bytes)) reply
-    (record { script = λ n. refl; receipts = λ n. refl; carries = refl; apart = refl }) done
+    (record { script = λ n. refl; receipts = λ n. refl; carries = refl; apart = refl; usage = refl; memory = λ state. refl }) done
 
 -- ---- a fault, and an event alone where no entries are kept
 
@@ -64,7 +64,7 @@ pub fault_worked : (kept : Bool) (size : ℕ) (s t : SessionView) (task k number
     IsWorked kept size s (OfTask task k (m.Fault task number index intent)) reply t → IsCallAnswered kept size s (Fault task k number index intent) reply t
 fault_worked kept size s t task k number index intent reply done =
     step_answered kept size s t (Fault task k number index intent) (OfTask task k (m.Fault task number index intent)) reply
-    (record { script = λ n. refl; receipts = λ n. refl; carries = refl; apart = refl }) done
+    (record { script = λ n. refl; receipts = λ n. refl; carries = refl; apart = refl; usage = refl; memory = λ state. refl }) done
 
 pub alone_answered : (kept : Bool) (size : ℕ) (s t : SessionView) (step : Step) (e : Event) (reply : Reply) → kept ≡ false → script s.slots step ≡ only e → IsMade kept size s e reply t →
     IsCallAnswered kept size s step reply t

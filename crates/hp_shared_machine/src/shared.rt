@@ -140,6 +140,7 @@ impl<N: Naming, const K: usize> Shared<N, K> {
     pub fn page_bytes(&self) -> u64
         ensures bytes { result ≡ self.now.page_size }
         ensures named { result ≡ N.page_bytes }
+        ensures some { 0 < result }
         ensures most { result ≤ most_page_bytes }
     {
         self.page_bytes as u64

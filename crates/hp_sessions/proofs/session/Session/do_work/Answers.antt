@@ -31,15 +31,15 @@ pub returns-in-Attach : goal.returns-in-Attach
 returns-in-Attach g c =
     let size = g.N.Naming.page_bytes in
     let s = c.args.self.now in
-    let t = c.make_table-2.new.self in
+    let t = c.make_table-in-Attach.new.self in
     let n = c.most_receipts.ensures ∙ ap (work_receipts c.count.result) c.in-Attach.is in
     let room : HasReceiptRoom (g.row.K == 1) 1 s = λ k. (let has = c.if-lacks.ensures k in omega (arith, has, n)) in
-    let made = subst (λ (r : Reply). IsMade (g.row.K == 1) size s (OnTasks (Find c.in-Attach.task)) r t) (sym c.table_told-2.ensures.reply) c.make_table-2.ensures.made in
+    let made = subst (λ (r : Reply). IsMade (g.row.K == 1) size s (OnTasks (Find c.in-Attach.task)) r t) (sym c.table_told-in-Attach.ensures.reply) c.make_table-in-Attach.ensures.made in
     record {
-      worked = subst (λ (w : Work). IsWorked (g.row.K == 1) size s w (told_reply c.table_told-2.result) t) (sym c.in-Attach.is)
-          (worked (g.row.K == 1) size s t (Attach c.in-Attach.task) (told_reply c.table_told-2.result) room
-          (only_made (g.row.K == 1) size s t (OnTasks (Find c.in-Attach.task)) (told_reply c.table_told-2.result) made));
-      limits = c.table_told-2.ensures.limits;
+      worked = subst (λ (w : Work). IsWorked (g.row.K == 1) size s w (told_reply c.table_told-in-Attach.result) t) (sym c.in-Attach.is)
+          (worked (g.row.K == 1) size s t (Attach c.in-Attach.task) (told_reply c.table_told-in-Attach.result) room
+          (only_made (g.row.K == 1) size s t (OnTasks (Find c.in-Attach.task)) (told_reply c.table_told-in-Attach.result) made));
+      limits = c.table_told-in-Attach.ensures.limits;
     }
 
 pub returns-in-Pool : goal.returns-in-Pool
