@@ -1,12 +1,12 @@
 -- A change of one block, as a change of the indices of all.
 use Rattle.std.proofs.Common.{◌≡◌, ◌≢◌, ℕ, zero, suc, ◌+◌, ◌-◌, ◌*◌, ◌/◌, ◌%◌, ◌<◌, ◌≤◌, min, Bool, true, false, not, ◌&&◌, ◌||◌}
-use Rattle.std.proofs.Common.{List, [], ◌∷◌, ◌++◌, length, get_or, set, cond, None, sym, refl, ap, ◌∙◌, arith, ⊎_elim, Option, Some, IsSome, subst}
+use Rattle.std.proofs.Common.{List, [], ◌∷◌, length, get_or, cond, None, sym, refl, ap, ◌∙◌, arith, ⊎_elim, Option, Some, IsSome, subst}
 use Rattle.std.specs.Option.{is_some}
 use Rattle.std.specs.List.{range_with_len, count_by}
 use Rattle.std.proofs.Math.Bool.{or-false, and-true}
 use Rattle.std.proofs.lemmas.Bool.{cases_lt, cases_eq, ltb-true, false≢true}
 use Rattle.std.proofs.lemmas.Bool.Decides.{nat_tests}
-use Rattle.std.proofs.lemmas.List.{get_or-set_same, get_or-set_other, get_or_past, get_or_read, nil_from_length}
+use Rattle.std.proofs.lemmas.List.{get_or_past, nil_from_length}
 use Rattle.std.proofs.lemmas.List.FromFn.{length-range_with_len}
 use Rattle.std.proofs.lemmas.List.Sums.{count_by-le-length}
 use Rattle.hp_model.proofs.Counting.{alike_in, count_cons, count_not, count_split, count_outside}
@@ -34,24 +34,13 @@ module _ {X : Type 0} (first : List X) (rest : List (List X)) (at : ℕ) (later 
   pub block_there : get_or (first ∷ rest) at [] ≡ get_or rest (at - 1) []
   block_there = sym (ap (λ n. get_or (first ∷ rest) n []) next)
 
-  pub there : 0 < length (get_or (first ∷ rest) at []) → at - 1 < length rest
-  there some = ⊎_elim (λ (lt : at - 1 < length rest). lt)
-      (λ (le : length rest ≤ at - 1). let none : length (get_or (first ∷ rest) at []) ≡ 0 = ap length (block_there ∙ get_or_past rest (at - 1) [] le) in absurd (omega (arith, some, none)))
-      (cases_lt (at - 1) (length rest))
+  module _ (new : List (List X)) where
+    pub seen_there : {B : Type 0} (see : List X → B) → see (get_or new (at - 1) []) ≡ see (get_or rest (at - 1) []) → see (get_or (first ∷ new) at []) ≡ see (get_or (first ∷ rest) at [])
+    seen_there see same = ap (λ n. see (get_or (first ∷ new) n [])) (sym next) ∙ same ∙ ap see (sym block_there)
 
-  pub past : length rest ≤ at - 1 → get_or (first ∷ rest) at [] ≡ []
-  past le = block_there ∙ get_or_past rest (at - 1) [] le
-
-  pub read_is : (read : List X) → at - 1 < length rest → read ≡ get_or rest (at - 1) read → get_or (first ∷ rest) at [] ≡ read
-  read_is read lt is = block_there ∙ sym (get_or_read rest (at - 1) read lt is [])
-
-  module _ (made : List X) where
-    pub changed_here : at - 1 < length rest → get_or (first ∷ set rest (at - 1) made) at [] ≡ made
-    changed_here lt = sym (ap (λ n. get_or (first ∷ set rest (at - 1) made) n []) next) ∙ get_or-set_same rest (at - 1) made [] lt
-
-    pub changed_others : (j : ℕ) → j ≢ at → get_or (first ∷ set rest (at - 1) made) j [] ≡ get_or (first ∷ rest) j []
-    changed_others zero other = refl
-    changed_others (suc j) other = get_or-set_other rest (at - 1) j made [] (λ same. other (ap suc same ∙ next))
+    pub others_there : ((j : ℕ) → j ≢ at - 1 → get_or new j [] ≡ get_or rest j []) → (j : ℕ) → j ≢ at → get_or (first ∷ new) j [] ≡ get_or (first ∷ rest) j []
+    others_there others zero differs = refl
+    others_there others (suc j) differs = others j (λ same. differs (ap suc same ∙ next))
 
 -- ---- the indices of a block
 
@@ -231,13 +220,13 @@ module _ (old new : RowBlocks) (q : ℕ) (others : KeepsOthers old new q) where
       (λ (other : k / 65536 ≢ q). ap (λ block. page_in block (k % 65536)) (others (k / 65536) other))
       (cases_eq (k / 65536) q)
 
-pub slotted : (rows : RowBlocks) (i : ℕ) → has_slot_at rows i ≡ true → 0 < length (get_or rows (i / 65536) [])
+pub slotted : (rows : Rows) (i : ℕ) → has_slot rows i ≡ true → 0 < length rows
 slotted rows i has = ⊎_elim
-    (λ (none : length (get_or rows (i / 65536) []) ≡ 0).
-    let nowhere : has_slot [] (i % 65536) ≡ true = sym (ap (λ block. has_slot block (i % 65536)) (nil_from_length (get_or rows (i / 65536) []) none)) ∙ has in
-    absurd (omega (arith, ltb-true (i % 65536 % 64) 0 nowhere)))
-    (λ (some : length (get_or rows (i / 65536) []) ≢ 0). omega (arith, some))
-    (cases_eq (length (get_or rows (i / 65536) [])) 0)
+    (λ (none : length rows ≡ 0).
+    let nowhere : has_slot [] i ≡ true = sym (ap (λ block. has_slot block i) (nil_from_length rows none)) ∙ has in
+    absurd (omega (arith, ltb-true (i % 64) 0 nowhere)))
+    (λ (some : length rows ≢ 0). omega (arith, some))
+    (cases_eq (length rows) 0)
 
 -- ---- slots that are made
 
@@ -287,13 +276,6 @@ module _ (rows : RowBlocks) (a at from : ℕ) (low : a ≤ at * 65536 + from) (b
       (cases_lt k (at * 65536 + from))
 
 -- ---- blocks of which the first have no page
-
--- an empty block at the end is as none
-pub empty_pushed : {X : Type 0} (blocks : List (List X)) (j : ℕ) → get_or (blocks ++ [] ∷ []) j [] ≡ get_or blocks j []
-empty_pushed [] zero = refl
-empty_pushed [] (suc j) = refl
-empty_pushed (x ∷ xs) zero = refl
-empty_pushed (x ∷ xs) (suc j) = empty_pushed xs j
 
 -- no page comes before the first ones that had none
 pub table_as_before : (old new : RowBlocks) (bare : ℕ) → AreBlocks new → ((k : ℕ) → page_at new k ≡ page_at old k) → IsRowTable old bare → IsRowTable new bare

@@ -1,4 +1,5 @@
 mod Blocks
+mod Later
 mod Bare
 mod CellFacts
 mod Dropped

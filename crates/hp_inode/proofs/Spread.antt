@@ -1,6 +1,6 @@
 -- Marks of a range, set or cleared a word at a time, and how many of a range are set.
 use Rattle.std.proofs.Common.{◌≡◌, ℕ, ◌+◌, ◌-◌, ◌*◌, ◌/◌, ◌%◌, ◌^◌, ◌<◌, ◌≤◌, min, Bool, true, false, not, ◌&&◌, ◌||◌, eqb, List}
-use Rattle.std.proofs.Common.{length, get_or, set, sym, refl, ap, ◌∙◌, arith, ◌⊎◌, ⊎_elim, Option, None, Some, bit_and, bit_or, count_ones}
+use Rattle.std.proofs.Common.{length, get_or, set, sym, refl, ap, ◌∙◌, arith, ⊎_elim, Option, None, Some, bit_and, bit_or, count_ones}
 use Rattle.std.specs.Int.{bit_at, bit_not, w64}
 use Rattle.std.specs.List.{range_with_len, count_by}
 use Rattle.std.proofs.Math.Bool.{or-false, or-true, and-true, and-false}

@@ -1,4 +1,4 @@
-//! Blocks of 65,536 indices. Below an index that is far out the blocks without entries take 16 bytes each.
+//! Blocks of 65,536 indices. Below an index that is far out the blocks without entries take 4 bytes each.
 ghost use Rattle.std.specs.Prelude.{◌≡◌, ◌-◌, ◌%◌, ◌<◌, min};
 ghost use Rattle.hp_inode.specs.Blocks.{block_size};
 

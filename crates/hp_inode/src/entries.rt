@@ -2,7 +2,7 @@
 ghost use Rattle.std.specs.Prelude.{ℕ, ◌≡◌, ◌≢◌, ◌*◌, ◌<◌, ◌≤◌, ◌^◌, ◌&&◌, ◌||◌, [], length, not, true, OnOk, MatchOption};
 ghost use Rattle.std.specs.List.{slice_index_or};
 ghost use Rattle.hp_model.specs.files.Ranges.{within};
-ghost use Rattle.hp_inode.specs.Blocks.{block_size, entered_at, has_place, entered_count, missing_count};
+ghost use Rattle.hp_inode.specs.Blocks.{block_size, most_blocks, entered_at, has_place, entered_count, missing_count};
 ghost use Rattle.hp_inode.specs.EntryBlock.{count_in, missing_in};
 ghost use Rattle.hp_inode.specs.Marks.{marked};
 
@@ -16,10 +16,9 @@ use std::marker::Model;
 /// indices it takes none.
 #[derive(Drop)]
 pub struct Entries {
-    alloc: Global,
     first: EntryBlock,
     // those after the first, up to the last that has had an entry
-    rest: Vec<LaterEntries>,
+    rest: LaterEntries,
 }
 
 impl Model for Entries {
@@ -28,7 +27,7 @@ impl Model for Entries {
 
     ghost Value = { WordBlocks };
 
-    ghost view = { λ e. e.first ∷ e.rest.items };
+    ghost view = { λ e. e.first ∷ e.rest };
 }
 
 impl Entries {
@@ -37,9 +36,8 @@ impl Entries {
         ensures { (i : ℕ) → entered_at result i ≡ entered_at [] i }
     {
         Entries {
-            alloc,
             first: EntryBlock::new(alloc),
-            rest: Vec::new(alloc),
+            rest: LaterEntries::new(alloc),
         }
     }
 
@@ -52,12 +50,7 @@ impl Entries {
         if at == 0 {
             return Some(&self.first);
         }
-        let at = at as usize - 1;
-        if at < self.rest.len() {
-            self.rest[at].get()
-        } else {
-            None
-        }
+        self.rest.get(at as usize - 1)
     }
 
     /// Whether the index `i` is in the set.
@@ -131,6 +124,7 @@ impl Entries {
 
     // Makes room for the indices from `from` up to `to` of one block.
     fn make_in(&mut self, at: u64, from: u64, to: u64) -> Result<(), AllocError>
+        requires few { at < most_blocks }
         requires some { from < to }
         requires block { to ≤ block_size }
         ensures ok { OnOk result (to ≤ 64 * length (slice_index_or self.new at [])) }
@@ -142,14 +136,7 @@ impl Entries {
         if at == 0 {
             return self.first.make_room(from, to);
         }
-        let at = at as usize - 1;
-        if self.rest.len() <= at {
-            self.rest.reserve_exact(at + 1 - self.rest.len())?;
-        }
-        while self.rest.len() <= at {
-            self.rest.push(LaterEntries::new())?;
-        }
-        self.rest[at].make_room(self.alloc, from, to)
+        self.rest.make_room(at as usize - 1, from, to)
     }
 
     /// Puts the indices from `a` up to `b` in.
@@ -183,7 +170,7 @@ impl Entries {
             self.first.add(from, to);
             return;
         }
-        self.rest[at as usize - 1].add(from, to);
+        self.rest.add(at as usize - 1, from, to);
     }
 
     /// Takes the indices from `a` up to `b` out, and answers how many there were.
@@ -217,10 +204,6 @@ impl Entries {
         if at == 0 {
             return self.first.remove(from, to);
         }
-        let at = at as usize - 1;
-        if at >= self.rest.len() {
-            return 0;
-        }
-        self.rest[at].remove(from, to)
+        self.rest.remove(at as usize - 1, from, to)
     }
 }

@@ -1,80 +1,133 @@
-//! The entries of a later block, made at the first room for some.
-ghost use Rattle.std.specs.Prelude.{ℕ, ◌≡◌, ◌*◌, ◌<◌, ◌≤◌, ◌^◌, ◌&&◌, ◌||◌, [], length, not, MatchOption, OnOk};
+//! The entries of the blocks after the first, each made at the first room in it.
+ghost use Rattle.std.specs.Prelude.{ℕ, ◌≡◌, ◌≢◌, ◌+◌, ◌*◌, ◌<◌, ◌≤◌, ◌^◌, ◌&&◌, ◌||◌, [], length, not, MatchOption, OnOk};
+ghost use Rattle.std.specs.List.{slice_index_or};
 ghost use Rattle.hp_model.specs.files.Ranges.{within};
+ghost use Rattle.hp_inode.specs.Blocks.{most_blocks};
 ghost use Rattle.hp_inode.specs.EntryBlock.{count_in};
+ghost use Rattle.hp_inode.specs.Later.{AreLater, blocks_in};
 ghost use Rattle.hp_inode.specs.Marks.{marked};
 
 use crate::entry_block::EntryBlock;
+use crate::places::make_place;
 use std::alloc::{AllocError, Global};
 use std::marker::Model;
 
-/// A set of indices that takes 8 bytes until room is made in it. Contracts see its words.
+/// The sets of the later blocks, by number. Contracts see the words of each.
 #[derive(Drop)]
 pub struct LaterEntries {
-    block: Option<Box<EntryBlock>>,
+    alloc: Global,
+    // for each block 0, or its number among those that were made
+    places: Vec<u16>,
+    blocks: Vec<EntryBlock>,
 }
 
 impl Model for LaterEntries {
-    ghost use Rattle.std.specs.Prelude.{List, ℕ};
-    ghost use Rattle.hp_inode.specs.Later.{block_in};
+    ghost use Rattle.std.specs.Prelude.{length};
+    ghost use Rattle.hp_inode.specs.Blocks.{WordBlocks};
+    ghost use Rattle.hp_inode.specs.Later.{blocks_in, AreLater};
 
-    ghost Value = { List ℕ };
+    ghost Value = { WordBlocks };
 
-    ghost view = { λ e. block_in e.block };
+    ghost view = { λ t. blocks_in t.places.items t.blocks.items };
+
+    ghost invariant = { λ t. AreLater t.places.items (length t.blocks.items) };
 }
 
 impl LaterEntries {
-    /// The empty set.
-    pub fn new() -> Self
+    /// No later block.
+    pub fn new(alloc: Global) -> Self
         ensures { result ≡ [] }
     {
-        LaterEntries { block: None }
+        LaterEntries {
+            alloc,
+            places: Vec::new(alloc),
+            blocks: Vec::new(alloc),
+        }
     }
 
-    /// The set, if it was made.
+    /// The block, if it was made.
     #[inline(always)]
-    pub fn get(&self) -> Option<&EntryBlock>
-        ensures { MatchOption result (self.now ≡ []) (λ block. self.now ≡ block.now) }
+    pub fn get(&self, at: usize) -> Option<&EntryBlock>
+        ensures { MatchOption result (slice_index_or self.now at [] ≡ [])
+            (λ block. slice_index_or self.now at [] ≡ block.now) }
     {
-        match &self.block {
-            Some(block) => Some(block),
-            None => None,
+        if at >= self.places.len() {
+            return None;
         }
+        let n = self.places[at] as usize;
+        if n == 0 {
+            return None;
+        }
+        Some(&self.blocks[n - 1])
     }
 
-    /// Makes room for the indices from `a` up to `b`.
-    pub fn make_room(&mut self, alloc: Global, a: u64, b: u64) -> Result<(), AllocError>
-        requires { b < 2 ^ 32 }
-        ensures ok { OnOk result (a < b → b ≤ 64 * length self.new) }
-        ensures same { (k : ℕ) → marked self.new k ≡ marked self.old k }
+    /// Makes room for the indices from `a` up to `b` of one block.
+    pub fn make_room(&mut self, at: usize, a: u64, b: u64) -> Result<(), AllocError>
+        requires few { at + 1 < most_blocks }
+        requires small { b < 2 ^ 32 }
+        ensures ok { OnOk result (a < b → b ≤ 64 * length (slice_index_or self.new at [])) }
+        ensures same { (k : ℕ) → marked (slice_index_or self.new at []) k
+            ≡ marked (slice_index_or self.old at []) k }
+        ensures others { (j : ℕ) → j ≢ at
+            → slice_index_or self.new j [] ≡ slice_index_or self.old j [] }
     {
-        if let Some(block) = &mut self.block {
-            return block.make_room(a, b);
-        }
-        let mut block = EntryBlock::new(alloc);
-        block.make_room(a, b)?;
-        self.block = Some(Box::new(alloc, block)?);
-        Ok(())
+        make_block(&mut self.places, &mut self.blocks, self.alloc, at)?;
+        let n = self.places[at] as usize;
+        self.blocks[n - 1].make_room(a, b)
     }
 
-    /// Puts the indices from `a` up to `b` in.
-    pub fn add(&mut self, a: u64, b: u64)
-        requires { a < b → b ≤ 64 * length self.old }
-        ensures { (k : ℕ) → marked self.new k ≡ (marked self.old k || within a b k) }
+    /// Puts the indices from `a` up to `b` of one block in.
+    pub fn add(&mut self, at: usize, a: u64, b: u64)
+        requires some { a < b }
+        requires room { b ≤ 64 * length (slice_index_or self.old at []) }
+        ensures here { (k : ℕ) → marked (slice_index_or self.new at []) k
+            ≡ (marked (slice_index_or self.old at []) k || within a b k) }
+        ensures others { (j : ℕ) → j ≢ at
+            → slice_index_or self.new j [] ≡ slice_index_or self.old j [] }
     {
-        if let Some(block) = &mut self.block {
-            block.add(a, b);
-        }
+        let n = self.places[at] as usize;
+        self.blocks[n - 1].add(a, b);
     }
 
-    /// Takes the indices from `a` up to `b` out, and answers how many there were.
-    pub fn remove(&mut self, a: u64, b: u64) -> u64
-        ensures count { result ≡ count_in self.old a b }
-        ensures left { (k : ℕ) → marked self.new k ≡ (marked self.old k && not (within a b k)) }
+    /// Takes the indices from `a` up to `b` of one block out, and answers how many there were.
+    pub fn remove(&mut self, at: usize, a: u64, b: u64) -> u64
+        ensures count { result ≡ count_in (slice_index_or self.old at []) a b }
+        ensures here { (k : ℕ) → marked (slice_index_or self.new at []) k
+            ≡ (marked (slice_index_or self.old at []) k && not (within a b k)) }
+        ensures others { (j : ℕ) → j ≢ at
+            → slice_index_or self.new j [] ≡ slice_index_or self.old j [] }
     {
-        if let Some(block) = &mut self.block {
-            return block.remove(a, b);
+        if at >= self.places.len() {
+            return 0;
         }
-        0
+        let n = self.places[at] as usize;
+        if n == 0 {
+            return 0;
+        }
+        self.blocks[n - 1].remove(a, b)
     }
+}
+
+// Makes the block of number `at` where it was not made, with nothing in it.
+fn make_block(
+    places: &mut Vec<u16>,
+    blocks: &mut Vec<EntryBlock>,
+    alloc: Global,
+    at: usize,
+) -> Result<(), AllocError>
+    requires within { at + 1 < most_blocks }
+    requires later { AreLater places.old.items (length blocks.old.items) }
+    ensures later { AreLater places.new.items (length blocks.new.items) }
+    ensures ok { OnOk result (0 < slice_index_or places.new.items at 0) }
+    ensures same { (j : ℕ) → slice_index_or (blocks_in places.new.items blocks.new.items) j []
+        ≡ slice_index_or (blocks_in places.old.items blocks.old.items) j [] }
+{
+    make_place(places, at)?;
+    if places[at] > 0 {
+        return Ok(());
+    }
+    blocks.reserve_exact(1)?;
+    blocks.push(EntryBlock::new(alloc))?;
+    places[at] = blocks.len() as u16;
+    Ok(())
 }

@@ -1,71 +1,133 @@
-//! The pages of a later block, made at the first slot.
-ghost use Rattle.std.specs.Prelude.{ℕ, ◌≡◌, ◌/◌, ◌<◌, ◌≤◌, ◌^◌, [], MatchOption, OnOk, true};
+//! The pages of the blocks after the first, each made at the first slot in it.
+ghost use Rattle.std.specs.Prelude.{ℕ, ◌≡◌, ◌≢◌, ◌+◌, ◌/◌, ◌<◌, ◌≤◌, ◌^◌, [], length, MatchOption, OnOk, true};
+ghost use Rattle.std.specs.List.{slice_index_or};
+ghost use Rattle.hp_inode.specs.Blocks.{most_blocks};
+ghost use Rattle.hp_inode.specs.Later.{AreLater, blocks_in};
 ghost use Rattle.hp_inode.specs.Rows.{page_in, has_slot};
 
 use crate::page_block::PageBlock;
+use crate::places::make_place;
 use hp_model::page_no::PageNo;
 use std::alloc::{AllocError, Global};
 use std::marker::Model;
 
-/// Pages by index that take 8 bytes until a slot is made among them. Contracts see their rows.
+/// The pages of the later blocks, by number. Contracts see the rows of each.
 #[derive(Drop)]
 pub struct LaterPages {
-    block: Option<Box<PageBlock>>,
+    alloc: Global,
+    // for each block 0, or its number among those that were made
+    places: Vec<u16>,
+    blocks: Vec<PageBlock>,
 }
 
 impl Model for LaterPages {
-    ghost use Rattle.hp_inode.specs.Rows.{Rows};
-    ghost use Rattle.hp_inode.specs.Later.{block_in};
+    ghost use Rattle.std.specs.Prelude.{length};
+    ghost use Rattle.hp_inode.specs.Blocks.{RowBlocks};
+    ghost use Rattle.hp_inode.specs.Later.{blocks_in, AreLater};
 
-    ghost Value = { Rows };
+    ghost Value = { RowBlocks };
 
-    ghost view = { λ t. block_in t.block };
+    ghost view = { λ t. blocks_in t.places.items t.blocks.items };
+
+    ghost invariant = { λ t. AreLater t.places.items (length t.blocks.items) };
 }
 
 impl LaterPages {
-    pub fn new() -> Self
+    /// No later block.
+    pub fn new(alloc: Global) -> Self
         ensures { result ≡ [] }
     {
-        LaterPages { block: None }
+        LaterPages {
+            alloc,
+            places: Vec::new(alloc),
+            blocks: Vec::new(alloc),
+        }
     }
 
-    /// The pages, if a slot was made for one.
+    /// How many blocks there are, of which the last was made.
     #[inline(always)]
-    pub fn get(&self) -> Option<&PageBlock>
-        ensures { MatchOption result (self.now ≡ []) (λ block. self.now ≡ block.now) }
+    pub fn len(&self) -> usize
+        ensures { result ≡ length self.now }
     {
-        match &self.block {
-            Some(block) => Some(block),
-            None => None,
+        self.places.len()
+    }
+
+    /// The block, if it was made.
+    #[inline(always)]
+    pub fn get(&self, at: usize) -> Option<&PageBlock>
+        ensures { MatchOption result (slice_index_or self.now at [] ≡ [])
+            (λ block. slice_index_or self.now at [] ≡ block.now) }
+    {
+        if at >= self.places.len() {
+            return None;
         }
+        let n = self.places[at] as usize;
+        if n == 0 {
+            return None;
+        }
+        Some(&self.blocks[n - 1])
+    }
+
+    /// Makes a slot for each index from `a` up to `b` of one block.
+    pub fn make_slots(&mut self, at: usize, a: u64, b: u64) -> Result<(), AllocError>
+        requires few { at + 1 < most_blocks }
+        requires small { b < 2 ^ 32 }
+        ensures pages { (k : ℕ) → page_in (slice_index_or self.new at []) k
+            ≡ page_in (slice_index_or self.old at []) k }
+        ensures kept { (k : ℕ) → has_slot (slice_index_or self.old at []) k ≡ true
+            → has_slot (slice_index_or self.new at []) k ≡ true }
+        ensures made { OnOk result ((k : ℕ) → a ≤ k → k < b
+            → has_slot (slice_index_or self.new at []) k ≡ true) }
+        ensures below { (k : ℕ) → k / 64 < a / 64
+            → has_slot (slice_index_or self.new at []) k
+            ≡ has_slot (slice_index_or self.old at []) k }
+        ensures others { (j : ℕ) → j ≢ at
+            → slice_index_or self.new j [] ≡ slice_index_or self.old j [] }
+        ensures few { length self.new < most_blocks }
+    {
+        make_block(&mut self.places, &mut self.blocks, self.alloc, at)?;
+        let n = self.places[at] as usize;
+        self.blocks[n - 1].make_slots(a, b)
     }
 
     #[inline(never)]
-    pub fn set(&mut self, i: u64, page: Option<PageNo>)
-        requires { has_slot self.old i ≡ true }
-        ensures here { page_in self.new i ≡ page }
-        ensures others { (k : ℕ) → (k ≡ i → ⊥) → page_in self.new k ≡ page_in self.old k }
-        ensures slots { (k : ℕ) → has_slot self.new k ≡ has_slot self.old k }
+    pub fn set(&mut self, at: usize, i: u64, page: Option<PageNo>)
+        requires { has_slot (slice_index_or self.old at []) i ≡ true }
+        ensures here { page_in (slice_index_or self.new at []) i ≡ page }
+        ensures same { (k : ℕ) → k ≢ i
+            → page_in (slice_index_or self.new at []) k
+            ≡ page_in (slice_index_or self.old at []) k }
+        ensures slots { (k : ℕ) → has_slot (slice_index_or self.new at []) k
+            ≡ has_slot (slice_index_or self.old at []) k }
+        ensures others { (j : ℕ) → j ≢ at
+            → slice_index_or self.new j [] ≡ slice_index_or self.old j [] }
+        ensures len { length self.new ≡ length self.old }
     {
-        if let Some(block) = &mut self.block {
-            block.set(i, page);
-        }
+        let n = self.places[at] as usize;
+        self.blocks[n - 1].set(i, page);
     }
+}
 
-    /// Makes a slot for each index from `a` up to `b`.
-    pub fn make_slots(&mut self, alloc: Global, a: u64, b: u64) -> Result<(), AllocError>
-        requires { b < 2 ^ 32 }
-        ensures pages { (k : ℕ) → page_in self.new k ≡ page_in self.old k }
-        ensures kept { (k : ℕ) → has_slot self.old k ≡ true → has_slot self.new k ≡ true }
-        ensures made { OnOk result ((k : ℕ) → a ≤ k → k < b → has_slot self.new k ≡ true) }
-        ensures below { (k : ℕ) → k / 64 < a / 64 → has_slot self.new k ≡ has_slot self.old k }
-    {
-        if let Some(block) = &mut self.block {
-            return block.make_slots(a, b);
-        }
-        let mut block = PageBlock::new(alloc);
-        block.make_slots(a, b)?;
-        self.block = Some(Box::new(alloc, block)?);
-        Ok(())
+// Makes the block of number `at` where it was not made, with nothing in it.
+fn make_block(
+    places: &mut Vec<u16>,
+    blocks: &mut Vec<PageBlock>,
+    alloc: Global,
+    at: usize,
+) -> Result<(), AllocError>
+    requires within { at + 1 < most_blocks }
+    requires later { AreLater places.old.items (length blocks.old.items) }
+    ensures later { AreLater places.new.items (length blocks.new.items) }
+    ensures ok { OnOk result (0 < slice_index_or places.new.items at 0) }
+    ensures same { (j : ℕ) → slice_index_or (blocks_in places.new.items blocks.new.items) j []
+        ≡ slice_index_or (blocks_in places.old.items blocks.old.items) j [] }
+{
+    make_place(places, at)?;
+    if places[at] > 0 {
+        return Ok(());
     }
+    blocks.reserve_exact(1)?;
+    blocks.push(PageBlock::new(alloc))?;
+    places[at] = blocks.len() as u16;
+    Ok(())
 }

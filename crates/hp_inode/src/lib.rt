@@ -24,6 +24,7 @@ mod later_entries;
 mod later_pages;
 mod marks;
 mod page_block;
+mod places;
 mod ready;
 mod table;
 

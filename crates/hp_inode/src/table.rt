@@ -14,10 +14,9 @@ use std::marker::Model;
 /// The pages of a file. Contracts see the rows of its blocks.
 #[derive(Drop)]
 pub struct PageTable {
-    alloc: Global,
     first: PageBlock,
     // those after the first, up to the last that has had a slot
-    rest: Vec<LaterPages>,
+    rest: LaterPages,
     // no block before this one has a page
     bare: u64,
 }
@@ -28,9 +27,9 @@ impl Model for PageTable {
 
     ghost Value = { RowBlocks };
 
-    ghost view = { λ t. t.first ∷ t.rest.items };
+    ghost view = { λ t. t.first ∷ t.rest };
 
-    ghost invariant = { λ t. IsRowTable (t.first ∷ t.rest.items) t.bare };
+    ghost invariant = { λ t. IsRowTable (t.first ∷ t.rest) t.bare };
 }
 
 impl PageTable {
@@ -39,9 +38,8 @@ impl PageTable {
         ensures slots { (i : ℕ) → has_slot_at result i ≡ has_slot_at [] i }
     {
         PageTable {
-            alloc,
             first: PageBlock::new(alloc),
-            rest: Vec::new(alloc),
+            rest: LaterPages::new(alloc),
             bare: 0,
         }
     }
@@ -55,12 +53,7 @@ impl PageTable {
         if at == 0 {
             return Some(&self.first);
         }
-        let at = at as usize - 1;
-        if at < self.rest.len() {
-            self.rest[at].get()
-        } else {
-            None
-        }
+        self.rest.get(at as usize - 1)
     }
 
     #[inline(always)]
@@ -93,7 +86,7 @@ impl PageTable {
             self.first.set(i, page);
             return;
         }
-        self.rest[(i / BLOCK) as usize - 1].set(i % BLOCK, page);
+        self.rest.set((i / BLOCK) as usize - 1, i % BLOCK, page);
     }
 
     /// Takes the page of index `i` out, which is the first of those from `a` on.
@@ -130,7 +123,7 @@ impl PageTable {
     pub fn first_from(&self, a: u64) -> Option<u64>
         ensures { FindsPageAt self.now a result }
     {
-        if self.rest.is_empty() {
+        if self.rest.len() == 0 {
             return self.first.first_from(a);
         }
         let (mut at, mut from) = self.start(a);
@@ -192,13 +185,6 @@ impl PageTable {
         if at == 0 {
             return self.first.make_slots(from, to);
         }
-        let at = at as usize - 1;
-        if self.rest.len() <= at {
-            self.rest.reserve_exact(at + 1 - self.rest.len())?;
-        }
-        while self.rest.len() <= at {
-            self.rest.push(LaterPages::new())?;
-        }
-        self.rest[at].make_slots(self.alloc, from, to)
+        self.rest.make_slots(at as usize - 1, from, to)
     }
 }

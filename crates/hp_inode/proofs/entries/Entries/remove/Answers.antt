@@ -5,7 +5,7 @@ use Rattle.hp_inode.proofs.entries.Entries.remove.Goals as goal
 
 pub returns-then-b-le-BLOCK-clause-count : goal.returns-then-b-le-BLOCK-clause-count
 returns-then-b-le-BLOCK-clause-count c =
-    rw (← c.self.view_is) (c.remove.ensures.count ∙ near_counted c.self.inside.first c.self.inside.rest.items c.args.a c.args.b c.if-b-le-BLOCK.true)
+    rw (← c.self.view_is) (c.remove.ensures.count ∙ near_counted c.self.inside.first c.self.inside.rest c.args.a c.args.b c.if-b-le-BLOCK.true)
 
 pub overflow_add-removed : goal.overflow_add-removed
 overflow_add-removed c =

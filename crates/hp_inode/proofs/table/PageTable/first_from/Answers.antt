@@ -1,16 +1,14 @@
 use Rattle.std.proofs.Common.{◌≡◌, ◌∷◌, [], subst, sym, arith}
-use Rattle.std.specs.Vec.{vec_len}
-use Rattle.std.proofs.lemmas.Bool.{eqb-true}
 use Rattle.std.proofs.lemmas.List.{nil_from_length}
 use Rattle.hp_inode.specs.Blocks.{AreBlocks, FindsPageAt, RowBlocks}
 use Rattle.hp_inode.proofs.Blocks.{finds_only, none_to_next}
 use Rattle.hp_inode.proofs.table.PageTable.first_from.Goals as goal
 
-pub returns-then-is_empty : goal.returns-then-is_empty
-returns-then-is_empty c =
+pub returns-then-len-eq0 : goal.returns-then-len-eq0
+returns-then-len-eq0 c =
     let first = c.self.inside.first in
-    let rest = c.self.inside.rest.items in
-    let none : rest ≡ [] = nil_from_length rest (omega (arith, c.self.inside.rest.ok.0, eqb-true (vec_len c.self.inside.rest) 0 (sym c.if-is_empty.ensures))) in
+    let rest : RowBlocks = c.self.inside.rest in
+    let none : rest ≡ [] = nil_from_length rest (omega (arith, c.len.ensures, c.if-len-eq0.true)) in
     rw (← c.self.view_is) (subst (λ (blocks : RowBlocks). FindsPageAt (first ∷ blocks) c.args.a c.first_from.result) (sym none)
     (finds_only first (subst (λ (blocks : RowBlocks). AreBlocks (first ∷ blocks)) none c.self.invariant.blocks) c.args.a c.first_from.result c.first_from.ensures))
 

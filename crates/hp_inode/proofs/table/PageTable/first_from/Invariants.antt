@@ -1,5 +1,6 @@
 use Rattle.std.proofs.Common.{ℕ, ◌≡◌, ◌+◌, ◌-◌, ◌*◌, ◌<◌, ◌≤◌, length, None}
 use Rattle.hp_inode.specs.Blocks.{page_at}
+use Rattle.hp_inode.specs.Rows.{Rows}
 use Rattle.hp_inode.proofs.table.PageTable.first_from.Given as goal
 
 abbrev pub invariant-loop-at : goal.invariant-loop-at
@@ -10,4 +11,4 @@ invariant-loop-at l = record {
 }
 
 abbrev pub decreases-loop-at : goal.decreases-loop-at
-decreases-loop-at l = (length l.self-inside.rest.items + 1) - l.at
+decreases-loop-at l = (length {A = Rows} l.self-inside.rest + 1) - l.at

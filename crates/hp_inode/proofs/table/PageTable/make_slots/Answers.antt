@@ -1,12 +1,13 @@
 use Rattle.std.proofs.Common.{◌+◌, ◌/◌, ◌%◌, ◌≤◌, ◌∷◌, ◌∙◌, arith}
 use Rattle.hp_inode.specs.Rows.{page_in}
+use Rattle.hp_inode.specs.Blocks.{RowBlocks}
 use Rattle.hp_inode.proofs.Blocks.{as_before, first_changed, kept_blocks, slots_below, slots_made, slots_stay, table_as_before}
 use Rattle.hp_inode.proofs.table.PageTable.make_slots.Goals as goal
 
 pub invariant_of-self : goal.invariant_of-self
 invariant_of-self c =
     let first = c.self.inside.first in
-    let rest = c.self.inside.rest.items in
+    let rest : RowBlocks = c.self.inside.rest in
     let others = first_changed first c.make_slots.new.self rest in
     table_as_before (first ∷ rest) (c.make_slots.new.self ∷ rest) c.self.inside.bare
     (kept_blocks (first ∷ rest) (c.make_slots.new.self ∷ rest) 0 others c.self.invariant.blocks.few (λ k past. c.make_slots.ensures.pages k) c.self.invariant.blocks)
