@@ -21,7 +21,11 @@ fn looked_at<N: Naming + Send + Sync, R: Threads + Wait + Sync, const K: usize>(
     rt: &R,
     shared: &Shared<N, K>,
 ) -> (u64, u64) {
-    thread::join(rt, move || shared.page_bytes(), move || shared.slots())
+    thread::join(
+        rt,
+        move || shared.page_bytes(),
+        move || shared.count() as u64,
+    )
 }
 
 // A machine of three slots, which is closed at once: its audit is this.
