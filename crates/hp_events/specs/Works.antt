@@ -4,7 +4,7 @@ use Rattle.hp_model.specs.declared.event.Event.TheVariants.{Pool as OnPool}
 use Rattle.hp_model.specs.declared.event.SlotEvent.TheVariants as slot
 use Rattle.hp_model.specs.declared.step.Step.{Step}
 use Rattle.hp_model.specs.declared.step.Step.TheVariants as step
-use Rattle.hp_model.specs.machine.Copying.{has_bytes}
+use Rattle.hp_model.specs.beside.Copying.{has_bytes}
 use Rattle.hp_model.specs.machine.Promises.{takes_memory, is_usage as is_usage_step}
 use Rattle.hp_model.specs.machine.State.{State, slot_at}
 use Rattle.hp_model.specs.machine.Step.{Script, finding, on_slot, only, script}

@@ -1,6 +1,6 @@
 //! An event with bytes of its own, for an entry and for a receipt.
 ghost use Rattle.std.specs.Prelude.{◌≡◌, ◌<◌, ℕ, List, length, true, IfOk, OnErr, Some};
-ghost use Rattle.hp_model.specs.machine.Copying.{has_bytes};
+ghost use Rattle.hp_model.specs.beside.Copying.{has_bytes};
 ghost use Rattle.hp_model.specs.declared.event.SlotEvent.TheVariants.{Mount as Mounting, Remount as Remounting};
 ghost use Rattle.hp_events.specs.Event.{event_of};
 ghost use Rattle.hp_events.specs.Copies.{AreCopies, AreEvents, bytes_of_event};

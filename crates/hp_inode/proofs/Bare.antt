@@ -4,7 +4,7 @@ use Rattle.std.specs.List.{range_with_len, count_by}
 use Rattle.std.proofs.lemmas.Bool.{false≢true}
 use Rattle.std.proofs.lemmas.List.FromFn.{length-range_with_len}
 use Rattle.hp_model.specs.files.File.{has_page}
-use Rattle.hp_model.specs.files.Ranges.{within}
+use Rattle.hp_model.specs.beside.Ranges.{within}
 use Rattle.hp_model.proofs.Counting.{count_map, count_not, count_outside}
 use Rattle.hp_inode.specs.declared.form.Form.{Form}
 use Rattle.hp_inode.specs.declared.form.Form.TheVariants.{Holes}

@@ -11,7 +11,7 @@ use Rattle.std.proofs.lemmas.Nat.Bits.{bit_at-lt, bit_at_and, bit_at_or, bit_at_
 use Rattle.std.proofs.lemmas.Nat.Bits.{bit_at_mask_inside, bit_at_mask_below, bit_at_cat_low, bit_at_cat_high, bit_at_lowest}
 use Rattle.hp_model.proofs.Counting.{count_cons, count_split, count_not, count_outside, alike_in}
 use Rattle.hp_model.proofs.Ranges.{within-true, within-below, within-past}
-use Rattle.hp_model.specs.files.Ranges.{within}
+use Rattle.hp_model.specs.beside.Ranges.{within}
 
 -- ---- a bit as a test
 

@@ -9,7 +9,7 @@ use Rattle.hp_model.specs.declared.cell.Cell.{Cell}
 use Rattle.hp_model.specs.declared.cell.Cell.TheVariants.{Hole}
 use Rattle.hp_model.specs.files.File.{cell_in, has_page}
 use Rattle.hp_model.specs.Lists.{edit_range, part}
-use Rattle.hp_model.specs.files.Ranges.{within}
+use Rattle.hp_model.specs.beside.Ranges.{within}
 use Rattle.hp_model.proofs.Counting.{count_alike, count_parted, count_within, alike_in}
 use Rattle.hp_model.proofs.Ranges.{within-in, within-true, within-below, within-past}
 use Rattle.hp_model.proofs.Editing.{length-edit_range, get_or-edit_below, get_or-edit_within, get_or-edit_past}

@@ -1,6 +1,6 @@
 -- An inode with the room to enter a range, and as it enters it.
 use Rattle.hp_model.proofs.Counting.{count_alike}
-use Rattle.hp_model.specs.files.Ranges.{within}
+use Rattle.hp_model.specs.beside.Ranges.{within}
 use Rattle.std.proofs.Common.{◌≡◌, ℕ, ◌+◌, ◌-◌, ◌<◌, ◌≤◌, ◌^◌, ◌++◌, not, List, [], length, drop, replicate, max, refl, sym, ap, subst, ◌∙◌, arith, ◌||◌, true, rules, IsSome}
 use Rattle.std.specs.List.{All, range_with_len, count_by}
 use Rattle.std.proofs.lemmas.List.{append-nil, drop_all, take_all}

@@ -12,7 +12,7 @@ use Rattle.std.proofs.lemmas.List.Sums.{count_by-le-length}
 use Rattle.std.proofs.lemmas.Nat.Bits.{bit_at-zero}
 use Rattle.hp_model.proofs.Counting.{count_split, count_outside, alike_in}
 use Rattle.hp_model.proofs.Ranges.{within-in, within-true, within-below, within-past}
-use Rattle.hp_model.specs.files.Ranges.{within}
+use Rattle.hp_model.specs.beside.Ranges.{within}
 use Rattle.hp_inode.specs.EntryBlock.{IsBlank, IsEntries, IsRemoved}
 use Rattle.hp_inode.specs.Marks.{marked, FindsWithin}
 use Rattle.hp_inode.proofs.Bits.{word_counted}

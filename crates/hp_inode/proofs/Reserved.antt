@@ -5,7 +5,7 @@ use Rattle.std.specs.Prelude.{IsSome}
 use Rattle.std.proofs.lemmas.Bool.{cases_lt, or_cases, or_left, and_parts, and_right}
 use Rattle.std.proofs.lemmas.List.FromFn.{fill_by_all}
 use Rattle.hp_inode.specs.Blocks.{WordBlocks, entered_count, missing_count, entered_at, RowBlocks, page_at, has_slot_at}
-use Rattle.hp_model.specs.files.Ranges.{within}
+use Rattle.hp_model.specs.beside.Ranges.{within}
 use Rattle.hp_model.proofs.Counting.{count_alike, count_or, count_within, alike_in}
 use Rattle.hp_model.proofs.Ranges.{within-in, within-true, within-below, within-past}
 use Rattle.hp_model.proofs.Editing.{length-edit_range, get_or-edit_below, get_or-edit_within, get_or-edit_past}

@@ -12,7 +12,7 @@ use Rattle.std.proofs.lemmas.Nat.{and_le_r}
 use Rattle.std.proofs.lemmas.Nat.Bits.{bit_at-zero, bit_at_ones}
 use Rattle.hp_model.proofs.Counting.{count_split, count_outside, count_within, alike_in}
 use Rattle.hp_model.proofs.Ranges.{within-in, within-true, within-below, within-past}
-use Rattle.hp_model.specs.files.Ranges.{within}
+use Rattle.hp_model.specs.beside.Ranges.{within}
 use Rattle.hp_inode.specs.EntryBlock.{count_in, IsBlank, IsEntries, FindsWord}
 use Rattle.hp_inode.specs.Marks.{marked, FindsWithin}
 use Rattle.hp_inode.proofs.Bits.{has_and, has_or, has_not, word_counted}

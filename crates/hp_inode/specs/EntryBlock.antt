@@ -3,7 +3,7 @@
 --     IsEntries words marks      the marks say which words may have a bit
 use Rattle.std.specs.Prelude.{ℕ, ◌≡◌, ◌-◌, ◌*◌, ◌/◌, ◌<◌, ◌≤◌, ◌^◌, true, false, ◌&&◌, not, List, length, Option, MatchOption}
 use Rattle.std.specs.List.{range_with_len, count_by}
-use Rattle.hp_model.specs.files.Ranges.{within}
+use Rattle.hp_model.specs.beside.Ranges.{within}
 use Rattle.hp_inode.specs.Marks.{marked}
 
 abbrev pub count_in : List ℕ → ℕ → ℕ → ℕ

@@ -1,7 +1,7 @@
 //! Which indices are entered, in blocks of 65,536.
 ghost use Rattle.std.specs.Prelude.{ℕ, ◌≡◌, ◌≢◌, ◌*◌, ◌<◌, ◌≤◌, ◌^◌, ◌&&◌, ◌||◌, [], length, not, true, OnOk, MatchOption};
 ghost use Rattle.std.specs.List.{slice_index_or};
-ghost use Rattle.hp_model.specs.files.Ranges.{within};
+ghost use Rattle.hp_model.specs.beside.Ranges.{within};
 ghost use Rattle.hp_inode.specs.Blocks.{block_size, most_blocks, entered_at, has_place, entered_count, missing_count};
 ghost use Rattle.hp_inode.specs.EntryBlock.{count_in, missing_in};
 ghost use Rattle.hp_inode.specs.Marks.{marked};

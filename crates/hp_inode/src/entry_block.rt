@@ -1,6 +1,6 @@
 //! Which indices are entered, a bit for each: a range takes a step for each word of 64 indices.
 ghost use Rattle.std.specs.Prelude.{ℕ, ◌≡◌, ◌+◌, ◌-◌, ◌*◌, ◌/◌, ◌<◌, ◌≤◌, ◌^◌, ◌&&◌, ◌||◌, [], not, length, OnOk, OnErr};
-ghost use Rattle.hp_model.specs.files.Ranges.{within};
+ghost use Rattle.hp_model.specs.beside.Ranges.{within};
 ghost use Rattle.hp_inode.specs.EntryBlock.{count_in, missing_in, FindsWord, IsEntries, IsRemoved};
 ghost use Rattle.hp_inode.specs.Marks.{marked};
 

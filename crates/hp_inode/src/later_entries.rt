@@ -1,7 +1,7 @@
 //! The entries of the blocks after the first, each made at the first room in it.
 ghost use Rattle.std.specs.Prelude.{ℕ, ◌≡◌, ◌≢◌, ◌+◌, ◌*◌, ◌<◌, ◌≤◌, ◌^◌, ◌&&◌, ◌||◌, [], length, not, MatchOption, OnOk};
 ghost use Rattle.std.specs.List.{slice_index_or};
-ghost use Rattle.hp_model.specs.files.Ranges.{within};
+ghost use Rattle.hp_model.specs.beside.Ranges.{within};
 ghost use Rattle.hp_inode.specs.Blocks.{most_blocks};
 ghost use Rattle.hp_inode.specs.EntryBlock.{count_in};
 ghost use Rattle.hp_inode.specs.Later.{AreLater, blocks_in};

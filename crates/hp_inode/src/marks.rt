@@ -1,7 +1,7 @@
 //! Marks on numbers, a bit for each: the first mark from a number on is found a word at a time.
 ghost use Rattle.std.specs.Prelude.{ℕ, ◌≡◌, ◌==◌, ◌+◌, ◌*◌, ◌<◌, ◌≤◌, ◌^◌, ◌&&◌, ◌||◌, not, max, length, OnOk, OnErr};
 ghost use Rattle.std.specs.Int.{bit_at};
-ghost use Rattle.hp_model.specs.files.Ranges.{within};
+ghost use Rattle.hp_model.specs.beside.Ranges.{within};
 ghost use Rattle.hp_inode.specs.Marks.{marked, FindsFrom, FindsWithin};
 
 use smallvec::SmallVec;

@@ -2,7 +2,7 @@
 use Rattle.std.specs.Prelude.{◌≡◌, ℕ, Bool, true, false}
 use Rattle.hp_model.specs.declared.event.SlotEvent.{SlotEvent}
 use Rattle.hp_model.specs.declared.event.SlotEvent.TheVariants.{Ls}
-use Rattle.hp_model.specs.machine.Copying.{has_names}
+use Rattle.hp_model.specs.beside.Copying.{has_names}
 use Rattle.hp_model.specs.machine.Plan.{Answered, Choice, Outcome, Refused, Slot}
 use Rattle.hp_model.specs.machine.SlotEvent.{slot_event}
 use Rattle.hp_laws.specs.Balance.{Always}

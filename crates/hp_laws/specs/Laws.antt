@@ -21,7 +21,7 @@ use Rattle.hp_model.specs.pool.PoolCounts.{Pool}
 use Rattle.hp_model.specs.machine.Promises.{is_for_pages, is_late, IsPromised, SameButNodes}
 use Rattle.hp_model.specs.files.Reserved.{is_reserved}
 use Rattle.hp_model.specs.pool.Resize.{pool_event}
-use Rattle.hp_model.specs.machine.Run.{IsRun}
+use Rattle.hp_model.specs.beside.Run.{IsRun}
 use Rattle.hp_model.specs.machine.Settled.{AreCounted, IsSettledState}
 use Rattle.hp_model.specs.machine.SlotEvent.{slot_event}
 use Rattle.hp_model.specs.machine.Sound.{IsSound}

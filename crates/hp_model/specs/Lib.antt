@@ -4,4 +4,6 @@ pub mod files
 pub mod machine
 pub mod pool
 pub mod text
+pub mod run
 pub mod threads
+pub mod beside

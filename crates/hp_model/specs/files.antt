@@ -4,7 +4,6 @@ pub mod File
 pub mod Mapping
 pub mod MountCounts
 pub mod Value
-pub mod Ranges
 pub mod Reserved
 pub mod Spot
 pub mod MakeMap

@@ -6,12 +6,9 @@ pub mod State
 pub mod Machine
 pub mod Event
 pub mod Step
-pub mod Accesses
-pub mod Told
-pub mod Run
-pub mod Plain
 pub mod Sound
 pub mod Settled
+pub mod Ready
 pub mod Tests
 pub mod Settings
 pub mod Named
@@ -20,4 +17,3 @@ pub mod Lost
 pub mod Kept
 pub mod Short
 pub mod Promises
-pub mod Copying

@@ -6,6 +6,7 @@ pub mod cell;
 pub mod copying;
 pub mod entry;
 pub mod event;
+pub mod fault;
 pub mod lent;
 pub mod limits;
 pub mod naming;

@@ -2,9 +2,9 @@
 ghost use Rattle.std.specs.Prelude.{◌≡◌, ◌≤◌, ℕ, length, IfOk};
 ghost use Rattle.hp_model.specs.declared.step.Step.{Step as TheStep};
 ghost use Rattle.hp_model.specs.Profile.{most_bytes};
-ghost use Rattle.hp_model.specs.machine.Accesses.{bytes_reply, done_reply, load_step, store_step};
+ghost use Rattle.hp_model.specs.beside.Accesses.{bytes_reply, done_reply, load_step, store_step};
 ghost use Rattle.hp_model.specs.machine.Plan.{Reply as TheReply};
-ghost use Rattle.hp_model.specs.machine.Told.{told_reply};
+ghost use Rattle.hp_model.specs.beside.Told.{told_reply};
 ghost use Rattle.hp_model.specs.text.Writing.{IsWithinLimits};
 
 use crate::answer::Reply;

@@ -2,8 +2,8 @@
 ghost use Rattle.std.specs.Prelude.{◌≡◌, ◌≤◌, length};
 ghost use Rattle.hp_model.specs.declared.told.Told.TheVariants.{Bytes};
 ghost use Rattle.hp_model.specs.Profile.{most_bytes};
-ghost use Rattle.hp_model.specs.machine.Accesses.{bytes_reply, done_reply};
-ghost use Rattle.hp_model.specs.machine.Told.{map_reply, told_answer, told_reply};
+ghost use Rattle.hp_model.specs.beside.Accesses.{bytes_reply, done_reply};
+ghost use Rattle.hp_model.specs.beside.Told.{map_reply, told_answer, told_reply};
 ghost use Rattle.hp_model.specs.text.Writing.{HasSmallAnswer};
 
 use crate::answer::{Answer, Counts, NodeCount};

@@ -5,7 +5,7 @@ use Rattle.hp_model.specs.declared.refusal.Refusal.{Refusal}
 use Rattle.hp_model.specs.declared.refusal.Refusal.TheVariants as r
 use Rattle.hp_model.specs.declared.section.PoolAnswer.{PoolAnswer}
 use Rattle.hp_model.specs.declared.section.Section.{Section}
-use Rattle.hp_model.specs.machine.Accesses.{bytes_reply, done_reply}
+use Rattle.hp_model.specs.beside.Accesses.{bytes_reply, done_reply}
 use Rattle.hp_model.specs.machine.Plan.{Reply, Slot}
 use Rattle.hp_events.specs.declared.event.MountEvent.{MountEvent}
 use Rattle.hp_mount.specs.Done.{IsDone}

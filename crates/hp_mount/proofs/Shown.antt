@@ -2,7 +2,7 @@
 use Rattle.std.proofs.Common.{◌≡◌, ℕ, ◌+◌, ◌-◌, ◌≤◌, ◌++◌, List, Ok, length, take, drop, replicate, sym, ap, ◌∙◌, arith}
 use Rattle.std.proofs.lemmas.List.{drop-replicate, take-replicate}
 use Rattle.hp_model.specs.declared.answer.Answer.TheVariants.{Bytes}
-use Rattle.hp_model.specs.machine.Accesses.{bytes_reply}
+use Rattle.hp_model.specs.beside.Accesses.{bytes_reply}
 use Rattle.hp_model.specs.machine.SlotEvent.{bytes_answer}
 use denote.Ref.{Bor}
 

@@ -7,7 +7,7 @@ ghost use Rattle.hp_model.specs.threads.LocalRun.{ThroughDoor};
 ghost use Rattle.hp_model.specs.files.Page.{Page as PageValue};
 ghost use Rattle.hp_model.specs.machine.Plan.{gives};
 ghost use Rattle.hp_model.specs.machine.SlotEvent.{has_maps};
-ghost use Rattle.hp_model.specs.machine.Told.{told_reply};
+ghost use Rattle.hp_model.specs.beside.Told.{told_reply};
 ghost use Rattle.hp_model.specs.text.Writing.{IsWithinLimit, IsWithinLimits};
 ghost use Rattle.hp_model.specs.Profile.{most_bytes};
 ghost use Rattle.hp_store.specs.Batch.{Batch as BatchValue};

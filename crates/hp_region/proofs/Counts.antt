@@ -8,7 +8,7 @@ use Rattle.std.proofs.lemmas.Bool.Decides.{nat_tests}
 use Rattle.std.proofs.lemmas.List.FromFn.{length-range_with_len}
 use Rattle.std.proofs.lemmas.List.{drop_more, drop_all}
 use Rattle.std.proofs.lemmas.List.Elements.{All-head, All-tail}
-use Rattle.hp_model.specs.files.Ranges.{within}
+use Rattle.hp_model.specs.beside.Ranges.{within}
 use Rattle.hp_model.proofs.Counting.{count_cons, count_alike, count_not, count_or}
 use Rattle.hp_region.specs.declared.spans.Span.{Span}
 use Rattle.hp_region.specs.Region.{members_in, missing_members}

@@ -8,7 +8,7 @@ use Rattle.std.proofs.lemmas.Bool.Decides.{nat_tests}
 use Rattle.std.proofs.lemmas.List.{drop_more, drop_all, take_more_set, drop-set-lt, get_or-take, get_or-drop, take-take, append_assoc, length-take-le, length-drop}
 use Rattle.std.proofs.lemmas.List.Elements.{All-head, All-tail}
 use Rattle.hp_region.specs.declared.spans.Span.{Span}
-use Rattle.hp_model.specs.files.Ranges.{within}
+use Rattle.hp_model.specs.beside.Ranges.{within}
 use Rattle.hp_region.specs.Spans.{spans_hold, AreSpansApart, range_added, range_removed, left_piece, left_of, right_of}
 use Rattle.hp_region.proofs.Members.{holds_below}
 use Rattle.hp_region.proofs.Apart.{apart_lower}

@@ -3,7 +3,7 @@ use Rattle.std.specs.Prelude.{◌≡◌, ◌≤◌, ◌++◌, ℕ, Bool, true, f
 use Rattle.std.specs.Io.KnownBytes.{Appends}
 use Rattle.hp_model.specs.text.Writing.{meminfo_text}
 use Rattle.hp_model.specs.Profile.{most_frames_in_all, most_page_bytes}
-use Rattle.hp_wire.specs.Sent.{AppendsFront}
+use Rattle.hp_model.specs.run.Ran.{AppendsFront}
 use Rattle.hp_serving.specs.declared.fault.ServeFault.{ServeFault}
 use Rattle.hp_serving.specs.declared.fault.ServeFault.TheVariants.{Memory, Write, Network}
 use Rattle.hp_serving.specs.declared.host.Closed.{Closed}

@@ -2,8 +2,8 @@
 use Rattle.std.specs.Prelude.{ℕ, List, Option, Result}
 use Rattle.hp_model.specs.declared.step.Step.{Step}
 use Rattle.hp_model.specs.machine.Plan.{Reply}
-use Rattle.hp_wire.specs.Served.{ServesInput}
-use Rattle.hp_wire.specs.declared.fault.RunFault.{RunFault}
+use Rattle.hp_model.specs.run.Served.{ServesInput}
+use Rattle.hp_model.specs.declared.fault.RunFault.{RunFault}
 
 -- A session that was just opened answered the lines that were read, up to some end, and was told this. So what was
 -- written are the lines of the replies that its calls gave, as far as `ServesInput` says for that end.

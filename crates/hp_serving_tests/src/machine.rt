@@ -1,6 +1,6 @@
 //! A small machine that many sessions share.
 ghost use Rattle.std.specs.Prelude.{IfOk};
-ghost use Rattle.hp_model.specs.machine.Told.{told_reply};
+ghost use Rattle.hp_model.specs.beside.Told.{told_reply};
 ghost use Rattle.hp_model.specs.text.Writing.{IsWithinLimits};
 ghost use Rattle.hp_serving.specs.Ended.{IsOfMachine};
 

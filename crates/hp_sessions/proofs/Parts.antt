@@ -27,7 +27,7 @@ use Rattle.hp_model.specs.machine.Plan.{Answered, Choice, Outcome, Refused, Repl
 use Rattle.hp_model.specs.machine.SlotEvent.{byte_access, bytes_answer, load, slot_event, store}
 use Rattle.hp_model.specs.machine.Table.{Table, added, home_of, is_crowded, is_known, or_refused, removed, table_event, when_known}
 use Rattle.hp_model.specs.declared.told.Told.{Told}
-use Rattle.hp_model.specs.machine.Told.{told_answer, told_reply}
+use Rattle.hp_model.specs.beside.Told.{told_answer, told_reply}
 use Rattle.hp_model.specs.threads.LocalRun.{Gives}
 use Rattle.hp_laws.specs.Answers.{lists_names}
 use Rattle.hp_model.specs.threads.Telling.{has_place}

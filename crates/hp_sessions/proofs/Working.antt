@@ -7,7 +7,7 @@ use Rattle.hp_model.specs.declared.event.Event.{Event}
 use Rattle.hp_model.specs.declared.step.Intent.{Intent}
 use Rattle.hp_model.specs.declared.step.Step.{Step}
 use Rattle.hp_model.specs.declared.step.Step.TheVariants.{Fault}
-use Rattle.hp_model.specs.machine.Accesses.{load_step, store_step}
+use Rattle.hp_model.specs.beside.Accesses.{load_step, store_step}
 use Rattle.hp_events.specs.declared.event.MountEvent.TheVariants as m
 use Rattle.hp_model.specs.machine.Plan.{Reply}
 use Rattle.hp_model.specs.machine.Step.{only, script}

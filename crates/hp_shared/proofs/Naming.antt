@@ -7,7 +7,7 @@ use Rattle.hp_model.specs.declared.event.SlotEvent.{SlotEvent}
 use Rattle.hp_model.specs.declared.event.SlotEvent.TheVariants.{Ls}
 use Rattle.hp_model.specs.declared.refusal.Refusal.TheVariants as r
 use Rattle.hp_model.specs.files.File.{File, Mount}
-use Rattle.hp_model.specs.machine.Copying.{has_names}
+use Rattle.hp_model.specs.beside.Copying.{has_names}
 use Rattle.hp_model.specs.machine.Plan.{Answered, Finish, Outcome, Refused, Reply, Slot, refuse}
 use Rattle.hp_model.specs.threads.LocalRun.{Gives, Goes}
 use Rattle.hp_mount.specs.Alone.{IsDoneAlone}

@@ -4,9 +4,9 @@ ghost use Rattle.hp_model.specs.declared.entry.Part.TheVariants.{Slot as AtSlot}
 ghost use Rattle.hp_model.specs.declared.event.Event.TheVariants.{Slot as OnSlot};
 ghost use Rattle.hp_model.specs.declared.event.SlotEvent.{SlotEvent as SlotEventValue};
 ghost use Rattle.hp_model.specs.files.Page.{Page as PageValue};
-ghost use Rattle.hp_model.specs.machine.Copying.{reply_has_names};
+ghost use Rattle.hp_model.specs.beside.Copying.{reply_has_names};
 ghost use Rattle.hp_model.specs.machine.Event.{has_maps_of};
-ghost use Rattle.hp_model.specs.machine.Told.{told_reply};
+ghost use Rattle.hp_model.specs.beside.Told.{told_reply};
 ghost use Rattle.hp_model.specs.Profile.{most_tasks, most_bytes};
 ghost use Rattle.hp_model.specs.text.Writing.{IsWithinLimits};
 ghost use Rattle.hp_laws.specs.Answers.{lists_names};

@@ -2,8 +2,8 @@
 ghost use Rattle.std.specs.Prelude.{◌≡◌, ℕ, None, Err, IfOk, true, false};
 ghost use Rattle.hp_model.specs.declared.answer.Answer.TheVariants.{Names as TheNames};
 ghost use Rattle.hp_model.specs.declared.event.SlotEvent.TheVariants.{Ls};
-ghost use Rattle.hp_model.specs.machine.Copying.{has_names};
-ghost use Rattle.hp_model.specs.machine.Told.{told_answer};
+ghost use Rattle.hp_model.specs.beside.Copying.{has_names};
+ghost use Rattle.hp_model.specs.beside.Told.{told_answer};
 ghost use Rattle.hp_model.specs.text.Writing.{IsWithinLimits};
 ghost use Rattle.hp_shared.specs.Slots.{Went, is_trace_full, names_reply};
 

@@ -1,8 +1,8 @@
 //! Other limits for a slot's mount.
 ghost use Rattle.std.specs.Prelude.{◌≡◌, ◌<◌, false};
 ghost use Rattle.hp_model.specs.declared.event.SlotEvent.TheVariants.{Remount};
-ghost use Rattle.hp_model.specs.machine.Copying.{reply_has_names};
-ghost use Rattle.hp_model.specs.machine.Told.{told_reply};
+ghost use Rattle.hp_model.specs.beside.Copying.{reply_has_names};
+ghost use Rattle.hp_model.specs.beside.Told.{told_reply};
 ghost use Rattle.hp_model.specs.text.Writing.{IsWithinLimits};
 ghost use Rattle.hp_subpool.specs.Subpool.{Subpool as ShareValue};
 ghost use Rattle.hp_shared.specs.Slots.{IsActedOr};

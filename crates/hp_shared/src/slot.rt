@@ -2,8 +2,8 @@
 ghost use Rattle.std.specs.Prelude.{◌≡◌, ◌≤◌, ◌-◌, ◌++◌, ◌==◌, Ok, ℕ, [], length, replicate, true, false, None, Some, is_some};
 ghost use Rattle.hp_model.specs.files.Page.{Page as PageValue};
 ghost use Rattle.hp_model.specs.declared.answer.Answer.TheVariants.{Bytes};
-ghost use Rattle.hp_model.specs.machine.Copying.{has_names, reply_has_names};
-ghost use Rattle.hp_model.specs.machine.Told.{told_answer, told_reply};
+ghost use Rattle.hp_model.specs.beside.Copying.{has_names, reply_has_names};
+ghost use Rattle.hp_model.specs.beside.Told.{told_answer, told_reply};
 ghost use Rattle.hp_model.specs.text.Writing.{HasSmallAnswer, IsWithinLimits};
 ghost use Rattle.hp_laws.specs.Answers.{lists_names};
 ghost use Rattle.hp_events.specs.Event.{event_of, shows_bytes};

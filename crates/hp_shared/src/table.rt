@@ -2,7 +2,7 @@
 ghost use Rattle.std.specs.Prelude.{◌≡◌, ◌≤◌, ◌||◌, [], length, true, false, is_some, IfOk, OnErr, IsOk};
 ghost use Rattle.hp_model.specs.declared.entry.Part.TheVariants.{Tasks as AtTasks};
 ghost use Rattle.hp_model.specs.declared.event.Event.TheVariants.{Tasks as OnTasks};
-ghost use Rattle.hp_model.specs.machine.Accesses.{done_reply};
+ghost use Rattle.hp_model.specs.beside.Accesses.{done_reply};
 ghost use Rattle.hp_model.specs.machine.Table.{is_known, table_event};
 ghost use Rattle.hp_model.specs.Profile.{most_tasks};
 ghost use Rattle.hp_model.specs.threads.Closing.{removes_task};

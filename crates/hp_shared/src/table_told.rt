@@ -1,6 +1,6 @@
 //! What an event of the task table answers.
 ghost use Rattle.std.specs.Prelude.{◌≡◌};
-ghost use Rattle.hp_model.specs.machine.Told.{told_reply};
+ghost use Rattle.hp_model.specs.beside.Told.{told_reply};
 ghost use Rattle.hp_shared.specs.Tables.{table_reply};
 
 use hp_model::answer::{Answer, Reply};

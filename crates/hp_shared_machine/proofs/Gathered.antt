@@ -27,7 +27,7 @@ use Rattle.hp_model.specs.threads.TableRun.{IsTableRun}
 use Rattle.hp_pool.specs.Sums.{idle_pool}
 use Rattle.hp_shared.specs.Slots.{slot_start}
 use Rattle.hp_system.proofs.Start.{start_pool}
-use Rattle.hp_system.specs.Kept.{machine_of}
+use Rattle.hp_model.specs.machine.Ready.{machine_of}
 use Rattle.hp_shared_machine.specs.Sharing.{AreGathered, EndsRuns}
 
 pub none_gathered : (size : ℕ) → AreGathered size [] []

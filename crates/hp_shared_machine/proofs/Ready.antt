@@ -10,7 +10,7 @@ use Rattle.hp_model.specs.machine.State.{Node, State, slot_at}
 use Rattle.hp_model.specs.machine.Table.{Table}
 use Rattle.hp_model.specs.pool.PoolCounts.{Pool}
 use Rattle.hp_model.specs.threads.JointRun.{HasParts, Trails}
-use Rattle.hp_system.specs.Kept.{IsReadyMachine, Machine, state_of}
+use Rattle.hp_model.specs.machine.Ready.{IsReadyMachine, Machine, state_of}
 use Rattle.hp_model.specs.declared.refusal.Refusal.{Refusal}
 use Rattle.hp_trail.specs.Audit.{IsJointList, IsUnjoined}
 use Rattle.std.specs.Global.{Vec}

@@ -12,7 +12,8 @@ use Rattle.hp_model.specs.threads.LocalRun.{IsLocalRun}
 use Rattle.hp_model.specs.Profile.{most_frames, most_page_bytes, most_slots}
 use Rattle.hp_locked.specs.Views.{frames_list}
 use Rattle.hp_shared.specs.Slots.{slot_start}
-use Rattle.hp_system.specs.Kept.{Machine, all_free, machine_of}
+use Rattle.hp_model.specs.machine.Ready.{Machine, machine_of}
+use Rattle.hp_system.specs.Sized.{all_free}
 use Rattle.hp_trail.specs.Audit.{IsJointList}
 
 -- what no thread changes: the bytes of a page, and how many slots there are

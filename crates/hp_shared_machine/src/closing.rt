@@ -7,7 +7,7 @@ ghost use Rattle.hp_model.specs.machine.State.{State};
 ghost use Rattle.hp_model.specs.Profile.{most_frames_in_all, most_page_bytes};
 ghost use Rattle.hp_shared_machine.specs.Joined.{AreJoined, entries_of};
 ghost use Rattle.hp_shared_machine.specs.Sharing.{EndsRuns, WasJoined};
-ghost use Rattle.hp_system.specs.Kept.{IsReadyMachine, Machine};
+ghost use Rattle.hp_model.specs.machine.Ready.{IsReadyMachine, Machine};
 ghost use Rattle.hp_trail.specs.Audit.{IsJointList, IsUnjoined};
 ghost use Rattle.hp_trail.specs.Walk.{lists};
 

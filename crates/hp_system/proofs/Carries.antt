@@ -27,7 +27,8 @@ use Rattle.hp_mount.specs.Done.{Tried}
 use Rattle.hp_events.specs.Event.{event_of}
 use Rattle.hp_mount_door.specs.Door.{IsReady as IsReadyPool}
 use Rattle.hp_system.specs.Event.{IsCarried, took}
-use Rattle.hp_system.specs.Kept.{machine_of, state_of, IsReadyMachine, IsSized, Machine}
+use Rattle.hp_model.specs.machine.Ready.{machine_of, state_of, IsReadyMachine, Machine}
+use Rattle.hp_system.specs.Sized.{IsSized}
 
 abbrev pub calm : Choice
 calm = record { stamp = 0; refused = false; after_grant = false }

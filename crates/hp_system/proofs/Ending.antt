@@ -31,7 +31,8 @@ use Rattle.hp_laws.proofs.sections.PoolTied.{plan_tied}
 use Rattle.hp_model.specs.threads.LocalRun.{ThroughDoor}
 use Rattle.hp_laws.proofs.steps.Tells.{tells_gives}
 use Rattle.hp_system.specs.Event.{AllGo, Exits, IsExit, SlotGoes, took}
-use Rattle.hp_system.specs.Kept.{IsReadyMachine, IsSized, Machine, all_free, machine_of, state_of}
+use Rattle.hp_model.specs.machine.Ready.{IsReadyMachine, Machine, machine_of, state_of}
+use Rattle.hp_system.specs.Sized.{IsSized, all_free}
 use Rattle.hp_system.proofs.Carries.{kept_after, kept_by, plan_is, slot_in, IsKept}
 use Rattle.hp_system.proofs.Start.{sum_none}
 

@@ -23,7 +23,7 @@ use Rattle.hp_model.specs.declared.refusal.Refusal.{Refusal}
 use Rattle.hp_model.specs.declared.refusal.Refusal.TheVariants.{NoSuchTask, NoSuchSlot, OutOfRange}
 use Rattle.hp_model.specs.declared.step.Step.TheVariants.{Attach, Connect, Exit, Overcommit}
 use Rattle.hp_model.specs.declared.service.Access.{Access}
-use Rattle.hp_model.specs.machine.Accesses.{load_step, store_step}
+use Rattle.hp_model.specs.beside.Accesses.{load_step, store_step}
 use Rattle.hp_model.specs.machine.Event.{IsEvent, has_maps_of, with_table, with_pool_reply, is_slot_event}
 use Rattle.hp_model.specs.machine.Machine.{pool_of, node_of}
 use Rattle.hp_model.specs.machine.Plan.{Reply, Slot}
@@ -36,7 +36,7 @@ use Rattle.hp_model.specs.machine.State.{State, slot_at}
 use Rattle.hp_model.specs.machine.Step.{Script, Answer_with, Do, exit_slot, exit_slots, on_slot, only, finding, IsScript, IsStep}
 use Rattle.hp_model.specs.machine.Table.{Table, table_event, home_of, removed, when_known}
 use Rattle.hp_system.specs.Event.{AreExited, IsCarried, DoesOnSlot, load_event, store_event}
-use Rattle.hp_system.specs.Kept.{machine_of, state_of, Machine}
+use Rattle.hp_model.specs.machine.Ready.{machine_of, state_of, Machine}
 use Rattle.hp_system.proofs.Carries.{calm, event_done, slot_in, IsKept}
 
 same_length : (p : Pool) → length (map node_of p.nodes.rows) ≡ length p.nodes.rows

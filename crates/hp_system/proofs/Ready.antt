@@ -3,7 +3,7 @@ use Rattle.std.proofs.Common.{arith, subst}
 use Rattle.hp_model.specs.machine.Machine.{pool_of}
 use Rattle.hp_laws.proofs.sections.Lengths.{long_rows}
 use Rattle.hp_mount_door.specs.Door.{IsReady as IsReadyPool}
-use Rattle.hp_system.specs.Kept.{IsReadyMachine, Machine}
+use Rattle.hp_model.specs.machine.Ready.{IsReadyMachine, Machine}
 
 pub ready_pool : (m : Machine) → IsReadyMachine m → IsReadyPool m.pool
 ready_pool m r =

@@ -11,7 +11,7 @@ use Rattle.hp_model.specs.machine.Settled.{IsSettledState}
 use Rattle.hp_model.specs.machine.State.{State}
 use Rattle.hp_laws.proofs.settled.StaysSettled.{start_is_settled}
 use Rattle.hp_system.proofs.Carries.{IsKept}
-use Rattle.hp_system.specs.Kept.{state_of}
+use Rattle.hp_model.specs.machine.Ready.{state_of}
 
 abbrev pub first_pool : List ℕ → Pool
 first_pool frames = record { nr = 0; overcommit = 0; committed = 0; nodes = record { rows = map idle_row frames; growth = 0; release = 0 } }

@@ -10,7 +10,7 @@ use hp_model::told::Told;
 
 impl<N: Naming> Service for System<N> {
     ghost use Rattle.hp_model.specs.machine.Promises.{IsPromisedStep};
-    ghost use Rattle.hp_system.specs.Kept.{IsReadyMachine};
+    ghost use Rattle.hp_model.specs.machine.Ready.{IsReadyMachine};
 
     ghost may_answer = { λ old step reply new. IsPromisedStep old.state step reply new.state };
 

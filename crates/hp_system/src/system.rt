@@ -8,7 +8,8 @@ ghost use Rattle.hp_model.specs.machine.SlotEvent.{has_maps};
 ghost use Rattle.hp_model.specs.Profile.{most_frames, most_frames_in_all};
 ghost use Rattle.hp_mount_door.specs.Door.{IsReady as IsReadyPool};
 ghost use Rattle.hp_system.specs.Event.{AllExit, AllGo};
-ghost use Rattle.hp_system.specs.Kept.{all_free, IsReadyMachine, machine_of};
+ghost use Rattle.hp_system.specs.Sized.{all_free};
+ghost use Rattle.hp_model.specs.machine.Ready.{IsReadyMachine, machine_of};
 
 mod accesses;
 mod slots;
@@ -34,7 +35,8 @@ pub struct System<N: Naming> {
 }
 
 impl<N: Naming> Model for System<N> {
-    ghost use Rattle.hp_system.specs.Kept.{IsSized, Machine, machine_of};
+    ghost use Rattle.hp_system.specs.Sized.{IsSized};
+    ghost use Rattle.hp_model.specs.machine.Ready.{Machine, machine_of};
 
     ghost Value = { Machine };
 

@@ -2,7 +2,7 @@
 ghost use Rattle.std.specs.Prelude.{◌≡◌, ◌∷◌, []};
 ghost use Rattle.hp_nodes.specs.Ledgers.{AreFrames};
 ghost use Rattle.hp_pool.specs.Ledgers.{AreLedgers};
-ghost use Rattle.hp_system.specs.Kept.{IsReadyMachine};
+ghost use Rattle.hp_model.specs.machine.Ready.{IsReadyMachine};
 
 use crate::same::same;
 use hp_model::answer::{Answer, Counts, Reply};

@@ -11,11 +11,12 @@ use Rattle.hp_model.specs.declared.step.Step.{Step}
 use Rattle.hp_model.specs.declared.refusal.Refusal.{Refusal}
 use Rattle.hp_model.specs.declared.refusal.Refusal.TheVariants.{BadLine, LineTooLong}
 use Rattle.hp_model.specs.text.Writing.{text, line_of}
-use Rattle.hp_wire.specs.Answered.{Ran, RanInPart}
-use Rattle.hp_wire.specs.Sent.{AppendsFront, IsWriteCut}
+use Rattle.hp_model.specs.run.Ran.{Ran, RanInPart}
+use Rattle.hp_model.specs.run.Ran.{AppendsFront}
+use Rattle.hp_wire.specs.Sent.{IsWriteCut}
 use Rattle.hp_wire.specs.Unanswered.{Gets}
-use Rattle.hp_wire.specs.Served.{Serves, unended_by, text_of_refusals}
-use Rattle.hp_wire.specs.declared.fault.RunFault.{RunFault}
+use Rattle.hp_model.specs.run.Served.{Serves, unended_by, text_of_refusals}
+use Rattle.hp_model.specs.declared.fault.RunFault.{RunFault}
 use Rattle.hp_wire.proofs.Known.{ran_then, ran_cut}
 use Rattle.hp_wire.proofs.Stands.{StandsFor}
 use Rattle.hp_wire.proofs.Turns.{Progress, consumes_then}

@@ -11,8 +11,9 @@ use Rattle.hp_model.specs.text.Reading.{step_of}
 use Rattle.hp_model.specs.text.Writing.{text, line_of}
 use Rattle.hp_model.specs.text.Text.{AnswersStep, AnswersLines, IsTextOfReplies}
 use Rattle.hp_model.specs.declared.step.Step.{Step}
-use Rattle.hp_wire.specs.Answered.{Gains, Answered, AnsweredInPart, Ran, RanInPart}
-use Rattle.hp_wire.specs.Sent.{AppendsFront}
+use Rattle.hp_wire.specs.Answered.{Gains, Answered, AnsweredInPart}
+use Rattle.hp_model.specs.run.Ran.{Ran, RanInPart}
+use Rattle.hp_model.specs.run.Ran.{AppendsFront}
 use Rattle.hp_text.proofs.Cuts.{rest_is}
 
 pub appends_then : (a b c : Option (List ℕ)) (xs ys : List ℕ) → Appends a b xs → Appends b c ys → Appends a c (xs ++ ys)

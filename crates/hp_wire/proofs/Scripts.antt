@@ -5,8 +5,8 @@ use Rattle.hp_model.specs.machine.Plan.{Reply}
 use Rattle.hp_model.specs.text.Lines.{lines}
 use Rattle.hp_model.specs.text.Text.{AnswersLines}
 use Rattle.hp_model.specs.declared.step.Step.{Step}
-use Rattle.hp_wire.specs.Served.{AnswersInput, Serves}
-use Rattle.hp_wire.specs.declared.fault.RunFault.{RunFault}
+use Rattle.hp_model.specs.run.Served.{AnswersInput, Serves}
+use Rattle.hp_model.specs.declared.fault.RunFault.{RunFault}
 
 whole_input : (xs ys input : List ℕ) → xs ≡ input ++ ys → ys ≡ [] → input ≡ xs
 whole_input xs ys input cut end = sym (cut ∙ ap (λ (zs : List ℕ). input ++ zs) end ∙ append-nil input)

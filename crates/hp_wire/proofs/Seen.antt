@@ -6,10 +6,10 @@ use Rattle.hp_model.specs.machine.Plan.{Reply}
 use Rattle.hp_model.specs.text.Lines.{Line}
 use Rattle.hp_model.specs.text.Reading.{step_of}
 use Rattle.hp_model.specs.text.Text.{AnswersStep, AnswersLines, IsTextOfReplies}
-use Rattle.hp_wire.specs.Answered.{Ran, RanInPart}
-use Rattle.hp_wire.specs.Served.{Serves}
-use Rattle.hp_wire.specs.declared.fault.RunFault.{RunFault}
-use Rattle.hp_wire.specs.declared.fault.RunFault.TheVariants.{Memory, Read, Write, TooLong}
+use Rattle.hp_model.specs.run.Ran.{Ran, RanInPart}
+use Rattle.hp_model.specs.run.Served.{Serves}
+use Rattle.hp_model.specs.declared.fault.RunFault.{RunFault}
+use Rattle.hp_model.specs.declared.fault.RunFault.TheVariants.{Memory, Read, Write, TooLong}
 
 module _ {S T : Type 0} (shown : S → T) (may_answer : T → Step → Reply → T → Type 0) where
   -- the service may answer so, by what it shows

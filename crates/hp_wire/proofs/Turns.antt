@@ -10,7 +10,7 @@ use Rattle.std.specs.Io.KnownBytes.{Consumes}
 use Rattle.hp_model.specs.machine.Plan.{Reply}
 use Rattle.hp_model.specs.text.Lines.{Line, lines, ended_lines, after_lines, unended}
 use Rattle.hp_model.specs.declared.step.Step.{Step}
-use Rattle.hp_wire.specs.Answered.{Ran, RanInPart}
+use Rattle.hp_model.specs.run.Ran.{Ran, RanInPart}
 use Rattle.hp_wire.specs.Unanswered.{CountsLines, Gets}
 use Rattle.hp_wire.proofs.Known.{ran_none, ran_then, ran_cut}
 use Rattle.hp_wire.proofs.LineCuts.{join_ended, join_after}

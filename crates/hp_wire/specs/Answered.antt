@@ -5,10 +5,10 @@ use Rattle.hp_model.specs.machine.Plan.{Reply}
 use Rattle.hp_model.specs.text.Lines.{Line}
 use Rattle.hp_model.specs.text.Text.{IsTextOfReplies}
 use Rattle.hp_model.specs.declared.step.Step.{Step}
-use Rattle.hp_wire.specs.Sent.{AppendsFront}
+use Rattle.hp_model.specs.run.Ran.{AppendsFront, Ran, RanInPart}
 use Rattle.hp_wire.specs.Waiting.{Waiting}
-use Rattle.hp_wire.specs.declared.fault.RunFault.{RunFault}
-use Rattle.hp_wire.specs.declared.fault.RunFault.TheVariants.{Write}
+use Rattle.hp_model.specs.declared.fault.RunFault.{RunFault}
+use Rattle.hp_model.specs.declared.fault.RunFault.TheVariants.{Write}
 
 -- what is written and what waits, in this order, gained these bytes
 pub record Gains (old : Option (List ℕ)) (waiting : List ℕ) (new : Option (List ℕ)) (left : List ℕ) (added : List ℕ) : Type 0 where
@@ -32,21 +32,6 @@ pub record AnsweredInPart {S : Type 0} (may_answer : S → Step → Reply → S 
   pub text : List ℕ
   pub replies : IsTextOfReplies may_answer page old done new text
   pub written : AppendsFront before after (waiting ++ text)
-
--- all the lines were answered, and the text of the replies was written
-pub record Ran {S : Type 0} (may_answer : S → Step → Reply → S → Type 0) (page : ℕ) (old : S) (lines : List Line) (new : S) (before after : Option (List ℕ)) : Type 0 where
-  pub text : List ℕ
-  pub replies : IsTextOfReplies may_answer page old lines new text
-  pub written : Appends before after text
-
--- the first of the lines were answered, and a front of the text of their replies was written
-pub record RanInPart {S : Type 0} (may_answer : S → Step → Reply → S → Type 0) (page : ℕ) (old : S) (lines : List Line) (new : S) (before after : Option (List ℕ)) : Type 0 where
-  pub done : List Line
-  pub rest : List Line
-  pub first : lines ≡ done ++ rest
-  pub text : List ℕ
-  pub replies : IsTextOfReplies may_answer page old done new text
-  pub written : AppendsFront before after text
 
 -- ---- with a writer whose known bytes `contents` tells, and the replies that wait
 

@@ -2,8 +2,8 @@
 use Rattle.std.specs.Prelude.{◌≡◌, ◌≤◌, ◌-◌, ℕ, List, ◌++◌, drop, take, length, Option}
 use Rattle.std.specs.Io.KnownBytes.{Consumes, Keeps}
 use Rattle.hp_model.specs.text.Lines.{after_lines, ended_lines}
-use Rattle.hp_wire.specs.declared.fault.RunFault.{RunFault}
-use Rattle.hp_wire.specs.declared.fault.RunFault.TheVariants.{Read}
+use Rattle.hp_model.specs.declared.fault.RunFault.{RunFault}
+use Rattle.hp_model.specs.declared.fault.RunFault.TheVariants.{Read}
 
 -- so many bytes were read, and stand behind those that were there
 pub record Gets (old new : List ℕ) (unread left : Option (List ℕ)) (count : ℕ) : Type 0 where

@@ -5,7 +5,7 @@ ghost use Rattle.hp_model.specs.text.Reading.{load_of, step_of, step_of_command,
 ghost use Rattle.hp_wire.specs.Added.{AddsAnswer, AddsReply};
 ghost use Rattle.hp_wire.specs.Answered.{AnswersAll, AnswersSome, RunsAll, RunsSome};
 ghost use Rattle.hp_wire.specs.Sent.{Writes, WritesFront};
-ghost use Rattle.hp_wire.specs.Served.{text_of_refusals, unended_by};
+ghost use Rattle.hp_model.specs.run.Served.{text_of_refusals, unended_by};
 ghost use Rattle.hp_wire.specs.Unanswered.{CountsLines};
 ghost use Rattle.hp_wire.specs.Waiting.{HasRoomForOne};
 ghost use Rattle.hp_wire_lines.specs.Accesses.{is_access};

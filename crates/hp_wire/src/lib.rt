@@ -3,7 +3,6 @@
 
 mod answering;
 pub mod ends;
-pub mod fault;
 pub mod fixed_buffer;
 mod replies;
 pub mod running;
@@ -11,4 +10,5 @@ pub mod script;
 mod unanswered;
 mod written;
 
+pub use hp_model::fault;
 pub use hp_wire_lines::{reading, words, writing};

@@ -1,7 +1,7 @@
 //! The replies that wait to be written.
 ghost use Rattle.std.specs.Prelude.{◌≡◌, ◌≤◌, ◌++◌, [], length, Err, IfErr, IfOk, IsOk, OnOk};
-ghost use Rattle.hp_model.specs.machine.Accesses.{bytes_reply, done_reply};
-ghost use Rattle.hp_model.specs.machine.Told.{told_reply};
+ghost use Rattle.hp_model.specs.beside.Accesses.{bytes_reply, done_reply};
+ghost use Rattle.hp_model.specs.beside.Told.{told_reply};
 ghost use Rattle.hp_model.specs.text.Writing.{IsWithinLimits, line_of};
 ghost use Rattle.hp_model.specs.Profile.{most_bytes, most_page_bytes};
 ghost use Rattle.hp_wire.specs.Answered.{LosesNone};

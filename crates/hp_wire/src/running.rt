@@ -2,7 +2,7 @@
 ghost use Rattle.std.specs.Prelude.{◌≡◌, ◌≢◌, ◌≤◌, [], IfErr, IfOk, OnOk};
 ghost use Rattle.std.specs.Io.KnownBytes.{IsAtEnd};
 ghost use Rattle.hp_model.specs.Profile.{most_page_bytes};
-ghost use Rattle.hp_wire.specs.Served.{ServesInput};
+ghost use Rattle.hp_model.specs.run.Served.{ServesInput};
 
 use crate::ends::{Sink, Source};
 use crate::fault::RunFault;

@@ -2,8 +2,8 @@
 ghost use Rattle.std.specs.Prelude.{◌≡◌, ◌≤◌, IfErr, IfSome, OnOk};
 ghost use Rattle.hp_model.specs.machine.Promises.{IsPromisedStep};
 ghost use Rattle.hp_model.specs.Profile.{most_page_bytes};
-ghost use Rattle.hp_system.specs.Kept.{IsReadyMachine};
-ghost use Rattle.hp_wire.specs.Served.{AnswersInput, IsMemoryOrTooLong, ServesInput};
+ghost use Rattle.hp_model.specs.machine.Ready.{IsReadyMachine};
+ghost use Rattle.hp_model.specs.run.Served.{AnswersInput, IsMemoryOrTooLong, ServesInput};
 
 use crate::ends::{Sink, Source};
 use crate::fault::RunFault;

@@ -4,7 +4,7 @@ use Rattle.std.specs.Str.{bytes_eq}
 use Rattle.hp_model.specs.declared.refusal.Refusal.{Refusal}
 use Rattle.hp_model.specs.declared.service.Access.{Access}
 use Rattle.hp_model.specs.declared.step.Step.{Step}
-use Rattle.hp_model.specs.machine.Accesses.{load_step, store_step}
+use Rattle.hp_model.specs.beside.Accesses.{load_step, store_step}
 use Rattle.hp_model.specs.text.Reading.{load_of, step_of_bytes, step_of_command, store_of}
 use Rattle.hp_wire_lines.specs.declared.reading.LineKind.{LineKind}
 use Rattle.hp_wire_lines.specs.declared.reading.LineKind.TheVariants.{Load, Store, Other}

@@ -2,8 +2,8 @@
 ghost use Rattle.std.specs.Prelude.{◌≡◌, ◌≤◌, ℕ, ◌*◌, ◌++◌, ◌∷◌, [], codes, decimal, length, take, Err, IfOk};
 ghost use Rattle.std.specs.List.{All};
 ghost use Rattle.hex.specs.Hex.{encode_lower};
-ghost use Rattle.hp_model.specs.machine.Accesses.{bytes_reply, done_reply};
-ghost use Rattle.hp_model.specs.machine.Told.{told_answer, told_reply};
+ghost use Rattle.hp_model.specs.beside.Accesses.{bytes_reply, done_reply};
+ghost use Rattle.hp_model.specs.beside.Told.{told_answer, told_reply};
 ghost use Rattle.hp_model.specs.text.Writing.{newline, number_line, spaced, heading, meminfo_text, rows_text, names_text, answer_text, line_of, HasSmallAnswer, IsWithinLimits};
 ghost use Rattle.hp_model.specs.declared.answer.Answer.TheVariants.{Usage as UsageAnswer};
 ghost use Rattle.hp_model.specs.Profile.{most_bytes, most_files, most_frames_in_all, most_name_bytes, most_page_bytes};

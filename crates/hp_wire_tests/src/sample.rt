@@ -1,5 +1,5 @@
 //! A small service.
-ghost use Rattle.hp_model.specs.machine.Told.{told_reply};
+ghost use Rattle.hp_model.specs.beside.Told.{told_reply};
 ghost use Rattle.hp_model.specs.text.Writing.{IsWithinLimits};
 
 use hp_model::answer::{Counts, NodeCount, Reply};

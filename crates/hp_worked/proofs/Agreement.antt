@@ -11,7 +11,7 @@ use Rattle.hp_model.specs.declared.step.Step.{Step}
 use Rattle.hp_model.specs.machine.Event.{planned, has_maps_of}
 use Rattle.hp_model.specs.machine.Machine.{pool_of, used_pages}
 use Rattle.hp_model.specs.pool.NodeRows.{total_of, surp_of}
-use Rattle.hp_model.specs.machine.Plain.{plain_choice, plain_event, plain_step}
+use Rattle.hp_model.specs.beside.Plain.{plain_choice, plain_event, plain_step}
 use Rattle.hp_model.specs.machine.Plan.{Plan, Finish, Ask, Reply}
 use Rattle.hp_model.specs.pool.Pool.{section}
 use Rattle.hp_model.specs.pool.PoolCounts.{Pool, used}

@@ -2,7 +2,7 @@
 use Rattle.std.proofs.Common.{◌≡◌, true, List, [], ◌∷◌, refl}
 use Rattle.std.specs.Fmt.{digits}
 use Rattle.hex.specs.Hex.{encode_with, decode_pairs}
-use Rattle.hp_model.specs.machine.Plain.{plain_text}
+use Rattle.hp_model.specs.beside.Plain.{plain_text}
 use Rattle.hp_model.specs.text.Reading.{step_of_bytes, step_of_command, slot_command, pool_command, connect_of, attach_of, fork_of, exit_of, mount_of, remount_of, umount_of}
 use Rattle.hp_model.specs.text.Reading.{create_of, unlink_of, truncate_of, punch_of, preallocate_of, read_of, ls_of, stat_of, map_of, anon_of, unmap_of}
 use Rattle.hp_model.specs.text.Reading.{fault_of, load_of, store_of, nr_of, overcommit_of, meminfo_of, nodes_of, df_of}

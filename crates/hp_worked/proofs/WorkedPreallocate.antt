@@ -18,7 +18,7 @@ use Rattle.hp_model.specs.files.File.{File, cell_at, file_in, has_page, new_file
 use Rattle.hp_model.specs.files.Page.{Page}
 use Rattle.hp_model.specs.files.Value.{shown}
 use Rattle.hp_model.specs.machine.Event.{after}
-use Rattle.hp_model.specs.machine.Plain.{plain_step}
+use Rattle.hp_model.specs.beside.Plain.{plain_step}
 use Rattle.hp_model.specs.machine.Plan.{Reply, Slot}
 use Rattle.hp_model.specs.machine.Promises.{IsPromised, takes_memory}
 use Rattle.hp_model.specs.machine.State.{State, slot_at, with_slot}

@@ -15,7 +15,7 @@ use Rattle.hp_model.specs.files.File.{File, cell_at, new_file, with_file, with_m
 use Rattle.hp_model.specs.machine.Machine.{committed_pages, counts_in, pool_of}
 use Rattle.hp_model.specs.files.Mapping.{Map as MapOf, copy_of, is_shared, no_map, place_at, with_place}
 use Rattle.hp_model.specs.pool.NodeRows.{free_of, total_of}
-use Rattle.hp_model.specs.machine.Plain.{plain_step}
+use Rattle.hp_model.specs.beside.Plain.{plain_step}
 use Rattle.hp_model.specs.machine.Plan.{Slot}
 use Rattle.hp_model.specs.machine.Promises.{LeavesAll, LosesTo, Makes, SameFiles, SameLimits, Shape, StillMapped, StillNamed}
 use Rattle.hp_model.specs.machine.Promises.{Tells, file_in, is_backed_step, is_cut_off_step, is_ended_number, least_of, map_at, map_named}

@@ -16,7 +16,7 @@ use Rattle.hp_model.specs.declared.step.Step.{Step}
 use Rattle.hp_model.specs.declared.step.Step.TheVariants.{Connect, Create, Df, Exit, Fault, Fork, Load, Map, Mount, Nr, Punch, Remount, Stat, Store, Umount, Unlink, Unmap}
 use Rattle.hp_model.specs.declared.step.Intent.TheVariants.{Read}
 use Rattle.hp_model.specs.files.File.{File, file_in, is_entered, new_file, with_file}
-use Rattle.hp_model.specs.machine.Plain.{plain_step}
+use Rattle.hp_model.specs.beside.Plain.{plain_step}
 use Rattle.hp_model.specs.machine.Plan.{Reply, Slot}
 use Rattle.hp_model.specs.machine.Promises.{IsPromised, IsPromisedStep}
 use Rattle.hp_model.specs.machine.State.{State, slot_at, with_slot}

@@ -6,7 +6,7 @@ use Rattle.hp_model.specs.declared.step.Sharing.TheVariants.{Private}
 use Rattle.hp_model.specs.declared.step.Reserving.TheVariants.{Reserve}
 use Rattle.hp_model.specs.declared.refusal.Refusal.TheVariants.{NoSuchTask, NoSuchSlot, OutOfMemory}
 use Rattle.hp_model.specs.declared.answer.Answer.TheVariants.{Done, MapNo, Number, Stat as StatAnswer}
-use Rattle.hp_model.specs.machine.Plain.{Chooser, plain_choice, run_by}
+use Rattle.hp_model.specs.beside.Plain.{Chooser, plain_choice, run_by}
 use Rattle.hp_model.specs.declared.event.SlotEvent.TheVariants.{ForkMaps, Mount as MountEvent}
 use Rattle.hp_model.specs.declared.event.SlotEvent.{SlotEvent}
 use Rattle.std.specs.Prelude.{codes}

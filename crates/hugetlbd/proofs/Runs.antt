@@ -6,8 +6,8 @@ use Rattle.hp_model.specs.machine.State.{State}
 use Rattle.hp_serving.specs.Ended as serving
 use Rattle.hp_serving.specs.declared.sessions.Ended.{Ended}
 use Rattle.hp_serving.specs.declared.sessions.Ended.TheVariants.{Printed, Unprinted, Failed}
-use Rattle.hp_wire.specs.Served.{AnswersInput, Serves, IsMemoryOrTooLong}
-use Rattle.hp_wire.specs.declared.fault.RunFault.{RunFault}
+use Rattle.hp_model.specs.run.Served.{AnswersInput, Serves, IsMemoryOrTooLong}
+use Rattle.hp_model.specs.declared.fault.RunFault.{RunFault}
 use Rattle.hugetlbd.specs.Program.{AnswersScript, Run, status_of_run}
 
 -- the machine ran

@@ -9,10 +9,10 @@ use Rattle.clap.specs.declared.error.kind.ErrorKind.{ErrorKind}
 use Rattle.clap.specs.declared.error.kind.ErrorKind.TheVariants.{DisplayHelp, DisplayVersion}
 use Rattle.hp_model.specs.machine.State.{State}
 use Rattle.hp_model.specs.machine.Promises.{IsPromisedStep}
-use Rattle.hp_wire.specs.Sent.{AppendsFront}
-use Rattle.hp_wire.specs.Served.{AnswersInput, Serves, IsMemoryOrTooLong, text_of_fault}
-use Rattle.hp_wire.specs.declared.fault.RunFault.{RunFault}
-use Rattle.hp_wire.specs.declared.fault.RunFault.TheVariants as fault
+use Rattle.hp_model.specs.run.Ran.{AppendsFront}
+use Rattle.hp_model.specs.run.Served.{AnswersInput, Serves, IsMemoryOrTooLong, text_of_fault}
+use Rattle.hp_model.specs.declared.fault.RunFault.{RunFault}
+use Rattle.hp_model.specs.declared.fault.RunFault.TheVariants as fault
 use Rattle.hp_model.specs.declared.entry.Receipt.{Receipt}
 use Rattle.hp_serving.specs.Ended as serving
 use Rattle.hp_serving.specs.Ended.{Says}

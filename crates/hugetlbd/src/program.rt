@@ -4,7 +4,7 @@ ghost use Rattle.clap.specs.Takes.{takes};
 ghost use Rattle.clap.specs.Values.{kind_of};
 ghost use Rattle.clap.specs.Words.{Text};
 ghost use Rattle.hp_wire.specs.Sent.{Writes, WritesFront};
-ghost use Rattle.hp_wire.specs.declared.fault.RunFault.{RunFault as TheFault};
+ghost use Rattle.hp_model.specs.declared.fault.RunFault.{RunFault as TheFault};
 ghost use Rattle.hp_nodes.specs.Ledgers.{AreFrames};
 ghost use Rattle.hp_pool.specs.Ledgers.{AreLedgers};
 ghost use Rattle.hp_words.specs.Asked.{AsksForScript, AsksToServe, IsRefusedFor, hugetlbd};

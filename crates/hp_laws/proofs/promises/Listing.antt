@@ -38,7 +38,7 @@ use Rattle.hp_laws.proofs.steps.Outcomes.{Always, always_if, outcome_if, always_
 use Rattle.hp_laws.proofs.accesses.Shown.{On, Same, Result, on_weaker, read_same, write_done}
 use Rattle.hp_laws.proofs.accesses.SlotShows.{always_gives, always_grant, always_mount, always_remount, always_unless, always_value, bytes_on, always_preallocate}
 use Rattle.hp_model.specs.declared.answer.Answer.{Answer}
-use Rattle.hp_model.specs.machine.Copying.{has_names}
+use Rattle.hp_model.specs.beside.Copying.{has_names}
 use Rattle.hp_model.specs.machine.SlotEvent.{stat}
 use Rattle.hp_laws.specs.Answers.{HasNoNames, lists_names}
 use Rattle.hp_model.specs.machine.Plan.{continued}

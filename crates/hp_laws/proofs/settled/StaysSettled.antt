@@ -20,7 +20,7 @@ use Rattle.hp_model.specs.machine.Plan.{Reply, Slot, slot_committed, slot_pages_
 use Rattle.hp_model.specs.pool.PoolCounts.{Pool}
 use Rattle.hp_model.specs.Profile.{most_overcommit, most_frames}
 use Rattle.hp_model.specs.pool.Resize.{pool_event, set_nr}
-use Rattle.hp_model.specs.machine.Run.{IsRun}
+use Rattle.hp_model.specs.beside.Run.{IsRun}
 use Rattle.hp_model.specs.machine.Settled.{IsSettledState}
 use Rattle.hp_laws.specs.Laws.{PoolIsTied, StartIsSettled, RunsAreSettled}
 use Rattle.hp_model.specs.machine.SlotEvent.{slot_event}

@@ -2,7 +2,7 @@
 use Rattle.std.proofs.Common.{List, [], ◌∷◌, ◌++◌, refl, sym, subst}
 use Rattle.hp_model.specs.declared.step.Step.{Step}
 use Rattle.hp_model.specs.machine.Plan.{Reply}
-use Rattle.hp_model.specs.machine.Run.{RunsBy}
+use Rattle.hp_model.specs.beside.Run.{RunsBy}
 use Rattle.hp_model.specs.machine.State.{State}
 
 -- a run goes on by one step

@@ -37,7 +37,7 @@ use Rattle.hp_model.specs.files.Page.{zeros}
 use Rattle.hp_model.specs.machine.Plan.{Reply, Slot}
 use Rattle.hp_model.specs.files.Reserved.{is_reserved}
 use Rattle.hp_model.specs.pool.Resize.{node_counts}
-use Rattle.hp_model.specs.machine.Run.{RunsBy}
+use Rattle.hp_model.specs.beside.Run.{RunsBy}
 use Rattle.hp_model.specs.machine.Settings.{IsSet, Mounts, only_reads}
 pub use Rattle.hp_model.specs.machine.Short.{is_backed, owns_copy}
 use Rattle.hp_model.specs.machine.Short.{MeetsShortage}

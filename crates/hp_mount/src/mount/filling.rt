@@ -2,7 +2,7 @@
 ghost use Rattle.std.specs.Prelude.{◌≡◌, ◌<◌, ◌≤◌, IfNone, Some, ℕ, length};
 ghost use Rattle.hp_model.specs.declared.event.SlotEvent.TheVariants.{Preallocate};
 ghost use Rattle.hp_model.specs.files.Fill.{lacking};
-ghost use Rattle.hp_model.specs.machine.Accesses.{done_reply};
+ghost use Rattle.hp_model.specs.beside.Accesses.{done_reply};
 ghost use Rattle.hp_model.specs.machine.Promises.{file_in};
 ghost use Rattle.hp_model.specs.machine.SlotEvent.{fill, preallocate_tests};
 ghost use Rattle.hp_model.specs.Profile.{most_file_pages};

@@ -6,7 +6,7 @@ ghost use Rattle.hp_model.specs.declared.refusal.Refusal.TheVariants as Refusal;
 ghost use Rattle.hp_model.specs.files.File.{maps_of};
 ghost use Rattle.hp_model.specs.files.GiveBack.{without_task};
 ghost use Rattle.hp_model.specs.machine.Event.{has_maps_of};
-ghost use Rattle.hp_model.specs.machine.Accesses.{done_reply};
+ghost use Rattle.hp_model.specs.beside.Accesses.{done_reply};
 ghost use Rattle.hp_store.specs.Store.{Store as StoreValue};
 ghost use Rattle.hp_subpool.specs.Subpool.{Subpool as ShareValue};
 ghost use Rattle.hp_lookup.specs.Places.{IsFirstTask};

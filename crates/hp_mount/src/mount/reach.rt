@@ -3,7 +3,7 @@ ghost use Rattle.std.specs.Prelude.{◌≡◌, ◌≢◌, ℕ, ◌<◌, ◌≤�
 ghost use Rattle.hp_model.specs.declared.cell.Cell.TheVariants.{Entered, Hole};
 ghost use Rattle.hp_model.specs.declared.event.SlotEvent.TheVariants.{Load, Store, Fault};
 ghost use Rattle.hp_model.specs.files.Mapping.{is_live, is_shared, place_at};
-ghost use Rattle.hp_model.specs.machine.Accesses.{bytes_reply, done_reply};
+ghost use Rattle.hp_model.specs.beside.Accesses.{bytes_reply, done_reply};
 ghost use Rattle.hp_model.specs.declared.refusal.Refusal.TheVariants as Refusal;
 ghost use Rattle.hp_model.specs.files.File.{cell_at, is_entered};
 ghost use Rattle.hp_model.specs.files.Page.{Page as PageValue};

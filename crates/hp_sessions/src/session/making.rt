@@ -5,7 +5,7 @@ ghost use Rattle.hp_laws.specs.Answers.{lists_names};
 ghost use Rattle.hp_model.specs.declared.event.Event.TheVariants.{Tasks as OnTasks, Slot as OnSlot, Pool as OnPool};
 ghost use Rattle.hp_model.specs.declared.event.SlotEvent.TheVariants.{ForkMaps, Ls, Mount as Mounting, Remount as Remounting, Umount as Umounting};
 ghost use Rattle.hp_model.specs.machine.Step.{Script, exit_slot, finding, on_slot};
-ghost use Rattle.hp_model.specs.machine.Told.{told_answer, told_reply};
+ghost use Rattle.hp_model.specs.beside.Told.{told_answer, told_reply};
 ghost use Rattle.hp_model.specs.text.Writing.{IsWithinLimits};
 ghost use Rattle.hp_model.specs.Profile.{most_bytes};
 ghost use Rattle.hp_events.specs.Event.{event_of, shows_bytes};

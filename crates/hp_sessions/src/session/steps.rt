@@ -3,9 +3,9 @@ ghost use Rattle.std.specs.Prelude.{◌≡◌, ◌+◌, ◌<◌, ◌≤◌, ◌=
 ghost use Rattle.std.specs.Bool.{MatchBool};
 ghost use Rattle.hp_laws.specs.Answers.{lists_names};
 ghost use Rattle.hp_model.specs.declared.answer.Answer.TheVariants.{Done};
-ghost use Rattle.hp_model.specs.machine.Accesses.{bytes_reply, done_reply, load_step, store_step};
-ghost use Rattle.hp_model.specs.machine.Copying.{has_bytes};
-ghost use Rattle.hp_model.specs.machine.Told.{told_answer, told_reply};
+ghost use Rattle.hp_model.specs.beside.Accesses.{bytes_reply, done_reply, load_step, store_step};
+ghost use Rattle.hp_model.specs.beside.Copying.{has_bytes};
+ghost use Rattle.hp_model.specs.beside.Told.{told_answer, told_reply};
 ghost use Rattle.hp_model.specs.text.Writing.{IsWithinLimits};
 ghost use Rattle.hp_model.specs.Profile.{most_bytes};
 ghost use Rattle.hp_events.specs.Event.{event_of, shows_bytes};

@@ -1,14 +1,14 @@
 //! Loads and stores, with no step and no answer made of them.
 ghost use Rattle.std.specs.Prelude.{◌≡◌, ◌≢◌, ◌≤◌, length, false, Err, IfOk};
 ghost use Rattle.hp_model.specs.declared.refusal.Refusal.TheVariants as Refusal;
-ghost use Rattle.hp_model.specs.machine.Accesses.{bytes_reply, done_reply, load_step, store_step};
+ghost use Rattle.hp_model.specs.beside.Accesses.{bytes_reply, done_reply, load_step, store_step};
 ghost use Rattle.hp_model.specs.machine.Promises.{IsPromised, takes_memory};
 ghost use Rattle.hp_model.specs.machine.State.{slot_at};
 ghost use Rattle.hp_model.specs.machine.Step.{IsStep};
 ghost use Rattle.hp_model.specs.Profile.{most_bytes};
 ghost use Rattle.hp_events.specs.Memory.{asks_memory};
 ghost use Rattle.hp_system.specs.Event.{DoesOnSlot, load_event, store_event};
-ghost use Rattle.hp_system.specs.Kept.{IsReadyMachine};
+ghost use Rattle.hp_model.specs.machine.Ready.{IsReadyMachine};
 
 use super::System;
 use hp_model::naming::Naming;

@@ -5,15 +5,15 @@ ghost use Rattle.std.specs.List.{range_with_len};
 ghost use Rattle.hp_model.specs.declared.refusal.Refusal.TheVariants as Refusal;
 ghost use Rattle.hp_model.specs.declared.event.SlotEvent.TheVariants.{Mount as Mounting, Remount as Remounting, Umount as Umounting};
 ghost use Rattle.hp_model.specs.files.Options.{limits, wanted_of};
-ghost use Rattle.hp_model.specs.machine.Accesses.{done_reply};
+ghost use Rattle.hp_model.specs.beside.Accesses.{done_reply};
 ghost use Rattle.hp_model.specs.machine.State.{slot_at};
-ghost use Rattle.hp_model.specs.machine.Told.{told_reply};
+ghost use Rattle.hp_model.specs.beside.Told.{told_reply};
 ghost use Rattle.hp_model.specs.text.Writing.{IsWithinLimits};
 ghost use Rattle.hp_model.specs.Profile.{most_bytes};
 ghost use Rattle.hp_events.specs.Event.{event_of, is_usage};
 ghost use Rattle.hp_events.specs.Memory.{asks_memory};
 ghost use Rattle.hp_system.specs.Event.{AreExited, AreForked, DoesOfTask, DoesOnSlot, IsForkedOn, mapped_slots};
-ghost use Rattle.hp_system.specs.Kept.{IsReadyMachine};
+ghost use Rattle.hp_model.specs.machine.Ready.{IsReadyMachine};
 
 use super::System;
 use hp_events::MountEvent;

@@ -6,14 +6,14 @@ ghost use Rattle.hp_model.specs.declared.event.Event.TheVariants.{Pool as OnPool
 ghost use Rattle.hp_model.specs.declared.refusal.Refusal.TheVariants as Refusal;
 ghost use Rattle.hp_model.specs.declared.step.Step.TheVariants.{Attach, Connect, Exit, Fork, Nr, Overcommit, Meminfo, Nodes};
 ghost use Rattle.hp_model.specs.machine.Promises.{is_usage, IsPromised, IsPromisedRun};
-ghost use Rattle.hp_model.specs.machine.Accesses.{done_reply};
+ghost use Rattle.hp_model.specs.beside.Accesses.{done_reply};
 ghost use Rattle.hp_model.specs.machine.Step.{IsScript, IsStep, only};
-ghost use Rattle.hp_model.specs.machine.Told.{told_reply};
+ghost use Rattle.hp_model.specs.beside.Told.{told_reply};
 ghost use Rattle.hp_model.specs.pool.Resize.{node_counts};
 ghost use Rattle.hp_model.specs.text.Writing.{IsWithinLimits};
 ghost use Rattle.hp_model.specs.machine.Promises.{takes_memory};
 ghost use Rattle.hp_model.specs.Profile.{most_bytes};
-ghost use Rattle.hp_system.specs.Kept.{IsReadyMachine};
+ghost use Rattle.hp_model.specs.machine.Ready.{IsReadyMachine};
 
 use super::System;
 use hp_events::{MountEvent, Work, work_of};

@@ -3,7 +3,7 @@ use Rattle.std.proofs.lemmas.Bool.Decides.{nat_tests}
 use Rattle.hp_model.specs.declared.event.SlotEvent.TheVariants.{Remount}
 use Rattle.hp_model.specs.declared.refusal.Refusal.TheVariants.{NoSuchSlot, SlotTaken}
 use Rattle.hp_model.specs.machine.Plan.{Reply, Slot}
-use Rattle.hp_model.specs.machine.Told.{told_reply}
+use Rattle.hp_model.specs.beside.Told.{told_reply}
 use Rattle.hp_mount.specs.Done.{IsDone}
 use Rattle.hp_shared.specs.Slots.{IsActedOr}
 use Rattle.hp_shared.proofs.Acting.{acted_or}

@@ -2,7 +2,7 @@ use Rattle.std.proofs.Common.{Some, sym, subst}
 use Rattle.hp_model.specs.declared.refusal.Refusal.TheVariants.{NoSuchSlot}
 use Rattle.hp_model.specs.machine.Plan.{Slot}
 use Rattle.std.proofs.Common.{Err}
-use Rattle.hp_model.specs.machine.Told.{told_reply}
+use Rattle.hp_model.specs.beside.Told.{told_reply}
 use Rattle.hp_events.specs.Event.{event_of}
 use Rattle.hp_shared.specs.Slots.{IsActedOr}
 use Rattle.hp_shared.proofs.Acting.{acted_or, acted_plain, acted_small, none_acted}

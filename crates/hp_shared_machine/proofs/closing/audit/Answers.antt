@@ -5,7 +5,7 @@ use Rattle.hp_model.specs.machine.State.{State}
 use Rattle.hp_shared_machine.proofs.Ready.{when_joined}
 use Rattle.hp_shared_machine.specs.Joined.{entries_of}
 use Rattle.hp_shared_machine.specs.Sharing.{EndsRuns}
-use Rattle.hp_system.specs.Kept.{IsReadyMachine, Machine}
+use Rattle.hp_model.specs.machine.Ready.{IsReadyMachine, Machine}
 use Rattle.hp_trail.specs.Walk.{lists, trails_of}
 use Rattle.hp_shared_machine.proofs.closing.audit.Goals as goal
 

@@ -1,5 +1,5 @@
 use Rattle.hp_model.specs.machine.Promises.{IsPromisedStep}
-use Rattle.hp_system.specs.Kept.{Machine}
+use Rattle.hp_model.specs.machine.Ready.{Machine}
 use Rattle.hp_wire.proofs.Scripts.{ran_script}
 use Rattle.hp_wire.proofs.Seen.{serves_seen}
 use Rattle.hp_wire.proofs.script.run_script.Goals as goal

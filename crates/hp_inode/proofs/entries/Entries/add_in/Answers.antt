@@ -1,5 +1,5 @@
 use Rattle.std.proofs.Common.{◌*◌, ◌≤◌, ◌||◌, ◌∷◌, [], length, get_or, sym, ap, ◌∙◌, arith}
-use Rattle.hp_model.specs.files.Ranges.{within}
+use Rattle.hp_model.specs.beside.Ranges.{within}
 use Rattle.hp_inode.specs.Blocks.{WordBlocks}
 use Rattle.hp_inode.specs.Marks.{marked}
 use Rattle.hp_inode.proofs.Blocks.{block_there, others_there}

@@ -1,5 +1,5 @@
 use Rattle.std.proofs.Common.{rules, ap, ◌∙◌, ◌≡◌, ◌≤◌, ◌*◌, ◌||◌, ◌/◌, ◌%◌, ◌+◌, min, ℕ, length}
-use Rattle.hp_model.specs.files.Ranges.{within}
+use Rattle.hp_model.specs.beside.Ranges.{within}
 use Rattle.hp_inode.specs.Marks.{marked}
 use Rattle.hp_inode.proofs.Spread.{spread_entries}
 use Rattle.hp_inode.proofs.Tables.{written_back}

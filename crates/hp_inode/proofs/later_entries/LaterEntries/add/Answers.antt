@@ -1,5 +1,5 @@
 use Rattle.std.proofs.Common.{◌*◌, ◌≤◌, ◌||◌, [], length, get_or, sym, ap, ◌∙◌, arith}
-use Rattle.hp_model.specs.files.Ranges.{within}
+use Rattle.hp_model.specs.beside.Ranges.{within}
 use Rattle.hp_inode.specs.Later.{blocks_in}
 use Rattle.hp_inode.specs.Marks.{marked}
 use Rattle.hp_inode.proofs.Later.{block_was, changed_here, changed_others, number_read, numbered, place_within}

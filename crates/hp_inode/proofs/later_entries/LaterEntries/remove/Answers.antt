@@ -1,6 +1,6 @@
 use Rattle.std.proofs.Common.{◌<◌, not, ◌&&◌, length, sym, ap, ◌∙◌, arith}
 use Rattle.std.proofs.lemmas.List.{get_or_past, get_or_read}
-use Rattle.hp_model.specs.files.Ranges.{within}
+use Rattle.hp_model.specs.beside.Ranges.{within}
 use Rattle.hp_inode.specs.EntryBlock.{count_in}
 use Rattle.hp_inode.specs.Marks.{marked}
 use Rattle.hp_inode.proofs.Blocks.{none_counted}

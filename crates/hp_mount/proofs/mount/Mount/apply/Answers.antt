@@ -1,9 +1,9 @@
 use Rattle.std.proofs.Common.{◌≡◌, Bool, Ok, Some, true, false, not, refl, sym, subst, ◌∙◌}
 use Rattle.hp_model.specs.declared.event.SlotEvent.TheVariants.{Create, Df, Ls, Read, Stat}
-use Rattle.hp_model.specs.machine.Accesses.{bytes_reply, done_reply}
+use Rattle.hp_model.specs.beside.Accesses.{bytes_reply, done_reply}
 use Rattle.hp_model.specs.machine.Plan.{Choice, Slot}
 use Rattle.hp_model.specs.machine.SlotEvent.{slot_event}
-use Rattle.hp_model.specs.machine.Told.{told_reply}
+use Rattle.hp_model.specs.beside.Told.{told_reply}
 use Rattle.hp_events.specs.declared.event.MountEvent.{MountEvent}
 use Rattle.hp_events.specs.Event.{event_of}
 use Rattle.hp_events.specs.Memory.{asks_memory}

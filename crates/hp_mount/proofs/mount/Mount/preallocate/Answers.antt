@@ -1,7 +1,7 @@
 use Rattle.std.proofs.Common.{◌≡◌, ◌<◌, None, Some, ap, subst, sym, ◌∙◌, arith}
 use Rattle.hp_model.specs.files.File.{Mount}
 use Rattle.hp_model.specs.files.Fill.{lacking}
-use Rattle.hp_model.specs.machine.Accesses.{done_reply}
+use Rattle.hp_model.specs.beside.Accesses.{done_reply}
 use Rattle.hp_model.specs.machine.Promises.{file_in}
 use Rattle.hp_model.specs.machine.SlotEvent.{file_named}
 use Rattle.hp_mount.proofs.Filling.{fill_nothing, fill_nowhere, fill_refused, fill_went}

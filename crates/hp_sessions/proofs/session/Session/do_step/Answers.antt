@@ -6,7 +6,7 @@ use Rattle.hp_model.specs.declared.event.TableEvent.TheVariants.{Find}
 use Rattle.hp_model.specs.declared.step.Step.{Step}
 use Rattle.hp_model.specs.declared.step.Step.TheVariants.{Attach, Fault, Meminfo, Nodes}
 use Rattle.hp_model.specs.machine.Plan.{Reply}
-use Rattle.hp_model.specs.machine.Told.{told_reply}
+use Rattle.hp_model.specs.beside.Told.{told_reply}
 use Rattle.hp_sessions.specs.Calls.{IsCallAnswered}
 use Rattle.hp_shared.specs.Tables.{table_reply}
 use Rattle.hp_sessions.proofs.Working.{alone_answered, fault_worked}

@@ -2,7 +2,7 @@ use Rattle.std.proofs.Common.{◌==◌, sym, ap, subst, ◌∙◌, arith}
 use Rattle.hp_model.specs.declared.event.Event.TheVariants.{Tasks as OnTasks, Pool as OnPool}
 use Rattle.hp_model.specs.declared.event.TableEvent.TheVariants.{Add, Find}
 use Rattle.hp_model.specs.machine.Plan.{Reply}
-use Rattle.hp_model.specs.machine.Told.{told_reply}
+use Rattle.hp_model.specs.beside.Told.{told_reply}
 use Rattle.hp_sessions.specs.Calls.{HasReceiptRoom, IsMade}
 use Rattle.hp_events.specs.Works.{work_receipts}
 use Rattle.hp_sessions.specs.Works.{IsWorked}

@@ -1,5 +1,5 @@
 use Rattle.std.proofs.Common.{◌≡◌, ◌==◌, true, sym, ◌∙◌}
-use Rattle.hp_model.specs.machine.Told.{told_reply}
+use Rattle.hp_model.specs.beside.Told.{told_reply}
 use Rattle.hp_events.specs.Event.{event_of}
 use Rattle.hp_sessions.proofs.Parts.{either_kept, mount_absent, mount_has_place, slot_handed}
 use Rattle.hp_sessions.proofs.session.Session.enter_slot.Goals as goal

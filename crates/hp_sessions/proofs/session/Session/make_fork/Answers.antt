@@ -4,7 +4,7 @@ use Rattle.hp_model.specs.declared.event.Event.TheVariants.{Slot as OnSlot}
 use Rattle.hp_model.specs.declared.event.SlotEvent.TheVariants.{ForkMaps}
 use Rattle.hp_model.specs.declared.refusal.Refusal.{Refusal}
 use Rattle.hp_model.specs.declared.told.Told.{Told}
-use Rattle.hp_model.specs.machine.Told.{told_answer, told_reply}
+use Rattle.hp_model.specs.beside.Told.{told_answer, told_reply}
 use Rattle.hp_sessions.specs.Calls.{IsMade}
 use Rattle.hp_sessions.proofs.Carrying.{grows_one, made_added}
 use Rattle.hp_sessions.proofs.session.Session.make_fork.Goals as goal

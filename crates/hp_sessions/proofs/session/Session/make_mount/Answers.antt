@@ -1,7 +1,7 @@
 use Rattle.std.proofs.Common.{◌==◌, ap, arith}
 use Rattle.hp_model.specs.declared.event.Event.TheVariants.{Slot as OnSlot}
 use Rattle.hp_model.specs.declared.event.SlotEvent.TheVariants.{Mount as Mounting}
-use Rattle.hp_model.specs.machine.Told.{told_reply}
+use Rattle.hp_model.specs.beside.Told.{told_reply}
 use Rattle.hp_sessions.specs.Calls.{SessionView}
 use Rattle.hp_sessions.proofs.Carrying.{made_added, no_slot, on_slot_made}
 use Rattle.hp_sessions.proofs.session.Session.make_mount.Goals as goal

@@ -1,6 +1,6 @@
 use Rattle.std.proofs.Common.{◌==◌, None, refl, ap, arith}
 use Rattle.hp_model.specs.declared.event.Event.TheVariants.{Slot as OnSlot}
-use Rattle.hp_model.specs.machine.Told.{told_reply}
+use Rattle.hp_model.specs.beside.Told.{told_reply}
 use Rattle.hp_events.specs.Event.{event_of}
 use Rattle.hp_sessions.specs.Calls.{SessionView}
 use Rattle.hp_sessions.proofs.Carrying.{made_unnoted, no_slot, on_slot_made}

@@ -1,6 +1,6 @@
 use Rattle.std.proofs.Common.{◌≡◌, inr, Option, None, sym, ap, ◌∙◌, subst}
 use Rattle.hp_model.specs.declared.entry.Asked.{Asked}
-use Rattle.hp_model.specs.machine.Told.{told_reply}
+use Rattle.hp_model.specs.beside.Told.{told_reply}
 use Rattle.hp_trail.specs.Keeping.{with_entry}
 use Rattle.hp_events.specs.Event.{event_of}
 use Rattle.hp_shared.specs.Slots.{AreEventsToNote, IsSlotEvent, SlotView, Went}

@@ -1,5 +1,5 @@
 use Rattle.std.proofs.Common.{◌≡◌, None, ◌∙◌, subst}
-use Rattle.hp_model.specs.machine.Told.{told_reply}
+use Rattle.hp_model.specs.beside.Told.{told_reply}
 use Rattle.hp_events.specs.Event.{event_of}
 use Rattle.hp_shared.specs.Slots.{IsSlotEvent, SlotView}
 use Rattle.hp_shared.proofs.SlotsKept.{mount_event, unnoted_done, unnoted_stays, was_full}

@@ -6,7 +6,7 @@ use Rattle.hp_model.specs.declared.event.Event.TheVariants.{Slot as OnSlot}
 use Rattle.hp_model.specs.declared.event.SlotEvent.TheVariants.{ExitMaps}
 use Rattle.hp_model.specs.machine.Event.{has_maps_of}
 use Rattle.hp_model.specs.machine.Plan.{Reply}
-use Rattle.hp_model.specs.machine.Told.{told_reply}
+use Rattle.hp_model.specs.beside.Told.{told_reply}
 use Rattle.hp_locked.specs.Told.{IsReceipt}
 use Rattle.hp_shared.specs.Slots.{IsSlotEventDone, SlotView}
 use Rattle.hp_shared.proofs.SlotsKept.{exit_fits, slot_noted}

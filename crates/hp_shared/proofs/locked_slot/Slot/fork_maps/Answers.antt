@@ -1,7 +1,7 @@
 use Rattle.std.proofs.Common.{◌≡◌, Option, refl, ap, ◌∙◌, subst}
 use Rattle.hp_model.specs.declared.entry.Asked.{Asked}
 use Rattle.hp_model.specs.declared.event.SlotEvent.TheVariants.{ForkMaps}
-use Rattle.hp_model.specs.machine.Told.{told_reply}
+use Rattle.hp_model.specs.beside.Told.{told_reply}
 use Rattle.hp_shared.specs.Slots.{IsSlotEvent, SlotView}
 use Rattle.hp_shared.proofs.SlotsKept.{event_done, slot_noted, went_acted}
 use Rattle.hp_shared.proofs.locked_slot.Slot.fork_maps.Given.{Over}

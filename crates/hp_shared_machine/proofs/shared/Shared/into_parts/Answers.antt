@@ -5,7 +5,7 @@ use Rattle.hp_model.specs.machine.Machine.{start}
 use Rattle.hp_model.specs.pool.PoolCounts.{Pool}
 use Rattle.hp_pool.specs.Sums.{idle_pool}
 use Rattle.hp_shared.specs.Tables.{IsTableTrail}
-use Rattle.hp_system.specs.Kept.{Machine, machine_of}
+use Rattle.hp_model.specs.machine.Ready.{Machine, machine_of}
 use Rattle.hp_trail.specs.Keeping.{kept_if}
 use Rattle.hp_shared_machine.proofs.Gathered.{given_ends}
 use Rattle.hp_shared_machine.specs.Joined.{entries_of}

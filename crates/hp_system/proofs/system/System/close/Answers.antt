@@ -5,7 +5,7 @@ use Rattle.hp_model.specs.pool.PoolCounts.{IsSettled, Pool, counts_of}
 use Rattle.hp_mount_door.specs.Door.{IsReady as IsReadyPool}
 use Rattle.hp_system.proofs.Ending.{all_are_free, counts_few, going_begins, going_ends, going_goes}
 use Rattle.hp_system.specs.Event.{AllGo, SlotGoes}
-use Rattle.hp_system.specs.Kept.{Machine}
+use Rattle.hp_model.specs.machine.Ready.{Machine}
 use Rattle.hp_system.proofs.system.System.close.Goals as goal
 
 pub loop-slot-init : goal.loop-slot-init

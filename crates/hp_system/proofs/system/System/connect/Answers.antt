@@ -1,9 +1,9 @@
 use Rattle.std.proofs.Common.{ap}
 use Rattle.hp_model.specs.declared.event.TableEvent.TheVariants.{Add}
-use Rattle.hp_model.specs.machine.Accesses.{done_reply}
+use Rattle.hp_model.specs.beside.Accesses.{done_reply}
 use Rattle.hp_system.proofs.Carries.{kept_with_table, kept_by, ready_by}
 use Rattle.hp_system.proofs.MachineSteps.{connect_step, table_goes}
-use Rattle.hp_system.specs.Kept.{Machine, state_of}
+use Rattle.hp_model.specs.machine.Ready.{Machine, state_of}
 use Rattle.hp_system.proofs.system.System.connect.Goals as goal
 
 pub returns-clause-ready : goal.returns-clause-ready

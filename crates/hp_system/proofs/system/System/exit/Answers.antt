@@ -1,10 +1,10 @@
 use Rattle.std.proofs.Common.{Err, Ok, length, refl, ap, ◌∙◌}
 use Rattle.hp_model.specs.declared.answer.Answer.TheVariants.{Done}
 use Rattle.hp_model.specs.declared.event.TableEvent.TheVariants.{Remove}
-use Rattle.hp_model.specs.machine.Accesses.{done_reply}
+use Rattle.hp_model.specs.beside.Accesses.{done_reply}
 use Rattle.hp_system.proofs.Carries.{kept_with_table, kept_by, ready_by}
 use Rattle.hp_system.proofs.MachineSteps.{exit_done, exit_refused, table_goes}
-use Rattle.hp_system.specs.Kept.{Machine, state_of}
+use Rattle.hp_model.specs.machine.Ready.{Machine, state_of}
 use Rattle.hp_system.proofs.system.System.exit.Goals as goal
 
 pub returns-in-Err-clause-ready : goal.returns-in-Err-clause-ready

@@ -8,7 +8,7 @@ use Rattle.hp_model.specs.machine.SlotEvent.{slot_event}
 use Rattle.hp_model.specs.machine.State.{slot_at}
 use Rattle.hp_system.proofs.Carries.{kept_after, kept_by, never_full, ready, ready_by}
 use Rattle.hp_system.proofs.MachineSteps.{leaves_there, read_slot, slot_went}
-use Rattle.hp_system.specs.Kept.{Machine, state_of}
+use Rattle.hp_model.specs.machine.Ready.{Machine, state_of}
 use Rattle.hp_system.proofs.system.System.exit_slot.Goals as goal
 
 pub exit_maps-requires-clause-ready : goal.exit_maps-requires-clause-ready

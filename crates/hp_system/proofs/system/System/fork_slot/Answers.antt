@@ -2,7 +2,7 @@ use Rattle.std.proofs.Common.{◌≡◌, ◌<◌, ◌==◌, true, refl, Some, le
 use Rattle.std.specs.Prelude.{slice_set}
 use Rattle.std.proofs.lemmas.Bool.{eqb-true, false_from_ne_true}
 use Rattle.hp_model.specs.declared.event.SlotEvent.TheVariants.{ForkMaps}
-use Rattle.hp_model.specs.machine.Accesses.{done_reply}
+use Rattle.hp_model.specs.beside.Accesses.{done_reply}
 use Rattle.hp_model.specs.machine.Event.{has_maps_of}
 use Rattle.hp_model.specs.machine.Plan.{Choice, Slot}
 use Rattle.hp_model.specs.machine.SlotEvent.{slot_event}
@@ -10,7 +10,7 @@ use Rattle.hp_model.specs.machine.State.{slot_at}
 use Rattle.hp_system.proofs.Carries.{kept_after, kept_by, never_full, ready, ready_by}
 use Rattle.hp_system.proofs.Forking.{slot_forked}
 use Rattle.hp_system.proofs.MachineSteps.{read_slot, slot_went}
-use Rattle.hp_system.specs.Kept.{Machine, state_of}
+use Rattle.hp_model.specs.machine.Ready.{Machine, state_of}
 use Rattle.hp_system.proofs.system.System.fork_slot.Goals as goal
 
 pub fork_maps-requires-clause-ready : goal.fork_maps-requires-clause-ready

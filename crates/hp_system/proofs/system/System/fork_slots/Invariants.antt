@@ -4,7 +4,7 @@ use Rattle.hp_model.specs.machine.Plan.{Reply}
 use Rattle.hp_model.specs.machine.State.{State}
 use Rattle.hp_model.specs.machine.Step.{IsScript, fork_slots}
 use Rattle.hp_system.specs.Event.{mapped_slots}
-use Rattle.hp_system.specs.Kept.{IsReadyMachine}
+use Rattle.hp_model.specs.machine.Ready.{IsReadyMachine}
 use Rattle.hp_system.proofs.system.System.fork_slots.Given as goal
 
 abbrev pub invariant-loop-at : goal.invariant-loop-at

@@ -1,4 +1,4 @@
-use Rattle.hp_model.specs.machine.Accesses.{bytes_reply, load_step}
+use Rattle.hp_model.specs.beside.Accesses.{bytes_reply, load_step}
 use Rattle.hp_laws.proofs.promises.Promised.{promised}
 use Rattle.hp_system.proofs.system.System.load.Goals as goal
 

@@ -1,9 +1,9 @@
 use Rattle.std.proofs.Common.{sym, ap, ◌∙◌}
-use Rattle.hp_model.specs.machine.Accesses.{bytes_reply}
+use Rattle.hp_model.specs.beside.Accesses.{bytes_reply}
 use Rattle.hp_model.specs.machine.State.{State}
 use Rattle.hp_model.specs.machine.Table.{home_of}
 use Rattle.hp_system.proofs.MachineSteps.{load_found, load_not_found}
-use Rattle.hp_system.specs.Kept.{Machine}
+use Rattle.hp_model.specs.machine.Ready.{Machine}
 use Rattle.hp_system.proofs.system.System.load_of_task.Goals as goal
 
 pub returns-in-Some-clause-step : goal.returns-in-Some-clause-step

@@ -1,13 +1,13 @@
 use Rattle.std.proofs.Common.{◌<◌, Err, None, Some, length, refl, sym, subst, arith, ap}
 use Rattle.hp_model.specs.declared.refusal.Refusal.TheVariants.{NoSuchSlot}
-use Rattle.hp_model.specs.machine.Accesses.{bytes_reply}
+use Rattle.hp_model.specs.beside.Accesses.{bytes_reply}
 use Rattle.hp_model.specs.machine.Plan.{Choice, Slot}
 use Rattle.hp_model.specs.machine.SlotEvent.{slot_event}
 use Rattle.hp_model.specs.machine.Step.{IsScript, on_slot}
 use Rattle.hp_system.specs.Event.{IsCarried, load_event}
 use Rattle.hp_system.proofs.Carries.{calm, kept_after, never_full, ready, kept_by, ready_by}
 use Rattle.hp_system.proofs.MachineSteps.{machine_back, read_slot, slot_done, slot_same, state_back}
-use Rattle.hp_system.specs.Kept.{Machine, IsReadyMachine}
+use Rattle.hp_model.specs.machine.Ready.{Machine, IsReadyMachine}
 use Rattle.hp_system.proofs.system.System.load_on_slot.Goals as goal
 
 pub returns-in_default-clause-done : goal.returns-in_default-clause-done

@@ -4,7 +4,7 @@ use Rattle.hp_model.specs.declared.event.PoolEvent.TheVariants.{Meminfo}
 use Rattle.hp_model.specs.machine.Step.{IsStep}
 use Rattle.hp_system.proofs.Carries.{ready, kept_by}
 use Rattle.hp_system.proofs.MachineSteps.{pool_told}
-use Rattle.hp_system.specs.Kept.{Machine}
+use Rattle.hp_model.specs.machine.Ready.{Machine}
 use Rattle.hp_system.proofs.system.System.meminfo.Goals as goal
 
 pub counts-requires : goal.counts-requires

@@ -13,7 +13,7 @@ use Rattle.hp_model.specs.machine.State.{State}
 use Rattle.hp_model.specs.machine.Step.{IsScript, on_slot}
 use Rattle.hp_subpool.specs.Subpool.{Subpool}
 use Rattle.hp_mount.specs.Kept.{mount_of}
-use Rattle.hp_system.specs.Kept.{state_of, Machine}
+use Rattle.hp_model.specs.machine.Ready.{state_of, Machine}
 use Rattle.hp_system.proofs.Carries.{kept_after, ready, kept_by, IsKept, ready_by}
 use Rattle.hp_system.proofs.MachineSteps.{read_slot, slot_done, slot_same}
 use Rattle.hp_system.proofs.Mounting.{is_nothing, mount_bad, mount_denied, mount_done, mount_taken}

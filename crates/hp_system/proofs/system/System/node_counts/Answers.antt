@@ -1,7 +1,7 @@
 use Rattle.std.proofs.Common.{length, arith, ap}
 use Rattle.hp_system.proofs.Carries.{kept_by, ready}
 use Rattle.hp_system.proofs.MachineSteps.{padded}
-use Rattle.hp_system.specs.Kept.{Machine}
+use Rattle.hp_model.specs.machine.Ready.{Machine}
 use Rattle.hp_system.proofs.system.System.node_counts.Goals as goal
 
 pub returns : goal.returns

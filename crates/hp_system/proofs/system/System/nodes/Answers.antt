@@ -5,7 +5,7 @@ use Rattle.hp_model.specs.machine.Step.{IsStep}
 use Rattle.hp_model.specs.pool.Resize.{node_counts}
 use Rattle.hp_system.proofs.Carries.{kept_by}
 use Rattle.hp_system.proofs.MachineSteps.{pool_told}
-use Rattle.hp_system.specs.Kept.{Machine}
+use Rattle.hp_model.specs.machine.Ready.{Machine}
 use Rattle.hp_system.proofs.system.System.nodes.Goals as goal
 
 pub returns-clause-step : goal.returns-clause-step

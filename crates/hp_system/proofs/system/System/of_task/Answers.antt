@@ -2,10 +2,10 @@ use Rattle.std.proofs.Common.{length, sym, ap, ◌∙◌}
 use Rattle.hp_model.specs.machine.Step.{on_slot}
 use Rattle.hp_model.specs.machine.State.{State}
 use Rattle.hp_model.specs.machine.Table.{home_of}
-use Rattle.hp_model.specs.machine.Told.{told_reply}
+use Rattle.hp_model.specs.beside.Told.{told_reply}
 use Rattle.hp_events.specs.Event.{event_of}
 use Rattle.hp_system.proofs.MachineSteps.{task_found, task_not_found}
-use Rattle.hp_system.specs.Kept.{Machine}
+use Rattle.hp_model.specs.machine.Ready.{Machine}
 use Rattle.hp_system.proofs.system.System.of_task.Goals as goal
 
 pub returns-in-Some-clause-done : goal.returns-in-Some-clause-done

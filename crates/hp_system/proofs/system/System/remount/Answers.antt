@@ -2,13 +2,13 @@ use Rattle.std.proofs.Common.{◌≡◌, ◌<◌, ◌==◌, Err, None, Some, fal
 use Rattle.std.proofs.lemmas.Bool.Decides.{nat_tests}
 use Rattle.hp_model.specs.declared.event.SlotEvent.TheVariants.{Remount}
 use Rattle.hp_model.specs.declared.refusal.Refusal.TheVariants.{NoSuchSlot, SlotTaken}
-use Rattle.hp_model.specs.machine.Accesses.{done_reply}
+use Rattle.hp_model.specs.beside.Accesses.{done_reply}
 use Rattle.hp_model.specs.machine.Plan.{Slot}
 use Rattle.hp_model.specs.machine.Step.{IsScript, on_slot}
 use Rattle.hp_system.proofs.Carries.{calm, kept_after, ready, kept_by, ready_by}
 use Rattle.hp_system.proofs.MachineSteps.{machine_back, read_slot, slot_done, slot_same, state_back}
 use Rattle.hp_system.proofs.Mounting.{remount_carried, remount_first}
-use Rattle.hp_system.specs.Kept.{Machine, IsReadyMachine}
+use Rattle.hp_model.specs.machine.Ready.{Machine, IsReadyMachine}
 use Rattle.hp_system.proofs.system.System.remount.Goals as goal
 
 pub returns-in_default-clause-done : goal.returns-in_default-clause-done

@@ -4,7 +4,7 @@ use Rattle.hp_model.specs.declared.event.PoolEvent.TheVariants.{Nr}
 use Rattle.hp_model.specs.machine.Step.{IsStep}
 use Rattle.hp_system.proofs.Carries.{kept_by_pool, ready, kept_by, ready_by}
 use Rattle.hp_system.proofs.MachineSteps.{nr_event, pool_goes}
-use Rattle.hp_system.specs.Kept.{Machine}
+use Rattle.hp_model.specs.machine.Ready.{Machine}
 use Rattle.hp_system.proofs.system.System.set_nr.Goals as goal
 
 pub set_nr-requires : goal.set_nr-requires

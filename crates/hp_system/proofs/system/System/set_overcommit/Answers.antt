@@ -5,7 +5,7 @@ use Rattle.hp_model.specs.machine.Step.{IsStep}
 use Rattle.hp_model.specs.Profile.{most_overcommit}
 use Rattle.hp_system.proofs.Carries.{kept_by_pool, ready, kept_by, ready_by}
 use Rattle.hp_system.proofs.MachineSteps.{overcommit_event, overcommit_refused, pool_goes}
-use Rattle.hp_system.specs.Kept.{Machine}
+use Rattle.hp_model.specs.machine.Ready.{Machine}
 use Rattle.hp_system.proofs.system.System.set_overcommit.Goals as goal
 
 pub set_overcommit-requires-clause-settled : goal.set_overcommit-requires-clause-settled

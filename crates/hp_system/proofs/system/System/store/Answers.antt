@@ -1,4 +1,4 @@
-use Rattle.hp_model.specs.machine.Accesses.{done_reply, store_step}
+use Rattle.hp_model.specs.beside.Accesses.{done_reply, store_step}
 use Rattle.hp_laws.proofs.promises.Promised.{promised}
 use Rattle.hp_system.proofs.system.System.store.Goals as goal
 

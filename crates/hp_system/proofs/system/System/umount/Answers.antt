@@ -6,7 +6,7 @@ use Rattle.hp_model.specs.declared.event.SlotEvent.TheVariants.{Umount}
 use Rattle.hp_model.specs.declared.refusal.Refusal.TheVariants.{Busy, NoSuchSlot}
 use Rattle.hp_model.specs.files.File.{Mount}
 use Rattle.hp_model.specs.machine.Step.{IsScript, on_slot}
-use Rattle.hp_system.specs.Kept.{state_of, Machine}
+use Rattle.hp_model.specs.machine.Ready.{state_of, Machine}
 use Rattle.hp_system.proofs.Carries.{calm, kept_after, ready, kept_by, IsKept, ready_by}
 use Rattle.hp_system.proofs.MachineSteps.{read_slot, slot_done, slot_same}
 use Rattle.hp_system.proofs.Mounting.{none_mount, put_again, some_mount, umount_busy, umount_done, umount_first}

@@ -1,4 +1,4 @@
-use Rattle.hp_model.specs.machine.Told.{told_reply}
+use Rattle.hp_model.specs.beside.Told.{told_reply}
 use Rattle.hp_wire.proofs.replies.Replies.add_answer.Goals as goal
 
 pub returns-clause-answered : goal.returns-clause-answered

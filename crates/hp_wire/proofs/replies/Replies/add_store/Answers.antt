@@ -1,4 +1,4 @@
-use Rattle.hp_model.specs.machine.Accesses.{done_reply, store_step}
+use Rattle.hp_model.specs.beside.Accesses.{done_reply, store_step}
 use Rattle.hp_wire.proofs.Added.{done, not_read}
 use Rattle.hp_wire.proofs.replies.Replies.add_store.Goals as goal
 

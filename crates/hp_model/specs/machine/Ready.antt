@@ -1,6 +1,5 @@
 -- The machine's state by its parts, and what holds of it between steps.
-use Rattle.std.specs.Prelude.{◌≡◌, ℕ, ◌<◌, List, map}
-use Rattle.hp_model.specs.declared.answer.Counts.{Counts}
+use Rattle.std.specs.Prelude.{◌≡◌, ℕ, List, map}
 use Rattle.hp_model.specs.machine.Machine.{node_of, pool_of}
 use Rattle.hp_model.specs.machine.Plan.{Slot}
 use Rattle.hp_model.specs.pool.PoolCounts.{Pool}
@@ -31,16 +30,7 @@ pub record Machine : Type 0 where
 abbrev pub machine_of : (page_size : ℕ) → Table → List Slot → Pool → Machine
 machine_of size table slots p = record { state = state_of size table slots p; pool = p }
 
--- what holds of the bytes of a page
-pub record IsSized (page_size bytes : ℕ) : Type 0 where
-  pub size : page_size ≡ bytes
-  pub some : 0 < page_size
-
 -- What each step wants of the machine, and keeps: the pool's own numbers are the sums over files and maps, and settled.
 pub record IsReadyMachine (m : Machine) : Type 0 where
   pub tied : pool_of m.state ≡ m.pool
   pub settled : IsSettledState m.state
-
--- the numbers of a pool whose pages are all free and promised to nobody
-abbrev pub all_free : State → Counts
-all_free s = record { total = s.nr; free = s.nr; rsvd = 0; surp = 0; nr = s.nr; overcommit = s.overcommit }

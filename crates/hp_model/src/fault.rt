@@ -1,6 +1,6 @@
 //! Why a run over lines ended before its input's end.
 ghost use Rattle.std.specs.Prelude.{◌≡◌};
-ghost use Rattle.hp_wire.specs.Served.{text_of_fault};
+ghost use Rattle.hp_model.specs.run.Served.{text_of_fault};
 
 use thiserror::Error;
 

@@ -10,9 +10,9 @@ use Rattle.hp_model.specs.machine.Plan.{Reply}
 use Rattle.hp_model.specs.text.Lines.{lines, ended_lines}
 use Rattle.hp_model.specs.declared.step.Step.{Step}
 use Rattle.std.specs.Io.KnownBytes.{Appends, Consumes}
-use Rattle.hp_wire.specs.declared.fault.RunFault.{RunFault}
-use Rattle.hp_wire.specs.declared.fault.RunFault.TheVariants.{Memory, Read, Write, TooLong}
-use Rattle.hp_wire.specs.Answered.{Ran, RanInPart}
+use Rattle.hp_model.specs.declared.fault.RunFault.{RunFault}
+use Rattle.hp_model.specs.declared.fault.RunFault.TheVariants.{Memory, Read, Write, TooLong}
+use Rattle.hp_model.specs.run.Ran.{Ran, RanInPart}
 
 -- what the input ends in without a newline is refused, by how many bytes of it are held
 abbrev pub unended_by : ℕ → List Refusal
