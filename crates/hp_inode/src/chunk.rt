@@ -66,12 +66,16 @@ impl Chunk {
         }
     }
 
-    pub fn set(&mut self, k: usize, page: Option<PageNo>)
+    /// Puts a page in a slot, or none, and answers what stood there.
+    pub fn replace(&mut self, k: usize, page: Option<PageNo>) -> Option<PageNo>
         requires { k < length self.old }
-        ensures { self.new ≡ slice_set self.old k page }
+        ensures was { result ≡ slice_index_or self.old k None }
+        ensures set { self.new ≡ slice_set self.old k page }
     {
+        let was = self.slots[k];
         self.slots[k] = page;
         set_mark(&mut self.marks, k, page.is_some());
+        was
     }
 
     pub fn has_page(&self) -> bool

@@ -65,7 +65,7 @@ impl Entries {
     }
 
     // Whether an index after the first block is in the set, out of line, so that an access to a small file is small.
-    #[inline(never)]
+    #[inline(always)]
     fn later_contains(&self, i: u64) -> bool
         ensures { result ≡ entered_at self.now i }
     {
@@ -155,6 +155,29 @@ impl Entries {
             self.add_in(at / BLOCK, from, from + count);
             at += count;
         }
+    }
+
+    /// Puts one index in, with the room for it, and answers whether it was not there.
+    #[inline(always)]
+    pub fn insert(&mut self, i: u64) -> Result<bool, AllocError>
+        requires { i < 2 ^ 32 }
+    {
+        if i < BLOCK {
+            self.first.make_room(i, i + 1)?;
+            return Ok(self.first.insert(i));
+        }
+        self.rest.insert((i / BLOCK) as usize - 1, i % BLOCK)
+    }
+
+    /// Takes one index out.
+    #[inline(always)]
+    pub fn take_out(&mut self, i: u64)
+    {
+        if i < BLOCK {
+            self.first.take_out(i);
+            return;
+        }
+        self.rest.take_out((i / BLOCK) as usize - 1, i % BLOCK);
     }
 
     // Puts the indices from `from` up to `to` of one block in.

@@ -81,7 +81,7 @@ impl EntryBlock {
         ensures same { (k : ℕ) → marked self.new k ≡ marked self.old k }
         ensures err { OnErr result (self.new ≡ self.old) }
     {
-        if a >= b {
+        if a >= b || b as usize <= WORD * self.words.len() {
             return Ok(());
         }
         make_places(&mut self.marks, (b as usize).div_ceil(WORD))?;
@@ -101,6 +101,37 @@ impl EntryBlock {
         let (a, b) = (a as usize, b as usize);
         set_marks(self.words.as_mut_slice(), a, b);
         set_marks(self.marks.as_mut_slice(), a / WORD, b.div_ceil(WORD));
+    }
+
+    /// Puts one index in, and answers whether it was not there.
+    #[inline(always)]
+    pub fn insert(&mut self, i: u64) -> bool
+        requires { i < 64 * length self.old }
+        ensures fresh { result ≡ not (marked self.old i) }
+        ensures here { marked self.new i ≡ true }
+        ensures others { (k : ℕ) → k ≢ i → marked self.new k ≡ marked self.old k }
+    {
+        if self.contains(i) {
+            return false;
+        }
+        set_mark(self.words.as_mut_slice(), i as usize, true);
+        set_mark(self.marks.as_mut_slice(), i as usize / WORD, true);
+        true
+    }
+
+    /// Takes one index out.
+    #[inline(always)]
+    pub fn take_out(&mut self, i: u64)
+        requires { i < 64 * length self.old }
+        ensures here { marked self.new i ≡ false }
+        ensures others { (k : ℕ) → k ≢ i → marked self.new k ≡ marked self.old k }
+    {
+        let at = i as usize / WORD;
+        let words = self.words.as_mut_slice();
+        set_mark(words, i as usize, false);
+        if words[at] == 0 {
+            set_mark(self.marks.as_mut_slice(), at, false);
+        }
     }
 
     /// Takes the indices from `a` up to `b` out, and answers how many there were.

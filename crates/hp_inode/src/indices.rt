@@ -101,7 +101,7 @@ impl Indices {
         requires { cell_in self.old.cells i ≡ Entered }
         ensures { self.new.cells ≡ slice_set self.old.cells i (Present page) }
     {
-        self.table.set(i, Some(page));
+        self.table.fill(i, page);
         self.pages += 1;
     }
 
@@ -112,8 +112,24 @@ impl Indices {
     {
         // it is below 2^32, and so is b
         let _ = &self.len;
+        if b.saturating_sub(a) == 1 {
+            return self.reserve(a);
+        }
         self.prepare(a, b)?;
         self.enter();
+        Ok(())
+    }
+
+    // Enters one index, and makes the room for its page.
+    #[inline(always)]
+    fn reserve(&mut self, i: u64) -> Result<(), AllocError>
+        requires { i < length self.old.cells }
+    {
+        self.to = 0;
+        self.table.make_slot(i)?;
+        if self.entries.insert(i)? {
+            self.count += 1;
+        }
         Ok(())
     }
 
@@ -173,10 +189,11 @@ impl Indices {
         if i >= b {
             return None;
         }
-        let page = self.page_at(i);
-        self.table.take_out(a, i);
+        let page = self.table.take_out(a, i);
         self.pages -= 1;
-        self.drop_entries(i, i + 1);
+        self.to = 0;
+        self.entries.take_out(i);
+        self.count -= 1;
         page
     }
 

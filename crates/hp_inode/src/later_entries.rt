@@ -89,6 +89,23 @@ impl LaterEntries {
         self.blocks[n - 1].add(a, b);
     }
 
+    /// Puts one index of a block in, with the room for it, and answers whether it was not there.
+    pub fn insert(&mut self, at: usize, i: u64) -> Result<bool, AllocError>
+    {
+        make_block(&mut self.places, &mut self.blocks, self.alloc, at)?;
+        let n = self.places[at] as usize;
+        let block = &mut self.blocks[n - 1];
+        block.make_room(i, i + 1)?;
+        Ok(block.insert(i))
+    }
+
+    /// Takes one index of a block out.
+    pub fn take_out(&mut self, at: usize, i: u64)
+    {
+        let n = self.places[at] as usize;
+        self.blocks[n - 1].take_out(i);
+    }
+
     /// Takes the indices from `a` up to `b` of one block out, and answers how many there were.
     pub fn remove(&mut self, at: usize, a: u64, b: u64) -> u64
         ensures count { result ≡ count_in (slice_index_or self.old at []) a b }
@@ -109,6 +126,7 @@ impl LaterEntries {
 }
 
 // Makes the block of number `at` where it was not made, with nothing in it.
+#[inline(always)]
 fn make_block(
     places: &mut Vec<u16>,
     blocks: &mut Vec<EntryBlock>,
@@ -122,10 +140,10 @@ fn make_block(
     ensures same { (j : ℕ) → slice_index_or (blocks_in places.new.items blocks.new.items) j []
         ≡ slice_index_or (blocks_in places.old.items blocks.old.items) j [] }
 {
-    make_place(places, at)?;
-    if places[at] > 0 {
+    if at < places.len() && places[at] > 0 {
         return Ok(());
     }
+    make_place(places, at)?;
     blocks.reserve_exact(1)?;
     blocks.push(EntryBlock::new(alloc))?;
     places[at] = blocks.len() as u16;

@@ -90,9 +90,19 @@ impl LaterPages {
         self.blocks[n - 1].make_slots(a, b)
     }
 
-    #[inline(never)]
-    pub fn set(&mut self, at: usize, i: u64, page: Option<PageNo>)
+    /// Makes a slot for one index of a block.
+    pub fn make_slot(&mut self, at: usize, i: u64) -> Result<(), AllocError>
+    {
+        make_block(&mut self.places, &mut self.blocks, self.alloc, at)?;
+        let n = self.places[at] as usize;
+        self.blocks[n - 1].make_slot(i)
+    }
+
+    /// Gives an index of a block a page, or none, and answers which it had.
+    #[inline(always)]
+    pub fn replace(&mut self, at: usize, i: u64, page: Option<PageNo>) -> Option<PageNo>
         requires { has_slot (slice_index_or self.old at []) i ≡ true }
+        ensures was { result ≡ page_in (slice_index_or self.old at []) i }
         ensures here { page_in (slice_index_or self.new at []) i ≡ page }
         ensures same { (k : ℕ) → k ≢ i
             → page_in (slice_index_or self.new at []) k
@@ -104,11 +114,12 @@ impl LaterPages {
         ensures len { length self.new ≡ length self.old }
     {
         let n = self.places[at] as usize;
-        self.blocks[n - 1].set(i, page);
+        self.blocks[n - 1].replace(i, page)
     }
 }
 
 // Makes the block of number `at` where it was not made, with nothing in it.
+#[inline(always)]
 fn make_block(
     places: &mut Vec<u16>,
     blocks: &mut Vec<PageBlock>,
@@ -122,10 +133,10 @@ fn make_block(
     ensures same { (j : ℕ) → slice_index_or (blocks_in places.new.items blocks.new.items) j []
         ≡ slice_index_or (blocks_in places.old.items blocks.old.items) j [] }
 {
-    make_place(places, at)?;
-    if places[at] > 0 {
+    if at < places.len() && places[at] > 0 {
         return Ok(());
     }
+    make_place(places, at)?;
     blocks.reserve_exact(1)?;
     blocks.push(PageBlock::new(alloc))?;
     places[at] = blocks.len() as u16;

@@ -50,16 +50,24 @@ impl PageBlock {
         }
     }
 
-    pub fn set(&mut self, i: u64, page: Option<PageNo>)
+    /// Gives an index a page, or none, and answers which it had.
+    #[inline(always)]
+    pub fn replace(&mut self, i: u64, page: Option<PageNo>) -> Option<PageNo>
         requires { has_slot self.old i ≡ true }
+        ensures was { result ≡ page_in self.old i }
         ensures here { page_in self.new i ≡ page }
         ensures others { (k : ℕ) → (k ≡ i → ⊥) → page_in self.new k ≡ page_in self.old k }
         ensures slots { (k : ℕ) → has_slot self.new k ≡ has_slot self.old k }
     {
         let at = (i / CHUNK) as usize;
-        self.chunks[at].set((i % CHUNK) as usize, page);
-        let some = self.chunks[at].has_page();
-        set_mark(self.marks.as_mut_slice(), at, some);
+        let chunk = &mut self.chunks[at];
+        let was = chunk.replace((i % CHUNK) as usize, page);
+        if page.is_some() {
+            set_mark(self.marks.as_mut_slice(), at, true);
+        } else if !chunk.has_page() {
+            set_mark(self.marks.as_mut_slice(), at, false);
+        }
+        was
     }
 
     /// The first index with a page, of those from `a` on.
@@ -104,6 +112,17 @@ impl PageBlock {
         Ok(())
     }
 
+    /// Makes a slot for one index.
+    #[inline(always)]
+    pub fn make_slot(&mut self, i: u64) -> Result<(), AllocError>
+    {
+        let at = (i / CHUNK) as usize;
+        if at < self.chunks.len() && !self.chunks[at].is_empty() {
+            return Ok(());
+        }
+        self.make_chunk(at)
+    }
+
     // Passes the chunks from `from` up to `end` that have their slots, and answers where they end.
     fn made_to(&self, from: usize, end: usize) -> usize
         requires { from ≤ end }
@@ -120,6 +139,7 @@ impl PageBlock {
     }
 
     // Makes the slots of one chunk.
+    #[inline(never)]
     fn make_chunk(&mut self, at: usize) -> Result<(), AllocError>
         requires { at < 2 ^ 32 }
         ensures pages { (k : ℕ) → page_in self.new k ≡ page_in self.old k }

@@ -67,41 +67,50 @@ impl PageTable {
     }
 
     // The page of an index after the first block, out of line, so that an access to a small file is small.
-    #[inline(never)]
+    #[inline(always)]
     fn later_page(&self, i: u64) -> Option<PageNo>
         ensures { result ≡ page_at self.now i }
     {
         self.block(i / BLOCK)?.page_at(i % BLOCK)
     }
 
+    /// Gives an index its page.
     #[inline(always)]
-    pub fn set(&mut self, i: u64, page: Option<PageNo>)
+    pub fn fill(&mut self, i: u64, page: PageNo)
         requires { has_slot_at self.old i ≡ true }
-        ensures here { page_at self.new i ≡ page }
+        ensures here { page_at self.new i ≡ Some page }
         ensures others { (k : ℕ) → (k ≡ i → ⊥) → page_at self.new k ≡ page_at self.old k }
         ensures slots { (k : ℕ) → has_slot_at self.new k ≡ has_slot_at self.old k }
     {
         self.bare = self.bare.min(i / BLOCK);
-        if i < BLOCK {
-            self.first.set(i, page);
-            return;
-        }
-        self.rest.set((i / BLOCK) as usize - 1, i % BLOCK, page);
+        self.replace(i, Some(page));
     }
 
     /// Takes the page of index `i` out, which is the first of those from `a` on.
-    pub fn take_out(&mut self, a: u64, i: u64)
+    #[inline(always)]
+    pub fn take_out(&mut self, a: u64, i: u64) -> Option<PageNo>
         requires slot { has_slot_at self.old i ≡ true }
         requires none { (k : ℕ) → a ≤ k → k < i → page_at self.old k ≡ None }
+        ensures was { result ≡ page_at self.old i }
         ensures here { page_at self.new i ≡ None }
         ensures others { (k : ℕ) → (k ≡ i → ⊥) → page_at self.new k ≡ page_at self.old k }
         ensures slots { (k : ℕ) → has_slot_at self.new k ≡ has_slot_at self.old k }
     {
-        let all_before = a <= self.bare * BLOCK;
-        self.set(i, None);
-        if all_before {
+        if a <= self.bare * BLOCK {
             self.bare = i / BLOCK;
         }
+        self.replace(i, None)
+    }
+
+    // Gives an index a page, or none, and answers which it had.
+    #[inline(always)]
+    fn replace(&mut self, i: u64, page: Option<PageNo>) -> Option<PageNo>
+        requires { has_slot_at self.old i ≡ true }
+    {
+        if i < BLOCK {
+            return self.first.replace(i, page);
+        }
+        self.rest.replace((i / BLOCK) as usize - 1, i % BLOCK, page)
     }
 
     // Where to look for the first page, of those from `a` on: a block, and an index in it.
@@ -164,6 +173,17 @@ impl PageTable {
             at += count;
         }
         Ok(())
+    }
+
+    /// Makes a slot for one index.
+    #[inline(always)]
+    pub fn make_slot(&mut self, i: u64) -> Result<(), AllocError>
+        requires { i < 2 ^ 32 }
+    {
+        if i < BLOCK {
+            return self.first.make_slot(i);
+        }
+        self.rest.make_slot((i / BLOCK) as usize - 1, i % BLOCK)
     }
 
     // Makes a slot for each index of a block from `from` up to `to`.
