@@ -91,32 +91,52 @@ module _ (old new : WordBlocks) (at count : ℕ) (fits : at % 65536 + count ≤ 
   here_at : (k : ℕ) → k / 65536 ≡ at / 65536 → (words : WordBlocks) → entered_at words k ≡ marked (get_or words (at / 65536) []) (k % 65536)
   here_at k here words = ap (λ q. marked (get_or words q []) (k % 65536)) here
 
+  pub part_added : ((k : ℕ) → marked (get_or new (at / 65536) []) k ≡ (marked (get_or old (at / 65536) []) k || within (at % 65536) (at % 65536 + count) k)) →
+      (k : ℕ) → entered_at new k ≡ (entered_at old k || within at (at + count) k)
+  part_added here k = ⊎_elim
+      (λ (same : k / 65536 ≡ at / 65536). here_at k same new ∙ here (k % 65536) ∙ ap (λ t. t || within (at % 65536) (at % 65536 + count) (k % 65536)) (sym (here_at k same old))
+      ∙ ap (λ t. entered_at old k || t) (within_here at count fits k same))
+      (λ (other : k / 65536 ≢ at / 65536). stays k other ∙ sym (ap (λ t. entered_at old k || t) (within_other at count fits k other) ∙ or-false (entered_at old k)))
+      (cases_eq (k / 65536) (at / 65536))
+
   pub added : (start : WordBlocks) (a : ℕ) → a ≤ at →
       ((k : ℕ) → marked (get_or new (at / 65536) []) k ≡ (marked (get_or old (at / 65536) []) k || within (at % 65536) (at % 65536 + count) k)) →
       ((k : ℕ) → entered_at old k ≡ (entered_at start k || within a at k)) → (k : ℕ) → entered_at new k ≡ (entered_at start k || within a (at + count) k)
-  added start a low here done k = step ∙ ap (λ t. t || within at (at + count) k) (done k) ∙ joined_or (entered_at start k) a at (at + count) k low (omega arith)
-    where
-      step : entered_at new k ≡ (entered_at old k || within at (at + count) k)
-      step = ⊎_elim
-          (λ (same : k / 65536 ≡ at / 65536). here_at k same new ∙ here (k % 65536) ∙ ap (λ t. t || within (at % 65536) (at % 65536 + count) (k % 65536)) (sym (here_at k same old))
-          ∙ ap (λ t. entered_at old k || t) (within_here at count fits k same))
-          (λ (other : k / 65536 ≢ at / 65536). stays k other ∙ sym (ap (λ t. entered_at old k || t) (within_other at count fits k other) ∙ or-false (entered_at old k)))
-          (cases_eq (k / 65536) (at / 65536))
+  added start a low here done k = part_added here k ∙ ap (λ t. t || within at (at + count) k) (done k) ∙ joined_or (entered_at start k) a at (at + count) k low (omega arith)
+
+  pub part_out : ((k : ℕ) → marked (get_or new (at / 65536) []) k ≡ (marked (get_or old (at / 65536) []) k && not (within (at % 65536) (at % 65536 + count) k))) →
+      (k : ℕ) → entered_at new k ≡ (entered_at old k && not (within at (at + count) k))
+  part_out here k = ⊎_elim
+      (λ (same : k / 65536 ≡ at / 65536). here_at k same new ∙ here (k % 65536)
+      ∙ ap (λ t. t && not (within (at % 65536) (at % 65536 + count) (k % 65536))) (sym (here_at k same old))
+      ∙ ap (λ t. entered_at old k && not t) (within_here at count fits k same))
+      (λ (other : k / 65536 ≢ at / 65536). stays k other ∙ sym (ap (λ t. entered_at old k && not t) (within_other at count fits k other) ∙ and-true (entered_at old k)))
+      (cases_eq (k / 65536) (at / 65536))
 
   pub taken_out : (start : WordBlocks) (a : ℕ) → a ≤ at →
       ((k : ℕ) → marked (get_or new (at / 65536) []) k ≡ (marked (get_or old (at / 65536) []) k && not (within (at % 65536) (at % 65536 + count) k))) →
       ((k : ℕ) → entered_at old k ≡ (entered_at start k && not (within a at k))) → (k : ℕ) → entered_at new k ≡ (entered_at start k && not (within a (at + count) k))
-  taken_out start a low here done k = step ∙ ap (λ t. t && not (within at (at + count) k)) (done k) ∙ parts_left (entered_at start k) a at (at + count) k low (omega arith)
-    where
-      step : entered_at new k ≡ (entered_at old k && not (within at (at + count) k))
-      step = ⊎_elim
-          (λ (same : k / 65536 ≡ at / 65536). here_at k same new ∙ here (k % 65536)
-          ∙ ap (λ t. t && not (within (at % 65536) (at % 65536 + count) (k % 65536))) (sym (here_at k same old))
-          ∙ ap (λ t. entered_at old k && not t) (within_here at count fits k same))
-          (λ (other : k / 65536 ≢ at / 65536). stays k other ∙ sym (ap (λ t. entered_at old k && not t) (within_other at count fits k other) ∙ and-true (entered_at old k)))
-          (cases_eq (k / 65536) (at / 65536))
+  taken_out start a low here done k = part_out here k ∙ ap (λ t. t && not (within at (at + count) k)) (done k) ∙ parts_left (entered_at start k) a at (at + count) k low (omega arith)
 
 -- ---- the first block
+
+module _ (first new : List ℕ) (rest : WordBlocks) (i : ℕ) (lt : i < 65536) where
+  first_block : (blocks : List ℕ) (k : ℕ) → marked (get_or (blocks ∷ rest) (i / 65536) []) k ≡ marked blocks k
+  first_block blocks k = ap (λ q. marked (get_or (blocks ∷ rest) q []) k) {x = i / 65536} {y = 0} (omega (arith, lt))
+
+  same_place : (k : ℕ) → within i (i + 1) k ≡ within (i % 65536) (i % 65536 + 1) k
+  same_place k = ap (λ j. within j (j + 1) k) {x = i} {y = i % 65536} (omega (arith, lt))
+
+  first_others : KeepsOthers (first ∷ rest) (new ∷ rest) (i / 65536)
+  first_others j other = first_changed first new rest j (λ none. other (omega (arith, none, lt)))
+
+  pub first_added : ((k : ℕ) → marked new k ≡ (marked first k || within i (i + 1) k)) → (k : ℕ) → entered_at (new ∷ rest) k ≡ (entered_at (first ∷ rest) k || within i (i + 1) k)
+  first_added here = part_added (first ∷ rest) (new ∷ rest) i 1 (omega arith) first_others
+      (λ k. first_block new k ∙ here k ∙ ap (λ t. t || within i (i + 1) k) (sym (first_block first k)) ∙ ap (λ t. marked (get_or (first ∷ rest) (i / 65536) []) k || t) (same_place k))
+
+  pub first_out : ((k : ℕ) → marked new k ≡ (marked first k && not (within i (i + 1) k))) → (k : ℕ) → entered_at (new ∷ rest) k ≡ (entered_at (first ∷ rest) k && not (within i (i + 1) k))
+  first_out here = part_out (first ∷ rest) (new ∷ rest) i 1 (omega arith) first_others
+      (λ k. first_block new k ∙ here k ∙ ap (λ t. t && not (within i (i + 1) k)) (sym (first_block first k)) ∙ ap (λ t. marked (get_or (first ∷ rest) (i / 65536) []) k && not t) (same_place k))
 
 pub near : (first : List ℕ) (rest : WordBlocks) (k : ℕ) → k < 65536 → entered_at (first ∷ rest) k ≡ marked first k
 near first rest k lt =
@@ -290,6 +310,35 @@ table_set old new bare after i is are others was =
       blocks = are;
       few = omega (arith, was.few, is);
       none_before = λ k below. others k (λ same. absurd (omega (arith, below, same, is))) ∙ was.none_before k (omega (arith, below, is));
+    }
+
+-- a page goes
+pub table_emptied : (old new : RowBlocks) (bare i : ℕ) → AreBlocks new → page_at new i ≡ None → ((k : ℕ) → (k ≡ i → ⊥) → page_at new k ≡ page_at old k)
+    → IsRowTable old bare → IsRowTable new bare
+table_emptied old new bare i are here others was =
+    record {
+      blocks = are;
+      few = was.few;
+      none_before = λ k below. ⊎_elim
+          (λ (same : k ≡ i). ap (page_at new) same ∙ here)
+          (λ (other : k ≡ i → ⊥). others k other ∙ was.none_before k below)
+          (cases_eq k i);
+    }
+
+-- no page comes before the first one from a place on, before which there is none
+pub table_passed : (rows : RowBlocks) (bare a i : ℕ) → a ≤ bare * 65536 → has_slot_at rows i ≡ true → ((k : ℕ) → a ≤ k → k < i → page_at rows k ≡ None)
+    → IsRowTable rows bare → IsRowTable rows (i / 65536)
+table_passed rows bare a i low slot none was =
+    record {
+      blocks = was.blocks;
+      few = ⊎_elim
+          (λ (lt : i / 65536 < length rows). omega (arith, lt, was.blocks.few))
+          (λ (past : length rows ≤ i / 65536). absurd (omega (arith, slotted (block_at rows i) (i % 65536) slot, ap length (get_or_past rows (i / 65536) [] past))))
+          (cases_lt (i / 65536) (length rows));
+      none_before = λ k below. ⊎_elim
+          (λ (early : k < bare * 65536). was.none_before k early)
+          (λ (late : bare * 65536 ≤ k). none k (omega (arith, low, late)) (omega (arith, below)))
+          (cases_lt k (bare * 65536));
     }
 
 -- in a file of one block

@@ -1,3 +1,4 @@
+mod Alone
 mod Blocks
 mod Later
 mod Bare

@@ -1,21 +1,25 @@
 -- An inode with the room to enter a range, and as it enters it.
 use Rattle.hp_model.proofs.Counting.{count_alike}
 use Rattle.hp_model.specs.beside.Ranges.{within}
-use Rattle.std.proofs.Common.{◌≡◌, ℕ, ◌+◌, ◌-◌, ◌<◌, ◌≤◌, ◌^◌, ◌++◌, not, List, [], length, drop, replicate, max, refl, sym, ap, subst, ◌∙◌, arith, ◌||◌, true, rules, IsSome}
+use Rattle.std.proofs.Common.{◌≡◌, ℕ, ◌+◌, ◌-◌, ◌<◌, ◌≤◌, ◌^◌, ◌++◌, not, cond, List, [], length, drop, replicate, max, refl, sym, ap, subst, ◌∙◌, arith, ◌||◌, ◌&&◌, true, false, rules, IsSome}
 use Rattle.std.specs.List.{All, range_with_len, count_by}
 use Rattle.std.proofs.lemmas.List.{append-nil, drop_all, take_all}
 use Rattle.std.proofs.lemmas.List.Elements.{All-nil}
 use Rattle.std.proofs.lemmas.List.FromFn.{length-range_with_len}
 use Rattle.std.proofs.lemmas.List.Sums.{count_by-le-length}
 use Rattle.hp_model.specs.declared.cell.Cell.{Cell}
-use Rattle.hp_model.specs.declared.cell.Cell.TheVariants.{Hole}
-use Rattle.hp_model.specs.files.File.{at_least, cells_to, entered, has_page}
-use Rattle.hp_model.specs.Lists.{edit_range}
-use Rattle.hp_inode.specs.Blocks.{WordBlocks, missing_count, entered_at, RowBlocks, page_at, has_slot_at}
+use Rattle.hp_model.specs.declared.cell.Cell.TheVariants.{Entered, Hole}
+use Rattle.hp_model.specs.files.File.{at_least, cell_in, cells_to, entered, has_page}
+use Rattle.hp_model.specs.Lists.{edit_range, part}
+use Rattle.hp_inode.specs.Blocks.{WordBlocks, entered_count, missing_count, entered_at, RowBlocks, page_at, has_slot_at}
 use Rattle.hp_inode.specs.Kept.{IsKept, cells_of}
 use Rattle.hp_inode.specs.Ready.{IsReady}
-use Rattle.hp_inode.proofs.CellFacts.{length-cells, resized, resized_kept}
+use Rattle.hp_inode.proofs.Alone.{count_one}
+use Rattle.hp_inode.proofs.CellFacts.{entered_cell, length-cells, resized, resized_kept}
+use Rattle.hp_inode.proofs.Dropped.{count_few, dropped_cells, dropped_kept}
+use Rattle.hp_inode.proofs.Paged.{dropped_paged, entered_paged}
 use Rattle.hp_inode.proofs.Reserved.{reserved_cells, reserved_kept}
+use Rattle.hp_inode.proofs.Taken.{alone_pageless}
 
 -- no more are entered than the length, nor missing than the range has
 pub few_entered : (len m : ℕ) (e : WordBlocks) (rows : RowBlocks) → IsKept len m e rows → m ≤ len
@@ -92,3 +96,45 @@ module _ (len m : ℕ) (e new : WordBlocks) (rows : RowBlocks) (a b long missing
   enter_cells =
       reserved_cells long m e new rows rows a b longer (omega (arith, long_is)) holds_new (λ k. refl)
       ∙ ap (edit_range entered a b) (longer_cells len m e rows b long ready.kept ready.small long_is)
+
+-- ---- one index
+
+module _ (len m pages : ℕ) (e new : WordBlocks) (rows made : RowBlocks) (i : ℕ) (kept : IsKept len m e rows) (lt : i < len)
+    (holds_new : (k : ℕ) → entered_at new k ≡ (entered_at e k || within i (i + 1) k)) (same : (k : ℕ) → page_at made k ≡ page_at rows k) where
+  pub one_cells : cells_of len new made ≡ edit_range entered i (i + 1) (cells_of len e rows)
+  one_cells = reserved_cells len m e new rows made i (i + 1) kept (omega (arith, lt)) holds_new same
+
+  pub one_entered : (more : ℕ) → more ≡ cond {A = ℕ} (not (entered_at e i)) 1 0 → pages ≡ count_by has_page (cells_of len e rows) →
+      ((k : ℕ) → has_slot_at rows k ≡ true → has_slot_at made k ≡ true) → has_slot_at made i ≡ true → (a : ℕ) → IsReady len (m + more) pages new made a 0
+  one_entered more more_is paged stay slot a =
+      let missed : missing_count e i (i + 1) ≡ more = count_one (λ k. not (entered_at e k)) i ∙ sym more_is in
+      let slots : (k : ℕ) → i ≤ k → k < i + 1 → has_slot_at made k ≡ true = λ k low high. ap (has_slot_at made) {x = k} {y = i} (omega (arith, low, high)) ∙ slot in
+      unready len (m + more) pages new made a
+      (subst (λ n. IsKept len (m + n) new made) missed (reserved_kept len m e new rows made i (i + 1) kept (omega (arith, lt)) holds_new same stay slots))
+      (paged ∙ sym (entered_paged i (i + 1) (cells_of len e rows)) ∙ ap (count_by has_page) (sym one_cells))
+
+module _ (len m pages : ℕ) (e new : WordBlocks) (rows : RowBlocks) (i : ℕ) (kept : IsKept len m e rows) (here : cell_in (cells_of len e rows) i ≡ Entered)
+    (left : (k : ℕ) → entered_at new k ≡ (entered_at e k && not (within i (i + 1) k))) where
+  is_in : entered_at e i ≡ true
+  is_in = entered_cell len m e rows kept i here
+
+  below : i < len
+  below = kept.below i is_in
+
+  counted : entered_count e i (i + 1) ≡ 1
+  counted = count_one (entered_at e) i ∙ ap (λ t. cond {A = ℕ} t 1 0) is_in
+
+  pub some_entered : 1 ≤ m
+  some_entered = omega (arith, counted, count_few len m e rows i (i + 1) kept (omega (arith, below)))
+
+  pageless : All (λ (cell : Cell ℕ). has_page cell ≡ false) (part i (i + 1) (cells_of len e rows))
+  pageless = alone_pageless (cells_of len e rows) i here (omega (arith, below, length-cells len e rows))
+
+  pub one_dropped : cells_of len new rows ≡ edit_range (λ cell. Hole) i (i + 1) (cells_of len e rows)
+  one_dropped = dropped_cells len m e new rows i (i + 1) kept (omega (arith, below)) left
+
+  pub one_left : pages ≡ count_by has_page (cells_of len e rows) → (a : ℕ) → IsReady len (m - 1) pages new rows a 0
+  one_left paged a =
+      unready len (m - 1) pages new rows a
+      (dropped_kept len m e new rows i (i + 1) kept (omega (arith, below)) left pageless 1 (sym counted))
+      (paged ∙ sym (dropped_paged i (i + 1) (cells_of len e rows) pageless) ∙ ap (count_by has_page) (sym one_dropped))

@@ -1,10 +1,10 @@
 -- The rows of a page table and their marks, after a change.
-use Rattle.std.proofs.Common.{◌≡◌, ℕ, zero, suc, ◌*◌, ◌<◌, ◌≤◌, ◌/◌, ◌%◌, ◌^◌, Bool, true, false, List, []}
-use Rattle.std.proofs.Common.{◌∷◌, ◌++◌, length, replicate, get_or, set, ltb, Option, None, sym, refl, ap, ◌∙◌, arith, ⊎_elim}
+use Rattle.std.proofs.Common.{◌≡◌, ℕ, zero, suc, ◌*◌, ◌<◌, ◌≤◌, ◌/◌, ◌%◌, ◌^◌, Bool, true, false, not, List, []}
+use Rattle.std.proofs.Common.{◌∷◌, ◌++◌, length, replicate, get_or, set, ltb, Option, None, Some, sym, refl, ap, ◌∙◌, arith, ⊎_elim}
 use Rattle.std.specs.Int.{bit_at}
 use Rattle.std.specs.Option.{is_some}
 use Rattle.std.specs.List.{refill}
-use Rattle.std.proofs.lemmas.Bool.{cases_eq, cases_lt, lt-ltb, ltb-true}
+use Rattle.std.proofs.lemmas.Bool.{cases_eq, cases_lt, cases_Bool, false≢true, true≢false, lt-ltb, ltb-true}
 use Rattle.std.proofs.lemmas.List.{get_or-set_same, get_or-set_other, get_or-replicate, get_or_past, nil_from_length, get_or_read}
 use Rattle.std.proofs.lemmas.List.{length-set, length-append, length-replicate, drop_all, take_all, append-nil}
 use Rattle.std.proofs.lemmas.Nat.Bits.{bit_at-zero}
@@ -112,7 +112,7 @@ has_slot_whole rows at k r lt read whole here =
 
 -- ---- a slot written
 
-module _ (rows : Rows) (i : ℕ) (o : Option ℕ) (row old : List (Option ℕ)) (slot : has_slot rows i ≡ true) (read : old ≡ get_or rows (i / 64) old) (is : row ≡ set old (i % 64) o) where
+module _ (rows : Rows) (i : ℕ) (o : Option ℕ) (row old : List (Option ℕ)) (slot : has_slot rows i ≡ true) (read : old ≡ get_or rows (i / 64) old) (is_set : row ≡ set old (i % 64) o) where
   pub chunk_there : i / 64 < length rows
   chunk_there = ⊎_elim (λ (lt : i / 64 < length rows). lt)
       (λ (le : length rows ≤ i / 64).
@@ -120,36 +120,60 @@ module _ (rows : Rows) (i : ℕ) (o : Option ℕ) (row old : List (Option ℕ)) 
       absurd (omega (arith, ltb-true (i % 64) (length (get_or rows (i / 64) [])) slot, none)))
       (cases_lt (i / 64) (length rows))
 
-  was : get_or rows (i / 64) [] ≡ old
-  was = sym (get_or_read rows (i / 64) old chunk_there read [])
+  pub chunk_was : get_or rows (i / 64) [] ≡ old
+  chunk_was = sym (get_or_read rows (i / 64) old chunk_there read [])
 
   pub slot_there : i % 64 < length old
-  slot_there = omega (arith, ltb-true (i % 64) (length (get_or rows (i / 64) [])) slot, ap length was)
+  slot_there = omega (arith, ltb-true (i % 64) (length (get_or rows (i / 64) [])) slot, ap length chunk_was)
 
   row_here : get_or (set rows (i / 64) row) (i / 64) [] ≡ row
   row_here = get_or-set_same rows (i / 64) row [] chunk_there
 
   pub page_in_set : page_in (set rows (i / 64) row) i ≡ o
-  page_in_set = ap (λ r. get_or r (i % 64) None) (row_here ∙ is) ∙ get_or-set_same old (i % 64) o None slot_there
+  page_in_set = ap (λ r. get_or r (i % 64) None) (row_here ∙ is_set) ∙ get_or-set_same old (i % 64) o None slot_there
 
   pub page_in_others : (k : ℕ) → (k ≡ i → ⊥) → page_in (set rows (i / 64) row) k ≡ page_in rows k
   page_in_others k differs = ⊎_elim
       (λ (here : k / 64 ≡ i / 64).
       let place : k % 64 ≡ i % 64 → ⊥ = λ e. differs (omega (arith, here, e)) in
-      ap (λ r. get_or r (k % 64) None) (ap (λ n. get_or (set rows (i / 64) row) n []) here ∙ row_here ∙ is)
+      ap (λ r. get_or r (k % 64) None) (ap (λ n. get_or (set rows (i / 64) row) n []) here ∙ row_here ∙ is_set)
       ∙ get_or-set_other old (i % 64) (k % 64) o None place
-      ∙ sym (ap (λ r. get_or r (k % 64) None) (ap (λ n. get_or rows n []) here ∙ was)))
+      ∙ sym (ap (λ r. get_or r (k % 64) None) (ap (λ n. get_or rows n []) here ∙ chunk_was)))
       (λ (other : k / 64 ≡ i / 64 → ⊥). ap (λ r. get_or r (k % 64) None) (get_or-set_other rows (i / 64) (k / 64) row [] other))
       (cases_eq (k / 64) (i / 64))
 
   pub has_slot_set : (k : ℕ) → has_slot (set rows (i / 64) row) k ≡ has_slot rows k
   has_slot_set k = ⊎_elim
       (λ (here : k / 64 ≡ i / 64).
-      ap (λ r. ltb (k % 64) (length r)) (ap (λ n. get_or (set rows (i / 64) row) n []) here ∙ row_here ∙ is)
+      ap (λ r. ltb (k % 64) (length r)) (ap (λ n. get_or (set rows (i / 64) row) n []) here ∙ row_here ∙ is_set)
       ∙ ap (ltb (k % 64)) (length-set old (i % 64) o)
-      ∙ sym (ap (λ r. ltb (k % 64) (length r)) (ap (λ n. get_or rows n []) here ∙ was)))
+      ∙ sym (ap (λ r. ltb (k % 64) (length r)) (ap (λ n. get_or rows n []) here ∙ chunk_was)))
       (λ (other : k / 64 ≡ i / 64 → ⊥). ap (λ r. ltb (k % 64) (length r)) (get_or-set_other rows (i / 64) (k / 64) row [] other))
       (cases_eq (k / 64) (i / 64))
+
+  -- the mark of a chunk that had a page keeps it, and one that got a page has one
+  pub mark_stays : (marks : List ℕ) (some already : Bool) → IsTable rows marks → (some ≡ true → ((k : ℕ) → get_or row k None ≡ None) → ⊥) →
+      (some ≡ false → (k : ℕ) → get_or row k None ≡ None) → is_some o ≡ not already → already ≡ some → marked marks (i / 64) ≡ some
+  mark_stays marks true already table on off none is = ⊎_elim
+      (λ (there : marked marks (i / 64) ≡ true). there)
+      (λ (gone : marked marks (i / 64) ≡ false).
+      let blank : o ≡ None = none_of o (none ∙ ap not is) in
+      absurd (on refl (λ k. ap (λ r. get_or r k None) (is_of_row blank) ∙ ⊎_elim
+      (λ (same : k ≡ i % 64). ap (λ n. get_or (set old (i % 64) None) n None) same ∙ get_or-set_same old (i % 64) None None slot_there)
+      (λ (other : k ≡ i % 64 → ⊥). get_or-set_other old (i % 64) k None None other ∙ sym (ap (λ r. get_or r k None) chunk_was) ∙ table.none (i / 64) k gone)
+      (cases_eq k (i % 64)))))
+      (cases_Bool (marked marks (i / 64)))
+    where
+      none_of : (x : Option ℕ) → is_some x ≡ false → x ≡ None
+      none_of None t = refl
+      none_of (Some page) t = absurd (true≢false t)
+
+      is_of_row : o ≡ None → row ≡ set old (i % 64) None
+      is_of_row blank = is_set ∙ ap (set old (i % 64)) blank
+  mark_stays marks false already table on off none is =
+      let page : is_some o ≡ true = none ∙ ap not is in
+      let gone : o ≡ None = sym (get_or-set_same old (i % 64) o None slot_there) ∙ sym (ap (λ r. get_or r (i % 64) None) is_set) ∙ off refl (i % 64) in
+      absurd (false≢true (sym (ap is_some gone) ∙ page))
 
   pub table_set : (marks new : List ℕ) (some : Bool) → IsTable rows marks → length new ≡ length marks → marked new (i / 64) ≡ some →
       ((j : ℕ) → (j ≡ i / 64 → ⊥) → marked new j ≡ marked marks j) → (some ≡ true → ((k : ℕ) → get_or row k None ≡ None) → ⊥) →

@@ -1,9 +1,9 @@
 -- The lowest page of a range.
-use Rattle.std.proofs.Common.{◌≡◌, ℕ, zero, suc, [], ◌∷◌, set, subst, ◌+◌, ◌-◌, ◌<◌, ◌≤◌, false, List, length, drop, get_or, None, Some, sym, refl, ap, ◌∙◌, arith}
+use Rattle.std.proofs.Common.{◌≡◌, ℕ, zero, suc, [], ◌∷◌, subst, ◌+◌, ◌-◌, ◌<◌, ◌≤◌, false, List, length, drop, get_or, None, Some, sym, refl, ap, ◌∙◌, arith}
 use Rattle.std.specs.Prelude.{IsSome}
 use Rattle.std.specs.Option.{is_some}
 use Rattle.std.specs.List.{All}
-use Rattle.std.proofs.lemmas.List.{length-take, length-drop, length-set, get_or-set_same, get_or_default}
+use Rattle.std.proofs.lemmas.List.{length-take, length-drop, get_or_default}
 use Rattle.hp_model.specs.declared.cell.Cell.{Cell}
 use Rattle.hp_model.specs.declared.cell.Cell.TheVariants.{Hole, Entered}
 use Rattle.hp_model.specs.files.File.{cell_in, has_page}
@@ -44,12 +44,10 @@ module _ (len m : ℕ) (e : WordBlocks) (rows : RowBlocks) (kept : IsKept len m 
       (λ j less. tested j (omega (arith, less, below)) ∙ ap is_some (first.none_before (a + j) (omega arith) (omega (arith, less, first.from))))
       ∙ ap (λ c. Some (i - a, c)) (part_cell xs a b (i - a) (in_part (i - a) inside) ∙ ap (cell_in xs) back)
 
--- after its page was taken an index is entered, and has none
-pub entered_alone : (xs ys : List (Cell ℕ)) (i : ℕ) → ys ≡ set xs i Entered → i < length xs → All (λ (cell : Cell ℕ). has_page cell ≡ false) (part i (i + 1) ys)
-entered_alone xs ys i is lt =
-    let alone : part i (i + 1) ys ≡ Entered ∷ [] = ap (part i (i + 1)) is ∙ part_one (set xs i Entered) i Hole
-    (omega (arith, lt, length-set xs i Entered)) ∙ ap (λ c. c ∷ []) (get_or-set_same xs i Entered Hole lt) in
-    subst (All (λ (cell : Cell ℕ). has_page cell ≡ false)) (sym alone) one
+-- a cell that is entered, and has no page, alone
+pub alone_pageless : (xs : List (Cell ℕ)) (i : ℕ) → cell_in xs i ≡ Entered → i < length xs → All (λ (cell : Cell ℕ). has_page cell ≡ false) (part i (i + 1) xs)
+alone_pageless xs i is lt =
+    subst (All (λ (cell : Cell ℕ). has_page cell ≡ false)) (sym (part_one xs i Hole lt ∙ ap (λ c. c ∷ []) is)) one
   where
     one : All (λ (cell : Cell ℕ). has_page cell ≡ false) (Entered ∷ [])
     one zero d less = refl

@@ -1,5 +1,5 @@
 //! Which indices are entered, in blocks of 65,536.
-ghost use Rattle.std.specs.Prelude.{ℕ, ◌≡◌, ◌≢◌, ◌*◌, ◌<◌, ◌≤◌, ◌^◌, ◌&&◌, ◌||◌, [], length, not, true, OnOk, MatchOption};
+ghost use Rattle.std.specs.Prelude.{ℕ, ◌≡◌, ◌≢◌, ◌+◌, ◌*◌, ◌<◌, ◌≤◌, ◌^◌, ◌&&◌, ◌||◌, [], length, not, true, IfOk, OnOk, OnErr, MatchOption};
 ghost use Rattle.std.specs.List.{slice_index_or};
 ghost use Rattle.hp_model.specs.beside.Ranges.{within};
 ghost use Rattle.hp_inode.specs.Blocks.{block_size, most_blocks, entered_at, has_place, entered_count, missing_count};
@@ -159,19 +159,25 @@ impl Entries {
 
     /// Puts one index in, with the room for it, and answers whether it was not there.
     #[inline(always)]
-    pub fn insert(&mut self, i: u64) -> Result<bool, AllocError>
+    pub fn enter(&mut self, i: u64) -> Result<bool, AllocError>
         requires { i < 2 ^ 32 }
+        ensures fresh { IfOk result (λ fresh. fresh ≡ not (entered_at self.old i)) }
+        ensures ok { OnOk result ((k : ℕ) → entered_at self.new k
+            ≡ (entered_at self.old k || within i (i + 1) k)) }
+        ensures err { OnErr result ((k : ℕ) → entered_at self.new k ≡ entered_at self.old k) }
     {
         if i < BLOCK {
-            self.first.make_room(i, i + 1)?;
-            return Ok(self.first.insert(i));
+            return self.first.enter(i);
         }
-        self.rest.insert((i / BLOCK) as usize - 1, i % BLOCK)
+        self.rest.enter((i / BLOCK) as usize - 1, i % BLOCK)
     }
 
     /// Takes one index out.
     #[inline(always)]
     pub fn take_out(&mut self, i: u64)
+        requires { entered_at self.old i ≡ true }
+        ensures { (k : ℕ) → entered_at self.new k
+            ≡ (entered_at self.old k && not (within i (i + 1) k)) }
     {
         if i < BLOCK {
             self.first.take_out(i);

@@ -1,11 +1,11 @@
 //! Which indices are entered, a bit for each: a range takes a step for each word of 64 indices.
-ghost use Rattle.std.specs.Prelude.{ℕ, ◌≡◌, ◌+◌, ◌-◌, ◌*◌, ◌/◌, ◌<◌, ◌≤◌, ◌^◌, ◌&&◌, ◌||◌, [], not, length, OnOk, OnErr};
+ghost use Rattle.std.specs.Prelude.{ℕ, ◌≡◌, ◌+◌, ◌-◌, ◌*◌, ◌/◌, ◌<◌, ◌≤◌, ◌^◌, ◌&&◌, ◌||◌, [], not, length, true, IfOk, OnOk, OnErr};
 ghost use Rattle.hp_model.specs.beside.Ranges.{within};
 ghost use Rattle.hp_inode.specs.EntryBlock.{count_in, missing_in, FindsWord, IsEntries, IsRemoved};
 ghost use Rattle.hp_inode.specs.Marks.{marked};
 
 use crate::marks::{
-    WORD, bits_within, clear_marks, first_within, make_places, set_mark, set_marks,
+    WORD, bits_within, change_mark, clear_marks, first_within, make_places, set_mark, set_marks,
 };
 use smallvec::SmallVec;
 use std::alloc::{AllocError, Global};
@@ -103,13 +103,25 @@ impl EntryBlock {
         set_marks(self.marks.as_mut_slice(), a / WORD, b.div_ceil(WORD));
     }
 
-    /// Puts one index in, and answers whether it was not there.
+    /// Puts one index in, with the room for it, and answers whether it was not there.
     #[inline(always)]
-    pub fn insert(&mut self, i: u64) -> bool
+    pub fn enter(&mut self, i: u64) -> Result<bool, AllocError>
+        requires { i + 1 < 2 ^ 32 }
+        ensures fresh { IfOk result (λ fresh. fresh ≡ not (marked self.old i)) }
+        ensures ok { OnOk result ((k : ℕ) → marked self.new k
+            ≡ (marked self.old k || within i (i + 1) k)) }
+        ensures err { OnErr result (self.new ≡ self.old) }
+    {
+        self.make_room(i, i + 1)?;
+        Ok(self.insert(i))
+    }
+
+    // Puts one index in, and answers whether it was not there.
+    #[inline(always)]
+    fn insert(&mut self, i: u64) -> bool
         requires { i < 64 * length self.old }
         ensures fresh { result ≡ not (marked self.old i) }
-        ensures here { marked self.new i ≡ true }
-        ensures others { (k : ℕ) → k ≢ i → marked self.new k ≡ marked self.old k }
+        ensures here { (k : ℕ) → marked self.new k ≡ (marked self.old k || within i (i + 1) k) }
     {
         if self.contains(i) {
             return false;
@@ -122,16 +134,15 @@ impl EntryBlock {
     /// Takes one index out.
     #[inline(always)]
     pub fn take_out(&mut self, i: u64)
-        requires { i < 64 * length self.old }
-        ensures here { marked self.new i ≡ false }
-        ensures others { (k : ℕ) → k ≢ i → marked self.new k ≡ marked self.old k }
+        requires { marked self.old i ≡ true }
+        ensures { (k : ℕ) → marked self.new k
+            ≡ (marked self.old k && not (within i (i + 1) k)) }
     {
         let at = i as usize / WORD;
         let words = self.words.as_mut_slice();
         set_mark(words, i as usize, false);
-        if words[at] == 0 {
-            set_mark(self.marks.as_mut_slice(), at, false);
-        }
+        let some = words[at] != 0;
+        change_mark(&mut self.marks, at, true, some);
     }
 
     /// Takes the indices from `a` up to `b` out, and answers how many there were.

@@ -124,12 +124,14 @@ impl Indices {
     #[inline(always)]
     fn reserve(&mut self, i: u64) -> Result<(), AllocError>
         requires { i < length self.old.cells }
+        ensures ok { OnOk result (self.new.cells
+            ≡ edit_range entered i (i + 1) self.old.cells) }
+        ensures err { OnErr result (self.new.cells ≡ self.old.cells) }
     {
         self.to = 0;
         self.table.make_slot(i)?;
-        if self.entries.insert(i)? {
-            self.count += 1;
-        }
+        let fresh = self.entries.enter(i)?;
+        self.count += u64::from(fresh);
         Ok(())
     }
 
@@ -191,10 +193,19 @@ impl Indices {
         }
         let page = self.table.take_out(a, i);
         self.pages -= 1;
+        self.drop_entry(i);
+        page
+    }
+
+    // Makes an index that is entered, and has no page, a hole.
+    #[inline(always)]
+    fn drop_entry(&mut self, i: u64)
+        requires { cell_in self.old.cells i ≡ Entered }
+        ensures { self.new.cells ≡ edit_range (λ cell. Hole) i (i + 1) self.old.cells }
+    {
         self.to = 0;
         self.entries.take_out(i);
         self.count -= 1;
-        page
     }
 
     pub fn drop_entries(&mut self, a: u64, b: u64) -> u64

@@ -1,5 +1,5 @@
 //! The entries of the blocks after the first, each made at the first room in it.
-ghost use Rattle.std.specs.Prelude.{ℕ, ◌≡◌, ◌≢◌, ◌+◌, ◌*◌, ◌<◌, ◌≤◌, ◌^◌, ◌&&◌, ◌||◌, [], length, not, MatchOption, OnOk};
+ghost use Rattle.std.specs.Prelude.{ℕ, ◌≡◌, ◌≢◌, ◌+◌, ◌*◌, ◌<◌, ◌≤◌, ◌^◌, ◌&&◌, ◌||◌, [], length, not, true, IfOk, MatchOption, OnErr, OnOk};
 ghost use Rattle.std.specs.List.{slice_index_or};
 ghost use Rattle.hp_model.specs.beside.Ranges.{within};
 ghost use Rattle.hp_inode.specs.Blocks.{most_blocks};
@@ -90,17 +90,30 @@ impl LaterEntries {
     }
 
     /// Puts one index of a block in, with the room for it, and answers whether it was not there.
-    pub fn insert(&mut self, at: usize, i: u64) -> Result<bool, AllocError>
+    pub fn enter(&mut self, at: usize, i: u64) -> Result<bool, AllocError>
+        requires few { at + 1 < most_blocks }
+        requires small { i + 1 < 2 ^ 32 }
+        ensures fresh { IfOk result (λ fresh.
+            fresh ≡ not (marked (slice_index_or self.old at []) i)) }
+        ensures ok { OnOk result ((k : ℕ) → marked (slice_index_or self.new at []) k
+            ≡ (marked (slice_index_or self.old at []) k || within i (i + 1) k)) }
+        ensures err { OnErr result (slice_index_or self.new at []
+            ≡ slice_index_or self.old at []) }
+        ensures others { (j : ℕ) → j ≢ at
+            → slice_index_or self.new j [] ≡ slice_index_or self.old j [] }
     {
         make_block(&mut self.places, &mut self.blocks, self.alloc, at)?;
         let n = self.places[at] as usize;
-        let block = &mut self.blocks[n - 1];
-        block.make_room(i, i + 1)?;
-        Ok(block.insert(i))
+        self.blocks[n - 1].enter(i)
     }
 
     /// Takes one index of a block out.
     pub fn take_out(&mut self, at: usize, i: u64)
+        requires { marked (slice_index_or self.old at []) i ≡ true }
+        ensures here { (k : ℕ) → marked (slice_index_or self.new at []) k
+            ≡ (marked (slice_index_or self.old at []) k && not (within i (i + 1) k)) }
+        ensures others { (j : ℕ) → j ≢ at
+            → slice_index_or self.new j [] ≡ slice_index_or self.old j [] }
     {
         let n = self.places[at] as usize;
         self.blocks[n - 1].take_out(i);
@@ -140,10 +153,10 @@ fn make_block(
     ensures same { (j : ℕ) → slice_index_or (blocks_in places.new.items blocks.new.items) j []
         ≡ slice_index_or (blocks_in places.old.items blocks.old.items) j [] }
 {
-    if at < places.len() && places[at] > 0 {
+    make_place(places, at)?;
+    if places[at] > 0 {
         return Ok(());
     }
-    make_place(places, at)?;
     blocks.reserve_exact(1)?;
     blocks.push(EntryBlock::new(alloc))?;
     places[at] = blocks.len() as u16;

@@ -92,6 +92,16 @@ impl LaterPages {
 
     /// Makes a slot for one index of a block.
     pub fn make_slot(&mut self, at: usize, i: u64) -> Result<(), AllocError>
+        requires few { at + 1 < most_blocks }
+        requires small { i < 2 ^ 32 }
+        ensures pages { (k : ℕ) → page_in (slice_index_or self.new at []) k
+            ≡ page_in (slice_index_or self.old at []) k }
+        ensures kept { (k : ℕ) → has_slot (slice_index_or self.old at []) k ≡ true
+            → has_slot (slice_index_or self.new at []) k ≡ true }
+        ensures made { OnOk result (has_slot (slice_index_or self.new at []) i ≡ true) }
+        ensures others { (j : ℕ) → j ≢ at
+            → slice_index_or self.new j [] ≡ slice_index_or self.old j [] }
+        ensures few { length self.new < most_blocks }
     {
         make_block(&mut self.places, &mut self.blocks, self.alloc, at)?;
         let n = self.places[at] as usize;
@@ -133,10 +143,10 @@ fn make_block(
     ensures same { (j : ℕ) → slice_index_or (blocks_in places.new.items blocks.new.items) j []
         ≡ slice_index_or (blocks_in places.old.items blocks.old.items) j [] }
 {
-    if at < places.len() && places[at] > 0 {
+    make_place(places, at)?;
+    if places[at] > 0 {
         return Ok(());
     }
-    make_place(places, at)?;
     blocks.reserve_exact(1)?;
     blocks.push(PageBlock::new(alloc))?;
     places[at] = blocks.len() as u16;

@@ -24,6 +24,20 @@ pub fn set_mark(words: &mut [u64], k: usize, on: bool)
     words[k / WORD] &= !bit;
 }
 
+/// Sets or clears the mark of `k`. Where it is to be `already`, it is so.
+#[inline(always)]
+pub fn change_mark(words: &mut SmallVec<u64, 1>, k: usize, already: bool, on: bool)
+    requires within { k < 64 * length words.old.items }
+    requires known { already ≡ on → marked words.old.items k ≡ on }
+    ensures here { marked words.new.items k ≡ on }
+    ensures others { (j : ℕ) → (j ≡ k → ⊥) → marked words.new.items j ≡ marked words.old.items j }
+    ensures len { length words.new.items ≡ length words.old.items }
+{
+    if already != on {
+        set_mark(words.as_mut_slice(), k, on);
+    }
+}
+
 /// The first number with a mark, of those from `n` on.
 pub fn first_from(words: &[u64], n: usize) -> Option<usize>
     requires { length words.now < 2 ^ 32 }

@@ -4,7 +4,7 @@ ghost use Rattle.std.specs.List.{slice_index_or};
 ghost use Rattle.hp_inode.specs.Rows.{page_in, has_slot, FindsSlot, FindsPage};
 
 use crate::chunk::{CHUNK, Chunk};
-use crate::marks::{first_from, make_places, set_mark};
+use crate::marks::{change_mark, first_from, make_places};
 use hp_model::page_no::PageNo;
 use smallvec::SmallVec;
 use std::alloc::{AllocError, Global};
@@ -62,11 +62,8 @@ impl PageBlock {
         let at = (i / CHUNK) as usize;
         let chunk = &mut self.chunks[at];
         let was = chunk.replace((i % CHUNK) as usize, page);
-        if page.is_some() {
-            set_mark(self.marks.as_mut_slice(), at, true);
-        } else if !chunk.has_page() {
-            set_mark(self.marks.as_mut_slice(), at, false);
-        }
+        let some = chunk.has_page();
+        change_mark(&mut self.marks, at, page.is_none(), some);
         was
     }
 
@@ -115,6 +112,10 @@ impl PageBlock {
     /// Makes a slot for one index.
     #[inline(always)]
     pub fn make_slot(&mut self, i: u64) -> Result<(), AllocError>
+        requires { i < 2 ^ 32 }
+        ensures pages { (k : ℕ) → page_in self.new k ≡ page_in self.old k }
+        ensures kept { (k : ℕ) → has_slot self.old k ≡ true → has_slot self.new k ≡ true }
+        ensures made { OnOk result (has_slot self.new i ≡ true) }
     {
         let at = (i / CHUNK) as usize;
         if at < self.chunks.len() && !self.chunks[at].is_empty() {

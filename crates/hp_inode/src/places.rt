@@ -7,6 +7,7 @@ ghost use Rattle.hp_inode.specs.Later.{made_count};
 use std::alloc::AllocError;
 
 /// Makes the place `at`, and those before it, with no block where there was no place.
+#[inline(always)]
 pub fn make_place(places: &mut Vec<u16>, at: usize) -> Result<(), AllocError>
     requires within { at + 1 < most_blocks }
     requires few { length places.old.items < most_blocks }

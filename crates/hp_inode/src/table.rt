@@ -1,7 +1,7 @@
 //! Pages by index, in blocks of 65,536.
-ghost use Rattle.std.specs.Prelude.{ℕ, ◌≡◌, ◌≢◌, ◌+◌, ◌*◌, ◌/◌, ◌<◌, ◌≤◌, ◌^◌, [], OnOk, true, MatchOption};
+ghost use Rattle.std.specs.Prelude.{ℕ, ◌≡◌, ◌≢◌, ◌+◌, ◌*◌, ◌/◌, ◌<◌, ◌≤◌, ◌^◌, ◌∷◌, [], OnOk, true, None, Some, MatchOption};
 ghost use Rattle.std.specs.List.{slice_index_or};
-ghost use Rattle.hp_inode.specs.Blocks.{block_size, most_blocks, page_at, has_slot_at, FindsPageAt};
+ghost use Rattle.hp_inode.specs.Blocks.{AreBlocks, block_size, most_blocks, page_at, has_slot_at, FindsPageAt};
 ghost use Rattle.hp_inode.specs.Rows.{page_in, has_slot, FindsPage};
 
 use crate::block::{BLOCK, within_block};
@@ -83,7 +83,7 @@ impl PageTable {
         ensures slots { (k : ℕ) → has_slot_at self.new k ≡ has_slot_at self.old k }
     {
         self.bare = self.bare.min(i / BLOCK);
-        self.replace(i, Some(page));
+        replace(&mut self.first, &mut self.rest, i, Some(page));
     }
 
     /// Takes the page of index `i` out, which is the first of those from `a` on.
@@ -96,21 +96,12 @@ impl PageTable {
         ensures others { (k : ℕ) → (k ≡ i → ⊥) → page_at self.new k ≡ page_at self.old k }
         ensures slots { (k : ℕ) → has_slot_at self.new k ≡ has_slot_at self.old k }
     {
-        if a <= self.bare * BLOCK {
+        let none_before = a <= self.bare * BLOCK;
+        let page = replace(&mut self.first, &mut self.rest, i, None);
+        if none_before {
             self.bare = i / BLOCK;
         }
-        self.replace(i, None)
-    }
-
-    // Gives an index a page, or none, and answers which it had.
-    #[inline(always)]
-    fn replace(&mut self, i: u64, page: Option<PageNo>) -> Option<PageNo>
-        requires { has_slot_at self.old i ≡ true }
-    {
-        if i < BLOCK {
-            return self.first.replace(i, page);
-        }
-        self.rest.replace((i / BLOCK) as usize - 1, i % BLOCK, page)
+        page
     }
 
     // Where to look for the first page, of those from `a` on: a block, and an index in it.
@@ -179,6 +170,9 @@ impl PageTable {
     #[inline(always)]
     pub fn make_slot(&mut self, i: u64) -> Result<(), AllocError>
         requires { i < 2 ^ 32 }
+        ensures pages { (k : ℕ) → page_at self.new k ≡ page_at self.old k }
+        ensures kept { (k : ℕ) → has_slot_at self.old k ≡ true → has_slot_at self.new k ≡ true }
+        ensures made { OnOk result (has_slot_at self.new i ≡ true) }
     {
         if i < BLOCK {
             return self.first.make_slot(i);
@@ -207,4 +201,27 @@ impl PageTable {
         }
         self.rest.make_slots(at as usize - 1, from, to)
     }
+}
+
+// Gives an index a page, or none, and answers which it had.
+#[inline(always)]
+fn replace(
+    first: &mut PageBlock,
+    rest: &mut LaterPages,
+    i: u64,
+    page: Option<PageNo>,
+) -> Option<PageNo>
+    requires { has_slot_at (first.old ∷ rest.old) i ≡ true }
+    ensures was { result ≡ page_at (first.old ∷ rest.old) i }
+    ensures here { page_at (first.new ∷ rest.new) i ≡ page }
+    ensures others { (k : ℕ) → (k ≡ i → ⊥)
+        → page_at (first.new ∷ rest.new) k ≡ page_at (first.old ∷ rest.old) k }
+    ensures slots { (k : ℕ) → has_slot_at (first.new ∷ rest.new) k
+        ≡ has_slot_at (first.old ∷ rest.old) k }
+    ensures blocks { AreBlocks (first.old ∷ rest.old) → AreBlocks (first.new ∷ rest.new) }
+{
+    if i < BLOCK {
+        return first.replace(i, page);
+    }
+    rest.replace((i / BLOCK) as usize - 1, i % BLOCK, page)
 }
