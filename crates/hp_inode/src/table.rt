@@ -96,12 +96,10 @@ impl PageTable {
         ensures others { (k : ℕ) → (k ≡ i → ⊥) → page_at self.new k ≡ page_at self.old k }
         ensures slots { (k : ℕ) → has_slot_at self.new k ≡ has_slot_at self.old k }
     {
-        let none_before = a <= self.bare * BLOCK;
-        let page = replace(&mut self.first, &mut self.rest, i, None);
-        if none_before {
+        if a <= self.bare * BLOCK {
             self.bare = i / BLOCK;
         }
-        page
+        replace(&mut self.first, &mut self.rest, i, None)
     }
 
     // Where to look for the first page, of those from `a` on: a block, and an index in it.

@@ -15,7 +15,8 @@ invariant_of-self c =
     let long : length c.set_mark.new.words ≡ length words = search rules in
     let longs : length c.set_mark-2.new.words ≡ length marks = search rules in
     let here = put_in (marked words) (marked c.set_mark.new.words) i (λ k other. c.set_mark.ensures.others k other ∙ ap (λ ws. marked ws k) c.as_mut_slice.ensures.value) c.set_mark.ensures.here in
-    let above = put_in (marked marks) (marked c.set_mark-2.new.words) (i / 64) (λ k other. c.set_mark-2.ensures.others k other ∙ ap (λ ws. marked ws k) c.as_mut_slice-2.ensures.value) c.set_mark-2.ensures.here in
+    let above = put_in (marked marks) (marked c.set_mark-2.new.words) (i / 64) (λ k other. c.set_mark-2.ensures.others k other
+    ∙ ap (λ ws. marked ws k) c.as_mut_slice-2.ensures.value) c.set_mark-2.ensures.here in
     let end : i / 64 + 1 ≡ (i + 1) / 64 + min 1 ((i + 1) % 64) = omega arith in
     rw (written_back words c.set_mark.new.words long, written_back marks c.set_mark-2.new.words longs)
     (spread_entries words marks c.set_mark.new.words c.set_mark-2.new.words i (i + 1) c.self.invariant (omega (arith, enough)) long longs here

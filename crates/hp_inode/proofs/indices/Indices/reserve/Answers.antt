@@ -42,10 +42,13 @@ invariant_of-self-2 c =
     let s = c.self.inside in
     let within : c.args.i < s.len = rw (← c.self.view_is, length-cells s.len s.entries s.table) at c.requires in
     one_entered s.len s.count s.pages s.entries c.enter.new.self s.table c.make_slot.new.self c.args.i c.self.invariant.kept within c.in_ok-fresh.ensures.ok c.make_slot.ensures.pages
-    c.from.result (c.from.ensures ∙ byte_is c.in_ok-fresh.fresh ∙ ap (λ b. cond {A = ℕ} b 1 0) c.in_ok-fresh.ensures.fresh) c.self.invariant.paged c.make_slot.ensures.kept c.in_ok-make_slot.ensures.made s.from
+    c.from.result (c.from.ensures ∙ byte_is c.in_ok-fresh.fresh
+    ∙ ap (λ b. cond {A = ℕ} b 1 0) c.in_ok-fresh.ensures.fresh) c.self.invariant.paged c.make_slot.ensures.kept c.in_ok-make_slot.ensures.made s.from
 
 pub returns-clause-ok : goal.returns-clause-ok
 returns-clause-ok c =
     let s = c.self.inside in
-    let within : c.args.i < s.len = rw (← c.self.view_is, length-cells s.len s.entries s.table) at c.requires in
-    rw (← c.self.view_is) (one_cells s.len s.count s.pages s.entries c.enter.new.self s.table c.make_slot.new.self c.args.i c.self.invariant.kept within c.in_ok-fresh.ensures.ok c.make_slot.ensures.pages)
+    let within : c.args.i < s.len = rw (← c.self.view_is, length-cells s.len s.entries s.table) at c.requires
+    in
+    rw (← c.self.view_is) (one_cells s.len s.count s.pages s.entries c.enter.new.self s.table c.make_slot.new.self c.args.i c.self.invariant.kept within
+    c.in_ok-fresh.ensures.ok c.make_slot.ensures.pages)

@@ -75,7 +75,8 @@ overflow_sub-self c =
 pub drop_entry-requires : goal.drop_entry-requires
 drop_entry-requires c =
     let below = paged_below _ _ _ _ c.self.invariant.kept c.args.a c.args.b c.in_ok-i.i c.in_ok-i.ensures.here in
-    let emptied = changed _ _ _ _ c.self.invariant.kept c.in_ok-i.i None _ (c.self.invariant.kept.paged c.in_ok-i.i c.in_ok-i.ensures.here) c.take_out-page.ensures.here c.take_out-page.ensures.others in
+    let emptied = changed _ _ _ _ c.self.invariant.kept c.in_ok-i.i None _
+    (c.self.invariant.kept.paged c.in_ok-i.i c.in_ok-i.ensures.here) c.take_out-page.ensures.here c.take_out-page.ensures.others in
     ap (λ cells. cell_in cells c.in_ok-i.i) emptied
     ∙ get_or-set_same _ c.in_ok-i.i Entered Hole (omega (arith, below, length-cells c.self.inside.len c.self.inside.entries c.self.inside.table))
 
@@ -88,8 +89,10 @@ pub returns-clause-cells : goal.returns-clause-cells
 returns-clause-cells c =
     let xs = cells_of c.self.inside.len c.self.inside.entries c.self.inside.table in
     let there = found_page _ _ _ _ c.self.invariant.kept c.args.a c.args.b c.in_ok-i.i c.in_ok-i.ensures (omega arith) in
-    let below = paged_below _ _ _ _ c.self.invariant.kept c.args.a c.args.b c.in_ok-i.i c.in_ok-i.ensures.here in
-    let emptied = changed _ _ _ _ c.self.invariant.kept c.in_ok-i.i None _ (c.self.invariant.kept.paged c.in_ok-i.i c.in_ok-i.ensures.here) c.take_out-page.ensures.here c.take_out-page.ensures.others in
+    let below = paged_below _ _ _ _ c.self.invariant.kept c.args.a c.args.b c.in_ok-i.i c.in_ok-i.ensures.here
+    in
+    let emptied = changed _ _ _ _ c.self.invariant.kept c.in_ok-i.i None _ (c.self.invariant.kept.paged c.in_ok-i.i c.in_ok-i.ensures.here)
+    c.take_out-page.ensures.here c.take_out-page.ensures.others in
     let back : c.in_ok-i.i ≡ c.args.a + (c.in_ok-i.i - c.args.a) = omega (arith, c.in_ok-i.ensures.from) in
     rw (← c.self.view_is, there)
     (c.drop_entry.ensures ∙ ap (edit_range (λ cell. Hole) c.in_ok-i.i (c.in_ok-i.i + 1)) emptied

@@ -30,7 +30,8 @@ returns-clause-ok c =
     let are = c.make_block.ensures.later in
     let was = sym (block_was places blocks at n lt c.index.ensures read are c.index_mut.result.now c.index_mut.ensures.value) ∙ c.make_block.ensures.same at in
     let now = changed_here places blocks at n lt c.index.ensures read are c.enter.new.self in
-    rw (← c.self.view_is) (subst (λ (block : List ℕ). OnOk c.enter.result ((k : ℕ) → marked block k ≡ (marked (get_or (blocks_in c.self.inside.places.items c.self.inside.blocks.items) at []) k || within c.args.i (c.args.i + 1) k))) (sym now)
+    rw (← c.self.view_is) (subst (λ (block : List ℕ). OnOk c.enter.result ((k : ℕ) → marked block k ≡ (marked (get_or
+    (blocks_in c.self.inside.places.items c.self.inside.blocks.items) at []) k || within c.args.i (c.args.i + 1) k))) (sym now)
     (subst (λ (block : List ℕ). OnOk c.enter.result ((k : ℕ) → marked c.enter.new.self k ≡ (marked block k || within c.args.i (c.args.i + 1) k))) was c.enter.ensures.ok))
 
 pub returns-clause-err : goal.returns-clause-err

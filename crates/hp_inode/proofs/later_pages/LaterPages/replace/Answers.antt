@@ -40,7 +40,8 @@ returns-clause-same c =
     let some = numbered places blocks at (slotted (get_or (blocks_in places blocks) at []) c.args.i slot) in
     let lt = place_within places at some in
     let read = number_read places at n c.index.ensures some in
-    rw (← c.self.view_is) (λ k differs. seen_here places blocks at n lt c.index.ensures read c.self.invariant c.replace.new.self (λ block. page_in block k) c.index_mut.result.now c.index_mut.ensures.value
+    rw (← c.self.view_is) (λ k differs. seen_here places blocks at n lt c.index.ensures read c.self.invariant c.replace.new.self
+    (λ block. page_in block k) c.index_mut.result.now c.index_mut.ensures.value
     (c.replace.ensures.others k differs))
 
 pub returns-clause-slots : goal.returns-clause-slots

@@ -20,11 +20,14 @@ invariant_of-self c =
 
 pub returns-clause-was : goal.returns-clause-was
 returns-clause-was c =
-    let was = chunk_was c.self.inside.chunks.items c.args.i c.args.page c.replace-was.new.self c.index_mut-chunk.result.now (rw c.self.view_is c.requires) c.index_mut-chunk.ensures.value c.replace-was.ensures.set in
+    let was = chunk_was c.self.inside.chunks.items c.args.i c.args.page c.replace-was.new.self c.index_mut-chunk.result.now
+    (rw c.self.view_is c.requires) c.index_mut-chunk.ensures.value c.replace-was.ensures.set in
     rw (← c.self.view_is) (c.replace-was.ensures.was ∙ ap (λ r. get_or r (c.args.i % 64) None) (sym was))
 
 pub returns-clause-here : goal.returns-clause-here
-returns-clause-here c = page_in_set c.self.inside.chunks.items c.args.i c.args.page c.replace-was.new.self c.index_mut-chunk.result.now (rw c.self.view_is c.requires) c.index_mut-chunk.ensures.value c.replace-was.ensures.set
+returns-clause-here c =
+    page_in_set c.self.inside.chunks.items c.args.i c.args.page c.replace-was.new.self c.index_mut-chunk.result.now
+    (rw c.self.view_is c.requires) c.index_mut-chunk.ensures.value c.replace-was.ensures.set
 
 pub returns-clause-others : goal.returns-clause-others
 returns-clause-others c k differs = rw (← c.self.view_is) (page_in_others c.self.inside.chunks.items c.args.i c.args.page c.replace-was.new.self
