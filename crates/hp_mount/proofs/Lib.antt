@@ -15,3 +15,4 @@ pub mod Remounting
 pub mod Leaving
 pub mod Forking
 pub mod Filling
+pub mod OfMap

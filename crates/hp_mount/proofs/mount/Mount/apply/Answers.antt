@@ -71,21 +71,5 @@ returns-in-Read-clause-done g c k =
     told_as took full size k c.args.home old new door door e.is c.bytes.ensures
     (alone_is_done took full (λ (x : Choice). slot_event size k x old (Read e.name.now e.index e.offset e.count)) old new door (bytes_reply c.read.result) c.read.ensures.noted (c.read.ensures.done k))
 
-backed : (b : Bool) → not b ≡ false → b ≡ true
-backed true e = refl
-backed false e = cc
-
-pub returns-in-Fault-clause-memory : goal.returns-in-Fault-clause-memory
-returns-in-Fault-clause-memory g c asks =
-    let never = c.fault.ensures.memory (backed _ (subst (λ (e : MountEvent). asks_memory (Some c.args.self.now) (event_of c.args.home e) ≡ false) c.in-Fault.is asks)) in
-    λ memory. done_not_memory c.fault.result never (sym c.done-in-Fault.ensures ∙ memory)
-
-pub returns-in-Load-clause-memory : goal.returns-in-Load-clause-memory
-returns-in-Load-clause-memory g c asks =
-    let never = c.load.ensures.memory (backed _ (subst (λ (e : MountEvent). asks_memory (Some c.args.self.now) (event_of c.args.home e) ≡ false) c.in-Load.is asks)) in
-    λ memory. bytes_not_memory c.load.result never (sym c.bytes-in-Load.ensures ∙ memory)
-
-pub returns-in-Store-clause-memory : goal.returns-in-Store-clause-memory
-returns-in-Store-clause-memory g c asks =
-    let never = c.store.ensures.memory (backed _ (subst (λ (e : MountEvent). asks_memory (Some c.args.self.now) (event_of c.args.home e) ≡ false) c.in-Store.is asks)) in
-    λ memory. done_not_memory c.store.result never (sym c.done-in-Store.ensures ∙ memory)
+pub returns-in_default-clause-limits : goal.returns-in_default-clause-limits
+returns-in_default-clause-limits g c usage = absurd (no_usage c.args.home c.args.event (of_task g c) usage)
