@@ -15,4 +15,3 @@ pub mod Remounting
 pub mod Leaving
 pub mod Forking
 pub mod Filling
-pub mod OfMap

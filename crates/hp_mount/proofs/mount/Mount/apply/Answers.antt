@@ -1,13 +1,10 @@
-use Rattle.std.proofs.Common.{◌≡◌, Bool, Ok, Some, true, false, not, refl, sym, subst, ◌∙◌}
+use Rattle.std.proofs.Common.{Ok, Some, refl}
 use Rattle.hp_model.specs.declared.event.SlotEvent.TheVariants.{Create, Df, Ls, Read, Stat}
 use Rattle.hp_model.specs.beside.Accesses.{bytes_reply, done_reply}
 use Rattle.hp_model.specs.machine.Plan.{Choice, Slot}
 use Rattle.hp_model.specs.machine.SlotEvent.{slot_event}
 use Rattle.hp_model.specs.beside.Told.{told_reply}
-use Rattle.hp_events.specs.declared.event.MountEvent.{MountEvent}
-use Rattle.hp_events.specs.Event.{event_of}
-use Rattle.hp_events.specs.Memory.{asks_memory}
-use Rattle.hp_mount.proofs.Replies.{bytes_not_memory, done_not_memory, told_as}
+use Rattle.hp_mount.proofs.Replies.{told_as}
 use Rattle.hp_mount.proofs.Ways.{alone_is_done}
 use Rattle.hp_mount.proofs.mount.Mount.apply.Goals as goal
 
@@ -70,6 +67,3 @@ returns-in-Read-clause-done g c k =
     let e = c.in-Read in
     told_as took full size k c.args.home old new door door e.is c.bytes.ensures
     (alone_is_done took full (λ (x : Choice). slot_event size k x old (Read e.name.now e.index e.offset e.count)) old new door (bytes_reply c.read.result) c.read.ensures.noted (c.read.ensures.done k))
-
-pub returns-in_default-clause-limits : goal.returns-in_default-clause-limits
-returns-in_default-clause-limits g c usage = absurd (no_usage c.args.home c.args.event (of_task g c) usage)

@@ -17,7 +17,7 @@ returns-in-Fault-clause-memory g c asks =
 pub returns-in-Load-clause-memory : goal.returns-in-Load-clause-memory
 returns-in-Load-clause-memory g c asks =
     let never = c.load.ensures.memory (backed _ (subst (λ (e : MountEvent). asks_memory (Some c.args.self.now) (event_of c.args.home e) ≡ false) c.in-Load.is asks)) in
-    λ memory. bytes_not_memory c.load.result never (sym c.bytes-in-Load.ensures ∙ memory)
+    λ memory. bytes_not_memory c.load.result never (sym c.bytes.ensures ∙ memory)
 
 pub returns-in-Store-clause-memory : goal.returns-in-Store-clause-memory
 returns-in-Store-clause-memory g c asks =

@@ -32,6 +32,11 @@ returns-then-count-eq0-clause-done g c k =
     fill_nothing g.D.PoolDoor.took g.D.PoolDoor.is_full a.self.now g.N.Naming.page_bytes k a.start a.end a.name.now a.door.now file named
     (sym c.in_default-refused_range.ensures.refused) none
 
+pub fill-requires-clause-count : goal.fill-requires-clause-count
+fill-requires-clause-count g c =
+    let a = c.args in
+    c.lacking-count.ensures ∙ lacking_lent c.file.ensures a.start a.end ∙ ap (λ (x : Mount). lacking a.start a.end (file_in x c.in-Some.file)) c.self.view_is
+
 pub returns-clause-done : goal.returns-clause-done
 returns-clause-done g c k =
     let a = c.args in
