@@ -30,8 +30,8 @@ fn make_map_room(hints: &mut Hints, counts: &mut TaskCounts) -> Result<(), Alloc
     ensures hints { OnOk result (0 < hints.new.room) }
     ensures counts { OnOk result (0 < counts.new.room) }
 {
-    hints.reserve(1)?;
     counts.make_room()?;
+    hints.reserve(1)?;
     Ok(())
 }
 
