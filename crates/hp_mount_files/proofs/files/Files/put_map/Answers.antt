@@ -74,7 +74,8 @@ invariant_of-self-2 g c =
     map_files r.task c.args.next.number r.start r.pages r.sharing r.reserving s.hints s.store s.more s.maps (count_of s.counts) s.list.files
     c.args.file c.self.invariant (within g c) c.index_mut-at.result.now c.add_range.new.self c.index_mut-at.ensures.value c.in_ok-add_range.ensures.ok
     fresh c.note_map.new.self
-    (then_map r.task c.args.next.number s.hints c.make_map_room.new.hints c.note_map.new.self c.make_map_room.ensures.noted c.note_map.ensures.more) (search rules) (count_of c.add_one.new.self) (one_more g c)
+    (then_map r.task c.args.next.number s.hints c.make_map_room.new.hints c.note_map.new.self c.make_map_room.ensures.noted c.note_map.ensures.more)
+    (search rules) (count_of c.add_one.new.self) (one_more g c)
 
 pub returns-clause-ok : goal.returns-clause-ok
 returns-clause-ok g c =
