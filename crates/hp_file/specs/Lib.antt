@@ -1,3 +1,4 @@
 pub mod States
 pub mod Filling
 pub mod Taking
+pub mod NewMap

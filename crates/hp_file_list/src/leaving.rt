@@ -94,3 +94,19 @@ pub fn sweep_file<N: Naming>(
     let gone = files.remove(at);
     gone.close(store, more)
 }
+
+impl FileList {
+    /// Ends the files with their maps. What they hold goes.
+    pub fn close<N: Naming>(self, store: &mut PageStore<N>, more: &mut usize)
+        requires held { (n : ℕ) → in_files n self.files ≤ holders_of (page_at store.old n) }
+        requires some { HasHolders store.old }
+        requires counted { more.old ≡ more_in store.old.pages }
+        ensures dropping { IsDropping (λ n. in_files n self.files) (λ n. 0) store.old store.new }
+        ensures counted { more.new ≡ more_in store.new.pages }
+    {
+        let mut files = self;
+        while let Some(file) = files.pop() {
+            file.close(store, more);
+        }
+    }
+}

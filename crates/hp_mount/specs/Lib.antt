@@ -3,3 +3,4 @@ pub mod Done
 pub mod Found
 pub mod Alone
 pub mod Making
+pub mod Maps

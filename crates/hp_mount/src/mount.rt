@@ -20,6 +20,7 @@ ghost use Rattle.hp_mount.specs.Kept.{mount_of};
 ghost use Rattle.hp_events.specs.Memory.{asks_memory};
 
 mod contents;
+mod events;
 mod filling;
 mod forking;
 mod giving;
@@ -36,7 +37,7 @@ use hp_model::naming::Naming;
 use hp_model::refusal::Refusal;
 use hp_model::told::Told;
 use hp_mount_door::PoolDoor;
-use hp_mount_files::{Files, MapRange};
+use hp_mount_files::Files;
 use hp_nodes::Page;
 use hp_store::{PageBatch, PageStore};
 use hp_subpool::Subpool;
@@ -165,57 +166,16 @@ impl<N: Naming> Mount<N> {
                 pages,
                 sharing,
                 reserving,
-            } => {
-                let range = MapRange {
-                    task,
-                    start,
-                    pages,
-                    sharing,
-                    reserving,
-                };
-                Told::map_no(self.map(door, home, name, &range))
-            }
+            } => Told::map_no(self.new_map(
+                door, home, task, name, start, pages, sharing, reserving,
+            )),
             MountEvent::Anon {
                 task,
                 pages,
                 sharing,
                 reserving,
             } => Told::map_no(self.anon(door, home, task, pages, sharing, reserving)),
-            MountEvent::Unmap {
-                task,
-                map,
-                start,
-                end,
-            } => Told::done(self.unmap(door, task, map, start, end)),
-            MountEvent::Fault {
-                task,
-                map,
-                index,
-                intent,
-            } => {
-                let access = MapAccess { task, map, index };
-                Told::done(self.fault(door, home, &access, intent))
-            }
-            MountEvent::Load {
-                task,
-                map,
-                index,
-                offset,
-                count,
-            } => {
-                let access = MapAccess { task, map, index };
-                Told::bytes(self.load(door, page_bytes, home, &access, offset, count, room))
-            }
-            MountEvent::Store {
-                task,
-                map,
-                index,
-                offset,
-                bytes,
-            } => {
-                let access = MapAccess { task, map, index };
-                Told::done(self.store(door, page_bytes, home, &access, offset, bytes))
-            }
+            _ => self.apply_to_map(door, page_bytes, home, event, room),
         }
     }
 

@@ -7,10 +7,10 @@ use Rattle.hp_model.specs.files.File.{new_file}
 use Rattle.hp_model.specs.files.MakeMap.{mapped, numbers_of}
 use Rattle.hp_model.specs.Lists.{is_among}
 use Rattle.hp_store.specs.Store.{Store}
-use Rattle.hp_lookup.specs.Asking.{entered_from}
+use Rattle.hp_file.specs.NewMap.{nameless, with_new_map}
 use Rattle.hp_lookup.specs.Hints.{IsFiles, IsMoreByMap, Noted, has_key}
 use Rattle.hp_lookup.specs.Keyed.{is_key, keys_in, label_of}
-use Rattle.hp_lookup.specs.Numbered.{NumberedFile, file_shown, files_shown, new_mapping, with_mapping}
+use Rattle.hp_lookup.specs.Numbered.{NumberedFile, file_shown, files_shown, new_mapping}
 use Rattle.hp_lookup.specs.Places.{all_maps}
 use Rattle.hp_lookup.proofs.Level.{more_level, none_level}
 use Rattle.hp_lookup.proofs.Mapped.{file_count, mapped_shown}
@@ -18,12 +18,9 @@ use Rattle.hp_lookup.proofs.NewKey.{keys_few, no_pair, other_key}
 use Rattle.hp_mount_files.proofs.Pushing.{pushed}
 use Rattle.hp_lookup.proofs.Views.{view}
 
-abbrev pub nameless : NumberedFile
-nameless = record { name = None; cells = []; maps = [] }
-
 module _ (task number a n : ℕ) (sharing : Sharing) (reserving : Reserving) where
-  abbrev pub anon : NumberedFile
-  anon = with_mapping (entered_from sharing reserving a n) (new_mapping task number a n sharing reserving) nameless
+  abbrev anon : NumberedFile
+  anon = with_new_map (record { task = task; start = a; pages = n; sharing = sharing; reserving = reserving }) number nameless
 
   module _ (old : Noted) (s : Store) (more maps : ℕ) (tally : ℕ → ℕ) (fs : List NumberedFile) (is : IsFiles old s more maps tally fs)
       (f : NumberedFile) (gs : List NumberedFile) (f_is : f ≡ anon) (gs_is : gs ≡ fs ++ f ∷ []) where

@@ -1,13 +1,17 @@
 //! A map that comes, with what it reserves.
-ghost use Rattle.std.specs.Prelude.{◌≡◌, ◌^◌, ◌+◌, ◌<◌, length, false, OnOk, OnErr};
-ghost use Rattle.hp_lookup.specs.Asking.{IsAsked};
+ghost use Rattle.std.specs.Prelude.{◌≡◌, ◌^◌, ◌+◌, ◌<◌, ◌≤◌, length, false, IfOk, None, OnOk, OnErr};
+ghost use Rattle.hp_lookup.specs.Asking.{IsAsked, wants};
 ghost use Rattle.hp_subpool.specs.Subpool.{Subpool as ShareValue, is_full, used};
 ghost use Rattle.hp_lookup.specs.Numbered.{with_mapping};
 ghost use Rattle.hp_model.specs.Lists.{edit_range};
-ghost use Rattle.hp_model.specs.files.File.{at_least, entered};
+ghost use Rattle.hp_model.specs.files.File.{at_least, entered, new_file};
+ghost use Rattle.hp_model.specs.Profile.{most_file_pages};
+ghost use Rattle.hp_file.specs.Filling.{reply_of};
+ghost use Rattle.hp_file.specs.NewMap.{nameless, with_new_map};
 
 use super::File;
 use hp_inode::Inode;
+use hp_lookup::MapRange;
 use hp_mapping::Mapping;
 use hp_model::naming::Naming;
 use hp_model::refusal::Refusal;
@@ -92,10 +96,8 @@ fn enter_range<N: Naming, D: PoolDoor<Share = Subpool<N>>>(
 }
 
 impl File {
-    /// Adds a map, and enters its indices from `from` on; the file gets longer where the map reaches past its end. The
-    /// pages of the `wanted` indices without an entry are reserved through the door. Refused as OutOfMemory before the
-    /// door, or as the door refuses; then nothing changes.
-    pub fn add_map<N: Naming, D: PoolDoor<Share = Subpool<N>>>(
+    // Adds a map, and enters its indices from `from` on, as `add_range` does.
+    fn add_map<N: Naming, D: PoolDoor<Share = Subpool<N>>>(
         &mut self,
         alloc: Global,
         door: &mut D,
@@ -132,5 +134,68 @@ impl File {
                 Err(refusal)
             }
         }
+    }
+    /// Adds a map of a range, which enters what it reserves; the file gets longer where the map reaches past its end. The
+    /// pages of the `wanted` indices without an entry are reserved through the door. Refused as OutOfMemory before the
+    /// door, or as the door refuses; then nothing changes.
+    #[inline(always)]
+    pub fn add_range<N: Naming, D: PoolDoor<Share = Subpool<N>>>(
+        &mut self,
+        alloc: Global,
+        door: &mut D,
+        share: &mut Subpool<N>,
+        home: usize,
+        wanted: u64,
+        range: &MapRange,
+        tag: u64,
+        number: u64,
+    ) -> Result<(), Refusal>
+        requires shares { (s : ShareValue) → D.share_of s ≡ s }
+        requires ready { D.is_ready door.old }
+        requires reach { range.now.start + range.now.pages ≤ most_file_pages }
+        requires within { is_full share.old wanted ≡ false }
+        requires few { used share.old + wanted < 2 ^ 64 }
+        ensures ok { OnOk result (self.new ≡ with_new_map range.now number self.old) }
+        ensures err { OnErr result (self.new ≡ self.old) }
+        ensures asked { IsAsked D.took D.is_full home wanted share.old door.old result share.new
+            door.new }
+        ensures left { D.is_left door.new }
+    {
+        let Ok(map) = range.mapping(alloc, tag, number) else {
+            return Err(Refusal::OutOfMemory);
+        };
+        self.add_map(alloc, door, share, home, wanted, range.entered_from(), map)?;
+        Ok(())
+    }
+
+    /// A file without name that has one map, of a range. Refused as `add_range` is.
+    #[inline(always)]
+    pub fn anon<N: Naming, D: PoolDoor<Share = Subpool<N>>>(
+        alloc: Global,
+        door: &mut D,
+        share: &mut Subpool<N>,
+        home: usize,
+        range: &MapRange,
+        tag: u64,
+        number: u64,
+    ) -> Result<Self, Refusal>
+        requires shares { (s : ShareValue) → D.share_of s ≡ s }
+        requires ready { D.is_ready door.old }
+        requires reach { range.now.start + range.now.pages ≤ most_file_pages }
+        requires within { is_full share.old (wants range.now (new_file None)) ≡ false }
+        requires few { used share.old + wants range.now (new_file None) < 2 ^ 64 }
+        ensures ok { IfOk result (λ file. file ≡ with_new_map range.now number nameless) }
+        ensures asked { IsAsked D.took D.is_full home (wants range.now (new_file None))
+            share.old door.old (reply_of result) share.new door.new }
+        ensures left { D.is_left door.new }
+    {
+        let mut file = File::new(alloc, None);
+        let wanted = range.wanted_alone();
+        let added = file.add_range(alloc, door, share, home, wanted, range, tag, number);
+        if let Err(refusal) = added {
+            drop(file);
+            return Err(refusal);
+        }
+        Ok(file)
     }
 }

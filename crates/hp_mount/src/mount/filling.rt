@@ -56,7 +56,7 @@ impl<N: Naming> Mount<N> {
             (Some self.old) door.old (done_reply result) (Some self.new) door.new }
         ensures left { D.is_left door.new }
     {
-        let k = self.files.unentered(file, start, end);
+        let k = self.files.file(file).missing(start, end);
         if self.share.is_full(k) {
             return Err(Refusal::MountFull);
         }
@@ -97,7 +97,7 @@ impl<N: Naming> Mount<N> {
         if let Some(refusal) = refused_range(start, end) {
             return Err(refusal);
         }
-        let count = self.files.lacking(file, start, end);
+        let count = self.files.file(file).lacking(start, end);
         if count == 0 {
             return Ok(());
         }

@@ -45,14 +45,15 @@ impl<N: Naming> Mount<N> {
         ensures memory { told_reply result ≢ Err Refusal.OutOfMemory }
         ensures noted { told_reply result ≢ Err Refusal.TraceFull }
     {
-        let Some(file) = self.files.named(name) else {
+        let Some(at) = self.files.named(name) else {
             return Err(Refusal::NoSuchFile);
         };
+        let file = self.files.file(at);
         Ok(Told::Stat {
-            len: self.files.len(file),
-            pages: self.files.page_count(file),
-            entries: self.files.entry_count(file),
-            maps: self.files.map_count_of(file) as u64,
+            len: file.len(),
+            pages: file.page_count(),
+            entries: file.entry_count(),
+            maps: file.map_count() as u64,
         })
     }
 
@@ -73,7 +74,7 @@ impl<N: Naming> Mount<N> {
         ensures memory { IfSome result (λ r. r ≢ Refusal.OutOfMemory) }
         ensures noted { IfSome result (λ r. r ≢ Refusal.TraceFull) }
     {
-        if count == 0 || index >= self.files.len(file) {
+        if count == 0 || index >= self.files.file(file).len() {
             return Some(Refusal::OutOfRange);
         }
         if offset > page_bytes || count > page_bytes - offset {

@@ -2,7 +2,7 @@
 ghost use Rattle.std.specs.Prelude.{◌≡◌, ◌≢◌, Err, IfNone, IfSome, IsTrue, ℕ, ◌+◌, ◌<◌, ◌≤◌, length, not, is_some, true, false, IfErr, IfOk, OnOk, OnErr, Some, None};
 ghost use Rattle.hp_model.specs.declared.answer.Answer.TheVariants.{MapNo};
 ghost use Rattle.hp_model.specs.declared.refusal.Refusal.TheVariants as Refusal;
-ghost use Rattle.hp_model.specs.declared.event.SlotEvent.TheVariants.{Anon, Create};
+ghost use Rattle.hp_model.specs.declared.event.SlotEvent.TheVariants.{Anon, Create, Map};
 ghost use Rattle.hp_model.specs.files.File.{maps_of, with_file};
 ghost use Rattle.hp_model.specs.pool.Grant.{is_over};
 ghost use Rattle.hp_model.specs.Lists.{is_among};
@@ -206,6 +206,36 @@ impl<N: Naming> Mount<N> {
             Ok(()) => Ok(next.number),
             Err(refusal) => Err(refusal),
         }
+    }
+
+    // The same by the range's parts.
+    #[inline(always)]
+    pub(super) fn new_map<D: PoolDoor<Share = Subpool<N>>>(
+        &mut self,
+        door: &mut D,
+        home: u64,
+        task: u64,
+        name: &[u8],
+        start: u64,
+        pages: u64,
+        sharing: Sharing,
+        reserving: Reserving,
+    ) -> Result<u64, Refusal>
+        requires shares { (s : ShareValue) → D.share_of s ≡ s }
+        requires ready { D.is_ready door.old }
+        ensures done { (size k : ℕ) → IsDone D.took D.is_full size k (Some self.old) door.old
+            (Map task home name.now start pages sharing reserving) (map_reply result)
+            (Some self.new) door.new }
+        ensures left { D.is_left door.new }
+    {
+        let range = MapRange {
+            task,
+            start,
+            pages,
+            sharing,
+            reserving,
+        };
+        self.map(door, home, name, &range)
     }
 
     // The map that the task may make next of a new file without name, or why it may not.

@@ -36,7 +36,7 @@ impl<N: Naming> Mount<N> {
         ensures fits { IfNone result (offset + count ≤ page_bytes) }
         ensures few { IfNone result (count ≤ most_bytes) }
     {
-        let live = self.files.is_live(at, index);
+        let live = self.files.map(at).is_live(index);
         if !live || count == 0 {
             return Some(Refusal::OutOfRange);
         }
@@ -46,7 +46,7 @@ impl<N: Naming> Mount<N> {
         if count > MOST_BYTES as u64 {
             return Some(Refusal::TooMany);
         }
-        if index >= self.files.len(at.file) {
+        if index >= self.files.file(at.file).len() {
             return Some(Refusal::BeyondEnd);
         }
         None
@@ -61,10 +61,10 @@ impl<N: Naming> Mount<N> {
         ensures live { IfNone result
             (is_live (place_at (map_in (file_in self.now at.file) at.map) index) ≡ true) }
     {
-        if !self.files.is_live(at, index) {
+        if !self.files.map(at).is_live(index) {
             return Some(Refusal::OutOfRange);
         }
-        if index >= self.files.len(at.file) {
+        if index >= self.files.file(at.file).len() {
             return Some(Refusal::BeyondEnd);
         }
         None

@@ -151,13 +151,13 @@ impl<N: Naming> Mount<N> {
             IsCopyState CopyState.HeldOnce (file_in self.new at.file)
             (place_at (map_in (file_in self.new at.file) at.map) index) }
     {
-        if self.files.is_unmapped(at) {
+        if self.files.map(at).is_unmapped() {
             return Err(Refusal::TakenByOwner);
         }
         if shows_page(&self.files, at.file, index, intent) {
             return Ok(());
         }
-        if self.files.has_reserve(at, index) {
+        if self.files.map(at).has_reserve(index) {
             self.copy_reserved(door, home, at, index, intent)
         } else {
             self.copy_granted(door, home, at, index, intent)
@@ -192,7 +192,7 @@ impl<N: Naming> Mount<N> {
         ensures once { result ≡ Ok tt → IsCopyState CopyState.HeldOnce (file_in self.new at.file)
             (place_at (map_in (file_in self.new at.file) at.map) index) }
     {
-        let is_owner = self.files.is_owner(at);
+        let is_owner = self.files.map(at).is_owner();
         if self.share.is_full(1) {
             if !is_owner {
                 return Err(Refusal::MountFull);

@@ -165,7 +165,7 @@ impl<N: Naming> Mount<N> {
             → IsCopyState CopyState.HeldOnce (file_in self.new at.file)
             (place_at (map_in (file_in self.new at.file) at.map) index) }
     {
-        if self.files.is_shared(at) {
+        if self.files.map(at).is_shared() {
             self.reach_shared(door, home, at.file, index)
         } else {
             self.reach_private(door, home, at, index, intent)
@@ -262,7 +262,7 @@ impl<N: Naming> Mount<N> {
             Ok(at) => at,
             Err(refusal) => return Err(refusal),
         };
-        let is_shared = self.files.is_shared(at);
+        let is_shared = self.files.map(at).is_shared();
         if let Err(refusal) = self.reach(door, home as usize, at, access.index, Intent::Write) {
             return Err(refusal);
         }

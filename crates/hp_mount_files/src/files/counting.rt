@@ -1,9 +1,7 @@
 //! How many files, maps and tasks there are, and their names and numbers.
 ghost use Rattle.std.specs.Prelude.{◌≡◌, not, ◌<◌, ◌≤◌, length, IfOk};
-ghost use Rattle.hp_model.specs.files.File.{has_page, is_entered};
-ghost use Rattle.hp_lookup.specs.Files.{file_at};
 ghost use Rattle.hp_lookup.specs.Asking.{is_first_of, next_of};
-ghost use Rattle.std.specs.List.{All, count_by, filter_map};
+ghost use Rattle.std.specs.List.{All, filter_map};
 ghost use Rattle.hp_model.specs.Lists.{is_among};
 ghost use Rattle.hp_model.specs.files.MakeMap.{numbers_of};
 ghost use Rattle.hp_model.specs.Profile.{most_maps, most_name_bytes};
@@ -96,37 +94,5 @@ impl<N: Naming> Files<N> {
             }
         }
         Ok(Names::new(names))
-    }
-
-    /// The length of a file.
-    pub fn len(&self, file: usize) -> u64
-        requires { file < length self.now.files }
-        ensures { result ≡ length (file_at self.now.files file).cells }
-    {
-        self.list[file].len()
-    }
-
-    /// How many pages a file has of its own. No index is walked.
-    pub fn page_count(&self, file: usize) -> u64
-        requires { file < length self.now.files }
-        ensures { result ≡ count_by has_page (file_at self.now.files file).cells }
-    {
-        self.list[file].page_count()
-    }
-
-    /// How many indices of a file are entered, with a page or without. No index is walked.
-    pub fn entry_count(&self, file: usize) -> u64
-        requires { file < length self.now.files }
-        ensures { result ≡ count_by is_entered (file_at self.now.files file).cells }
-    {
-        self.list[file].entry_count()
-    }
-
-    /// How many maps a file has, of all tasks.
-    pub fn map_count_of(&self, file: usize) -> usize
-        requires { file < length self.now.files }
-        ensures { result ≡ length (file_at self.now.files file).maps }
-    {
-        self.list[file].map_count()
     }
 }

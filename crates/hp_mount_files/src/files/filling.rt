@@ -25,24 +25,6 @@ use hp_store::PageBatch;
 use hp_subpool::Subpool;
 
 impl<N: Naming> Files<N> {
-    /// How many indices of a file from `from` up to `to` have no page. Past the end none has. It takes a step for each.
-    pub fn lacking(&self, file: usize, from: u64, to: u64) -> u64
-        requires file { file < length self.now.files }
-        requires order { from ≤ to }
-        ensures { result ≡ lacking from to (file_at self.now.files file) }
-    {
-        self.list[file].lacking(from, to)
-    }
-
-    /// How many indices of a file from `from` up to `to` have no entry. Past the end none has.
-    pub fn unentered(&self, file: usize, from: u64, to: u64) -> u64
-        requires file { file < length self.now.files }
-        requires order { from ≤ to }
-        ensures { result ≡ unentered from to (file_at self.now.files file) }
-    {
-        self.list[file].missing(from, to)
-    }
-
     // Enters indices of a file, and takes `count` pages for them at once. Refused as `preallocate` is.
     fn take_pages<D: PoolDoor<Share = Subpool<N>, Batch = PageBatch<N>>>(
         &mut self,

@@ -1,6 +1,8 @@
 //! Files and maps that come.
-ghost use Rattle.std.specs.Prelude.{◌≡◌, ◌^◌, ◌++◌, ◌∷◌, ◌+◌, ◌<◌, ◌≤◌, max, length, [], None, Some, OnOk, OnErr, false};
+ghost use Rattle.std.specs.Prelude.{◌≡◌, ◌^◌, ◌++◌, ◌∷◌, ◌+◌, ◌<◌, ◌≤◌, ℕ, max, length, [], None, Some, OnOk, OnErr, false};
 ghost use Rattle.hp_lookup.specs.Files.{file_at, with_anon, with_file_at, mapped_at};
+ghost use Rattle.hp_lookup.specs.Hints.{AreSame};
+ghost use Rattle.hp_lookup.specs.Tally.{count_of};
 ghost use Rattle.hp_lookup.specs.Asking.{IsAsked, is_first_of, next_of, wants, with_range};
 ghost use Rattle.hp_subpool.specs.Subpool.{Subpool as ShareValue, is_full, used};
 ghost use Rattle.std.specs.List.{sum_by};
@@ -13,13 +15,25 @@ ghost use Rattle.hp_lookup.specs.Places.{all_maps};
 
 use super::Files;
 use hp_file::File;
-use hp_lookup::{FileName, FileTag, MapPlace, MapRange, MapTag, NextMap};
+use hp_lookup::{FileName, FileTag, Hints, MapPlace, MapRange, MapTag, NextMap, TaskCounts};
 use hp_model::naming::Naming;
 use hp_model::refusal::Refusal;
 use hp_model::step::Sharing;
 use hp_mount_door::PoolDoor;
 use hp_subpool::Subpool;
 use std::alloc::AllocError;
+
+// Room to note and to count a map more. Refused where memory is.
+fn make_map_room(hints: &mut Hints, counts: &mut TaskCounts) -> Result<(), AllocError>
+    ensures noted { AreSame hints.old hints.new }
+    ensures counted { (task : ℕ) → count_of counts.new task ≡ count_of counts.old task }
+    ensures hints { OnOk result (0 < hints.new.room) }
+    ensures counts { OnOk result (0 < counts.new.room) }
+{
+    counts.make_room()?;
+    hints.reserve(1)?;
+    Ok(())
+}
 
 impl<N: Naming> Files<N> {
     /// Makes a file of length 0, with a name that no other has. Refused where memory is, and then nothing changes.
@@ -91,24 +105,19 @@ impl<N: Naming> Files<N> {
             map: self.list[file].map_count(),
         };
         let tag = MapTag::new(at, self.list.tag(file), self.tags.take());
-        if self.counts.make_room().is_err() {
-            return Err(Refusal::OutOfMemory);
-        }
-        let Ok(()) = self.hints.reserve(1) else {
-            return Err(Refusal::OutOfMemory);
-        };
-        let Ok(map) = range.mapping(self.alloc, tag.map(), next.number) else {
+        let Ok(()) = make_map_room(&mut self.hints, &mut self.counts) else {
             return Err(Refusal::OutOfMemory);
         };
         let at = &mut self.list[file];
-        at.add_map(
+        at.add_range(
             self.alloc,
             door,
             share,
             home,
             wanted,
-            range.entered_from(),
-            map,
+            range,
+            tag.map(),
+            next.number,
         )?;
         self.hints.note_map(range.task, next.number, tag).unwrap();
         self.maps += 1;
@@ -193,29 +202,10 @@ impl<N: Naming> Files<N> {
         if self.list.make_room().is_err() {
             return Err(Refusal::OutOfMemory);
         }
-        if self.counts.make_room().is_err() {
-            return Err(Refusal::OutOfMemory);
-        }
-        let Ok(()) = self.hints.reserve(1) else {
+        let Ok(()) = make_map_room(&mut self.hints, &mut self.counts) else {
             return Err(Refusal::OutOfMemory);
         };
-        let Ok(map) = range.mapping(self.alloc, tag.map(), next.number) else {
-            return Err(Refusal::OutOfMemory);
-        };
-        let mut file = File::new(self.alloc, None);
-        let added = file.add_map(
-            self.alloc,
-            door,
-            share,
-            home,
-            range.wanted_alone(),
-            range.entered_from(),
-            map,
-        );
-        if let Err(refusal) = added {
-            drop(file);
-            return Err(refusal);
-        }
+        let file = File::anon(self.alloc, door, share, home, range, tag.map(), next.number)?;
         self.list.push(file, tag.file());
         self.hints.note_map(range.task, next.number, tag).unwrap();
         self.maps += 1;

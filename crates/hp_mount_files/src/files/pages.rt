@@ -8,8 +8,7 @@ ghost use Rattle.hp_model.specs.files.Value.{shown};
 ghost use Rattle.hp_lookup.specs.Files.{file_at, with_cell_at, filled_at};
 ghost use Rattle.std.specs.List.{sum_by};
 ghost use Rattle.hp_model.specs.files.MountCounts.{file_pages};
-ghost use Rattle.hp_model.specs.files.Mapping.{is_live, is_shared, place_at};
-ghost use Rattle.hp_lookup.specs.Places.{map_at, shown_at};
+ghost use Rattle.hp_lookup.specs.Places.{shown_at};
 ghost use Rattle.hp_file.specs.States.{IsState};
 
 use super::Files;
@@ -20,26 +19,6 @@ use hp_nodes::Page;
 use std::alloc::AllocError;
 
 impl<N: Naming> Files<N> {
-    /// Whether a map has the file's index.
-    pub fn is_live(&self, at: MapPlace, index: u64) -> bool
-        requires file { at.file < length self.now.files }
-        requires map { at.map < length (file_at self.now.files at.file).maps }
-        ensures { result ≡ is_live (place_at (map_at self.now.files at.file at.map) index) }
-    {
-        let map = self.list[at.file].map(at.map);
-        map.is_live(index)
-    }
-
-    /// Whether a map is shared.
-    pub fn is_shared(&self, at: MapPlace) -> bool
-        requires file { at.file < length self.now.files }
-        requires map { at.map < length (file_at self.now.files at.file).maps }
-        ensures { result ≡ is_shared (map_at self.now.files at.file at.map).sharing }
-    {
-        let map = self.list[at.file].map(at.map);
-        map.is_shared()
-    }
-
     /// What stands at an index.
     #[inline(always)]
     pub fn cell(&self, file: usize, index: u64) -> CellState
@@ -109,8 +88,8 @@ impl<N: Naming> Files<N> {
         Ok(())
     }
 
-    /// Enters an index that is a hole. Refused where memory is, and then nothing changes.
-    pub fn enter(&mut self, file: usize, index: u64) -> Result<(), AllocError>
+    // Enters an index that is a hole. Refused where memory is, and then nothing changes.
+    fn enter(&mut self, file: usize, index: u64) -> Result<(), AllocError>
         requires file { file < length self.old.files }
         requires below { index < length (file_at self.old.files file).cells }
         requires hole { cell_at (file_at self.old.files file) index ≡ Hole }

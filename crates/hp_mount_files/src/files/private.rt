@@ -1,9 +1,9 @@
 //! Private maps and their copies.
-ghost use Rattle.std.specs.Prelude.{◌≡◌, ◌^◌, ◌&&◌, ◌||◌, ℕ, ◌+◌, ◌<◌, ◌≤◌, length, slice_set, false, Bool, None, Some, IsSome, IsTrue};
+ghost use Rattle.std.specs.Prelude.{◌≡◌, ◌^◌, ◌||◌, ℕ, ◌+◌, ◌<◌, ◌≤◌, length, slice_set, false, Bool, None, Some, IsSome, IsTrue};
 ghost use Rattle.std.specs.List.{flat_map, sum_by};
 ghost use Rattle.hp_model.specs.declared.place.Place.TheVariants.{Live};
 ghost use Rattle.hp_model.specs.files.CopyWrite.{robbed};
-ghost use Rattle.hp_model.specs.files.Mapping.{copy_of, is_live, is_unconsumed, place_at};
+ghost use Rattle.hp_model.specs.files.Mapping.{copy_of, is_live, place_at};
 ghost use Rattle.hp_model.specs.files.MountCounts.{file_pages, stamps_of};
 ghost use Rattle.hp_model.specs.files.Page.{Copy};
 ghost use Rattle.hp_model.specs.files.Spot.{place_written};
@@ -22,37 +22,6 @@ use hp_model::page_no::PageNo;
 use hp_nodes::Page;
 
 impl<N: Naming> Files<N> {
-    /// Whether a map is marked, since an owner took a page from it.
-    pub fn is_unmapped(&self, at: MapPlace) -> bool
-        requires file { at.file < length self.now.files }
-        requires map { at.map < length (file_at self.now.files at.file).maps }
-        ensures { result ≡ (map_at self.now.files at.file at.map).unmapped }
-    {
-        let map = self.list[at.file].map(at.map);
-        map.is_unmapped()
-    }
-
-    /// Whether a map owns reservations.
-    pub fn is_owner(&self, at: MapPlace) -> bool
-        requires file { at.file < length self.now.files }
-        requires map { at.map < length (file_at self.now.files at.file).maps }
-        ensures { result ≡ (map_at self.now.files at.file at.map).owner }
-    {
-        let map = self.list[at.file].map(at.map);
-        map.is_owner()
-    }
-
-    /// Whether a map owns a reservation for an index.
-    pub fn has_reserve(&self, at: MapPlace, index: u64) -> bool
-        requires file { at.file < length self.now.files }
-        requires map { at.map < length (file_at self.now.files at.file).maps }
-        ensures { result ≡ ((map_at self.now.files at.file at.map).owner
-            && is_unconsumed (place_at (map_at self.now.files at.file at.map) index)) }
-    {
-        let map = self.list[at.file].map(at.map);
-        map.has_reserve(index)
-    }
-
     /// Whether a map has a copy at an index, and whether it alone holds it. No map is searched.
     pub fn copy(&self, at: MapPlace, index: u64) -> CopyState
         requires file { at.file < length self.now.files }

@@ -1,13 +1,10 @@
-use Rattle.std.proofs.Common.{◌≡◌, Bool, Ok, Some, true, false, not, refl, sym, subst, ◌∙◌}
+use Rattle.std.proofs.Common.{Ok, Some, refl}
 use Rattle.hp_model.specs.declared.event.SlotEvent.TheVariants.{Create, Df, Ls, Read, Stat}
 use Rattle.hp_model.specs.beside.Accesses.{bytes_reply, done_reply}
 use Rattle.hp_model.specs.machine.Plan.{Choice, Slot}
 use Rattle.hp_model.specs.machine.SlotEvent.{slot_event}
 use Rattle.hp_model.specs.beside.Told.{told_reply}
-use Rattle.hp_events.specs.declared.event.MountEvent.{MountEvent}
-use Rattle.hp_events.specs.Event.{event_of}
-use Rattle.hp_events.specs.Memory.{asks_memory}
-use Rattle.hp_mount.proofs.Replies.{bytes_not_memory, done_not_memory, told_as}
+use Rattle.hp_mount.proofs.Replies.{told_as}
 use Rattle.hp_mount.proofs.Ways.{alone_is_done}
 use Rattle.hp_mount.proofs.mount.Mount.apply.Goals as goal
 
@@ -70,22 +67,3 @@ returns-in-Read-clause-done g c k =
     let e = c.in-Read in
     told_as took full size k c.args.home old new door door e.is c.bytes.ensures
     (alone_is_done took full (λ (x : Choice). slot_event size k x old (Read e.name.now e.index e.offset e.count)) old new door (bytes_reply c.read.result) c.read.ensures.noted (c.read.ensures.done k))
-
-backed : (b : Bool) → not b ≡ false → b ≡ true
-backed true e = refl
-backed false e = cc
-
-pub returns-in-Fault-clause-memory : goal.returns-in-Fault-clause-memory
-returns-in-Fault-clause-memory g c asks =
-    let never = c.fault.ensures.memory (backed _ (subst (λ (e : MountEvent). asks_memory (Some c.args.self.now) (event_of c.args.home e) ≡ false) c.in-Fault.is asks)) in
-    λ memory. done_not_memory c.fault.result never (sym c.done-in-Fault.ensures ∙ memory)
-
-pub returns-in-Load-clause-memory : goal.returns-in-Load-clause-memory
-returns-in-Load-clause-memory g c asks =
-    let never = c.load.ensures.memory (backed _ (subst (λ (e : MountEvent). asks_memory (Some c.args.self.now) (event_of c.args.home e) ≡ false) c.in-Load.is asks)) in
-    λ memory. bytes_not_memory c.load.result never (sym c.bytes-in-Load.ensures ∙ memory)
-
-pub returns-in-Store-clause-memory : goal.returns-in-Store-clause-memory
-returns-in-Store-clause-memory g c asks =
-    let never = c.store.ensures.memory (backed _ (subst (λ (e : MountEvent). asks_memory (Some c.args.self.now) (event_of c.args.home e) ≡ false) c.in-Store.is asks)) in
-    λ memory. done_not_memory c.store.result never (sym c.done-in-Store.ensures ∙ memory)

@@ -4,6 +4,7 @@ use Rattle.hp_model.specs.files.Fill.{lacking}
 use Rattle.hp_model.specs.beside.Accesses.{done_reply}
 use Rattle.hp_model.specs.machine.Promises.{file_in}
 use Rattle.hp_model.specs.machine.SlotEvent.{file_named}
+use Rattle.hp_mount_files.proofs.Lent.{lacking_lent}
 use Rattle.hp_mount.proofs.Filling.{fill_nothing, fill_nowhere, fill_refused, fill_went}
 use Rattle.hp_mount.proofs.mount.Mount.preallocate.Goals as goal
 
@@ -26,17 +27,22 @@ returns-then-count-eq0-clause-done g c k =
     let a = c.args in
     let file = c.in-Some.file in
     let named = subst (λ (x : Mount). file_named x a.name.now ≡ Some (file, file_in x file)) c.self.view_is c.in-Some.ensures.some.is in
-    let count_is = c.lacking-count.ensures ∙ ap (λ (x : Mount). lacking a.start a.end (file_in x file)) c.self.view_is in
+    let count_is = c.lacking-count.ensures ∙ lacking_lent c.file.ensures a.start a.end ∙ ap (λ (x : Mount). lacking a.start a.end (file_in x file)) c.self.view_is in
     let none : lacking a.start a.end (file_in a.self.now file) ≡ 0 = omega (arith, count_is, c.if-count-eq0.true) in
     fill_nothing g.D.PoolDoor.took g.D.PoolDoor.is_full a.self.now g.N.Naming.page_bytes k a.start a.end a.name.now a.door.now file named
     (sym c.in_default-refused_range.ensures.refused) none
+
+pub fill-requires-clause-count : goal.fill-requires-clause-count
+fill-requires-clause-count g c =
+    let a = c.args in
+    c.lacking-count.ensures ∙ lacking_lent c.file.ensures a.start a.end ∙ ap (λ (x : Mount). lacking a.start a.end (file_in x c.in-Some.file)) c.self.view_is
 
 pub returns-clause-done : goal.returns-clause-done
 returns-clause-done g c k =
     let a = c.args in
     let file = c.in-Some.file in
     let named = subst (λ (x : Mount). file_named x a.name.now ≡ Some (file, file_in x file)) c.self.view_is c.in-Some.ensures.some.is in
-    let count_is = c.lacking-count.ensures ∙ ap (λ (x : Mount). lacking a.start a.end (file_in x file)) c.self.view_is in
+    let count_is = c.lacking-count.ensures ∙ lacking_lent c.file.ensures a.start a.end ∙ ap (λ (x : Mount). lacking a.start a.end (file_in x file)) c.self.view_is in
     let some : 0 < lacking a.start a.end (file_in a.self.now file) = omega (arith, count_is, c.if-count-eq0.false) in
     fill_went g.D.PoolDoor.took g.D.PoolDoor.is_full a.self.now g.N.Naming.page_bytes k a.start a.end a.name.now a.door.now file named
     (sym c.in_default-refused_range.ensures.refused) some (done_reply c.fill.result) (Some c.fill.new.self) c.fill.new.door c.fill.ensures.done

@@ -3,6 +3,7 @@ use Rattle.hp_model.specs.files.Access.{access, shared_access}
 use Rattle.hp_model.specs.files.File.{Mount, cell_at, file_in, map_in}
 use Rattle.hp_model.specs.files.Mapping.{is_shared}
 use Rattle.hp_model.specs.machine.Plan.{Choice}
+use Rattle.hp_mount_files.proofs.Lent.{shared_lent}
 use Rattle.hp_mount.specs.Done.{done}
 use Rattle.hp_mount.specs.Found.{spot_at}
 use Rattle.hp_mount.proofs.Commands.{backed_is_entered, shared_is, tried_as}
@@ -16,7 +17,7 @@ returns-then-is_shared-clause-done g c =
     tried_as g.D.PoolDoor.took g.D.PoolDoor.is_full (λ (x : Choice). shared_access x size m s c.args.home c.args.index (cell_at s.file c.args.index))
     (λ (x : Choice). access x size m s c.args.home c.args.index c.args.intent)
     (λ x. sym (shared_is x size m s c.args.home c.args.index c.args.intent (sym
-    (ap (λ (x : Mount). is_shared (map_in (file_in x c.args.at.file) c.args.at.map).sharing) c.self.view_is) ∙ sym c.is_shared.ensures
+    (ap (λ (x : Mount). is_shared (map_in (file_in x c.args.at.file) c.args.at.map).sharing) c.self.view_is) ∙ sym (c.is_shared.ensures ∙ shared_lent c.map.ensures)
     ∙ c.if-is_shared.true))) (Some m) c.args.door.now (done c.reach_shared.result) (Some c.reach_shared.new.self) c.reach_shared.new.door
     (c.reach_shared.ensures.done s refl refl)
 
@@ -24,5 +25,5 @@ pub returns-then-is_shared-clause-memory : goal.returns-then-is_shared-clause-me
 returns-then-is_shared-clause-memory g c backed =
     let s = spot_at c.args.self.now c.args.at.file c.args.at.map in
     c.reach_shared.ensures.memory (backed_is_entered c.args.intent (Some s) s c.args.index refl
-    (sym (ap (λ (x : Mount). is_shared (map_in (file_in x c.args.at.file) c.args.at.map).sharing) c.self.view_is) ∙ sym c.is_shared.ensures
+    (sym (ap (λ (x : Mount). is_shared (map_in (file_in x c.args.at.file) c.args.at.map).sharing) c.self.view_is) ∙ sym (c.is_shared.ensures ∙ shared_lent c.map.ensures)
     ∙ c.if-is_shared.true) backed)

@@ -2,6 +2,7 @@ use Rattle.std.proofs.Common.{sym, ap, ◌∙◌}
 use Rattle.hp_model.specs.files.File.{Mount, cell_at}
 use Rattle.hp_model.specs.files.Mapping.{place_at}
 use Rattle.hp_model.specs.machine.Promises.{file_in, map_in}
+use Rattle.hp_mount_files.proofs.Lent.{unmapped_lent}
 use Rattle.hp_mount.proofs.Private as private
 use Rattle.hp_mount.specs.Found.{shows_page}
 use Rattle.hp_file_list.proofs.PutCopy.{bare_place}
@@ -14,7 +15,7 @@ returns-then-is_unmapped-clause-done g c =
     let i = c.args.index in
     let m = c.args.self.now in
     let bare = bare_place (place_at (map_in (file_in m k) j) i) c.requires.live c.requires.bare in
-    let marked = sym (ap (λ (x : Mount). (map_in (file_in x k) j).unmapped) c.self.view_is) ∙ sym c.is_unmapped.ensures ∙ c.if-is_unmapped.true in
+    let marked = sym (ap (λ (x : Mount). (map_in (file_in x k) j).unmapped) c.self.view_is) ∙ sym (c.is_unmapped.ensures ∙ unmapped_lent c.map.ensures) ∙ c.if-is_unmapped.true in
     private.cut_off g.D.PoolDoor.took g.D.PoolDoor.is_full g.N.Naming.page_bytes m c.args.home k j i c.args.intent c.args.door.now c.requires.private bare.0 bare.1 marked
 
 pub returns-then-shows_page-clause-done : goal.returns-then-shows_page-clause-done
@@ -24,6 +25,6 @@ returns-then-shows_page-clause-done g c =
     let i = c.args.index in
     let m = c.args.self.now in
     let bare = bare_place (place_at (map_in (file_in m k) j) i) c.requires.live c.requires.bare in
-    let kept = sym (ap (λ (x : Mount). (map_in (file_in x k) j).unmapped) c.self.view_is) ∙ sym c.is_unmapped.ensures ∙ c.if-is_unmapped.false in
+    let kept = sym (ap (λ (x : Mount). (map_in (file_in x k) j).unmapped) c.self.view_is) ∙ sym (c.is_unmapped.ensures ∙ unmapped_lent c.map.ensures) ∙ c.if-is_unmapped.false in
     private.page_read g.D.PoolDoor.took g.D.PoolDoor.is_full g.N.Naming.page_bytes m c.args.home k j i c.args.intent c.args.door.now c.requires.private bare.0 bare.1 kept
     (sym (ap (λ (x : Mount). shows_page c.args.intent (cell_at (file_in x k) i)) c.self.view_is) ∙ sym c.shows_page.ensures ∙ c.if-shows_page.true)

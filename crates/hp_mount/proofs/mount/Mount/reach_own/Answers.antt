@@ -19,6 +19,7 @@ use Rattle.hp_mount_door.specs.Door.{IsDoorRefusal, with_granted}
 use Rattle.hp_lookup.specs.Dropping.{IsLeft}
 use Rattle.hp_lookup.specs.Files.{Files, file_at, parted_at, taken_back_at}
 use Rattle.hp_file.specs.States.{AreAgreed}
+use Rattle.hp_mount_files.proofs.Lent.{owner_lent}
 use Rattle.hp_mount.specs.Found.{IsTouched, with_place_at}
 use Rattle.hp_mount.specs.Kept.{IsKept, mount_of}
 use Rattle.hp_mount.proofs.Copying as keeps
@@ -56,7 +57,7 @@ module _ (g : Over) (c : After-is_full g) where
   agreed = subst (λ (x : Mount). AreAgreed (file_in x c.args.at.file)) (sym c.self.view_is) c.requires.agreed
 
   owner : {b : Bool} → c.is_owner-is_owner.result ≡ b → (map_in f c.args.at.map).owner ≡ b
-  owner e = sym (ap (λ (x : Mount). (map_in (file_in x c.args.at.file) c.args.at.map).owner) c.self.view_is) ∙ sym c.is_owner-is_owner.ensures ∙ e
+  owner e = sym (ap (λ (x : Mount). (map_in (file_in x c.args.at.file) c.args.at.map).owner) c.self.view_is) ∙ sym (c.is_owner-is_owner.ensures ∙ owner_lent c.map.ensures) ∙ e
 
   full : {b : Bool} → c.is_full.result ≡ b → grant.is_full m 1 ≡ b
   full e = full_as c.self.inside.share c.self.inside.files c.self.inside.inodes m c.self.invariant c.self.view_is 1 1 c.is_full.result refl c.is_full.ensures ∙ e

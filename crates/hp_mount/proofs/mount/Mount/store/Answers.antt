@@ -5,6 +5,7 @@ use Rattle.hp_laws.proofs.counts.Copies.{live_of}
 use Rattle.hp_model.specs.files.File.{Mount, file_in, map_in}
 use Rattle.hp_model.specs.files.Mapping.{is_shared, place_at}
 use Rattle.hp_model.specs.machine.Plan.{and_then}
+use Rattle.hp_mount_files.proofs.Lent.{shared_lent}
 use Rattle.hp_mount.specs.declared.mount.reach.Asked.TheVariants.{Bytes}
 use Rattle.hp_mount.specs.Found.{IsPlaced, spot_at, spot_of, why_not}
 use Rattle.hp_mount.proofs.Commands.{backed_not_memory, denied, early_not_memory, follows, not_begun, private_written, stores, went, why_is_early, written_is}
@@ -42,7 +43,7 @@ returns-clause-done g c k =
     let below = placed.below in
     let wrote = c.write.ensures ∙ sym (written_is n s a.index c.args.offset c.args.bytes.now
     (sym (ap (λ (x : Mount). is_shared (map_in (file_in x c.in-Ok.at.file) c.in-Ok.at.map).sharing) c.self.view_is)
-    ∙ sym c.is_shared-is_shared.ensures ∙ c.if-not-is_shared.false) (omega (arith, file, files)) (omega (arith, below, cells))) in
+    ∙ sym (c.is_shared-is_shared.ensures ∙ shared_lent c.map.ensures) ∙ c.if-not-is_shared.false) (omega (arith, file, files)) (omega (arith, below, cells))) in
     let new = Some c.write.new.self in
     went took g.D.PoolDoor.is_full m c.args.door.now size c.args.home a Write asked (λ s p. and_then (cont s) p) (follows took g.D.PoolDoor.is_full m c.args.door.now cont) c.in-Ok.at placed
     c.reach.result n c.reach.new.door Done new c.in_default.is (λ p h. then_goes took m (cont s) p c.args.door.now c.reach.new.door Done n (Ok Done) new h (refl, ap Some wrote)) c.reach.ensures.done
@@ -59,7 +60,7 @@ returns-then-not-is_shared-clause-done g c k =
     let s = spot_at m c.in-Ok.at.file c.in-Ok.at.map in
     let n = c.reach.new.self in
     let private : is_shared s.map.sharing ≡ false = (sym (ap (λ (x : Mount). is_shared (map_in (file_in x c.in-Ok.at.file) c.in-Ok.at.map).sharing)
-    c.self.view_is) ∙ sym c.is_shared-is_shared.ensures ∙ c.if-not-is_shared.true) in
+    c.self.view_is) ∙ sym (c.is_shared-is_shared.ensures ∙ shared_lent c.map.ensures) ∙ c.if-not-is_shared.true) in
     let files = c.reach.ensures.same.files in
     let maps = c.reach.ensures.same.maps in
     let map = placed.map in

@@ -3,48 +3,38 @@ use Rattle.hp_model.specs.Lists.{is_among}
 use Rattle.hp_model.specs.files.File.{new_file}
 use Rattle.hp_model.specs.files.MakeMap.{mapped, numbers_of}
 use Rattle.hp_lookup.specs.Tally.{count_of}
-use Rattle.hp_lookup.specs.Asking.{entered_from, next_of}
+use Rattle.hp_lookup.specs.Asking.{next_of}
 use Rattle.hp_lookup.specs.Files.{Files}
 use Rattle.hp_lookup.specs.Hints.{IsFiles}
-use Rattle.hp_lookup.specs.Numbered.{files_shown, with_mapping}
+use Rattle.hp_lookup.specs.Numbered.{files_shown}
 use Rattle.hp_lookup.specs.Places.{all_maps}
-use Rattle.hp_mount_files.proofs.Anon.{anon, anon_files, anon_view, nameless}
-use Rattle.hp_lookup.proofs.Keys.{files_noted, files_recounted, then_map}
+use Rattle.hp_lookup.proofs.Keys.{then_map}
 use Rattle.hp_lookup.proofs.NewKey.{maps_few}
 use Rattle.hp_lookup.proofs.MapNumbers.{unused_is_new}
 use Rattle.hp_lookup.proofs.Tallies.{tally_few}
+use Rattle.hp_mount_files.proofs.Anon.{anon_files, anon_view}
+use Rattle.hp_mount_files.proofs.MapRoom.{with_room}
 use Rattle.hp_mount_files.proofs.files.Files.put_anon.Given.{Over}
 use Rattle.hp_mount_files.proofs.files.Files.put_anon.Goals as goal
+use Rattle.hp_mount_files.proofs.files.Files.put_anon.Goals.{After-make_map_room}
 
-pub invariant_of-self-then-is_err-2 : goal.invariant_of-self-then-is_err-2
-invariant_of-self-then-is_err-2 g c =
-    let s = c.self.inside in
-    subst (IsFiles s.hints s.store s.more s.maps (count_of c.make_room-2.new.self)) (sym c.make_room.ensures.same)
-    (files_recounted s.hints s.store s.more s.maps (count_of s.counts) (count_of c.make_room-2.new.self) s.list.files c.make_room-2.ensures.same c.self.invariant)
+-- room is made
+module _ (g : Over) (c : After-make_map_room g) where
+  roomy : IsFiles c.make_map_room.new.hints c.self.inside.store c.self.inside.more c.self.inside.maps (count_of c.make_map_room.new.counts) c.make_room.new.self.files
+  roomy =
+      let s = c.self.inside in
+      subst (IsFiles c.make_map_room.new.hints s.store s.more s.maps (count_of c.make_map_room.new.counts)) (sym c.make_room.ensures.same)
+      (with_room s.hints c.make_map_room.new.hints s.store s.more s.maps (count_of s.counts) (count_of c.make_map_room.new.counts) s.list.files
+      c.make_map_room.ensures.noted c.make_map_room.ensures.counted c.self.invariant)
 
 pub invariant_of-self-in_default : goal.invariant_of-self-in_default
-invariant_of-self-in_default g c =
-    let s = c.self.inside in
-    subst (IsFiles c.reserve.new.self s.store s.more s.maps (count_of c.make_room-2.new.self)) (sym c.make_room.ensures.same)
-    (files_recounted c.reserve.new.self s.store s.more s.maps (count_of s.counts) (count_of c.make_room-2.new.self) s.list.files c.make_room-2.ensures.same
-    (files_noted s.hints c.reserve.new.self s.store s.more s.maps (count_of s.counts) s.list.files c.reserve.ensures.same c.self.invariant))
+invariant_of-self-in_default g c = roomy g (goal.at.invariant_of-self-in_default g c).After-make_map_room
 
-pub invariant_of-self-in_default-mapping : goal.invariant_of-self-in_default-mapping
-invariant_of-self-in_default-mapping g c =
-    let s = c.self.inside in
-    subst (IsFiles c.reserve.new.self s.store s.more s.maps (count_of c.make_room-2.new.self)) (sym c.make_room.ensures.same)
-    (files_recounted c.reserve.new.self s.store s.more s.maps (count_of s.counts) (count_of c.make_room-2.new.self) s.list.files c.make_room-2.ensures.same
-    (files_noted s.hints c.reserve.new.self s.store s.more s.maps (count_of s.counts) s.list.files c.reserve.ensures.same c.self.invariant))
-
-pub invariant_of-self-in-Err : goal.invariant_of-self-in-Err
-invariant_of-self-in-Err g c =
-    let s = c.self.inside in
-    subst (IsFiles c.reserve.new.self s.store s.more s.maps (count_of c.make_room-2.new.self)) (sym c.make_room.ensures.same)
-    (files_recounted c.reserve.new.self s.store s.more s.maps (count_of s.counts) (count_of c.make_room-2.new.self) s.list.files c.make_room-2.ensures.same
-    (files_noted s.hints c.reserve.new.self s.store s.more s.maps (count_of s.counts) s.list.files c.reserve.ensures.same c.self.invariant))
+pub invariant_of-self-in_err-file : goal.invariant_of-self-in_err-file
+invariant_of-self-in_err-file g c = roomy g (goal.at.invariant_of-self-in_err-file g c).After-make_map_room
 
 pub unwrap-requires : goal.unwrap-requires
-unwrap-requires g c = c.note_map.ensures.succeeds (let room = c.in-Ok.ensures.ok in omega (arith, room))
+unwrap-requires g c = c.note_map.ensures.succeeds c.in-Ok.ensures.hints
 
 pub overflow_add-self : goal.overflow_add-self
 overflow_add-self g c =
@@ -57,23 +47,16 @@ add_one-requires-clause-few g c =
     let s = c.self.inside in
     let few = tally_few c.args.range.now.task s.hints s.store s.more s.maps (count_of s.counts) s.list.files c.self.invariant
     (subst (λ (v : Files). length (all_maps v.files) < 4096) (sym c.self.view_is) c.requires.maps) in
-    let same = c.make_room-2.ensures.same c.args.range.now.task in
+    let same = c.make_map_room.ensures.counted c.args.range.now.task in
     omega (arith, few, same)
 
 -- the file that was added
 module _ (g : Over) (c : goal.After-add_one g) where
-  file_is : c.add_map-added.new.self ≡ anon c.args.range.now.task c.args.next.number c.args.range.now.start c.args.range.now.pages c.args.range.now.sharing c.args.range.now.reserving
-  file_is =
-      let r = c.args.range.now in
-      c.in_default-added.ensures.ok ∙ ap (λ f. with_mapping c.entered_from.result c.in-Ok-mapping.map f) c.new-file.ensures
-      ∙ ap (λ k. with_mapping k c.in-Ok-mapping.map nameless) c.entered_from.ensures.from
-      ∙ ap (λ m. with_mapping (entered_from r.sharing r.reserving r.start r.pages) m nameless) c.in-Ok-mapping.ensures
-
-  files_are : c.push.new.self.files ≡ c.self.inside.list.files ++ c.add_map-added.new.self ∷ []
-  files_are = c.push.ensures ∙ ap (λ fs. fs ++ c.add_map-added.new.self ∷ []) c.make_room.ensures.same
+  files_are : c.push.new.self.files ≡ c.self.inside.list.files ++ c.in_ok-file.file ∷ []
+  files_are = c.push.ensures ∙ ap (λ fs. fs ++ c.in_ok-file.file ∷ []) c.make_room.ensures.same
 
   one_more : (q : ℕ) → (count_of c.add_one.new.self) q ≡ (count_of c.self.inside.counts) q + cond (c.args.range.now.task == q) 1 0
-  one_more q = c.add_one.ensures q ∙ ap (λ n. n + cond (c.args.range.now.task == q) 1 0) (c.make_room-2.ensures.same q)
+  one_more q = c.add_one.ensures q ∙ ap (λ n. n + cond (c.args.range.now.task == q) 1 0) (c.make_map_room.ensures.counted q)
 
 pub invariant_of-self-2 : goal.invariant_of-self-2
 invariant_of-self-2 g c =
@@ -83,14 +66,15 @@ invariant_of-self-2 g c =
     let number = subst (λ (v : Files). c.args.next.number ≡ next_of r.task v.files) (sym c.self.view_is) c.requires.number in
     let fresh = ap (λ n. is_among n numbers) number ∙ unused_is_new numbers in
     anon_files r.task c.args.next.number r.start r.pages r.sharing r.reserving s.hints s.store s.more s.maps (count_of s.counts) s.list.files
-    c.self.invariant c.add_map-added.new.self c.push.new.self.files (file_is g c) (files_are g c)
+    c.self.invariant c.in_ok-file.file c.push.new.self.files c.in_ok-file.ensures.ok (files_are g c)
     fresh c.note_map.new.self
-    (then_map r.task c.args.next.number s.hints c.reserve.new.self c.note_map.new.self c.reserve.ensures.same c.note_map.ensures.more) (search rules) (count_of c.add_one.new.self) (one_more g c)
+    (then_map r.task c.args.next.number s.hints c.make_map_room.new.hints c.note_map.new.self c.make_map_room.ensures.noted c.note_map.ensures.more)
+    (search rules) (count_of c.add_one.new.self) (one_more g c)
 
 pub returns-clause-ok : goal.returns-clause-ok
 returns-clause-ok g c =
     let s = c.self.inside in
     let r = c.args.range.now in
     anon_view r.task c.args.next.number r.start r.pages r.sharing r.reserving s.hints s.store s.more s.maps (count_of s.counts) s.list.files
-    c.self.invariant c.add_map-added.new.self c.push.new.self.files (file_is g c) (files_are g c)
+    c.self.invariant c.in_ok-file.file c.push.new.self.files c.in_ok-file.ensures.ok (files_are g c)
     ∙ ap (λ (v : Files). record v { files = v.files ++ mapped r.task c.args.next.number r.start r.pages r.sharing r.reserving (new_file None) ∷ [] }) c.self.view_is
