@@ -4,6 +4,7 @@ ghost use Rattle.hp_model.specs.beside.Copying.{has_bytes};
 ghost use Rattle.hp_model.specs.declared.event.SlotEvent.TheVariants.{Mount as Mounting, Remount as Remounting};
 ghost use Rattle.hp_events.specs.Event.{event_of};
 ghost use Rattle.hp_events.specs.Copies.{AreCopies, AreEvents, bytes_of_event};
+ghost use Rattle.hp_events.specs.Kinds.{is_byte_access, is_of_indices, makes_map};
 
 use crate::event::MountEvent;
 use hp_model::bytes::Bytes;
@@ -122,6 +123,21 @@ fn owned(event: &MountEvent<'_>, home: u64, bytes: Bytes) -> SlotEvent
             offset,
             count,
         },
+        MountEvent::Map { .. } | MountEvent::Anon { .. } => owned_map(event, home, bytes),
+        MountEvent::Unmap { .. } | MountEvent::Fault { .. } => owned_indices(event, home),
+        MountEvent::Load { .. } | MountEvent::Store { .. } => owned_access(event, home, bytes),
+        MountEvent::Ls => SlotEvent::Ls,
+        MountEvent::Usage => SlotEvent::Df,
+    }
+}
+
+// The same of an event that makes a map.
+fn owned_map(event: &MountEvent<'_>, home: u64, bytes: Bytes) -> SlotEvent
+    requires of_kind { makes_map event.now ≡ true }
+    requires bytes { bytes ≡ bytes_of_event (event_of 0 event.now) }
+    ensures { result ≡ event_of home event.now }
+{
+    match *event {
         MountEvent::Map {
             task,
             start,
@@ -150,6 +166,16 @@ fn owned(event: &MountEvent<'_>, home: u64, bytes: Bytes) -> SlotEvent
             sharing,
             reserving,
         },
+        _ => unreachable!(),
+    }
+}
+
+// The same of an event that takes indices from a map, or asks for a page at one.
+fn owned_indices(event: &MountEvent<'_>, home: u64) -> SlotEvent
+    requires { is_of_indices event.now ≡ true }
+    ensures { result ≡ event_of home event.now }
+{
+    match *event {
         MountEvent::Unmap {
             task,
             map,
@@ -173,6 +199,17 @@ fn owned(event: &MountEvent<'_>, home: u64, bytes: Bytes) -> SlotEvent
             index,
             intent,
         },
+        _ => unreachable!(),
+    }
+}
+
+// The same of an event that reads or writes through a map.
+fn owned_access(event: &MountEvent<'_>, home: u64, bytes: Bytes) -> SlotEvent
+    requires of_kind { is_byte_access event.now ≡ true }
+    requires bytes { bytes ≡ bytes_of_event (event_of 0 event.now) }
+    ensures { result ≡ event_of home event.now }
+{
+    match *event {
         MountEvent::Load {
             task,
             map,
@@ -201,7 +238,6 @@ fn owned(event: &MountEvent<'_>, home: u64, bytes: Bytes) -> SlotEvent
             offset,
             bytes,
         },
-        MountEvent::Ls => SlotEvent::Ls,
-        MountEvent::Usage => SlotEvent::Df,
+        _ => unreachable!(),
     }
 }
