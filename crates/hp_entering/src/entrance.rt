@@ -85,6 +85,7 @@ impl<'a, N: Naming, R: Wait, G: Gate, const K: usize> Entrance<'a, N, R, G, K> {
     /// The bytes of a page.
     #[inline(always)]
     pub fn page_bytes(&self) -> u64
+        ensures bytes { result ≡ self.now.page_size }
         ensures named { result ≡ N.page_bytes }
         ensures some { 0 < result }
         ensures most { result ≤ most_page_bytes }

@@ -3,7 +3,7 @@ use Rattle.std.specs.Prelude.{◌≡◌, ℕ, Bool, true, false}
 use Rattle.hp_model.specs.declared.step.Step.{Step}
 use Rattle.hp_model.specs.declared.step.Step.TheVariants as step
 use Rattle.hp_events.specs.declared.event.MountEvent.{MountEvent}
-use Rattle.hp_events.specs.declared.event.MountEvent.TheVariants.{Anon, Fault, Load, Map, Store, Unmap}
+use Rattle.hp_events.specs.declared.event.MountEvent.TheVariants.{Anon, Create, Fault, Map, Preallocate, Punch, Read, Stat, Truncate, Unlink, Unmap}
 
 -- ---- steps
 
@@ -62,8 +62,13 @@ is_of_indices (Unmap task map start end) = true
 is_of_indices (Fault task map index intent) = true
 is_of_indices other = false
 
--- it reads or writes bytes through a map
-abbrev pub is_byte_access : MountEvent → Bool
-is_byte_access (Load task map index offset count) = true
-is_byte_access (Store task map index offset bytes) = true
-is_byte_access other = false
+-- it names a file, and makes no map
+abbrev pub is_of_file : MountEvent → Bool
+is_of_file (Create name) = true
+is_of_file (Unlink name) = true
+is_of_file (Truncate name pages) = true
+is_of_file (Punch name start end) = true
+is_of_file (Preallocate name start end) = true
+is_of_file (Stat name) = true
+is_of_file (Read name index offset count) = true
+is_of_file other = false

@@ -4,7 +4,7 @@ ghost use Rattle.hp_model.specs.beside.Copying.{has_bytes};
 ghost use Rattle.hp_model.specs.declared.event.SlotEvent.TheVariants.{Mount as Mounting, Remount as Remounting};
 ghost use Rattle.hp_events.specs.Event.{event_of};
 ghost use Rattle.hp_events.specs.Copies.{AreCopies, AreEvents, bytes_of_event};
-ghost use Rattle.hp_events.specs.Kinds.{is_byte_access, is_of_indices, makes_map};
+ghost use Rattle.hp_events.specs.Kinds.{is_of_file, is_of_indices, makes_map};
 
 use crate::event::MountEvent;
 use hp_model::bytes::Bytes;
@@ -98,6 +98,50 @@ fn owned(event: &MountEvent<'_>, home: u64, bytes: Bytes) -> SlotEvent
     ensures { result ≡ event_of home event.now }
 {
     match *event {
+        MountEvent::Load {
+            task,
+            map,
+            index,
+            offset,
+            count,
+        } => SlotEvent::Load {
+            task,
+            home,
+            map,
+            index,
+            offset,
+            count,
+        },
+        MountEvent::Store {
+            task,
+            map,
+            index,
+            offset,
+            ..
+        } => SlotEvent::Store {
+            task,
+            home,
+            map,
+            index,
+            offset,
+            bytes,
+        },
+        MountEvent::Unmap { .. } | MountEvent::Fault { .. } => owned_indices(event, home),
+        MountEvent::Map { .. } | MountEvent::Anon { .. } => owned_map(event, home, bytes),
+        MountEvent::Ls => SlotEvent::Ls,
+        MountEvent::Usage => SlotEvent::Df,
+        _ => owned_of_file(event, bytes),
+    }
+}
+
+// The same of an event that names a file and makes no map.
+#[inline(never)]
+fn owned_of_file(event: &MountEvent<'_>, bytes: Bytes) -> SlotEvent
+    requires of_kind { is_of_file event.now ≡ true }
+    requires bytes { bytes ≡ bytes_of_event (event_of 0 event.now) }
+    ensures { (home : ℕ) → result ≡ event_of home event.now }
+{
+    match *event {
         MountEvent::Create { .. } => SlotEvent::Create { name: bytes },
         MountEvent::Unlink { .. } => SlotEvent::Unlink { name: bytes },
         MountEvent::Truncate { pages, .. } => SlotEvent::Truncate { name: bytes, pages },
@@ -123,15 +167,12 @@ fn owned(event: &MountEvent<'_>, home: u64, bytes: Bytes) -> SlotEvent
             offset,
             count,
         },
-        MountEvent::Map { .. } | MountEvent::Anon { .. } => owned_map(event, home, bytes),
-        MountEvent::Unmap { .. } | MountEvent::Fault { .. } => owned_indices(event, home),
-        MountEvent::Load { .. } | MountEvent::Store { .. } => owned_access(event, home, bytes),
-        MountEvent::Ls => SlotEvent::Ls,
-        MountEvent::Usage => SlotEvent::Df,
+        _ => unreachable!(),
     }
 }
 
 // The same of an event that makes a map.
+#[inline(never)]
 fn owned_map(event: &MountEvent<'_>, home: u64, bytes: Bytes) -> SlotEvent
     requires of_kind { makes_map event.now ≡ true }
     requires bytes { bytes ≡ bytes_of_event (event_of 0 event.now) }
@@ -171,6 +212,7 @@ fn owned_map(event: &MountEvent<'_>, home: u64, bytes: Bytes) -> SlotEvent
 }
 
 // The same of an event that takes indices from a map, or asks for a page at one.
+#[inline(never)]
 fn owned_indices(event: &MountEvent<'_>, home: u64) -> SlotEvent
     requires { is_of_indices event.now ≡ true }
     ensures { result ≡ event_of home event.now }
@@ -198,45 +240,6 @@ fn owned_indices(event: &MountEvent<'_>, home: u64) -> SlotEvent
             map,
             index,
             intent,
-        },
-        _ => unreachable!(),
-    }
-}
-
-// The same of an event that reads or writes through a map.
-fn owned_access(event: &MountEvent<'_>, home: u64, bytes: Bytes) -> SlotEvent
-    requires of_kind { is_byte_access event.now ≡ true }
-    requires bytes { bytes ≡ bytes_of_event (event_of 0 event.now) }
-    ensures { result ≡ event_of home event.now }
-{
-    match *event {
-        MountEvent::Load {
-            task,
-            map,
-            index,
-            offset,
-            count,
-        } => SlotEvent::Load {
-            task,
-            home,
-            map,
-            index,
-            offset,
-            count,
-        },
-        MountEvent::Store {
-            task,
-            map,
-            index,
-            offset,
-            ..
-        } => SlotEvent::Store {
-            task,
-            home,
-            map,
-            index,
-            offset,
-            bytes,
         },
         _ => unreachable!(),
     }
