@@ -31,8 +31,9 @@ use std::alloc::Global;
 use std::marker::Model;
 use std::sync::{Mutex, MutexGuard, Wait};
 
-/// The way of one thread to the machine's parts. Each call holds the lock of one part, makes one event there, and hands back what it
-/// answers with its receipt. Nothing else is held when it begins, nor when it returns.
+/// The way of one thread to the machine's parts. Each call takes the lock of one part, makes one event there, and gives the lock
+/// back. It hands back what the event answers, with its receipt where entries are kept; TraceFull tells that a trail has no place
+/// for its entry. Under a slot's lock an event may take the pool's or a node's, one at a time.
 #[derive(Drop)]
 pub struct Entrance<'a, N: Naming, R: Wait, G: Gate, const K: usize> {
     rt: &'a R,
