@@ -4,6 +4,7 @@ ghost use Rattle.hp_model.specs.beside.Copying.{has_bytes};
 ghost use Rattle.hp_model.specs.declared.event.SlotEvent.TheVariants.{Mount as Mounting, Remount as Remounting};
 ghost use Rattle.hp_events.specs.Event.{event_of};
 ghost use Rattle.hp_events.specs.Copies.{AreCopies, AreEvents, bytes_of_event};
+ghost use Rattle.hp_events.specs.Kinds.{is_of_file, is_of_indices, makes_map};
 
 use crate::event::MountEvent;
 use hp_model::bytes::Bytes;
@@ -97,82 +98,6 @@ fn owned(event: &MountEvent<'_>, home: u64, bytes: Bytes) -> SlotEvent
     ensures { result ≡ event_of home event.now }
 {
     match *event {
-        MountEvent::Create { .. } => SlotEvent::Create { name: bytes },
-        MountEvent::Unlink { .. } => SlotEvent::Unlink { name: bytes },
-        MountEvent::Truncate { pages, .. } => SlotEvent::Truncate { name: bytes, pages },
-        MountEvent::Punch { start, end, .. } => SlotEvent::Punch {
-            name: bytes,
-            from: start,
-            to: end,
-        },
-        MountEvent::Preallocate { start, end, .. } => SlotEvent::Preallocate {
-            name: bytes,
-            from: start,
-            to: end,
-        },
-        MountEvent::Stat { .. } => SlotEvent::Stat { name: bytes },
-        MountEvent::Read {
-            index,
-            offset,
-            count,
-            ..
-        } => SlotEvent::Read {
-            name: bytes,
-            index,
-            offset,
-            count,
-        },
-        MountEvent::Map {
-            task,
-            start,
-            pages,
-            sharing,
-            reserving,
-            ..
-        } => SlotEvent::Map {
-            task,
-            home,
-            name: bytes,
-            from: start,
-            pages,
-            sharing,
-            reserving,
-        },
-        MountEvent::Anon {
-            task,
-            pages,
-            sharing,
-            reserving,
-        } => SlotEvent::Anon {
-            task,
-            home,
-            pages,
-            sharing,
-            reserving,
-        },
-        MountEvent::Unmap {
-            task,
-            map,
-            start,
-            end,
-        } => SlotEvent::Unmap {
-            task,
-            map,
-            from: start,
-            to: end,
-        },
-        MountEvent::Fault {
-            task,
-            map,
-            index,
-            intent,
-        } => SlotEvent::Fault {
-            task,
-            home,
-            map,
-            index,
-            intent,
-        },
         MountEvent::Load {
             task,
             map,
@@ -201,7 +126,121 @@ fn owned(event: &MountEvent<'_>, home: u64, bytes: Bytes) -> SlotEvent
             offset,
             bytes,
         },
+        MountEvent::Unmap { .. } | MountEvent::Fault { .. } => owned_indices(event, home),
+        MountEvent::Map { .. } | MountEvent::Anon { .. } => owned_map(event, home, bytes),
         MountEvent::Ls => SlotEvent::Ls,
         MountEvent::Usage => SlotEvent::Df,
+        _ => owned_of_file(event, bytes),
+    }
+}
+
+// The same of an event that names a file and makes no map.
+#[inline(never)]
+fn owned_of_file(event: &MountEvent<'_>, bytes: Bytes) -> SlotEvent
+    requires of_kind { is_of_file event.now ≡ true }
+    requires bytes { bytes ≡ bytes_of_event (event_of 0 event.now) }
+    ensures { (home : ℕ) → result ≡ event_of home event.now }
+{
+    match *event {
+        MountEvent::Create { .. } => SlotEvent::Create { name: bytes },
+        MountEvent::Unlink { .. } => SlotEvent::Unlink { name: bytes },
+        MountEvent::Truncate { pages, .. } => SlotEvent::Truncate { name: bytes, pages },
+        MountEvent::Punch { start, end, .. } => SlotEvent::Punch {
+            name: bytes,
+            from: start,
+            to: end,
+        },
+        MountEvent::Preallocate { start, end, .. } => SlotEvent::Preallocate {
+            name: bytes,
+            from: start,
+            to: end,
+        },
+        MountEvent::Stat { .. } => SlotEvent::Stat { name: bytes },
+        MountEvent::Read {
+            index,
+            offset,
+            count,
+            ..
+        } => SlotEvent::Read {
+            name: bytes,
+            index,
+            offset,
+            count,
+        },
+        _ => unreachable!(),
+    }
+}
+
+// The same of an event that makes a map.
+#[inline(never)]
+fn owned_map(event: &MountEvent<'_>, home: u64, bytes: Bytes) -> SlotEvent
+    requires of_kind { makes_map event.now ≡ true }
+    requires bytes { bytes ≡ bytes_of_event (event_of 0 event.now) }
+    ensures { result ≡ event_of home event.now }
+{
+    match *event {
+        MountEvent::Map {
+            task,
+            start,
+            pages,
+            sharing,
+            reserving,
+            ..
+        } => SlotEvent::Map {
+            task,
+            home,
+            name: bytes,
+            from: start,
+            pages,
+            sharing,
+            reserving,
+        },
+        MountEvent::Anon {
+            task,
+            pages,
+            sharing,
+            reserving,
+        } => SlotEvent::Anon {
+            task,
+            home,
+            pages,
+            sharing,
+            reserving,
+        },
+        _ => unreachable!(),
+    }
+}
+
+// The same of an event that takes indices from a map, or asks for a page at one.
+#[inline(never)]
+fn owned_indices(event: &MountEvent<'_>, home: u64) -> SlotEvent
+    requires { is_of_indices event.now ≡ true }
+    ensures { result ≡ event_of home event.now }
+{
+    match *event {
+        MountEvent::Unmap {
+            task,
+            map,
+            start,
+            end,
+        } => SlotEvent::Unmap {
+            task,
+            map,
+            from: start,
+            to: end,
+        },
+        MountEvent::Fault {
+            task,
+            map,
+            index,
+            intent,
+        } => SlotEvent::Fault {
+            task,
+            home,
+            map,
+            index,
+            intent,
+        },
+        _ => unreachable!(),
     }
 }

@@ -1,6 +1,8 @@
 //! What a step asks of which part.
-ghost use Rattle.std.specs.Prelude.{◌≡◌, ◌*◌, ◌≤◌};
+ghost use Rattle.std.specs.Prelude.{◌≡◌, ◌*◌, ◌≤◌, true};
 ghost use Rattle.hp_model.specs.Profile.{most_slots};
+ghost use Rattle.hp_events.specs.declared.work.Work.TheVariants.{OfTask as OfATask, OnSlot as OnASlot};
+ghost use Rattle.hp_events.specs.Kinds.{IsAccess, IsMapping, names_file, slot_of};
 ghost use Rattle.hp_events.specs.Works.{IsWork, work_receipts};
 
 use crate::event::MountEvent;
@@ -10,30 +12,37 @@ use hp_model::step::Step;
 /// A step, by the part that it asks. Names, options and bytes are the step's own.
 #[derive(Clone, Copy, Drop)]
 pub enum Work<'x> {
+    /// Adds a task whose home is a node.
     Connect {
         task: u64,
         home: u64,
     },
+    /// Looks a task up.
     Attach {
         task: u64,
     },
     /// An event of the pool alone.
     Pool(PoolEvent),
+    /// Adds a task with copies of another's maps, on every slot.
     Fork {
         parent: u64,
         child: u64,
     },
+    /// Removes a task and its maps.
     Exit {
         task: u64,
     },
+    /// Opens a slot with options.
     Mount {
         slot: u64,
         options: &'x [u8],
     },
+    /// Sets a mount's limits by options.
     Remount {
         slot: u64,
         options: &'x [u8],
     },
+    /// Closes a slot without maps, with its files.
     Umount {
         slot: u64,
     },
@@ -59,204 +68,191 @@ pub enum Work<'x> {
 pub fn work_of<'x>(step: &Step<'x>) -> Work<'x>
     ensures { IsWork step.now result }
 {
+    match *step {
+        Step::Connect { task, home } => Work::Connect { task, home },
+        Step::Attach { task } => Work::Attach { task },
+        Step::Fork { parent, child } => Work::Fork { parent, child },
+        Step::Exit { task } => Work::Exit { task },
+        Step::Mount { slot, ref options } => Work::Mount {
+            slot,
+            options: options.as_slice(),
+        },
+        Step::Remount { slot, ref options } => Work::Remount {
+            slot,
+            options: options.as_slice(),
+        },
+        Step::Umount { slot } => Work::Umount { slot },
+        Step::Ls { slot } => Work::Names { slot },
+        Step::Df { slot } => on_slot(slot, MountEvent::Usage),
+        Step::Create { slot, .. }
+        | Step::Unlink { slot, .. }
+        | Step::Truncate { slot, .. }
+        | Step::Punch { slot, .. }
+        | Step::Preallocate { slot, .. }
+        | Step::Read { slot, .. }
+        | Step::Stat { slot, .. } => on_slot(slot, file_event(step)),
+        Step::Map { task, slot, .. } | Step::Unmap { task, slot, .. } => {
+            of_task(task, slot, mapping_event(task, step))
+        }
+        Step::Anon { task, .. } => of_task(task, 0, mapping_event(task, step)),
+        Step::Fault { task, slot, .. }
+        | Step::Load { task, slot, .. }
+        | Step::Store { task, slot, .. } => of_task(task, slot, access_event(task, step)),
+        Step::Nr { pages } => Work::Pool(PoolEvent::Nr { pages }),
+        Step::Overcommit { pages } => Work::Pool(PoolEvent::Overcommit { pages }),
+        Step::Meminfo => Work::Pool(PoolEvent::Meminfo),
+        Step::Nodes => Work::Pool(PoolEvent::Nodes),
+    }
+}
+
+#[inline(always)]
+fn on_slot(slot: u64, event: MountEvent<'_>) -> Work<'_>
+    ensures { result ≡ OnASlot slot event.entry }
+{
+    Work::OnSlot { slot, event }
+}
+
+#[inline(always)]
+fn of_task(task: u64, slot: u64, event: MountEvent<'_>) -> Work<'_>
+    ensures { result ≡ OfATask task slot event.entry }
+{
+    Work::OfTask { task, slot, event }
+}
+
+// What a step asks of a file that it names.
+#[inline(always)]
+fn file_event<'x>(step: &Step<'x>) -> MountEvent<'x>
+    requires { names_file step.now ≡ true }
+    ensures { IsWork step.now (OnASlot (slot_of step.now) result) }
+{
     match step {
-        Step::Connect { task, home } => Work::Connect {
-            task: *task,
-            home: *home,
+        Step::Create { name, .. } => MountEvent::Create {
+            name: name.as_slice(),
         },
-        Step::Attach { task } => Work::Attach { task: *task },
-        Step::Fork { parent, child } => Work::Fork {
-            parent: *parent,
-            child: *child,
+        Step::Unlink { name, .. } => MountEvent::Unlink {
+            name: name.as_slice(),
         },
-        Step::Exit { task } => Work::Exit { task: *task },
-        Step::Mount { slot, options } => Work::Mount {
-            slot: *slot,
-            options: options.as_slice(),
+        Step::Truncate { name, pages, .. } => MountEvent::Truncate {
+            name: name.as_slice(),
+            pages: *pages,
         },
-        Step::Remount { slot, options } => Work::Remount {
-            slot: *slot,
-            options: options.as_slice(),
+        Step::Punch { name, from, to, .. } => MountEvent::Punch {
+            name: name.as_slice(),
+            start: *from,
+            end: *to,
         },
-        Step::Umount { slot } => Work::Umount { slot: *slot },
-        Step::Create { slot, name } => Work::OnSlot {
-            slot: *slot,
-            event: MountEvent::Create {
-                name: name.as_slice(),
-            },
-        },
-        Step::Unlink { slot, name } => Work::OnSlot {
-            slot: *slot,
-            event: MountEvent::Unlink {
-                name: name.as_slice(),
-            },
-        },
-        Step::Truncate { slot, name, pages } => Work::OnSlot {
-            slot: *slot,
-            event: MountEvent::Truncate {
-                name: name.as_slice(),
-                pages: *pages,
-            },
-        },
-        Step::Punch {
-            slot,
-            name,
-            from,
-            to,
-        } => Work::OnSlot {
-            slot: *slot,
-            event: MountEvent::Punch {
-                name: name.as_slice(),
-                start: *from,
-                end: *to,
-            },
-        },
-        Step::Preallocate {
-            slot,
-            name,
-            from,
-            to,
-        } => Work::OnSlot {
-            slot: *slot,
-            event: MountEvent::Preallocate {
-                name: name.as_slice(),
-                start: *from,
-                end: *to,
-            },
+        Step::Preallocate { name, from, to, .. } => MountEvent::Preallocate {
+            name: name.as_slice(),
+            start: *from,
+            end: *to,
         },
         Step::Read {
-            slot,
             name,
             index,
             offset,
             count,
-        } => Work::OnSlot {
-            slot: *slot,
-            event: MountEvent::Read {
-                name: name.as_slice(),
-                index: *index,
-                offset: *offset,
-                count: *count,
-            },
+            ..
+        } => MountEvent::Read {
+            name: name.as_slice(),
+            index: *index,
+            offset: *offset,
+            count: *count,
         },
-        Step::Ls { slot } => Work::Names { slot: *slot },
-        Step::Stat { slot, name } => Work::OnSlot {
-            slot: *slot,
-            event: MountEvent::Stat {
-                name: name.as_slice(),
-            },
+        Step::Stat { name, .. } => MountEvent::Stat {
+            name: name.as_slice(),
         },
+        _ => unreachable!(),
+    }
+}
+
+// What a task's step asks for that makes a map, or takes indices from one.
+#[inline(always)]
+fn mapping_event<'x>(task: u64, step: &Step<'x>) -> MountEvent<'x>
+    requires { IsMapping task step.now }
+    ensures { IsWork step.now (OfATask task (slot_of step.now) result) }
+{
+    match *step {
         Step::Map {
-            task,
-            slot,
-            name,
+            ref name,
             from,
             pages,
             sharing,
             reserving,
-        } => Work::OfTask {
-            task: *task,
-            slot: *slot,
-            event: MountEvent::Map {
-                task: *task,
-                name: name.as_slice(),
-                start: *from,
-                pages: *pages,
-                sharing: *sharing,
-                reserving: *reserving,
-            },
+            ..
+        } => MountEvent::Map {
+            task,
+            name: name.as_slice(),
+            start: from,
+            pages,
+            sharing,
+            reserving,
         },
         Step::Anon {
+            pages,
+            sharing,
+            reserving,
+            ..
+        } => MountEvent::Anon {
             task,
             pages,
             sharing,
             reserving,
-        } => Work::OfTask {
-            task: *task,
-            slot: 0,
-            event: MountEvent::Anon {
-                task: *task,
-                pages: *pages,
-                sharing: *sharing,
-                reserving: *reserving,
-            },
         },
-        Step::Unmap {
+        Step::Unmap { map, from, to, .. } => MountEvent::Unmap {
             task,
-            slot,
             map,
-            from,
-            to,
-        } => Work::OfTask {
-            task: *task,
-            slot: *slot,
-            event: MountEvent::Unmap {
-                task: *task,
-                map: *map,
-                start: *from,
-                end: *to,
-            },
+            start: from,
+            end: to,
         },
+        _ => unreachable!(),
+    }
+}
+
+// What a task's step asks of a map at an index.
+#[inline(always)]
+fn access_event<'x>(task: u64, step: &Step<'x>) -> MountEvent<'x>
+    requires { IsAccess task step.now }
+    ensures { IsWork step.now (OfATask task (slot_of step.now) result) }
+{
+    match *step {
         Step::Fault {
-            task,
-            slot,
             map,
             index,
             intent,
-        } => Work::OfTask {
-            task: *task,
-            slot: *slot,
-            event: MountEvent::Fault {
-                task: *task,
-                map: *map,
-                index: *index,
-                intent: *intent,
-            },
+            ..
+        } => MountEvent::Fault {
+            task,
+            map,
+            index,
+            intent,
         },
         Step::Load {
-            task,
-            slot,
             map,
             index,
             offset,
             count,
-        } => Work::OfTask {
-            task: *task,
-            slot: *slot,
-            event: MountEvent::Load {
-                task: *task,
-                map: *map,
-                index: *index,
-                offset: *offset,
-                count: *count,
-            },
-        },
-        Step::Store {
+            ..
+        } => MountEvent::Load {
             task,
-            slot,
             map,
             index,
             offset,
-            bytes,
-        } => Work::OfTask {
-            task: *task,
-            slot: *slot,
-            event: MountEvent::Store {
-                task: *task,
-                map: *map,
-                index: *index,
-                offset: *offset,
-                bytes: bytes.as_slice(),
-            },
+            count,
         },
-        Step::Nr { pages } => Work::Pool(PoolEvent::Nr { pages: *pages }),
-        Step::Overcommit { pages } => Work::Pool(PoolEvent::Overcommit { pages: *pages }),
-        Step::Meminfo => Work::Pool(PoolEvent::Meminfo),
-        Step::Nodes => Work::Pool(PoolEvent::Nodes),
-        Step::Df { slot } => Work::OnSlot {
-            slot: *slot,
-            event: MountEvent::Usage,
+        Step::Store {
+            map,
+            index,
+            offset,
+            ref bytes,
+            ..
+        } => MountEvent::Store {
+            task,
+            map,
+            index,
+            offset,
+            bytes: bytes.as_slice(),
         },
+        _ => unreachable!(),
     }
 }
 

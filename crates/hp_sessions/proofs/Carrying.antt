@@ -20,8 +20,9 @@ use Rattle.hp_model.specs.machine.Table.{Table, home_of, when_known}
 use Rattle.hp_model.specs.threads.JointRun.{option_cons}
 use Rattle.hp_model.specs.threads.Telling.{Tells, TellsFront, TellsStep, has_place, most_receipts, told_of}
 use Rattle.hp_shared.specs.Slots.{is_trace_full}
-use Rattle.hp_sessions.specs.Calls.{AreAdded, AreAnswers, CanAnswer, Carries, Grows, HasReceiptRoom, HasRoomFor, IsCallAnswered, IsHanded, IsMade, IsRefusedFirst}
-use Rattle.hp_sessions.specs.Calls.{IsToldByReceipts, IsToldOf, Leads, SessionView, TellsOrStops, noted}
+use Rattle.hp_entering.specs.Handed.{CanAnswer, IsHanded, IsToldOf}
+use Rattle.hp_sessions.specs.Calls.{AreAdded, AreAnswers, Carries, Grows, HasReceiptRoom, HasRoomFor, IsCallAnswered, IsMade, IsRefusedFirst}
+use Rattle.hp_sessions.specs.Calls.{IsToldByReceipts, Leads, SessionView, TellsOrStops, noted}
 
 -- ---- cases of a test
 

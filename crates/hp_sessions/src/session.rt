@@ -4,12 +4,12 @@ ghost use Rattle.hp_model.specs.threads.JointRun.{option_cons};
 ghost use Rattle.hp_model.specs.Profile.{most_page_bytes};
 ghost use Rattle.hp_sessions.specs.Calls.{noted};
 
-mod entering;
 mod forking;
 mod making;
 mod service;
 mod steps;
 
+use hp_entering::Entrance;
 use hp_locked::Gate;
 use hp_model::entry::Receipt;
 use hp_model::naming::Naming;
@@ -24,9 +24,7 @@ use std::sync::Wait;
 /// that is made as it opens. `finish` hands them out.
 #[derive(Drop)]
 pub struct Session<'a, N: Naming, R: Wait, G: Gate, const K: usize> {
-    rt: &'a R,
-    gate: &'a G,
-    shared: &'a Shared<N, K>,
+    entrance: Entrance<'a, N, R, G, K>,
     receipts: Vec<Receipt>,
     room: usize,
 }
@@ -38,7 +36,7 @@ impl<'a, N: Naming, R: Wait, G: Gate, const K: usize> Model for Session<'a, N, R
     ghost Value = { SessionView };
 
     ghost view = { λ s. record {
-      slots = s.shared.now.slots;
+      slots = s.entrance.slots;
       receipts = s.receipts.items;
       room = s.room;
     } };
@@ -65,9 +63,7 @@ impl<'a, N: Naming, R: Wait, G: Gate, const K: usize> Session<'a, N, R, G, K> {
         let room = if K == 1 { room } else { 0 };
         receipts.reserve(room)?;
         Ok(Session {
-            rt,
-            gate,
-            shared,
+            entrance: Entrance::new(rt, gate, shared),
             receipts,
             room,
         })

@@ -1,0 +1,74 @@
+-- Kinds of steps and of events of a mount.
+use Rattle.std.specs.Prelude.{◌≡◌, ℕ, Bool, true, false}
+use Rattle.hp_model.specs.declared.step.Step.{Step}
+use Rattle.hp_model.specs.declared.step.Step.TheVariants as step
+use Rattle.hp_events.specs.declared.event.MountEvent.{MountEvent}
+use Rattle.hp_events.specs.declared.event.MountEvent.TheVariants.{Anon, Create, Fault, Map, Preallocate, Punch, Read, Stat, Truncate, Unlink, Unmap}
+
+-- ---- steps
+
+-- the slot that a step is on; a map without name is made on slot 0
+abbrev pub slot_of : Step → ℕ
+slot_of (step.Create k name) = k
+slot_of (step.Unlink k name) = k
+slot_of (step.Truncate k name pages) = k
+slot_of (step.Punch k name a b) = k
+slot_of (step.Preallocate k name a b) = k
+slot_of (step.Read k name i offset count) = k
+slot_of (step.Stat k name) = k
+slot_of (step.Map task k name a pages sharing reserving) = k
+slot_of (step.Unmap task k number a b) = k
+slot_of (step.Fault task k number i intent) = k
+slot_of (step.Load task k number i offset count) = k
+slot_of (step.Store task k number i offset bytes) = k
+slot_of other = 0
+
+-- it asks something of a file by its name
+abbrev pub names_file : Step → Bool
+names_file (step.Create k name) = true
+names_file (step.Unlink k name) = true
+names_file (step.Truncate k name pages) = true
+names_file (step.Punch k name a b) = true
+names_file (step.Preallocate k name a b) = true
+names_file (step.Read k name i offset count) = true
+names_file (step.Stat k name) = true
+names_file other = false
+
+-- it makes a map for this task, or takes indices from one
+abbrev pub IsMapping : (task : ℕ) → Step → Type 0
+IsMapping t (step.Map task k name a pages sharing reserving) = t ≡ task
+IsMapping t (step.Anon task pages sharing reserving) = t ≡ task
+IsMapping t (step.Unmap task k number a b) = t ≡ task
+IsMapping t other = ⊥
+
+-- it asks for an index of a map of this task
+abbrev pub IsAccess : (task : ℕ) → Step → Type 0
+IsAccess t (step.Fault task k number i intent) = t ≡ task
+IsAccess t (step.Load task k number i offset count) = t ≡ task
+IsAccess t (step.Store task k number i offset bytes) = t ≡ task
+IsAccess t other = ⊥
+
+-- ---- events
+
+-- it makes a map
+abbrev pub makes_map : MountEvent → Bool
+makes_map (Map task name start pages sharing reserving) = true
+makes_map (Anon task pages sharing reserving) = true
+makes_map other = false
+
+-- it takes indices from a map, or asks for a page at one
+abbrev pub is_of_indices : MountEvent → Bool
+is_of_indices (Unmap task map start end) = true
+is_of_indices (Fault task map index intent) = true
+is_of_indices other = false
+
+-- it names a file, and makes no map
+abbrev pub is_of_file : MountEvent → Bool
+is_of_file (Create name) = true
+is_of_file (Unlink name) = true
+is_of_file (Truncate name pages) = true
+is_of_file (Punch name start end) = true
+is_of_file (Preallocate name start end) = true
+is_of_file (Stat name) = true
+is_of_file (Read name index offset count) = true
+is_of_file other = false
