@@ -26,33 +26,17 @@ use Rattle.hp_model.specs.files.Spot.{Spot, again, written, file_written, cell_w
 use Rattle.hp_model.specs.declared.step.Intent.{Intent}
 use Rattle.hp_model.specs.declared.step.Intent.TheVariants.{Read, Write}
 use Rattle.hp_lookup.specs.declared.map_place.MapPlace.{MapPlace}
-use Rattle.hp_mount.specs.Done.{Enters, IsAccessed, Tried}
-use Rattle.hp_mount.specs.Found.{IsPlaced, IsTouched, first_of, spot_at, spot_of, tests_of, why_not, with_place_at}
+use Rattle.hp_mount_laws.specs.Done.{Enters, IsAccessed, Tried}
+use Rattle.hp_mount.specs.Found.{IsPlaced, spot_of, tests_of, why_not}
+use Rattle.hp_mount_laws.specs.Reach.{IsTouched, first_of, spot_at, with_place_at}
 use Rattle.hp_mount.specs.declared.mount.reach.Asked.{Asked}
 use Rattle.hp_mount.specs.declared.mount.reach.Asked.TheVariants.{Page, Bytes}
 use Rattle.hp_mount.specs.declared.mount.reach.MapAccess.{MapAccess}
 use Rattle.hp_model.specs.files.Value.{value}
 use Rattle.hp_model.specs.Profile.{most_bytes}
 use Rattle.hp_model.specs.files.Reserved.{is_reserved}
-use Rattle.hp_mount.proofs.Ways.{fresh_choice, is_fresh, refused_at, then_enters, then_refused}
-
--- ---- tests
-
-pub tests_pass : (ts : List (Bool × Refusal)) (p : Plan) → first_of ts ≡ None → unless ts p ≡ p
-tests_pass [] p e = refl
-tests_pass (t ∷ ts) p e = passes t.0 e (tests_pass ts p)
-  where
-    passes : (b : Bool) → cond b (Some t.1) (first_of ts) ≡ None → (first_of ts ≡ None → unless ts p ≡ p) → cond b (refuse t.1) (unless ts p) ≡ p
-    passes true e rest = cc
-    passes false e rest = rest e
-
-pub tests_fail : (ts : List (Bool × Refusal)) (p : Plan) (e : Refusal) → first_of ts ≡ Some e → unless ts p ≡ refuse e
-tests_fail [] p x e = cc
-tests_fail (t ∷ ts) p x e = fails t.0 e (tests_fail ts p x)
-  where
-    fails : (b : Bool) → cond b (Some t.1) (first_of ts) ≡ Some x → (first_of ts ≡ Some x → unless ts p ≡ refuse x) → cond b (refuse t.1) (unless ts p) ≡ refuse x
-    fails true e rest = (let same : t.1 ≡ x = cc in ap refuse same)
-    fails false e rest = rest e
+use Rattle.hp_mount_laws.proofs.Trying.{tests_fail, tests_pass}
+use Rattle.hp_mount_laws.proofs.Ways.{fresh_choice, is_fresh, refused_at, then_enters, then_refused}
 
 -- ---- why an access does not begin
 
@@ -212,14 +196,6 @@ again_is m n file map fl ml t =
 pub shared_is : (c : Choice) (size : ℕ) (m : Mount) (s : Spot) (home i : ℕ) (intent : Intent) → is_shared s.map.sharing ≡ true →
     access c size m s home i intent ≡ shared_access c size m s home i (cell_at s.file i)
 shared_is c size m s home i intent e = ap (λ b. cond b (shared_access c size m s home i (cell_at s.file i)) (private_access c size m s home i (place_at s.map i) intent)) e
-
--- plans that are the same at each choice
-pub tried_as : {X : Type 0} (took : X → Section → PoolAnswer → X → Type 0) (full : X → Type 0) (p q : Choice → Plan) → ((c : Choice) → p c ≡ q c) →
-    (old : Slot) (door : X) (reply : Reply) (new : Slot) (left : X) → Tried took full p old door reply new left →
-    Tried took full q old door reply new left
-tried_as took full p q same old door (Err r.TraceFull) new left h = (h.0, h.1, (h.2.0, h.2.1, subst Enters (same h.2.0) h.2.2))
-tried_as took full p q same old door (Ok a) new left h = (h.0, h.1, subst (λ x. ThroughDoor took x old door (Ok a) new left) (same h.0) h.2)
-tried_as took full p q same old door (Err other) new left h = (h.0, h.1, subst (λ x. ThroughDoor took x old door (Err other) new left) (same h.0) h.2)
 
 -- ---- what a store through a shared map writes
 

@@ -21,10 +21,10 @@ use Rattle.hp_mount_door.specs.Door.{with_granted, with_page}
 use Rattle.hp_lookup.specs.Dropping.{IsLeft}
 use Rattle.hp_lookup.specs.Files.{Files, copied_at, file_at, parted_at, taken_back_at}
 use Rattle.hp_file.specs.States.{AreAgreed}
-use Rattle.hp_mount.specs.Found.{has_reserve, with_place_at}
-use Rattle.hp_mount.specs.Kept.{IsKept, mount_of}
-use Rattle.hp_mount.proofs.Keeping.{grown, grows, mount_left}
-use Rattle.hp_mount.proofs.Ways.{fresh_choice, is_fresh}
+use Rattle.hp_mount_laws.specs.Reach.{has_reserve, with_place_at}
+use Rattle.hp_mount_laws.specs.Kept.{IsKept, mount_of}
+use Rattle.hp_mount_laws.proofs.Keeping.{grown, grows, mount_left}
+use Rattle.hp_mount_laws.proofs.Ways.{fresh_choice, is_fresh}
 use Rattle.hp_subpool.specs.Subpool.{Subpool, used}
 
 -- a stamp that no file holds

@@ -26,12 +26,12 @@ use Rattle.hp_laws.proofs.lists.NodesOf.{length-nodes_of}
 use Rattle.hp_mount_door.specs.Filling.{with_filled}
 use Rattle.hp_lookup.specs.Files.{Files, file_at}
 use Rattle.hp_file.specs.Filling.{IsTaking, pages_at}
-use Rattle.hp_mount.specs.Done.{Enters, Through, Tried}
-use Rattle.hp_mount.specs.Found.{first_of}
-use Rattle.hp_mount.specs.Kept.{IsKept, mount_of}
-use Rattle.hp_mount.proofs.Commands.{tests_fail, tests_pass, tried_as}
-use Rattle.hp_mount.proofs.Keeping.{mount_left}
-use Rattle.hp_mount.proofs.Ways.{fresh_choice, is_fresh, refused_at}
+use Rattle.hp_mount_laws.specs.Done.{Enters, Through, Tried}
+use Rattle.hp_mount_laws.specs.Reach.{first_of}
+use Rattle.hp_mount_laws.specs.Kept.{IsKept, mount_of}
+use Rattle.hp_mount_laws.proofs.Trying.{tests_fail, tests_pass, tried_as}
+use Rattle.hp_mount_laws.proofs.Keeping.{mount_left}
+use Rattle.hp_mount_laws.proofs.Ways.{fresh_choice, is_fresh, refused_at}
 use Rattle.hp_subpool.specs.Subpool as share
 use Rattle.hp_subpool.specs.Subpool.{Subpool, used}
 

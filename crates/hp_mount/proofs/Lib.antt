@@ -1,17 +1,3 @@
-pub mod Ways
-pub mod Replies
-pub mod Keeping
-pub mod Shared
-pub mod Private
-pub mod Copying
-pub mod Commands
-pub mod Shown
-pub mod Looking
-pub mod Making
-pub mod NameBytes
-pub mod Ending
-pub mod Giving
-pub mod Remounting
-pub mod Leaving
-pub mod Forking
-pub mod Filling
+mod Commands
+mod Copying
+mod Filling

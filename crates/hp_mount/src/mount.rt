@@ -13,10 +13,10 @@ ghost use Rattle.hp_model.specs.Profile.{most_bytes};
 ghost use Rattle.hp_store.specs.Batch.{Batch as BatchValue};
 ghost use Rattle.hp_store.specs.Store.{Store as StoreValue, page_at};
 ghost use Rattle.hp_subpool.specs.Subpool.{Subpool as ShareValue};
-ghost use Rattle.hp_mount.specs.Alone.{IsDoneAlone};
-ghost use Rattle.hp_mount.specs.Done.{IsDone};
+ghost use Rattle.hp_mount_laws.specs.Alone.{IsDoneAlone};
+ghost use Rattle.hp_mount_laws.specs.Done.{IsDone};
 ghost use Rattle.hp_events.specs.Event.{event_of, is_usage, shows_bytes};
-ghost use Rattle.hp_mount.specs.Kept.{mount_of};
+ghost use Rattle.hp_mount_laws.specs.Kept.{mount_of};
 ghost use Rattle.hp_events.specs.Memory.{asks_memory};
 
 mod contents;
@@ -58,7 +58,7 @@ pub struct Mount<N: Naming> {
 
 impl<N: Naming> Model for Mount<N> {
     ghost use Rattle.hp_model.specs.files.File.{Mount as MountValue};
-    ghost use Rattle.hp_mount.specs.Kept.{IsKept, mount_of};
+    ghost use Rattle.hp_mount_laws.specs.Kept.{IsKept, mount_of};
 
     ghost Value = { MountValue };
 

@@ -20,9 +20,9 @@ use Rattle.hp_laws.proofs.promises.SmallReplies.{Small, slot_small, tells_all}
 use Rattle.hp_locked.specs.Views.{Asks}
 use Rattle.hp_events.specs.declared.event.MountEvent.{MountEvent}
 use Rattle.hp_events.specs.declared.event.MountEvent.TheVariants as m
-use Rattle.hp_mount.specs.Done.{IsDone, Through}
+use Rattle.hp_mount_laws.specs.Done.{IsDone, Through}
 use Rattle.hp_events.specs.Event.{event_of, is_usage}
-use Rattle.hp_mount.proofs.Ways.{fresh_choice, is_fresh}
+use Rattle.hp_mount_laws.proofs.Ways.{fresh_choice, is_fresh}
 use Rattle.hp_shared.specs.Slots.{IsActedOr, Went}
 
 -- a door that was not used tells what it was asked

@@ -10,8 +10,8 @@ use Rattle.hp_model.specs.files.File.{File, Mount}
 use Rattle.hp_model.specs.beside.Copying.{has_names}
 use Rattle.hp_model.specs.machine.Plan.{Answered, Finish, Outcome, Refused, Reply, Slot, refuse}
 use Rattle.hp_model.specs.threads.LocalRun.{Gives, Goes}
-use Rattle.hp_mount.specs.Alone.{IsDoneAlone}
-use Rattle.hp_mount.proofs.Ways.{fresh_choice, is_fresh}
+use Rattle.hp_mount_laws.specs.Alone.{IsDoneAlone}
+use Rattle.hp_mount_laws.proofs.Ways.{fresh_choice, is_fresh}
 use Rattle.hp_shared.specs.Slots.{Went}
 
 pub went_alone : (size k : ℕ) (old : Slot) (e : SlotEvent) (reply : Reply) (new : Slot) → IsDoneAlone size k old e reply new → Went size k old e reply None new

@@ -22,7 +22,7 @@ use Rattle.hp_locked.specs.Told.{IsReceipt}
 use Rattle.hp_events.specs.declared.event.MountEvent.{MountEvent}
 use Rattle.hp_events.specs.declared.event.MountEvent.TheVariants as m
 use Rattle.hp_model.specs.declared.refusal.Refusal.TheVariants as r
-use Rattle.hp_mount.specs.Done.{MayEnter}
+use Rattle.hp_mount_laws.specs.Done.{MayEnter}
 use Rattle.hp_events.specs.Event.{event_of}
 use Rattle.hp_shared.proofs.Acting.{always_goes}
 use Rattle.hp_shared.proofs.Places.{has_closing, places_after}

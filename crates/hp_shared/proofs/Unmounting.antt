@@ -17,8 +17,8 @@ use Rattle.hp_model.specs.machine.SlotEvent.{has_maps, mount_outcome, mount_page
 use Rattle.hp_model.specs.threads.LocalRun.{Gives, Goes, ThroughDoor}
 use Rattle.hp_locked.specs.Opened.{IsOpenedAt, IsShareOf, shown}
 use Rattle.hp_locked.specs.Views.{Asks}
-use Rattle.hp_mount.specs.Kept.{mount_of}
-use Rattle.hp_mount.proofs.Ways.{fresh_choice, is_fresh}
+use Rattle.hp_mount_laws.specs.Kept.{mount_of}
+use Rattle.hp_mount_laws.proofs.Ways.{fresh_choice, is_fresh}
 use Rattle.hp_subpool.specs.Subpool.{Subpool, opened}
 use Rattle.hp_shared.specs.Slots.{IsActedOr, Went}
 use Rattle.hp_shared.proofs.Acting.{acted_or}

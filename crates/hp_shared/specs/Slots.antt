@@ -19,7 +19,7 @@ use Rattle.hp_model.specs.threads.Closing.{to_exit}
 use Rattle.hp_model.specs.threads.LocalRun.{Goes, IsLocalRun}
 use Rattle.hp_locked.specs.Told.{IsReceipt}
 use Rattle.hp_locked.specs.Views.{HasPlaces}
-use Rattle.hp_mount.specs.Done.{MayEnter}
+use Rattle.hp_mount_laws.specs.Done.{MayEnter}
 use Rattle.hp_trail.specs.Keeping.{has_room, with_entry}
 
 abbrev pub is_trace_full : Reply → Bool

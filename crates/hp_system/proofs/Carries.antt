@@ -23,7 +23,7 @@ use Rattle.hp_laws.proofs.settled.StaysSettled.{pool_is_tied, event_settled}
 use Rattle.hp_laws.proofs.steps.Tells.{Tells, slot_event_tells}
 use Rattle.hp_events.specs.declared.event.MountEvent.{MountEvent}
 use Rattle.hp_events.specs.declared.event.MountEvent.TheVariants as event
-use Rattle.hp_mount.specs.Done.{Tried}
+use Rattle.hp_mount_laws.specs.Done.{Tried}
 use Rattle.hp_events.specs.Event.{event_of}
 use Rattle.hp_mount_door.specs.Door.{IsReady as IsReadyPool}
 use Rattle.hp_system.specs.Event.{IsCarried, took}

@@ -8,7 +8,7 @@ ghost use Rattle.hp_model.specs.machine.Promises.{file_in, map_in};
 ghost use Rattle.hp_model.specs.files.Spot.{cell_written, place_written};
 ghost use Rattle.hp_lookup.specs.declared.copy_state.CopyState.TheVariants as CopyState;
 ghost use Rattle.hp_file.specs.States.{IsCopyState};
-ghost use Rattle.hp_mount.specs.Found.{with_place_at};
+ghost use Rattle.hp_mount_laws.specs.Reach.{with_place_at};
 
 use super::Mount;
 use hp_model::naming::Naming;

@@ -8,8 +8,8 @@ ghost use Rattle.hp_store.specs.Store.{Store as StoreValue};
 ghost use Rattle.hp_subpool.specs.Subpool.{Subpool as ShareValue};
 ghost use Rattle.hp_events.specs.Event.{event_of, shows_bytes};
 ghost use Rattle.hp_events.specs.Memory.{asks_memory};
-ghost use Rattle.hp_mount.specs.Done.{IsDone};
-ghost use Rattle.hp_mount.specs.Maps.{is_of_map};
+ghost use Rattle.hp_mount_laws.specs.Done.{IsDone};
+ghost use Rattle.hp_mount_laws.specs.Maps.{is_of_map};
 
 use super::Mount;
 use super::reach::MapAccess;

@@ -8,8 +8,8 @@ ghost use Rattle.hp_model.specs.machine.SlotEvent.{fill, preallocate_tests};
 ghost use Rattle.hp_model.specs.Profile.{most_file_pages};
 ghost use Rattle.hp_store.specs.Batch.{Batch as BatchValue};
 ghost use Rattle.hp_subpool.specs.Subpool.{Subpool as ShareValue};
-ghost use Rattle.hp_mount.specs.Done.{IsDone, Tried};
-ghost use Rattle.hp_mount.specs.Found.{first_of};
+ghost use Rattle.hp_mount_laws.specs.Done.{IsDone, Tried};
+ghost use Rattle.hp_mount_laws.specs.Reach.{first_of};
 
 use super::Mount;
 use hp_model::naming::Naming;

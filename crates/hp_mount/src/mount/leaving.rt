@@ -10,7 +10,7 @@ ghost use Rattle.hp_model.specs.beside.Accesses.{done_reply};
 ghost use Rattle.hp_store.specs.Store.{Store as StoreValue};
 ghost use Rattle.hp_subpool.specs.Subpool.{Subpool as ShareValue};
 ghost use Rattle.hp_lookup.specs.Places.{IsFirstTask};
-ghost use Rattle.hp_mount.specs.Done.{IsDone};
+ghost use Rattle.hp_mount_laws.specs.Done.{IsDone};
 
 use super::Mount;
 use hp_model::naming::Naming;

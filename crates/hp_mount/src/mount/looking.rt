@@ -10,8 +10,8 @@ ghost use Rattle.hp_model.specs.machine.SlotEvent.{read_tests};
 ghost use Rattle.hp_model.specs.beside.Told.{told_reply};
 ghost use Rattle.hp_model.specs.text.Writing.{IsWithinLimits};
 ghost use Rattle.hp_model.specs.Profile.{most_bytes};
-ghost use Rattle.hp_mount.specs.Alone.{IsDoneAlone};
-ghost use Rattle.hp_mount.specs.Found.{first_of};
+ghost use Rattle.hp_mount_laws.specs.Alone.{IsDoneAlone};
+ghost use Rattle.hp_mount_laws.specs.Reach.{first_of};
 
 use super::Mount;
 use super::contents::{bytes_of, zeros_of};

@@ -14,10 +14,10 @@ ghost use Rattle.hp_model.specs.machine.Promises.{file_in};
 ghost use Rattle.hp_model.specs.machine.SlotEvent.{file_named, is_name, is_name_byte};
 ghost use Rattle.hp_model.specs.beside.Told.{map_reply};
 ghost use Rattle.hp_subpool.specs.Subpool.{Subpool as ShareValue};
-ghost use Rattle.hp_mount.specs.Alone.{IsDoneAlone};
-ghost use Rattle.hp_mount.specs.Done.{Tried, IsDone};
-ghost use Rattle.hp_mount.specs.Found.{first_of};
-ghost use Rattle.hp_mount.specs.Making.{anon_plan, create_tests, map_event, map_plan, numbered, why_no_anon, why_no_map};
+ghost use Rattle.hp_mount_laws.specs.Alone.{IsDoneAlone};
+ghost use Rattle.hp_mount_laws.specs.Done.{Tried, IsDone};
+ghost use Rattle.hp_mount_laws.specs.Reach.{first_of};
+ghost use Rattle.hp_mount_laws.specs.Making.{anon_plan, create_tests, map_event, map_plan, numbered, why_no_anon, why_no_map};
 
 use super::Mount;
 use hp_model::naming::Naming;

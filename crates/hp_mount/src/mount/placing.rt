@@ -4,7 +4,8 @@ ghost use Rattle.hp_model.specs.files.Mapping.{is_live, place_at};
 ghost use Rattle.hp_model.specs.machine.SlotEvent.{byte_tests, fault_tests};
 ghost use Rattle.hp_model.specs.machine.Promises.{file_in, map_in};
 ghost use Rattle.hp_model.specs.Profile.{most_bytes};
-ghost use Rattle.hp_mount.specs.Found.{Fits, IsPlaced, first_of, spot_at, tests_of, why_not};
+ghost use Rattle.hp_mount.specs.Found.{Fits, IsPlaced, tests_of, why_not};
+ghost use Rattle.hp_mount_laws.specs.Reach.{first_of, spot_at};
 
 use super::Mount;
 use super::reach::{Asked, MapAccess};

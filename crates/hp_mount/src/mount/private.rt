@@ -12,8 +12,8 @@ ghost use Rattle.hp_lookup.specs.Files.{file_at};
 ghost use Rattle.hp_lookup.specs.Places.{shown_at};
 ghost use Rattle.hp_file.specs.States.{AreAgreed, IsCopyState};
 ghost use Rattle.hp_subpool.specs.Subpool.{Subpool as ShareValue};
-ghost use Rattle.hp_mount.specs.Done.{IsAccessed};
-ghost use Rattle.hp_mount.specs.Found.{IsTouched, NeedsCopy, has_reserve, shows_page as is_shown, spot_at};
+ghost use Rattle.hp_mount_laws.specs.Done.{IsAccessed};
+ghost use Rattle.hp_mount_laws.specs.Reach.{IsTouched, NeedsCopy, has_reserve, shows_page as is_shown, spot_at};
 
 use super::Mount;
 use hp_model::naming::Naming;

@@ -13,8 +13,9 @@ ghost use Rattle.hp_model.specs.Profile.{most_bytes};
 ghost use Rattle.hp_lookup.specs.declared.copy_state.CopyState.TheVariants as CopyState;
 ghost use Rattle.hp_file.specs.States.{IsCopyState};
 ghost use Rattle.hp_subpool.specs.Subpool.{Subpool as ShareValue};
-ghost use Rattle.hp_mount.specs.Done.{IsAccessed, IsDone, IsReached};
-ghost use Rattle.hp_mount.specs.Found.{IsTouched, spot_at, spot_of};
+ghost use Rattle.hp_mount_laws.specs.Done.{IsAccessed, IsDone, IsReached};
+ghost use Rattle.hp_mount_laws.specs.Reach.{IsTouched, spot_at};
+ghost use Rattle.hp_mount.specs.Found.{spot_of};
 
 use super::Mount;
 use hp_model::naming::Naming;

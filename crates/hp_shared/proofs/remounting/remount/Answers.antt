@@ -4,7 +4,7 @@ use Rattle.hp_model.specs.declared.event.SlotEvent.TheVariants.{Remount}
 use Rattle.hp_model.specs.declared.refusal.Refusal.TheVariants.{NoSuchSlot, SlotTaken}
 use Rattle.hp_model.specs.machine.Plan.{Reply, Slot}
 use Rattle.hp_model.specs.beside.Told.{told_reply}
-use Rattle.hp_mount.specs.Done.{IsDone}
+use Rattle.hp_mount_laws.specs.Done.{IsDone}
 use Rattle.hp_shared.specs.Slots.{IsActedOr}
 use Rattle.hp_shared.proofs.Acting.{acted_or}
 use Rattle.hp_shared.proofs.Unmounting.{limits_first, limits_none}

@@ -3,11 +3,11 @@ use Rattle.hp_model.specs.declared.answer.Answer.TheVariants.{MapNo}
 use Rattle.hp_model.specs.files.File.{Mount, new_file}
 use Rattle.hp_model.specs.files.MakeMap.{with_new}
 use Rattle.hp_lookup.specs.Asking.{with_range}
-use Rattle.hp_mount.specs.Done.{Tried}
-use Rattle.hp_mount.specs.Kept.{mount_of}
-use Rattle.hp_mount.specs.Making.{anon_plan}
-use Rattle.hp_mount.proofs.Keeping.{anon_kept, anon_left, full_as, rise_as, room_left}
-use Rattle.hp_mount.proofs.Making.{asked_share, grant_denied, grant_full, grant_given}
+use Rattle.hp_mount_laws.specs.Done.{Tried}
+use Rattle.hp_mount_laws.specs.Kept.{mount_of}
+use Rattle.hp_mount_laws.specs.Making.{anon_plan}
+use Rattle.hp_mount_laws.proofs.Keeping.{anon_kept, anon_left, full_as, rise_as, room_left}
+use Rattle.hp_mount_laws.proofs.Making.{asked_share, grant_denied, grant_full, grant_given}
 use Rattle.hp_mount.proofs.mount.Mount.add_anon.Goals as goal
 
 pub returns-then-is_full-clause-done : goal.returns-then-is_full-clause-done

@@ -3,11 +3,11 @@ use Rattle.hp_model.specs.declared.answer.Answer.TheVariants.{MapNo}
 use Rattle.hp_model.specs.files.File.{Mount, with_file}
 use Rattle.hp_lookup.specs.Asking.{IsAsked, IsGranted, with_range}
 use Rattle.hp_lookup.specs.Files.{file_at}
-use Rattle.hp_mount.specs.Done.{Tried}
-use Rattle.hp_mount.specs.Kept.{mount_of}
-use Rattle.hp_mount.specs.Making.{map_plan}
-use Rattle.hp_mount.proofs.Keeping.{full_as, map_kept, map_left, rise_as, room_left, wants_is}
-use Rattle.hp_mount.proofs.Making.{asked_share, grant_denied, grant_full, grant_given}
+use Rattle.hp_mount_laws.specs.Done.{Tried}
+use Rattle.hp_mount_laws.specs.Kept.{mount_of}
+use Rattle.hp_mount_laws.specs.Making.{map_plan}
+use Rattle.hp_mount_laws.proofs.Keeping.{full_as, map_kept, map_left, rise_as, room_left, wants_is}
+use Rattle.hp_mount_laws.proofs.Making.{asked_share, grant_denied, grant_full, grant_given}
 use Rattle.hp_mount.proofs.mount.Mount.add_map.Goals as goal
 
 pub returns-then-is_full-clause-done : goal.returns-then-is_full-clause-done

@@ -3,9 +3,9 @@ use Rattle.hp_model.specs.declared.answer.Answer.TheVariants.{MapNo}
 use Rattle.hp_model.specs.files.File.{new_file}
 use Rattle.hp_model.specs.files.MakeMap.{asked, mapped, with_new}
 use Rattle.hp_model.specs.machine.Plan.{Answered, Choice, grant}
-use Rattle.hp_mount.specs.Done.{Tried}
-use Rattle.hp_mount.specs.Making.{numbered}
-use Rattle.hp_mount.proofs.Making.{anon_refused, anon_went}
+use Rattle.hp_mount_laws.specs.Done.{Tried}
+use Rattle.hp_mount_laws.specs.Making.{numbered}
+use Rattle.hp_mount_laws.proofs.Making.{anon_refused, anon_went}
 use Rattle.hp_mount.proofs.mount.Mount.anon.Goals as goal
 
 pub returns-in-Err-clause-done : goal.returns-in-Err-clause-done

@@ -4,8 +4,8 @@ use Rattle.hp_model.specs.beside.Accesses.{bytes_reply, done_reply}
 use Rattle.hp_model.specs.machine.Plan.{Choice, Slot}
 use Rattle.hp_model.specs.machine.SlotEvent.{slot_event}
 use Rattle.hp_model.specs.beside.Told.{told_reply}
-use Rattle.hp_mount.proofs.Replies.{told_as}
-use Rattle.hp_mount.proofs.Ways.{alone_is_done}
+use Rattle.hp_mount_laws.proofs.Replies.{told_as}
+use Rattle.hp_mount_laws.proofs.Ways.{alone_is_done}
 use Rattle.hp_mount.proofs.mount.Mount.apply.Goals as goal
 
 pub returns-in-Create-clause-done : goal.returns-in-Create-clause-done

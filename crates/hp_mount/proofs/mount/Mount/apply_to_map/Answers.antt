@@ -2,7 +2,7 @@ use Rattle.std.proofs.Common.{◌≡◌, Bool, Some, true, false, not, refl, sym
 use Rattle.hp_events.specs.declared.event.MountEvent.{MountEvent}
 use Rattle.hp_events.specs.Event.{event_of}
 use Rattle.hp_events.specs.Memory.{asks_memory}
-use Rattle.hp_mount.proofs.Replies.{bytes_not_memory, done_not_memory}
+use Rattle.hp_mount_laws.proofs.Replies.{bytes_not_memory, done_not_memory}
 use Rattle.hp_mount.proofs.mount.Mount.apply_to_map.Goals as goal
 
 backed : (b : Bool) → not b ≡ false → b ≡ true

@@ -5,8 +5,8 @@ use Rattle.hp_model.specs.threads.LocalRun.{ThroughDoor}
 use Rattle.hp_model.specs.files.Page.{Page}
 use Rattle.hp_model.specs.machine.Plan.{gives}
 use Rattle.hp_mount_door.specs.Door.{GivesBack}
-use Rattle.hp_mount.specs.Kept.{mount_of}
-use Rattle.hp_mount.proofs.Ending.{ended}
+use Rattle.hp_mount_laws.specs.Kept.{mount_of}
+use Rattle.hp_mount_laws.proofs.Ending.{ended}
 use Rattle.hp_subpool.specs.Subpool.{committed_of}
 use Rattle.hp_mount.proofs.mount.Mount.close.Goals as goal
 

@@ -11,12 +11,12 @@ use Rattle.hp_model.specs.machine.Promises.{file_in, map_in}
 use Rattle.hp_model.specs.pool.Grant as grant
 use Rattle.hp_mount_door.specs.Door.{with_granted}
 use Rattle.hp_lookup.specs.Files.{Files, copied_at, file_at}
-use Rattle.hp_mount.specs.Found.{has_reserve, with_place_at}
-use Rattle.hp_mount.specs.Kept.{IsKept, mount_of}
+use Rattle.hp_mount_laws.specs.Reach.{has_reserve, with_place_at}
+use Rattle.hp_mount_laws.specs.Kept.{IsKept, mount_of}
 use Rattle.hp_mount.proofs.Copying as keeps
-use Rattle.hp_mount.proofs.Keeping.{full_as, mount_left, rise_as}
-use Rattle.hp_mount.proofs.Private as private
-use Rattle.hp_mount.proofs.Private.{back_touched, place_touched, stamped_fresh}
+use Rattle.hp_mount_laws.proofs.Keeping.{full_as, mount_left, rise_as}
+use Rattle.hp_mount_laws.proofs.Private as private
+use Rattle.hp_mount_laws.proofs.Private.{back_touched, place_touched, stamped_fresh}
 use Rattle.hp_subpool.specs.Subpool as share
 use Rattle.hp_mount.proofs.mount.Mount.copy_granted.Given.{Over}
 use Rattle.hp_mount.proofs.mount.Mount.copy_granted.Goals as goal

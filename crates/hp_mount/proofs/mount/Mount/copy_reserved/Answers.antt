@@ -8,17 +8,17 @@ use Rattle.hp_model.specs.files.Value.{value}
 use Rattle.hp_model.specs.machine.Promises.{file_in, map_in}
 use Rattle.hp_model.specs.pool.Pool.{granted_at}
 use Rattle.hp_mount_door.specs.Door.{IsDoorRefusal, with_page}
-use Rattle.hp_mount.specs.Done.{IsAccessed}
+use Rattle.hp_mount_laws.specs.Done.{IsAccessed}
 use Rattle.std.proofs.lemmas.Result.{err_from_is_err_and}
-use Rattle.hp_mount.specs.Found.{has_reserve, with_place_at}
+use Rattle.hp_mount_laws.specs.Reach.{has_reserve, with_place_at}
 use Rattle.hp_mount.proofs.Copying as keeps
-use Rattle.hp_mount.proofs.Private as private
-use Rattle.hp_mount.proofs.Private.{back_touched, place_touched, stamped_fresh}
+use Rattle.hp_mount_laws.proofs.Private as private
+use Rattle.hp_mount_laws.proofs.Private.{back_touched, place_touched, stamped_fresh}
 use Rattle.hp_subpool.specs.Subpool as share
 use Rattle.std.specs.List.{flat_map}
 use Rattle.hp_model.specs.files.MountCounts.{stamps_of}
 use Rattle.hp_model.specs.Lists.{is_among}
-use Rattle.hp_mount.specs.Kept.{IsKept, mount_of}
+use Rattle.hp_mount_laws.specs.Kept.{IsKept, mount_of}
 use Rattle.hp_lookup.specs.Files.{Files, copied_at, file_at}
 use Rattle.hp_mount.proofs.mount.Mount.copy_reserved.Given.{Over}
 use Rattle.hp_mount.proofs.mount.Mount.copy_reserved.Goals as goal

@@ -2,8 +2,8 @@ use Rattle.std.proofs.Common.{Some, sym, ap, ◌∙◌}
 use Rattle.hp_model.specs.files.File.{Mount, new_file}
 use Rattle.hp_model.specs.files.MakeMap.{with_new}
 use Rattle.hp_lookup.specs.Files.{Files}
-use Rattle.hp_mount.specs.Kept.{mount_of}
-use Rattle.hp_mount.proofs.Making.{create_done, create_refused, create_without_memory}
+use Rattle.hp_mount_laws.specs.Kept.{mount_of}
+use Rattle.hp_mount_laws.proofs.Making.{create_done, create_refused, create_without_memory}
 use Rattle.hp_mount.proofs.mount.Mount.create.Goals as goal
 
 pub returns-in-Some-clause-done : goal.returns-in-Some-clause-done

@@ -6,10 +6,10 @@ use Rattle.hp_model.specs.files.File.{Mount}
 use Rattle.hp_model.specs.files.GiveBack.{file_without, is_kept, without_task}
 use Rattle.hp_model.specs.machine.Plan.{gives}
 use Rattle.hp_model.specs.threads.LocalRun.{ThroughDoor}
-use Rattle.hp_mount.specs.Done.{IsDone}
-use Rattle.hp_mount.specs.Kept.{mount_of}
-use Rattle.hp_mount.proofs.Giving.{gave_through, keeps, leaves}
-use Rattle.hp_mount.proofs.Leaving.{few_reserves, fewer, fewer_maps, tried}
+use Rattle.hp_mount_laws.specs.Done.{IsDone}
+use Rattle.hp_mount_laws.specs.Kept.{mount_of}
+use Rattle.hp_mount_laws.proofs.Giving.{gave_through, keeps, leaves}
+use Rattle.hp_mount_laws.proofs.Leaving.{few_reserves, fewer, fewer_maps, tried}
 use Rattle.hp_mount.proofs.mount.Mount.exit_maps.Goals as goal
 
 pub exit-reserves-requires : goal.exit-reserves-requires

@@ -4,9 +4,9 @@ use Rattle.hp_model.specs.files.Fill.{lacking, range_filled, rising_nodes}
 use Rattle.hp_model.specs.machine.Promises.{file_in}
 use Rattle.hp_model.specs.machine.SlotEvent.{unentered}
 use Rattle.hp_mount_files.proofs.Lent.{unentered_lent}
-use Rattle.hp_mount.specs.Kept.{mount_of}
+use Rattle.hp_mount_laws.specs.Kept.{mount_of}
 use Rattle.hp_mount.proofs.Filling.{enough_held, fill_denied, fill_full, fill_given, filled_kept, filled_left, taken_share}
-use Rattle.hp_mount.proofs.Keeping.{full_as, rise_as, room_left}
+use Rattle.hp_mount_laws.proofs.Keeping.{full_as, rise_as, room_left}
 use Rattle.hp_mount.proofs.mount.Mount.fill.Goals as goal
 
 pub returns-then-is_full-clause-done : goal.returns-then-is_full-clause-done

@@ -2,8 +2,8 @@ use Rattle.std.proofs.Common.{◌≡◌, ◌<◌, Some, length, sym, ap, subst, 
 use Rattle.std.proofs.lemmas.Result.{err_from_is_err_and}
 use Rattle.hp_mount_door.specs.Door.{IsDoorRefusal, with_page}
 use Rattle.hp_model.specs.files.Access.{shared_access}
-use Rattle.hp_mount.specs.Done.{Tried, done}
-use Rattle.hp_mount.specs.Kept.{mount_of}
+use Rattle.hp_mount_laws.specs.Done.{Tried, done}
+use Rattle.hp_mount_laws.specs.Kept.{mount_of}
 use Rattle.hp_subpool.specs.Subpool.{Subpool}
 use Rattle.hp_model.specs.files.File.{Mount, cell_at, with_cell, with_file}
 use Rattle.hp_model.specs.declared.cell.Cell.TheVariants.{Entered, Present}
@@ -11,8 +11,8 @@ use Rattle.hp_model.specs.files.Page.{Page}
 use Rattle.hp_model.specs.declared.section.Section.TheVariants.{TakePage}
 use Rattle.hp_model.specs.pool.Pool.{granted_at}
 use Rattle.hp_model.specs.machine.Promises.{file_in}
-use Rattle.hp_mount.proofs.Keeping.{entry_kept, entry_left}
-use Rattle.hp_mount.proofs.Shared.{entered_full, shared_entered}
+use Rattle.hp_mount_laws.proofs.Keeping.{entry_kept, entry_left}
+use Rattle.hp_mount_laws.proofs.Shared.{entered_full, shared_entered}
 use Rattle.hp_mount.proofs.mount.Mount.fill_entry.Goals as goal
 
 pub invariant_of-self-2 : goal.invariant_of-self-2

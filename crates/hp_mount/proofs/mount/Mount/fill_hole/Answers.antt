@@ -8,9 +8,9 @@ use Rattle.hp_model.specs.declared.section.Section.TheVariants.{GrantPage}
 use Rattle.hp_model.specs.pool.Pool.{granted_at, no_pages}
 use Rattle.hp_model.specs.machine.Promises.{file_in}
 use Rattle.hp_lookup.specs.Files.{filled_at, with_cell_at}
-use Rattle.hp_mount.specs.Kept.{mount_of}
-use Rattle.hp_mount.proofs.Keeping.{full_is, rise_is, hole_kept, hole_keeps, hole_stays, granted_left, room_left}
-use Rattle.hp_mount.proofs.Shared.{shared_full, shared_without_memory, shared_granted, shared_denied}
+use Rattle.hp_mount_laws.specs.Kept.{mount_of}
+use Rattle.hp_mount_laws.proofs.Keeping.{full_is, rise_is, hole_kept, hole_keeps, hole_stays, granted_left, room_left}
+use Rattle.hp_mount_laws.proofs.Shared.{shared_full, shared_without_memory, shared_granted, shared_denied}
 use Rattle.hp_subpool.specs.Subpool as share
 use Rattle.hp_mount.proofs.mount.Mount.fill_hole.Goals as goal
 

@@ -10,12 +10,12 @@ use Rattle.hp_model.specs.files.MakeMap.{tasks_of}
 use Rattle.hp_model.specs.machine.Plan.{gives}
 use Rattle.hp_model.specs.threads.LocalRun.{ThroughDoor}
 use Rattle.hp_lookup.proofs.NewKey.{byte_few, byte_is}
-use Rattle.hp_mount.specs.Done.{IsDone}
+use Rattle.hp_mount_laws.specs.Done.{IsDone}
 use Rattle.hp_lookup.specs.Files.{Files}
-use Rattle.hp_mount.specs.Kept.{IsKept, mount_of}
-use Rattle.hp_mount.proofs.Forking.{forks, maps_are, no_memory, tasks_are, too_many}
-use Rattle.hp_mount.proofs.Giving.{gave_through, keeps, leaves}
-use Rattle.hp_mount.proofs.Leaving.{fewer}
+use Rattle.hp_mount_laws.specs.Kept.{IsKept, mount_of}
+use Rattle.hp_mount_laws.proofs.Forking.{forks, maps_are, no_memory, tasks_are, too_many}
+use Rattle.hp_mount_laws.proofs.Giving.{gave_through, keeps, leaves}
+use Rattle.hp_mount_laws.proofs.Leaving.{fewer}
 use Rattle.hp_mount.proofs.mount.Mount.fork_maps.Goals as goal
 
 pub invariant_of-self-2 : goal.invariant_of-self-2

@@ -8,11 +8,12 @@ use Rattle.hp_model.specs.files.Spot.{Spot}
 use Rattle.hp_model.specs.machine.SlotEvent.{bytes_answer}
 use Rattle.hp_model.specs.files.Value.{value}
 use Rattle.hp_mount.specs.declared.mount.reach.Asked.TheVariants.{Bytes}
-use Rattle.hp_mount.specs.Done.{IsDone}
-use Rattle.hp_mount.specs.Found.{IsPlaced, spot_at, spot_of, why_not}
+use Rattle.hp_mount_laws.specs.Done.{IsDone}
+use Rattle.hp_mount.specs.Found.{IsPlaced, spot_of, why_not}
+use Rattle.hp_mount_laws.specs.Reach.{spot_at}
 use Rattle.hp_mount.proofs.Commands.{again_is, backed_not_memory, denied, early_not_memory, follows, loads, not_begun, went, why_is_early}
-use Rattle.hp_mount.proofs.Shown.{bytes_reply_is}
-use Rattle.hp_mount.proofs.Ways.{then_goes}
+use Rattle.hp_mount_laws.proofs.Shown.{bytes_reply_is}
+use Rattle.hp_mount_laws.proofs.Ways.{then_goes}
 use Rattle.hp_mount.proofs.mount.Mount.load.Goals as goal
 
 pub returns-in-Err-clause-done : goal.returns-in-Err-clause-done

@@ -4,7 +4,7 @@ use Rattle.hp_model.specs.declared.answer.Answer.TheVariants.{Names}
 use Rattle.hp_model.specs.declared.refusal.Refusal.TheVariants.{OutOfMemory}
 use Rattle.hp_model.specs.files.File.{File, Mount}
 use Rattle.hp_model.specs.machine.Plan.{Answered, Refused}
-use Rattle.hp_mount.proofs.Ways.{fresh_choice, is_fresh}
+use Rattle.hp_mount_laws.proofs.Ways.{fresh_choice, is_fresh}
 use Rattle.hp_mount.proofs.mount.Mount.ls.Goals as goal
 
 pub returns-in-Ok-clause-done : goal.returns-in-Ok-clause-done

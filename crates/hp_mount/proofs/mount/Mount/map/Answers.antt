@@ -5,9 +5,9 @@ use Rattle.hp_model.specs.files.MakeMap.{asked, mapped}
 use Rattle.hp_model.specs.machine.Plan.{Answered, Choice, grant}
 use Rattle.hp_model.specs.machine.Promises.{file_in}
 use Rattle.hp_model.specs.machine.SlotEvent.{file_named}
-use Rattle.hp_mount.specs.Done.{Tried}
-use Rattle.hp_mount.specs.Making.{numbered}
-use Rattle.hp_mount.proofs.Making.{map_nowhere, map_refused, map_went}
+use Rattle.hp_mount_laws.specs.Done.{Tried}
+use Rattle.hp_mount_laws.specs.Making.{numbered}
+use Rattle.hp_mount_laws.proofs.Making.{map_nowhere, map_refused, map_went}
 use Rattle.hp_mount.proofs.mount.Mount.map.Goals as goal
 
 pub returns-in_default-clause-done : goal.returns-in_default-clause-done

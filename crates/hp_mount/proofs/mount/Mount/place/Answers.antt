@@ -4,8 +4,9 @@ use Rattle.hp_model.specs.files.File.{Mount}
 use Rattle.hp_model.specs.files.Mapping.{is_live, is_map, place_at}
 use Rattle.hp_model.specs.machine.Promises.{file_in, map_in}
 use Rattle.hp_model.specs.files.Spot.{spot}
-use Rattle.hp_mount.specs.Found.{IsPlaced, first_of, spot_at, tests_of}
-use Rattle.hp_mount.specs.Kept.{mount_of}
+use Rattle.hp_mount.specs.Found.{IsPlaced, tests_of}
+use Rattle.hp_mount_laws.specs.Reach.{first_of, spot_at}
+use Rattle.hp_mount_laws.specs.Kept.{mount_of}
 use Rattle.hp_mount.proofs.Commands.{why_of}
 use Rattle.hp_mount.proofs.mount.Mount.place.Goals as goal
 

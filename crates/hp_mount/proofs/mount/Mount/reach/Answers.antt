@@ -4,9 +4,10 @@ use Rattle.hp_model.specs.files.File.{Mount, cell_at, file_in, map_in}
 use Rattle.hp_model.specs.files.Mapping.{is_shared}
 use Rattle.hp_model.specs.machine.Plan.{Choice}
 use Rattle.hp_mount_files.proofs.Lent.{shared_lent}
-use Rattle.hp_mount.specs.Done.{done}
-use Rattle.hp_mount.specs.Found.{spot_at}
-use Rattle.hp_mount.proofs.Commands.{backed_is_entered, shared_is, tried_as}
+use Rattle.hp_mount_laws.specs.Done.{done}
+use Rattle.hp_mount_laws.specs.Reach.{spot_at}
+use Rattle.hp_mount.proofs.Commands.{backed_is_entered, shared_is}
+use Rattle.hp_mount_laws.proofs.Trying.{tried_as}
 use Rattle.hp_mount.proofs.mount.Mount.reach.Goals as goal
 
 pub returns-then-is_shared-clause-done : goal.returns-then-is_shared-clause-done

@@ -3,8 +3,8 @@ use Rattle.hp_model.specs.files.File.{Mount, cell_at}
 use Rattle.hp_model.specs.files.Mapping.{place_at}
 use Rattle.hp_model.specs.machine.Promises.{file_in, map_in}
 use Rattle.hp_mount_files.proofs.Lent.{unmapped_lent}
-use Rattle.hp_mount.proofs.Private as private
-use Rattle.hp_mount.specs.Found.{shows_page}
+use Rattle.hp_mount_laws.proofs.Private as private
+use Rattle.hp_mount_laws.specs.Reach.{shows_page}
 use Rattle.hp_file_list.proofs.PutCopy.{bare_place}
 use Rattle.hp_mount.proofs.mount.Mount.reach_bare.Goals as goal
 

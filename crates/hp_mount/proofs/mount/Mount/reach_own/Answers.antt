@@ -20,13 +20,13 @@ use Rattle.hp_lookup.specs.Dropping.{IsLeft}
 use Rattle.hp_lookup.specs.Files.{Files, file_at, parted_at, taken_back_at}
 use Rattle.hp_file.specs.States.{AreAgreed}
 use Rattle.hp_mount_files.proofs.Lent.{owner_lent}
-use Rattle.hp_mount.specs.Found.{IsTouched, with_place_at}
-use Rattle.hp_mount.specs.Kept.{IsKept, mount_of}
+use Rattle.hp_mount_laws.specs.Reach.{IsTouched, with_place_at}
+use Rattle.hp_mount_laws.specs.Kept.{IsKept, mount_of}
 use Rattle.hp_mount.proofs.Copying as keeps
-use Rattle.hp_mount.proofs.Keeping.{full_as, mount_left, rise_as}
-use Rattle.hp_mount.proofs.Private as private
-use Rattle.hp_mount.proofs.Private.{back_touched, copy_value, place_touched, stamped_fresh}
-use Rattle.hp_mount.proofs.Shared.{same_touched}
+use Rattle.hp_mount_laws.proofs.Keeping.{full_as, mount_left, rise_as}
+use Rattle.hp_mount_laws.proofs.Private as private
+use Rattle.hp_mount_laws.proofs.Private.{back_touched, copy_value, place_touched, stamped_fresh}
+use Rattle.hp_mount_laws.proofs.Shared.{same_touched}
 use Rattle.hp_subpool.specs.Subpool as share
 use Rattle.hp_laws.proofs.counts.Copies.{live_of}
 use Rattle.hp_mount.proofs.mount.Mount.reach_own.Given.{Over}

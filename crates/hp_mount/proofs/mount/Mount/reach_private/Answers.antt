@@ -4,7 +4,7 @@ use Rattle.hp_model.specs.files.Mapping.{place_at}
 use Rattle.hp_model.specs.machine.Promises.{file_in, map_in}
 use Rattle.hp_lookup.specs.declared.copy_state.CopyState.TheVariants as state
 use Rattle.hp_file.specs.States.{IsCopyState}
-use Rattle.hp_mount.proofs.Private as private
+use Rattle.hp_mount_laws.proofs.Private as private
 use Rattle.hp_laws.proofs.counts.Copies.{live_of}
 use Rattle.hp_mount.proofs.mount.Mount.reach_private.Goals as goal
 

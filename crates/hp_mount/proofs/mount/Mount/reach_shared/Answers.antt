@@ -3,7 +3,7 @@ use Rattle.hp_model.specs.files.File.{Mount, cell_at}
 use Rattle.hp_model.specs.declared.cell.Cell.TheVariants.{Present}
 use Rattle.hp_model.specs.files.Page.{Page}
 use Rattle.hp_model.specs.machine.Promises.{file_in}
-use Rattle.hp_mount.proofs.Shared.{shared_present}
+use Rattle.hp_mount_laws.proofs.Shared.{shared_present}
 use Rattle.hp_mount.proofs.mount.Mount.reach_shared.Goals as goal
 
 pub returns-in-Present-clause-done : goal.returns-in-Present-clause-done

@@ -5,11 +5,11 @@ use Rattle.hp_model.specs.files.Value.{shown}
 use Rattle.hp_model.specs.machine.Plan.{Answered, Finish, Reply}
 use Rattle.hp_model.specs.machine.Promises.{file_in}
 use Rattle.hp_model.specs.machine.SlotEvent.{bytes_answer, file_named, read, read_tests}
-use Rattle.hp_mount.specs.Alone.{IsDoneAlone}
-use Rattle.hp_mount.specs.Found.{first_of}
-use Rattle.hp_mount.proofs.Commands.{tests_fail, tests_pass}
-use Rattle.hp_mount.proofs.Looking.{is_answered, is_refused, not_named}
-use Rattle.hp_mount.proofs.Shown.{bytes_reply_is}
+use Rattle.hp_mount_laws.specs.Alone.{IsDoneAlone}
+use Rattle.hp_mount_laws.specs.Reach.{first_of}
+use Rattle.hp_mount_laws.proofs.Trying.{tests_fail, tests_pass}
+use Rattle.hp_mount_laws.proofs.Looking.{is_answered, is_refused, not_named}
+use Rattle.hp_mount_laws.proofs.Shown.{bytes_reply_is}
 use Rattle.hp_mount.proofs.mount.Mount.read.Goals as goal
 
 pub returns-in_default-clause-done : goal.returns-in_default-clause-done

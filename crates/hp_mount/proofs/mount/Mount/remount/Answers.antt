@@ -4,9 +4,9 @@ use Rattle.hp_model.specs.declared.answer.Answer.TheVariants.{Done}
 use Rattle.hp_model.specs.declared.event.SlotEvent.TheVariants.{Remount}
 use Rattle.hp_model.specs.files.File.{Mount}
 use Rattle.hp_mount_door.specs.Limits.{IsLimitedAt}
-use Rattle.hp_mount.specs.Done.{IsDone}
-use Rattle.hp_mount.specs.Kept.{mount_of}
-use Rattle.hp_mount.proofs.Remounting.{relimited_kept, remount_refused, remount_set}
+use Rattle.hp_mount_laws.specs.Done.{IsDone}
+use Rattle.hp_mount_laws.specs.Kept.{mount_of}
+use Rattle.hp_mount_laws.proofs.Remounting.{relimited_kept, remount_refused, remount_set}
 use Rattle.hp_mount.proofs.mount.Mount.remount.Goals as goal
 
 pub returns-in_err-self-inside-clause-done : goal.returns-in_err-self-inside-clause-done

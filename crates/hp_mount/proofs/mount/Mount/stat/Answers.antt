@@ -6,7 +6,7 @@ use Rattle.hp_model.specs.files.File.{Mount, has_page, is_entered}
 use Rattle.hp_model.specs.machine.Promises.{file_in}
 use Rattle.hp_model.specs.machine.SlotEvent.{file_named, stat}
 use Rattle.hp_mount_files.proofs.Lent.{entries_lent, len_lent, maps_lent, pages_lent}
-use Rattle.hp_mount.proofs.Looking.{is_answered, not_named}
+use Rattle.hp_mount_laws.proofs.Looking.{is_answered, not_named}
 use Rattle.hp_mount.proofs.mount.Mount.stat.Goals as goal
 
 pub returns-in_default-clause-done : goal.returns-in_default-clause-done

@@ -7,9 +7,10 @@ use Rattle.hp_model.specs.files.Mapping.{is_shared, place_at}
 use Rattle.hp_model.specs.machine.Plan.{and_then}
 use Rattle.hp_mount_files.proofs.Lent.{shared_lent}
 use Rattle.hp_mount.specs.declared.mount.reach.Asked.TheVariants.{Bytes}
-use Rattle.hp_mount.specs.Found.{IsPlaced, spot_at, spot_of, why_not}
+use Rattle.hp_mount.specs.Found.{IsPlaced, spot_of, why_not}
+use Rattle.hp_mount_laws.specs.Reach.{spot_at}
 use Rattle.hp_mount.proofs.Commands.{backed_not_memory, denied, early_not_memory, follows, not_begun, private_written, stores, went, why_is_early, written_is}
-use Rattle.hp_mount.proofs.Ways.{then_goes}
+use Rattle.hp_mount_laws.proofs.Ways.{then_goes}
 use Rattle.hp_mount.proofs.mount.Mount.store.Goals as goal
 
 pub returns-in-Err-clause-done : goal.returns-in-Err-clause-done

@@ -8,9 +8,9 @@ use Rattle.hp_model.specs.machine.Plan.{gives}
 use Rattle.hp_model.specs.machine.SlotEvent.{edited}
 use Rattle.hp_model.specs.threads.LocalRun.{ThroughDoor}
 use Rattle.hp_lookup.specs.Files.{file_at}
-use Rattle.hp_mount.specs.Done.{IsDone}
-use Rattle.hp_mount.specs.Kept.{mount_of}
-use Rattle.hp_mount.proofs.Giving.{gave_back, given, kept, left_is, long_file, nowhere, out_of_range, short_file}
+use Rattle.hp_mount_laws.specs.Done.{IsDone}
+use Rattle.hp_mount_laws.specs.Kept.{mount_of}
+use Rattle.hp_mount_laws.proofs.Giving.{gave_back, given, kept, left_is, long_file, nowhere, out_of_range, short_file}
 use Rattle.hp_mount.proofs.mount.Mount.truncate.Goals as goal
 
 pub returns-in_default-clause-done : goal.returns-in_default-clause-done

@@ -10,10 +10,10 @@ use Rattle.hp_model.specs.files.Mapping.{is_map}
 use Rattle.hp_model.specs.machine.Plan.{gives}
 use Rattle.hp_model.specs.threads.LocalRun.{ThroughDoor}
 use Rattle.hp_lookup.specs.Places.{spot_of}
-use Rattle.hp_mount.specs.Done.{IsDone}
-use Rattle.hp_mount.specs.Kept.{mount_of}
-use Rattle.hp_mount.proofs.Giving.{gave_through, keeps, leaves}
-use Rattle.hp_mount.proofs.Leaving.{bad_indices, few_reserves, fewer, indices_left, no_map_there}
+use Rattle.hp_mount_laws.specs.Done.{IsDone}
+use Rattle.hp_mount_laws.specs.Kept.{mount_of}
+use Rattle.hp_mount_laws.proofs.Giving.{gave_through, keeps, leaves}
+use Rattle.hp_mount_laws.proofs.Leaving.{bad_indices, few_reserves, fewer, indices_left, no_map_there}
 use Rattle.hp_mount.proofs.mount.Mount.unmap.Goals as goal
 
 pub returns-in_default-clause-done : goal.returns-in_default-clause-done

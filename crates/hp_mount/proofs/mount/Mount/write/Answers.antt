@@ -4,7 +4,7 @@ use Rattle.hp_model.specs.machine.Promises.{file_in}
 use Rattle.hp_model.specs.files.Spot.{cell_written}
 use Rattle.hp_lookup.specs.Files.{Files, file_at}
 use Rattle.hp_mount.proofs.Commands.{write_grows}
-use Rattle.hp_mount.proofs.Keeping.{grown}
+use Rattle.hp_mount_laws.proofs.Keeping.{grown}
 use Rattle.hp_mount.proofs.mount.Mount.write.Goals as goal
 
 pub invariant_of-self : goal.invariant_of-self

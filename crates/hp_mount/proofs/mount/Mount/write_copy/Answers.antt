@@ -7,7 +7,7 @@ use Rattle.hp_lookup.specs.declared.copy_state.CopyState.TheVariants as state
 use Rattle.hp_lookup.specs.Files.{Files, file_at}
 use Rattle.hp_file.specs.States.{IsCopyState}
 use Rattle.hp_mount.proofs.Commands.{private_grows}
-use Rattle.hp_mount.proofs.Keeping.{grown}
+use Rattle.hp_mount_laws.proofs.Keeping.{grown}
 use Rattle.hp_mount.proofs.mount.Mount.write_copy.Goals as goal
 
 pub invariant_of-self : goal.invariant_of-self

@@ -1,7 +1,7 @@
 use Rattle.std.proofs.Common.{◌≡◌, ◌+◌, ◌-◌, ◌<◌, suc, sym, subst, ap, ◌∙◌, arith, length}
 use Rattle.std.specs.List.{range_with_len}
 use Rattle.hp_model.specs.machine.Step.{IsScript, fork_slots}
-use Rattle.hp_mount.specs.Done.{done}
+use Rattle.hp_mount_laws.specs.Done.{done}
 use Rattle.hp_system.specs.Event.{IsForkedOn, mapped_slots}
 use Rattle.hp_model.specs.machine.Ready.{Machine}
 use Rattle.hp_system.proofs.Forking.{next_slot, slot_refused}

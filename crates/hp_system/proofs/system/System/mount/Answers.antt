@@ -12,7 +12,7 @@ use Rattle.hp_model.specs.pool.PoolCounts.{Pool}
 use Rattle.hp_model.specs.machine.State.{State}
 use Rattle.hp_model.specs.machine.Step.{IsScript, on_slot}
 use Rattle.hp_subpool.specs.Subpool.{Subpool}
-use Rattle.hp_mount.specs.Kept.{mount_of}
+use Rattle.hp_mount_laws.specs.Kept.{mount_of}
 use Rattle.hp_model.specs.machine.Ready.{state_of, Machine}
 use Rattle.hp_system.proofs.Carries.{kept_after, ready, kept_by, IsKept, ready_by}
 use Rattle.hp_system.proofs.MachineSteps.{read_slot, slot_done, slot_same}

@@ -27,9 +27,9 @@ use Rattle.hp_model.specs.machine.Plan.{Answered, Ask, Choice, Finish, Outcome, 
 use Rattle.hp_model.specs.pool.Grant.{is_full, rise}
 use Rattle.hp_model.specs.pool.Pool.{granted_at, no_pages}
 use Rattle.hp_model.specs.threads.LocalRun.{Gives, ThroughDoor}
-use Rattle.hp_mount.specs.Done.{Enters, MayEnter, Through, Tried}
-use Rattle.hp_mount.specs.Found.{IsTouched, NeedsCopy, has_reserve, shows_page, spot_at, with_place_at}
-use Rattle.hp_mount.proofs.Ways.{fresh_choice, is_fresh, page_asks, page_denied, page_full, page_granted, page_reserved, page_without_memory}
+use Rattle.hp_mount_laws.specs.Done.{Enters, MayEnter, Through, Tried}
+use Rattle.hp_mount_laws.specs.Reach.{IsTouched, NeedsCopy, has_reserve, shows_page, spot_at, with_place_at}
+use Rattle.hp_mount_laws.proofs.Ways.{fresh_choice, is_fresh, page_asks, page_denied, page_full, page_granted, page_reserved, page_without_memory}
 
 -- a choice of this stamp
 abbrev pub stamped : ℕ → Choice

@@ -25,11 +25,11 @@ use Rattle.hp_lookup.specs.Asking.{is_first_of}
 use Rattle.hp_lookup.specs.Files.{Files}
 use Rattle.hp_lookup.specs.Places.{all_maps, all_tasks}
 use Rattle.hp_lookup.proofs.MapNumbers.{among_distinct}
-use Rattle.hp_mount.specs.Done.{Tried}
-use Rattle.hp_mount.specs.Kept.{IsKept, mount_of}
-use Rattle.hp_mount.proofs.Commands.{tests_fail, tests_pass}
-use Rattle.hp_mount.proofs.Giving.{bad_range, good_range}
-use Rattle.hp_mount.proofs.Ways.{fresh_choice, is_fresh, refused_at}
+use Rattle.hp_mount_laws.specs.Done.{Tried}
+use Rattle.hp_mount_laws.specs.Kept.{IsKept, mount_of}
+use Rattle.hp_mount_laws.proofs.Trying.{tests_fail, tests_pass}
+use Rattle.hp_mount_laws.proofs.Giving.{bad_range, good_range}
+use Rattle.hp_mount_laws.proofs.Ways.{fresh_choice, is_fresh, refused_at}
 use Rattle.hp_subpool.specs.Subpool.{Subpool}
 
 -- ---- which task has maps

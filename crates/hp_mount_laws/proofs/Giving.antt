@@ -22,12 +22,12 @@ use Rattle.hp_model.specs.threads.LocalRun.{ThroughDoor}
 use Rattle.hp_mount_door.specs.Door.{GivesBack, with_less}
 use Rattle.hp_lookup.specs.Dropping.{IsLeft}
 use Rattle.hp_lookup.specs.Files.{Files, edited_at}
-use Rattle.hp_mount.specs.Done.{Tried}
-use Rattle.hp_mount.specs.Found.{first_of}
-use Rattle.hp_mount.specs.Kept.{IsKept, mount_of}
-use Rattle.hp_mount.proofs.Commands.{tests_fail, tests_pass}
-use Rattle.hp_mount.proofs.Ending.{gave}
-use Rattle.hp_mount.proofs.Ways.{fresh_choice, is_fresh, refused_at}
+use Rattle.hp_mount_laws.specs.Done.{Tried}
+use Rattle.hp_mount_laws.specs.Reach.{first_of}
+use Rattle.hp_mount_laws.specs.Kept.{IsKept, mount_of}
+use Rattle.hp_mount_laws.proofs.Trying.{tests_fail, tests_pass}
+use Rattle.hp_mount_laws.proofs.Ending.{gave}
+use Rattle.hp_mount_laws.proofs.Ways.{fresh_choice, is_fresh, refused_at}
 use Rattle.hp_subpool.specs.Subpool.{Subpool, fall}
 
 -- ---- the share and the files that are left: w is what the files are before the pages go back

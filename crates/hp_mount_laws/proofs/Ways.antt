@@ -16,8 +16,8 @@ use Rattle.hp_model.specs.declared.section.PoolAnswer.{PoolAnswer}
 use Rattle.hp_model.specs.declared.section.Section.{Section}
 use Rattle.hp_model.specs.declared.section.Section.TheVariants.{GrantPage, TakePage}
 use Rattle.hp_model.specs.pool.Pool.{granted_at, no_pages}
-use Rattle.hp_mount.specs.Alone.{EndsAtOnce}
-use Rattle.hp_mount.specs.Done.{Enters, Tried}
+use Rattle.hp_mount_laws.specs.Alone.{EndsAtOnce}
+use Rattle.hp_mount_laws.specs.Done.{Enters, Tried}
 
 -- ---- a fresh stamp
 

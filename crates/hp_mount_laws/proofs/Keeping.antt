@@ -20,7 +20,7 @@ use Rattle.hp_laws.proofs.counts.MountMoves.{MountGrows, IsFileAt, file_grows, n
 use Rattle.hp_lookup.specs.declared.next_map.MapRange.{MapRange}
 use Rattle.hp_lookup.specs.Asking.{wants}
 use Rattle.hp_lookup.specs.Files.{Files, file_at, filled_at, mapped_at, with_anon, with_cell_at}
-use Rattle.hp_mount.specs.Kept.{IsKept, mount_of}
+use Rattle.hp_mount_laws.specs.Kept.{IsKept, mount_of}
 use Rattle.hp_subpool.specs.Subpool as share
 use Rattle.hp_subpool.specs.Subpool.{Subpool, used}
 

@@ -8,8 +8,8 @@ use Rattle.hp_model.specs.files.File.{File, Mount}
 use Rattle.hp_model.specs.machine.Plan.{Answered, Choice, Finish, Outcome, Plan, Refused, Reply, refuse, with_value}
 use Rattle.hp_model.specs.machine.SlotEvent.{file_named, slot_event}
 use Rattle.hp_model.specs.threads.LocalRun.{Gives}
-use Rattle.hp_mount.specs.Alone.{IsDoneAlone}
-use Rattle.hp_mount.proofs.Ways.{fresh_choice, is_fresh}
+use Rattle.hp_mount_laws.specs.Alone.{IsDoneAlone}
+use Rattle.hp_mount_laws.proofs.Ways.{fresh_choice, is_fresh}
 
 module _ (size slot : ℕ) (m : Mount) (name : List ℕ) (e : SlotEvent) (act : ℕ × File → Plan)
     (is : (c : Choice) → slot_event size slot c (Some m) e ≡ with_value (file_named m name) r.NoSuchFile act) where

@@ -20,9 +20,9 @@ use Rattle.hp_model.specs.declared.section.Section.TheVariants.{GrantPage, TakeP
 use Rattle.hp_model.specs.pool.Pool.{granted_at, no_pages}
 use Rattle.hp_model.specs.machine.Promises.{file_in}
 use Rattle.hp_model.specs.files.Spot.{Spot, filled}
-use Rattle.hp_mount.specs.Done.{Enters, Through, Tried}
-use Rattle.hp_mount.specs.Found.{IsTouched}
-use Rattle.hp_mount.proofs.Ways.{fresh_choice, is_fresh, page_full, page_without_memory, page_asks, page_denied, page_granted, page_reserved}
+use Rattle.hp_mount_laws.specs.Done.{Enters, Through, Tried}
+use Rattle.hp_mount_laws.specs.Reach.{IsTouched}
+use Rattle.hp_mount_laws.proofs.Ways.{fresh_choice, is_fresh, page_full, page_without_memory, page_asks, page_denied, page_granted, page_reserved}
 
 module _ {X : Type 0} (took : X → Section → PoolAnswer → X → Type 0) (full : X → Type 0) (size : ℕ) (m : Mount) (home k i : ℕ) (s : Spot)
     (no : s.file_no ≡ k) (file : s.file ≡ file_in m k) (door : X) where

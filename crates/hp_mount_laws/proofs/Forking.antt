@@ -16,10 +16,10 @@ use Rattle.hp_model.specs.files.Mapping.{Map, is_of}
 use Rattle.hp_model.proofs.Counting.{count_cons}
 use Rattle.hp_lookup.specs.Places.{all_maps, all_tasks}
 use Rattle.hp_lookup.proofs.ForkCounts.{count_after, tasks_after}
-use Rattle.hp_mount.specs.Done.{Tried}
-use Rattle.hp_mount.specs.Found.{first_of}
-use Rattle.hp_mount.proofs.Commands.{tests_fail, tests_pass}
-use Rattle.hp_mount.proofs.Ways.{fresh_choice, is_fresh, refused_at}
+use Rattle.hp_mount_laws.specs.Done.{Tried}
+use Rattle.hp_mount_laws.specs.Reach.{first_of}
+use Rattle.hp_mount_laws.proofs.Trying.{tests_fail, tests_pass}
+use Rattle.hp_mount_laws.proofs.Ways.{fresh_choice, is_fresh, refused_at}
 
 module _ {X : Type 0} (took : X → Section → PoolAnswer → X → Type 0) (full : X → Type 0) (m : Mount) (parent child : ℕ) (door : X) where
   abbrev maps : ℕ

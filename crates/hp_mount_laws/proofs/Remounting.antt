@@ -16,9 +16,9 @@ use Rattle.hp_model.specs.machine.SlotEvent.{remount, remount_outcome, remount_s
 use Rattle.hp_model.specs.threads.LocalRun.{Gives, ThroughDoor}
 use Rattle.hp_mount_door.specs.Limits.{IsLimitedAt, IsLimitedBy, minimum_section}
 use Rattle.hp_lookup.specs.Files.{Files}
-use Rattle.hp_mount.specs.Done.{Enters, IsDone}
-use Rattle.hp_mount.specs.Kept.{IsKept, mount_of}
-use Rattle.hp_mount.proofs.Ways.{fresh_choice, is_fresh}
+use Rattle.hp_mount_laws.specs.Done.{Enters, IsDone}
+use Rattle.hp_mount_laws.specs.Kept.{IsKept, mount_of}
+use Rattle.hp_mount_laws.proofs.Ways.{fresh_choice, is_fresh}
 use Rattle.hp_subpool.specs.Subpool.{Subpool, with_limits}
 
 -- ---- what options are refused

@@ -14,7 +14,7 @@ use Rattle.hp_model.specs.machine.Promises.{file_in}
 use Rattle.hp_model.specs.machine.SlotEvent.{anon_tests, are_too_many_maps, file_named, is_name}
 use Rattle.hp_lookup.specs.Asking.{wants, with_range}
 use Rattle.hp_lookup.specs.declared.next_map.MapRange.{MapRange}
-use Rattle.hp_mount.specs.Found.{first_of}
+use Rattle.hp_mount_laws.specs.Reach.{first_of}
 
 abbrev pub create_tests : Mount → List ℕ → List (Bool × Refusal)
 create_tests m name =

@@ -24,13 +24,13 @@ use Rattle.hp_model.specs.machine.Promises.{file_in}
 use Rattle.hp_model.specs.machine.SlotEvent.{anon_tests, are_too_many_maps, file_named, map_file, slot_event}
 use Rattle.hp_lookup.specs.Asking.{IsAsked, IsGranted}
 use Rattle.hp_lookup.specs.Files.{Files}
-use Rattle.hp_mount.specs.Alone.{IsDoneAlone}
-use Rattle.hp_mount.specs.Done.{Enters, Through, Tried}
-use Rattle.hp_mount.specs.Found.{first_of}
-use Rattle.hp_mount.specs.Kept.{IsKept, mount_of}
-use Rattle.hp_mount.specs.Making.{create_tests, map_tests}
-use Rattle.hp_mount.proofs.Commands.{tests_fail, tests_pass, tried_as}
-use Rattle.hp_mount.proofs.Ways.{fresh_choice, is_fresh, refused_at}
+use Rattle.hp_mount_laws.specs.Alone.{IsDoneAlone}
+use Rattle.hp_mount_laws.specs.Done.{Enters, Through, Tried}
+use Rattle.hp_mount_laws.specs.Reach.{first_of}
+use Rattle.hp_mount_laws.specs.Kept.{IsKept, mount_of}
+use Rattle.hp_mount_laws.specs.Making.{create_tests, map_tests}
+use Rattle.hp_mount_laws.proofs.Trying.{tests_fail, tests_pass, tried_as}
+use Rattle.hp_mount_laws.proofs.Ways.{fresh_choice, is_fresh, refused_at}
 use Rattle.hp_subpool.specs.Subpool as share
 use Rattle.hp_subpool.specs.Subpool.{Subpool}
 

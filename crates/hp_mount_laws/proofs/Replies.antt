@@ -8,7 +8,7 @@ use Rattle.hp_model.specs.declared.section.Section.{Section}
 use Rattle.hp_model.specs.beside.Accesses.{bytes_reply, done_reply}
 use Rattle.hp_model.specs.machine.Plan.{Reply, Slot}
 use Rattle.hp_events.specs.declared.event.MountEvent.{MountEvent}
-use Rattle.hp_mount.specs.Done.{IsDone}
+use Rattle.hp_mount_laws.specs.Done.{IsDone}
 use Rattle.hp_events.specs.Event.{event_of}
 use denote.Ref.{Bor}
 

@@ -1,0 +1,15 @@
+pub mod Trying
+pub mod Ways
+pub mod Replies
+pub mod Keeping
+pub mod Shared
+pub mod Private
+pub mod Shown
+pub mod Looking
+pub mod Making
+pub mod NameBytes
+pub mod Ending
+pub mod Giving
+pub mod Remounting
+pub mod Leaving
+pub mod Forking

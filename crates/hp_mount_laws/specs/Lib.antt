@@ -1,0 +1,6 @@
+pub mod Kept
+pub mod Reach
+pub mod Done
+pub mod Alone
+pub mod Making
+pub mod Maps
