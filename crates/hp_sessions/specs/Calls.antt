@@ -1,5 +1,5 @@
 -- What a session answers to a step, and the receipts that it has of it.
-use Rattle.std.specs.Prelude.{◌≡◌, ◌⊎◌, ℕ, ◌+◌, ◌<◌, ◌≤◌, Bool, true, false, Option, None, Some, Err, List, [], ◌∷◌, ◌++◌, length, map}
+use Rattle.std.specs.Prelude.{◌≡◌, ◌⊎◌, ℕ, ◌+◌, ◌<◌, ◌≤◌, Bool, true, false, Err, List, [], ◌∷◌, ◌++◌, length, map}
 use Rattle.std.specs.Bool.{MatchBool}
 use Rattle.std.specs.List.{All}
 use Rattle.hp_model.specs.declared.entry.Receipt.{Receipt}

@@ -77,13 +77,12 @@ impl<'a, N: Naming, R: Wait, G: Gate, const K: usize> Session<'a, N, R, G, K> {
 
     // The same where no entries are kept.
     #[inline(always)]
-    pub(super) fn find_unnoted(&mut self, task: u64) -> Result<u64, Refusal>
+    pub(super) fn find_unnoted(&self, task: u64) -> Result<u64, Refusal>
         requires { (K == 1) ≡ false }
         ensures found { IfOk result (λ home. (f : ℕ → Script) →
-            Leads (K == 1) N.page_bytes self.old (finding task f) self.new (f home)) }
+            Leads (K == 1) N.page_bytes self.now (finding task f) self.now (f home)) }
         ensures refused { IfErr result (λ refusal. (f : ℕ → Script) →
-            Carries (K == 1) N.page_bytes self.old (finding task f) (Err refusal) self.new) }
-        ensures same { self.new ≡ self.old }
+            Carries (K == 1) N.page_bytes self.now (finding task f) (Err refusal) self.now) }
     {
         match self.entrance.enter_table_unnoted(TableEvent::Find { task }) {
             TableTold::Home(home) => Ok(home),

@@ -1,4 +1,4 @@
-use Rattle.std.proofs.Common.{◌≡◌, ◌==◌, true, false, sym, ◌∙◌}
+use Rattle.std.proofs.Common.{◌==◌, sym, ◌∙◌}
 use Rattle.hp_model.specs.declared.event.SlotEvent.TheVariants.{Remount as Remounting}
 use Rattle.hp_entering.proofs.Parts.{remounting_absent, noted_else, noted_then}
 use Rattle.hp_entering.proofs.entrance.Entrance.enter_remount.Goals as goal
