@@ -1,6 +1,7 @@
 -- A step's script, carried out event by event.
 use Rattle.std.proofs.Common.{if◌then◌else◌, ◌≡◌, ℕ, ◌+◌, ◌<◌, ◌≤◌, Bool, true, false, List, [], ◌∷◌, ◌++◌, Option, None, Some, Ok, Err, inl, inr, length, map, refl, sym, ap, subst, ◌∙◌, arith}
 use Rattle.std.specs.Bool.{MatchBool}
+use Rattle.std.specs.List.{All}
 use Rattle.std.proofs.lemmas.List.{append-nil, append_assoc, length-append, map-append}
 use Rattle.std.proofs.lemmas.Bool.{le-ltb, lt-ltb}
 use Rattle.std.proofs.lemmas.List.Elements.{All-cons, All-nil}
@@ -17,11 +18,10 @@ use Rattle.hp_model.specs.machine.Plan.{Reply}
 use Rattle.hp_model.specs.machine.Step.{Answer_with, Do, Script, Where_mapped, finding, home_in, on_slot, only, script}
 use Rattle.hp_model.specs.machine.Table.{Table, home_of, when_known}
 use Rattle.hp_model.specs.threads.JointRun.{option_cons}
-use Rattle.hp_model.specs.threads.Telling.{Tells, TellsFront, TellsStep, has_place, told_of}
+use Rattle.hp_model.specs.threads.Telling.{Tells, TellsFront, TellsStep, has_place, most_receipts, told_of}
 use Rattle.hp_shared.specs.Slots.{is_trace_full}
-use Rattle.hp_entering.specs.Handed.{CanAnswer, IsHanded, IsToldOf}
-use Rattle.hp_sessions.specs.Calls.{AreAdded, AreAnswers, Carries, Grows, HasReceiptRoom, HasRoomFor, IsCallAnswered, IsMade, IsRefusedFirst}
-use Rattle.hp_sessions.specs.Calls.{Leads, SessionView, TellsOrStops, noted}
+use Rattle.hp_sessions.specs.Calls.{AreAdded, AreAnswers, CanAnswer, Carries, Grows, HasReceiptRoom, HasRoomFor, IsCallAnswered, IsHanded, IsMade, IsRefusedFirst}
+use Rattle.hp_sessions.specs.Calls.{IsToldByReceipts, IsToldOf, Leads, SessionView, TellsOrStops, noted}
 
 -- ---- cases of a test
 

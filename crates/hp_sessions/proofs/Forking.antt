@@ -21,8 +21,7 @@ use Rattle.hp_shared.specs.declared.table_told.TableTold.TheVariants as told
 use Rattle.hp_shared.specs.Tables.{table_reply}
 use Rattle.hp_model.specs.declared.entry.Receipt.{Receipt}
 use Rattle.hp_model.specs.threads.JointRun.{option_cons}
-use Rattle.hp_entering.specs.Handed.{IsHanded}
-use Rattle.hp_sessions.specs.Calls.{Carries, IsMade, Leads, SessionView, noted}
+use Rattle.hp_sessions.specs.Calls.{Carries, IsHanded, IsMade, Leads, SessionView, noted}
 use Rattle.hp_sessions.specs.Forks.{IsForked, marked_below}
 use Rattle.hp_sessions.proofs.Carrying.{ends, goes_on, is_full, made_added, nothing_added, refused_made, stops, where_mapped, where_other}
 

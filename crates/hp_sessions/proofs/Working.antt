@@ -1,5 +1,5 @@
 -- A step, by what it asks of which part.
-use Rattle.std.proofs.Common.{◌≡◌, ◌+◌, ◌<◌, ℕ, List, Bool, true, false, Err, inl, inr, length, refl, sym, subst, ◌∙◌, arith}
+use Rattle.std.proofs.Common.{◌≡◌, ◌+◌, ◌<◌, ◌≤◌, ℕ, List, Bool, true, false, Ok, Err, inl, inr, length, refl, sym, ap, subst, ◌∙◌, arith}
 use denote.Ref.{Bor}
 use Rattle.hp_model.specs.declared.refusal.Refusal.TheVariants.{OutOfMemory, TraceFull}
 use Rattle.hp_model.specs.declared.service.Access.{Access}
@@ -11,6 +11,7 @@ use Rattle.hp_model.specs.beside.Accesses.{load_step, store_step}
 use Rattle.hp_events.specs.declared.event.MountEvent.TheVariants as m
 use Rattle.hp_model.specs.machine.Plan.{Reply}
 use Rattle.hp_model.specs.machine.Step.{only, script}
+use Rattle.hp_model.specs.threads.Telling.{most_receipts}
 use Rattle.hp_events.specs.declared.work.Work.{Work}
 use Rattle.hp_events.specs.declared.work.Work.TheVariants.{OfTask}
 use Rattle.hp_sessions.specs.Calls.{Carries, HasReceiptRoom, IsCallAnswered, IsMade, IsRefusedFirst, SessionView}

@@ -4,12 +4,12 @@ ghost use Rattle.hp_model.specs.threads.JointRun.{option_cons};
 ghost use Rattle.hp_model.specs.Profile.{most_page_bytes};
 ghost use Rattle.hp_sessions.specs.Calls.{noted};
 
+mod entering;
 mod forking;
 mod making;
 mod service;
 mod steps;
 
-use hp_entering::Entrance;
 use hp_locked::Gate;
 use hp_model::entry::Receipt;
 use hp_model::naming::Naming;
@@ -24,7 +24,9 @@ use std::sync::Wait;
 /// that is made as it opens. `finish` hands them out.
 #[derive(Drop)]
 pub struct Session<'a, N: Naming, R: Wait, G: Gate, const K: usize> {
-    entrance: Entrance<'a, N, R, G, K>,
+    rt: &'a R,
+    gate: &'a G,
+    shared: &'a Shared<N, K>,
     receipts: Vec<Receipt>,
     room: usize,
 }
@@ -36,7 +38,7 @@ impl<'a, N: Naming, R: Wait, G: Gate, const K: usize> Model for Session<'a, N, R
     ghost Value = { SessionView };
 
     ghost view = { λ s. record {
-      slots = s.entrance.slots;
+      slots = s.shared.now.slots;
       receipts = s.receipts.items;
       room = s.room;
     } };
@@ -63,7 +65,9 @@ impl<'a, N: Naming, R: Wait, G: Gate, const K: usize> Session<'a, N, R, G, K> {
         let room = if K == 1 { room } else { 0 };
         receipts.reserve(room)?;
         Ok(Session {
-            entrance: Entrance::new(rt, gate, shared),
+            rt,
+            gate,
+            shared,
             receipts,
             room,
         })

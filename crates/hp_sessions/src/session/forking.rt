@@ -30,7 +30,7 @@ impl<'a, N: Naming, R: Wait, G: Gate, const K: usize> Session<'a, N, R, G, K> {
         if let TableTold::Refused(refusal) = self.make_table(TableEvent::Remove { task }) {
             return Err(refusal);
         }
-        for at in 0..self.entrance.count() {
+        for at in 0..self.shared.count() {
             self.make_exit(at, task);
         }
         Ok(())
@@ -59,7 +59,7 @@ impl<'a, N: Naming, R: Wait, G: Gate, const K: usize> Session<'a, N, R, G, K> {
             (done_reply result) self.new }
     {
         let mut done = [false; MOST_SLOTS];
-        for at in 0..self.entrance.count() {
+        for at in 0..self.shared.count() {
             match self.make_fork(at, parent, child) {
                 Ok(forked) => done[at] = forked,
                 Err(refusal) => {

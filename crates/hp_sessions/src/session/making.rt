@@ -35,9 +35,9 @@ impl<'a, N: Naming, R: Wait, G: Gate, const K: usize> Session<'a, N, R, G, K> {
         ensures grows { Grows 1 self.old self.new }
     {
         if K != 1 {
-            return self.entrance.enter_table_unnoted(event);
+            return self.enter_table_unnoted(event);
         }
-        let (told, receipt) = self.entrance.enter_table(event);
+        let (told, receipt) = self.enter_table(event);
         self.add(receipt);
         told
     }
@@ -51,9 +51,9 @@ impl<'a, N: Naming, R: Wait, G: Gate, const K: usize> Session<'a, N, R, G, K> {
         ensures limits { IsWithinLimits (told_reply result) }
     {
         if K != 1 {
-            return self.entrance.enter_pool_unnoted(event);
+            return self.enter_pool_unnoted(event);
         }
-        let (told, receipt) = self.entrance.enter_pool(event);
+        let (told, receipt) = self.enter_pool(event);
         self.add(receipt);
         told
     }
@@ -77,14 +77,15 @@ impl<'a, N: Naming, R: Wait, G: Gate, const K: usize> Session<'a, N, R, G, K> {
 
     // The same where no entries are kept.
     #[inline(always)]
-    pub(super) fn find_unnoted(&self, task: u64) -> Result<u64, Refusal>
+    pub(super) fn find_unnoted(&mut self, task: u64) -> Result<u64, Refusal>
         requires { (K == 1) ≡ false }
         ensures found { IfOk result (λ home. (f : ℕ → Script) →
-            Leads (K == 1) N.page_bytes self.now (finding task f) self.now (f home)) }
+            Leads (K == 1) N.page_bytes self.old (finding task f) self.new (f home)) }
         ensures refused { IfErr result (λ refusal. (f : ℕ → Script) →
-            Carries (K == 1) N.page_bytes self.now (finding task f) (Err refusal) self.now) }
+            Carries (K == 1) N.page_bytes self.old (finding task f) (Err refusal) self.new) }
+        ensures same { self.new ≡ self.old }
     {
-        match self.entrance.enter_table_unnoted(TableEvent::Find { task }) {
+        match self.enter_table_unnoted(TableEvent::Find { task }) {
             TableTold::Home(home) => Ok(home),
             TableTold::Refused(refusal) => Err(refusal),
             TableTold::Done => unreachable!(),
@@ -113,10 +114,10 @@ impl<'a, N: Naming, R: Wait, G: Gate, const K: usize> Session<'a, N, R, G, K> {
             HasAnswerOf (event_of home event.entry) (told_answer told)) }
     {
         let at = slot as usize;
-        if at >= self.entrance.count() {
+        if at >= self.shared.count() {
             return Err(Refusal::NoSuchSlot);
         }
-        let (told, receipt) = self.entrance.enter_slot(at, home, event, copies, room);
+        let (told, receipt) = self.enter_slot(at, home, event, copies, room);
         self.add(receipt);
         told
     }
@@ -141,10 +142,10 @@ impl<'a, N: Naming, R: Wait, G: Gate, const K: usize> Session<'a, N, R, G, K> {
             HasAnswerOf (event_of home event.entry) (told_answer told)) }
     {
         let at = slot as usize;
-        if at >= self.entrance.count() {
+        if at >= self.shared.count() {
             return Err(Refusal::NoSuchSlot);
         }
-        self.entrance.enter_slot_unnoted(at, home, event, room)
+        self.enter_slot_unnoted(at, home, event, room)
     }
 
     // Mounts a slot, if there is one of that number.
@@ -162,10 +163,10 @@ impl<'a, N: Naming, R: Wait, G: Gate, const K: usize> Session<'a, N, R, G, K> {
         ensures limits { IsWithinLimits (told_reply result) }
     {
         let at = slot as usize;
-        if at >= self.entrance.count() {
+        if at >= self.shared.count() {
             return Err(Refusal::NoSuchSlot);
         }
-        let (told, receipt) = self.entrance.enter_mount(at, options, copies);
+        let (told, receipt) = self.enter_mount(at, options, copies);
         self.add(receipt);
         told
     }
@@ -185,10 +186,10 @@ impl<'a, N: Naming, R: Wait, G: Gate, const K: usize> Session<'a, N, R, G, K> {
         ensures limits { IsWithinLimits (told_reply result) }
     {
         let at = slot as usize;
-        if at >= self.entrance.count() {
+        if at >= self.shared.count() {
             return Err(Refusal::NoSuchSlot);
         }
-        let (told, receipt) = self.entrance.enter_remount(at, options, copies);
+        let (told, receipt) = self.enter_remount(at, options, copies);
         self.add(receipt);
         told
     }
@@ -201,10 +202,10 @@ impl<'a, N: Naming, R: Wait, G: Gate, const K: usize> Session<'a, N, R, G, K> {
         ensures limits { IsWithinLimits (told_reply result) }
     {
         let at = slot as usize;
-        if at >= self.entrance.count() {
+        if at >= self.shared.count() {
             return Err(Refusal::NoSuchSlot);
         }
-        let (told, receipt) = self.entrance.enter_umount(at);
+        let (told, receipt) = self.enter_umount(at);
         self.add(receipt);
         told
     }
@@ -217,10 +218,10 @@ impl<'a, N: Naming, R: Wait, G: Gate, const K: usize> Session<'a, N, R, G, K> {
         ensures limits { IsWithinLimits (told_reply result) }
     {
         let at = slot as usize;
-        if at >= self.entrance.count() {
+        if at >= self.shared.count() {
             return Err(Refusal::NoSuchSlot);
         }
-        let (names, receipt) = self.entrance.enter_names(at);
+        let (names, receipt) = self.enter_names(at);
         self.add(receipt);
         match names {
             Ok(names) => Ok(Told::Names(names)),
@@ -241,7 +242,7 @@ impl<'a, N: Naming, R: Wait, G: Gate, const K: usize> Session<'a, N, R, G, K> {
             (Err refusal) self.new) }
         ensures grows { Grows 1 self.old self.new }
     {
-        let Some(handed) = self.entrance.enter_fork(at, parent, child) else {
+        let Some(handed) = self.enter_fork(at, parent, child) else {
             return Ok(false);
         };
         let (told, receipt) = handed;
@@ -260,7 +261,7 @@ impl<'a, N: Naming, R: Wait, G: Gate, const K: usize> Session<'a, N, R, G, K> {
             (exit_slot at task next) self.new next }
         ensures grows { Grows 1 self.old self.new }
     {
-        let (_left, receipt) = self.entrance.enter_exit(at, task);
+        let (_left, receipt) = self.enter_exit(at, task);
         self.add(receipt);
     }
 }

@@ -47,6 +47,6 @@ impl<'a, N: Naming, R: Wait, G: Gate, const K: usize> Service for Session<'a, N,
     }
 
     fn page_bytes(&self) -> u64 {
-        self.entrance.page_bytes()
+        self.shared.page_bytes()
     }
 }

@@ -147,7 +147,7 @@ impl<'a, N: Naming, R: Wait, G: Gate, const K: usize> Session<'a, N, R, G, K> {
         {
             return self.on_slot_unnoted(slot, event, room);
         }
-        if self.lacks(most_receipts(self.entrance.count(), work)) {
+        if self.lacks(most_receipts(self.shared.count(), work)) {
             return Err(Refusal::TraceFull);
         }
         match *work {
@@ -268,8 +268,9 @@ impl<'a, N: Naming, R: Wait, G: Gate, const K: usize> Session<'a, N, R, G, K> {
         ensures memory { OnErr result (((K == 1) ≡ true)
             × (has_bytes (event_of 0 event.now) ≡ true)) }
     {
+        let shared = self.shared;
         if K == 1 {
-            Ok(Some(copies(self.entrance.alloc(), event)?))
+            Ok(Some(copies(shared.alloc(), event)?))
         } else {
             Ok(None)
         }
@@ -280,8 +281,9 @@ impl<'a, N: Naming, R: Wait, G: Gate, const K: usize> Session<'a, N, R, G, K> {
         ensures copies { IfOk result (λ c. (K == 1) ≡ true → AreCopies options.now c) }
         ensures memory { OnErr result ((K == 1) ≡ true) }
     {
+        let shared = self.shared;
         if K == 1 {
-            Ok(Some(twice(self.entrance.alloc(), options)?))
+            Ok(Some(twice(shared.alloc(), options)?))
         } else {
             Ok(None)
         }

@@ -1,8 +1,8 @@
 use Rattle.std.proofs.Common.{◌==◌}
 use Rattle.hp_model.specs.declared.event.Event.TheVariants.{Tasks as OnTasks}
 use Rattle.hp_shared.specs.Tables.{table_reply}
-use Rattle.hp_entering.proofs.Parts.{told_open, unnoted_handed}
-use Rattle.hp_entering.proofs.entrance.Entrance.enter_table_unnoted.Goals as goal
+use Rattle.hp_sessions.proofs.Parts.{told_open, unnoted_handed}
+use Rattle.hp_sessions.proofs.session.Session.enter_table_unnoted.Goals as goal
 
 pub returns : goal.returns
 returns g c =

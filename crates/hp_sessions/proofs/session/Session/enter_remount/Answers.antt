@@ -1,8 +1,8 @@
-use Rattle.std.proofs.Common.{◌==◌, sym, ◌∙◌}
+use Rattle.std.proofs.Common.{◌≡◌, ◌==◌, true, false, sym, ◌∙◌}
 use Rattle.hp_model.specs.declared.event.SlotEvent.TheVariants.{Remount as Remounting}
-use Rattle.hp_entering.proofs.Parts.{remounting_absent, noted_else, noted_then}
-use Rattle.hp_entering.proofs.entrance.Entrance.enter_remount.Goals as goal
-use Rattle.hp_entering.proofs.entrance.Entrance.enter_remount.Goals.{then-is_kept, else-is_kept}
+use Rattle.hp_sessions.proofs.Parts.{remounting_absent, noted_else, noted_then}
+use Rattle.hp_sessions.proofs.session.Session.enter_remount.Goals as goal
+use Rattle.hp_sessions.proofs.session.Session.enter_remount.Goals.{then-is_kept, else-is_kept}
 
 pub returns-then-number-at-clause-handed : goal.returns-then-number-at-clause-handed
 returns-then-number-at-clause-handed g c = remounting_absent (g.row.K == 1) g.N.Naming.page_bytes c.args.at c.args.options.now c.absent.result c.absent.ensures

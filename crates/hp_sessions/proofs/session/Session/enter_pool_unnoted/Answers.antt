@@ -2,9 +2,9 @@ use Rattle.std.proofs.Common.{◌==◌, None, sym, subst}
 use Rattle.hp_locked.specs.Told.{pool_reply}
 use Rattle.hp_model.specs.declared.event.Event.TheVariants.{Pool as OnPool}
 use Rattle.hp_model.specs.machine.Plan.{Reply}
-use Rattle.hp_entering.specs.Handed.{IsHanded}
-use Rattle.hp_entering.proofs.Parts.{pool_can, pool_open, unnoted_handed}
-use Rattle.hp_entering.proofs.entrance.Entrance.enter_pool_unnoted.Goals as goal
+use Rattle.hp_sessions.specs.Calls.{IsHanded}
+use Rattle.hp_sessions.proofs.Parts.{pool_can, pool_open, unnoted_handed}
+use Rattle.hp_sessions.proofs.session.Session.enter_pool_unnoted.Goals as goal
 
 pub returns-clause-handed : goal.returns-clause-handed
 returns-clause-handed g c =

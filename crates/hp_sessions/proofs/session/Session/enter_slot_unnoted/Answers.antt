@@ -1,8 +1,8 @@
 use Rattle.std.proofs.Common.{◌≡◌, ◌==◌, true, None, sym, ◌∙◌}
 use Rattle.hp_model.specs.beside.Told.{told_reply}
 use Rattle.hp_events.specs.Event.{event_of}
-use Rattle.hp_entering.proofs.Parts.{mount_absent, mount_has_place, slot_handed}
-use Rattle.hp_entering.proofs.entrance.Entrance.enter_slot_unnoted.Goals as goal
+use Rattle.hp_sessions.proofs.Parts.{mount_absent, mount_has_place, slot_handed}
+use Rattle.hp_sessions.proofs.session.Session.enter_slot_unnoted.Goals as goal
 
 pub returns-then-number-at-clause-handed : goal.returns-then-number-at-clause-handed
 returns-then-number-at-clause-handed g c = mount_absent (g.row.K == 1) g.N.Naming.page_bytes c.args.at c.args.home c.args.event c.absent.result c.absent.ensures

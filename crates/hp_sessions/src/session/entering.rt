@@ -8,13 +8,14 @@ ghost use Rattle.hp_model.specs.declared.event.SlotEvent.TheVariants.{ExitMaps, 
 ghost use Rattle.hp_model.specs.declared.refusal.Refusal.TheVariants.{TraceFull};
 ghost use Rattle.hp_model.specs.beside.Told.{told_reply};
 ghost use Rattle.hp_model.specs.text.Writing.{IsWithinLimits};
-ghost use Rattle.hp_model.specs.Profile.{most_bytes, most_page_bytes, most_slots};
+ghost use Rattle.hp_model.specs.Profile.{most_bytes};
 ghost use Rattle.hp_events.specs.Event.{event_of, shows_bytes};
 ghost use Rattle.hp_shared.specs.Slots.{names_reply};
 ghost use Rattle.hp_shared.specs.Tables.{table_reply};
-ghost use Rattle.hp_entering.specs.Handed.{IsHanded};
+ghost use Rattle.hp_sessions.specs.Calls.{IsHanded};
 ghost use Rattle.hp_events.specs.Copies.{AreCopies, bytes_of_event};
 
+use super::Session;
 use hp_events::MountEvent;
 use hp_events::copies::{Copies, events, mountings, remountings};
 use hp_locked::{Core, Door, Gate};
@@ -25,29 +26,8 @@ use hp_model::naming::Naming;
 use hp_model::refusal::Refusal;
 use hp_model::told::Told;
 use hp_shared::{Slot, Table, TableTold};
-use hp_shared_machine::Shared;
 use hp_trail::trace::Trace;
-use std::alloc::Global;
-use std::marker::Model;
 use std::sync::{Mutex, MutexGuard, Wait};
-
-/// The way of one thread to the machine's parts. Each call takes the lock of one part, makes one event there, and gives the lock
-/// back. It hands back what the event answers, with its receipt where entries are kept; TraceFull tells that a trail has no place
-/// for its entry. Under a slot's lock an event may take the pool's or a node's, one at a time.
-#[derive(Drop)]
-pub struct Entrance<'a, N: Naming, R: Wait, G: Gate, const K: usize> {
-    rt: &'a R,
-    gate: &'a G,
-    shared: &'a Shared<N, K>,
-}
-
-impl<'a, N: Naming, R: Wait, G: Gate, const K: usize> Model for Entrance<'a, N, R, G, K> {
-    ghost use Rattle.hp_shared_machine.specs.Sharing.{SharedView};
-
-    ghost Value = { SharedView };
-
-    ghost view = { λ e. e.shared.now };
-}
 
 // Takes a lock. Where it is free no call is made.
 #[inline(always)]
@@ -66,41 +46,9 @@ fn absent<const K: usize>(refusal: Refusal) -> Refusal
     if K == 1 { Refusal::TraceFull } else { refusal }
 }
 
-impl<'a, N: Naming, R: Wait, G: Gate, const K: usize> Entrance<'a, N, R, G, K> {
-    /// The way to the parts of this machine.
-    pub fn new(rt: &'a R, gate: &'a G, shared: &'a Shared<N, K>) -> Self
-        ensures { result ≡ shared.entry.now }
-    {
-        Entrance { rt, gate, shared }
-    }
-
-    /// How many slots there are.
-    #[inline(always)]
-    pub fn count(&self) -> usize
-        ensures count { result ≡ self.now.slots }
-        ensures few { result ≤ most_slots }
-    {
-        self.shared.count()
-    }
-
-    /// The bytes of a page.
-    #[inline(always)]
-    pub fn page_bytes(&self) -> u64
-        ensures bytes { result ≡ self.now.page_size }
-        ensures named { result ≡ N.page_bytes }
-        ensures some { 0 < result }
-        ensures most { result ≤ most_page_bytes }
-    {
-        self.shared.page_bytes()
-    }
-
-    /// What memory is taken from.
-    pub fn alloc(&self) -> Global {
-        self.shared.alloc()
-    }
-
-    /// An event of the task table: what it answers, and its receipt where entries are kept.
-    pub fn enter_table(&self, event: TableEvent) -> (TableTold, Option<Receipt>)
+impl<'a, N: Naming, R: Wait, G: Gate, const K: usize> Session<'a, N, R, G, K> {
+    // An event of the task table: what it answers, and its receipt where entries are kept.
+    pub(super) fn enter_table(&self, event: TableEvent) -> (TableTold, Option<Receipt>)
         ensures { IsHanded (K == 1) N.page_bytes (OnTasks event) (table_reply result.0) result.1 }
     {
         let shared = self.shared;
@@ -112,9 +60,9 @@ impl<'a, N: Naming, R: Wait, G: Gate, const K: usize> Entrance<'a, N, R, G, K> {
         }
     }
 
-    /// An event of the task table where no entries are kept: what it answers.
+    // An event of the task table where no entries are kept: what it answers.
     #[inline(always)]
-    pub fn enter_table_unnoted(&self, event: TableEvent) -> TableTold
+    pub(super) fn enter_table_unnoted(&self, event: TableEvent) -> TableTold
         requires { (K == 1) ≡ false }
         ensures { IsHanded (K == 1) N.page_bytes (OnTasks event) (table_reply result) None }
     {
@@ -124,8 +72,11 @@ impl<'a, N: Naming, R: Wait, G: Gate, const K: usize> Entrance<'a, N, R, G, K> {
         table.event_unnoted(event)
     }
 
-    /// An event of the pool alone.
-    pub fn enter_pool(&self, event: PoolEvent) -> (Result<Told<'static>, Refusal>, Option<Receipt>)
+    // An event of the pool alone.
+    pub(super) fn enter_pool(
+        &self,
+        event: PoolEvent,
+    ) -> (Result<Told<'static>, Refusal>, Option<Receipt>)
         ensures handed { IsHanded (K == 1) N.page_bytes (OnPool event) (told_reply result.0)
             result.1 }
         ensures limits { IsWithinLimits (told_reply result.0) }
@@ -139,9 +90,9 @@ impl<'a, N: Naming, R: Wait, G: Gate, const K: usize> Entrance<'a, N, R, G, K> {
         }
     }
 
-    /// An event of the pool alone where no entries are kept.
+    // An event of the pool alone where no entries are kept.
     #[inline(always)]
-    pub fn enter_pool_unnoted(&self, event: PoolEvent) -> Result<Told<'static>, Refusal>
+    pub(super) fn enter_pool_unnoted(&self, event: PoolEvent) -> Result<Told<'static>, Refusal>
         requires unkept { (K == 1) ≡ false }
         ensures handed { IsHanded (K == 1) N.page_bytes (OnPool event) (told_reply result) None }
         ensures limits { IsWithinLimits (told_reply result) }
@@ -151,8 +102,8 @@ impl<'a, N: Naming, R: Wait, G: Gate, const K: usize> Entrance<'a, N, R, G, K> {
         told.told()
     }
 
-    /// An event of the mount of a slot.
-    pub fn enter_slot<'b>(
+    // An event of the mount of a slot.
+    pub(super) fn enter_slot<'b>(
         &self,
         at: usize,
         home: u64,
@@ -184,9 +135,9 @@ impl<'a, N: Naming, R: Wait, G: Gate, const K: usize> Entrance<'a, N, R, G, K> {
         slot.event(&mut door, shared.page_bytes(), home, event, noted, room)
     }
 
-    /// An event of the mount of a slot where no entries are kept.
+    // An event of the mount of a slot where no entries are kept.
     #[inline(always)]
-    pub fn enter_slot_unnoted<'b>(
+    pub(super) fn enter_slot_unnoted<'b>(
         &self,
         at: usize,
         home: u64,
@@ -212,8 +163,8 @@ impl<'a, N: Naming, R: Wait, G: Gate, const K: usize> Entrance<'a, N, R, G, K> {
         slot.event_unnoted(&mut door, shared.page_bytes(), home, event, room)
     }
 
-    /// Mounts a slot.
-    pub fn enter_mount(
+    // Mounts a slot.
+    pub(super) fn enter_mount(
         &self,
         at: usize,
         options: &[u8],
@@ -247,8 +198,8 @@ impl<'a, N: Naming, R: Wait, G: Gate, const K: usize> Entrance<'a, N, R, G, K> {
         )
     }
 
-    /// Sets the limits of a slot's mount anew.
-    pub fn enter_remount(
+    // Sets the limits of a slot's mount anew.
+    pub(super) fn enter_remount(
         &self,
         at: usize,
         options: &[u8],
@@ -276,8 +227,11 @@ impl<'a, N: Naming, R: Wait, G: Gate, const K: usize> Entrance<'a, N, R, G, K> {
         slot.remount(&mut door, shared.page_bytes(), options, noted)
     }
 
-    /// Ends the mount of a slot.
-    pub fn enter_umount(&self, at: usize) -> (Result<Told<'static>, Refusal>, Option<Receipt>)
+    // Ends the mount of a slot.
+    pub(super) fn enter_umount(
+        &self,
+        at: usize,
+    ) -> (Result<Told<'static>, Refusal>, Option<Receipt>)
         requires { at < self.now.slots }
         ensures handed { IsHanded (K == 1) N.page_bytes (OnSlot at Umount) (told_reply result.0)
             result.1 }
@@ -294,8 +248,8 @@ impl<'a, N: Naming, R: Wait, G: Gate, const K: usize> Entrance<'a, N, R, G, K> {
         slot.umount(&mut door)
     }
 
-    /// The names of a slot's files.
-    pub fn enter_names(&self, at: usize) -> (Result<Names, Refusal>, Option<Receipt>)
+    // The names of a slot's files.
+    pub(super) fn enter_names(&self, at: usize) -> (Result<Names, Refusal>, Option<Receipt>)
         requires { at < self.now.slots }
         ensures handed { IsHanded (K == 1) N.page_bytes (OnSlot at Ls) (names_reply result.0)
             result.1 }
@@ -311,8 +265,8 @@ impl<'a, N: Naming, R: Wait, G: Gate, const K: usize> Entrance<'a, N, R, G, K> {
         slot.names(shared.alloc())
     }
 
-    /// Gives a child the maps that its parent has on a slot, if it has any there: whether there was an event.
-    pub fn enter_fork(
+    // Gives a child the maps that its parent has on a slot, if it has any there: whether there was an event.
+    pub(super) fn enter_fork(
         &self,
         at: usize,
         parent: u64,
@@ -334,8 +288,8 @@ impl<'a, N: Naming, R: Wait, G: Gate, const K: usize> Entrance<'a, N, R, G, K> {
         Some(slot.fork_maps(&mut door, parent, child))
     }
 
-    /// The maps that a task has on a slot go, if it has any there: whether there was an event, and its receipt.
-    pub fn enter_exit(&self, at: usize, task: u64) -> (bool, Option<Receipt>)
+    // The maps that a task has on a slot go, if it has any there: whether there was an event, and its receipt.
+    pub(super) fn enter_exit(&self, at: usize, task: u64) -> (bool, Option<Receipt>)
         requires { at < self.now.slots }
         ensures { MatchBool result.0 (IsHanded (K == 1) N.page_bytes (OnSlot at (ExitMaps task))
             (Ok Done) result.1) (result.1 ≡ None) }

@@ -1,7 +1,8 @@
 -- What the parts of the machine hand back.
-use Rattle.std.proofs.Common.{◌≡◌, ◌⊎◌, inl, inr, if◌then◌else◌, ℕ, Bool, true, false, List, [], ◌∷◌, Option, None, Some, Ok, Err, refl, sym, ap, subst, ◌∙◌, nat_le}
+use Rattle.std.proofs.Common.{◌≡◌, ◌⊎◌, inl, inr, ℕ, Bool, true, false, cond, List, [], ◌∷◌, Option, None, Some, Ok, Err, refl, sym, ap, subst, ◌∙◌, if◌then◌else◌, length, nat_le}
 use Rattle.std.specs.Bool.{MatchBool}
-use Rattle.std.specs.Prelude.{is_some}
+use Rattle.std.specs.Prelude.{IfOk, Result, is_some}
+use Rattle.hp_model.specs.declared.answer.Answer.{Answer}
 use Rattle.hp_model.specs.declared.answer.Answer.TheVariants.{Done, Home}
 use Rattle.hp_model.specs.declared.entry.Asked.{Asked}
 use Rattle.hp_model.specs.declared.entry.Part.{Part}
@@ -15,11 +16,27 @@ use Rattle.hp_model.specs.declared.event.SlotEvent.TheVariants as slot
 use Rattle.hp_model.specs.declared.event.TableEvent.{TableEvent}
 use Rattle.hp_model.specs.declared.event.TableEvent.TheVariants as table
 use Rattle.hp_model.specs.declared.refusal.Refusal.{Refusal}
-use Rattle.hp_model.specs.declared.refusal.Refusal.TheVariants.{NoSuchNode, NoSuchSlot, SlotTaken, TaskExists, TooMany, TraceFull}
+use Rattle.hp_model.specs.declared.refusal.Refusal.TheVariants.{NoSuchMap, NoSuchNode, NoSuchSlot, SlotTaken, TaskExists, TooMany, TraceFull}
+use Rattle.hp_model.specs.files.File.{Mount}
+use Rattle.hp_model.specs.files.Mapping.{is_map}
+use Rattle.hp_model.specs.files.Spot.{Spot, again, spot, written}
+use Rattle.hp_model.specs.files.Value.{value}
+use Rattle.hp_model.specs.declared.step.Intent.TheVariants.{Read, Write}
 use Rattle.hp_model.specs.machine.Machine.{open_mount}
-use Rattle.hp_model.specs.machine.Plan.{Reply}
+use Rattle.hp_model.specs.machine.Plan.{Answered, Choice, Outcome, Refused, Reply, Slot, continued}
+use Rattle.hp_model.specs.machine.SlotEvent.{byte_access, bytes_answer, load, slot_event, store}
 use Rattle.hp_model.specs.machine.Table.{Table, added, home_of, is_crowded, is_known, or_refused, removed, table_event, when_known}
+use Rattle.hp_model.specs.declared.told.Told.{Told}
+use Rattle.hp_model.specs.beside.Told.{told_answer, told_reply}
+use Rattle.hp_model.specs.threads.LocalRun.{Gives}
+use Rattle.hp_laws.specs.Answers.{lists_names}
 use Rattle.hp_model.specs.threads.Telling.{has_place}
+use Rattle.hp_laws.specs.Balance.{Always}
+use Rattle.hp_laws.proofs.names.Accessed.{bytes_on}
+use Rattle.hp_laws.proofs.counts.MountMoves.{IsSpot, spot_is}
+use Rattle.hp_laws.proofs.steps.Outcomes.{always_then}
+use Rattle.hp_laws.proofs.accesses.Shown.{On}
+use Rattle.hp_laws.proofs.accesses.SlotShows.{always_value}
 use Rattle.hp_locked.specs.declared.pool_told.PoolTold.{PoolTold}
 use Rattle.hp_locked.specs.declared.pool_told.PoolTold.TheVariants as pool
 use Rattle.hp_locked.specs.Told.{IsPoolEventDone, IsReceipt, pool_reply}
@@ -27,11 +44,12 @@ use Rattle.hp_locked.specs.Views.{CoreView}
 use Rattle.hp_events.specs.declared.event.MountEvent.{MountEvent}
 use Rattle.hp_events.specs.declared.event.MountEvent.TheVariants as m
 use Rattle.hp_events.specs.Event.{event_of}
-use Rattle.hp_mount_laws.proofs.Ways.{fresh_choice, is_fresh}
+use Rattle.hp_mount.proofs.Ways.{fresh_choice, is_fresh}
 use Rattle.hp_shared.specs.Slots.{AreEventsToNote, IsSlotEvent, IsSlotEventDone, SlotView, Went, is_trace_full}
-use Rattle.hp_shared.proofs.Acting.{none_acted}
-use Rattle.hp_entering.specs.Handed.{CanAnswer, IsHanded, IsToldOf}
+use Rattle.hp_shared.proofs.Acting.{always_came, none_acted}
+use Rattle.hp_sessions.specs.Calls.{CanAnswer, IsHanded, IsToldOf}
 use Rattle.hp_events.specs.Copies.{AreEvents}
+use Rattle.hp_sessions.specs.Works.{HasAnswerOf, IsBytes}
 
 map_match : (b : Bool) (A B C D : Type 0) → (b ≡ true → A → C) → (b ≡ false → B → D) → MatchBool b A B → MatchBool b C D
 map_match true A B C D f g t = f refl t
@@ -184,6 +202,72 @@ mounting_absent kept size k options r is =
     (absent_handed kept size k (slot.Mount options) SlotTaken refl refl
     (Some open_mount, None, Some open_mount, (fresh_choice false (Some open_mount), is_fresh false (Some open_mount), (refl, refl))))
 
+-- ---- what a load and a store are answered
+
+-- no mount goes by an access
+abbrev Any : Mount → Type 0
+Any n = Unit {0}
+
+module _ (size k : ℕ) (c : Choice) (task home number i offset : ℕ) where
+  abbrev IsLoaded : Outcome → Type 0
+  IsLoaded (Refused r) = Unit {0}
+  IsLoaded (Answered a s) = IsBytes a
+
+  abbrev IsStored : Outcome → Type 0
+  IsStored (Refused r) = Unit {0}
+  IsStored (Answered a s) = a ≡ Done
+
+  loads : (count : ℕ) (old : Slot) → Always IsLoaded (slot_event size k c old (slot.Load task home number i offset count))
+  loads count None = tt
+  loads count (Some x) =
+      always_value IsLoaded (λ r. tt) (spot x (is_map task number)) NoSuchMap (load c size x home i offset count)
+      (λ s e. always_then (On Any) IsLoaded (λ n. Answered (bytes_answer offset count (value size (again n s).file (again n s).map i)) (Some n)) (ends_in s)
+      (byte_access c size x home i offset count Read s) (bytes_on c x Any tt s (spot_is x (is_map task number) s e) (λ f same. tt) size home i offset count Read))
+    where
+      ends_in : (s : Spot) (o : Outcome) → On Any o → IsLoaded (continued (λ n. Answered (bytes_answer offset count (value size (again n s).file (again n s).map i)) (Some n)) o)
+      ends_in s (Refused r) on = tt
+      ends_in s (Answered a None) on = absurd on
+      ends_in s (Answered a (Some n)) on = tt
+
+  stores : (bytes : List ℕ) (old : Slot) → Always IsStored (slot_event size k c old (slot.Store task home number i offset bytes))
+  stores bytes None = tt
+  stores bytes (Some x) =
+      always_value IsStored (λ r. tt) (spot x (is_map task number)) NoSuchMap (store c size x home i offset bytes)
+      (λ s e. always_then (On Any) IsStored (λ n. Answered Done (Some (written n s i offset bytes))) (ends_in s)
+      (byte_access c size x home i offset (length bytes) Write s) (bytes_on c x Any tt s (spot_is x (is_map task number) s e) (λ f same. tt) size home i offset (length bytes) Write))
+    where
+      ends_in : (s : Spot) (o : Outcome) → On Any o → IsStored (continued (λ n. Answered Done (Some (written n s i offset bytes))) o)
+      ends_in s (Refused r) on = tt
+      ends_in s (Answered a None) on = absurd on
+      ends_in s (Answered a (Some n)) on = refl
+
+  loaded : (o : Outcome) (old new : Slot) (a : Answer) → IsLoaded o → Gives o old (Ok a) new → IsBytes a
+  loaded (Refused r) old new a h g = absurd (let same = g.0 in cc)
+  loaded (Answered b s) old new a h g = subst (λ (x : Reply). OfOk x) (sym g.0) h
+    where
+      OfOk : Reply → Type 0
+      OfOk (Ok x) = IsBytes x
+      OfOk (Err e) = Unit {0}
+
+  stored : (o : Outcome) (old new : Slot) (a : Answer) → IsStored o → Gives o old (Ok a) new → a ≡ Done
+  stored (Refused r) old new a h g = absurd (let same = g.0 in cc)
+  stored (Answered b s) old new a h g = (let same = g.0 in cc)
+
+pub fits : (size k : ℕ) (e : SlotEvent) (a : Answer) → CanAnswer size (OnSlot k e) (Ok a) → HasAnswerOf e a
+fits size k (slot.Load task home number i offset count) a (old, asked, new, went) =
+    let came = always_came (IsLoaded size k went.0 task home number i offset) (slot_event size k went.0 old (slot.Load task home number i offset count)) asked old (Ok a) new
+    (loads size k went.0 task home number i offset count old) went.2 in
+    loaded size k went.0 task home number i offset came.0 old new a came.1 came.2
+fits size k (slot.Store task home number i offset bytes) a (old, asked, new, went) =
+    let came = always_came (IsStored size k went.0 task home number i offset) (slot_event size k went.0 old (slot.Store task home number i offset bytes)) asked old (Ok a) new
+    (stores size k went.0 task home number i offset bytes old) went.2 in
+    stored size k went.0 task home number i offset came.0 old new a came.1 came.2
+fits size k other a can = tt
+
+-- what was handed back fits
+pub handed_fits : (kept : Bool) (size k : ℕ) (e : SlotEvent) (a : Answer) (receipt : Option Receipt) → IsHanded kept size (OnSlot k e) (Ok a) receipt → HasAnswerOf e a
+handed_fits kept size k e a receipt handed = fits size k e a handed.0
+
 -- ---- copies
 
 pub noted_as : (entries : Option (List SlotEntry)) (e : SlotEvent) (both : Option (SlotEvent × SlotEvent)) → AreEvents e both → AreEventsToNote entries e both
@@ -200,3 +284,17 @@ noted_else (Some es) e noted is none = cc
 pub either_kept : {P : Type 0} (b : Bool) → (b ≡ true) ⊎ (P × (b ≡ true)) → b ≡ true
 either_kept b (inl h) = h
 either_kept b (inr h) = h.1
+
+pub fits_result : (kept : Bool) (size k : ℕ) (e : SlotEvent) (r : Result Told Refusal) (receipt : Option Receipt) → IsHanded kept size (OnSlot k e) (told_reply r) receipt →
+    IfOk r (λ t. HasAnswerOf e (told_answer t))
+fits_result kept size k e (Ok t) receipt h = handed_fits kept size k e (told_answer t) receipt h
+fits_result kept size k e (Err x) receipt h = tt
+
+pub answer_home : (home : ℕ) (e : MountEvent) (a : Answer) → HasAnswerOf (event_of home e) a → HasAnswerOf (event_of 0 e) a
+answer_home home (m.Load task map index offset count) a h = h
+answer_home home (m.Store task map index offset bytes) a h = h
+answer_home home other a h = tt
+
+pub apart_home : (home : ℕ) (e : MountEvent) → lists_names (event_of 0 e) ≡ false → lists_names (event_of home e) ≡ false
+apart_home home m.Ls h = h
+apart_home home other h = refl
