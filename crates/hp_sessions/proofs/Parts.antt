@@ -44,7 +44,7 @@ use Rattle.hp_locked.specs.Views.{CoreView}
 use Rattle.hp_events.specs.declared.event.MountEvent.{MountEvent}
 use Rattle.hp_events.specs.declared.event.MountEvent.TheVariants as m
 use Rattle.hp_events.specs.Event.{event_of}
-use Rattle.hp_mount.proofs.Ways.{fresh_choice, is_fresh}
+use Rattle.hp_mount_laws.proofs.Ways.{fresh_choice, is_fresh}
 use Rattle.hp_shared.specs.Slots.{AreEventsToNote, IsSlotEvent, IsSlotEventDone, SlotView, Went, is_trace_full}
 use Rattle.hp_shared.proofs.Acting.{always_came, none_acted}
 use Rattle.hp_sessions.specs.Calls.{CanAnswer, IsHanded, IsToldOf}
