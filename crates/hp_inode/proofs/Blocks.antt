@@ -12,10 +12,10 @@ use Rattle.std.proofs.lemmas.List.Sums.{count_by-le-length}
 use Rattle.hp_model.proofs.Counting.{alike_in, count_cons, count_not, count_split, count_outside}
 use Rattle.hp_model.proofs.Ranges.{within-true, within-below, within-past}
 use Rattle.hp_model.specs.beside.Ranges.{within}
-use Rattle.hp_inode.specs.Blocks.{WordBlocks, RowBlocks, AreBlocks, block_at, entered_at, has_place, page_at, has_slot_at, entered_count, missing_count, FindsPageAt, IsRowTable}
+use Rattle.hp_inode.specs.Blocks.{WordBlocks, RowBlocks, AreBlocks, block_at, entered_at, has_place, page_at, has_slot_at, entered_count, missing_count, IsRowTable}
 use Rattle.hp_inode.specs.EntryBlock.{count_in, missing_in}
 use Rattle.hp_inode.specs.Marks.{marked}
-use Rattle.hp_inode.specs.Rows.{page_in, has_slot, FindsPage, Rows}
+use Rattle.hp_inode.specs.Rows.{page_in, has_slot, IsTaken, TakesFirst, Rows}
 use Rattle.hp_inode.proofs.Removed.{parts_left}
 use Rattle.hp_inode.proofs.Words.{unmarked_past}
 
@@ -283,17 +283,76 @@ module _ (start old new : RowBlocks) (a at count : ℕ) (low : a ≤ at) (fits :
 
 -- ---- the first page
 
-module _ (rows : RowBlocks) (a at from : ℕ) (low : a ≤ at * 65536 + from) (before : (k : ℕ) → a ≤ k → k < at * 65536 + from → page_at rows k ≡ None) where
+module _ (rows : RowBlocks) (a b at from : ℕ) (before : (k : ℕ) → a ≤ k → k < at * 65536 + from → k < b → page_at rows k ≡ None) where
   page_here : (k : ℕ) → k / 65536 ≡ at → page_at rows k ≡ page_in (get_or rows at []) (k % 65536)
   page_here k same = ap (λ q. page_in (get_or rows q []) (k % 65536)) same
 
-  pub none_to_next : ((k : ℕ) → from ≤ k → page_in (get_or rows at []) k ≡ None) → (k : ℕ) → a ≤ k → k < (at + 1) * 65536 → page_at rows k ≡ None
-  none_to_next none k above below = ⊎_elim
-      (λ (early : k < at * 65536 + from). before k above early)
+  pub none_to_next : ((k : ℕ) → from ≤ k → k < b - at * 65536 → page_in (get_or rows at []) k ≡ None) → (k : ℕ) → a ≤ k → k < (at + 1) * 65536 → k < b → page_at rows k ≡ None
+  none_to_next none k above below end = ⊎_elim
+      (λ (early : k < at * 65536 + from). before k above early end)
       (λ (late : at * 65536 + from ≤ k).
       let same : k / 65536 ≡ at = omega (arith, late, below) in
-      page_here k same ∙ none (k % 65536) (omega (arith, late, same)))
+      page_here k same ∙ none (k % 65536) (omega (arith, late, same)) (omega (arith, end, same)))
       (cases_lt k (at * 65536 + from))
+
+-- a page goes
+pub table_emptied : (old new : RowBlocks) (bare i : ℕ) → AreBlocks new → page_at new i ≡ None → ((k : ℕ) → (k ≡ i → ⊥) → page_at new k ≡ page_at old k)
+    → IsRowTable old bare → IsRowTable new bare
+table_emptied old new bare i are here others was =
+    record {
+      blocks = are;
+      few = was.few;
+      none_before = λ k below. ⊎_elim
+          (λ (same : k ≡ i). ap (page_at new) same ∙ here)
+          (λ (other : k ≡ i → ⊥). others k other ∙ was.none_before k below)
+          (cases_eq k i);
+    }
+
+-- the first page of a block's indices is taken out
+module _ (old new : RowBlocks) (at from to i page : ℕ) (taken : IsTaken (page_in (get_or old at [])) (page_in (get_or new at [])) from to i page)
+    (are : AreBlocks old) (others : KeepsOthers old new at) where
+  pub index_within : i < 65536
+  index_within = ⊎_elim
+      (λ (lt : i < 65536). lt)
+      (λ (past : 65536 ≤ i). absurd (false≢true (ap is_some (sym (are.within at i past)) ∙ taken.first.here)))
+      (cases_lt i 65536)
+
+  there : (blocks : RowBlocks) → page_at blocks (at * 65536 + i) ≡ page_in (get_or blocks at []) i
+  there blocks =
+      ap (λ q. page_in (get_or blocks q []) ((at * 65536 + i) % 65536)) {x = (at * 65536 + i) / 65536} {y = at} (omega (arith, index_within))
+      ∙ ap (page_in (get_or blocks at [])) {x = (at * 65536 + i) % 65536} {y = i} (omega (arith, index_within))
+
+  gone_here : page_at new (at * 65536 + i) ≡ None
+  gone_here = there new ∙ taken.here
+
+  others_as_before : (k : ℕ) → (k ≡ at * 65536 + i → ⊥) → page_at new k ≡ page_at old k
+  others_as_before = others_stay old new at others (at * 65536 + i) i (omega (arith, index_within)) (omega (arith, index_within)) taken.others
+
+  blocks_after : length new ≤ 65536 → AreBlocks new
+  blocks_after few = kept_blocks old new at others few (λ k past. taken.others k (λ same. absurd (omega (arith, past, same, index_within)))) are
+
+  -- it is the first of all from a on
+  pub taken_at : (a b : ℕ) → a ≤ at * 65536 + from → to ≡ b - at * 65536 → ((k : ℕ) → a ≤ k → k < at * 65536 + from → k < b → page_at old k ≡ None) →
+      IsTaken (page_at old) (page_at new) a b (at * 65536 + i) page
+  taken_at a b low to_is before = record {
+    first = record {
+      from = omega (arith, low, taken.first.from);
+      here = subst IsSome (sym (there old)) taken.first.here;
+      none_before = λ k above below. ⊎_elim
+          (λ (early : k < at * 65536 + from). before k above early (omega (arith, below, taken.below, to_is)))
+          (λ (late : at * 65536 + from ≤ k).
+          let same : k / 65536 ≡ at = omega (arith, late, below, index_within) in
+          page_here old a b at from before k same ∙ taken.first.none_before (k % 65536) (omega (arith, late, same)) (omega (arith, below, same)))
+          (cases_lt k (at * 65536 + from));
+    };
+    below = omega (arith, taken.below, to_is);
+    was = there old ∙ taken.was;
+    here = gone_here;
+    others = others_as_before;
+  }
+
+  pub table_taken : (bare : ℕ) → length new ≤ 65536 → IsRowTable old bare → IsRowTable new bare
+  table_taken bare few = table_emptied old new bare (at * 65536 + i) (blocks_after few) gone_here others_as_before
 
 -- ---- blocks of which the first have no page
 
@@ -312,19 +371,6 @@ table_set old new bare after i is are others was =
       none_before = λ k below. others k (λ same. absurd (omega (arith, below, same, is))) ∙ was.none_before k (omega (arith, below, is));
     }
 
--- a page goes
-pub table_emptied : (old new : RowBlocks) (bare i : ℕ) → AreBlocks new → page_at new i ≡ None → ((k : ℕ) → (k ≡ i → ⊥) → page_at new k ≡ page_at old k)
-    → IsRowTable old bare → IsRowTable new bare
-table_emptied old new bare i are here others was =
-    record {
-      blocks = are;
-      few = was.few;
-      none_before = λ k below. ⊎_elim
-          (λ (same : k ≡ i). ap (page_at new) same ∙ here)
-          (λ (other : k ≡ i → ⊥). others k other ∙ was.none_before k below)
-          (cases_eq k i);
-    }
-
 -- no page comes before the first one from a place on, before which there is none
 pub table_passed : (rows : RowBlocks) (bare a i : ℕ) → a ≤ bare * 65536 → has_slot_at rows i ≡ true → ((k : ℕ) → a ≤ k → k < i → page_at rows k ≡ None)
     → IsRowTable rows bare → IsRowTable rows (i / 65536)
@@ -341,23 +387,21 @@ table_passed rows bare a i low slot none was =
           (cases_lt k (bare * 65536));
     }
 
+-- from a block, or there is none
+pub table_after : (old new : RowBlocks) (bare at from to : ℕ) (taken : Option (ℕ × ℕ)) → TakesFirst (page_in (get_or old at [])) (page_in (get_or new at [])) from to taken →
+    (taken ≡ None → new ≡ old) → length new ≤ 65536 → KeepsOthers old new at → IsRowTable old bare → IsRowTable new bare
+table_after old new bare at from to None none same few others was = subst (λ (rows : RowBlocks). IsRowTable rows bare) (sym (same refl)) was
+table_after old new bare at from to (Some p) taken same few others was = table_taken old new at from to p.0 p.1 taken was.blocks others bare few was
+
 -- in a file of one block
-module _ (first : Rows) (are : AreBlocks (first ∷ [])) (a : ℕ) where
-  only : (k : ℕ) → k < 65536 → page_at (first ∷ []) k ≡ page_in first k
-  only k lt = ap (λ q. page_in (get_or (first ∷ []) q []) (k % 65536)) {x = k / 65536} {y = 0} (omega (arith, lt)) ∙ ap (page_in first) {x = k % 65536} {y = k} (omega (arith, lt))
-
-  none_past : (k : ℕ) → 65536 ≤ k → page_at (first ∷ []) k ≡ None
-  none_past k le = ap (λ block. page_in block (k % 65536)) (get_or_past (first ∷ []) (k / 65536) [] (omega (arith, le)))
-
-  pub finds_only : (found : Option ℕ) → FindsPage first a found → FindsPageAt (first ∷ []) a found
-  finds_only None none = λ k above. ⊎_elim (λ (lt : k < 65536). only k lt ∙ none k above) (none_past k) (cases_lt k 65536)
-  finds_only (Some i) is_first =
-      let small : i < 65536 = ⊎_elim
-      (λ (lt : i < 65536). lt)
-      (λ (past : 65536 ≤ i). absurd (false≢true (ap is_some (sym (are.within 0 i past)) ∙ is_first.here)))
-      (cases_lt i 65536) in
-      record {
-        from = is_first.from;
-        here = subst IsSome (sym (only i small)) is_first.here;
-        none_before = λ k above below. only k (omega (arith, below, small)) ∙ is_first.none_before k above below;
-      }
+module _ (old new : RowBlocks) (only : length old ≡ 1) (are : AreBlocks old) (others : KeepsOthers old new 0) (a b : ℕ) where
+  pub taken_only : (taken : Option (ℕ × ℕ)) → TakesFirst (page_in (get_or old 0 [])) (page_in (get_or new 0 [])) a b taken → TakesFirst (page_at old) (page_at new) a b taken
+  taken_only None none = λ k above below. ⊎_elim
+      (λ (lt : k < 65536).
+      ap (λ q. page_in (get_or old q []) (k % 65536)) {x = k / 65536} {y = 0} (omega (arith, lt)) ∙ ap (page_in (get_or old 0 [])) {x = k % 65536} {y = k} (omega (arith, lt)) ∙ none k above below)
+      (λ (le : 65536 ≤ k). ap (λ block. page_in block (k % 65536)) (get_or_past old (k / 65536) [] (omega (arith, le, only))))
+      (cases_lt k 65536)
+  taken_only (Some p) taken =
+      let same : 0 * 65536 + p.0 ≡ p.0 = omega arith in
+      subst (λ i. IsTaken (page_at old) (page_at new) a b i p.1) same
+      (taken_at old new 0 a b p.0 p.1 taken are others a b (omega arith) (omega arith) (λ k above early. absurd (omega (arith, above, early))))

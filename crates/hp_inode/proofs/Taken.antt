@@ -10,7 +10,8 @@ use Rattle.hp_model.specs.files.File.{cell_in, has_page}
 use Rattle.hp_model.specs.Lists.{part, found}
 use Rattle.hp_model.proofs.Editing.{part_one}
 use Rattle.hp_model.proofs.Finding.{found_none, found_at}
-use Rattle.hp_inode.specs.Blocks.{WordBlocks, RowBlocks, page_at, IsFirstPageAt}
+use Rattle.hp_inode.specs.Blocks.{WordBlocks, RowBlocks, page_at}
+use Rattle.hp_inode.specs.Rows.{IsFirstPage}
 use Rattle.hp_inode.specs.Kept.{cells_of, IsKept}
 use Rattle.hp_inode.proofs.CellFacts.{length-cells, has_page_cell}
 use Rattle.hp_inode.proofs.Dropped.{part_cell}
@@ -34,7 +35,7 @@ module _ (len m : ℕ) (e : WordBlocks) (rows : RowBlocks) (kept : IsKept len m 
   pub paged_below : (i : ℕ) → IsSome (page_at rows i) → i < len
   paged_below i some = kept.below i (kept.paged i some)
 
-  pub found_page : (i : ℕ) → IsFirstPageAt rows a i → i < b → found has_page (part a b (cells_of len e rows)) ≡ Some (i - a, cell_in (cells_of len e rows) i)
+  pub found_page : (i : ℕ) → IsFirstPage (page_at rows) a i → i < b → found has_page (part a b (cells_of len e rows)) ≡ Some (i - a, cell_in (cells_of len e rows) i)
   found_page i first below =
       let xs = cells_of len e rows in
       let back : a + (i - a) ≡ i = omega (arith, first.from) in

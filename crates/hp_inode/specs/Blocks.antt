@@ -2,7 +2,7 @@
 --     entered_at words i      whether the index is entered
 --     page_at rows i, has_slot_at rows i      the page of an index, and whether there is a slot for it
 --     has_place words i      whether the index can be entered with no memory
-use Rattle.std.specs.Prelude.{ℕ, ◌≡◌, ◌-◌, ◌*◌, ◌/◌, ◌%◌, ◌<◌, ◌≤◌, Bool, not, List, [], length, nat_lt, Option, None, IsSome, MatchOption}
+use Rattle.std.specs.Prelude.{ℕ, ◌≡◌, ◌-◌, ◌*◌, ◌/◌, ◌%◌, ◌<◌, ◌≤◌, Bool, not, List, [], length, nat_lt, Option, None}
 use Rattle.std.specs.List.{slice_index_or, range_with_len, count_by}
 use Rattle.hp_inode.specs.Marks.{marked}
 use Rattle.hp_inode.specs.Rows.{Rows, page_in, has_slot}
@@ -43,15 +43,6 @@ entered_count words a b = count_by (entered_at words) (range_with_len a (b - a))
 
 abbrev pub missing_count : WordBlocks → ℕ → ℕ → ℕ
 missing_count words a b = count_by (λ i. not (entered_at words i)) (range_with_len a (b - a))
-
--- the first index with a page, of those from a on, or none where there is none
-pub record IsFirstPageAt (rows : RowBlocks) (a i : ℕ) : Type 0 where
-  pub from : a ≤ i
-  pub here : IsSome (page_at rows i)
-  pub none_before : (k : ℕ) → a ≤ k → k < i → page_at rows k ≡ None
-
-abbrev pub FindsPageAt : RowBlocks → ℕ → Option ℕ → Type 0
-FindsPageAt rows a found = MatchOption found ((k : ℕ) → a ≤ k → page_at rows k ≡ None) (IsFirstPageAt rows a)
 
 -- few blocks, and no page past a block's end
 pub record AreBlocks (rows : RowBlocks) : Type 0 where

@@ -1,9 +1,10 @@
 -- The rows of a page table: for each chunk of 64 indices no slot yet, or one slot for each.
 --     slot_in rows j k      the page in slot k of chunk j
 --     page_in rows i, has_slot rows i      the page of an index, and whether there is a slot for it
---     IsFirstSlot row n k, IsFirstPage rows a i      the first with a page, of those from a place on
+--     IsFirstSlot row n k, IsFirstPage pages a i      the first with a page, of those from a place on
+--     IsTaken old new a b i page      the first page of those from a up to b was taken out, at index i
 --     IsChunk row marks, IsTable rows marks      the marks say where there are pages
-use Rattle.std.specs.Prelude.{ℕ, ◌≡◌, ◌*◌, ◌/◌, ◌%◌, ◌<◌, ◌≤◌, ◌^◌, Bool, true, false, List, [], length, nat_lt, Option, None, IsSome, MatchOption}
+use Rattle.std.specs.Prelude.{ℕ, ◌≡◌, ◌*◌, ◌/◌, ◌%◌, ◌<◌, ◌≤◌, ◌^◌, Bool, true, false, List, [], length, nat_lt, Option, None, Some, IsSome, MatchOption}
 use Rattle.std.specs.Option.{is_some}
 use Rattle.std.specs.List.{slice_index_or}
 use Rattle.hp_inode.specs.Marks.{marked}
@@ -26,10 +27,18 @@ pub record IsFirstSlot (row : List (Option ℕ)) (n k : ℕ) : Type 0 where
   pub here : IsSome (slice_index_or row k None)
   pub none_before : (j : ℕ) → n ≤ j → j < k → slice_index_or row j None ≡ None
 
-pub record IsFirstPage (rows : Rows) (a i : ℕ) : Type 0 where
+pub record IsFirstPage (pages : ℕ → Option ℕ) (a i : ℕ) : Type 0 where
   pub from : a ≤ i
-  pub here : IsSome (page_in rows i)
-  pub none_before : (k : ℕ) → a ≤ k → k < i → page_in rows k ≡ None
+  pub here : IsSome (pages i)
+  pub none_before : (k : ℕ) → a ≤ k → k < i → pages k ≡ None
+
+-- the first page of the indices from a up to b, at index i, is gone, and all others stay
+pub record IsTaken (old new : ℕ → Option ℕ) (a b i page : ℕ) : Type 0 where
+  pub first : IsFirstPage old a i
+  pub below : i < b
+  pub was : old i ≡ Some page
+  pub here : new i ≡ None
+  pub others : (k : ℕ) → (k ≡ i → ⊥) → new k ≡ old k
 
 -- a chunk has no slots or all, and a mark at each with a page
 pub record IsChunk (row : List (Option ℕ)) (marks : List ℕ) : Type 0 where
@@ -47,5 +56,14 @@ pub record IsTable (rows : Rows) (marks : List ℕ) : Type 0 where
 abbrev pub FindsSlot : List (Option ℕ) → ℕ → Option ℕ → Type 0
 FindsSlot row n found = MatchOption found ((k : ℕ) → n ≤ k → slice_index_or row k None ≡ None) (IsFirstSlot row n)
 
-abbrev pub FindsPage : Rows → ℕ → Option ℕ → Type 0
-FindsPage rows a found = MatchOption found ((k : ℕ) → a ≤ k → page_in rows k ≡ None) (IsFirstPage rows a)
+-- the first index with a page, of those from a on, in the chunk of this number, or none where there is none
+pub record IsFirstIn (rows : Rows) (a at i : ℕ) : Type 0 where
+  pub chunk : at ≡ i / 64
+  pub first : IsFirstPage (page_in rows) a i
+
+abbrev pub FindsPage : Rows → ℕ → Option (ℕ × ℕ) → Type 0
+FindsPage rows a found = MatchOption found ((k : ℕ) → a ≤ k → page_in rows k ≡ None) (λ p. IsFirstIn rows a p.0 p.1)
+
+-- an index with its page, of those from a up to b, or none where none has one
+abbrev pub TakesFirst : (ℕ → Option ℕ) → (ℕ → Option ℕ) → ℕ → ℕ → Option (ℕ × ℕ) → Type 0
+TakesFirst old new a b taken = MatchOption taken ((k : ℕ) → a ≤ k → k < b → old k ≡ None) (λ p. IsTaken old new a b p.0 p.1)

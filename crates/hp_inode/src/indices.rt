@@ -187,14 +187,10 @@ impl Indices {
         ensures none { result ≡ None → All (λ cell. has_page cell ≡ false)
             (part a b self.new.cells) }
     {
-        let i = self.table.first_from(a)?;
-        if i >= b {
-            return None;
-        }
-        let page = self.table.take_out(a, i);
+        let (i, page) = self.table.take_first(a, b)?;
         self.pages -= 1;
         self.drop_entry(i);
-        page
+        Some(page)
     }
 
     // Makes an index that is entered, and has no page, a hole.

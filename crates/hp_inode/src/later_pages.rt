@@ -1,9 +1,9 @@
 //! The pages of the blocks after the first, each made at the first slot in it.
-ghost use Rattle.std.specs.Prelude.{ℕ, ◌≡◌, ◌≢◌, ◌+◌, ◌/◌, ◌<◌, ◌≤◌, ◌^◌, [], length, MatchOption, OnOk, true};
+ghost use Rattle.std.specs.Prelude.{ℕ, ◌≡◌, ◌≢◌, ◌+◌, ◌/◌, ◌<◌, ◌≤◌, ◌^◌, [], length, MatchOption, OnOk, None, true};
 ghost use Rattle.std.specs.List.{slice_index_or};
 ghost use Rattle.hp_inode.specs.Blocks.{most_blocks};
 ghost use Rattle.hp_inode.specs.Later.{AreLater, blocks_in};
-ghost use Rattle.hp_inode.specs.Rows.{page_in, has_slot};
+ghost use Rattle.hp_inode.specs.Rows.{page_in, has_slot, TakesFirst};
 
 use crate::page_block::PageBlock;
 use crate::places::make_place;
@@ -125,6 +125,28 @@ impl LaterPages {
     {
         let n = self.places[at] as usize;
         self.blocks[n - 1].replace(i, page)
+    }
+
+    /// Takes the first page of a block's indices from `a` up to `b` out, and answers its index with it.
+    #[inline(always)]
+    pub fn take_first(&mut self, at: usize, a: u64, b: u64) -> Option<(u64, PageNo)>
+        ensures taken { TakesFirst (page_in (slice_index_or self.old at []))
+            (page_in (slice_index_or self.new at [])) a b result }
+        ensures none { result ≡ None → self.new ≡ self.old }
+        ensures slots { (k : ℕ) → has_slot (slice_index_or self.new at []) k
+            ≡ has_slot (slice_index_or self.old at []) k }
+        ensures others { (j : ℕ) → j ≢ at
+            → slice_index_or self.new j [] ≡ slice_index_or self.old j [] }
+        ensures len { length self.new ≡ length self.old }
+    {
+        if at >= self.places.len() {
+            return None;
+        }
+        let n = self.places[at] as usize;
+        if n == 0 {
+            return None;
+        }
+        self.blocks[n - 1].take_first(a, b)
     }
 }
 

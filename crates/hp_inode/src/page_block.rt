@@ -1,7 +1,7 @@
 //! Pages by index, in chunks of 64 slots: an index's slot is found in one step, and so is a chunk with pages.
 ghost use Rattle.std.specs.Prelude.{ℕ, ◌≡◌, ◌/◌, ◌<◌, ◌≤◌, ◌^◌, ◌++◌, ◌∷◌, [], length, OnOk, OnErr, true, None};
 ghost use Rattle.std.specs.List.{slice_index_or};
-ghost use Rattle.hp_inode.specs.Rows.{page_in, has_slot, FindsSlot, FindsPage};
+ghost use Rattle.hp_inode.specs.Rows.{page_in, has_slot, FindsSlot, FindsPage, TakesFirst};
 
 use crate::chunk::{CHUNK, Chunk};
 use crate::marks::{change_mark, first_from, make_places};
@@ -59,7 +59,19 @@ impl PageBlock {
         ensures others { (k : ℕ) → (k ≡ i → ⊥) → page_in self.new k ≡ page_in self.old k }
         ensures slots { (k : ℕ) → has_slot self.new k ≡ has_slot self.old k }
     {
-        let at = (i / CHUNK) as usize;
+        self.replace_in((i / CHUNK) as usize, i, page)
+    }
+
+    // Gives an index, of which the chunk is known, a page, or none, and answers which it had.
+    #[inline(always)]
+    fn replace_in(&mut self, at: usize, i: u64, page: Option<PageNo>) -> Option<PageNo>
+        requires chunk { at ≡ i / 64 }
+        requires slot { has_slot self.old i ≡ true }
+        ensures was { result ≡ page_in self.old i }
+        ensures here { page_in self.new i ≡ page }
+        ensures others { (k : ℕ) → (k ≡ i → ⊥) → page_in self.new k ≡ page_in self.old k }
+        ensures slots { (k : ℕ) → has_slot self.new k ≡ has_slot self.old k }
+    {
         let chunk = &mut self.chunks[at];
         let was = chunk.replace((i % CHUNK) as usize, page);
         let some = chunk.has_page();
@@ -67,17 +79,33 @@ impl PageBlock {
         was
     }
 
-    /// The first index with a page, of those from `a` on.
-    pub fn first_from(&self, a: u64) -> Option<u64>
+    /// Takes the first page of the indices from `a` up to `b` out, and answers its index with it.
+    #[inline(always)]
+    pub fn take_first(&mut self, a: u64, b: u64) -> Option<(u64, PageNo)>
+        ensures taken { TakesFirst (page_in self.old) (page_in self.new) a b result }
+        ensures none { result ≡ None → self.new ≡ self.old }
+        ensures slots { (k : ℕ) → has_slot self.new k ≡ has_slot self.old k }
+    {
+        let (at, i) = self.first_from(a)?;
+        if i >= b {
+            return None;
+        }
+        let page = self.replace_in(at, i, None)?;
+        Some((i, page))
+    }
+
+    // The first index with a page, of those from `a` on, and its chunk.
+    #[inline(always)]
+    fn first_from(&self, a: u64) -> Option<(usize, u64)>
         ensures { FindsPage self.now a result }
     {
         let at = (a / CHUNK) as usize;
         if let Some(k) = self.slot_from(at, (a % CHUNK) as usize) {
-            return Some(at as u64 * CHUNK + k as u64);
+            return Some((at, at as u64 * CHUNK + k as u64));
         }
         let next = first_from(self.marks.as_slice(), at + 1)?;
         let k = self.slot_from(next, 0)?;
-        Some(next as u64 * CHUNK + k as u64)
+        Some((next, next as u64 * CHUNK + k as u64))
     }
 
     // The first slot of a chunk with a page, of those from `n` on.

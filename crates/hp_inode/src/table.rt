@@ -1,8 +1,8 @@
 //! Pages by index, in blocks of 65,536.
 ghost use Rattle.std.specs.Prelude.{ℕ, ◌≡◌, ◌≢◌, ◌+◌, ◌*◌, ◌/◌, ◌<◌, ◌≤◌, ◌^◌, ◌∷◌, [], OnOk, true, None, Some, MatchOption};
 ghost use Rattle.std.specs.List.{slice_index_or};
-ghost use Rattle.hp_inode.specs.Blocks.{AreBlocks, block_size, most_blocks, page_at, has_slot_at, FindsPageAt};
-ghost use Rattle.hp_inode.specs.Rows.{page_in, has_slot, FindsPage};
+ghost use Rattle.hp_inode.specs.Blocks.{AreBlocks, block_size, most_blocks, page_at, has_slot_at};
+ghost use Rattle.hp_inode.specs.Rows.{page_in, has_slot, TakesFirst};
 
 use crate::block::{BLOCK, within_block};
 use crate::later_pages::LaterPages;
@@ -86,22 +86,6 @@ impl PageTable {
         replace(&mut self.first, &mut self.rest, i, Some(page));
     }
 
-    /// Takes the page of index `i` out, which is the first of those from `a` on.
-    #[inline(always)]
-    pub fn take_out(&mut self, a: u64, i: u64) -> Option<PageNo>
-        requires slot { has_slot_at self.old i ≡ true }
-        requires none { (k : ℕ) → a ≤ k → k < i → page_at self.old k ≡ None }
-        ensures was { result ≡ page_at self.old i }
-        ensures here { page_at self.new i ≡ None }
-        ensures others { (k : ℕ) → (k ≡ i → ⊥) → page_at self.new k ≡ page_at self.old k }
-        ensures slots { (k : ℕ) → has_slot_at self.new k ≡ has_slot_at self.old k }
-    {
-        if a <= self.bare * BLOCK {
-            self.bare = i / BLOCK;
-        }
-        replace(&mut self.first, &mut self.rest, i, None)
-    }
-
     // Where to look for the first page, of those from `a` on: a block, and an index in it.
     #[inline(always)]
     fn start(&self, a: u64) -> (u64, u64)
@@ -117,17 +101,22 @@ impl PageTable {
         }
     }
 
-    /// The first index with a page, of those from `a` on.
-    pub fn first_from(&self, a: u64) -> Option<u64>
-        ensures { FindsPageAt self.now a result }
+    /// Takes the first page of the indices from `a` up to `b` out, and answers its index with it.
+    pub fn take_first(&mut self, a: u64, b: u64) -> Option<(u64, PageNo)>
+        ensures taken { TakesFirst (page_at self.old) (page_at self.new) a b result }
+        ensures none { result ≡ None → self.new ≡ self.old }
+        ensures slots { (k : ℕ) → has_slot_at self.new k ≡ has_slot_at self.old k }
     {
         if self.rest.len() == 0 {
-            return self.first.first_from(a);
+            return self.take_in(0, a, b);
         }
         let (mut at, mut from) = self.start(a);
-        while at <= self.rest.len() as u64 {
-            if let Some(k) = self.first_in(at, from) {
-                return Some(at * BLOCK + k);
+        while at <= self.rest.len() as u64 && at * BLOCK < b {
+            if let Some((k, page)) = self.take_in(at, from, b - at * BLOCK) {
+                if a <= self.bare * BLOCK {
+                    self.bare = at;
+                }
+                return Some((at * BLOCK + k, page));
             }
             at += 1;
             from = 0;
@@ -135,11 +124,20 @@ impl PageTable {
         None
     }
 
-    // The first index of a block with a page, of those from `from` on.
-    fn first_in(&self, at: u64, from: u64) -> Option<u64>
-        ensures { FindsPage (slice_index_or self.now at []) from result }
+    // Takes the first page of a block's indices from `from` up to `to` out, and answers its index with it.
+    #[inline(always)]
+    fn take_in(&mut self, at: u64, from: u64, to: u64) -> Option<(u64, PageNo)>
+        ensures taken { TakesFirst (page_in (slice_index_or self.old at []))
+            (page_in (slice_index_or self.new at [])) from to result }
+        ensures none { result ≡ None → self.new ≡ self.old }
+        ensures slots { (k : ℕ) → has_slot_at self.new k ≡ has_slot_at self.old k }
+        ensures others { (j : ℕ) → j ≢ at
+            → slice_index_or self.new j [] ≡ slice_index_or self.old j [] }
     {
-        self.block(at)?.first_from(from)
+        if at == 0 {
+            return self.first.take_first(from, to);
+        }
+        self.rest.take_first(at as usize - 1, from, to)
     }
 
     /// Makes a slot for each index from `a` up to `b`.
