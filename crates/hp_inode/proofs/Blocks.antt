@@ -283,18 +283,6 @@ module _ (start old new : RowBlocks) (a at count : ℕ) (low : a ≤ at) (fits :
 
 -- ---- the first page
 
-module _ (rows : RowBlocks) (a b at from : ℕ) (before : (k : ℕ) → a ≤ k → k < at * 65536 + from → k < b → page_at rows k ≡ None) where
-  page_here : (k : ℕ) → k / 65536 ≡ at → page_at rows k ≡ page_in (get_or rows at []) (k % 65536)
-  page_here k same = ap (λ q. page_in (get_or rows q []) (k % 65536)) same
-
-  pub none_to_next : ((k : ℕ) → from ≤ k → k < b - at * 65536 → page_in (get_or rows at []) k ≡ None) → (k : ℕ) → a ≤ k → k < (at + 1) * 65536 → k < b → page_at rows k ≡ None
-  none_to_next none k above below end = ⊎_elim
-      (λ (early : k < at * 65536 + from). before k above early end)
-      (λ (late : at * 65536 + from ≤ k).
-      let same : k / 65536 ≡ at = omega (arith, late, below) in
-      page_here k same ∙ none (k % 65536) (omega (arith, late, same)) (omega (arith, end, same)))
-      (cases_lt k (at * 65536 + from))
-
 -- a page goes
 pub table_emptied : (old new : RowBlocks) (bare i : ℕ) → AreBlocks new → page_at new i ≡ None → ((k : ℕ) → (k ≡ i → ⊥) → page_at new k ≡ page_at old k)
     → IsRowTable old bare → IsRowTable new bare
@@ -342,7 +330,7 @@ module _ (old new : RowBlocks) (at from to i page : ℕ) (taken : IsTaken (page_
           (λ (early : k < at * 65536 + from). before k above early (omega (arith, below, taken.below, to_is)))
           (λ (late : at * 65536 + from ≤ k).
           let same : k / 65536 ≡ at = omega (arith, late, below, index_within) in
-          page_here old a b at from before k same ∙ taken.first.none_before (k % 65536) (omega (arith, late, same)) (omega (arith, below, same)))
+          ap (λ q. page_in (get_or old q []) (k % 65536)) same ∙ taken.first.none_before (k % 65536) (omega (arith, late, same)) (omega (arith, below, same)))
           (cases_lt k (at * 65536 + from));
     };
     below = omega (arith, taken.below, to_is);
@@ -369,22 +357,6 @@ table_set old new bare after i is are others was =
       blocks = are;
       few = omega (arith, was.few, is);
       none_before = λ k below. others k (λ same. absurd (omega (arith, below, same, is))) ∙ was.none_before k (omega (arith, below, is));
-    }
-
--- no page comes before the first one from a place on, before which there is none
-pub table_passed : (rows : RowBlocks) (bare a i : ℕ) → a ≤ bare * 65536 → has_slot_at rows i ≡ true → ((k : ℕ) → a ≤ k → k < i → page_at rows k ≡ None)
-    → IsRowTable rows bare → IsRowTable rows (i / 65536)
-table_passed rows bare a i low slot none was =
-    record {
-      blocks = was.blocks;
-      few = ⊎_elim
-          (λ (lt : i / 65536 < length rows). omega (arith, lt, was.blocks.few))
-          (λ (past : length rows ≤ i / 65536). absurd (omega (arith, slotted (block_at rows i) (i % 65536) slot, ap length (get_or_past rows (i / 65536) [] past))))
-          (cases_lt (i / 65536) (length rows));
-      none_before = λ k below. ⊎_elim
-          (λ (early : k < bare * 65536). was.none_before k early)
-          (λ (late : bare * 65536 ≤ k). none k (omega (arith, low, late)) (omega (arith, below)))
-          (cases_lt k (bare * 65536));
     }
 
 -- from a block, or there is none
