@@ -134,7 +134,7 @@ fn owned(event: &MountEvent<'_>, home: u64, bytes: Bytes) -> SlotEvent
     }
 }
 
-// The same of an event that names a file and makes no map.
+// The same of an event that names a file and makes no map. Out of line, so that loads and stores pass little code.
 #[inline(never)]
 fn owned_of_file(event: &MountEvent<'_>, bytes: Bytes) -> SlotEvent
     requires of_kind { is_of_file event.now ≡ true }
@@ -171,7 +171,7 @@ fn owned_of_file(event: &MountEvent<'_>, bytes: Bytes) -> SlotEvent
     }
 }
 
-// The same of an event that makes a map.
+// The same of an event that makes a map, out of line too.
 #[inline(never)]
 fn owned_map(event: &MountEvent<'_>, home: u64, bytes: Bytes) -> SlotEvent
     requires of_kind { makes_map event.now ≡ true }
@@ -211,7 +211,7 @@ fn owned_map(event: &MountEvent<'_>, home: u64, bytes: Bytes) -> SlotEvent
     }
 }
 
-// The same of an event that takes indices from a map, or asks for a page at one.
+// The same of an event that takes indices from a map, or asks for a page at one, out of line too.
 #[inline(never)]
 fn owned_indices(event: &MountEvent<'_>, home: u64) -> SlotEvent
     requires { is_of_indices event.now ≡ true }

@@ -4,7 +4,7 @@ ghost use Rattle.hp_mount_door.specs.Door.{IsReady};
 ghost use Rattle.hp_nodes.specs.Ledgers.{AreFrames};
 ghost use Rattle.hp_pool.specs.Ledgers.{AreLedgers};
 
-use crate::mount::used;
+use crate::calls::used;
 use crate::same::same;
 use hp_model::answer::Answer;
 use hp_model::naming::Naming;
