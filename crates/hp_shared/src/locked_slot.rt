@@ -175,10 +175,12 @@ impl<N: Naming, T: Trail<SlotEntry>> Slot<N, T> {
             trail,
         } = self;
         if !trail.has_room(false) {
+            drop(noted);
             return (Err(Refusal::TraceFull), None);
         }
         let told = act(mount, door, page_bytes, home, event, room);
         if is_full(&told) {
+            drop(noted);
             return (told, None);
         }
         let receipt = note(trail, *number, noted, door.asked(), &told);
@@ -255,6 +257,7 @@ fn note<T: Trail<SlotEntry>>(
         result }
 {
     if !trail.is_kept() {
+        drop(noted);
         return None;
     }
     match noted {

@@ -89,10 +89,12 @@ impl<N: Naming, T: Trail<SlotEntry>> Slot<N, T> {
             trail,
         } = self;
         if !trail.has_room(false) {
+            drop(noted);
             return (Err(Refusal::TraceFull), None);
         }
         let told = open(mount, door, alloc, page_bytes, options);
         if is_full(&told) {
+            drop(noted);
             return (told, None);
         }
         let receipt = note(trail, *number, noted, door.asked(), &told);
@@ -130,10 +132,12 @@ impl<N: Naming, T: Trail<SlotEntry>> Slot<N, T> {
             trail,
         } = self;
         if !trail.has_room(false) {
+            drop(noted);
             return (Err(Refusal::TraceFull), None);
         }
         let told = set_limits(mount, *number, door, page_bytes, options);
         if is_full(&told) {
+            drop(noted);
             return (told, None);
         }
         let receipt = note(trail, *number, noted, door.asked(), &told);
