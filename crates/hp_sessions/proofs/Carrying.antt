@@ -1,11 +1,10 @@
 -- A step's script, carried out event by event.
 use Rattle.std.proofs.Common.{if◌then◌else◌, ◌≡◌, ℕ, ◌+◌, ◌<◌, ◌≤◌, Bool, true, false, List, [], ◌∷◌, ◌++◌, Option, None, Some, Ok, Err, inl, inr, length, map, refl, sym, ap, subst, ◌∙◌, arith}
 use Rattle.std.specs.Bool.{MatchBool}
-use Rattle.std.specs.List.{All}
 use Rattle.std.proofs.lemmas.List.{append-nil, append_assoc, length-append, map-append}
 use Rattle.std.proofs.lemmas.Bool.{le-ltb, lt-ltb}
 use Rattle.std.proofs.lemmas.List.Elements.{All-cons, All-nil}
-use Rattle.hp_model.specs.declared.answer.Answer.TheVariants.{Done, Home}
+use Rattle.hp_model.specs.declared.answer.Answer.TheVariants.{Home}
 use Rattle.hp_model.specs.declared.entry.Receipt.{Receipt}
 use Rattle.hp_model.specs.declared.event.Event.{Event}
 use Rattle.hp_model.specs.declared.event.Event.TheVariants.{Tasks as OnTasks, Slot as OnSlot}
@@ -16,12 +15,11 @@ use Rattle.hp_model.specs.declared.refusal.Refusal.TheVariants.{NoSuchSlot, Trac
 use Rattle.hp_model.specs.declared.step.Step.{Step}
 use Rattle.hp_model.specs.machine.Plan.{Reply}
 use Rattle.hp_model.specs.machine.Step.{Answer_with, Do, Script, Where_mapped, finding, home_in, on_slot, only, script}
-use Rattle.hp_model.specs.machine.Table.{Table, home_of, when_known}
 use Rattle.hp_model.specs.threads.JointRun.{option_cons}
-use Rattle.hp_model.specs.threads.Telling.{Tells, TellsFront, TellsStep, has_place, most_receipts, told_of}
+use Rattle.hp_model.specs.threads.Telling.{Tells, TellsFront, TellsStep, has_place, told_of}
 use Rattle.hp_shared.specs.Slots.{is_trace_full}
-use Rattle.hp_sessions.specs.Calls.{AreAdded, AreAnswers, CanAnswer, Carries, Grows, HasReceiptRoom, HasRoomFor, IsCallAnswered, IsHanded, IsMade, IsRefusedFirst}
-use Rattle.hp_sessions.specs.Calls.{IsToldByReceipts, IsToldOf, Leads, SessionView, TellsOrStops, noted}
+use Rattle.hp_sessions.specs.Calls.{AreAdded, AreAnswers, CanAnswer, Carries, Grows, HasRoomFor, IsCallAnswered, IsHanded, IsMade, IsRefusedFirst}
+use Rattle.hp_sessions.specs.Calls.{IsToldOf, Leads, SessionView, TellsOrStops, noted}
 
 -- ---- cases of a test
 
@@ -160,15 +158,6 @@ module _ (kept : Bool) (size : ℕ) where
   pub not_found : (s t : SessionView) (task : ℕ) (x : Refusal) → IsMade kept size s (OnTasks (Find task)) (Err x) t → (f : ℕ → Script) → Carries kept size s (finding task f) (Err x) t
   not_found s t task x made f = refused_made s t (OnTasks (Find task)) x (λ r. home_in r f) refl made
 
-  -- a task that is looked up is answered its home, if anything
-  pub never_done : (s t : SessionView) (task : ℕ) → IsMade kept size s (OnTasks (Find task)) (Ok Done) t → ⊥
-  never_done s t task made =
-      let can = made.0 in by (home_of can.1 task) refl (ap (λ (x : Reply × Table). x.0) can.3)
-    where
-      by : (o : Option ℕ) → home_of made.0.1 task ≡ o → (when_known made.0.1 o (λ home. (Ok (Home home), made.0.1))).0 ≡ Ok Done → ⊥
-      by None is e = cc
-      by (Some home) is e = cc
-
   -- ---- a choice by whether a task has a map on a slot goes either way
   pub where_mapped : (s t : SessionView) (k task : ℕ) (mapped other : Script) (reply : Reply) → Carries kept size s mapped reply t → Carries kept size s (Where_mapped k task mapped other) reply t
   where_mapped s t k task mapped other reply c = record {
@@ -261,19 +250,12 @@ nothing_added s t receipt none is = is ∙ ap (λ o. noted s (option_cons o []))
 
 -- ---- how many receipts came
 
-pub grows_none : (s : SessionView) → Grows 0 s s
-grows_none s = record { slots = refl; room = refl; few = omega arith }
-
 pub grows_then : (a b : ℕ) (s t u : SessionView) → Grows a s t → Grows b t u → Grows (a + b) s u
 grows_then a b s t u g h = record {
   slots = h.slots ∙ g.slots;
   room = h.room ∙ g.room;
   few = (let one = g.few in let two = h.few in omega (arith, one, two));
 }
-
-pub room_after : (kept : Bool) (n m k : ℕ) (s t : SessionView) → HasReceiptRoom kept n s → Grows m s t → m + k ≤ n → HasReceiptRoom kept k t
-room_after kept n m k s t has g less k' =
-    let all = has k' in let few = g.few in let room = g.room in omega (arith, all, few, room, less)
 
 pub grows_more : (n : ℕ) (s t : SessionView) → Grows n s t → Grows (n + 1) s t
 grows_more n s t g = record { slots = g.slots; room = g.room; few = (let one = g.few in omega (arith, one)) }

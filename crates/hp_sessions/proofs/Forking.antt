@@ -83,9 +83,6 @@ module _ (kept : Bool) (size : ℕ) where
   abbrev pub Exited : SessionView → List ℕ → (task : ℕ) → SessionView → Type 0
   Exited s ks task t = (next : Script) → Leads kept size s (exit_slots ks task next) t next
 
-  pub none_exited : (s : SessionView) (task : ℕ) → Exited s [] task s
-  none_exited s task next reply u c = c
-
   pub exited_more : (s t u : SessionView) (ks : List ℕ) (k task : ℕ) → Exited s ks task t → ((next : Script) → Leads kept size t (exit_slot k task next) u next) → Exited s (ks ++ k ∷ []) task u
   exited_more s t u ks k task first then next reply v c =
       subst (λ x. Carries kept size s x reply v) (joined ks k task next) (first (exit_slot k task next) reply v (then next reply v c))

@@ -29,11 +29,10 @@ use Rattle.hp_model.specs.machine.Table.{Table, added, home_of, is_crowded, is_k
 use Rattle.hp_model.specs.declared.told.Told.{Told}
 use Rattle.hp_model.specs.beside.Told.{told_answer, told_reply}
 use Rattle.hp_model.specs.threads.LocalRun.{Gives}
-use Rattle.hp_laws.specs.Answers.{lists_names}
 use Rattle.hp_model.specs.threads.Telling.{has_place}
 use Rattle.hp_laws.specs.Balance.{Always}
 use Rattle.hp_laws.proofs.names.Accessed.{bytes_on}
-use Rattle.hp_laws.proofs.counts.MountMoves.{IsSpot, spot_is}
+use Rattle.hp_laws.proofs.counts.MountMoves.{spot_is}
 use Rattle.hp_laws.proofs.steps.Outcomes.{always_then}
 use Rattle.hp_laws.proofs.accesses.Shown.{On}
 use Rattle.hp_laws.proofs.accesses.SlotShows.{always_value}
@@ -67,12 +66,6 @@ told_by true entries part e reply None h is = cc
 told_by true entries part e reply (Some r) h is = ap (λ x. (x, r.reply)) h.3 ∙ ap (λ x. (e, x)) h.4
 told_by false entries part e reply None h is = refl
 told_by false entries part e reply (Some r) h is = cc
-
--- what a part answers to an event that was made
-pub handed_by : {E : Type 0} (kept : Bool) (size : ℕ) (entries : Option (List E)) (part : Part) (e : Event) (reply : Reply) (receipt : Option Receipt) → is_trace_full reply ≡ false →
-    CanAnswer size e reply → IsReceipt entries part e reply receipt → is_some receipt ≡ kept → IsHanded kept size e reply receipt
-handed_by kept size entries part e reply receipt clear can told given =
-    done_put (is_trace_full reply) _ _ clear (can, told_by kept entries part e reply receipt told given)
 
 -- the same where no entries are kept
 pub unnoted_handed : (kept : Bool) (size : ℕ) (e : Event) (reply : Reply) → kept ≡ false → is_trace_full reply ≡ false → CanAnswer size e reply → IsHanded kept size e reply None
@@ -160,14 +153,6 @@ slot_handed kept full size k old new e reply asked receipt at place event keeps 
       (old.mount, asked, new.mount, subst (λ n. Went size n old.mount e reply asked new.mount) at h.changes),
       subst (λ n. IsToldOf kept (OnSlot n e) reply receipt) at (told_by kept old.entries _ (OnSlot old.number e) reply receipt h.told is),
     )
-
--- the exit of a task's maps always has a place
-pub exit_handed : (kept : Bool) (size k task : ℕ) (old new : SlotView) (asked : Option Asked) (receipt : Option Receipt) → old.number ≡ k →
-    IsSlotEventDone size old new (slot.ExitMaps task) (Ok Done) asked receipt → is_some receipt ≡ kept → IsHanded kept size (OnSlot k (slot.ExitMaps task)) (Ok Done) receipt
-exit_handed kept size k task old new asked receipt at h is = (
-  (old.mount, asked, new.mount, subst (λ n. Went size n old.mount (slot.ExitMaps task) (Ok Done) asked new.mount) at h.changes),
-  subst (λ n. IsToldOf kept (OnSlot n (slot.ExitMaps task)) (Ok Done) receipt) at (told_by kept old.entries _ (OnSlot old.number (slot.ExitMaps task)) (Ok Done) receipt h.told is),
-)
 
 -- no event was made
 absent_handed : (kept : Bool) (size k : ℕ) (e : SlotEvent) (x : Refusal) → is_trace_full (Err x) ≡ false → has_place (OnSlot k e) ≡ false →
@@ -289,12 +274,3 @@ pub fits_result : (kept : Bool) (size k : ℕ) (e : SlotEvent) (r : Result Told 
     IfOk r (λ t. HasAnswerOf e (told_answer t))
 fits_result kept size k e (Ok t) receipt h = handed_fits kept size k e (told_answer t) receipt h
 fits_result kept size k e (Err x) receipt h = tt
-
-pub answer_home : (home : ℕ) (e : MountEvent) (a : Answer) → HasAnswerOf (event_of home e) a → HasAnswerOf (event_of 0 e) a
-answer_home home (m.Load task map index offset count) a h = h
-answer_home home (m.Store task map index offset bytes) a h = h
-answer_home home other a h = tt
-
-pub apart_home : (home : ℕ) (e : MountEvent) → lists_names (event_of 0 e) ≡ false → lists_names (event_of home e) ≡ false
-apart_home home m.Ls h = h
-apart_home home other h = refl
