@@ -2,7 +2,6 @@
 use Rattle.std.proofs.Common.{◌≡◌, ℕ, zero, suc, ◌*◌, ◌<◌, ◌≤◌, ◌/◌, ◌%◌, ◌^◌, Bool, true, false, not, List, []}
 use Rattle.std.proofs.Common.{◌∷◌, ◌++◌, length, replicate, get_or, set, ltb, Option, None, Some, sym, refl, ap, ◌∙◌, arith, ⊎_elim}
 use Rattle.std.specs.Int.{bit_at}
-use Rattle.std.specs.Prelude.{IsSome}
 use Rattle.std.specs.Option.{is_some}
 use Rattle.std.specs.List.{refill}
 use Rattle.std.proofs.lemmas.Bool.{cases_eq, cases_lt, cases_Bool, false≢true, true≢false, lt-ltb, ltb-true}
@@ -110,13 +109,6 @@ pub has_slot_whole : (rows : Rows) (at k : ℕ) (r : List (Option ℕ)) → at <
 has_slot_whole rows at k r lt read whole here =
     let long : length (get_or rows (k / 64) []) ≡ 64 = ap (λ j. length (get_or rows j [])) here ∙ ap length (sym (get_or_read rows at r lt read [])) ∙ whole in
     lt-ltb (k % 64) (length (get_or rows (k / 64) [])) (omega arith)
-
--- a page stands in a slot
-pub page_slot : (rows : Rows) (i : ℕ) → IsSome (page_in rows i) → has_slot rows i ≡ true
-page_slot rows i some = ⊎_elim
-    (λ (lt : i % 64 < length (get_or rows (i / 64) [])). lt-ltb (i % 64) (length (get_or rows (i / 64) [])) lt)
-    (λ (le : length (get_or rows (i / 64) []) ≤ i % 64). absurd (false≢true (sym (ap is_some (get_or_past (get_or rows (i / 64) []) (i % 64) None le)) ∙ some)))
-    (cases_lt (i % 64) (length (get_or rows (i / 64) [])))
 
 -- ---- a slot written
 
