@@ -3,14 +3,14 @@ use Rattle.std.proofs.Common.{◌≡◌, ℕ, suc, ◌+◌, ◌<◌, ◌≤◌, 
 use Rattle.std.specs.List.{All, flat_map, list_any}
 use Rattle.std.specs.Prelude.{IfNone, IfSome, slice_index_or}
 use Rattle.std.proofs.lemmas.Bool.{cases_lt, eq-eqb, or_left, or_right}
-use Rattle.std.proofs.lemmas.List.{append_assoc, map-append, take_all, take_more}
+use Rattle.std.proofs.lemmas.List.{map-append, take_all, take_more}
 use Rattle.std.proofs.lemmas.List.Elements.{All-cons, All-nil}
-use Rattle.std.proofs.lemmas.List.Sums.{fold-append, fold_push}
+use Rattle.std.proofs.lemmas.List.Sums.{fold_push}
 use Rattle.hp_model.specs.files.File.{File}
 use Rattle.hp_model.specs.files.Mapping.{Map, Mapping, is_of}
 use Rattle.hp_model.specs.Lists.{is_among}
 use Rattle.hp_store.specs.Store.{Store}
-use Rattle.hp_lookup.specs.Keyed.{key_of, label_of, labels_of, tasks_in}
+use Rattle.hp_lookup.specs.Keyed.{labels_of, tasks_in}
 use Rattle.hp_lookup.specs.Leaving.{least_among, least_of}
 use Rattle.hp_lookup.specs.Numbered.{NumberedFile, files_shown}
 use Rattle.hp_lookup.specs.Places.{IsFirstTask, all_maps}
@@ -89,20 +89,6 @@ next_map known ms i m l m_is =
 abbrev pub tasks_of : List NumberedFile → List ℕ
 tasks_of fs = flat_map tasks_in (labels_of fs)
 
-pub next_file : (known : Option ℕ) (fs : List NumberedFile) (i : ℕ) (f : NumberedFile) → i < length fs → f ≡ slice_index_or fs i f →
-    least_among (least_among known (tasks_of (take i fs))) (map (λ m. m.task) f.maps) ≡ least_among known (tasks_of (take (i + 1) fs))
-next_file known fs i f l f_is =
-    sym (fold-append (λ k task. Some (least_of k task)) known (tasks_of (take i fs)) (map (λ m. m.task) f.maps))
-    ∙ ap (least_among known) (sym (one_more (take i fs)) ∙ ap tasks_of (ap (λ x. take i fs ++ x ∷ []) f_is ∙ sym (take_more fs i f l)))
-  where
-    same : (ms : List (Mapping ℕ)) → map (λ (k : ℕ × ℕ). k.0) (map key_of ms) ++ [] ≡ map (λ m. m.task) ms
-    same [] = refl
-    same (m ∷ ms) = ap (λ ts. m.task ∷ ts) (same ms)
-
-    one_more : (gs : List NumberedFile) → tasks_of (gs ++ f ∷ []) ≡ tasks_of gs ++ map (λ m. m.task) f.maps
-    one_more [] = same f.maps
-    one_more (x ∷ gs) = ap (λ ts. tasks_in (label_of x) ++ ts) (one_more gs) ∙ sym (append_assoc (tasks_in (label_of x)) (tasks_of gs) (map (λ m. m.task) f.maps))
-
 pub all_tasks_are : (s : Store) (fs : List NumberedFile) (i : ℕ) (r : Option ℕ) → length fs ≤ i → r ≡ least_among None (tasks_of (take i fs)) →
     r ≡ least_among None (map (λ (m : Map). m.task) (all_maps (files_shown s fs)))
 all_tasks_are s fs i r l e = e ∙ ap (λ xs. least_among None (tasks_of xs)) (take_all i fs l) ∙ ap (least_among None) (tasks_counted s fs)
@@ -110,7 +96,3 @@ all_tasks_are s fs i r l e = e ∙ ap (λ xs. least_among None (tasks_of xs)) (t
 pub none_yet : (known : Option ℕ) (ms : List (Mapping ℕ)) → least_among known (map (λ m. m.task) (take 0 ms)) ≡ known
 none_yet known [] = refl
 none_yet known (m ∷ ms) = refl
-
-pub no_file_yet : (known : Option ℕ) (fs : List NumberedFile) → least_among known (tasks_of (take 0 fs)) ≡ known
-no_file_yet known [] = refl
-no_file_yet known (f ∷ fs) = refl

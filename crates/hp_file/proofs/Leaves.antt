@@ -1,8 +1,8 @@
 -- Indices that leave a map, and what it holds of them.
-use Rattle.std.proofs.Common.{◌≡◌, ℕ, ◌+◌, ◌-◌, ◌<◌, ◌≤◌, ◌==◌, ◌&&◌, Bool, true, false, cond, ⊎_elim, None, take, drop, refl, sym, ap, ◌∙◌, arith}
+use Rattle.std.proofs.Common.{◌≡◌, ℕ, ◌+◌, ◌-◌, ◌<◌, ◌≤◌, ◌==◌, ◌&&◌, Bool, true, false, cond, ⊎_elim, None, take, drop, refl, ap, ◌∙◌, arith}
 use Rattle.std.specs.Prelude.{slice_index_or}
 use Rattle.std.specs.List.{count_by}
-use Rattle.std.proofs.lemmas.Bool.{cases_lt, eqb-true, ltb-false}
+use Rattle.std.proofs.lemmas.Bool.{cases_lt, ltb-false}
 use Rattle.std.specs.Prelude.{nat_lt}
 use Rattle.hp_model.proofs.Editing.{sum_by-edit_range}
 use Rattle.std.proofs.lemmas.List.Sums.{sum_by-take-drop}
@@ -17,8 +17,8 @@ use Rattle.hp_model.specs.Lists.{edit_range, part}
 use Rattle.hp_model.proofs.Editing.{length-edit_range}
 use Rattle.hp_laws.proofs.ending.Cuts.{ranged}
 use Rattle.hp_lookup.specs.Held.{in_map, in_place}
-use Rattle.hp_lookup.specs.Hints.{Noted, has_key}
-use Rattle.hp_lookup.specs.Leaving.{IsMoreButMap, IsMoreButTask, map_named, owed}
+use Rattle.hp_lookup.specs.Hints.{Noted}
+use Rattle.hp_lookup.specs.Leaving.{IsMoreButTask, map_named, owed}
 use Rattle.hp_file.proofs.Punched.{edited_alike, in_from}
 
 -- ---- copies go first
@@ -121,24 +121,6 @@ module _ (task : ℕ) where
     less = record { names = λ name e. then.less.names name (first.less.names name e); keys = λ other number e. then.less.keys other number (first.less.keys other number e) };
     room = (let one = first.room in let two = then.room in omega (arith, one, two));
   }
-
-  -- one map
-  pub map_gone : (m : Mapping ℕ) (old new : Noted) → IsMoreButMap task m.number old new → IsMoreButTask task (map_named task m) old new
-  map_gone m old new is = record {
-    names = is.names;
-    keys = λ other number apart e. is.keys other number (ap (λ b. b && (number == m.number)) apart) e;
-    gone = λ number some. at number some (m.number == number) refl;
-    less = is.less;
-    room = is.room;
-  }
-    where
-      at : (q : ℕ) → 0 < map_named task m q → (b : Bool) → (m.number == q) ≡ b → has_key task q new ≡ false
-      at q some true same = ap (λ i. has_key task i new) (sym (eqb-true m.number q same)) ∙ is.gone
-      at q some false apart = absurd (unnamed (m.task == task) (ap (λ b. cond {A = ℕ} ((m.task == task) && b) 1 0) apart))
-        where
-          unnamed : (b : Bool) → map_named task m q ≡ cond {A = ℕ} (b && false) 1 0 → ⊥
-          unnamed true e = omega (arith, some, e)
-          unnamed false e = omega (arith, some, e)
 
   -- a map of another task
   pub map_stays : (m : Mapping ℕ) (n : Noted) → is_of task m ≡ false → IsMoreButTask task (map_named task m) n n

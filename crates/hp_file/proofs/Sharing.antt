@@ -18,7 +18,7 @@ use Rattle.hp_lookup.specs.Forking.{IsShared, IsSharing}
 use Rattle.hp_lookup.specs.Held.{in_place, more_in, more_of}
 use Rattle.hp_lookup.specs.Numbered.{page_in}
 use Rattle.hp_file.proofs.Drops.{one_at}
-use Rattle.hp_lookup.proofs.Lifting.{at_most, is_it}
+use Rattle.hp_lookup.proofs.Lifting.{is_it}
 use Rattle.hp_lookup.proofs.Views.{some_within}
 
 -- ---- one holder
@@ -74,17 +74,6 @@ module _ (s t : Store) (number : ℕ) (some : 0 < holders_of (page_at s number))
 
   pub once_more : IsSharing (one_at number) s t
   once_more = (by (page_at s number) refl).0
-
-  pub more_once : more_in t.pages ≡ more_in s.pages + 1
-  more_once = (by (page_at s number) refl).1
-
--- no number has many more holders than there are beyond the first
-pub few_holders : (s : Store) (number : ℕ) → holders_of (page_at s number) ≤ more_in s.pages + 1
-few_holders s number = by (page_at s number) refl
-  where
-    by : (o : Option Holding) → page_at s number ≡ o → holders_of (page_at s number) ≤ more_in s.pages + 1
-    by None is = (let none = ap holders_of is in omega (arith, none))
-    by (Some h) is = (let most = at_most (λ (o : Option Holding). o) (λ o. o) more_of (λ o e. refl) s.pages number None (some_within s.pages number h is) in omega (arith, most))
 
 -- ---- one after the other
 

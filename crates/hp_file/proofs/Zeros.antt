@@ -33,10 +33,6 @@ pub record IsPutting (size a b i : ℕ) (old now : List (Cell Page)) (all left :
   pub filled : cells_filled a (zeros_of size left) now ≡ cells_filled a (zeros_of size all) old
   pub count : length left ≡ count_by lacks_page (part i b now)
 
-pub putting_start : (size a b : ℕ) (old : List (Cell Page)) (all : List Page) → b ≤ length old → ((j : ℕ) → a ≤ j → j < b → is_entered (cell_in old j) ≡ true)
-    → length all ≡ count_by lacks_page (part a b old) → IsPutting size a b a old old all all
-putting_start size a b old all long ahead count = record { passed = λ j low high. absurd (omega (arith, low, high)); ahead = ahead; long = long; filled = refl; count = count }
-
 -- the rest of a range, by its first index
 part_first : (i b : ℕ) (xs : List (Cell Page)) → i < b → b ≤ length xs → count_by lacks_page (part i b xs) ≡ cond (lacks_page (cell_in xs i)) 1 0 + count_by lacks_page (part (i + 1) b xs)
 part_first i b xs high long =
@@ -152,21 +148,6 @@ module _ (k i : ℕ) (q : Page) (old now new : Files) (l : k < length old.files)
       ap (λ (v : Files). v.files) new_is ∙ ap (λ h. slice_set now.files k (with_cell h i (Present q))) there
       ∙ ap (λ fs. slice_set fs k (with_cell g i (Present q))) now_is ∙ set-set old.files k g (with_cell g i (Present q))
       ∙ ap (λ cs. slice_set old.files k (record f { cells = cs })) (sym cells_put)
-
-pub putting_ends : (size a b : ℕ) (old now : List (Cell Page)) (all left : List Page) → IsPutting size a b b old now all left → (left ≡ []) × (now ≡ cells_filled a (zeros_of size all) old)
-putting_ends size a b old now all left is =
-    let none : b - b ≡ 0 = omega arith in
-    let count = is.count ∙ ap (λ n. count_by lacks_page (take n (drop b now))) none ∙ no_count (drop b now) in
-    let empty = none_left left count in
-    (empty, sym (ap (λ ps. cells_filled a (zeros_of size ps) now) empty) ∙ is.filled)
-  where
-    no_count : (ys : List (Cell Page)) → count_by lacks_page (take 0 ys) ≡ 0
-    no_count [] = refl
-    no_count (y ∷ ys) = refl
-
-    none_left : (ps : List Page) → length ps ≡ 0 → ps ≡ []
-    none_left [] e = refl
-    none_left (p ∷ ps) e = cc
 
 -- ---- entries make no difference to indices that get pages
 

@@ -174,9 +174,6 @@ module _ {n later : Noted} {s t : Store} {more now maps : ℕ} {tally : ℕ → 
   pub all_maps_are : maps ≡ map_sum fs
   all_maps_are = is.keyed.map_count ∙ maps_in fs
 
-  pub exit_few : k ≤ maps
-  exit_few = (let all = all_maps_are in let gone = went.gone in omega (arith, all, gone))
-
   maps_left : maps - k ≡ sum_by (λ (q : Label). length q.keys) (labels_of kept)
   maps_left =
       let all = all_maps_are in

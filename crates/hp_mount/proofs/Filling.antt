@@ -1,5 +1,5 @@
 -- A range of a file that is filled, by what code did.
-use Rattle.std.proofs.Common.{◌≡◌, ℕ, ◌+◌, ◌-◌, ◌<◌, ◌≤◌, ◌==◌, ⊎_elim, ◌⊎◌, inl, inr, Bool, true, false, cond, List, [], ◌∷◌, Option, None, Some, Ok, Err}
+use Rattle.std.proofs.Common.{◌≡◌, ℕ, ◌+◌, ◌-◌, ◌<◌, ◌≤◌, ◌==◌, inl, inr, Bool, true, false, cond, List, [], Option, None, Some, Ok, Err}
 use Rattle.std.proofs.Common.{length, max, refl, sym, ap, subst, ◌∙◌, arith, nat_lt}
 use Rattle.std.specs.Prelude.{slice_set}
 use Rattle.std.proofs.lemmas.Bool.Decides.{nat_tests}
@@ -152,24 +152,6 @@ taken_share took full more count s door r.OutOfMemory new left taken = taken.sha
 taken_share took full more count s door other new left taken = taken.share
 
 -- ---- the event
-
-module _ (a b : ℕ) where
-  pub bad_fill : (b ≤ a) ⊎ ((a < b) × (16777216 < b)) → first_of (preallocate_tests a b) ≡ Some r.OutOfRange
-  bad_fill bad = ap (λ t. first_of ((t, r.OutOfRange) ∷ (nat_lt most_map_pages (b - a), r.TooMany) ∷ [])) (⊎_elim
-      (λ (l : b ≤ a). (let t : is_bad_range a b ≡ true = grind (arith, nat_tests, l) in t))
-      (λ (l : (a < b) × (16777216 < b)). (let past = l.1 in let t : is_bad_range a b ≡ true = grind (arith, nat_tests, past) in t)) bad)
-
-  module _ (l : a < b) (few : b ≤ 16777216) where
-    good : is_bad_range a b ≡ false
-    good = grind (arith, nat_tests, l, few)
-
-    pub wide_fill : 65536 < b - a → first_of (preallocate_tests a b) ≡ Some r.TooMany
-    wide_fill wide = (let t : nat_lt most_map_pages (b - a) ≡ true = grind (arith, nat_tests, wide) in
-        ap (λ t. first_of ((t, r.OutOfRange) ∷ (nat_lt most_map_pages (b - a), r.TooMany) ∷ [])) good ∙ ap (λ t. first_of ((t, r.TooMany) ∷ [])) t)
-
-    pub good_fill : b - a ≤ 65536 → first_of (preallocate_tests a b) ≡ None
-    good_fill narrow = (let t : nat_lt most_map_pages (b - a) ≡ false = grind (arith, nat_tests, narrow) in
-        ap (λ t. first_of ((t, r.OutOfRange) ∷ (nat_lt most_map_pages (b - a), r.TooMany) ∷ [])) good ∙ ap (λ t. first_of ((t, r.TooMany) ∷ [])) t)
 
 never_fill : (x y : Bool) → cond x (Some r.OutOfRange) (cond y (Some r.TooMany) None) ≡ Some r.TraceFull → ⊥
 never_fill true y e = cc

@@ -1,5 +1,5 @@
 -- A task's maps leave one by one.
-use Rattle.std.proofs.Common.{◌≡◌, ℕ, ◌+◌, ◌==◌, ◌||◌, Bool, true, false, not, cond, None, List, [], ◌∷◌, map, refl, sym, ap, ◌∙◌, arith}
+use Rattle.std.proofs.Common.{◌≡◌, ℕ, ◌==◌, ◌||◌, Bool, true, false, not, cond, None, List, [], ◌∷◌, map, refl, sym, ap, ◌∙◌}
 use Rattle.std.specs.List.{filter, list_any}
 use Rattle.std.proofs.lemmas.Bool.{and_parts}
 use Rattle.hp_laws.proofs.ending.Swept.{without_after, without_none}
@@ -8,8 +8,6 @@ use Rattle.hp_model.specs.files.GiveBack.{file_unmapped, file_without, is_kept, 
 use Rattle.hp_model.specs.files.Mapping.{Map, is_map, is_mapped, is_of, without_range}
 use Rattle.hp_model.specs.Lists.{is_among}
 use Rattle.hp_lookup.specs.Asking.{is_first_of}
-use Rattle.hp_lookup.specs.Dropping.{IsLeft}
-use Rattle.hp_lookup.specs.Files.{Files}
 use Rattle.hp_lookup.specs.Places.{all_maps, all_tasks, mount_with}
 use Rattle.hp_lookup.proofs.MapNumbers.{among_distinct}
 
@@ -66,16 +64,3 @@ none_leaves task fs none kept = sym (ap (λ (m : Mount). m.files) (without_none 
 
     no_maps : list_any (is_of task) (all_maps fs) ≡ false
     no_maps = sym (twice (is_among task (all_tasks fs)) ∙ among_distinct task (map (λ m. m.task) (all_maps fs)) ∙ among_is (all_maps fs)) ∙ none
-
--- ---- what they give back
-
-pub nothing_left : (v : Files) → IsLeft 0 v v
-nothing_left v = record { pages = refl; nodes = λ n. refl; reserved = omega arith; room = omega arith }
-
-pub left_then : (r q : ℕ) (u v w : Files) → IsLeft r u v → IsLeft q v w → IsLeft (r + q) u w
-left_then r q u v w first then = record {
-  pages = then.pages ∙ first.pages;
-  nodes = λ n. then.nodes n ∙ first.nodes n;
-  reserved = (let one = first.reserved in let two = then.reserved in omega (arith, one, two));
-  room = (let one = first.room in let two = then.room in omega (arith, one, two));
-}

@@ -49,9 +49,6 @@ module _ (s : Subpool) (v w : Files) (inodes : Option ℕ) (c : IsKept s v (moun
   held_are : s.held ≡ sum_by file_reserves w.files + reserves
   held_are = (let all = left.reserved in let had = c.pages in let was = c.used in omega (arith, all, had, was))
 
-  pub enough_pages : length w.going ≤ s.pages
-  enough_pages = (let all = pages_are in omega (arith, all))
-
   pub enough_held : reserves ≤ s.held
   enough_held = (let all = held_are in omega (arith, all))
 

@@ -221,10 +221,6 @@ module _ (s : Subpool) (v w : Files) (inodes : Option ℕ) (c : IsKept s v (moun
   pub room_left : mount_of s inodes w.files ≡ mount_of s inodes v.files
   room_left = ap (λ (x : Files). mount_of s inodes x.files) w_is
 
-  pub room_kept : v.room ≤ w.room → IsKept s w (mount_of s inodes w.files)
-  room_kept more = (let room = c.room in subst (λ n. IsKept s w n) (sym room_left)
-      (record { pages = c.pages; used = c.used; room = omega (arith, room, more); going = ap (λ (x : Files). x.going) w_is ∙ c.going; few = c.few }))
-
 -- ---- what a new map asks for
 
 module _ (s : Subpool) (v : Files) (inodes : Option ℕ) (m : Mount) (c : IsKept s v (mount_of s inodes v.files)) (view : mount_of s inodes v.files ≡ m) where

@@ -1,5 +1,5 @@
 -- Other limits for a mount, by what its door did.
-use Rattle.std.proofs.Common.{◌≡◌, ℕ, ◌-◌, ◌==◌, Bool, true, false, Option, None, Some, Result as ResultOf, Ok, Err, List, refl, sym, ap, subst, ◌∙◌, arith}
+use Rattle.std.proofs.Common.{◌≡◌, ℕ, ◌-◌, ◌==◌, true, false, Option, Some, Result as ResultOf, Ok, Err, List, refl, sym, ap, subst, ◌∙◌, arith}
 use Rattle.std.specs.Prelude.{if◌then◌else◌, max, nat_lt}
 use Rattle.hp_model.specs.declared.answer.Answer.TheVariants.{Done}
 use Rattle.hp_model.specs.declared.event.SlotEvent.TheVariants.{Remount}
@@ -10,7 +10,7 @@ use Rattle.hp_model.specs.declared.section.PoolAnswer.{PoolAnswer}
 use Rattle.hp_model.specs.declared.section.Section.{Section}
 use Rattle.hp_model.specs.declared.section.Section.TheVariants.{ReadAndGiveBack, ReadAndGrant}
 use Rattle.hp_model.specs.files.File.{Mount}
-use Rattle.hp_model.specs.files.Options.{Wanted, checked, is_below_min, limits, limits_of, wanted_of}
+use Rattle.hp_model.specs.files.Options.{limits, wanted_of}
 use Rattle.hp_model.specs.machine.Plan.{Answered, Ask, Plan, Refused, Reply, Slot, refuse}
 use Rattle.hp_model.specs.machine.SlotEvent.{remount, remount_outcome, remount_section}
 use Rattle.hp_model.specs.threads.LocalRun.{Gives, ThroughDoor}
@@ -21,20 +21,6 @@ use Rattle.hp_mount_laws.specs.Kept.{IsKept, mount_of}
 use Rattle.hp_mount_laws.proofs.Ways.{fresh_choice, is_fresh}
 use Rattle.hp_subpool.specs.Subpool.{Subpool, with_limits}
 
--- ---- what options are refused
-
--- never for want of memory
-checked_apart : (l : Limits) → checked l ≡ Err r.OutOfMemory → ⊥
-checked_apart l e = by_test (is_below_min l.max l.min) e
-  where
-    by_test : (b : Bool) → (if b then Err r.MinOverSize else Ok l) ≡ Err r.OutOfMemory → ⊥
-    by_test true e = cc
-    by_test false e = cc
-
-limits_apart : (nr size : ℕ) (w : Option Wanted) → limits nr size w ≡ Err r.OutOfMemory → ⊥
-limits_apart nr size None e = cc
-limits_apart nr size (Some w) e = checked_apart (limits_of nr size w) e
-
 -- the refusal, as another reply
 as_reply : (e x : Refusal) → ◌≡◌ {A = ResultOf (Option ℕ) Refusal} (Err e) (Err x) → ◌≡◌ {A = Reply} (Err e) (Err x)
 as_reply e x is = (let same : e ≡ x = cc in ap (λ y. Err y) same)
@@ -42,14 +28,6 @@ as_reply e x is = (let same : e ≡ x = cc in ap (λ y. Err y) same)
 module _ {X : Type 0} (took : X → Section → PoolAnswer → X → Type 0) (full : X → Type 0) (size : ℕ) (text : List ℕ) (s new : Subpool) (door left : X) where
   abbrev means : ℕ → ResultOf Limits Refusal
   means nr = limits nr size (wanted_of text)
-
-  pub limits_memory : (e : Refusal) → IsLimitedAt took full size text s new door left (Err e) → e ≡ r.OutOfMemory → ⊥
-  limits_memory r.OutOfMemory h is = by_limits (means h.0) refl h.3
-    where
-      by_limits : (x : ResultOf Limits Refusal) → means h.0 ≡ x → IsLimitedBy x h.0 s new (Err r.OutOfMemory) h.1 h.2 → ⊥
-      by_limits (Err e) wanted by = (let same : r.OutOfMemory ≡ e = cc in limits_apart h.0 size (wanted_of text) (wanted ∙ ap (λ y. Err y) (sym same)))
-      by_limits (Ok l) wanted by = (let never : r.OutOfMemory ≡ r.NoPages = by.0 in cc)
-  limits_memory other h is = cc
 
   -- ---- the mount
 

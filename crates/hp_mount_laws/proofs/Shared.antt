@@ -1,6 +1,5 @@
 -- An access through a shared map, by what code did.
-use Rattle.std.proofs.Common.{◌≡◌, ℕ, ◌<◌, true, false, Some, None, Ok, Err, length, refl, sym, ap, subst, ◌∙◌}
-use Rattle.std.proofs.lemmas.List.{get_or-set_same, length-set}
+use Rattle.std.proofs.Common.{◌≡◌, ℕ, true, false, Some, Ok, Err, length, refl, sym, ap, subst, ◌∙◌}
 use Rattle.hp_mount_door.specs.Door.{IsDoorRefusal}
 use Rattle.hp_model.specs.declared.answer.Answer.TheVariants.{Done}
 use Rattle.hp_model.specs.declared.cell.Cell.{Cell}
@@ -9,7 +8,7 @@ use Rattle.hp_model.specs.declared.refusal.Refusal.{Refusal}
 use Rattle.hp_model.specs.declared.refusal.Refusal.TheVariants as r
 use Rattle.hp_model.specs.files.Access.{shared_access}
 use Rattle.hp_model.specs.machine.Event.{IsFresh}
-use Rattle.hp_model.specs.files.File.{File, Mount, cell_at, with_cell, with_file, new_file}
+use Rattle.hp_model.specs.files.File.{File, Mount, cell_at, with_cell, with_file}
 use Rattle.hp_model.specs.pool.Grant.{is_full, rise}
 use Rattle.hp_model.specs.threads.LocalRun.{ThroughDoor}
 use Rattle.hp_model.specs.files.Page.{Page, zeros}
@@ -114,13 +113,3 @@ module _ {X : Type 0} (took : X → Section → PoolAnswer → X → Type 0) (fu
 
 pub same_touched : (m n : Mount) (k : ℕ) → n ≡ m → IsTouched m n k
 same_touched m n k e = record { files = ap (λ x. length x.files) e; maps = ap (λ x. length (file_in x k).maps) e; cells = ap (λ x. length (file_in x k).cells) e }
-
-pub page_touched : (m n : Mount) (k i : ℕ) (page : Page) → k < length m.files → n ≡ with_file m k (with_cell (file_in m k) i (Present page)) → IsTouched m n k
-page_touched m n k i page l e =
-    let g : File = with_cell (file_in m k) i (Present page) in
-    let here : file_in n k ≡ g = ap (λ x. file_in x k) e ∙ get_or-set_same m.files k g (new_file None) l in
-    record {
-      files = ap (λ x. length x.files) e ∙ length-set m.files k g;
-      maps = ap (λ f. length f.maps) here;
-      cells = ap (λ f. length f.cells) here ∙ length-set (file_in m k).cells i (Present page);
-    }

@@ -43,9 +43,6 @@ module _ {X : Type 0} (took : X → Section → PoolAnswer → X → Type 0) (m 
   abbrev goes : Plan → X → Reply → Slot → X → Type 0
   goes p door reply new left = ThroughDoor took p (Some m) door reply new left
 
-  pub at_once : (o : Outcome) (door : X) (reply : Reply) (new : Slot) → Gives o (Some m) reply new → goes (Finish o) door reply new door
-  at_once o door reply new h = (h, refl)
-
   pub refused_at : (e : Refusal) (door : X) → goes (refuse e) door (Err e) (Some m) door
   refused_at e door = ((refl, refl), refl)
 

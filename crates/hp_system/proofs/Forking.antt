@@ -2,7 +2,7 @@
 use Rattle.std.proofs.Common.{◌≡◌, ℕ, zero, suc, ◌+◌, ◌<◌, ◌≤◌, Bool, true, false, cond, List, [], ◌∷◌, ◌++◌, Err, Ok, Some, None, Option, length, refl, sym, ap, subst, ◌∙◌, arith, is_some}
 use Rattle.std.specs.Bool.{MatchBool}
 use Rattle.std.specs.List.{filter, range_with_len, slice_index_or, slice_set}
-use Rattle.std.proofs.lemmas.List.{get_or-set_other, get_or-set_same, length-set}
+use Rattle.std.proofs.lemmas.List.{get_or-set_other, get_or-set_same}
 use Rattle.std.proofs.lemmas.List.Elements.{filter-append}
 use Rattle.hp_model.specs.declared.answer.Answer.{Answer}
 use Rattle.hp_model.specs.declared.answer.Answer.TheVariants.{Done}
@@ -39,11 +39,6 @@ pub event_others : (s t : State) (k : ℕ) (e : SlotEvent) (reply : Reply) → I
 event_others s t k e reply is j other =
     let ends = event_ends (λ o. Unit {0}) s k e reply t (λ c. always_any (slot_event s.page_size k c (slot_at s k) e)) is in
     ap (λ (xs : List Slot). slice_index_or xs j None) ends.slots ∙ get_or-set_other s.slots k j (left_by (slot_at s k) ends.outcome) None other
-
-pub event_slots : (s t : State) (k : ℕ) (e : SlotEvent) (reply : Reply) → IsEvent s (OnSlot k e) reply t → length t.slots ≡ length s.slots
-event_slots s t k e reply is =
-    let ends = event_ends (λ o. Unit {0}) s k e reply t (λ c. always_any (slot_event s.page_size k c (slot_at s k) e)) is in
-    ap length ends.slots ∙ length-set s.slots k (left_by (slot_at s k) ends.outcome)
 
 -- ---- the slots where a task has maps
 

@@ -144,11 +144,6 @@ module _ (task : ℕ) where
       by_home None none = (Err NoSuchTask, ap (λ o. when_known t o (λ home. (Ok Done, removed t task))) none ∙ ap (λ u. (Err NoSuchTask, u)) (sym (all_stay t none)))
       by_home (Some home) some = (Ok Done, ap (λ o. when_known t o (λ home. (Ok Done, removed t task))) some)
 
--- a slot where the task has no map
-pub stays_there : (s : State) (k task : ℕ) → has_maps_of task (slot_at s k) ≡ false → AreExited s (k ∷ []) task s
-stays_there s k task none next reply u h =
-    subst (λ b. MatchBool b (IsScript s (Do (OnSlot k (slot.ExitMaps task)) (λ r. next)) reply u) (IsScript s next reply u)) (sym none) h
-
 -- and one that it leaves
 pub leaves_there : (s t : State) (k task : ℕ) (r : Reply) → has_maps_of task (slot_at s k) ≡ true → IsEvent s (OnSlot k (slot.ExitMaps task)) r t → AreExited s (k ∷ []) task t
 leaves_there s t k task r some goes next reply u h =

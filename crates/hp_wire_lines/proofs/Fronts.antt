@@ -107,10 +107,6 @@ taken_digit line from digit short is value space =
     ∙ taken_at_space line digit 1 (from + 1) short space (omega arith) (omega arith) (omega (arith, is, value))
     ∙ ap (λ at. Ok (digit, pieces_from at line)) next
 
-pub taken_none : number_at [] ≡ Err BadLine
-unfolding number_at piece_at
-taken_none = refl
-
 -- ---- pieces
 
 pub no_piece : piece_at [] ≡ Err BadLine
