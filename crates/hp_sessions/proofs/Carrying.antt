@@ -245,9 +245,6 @@ grows_one s t receipt is = record {
     at_most None = omega arith
     at_most (Some r) = omega arith
 
-pub nothing_added : (s t : SessionView) (receipt : Option Receipt) → receipt ≡ None → t ≡ noted s (option_cons receipt []) → t ≡ s
-nothing_added s t receipt none is = is ∙ ap (λ o. noted s (option_cons o [])) none ∙ sym (noted_none s)
-
 -- ---- how many receipts came
 
 pub grows_then : (a b : ℕ) (s t u : SessionView) → Grows a s t → Grows b t u → Grows (a + b) s u

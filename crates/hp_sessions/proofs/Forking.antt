@@ -23,7 +23,7 @@ use Rattle.hp_model.specs.declared.entry.Receipt.{Receipt}
 use Rattle.hp_model.specs.threads.JointRun.{option_cons}
 use Rattle.hp_sessions.specs.Calls.{Carries, IsHanded, IsMade, Leads, SessionView, noted}
 use Rattle.hp_sessions.specs.Forks.{IsForked, marked_below}
-use Rattle.hp_sessions.proofs.Carrying.{ends, goes_on, is_full, made_added, nothing_added, refused_made, stops, where_mapped, where_other}
+use Rattle.hp_sessions.proofs.Carrying.{ends, goes_on, is_full, made_added, refused_made, stops, where_mapped, where_other}
 
 range_more : (a n : ℕ) → range_with_len a (suc n) ≡ range_with_len a n ++ (a + n) ∷ []
 range_more a zero = ap (λ k. k ∷ []) {x = a} {y = a + 0} (omega arith)
@@ -102,10 +102,9 @@ module _ (kept : Bool) (size : ℕ) where
       where_other kept size s u k task (Do (OnSlot k (ExitMaps task)) (λ r. next)) next reply (subst (λ v. Carries kept size v next reply u) same c)
 
   -- what the slot handed back
-  pub exit_leads : (s t : SessionView) (k task : ℕ) (b : Bool) (receipt : Option Receipt) → MatchBool b (IsHanded kept size (OnSlot k (ExitMaps task)) (Ok Done) receipt) (receipt ≡ None) →
+  pub exit_leads : (s t : SessionView) (k task : ℕ) (receipt : Option Receipt) → IsHanded kept size (OnSlot k (ExitMaps task)) (Ok Done) receipt →
       t ≡ noted s (option_cons receipt []) → (next : Script) → Leads kept size s (exit_slot k task next) t next
-  exit_leads s t k task true receipt h is = exit_made s t k task (made_added kept size s t (OnSlot k (ExitMaps task)) (Ok Done) receipt h is)
-  exit_leads s t k task false receipt h is = exit_none s t k task (nothing_added s t receipt h is)
+  exit_leads s t k task receipt h is = exit_made s t k task (made_added kept size s t (OnSlot k (ExitMaps task)) (Ok Done) receipt h is)
 
   -- ---- the table's event before
 

@@ -44,11 +44,13 @@ use Rattle.hp_events.specs.declared.event.MountEvent.{MountEvent}
 use Rattle.hp_events.specs.declared.event.MountEvent.TheVariants as m
 use Rattle.hp_events.specs.Event.{event_of}
 use Rattle.hp_mount_laws.proofs.Ways.{fresh_choice, is_fresh}
-use Rattle.hp_shared.specs.Slots.{AreEventsToNote, IsSlotEvent, IsSlotEventDone, SlotView, Went, is_trace_full}
+use Rattle.hp_shared.specs.Slots.{IsSlotEvent, IsSlotEventDone, SlotView, Went, is_trace_full}
+use Rattle.hp_shared.specs.SlotWork.{asked_event, is_exit, is_of_maps}
+use Rattle.hp_shared.specs.declared.slot_work.SlotWork.{SlotWork}
+use Rattle.hp_shared.specs.declared.slot_work.SlotWork.TheVariants as w
 use Rattle.hp_shared.proofs.Acting.{always_came, none_acted}
 use Rattle.hp_sessions.specs.Calls.{CanAnswer, IsHanded, IsToldOf}
-use Rattle.hp_events.specs.Copies.{AreEvents}
-use Rattle.hp_sessions.specs.Works.{HasAnswerOf, IsBytes}
+use Rattle.hp_sessions.specs.Works.{HasAnswerOf, IsBytes, missing_for}
 
 map_match : (b : Bool) (A B C D : Type 0) → (b ≡ true → A → C) → (b ≡ false → B → D) → MatchBool b A B → MatchBool b C D
 map_match true A B C D f g t = f refl t
@@ -140,11 +142,11 @@ mount_has_place k home m.Usage = refl
 
 -- an event of a slot, by what its lock's holder was told
 pub slot_handed : (kept : Bool) (full : Type 0) (size k : ℕ) (old new : SlotView) (e : SlotEvent) (reply : Reply) (asked : Option Asked) (receipt : Option Receipt) → old.number ≡ k →
-    has_place (OnSlot k e) ≡ false → IsSlotEvent full size old new e reply asked receipt → (is_trace_full reply ≡ true → kept ≡ true)
+    (is_trace_full reply ≡ true → has_place (OnSlot k e) ≡ false) → IsSlotEvent full size old new e reply asked receipt → (is_trace_full reply ≡ true → kept ≡ true)
     → (is_trace_full reply ≡ false → is_some receipt ≡ kept) → IsHanded kept size (OnSlot k e) reply receipt
 slot_handed kept full size k old new e reply asked receipt at place event keeps given =
     map_match (is_trace_full reply) _ _ _ _
-    (λ is h. (keeps is, place, h.1))
+    (λ is h. (keeps is, place is, h.1))
     (λ is h. done_handed size k old new e reply asked receipt kept at h (given is)) event
   where
     done_handed : (size k : ℕ) (old new : SlotView) (e : SlotEvent) (reply : Reply) (asked : Option Asked) (receipt : Option Receipt) (kept : Bool) → old.number ≡ k →
@@ -153,6 +155,21 @@ slot_handed kept full size k old new e reply asked receipt at place event keeps 
       (old.mount, asked, new.mount, subst (λ n. Went size n old.mount e reply asked new.mount) at h.changes),
       subst (λ n. IsToldOf kept (OnSlot n e) reply receipt) at (told_by kept old.entries _ (OnSlot old.number e) reply receipt h.told is),
     )
+
+-- what is asked of a slot: an exit, which alone has its place, is done
+pub work_handed : (kept : Bool) (full : Type 0) (size k : ℕ) (old new : SlotView) (work : SlotWork) (reply : Reply) (asked : Option Asked) (receipt : Option Receipt) → old.number ≡ k →
+    IsSlotEvent full size old new (asked_event work) reply asked receipt → (is_trace_full reply ≡ true → kept ≡ true) → (is_trace_full reply ≡ false → is_some receipt ≡ kept) →
+    (is_exit work ≡ true → reply ≡ Ok Done) → IsHanded kept size (OnSlot k (asked_event work)) reply receipt
+work_handed kept full size k old new work reply asked receipt at event keeps given exit =
+    slot_handed kept full size k old new (asked_event work) reply asked receipt at (place work exit) event keeps given
+  where
+    place : (work : SlotWork) → (is_exit work ≡ true → reply ≡ Ok Done) → is_trace_full reply ≡ true → has_place (OnSlot k (asked_event work)) ≡ false
+    place (w.Mount options) exit full = refl
+    place (w.Remount options) exit full = refl
+    place w.Umount exit full = refl
+    place (w.Fork parent child) exit full = refl
+    place (w.Exit task) exit full = absurd (let done = ap is_trace_full (exit refl) in cc)
+    place (w.OfMount home e) exit full = mount_has_place k home e
 
 -- no event was made
 absent_handed : (kept : Bool) (size k : ℕ) (e : SlotEvent) (x : Refusal) → is_trace_full (Err x) ≡ false → has_place (OnSlot k e) ≡ false →
@@ -168,24 +185,34 @@ mount_absent kept size k home e r is =
 pub names_absent : (kept : Bool) (size k : ℕ) (r : Refusal) → r ≡ (if kept then TraceFull else NoSuchSlot) → IsHanded kept size (OnSlot k slot.Ls) (Err r) None
 names_absent kept size k r is = mount_absent kept size k 0 m.Ls r is
 
-pub umount_absent : (kept : Bool) (size k : ℕ) (r : Refusal) → r ≡ (if kept then TraceFull else NoSuchSlot) → IsHanded kept size (OnSlot k slot.Umount) (Err r) None
+umount_absent : (kept : Bool) (size k : ℕ) (r : Refusal) → r ≡ (if kept then TraceFull else NoSuchSlot) → IsHanded kept size (OnSlot k slot.Umount) (Err r) None
 umount_absent kept size k r is =
     subst (λ x. IsHanded kept size (OnSlot k slot.Umount) (Err x) None) (sym is)
     (absent_handed kept size k slot.Umount NoSuchSlot refl refl (None, None, None, (fresh_choice false None, is_fresh false None, (refl, refl))))
 
-pub remounting_absent : (kept : Bool) (size k : ℕ) (options : List ℕ) (r : Refusal) → r ≡ (if kept then TraceFull else NoSuchSlot) →
+remounting_absent : (kept : Bool) (size k : ℕ) (options : List ℕ) (r : Refusal) → r ≡ (if kept then TraceFull else NoSuchSlot) →
     IsHanded kept size (OnSlot k (slot.Remount options)) (Err r) None
 remounting_absent kept size k options r is =
     subst (λ x. IsHanded kept size (OnSlot k (slot.Remount options)) (Err x) None) (sym is)
     (absent_handed kept size k (slot.Remount options) NoSuchSlot refl refl (None, None, None, (fresh_choice false None, is_fresh false None, (refl, refl))))
 
 -- a mount is refused where a slot is mounted
-pub mounting_absent : (kept : Bool) (size k : ℕ) (options : List ℕ) (r : Refusal) → r ≡ (if kept then TraceFull else SlotTaken) →
+mounting_absent : (kept : Bool) (size k : ℕ) (options : List ℕ) (r : Refusal) → r ≡ (if kept then TraceFull else SlotTaken) →
     IsHanded kept size (OnSlot k (slot.Mount options)) (Err r) None
 mounting_absent kept size k options r is =
     subst (λ x. IsHanded kept size (OnSlot k (slot.Mount options)) (Err x) None) (sym is)
     (absent_handed kept size k (slot.Mount options) SlotTaken refl refl
     (Some open_mount, None, Some open_mount, (fresh_choice false (Some open_mount), is_fresh false (Some open_mount), (refl, refl))))
+
+-- a slot that is not there
+pub work_absent : (kept : Bool) (size k : ℕ) (work : SlotWork) (r : Refusal) → is_of_maps work ≡ false → r ≡ (if kept then TraceFull else missing_for work) →
+    IsHanded kept size (OnSlot k (asked_event work)) (Err r) None
+work_absent kept size k (w.Mount options) r other is = mounting_absent kept size k options r is
+work_absent kept size k (w.Remount options) r other is = remounting_absent kept size k options r is
+work_absent kept size k w.Umount r other is = umount_absent kept size k r is
+work_absent kept size k (w.Fork parent child) r other is = cc
+work_absent kept size k (w.Exit task) r other is = cc
+work_absent kept size k (w.OfMount home e) r other is = mount_absent kept size k home e r is
 
 -- ---- what a load and a store are answered
 
@@ -253,18 +280,7 @@ fits size k other a can = tt
 pub handed_fits : (kept : Bool) (size k : ℕ) (e : SlotEvent) (a : Answer) (receipt : Option Receipt) → IsHanded kept size (OnSlot k e) (Ok a) receipt → HasAnswerOf e a
 handed_fits kept size k e a receipt handed = fits size k e a handed.0
 
--- ---- copies
-
-pub noted_as : (entries : Option (List SlotEntry)) (e : SlotEvent) (both : Option (SlotEvent × SlotEvent)) → AreEvents e both → AreEventsToNote entries e both
-noted_as entries e None h = absurd h
-noted_as entries e (Some both) h = h
-
-pub noted_then : (entries : Option (List SlotEntry)) (e : SlotEvent) (noted both : Option (SlotEvent × SlotEvent)) → noted ≡ both → AreEvents e both → AreEventsToNote entries e noted
-noted_then entries e noted both is h = subst (λ x. AreEventsToNote entries e x) (sym is) (noted_as entries e both h)
-
-pub noted_else : (entries : Option (List SlotEntry)) (e : SlotEvent) (noted : Option (SlotEvent × SlotEvent)) → noted ≡ None → is_some entries ≡ false → AreEventsToNote entries e noted
-noted_else None e noted is none = subst (λ x. AreEventsToNote None e x) (sym is) refl
-noted_else (Some es) e noted is none = cc
+-- ---- a door without room
 
 pub either_kept : {P : Type 0} (b : Bool) → (b ≡ true) ⊎ (P × (b ≡ true)) → b ≡ true
 either_kept b (inl h) = h

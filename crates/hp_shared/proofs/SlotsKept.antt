@@ -1,5 +1,5 @@
 -- The slot's trail keeps its fact with one entry more.
-use Rattle.std.proofs.Common.{◌≡◌, ◌⊎◌, inr, ℕ, ◌≤◌, zero, suc, Bool, true, false, List, [], ◌∷◌, ◌++◌, Option, None, Some, Ok, Err, refl, sym, ap, ◌∙◌, subst, arith}
+use Rattle.std.proofs.Common.{◌≡◌, ◌⊎◌, inr, ℕ, ◌≤◌, zero, suc, Bool, true, false, ◌||◌, List, [], ◌∷◌, ◌++◌, Option, None, Some, Ok, Err, refl, sym, ap, ◌∙◌, subst, arith}
 use Rattle.std.specs.Prelude.{is_some, IsTrue}
 use Rattle.hp_model.specs.declared.entry.Asked.{Asked}
 use Rattle.hp_model.specs.declared.entry.SlotEntry.{SlotEntry}
@@ -25,7 +25,10 @@ use Rattle.hp_model.specs.declared.refusal.Refusal.TheVariants as r
 use Rattle.hp_mount_laws.specs.Done.{MayEnter}
 use Rattle.hp_events.specs.Event.{event_of}
 use Rattle.hp_shared.proofs.Acting.{always_goes}
-use Rattle.hp_shared.proofs.Places.{has_closing, places_after}
+use Rattle.hp_shared.specs.declared.slot_work.SlotWork.{SlotWork}
+use Rattle.hp_shared.specs.declared.slot_work.SlotWork.TheVariants as w
+use Rattle.hp_shared.specs.SlotWork.{asked_event, has_maps_for, is_exit}
+use Rattle.hp_shared.proofs.Places.{has_closing, places_after, room_closing}
 
 slot_push : (size k : ℕ) (s : Slot) (es : List SlotEntry) (m : Slot) (e : SlotEntry) (q : Slot) → IsLocalRun size k s es m → IsLocalStep size k m e q → IsLocalRun size k s (es ++ e ∷ []) q
 slot_push size k s [] m e q run step = (q, subst (λ (x : Slot). IsLocalStep size k x e q) (sym run) step, refl)
@@ -66,6 +69,16 @@ module _ (size k : ℕ) (o : Option (List SlotEntry)) (left : Option ℕ) (extra
   -- the exit of a task with maps has a place
   pub exit_fits : removes_maps old e ≡ true → has_room true left extra ≡ true
   exit_fits is = has_closing most_tasks (to_exit old) (to_exit new) extra left (subst (λ (b : Bool). KeepsPlaces most_tasks (to_exit old) (to_exit new) b) is keeps) was.places
+
+  -- there is a place for what may be noted
+  pub may_fit : (is_exit : Bool) → removes_maps old e ≡ is_exit → (is_exit || has_room false left extra) ≡ true → has_room true left extra ≡ true
+  may_fit true removes may = exit_fits removes
+  may_fit false removes may = room_closing left extra may
+
+-- and it leaves those that are kept
+pub may_room : (is_exit : Bool) (b : Bool) (left : Option ℕ) (extra : ℕ) → b ≡ is_exit → (is_exit || has_room false left extra) ≡ true → b ≡ false → has_room false left extra ≡ true
+may_room true b left extra is may other = cc
+may_room false b left extra is may other = may
 
 start_none : (k : ℕ) → ◌≡◌ {A = ℕ} (to_exit (slot_start k)) 0
 start_none zero = refl
@@ -123,6 +136,41 @@ mount_event s home (m.Load task map index offset count) = refl
 mount_event s home (m.Store task map index offset bytes) = refl
 mount_event s home m.Ls = refl
 mount_event s home m.Usage = refl
+
+-- what is asked where the maps are that it goes by
+pub work_event : (s : Slot) (work : SlotWork) → has_maps_for work s ≡ true → IsTrue (is_slot_event s (asked_event work))
+work_event s (w.Mount options) has = refl
+work_event s (w.Remount options) has = refl
+work_event s w.Umount has = refl
+work_event s (w.Fork parent child) has = refl
+work_event s (w.Exit task) has = has
+work_event s (w.OfMount home e) has = mount_event s home e
+
+not_removing : (s : Slot) (home : ℕ) (e : MountEvent) → removes_maps s (event_of home e) ≡ false
+not_removing s home (m.Create name) = refl
+not_removing s home (m.Unlink name) = refl
+not_removing s home (m.Truncate name pages) = refl
+not_removing s home (m.Punch name start end) = refl
+not_removing s home (m.Preallocate name start end) = refl
+not_removing s home (m.Stat name) = refl
+not_removing s home (m.Read name index offset count) = refl
+not_removing s home (m.Map task name start pages sharing reserving) = refl
+not_removing s home (m.Anon task pages sharing reserving) = refl
+not_removing s home (m.Unmap task map start end) = refl
+not_removing s home (m.Fault task map index intent) = refl
+not_removing s home (m.Load task map index offset count) = refl
+not_removing s home (m.Store task map index offset bytes) = refl
+not_removing s home m.Ls = refl
+not_removing s home m.Usage = refl
+
+-- an exit alone removes a task's maps
+pub work_removes : (s : Slot) (work : SlotWork) → has_maps_for work s ≡ true → removes_maps s (asked_event work) ≡ is_exit work
+work_removes s (w.Mount options) has = refl
+work_removes s (w.Remount options) has = refl
+work_removes s w.Umount has = refl
+work_removes s (w.Fork parent child) has = refl
+work_removes s (w.Exit task) has = has
+work_removes s (w.OfMount home e) has = not_removing s home e
 
 module _ (full : Type 0) (size k : ℕ) (entries : Option (List SlotEntry)) (left : Option ℕ) (extra : ℕ) (old : Slot) (e : SlotEvent) (reply : Reply)
     (asked : Option Asked) (new : Slot) (acted : IsActedOr full size k old e reply asked new) where

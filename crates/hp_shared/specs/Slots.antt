@@ -81,11 +81,6 @@ IsSlotEvent full size old new e reply asked receipt =
     × ((has_room false old.left old.extra ≡ false) ⊎ (full × MayEnter (λ c. slot_event size old.number c old.mount e) old.mount)))
     (IsSlotEventDone size old new e reply asked receipt)
 
--- the event for an entry and again for a receipt, where entries are kept
-abbrev pub AreEventsToNote : Option (List SlotEntry) → SlotEvent → Option (SlotEvent × SlotEvent) → Type 0
-AreEventsToNote entries e None = entries ≡ None
-AreEventsToNote entries e (Some both) = (both.0 ≡ e) × (both.1 ≡ e)
-
 -- the reply with a list of names, or with its refusal
 abbrev pub names_reply : Result (List (List ℕ)) Refusal → Reply
 names_reply (Ok names) = Ok (Names names)

@@ -1,8 +1,8 @@
 //! A slot with its trail.
-ghost use Rattle.std.specs.Prelude.{◌≡◌, ◌⊎◌, ◌≤◌, [], length, true, false, None, is_some};
+ghost use Rattle.std.specs.Prelude.{◌≡◌, ◌⊎◌, ◌||◌, ℕ, ◌<◌, ◌≤◌, [], length, true, false, None, Ok, is_some};
+ghost use Rattle.hp_model.specs.declared.answer.Answer.TheVariants.{Done};
 ghost use Rattle.hp_model.specs.declared.entry.Part.TheVariants.{Slot as AtSlot};
 ghost use Rattle.hp_model.specs.declared.event.Event.TheVariants.{Slot as OnSlot};
-ghost use Rattle.hp_model.specs.declared.event.SlotEvent.{SlotEvent as SlotEventValue};
 ghost use Rattle.hp_model.specs.files.Page.{Page as PageValue};
 ghost use Rattle.hp_model.specs.beside.Copying.{reply_has_names};
 ghost use Rattle.hp_model.specs.machine.Event.{has_maps_of};
@@ -14,20 +14,21 @@ ghost use Rattle.hp_locked.specs.Told.{IsReceipt};
 ghost use Rattle.hp_locked.specs.Views.{IsFresh};
 ghost use Rattle.hp_events.specs.Event.{event_of, shows_bytes};
 ghost use Rattle.hp_store.specs.Batch.{Batch as BatchValue};
-ghost use Rattle.hp_store.specs.Store.{Store as StoreValue};
+ghost use Rattle.hp_store.specs.Store.{Store as StoreValue, page_at};
 ghost use Rattle.hp_subpool.specs.Subpool.{Subpool as ShareValue};
-ghost use Rattle.hp_shared.specs.Slots.{AreEventsToNote, IsSlotEvent, IsSlotTrail, is_trace_full, slot_start};
+ghost use Rattle.hp_shared.specs.Slots.{IsSlotEvent, IsSlotTrail, is_trace_full, slot_start};
+ghost use Rattle.hp_shared.specs.SlotWork.{AreCopiesFor, IsAnother, asked_event, has_maps_for, is_exit, needs_room};
 ghost use Rattle.hp_trail.specs.Keeping.{has_room, one_less, with_entry};
 
 mod listing;
-mod mounts;
-mod tasks;
 
-use crate::slot::{act, copied, is_full};
+use crate::slot::{act, ask, copied, is_full};
+use crate::slot_work::{SlotWork, events_of};
 use hp_events::MountEvent;
+use hp_events::copies::Copies;
 use hp_locked::SessionDoor;
 use hp_model::entry::{Asked, Part, Receipt, SlotEntry};
-use hp_model::event::{Event, SlotEvent};
+use hp_model::event::Event;
 use hp_model::naming::Naming;
 use hp_model::refusal::Refusal;
 use hp_model::told::Told;
@@ -37,6 +38,7 @@ use hp_nodes::Page;
 use hp_store::{PageBatch, PageStore};
 use hp_subpool::Subpool;
 use hp_trail::trail::Trail;
+use std::alloc::Global;
 use std::marker::Model;
 
 /// A slot with its trail.
@@ -129,10 +131,21 @@ impl<N: Naming, T: Trail<SlotEntry>> Slot<N, T> {
         }
     }
 
-    /// An event of a mount but a list of names: its reply, with bytes in the front of the room, and its receipt where
-    /// entries are kept. For these the event is given twice. Answered TraceFull, and then nothing changed, where the trail
-    /// has no room, or where the event enters a section of the pool and the door has none.
-    pub fn event<
+    /// Whether the slot has the maps that this goes by, if it goes by a task's maps.
+    pub fn has_maps_for(&self, work: &SlotWork<'_>) -> bool
+        ensures { result ≡ has_maps_for work.now self.now.mount }
+    {
+        match *work {
+            SlotWork::Fork { parent, .. } => self.has_maps(parent),
+            SlotWork::Exit { task } => self.has_maps(task),
+            _ => true,
+        }
+    }
+
+    /// Does what is asked: its reply, with bytes in the front of the room, and its receipt where entries are kept. For these
+    /// there are copies of what it carries. Answered TraceFull, and then nothing changed, where the trail has no room, or where
+    /// the event enters a section of the pool and the door has none; but an exit, which always has its place, is done.
+    pub fn work<
         'a,
         D: SessionDoor<
             Share = Subpool<N>,
@@ -143,10 +156,10 @@ impl<N: Naming, T: Trail<SlotEntry>> Slot<N, T> {
     >(
         &mut self,
         door: &mut D,
+        alloc: Global,
         page_bytes: u64,
-        home: u64,
-        event: MountEvent<'_>,
-        noted: Option<(SlotEvent, SlotEvent)>,
+        work: SlotWork<'_>,
+        copies: Option<Copies>,
         room: &'a mut [u8],
     ) -> (Result<Told<'a>, Refusal>, Option<Receipt>)
         requires shares { (s : ShareValue) → D.share_of s ≡ s }
@@ -154,13 +167,17 @@ impl<N: Naming, T: Trail<SlotEntry>> Slot<N, T> {
         requires going { (s : StoreValue) → D.going_of s ≡ s.going }
         requires batches { (b : BatchValue) → D.batch_of b ≡ b }
         requires emptied { (s : StoreValue) → D.emptied s ≡ record s { going = [] } }
+        requires spent { (s : StoreValue) → ((n : ℕ) → page_at s n ≡ None) → D.is_spent s }
         requires ready { D.is_ready door.old }
         requires page_bytes { page_bytes ≡ N.page_bytes }
-        requires room { shows_bytes event ≡ true → most_bytes ≤ length room.old }
-        requires apart { lists_names (event_of home event) ≡ false }
-        requires noted { AreEventsToNote self.old.entries (event_of home event) noted }
+        requires bytes { 0 < page_bytes }
+        requires room { needs_room work ≡ true → most_bytes ≤ length room.old }
+        requires apart { lists_names (asked_event work) ≡ false }
+        requires another { IsAnother work }
+        requires has { has_maps_for work self.old.mount ≡ true }
+        requires copies { is_some self.old.entries ≡ true → AreCopiesFor work copies }
         ensures done { IsSlotEvent (D.is_full door.new) N.page_bytes self.old self.new
-            (event_of home event.entry)
+            (asked_event work.entry)
             (told_reply result.0) (D.asked door.new) result.1 }
         ensures number { self.new.number ≡ self.old.number }
         ensures keeps { is_trace_full (told_reply result.0) ≡ true
@@ -168,27 +185,26 @@ impl<N: Naming, T: Trail<SlotEntry>> Slot<N, T> {
         ensures given { is_trace_full (told_reply result.0) ≡ false
             → is_some result.1 ≡ T.keeps }
         ensures limits { IsWithinLimits (told_reply result.0) }
+        ensures exit { is_exit work.entry ≡ true → told_reply result.0 ≡ Ok Done }
     {
         let Slot {
             number,
             mount,
             trail,
         } = self;
-        if !trail.has_room(false) {
-            drop(noted);
+        if !may_note(trail, &work) {
             return (Err(Refusal::TraceFull), None);
         }
-        let told = act(mount, door, page_bytes, home, event, room);
+        let told = ask(mount, *number, door, alloc, page_bytes, work, room);
         if is_full(&told) {
-            drop(noted);
             return (told, None);
         }
-        let receipt = note(trail, *number, noted, door.asked(), &told);
+        let receipt = note(trail, *number, &work, copies, door.asked(), &told);
         (told, receipt)
     }
 
     /// An event of a mount but a list of names, where no entries are kept: its reply, with bytes in the front of the room. There
-    /// is no receipt. (An `event` hands back room for one, which costs more than a load.)
+    /// is no receipt. (`work` hands back room for one, which costs more than a load.)
     #[inline(always)]
     pub fn event_unnoted<
         'a,
@@ -232,49 +248,50 @@ impl<N: Naming, T: Trail<SlotEntry>> Slot<N, T> {
     }
 }
 
-// Notes an event with its reply and the section that it entered, where entries are kept, and makes its receipt.
+// Whether there is a place for this in the trail: an exit has one of its own.
+fn may_note<T: Trail<SlotEntry>>(trail: &T, work: &SlotWork<'_>) -> bool
+    ensures { result ≡ (is_exit work.now || has_room false (T.left trail.now) (T.extra trail.now)) }
+{
+    work.is_exit() || trail.has_room(false)
+}
+
+// Notes what was asked with its reply and the section that it entered, where entries are kept, and makes its receipt.
 fn note<T: Trail<SlotEntry>>(
     trail: &mut T,
     slot: u64,
-    noted: Option<(SlotEvent, SlotEvent)>,
+    work: &SlotWork<'_>,
+    copies: Option<Copies>,
     asked: Option<Asked>,
     told: &Result<Told<'_>, Refusal>,
 ) -> Option<Receipt>
     requires room { has_room true (T.left trail.old) (T.extra trail.old) ≡ true }
-    requires noted { noted ≡ None → T.entries trail.old ≡ None }
+    requires copies { is_some (T.entries trail.old) ≡ true → AreCopiesFor work.now copies }
     requires small { IsWithinLimits (told_reply told.now) }
     requires plain { reply_has_names (told_reply told.now) ≡ false }
-    ensures entries { (e : SlotEventValue) → AreEventsToNote (T.entries trail.old) e noted
-        → T.entries trail.new ≡ with_entry (T.entries trail.old)
-        (record { event = e; reply = told_reply told.now; asked = asked }) }
+    ensures entries { T.entries trail.new ≡ with_entry (T.entries trail.old)
+        (record { event = asked_event work.now; reply = told_reply told.now; asked = asked }) }
     ensures left { is_some (T.entries trail.old) ≡ true →
         T.left trail.new ≡ one_less (T.left trail.old) }
     ensures none { T.entries trail.old ≡ None → T.left trail.new ≡ T.left trail.old }
     ensures extra { T.extra trail.new ≡ T.extra trail.old }
     ensures given { is_some result ≡ T.keeps }
-    ensures receipt { (e : SlotEventValue) → AreEventsToNote (T.entries trail.old) e noted
-        → IsReceipt (T.entries trail.old) (AtSlot slot) (OnSlot slot e) (told_reply told.now)
-        result }
+    ensures receipt { IsReceipt (T.entries trail.old) (AtSlot slot)
+        (OnSlot slot (asked_event work.now)) (told_reply told.now) result }
 {
     if !trail.is_kept() {
-        drop(noted);
         return None;
     }
-    match noted {
-        None => None,
-        Some((event, again)) => {
-            let receipt = Receipt {
-                part: Part::Slot(slot),
-                place: trail.place(),
-                event: Event::Slot { slot, event: again },
-                reply: copied(told),
-            };
-            trail.push(SlotEntry {
-                event,
-                reply: copied(told),
-                asked,
-            });
-            Some(receipt)
-        }
-    }
+    let (event, again) = events_of(work, copies)?;
+    let receipt = Receipt {
+        part: Part::Slot(slot),
+        place: trail.place(),
+        event: Event::Slot { slot, event: again },
+        reply: copied(told),
+    };
+    trail.push(SlotEntry {
+        event,
+        reply: copied(told),
+        asked,
+    });
+    Some(receipt)
 }

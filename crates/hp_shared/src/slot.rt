@@ -1,5 +1,5 @@
 //! A slot under its lock.
-ghost use Rattle.std.specs.Prelude.{◌≡◌, ◌≤◌, ◌-◌, ◌++◌, ◌==◌, Ok, ℕ, [], length, replicate, true, false, None, Some, is_some};
+ghost use Rattle.std.specs.Prelude.{◌≡◌, ◌<◌, ◌≤◌, ◌-◌, ◌++◌, ◌==◌, Ok, ℕ, [], length, replicate, true, false, None};
 ghost use Rattle.hp_model.specs.files.Page.{Page as PageValue};
 ghost use Rattle.hp_model.specs.declared.answer.Answer.TheVariants.{Bytes};
 ghost use Rattle.hp_model.specs.beside.Copying.{has_names, reply_has_names};
@@ -8,14 +8,18 @@ ghost use Rattle.hp_model.specs.text.Writing.{HasSmallAnswer, IsWithinLimits};
 ghost use Rattle.hp_laws.specs.Answers.{lists_names};
 ghost use Rattle.hp_events.specs.Event.{event_of, shows_bytes};
 ghost use Rattle.hp_store.specs.Batch.{Batch as BatchValue};
-ghost use Rattle.hp_store.specs.Store.{Store as StoreValue};
+ghost use Rattle.hp_store.specs.Store.{Store as StoreValue, page_at};
 ghost use Rattle.hp_subpool.specs.Subpool.{Subpool as ShareValue};
 ghost use Rattle.hp_model.specs.declared.answer.Answer.TheVariants.{Done};
 ghost use Rattle.hp_model.specs.declared.event.SlotEvent.TheVariants.{ExitMaps, ForkMaps};
 ghost use Rattle.hp_model.specs.machine.Event.{has_maps_of};
 ghost use Rattle.hp_model.specs.Profile.{most_bytes};
 ghost use Rattle.hp_shared.specs.Slots.{IsActedOr, Went, is_trace_full};
+ghost use Rattle.hp_shared.specs.SlotWork.{IsAnother, asked_event, has_maps_for, is_exit, needs_room};
 
+use crate::mounting::{mount as open, unmount};
+use crate::remounting::remount;
+use crate::slot_work::SlotWork;
 use hp_events::MountEvent;
 use hp_locked::SessionDoor;
 use hp_model::answer::{Answer, Reply};
@@ -28,6 +32,51 @@ use hp_mount_door::PoolDoor;
 use hp_nodes::Page;
 use hp_store::{PageBatch, PageStore};
 use hp_subpool::Subpool;
+use std::alloc::Global;
+
+// What is asked of a slot of this number, through a door that was not used.
+pub(crate) fn ask<
+    'a,
+    N: Naming,
+    D: SessionDoor<Share = Subpool<N>, Page = Page<N>, Going = PageStore<N>, Batch = PageBatch<N>>,
+>(
+    mount: &mut Option<Mount<N>>,
+    number: u64,
+    door: &mut D,
+    alloc: Global,
+    page_bytes: u64,
+    work: SlotWork<'_>,
+    room: &'a mut [u8],
+) -> Result<Told<'a>, Refusal>
+    requires shares { (s : ShareValue) → D.share_of s ≡ s }
+    requires pages { (p : PageValue) → D.page_of p ≡ p }
+    requires going { (s : StoreValue) → D.going_of s ≡ s.going }
+    requires batches { (b : BatchValue) → D.batch_of b ≡ b }
+    requires emptied { (s : StoreValue) → D.emptied s ≡ record s { going = [] } }
+    requires spent { (s : StoreValue) → ((n : ℕ) → page_at s n ≡ None) → D.is_spent s }
+    requires ready { D.is_ready door.old }
+    requires page_bytes { page_bytes ≡ N.page_bytes }
+    requires bytes { 0 < page_bytes }
+    requires room { needs_room work ≡ true → most_bytes ≤ length room.old }
+    requires apart { lists_names (asked_event work) ≡ false }
+    requires another { IsAnother work }
+    requires has { has_maps_for work mount.old ≡ true }
+    ensures done { IsActedOr (D.is_full door.new) N.page_bytes number mount.old
+        (asked_event work.entry)
+        (told_reply result) (D.asked door.new) mount.new }
+    ensures limits { IsWithinLimits (told_reply result) }
+    ensures plain { reply_has_names (told_reply result) ≡ false }
+    ensures exit { is_exit work.entry ≡ true → told_reply result ≡ Ok Done }
+{
+    match work {
+        SlotWork::Mount { options } => open(mount, door, alloc, page_bytes, options),
+        SlotWork::Remount { options } => remount(mount, number, door, page_bytes, options),
+        SlotWork::Umount => unmount(mount, number, door),
+        SlotWork::Fork { parent, child } => fork(mount, door, parent, child),
+        SlotWork::Exit { task } => leave(mount, door, task),
+        SlotWork::OfMount { home, event } => act(mount, door, page_bytes, home, event, room),
+    }
+}
 
 // What an event asks of a slot, through a door that was not used.
 #[inline(always)]

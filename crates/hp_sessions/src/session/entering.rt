@@ -1,23 +1,23 @@
 //! One event of one part, under the part's lock.
-ghost use Rattle.std.specs.Prelude.{◌≡◌, ◌<◌, ◌≤◌, ◌==◌, if◌then◌else◌, Ok, None, true, false, length, IfSome};
-ghost use Rattle.std.specs.Bool.{MatchBool};
+ghost use Rattle.std.specs.Prelude.{◌≡◌, ◌<◌, ◌≤◌, ◌==◌, if◌then◌else◌, Ok, None, true, false, length, IfNone, IfSome, MatchOption};
 ghost use Rattle.hp_laws.specs.Answers.{lists_names};
 ghost use Rattle.hp_model.specs.declared.answer.Answer.TheVariants.{Done};
 ghost use Rattle.hp_model.specs.declared.event.Event.TheVariants.{Tasks as OnTasks, Slot as OnSlot, Pool as OnPool};
-ghost use Rattle.hp_model.specs.declared.event.SlotEvent.TheVariants.{ExitMaps, ForkMaps, Ls, Mount as Mounting, Remount as Remounting, Umount};
+ghost use Rattle.hp_model.specs.declared.event.SlotEvent.TheVariants.{Ls};
 ghost use Rattle.hp_model.specs.declared.refusal.Refusal.TheVariants.{TraceFull};
 ghost use Rattle.hp_model.specs.beside.Told.{told_reply};
 ghost use Rattle.hp_model.specs.text.Writing.{IsWithinLimits};
 ghost use Rattle.hp_model.specs.Profile.{most_bytes};
 ghost use Rattle.hp_events.specs.Event.{event_of, shows_bytes};
 ghost use Rattle.hp_shared.specs.Slots.{names_reply};
+ghost use Rattle.hp_shared.specs.SlotWork.{AreCopiesFor, IsAnother, asked_event, is_exit, is_of_maps, needs_room};
 ghost use Rattle.hp_shared.specs.Tables.{table_reply};
 ghost use Rattle.hp_sessions.specs.Calls.{IsHanded};
-ghost use Rattle.hp_events.specs.Copies.{AreCopies, bytes_of_event};
+ghost use Rattle.hp_sessions.specs.Works.{missing_for};
 
 use super::Session;
 use hp_events::MountEvent;
-use hp_events::copies::{Copies, events, mountings, remountings};
+use hp_events::copies::Copies;
 use hp_locked::{Core, Door, Gate};
 use hp_model::entry::{PoolEntry, Receipt, SlotEntry, TableEntry};
 use hp_model::event::{PoolEvent, TableEvent};
@@ -25,7 +25,7 @@ use hp_model::names::Names;
 use hp_model::naming::Naming;
 use hp_model::refusal::Refusal;
 use hp_model::told::Told;
-use hp_shared::{Slot, Table, TableTold};
+use hp_shared::{Slot, SlotWork, Table, TableTold};
 use hp_trail::trace::Trace;
 use std::sync::{Mutex, MutexGuard, Wait};
 
@@ -44,6 +44,19 @@ fn absent<const K: usize>(refusal: Refusal) -> Refusal
     ensures { result ≡ (if K == 1 then TraceFull else refusal) }
 {
     if K == 1 { Refusal::TraceFull } else { refusal }
+}
+
+// What a slot of another number answers to what is asked: nothing, where that goes by a task's maps.
+fn missing<const K: usize>(work: &SlotWork<'_>) -> Option<Refusal>
+    ensures { MatchOption result (is_of_maps work.now ≡ true) (λ refusal.
+        (is_of_maps work.now ≡ false)
+        × (refusal ≡ (if K == 1 then TraceFull else missing_for work.now))) }
+{
+    match work {
+        SlotWork::Fork { .. } | SlotWork::Exit { .. } => None,
+        SlotWork::Mount { .. } => Some(absent::<K>(Refusal::SlotTaken)),
+        _ => Some(absent::<K>(Refusal::NoSuchSlot)),
+    }
 }
 
 impl<'a, N: Naming, R: Wait, G: Gate, const K: usize> Session<'a, N, R, G, K> {
@@ -102,37 +115,40 @@ impl<'a, N: Naming, R: Wait, G: Gate, const K: usize> Session<'a, N, R, G, K> {
         told.told()
     }
 
-    // An event of the mount of a slot.
-    pub(super) fn enter_slot<'b>(
+    // What is asked of a slot: its reply, and its receipt where entries are kept. Nothing, where it goes by a task's maps and
+    // there are none: then there is no event.
+    pub(super) fn enter<'b>(
         &self,
         at: usize,
-        home: u64,
-        event: MountEvent<'_>,
+        work: SlotWork<'_>,
         copies: Option<Copies>,
         room: &'b mut [u8],
-    ) -> (Result<Told<'b>, Refusal>, Option<Receipt>)
+    ) -> Option<(Result<Told<'b>, Refusal>, Option<Receipt>)>
         requires within { at < self.now.slots }
-        requires room { shows_bytes event ≡ true → most_bytes ≤ length room.old }
-        requires apart { lists_names (event_of home event) ≡ false }
-        requires copies { (K == 1) ≡ true → AreCopies (bytes_of_event (event_of 0 event)) copies }
-        ensures handed { IsHanded (K == 1) N.page_bytes (OnSlot at (event_of home event.entry))
-            (told_reply result.0) result.1 }
-        ensures limits { IsWithinLimits (told_reply result.0) }
+        requires room { needs_room work ≡ true → most_bytes ≤ length room.old }
+        requires apart { lists_names (asked_event work) ≡ false }
+        requires another { IsAnother work }
+        requires copies { (K == 1) ≡ true → AreCopiesFor work copies }
+        ensures handed { IfSome result (λ r. IsHanded (K == 1) N.page_bytes
+            (OnSlot at (asked_event work.entry)) (told_reply r.0) r.1) }
+        ensures limits { IfSome result (λ r. IsWithinLimits (told_reply r.0)) }
+        ensures exit { IfSome result (λ r. is_exit work.entry ≡ true → told_reply r.0 ≡ Ok Done) }
+        ensures none { IfNone result (is_of_maps work.entry ≡ true) }
     {
         let shared = self.shared;
         let mut value = hold(shared.slot(at), self.rt);
         self.gate.enter(at as u64);
         let slot: &mut Slot<N, Trace<SlotEntry, K>> = &mut value;
         if slot.number() != at as u64 {
-            return (Err(absent::<K>(Refusal::NoSuchSlot)), None);
+            let refusal = missing::<K>(&work)?;
+            return Some((Err(refusal), None));
         }
-        let noted = if slot.is_kept() {
-            events(&event, home, copies)
-        } else {
-            None
-        };
+        if !slot.has_maps_for(&work) {
+            return None;
+        }
         let mut door = Door::new(self.rt, self.gate, shared.core(), shared.nodes());
-        slot.event(&mut door, shared.page_bytes(), home, event, noted, room)
+        let (alloc, page_bytes) = (shared.alloc(), shared.page_bytes());
+        Some(slot.work(&mut door, alloc, page_bytes, work, copies, room))
     }
 
     // An event of the mount of a slot where no entries are kept.
@@ -163,91 +179,6 @@ impl<'a, N: Naming, R: Wait, G: Gate, const K: usize> Session<'a, N, R, G, K> {
         slot.event_unnoted(&mut door, shared.page_bytes(), home, event, room)
     }
 
-    // Mounts a slot.
-    pub(super) fn enter_mount(
-        &self,
-        at: usize,
-        options: &[u8],
-        copies: Option<Copies>,
-    ) -> (Result<Told<'static>, Refusal>, Option<Receipt>)
-        requires within { at < self.now.slots }
-        requires copies { (K == 1) ≡ true → AreCopies options.now copies }
-        ensures handed { IsHanded (K == 1) N.page_bytes (OnSlot at (Mounting options.now))
-            (told_reply result.0) result.1 }
-        ensures limits { IsWithinLimits (told_reply result.0) }
-    {
-        let shared = self.shared;
-        let mut value = hold(shared.slot(at), self.rt);
-        self.gate.enter(at as u64);
-        let slot: &mut Slot<N, Trace<SlotEntry, K>> = &mut value;
-        if slot.number() != at as u64 {
-            return (Err(absent::<K>(Refusal::SlotTaken)), None);
-        }
-        let noted = if slot.is_kept() {
-            mountings(copies)
-        } else {
-            None
-        };
-        let mut door = Door::new(self.rt, self.gate, shared.core(), shared.nodes());
-        slot.mount(
-            &mut door,
-            shared.alloc(),
-            shared.page_bytes(),
-            options,
-            noted,
-        )
-    }
-
-    // Sets the limits of a slot's mount anew.
-    pub(super) fn enter_remount(
-        &self,
-        at: usize,
-        options: &[u8],
-        copies: Option<Copies>,
-    ) -> (Result<Told<'static>, Refusal>, Option<Receipt>)
-        requires within { at < self.now.slots }
-        requires copies { (K == 1) ≡ true → AreCopies options.now copies }
-        ensures handed { IsHanded (K == 1) N.page_bytes (OnSlot at (Remounting options.now))
-            (told_reply result.0) result.1 }
-        ensures limits { IsWithinLimits (told_reply result.0) }
-    {
-        let shared = self.shared;
-        let mut value = hold(shared.slot(at), self.rt);
-        self.gate.enter(at as u64);
-        let slot: &mut Slot<N, Trace<SlotEntry, K>> = &mut value;
-        if slot.number() != at as u64 {
-            return (Err(absent::<K>(Refusal::NoSuchSlot)), None);
-        }
-        let noted = if slot.is_kept() {
-            remountings(copies)
-        } else {
-            None
-        };
-        let mut door = Door::new(self.rt, self.gate, shared.core(), shared.nodes());
-        slot.remount(&mut door, shared.page_bytes(), options, noted)
-    }
-
-    // Ends the mount of a slot.
-    pub(super) fn enter_umount(
-        &self,
-        at: usize,
-    ) -> (Result<Told<'static>, Refusal>, Option<Receipt>)
-        requires { at < self.now.slots }
-        ensures handed { IsHanded (K == 1) N.page_bytes (OnSlot at Umount) (told_reply result.0)
-            result.1 }
-        ensures limits { IsWithinLimits (told_reply result.0) }
-    {
-        let shared = self.shared;
-        let mut value = hold(shared.slot(at), self.rt);
-        self.gate.enter(at as u64);
-        let slot: &mut Slot<N, Trace<SlotEntry, K>> = &mut value;
-        if slot.number() != at as u64 {
-            return (Err(absent::<K>(Refusal::NoSuchSlot)), None);
-        }
-        let mut door = Door::new(self.rt, self.gate, shared.core(), shared.nodes());
-        slot.umount(&mut door)
-    }
-
     // The names of a slot's files.
     pub(super) fn enter_names(&self, at: usize) -> (Result<Names, Refusal>, Option<Receipt>)
         requires { at < self.now.slots }
@@ -263,45 +194,5 @@ impl<'a, N: Naming, R: Wait, G: Gate, const K: usize> Session<'a, N, R, G, K> {
             return (Err(absent::<K>(Refusal::NoSuchSlot)), None);
         }
         slot.names(shared.alloc())
-    }
-
-    // Gives a child the maps that its parent has on a slot, if it has any there: whether there was an event.
-    pub(super) fn enter_fork(
-        &self,
-        at: usize,
-        parent: u64,
-        child: u64,
-    ) -> Option<(Result<Told<'static>, Refusal>, Option<Receipt>)>
-        requires within { at < self.now.slots }
-        requires apart { (parent == child) ≡ false }
-        ensures { IfSome result (λ r. IsHanded (K == 1) N.page_bytes
-            (OnSlot at (ForkMaps parent child)) (told_reply r.0) r.1) }
-    {
-        let shared = self.shared;
-        let mut value = hold(shared.slot(at), self.rt);
-        self.gate.enter(at as u64);
-        let slot: &mut Slot<N, Trace<SlotEntry, K>> = &mut value;
-        if slot.number() != at as u64 || !slot.has_maps(parent) {
-            return None;
-        }
-        let mut door = Door::new(self.rt, self.gate, shared.core(), shared.nodes());
-        Some(slot.fork_maps(&mut door, parent, child))
-    }
-
-    // The maps that a task has on a slot go, if it has any there: whether there was an event, and its receipt.
-    pub(super) fn enter_exit(&self, at: usize, task: u64) -> (bool, Option<Receipt>)
-        requires { at < self.now.slots }
-        ensures { MatchBool result.0 (IsHanded (K == 1) N.page_bytes (OnSlot at (ExitMaps task))
-            (Ok Done) result.1) (result.1 ≡ None) }
-    {
-        let shared = self.shared;
-        let mut value = hold(shared.slot(at), self.rt);
-        self.gate.enter(at as u64);
-        let slot: &mut Slot<N, Trace<SlotEntry, K>> = &mut value;
-        if slot.number() != at as u64 || !slot.has_maps(task) {
-            return (false, None);
-        }
-        let mut door = Door::new(self.rt, self.gate, shared.core(), shared.nodes());
-        (true, slot.exit_maps(&mut door, task))
     }
 }

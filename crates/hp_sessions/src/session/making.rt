@@ -3,16 +3,16 @@ ghost use Rattle.std.specs.Prelude.{◌≡◌, ◌≢◌, ◌<◌, ◌≤◌, �
 ghost use Rattle.std.specs.Bool.{MatchBool};
 ghost use Rattle.hp_laws.specs.Answers.{lists_names};
 ghost use Rattle.hp_model.specs.declared.event.Event.TheVariants.{Tasks as OnTasks, Slot as OnSlot, Pool as OnPool};
-ghost use Rattle.hp_model.specs.declared.event.SlotEvent.TheVariants.{ForkMaps, Ls, Mount as Mounting, Remount as Remounting, Umount as Umounting};
+ghost use Rattle.hp_model.specs.declared.event.SlotEvent.TheVariants.{ForkMaps, Ls};
 ghost use Rattle.hp_model.specs.machine.Step.{Script, exit_slot, finding, on_slot};
 ghost use Rattle.hp_model.specs.beside.Told.{told_answer, told_reply};
 ghost use Rattle.hp_model.specs.text.Writing.{IsWithinLimits};
 ghost use Rattle.hp_model.specs.Profile.{most_bytes};
 ghost use Rattle.hp_events.specs.Event.{event_of, shows_bytes};
+ghost use Rattle.hp_shared.specs.SlotWork.{AreCopiesFor, asked_event, is_of_maps, needs_room};
 ghost use Rattle.hp_shared.specs.Tables.{table_reply};
 ghost use Rattle.hp_sessions.specs.Calls.{Carries, Grows, HasReceiptRoom, IsMade, Leads};
 ghost use Rattle.hp_sessions.specs.Forks.{IsForked};
-ghost use Rattle.hp_events.specs.Copies.{AreCopies, bytes_of_event};
 ghost use Rattle.hp_sessions.specs.Works.{HasAnswerOf};
 
 use super::Session;
@@ -23,7 +23,7 @@ use hp_model::event::{PoolEvent, TableEvent};
 use hp_model::naming::Naming;
 use hp_model::refusal::Refusal;
 use hp_model::told::Told;
-use hp_shared::TableTold;
+use hp_shared::{SlotWork, TableTold};
 use std::sync::Wait;
 
 impl<'a, N: Naming, R: Wait, G: Gate, const K: usize> Session<'a, N, R, G, K> {
@@ -92,32 +92,34 @@ impl<'a, N: Naming, R: Wait, G: Gate, const K: usize> Session<'a, N, R, G, K> {
         }
     }
 
-    // An event of the mount of a slot, if there is one of that number.
+    // What is asked of a slot, if there is one of that number.
     #[inline(never)]
     pub(super) fn make_slot<'b>(
         &mut self,
         slot: u64,
-        home: u64,
-        event: MountEvent<'_>,
+        work: SlotWork<'_>,
         copies: Option<Copies>,
         room: &'b mut [u8],
     ) -> Result<Told<'b>, Refusal>
         requires places { HasReceiptRoom (K == 1) 1 self.old }
-        requires room { shows_bytes event ≡ true → most_bytes ≤ length room.old }
-        requires apart { lists_names (event_of home event) ≡ false }
-        requires copies { (K == 1) ≡ true → AreCopies (bytes_of_event (event_of 0 event)) copies }
+        requires room { needs_room work ≡ true → most_bytes ≤ length room.old }
+        requires apart { lists_names (asked_event work) ≡ false }
+        requires always { is_of_maps work ≡ false }
+        requires copies { (K == 1) ≡ true → AreCopiesFor work copies }
         ensures carried { Carries (K == 1) N.page_bytes self.old
-            (on_slot self.old.slots slot (event_of home event.entry))
+            (on_slot self.old.slots slot (asked_event work.entry))
             (told_reply result) self.new }
         ensures limits { IsWithinLimits (told_reply result) }
         ensures answer { IfOk result (λ told.
-            HasAnswerOf (event_of home event.entry) (told_answer told)) }
+            HasAnswerOf (asked_event work.entry) (told_answer told)) }
     {
         let at = slot as usize;
         if at >= self.shared.count() {
             return Err(Refusal::NoSuchSlot);
         }
-        let (told, receipt) = self.enter_slot(at, home, event, copies, room);
+        let Some((told, receipt)) = self.enter(at, work, copies, room) else {
+            unreachable!()
+        };
         self.add(receipt);
         told
     }
@@ -146,68 +148,6 @@ impl<'a, N: Naming, R: Wait, G: Gate, const K: usize> Session<'a, N, R, G, K> {
             return Err(Refusal::NoSuchSlot);
         }
         self.enter_slot_unnoted(at, home, event, room)
-    }
-
-    // Mounts a slot, if there is one of that number.
-    pub(super) fn make_mount(
-        &mut self,
-        slot: u64,
-        options: &[u8],
-        copies: Option<Copies>,
-    ) -> Result<Told<'static>, Refusal>
-        requires places { HasReceiptRoom (K == 1) 1 self.old }
-        requires copies { (K == 1) ≡ true → AreCopies options.now copies }
-        ensures carried { Carries (K == 1) N.page_bytes self.old
-            (on_slot self.old.slots slot (Mounting options.now))
-            (told_reply result) self.new }
-        ensures limits { IsWithinLimits (told_reply result) }
-    {
-        let at = slot as usize;
-        if at >= self.shared.count() {
-            return Err(Refusal::NoSuchSlot);
-        }
-        let (told, receipt) = self.enter_mount(at, options, copies);
-        self.add(receipt);
-        told
-    }
-
-    // Sets the limits of a slot's mount anew, if there is a slot of that number.
-    pub(super) fn make_remount(
-        &mut self,
-        slot: u64,
-        options: &[u8],
-        copies: Option<Copies>,
-    ) -> Result<Told<'static>, Refusal>
-        requires places { HasReceiptRoom (K == 1) 1 self.old }
-        requires copies { (K == 1) ≡ true → AreCopies options.now copies }
-        ensures carried { Carries (K == 1) N.page_bytes self.old
-            (on_slot self.old.slots slot (Remounting options.now))
-            (told_reply result) self.new }
-        ensures limits { IsWithinLimits (told_reply result) }
-    {
-        let at = slot as usize;
-        if at >= self.shared.count() {
-            return Err(Refusal::NoSuchSlot);
-        }
-        let (told, receipt) = self.enter_remount(at, options, copies);
-        self.add(receipt);
-        told
-    }
-
-    // Ends the mount of a slot.
-    pub(super) fn make_umount(&mut self, slot: u64) -> Result<Told<'static>, Refusal>
-        requires { HasReceiptRoom (K == 1) 1 self.old }
-        ensures carried { Carries (K == 1) N.page_bytes self.old
-            (on_slot self.old.slots slot Umounting) (told_reply result) self.new }
-        ensures limits { IsWithinLimits (told_reply result) }
-    {
-        let at = slot as usize;
-        if at >= self.shared.count() {
-            return Err(Refusal::NoSuchSlot);
-        }
-        let (told, receipt) = self.enter_umount(at);
-        self.add(receipt);
-        told
     }
 
     // The names of a slot's files.
@@ -242,10 +182,10 @@ impl<'a, N: Naming, R: Wait, G: Gate, const K: usize> Session<'a, N, R, G, K> {
             (Err refusal) self.new) }
         ensures grows { Grows 1 self.old self.new }
     {
-        let Some(handed) = self.enter_fork(at, parent, child) else {
+        let work = SlotWork::Fork { parent, child };
+        let Some((told, receipt)) = self.enter(at, work, None, &mut []) else {
             return Ok(false);
         };
-        let (told, receipt) = handed;
         self.add(receipt);
         match told {
             Ok(_done) => Ok(true),
@@ -261,7 +201,9 @@ impl<'a, N: Naming, R: Wait, G: Gate, const K: usize> Session<'a, N, R, G, K> {
             (exit_slot at task next) self.new next }
         ensures grows { Grows 1 self.old self.new }
     {
-        let (_left, receipt) = self.enter_exit(at, task);
-        self.add(receipt);
+        let work = SlotWork::Exit { task };
+        if let Some((_done, receipt)) = self.enter(at, work, None, &mut []) {
+            self.add(receipt);
+        }
     }
 }

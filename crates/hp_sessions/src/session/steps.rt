@@ -28,7 +28,7 @@ use hp_model::refusal::Refusal;
 use hp_model::service::Access;
 use hp_model::step::Step;
 use hp_model::told::Told;
-use hp_shared::TableTold;
+use hp_shared::{SlotWork, TableTold};
 use std::alloc::AllocError;
 use std::sync::Wait;
 
@@ -159,17 +159,19 @@ impl<'a, N: Naming, R: Wait, G: Gate, const K: usize> Session<'a, N, R, G, K> {
             Work::Fork { parent, child } => Told::done(self.fork(parent, child)),
             Work::Exit { task } => Told::done(self.exit(task)),
             Work::Mount { slot, options } => match self.options_twice(options) {
-                Ok(copies) => self.make_mount(slot, options, copies),
+                Ok(copies) => self.make_slot(slot, SlotWork::Mount { options }, copies, room),
                 Err(AllocError) => Err(Refusal::OutOfMemory),
             },
             Work::Remount { slot, options } => match self.options_twice(options) {
-                Ok(copies) => self.make_remount(slot, options, copies),
+                Ok(copies) => self.make_slot(slot, SlotWork::Remount { options }, copies, room),
                 Err(AllocError) => Err(Refusal::OutOfMemory),
             },
-            Work::Umount { slot } => self.make_umount(slot),
+            Work::Umount { slot } => self.make_slot(slot, SlotWork::Umount, None, room),
             Work::Names { slot } => self.make_names(slot),
             Work::OnSlot { slot, event } => match self.copies(&event) {
-                Ok(copies) => self.make_slot(slot, 0, event, copies, room),
+                Ok(copies) => {
+                    self.make_slot(slot, SlotWork::OfMount { home: 0, event }, copies, room)
+                }
                 Err(AllocError) => Err(Refusal::OutOfMemory),
             },
             Work::OfTask { .. } => unreachable!(),
@@ -203,7 +205,7 @@ impl<'a, N: Naming, R: Wait, G: Gate, const K: usize> Session<'a, N, R, G, K> {
             return Err(Refusal::OutOfMemory);
         };
         match self.find(task) {
-            Ok(home) => self.make_slot(slot, home, event, copies, room),
+            Ok(home) => self.make_slot(slot, SlotWork::OfMount { home, event }, copies, room),
             Err(refusal) => Err(refusal),
         }
     }

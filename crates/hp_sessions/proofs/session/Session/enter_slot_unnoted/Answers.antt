@@ -11,4 +11,4 @@ pub returns-clause-handed : goal.returns-clause-handed
 returns-clause-handed g c =
     slot_handed (g.row.K == 1) ((c.event_unnoted.new.door.asked ≡ _) × ((g.row.K == 1) ≡ true)) g.N.Naming.page_bytes c.args.at c.deref_mut-slot.result.now c.event_unnoted.new.self
     (event_of c.args.home c.args.event) (told_reply c.event_unnoted.result) c.event_unnoted.new.door.asked None (sym c.number.ensures ∙ c.if-number-at.false)
-    (mount_has_place c.args.at c.args.home c.args.event) c.event_unnoted.ensures.done (λ full. (c.event_unnoted.ensures.keeps full).1) (λ told. sym c.requires.unkept)
+    (λ full. mount_has_place c.args.at c.args.home c.args.event) c.event_unnoted.ensures.done (λ full. (c.event_unnoted.ensures.keeps full).1) (λ told. sym c.requires.unkept)

@@ -1,8 +1,13 @@
-use Rattle.std.proofs.Common.{◌==◌}
+use Rattle.std.proofs.Common.{◌==◌, refl, subst}
+use Rattle.hp_model.specs.declared.event.Event.TheVariants.{Slot as OnSlot}
+use Rattle.hp_model.specs.declared.event.SlotEvent.TheVariants.{ExitMaps}
+use Rattle.hp_model.specs.machine.Plan.{Reply}
+use Rattle.hp_sessions.specs.Calls.{IsHanded}
 use Rattle.hp_sessions.proofs.Forking.{exit_leads}
 use Rattle.hp_sessions.proofs.session.Session.make_exit.Goals as goal
 
-pub returns-clause-leads : goal.returns-clause-leads
-returns-clause-leads g c =
-    exit_leads (g.row.K == 1) g.N.Naming.page_bytes c.args.self.now c.add.new.self c.args.at c.args.task c.enter_exit-left.result.0 c.enter_exit-left.result.1
-    c.enter_exit-left.ensures c.add.ensures
+pub returns-in-Some-clause-leads : goal.returns-in-Some-clause-leads
+returns-in-Some-clause-leads g c =
+    exit_leads (g.row.K == 1) g.N.Naming.page_bytes c.args.self.now c.add.new.self c.args.at c.args.task c.in-Some.receipt
+    (subst (λ (r : Reply). IsHanded (g.row.K == 1) g.N.Naming.page_bytes (OnSlot c.args.at (ExitMaps c.args.task)) r c.in-Some.receipt) (c.in-Some.ensures.exit refl) c.in-Some.ensures.handed)
+    c.add.ensures

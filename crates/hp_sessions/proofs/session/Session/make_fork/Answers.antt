@@ -13,9 +13,9 @@ pub returns-in-Ok-clause-made : goal.returns-in-Ok-clause-made
 returns-in-Ok-clause-made g c = (
   told_answer c.in-Ok._done,
   subst (λ (r : Result Told Refusal). IsMade (g.row.K == 1) g.N.Naming.page_bytes c.args.self.now (OnSlot c.args.at (ForkMaps c.args.parent c.args.child)) (told_reply r) c.add.new.self) c.in-Ok.is
-      (made_added (g.row.K == 1) g.N.Naming.page_bytes c.args.self.now c.add.new.self (OnSlot c.args.at (ForkMaps c.args.parent c.args.child)) (told_reply c.in-Some.handed.0)
-      c.in-Some.handed.1 c.in-Some.ensures c.add.ensures),
+      (made_added (g.row.K == 1) g.N.Naming.page_bytes c.args.self.now c.add.new.self (OnSlot c.args.at (ForkMaps c.args.parent c.args.child)) (told_reply c.in-Some.told)
+      c.in-Some.receipt c.in-Some.ensures.handed c.add.ensures),
 )
 
 pub returns-in-Err-clause-grows : goal.returns-in-Err-clause-grows
-returns-in-Err-clause-grows g c = grows_one c.args.self.now c.add.new.self c.in-Some.handed.1 c.add.ensures
+returns-in-Err-clause-grows g c = grows_one c.args.self.now c.add.new.self c.in-Some.receipt c.add.ensures

@@ -1,7 +1,7 @@
 use Rattle.std.proofs.Common.{◌==◌, ap, arith}
 use Rattle.hp_model.specs.declared.event.Event.TheVariants.{Slot as OnSlot}
 use Rattle.hp_model.specs.beside.Told.{told_reply}
-use Rattle.hp_events.specs.Event.{event_of}
+use Rattle.hp_shared.specs.SlotWork.{asked_event}
 use Rattle.hp_sessions.specs.Calls.{SessionView}
 use Rattle.hp_sessions.proofs.Carrying.{made_added, no_slot, on_slot_made}
 use Rattle.hp_sessions.proofs.Parts.{fits_result}
@@ -11,18 +11,18 @@ pub returns-then-at-count-clause-carried : goal.returns-then-at-count-clause-car
 returns-then-at-count-clause-carried g c =
     let many = c.count.ensures.count in
     let same = ap (λ (v : SessionView). v.slots) c.self.view_is in
-    no_slot (g.row.K == 1) g.N.Naming.page_bytes c.args.self.now c.args.slot (event_of c.args.home c.args.event) (let over = c.if-at-count.true in omega (arith, many, same, over))
+    no_slot (g.row.K == 1) g.N.Naming.page_bytes c.args.self.now c.args.slot (asked_event c.args.work) (let over = c.if-at-count.true in omega (arith, many, same, over))
 
 pub returns-clause-carried : goal.returns-clause-carried
 returns-clause-carried g c =
     let many = c.count.ensures.count in
     let same = ap (λ (v : SessionView). v.slots) c.self.view_is in
-    let e = event_of c.args.home c.args.event in
-    on_slot_made (g.row.K == 1) g.N.Naming.page_bytes c.args.self.now c.add.new.self c.args.slot e (told_reply c.enter_slot-told.result.0)
+    let e = asked_event c.args.work in
+    on_slot_made (g.row.K == 1) g.N.Naming.page_bytes c.args.self.now c.add.new.self c.args.slot e (told_reply c.in-Some.told)
     (let under = c.if-at-count.false in omega (arith, many, same, under))
-    (made_added (g.row.K == 1) g.N.Naming.page_bytes c.args.self.now c.add.new.self (OnSlot c.args.slot e) (told_reply c.enter_slot-told.result.0) c.enter_slot-told.result.1
-    c.enter_slot-told.ensures.handed c.add.ensures)
+    (made_added (g.row.K == 1) g.N.Naming.page_bytes c.args.self.now c.add.new.self (OnSlot c.args.slot e) (told_reply c.in-Some.told) c.in-Some.receipt
+    c.in-Some.ensures.handed c.add.ensures)
 
 pub returns-clause-answer : goal.returns-clause-answer
 returns-clause-answer g c =
-    fits_result (g.row.K == 1) g.N.Naming.page_bytes c.args.slot (event_of c.args.home c.args.event) c.enter_slot-told.result.0 c.enter_slot-told.result.1 c.enter_slot-told.ensures.handed
+    fits_result (g.row.K == 1) g.N.Naming.page_bytes c.args.slot (asked_event c.args.work) c.in-Some.told c.in-Some.receipt c.in-Some.ensures.handed

@@ -1,0 +1,14 @@
+use Rattle.std.proofs.Common.{◌≡◌, ◌==◌, true, sym, ◌∙◌}
+use Rattle.hp_model.specs.beside.Told.{told_reply}
+use Rattle.hp_sessions.proofs.Parts.{either_kept, work_absent, work_handed}
+use Rattle.hp_sessions.proofs.session.Session.enter.Goals as goal
+
+pub returns-then-number-at-in-Some-clause-handed : goal.returns-then-number-at-in-Some-clause-handed
+returns-then-number-at-in-Some-clause-handed g c =
+    work_absent (g.row.K == 1) g.N.Naming.page_bytes c.args.at c.args.work c.in-Some.refusal c.in-Some.ensures.0 c.in-Some.ensures.1
+
+pub returns-clause-handed : goal.returns-clause-handed
+returns-clause-handed g c =
+    work_handed (g.row.K == 1) ((c.work.new.door.asked ≡ _) × ((g.row.K == 1) ≡ true)) g.N.Naming.page_bytes c.args.at c.deref_mut-slot.result.now c.work.new.self
+    c.args.work (told_reply c.work.result.0) c.work.new.door.asked c.work.result.1 (sym c.number.ensures ∙ c.if-number-at.false)
+    c.work.ensures.done (λ full. either_kept (g.row.K == 1) (c.work.ensures.keeps full)) c.work.ensures.given c.work.ensures.exit
