@@ -11,29 +11,17 @@ use hp_model::event::SlotEvent;
 #[derive(Clone, Copy, Drop)]
 pub enum SlotWork<'x> {
     /// Mounts it with options.
-    Mount {
-        options: &'x [u8],
-    },
+    Mount { options: &'x [u8] },
     /// Sets the limits of its mount anew, by options.
-    Remount {
-        options: &'x [u8],
-    },
+    Remount { options: &'x [u8] },
     /// Ends its mount.
     Umount,
     /// The maps of a task become its child's as well.
-    Fork {
-        parent: u64,
-        child: u64,
-    },
+    Fork { parent: u64, child: u64 },
     /// The maps of a task go.
-    Exit {
-        task: u64,
-    },
+    Exit { task: u64 },
     /// An event of its mount, for a task with that home.
-    OfMount {
-        home: u64,
-        event: MountEvent<'x>,
-    },
+    OfMount { home: u64, event: MountEvent<'x> },
 }
 
 impl<'x> SlotWork<'x> {

@@ -61,8 +61,8 @@ module _ (g : Over) (c : After-note-receipt g) where
   went =
       let s = c.self.inside in
       event_went (g.D.PoolDoor.is_full c.ask-told.new.door) g.N.Naming.page_bytes s.number (g.T.Trail.entries s.trail) (g.T.Trail.left s.trail)
-    (g.T.Trail.extra s.trail) s.mount (asked_event c.args.work) (told_reply c.ask-told.result)
-    (g.D.SessionDoor.asked c.ask-told.new.door) c.ask-told.new.mount c.ask-told.ensures.done (sym c.is_full.ensures ∙ c.if-is_full.false)
+      (g.T.Trail.extra s.trail) s.mount (asked_event c.args.work) (told_reply c.ask-told.result)
+      (g.D.SessionDoor.asked c.ask-told.new.door) c.ask-told.new.mount c.ask-told.ensures.done (sym c.is_full.ensures ∙ c.if-is_full.false)
 
   entries : g.T.Trail.entries c.note-receipt.new.trail ≡ with_entry (g.T.Trail.entries c.self.inside.trail)
       (record { event = asked_event c.args.work; reply = told_reply c.ask-told.result; asked = g.D.SessionDoor.asked c.ask-told.new.door })
