@@ -284,15 +284,14 @@ module _ (start old new : RowBlocks) (a at count : ℕ) (low : a ≤ at) (fits :
 -- ---- the first page
 
 -- a page goes
-pub table_emptied : (old new : RowBlocks) (bare i : ℕ) → AreBlocks new → page_at new i ≡ None → ((k : ℕ) → (k ≡ i → ⊥) → page_at new k ≡ page_at old k)
-    → IsRowTable old bare → IsRowTable new bare
-table_emptied old new bare i are here others was =
+pub table_emptied : (old new : RowBlocks) (low high i : ℕ) → AreBlocks new → page_at new i ≡ None → ((k : ℕ) → (k ≡ i → ⊥) → page_at new k ≡ page_at old k)
+    → IsRowTable old low high → IsRowTable new low high
+table_emptied old new low high i are here others was =
     record {
       blocks = are;
-      few = was.few;
-      none_before = λ k below. ⊎_elim
+      none_in = λ k from below. ⊎_elim
           (λ (same : k ≡ i). ap (page_at new) same ∙ here)
-          (λ (other : k ≡ i → ⊥). others k other ∙ was.none_before k below)
+          (λ (other : k ≡ i → ⊥). others k other ∙ was.none_in k from below)
           (cases_eq k i);
     }
 
@@ -339,31 +338,29 @@ module _ (old new : RowBlocks) (at from to i page : ℕ) (taken : IsTaken (page_
     others = others_as_before;
   }
 
-  pub table_taken : (bare : ℕ) → length new ≤ 65536 → IsRowTable old bare → IsRowTable new bare
-  table_taken bare few = table_emptied old new bare (at * 65536 + i) (blocks_after few) gone_here others_as_before
+  pub table_taken : (low high : ℕ) → length new ≤ 65536 → IsRowTable old low high → IsRowTable new low high
+  table_taken low high few = table_emptied old new low high (at * 65536 + i) (blocks_after few) gone_here others_as_before
 
--- ---- blocks of which the first have no page
+-- ---- blocks of which some indices have no page
 
--- no page comes before the first ones that had none
-pub table_as_before : (old new : RowBlocks) (bare : ℕ) → AreBlocks new → ((k : ℕ) → page_at new k ≡ page_at old k) → IsRowTable old bare → IsRowTable new bare
-table_as_before old new bare are same was =
-    record { blocks = are; few = was.few; none_before = λ k below. same k ∙ was.none_before k below }
+-- the same pages
+pub table_as_before : (old new : RowBlocks) (low high : ℕ) → AreBlocks new → ((k : ℕ) → page_at new k ≡ page_at old k) → IsRowTable old low high → IsRowTable new low high
+table_as_before old new low high are same was = record { blocks = are; none_in = λ k from below. same k ∙ was.none_in k from below }
 
 -- a page comes at index i, or goes
-pub table_set : (old new : RowBlocks) (bare after i : ℕ) → after ≡ min bare (i / 65536) → AreBlocks new → ((k : ℕ) → (k ≡ i → ⊥) → page_at new k ≡ page_at old k)
-    → IsRowTable old bare → IsRowTable new after
-table_set old new bare after i is are others was =
+pub table_set : (old new : RowBlocks) (low high after i : ℕ) → after ≡ min high i → AreBlocks new → ((k : ℕ) → (k ≡ i → ⊥) → page_at new k ≡ page_at old k)
+    → IsRowTable old low high → IsRowTable new low after
+table_set old new low high after i is are others was =
     record {
       blocks = are;
-      few = omega (arith, was.few, is);
-      none_before = λ k below. others k (λ same. absurd (omega (arith, below, same, is))) ∙ was.none_before k (omega (arith, below, is));
+      none_in = λ k from below. others k (λ same. absurd (omega (arith, below, same, is))) ∙ was.none_in k from (omega (arith, below, is));
     }
 
 -- from a block, or there is none
-pub table_after : (old new : RowBlocks) (bare at from to : ℕ) (taken : Option (ℕ × ℕ)) → TakesFirst (page_in (get_or old at [])) (page_in (get_or new at [])) from to taken →
-    (taken ≡ None → new ≡ old) → length new ≤ 65536 → KeepsOthers old new at → IsRowTable old bare → IsRowTable new bare
-table_after old new bare at from to None none same few others was = subst (λ (rows : RowBlocks). IsRowTable rows bare) (sym (same refl)) was
-table_after old new bare at from to (Some p) taken same few others was = table_taken old new at from to p.0 p.1 taken was.blocks others bare few was
+pub table_after : (old new : RowBlocks) (low high at from to : ℕ) (taken : Option (ℕ × ℕ)) → TakesFirst (page_in (get_or old at [])) (page_in (get_or new at [])) from to taken →
+    (taken ≡ None → new ≡ old) → length new ≤ 65536 → KeepsOthers old new at → IsRowTable old low high → IsRowTable new low high
+table_after old new low high at from to None none same few others was = subst (λ (rows : RowBlocks). IsRowTable rows low high) (sym (same refl)) was
+table_after old new low high at from to (Some p) taken same few others was = table_taken old new at from to p.0 p.1 taken was.blocks others low high few was
 
 -- in a file of one block
 module _ (old new : RowBlocks) (only : length old ≡ 1) (are : AreBlocks old) (others : KeepsOthers old new 0) (a b : ℕ) where

@@ -49,8 +49,7 @@ pub record AreBlocks (rows : RowBlocks) : Type 0 where
   pub few : length rows ≤ most_blocks
   pub within : (j k : ℕ) → block_size ≤ k → page_in (slice_index_or rows j []) k ≡ None
 
--- blocks, of which those before `bare` have no page
-pub record IsRowTable (rows : RowBlocks) (bare : ℕ) : Type 0 where
+-- blocks, with no page from index `from` up to `to`
+pub record IsRowTable (rows : RowBlocks) (from to : ℕ) : Type 0 where
   pub blocks : AreBlocks rows
-  pub few : bare ≤ most_blocks
-  pub none_before : (k : ℕ) → k < bare * block_size → page_at rows k ≡ None
+  pub none_in : (k : ℕ) → from ≤ k → k < to → page_at rows k ≡ None

@@ -1,5 +1,5 @@
 //! The pages of the blocks after the first, each made at the first slot in it.
-ghost use Rattle.std.specs.Prelude.{ℕ, ◌≡◌, ◌≢◌, ◌+◌, ◌/◌, ◌<◌, ◌≤◌, ◌^◌, [], length, MatchOption, OnOk, None, true};
+ghost use Rattle.std.specs.Prelude.{ℕ, ◌≡◌, ◌≢◌, ◌+◌, ◌/◌, ◌<◌, ◌≤◌, ◌^◌, [], length, MatchOption, OnOk, None, Some, true};
 ghost use Rattle.std.specs.List.{slice_index_or};
 ghost use Rattle.hp_inode.specs.Blocks.{most_blocks};
 ghost use Rattle.hp_inode.specs.Later.{AreLater, blocks_in};
@@ -108,12 +108,11 @@ impl LaterPages {
         self.blocks[n - 1].make_slot(i)
     }
 
-    /// Gives an index of a block a page, or none, and answers which it had.
+    /// Gives an index of a block its page.
     #[inline(always)]
-    pub fn replace(&mut self, at: usize, i: u64, page: Option<PageNo>) -> Option<PageNo>
+    pub fn fill(&mut self, at: usize, i: u64, page: PageNo)
         requires { has_slot (slice_index_or self.old at []) i ≡ true }
-        ensures was { result ≡ page_in (slice_index_or self.old at []) i }
-        ensures here { page_in (slice_index_or self.new at []) i ≡ page }
+        ensures here { page_in (slice_index_or self.new at []) i ≡ Some page }
         ensures same { (k : ℕ) → k ≢ i
             → page_in (slice_index_or self.new at []) k
             ≡ page_in (slice_index_or self.old at []) k }
@@ -124,7 +123,7 @@ impl LaterPages {
         ensures len { length self.new ≡ length self.old }
     {
         let n = self.places[at] as usize;
-        self.blocks[n - 1].replace(i, page)
+        self.blocks[n - 1].fill(i, page);
     }
 
     /// Takes the first page of a block's indices from `a` up to `b` out, and answers its index with it.

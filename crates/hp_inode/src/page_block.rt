@@ -1,5 +1,5 @@
 //! Pages by index, in chunks of 64 slots: an index's slot is found in one step, and so is a chunk with pages.
-ghost use Rattle.std.specs.Prelude.{ℕ, ◌≡◌, ◌/◌, ◌<◌, ◌≤◌, ◌^◌, ◌++◌, ◌∷◌, [], length, OnOk, OnErr, true, None};
+ghost use Rattle.std.specs.Prelude.{ℕ, ◌≡◌, ◌/◌, ◌<◌, ◌≤◌, ◌^◌, ◌++◌, ◌∷◌, [], length, OnOk, OnErr, true, None, Some};
 ghost use Rattle.std.specs.List.{slice_index_or};
 ghost use Rattle.hp_inode.specs.Rows.{page_in, has_slot, FindsSlot, FindsPage, TakesFirst};
 
@@ -50,16 +50,15 @@ impl PageBlock {
         }
     }
 
-    /// Gives an index a page, or none, and answers which it had.
+    /// Gives an index its page.
     #[inline(always)]
-    pub fn replace(&mut self, i: u64, page: Option<PageNo>) -> Option<PageNo>
+    pub fn fill(&mut self, i: u64, page: PageNo)
         requires { has_slot self.old i ≡ true }
-        ensures was { result ≡ page_in self.old i }
-        ensures here { page_in self.new i ≡ page }
+        ensures here { page_in self.new i ≡ Some page }
         ensures others { (k : ℕ) → (k ≡ i → ⊥) → page_in self.new k ≡ page_in self.old k }
         ensures slots { (k : ℕ) → has_slot self.new k ≡ has_slot self.old k }
     {
-        self.replace_in((i / CHUNK) as usize, i, page)
+        self.replace_in((i / CHUNK) as usize, i, Some(page));
     }
 
     // Gives an index, of which the chunk is known, a page, or none, and answers which it had.

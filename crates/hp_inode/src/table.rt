@@ -1,7 +1,7 @@
 //! Pages by index, in blocks of 65,536.
-ghost use Rattle.std.specs.Prelude.{ℕ, ◌≡◌, ◌≢◌, ◌+◌, ◌*◌, ◌/◌, ◌<◌, ◌≤◌, ◌^◌, ◌∷◌, [], OnOk, true, None, Some, MatchOption};
+ghost use Rattle.std.specs.Prelude.{ℕ, ◌≡◌, ◌≢◌, ◌/◌, ◌<◌, ◌≤◌, ◌^◌, [], OnOk, true, None, Some, MatchOption};
 ghost use Rattle.std.specs.List.{slice_index_or};
-ghost use Rattle.hp_inode.specs.Blocks.{AreBlocks, block_size, most_blocks, page_at, has_slot_at};
+ghost use Rattle.hp_inode.specs.Blocks.{block_size, most_blocks, page_at, has_slot_at};
 ghost use Rattle.hp_inode.specs.Rows.{page_in, has_slot, TakesFirst};
 
 use crate::block::{BLOCK, within_block};
@@ -17,8 +17,9 @@ pub struct PageTable {
     first: PageBlock,
     // those after the first, up to the last that has had a slot
     rest: LaterPages,
-    // no block before this one has a page
-    bare: u64,
+    // no index from `bare_from` up to `bare_to` has a page: here the last take began, and there it ended
+    bare_from: u64,
+    bare_to: u64,
 }
 
 impl Model for PageTable {
@@ -29,7 +30,7 @@ impl Model for PageTable {
 
     ghost view = { λ t. t.first ∷ t.rest };
 
-    ghost invariant = { λ t. IsRowTable (t.first ∷ t.rest) t.bare };
+    ghost invariant = { λ t. IsRowTable (t.first ∷ t.rest) t.bare_from t.bare_to };
 }
 
 impl PageTable {
@@ -40,7 +41,8 @@ impl PageTable {
         PageTable {
             first: PageBlock::new(alloc),
             rest: LaterPages::new(alloc),
-            bare: 0,
+            bare_from: 0,
+            bare_to: 0,
         }
     }
 
@@ -82,23 +84,12 @@ impl PageTable {
         ensures others { (k : ℕ) → (k ≡ i → ⊥) → page_at self.new k ≡ page_at self.old k }
         ensures slots { (k : ℕ) → has_slot_at self.new k ≡ has_slot_at self.old k }
     {
-        self.bare = self.bare.min(i / BLOCK);
-        replace(&mut self.first, &mut self.rest, i, Some(page));
-    }
-
-    // Where to look for the first page, of those from `a` on: a block, and an index in it.
-    #[inline(always)]
-    fn start(&self, a: u64) -> (u64, u64)
-        ensures small { result.1 < block_size }
-        ensures from { a ≤ result.0 * block_size + result.1 }
-        ensures none { (k : ℕ) → a ≤ k → k < result.0 * block_size + result.1
-            → page_at self.now k ≡ None }
-    {
-        if a < self.bare * BLOCK {
-            (self.bare, 0)
-        } else {
-            (a / BLOCK, a % BLOCK)
+        self.bare_to = self.bare_to.min(i);
+        if i < BLOCK {
+            self.first.fill(i, page);
+            return;
         }
+        self.rest.fill((i / BLOCK) as usize - 1, i % BLOCK, page);
     }
 
     /// Takes the first page of the indices from `a` up to `b` out, and answers its index with it.
@@ -107,15 +98,31 @@ impl PageTable {
         ensures none { result ≡ None → self.new ≡ self.old }
         ensures slots { (k : ℕ) → has_slot_at self.new k ≡ has_slot_at self.old k }
     {
+        // no index before `start` has a page, of those from `a` on
+        let start = if self.bare_from <= a {
+            a.max(self.bare_to)
+        } else {
+            a
+        };
+        let (i, page) = self.take_from(start, b)?;
+        self.bare_from = a;
+        self.bare_to = i + 1;
+        Some((i, page))
+    }
+
+    // The same with a search of all of these indices.
+    #[inline(always)]
+    fn take_from(&mut self, a: u64, b: u64) -> Option<(u64, PageNo)>
+        ensures taken { TakesFirst (page_at self.old) (page_at self.new) a b result }
+        ensures none { result ≡ None → self.new ≡ self.old }
+        ensures slots { (k : ℕ) → has_slot_at self.new k ≡ has_slot_at self.old k }
+    {
         if self.rest.len() == 0 {
             return self.take_in(0, a, b);
         }
-        let (mut at, mut from) = self.start(a);
+        let (mut at, mut from) = (a / BLOCK, a % BLOCK);
         while at <= self.rest.len() as u64 && at * BLOCK < b {
             if let Some((k, page)) = self.take_in(at, from, b - at * BLOCK) {
-                if a <= self.bare * BLOCK {
-                    self.bare = at;
-                }
                 return Some((at * BLOCK + k, page));
             }
             at += 1;
@@ -197,27 +204,4 @@ impl PageTable {
         }
         self.rest.make_slots(at as usize - 1, from, to)
     }
-}
-
-// Gives an index a page, or none, and answers which it had.
-#[inline(always)]
-fn replace(
-    first: &mut PageBlock,
-    rest: &mut LaterPages,
-    i: u64,
-    page: Option<PageNo>,
-) -> Option<PageNo>
-    requires { has_slot_at (first.old ∷ rest.old) i ≡ true }
-    ensures was { result ≡ page_at (first.old ∷ rest.old) i }
-    ensures here { page_at (first.new ∷ rest.new) i ≡ page }
-    ensures others { (k : ℕ) → (k ≡ i → ⊥)
-        → page_at (first.new ∷ rest.new) k ≡ page_at (first.old ∷ rest.old) k }
-    ensures slots { (k : ℕ) → has_slot_at (first.new ∷ rest.new) k
-        ≡ has_slot_at (first.old ∷ rest.old) k }
-    ensures blocks { AreBlocks (first.old ∷ rest.old) → AreBlocks (first.new ∷ rest.new) }
-{
-    if i < BLOCK {
-        return first.replace(i, page);
-    }
-    rest.replace((i / BLOCK) as usize - 1, i % BLOCK, page)
 }

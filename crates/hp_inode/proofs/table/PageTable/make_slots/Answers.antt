@@ -9,7 +9,7 @@ invariant_of-self c =
     let first = c.self.inside.first in
     let rest : RowBlocks = c.self.inside.rest in
     let others = first_changed first c.make_slots.new.self rest in
-    table_as_before (first ∷ rest) (c.make_slots.new.self ∷ rest) c.self.inside.bare
+    table_as_before (first ∷ rest) (c.make_slots.new.self ∷ rest) c.self.inside.bare_from c.self.inside.bare_to
     (kept_blocks (first ∷ rest) (c.make_slots.new.self ∷ rest) 0 others c.self.invariant.blocks.few (λ k past. c.make_slots.ensures.pages k) c.self.invariant.blocks)
     (as_before page_in (first ∷ rest) (c.make_slots.new.self ∷ rest) 0 others c.make_slots.ensures.pages) c.self.invariant
 

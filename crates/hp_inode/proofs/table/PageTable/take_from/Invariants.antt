@@ -1,6 +1,6 @@
 use Rattle.std.proofs.Common.{ℕ, ◌≡◌, ◌+◌, ◌-◌, ◌*◌, ◌<◌, ◌≤◌, length, None}
 use Rattle.hp_inode.specs.Blocks.{page_at}
-use Rattle.hp_inode.proofs.table.PageTable.take_first.Given as goal
+use Rattle.hp_inode.proofs.table.PageTable.take_from.Given as goal
 
 abbrev pub invariant-loop-at : goal.invariant-loop-at
 invariant-loop-at l = record {

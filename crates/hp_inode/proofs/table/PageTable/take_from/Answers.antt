@@ -1,6 +1,6 @@
 use Rattle.std.proofs.Common.{arith}
 use Rattle.hp_inode.proofs.Blocks.{taken_only}
-use Rattle.hp_inode.proofs.table.PageTable.take_first.Goals as goal
+use Rattle.hp_inode.proofs.table.PageTable.take_from.Goals as goal
 
 pub returns-then-len-eq0-clause-taken : goal.returns-then-len-eq0-clause-taken
 returns-then-len-eq0-clause-taken c =
