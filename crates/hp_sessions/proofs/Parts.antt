@@ -45,12 +45,12 @@ use Rattle.hp_events.specs.declared.event.MountEvent.TheVariants as m
 use Rattle.hp_events.specs.Event.{event_of}
 use Rattle.hp_mount_laws.proofs.Ways.{fresh_choice, is_fresh}
 use Rattle.hp_shared.specs.Slots.{IsSlotEvent, IsSlotEventDone, SlotView, Went, is_trace_full}
-use Rattle.hp_shared.specs.SlotWork.{asked_event, is_exit, is_of_maps}
+use Rattle.hp_shared.specs.SlotWork.{IsAnother, asked_event, is_exit, is_of_maps}
 use Rattle.hp_shared.specs.declared.slot_work.SlotWork.{SlotWork}
 use Rattle.hp_shared.specs.declared.slot_work.SlotWork.TheVariants as w
 use Rattle.hp_shared.proofs.Acting.{always_came, none_acted}
 use Rattle.hp_sessions.specs.Calls.{CanAnswer, IsHanded, IsToldOf}
-use Rattle.hp_sessions.specs.Works.{HasAnswerOf, IsBytes, missing_for}
+use Rattle.hp_sessions.specs.Works.{HasAnswerOf, IsBytes}
 
 map_match : (b : Bool) (A B C D : Type 0) → (b ≡ true → A → C) → (b ≡ false → B → D) → MatchBool b A B → MatchBool b C D
 map_match true A B C D f g t = f refl t
@@ -156,6 +156,15 @@ slot_handed kept full size k old new e reply asked receipt at place event keeps 
       subst (λ n. IsToldOf kept (OnSlot n e) reply receipt) at (told_by kept old.entries _ (OnSlot old.number e) reply receipt h.told is),
     )
 
+-- what is no fork makes no task its own child
+pub not_forked : (work : SlotWork) → is_of_maps work ≡ false → IsAnother work
+not_forked (w.Mount options) other = tt
+not_forked (w.Remount options) other = tt
+not_forked w.Umount other = tt
+not_forked (w.Fork parent child) other = cc
+not_forked (w.Exit task) other = tt
+not_forked (w.OfMount home e) other = tt
+
 -- what is asked of a slot: an exit, which alone has its place, is done
 pub work_handed : (kept : Bool) (full : Type 0) (size k : ℕ) (old new : SlotView) (work : SlotWork) (reply : Reply) (asked : Option Asked) (receipt : Option Receipt) → old.number ≡ k →
     IsSlotEvent full size old new (asked_event work) reply asked receipt → (is_trace_full reply ≡ true → kept ≡ true) → (is_trace_full reply ≡ false → is_some receipt ≡ kept) →
@@ -185,34 +194,24 @@ mount_absent kept size k home e r is =
 pub names_absent : (kept : Bool) (size k : ℕ) (r : Refusal) → r ≡ (if kept then TraceFull else NoSuchSlot) → IsHanded kept size (OnSlot k slot.Ls) (Err r) None
 names_absent kept size k r is = mount_absent kept size k 0 m.Ls r is
 
-umount_absent : (kept : Bool) (size k : ℕ) (r : Refusal) → r ≡ (if kept then TraceFull else NoSuchSlot) → IsHanded kept size (OnSlot k slot.Umount) (Err r) None
+pub umount_absent : (kept : Bool) (size k : ℕ) (r : Refusal) → r ≡ (if kept then TraceFull else NoSuchSlot) → IsHanded kept size (OnSlot k slot.Umount) (Err r) None
 umount_absent kept size k r is =
     subst (λ x. IsHanded kept size (OnSlot k slot.Umount) (Err x) None) (sym is)
     (absent_handed kept size k slot.Umount NoSuchSlot refl refl (None, None, None, (fresh_choice false None, is_fresh false None, (refl, refl))))
 
-remounting_absent : (kept : Bool) (size k : ℕ) (options : List ℕ) (r : Refusal) → r ≡ (if kept then TraceFull else NoSuchSlot) →
+pub remounting_absent : (kept : Bool) (size k : ℕ) (options : List ℕ) (r : Refusal) → r ≡ (if kept then TraceFull else NoSuchSlot) →
     IsHanded kept size (OnSlot k (slot.Remount options)) (Err r) None
 remounting_absent kept size k options r is =
     subst (λ x. IsHanded kept size (OnSlot k (slot.Remount options)) (Err x) None) (sym is)
     (absent_handed kept size k (slot.Remount options) NoSuchSlot refl refl (None, None, None, (fresh_choice false None, is_fresh false None, (refl, refl))))
 
 -- a mount is refused where a slot is mounted
-mounting_absent : (kept : Bool) (size k : ℕ) (options : List ℕ) (r : Refusal) → r ≡ (if kept then TraceFull else SlotTaken) →
+pub mounting_absent : (kept : Bool) (size k : ℕ) (options : List ℕ) (r : Refusal) → r ≡ (if kept then TraceFull else SlotTaken) →
     IsHanded kept size (OnSlot k (slot.Mount options)) (Err r) None
 mounting_absent kept size k options r is =
     subst (λ x. IsHanded kept size (OnSlot k (slot.Mount options)) (Err x) None) (sym is)
     (absent_handed kept size k (slot.Mount options) SlotTaken refl refl
     (Some open_mount, None, Some open_mount, (fresh_choice false (Some open_mount), is_fresh false (Some open_mount), (refl, refl))))
-
--- a slot that is not there
-pub work_absent : (kept : Bool) (size k : ℕ) (work : SlotWork) (r : Refusal) → is_of_maps work ≡ false → r ≡ (if kept then TraceFull else missing_for work) →
-    IsHanded kept size (OnSlot k (asked_event work)) (Err r) None
-work_absent kept size k (w.Mount options) r other is = mounting_absent kept size k options r is
-work_absent kept size k (w.Remount options) r other is = remounting_absent kept size k options r is
-work_absent kept size k w.Umount r other is = umount_absent kept size k r is
-work_absent kept size k (w.Fork parent child) r other is = cc
-work_absent kept size k (w.Exit task) r other is = cc
-work_absent kept size k (w.OfMount home e) r other is = mount_absent kept size k home e r is
 
 -- ---- what a load and a store are answered
 

@@ -4,13 +4,10 @@ use Rattle.hp_model.specs.declared.answer.Answer.{Answer}
 use Rattle.hp_model.specs.declared.answer.Answer.TheVariants.{Bytes, Done}
 use Rattle.hp_model.specs.declared.event.SlotEvent.{SlotEvent}
 use Rattle.hp_model.specs.declared.event.SlotEvent.TheVariants as slot
-use Rattle.hp_model.specs.declared.refusal.Refusal.{Refusal}
-use Rattle.hp_model.specs.declared.refusal.Refusal.TheVariants.{NoSuchSlot, OutOfMemory, SlotTaken, TraceFull}
+use Rattle.hp_model.specs.declared.refusal.Refusal.TheVariants.{OutOfMemory, TraceFull}
 use Rattle.hp_model.specs.machine.Plan.{Reply}
 use Rattle.hp_events.specs.declared.work.Work.{Work}
 use Rattle.hp_events.specs.Works.{work_carries, work_receipts, work_script}
-use Rattle.hp_shared.specs.declared.slot_work.SlotWork.{SlotWork}
-use Rattle.hp_shared.specs.declared.slot_work.SlotWork.TheVariants.{Mount}
 use Rattle.hp_sessions.specs.Calls.{Carries, SessionView}
 
 -- there is no room for the receipts, or no memory for a copy of what it carries
@@ -24,11 +21,6 @@ abbrev pub IsWorked : (kept : Bool) (size : ℕ) → SessionView → Work → Re
 IsWorked kept size s w reply t =
     (((kept ≡ true → length s.receipts + work_receipts s.slots w ≤ s.room) × Carries kept size s (work_script s.slots w) reply t)
     ⊎ ((kept ≡ true) × (t ≡ s) × IsRefusedWork s w reply))
-
--- what a slot that is not there answers: a mount, as where a slot is mounted
-abbrev pub missing_for : SlotWork → Refusal
-missing_for (Mount options) = SlotTaken
-missing_for other = NoSuchSlot
 
 -- ---- answers
 

@@ -1,5 +1,5 @@
 //! One event of one part, under the part's lock.
-ghost use Rattle.std.specs.Prelude.{◌≡◌, ◌<◌, ◌≤◌, ◌==◌, if◌then◌else◌, Ok, None, true, false, length, IfNone, IfSome, MatchOption};
+ghost use Rattle.std.specs.Prelude.{ℕ, ◌≡◌, ◌<◌, ◌≤◌, ◌==◌, if◌then◌else◌, Ok, None, true, false, length, IfNone, IfSome};
 ghost use Rattle.hp_laws.specs.Answers.{lists_names};
 ghost use Rattle.hp_model.specs.declared.answer.Answer.TheVariants.{Done};
 ghost use Rattle.hp_model.specs.declared.event.Event.TheVariants.{Tasks as OnTasks, Slot as OnSlot, Pool as OnPool};
@@ -13,7 +13,6 @@ ghost use Rattle.hp_shared.specs.Slots.{names_reply};
 ghost use Rattle.hp_shared.specs.SlotWork.{AreCopiesFor, IsAnother, asked_event, is_exit, is_of_maps, needs_room};
 ghost use Rattle.hp_shared.specs.Tables.{table_reply};
 ghost use Rattle.hp_sessions.specs.Calls.{IsHanded};
-ghost use Rattle.hp_sessions.specs.Works.{missing_for};
 
 use super::Session;
 use hp_events::MountEvent;
@@ -46,16 +45,22 @@ fn absent<const K: usize>(refusal: Refusal) -> Refusal
     if K == 1 { Refusal::TraceFull } else { refusal }
 }
 
-// What a slot of another number answers to what is asked: nothing, where that goes by a task's maps.
-fn missing<const K: usize>(work: &SlotWork<'_>) -> Option<Refusal>
-    ensures { MatchOption result (is_of_maps work.now ≡ true) (λ refusal.
-        (is_of_maps work.now ≡ false)
-        × (refusal ≡ (if K == 1 then TraceFull else missing_for work.now))) }
+// What is answered where the slot is not there: nothing, if that goes by a task's maps.
+fn missing<const K: usize>(
+    work: &SlotWork<'_>,
+) -> Option<(Result<Told<'static>, Refusal>, Option<Receipt>)>
+    ensures handed { (size at : ℕ) → IfSome result (λ r. IsHanded (K == 1) size
+        (OnSlot at (asked_event work.now)) (told_reply r.0) r.1) }
+    ensures limits { IfSome result (λ r. IsWithinLimits (told_reply r.0)) }
+    ensures always { IfSome result (λ r. is_of_maps work.now ≡ false) }
+    ensures none { IfNone result (is_of_maps work.now ≡ true) }
 {
     match work {
         SlotWork::Fork { .. } | SlotWork::Exit { .. } => None,
-        SlotWork::Mount { .. } => Some(absent::<K>(Refusal::SlotTaken)),
-        _ => Some(absent::<K>(Refusal::NoSuchSlot)),
+        SlotWork::Mount { .. } => Some((Err(absent::<K>(Refusal::SlotTaken)), None)),
+        SlotWork::Remount { .. } | SlotWork::Umount | SlotWork::OfMount { .. } => {
+            Some((Err(absent::<K>(Refusal::NoSuchSlot)), None))
+        }
     }
 }
 
@@ -139,12 +144,8 @@ impl<'a, N: Naming, R: Wait, G: Gate, const K: usize> Session<'a, N, R, G, K> {
         let mut value = hold(shared.slot(at), self.rt);
         self.gate.enter(at as u64);
         let slot: &mut Slot<N, Trace<SlotEntry, K>> = &mut value;
-        if slot.number() != at as u64 {
-            let refusal = missing::<K>(&work)?;
-            return Some((Err(refusal), None));
-        }
-        if !slot.has_maps_for(&work) {
-            return None;
+        if slot.number() != at as u64 || !slot.has_maps_for(&work) {
+            return missing::<K>(&work);
         }
         let mut door = Door::new(self.rt, self.gate, shared.core(), shared.nodes());
         let (alloc, page_bytes) = (shared.alloc(), shared.page_bytes());

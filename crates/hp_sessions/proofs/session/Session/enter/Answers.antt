@@ -1,11 +1,7 @@
 use Rattle.std.proofs.Common.{◌≡◌, ◌==◌, true, sym, ◌∙◌}
 use Rattle.hp_model.specs.beside.Told.{told_reply}
-use Rattle.hp_sessions.proofs.Parts.{either_kept, work_absent, work_handed}
+use Rattle.hp_sessions.proofs.Parts.{either_kept, work_handed}
 use Rattle.hp_sessions.proofs.session.Session.enter.Goals as goal
-
-pub returns-then-number-at-in-Some-clause-handed : goal.returns-then-number-at-in-Some-clause-handed
-returns-then-number-at-in-Some-clause-handed g c =
-    work_absent (g.row.K == 1) g.N.Naming.page_bytes c.args.at c.args.work c.in-Some.refusal c.in-Some.ensures.0 c.in-Some.ensures.1
 
 pub returns-clause-handed : goal.returns-clause-handed
 returns-clause-handed g c =

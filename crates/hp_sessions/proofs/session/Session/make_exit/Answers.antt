@@ -3,7 +3,7 @@ use Rattle.hp_model.specs.declared.event.Event.TheVariants.{Slot as OnSlot}
 use Rattle.hp_model.specs.declared.event.SlotEvent.TheVariants.{ExitMaps}
 use Rattle.hp_model.specs.machine.Plan.{Reply}
 use Rattle.hp_sessions.specs.Calls.{IsHanded}
-use Rattle.hp_sessions.proofs.Forking.{exit_leads}
+use Rattle.hp_sessions.proofs.Forking.{exit_leads, exit_none}
 use Rattle.hp_sessions.proofs.session.Session.make_exit.Goals as goal
 
 pub returns-in-Some-clause-leads : goal.returns-in-Some-clause-leads
@@ -11,3 +11,6 @@ returns-in-Some-clause-leads g c =
     exit_leads (g.row.K == 1) g.N.Naming.page_bytes c.args.self.now c.add.new.self c.args.at c.args.task c.in-Some.receipt
     (subst (λ (r : Reply). IsHanded (g.row.K == 1) g.N.Naming.page_bytes (OnSlot c.args.at (ExitMaps c.args.task)) r c.in-Some.receipt) (c.in-Some.ensures.exit refl) c.in-Some.ensures.handed)
     c.add.ensures
+
+pub returns-in_default-clause-leads : goal.returns-in_default-clause-leads
+returns-in_default-clause-leads g c = exit_none (g.row.K == 1) g.N.Naming.page_bytes c.args.self.now c.args.self.now c.args.at c.args.task refl
