@@ -1,4 +1,4 @@
-use Rattle.std.proofs.Common.{◌≡◌, ◌==◌, false, Err, None, Some, sym, subst, arith}
+use Rattle.std.proofs.Common.{Err, Some, sym, subst, arith}
 use Rattle.std.proofs.lemmas.Bool.Decides.{nat_tests}
 use Rattle.hp_model.specs.declared.event.SlotEvent.TheVariants.{Remount}
 use Rattle.hp_model.specs.declared.refusal.Refusal.TheVariants.{NoSuchSlot, SlotTaken}

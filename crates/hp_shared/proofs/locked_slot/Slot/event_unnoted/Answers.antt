@@ -1,4 +1,4 @@
-use Rattle.std.proofs.Common.{◌≡◌, None, ◌∙◌, subst}
+use Rattle.std.proofs.Common.{None, ◌∙◌, subst}
 use Rattle.hp_model.specs.beside.Told.{told_reply}
 use Rattle.hp_events.specs.Event.{event_of}
 use Rattle.hp_shared.specs.Slots.{IsSlotEvent, SlotView}

@@ -1,9 +1,8 @@
-use Rattle.std.proofs.Common.{◌≡◌, inr, true, false, Option, Ok, Err, None, sym, ap, ◌∙◌, subst}
+use Rattle.std.proofs.Common.{◌≡◌, inr, true, Option, None, sym, ap, ◌∙◌, subst}
 use Rattle.hp_model.specs.declared.entry.Asked.{Asked}
-use Rattle.hp_model.specs.machine.Plan.{Reply}
 use Rattle.hp_model.specs.beside.Told.{told_reply}
 use Rattle.hp_trail.specs.Keeping.{with_entry}
-use Rattle.hp_shared.specs.Slots.{IsSlotEvent, SlotView, Went, is_trace_full}
+use Rattle.hp_shared.specs.Slots.{IsSlotEvent, SlotView, Went}
 use Rattle.hp_shared.specs.SlotWork.{asked_event, has_maps_for, is_exit}
 use Rattle.hp_shared.proofs.SlotsKept.{event_done, event_full, event_went, full_stays, may_fit, may_room, slot_noted, was_full, work_event, work_removes}
 use Rattle.hp_shared.proofs.locked_slot.Slot.work.Given.{Over}

@@ -1,6 +1,6 @@
 use Rattle.std.proofs.Common.{◌∙◌}
 use Rattle.hp_shared.specs.Tables.{table_reply}
-use Rattle.hp_shared.proofs.TablesKept.{unnoted, unnoted_stays}
+use Rattle.hp_shared.proofs.TablesKept.{unnoted_stays}
 use Rattle.hp_shared.proofs.table.Table.event_unnoted.Goals as goal
 
 pub invariant_of-self : goal.invariant_of-self
