@@ -1,5 +1,5 @@
 -- The table's trail keeps its fact with one entry more.
-use Rattle.std.proofs.Common.{◌≡◌, ℕ, ◌≤◌, Bool, true, false, List, [], ◌∷◌, ◌++◌, Option, None, Some, length, refl, sym, ap, ◌∙◌, subst, arith}
+use Rattle.std.proofs.Common.{◌≡◌, ℕ, ◌≤◌, true, false, List, [], ◌∷◌, ◌++◌, Option, None, Some, length, refl, sym, ap, ◌∙◌, subst, arith}
 use Rattle.hp_model.specs.declared.entry.TableEntry.{TableEntry}
 use Rattle.hp_model.specs.declared.event.TableEvent.{TableEvent}
 use Rattle.hp_model.specs.machine.Plan.{Reply}
@@ -11,8 +11,8 @@ use Rattle.hp_laws.proofs.settled.Closing.{table_places}
 use Rattle.hp_locked.specs.Views.{HasPlaces, IsFresh}
 use Rattle.hp_trail.specs.Keeping.{has_room, one_less, with_entry}
 use Rattle.hp_shared.specs.Tables.{IsLockedTable, IsTableTrail}
-use Rattle.hp_shared.proofs.Places.{has_closing, or_room, places_after, room_closing}
-use Rattle.std.specs.Prelude.{is_some, ◌||◌}
+use Rattle.hp_shared.proofs.Places.{places_after}
+use Rattle.std.specs.Prelude.{is_some}
 
 pub fresh_table : (nodes : ℕ) (o : Option (List TableEntry)) (left : Option ℕ) (extra : ℕ) (t : Table) → t ≡ [] → IsFresh o → most_tasks ≤ extra → IsLockedTable nodes o left extra t
 fresh_table nodes o left extra t is fresh enough = record {
@@ -54,18 +54,6 @@ module _ (nodes : ℕ) (o : Option (List TableEntry)) (left : Option ℕ) (extra
     enough = (let enough = was.enough in omega (arith, enough, stays));
     places = subst (λ (x : Option ℕ). HasPlaces x (to_remove q)) (sym lessens) (places_after most_tasks (to_remove t) (to_remove q) extra (removes_task t e) left keeps was.enough was.places room);
   }
-
-  -- the removal of a task that is there has a place
-  pub removal_fits : removes_task t e ≡ true → has_room true left extra ≡ true
-  removal_fits is = has_closing most_tasks (to_remove t) (to_remove q) extra left (subst (λ (b : Bool). KeepsPlaces most_tasks (to_remove t) (to_remove q) b) is keeps) was.places
-
-  -- an entry that may be noted has a place
-  pub event_fits : (removes_task t e || has_room false left extra) ≡ true → has_room true left extra ≡ true
-  event_fits may = by (removes_task t e) refl
-    where
-      by : (b : Bool) → removes_task t e ≡ b → has_room true left extra ≡ true
-      by true is = removal_fits is
-      by false is = room_closing left extra (or_room (removes_task t e) (has_room false left extra) may is)
 
 -- where no entries are kept
 module _ (nodes : ℕ) (o : Option (List TableEntry)) (left : Option ℕ) (extra : ℕ) (t : Table) (e : TableEvent) (reply : Reply) (q : Table)
