@@ -17,7 +17,7 @@ use Rattle.hp_laws.proofs.steps.CopyWrites.{writes}
 use Rattle.hp_model.specs.threads.LocalRun.{ThroughDoor}
 use Rattle.hp_model.specs.files.Mapping.{Map, copy_of, is_shared, is_unconsumed, place_at, with_place}
 use Rattle.hp_model.specs.beside.Accesses.{done_reply}
-use Rattle.hp_model.specs.machine.Plan.{Answered, Plan, Outcome, Reply, Slot, Choice, refuse, unless, with_value, and_then}
+use Rattle.hp_model.specs.machine.Plan.{Answered, Plan, Outcome, Slot, Choice, refuse, unless, with_value, and_then}
 use Rattle.hp_model.specs.declared.section.PoolAnswer.{PoolAnswer}
 use Rattle.hp_model.specs.declared.section.Section.{Section}
 use Rattle.hp_model.specs.machine.Promises.{file_in, is_backed, map_in, no_map, owns_copy}

@@ -1,5 +1,5 @@
 -- A range of a file that is filled, by what code did.
-use Rattle.std.proofs.Common.{◌≡◌, ℕ, ◌+◌, ◌-◌, ◌<◌, ◌≤◌, ◌==◌, inl, inr, Bool, true, false, cond, List, [], Option, None, Some, Ok, Err}
+use Rattle.std.proofs.Common.{◌≡◌, ℕ, ◌+◌, ◌-◌, ◌<◌, ◌≤◌, ◌==◌, Bool, true, false, cond, List, [], Option, None, Some, Ok, Err}
 use Rattle.std.proofs.Common.{length, max, refl, sym, ap, subst, ◌∙◌, arith, nat_lt}
 use Rattle.std.specs.Prelude.{slice_set}
 use Rattle.std.proofs.lemmas.Bool.Decides.{nat_tests}
@@ -18,7 +18,7 @@ use Rattle.hp_model.specs.machine.Promises.{file_in}
 use Rattle.hp_model.specs.machine.SlotEvent.{file_named, fill, is_bad_range, preallocate, preallocate_tests, preallocated, slot_event, unentered}
 use Rattle.hp_model.specs.pool.Grant.{is_full, rise}
 use Rattle.hp_model.specs.pool.Pool.{filled_by, no_pages}
-use Rattle.hp_model.specs.Profile.{most_files, most_map_pages}
+use Rattle.hp_model.specs.Profile.{most_map_pages}
 use Rattle.hp_model.specs.threads.LocalRun.{ThroughDoor}
 use Rattle.hp_laws.proofs.counts.Filled.{filled_fills}
 use Rattle.hp_laws.proofs.counts.MountMoves.{MountFills, file_fills}

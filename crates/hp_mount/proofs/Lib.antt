@@ -1,3 +1,4 @@
 mod Commands
 mod Copying
 mod Filling
+mod Here

@@ -1,14 +1,8 @@
 -- What an access asks before it begins.
-use Rattle.std.specs.Prelude.{◌<◌, ◌≤◌, ◌≡◌, ◌&&◌, ℕ, ◌+◌, Bool, true, false, Option, None, Some, List, [], ◌∷◌, length, if◌then◌else◌}
+use Rattle.std.specs.Prelude.{◌<◌, ◌≤◌, ◌≡◌, ℕ, ◌+◌, Bool, true, Option, None, Some, List, length}
 use Rattle.hp_model.specs.declared.refusal.Refusal.{Refusal}
 use Rattle.hp_model.specs.declared.refusal.Refusal.TheVariants.{NoSuchMap}
-use Rattle.hp_model.specs.declared.cell.Cell.{Cell}
-use Rattle.hp_model.specs.declared.place.Place.{Place}
-use Rattle.hp_model.specs.declared.place.Place.TheVariants.{Live}
-use Rattle.hp_model.specs.files.Page.{Copy}
-use Rattle.hp_model.specs.declared.step.Intent.{Intent}
-use Rattle.hp_model.specs.declared.step.Intent.TheVariants.{Read, Write}
-use Rattle.hp_model.specs.files.File.{Mount, cell_at, has_page, with_file, with_map}
+use Rattle.hp_model.specs.files.File.{Mount}
 use Rattle.hp_model.specs.machine.Promises.{file_in, map_in}
 use Rattle.hp_model.specs.machine.SlotEvent.{byte_tests, fault_tests}
 use Rattle.hp_model.specs.files.Spot.{Spot, spot}
@@ -16,9 +10,9 @@ use Rattle.hp_mount.specs.declared.mount.reach.Asked.{Asked}
 use Rattle.hp_mount.specs.declared.mount.reach.Asked.TheVariants.{Page, Bytes}
 use Rattle.hp_mount.specs.declared.mount.reach.MapAccess.{MapAccess}
 use Rattle.hp_lookup.specs.declared.map_place.MapPlace.{MapPlace}
-use Rattle.hp_model.specs.files.Mapping.{Map, is_live, is_map, is_shared, is_unconsumed, place_at, with_place}
+use Rattle.hp_model.specs.files.Mapping.{is_live, is_map, place_at}
 use Rattle.hp_model.specs.Profile.{most_bytes}
-use Rattle.hp_mount_laws.specs.Reach.{spot_at, first_of, IsTouched, has_reserve, shows_page, NeedsCopy, with_place_at}
+use Rattle.hp_mount_laws.specs.Reach.{spot_at, first_of}
 
 -- the map of an access, if it is there
 abbrev pub spot_of : MapAccess → Mount → Option Spot

@@ -1,23 +1,81 @@
--- What is said of the files as a caller sees them is so of them as the fields show them.
-use Rattle.std.proofs.Common.{◌≡◌, ℕ, ◌<◌, length, ap, subst, sym, ◌∙◌}
+-- What is said of the files as a caller sees them is so of them as the fields show them, and of the file and map that code reads.
+use Rattle.std.proofs.Common.{◌≡◌, ℕ, ◌<◌, ◌≤◌, true, None, Some, List, length, refl, ap, subst, sym, ◌∙◌, arith}
+use Rattle.std.specs.Prelude.{IsSome, slice_index_or}
+use Rattle.std.proofs.lemmas.List.{get_or_default, length-map}
 use Rattle.hp_model.specs.declared.place.Place.{Place}
-use Rattle.hp_model.specs.files.Mapping.{place_at}
+use Rattle.hp_model.specs.declared.place.Place.TheVariants.{Gone, Live}
+use Rattle.hp_model.specs.files.File.{File}
+use Rattle.hp_model.specs.files.Mapping.{Map, copy_of, is_live, place_at}
 use Rattle.hp_model.specs.files.Page.{Copy}
+use Rattle.hp_store.specs.Store.{Store, holders_of, page_at}
 use Rattle.hp_lookup.specs.declared.copy_state.CopyState.{CopyState}
 use Rattle.hp_lookup.specs.Files.{Files, file_at}
+use Rattle.hp_lookup.specs.Held.{IsHeld, in_file}
+use Rattle.hp_lookup.specs.Numbered.{NumberedFile, files_shown, map_shown, mapping_at, no_mapping, numbered_at, place_shown}
 use Rattle.hp_lookup.specs.Places.{map_at}
+use Rattle.hp_lookup.proofs.Cells.{file_is, no_file}
+use Rattle.hp_lookup.proofs.Lifting.{at_most}
+use Rattle.hp_lookup.proofs.Views.{files_len, map_seen, place_seen, read_is, view}
 use Rattle.hp_file.specs.States.{IsCopyState}
+use Rattle.hp_mount_files.proofs.Lent.{live_shown}
 
-module _ {v w : Files} (view : v ≡ w) (k : ℕ) where
+module _ {v w : Files} (same : v ≡ w) (k : ℕ) where
   pub file_here : k < length w.files → k < length v.files
-  file_here below = subst (λ (x : Files). k < length x.files) (sym view) below
+  file_here below = subst (λ (x : Files). k < length x.files) (sym same) below
 
   module _ (j : ℕ) where
     pub map_here : j < length (file_at w.files k).maps → j < length (file_at v.files k).maps
-    map_here below = subst (λ (x : Files). j < length (file_at x.files k).maps) (sym view) below
+    map_here below = subst (λ (x : Files). j < length (file_at x.files k).maps) (sym same) below
 
     pub place_here : (i : ℕ) {p : Place Copy} → place_at (map_at w.files k j) i ≡ p → place_at (map_at v.files k j) i ≡ p
-    place_here i is = ap (λ (x : Files). place_at (map_at x.files k j) i) view ∙ is
+    place_here i is = ap (λ (x : Files). place_at (map_at x.files k j) i) same ∙ is
 
     pub state_here : (i : ℕ) (state : CopyState) → IsCopyState state (file_at w.files k) (place_at (map_at w.files k j) i) → IsCopyState state (file_at v.files k) (place_at (map_at v.files k j) i)
-    state_here i state is = subst (λ (x : Files). IsCopyState state (file_at x.files k) (place_at (map_at x.files k j) i)) (sym view) is
+    state_here i state is = subst (λ (x : Files). IsCopyState state (file_at x.files k) (place_at (map_at x.files k j) i)) (sym same) is
+
+-- ---- the file and the map that code reads
+
+some_shown : (s : Store) (p : Place ℕ) → IsSome (copy_of (place_shown s p)) → IsSome (copy_of p)
+some_shown s Gone some = some
+some_shown s (Live c None) some = some
+some_shown s (Live c (Some n)) some = some
+
+module _ (s : Store) (more : ℕ) (fs : List NumberedFile) {w : Files} (same : view s more fs ≡ w) (k : ℕ) (below : k < length w.files) where
+  pub file_inside : k < length fs
+  file_inside = (let here : k < length (files_shown s fs) = file_here same k below in let wide = files_len s fs in omega (arith, here, wide))
+
+  module _ (x : NumberedFile) (read : x ≡ slice_index_or fs k x) where
+    x_is : x ≡ numbered_at fs k
+    x_is = read_is fs k x file_inside read
+
+    -- its pages and copies are held
+    pub held_inside : IsHeld s more fs → (n : ℕ) → in_file n x ≤ holders_of (page_at s n)
+    held_inside h n =
+        let most = at_most (λ (f : NumberedFile). f) (λ f. f) (in_file n) (λ f e. refl) fs k no_file file_inside in
+        let own = ap (in_file n) x_is in
+        let all = h.held n in
+        omega (arith, most, own, all)
+
+    module _ (j : ℕ) (there : j < length (file_at w.files k).maps) where
+      pub map_inside : j < length x.maps
+      map_inside =
+          let here : j < length (file_at (files_shown s fs) k).maps = map_here same k j there in
+          let seen = ap (λ (f : File). length f.maps) (file_is s fs k file_inside) in
+          let long = length-map (numbered_at fs k).maps (map_shown s) in
+          let own = ap (λ (f : NumberedFile). length f.maps) x_is in
+          omega (arith, here, seen, long, own)
+
+      module _ (i : ℕ) where
+        place_inside : place_at (map_at w.files k j) i ≡ place_shown s (place_at (mapping_at x j) i)
+        place_inside =
+            let l : k < length (files_shown s fs) = file_here same k below in
+            let jl : j < length (file_at (files_shown s fs) k).maps = map_here same k j there in
+            let reads = get_or_default x.maps j no_mapping (mapping_at x j) map_inside in
+            sym (ap (λ (v : Files). place_at (map_at v.files k j) i) same)
+            ∙ ap (λ (m : Map). place_at m i) (map_seen s fs k j l x read (mapping_at x j) reads jl) ∙ place_seen s fs k j l x read (mapping_at x j) reads jl i
+
+        pub live_inside : is_live (place_at (map_at w.files k j) i) ≡ true → is_live (place_at (mapping_at x j) i) ≡ true
+        live_inside live = sym (ap is_live place_inside ∙ live_shown s (place_at (mapping_at x j) i)) ∙ live
+
+        pub copy_inside : IsSome (copy_of (place_at (map_at w.files k j) i)) → IsSome (copy_of (place_at (mapping_at x j) i))
+        copy_inside some = some_shown s (place_at (mapping_at x j) i) (subst (λ p. IsSome (copy_of p)) place_inside some)

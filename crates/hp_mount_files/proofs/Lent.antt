@@ -1,15 +1,19 @@
 -- What a lent file and a lent map show is so of what they stand for.
-use Rattle.std.proofs.Common.{◌≡◌, ◌≤◌, ℕ, ◌+◌, ◌-◌, [], ◌∷◌, length, drop, take, sym, ap, ◌∙◌, arith}
+use Rattle.std.proofs.Common.{◌≡◌, ◌≤◌, ℕ, ◌+◌, ◌-◌, ◌&&◌, [], ◌∷◌, None, Some, false, true, length, drop, take, sym, ap, refl, ◌∙◌, arith}
 use Rattle.std.specs.List.{count_by}
 use Rattle.std.proofs.lemmas.List.{length-map}
+use Rattle.hp_model.specs.declared.place.Place.{Place}
+use Rattle.hp_model.specs.declared.place.Place.TheVariants.{Gone, Live}
 use Rattle.hp_model.specs.files.File.{File, at_least, has_page, is_entered, is_hole}
 use Rattle.hp_model.specs.files.Fill.{lacking, lacks_page}
-use Rattle.hp_model.specs.files.Mapping.{Map, Mapping, is_shared}
+use Rattle.hp_model.specs.files.Mapping.{Map, Mapping, is_live, is_shared, is_unconsumed, place_at}
 use Rattle.hp_model.specs.Lists.{part}
 use Rattle.hp_model.specs.machine.SlotEvent.{unentered}
-use Rattle.hp_lookup.specs.Numbered.{NumberedFile, cell_shown, map_shown}
+use Rattle.hp_store.specs.Store.{Store}
+use Rattle.hp_mapping.specs.Mapped.{has_reserve}
+use Rattle.hp_lookup.specs.Numbered.{NumberedFile, cell_shown, map_shown, place_shown}
 use Rattle.hp_lookup.proofs.Holes.{asked_shown}
-use Rattle.hp_lookup.proofs.Views.{entries_shown, pages_shown}
+use Rattle.hp_lookup.proofs.Views.{entries_shown, pages_shown, shown_place}
 use Rattle.hp_file.proofs.Filling.{lacking_shown}
 use Rattle.hp_mount_files.specs.Lent.{IsLent, IsMapLent}
 
@@ -35,6 +39,18 @@ module _ {f : File} {lent : NumberedFile} (is : IsLent f lent) where
         let end : b ≡ a + (b - a) = omega (arith, order) in
         asked_shown is.store (lent ∷ []) 0 a (b - a) b (omega arith) end ∙ sym (ap (unentered a b) is.is)
 
+pub live_shown : (s : Store) (p : Place ℕ) → is_live (place_shown s p) ≡ is_live p
+live_shown s Gone = refl
+live_shown s (Live c None) = refl
+live_shown s (Live c (Some n)) = refl
+
+unconsumed_shown : (s : Store) (p : Place ℕ) → is_unconsumed (place_shown s p) ≡ is_unconsumed p
+unconsumed_shown s Gone = refl
+unconsumed_shown s (Live true None) = refl
+unconsumed_shown s (Live false None) = refl
+unconsumed_shown s (Live true (Some n)) = refl
+unconsumed_shown s (Live false (Some n)) = refl
+
 module _ {m : Map} {lent : Mapping ℕ} (is : IsMapLent m lent) where
   pub shared_lent : is_shared lent.sharing ≡ is_shared m.sharing
   shared_lent = sym (ap (λ (x : Map). is_shared x.sharing) is.is)
@@ -44,3 +60,15 @@ module _ {m : Map} {lent : Mapping ℕ} (is : IsMapLent m lent) where
 
   pub unmapped_lent : lent.unmapped ≡ m.unmapped
   unmapped_lent = sym (ap (λ (x : Map). x.unmapped) is.is)
+
+  module _ (i : ℕ) where
+    place_lent : place_at m i ≡ place_shown is.store (place_at lent i)
+    place_lent = ap (λ (x : Map). place_at x i) is.is ∙ shown_place is.store lent i
+
+    pub live_lent : is_live (place_at lent i) ≡ is_live (place_at m i)
+    live_lent = sym (ap is_live place_lent ∙ live_shown is.store (place_at lent i))
+
+    pub reserve_lent : has_reserve lent i ≡ (m.owner && is_unconsumed (place_at m i))
+    reserve_lent =
+        ap (λ b. b && is_unconsumed (place_at lent i)) owner_lent
+        ∙ ap (λ b. m.owner && b) (sym (ap is_unconsumed place_lent ∙ unconsumed_shown is.store (place_at lent i)))

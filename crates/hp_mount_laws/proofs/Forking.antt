@@ -1,5 +1,6 @@
 -- A fork on a mount, by what code did.
-use Rattle.std.proofs.Common.{◌≡◌, ℕ, ◌+◌, ◌-◌, ◌<◌, ◌≤◌, ◌==◌, ◌||◌, ◌⊎◌, inl, inr, Bool, true, false, cond, nat_lt, List, [], ◌∷◌, Some, Ok, Err, length, refl, sym, ap, subst, ◌∙◌, arith}
+use Rattle.std.proofs.Common.{◌≡◌, ℕ, ◌+◌, ◌-◌, ◌<◌, ◌≤◌, ◌==◌, ◌||◌, ⊎_elim, Bool, true, false, cond, nat_lt, List, [], ◌∷◌, Some, Ok, Err, length, refl, sym, ap, subst, ◌∙◌, arith}
+use Rattle.std.proofs.lemmas.Bool.{cases_lt}
 use Rattle.std.proofs.lemmas.Bool.Decides.{nat_tests}
 use Rattle.hp_model.specs.declared.answer.Answer.TheVariants.{Done}
 use Rattle.hp_model.specs.declared.refusal.Refusal.TheVariants as r
@@ -21,37 +22,40 @@ use Rattle.hp_mount_laws.specs.Reach.{first_of}
 use Rattle.hp_mount_laws.proofs.Trying.{tests_fail, tests_pass}
 use Rattle.hp_mount_laws.proofs.Ways.{fresh_choice, is_fresh, refused_at}
 
-module _ {X : Type 0} (took : X → Section → PoolAnswer → X → Type 0) (full : X → Type 0) (m : Mount) (parent child : ℕ) (door : X) where
+-- whether there are too many after a fork
+module _ (m : Mount) (parent child : ℕ) where
   abbrev maps : ℕ
   maps = length (maps_of (forked parent child m))
 
   abbrev tasks : ℕ
   tasks = length (tasks_of (forked parent child m))
 
+  abbrev pub many : Bool
+  many = nat_lt 4096 maps || nat_lt 4096 tasks
+
+  pub many_maps : 4096 < maps → many ≡ true
+  many_maps over = (let t : nat_lt 4096 maps ≡ true = grind (arith, nat_tests, over) in ap (λ b. b || nat_lt 4096 tasks) t)
+
+  pub by_tasks : maps ≤ 4096 → many ≡ nat_lt 4096 tasks
+  by_tasks few = (let f : nat_lt 4096 maps ≡ false = grind (arith, nat_tests, few) in ap (λ b. b || nat_lt 4096 tasks) f)
+
+  pub few_maps : many ≡ false → maps ≤ 4096
+  few_maps under = ⊎_elim (λ (l : 4096 < maps). (let clash : true ≡ false = sym (many_maps l) ∙ under in cc)) (λ (l : maps ≤ 4096). l) (cases_lt 4096 maps)
+
+module _ {X : Type 0} (took : X → Section → PoolAnswer → X → Type 0) (full : X → Type 0) (m : Mount) (parent child : ℕ) (door : X) where
   abbrev after : Plan
   after = gives Done (Some m) (Some (forked parent child m))
 
-  pub too_many : (4096 < maps) ⊎ (4096 < tasks) → Tried took full (λ c. fork_maps c m parent child) (Some m) door (Err r.TooMany) (Some m) door
-  too_many many = (
+  pub too_many : many m parent child ≡ true → Tried took full (λ c. fork_maps c m parent child) (Some m) door (Err r.TooMany) (Some m) door
+  too_many over = (
     fresh_choice false (Some m),
     is_fresh false (Some m),
     subst (λ p. ThroughDoor took p (Some m) door (Err r.TooMany) (Some m) door)
         (sym (tests_fail (fork_tests (fresh_choice false (Some m)) m parent child) after r.TooMany
-        (ap (λ t. first_of ((t, r.TooMany) ∷ (false, r.OutOfMemory) ∷ [])) (over many)))) (refused_at took m r.TooMany door),
+        (ap (λ t. first_of ((t, r.TooMany) ∷ (false, r.OutOfMemory) ∷ [])) over))) (refused_at took m r.TooMany door),
   )
-    where
-      either_true : (b : Bool) → (b || true) ≡ true
-      either_true true = refl
-      either_true false = refl
 
-      over : (4096 < maps) ⊎ (4096 < tasks) → (nat_lt 4096 maps || nat_lt 4096 tasks) ≡ true
-      over (inl l) = (let t : nat_lt 4096 maps ≡ true = grind (arith, nat_tests, l) in ap (λ b. b || nat_lt 4096 tasks) t)
-      over (inr l) = (let t : nat_lt 4096 tasks ≡ true = grind (arith, nat_tests, l) in ap (λ b. nat_lt 4096 maps || b) t ∙ either_true (nat_lt 4096 maps))
-
-  module _ (few : maps ≤ 4096) (few_tasks : tasks ≤ 4096) where
-    under : (nat_lt 4096 maps || nat_lt 4096 tasks) ≡ false
-    under = (let a : nat_lt 4096 maps ≡ false = grind (arith, nat_tests, few) in let b : nat_lt 4096 tasks ≡ false = grind (arith, nat_tests, few_tasks) in ap (λ t. t || nat_lt 4096 tasks) a ∙ b)
-
+  module _ (under : many m parent child ≡ false) where
     pub no_memory : Tried took full (λ c. fork_maps c m parent child) (Some m) door (Err r.OutOfMemory) (Some m) door
     no_memory = (
       fresh_choice true (Some m),

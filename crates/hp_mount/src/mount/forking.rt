@@ -1,8 +1,12 @@
 //! A child gets maps on a mount.
-ghost use Rattle.std.specs.Prelude.{◌≡◌, ◌≢◌, ◌==◌, false, ℕ, Err, Some, []};
+ghost use Rattle.std.specs.Prelude.{◌≡◌, ◌≢◌, ◌==◌, ◌||◌, nat_lt, length, false, ℕ, Err, Some, []};
 ghost use Rattle.hp_model.specs.declared.event.SlotEvent.TheVariants.{ForkMaps};
 ghost use Rattle.hp_model.specs.declared.refusal.Refusal.TheVariants as Refusal;
 ghost use Rattle.hp_model.specs.beside.Accesses.{done_reply};
+ghost use Rattle.hp_model.specs.files.File.{maps_of};
+ghost use Rattle.hp_model.specs.files.Fork.{forked};
+ghost use Rattle.hp_model.specs.files.MakeMap.{tasks_of};
+ghost use Rattle.hp_model.specs.Profile.{most_maps, most_tasks};
 ghost use Rattle.hp_store.specs.Store.{Store as StoreValue};
 ghost use Rattle.hp_subpool.specs.Subpool.{Subpool as ShareValue};
 ghost use Rattle.hp_mount_laws.specs.Done.{IsDone};
@@ -17,6 +21,25 @@ use hp_store::PageStore;
 use hp_subpool::Subpool;
 
 impl<N: Naming> Mount<N> {
+    // Whether there would be more maps after a fork, or maps of more tasks, than a mount may have.
+    fn forks_too_many(&self, parent: u64, child: u64) -> bool
+        requires apart { (parent == child) ≡ false }
+        ensures { result ≡ (nat_lt most_maps (length (maps_of (forked parent child self.now)))
+            || nat_lt most_tasks (length (tasks_of (forked parent child self.now)))) }
+    {
+        let of_parent = self.files.map_count_for(parent);
+        let of_child = self.files.map_count_for(child);
+        let others = self.files.map_count().saturating_sub(of_child);
+        if others.saturating_add(of_parent) > MOST_MAPS {
+            return true;
+        }
+        let tasks = self
+            .files
+            .task_count()
+            .saturating_add((of_parent > 0) as u64);
+        tasks.saturating_sub((of_child > 0) as u64) > MOST_TASKS
+    }
+
     /// A child gets a map for each of its parent's: the same number, range, copies and mark; it owns nothing, and no page is
     /// copied. Maps that stand under the child's number go first, as by `exit_maps`; what they held goes back to the pool,
     /// but for what the minimum keeps.
@@ -42,17 +65,7 @@ impl<N: Naming> Mount<N> {
         ensures left { D.is_left door.new }
         ensures noted { done_reply result ≢ Err Refusal.TraceFull }
     {
-        let of_parent = self.files.map_count_for(parent);
-        let of_child = self.files.map_count_for(child);
-        let maps = self.files.map_count().saturating_sub(of_child);
-        let tasks = self
-            .files
-            .task_count()
-            .saturating_add((of_parent > 0) as u64);
-        if maps.saturating_add(of_parent) > MOST_MAPS {
-            return Err(Refusal::TooMany);
-        }
-        if tasks.saturating_sub((of_child > 0) as u64) > MOST_TASKS {
+        if self.forks_too_many(parent, child) {
             return Err(Refusal::TooMany);
         }
         let held = self.share.held();

@@ -1,5 +1,5 @@
 //! Indices of a file that are filled with pages of zeros.
-ghost use Rattle.std.specs.Prelude.{◌≡◌, ◌+◌, ◌-◌, ◌<◌, ◌≤◌, [], ◌∷◌, ℕ, List, IfOk, OnErr, OnOk, true, false, length, max};
+ghost use Rattle.std.specs.Prelude.{◌≡◌, ◌^◌, ◌+◌, ◌-◌, ◌<◌, ◌≤◌, [], ◌∷◌, ℕ, List, IfOk, OnErr, OnOk, true, false, length, max};
 ghost use Rattle.std.specs.List.{count_by, sum_by};
 ghost use Rattle.hp_model.specs.Lists.{part};
 ghost use Rattle.hp_model.specs.Profile.{most_file_pages};
@@ -23,8 +23,22 @@ use hp_model::refusal::Refusal;
 use hp_mount_door::PoolDoor;
 use hp_store::PageBatch;
 use hp_subpool::Subpool;
+use std::alloc::AllocError;
 
 impl<N: Naming> Files<N> {
+    // Room for so many pages, and a batch with room for `count`. Refused where memory is, and then only the room may be more.
+    fn new_batch(&mut self, pages: usize, count: usize) -> Result<PageBatch<N>, AllocError>
+        ensures ok { OnOk result (self.new ≡ record self.old { room = max self.old.room pages }) }
+        ensures few { OnOk result (sum_by file_pages self.old.files + pages ≤ 2 ^ 32) }
+        ensures batch { IfOk result (λ batch. batch ≡ record { pages = []; room = count }) }
+        ensures err { OnErr result (self.new ≡ record self.old { room = self.new.room }) }
+        ensures more { OnErr result (self.old.room ≤ self.new.room) }
+    {
+        self.make_room(pages)?;
+        let batch = PageBatch::new(self.alloc, count)?;
+        Ok(batch)
+    }
+
     // Enters indices of a file, and takes `count` pages for them at once. Refused as `preallocate` is.
     fn take_pages<D: PoolDoor<Share = Subpool<N>, Batch = PageBatch<N>>>(
         &mut self,
@@ -56,10 +70,7 @@ impl<N: Naming> Files<N> {
         ensures left { D.is_left door.new }
     {
         let reserves = share.held().saturating_add(k);
-        let Ok(()) = self.make_room(reserves as usize) else {
-            return Err(Refusal::OutOfMemory);
-        };
-        let Ok(mut batch) = PageBatch::new(self.alloc, count as usize) else {
+        let Ok(mut batch) = self.new_batch(reserves as usize, count as usize) else {
             return Err(Refusal::OutOfMemory);
         };
         let at = &mut self.list[file];

@@ -11,7 +11,31 @@ use Rattle.hp_mount.specs.Found.{IsPlaced, spot_of, why_not}
 use Rattle.hp_mount_laws.specs.Reach.{spot_at}
 use Rattle.hp_mount.proofs.Commands.{backed_not_memory, denied, early_not_memory, follows, not_begun, private_written, stores, went, why_is_early, written_is}
 use Rattle.hp_mount_laws.proofs.Ways.{then_goes}
+use Rattle.hp_mount.proofs.Here.{file_here, map_here}
 use Rattle.hp_mount.proofs.mount.Mount.store.Goals as goal
+
+pub map-requires-clause-file : goal.map-requires-clause-file
+map-requires-clause-file g c = file_here c.self.view_is c.in-Ok.at.file c.in-Ok.ensures.placed.file
+
+pub map-requires-clause-map : goal.map-requires-clause-map
+map-requires-clause-map g c = map_here c.self.view_is c.in-Ok.at.file c.in-Ok.at.map c.in-Ok.ensures.placed.map
+
+pub write_copy-requires-clause-file : goal.write_copy-requires-clause-file
+write_copy-requires-clause-file g c = (let file = c.in-Ok.ensures.placed.file in let files = c.reach.ensures.same.files in omega (arith, file, files))
+
+pub write_copy-requires-clause-map : goal.write_copy-requires-clause-map
+write_copy-requires-clause-map g c = (let map = c.in-Ok.ensures.placed.map in let maps = c.reach.ensures.same.maps in omega (arith, map, maps))
+
+pub write_copy-requires-clause-once : goal.write_copy-requires-clause-once
+write_copy-requires-clause-once g c = c.reach.ensures.once refl c.in_default.is
+    (sym (ap (λ (x : Mount). is_shared (map_in (file_in x c.in-Ok.at.file) c.in-Ok.at.map).sharing) c.self.view_is)
+    ∙ sym (c.is_shared-is_shared.ensures ∙ shared_lent c.map.ensures) ∙ c.if-not-is_shared.true)
+
+pub write-requires-clause-file : goal.write-requires-clause-file
+write-requires-clause-file g c = (let file = c.in-Ok.ensures.placed.file in let files = c.reach.ensures.same.files in omega (arith, file, files))
+
+pub write-requires-clause-below : goal.write-requires-clause-below
+write-requires-clause-below g c = (let below = c.in-Ok.ensures.placed.below in let cells = c.reach.ensures.same.cells in omega (arith, below, cells))
 
 pub returns-in-Err-clause-done : goal.returns-in-Err-clause-done
 returns-in-Err-clause-done g c k =

@@ -11,8 +11,18 @@ use Rattle.hp_lookup.specs.Numbered.{copy_shown}
 use Rattle.hp_lookup.specs.Places.{map_at}
 use Rattle.hp_file.specs.States.{AreAgreed, IsCopyState}
 use Rattle.hp_file_list.proofs.CopyHeld.{agreed_there, copy_there, few_there, held_once}
-use Rattle.hp_mount_files.proofs.Here.{file_here, map_here}
+use Rattle.hp_mount_files.proofs.Here.{file_here, map_here, file_inside, map_inside}
 use Rattle.hp_mount_files.proofs.files.Files.copy.Goals as goal
+
+pub index-requires : goal.index-requires
+index-requires g c =
+    let s = c.self.inside in
+    file_inside s.store s.more s.list.files c.self.view_is c.args.at.file c.requires.file
+
+pub map-map-requires : goal.map-map-requires
+map-map-requires g c =
+    let s = c.self.inside in
+    map_inside s.store s.more s.list.files c.self.view_is c.args.at.file c.requires.file c.index.result.now c.index.ensures c.args.at.map c.requires.map
 
 pub returns-in_default-clause-agreed : goal.returns-in_default-clause-agreed
 returns-in_default-clause-agreed g c =

@@ -14,8 +14,18 @@ use Rattle.hp_lookup.specs.Places.{map_at}
 use Rattle.hp_lookup.proofs.Keys.{files_same, same_label}
 use Rattle.hp_file_list.proofs.Parting.{number, part_keeps, part_levels, part_once, part_view, room_there, still_there}
 use Rattle.hp_file_list.proofs.PutCopy.{put_fresh}
-use Rattle.hp_mount_files.proofs.Here.{file_here, map_here, place_here, state_here}
+use Rattle.hp_mount_files.proofs.Here.{file_here, map_here, place_here, state_here, file_inside, map_inside}
 use Rattle.hp_mount_files.proofs.files.Files.part.Goals as goal
+
+pub index_mut-file-requires : goal.index_mut-file-requires
+index_mut-file-requires g c =
+    let s = c.self.inside in
+    file_inside s.store s.more s.list.files c.self.view_is c.args.at.file c.requires.file
+
+pub replace_copy-old-requires-clause-within : goal.replace_copy-old-requires-clause-within
+replace_copy-old-requires-clause-within g c =
+    let s = c.self.inside in
+    map_inside s.store s.more s.list.files c.self.view_is c.args.at.file c.requires.file c.index_mut-file.result.now c.index_mut-file.ensures.value c.args.at.map c.requires.map
 
 pub insert-number-requires : goal.insert-number-requires
 insert-number-requires g c =

@@ -6,7 +6,24 @@ use Rattle.hp_lookup.specs.Dropping.{IsLeft}
 use Rattle.hp_lookup.specs.Files.{Files, edited_at, file_at}
 use Rattle.hp_lookup.proofs.GivingBack.{punch_files, punch_keeps, punch_left}
 use Rattle.hp_lookup.proofs.Views.{view}
+use Rattle.hp_mount_files.proofs.Here.{file_inside, held_inside}
 use Rattle.hp_mount_files.proofs.files.Files.punch.Goals as goal
+
+pub index_mut-at-requires : goal.index_mut-at-requires
+index_mut-at-requires g c =
+    let s = c.self.inside in
+    file_inside s.store s.more s.list.files c.self.view_is c.args.file c.requires
+
+pub punch-requires-clause-held : goal.punch-requires-clause-held
+punch-requires-clause-held g c =
+    let s = c.self.inside in
+    held_inside s.store s.more s.list.files c.self.view_is c.args.file c.requires c.index_mut-at.result.now c.index_mut-at.ensures.value c.self.invariant.held
+
+pub punch-requires-clause-some : goal.punch-requires-clause-some
+punch-requires-clause-some g c = c.self.invariant.held.some
+
+pub punch-requires-clause-counted : goal.punch-requires-clause-counted
+punch-requires-clause-counted g c = c.self.invariant.held.counted
 
 pub invariant_of-self : goal.invariant_of-self
 invariant_of-self g c =

@@ -16,6 +16,7 @@ use Rattle.hp_lookup.proofs.Tallies.{tally_few}
 use Rattle.hp_lookup.proofs.Views.{files_len}
 use Rattle.hp_mount_files.proofs.MapRoom.{with_room}
 use Rattle.hp_mount_files.proofs.files.Files.put_map.Given.{Over}
+use Rattle.hp_mount_files.proofs.Here.{file_inside}
 use Rattle.hp_mount_files.proofs.files.Files.put_map.Goals as goal
 use Rattle.hp_mount_files.proofs.files.Files.put_map.Goals.{After-make_map_room}
 
@@ -26,6 +27,16 @@ module _ (g : Over) (c : After-make_map_room g) where
       let s = c.self.inside in
       with_room s.hints c.make_map_room.new.hints s.store s.more s.maps (count_of s.counts) (count_of c.make_map_room.new.counts) s.list.files
       c.make_map_room.ensures.noted c.make_map_room.ensures.counted c.self.invariant
+
+pub index-requires : goal.index-requires
+index-requires g c =
+    let s = c.self.inside in
+    file_inside s.store s.more s.list.files c.self.view_is c.args.file c.requires.file
+
+pub index_mut-at-requires : goal.index_mut-at-requires
+index_mut-at-requires g c =
+    let s = c.self.inside in
+    file_inside s.store s.more s.list.files c.self.view_is c.args.file c.requires.file
 
 pub invariant_of-self : goal.invariant_of-self
 invariant_of-self g c = roomy g (goal.at.invariant_of-self g c).After-make_map_room

@@ -8,12 +8,39 @@ use Rattle.hp_lookup.specs.Files.{Files, taken_back_at}
 use Rattle.hp_lookup.specs.Places.{map_at}
 use Rattle.hp_file_list.proofs.TakingBack.{back_files, back_keeps, back_left, back_once}
 use Rattle.hp_lookup.proofs.Views.{view}
-use Rattle.hp_mount_files.proofs.Here.{file_here, map_here}
+use Rattle.hp_mount_files.proofs.Here.{file_here, map_here, file_inside, map_inside, copy_inside, held_inside}
 use Rattle.hp_mount_files.proofs.files.Files.take_back.Goals as goal
 
 some_value : (o : Option Copy) → IsSome o → (copy : Copy) × (o ≡ Some copy)
 some_value None some = cc
 some_value (Some copy) some = (copy, refl)
+
+pub index_mut-file-requires : goal.index_mut-file-requires
+index_mut-file-requires g c =
+    let s = c.self.inside in
+    file_inside s.store s.more s.list.files c.self.view_is c.args.at.file c.requires.file
+
+pub take_back-requires-clause-within : goal.take_back-requires-clause-within
+take_back-requires-clause-within g c =
+    let s = c.self.inside in
+    map_inside s.store s.more s.list.files c.self.view_is c.args.at.file c.requires.file c.index_mut-file.result.now c.index_mut-file.ensures.value c.args.at.map c.requires.map
+
+pub take_back-requires-clause-copy : goal.take_back-requires-clause-copy
+take_back-requires-clause-copy g c =
+    let s = c.self.inside in
+    copy_inside s.store s.more s.list.files c.self.view_is c.args.at.file c.requires.file
+    c.index_mut-file.result.now c.index_mut-file.ensures.value c.args.at.map c.requires.map c.args.index c.requires.copy
+
+pub take_back-requires-clause-held : goal.take_back-requires-clause-held
+take_back-requires-clause-held g c =
+    let s = c.self.inside in
+    held_inside s.store s.more s.list.files c.self.view_is c.args.at.file c.requires.file c.index_mut-file.result.now c.index_mut-file.ensures.value c.self.invariant.held
+
+pub take_back-requires-clause-some : goal.take_back-requires-clause-some
+take_back-requires-clause-some g c = c.self.invariant.held.some
+
+pub take_back-requires-clause-counted : goal.take_back-requires-clause-counted
+take_back-requires-clause-counted g c = c.self.invariant.held.counted
 
 pub invariant_of-self : goal.invariant_of-self
 invariant_of-self g c =

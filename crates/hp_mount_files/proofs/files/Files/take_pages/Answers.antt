@@ -8,7 +8,13 @@ use Rattle.hp_file.proofs.Filling.{range_held, range_view}
 use Rattle.hp_lookup.proofs.Keys.{files_same}
 use Rattle.hp_lookup.proofs.Level.{same_level}
 use Rattle.hp_lookup.proofs.Views.{files_len}
+use Rattle.hp_mount_files.proofs.Here.{file_inside}
 use Rattle.hp_mount_files.proofs.files.Files.take_pages.Goals as goal
+
+pub index_mut-at-requires : goal.index_mut-at-requires
+index_mut-at-requires g c =
+    let s = c.self.inside in
+    file_inside s.store s.more s.list.files (c.self.view_is ∙ c.in-Ok.ensures.ok) c.args.file c.requires.file
 
 pub invariant_of-self-2 : goal.invariant_of-self-2
 invariant_of-self-2 g c =

@@ -6,7 +6,24 @@ use Rattle.hp_lookup.specs.Dropping.{IsLeft}
 use Rattle.hp_lookup.specs.Files.{Files, edited_at, file_at}
 use Rattle.hp_lookup.proofs.GivingBack.{cut_files, cut_keeps, cut_left}
 use Rattle.hp_lookup.proofs.Views.{view}
+use Rattle.hp_mount_files.proofs.Here.{file_inside, held_inside}
 use Rattle.hp_mount_files.proofs.files.Files.truncate.Goals as goal
+
+pub index_mut-at-requires : goal.index_mut-at-requires
+index_mut-at-requires g c =
+    let s = c.self.inside in
+    file_inside s.store s.more s.list.files c.self.view_is c.args.file c.requires.file
+
+pub truncate-requires-clause-held : goal.truncate-requires-clause-held
+truncate-requires-clause-held g c =
+    let s = c.self.inside in
+    held_inside s.store s.more s.list.files c.self.view_is c.args.file c.requires.file c.index_mut-at.result.now c.index_mut-at.ensures.value c.self.invariant.held
+
+pub truncate-requires-clause-some : goal.truncate-requires-clause-some
+truncate-requires-clause-some g c = c.self.invariant.held.some
+
+pub truncate-requires-clause-counted : goal.truncate-requires-clause-counted
+truncate-requires-clause-counted g c = c.self.invariant.held.counted
 
 pub invariant_of-self : goal.invariant_of-self
 invariant_of-self g c =

@@ -7,7 +7,34 @@ use Rattle.hp_lookup.specs.Files.{Files, edited_at, file_at}
 use Rattle.hp_lookup.specs.Places.{IsNamed}
 use Rattle.hp_mount_files.proofs.Unlinking.{gone_files, gone_keeps, gone_left, named_files, named_keeps, named_left, same_maps}
 use Rattle.hp_lookup.proofs.Views.{view}
+use Rattle.hp_mount_files.proofs.Here.{file_inside, held_inside}
 use Rattle.hp_mount_files.proofs.files.Files.unlink.Goals as goal
+
+pub index-requires : goal.index-requires
+index-requires g c =
+    let s = c.self.inside in
+    file_inside s.store s.more s.list.files c.self.view_is c.args.file c.requires.within
+
+pub index_mut-at-requires : goal.index_mut-at-requires
+index_mut-at-requires g c =
+    let s = c.self.inside in
+    file_inside s.store s.more s.list.files c.self.view_is c.args.file c.requires.within
+
+pub remove-gone-requires : goal.remove-gone-requires
+remove-gone-requires g c =
+    let s = c.self.inside in
+    file_inside s.store s.more s.list.files c.self.view_is c.args.file c.requires.within
+
+pub close-requires-clause-held : goal.close-requires-clause-held
+close-requires-clause-held g c =
+    let s = c.self.inside in
+    held_inside s.store s.more s.list.files c.self.view_is c.args.file c.requires.within c.remove-gone.result c.remove-gone.ensures.value c.self.invariant.held
+
+pub close-requires-clause-some : goal.close-requires-clause-some
+close-requires-clause-some g c = c.self.invariant.held.some
+
+pub close-requires-clause-counted : goal.close-requires-clause-counted
+close-requires-clause-counted g c = c.self.invariant.held.counted
 
 pub invariant_of-self : goal.invariant_of-self
 invariant_of-self g c =

@@ -6,7 +6,18 @@ use Rattle.hp_lookup.specs.Files.{Files, file_at, placed_at}
 use Rattle.hp_lookup.specs.Places.{map_at}
 use Rattle.hp_file.specs.States.{IsCopyState}
 use Rattle.hp_file_list.proofs.CopyWritten.{copy_alone, copy_write_keeps, copy_write_view}
+use Rattle.hp_mount_files.proofs.Here.{file_inside, map_inside}
 use Rattle.hp_mount_files.proofs.files.Files.write_copy.Goals as goal
+
+pub index-requires : goal.index-requires
+index-requires g c =
+    let s = c.self.inside in
+    file_inside s.store s.more s.list.files c.self.view_is c.args.at.file c.requires.file
+
+pub map-map-requires : goal.map-map-requires
+map-map-requires g c =
+    let s = c.self.inside in
+    map_inside s.store s.more s.list.files c.self.view_is c.args.at.file c.requires.file c.index.result.now c.index.ensures c.args.at.map c.requires.map
 
 pub write-requires-clause-alone : goal.write-requires-clause-alone
 write-requires-clause-alone g c =

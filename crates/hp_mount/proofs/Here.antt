@@ -1,0 +1,34 @@
+-- What is said of a mount as a caller sees it is so of it as the fields show it.
+use Rattle.std.proofs.Common.{◌≡◌, ℕ, ◌<◌, false, None, true, length, ap, subst, sym, ◌∙◌}
+use Rattle.hp_file_list.proofs.PutCopy.{bare_place}
+use Rattle.hp_lookup.specs.declared.copy_state.CopyState.{CopyState}
+use Rattle.hp_file.specs.States.{IsCopyState}
+use Rattle.hp_model.specs.declared.place.Place.{Place}
+use Rattle.hp_model.specs.declared.step.Intent.{Intent}
+use Rattle.hp_model.specs.files.File.{Mount, cell_at}
+use Rattle.hp_model.specs.files.Mapping.{copy_of, is_live, is_shared, place_at}
+use Rattle.hp_model.specs.files.Page.{Copy}
+use Rattle.hp_model.specs.machine.Promises.{file_in, map_in}
+use Rattle.hp_mount_laws.specs.Reach.{NeedsCopy, shows_page, spot_at}
+
+module _ {m n : Mount} (same : m ≡ n) (k : ℕ) where
+  pub file_here : k < length n.files → k < length m.files
+  file_here below = subst (λ (x : Mount). k < length x.files) (sym same) below
+
+  module _ (j : ℕ) where
+    pub map_here : j < length (file_in n k).maps → j < length (file_in m k).maps
+    map_here below = subst (λ (x : Mount). j < length (file_in x k).maps) (sym same) below
+
+    pub place_here : (i : ℕ) {p : Place Copy} → place_at (map_in (file_in n k) j) i ≡ p → place_at (map_in (file_in m k) j) i ≡ p
+    place_here i is = ap (λ (x : Mount). place_at (map_in (file_in x k) j) i) same ∙ is
+
+    pub state_here : (i : ℕ) (state : CopyState) → IsCopyState state (file_in n k) (place_at (map_in (file_in n k) j) i) → IsCopyState state (file_in m k) (place_at (map_in (file_in m k) j) i)
+    state_here i state is = subst (λ (x : Mount). IsCopyState state (file_in x k) (place_at (map_in (file_in x k) j) i)) (sym same) is
+
+-- an access that finds neither a copy nor a page that it may use asks for a copy
+pub needs_copy : (m : Mount) (k j i : ℕ) (intent : Intent) → is_shared (map_in (file_in m k) j).sharing ≡ false → is_live (place_at (map_in (file_in m k) j) i) ≡ true
+    → copy_of (place_at (map_in (file_in m k) j) i) ≡ None → (map_in (file_in m k) j).unmapped ≡ false → shows_page intent (cell_at (file_in m k) i) ≡ false
+    → NeedsCopy intent i (spot_at m k j)
+needs_copy m k j i intent private live bare kept asks =
+    let here = bare_place (place_at (map_in (file_in m k) j) i) live bare in
+    record { consumed = here.0; private = private; place = here.1; kept = kept; asks = asks }
