@@ -26,7 +26,7 @@ use Rattle.hp_lookup.proofs.Keys.{set_read}
 use Rattle.hp_lookup.proofs.Lifting.{at_most, is_it}
 use Rattle.std.specs.List.{count_by}
 use Rattle.hp_model.proofs.Counting.{count_alike, count_map}
-use Rattle.hp_lookup.proofs.Cells.{no_file, file_is, cell_is, with_number, fill_shows, fill_held, inserted_agrees, inserted_is, inserted_more, free_is_fresh, write_shows, write_held}
+use Rattle.hp_lookup.proofs.Cells.{no_file, file_is, cell_is, with_number, fill_shows, fill_held, inserted_agrees, inserted_is, inserted_more, free_is_fresh, write_shows}
 
 abbrev pub view : Store → ℕ → List NumberedFile → Files
 view s more fs = record { files = files_shown s fs; going = s.going; room = s.room - more }
@@ -139,9 +139,6 @@ module _ (s : Store) (more : ℕ) (fs : List NumberedFile) (h : IsHeld s more fs
       write_view =
           ap (λ u. view u more fs) t_is
           ∙ ap (λ xs. record { files = xs; going = s.going; room = s.room - more }) (write_shows n s offset bytes some is below fs k i within inside here once)
-
-      pub write_keeps : IsHeld t more fs
-      write_keeps = subst (λ u. IsHeld u more fs) (sym t_is) (write_held n s offset bytes some is below more fs h)
 
 -- ---- what a file shows
 
