@@ -175,7 +175,7 @@ impl<N: Naming, T: Trail<SlotEntry>> Slot<N, T> {
         requires apart { lists_names (asked_event work) ≡ false }
         requires another { IsAnother work }
         requires has { has_maps_for work self.old.mount ≡ true }
-        requires copies { is_some self.old.entries ≡ true → AreCopiesFor work copies }
+        requires copies { T.keeps ≡ true → AreCopiesFor work copies }
         ensures done { IsSlotEvent (D.is_full door.new) N.page_bytes self.old self.new
             (asked_event work.entry)
             (told_reply result.0) (D.asked door.new) result.1 }
@@ -265,7 +265,7 @@ fn note<T: Trail<SlotEntry>>(
     told: &Result<Told<'_>, Refusal>,
 ) -> Option<Receipt>
     requires room { has_room true (T.left trail.old) (T.extra trail.old) ≡ true }
-    requires copies { is_some (T.entries trail.old) ≡ true → AreCopiesFor work.now copies }
+    requires copies { T.keeps ≡ true → AreCopiesFor work.now copies }
     requires small { IsWithinLimits (told_reply told.now) }
     requires plain { reply_has_names (told_reply told.now) ≡ false }
     ensures entries { T.entries trail.new ≡ with_entry (T.entries trail.old)
