@@ -1,5 +1,5 @@
 -- What the parts of the machine hand back.
-use Rattle.std.proofs.Common.{◌≡◌, ◌⊎◌, inl, inr, ℕ, Bool, true, false, cond, List, [], ◌∷◌, Option, None, Some, Ok, Err, refl, sym, ap, subst, ◌∙◌, if◌then◌else◌, length, nat_le}
+use Rattle.std.proofs.Common.{◌≡◌, ◌⊎◌, inl, inr, ℕ, Bool, true, false, List, [], ◌∷◌, Option, None, Some, Ok, Err, refl, sym, ap, subst, ◌∙◌, if◌then◌else◌, length, nat_le}
 use Rattle.std.specs.Bool.{MatchBool}
 use Rattle.std.specs.Prelude.{IfOk, Result, is_some}
 use Rattle.hp_model.specs.declared.answer.Answer.{Answer}
@@ -7,7 +7,6 @@ use Rattle.hp_model.specs.declared.answer.Answer.TheVariants.{Done, Home}
 use Rattle.hp_model.specs.declared.entry.Asked.{Asked}
 use Rattle.hp_model.specs.declared.entry.Part.{Part}
 use Rattle.hp_model.specs.declared.entry.Receipt.{Receipt}
-use Rattle.hp_model.specs.declared.entry.SlotEntry.{SlotEntry}
 use Rattle.hp_model.specs.declared.event.Event.{Event}
 use Rattle.hp_model.specs.declared.event.Event.TheVariants.{Pool as OnPool, Slot as OnSlot}
 use Rattle.hp_model.specs.declared.event.PoolEvent.{PoolEvent}
@@ -45,7 +44,7 @@ use Rattle.hp_events.specs.declared.event.MountEvent.TheVariants as m
 use Rattle.hp_events.specs.Event.{event_of}
 use Rattle.hp_mount_laws.proofs.Ways.{fresh_choice, is_fresh}
 use Rattle.hp_shared.specs.Slots.{IsSlotEvent, IsSlotEventDone, SlotView, Went, is_trace_full}
-use Rattle.hp_shared.specs.SlotWork.{IsAnother, asked_event, is_exit, is_of_maps}
+use Rattle.hp_shared.specs.SlotWork.{asked_event, is_exit}
 use Rattle.hp_shared.specs.declared.slot_work.SlotWork.{SlotWork}
 use Rattle.hp_shared.specs.declared.slot_work.SlotWork.TheVariants as w
 use Rattle.hp_shared.proofs.Acting.{always_came, none_acted}
@@ -156,15 +155,6 @@ slot_handed kept full size k old new e reply asked receipt at place event keeps 
       subst (λ n. IsToldOf kept (OnSlot n e) reply receipt) at (told_by kept old.entries _ (OnSlot old.number e) reply receipt h.told is),
     )
 
--- what is no fork makes no task its own child
-pub not_forked : (work : SlotWork) → is_of_maps work ≡ false → IsAnother work
-not_forked (w.Mount options) other = tt
-not_forked (w.Remount options) other = tt
-not_forked w.Umount other = tt
-not_forked (w.Fork parent child) other = cc
-not_forked (w.Exit task) other = tt
-not_forked (w.OfMount home e) other = tt
-
 -- what is asked of a slot: an exit, which alone has its place, is done
 pub work_handed : (kept : Bool) (full : Type 0) (size k : ℕ) (old new : SlotView) (work : SlotWork) (reply : Reply) (asked : Option Asked) (receipt : Option Receipt) → old.number ≡ k →
     IsSlotEvent full size old new (asked_event work) reply asked receipt → (is_trace_full reply ≡ true → kept ≡ true) → (is_trace_full reply ≡ false → is_some receipt ≡ kept) →
@@ -212,6 +202,16 @@ mounting_absent kept size k options r is =
     subst (λ x. IsHanded kept size (OnSlot k (slot.Mount options)) (Err x) None) (sym is)
     (absent_handed kept size k (slot.Mount options) SlotTaken refl refl
     (Some open_mount, None, Some open_mount, (fresh_choice false (Some open_mount), is_fresh false (Some open_mount), (refl, refl))))
+
+-- what is neither a mount nor goes by a task's maps
+pub rest_absent : (kept : Bool) (size k : ℕ) (work : SlotWork) (r : Refusal) →
+    ((options : _) × (work ≡ w.Remount options)) ⊎ ((work ≡ w.Umount) ⊎ ((home : _) × (e : _) × (work ≡ w.OfMount home e))) →
+    r ≡ (if kept then TraceFull else NoSuchSlot) → IsHanded kept size (OnSlot k (asked_event work)) (Err r) None
+rest_absent kept size k work r (inl (options, same)) is =
+    subst (λ (x : SlotWork). IsHanded kept size (OnSlot k (asked_event x)) (Err r) None) (sym same) (remounting_absent kept size k options.now r is)
+rest_absent kept size k work r (inr (inl same)) is = subst (λ (x : SlotWork). IsHanded kept size (OnSlot k (asked_event x)) (Err r) None) (sym same) (umount_absent kept size k r is)
+rest_absent kept size k work r (inr (inr (home, e, same))) is =
+    subst (λ (x : SlotWork). IsHanded kept size (OnSlot k (asked_event x)) (Err r) None) (sym same) (mount_absent kept size k home e r is)
 
 -- ---- what a load and a store are answered
 

@@ -3,6 +3,9 @@ use Rattle.hp_model.specs.beside.Told.{told_reply}
 use Rattle.hp_sessions.proofs.Parts.{either_kept, work_handed}
 use Rattle.hp_sessions.proofs.session.Session.enter.Goals as goal
 
+pub work-requires-clause-copies : goal.work-requires-clause-copies
+work-requires-clause-copies g c = c.requires.copies
+
 pub returns-clause-handed : goal.returns-clause-handed
 returns-clause-handed g c =
     work_handed (g.row.K == 1) ((c.work.new.door.asked ≡ _) × ((g.row.K == 1) ≡ true)) g.N.Naming.page_bytes c.args.at c.deref_mut-slot.result.now c.work.new.self

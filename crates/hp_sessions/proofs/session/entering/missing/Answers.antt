@@ -3,7 +3,7 @@ use Rattle.hp_model.specs.declared.event.Event.TheVariants.{Slot as OnSlot}
 use Rattle.hp_shared.specs.SlotWork.{asked_event}
 use Rattle.hp_shared.specs.declared.slot_work.SlotWork.{SlotWork}
 use Rattle.hp_sessions.specs.Calls.{IsHanded}
-use Rattle.hp_sessions.proofs.Parts.{mount_absent, mounting_absent, remounting_absent, umount_absent}
+use Rattle.hp_sessions.proofs.Parts.{mounting_absent, rest_absent}
 use Rattle.hp_sessions.proofs.session.entering.missing.Goals as goal
 
 pub returns-in-Mount-clause-handed : goal.returns-in-Mount-clause-handed
@@ -12,6 +12,4 @@ returns-in-Mount-clause-handed g c = λ size at.
     (mounting_absent (g.row.K == 1) size at c.in-Mount.options.now c.absent.result c.absent.ensures)
 
 pub returns-in-Remount-clause-handed : goal.returns-in-Remount-clause-handed
-returns-in-Remount-clause-handed g c = λ size at.
-    subst (λ (w : SlotWork). IsHanded (g.row.K == 1) size (OnSlot at (asked_event w)) (Err c.absent-in-Remount.result) None) (sym c.in-Remount.is)
-    (remounting_absent (g.row.K == 1) size at c.in-Remount.options.now c.absent-in-Remount.result c.absent-in-Remount.ensures)
+returns-in-Remount-clause-handed g c = λ size at. rest_absent (g.row.K == 1) size at c.args.work.now c.absent-in-Remount.result c.in-Remount.is c.absent-in-Remount.ensures
