@@ -1,19 +1,29 @@
 -- What is said of a mount as a caller sees it is so of it as the fields show it.
-use Rattle.std.proofs.Common.{◌≡◌, ℕ, ◌<◌, false, None, true, length, ap, subst, sym, ◌∙◌}
+use Rattle.std.proofs.Common.{◌≡◌, ℕ, ◌<◌, false, None, true, length, ap, subst, sym, ◌∙◌, arith}
+use Rattle.std.proofs.lemmas.List.{get_or-set_same, length-set}
 use Rattle.hp_file_list.proofs.PutCopy.{bare_place}
+use Rattle.hp_lookup.specs.Files.{Files, file_at, with_cell_at}
 use Rattle.hp_lookup.specs.declared.copy_state.CopyState.{CopyState}
 use Rattle.hp_file.specs.States.{IsCopyState}
+use Rattle.hp_model.specs.declared.cell.Cell.{Cell}
+use Rattle.hp_model.specs.declared.cell.Cell.TheVariants.{Entered, Hole}
 use Rattle.hp_model.specs.declared.place.Place.{Place}
 use Rattle.hp_model.specs.declared.step.Intent.{Intent}
-use Rattle.hp_model.specs.files.File.{Mount, cell_at}
+use Rattle.hp_model.specs.files.File.{File, Mount, cell_at, new_file, with_cell}
 use Rattle.hp_model.specs.files.Mapping.{copy_of, is_live, is_shared, place_at}
-use Rattle.hp_model.specs.files.Page.{Copy}
+use Rattle.hp_model.specs.files.Page.{Copy, Page}
 use Rattle.hp_model.specs.machine.Promises.{file_in, map_in}
 use Rattle.hp_mount_laws.specs.Reach.{NeedsCopy, shows_page, spot_at}
 
 module _ {m n : Mount} (same : m ≡ n) (k : ℕ) where
   pub file_here : k < length n.files → k < length m.files
   file_here below = subst (λ (x : Mount). k < length x.files) (sym same) below
+
+  pub below_here : (i : ℕ) → i < length (file_in n k).cells → i < length (file_in m k).cells
+  below_here i below = subst (λ (x : Mount). i < length (file_in x k).cells) (sym same) below
+
+  pub cell_here : (i : ℕ) {c : Cell Page} → cell_at (file_in n k) i ≡ c → cell_at (file_in m k) i ≡ c
+  cell_here i is = ap (λ (x : Mount). cell_at (file_in x k) i) same ∙ is
 
   module _ (j : ℕ) where
     pub map_here : j < length (file_in n k).maps → j < length (file_in m k).maps
@@ -32,3 +42,21 @@ pub needs_copy : (m : Mount) (k j i : ℕ) (intent : Intent) → is_shared (map_
 needs_copy m k j i intent private live bare kept asks =
     let here = bare_place (place_at (map_in (file_in m k) j) i) live bare in
     record { consumed = here.0; private = private; place = here.1; kept = kept; asks = asks }
+
+-- an index that was entered, with other room, has its entry
+module _ {v w : Files} {room : ℕ} (k i : ℕ) (there : k < length v.files) (below : i < length (file_at v.files k).cells)
+    (is : w ≡ with_cell_at k i Entered (record v { room = room })) where
+  abbrev now : File
+  now = with_cell (file_at v.files k) i Entered
+
+  file_is : file_at w.files k ≡ now
+  file_is = ap (λ (x : Files). file_at x.files k) is ∙ get_or-set_same v.files k now (new_file None) there
+
+  pub entered_file : k < length w.files
+  entered_file = subst (λ (x : Files). k < length x.files) (sym is) (let long = length-set v.files k now in omega (arith, there, long))
+
+  pub entered_below : i < length (file_at w.files k).cells
+  entered_below = subst (λ (f : File). i < length f.cells) (sym file_is) (let long = length-set (file_at v.files k).cells i Entered in omega (arith, below, long))
+
+  pub entered_cell : cell_at (file_at w.files k) i ≡ Entered
+  entered_cell = ap (λ (f : File). cell_at f i) file_is ∙ get_or-set_same (file_at v.files k).cells i Entered Hole below

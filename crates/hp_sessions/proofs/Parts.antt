@@ -44,10 +44,11 @@ use Rattle.hp_events.specs.declared.event.MountEvent.TheVariants as m
 use Rattle.hp_events.specs.Event.{event_of}
 use Rattle.hp_mount_laws.proofs.Ways.{fresh_choice, is_fresh}
 use Rattle.hp_shared.specs.Slots.{IsSlotEvent, IsSlotEventDone, SlotView, Went, is_trace_full}
-use Rattle.hp_shared.specs.SlotWork.{asked_event, is_exit}
+use Rattle.hp_shared.specs.SlotWork.{asked_event, full_for, is_exit}
 use Rattle.hp_shared.specs.declared.slot_work.SlotWork.{SlotWork}
 use Rattle.hp_shared.specs.declared.slot_work.SlotWork.TheVariants as w
 use Rattle.hp_shared.proofs.Acting.{always_came, none_acted}
+use Rattle.hp_shared.proofs.SlotsKept.{mount_has_place}
 use Rattle.hp_sessions.specs.Calls.{CanAnswer, IsHanded, IsToldOf}
 use Rattle.hp_sessions.specs.Works.{HasAnswerOf, IsBytes}
 
@@ -121,23 +122,6 @@ pub pool_can : (size : ℕ) (old new : CoreView) (e : PoolEvent) (reply : Reply)
 pool_can size old new e reply done = (old.pool, new.pool, done.changes)
 
 -- ---- a slot
-
-pub mount_has_place : (k home : ℕ) (e : MountEvent) → has_place (OnSlot k (event_of home e)) ≡ false
-mount_has_place k home (m.Create name) = refl
-mount_has_place k home (m.Unlink name) = refl
-mount_has_place k home (m.Truncate name pages) = refl
-mount_has_place k home (m.Punch name start end) = refl
-mount_has_place k home (m.Preallocate name start end) = refl
-mount_has_place k home (m.Stat name) = refl
-mount_has_place k home (m.Read name index offset count) = refl
-mount_has_place k home (m.Map task name start pages sharing reserving) = refl
-mount_has_place k home (m.Anon task pages sharing reserving) = refl
-mount_has_place k home (m.Unmap task map start end) = refl
-mount_has_place k home (m.Fault task map index intent) = refl
-mount_has_place k home (m.Load task map index offset count) = refl
-mount_has_place k home (m.Store task map index offset bytes) = refl
-mount_has_place k home m.Ls = refl
-mount_has_place k home m.Usage = refl
 
 -- an event of a slot, by what its lock's holder was told
 pub slot_handed : (kept : Bool) (full : Type 0) (size k : ℕ) (old new : SlotView) (e : SlotEvent) (reply : Reply) (asked : Option Asked) (receipt : Option Receipt) → old.number ≡ k →
@@ -281,9 +265,14 @@ handed_fits kept size k e a receipt handed = fits size k e a handed.0
 
 -- ---- a door without room
 
-pub either_kept : {P : Type 0} (b : Bool) → (b ≡ true) ⊎ (P × (b ≡ true)) → b ≡ true
-either_kept b (inl h) = h
-either_kept b (inr h) = h.1
+pub either_kept : {P : Type 0} (b : Bool) (work : SlotWork) → (b ≡ true) ⊎ full_for (P × (b ≡ true)) work → b ≡ true
+either_kept b work (inl h) = h
+either_kept b (w.Mount options) (inr h) = h.1
+either_kept b (w.Remount options) (inr h) = h.1
+either_kept b w.Umount (inr h) = absurd h
+either_kept b (w.Fork parent child) (inr h) = absurd h
+either_kept b (w.Exit task) (inr h) = absurd h
+either_kept b (w.OfMount home e) (inr h) = h.1
 
 pub fits_result : (kept : Bool) (size k : ℕ) (e : SlotEvent) (r : Result Told Refusal) (receipt : Option Receipt) → IsHanded kept size (OnSlot k e) (told_reply r) receipt →
     IfOk r (λ t. HasAnswerOf e (told_answer t))

@@ -6,12 +6,14 @@ use Rattle.hp_model.specs.declared.step.Step.{Step}
 use Rattle.hp_model.specs.declared.step.Step.TheVariants.{Fault}
 use Rattle.hp_events.specs.declared.event.MountEvent.TheVariants as m
 use Rattle.hp_model.specs.machine.Plan.{Reply}
-use Rattle.hp_model.specs.machine.Step.{only, script}
+use Rattle.hp_model.specs.machine.Step.{on_slot, only, script}
 use Rattle.hp_events.specs.declared.work.Work.{Work}
 use Rattle.hp_events.specs.declared.work.Work.TheVariants.{OfTask}
 use Rattle.hp_sessions.specs.Calls.{Carries, HasReceiptRoom, IsCallAnswered, IsMade, IsRefusedFirst, SessionView}
-use Rattle.hp_events.specs.Works.{IsWork, work_receipts, work_script}
-use Rattle.hp_sessions.specs.Works.{IsRefusedWork, IsWorked}
+use Rattle.hp_events.specs.Works.{IsWork, work_carries, work_receipts, work_script}
+use Rattle.hp_shared.specs.SlotWork.{asked_event, carries}
+use Rattle.hp_shared.specs.declared.slot_work.SlotWork.{SlotWork}
+use Rattle.hp_sessions.specs.Works.{IsAsked, IsRefusedWork, IsWorked}
 use Rattle.hp_sessions.proofs.Carrying.{answered, only_made, refused_first}
 
 -- what was done of the work is what was done of the step
@@ -32,6 +34,12 @@ step_answered kept size s t step w reply is (inr refused) =
 pub worked : (kept : Bool) (size : ℕ) (s t : SessionView) (w : Work) (reply : Reply) → HasReceiptRoom kept (work_receipts s.slots w) s → Carries kept size s (work_script s.slots w) reply t →
     IsWorked kept size s w reply t
 worked kept size s t w reply room c = inl (room, c)
+
+-- what is asked of a slot, by the work that asks it
+pub asked_worked : (kept : Bool) (size : ℕ) (s t : SessionView) (k : ℕ) (asked : SlotWork) (w : Work) (reply : Reply) → work_script s.slots w ≡ on_slot s.slots k (asked_event asked) →
+    work_carries w ≡ carries asked → HasReceiptRoom kept (work_receipts s.slots w) s → IsAsked kept size s k asked reply t → IsWorked kept size s w reply t
+asked_worked kept size s t k asked w reply script same room (inl done) = inl (room, subst (λ c. Carries kept size s c reply t) (sym script) done)
+asked_worked kept size s t k asked w reply script same room (inr refused) = inr (refused.0, refused.1, inr (refused.2, same ∙ refused.3))
 
 -- ---- a fault, and an event alone where no entries are kept
 

@@ -8,6 +8,9 @@ use Rattle.hp_model.specs.declared.refusal.Refusal.TheVariants.{OutOfMemory, Tra
 use Rattle.hp_model.specs.machine.Plan.{Reply}
 use Rattle.hp_events.specs.declared.work.Work.{Work}
 use Rattle.hp_events.specs.Works.{work_carries, work_receipts, work_script}
+use Rattle.hp_model.specs.machine.Step.{on_slot}
+use Rattle.hp_shared.specs.SlotWork.{asked_event, carries}
+use Rattle.hp_shared.specs.declared.slot_work.SlotWork.{SlotWork}
 use Rattle.hp_sessions.specs.Calls.{Carries, SessionView}
 
 -- there is no room for the receipts, or no memory for a copy of what it carries
@@ -21,6 +24,11 @@ abbrev pub IsWorked : (kept : Bool) (size : ℕ) → SessionView → Work → Re
 IsWorked kept size s w reply t =
     (((kept ≡ true → length s.receipts + work_receipts s.slots w ≤ s.room) × Carries kept size s (work_script s.slots w) reply t)
     ⊎ ((kept ≡ true) × (t ≡ s) × IsRefusedWork s w reply))
+
+-- the same of what is asked of a slot, once there is room for its receipt
+abbrev pub IsAsked : (kept : Bool) (size : ℕ) → SessionView → (slot : ℕ) → SlotWork → Reply → SessionView → Type 0
+IsAsked kept size s slot work reply t =
+    Carries kept size s (on_slot s.slots slot (asked_event work)) reply t ⊎ ((kept ≡ true) × (t ≡ s) × (reply ≡ Err OutOfMemory) × (carries work ≡ true))
 
 -- ---- answers
 

@@ -4,12 +4,14 @@ use Rattle.std.specs.Prelude.{is_some, IsTrue}
 use Rattle.hp_model.specs.declared.entry.Asked.{Asked}
 use Rattle.hp_model.specs.declared.entry.SlotEntry.{SlotEntry}
 use Rattle.hp_model.specs.declared.event.SlotEvent.{SlotEvent}
+use Rattle.hp_model.specs.declared.event.SlotEvent.TheVariants.{ExitMaps}
 use Rattle.hp_model.specs.machine.Event.{is_slot_event}
 use Rattle.hp_model.specs.machine.Plan.{Reply, Slot}
 use Rattle.hp_model.specs.machine.SlotEvent.{slot_event}
 use Rattle.hp_model.specs.Profile.{most_tasks}
 use Rattle.hp_model.specs.threads.Closing.{KeepsPlaces, removes_maps, to_exit}
 use Rattle.hp_model.specs.threads.LocalRun.{IsLocalRun, IsLocalStep}
+use Rattle.hp_model.specs.threads.Telling.{has_place}
 use Rattle.hp_laws.proofs.settled.Closing.{slot_places}
 use Rattle.hp_locked.specs.Views.{HasPlaces, IsFresh as IsFreshTrail}
 use Rattle.hp_trail.specs.Keeping.{has_room, one_less, with_entry}
@@ -120,22 +122,34 @@ done_put : (b : Bool) (A B : Type 0) → b ≡ false → B → MatchBool b A B
 done_put true A B e t = cc
 done_put false A B e t = t
 
+-- an event of a mount has no place of its own in a trail
+pub mount_has_place : (k home : ℕ) (e : MountEvent) → has_place (OnSlot k (event_of home e)) ≡ false
+mount_has_place k home (m.Create name) = refl
+mount_has_place k home (m.Unlink name) = refl
+mount_has_place k home (m.Truncate name pages) = refl
+mount_has_place k home (m.Punch name start end) = refl
+mount_has_place k home (m.Preallocate name start end) = refl
+mount_has_place k home (m.Stat name) = refl
+mount_has_place k home (m.Read name index offset count) = refl
+mount_has_place k home (m.Map task name start pages sharing reserving) = refl
+mount_has_place k home (m.Anon task pages sharing reserving) = refl
+mount_has_place k home (m.Unmap task map start end) = refl
+mount_has_place k home (m.Fault task map index intent) = refl
+mount_has_place k home (m.Load task map index offset count) = refl
+mount_has_place k home (m.Store task map index offset bytes) = refl
+mount_has_place k home m.Ls = refl
+mount_has_place k home m.Usage = refl
+
+may_happen : (s : Slot) (e : SlotEvent) → has_place (OnSlot 0 e) ≡ false → IsTrue (is_slot_event s e)
+may_happen s (ExitMaps task) other = cc
+may_happen s e other = refl
+
+removes_none : (s : Slot) (e : SlotEvent) → has_place (OnSlot 0 e) ≡ false → removes_maps s e ≡ false
+removes_none s (ExitMaps task) other = cc
+removes_none s e other = refl
+
 pub mount_event : (s : Slot) (home : ℕ) (e : MountEvent) → IsTrue (is_slot_event s (event_of home e))
-mount_event s home (m.Create name) = refl
-mount_event s home (m.Unlink name) = refl
-mount_event s home (m.Truncate name pages) = refl
-mount_event s home (m.Punch name start end) = refl
-mount_event s home (m.Preallocate name start end) = refl
-mount_event s home (m.Stat name) = refl
-mount_event s home (m.Read name index offset count) = refl
-mount_event s home (m.Map task name start pages sharing reserving) = refl
-mount_event s home (m.Anon task pages sharing reserving) = refl
-mount_event s home (m.Unmap task map start end) = refl
-mount_event s home (m.Fault task map index intent) = refl
-mount_event s home (m.Load task map index offset count) = refl
-mount_event s home (m.Store task map index offset bytes) = refl
-mount_event s home m.Ls = refl
-mount_event s home m.Usage = refl
+mount_event s home e = may_happen s (event_of home e) (mount_has_place 0 home e)
 
 -- what is asked where the maps are that it goes by
 pub work_event : (s : Slot) (work : SlotWork) → has_maps_for work s ≡ true → IsTrue (is_slot_event s (asked_event work))
@@ -146,23 +160,6 @@ work_event s (w.Fork parent child) has = refl
 work_event s (w.Exit task) has = has
 work_event s (w.OfMount home e) has = mount_event s home e
 
-not_removing : (s : Slot) (home : ℕ) (e : MountEvent) → removes_maps s (event_of home e) ≡ false
-not_removing s home (m.Create name) = refl
-not_removing s home (m.Unlink name) = refl
-not_removing s home (m.Truncate name pages) = refl
-not_removing s home (m.Punch name start end) = refl
-not_removing s home (m.Preallocate name start end) = refl
-not_removing s home (m.Stat name) = refl
-not_removing s home (m.Read name index offset count) = refl
-not_removing s home (m.Map task name start pages sharing reserving) = refl
-not_removing s home (m.Anon task pages sharing reserving) = refl
-not_removing s home (m.Unmap task map start end) = refl
-not_removing s home (m.Fault task map index intent) = refl
-not_removing s home (m.Load task map index offset count) = refl
-not_removing s home (m.Store task map index offset bytes) = refl
-not_removing s home m.Ls = refl
-not_removing s home m.Usage = refl
-
 -- an exit alone removes a task's maps
 pub work_removes : (s : Slot) (work : SlotWork) → has_maps_for work s ≡ true → removes_maps s (asked_event work) ≡ is_exit work
 work_removes s (w.Mount options) has = refl
@@ -170,7 +167,7 @@ work_removes s (w.Remount options) has = refl
 work_removes s w.Umount has = refl
 work_removes s (w.Fork parent child) has = refl
 work_removes s (w.Exit task) has = has
-work_removes s (w.OfMount home e) has = not_removing s home e
+work_removes s (w.OfMount home e) has = removes_none s (event_of home e) (mount_has_place 0 home e)
 
 module _ (full : Type 0) (size k : ℕ) (entries : Option (List SlotEntry)) (left : Option ℕ) (extra : ℕ) (old : Slot) (e : SlotEvent) (reply : Reply)
     (asked : Option Asked) (new : Slot) (acted : IsActedOr full size k old e reply asked new) where

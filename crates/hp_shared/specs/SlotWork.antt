@@ -1,5 +1,6 @@
 -- What is asked of a slot under its lock, as an event of the definitions.
 use Rattle.std.specs.Prelude.{◌≡◌, ◌==◌, ℕ, Bool, true, false, Option, List}
+use Rattle.hp_model.specs.beside.Copying.{has_bytes}
 use Rattle.hp_model.specs.declared.event.SlotEvent.{SlotEvent}
 use Rattle.hp_model.specs.declared.event.SlotEvent.TheVariants as slot
 use Rattle.hp_model.specs.machine.Event.{has_maps_of}
@@ -34,6 +35,13 @@ is_of_maps (Fork parent child) = true
 is_of_maps (Exit task) = true
 is_of_maps other = false
 
+-- the door had no room for its section: never where it gives back alone, which always has its place
+abbrev pub full_for : Type 0 → SlotWork → Type 0
+full_for full Umount = ⊥
+full_for full (Fork parent child) = ⊥
+full_for full (Exit task) = ⊥
+full_for full other = full
+
 -- the slot has the maps that it goes by
 abbrev pub has_maps_for : SlotWork → Slot → Bool
 has_maps_for (Fork parent child) s = has_maps_of parent s
@@ -44,6 +52,13 @@ has_maps_for other s = true
 abbrev pub IsAnother : SlotWork → Type 0
 IsAnother (Fork parent child) = (parent == child) ≡ false
 IsAnother other = Unit {0}
+
+-- it has options, a name or bytes
+abbrev pub carries : SlotWork → Bool
+carries (Mount options) = true
+carries (Remount options) = true
+carries (OfMount home e) = has_bytes (event_of 0 e)
+carries other = false
 
 -- two copies of the options, the name or the bytes that it carries
 abbrev pub AreCopiesFor : SlotWork → Option (List ℕ × List ℕ) → Type 0

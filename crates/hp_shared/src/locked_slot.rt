@@ -17,7 +17,7 @@ ghost use Rattle.hp_store.specs.Batch.{Batch as BatchValue};
 ghost use Rattle.hp_store.specs.Store.{Store as StoreValue, page_at};
 ghost use Rattle.hp_subpool.specs.Subpool.{Subpool as ShareValue};
 ghost use Rattle.hp_shared.specs.Slots.{IsSlotEvent, IsSlotTrail, is_trace_full, slot_start};
-ghost use Rattle.hp_shared.specs.SlotWork.{AreCopiesFor, IsAnother, asked_event, has_maps_for, is_exit, needs_room};
+ghost use Rattle.hp_shared.specs.SlotWork.{AreCopiesFor, IsAnother, asked_event, full_for, has_maps_for, is_exit, needs_room};
 ghost use Rattle.hp_trail.specs.Keeping.{has_room, one_less, with_entry};
 
 mod listing;
@@ -144,7 +144,8 @@ impl<N: Naming, T: Trail<SlotEntry>> Slot<N, T> {
 
     /// Does what is asked: its reply, with bytes in the front of the room, and its receipt where entries are kept. For these
     /// there are copies of what it carries. Answered TraceFull, and then nothing changed, where the trail has no room, or where
-    /// the event enters a section of the pool and the door has none; but an exit, which always has its place, is done.
+    /// the event enters a section of the pool that is more than a giving back, and the door has none; but an exit, which always
+    /// has its place, is done.
     pub fn work<
         'a,
         D: SessionDoor<
@@ -176,12 +177,12 @@ impl<N: Naming, T: Trail<SlotEntry>> Slot<N, T> {
         requires another { IsAnother work }
         requires has { has_maps_for work self.old.mount ≡ true }
         requires copies { T.keeps ≡ true → AreCopiesFor work copies }
-        ensures done { IsSlotEvent (D.is_full door.new) N.page_bytes self.old self.new
-            (asked_event work.entry)
+        ensures done { IsSlotEvent (full_for (D.is_full door.new) work.entry) N.page_bytes
+            self.old self.new (asked_event work.entry)
             (told_reply result.0) (D.asked door.new) result.1 }
         ensures number { self.new.number ≡ self.old.number }
         ensures keeps { is_trace_full (told_reply result.0) ≡ true
-            → (T.keeps ≡ true) ⊎ D.is_full door.new }
+            → (T.keeps ≡ true) ⊎ full_for (D.is_full door.new) work.entry }
         ensures given { is_trace_full (told_reply result.0) ≡ false
             → is_some result.1 ≡ T.keeps }
         ensures limits { IsWithinLimits (told_reply result.0) }

@@ -15,7 +15,7 @@ ghost use Rattle.hp_model.specs.declared.event.SlotEvent.TheVariants.{ExitMaps, 
 ghost use Rattle.hp_model.specs.machine.Event.{has_maps_of};
 ghost use Rattle.hp_model.specs.Profile.{most_bytes};
 ghost use Rattle.hp_shared.specs.Slots.{IsActedOr, Went, is_trace_full};
-ghost use Rattle.hp_shared.specs.SlotWork.{IsAnother, asked_event, has_maps_for, is_exit, needs_room};
+ghost use Rattle.hp_shared.specs.SlotWork.{IsAnother, asked_event, full_for, has_maps_for, is_exit, needs_room};
 
 use crate::mounting::{mount as open, unmount};
 use crate::remounting::remount;
@@ -61,8 +61,8 @@ pub(crate) fn ask<
     requires apart { lists_names (asked_event work) ≡ false }
     requires another { IsAnother work }
     requires has { has_maps_for work mount.old ≡ true }
-    ensures done { IsActedOr (D.is_full door.new) N.page_bytes number mount.old
-        (asked_event work.entry)
+    ensures done { IsActedOr (full_for (D.is_full door.new) work.entry) N.page_bytes number
+        mount.old (asked_event work.entry)
         (told_reply result) (D.asked door.new) mount.new }
     ensures limits { IsWithinLimits (told_reply result) }
     ensures plain { reply_has_names (told_reply result) ≡ false }

@@ -1,11 +1,12 @@
 //! What is asked of a slot.
-ghost use Rattle.std.specs.Prelude.{◌≡◌};
+ghost use Rattle.std.specs.Prelude.{◌≡◌, true, IfOk, OnErr};
 ghost use Rattle.hp_events.specs.Copies.{AreEvents};
-ghost use Rattle.hp_shared.specs.SlotWork.{AreCopiesFor, asked_event, is_exit};
+ghost use Rattle.hp_shared.specs.SlotWork.{AreCopiesFor, asked_event, carries, is_exit};
 
 use hp_events::MountEvent;
-use hp_events::copies::{Copies, events, mountings, remountings};
+use hp_events::copies::{Copies, copies, events, mountings, remountings, twice};
 use hp_model::event::SlotEvent;
+use std::alloc::{AllocError, Global};
 
 /// What is asked of a slot under its lock, but for the list of its names. Options, names and bytes are the caller's.
 #[derive(Clone, Copy, Drop)]
@@ -25,11 +26,26 @@ pub enum SlotWork<'x> {
 }
 
 impl<'x> SlotWork<'x> {
-    /// Whether a task's maps go.
-    pub fn is_exit(&self) -> bool
+    // Whether a task's maps go.
+    pub(crate) fn is_exit(&self) -> bool
         ensures { result ≡ is_exit self.now }
     {
         matches!(self, SlotWork::Exit { .. })
+    }
+
+    /// Two copies of the options, the name or the bytes that it carries, for an entry and a receipt. Only where it carries any
+    /// is memory asked for.
+    pub fn copies(&self, alloc: Global) -> Result<Option<Copies>, AllocError>
+        ensures copies { IfOk result (λ c. AreCopiesFor self.now c) }
+        ensures memory { OnErr result (carries self.now ≡ true) }
+    {
+        match *self {
+            SlotWork::Mount { options } | SlotWork::Remount { options } => {
+                Ok(Some(twice(alloc, options)?))
+            }
+            SlotWork::OfMount { event, .. } => Ok(Some(copies(alloc, &event)?)),
+            SlotWork::Umount | SlotWork::Fork { .. } | SlotWork::Exit { .. } => Ok(None),
+        }
     }
 }
 

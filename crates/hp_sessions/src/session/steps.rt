@@ -4,20 +4,19 @@ ghost use Rattle.std.specs.Bool.{MatchBool};
 ghost use Rattle.hp_laws.specs.Answers.{lists_names};
 ghost use Rattle.hp_model.specs.declared.answer.Answer.TheVariants.{Done};
 ghost use Rattle.hp_model.specs.beside.Accesses.{bytes_reply, done_reply, load_step, store_step};
-ghost use Rattle.hp_model.specs.beside.Copying.{has_bytes};
 ghost use Rattle.hp_model.specs.beside.Told.{told_answer, told_reply};
 ghost use Rattle.hp_model.specs.text.Writing.{IsWithinLimits};
 ghost use Rattle.hp_model.specs.Profile.{most_bytes};
 ghost use Rattle.hp_events.specs.Event.{event_of, shows_bytes};
+ghost use Rattle.hp_shared.specs.SlotWork.{AreCopiesFor, asked_event, carries, is_of_maps, needs_room};
 ghost use Rattle.hp_shared.specs.Tables.{table_reply};
 ghost use Rattle.hp_events.specs.declared.work.Work.TheVariants.{OfTask as OfATask, OnSlot as OnASlot};
 ghost use Rattle.hp_sessions.specs.Calls.{HasReceiptRoom, IsCallAnswered};
 ghost use Rattle.hp_events.specs.Works.{ListsByNamesAlone};
-ghost use Rattle.hp_events.specs.Copies.{AreCopies, bytes_of_event};
-ghost use Rattle.hp_sessions.specs.Works.{HasAnswerOf, IsBytes, IsWorked};
+ghost use Rattle.hp_sessions.specs.Works.{HasAnswerOf, IsAsked, IsBytes, IsWorked};
 
 use super::Session;
-use hp_events::copies::{Copies, copies, twice};
+use hp_events::copies::Copies;
 use hp_events::{MountEvent, Work, most_receipts, work_of};
 use hp_locked::Gate;
 use hp_model::answer::Reply;
@@ -158,23 +157,37 @@ impl<'a, N: Naming, R: Wait, G: Gate, const K: usize> Session<'a, N, R, G, K> {
             Work::Pool(event) => self.make_pool(event),
             Work::Fork { parent, child } => Told::done(self.fork(parent, child)),
             Work::Exit { task } => Told::done(self.exit(task)),
-            Work::Mount { slot, options } => match self.options_twice(options) {
-                Ok(copies) => self.make_slot(slot, SlotWork::Mount { options }, copies, room),
-                Err(AllocError) => Err(Refusal::OutOfMemory),
-            },
-            Work::Remount { slot, options } => match self.options_twice(options) {
-                Ok(copies) => self.make_slot(slot, SlotWork::Remount { options }, copies, room),
-                Err(AllocError) => Err(Refusal::OutOfMemory),
-            },
-            Work::Umount { slot } => self.make_slot(slot, SlotWork::Umount, None, room),
+            Work::Mount { slot, options } => self.on_slot(slot, SlotWork::Mount { options }, room),
+            Work::Remount { slot, options } => {
+                self.on_slot(slot, SlotWork::Remount { options }, room)
+            }
+            Work::Umount { slot } => self.on_slot(slot, SlotWork::Umount, room),
             Work::Names { slot } => self.make_names(slot),
-            Work::OnSlot { slot, event } => match self.copies(&event) {
-                Ok(copies) => {
-                    self.make_slot(slot, SlotWork::OfMount { home: 0, event }, copies, room)
-                }
-                Err(AllocError) => Err(Refusal::OutOfMemory),
-            },
+            Work::OnSlot { slot, event } => {
+                self.on_slot(slot, SlotWork::OfMount { home: 0, event }, room)
+            }
             Work::OfTask { .. } => unreachable!(),
+        }
+    }
+
+    // What is asked of a slot without a task being looked up.
+    fn on_slot<'b>(
+        &mut self,
+        slot: u64,
+        work: SlotWork<'_>,
+        room: &'b mut [u8],
+    ) -> Result<Told<'b>, Refusal>
+        requires places { HasReceiptRoom (K == 1) 1 self.old }
+        requires room { needs_room work ≡ true → most_bytes ≤ length room.old }
+        requires apart { lists_names (asked_event work) ≡ false }
+        requires always { is_of_maps work ≡ false }
+        ensures asked { IsAsked (K == 1) N.page_bytes self.old slot work.entry (told_reply result)
+            self.new }
+        ensures limits { IsWithinLimits (told_reply result) }
+    {
+        match self.copies(&work) {
+            Ok(copies) => self.make_slot(slot, work, copies, room),
+            Err(AllocError) => Err(Refusal::OutOfMemory),
         }
     }
 
@@ -201,7 +214,7 @@ impl<'a, N: Naming, R: Wait, G: Gate, const K: usize> Session<'a, N, R, G, K> {
         if self.lacks(2) {
             return Err(Refusal::TraceFull);
         }
-        let Ok(copies) = self.copies(&event) else {
+        let Ok(copies) = self.copies(&SlotWork::OfMount { home: 0, event }) else {
             return Err(Refusal::OutOfMemory);
         };
         match self.find(task) {
@@ -262,33 +275,17 @@ impl<'a, N: Naming, R: Wait, G: Gate, const K: usize> Session<'a, N, R, G, K> {
         K == 1 && self.left() < receipts
     }
 
-    // Copies of what an event carries, where entries are kept.
+    // Copies of what is carried, where entries are kept.
     #[inline(always)]
-    fn copies(&self, event: &MountEvent<'_>) -> Result<Option<Copies>, AllocError>
-        ensures copies { IfOk result (λ c. (K == 1) ≡ true →
-            AreCopies (bytes_of_event (event_of 0 event.now)) c) }
-        ensures memory { OnErr result (((K == 1) ≡ true)
-            × (has_bytes (event_of 0 event.now) ≡ true)) }
+    fn copies(&self, work: &SlotWork<'_>) -> Result<Option<Copies>, AllocError>
+        ensures copies { IfOk result (λ c. (K == 1) ≡ true → AreCopiesFor work.now c) }
+        ensures memory { OnErr result (((K == 1) ≡ true) × (carries work.now ≡ true)) }
     {
-        let shared = self.shared;
-        if K == 1 {
-            Ok(Some(copies(shared.alloc(), event)?))
-        } else {
-            Ok(None)
+        if K != 1 {
+            return Ok(None);
         }
-    }
-
-    // Copies of options, where entries are kept.
-    fn options_twice(&self, options: &[u8]) -> Result<Option<Copies>, AllocError>
-        ensures copies { IfOk result (λ c. (K == 1) ≡ true → AreCopies options.now c) }
-        ensures memory { OnErr result ((K == 1) ≡ true) }
-    {
         let shared = self.shared;
-        if K == 1 {
-            Ok(Some(twice(shared.alloc(), options)?))
-        } else {
-            Ok(None)
-        }
+        work.copies(shared.alloc())
     }
 }
 

@@ -7,11 +7,12 @@ use Rattle.hp_model.specs.files.Page.{Page}
 use Rattle.hp_model.specs.declared.section.Section.TheVariants.{GrantPage}
 use Rattle.hp_model.specs.pool.Pool.{granted_at, no_pages}
 use Rattle.hp_model.specs.machine.Promises.{file_in}
-use Rattle.hp_lookup.specs.Files.{filled_at, with_cell_at}
+use Rattle.hp_lookup.specs.Files.{Files, filled_at, with_cell_at}
 use Rattle.hp_mount_laws.specs.Kept.{mount_of}
 use Rattle.hp_mount_laws.proofs.Keeping.{full_is, rise_is, hole_kept, hole_keeps, hole_stays, granted_left, room_left}
 use Rattle.hp_mount_laws.proofs.Shared.{shared_full, shared_without_memory, shared_granted, shared_denied}
 use Rattle.hp_subpool.specs.Subpool as share
+use Rattle.hp_mount.proofs.Here.{below_here, cell_here, entered_below, entered_cell, entered_file, file_here}
 use Rattle.hp_mount.proofs.mount.Mount.fill_hole.Goals as goal
 
 pub returns-then-is_full-clause-done : goal.returns-then-is_full-clause-done
@@ -104,6 +105,50 @@ returns-in-Err-clause-done g c s at file =
     c.saturating_add-spare.result c.get_page.new.share c.leave.new.self (subst (λ (x : Mount). cell_at (file_in x k) i ≡ Hole)
     (sym c.self.view_is) c.requires.hole) c.in-Err.ensures.unchanged (c.leave.ensures ∙ ap (λ v. with_cell_at k i Hole v) c.in-Ok.ensures.ok)
     ∙ c.self.view_is)
+
+pub prepare-requires-clause-file : goal.prepare-requires-clause-file
+prepare-requires-clause-file g c = file_here c.self.view_is c.args.file c.requires.file
+
+pub prepare-requires-clause-below : goal.prepare-requires-clause-below
+prepare-requires-clause-below g c = below_here c.self.view_is c.args.file c.args.index c.requires.below
+
+pub prepare-requires-clause-hole : goal.prepare-requires-clause-hole
+prepare-requires-clause-hole g c = cell_here c.self.view_is c.args.file c.args.index c.requires.hole
+
+pub fill-requires-clause-file : goal.fill-requires-clause-file
+fill-requires-clause-file g c =
+    entered_file c.args.file c.args.index (file_here c.self.view_is c.args.file c.requires.file)
+    (below_here c.self.view_is c.args.file c.args.index c.requires.below) c.in-Ok.ensures.ok
+
+pub fill-requires-clause-below : goal.fill-requires-clause-below
+fill-requires-clause-below g c =
+    entered_below c.args.file c.args.index (file_here c.self.view_is c.args.file c.requires.file)
+    (below_here c.self.view_is c.args.file c.args.index c.requires.below) c.in-Ok.ensures.ok
+
+pub fill-requires-clause-entered : goal.fill-requires-clause-entered
+fill-requires-clause-entered g c =
+    entered_cell c.args.file c.args.index (file_here c.self.view_is c.args.file c.requires.file)
+    (below_here c.self.view_is c.args.file c.args.index c.requires.below) c.in-Ok.ensures.ok
+
+pub leave-requires-clause-file : goal.leave-requires-clause-file
+leave-requires-clause-file g c =
+    entered_file c.args.file c.args.index (file_here c.self.view_is c.args.file c.requires.file)
+    (below_here c.self.view_is c.args.file c.args.index c.requires.below) c.in-Ok.ensures.ok
+
+pub leave-requires-clause-below : goal.leave-requires-clause-below
+leave-requires-clause-below g c =
+    entered_below c.args.file c.args.index (file_here c.self.view_is c.args.file c.requires.file)
+    (below_here c.self.view_is c.args.file c.args.index c.requires.below) c.in-Ok.ensures.ok
+
+pub leave-requires-clause-entered : goal.leave-requires-clause-entered
+leave-requires-clause-entered g c =
+    entered_cell c.args.file c.args.index (file_here c.self.view_is c.args.file c.requires.file)
+    (below_here c.self.view_is c.args.file c.args.index c.requires.below) c.in-Ok.ensures.ok
+
+pub fill-requires-clause-room : goal.fill-requires-clause-room
+fill-requires-clause-room g c =
+    let room = ap (λ (v : Files). v.room) c.in-Ok.ensures.ok in
+    omega (arith, room, c.held.ensures, c.saturating_add-spare.ensures)
 
 pub get_page-requires-clause-few : goal.get_page-requires-clause-few
 get_page-requires-clause-few g c =

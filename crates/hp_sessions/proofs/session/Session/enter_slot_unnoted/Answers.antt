@@ -1,7 +1,8 @@
 use Rattle.std.proofs.Common.{◌≡◌, ◌==◌, true, None, sym, ◌∙◌}
 use Rattle.hp_model.specs.beside.Told.{told_reply}
 use Rattle.hp_events.specs.Event.{event_of}
-use Rattle.hp_sessions.proofs.Parts.{mount_absent, mount_has_place, slot_handed}
+use Rattle.hp_shared.proofs.SlotsKept.{mount_has_place}
+use Rattle.hp_sessions.proofs.Parts.{mount_absent, slot_handed}
 use Rattle.hp_sessions.proofs.session.Session.enter_slot_unnoted.Goals as goal
 
 pub returns-then-number-at-clause-handed : goal.returns-then-number-at-clause-handed

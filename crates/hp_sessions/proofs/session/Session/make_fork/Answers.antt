@@ -1,4 +1,4 @@
-use Rattle.std.proofs.Common.{◌==◌, Ok, subst}
+use Rattle.std.proofs.Common.{◌==◌, subst}
 use Rattle.std.specs.Prelude.{Result}
 use Rattle.hp_model.specs.declared.event.Event.TheVariants.{Slot as OnSlot}
 use Rattle.hp_model.specs.declared.event.SlotEvent.TheVariants.{ForkMaps}

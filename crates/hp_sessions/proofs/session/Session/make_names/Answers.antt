@@ -1,4 +1,4 @@
-use Rattle.std.proofs.Common.{◌==◌, ℕ, List, Ok, Err, ap, subst, arith}
+use Rattle.std.proofs.Common.{◌==◌, ℕ, List, ap, subst, arith}
 use Rattle.std.specs.Prelude.{Result}
 use Rattle.hp_model.specs.declared.event.Event.TheVariants.{Slot as OnSlot}
 use Rattle.hp_model.specs.declared.event.SlotEvent.TheVariants.{Ls}

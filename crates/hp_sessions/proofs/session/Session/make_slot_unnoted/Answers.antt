@@ -1,4 +1,4 @@
-use Rattle.std.proofs.Common.{◌==◌, None, refl, ap, arith}
+use Rattle.std.proofs.Common.{◌==◌, None, ap, arith}
 use Rattle.hp_model.specs.declared.event.Event.TheVariants.{Slot as OnSlot}
 use Rattle.hp_model.specs.beside.Told.{told_reply}
 use Rattle.hp_events.specs.Event.{event_of}

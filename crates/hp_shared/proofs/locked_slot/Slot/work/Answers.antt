@@ -3,7 +3,7 @@ use Rattle.hp_model.specs.declared.entry.Asked.{Asked}
 use Rattle.hp_model.specs.beside.Told.{told_reply}
 use Rattle.hp_trail.specs.Keeping.{with_entry}
 use Rattle.hp_shared.specs.Slots.{IsSlotEvent, SlotView, Went}
-use Rattle.hp_shared.specs.SlotWork.{asked_event, has_maps_for, is_exit}
+use Rattle.hp_shared.specs.SlotWork.{asked_event, full_for, has_maps_for, is_exit}
 use Rattle.hp_shared.proofs.SlotsKept.{event_done, event_full, event_went, full_stays, may_fit, may_room, slot_noted, was_full, work_event, work_removes}
 use Rattle.hp_shared.proofs.locked_slot.Slot.work.Given.{Over}
 use Rattle.hp_shared.proofs.locked_slot.Slot.work.Goals as goal
@@ -12,21 +12,21 @@ use Rattle.hp_shared.proofs.locked_slot.Slot.work.Goals.{After-ask-told, After-n
 pub invariant_of-self-then-is_full : goal.invariant_of-self-then-is_full
 invariant_of-self-then-is_full g c =
     let s = c.self.inside in
-    full_stays (g.D.PoolDoor.is_full c.ask-told.new.door) g.N.Naming.page_bytes s.number (g.T.Trail.entries s.trail) (g.T.Trail.left s.trail)
+    full_stays (full_for (g.D.PoolDoor.is_full c.ask-told.new.door) c.args.work) g.N.Naming.page_bytes s.number (g.T.Trail.entries s.trail) (g.T.Trail.left s.trail)
     (g.T.Trail.extra s.trail) s.mount (asked_event c.args.work) (told_reply c.ask-told.result)
     (g.D.SessionDoor.asked c.ask-told.new.door) c.ask-told.new.mount c.ask-told.ensures.done (sym c.is_full.ensures ∙ c.if-is_full.true) c.self.invariant
 
 pub returns-then-is_full-clause-keeps : goal.returns-then-is_full-clause-keeps
 returns-then-is_full-clause-keeps g c =
     let s = c.self.inside in
-    λ full. inr (was_full (g.D.PoolDoor.is_full c.ask-told.new.door) g.N.Naming.page_bytes s.number (g.T.Trail.entries s.trail) (g.T.Trail.left s.trail)
+    λ full. inr (was_full (full_for (g.D.PoolDoor.is_full c.ask-told.new.door) c.args.work) g.N.Naming.page_bytes s.number (g.T.Trail.entries s.trail) (g.T.Trail.left s.trail)
     (g.T.Trail.extra s.trail) s.mount (asked_event c.args.work) (told_reply c.ask-told.result)
     (g.D.SessionDoor.asked c.ask-told.new.door) c.ask-told.new.mount c.ask-told.ensures.done full)
 
 pub returns-then-is_full-clause-done : goal.returns-then-is_full-clause-done
 returns-then-is_full-clause-done g c =
     let s = c.self.inside in
-    subst (λ (v : SlotView). IsSlotEvent (g.D.PoolDoor.is_full c.ask-told.new.door) g.N.Naming.page_bytes v
+    subst (λ (v : SlotView). IsSlotEvent (full_for (g.D.PoolDoor.is_full c.ask-told.new.door) c.args.work) g.N.Naming.page_bytes v
     (record {
       number = s.number;
       mount = c.ask-told.new.mount;
@@ -35,7 +35,7 @@ returns-then-is_full-clause-done g c =
       extra = g.T.Trail.extra s.trail;
     })
     (asked_event c.args.work) (told_reply c.ask-told.result) (g.D.SessionDoor.asked c.ask-told.new.door) None) c.self.view_is
-    (event_full (g.D.PoolDoor.is_full c.ask-told.new.door) g.N.Naming.page_bytes s.number (g.T.Trail.entries s.trail) (g.T.Trail.left s.trail)
+    (event_full (full_for (g.D.PoolDoor.is_full c.ask-told.new.door) c.args.work) g.N.Naming.page_bytes s.number (g.T.Trail.entries s.trail) (g.T.Trail.left s.trail)
     (g.T.Trail.extra s.trail) s.mount (asked_event c.args.work) (told_reply c.ask-told.result)
     (g.D.SessionDoor.asked c.ask-told.new.door) c.ask-told.new.mount c.ask-told.ensures.done (sym c.is_full.ensures ∙ c.if-is_full.true))
 
@@ -49,7 +49,7 @@ note-receipt-requires-clause-room g c =
     let a = (goal.at.note-receipt-requires-clause-room g c).After-ask-told in
     may_fit g.N.Naming.page_bytes s.number (g.T.Trail.entries s.trail) (g.T.Trail.left s.trail) (g.T.Trail.extra s.trail) s.mount (asked_event c.args.work)
     (told_reply c.ask-told.result) (g.D.SessionDoor.asked c.ask-told.new.door) c.ask-told.new.mount c.self.invariant
-    (event_went (g.D.PoolDoor.is_full c.ask-told.new.door) g.N.Naming.page_bytes s.number (g.T.Trail.entries s.trail) (g.T.Trail.left s.trail)
+    (event_went (full_for (g.D.PoolDoor.is_full c.ask-told.new.door) c.args.work) g.N.Naming.page_bytes s.number (g.T.Trail.entries s.trail) (g.T.Trail.left s.trail)
     (g.T.Trail.extra s.trail) s.mount (asked_event c.args.work) (told_reply c.ask-told.result)
     (g.D.SessionDoor.asked c.ask-told.new.door) c.ask-told.new.mount c.ask-told.ensures.done (sym c.is_full.ensures ∙ c.if-is_full.false))
     (is_exit c.args.work) (work_removes s.mount c.args.work (mapped g a)) (sym c.may_note.ensures ∙ c.if-not-may_note.false)
@@ -59,7 +59,7 @@ module _ (g : Over) (c : After-note-receipt g) where
       (g.D.SessionDoor.asked c.ask-told.new.door) c.ask-told.new.mount
   went =
       let s = c.self.inside in
-      event_went (g.D.PoolDoor.is_full c.ask-told.new.door) g.N.Naming.page_bytes s.number (g.T.Trail.entries s.trail) (g.T.Trail.left s.trail)
+      event_went (full_for (g.D.PoolDoor.is_full c.ask-told.new.door) c.args.work) g.N.Naming.page_bytes s.number (g.T.Trail.entries s.trail) (g.T.Trail.left s.trail)
       (g.T.Trail.extra s.trail) s.mount (asked_event c.args.work) (told_reply c.ask-told.result)
       (g.D.SessionDoor.asked c.ask-told.new.door) c.ask-told.new.mount c.ask-told.ensures.done (sym c.is_full.ensures ∙ c.if-is_full.false)
 
@@ -85,7 +85,7 @@ pub returns-clause-done : goal.returns-clause-done
 returns-clause-done g c =
     let a = (goal.at.returns-clause-done g c).After-note-receipt in
     let s = c.self.inside in
-    subst (λ (v : SlotView). IsSlotEvent (g.D.PoolDoor.is_full c.ask-told.new.door) g.N.Naming.page_bytes v
+    subst (λ (v : SlotView). IsSlotEvent (full_for (g.D.PoolDoor.is_full c.ask-told.new.door) c.args.work) g.N.Naming.page_bytes v
     (record {
       number = s.number;
       mount = c.ask-told.new.mount;
@@ -94,7 +94,7 @@ returns-clause-done g c =
       extra = g.T.Trail.extra c.note-receipt.new.trail;
     })
     (asked_event c.args.work) (told_reply c.ask-told.result) (g.D.SessionDoor.asked c.ask-told.new.door) c.note-receipt.result) c.self.view_is
-    (event_done (g.D.PoolDoor.is_full c.ask-told.new.door) g.N.Naming.page_bytes s.number (g.T.Trail.entries s.trail) (g.T.Trail.left s.trail)
+    (event_done (full_for (g.D.PoolDoor.is_full c.ask-told.new.door) c.args.work) g.N.Naming.page_bytes s.number (g.T.Trail.entries s.trail) (g.T.Trail.left s.trail)
     (g.T.Trail.extra s.trail) s.mount (asked_event c.args.work) (told_reply c.ask-told.result)
     (g.D.SessionDoor.asked c.ask-told.new.door) c.ask-told.new.mount c.ask-told.ensures.done (sym c.is_full.ensures ∙ c.if-is_full.false)
     (g.T.Trail.entries c.note-receipt.new.trail) (g.T.Trail.left c.note-receipt.new.trail) (g.T.Trail.extra c.note-receipt.new.trail)
