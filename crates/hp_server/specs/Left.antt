@@ -3,7 +3,7 @@ use Rattle.std.specs.Prelude.{◌≡◌, ◌==◌, ℕ, List, Some, is_some, tru
 use Rattle.hp_model.specs.declared.entry.Receipt.{Receipt}
 use Rattle.hp_model.specs.machine.State.{State}
 use Rattle.hp_serving.specs.declared.host.Closed.{Closed}
-use Rattle.hp_shared_machine.specs.Sharing.{WasJoined}
+use Rattle.hp_closing.specs.Joined.{WasJoined}
 
 -- What may be left of a machine that started so, and keeps entries (1) or none. Where the audit finds that trails and
 -- receipts are of one run, it is a run from that start, and all pages are free at its end.

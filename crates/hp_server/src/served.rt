@@ -6,6 +6,7 @@ ghost use Rattle.hp_server.specs.Left.{MayLeave};
 ghost use Rattle.hp_serving.specs.Ended.{IsOfMachine};
 
 use crate::host::Waiting;
+use hp_closing::{close, into_system};
 use hp_locked::Gate;
 use hp_model::entry::Receipt;
 use hp_model::naming::Naming;
@@ -55,7 +56,7 @@ impl<N: Naming, G: Gate + Drop, const K: usize> Machine for Served<N, G, K> {
             gate: _,
             room: _,
         } = self;
-        let closed = shared.close(alloc, told)?;
+        let closed = close(alloc, shared, told)?;
         Ok(Closed {
             audit: closed.audit,
             counts: closed.counts,
@@ -69,7 +70,7 @@ impl<N: Naming, G: Gate + Drop, const K: usize> Machine for Served<N, G, K> {
             gate: _,
             room: _,
         } = self;
-        let (system, _trails) = shared.into_parts();
+        let (system, _trails) = into_system(shared);
         system.close();
     }
 }

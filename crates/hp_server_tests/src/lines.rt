@@ -4,12 +4,13 @@ ghost use Rattle.hp_nodes.specs.Ledgers.{AreFrames};
 ghost use Rattle.hp_pool.specs.Ledgers.{AreLedgers};
 
 use crate::same::same;
+use hp_closing::{Closed, close, into_system};
 use hp_model::entry::Receipt;
 use hp_model::naming::Naming;
 use hp_pool::Blanks;
 use hp_server::{Open, Waiting};
 use hp_serving::serve_session;
-use hp_sessions::{Closed, Shared};
+use hp_sessions::Shared;
 use std::alloc::Global;
 use std::marker::Brand;
 use std::process::Abort;
@@ -56,7 +57,7 @@ fn closed<N: Naming, R: Wait + Abort>(
     let count = told.len();
     let mut all = Vec::with_capacity(alloc, 1).expect(rt, "memory");
     all.push_reserved(told);
-    (count, shared.close(alloc, all).expect(rt, "memory"))
+    (count, close(alloc, shared, all).expect(rt, "memory"))
 }
 
 // Where a session has room for two receipts: how many entries the task table has.
@@ -70,7 +71,7 @@ fn full_room<N: Naming, R: Wait + Abort>(rt: &R, alloc: Global, blanks: Blanks) 
     let replies = b"ok\nerror 23 TraceFull\nok 0\nerror 23 TraceFull\n";
     let told = answered(rt, alloc, &shared, 2, lines, replies);
     same!(rt; told.len(), 2);
-    let (system, trails) = shared.into_parts();
+    let (system, trails) = into_system(shared);
     system.close();
     let Some(trails) = trails else {
         panic!(rt; "no trails");

@@ -3,5 +3,5 @@
 
 mod session;
 
-pub use hp_shared_machine::{Closed, Shared, Trails, audit};
+pub use hp_shared_machine::{Shared, Trails};
 pub use session::Session;

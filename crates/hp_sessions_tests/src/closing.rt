@@ -4,9 +4,10 @@ ghost use Rattle.hp_nodes.specs.Ledgers.{AreFrames};
 ghost use Rattle.hp_pool.specs.Ledgers.{AreLedgers};
 
 use crate::same::same;
+use hp_closing::{audit, close, into_system};
 use hp_model::naming::Naming;
 use hp_pool::Blanks;
-use hp_sessions::{Shared, audit};
+use hp_sessions::Shared;
 use std::alloc::Global;
 use std::marker::Brand;
 use std::process::Abort;
@@ -42,7 +43,7 @@ fn closes<N: Naming + Send + Sync, R: Threads + Wait + Abort + Sync, const K: us
     let shared = Shared::<N, K>::new(alloc, &[4, 2], 1024, 3, PLACES, blanks).expect(rt, "memory");
     let (page, slots) = looked_at(rt, &shared);
     same!(rt; [page, slots], [1024, 3]);
-    let closed = shared.close(alloc, Vec::new(alloc)).expect(rt, "memory");
+    let closed = close(alloc, shared, Vec::new(alloc)).expect(rt, "memory");
     same!(rt; closed.audit, wanted);
     same!(rt; closed.page, 1024);
     let counts = closed.counts;
@@ -96,7 +97,7 @@ fn parts<N: Naming, R: Abort, const K: usize>(
     requires bytes { N.page_bytes ≡ 1024 }
 {
     let shared = Shared::<N, K>::new(alloc, &[4, 2], 1024, 3, PLACES, blanks).expect(rt, "memory");
-    let (system, kept) = shared.into_parts();
+    let (system, kept) = into_system(shared);
     let counts = system.close();
     same!(rt; [counts.total, counts.free, counts.rsvd, counts.surp], [0, 0, 0, 0]);
     let trails = kept?;

@@ -6,6 +6,7 @@ ghost use Rattle.hp_pool.specs.Ledgers.{AreLedgers};
 use crate::gates::{Free, Slow};
 use crate::same::same;
 use crate::steps::{Dice, any_step};
+use hp_closing::close;
 use hp_model::entry::Receipt;
 use hp_model::lent::Lent;
 use hp_model::naming::Naming;
@@ -127,7 +128,7 @@ fn run<N: Naming + Send + Sync, R: Threads + Wait + Abort + Clock + Sync>(
     told.push_reserved(one);
     told.push_reserved(two);
     told.push_reserved(three);
-    let closed = shared.close(alloc, told).expect(rt, "memory");
+    let closed = close(alloc, shared, told).expect(rt, "memory");
     same!(rt; closed.audit, Some(true));
     same!(rt; closed.counts.free, closed.counts.total);
     same!(rt; closed.counts.rsvd, 0);

@@ -6,6 +6,7 @@ ghost use Rattle.hp_pool.specs.Ledgers.{AreLedgers};
 use crate::gates::Free;
 use crate::rows::{call, counts, opened};
 use crate::same::same;
+use hp_closing::close;
 use hp_locked::Gate;
 use hp_model::answer::{Answer, Reply};
 use hp_model::entry::Receipt;
@@ -125,7 +126,7 @@ pub(crate) fn ended<N: Naming, R: Abort>(
 ) {
     let mut all = Vec::with_capacity(alloc, 1).expect(rt, "memory");
     all.push_reserved(told);
-    let closed = shared.close(alloc, all).expect(rt, "memory");
+    let closed = close(alloc, shared, all).expect(rt, "memory");
     same!(rt; closed.audit, Some(true));
     same!(rt; [closed.counts.total, closed.counts.free, closed.counts.rsvd], [4, 4, 0]);
 }

@@ -5,6 +5,7 @@ ghost use Rattle.hp_pool.specs.Ledgers.{AreLedgers};
 
 use crate::gates::{Free, Hold, Place};
 use crate::same::same;
+use hp_closing::close;
 use hp_locked::Gate;
 use hp_model::answer::{Answer, Reply};
 use hp_model::entry::Receipt;
@@ -146,7 +147,7 @@ fn row<N: Naming + Send + Sync, R: Threads + Wait + Abort + Clock + Sync>(
     all.push_reserved(told);
     all.push_reserved(one);
     all.push_reserved(two);
-    let closed = shared.close(alloc, all).expect(rt, "memory");
+    let closed = close(alloc, shared, all).expect(rt, "memory");
     same!(rt; closed.audit, Some(true));
     same!(rt; [closed.counts.total, closed.counts.free, closed.counts.rsvd], [4, 4, 0]);
 }

@@ -6,6 +6,7 @@ ghost use Rattle.hp_pool.specs.Ledgers.{AreLedgers};
 use crate::gates::Free;
 use crate::same::same;
 use crate::steps::{Dice, any_step};
+use hp_closing::close;
 use hp_model::entry::Receipt;
 use hp_model::naming::Naming;
 use hp_pool::Blanks;
@@ -108,7 +109,7 @@ fn run<N: Naming + Send + Sync, R: Threads + Wait + Abort + Sync, const K: usize
         rt, "memory",
     );
     let told = eight(rt, alloc, &shared);
-    let closed = shared.close(alloc, told).expect(rt, "memory");
+    let closed = close(alloc, shared, told).expect(rt, "memory");
     same!(rt; closed.audit, audit);
     same!(rt; closed.counts.free, closed.counts.total);
     same!(rt; closed.counts.rsvd, 0);

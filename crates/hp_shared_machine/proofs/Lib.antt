@@ -1,6 +1,5 @@
 pub mod Opened
 mod Gathered
-mod Ready
 mod CrossingEntries
 mod CrossingMounts
 pub mod Crossing

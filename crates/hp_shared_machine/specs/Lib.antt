@@ -1,2 +1,1 @@
 pub mod Sharing
-pub mod Joined

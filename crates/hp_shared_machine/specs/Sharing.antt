@@ -1,20 +1,17 @@
--- The machine that threads share, to a contract, and how it ends.
+-- The machine that threads share, to a contract, and the trails that it ends with.
 use Rattle.std.specs.Prelude.{◌≡◌, ℕ, ◌<◌, ◌≤◌, None, List, [], length}
 use Rattle.std.specs.List.{All, slice_index_or}
-use Rattle.hp_model.specs.declared.answer.Counts.{Counts}
-use Rattle.hp_model.specs.declared.entry.Receipt.{Receipt}
 use Rattle.hp_model.specs.declared.entry.SlotEntry.{SlotEntry}
-use Rattle.hp_model.specs.declared.event.Event.{Event}
 use Rattle.hp_model.specs.machine.Plan.{Slot}
 use Rattle.hp_model.specs.machine.State.{State, slot_at}
-use Rattle.hp_model.specs.threads.JointRun.{AreRuns, Trails}
+use Rattle.hp_model.specs.threads.JointRun.{AreRuns, Trails as Run}
 use Rattle.hp_model.specs.threads.LocalRun.{IsLocalRun}
 use Rattle.hp_model.specs.Profile.{most_frames, most_page_bytes, most_slots}
 use Rattle.hp_locked.specs.Views.{frames_list}
 use Rattle.hp_shared.specs.Slots.{slot_start}
 use Rattle.hp_model.specs.machine.Ready.{Machine, machine_of}
-use Rattle.hp_system.specs.Sized.{all_free}
-use Rattle.hp_trail.specs.Audit.{IsJointList}
+use Rattle.hp_trail.specs.Walk.{trails_of}
+use Rattle.hp_shared_machine.specs.declared.shared.Trails.{Trails}
 
 -- what no thread changes: the bytes of a page, and how many slots there are
 pub record SharedView : Type 0 where
@@ -37,17 +34,11 @@ pub record AreGathered (size : ℕ) (trails : List (List SlotEntry)) (mounts : L
       → IsLocalRun size k (slot_start k) (slice_index_or trails k []) (slice_index_or mounts k None)
 
 -- each trail is a run of its part, from that of this state to that of the machine
-pub record EndsRuns (s : State) (t : Trails) (m : Machine) : Type 0 where
+pub record EndsRuns (s : State) (t : Run) (m : Machine) : Type 0 where
   pub runs : AreRuns s t m.state.table (slot_at m.state) m.pool
   pub count : length m.state.slots ≡ length s.slots
   pub parts : m ≡ machine_of m.state.page_size m.state.table m.state.slots m.pool
 
--- the trails of a machine and what its sessions were told were joined into these events, which end in it; and once it was
--- closed all its pages were free
-pub record WasJoined (s : State) (told : List (List Receipt)) (counts : Counts) : Type 0 where
-  pub trails : Trails
-  pub events : List Event
-  pub machine : Machine
-  pub ends : EndsRuns s trails machine
-  pub joint : IsJointList trails told events
-  pub free : counts ≡ all_free machine.state
+-- the entries of all parts
+abbrev pub entries_of : Trails → Run
+entries_of t = trails_of t.tasks.items t.slots.items t.pool.items

@@ -1,11 +1,9 @@
-//! The machine that threads share: how it is opened, taken apart, closed and audited.
+//! The machine that threads share: how it is opened, lent by its parts, and taken apart.
 #![tactic(auto)]
 
-mod closing;
 mod making;
 mod parting;
 mod shared;
 mod spare;
 
-pub use closing::{Closed, audit};
-pub use shared::{Shared, Trails};
+pub use shared::{Shared, Trails, Unshared};

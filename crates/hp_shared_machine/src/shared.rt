@@ -2,12 +2,13 @@
 ghost use Rattle.std.specs.Prelude.{◌≡◌, ◌<◌, ◌≤◌, ◌==◌, [], false, true, length, vec_len, vec_capacity, All, IfOk, IfSome, None};
 ghost use Rattle.hp_locked.specs.Views.{frames_list};
 ghost use Rattle.hp_model.specs.machine.Machine.{start};
+ghost use Rattle.hp_model.specs.machine.Ready.{machine_of};
+ghost use Rattle.hp_model.specs.machine.Settled.{IsSettledState};
 ghost use Rattle.hp_model.specs.Profile.{most_frames, most_page_bytes, most_places, most_slots};
 ghost use Rattle.hp_mount_door.specs.Door.{IsReady as IsReadyPool};
 ghost use Rattle.hp_nodes.specs.Ledgers.{AreFrames};
 ghost use Rattle.hp_pool.specs.Ledgers.{AreLedgers};
-ghost use Rattle.hp_shared_machine.specs.Joined.{entries_of};
-ghost use Rattle.hp_shared_machine.specs.Sharing.{EndsRuns};
+ghost use Rattle.hp_shared_machine.specs.Sharing.{EndsRuns, entries_of};
 ghost use Rattle.hp_trail.specs.Walk.{trails_of};
 
 use crate::making::{all_frames, first_mount, lock_slots, open_trail, open_trails};
@@ -18,10 +19,10 @@ use hp_locked::{Core, NodeLocks};
 use hp_model::entry::{PoolEntry, SlotEntry, TableEntry};
 use hp_model::naming::Naming;
 use hp_model::profile::MOST_TASKS;
+use hp_mount::Mount;
 use hp_own_pool::OwnPool;
 use hp_pool::Blanks;
 use hp_shared::{Slot, Table};
-use hp_system::{Parts, System};
 use hp_tasks::TaskTable;
 use hp_trail::trace::Trace;
 use std::alloc::{AllocError, Global};
@@ -33,8 +34,8 @@ use std::sync::Mutex;
 ///
 /// What every step reads comes first, and each of the locks that steps take lies on cache lines of its own.
 ///
-/// Nothing is known of a part until its lock is held. The machine can't be dropped: `into_parts` takes it apart and `close`
-/// ends it, once no session is left on it.
+/// Nothing is known of a part until its lock is held. The machine can't be dropped: `into_parts` takes it apart, once no
+/// session is left on it.
 pub struct Shared<N: Naming, const K: usize> {
     pub(crate) page_bytes: usize,
     alloc: Global,
@@ -55,6 +56,16 @@ impl<N: Naming, const K: usize> Model for Shared<N, K> {
 
     ghost invariant = { λ s. IsSharedMachine N.page_bytes N.frames
         (record { page_size = s.page_bytes; slots = vec_len s.slots }) };
+}
+
+/// A machine that no thread shares any more: the bytes of a page, the mount of each slot, the task table, the pool with the
+/// frames that nobody holds, and the trails where they were kept.
+pub struct Unshared<N: Naming> {
+    pub page_bytes: usize,
+    pub slots: Vec<Option<Mount<N>>>,
+    pub table: TaskTable,
+    pub pool: OwnPool<N>,
+    pub trails: Option<Trails>,
 }
 
 /// The entries of all parts, each in its order.
@@ -187,38 +198,40 @@ impl<N: Naming, const K: usize> Shared<N, K> {
         &self.slots[at]
     }
 
-    /// The machine by itself, with all that is on it, and the trails where K is 1. These are runs of its parts, from the
+    /// What the machine is made of, with all that is on it, and the trails where K is 1. These are runs of its parts, from the
     /// start of the machine to where it is. Never refused; it takes no memory.
-    pub fn into_parts(self) -> (System<N>, Option<Trails>)
-        ensures ready { IsReadyPool result.0.pool }
-        ensures page { result.0.state.page_size ≡ self.page_size }
-        ensures slots { length result.0.state.slots ≡ self.slots }
-        ensures none { (K == 1) ≡ false → result.1 ≡ None }
-        ensures trails { IfSome result.1 (λ t. EndsRuns
-            (start (frames_list N.frames) self.page_size self.slots)
-            (entries_of t) result.0) }
+    pub fn into_parts(self) -> Unshared<N>
+        ensures ready { IsReadyPool result.pool }
+        ensures named { result.page_bytes ≡ N.page_bytes }
+        ensures some { 0 < result.page_bytes }
+        ensures page { result.page_bytes ≡ self.page_size }
+        ensures slots { length result.slots.items ≡ self.slots }
+        ensures none { (K == 1) ≡ false → result.trails ≡ None }
+        ensures settled { IsSettledState (start (frames_list N.frames) self.page_size self.slots) }
+        ensures runs { IfSome result.trails (λ t. EndsRuns
+            (start (frames_list N.frames) self.page_size self.slots) (entries_of t)
+            (machine_of result.page_bytes result.table result.slots.items result.pool)) }
     {
         let Shared {
             page_bytes,
-            alloc,
+            alloc: _,
             table,
             core,
             nodes,
             slots,
             spare,
         } = self;
-        let (tasks, task_trail) = table.into_inner().into_inner().into_parts();
+        let (table, task_trail) = table.into_inner().into_inner().into_parts();
         let (pool, pool_trail) = core.into_inner().into_inner().into_parts();
         let (mut mounts, mut trails) = spare.into_inner().into_room();
         let in_order = take_slots(slots, &mut mounts, &mut trails);
-        let parts = Parts {
+        Unshared {
             page_bytes,
             slots: mounts,
-            table: tasks,
+            table,
             pool: OwnPool::from_parts(pool, nodes.into_frames()),
-        };
-        let kept = trails_in(in_order, task_trail, pool_trail, trails);
-        (System::from_parts(alloc, parts), kept)
+            trails: trails_in(in_order, task_trail, pool_trail, trails),
+        }
     }
 }
 

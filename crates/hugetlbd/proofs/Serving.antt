@@ -6,7 +6,7 @@ use Rattle.hp_serving.specs.Ended.{LeavesAsked}
 use Rattle.hp_serving.specs.declared.host.Closed.{Closed}
 use Rattle.hp_serving.specs.declared.sessions.Ended.{Ended}
 use Rattle.hp_serving.specs.declared.sessions.Ended.TheVariants.{Printed, Unprinted, Failed}
-use Rattle.hp_shared_machine.specs.Sharing.{WasJoined}
+use Rattle.hp_closing.specs.Joined.{WasJoined}
 use Rattle.hp_words.specs.Config.{MachineChoice, chosen}
 use Rattle.hugetlbd.specs.Program.{MayBeLeft}
 use Rattle.hp_words.specs.declared.settings.Serving.{Serving}

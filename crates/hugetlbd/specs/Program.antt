@@ -18,7 +18,7 @@ use Rattle.hp_serving.specs.Ended as serving
 use Rattle.hp_serving.specs.Ended.{Says}
 use Rattle.hp_serving.specs.declared.host.Closed.{Closed}
 use Rattle.hp_serving.specs.declared.sessions.Ended.{Ended}
-use Rattle.hp_shared_machine.specs.Sharing.{WasJoined}
+use Rattle.hp_closing.specs.Joined.{WasJoined}
 use Rattle.hp_words.specs.Asked.{AsksForScript, AsksToServe, IsRefusedFor, hugetlbd}
 use Rattle.hp_words.specs.Config.{IsMachineWithin, IsServing, MachineChoice, chosen}
 use Rattle.hp_words.specs.declared.config.TheConstants.{HELP, VERSION}

@@ -2,12 +2,11 @@ use Rattle.std.proofs.Common.{◌≡◌, subst}
 use Rattle.std.specs.Prelude.{OnOk}
 use Rattle.hp_model.specs.machine.Settled.{IsSettledState}
 use Rattle.hp_model.specs.machine.State.{State}
-use Rattle.hp_shared_machine.proofs.Ready.{when_joined}
-use Rattle.hp_shared_machine.specs.Joined.{entries_of}
-use Rattle.hp_shared_machine.specs.Sharing.{EndsRuns}
+use Rattle.hp_shared_machine.specs.Sharing.{EndsRuns, entries_of}
+use Rattle.hp_closing.proofs.Ready.{when_joined}
 use Rattle.hp_model.specs.machine.Ready.{IsReadyMachine, Machine}
 use Rattle.hp_trail.specs.Walk.{lists, trails_of}
-use Rattle.hp_shared_machine.proofs.closing.audit.Goals as goal
+use Rattle.hp_closing.proofs.closing.audit.Goals as goal
 
 pub returns-clause-ready : goal.returns-clause-ready
 returns-clause-ready c =
