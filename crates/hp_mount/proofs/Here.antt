@@ -44,7 +44,7 @@ needs_copy m k j i intent private live bare kept asks =
     record { consumed = here.0; private = private; place = here.1; kept = kept; asks = asks }
 
 -- an index that was entered, with other room, has its entry
-module _ {v w : Files} {room : ℕ} (k i : ℕ) (there : k < length v.files) (below : i < length (file_at v.files k).cells)
+module _ (v w : Files) (room k i : ℕ) (there : k < length v.files) (below : i < length (file_at v.files k).cells)
     (is : w ≡ with_cell_at k i Entered (record v { room = room })) where
   abbrev now : File
   now = with_cell (file_at v.files k) i Entered
@@ -53,7 +53,7 @@ module _ {v w : Files} {room : ℕ} (k i : ℕ) (there : k < length v.files) (be
   file_is = ap (λ (x : Files). file_at x.files k) is ∙ get_or-set_same v.files k now (new_file None) there
 
   pub entered_file : k < length w.files
-  entered_file = subst (λ (x : Files). k < length x.files) (sym is) (let long = length-set v.files k now in omega (arith, there, long))
+  entered_file = (let long = length-set v.files k now in let same = ap (λ (x : Files). length x.files) is in omega (arith, there, long, same))
 
   pub entered_below : i < length (file_at w.files k).cells
   entered_below = subst (λ (f : File). i < length f.cells) (sym file_is) (let long = length-set (file_at v.files k).cells i Entered in omega (arith, below, long))

@@ -117,32 +117,32 @@ prepare-requires-clause-hole g c = cell_here c.self.view_is c.args.file c.args.i
 
 pub fill-requires-clause-file : goal.fill-requires-clause-file
 fill-requires-clause-file g c =
-    entered_file c.args.file c.args.index (file_here c.self.view_is c.args.file c.requires.file)
+    entered_file c.self.inside.files c.prepare.new.self _ c.args.file c.args.index (file_here c.self.view_is c.args.file c.requires.file)
     (below_here c.self.view_is c.args.file c.args.index c.requires.below) c.in-Ok.ensures.ok
 
 pub fill-requires-clause-below : goal.fill-requires-clause-below
 fill-requires-clause-below g c =
-    entered_below c.args.file c.args.index (file_here c.self.view_is c.args.file c.requires.file)
+    entered_below c.self.inside.files c.prepare.new.self _ c.args.file c.args.index (file_here c.self.view_is c.args.file c.requires.file)
     (below_here c.self.view_is c.args.file c.args.index c.requires.below) c.in-Ok.ensures.ok
 
 pub fill-requires-clause-entered : goal.fill-requires-clause-entered
 fill-requires-clause-entered g c =
-    entered_cell c.args.file c.args.index (file_here c.self.view_is c.args.file c.requires.file)
+    entered_cell c.self.inside.files c.prepare.new.self _ c.args.file c.args.index (file_here c.self.view_is c.args.file c.requires.file)
     (below_here c.self.view_is c.args.file c.args.index c.requires.below) c.in-Ok.ensures.ok
 
 pub leave-requires-clause-file : goal.leave-requires-clause-file
 leave-requires-clause-file g c =
-    entered_file c.args.file c.args.index (file_here c.self.view_is c.args.file c.requires.file)
+    entered_file c.self.inside.files c.prepare.new.self _ c.args.file c.args.index (file_here c.self.view_is c.args.file c.requires.file)
     (below_here c.self.view_is c.args.file c.args.index c.requires.below) c.in-Ok.ensures.ok
 
 pub leave-requires-clause-below : goal.leave-requires-clause-below
 leave-requires-clause-below g c =
-    entered_below c.args.file c.args.index (file_here c.self.view_is c.args.file c.requires.file)
+    entered_below c.self.inside.files c.prepare.new.self _ c.args.file c.args.index (file_here c.self.view_is c.args.file c.requires.file)
     (below_here c.self.view_is c.args.file c.args.index c.requires.below) c.in-Ok.ensures.ok
 
 pub leave-requires-clause-entered : goal.leave-requires-clause-entered
 leave-requires-clause-entered g c =
-    entered_cell c.args.file c.args.index (file_here c.self.view_is c.args.file c.requires.file)
+    entered_cell c.self.inside.files c.prepare.new.self _ c.args.file c.args.index (file_here c.self.view_is c.args.file c.requires.file)
     (below_here c.self.view_is c.args.file c.args.index c.requires.below) c.in-Ok.ensures.ok
 
 pub fill-requires-clause-room : goal.fill-requires-clause-room
