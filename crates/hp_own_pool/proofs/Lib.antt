@@ -1,3 +1,4 @@
 pub mod Limiting
 pub mod Returning
 pub mod Takings
+pub mod Starting

@@ -25,7 +25,7 @@ use Rattle.hp_model.specs.threads.PoolRun.{IsPoolRun}
 use Rattle.hp_model.specs.threads.TableRun.{IsTableRun}
 use Rattle.hp_pool.specs.Sums.{idle_pool}
 use Rattle.hp_shared.specs.Slots.{slot_start}
-use Rattle.hp_system.proofs.Start.{start_pool}
+use Rattle.hp_own_pool.proofs.Starting.{start_pool}
 use Rattle.hp_model.specs.machine.Ready.{machine_of}
 use Rattle.hp_shared_machine.specs.Sharing.{AreGathered, EndsRuns, entries_of}
 

@@ -34,7 +34,7 @@ use Rattle.hp_system.specs.Event.{AllGo, Exits, IsExit, SlotGoes, took}
 use Rattle.hp_model.specs.machine.Ready.{IsReadyMachine, Machine, machine_of, state_of}
 use Rattle.hp_system.specs.Sized.{IsSized, all_free}
 use Rattle.hp_system.proofs.Carries.{kept_after, kept_by, plan_is, slot_in, IsKept}
-use Rattle.hp_system.proofs.Start.{sum_none}
+use Rattle.hp_own_pool.proofs.Starting.{sum_none}
 
 -- what is left of n slots: these, and as many without a mount as are done; what is set stays
 pub record IsEnding (size bytes n : ℕ) (t : Table) (start : Pool) (xs : List Slot) (p : Pool) : Type 0 where
