@@ -1,7 +1,4 @@
-use Rattle.std.proofs.Common.{◌≡◌, ◌≤◌, ◌==◌, None, sym, subst}
-use Rattle.std.specs.Prelude.{IfOk}
-use Rattle.hp_locked.specs.Views.{IsFresh}
-use Rattle.hp_trail.specs.Keeping.{extra_if, kept_if, left_if, opened_if}
+use Rattle.std.proofs.Common.{◌==◌}
 use Rattle.hp_shared_machine.proofs.Opened.{has_extra_ok, is_empty_ok, is_fresh_ok}
 use Rattle.hp_shared_machine.proofs.making.open_trail.Goals as goal
 

@@ -1,4 +1,4 @@
-use Rattle.std.proofs.Common.{◌≡◌, ◌==◌, true, length, sym, ap, subst, ◌∙◌}
+use Rattle.std.proofs.Common.{◌==◌, length, sym, subst}
 use Rattle.std.specs.Prelude.{IfSome, vec_len}
 use Rattle.hp_locked.specs.Views.{IsPoolTrail, frames_list}
 use Rattle.hp_model.specs.machine.Machine.{start}

@@ -1,4 +1,4 @@
-use Rattle.std.proofs.Common.{◌≡◌, ◌*◌, ◌≤◌, length, map, sym, ap, subst, ◌∙◌, arith}
+use Rattle.std.proofs.Common.{◌≡◌, ◌≤◌, length, map, sym, ap, subst, ◌∙◌, arith}
 use Rattle.std.specs.List.{All, sum}
 use Rattle.hp_locked.specs.Views.{frames_list}
 use Rattle.hp_model.specs.pool.NodeRows.{frames_of, idle_row}
