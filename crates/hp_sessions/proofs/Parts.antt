@@ -265,14 +265,14 @@ handed_fits kept size k e a receipt handed = fits size k e a handed.0
 
 -- ---- a door without room
 
-pub either_kept : {P : Type 0} (b : Bool) (work : SlotWork) → (b ≡ true) ⊎ full_for (P × (b ≡ true)) work → b ≡ true
-either_kept b work (inl h) = h
-either_kept b (w.Mount options) (inr h) = h.1
-either_kept b (w.Remount options) (inr h) = h.1
-either_kept b w.Umount (inr h) = absurd h
-either_kept b (w.Fork parent child) (inr h) = absurd h
-either_kept b (w.Exit task) (inr h) = absurd h
-either_kept b (w.OfMount home e) (inr h) = h.1
+pub either_kept : (P : Type 0) (b : Bool) (work : SlotWork) → (b ≡ true) ⊎ full_for (P × (b ≡ true)) work → b ≡ true
+either_kept P b work (inl h) = h
+either_kept P b (w.Mount options) (inr h) = h.1
+either_kept P b (w.Remount options) (inr h) = h.1
+either_kept P b w.Umount (inr h) = absurd h
+either_kept P b (w.Fork parent child) (inr h) = absurd h
+either_kept P b (w.Exit task) (inr h) = absurd h
+either_kept P b (w.OfMount home e) (inr h) = h.1
 
 pub fits_result : (kept : Bool) (size k : ℕ) (e : SlotEvent) (r : Result Told Refusal) (receipt : Option Receipt) → IsHanded kept size (OnSlot k e) (told_reply r) receipt →
     IfOk r (λ t. HasAnswerOf e (told_answer t))

@@ -4,7 +4,7 @@ use Rattle.hp_model.specs.declared.event.Event.TheVariants.{Pool as OnPool, Task
 use Rattle.hp_model.specs.declared.event.PoolEvent.TheVariants as pool
 use Rattle.hp_model.specs.declared.event.TableEvent.TheVariants.{Find}
 use Rattle.hp_model.specs.declared.step.Step.{Step}
-use Rattle.hp_model.specs.declared.step.Step.TheVariants.{Attach, Fault, Meminfo, Nodes}
+use Rattle.hp_model.specs.declared.step.Step.TheVariants.{Attach, Meminfo, Nodes}
 use Rattle.hp_model.specs.machine.Plan.{Reply}
 use Rattle.hp_model.specs.beside.Told.{told_reply}
 use Rattle.hp_sessions.specs.Calls.{IsCallAnswered}

@@ -99,16 +99,16 @@ returns-in-Umount g c =
       limits = c.on_slot-in-Umount.ensures.limits;
     }
 
-pub returns-in-OnSlot : goal.returns-in-OnSlot
-returns-in-OnSlot g c =
+pub returns-in-OnSlot-work : goal.returns-in-OnSlot-work
+returns-in-OnSlot-work g c =
     let size = g.N.Naming.page_bytes in
     let s = c.args.self.now in
-    let t = c.on_slot-in-OnSlot.new.self in
-    let n = c.most_receipts.ensures ∙ ap (work_receipts c.count.result) c.in-OnSlot.is in
+    let t = c.on_slot-in-OnSlot-work.new.self in
+    let n = c.most_receipts.ensures ∙ ap (work_receipts c.count.result) c.in-OnSlot-work.is in
     let room : HasReceiptRoom (g.row.K == 1) 1 s = λ k. (let has = c.if-lacks.ensures k in omega (arith, has, n)) in
     record {
-      worked = subst (λ (w : Work). IsWorked (g.row.K == 1) size s w (told_reply c.on_slot-in-OnSlot.result) t) (sym c.in-OnSlot.is)
-          (asked_worked (g.row.K == 1) size s t c.in-OnSlot.slot (w.OfMount 0 c.in-OnSlot.event)
-          (OnSlot c.in-OnSlot.slot c.in-OnSlot.event) (told_reply c.on_slot-in-OnSlot.result) refl refl room c.on_slot-in-OnSlot.ensures.asked);
-      limits = c.on_slot-in-OnSlot.ensures.limits;
+      worked = subst (λ (w : Work). IsWorked (g.row.K == 1) size s w (told_reply c.on_slot-in-OnSlot-work.result) t) (sym c.in-OnSlot-work.is)
+          (asked_worked (g.row.K == 1) size s t c.in-OnSlot-work.slot (w.OfMount 0 c.in-OnSlot-work.event)
+          (OnSlot c.in-OnSlot-work.slot c.in-OnSlot-work.event) (told_reply c.on_slot-in-OnSlot-work.result) refl refl room c.on_slot-in-OnSlot-work.ensures.asked);
+      limits = c.on_slot-in-OnSlot-work.ensures.limits;
     }

@@ -11,4 +11,4 @@ pub returns-clause-handed : goal.returns-clause-handed
 returns-clause-handed g c =
     work_handed (g.row.K == 1) (full_for ((c.work.new.door.asked ≡ _) × ((g.row.K == 1) ≡ true)) c.args.work) g.N.Naming.page_bytes c.args.at c.deref_mut-slot.result.now c.work.new.self
     c.args.work (told_reply c.work.result.0) c.work.new.door.asked c.work.result.1 (sym c.number.ensures ∙ c.if-number-at.false)
-    c.work.ensures.done (λ full. either_kept (g.row.K == 1) c.args.work (c.work.ensures.keeps full)) c.work.ensures.given c.work.ensures.exit
+    c.work.ensures.done (λ full. either_kept _ (g.row.K == 1) c.args.work (c.work.ensures.keeps full)) c.work.ensures.given c.work.ensures.exit
