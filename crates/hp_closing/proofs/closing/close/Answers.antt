@@ -1,4 +1,4 @@
-use Rattle.std.proofs.Common.{◌≡◌, Option, Ok, true, Some, ap, subst, ◌∙◌}
+use Rattle.std.proofs.Common.{Option, Ok, ap, subst, ◌∙◌}
 use Rattle.std.specs.Prelude.{IfSome}
 use Rattle.hp_locked.specs.Views.{frames_list}
 use Rattle.hp_model.specs.machine.Machine.{start}
