@@ -1,4 +1,5 @@
 pub mod Opened
+mod Full
 mod Gathered
 mod CrossingEntries
 mod CrossingMounts
