@@ -4,9 +4,6 @@ use Rattle.hp_shared.specs.SlotWork.{full_for}
 use Rattle.hp_sessions.proofs.Parts.{work_handed}
 use Rattle.hp_sessions.proofs.session.Session.enter.Goals as goal
 
-pub work-requires-clause-copies : goal.work-requires-clause-copies
-work-requires-clause-copies g c = c.requires.copies
-
 pub returns-clause-handed : goal.returns-clause-handed
 returns-clause-handed g c =
     work_handed (g.row.K == 1) (full_for ((g.row.K == 1) ≡ true) c.args.work) g.N.Naming.page_bytes c.args.at c.deref_mut-slot.result.now c.work.new.slot

@@ -19,3 +19,13 @@ returns-in-Ok-clause-made g c = (
 
 pub returns-in-Err-clause-grows : goal.returns-in-Err-clause-grows
 returns-in-Err-clause-grows g c = grows_one c.args.self.now c.add.new.self c.in-Some.receipt c.add.ensures
+
+pub returns-in-Ok-clause-grows : goal.returns-in-Ok-clause-grows
+returns-in-Ok-clause-grows g c = grows_one c.args.self.now c.add.new.self c.in-Some.receipt c.add.ensures
+
+pub returns-in-Err-clause-refused : goal.returns-in-Err-clause-refused
+returns-in-Err-clause-refused g c =
+    subst (λ (r : Result Told Refusal). IsMade (g.row.K == 1) g.N.Naming.page_bytes c.args.self.now (OnSlot c.args.at (ForkMaps c.args.parent c.args.child)) (told_reply r) c.add.new.self)
+    c.in-Err.is
+    (made_added (g.row.K == 1) g.N.Naming.page_bytes c.args.self.now c.add.new.self (OnSlot c.args.at (ForkMaps c.args.parent c.args.child)) (told_reply c.in-Some.told)
+    c.in-Some.receipt c.in-Some.ensures.handed c.add.ensures)
