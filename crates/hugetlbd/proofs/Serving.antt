@@ -8,7 +8,7 @@ use Rattle.hp_serving.specs.declared.sessions.Ended.{Ended}
 use Rattle.hp_serving.specs.declared.sessions.Ended.TheVariants.{Printed, Unprinted, Failed}
 use Rattle.hp_closing.specs.Joined.{WasJoined}
 use Rattle.hp_words.specs.Config.{MachineChoice, chosen}
-use Rattle.hugetlbd.specs.Program.{MayBeLeft}
+use Rattle.hp_program.specs.Program.{MayBeLeft}
 use Rattle.hp_words.specs.declared.settings.Serving.{Serving}
 
 pub leaves : (A B : Closed → Type 0) (ended : Ended) → ((x : Closed) → A x → B x) → LeavesAsked A ended → LeavesAsked B ended

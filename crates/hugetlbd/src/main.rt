@@ -2,9 +2,8 @@
 #![tactic(auto)]
 
 mod over_tcp;
-mod program;
-mod server;
 
+use hp_program::{program, refuse};
 use hp_words::settings::Wrong;
 use over_tcp::OverTcp;
 use std::alloc::{AllocError, Global};
@@ -19,7 +18,7 @@ fn main(rt: HostRuntime) -> ExitCode {
     let alloc = rt.alloc();
     keep_freed_memory(alloc);
     let status = match words(&rt) {
-        Ok(words) => program::program(
+        Ok(words) => program(
             alloc,
             words.as_slice(),
             OverTcp {
@@ -30,7 +29,7 @@ fn main(rt: HostRuntime) -> ExitCode {
             &mut output,
             &mut faults,
         ),
-        Err(error) if error.kind() == ErrorKind::OutOfMemory => program::refuse(
+        Err(error) if error.kind() == ErrorKind::OutOfMemory => refuse(
             &Wrong::Memory,
             &mut output,
             &mut faults,

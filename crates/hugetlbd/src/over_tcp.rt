@@ -4,11 +4,11 @@ ghost use Rattle.std.specs.Thread.{IsSync};
 ghost use Rattle.hp_nodes.specs.Ledgers.{AreFrames};
 ghost use Rattle.hp_pool.specs.Ledgers.{AreLedgers};
 ghost use Rattle.hp_words.specs.Config.{IsMachineWithin, IsServing, choice_of};
-ghost use Rattle.hugetlbd.specs.Program.{IsServingEnded};
+ghost use Rattle.hp_program.specs.Program.{IsServingEnded};
 
-use crate::server::Server;
 use hp_model::naming::Naming;
 use hp_pool::Blanks;
+use hp_program::Server;
 use hp_server::{Open, Served};
 use hp_serving::{Connections, Ended, Listening, ServeFault, report, serve_sessions};
 use hp_sessions::Shared;

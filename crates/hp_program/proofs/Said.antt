@@ -11,7 +11,7 @@ use Rattle.hp_model.specs.declared.fault.RunFault.{RunFault}
 use Rattle.hp_model.specs.declared.fault.RunFault.TheVariants as fault
 use Rattle.hp_wire.proofs.Known.{appends_then, front_whole, front_then, front_more}
 use Rattle.hp_serving.specs.Ended.{Says}
-use Rattle.hugetlbd.specs.Program.{Refuses, named, text_for}
+use Rattle.hp_program.specs.Program.{Refuses, named, text_for}
 use Rattle.hp_words.specs.declared.settings.Wrong.TheVariants.{Parse}
 
 -- a text that is written part after part is cut within one of them

@@ -10,7 +10,7 @@ ghost use Rattle.hp_pool.specs.Ledgers.{AreLedgers};
 ghost use Rattle.hp_words.specs.Asked.{AsksForScript, AsksToServe, IsRefusedFor, hugetlbd};
 ghost use Rattle.hp_words.specs.Config.{MachineChoice, IsServing, IsMachineWithin, chosen, choice_of, usual};
 ghost use Rattle.hp_serving.specs.Ended.{Says};
-ghost use Rattle.hugetlbd.specs.Program.{AnswersKnown, AsksForText, IsServingEnded, Refuses, RunsOn, SaysRunEnd, named, status_of_run, text_for};
+ghost use Rattle.hp_program.specs.Program.{AnswersKnown, AsksForText, IsServingEnded, Refuses, RunsOn, SaysRunEnd, named, status_of_run, text_for};
 ghost use Rattle.hp_words.specs.declared.settings.Serving.{Serving as TheServing};
 ghost use Rattle.hp_words.specs.declared.settings.Wrong.{Wrong as TheWrong};
 

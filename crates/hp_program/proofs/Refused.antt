@@ -13,7 +13,7 @@ use Rattle.hp_words.specs.Config.{IsMachineWithin, IsServing, MachineChoice, usu
 use Rattle.hp_words.specs.declared.settings.Serving.{Serving}
 use Rattle.hp_words.specs.declared.settings.Wrong.{Wrong}
 use Rattle.hp_words.specs.declared.settings.Wrong.TheVariants.{Memory, Parse, BadValue, OptionFirst}
-use Rattle.hugetlbd.specs.Program.{AsksForText, IsStatusOfWrong, text_asked, text_for}
+use Rattle.hp_program.specs.Program.{AsksForText, IsStatusOfWrong, text_asked, text_for}
 
 -- right words that are refused end in status 1
 pub right_is_1 : (words : List Text) (w : Wrong) (status : ℕ) (c : MachineChoice) → IsRefusedFor words w → IsStatusOfWrong w status → AsksForScript words c → IsMachineWithin c → status ≡ 1

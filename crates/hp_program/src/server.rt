@@ -1,6 +1,6 @@
 //! What serves sessions, where the words ask for it.
 ghost use Rattle.hp_words.specs.Config.{IsMachineWithin, IsServing, choice_of};
-ghost use Rattle.hugetlbd.specs.Program.{IsServingEnded};
+ghost use Rattle.hp_program.specs.Program.{IsServingEnded};
 
 use hp_wire::ends::Sink;
 use hp_words::settings::{Machine, Serving};

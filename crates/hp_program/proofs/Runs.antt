@@ -8,7 +8,7 @@ use Rattle.hp_serving.specs.declared.sessions.Ended.{Ended}
 use Rattle.hp_serving.specs.declared.sessions.Ended.TheVariants.{Printed, Unprinted, Failed}
 use Rattle.hp_model.specs.run.Served.{AnswersInput, Serves, IsMemoryOrTooLong}
 use Rattle.hp_model.specs.declared.fault.RunFault.{RunFault}
-use Rattle.hugetlbd.specs.Program.{AnswersScript, Run, status_of_run}
+use Rattle.hp_program.specs.Program.{AnswersScript, Run, status_of_run}
 
 -- the machine ran
 pub run_ended : (s t machine : State) (r0 r1 w0 w1 : Option (List ℕ)) (result : Result ℕ RunFault) (reads writes : Type 0) → s ≡ machine
