@@ -1,7 +1,7 @@
 use Rattle.std.proofs.Common.{◌++◌}
 use Rattle.hp_program.proofs.Said.{says_of}
 use Rattle.hp_program.specs.Program.{named}
-use Rattle.hp_program.proofs.program.name.Goals as goal
+use Rattle.hp_program.proofs.run.name.Goals as goal
 
 pub returns : goal.returns
 returns g c =

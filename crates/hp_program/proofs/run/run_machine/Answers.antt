@@ -2,7 +2,7 @@ use Rattle.std.proofs.Common.{◌≡◌, ◌∙◌, ℕ, List, ap, rules}
 use Rattle.hp_model.specs.machine.Machine.{start}
 use Rattle.hp_system.proofs.Ready.{ready_pool}
 use Rattle.hp_program.proofs.Runs.{run_ended, script_answered}
-use Rattle.hp_program.proofs.program.run_machine.Goals as goal
+use Rattle.hp_program.proofs.run.run_machine.Goals as goal
 
 pub returns-clause-run : goal.returns-clause-run
 returns-clause-run g c =

@@ -4,7 +4,7 @@ use Rattle.hp_words.specs.Config.{MachineChoice, choice_of, chosen, usual}
 use Rattle.hp_program.proofs.Runs.{answered_well, answered_as, ends_below_2, ran_as, served_not_2}
 use Rattle.hp_words.proofs.Usual.{few_serve_not, few_texts, no_words}
 use Rattle.hp_program.proofs.Refused.{few_is_1, few_ask_no_text, not_taken, right_is_1, serves_is_1, told_as_asked}
-use Rattle.hp_program.proofs.program.program.Goals as goal
+use Rattle.hp_program.proofs.run.program.Goals as goal
 
 pub returns-in-Ok-Script-clause-usual : goal.returns-in-Ok-Script-clause-usual
 returns-in-Ok-Script-clause-usual g c few zero =

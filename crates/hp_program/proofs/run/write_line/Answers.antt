@@ -1,7 +1,7 @@
 use Rattle.std.proofs.Common.{◌≡◌, rules}
 use Rattle.std.proofs.lemmas.Result.{err_from_is_err_and, IfErr-weaker}
 use Rattle.hp_program.proofs.Said.{cut_first, cut_second, cut_third, cut_fourth, sent_fourth}
-use Rattle.hp_program.proofs.program.write_line.Goals as goal
+use Rattle.hp_program.proofs.run.write_line.Goals as goal
 
 pub returns-in_err-write_whole-clause-cut : goal.returns-in_err-write_whole-clause-cut
 returns-in_err-write_whole-clause-cut g c =

@@ -1,6 +1,6 @@
 use Rattle.std.proofs.Common.{◌≡◌, ◌∙◌, ap, sym, rules, true, false, option_map}
 use Rattle.hp_program.proofs.Said.{not_shown, shown}
-use Rattle.hp_program.proofs.program.refuse.Goals as goal
+use Rattle.hp_program.proofs.run.refuse.Goals as goal
 
 pub returns-in-Ok : goal.returns-in-Ok
 returns-in-Ok g c =
