@@ -44,7 +44,7 @@ use Rattle.hp_events.specs.declared.event.MountEvent.TheVariants as m
 use Rattle.hp_events.specs.Event.{event_of}
 use Rattle.hp_mount_laws.proofs.Ways.{fresh_choice, is_fresh}
 use Rattle.hp_shared.specs.Slots.{IsSlotEvent, IsSlotEventDone, SlotView, Went, is_trace_full}
-use Rattle.hp_shared.specs.SlotWork.{asked_event, is_exit}
+use Rattle.hp_shared.specs.SlotWork.{asked_event, full_for, is_exit}
 use Rattle.hp_shared.specs.declared.slot_work.SlotWork.{SlotWork}
 use Rattle.hp_shared.specs.declared.slot_work.SlotWork.TheVariants as w
 use Rattle.hp_shared.proofs.Acting.{always_came, none_acted}
@@ -262,6 +262,17 @@ fits size k other a can = tt
 -- what was handed back fits
 pub handed_fits : (kept : Bool) (size k : ℕ) (e : SlotEvent) (a : Answer) (receipt : Option Receipt) → IsHanded kept size (OnSlot k e) (Ok a) receipt → HasAnswerOf e a
 handed_fits kept size k e a receipt handed = fits size k e a handed.0
+
+-- ---- a door without room
+
+pub either_kept : (P : Type 0) (b : Bool) (work : SlotWork) → (b ≡ true) ⊎ full_for (P × (b ≡ true)) work → b ≡ true
+either_kept P b work (inl h) = h
+either_kept P b (w.Mount options) (inr h) = h.1
+either_kept P b (w.Remount options) (inr h) = h.1
+either_kept P b w.Umount (inr h) = absurd h
+either_kept P b (w.Fork parent child) (inr h) = absurd h
+either_kept P b (w.Exit task) (inr h) = absurd h
+either_kept P b (w.OfMount home e) (inr h) = h.1
 
 pub fits_result : (kept : Bool) (size k : ℕ) (e : SlotEvent) (r : Result Told Refusal) (receipt : Option Receipt) → IsHanded kept size (OnSlot k e) (told_reply r) receipt →
     IfOk r (λ t. HasAnswerOf e (told_answer t))

@@ -1,5 +1,4 @@
 pub mod Opened
-mod Full
 mod Gathered
 mod CrossingEntries
 mod CrossingMounts

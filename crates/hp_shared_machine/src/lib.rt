@@ -1,7 +1,6 @@
-//! The machine that threads share: how it is opened, lent by its parts, asked, and taken apart.
+//! The machine that threads share: how it is opened, lent by its parts, and taken apart.
 #![tactic(auto)]
 
-mod asking;
 mod making;
 mod parting;
 mod shared;

@@ -17,7 +17,7 @@ ghost use Rattle.hp_sessions.specs.Calls.{IsHanded};
 use super::Session;
 use hp_events::MountEvent;
 use hp_events::copies::Copies;
-use hp_locked::{Core, Gate};
+use hp_locked::{Core, Door, Gate};
 use hp_model::entry::{PoolEntry, Receipt, SlotEntry, TableEntry};
 use hp_model::event::{PoolEvent, TableEvent};
 use hp_model::names::Names;
@@ -147,7 +147,9 @@ impl<'a, N: Naming, R: Wait, G: Gate, const K: usize> Session<'a, N, R, G, K> {
         if slot.number() != at as u64 || !slot.has_maps_for(&work) {
             return missing::<K>(&work);
         }
-        Some(shared.work(self.rt, self.gate, slot, work, copies, room))
+        let mut door = Door::new(self.rt, self.gate, shared.core(), shared.nodes());
+        let (alloc, page_bytes) = (shared.alloc(), shared.page_bytes());
+        Some(slot.work(&mut door, alloc, page_bytes, work, copies, room))
     }
 
     // An event of the mount of a slot where no entries are kept.
@@ -174,7 +176,8 @@ impl<'a, N: Naming, R: Wait, G: Gate, const K: usize> Session<'a, N, R, G, K> {
         if slot.number() != at as u64 {
             return Err(absent::<K>(Refusal::NoSuchSlot));
         }
-        shared.event_unnoted(self.rt, self.gate, slot, home, event, room)
+        let mut door = Door::new(self.rt, self.gate, shared.core(), shared.nodes());
+        slot.event_unnoted(&mut door, shared.page_bytes(), home, event, room)
     }
 
     // The names of a slot's files.
