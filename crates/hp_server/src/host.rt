@@ -1,11 +1,13 @@
 //! What sessions are opened on.
 ghost use Rattle.std.specs.Prelude.{◌≡◌, []};
 
+use hp_entrance::Entrance;
 use hp_locked::Gate;
 use hp_model::entry::Receipt;
 use hp_model::naming::Naming;
 use hp_serving::Host;
-use hp_sessions::{Session, Shared};
+use hp_sessions::Session;
+use hp_shared_machine::Shared;
 use std::alloc::{AllocError, Global};
 use std::sync::Wait;
 
@@ -20,7 +22,7 @@ pub struct Waiting<'a, N: Naming, R: Wait, G: Gate, const K: usize> {
 
 // Behind a reference, so that it is known that the machine lives as long as the session.
 impl<'a, N: Naming, R: Wait, G: Gate, const K: usize> Host for &'a Waiting<'a, N, R, G, K> {
-    type Session = Session<'a, N, R, G, K>;
+    type Session = Session<Entrance<'a, N, R, G, K>>;
 
     /// The receipts, in order.
     type Told = Vec<Receipt>;
@@ -29,11 +31,16 @@ impl<'a, N: Naming, R: Wait, G: Gate, const K: usize> Host for &'a Waiting<'a, N
 
     ghost was_told = { λ session told. told.items ≡ session.receipts };
 
-    fn open(&self, alloc: Global) -> Result<Session<'a, N, R, G, K>, AllocError> {
-        Session::open(alloc, self.rt, self.shared, self.gate, self.room)
+    fn open(&self, alloc: Global) -> Result<Session<Entrance<'a, N, R, G, K>>, AllocError> {
+        let entrance = Entrance {
+            rt: self.rt,
+            shared: self.shared,
+            gate: self.gate,
+        };
+        Session::open(alloc, entrance, self.room)
     }
 
-    fn finish(session: Session<'a, N, R, G, K>) -> Vec<Receipt> {
+    fn finish(session: Session<Entrance<'a, N, R, G, K>>) -> Vec<Receipt> {
         session.finish()
     }
 }

@@ -1,39 +1,16 @@
 -- What a session answers to a step, and the receipts that it has of it.
-use Rattle.std.specs.Prelude.{◌≡◌, ◌⊎◌, ℕ, ◌+◌, ◌<◌, ◌≤◌, Bool, true, false, Option, None, Some, Err, List, [], ◌∷◌, ◌++◌, length, map}
+use Rattle.std.specs.Prelude.{◌≡◌, ◌⊎◌, ℕ, ◌+◌, ◌<◌, ◌≤◌, Bool, true, false, Err, List, [], ◌∷◌, ◌++◌, length, map}
 use Rattle.std.specs.Bool.{MatchBool}
 use Rattle.std.specs.List.{All}
-use Rattle.hp_model.specs.declared.entry.Asked.{Asked}
 use Rattle.hp_model.specs.declared.entry.Receipt.{Receipt}
 use Rattle.hp_model.specs.declared.event.Event.{Event}
-use Rattle.hp_model.specs.declared.event.Event.TheVariants.{Tasks as OnTasks, Slot as OnSlot, Pool as OnPool}
 use Rattle.hp_model.specs.declared.refusal.Refusal.TheVariants.{OutOfMemory, TraceFull}
 use Rattle.hp_model.specs.declared.step.Step.{Step}
-use Rattle.hp_model.specs.machine.Plan.{Reply, Slot}
+use Rattle.hp_model.specs.machine.Plan.{Reply}
 use Rattle.hp_model.specs.machine.Step.{Script, script}
-use Rattle.hp_model.specs.machine.Table.{Table, table_event}
-use Rattle.hp_model.specs.pool.PoolCounts.{Pool}
-use Rattle.hp_model.specs.pool.Resize.{pool_event}
 use Rattle.hp_model.specs.threads.Telling.{ReceiptsTell, Tells, TellsFront, carries_bytes, has_place, most_receipts, told_of}
-use Rattle.hp_shared.specs.Slots.{Went, is_trace_full}
-
--- ---- one event
-
--- the event has a state of its part in which it is answered so, where a page has that many bytes
-abbrev pub CanAnswer : (size : ℕ) → Event → Reply → Type 0
-CanAnswer size (OnTasks e) reply = (nodes : ℕ) × (old : Table) × (new : Table) × (table_event nodes old e ≡ (reply, new))
-CanAnswer size (OnSlot k e) reply = (old : Slot) × (asked : Option Asked) × (new : Slot) × Went size k old e reply asked new
-CanAnswer size (OnPool e) reply = (old : Pool) × (new : Pool) × (pool_event old e ≡ (reply, new))
-
--- where entries are kept there is a receipt of the event with its reply, and else none
-abbrev pub IsToldOf : (kept : Bool) → Event → Reply → Option Receipt → Type 0
-IsToldOf true e reply None = ⊥
-IsToldOf true e reply (Some r) = told_of r ≡ (e, reply)
-IsToldOf false e reply receipt = receipt ≡ None
-
--- what a part under its lock hands back of an event; TraceFull where entries are kept and there was no place for one
-abbrev pub IsHanded : (kept : Bool) (size : ℕ) → Event → Reply → Option Receipt → Type 0
-IsHanded kept size e reply receipt =
-    MatchBool (is_trace_full reply) ((kept ≡ true) × (has_place e ≡ false) × (receipt ≡ None)) (CanAnswer size e reply × IsToldOf kept e reply receipt)
+use Rattle.hp_parts.specs.Answered.{CanAnswer}
+use Rattle.hp_parts.specs.Replies.{is_trace_full}
 
 -- ---- a session
 

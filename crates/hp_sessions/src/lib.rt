@@ -1,7 +1,6 @@
-//! Sessions on the machine that threads share.
+//! Sessions on the parts of a machine.
 #![tactic(auto)]
 
 mod session;
 
-pub use hp_shared_machine::{Shared, Trails};
 pub use session::Session;

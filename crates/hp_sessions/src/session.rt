@@ -1,44 +1,38 @@
-//! A session on a machine that threads share.
+//! A session on the parts of a machine.
 ghost use Rattle.std.specs.Prelude.{◌≡◌, ◌+◌, ◌<◌, ◌≤◌, ◌==◌, [], true, length, IfOk, IfSome};
 ghost use Rattle.hp_model.specs.threads.JointRun.{option_cons};
 ghost use Rattle.hp_model.specs.Profile.{most_page_bytes};
 ghost use Rattle.hp_sessions.specs.Calls.{noted};
 
-mod entering;
 mod forking;
 mod making;
 mod service;
 mod steps;
 
-use hp_locked::Gate;
 use hp_model::entry::Receipt;
-use hp_model::naming::Naming;
-use hp_shared_machine::Shared;
+use hp_parts::Parts;
 use std::alloc::{AllocError, Global};
 use std::marker::Model;
-use std::sync::Wait;
 
-/// What one thread asks of the machine, step after step, while others do the same.
+/// What one thread asks of a machine's parts, step after step, while others do the same.
 ///
-/// Where the machine keeps entries (K is 1), a session keeps a receipt of each event that it was told of, in order, in room
-/// that is made as it opens. `finish` hands them out.
+/// Where the parts keep entries, a session keeps a receipt of each event that it was told of, in order, in room that is made as
+/// it opens. `finish` hands them out.
 #[derive(Drop)]
-pub struct Session<'a, N: Naming, R: Wait, G: Gate, const K: usize> {
-    rt: &'a R,
-    gate: &'a G,
-    shared: &'a Shared<N, K>,
+pub struct Session<P: Parts> {
+    parts: P,
     receipts: Vec<Receipt>,
     room: usize,
 }
 
-impl<'a, N: Naming, R: Wait, G: Gate, const K: usize> Model for Session<'a, N, R, G, K> {
+impl<P: Parts> Model for Session<P> {
     ghost use Rattle.std.specs.Prelude.{◌≤◌, vec_len, vec_capacity};
     ghost use Rattle.hp_sessions.specs.Calls.{SessionView};
 
     ghost Value = { SessionView };
 
     ghost view = { λ s. record {
-      slots = s.shared.now.slots;
+      slots = P.slots s.parts;
       receipts = s.receipts.items;
       room = s.room;
     } };
@@ -46,28 +40,20 @@ impl<'a, N: Naming, R: Wait, G: Gate, const K: usize> Model for Session<'a, N, R
     ghost invariant = { λ s. (vec_len s.receipts ≤ s.room) × (s.room ≤ vec_capacity s.receipts) };
 }
 
-impl<'a, N: Naming, R: Wait, G: Gate, const K: usize> Session<'a, N, R, G, K> {
+impl<P: Parts> Session<P> {
     /// A session with room for so many receipts, where entries are kept; else it takes no memory.
-    pub fn open(
-        alloc: Global,
-        rt: &'a R,
-        shared: &'a Shared<N, K>,
-        gate: &'a G,
-        room: usize,
-    ) -> Result<Self, AllocError>
-        ensures slots { IfOk result (λ s. s.slots ≡ shared.entry.now.slots) }
+    pub fn open(alloc: Global, parts: P, room: usize) -> Result<Self, AllocError>
+        ensures slots { IfOk result (λ s. s.slots ≡ P.slots parts) }
         ensures none { IfOk result (λ s. s.receipts ≡ []) }
-        ensures room { IfOk result (λ s. (K == 1) ≡ true → s.room ≡ room) }
-        ensures page { N.page_bytes ≤ most_page_bytes }
+        ensures room { IfOk result (λ s. P.keeps ≡ true → s.room ≡ room) }
+        ensures page { P.page ≤ most_page_bytes }
     {
-        let _bytes = shared.page_bytes();
+        let _bytes = parts.page_bytes();
+        let room = if parts.is_kept() { room } else { 0 };
         let mut receipts = Vec::new(alloc);
-        let room = if K == 1 { room } else { 0 };
         receipts.reserve(room)?;
         Ok(Session {
-            rt,
-            gate,
-            shared,
+            parts,
             receipts,
             room,
         })
@@ -75,7 +61,7 @@ impl<'a, N: Naming, R: Wait, G: Gate, const K: usize> Session<'a, N, R, G, K> {
 
     /// The receipts, in order. It takes no memory.
     pub fn finish(self) -> Vec<Receipt>
-        ensures { result.items ≡ self.entry.receipts }
+        ensures { result.items ≡ self.receipts }
     {
         let Session { receipts, .. } = self;
         receipts

@@ -4,15 +4,17 @@ ghost use Rattle.hp_nodes.specs.Ledgers.{AreFrames};
 ghost use Rattle.hp_pool.specs.Ledgers.{AreLedgers};
 
 use crate::gates::{Free, Slow};
+use crate::rows::opened;
 use crate::same::same;
 use crate::steps::{Dice, any_step};
 use hp_closing::close;
+use hp_entrance::Entrance;
 use hp_model::entry::Receipt;
 use hp_model::lent::Lent;
 use hp_model::naming::Naming;
 use hp_model::step::{Reserving, Sharing, Step};
 use hp_pool::Blanks;
-use hp_sessions::{Session, Shared};
+use hp_shared_machine::Shared;
 use std::alloc::Global;
 use std::marker::Brand;
 use std::process::Abort;
@@ -40,7 +42,16 @@ fn start<N: Naming, R: Wait + Abort, const K: usize>(
     shared: &Shared<N, K>,
 ) -> Vec<Receipt> {
     let free = Free {};
-    let mut session = Session::open(alloc, rt, shared, &free, ROOM).expect(rt, "memory");
+    let mut session = opened(
+        rt,
+        alloc,
+        Entrance {
+            rt,
+            shared,
+            gate: &free,
+        },
+        ROOM,
+    );
     let name = Lent::new(b"a");
     let _pages = session.call(&Step::Nr { pages: 5 });
     let _file = session.call(&Step::Create { slot: 0, name });
@@ -74,7 +85,16 @@ fn work<N: Naming, R: Wait + Abort + Clock, const K: usize>(
     seed: u64,
 ) -> Vec<Receipt> {
     let slow = Slow::new(rt);
-    let mut session = Session::open(alloc, rt, shared, &slow, ROOM).expect(rt, "memory");
+    let mut session = opened(
+        rt,
+        alloc,
+        Entrance {
+            rt,
+            shared,
+            gate: &slow,
+        },
+        ROOM,
+    );
     let mut dice = Dice::new(seed, TASKS, SLOTS);
     for _step in 0..STEPS {
         let _reply = session.call(&any_step(&mut dice));

@@ -5,27 +5,24 @@ ghost use Rattle.hp_pool.specs.Ledgers.{AreLedgers};
 
 use crate::gates::Free;
 use crate::remounting::{PLACES, ended, mount};
-use crate::rows::{call, counts, opened};
+use crate::rows::{ROOM, call, counts, opened};
 use crate::same::same;
-use hp_locked::Gate;
+use hp_entrance::Entrance;
 use hp_model::answer::{Answer, NodeCount, Reply};
 use hp_model::lent::Lent;
 use hp_model::naming::Naming;
 use hp_model::refusal::Refusal;
 use hp_model::step::{Reserving, Sharing, Step};
+use hp_parts::Parts;
 use hp_pool::Blanks;
-use hp_sessions::{Session, Shared};
+use hp_sessions::Session;
+use hp_shared_machine::Shared;
 use std::alloc::Global;
 use std::marker::Brand;
 use std::process::Abort;
 use std::sync::Wait;
 
-fn preallocate<N: Naming, R: Wait, G: Gate, const K: usize>(
-    session: &mut Session<'_, N, R, G, K>,
-    slot: u64,
-    from: u64,
-    to: u64,
-) -> Reply {
+fn preallocate<P: Parts>(session: &mut Session<P>, slot: u64, from: u64, to: u64) -> Reply {
     let name = Lent::new(b"a");
     let step = Step::Preallocate {
         slot,
@@ -36,18 +33,12 @@ fn preallocate<N: Naming, R: Wait, G: Gate, const K: usize>(
     call(session, &step)
 }
 
-fn create<N: Naming, R: Wait, G: Gate, const K: usize>(
-    session: &mut Session<'_, N, R, G, K>,
-    slot: u64,
-) -> Reply {
+fn create<P: Parts>(session: &mut Session<P>, slot: u64) -> Reply {
     let name = Lent::new(b"a");
     call(session, &Step::Create { slot, name })
 }
 
-fn stat<N: Naming, R: Wait, G: Gate, const K: usize>(
-    session: &mut Session<'_, N, R, G, K>,
-    slot: u64,
-) -> Reply {
+fn stat<P: Parts>(session: &mut Session<P>, slot: u64) -> Reply {
     let name = Lent::new(b"a");
     call(session, &Step::Stat { slot, name })
 }
@@ -76,10 +67,7 @@ fn rows(zero: (u64, u64), one: (u64, u64)) -> Reply {
 }
 
 // The pages of the lowest node go first, and those of entries are there for them.
-fn fills<N: Naming, R: Wait + Abort, G: Gate, const K: usize>(
-    rt: &R,
-    session: &mut Session<'_, N, R, G, K>,
-) {
+fn fills<R: Abort, P: Parts>(rt: &R, session: &mut Session<P>) {
     same!(rt; call(session, &Step::Nr { pages: 4 }), Ok(Answer::Number(4)));
     same!(rt; call(session, &Step::Connect { task: 1, home: 0 }), Ok(Answer::Done));
     same!(rt; create(session, 0), Ok(Answer::Done));
@@ -105,10 +93,7 @@ fn fills<N: Naming, R: Wait + Abort, G: Gate, const K: usize>(
 }
 
 // What was given back is filled again, with zeros.
-fn fills_again<N: Naming, R: Wait + Abort, G: Gate, const K: usize>(
-    rt: &R,
-    session: &mut Session<'_, N, R, G, K>,
-) {
+fn fills_again<R: Abort, P: Parts>(rt: &R, session: &mut Session<P>) {
     let store = Step::Store {
         task: 1,
         slot: 0,
@@ -141,10 +126,7 @@ fn fills_again<N: Naming, R: Wait + Abort, G: Gate, const K: usize>(
     same!(rt; preallocate(session, 0, 0, 4), Ok(Answer::Done));
 }
 
-fn refuses<N: Naming, R: Wait + Abort, G: Gate, const K: usize>(
-    rt: &R,
-    session: &mut Session<'_, N, R, G, K>,
-) {
+fn refuses<R: Abort, P: Parts>(rt: &R, session: &mut Session<P>) {
     same!(rt; preallocate(session, 0, 3, 3), Err(Refusal::OutOfRange));
     same!(rt; preallocate(session, 0, 16_777_215, 16_777_217), Err(Refusal::OutOfRange));
     same!(rt; preallocate(session, 0, 0, 65_537), Err(Refusal::TooMany));
@@ -165,7 +147,12 @@ fn filling<N: Naming, R: Wait + Abort>(rt: &R, alloc: Global, blanks: Blanks)
 {
     let shared = Shared::<N, 1>::new(alloc, &[4, 4], 1024, 4, PLACES, blanks).expect(rt, "memory");
     let free = Free {};
-    let mut session = opened(rt, alloc, &shared, &free);
+    let way = Entrance {
+        rt,
+        shared: &shared,
+        gate: &free,
+    };
+    let mut session = opened(rt, alloc, way, ROOM);
     fills(rt, &mut session);
     fills_again(rt, &mut session);
     refuses(rt, &mut session);
@@ -181,7 +168,12 @@ fn pool_full<N: Naming, R: Wait + Abort>(rt: &R, alloc: Global, blanks: Blanks)
 {
     let shared = Shared::<N, 1>::new(alloc, &[4, 4], 1024, 4, 2, blanks).expect(rt, "memory");
     let free = Free {};
-    let mut session = opened(rt, alloc, &shared, &free);
+    let way = Entrance {
+        rt,
+        shared: &shared,
+        gate: &free,
+    };
+    let mut session = opened(rt, alloc, way, ROOM);
     same!(rt; call(&mut session, &Step::Nr { pages: 4 }), Ok(Answer::Number(4)));
     same!(rt; create(&mut session, 0), Ok(Answer::Done));
     same!(rt; counts(&mut session), Some([4, 4, 0, 0]));

@@ -4,18 +4,20 @@ ghost use Rattle.hp_nodes.specs.Ledgers.{AreFrames};
 ghost use Rattle.hp_pool.specs.Ledgers.{AreLedgers};
 
 use crate::gates::Free;
-use crate::rows::{call, counts, opened};
+use crate::rows::{ROOM, call, counts, opened};
 use crate::same::same;
 use hp_closing::close;
-use hp_locked::Gate;
+use hp_entrance::Entrance;
 use hp_model::answer::{Answer, Reply};
 use hp_model::entry::Receipt;
 use hp_model::lent::Lent;
 use hp_model::naming::Naming;
 use hp_model::refusal::Refusal;
 use hp_model::step::{Reserving, Sharing, Step};
+use hp_parts::Parts;
 use hp_pool::Blanks;
-use hp_sessions::{Session, Shared};
+use hp_sessions::Session;
+use hp_shared_machine::Shared;
 use std::alloc::Global;
 use std::marker::Brand;
 use std::process::Abort;
@@ -23,19 +25,12 @@ use std::sync::Wait;
 
 pub(crate) const PLACES: usize = 100;
 
-pub(crate) fn mount<N: Naming, R: Wait, G: Gate, const K: usize>(
-    session: &mut Session<'_, N, R, G, K>,
-    options: &[u8],
-) -> Reply {
+pub(crate) fn mount<P: Parts>(session: &mut Session<P>, options: &[u8]) -> Reply {
     let options = Lent::new(options);
     call(session, &Step::Mount { slot: 2, options })
 }
 
-fn remount<N: Naming, R: Wait, G: Gate, const K: usize>(
-    session: &mut Session<'_, N, R, G, K>,
-    slot: u64,
-    options: &[u8],
-) -> Reply {
+fn remount<P: Parts>(session: &mut Session<P>, slot: u64, options: &[u8]) -> Reply {
     let options = Lent::new(options);
     call(session, &Step::Remount { slot, options })
 }
@@ -51,12 +46,7 @@ fn usage(max: Option<u64>, min: u64, used: u64, files: u64) -> Reply {
     })
 }
 
-fn map<N: Naming, R: Wait, G: Gate, const K: usize>(
-    session: &mut Session<'_, N, R, G, K>,
-    task: u64,
-    from: u64,
-    pages: u64,
-) -> Reply {
+fn map<P: Parts>(session: &mut Session<P>, task: u64, from: u64, pages: u64) -> Reply {
     let step = Step::Map {
         task,
         slot: 2,
@@ -70,10 +60,7 @@ fn map<N: Naming, R: Wait, G: Gate, const K: usize>(
 }
 
 // Below what is used a limit stops growth only.
-fn below_usage<N: Naming, R: Wait + Abort, G: Gate, const K: usize>(
-    rt: &R,
-    session: &mut Session<'_, N, R, G, K>,
-) {
+fn below_usage<R: Abort, P: Parts>(rt: &R, session: &mut Session<P>) {
     same!(rt; call(session, &Step::Nr { pages: 4 }), Ok(Answer::Number(4)));
     same!(rt; call(session, &Step::Connect { task: 1, home: 0 }), Ok(Answer::Done));
     same!(rt; call(session, &Step::Connect { task: 2, home: 1 }), Ok(Answer::Done));
@@ -94,10 +81,7 @@ fn below_usage<N: Naming, R: Wait + Abort, G: Gate, const K: usize>(
 }
 
 // What a minimum adds is granted, or refused; what it leaves goes back, and with it surplus.
-fn minimum<N: Naming, R: Wait + Abort, G: Gate, const K: usize>(
-    rt: &R,
-    session: &mut Session<'_, N, R, G, K>,
-) {
+fn minimum<R: Abort, P: Parts>(rt: &R, session: &mut Session<P>) {
     same!(rt; remount(session, 2, b"min_size=5K"), Err(Refusal::NoPages));
     same!(rt; call(session, &Step::Df { slot: 2 }), usage(Some(2), 1, 0, 1));
     same!(rt; remount(session, 2, b"min_size=4K"), Ok(Answer::Done));
@@ -138,7 +122,12 @@ fn limits<N: Naming, R: Wait + Abort>(rt: &R, alloc: Global, blanks: Blanks)
 {
     let shared = Shared::<N, 1>::new(alloc, &[4, 4], 1024, 4, PLACES, blanks).expect(rt, "memory");
     let free = Free {};
-    let mut session = opened(rt, alloc, &shared, &free);
+    let way = Entrance {
+        rt,
+        shared: &shared,
+        gate: &free,
+    };
+    let mut session = opened(rt, alloc, way, ROOM);
     below_usage(rt, &mut session);
     minimum(rt, &mut session);
     let told = session.finish();
@@ -153,7 +142,12 @@ fn pool_full<N: Naming, R: Wait + Abort>(rt: &R, alloc: Global, blanks: Blanks)
 {
     let shared = Shared::<N, 1>::new(alloc, &[4, 4], 1024, 4, 3, blanks).expect(rt, "memory");
     let free = Free {};
-    let mut session = opened(rt, alloc, &shared, &free);
+    let way = Entrance {
+        rt,
+        shared: &shared,
+        gate: &free,
+    };
+    let mut session = opened(rt, alloc, way, ROOM);
     same!(rt; call(&mut session, &Step::Nr { pages: 4 }), Ok(Answer::Number(4)));
     same!(rt; mount(&mut session, b"min_size=1K"), Ok(Answer::Done));
     same!(rt; counts(&mut session), Some([4, 4, 1, 0]));
@@ -171,7 +165,12 @@ fn slot_full<N: Naming, R: Wait + Abort>(rt: &R, alloc: Global, blanks: Blanks)
 {
     let shared = Shared::<N, 1>::new(alloc, &[4, 4], 1024, 4, 3, blanks).expect(rt, "memory");
     let free = Free {};
-    let mut session = opened(rt, alloc, &shared, &free);
+    let way = Entrance {
+        rt,
+        shared: &shared,
+        gate: &free,
+    };
+    let mut session = opened(rt, alloc, way, ROOM);
     same!(rt; call(&mut session, &Step::Nr { pages: 4 }), Ok(Answer::Number(4)));
     same!(rt; mount(&mut session, b"min_size=1K"), Ok(Answer::Done));
     same!(rt; call(&mut session, &Step::Df { slot: 2 }), usage(None, 1, 0, 0));

@@ -6,14 +6,16 @@ ghost use Rattle.hp_pool.specs.Ledgers.{AreLedgers};
 use crate::gates::{Free, Hold, Place};
 use crate::same::same;
 use hp_closing::close;
-use hp_locked::Gate;
+use hp_entrance::Entrance;
 use hp_model::answer::{Answer, Reply};
 use hp_model::entry::Receipt;
 use hp_model::lent::Lent;
 use hp_model::naming::Naming;
 use hp_model::step::{Reserving, Sharing, Step};
+use hp_parts::Parts;
 use hp_pool::Blanks;
-use hp_sessions::{Session, Shared};
+use hp_sessions::Session;
+use hp_shared_machine::Shared;
 use std::alloc::Global;
 use std::marker::Brand;
 use std::process::Abort;
@@ -22,23 +24,20 @@ use std::thread;
 use std::thread::Threads;
 use std::time::Clock;
 
-const ROOM: usize = 100;
+pub(crate) const ROOM: usize = 100;
 
 // A session's call, of which nothing is carried through a test.
-pub(crate) fn call<N: Naming, R: Wait, G: Gate, const K: usize>(
-    session: &mut Session<'_, N, R, G, K>,
-    step: &Step<'_>,
-) -> Reply {
+pub(crate) fn call<P: Parts>(session: &mut Session<P>, step: &Step<'_>) -> Reply {
     session.call(step)
 }
 
-pub(crate) fn opened<'a, N: Naming, R: Wait + Abort, G: Gate, const K: usize>(
-    rt: &'a R,
+pub(crate) fn opened<R: Abort, P: Parts>(
+    rt: &R,
     alloc: Global,
-    shared: &'a Shared<N, K>,
-    gate: &'a G,
-) -> Session<'a, N, R, G, K> {
-    Session::open(alloc, rt, shared, gate, ROOM).expect(rt, "memory")
+    parts: P,
+    room: usize,
+) -> Session<P> {
+    Session::open(alloc, parts, room).expect(rt, "memory")
 }
 
 fn map_of(task: u64, name: &[u8]) -> Step<'_> {
@@ -65,9 +64,7 @@ fn store_of(task: u64, bytes: &[u8]) -> Step<'_> {
 }
 
 // Total, Free, Rsvd and Surp.
-pub(crate) fn counts<N: Naming, R: Wait, G: Gate, const K: usize>(
-    session: &mut Session<'_, N, R, G, K>,
-) -> Option<[u64; 4]> {
+pub(crate) fn counts<P: Parts>(session: &mut Session<P>) -> Option<[u64; 4]> {
     match call(session, &Step::Meminfo) {
         Ok(Answer::Numbers(counts)) => {
             Some([counts.total, counts.free, counts.rsvd, counts.surp])
@@ -77,10 +74,7 @@ pub(crate) fn counts<N: Naming, R: Wait, G: Gate, const K: usize>(
 }
 
 // Two tasks, each with a slot of its own and a map of a page there.
-fn start<N: Naming, R: Wait + Abort, G: Gate, const K: usize>(
-    rt: &R,
-    session: &mut Session<'_, N, R, G, K>,
-) {
+fn start<R: Abort, P: Parts>(rt: &R, session: &mut Session<P>) {
     same!(rt; call(session, &Step::Nr { pages: 4 }), Ok(Answer::Number(4)));
     for task in 1..3 {
         let home = task - 1;
@@ -100,7 +94,16 @@ fn held<N: Naming, R: Wait + Abort + Clock, const K: usize>(
     shared: &Shared<N, K>,
     hold: &Hold<'_, R>,
 ) -> Vec<Receipt> {
-    let mut session = opened(rt, alloc, shared, hold);
+    let mut session = opened(
+        rt,
+        alloc,
+        Entrance {
+            rt,
+            shared,
+            gate: hold,
+        },
+        ROOM,
+    );
     same!(rt; call(&mut session, &store_of(1, &[0x11])), Ok(Answer::Done));
     same!(rt; counts(&mut session), Some([4, 2, 0, 0]));
     session.finish()
@@ -116,7 +119,16 @@ fn meanwhile<N: Naming, R: Wait + Abort + Clock, const K: usize>(
 ) -> Vec<Receipt> {
     hold.wait();
     let free = Free {};
-    let mut session = opened(rt, alloc, shared, &free);
+    let mut session = opened(
+        rt,
+        alloc,
+        Entrance {
+            rt,
+            shared,
+            gate: &free,
+        },
+        ROOM,
+    );
     same!(rt; call(&mut session, &store_of(2, &[0x22])), Ok(Answer::Done));
     same!(rt; counts(&mut session), Some(wanted));
     hold.open();
@@ -137,7 +149,16 @@ fn row<N: Naming + Send + Sync, R: Threads + Wait + Abort + Clock + Sync>(
 {
     let shared = Shared::<N, 1>::new(alloc, &[4, 4], 1024, 4, ROOM, blanks).expect(rt, "memory");
     let free = Free {};
-    let mut first = opened(rt, alloc, &shared, &free);
+    let mut first = opened(
+        rt,
+        alloc,
+        Entrance {
+            rt,
+            shared: &shared,
+            gate: &free,
+        },
+        ROOM,
+    );
     start(rt, &mut first);
     let told = first.finish();
     let hold = Hold::new(rt, place);

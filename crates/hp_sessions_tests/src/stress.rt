@@ -4,13 +4,15 @@ ghost use Rattle.hp_nodes.specs.Ledgers.{AreFrames};
 ghost use Rattle.hp_pool.specs.Ledgers.{AreLedgers};
 
 use crate::gates::Free;
+use crate::rows::opened;
 use crate::same::same;
 use crate::steps::{Dice, any_step};
 use hp_closing::close;
+use hp_entrance::Entrance;
 use hp_model::entry::Receipt;
 use hp_model::naming::Naming;
 use hp_pool::Blanks;
-use hp_sessions::{Session, Shared};
+use hp_shared_machine::Shared;
 use std::alloc::Global;
 use std::marker::Brand;
 use std::process::Abort;
@@ -36,7 +38,16 @@ fn work<N: Naming, R: Wait + Abort, const K: usize>(
     seed: u64,
 ) -> Vec<Receipt> {
     let free = Free {};
-    let mut session = Session::open(alloc, rt, shared, &free, ROOM).expect(rt, "memory");
+    let mut session = opened(
+        rt,
+        alloc,
+        Entrance {
+            rt,
+            shared,
+            gate: &free,
+        },
+        ROOM,
+    );
     let mut dice = Dice::new(seed, TASKS, SLOTS);
     for _step in 0..STEPS {
         let _reply = session.call(&any_step(&mut dice));

@@ -23,7 +23,9 @@ use Rattle.hp_events.specs.declared.event.MountEvent.TheVariants as m
 use Rattle.hp_mount_laws.specs.Done.{IsDone, Through}
 use Rattle.hp_events.specs.Event.{event_of, is_usage}
 use Rattle.hp_mount_laws.proofs.Ways.{fresh_choice, is_fresh}
-use Rattle.hp_shared.specs.Slots.{IsActedOr, Went}
+use Rattle.hp_parts.specs.Answered.{Went}
+use Rattle.hp_parts.proofs.Came.{always_came}
+use Rattle.hp_shared.specs.Slots.{IsActedOr}
 
 -- a door that was not used tells what it was asked
 goes_on : {X : Type 0} (asked : X → Option Asked) (p : Plan) (old : Slot) (d : X) (reply : Reply) (new : Slot) (e : X) → asked d ≡ None →
@@ -83,14 +85,6 @@ always_goes Q (Finish o) None old reply new h g = subst Q (sym (left_is o old re
 always_goes Q (Finish o) (Some a) old reply new h g = absurd g
 always_goes Q (Ask sec f) None old reply new h g = absurd g
 always_goes Q (Ask sec f) (Some a) old reply new h g = subst Q (sym (left_is (f a.answer) old reply new g.1)) (h a.answer)
-
--- the outcome that an event came to
-pub always_came : (P : Outcome → Type 0) (p : Plan) (asked : Option Asked) (old : Slot) (reply : Reply) (new : Slot) → Always P p →
-    Goes p asked old reply new → (o : Outcome) × P o × Gives o old reply new
-always_came P (Finish o) None old reply new h g = (o, h, g)
-always_came P (Finish o) (Some a) old reply new h g = absurd g
-always_came P (Ask sec f) None old reply new h g = absurd g
-always_came P (Ask sec f) (Some a) old reply new h g = (f a.answer, h a.answer, g.1)
 
 gave : (o : Outcome) (old : Slot) (reply : Reply) (new : Slot) → Gives o old reply new → reply ≡ reply_of o
 gave (Refused r) old reply new g = g.0

@@ -20,17 +20,11 @@ use Rattle.hp_model.specs.threads.LocalRun.{Goes, IsLocalRun}
 use Rattle.hp_locked.specs.Told.{IsReceipt}
 use Rattle.hp_locked.specs.Views.{HasPlaces}
 use Rattle.hp_mount_laws.specs.Done.{MayEnter}
+use Rattle.hp_parts.specs.Answered.{Went}
+use Rattle.hp_parts.specs.Replies.{is_trace_full}
 use Rattle.hp_trail.specs.Keeping.{has_room, with_entry}
 
-abbrev pub is_trace_full : Reply → Bool
-is_trace_full (Err TraceFull) = true
-is_trace_full other = false
-
 -- ---- what an event asks of a slot
-
--- the event's plan, with some fresh stamp, went so by what was asked of the pool
-abbrev pub Went : (size k : ℕ) → Slot → SlotEvent → Reply → Option Asked → Slot → Type 0
-Went size k old e reply asked new = (c : Choice) × IsFresh c old × Goes (slot_event size k c old e) asked old reply new
 
 -- or nothing happened, as the event enters a section and the door had no room for one
 abbrev pub IsActedOr : Type 0 → (size k : ℕ) → Slot → SlotEvent → Reply → Option Asked → Slot → Type 0
@@ -80,8 +74,3 @@ IsSlotEvent full size old new e reply asked receipt =
     ((new ≡ old) × (receipt ≡ None) × (asked ≡ None)
     × ((has_room false old.left old.extra ≡ false) ⊎ (full × MayEnter (λ c. slot_event size old.number c old.mount e) old.mount)))
     (IsSlotEventDone size old new e reply asked receipt)
-
--- the reply with a list of names, or with its refusal
-abbrev pub names_reply : Result (List (List ℕ)) Refusal → Reply
-names_reply (Ok names) = Ok (Names names)
-names_reply (Err r) = Err r

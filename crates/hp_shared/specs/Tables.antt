@@ -10,13 +10,6 @@ use Rattle.hp_model.specs.threads.Closing.{to_remove}
 use Rattle.hp_model.specs.threads.TableRun.{IsTableRun}
 use Rattle.hp_locked.specs.Views.{HasPlaces}
 use Rattle.hp_trail.specs.Keeping.{with_entry}
-use Rattle.hp_shared.specs.declared.table_told.TableTold.{TableTold}
-use Rattle.hp_shared.specs.declared.table_told.TableTold.TheVariants.{Done, Home, Refused}
-
-abbrev pub table_reply : TableTold → Reply
-table_reply Done = Ok answer.Done
-table_reply (Home home) = Ok (answer.Home home)
-table_reply (Refused r) = Err r
 
 -- the tasks, with their trail if that is kept and the places left there
 pub record TableView : Type 0 where

@@ -6,11 +6,7 @@ mod mounting;
 mod names;
 mod remounting;
 mod slot;
-mod slot_work;
 mod table;
-mod table_told;
 
 pub use locked_slot::Slot;
-pub use slot_work::SlotWork;
 pub use table::Table;
-pub use table_told::TableTold;

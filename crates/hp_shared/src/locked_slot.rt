@@ -16,14 +16,15 @@ ghost use Rattle.hp_events.specs.Event.{event_of, shows_bytes};
 ghost use Rattle.hp_store.specs.Batch.{Batch as BatchValue};
 ghost use Rattle.hp_store.specs.Store.{Store as StoreValue, page_at};
 ghost use Rattle.hp_subpool.specs.Subpool.{Subpool as ShareValue};
-ghost use Rattle.hp_shared.specs.Slots.{IsSlotEvent, IsSlotTrail, is_trace_full, slot_start};
-ghost use Rattle.hp_shared.specs.SlotWork.{AreCopiesFor, IsAnother, asked_event, full_for, has_maps_for, is_exit, needs_room};
+ghost use Rattle.hp_parts.specs.Replies.{is_trace_full};
+ghost use Rattle.hp_parts.specs.SlotWork.{AreCopiesFor, IsAnother, asked_event, is_exit, needs_room};
+ghost use Rattle.hp_shared.specs.Slots.{IsSlotEvent, IsSlotTrail, slot_start};
+ghost use Rattle.hp_shared.specs.SlotWork.{full_for, has_maps_for};
 ghost use Rattle.hp_trail.specs.Keeping.{has_room, one_less, with_entry};
 
 mod listing;
 
 use crate::slot::{act, ask, copied, is_full};
-use crate::slot_work::{SlotWork, events_of};
 use hp_events::MountEvent;
 use hp_events::copies::Copies;
 use hp_locked::SessionDoor;
@@ -35,6 +36,7 @@ use hp_model::told::Told;
 use hp_mount::Mount;
 use hp_mount_door::PoolDoor;
 use hp_nodes::Page;
+use hp_parts::SlotWork;
 use hp_store::{PageBatch, PageStore};
 use hp_subpool::Subpool;
 use hp_trail::trail::Trail;
@@ -282,7 +284,7 @@ fn note<T: Trail<SlotEntry>>(
     if !trail.is_kept() {
         return None;
     }
-    let (event, again) = events_of(work, copies)?;
+    let (event, again) = work.events(copies)?;
     let receipt = Receipt {
         part: Part::Slot(slot),
         place: trail.place(),

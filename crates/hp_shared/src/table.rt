@@ -8,15 +8,16 @@ ghost use Rattle.hp_model.specs.Profile.{most_tasks};
 ghost use Rattle.hp_model.specs.threads.Closing.{removes_task};
 ghost use Rattle.hp_locked.specs.Told.{IsReceipt};
 ghost use Rattle.hp_locked.specs.Views.{IsFresh, frames_list};
-ghost use Rattle.hp_shared.specs.Tables.{IsTableEventDone, IsTableTrail, table_reply};
+ghost use Rattle.hp_parts.specs.Replies.{table_reply};
+ghost use Rattle.hp_shared.specs.Tables.{IsTableEventDone, IsTableTrail};
 ghost use Rattle.hp_trail.specs.Keeping.{has_room, one_less, with_entry};
 
-use crate::table_told::TableTold;
 use hp_locked::Full;
 use hp_model::entry::{Part, Receipt, TableEntry};
 use hp_model::event::{Event, TableEvent};
 use hp_model::naming::Naming;
 use hp_model::refusal::Refusal;
+use hp_parts::TableTold;
 use hp_tasks::TaskTable;
 use hp_trail::trail::Trail;
 use std::marker::{Model, PhantomData};

@@ -4,7 +4,5 @@ pub mod LineCuts
 pub mod Stands
 pub mod Turns
 pub mod Endings
-pub mod Scripts
 pub mod Added
 pub mod FixedFronts
-pub mod Seen

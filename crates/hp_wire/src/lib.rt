@@ -6,7 +6,6 @@ pub mod ends;
 pub mod fixed_buffer;
 mod replies;
 pub mod running;
-pub mod script;
 mod unanswered;
 mod written;
 

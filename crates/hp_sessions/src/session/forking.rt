@@ -6,31 +6,28 @@ ghost use Rattle.hp_model.specs.declared.step.Step.TheVariants.{Exit, Fork};
 ghost use Rattle.hp_model.specs.beside.Accesses.{done_reply};
 ghost use Rattle.hp_model.specs.machine.Step.{Script, exit_slots, fork_slots, script, undone};
 ghost use Rattle.hp_model.specs.Profile.{most_slots};
-ghost use Rattle.hp_shared.specs.Slots.{is_trace_full};
-ghost use Rattle.hp_shared.specs.Tables.{table_reply};
+ghost use Rattle.hp_parts.specs.Replies.{is_trace_full};
+ghost use Rattle.hp_parts.specs.Replies.{table_reply};
 ghost use Rattle.hp_sessions.specs.Calls.{Carries, Grows, HasReceiptRoom, Leads};
 ghost use Rattle.hp_sessions.specs.Forks.{marked_below};
 
 use super::Session;
-use hp_locked::Gate;
 use hp_model::event::TableEvent;
-use hp_model::naming::Naming;
 use hp_model::profile::MOST_SLOTS;
 use hp_model::refusal::Refusal;
-use hp_shared::TableTold;
-use std::sync::Wait;
+use hp_parts::{Parts, TableTold};
 
-impl<'a, N: Naming, R: Wait, G: Gate, const K: usize> Session<'a, N, R, G, K> {
+impl<P: Parts> Session<P> {
     // Ends a task, and then its maps go, slot after slot.
     pub(super) fn exit(&mut self, task: u64) -> Result<(), Refusal>
-        requires { HasReceiptRoom (K == 1) (self.old.slots + 1) self.old }
-        ensures { Carries (K == 1) N.page_bytes self.old (script self.old.slots (Exit task))
+        requires { HasReceiptRoom P.keeps (self.old.slots + 1) self.old }
+        ensures { Carries P.keeps P.page self.old (script self.old.slots (Exit task))
             (done_reply result) self.new }
     {
         if let TableTold::Refused(refusal) = self.make_table(TableEvent::Remove { task }) {
             return Err(refusal);
         }
-        for at in 0..self.shared.count() {
+        for at in 0..self.parts.count() {
             self.make_exit(at, task);
         }
         Ok(())
@@ -39,8 +36,8 @@ impl<'a, N: Naming, R: Wait, G: Gate, const K: usize> Session<'a, N, R, G, K> {
     // Adds a child of a task, which gets its parent's maps, slot after slot. Where a slot refuses, the child goes again, with
     // its maps; but not where there was no place for an event.
     pub(super) fn fork(&mut self, parent: u64, child: u64) -> Result<(), Refusal>
-        requires { HasReceiptRoom (K == 1) (2 * self.old.slots + 1) self.old }
-        ensures { Carries (K == 1) N.page_bytes self.old (script self.old.slots (Fork parent child))
+        requires { HasReceiptRoom P.keeps (2 * self.old.slots + 1) self.old }
+        ensures { Carries P.keeps P.page self.old (script self.old.slots (Fork parent child))
             (done_reply result) self.new }
     {
         let added = TableEvent::FindAndAdd { parent, child };
@@ -52,14 +49,14 @@ impl<'a, N: Naming, R: Wait, G: Gate, const K: usize> Session<'a, N, R, G, K> {
 
     // The parent's maps become the child's as well, slot after slot.
     fn fork_slots(&mut self, parent: u64, child: u64) -> Result<(), Refusal>
-        requires places { HasReceiptRoom (K == 1) (2 * self.old.slots) self.old }
+        requires places { HasReceiptRoom P.keeps (2 * self.old.slots) self.old }
         requires apart { (parent == child) ≡ false }
-        ensures { Carries (K == 1) N.page_bytes self.old
+        ensures { Carries P.keeps P.page self.old
             (fork_slots (range_with_len 0 self.old.slots) [] parent child)
             (done_reply result) self.new }
     {
         let mut done = [false; MOST_SLOTS];
-        for at in 0..self.shared.count() {
+        for at in 0..self.parts.count() {
             match self.make_fork(at, parent, child) {
                 Ok(forked) => done[at] = forked,
                 Err(refusal) => {
@@ -81,11 +78,11 @@ impl<'a, N: Naming, R: Wait, G: Gate, const K: usize> Session<'a, N, R, G, K> {
         child: u64,
         refusal: Refusal,
     ) -> Refusal
-        requires places { HasReceiptRoom (K == 1) (count + 1) self.old }
+        requires places { HasReceiptRoom P.keeps (count + 1) self.old }
         requires within { count ≤ self.old.slots }
         requires few { count ≤ most_slots }
         requires noted { is_trace_full (Err refusal) ≡ false }
-        ensures { Carries (K == 1) N.page_bytes self.old
+        ensures { Carries P.keeps P.page self.old
             (undone (marked_below done.now count) child refusal) (Err result) self.new }
     {
         for at in 0..count {

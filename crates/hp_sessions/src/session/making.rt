@@ -9,8 +9,8 @@ ghost use Rattle.hp_model.specs.beside.Told.{told_answer, told_reply};
 ghost use Rattle.hp_model.specs.text.Writing.{IsWithinLimits};
 ghost use Rattle.hp_model.specs.Profile.{most_bytes};
 ghost use Rattle.hp_events.specs.Event.{event_of, shows_bytes};
-ghost use Rattle.hp_shared.specs.SlotWork.{AreCopiesFor, asked_event, is_of_maps, needs_room};
-ghost use Rattle.hp_shared.specs.Tables.{table_reply};
+ghost use Rattle.hp_parts.specs.SlotWork.{AreCopiesFor, asked_event, is_of_maps, needs_room};
+ghost use Rattle.hp_parts.specs.Replies.{table_reply};
 ghost use Rattle.hp_sessions.specs.Calls.{Carries, Grows, HasReceiptRoom, IsMade, Leads};
 ghost use Rattle.hp_sessions.specs.Forks.{IsForked};
 ghost use Rattle.hp_sessions.specs.Works.{HasAnswerOf};
@@ -18,26 +18,23 @@ ghost use Rattle.hp_sessions.specs.Works.{HasAnswerOf};
 use super::Session;
 use hp_events::MountEvent;
 use hp_events::copies::Copies;
-use hp_locked::Gate;
 use hp_model::event::{PoolEvent, TableEvent};
-use hp_model::naming::Naming;
 use hp_model::refusal::Refusal;
 use hp_model::told::Told;
-use hp_shared::{SlotWork, TableTold};
-use std::sync::Wait;
+use hp_parts::{Parts, SlotWork, TableTold};
 
-impl<'a, N: Naming, R: Wait, G: Gate, const K: usize> Session<'a, N, R, G, K> {
+impl<P: Parts> Session<P> {
     // An event of the task table.
     pub(super) fn make_table(&mut self, event: TableEvent) -> TableTold
-        requires { HasReceiptRoom (K == 1) 1 self.old }
-        ensures made { IsMade (K == 1) N.page_bytes self.old (OnTasks event) (table_reply result)
+        requires { HasReceiptRoom P.keeps 1 self.old }
+        ensures made { IsMade P.keeps P.page self.old (OnTasks event) (table_reply result)
             self.new }
         ensures grows { Grows 1 self.old self.new }
     {
-        if K != 1 {
-            return self.enter_table_unnoted(event);
+        if !self.parts.is_kept() {
+            return self.parts.table_unnoted(event);
         }
-        let (told, receipt) = self.enter_table(event);
+        let (told, receipt) = self.parts.table(event);
         self.add(receipt);
         told
     }
@@ -45,15 +42,15 @@ impl<'a, N: Naming, R: Wait, G: Gate, const K: usize> Session<'a, N, R, G, K> {
     // An event of the pool alone.
     #[inline(always)]
     pub(super) fn make_pool(&mut self, event: PoolEvent) -> Result<Told<'static>, Refusal>
-        requires { HasReceiptRoom (K == 1) 1 self.old }
-        ensures made { IsMade (K == 1) N.page_bytes self.old (OnPool event) (told_reply result)
+        requires { HasReceiptRoom P.keeps 1 self.old }
+        ensures made { IsMade P.keeps P.page self.old (OnPool event) (told_reply result)
             self.new }
         ensures limits { IsWithinLimits (told_reply result) }
     {
-        if K != 1 {
-            return self.enter_pool_unnoted(event);
+        if !self.parts.is_kept() {
+            return self.parts.pool_unnoted(event);
         }
-        let (told, receipt) = self.enter_pool(event);
+        let (told, receipt) = self.parts.pool(event);
         self.add(receipt);
         told
     }
@@ -61,11 +58,11 @@ impl<'a, N: Naming, R: Wait, G: Gate, const K: usize> Session<'a, N, R, G, K> {
     // The home of a task; or why it isn't there, which is then the step's reply.
     #[inline(never)]
     pub(super) fn find(&mut self, task: u64) -> Result<u64, Refusal>
-        requires { HasReceiptRoom (K == 1) 1 self.old }
+        requires { HasReceiptRoom P.keeps 1 self.old }
         ensures found { IfOk result (λ home. (f : ℕ → Script) →
-            Leads (K == 1) N.page_bytes self.old (finding task f) self.new (f home)) }
+            Leads P.keeps P.page self.old (finding task f) self.new (f home)) }
         ensures refused { IfErr result (λ refusal. (f : ℕ → Script) →
-            Carries (K == 1) N.page_bytes self.old (finding task f) (Err refusal) self.new) }
+            Carries P.keeps P.page self.old (finding task f) (Err refusal) self.new) }
         ensures grows { Grows 1 self.old self.new }
     {
         match self.make_table(TableEvent::Find { task }) {
@@ -78,14 +75,14 @@ impl<'a, N: Naming, R: Wait, G: Gate, const K: usize> Session<'a, N, R, G, K> {
     // The same where no entries are kept.
     #[inline(always)]
     pub(super) fn find_unnoted(&mut self, task: u64) -> Result<u64, Refusal>
-        requires { (K == 1) ≡ false }
+        requires { P.keeps ≡ false }
         ensures found { IfOk result (λ home. (f : ℕ → Script) →
-            Leads (K == 1) N.page_bytes self.old (finding task f) self.new (f home)) }
+            Leads P.keeps P.page self.old (finding task f) self.new (f home)) }
         ensures refused { IfErr result (λ refusal. (f : ℕ → Script) →
-            Carries (K == 1) N.page_bytes self.old (finding task f) (Err refusal) self.new) }
+            Carries P.keeps P.page self.old (finding task f) (Err refusal) self.new) }
         ensures same { self.new ≡ self.old }
     {
-        match self.enter_table_unnoted(TableEvent::Find { task }) {
+        match self.parts.table_unnoted(TableEvent::Find { task }) {
             TableTold::Home(home) => Ok(home),
             TableTold::Refused(refusal) => Err(refusal),
             TableTold::Done => unreachable!(),
@@ -101,12 +98,12 @@ impl<'a, N: Naming, R: Wait, G: Gate, const K: usize> Session<'a, N, R, G, K> {
         copies: Option<Copies>,
         room: &'b mut [u8],
     ) -> Result<Told<'b>, Refusal>
-        requires places { HasReceiptRoom (K == 1) 1 self.old }
+        requires places { HasReceiptRoom P.keeps 1 self.old }
         requires room { needs_room work ≡ true → most_bytes ≤ length room.old }
         requires apart { lists_names (asked_event work) ≡ false }
         requires always { is_of_maps work ≡ false }
-        requires copies { (K == 1) ≡ true → AreCopiesFor work copies }
-        ensures carried { Carries (K == 1) N.page_bytes self.old
+        requires copies { P.keeps ≡ true → AreCopiesFor work copies }
+        ensures carried { Carries P.keeps P.page self.old
             (on_slot self.old.slots slot (asked_event work.entry))
             (told_reply result) self.new }
         ensures limits { IsWithinLimits (told_reply result) }
@@ -114,10 +111,10 @@ impl<'a, N: Naming, R: Wait, G: Gate, const K: usize> Session<'a, N, R, G, K> {
             HasAnswerOf (asked_event work.entry) (told_answer told)) }
     {
         let at = slot as usize;
-        if at >= self.shared.count() {
+        if at >= self.parts.count() {
             return Err(Refusal::NoSuchSlot);
         }
-        let Some((told, receipt)) = self.enter(at, work, copies, room) else {
+        let Some((told, receipt)) = self.parts.slot(at, work, copies, room) else {
             unreachable!()
         };
         self.add(receipt);
@@ -133,10 +130,10 @@ impl<'a, N: Naming, R: Wait, G: Gate, const K: usize> Session<'a, N, R, G, K> {
         event: MountEvent<'_>,
         room: &'b mut [u8],
     ) -> Result<Told<'b>, Refusal>
-        requires unkept { (K == 1) ≡ false }
+        requires unkept { P.keeps ≡ false }
         requires room { shows_bytes event ≡ true → most_bytes ≤ length room.old }
         requires apart { lists_names (event_of home event) ≡ false }
-        ensures carried { Carries (K == 1) N.page_bytes self.old
+        ensures carried { Carries P.keeps P.page self.old
             (on_slot self.old.slots slot (event_of home event.entry))
             (told_reply result) self.new }
         ensures limits { IsWithinLimits (told_reply result) }
@@ -144,24 +141,24 @@ impl<'a, N: Naming, R: Wait, G: Gate, const K: usize> Session<'a, N, R, G, K> {
             HasAnswerOf (event_of home event.entry) (told_answer told)) }
     {
         let at = slot as usize;
-        if at >= self.shared.count() {
+        if at >= self.parts.count() {
             return Err(Refusal::NoSuchSlot);
         }
-        self.enter_slot_unnoted(at, home, event, room)
+        self.parts.slot_unnoted(at, home, event, room)
     }
 
     // The names of a slot's files.
     pub(super) fn make_names(&mut self, slot: u64) -> Result<Told<'static>, Refusal>
-        requires { HasReceiptRoom (K == 1) 1 self.old }
-        ensures carried { Carries (K == 1) N.page_bytes self.old (on_slot self.old.slots slot Ls)
+        requires { HasReceiptRoom P.keeps 1 self.old }
+        ensures carried { Carries P.keeps P.page self.old (on_slot self.old.slots slot Ls)
             (told_reply result) self.new }
         ensures limits { IsWithinLimits (told_reply result) }
     {
         let at = slot as usize;
-        if at >= self.shared.count() {
+        if at >= self.parts.count() {
             return Err(Refusal::NoSuchSlot);
         }
-        let (names, receipt) = self.enter_names(at);
+        let (names, receipt) = self.parts.names(at);
         self.add(receipt);
         match names {
             Ok(names) => Ok(Told::Names(names)),
@@ -171,19 +168,19 @@ impl<'a, N: Naming, R: Wait, G: Gate, const K: usize> Session<'a, N, R, G, K> {
 
     // Gives a child the maps that its parent has on a slot: whether it has any there.
     pub(super) fn make_fork(&mut self, at: usize, parent: u64, child: u64) -> Result<bool, Refusal>
-        requires places { HasReceiptRoom (K == 1) 1 self.old }
+        requires places { HasReceiptRoom P.keeps 1 self.old }
         requires within { at < self.old.slots }
         requires apart { (parent == child) ≡ false }
         ensures made { IfOk result (λ forked. MatchBool forked
-            (IsForked (K == 1) N.page_bytes at parent child self.old self.new)
+            (IsForked P.keeps P.page at parent child self.old self.new)
             (self.new ≡ self.old)) }
         ensures refused { IfErr result (λ refusal.
-            IsMade (K == 1) N.page_bytes self.old (OnSlot at (ForkMaps parent child))
+            IsMade P.keeps P.page self.old (OnSlot at (ForkMaps parent child))
             (Err refusal) self.new) }
         ensures grows { Grows 1 self.old self.new }
     {
         let work = SlotWork::Fork { parent, child };
-        let Some((told, receipt)) = self.enter(at, work, None, &mut []) else {
+        let Some((told, receipt)) = self.parts.slot(at, work, None, &mut []) else {
             return Ok(false);
         };
         self.add(receipt);
@@ -195,14 +192,14 @@ impl<'a, N: Naming, R: Wait, G: Gate, const K: usize> Session<'a, N, R, G, K> {
 
     // The maps that a task has on a slot go.
     pub(super) fn make_exit(&mut self, at: usize, task: u64)
-        requires places { HasReceiptRoom (K == 1) 1 self.old }
+        requires places { HasReceiptRoom P.keeps 1 self.old }
         requires within { at < self.old.slots }
-        ensures leads { (next : Script) → Leads (K == 1) N.page_bytes self.old
+        ensures leads { (next : Script) → Leads P.keeps P.page self.old
             (exit_slot at task next) self.new next }
         ensures grows { Grows 1 self.old self.new }
     {
         let work = SlotWork::Exit { task };
-        if let Some((_done, receipt)) = self.enter(at, work, None, &mut []) {
+        if let Some((_done, receipt)) = self.parts.slot(at, work, None, &mut []) {
             self.add(receipt);
         }
     }

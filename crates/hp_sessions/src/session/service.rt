@@ -1,22 +1,19 @@
 //! A session as a service.
-ghost use Rattle.std.specs.Prelude.{◌==◌};
 ghost use Rattle.hp_sessions.specs.Calls.{IsCallAnswered};
 
 use super::Session;
-use hp_locked::Gate;
 use hp_model::answer::Reply;
-use hp_model::naming::Naming;
 use hp_model::refusal::Refusal;
 use hp_model::service::{Access, Service};
 use hp_model::step::Step;
 use hp_model::told::Told;
-use std::sync::Wait;
+use hp_parts::Parts;
 
-impl<'a, N: Naming, R: Wait, G: Gate, const K: usize> Service for Session<'a, N, R, G, K> {
+impl<P: Parts> Service for Session<P> {
     ghost may_answer = { λ old step reply new.
-        IsCallAnswered (K == 1) N.page_bytes old step reply new };
+        IsCallAnswered P.keeps P.page old step reply new };
 
-    ghost page = { λ s. N.page_bytes };
+    ghost page = { λ s. P.page };
 
     ghost is_ready = { λ s. Unit {0} };
 
@@ -47,6 +44,6 @@ impl<'a, N: Naming, R: Wait, G: Gate, const K: usize> Service for Session<'a, N,
     }
 
     fn page_bytes(&self) -> u64 {
-        self.shared.page_bytes()
+        self.parts.page_bytes()
     }
 }

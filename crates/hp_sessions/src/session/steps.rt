@@ -8,8 +8,8 @@ ghost use Rattle.hp_model.specs.beside.Told.{told_answer, told_reply};
 ghost use Rattle.hp_model.specs.text.Writing.{IsWithinLimits};
 ghost use Rattle.hp_model.specs.Profile.{most_bytes};
 ghost use Rattle.hp_events.specs.Event.{event_of, shows_bytes};
-ghost use Rattle.hp_shared.specs.SlotWork.{AreCopiesFor, asked_event, carries, is_of_maps, needs_room};
-ghost use Rattle.hp_shared.specs.Tables.{table_reply};
+ghost use Rattle.hp_parts.specs.SlotWork.{AreCopiesFor, asked_event, carries, is_of_maps, needs_room};
+ghost use Rattle.hp_parts.specs.Replies.{table_reply};
 ghost use Rattle.hp_events.specs.declared.work.Work.TheVariants.{OfTask as OfATask, OnSlot as OnASlot};
 ghost use Rattle.hp_sessions.specs.Calls.{HasReceiptRoom, IsCallAnswered};
 ghost use Rattle.hp_events.specs.Works.{ListsByNamesAlone};
@@ -18,20 +18,17 @@ ghost use Rattle.hp_sessions.specs.Works.{HasAnswerOf, IsAsked, IsBytes, IsWorke
 use super::Session;
 use hp_events::copies::Copies;
 use hp_events::{MountEvent, Work, most_receipts, work_of};
-use hp_locked::Gate;
 use hp_model::answer::Reply;
 use hp_model::event::{PoolEvent, TableEvent};
-use hp_model::naming::Naming;
 use hp_model::profile::MOST_BYTES;
 use hp_model::refusal::Refusal;
 use hp_model::service::Access;
 use hp_model::step::Step;
 use hp_model::told::Told;
-use hp_shared::{SlotWork, TableTold};
+use hp_parts::{Parts, SlotWork, TableTold};
 use std::alloc::AllocError;
-use std::sync::Wait;
 
-impl<'a, N: Naming, R: Wait, G: Gate, const K: usize> Session<'a, N, R, G, K> {
+impl<P: Parts> Session<P> {
     /// Answers a step, or leaves everything as it was and says why; a fork that is refused is undone.
     ///
     /// Where the machine keeps entries, a receipt of each of the step's events is added, in their order. It is answered
@@ -39,7 +36,7 @@ impl<'a, N: Naming, R: Wait, G: Gate, const K: usize> Session<'a, N, R, G, K> {
     /// trail has no place for one; and OutOfMemory before the first where there is no room for a copy of its name, options or
     /// bytes.
     pub fn call(&mut self, step: &Step<'_>) -> Reply
-        ensures answered { IsCallAnswered (K == 1) N.page_bytes self.old step.now result self.new }
+        ensures answered { IsCallAnswered P.keeps P.page self.old step.now result self.new }
         ensures limits { IsWithinLimits result }
     {
         let mut room = [0u8; MOST_BYTES];
@@ -49,23 +46,23 @@ impl<'a, N: Naming, R: Wait, G: Gate, const K: usize> Session<'a, N, R, G, K> {
     /// Answers a step as `call` does. Bytes are in the front of the room.
     pub fn do_step<'b>(&mut self, step: &Step<'_>, room: &'b mut [u8]) -> Result<Told<'b>, Refusal>
         requires { most_bytes ≤ length room.old }
-        ensures answered { IsCallAnswered (K == 1) N.page_bytes self.old step.now
+        ensures answered { IsCallAnswered P.keeps P.page self.old step.now
             (told_reply result)
             self.new }
         ensures limits { IsWithinLimits (told_reply result) }
     {
         if let Step::Attach { task } = step
-            && K != 1
+            && !self.parts.is_kept()
         {
             return table_told(self.make_table(TableEvent::Find { task: *task }));
         }
         if let Step::Meminfo = step
-            && K != 1
+            && !self.parts.is_kept()
         {
             return self.make_pool(PoolEvent::Meminfo);
         }
         if let Step::Nodes = step
-            && K != 1
+            && !self.parts.is_kept()
         {
             return self.make_pool(PoolEvent::Nodes);
         }
@@ -97,7 +94,7 @@ impl<'a, N: Naming, R: Wait, G: Gate, const K: usize> Session<'a, N, R, G, K> {
         room: &'b mut [u8],
     ) -> Result<&'b [u8], Refusal>
         requires { most_bytes ≤ length room.old }
-        ensures answered { IsCallAnswered (K == 1) N.page_bytes self.old
+        ensures answered { IsCallAnswered P.keeps P.page self.old
             (load_step access.now count)
             (bytes_reply result) self.new }
         ensures few { IfOk result (λ bytes. length bytes.now ≤ most_bytes) }
@@ -115,7 +112,7 @@ impl<'a, N: Naming, R: Wait, G: Gate, const K: usize> Session<'a, N, R, G, K> {
 
     /// Does the step of a store of these bytes, as `call` does.
     pub fn store(&mut self, access: &Access, bytes: &[u8]) -> Result<(), Refusal>
-        ensures { IsCallAnswered (K == 1) N.page_bytes self.old (store_step access.now bytes.now)
+        ensures { IsCallAnswered P.keeps P.page self.old (store_step access.now bytes.now)
             (done_reply result) self.new }
     {
         let event = MountEvent::Store {
@@ -134,7 +131,7 @@ impl<'a, N: Naming, R: Wait, G: Gate, const K: usize> Session<'a, N, R, G, K> {
     fn do_work<'b>(&mut self, work: &Work<'_>, room: &'b mut [u8]) -> Result<Told<'b>, Refusal>
         requires room { most_bytes ≤ length room.old }
         requires apart { ListsByNamesAlone work.now }
-        ensures worked { IsWorked (K == 1) N.page_bytes self.old work.now (told_reply result)
+        ensures worked { IsWorked P.keeps P.page self.old work.now (told_reply result)
             self.new }
         ensures limits { IsWithinLimits (told_reply result) }
     {
@@ -142,11 +139,11 @@ impl<'a, N: Naming, R: Wait, G: Gate, const K: usize> Session<'a, N, R, G, K> {
             return self.of_task(task, slot, event, room);
         }
         if let Work::OnSlot { slot, event } = *work
-            && K != 1
+            && !self.parts.is_kept()
         {
             return self.on_slot_unnoted(slot, event, room);
         }
-        if self.lacks(most_receipts(self.shared.count(), work)) {
+        if self.lacks(most_receipts(self.parts.count(), work)) {
             return Err(Refusal::TraceFull);
         }
         match *work {
@@ -177,11 +174,11 @@ impl<'a, N: Naming, R: Wait, G: Gate, const K: usize> Session<'a, N, R, G, K> {
         work: SlotWork<'_>,
         room: &'b mut [u8],
     ) -> Result<Told<'b>, Refusal>
-        requires places { HasReceiptRoom (K == 1) 1 self.old }
+        requires places { HasReceiptRoom P.keeps 1 self.old }
         requires room { needs_room work ≡ true → most_bytes ≤ length room.old }
         requires apart { lists_names (asked_event work) ≡ false }
         requires always { is_of_maps work ≡ false }
-        ensures asked { IsAsked (K == 1) N.page_bytes self.old slot work.entry (told_reply result)
+        ensures asked { IsAsked P.keeps P.page self.old slot work.entry (told_reply result)
             self.new }
         ensures limits { IsWithinLimits (told_reply result) }
     {
@@ -202,13 +199,13 @@ impl<'a, N: Naming, R: Wait, G: Gate, const K: usize> Session<'a, N, R, G, K> {
     ) -> Result<Told<'b>, Refusal>
         requires room { shows_bytes event ≡ true → most_bytes ≤ length room.old }
         requires apart { lists_names (event_of 0 event) ≡ false }
-        ensures worked { IsWorked (K == 1) N.page_bytes self.old (OfATask task slot event.entry)
+        ensures worked { IsWorked P.keeps P.page self.old (OfATask task slot event.entry)
             (told_reply result) self.new }
         ensures limits { IsWithinLimits (told_reply result) }
         ensures answer { IfOk result (λ told.
             HasAnswerOf (event_of 0 event.entry) (told_answer told)) }
     {
-        if K != 1 {
+        if !self.parts.is_kept() {
             return self.of_task_unnoted(task, slot, event, room);
         }
         if self.lacks(2) {
@@ -231,10 +228,10 @@ impl<'a, N: Naming, R: Wait, G: Gate, const K: usize> Session<'a, N, R, G, K> {
         event: MountEvent<'_>,
         room: &'b mut [u8],
     ) -> Result<Told<'b>, Refusal>
-        requires unkept { (K == 1) ≡ false }
+        requires unkept { P.keeps ≡ false }
         requires room { shows_bytes event ≡ true → most_bytes ≤ length room.old }
         requires apart { lists_names (event_of 0 event) ≡ false }
-        ensures worked { IsWorked (K == 1) N.page_bytes self.old (OnASlot slot event.entry)
+        ensures worked { IsWorked P.keeps P.page self.old (OnASlot slot event.entry)
             (told_reply result) self.new }
         ensures limits { IsWithinLimits (told_reply result) }
     {
@@ -250,10 +247,10 @@ impl<'a, N: Naming, R: Wait, G: Gate, const K: usize> Session<'a, N, R, G, K> {
         event: MountEvent<'_>,
         room: &'b mut [u8],
     ) -> Result<Told<'b>, Refusal>
-        requires unkept { (K == 1) ≡ false }
+        requires unkept { P.keeps ≡ false }
         requires room { shows_bytes event ≡ true → most_bytes ≤ length room.old }
         requires apart { lists_names (event_of 0 event) ≡ false }
-        ensures worked { IsWorked (K == 1) N.page_bytes self.old (OfATask task slot event.entry)
+        ensures worked { IsWorked P.keeps P.page self.old (OfATask task slot event.entry)
             (told_reply result) self.new }
         ensures limits { IsWithinLimits (told_reply result) }
         ensures answer { IfOk result (λ told.
@@ -269,23 +266,22 @@ impl<'a, N: Naming, R: Wait, G: Gate, const K: usize> Session<'a, N, R, G, K> {
     #[inline(always)]
     fn lacks(&self, receipts: usize) -> bool
         ensures { MatchBool result
-            (((K == 1) ≡ true) × (self.now.room < length self.now.receipts + receipts))
-            (HasReceiptRoom (K == 1) receipts self.now) }
+            ((P.keeps ≡ true) × (self.now.room < length self.now.receipts + receipts))
+            (HasReceiptRoom P.keeps receipts self.now) }
     {
-        K == 1 && self.left() < receipts
+        self.parts.is_kept() && self.left() < receipts
     }
 
     // Copies of what is carried, where entries are kept.
     #[inline(always)]
     fn copies(&self, work: &SlotWork<'_>) -> Result<Option<Copies>, AllocError>
-        ensures copies { IfOk result (λ c. (K == 1) ≡ true → AreCopiesFor work.now c) }
-        ensures memory { OnErr result (((K == 1) ≡ true) × (carries work.now ≡ true)) }
+        ensures copies { IfOk result (λ c. P.keeps ≡ true → AreCopiesFor work.now c) }
+        ensures memory { OnErr result ((P.keeps ≡ true) × (carries work.now ≡ true)) }
     {
-        if K != 1 {
+        if !self.parts.is_kept() {
             return Ok(None);
         }
-        let shared = self.shared;
-        work.copies(shared.alloc())
+        work.copies(self.parts.alloc())
     }
 }
 

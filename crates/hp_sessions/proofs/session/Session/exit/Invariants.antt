@@ -1,4 +1,3 @@
-use Rattle.std.proofs.Common.{◌==◌}
 use Rattle.std.specs.List.{range_with_len}
 use Rattle.hp_sessions.specs.Calls.{Grows}
 use Rattle.hp_sessions.proofs.Forking.{Exited}
@@ -6,6 +5,6 @@ use Rattle.hp_sessions.proofs.session.Session.exit.Given as goal
 
 abbrev pub invariant-loop-at : goal.invariant-loop-at
 invariant-loop-at g l = record {
-  gone : Exited (g.row.K == 1) g.N.Naming.page_bytes l.initial.self (range_with_len 0 l.at) l.fn.task l.self;
+  gone : Exited g.P.Parts.keeps g.P.Parts.page l.initial.self (range_with_len 0 l.at) l.fn.task l.self;
   grows : Grows l.at l.initial.self l.self;
 }

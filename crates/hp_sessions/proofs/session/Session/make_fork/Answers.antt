@@ -1,4 +1,4 @@
-use Rattle.std.proofs.Common.{◌==◌, subst}
+use Rattle.std.proofs.Common.{subst}
 use Rattle.std.specs.Prelude.{Result}
 use Rattle.hp_model.specs.declared.event.Event.TheVariants.{Slot as OnSlot}
 use Rattle.hp_model.specs.declared.event.SlotEvent.TheVariants.{ForkMaps}
@@ -12,8 +12,8 @@ use Rattle.hp_sessions.proofs.session.Session.make_fork.Goals as goal
 pub returns-in-Ok-clause-made : goal.returns-in-Ok-clause-made
 returns-in-Ok-clause-made g c = (
   told_answer c.in-Ok._done,
-  subst (λ (r : Result Told Refusal). IsMade (g.row.K == 1) g.N.Naming.page_bytes c.args.self.now (OnSlot c.args.at (ForkMaps c.args.parent c.args.child)) (told_reply r) c.add.new.self) c.in-Ok.is
-      (made_added (g.row.K == 1) g.N.Naming.page_bytes c.args.self.now c.add.new.self (OnSlot c.args.at (ForkMaps c.args.parent c.args.child)) (told_reply c.in-Some.told)
+  subst (λ (r : Result Told Refusal). IsMade g.P.Parts.keeps g.P.Parts.page c.args.self.now (OnSlot c.args.at (ForkMaps c.args.parent c.args.child)) (told_reply r) c.add.new.self) c.in-Ok.is
+      (made_added g.P.Parts.keeps g.P.Parts.page c.args.self.now c.add.new.self (OnSlot c.args.at (ForkMaps c.args.parent c.args.child)) (told_reply c.in-Some.told)
       c.in-Some.receipt c.in-Some.ensures.handed c.add.ensures),
 )
 
@@ -25,7 +25,7 @@ returns-in-Ok-clause-grows g c = grows_one c.args.self.now c.add.new.self c.in-S
 
 pub returns-in-Err-clause-refused : goal.returns-in-Err-clause-refused
 returns-in-Err-clause-refused g c =
-    subst (λ (r : Result Told Refusal). IsMade (g.row.K == 1) g.N.Naming.page_bytes c.args.self.now (OnSlot c.args.at (ForkMaps c.args.parent c.args.child)) (told_reply r) c.add.new.self)
+    subst (λ (r : Result Told Refusal). IsMade g.P.Parts.keeps g.P.Parts.page c.args.self.now (OnSlot c.args.at (ForkMaps c.args.parent c.args.child)) (told_reply r) c.add.new.self)
     c.in-Err.is
-    (made_added (g.row.K == 1) g.N.Naming.page_bytes c.args.self.now c.add.new.self (OnSlot c.args.at (ForkMaps c.args.parent c.args.child)) (told_reply c.in-Some.told)
+    (made_added g.P.Parts.keeps g.P.Parts.page c.args.self.now c.add.new.self (OnSlot c.args.at (ForkMaps c.args.parent c.args.child)) (told_reply c.in-Some.told)
     c.in-Some.receipt c.in-Some.ensures.handed c.add.ensures)

@@ -1,28 +1,28 @@
-use Rattle.std.proofs.Common.{◌==◌, ap, arith}
+use Rattle.std.proofs.Common.{ap, arith}
 use Rattle.hp_model.specs.declared.event.Event.TheVariants.{Slot as OnSlot}
 use Rattle.hp_model.specs.beside.Told.{told_reply}
-use Rattle.hp_shared.specs.SlotWork.{asked_event}
+use Rattle.hp_parts.specs.SlotWork.{asked_event}
 use Rattle.hp_sessions.specs.Calls.{SessionView}
 use Rattle.hp_sessions.proofs.Carrying.{made_added, no_slot, on_slot_made}
-use Rattle.hp_sessions.proofs.Parts.{fits_result}
+use Rattle.hp_sessions.proofs.Fitting.{fits_result}
 use Rattle.hp_sessions.proofs.session.Session.make_slot.Goals as goal
 
 pub returns-then-at-count-clause-carried : goal.returns-then-at-count-clause-carried
 returns-then-at-count-clause-carried g c =
     let many = c.count.ensures.count in
     let same = ap (λ (v : SessionView). v.slots) c.self.view_is in
-    no_slot (g.row.K == 1) g.N.Naming.page_bytes c.args.self.now c.args.slot (asked_event c.args.work) (let over = c.if-at-count.true in omega (arith, many, same, over))
+    no_slot g.P.Parts.keeps g.P.Parts.page c.args.self.now c.args.slot (asked_event c.args.work) (let over = c.if-at-count.true in omega (arith, many, same, over))
 
 pub returns-clause-carried : goal.returns-clause-carried
 returns-clause-carried g c =
     let many = c.count.ensures.count in
     let same = ap (λ (v : SessionView). v.slots) c.self.view_is in
     let e = asked_event c.args.work in
-    on_slot_made (g.row.K == 1) g.N.Naming.page_bytes c.args.self.now c.add.new.self c.args.slot e (told_reply c.in-Some.told)
+    on_slot_made g.P.Parts.keeps g.P.Parts.page c.args.self.now c.add.new.self c.args.slot e (told_reply c.in-Some.told)
     (let under = c.if-at-count.false in omega (arith, many, same, under))
-    (made_added (g.row.K == 1) g.N.Naming.page_bytes c.args.self.now c.add.new.self (OnSlot c.args.slot e) (told_reply c.in-Some.told) c.in-Some.receipt
+    (made_added g.P.Parts.keeps g.P.Parts.page c.args.self.now c.add.new.self (OnSlot c.args.slot e) (told_reply c.in-Some.told) c.in-Some.receipt
     c.in-Some.ensures.handed c.add.ensures)
 
 pub returns-clause-answer : goal.returns-clause-answer
 returns-clause-answer g c =
-    fits_result (g.row.K == 1) g.N.Naming.page_bytes c.args.slot (asked_event c.args.work) c.in-Some.told c.in-Some.receipt c.in-Some.ensures.handed
+    fits_result g.P.Parts.keeps g.P.Parts.page c.args.slot (asked_event c.args.work) c.in-Some.told c.in-Some.receipt c.in-Some.ensures.handed

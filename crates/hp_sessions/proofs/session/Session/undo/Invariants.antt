@@ -1,4 +1,3 @@
-use Rattle.std.proofs.Common.{◌==◌}
 use Rattle.hp_sessions.specs.Calls.{Grows}
 use Rattle.hp_sessions.specs.Forks.{marked_below}
 use Rattle.hp_sessions.proofs.Forking.{Exited}
@@ -6,6 +5,6 @@ use Rattle.hp_sessions.proofs.session.Session.undo.Given as goal
 
 abbrev pub invariant-loop-at : goal.invariant-loop-at
 invariant-loop-at g l = record {
-  gone : Exited (g.row.K == 1) g.N.Naming.page_bytes l.fn.self (marked_below l.done l.at) l.fn.child l.self;
+  gone : Exited g.P.Parts.keeps g.P.Parts.page l.fn.self (marked_below l.done l.at) l.fn.child l.self;
   grows : Grows l.at l.fn.self l.self;
 }

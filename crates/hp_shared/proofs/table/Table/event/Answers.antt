@@ -1,6 +1,6 @@
 use Rattle.std.proofs.Common.{false, sym, ◌∙◌}
 use Rattle.hp_model.specs.threads.Closing.{removes_task}
-use Rattle.hp_shared.specs.Tables.{table_reply}
+use Rattle.hp_parts.specs.Replies.{table_reply}
 use Rattle.hp_shared.proofs.Places.{or_room}
 use Rattle.hp_shared.proofs.TablesKept.{table_noted}
 use Rattle.hp_shared.proofs.table.Table.event.Goals as goal

@@ -1,5 +1,5 @@
 use Rattle.std.proofs.Common.{◌∙◌}
-use Rattle.hp_shared.specs.Tables.{table_reply}
+use Rattle.hp_parts.specs.Replies.{table_reply}
 use Rattle.hp_shared.proofs.TablesKept.{unnoted_stays}
 use Rattle.hp_shared.proofs.table.Table.event_unnoted.Goals as goal
 

@@ -1,0 +1,7 @@
+//! The way into the parts of the machine that threads share.
+#![tactic(auto)]
+
+mod asking;
+mod entrance;
+
+pub use entrance::Entrance;

@@ -1,0 +1,3 @@
+pub mod SlotWork
+pub mod Replies
+pub mod Answered

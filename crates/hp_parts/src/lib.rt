@@ -1,0 +1,10 @@
+//! The parts of a machine that threads share, as a session asks them.
+#![tactic(auto)]
+
+mod parts;
+mod slot_work;
+mod table_told;
+
+pub use parts::Parts;
+pub use slot_work::SlotWork;
+pub use table_told::TableTold;
