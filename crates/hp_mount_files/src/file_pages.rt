@@ -45,21 +45,23 @@ pub trait FilePages<P> {
 
     /// Room for so many pages, beside those for copies that several maps hold. Refused where memory is.
     fn make_room(&mut self, count: usize) -> Result<(), AllocError>
-        ensures ok { OnOk result ((seen self.new) ≡ record (seen self.old) { room = max (seen self.old).room count }) }
+        ensures ok { OnOk result (seen self.new
+            ≡ record (seen self.old) { room = max (seen self.old).room count }) }
         ensures few { OnOk result (sum_by file_pages (seen self.old).files + count ≤ 2 ^ 32) }
-        ensures err { OnErr result ((seen self.new) ≡ (seen self.old)) };
+        ensures err { OnErr result (seen self.new ≡ seen self.old) };
 
     /// Room for so many pages, and a hole's entry. Refused where memory is, and then only the room may be more.
     fn prepare(&mut self, file: usize, index: u64, count: usize) -> Result<(), AllocError>
         requires file { file < length (seen self.old).files }
         requires below { index < length (file_at (seen self.old).files file).cells }
         requires hole { cell_at (file_at (seen self.old).files file) index ≡ Hole }
-        ensures ok { OnOk result ((seen self.new)
+        ensures ok { OnOk result (seen self.new
             ≡ with_cell_at file index Entered (record (seen self.old) {
               room = max (seen self.old).room count;
             })) }
         ensures few { OnOk result (sum_by file_pages (seen self.old).files + count ≤ 2 ^ 32) }
-        ensures err { OnErr result ((seen self.new) ≡ record (seen self.old) { room = (seen self.new).room }) }
+        ensures err { OnErr result (seen self.new
+            ≡ record (seen self.old) { room = (seen self.new).room }) }
         ensures more { OnErr result ((seen self.old).room ≤ (seen self.new).room) };
 
     /// An entered index without a page is a hole.
@@ -82,5 +84,6 @@ pub trait FilePages<P> {
         requires file { file < length (seen self.old).files }
         requires fits { offset + length bytes.now ≤ page_bytes }
         ensures { seen self.new ≡ with_cell_at file index
-            (cell_written offset bytes.now (cell_at (file_at (seen self.old).files file) index)) (seen self.old) };
+            (cell_written offset bytes.now (cell_at (file_at (seen self.old).files file) index))
+            (seen self.old) };
 }

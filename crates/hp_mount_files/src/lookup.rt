@@ -16,7 +16,8 @@ pub trait Lookup {
     /// stood, its file is looked for near its place, else by a binary search, and the map in it by another; it is noted to stand
     /// there.
     fn find(&self, task: u64, number: u64) -> Option<MapPlace>
-        ensures some { IfSome result (λ at. IsFound (seen self.now).files task number at.file at.map) }
+        ensures some { IfSome result (λ at.
+            IsFound (seen self.now).files task number at.file at.map) }
         ensures none { IfNone result (IsMissing (seen self.now).files task number) };
 
     /// The place of the file with the name. It makes no step for each file: where another stands where the file stood, its tag

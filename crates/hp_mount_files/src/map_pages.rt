@@ -56,14 +56,17 @@ pub trait MapPages<P> {
     fn put_copy(&mut self, at: MapPlace, index: u64, page: P) -> PageNo
         requires file { at.file < length (seen self.old).files }
         requires map { at.map < length (file_at (seen self.old).files at.file).maps }
-        requires live { IsTrue (is_live (place_at (map_at (seen self.old).files at.file at.map) index)) }
-        requires bare { copy_of (place_at (map_at (seen self.old).files at.file at.map) index) ≡ None }
+        requires live { IsTrue (is_live
+            (place_at (map_at (seen self.old).files at.file at.map) index)) }
+        requires bare { copy_of
+            (place_at (map_at (seen self.old).files at.file at.map) index) ≡ None }
         requires room { 0 < (seen self.old).room }
         ensures fresh { is_among result (flat_map stamps_of (seen self.old).files) ≡ false }
         ensures copied { (consumed : Bool)
             → place_at (map_at (seen self.old).files at.file at.map) index ≡ Live consumed None
-            → (seen self.new) ≡ copied_at at.file at.map index
-            ((map_at (seen self.old).files at.file at.map).owner || consumed) result (page_of page) (seen self.old) }
+            → seen self.new ≡ copied_at at.file at.map index
+            ((map_at (seen self.old).files at.file at.map).owner || consumed)
+            result (page_of page) (seen self.old) }
         ensures once { IsCopyState CopyState.HeldOnce (file_at (seen self.new).files at.file)
             (place_at (map_at (seen self.new).files at.file at.map) index) };
 
@@ -72,12 +75,15 @@ pub trait MapPages<P> {
     fn part(&mut self, at: MapPlace, index: u64, page: P) -> PageNo
         requires file { at.file < length (seen self.old).files }
         requires map { at.map < length (file_at (seen self.old).files at.file).maps }
-        requires several { IsCopyState CopyState.HeldBySeveral (file_at (seen self.old).files at.file)
+        requires several { IsCopyState CopyState.HeldBySeveral
+            (file_at (seen self.old).files at.file)
             (place_at (map_at (seen self.old).files at.file at.map) index) }
         ensures fresh { is_among result (flat_map stamps_of (seen self.old).files) ≡ false }
         ensures parted { (consumed : Bool) (copy : Copy)
-            → place_at (map_at (seen self.old).files at.file at.map) index ≡ Live consumed (Some copy)
-            → (seen self.new) ≡ parted_at at.file at.map index consumed result (page_of page) (seen self.old) }
+            → place_at (map_at (seen self.old).files at.file at.map) index
+            ≡ Live consumed (Some copy)
+            → seen self.new ≡ parted_at at.file at.map index consumed
+            result (page_of page) (seen self.old) }
         ensures once { IsCopyState CopyState.HeldOnce (file_at (seen self.new).files at.file)
             (place_at (map_at (seen self.new).files at.file at.map) index) };
 
@@ -85,10 +91,12 @@ pub trait MapPages<P> {
     fn take_back(&mut self, at: MapPlace, index: u64)
         requires file { at.file < length (seen self.old).files }
         requires map { at.map < length (file_at (seen self.old).files at.file).maps }
-        requires copy { IsSome (copy_of (place_at (map_at (seen self.old).files at.file at.map) index)) }
+        requires copy { IsSome (copy_of
+            (place_at (map_at (seen self.old).files at.file at.map) index)) }
         ensures files { (copy : Copy)
             → copy_of (place_at (map_at (seen self.old).files at.file at.map) index) ≡ Some copy
-            → (seen self.new).files ≡ taken_back_at at.file at.map copy.stamp (seen self.old).files }
+            → (seen self.new).files
+            ≡ taken_back_at at.file at.map copy.stamp (seen self.old).files }
         ensures left { IsLeft 0 (seen self.old) (seen self.new) }
         ensures once { IsCopyState CopyState.HeldOnce (file_at (seen self.new).files at.file)
             (place_at (map_at (seen self.new).files at.file at.map) index) };
@@ -101,6 +109,7 @@ pub trait MapPages<P> {
             (place_at (map_at (seen self.old).files at.file at.map) index) }
         requires fits { offset + length bytes.now ≤ page_bytes }
         ensures { seen self.new ≡ placed_at at.file at.map index
-            (place_written offset bytes.now (place_at (map_at (seen self.old).files at.file at.map) index))
+            (place_written offset bytes.now
+            (place_at (map_at (seen self.old).files at.file at.map) index))
             (seen self.old) };
 }

@@ -2,7 +2,7 @@
 ghost use Rattle.std.specs.Prelude.{◌≡◌, ◌<◌, length, OnOk, OnErr};
 ghost use Rattle.hp_model.specs.declared.cell.Cell.TheVariants.{Hole, Entered};
 ghost use Rattle.hp_model.specs.files.File.{cell_at};
-ghost use Rattle.hp_lookup.specs.Files.{file_at, with_cell_at, filled_at};
+ghost use Rattle.hp_lookup.specs.Files.{file_at, with_cell_at};
 
 use super::Files;
 use crate::file_pages::FilePages;
@@ -75,13 +75,7 @@ impl<N: Naming> FilePages<Page<N>> for Files<N> {
         at.leave(index);
     }
 
-    fn fill(&mut self, file: usize, index: u64, page: Page<N>)
-        requires file { file < length self.old.files }
-        requires below { index < length (file_at self.old.files file).cells }
-        requires entered { cell_at (file_at self.old.files file) index ≡ Entered }
-        requires room { 0 < self.old.room }
-        ensures { self.new ≡ filled_at file index page self.old }
-    {
+    fn fill(&mut self, file: usize, index: u64, page: Page<N>) {
         let number = self.store.insert(page);
         let at = &mut self.list[file];
         at.fill(index, number);
