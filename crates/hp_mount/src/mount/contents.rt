@@ -12,7 +12,7 @@ ghost use Rattle.hp_mount_laws.specs.Reach.{with_place_at};
 
 use super::Mount;
 use hp_model::naming::Naming;
-use hp_mount_files::MapPlace;
+use hp_mount_files::{FilePages, MapPages, MapPlace};
 
 impl<N: Naming> Mount<N> {
     // Writes bytes into a file's page, if there is one.

@@ -16,6 +16,7 @@ use hp_model::naming::Naming;
 use hp_model::profile::{MOST_FILE_PAGES, MOST_MAP_PAGES};
 use hp_model::refusal::Refusal;
 use hp_mount_door::PoolDoor;
+use hp_mount_files::Lookup;
 use hp_store::PageBatch;
 use hp_subpool::Subpool;
 

@@ -12,6 +12,7 @@ use hp_model::naming::Naming;
 use hp_model::profile::MOST_FILE_PAGES;
 use hp_model::refusal::Refusal;
 use hp_mount_door::PoolDoor;
+use hp_mount_files::Lookup;
 use hp_store::PageStore;
 use hp_subpool::Subpool;
 

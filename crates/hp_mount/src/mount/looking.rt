@@ -19,6 +19,7 @@ use hp_model::naming::Naming;
 use hp_model::profile::MOST_BYTES;
 use hp_model::refusal::Refusal;
 use hp_model::told::Told;
+use hp_mount_files::{FilePages, Lookup};
 use std::alloc::AllocError;
 
 impl<N: Naming> Mount<N> {

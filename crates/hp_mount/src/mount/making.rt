@@ -25,7 +25,7 @@ use hp_model::profile::{MOST_FILE_PAGES, MOST_FILES, MOST_MAP_PAGES, MOST_MAPS, 
 use hp_model::refusal::Refusal;
 use hp_model::step::{Reserving, Sharing};
 use hp_mount_door::PoolDoor;
-use hp_mount_files::{MapRange, NextMap};
+use hp_mount_files::{Lookup, MapRange, NextMap};
 use hp_subpool::Subpool;
 use std::alloc::AllocError;
 

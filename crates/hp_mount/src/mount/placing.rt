@@ -12,7 +12,7 @@ use super::reach::{Asked, MapAccess};
 use hp_model::naming::Naming;
 use hp_model::profile::MOST_BYTES;
 use hp_model::refusal::Refusal;
-use hp_mount_files::MapPlace;
+use hp_mount_files::{Lookup, MapPlace};
 use hp_nodes::Page;
 
 impl<N: Naming> Mount<N> {

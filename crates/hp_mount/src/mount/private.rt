@@ -20,7 +20,7 @@ use hp_model::naming::Naming;
 use hp_model::refusal::Refusal;
 use hp_model::step::Intent;
 use hp_mount_door::PoolDoor;
-use hp_mount_files::{CellState, CopyState, Files, MapPlace};
+use hp_mount_files::{CellState, CopyState, FilePages, Files, MapPages, MapPlace};
 use hp_nodes::Page;
 use hp_subpool::Subpool;
 

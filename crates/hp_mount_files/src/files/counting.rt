@@ -8,6 +8,7 @@ ghost use Rattle.hp_model.specs.Profile.{most_maps, most_name_bytes};
 ghost use Rattle.hp_lookup.specs.Places.{all_maps, all_tasks};
 
 use super::Files;
+use crate::lookup::Lookup;
 use hp_lookup::NextMap;
 use hp_model::bytes::Bytes;
 use hp_model::names::Names;

@@ -17,6 +17,7 @@ ghost use Rattle.hp_store.specs.Batch.{Batch as BatchValue};
 ghost use Rattle.hp_subpool.specs.Subpool.{Subpool as ShareValue, is_full, used};
 
 use super::Files;
+use crate::file_pages::FilePages;
 use hp_file::CellState;
 use hp_model::naming::Naming;
 use hp_model::refusal::Refusal;

@@ -6,6 +6,7 @@ ghost use Rattle.hp_model.specs.machine.SlotEvent.{has_name};
 ghost use Rattle.hp_lookup.specs.Places.{has_it, IsFound, IsMissing, IsNamed};
 
 use super::Files;
+use crate::lookup::Lookup;
 use hp_lookup::{FileTag, MapPlace, MapTag};
 use hp_model::naming::Naming;
 use std::cell::Cell;
@@ -59,25 +60,6 @@ impl<N: Naming> Files<N> {
             0
         };
         MapPlace { file, map }
-    }
-
-    /// The place of the task's map of that number. It makes no step for each file or map: where another stands where the map
-    /// stood, its file is looked for near its place, else by a binary search, and the map in it by another; it is noted to stand
-    /// there.
-    #[inline(always)]
-    pub fn find(&self, task: u64, number: u64) -> Option<MapPlace>
-        ensures some { IfSome result (λ at. IsFound self.now.files task number at.file at.map) }
-        ensures none { IfNone result (IsMissing self.now.files task number) }
-    {
-        let Some(hint) = self.hints.map(task, number) else {
-            return None;
-        };
-        let tag = hint.get();
-        let at = tag.place();
-        if self.list.is_tagged(at.file, tag.file()) && self.is_map_at(at, task, number) {
-            return Some(at);
-        }
-        self.find_moved(hint, task, number)
     }
 
     // The place of the task's map of that number, if it stands at a place or at one of a few before it in the file.
@@ -137,13 +119,25 @@ impl<N: Naming> Files<N> {
         }
         self.list[at].is_named(name)
     }
+}
 
-    /// The place of the file with the name. It makes no step for each file: where another stands where the file stood, its tag
-    /// is found by a binary search, and the file noted to stand there.
-    pub fn named(&self, name: &[u8]) -> Option<usize>
-        ensures some { IfSome result (λ at. IsNamed self.now.files name.now at) }
-        ensures none { IfNone result (found (has_name name.now) self.now.files ≡ None) }
-    {
+impl<N: Naming> Lookup for Files<N> {
+    ghost seen = { λ f. f };
+
+    #[inline(always)]
+    fn find(&self, task: u64, number: u64) -> Option<MapPlace> {
+        let Some(hint) = self.hints.map(task, number) else {
+            return None;
+        };
+        let tag = hint.get();
+        let at = tag.place();
+        if self.list.is_tagged(at.file, tag.file()) && self.is_map_at(at, task, number) {
+            return Some(at);
+        }
+        self.find_moved(hint, task, number)
+    }
+
+    fn named(&self, name: &[u8]) -> Option<usize> {
         let Some(hint) = self.hints.file(name) else {
             return None;
         };

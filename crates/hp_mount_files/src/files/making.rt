@@ -14,6 +14,7 @@ ghost use Rattle.hp_model.specs.machine.SlotEvent.{has_name};
 ghost use Rattle.hp_lookup.specs.Places.{all_maps};
 
 use super::Files;
+use crate::file_pages::FilePages;
 use hp_file::File;
 use hp_lookup::{FileName, FileTag, Hints, MapPlace, MapRange, MapTag, NextMap, TaskCounts};
 use hp_model::naming::Naming;

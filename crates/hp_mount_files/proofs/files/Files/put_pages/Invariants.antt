@@ -1,4 +1,4 @@
-use Rattle.std.proofs.Common.{◌≡◌, ◌+◌, ◌-◌, ◌≤◌, length}
+use Rattle.std.proofs.Common.{◌≡◌, ◌+◌, ◌≤◌, length}
 use Rattle.std.specs.Prelude.{slice_set}
 use Rattle.hp_lookup.specs.Files.{file_at}
 use Rattle.hp_file.proofs.Zeros.{IsPutting}

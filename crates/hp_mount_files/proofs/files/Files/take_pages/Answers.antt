@@ -1,4 +1,4 @@
-use Rattle.std.proofs.Common.{◌≡◌, ◌+◌, ◌<◌, ◌≤◌, length, max, ap, sym, subst, ◌∙◌, arith}
+use Rattle.std.proofs.Common.{◌≡◌, ◌+◌, ◌<◌, length, max, ap, sym, subst, ◌∙◌, arith}
 use Rattle.hp_lookup.specs.Files.{Files}
 use Rattle.hp_file.specs.Filling.{entered_at}
 use Rattle.hp_lookup.specs.Keyed.{label_of}

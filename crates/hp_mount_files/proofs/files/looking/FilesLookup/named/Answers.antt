@@ -1,0 +1,13 @@
+use Rattle.std.proofs.Common.{◌≡◌, None, subst}
+use Rattle.hp_model.specs.Lists.{found}
+use Rattle.hp_model.specs.machine.SlotEvent.{has_name}
+use Rattle.hp_lookup.specs.Tally.{count_of}
+use Rattle.hp_lookup.specs.Files.{Files}
+use Rattle.hp_lookup.proofs.Unique.{no_name_here}
+use Rattle.hp_mount_files.proofs.files.looking.FilesLookup.named.Goals as goal
+
+pub returns-in_default-clause-none : goal.returns-in_default-clause-none
+returns-in_default-clause-none g c =
+    let s = c.self.inside in
+    subst (λ (v : Files). found (has_name c.args.name.now) v.files ≡ None) c.self.view_is
+    (no_name_here s.store s.maps (count_of s.counts) s.list.files c.self.invariant.keyed c.args.name.now (c.self.invariant.noted.names c.args.name.now c.in_default.ensures))

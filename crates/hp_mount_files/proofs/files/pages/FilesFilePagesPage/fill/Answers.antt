@@ -1,0 +1,36 @@
+use Rattle.std.proofs.Common.{◌≡◌, ◌<◌, length, ap, subst, sym, ◌∙◌}
+use Rattle.hp_model.specs.files.File.{cell_at}
+use Rattle.hp_model.specs.declared.cell.Cell.TheVariants.{Entered}
+use Rattle.hp_lookup.specs.Tally.{count_of}
+use Rattle.hp_lookup.specs.Files.{file_at, filled_at}
+use Rattle.hp_lookup.proofs.Views.{fill_view, fill_keeps}
+use Rattle.hp_lookup.specs.Keyed.{label_of}
+use Rattle.hp_lookup.specs.Numbered.{NumberedFile}
+use Rattle.hp_lookup.proofs.Keys.{files_same}
+use Rattle.hp_lookup.proofs.Level.{same_level}
+use Rattle.hp_mount_files.proofs.files.pages.FilesFilePagesPage.fill.Goals as goal
+
+pub invariant_of-self : goal.invariant_of-self
+invariant_of-self g c =
+    let s = c.self.inside in
+    let k = c.args.file in
+    let i = c.args.index in
+    files_same s.hints s.store c.insert-number.new.self s.more s.more s.maps (count_of s.counts) s.list.files k c.index_mut-at.result.now
+    c.fill.new.self (subst (λ v. k < length v.files) (sym c.self.view_is) c.requires.file) c.index_mut-at.ensures.value
+    (ap label_of c.fill.ensures)
+    (same_level c.index_mut-at.result.now.maps c.fill.new.self.maps (ap (λ (f : NumberedFile). f.maps) c.fill.ensures)) c.self.invariant
+    (fill_keeps s.store s.more s.list.files c.self.invariant.held k i (subst (λ v. k < length v.files) (sym c.self.view_is) c.requires.file) c.index_mut-at.result.now c.index_mut-at.ensures.value
+    c.insert-number.result c.args.page c.insert-number.new.self c.fill.new.self c.insert-number.ensures.fresh c.insert-number.ensures.within c.insert-number.ensures.inserted c.fill.ensures
+    (subst (λ v. cell_at (file_at v.files k) i ≡ Entered) (sym c.self.view_is) c.requires.entered)
+    (subst (λ v. i < length (file_at v.files k).cells) (sym c.self.view_is) c.requires.below)
+    (subst (λ v. 0 < v.room) (sym c.self.view_is) c.requires.room))
+
+pub returns : goal.returns
+returns g c =
+    let s = c.self.inside in
+    let k = c.args.file in
+    let i = c.args.index in
+    fill_view s.store s.more s.list.files c.self.invariant.held k i (subst (λ v. k < length v.files) (sym c.self.view_is) c.requires.file) c.index_mut-at.result.now c.index_mut-at.ensures.value
+    c.insert-number.result c.args.page c.insert-number.new.self c.fill.new.self c.insert-number.ensures.fresh c.insert-number.ensures.within c.insert-number.ensures.inserted c.fill.ensures
+    (subst (λ v. cell_at (file_at v.files k) i ≡ Entered) (sym c.self.view_is) c.requires.entered)
+    ∙ ap (filled_at k i c.args.page) c.self.view_is

@@ -1,0 +1,91 @@
+use Rattle.std.proofs.Common.{arith, ◌≡◌, ◌+◌, ◌≤◌, ◌==◌, ◌^◌, true, false, ap, subst, sym, ◌∙◌}
+use Rattle.std.specs.List.{sum_by}
+use Rattle.std.proofs.lemmas.Bool.{eq-eqb}
+use Rattle.std.proofs.lemmas.Bool.Decides.{nat_tests}
+use Rattle.hp_model.specs.files.Mapping.{place_at}
+use Rattle.hp_model.specs.files.MountCounts.{file_pages}
+use Rattle.hp_store.specs.Store.{holders_of, page_at}
+use Rattle.hp_lookup.specs.declared.copy_state.CopyState.TheVariants as state
+use Rattle.hp_lookup.specs.Files.{Files, file_at}
+use Rattle.hp_lookup.specs.Numbered.{copy_shown}
+use Rattle.hp_lookup.specs.Places.{map_at}
+use Rattle.hp_file.specs.States.{AreAgreed, IsCopyState}
+use Rattle.hp_file_list.proofs.CopyHeld.{agreed_there, copy_there, few_there, held_once}
+use Rattle.hp_mount_files.proofs.Here.{file_here, map_here, file_inside, map_inside}
+use Rattle.hp_mount_files.proofs.files.private.FilesMapPagesPage.copy.Goals as goal
+
+pub index-requires : goal.index-requires
+index-requires g c =
+    let s = c.self.inside in
+    file_inside s.store s.more s.list.files c.self.view_is c.args.at.file c.requires.file
+
+pub map-map-requires : goal.map-map-requires
+map-map-requires g c =
+    let s = c.self.inside in
+    map_inside s.store s.more s.list.files c.self.view_is c.args.at.file c.requires.file c.index.result.now c.index.ensures c.args.at.map c.requires.map
+
+pub returns-in_default-clause-agreed : goal.returns-in_default-clause-agreed
+returns-in_default-clause-agreed g c =
+    let s = c.self.inside in
+    subst (λ (v : Files). AreAgreed (file_at v.files c.args.at.file)) c.self.view_is
+    (agreed_there s.store s.more s.list.files c.self.invariant.held c.args.at.file c.args.at.map c.args.index
+    (file_here c.self.view_is c.args.at.file c.requires.file) (map_here c.self.view_is c.args.at.file c.args.at.map c.requires.map)
+    c.index.result.now c.index.ensures)
+
+pub returns-then-holders-eq1-clause-agreed : goal.returns-then-holders-eq1-clause-agreed
+returns-then-holders-eq1-clause-agreed g c =
+    let s = c.self.inside in
+    subst (λ (v : Files). AreAgreed (file_at v.files c.args.at.file)) c.self.view_is
+    (agreed_there s.store s.more s.list.files c.self.invariant.held c.args.at.file c.args.at.map c.args.index
+    (file_here c.self.view_is c.args.at.file c.requires.file) (map_here c.self.view_is c.args.at.file c.args.at.map c.requires.map)
+    c.index.result.now c.index.ensures)
+
+pub returns-else-holders-eq1-clause-agreed : goal.returns-else-holders-eq1-clause-agreed
+returns-else-holders-eq1-clause-agreed g c =
+    let s = c.self.inside in
+    subst (λ (v : Files). AreAgreed (file_at v.files c.args.at.file)) c.self.view_is
+    (agreed_there s.store s.more s.list.files c.self.invariant.held c.args.at.file c.args.at.map c.args.index
+    (file_here c.self.view_is c.args.at.file c.requires.file) (map_here c.self.view_is c.args.at.file c.args.at.map c.requires.map)
+    c.index.result.now c.index.ensures)
+
+pub returns-then-holders-eq1-clause-state : goal.returns-then-holders-eq1-clause-state
+returns-then-holders-eq1-clause-state g c =
+    let s = c.self.inside in
+    let n = c.in-Some.number in
+    let there = sym c.copy_at.ensures ∙ c.in-Some.is in
+    let once : (holders_of (page_at s.store n) == 1) ≡ true = ap (λ x. x == 1) (sym c.holders.ensures.holders) ∙ eq-eqb c.holders.result 1 c.if-holders-eq1.true in
+    subst (λ (v : Files). IsCopyState state.HeldOnce (file_at v.files c.args.at.file) (place_at (map_at v.files c.args.at.file c.args.at.map) c.args.index)) c.self.view_is (
+      copy_shown s.store n,
+      copy_there s.store s.more s.list.files c.self.invariant.held c.args.at.file c.args.at.map c.args.index
+          (file_here c.self.view_is c.args.at.file c.requires.file) (map_here c.self.view_is c.args.at.file c.args.at.map c.requires.map)
+          c.index.result.now c.index.ensures c.map-map.result.now c.map-map.ensures n there,
+      held_once s.store s.more s.list.files c.self.invariant.held
+          c.args.at.file c.args.at.map c.args.index (file_here c.self.view_is c.args.at.file c.requires.file)
+          (map_here c.self.view_is c.args.at.file c.args.at.map c.requires.map) c.index.result.now c.index.ensures c.map-map.result.now
+          c.map-map.ensures n there true once,
+    )
+
+pub returns-else-holders-eq1-clause-state : goal.returns-else-holders-eq1-clause-state
+returns-else-holders-eq1-clause-state g c =
+    let s = c.self.inside in
+    let n = c.in-Some.number in
+    let there = sym c.copy_at.ensures ∙ c.in-Some.is in
+    let once : (holders_of (page_at s.store n) == 1) ≡ false = ap (λ x. x == 1) (sym c.holders.ensures.holders) ∙ grind (arith, nat_tests, c.if-holders-eq1.false) in
+    subst (λ (v : Files). IsCopyState state.HeldBySeveral (file_at v.files c.args.at.file) (place_at (map_at v.files c.args.at.file c.args.at.map) c.args.index)) c.self.view_is (
+      copy_shown s.store n,
+      copy_there s.store s.more s.list.files c.self.invariant.held c.args.at.file c.args.at.map c.args.index
+          (file_here c.self.view_is c.args.at.file c.requires.file) (map_here c.self.view_is c.args.at.file c.args.at.map c.requires.map)
+          c.index.result.now c.index.ensures c.map-map.result.now c.map-map.ensures n there,
+      held_once s.store s.more s.list.files c.self.invariant.held
+          c.args.at.file c.args.at.map c.args.index (file_here c.self.view_is c.args.at.file c.requires.file)
+          (map_here c.self.view_is c.args.at.file c.args.at.map c.requires.map) c.index.result.now c.index.ensures c.map-map.result.now
+          c.map-map.ensures n there false once,
+    )
+
+pub returns-else-holders-eq1-clause-few : goal.returns-else-holders-eq1-clause-few
+returns-else-holders-eq1-clause-few g c several =
+    let s = c.self.inside in
+    subst (λ (v : Files). sum_by file_pages v.files + v.room ≤ 2 ^ 32) c.self.view_is
+    (few_there s.store s.more s.list.files c.self.invariant.held c.args.at.file c.args.at.map c.args.index
+    (file_here c.self.view_is c.args.at.file c.requires.file) (map_here c.self.view_is c.args.at.file c.args.at.map c.requires.map)
+    c.index.result.now c.index.ensures c.holders.ensures.few)

@@ -1,0 +1,114 @@
+use Rattle.std.proofs.Common.{◌≡◌, false, refl, ap, subst, ◌∙◌}
+use Rattle.std.specs.List.{flat_map}
+use Rattle.hp_laws.proofs.counts.Copies.{live_of}
+use Rattle.hp_mapping.specs.Mapped.{at_place, with_copy}
+use Rattle.hp_model.specs.files.Mapping.{place_at}
+use Rattle.hp_model.specs.files.MountCounts.{stamps_of}
+use Rattle.hp_model.specs.Lists.{is_among}
+use Rattle.hp_lookup.specs.Tally.{count_of}
+use Rattle.hp_lookup.specs.declared.copy_state.CopyState.TheVariants as state
+use Rattle.hp_lookup.specs.Files.{Files, parted_at}
+use Rattle.hp_lookup.specs.Keyed.{label_of}
+use Rattle.hp_lookup.specs.Numbered.{files_shown, mapping_at}
+use Rattle.hp_lookup.specs.Places.{map_at}
+use Rattle.hp_lookup.proofs.Keys.{files_same, same_label}
+use Rattle.hp_file_list.proofs.Parting.{number, part_keeps, part_levels, part_once, part_view, room_there, still_there}
+use Rattle.hp_file_list.proofs.PutCopy.{put_fresh}
+use Rattle.hp_mount_files.proofs.Here.{file_here, map_here, place_here, state_here, file_inside, map_inside}
+use Rattle.hp_mount_files.proofs.files.private.FilesMapPagesPage.part.Goals as goal
+
+pub index_mut-file-requires : goal.index_mut-file-requires
+index_mut-file-requires g c =
+    let s = c.self.inside in
+    file_inside s.store s.more s.list.files c.self.view_is c.args.at.file c.requires.file
+
+pub replace_copy-old-requires-clause-within : goal.replace_copy-old-requires-clause-within
+replace_copy-old-requires-clause-within g c =
+    let s = c.self.inside in
+    map_inside s.store s.more s.list.files c.self.view_is c.args.at.file c.requires.file c.index_mut-file.result.now c.index_mut-file.ensures.value c.args.at.map c.requires.map
+
+pub insert-number-requires : goal.insert-number-requires
+insert-number-requires g c =
+    let s = c.self.inside in
+    room_there s.store s.more s.list.files c.self.invariant.held c.args.at.file c.args.at.map c.args.index
+    (file_here c.self.view_is c.args.at.file c.requires.file) (map_here c.self.view_is c.args.at.file c.args.at.map c.requires.map)
+    (state_here c.self.view_is c.args.at.file c.args.at.map c.args.index state.HeldBySeveral c.requires.several)
+
+pub replace_copy-old-requires-clause-copy : goal.replace_copy-old-requires-clause-copy
+replace_copy-old-requires-clause-copy g c =
+    let s = c.self.inside in
+    let q = number s.store s.more s.list.files c.self.invariant.held c.args.at.file c.args.at.map c.args.index
+    (file_here c.self.view_is c.args.at.file c.requires.file) (map_here c.self.view_is c.args.at.file c.args.at.map c.requires.map)
+    c.index_mut-file.result.now c.index_mut-file.ensures.value (state_here c.self.view_is c.args.at.file c.args.at.map c.args.index
+    state.HeldBySeveral c.requires.several) in
+    rw q.1 refl
+
+pub drop_holder-requires-clause-held : goal.drop_holder-requires-clause-held
+drop_holder-requires-clause-held g c =
+    let s = c.self.inside in
+    still_there s.store s.more s.list.files c.self.invariant.held c.args.at.file c.args.at.map c.args.index
+    (file_here c.self.view_is c.args.at.file c.requires.file) (map_here c.self.view_is c.args.at.file c.args.at.map c.requires.map)
+    c.index_mut-file.result.now c.index_mut-file.ensures.value (state_here c.self.view_is c.args.at.file c.args.at.map c.args.index
+    state.HeldBySeveral c.requires.several) c.replace_copy-old.result c.replace_copy-old.ensures.old c.insert-number.result c.args.page
+    c.insert-number.new.self c.insert-number.ensures.fresh c.insert-number.ensures.within c.insert-number.ensures.inserted
+
+pub invariant_of-self : goal.invariant_of-self
+invariant_of-self g c =
+    let s = c.self.inside in
+    let x = c.index_mut-file.result.now in
+    let n = c.insert-number.result in
+    let several = (state_here c.self.view_is c.args.at.file c.args.at.map c.args.index state.HeldBySeveral c.requires.several) in
+    let live = live_of (place_at (map_at (files_shown s.store s.list.files) c.args.at.file c.args.at.map) c.args.index) several.0 several.1 in
+    let is = c.self.invariant in
+    files_same s.hints s.store c.drop_holder.new.store s.more c.drop_holder.new.more s.maps (count_of s.counts) s.list.files c.args.at.file x
+    c.replace_copy-old.new.self (file_here c.self.view_is c.args.at.file c.requires.file) c.index_mut-file.ensures.value
+    (ap label_of c.replace_copy-old.ensures.file ∙ same_label x c.args.at.map (at_place (with_copy n) c.args.index (mapping_at x c.args.at.map)) refl)
+    (part_levels s.store s.more s.list.files c.self.invariant.held c.args.at.file c.args.at.map c.args.index
+    (file_here c.self.view_is c.args.at.file c.requires.file) (map_here c.self.view_is c.args.at.file c.args.at.map c.requires.map)
+    c.index_mut-file.result.now c.index_mut-file.ensures.value (state_here c.self.view_is c.args.at.file c.args.at.map c.args.index
+    state.HeldBySeveral c.requires.several) c.replace_copy-old.result c.replace_copy-old.ensures.old c.insert-number.result c.args.page
+    c.insert-number.new.self c.insert-number.ensures.fresh c.insert-number.ensures.within c.insert-number.ensures.inserted
+    c.replace_copy-old.new.self c.replace_copy-old.ensures.file c.drop_holder.new.store c.drop_holder.ensures.dropped c.drop_holder.new.more
+    c.drop_holder.ensures.counted live.0 several.0 live.1) is (part_keeps s.store s.more s.list.files c.self.invariant.held c.args.at.file
+    c.args.at.map c.args.index (file_here c.self.view_is c.args.at.file c.requires.file)
+    (map_here c.self.view_is c.args.at.file c.args.at.map c.requires.map) c.index_mut-file.result.now c.index_mut-file.ensures.value
+    (state_here c.self.view_is c.args.at.file c.args.at.map c.args.index state.HeldBySeveral c.requires.several) c.replace_copy-old.result
+    c.replace_copy-old.ensures.old c.insert-number.result c.args.page c.insert-number.new.self c.insert-number.ensures.fresh
+    c.insert-number.ensures.within c.insert-number.ensures.inserted c.replace_copy-old.new.self c.replace_copy-old.ensures.file
+    c.drop_holder.new.store c.drop_holder.ensures.dropped c.drop_holder.new.more c.drop_holder.ensures.counted live.0 several.0 live.1)
+
+pub returns-clause-fresh : goal.returns-clause-fresh
+returns-clause-fresh g c =
+    let s = c.self.inside in
+    subst (λ (v : Files). is_among c.insert-number.result (flat_map stamps_of v.files) ≡ false) c.self.view_is
+    (put_fresh s.store s.more s.list.files c.self.invariant.held c.args.at.file c.args.at.map c.args.index
+    (file_here c.self.view_is c.args.at.file c.requires.file) (map_here c.self.view_is c.args.at.file c.args.at.map c.requires.map)
+    c.index_mut-file.result.now c.index_mut-file.ensures.value c.insert-number.result c.args.page c.insert-number.new.self
+    c.insert-number.ensures.fresh c.insert-number.ensures.within c.insert-number.ensures.inserted)
+
+pub returns-clause-parted : goal.returns-clause-parted
+returns-clause-parted g c consumed copy place =
+    let s = c.self.inside in
+    part_view s.store s.more s.list.files c.self.invariant.held c.args.at.file c.args.at.map c.args.index
+    (file_here c.self.view_is c.args.at.file c.requires.file) (map_here c.self.view_is c.args.at.file c.args.at.map c.requires.map)
+    c.index_mut-file.result.now c.index_mut-file.ensures.value (state_here c.self.view_is c.args.at.file c.args.at.map c.args.index
+    state.HeldBySeveral c.requires.several) c.replace_copy-old.result c.replace_copy-old.ensures.old c.insert-number.result c.args.page
+    c.insert-number.new.self c.insert-number.ensures.fresh c.insert-number.ensures.within c.insert-number.ensures.inserted
+    c.replace_copy-old.new.self c.replace_copy-old.ensures.file c.drop_holder.new.store c.drop_holder.ensures.dropped c.drop_holder.new.more
+    c.drop_holder.ensures.counted consumed copy (place_here c.self.view_is c.args.at.file c.args.at.map c.args.index place)
+    ∙ ap (parted_at c.args.at.file c.args.at.map c.args.index consumed c.insert-number.result c.args.page) c.self.view_is
+
+pub returns-clause-once : goal.returns-clause-once
+returns-clause-once g c =
+    let s = c.self.inside in
+    let x = c.index_mut-file.result.now in
+    let n = c.insert-number.result in
+    let several = (state_here c.self.view_is c.args.at.file c.args.at.map c.args.index state.HeldBySeveral c.requires.several) in
+    let live = live_of (place_at (map_at (files_shown s.store s.list.files) c.args.at.file c.args.at.map) c.args.index) several.0 several.1 in
+    part_once s.store s.more s.list.files c.self.invariant.held c.args.at.file c.args.at.map c.args.index
+    (file_here c.self.view_is c.args.at.file c.requires.file) (map_here c.self.view_is c.args.at.file c.args.at.map c.requires.map)
+    c.index_mut-file.result.now c.index_mut-file.ensures.value (state_here c.self.view_is c.args.at.file c.args.at.map c.args.index
+    state.HeldBySeveral c.requires.several) c.replace_copy-old.result c.replace_copy-old.ensures.old c.insert-number.result c.args.page
+    c.insert-number.new.self c.insert-number.ensures.fresh c.insert-number.ensures.within c.insert-number.ensures.inserted
+    c.replace_copy-old.new.self c.replace_copy-old.ensures.file c.drop_holder.new.store c.drop_holder.ensures.dropped c.drop_holder.new.more
+    c.drop_holder.ensures.counted live.0 several.0 live.1
