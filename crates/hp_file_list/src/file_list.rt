@@ -20,7 +20,6 @@ const FAR: usize = 64;
 /// Files in order of creation. Each lies in a place that it keeps, so where a file goes, the words that say where the others lie
 /// close up, and no other file is moved. A file that was made later has a greater tag, so that it is found by a binary search.
 /// In a vacant place lies a bare file. Contracts see the files, and for how many more there is room.
-#[derive(Drop)]
 pub struct FileList {
     alloc: Global,
     files: Vec<File>,
@@ -43,6 +42,18 @@ impl Model for FileList {
 
     ghost invariant = { λ l. IsOrder (vec_len l.files) l.order.items l.vacant.items
         (vec_capacity l.vacant) };
+}
+
+// What drops one calls this, and need not know what it holds.
+impl Drop for FileList {
+    fn drop(self) {
+        let FileList {
+            alloc: _alloc,
+            files: _files,
+            order: _order,
+            vacant: _vacant,
+        } = self;
+    }
 }
 
 impl FileList {

@@ -14,7 +14,6 @@ use std::marker::Model;
 
 /// A file's length, which of its indices are entered, and their pages; and a range that can be entered with no memory.
 /// Contracts see the list of its cells, and the range. The methods that `Inode` has are as it says of them.
-#[derive(Drop)]
 pub(crate) struct Indices {
     len: u64,
     table: PageTable,
@@ -40,6 +39,21 @@ impl Model for Indices {
     } };
 
     ghost invariant = { λ f. IsReady f.len f.count f.pages f.entries f.table f.from f.to };
+}
+
+// What drops one calls this, and need not know what it holds.
+impl Drop for Indices {
+    fn drop(self) {
+        let Indices {
+            len: _len,
+            table: _table,
+            count: _count,
+            pages: _pages,
+            entries: _entries,
+            from: _from,
+            to: _to,
+        } = self;
+    }
 }
 
 impl Indices {

@@ -32,7 +32,6 @@ mod table;
 ///
 /// A file takes 16 bytes until its first entry, with which its tables are made, and again once it is cut to length 0. Contracts see the list of its cells.
 /// Only `reserve_range` and `prepare` ask for memory.
-#[derive(Drop)]
 pub struct Inode {
     alloc: Global,
     form: Form,
@@ -49,6 +48,16 @@ impl Model for Inode {
     ghost view = { λ f. cells_in f.form };
 
     ghost invariant = { λ f. IsForm f.form };
+}
+
+// What drops one calls this, and need not know what it holds.
+impl Drop for Inode {
+    fn drop(self) {
+        let Inode {
+            alloc: _alloc,
+            form: _form,
+        } = self;
+    }
 }
 
 impl Inode {

@@ -11,7 +11,6 @@ use std::marker::Model;
 
 /// A file's indices, and a range of them that can be entered with no memory. Contracts see its cells, which are as they
 /// were, and the range.
-#[derive(Drop)]
 pub struct ReadyInode {
     pub(crate) alloc: Global,
     pub(crate) indices: Box<Indices>,
@@ -23,6 +22,16 @@ impl Model for ReadyInode {
     ghost Value = { Ready };
 
     ghost view = { λ f. f.indices.value };
+}
+
+// What drops one calls this, and need not know what it holds.
+impl Drop for ReadyInode {
+    fn drop(self) {
+        let ReadyInode {
+            alloc: _alloc,
+            indices: _indices,
+        } = self;
+    }
 }
 
 impl ReadyInode {

@@ -17,7 +17,6 @@ use std::marker::Model;
 /// Where each file stood, with its tag, by its name, and each map by its task and number. What is found so is looked at, and
 /// never trusted; but what was never noted, or was forgotten, is not there, and what is gone is forgotten. Contracts see what
 /// is noted, and for how many maps more there is room.
-#[derive(Drop)]
 pub struct Hints {
     files: IndexMap<Tagged<FileName, FileTag>, ()>,
     // the place of the name that was found last: a name is looked for right before it is forgotten
@@ -36,6 +35,17 @@ impl Model for Hints {
       keys = keys_of h.maps.entries;
       room = spare h.maps;
     } };
+}
+
+// What drops one calls this, and need not know what it holds.
+impl Drop for Hints {
+    fn drop(self) {
+        let Hints {
+            files: _files,
+            found: _found,
+            maps: _maps,
+        } = self;
+    }
 }
 
 // Sets the tag of the key at a place of a table, which may have stood there before with another.

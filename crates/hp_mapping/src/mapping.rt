@@ -16,7 +16,6 @@ use std::marker::Model;
 /// A task's map of a range of a file. Indices are the file's, in pages.
 ///
 /// Its tag is its maker's own, to find it by among others. No contract speaks of it.
-#[derive(Drop)]
 pub struct Mapping {
     task: u64,
     number: u64,
@@ -49,6 +48,22 @@ impl Model for Mapping {
 
     ghost invariant = { λ m. m.start + length m.places < 2 ^ 64
         × m.reserves ≡ owned_reserves (has_owner m.flags.0) m.places };
+}
+
+// What drops one calls this, and need not know what it holds.
+impl Drop for Mapping {
+    fn drop(self) {
+        let Mapping {
+            task: _task,
+            number: _number,
+            start: _start,
+            flags: _flags,
+            places: _places,
+            reserves: _reserves,
+            tag: _tag,
+            alloc: _alloc,
+        } = self;
+    }
 }
 
 impl Mapping {

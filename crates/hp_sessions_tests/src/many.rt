@@ -8,7 +8,6 @@ use crate::rows::opened;
 use crate::same::same;
 use crate::steps::{Dice, any_step};
 use hp_closing::close;
-use hp_entrance::Entrance;
 use hp_model::entry::Receipt;
 use hp_model::lent::Lent;
 use hp_model::naming::Naming;
@@ -42,16 +41,7 @@ fn start<N: Naming, R: Wait + Abort, const K: usize>(
     shared: &Shared<N, K>,
 ) -> Vec<Receipt> {
     let free = Free {};
-    let mut session = opened(
-        rt,
-        alloc,
-        Entrance {
-            rt,
-            shared,
-            gate: &free,
-        },
-        ROOM,
-    );
+    let mut session = opened(rt, alloc, shared, &free, ROOM);
     let name = Lent::new(b"a");
     let _pages = session.call(&Step::Nr { pages: 5 });
     let _file = session.call(&Step::Create { slot: 0, name });
@@ -85,16 +75,7 @@ fn work<N: Naming, R: Wait + Abort + Clock, const K: usize>(
     seed: u64,
 ) -> Vec<Receipt> {
     let slow = Slow::new(rt);
-    let mut session = opened(
-        rt,
-        alloc,
-        Entrance {
-            rt,
-            shared,
-            gate: &slow,
-        },
-        ROOM,
-    );
+    let mut session = opened(rt, alloc, shared, &slow, ROOM);
     let mut dice = Dice::new(seed, TASKS, SLOTS);
     for _step in 0..STEPS {
         let _reply = session.call(&any_step(&mut dice));

@@ -7,7 +7,6 @@ use crate::gates::Free;
 use crate::remounting::{PLACES, ended, mount};
 use crate::rows::{ROOM, call, counts, opened};
 use crate::same::same;
-use hp_entrance::Entrance;
 use hp_model::answer::{Answer, NodeCount, Reply};
 use hp_model::lent::Lent;
 use hp_model::naming::Naming;
@@ -147,12 +146,7 @@ fn filling<N: Naming, R: Wait + Abort>(rt: &R, alloc: Global, blanks: Blanks)
 {
     let shared = Shared::<N, 1>::new(alloc, &[4, 4], 1024, 4, PLACES, blanks).expect(rt, "memory");
     let free = Free {};
-    let way = Entrance {
-        rt,
-        shared: &shared,
-        gate: &free,
-    };
-    let mut session = opened(rt, alloc, way, ROOM);
+    let mut session = opened(rt, alloc, &shared, &free, ROOM);
     fills(rt, &mut session);
     fills_again(rt, &mut session);
     refuses(rt, &mut session);
@@ -168,12 +162,7 @@ fn pool_full<N: Naming, R: Wait + Abort>(rt: &R, alloc: Global, blanks: Blanks)
 {
     let shared = Shared::<N, 1>::new(alloc, &[4, 4], 1024, 4, 2, blanks).expect(rt, "memory");
     let free = Free {};
-    let way = Entrance {
-        rt,
-        shared: &shared,
-        gate: &free,
-    };
-    let mut session = opened(rt, alloc, way, ROOM);
+    let mut session = opened(rt, alloc, &shared, &free, ROOM);
     same!(rt; call(&mut session, &Step::Nr { pages: 4 }), Ok(Answer::Number(4)));
     same!(rt; create(&mut session, 0), Ok(Answer::Done));
     same!(rt; counts(&mut session), Some([4, 4, 0, 0]));

@@ -7,7 +7,6 @@ use crate::gates::Free;
 use crate::rows::{ROOM, call, counts, opened};
 use crate::same::same;
 use hp_closing::close;
-use hp_entrance::Entrance;
 use hp_model::answer::{Answer, Reply};
 use hp_model::entry::Receipt;
 use hp_model::lent::Lent;
@@ -122,12 +121,7 @@ fn limits<N: Naming, R: Wait + Abort>(rt: &R, alloc: Global, blanks: Blanks)
 {
     let shared = Shared::<N, 1>::new(alloc, &[4, 4], 1024, 4, PLACES, blanks).expect(rt, "memory");
     let free = Free {};
-    let way = Entrance {
-        rt,
-        shared: &shared,
-        gate: &free,
-    };
-    let mut session = opened(rt, alloc, way, ROOM);
+    let mut session = opened(rt, alloc, &shared, &free, ROOM);
     below_usage(rt, &mut session);
     minimum(rt, &mut session);
     let told = session.finish();
@@ -142,12 +136,7 @@ fn pool_full<N: Naming, R: Wait + Abort>(rt: &R, alloc: Global, blanks: Blanks)
 {
     let shared = Shared::<N, 1>::new(alloc, &[4, 4], 1024, 4, 3, blanks).expect(rt, "memory");
     let free = Free {};
-    let way = Entrance {
-        rt,
-        shared: &shared,
-        gate: &free,
-    };
-    let mut session = opened(rt, alloc, way, ROOM);
+    let mut session = opened(rt, alloc, &shared, &free, ROOM);
     same!(rt; call(&mut session, &Step::Nr { pages: 4 }), Ok(Answer::Number(4)));
     same!(rt; mount(&mut session, b"min_size=1K"), Ok(Answer::Done));
     same!(rt; counts(&mut session), Some([4, 4, 1, 0]));
@@ -165,12 +154,7 @@ fn slot_full<N: Naming, R: Wait + Abort>(rt: &R, alloc: Global, blanks: Blanks)
 {
     let shared = Shared::<N, 1>::new(alloc, &[4, 4], 1024, 4, 3, blanks).expect(rt, "memory");
     let free = Free {};
-    let way = Entrance {
-        rt,
-        shared: &shared,
-        gate: &free,
-    };
-    let mut session = opened(rt, alloc, way, ROOM);
+    let mut session = opened(rt, alloc, &shared, &free, ROOM);
     same!(rt; call(&mut session, &Step::Nr { pages: 4 }), Ok(Answer::Number(4)));
     same!(rt; mount(&mut session, b"min_size=1K"), Ok(Answer::Done));
     same!(rt; call(&mut session, &Step::Df { slot: 2 }), usage(None, 1, 0, 0));

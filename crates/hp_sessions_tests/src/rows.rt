@@ -7,6 +7,7 @@ use crate::gates::{Free, Hold, Place};
 use crate::same::same;
 use hp_closing::close;
 use hp_entrance::Entrance;
+use hp_locked::Gate;
 use hp_model::answer::{Answer, Reply};
 use hp_model::entry::Receipt;
 use hp_model::lent::Lent;
@@ -31,12 +32,14 @@ pub(crate) fn call<P: Parts>(session: &mut Session<P>, step: &Step<'_>) -> Reply
     session.call(step)
 }
 
-pub(crate) fn opened<R: Abort, P: Parts>(
-    rt: &R,
+pub(crate) fn opened<'a, N: Naming, R: Wait + Abort, G: Gate, const K: usize>(
+    rt: &'a R,
     alloc: Global,
-    parts: P,
+    shared: &'a Shared<N, K>,
+    gate: &'a G,
     room: usize,
-) -> Session<P> {
+) -> Session<Entrance<'a, N, R, G, K>> {
+    let parts = Entrance { rt, shared, gate };
     Session::open(alloc, parts, room).expect(rt, "memory")
 }
 
@@ -94,16 +97,7 @@ fn held<N: Naming, R: Wait + Abort + Clock, const K: usize>(
     shared: &Shared<N, K>,
     hold: &Hold<'_, R>,
 ) -> Vec<Receipt> {
-    let mut session = opened(
-        rt,
-        alloc,
-        Entrance {
-            rt,
-            shared,
-            gate: hold,
-        },
-        ROOM,
-    );
+    let mut session = opened(rt, alloc, shared, hold, ROOM);
     same!(rt; call(&mut session, &store_of(1, &[0x11])), Ok(Answer::Done));
     same!(rt; counts(&mut session), Some([4, 2, 0, 0]));
     session.finish()
@@ -119,16 +113,7 @@ fn meanwhile<N: Naming, R: Wait + Abort + Clock, const K: usize>(
 ) -> Vec<Receipt> {
     hold.wait();
     let free = Free {};
-    let mut session = opened(
-        rt,
-        alloc,
-        Entrance {
-            rt,
-            shared,
-            gate: &free,
-        },
-        ROOM,
-    );
+    let mut session = opened(rt, alloc, shared, &free, ROOM);
     same!(rt; call(&mut session, &store_of(2, &[0x22])), Ok(Answer::Done));
     same!(rt; counts(&mut session), Some(wanted));
     hold.open();
@@ -149,16 +134,7 @@ fn row<N: Naming + Send + Sync, R: Threads + Wait + Abort + Clock + Sync>(
 {
     let shared = Shared::<N, 1>::new(alloc, &[4, 4], 1024, 4, ROOM, blanks).expect(rt, "memory");
     let free = Free {};
-    let mut first = opened(
-        rt,
-        alloc,
-        Entrance {
-            rt,
-            shared: &shared,
-            gate: &free,
-        },
-        ROOM,
-    );
+    let mut first = opened(rt, alloc, &shared, &free, ROOM);
     start(rt, &mut first);
     let told = first.finish();
     let hold = Hold::new(rt, place);

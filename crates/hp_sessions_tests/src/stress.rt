@@ -8,7 +8,6 @@ use crate::rows::opened;
 use crate::same::same;
 use crate::steps::{Dice, any_step};
 use hp_closing::close;
-use hp_entrance::Entrance;
 use hp_model::entry::Receipt;
 use hp_model::naming::Naming;
 use hp_pool::Blanks;
@@ -38,16 +37,7 @@ fn work<N: Naming, R: Wait + Abort, const K: usize>(
     seed: u64,
 ) -> Vec<Receipt> {
     let free = Free {};
-    let mut session = opened(
-        rt,
-        alloc,
-        Entrance {
-            rt,
-            shared,
-            gate: &free,
-        },
-        ROOM,
-    );
+    let mut session = opened(rt, alloc, shared, &free, ROOM);
     let mut dice = Dice::new(seed, TASKS, SLOTS);
     for _step in 0..STEPS {
         let _reply = session.call(&any_step(&mut dice));
