@@ -31,9 +31,7 @@ impl Model for FileName {
 // What drops one calls this, and need not know what it holds.
 impl Drop for FileName {
     fn drop(self) {
-        let FileName {
-            bytes: _bytes,
-        } = self;
+        let FileName { bytes: _bytes } = self;
     }
 }
 

@@ -28,9 +28,7 @@ impl Model for TaskCounts {
 // What drops one calls this, and need not know what it holds.
 impl Drop for TaskCounts {
     fn drop(self) {
-        let TaskCounts {
-            counts: _counts,
-        } = self;
+        let TaskCounts { counts: _counts } = self;
     }
 }
 

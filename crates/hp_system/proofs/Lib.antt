@@ -1,3 +1,4 @@
+mod Asking
 mod Carries
 mod Ending
 mod MachineSteps

@@ -7,6 +7,14 @@ use Rattle.hp_model.specs.machine.Ready.{Machine}
 use Rattle.hp_system.proofs.Forking.{next_slot, slot_refused}
 use Rattle.hp_system.proofs.system.System.fork_slots.Goals as goal
 
+pub fork_slot-requires-clause-within : goal.fork_slot-requires-clause-within
+fork_slot-requires-clause-within g c =
+    let l = c.loop-at-test.true in
+    let many = ap (λ (x : Machine). length x.state.slots) c.self.view_is in
+    let len = c.len-at-end.ensures in
+    let same = c.loop-at.invariant.slots in
+    omega (arith, l, many, len, same)
+
 pub returns-in-Err-clause-done : goal.returns-in-Err-clause-done
 returns-in-Err-clause-done g c reply u go =
     let was = c.loop-at.invariant in
