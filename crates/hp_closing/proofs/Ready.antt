@@ -15,7 +15,7 @@ use Rattle.hp_model.specs.declared.refusal.Refusal.{Refusal}
 use Rattle.hp_trail.specs.Audit.{IsJointList, IsUnjoined}
 use Rattle.std.specs.Global.{Vec}
 use Rattle.std.specs.Prelude.{MatchResult, OnOk, Result, Ok, Err}
-use Rattle.hp_shared_machine.specs.Sharing.{EndsRuns}
+use Rattle.hp_shared.specs.Sharing.{EndsRuns}
 
 nodes_back : (s : State) (k : ℕ) (ns : List Node) → map node_of (rows_of s k ns) ≡ ns
 nodes_back s k [] = refl

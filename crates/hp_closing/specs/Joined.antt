@@ -6,8 +6,8 @@ use Rattle.hp_model.specs.declared.event.Event.{Event}
 use Rattle.hp_model.specs.machine.Ready.{Machine}
 use Rattle.hp_model.specs.machine.State.{State}
 use Rattle.hp_model.specs.threads.JointRun.{Trails as Run}
-use Rattle.hp_shared_machine.specs.Sharing.{EndsRuns, entries_of}
-use Rattle.hp_shared_machine.specs.declared.shared.Trails.{Trails}
+use Rattle.hp_shared.specs.Sharing.{EndsRuns, entries_of}
+use Rattle.hp_shared.specs.declared.shared.Trails.{Trails}
 use Rattle.hp_system.specs.Sized.{all_free}
 use Rattle.hp_trail.specs.Audit.{IsJointList}
 

@@ -2,7 +2,7 @@
 
 use hp_locked::Gate;
 use hp_model::naming::Naming;
-use hp_shared_machine::Shared;
+use hp_shared::Shared;
 use std::sync::Wait;
 
 /// What asks the parts of a machine that threads share, each under its lock: by what it waits for one, and who is told that a

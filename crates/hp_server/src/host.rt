@@ -7,7 +7,7 @@ use hp_model::entry::Receipt;
 use hp_model::naming::Naming;
 use hp_serving::Host;
 use hp_sessions::Session;
-use hp_shared_machine::Shared;
+use hp_shared::Shared;
 use std::alloc::{AllocError, Global};
 use std::sync::Wait;
 

@@ -11,7 +11,7 @@ use hp_locked::Gate;
 use hp_model::entry::Receipt;
 use hp_model::naming::Naming;
 use hp_serving::{Closed, Machine, serve_session};
-use hp_shared_machine::Shared;
+use hp_shared::Shared;
 use hp_wire::ends::{Sink, Source};
 use std::alloc::{AllocError, Global};
 use std::sync::Wait;

@@ -10,7 +10,7 @@ use hp_model::naming::Naming;
 use hp_pool::Blanks;
 use hp_server::{Open, Waiting};
 use hp_serving::serve_session;
-use hp_shared_machine::Shared;
+use hp_shared::Shared;
 use std::alloc::Global;
 use std::marker::Brand;
 use std::process::Abort;

@@ -9,7 +9,7 @@ use hp_model::naming::Naming;
 use hp_pool::Blanks;
 use hp_server::Served;
 use hp_serving::{Connections, Listening, serve_sessions};
-use hp_shared_machine::Shared;
+use hp_shared::Shared;
 use std::alloc::Global;
 use std::io;
 use std::io::{Read, Write};

@@ -7,7 +7,7 @@ use crate::same::same;
 use hp_closing::{audit, close, into_system};
 use hp_model::naming::Naming;
 use hp_pool::Blanks;
-use hp_shared_machine::Shared;
+use hp_shared::Shared;
 use std::alloc::Global;
 use std::marker::Brand;
 use std::process::Abort;

@@ -13,7 +13,7 @@ use hp_model::lent::Lent;
 use hp_model::naming::Naming;
 use hp_model::step::{Reserving, Sharing, Step};
 use hp_pool::Blanks;
-use hp_shared_machine::Shared;
+use hp_shared::Shared;
 use std::alloc::Global;
 use std::marker::Brand;
 use std::process::Abort;

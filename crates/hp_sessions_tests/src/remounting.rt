@@ -16,7 +16,7 @@ use hp_model::step::{Reserving, Sharing, Step};
 use hp_parts::Parts;
 use hp_pool::Blanks;
 use hp_sessions::Session;
-use hp_shared_machine::Shared;
+use hp_shared::Shared;
 use std::alloc::Global;
 use std::marker::Brand;
 use std::process::Abort;

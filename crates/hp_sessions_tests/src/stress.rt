@@ -11,7 +11,7 @@ use hp_closing::close;
 use hp_model::entry::Receipt;
 use hp_model::naming::Naming;
 use hp_pool::Blanks;
-use hp_shared_machine::Shared;
+use hp_shared::Shared;
 use std::alloc::Global;
 use std::marker::Brand;
 use std::process::Abort;

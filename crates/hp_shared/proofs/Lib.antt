@@ -4,3 +4,8 @@ pub mod Acting
 pub mod SlotsKept
 pub mod Unmounting
 pub mod Naming
+pub mod Opened
+mod Gathered
+mod CrossingEntries
+mod CrossingMounts
+pub mod Crossing

@@ -2,11 +2,16 @@
 #![tactic(auto)]
 
 mod locked_slot;
+mod making;
 mod mounting;
 mod names;
+mod parting;
 mod remounting;
+mod shared;
 mod slot;
+mod spare;
 mod table;
 
 pub use locked_slot::Slot;
+pub use shared::{Shared, Trails, Unshared};
 pub use table::Table;

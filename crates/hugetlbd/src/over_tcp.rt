@@ -11,7 +11,7 @@ use hp_pool::Blanks;
 use hp_program::Server;
 use hp_server::{Open, Served};
 use hp_serving::{Connections, Ended, Listening, ServeFault, report, serve_sessions};
-use hp_shared_machine::Shared;
+use hp_shared::Shared;
 use hp_wire::ends::Sink;
 use hp_words::settings::{Machine, Serving};
 use std::alloc::Global;

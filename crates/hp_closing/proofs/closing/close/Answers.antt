@@ -3,8 +3,8 @@ use Rattle.std.specs.Prelude.{IfSome}
 use Rattle.hp_locked.specs.Views.{frames_list}
 use Rattle.hp_model.specs.machine.Machine.{start}
 use Rattle.hp_trail.specs.Walk.{lists}
-use Rattle.hp_shared_machine.specs.Sharing.{EndsRuns, entries_of}
-use Rattle.hp_shared_machine.specs.declared.shared.Trails.{Trails}
+use Rattle.hp_shared.specs.Sharing.{EndsRuns, entries_of}
+use Rattle.hp_shared.specs.declared.shared.Trails.{Trails}
 use Rattle.hp_closing.proofs.Ready.{joined_ready}
 use Rattle.hp_closing.proofs.closing.close.Goals as goal
 

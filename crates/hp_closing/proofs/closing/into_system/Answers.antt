@@ -4,7 +4,7 @@ use Rattle.hp_locked.specs.Views.{frames_list}
 use Rattle.hp_model.specs.machine.Machine.{start}
 use Rattle.hp_model.specs.machine.Ready.{Machine}
 use Rattle.hp_mount_door.specs.Door.{IsReady}
-use Rattle.hp_shared_machine.specs.Sharing.{EndsRuns, entries_of}
+use Rattle.hp_shared.specs.Sharing.{EndsRuns, entries_of}
 use Rattle.hp_closing.proofs.closing.into_system.Goals as goal
 
 pub returns-clause-ready : goal.returns-clause-ready

@@ -2,7 +2,7 @@ use denote.Param.Send.{IsSync, sendable}
 use denote.RattleType.{RattleType}
 use denote.Ref.{NamedLft}
 use Rattle.std.proofs.Crossing.{crosses}
-use Rattle.hp_shared_machine.proofs.Crossing.{shared_sync}
+use Rattle.hp_shared.proofs.Crossing.{shared_sync}
 use Rattle.hp_server_tests.specs.contracts.gate.Held as Held
 use Rattle.hp_server_tests.specs.contracts.gate.Hold as Hold
 use Rattle.hp_server_tests.proofs.over_tcp.serves.Goals as goal

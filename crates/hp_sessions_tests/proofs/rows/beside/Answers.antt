@@ -2,7 +2,7 @@ use denote.Param.Send.{IsSend, IsSync, sendable}
 use denote.RattleType.{RattleType}
 use denote.Ref.{NamedLft}
 use Rattle.std.proofs.Crossing.{crosses}
-use Rattle.hp_shared_machine.proofs.Crossing.{shared_sync}
+use Rattle.hp_shared.proofs.Crossing.{shared_sync}
 use Rattle.hp_sessions_tests.specs.contracts.gates.Hold as Hold
 use Rattle.hp_sessions_tests.specs.contracts.gates.Place as Place
 use Rattle.hp_sessions_tests.proofs.rows.beside.Goals as goal

@@ -1,5 +1,5 @@
 use denote.Param.Send.{sendable}
-use Rattle.hp_shared_machine.proofs.Crossing.{shared_sync}
+use Rattle.hp_shared.proofs.Crossing.{shared_sync}
 use Rattle.hp_sessions_tests.proofs.stress.two.Goals as goal
 
 pub join-requires-send-F : goal.join-requires-send-F

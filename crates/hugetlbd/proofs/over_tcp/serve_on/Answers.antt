@@ -2,9 +2,9 @@ use Rattle.std.proofs.Common.{◌≡◌, ◌∙◌, ℕ, List, ap, arith}
 use denote.Param.Send.{sendable}
 use Rattle.hp_locked.specs.Views.{frames_list}
 use Rattle.hp_model.specs.machine.Machine.{start}
-use Rattle.hp_shared_machine.proofs.Crossing.{shared_sync}
-use Rattle.hp_shared_machine.proofs.Opened.{frames_named}
-use Rattle.hp_shared_machine.specs.Sharing.{SharedView}
+use Rattle.hp_shared.proofs.Crossing.{shared_sync}
+use Rattle.hp_shared.proofs.Opened.{frames_named}
+use Rattle.hp_shared.specs.Sharing.{SharedView}
 use Rattle.hugetlbd.proofs.Serving.{as_asked, leaves}
 use Rattle.hp_words.specs.Config.{choice_of, chosen}
 use Rattle.hugetlbd.proofs.over_tcp.serve_on.Goals as goal

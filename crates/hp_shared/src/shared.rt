@@ -8,12 +8,13 @@ ghost use Rattle.hp_model.specs.Profile.{most_frames, most_page_bytes, most_plac
 ghost use Rattle.hp_mount_door.specs.Door.{IsReady as IsReadyPool};
 ghost use Rattle.hp_nodes.specs.Ledgers.{AreFrames};
 ghost use Rattle.hp_pool.specs.Ledgers.{AreLedgers};
-ghost use Rattle.hp_shared_machine.specs.Sharing.{EndsRuns, entries_of};
+ghost use Rattle.hp_shared.specs.Sharing.{EndsRuns, entries_of};
 ghost use Rattle.hp_trail.specs.Walk.{trails_of};
 
 use crate::making::{all_frames, first_mount, lock_slots, open_trail, open_trails};
 use crate::parting::take_slots;
 use crate::spare::Spare;
+use crate::{Slot, Table};
 use crossbeam_utils::CachePadded;
 use hp_locked::{Core, NodeLocks};
 use hp_model::entry::{PoolEntry, SlotEntry, TableEntry};
@@ -22,7 +23,6 @@ use hp_model::profile::MOST_TASKS;
 use hp_mount::Mount;
 use hp_own_pool::OwnPool;
 use hp_pool::Blanks;
-use hp_shared::{Slot, Table};
 use hp_tasks::TaskTable;
 use hp_trail::trace::Trace;
 use std::alloc::{AllocError, Global};
@@ -48,7 +48,7 @@ pub struct Shared<N: Naming, const K: usize> {
 
 impl<N: Naming, const K: usize> Model for Shared<N, K> {
     ghost use Rattle.std.specs.Prelude.{vec_len};
-    ghost use Rattle.hp_shared_machine.specs.Sharing.{IsSharedMachine, SharedView};
+    ghost use Rattle.hp_shared.specs.Sharing.{IsSharedMachine, SharedView};
 
     ghost Value = { SharedView };
 

@@ -11,7 +11,7 @@ use Rattle.hp_locked.specs.Views.{frames_list}
 use Rattle.hp_shared.specs.Slots.{slot_start}
 use Rattle.hp_model.specs.machine.Ready.{Machine, machine_of}
 use Rattle.hp_trail.specs.Walk.{trails_of}
-use Rattle.hp_shared_machine.specs.declared.shared.Trails.{Trails}
+use Rattle.hp_shared.specs.declared.shared.Trails.{Trails}
 
 -- what no thread changes: the bytes of a page, and how many slots there are
 pub record SharedView : Type 0 where

@@ -11,11 +11,11 @@ use Rattle.hp_model.specs.declared.entry.TableEntry.{TableEntry}
 use Rattle.hp_model.specs.declared.naming.Naming.{Ghosts}
 use Rattle.hp_nodes.proofs.Crossing.{node_frames_send}
 use Rattle.hp_pool.proofs.Crossing.{pool_send}
-use Rattle.hp_shared_machine.proofs.CrossingEntries.{pool_entry_send, slot_entry_send, table_entry_send, trace_send}
-use Rattle.hp_shared_machine.proofs.CrossingMounts.{mount_send}
-use Rattle.hp_shared_machine.specs.contracts.shared.Shared as Shared
-use Rattle.hp_shared_machine.specs.contracts.shared.Shared.TheInside as Inside
-use Rattle.hp_shared_machine.specs.contracts.spare.Spare as Spare
+use Rattle.hp_shared.proofs.CrossingEntries.{pool_entry_send, slot_entry_send, table_entry_send, trace_send}
+use Rattle.hp_shared.proofs.CrossingMounts.{mount_send}
+use Rattle.hp_shared.specs.contracts.shared.Shared as Shared
+use Rattle.hp_shared.specs.contracts.shared.Shared.TheInside as Inside
+use Rattle.hp_shared.specs.contracts.spare.Spare as Spare
 use Rattle.hp_shared.specs.contracts.locked_slot.Slot as Slot
 use Rattle.hp_shared.specs.contracts.table.Table as Table
 use Rattle.hp_tasks.specs.contracts.table.TaskTable as TaskTable

@@ -8,9 +8,9 @@ use Rattle.hp_shared.specs.Tables.{IsTableTrail}
 use Rattle.hp_model.specs.machine.Ready.{machine_of}
 use Rattle.hp_laws.proofs.settled.StaysSettled.{start_is_settled}
 use Rattle.hp_trail.specs.Keeping.{kept_if}
-use Rattle.hp_shared_machine.proofs.Gathered.{given_ends}
-use Rattle.hp_shared_machine.specs.Sharing.{EndsRuns, SharedView, entries_of}
-use Rattle.hp_shared_machine.proofs.shared.Shared.into_parts.Goals as goal
+use Rattle.hp_shared.proofs.Gathered.{given_ends}
+use Rattle.hp_shared.specs.Sharing.{EndsRuns, SharedView, entries_of}
+use Rattle.hp_shared.proofs.shared.Shared.into_parts.Goals as goal
 
 pub returns-clause-runs : goal.returns-clause-runs
 returns-clause-runs g c =

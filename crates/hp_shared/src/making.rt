@@ -7,13 +7,13 @@ ghost use Rattle.hp_model.specs.Profile.{most_tasks, most_frames, most_frames_in
 ghost use Rattle.hp_locked.specs.Views.{IsFresh};
 ghost use Rattle.hp_trail.specs.Keeping.{extra_if, kept_if, left_if, most_extra};
 
+use crate::Slot;
 use crossbeam_utils::CachePadded;
 use hp_model::entry::SlotEntry;
 use hp_model::naming::Naming;
 use hp_model::profile::MOST_TASKS;
 use hp_mount::Mount;
 use hp_own_pool::OwnPool;
-use hp_shared::Slot;
 use hp_trail::trace::Trace;
 use std::alloc::{AllocError, Global};
 use std::sync::Mutex;

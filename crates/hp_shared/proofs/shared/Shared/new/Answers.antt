@@ -5,8 +5,8 @@ use Rattle.hp_model.specs.pool.NodeRows.{frames_of, idle_row}
 use Rattle.hp_model.specs.pool.PoolCounts.{IsSettled, Pool}
 use Rattle.hp_mount_door.specs.Door.{IsReady}
 use Rattle.hp_pool.specs.Sums.{idle_pool}
-use Rattle.hp_shared_machine.proofs.Opened.{frames_named, idle_ready, rows_have}
-use Rattle.hp_shared_machine.proofs.shared.Shared.new.Goals as goal
+use Rattle.hp_shared.proofs.Opened.{frames_named, idle_ready, rows_have}
+use Rattle.hp_shared.proofs.shared.Shared.new.Goals as goal
 
 pub first_mount-first-requires : goal.first_mount-first-requires
 first_mount-first-requires g c = record { settled = subst (λ (p : Pool). IsSettled p) (sym c.in-Ok-new.ensures) (idle_ready c.args.frames.now c.requires.few).settled }

@@ -1,8 +1,8 @@
 use Rattle.std.proofs.Common.{◌≡◌, ◌≤◌, ◌+◌, ◌==◌, true, vec_len, vec_capacity}
 use Rattle.std.specs.Vec.Iter.{into_iter_len}
-use Rattle.hp_shared_machine.specs.Sharing.{AreGathered}
+use Rattle.hp_shared.specs.Sharing.{AreGathered}
 use Rattle.hp_trail.specs.Walk.{lists}
-use Rattle.hp_shared_machine.proofs.parting.take_slots.Given as goal
+use Rattle.hp_shared.proofs.parting.take_slots.Given as goal
 
 abbrev pub invariant-loop-slot : goal.invariant-loop-slot
 invariant-loop-slot g l = record {

@@ -1,10 +1,10 @@
 use Rattle.std.proofs.Common.{◌≡◌, ◌==◌, length, sym, ◌∙◌, arith}
 use Rattle.std.proofs.lemmas.Bool.{eqb-true, false≢true}
-use Rattle.hp_shared_machine.specs.Sharing.{AreGathered}
+use Rattle.hp_shared.specs.Sharing.{AreGathered}
 use Rattle.hp_trail.specs.Walk.{lists}
-use Rattle.hp_shared_machine.proofs.Gathered.{slot_gathered}
-use Rattle.hp_shared_machine.proofs.parting.take_slots.Goals as goal
-use Rattle.hp_shared_machine.proofs.parting.take_slots.Goals.{then-in_order, else-in_order}
+use Rattle.hp_shared.proofs.Gathered.{slot_gathered}
+use Rattle.hp_shared.proofs.parting.take_slots.Goals as goal
+use Rattle.hp_shared.proofs.parting.take_slots.Goals.{then-in_order, else-in_order}
 
 pub loop-slot-preserved : goal.loop-slot-preserved
 loop-slot-preserved g c =

@@ -1,6 +1,6 @@
 use Rattle.std.proofs.Common.{◌≡◌, ◌≤◌}
 use Rattle.std.specs.Prelude.{vec_len, vec_capacity}
-use Rattle.hp_shared_machine.proofs.making.open_trails.Given as goal
+use Rattle.hp_shared.proofs.making.open_trails.Given as goal
 
 abbrev pub invariant-loop : goal.invariant-loop
 invariant-loop g l = record {

@@ -1,14 +1,14 @@
 //! The parts of a machine once no thread has them.
 ghost use Rattle.std.specs.Prelude.{◌≡◌, ◌≤◌, ◌==◌, [], true, length, vec_len, vec_capacity};
 ghost use Rattle.hp_model.specs.Profile.{most_slots};
-ghost use Rattle.hp_shared_machine.specs.Sharing.{AreGathered};
+ghost use Rattle.hp_shared.specs.Sharing.{AreGathered};
 ghost use Rattle.hp_trail.specs.Walk.{lists};
 
+use crate::Slot;
 use crossbeam_utils::CachePadded;
 use hp_model::entry::SlotEntry;
 use hp_model::naming::Naming;
 use hp_mount::Mount;
-use hp_shared::Slot;
 use hp_trail::trace::Trace;
 use std::sync::Mutex;
 

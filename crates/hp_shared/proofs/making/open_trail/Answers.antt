@@ -1,6 +1,6 @@
 use Rattle.std.proofs.Common.{◌==◌}
-use Rattle.hp_shared_machine.proofs.Opened.{has_extra_ok, is_empty_ok, is_fresh_ok}
-use Rattle.hp_shared_machine.proofs.making.open_trail.Goals as goal
+use Rattle.hp_shared.proofs.Opened.{has_extra_ok, is_empty_ok, is_fresh_ok}
+use Rattle.hp_shared.proofs.making.open_trail.Goals as goal
 
 pub returns : goal.returns
 returns g c = record {

@@ -1,6 +1,6 @@
 use Rattle.std.proofs.Common.{◌≡◌, ◌≤◌, ◌<◌, ◌+◌}
 use Rattle.std.specs.Prelude.{vec_len, vec_capacity}
-use Rattle.hp_shared_machine.proofs.making.lock_slots.Given as goal
+use Rattle.hp_shared.proofs.making.lock_slots.Given as goal
 
 abbrev pub invariant-loop-trail : goal.invariant-loop-trail
 invariant-loop-trail g l = record {

@@ -8,7 +8,7 @@ use Rattle.hp_shared.specs.Slots.{IsSlotTrail}
 use Rattle.hp_shared.specs.Tables.{IsTableTrail}
 use Rattle.hp_trail.specs.Keeping.{Keeping, kept_if}
 use Rattle.hp_trail.specs.Walk.{lists, trails_of}
-use Rattle.hp_shared_machine.specs.declared.shared.Trails.{Trails}
+use Rattle.hp_shared.specs.declared.shared.Trails.{Trails}
 use Rattle.std.proofs.lemmas.Bool.{cases_lt}
 use Rattle.std.proofs.lemmas.List.{get_or_append_left, get_or-replicate, length-append, length-map, map-append, length-replicate}
 use Rattle.std.proofs.Math.Seq.{get_or-append_seam}
@@ -27,7 +27,7 @@ use Rattle.hp_pool.specs.Sums.{idle_pool}
 use Rattle.hp_shared.specs.Slots.{slot_start}
 use Rattle.hp_own_pool.proofs.Starting.{start_pool}
 use Rattle.hp_model.specs.machine.Ready.{machine_of}
-use Rattle.hp_shared_machine.specs.Sharing.{AreGathered, EndsRuns, entries_of}
+use Rattle.hp_shared.specs.Sharing.{AreGathered, EndsRuns, entries_of}
 
 pub none_gathered : (size : ℕ) → AreGathered size [] []
 none_gathered size = record { count = refl; runs = λ k below. absurd (omega (arith, below)) }

@@ -1,5 +1,0 @@
-pub mod Opened
-mod Gathered
-mod CrossingEntries
-mod CrossingMounts
-pub mod Crossing
