@@ -2,3 +2,5 @@ pub mod States
 pub mod Filling
 pub mod Taking
 pub mod NewMap
+pub mod FileList
+pub mod Lends

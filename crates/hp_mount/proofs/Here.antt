@@ -1,7 +1,7 @@
 -- What is said of a mount as a caller sees it is so of it as the fields show it.
 use Rattle.std.proofs.Common.{◌≡◌, ℕ, ◌<◌, false, None, true, length, ap, subst, sym, ◌∙◌, arith}
 use Rattle.std.proofs.lemmas.List.{get_or-set_same, length-set}
-use Rattle.hp_file_list.proofs.PutCopy.{bare_place}
+use Rattle.hp_file.proofs.PutCopy.{bare_place}
 use Rattle.hp_lookup.specs.Files.{Files, file_at, with_cell_at}
 use Rattle.hp_lookup.specs.declared.copy_state.CopyState.{CopyState}
 use Rattle.hp_file.specs.States.{IsCopyState}

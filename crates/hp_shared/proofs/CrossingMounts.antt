@@ -22,7 +22,7 @@ use Rattle.hp_mapping.specs.contracts.words.Words as Words
 use Rattle.hp_model.specs.declared.naming.Naming.{Ghosts}
 use Rattle.hp_mount.specs.contracts.mount.Mount as Mount
 use Rattle.hp_file.specs.contracts.file.File as File
-use Rattle.hp_file_list.specs.contracts.file_list.FileList as FileList
+use Rattle.hp_file.specs.contracts.file_list.FileList as FileList
 use Rattle.hp_mount_files.specs.contracts.files.Files as Files
 use Rattle.hp_lookup.specs.contracts.hints.Hints as Hints
 use Rattle.hp_lookup.specs.contracts.name.FileName as FileName

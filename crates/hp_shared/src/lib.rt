@@ -1,4 +1,4 @@
-//! Sessions of many threads over the machine's parts, each under a lock of its own.
+//! The machine that threads share: its parts, each under a lock of its own; how it is opened, lent by these, and taken apart.
 #![tactic(auto)]
 
 mod locked_slot;

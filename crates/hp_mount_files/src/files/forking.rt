@@ -10,7 +10,7 @@ ghost use Rattle.hp_model.specs.files.MountCounts.{file_reserves};
 ghost use Rattle.hp_model.specs.Profile.{most_maps};
 
 use super::Files;
-use hp_file_list::{children, drop_some_maps_of, join_all, retain_some_used, room_for};
+use hp_file::{children, drop_some_maps_of, join_all, retain_some_used, room_for};
 use hp_model::naming::Naming;
 use std::alloc::AllocError;
 

@@ -9,7 +9,7 @@ ghost use Rattle.hp_lookup.specs.Places.{IsFirstTask, IsFound, all_maps};
 
 use super::Files;
 use crate::lookup::Lookup;
-use hp_file_list::{drop_maps_of, sweep_file};
+use hp_file::{drop_maps_of, sweep_file};
 use hp_lookup::MapPlace;
 use hp_model::naming::Naming;
 use hp_model::profile::MOST_MAPS;

@@ -5,7 +5,7 @@ use Rattle.hp_model.specs.machine.Promises.{file_in, map_in}
 use Rattle.hp_mount_files.proofs.Lent.{unmapped_lent, reserve_lent}
 use Rattle.hp_mount_laws.proofs.Private as private
 use Rattle.hp_mount_laws.specs.Reach.{shows_page, has_reserve}
-use Rattle.hp_file_list.proofs.PutCopy.{bare_place}
+use Rattle.hp_file.proofs.PutCopy.{bare_place}
 use Rattle.hp_mount.proofs.Here.{file_here, map_here, needs_copy}
 use Rattle.hp_mount.proofs.mount.Mount.reach_bare.Goals as goal
 

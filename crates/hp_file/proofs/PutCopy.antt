@@ -1,0 +1,142 @@
+-- A private copy, as code puts it in.
+use Rattle.std.proofs.Common.{◌≡◌, ℕ, ◌-◌, ◌<◌, ◌||◌, Bool, true, false, None, Some, List, length, refl, sym, ap, subst, ◌∙◌, arith}
+use Rattle.std.specs.Prelude.{slice_set, slice_index_or}
+use Rattle.std.specs.Bool.{IsTrue}
+use Rattle.std.specs.List.{flat_map, sum_by}
+use Rattle.std.proofs.lemmas.List.{get_or_default, get_or-set_same, length-map, length-set}
+use Rattle.hp_mapping.specs.Mapped.{at_place}
+use Rattle.hp_model.specs.declared.place.Place.{Place}
+use Rattle.hp_model.specs.declared.place.Place.TheVariants.{Gone, Live}
+use Rattle.hp_model.specs.files.File.{File, with_map}
+use Rattle.hp_model.specs.Lists.{is_among}
+use Rattle.hp_model.specs.files.Mapping.{Mapping, Map, place_at, with_place, is_live, copy_of}
+use Rattle.hp_model.specs.files.MountCounts.{stamps_of}
+use Rattle.hp_model.specs.files.Page.{Page, Copy}
+use Rattle.hp_store.specs.Store.{Store, page_at, inserted}
+use Rattle.hp_lookup.specs.Files.{copied_at, file_at, parted_at}
+use Rattle.hp_lookup.specs.Numbered.{NumberedFile, numbered_at, mapping_at, place_shown, map_shown, files_shown, no_mapping}
+use Rattle.hp_lookup.specs.Held.{IsHeld, in_file, in_files, in_map}
+use Rattle.hp_lookup.specs.Level.{AreLevel}
+use Rattle.hp_lookup.specs.Places.{map_at}
+use Rattle.hp_file.specs.Taking.{first_copy}
+use Rattle.hp_lookup.proofs.Cells.{inserted_agrees, inserted_is, inserted_more, free_is_fresh, file_is, no_file}
+use Rattle.hp_file.proofs.Copies.{with_copy_at, copy_shows, copy_held, number_is_fresh}
+use Rattle.hp_file.proofs.Drops.{place_here}
+use Rattle.hp_file.proofs.FirstCopy.{live_inside, place_put}
+use Rattle.hp_lookup.proofs.Level.{put_level, same_level}
+use Rattle.hp_file.proofs.PutLevel.{no_copy_in, put_place}
+use Rattle.hp_lookup.proofs.Lifting.{at_most}
+use Rattle.hp_lookup.proofs.Views.{view, read_is, files_len, map_seen, place_seen}
+
+bare_is : (s : Store) (p : Place ℕ) (c : Bool) → place_shown s p ≡ Live c None → p ≡ Live c None
+bare_is s Gone c e = cc
+bare_is s (Live d None) c e = (let same : d ≡ c = cc in ap (λ b. Live b None) same)
+bare_is s (Live d (Some n)) c e = cc
+
+module _ (s : Store) (more : ℕ) (fs : List NumberedFile) (h : IsHeld s more fs) (k j i : ℕ) (l : k < length (files_shown s fs))
+    (jl : j < length (file_at (files_shown s fs) k).maps) (x : NumberedFile) (read : x ≡ slice_index_or fs k x) where
+  pub within : k < length fs
+  within = (let same = files_len s fs in omega (arith, l, same))
+
+  pub x_is : x ≡ numbered_at fs k
+  x_is = read_is fs k x within read
+
+  f_read : numbered_at fs k ≡ slice_index_or fs k (numbered_at fs k)
+  f_read = sym (read_is fs k (slice_index_or fs k (numbered_at fs k)) within (get_or_default fs k (numbered_at fs k) (slice_index_or fs k (numbered_at fs k)) within))
+
+  pub jl_in : j < length (numbered_at fs k).maps
+  jl_in = (let same = ap (λ (f : File). length f.maps) (file_is s fs k within) in let long = length-map (numbered_at fs k).maps (map_shown s) in omega (arith, jl, same, long))
+
+  -- the map, and what it shows
+  abbrev pub mapping : Mapping ℕ
+  mapping = mapping_at (numbered_at fs k) j
+
+  y_read : mapping ≡ slice_index_or (numbered_at fs k).maps j mapping
+  y_read = get_or_default (numbered_at fs k).maps j no_mapping mapping jl_in
+
+  pub seen : map_at (files_shown s fs) k j ≡ map_shown s mapping
+  seen = map_seen s fs k j l (numbered_at fs k) f_read mapping y_read jl
+
+  pub seen_place : place_at (map_at (files_shown s fs) k j) i ≡ place_shown s (place_at mapping i)
+  seen_place = ap (λ (m : Map). place_at m i) seen ∙ place_seen s fs k j l (numbered_at fs k) f_read mapping y_read jl i
+
+  module _ (n : ℕ) (page : Page) (t : Store) (free : page_at s n ≡ None) (below : n < length s.pages) (t_is : t ≡ inserted n page s) where
+    pub put_fresh : is_among n (flat_map stamps_of (files_shown s fs)) ≡ false
+    put_fresh = number_is_fresh s n fs (free_is_fresh s more fs n h free)
+
+    nowhere : in_files n fs ≡ 0
+    nowhere = free_is_fresh s more fs n h free
+
+    -- the number is the copy at the index
+    module _ (c : Bool) (g : NumberedFile) (g_is : g ≡ record (numbered_at fs k) { maps = slice_set (numbered_at fs k).maps j (with_copy_at mapping (i - mapping.start) c n) }) where
+      pub put_shows : files_shown t (slice_set fs k g) ≡ slice_set (files_shown s fs) k
+          (with_map (file_at (files_shown s fs) k) j (with_place (map_at (files_shown s fs) k j) i
+          (Live c (Some (record { stamp = n; page = page })))))
+      put_shows =
+          ap (λ u. files_shown u (slice_set fs k g)) t_is ∙ ap (λ f. files_shown (inserted n page s) (slice_set fs k f)) g_is
+          ∙ copy_shows n s (inserted n page s) (inserted_agrees n page s) page (inserted_is n page s below) fs k j (i - mapping.start) c within jl_in nowhere
+          ∙ ap (λ (m : Map). slice_set (files_shown s fs) k (with_map (file_at (files_shown s fs) k) j (with_place m i (Live c (Some (record { stamp = n; page = page })))))) (sym seen)
+
+      pub put_levels : is_live (place_at mapping i) ≡ true → AreLevel x.maps → AreLevel g.maps
+      put_levels live level =
+          let few = at_most (λ (f : NumberedFile). f) (λ f. f) (in_file n) (λ f h. refl) fs k no_file within in
+          let none : sum_by (in_map n) (numbered_at fs k).maps ≡ 0 = (let bare = nowhere in omega (arith, few, bare)) in
+          same_level (slice_set (numbered_at fs k).maps j (with_copy_at mapping (i - mapping.start) c n)) g.maps (ap (λ (f : NumberedFile). f.maps) g_is)
+          (put_level (numbered_at fs k).maps j jl_in (with_copy_at mapping (i - mapping.start) c n) n i (no_copy_in n (numbered_at fs k).maps none) (put_place mapping i n c live)
+          (same_level x.maps (numbered_at fs k).maps (ap (λ (f : NumberedFile). f.maps) (sym x_is)) level))
+
+      pub put_in : j < length g.maps
+      put_in = (let inside = jl_in in let long = length-set (numbered_at fs k).maps j (with_copy_at mapping (i - mapping.start) c n) in
+          let same = ap (λ (f : NumberedFile). length f.maps) g_is in omega (arith, inside, long, same))
+
+      pub put_there : is_live (place_at mapping i) ≡ true → copy_of (place_at (mapping_at g j) i) ≡ Some n
+      put_there live =
+          ap (λ (f : NumberedFile). copy_of (place_at (mapping_at f j) i)) g_is
+          ∙ ap (λ (y : Mapping ℕ). copy_of (place_at y i)) (get_or-set_same (numbered_at fs k).maps j (with_copy_at mapping (i - mapping.start) c n) no_mapping jl_in)
+          ∙ ap copy_of (place_put mapping i (Live c (Some n)) live)
+
+    -- where there was none, and an owner's reservation is consumed
+    module _ (g : NumberedFile) (g_is : g ≡ record x {
+      maps = slice_set x.maps j (at_place (first_copy (mapping_at x j).owner n) i (mapping_at x j));
+    }) (c : Bool)
+        (place : place_at (map_at (files_shown s fs) k j) i ≡ Live c None) where
+      bare : place_at mapping i ≡ Live c None
+      bare = bare_is s (place_at mapping i) c (sym seen_place ∙ place)
+
+      pub live : is_live (place_at mapping i) ≡ true
+      live = ap is_live bare
+
+      slot_is : slice_index_or mapping.places (i - mapping.start) Gone ≡ Live c None
+      slot_is = sym (place_here mapping i (live_inside mapping i live).0) ∙ bare
+
+      pub put : g ≡ record (numbered_at fs k) { maps = slice_set (numbered_at fs k).maps j (with_copy_at mapping (i - mapping.start) (mapping.owner || c) n) }
+      put = g_is ∙ ap (λ (f : NumberedFile). record f { maps = slice_set f.maps j (at_place (first_copy (mapping_at f j).owner n) i (mapping_at f j)) }) x_is
+          ∙ ap (λ p. record (numbered_at fs k) {
+            maps = slice_set (numbered_at fs k).maps j (record mapping {
+              places = slice_set mapping.places (i - mapping.start) (first_copy mapping.owner n p);
+            });
+          }) bare
+
+      pub put_view : view t more (slice_set fs k g) ≡ copied_at k j i ((map_at (files_shown s fs) k j).owner || c) n page (view s more fs)
+      put_view =
+          let room : s.room - 1 - more ≡ s.room - more - 1 = omega arith in
+          ap (λ xs. record { files = xs; going = t.going; room = t.room - more }) (put_shows (mapping.owner || c) g put)
+          ∙ ap (λ (u : Store). record { files = (parted_at k j i (mapping.owner || c) n page (view s more fs)).files; going = u.going; room = u.room - more }) t_is
+          ∙ ap (λ r. record { files = (parted_at k j i (mapping.owner || c) n page (view s more fs)).files; going = s.going; room = r }) room
+          ∙ ap (λ (m : Map). copied_at k j i (m.owner || c) n page (view s more fs)) (sym seen)
+
+      pub put_keeps : 0 < s.room - more → IsHeld t more (slice_set fs k g)
+      put_keeps room =
+          subst (λ u. IsHeld u more (slice_set fs k g)) (sym t_is) (subst (λ f. IsHeld (inserted n page s) more (slice_set fs k f)) (sym put)
+          (copy_held n s (inserted n page s) (inserted_agrees n page s) page (inserted_is n page s below) fs k j (i - mapping.start)
+          (mapping.owner || c) within jl_in nowhere (live_inside mapping i live).1 c slot_is more (inserted_more n page s below free)
+          (omega (arith, room)) h))
+
+      pub put_stays_level : AreLevel x.maps → AreLevel g.maps
+      put_stays_level = put_levels (mapping.owner || c) g put live
+
+-- a live place without a copy
+pub bare_place : (p : Place Copy) → IsTrue (is_live p) → copy_of p ≡ None → (c : Bool) × (p ≡ Live c None)
+bare_place Gone live e = cc
+bare_place (Live c None) live e = (c, refl)
+bare_place (Live c (Some copy)) live e = cc

@@ -1,0 +1,107 @@
+use Rattle.std.proofs.Common.{◌≡◌, [], ℕ, ◌+◌, ◌-◌, ap, arith, length, rules, subst, sym, take, ◌∙◌}
+use Rattle.std.specs.List.{sum_by}
+use Rattle.std.proofs.lemmas.List.{get_or-set_same, nil_from_length}
+use Rattle.std.proofs.lemmas.List.Sums.{sum_by_push, sum_by-take-le}
+use Rattle.hp_lookup.specs.Forking.{HasNoted, HasRoom, HaveNoted, HaveRoom, in_list, in_lists, joined, joined_at, list_copies, maps_of, with_list}
+use Rattle.hp_lookup.specs.Numbered.{numbered_at}
+use Rattle.hp_lookup.proofs.Cells.{no_file}
+use Rattle.hp_file.proofs.Joining.{last_joined, last_keys, last_none, last_room, last_within, none_joined, rest_none, rest_room}
+use Rattle.hp_file.proofs.Noting.{noted_bare_all, noted_at}
+use Rattle.hp_file.proofs.Sharing.{share_as, share_then}
+use Rattle.hp_file.proofs.fork_lists.join_all.Goals as goal
+
+pub loop-list-init : goal.loop-list-init
+loop-list-init g c =
+    let few = sum_by-take-le (maps_of c.args.child) c.args.files.now.files (length c.args.lists.items) in
+    record {
+      room = c.requires.room;
+      files = search rules;
+      none = omega (arith, few, c.requires.none);
+      noted = noted_bare_all c.args.child c.args.files.now.files c.args.hints.now c.requires.none;
+      sharing = search rules;
+      less = search rules;
+      counted = search rules;
+      more = search rules;
+    }
+
+pub join_at-requires-clause-within : goal.join_at-requires-clause-within
+join_at-requires-clause-within g c =
+    let fs = c.loop-list.files.files in
+    let vs = c.pop.new.self.items in
+    let room = subst (HaveRoom fs) c.in-Some.ensures.items c.loop-list.invariant.room in
+    let within = last_within fs vs c.in-Some.list room in
+    let long : c.len-at.result ≡ length vs = search rules in
+    omega (arith, within, long)
+
+pub join_at-requires-clause-room : goal.join_at-requires-clause-room
+join_at-requires-clause-room g c =
+    let fs = c.loop-list.files.files in
+    let vs = c.pop.new.self.items in
+    let v = c.in-Some.list in
+    let room = subst (HaveRoom fs) c.in-Some.ensures.items c.loop-list.invariant.room in
+    let long : c.len-at.result ≡ length vs = search rules in
+    subst (λ k. HasRoom (numbered_at fs k) v) (sym long) (last_room fs vs v no_file room)
+
+pub join_at-requires-clause-keys : goal.join_at-requires-clause-keys
+join_at-requires-clause-keys g c =
+    let was = c.loop-list.invariant in
+    let fs = c.loop-list.files.files in
+    let vs = c.pop.new.self.items in
+    let v = c.in-Some.list in
+    let split = c.in-Some.ensures.items in
+    let room = subst (HaveRoom fs) split was.room in
+    let none = subst (λ ws. sum_by (maps_of c.args.child) (take (length ws) fs) ≡ 0) split was.none in
+    let long : c.len-at.result ≡ length vs = search rules in
+    let own = ap (λ k. maps_of c.args.child (with_list (numbered_at fs k) v)) long in
+    let most = last_keys c.args.child fs vs v room none in
+    let all = ap (sum_by (maps_of c.args.child)) (ap (joined fs) (sym split) ∙ was.files) in
+    let left = was.noted.room in
+    omega (arith, own, most, all, left, c.requires.keys)
+
+pub loop-list-preserved : goal.loop-list-preserved
+loop-list-preserved g c =
+    let was = c.loop-list in
+    let child = c.args.child in
+    let fs = was.files.files in
+    let vs = c.pop.new.self.items in
+    let v = c.in-Some.list in
+    let split = c.in-Some.ensures.items in
+    let room = subst (HaveRoom fs) split was.invariant.room in
+    let none = subst (λ ws. sum_by (maps_of child) (take (length ws) fs) ≡ 0) split was.invariant.none in
+    let within = last_within fs vs v room in
+    let long : c.len-at.result ≡ length vs = search rules in
+    let y = with_list (numbered_at fs (length vs)) v in
+    let files_are = c.join_at.ensures.files ∙ ap (λ k. joined_at k v fs) long in
+    let own_is = ap (λ gs. numbered_at gs c.len-at.result) files_are ∙ ap (numbered_at (joined_at (length vs) v fs)) long ∙ get_or-set_same fs (length vs) y no_file within in
+    let each : (n : ℕ) → in_lists n was.lists.items ≡ in_lists n vs + in_list n v = λ n. ap (in_lists n) split ∙ sum_by_push (in_list n) vs v in
+    let copies = ap (sum_by list_copies) split ∙ sum_by_push list_copies vs v in
+    let more = was.invariant.more in
+    record {
+      room = subst (λ gs. HaveRoom gs vs) (sym files_are) (rest_room fs vs v y room);
+      files = ap (λ gs. joined gs vs) files_are ∙ last_joined fs vs v no_file room ∙ ap (joined fs) (sym split) ∙ was.invariant.files;
+      none = ap (λ gs. sum_by (maps_of child) (take (length vs) gs)) files_are ∙ rest_none child fs vs v room none;
+      noted = subst (λ gs. HaveNoted child gs c.args.hints.now c.join_at.new.hints) (sym files_are)
+          (noted_at child fs (length vs) y c.args.hints.now was.hints c.join_at.new.hints within (last_none child fs vs v room none) was.invariant.noted
+          (subst (λ f. HasNoted child f was.hints c.join_at.new.hints) own_is c.join_at.ensures.noted));
+      sharing = share_then (λ n. in_lists n c.args.lists.items - in_lists n was.lists.items) (λ n. in_list n v)
+          (λ n. in_lists n c.args.lists.items - in_lists n vs) c.args.store.now was.store c.join_at.new.store was.invariant.sharing
+          c.join_at.ensures.sharing
+          (λ n. (let here = each n in let less = was.invariant.less n in omega (arith, here, less)));
+      less = λ n. (let here = each n in let less = was.invariant.less n in omega (arith, here, less));
+      counted = c.join_at.ensures.counted;
+      more = omega (arith, copies, more, c.join_at.ensures.more);
+    }
+
+pub returns-clause-joined : goal.returns-clause-joined
+returns-clause-joined g c =
+    let was = c.loop-list in
+    let none : was.lists.items ≡ [] = nil_from_length was.lists.items (omega (arith, was.lists.ok.0, c.in_default.ensures.cases.0)) in
+    let copies = ap (sum_by list_copies) none in
+    let more = was.invariant.more in
+    record {
+      files_are = sym (none_joined was.files.files) ∙ ap (joined was.files.files) (sym none) ∙ was.invariant.files;
+      sharing = share_as (λ n. in_lists n c.args.lists.items - in_lists n was.lists.items) (λ n. in_lists n c.args.lists.items) c.args.store.now was.store was.invariant.sharing
+          (λ n. (let rest = ap (in_lists n) none in omega (arith, rest)));
+      counted = was.invariant.counted;
+      more_are = omega (arith, copies, more);
+    }

@@ -1,0 +1,20 @@
+use Rattle.std.proofs.Common.{◌≡◌, ℕ, ◌+◌, ◌-◌, ◌≤◌, length, take}
+use Rattle.std.specs.List.{sum_by}
+use Rattle.hp_lookup.specs.Forking.{HaveNoted, HaveRoom, IsSharing, in_lists, joined, list_copies, maps_of}
+use Rattle.hp_lookup.specs.Held.{more_in}
+use Rattle.hp_file.proofs.fork_lists.join_all.Given as goal
+
+abbrev pub invariant-loop-list : goal.invariant-loop-list
+invariant-loop-list g l = record {
+  room : HaveRoom l.files.files l.lists.items;
+  files : joined l.files.files l.lists.items ≡ joined l.initial.files.files l.initial.lists.items;
+  none : sum_by (maps_of l.child) (take (length l.lists.items) l.files.files) ≡ 0;
+  noted : HaveNoted l.child l.files.files l.initial.hints l.hints;
+  sharing : IsSharing (λ n. in_lists n l.initial.lists.items - in_lists n l.lists.items) l.initial.store l.store;
+  less : (n : ℕ) → in_lists n l.lists.items ≤ in_lists n l.initial.lists.items;
+  counted : l.more ≡ more_in l.store.pages;
+  more : l.more + sum_by list_copies l.lists.items ≡ l.initial.more + sum_by list_copies l.initial.lists.items;
+}
+
+abbrev pub decreases-loop-list : goal.decreases-loop-list
+decreases-loop-list g l = length l.lists.items

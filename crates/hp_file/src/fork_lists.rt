@@ -1,0 +1,211 @@
+//! A child's maps of all files.
+ghost use Rattle.std.specs.Prelude.{◌≡◌, ◌^◌, ◌+◌, ◌-◌, ◌<◌, ◌≤◌, length, ℕ, IfOk, OnOk};
+ghost use Rattle.std.specs.List.{filter, sum_by};
+ghost use Rattle.hp_store.specs.Store.{holders_of, page_at};
+ghost use Rattle.hp_lookup.specs.Dropping.{HasHolders};
+ghost use Rattle.hp_lookup.specs.Forking.{AreFilled, AreReady, HasNoted, HasRoom, HaveJoined, HaveNoted, HaveRoom, IsSharing, in_list, in_lists, joined, joined_at, list_copies, list_length, maps_of, with_list};
+ghost use Rattle.hp_lookup.specs.Held.{more_in};
+ghost use Rattle.hp_lookup.specs.Leaving.{is_used};
+ghost use Rattle.hp_lookup.specs.Numbered.{numbered_at};
+
+use crate::copies_of;
+use crate::file_list::FileList;
+use hp_lookup::{FileTag, Hints, Tags};
+use hp_mapping::Mapping;
+use hp_model::naming::Naming;
+use hp_model::profile::MOST_MAPS;
+use hp_store::PageStore;
+use std::alloc::{AllocError, Global};
+
+// So many empty lists.
+fn empty_lists(alloc: Global, count: usize) -> Result<Vec<Vec<Mapping>>, AllocError>
+    ensures long { IfOk result (λ lists. length lists.items ≡ count) }
+    ensures empty { IfOk result (λ lists. sum_by list_length lists.items ≡ 0) }
+{
+    let mut lists = Vec::with_capacity(alloc, count)?;
+    while lists.len() < count {
+        lists.push_reserved(Vec::new(alloc));
+    }
+    Ok(lists)
+}
+
+// Where the file with the task's map of that number stands, as far as the table of hints tells, or how many files there are.
+fn hinted_at(task: u64, number: u64, files: &FileList, hints: &Hints) -> usize {
+    let Some(hint) = hints.map(task, number) else {
+        return files.len();
+    };
+    let tag = hint.get();
+    let at = tag.place().file;
+    if files.is_tagged(at, tag.file()) {
+        return at;
+    }
+    files.tagged_near(at, tag.file())
+}
+
+// The list of the file at a place, where there is one that is empty still, gets the maps that a child gets for a parent's.
+// Answers how many.
+fn fill_at(
+    at: usize,
+    files: &FileList,
+    alloc: Global,
+    tags: &mut Tags,
+    parent: u64,
+    child: u64,
+    lists: &mut Vec<Vec<Mapping>>,
+) -> Result<u64, AllocError>
+    requires { AreFilled parent child files.now.files lists.old.items }
+    ensures filled { OnOk result (AreFilled parent child files.now.files lists.new.items) }
+    ensures count { IfOk result (λ count.
+        sum_by list_length lists.new.items ≡ sum_by list_length lists.old.items + count) }
+{
+    if at >= lists.len() || !lists[at].is_empty() {
+        return Ok(0);
+    }
+    let list = files[at].children(alloc, tags, parent, child)?;
+    let count = list.len() as u64;
+    lists[at] = list;
+    Ok(count)
+}
+
+// The maps that a child gets of each file for those of a parent, which are so many, found by going over the files: a list for
+// each of them up to the last that has any.
+fn children_among_all(
+    files: &FileList,
+    alloc: Global,
+    tags: &mut Tags,
+    parent: u64,
+    child: u64,
+    count: u64,
+) -> Result<Vec<Vec<Mapping>>, AllocError>
+    requires { count ≡ sum_by (maps_of parent) files.now.files }
+    ensures { IfOk result (λ lists. AreReady parent child files.now.files lists.items) }
+{
+    let mut lists = Vec::with_capacity(alloc, files.len())?;
+    let mut left = count;
+    while left > 0 {
+        let at = lists.len();
+        let list = files[at].children(alloc, tags, parent, child)?;
+        left -= list.len() as u64;
+        lists.push_reserved(list);
+    }
+    Ok(lists)
+}
+
+/// The maps that a child gets of each file for those of a parent, which are so many: a list for each file, or none where there
+/// are none. The files are found by the numbers of the parent's maps, and no other is looked at unless some are not found so.
+pub fn children(
+    files: &FileList,
+    hints: &Hints,
+    alloc: Global,
+    tags: &mut Tags,
+    parent: u64,
+    child: u64,
+    count: u64,
+) -> Result<Vec<Vec<Mapping>>, AllocError>
+    requires { count ≡ sum_by (maps_of parent) files.now.files }
+    ensures { IfOk result (λ lists. AreReady parent child files.now.files lists.items) }
+{
+    let mut lists = empty_lists(alloc, if count > 0 { files.len() } else { 0 })?;
+    let mut left = count;
+    let mut number = 1;
+    while left > 0 && number <= MOST_MAPS {
+        let at = hinted_at(parent, number, files, hints);
+        left -= fill_at(at, files, alloc, tags, parent, child, &mut lists)?;
+        number += 1;
+    }
+    if left > 0 {
+        return children_among_all(files, alloc, tags, parent, child, count);
+    }
+    Ok(lists)
+}
+
+// How many copies the maps of some lists have, or the greatest number where they have more.
+fn all_copies(lists: &[Vec<Mapping>]) -> u64
+    ensures { result < 2 ^ 64 - 1 → result ≡ sum_by list_copies lists.now }
+{
+    let mut count: u64 = 0;
+    for list in lists {
+        count = count.saturating_add(copies_of(list));
+    }
+    count
+}
+
+/// Room for `held` pages beside those for copies that several maps hold, once the copies of some lists are among them; or
+/// more than can be.
+pub fn room_for(held: u64, more: usize, lists: &[Vec<Mapping>]) -> usize
+    ensures { result < 2 ^ 64 - 1 → result ≡ held + more + sum_by list_copies lists.now }
+{
+    let room = held.saturating_add(more as u64);
+    room.saturating_add(all_copies(lists)) as usize
+}
+
+// The file at a place, which has no map of a child, gets the child's maps of a list: each of their copies has a holder more,
+// and they are noted, for which there is room. No file is looked at where the list is empty.
+fn join_at<N: Naming>(
+    child: u64,
+    at: usize,
+    list: Vec<Mapping>,
+    files: &mut FileList,
+    hints: &mut Hints,
+    store: &mut PageStore<N>,
+    more: &mut usize,
+)
+    requires within { at < length files.old.files }
+    requires room { HasRoom (numbered_at files.old.files at) list }
+    requires none { maps_of child (numbered_at files.old.files at) ≡ 0 }
+    requires keys { maps_of child (with_list (numbered_at files.old.files at) list)
+        ≤ hints.old.room }
+    requires held { (n : ℕ) → in_list n list ≤ holders_of (page_at store.old n) }
+    requires some { HasHolders store.old }
+    requires counted { more.old ≡ more_in store.old.pages }
+    requires few { more.old + list_copies list ≤ 2 ^ 32 }
+    ensures files { files.new.files ≡ joined_at at list files.old.files }
+    ensures noted { HasNoted child (numbered_at files.new.files at) hints.old hints.new }
+    ensures sharing { IsSharing (λ n. in_list n list) store.old store.new }
+    ensures counted { more.new ≡ more_in store.new.pages }
+    ensures more { more.new ≡ more.old + list_copies list }
+{
+    if list.is_empty() {
+        return;
+    }
+    files[at].join(list, store, more);
+    let tag = files.tag(at);
+    files[at].note_maps(child, FileTag::new(at, tag), hints);
+}
+
+/// Each file gets the maps of its list, and each of their copies has a holder more. Where they stand is noted, and their
+/// tags: there is room for them, and the files have no other map of the child.
+pub fn join_all<N: Naming>(
+    child: u64,
+    mut lists: Vec<Vec<Mapping>>,
+    files: &mut FileList,
+    hints: &mut Hints,
+    store: &mut PageStore<N>,
+    more: &mut usize,
+)
+    requires room { HaveRoom files.old.files lists.items }
+    requires none { sum_by (maps_of child) files.old.files ≡ 0 }
+    requires keys { sum_by (maps_of child) (joined files.old.files lists.items) ≤ hints.old.room }
+    requires held { (n : ℕ) → in_lists n lists.items ≤ holders_of (page_at store.old n) }
+    requires some { HasHolders store.old }
+    requires counted { more.old ≡ more_in store.old.pages }
+    requires few { more.old + sum_by list_copies lists.items ≤ 2 ^ 32 }
+    ensures joined { HaveJoined lists.items files.old.files files.new.files store.old store.new
+        more.old more.new }
+    ensures noted { HaveNoted child files.new.files hints.old hints.new }
+{
+    while let Some(list) = lists.pop() {
+        let at = lists.len();
+        join_at(child, at, list, files, hints, store, more);
+    }
+}
+
+/// Files without name and maps go, and the others move down. Where no map went, each is used, and none is looked at.
+pub fn retain_some_used(gone: u64, files: &mut FileList)
+    requires { gone ≡ 0 → filter is_used files.old.files ≡ files.old.files }
+    ensures { files.new.files ≡ filter is_used files.old.files }
+{
+    if gone > 0 {
+        files.retain_used();
+    }
+}
