@@ -16,14 +16,6 @@ pub mod Placing
 pub mod Copies
 pub mod PutLevel
 pub mod PutCopy
-pub mod CopyHeld
-pub mod CopyWritten
-pub mod HeldOnce
-pub mod Parting
-pub mod TakingBack
-pub mod Exiting
 pub mod Joining
-pub mod Forked
-pub mod Forks
 pub mod Ordered
 pub mod Listed

@@ -32,7 +32,7 @@ use Rattle.hp_lookup.specs.Places.{IsFound, mount_with, spot_of}
 use Rattle.hp_lookup.proofs.Cells.{file_is, no_file}
 use Rattle.hp_file.proofs.Drops.{drop_as, drop_then}
 use Rattle.hp_file.proofs.Ended.{removed_set}
-use Rattle.hp_file.proofs.Exiting.{keys_are, maps_in}
+use Rattle.hp_mount_files.proofs.Exiting.{keys_are, maps_in}
 use Rattle.hp_file.proofs.FileLeaves.{empty_file}
 use Rattle.hp_lookup.proofs.Finding.{any_shown}
 use Rattle.hp_lookup.proofs.Keys.{labels_stay, same_label}

@@ -4,7 +4,7 @@ use Rattle.hp_model.specs.files.GiveBack.{file_without, is_kept}
 use Rattle.hp_model.specs.files.MountCounts.{file_reserves}
 use Rattle.hp_lookup.specs.Dropping.{IsLeft}
 use Rattle.hp_lookup.specs.Files.{Files}
-use Rattle.hp_file.proofs.Exiting.{exit_files, exit_keeps, exit_left}
+use Rattle.hp_mount_files.proofs.Exiting.{exit_files, exit_keeps, exit_left}
 use Rattle.hp_lookup.proofs.GivingBack.{all_kept}
 use Rattle.hp_lookup.proofs.Leaving.{files_owe}
 use Rattle.hp_mount_files.proofs.OneByOne.{none_leaves}

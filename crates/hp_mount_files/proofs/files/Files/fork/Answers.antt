@@ -4,8 +4,8 @@ use Rattle.hp_model.specs.files.MountCounts.{file_reserves}
 use Rattle.hp_lookup.specs.Tally.{count_of}
 use Rattle.hp_lookup.specs.Files.{Files}
 use Rattle.hp_lookup.specs.Hints.{IsFiles}
-use Rattle.hp_file.proofs.Exiting.{maps_in}
-use Rattle.hp_file.proofs.Forks.{all_used, files_as, forked_few, forked_keeps, forked_left, forked_shows, join_few, join_held, join_keys, join_none, join_room, set_out}
+use Rattle.hp_mount_files.proofs.Exiting.{maps_in}
+use Rattle.hp_mount_files.proofs.Forks.{all_used, files_as, forked_few, forked_keeps, forked_left, forked_shows, join_few, join_held, join_keys, join_none, join_room, set_out}
 use Rattle.hp_lookup.proofs.Keys.{files_noted, files_recounted}
 use Rattle.hp_lookup.proofs.Leaving.{files_owe}
 use Rattle.hp_lookup.proofs.Tallies.{maps_labelled}

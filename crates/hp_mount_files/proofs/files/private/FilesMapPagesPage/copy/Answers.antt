@@ -10,7 +10,7 @@ use Rattle.hp_lookup.specs.Files.{Files, file_at}
 use Rattle.hp_lookup.specs.Numbered.{copy_shown}
 use Rattle.hp_lookup.specs.Places.{map_at}
 use Rattle.hp_file.specs.States.{AreAgreed, IsCopyState}
-use Rattle.hp_file.proofs.CopyHeld.{agreed_there, copy_there, few_there, held_once}
+use Rattle.hp_mount_files.proofs.CopyHeld.{agreed_there, copy_there, few_there, held_once}
 use Rattle.hp_mount_files.proofs.Here.{file_here, map_here, file_inside, map_inside}
 use Rattle.hp_mount_files.proofs.files.private.FilesMapPagesPage.copy.Goals as goal
 

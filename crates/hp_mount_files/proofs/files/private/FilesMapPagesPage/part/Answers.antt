@@ -12,7 +12,7 @@ use Rattle.hp_lookup.specs.Keyed.{label_of}
 use Rattle.hp_lookup.specs.Numbered.{files_shown, mapping_at}
 use Rattle.hp_lookup.specs.Places.{map_at}
 use Rattle.hp_lookup.proofs.Keys.{files_same, same_label}
-use Rattle.hp_file.proofs.Parting.{number, part_keeps, part_levels, part_once, part_view, room_there, still_there}
+use Rattle.hp_mount_files.proofs.Parting.{number, part_keeps, part_levels, part_once, part_view, room_there, still_there}
 use Rattle.hp_file.proofs.PutCopy.{put_fresh}
 use Rattle.hp_mount_files.proofs.Here.{file_here, map_here, place_here, state_here, file_inside, map_inside}
 use Rattle.hp_mount_files.proofs.files.private.FilesMapPagesPage.part.Goals as goal

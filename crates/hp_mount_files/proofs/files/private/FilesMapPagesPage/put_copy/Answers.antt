@@ -10,7 +10,7 @@ use Rattle.hp_lookup.specs.Keyed.{label_of}
 use Rattle.hp_lookup.specs.Numbered.{mapping_at}
 use Rattle.hp_file.specs.Taking.{first_copy}
 use Rattle.hp_mapping.specs.Mapped.{at_place}
-use Rattle.hp_file.proofs.HeldOnce.{put_once}
+use Rattle.hp_mount_files.proofs.HeldOnce.{put_once}
 use Rattle.hp_lookup.proofs.Keys.{files_same, same_label}
 use Rattle.hp_file.proofs.PutCopy.{bare_place, put_fresh, put_keeps, put_stays_level, put_view}
 use Rattle.hp_mount_files.proofs.Here.{file_here, map_here, place_here, file_inside, map_inside, live_inside}

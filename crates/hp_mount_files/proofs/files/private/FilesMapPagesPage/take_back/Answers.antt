@@ -6,7 +6,7 @@ use Rattle.hp_lookup.specs.Tally.{count_of}
 use Rattle.hp_lookup.specs.Dropping.{IsLeft}
 use Rattle.hp_lookup.specs.Files.{Files, taken_back_at}
 use Rattle.hp_lookup.specs.Places.{map_at}
-use Rattle.hp_file.proofs.TakingBack.{back_files, back_keeps, back_left, back_once}
+use Rattle.hp_mount_files.proofs.TakingBack.{back_files, back_keeps, back_left, back_once}
 use Rattle.hp_lookup.proofs.Views.{view}
 use Rattle.hp_mount_files.proofs.Here.{file_here, map_here, file_inside, map_inside, copy_inside, held_inside}
 use Rattle.hp_mount_files.proofs.files.private.FilesMapPagesPage.take_back.Goals as goal

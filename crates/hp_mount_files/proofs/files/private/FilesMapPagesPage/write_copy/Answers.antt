@@ -5,7 +5,7 @@ use Rattle.hp_lookup.specs.declared.copy_state.CopyState.TheVariants as state
 use Rattle.hp_lookup.specs.Files.{Files, file_at, placed_at}
 use Rattle.hp_lookup.specs.Places.{map_at}
 use Rattle.hp_file.specs.States.{IsCopyState}
-use Rattle.hp_file.proofs.CopyWritten.{copy_alone, copy_write_keeps, copy_write_view}
+use Rattle.hp_mount_files.proofs.CopyWritten.{copy_alone, copy_write_keeps, copy_write_view}
 use Rattle.hp_mount_files.proofs.Here.{file_inside, map_inside}
 use Rattle.hp_mount_files.proofs.files.private.FilesMapPagesPage.write_copy.Goals as goal
 

@@ -23,9 +23,9 @@ use Rattle.hp_lookup.specs.Leaving.{HasLeft, emptied, is_used, left_by, map_sum}
 use Rattle.hp_lookup.specs.Numbered.{NumberedFile, files_shown, with_truncated}
 use Rattle.hp_lookup.specs.Places.{all_maps}
 use Rattle.hp_file.proofs.Entering.{room_keeps, room_view}
-use Rattle.hp_file.proofs.Exiting.{exit_files, exit_keeps, exit_keys, exit_left, keys_gone, named_labelled}
+use Rattle.hp_mount_files.proofs.Exiting.{exit_files, exit_keeps, exit_keys, exit_left, keys_gone, named_labelled}
 use Rattle.hp_file.proofs.FileLeaves.{empty_file}
-use Rattle.hp_file.proofs.Forked.{few_kids, fork_held, fork_keeps, fork_keyed, fork_shows, in_kids, owed_same, tally_more}
+use Rattle.hp_mount_files.proofs.Forked.{few_kids, fork_held, fork_keeps, fork_keyed, fork_shows, in_kids, owed_same, tally_more}
 use Rattle.hp_file.proofs.Joining.{none_joined}
 use Rattle.hp_lookup.proofs.Keys.{noted_same}
 use Rattle.hp_lookup.proofs.Leaving.{files_owe, used_label, used_sum}

@@ -23,10 +23,10 @@ use Rattle.hp_lookup.specs.Places.{map_at}
 use Rattle.hp_file.specs.States.{IsCopyState}
 use Rattle.hp_lookup.proofs.Cells.{free_is_fresh, no_file, inserted_agrees, inserted_is, inserted_more, some_put}
 use Rattle.hp_file.proofs.Copies.{fresh_stands, with_copy_at}
-use Rattle.hp_file.proofs.CopyHeld.{holders_counted, in_maps, map_reads, number_there, stamp_there}
+use Rattle.hp_mount_files.proofs.CopyHeld.{holders_counted, in_maps, map_reads, number_there, stamp_there}
 use Rattle.hp_file.proofs.Drops.{drop_more, drop_next, drop_start, one_at, place_here}
 use Rattle.hp_file.proofs.FirstCopy.{live_inside}
-use Rattle.hp_file.proofs.HeldOnce.{once_left}
+use Rattle.hp_mount_files.proofs.HeldOnce.{once_left}
 use Rattle.hp_lookup.proofs.Lifting.{is_it, is_other}
 use Rattle.hp_file.proofs.Placing.{place_held}
 use Rattle.hp_file.proofs.PutCopy.{jl_in, mapping, put_in, put_levels, put_there, put_shows, seen_place, within, x_is}

@@ -17,7 +17,7 @@ use Rattle.hp_lookup.specs.Places.{map_at}
 use Rattle.hp_file.specs.States.{IsCopyState}
 use Rattle.hp_file.specs.Taking.{first_copy}
 use Rattle.hp_lookup.proofs.Cells.{file_is, inserted_is, no_file}
-use Rattle.hp_file.proofs.CopyHeld.{copy_there, held_once, map_reads}
+use Rattle.hp_mount_files.proofs.CopyHeld.{copy_there, held_once, map_reads}
 use Rattle.hp_file.proofs.PutCopy.{live, mapping, put, put_in, put_keeps, put_there, within}
 use Rattle.hp_lookup.proofs.Views.{files_len}
 

@@ -24,7 +24,7 @@ use Rattle.hp_lookup.specs.Level.{AreLevel, copy_in}
 use Rattle.hp_lookup.specs.Numbered.{NumberedFile, file_shown, files_shown, map_shown, numbered_at, place_shown}
 use Rattle.hp_lookup.proofs.Cells.{no_file}
 use Rattle.hp_file.proofs.Cutting.{none_mapped}
-use Rattle.hp_file.proofs.Exiting.{keys_are, maps_in}
+use Rattle.hp_mount_files.proofs.Exiting.{keys_are, maps_in}
 use Rattle.hp_lookup.proofs.Level.{fewer_level, kept_copy, mapped_copy}
 use Rattle.hp_lookup.proofs.Mapped.{sum_mapped, sum_through}
 use Rattle.hp_lookup.proofs.Staying.{files_stay}

@@ -32,10 +32,10 @@ use Rattle.hp_file.specs.States.{IsCopyState}
 use Rattle.hp_lookup.specs.declared.copy_state.CopyState.TheVariants as state
 use Rattle.hp_file.specs.Taking.{has_number, robbed_at, with_taken_back}
 use Rattle.hp_file.proofs.Copies.{any_none}
-use Rattle.hp_file.proofs.CopyHeld.{agreed_shown, jl_read, map_reads, no_cells, number_there, stamp_there}
+use Rattle.hp_mount_files.proofs.CopyHeld.{agreed_shown, jl_read, map_reads, no_cells, number_there, stamp_there}
 use Rattle.hp_file.proofs.Drops.{less_copy, live_copy, place_here, place_inside}
 use Rattle.hp_lookup.proofs.GivingBack.{given_shows, keeps, leaves}
-use Rattle.hp_file.proofs.HeldOnce.{once_left}
+use Rattle.hp_mount_files.proofs.HeldOnce.{once_left}
 use Rattle.hp_lookup.proofs.Keys.{set_read}
 use Rattle.hp_lookup.proofs.Level.{fewer_level, level_read, mapped_copy, same_level}
 use Rattle.hp_lookup.proofs.Lifting.{at_most, is_it, map_but}

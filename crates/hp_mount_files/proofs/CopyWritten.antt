@@ -19,7 +19,7 @@ use Rattle.hp_lookup.specs.Places.{map_at}
 use Rattle.hp_file.specs.States.{IsCopyState}
 use Rattle.hp_lookup.proofs.Cells as cells
 use Rattle.hp_lookup.proofs.Cells.{file_is, no_file, write_agrees, write_held}
-use Rattle.hp_file.proofs.CopyHeld.{holders_counted, stamp_there, y_is}
+use Rattle.hp_mount_files.proofs.CopyHeld.{holders_counted, stamp_there, y_is}
 use Rattle.hp_file.proofs.Drops.{live_copy, place_here, place_inside}
 use Rattle.hp_lookup.proofs.Lifting.{at_most, cell_same, file_same, is_it, map_but, map_same, map_shows_same, place_same}
 use Rattle.hp_file.proofs.PutCopy.{jl_in, mapping, seen, seen_place, within}
