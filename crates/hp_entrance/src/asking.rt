@@ -1,15 +1,18 @@
 //! What is asked of a part, under its lock.
 ghost use Rattle.std.specs.Prelude.{ℕ, ◌≡◌, ◌==◌, if◌then◌else◌, None, true, false, IfNone, IfSome};
-ghost use Rattle.hp_model.specs.declared.event.Event.TheVariants.{Slot as OnSlot};
+ghost use Rattle.hp_model.specs.declared.event.Event.TheVariants.{Slot as OnSlot, Tasks as OnTasks};
+ghost use Rattle.hp_model.specs.declared.event.TableEvent.TheVariants.{Find};
 ghost use Rattle.hp_model.specs.declared.refusal.Refusal.TheVariants.{TraceFull};
 ghost use Rattle.hp_model.specs.beside.Told.{told_reply};
 ghost use Rattle.hp_model.specs.text.Writing.{IsWithinLimits};
 ghost use Rattle.hp_parts.specs.Answered.{IsHanded};
+ghost use Rattle.hp_parts.specs.Replies.{table_reply};
 ghost use Rattle.hp_parts.specs.SlotWork.{asked_event, is_of_maps};
 
 use crate::entrance::Entrance;
 use hp_events::MountEvent;
 use hp_events::copies::Copies;
+use hp_homes::Noted;
 use hp_locked::{Core, Door, Gate};
 use hp_model::entry::{PoolEntry, Receipt, SlotEntry, TableEntry};
 use hp_model::event::{PoolEvent, TableEvent};
@@ -18,7 +21,7 @@ use hp_model::naming::Naming;
 use hp_model::refusal::Refusal;
 use hp_model::told::Told;
 use hp_parts::{Parts, SlotWork, TableTold};
-use hp_shared::{Slot, Table};
+use hp_shared::{Shared, Slot, Table};
 use hp_trail::trace::Trace;
 use std::alloc::Global;
 use std::sync::{Mutex, MutexGuard, Wait};
@@ -59,7 +62,37 @@ fn missing<const K: usize>(
     }
 }
 
-impl<'a, N: Naming, R: Wait, G: Gate, const K: usize> Parts for Entrance<'a, N, R, G, K> {
+// What the task table answers to a look-up, where the task is noted and no entries are kept: by one read of a word, without
+// its lock.
+#[inline(always)]
+fn noted<N: Naming + Noted, const K: usize>(shared: &Shared<N, K>, task: u64) -> Option<TableTold>
+    requires { (K == 1) ≡ false }
+    ensures { (size : ℕ) → IfSome result (λ told. IsHanded (K == 1) size (OnTasks (Find task))
+        (table_reply told) None) }
+{
+    let (home, _sight) = shared.homes().home(task);
+    match home {
+        Some(home) => Some(TableTold::Home(home)),
+        None => None,
+    }
+}
+
+// An event of the task table where no entries are kept, under its lock.
+#[inline(never)]
+fn under_lock<N: Naming + Noted, R: Wait, const K: usize>(
+    rt: &R,
+    shared: &Shared<N, K>,
+    event: TableEvent,
+) -> TableTold
+    requires { (K == 1) ≡ false }
+    ensures { (size : ℕ) → IsHanded (K == 1) size (OnTasks event) (table_reply result) None }
+{
+    let mut value = hold(shared.table(), rt);
+    let table: &mut Table<N, Trace<TableEntry, K>> = &mut value;
+    table.event_unnoted(shared.homes(), event)
+}
+
+impl<'a, N: Naming + Noted, R: Wait, G: Gate, const K: usize> Parts for Entrance<'a, N, R, G, K> {
     ghost keeps = { K == 1 };
 
     ghost page = { N.page_bytes };
@@ -90,7 +123,7 @@ impl<'a, N: Naming, R: Wait, G: Gate, const K: usize> Parts for Entrance<'a, N, 
         let shared = self.shared;
         let mut value = hold(shared.table(), self.rt);
         let table: &mut Table<N, Trace<TableEntry, K>> = &mut value;
-        match table.event(event) {
+        match table.event(shared.homes(), event) {
             Err(_full) => (TableTold::Refused(Refusal::TraceFull), None),
             Ok((told, receipt)) => (told, receipt),
         }
@@ -98,10 +131,12 @@ impl<'a, N: Naming, R: Wait, G: Gate, const K: usize> Parts for Entrance<'a, N, 
 
     #[inline(always)]
     fn table_unnoted(&self, event: TableEvent) -> TableTold {
-        let shared = self.shared;
-        let mut value = hold(shared.table(), self.rt);
-        let table: &mut Table<N, Trace<TableEntry, K>> = &mut value;
-        table.event_unnoted(event)
+        if let TableEvent::Find { task } = event
+            && let Some(told) = noted(self.shared, task)
+        {
+            return told;
+        }
+        under_lock(self.rt, self.shared, event)
     }
 
     fn pool(&self, event: PoolEvent) -> (Result<Told<'static>, Refusal>, Option<Receipt>) {

@@ -1,5 +1,6 @@
 //! A way into a machine that threads share.
 
+use hp_homes::Noted;
 use hp_locked::Gate;
 use hp_model::naming::Naming;
 use hp_shared::Shared;
@@ -8,7 +9,7 @@ use std::sync::Wait;
 /// What asks the parts of a machine that threads share, each under its lock: by what it waits for one, and who is told that a
 /// slot's or a node's is held.
 #[derive(Drop)]
-pub struct Entrance<'a, N: Naming, R: Wait, G: Gate, const K: usize> {
+pub struct Entrance<'a, N: Naming + Noted, R: Wait, G: Gate, const K: usize> {
     pub rt: &'a R,
     pub shared: &'a Shared<N, K>,
     pub gate: &'a G,

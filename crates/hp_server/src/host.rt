@@ -2,6 +2,7 @@
 ghost use Rattle.std.specs.Prelude.{◌≡◌, []};
 
 use hp_entrance::Entrance;
+use hp_homes::Noted;
 use hp_locked::Gate;
 use hp_model::entry::Receipt;
 use hp_model::naming::Naming;
@@ -13,7 +14,7 @@ use std::sync::Wait;
 
 /// A machine that threads share, with what a session on it waits by and the room for its receipts.
 #[derive(Drop)]
-pub struct Waiting<'a, N: Naming, R: Wait, G: Gate, const K: usize> {
+pub struct Waiting<'a, N: Naming + Noted, R: Wait, G: Gate, const K: usize> {
     pub rt: &'a R,
     pub shared: &'a Shared<N, K>,
     pub gate: &'a G,
@@ -21,7 +22,7 @@ pub struct Waiting<'a, N: Naming, R: Wait, G: Gate, const K: usize> {
 }
 
 // Behind a reference, so that it is known that the machine lives as long as the session.
-impl<'a, N: Naming, R: Wait, G: Gate, const K: usize> Host for &'a Waiting<'a, N, R, G, K> {
+impl<'a, N: Naming + Noted, R: Wait, G: Gate, const K: usize> Host for &'a Waiting<'a, N, R, G, K> {
     type Session = Session<Entrance<'a, N, R, G, K>>;
 
     /// The receipts, in order.

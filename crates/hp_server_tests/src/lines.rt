@@ -5,6 +5,7 @@ ghost use Rattle.hp_pool.specs.Ledgers.{AreLedgers};
 
 use crate::same::same;
 use hp_closing::{Closed, close, into_system};
+use hp_homes::{Blank, Noted};
 use hp_model::entry::Receipt;
 use hp_model::naming::Naming;
 use hp_pool::Blanks;
@@ -17,7 +18,7 @@ use std::process::Abort;
 use std::sync::Wait;
 
 // The receipts that a session has of these lines, with room for so many, and whether it was answered so.
-fn answered<N: Naming, R: Wait + Abort, const K: usize>(
+fn answered<N: Naming + Noted, R: Wait + Abort, const K: usize>(
     rt: &R,
     alloc: Global,
     shared: &Shared<N, K>,
@@ -39,20 +40,22 @@ fn answered<N: Naming, R: Wait + Abort, const K: usize>(
 }
 
 // A session that is answered so on a machine whose trails have so many places each: how many receipts it has, and what is left.
-fn closed<N: Naming, R: Wait + Abort>(
+fn closed<N: Naming + Noted, R: Wait + Abort>(
     rt: &R,
     alloc: Global,
     blanks: Blanks,
+    words: Blank,
     places: usize,
     lines: &[u8],
     replies: &[u8],
 ) -> (usize, Closed)
     requires ledgers { AreLedgers N.Naming blanks }
+    requires words { words.words.shared.table_id ≡ N.words }
     requires frames { AreFrames N.frames (4 ∷ 4 ∷ []) }
     requires bytes { N.page_bytes ≡ 1024 }
     requires places { places ≤ 16777216 }
 {
-    let shared = Shared::<N, 1>::new(alloc, &[4, 4], 1024, 4, places, blanks).expect(rt, "memory");
+    let shared = Shared::<N, 1>::new(alloc, &[4, 4], 1024, 4, places, blanks, words).expect(rt, "memory");
     let told = answered(rt, alloc, &shared, 100, lines, replies);
     let count = told.len();
     let mut all = Vec::with_capacity(alloc, 1).expect(rt, "memory");
@@ -61,12 +64,13 @@ fn closed<N: Naming, R: Wait + Abort>(
 }
 
 // Where a session has room for two receipts: how many entries the task table has.
-fn full_room<N: Naming, R: Wait + Abort>(rt: &R, alloc: Global, blanks: Blanks) -> usize
+fn full_room<N: Naming + Noted, R: Wait + Abort>(rt: &R, alloc: Global, blanks: Blanks, words: Blank) -> usize
     requires ledgers { AreLedgers N.Naming blanks }
+    requires words { words.words.shared.table_id ≡ N.words }
     requires frames { AreFrames N.frames (4 ∷ 4 ∷ []) }
     requires bytes { N.page_bytes ≡ 1024 }
 {
-    let shared = Shared::<N, 1>::new(alloc, &[4, 4], 1024, 4, 16, blanks).expect(rt, "memory");
+    let shared = Shared::<N, 1>::new(alloc, &[4, 4], 1024, 4, 16, blanks, words).expect(rt, "memory");
     let lines = b"connect 1 0\nload 1 0 1 0 0 1\nattach 1\nconnect 2 0\n";
     let replies = b"ok\nerror 23 TraceFull\nok 0\nerror 23 TraceFull\n";
     let told = answered(rt, alloc, &shared, 2, lines, replies);
@@ -82,10 +86,12 @@ fn full_room<N: Naming, R: Wait + Abort>(rt: &R, alloc: Global, blanks: Blanks) 
 #[test]
 fn full_trails_of_tasks_and_of_the_pool(rt: HostRuntime) {
     let blanks = Blanks::new(rt.alloc(), &[4, 4], 1024).expect(&rt, "memory");
+    let words = Blank::new(rt.alloc()).expect(&rt, "memory");
     let (receipts, left) = closed::<Brand, HostRuntime>(
         &rt,
         rt.alloc(),
         blanks,
+        words,
         2,
         b"connect 1 0\nconnect 2 0\nconnect 3 0\nnr 4\nnr 5\nnr 6\nmeminfo\nattach 2\nexit 1\nexit 1\n",
         b"ok\nok\nerror 23 TraceFull\nok 4\nok 5\nerror 23 TraceFull\nerror 23 TraceFull\nerror 23 TraceFull\n\
@@ -99,10 +105,12 @@ ok\nerror 23 TraceFull\n",
 #[test]
 fn full_trails_do_not_keep_a_page(rt: HostRuntime) {
     let blanks = Blanks::new(rt.alloc(), &[4, 4], 1024).expect(&rt, "memory");
+    let words = Blank::new(rt.alloc()).expect(&rt, "memory");
     let (receipts, left) = closed::<Brand, HostRuntime>(
         &rt,
         rt.alloc(),
         blanks,
+        words,
         3,
         b"connect 1 0\nnr 2\ncreate 0 a\nmap 1 0 a 0 1 private\nstore 1 0 1 0 0 ff\nload 1 0 1 0 0 1\nls 0\n\
 unlink 0 a\nmeminfo\nexit 1\n",
@@ -117,16 +125,19 @@ error 23 TraceFull\nerror 23 TraceFull\nok\n",
 #[test]
 fn a_full_room_refuses_before_the_first_event(rt: HostRuntime) {
     let blanks = Blanks::new(rt.alloc(), &[4, 4], 1024).expect(&rt, "memory");
-    same!(rt; full_room::<Brand, HostRuntime>(&rt, rt.alloc(), blanks), 2);
+    let words = Blank::new(rt.alloc()).expect(&rt, "memory");
+    same!(rt; full_room::<Brand, HostRuntime>(&rt, rt.alloc(), blanks, words), 2);
 }
 
 #[test]
 fn a_fork_and_an_exit_pass_all_slots(rt: HostRuntime) {
     let blanks = Blanks::new(rt.alloc(), &[4, 4], 1024).expect(&rt, "memory");
+    let words = Blank::new(rt.alloc()).expect(&rt, "memory");
     let (_receipts, left) = closed::<Brand, HostRuntime>(
         &rt,
         rt.alloc(),
         blanks,
+        words,
         100,
         b"nr 8\nconnect 1 0\nmount 1 -\nmount 3 -\ncreate 0 a\ncreate 1 a\ncreate 3 a\n\
 map 1 0 a 0 1 private\nmap 1 1 a 0 1 private\nmap 1 3 a 0 1 private\n\

@@ -5,6 +5,7 @@ ghost use Rattle.hp_pool.specs.Ledgers.{AreLedgers};
 
 use crate::gate::{Held, Hold, Place};
 use crate::same::same;
+use hp_homes::{Blank, Noted};
 use hp_model::naming::Naming;
 use hp_pool::Blanks;
 use hp_server::Served;
@@ -85,20 +86,22 @@ fn clients<R: Net<Stream = TcpStream> + Abort + Clock>(
 }
 
 // Serves three sessions on two workers, on a machine with this gate: the status.
-fn serves<N: Naming + Send + Sync, R: Threads + Wait + Abort + Clock + Sync, C: Connections>(
+fn serves<N: Naming + Noted + Send + Sync, R: Threads + Wait + Abort + Clock + Sync, C: Connections>(
     rt: &R,
     alloc: Global,
     blanks: Blanks,
+    words: Blank,
     hold: &Hold<'_, R>,
     connections: &mut C,
     output: &mut Vec<u8>,
 ) -> u8
     requires ledgers { AreLedgers N.Naming blanks }
+    requires words { words.words.shared.table_id ≡ N.words }
     requires frames { AreFrames N.frames (4 ∷ 4 ∷ []) }
     requires bytes { N.page_bytes ≡ 1024 }
 {
     let machine = Served {
-        shared: Shared::<N, 1>::new(alloc, &[4, 4], 1024, 4, ROOM, blanks).expect(rt, "memory"),
+        shared: Shared::<N, 1>::new(alloc, &[4, 4], 1024, 4, ROOM, blanks, words).expect(rt, "memory"),
         gate: Held { hold },
         room: ROOM,
     };
@@ -108,10 +111,11 @@ fn serves<N: Naming + Send + Sync, R: Threads + Wait + Abort + Clock + Sync, C: 
 
 // One session is held at a place while another finishes, which is told this.
 fn row<
-    N: Naming + Send + Sync,
+    N: Naming + Noted + Send + Sync,
     R: Threads + Wait + Abort + Clock + Net<Stream = TcpStream, Listener = TcpListener> + Sync,
->(rt: &R, alloc: Global, blanks: Blanks, place: Place, meanwhile: &[u8])
+>(rt: &R, alloc: Global, blanks: Blanks, words: Blank, place: Place, meanwhile: &[u8])
     requires ledgers { AreLedgers N.Naming blanks }
+    requires words { words.words.shared.table_id ≡ N.words }
     requires frames { AreFrames N.frames (4 ∷ 4 ∷ []) }
     requires bytes { N.page_bytes ≡ 1024 }
 {
@@ -122,9 +126,10 @@ fn row<
     let mut output = Vec::new(alloc);
     let serving = ||
         requires ledgers { AreLedgers N.Naming blanks }
+        requires words { words.words.shared.table_id ≡ N.words }
         requires frames { AreFrames N.frames (4 ∷ 4 ∷ []) }
         requires bytes { N.page_bytes ≡ 1024 }
-    { serves::<N, R, Listening<Vec<u8>>>(rt, alloc, blanks, &hold, &mut connections, &mut output) };
+    { serves::<N, R, Listening<Vec<u8>>>(rt, alloc, blanks, words, &hold, &mut connections, &mut output) };
     let (told, status) = join(rt, || clients(rt, at, &hold, meanwhile), serving);
     told.expect(rt, "clients that are served");
     same!(rt; status, 0);
@@ -135,11 +140,13 @@ fn row<
 #[test]
 fn a_session_held_at_a_slot_holds_no_other(rt: HostRuntime) {
     let blanks = Blanks::new(rt.alloc(), &[4, 4], 1024).expect(&rt, "memory");
-    row::<Brand, HostRuntime>(&rt, rt.alloc(), blanks, Place::Slot(1), HELD_AT_THE_SLOT);
+    let words = Blank::new(rt.alloc()).expect(&rt, "memory");
+    row::<Brand, HostRuntime>(&rt, rt.alloc(), blanks, words, Place::Slot(1), HELD_AT_THE_SLOT);
 }
 
 #[test]
 fn a_session_held_at_a_node_holds_no_other(rt: HostRuntime) {
     let blanks = Blanks::new(rt.alloc(), &[4, 4], 1024).expect(&rt, "memory");
-    row::<Brand, HostRuntime>(&rt, rt.alloc(), blanks, Place::Node(0), HELD_AT_THE_NODE);
+    let words = Blank::new(rt.alloc()).expect(&rt, "memory");
+    row::<Brand, HostRuntime>(&rt, rt.alloc(), blanks, words, Place::Node(0), HELD_AT_THE_NODE);
 }

@@ -5,6 +5,7 @@ ghost use Rattle.hp_pool.specs.Ledgers.{AreLedgers};
 
 use crate::same::same;
 use hp_closing::{audit, close, into_system};
+use hp_homes::{Blank, Noted};
 use hp_model::naming::Naming;
 use hp_pool::Blanks;
 use hp_shared::Shared;
@@ -18,7 +19,7 @@ use std::thread::Threads;
 const PLACES: usize = 10;
 
 // Two threads look at one machine.
-fn looked_at<N: Naming + Send + Sync, R: Threads + Wait + Sync, const K: usize>(
+fn looked_at<N: Naming + Noted + Send + Sync, R: Threads + Wait + Sync, const K: usize>(
     rt: &R,
     shared: &Shared<N, K>,
 ) -> (u64, u64) {
@@ -30,17 +31,19 @@ fn looked_at<N: Naming + Send + Sync, R: Threads + Wait + Sync, const K: usize>(
 }
 
 // A machine of three slots, which is closed at once: its audit is this.
-fn closes<N: Naming + Send + Sync, R: Threads + Wait + Abort + Sync, const K: usize>(
+fn closes<N: Naming + Noted + Send + Sync, R: Threads + Wait + Abort + Sync, const K: usize>(
     rt: &R,
     alloc: Global,
     blanks: Blanks,
+    words: Blank,
     wanted: Option<bool>,
 )
     requires ledgers { AreLedgers N.Naming blanks }
+    requires words { words.words.shared.table_id ≡ N.words }
     requires frames { AreFrames N.frames (4 ∷ 2 ∷ []) }
     requires bytes { N.page_bytes ≡ 1024 }
 {
-    let shared = Shared::<N, K>::new(alloc, &[4, 2], 1024, 3, PLACES, blanks).expect(rt, "memory");
+    let shared = Shared::<N, K>::new(alloc, &[4, 2], 1024, 3, PLACES, blanks, words).expect(rt, "memory");
     let (page, slots) = looked_at(rt, &shared);
     same!(rt; [page, slots], [1024, 3]);
     let closed = close(alloc, shared, Vec::new(alloc)).expect(rt, "memory");
@@ -50,53 +53,61 @@ fn closes<N: Naming + Send + Sync, R: Threads + Wait + Abort + Sync, const K: us
     same!(rt; [counts.total, counts.free, counts.rsvd, counts.surp], [0, 0, 0, 0]);
 }
 
-fn closes_traced<N: Naming + Send + Sync, R: Threads + Wait + Abort + Sync>(
+fn closes_traced<N: Naming + Noted + Send + Sync, R: Threads + Wait + Abort + Sync>(
     rt: &R,
     alloc: Global,
     blanks: Blanks,
+    words: Blank,
 )
     requires ledgers { AreLedgers N.Naming blanks }
+    requires words { words.words.shared.table_id ≡ N.words }
     requires frames { AreFrames N.frames (4 ∷ 2 ∷ []) }
     requires bytes { N.page_bytes ≡ 1024 }
 {
-    closes::<N, R, 1>(rt, alloc, blanks, Some(true));
+    closes::<N, R, 1>(rt, alloc, blanks, words, Some(true));
 }
 
-fn closes_untraced<N: Naming + Send + Sync, R: Threads + Wait + Abort + Sync>(
+fn closes_untraced<N: Naming + Noted + Send + Sync, R: Threads + Wait + Abort + Sync>(
     rt: &R,
     alloc: Global,
     blanks: Blanks,
+    words: Blank,
 )
     requires ledgers { AreLedgers N.Naming blanks }
+    requires words { words.words.shared.table_id ≡ N.words }
     requires frames { AreFrames N.frames (4 ∷ 2 ∷ []) }
     requires bytes { N.page_bytes ≡ 1024 }
 {
-    closes::<N, R, 0>(rt, alloc, blanks, None);
+    closes::<N, R, 0>(rt, alloc, blanks, words, None);
 }
 
 #[test]
 fn a_machine_with_a_trace_is_audited(rt: HostRuntime) {
     let blanks = Blanks::new(rt.alloc(), &[4, 2], 1024).expect(&rt, "memory");
-    closes_traced::<Brand, HostRuntime>(&rt, rt.alloc(), blanks);
+    let words = Blank::new(rt.alloc()).expect(&rt, "memory");
+    closes_traced::<Brand, HostRuntime>(&rt, rt.alloc(), blanks, words);
 }
 
 #[test]
 fn a_machine_without_a_trace_has_no_audit(rt: HostRuntime) {
     let blanks = Blanks::new(rt.alloc(), &[4, 2], 1024).expect(&rt, "memory");
-    closes_untraced::<Brand, HostRuntime>(&rt, rt.alloc(), blanks);
+    let words = Blank::new(rt.alloc()).expect(&rt, "memory");
+    closes_untraced::<Brand, HostRuntime>(&rt, rt.alloc(), blanks, words);
 }
 
 // Whether trails are kept, and how many entries they have.
-fn parts<N: Naming, R: Abort, const K: usize>(
+fn parts<N: Naming + Noted, R: Abort, const K: usize>(
     rt: &R,
     alloc: Global,
     blanks: Blanks,
+    words: Blank,
 ) -> Option<[usize; 3]>
     requires ledgers { AreLedgers N.Naming blanks }
+    requires words { words.words.shared.table_id ≡ N.words }
     requires frames { AreFrames N.frames (4 ∷ 2 ∷ []) }
     requires bytes { N.page_bytes ≡ 1024 }
 {
-    let shared = Shared::<N, K>::new(alloc, &[4, 2], 1024, 3, PLACES, blanks).expect(rt, "memory");
+    let shared = Shared::<N, K>::new(alloc, &[4, 2], 1024, 3, PLACES, blanks, words).expect(rt, "memory");
     let (system, kept) = into_system(shared);
     let counts = system.close();
     same!(rt; [counts.total, counts.free, counts.rsvd, counts.surp], [0, 0, 0, 0]);
@@ -106,30 +117,34 @@ fn parts<N: Naming, R: Abort, const K: usize>(
     Some([trails.tasks.len(), trails.pool.len(), trails.slots.len()])
 }
 
-fn parts_traced<N: Naming, R: Abort>(rt: &R, alloc: Global, blanks: Blanks) -> Option<[usize; 3]>
+fn parts_traced<N: Naming + Noted, R: Abort>(rt: &R, alloc: Global, blanks: Blanks, words: Blank) -> Option<[usize; 3]>
     requires ledgers { AreLedgers N.Naming blanks }
+    requires words { words.words.shared.table_id ≡ N.words }
     requires frames { AreFrames N.frames (4 ∷ 2 ∷ []) }
     requires bytes { N.page_bytes ≡ 1024 }
 {
-    parts::<N, R, 1>(rt, alloc, blanks)
+    parts::<N, R, 1>(rt, alloc, blanks, words)
 }
 
-fn parts_untraced<N: Naming, R: Abort>(rt: &R, alloc: Global, blanks: Blanks) -> Option<[usize; 3]>
+fn parts_untraced<N: Naming + Noted, R: Abort>(rt: &R, alloc: Global, blanks: Blanks, words: Blank) -> Option<[usize; 3]>
     requires ledgers { AreLedgers N.Naming blanks }
+    requires words { words.words.shared.table_id ≡ N.words }
     requires frames { AreFrames N.frames (4 ∷ 2 ∷ []) }
     requires bytes { N.page_bytes ≡ 1024 }
 {
-    parts::<N, R, 0>(rt, alloc, blanks)
+    parts::<N, R, 0>(rt, alloc, blanks, words)
 }
 
 #[test]
 fn a_trace_has_a_trail_for_each_slot(rt: HostRuntime) {
     let blanks = Blanks::new(rt.alloc(), &[4, 2], 1024).expect(&rt, "memory");
-    same!(rt; parts_traced::<Brand, HostRuntime>(&rt, rt.alloc(), blanks), Some([0, 0, 3]));
+    let words = Blank::new(rt.alloc()).expect(&rt, "memory");
+    same!(rt; parts_traced::<Brand, HostRuntime>(&rt, rt.alloc(), blanks, words), Some([0, 0, 3]));
 }
 
 #[test]
 fn without_a_trace_there_is_no_trail(rt: HostRuntime) {
     let blanks = Blanks::new(rt.alloc(), &[4, 2], 1024).expect(&rt, "memory");
-    same!(rt; parts_untraced::<Brand, HostRuntime>(&rt, rt.alloc(), blanks), None);
+    let words = Blank::new(rt.alloc()).expect(&rt, "memory");
+    same!(rt; parts_untraced::<Brand, HostRuntime>(&rt, rt.alloc(), blanks, words), None);
 }

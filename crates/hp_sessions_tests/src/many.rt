@@ -8,6 +8,7 @@ use crate::rows::opened;
 use crate::same::same;
 use crate::steps::{Dice, any_step};
 use hp_closing::close;
+use hp_homes::{Blank, Noted};
 use hp_model::entry::Receipt;
 use hp_model::lent::Lent;
 use hp_model::naming::Naming;
@@ -35,7 +36,7 @@ const ROOM: usize = 300;
 const PLACES: usize = 1000;
 
 // Three tasks, pages, and a file that two of the tasks have maps of.
-fn start<N: Naming, R: Wait + Abort, const K: usize>(
+fn start<N: Naming + Noted, R: Wait + Abort, const K: usize>(
     rt: &R,
     alloc: Global,
     shared: &Shared<N, K>,
@@ -68,7 +69,7 @@ fn start<N: Naming, R: Wait + Abort, const K: usize>(
 }
 
 // A session that does random steps: its receipts.
-fn work<N: Naming, R: Wait + Abort + Clock, const K: usize>(
+fn work<N: Naming + Noted, R: Wait + Abort + Clock, const K: usize>(
     rt: &R,
     alloc: Global,
     shared: &Shared<N, K>,
@@ -83,7 +84,7 @@ fn work<N: Naming, R: Wait + Abort + Clock, const K: usize>(
     session.finish()
 }
 
-fn two<N: Naming + Send + Sync, R: Threads + Wait + Abort + Clock + Sync, const K: usize>(
+fn two<N: Naming + Noted + Send + Sync, R: Threads + Wait + Abort + Clock + Sync, const K: usize>(
     rt: &R,
     alloc: Global,
     shared: &Shared<N, K>,
@@ -96,7 +97,7 @@ fn two<N: Naming + Send + Sync, R: Threads + Wait + Abort + Clock + Sync, const 
     )
 }
 
-fn three<N: Naming + Send + Sync, R: Threads + Wait + Abort + Clock + Sync, const K: usize>(
+fn three<N: Naming + Noted + Send + Sync, R: Threads + Wait + Abort + Clock + Sync, const K: usize>(
     rt: &R,
     alloc: Global,
     shared: &Shared<N, K>,
@@ -109,17 +110,19 @@ fn three<N: Naming + Send + Sync, R: Threads + Wait + Abort + Clock + Sync, cons
     )
 }
 
-fn run<N: Naming + Send + Sync, R: Threads + Wait + Abort + Clock + Sync>(
+fn run<N: Naming + Noted + Send + Sync, R: Threads + Wait + Abort + Clock + Sync>(
     rt: &R,
     alloc: Global,
     blanks: Blanks,
+    words: Blank,
     seed: u64,
 )
     requires ledgers { AreLedgers N.Naming blanks }
+    requires words { words.words.shared.table_id ≡ N.words }
     requires frames { AreFrames N.frames (4 ∷ 4 ∷ []) }
     requires bytes { N.page_bytes ≡ 1024 }
 {
-    let shared = Shared::<N, 1>::new(alloc, &[4, 4], 1024, SLOTS as usize, PLACES, blanks).expect(
+    let shared = Shared::<N, 1>::new(alloc, &[4, 4], 1024, SLOTS as usize, PLACES, blanks, words).expect(
         rt, "memory",
     );
     let begun = start(rt, alloc, &shared);
@@ -139,6 +142,7 @@ fn run<N: Naming + Send + Sync, R: Threads + Wait + Abort + Clock + Sync>(
 fn a_thousand_short_runs(rt: HostRuntime) {
     for seed in 1..RUNS + 1 {
         let blanks = Blanks::new(rt.alloc(), &[4, 4], 1024).expect(&rt, "memory");
-        run::<Brand, HostRuntime>(&rt, rt.alloc(), blanks, seed);
+        let words = Blank::new(rt.alloc()).expect(&rt, "memory");
+        run::<Brand, HostRuntime>(&rt, rt.alloc(), blanks, words, seed);
     }
 }

@@ -7,6 +7,7 @@ use crate::gates::Free;
 use crate::remounting::{PLACES, ended, mount};
 use crate::rows::{ROOM, call, counts, opened};
 use crate::same::same;
+use hp_homes::{Blank, Noted};
 use hp_model::answer::{Answer, NodeCount, Reply};
 use hp_model::lent::Lent;
 use hp_model::naming::Naming;
@@ -139,12 +140,13 @@ fn refuses<R: Abort, P: Parts>(rt: &R, session: &mut Session<P>) {
     same!(rt; counts(session), Some([4, 0, 0, 0]));
 }
 
-fn filling<N: Naming, R: Wait + Abort>(rt: &R, alloc: Global, blanks: Blanks)
+fn filling<N: Naming + Noted, R: Wait + Abort>(rt: &R, alloc: Global, blanks: Blanks, words: Blank)
     requires ledgers { AreLedgers N.Naming blanks }
+    requires words { words.words.shared.table_id ≡ N.words }
     requires frames { AreFrames N.frames (4 ∷ 4 ∷ []) }
     requires bytes { N.page_bytes ≡ 1024 }
 {
-    let shared = Shared::<N, 1>::new(alloc, &[4, 4], 1024, 4, PLACES, blanks).expect(rt, "memory");
+    let shared = Shared::<N, 1>::new(alloc, &[4, 4], 1024, 4, PLACES, blanks, words).expect(rt, "memory");
     let free = Free {};
     let mut session = opened(rt, alloc, &shared, &free, ROOM);
     fills(rt, &mut session);
@@ -155,12 +157,13 @@ fn filling<N: Naming, R: Wait + Abort>(rt: &R, alloc: Global, blanks: Blanks)
 }
 
 // The pool's trail has no place for the section, and no page is taken.
-fn pool_full<N: Naming, R: Wait + Abort>(rt: &R, alloc: Global, blanks: Blanks)
+fn pool_full<N: Naming + Noted, R: Wait + Abort>(rt: &R, alloc: Global, blanks: Blanks, words: Blank)
     requires ledgers { AreLedgers N.Naming blanks }
+    requires words { words.words.shared.table_id ≡ N.words }
     requires frames { AreFrames N.frames (4 ∷ 4 ∷ []) }
     requires bytes { N.page_bytes ≡ 1024 }
 {
-    let shared = Shared::<N, 1>::new(alloc, &[4, 4], 1024, 4, 2, blanks).expect(rt, "memory");
+    let shared = Shared::<N, 1>::new(alloc, &[4, 4], 1024, 4, 2, blanks, words).expect(rt, "memory");
     let free = Free {};
     let mut session = opened(rt, alloc, &shared, &free, ROOM);
     same!(rt; call(&mut session, &Step::Nr { pages: 4 }), Ok(Answer::Number(4)));
@@ -175,11 +178,13 @@ fn pool_full<N: Naming, R: Wait + Abort>(rt: &R, alloc: Global, blanks: Blanks)
 #[test]
 fn a_range_gets_its_pages(rt: HostRuntime) {
     let blanks = Blanks::new(rt.alloc(), &[4, 4], 1024).expect(&rt, "memory");
-    filling::<Brand, HostRuntime>(&rt, rt.alloc(), blanks);
+    let words = Blank::new(rt.alloc()).expect(&rt, "memory");
+    filling::<Brand, HostRuntime>(&rt, rt.alloc(), blanks, words);
 }
 
 #[test]
 fn no_page_is_taken_where_the_pool_has_no_place(rt: HostRuntime) {
     let blanks = Blanks::new(rt.alloc(), &[4, 4], 1024).expect(&rt, "memory");
-    pool_full::<Brand, HostRuntime>(&rt, rt.alloc(), blanks);
+    let words = Blank::new(rt.alloc()).expect(&rt, "memory");
+    pool_full::<Brand, HostRuntime>(&rt, rt.alloc(), blanks, words);
 }

@@ -7,6 +7,7 @@ use crate::gates::Free;
 use crate::rows::{ROOM, call, counts, opened};
 use crate::same::same;
 use hp_closing::close;
+use hp_homes::{Blank, Noted};
 use hp_model::answer::{Answer, Reply};
 use hp_model::entry::Receipt;
 use hp_model::lent::Lent;
@@ -101,7 +102,7 @@ fn minimum<R: Abort, P: Parts>(rt: &R, session: &mut Session<P>) {
 }
 
 // The machine is closed with what its session was told, and all is joined.
-pub(crate) fn ended<N: Naming, R: Abort>(
+pub(crate) fn ended<N: Naming + Noted, R: Abort>(
     rt: &R,
     alloc: Global,
     shared: Shared<N, 1>,
@@ -114,12 +115,13 @@ pub(crate) fn ended<N: Naming, R: Abort>(
     same!(rt; [closed.counts.total, closed.counts.free, closed.counts.rsvd], [4, 4, 0]);
 }
 
-fn limits<N: Naming, R: Wait + Abort>(rt: &R, alloc: Global, blanks: Blanks)
+fn limits<N: Naming + Noted, R: Wait + Abort>(rt: &R, alloc: Global, blanks: Blanks, words: Blank)
     requires ledgers { AreLedgers N.Naming blanks }
+    requires words { words.words.shared.table_id ≡ N.words }
     requires frames { AreFrames N.frames (4 ∷ 4 ∷ []) }
     requires bytes { N.page_bytes ≡ 1024 }
 {
-    let shared = Shared::<N, 1>::new(alloc, &[4, 4], 1024, 4, PLACES, blanks).expect(rt, "memory");
+    let shared = Shared::<N, 1>::new(alloc, &[4, 4], 1024, 4, PLACES, blanks, words).expect(rt, "memory");
     let free = Free {};
     let mut session = opened(rt, alloc, &shared, &free, ROOM);
     below_usage(rt, &mut session);
@@ -129,12 +131,13 @@ fn limits<N: Naming, R: Wait + Abort>(rt: &R, alloc: Global, blanks: Blanks)
 }
 
 // The pool's trail has no place for the section.
-fn pool_full<N: Naming, R: Wait + Abort>(rt: &R, alloc: Global, blanks: Blanks)
+fn pool_full<N: Naming + Noted, R: Wait + Abort>(rt: &R, alloc: Global, blanks: Blanks, words: Blank)
     requires ledgers { AreLedgers N.Naming blanks }
+    requires words { words.words.shared.table_id ≡ N.words }
     requires frames { AreFrames N.frames (4 ∷ 4 ∷ []) }
     requires bytes { N.page_bytes ≡ 1024 }
 {
-    let shared = Shared::<N, 1>::new(alloc, &[4, 4], 1024, 4, 3, blanks).expect(rt, "memory");
+    let shared = Shared::<N, 1>::new(alloc, &[4, 4], 1024, 4, 3, blanks, words).expect(rt, "memory");
     let free = Free {};
     let mut session = opened(rt, alloc, &shared, &free, ROOM);
     same!(rt; call(&mut session, &Step::Nr { pages: 4 }), Ok(Answer::Number(4)));
@@ -147,12 +150,13 @@ fn pool_full<N: Naming, R: Wait + Abort>(rt: &R, alloc: Global, blanks: Blanks)
 }
 
 // The slot's trail has no place for the event.
-fn slot_full<N: Naming, R: Wait + Abort>(rt: &R, alloc: Global, blanks: Blanks)
+fn slot_full<N: Naming + Noted, R: Wait + Abort>(rt: &R, alloc: Global, blanks: Blanks, words: Blank)
     requires ledgers { AreLedgers N.Naming blanks }
+    requires words { words.words.shared.table_id ≡ N.words }
     requires frames { AreFrames N.frames (4 ∷ 4 ∷ []) }
     requires bytes { N.page_bytes ≡ 1024 }
 {
-    let shared = Shared::<N, 1>::new(alloc, &[4, 4], 1024, 4, 3, blanks).expect(rt, "memory");
+    let shared = Shared::<N, 1>::new(alloc, &[4, 4], 1024, 4, 3, blanks, words).expect(rt, "memory");
     let free = Free {};
     let mut session = opened(rt, alloc, &shared, &free, ROOM);
     same!(rt; call(&mut session, &Step::Nr { pages: 4 }), Ok(Answer::Number(4)));
@@ -168,17 +172,20 @@ fn slot_full<N: Naming, R: Wait + Abort>(rt: &R, alloc: Global, blanks: Blanks)
 #[test]
 fn limits_are_set_anew(rt: HostRuntime) {
     let blanks = Blanks::new(rt.alloc(), &[4, 4], 1024).expect(&rt, "memory");
-    limits::<Brand, HostRuntime>(&rt, rt.alloc(), blanks);
+    let words = Blank::new(rt.alloc()).expect(&rt, "memory");
+    limits::<Brand, HostRuntime>(&rt, rt.alloc(), blanks, words);
 }
 
 #[test]
 fn no_limit_changes_where_the_pool_has_no_place(rt: HostRuntime) {
     let blanks = Blanks::new(rt.alloc(), &[4, 4], 1024).expect(&rt, "memory");
-    pool_full::<Brand, HostRuntime>(&rt, rt.alloc(), blanks);
+    let words = Blank::new(rt.alloc()).expect(&rt, "memory");
+    pool_full::<Brand, HostRuntime>(&rt, rt.alloc(), blanks, words);
 }
 
 #[test]
 fn no_limit_changes_where_the_slot_has_no_place(rt: HostRuntime) {
     let blanks = Blanks::new(rt.alloc(), &[4, 4], 1024).expect(&rt, "memory");
-    slot_full::<Brand, HostRuntime>(&rt, rt.alloc(), blanks);
+    let words = Blank::new(rt.alloc()).expect(&rt, "memory");
+    slot_full::<Brand, HostRuntime>(&rt, rt.alloc(), blanks, words);
 }

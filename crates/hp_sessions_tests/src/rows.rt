@@ -8,6 +8,7 @@ use crate::same::same;
 use hp_closing::close;
 use hp_entrance::Entrance;
 use hp_locked::Gate;
+use hp_homes::{Blank, Noted};
 use hp_model::answer::{Answer, Reply};
 use hp_model::entry::Receipt;
 use hp_model::lent::Lent;
@@ -32,7 +33,7 @@ pub(crate) fn call<P: Parts>(session: &mut Session<P>, step: &Step<'_>) -> Reply
     session.call(step)
 }
 
-pub(crate) fn opened<'a, N: Naming, R: Wait + Abort, G: Gate, const K: usize>(
+pub(crate) fn opened<'a, N: Naming + Noted, R: Wait + Abort, G: Gate, const K: usize>(
     rt: &'a R,
     alloc: Global,
     shared: &'a Shared<N, K>,
@@ -91,7 +92,7 @@ fn start<R: Abort, P: Parts>(rt: &R, session: &mut Session<P>) {
 }
 
 // Stores while a gate holds it, and then looks at the counts.
-fn held<N: Naming, R: Wait + Abort + Clock, const K: usize>(
+fn held<N: Naming + Noted, R: Wait + Abort + Clock, const K: usize>(
     rt: &R,
     alloc: Global,
     shared: &Shared<N, K>,
@@ -104,7 +105,7 @@ fn held<N: Naming, R: Wait + Abort + Clock, const K: usize>(
 }
 
 // Once the other is held: stores, looks at the counts and lets it go.
-fn meanwhile<N: Naming, R: Wait + Abort + Clock, const K: usize>(
+fn meanwhile<N: Naming + Noted, R: Wait + Abort + Clock, const K: usize>(
     rt: &R,
     alloc: Global,
     shared: &Shared<N, K>,
@@ -121,18 +122,20 @@ fn meanwhile<N: Naming, R: Wait + Abort + Clock, const K: usize>(
 }
 
 // The first session is held at a place while the second finishes: these counts are told there.
-fn row<N: Naming + Send + Sync, R: Threads + Wait + Abort + Clock + Sync>(
+fn row<N: Naming + Noted + Send + Sync, R: Threads + Wait + Abort + Clock + Sync>(
     rt: &R,
     alloc: Global,
     blanks: Blanks,
+    words: Blank,
     place: Place,
     wanted: [u64; 4],
 )
     requires ledgers { AreLedgers N.Naming blanks }
+    requires words { words.words.shared.table_id ≡ N.words }
     requires frames { AreFrames N.frames (4 ∷ 4 ∷ []) }
     requires bytes { N.page_bytes ≡ 1024 }
 {
-    let shared = Shared::<N, 1>::new(alloc, &[4, 4], 1024, 4, ROOM, blanks).expect(rt, "memory");
+    let shared = Shared::<N, 1>::new(alloc, &[4, 4], 1024, 4, ROOM, blanks, words).expect(rt, "memory");
     let free = Free {};
     let mut first = opened(rt, alloc, &shared, &free, ROOM);
     start(rt, &mut first);
@@ -149,7 +152,7 @@ fn row<N: Naming + Send + Sync, R: Threads + Wait + Abort + Clock + Sync>(
     same!(rt; [closed.counts.total, closed.counts.free, closed.counts.rsvd], [4, 4, 0]);
 }
 
-fn beside<N: Naming + Send + Sync, R: Threads + Wait + Abort + Clock + Sync, const K: usize>(
+fn beside<N: Naming + Noted + Send + Sync, R: Threads + Wait + Abort + Clock + Sync, const K: usize>(
     rt: &R,
     alloc: Global,
     shared: &Shared<N, K>,
@@ -166,11 +169,13 @@ fn beside<N: Naming + Send + Sync, R: Threads + Wait + Abort + Clock + Sync, con
 #[test]
 fn a_slot_that_is_held_holds_no_other(rt: HostRuntime) {
     let blanks = Blanks::new(rt.alloc(), &[4, 4], 1024).expect(&rt, "memory");
-    row::<Brand, HostRuntime>(&rt, rt.alloc(), blanks, Place::Slot(1), [4, 3, 1, 0]);
+    let words = Blank::new(rt.alloc()).expect(&rt, "memory");
+    row::<Brand, HostRuntime>(&rt, rt.alloc(), blanks, words, Place::Slot(1), [4, 3, 1, 0]);
 }
 
 #[test]
 fn a_node_that_is_held_holds_no_other(rt: HostRuntime) {
     let blanks = Blanks::new(rt.alloc(), &[4, 4], 1024).expect(&rt, "memory");
-    row::<Brand, HostRuntime>(&rt, rt.alloc(), blanks, Place::Node(0), [4, 2, 0, 0]);
+    let words = Blank::new(rt.alloc()).expect(&rt, "memory");
+    row::<Brand, HostRuntime>(&rt, rt.alloc(), blanks, words, Place::Node(0), [4, 2, 0, 0]);
 }

@@ -8,6 +8,7 @@ use crate::rows::opened;
 use crate::same::same;
 use crate::steps::{Dice, any_step};
 use hp_closing::close;
+use hp_homes::{Blank, Noted};
 use hp_model::entry::Receipt;
 use hp_model::naming::Naming;
 use hp_pool::Blanks;
@@ -30,7 +31,7 @@ const TASKS: u64 = 8;
 const SLOTS: u64 = 4;
 
 // A session that does random steps: its receipts.
-fn work<N: Naming, R: Wait + Abort, const K: usize>(
+fn work<N: Naming + Noted, R: Wait + Abort, const K: usize>(
     rt: &R,
     alloc: Global,
     shared: &Shared<N, K>,
@@ -45,7 +46,7 @@ fn work<N: Naming, R: Wait + Abort, const K: usize>(
     session.finish()
 }
 
-fn two<N: Naming + Send + Sync, R: Threads + Wait + Abort + Sync, const K: usize>(
+fn two<N: Naming + Noted + Send + Sync, R: Threads + Wait + Abort + Sync, const K: usize>(
     rt: &R,
     alloc: Global,
     shared: &Shared<N, K>,
@@ -58,7 +59,7 @@ fn two<N: Naming + Send + Sync, R: Threads + Wait + Abort + Sync, const K: usize
     )
 }
 
-fn four<N: Naming + Send + Sync, R: Threads + Wait + Abort + Sync, const K: usize>(
+fn four<N: Naming + Noted + Send + Sync, R: Threads + Wait + Abort + Sync, const K: usize>(
     rt: &R,
     alloc: Global,
     shared: &Shared<N, K>,
@@ -80,7 +81,7 @@ fn file<R: Abort>(rt: &R, all: &mut Vec<Vec<Receipt>>, told: (Told, Told)) {
     }
 }
 
-fn eight<N: Naming + Send + Sync, R: Threads + Wait + Abort + Sync, const K: usize>(
+fn eight<N: Naming + Noted + Send + Sync, R: Threads + Wait + Abort + Sync, const K: usize>(
     rt: &R,
     alloc: Global,
     shared: &Shared<N, K>,
@@ -96,17 +97,19 @@ fn eight<N: Naming + Send + Sync, R: Threads + Wait + Abort + Sync, const K: usi
     all
 }
 
-fn run<N: Naming + Send + Sync, R: Threads + Wait + Abort + Sync, const K: usize>(
+fn run<N: Naming + Noted + Send + Sync, R: Threads + Wait + Abort + Sync, const K: usize>(
     rt: &R,
     alloc: Global,
     blanks: Blanks,
+    words: Blank,
     audit: Option<bool>,
 )
     requires ledgers { AreLedgers N.Naming blanks }
+    requires words { words.words.shared.table_id ≡ N.words }
     requires frames { AreFrames N.frames (4 ∷ 4 ∷ []) }
     requires bytes { N.page_bytes ≡ 1024 }
 {
-    let shared = Shared::<N, K>::new(alloc, &[4, 4], 1024, SLOTS as usize, PLACES, blanks).expect(
+    let shared = Shared::<N, K>::new(alloc, &[4, 4], 1024, SLOTS as usize, PLACES, blanks, words).expect(
         rt, "memory",
     );
     let told = eight(rt, alloc, &shared);
@@ -116,38 +119,44 @@ fn run<N: Naming + Send + Sync, R: Threads + Wait + Abort + Sync, const K: usize
     same!(rt; closed.counts.rsvd, 0);
 }
 
-fn run_traced<N: Naming + Send + Sync, R: Threads + Wait + Abort + Sync>(
+fn run_traced<N: Naming + Noted + Send + Sync, R: Threads + Wait + Abort + Sync>(
     rt: &R,
     alloc: Global,
     blanks: Blanks,
+    words: Blank,
 )
     requires ledgers { AreLedgers N.Naming blanks }
+    requires words { words.words.shared.table_id ≡ N.words }
     requires frames { AreFrames N.frames (4 ∷ 4 ∷ []) }
     requires bytes { N.page_bytes ≡ 1024 }
 {
-    run::<N, R, 1>(rt, alloc, blanks, Some(true));
+    run::<N, R, 1>(rt, alloc, blanks, words, Some(true));
 }
 
-fn run_untraced<N: Naming + Send + Sync, R: Threads + Wait + Abort + Sync>(
+fn run_untraced<N: Naming + Noted + Send + Sync, R: Threads + Wait + Abort + Sync>(
     rt: &R,
     alloc: Global,
     blanks: Blanks,
+    words: Blank,
 )
     requires ledgers { AreLedgers N.Naming blanks }
+    requires words { words.words.shared.table_id ≡ N.words }
     requires frames { AreFrames N.frames (4 ∷ 4 ∷ []) }
     requires bytes { N.page_bytes ≡ 1024 }
 {
-    run::<N, R, 0>(rt, alloc, blanks, None);
+    run::<N, R, 0>(rt, alloc, blanks, words, None);
 }
 
 #[test]
 fn eight_sessions_with_a_trace(rt: HostRuntime) {
     let blanks = Blanks::new(rt.alloc(), &[4, 4], 1024).expect(&rt, "memory");
-    run_traced::<Brand, HostRuntime>(&rt, rt.alloc(), blanks);
+    let words = Blank::new(rt.alloc()).expect(&rt, "memory");
+    run_traced::<Brand, HostRuntime>(&rt, rt.alloc(), blanks, words);
 }
 
 #[test]
 fn eight_sessions_without_a_trace(rt: HostRuntime) {
     let blanks = Blanks::new(rt.alloc(), &[4, 4], 1024).expect(&rt, "memory");
-    run_untraced::<Brand, HostRuntime>(&rt, rt.alloc(), blanks);
+    let words = Blank::new(rt.alloc()).expect(&rt, "memory");
+    run_untraced::<Brand, HostRuntime>(&rt, rt.alloc(), blanks, words);
 }

@@ -3,6 +3,8 @@ use denote.Param.Send.{IsSend, IsSync, sendable, view_send, view_sync}
 use denote.Param.SendFields.{declared_send, declared_sync}
 use denote.RattleType.{RattleType}
 use Rattle.crossbeam_utils.specs.contracts.cache_padded.CachePadded as CachePadded
+use Rattle.hp_homes.proofs.Crossing.{homes_send, homes_sync, noter_send}
+use Rattle.hp_homes.specs.declared.words.Noted as words
 use Rattle.hp_locked.specs.contracts.nodes.NodeLocks as NodeLocks
 use Rattle.hp_locked.specs.contracts.pool_core.Core as Core
 use Rattle.hp_model.specs.declared.entry.PoolEntry.{PoolEntry}
@@ -18,6 +20,7 @@ use Rattle.hp_shared.specs.contracts.shared.Shared.TheInside as Inside
 use Rattle.hp_shared.specs.contracts.spare.Spare as Spare
 use Rattle.hp_shared.specs.contracts.locked_slot.Slot as Slot
 use Rattle.hp_shared.specs.contracts.table.Table as Table
+use Rattle.hp_shared.specs.contracts.table.Table.TheInside as TableInside
 use Rattle.hp_tasks.specs.contracts.table.TaskTable as TaskTable
 use Rattle.hp_trail.specs.declared.trail.Trail as trail
 use Rattle.std.proofs.Crossing as global
@@ -32,9 +35,10 @@ padded_sync T t = search (sendable, crosses) depth 30
 task_table_send : IsSend TaskTable.the_row
 task_table_send = search (sendable, crosses) depth 30
 
-module _ (N : RattleType) (names : Ghosts N.Denot) where
-  table_send : (T : RattleType) (keeps : trail.Ghosts T.Denot TableEntry) → IsSend T → IsSend (Table.the_row N T names keeps)
-  table_send T keeps t = search (sendable, task_table_send) depth 30
+module _ (N : RattleType) (names : Ghosts N.Denot) (noted : words.Ghosts N.Denot) where
+  table_send : (T : RattleType) (keeps : trail.Ghosts T.Denot TableEntry) → IsSend T → IsSend (Table.the_row N T noted names keeps)
+  table_send T keeps t = view_send (TableInside.the_row N T noted names keeps) _ _ _ _ (declared_send (TableInside.the_type N T noted names keeps)
+      (search sendable, (task_table_send, (search sendable depth 20, (noter_send N noted, (search sendable, tt))))))
 
   core_send : (T : RattleType) (keeps : trail.Ghosts T.Denot PoolEntry) → IsSend T → IsSend (Core.the_row N T names keeps)
   core_send T keeps t = search (sendable, pool_send) depth 30
@@ -51,22 +55,25 @@ module _ (N : RattleType) (names : Ghosts N.Denot) where
   nodes_sync : IsSync (NodeLocks.the_row N names)
   nodes_sync = search (sendable, crosses, node_frames_send) depth 30
 
-  pub shared_send : (k : RattleType) → IsSend (Shared.the_row N k names)
-  shared_send k = view_send (Inside.the_row N k names) _ _ _ _ (declared_send (Inside.the_type N k names) (
+  pub shared_send : (k : RattleType) → IsSend (Shared.the_row N k noted names)
+  shared_send k = view_send (Inside.the_row N k noted names) _ _ _ _ (declared_send (Inside.the_type N k noted names) (
     search sendable,
     (
       global.send,
       (
-        search (sendable, crosses, padded_send, slot_send, trace_send, slot_entry_send) depth 30,
+        homes_send N noted,
         (
-          search (sendable, crosses, padded_send, table_send, trace_send, table_entry_send) depth 30,
+          search (sendable, crosses, padded_send, slot_send, trace_send, slot_entry_send) depth 30,
           (
-            search (sendable, crosses, padded_send, core_send, trace_send, pool_entry_send) depth 30,
+            search (sendable, crosses, padded_send, table_send, trace_send, table_entry_send) depth 30,
             (
-              nodes_send,
+              search (sendable, crosses, padded_send, core_send, trace_send, pool_entry_send) depth 30,
               (
-                search (sendable, crosses, spare_send) depth 30,
-                tt,
+                nodes_send,
+                (
+                  search (sendable, crosses, spare_send) depth 30,
+                  tt,
+                ),
               ),
             ),
           ),
@@ -75,22 +82,25 @@ module _ (N : RattleType) (names : Ghosts N.Denot) where
     ),
   ))
 
-  pub shared_sync : (k : RattleType) → IsSync (Shared.the_row N k names)
-  shared_sync k = view_sync (Inside.the_row N k names) _ _ _ _ (declared_sync (Inside.the_type N k names) (
+  pub shared_sync : (k : RattleType) → IsSync (Shared.the_row N k noted names)
+  shared_sync k = view_sync (Inside.the_row N k noted names) _ _ _ _ (declared_sync (Inside.the_type N k noted names) (
     search sendable,
     (
       global.sync,
       (
-        search (sendable, crosses, padded_sync, slot_send, trace_send, slot_entry_send) depth 30,
+        homes_sync N noted,
         (
-          search (sendable, crosses, padded_sync, table_send, trace_send, table_entry_send) depth 30,
+          search (sendable, crosses, padded_sync, slot_send, trace_send, slot_entry_send) depth 30,
           (
-            search (sendable, crosses, padded_sync, core_send, trace_send, pool_entry_send) depth 30,
+            search (sendable, crosses, padded_sync, table_send, trace_send, table_entry_send) depth 30,
             (
-              nodes_sync,
+              search (sendable, crosses, padded_sync, core_send, trace_send, pool_entry_send) depth 30,
               (
-                search (sendable, crosses, spare_send) depth 30,
-                tt,
+                nodes_sync,
+                (
+                  search (sendable, crosses, spare_send) depth 30,
+                  tt,
+                ),
               ),
             ),
           ),

@@ -1,5 +1,5 @@
 -- The table's trail keeps its fact with one entry more.
-use Rattle.std.proofs.Common.{◌≡◌, ℕ, ◌≤◌, true, false, List, [], ◌∷◌, ◌++◌, Option, None, Some, length, refl, sym, ap, ◌∙◌, subst, arith}
+use Rattle.std.proofs.Common.{◌≡◌, ℕ, ◌≤◌, ◌||◌, Bool, true, false, List, [], ◌∷◌, ◌++◌, Option, None, Some, length, refl, sym, ap, ◌∙◌, subst, arith}
 use Rattle.hp_model.specs.declared.entry.TableEntry.{TableEntry}
 use Rattle.hp_model.specs.declared.event.TableEvent.{TableEvent}
 use Rattle.hp_model.specs.machine.Plan.{Reply}
@@ -11,7 +11,7 @@ use Rattle.hp_laws.proofs.settled.Closing.{table_places}
 use Rattle.hp_locked.specs.Views.{HasPlaces, IsFresh}
 use Rattle.hp_trail.specs.Keeping.{has_room, one_less, with_entry}
 use Rattle.hp_shared.specs.Tables.{IsLockedTable, IsTableTrail}
-use Rattle.hp_shared.proofs.Places.{places_after}
+use Rattle.hp_shared.proofs.Places.{has_closing, places_after, room_closing}
 use Rattle.std.specs.Prelude.{is_some}
 
 pub fresh_table : (nodes : ℕ) (o : Option (List TableEntry)) (left : Option ℕ) (extra : ℕ) (t : Table) → t ≡ [] → IsFresh o → most_tasks ≤ extra → IsLockedTable nodes o left extra t
@@ -54,6 +54,13 @@ module _ (nodes : ℕ) (o : Option (List TableEntry)) (left : Option ℕ) (extra
     enough = (let enough = was.enough in omega (arith, enough, stays));
     places = subst (λ (x : Option ℕ). HasPlaces x (to_remove q)) (sym lessens) (places_after most_tasks (to_remove t) (to_remove q) extra (removes_task t e) left keeps was.enough was.places room);
   }
+
+  pub closing_room : (removes_task t e || has_room false left extra) ≡ true → has_room true left extra ≡ true
+  closing_room may = by (removes_task t e) keeps may
+    where
+      by : (b : Bool) → KeepsPlaces most_tasks (to_remove t) (to_remove q) b → (b || has_room false left extra) ≡ true → has_room true left extra ≡ true
+      by true k m = has_closing most_tasks (to_remove t) (to_remove q) extra left k was.places
+      by false k m = room_closing left extra m
 
 -- where no entries are kept
 module _ (nodes : ℕ) (o : Option (List TableEntry)) (left : Option ℕ) (extra : ℕ) (t : Table) (e : TableEvent) (reply : Reply) (q : Table)

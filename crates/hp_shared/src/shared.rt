@@ -16,6 +16,7 @@ use crate::parting::take_slots;
 use crate::spare::Spare;
 use crate::{Slot, Table};
 use crossbeam_utils::CachePadded;
+use hp_homes::{Blank, Homes, Noted};
 use hp_locked::{Core, NodeLocks};
 use hp_model::entry::{PoolEntry, SlotEntry, TableEntry};
 use hp_model::naming::Naming;
@@ -36,9 +37,10 @@ use std::sync::Mutex;
 ///
 /// Nothing is known of a part until its lock is held. The machine can't be dropped: `into_parts` takes it apart, once no
 /// session is left on it.
-pub struct Shared<N: Naming, const K: usize> {
+pub struct Shared<N: Naming + Noted, const K: usize> {
     pub(crate) page_bytes: usize,
     alloc: Global,
+    homes: Homes<N>,
     slots: Vec<CachePadded<Mutex<Slot<N, Trace<SlotEntry, K>>>>>,
     table: CachePadded<Mutex<Table<N, Trace<TableEntry, K>>>>,
     core: CachePadded<Mutex<Core<N, Trace<PoolEntry, K>>>>,
@@ -46,7 +48,7 @@ pub struct Shared<N: Naming, const K: usize> {
     spare: Mutex<Spare<N>>,
 }
 
-impl<N: Naming, const K: usize> Model for Shared<N, K> {
+impl<N: Naming + Noted, const K: usize> Model for Shared<N, K> {
     ghost use Rattle.std.specs.Prelude.{vec_len};
     ghost use Rattle.hp_shared.specs.Sharing.{IsSharedMachine, SharedView};
 
@@ -77,7 +79,7 @@ pub struct Trails {
     pub slots: Vec<Vec<SlotEntry>>,
 }
 
-impl<N: Naming, const K: usize> Shared<N, K> {
+impl<N: Naming + Noted, const K: usize> Shared<N, K> {
     /// A machine of 1 to 4 nodes with so many frames each, of `page_bytes` bytes, which the blanks have, and with so many
     /// slots. It starts as `System::new` has it. Where K is 1 each trail has `places` places, and beyond these those that
     /// entries which take away may need.
@@ -91,6 +93,7 @@ impl<N: Naming, const K: usize> Shared<N, K> {
         slots: usize,
         places: usize,
         blanks: Blanks,
+        words: Blank,
     ) -> Result<Self, AllocError>
         requires some { 0 < length frames.now }
         requires few { length frames.now ≤ 4 }
@@ -104,9 +107,11 @@ impl<N: Naming, const K: usize> Shared<N, K> {
         requires page_bytes { page_bytes ≡ N.page_bytes }
         requires ledgers { AreLedgers N.Naming blanks }
         requires frames { AreFrames N.frames frames.now }
+        requires words { words.words.shared.table_id ≡ N.words }
         ensures { IfOk result (λ s. s ≡ record { page_size = page_bytes; slots = slots }) }
     {
         let tasks = TaskTable::new(alloc)?;
+        let (homes, noter) = Homes::new(words);
         let task_trail = open_trail(alloc, places, MOST_TASKS)?;
         let pool_trail = open_trail(alloc, places, 2 * all_frames(frames))?;
         let slot_trails = open_trails(alloc, slots, places)?;
@@ -132,10 +137,12 @@ impl<N: Naming, const K: usize> Shared<N, K> {
                 Ok(Shared {
                     page_bytes,
                     alloc,
+                    homes,
                     table: CachePadded::new(Mutex::new(Table::new(
                         frames.len() as u64,
                         tasks,
                         task_trail,
+                        noter,
                     ))),
                     core: CachePadded::new(Mutex::new(Core::new(pool, pool_trail))),
                     nodes: NodeLocks::new(stocks),
@@ -177,6 +184,12 @@ impl<N: Naming, const K: usize> Shared<N, K> {
         &self.table
     }
 
+    /// The homes that are noted, which threads read without a lock.
+    #[inline(always)]
+    pub fn homes(&self) -> &Homes<N> {
+        &self.homes
+    }
+
     /// The pool under its lock.
     #[inline(always)]
     pub fn core(&self) -> &Mutex<Core<N, Trace<PoolEntry, K>>> {
@@ -215,6 +228,7 @@ impl<N: Naming, const K: usize> Shared<N, K> {
         let Shared {
             page_bytes,
             alloc: _,
+            homes: _,
             table,
             core,
             nodes,

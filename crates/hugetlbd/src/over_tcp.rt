@@ -6,6 +6,7 @@ ghost use Rattle.hp_pool.specs.Ledgers.{AreLedgers};
 ghost use Rattle.hp_words.specs.Config.{IsMachineWithin, IsServing, choice_of};
 ghost use Rattle.hp_program.specs.Program.{IsServingEnded};
 
+use hp_homes::{Blank, Noted};
 use hp_model::naming::Naming;
 use hp_pool::Blanks;
 use hp_program::Server;
@@ -81,12 +82,16 @@ pub fn serve_over<R: Threads + Wait + Sync, C: Connections, W: Sink, E: Sink>(
     let Ok(blanks) = Blanks::new(alloc, &machine.frames, machine.page as usize) else {
         return report(Ended::Failed(ServeFault::Memory), faults);
     };
+    let Ok(words) = Blank::new(alloc) else {
+        return report(Ended::Failed(ServeFault::Memory), faults);
+    };
     serve_kept::<Brand, R, C, W, E>(
         rt,
         alloc,
         machine,
         serving,
         blanks,
+        words,
         connections,
         output,
         faults,
@@ -94,12 +99,13 @@ pub fn serve_over<R: Threads + Wait + Sync, C: Connections, W: Sink, E: Sink>(
 }
 
 // Keeps trails where there is room for entries.
-fn serve_kept<N: Naming + Send + Sync, R: Threads + Wait + Sync, C: Connections, W: Sink, E: Sink>(
+fn serve_kept<N: Naming + Noted + Send + Sync, R: Threads + Wait + Sync, C: Connections, W: Sink, E: Sink>(
     rt: &R,
     alloc: Global,
     machine: &Machine,
     serving: Serving,
     blanks: Blanks,
+    words: Blank,
     connections: &mut C,
     output: &mut W,
     faults: &mut E,
@@ -109,6 +115,7 @@ fn serve_kept<N: Naming + Send + Sync, R: Threads + Wait + Sync, C: Connections,
     requires bytes { N.page_bytes ≡ machine.now.page }
     requires ledgers { AreLedgers N.Naming blanks }
     requires frames { AreFrames N.frames machine.now.frames.items }
+    requires words { words.words.shared.table_id ≡ N.words }
     ensures { IsServingEnded (choice_of machine.now) serving (W.contents output.old)
         (W.contents output.new) (E.is_sure faults.old) (E.contents faults.old)
         (E.contents faults.new) result }
@@ -120,6 +127,7 @@ fn serve_kept<N: Naming + Send + Sync, R: Threads + Wait + Sync, C: Connections,
             machine,
             serving,
             blanks,
+            words,
             connections,
             output,
             faults,
@@ -131,6 +139,7 @@ fn serve_kept<N: Naming + Send + Sync, R: Threads + Wait + Sync, C: Connections,
             machine,
             serving,
             blanks,
+            words,
             connections,
             output,
             faults,
@@ -140,7 +149,7 @@ fn serve_kept<N: Naming + Send + Sync, R: Threads + Wait + Sync, C: Connections,
 
 // Makes the machine, serves on it and closes it. Its trails are kept where K is 1.
 fn serve_on<
-    N: Naming + Send + Sync,
+    N: Naming + Noted + Send + Sync,
     R: Threads + Wait + Sync,
     C: Connections,
     W: Sink,
@@ -152,6 +161,7 @@ fn serve_on<
     machine: &Machine,
     serving: Serving,
     blanks: Blanks,
+    words: Blank,
     connections: &mut C,
     output: &mut W,
     faults: &mut E,
@@ -162,6 +172,7 @@ fn serve_on<
     requires bytes { N.page_bytes ≡ machine.now.page }
     requires ledgers { AreLedgers N.Naming blanks }
     requires frames { AreFrames N.frames machine.now.frames.items }
+    requires words { words.words.shared.table_id ≡ N.words }
     ensures { IsServingEnded (choice_of machine.now) serving (W.contents output.old)
         (W.contents output.new) (E.is_sure faults.old) (E.contents faults.old)
         (E.contents faults.new) result }
@@ -173,6 +184,7 @@ fn serve_on<
         machine.slots as usize,
         serving.room,
         blanks,
+        words,
     ) else {
         return report(Ended::Failed(ServeFault::Memory), faults);
     };

@@ -27,7 +27,7 @@ impl<P: Parts> Service for Session<P> {
         room: &'b mut [u8],
         reply: &mut Result<Told<'b>, Refusal>,
     ) {
-        *reply = self.do_step(step, room);
+        self.do_step_into(step, room, reply);
     }
 
     fn load<'b>(

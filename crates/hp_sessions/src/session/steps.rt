@@ -43,7 +43,52 @@ impl<P: Parts> Session<P> {
         whole(self.do_step(step, &mut room))
     }
 
+    /// Answers a step as `call` does, into the reply. Bytes are in the front of the room. (A reply handed back by value costs more
+    /// than a load.)
+    #[inline(always)]
+    pub fn do_step_into<'b>(
+        &mut self,
+        step: &Step<'_>,
+        room: &'b mut [u8],
+        reply: &mut Result<Told<'b>, Refusal>,
+    )
+        requires { most_bytes ≤ length room.old }
+        ensures answered { IsCallAnswered P.keeps P.page self.old step.now
+            (told_reply reply.new)
+            self.new }
+        ensures limits { IsWithinLimits (told_reply reply.new) }
+    {
+        if self.parts.is_kept() {
+            *reply = self.do_step(step, room);
+            return;
+        }
+        match step {
+            Step::Attach { task } => {
+                *reply = table_told(self.make_table(TableEvent::Find { task: *task }));
+            }
+            Step::Fault { task, slot, map, index, intent } => {
+                let event = MountEvent::Fault {
+                    task: *task,
+                    map: *map,
+                    index: *index,
+                    intent: *intent,
+                };
+                *reply = self.of_task_unnoted(*task, *slot, event, room);
+            }
+            Step::Stat { slot, name } => {
+                let event = MountEvent::Stat {
+                    name: name.as_slice(),
+                };
+                *reply = self.on_slot_unnoted(*slot, event, room);
+            }
+            _ => {
+                *reply = self.do_step(step, room);
+            }
+        }
+    }
+
     /// Answers a step as `call` does. Bytes are in the front of the room.
+    #[inline(never)]
     pub fn do_step<'b>(&mut self, step: &Step<'_>, room: &'b mut [u8]) -> Result<Told<'b>, Refusal>
         requires { most_bytes ≤ length room.old }
         ensures answered { IsCallAnswered P.keeps P.page self.old step.now
@@ -81,6 +126,14 @@ impl<P: Parts> Session<P> {
                 intent: *intent,
             };
             return self.of_task(*task, *slot, event, room);
+        }
+        if let Step::Stat { slot, name } = step
+            && !self.parts.is_kept()
+        {
+            let event = MountEvent::Stat {
+                name: name.as_slice(),
+            };
+            return self.on_slot_unnoted(*slot, event, room);
         }
         let work = work_of(step);
         self.do_work(&work, room)

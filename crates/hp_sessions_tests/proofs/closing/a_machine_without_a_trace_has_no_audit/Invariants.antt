@@ -1,5 +1,8 @@
 use Rattle.hp_pool.specs.Ledgers.{names_of}
 use Rattle.hp_sessions_tests.proofs.closing.a_machine_without_a_trace_has_no_audit.Given as goal
 
-abbrev pub ghosts-closes_untraced : goal.ghosts-closes_untraced
-ghosts-closes_untraced g a = names_of a.blanks 1024
+abbrev pub ghosts-closes_untraced-N-Naming : goal.ghosts-closes_untraced-N-Naming
+ghosts-closes_untraced-N-Naming g a = names_of a.blanks 1024
+
+abbrev pub ghosts-closes_untraced-N-Noted : goal.ghosts-closes_untraced-N-Noted
+ghosts-closes_untraced-N-Noted g a = record { words = a.words.words.shared.table_id }

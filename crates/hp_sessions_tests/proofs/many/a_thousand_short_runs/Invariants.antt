@@ -1,5 +1,8 @@
 use Rattle.hp_pool.specs.Ledgers.{names_of}
 use Rattle.hp_sessions_tests.proofs.many.a_thousand_short_runs.Given as goal
 
-abbrev pub ghosts-run : goal.ghosts-run
-ghosts-run g a = names_of a.blanks 1024
+abbrev pub ghosts-run-N-Naming : goal.ghosts-run-N-Naming
+ghosts-run-N-Naming g a = names_of a.blanks 1024
+
+abbrev pub ghosts-run-N-Noted : goal.ghosts-run-N-Noted
+ghosts-run-N-Noted g a = record { words = a.words.words.shared.table_id }

@@ -1,5 +1,8 @@
 use Rattle.hp_pool.specs.Ledgers.{names_of}
 use Rattle.hp_sessions_tests.proofs.remounting.no_limit_changes_where_the_slot_has_no_place.Given as goal
 
-abbrev pub ghosts-slot_full : goal.ghosts-slot_full
-ghosts-slot_full g a = names_of a.blanks 1024
+abbrev pub ghosts-slot_full-N-Naming : goal.ghosts-slot_full-N-Naming
+ghosts-slot_full-N-Naming g a = names_of a.blanks 1024
+
+abbrev pub ghosts-slot_full-N-Noted : goal.ghosts-slot_full-N-Noted
+ghosts-slot_full-N-Noted g a = record { words = a.words.words.shared.table_id }

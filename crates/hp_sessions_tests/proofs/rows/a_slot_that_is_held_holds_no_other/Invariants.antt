@@ -1,5 +1,8 @@
 use Rattle.hp_pool.specs.Ledgers.{names_of}
 use Rattle.hp_sessions_tests.proofs.rows.a_slot_that_is_held_holds_no_other.Given as goal
 
-abbrev pub ghosts-row : goal.ghosts-row
-ghosts-row g a = names_of a.blanks 1024
+abbrev pub ghosts-row-N-Naming : goal.ghosts-row-N-Naming
+ghosts-row-N-Naming g a = names_of a.blanks 1024
+
+abbrev pub ghosts-row-N-Noted : goal.ghosts-row-N-Noted
+ghosts-row-N-Noted g a = record { words = a.words.words.shared.table_id }

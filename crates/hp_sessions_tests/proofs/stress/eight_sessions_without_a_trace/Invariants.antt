@@ -1,5 +1,8 @@
 use Rattle.hp_pool.specs.Ledgers.{names_of}
 use Rattle.hp_sessions_tests.proofs.stress.eight_sessions_without_a_trace.Given as goal
 
-abbrev pub ghosts-run_untraced : goal.ghosts-run_untraced
-ghosts-run_untraced g a = names_of a.blanks 1024
+abbrev pub ghosts-run_untraced-N-Naming : goal.ghosts-run_untraced-N-Naming
+ghosts-run_untraced-N-Naming g a = names_of a.blanks 1024
+
+abbrev pub ghosts-run_untraced-N-Noted : goal.ghosts-run_untraced-N-Noted
+ghosts-run_untraced-N-Noted g a = record { words = a.words.words.shared.table_id }

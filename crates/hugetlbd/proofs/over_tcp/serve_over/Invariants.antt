@@ -1,5 +1,8 @@
 use Rattle.hp_pool.specs.Ledgers.{names_of}
 use Rattle.hugetlbd.proofs.over_tcp.serve_over.Given as goal
 
-abbrev pub ghosts-serve_kept : goal.ghosts-serve_kept
-ghosts-serve_kept g a = names_of a.blanks a.machine.now.page
+abbrev pub ghosts-serve_kept-N-Naming : goal.ghosts-serve_kept-N-Naming
+ghosts-serve_kept-N-Naming g a = names_of a.blanks a.machine.now.page
+
+abbrev pub ghosts-serve_kept-N-Noted : goal.ghosts-serve_kept-N-Noted
+ghosts-serve_kept-N-Noted g a = record { words = a.words.words.shared.table_id }

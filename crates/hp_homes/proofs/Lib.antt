@@ -1,0 +1,3 @@
+pub mod TablesOf
+mod Moves
+pub mod Crossing
