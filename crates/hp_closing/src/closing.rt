@@ -71,7 +71,9 @@ fn is_joined<const K: usize>(
 
 /// The machine by itself, with all that is on it, and the trails where K is 1. These are runs of its parts, from the
 /// start of the machine to where it is. Never refused; it takes no memory.
-pub fn into_system<N: Naming + Noted, const K: usize>(shared: Shared<N, K>) -> (System<N>, Option<Trails>)
+pub fn into_system<N: Naming + Noted, const K: usize>(
+    shared: Shared<N, K>,
+) -> (System<N>, Option<Trails>)
     ensures ready { IsReadyPool result.0.pool }
     ensures page { result.0.state.page_size ≡ shared.page_size }
     ensures slots { length result.0.state.slots ≡ shared.slots }

@@ -1,5 +1,6 @@
 -- Each step keeps the one history.
-use Rattle.std.proofs.Common.{◌≡◌, ◌≢◌, ◌⊎◌, subst, ℕ, zero, suc, ◌+◌, ◌-◌, ◌*◌, ◌/◌, ◌%◌, ◌^◌, ◌<◌, ◌==◌, Bool, true, false, true≢false, None, Option, Some, List, [], ◌∷◌, ◌++◌, length, replicate, is_some, refl, sym, ap, ◌∙◌, ⊎_elim, if◌then◌else◌, arith}
+use Rattle.std.proofs.Common.{◌≡◌, ◌≢◌, ◌⊎◌, subst, ℕ, zero, suc, ◌+◌, ◌-◌, ◌*◌, ◌/◌, ◌%◌, ◌^◌, ◌<◌, ◌==◌, Bool, true, false, true≢false}
+use Rattle.std.proofs.Common.{None, Option, Some, List, [], ◌∷◌, ◌++◌, length, replicate, is_some, refl, sym, ap, ◌∙◌, ⊎_elim, if◌then◌else◌, arith}
 use Rattle.std.specs.Prelude.{slice_index, slice_set}
 use mathlib.Core.Option.{some, none, some-ne-none, some-injective}
 use mathlib.Core.Logic.{dite}
@@ -55,7 +56,8 @@ looks slots i first s h homes small = (looking h.0, (h.0, h.1, knows), h.1 i)
 -- ---- a change
 
 -- what holds of the word that is written, and of the others, holds of each
-each_word : (P : ℕ → ℕ → Type 0) (words : List ℕ) (i x : ℕ) → P i x → ((j : ℕ) → j ≢ i → P j (slice_index words j)) → (length words < i + 1 → P i (slice_index words i)) → (j : ℕ) → P j (slice_index (slice_set words i x) j)
+each_word : (P : ℕ → ℕ → Type 0) (words : List ℕ) (i x : ℕ) → P i x → ((j : ℕ) → j ≢ i → P j (slice_index words j))
+    → (length words < i + 1 → P i (slice_index words i)) → (j : ℕ) → P j (slice_index (slice_set words i x) j)
 each_word P [] i x here rest past j = dite (ℕ_discrete j i) (λ e. subst (λ k. P k 0) (sym e) (past (omega arith))) (λ ne. rest j ne)
 each_word P (w ∷ ws) zero x here rest past zero = here
 each_word P (w ∷ ws) zero x here rest past (suc j) = rest (suc j) (λ e. omega arith)
@@ -77,7 +79,8 @@ noted_views t tables views id first knew by v e =
 fits_added : (t : Table) (task home place word : ℕ) → home_of t task ≡ None → Fits t place word → Fits (added t task home) place word
 fits_added t task home place word absent fits other says =
     let was = fits other says in
-    let apart : (task == other) ≡ false = false_from_ne_true (task == other) (λ same. (let at : home_of t task ≡ Some (word % 4) = ap (home_of t) (eqb-true task other same) ∙ was.1 in let no : None ≡ Some (word % 4) = sym absent ∙ at in cc)) in
+    let apart : (task == other) ≡ false = false_from_ne_true (task == other)
+    (λ same. (let no : None ≡ Some (word % 4) = sym absent ∙ (ap (home_of t) (eqb-true task other same) ∙ was.1) in cc)) in
     (was.0, home_added t task home other (ap is_some absent) ∙ (rw apart was.1))
 
 fits_new : (t : Table) (task home place word : ℕ) → home_of t task ≡ None → place ≡ task % rests → ((n : ℕ) → word / 4 ≡ suc n → (n ≡ task) × (word % 4 ≡ home)) → Fits (added t task home) place word
@@ -124,19 +127,19 @@ module _ (slots id i : ℕ) (tables : List Table) where
       let was : (j : ℕ) → Fits (last_of tables) j (slice_index s.words j) = λ j. subst (λ x. Fits x j (slice_index s.words j)) same (h.1 j) in
       let n = slice_index s.words i in
       let other : n ≢ word → n / 4 ≡ suc task → ⊥ = λ ne says. (
-        let f = was i task says in
-        let some_home : Some home ≡ Some (n % 4) = sym there ∙ f.1 in
-        let home_is : home ≡ n % 4 = ap (λ (o : Option ℕ). or_zero o) some_home in
-        ne (number n task home word small says home_is is)) in
-      let rest : (j : ℕ) → j ≢ i → Fits t j (slice_index s.words j) = λ j ne. fits_removed (last_of tables) task j (slice_index s.words j) (λ says. ne ((was j task says).0 ∙ sym at)) (was j) in
-      (
+      let f = was i task says in
+      let some_home : Some home ≡ Some (n % 4) = sym there ∙ f.1 in
+      let home_is : home ≡ n % 4 = ap (λ (o : Option ℕ). or_zero o) some_home in
+      ne (number n task home word small says home_is is)) in
+      let rest : (j : ℕ) → j ≢ i → Fits t j (slice_index s.words j) = λ j ne. fits_removed (last_of tables) task j (slice_index s.words j) (λ says. ne ((was j task says).0 ∙ sym at)) (was j) in (
         noting (t ∷ tables),
         keeps,
         tt,
         (
           t ∷ tables,
           each_word (Fits t) s.words i (either (n == word) 0 n)
-              (exchanged n word 0 (Fits t i) (λ _. none_fits t i) (λ ne. fits_removed (last_of tables) task i n (other ne) (was i))) rest (λ short. subst (Fits t i) (sym (past s.words i short)) (none_fits t i)),
+              (exchanged n word 0 (Fits t i) (λ _. none_fits t i) (λ ne. fits_removed (last_of tables) task i n (other ne) (was i))) rest
+              (λ short. subst (Fits t i) (sym (past s.words i short)) (none_fits t i)),
           noted_views t tables s.views id knew.0 (λ by v e. subst (λ ts. Knows ts by v) (sym knew.1) (h.2 by v e)),
         ),
         (Gone task, refl, refl),

@@ -49,7 +49,6 @@ home_removed (x ∷ xs) gone task = by_tests (x.0 == gone) refl (gone == task) r
     by_tests false stays false apart true at rest = rw (stays, apart, at) refl
     by_tests false stays false apart false at rest = rw (stays, apart, at) (rest ∙ rw apart refl)
 
-
 known_none : (o : Option ℕ) → is_some o ≡ false → o ≡ None
 known_none None e = refl
 known_none (Some h) e = cc

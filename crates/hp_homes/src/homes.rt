@@ -73,7 +73,8 @@ impl<N: Noted> Homes<N> {
     #[inline(always)]
     pub fn home(&self, task: u64) -> (Option<u64>, Sight)
         ensures words { result.1.table_id ≡ N.words }
-        ensures home { IfSome result.0 (λ home. home_of (last_of result.1.me.0.seen) task ≡ Some home) }
+        ensures home { IfSome result.0 (λ home.
+            home_of (last_of result.1.me.0.seen) task ≡ Some home) }
     {
         let (word, sight) = self.words.shared.load_new_seat::<Looks>(place_of(task));
         let owner = word / 4;
@@ -86,7 +87,8 @@ impl<N: Noted> Homes<N> {
     /// A task came, which was not there: it is noted with its home, if its word is free.
     pub fn came(&self, noter: &mut Noter<N>, task: u64, home: u64)
         requires { home_of (last_of noter.old.seat.me.0.seen) task ≡ None }
-        ensures { last_of noter.new.seat.me.0.seen ≡ added (last_of noter.old.seat.me.0.seen) task home }
+        ensures { last_of noter.new.seat.me.0.seen
+            ≡ added (last_of noter.old.seat.me.0.seen) task home }
     {
         let change = Change::Came { task, home };
         self.words.shared.compare_exchange_with::<Notes>(
@@ -101,7 +103,8 @@ impl<N: Noted> Homes<N> {
     /// A task goes, which has that home: it is noted no more.
     pub fn gone(&self, noter: &mut Noter<N>, task: u64, home: u64)
         requires { home_of (last_of noter.old.seat.me.0.seen) task ≡ Some home }
-        ensures { last_of noter.new.seat.me.0.seen ≡ removed (last_of noter.old.seat.me.0.seen) task }
+        ensures { last_of noter.new.seat.me.0.seen
+            ≡ removed (last_of noter.old.seat.me.0.seen) task }
     {
         let change = Change::Gone { task };
         self.words.shared.compare_exchange_with::<Notes>(

@@ -43,7 +43,9 @@ fn closes<N: Naming + Noted + Send + Sync, R: Threads + Wait + Abort + Sync, con
     requires frames { AreFrames N.frames (4 ∷ 2 ∷ []) }
     requires bytes { N.page_bytes ≡ 1024 }
 {
-    let shared = Shared::<N, K>::new(alloc, &[4, 2], 1024, 3, PLACES, blanks, words).expect(rt, "memory");
+    let shared = Shared::<N, K>::new(alloc, &[4, 2], 1024, 3, PLACES, blanks, words).expect(
+        rt, "memory",
+    );
     let (page, slots) = looked_at(rt, &shared);
     same!(rt; [page, slots], [1024, 3]);
     let closed = close(alloc, shared, Vec::new(alloc)).expect(rt, "memory");
@@ -107,7 +109,9 @@ fn parts<N: Naming + Noted, R: Abort, const K: usize>(
     requires frames { AreFrames N.frames (4 ∷ 2 ∷ []) }
     requires bytes { N.page_bytes ≡ 1024 }
 {
-    let shared = Shared::<N, K>::new(alloc, &[4, 2], 1024, 3, PLACES, blanks, words).expect(rt, "memory");
+    let shared = Shared::<N, K>::new(alloc, &[4, 2], 1024, 3, PLACES, blanks, words).expect(
+        rt, "memory",
+    );
     let (system, kept) = into_system(shared);
     let counts = system.close();
     same!(rt; [counts.total, counts.free, counts.rsvd, counts.surp], [0, 0, 0, 0]);
@@ -117,7 +121,12 @@ fn parts<N: Naming + Noted, R: Abort, const K: usize>(
     Some([trails.tasks.len(), trails.pool.len(), trails.slots.len()])
 }
 
-fn parts_traced<N: Naming + Noted, R: Abort>(rt: &R, alloc: Global, blanks: Blanks, words: Blank) -> Option<[usize; 3]>
+fn parts_traced<N: Naming + Noted, R: Abort>(
+    rt: &R,
+    alloc: Global,
+    blanks: Blanks,
+    words: Blank,
+) -> Option<[usize; 3]>
     requires ledgers { AreLedgers N.Naming blanks }
     requires words { words.words.shared.table_id ≡ N.words }
     requires frames { AreFrames N.frames (4 ∷ 2 ∷ []) }
@@ -126,7 +135,12 @@ fn parts_traced<N: Naming + Noted, R: Abort>(rt: &R, alloc: Global, blanks: Blan
     parts::<N, R, 1>(rt, alloc, blanks, words)
 }
 
-fn parts_untraced<N: Naming + Noted, R: Abort>(rt: &R, alloc: Global, blanks: Blanks, words: Blank) -> Option<[usize; 3]>
+fn parts_untraced<N: Naming + Noted, R: Abort>(
+    rt: &R,
+    alloc: Global,
+    blanks: Blanks,
+    words: Blank,
+) -> Option<[usize; 3]>
     requires ledgers { AreLedgers N.Naming blanks }
     requires words { words.words.shared.table_id ≡ N.words }
     requires frames { AreFrames N.frames (4 ∷ 2 ∷ []) }

@@ -122,9 +122,15 @@ fn run<N: Naming + Noted + Send + Sync, R: Threads + Wait + Abort + Clock + Sync
     requires frames { AreFrames N.frames (4 ∷ 4 ∷ []) }
     requires bytes { N.page_bytes ≡ 1024 }
 {
-    let shared = Shared::<N, 1>::new(alloc, &[4, 4], 1024, SLOTS as usize, PLACES, blanks, words).expect(
-        rt, "memory",
-    );
+    let shared = Shared::<N, 1>::new(
+        alloc,
+        &[4, 4],
+        1024,
+        SLOTS as usize,
+        PLACES,
+        blanks,
+        words,
+    ).expect(rt, "memory");
     let begun = start(rt, alloc, &shared);
     let (one, (two, three)) = three(rt, alloc, &shared, seed);
     let mut told = Vec::with_capacity(alloc, 4).expect(rt, "memory");

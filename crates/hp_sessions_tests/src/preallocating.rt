@@ -146,7 +146,9 @@ fn filling<N: Naming + Noted, R: Wait + Abort>(rt: &R, alloc: Global, blanks: Bl
     requires frames { AreFrames N.frames (4 ∷ 4 ∷ []) }
     requires bytes { N.page_bytes ≡ 1024 }
 {
-    let shared = Shared::<N, 1>::new(alloc, &[4, 4], 1024, 4, PLACES, blanks, words).expect(rt, "memory");
+    let shared = Shared::<N, 1>::new(alloc, &[4, 4], 1024, 4, PLACES, blanks, words).expect(
+        rt, "memory",
+    );
     let free = Free {};
     let mut session = opened(rt, alloc, &shared, &free, ROOM);
     fills(rt, &mut session);
@@ -157,13 +159,20 @@ fn filling<N: Naming + Noted, R: Wait + Abort>(rt: &R, alloc: Global, blanks: Bl
 }
 
 // The pool's trail has no place for the section, and no page is taken.
-fn pool_full<N: Naming + Noted, R: Wait + Abort>(rt: &R, alloc: Global, blanks: Blanks, words: Blank)
+fn pool_full<N: Naming + Noted, R: Wait + Abort>(
+    rt: &R,
+    alloc: Global,
+    blanks: Blanks,
+    words: Blank,
+)
     requires ledgers { AreLedgers N.Naming blanks }
     requires words { words.words.shared.table_id ≡ N.words }
     requires frames { AreFrames N.frames (4 ∷ 4 ∷ []) }
     requires bytes { N.page_bytes ≡ 1024 }
 {
-    let shared = Shared::<N, 1>::new(alloc, &[4, 4], 1024, 4, 2, blanks, words).expect(rt, "memory");
+    let shared = Shared::<N, 1>::new(alloc, &[4, 4], 1024, 4, 2, blanks, words).expect(
+        rt, "memory",
+    );
     let free = Free {};
     let mut session = opened(rt, alloc, &shared, &free, ROOM);
     same!(rt; call(&mut session, &Step::Nr { pages: 4 }), Ok(Answer::Number(4)));

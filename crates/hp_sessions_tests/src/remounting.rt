@@ -121,7 +121,9 @@ fn limits<N: Naming + Noted, R: Wait + Abort>(rt: &R, alloc: Global, blanks: Bla
     requires frames { AreFrames N.frames (4 ∷ 4 ∷ []) }
     requires bytes { N.page_bytes ≡ 1024 }
 {
-    let shared = Shared::<N, 1>::new(alloc, &[4, 4], 1024, 4, PLACES, blanks, words).expect(rt, "memory");
+    let shared = Shared::<N, 1>::new(alloc, &[4, 4], 1024, 4, PLACES, blanks, words).expect(
+        rt, "memory",
+    );
     let free = Free {};
     let mut session = opened(rt, alloc, &shared, &free, ROOM);
     below_usage(rt, &mut session);
@@ -131,13 +133,20 @@ fn limits<N: Naming + Noted, R: Wait + Abort>(rt: &R, alloc: Global, blanks: Bla
 }
 
 // The pool's trail has no place for the section.
-fn pool_full<N: Naming + Noted, R: Wait + Abort>(rt: &R, alloc: Global, blanks: Blanks, words: Blank)
+fn pool_full<N: Naming + Noted, R: Wait + Abort>(
+    rt: &R,
+    alloc: Global,
+    blanks: Blanks,
+    words: Blank,
+)
     requires ledgers { AreLedgers N.Naming blanks }
     requires words { words.words.shared.table_id ≡ N.words }
     requires frames { AreFrames N.frames (4 ∷ 4 ∷ []) }
     requires bytes { N.page_bytes ≡ 1024 }
 {
-    let shared = Shared::<N, 1>::new(alloc, &[4, 4], 1024, 4, 3, blanks, words).expect(rt, "memory");
+    let shared = Shared::<N, 1>::new(alloc, &[4, 4], 1024, 4, 3, blanks, words).expect(
+        rt, "memory",
+    );
     let free = Free {};
     let mut session = opened(rt, alloc, &shared, &free, ROOM);
     same!(rt; call(&mut session, &Step::Nr { pages: 4 }), Ok(Answer::Number(4)));
@@ -150,13 +159,20 @@ fn pool_full<N: Naming + Noted, R: Wait + Abort>(rt: &R, alloc: Global, blanks: 
 }
 
 // The slot's trail has no place for the event.
-fn slot_full<N: Naming + Noted, R: Wait + Abort>(rt: &R, alloc: Global, blanks: Blanks, words: Blank)
+fn slot_full<N: Naming + Noted, R: Wait + Abort>(
+    rt: &R,
+    alloc: Global,
+    blanks: Blanks,
+    words: Blank,
+)
     requires ledgers { AreLedgers N.Naming blanks }
     requires words { words.words.shared.table_id ≡ N.words }
     requires frames { AreFrames N.frames (4 ∷ 4 ∷ []) }
     requires bytes { N.page_bytes ≡ 1024 }
 {
-    let shared = Shared::<N, 1>::new(alloc, &[4, 4], 1024, 4, 3, blanks, words).expect(rt, "memory");
+    let shared = Shared::<N, 1>::new(alloc, &[4, 4], 1024, 4, 3, blanks, words).expect(
+        rt, "memory",
+    );
     let free = Free {};
     let mut session = opened(rt, alloc, &shared, &free, ROOM);
     same!(rt; call(&mut session, &Step::Nr { pages: 4 }), Ok(Answer::Number(4)));

@@ -7,8 +7,8 @@ use crate::gates::{Free, Hold, Place};
 use crate::same::same;
 use hp_closing::close;
 use hp_entrance::Entrance;
-use hp_locked::Gate;
 use hp_homes::{Blank, Noted};
+use hp_locked::Gate;
 use hp_model::answer::{Answer, Reply};
 use hp_model::entry::Receipt;
 use hp_model::lent::Lent;
@@ -135,7 +135,9 @@ fn row<N: Naming + Noted + Send + Sync, R: Threads + Wait + Abort + Clock + Sync
     requires frames { AreFrames N.frames (4 ∷ 4 ∷ []) }
     requires bytes { N.page_bytes ≡ 1024 }
 {
-    let shared = Shared::<N, 1>::new(alloc, &[4, 4], 1024, 4, ROOM, blanks, words).expect(rt, "memory");
+    let shared = Shared::<N, 1>::new(alloc, &[4, 4], 1024, 4, ROOM, blanks, words).expect(
+        rt, "memory",
+    );
     let free = Free {};
     let mut first = opened(rt, alloc, &shared, &free, ROOM);
     start(rt, &mut first);
@@ -152,7 +154,11 @@ fn row<N: Naming + Noted + Send + Sync, R: Threads + Wait + Abort + Clock + Sync
     same!(rt; [closed.counts.total, closed.counts.free, closed.counts.rsvd], [4, 4, 0]);
 }
 
-fn beside<N: Naming + Noted + Send + Sync, R: Threads + Wait + Abort + Clock + Sync, const K: usize>(
+fn beside<
+    N: Naming + Noted + Send + Sync,
+    R: Threads + Wait + Abort + Clock + Sync,
+    const K: usize,
+>(
     rt: &R,
     alloc: Global,
     shared: &Shared<N, K>,

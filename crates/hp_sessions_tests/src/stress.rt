@@ -109,9 +109,15 @@ fn run<N: Naming + Noted + Send + Sync, R: Threads + Wait + Abort + Sync, const 
     requires frames { AreFrames N.frames (4 ∷ 4 ∷ []) }
     requires bytes { N.page_bytes ≡ 1024 }
 {
-    let shared = Shared::<N, K>::new(alloc, &[4, 4], 1024, SLOTS as usize, PLACES, blanks, words).expect(
-        rt, "memory",
-    );
+    let shared = Shared::<N, K>::new(
+        alloc,
+        &[4, 4],
+        1024,
+        SLOTS as usize,
+        PLACES,
+        blanks,
+        words,
+    ).expect(rt, "memory");
     let told = eight(rt, alloc, &shared);
     let closed = close(alloc, shared, told).expect(rt, "memory");
     same!(rt; closed.audit, audit);

@@ -100,7 +100,11 @@ impl<N: Naming + Noted, T: Trail<TableEntry>> Table<N, T> {
 
     /// An event of the table: its answer, and its receipt where entries are kept. At `Err` the trail is full, and nothing
     /// changed. The removal of a task that is there always has a place.
-    pub fn event(&mut self, homes: &Homes<N>, event: TableEvent) -> Result<(TableTold, Option<Receipt>), Full>
+    pub fn event(
+        &mut self,
+        homes: &Homes<N>,
+        event: TableEvent,
+    ) -> Result<(TableTold, Option<Receipt>), Full>
         ensures done { IfOk result (λ r. IsTableEventDone (length (frames_list N.frames))
             self.old self.new event (table_reply r.0)) }
         ensures receipt { IfOk result (λ r. IsReceipt self.old.entries AtTasks (OnTasks event)

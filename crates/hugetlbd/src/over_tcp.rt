@@ -99,7 +99,13 @@ pub fn serve_over<R: Threads + Wait + Sync, C: Connections, W: Sink, E: Sink>(
 }
 
 // Keeps trails where there is room for entries.
-fn serve_kept<N: Naming + Noted + Send + Sync, R: Threads + Wait + Sync, C: Connections, W: Sink, E: Sink>(
+fn serve_kept<
+    N: Naming + Noted + Send + Sync,
+    R: Threads + Wait + Sync,
+    C: Connections,
+    W: Sink,
+    E: Sink,
+>(
     rt: &R,
     alloc: Global,
     machine: &Machine,

@@ -66,7 +66,13 @@ impl<P: Parts> Session<P> {
             Step::Attach { task } => {
                 *reply = table_told(self.make_table(TableEvent::Find { task: *task }));
             }
-            Step::Fault { task, slot, map, index, intent } => {
+            Step::Fault {
+                task,
+                slot,
+                map,
+                index,
+                intent,
+            } => {
                 let event = MountEvent::Fault {
                     task: *task,
                     map: *map,

@@ -13,10 +13,12 @@ pub compare_exchange_with-requires : goal.compare_exchange_with-requires
 compare_exchange_with-requires g c =
     let noter = c.args.noter.now in
     let slots = c.args.self.now.words.shared.table_id.slots in
-    let word = c.word_of.result in (
+    let word = c.word_of.result in
+    let place = c.place_of.result in (
       noter.named ∙ sym c.args.self.now.named,
       subst (λ n. c.place_of.result < n) (sym c.args.self.now.wide) c.place_of.ensures.below,
-      subst (λ (me : Me Change View). Allows Kept slots noter.seat.id me c.place_of.result (λ n. either (n == 0) word n) (Noted (step slots c.place_of.result 0 word (some (Came c.args.task c.args.home))) me))
+      subst (λ (me : Me Change View).
+          Allows Kept slots noter.seat.id me place (λ n. either (n == 0) word n) (Noted (step slots place 0 word (some (Came c.args.task c.args.home))) me))
           (sym noter.knows)
           (comes slots noter.seat.id c.place_of.result noter.seat.me.0.seen c.args.task c.args.home word c.requires c.place_of.ensures.place c.word_of.ensures.says),
     )
