@@ -8,7 +8,7 @@ use Rattle.hp_homes.specs.contracts.homes.Homes as Homes
 use Rattle.hp_homes.specs.contracts.homes.Noter as Noter
 use Rattle.hp_homes.specs.contracts.words.Change as Change
 use Rattle.hp_homes.specs.declared.words.Noted.{Ghosts}
-use Rattle.std.proofs.Crossing.{crosses, frees}
+use Rattle.std.proofs.Crossing.{crosses}
 
 change_send : IsSend Change.the_row
 change_send = search (sendable) depth 40

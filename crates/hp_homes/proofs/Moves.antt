@@ -1,21 +1,20 @@
 -- Each step keeps the one history.
-use Rattle.std.proofs.Common.{◌≡◌, ◌≢◌, ◌⊎◌, subst, ℕ, zero, suc, ◌+◌, ◌-◌, ◌*◌, ◌/◌, ◌%◌, ◌^◌, ◌<◌, ◌==◌, Bool, true, false, true≢false}
-use Rattle.std.proofs.Common.{None, Option, Some, List, [], ◌∷◌, ◌++◌, length, replicate, is_some, refl, sym, ap, ◌∙◌, ⊎_elim, if◌then◌else◌, arith}
+use Rattle.std.proofs.Common.{◌≡◌, ◌≢◌, subst, ℕ, zero, suc, ◌+◌, ◌*◌, ◌/◌, ◌%◌, ◌^◌, ◌<◌, ◌==◌, true, false, true≢false}
+use Rattle.std.proofs.Common.{None, Option, Some, List, [], ◌∷◌, ◌++◌, length, replicate, is_some, refl, sym, ap, ◌∙◌, ⊎_elim, arith}
 use Rattle.std.specs.Prelude.{slice_index, slice_set}
 use mathlib.Core.Option.{some, none, some-ne-none, some-injective}
 use mathlib.Core.Logic.{dite}
 use native.Mathlib.Decide.{ℕ_discrete}
 use prog.Atomic.{either}
-use lib.ListN.{get_elem?, get_or, set}
-use Rattle.std.proofs.lemmas.List.{get_or-set_same, get_or-set_other, get_or-replicate, get_or_past, set_past}
-use Rattle.std.proofs.lemmas.Bool.{eq-eqb, eqb-true, false_from_ne_true, ne_eqb}
+use lib.ListN.{get_elem?, set}
+use Rattle.std.proofs.lemmas.List.{get_or_past}
+use Rattle.std.proofs.lemmas.Bool.{eq-eqb, eqb-true, false_from_ne_true}
 use Rattle.atomic_table.proofs.Lists.{at_set, at_snoc, exchanged}
-use Rattle.atomic_table.specs.Table.{Act, Allows, Enters, State, keeps, opening, step}
+use Rattle.atomic_table.specs.Table.{Allows, Enters, keeps, opening, step}
 use Rattle.hp_model.specs.machine.Table.{Table, added, home_of, removed}
-use Rattle.hp_homes.specs.declared.words.Change.{Change}
 use Rattle.hp_homes.specs.declared.words.Change.TheVariants.{Came, Gone}
 use Rattle.hp_homes.specs.declared.words.View.{View}
-use Rattle.hp_homes.specs.Noting.{Fits, IsLater, Kept, Looked, Noted, changed, last_of, looking, noting, rests}
+use Rattle.hp_homes.specs.Noting.{Fits, IsLater, Kept, Looked, Noted, last_of, looking, noting, rests}
 use Rattle.hp_homes.proofs.TablesOf.{home_added, home_removed}
 
 off : false ≡ true → ⊥

@@ -107,10 +107,11 @@ impl<N: Noted> Homes<N> {
             ≡ removed (last_of noter.old.seat.me.0.seen) task }
     {
         let change = Change::Gone { task };
+        let noted = word_of(task, home);
         self.words.shared.compare_exchange_with::<Notes>(
             &mut noter.seat,
             place_of(task),
-            word_of(task, home),
+            noted,
             0,
             &change,
         );

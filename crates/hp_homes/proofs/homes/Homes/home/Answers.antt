@@ -1,4 +1,4 @@
-use Rattle.std.proofs.Common.{◌<◌, [], ◌∷◌, sym, subst}
+use Rattle.std.proofs.Common.{◌<◌, [], sym, subst}
 use Rattle.hp_homes.specs.Noting.{noting}
 use Rattle.hp_homes.proofs.Moves.{looks}
 use Rattle.hp_homes.proofs.homes.Homes.home.Goals as goal
