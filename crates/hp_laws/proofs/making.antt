@@ -4,3 +4,4 @@ pub mod Remounts
 pub mod MountsMade
 pub mod NewNumbers
 pub mod FilesMade
+pub mod OnlyMade

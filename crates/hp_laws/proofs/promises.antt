@@ -7,3 +7,7 @@ pub mod SmallReplies
 pub mod Answered
 pub mod Parents
 pub mod Listing
+pub mod StepsMake
+pub mod Surplus
+pub mod PagesThere
+pub mod CutFiles

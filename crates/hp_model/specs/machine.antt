@@ -12,6 +12,8 @@ pub mod Ready
 pub mod Tests
 pub mod Settings
 pub mod Named
+pub mod Held
+pub mod Pages
 pub mod Gone
 pub mod Lost
 pub mod Kept

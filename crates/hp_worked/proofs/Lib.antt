@@ -10,4 +10,5 @@ pub mod WorkedPromises
 pub mod WorkedSound
 pub mod WorkedRecord
 pub mod WorkedPreallocate
+pub mod WorkedHeld
 pub mod Worked

@@ -176,7 +176,7 @@ module _ (size : ℕ) (m : Mount) (s : Spot) (at : IsSpot m s) (i : ℕ) where
         held = λ e j l. refl;
       }
 
-  fill_same : (node : ℕ) → i < length s.file.cells → shown size (cell_at s.file i) ≡ zeros size →
+  pub fill_same : (node : ℕ) → i < length s.file.cells → shown size (cell_at s.file i) ≡ zeros size →
       Same (with_file m s.file_no (with_cell s.file i (Present (record { node = node; bytes = zeros size }))))
   fill_same node l e =
       let page : Page = record { node = node; bytes = zeros size } in
@@ -194,7 +194,7 @@ module _ (size : ℕ) (m : Mount) (s : Spot) (at : IsSpot m s) (i : ℕ) where
       (ap (λ y. value size f y i) (get_or-set_same f.maps s.map_no (with_place s.map i p) s.map at.map.within) ∙ ap (λ q. by_place size q (look size i f)) (place_put s.map i c o is p) ∙ e)
       (λ shared. cc) (λ shared. cc)
 
-  copy_own : (c d : Bool) (o : Option Copy) (new : Copy) → place_at s.map i ≡ Live c o → Own (with_file m s.file_no (with_map s.file s.map_no (with_place s.map i (Live d (Some new)))))
+  pub copy_own : (c d : Bool) (o : Option Copy) (new : Copy) → place_at s.map i ≡ Live c o → Own (with_file m s.file_no (with_map s.file s.map_no (with_place s.map i (Live d (Some new)))))
   copy_own c d o new is =
       let p : Place Copy = Live d (Some new) in
       let f : File = s.file in
@@ -210,7 +210,7 @@ module _ (size : ℕ) (m : Mount) (s : Spot) (at : IsSpot m s) (i : ℕ) where
       → Copied (with_file m s.file_no (with_map s.file s.map_no (with_place s.map i (Live d (Some new)))))
   copied_done c d o new apart is e = (copy_same c d o new apart is e, λ other. copy_own c d o new is)
 
-  kept_own : (c : Bool) (copy : Copy) → place_at s.map i ≡ Live c (Some copy) → Own m
+  pub kept_own : (c : Bool) (copy : Copy) → place_at s.map i ≡ Live c (Some copy) → Own m
   kept_own c copy is = record {
     consumed = c;
     copy = copy;
@@ -218,7 +218,7 @@ module _ (size : ℕ) (m : Mount) (s : Spot) (at : IsSpot m s) (i : ℕ) where
   }
 
   -- an owner took its copy back from all others
-  abbrev robbed_mount : ℕ → Mount
+  abbrev pub robbed_mount : ℕ → Mount
   robbed_mount stamp = with_file m s.file_no (with_map (record s.file { maps = map (robbed stamp) s.file.maps }) s.map_no s.map)
 
   pub record Taken (n : Mount) : Type 0 where

@@ -231,11 +231,15 @@ module _ (gone : ℕ) where
   AllOf (Do e next) = IsOf gone e × ((r : Reply) → AllOf (next r))
   AllOf (Where_mapped k task mapped other) = AllOf mapped × AllOf other
 
-  pub script_fades : (c : Script) → AllOf c → (s : State) (reply : Reply) (t : State) → IsScript s c reply t → AllFade gone s t
-  script_fades (Answer_with r) all s reply t is = same_fades s t (ap (λ x. x.page_size) is.1) (ap (λ x. x.slots) is.1)
-  script_fades (Do e next) all s reply t is = all_then s is.1 t (event_fades s e is.0 is.1 all.0 is.2) (script_fades (next is.0) (all.1 is.0) is.1 reply t is.3)
-  script_fades (Where_mapped k task mapped other) all s reply t is =
-      either_way (has_maps_of task (slot_at s k)) (λ it. script_fades mapped all.0 s reply t it) (λ it. script_fades other all.1 s reply t it) is
+  -- what holds of each such event, and of one after another, holds of the script
+  pub script_keeps : (R : State → State → Type 0) → ((s : State) → R s s) → ((s m t : State) → R s m → R m t → R s t)
+      → ((s : State) (e : Event) (reply : Reply) (t : State) → IsOf gone e → IsEvent s e reply t → R s t)
+      → (c : Script) → AllOf c → (s : State) (reply : Reply) (t : State) → IsScript s c reply t → R s t
+  script_keeps R same then each (Answer_with r) all s reply t is = subst (λ x. R s x) (sym is.1) (same s)
+  script_keeps R same then each (Do e next) all s reply t is =
+      then s is.1 t (each s e is.0 is.1 all.0 is.2) (script_keeps R same then each (next is.0) (all.1 is.0) is.1 reply t is.3)
+  script_keeps R same then each (Where_mapped k task mapped other) all s reply t is =
+      either_way (has_maps_of task (slot_at s k)) (λ it. script_keeps R same then each mapped all.0 s reply t it) (λ it. script_keeps R same then each other all.1 s reply t it) is
 
   exits_of : (ks : List ℕ) (next : Script) → AllOf next → AllOf (exit_slots ks gone next)
   exits_of [] next all = all
@@ -258,17 +262,20 @@ module _ (gone : ℕ) where
 
 -- ---- fork and exit
 
+pub fork_of : (n parent child : ℕ) → AllOf child (script n (Fork parent child))
+fork_of n parent child = (tt, λ r. when_of child r (fork_slots (range_with_len 0 n) [] parent child) (forks_of child (range_with_len 0 n) [] parent))
+
+pub exit_of : (n task : ℕ) → AllOf task (script n (Exit task))
+exit_of n task = (tt, λ r. when_of task r (exit_slots (range_with_len 0 n) task (Answer_with (Ok Done))) (exits_of task (range_with_len 0 n) (Answer_with (Ok Done)) tt))
+
+script_fades : (gone : ℕ) (c : Script) → AllOf gone c → (s : State) (reply : Reply) (t : State) → IsScript s c reply t → AllFade gone s t
+script_fades gone c all s reply t is = script_keeps gone (λ s t. AllFade gone s t) (λ s. same_fades gone s s refl refl) (all_then gone) (event_fades gone) c all s reply t is
+
 pub fork_fade : (s : State) (parent child : ℕ) (reply : Reply) (t : State) → IsScripted s (Fork parent child) reply t → AllFade child s t
-fork_fade s parent child reply t is =
-    let ks = range_with_len 0 (length s.slots) in
-    script_fades child (script (length s.slots) (Fork parent child))
-    (tt, λ r. when_of child r (fork_slots ks [] parent child) (forks_of child ks [] parent)) s reply t is
+fork_fade s parent child reply t is = script_fades child (script (length s.slots) (Fork parent child)) (fork_of (length s.slots) parent child) s reply t is
 
 pub exit_fade : (s : State) (task : ℕ) (reply : Reply) (t : State) → IsScripted s (Exit task) reply t → AllFade task s t
-exit_fade s task reply t is =
-    let ks = range_with_len 0 (length s.slots) in
-    script_fades task (script (length s.slots) (Exit task))
-    (tt, λ r. when_of task r (exit_slots ks task (Answer_with (Ok Done))) (exits_of task ks (Answer_with (Ok Done)) tt)) s reply t is
+exit_fade s task reply t is = script_fades task (script (length s.slots) (Exit task)) (exit_of (length s.slots) task) s reply t is
 
 pub exits_done : (task : ℕ) (r : Refusal) (t : State) (ks : List ℕ) (s : State) → IsScript s (exit_slots ks task (Answer_with (Ok Done))) (Err r) t → ⊥
 exits_done task r t [] s is = (let never : Err r ≡ Ok Done = is.0 in cc)

@@ -121,7 +121,7 @@ module _ (task : ℕ) where
 -- ---- steps
 
 module _ (s : State) (st : IsSettledState s) where
-  exit_gone : (task : ℕ) (reply : Reply) (t : State) → IsScripted s (step.Exit task) reply t → IsGone s (step.Exit task) reply t
+  pub exit_gone : (task : ℕ) (reply : Reply) (t : State) → IsScripted s (step.Exit task) reply t → IsGone s (step.Exit task) reply t
   exit_gone task (Err r) t is = tt
   exit_gone task (Ok a) t is = by_home (home_of s.table task) is.0 is.1 is.2.2 is.3
     where

@@ -329,3 +329,19 @@ fork_refused s st parent child r t is =
         → IsSettledState mid → IsScript mid (rest s parent child q) (Err r) t → LeavesOthers s child t
     by_home None q mid e calm go = left_same q mid NoSuchTask (ap (λ (y : Reply × State). y.0) e) (ap (λ (y : Reply × State). y.1) e) go
     by_home (Some home) q mid e calm go = by_tests home (is_known s.table child) (is_crowded s.table) refl q mid e calm go
+
+-- a fork onto a task that is there changes nothing
+pub fork_known : (s : State) (parent child : ℕ) (r : Refusal) (t : State) → is_known s.table child ≡ true → IsScripted s (Fork parent child) (Err r) t → t ≡ s
+fork_known s parent child r t known is = by_home (home_of s.table parent) is.0 is.1 is.2.2 is.3
+  where
+    left_same : (q : Reply) (mid : State) (x : Refusal) → Err x ≡ q → s ≡ mid → IsScript mid (rest s parent child q) (Err r) t → t ≡ s
+    left_same q mid x first second go = (subst (λ y. IsScript mid (rest s parent child y) (Err r) t) (sym first) go).1 ∙ sym second
+
+    by_home : (o : Option ℕ) (q : Reply) (mid : State)
+        → with_table s (when_known s.table o (λ home. or_refused ((is_known s.table child, TaskExists) ∷ (is_crowded s.table, TooMany) ∷ []) s.table (Ok Done, added s.table child home))) ≡ (q, mid)
+        → IsScript mid (rest s parent child q) (Err r) t → t ≡ s
+    by_home None q mid e go = left_same q mid NoSuchTask (ap (λ (y : Reply × State). y.0) e) (ap (λ (y : Reply × State). y.1) e) go
+    by_home (Some home) q mid e go =
+        let refused : with_table s (Err TaskExists, s.table) ≡ (q, mid) =
+        ap (λ b. with_table s (or_refused ((b, TaskExists) ∷ (is_crowded s.table, TooMany) ∷ []) s.table (Ok Done, added s.table child home))) (sym known) ∙ e in
+        left_same q mid TaskExists (ap (λ (y : Reply × State). y.0) refused) (ap (λ (y : Reply × State). y.1) refused) go

@@ -43,10 +43,10 @@ use Rattle.hp_laws.proofs.steps.Whole.{by_event, is_whole, slot_step, step_of}
 
 -- ---- a slot's event leaves the table, nr and overcommit
 
-abbrev Numbers : Pool → PoolAnswer × Pool → Type 0
+abbrev pub Numbers : Pool → PoolAnswer × Pool → Type 0
 Numbers p q = (q.1.nr ≡ p.nr) × (q.1.overcommit ≡ p.overcommit)
 
-section_numbers : (p : Pool) (x : Section) → Numbers p (section p x)
+pub section_numbers : (p : Pool) (x : Section) → Numbers p (section p x)
 section_numbers p (Grant home d) = cond_both (can_grant d p) _ _ (Numbers p) (λ e. (refl, refl)) (λ e. (refl, refl))
 section_numbers p (GrantPage home d) = cond_both (can_grant d p) _ _ (Numbers p) (λ e. (refl, refl)) (λ e. (refl, refl))
 section_numbers p (TakePage home) = (refl, refl)

@@ -153,7 +153,7 @@ longer : {X : Type 0} (t : X → Bool) (xs : List X) → list_any t xs ≡ true 
 longer t [] e = cc
 longer t (x ∷ xs) e = lt-ltb 0 (suc (length xs)) (omega arith)
 
-is_open : (name : List ℕ) (f : File) → has_name name f ≡ true → is_kept f ≡ true
+pub is_open : (name : List ℕ) (f : File) → has_name name f ≡ true → is_kept f ≡ true
 is_open name f e = by_name f.name e
   where
     by_name : (o : Option (List ℕ)) → (elim o [ None ↦ false | Some n ↦ bytes_eq n name ]) ≡ true → (is_some o || nat_lt 0 (length f.maps)) ≡ true

@@ -50,7 +50,7 @@ pub found_same : {X : Type 0} (t u : X → Bool) → ((x : X) → t x ≡ u x) �
 found_same t u h [] = refl
 found_same t u h (x ∷ xs) = rw (h x, found_same t u h xs) refl
 
-any_mapped : (t : Shape → Bool) (ms : List Map) → list_any (λ m. t (shape_of m)) ms ≡ list_any t (map shape_of ms)
+pub any_mapped : (t : Shape → Bool) (ms : List Map) → list_any (λ m. t (shape_of m)) ms ≡ list_any t (map shape_of ms)
 any_mapped t [] = refl
 any_mapped t (m ∷ ms) = ap (λ b. t (shape_of m) || b) (any_mapped t ms)
 

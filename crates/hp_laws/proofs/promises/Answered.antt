@@ -25,14 +25,14 @@ use Rattle.hp_model.specs.machine.SlotEvent.{bytes_answer, file_named, read, rea
 use Rattle.hp_model.specs.machine.State.{State, slot_at}
 use Rattle.hp_model.specs.machine.Step.{IsScripted, IsStep}
 use Rattle.hp_model.specs.files.Value.{shown}
-use Rattle.hp_model.specs.machine.Table.{home_of, when_known}
+use Rattle.hp_model.specs.machine.Table.{home_of, is_known, when_known}
 use Rattle.hp_laws.proofs.settled.CountsHold.{counts_are_sums}
 use Rattle.hp_laws.proofs.ending.Fades.{exit_refused}
 use Rattle.hp_laws.proofs.steps.Outcomes.{Always, event_ends, reply_of}
 use Rattle.hp_laws.proofs.steps.RefusalsKeep.{refusals_change_nothing}
 use Rattle.hp_laws.proofs.accesses.SlotShows.{always_unless}
 use Rattle.hp_laws.proofs.promises.SmallReplies.{rows_many}
-use Rattle.hp_laws.proofs.ending.RefusedForks.{fork_refused}
+use Rattle.hp_laws.proofs.ending.RefusedForks.{fork_known, fork_refused}
 use Rattle.hp_laws.proofs.steps.Whole.{by_event, is_whole, slot_step, step_of}
 
 -- ---- refused steps
@@ -42,10 +42,14 @@ same_left : (s : State) (late : Bool) (t : State) → t ≡ s → MatchBool late
 same_left s true t same = subst (λ x. SameButNodes s x) (sym same) refl
 same_left s false t same = same
 
+-- and whether or not the child of a fork was there
+same_forks : (s : State) (child : ℕ) (known : Bool) (t : State) → t ≡ s → MatchBool known (t ≡ s) (LeavesOthers s child t)
+same_forks s child true t same = same
+same_forks s child false t same = subst (λ x. LeavesOthers s child x) (sym same) (record { table = refl; nr = refl; overcommit = refl; slots = λ k. inl refl })
+
 -- a step that did nothing left what a refusal leaves
 same_leaves : (s : State) (step : Step) (r : Refusal) (t : State) → t ≡ s → LeavesAll s step (Err r) t
-same_leaves s (Fork parent child) r t same =
-    subst (λ x. LeavesOthers s child x) (sym same) (record { table = refl; nr = refl; overcommit = refl; slots = λ k. inl refl })
+same_leaves s (Fork parent child) r t same = same_forks s child (is_known s.table child) t same
 same_leaves s (Mount k options) r t same = same_left s (is_late_step (Mount k options) r) t same
 same_leaves s other r t same = same
 
@@ -68,7 +72,11 @@ module _ (s : State) (st : IsSettledState s) where
 
   fork_leaves : (parent child : ℕ) (reply : Reply) (t : State) → IsScripted s (Fork parent child) reply t → LeavesAll s (Fork parent child) reply t
   fork_leaves parent child (Ok a) t is = tt
-  fork_leaves parent child (Err r) t is = fork_refused s st parent child r t is
+  fork_leaves parent child (Err r) t is = by_known (is_known s.table child) refl
+    where
+      by_known : (b : Bool) → is_known s.table child ≡ b → MatchBool b (t ≡ s) (LeavesOthers s child t)
+      by_known true known = fork_known s parent child r t known is
+      by_known false known = fork_refused s st parent child r t is
 
   exit_leaves : (task : ℕ) (reply : Reply) (t : State) → IsScripted s (Exit task) reply t → LeavesAll s (Exit task) reply t
   exit_leaves task (Ok a) t is = tt

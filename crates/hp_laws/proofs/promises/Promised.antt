@@ -20,13 +20,17 @@ use Rattle.hp_laws.specs.Laws.{KeepsGoing, PromisesAreKept}
 use Rattle.hp_laws.proofs.promises.Answered.{step_leaves, step_tells}
 use Rattle.hp_laws.proofs.accesses.Backed.{Stops, fault_goes, fault_stops, load_goes, load_stops, store_goes, store_stops}
 use Rattle.hp_laws.proofs.promises.ChildsMaps.{step_forks}
+use Rattle.hp_laws.proofs.promises.CutFiles.{step_cuts}
+use Rattle.hp_laws.proofs.promises.PagesThere.{step_reaches}
+use Rattle.hp_laws.proofs.promises.StepsMake.{once, step_makes}
+use Rattle.hp_laws.proofs.promises.Surplus.{step_bounded}
 use Rattle.hp_laws.proofs.settled.CountsHold.{counts_are_sums, limits_hold, minimums_hold}
 use Rattle.hp_laws.proofs.keeping.OtherSlots.{step_elsewhere}
 use Rattle.hp_laws.proofs.keeping.EventKeeps.{step_own}
 use Rattle.hp_laws.proofs.ending.Fades.{AllFade, exit_fade, fork_fade}
 use Rattle.hp_laws.proofs.ending.GoneAfter.{step_gone}
 use Rattle.hp_laws.proofs.keeping.MountsStay.{step_keeps}
-use Rattle.hp_laws.proofs.making.FilesMade.{step_makes}
+use Rattle.hp_laws.proofs.making.FilesMade.{step_makes as step_is_new}
 use Rattle.hp_laws.proofs.keeping.Meant.{step_meant}
 use Rattle.hp_laws.proofs.making.MountsMade.{step_mounted}
 use Rattle.hp_laws.proofs.steps.Outcomes.{Always, event_ends, reply_of}
@@ -122,6 +126,8 @@ step_kept s st reply t step is = by_event s (λ step reply t. Kept s step reply 
 pub promised : PromisesAreKept
 promised s step reply t st is =
     let kept = step_kept s st reply t step is in
+    let reached = step_reaches s reply t step is in
+    let made = step_makes s st reply t step is in
     let after = step_settled s step reply t st is in
     let meant = step_meant s (λ k c e sound. slot_keeps s.page_size k c (slot_at s k) e sound) st reply t step is in
     record {
@@ -129,22 +135,29 @@ promised s step reply t st is =
       counts = counts_are_sums t after;
       limits = kept.limits;
       mounts = step_keeps s reply t step is;
+      surplus = step_bounded s st reply t step is;
       minimums = minimums_hold t after;
       loads = kept.loads;
       answers = step_tells s st reply t step is;
-      makes = step_makes s reply t step is;
+      makes = step_is_new s reply t step is;
       ranges = step_ranges s reply t step is;
       refused = step_leaves s st reply t step is;
       files = λ slot. (meant slot).names;
       maps = λ slot. (meant slot).numbers;
       together = λ slot. (meant slot).together;
       cut_off = kept.cut_off;
+      taken = reached.taken;
+      touched = reached.touched;
+      cuts = step_cuts s st reply t step is;
       tests = step_meets s reply t step is;
       settings = step_sets s st reply t step is;
       mounted = step_mounted s reply t step is;
       unmaps = step_unmaps s reply t step is;
       whole = step_whole s reply t step is;
       gone = step_gone s st reply t step is;
+      held = made.held;
+      only = made.only;
+      once = once t after;
       reads = step_reads s reply t step is;
       elsewhere = step_elsewhere s reply t step is;
       forks = step_forks s reply t step is;

@@ -84,21 +84,21 @@ limits_plain nr size (Some w) r e = checked_plain (limits_of nr size w) r e
 
 module _ (s : State) where
   -- P holds of the outcome by what the pool answers
-  abbrev At : (Outcome → Type 0) → Plan → Type 0
+  abbrev pub At : (Outcome → Type 0) → Plan → Type 0
   At P (Finish o) = P o
   At P (Ask sec f) = P (f (section (pool_of s) (sec s.nr)).0)
 
-  at_any : (P : Outcome → Type 0) (p : Plan) → Always P p → At P p
+  pub at_any : (P : Outcome → Type 0) (p : Plan) → Always P p → At P p
   at_any P (Finish o) all = all
   at_any P (Ask sec f) all = all (section (pool_of s) (sec s.nr)).0
 
-  at_if : (P : Outcome → Type 0) (b : Bool) (p q : Plan) → (b ≡ true → At P p) → (b ≡ false → At P q) → At P (if b then p else q)
+  pub at_if : (P : Outcome → Type 0) (b : Bool) (p q : Plan) → (b ≡ true → At P p) → (b ≡ false → At P q) → At P (if b then p else q)
   at_if P b p q h k = cond_both b p q (At P) h k
 
-  at_test : (P : Outcome → Type 0) (b : Bool) (r : Refusal) (p : Plan) → P (Refused r) → At P p → At P (if b then refuse r else p)
+  pub at_test : (P : Outcome → Type 0) (b : Bool) (r : Refusal) (p : Plan) → P (Refused r) → At P p → At P (if b then refuse r else p)
   at_test P b r p stops h = cond_both b (refuse r) p (At P) (λ e. stops) (λ e. h)
 
-  at_then : (P : Outcome → Type 0) (f : Mount → Outcome) → ((o : Outcome) → P o → P (continued f o)) → (p : Plan) → At P p → At P (and_then f p)
+  pub at_then : (P : Outcome → Type 0) (f : Mount → Outcome) → ((o : Outcome) → P o → P (continued f o)) → (p : Plan) → At P p → At P (and_then f p)
   at_then P f h (Finish o) at = h o at
   at_then P f h (Ask sec g) at = h (g (section (pool_of s) (sec s.nr)).0) at
 
@@ -131,7 +131,7 @@ module _ (s : State) where
   grant_granted : (home d : ℕ) → (section (pool_of s) (Grant home d)).0.granted ≡ can_grant d (pool_of s)
   grant_granted home d = cond_both (can_grant d (pool_of s)) _ _ (λ (x : PoolAnswer × Pool). x.0.granted ≡ can_grant d (pool_of s)) (λ e. sym e) (λ e. sym e)
 
-  page_granted : (home d : ℕ) → (section (pool_of s) (GrantPage home d)).0.granted ≡ can_grant d (pool_of s)
+  pub page_granted : (home d : ℕ) → (section (pool_of s) (GrantPage home d)).0.granted ≡ can_grant d (pool_of s)
   page_granted home d = cond_both (can_grant d (pool_of s)) _ _ (λ (x : PoolAnswer × Pool). x.0.granted ≡ can_grant d (pool_of s)) (λ e. sym e) (λ e. sym e)
 
   fill_granted : (d n : ℕ) → (section (pool_of s) (FillPages d n)).0.granted ≡ can_grant d (pool_of s)

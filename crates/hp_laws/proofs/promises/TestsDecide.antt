@@ -1,8 +1,8 @@
 -- A step is refused by the first of its tests that fails; one that fails none is done, where there are pages and memory.
 use Rattle.std.specs.List.{range_with_len}
-use Rattle.std.proofs.Common.{◌≡◌, subst, ℕ, ◌+◌, ◌&&◌, ◌||◌, ◌==◌, Bool, true, false, not, None, Option, Some, is_some, Result as ResultOf, Ok, Err, List, [], ◌∷◌}
+use Rattle.std.proofs.Common.{◌≡◌, ◌⊎◌, inl, inr, subst, ℕ, ◌+◌, ◌&&◌, ◌||◌, ◌==◌, Bool, true, false, not, None, Option, Some, is_some, Result as ResultOf, Ok, Err, List, [], ◌∷◌}
 use Rattle.std.proofs.Common.{◌++◌, length, refl, sym, ap, ◌∙◌, if◌then◌else◌, nat_le, nat_lt}
-use Rattle.std.proofs.lemmas.Bool.{ltb-false}
+use Rattle.std.proofs.lemmas.Bool.{cond_both, ltb-false}
 use Rattle.std.proofs.lemmas.List.{get_or_past}
 use Rattle.hp_model.specs.declared.answer.Answer.TheVariants.{Done, Home}
 use Rattle.hp_model.specs.declared.cell.Cell.{Cell}
@@ -26,33 +26,40 @@ use Rattle.hp_model.specs.declared.step.Step.{Step}
 use Rattle.hp_model.specs.declared.step.Step.TheVariants as step
 use Rattle.hp_model.specs.files.Access.{access, new_copy, private_access, shared_access, uncopied_access}
 use Rattle.hp_model.specs.files.CopyWrite.{copy_write, is_held_once, owner_write, taken_back}
-use Rattle.hp_model.specs.files.File.{Mount, cell_at, has_page, new_file}
+use Rattle.hp_model.specs.files.File.{Mount, cell_at, has_page, maps_of, new_file}
+use Rattle.hp_model.specs.files.Fork.{forked}
 use Rattle.hp_model.specs.files.Mapping.{copy_of, is_live, is_map, is_shared, place_at}
 use Rattle.hp_model.specs.files.Options.{limits, wanted_of}
 use Rattle.hp_model.specs.files.Page.{Copy, Page}
 use Rattle.hp_model.specs.files.Spot.{Spot, again, spot, written}
 use Rattle.hp_model.specs.files.Value.{value}
-use Rattle.hp_model.specs.machine.Event.{IsEvent, planned, with_table}
+use Rattle.hp_model.specs.machine.Event.{IsEvent, has_maps_of, planned, settled, with_table}
 use Rattle.hp_model.specs.machine.Plan.{Answered, Ask, Choice, Finish, Outcome, Plan, Refused, Reply, Slot, continued, gives, grant, grant_page, refuse, unless, when_granted, with_value}
 use Rattle.hp_model.specs.machine.SlotEvent.{anon_tests, byte_access, byte_tests, bytes_answer, edited, fault, fault_tests, file_named}
 use Rattle.hp_model.specs.machine.SlotEvent.{is_bad_range, is_beyond, is_name, is_unmapped, load, fill, preallocate, preallocate_tests}
-use Rattle.hp_model.specs.machine.SlotEvent.{map_file, map_tests, punch, read, read_tests, remount_outcome, slot_event, stat, store, truncate, umount_tests, unlink, unmap}
+use Rattle.hp_model.specs.machine.SlotEvent.{map_file, map_tests, mount_outcome, mount_pages, mount_section, punch, read, read_tests}
+use Rattle.hp_model.specs.machine.SlotEvent.{remount_outcome, slot_event, stat, store, truncate, umount_tests, unlink, unmap}
 use Rattle.hp_model.specs.machine.State.{State, slot_at}
-use Rattle.hp_model.specs.machine.Step.{Answer_with, IsScript, IsScripted, IsStep, Script, exit_slots, finding, home_in, on_slot, only, when_done}
+use Rattle.hp_model.specs.machine.Step.{Answer_with, IsScript, IsScripted, IsStep, Script, exit_slots, finding, fork_slots, home_in, on_slot, only, or_undone, undone, when_done}
 use Rattle.hp_model.specs.machine.Table.{Table, added, home_of, is_crowded, is_known, or_refused, removed, when_known}
-use Rattle.hp_model.specs.machine.Tests.{IsRefusedBy, MeetsTests, cut_off_test, failed, failed_at, failed_by, failed_on, failed_remount, first_failed, if_there, is_short, refused_limits}
+use Rattle.hp_model.specs.machine.Tests.{IsForkRefusedBy, IsRefusedBy, MeetsTests, cut_off_test, failed, failed_at, failed_by}
+use Rattle.hp_model.specs.machine.Tests.{failed_mount, failed_on, failed_remount, first_failed, if_there, is_short, refused_limits}
 use Rattle.hp_model.specs.files.GiveBack.{punched, truncated, unlinked, unmapped_from}
-use Rattle.hp_model.specs.files.MakeMap.{asked, with_new}
-use Rattle.hp_model.specs.machine.Machine.{pool_of}
+use Rattle.hp_model.specs.files.MakeMap.{asked, tasks_of, with_new}
+use Rattle.hp_model.specs.machine.Machine.{pool_of, with_pool}
 use Rattle.hp_model.specs.pool.Grant.{is_full, is_over, rise}
 use Rattle.hp_model.specs.declared.section.PoolAnswer.{PoolAnswer}
 use Rattle.hp_model.specs.declared.section.Section.TheVariants.{Grant, GrantPage}
+use Rattle.hp_model.specs.pool.Pool.{section}
 use Rattle.hp_model.specs.pool.PoolCounts.{Pool}
 use Rattle.hp_model.specs.pool.Resize.{pool_event}
 use Rattle.hp_model.specs.declared.step.Reserving.{Reserving}
 use Rattle.hp_model.specs.declared.event.PoolEvent.{PoolEvent}
-use Rattle.hp_model.specs.Profile.{most_bytes, most_file_pages, most_files, most_overcommit}
+use Rattle.hp_model.specs.Profile.{most_bytes, most_file_pages, most_files, most_maps, most_overcommit, most_tasks}
 use Rattle.hp_laws.proofs.ending.Fades.{exits_done}
+use Rattle.hp_laws.proofs.ending.RefusedForks.{either_with}
+use Rattle.hp_laws.proofs.promises.Shortage.{exits_lead}
+use Rattle.hp_laws.proofs.steps.SlotsBalanced.{tells_nr}
 use Rattle.hp_laws.proofs.steps.Outcomes.{Always, always_if, always_then, event_ends, only_goes, outcome_if, reply_of}
 use Rattle.hp_laws.proofs.making.Remounts.{remount_ends, remount_told}
 use Rattle.hp_laws.proofs.accesses.SlotShows.{always_gives}
@@ -379,14 +386,114 @@ module _ (s : State) (reply : Reply) (t : State) where
           subst (λ (o : Slot). IsRefusedBy (if_there o NoSuchSlot (λ m. failed_remount k (limits s.nr s.page_size (wanted_of options)))) reply)
           (sym (get_or_past s.slots k None (ltb-false k (length s.slots) none))) it.0
 
+  -- ---- a mount
+
+  mount_meets : (k : ℕ) (options : List ℕ) → IsScripted s (step.Mount k options) reply t → IsRefusedBy (failed s (step.Mount k options)) reply
+  mount_meets k options is = by_test (nat_lt k (length s.slots)) is
+    where
+      by_limits : (c : Choice) (a : PoolAnswer) (l : ResultOf Limits Refusal) → IsRefusedBy (refused_limits l) (reply_of (mount_outcome c a l))
+      by_limits c a (Err r) = refl
+      by_limits c a (Ok l) = by_tests c.refused a.granted c.after_grant
+        where
+          by_tests : (refused granted late : Bool) → Short (if refused then Refused OutOfMemory else if not granted then Refused NoPages
+              else if late then Refused OutOfMemory else Answered Done (Some (record { limits = l; files = [] })))
+          by_tests true granted late = refl
+          by_tests false false late = refl
+          by_tests false true true = refl
+          by_tests false true false = refl
+
+      settled_reply : (u : State) (o : Outcome) → (settled u k o).0 ≡ reply_of o
+      settled_reply u (Refused r) = refl
+      settled_reply u (Answered a new) = refl
+
+      by_slot : (c : Choice) (old : Slot) → planned s k (slot_event s.page_size k c old (slot.Mount options)) ≡ (reply, t)
+          → IsRefusedBy (failed_mount old (limits s.nr s.page_size (wanted_of options))) reply
+      by_slot c (Some m) e = sym (ap (λ (q : Reply × State). q.0) e)
+      by_slot c None e =
+          let l = limits s.nr s.page_size (wanted_of options) in
+          let d : ℕ = mount_pages c l in
+          let q : PoolAnswer × Pool = section (pool_of s) (mount_section c d) in
+          let at : settled (with_pool s q.1) k (mount_outcome c q.0 l) ≡ (reply, t) =
+          subst (λ nr. settled (with_pool s q.1) k (mount_outcome c q.0 (limits nr s.page_size (wanted_of options))) ≡ (reply, t)) (tells_nr (pool_of s) c.after_grant d) e in
+          subst (λ r. IsRefusedBy (refused_limits l) r) (sym (settled_reply (with_pool s q.1) (mount_outcome c q.0 l)) ∙ ap (λ (x : Reply × State). x.0) at) (by_limits c q.0 l)
+
+      by_test : (b : Bool) → IsScript s (if b then only (OnSlot k (slot.Mount options)) else Answer_with (Err NoSuchSlot)) reply t
+          → IsRefusedBy (if b then failed_mount (slot_at s k) (limits s.nr s.page_size (wanted_of options)) else Some NoSuchSlot) reply
+      by_test true it = (let e = only_goes s (OnSlot k (slot.Mount options)) reply t it in by_slot e.0 (slot_at s k) e.2)
+      by_test false it = it.0
+
+  -- ---- a fork
+
+  -- what a fork's slots lead to
+  abbrev Forked : Reply → Type 0
+  Forked r = (is_short r ≡ true) ⊎ (r ≡ Err TooMany)
+
+  abbrev ForkedTo : Outcome → Type 0
+  ForkedTo (Refused r) = Forked (Err r)
+  ForkedTo (Answered a new) = Unit {0}
+
+  fork_event : (parent child : ℕ) (size k : ℕ) (c : Choice) (m : Mount) → Always ForkedTo (slot_event size k c (Some m) (slot.ForkMaps parent child))
+  fork_event parent child size k c m =
+      cond_both (nat_lt most_maps (length (maps_of (forked parent child m))) || nat_lt most_tasks (length (tasks_of (forked parent child m)))) (refuse TooMany)
+      (if c.refused then refuse OutOfMemory else gives Done (Some m) (Some (forked parent child m))) (Always ForkedTo) (λ e. inr refl)
+      (λ e. cond_both c.refused (refuse OutOfMemory) (gives Done (Some m) (Some (forked parent child m))) (Always ForkedTo) (λ e. inl refl)
+      (λ e. always_gives ForkedTo Done (Some m) (Some (forked parent child m)) tt))
+
+  undone_meets : (done : List ℕ) (child : ℕ) (r : Refusal) → Forked (Err r) → (u : State) → IsScript u (undone done child r) reply t → Forked reply
+  undone_meets done child r h u is = exits_lead reply t (Forked reply) child done _ (λ v it. subst Forked (sym it.3.0) h) u is
+
+  slots_meet : (parent child : ℕ) (ks done : List ℕ) (u : State) → IsScript u (fork_slots ks done parent child) reply t → Forked reply
+  slots_meet parent child [] done u is = inl (ap is_short is.0)
+  slots_meet parent child (k ∷ ks) done u is =
+      either_with (has_maps_of parent (slot_at u k))
+      (λ has it. by_reply it.0 it.1 (by_slot (slot_at u k) refl has it.0 it.1 it.2) (λ next. slots_meet parent child ks (done ++ k ∷ []) it.1 next) it.3)
+      (λ none it. slots_meet parent child ks done u it) is
+    where
+      by_outcome : (o : Outcome) (r : Reply) → ForkedTo o → r ≡ reply_of o → Forked r
+      by_outcome (Refused x) r h e = subst Forked (sym e) h
+      by_outcome (Answered a new) r h e = inl (ap is_short e)
+
+      by_slot : (old : Slot) → slot_at u k ≡ old → has_maps_of parent old ≡ true → (r : Reply) (v : State) → IsEvent u (OnSlot k (slot.ForkMaps parent child)) r v → Forked r
+      by_slot None there has r v is = cc
+      by_slot (Some m) there has r v is =
+          let ends = event_ends ForkedTo u k (slot.ForkMaps parent child) r v
+          (λ c. subst (λ x. Always ForkedTo (slot_event u.page_size k c x (slot.ForkMaps parent child))) (sym there) (fork_event parent child u.page_size k c m)) is in
+          by_outcome ends.outcome r ends.holds ends.replied
+
+      by_reply : (r : Reply) (mid : State) → Forked r → (IsScript mid (fork_slots ks (done ++ k ∷ []) parent child) reply t → Forked reply)
+          → IsScript mid (or_undone done child r (fork_slots ks (done ++ k ∷ []) parent child)) reply t → Forked reply
+      by_reply (Err r) mid h next it = undone_meets done child r h mid it
+      by_reply (Ok a) mid h next it = next it
+
+  fork_meets : (parent child : ℕ) → IsScripted s (step.Fork parent child) reply t → IsForkRefusedBy (failed s (step.Fork parent child)) reply
+  fork_meets parent child is = by_home (home_of s.table parent) is.0 is.1 is.2.2 is.3
+    where
+      by_tests : (home : ℕ) (known crowded : Bool) (q : Reply) (mid : State)
+          → with_table s (or_refused ((known, TaskExists) ∷ (crowded, TooMany) ∷ []) s.table (Ok Done, added s.table child home)) ≡ (q, mid)
+          → IsScript mid (when_done q (fork_slots ks [] parent child)) reply t → IsForkRefusedBy (first_failed ((known, TaskExists) ∷ (crowded, TooMany) ∷ [])) reply
+      by_tests home true crowded q mid e go =
+          (subst (λ y. IsScript mid (when_done y (fork_slots ks [] parent child)) reply t) (sym (ap (λ (x : Reply × State). x.0) e)) go).0
+      by_tests home false true q mid e go =
+          (subst (λ y. IsScript mid (when_done y (fork_slots ks [] parent child)) reply t) (sym (ap (λ (x : Reply × State). x.0) e)) go).0
+      by_tests home false false q mid e go =
+          slots_meet parent child ks [] mid (subst (λ y. IsScript mid (when_done y (fork_slots ks [] parent child)) reply t) (sym (ap (λ (x : Reply × State). x.0) e)) go)
+
+      by_home : (o : Option ℕ) (q : Reply) (mid : State)
+          → with_table s (when_known s.table o (λ home. or_refused ((is_known s.table child, TaskExists) ∷ (is_crowded s.table, TooMany) ∷ []) s.table (Ok Done, added s.table child home))) ≡ (q, mid)
+          → IsScript mid (when_done q (fork_slots ks [] parent child)) reply t
+          → IsForkRefusedBy (if_there o NoSuchTask (λ home. first_failed ((is_known s.table child, TaskExists) ∷ (is_crowded s.table, TooMany) ∷ []))) reply
+      by_home None q mid e go =
+          (subst (λ y. IsScript mid (when_done y (fork_slots ks [] parent child)) reply t) (sym (ap (λ (x : Reply × State). x.0) e)) go).0
+      by_home (Some home) q mid e go = by_tests home (is_known s.table child) (is_crowded s.table) q mid e go
+
   scripted_meets : (x : Step) → IsScripted s x reply t → MeetsTests s x reply
   scripted_meets (step.Connect task home) is =
       subst (λ r. IsRefusedBy (failed s (step.Connect task home)) r) (ap (λ (q : Reply × State). q.0) (only_goes s (Tasks (table.Add task home)) reply t is).2)
       (table_meets ((nat_le (length s.nodes) home, NoSuchNode) ∷ (is_known s.table task, TaskExists) ∷ (is_crowded s.table, TooMany) ∷ []) s.table (added s.table task home))
   scripted_meets (step.Attach task) is = attach_meets task (only_goes s (Tasks (table.Find task)) reply t is)
-  scripted_meets (step.Fork parent child) is = tt
+  scripted_meets (step.Fork parent child) is = fork_meets parent child is
   scripted_meets (step.Exit task) is = exit_meets task is
-  scripted_meets (step.Mount k options) is = tt
+  scripted_meets (step.Mount k options) is = mount_meets k options is
   scripted_meets (step.Remount k options) is = remount_meets k options is
   scripted_meets (step.Umount k) is = slot_meets k (step.Umount k) slot.Umount (λ c. of_umount s.page_size k c (slot_at s k)) is
   scripted_meets (step.Create k name) is = slot_meets k (step.Create k name) (slot.Create name) (λ c. of_create s.page_size k c (slot_at s k) name) is

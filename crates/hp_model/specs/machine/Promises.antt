@@ -24,6 +24,7 @@ use Rattle.hp_model.specs.files.File.{File, cell_at, has_page, is_entered, new_f
 pub use Rattle.hp_model.specs.files.File.{file_in, map_in}
 use Rattle.hp_model.specs.files.GiveBack.{without_task}
 use Rattle.hp_model.specs.machine.Gone.{IsGone}
+use Rattle.hp_model.specs.machine.Held.{AreOnce, MakesOnly, are_held}
 use Rattle.hp_model.specs.machine.Kept.{KeepsOwn, is_on}
 pub use Rattle.hp_model.specs.machine.Lost.{IsLost, IsLostTo, is_same_copy}
 use Rattle.hp_model.specs.machine.Machine.{committed_pages, counts_in, pool_of}
@@ -34,6 +35,8 @@ pub use Rattle.hp_model.specs.machine.Named.{is_at, is_in, is_shared_of, map_nam
 use Rattle.hp_model.specs.files.MountCounts.{usage_of}
 use Rattle.hp_model.specs.pool.NodeRows.{total_of}
 use Rattle.hp_model.specs.files.Page.{zeros}
+pub use Rattle.hp_model.specs.machine.Pages.{pages_of_file}
+use Rattle.hp_model.specs.machine.Pages.{Cuts, Touches, can_have_page}
 use Rattle.hp_model.specs.machine.Plan.{Reply, Slot}
 use Rattle.hp_model.specs.files.Reserved.{is_reserved}
 use Rattle.hp_model.specs.pool.Resize.{node_counts}
@@ -46,7 +49,7 @@ use Rattle.hp_model.specs.machine.SlotEvent.{bytes_answer}
 use Rattle.hp_model.specs.files.Spot.{Spot}
 use Rattle.hp_model.specs.machine.State.{State, slot_at, with_slot}
 use Rattle.hp_model.specs.machine.Step.{IsStep}
-use Rattle.hp_model.specs.machine.Table.{home_of}
+use Rattle.hp_model.specs.machine.Table.{home_of, is_known}
 pub use Rattle.hp_model.specs.machine.Tests.{is_cut_off, is_for_pages}
 use Rattle.hp_model.specs.machine.Tests.{MeetsTests}
 use Rattle.hp_model.specs.files.Value.{shown, value}
@@ -290,10 +293,6 @@ IsNewAnon old new task number n sharing reserving =
 abbrev pub IsNewFile : (old new : Slot) → List ℕ → Type 0
 IsNewFile old new name = (named_on old name ≡ None) × ((place : ℕ) × (named_on new name ≡ Some (place, new_file (Some name))))
 
-abbrev pub pages_of_file : Option (ℕ × File) → ℕ
-pages_of_file None = 0
-pages_of_file (Some f) = length f.1.cells
-
 -- the file of the name is as long as it was, or reaches to b where that is longer, and has a page at each index of the range
 pub record HasPages (old new : Slot) (name : List ℕ) (a b : ℕ) : Type 0 where
   pub file : ℕ × File
@@ -403,10 +402,10 @@ pub record LeavesOthers (s : State) (child : ℕ) (t : State) : Type 0 where
   pub overcommit : t.overcommit ≡ s.overcommit
   pub slots : (slot : ℕ) → IsForkLeft child (slot_at s slot) (slot_at t slot)
 
--- a refused step leaves everything as it was
+-- a refused step leaves everything as it was; a fork so where its child is a task already
 abbrev pub LeavesAll : State → Step → Reply → State → Type 0
 LeavesAll s step (Ok a) t = Unit {0}
-LeavesAll s (Fork parent child) (Err r) t = LeavesOthers s child t
+LeavesAll s (Fork parent child) (Err r) t = MatchBool (is_known s.table child) (t ≡ s) (LeavesOthers s child t)
 LeavesAll s step (Err r) t = MatchBool (is_late_step step r) (SameButNodes s t) (t ≡ s)
 
 -- ---- what mounts keep
@@ -432,6 +431,7 @@ is_usage step = false
 
 -- ---- a step
 
+-- what people rely on; exactly what a step does, down to the node of each page, is `IsStep`
 pub record IsPromised (s : State) (step : Step) (reply : Reply) (t : State) : Type 0 where
   -- an access at an index reserved to its map, and an owner's write into its copy, are never refused for want of a huge page
   pub reserved : is_backed_step s step ≡ true → wants_page reply ≡ false
@@ -441,6 +441,8 @@ pub record IsPromised (s : State) (step : Step) (reply : Reply) (t : State) : Ty
   pub limits : (slot : ℕ) → slot < length s.slots → slot_usage (slot_at s slot) < slot_usage (slot_at t slot) → IsWithinLimit (slot_at t slot)
   -- a mount stays until its umount, and its limits until its umount or a remount
   pub mounts : (slot : ℕ) → is_relimited step reply slot ≡ false → SameLimits (slot_at s slot) (slot_at t slot)
+  -- a step that does not lower nr leaves surplus pages within overcommit, or no more than there were
+  pub surplus : s.nr ≤ t.nr → (counts_in t).surp ≤ max s.overcommit (counts_in s).surp
   -- the pool has the pages of each mount's minimum, beside all that is committed to the other mounts
   pub minimums : (slot : ℕ) → least_of (slot_at t slot) + committed_pages (with_slot t slot None) ≤ total_of (pool_of t).nodes.rows
   -- a load answers what its map showed
@@ -466,6 +468,13 @@ pub record IsPromised (s : State) (step : Step) (reply : Reply) (t : State) : Ty
       → SameFiles (p.file_no == o.file_no) (map_named t slot a.0 a.1) (map_named t slot b.0 b.1)
   -- an access through a marked map is refused where it has no copy
   pub cut_off : is_cut_off_step s step ≡ true → is_refused reply ≡ true
+  -- an owner takes a copy back only where no page could be had
+  pub taken : (slot task number i : ℕ) (p q : Spot) → map_named s slot task number ≡ Some p → map_named t slot task number ≡ Some q
+      → LosesTo s step t slot p q i → can_have_page (pool_of s) (slot_at s slot) ≡ false
+  -- an access that is answered leaves its page there for its map
+  pub touched : Touches step reply t
+  -- a truncate and a punch leave the file its length, and of what they cut no page and no copy
+  pub cuts : Cuts s step reply t
   -- what the step makes of tasks, nr and overcommit, and nothing else does
   pub settings : IsSet s step reply t
   -- a mount has the limits that its options mean, and a remount leaves its files and maps as they were
@@ -478,6 +487,12 @@ pub record IsPromised (s : State) (step : Step) (reply : Reply) (t : State) : Ty
   pub forks : Forks s step reply t
   -- what a step ends is gone: a mount, a task's maps, a file's name, and the number of a map that is all unmapped
   pub gone : IsGone s step reply t
+  -- a file that has neither name nor map is gone, with its pages and entries
+  pub held : (slot : ℕ) → are_held (slot_at s slot) ≡ true → are_held (slot_at t slot) ≡ true
+  -- no name has a file, and no number a map, that had none, but what the step makes
+  pub only : MakesOnly s step reply t
+  -- a name is of one file, and a task's number of one map
+  pub once : (slot : ℕ) → AreOnce (slot_at t slot)
   -- a step that only reads leaves all files, maps and reservations as they were
   pub reads : only_reads step ≡ true → t.slots ≡ s.slots
   -- on its own slot a step leaves the places of all maps and the cells of all files as they were, what is reserved with them, but for
@@ -490,7 +505,8 @@ pub record IsPromised (s : State) (step : Step) (reply : Reply) (t : State) : Ty
   -- one that is refused for want of pages lacks what it asks for, in its mount or in the pool
   pub short : MeetsShortage s step reply
 
--- these steps may be refused memory: one that makes a file, a map or a list of names, a preallocation, a fork, and an access that nothing backs
+-- these steps may be refused memory: one that makes a file, a map or a list of names, a preallocation, a fork, and an access that no
+-- reservation backs, nor, where it writes, an owner's copy. A load of a copy is among them here, though the machine refuses it none
 abbrev pub takes_memory : State → Step → Bool
 takes_memory s (CreateStep k name) = true
 takes_memory s (Ls k) = true

@@ -1,5 +1,5 @@
 -- The tests of a step, in their order: refusals that want for neither pages nor memory.
-use Rattle.std.specs.Prelude.{◌≡◌, ℕ, ◌&&◌, ◌==◌, Bool, true, false, not, Option, None, Some, is_some, Ok, Err, List, Result, [], ◌∷◌, ◌++◌, length, if◌then◌else◌, nat_le, nat_lt}
+use Rattle.std.specs.Prelude.{◌≡◌, ◌⊎◌, ℕ, ◌&&◌, ◌==◌, Bool, true, false, not, Option, None, Some, is_some, Ok, Err, List, Result, [], ◌∷◌, ◌++◌, length, if◌then◌else◌, nat_le, nat_lt}
 use Rattle.hp_model.specs.declared.limits.Limits.{Limits}
 use Rattle.hp_model.specs.declared.refusal.Refusal.{Refusal}
 use Rattle.hp_model.specs.declared.refusal.Refusal.TheVariants.{MountFull, NoPages, NoSuchFile, NoSuchMap, NoSuchNode, NoSuchSlot, NoSuchTask}
@@ -11,7 +11,7 @@ use Rattle.hp_model.specs.files.File.{Mount}
 use Rattle.hp_model.specs.files.Mapping.{copy_of, is_map, is_shared, place_at}
 use Rattle.hp_model.specs.files.Options.{limits, wanted_of}
 use Rattle.hp_model.specs.files.Spot.{Spot, spot}
-use Rattle.hp_model.specs.machine.Plan.{Choice, Reply}
+use Rattle.hp_model.specs.machine.Plan.{Choice, Reply, Slot}
 use Rattle.hp_model.specs.machine.SlotEvent.{anon_tests, byte_tests, create_tests, fault_tests, file_named, is_bad_range, map_tests, preallocate_tests, read_tests, umount_tests}
 use Rattle.hp_model.specs.machine.State.{State, slot_at}
 use Rattle.hp_model.specs.machine.Table.{home_of, is_crowded, is_known}
@@ -48,9 +48,13 @@ refused_limits (Err r) = Some r
 abbrev pub failed_remount : (slot : ℕ) → Result Limits Refusal → Option Refusal
 failed_remount slot l = if slot == 0 then Some SlotTaken else refused_limits l
 
+-- a mount on this slot, whose options mean these limits
+abbrev pub failed_mount : (old : Slot) → Result Limits Refusal → Option Refusal
+failed_mount (Some m) l = Some SlotTaken
+failed_mount None l = refused_limits l
+
 -- of a step on a slot with this mount, once its task is found
 abbrev pub failed_on : (size : ℕ) → Mount → Step → Option Refusal
-failed_on size m (MountStep k options) = Some SlotTaken
 failed_on size m (Umount k) = first_failed (umount_tests k m)
 failed_on size m (Create k name) = first_failed (create_tests with_memory m name)
 failed_on size m (Unlink k name) = if_there (file_named m name) NoSuchFile (λ f. None)
@@ -80,8 +84,12 @@ failed_by s task k step = if_there (home_of s.table task) NoSuchTask (λ home. f
 abbrev pub failed : State → Step → Option Refusal
 failed s (Connect task home) = first_failed ((nat_le (length s.nodes) home, NoSuchNode) ∷ (is_known s.table task, TaskExists) ∷ (is_crowded s.table, TooMany) ∷ [])
 failed s (Attach task) = if_there (home_of s.table task) NoSuchTask (λ home. None)
+failed s (Fork parent child) =
+    if_there (home_of s.table parent) NoSuchTask (λ home. first_failed ((is_known s.table child, TaskExists) ∷ (is_crowded s.table, TooMany) ∷ []))
 failed s (Exit task) = if_there (home_of s.table task) NoSuchTask (λ home. None)
 failed s (Overcommit n) = first_failed ((not (nat_le n most_overcommit), OutOfRange) ∷ [])
+failed s (MountStep k options) =
+    if nat_lt k (length s.slots) then failed_mount (slot_at s k) (limits s.nr s.page_size (wanted_of options)) else Some NoSuchSlot
 failed s (Remount k options) =
     if_there (slot_at s k) NoSuchSlot (λ m. failed_remount k (limits s.nr s.page_size (wanted_of options)))
 failed s (Umount k) = failed_at s k (Umount k)
@@ -119,9 +127,12 @@ abbrev pub IsRefusedBy : Option Refusal → Reply → Type 0
 IsRefusedBy (Some r) reply = reply ≡ Err r
 IsRefusedBy None reply = is_short reply ≡ true
 
--- a step is refused by the first test that it fails; one that fails none is done, if there are pages and memory. What a mount's options
--- mean, and how many maps a slot may have after a fork, are told elsewhere
+-- a fork that fails none of its tests may be refused too for the maps that a slot would have, of which no more is said
+abbrev pub IsForkRefusedBy : Option Refusal → Reply → Type 0
+IsForkRefusedBy (Some r) reply = reply ≡ Err r
+IsForkRefusedBy None reply = (is_short reply ≡ true) ⊎ (reply ≡ Err TooMany)
+
+-- a step is refused by the first test that it fails; one that fails none is done, if there are pages and memory
 abbrev pub MeetsTests : State → Step → Reply → Type 0
-MeetsTests s (MountStep k options) reply = Unit {0}
-MeetsTests s (Fork parent child) reply = Unit {0}
+MeetsTests s (Fork parent child) reply = IsForkRefusedBy (failed s (Fork parent child)) reply
 MeetsTests s step reply = IsRefusedBy (failed s step) reply

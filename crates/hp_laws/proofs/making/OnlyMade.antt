@@ -1,0 +1,417 @@
+-- No name and no number is new on a slot but what its event makes, and no file is left that nobody has.
+use Rattle.std.proofs.Common.{◌≡◌, ⊎_elim, ℕ, zero, suc, ◌+◌, ◌&&◌, ◌||◌, ◌==◌, Bool, true, false, not, None, Option}
+use Rattle.std.proofs.Common.{Some, List, [], ◌∷◌, ◌++◌, length, map, option_map, is_some, nat_lt, refl, sym, ap, ◌∙◌, arith}
+use Rattle.std.specs.List.{count_by, filter, filter_map, list_all, list_any, slice_set}
+use Rattle.std.specs.Str.{bytes_eq}
+use Rattle.std.proofs.lemmas.Bool.{and_parts, cond_both, lt-ltb, or_cases, or_right}
+use Rattle.std.proofs.lemmas.List.{length-map}
+use Rattle.std.proofs.lemmas.List.Folds.{list_all-append, list_any_at}
+use Rattle.hp_model.specs.declared.answer.Answer.{Answer}
+use Rattle.hp_model.specs.declared.answer.Answer.TheVariants.{Done, MapNo, Names, Stat as StatAnswer, Usage}
+use Rattle.hp_model.specs.declared.cell.Cell.{Cell}
+use Rattle.hp_model.specs.declared.event.SlotEvent.{SlotEvent}
+use Rattle.hp_model.specs.declared.event.SlotEvent.TheVariants as slot
+use Rattle.hp_model.specs.declared.limits.Limits.{Limits}
+use Rattle.hp_model.specs.declared.refusal.Refusal.TheVariants.{NoSuchFile, NoSuchMap, OutOfMemory, OutOfRange}
+use Rattle.hp_model.specs.files.File.{File, Mount, cell_at, has_page, is_entered, new_file, with_file}
+use Rattle.hp_model.specs.files.Fill.{lacking, range_filled, rising_nodes}
+use Rattle.hp_model.specs.files.Fork.{file_forked, forked}
+use Rattle.hp_model.specs.files.GiveBack.{file_unmapped, file_without, is_kept, is_left, map_unmapped, punched, swept, truncated, unlinked, unmapped_from, without_task}
+use Rattle.hp_model.specs.files.MakeMap.{asked, mapped, new_map, next_number, with_new}
+use Rattle.hp_model.specs.files.Mapping.{Map, is_map, is_of, map_for, map_punched, without_range}
+use Rattle.hp_model.specs.files.MountCounts.{usage_of}
+use Rattle.hp_model.specs.files.Page.{Page}
+use Rattle.hp_model.specs.files.Spot.{spot, spot_in}
+use Rattle.hp_model.specs.files.Value.{shown}
+use Rattle.hp_model.specs.Lists.{found}
+use Rattle.hp_model.specs.machine.Held.{are_held}
+use Rattle.hp_model.specs.machine.Named.{named_on, spot_on}
+use Rattle.hp_model.specs.machine.Plan.{Answered, Choice, Finish, Outcome, Refused, Slot, gives, grant}
+use Rattle.hp_model.specs.machine.Promises.{shape_of}
+use Rattle.hp_model.specs.machine.SlotEvent.{anon_tests, bytes_answer, create_tests, edited, file_named, fork_tests, has_name, is_bad_range}
+use Rattle.hp_model.specs.machine.SlotEvent.{map_file, map_tests, on_mount, preallocate, punch, read, read_tests}
+use Rattle.hp_model.specs.machine.SlotEvent.{slot_event, stat, truncate, umount_tests, unlink, unmap}
+use Rattle.hp_model.specs.Profile.{most_file_pages}
+use Rattle.hp_laws.specs.Balance.{Always}
+use Rattle.hp_laws.proofs.accesses.Shown.{On}
+use Rattle.hp_laws.proofs.accesses.SlotShows.{always_gives, always_grant, always_mount, always_preallocate, always_remount, always_unless, always_value}
+use Rattle.hp_laws.proofs.counts.MountMoves.{IsFileAt, file_at}
+use Rattle.hp_laws.proofs.lists.Places.{any_filter, any_map_down, any_of_set, found_place}
+use Rattle.hp_laws.proofs.making.FilesMade.{any_append, found_none, spot_in_file, spot_none, in_file}
+use Rattle.hp_laws.proofs.making.NewNumbers.{found_not}
+use Rattle.hp_laws.proofs.names.Accessed.{file_put}
+use Rattle.hp_laws.proofs.names.Keys.{FileKey, any_mapped, file_key, has_key, is_key, is_named, keys}
+use Rattle.hp_laws.proofs.names.Meanings.{fault_on, load_on, store_on}
+use Rattle.hp_laws.proofs.steps.Outcomes.{always_weaker}
+
+-- ---- files of a slot
+
+abbrev pub has_map : (task number : ℕ) → File → Bool
+has_map task number f = list_any (is_map task number) f.maps
+
+abbrev pub any_file : (File → Bool) → Slot → Bool
+any_file t None = false
+any_file t (Some m) = list_any t m.files
+
+-- y has no other names and numbers than x, but those that are made; and no file that nobody has, if x has none
+pub record NoMore (made : List ℕ → Bool) (new : ℕ → ℕ → Bool) (x y : Slot) : Type 0 where
+  pub held : are_held x ≡ true → are_held y ≡ true
+  pub names : (name : List ℕ) → made name ≡ false → any_file (has_name name) y ≡ true → any_file (has_name name) x ≡ true
+  pub numbers : (task number : ℕ) → new task number ≡ false → any_file (has_map task number) y ≡ true → any_file (has_map task number) x ≡ true
+
+pub no_more : (made : List ℕ → Bool) (new : ℕ → ℕ → Bool) (x : Slot) → NoMore made new x x
+no_more made new x = record { held = λ e. e; names = λ name off is. is; numbers = λ task number off is. is }
+
+-- where more may be made
+pub more_made : (made made_too : List ℕ → Bool) (new new_too : ℕ → ℕ → Bool) (x y : Slot) → ((name : List ℕ) → made_too name ≡ false → made name ≡ false)
+    → ((task number : ℕ) → new_too task number ≡ false → new task number ≡ false) → NoMore made new x y → NoMore made_too new_too x y
+more_made made made_too new new_too x y a b h =
+    record { held = h.held; names = λ name off. h.names name (a name off); numbers = λ task number off. h.numbers task number (b task number off) }
+
+pub no_more_then : (made : List ℕ → Bool) (new : ℕ → ℕ → Bool) (x y z : Slot) → NoMore made new x y → NoMore made new y z → NoMore made new x z
+no_more_then made new x y z a b = record {
+  held = λ e. b.held (a.held e);
+  names = λ name off is. a.names name off (b.names name off is);
+  numbers = λ task number off is. a.numbers task number off (b.numbers task number off is);
+}
+
+-- ---- what is found nowhere
+
+pub name_absent : (name : List ℕ) (x : Slot) → named_on x name ≡ None → any_file (has_name name) x ≡ false
+name_absent name None e = refl
+name_absent name (Some m) e = found_none (has_name name) m.files e
+
+pub name_none : (name : List ℕ) (x : Slot) → any_file (has_name name) x ≡ false → named_on x name ≡ None
+name_none name None e = refl
+name_none name (Some m) e = found_not (has_name name) m.files e
+
+pub number_none : (task number : ℕ) (x : Slot) → any_file (has_map task number) x ≡ false → spot_on x task number ≡ None
+number_none task number None e = refl
+number_none task number (Some m) e = spot_none m (is_map task number) (found_not (has_map task number) m.files e)
+
+pub number_absent : (task number : ℕ) (x : Slot) → spot_on x task number ≡ None → any_file (has_map task number) x ≡ false
+number_absent task number None e = refl
+number_absent task number (Some m) e = by_file (found (has_map task number) m.files) refl (sym (spot_in_file m (is_map task number)) ∙ e)
+  where
+    by_map : (f : ℕ × File) → has_map task number f.1 ≡ true → (o : Option (ℕ × Map)) → found (is_map task number) f.1.maps ≡ o
+        → option_map (spot_in f) o ≡ None → list_any (has_map task number) m.files ≡ false
+    by_map f some None was e = (let none = found_none (is_map task number) f.1.maps was in cc)
+    by_map f some (Some q) was e = cc
+
+    by_file : (o : Option (ℕ × File)) → found (has_map task number) m.files ≡ o → in_file (is_map task number) o ≡ None → list_any (has_map task number) m.files ≡ false
+    by_file None was e = found_none (has_map task number) m.files was
+    by_file (Some f) was e = by_map f (found_place (has_map task number) m.files f was).passes (found (is_map task number) f.1.maps) refl e
+
+-- ---- the same keys
+
+all_mapped : {X K : Type 0} (t : K → Bool) (key : X → K) (xs : List X) → list_all (λ x. t (key x)) xs ≡ list_all t (map key xs)
+all_mapped t key [] = refl
+all_mapped t key (x ∷ xs) = ap (λ b. t (key x) && b) (all_mapped t key xs)
+
+any_keyed : {X K : Type 0} (t : K → Bool) (key : X → K) (xs : List X) → list_any (λ x. t (key x)) xs ≡ list_any t (map key xs)
+any_keyed t key [] = refl
+any_keyed t key (x ∷ xs) = ap (λ b. t (key x) || b) (any_keyed t key xs)
+
+same_all : {X : Type 0} (t u : X → Bool) → ((x : X) → t x ≡ u x) → (xs : List X) → list_all t xs ≡ list_all u xs
+same_all t u h [] = refl
+same_all t u h (x ∷ xs) = rw (h x, same_all t u h xs) refl
+
+same_any : {X : Type 0} (t u : X → Bool) → ((x : X) → t x ≡ u x) → (xs : List X) → list_any t xs ≡ list_any u xs
+same_any t u h [] = refl
+same_any t u h (x ∷ xs) = rw (h x, same_any t u h xs) refl
+
+abbrev kept_key : FileKey → Bool
+kept_key k = is_some k.0 || nat_lt 0 (length k.1)
+
+kept_by_key : (f : File) → is_kept f ≡ kept_key (file_key f)
+kept_by_key f = ap (λ n. is_some f.name || nat_lt 0 n) (sym (length-map f.maps shape_of))
+
+pub same_keys : (made : List ℕ → Bool) (new : ℕ → ℕ → Bool) (m n : Mount) → keys n ≡ keys m → NoMore made new (Some m) (Some n)
+same_keys made new m n same = record {
+  held = λ e. all n ∙ ap (list_all kept_key) same ∙ sym (all m) ∙ e;
+  names = λ name off is. any_keyed (is_named name) file_key m.files ∙ ap (list_any (is_named name)) (sym same) ∙ sym (any_keyed (is_named name) file_key n.files) ∙ is;
+  numbers = λ task number off is. numbers task number m ∙ ap (list_any (has_key (is_key task number))) (sym same) ∙ sym (numbers task number n) ∙ is;
+}
+  where
+    all : (m : Mount) → list_all is_kept m.files ≡ list_all kept_key (keys m)
+    all m = same_all is_kept (λ f. kept_key (file_key f)) kept_by_key m.files ∙ all_mapped kept_key file_key m.files
+
+    numbers : (task number : ℕ) (m : Mount) → list_any (has_map task number) m.files ≡ list_any (has_key (is_key task number)) (keys m)
+    numbers task number m =
+        same_any (has_map task number) (λ f. has_key (is_key task number) (file_key f)) (λ f. any_mapped (is_key task number) f.maps) m.files
+        ∙ any_keyed (has_key (is_key task number)) file_key m.files
+
+-- ---- one file
+
+-- g has no other name and numbers than f
+record FileFewer (new : ℕ → ℕ → Bool) (f g : File) : Type 0 where
+  pub names : (name : List ℕ) → has_name name g ≡ true → has_name name f ≡ true
+  pub numbers : (task number : ℕ) → new task number ≡ false → has_map task number g ≡ true → has_map task number f ≡ true
+
+-- n has no others than m
+record Fewer (new : ℕ → ℕ → Bool) (m n : Mount) : Type 0 where
+  pub names : (name : List ℕ) → list_any (has_name name) n.files ≡ true → list_any (has_name name) m.files ≡ true
+  pub numbers : (task number : ℕ) → new task number ≡ false → list_any (has_map task number) n.files ≡ true → list_any (has_map task number) m.files ≡ true
+
+all_filter : {X : Type 0} (t : X → Bool) (xs : List X) → list_all t (filter t xs) ≡ true
+all_filter t [] = refl
+all_filter t (x ∷ xs) = by_test (t x) refl (all_filter t xs)
+  where
+    by_test : (b : Bool) → t x ≡ b → list_all t (filter t xs) ≡ true → list_all t (filter t (x ∷ xs)) ≡ true
+    by_test true is rest = rw (is, is) rest
+    by_test false is rest = rw is rest
+
+all_set : {X : Type 0} (t : X → Bool) (xs : List X) (k : ℕ) (y : X) → t y ≡ true → list_all t xs ≡ true → list_all t (slice_set xs k y) ≡ true
+all_set t [] k y is e = e
+all_set t (x ∷ xs) zero y is e = rw is (and_parts (t x) (list_all t xs) e).1
+all_set t (x ∷ xs) (suc k) y is e = (let parts = and_parts (t x) (list_all t xs) e in rw (parts.0) (all_set t xs k y is parts.1))
+
+module _ (made : List ℕ → Bool) (new : ℕ → ℕ → Bool) (m : Mount) where
+  put_fewer : (j : ℕ) (f g : File) → IsFileAt m j f → FileFewer new f g → Fewer new m (with_file m j g)
+  put_fewer j f g at fewer = record {
+    names = λ name is.
+        ⊎_elim (λ old. old) (λ here. list_any_at (has_name name) m.files j (new_file None) at.within (ap (has_name name) (at.is (new_file None)) ∙ fewer.names name here))
+        (any_of_set (has_name name) m.files j g is);
+    numbers = λ task number off is.
+        ⊎_elim (λ old. old)
+        (λ here. list_any_at (has_map task number) m.files j (new_file None) at.within (ap (has_map task number) (at.is (new_file None)) ∙ fewer.numbers task number off here))
+        (any_of_set (has_map task number) m.files j g is);
+  }
+
+  all_fewer : (h : File → File) → ((f : File) → FileFewer new f (h f)) → Fewer new m (record m { files = map h m.files })
+  all_fewer h each = record {
+    names = λ name is. any_map_down (has_name name) (has_name name) h (λ f e. (each f).names name e) m.files is;
+    numbers = λ task number off is. any_map_down (has_map task number) (has_map task number) h (λ f e. (each f).numbers task number off e) m.files is;
+  }
+
+  -- what is left of it when files without a name and without maps are gone
+  swept_fewer : (n : Mount) → Fewer new m n → NoMore made new (Some m) (Some (swept n))
+  swept_fewer n fewer = record {
+    held = λ e. all_filter is_kept n.files;
+    names = λ name off is. fewer.names name (any_filter (has_name name) is_kept n.files is);
+    numbers = λ task number off is. fewer.numbers task number off (any_filter (has_map task number) is_kept n.files is);
+  }
+
+  -- a map more
+  more_fewer : (f : File) (cells : List (Cell Page)) (x : Map) → ((task number : ℕ) → new task number ≡ false → is_map task number x ≡ false)
+      → FileFewer new f (record f { cells = cells; maps = f.maps ++ x ∷ [] })
+  more_fewer f cells x unlike = record {
+    names = λ name is. is;
+    numbers = λ task number off is.
+        ⊎_elim (λ old. old) (λ here. (let other = unlike task number off in cc))
+        (or_cases (has_map task number f) (is_map task number x || false) (sym (any_append (is_map task number) f.maps (x ∷ [])) ∙ is));
+  }
+
+  -- a file more
+  new_more : (f : File) → is_kept f ≡ true → ((name : List ℕ) → made name ≡ false → has_name name f ≡ false)
+      → ((task number : ℕ) → new task number ≡ false → has_map task number f ≡ false) → NoMore made new (Some m) (Some (with_new m f))
+  new_more f kept name_off number_off = record {
+    held = λ e. list_all-append is_kept m.files (f ∷ []) ∙ rw (e, kept) refl;
+    names = λ name off is. either (has_name name) (name_off name off) is;
+    numbers = λ task number off is. either (has_map task number) (number_off task number off) is;
+  }
+    where
+      either : (t : File → Bool) → t f ≡ false → list_any t (m.files ++ f ∷ []) ≡ true → list_any t m.files ≡ true
+      either t off is =
+          ⊎_elim (λ old. old) (λ here. (let none : (t f || false) ≡ false = rw off refl in cc))
+          (or_cases (list_any t m.files) (t f || false) (sym (any_append t m.files (f ∷ [])) ∙ is))
+
+  some_length : (xs : List Map) (x : Map) → nat_lt 0 (length (xs ++ x ∷ [])) ≡ true
+  some_length [] x = refl
+  some_length (y ∷ xs) x = lt-ltb 0 (length (y ∷ (xs ++ x ∷ []))) (omega arith)
+
+  -- a map more of a file
+  mapped_more : (j : ℕ) (f : File) (cells : List (Cell Page)) (x : Map) → IsFileAt m j f → ((task number : ℕ) → new task number ≡ false → is_map task number x ≡ false)
+      → NoMore made new (Some m) (Some (with_file m j (record f { cells = cells; maps = f.maps ++ x ∷ [] })))
+  mapped_more j f cells x at unlike =
+      let fewer = put_fewer j f (record f { cells = cells; maps = f.maps ++ x ∷ [] }) at (more_fewer f cells x unlike) in
+      record {
+        held = λ e. all_set is_kept m.files j (record f { cells = cells; maps = f.maps ++ x ∷ [] }) (or_right (is_some f.name) _ (some_length f.maps x)) e;
+        names = λ name off is. fewer.names name is;
+        numbers = fewer.numbers;
+      }
+
+-- ---- files that change
+
+module _ (new : ℕ → ℕ → Bool) where
+  unlinked_fewer : (f : File) → FileFewer new f (unlinked f)
+  unlinked_fewer f = record { names = λ name is. cc; numbers = λ task number off is. is }
+
+  truncated_fewer : (n : ℕ) (f : File) → FileFewer new f (truncated n f)
+  truncated_fewer n f = record {
+    names = λ name is. is;
+    numbers = λ task number off is. any_map_down (is_map task number) (is_map task number) (map_punched n (n + length f.cells)) (λ x e. e) f.maps is;
+  }
+
+  punched_fewer : (a b : ℕ) (f : File) → FileFewer new f (punched a b f)
+  punched_fewer a b f = record {
+    names = λ name is. is;
+    numbers = λ task number off is. any_map_down (is_map task number) (is_map task number) (map_punched a b) (λ x e. e) f.maps is;
+  }
+
+  unmapped_fewer : (t : Map → Bool) (a b : ℕ) (f : File) → FileFewer new f (file_unmapped t a b f)
+  unmapped_fewer t a b f = record {
+    names = λ name is. is;
+    numbers = λ task number off is.
+        any_map_down (is_map task number) (is_map task number) (map_unmapped t a b)
+        (λ x e. cond_both (t x) (without_range a b x) x (λ (y : Map). is_map task number y ≡ true → is_map task number x ≡ true) (λ on e. e) (λ other e. e) e) f.maps
+        (any_filter (is_map task number) (is_left t) (map (map_unmapped t a b) f.maps) is);
+  }
+
+  without_fewer : (task : ℕ) (f : File) → FileFewer new f (file_without task f)
+  without_fewer gone f = record { names = λ name is. is; numbers = λ task number off is. any_filter (is_map task number) (λ x. not (is_of gone x)) f.maps is }
+
+  is_child : (child task number : ℕ) (xs : List Map) → list_any (is_map task number) (map (map_for child) xs) ≡ true → (child == task) ≡ true
+  is_child child task number [] e = cc
+  is_child child task number (x ∷ xs) e =
+      ⊎_elim (λ here. (and_parts (child == task) (x.number == number) here).0) (λ there. is_child child task number xs there)
+      (or_cases (is_map task number (map_for child x)) (list_any (is_map task number) (map (map_for child) xs)) e)
+
+  forked_fewer : (parent child : ℕ) → ((task number : ℕ) → new task number ≡ false → (child == task) ≡ false) → (f : File) → FileFewer new f (file_forked parent child f)
+  forked_fewer parent child own f = record {
+    names = λ name is. is;
+    numbers = λ task number off is.
+        ⊎_elim (λ old. any_filter (is_map task number) (λ x. not (is_of child x)) f.maps old)
+        (λ made. (let on = is_child child task number (filter (is_of parent) f.maps) made in let no = own task number off in cc))
+        (or_cases (list_any (is_map task number) (filter (λ x. not (is_of child x)) f.maps)) (list_any (is_map task number) (map (map_for child) (filter (is_of parent) f.maps)))
+        (sym (any_append (is_map task number) (filter (λ x. not (is_of child x)) f.maps) (map (map_for child) (filter (is_of parent) f.maps))) ∙ is));
+  }
+
+-- a slot that a task's maps left
+pub without_more : (made : List ℕ → Bool) (new : ℕ → ℕ → Bool) (gone : ℕ) (x : Slot) → NoMore made new x (option_map (without_task gone) x)
+without_more made new gone None = no_more made new None
+without_more made new gone (Some m) =
+    swept_fewer made new m (record m { files = map (file_without gone) m.files }) (all_fewer made new m (file_without gone) (without_fewer new gone))
+
+-- ---- events
+
+-- the name of a file that the event makes
+abbrev pub made_by : SlotEvent → List ℕ → Bool
+made_by (slot.Create made) name = bytes_eq made name
+made_by e name = false
+
+-- the number of a map that it makes, answered so
+abbrev pub new_by : SlotEvent → Answer → (task number : ℕ) → Bool
+new_by (slot.Map owner home name a n sharing reserving) (MapNo made) task number = (owner == task) && (made == number)
+new_by (slot.Anon owner home n sharing reserving) (MapNo made) task number = (owner == task) && (made == number)
+new_by (slot.ForkMaps parent child) a task number = child == task
+new_by e a task number = false
+
+abbrev pub MakesNo : SlotEvent → Slot → Outcome → Type 0
+MakesNo e x (Refused r) = Unit {0}
+MakesNo e x (Answered a y) = NoMore (made_by e) (new_by e a) x y
+
+module _ (size k : ℕ) (c : Choice) (m : Mount) where
+  by_keys : (e : SlotEvent) (o : Outcome) → On (λ n. keys n ≡ keys m) o → MakesNo e (Some m) o
+  by_keys e (Refused r) on = tt
+  by_keys e (Answered a None) on = absurd on
+  by_keys e (Answered a (Some n)) on = same_keys (made_by e) (new_by e a) m n on
+
+  none_more : (made : List ℕ → Bool) (new : ℕ → ℕ → Bool) → NoMore made new (Some m) None
+  none_more made new = record { held = λ e. refl; names = λ name off is. cc; numbers = λ task number off is. cc }
+
+  -- the file of a name in another form, and what is swept
+  file_given : (e : SlotEvent) (q : ℕ × File) (g : File) → IsFileAt m q.0 q.1 → FileFewer (new_by e Done) q.1 g → Always (MakesNo e (Some m)) (gives Done (Some m) (edited m q.0 g))
+  file_given e q g at fewer =
+      always_gives (MakesNo e (Some m)) Done (Some m) (edited m q.0 g)
+      (swept_fewer (made_by e) (new_by e Done) m (with_file m q.0 g) (put_fewer (made_by e) (new_by e Done) m q.0 q.1 g at fewer))
+
+  files_given : (e : SlotEvent) (h : File → File) → ((f : File) → FileFewer (new_by e Done) f (h f))
+      → Always (MakesNo e (Some m)) (gives Done (Some m) (Some (swept (record m { files = map h m.files }))))
+  files_given e h each =
+      always_gives (MakesNo e (Some m)) Done (Some m) (Some (swept (record m { files = map h m.files })))
+      (swept_fewer (made_by e) (new_by e Done) m (record m { files = map h m.files }) (all_fewer (made_by e) (new_by e Done) m h each))
+
+  same : (e : SlotEvent) (a : Answer) → MakesNo e (Some m) (Answered a (Some m))
+  same e a = no_more (made_by e) (new_by e a) (Some m)
+
+  mount_makes : (e : SlotEvent) → Always (MakesNo e (Some m)) (on_mount size k c m e)
+  mount_makes (slot.Mount options) = tt
+  mount_makes (slot.Remount options) =
+      let e : SlotEvent = slot.Remount options in
+      always_remount (MakesNo e (Some m)) (λ r. tt) m (λ l. same_keys (made_by e) (new_by e Done) m (record m { limits = l }) refl) size k options
+  mount_makes slot.Umount =
+      always_unless (MakesNo slot.Umount (Some m)) (λ r. tt) (umount_tests k m) (gives Done (Some m) None)
+      (always_gives (MakesNo slot.Umount (Some m)) Done (Some m) None (none_more (made_by slot.Umount) (new_by slot.Umount Done)))
+  mount_makes (slot.Create name) =
+      let e : SlotEvent = slot.Create name in
+      always_unless (MakesNo e (Some m)) (λ r. tt) (create_tests c m name) (Finish (Answered Done (Some (with_new m (new_file (Some name))))))
+      (new_more (made_by e) (new_by e Done) m (new_file (Some name)) refl (λ other off. off) (λ task number off. refl))
+  mount_makes (slot.Unlink name) =
+      let e : SlotEvent = slot.Unlink name in
+      always_value (MakesNo e (Some m)) (λ r. tt) (file_named m name) NoSuchFile (unlink m)
+      (λ q named. file_given e q (unlinked q.1) (file_at m (has_name name) q named) (unlinked_fewer (new_by e Done) q.1))
+  mount_makes (slot.Truncate name n) =
+      let e : SlotEvent = slot.Truncate name n in
+      always_value (MakesNo e (Some m)) (λ r. tt) (file_named m name) NoSuchFile (truncate m n)
+      (λ q named. always_unless (MakesNo e (Some m)) (λ r. tt) ((nat_lt most_file_pages n, OutOfRange) ∷ []) (gives Done (Some m) (edited m q.0 (truncated n q.1)))
+      (file_given e q (truncated n q.1) (file_at m (has_name name) q named) (truncated_fewer (new_by e Done) n q.1)))
+  mount_makes (slot.Punch name a b) =
+      let e : SlotEvent = slot.Punch name a b in
+      always_value (MakesNo e (Some m)) (λ r. tt) (file_named m name) NoSuchFile (punch m a b)
+      (λ q named. always_unless (MakesNo e (Some m)) (λ r. tt) ((is_bad_range a b, OutOfRange) ∷ []) (gives Done (Some m) (edited m q.0 (punched a b q.1)))
+      (file_given e q (punched a b q.1) (file_at m (has_name name) q named) (punched_fewer (new_by e Done) a b q.1)))
+  mount_makes (slot.Preallocate name a b) =
+      let e : SlotEvent = slot.Preallocate name a b in
+      always_value (MakesNo e (Some m)) (λ r. tt) (file_named m name) NoSuchFile (preallocate c size m a b)
+      (λ q named. always_preallocate (MakesNo e (Some m)) (λ r. tt) c size m a b q (same e Done)
+      (λ pages. (let g = range_filled size a b (rising_nodes (lacking a b q.1) pages) q.1 in
+      same_keys (made_by e) (new_by e Done) m (with_file m q.0 g) (file_put m q.0 q.1 g (file_at m (has_name name) q named).is refl))))
+  mount_makes (slot.Read name i offset count) =
+      let e : SlotEvent = slot.Read name i offset count in
+      always_value (MakesNo e (Some m)) (λ r. tt) (file_named m name) NoSuchFile (read size m i offset count)
+      (λ q named. always_unless (MakesNo e (Some m)) (λ r. tt) (read_tests size i offset count q.1) (Finish (Answered (bytes_answer offset count (shown size (cell_at q.1 i))) (Some m)))
+      (same e (bytes_answer offset count (shown size (cell_at q.1 i)))))
+  mount_makes slot.Ls = always_unless (MakesNo slot.Ls (Some m)) (λ r. tt) ((c.refused, OutOfMemory) ∷ []) (Finish (Answered (Names (filter_map (λ f. f.name) m.files)) (Some m)))
+      (same slot.Ls (Names (filter_map (λ f. f.name) m.files)))
+  mount_makes (slot.Stat name) =
+      let e : SlotEvent = slot.Stat name in
+      always_value (MakesNo e (Some m)) (λ r. tt) (file_named m name) NoSuchFile (stat m)
+      (λ q named. same e (StatAnswer (length q.1.cells) (count_by has_page q.1.cells) (count_by is_entered q.1.cells) (length q.1.maps)))
+  mount_makes slot.Df = same slot.Df (Usage m.limits.max m.limits.min (usage_of m) m.limits.inodes (length m.files))
+  mount_makes (slot.Map task home name a n sharing reserving) =
+      let e : SlotEvent = slot.Map task home name a n sharing reserving in
+      let number = next_number task m in
+      always_value (MakesNo e (Some m)) (λ r. tt) (file_named m name) NoSuchFile (map_file c m task home a n sharing reserving)
+      (λ q named. (let done : Outcome = Answered (MapNo number) (Some (with_file m q.0 (mapped task number a n sharing reserving q.1))) in
+      always_unless (MakesNo e (Some m)) (λ r. tt) (map_tests m task a n) (grant c m home (asked sharing reserving a n q.1) done)
+      (always_grant (MakesNo e (Some m)) (λ r. tt) c m home (asked sharing reserving a n q.1) done
+      (mapped_more (made_by e) (new_by e (MapNo number)) m q.0 q.1 (mapped task number a n sharing reserving q.1).cells (new_map task number a n sharing reserving) (file_at m (has_name name) q named)
+      (λ t u off. off)))))
+  mount_makes (slot.Anon task home n sharing reserving) =
+      let e : SlotEvent = slot.Anon task home n sharing reserving in
+      let number = next_number task m in
+      let f = mapped task number 0 n sharing reserving (new_file None) in
+      let done : Outcome = Answered (MapNo number) (Some (with_new m f)) in
+      always_unless (MakesNo e (Some m)) (λ r. tt) (anon_tests m task n) (grant c m home (asked sharing reserving 0 n (new_file None)) done)
+      (always_grant (MakesNo e (Some m)) (λ r. tt) c m home (asked sharing reserving 0 n (new_file None)) done
+      (new_more (made_by e) (new_by e (MapNo number)) m f refl (λ name off. refl) (λ t u off. rw off refl)))
+  mount_makes (slot.Unmap task number a b) =
+      let e : SlotEvent = slot.Unmap task number a b in
+      always_value (MakesNo e (Some m)) (λ r. tt) (spot m (is_map task number)) NoSuchMap (unmap m task number a b)
+      (λ s found. always_unless (MakesNo e (Some m)) (λ r. tt) ((is_bad_range a b, OutOfRange) ∷ []) (gives Done (Some m) (Some (unmapped_from task number a b m)))
+      (files_given e (file_unmapped (is_map task number) a b) (unmapped_fewer (new_by e Done) (is_map task number) a b)))
+  mount_makes (slot.Fault task home number i intent) =
+      let e : SlotEvent = slot.Fault task home number i intent in
+      always_weaker (On (λ n. keys n ≡ keys m)) (MakesNo e (Some m)) (by_keys e) (on_mount size k c m e) (fault_on c m size task number home i intent)
+  mount_makes (slot.Load task home number i offset count) =
+      let e : SlotEvent = slot.Load task home number i offset count in
+      always_weaker (On (λ n. keys n ≡ keys m)) (MakesNo e (Some m)) (by_keys e) (on_mount size k c m e) (load_on c m size task number home i offset count)
+  mount_makes (slot.Store task home number i offset bytes) =
+      let e : SlotEvent = slot.Store task home number i offset bytes in
+      always_weaker (On (λ n. keys n ≡ keys m)) (MakesNo e (Some m)) (by_keys e) (on_mount size k c m e) (store_on c m size task number home i offset bytes)
+  mount_makes (slot.ForkMaps parent child) =
+      let e : SlotEvent = slot.ForkMaps parent child in
+      always_unless (MakesNo e (Some m)) (λ r. tt) (fork_tests c m parent child) (gives Done (Some m) (Some (forked parent child m)))
+      (files_given e (file_forked parent child) (forked_fewer (new_by e Done) parent child (λ t u off. off)))
+  mount_makes (slot.ExitMaps task) =
+      files_given (slot.ExitMaps task) (file_without task) (without_fewer (new_by (slot.ExitMaps task) Done) task)
+
+empty_more : (made : List ℕ → Bool) (new : ℕ → ℕ → Bool) (l : Limits) → NoMore made new None (Some (record { limits = l; files = [] }))
+empty_more made new l = record { held = λ e. refl; names = λ name off is. is; numbers = λ task number off is. is }
+
+-- an event on a slot makes no name and no number but its own
+pub slot_makes : (size k : ℕ) (c : Choice) (old : Slot) (e : SlotEvent) → Always (MakesNo e old) (slot_event size k c old e)
+slot_makes size k c (Some m) e = mount_makes size k c m e
+slot_makes size k c None (slot.Mount options) = (let e : SlotEvent = slot.Mount options in always_mount (MakesNo e None) (λ r. tt) (λ l. empty_more (made_by e) (new_by e Done) l) c size options)
+slot_makes size k c None other = tt
