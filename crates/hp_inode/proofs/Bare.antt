@@ -1,6 +1,7 @@
 -- Holes alone: no entries, and no pages.
 use Rattle.std.proofs.Common.{◌≡◌, ℕ, ◌-◌, ◌%◌, ◌<◌, ◌^◌, ◌&&◌, true, false, not, [], None, refl, sym, ap, ◌∙◌, arith}
 use Rattle.std.specs.List.{range_with_len, count_by}
+use Rattle.std.specs.Option.{is_some}
 use Rattle.std.proofs.lemmas.Bool.{false≢true}
 use Rattle.std.proofs.lemmas.List.FromFn.{length-range_with_len}
 use Rattle.hp_model.specs.files.File.{has_page}
@@ -45,6 +46,9 @@ bare_kept len small = record {
 pub bare_paged : (len : ℕ) → 0 ≡ count_by has_page (cells_of len [] [])
 bare_paged len = sym (count_map has_page (cell_of [] []) (range_with_len 0 len)
     ∙ count_outside (λ i. has_page (cell_of [] [] i)) 0 len (λ i low high. ap (λ t. has_page (cell_by t (page_at [] i))) (unmarked i)))
+
+pub none_paged : (a b : ℕ) → 0 ≡ count_by (λ i. is_some (page_at [] i)) (range_with_len a (b - a))
+none_paged a b = sym (count_outside (λ i. is_some (page_at [] i)) a (b - a) (λ i low high. refl))
 
 pub holes_kept : {form : Form} {len : ℕ} → form ≡ Holes len → IsForm form → IsKept len 0 [] []
 holes_kept {form} {len} is small = bare_kept len (rw is at small)

@@ -374,3 +374,16 @@ module _ (old new : RowBlocks) (only : length old ≡ 1) (are : AreBlocks old) (
       let same : 0 * 65536 + p.0 ≡ p.0 = omega arith in
       subst (λ i. IsTaken (page_at old) (page_at new) a b i p.1) same
       (taken_at old new 0 a b p.0 p.1 taken are others a b (omega arith) (omega arith) (λ k above early. absurd (omega (arith, above, early))))
+
+-- ---- a block without a page that is given back
+
+module _ (old new : RowBlocks) (at : ℕ) (others : KeepsOthers old new at) (gone : get_or new at [] ≡ []) (none : (k : ℕ) → k / 65536 ≡ at → page_at old k ≡ None) where
+  pages_left : (k : ℕ) → page_at new k ≡ page_at old k
+  pages_left k = ⊎_elim
+      (λ (same : k / 65536 ≡ at). ap (λ n. page_in (get_or new n []) (k % 65536)) same ∙ ap (λ block. page_in block (k % 65536)) gone ∙ sym (none k same))
+      (λ (other : k / 65536 ≢ at). ap (λ block. page_in block (k % 65536)) (others (k / 65536) other))
+      (cases_eq (k / 65536) at)
+
+  pub table_left : (low high : ℕ) → length new ≤ 65536 → IsRowTable old low high → IsRowTable new low high
+  table_left low high few was =
+      table_as_before old new low high (kept_blocks old new at others few (λ k past. ap (λ block. page_in block k) gone ∙ sym (was.blocks.within at k past)) was.blocks) pages_left was

@@ -169,6 +169,12 @@ entered_cells len s rows a b le =
     sym (ap (count_by is_entered) (part_is len s rows a b le) ∙ count_map is_entered (cell_of s rows) (range_with_len a (b - a))
     ∙ count_alike (λ i. is_entered (cell_of s rows i)) (entered_at s) (λ i. entered_test (entered_at s i) (page_at rows i)) (range_with_len a (b - a)))
 
+pub paged_cells : (len m : ℕ) (e : WordBlocks) (rows : RowBlocks) → IsKept len m e rows → (a b : ℕ) → b ≤ len →
+    count_by (λ i. is_some (page_at rows i)) (range_with_len a (b - a)) ≡ count_by has_page (part a b (cells_of len e rows))
+paged_cells len m e rows kept a b le =
+    sym (ap (count_by has_page) (part_is len e rows a b le) ∙ count_map has_page (cell_of e rows) (range_with_len a (b - a))
+    ∙ count_alike (λ i. has_page (cell_of e rows i)) (λ i. is_some (page_at rows i)) (λ i. has_page_by len m e rows kept (entered_at e i) (page_at rows i) (kept.paged i)) (range_with_len a (b - a)))
+
 pub entered_in_all : (len m : ℕ) (e : WordBlocks) (rows : RowBlocks) → IsKept len m e rows → m ≡ count_by is_entered (cells_of len e rows)
 entered_in_all len m e rows kept =
     let cells = cells_of len e rows in

@@ -15,3 +15,4 @@ mod Paged
 mod Finding
 mod Cleared
 mod Removed
+mod Counted

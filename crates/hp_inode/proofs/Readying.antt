@@ -2,7 +2,9 @@
 use Rattle.hp_model.proofs.Counting.{count_alike}
 use Rattle.hp_model.specs.beside.Ranges.{within}
 use Rattle.std.proofs.Common.{◌≡◌, ℕ, ◌+◌, ◌-◌, ◌<◌, ◌≤◌, ◌^◌, ◌++◌, not, cond, List, [], length, drop, replicate, max, refl, sym, ap, subst, ◌∙◌, arith, ◌||◌, ◌&&◌, true, false, rules, IsSome}
+use Rattle.std.proofs.Common.{Option, None, Some}
 use Rattle.std.specs.List.{All, range_with_len, count_by}
+use Rattle.std.proofs.lemmas.Bool.{false≢true}
 use Rattle.std.proofs.lemmas.List.{append-nil, drop_all, take_all}
 use Rattle.std.proofs.lemmas.List.Elements.{All-nil}
 use Rattle.std.proofs.lemmas.List.FromFn.{length-range_with_len}
@@ -56,6 +58,14 @@ module _ (len m : ℕ) (e new : WordBlocks) (rows made : RowBlocks) (same : (k :
 
   pub same_unready : {paged low high : ℕ} → IsReady len m paged e rows low high → ((k : ℕ) → has_slot_at rows k ≡ true → has_slot_at made k ≡ true) → (a : ℕ) → IsReady len m paged new made a 0
   same_unready ready stay a = unready _ _ _ _ _ a (same_kept ready.kept stay) (ready.paged ∙ ap (count_by has_page) (sym same_cells))
+
+-- no page in a block without an entry
+pub pageless_in : (len m paged : ℕ) (e : WordBlocks) (rows : RowBlocks) {low high : ℕ} → IsReady len m paged e rows low high → (k : ℕ) → entered_at e k ≡ false → page_at rows k ≡ None
+pageless_in len m paged e rows ready k out = none_of (page_at rows k) (λ some. false≢true (sym out ∙ ready.kept.paged k some))
+  where
+    none_of : (o : Option ℕ) → (IsSome o → ⊥) → o ≡ None
+    none_of None never = refl
+    none_of (Some page) never = absurd (never refl)
 
 -- a list with the length asked for
 pub long_enough : (b : ℕ) (cells : List (Cell ℕ)) → b ≤ length cells → at_least b cells ≡ cells

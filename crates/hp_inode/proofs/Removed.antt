@@ -13,7 +13,7 @@ use Rattle.std.proofs.lemmas.Nat.Bits.{bit_at-zero}
 use Rattle.hp_model.proofs.Counting.{count_split, count_outside, alike_in}
 use Rattle.hp_model.proofs.Ranges.{within-in, within-true, within-below, within-past}
 use Rattle.hp_model.specs.beside.Ranges.{within}
-use Rattle.hp_inode.specs.EntryBlock.{IsBlank, IsEntries, IsRemoved}
+use Rattle.hp_inode.specs.EntryBlock.{count_in, IsBlank, IsEntries, IsRemoved}
 use Rattle.hp_inode.specs.Marks.{marked, FindsWithin}
 use Rattle.hp_inode.proofs.Bits.{word_counted}
 use Rattle.hp_inode.proofs.Cleared.{kept}
@@ -79,13 +79,18 @@ few_removed old new a b count is = omega (arith, is.counted, count_by-le-length 
 
 -- ---- of one word
 
+pub counted_in_word : (words : List ℕ) (at a b bits : ℕ) → 64 * at ≤ a → a < b → b ≤ 64 * at + 64 → bits < 2 ^ 64 →
+    ((i : ℕ) → i < 64 → eqb (bit_at bits i) 1 ≡ within a b (64 * at + i)) → count_ones (bit_and (get_or words at 0) bits) ≡ count_in words a b
+counted_in_word words at a b bits low order high small of_range =
+    let further = counted_next words a b at at (get_or words at 0) bits (omega arith) (λ k from below. absurd (omega (arith, from, below))) small (bit_marked words at) of_range in
+    omega (arith, further, counted_all words a b (64 * (at + 1)) (omega (arith, high)), counted_none words a b (64 * at) low)
+
 module _ (words : List ℕ) (at a b bits : ℕ) (lt : at < length words) (low : 64 * at ≤ a) (order : a < b) (high : b ≤ 64 * at + 64)
     (small : bits < 2 ^ 64) (of_range : (i : ℕ) → i < 64 → eqb (bit_at bits i) 1 ≡ within a b (64 * at + i)) where
   pub removed_in_word : IsRemoved a b words (set words at (bit_and (get_or words at 0) (bit_not w64 bits))) (count_ones (bit_and (get_or words at 0) bits))
   removed_in_word =
-      let further = counted_next words a b at at (get_or words at 0) bits (omega arith) (λ k from below. absurd (omega (arith, from, below))) small (bit_marked words at) of_range in
       record {
-        counted = omega (arith, further, counted_all words a b (64 * (at + 1)) (omega (arith, high)), counted_none words a b (64 * at) low);
+        counted = counted_in_word words at a b bits low order high small of_range;
         left = λ k. ⊎_elim
             (λ (here : k / 64 ≡ at).
             cleared_here words at bits lt small k here ∙ ap (λ t. marked words k && not t) (of_range (k % 64) (omega arith) ∙ ap (within a b) {x = 64 * at + k % 64} {y = k} (omega (arith, here))))

@@ -1,10 +1,10 @@
 //! The pages of 64 indices.
-ghost use Rattle.std.specs.Prelude.{ℕ, ◌≡◌, ◌==◌, ◌<◌, [], length, replicate, IfOk, true, false, None};
+ghost use Rattle.std.specs.Prelude.{ℕ, ◌≡◌, ◌==◌, ◌-◌, ◌<◌, ◌≤◌, [], length, replicate, IfOk, true, false, None};
 ghost use Rattle.std.specs.Option.{is_some};
-ghost use Rattle.std.specs.List.{slice_index_or, slice_set};
+ghost use Rattle.std.specs.List.{count_by, range_with_len, slice_index_or, slice_set};
 ghost use Rattle.hp_inode.specs.Rows.{FindsSlot};
 
-use crate::marks::{first_from, set_mark};
+use crate::marks::{bits_within, first_from, set_mark};
 use hp_model::page_no::PageNo;
 use std::alloc::{AllocError, Global};
 use std::marker::Model;
@@ -76,6 +76,16 @@ impl Chunk {
         self.slots[k] = page;
         set_mark(&mut self.marks, k, page.is_some());
         was
+    }
+
+    /// How many slots from `from` up to `to` have a page.
+    pub fn count(&self, from: usize, to: usize) -> u64
+        requires some { from < to }
+        requires within { to ≤ 64 }
+        ensures { result ≡ count_by (λ k. is_some (slice_index_or self.now k None))
+            (range_with_len from (to - from)) }
+    {
+        u64::from((self.marks[0] & bits_within(0, from, to)).count_ones())
     }
 
     pub fn has_page(&self) -> bool

@@ -1,5 +1,5 @@
 //! Which indices are entered, in blocks of 65,536.
-ghost use Rattle.std.specs.Prelude.{ℕ, ◌≡◌, ◌≢◌, ◌+◌, ◌*◌, ◌<◌, ◌≤◌, ◌^◌, ◌&&◌, ◌||◌, [], length, not, true, IfOk, OnOk, OnErr, MatchOption};
+ghost use Rattle.std.specs.Prelude.{ℕ, ◌≡◌, ◌≢◌, ◌+◌, ◌*◌, ◌<◌, ◌≤◌, ◌^◌, ◌&&◌, ◌||◌, [], length, not, true, false, IfOk, IsTrue, OnOk, OnErr, MatchOption};
 ghost use Rattle.std.specs.List.{slice_index_or};
 ghost use Rattle.hp_model.specs.beside.Ranges.{within};
 ghost use Rattle.hp_inode.specs.Blocks.{block_size, most_blocks, entered_at, has_place, entered_count, missing_count};
@@ -101,6 +101,34 @@ impl Entries {
             Some(block) => block.missing(from, to),
             None => to.saturating_sub(from),
         }
+    }
+
+    /// How many blocks there are places for.
+    pub fn blocks(&self) -> u64 {
+        (self.rest.len() as u64).saturating_add(1)
+    }
+
+    /// Whether a block has room for an index, and none in the set.
+    pub fn is_spent(&self, at: u64) -> bool
+        ensures { IsTrue result → (k : ℕ)
+            → marked (slice_index_or self.now at []) k ≡ false }
+    {
+        match self.block(at) {
+            Some(block) => block.is_spent(),
+            None => false,
+        }
+    }
+
+    /// Gives back the memory of a block of which no index is in the set.
+    pub fn give_back(&mut self, alloc: Global, at: u64)
+        requires { (k : ℕ) → marked (slice_index_or self.old at []) k ≡ false }
+        ensures { (k : ℕ) → entered_at self.new k ≡ entered_at self.old k }
+    {
+        if at == 0 {
+            self.first.clear(alloc);
+            return;
+        }
+        self.rest.clear(at as usize - 1);
     }
 
     /// Makes room for the indices from `a` up to `b`. For none it takes no memory.

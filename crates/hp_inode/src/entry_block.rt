@@ -1,5 +1,5 @@
 //! Which indices are entered, a bit for each: a range takes a step for each word of 64 indices.
-ghost use Rattle.std.specs.Prelude.{ℕ, ◌≡◌, ◌+◌, ◌-◌, ◌*◌, ◌/◌, ◌<◌, ◌≤◌, ◌^◌, ◌&&◌, ◌||◌, [], not, length, true, IfOk, OnOk, OnErr};
+ghost use Rattle.std.specs.Prelude.{ℕ, ◌≡◌, ◌+◌, ◌-◌, ◌*◌, ◌/◌, ◌<◌, ◌≤◌, ◌^◌, ◌&&◌, ◌||◌, [], not, length, true, false, IfOk, IsTrue, OnOk, OnErr};
 ghost use Rattle.hp_model.specs.beside.Ranges.{within};
 ghost use Rattle.hp_inode.specs.EntryBlock.{count_in, missing_in, FindsWord, IsEntries, IsRemoved};
 ghost use Rattle.hp_inode.specs.Marks.{marked};
@@ -72,6 +72,22 @@ impl EntryBlock {
         ensures { result ≡ missing_in self.now a b }
     {
         b.saturating_sub(a) - self.count(a, b)
+    }
+
+    /// Whether there is room for an index, and none is in the set.
+    pub fn is_spent(&self) -> bool
+        ensures { IsTrue result → (k : ℕ) → marked self.now k ≡ false }
+    {
+        let words = self.words.len();
+        words > 0 && self.next_word(0, words).is_none()
+    }
+
+    /// Gives back the memory of all that it had.
+    pub fn clear(&mut self, alloc: Global)
+        ensures { self.new ≡ [] }
+    {
+        self.words = SmallVec::new(alloc);
+        self.marks = SmallVec::new(alloc);
     }
 
     /// Makes room for the indices from `a` up to `b`. For none it takes no memory.

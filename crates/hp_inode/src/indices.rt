@@ -1,11 +1,12 @@
 //! The indices of a file that has entries, or was to have some.
-ghost use Rattle.std.specs.Prelude.{ℕ, ◌≡◌, ◌+◌, ◌<◌, ◌≤◌, ◌^◌, [], length, drop, OnOk, OnErr, MatchOption, None, false};
+ghost use Rattle.std.specs.Prelude.{ℕ, ◌≡◌, ◌+◌, ◌*◌, ◌/◌, ◌<◌, ◌≤◌, ◌^◌, [], length, drop, OnOk, OnErr, MatchOption, None, false};
 ghost use Rattle.std.specs.List.{slice_set, count_by, All};
 ghost use Rattle.hp_model.specs.files.File.{is_entered, is_hole, has_page, page_of, entered, at_least, cell_in, cells_to};
 ghost use Rattle.hp_model.specs.Lists.{edit_range, part, found};
 ghost use Rattle.hp_model.specs.declared.cell.Cell.TheVariants.{Hole, Entered, Present};
 ghost use Rattle.hp_inode.specs.Kept.{cells_of};
 
+use crate::block::BLOCK;
 use crate::entries::Entries;
 use crate::table::PageTable;
 use hp_model::page_no::PageNo;
@@ -24,6 +25,9 @@ pub(crate) struct Indices {
     // the range that can be entered: none after a change of the entries
     from: u64,
     to: u64,
+    // a block whose tables stay when it has no entry
+    spare: u64,
+    alloc: Global,
 }
 
 impl Model for Indices {
@@ -52,6 +56,8 @@ impl Drop for Indices {
             entries: _entries,
             from: _from,
             to: _to,
+            spare: _spare,
+            alloc: _alloc,
         } = self;
     }
 }
@@ -70,6 +76,8 @@ impl Indices {
             table: PageTable::new(alloc),
             from: 0,
             to: 0,
+            spare: 0,
+            alloc,
         }
     }
 
@@ -102,6 +110,15 @@ impl Indices {
         ensures { result ≡ count_by has_page self.now.cells }
     {
         self.pages
+    }
+
+    pub fn pages_in_word(&self, a: u64, b: u64) -> u64
+        requires some { a < b }
+        requires one { b ≤ 64 * (a / 64) + 64 }
+        requires within { b ≤ length self.now.cells }
+        ensures { result ≡ count_by has_page (part a b self.now.cells) }
+    {
+        self.table.count(a, b)
     }
 
     pub fn missing(&self, a: u64, b: u64) -> u64
@@ -201,6 +218,25 @@ impl Indices {
         ensures none { result ≡ None → All (λ cell. has_page cell ≡ false)
             (part a b self.new.cells) }
     {
+        let page = self.take_next(a, b);
+        if page.is_none() {
+            self.settle(a, b);
+        }
+        page
+    }
+
+    // The same, with tables that stay.
+    #[inline(always)]
+    fn take_next(&mut self, a: u64, b: u64) -> Option<PageNo>
+        ensures page { MatchOption (found has_page (part a b self.old.cells))
+            (result ≡ None)
+            (λ p. result ≡ page_of p.1) }
+        ensures cells { MatchOption (found has_page (part a b self.old.cells))
+            (self.new.cells ≡ self.old.cells)
+            (λ p. self.new.cells ≡ slice_set self.old.cells (a + p.0) Hole) }
+        ensures none { result ≡ None → All (λ cell. has_page cell ≡ false)
+            (part a b self.new.cells) }
+    {
         let (i, page) = self.table.take_first(a, b)?;
         self.pages -= 1;
         self.drop_entry(i);
@@ -227,6 +263,47 @@ impl Indices {
         self.to = 0;
         let count = self.entries.remove(a, b);
         self.count -= count;
+        self.settle(a, b);
         count
+    }
+
+    /// Leaves the range that can be entered.
+    pub fn leave(&mut self)
+        ensures { self.new.cells ≡ self.old.cells }
+    {
+        self.settle(self.from, self.to);
+    }
+
+    // Sees to the blocks from the index `a` up to `b` that have no entry.
+    fn settle(&mut self, a: u64, b: u64)
+        ensures { self.new.cells ≡ self.old.cells }
+    {
+        let end = b.div_ceil(BLOCK).min(self.entries.blocks());
+        for at in a / BLOCK..end {
+            if self.entries.is_spent(at) {
+                self.spend(at);
+            }
+        }
+    }
+
+    // The tables of a block without an entry stay for the next one, and those of the block that stayed before are given back.
+    fn spend(&mut self, at: u64)
+        ensures { self.new.cells ≡ self.old.cells }
+    {
+        if at != self.spare {
+            self.give_back(self.spare);
+            self.spare = at;
+        }
+    }
+
+    // Gives a block's tables back where it has no entry.
+    fn give_back(&mut self, at: u64)
+        ensures { self.new.cells ≡ self.old.cells }
+    {
+        if self.entries.is_spent(at) {
+            self.to = 0;
+            self.entries.give_back(self.alloc, at);
+            self.table.give_back(at);
+        }
     }
 }

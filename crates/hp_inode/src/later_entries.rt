@@ -61,6 +61,27 @@ impl LaterEntries {
         Some(&self.blocks[n - 1])
     }
 
+    /// How many blocks there are places for.
+    pub fn len(&self) -> usize {
+        self.places.len()
+    }
+
+    /// Gives back the memory of a block with all that it had.
+    pub fn clear(&mut self, at: usize)
+        ensures here { slice_index_or self.new at [] ≡ [] }
+        ensures others { (j : ℕ) → j ≢ at
+            → slice_index_or self.new j [] ≡ slice_index_or self.old j [] }
+    {
+        if at >= self.places.len() {
+            return;
+        }
+        let n = self.places[at] as usize;
+        if n == 0 {
+            return;
+        }
+        self.blocks[n - 1].clear(self.alloc);
+    }
+
     /// Makes room for the indices from `a` up to `b` of one block.
     pub fn make_room(&mut self, at: usize, a: u64, b: u64) -> Result<(), AllocError>
         requires few { at + 1 < most_blocks }

@@ -1,7 +1,7 @@
 //! A file's indices: its length, which are entered, and their pages by number.
 #![tactic(auto)]
 
-ghost use Rattle.std.specs.Prelude.{ℕ, ◌≡◌, ◌+◌, ◌<◌, ◌≤◌, ◌^◌, [], length, drop, OnOk, OnErr, IfOk, IfErr, MatchOption, None, false};
+ghost use Rattle.std.specs.Prelude.{ℕ, ◌≡◌, ◌+◌, ◌*◌, ◌/◌, ◌<◌, ◌≤◌, ◌^◌, [], length, drop, OnOk, OnErr, IfOk, IfErr, MatchOption, None, false};
 ghost use Rattle.std.specs.List.{slice_set, count_by, All};
 ghost use Rattle.hp_model.specs.files.File.{is_entered, is_hole, has_page, page_of, entered, at_least, cell_in, cells_to};
 ghost use Rattle.hp_model.specs.Lists.{edit_range, part, found};
@@ -120,6 +120,19 @@ impl Inode {
         match &self.form {
             Form::Holes(_) => 0,
             Form::Kept(indices) => indices.page_count(),
+        }
+    }
+
+    /// How many indices from `a` up to `b`, which lie in one word of 64, have a page.
+    pub fn pages_in_word(&self, a: u64, b: u64) -> u64
+        requires some { a < b }
+        requires one { b ≤ 64 * (a / 64) + 64 }
+        requires within { b ≤ length self.now }
+        ensures { result ≡ count_by has_page (part a b self.now) }
+    {
+        match &self.form {
+            Form::Holes(_) => 0,
+            Form::Kept(indices) => indices.pages_in_word(a, b),
         }
     }
 

@@ -1,6 +1,7 @@
 //! Pages by index, in chunks of 64 slots: an index's slot is found in one step, and so is a chunk with pages.
-ghost use Rattle.std.specs.Prelude.{ℕ, ◌≡◌, ◌/◌, ◌<◌, ◌≤◌, ◌^◌, ◌++◌, ◌∷◌, [], length, OnOk, OnErr, true, None, Some};
-ghost use Rattle.std.specs.List.{slice_index_or};
+ghost use Rattle.std.specs.Prelude.{ℕ, ◌≡◌, ◌+◌, ◌-◌, ◌*◌, ◌/◌, ◌<◌, ◌≤◌, ◌^◌, ◌++◌, ◌∷◌, [], length, OnOk, OnErr, true, None, Some};
+ghost use Rattle.std.specs.List.{count_by, range_with_len, slice_index_or};
+ghost use Rattle.std.specs.Option.{is_some};
 ghost use Rattle.hp_inode.specs.Rows.{page_in, has_slot, FindsSlot, FindsPage, TakesFirst};
 
 use crate::chunk::{CHUNK, Chunk};
@@ -39,6 +40,14 @@ impl PageBlock {
         }
     }
 
+    /// Gives back the memory of all that it had.
+    pub fn clear(&mut self)
+        ensures { self.new ≡ [] }
+    {
+        self.chunks = Vec::new(self.alloc);
+        self.marks = SmallVec::new(self.alloc);
+    }
+
     pub fn page_at(&self, i: u64) -> Option<PageNo>
         ensures { result ≡ page_in self.now i }
     {
@@ -48,6 +57,20 @@ impl PageBlock {
         } else {
             None
         }
+    }
+
+    /// How many indices from `a` up to `b`, which lie in one chunk, have a page.
+    pub fn count(&self, a: u64, b: u64) -> u64
+        requires some { a < b }
+        requires one { b ≤ 64 * (a / 64) + 64 }
+        ensures { result ≡ count_by (λ k. is_some (page_in self.now k)) (range_with_len a (b - a)) }
+    {
+        let at = (a / CHUNK) as usize;
+        if at >= self.chunks.len() {
+            return 0;
+        }
+        let from = (a % CHUNK) as usize;
+        self.chunks[at].count(from, from + (b - a) as usize)
     }
 
     /// Gives an index its page.

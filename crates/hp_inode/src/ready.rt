@@ -51,7 +51,8 @@ impl ReadyInode {
     pub fn leave(self) -> Inode
         ensures { result ≡ self.cells }
     {
-        let ReadyInode { alloc, indices } = self;
+        let ReadyInode { alloc, mut indices } = self;
+        indices.leave();
         Inode {
             alloc,
             form: Form::Kept(indices),

@@ -1,6 +1,7 @@
 //! Pages by index, in blocks of 65,536.
-ghost use Rattle.std.specs.Prelude.{ℕ, ◌≡◌, ◌≢◌, ◌/◌, ◌<◌, ◌≤◌, ◌^◌, [], OnOk, true, None, Some, MatchOption};
-ghost use Rattle.std.specs.List.{slice_index_or};
+ghost use Rattle.std.specs.Prelude.{ℕ, ◌≡◌, ◌≢◌, ◌+◌, ◌-◌, ◌*◌, ◌/◌, ◌<◌, ◌≤◌, ◌^◌, [], OnOk, true, None, Some, MatchOption};
+ghost use Rattle.std.specs.List.{count_by, range_with_len, slice_index_or};
+ghost use Rattle.std.specs.Option.{is_some};
 ghost use Rattle.hp_inode.specs.Blocks.{block_size, most_blocks, page_at, has_slot_at};
 ghost use Rattle.hp_inode.specs.Rows.{page_in, has_slot, TakesFirst};
 
@@ -76,6 +77,20 @@ impl PageTable {
         self.block(i / BLOCK)?.page_at(i % BLOCK)
     }
 
+    /// How many indices from `a` up to `b`, which lie in one word of 64, have a page.
+    #[inline(always)]
+    pub fn count(&self, a: u64, b: u64) -> u64
+        requires some { a < b }
+        requires one { b ≤ 64 * (a / 64) + 64 }
+        ensures { result ≡ count_by (λ k. is_some (page_at self.now k)) (range_with_len a (b - a)) }
+    {
+        let from = a % BLOCK;
+        match self.block(a / BLOCK) {
+            Some(block) => block.count(from, from + (b - a)),
+            None => 0,
+        }
+    }
+
     /// Gives an index its page.
     #[inline(always)]
     pub fn fill(&mut self, i: u64, page: PageNo)
@@ -145,6 +160,20 @@ impl PageTable {
             return self.first.take_first(from, to);
         }
         self.rest.take_first(at as usize - 1, from, to)
+    }
+
+    /// Gives back the memory of a block without a page.
+    pub fn give_back(&mut self, at: u64)
+        requires { (k : ℕ) → k / block_size ≡ at → page_at self.old k ≡ None }
+        ensures pages { (k : ℕ) → page_at self.new k ≡ page_at self.old k }
+        ensures slots { (k : ℕ) → k / block_size ≢ at
+            → has_slot_at self.new k ≡ has_slot_at self.old k }
+    {
+        if at == 0 {
+            self.first.clear();
+            return;
+        }
+        self.rest.clear(at as usize - 1);
     }
 
     /// Makes a slot for each index from `a` up to `b`.

@@ -11,17 +11,17 @@ use Rattle.std.proofs.lemmas.List.Quantifiers.{position-Some}
 use Rattle.hp_laws.proofs.lists.AtMostOne.{bit}
 use Rattle.hp_model.proofs.Counting.{count_cons}
 use Rattle.hp_model.specs.machine.Table.{Table, home_of, removed}
-use Rattle.hp_tasks.specs.Table.{AreCounted, Slot, count_of_rest, has_task, slot_at, tasks_in, rests}
+use Rattle.hp_tasks.specs.Table.{AreCounted, Slot, count_of_rest, has_task, slot_at, tasks_in, rest_by, rests}
 
 -- ---- a task that is not there
 
 -- no task has its rest
-pub none_of_rest : (tasks : Table) (task : ℕ) → count_of_rest (task % rests) tasks ≡ 0 → home_of tasks task ≡ None
+pub none_of_rest : (tasks : Table) (task : ℕ) → count_of_rest (rest_by task) tasks ≡ 0 → home_of tasks task ≡ None
 none_of_rest [] task none = refl
 none_of_rest (e ∷ tasks) task none =
-    let all = count_cons (λ (x : ℕ × ℕ). x.0 % rests == task % rests) e tasks in
+    let all = count_cons (λ (x : ℕ × ℕ). rest_by x.0 == rest_by task) e tasks in
     elim (e.0 == task) as (λ b. (e.0 == task) ≡ b → option_map (λ (x : ℕ × ℕ). x.1) (cond b (Some e) (find (λ x. x.0 == task) tasks)) ≡ None) [
-      | true ↦ λ is. (let one = ap bit (eq-eqb (e.0 % rests) (task % rests) (ap (λ n. n % rests) (eqb-true e.0 task is))) in absurd (omega (arith, all, one, none)))
+      | true ↦ λ is. (let one = ap bit (eq-eqb (rest_by e.0) (rest_by task) (ap rest_by (eqb-true e.0 task is))) in absurd (omega (arith, all, one, none)))
       | false ↦ λ is. none_of_rest tasks task (omega (arith, all, none))
     ] refl
 
@@ -156,40 +156,40 @@ one_fewer (Some x ∷ slots) zero e here = refl
 one_fewer (Some x ∷ slots) (suc at) e here = ap suc (one_fewer slots at e here)
 
 module _ (counts : List ℕ) (long : length counts ≡ rests) (slots : List Slot) (counted : AreCounted slots counts) (rest : ℕ) (below : rest < rests) where
-  module _ (at : ℕ) (e : ℕ × ℕ) (here : slot_at slots at ≡ Some e) (own : rest ≡ e.0 % rests) where
+  module _ (at : ℕ) (e : ℕ × ℕ) (here : slot_at slots at ≡ Some e) (own : rest ≡ rest_by e.0) where
     pub some_of_rest : 1 ≤ get_or counts rest 0
     some_of_rest =
-        let one = ap bit (eq-eqb (e.0 % rests) rest (sym own)) in
-        omega (arith, counted rest below, counted_at (λ (x : ℕ × ℕ). x.0 % rests == rest) slots at e here, one)
+        let one = ap bit (eq-eqb (rest_by e.0) rest (sym own)) in
+        omega (arith, counted rest below, counted_at (λ (x : ℕ × ℕ). rest_by x.0 == rest) slots at e here, one)
 
     pub counted_less : AreCounted (set slots at None) (set counts rest (get_or counts rest 0 - 1))
     counted_less r small = ⊎_elim
         (λ (same : r ≡ rest).
-        let one = ap bit (eq-eqb (e.0 % rests) rest (sym own)) in
-        let all = counted_at (λ (x : ℕ × ℕ). x.0 % rests == rest) slots at e here in
+        let one = ap bit (eq-eqb (rest_by e.0) rest (sym own)) in
+        let all = counted_at (λ (x : ℕ × ℕ). rest_by x.0 == rest) slots at e here in
         subst (λ k. get_or (set counts rest (get_or counts rest 0 - 1)) k 0 ≡ count_of_rest k (tasks_in (set slots at None))) (sym same)
         (get_or-set_same counts rest (get_or counts rest 0 - 1) 0 (omega (arith, below, long)) ∙ omega (arith, counted rest below, all, one)))
         (λ (other : r ≢ rest).
-        let none : bit (e.0 % rests == r) ≡ 0 = ap bit (apart (e.0 % rests) r (λ same. other (sym same ∙ sym own))) in
-        let all = counted_at (λ (x : ℕ × ℕ). x.0 % rests == r) slots at e here in
+        let none : bit (rest_by e.0 == r) ≡ 0 = ap bit (apart (rest_by e.0) r (λ same. other (sym same ∙ sym own))) in
+        let all = counted_at (λ (x : ℕ × ℕ). rest_by x.0 == r) slots at e here in
         get_or-set_other counts rest r (get_or counts rest 0 - 1) 0 other ∙ omega (arith, counted r small, all, none))
         (cases_eq r rest)
 
   -- one task more, behind the others
-  pub counted_more : (new : List Slot) (task home : ℕ) → rest ≡ task % rests → tasks_in new ≡ tasks_in slots ++ (task, home) ∷ []
+  pub counted_more : (new : List Slot) (task home : ℕ) → rest ≡ rest_by task → tasks_in new ≡ tasks_in slots ++ (task, home) ∷ []
       → AreCounted new (set counts rest (get_or counts rest 0 + 1))
   counted_more new task home own is r small = ⊎_elim
       (λ (same : r ≡ rest).
-      let one = ap bit (eq-eqb (task % rests) rest (sym own)) in
+      let one = ap bit (eq-eqb (rest_by task) rest (sym own)) in
       subst (λ k. get_or (set counts rest (get_or counts rest 0 + 1)) k 0 ≡ count_of_rest k (tasks_in new)) (sym same)
       (get_or-set_same counts rest (get_or counts rest 0 + 1) 0 (omega (arith, below, long)) ∙ omega (arith, counted rest below, both rest, one)))
       (λ (other : r ≢ rest).
-      let none : bit (task % rests == r) ≡ 0 = ap bit (apart (task % rests) r (λ same. other (sym same ∙ sym own))) in
+      let none : bit (rest_by task == r) ≡ 0 = ap bit (apart (rest_by task) r (λ same. other (sym same ∙ sym own))) in
       get_or-set_other counts rest r (get_or counts rest 0 + 1) 0 other ∙ omega (arith, counted r small, both r, none))
       (cases_eq r rest)
     where
-      both : (k : ℕ) → count_of_rest k (tasks_in new) ≡ count_of_rest k (tasks_in slots) + bit (task % rests == k)
+      both : (k : ℕ) → count_of_rest k (tasks_in new) ≡ count_of_rest k (tasks_in slots) + bit (rest_by task == k)
       both k =
-          let all = ap (count_of_rest k) is ∙ sum_by-append (λ (x : ℕ × ℕ). cond (x.0 % rests == k) 1 0) (tasks_in slots) ((task, home) ∷ []) in
-          let last = count_cons (λ (x : ℕ × ℕ). x.0 % rests == k) (task, home) [] in
+          let all = ap (count_of_rest k) is ∙ sum_by-append (λ (x : ℕ × ℕ). cond (rest_by x.0 == k) 1 0) (tasks_in slots) ((task, home) ∷ []) in
+          let last = count_cons (λ (x : ℕ × ℕ). rest_by x.0 == k) (task, home) [] in
           omega (arith, all, last)

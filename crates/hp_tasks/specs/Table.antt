@@ -1,5 +1,5 @@
 -- The task table as it is kept.
-use Rattle.std.specs.Prelude.{◌≡◌, ℕ, ◌*◌, ◌<◌, ◌≤◌, ◌==◌, ◌%◌, Bool, false, List, length, Option, None, Some}
+use Rattle.std.specs.Prelude.{◌≡◌, ℕ, ◌*◌, ◌/◌, ◌^◌, ◌<◌, ◌≤◌, ◌==◌, ◌%◌, Bool, false, List, length, Option, None, Some}
 use Rattle.std.specs.List.{count_by, filter_map, slice_index_or}
 use Rattle.hp_model.specs.machine.Table.{Table}
 use Rattle.hp_model.specs.Profile.{most_tasks}
@@ -23,13 +23,17 @@ abbrev pub has_task : ℕ → Slot → Bool
 has_task task None = false
 has_task task (Some e) = e.0 == task
 
--- tasks' numbers are told apart by their rest by this
+-- tasks' numbers are told apart by so many rests
 abbrev pub rests : ℕ
 rests = 4 * most_tasks
 
+-- the upper bits of a product, so that numbers with the same lower bits have different rests
+abbrev pub rest_by : ℕ → ℕ
+rest_by task = task * 11400714819323198485 % 2 ^ 64 / 2 ^ 50
+
 -- how many tasks have this rest
 abbrev pub count_of_rest : ℕ → Table → ℕ
-count_of_rest rest tasks = count_by (λ e. e.0 % rests == rest) tasks
+count_of_rest rest tasks = count_by (λ e. rest_by e.0 == rest) tasks
 
 abbrev pub AreCounted : List Slot → (counts : List ℕ) → Type 0
 AreCounted slots counts = (rest : ℕ) → rest < rests → slice_index_or counts rest 0 ≡ count_of_rest rest (tasks_in slots)

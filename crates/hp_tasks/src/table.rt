@@ -8,8 +8,11 @@ use std::marker::Model;
 // Tasks stand in so many slots at most: as many are gaps, before the gaps are closed.
 const MOST_SLOTS: usize = 2 * MOST_TASKS;
 
-// Tasks' numbers are taken by their rest: four for each task that there may be.
+// Tasks' numbers are told apart by their rest: four for each task that there may be.
 const RESTS: usize = 4 * MOST_TASKS;
+
+// An odd number near 2^64 divided by the golden ratio: the upper bits of its products lie apart, whichever bits of the numbers differ.
+const SPREAD: u64 = 0x9e37_79b9_7f4a_7c15;
 
 type Slot = Option<(u64, u64)>;
 
@@ -45,14 +48,14 @@ ghost use Rattle.hp_model.specs.declared.refusal.Refusal.TheVariants as Refusal;
 ghost use Rattle.hp_model.specs.beside.Accesses.{done_reply};
 ghost use Rattle.hp_model.specs.Profile.{most_tasks};
 ghost use Rattle.hp_model.specs.machine.Table.{home_of, added, removed, is_known, is_crowded, table_event};
-ghost use Rattle.hp_tasks.specs.Table.{AreCounted, has_task, slot_at, tasks_in, rests};
+ghost use Rattle.hp_tasks.specs.Table.{AreCounted, has_task, slot_at, tasks_in, rest_by, rests};
 
 // Which number stands for a task's.
 fn rest_of(task: u64) -> usize
-    ensures rest { result ≡ task % rests }
+    ensures rest { result ≡ rest_by task }
     ensures below { result < rests }
 {
-    (task % RESTS as u64) as usize
+    (task.wrapping_mul(SPREAD) >> 50) as usize
 }
 
 // Where a task stands, found by going over all slots.

@@ -35,4 +35,4 @@ returns-clause-count c =
 pub returns-clause-cells : goal.returns-clause-cells
 returns-clause-cells c =
     let within = rw (← c.self.view_is, length-cells c.self.inside.len c.self.inside.entries c.self.inside.table) at c.requires.within in
-    rw (← c.self.view_is) (dropped_cells _ _ _ c.remove-count.new.self _ c.args.a c.args.b c.self.invariant.kept within c.remove-count.ensures.left)
+    rw (← c.self.view_is) (c.settle.ensures ∙ dropped_cells _ _ _ c.remove-count.new.self _ c.args.a c.args.b c.self.invariant.kept within c.remove-count.ensures.left)

@@ -9,7 +9,7 @@ use Rattle.std.specs.List.{count_by}
 use Rattle.hp_model.specs.files.File.{cell_in, has_page}
 use Rattle.std.proofs.lemmas.List.{get_or-set_same}
 use Rattle.hp_inode.proofs.Taken.{no_page_there, found_no_page, found_page, paged_below}
-use Rattle.hp_inode.proofs.indices.Indices.take_page.Goals as goal
+use Rattle.hp_inode.proofs.indices.Indices.take_next.Goals as goal
 
 pub returns-in_err-i-clause-page : goal.returns-in_err-i-clause-page
 returns-in_err-i-clause-page c =
