@@ -6,3 +6,4 @@ pub mod RowMoves
 pub mod Counting
 pub mod Editing
 pub mod Finding
+pub mod Queues

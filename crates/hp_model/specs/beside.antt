@@ -5,3 +5,4 @@ pub mod Told
 pub mod Run
 pub mod Plain
 pub mod Copying
+pub mod Queue

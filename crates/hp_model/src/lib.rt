@@ -13,6 +13,7 @@ pub mod naming;
 pub mod node;
 pub mod place;
 pub mod profile;
+pub mod queued;
 pub mod refusal;
 pub mod section;
 pub mod service;

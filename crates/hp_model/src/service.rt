@@ -4,10 +4,12 @@ ghost use Rattle.hp_model.specs.declared.step.Step.{Step as TheStep};
 ghost use Rattle.hp_model.specs.Profile.{most_bytes};
 ghost use Rattle.hp_model.specs.beside.Accesses.{bytes_reply, done_reply, load_step, store_step};
 ghost use Rattle.hp_model.specs.machine.Plan.{Reply as TheReply};
+ghost use Rattle.hp_model.specs.beside.Queue.{DoesAll, DoesOne};
 ghost use Rattle.hp_model.specs.beside.Told.{told_reply};
 ghost use Rattle.hp_model.specs.text.Writing.{IsWithinLimits};
 
 use crate::answer::Reply;
+use crate::queued::{Doing, Queued};
 use crate::refusal::Refusal;
 use crate::step::Step;
 use crate::told::Told;
@@ -80,7 +82,55 @@ pub trait Service {
         ensures ready { is_ready self.new }
         ensures same_page { page self.new ≡ page self.old };
 
+    /// Whether it is best asked for several loads and stores at once.
+    #[inline(always)]
+    fn takes_several(&self) -> bool {
+        false
+    }
+
+    /// Does these loads and stores, one after another, and notes what each was answered.
+    fn do_queued(&mut self, queue: &mut [Queued], room: &mut [u8])
+        requires ready { is_ready self.old }
+        requires room { most_bytes ≤ length room.old }
+        ensures done { DoesAll may_answer self.old queue.old queue.new self.new }
+        ensures ready { is_ready self.new }
+        ensures same_page { page self.new ≡ page self.old };
+
     /// The bytes of a page.
     fn page_bytes(&self) -> u64
         ensures { result ≡ page self.now };
+}
+
+/// Does the loads and stores of a queue, each by itself.
+pub fn do_each<S: Service>(service: &mut S, queue: &mut [Queued], room: &mut [u8])
+    requires ready { S.is_ready service.old }
+    requires room { most_bytes ≤ length room.old }
+    ensures done { DoesAll S.may_answer service.old queue.old queue.new service.new }
+    ensures ready { S.is_ready service.new }
+    ensures same_page { S.page service.new ≡ S.page service.old }
+{
+    for at in 0..queue.len() {
+        do_one(service, &mut queue[at], room);
+    }
+}
+
+/// Does a load or a store that waits.
+pub fn do_one<S: Service>(service: &mut S, queued: &mut Queued, room: &mut [u8])
+    requires ready { S.is_ready service.old }
+    requires room { most_bytes ≤ length room.old }
+    ensures done { DoesOne S.may_answer service.old queued.old queued.new service.new }
+    ensures ready { S.is_ready service.new }
+    ensures same_page { S.page service.new ≡ S.page service.old }
+{
+    let access = *queued.access();
+    match queued.doing() {
+        Doing::Load { count } => {
+            let loaded = service.load(&access, count, room);
+            queued.answer_load(loaded);
+        }
+        Doing::Store { bytes } => {
+            let stored = service.store(&access, bytes);
+            queued.answer_store(stored);
+        }
+    }
 }

@@ -1,0 +1,58 @@
+-- What waits is done, one after another.
+use Rattle.std.proofs.Common.{◌≡◌, ℕ, zero, suc, ◌+◌, ◌<◌, List, [], ◌∷◌, ◌++◌, length, take, drop, slice_set, refl, sym, ap, subst, ◌∙◌, arith}
+use lib.ListN.{get_or}
+use Rattle.std.proofs.lemmas.List.{drop-set-lt, take_more, take_more_set}
+use Rattle.hp_model.specs.beside.Queue.{DoesAll, DoesOne, QueuedView}
+use Rattle.hp_model.specs.declared.step.Step.{Step}
+use Rattle.hp_model.specs.machine.Plan.{Reply}
+
+-- one more is done, behind the others
+pub does_more : {S : Type 0} (m : S → Step → Reply → S → Type 0) (s t u : S) (before after : List QueuedView) (b a : QueuedView)
+    → DoesAll m s before after t → DoesOne m t b a u → DoesAll m s (before ++ b ∷ []) (after ++ a ∷ []) u
+does_more m s t u [] [] b a all one = (u, subst (λ r. DoesOne m r b a u) (sym all) one, refl)
+does_more m s t u [] (y ∷ ys) b a all one = absurd all
+does_more m s t u (x ∷ xs) [] b a all one = absurd all
+does_more m s t u (x ∷ xs) (y ∷ ys) b a all one = (all.0, all.1, does_more m all.0 t u xs ys b a all.2 one)
+
+-- a list behind its first element
+abbrev rest : List QueuedView → List QueuedView
+rest [] = []
+rest (x ∷ xs) = xs
+
+behind : (xs : List QueuedView) (i : ℕ) → drop (suc i) xs ≡ rest (drop i xs)
+behind [] zero = refl
+behind [] (suc i) = refl
+behind (x ∷ xs) zero = refl
+behind (x ∷ xs) (suc i) = behind xs i
+
+further : (xs ys : List QueuedView) (i : ℕ) → drop i xs ≡ drop i ys → drop (suc i) xs ≡ drop (suc i) ys
+further xs ys i same = behind xs i ∙ ap rest same ∙ sym (behind ys i)
+
+-- the first element, or this one
+abbrev first_or : List QueuedView → QueuedView → QueuedView
+first_or [] d = d
+first_or (x ∷ xs) d = x
+
+first : (xs : List QueuedView) (i : ℕ) (d : QueuedView) → first_or (drop i xs) d ≡ get_or xs i d
+first [] zero d = refl
+first [] (suc i) d = refl
+first (x ∷ xs) zero d = refl
+first (x ∷ xs) (suc i) d = first xs i d
+
+heads : (xs ys : List QueuedView) (i : ℕ) (d : QueuedView) → drop i xs ≡ drop i ys → get_or xs i d ≡ get_or ys i d
+heads xs ys i d same = sym (first xs i d) ∙ ap (λ zs. first_or zs d) same ∙ first ys i d
+
+-- the ones in front are done, and the next
+pub does_next : {S : Type 0} (m : S → Step → Reply → S → Type 0) (s t u : S) (before now : List QueuedView) (at : ℕ) (a d : QueuedView)
+    → at < length before → length now ≡ length before → drop at now ≡ drop at before
+    → DoesAll m s (take at before) (take at now) t → DoesOne m t (get_or now at d) a u
+    → DoesAll m s (take (at + 1) before) (take (at + 1) (slice_set now at a)) u
+does_next m s t u before now at a d within size left all one =
+    rw (take_more before at d within, take_more_set now at a (omega (arith, within, size)))
+    (does_more m s t u (take at before) (take at now) (get_or before at d) a all (subst (λ x. DoesOne m t x a u) (heads now before at d left) one))
+
+-- what is left behind the next is as it was
+pub left_next : (before now : List QueuedView) (at : ℕ) (a : QueuedView) → drop at now ≡ drop at before → drop (at + 1) (slice_set now at a) ≡ drop (at + 1) before
+left_next before now at a same =
+    let n : at + 1 ≡ suc at = omega arith in
+    drop-set-lt (at + 1) now at a (omega arith) ∙ ap (λ k. drop k now) n ∙ further now before at same ∙ ap (λ k. drop k before) (sym n)

@@ -1,0 +1,148 @@
+//! Loads and stores that wait, so that several are done together.
+ghost use Rattle.std.specs.Prelude.{◌≡◌, ◌≤◌, true, false, length, take, IfOk};
+ghost use Rattle.hp_model.specs.Profile.{most_bytes};
+ghost use Rattle.hp_model.specs.beside.Accesses.{bytes_reply, done_reply, load_step, store_step};
+ghost use Rattle.hp_model.specs.beside.Queue.{doing_step, is_load};
+
+use crate::refusal::Refusal;
+use crate::service::Access;
+use std::marker::Model;
+
+/// The most bytes that a store has which waits.
+pub const QUEUED_BYTES: usize = 512;
+
+/// What is done at the place of an access.
+pub enum Doing<'a> {
+    Load { count: u64 },
+    Store { bytes: &'a [u8] },
+}
+
+/// A load or a store that waits, and what it was answered, once it is done.
+#[derive(Drop)]
+pub struct Queued {
+    access: Access,
+    // how many bytes a load wants; none at a store
+    wanted: Option<u64>,
+    // the bytes to be stored, or those that were loaded, are so many in front
+    len: usize,
+    bytes: [u8; QUEUED_BYTES],
+    refused: Option<Refusal>,
+}
+
+impl Model for Queued {
+    ghost use Rattle.std.specs.Prelude.{◌≤◌, take};
+    ghost use Rattle.hp_model.specs.beside.Queue.{QueuedView, access_step, noted_reply};
+
+    ghost Value = { QueuedView };
+
+    ghost view = { λ q. record {
+      access = q.access;
+      step = access_step q.access q.wanted (take q.len q.bytes);
+      reply = noted_reply q.refused q.wanted (take q.len q.bytes);
+    } };
+
+    ghost invariant = { λ q. q.len ≤ 512 };
+}
+
+// Puts bytes in front, and says how many they are.
+#[inline(always)]
+fn put(room: &mut [u8; QUEUED_BYTES], bytes: &[u8]) -> usize
+    requires { length bytes.now ≤ 512 }
+    ensures count { result ≡ length bytes.now }
+    ensures front { take result room.new ≡ bytes.now }
+{
+    room[..bytes.len()].copy_from_slice(bytes);
+    bytes.len()
+}
+
+impl Queued {
+    /// A load of no bytes.
+    pub fn new() -> Queued {
+        let access = Access {
+            task: 0,
+            slot: 0,
+            map: 0,
+            index: 0,
+            offset: 0,
+        };
+        Queued {
+            access,
+            wanted: Some(0),
+            len: 0,
+            bytes: [0; QUEUED_BYTES],
+            refused: None,
+        }
+    }
+
+    /// A load of `count` bytes takes this one's place.
+    #[inline(always)]
+    pub fn set_load(&mut self, access: Access, count: u64)
+        ensures step { self.new.step ≡ load_step access count }
+        ensures access { self.new.access ≡ access }
+    {
+        self.access = access;
+        self.wanted = Some(count);
+    }
+
+    /// A store of these bytes takes this one's place.
+    #[inline(always)]
+    pub fn set_store(&mut self, access: Access, bytes: &[u8])
+        requires { length bytes.now ≤ 512 }
+        ensures step { self.new.step ≡ store_step access bytes.now }
+        ensures access { self.new.access ≡ access }
+    {
+        self.access = access;
+        self.wanted = None;
+        self.len = put(&mut self.bytes, bytes);
+    }
+
+    /// Where it begins.
+    #[inline(always)]
+    pub fn access(&self) -> &Access
+        ensures { result.now ≡ self.now.access }
+    {
+        &self.access
+    }
+
+    /// What is to be done.
+    #[inline(always)]
+    pub fn doing(&self) -> Doing<'_>
+        ensures { doing_step self.now.access result ≡ self.now.step }
+    {
+        match self.wanted {
+            Some(count) => Doing::Load { count },
+            None => Doing::Store {
+                bytes: &self.bytes[..self.len],
+            },
+        }
+    }
+
+    /// Notes what the load was answered.
+    #[inline(always)]
+    pub fn answer_load(&mut self, loaded: Result<&[u8], Refusal>)
+        requires load { is_load self.old.step ≡ true }
+        requires few { IfOk loaded (λ bytes. length bytes.now ≤ most_bytes) }
+        ensures step { self.new.step ≡ self.old.step }
+        ensures reply { self.new.reply ≡ bytes_reply loaded.entry }
+        ensures access { self.new.access ≡ self.old.access }
+    {
+        match loaded {
+            Ok(bytes) => {
+                self.refused = None;
+                self.len = put(&mut self.bytes, bytes);
+            }
+            Err(refusal) => self.refused = Some(refusal),
+        }
+    }
+
+    /// Notes what the store was answered.
+    #[inline(always)]
+    pub fn answer_store(&mut self, stored: Result<(), Refusal>)
+        requires store { is_load self.old.step ≡ false }
+        ensures step { self.new.step ≡ self.old.step }
+        ensures reply { self.new.reply ≡ done_reply stored }
+        ensures access { self.new.access ≡ self.old.access }
+    {
+        self.refused = stored.err();
+    }
+}
