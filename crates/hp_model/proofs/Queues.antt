@@ -6,13 +6,18 @@ use Rattle.hp_model.specs.beside.Queue.{DoesAll, DoesOne, QueuedView}
 use Rattle.hp_model.specs.declared.step.Step.{Step}
 use Rattle.hp_model.specs.machine.Plan.{Reply}
 
+-- some are done, and then others
+pub does_both : {S : Type 0} (m : S → Step → Reply → S → Type 0) (s t u : S) (before after others then : List QueuedView)
+    → DoesAll m s before after t → DoesAll m t others then u → DoesAll m s (before ++ others) (after ++ then) u
+does_both m s t u [] [] others then all more = subst (λ r. DoesAll m r others then u) (sym all) more
+does_both m s t u [] (y ∷ ys) others then all more = absurd all
+does_both m s t u (x ∷ xs) [] others then all more = absurd all
+does_both m s t u (x ∷ xs) (y ∷ ys) others then all more = (all.0, all.1, does_both m all.0 t u xs ys others then all.2 more)
+
 -- one more is done, behind the others
 pub does_more : {S : Type 0} (m : S → Step → Reply → S → Type 0) (s t u : S) (before after : List QueuedView) (b a : QueuedView)
     → DoesAll m s before after t → DoesOne m t b a u → DoesAll m s (before ++ b ∷ []) (after ++ a ∷ []) u
-does_more m s t u [] [] b a all one = (u, subst (λ r. DoesOne m r b a u) (sym all) one, refl)
-does_more m s t u [] (y ∷ ys) b a all one = absurd all
-does_more m s t u (x ∷ xs) [] b a all one = absurd all
-does_more m s t u (x ∷ xs) (y ∷ ys) b a all one = (all.0, all.1, does_more m all.0 t u xs ys b a all.2 one)
+does_more m s t u before after b a all one = does_both m s t u before after (b ∷ []) (a ∷ []) all (u, one, refl)
 
 -- a list behind its first element
 abbrev rest : List QueuedView → List QueuedView

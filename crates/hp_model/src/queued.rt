@@ -3,9 +3,12 @@ ghost use Rattle.std.specs.Prelude.{◌≡◌, ◌≤◌, true, false, length, t
 ghost use Rattle.hp_model.specs.Profile.{most_bytes};
 ghost use Rattle.hp_model.specs.beside.Accesses.{bytes_reply, done_reply, load_step, store_step};
 ghost use Rattle.hp_model.specs.beside.Queue.{doing_step, is_load};
+ghost use Rattle.hp_model.specs.beside.Told.{told_reply};
+ghost use Rattle.hp_model.specs.text.Writing.{IsWithinLimits};
 
 use crate::refusal::Refusal;
 use crate::service::Access;
+use crate::told::Told;
 use std::marker::Model;
 
 /// The most bytes that a store has which waits.
@@ -30,8 +33,9 @@ pub struct Queued {
 }
 
 impl Model for Queued {
-    ghost use Rattle.std.specs.Prelude.{◌≤◌, take};
+    ghost use Rattle.std.specs.Prelude.{◌≡◌, ◌≤◌, true, is_some, take};
     ghost use Rattle.hp_model.specs.beside.Queue.{QueuedView, access_step, noted_reply};
+    ghost use Rattle.hp_model.specs.Profile.{most_bytes};
 
     ghost Value = { QueuedView };
 
@@ -41,7 +45,7 @@ impl Model for Queued {
       reply = noted_reply q.refused q.wanted (take q.len q.bytes);
     } };
 
-    ghost invariant = { λ q. q.len ≤ 512 };
+    ghost invariant = { λ q. (q.len ≤ 512) × (is_some q.wanted ≡ true → q.len ≤ most_bytes) };
 }
 
 // Puts bytes in front, and says how many they are.
@@ -82,6 +86,7 @@ impl Queued {
     {
         self.access = access;
         self.wanted = Some(count);
+        self.len = 0;
     }
 
     /// A store of these bytes takes this one's place.
@@ -144,5 +149,20 @@ impl Queued {
         ensures access { self.new.access ≡ self.old.access }
     {
         self.refused = stored.err();
+    }
+
+    /// What was answered.
+    #[inline(always)]
+    pub fn reply(&self) -> Result<Told<'_>, Refusal>
+        ensures reply { told_reply result ≡ self.now.reply }
+        ensures limits { IsWithinLimits (told_reply result) }
+    {
+        if let Some(refusal) = self.refused {
+            return Err(refusal);
+        }
+        match self.wanted {
+            Some(_count) => Ok(Told::Bytes(&self.bytes[..self.len])),
+            None => Ok(Told::Done),
+        }
     }
 }

@@ -1,3 +1,4 @@
 pub mod SlotWork
 pub mod Replies
 pub mod Answered
+pub mod Queues

@@ -9,6 +9,7 @@ ghost use Rattle.hp_model.specs.text.Writing.{IsWithinLimits};
 ghost use Rattle.hp_model.specs.Profile.{most_bytes, most_page_bytes, most_slots};
 ghost use Rattle.hp_events.specs.Event.{event_of, shows_bytes};
 ghost use Rattle.hp_parts.specs.Answered.{IsHanded};
+ghost use Rattle.hp_parts.specs.Queues.{AreFirstHanded};
 ghost use Rattle.hp_parts.specs.Replies.{names_reply, table_reply};
 ghost use Rattle.hp_parts.specs.SlotWork.{AreCopiesFor, IsAnother, asked_event, is_exit, is_of_maps, needs_room};
 
@@ -19,6 +20,7 @@ use hp_events::copies::Copies;
 use hp_model::entry::Receipt;
 use hp_model::event::{PoolEvent, TableEvent};
 use hp_model::names::Names;
+use hp_model::queued::Queued;
 use hp_model::refusal::Refusal;
 use hp_model::told::Told;
 use std::alloc::Global;
@@ -109,6 +111,14 @@ pub trait Parts: Drop {
         ensures handed { IsHanded keeps page (OnSlot at (event_of home event.entry))
             (told_reply result) None }
         ensures limits { IsWithinLimits (told_reply result) };
+
+    /// The first loads and stores of a queue, where no entries are kept: those of the slot of this number, of tasks that are
+    /// found without waiting; so many were done, one after another, and what each was answered is noted.
+    fn accesses(&self, at: usize, queue: &mut [Queued], room: &mut [u8]) -> usize
+        requires unkept { keeps ≡ false }
+        requires within { at < slots self.now }
+        requires room { most_bytes ≤ length room.old }
+        ensures { AreFirstHanded page at result queue.old queue.new };
 
     /// The names of the files on the slot of this number, and their receipt where entries are kept.
     fn names(&self, at: usize) -> (Result<Names, Refusal>, Option<Receipt>)

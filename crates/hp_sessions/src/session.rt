@@ -6,6 +6,7 @@ ghost use Rattle.hp_sessions.specs.Calls.{noted};
 
 mod forking;
 mod making;
+mod queueing;
 mod service;
 mod steps;
 

@@ -3,8 +3,9 @@ ghost use Rattle.hp_sessions.specs.Calls.{IsCallAnswered};
 
 use super::Session;
 use hp_model::answer::Reply;
+use hp_model::queued::Queued;
 use hp_model::refusal::Refusal;
-use hp_model::service::{Access, Service};
+use hp_model::service::{Access, Service, do_each};
 use hp_model::step::Step;
 use hp_model::told::Told;
 use hp_parts::Parts;
@@ -41,6 +42,18 @@ impl<P: Parts> Service for Session<P> {
 
     fn store(&mut self, access: &Access, bytes: &[u8]) -> Result<(), Refusal> {
         Session::store(self, access, bytes)
+    }
+
+    #[inline(always)]
+    fn takes_several(&self) -> bool {
+        !self.parts.is_kept()
+    }
+
+    fn do_queued(&mut self, queue: &mut [Queued], room: &mut [u8]) {
+        if self.parts.is_kept() {
+            return do_each(self, queue, room);
+        }
+        self.do_unkept(queue, room)
     }
 
     fn page_bytes(&self) -> u64 {
