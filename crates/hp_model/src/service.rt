@@ -94,43 +94,35 @@ pub trait Service {
         requires room { most_bytes ≤ length room.old }
         ensures done { DoesAll may_answer self.old queue.old queue.new self.new }
         ensures ready { is_ready self.new }
-        ensures same_page { page self.new ≡ page self.old };
+        ensures same_page { page self.new ≡ page self.old }
+    {
+        for at in 0..queue.len() {
+            self.do_one(&mut queue[at], room);
+        }
+    }
+
+    /// Does a load or a store that waits, and notes what it was answered.
+    fn do_one(&mut self, queued: &mut Queued, room: &mut [u8])
+        requires ready { is_ready self.old }
+        requires room { most_bytes ≤ length room.old }
+        ensures done { DoesOne may_answer self.old queued.old queued.new self.new }
+        ensures ready { is_ready self.new }
+        ensures same_page { page self.new ≡ page self.old }
+    {
+        let access = *queued.access();
+        match queued.doing() {
+            Doing::Load { count } => {
+                let loaded = self.load(&access, count, room);
+                queued.answer_load(loaded);
+            }
+            Doing::Store { bytes } => {
+                let stored = self.store(&access, bytes);
+                queued.answer_store(stored);
+            }
+        }
+    }
 
     /// The bytes of a page.
     fn page_bytes(&self) -> u64
         ensures { result ≡ page self.now };
-}
-
-/// Does the loads and stores of a queue, each by itself.
-pub fn do_each<S: Service>(service: &mut S, queue: &mut [Queued], room: &mut [u8])
-    requires ready { S.is_ready service.old }
-    requires room { most_bytes ≤ length room.old }
-    ensures done { DoesAll S.may_answer service.old queue.old queue.new service.new }
-    ensures ready { S.is_ready service.new }
-    ensures same_page { S.page service.new ≡ S.page service.old }
-{
-    for at in 0..queue.len() {
-        do_one(service, &mut queue[at], room);
-    }
-}
-
-/// Does a load or a store that waits.
-pub fn do_one<S: Service>(service: &mut S, queued: &mut Queued, room: &mut [u8])
-    requires ready { S.is_ready service.old }
-    requires room { most_bytes ≤ length room.old }
-    ensures done { DoesOne S.may_answer service.old queued.old queued.new service.new }
-    ensures ready { S.is_ready service.new }
-    ensures same_page { S.page service.new ≡ S.page service.old }
-{
-    let access = *queued.access();
-    match queued.doing() {
-        Doing::Load { count } => {
-            let loaded = service.load(&access, count, room);
-            queued.answer_load(loaded);
-        }
-        Doing::Store { bytes } => {
-            let stored = service.store(&access, bytes);
-            queued.answer_store(stored);
-        }
-    }
 }

@@ -3,9 +3,8 @@
 use crate::system::System;
 use hp_model::answer::Reply;
 use hp_model::naming::Naming;
-use hp_model::queued::Queued;
 use hp_model::refusal::Refusal;
-use hp_model::service::{Access, Service, do_each};
+use hp_model::service::{Access, Service};
 use hp_model::step::Step;
 use hp_model::told::Told;
 
@@ -43,10 +42,6 @@ impl<N: Naming> Service for System<N> {
 
     fn store(&mut self, access: &Access, bytes: &[u8]) -> Result<(), Refusal> {
         System::store(self, access, bytes)
-    }
-
-    fn do_queued(&mut self, queue: &mut [Queued], room: &mut [u8]) {
-        do_each(self, queue, room)
     }
 
     fn page_bytes(&self) -> u64 {

@@ -12,6 +12,7 @@ ghost use Rattle.hp_wire_lines.specs.Accesses.{is_access};
 
 use crate::ends::Sink;
 use crate::fault::RunFault;
+use crate::queue::Queue;
 use crate::replies::Replies;
 use hp_model::profile::MOST_LINE_BYTES;
 use hp_model::refusal::Refusal;
@@ -24,7 +25,7 @@ use hp_wire_lines::reading::{LineKind, kind_of_line, step_of_word};
 use hp_wire_lines::words::Words;
 
 // The room for the bytes of a store that is read, or of a page that is shown: made once for many lines.
-const ROOM: usize = 512;
+pub(crate) const ROOM: usize = 512;
 
 impl Replies {
     /// Answers the lines that end in these bytes, and writes out their replies. It says how many bytes follow the last of
@@ -32,24 +33,31 @@ impl Replies {
     pub fn answer_chunk<W: Sink, S: Service>(
         &mut self,
         chunk: &[u8],
+        queue: &mut Queue,
         service: &mut S,
         writer: &mut W,
     ) -> Result<(usize, u64), RunFault>
         requires ready { S.is_ready service.old }
         requires none { self.old.text ≡ [] }
+        requires no_queue { queue.old ≡ [] }
         ensures ran { OnOk result (RunsAll S.may_answer W.contents self.old.page
             (ended_lines chunk.now) service.old service.new writer.old writer.new) }
         ensures cut { IfErr result (RunsSome S.may_answer W.contents self.old.page
             (ended_lines chunk.now) service.old service.new writer.old writer.new) }
         ensures counts { IfOk result (CountsLines chunk.now) }
         ensures none { OnOk result (self.new.text ≡ []) }
+        ensures no_queue { OnOk result (queue.new ≡ []) }
         ensures page { self.new.page ≡ self.old.page }
         ensures sure { W.is_sure writer.old → IsOk result }
         ensures stays { W.is_sure writer.old → W.is_sure writer.new }
         ensures lent { W.lent writer.new ≡ W.lent writer.old }
         ensures ready { S.is_ready service.new }
     {
-        let (left, count) = self.answer_lines(chunk, service, writer)?;
+        let (left, count) = if service.takes_several() {
+            self.answer_together(chunk, queue, service, writer)?
+        } else {
+            self.answer_lines(chunk, service, writer)?
+        };
         self.send(writer)?;
         Ok((left, count))
     }

@@ -4,6 +4,8 @@
 mod answering;
 pub mod ends;
 pub mod fixed_buffer;
+mod gathering;
+mod queue;
 mod replies;
 pub mod running;
 mod unanswered;

@@ -6,6 +6,7 @@ ghost use Rattle.hp_model.specs.run.Served.{ServesInput};
 
 use crate::ends::{Sink, Source};
 use crate::fault::RunFault;
+use crate::queue::Queue;
 use crate::replies::Replies;
 use crate::unanswered::Unanswered;
 use hp_model::profile::MOST_INPUT_BYTES;
@@ -36,20 +37,28 @@ pub fn run_lines<R: Source, W: Sink, S: Service>(
     ensures lent { W.lent writer.new ≡ W.lent writer.old }
     ensures ready { S.is_ready service.new }
 {
-    let Ok((mut unanswered, mut replies)) = rooms(alloc, service.page_bytes()) else {
+    let Ok((mut unanswered, mut replies, mut queue)) = rooms(alloc, service.page_bytes()) else {
         return Err(RunFault::Memory);
     };
-    serve(reader, writer, service, &mut unanswered, &mut replies)
+    serve(
+        reader,
+        writer,
+        service,
+        &mut unanswered,
+        &mut replies,
+        &mut queue,
+    )
 }
 
-// The room for what is read and for the replies.
-fn rooms(alloc: Global, page: u64) -> Result<(Unanswered, Replies), AllocError>
+// The room for what is read, for the replies, and for what waits.
+fn rooms(alloc: Global, page: u64) -> Result<(Unanswered, Replies, Queue), AllocError>
     requires { page ≤ most_page_bytes }
-    ensures { IfOk result (λ x. (x.0 ≡ []) × (x.1.page ≡ page) × (x.1.text ≡ [])) }
+    ensures { IfOk result (λ x. (x.0 ≡ []) × (x.1.page ≡ page) × (x.1.text ≡ []) × (x.2 ≡ [])) }
 {
     let unanswered = Unanswered::new(alloc)?;
     let replies = Replies::new(alloc, page)?;
-    Ok((unanswered, replies))
+    let queue = Queue::new(alloc)?;
+    Ok((unanswered, replies, queue))
 }
 
 fn serve<R: Source, W: Sink, S: Service>(
@@ -58,8 +67,10 @@ fn serve<R: Source, W: Sink, S: Service>(
     service: &mut S,
     unanswered: &mut Unanswered,
     replies: &mut Replies,
+    queue: &mut Queue,
 ) -> Result<u64, RunFault>
     requires unread { unanswered.old ≡ [] }
+    requires no_queue { queue.old ≡ [] }
     requires none { replies.old.text ≡ [] }
     requires ready { S.is_ready service.old }
     ensures served { ServesInput S.may_answer (λ _. replies.old.page) R.remaining W.contents
@@ -80,10 +91,10 @@ fn serve<R: Source, W: Sink, S: Service>(
         }
         total += n as u64;
         if total > MOST_INPUT_BYTES {
-            replies.answer_chunk(&bytes[..bytes.len() - 1], service, writer)?;
+            replies.answer_chunk(&bytes[..bytes.len() - 1], queue, service, writer)?;
             return Err(RunFault::TooLong);
         }
-        let (left, more) = replies.answer_chunk(bytes, service, writer)?;
+        let (left, more) = replies.answer_chunk(bytes, queue, service, writer)?;
         unanswered.keep_last(left);
         count += more;
     }

@@ -1,20 +1,18 @@
 //! Loads and stores that wait, done several at a time.
-ghost use Rattle.std.specs.Prelude.{◌≡◌, ◌<◌, ◌≤◌, drop, false, length, take};
-ghost use Rattle.hp_model.specs.beside.Queue.{DoesAll};
+ghost use Rattle.std.specs.Prelude.{◌≡◌, ◌<◌, ◌≤◌, drop, length, take};
+ghost use Rattle.hp_model.specs.beside.Queue.{DoesAll, DoesOne};
 ghost use Rattle.hp_model.specs.Profile.{most_bytes};
 ghost use Rattle.hp_sessions.specs.Calls.{IsCallAnswered};
 
 use super::Session;
-use hp_model::queued::Queued;
-use hp_model::service::do_one;
+use hp_model::queued::{Doing, Queued};
 use hp_parts::Parts;
 
 impl<P: Parts> Session<P> {
-    // Does the loads and stores of a queue where no entries are kept: those of one slot that follow each other together, and
-    // each that its slot did not take by itself.
-    pub(super) fn do_unkept(&mut self, queue: &mut [Queued], room: &mut [u8])
-        requires unkept { P.keeps ≡ false }
-        requires room { most_bytes ≤ length room.old }
+    // Does the loads and stores of a queue: those of one slot that follow each other together, where no entries are kept, and
+    // each other one by itself.
+    pub(super) fn do_waiting(&mut self, queue: &mut [Queued], room: &mut [u8])
+        requires { most_bytes ≤ length room.old }
         ensures { DoesAll (λ s step reply t. IsCallAnswered P.keeps P.page s step reply t)
             self.old queue.old queue.new self.new }
     {
@@ -23,8 +21,27 @@ impl<P: Parts> Session<P> {
             let some = self.do_together(&mut queue[done..], room);
             done += some;
             if some == 0 {
-                do_one(self, &mut queue[done], room);
+                self.do_alone(&mut queue[done], room);
                 done += 1;
+            }
+        }
+    }
+
+    // Does a load or a store by itself.
+    fn do_alone(&mut self, queued: &mut Queued, room: &mut [u8])
+        requires { most_bytes ≤ length room.old }
+        ensures { DoesOne (λ s step reply t. IsCallAnswered P.keeps P.page s step reply t)
+            self.old queued.old queued.new self.new }
+    {
+        let access = *queued.access();
+        match queued.doing() {
+            Doing::Load { count } => {
+                let loaded = self.load(&access, count, room);
+                queued.answer_load(loaded);
+            }
+            Doing::Store { bytes } => {
+                let stored = self.store(&access, bytes);
+                queued.answer_store(stored);
             }
         }
     }
@@ -32,7 +49,6 @@ impl<P: Parts> Session<P> {
     // Does the first loads and stores of a queue, as many as their slot takes at once.
     #[inline(always)]
     fn do_together(&self, queue: &mut [Queued], room: &mut [u8]) -> usize
-        requires unkept { P.keeps ≡ false }
         requires some { 0 < length queue.old }
         requires room { most_bytes ≤ length room.old }
         ensures few { result ≤ length queue.old }
@@ -41,7 +57,7 @@ impl<P: Parts> Session<P> {
         ensures left { drop result queue.new ≡ drop result queue.old }
     {
         let at = queue[0].access().slot as usize;
-        if at >= self.parts.count() {
+        if self.parts.is_kept() || at >= self.parts.count() {
             return 0;
         }
         self.parts.accesses(at, queue, room)

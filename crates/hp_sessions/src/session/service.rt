@@ -5,7 +5,7 @@ use super::Session;
 use hp_model::answer::Reply;
 use hp_model::queued::Queued;
 use hp_model::refusal::Refusal;
-use hp_model::service::{Access, Service, do_each};
+use hp_model::service::{Access, Service};
 use hp_model::step::Step;
 use hp_model::told::Told;
 use hp_parts::Parts;
@@ -50,10 +50,7 @@ impl<P: Parts> Service for Session<P> {
     }
 
     fn do_queued(&mut self, queue: &mut [Queued], room: &mut [u8]) {
-        if self.parts.is_kept() {
-            return do_each(self, queue, room);
-        }
-        self.do_unkept(queue, room)
+        self.do_waiting(queue, room)
     }
 
     fn page_bytes(&self) -> u64 {

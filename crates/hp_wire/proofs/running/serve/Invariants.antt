@@ -13,6 +13,7 @@ invariant-loop g l = record {
   page : l.replies.page ≡ l.fn.replies.page;
   ready : g.S.Service.is_ready l.service;
   none : l.replies.text ≡ [];
+  no_queue : l.queue ≡ [];
   reader : g.R.Source.is_sure l.fn.reader → g.R.Source.is_sure l.reader;
   writer : g.W.Sink.is_sure l.fn.writer → g.W.Sink.is_sure l.writer;
   lent : g.W.Sink.lent l.writer ≡ g.W.Sink.lent l.fn.writer;

@@ -1,0 +1,135 @@
+//! Answers to lines of which loads and stores are done several at a time.
+ghost use Rattle.std.specs.Prelude.{◌≡◌, ◌<◌, ◌++◌, ◌∷◌, [], List, length, IfErr, IfOk, IsOk, OnOk};
+ghost use Rattle.hp_model.specs.text.Lines.{Line, ended, ended_lines};
+ghost use Rattle.hp_wire.specs.Answered.{AnswersAll, AnswersSome};
+ghost use Rattle.hp_wire.specs.Queues.{AddsText, AreRead, CutsText, TakesLine, queued_text};
+ghost use Rattle.hp_wire.specs.Unanswered.{CountsLines};
+
+use crate::answering::ROOM;
+use crate::ends::Sink;
+use crate::fault::RunFault;
+use crate::queue::Queue;
+use crate::replies::Replies;
+use hp_model::service::Service;
+use hp_text::pieces::first_long_piece;
+
+impl Replies {
+    /// Answers the lines that end in these bytes as `answer_lines` does. Loads and stores wait in the queue for those behind
+    /// them, and none waits at the end.
+    pub fn answer_together<W: Sink, S: Service>(
+        &mut self,
+        bytes: &[u8],
+        queue: &mut Queue,
+        service: &mut S,
+        writer: &mut W,
+    ) -> Result<(usize, u64), RunFault>
+        requires ready { S.is_ready service.old }
+        requires none { queue.old ≡ [] }
+        ensures answered { OnOk result (AnswersAll S.may_answer W.contents (ended_lines bytes.now)
+            service.old service.new writer.old writer.new self.old self.new) }
+        ensures cut { IfErr result (AnswersSome S.may_answer W.contents (ended_lines bytes.now)
+            service.old service.new writer.old writer.new self.old) }
+        ensures counts { IfOk result (CountsLines bytes.now) }
+        ensures none { OnOk result (queue.new ≡ []) }
+        ensures page { self.new.page ≡ self.old.page }
+        ensures sure { W.is_sure writer.old → IsOk result }
+        ensures stays { W.is_sure writer.old → W.is_sure writer.new }
+        ensures lent { W.lent writer.new ≡ W.lent writer.old }
+        ensures ready { S.is_ready service.new }
+    {
+        let mut room = [0u8; ROOM];
+        let mut rest = bytes;
+        let mut count = 0u64;
+        while let (line, Some(after)) = first_long_piece(b'\n', rest) {
+            self.take_line(line, queue, &mut room, service, writer)?;
+            count += 1;
+            rest = after;
+        }
+        self.answer_queued(queue, &mut room, service, writer)?;
+        Ok((rest.len(), count))
+    }
+
+    // Takes a line into the queue, and answers all that waits once that is full; a line that can't wait is answered behind
+    // those that do.
+    #[inline(always)]
+    fn take_line<W: Sink, S: Service>(
+        &mut self,
+        line: &[u8],
+        queue: &mut Queue,
+        room: &mut [u8; ROOM],
+        service: &mut S,
+        writer: &mut W,
+    ) -> Result<(), RunFault>
+        requires ready { S.is_ready service.old }
+        requires few { length queue.old < 8 }
+        ensures taken { OnOk result ((waiting : List Line) → AreRead waiting queue.old
+            → TakesLine S.may_answer W.contents (waiting ++ ended line.now ∷ [])
+            service.old service.new writer.old writer.new self.old self.new queue.new) }
+        ensures cut { IfErr result (λ fault. (waiting : List Line) → AreRead waiting queue.old
+            → AnswersSome S.may_answer W.contents (waiting ++ ended line.now ∷ [])
+            service.old service.new writer.old writer.new self.old fault) }
+        ensures few { OnOk result (length queue.new < 8) }
+        ensures page { self.new.page ≡ self.old.page }
+        ensures sure { W.is_sure writer.old → IsOk result }
+        ensures stays { W.is_sure writer.old → W.is_sure writer.new }
+        ensures lent { W.lent writer.new ≡ W.lent writer.old }
+        ensures ready { S.is_ready service.new }
+    {
+        if queue.take(line, room) {
+            if queue.is_full() {
+                return self.answer_queued(queue, room, service, writer);
+            }
+            return Ok(());
+        }
+        self.answer_queued(queue, room, service, writer)?;
+        self.answer_line(line, room, service, writer)
+    }
+
+    // Does all that waits, and adds the replies.
+    #[inline(never)]
+    fn answer_queued<W: Sink, S: Service>(
+        &mut self,
+        queue: &mut Queue,
+        room: &mut [u8; ROOM],
+        service: &mut S,
+        writer: &mut W,
+    ) -> Result<(), RunFault>
+        requires { S.is_ready service.old }
+        ensures answered { OnOk result ((lines : List Line) → AreRead lines queue.old
+            → AnswersAll S.may_answer W.contents lines
+            service.old service.new writer.old writer.new self.old self.new) }
+        ensures cut { IfErr result (λ fault. (lines : List Line) → AreRead lines queue.old
+            → AnswersSome S.may_answer W.contents lines
+            service.old service.new writer.old writer.new self.old fault) }
+        ensures none { OnOk result (queue.new ≡ []) }
+        ensures page { self.new.page ≡ self.old.page }
+        ensures sure { W.is_sure writer.old → IsOk result }
+        ensures stays { W.is_sure writer.old → W.is_sure writer.new }
+        ensures lent { W.lent writer.new ≡ W.lent writer.old }
+        ensures ready { S.is_ready service.new }
+    {
+        queue.do_all(service, room);
+        self.add_queued(queue, writer)?;
+        queue.clear();
+        Ok(())
+    }
+
+    // Adds the replies of all that was done.
+    fn add_queued<W: Sink>(&mut self, queue: &Queue, writer: &mut W) -> Result<(), RunFault>
+        ensures added { OnOk result (AddsText W.contents writer.old writer.new self.old self.new
+            (queued_text self.old.page queue.now)) }
+        ensures cut { IfErr result (CutsText W.contents writer.old writer.new self.old
+            (queued_text self.old.page queue.now)) }
+        ensures page { self.new.page ≡ self.old.page }
+        ensures sure { W.is_sure writer.old → IsOk result }
+        ensures stays { W.is_sure writer.old → W.is_sure writer.new }
+        ensures lent { W.lent writer.new ≡ W.lent writer.old }
+    {
+        let waiting = queue.as_slice();
+        for at in 0..waiting.len() {
+            self.make_room(writer)?;
+            self.add(&waiting[at].reply());
+        }
+        Ok(())
+    }
+}
