@@ -1,4 +1,4 @@
-# Installs what was built: `make install` takes the program that ./run and the gate prove, or another that PROGRAM= names. It builds nothing itself.
+# Installs what was built: `make install` takes the program that ./prove or the gate proved, or another that PROGRAM= names. It builds nothing itself.
 PREFIX ?= /usr/local
 DESTDIR ?=
 PROGRAM ?= crates/hugetlbd/out/hugetlbd
@@ -15,7 +15,7 @@ check:
 	.ci/run
 
 install:
-	@test -x "$(PROGRAM)" || { echo "install: $(PROGRAM) is not there: ./run proves and builds it, or PROGRAM= names another" >&2; exit 1; }
+	@test -x "$(PROGRAM)" || { echo "install: $(PROGRAM) is not there: ./prove proves and builds it, or PROGRAM= names another" >&2; exit 1; }
 	packaging/make-manual --check
 	install -D -m 755 "$(PROGRAM)" "$(bin)/hugetlbd"
 	install -D -m 755 tools/hugetlbctl "$(bin)/hugetlbctl"

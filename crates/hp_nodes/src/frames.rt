@@ -9,7 +9,7 @@ use crate::draft::PageDraft;
 use crate::page::{Marks, Page};
 use hp_frames::Stock;
 use hp_model::naming::Naming;
-use hp_permit::{Claim, ClaimSet};
+use hp_permit::{Claim, ClaimSet, Redeemed};
 use hp_units::Quad;
 use std::marker::Model;
 
@@ -17,7 +17,7 @@ use std::marker::Model;
 pub struct NodeFrames<N: Naming, const K: usize> {
     stock: Stock,
     marks: Marks<N>,
-    kept: Claim<N>,
+    kept: Redeemed<N>,
 }
 
 impl<N: Naming, const K: usize> Model for NodeFrames<N, K> {
@@ -43,7 +43,7 @@ fn join_marks<N: Naming>(marks: &mut Marks<N>, mark: Marks<N>, node: usize)
 
 impl<N: Naming, const K: usize> NodeFrames<N, K> {
     // All frames of the node are here.
-    fn new(stock: Stock, marks: Marks<N>, kept: Claim<N>) -> Self
+    fn new(stock: Stock, marks: Marks<N>, kept: Redeemed<N>) -> Self
         requires node { stock.node ≡ K }
         requires below { K < 4 }
         requires home { IsHome N.frames N.memory N.page_bytes stock marks kept }
@@ -146,10 +146,10 @@ impl<N: Naming> Frames<N> {
         let mut claims = ClaimSet::all(claims_0, claims_1, claims_2, claims_3);
         let mut marks: Marks<N> = Quad::all(pages_0, pages_1, pages_2, pages_3);
         let frames = Frames {
-            zero: NodeFrames::new(stock_0, marks.split(0, count_0), claims.none(0)),
-            one: NodeFrames::new(stock_1, marks.split(1, count_1), claims.none(1)),
-            two: NodeFrames::new(stock_2, marks.split(2, count_2), claims.none(2)),
-            three: NodeFrames::new(stock_3, marks.split(3, count_3), claims.none(3)),
+            zero: NodeFrames::new(stock_0, marks.split(0, count_0), claims.redeemed(0)),
+            one: NodeFrames::new(stock_1, marks.split(1, count_1), claims.redeemed(1)),
+            two: NodeFrames::new(stock_2, marks.split(2, count_2), claims.redeemed(2)),
+            three: NodeFrames::new(stock_3, marks.split(3, count_3), claims.redeemed(3)),
         };
         marks.close();
         (frames, claims)

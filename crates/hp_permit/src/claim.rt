@@ -108,8 +108,8 @@ impl<N: Naming> Claim<N> {
         self.amount += amount;
     }
 
-    /// Ends it. Its frames can't be claimed any more.
-    pub fn close(self) {
+    // Ends it. Its frames can't be claimed any more.
+    pub(crate) fn close(self) {
         let (_, _, parts) = self.into_parts();
         parts.close();
     }

@@ -2,6 +2,7 @@
 ghost use Rattle.std.specs.Prelude.{◌≡◌, ℕ, ◌+◌, ◌-◌, ◌<◌, ◌≤◌, [], ◌∷◌, slice_index, slice_set};
 
 use crate::claim::{Claim, ClaimParts};
+use crate::redeemed::Redeemed;
 use hp_model::naming::Naming;
 use hp_units::Quad;
 use std::marker::Model;
@@ -44,16 +45,16 @@ impl<N: Naming> ClaimSet<N> {
         }
     }
 
-    /// A claim on no frame of a node.
-    pub fn none(&mut self, node: usize) -> Claim<N>
+    /// What is to hold the claims of a node's pages that are out: none yet.
+    pub fn redeemed(&mut self, node: usize) -> Redeemed<N>
         requires { node < 4 }
         ensures none { result ≡ record { node = node; amount = 0 } }
         ensures same { self.new ≡ self.old }
     {
-        Claim::new(node, 0, self.parts.split(node, 0))
+        Redeemed::new(Claim::new(node, 0, self.parts.split(node, 0)))
     }
 
-    /// Ends them. Their frames can't be claimed any more.
+    /// Ends them, with the pool. Their frames can't be claimed any more.
     pub fn close(self) {
         let ClaimSet { parts } = self;
         parts.close();

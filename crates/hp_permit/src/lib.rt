@@ -5,8 +5,10 @@ mod book;
 mod claim;
 mod claim_set;
 mod permit;
+mod redeemed;
 
 pub use book::Book;
 pub use claim::Claim;
 pub use claim_set::ClaimSet;
 pub use permit::Permit;
+pub use redeemed::Redeemed;

@@ -56,7 +56,7 @@ fn tells<R: Abort>(rt: &R, stream: &TcpStream, replies: &[u8]) -> io::Result<()>
     Ok(())
 }
 
-fn asks<R: Abort>(rt: &R, stream: &TcpStream, lines: &[u8], replies: &[u8]) -> io::Result<()> {
+pub(crate) fn asks<R: Abort>(rt: &R, stream: &TcpStream, lines: &[u8], replies: &[u8]) -> io::Result<()> {
     let mut ends = stream;
     ends.write_all(lines)?;
     tells(rt, stream, replies)

@@ -4,6 +4,10 @@
 #[cfg(test)]
 mod closing;
 #[cfg(test)]
+mod filling;
+#[cfg(test)]
+mod full;
+#[cfg(test)]
 mod gates;
 #[cfg(test)]
 mod many;

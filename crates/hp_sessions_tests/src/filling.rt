@@ -1,0 +1,181 @@
+//! Pages of a range, which are filled when their node's lock is let go.
+ghost use Rattle.std.specs.Prelude.{◌≡◌, ◌∷◌, []};
+ghost use Rattle.hp_nodes.specs.Ledgers.{AreFrames};
+ghost use Rattle.hp_pool.specs.Ledgers.{AreLedgers};
+
+use crate::gates::Free;
+use crate::rows::{ROOM, call, opened};
+use crate::same::same;
+use hp_closing::close;
+use hp_homes::{Blank, Noted};
+use hp_locked::Gate;
+use hp_model::answer::Answer;
+use hp_model::entry::Receipt;
+use hp_model::lent::Lent;
+use hp_model::naming::Naming;
+use hp_model::step::{Reserving, Sharing, Step};
+use hp_parts::Parts;
+use hp_pool::Blanks;
+use hp_sessions::Session;
+use hp_shared::Shared;
+use std::alloc::Global;
+use std::marker::Brand;
+use std::process::Abort;
+use std::sync::Wait;
+use std::sync::atomic::{AtomicU64, Ordering};
+use std::thread;
+use std::thread::Threads;
+use std::time::{Clock, Duration};
+
+// 256 MiB, of pages as large as there are: to fill them takes a hundred times as long as to store into one.
+const PAGES: u64 = 128;
+
+const PAGE_BYTES: usize = 2_097_152;
+
+const MOST_TURNS: u64 = 10_000;
+
+/// Notes that a node's lock was taken, and that all pages were filled.
+#[derive(Drop)]
+pub struct Filling {
+    drawn: AtomicU64,
+    filled: AtomicU64,
+}
+
+impl Gate for Filling {
+    fn frame(&self, _node: u64) {
+        self.drawn.store(1, Ordering::SeqCst);
+    }
+}
+
+impl Filling {
+    // Waits until the pages are being drawn, but no longer than 10,000 turns of a millisecond.
+    fn wait<R: Clock>(&self, rt: &R) {
+        for _turn in 0..MOST_TURNS {
+            if self.drawn.load(Ordering::SeqCst) != 0 {
+                return;
+            }
+            thread::sleep(rt, Duration::from_millis(1));
+        }
+    }
+}
+
+// A file to be filled, and a map of a page on another slot.
+fn start<R: Abort, P: Parts>(rt: &R, session: &mut Session<P>) {
+    let pages = PAGES + 1;
+    same!(rt; call(session, &Step::Nr { pages }), Ok(Answer::Number(PAGES + 1)));
+    same!(rt; call(session, &Step::Connect { task: 2, home: 0 }), Ok(Answer::Done));
+    for slot in 1..3 {
+        let options = Lent::new(b"-");
+        same!(rt; call(session, &Step::Mount { slot, options }), Ok(Answer::Done));
+        let name = Lent::new(b"a");
+        same!(rt; call(session, &Step::Create { slot, name }), Ok(Answer::Done));
+    }
+    let map = Step::Map {
+        task: 2,
+        slot: 2,
+        name: Lent::new(b"a"),
+        from: 0,
+        pages: 1,
+        sharing: Sharing::Shared,
+        reserving: Reserving::Reserve,
+    };
+    same!(rt; call(session, &map), Ok(Answer::MapNo(1)));
+}
+
+fn fills<N: Naming + Noted, R: Wait + Abort, const K: usize>(
+    rt: &R,
+    alloc: Global,
+    shared: &Shared<N, K>,
+    filling: &Filling,
+) -> Vec<Receipt> {
+    let mut session = opened(rt, alloc, shared, filling, ROOM);
+    let all = Step::Preallocate {
+        slot: 1,
+        name: Lent::new(b"a"),
+        from: 0,
+        to: PAGES,
+    };
+    same!(rt; call(&mut session, &all), Ok(Answer::Done));
+    filling.filled.store(1, Ordering::SeqCst);
+    session.finish()
+}
+
+// Stores into a page of the same node, once the others are being drawn: whether these were filled by then.
+fn stores<N: Naming + Noted, R: Wait + Abort + Clock, const K: usize>(
+    rt: &R,
+    alloc: Global,
+    shared: &Shared<N, K>,
+    filling: &Filling,
+) -> (u64, Vec<Receipt>) {
+    filling.wait(rt);
+    let free = Free {};
+    let mut session = opened(rt, alloc, shared, &free, ROOM);
+    let store = Step::Store {
+        task: 2,
+        slot: 2,
+        map: 1,
+        index: 0,
+        offset: 0,
+        bytes: Lent::new(&[0x22]),
+    };
+    same!(rt; call(&mut session, &store), Ok(Answer::Done));
+    let filled = filling.filled.load(Ordering::SeqCst);
+    (filled, session.finish())
+}
+
+fn beside<
+    N: Naming + Noted + Send + Sync,
+    R: Threads + Wait + Abort + Clock + Sync,
+    const K: usize,
+>(
+    rt: &R,
+    alloc: Global,
+    shared: &Shared<N, K>,
+    filling: &Filling,
+) -> (Vec<Receipt>, (u64, Vec<Receipt>)) {
+    thread::join(
+        rt,
+        move || fills(rt, alloc, shared, filling),
+        move || stores(rt, alloc, shared, filling),
+    )
+}
+
+fn row<N: Naming + Noted + Send + Sync, R: Threads + Wait + Abort + Clock + Sync>(
+    rt: &R,
+    alloc: Global,
+    blanks: Blanks,
+    words: Blank,
+)
+    requires ledgers { AreLedgers N.Naming blanks }
+    requires words { words.words.shared.table_id ≡ N.words }
+    requires frames { AreFrames N.frames (129 ∷ []) }
+    requires bytes { N.page_bytes ≡ 2097152 }
+{
+    let shared = Shared::<N, 1>::new(alloc, &[129], PAGE_BYTES, 4, ROOM, blanks, words).expect(
+        rt, "memory",
+    );
+    let free = Free {};
+    let mut first = opened(rt, alloc, &shared, &free, ROOM);
+    start(rt, &mut first);
+    let told = first.finish();
+    let filling = Filling {
+        drawn: AtomicU64::new(0),
+        filled: AtomicU64::new(0),
+    };
+    let (one, (filled, two)) = beside(rt, alloc, &shared, &filling);
+    same!(rt; filled, 0);
+    let mut all = Vec::with_capacity(alloc, 3).expect(rt, "memory");
+    all.push_reserved(told);
+    all.push_reserved(one);
+    all.push_reserved(two);
+    let closed = close(alloc, shared, all).expect(rt, "memory");
+    same!(rt; closed.audit, Some(true));
+    same!(rt; [closed.counts.total, closed.counts.free, closed.counts.rsvd], [129, 129, 0]);
+}
+
+#[test]
+fn a_range_is_filled_with_no_node_held(rt: HostRuntime) {
+    let blanks = Blanks::new(rt.alloc(), &[129], PAGE_BYTES).expect(&rt, "memory");
+    let words = Blank::new(rt.alloc()).expect(&rt, "memory");
+    row::<Brand, HostRuntime>(&rt, rt.alloc(), blanks, words);
+}

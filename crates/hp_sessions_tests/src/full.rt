@@ -1,0 +1,194 @@
+//! Full trails, a full room, and what a session left to others.
+ghost use Rattle.std.specs.Prelude.{◌≡◌, ◌≤◌, ◌∷◌, []};
+ghost use Rattle.hp_nodes.specs.Ledgers.{AreFrames};
+ghost use Rattle.hp_pool.specs.Ledgers.{AreLedgers};
+
+use crate::gates::Free;
+use crate::rows::{call, counts, opened};
+use crate::same::same;
+use hp_closing::{audit, into_system};
+use hp_homes::{Blank, Noted};
+use hp_model::answer::{Answer, Reply};
+use hp_model::entry::Receipt;
+use hp_model::lent::Lent;
+use hp_model::naming::Naming;
+use hp_model::refusal::Refusal;
+use hp_model::step::{Reserving, Sharing, Step};
+use hp_parts::Parts;
+use hp_pool::Blanks;
+use hp_sessions::Session;
+use hp_shared::Shared;
+use std::alloc::Global;
+use std::marker::Brand;
+use std::process::Abort;
+use std::sync::Wait;
+
+fn connect<P: Parts>(session: &mut Session<P>, task: u64) -> Reply {
+    call(session, &Step::Connect { task, home: 0 })
+}
+
+// What these sessions were told, and the trails, are one run: of how many events, and how many entries the task table has.
+fn joined<N: Naming + Noted, R: Abort>(
+    rt: &R,
+    alloc: Global,
+    shared: Shared<N, 1>,
+    told: Vec<Vec<Receipt>>,
+) -> [usize; 2] {
+    let (system, trails) = into_system(shared);
+    system.close();
+    let Some(trails) = trails else {
+        panic!(rt; "no trails");
+    };
+    let events = audit(alloc, &trails, told).expect(rt, "trails that are joined");
+    [events.len(), trails.tasks.len()]
+}
+
+fn alone<R: Abort>(rt: &R, alloc: Global, told: Vec<Receipt>) -> Vec<Vec<Receipt>> {
+    let mut all = Vec::with_capacity(alloc, 1).expect(rt, "memory");
+    all.push_reserved(told);
+    all
+}
+
+// Each trail has two places: of tasks and of the pool all is refused then but what gives back.
+fn two_places<R: Abort, P: Parts>(rt: &R, session: &mut Session<P>) {
+    same!(rt; connect(session, 1), Ok(Answer::Done));
+    same!(rt; connect(session, 2), Ok(Answer::Done));
+    same!(rt; connect(session, 3), Err(Refusal::TraceFull));
+    same!(rt; counts(session), Some([0, 0, 0, 0]));
+    same!(rt; call(session, &Step::Nr { pages: 4 }), Ok(Answer::Number(4)));
+    same!(rt; call(session, &Step::Nr { pages: 5 }), Err(Refusal::TraceFull));
+    same!(rt; call(session, &Step::Meminfo), Err(Refusal::TraceFull));
+    same!(rt; call(session, &Step::Attach { task: 2 }), Err(Refusal::TraceFull));
+    same!(rt; call(session, &Step::Exit { task: 1 }), Ok(Answer::Done));
+    same!(rt; call(session, &Step::Exit { task: 1 }), Err(Refusal::TraceFull));
+}
+
+fn full_trails<N: Naming + Noted, R: Wait + Abort>(
+    rt: &R,
+    alloc: Global,
+    blanks: Blanks,
+    words: Blank,
+)
+    requires ledgers { AreLedgers N.Naming blanks }
+    requires words { words.words.shared.table_id ≡ N.words }
+    requires frames { AreFrames N.frames (4 ∷ 4 ∷ []) }
+    requires bytes { N.page_bytes ≡ 1024 }
+{
+    let shared = Shared::<N, 1>::new(alloc, &[4, 4], 1024, 4, 2, blanks, words).expect(
+        rt, "memory",
+    );
+    let free = Free {};
+    let mut session = opened(rt, alloc, &shared, &free, 16);
+    two_places(rt, &mut session);
+    let told = session.finish();
+    same!(rt; told.len(), 5);
+    let all = alone(rt, alloc, told);
+    same!(rt; joined(rt, alloc, shared, all), [5, 3]);
+}
+
+// With room for one receipt the second step is refused before its event.
+fn full_room<N: Naming + Noted, R: Wait + Abort>(
+    rt: &R,
+    alloc: Global,
+    blanks: Blanks,
+    words: Blank,
+)
+    requires ledgers { AreLedgers N.Naming blanks }
+    requires words { words.words.shared.table_id ≡ N.words }
+    requires frames { AreFrames N.frames (4 ∷ 4 ∷ []) }
+    requires bytes { N.page_bytes ≡ 1024 }
+{
+    let shared = Shared::<N, 1>::new(alloc, &[4, 4], 1024, 4, 16, blanks, words).expect(
+        rt, "memory",
+    );
+    let free = Free {};
+    let mut session = opened(rt, alloc, &shared, &free, 1);
+    same!(rt; connect(&mut session, 1), Ok(Answer::Done));
+    same!(rt; connect(&mut session, 2), Err(Refusal::TraceFull));
+    let told = session.finish();
+    same!(rt; told.len(), 1);
+    let all = alone(rt, alloc, told);
+    same!(rt; joined(rt, alloc, shared, all), [1, 1]);
+}
+
+// A task with a map and a page, which its session leaves.
+fn leaves<R: Abort, P: Parts>(rt: &R, session: &mut Session<P>) {
+    same!(rt; call(session, &Step::Nr { pages: 4 }), Ok(Answer::Number(4)));
+    same!(rt; connect(session, 1), Ok(Answer::Done));
+    let anon = Step::Anon {
+        task: 1,
+        pages: 1,
+        sharing: Sharing::Private,
+        reserving: Reserving::Reserve,
+    };
+    same!(rt; call(session, &anon), Ok(Answer::MapNo(1)));
+    let store = Step::Store {
+        task: 1,
+        slot: 0,
+        map: 1,
+        index: 0,
+        offset: 0,
+        bytes: Lent::new(&[0x5a]),
+    };
+    same!(rt; call(session, &store), Ok(Answer::Done));
+}
+
+// Another session finds all that, and ends it.
+fn finds<R: Abort, P: Parts>(rt: &R, session: &mut Session<P>) {
+    same!(rt; call(session, &Step::Attach { task: 1 }), Ok(Answer::Home(0)));
+    let load = Step::Load {
+        task: 1,
+        slot: 0,
+        map: 1,
+        index: 0,
+        offset: 0,
+        count: 1,
+    };
+    let mut bytes = [0u8; 256];
+    bytes[0] = 0x5a;
+    same!(rt; call(session, &load), Ok(Answer::Bytes { count: 1, bytes }));
+    same!(rt; call(session, &Step::Exit { task: 1 }), Ok(Answer::Done));
+    same!(rt; counts(session), Some([4, 4, 0, 0]));
+}
+
+fn left<N: Naming + Noted, R: Wait + Abort>(rt: &R, alloc: Global, blanks: Blanks, words: Blank)
+    requires ledgers { AreLedgers N.Naming blanks }
+    requires words { words.words.shared.table_id ≡ N.words }
+    requires frames { AreFrames N.frames (4 ∷ 4 ∷ []) }
+    requires bytes { N.page_bytes ≡ 1024 }
+{
+    let shared = Shared::<N, 1>::new(alloc, &[4, 4], 1024, 4, 16, blanks, words).expect(
+        rt, "memory",
+    );
+    let free = Free {};
+    let mut first = opened(rt, alloc, &shared, &free, 16);
+    leaves(rt, &mut first);
+    let mut second = opened(rt, alloc, &shared, &free, 16);
+    finds(rt, &mut second);
+    let mut all = Vec::with_capacity(alloc, 2).expect(rt, "memory");
+    all.push_reserved(first.finish());
+    all.push_reserved(second.finish());
+    let [_events, tasks] = joined(rt, alloc, shared, all);
+    same!(rt; tasks, 6);
+}
+
+#[test]
+fn full_trails_refuse_all_but_what_gives_back(rt: HostRuntime) {
+    let blanks = Blanks::new(rt.alloc(), &[4, 4], 1024).expect(&rt, "memory");
+    let words = Blank::new(rt.alloc()).expect(&rt, "memory");
+    full_trails::<Brand, HostRuntime>(&rt, rt.alloc(), blanks, words);
+}
+
+#[test]
+fn a_full_room_refuses_a_step_with_no_event(rt: HostRuntime) {
+    let blanks = Blanks::new(rt.alloc(), &[4, 4], 1024).expect(&rt, "memory");
+    let words = Blank::new(rt.alloc()).expect(&rt, "memory");
+    full_room::<Brand, HostRuntime>(&rt, rt.alloc(), blanks, words);
+}
+
+#[test]
+fn what_a_session_left_is_there_for_another(rt: HostRuntime) {
+    let blanks = Blanks::new(rt.alloc(), &[4, 4], 1024).expect(&rt, "memory");
+    let words = Blank::new(rt.alloc()).expect(&rt, "memory");
+    left::<Brand, HostRuntime>(&rt, rt.alloc(), blanks, words);
+}
