@@ -121,7 +121,7 @@ fn row<
 {
     let listener = TcpListener::bind(rt, "127.0.0.1:0").expect(rt, "a port");
     let at = listener.local_addr().expect(rt, "an address");
-    let mut connections = Listening::new(listener, Vec::new(alloc));
+    let mut connections = Listening::new(rt, alloc, listener, Vec::new(alloc));
     let hold = Hold::new(rt, place);
     let mut output = Vec::new(alloc);
     let serving = ||
@@ -129,7 +129,7 @@ fn row<
         requires words { words.words.shared.table_id ≡ N.words }
         requires frames { AreFrames N.frames (4 ∷ 4 ∷ []) }
         requires bytes { N.page_bytes ≡ 1024 }
-    { serves::<N, R, Listening<Vec<u8>>>(rt, alloc, blanks, words, &hold, &mut connections, &mut output) };
+    { serves::<N, R, Listening<'_, R, Vec<u8>>>(rt, alloc, blanks, words, &hold, &mut connections, &mut output) };
     let (told, status) = join(rt, || clients(rt, at, &hold, meanwhile), serving);
     told.expect(rt, "clients that are served");
     same!(rt; status, 0);
