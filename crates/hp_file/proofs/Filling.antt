@@ -1,14 +1,15 @@
 -- Indices of a file get entries, and those without a page pages of zeros.
 use Rattle.std.proofs.Common.{◌≡◌, ℕ, zero, suc, ◌+◌, ◌-◌, ◌<◌, ◌≤◌, true, cond, Option, None, List, [], ◌∷◌, ◌++◌, append_assoc, length, map, take, drop, replicate, refl, sym, ap, ◌∙◌, arith}
+use Rattle.std.proofs.Common.{false, not}
 use Rattle.std.specs.Prelude.{is_some, slice_index_or, slice_set}
 use Rattle.std.specs.List.{count_by, sum_by}
-use Rattle.std.proofs.lemmas.List.{get_or-drop, get_or-set_same, length-append, length-drop, length-map, length-replicate, length-take, map-append, map-set, set-set, take_more}
+use Rattle.std.proofs.lemmas.List.{get_or-drop, get_or-take, get_or-set_same, length-append, length-drop, length-map, length-replicate, length-take, map-append, map-set, set-set, take_more}
 use Rattle.std.proofs.lemmas.Simd.{map-map}
 use Rattle.std.proofs.lemmas.List.Sums.{sum_by-append, sum_by-cons}
 use Rattle.std.proofs.Math.Seq.{drop-append_seam, take-append_seam}
 use Rattle.hp_model.specs.declared.cell.Cell.{Cell}
 use Rattle.hp_model.specs.declared.cell.Cell.TheVariants.{Hole, Entered, Present}
-use Rattle.hp_model.specs.files.File.{File, at_least, cell_at, cell_in, entered, is_entered, new_file, page_of}
+use Rattle.hp_model.specs.files.File.{File, at_least, cell_at, cell_in, entered, has_page, is_entered, new_file, page_of}
 use Rattle.hp_model.specs.files.Fill.{cells_filled, lacking, lacks_page, range_filled, rising_nodes, zero_page}
 use Rattle.hp_model.specs.files.Page.{Page}
 use Rattle.hp_model.specs.Lists.{edit_range, part}
@@ -77,6 +78,27 @@ module _ {P : Type 0} where
       let parts = sum_by-append (λ c. cond {A = ℕ} (lacks_page c) 1 0) (part a i xs) (c ∷ []) in
       let one = count_cons lacks_page c [] in
       ap (count_by lacks_page) (part_more xs a i low (omega (arith, high, long))) ∙ omega (arith, parts, one, here)
+
+-- where no index lacks a page, each has one
+module _ {P : Type 0} where
+  none_lacking : (cells : List (Cell P)) (k : ℕ) → count_by lacks_page cells ≡ 0 → k < length cells → has_page (cell_in cells k) ≡ true
+  none_lacking [] k none within = absurd (omega (arith, within))
+  none_lacking (c ∷ cells) zero none within = elim (has_page c) as (λ t. has_page c ≡ t → has_page c ≡ true) [
+    | true ↦ λ is. is
+    | false ↦ λ is. (let one = ap {B = ℕ} (λ t. cond (not t) 1 0) is in absurd (omega (arith, none, one, count_cons lacks_page c cells)))
+  ] refl
+  none_lacking (c ∷ cells) (suc k) none within = none_lacking cells k (omega (arith, none, count_cons lacks_page c cells)) (omega (arith, within))
+
+  pub all_paged : (cells : List (Cell P)) (a b : ℕ) → count_by lacks_page (part a b (at_least b cells)) ≡ 0 → (j : ℕ) → a ≤ j → j < b → has_page (cell_in cells j) ≡ true
+  all_paged cells a b none j low high =
+      let xs : List (Cell P) = at_least b cells in
+      let long = longer_length cells b in
+      let k : ℕ = j - a in
+      let at : a + k ≡ j = omega (arith, low) in
+      let wide = length-take (b - a) (drop a xs) in
+      let here : cell_in (part a b xs) k ≡ cell_in cells j =
+      get_or-take (b - a) (drop a xs) k Hole (omega (arith, low, high)) ∙ get_or-drop a xs k Hole ∙ ap (cell_in xs) at ∙ longer_read cells (b - length cells) j in
+      ap has_page (sym here) ∙ none_lacking (part a b xs) k none (omega (arith, wide, length-drop a xs, long, low, high))
 
 -- ---- what is shown
 

@@ -19,3 +19,4 @@ pub mod PutCopy
 pub mod Joining
 pub mod Ordered
 pub mod Listed
+mod Lacking

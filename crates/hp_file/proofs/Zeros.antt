@@ -122,6 +122,21 @@ module _ (size a b i : ℕ) (old now : List (Cell Page)) (all left : List Page) 
           earlier : (j : ℕ) → j < i + 1 → j ≢ i → j < i
           earlier j upto apart = ⊎_elim (λ (l : j < i). l) (λ (l : i ≤ j). absurd (apart (omega (arith, l, upto)))) (cases_lt j i)
 
+present_of : (c : Cell Page) → has_page c ≡ true → (p : Page) × (c ≡ Present p)
+present_of Hole has = (let clash : false ≡ true = has in cc)
+present_of Entered has = (let clash : false ≡ true = has in cc)
+present_of (Present p) has = (p, refl)
+
+-- indices that have pages
+pub putting_skips : (size a b i : ℕ) (old now : List (Cell Page)) (all left : List Page) (n : ℕ) → IsPutting size a b i old now all left → a ≤ i → i + n ≤ b
+    → ((j : ℕ) → i ≤ j → j < i + n → has_page (cell_in now j) ≡ true) → IsPutting size a b (i + n) old now all left
+putting_skips size a b i old now all left zero is low high paged = subst (λ m. IsPutting size a b m old now all left) {x = i} {y = i + 0} (omega arith) is
+putting_skips size a b i old now all left (suc n) is low high paged =
+    let here = present_of (cell_in now i) (paged i (omega arith) (omega arith)) in
+    let next = putting_passes size a b i old now all left is low (omega (arith, high)) here.0 here.1 in
+    subst (λ m. IsPutting size a b m old now all left) {x = i + 1 + n} {y = i + suc n} (omega arith)
+    (putting_skips size a b (i + 1) old now all left n next (omega (arith, low)) (omega (arith, high)) (λ j from below. paged j (omega (arith, from)) (omega (arith, below))))
+
 -- an index that needs none
 pub putting_stays : (size a b i : ℕ) (old now : List (Cell Page)) (all left : List Page) → IsPutting size a b i old now all left → a ≤ i → i < b
     → (r : CellState) → (r ≡ state.Entered → ⊥) → IsState r (cell_in now i) → IsPutting size a b (i + 1) old now all left

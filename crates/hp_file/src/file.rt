@@ -20,6 +20,7 @@ mod forking;
 mod leaving;
 
 use crate::dropping::{drop_all_copies, drop_maps, drop_pages};
+pub use filling::word_end;
 use hp_inode::Inode;
 use hp_lookup::FileName;
 use hp_mapping::Mapping;

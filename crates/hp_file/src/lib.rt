@@ -9,7 +9,7 @@ mod forking;
 mod leaving;
 
 pub use dropping::drop_holder;
-pub use file::{CellState, File};
+pub use file::{CellState, File, word_end};
 pub use file_list::FileList;
 pub use fork_lists::{children, join_all, retain_some_used, room_for};
 pub use forking::copies_of;

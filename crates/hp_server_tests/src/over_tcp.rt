@@ -56,7 +56,12 @@ fn tells<R: Abort>(rt: &R, stream: &TcpStream, replies: &[u8]) -> io::Result<()>
     Ok(())
 }
 
-pub(crate) fn asks<R: Abort>(rt: &R, stream: &TcpStream, lines: &[u8], replies: &[u8]) -> io::Result<()> {
+pub(crate) fn asks<R: Abort>(
+    rt: &R,
+    stream: &TcpStream,
+    lines: &[u8],
+    replies: &[u8],
+) -> io::Result<()> {
     let mut ends = stream;
     ends.write_all(lines)?;
     tells(rt, stream, replies)
@@ -127,7 +132,7 @@ fn row<
 {
     let listener = TcpListener::bind(rt, "127.0.0.1:0").expect(rt, "a port");
     let at = listener.local_addr().expect(rt, "an address");
-    let mut connections = Listening::new(listener, Vec::new(alloc));
+    let mut connections = Listening::new(rt, alloc, listener, Vec::new(alloc));
     let hold = Hold::new(rt, place);
     let mut output = Vec::new(alloc);
     let serving = ||
@@ -136,7 +141,7 @@ fn row<
         requires frames { AreFrames N.frames (4 ∷ 4 ∷ []) }
         requires bytes { N.page_bytes ≡ 1024 }
     {
-        serves::<N, R, Listening<Vec<u8>>>(
+        serves::<N, R, Listening<'_, R, Vec<u8>>>(
             rt,
             alloc,
             blanks,

@@ -4,6 +4,7 @@
 mod connections;
 mod fault;
 mod host;
+mod http;
 mod serving;
 mod session;
 mod sessions;
@@ -15,4 +16,4 @@ pub use host::{Closed, Host, Machine};
 pub use serving::serve;
 pub use session::serve_session;
 pub use sessions::{Ended, report, serve_sessions};
-pub use tcp::{Listening, Socket};
+pub use tcp::{Incoming, Listening, Outgoing};

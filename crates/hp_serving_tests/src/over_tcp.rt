@@ -11,6 +11,7 @@ use std::net::{Net, Shutdown, SocketAddr, TcpListener, TcpStream};
 use std::sync::{Mutex, Wait};
 use std::test::Fail;
 use std::thread::{Threads, join};
+use std::time::Clock;
 
 fn ask<R: Net<Stream = TcpStream>>(
     rt: &R,
@@ -38,14 +39,14 @@ fn clients<R: Net<Stream = TcpStream>>(rt: &R, at: SocketAddr) -> io::Result<(u8
     Ok((bad[6], ok[1]))
 }
 
-fn served<R: Threads + Wait + Net<Stream = TcpStream, Listener = TcpListener> + Sync>(
+fn served<R: Threads + Wait + Clock + Net<Stream = TcpStream, Listener = TcpListener> + Sync>(
     rt: &R,
     alloc: Global,
 ) -> Option<(u8, u8, u8, usize)> {
     let listener = TcpListener::bind(rt, "127.0.0.1:0").ok()?;
     let at = listener.local_addr().ok()?;
     let port = Mutex::new(Vec::new(alloc));
-    let mut connections = Listening::new(listener, Onto { rt, text: &port });
+    let mut connections = Listening::new(rt, alloc, listener, Onto { rt, text: &port });
     let mut output = Writer {
         text: Vec::new(alloc),
         at_most: 1000,

@@ -21,6 +21,7 @@ use std::marker::Brand;
 use std::net::{Ipv4Addr, Net, TcpListener, TcpStream};
 use std::sync::Wait;
 use std::thread::Threads;
+use std::time::Clock;
 
 /// A server over TCP. It listens at 127.0.0.1, and tells its port to `port_to`.
 #[derive(Drop)]
@@ -31,7 +32,7 @@ pub struct OverTcp<'a, R, P> {
 
 impl<
     'a,
-    R: Threads + Wait + Net<Listener = TcpListener, Stream = TcpStream> + Sync,
+    R: Threads + Wait + Clock + Net<Listener = TcpListener, Stream = TcpStream> + Sync,
     P: Sink + Drop,
 > Server for OverTcp<'a, R, P> {
     ghost can_serve = { λ server. IsSync R.row };
@@ -47,7 +48,7 @@ impl<
         let Ok(listener) = TcpListener::bind(self.rt, (Ipv4Addr::LOCALHOST, serving.port)) else {
             return report(Ended::Failed(ServeFault::Network), faults);
         };
-        let mut connections = Listening::new(listener, self.port_to);
+        let mut connections = Listening::new(self.rt, alloc, listener, self.port_to);
         serve_over(
             self.rt,
             alloc,

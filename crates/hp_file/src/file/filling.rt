@@ -1,5 +1,5 @@
 //! Indices of a file that get entries and pages.
-ghost use Rattle.std.specs.Prelude.{◌≡◌, ◌+◌, ◌<◌, ◌≤◌, ◌^◌, [], false, OnErr, OnOk};
+ghost use Rattle.std.specs.Prelude.{◌≡◌, ◌+◌, ◌*◌, ◌/◌, ◌<◌, ◌≤◌, ◌^◌, [], false, OnErr, OnOk};
 ghost use Rattle.std.specs.List.{count_by};
 ghost use Rattle.hp_model.specs.Lists.{edit_range, part};
 ghost use Rattle.hp_model.specs.files.File.{at_least, entered};
@@ -21,16 +21,29 @@ use hp_subpool::Subpool;
 use std::alloc::Global;
 use std::mem;
 
+/// Where the word of 64 indices of `at` ends, or `end` where that comes first.
+pub fn word_end(at: u64, end: u64) -> u64
+    requires order { at < end }
+    requires small { at < 2 ^ 63 }
+    ensures past { at < result }
+    ensures to { result ≤ end }
+    ensures word { result ≤ 64 * (at / 64) + 64 }
+{
+    (64 * (at / 64) + 64).min(end)
+}
+
 // How many indices from `a` up to `b` have no page. Past the end none has.
 fn lacking(inode: &Inode, a: u64, b: u64) -> u64
     requires { a ≤ b }
     ensures { result ≡ count_by lacks_page (part a b (at_least b inode.now)) }
 {
-    let mut count = 0;
-    for index in a..b {
-        if inode.page_at(index).is_none() {
-            count += 1;
-        }
+    let end = inode.len().min(b);
+    let mut count = b - a;
+    let mut at = a;
+    while at < end {
+        let next = word_end(at, end);
+        count -= inode.pages_in_word(at, next);
+        at = next;
     }
     count
 }
@@ -63,7 +76,7 @@ fn fill<N: Naming, D: PoolDoor<Share = Subpool<N>, Batch = PageBatch<N>>>(
 }
 
 impl File {
-    /// How many indices from `a` up to `b` have no page. Past the end none has. It takes a step for each.
+    /// How many indices from `a` up to `b` have no page. Past the end none has. It takes a step for each word of 64.
     pub fn lacking(&self, a: u64, b: u64) -> u64
         requires { a ≤ b }
         ensures { result ≡ count_by lacks_page (part a b (at_least b self.now.cells)) }

@@ -4,7 +4,7 @@ ghost use Rattle.std.specs.List.{count_by, sum_by};
 ghost use Rattle.hp_model.specs.Lists.{part};
 ghost use Rattle.hp_model.specs.Profile.{most_file_pages};
 ghost use Rattle.hp_model.specs.declared.cell.Cell.TheVariants.{Entered};
-ghost use Rattle.hp_model.specs.files.File.{cell_at, is_entered};
+ghost use Rattle.hp_model.specs.files.File.{cell_at, has_page, is_entered};
 ghost use Rattle.hp_model.specs.files.Fill.{lacking, lacks_page, rising_nodes, zero_page};
 ghost use Rattle.hp_model.specs.files.MountCounts.{file_pages};
 ghost use Rattle.hp_model.specs.files.Page.{Page};
@@ -18,7 +18,7 @@ ghost use Rattle.hp_subpool.specs.Subpool.{Subpool as ShareValue, is_full, used}
 
 use super::Files;
 use crate::file_pages::FilePages;
-use hp_file::CellState;
+use hp_file::{CellState, word_end};
 use hp_model::naming::Naming;
 use hp_model::refusal::Refusal;
 use hp_mount_door::PoolDoor;
@@ -84,6 +84,36 @@ impl<N: Naming> Files<N> {
         Ok(batch)
     }
 
+    // How many indices of a file from `from` up to `to` have no page.
+    fn lacking_in(&self, file: usize, from: u64, to: u64) -> u64
+        requires file { file < length self.now.files }
+        requires order { from ≤ to }
+        ensures { result ≡ lacking from to (file_at self.now.files file) }
+    {
+        self.list[file].lacking(from, to)
+    }
+
+    // The first index of a file from `from` on, up to `to`, in whose word one may have no page.
+    fn past_paged(&self, file: usize, from: u64, to: u64) -> u64
+        requires file { file < length self.now.files }
+        requires order { from ≤ to }
+        requires small { to < 2 ^ 32 }
+        ensures from { from ≤ result }
+        ensures to { result ≤ to }
+        ensures paged { (j : ℕ) → from ≤ j → j < result
+            → has_page (cell_at (file_at self.now.files file) j) ≡ true }
+    {
+        let mut at = from;
+        while at < to {
+            let end = word_end(at, to);
+            if self.lacking_in(file, at, end) > 0 {
+                return at;
+            }
+            at = end;
+        }
+        at
+    }
+
     // The next page of a batch, with zeros for what its last holder wrote, is put at an entered index that has none.
     fn put_next(&mut self, file: usize, index: u64, batch: &mut PageBatch<N>)
         requires file { file < length self.old.files }
@@ -105,6 +135,7 @@ impl<N: Naming> Files<N> {
     fn put_pages(&mut self, file: usize, from: u64, to: u64, batch: &mut PageBatch<N>)
         requires file { file < length self.old.files }
         requires order { from ≤ to }
+        requires small { to < 2 ^ 32 }
         requires within { to ≤ length (file_at self.old.files file).cells }
         requires entered { (i : ℕ) → from ≤ i → i < to
             → is_entered (cell_at (file_at self.old.files file) i) ≡ true }
@@ -114,11 +145,13 @@ impl<N: Naming> Files<N> {
         ensures put { self.new ≡ zeros_at N.page_bytes file from batch.old.pages self.old }
         ensures empty { batch.new.pages ≡ [] }
     {
-        for index in from..to {
+        let mut index = self.past_paged(file, from, to);
+        while index < to {
             match self.cell(file, index) {
                 CellState::Entered => self.put_next(file, index, batch),
                 _ => {}
             }
+            index = self.past_paged(file, index + 1, to);
         }
     }
 

@@ -1,18 +1,29 @@
-use Rattle.std.proofs.Common.{◌≡◌, ◌+◌, ◌≤◌, ℕ, Bool, cond, not, ap, ◌∙◌, arith}
-use Rattle.hp_file.proofs.Filling.{lacking_more}
-use Rattle.hp_file.proofs.file.filling.lacking.Goals.{then-is_none, else-is_none}
+use Rattle.std.proofs.Common.{◌+◌, ◌≤◌, arith}
+use Rattle.hp_file.proofs.Lacking.{few_paged, lacking_all, paged_part, paged_to}
 use Rattle.hp_file.proofs.file.filling.lacking.Goals as goal
 
-pub loop-index-preserved : goal.loop-index-preserved
-loop-index-preserved c =
-    let was = c.loop-index.invariant in
-    let low : c.args.a ≤ c.loop-index.index = c.loop-index.auto.index in
-    let more = lacking_more c.args.inode.now c.args.a c.args.b c.loop-index.index c.page_at.result low c.loop-index-test.true c.page_at.ensures in
-    elim c.if-is_none.branch [
-      | then-is_none w ↦
-          let one = ap {B = ℕ} (λ b. cond b 0 1) (c.is_none.ensures ∙ ap not w.if-is_none.true) in
-          record { few = omega (arith, was.few, w.count-is, low); counted = omega (arith, was.counted, w.count-is, more, one) }
-      | else-is_none w ↦
-          let none = ap {B = ℕ} (λ b. cond b 0 1) (c.is_none.ensures ∙ ap not w.if-is_none.false) in
-          record { few = omega (arith, was.few, w.count-is, low); counted = omega (arith, was.counted, w.count-is, more, none) }
-    ]
+pub overflow_sub-count-in-loop-at : goal.overflow_sub-count-in-loop-at
+overflow_sub-count-in-loop-at c =
+    let cells = c.args.inode.now in
+    let was = c.loop-at.invariant in
+    let next = c.word_end-next.result in
+    let part = paged_part cells c.loop-at.at next (omega (arith, c.word_end-next.ensures.past)) in
+    let few = few_paged cells c.args.a next (omega (arith, was.from, c.word_end-next.ensures.past)) in
+    omega (arith, part, few, was.counted, c.pages_in_word-count.ensures, c.word_end-next.ensures.to, c.min-end.ensures, c.requires)
+
+pub loop-at-preserved : goal.loop-at-preserved
+loop-at-preserved c =
+    let was = c.loop-at.invariant in
+    let next = c.word_end-next.result in
+    let part = paged_part c.args.inode.now c.loop-at.at next (omega (arith, c.word_end-next.ensures.past)) in
+    let enough = overflow_sub-count-in-loop-at c in
+    record {
+      from = omega (arith, was.from, c.word_end-next.ensures.past);
+      to = omega (arith, c.word_end-next.ensures.to, c.min-end.ensures, c.len.ensures.len);
+      counted = omega (arith, part, was.counted, c.pages_in_word-count.ensures, enough);
+    }
+
+pub returns : goal.returns
+returns c =
+    let was = c.loop-at.invariant in
+    lacking_all c.args.inode.now c.args.a c.args.b c.loop-at.at c.loop-at.count c.requires (omega (arith, c.loop-at-test.false, c.min-end.ensures, c.len.ensures.len)) was.to was.counted

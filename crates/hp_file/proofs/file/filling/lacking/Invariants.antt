@@ -1,12 +1,13 @@
-use Rattle.std.proofs.Common.{◌≡◌, ◌-◌, ◌≤◌}
-use Rattle.std.specs.List.{count_by}
-use Rattle.hp_model.specs.files.File.{at_least}
-use Rattle.hp_model.specs.files.Fill.{lacks_page}
-use Rattle.hp_model.specs.Lists.{part}
+use Rattle.std.proofs.Common.{◌≡◌, ◌+◌, ◌-◌, ◌≤◌, max, min, length}
+use Rattle.hp_file.proofs.Lacking.{paged_to}
 use Rattle.hp_file.proofs.file.filling.lacking.Given as goal
 
-abbrev pub invariant-loop-index : goal.invariant-loop-index
-invariant-loop-index l = record {
-  few : l.count ≤ l.index - l.a;
-  counted : l.count ≡ count_by lacks_page (part l.a l.index (at_least l.b l.inode));
+abbrev pub invariant-loop-at : goal.invariant-loop-at
+invariant-loop-at l = record {
+  from : l.a ≤ l.at;
+  to : l.at ≤ max l.a (min (length l.inode) l.b);
+  counted : l.count + paged_to l.at l.inode ≡ l.b - l.a + paged_to l.a l.inode;
 }
+
+abbrev pub decreases-loop-at : goal.decreases-loop-at
+decreases-loop-at l = l.b - l.at

@@ -1,24 +1,56 @@
-use Rattle.std.proofs.Common.{◌≡◌, ◌+◌, ◌∷◌, length, refl, ap, sym, subst, ◌∙◌, arith}
+use Rattle.std.proofs.Common.{None, ◌≡◌, ℕ, ◌+◌, ◌-◌, ◌<◌, ◌≤◌, List, true, ◌∷◌, length, refl, ap, sym, subst, ◌∙◌, arith}
 use Rattle.std.specs.Prelude.{slice_set}
+use Rattle.std.proofs.lemmas.List.{set-get_or}
+use Rattle.hp_model.specs.declared.cell.Cell.{Cell}
+use Rattle.hp_model.specs.files.File.{cell_in, has_page, new_file}
 use Rattle.hp_model.specs.files.Fill.{zero_page}
 use Rattle.hp_model.specs.files.Page.{Page}
 use Rattle.hp_store.specs.Batch.{Batch}
 use Rattle.hp_lookup.specs.Files.{Files, file_at}
-use Rattle.hp_file.proofs.Zeros.{IsPutting, cells_put, files_put, putting_puts, putting_some, putting_stays}
+use Rattle.hp_file.proofs.Zeros.{IsPutting, cells_put, files_put, putting_puts, putting_skips, putting_some, putting_stays}
 use Rattle.hp_mount_files.proofs.files.Files.put_pages.Goals.{in-Entered, in_default}
 use Rattle.hp_mount_files.proofs.files.Files.put_pages.Goals as goal
+
+-- past indices that have pages
+putting_to : (size a b i e : ℕ) (old now : List (Cell Page)) (all left : List Page) → IsPutting size a b i old now all left → a ≤ i → i ≤ e → e ≤ b
+    → ((j : ℕ) → i ≤ j → j < e → has_page (cell_in now j) ≡ true) → IsPutting size a b e old now all left
+putting_to size a b i e old now all left is low order high paged = subst (λ m. IsPutting size a b m old now all left) {x = i + (e - i)} {y = e} (omega (arith, order))
+    (putting_skips size a b i old now all left (e - i) is low (omega (arith, order, high)) (λ j from below. paged j from (omega (arith, below, order))))
+
+pub loop-index-init : goal.loop-index-init
+loop-index-init g c =
+    let size = g.N.Naming.page_bytes in
+    let cells = (file_at c.args.self.now.files c.args.file).cells in
+    let all = c.args.batch.now.pages in
+    let past = c.past_paged-index.ensures in
+    let begun : IsPutting size c.args.from c.args.to c.args.from cells cells all all = record {
+      passed = λ j from upto. absurd (omega (arith, from, upto));
+      ahead = c.requires.entered;
+      long = c.requires.within;
+      filled = refl;
+      count = c.requires.count;
+    } in
+    record {
+      putting = putting_to size c.args.from c.args.to c.args.from c.past_paged-index.result cells cells all all begun (omega arith) past.from past.to past.paged;
+      files = sym (set-get_or c.args.self.now.files c.args.file (new_file None));
+      going = refl;
+      room = refl;
+      low = past.from;
+      high = past.to;
+      fits = c.requires.room;
+    }
 
 pub put_next-requires-clause-some : goal.put_next-requires-clause-some
 put_next-requires-clause-some g c =
     let was = c.loop-index.invariant in
     putting_some g.N.Naming.page_bytes c.args.from c.args.to c.loop-index.index (file_at c.args.self.now.files c.args.file).cells (file_at c.loop-index.self.files c.args.file).cells
-    c.args.batch.now.pages c.loop-index.batch.pages was.putting c.loop-index.auto.index c.loop-index-test.true c.in-Entered.ensures
+    c.args.batch.now.pages c.loop-index.batch.pages was.putting c.loop-index.invariant.low c.loop-index-test.true c.in-Entered.ensures
 
 pub put_next-requires-clause-room : goal.put_next-requires-clause-room
 put_next-requires-clause-room g c =
     let was = c.loop-index.invariant in
     let some = putting_some g.N.Naming.page_bytes c.args.from c.args.to c.loop-index.index (file_at c.args.self.now.files c.args.file).cells (file_at c.loop-index.self.files c.args.file).cells
-    c.args.batch.now.pages c.loop-index.batch.pages was.putting c.loop-index.auto.index c.loop-index-test.true c.in-Entered.ensures in
+    c.args.batch.now.pages c.loop-index.batch.pages was.putting c.loop-index.invariant.low c.loop-index-test.true c.in-Entered.ensures in
     omega (arith, some, was.room, was.fits)
 
 pub loop-index-preserved : goal.loop-index-preserved
@@ -34,6 +66,8 @@ loop-index-preserved g c =
     let first = (file_at init.files k).cells in
     let all = c.args.batch.now.pages in
     let left = c.loop-index.batch.pages in
+    let next = c.past_paged-index-in-loop-index.result in
+    let past = c.past_paged-index-in-loop-index.ensures in
     elim c.match-cell.branch [
       | in-Entered w ↦
           let p : Page = w.put_next.ensures.0 in
@@ -44,10 +78,13 @@ loop-index-preserved g c =
           let left_is = taken ∙ ap (λ ps. p ∷ ps) (sym rest) in
           let fewer = ap length left_is in
           let spent = ap (λ (v : Files). v.room) new_is in
+          let put = subst (λ cs. IsPutting size a b (i + 1) first cs all c.match-cell.batch.pages) (sym (cells_put k i q init now c.match-cell.self c.requires.file new_is was.files))
+          (putting_puts size a b i first (file_at now.files k).cells all left was.putting
+          was.low c.loop-index-test.true w.in-Entered.ensures p q c.match-cell.batch.pages left_is refl) in
           record {
-            putting = subst (λ cs. IsPutting size a b (i + 1) first cs all c.match-cell.batch.pages) (sym (cells_put k i q init now c.match-cell.self c.requires.file new_is was.files))
-                (putting_puts size a b i first (file_at now.files k).cells all left was.putting
-                c.loop-index.auto.index c.loop-index-test.true w.in-Entered.ensures p q c.match-cell.batch.pages left_is refl);
+            putting = putting_to size a b (i + 1) next first (file_at c.match-cell.self.files k).cells all c.match-cell.batch.pages put (omega (arith, was.low)) past.from past.to past.paged;
+            low = omega (arith, was.low, past.from);
+            high = past.to;
             files = files_put k i q init now c.match-cell.self c.requires.file new_is was.files;
             going = ap (λ (v : Files). v.going) new_is ∙ was.going;
             room = omega (arith, was.room, was.fits, fewer, spent);
@@ -56,13 +93,16 @@ loop-index-preserved g c =
       | in_default w ↦
           let left_is = ap (λ (x : Batch). x.pages) w.batch-is in
           let stays = putting_stays size a b i first (file_at now.files k).cells all left was.putting
-          c.loop-index.auto.index c.loop-index-test.true c.cell.result w.in_default.not-Entered c.cell.ensures in
+          c.loop-index.invariant.low c.loop-index-test.true c.cell.result w.in_default.not-Entered c.cell.ensures in
           let cells = ap (λ (v : Files). (file_at v.files k).cells) w.self-is in
           let same = ap length left_is in
           let spent = ap (λ (v : Files). v.room) w.self-is in
+          let put = subst (λ cs. IsPutting size a b (i + 1) first cs all c.match-cell.batch.pages) (sym cells)
+          (subst (IsPutting size a b (i + 1) first (file_at now.files k).cells all) (sym left_is) stays) in
           record {
-            putting = subst (λ cs. IsPutting size a b (i + 1) first cs all c.match-cell.batch.pages) (sym cells)
-                (subst (IsPutting size a b (i + 1) first (file_at now.files k).cells all) (sym left_is) stays);
+            putting = putting_to size a b (i + 1) next first (file_at c.match-cell.self.files k).cells all c.match-cell.batch.pages put (omega (arith, was.low)) past.from past.to past.paged;
+            low = omega (arith, was.low, past.from);
+            high = past.to;
             files = subst (λ (v : Files). v.files ≡ slice_set init.files k (record (file_at init.files k) { cells = (file_at v.files k).cells })) (sym w.self-is) was.files;
             going = ap (λ (v : Files). v.going) w.self-is ∙ was.going;
             room = omega (arith, was.room, same, spent);

@@ -1,4 +1,4 @@
-use Rattle.std.proofs.Common.{◌≡◌, ◌+◌, ◌≤◌, length}
+use Rattle.std.proofs.Common.{◌≡◌, ◌+◌, ◌-◌, ◌≤◌, length}
 use Rattle.std.specs.Prelude.{slice_set}
 use Rattle.hp_lookup.specs.Files.{file_at}
 use Rattle.hp_file.proofs.Zeros.{IsPutting}
@@ -10,5 +10,10 @@ invariant-loop-index g l = record {
   files : l.self.files ≡ slice_set l.initial.self.files l.file (record (file_at l.initial.self.files l.file) { cells = (file_at l.self.files l.file).cells });
   going : l.self.going ≡ l.initial.self.going;
   room : l.self.room + length l.initial.batch.pages ≡ l.initial.self.room + length l.batch.pages;
+  low : l.from ≤ l.index;
+  high : l.index ≤ l.to;
   fits : length l.initial.batch.pages ≤ l.initial.self.room;
 }
+
+abbrev pub decreases-loop-index : goal.decreases-loop-index
+decreases-loop-index g l = l.to - l.index
