@@ -55,7 +55,9 @@ fn closed<N: Naming + Noted, R: Wait + Abort>(
     requires bytes { N.page_bytes ≡ 1024 }
     requires places { places ≤ 16777216 }
 {
-    let shared = Shared::<N, 1>::new(alloc, &[4, 4], 1024, 4, places, blanks, words).expect(rt, "memory");
+    let shared = Shared::<N, 1>::new(alloc, &[4, 4], 1024, 4, places, blanks, words).expect(
+        rt, "memory",
+    );
     let told = answered(rt, alloc, &shared, 100, lines, replies);
     let count = told.len();
     let mut all = Vec::with_capacity(alloc, 1).expect(rt, "memory");
@@ -64,13 +66,20 @@ fn closed<N: Naming + Noted, R: Wait + Abort>(
 }
 
 // Where a session has room for two receipts: how many entries the task table has.
-fn full_room<N: Naming + Noted, R: Wait + Abort>(rt: &R, alloc: Global, blanks: Blanks, words: Blank) -> usize
+fn full_room<N: Naming + Noted, R: Wait + Abort>(
+    rt: &R,
+    alloc: Global,
+    blanks: Blanks,
+    words: Blank,
+) -> usize
     requires ledgers { AreLedgers N.Naming blanks }
     requires words { words.words.shared.table_id ≡ N.words }
     requires frames { AreFrames N.frames (4 ∷ 4 ∷ []) }
     requires bytes { N.page_bytes ≡ 1024 }
 {
-    let shared = Shared::<N, 1>::new(alloc, &[4, 4], 1024, 4, 16, blanks, words).expect(rt, "memory");
+    let shared = Shared::<N, 1>::new(alloc, &[4, 4], 1024, 4, 16, blanks, words).expect(
+        rt, "memory",
+    );
     let lines = b"connect 1 0\nload 1 0 1 0 0 1\nattach 1\nconnect 2 0\n";
     let replies = b"ok\nerror 23 TraceFull\nok 0\nerror 23 TraceFull\n";
     let told = answered(rt, alloc, &shared, 2, lines, replies);

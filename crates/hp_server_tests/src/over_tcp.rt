@@ -86,7 +86,11 @@ fn clients<R: Net<Stream = TcpStream> + Abort + Clock>(
 }
 
 // Serves three sessions on two workers, on a machine with this gate: the status.
-fn serves<N: Naming + Noted + Send + Sync, R: Threads + Wait + Abort + Clock + Sync, C: Connections>(
+fn serves<
+    N: Naming + Noted + Send + Sync,
+    R: Threads + Wait + Abort + Clock + Sync,
+    C: Connections,
+>(
     rt: &R,
     alloc: Global,
     blanks: Blanks,
@@ -101,7 +105,9 @@ fn serves<N: Naming + Noted + Send + Sync, R: Threads + Wait + Abort + Clock + S
     requires bytes { N.page_bytes ≡ 1024 }
 {
     let machine = Served {
-        shared: Shared::<N, 1>::new(alloc, &[4, 4], 1024, 4, ROOM, blanks, words).expect(rt, "memory"),
+        shared: Shared::<N, 1>::new(alloc, &[4, 4], 1024, 4, ROOM, blanks, words).expect(
+            rt, "memory",
+        ),
         gate: Held { hold },
         room: ROOM,
     };
@@ -129,7 +135,17 @@ fn row<
         requires words { words.words.shared.table_id ≡ N.words }
         requires frames { AreFrames N.frames (4 ∷ 4 ∷ []) }
         requires bytes { N.page_bytes ≡ 1024 }
-    { serves::<N, R, Listening<'_, R, Vec<u8>>>(rt, alloc, blanks, words, &hold, &mut connections, &mut output) };
+    {
+        serves::<N, R, Listening<'_, R, Vec<u8>>>(
+            rt,
+            alloc,
+            blanks,
+            words,
+            &hold,
+            &mut connections,
+            &mut output,
+        )
+    };
     let (told, status) = join(rt, || clients(rt, at, &hold, meanwhile), serving);
     told.expect(rt, "clients that are served");
     same!(rt; status, 0);
@@ -141,12 +157,26 @@ fn row<
 fn a_session_held_at_a_slot_holds_no_other(rt: HostRuntime) {
     let blanks = Blanks::new(rt.alloc(), &[4, 4], 1024).expect(&rt, "memory");
     let words = Blank::new(rt.alloc()).expect(&rt, "memory");
-    row::<Brand, HostRuntime>(&rt, rt.alloc(), blanks, words, Place::Slot(1), HELD_AT_THE_SLOT);
+    row::<Brand, HostRuntime>(
+        &rt,
+        rt.alloc(),
+        blanks,
+        words,
+        Place::Slot(1),
+        HELD_AT_THE_SLOT,
+    );
 }
 
 #[test]
 fn a_session_held_at_a_node_holds_no_other(rt: HostRuntime) {
     let blanks = Blanks::new(rt.alloc(), &[4, 4], 1024).expect(&rt, "memory");
     let words = Blank::new(rt.alloc()).expect(&rt, "memory");
-    row::<Brand, HostRuntime>(&rt, rt.alloc(), blanks, words, Place::Node(0), HELD_AT_THE_NODE);
+    row::<Brand, HostRuntime>(
+        &rt,
+        rt.alloc(),
+        blanks,
+        words,
+        Place::Node(0),
+        HELD_AT_THE_NODE,
+    );
 }
