@@ -108,12 +108,8 @@ impl<N: Noted> Homes<N> {
     {
         let change = Change::Gone { task };
         let noted = word_of(task, home);
-        self.words.shared.compare_exchange_with::<Notes>(
-            &mut noter.seat,
-            place_of(task),
-            noted,
-            0,
-            &change,
-        );
+        self.words
+            .shared
+            .compare_exchange_with::<Notes>(&mut noter.seat, place_of(task), noted, 0, &change);
     }
 }
