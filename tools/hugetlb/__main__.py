@@ -1,0 +1,5 @@
+import sys
+
+from hugetlb.command import main
+
+sys.exit(main(sys.argv[1:]))
