@@ -13,7 +13,7 @@ from hugetlb_session import Session
 BAD_LINE = b"error 21 BadLine\n"
 
 
-@pytest.mark.parametrize("script", sorted(TRANSCRIPTS.glob("*.script")), ids=lambda it: it.stem)
+@pytest.mark.parametrize("script", sorted(TRANSCRIPTS.glob("*.annotated")), ids=lambda it: it.stem)
 def test_transcript(script):
     """The stored transcripts of slips and refusals: what was wrong in each line, how it is written, and what was short."""
     assert run([script]) == (0, script.with_suffix(".transcript").read_text(), "")
@@ -85,7 +85,7 @@ def test_gives_numbers_that_do():
     """Where it names an nr or an overcommit that would do, each does, and one less does not: for lines, and for all that a range stands for."""
     tried, of_ranges = 0, 0
     scripts = [(case.words, case.script.decode("latin-1").splitlines()) for case in cases()]
-    scripts += [([], (TRANSCRIPTS / "refusals.script").read_text().splitlines())] + [([], lines_) for lines_ in RANGES]
+    scripts += [([], (TRANSCRIPTS / "refusals.annotated").read_text().splitlines())] + [([], lines_) for lines_ in RANGES]
     for words, script in scripts:
         options = dict(zip((word.removeprefix("--") for word in words[::2]), words[1::2]))
         script = [line for line in map(lines.without_comment, script) if line and len(line) <= 1024]

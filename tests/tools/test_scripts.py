@@ -7,9 +7,10 @@ import subprocess
 import sys
 
 import built
+import pytest
 from common import PROGRAM, TOOL, TOP, must_hold, run
 
-from hugetlb import refusals, talk
+from hugetlb import lines, refusals, talk
 from hugetlb_session import Session
 
 
@@ -122,3 +123,10 @@ def test_takes_what_run_would(tmp_path):
     shutil.copy(PROGRAM, proved)
     proved.with_name("hugetlbd.built").touch()
     assert answers() == (0, True, "")
+
+
+@pytest.mark.parametrize("script", sorted([*TOP.glob("examples/*.script"), *TOP.glob("tests/rows/*.script")]), ids=lambda it: it.stem)
+def test_script_is_plain(script):
+    """A file named .script is for ./run as it is: it has no comments and no ranges, which are the tool's own and stand in files named .annotated."""
+    for line in script.read_bytes().decode("latin-1").split("\n"):
+        assert lines.expanded(lines.without_comment(line)) == [line]

@@ -2,7 +2,7 @@
 import test_documents
 from common import EXAMPLES, PICTURES, TRANSCRIPTS, run
 
-for script in TRANSCRIPTS.glob("*.script"):
+for script in TRANSCRIPTS.glob("*.annotated"):
     script.with_suffix(".transcript").write_text(run([script])[1])
 PICTURES.mkdir(exist_ok=True)
 for script in EXAMPLES.glob("*.script"):
