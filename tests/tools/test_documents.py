@@ -8,8 +8,11 @@ from common import EXAMPLES, PROGRAM, TOP, run
 from hugetlb import command, refusals, talk
 from hugetlb_session import Session
 
-DOCUMENT = TOP / "docs/OPERATORS.md"
-BLOCK = re.compile(r"(<!-- transcript: (\w+) (\d+) (\d+) -->\n```text\n).*?(```\n)", re.DOTALL)
+TUTORIAL = TOP / "docs/TUTORIAL.md"
+DOCUMENTS = [TOP / "README.md", TUTORIAL]
+TRANSCRIPT = re.compile(r"(<!-- transcript: (\w+) (\d+) (\d+) -->\n```text\n).*?(```\n)", re.DOTALL)
+PLAN = re.compile(r"(<!-- plan: (\S+) -->\n```text\n\$ [^\n]*\n).*?(```\n)", re.DOTALL)
+FILE = re.compile(r"(<!-- file: (\S+) -->\n```toml\n).*?(```\n)", re.DOTALL)
 
 
 def transcript(name, first, last):
@@ -30,27 +33,40 @@ def transcript(name, first, last):
     return out.getvalue()
 
 
-def with_transcripts(text):
-    return BLOCK.sub(lambda found: found[1] + transcript(found[2], int(found[3]), int(found[4])) + found[5], text)
+def made(text):
+    """A document with its blocks made anew."""
+    text = TRANSCRIPT.sub(lambda found: found[1] + transcript(found[2], int(found[3]), int(found[4])) + found[5], text)
+    text = PLAN.sub(lambda found: found[1] + run(["plan", found[2]], cwd=TOP)[1] + found[3], text)
+    return FILE.sub(lambda found: found[1] + (TOP / found[2]).read_text() + found[3], text)
 
 
-def test_transcripts():
-    text = DOCUMENT.read_text()
-    assert with_transcripts(text) == text
-    assert len(BLOCK.findall(text)) > 4
+@pytest.mark.parametrize("document", DOCUMENTS, ids=lambda it: it.name)
+def test_blocks_are_what_is_printed(document):
+    assert made(document.read_text()) == document.read_text()
+
+
+def test_there_are_blocks():
+    texts = [document.read_text() for document in DOCUMENTS]
+    assert len(PLAN.findall(texts[0])) == 1
+    assert (len(PLAN.findall(texts[1])), len(TRANSCRIPT.findall(texts[1])), len(FILE.findall(texts[1]))) == (2, 2, 1)
 
 
 def test_pictures_are_there():
-    for picture in re.findall(r"\]\((pictures/[\w.-]+)\)", DOCUMENT.read_text()):
-        assert (DOCUMENT.parent / picture).exists(), picture
+    for document in DOCUMENTS:
+        for picture in re.findall(r"\]\(([\w./-]+\.svg)\)", document.read_text()):
+            assert (document.parent / picture).exists(), picture
 
 
-@pytest.mark.parametrize("words", re.findall(r"^    tools/hugetlbctl (.+)$", DOCUMENT.read_text(), re.MULTILINE))
+@pytest.mark.parametrize("words", re.findall(r"^    tools/hugetlbctl (plan .+|observe.*|examples.+)$", TUTORIAL.read_text(), re.MULTILINE))
 def test_commands(words, tmp_path):
+    """The commands of the tutorial run, one after another as they stand."""
+    words = words.split(" > ")[0]
+    (tmp_path / "host.toml").write_text((EXAMPLES / "plan.toml").read_text())
     words = [TOP / word if word.startswith("examples/") else word for word in words.split()]
     status, _, faults = run(words, cwd=tmp_path)
     assert (status, faults) == (0, "")
 
 
 def write():
-    DOCUMENT.write_text(with_transcripts(DOCUMENT.read_text()))
+    for document in DOCUMENTS:
+        document.write_text(made(document.read_text()))
