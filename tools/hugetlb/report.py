@@ -106,14 +106,12 @@ class Report:
         if len(host.nodes) > 1:
             said.append("on Linux a process that is bound to a node (policy=bind, a cpuset) can get SIGBUS at a reserved page, since reservations are of the whole pool")
         if any(it.kind == "redis" for it in self.plan.consumers):
-            said.append("Redis takes huge pages only where its malloc does: a stock build has jemalloc, which glibc's tunable does not reach")
+            said.append("Redis takes huge pages only where its malloc does; the jemalloc of a stock build takes none")
         if self.snapshots and len(self.snapshots) > 1:
             said.append("all snapshots run at the same time here, after everything has started: the worst case")
         if self.plan.overcommit:
-            said.append("surplus pages are made when they are asked for, from memory as it is then: Linux may refuse one that the overcommit allows")
-        said.append("at run time Linux may get fewer pages than vm.nr_hugepages says, where memory is fragmented: "
-                    "look at HugePages_Total, or give hugepages= on the kernel's command line")
-        said.append("docs/KERNEL.md tells where Linux differs from these rules")
+            said.append("Linux may refuse a surplus page that the overcommit allows: it is made from memory as it is then")
+        said.append("at run time Linux may find fewer pages than you set: look at HugePages_Total; docs/KERNEL.md tells what else differs")
         return said
 
     def text(self):
