@@ -83,12 +83,13 @@ class PlanPicture:
         return made, bottom + 26
 
     def text(self, has_style=True):
+        """The picture; within a page that has its style and its heading, without these."""
         levels, height = self.levels()
-        report = self.report
+        report, top = self.report, 0 if has_style else 28
         style = f"<style>{COLOURS}\n{PICTURE}</style>" if has_style else ""
         head = "" if not has_style else f'<text x="16" y="22" style="font-size:15px;font-weight:600">{escape(report.headline())}</text>'
         head += "" if not has_style else f'<text class="pale" x="{WIDTH - 16}" y="22" text-anchor="end">{escape(report.plan.file.rpartition("/")[2])}</text>'
-        return "\n".join([f'<svg xmlns="http://www.w3.org/2000/svg" viewBox="0 0 {WIDTH} {height}" role="img">', f"<title>{escape(report.headline())}</title>",
+        return "\n".join([f'<svg xmlns="http://www.w3.org/2000/svg" viewBox="0 {top} {WIDTH} {height - top}" role="img">', f"<title>{escape(report.headline())}</title>",
                           style, f'<rect class="ground" width="{WIDTH}" height="{height}"/>', head, *levels, *self.rows(), "</svg>"]) + "\n"
 
 
