@@ -133,7 +133,7 @@ class Session:
 
     def __init__(self, reads, writes, program=None, link=None, seconds=SECONDS):
         self._reads, self._writes, self._program, self._link, self._seconds = reads, writes, program, link, seconds
-        self._left = bytearray()
+        self._left = ""
         self._lines = []
         os.set_blocking(reads, False)
         os.set_blocking(writes, False)
@@ -350,21 +350,20 @@ class Session:
             more = b""
         if not more:
             raise Ended(self._last_words())
-        self._left += more
-        *lines, self._left = self._left.split(b"\n")
+        *lines, self._left = (self._left + str(more, "latin-1")).split("\n")
         self._lines += lines
 
     def _whole_replies(self, most):
         """Takes the replies that are there with all of their lines, at most so many."""
-        replies, at = [], 0
-        while len(replies) < most and at < len(self._lines):
-            first = self._lines[at]
-            lines = int(first[5:]) if first.startswith(b"text ") and first[5:].isdigit() else 0
-            if at + lines >= len(self._lines):
+        replies, at, lines, end = [], 0, self._lines, len(self._lines)
+        while len(replies) < most and at < end:
+            first = lines[at]
+            more = int(first[5:]) if first[:5] == "text " and first[5:].isdigit() else 0
+            if at + more >= end:
                 break
-            replies.append([str(line, "latin-1") for line in self._lines[at:at + 1 + lines]] if lines else [str(first, "latin-1")])
-            at += 1 + lines
-        del self._lines[:at]
+            replies.append(lines[at:at + 1 + more])
+            at += 1 + more
+        del lines[:at]
         return replies
 
     def _last_words(self):

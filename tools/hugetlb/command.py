@@ -14,6 +14,7 @@ Beside the service's lines a script may have empty lines, comments from a `#` on
 lines. Where NAME.words stands beside NAME.script, its words are the machine's options; those given here go before them.
 """
 import argparse
+import gc
 import os
 import re
 import sys
@@ -120,7 +121,10 @@ def serves(words):
         prompts(talk)
     elif lines:
         talk.say.head()
+    # (a million rows are kept, and none of them is garbage)
+    gc.disable()
     talk.take_all(enumerate(lines, 1))
+    gc.enable()
     if words.prometheus:
         print(exporter.prometheus(session), end="")
     if words.svg:

@@ -73,9 +73,16 @@ class Answer:
         return b"error " not in ran.stdout
 
     def bisected(self, overcommit):
-        """The smallest nr with which all is whole; none where no number will do."""
+        """The smallest nr with which all is whole; none where no number will do. The sum of what is asked is tried first: it is often the answer."""
         low, high = -1, self.scale.frames
-        if not self.is_whole(high, overcommit):
+        guess = min(max(self.scale.most - overcommit, 0), high)
+        if self.is_whole(guess, overcommit):
+            high = guess
+            if guess and not self.is_whole(guess - 1, overcommit):
+                low = guess - 1
+        elif self.is_whole(high, overcommit):
+            low = guess
+        else:
             return None
         while high - low > 1:
             middle = (low + high) // 2

@@ -7,7 +7,8 @@ from hugetlb_session import Refused, value_of
 from .faults import bad_line
 from .lines import NUMBERS, FORMS, RANGE, between, plural
 
-ASKS_PAGES = {"mount", "remount", "map", "anon", "preallocate", "fault", "load", "store"}
+ACCESSES = {"fault", "load", "store"}
+ASKS_PAGES = {"mount", "remount", "map", "anon", "preallocate", *ACCESSES}
 NO_PAGES, MOUNT_FULL, BAD_LINE = "error 2 NoPages", "error 3 MountFull", "error 21 BadLine"
 
 
@@ -21,10 +22,14 @@ def amount_in_pages(text, page_bytes, nr):
 
 def questions(line):
     """The lines that tell what a refusal of this one will want to know."""
-    command, *words = line.split(" ")
-    if command not in ASKS_PAGES or len(words) < 2:
+    if line[:line.find(" ")] not in ASKS_PAGES:
         return []
-    slots = {"remount": words[:1], "anon": ["0"], "preallocate": words[:1], "mount": []}.get(command, words[1:2])
+    command, *words = line.split(" ")
+    if len(words) < 2:
+        return []
+    if command in ACCESSES:
+        return [f"df {words[1]}"]
+    slots = {"remount": words[:1], "anon": ["0"], "preallocate": words[:1], "map": words[1:2]}.get(command, [])
     asked = [f"df {slot}" for slot in slots]
     if command == "map" and len(words) > 2:
         asked.append(f"stat {words[1]} {words[2]}")

@@ -86,6 +86,13 @@ class Talk:
 
     def answered(self, asked, replies):
         count = len(asked.lines)
+        if count == 1 and replies[0][0][:6] != "error ":
+            if asked.line.startswith("overcommit "):
+                self.machine.note(asked.line, replies[0][0])
+            row = Row(asked.number, asked.line, replies[0][0], replies[0][1:], self.counts_of(replies[1])[:4])
+            self.rows.append(row)
+            self.say.row(row, ())
+            return
         if asked.line.startswith("overcommit "):
             for one, reply in zip(asked.lines, replies):
                 self.machine.note(one, reply[0])
