@@ -1,5 +1,6 @@
 """Plans: their answers, each checked at N and at N - 1 by the program; pages, pictures and files of the host; and plans that can't be read."""
 import json
+import random
 import subprocess
 import time
 import xml.dom.minidom
@@ -259,3 +260,26 @@ def test_order_of_starting():
     plan = Plan("x", HOST + '[[java]]\nheap = "1G"\n[[redis]]\nmemory = "1G"\n[[java]]\nheap = "2G"\n')
     assert [(it.kind, it.pages) for it in plan.consumers] == [("java", 512), ("redis", 512), ("java", 1024)]
     assert Scale(plan).unit == 1
+
+
+@pytest.mark.parametrize("seed", range(8))
+def test_plan_by_chance(seed, tmp_path):
+    """Of programs that reserve all that they touch the answer is the sum of what they ask for, and of what their snapshots copy."""
+    chance = random.Random(seed)
+    text, pages = '[host]\nmemory = "1TiB"\n', 0
+    for _ in range(chance.randrange(1, 9)):
+        kind, count, size = chance.choice(["postgresql", "guest", "redis", "java", "dpdk", "map"]), chance.randrange(1, 5), chance.randrange(1, 5000)
+        text += f"[[{kind}]]\npages = {size}\ncount = {count}\n"
+        pages += count * size
+        if kind == "redis" and chance.random() < 0.7:
+            rewritten = chance.randrange(0, size + 1)
+            text += f'snapshot = true\nrewritten = "{rewritten} pages"\n'
+            pages += count * rewritten
+        if kind == "guest":
+            text += "".join(f"{key} = {chance.choice(['true', 'false'])}\n" for key in ("minimum", "share", "prealloc"))
+        if kind == "map":
+            text += f"shared = {chance.choice(['true', 'false'])}\n"
+    status, output, faults = plan(tmp_path, text, "--json")
+    told = json.loads(output)
+    assert (status, faults, told["is_exact"]) == (0, "", told["unit_pages"] == 1 or told["is_exact"])
+    assert told["nr"] == pages if told["is_exact"] else 0 <= told["nr"] - pages <= 80 * told["unit_pages"]

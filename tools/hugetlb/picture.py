@@ -9,6 +9,8 @@ LONGEST_LABEL = 24
 MOST_LINES_DRAWN, MOST_COLUMNS = 400, 2_000
 # A tooltip is at least so wide, that a pointer meets it.
 TIP_WIDTH = 2
+# A mark of a refusal; in narrower columns it is a line.
+MARK_WIDTH = 8
 STYLE = """text{font:11px sans-serif;fill:#222}.b{fill:#fff}.u{fill:#2f6aa8}.r{fill:#eaa23a}.f{fill:#c3dcb8}use{fill:#000;fill-opacity:0}use:hover{fill-opacity:.15}
 .s{fill:none;stroke:#222;stroke-dasharray:4 3}.n{fill:none;stroke:#222}.x{fill:none;stroke:#c81e1e;stroke-width:2.5}.e{fill:#c81e1e}
 @media(prefers-color-scheme:dark){text{fill:#ddd}.b{fill:#16191d}.u{fill:#5b98d8}.r{fill:#d8932c}.f{fill:#47653f}use{fill:#fff}.s,.n{stroke:#ddd}.x{stroke:#ff6b6b}.e{fill:#ff6b6b}}"""
@@ -111,7 +113,8 @@ class Picture:
             elif at % max(len(self.rows) // 20, 1) == 0:
                 made.append(f'<text text-anchor="middle" x="{short(middle)}" y="{TOP + PLOT + 16}">{row.number}</text>')
             if row.is_refused() and (self.column >= TIP_WIDTH or at % together == 0 or not self.rows[at - 1].is_refused()):
-                made.append(f'<path class="x" d="M{short(middle - 4)} {TOP - 12}l8 8m0-8l-8 8"/>')
+                shape = f"M{short(middle - 4)} {TOP - 12}l8 8m0-8l-8 8" if self.column >= MARK_WIDTH else f"M{short(middle)} {TOP - 12}v8"
+                made.append(f'<path class="x" d="{shape}"/>')
             if at % together == 0:
                 tip = self.tooltip(at, min(at + together, len(self.rows)) - 1)
                 made.append(f'<use href="#c" x="{short(self.x(at))}"><title>{escape(tip)}</title></use>')
