@@ -1,18 +1,15 @@
 """A plan from a running host: from a folder that looks like one, and from this kernel with a program that maps huge pages."""
-import os
 import subprocess
 import sys
-import time
 import tomllib
-from pathlib import Path
 
 import pytest
 from common import run
+from pool import empty_pool, fill
 
 from hugetlb.observe import Host, plan_of
 from hugetlb.plan_file import Plan
 
-POOL = Path("/sys/kernel/mm/hugepages/hugepages-2048kB")
 SMAPS = """7f0000000000-7f0000600000 rw-{shared} 00000000 00:11 {inode}                      {path}
 Size:               6144 kB
 KernelPageSize:     {page} kB
@@ -109,17 +106,10 @@ def test_without_root(tmp_path):
     assert "# 1 process could not be read: root reads those of others." in plan_of(host)
 
 
-def can_have_pages():
-    return os.geteuid() == 0 and POOL.is_dir() and (POOL / "nr_hugepages").read_text() == "0\n" and os.access(POOL / "nr_hugepages", os.W_OK)
-
-
-@pytest.mark.skipif(not can_have_pages(), reason="this kernel gives no huge pages to this user, or has some in use")
-def test_this_kernel():
+def test_this_kernel(tmp_path):
     """A program that maps huge pages on this machine's own kernel is observed, and its plan is answered."""
-    (POOL / "nr_hugepages").write_text("12\n")
-    try:
-        if (POOL / "nr_hugepages").read_text() != "12\n":
-            pytest.skip("memory is too fragmented for 12 huge pages")
+    with empty_pool():
+        fill(12)
         program = subprocess.Popen([sys.executable, "-c", MAPS], stdin=subprocess.PIPE, stdout=subprocess.PIPE, text=True)
         assert program.stdout.readline() == "mapped\n"
         status, output, faults = run(["observe"])
@@ -128,17 +118,7 @@ def test_this_kernel():
         told = tomllib.loads(output)
         found = sorted((it["pages"], it["shared"], it.get("reserve", True), it.get("used")) for it in told["map"] if it["name"].endswith(f"-{program.pid}"))
         assert found == [(1, False, False, "1 pages"), (2, True, True, None), (3, False, True, None)]
-        assert told["host"]["nr"] == 12 and f"{program.pid + 0}" in output
-        file = Path(f"/tmp/observed-{os.getpid()}.toml")
-        file.write_text(output)
-        try:
-            status, output, _ = run(["plan", file])
-            assert status == 0 and "It fits." in output and "nr 6 " in output
-        finally:
-            file.unlink()
-    finally:
-        for _ in range(50):
-            (POOL / "nr_hugepages").write_text("0\n")
-            if (POOL / "nr_hugepages").read_text() == "0\n":
-                break
-            time.sleep(0.1)
+        assert told["host"]["nr"] == 12
+        (tmp_path / "host.toml").write_text(output)
+        status, output, _ = run(["plan", tmp_path / "host.toml"])
+        assert status == 0 and "It fits." in output and "nr 6 " in output

@@ -165,7 +165,7 @@ def test_files_of_the_host(tmp_path):
               "docs/KERNEL.md")
     fstab = plan(tmp_path, ISSUE, "--fstab")[1]
     mounts = [line for line in fstab.splitlines() if not line.startswith("#")]
-    assert len(mounts) == 12 and mounts[0] == "hugetlbfs /dev/hugepages/guest-1 hugetlbfs pagesize=2M,size=12G,min_size=12G 0 0"
+    assert len(mounts) == 12 and mounts[0] == "hugetlbfs /mnt/huge/guest-1 hugetlbfs pagesize=2M,size=12G,min_size=12G,X-mount.mkdir 0 0"
     assert plan(tmp_path, KNOWN["an nr that is too small"][0], "--sysctl")[:2] == (1, f"# /etc/sysctl.d/60-hugetlb.conf for {tmp_path}/host.toml\n"
                                                                                     "# It does not fit: 1 of 1 get less than they ask for.\n")
     must_hold(plan(tmp_path, KNOWN["pages of 1 GiB"][0], "--sysctl")[1], "default_hugepagesz=1G")

@@ -168,10 +168,10 @@ class Report:
             options = [f"pagesize={as_option(self.page)}"]
             options += [f"size={as_option(mount.size * self.page)}"] if mount.size is not None else []
             options += [f"min_size={as_option(mount.minimum * self.page)}"] if mount.minimum else []
-            lines.append(f"hugetlbfs /dev/hugepages/{mount.name.replace(' ', '-')} hugetlbfs {','.join(options)} 0 0")
+            lines.append(f"hugetlbfs /mnt/huge/{mount.name.replace(' ', '-')} hugetlbfs {','.join([*options, 'X-mount.mkdir'])} 0 0")
         if any(one.is_file and not one.mount for one in self.plan.consumers):
-            lines.insert(0, f"hugetlbfs /dev/hugepages hugetlbfs pagesize={as_option(self.page)} 0 0")
-        lines += ["# The folders must be there before they are mounted, and the pages (--sysctl) before a min_size.",
+            lines.insert(0, f"hugetlbfs /dev/hugepages hugetlbfs pagesize={as_option(self.page)},X-mount.mkdir 0 0")
+        lines += ["# The pages (--sysctl) must be there before a min_size is mounted. X-mount.mkdir makes the folders.",
                   "# Linux 6.18 answers 0 to a remount of hugetlbfs with other sizes, and changes nothing: unmount first."]
         return head + "\n".join(lines) + "\n"
 
