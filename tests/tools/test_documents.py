@@ -3,7 +3,7 @@ import io
 import re
 
 import pytest
-from common import EXAMPLES, PROGRAM, TOP, run
+from common import EXAMPLES, PROGRAM, TOP, answer_of, run
 
 from hugetlb import command, refusals, talk
 from hugetlb_session import Session
@@ -65,6 +65,15 @@ def test_commands(words, tmp_path):
     words = [TOP / word if word.startswith("examples/") else word for word in words.split()]
     status, _, faults = run(words, cwd=tmp_path)
     assert (status, faults) == (0, "")
+
+
+def test_what_a_snapshot_costs():
+    """A store has written six of its eight pages, rewrites them, and its child reads all: 16 pages are whole, and 15 lose."""
+    lines = ["connect 1 0", "anon 1 8 private", *(f"store 1 0 1 {at} 0 61" for at in range(6)), "fork 1 2", *(f"load 2 0 1 {at} 0 1" for at in range(8)),
+             *(f"store 1 0 1 {at} 0 62" for at in range(6)), *(f"load 2 0 1 {at} 0 1" for at in range(8))]
+    for pages, refused in ((16, []), (15, ["error 5 TakenByOwner"]), (14, 2 * ["error 5 TakenByOwner"])):
+        replies = answer_of("".join(f"{line}\n" for line in [f"nr {pages}", *lines]).encode(), ["--frames", "16"]).decode().splitlines()
+        assert [reply for reply in replies if reply.startswith("error ")] == refused
 
 
 def write():
