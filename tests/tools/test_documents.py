@@ -48,7 +48,7 @@ def test_blocks_are_what_is_printed(document):
 def test_there_are_blocks():
     texts = [document.read_text() for document in DOCUMENTS]
     assert len(PLAN.findall(texts[0])) == 1
-    assert (len(PLAN.findall(texts[1])), len(TRANSCRIPT.findall(texts[1])), len(FILE.findall(texts[1]))) == (2, 3, 1)
+    assert (len(PLAN.findall(texts[1])), len(TRANSCRIPT.findall(texts[1])), len(FILE.findall(texts[1]))) == (1, 3, 1)
 
 
 def test_pictures_are_there():
