@@ -1,13 +1,18 @@
-# Installs what was built: `make install` takes the program that ./prove or the gate proved, or another that PROGRAM= names. It builds nothing itself.
+# Installs the program, the tool, the manuals, the documents and the completions: `make install` takes the program that ./run would start, builds it
+# where it does not stand, and says where it is not proved; PROGRAM= names another. `make deb` makes a package of the same.
 PREFIX ?= /usr/local
 DESTDIR ?=
-PROGRAM ?= crates/hugetlbd/out/hugetlbd
+PROGRAM ?=
+PYTHON ?= python3
 
 bin = $(DESTDIR)$(PREFIX)/bin
 share = $(DESTDIR)$(PREFIX)/share
 units = $(DESTDIR)$(PREFIX)/lib/systemd/system
+# where this Python looks for modules below PREFIX
+MODULES ?= $(shell $(PYTHON) packaging/modules $(PREFIX))
+modules = $(DESTDIR)$(MODULES)
 
-.PHONY: all check install uninstall
+.PHONY: all check install uninstall deb
 all:
 	./run --version
 
@@ -15,20 +20,27 @@ check:
 	.ci/run
 
 install:
-	@test -x "$(PROGRAM)" || { echo "install: $(PROGRAM) is not there: ./prove proves and builds it, or PROGRAM= names another" >&2; exit 1; }
 	packaging/make-manual --check
-	install -D -m 755 "$(PROGRAM)" "$(bin)/hugetlbd"
-	install -D -m 755 tools/hugetlbctl "$(bin)/hugetlbctl"
-	install -D -m 644 tests/client/hugetlb_session.py "$(share)/hugetlbd/hugetlb_session.py"
+	PROGRAM="$(PROGRAM)" packaging/install-program "$(bin)/hugetlbd"
+	$(PYTHON) packaging/make-tool "$(bin)/hugetlbctl"
+	install -D -m 644 tools/hugetlb_session.py "$(modules)/hugetlb_session.py"
 	install -D -m 644 packaging/hugetlbd.1 "$(share)/man/man1/hugetlbd.1"
+	install -D -m 644 packaging/hugetlbctl.1 "$(share)/man/man1/hugetlbctl.1"
 	install -D -m 644 packaging/hugetlbd.bash "$(share)/bash-completion/completions/hugetlbd"
 	ln -sf hugetlbd "$(share)/bash-completion/completions/hugetlbctl"
 	install -D -m 644 packaging/_hugetlbd "$(share)/zsh/site-functions/_hugetlbd"
-	@# the unit needs the subcommand `serve`: where the program has none, it stays away
-	if "$(PROGRAM)" --help | grep -q '^ *serve '; then \
-	    install -d "$(units)" && sed 's|@PREFIX@|$(PREFIX)|' packaging/hugetlbd.service.in > "$(units)/hugetlbd.service"; fi
+	install -d "$(share)/doc/hugetlbd/docs/pictures" "$(share)/doc/hugetlbd/examples"
+	install -m 644 README.md CHANGELOG.md "$(share)/doc/hugetlbd"
+	install -m 644 docs/*.md "$(share)/doc/hugetlbd/docs"
+	install -m 644 docs/pictures/*.svg "$(share)/doc/hugetlbd/docs/pictures"
+	install -m 644 examples/*.script examples/*.replies examples/*.words examples/*.toml "$(share)/doc/hugetlbd/examples"
+	install -d "$(units)" && sed 's|@PREFIX@|$(PREFIX)|' packaging/hugetlbd.service.in > "$(units)/hugetlbd.service" && chmod 644 "$(units)/hugetlbd.service"
 
 uninstall:
-	rm -f "$(bin)/hugetlbd" "$(bin)/hugetlbctl" "$(share)/man/man1/hugetlbd.1" "$(units)/hugetlbd.service"
+	rm -f "$(bin)/hugetlbd" "$(bin)/hugetlbctl" "$(share)/man/man1/hugetlbd.1" "$(share)/man/man1/hugetlbctl.1" "$(units)/hugetlbd.service"
 	rm -f "$(share)/bash-completion/completions/hugetlbd" "$(share)/bash-completion/completions/hugetlbctl" "$(share)/zsh/site-functions/_hugetlbd"
-	rm -rf "$(share)/hugetlbd"
+	rm -f "$(modules)/hugetlb_session.py" "$(modules)"/__pycache__/hugetlb_session.*.pyc
+	rm -rf "$(share)/doc/hugetlbd" "$(share)/hugetlbd"
+
+deb:
+	PROGRAM="$(PROGRAM)" packaging/make-deb

@@ -1,5 +1,6 @@
 """What the gate built, and how it is run: test programs, the program, and scripts with the replies that they must get."""
 import os
+import re
 import selectors
 import subprocess
 import tempfile
@@ -11,6 +12,11 @@ PROGRAM = TOP / "crates/hugetlbd/out/hugetlbd"
 QUICK = TOP / "out/quick/hugetlbd"
 # A run that has not answered by then has hung.
 SECONDS = 20
+
+
+def version():
+    """The version that the program's sources have: it stands there alone."""
+    return re.search(r'"hugetlbd ([^"\\]+)\\n"', (TOP / "crates/hp_words/src/config.rt").read_text())[1]
 
 
 class Failed(Exception):

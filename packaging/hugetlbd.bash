@@ -31,12 +31,17 @@ _hugetlbctl() {
     local now=${COMP_WORDS[COMP_CWORD]} before=${COMP_WORDS[COMP_CWORD - 1]}
     case $before in
         --page) _hugetlbd_words "1024 4096 65536 2097152" "$now" ;;
-        --program | --svg) _hugetlbd_files "$now" ;;
-        --frames | --slots | --port | --watch | --end | --seconds | --times) COMPREPLY=() ;;
+        --program | --svg | --html) _hugetlbd_files "$now" ;;
+        --frames | --slots | --port | --listen | --watch | --end | --within | --pid | --seconds | --times) COMPREPLY=() ;;
         *)
-            case $now in
-                -*) _hugetlbd_words "--program --port --frames --page --slots --svg --prometheus --watch --end --seconds --times --help" "$now" ;;
-                *) _hugetlbd_files "$now" ;;
+            case ${COMP_WORDS[1]}:$now in
+                plan:-*) _hugetlbd_words "--program --svg --html --json --lines --sysctl --fstab --help" "$now" ;;
+                observe:-*) _hugetlbd_words "--page --help" "$now" ;;
+                *:-*) _hugetlbd_words "--program --port --frames --page --slots --svg --prometheus --listen --watch --end --within --pid --seconds --times --version --help" "$now" ;;
+                *)
+                    _hugetlbd_files "$now"
+                    [ "$COMP_CWORD" = 1 ] && mapfile -t -O "${#COMPREPLY[@]}" COMPREPLY < <(compgen -W "plan observe" -- "$now")
+                    ;;
             esac
             ;;
     esac

@@ -1,6 +1,6 @@
 """Scripts that ran on a real Linux kernel, what it answered, and the comparison with a program's answers.
 
-NAME.script has lines of the service, `#` comments, and `# args:` for options of the machine. After each step that can change the counts
+NAME.annotated has lines of the service, `#` comments, and `# args:` for options of the machine. After each step that can change the counts
 they were asked too, by `meminfo`. NAME.kernel has a line for each line of the script: the reply, and after a tab the four counts where they
 were asked (Total, Free, Rsvd, Surp). The lines of a reply of several stand with ` / ` between them.
 """
@@ -91,7 +91,7 @@ def replies_in(output):
 
 
 def scripts(names=()):
-    return [Script(path) for path in sorted(HERE.glob("*.script")) if not names or path.stem in names]
+    return [Script(path) for path in sorted(HERE.glob("*.annotated")) if not names or path.stem in names]
 
 
 def stored(name):

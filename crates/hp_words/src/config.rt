@@ -66,7 +66,7 @@ Options that serve must have:
 ";
 
 /// What is printed where the words ask for the version.
-pub const VERSION: &str = "hugetlbd 0.1.0\n";
+pub const VERSION: &str = "hugetlbd 0.2.0\n";
 
 /// What the words ask for. The first word is the program's name.
 ///

@@ -133,7 +133,7 @@ class Session:
 
     def __init__(self, reads, writes, program=None, link=None, seconds=SECONDS):
         self._reads, self._writes, self._program, self._link, self._seconds = reads, writes, program, link, seconds
-        self._left = bytearray()
+        self._left = ""
         self._lines = []
         os.set_blocking(reads, False)
         os.set_blocking(writes, False)
@@ -142,7 +142,8 @@ class Session:
     def over_pipe(cls, words, seconds=SECONDS, environment=None):
         """Starts the program with these words, and speaks with it over its standard input and output."""
         pipes = {"stdin": subprocess.PIPE, "stdout": subprocess.PIPE, "stderr": subprocess.PIPE}
-        program = subprocess.Popen(words, bufsize=0, env=environment, **pipes)
+        # (a session of its own: Ctrl-C at a prompt is for the prompt)
+        program = subprocess.Popen(words, bufsize=0, env=environment, start_new_session=True, **pipes)
         return cls(program.stdout.fileno(), program.stdin.fileno(), program=program, seconds=seconds)
 
     @classmethod
@@ -312,7 +313,8 @@ class Session:
                 return replies
             can_read, can_write = self._ready(sent < len(data))
             if not can_read and not can_write:
-                raise TimeoutError(f"{wanted - len(replies)} replies did not come in {self._seconds} seconds")
+                left = wanted - len(replies)
+                raise TimeoutError(f"{left:,} {'reply' if left == 1 else 'replies'} did not come in {self._seconds} seconds")
             if can_write:
                 sent += self._write(data[sent:sent + 65536])
             if can_read:
@@ -348,21 +350,20 @@ class Session:
             more = b""
         if not more:
             raise Ended(self._last_words())
-        self._left += more
-        *lines, self._left = self._left.split(b"\n")
+        *lines, self._left = (self._left + str(more, "latin-1")).split("\n")
         self._lines += lines
 
     def _whole_replies(self, most):
         """Takes the replies that are there with all of their lines, at most so many."""
-        replies, at = [], 0
-        while len(replies) < most and at < len(self._lines):
-            words = self._lines[at].split(b" ")
-            lines = int(words[1]) if words[0] == b"text" and len(words) == 2 and words[1].isdigit() else 0
-            if at + lines >= len(self._lines):
+        replies, at, lines, end = [], 0, self._lines, len(self._lines)
+        while len(replies) < most and at < end:
+            first = lines[at]
+            more = int(first[5:]) if first[:5] == "text " and first[5:].isdigit() else 0
+            if at + more >= end:
                 break
-            replies.append([line.decode("latin-1") for line in self._lines[at:at + 1 + lines]])
-            at += 1 + lines
-        del self._lines[:at]
+            replies.append(lines[at:at + 1 + more])
+            at += 1 + more
+        del lines[:at]
         return replies
 
     def _last_words(self):

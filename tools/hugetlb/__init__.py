@@ -1,0 +1,1 @@
+"""The tools around hugetlbd: plans and their answers, scripts with their replies, pictures and counts."""
