@@ -10,6 +10,7 @@ ghost use Rattle.hp_parts.specs.Replies.{table_reply};
 ghost use Rattle.hp_parts.specs.SlotWork.{asked_event, is_of_maps};
 
 use crate::entrance::Entrance;
+use crate::holding::{held_accesses, held_event};
 use hp_events::MountEvent;
 use hp_events::copies::Copies;
 use hp_homes::Noted;
@@ -18,6 +19,7 @@ use hp_model::entry::{PoolEntry, Receipt, SlotEntry, TableEntry};
 use hp_model::event::{PoolEvent, TableEvent};
 use hp_model::names::Names;
 use hp_model::naming::Naming;
+use hp_model::queued::Queued;
 use hp_model::refusal::Refusal;
 use hp_model::told::Told;
 use hp_parts::{Parts, SlotWork, TableTold};
@@ -65,7 +67,10 @@ fn missing<const K: usize>(
 // What the task table answers to a look-up, where the task is noted and no entries are kept: by one read of a word, without
 // its lock.
 #[inline(always)]
-fn noted<N: Naming + Noted, const K: usize>(shared: &Shared<N, K>, task: u64) -> Option<TableTold>
+pub(crate) fn noted<N: Naming + Noted, const K: usize>(
+    shared: &Shared<N, K>,
+    task: u64,
+) -> Option<TableTold>
     requires { (K == 1) ≡ false }
     ensures { (size : ℕ) → IfSome result (λ told. IsHanded (K == 1) size (OnTasks (Find task))
         (table_reply told) None) }
@@ -183,15 +188,24 @@ impl<'a, N: Naming + Noted, R: Wait, G: Gate, const K: usize> Parts for Entrance
         event: MountEvent<'_>,
         room: &'b mut [u8],
     ) -> Result<Told<'b>, Refusal> {
-        let shared = self.shared;
-        let mut value = hold(shared.slot(at), self.rt);
+        let mut value = hold(self.shared.slot(at), self.rt);
         self.gate.enter(at as u64);
         let slot: &mut Slot<N, Trace<SlotEntry, K>> = &mut value;
         if slot.number() != at as u64 {
             return Err(absent::<K>(Refusal::NoSuchSlot));
         }
-        let mut door = Door::new(self.rt, self.gate, shared.core(), shared.nodes());
-        slot.event_unnoted(&mut door, shared.page_bytes(), home, event, room)
+        let (told, _entered) = held_event(self, slot, at, home, event, room);
+        told
+    }
+
+    fn accesses(&self, at: usize, queue: &mut [Queued], room: &mut [u8]) -> usize {
+        let mut value = hold(self.shared.slot(at), self.rt);
+        self.gate.enter(at as u64);
+        let slot: &mut Slot<N, Trace<SlotEntry, K>> = &mut value;
+        if slot.number() != at as u64 {
+            return 0;
+        }
+        held_accesses(self, slot, at, queue, room)
     }
 
     fn names(&self, at: usize) -> (Result<Names, Refusal>, Option<Receipt>) {

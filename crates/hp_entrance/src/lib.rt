@@ -3,5 +3,6 @@
 
 mod asking;
 mod entrance;
+mod holding;
 
 pub use entrance::Entrance;

@@ -2,3 +2,4 @@ pub mod SlotWork
 pub mod Replies
 pub mod Answered
 pub mod Queues
+pub mod Fitting

@@ -1,5 +1,11 @@
 -- Loads and stores that their slot takes together.
-use Rattle.std.proofs.Common.{◌≡◌, ℕ, ◌+◌, ◌<◌, Bool, true, false, List, [], ◌∷◌, ◌++◌, None, Ok, length, take, drop, refl, sym, ap, subst, ◌∙◌, arith}
+use Rattle.std.proofs.Common.{◌≡◌, ℕ, ◌+◌, ◌-◌, ◌<◌, ◌≤◌, Bool, true, false, List, [], ◌∷◌, ◌++◌, None, Ok, length, take, drop, refl, sym, ap, subst, ◌∙◌, arith}
+use Rattle.std.proofs.Common.{append-nil, length-drop, take-add, take_all}
+use Rattle.std.proofs.Math.ListN.{drop_of_length-le}
+use Rattle.std.proofs.Math.Seq.{drop-append-add, take-append-add}
+use Rattle.std.proofs.lemmas.List.{drop-drop, length-take-le}
+use borrow.Rule.Slice.PartMut.{put_mid}
+use Rattle.hp_model.proofs.Queues.{does_both, does_next, left_next}
 use Rattle.hp_model.specs.beside.Queue.{DoesAll, DoesOne, QueuedView}
 use Rattle.hp_model.specs.declared.answer.Answer.TheVariants.{Home}
 use Rattle.hp_model.specs.declared.event.Event.TheVariants.{Tasks as OnTasks, Slot as OnSlot}
@@ -47,3 +53,38 @@ module _ (size : ℕ) (s : SessionView) (at : ℕ) (within : at < s.slots) where
       → DoesAll (Called kept size) s (take n before) (take n after) s
   together kept n before after unkept h =
       subst (λ k. DoesAll (Called k size) s (take n before) (take n after) s) (sym unkept) (all_answered (take n before) (take n after) h.handed)
+
+-- ---- a queue, of which the first are done
+
+-- behind `at` stands what these were made
+abbrev Behind : ℕ → (now made : List QueuedView) → List QueuedView
+Behind at now made = put_mid at (length now - at) now made
+
+behind_is : (at : ℕ) (now made : List QueuedView) → Behind at now made ≡ take at now ++ made
+behind_is at now made =
+    ap (λ xs. take at now ++ (made ++ xs)) (drop_of_length-le (drop at now) (omega (arith, length-drop at now))) ∙ ap (λ xs. take at now ++ xs) (append-nil made)
+
+-- what is lent is all behind `at`
+pub lent_is : (at : ℕ) (now : List QueuedView) → take (length now - at) (drop at now) ≡ drop at now
+lent_is at now = take_all (length now - at) (drop at now) (omega (arith, length-drop at now))
+
+pub first_taken : (at n : ℕ) (now made : List QueuedView) → at ≤ length now → take (at + n) (Behind at now made) ≡ take at now ++ take n made
+first_taken at n now made within =
+    ap (take (at + n)) (behind_is at now made) ∙ ap (λ k. take (k + n) (take at now ++ made)) (sym (length-take-le at now within)) ∙ take-append-add (take at now) made n
+
+pub left_behind : (at n : ℕ) (now made : List QueuedView) → at ≤ length now → drop (at + n) (Behind at now made) ≡ drop n made
+left_behind at n now made within =
+    ap (drop (at + n)) (behind_is at now made) ∙ ap (λ k. drop (k + n) (take at now ++ made)) (sym (length-take-le at now within)) ∙ drop-append-add (take at now) made n
+
+module _ (kept : Bool) (size : ℕ) (s t : SessionView) (before now : List QueuedView) (at : ℕ) (within : at ≤ length now) (left : drop at now ≡ drop at before)
+    (all : DoesAll (Called kept size) s (take at before) (take at now) t) where
+  -- some more are done together
+  pub several_more : (n : ℕ) (made : List QueuedView) → DoesAll (Called kept size) t (take n (take (length now - at) (drop at now))) (take n made) t
+      → DoesAll (Called kept size) s (take (at + n) before) (take (at + n) (Behind at now made)) t
+  several_more n made more =
+      rw (take-add at n before, first_taken at n now made within)
+      (does_both (Called kept size) s t t (take at before) (take at now) (take n (drop at before)) (take n made) all
+      (subst (λ xs. DoesAll (Called kept size) t (take n xs) (take n made) t) (lent_is at now ∙ left) more))
+
+  pub several_left : (n : ℕ) (made : List QueuedView) → drop n made ≡ drop n (take (length now - at) (drop at now)) → drop (at + n) (Behind at now made) ≡ drop (at + n) before
+  several_left n made same = left_behind at n now made within ∙ same ∙ ap (drop n) (lent_is at now ∙ left) ∙ drop-drop n at before

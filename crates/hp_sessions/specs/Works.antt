@@ -1,9 +1,5 @@
 -- What a session answers to what a step asks.
 use Rattle.std.specs.Prelude.{◌≡◌, ◌⊎◌, ℕ, ◌+◌, ◌<◌, ◌≤◌, Bool, true, Err, length}
-use Rattle.hp_model.specs.declared.answer.Answer.{Answer}
-use Rattle.hp_model.specs.declared.answer.Answer.TheVariants.{Bytes, Done}
-use Rattle.hp_model.specs.declared.event.SlotEvent.{SlotEvent}
-use Rattle.hp_model.specs.declared.event.SlotEvent.TheVariants as slot
 use Rattle.hp_model.specs.declared.refusal.Refusal.TheVariants.{OutOfMemory, TraceFull}
 use Rattle.hp_model.specs.machine.Plan.{Reply}
 use Rattle.hp_events.specs.declared.work.Work.{Work}
@@ -29,15 +25,3 @@ IsWorked kept size s w reply t =
 abbrev pub IsAsked : (kept : Bool) (size : ℕ) → SessionView → (slot : ℕ) → SlotWork → Reply → SessionView → Type 0
 IsAsked kept size s slot work reply t =
     Carries kept size s (on_slot s.slots slot (asked_event work)) reply t ⊎ ((kept ≡ true) × (t ≡ s) × (reply ≡ Err OutOfMemory) × (carries work ≡ true))
-
--- ---- answers
-
-abbrev pub IsBytes : Answer → Type 0
-IsBytes (Bytes count bytes) = Unit {0}
-IsBytes other = ⊥
-
--- a load is answered bytes, and a store that it is done
-abbrev pub HasAnswerOf : SlotEvent → Answer → Type 0
-HasAnswerOf (slot.Load task home number i offset count) a = IsBytes a
-HasAnswerOf (slot.Store task home number i offset bytes) a = a ≡ Done
-HasAnswerOf other a = Unit {0}

@@ -6,3 +6,4 @@ pub mod Turns
 pub mod Endings
 pub mod Added
 pub mod FixedFronts
+pub mod Together

@@ -53,17 +53,13 @@ impl Replies {
         ensures lent { W.lent writer.new ≡ W.lent writer.old }
         ensures ready { S.is_ready service.new }
     {
-        let (left, count) = if service.takes_several() {
-            self.answer_together(chunk, queue, service, writer)?
-        } else {
-            self.answer_lines(chunk, service, writer)?
-        };
+        let (left, count) = self.answer_ended(chunk, queue, service, writer)?;
         self.send(writer)?;
         Ok((left, count))
     }
 
     // Answers the lines that end in these bytes, and says how many bytes follow the last of them, and how many they were.
-    fn answer_lines<W: Sink, S: Service>(
+    pub(crate) fn answer_lines<W: Sink, S: Service>(
         &mut self,
         bytes: &[u8],
         service: &mut S,
@@ -93,7 +89,7 @@ impl Replies {
     }
 
     // Answers one line, for which room is made first.
-    fn answer_line<W: Sink, S: Service>(
+    pub(crate) fn answer_line<W: Sink, S: Service>(
         &mut self,
         line: &[u8],
         room: &mut [u8; ROOM],

@@ -14,9 +14,37 @@ use hp_model::service::Service;
 use hp_text::pieces::first_long_piece;
 
 impl Replies {
-    /// Answers the lines that end in these bytes as `answer_lines` does. Loads and stores wait in the queue for those behind
-    /// them, and none waits at the end.
-    pub fn answer_together<W: Sink, S: Service>(
+    /// Answers the lines that end in these bytes, and says how many bytes follow the last of them, and how many they were:
+    /// one by one, or several at a time where the service takes them so.
+    pub fn answer_ended<W: Sink, S: Service>(
+        &mut self,
+        bytes: &[u8],
+        queue: &mut Queue,
+        service: &mut S,
+        writer: &mut W,
+    ) -> Result<(usize, u64), RunFault>
+        requires ready { S.is_ready service.old }
+        requires none { queue.old ≡ [] }
+        ensures answered { OnOk result (AnswersAll S.may_answer W.contents (ended_lines bytes.now)
+            service.old service.new writer.old writer.new self.old self.new) }
+        ensures cut { IfErr result (AnswersSome S.may_answer W.contents (ended_lines bytes.now)
+            service.old service.new writer.old writer.new self.old) }
+        ensures counts { IfOk result (CountsLines bytes.now) }
+        ensures none { OnOk result (queue.new ≡ []) }
+        ensures page { self.new.page ≡ self.old.page }
+        ensures sure { W.is_sure writer.old → IsOk result }
+        ensures stays { W.is_sure writer.old → W.is_sure writer.new }
+        ensures lent { W.lent writer.new ≡ W.lent writer.old }
+        ensures ready { S.is_ready service.new }
+    {
+        if service.takes_several() {
+            return self.answer_together(bytes, queue, service, writer);
+        }
+        self.answer_lines(bytes, service, writer)
+    }
+
+    // The same, where loads and stores wait in the queue for those behind them, and none waits at the end.
+    fn answer_together<W: Sink, S: Service>(
         &mut self,
         bytes: &[u8],
         queue: &mut Queue,
@@ -40,13 +68,20 @@ impl Replies {
         let mut room = [0u8; ROOM];
         let mut rest = bytes;
         let mut count = 0u64;
-        while let (line, Some(after)) = first_long_piece(b'\n', rest) {
-            self.take_line(line, queue, &mut room, service, writer)?;
-            count += 1;
-            rest = after;
+        loop {
+            let (line, after) = first_long_piece(b'\n', rest);
+            match after {
+                Some(after) => {
+                    self.take_line(line, queue, &mut room, service, writer)?;
+                    count += 1;
+                    rest = after;
+                }
+                None => {
+                    self.answer_queued(queue, &mut room, service, writer)?;
+                    return Ok((rest.len(), count));
+                }
+            }
         }
-        self.answer_queued(queue, &mut room, service, writer)?;
-        Ok((rest.len(), count))
     }
 
     // Takes a line into the queue, and answers all that waits once that is full; a line that can't wait is answered behind

@@ -1,5 +1,5 @@
 //! Loads and stores that were read and wait.
-ghost use Rattle.std.specs.Prelude.{◌≡◌, ◌≤◌, ◌<◌, [], ◌∷◌, ◌++◌, length, true, false, IfOk};
+ghost use Rattle.std.specs.Prelude.{◌≡◌, ◌≤◌, ◌<◌, [], ◌∷◌, ◌++◌, length, true, false};
 ghost use Rattle.hp_model.specs.beside.Accesses.{load_step, store_step};
 ghost use Rattle.hp_model.specs.beside.Queue.{DoesAll, QueuedView};
 ghost use Rattle.hp_model.specs.Profile.{most_bytes};
@@ -11,7 +11,6 @@ use hp_model::queued::{QUEUED_BYTES, Queued};
 use hp_model::service::{Access, Service};
 use hp_wire_lines::accesses::{loading, storing};
 use hp_wire_lines::reading::{LineKind, kind_of_line};
-use std::alloc::{AllocError, Global};
 use std::marker::Model;
 
 // How many loads and stores wait at most: nobody else waits long for a slot that does as many at once.
@@ -20,31 +19,39 @@ const MOST: usize = 8;
 /// Loads and stores that wait, in the order of their lines.
 #[derive(Drop)]
 pub struct Queue {
-    items: Vec<Queued>,
+    items: [Queued; MOST],
     count: usize,
 }
 
 impl Model for Queue {
-    ghost use Rattle.std.specs.Prelude.{◌≡◌, ◌≤◌, List, length, take};
+    ghost use Rattle.std.specs.Prelude.{◌≤◌, List, take};
     ghost use Rattle.hp_model.specs.beside.Queue.{QueuedView};
 
     ghost Value = { List QueuedView };
 
-    ghost view = { λ q. take q.count q.items.items };
+    ghost view = { λ q. take q.count q.items };
 
-    ghost invariant = { λ q. (length q.items.items ≡ 8) × (q.count ≤ 8) };
+    ghost invariant = { λ q. q.count ≤ 8 };
 }
 
 impl Queue {
-    /// Nothing waits. All memory is asked for here.
-    pub fn new(alloc: Global) -> Result<Queue, AllocError>
-        ensures { IfOk result (λ queue. queue ≡ []) }
+    /// Nothing waits.
+    pub fn new() -> Queue
+        ensures { result ≡ [] }
     {
-        let mut items = Vec::with_capacity(alloc, MOST)?;
-        for _ in 0..MOST {
-            items.push_reserved(Queued::new());
+        Queue {
+            items: [
+                Queued::new(),
+                Queued::new(),
+                Queued::new(),
+                Queued::new(),
+                Queued::new(),
+                Queued::new(),
+                Queued::new(),
+                Queued::new(),
+            ],
+            count: 0,
         }
-        Ok(Queue { items, count: 0 })
     }
 
     /// Whether as many wait as may.

@@ -37,9 +37,10 @@ pub fn run_lines<R: Source, W: Sink, S: Service>(
     ensures lent { W.lent writer.new ≡ W.lent writer.old }
     ensures ready { S.is_ready service.new }
 {
-    let Ok((mut unanswered, mut replies, mut queue)) = rooms(alloc, service.page_bytes()) else {
+    let Ok((mut unanswered, mut replies)) = rooms(alloc, service.page_bytes()) else {
         return Err(RunFault::Memory);
     };
+    let mut queue = Queue::new();
     serve(
         reader,
         writer,
@@ -50,15 +51,14 @@ pub fn run_lines<R: Source, W: Sink, S: Service>(
     )
 }
 
-// The room for what is read, for the replies, and for what waits.
-fn rooms(alloc: Global, page: u64) -> Result<(Unanswered, Replies, Queue), AllocError>
+// The room for what is read and for the replies.
+fn rooms(alloc: Global, page: u64) -> Result<(Unanswered, Replies), AllocError>
     requires { page ≤ most_page_bytes }
-    ensures { IfOk result (λ x. (x.0 ≡ []) × (x.1.page ≡ page) × (x.1.text ≡ []) × (x.2 ≡ [])) }
+    ensures { IfOk result (λ x. (x.0 ≡ []) × (x.1.page ≡ page) × (x.1.text ≡ [])) }
 {
     let unanswered = Unanswered::new(alloc)?;
     let replies = Replies::new(alloc, page)?;
-    let queue = Queue::new(alloc)?;
-    Ok((unanswered, replies, queue))
+    Ok((unanswered, replies))
 }
 
 fn serve<R: Source, W: Sink, S: Service>(

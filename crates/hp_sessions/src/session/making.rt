@@ -13,7 +13,7 @@ ghost use Rattle.hp_parts.specs.SlotWork.{AreCopiesFor, asked_event, is_of_maps,
 ghost use Rattle.hp_parts.specs.Replies.{table_reply};
 ghost use Rattle.hp_sessions.specs.Calls.{Carries, Grows, HasReceiptRoom, IsMade, Leads};
 ghost use Rattle.hp_sessions.specs.Forks.{IsForked};
-ghost use Rattle.hp_sessions.specs.Works.{HasAnswerOf};
+ghost use Rattle.hp_parts.specs.Fitting.{HasAnswerOf};
 
 use super::Session;
 use hp_events::MountEvent;

@@ -13,7 +13,8 @@ ghost use Rattle.hp_parts.specs.Replies.{table_reply};
 ghost use Rattle.hp_events.specs.declared.work.Work.TheVariants.{OfTask as OfATask, OnSlot as OnASlot};
 ghost use Rattle.hp_sessions.specs.Calls.{HasReceiptRoom, IsCallAnswered};
 ghost use Rattle.hp_events.specs.Works.{ListsByNamesAlone};
-ghost use Rattle.hp_sessions.specs.Works.{HasAnswerOf, IsAsked, IsBytes, IsWorked};
+ghost use Rattle.hp_parts.specs.Fitting.{HasAnswerOf};
+ghost use Rattle.hp_sessions.specs.Works.{IsAsked, IsWorked};
 
 use super::Session;
 use hp_events::copies::Copies;
@@ -25,7 +26,7 @@ use hp_model::refusal::Refusal;
 use hp_model::service::Access;
 use hp_model::step::Step;
 use hp_model::told::Told;
-use hp_parts::{Parts, SlotWork, TableTold};
+use hp_parts::{Parts, SlotWork, TableTold, into_bytes, into_done};
 use std::alloc::AllocError;
 
 impl<P: Parts> Session<P> {
@@ -351,33 +352,6 @@ fn whole(told: Result<Told<'_>, Refusal>) -> Reply
 {
     match told {
         Ok(told) => Ok(told.into_answer()),
-        Err(refusal) => Err(refusal),
-    }
-}
-
-// The bytes of a load's reply.
-#[inline(always)]
-fn into_bytes<'b>(told: Result<Told<'b>, Refusal>) -> Result<&'b [u8], Refusal>
-    requires bytes { IfOk told (λ told. IsBytes (told_answer told)) }
-    requires limits { IsWithinLimits (told_reply told) }
-    ensures reply { bytes_reply result ≡ told_reply told.entry }
-    ensures few { IfOk result (λ bytes. length bytes.now ≤ most_bytes) }
-{
-    match told {
-        Ok(Told::Bytes(bytes)) => Ok(bytes),
-        Ok(_other) => unreachable!(),
-        Err(refusal) => Err(refusal),
-    }
-}
-
-// That a store is done.
-#[inline(always)]
-fn into_done(told: Result<Told<'_>, Refusal>) -> Result<(), Refusal>
-    requires { IfOk told (λ told. told_answer told ≡ Done) }
-    ensures { done_reply result ≡ told_reply told.entry }
-{
-    match told {
-        Ok(_done) => Ok(()),
         Err(refusal) => Err(refusal),
     }
 }

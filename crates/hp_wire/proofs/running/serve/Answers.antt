@@ -56,6 +56,7 @@ loop-preserved g c =
       page = c.answer_chunk-in-loop.ensures.page ∙ i.page;
       ready = c.answer_chunk-in-loop.ensures.ready;
       none = c.in_ok-left.ensures.none;
+      no_queue = c.in_ok-left.ensures.no_queue;
       reader = λ s. c.read.ensures.stays (i.reader s);
       writer = λ s. c.answer_chunk-in-loop.ensures.stays (i.writer s);
       lent = c.answer_chunk-in-loop.ensures.lent ∙ i.lent;

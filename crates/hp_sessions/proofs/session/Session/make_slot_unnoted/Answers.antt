@@ -4,7 +4,7 @@ use Rattle.hp_model.specs.beside.Told.{told_reply}
 use Rattle.hp_events.specs.Event.{event_of}
 use Rattle.hp_sessions.specs.Calls.{SessionView}
 use Rattle.hp_sessions.proofs.Carrying.{made_unnoted, no_slot, on_slot_made}
-use Rattle.hp_sessions.proofs.Fitting.{fits_result}
+use Rattle.hp_parts.proofs.Fitting.{fits_result}
 use Rattle.hp_sessions.proofs.session.Session.make_slot_unnoted.Goals as goal
 
 pub returns-then-at-count-clause-carried : goal.returns-then-at-count-clause-carried

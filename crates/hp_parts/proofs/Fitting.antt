@@ -27,7 +27,7 @@ use Rattle.hp_laws.proofs.accesses.Shown.{On}
 use Rattle.hp_laws.proofs.accesses.SlotShows.{always_value}
 use Rattle.hp_parts.specs.Answered.{CanAnswer, IsHanded}
 use Rattle.hp_parts.proofs.Came.{always_came}
-use Rattle.hp_sessions.specs.Works.{HasAnswerOf, IsBytes}
+use Rattle.hp_parts.specs.Fitting.{HasAnswerOf, IsBytes}
 
 -- ---- what a load and a store are answered
 

@@ -1,0 +1,23 @@
+use Rattle.std.proofs.Common.{◌≡◌, ◌+◌, ◌<◌, ◌≤◌, ◌++◌, length, List}
+use Rattle.hp_model.specs.text.Lines.{Line}
+use Rattle.hp_wire.specs.Answered.{Answered}
+use Rattle.hp_wire.specs.Queues.{AreRead}
+use Rattle.hp_wire.proofs.LineCuts.{CutOff}
+use Rattle.hp_wire.proofs.replies.Replies.answer_together.Given as goal
+
+abbrev pub invariant-loop-after : goal.invariant-loop-after
+invariant-loop-after g l = (done : List Line) × (waiting : List Line) × record {
+  answered : Answered g.S.Service.may_answer l.fn.self.page l.fn.service done l.service (g.W.Write.contents l.fn.writer) l.fn.self.text (g.W.Write.contents l.writer) l.self.text;
+  read : AreRead waiting l.queue;
+  cut : CutOff l.bytes l.rest (done ++ waiting);
+  count : l.count ≡ length (done ++ waiting);
+  few : l.count + length l.rest ≤ length l.bytes;
+  places : length l.queue < 8;
+  ready : g.S.Service.is_ready l.service;
+  page : l.self.page ≡ l.fn.self.page;
+  sure : g.W.Sink.is_sure l.fn.writer → g.W.Sink.is_sure l.writer;
+  lent : g.W.Sink.lent l.writer ≡ g.W.Sink.lent l.fn.writer;
+}
+
+abbrev pub decreases-loop-after : goal.decreases-loop-after
+decreases-loop-after g l = length l.rest
