@@ -1,0 +1,8 @@
+use Rattle.hp_pool.specs.Ledgers.{names_of}
+use Rattle.hp_server_tests.proofs.full.a_full_room_refuses_a_step_with_no_event.Given as goal
+
+abbrev pub ghosts-row-N-Naming : goal.ghosts-row-N-Naming
+ghosts-row-N-Naming g a = names_of a.blanks 1024
+
+abbrev pub ghosts-row-N-Noted : goal.ghosts-row-N-Noted
+ghosts-row-N-Noted g a = record { words = a.words.words.shared.table_id }

@@ -1,0 +1,8 @@
+use Rattle.hp_pool.specs.Ledgers.{names_of}
+use Rattle.hp_sessions_tests.proofs.filling.a_range_is_filled_with_no_node_held.Given as goal
+
+abbrev pub ghosts-row-N-Naming : goal.ghosts-row-N-Naming
+ghosts-row-N-Naming g a = names_of a.blanks 2097152
+
+abbrev pub ghosts-row-N-Noted : goal.ghosts-row-N-Noted
+ghosts-row-N-Noted g a = record { words = a.words.words.shared.table_id }
