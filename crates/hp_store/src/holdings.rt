@@ -58,6 +58,17 @@ impl<N: Naming> Holdings<N> {
         Ok(())
     }
 
+    /// Room for so many slots in all, and not for more.
+    pub(crate) fn narrow(&mut self, room: usize)
+        requires used { length self.old.slots ≤ room }
+        requires less { room ≤ self.old.room }
+        ensures { self.new ≡ record self.old { room = room } }
+    {
+        self.pages.shrink_to(room);
+        self.holders.shrink_to(room);
+        self.room = room;
+    }
+
     pub(crate) fn room(&self) -> usize
         ensures room { result ≡ self.now.room }
     {

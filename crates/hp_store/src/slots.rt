@@ -66,6 +66,20 @@ impl<N: Naming> Slots<N> {
         Ok(())
     }
 
+    /// Keeps `count` slots free at least, which are, and gives the memory of others back.
+    pub(crate) fn lower(&mut self, count: usize)
+        requires { held_count self.old + count ≤ length self.old }
+        ensures free { held_count self.new + count ≤ length self.new }
+        ensures slots { Lengthens self.new self.old }
+        ensures held { held_count self.new ≡ held_count self.old }
+        ensures same { (n : ℕ) → slice_index_or self.new n None ≡ slice_index_or self.old n None }
+    {
+        let used = self.used.used();
+        let room = (used - self.free.len() + count).max(used);
+        self.used.narrow(room);
+        self.free.shrink_to(room);
+    }
+
     /// How many slots have a page.
     pub(crate) fn held(&self) -> usize
         ensures held { result ≡ held_count self.now }

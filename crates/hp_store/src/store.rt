@@ -1,5 +1,5 @@
 //! The store.
-ghost use Rattle.std.specs.Prelude.{◌≡◌, ℕ, ◌+◌, ◌-◌, ◌<◌, ◌≤◌, ◌^◌, ◌↔◌, ◌==◌, [], ◌∷◌, ◌++◌, length, max, None, Some, IsSome, OnOk, OnErr, option_to_list};
+ghost use Rattle.std.specs.Prelude.{◌≡◌, ℕ, ◌+◌, ◌-◌, ◌<◌, ◌≤◌, ◌^◌, ◌↔◌, ◌==◌, [], ◌∷◌, ◌++◌, length, max, min, None, Some, IsSome, OnOk, OnErr, option_to_list};
 ghost use Rattle.std.specs.Option.{option_map};
 ghost use Rattle.hp_store.specs.Store.{Store, page_at, page_of, holders_of, bytes_of, held_count, inserted, shared, dropped, overwritten, Lengthens};
 
@@ -9,6 +9,9 @@ use hp_model::page_no::PageNo;
 use hp_nodes::Page;
 use std::alloc::{AllocError, Global};
 use std::marker::Model;
+
+// Memory is given back where there is more than so many times what is wanted.
+const MUCH: usize = 4;
 
 /// Pages in use, each under a number. It has to be closed, and is empty by then.
 pub struct PageStore<N: Naming> {
@@ -59,6 +62,32 @@ impl<N: Naming> PageStore<N> {
         self.slots.reserve(count)?;
         self.room = count;
         Ok(())
+    }
+
+    /// How many pages there is room for.
+    #[inline(always)]
+    pub fn room(&self) -> usize
+        ensures { result ≡ self.now.room }
+    {
+        self.room
+    }
+
+    /// Gives back the room for more than `count` pages, where that is much of what there is. It asks for no memory.
+    pub fn lower_room(&mut self, count: usize)
+        ensures lowered { self.new
+            ≡ record self.old { pages = self.new.pages; room = min self.old.room count } }
+        ensures pages { Lengthens self.new.pages self.old.pages }
+        ensures same { (n : ℕ) → page_at self.new n ≡ page_at self.old n }
+    {
+        if count >= self.room {
+            return;
+        }
+        let most = self.slots.held() + count + self.going.len();
+        if self.going.capacity() / MUCH > most {
+            self.slots.lower(count);
+            self.going.shrink_to(most);
+        }
+        self.room = count;
     }
 
     /// Puts a page in under a number that was free.

@@ -1,5 +1,5 @@
 //! What maps and files show at their indices: entries and pages.
-ghost use Rattle.std.specs.Prelude.{◌≡◌, ◌<◌, length, OnOk, OnErr};
+ghost use Rattle.std.specs.Prelude.{◌≡◌, ◌<◌, length, min, OnOk, OnErr};
 ghost use Rattle.hp_model.specs.declared.cell.Cell.TheVariants.{Hole, Entered};
 ghost use Rattle.hp_model.specs.files.File.{cell_at};
 ghost use Rattle.hp_lookup.specs.Files.{file_at, with_cell_at};
@@ -12,6 +12,22 @@ use hp_nodes::Page;
 use std::alloc::AllocError;
 
 impl<N: Naming> Files<N> {
+    // How many pages there is room for, beside those for copies that several maps hold.
+    pub(super) fn spare_room(&self) -> usize
+        ensures { result ≡ self.now.room }
+    {
+        self.store.room() - self.more
+    }
+
+    // Gives back the room for more pages than these.
+    pub(super) fn lower_room(&mut self, room: usize)
+        ensures { self.new ≡ record self.old { room = min self.old.room room } }
+    {
+        let most = self.store.room();
+        let all = self.more.saturating_add(room).min(most);
+        self.store.lower_room(all);
+    }
+
     // Enters an index that is a hole. Refused where memory is, and then nothing changes.
     fn enter(&mut self, file: usize, index: u64) -> Result<(), AllocError>
         requires file { file < length self.old.files }
