@@ -27,9 +27,10 @@ loop-at-preserved g c =
     let d = c.index-waiting-at.result in
     let line = line_of page (get_or qs at d).reply in
     let room = c.make_room.new.self in
+    let told : told_reply c.reply.result ≡ (get_or qs at d).reply =
+    c.reply.ensures.reply ∙ ap (λ (q : QueuedView). q.reply) c.index-waiting-at.is ∙ ap (λ (ls : List QueuedView). (get_or ls at d).reply) c.as_slice-waiting.ensures in
     let is : c.add.new.self.text ≡ room.text ++ line =
-    c.add.ensures.text ∙ ap (λ n. room.text ++ line_of n (told_reply c.reply.result)) (c.make_room.ensures.page ∙ i.page) ∙ ap (λ r. room.text ++ line_of page r) c.reply.ensures.reply ∙ ap (λ (q : QueuedView). room.text ++ line_of page q.reply) c.index-waiting-at.is
-    ∙ ap (λ (ls : List QueuedView). room.text ++ line_of page (get_or ls at d).reply) c.as_slice-waiting.ensures in
+    c.add.ensures.text ∙ ap (λ n. room.text ++ line_of n (told_reply c.reply.result)) (c.make_room.ensures.page ∙ i.page) ∙ ap (λ r. room.text ++ line_of page r) told in
     record {
       added = subst (λ (xs : List ℕ). Gains (g.W.Write.contents c.args.writer.now) c.args.self.now.text (g.W.Write.contents c.make_room.new.writer) c.add.new.self.text xs)
           (text_more page qs at d (rw c.as_slice-waiting.ensures at c.loop-at-test.true)) (gains_line line c.add.new.self.text i.added c.in_ok-make_room.ensures.kept is);

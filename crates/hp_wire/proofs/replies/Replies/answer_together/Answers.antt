@@ -1,4 +1,4 @@
-use Rattle.std.proofs.Common.{arith, refl, sym, ◌∙◌, ◌≡◌, [], ◌++◌, ◌∷◌, ap, length, length-append, subst, append_assoc, append-nil, List}
+use Rattle.std.proofs.Common.{arith, refl, sym, ◌∙◌, ◌≡◌, [], ◌++◌, ◌∷◌, ap, length, length-append, subst, append_assoc, List}
 use Rattle.std.proofs.lemmas.Result.{err_from_is_err_and}
 use Rattle.hp_model.specs.beside.Queue.{QueuedView}
 use Rattle.hp_model.specs.text.Lines.{Line, ended, ended_lines, pieces}
@@ -37,8 +37,7 @@ loop-after-preserved g c =
     let whole : c.loop-after.rest.now ≡ line ++ 10 ∷ next = rw c.in-Some.is at c.first_long_piece.ensures.whole in
     let more = c.in_ok-take_line-in-Some.ensures.taken waiting i.2.read in
     let same : (done ++ waiting) ++ ended line ∷ [] ≡ (done ++ more.done) ++ more.others =
-    append_assoc done waiting (ended line ∷ []) ∙ ap (λ (ls : List Line). done ++ ls) more.all ∙ sym (append_assoc done more.done more.others) in
-    (
+    append_assoc done waiting (ended line ∷ []) ∙ ap (λ (ls : List Line). done ++ ls) more.all ∙ sym (append_assoc done more.done more.others) in (
       done ++ more.done,
       more.others,
       record {

@@ -1,10 +1,10 @@
 use Rattle.std.proofs.Common.{[], ◌∷◌, ◌++◌, List, refl, sym, subst, append-nil}
 use Rattle.std.proofs.lemmas.Result.{err_from_is_err_and}
 use Rattle.hp_model.specs.beside.Queue.{QueuedView}
-use Rattle.hp_model.specs.text.Lines.{Line, ended}
+use Rattle.hp_model.specs.text.Lines.{ended}
 use Rattle.hp_wire.specs.Queues.{AreRead}
 use Rattle.hp_wire.proofs.Known.{answered_cut, answered_none, answered_then}
-use Rattle.hp_wire.proofs.Together.{if_err, on_ok, part_longer, read_more}
+use Rattle.hp_wire.proofs.Together.{if_err, on_ok, part_longer, read_taken}
 use Rattle.hp_wire.proofs.replies.Replies.take_line.Goals as goal
 
 pub returns-then-is_full-clause-taken : goal.returns-then-is_full-clause-taken
@@ -15,7 +15,7 @@ returns-then-is_full-clause-taken g c =
       done = waiting ++ line ∷ [];
       others = [];
       all = sym (append-nil (waiting ++ line ∷ []));
-      answered = answered (waiting ++ line ∷ []) (subst (λ (qs : List QueuedView). AreRead (waiting ++ line ∷ []) qs) (sym taken.1) (read_more waiting c.args.queue.now line taken.0 read taken.2));
+      answered = answered (waiting ++ line ∷ []) (read_taken waiting c.args.queue.now c.take.new.self line read taken);
       read = subst (λ (qs : List QueuedView). AreRead [] qs) (sym none) tt;
     }) c.answer_queued.ensures.answered c.answer_queued.ensures.none
 
@@ -24,7 +24,7 @@ returns-then-is_full-clause-cut g c =
     let line = ended c.args.line.now in
     let taken = c.take.ensures.taken c.if-take.true in
     if_err c.answer_queued.result
-    (λ fault cut _ waiting read. cut (waiting ++ line ∷ []) (subst (λ (qs : List QueuedView). AreRead (waiting ++ line ∷ []) qs) (sym taken.1) (read_more waiting c.args.queue.now line taken.0 read taken.2)))
+    (λ fault cut _ waiting read. cut (waiting ++ line ∷ []) (read_taken waiting c.args.queue.now c.take.new.self line read taken))
     c.answer_queued.ensures.cut c.answer_queued.ensures.cut
 
 pub returns-then-take-clause-taken : goal.returns-then-take-clause-taken
@@ -36,7 +36,7 @@ returns-then-take-clause-taken g c =
       others = waiting ++ line ∷ [];
       all = refl;
       answered = answered_none;
-      read = subst (λ (qs : List QueuedView). AreRead (waiting ++ line ∷ []) qs) (sym taken.1) (read_more waiting c.args.queue.now line taken.0 read taken.2);
+      read = read_taken waiting c.args.queue.now c.take.new.self line read taken;
     }
 
 pub returns-in_err-answer_queued-clause-cut : goal.returns-in_err-answer_queued-clause-cut
@@ -56,7 +56,8 @@ returns-clause-taken g c =
       done = waiting ++ line ∷ [];
       others = [];
       all = sym (append-nil (waiting ++ line ∷ []));
-      answered = answered_then (c.in_ok-answer_queued.ensures.answered waiting (subst (λ (qs : List QueuedView). AreRead waiting qs) (sym left) read)) (rw c.in_ok-answer_queued.ensures.page at answered);
+      answered = answered_then (c.in_ok-answer_queued.ensures.answered waiting (subst (λ (qs : List QueuedView). AreRead waiting qs) (sym left) read))
+          (rw c.in_ok-answer_queued.ensures.page at answered);
       read = subst (λ (qs : List QueuedView). AreRead [] qs) (sym c.in_ok-answer_queued.ensures.none) tt;
     }) c.answer_line.ensures.answered c.answer_line.ensures.answered
 
