@@ -1,16 +1,20 @@
 //! Answers to lines of which loads and stores are done several at a time.
 ghost use Rattle.std.specs.Prelude.{◌≡◌, ◌<◌, ◌++◌, ◌∷◌, [], List, length, IfErr, IfOk, IsOk, OnOk};
 ghost use Rattle.hp_model.specs.text.Lines.{Line, ended, ended_lines};
+ghost use Rattle.hp_model.specs.text.Writing.{line_of};
 ghost use Rattle.hp_wire.specs.Answered.{AnswersAll, AnswersSome};
 ghost use Rattle.hp_wire.specs.Queues.{AddsText, AreRead, CutsText, TakesLine, queued_text};
 ghost use Rattle.hp_wire.specs.Unanswered.{CountsLines};
+ghost use Rattle.hp_wire.specs.Waiting.{HasRoomForOne};
 
 use crate::answering::ROOM;
 use crate::ends::Sink;
 use crate::fault::RunFault;
 use crate::queue::Queue;
 use crate::replies::Replies;
+use hp_model::queued::Queued;
 use hp_model::service::Service;
+use hp_model::told::Told;
 use hp_text::pieces::first_long_piece;
 
 impl Replies {
@@ -163,8 +167,22 @@ impl Replies {
         let waiting = queue.as_slice();
         for at in 0..waiting.len() {
             self.make_room(writer)?;
-            self.add(&waiting[at].reply());
+            self.add_done(&waiting[at]);
         }
         Ok(())
+    }
+
+    // Adds the reply of a load or a store that was done.
+    #[inline(always)]
+    fn add_done(&mut self, queued: &Queued)
+        requires { HasRoomForOne self.old }
+        ensures text { self.new.text ≡ self.old.text ++ line_of self.old.page queued.now.reply }
+        ensures page { self.new.page ≡ self.old.page }
+    {
+        match queued.reply() {
+            Ok(Told::Bytes(bytes)) => self.add_loaded(Ok(bytes)),
+            Ok(Told::Done) => self.add_stored(Ok(())),
+            told => self.add(&told),
+        }
     }
 }

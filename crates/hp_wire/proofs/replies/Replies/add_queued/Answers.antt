@@ -2,7 +2,6 @@ use Rattle.std.proofs.Common.{◌≡◌, ◌++◌, ap, ◌∙◌, subst, List, �
 use lib.ListN.{get_or}
 use Rattle.std.proofs.lemmas.Result.{err_from_is_err_and}
 use Rattle.hp_model.specs.beside.Queue.{QueuedView}
-use Rattle.hp_model.specs.beside.Told.{told_reply}
 use Rattle.hp_model.specs.text.Writing.{line_of}
 use Rattle.hp_wire.specs.Answered.{Gains}
 use Rattle.hp_wire.proofs.Together.{cut_text, gains_line, text_more}
@@ -27,14 +26,13 @@ loop-at-preserved g c =
     let d = c.index-waiting-at.result in
     let line = line_of page (get_or qs at d).reply in
     let room = c.make_room.new.self in
-    let told : told_reply c.reply.result ≡ (get_or qs at d).reply =
-    c.reply.ensures.reply ∙ ap (λ (q : QueuedView). q.reply) c.index-waiting-at.is ∙ ap (λ (ls : List QueuedView). (get_or ls at d).reply) c.as_slice-waiting.ensures in
-    let is : c.add.new.self.text ≡ room.text ++ line =
-    c.add.ensures.text ∙ ap (λ n. room.text ++ line_of n (told_reply c.reply.result)) (c.make_room.ensures.page ∙ i.page) ∙ ap (λ r. room.text ++ line_of page r) told in
+    let told = ap (λ (q : QueuedView). line_of page q.reply) c.index-waiting-at.is ∙ ap (λ (ls : List QueuedView). line_of page (get_or ls at d).reply) c.as_slice-waiting.ensures in
+    let is : c.add_done.new.self.text ≡ room.text ++ line =
+    c.add_done.ensures.text ∙ ap (λ n. room.text ++ line_of n c.index-waiting-at.result.reply) (c.make_room.ensures.page ∙ i.page) ∙ ap (λ line. room.text ++ line) told in
     record {
-      added = subst (λ (xs : List ℕ). Gains (g.W.Write.contents c.args.writer.now) c.args.self.now.text (g.W.Write.contents c.make_room.new.writer) c.add.new.self.text xs)
-          (text_more page qs at d (rw c.as_slice-waiting.ensures at c.loop-at-test.true)) (gains_line line c.add.new.self.text i.added c.in_ok-make_room.ensures.kept is);
-      page = c.add.ensures.page ∙ c.make_room.ensures.page ∙ i.page;
+      added = subst (λ (xs : List ℕ). Gains (g.W.Write.contents c.args.writer.now) c.args.self.now.text (g.W.Write.contents c.make_room.new.writer) c.add_done.new.self.text xs)
+          (text_more page qs at d (rw c.as_slice-waiting.ensures at c.loop-at-test.true)) (gains_line line c.add_done.new.self.text i.added c.in_ok-make_room.ensures.kept is);
+      page = c.add_done.ensures.page ∙ c.make_room.ensures.page ∙ i.page;
       sure = λ s. c.make_room.ensures.stays (i.sure s);
       lent = c.make_room.ensures.lent ∙ i.lent;
     }
