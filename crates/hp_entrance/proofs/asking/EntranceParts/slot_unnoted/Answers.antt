@@ -7,9 +7,3 @@ use Rattle.hp_entrance.proofs.asking.EntranceParts.slot_unnoted.Goals as goal
 
 pub returns-then-number-at-clause-handed : goal.returns-then-number-at-clause-handed
 returns-then-number-at-clause-handed g c = mount_absent (g.row.K == 1) g.N.Naming.page_bytes c.args.at c.args.home c.args.event c.absent.result c.absent.ensures
-
-pub returns-clause-handed : goal.returns-clause-handed
-returns-clause-handed g c =
-    slot_handed (g.row.K == 1) ((c.event_unnoted.new.door.asked ≡ _) × ((g.row.K == 1) ≡ true)) g.N.Naming.page_bytes c.args.at c.deref_mut-slot.result.now c.event_unnoted.new.self
-    (event_of c.args.home c.args.event) (told_reply c.event_unnoted.result) c.event_unnoted.new.door.asked None (sym c.number.ensures ∙ c.if-number-at.false)
-    (λ full. mount_has_place c.args.at c.args.home c.args.event) c.event_unnoted.ensures.done (λ full. (c.event_unnoted.ensures.keeps full).1) (λ told. sym c.requires.unkept)
