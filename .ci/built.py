@@ -84,7 +84,7 @@ def runs_of_shell(lines):
 
 def pasted():
     """What the documents show of runs: where it stands, its words, its script, and the replies that stand behind it or beside the file."""
-    for document in sorted([TOP / "README.md", *TOP.glob("docs/*.md"), *TOP.glob("crates/*/README.md")]):
+    for document in sorted([TOP / "README.md", *TOP.glob("docs/**/*.md"), *TOP.glob("crates/*/README.md")]):
         blocks = blocks_of(document)
         for block, (place, head, lines) in enumerate(blocks):
             if head[:1] == ["script"]:
