@@ -84,7 +84,7 @@ page_table_send : IsSend PageTable.the_row
 page_table_send = search (sendable, crosses, page_block_send, later_pages_send) depth 30
 
 indices_send : IsSend Indices.the_row
-indices_send = search (sendable, page_table_send, entries_send) depth 30
+indices_send = search (sendable, crosses, page_table_send, entries_send) depth 30
 
 pub inode_send : IsSend Inode.the_row
 inode_send = search (sendable, crosses, indices_send) depth 30
