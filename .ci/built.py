@@ -113,9 +113,9 @@ class Memory:
         build = [compiler, "-O2", "-shared", "-fPIC", "-o", self.library, TOP / "tests/refuse.c"]
         subprocess.run(build, check=True)
 
-    def environment(self, refused=0):
-        """What a program is started with so that its call of this number gets no memory; 0: each does."""
-        return {"LD_PRELOAD": self.library, "REFUSE_AT": str(refused), "REFUSE_REPORT": self.report}
+    def environment(self, refused=0, above=0):
+        """What a program is started with so that its call of this number gets no memory, or each for more bytes than these; 0: each does."""
+        return {"LD_PRELOAD": self.library, "REFUSE_AT": str(refused), "REFUSE_ABOVE": str(above), "REFUSE_REPORT": self.report}
 
     def told(self):
         """After the run: the calls made, the blocks still held, and the most bytes held at one time; none after an abort."""

@@ -1,6 +1,7 @@
 // Preloaded into a program, this counts its calls for memory and refuses one of them, and fails one read or write.
 //
 //   REFUSE_AT=N         the Nth call of malloc, calloc or realloc gets no memory (none: each gets it)
+//   REFUSE_ABOVE=BYTES  a call for more bytes than these gets none, as of a system that has no more in one piece
 //   REFUSE_READ_AT=N    the Nth read of the standard input fails
 //   REFUSE_WRITE_AT=N   the Nth write to the standard output fails
 //   REFUSE_REPORT=FILE  at the end the file has one line: the calls made, the blocks still held, the most bytes held at one time
@@ -25,7 +26,7 @@ extern void *__libc_malloc(size_t size);
 extern void *__libc_realloc(void *block, size_t size);
 extern void __libc_free(void *block);
 
-static _Atomic size_t calls, refused, reads, writes, blocks, held, most;
+static _Atomic size_t calls, refused, above, reads, writes, blocks, held, most;
 static _Atomic char is_ready;
 
 static size_t number_of(const char *name) {
@@ -33,12 +34,13 @@ static size_t number_of(const char *name) {
     return number ? strtoul(number, 0, 10) : 0;
 }
 
-static int is_refused(void) {
+static int is_refused(size_t size) {
     if (!is_ready) {
         refused = number_of("REFUSE_AT");
+        above = number_of("REFUSE_ABOVE");
         is_ready = 1;
     }
-    if (++calls != refused)
+    if (++calls != refused && !(above && size > above))
         return 0;
     errno = ENOMEM;
     return 1;
@@ -79,12 +81,12 @@ static void given(void *block) {
 }
 
 void *malloc(size_t size) {
-    return is_refused() ? 0 : taken(__libc_malloc(size), __builtin_return_address(0));
+    return is_refused(size) ? 0 : taken(__libc_malloc(size), __builtin_return_address(0));
 }
 
 void *calloc(size_t count, size_t size) {
     size_t whole;
-    if (is_refused() || __builtin_mul_overflow(count, size, &whole))
+    if (__builtin_mul_overflow(count, size, &whole) || is_refused(whole))
         return 0;
     char *block = taken(__libc_malloc(whole), __builtin_return_address(0));
     for (size_t i = 0; block && i < whole; i++)
@@ -93,7 +95,7 @@ void *calloc(size_t count, size_t size) {
 }
 
 void *realloc(void *block, size_t size) {
-    if (is_refused())
+    if (is_refused(size))
         return 0;
     given(block);
     void *moved = __libc_realloc(block, size);
