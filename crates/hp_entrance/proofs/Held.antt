@@ -1,5 +1,5 @@
 -- Loads and stores under one hold of their slot.
-use Rattle.std.proofs.Common.{◌≡◌, ℕ, ◌+◌, ◌<◌, List, [], ◌∷◌, length, take, drop, slice_set, refl, Bool, false, None, Ok, sym, subst, ◌∙◌}
+use Rattle.std.proofs.Common.{◌≡◌, ℕ, ◌+◌, ◌<◌, List, [], ◌∷◌, length, take, drop, slice_set, refl, Bool, false, None, Ok, subst}
 use lib.ListN.{get_or}
 use Rattle.hp_model.proofs.Queues.{does_next}
 use Rattle.hp_model.specs.beside.Queue.{DoesAll, QueuedView}

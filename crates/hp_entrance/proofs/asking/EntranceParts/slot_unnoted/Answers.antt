@@ -1,8 +1,5 @@
-use Rattle.std.proofs.Common.{◌≡◌, ◌==◌, true, None, sym, ◌∙◌}
-use Rattle.hp_model.specs.beside.Told.{told_reply}
-use Rattle.hp_events.specs.Event.{event_of}
-use Rattle.hp_shared.proofs.SlotsKept.{mount_has_place}
-use Rattle.hp_entrance.proofs.Handed.{mount_absent, slot_handed}
+use Rattle.std.proofs.Common.{◌==◌}
+use Rattle.hp_entrance.proofs.Handed.{mount_absent}
 use Rattle.hp_entrance.proofs.asking.EntranceParts.slot_unnoted.Goals as goal
 
 pub returns-then-number-at-clause-handed : goal.returns-then-number-at-clause-handed
