@@ -34,13 +34,15 @@ returns-in-Load-clause-done g c =
     let a = c.access-access.result.now in
     let count = c.in-Load.count in
     let told = told_reply c.held_event-told.result.0 in
+    let found = subst (λ (x : TableTold). IsHanded (g.row.K == 1) size (OnTasks (Find a.task)) (table_reply x) None) c.in-Some-Home.field-0-is
+    (c.in-Some-Home.ensures size) in
     let step : load_step a count ≡ c.args.queued.now.step = ap (λ (x : Access). load_step x count) c.access-access.ensures ∙ c.in-Load.ensures in
     let reply : c.answer_load.new.self.reply ≡ told = c.answer_load.ensures.reply ∙ c.into_bytes.ensures.reply in
     subst (λ (s : Step). IsAccessHanded size at s c.answer_load.new.self.reply) step
     (subst (λ (r : Reply). IsAccessHanded size at (load_step a count) r) (sym reply) (
       c.if-access-at.false,
       found_handed (g.row.K == 1) size at a.task c.in-Some-Home.home (λ home. slot.Load a.task home a.map a.index a.offset count) told c.requires.unkept
-          (subst (λ (x : TableTold). IsHanded (g.row.K == 1) size (OnTasks (Find a.task)) (table_reply x) None) c.in-Some-Home.field-0-is (c.in-Some-Home.ensures size)) c.held_event-told.ensures.handed,
+          found c.held_event-told.ensures.handed,
     ))
 
 pub returns-in-Store-clause-done : goal.returns-in-Store-clause-done
@@ -50,11 +52,13 @@ returns-in-Store-clause-done g c =
     let a = c.access-access.result.now in
     let bytes = c.in-Store.bytes.now in
     let told = told_reply c.held_event-told-in-Store.result.0 in
+    let found = subst (λ (x : TableTold). IsHanded (g.row.K == 1) size (OnTasks (Find a.task)) (table_reply x) None) c.in-Some-Home.field-0-is
+    (c.in-Some-Home.ensures size) in
     let step : store_step a bytes ≡ c.args.queued.now.step = ap (λ (x : Access). store_step x bytes) c.access-access.ensures ∙ c.in-Store.ensures in
     let reply : c.answer_store.new.self.reply ≡ told = c.answer_store.ensures.reply ∙ c.into_done.ensures in
     subst (λ (s : Step). IsAccessHanded size at s c.answer_store.new.self.reply) step
     (subst (λ (r : Reply). IsAccessHanded size at (store_step a bytes) r) (sym reply) (
       c.if-access-at.false,
       found_handed (g.row.K == 1) size at a.task c.in-Some-Home.home (λ home. slot.Store a.task home a.map a.index a.offset bytes) told c.requires.unkept
-          (subst (λ (x : TableTold). IsHanded (g.row.K == 1) size (OnTasks (Find a.task)) (table_reply x) None) c.in-Some-Home.field-0-is (c.in-Some-Home.ensures size)) c.held_event-told-in-Store.ensures.handed,
+          found c.held_event-told-in-Store.ensures.handed,
     ))
