@@ -109,7 +109,7 @@ fn row<
 {
     let listener = TcpListener::bind(rt, "127.0.0.1:0").expect(rt, "a port");
     let at = listener.local_addr().expect(rt, "an address");
-    let mut connections = Listening::new(listener, Vec::new(alloc));
+    let mut connections = Listening::new(rt, alloc, listener, Vec::new(alloc));
     let mut output = Vec::new(alloc);
     let serving = ||
         requires ledgers { AreLedgers N.Naming blanks }
@@ -118,7 +118,7 @@ fn row<
         requires bytes { N.page_bytes ≡ 1024 }
         requires places { places ≤ 16777216 }
     {
-        serves::<N, R, Listening<Vec<u8>>>(
+        serves::<N, R, Listening<'_, R, Vec<u8>>>(
             rt,
             alloc,
             blanks,
