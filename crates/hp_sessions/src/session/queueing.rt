@@ -1,11 +1,12 @@
 //! Loads and stores that wait, done several at a time.
 ghost use Rattle.std.specs.Prelude.{◌≡◌, ◌<◌, ◌≤◌, drop, length, take};
-ghost use Rattle.hp_model.specs.beside.Queue.{DoesAll, DoesOne};
+ghost use Rattle.hp_model.specs.beside.Queue.{DoesAll};
 ghost use Rattle.hp_model.specs.Profile.{most_bytes};
 ghost use Rattle.hp_sessions.specs.Calls.{IsCallAnswered};
 
 use super::Session;
-use hp_model::queued::{Doing, Queued};
+use hp_model::queued::Queued;
+use hp_model::service::Service;
 use hp_parts::Parts;
 
 impl<P: Parts> Session<P> {
@@ -21,27 +22,8 @@ impl<P: Parts> Session<P> {
             let some = self.do_together(&mut queue[done..], room);
             done += some;
             if some == 0 {
-                self.do_alone(&mut queue[done], room);
+                self.do_one(&mut queue[done], room);
                 done += 1;
-            }
-        }
-    }
-
-    // Does a load or a store by itself.
-    fn do_alone(&mut self, queued: &mut Queued, room: &mut [u8])
-        requires { most_bytes ≤ length room.old }
-        ensures { DoesOne (λ s step reply t. IsCallAnswered P.keeps P.page s step reply t)
-            self.old queued.old queued.new self.new }
-    {
-        let access = *queued.access();
-        match queued.doing() {
-            Doing::Load { count } => {
-                let loaded = self.load(&access, count, room);
-                queued.answer_load(loaded);
-            }
-            Doing::Store { bytes } => {
-                let stored = self.store(&access, bytes);
-                queued.answer_store(stored);
             }
         }
     }

@@ -40,9 +40,9 @@ loop-done-preserved-then-some-eq0 g c =
     let whole = same_len_mid at (length now - at) now some.new.queue some.auto.queue in
     let left = several_left kept size c.args.self.now c.loop-done.self c.args.queue.now now at within i.left i.done some.result some.new.queue some.ensures.left in
     record {
-      done = does_next (Called kept size) c.args.self.now c.loop-done.self c.do_alone.new.self c.args.queue.now made (at + some.result) c.do_alone.new.queued c.index-queue-done.result
+      done = does_next (Called kept size) c.args.self.now c.loop-done.self c.do_one.new.self c.args.queue.now made (at + some.result) c.do_one.new.queued c.index-queue-done.result
           (omega (arith, none, here, same)) (whole ∙ same) left
-          (several_more kept size c.args.self.now c.loop-done.self c.args.queue.now now at within i.left i.done some.result some.new.queue some.ensures.done) c.do_alone.ensures;
-      left = left_next c.args.queue.now made (at + some.result) c.do_alone.new.queued left;
+          (several_more kept size c.args.self.now c.loop-done.self c.args.queue.now now at within i.left i.done some.result some.new.queue some.ensures.done) c.do_one.ensures.done;
+      left = left_next c.args.queue.now made (at + some.result) c.do_one.new.queued left;
       few = omega (arith, none, here, same);
     }
