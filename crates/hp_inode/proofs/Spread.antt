@@ -194,7 +194,9 @@ module _ (words : List ℕ) (a b : ℕ) where
       ap not (same_inside k (omega (arith, low, from)) (omega (arith, below, le, to (omega (arith, from, below, le)))) ∙ full k from (omega (arith, below, le)))) in
       let whole : n + (m - n) ≡ m = omega (arith, le) in
       let from : n ≡ 0 + n = omega arith in
-      omega (arith, count_split ours 0 n (m - n), ap (λ j. count_by ours (range_with_len 0 j)) whole, ap (λ j. count_by ours (range_with_len j (m - n))) from, none, count_not ours range, length-range_with_len n (m - n))
+      let low_part = ap (λ j. count_by ours (range_with_len 0 j)) whole in
+      let high_part = ap (λ j. count_by ours (range_with_len j (m - n))) from in
+      omega (arith, count_split ours 0 n (m - n), low_part, high_part, none, count_not ours range, length-range_with_len n (m - n))
 
   -- with none left
   pub counted_end : (at end : ℕ) → end ≡ b / 64 + min 1 (b % 64) → IsBlank words (64 * at) (64 * end) → count_by ours (range_with_len 0 (64 * at)) ≡ count_in words a b

@@ -60,10 +60,12 @@ module _ (xs : List ℕ) (x : ℕ) (up : IsNonDecreasing xs) where
     pub rise_removed : at < length xs → IsNonDecreasing (remove xs at)
     rise_removed in_range i j d le lt =
         let long = length-remove xs at in_range in
+        let below = λ (k : ℕ) (lower : k < at). get_or-remove_below xs at d k lower in_range in
+        let above = λ (k : ℕ) (higher : at ≤ k). get_or-remove_above xs at d k higher in_range in
         elim (cases_lt i at) [
           | inl i_below ↦ (elim (cases_lt j at) [
-            | inl j_below ↦ omega (arith, get_or-remove_below xs at d i i_below in_range, get_or-remove_below xs at d j j_below in_range, up i j d le (omega (arith, j_below, in_range)))
-            | inr j_above ↦ omega (arith, get_or-remove_below xs at d i i_below in_range, get_or-remove_above xs at d j j_above in_range, up i (j + 1) d (omega (arith, le)) (omega (arith, lt, long)))
+            | inl j_below ↦ omega (arith, below i i_below, below j j_below, up i j d le (omega (arith, j_below, in_range)))
+            | inr j_above ↦ omega (arith, below i i_below, above j j_above, up i (j + 1) d (omega (arith, le)) (omega (arith, lt, long)))
           ])
-          | inr i_above ↦ omega (arith, get_or-remove_above xs at d i i_above in_range, get_or-remove_above xs at d j (omega (arith, i_above, le)) in_range, up (i + 1) (j + 1) d (omega (arith, le)) (omega (arith, lt, long)))
+          | inr i_above ↦ omega (arith, above i i_above, above j (omega (arith, i_above, le)), up (i + 1) (j + 1) d (omega (arith, le)) (omega (arith, lt, long)))
         ]

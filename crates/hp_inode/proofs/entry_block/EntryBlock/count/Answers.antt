@@ -7,7 +7,8 @@ use Rattle.hp_inode.proofs.entry_block.EntryBlock.count.Goals as goal
 pub loop-next-init : goal.loop-next-init
 loop-next-init c = record { from = omega arith; counted = sym (counted_none c.args.self.now c.args.a c.args.b (64 * (c.args.a / 64)) (omega arith)) }
 
-more : (c : goal.After-full_to-at) → c.loop-next.count + (c.from-here.result + 64 * (c.full_to-at.result - c.in-Some.next - 1)) ≡ count_by (ours c.args.self.now c.args.a c.args.b) (range_with_len 0 (64 * c.full_to-at.result))
+more : (c : goal.After-full_to-at) → c.loop-next.count + (c.from-here.result + 64 * (c.full_to-at.result - c.in-Some.next - 1))
+    ≡ count_by (ours c.args.self.now c.args.a c.args.b) (range_with_len 0 (64 * c.full_to-at.result))
 more c =
     let words = c.args.self.now in
     let same = c.as_slice-words.ensures ∙ c.self.view_is in
