@@ -149,6 +149,17 @@ fn work<R: Wait, T: Drop + Send + Sync, M: Machine<Told = T>, A: Source + Drop, 
     }
 }
 
+// What a client gets whose session was refused memory as it opened.
+const NO_MEMORY: &[u8] = b"error 1 OutOfMemory\n";
+
+// The reply to what comes first, whatever that is, of a client that has no session. What it sent is read, so that the end of its
+// connection is no reset, in which the reply could be lost.
+fn answer_no_session<A: Source, B: Sink>(reader: &mut A, writer: &mut B) {
+    let mut come = [0; 1024];
+    let _read = reader.read_some(&mut come);
+    let _sent = writer.write_some(NO_MEMORY);
+}
+
 // Serves one connection to its end, whatever that is, and files what its session was told.
 fn serve_one<
     R: Wait,
@@ -164,6 +175,7 @@ fn serve_one<
         mut writer,
     } = job;
     let Ok(told) = machine.serve_one(rt, alloc, &mut reader, &mut writer) else {
+        answer_no_session(&mut reader, &mut writer);
         return;
     };
     if let Some(cell) = filed.get(number) {
