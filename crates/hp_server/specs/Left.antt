@@ -5,9 +5,9 @@ use Rattle.hp_model.specs.machine.State.{State}
 use Rattle.hp_serving.specs.declared.host.Closed.{Closed}
 use Rattle.hp_closing.specs.Joined.{WasJoined}
 
--- What may be left of a machine that started so, and keeps entries (1) or none. Where the audit finds that trails and
--- receipts are of one run, it is a run from that start, and all pages are free at its end.
-pub record MayLeave (keeps : ℕ) (machine : State) (closed : Closed) : Type 0 where
+-- What may be left of a machine that started so, keeps entries (1) or none, and was closed with what its sessions were told.
+-- Where the audit finds that trails and these receipts are of one run, it is a run from that start, and all pages are free at its end.
+pub record MayLeave (keeps : ℕ) (machine : State) (told : List (List Receipt)) (closed : Closed) : Type 0 where
   pub page : closed.page ≡ machine.page_size
   pub audited : is_some closed.audit ≡ (keeps == 1)
-  pub joined : closed.audit ≡ Some true → (told : List (List Receipt)) × WasJoined machine told closed.counts
+  pub joined : closed.audit ≡ Some true → WasJoined machine told closed.counts

@@ -1,9 +1,11 @@
 //! The machine that is served, with what its sessions are told.
-ghost use Rattle.std.specs.Prelude.{IfOk};
+ghost use Rattle.std.specs.Prelude.{◌≡◌, ◌==◌, [], IfOk};
 ghost use Rattle.hp_locked.specs.Views.{frames_list};
 ghost use Rattle.hp_model.specs.machine.Machine.{start};
 ghost use Rattle.hp_server.specs.Left.{MayLeave};
 ghost use Rattle.hp_serving.specs.Ended.{IsOfMachine};
+ghost use Rattle.hp_sessions.specs.Calls.{IsCallAnswered, SessionView};
+ghost use Rattle.hp_trail.specs.Walk.{lists};
 
 use crate::host::Waiting;
 use hp_closing::{close, into_system};
@@ -28,8 +30,18 @@ impl<N: Naming + Noted, G: Gate + Drop, const K: usize> Machine for Served<N, G,
     /// The receipts of a session, in order.
     type Told = Vec<Receipt>;
 
-    ghost may_leave = { λ machine closed. MayLeave K (start (frames_list N.frames)
-        machine.shared.page_size machine.shared.slots) closed };
+    ghost Session = { SessionView };
+
+    ghost may_answer = { IsCallAnswered (K == 1) N.page_bytes };
+
+    ghost page = { λ session. N.page_bytes };
+
+    ghost is_opened = { λ session. session.receipts ≡ [] };
+
+    ghost was_told = { λ session told. told.items ≡ session.receipts };
+
+    ghost may_leave = { λ machine told closed. MayLeave K (start (frames_list N.frames)
+        machine.shared.page_size machine.shared.slots) (lists told) closed };
 
     fn serve_one<R: Wait, A: Source, B: Sink>(
         &self,
@@ -49,7 +61,7 @@ impl<N: Naming + Noted, G: Gate + Drop, const K: usize> Machine for Served<N, G,
 
     fn close(self, alloc: Global, told: Vec<Vec<Receipt>>) -> Result<Closed, AllocError>
         ensures leaves { IfOk result (MayLeave K (start (frames_list N.frames)
-            self.shared.page_size self.shared.slots)) }
+            self.shared.page_size self.shared.slots) (lists told.items)) }
         ensures limits { IfOk result IsOfMachine }
     {
         let Served {

@@ -3,6 +3,7 @@
 
 mod connections;
 mod fault;
+mod filed;
 mod host;
 mod http;
 mod serving;
@@ -12,6 +13,7 @@ mod tcp;
 
 pub use connections::{Accepted, Connections};
 pub use fault::ServeFault;
+pub use filed::Filed;
 pub use host::{Closed, Host, Machine};
 pub use serving::serve;
 pub use session::serve_session;

@@ -1,12 +1,14 @@
 //! Workers that serve accepted connections.
-ghost use Rattle.std.specs.Prelude.{◌≤◌};
+ghost use Rattle.std.specs.Prelude.{◌≡◌, ◌≤◌, IfOk, OnErr};
+ghost use Rattle.hp_serving.specs.Session.{IsServed};
 
 use crate::connections::{Accepted, Connections, numbered};
 use crate::fault::ServeFault;
+use crate::filed::Filed;
 use crate::host::Machine;
 use crossbeam_channel::{Receiver, Sender};
 use hp_wire::ends::{Sink, Source};
-use std::alloc::Global;
+use std::alloc::{AllocError, Global};
 use std::sync::{OnceLock, Wait};
 use std::thread;
 use std::thread::{Scope, Threads};
@@ -17,18 +19,13 @@ use std::thread::{Scope, Threads};
 /// It returns when all sessions that were handed out have ended, however these ended. `Memory` says that no worker
 /// could be started or no queue made, and `Write` that the connections could not be announced: then no session was
 /// handed out. `Network` says that the source failed.
-pub fn serve<
-    R: Threads + Wait + Sync,
-    T: Drop + Send + Sync,
-    M: Machine<Told = T> + Sync,
-    C: Connections,
->(
+pub fn serve<R: Threads + Wait + Sync, M: Machine + Sync, C: Connections>(
     rt: &R,
     alloc: Global,
     machine: &M,
     connections: &mut C,
     workers: usize,
-    filed: &[OnceLock<T>],
+    filed: &[OnceLock<Filed<M>>],
 ) -> Result<(), ServeFault> {
     let Ok((to, from)) = crossbeam_channel::bounded(alloc, workers.max(1)) else {
         return Err(ServeFault::Memory);
@@ -36,19 +33,13 @@ pub fn serve<
     run(rt, alloc, machine, connections, workers, filed, &from, to)
 }
 
-fn run<
-    'x,
-    R: Threads + Wait + Sync,
-    T: Drop + Send + Sync,
-    M: Machine<Told = T> + Sync,
-    C: Connections,
->(
+fn run<'x, R: Threads + Wait + Sync, M: Machine + Sync, C: Connections>(
     rt: &'x R,
     alloc: Global,
     machine: &'x M,
     connections: &mut C,
     workers: usize,
-    filed: &'x [OnceLock<T>],
+    filed: &'x [OnceLock<Filed<M>>],
     jobs: &'x Receiver<Accepted<C::Reader, C::Writer>, Global>,
     to: Sender<Accepted<C::Reader, C::Writer>, Global>,
 ) -> Result<(), ServeFault> {
@@ -66,8 +57,7 @@ fn start_workers<
     'x,
     E,
     R: Wait + Sync,
-    T: Drop + Send + Sync,
-    M: Machine<Told = T> + Sync,
+    M: Machine + Sync,
     A: Source + Drop + Send,
     B: Sink + Drop + Send,
 >(
@@ -77,7 +67,7 @@ fn start_workers<
     machine: &'x M,
     workers: usize,
     jobs: &'x Receiver<Accepted<A, B>, Global>,
-    filed: &'x [OnceLock<T>],
+    filed: &'x [OnceLock<Filed<M>>],
 ) -> bool {
     let mut started = false;
     for _ in 0..workers {
@@ -134,18 +124,27 @@ fn hand_out<R: Wait, C: Connections>(
 }
 
 // Serves connections until no more come.
-fn work<R: Wait, T: Drop + Send + Sync, M: Machine<Told = T>, A: Source + Drop, B: Sink + Drop>(
+fn work<R: Wait, M: Machine, A: Source + Drop, B: Sink + Drop>(
     rt: &R,
     alloc: Global,
     machine: &M,
     jobs: &Receiver<Accepted<A, B>, Global>,
-    filed: &[OnceLock<T>],
+    filed: &[OnceLock<Filed<M>>],
 ) {
     for _ in rt.forever() {
         let Ok(job) = jobs.recv(rt) else {
             return;
         };
-        serve_one(rt, alloc, machine, job, filed);
+        let Accepted {
+            number,
+            count: _,
+            mut reader,
+            mut writer,
+        } = job;
+        match serve_one(rt, alloc, machine, &mut reader, &mut writer) {
+            Ok(one) => file(rt, number, one, filed),
+            Err(AllocError) => answer_no_session(&mut reader, &mut writer),
+        }
     }
 }
 
@@ -160,25 +159,28 @@ fn answer_no_session<A: Source, B: Sink>(reader: &mut A, writer: &mut B) {
     let _sent = writer.write_some(NO_MEMORY);
 }
 
-// Serves one connection to its end, whatever that is, and files what its session was told.
-fn serve_one<
-    R: Wait,
-    T: Drop + Send + Sync,
-    M: Machine<Told = T>,
-    A: Source + Drop,
-    B: Sink + Drop,
->(rt: &R, alloc: Global, machine: &M, job: Accepted<A, B>, filed: &[OnceLock<T>]) {
-    let Accepted {
-        number,
-        count: _,
-        mut reader,
-        mut writer,
-    } = job;
-    let Ok(told) = machine.serve_one(rt, alloc, &mut reader, &mut writer) else {
-        answer_no_session(&mut reader, &mut writer);
-        return;
-    };
+// Serves one connection to its end, whatever that is. It is refused only where its session is, and then nothing is read
+// or written.
+fn serve_one<R: Wait, M: Machine, A: Source, B: Sink>(
+    rt: &R,
+    alloc: Global,
+    machine: &M,
+    reader: &mut A,
+    writer: &mut B,
+) -> Result<Filed<M>, AllocError>
+    ensures served { IfOk result (λ one. IsServed M.is_opened M.was_told M.may_answer M.page
+        (A.remaining reader.old) (A.remaining reader.new)
+        (B.contents writer.old) (B.contents writer.new) one.told) }
+    ensures unread { OnErr result (reader.new ≡ reader.old) }
+    ensures unwritten { OnErr result (writer.new ≡ writer.old) }
+{
+    let told = machine.serve_one(rt, alloc, reader, writer)?;
+    Ok(Filed { told })
+}
+
+// Files it in the cell of its connection's number.
+fn file<R: Wait, M: Machine>(rt: &R, number: usize, one: Filed<M>, filed: &[OnceLock<Filed<M>>]) {
     if let Some(cell) = filed.get(number) {
-        let _kept = cell.set(rt, told);
+        let _kept = cell.set(rt, one);
     }
 }

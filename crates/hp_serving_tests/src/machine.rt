@@ -1,5 +1,5 @@
 //! A small machine that many sessions share.
-ghost use Rattle.std.specs.Prelude.{IfOk};
+ghost use Rattle.std.specs.Prelude.{◌≡◌, ℕ, length, IfOk};
 ghost use Rattle.hp_model.specs.beside.Told.{told_reply};
 ghost use Rattle.hp_model.specs.text.Writing.{IsWithinLimits};
 ghost use Rattle.hp_serving.specs.Ended.{IsOfMachine};
@@ -12,6 +12,7 @@ use hp_model::told::Told;
 use hp_serving::{Closed, Host, Machine, serve_session};
 use hp_wire::ends::{Sink, Source};
 use std::alloc::{AllocError, Global};
+use std::marker::Model;
 use std::sync::{Mutex, Wait};
 
 /// What all sessions share: how many calls there were, how many sessions may yet open, and what the audit answers.
@@ -45,6 +46,12 @@ pub struct Session<'x, R> {
     rt: &'x R,
     machine: &'x Small,
     made: u64,
+}
+
+impl<'x, R> Model for Session<'x, R> {
+    ghost Value = { ℕ };
+
+    ghost view = { λ session. session.made };
 }
 
 impl<'x, R: Wait> Session<'x, R> {
@@ -117,9 +124,9 @@ impl<'x, R: Wait> Host for Waiting<'x, R> {
 
     type Told = u64;
 
-    ghost is_opened = { λ session. Unit {0} };
+    ghost is_opened = { λ made. made ≡ 0 };
 
-    ghost was_told = { λ session told. Unit {0} };
+    ghost was_told = { λ made told. told ≡ made };
 
     fn open(&self, _alloc: Global) -> Result<Session<'x, R>, AllocError> {
         let mut value = self.machine.opens.lock(self.rt);
@@ -143,7 +150,17 @@ impl<'x, R: Wait> Host for Waiting<'x, R> {
 impl Machine for Small {
     type Told = u64;
 
-    ghost may_leave = { λ machine closed. Unit {0} };
+    ghost Session = { ℕ };
+
+    ghost may_answer = { λ old step reply new. Unit {0} };
+
+    ghost page = { λ made. 1024 };
+
+    ghost is_opened = { λ made. made ≡ 0 };
+
+    ghost was_told = { λ made told. told ≡ made };
+
+    ghost may_leave = { λ machine told closed. closed.counts.free ≡ length told };
 
     fn serve_one<R: Wait, A: Source, B: Sink>(
         &self,
@@ -158,7 +175,7 @@ impl Machine for Small {
 
     /// Its counts tell how many sessions were told how much.
     fn close(self, _alloc: Global, told: Vec<u64>) -> Result<Closed, AllocError>
-        ensures leaves { IfOk result (λ closed. Unit {0}) }
+        ensures leaves { IfOk result (λ closed. closed.counts.free ≡ length told.items) }
         ensures limits { IfOk result IsOfMachine }
     {
         let mut sum = 0u64;
