@@ -96,7 +96,7 @@ impl Queue {
         ensures taken { result ≡ true → IsTaken (ended line.now) self.old self.new }
         ensures left { result ≡ false → self.new ≡ self.old }
     {
-        if line.len() > MOST_LINE_BYTES || !may_be_access(line) {
+        if line.len() > MOST_LINE_BYTES {
             return false;
         }
         match kind_of_line(line) {
@@ -136,10 +136,4 @@ impl Queue {
         self.items[self.count].set_store(access, bytes);
         self.count += 1;
     }
-}
-
-// By its first byte alone: others are read once, behind those that wait.
-#[inline(always)]
-fn may_be_access(line: &[u8]) -> bool {
-    matches!(line.first(), Some(b'l' | b's'))
 }
