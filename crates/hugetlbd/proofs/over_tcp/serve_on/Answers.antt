@@ -5,7 +5,8 @@ use Rattle.hp_model.specs.machine.Machine.{start}
 use Rattle.hp_shared.proofs.Crossing.{shared_sync}
 use Rattle.hp_shared.proofs.Opened.{frames_named}
 use Rattle.hp_shared.specs.Sharing.{SharedView}
-use Rattle.hp_program.specs.Program.{IsToldOn, MayBeLeft}
+use Rattle.hp_model.specs.declared.entry.Receipt.{Receipt}
+use Rattle.std.specs.Global.{Vec}
 use Rattle.hp_trail.specs.Walk.{lists}
 use Rattle.hugetlbd.proofs.Serving.{as_asked, leaves, told_on}
 use Rattle.hp_words.specs.Config.{choice_of, chosen}
@@ -22,9 +23,9 @@ returns g c =
     ap (λ (xs : List ℕ). start xs c.in-Ok.shared.page_size c.in-Ok.shared.slots) named ∙ ap (λ (s : SharedView). start fs s.page_size s.slots) c.in-Ok.ensures in
     record {
       ended = e.0;
-      leaves = leaves (λ told. told.items) _ (IsToldOn (choice_of c.args.machine.now) c.args.serving) _ (MayBeLeft (choice_of c.args.machine.now) c.args.serving) e.0
-          (λ one served. told_on (choice_of c.args.machine.now) c.args.serving _ _ c.requires.keeps c.requires.bytes one.items served)
-          (λ told closed left. as_asked (choice_of c.args.machine.now) c.args.serving _ _ same c.requires.keeps (lists told) closed left) e.1;
+      leaves = leaves (λ (told : Vec Receipt). told.items) _ _ _ _ e.0
+          (λ one. told_on (choice_of c.args.machine.now) c.args.serving _ _ c.requires.keeps c.requires.bytes one.items)
+          (λ told. as_asked (choice_of c.args.machine.now) c.args.serving _ _ same c.requires.keeps (lists told)) e.1;
       ends = e.2;
       prints = e.3;
       says = e.4;
