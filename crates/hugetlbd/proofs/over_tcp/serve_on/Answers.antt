@@ -1,4 +1,4 @@
-use Rattle.std.proofs.Common.{◌≡◌, ◌∙◌, ℕ, List, ap, arith}
+use Rattle.std.proofs.Common.{◌≡◌, ◌∙◌, ℕ, List, ap, arith, map}
 use denote.Param.Send.{sendable}
 use Rattle.hp_locked.specs.Views.{frames_list}
 use Rattle.hp_model.specs.machine.Machine.{start}
@@ -7,7 +7,6 @@ use Rattle.hp_shared.proofs.Opened.{frames_named}
 use Rattle.hp_shared.specs.Sharing.{SharedView}
 use Rattle.hp_model.specs.declared.entry.Receipt.{Receipt}
 use Rattle.std.specs.Global.{Vec}
-use Rattle.hp_trail.specs.Walk.{lists}
 use Rattle.hugetlbd.proofs.Serving.{as_asked, leaves, told_on}
 use Rattle.hp_words.specs.Config.{choice_of, chosen}
 use Rattle.hugetlbd.proofs.over_tcp.serve_on.Goals as goal
@@ -25,7 +24,7 @@ returns g c =
       ended = e.0;
       leaves = leaves (λ (told : Vec Receipt). told.items) _ _ _ _ e.0
           (λ one. told_on (choice_of c.args.machine.now) c.args.serving _ _ c.requires.keeps c.requires.bytes one.items)
-          (λ told. as_asked (choice_of c.args.machine.now) c.args.serving _ _ same c.requires.keeps (lists told)) e.1;
+          (λ told. as_asked (choice_of c.args.machine.now) c.args.serving _ _ same c.requires.keeps (map (λ (each : Vec Receipt). each.items) told)) e.1;
       ends = e.2;
       prints = e.3;
       says = e.4;
