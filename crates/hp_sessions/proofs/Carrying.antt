@@ -1,7 +1,7 @@
 -- A step's script, carried out event by event.
-use Rattle.std.proofs.Common.{if◌then◌else◌, ◌≡◌, ℕ, ◌+◌, ◌<◌, ◌≤◌, Bool, true, false, List, [], ◌∷◌, ◌++◌, Option, None, Some, Ok, Err, inl, inr, length, map, refl, sym, ap, subst, ◌∙◌, arith}
+use Rattle.std.proofs.Common.{if◌then◌else◌, ◌≡◌, ℕ, ◌+◌, ◌<◌, ◌≤◌, Bool, true, false, List, [], ◌∷◌, ◌++◌, Ok, Err, inl, inr, map, refl, sym, ap, subst, ◌∙◌, arith}
 use Rattle.std.specs.Bool.{MatchBool}
-use Rattle.std.proofs.lemmas.List.{append-nil, append_assoc, length-append, map-append}
+use Rattle.std.proofs.lemmas.List.{append-nil, append_assoc, map-append}
 use Rattle.std.proofs.lemmas.Bool.{le-ltb, lt-ltb}
 use Rattle.std.proofs.lemmas.List.Elements.{All-cons, All-nil}
 use Rattle.hp_model.specs.declared.answer.Answer.TheVariants.{Home}
@@ -50,15 +50,14 @@ is_full (Err other) e = cc
 
 -- ---- receipts
 
--- a session with these
-abbrev pub told : SessionView → List Receipt → SessionView
-told s rs = record { slots = s.slots; receipts = rs; room = s.room }
+abbrev pub with_receipts : SessionView → List Receipt → SessionView
+with_receipts s rs = record { slots = s.slots; receipts = rs; room = s.room }
 
 noted_none : (s : SessionView) → s ≡ noted s []
-noted_none s = ap (told s) (sym (append-nil s.receipts))
+noted_none s = ap (with_receipts s) (sym (append-nil s.receipts))
 
 noted_then : (s : SessionView) (a b : List Receipt) → noted (noted s a) b ≡ noted s (a ++ b)
-noted_then s a b = ap (told s) (append_assoc s.receipts a b)
+noted_then s a b = ap (with_receipts s) (append_assoc s.receipts a b)
 
 added_none : (s : SessionView) → AreAdded s [] s
 added_none s = ([], noted_none s, refl)
@@ -211,42 +210,29 @@ refused_first size s step reply h = inr (refl, h)
 
 -- a session whose parts have these receipts
 module _ (s t : SessionView) (slots : t.slots ≡ s.slots) (room : t.room ≡ s.room) where
-  pub view_is : t ≡ told s t.receipts
+  pub view_is : t ≡ with_receipts s t.receipts
   view_is =
       ap (λ n. record { slots = n; receipts = t.receipts; room = t.room }) slots ∙ ap (λ n. record { slots = s.slots; receipts = t.receipts; room = n }) room
 
   noted_by : (added : List Receipt) → t.receipts ≡ s.receipts ++ added → t ≡ noted s added
-  noted_by added is = view_is ∙ ap (told s) is
+  noted_by added is = view_is ∙ ap (with_receipts s) is
 
   -- nothing was told
   pub same_as : t.receipts ≡ s.receipts → t ≡ s
   same_as is = noted_by [] (is ∙ sym (append-nil s.receipts)) ∙ sym (noted_none s)
 
-  module _ (kept : Bool) (size : ℕ) (e : Event) (reply : Reply) (handed : IsHanded kept size e reply s.receipts t.receipts) where
-    -- what a part answered, and what was told
-    pub made : IsMade kept size s e reply t
-    made =
-        map_match (is_trace_full reply) ((kept ≡ true) × (has_place e ≡ false) × (t.receipts ≡ s.receipts)) (CanAnswer size e reply × IsToldOf e reply s.receipts t.receipts)
-        ((kept ≡ true) × (has_place e ≡ false) × (t ≡ s)) (CanAnswer size e reply × AreAdded s ((e, reply) ∷ []) t)
-        (λ h. (h.0, h.1, same_as h.2))
-        (λ h. (h.0, (h.1.0 ∷ [], noted_by (h.1.0 ∷ []) h.1.1, ap (λ x. x ∷ []) h.1.2))) handed
+  -- what a part answered, and what was told
+  pub made : (kept : Bool) (size : ℕ) (e : Event) (reply : Reply) → IsHanded kept size e reply s.receipts t.receipts → IsMade kept size s e reply t
+  made kept size e reply handed =
+      map_match (is_trace_full reply) ((kept ≡ true) × (has_place e ≡ false) × (t.receipts ≡ s.receipts)) (CanAnswer size e reply × IsToldOf e reply s.receipts t.receipts)
+      ((kept ≡ true) × (has_place e ≡ false) × (t ≡ s)) (CanAnswer size e reply × AreAdded s ((e, reply) ∷ []) t)
+      (λ h. (h.0, h.1, same_as h.2))
+      (λ h. (h.0, (h.1.0 ∷ [], noted_by (h.1.0 ∷ []) h.1.1, ap (λ x. x ∷ []) h.1.2))) handed
 
-    -- one receipt, or none
-    pub grows_one : Grows 1 s t
-    grows_one = record { slots = slots; room = room; few = by (is_trace_full reply) handed }
-      where
-        by : (b : Bool) → MatchBool b ((kept ≡ true) × (has_place e ≡ false) × (t.receipts ≡ s.receipts)) (CanAnswer size e reply × IsToldOf e reply s.receipts t.receipts) →
-            length t.receipts ≤ length s.receipts + 1
-        by true h = (let same = ap length h.2 in omega (arith, same))
-        by false h = (let same = ap length h.1.1 in let all = length-append s.receipts (h.1.0 ∷ []) in omega (arith, same, all))
-
-  pub grows_none : t.receipts ≡ s.receipts → Grows 1 s t
-  grows_none is = record { slots = slots; room = room; few = (let same = ap length is in omega (arith, same)) }
-
--- the parts of a session were asked
-module _ {v : SessionView} (s t : SessionView) (is : v ≡ s) (slots : t.slots ≡ v.slots) (room : t.room ≡ v.room) (kept : Bool) (size : ℕ) where
-  pub made_by : (e : Event) (reply : Reply) → IsHanded kept size e reply v.receipts t.receipts → IsMade kept size s e reply t
-  made_by e reply handed = subst (λ w. IsMade kept size w e reply t) is (made v t slots room kept size e reply handed)
+-- the same of what a session is seen as
+pub made_by : {v : SessionView} (s t : SessionView) → v ≡ s → t.slots ≡ v.slots → t.room ≡ v.room → (kept : Bool) (size : ℕ) (e : Event) (reply : Reply) →
+    IsHanded kept size e reply v.receipts t.receipts → IsMade kept size s e reply t
+made_by {v} s t is slots room kept size e reply handed = subst (λ w. IsMade kept size w e reply t) is (made v t slots room kept size e reply handed)
 
 -- ---- how many receipts came
 

@@ -1,12 +1,12 @@
 -- Loads and stores that their slot takes together.
-use Rattle.std.proofs.Common.{◌≡◌, ℕ, ◌+◌, ◌-◌, ◌<◌, ◌≤◌, Bool, true, false, List, [], ◌∷◌, ◌++◌, None, Ok, length, take, drop, refl, sym, ap, subst, ◌∙◌, arith}
+use Rattle.std.proofs.Common.{◌≡◌, ℕ, ◌+◌, ◌-◌, ◌<◌, ◌≤◌, Bool, false, List, [], ◌∷◌, ◌++◌, Ok, length, take, drop, refl, sym, ap, subst, ◌∙◌, arith}
 use Rattle.std.proofs.Common.{append-nil, length-drop, take-add, take_all}
 use Rattle.std.proofs.Math.ListN.{drop_of_length-le}
 use Rattle.std.proofs.Math.Seq.{drop-append-add, take-append-add}
 use Rattle.std.proofs.lemmas.List.{drop-drop, length-take-le}
 use borrow.Rule.Slice.PartMut.{put_mid}
-use Rattle.hp_model.proofs.Queues.{does_both, does_next, left_next}
-use Rattle.hp_model.specs.beside.Queue.{DoesAll, DoesOne, QueuedView}
+use Rattle.hp_model.proofs.Queues.{does_both}
+use Rattle.hp_model.specs.beside.Queue.{DoesAll, QueuedView}
 use Rattle.hp_model.specs.declared.answer.Answer.TheVariants.{Home}
 use Rattle.hp_model.specs.declared.entry.Receipt.{Receipt}
 use Rattle.hp_model.specs.declared.event.Event.TheVariants.{Tasks as OnTasks, Slot as OnSlot}
@@ -16,10 +16,10 @@ use Rattle.hp_model.specs.declared.event.TableEvent.TheVariants.{Find}
 use Rattle.hp_model.specs.declared.step.Step.{Step}
 use Rattle.hp_model.specs.declared.step.Step.TheVariants.{Load, Store}
 use Rattle.hp_model.specs.machine.Plan.{Reply}
-use Rattle.hp_model.specs.machine.Step.{finding, on_slot, script}
+use Rattle.hp_model.specs.machine.Step.{finding, on_slot}
 use Rattle.hp_parts.specs.Queues.{AreAccessesHanded, AreFirstHanded, IsAccessHanded, IsFoundAndHanded}
 use Rattle.hp_sessions.specs.Calls.{Carries, IsCallAnswered, SessionView}
-use Rattle.hp_sessions.proofs.Carrying.{answered, found, made, on_slot_made, told, view_is}
+use Rattle.hp_sessions.proofs.Carrying.{answered, found, made, on_slot_made, view_is, with_receipts}
 
 abbrev pub Called : Bool → ℕ → SessionView → Step → Reply → SessionView → Type 0
 Called kept size s step reply t = IsCallAnswered kept size s step reply t
@@ -60,7 +60,7 @@ module _ (kept : Bool) (size at n : ℕ) (before after : List QueuedView) (unkep
       → DoesAll (Called kept size) s (take n before) (take n after) t
   all_together s t within slots room h =
       subst (λ (w : SessionView). DoesAll (Called kept size) s (take n before) (take n after) w) (sym (view_is s t slots room))
-      (subst (λ k. DoesAll (Called k size) s (take n before) (take n after) (told s t.receipts)) (sym unkept)
+      (subst (λ k. DoesAll (Called k size) s (take n before) (take n after) (with_receipts s t.receipts)) (sym unkept)
       (all_answered size s.slots s.room at within (take n before) (take n after) s.receipts t.receipts h.handed))
 
   pub together : {v : SessionView} (s t : SessionView) → v ≡ s → at < v.slots → t.slots ≡ v.slots → t.room ≡ v.room → AreFirstHanded size at n before after v.receipts t.receipts

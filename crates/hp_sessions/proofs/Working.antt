@@ -1,13 +1,13 @@
 -- A step, by what it asks of which part.
-use Rattle.std.proofs.Common.{◌≡◌, ℕ, Bool, true, false, inl, inr, refl, sym, subst, ◌∙◌, arith}
+use Rattle.std.proofs.Common.{◌≡◌, ℕ, Bool, true, inl, inr, refl, sym, subst, ◌∙◌, arith}
 use Rattle.hp_model.specs.declared.step.Intent.{Intent}
 use Rattle.hp_model.specs.declared.step.Step.{Step}
-use Rattle.hp_model.specs.declared.step.Step.TheVariants as step
+use Rattle.hp_model.specs.declared.step.Step.TheVariants.{Fault}
 use Rattle.hp_events.specs.declared.event.MountEvent.TheVariants as m
 use Rattle.hp_model.specs.machine.Plan.{Reply}
 use Rattle.hp_model.specs.machine.Step.{on_slot}
 use Rattle.hp_events.specs.declared.work.Work.{Work}
-use Rattle.hp_events.specs.declared.work.Work.TheVariants.{Attach, OfTask}
+use Rattle.hp_events.specs.declared.work.Work.TheVariants.{OfTask}
 use Rattle.hp_sessions.specs.Calls.{Carries, HasReceiptRoom, IsCallAnswered, IsRefusedFirst, SessionView}
 use Rattle.hp_events.specs.Works.{IsWork, work_carries, work_receipts, work_script}
 use Rattle.hp_parts.specs.SlotWork.{asked_event, carries}
@@ -40,15 +40,10 @@ pub asked_worked : (kept : Bool) (size : ℕ) (s t : SessionView) (k : ℕ) (ask
 asked_worked kept size s t k asked w reply script same room (inl done) = inl (room, subst (λ c. Carries kept size s c reply t) (sym script) done)
 asked_worked kept size s t k asked w reply script same room (inr refused) = inr (refused.0, refused.1, inr (refused.2, same ∙ refused.3))
 
--- ---- steps that are asked of a part at once
-
-pub attach_worked : (kept : Bool) (size : ℕ) (s t : SessionView) (task : ℕ) (reply : Reply) → IsWorked kept size s (Attach task) reply t → IsCallAnswered kept size s (step.Attach task) reply t
-attach_worked kept size s t task reply done =
-    step_answered kept size s t (step.Attach task) (Attach task) reply
-    (record { script = λ n. refl; receipts = λ n. refl; carries = refl; apart = tt; usage = refl; memory = λ state. refl }) done
+-- ---- a fault
 
 pub fault_worked : (kept : Bool) (size : ℕ) (s t : SessionView) (task k number index : ℕ) (intent : Intent) (reply : Reply) →
-    IsWorked kept size s (OfTask task k (m.Fault task number index intent)) reply t → IsCallAnswered kept size s (step.Fault task k number index intent) reply t
+    IsWorked kept size s (OfTask task k (m.Fault task number index intent)) reply t → IsCallAnswered kept size s (Fault task k number index intent) reply t
 fault_worked kept size s t task k number index intent reply done =
-    step_answered kept size s t (step.Fault task k number index intent) (OfTask task k (m.Fault task number index intent)) reply
+    step_answered kept size s t (Fault task k number index intent) (OfTask task k (m.Fault task number index intent)) reply
     (record { script = λ n. refl; receipts = λ n. refl; carries = refl; apart = refl; usage = refl; memory = λ state. refl }) done

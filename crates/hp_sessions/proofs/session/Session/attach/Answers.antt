@@ -1,6 +1,5 @@
 use Rattle.std.proofs.Common.{sym, subst}
 use Rattle.hp_events.specs.declared.work.Work.TheVariants.{Attach}
-use Rattle.hp_model.specs.beside.Told.{told_reply}
 use Rattle.hp_model.specs.declared.event.Event.TheVariants.{Tasks as OnTasks}
 use Rattle.hp_model.specs.declared.event.TableEvent.TheVariants.{Find}
 use Rattle.hp_model.specs.machine.Plan.{Reply}

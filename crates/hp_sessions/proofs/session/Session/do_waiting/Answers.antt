@@ -1,4 +1,4 @@
-use Rattle.std.proofs.Common.{◌≡◌, ◌+◌, ◌-◌, ◌≤◌, ◌∙◌, ap, arith, length, length-drop}
+use Rattle.std.proofs.Common.{◌+◌, ◌-◌, ◌≤◌, ◌∙◌, ap, arith, length, length-drop}
 use borrow.Rule.Slice.PartMut.{put_mid, same_len_mid}
 use Rattle.hp_model.proofs.Queues.{does_next, left_next}
 use Rattle.hp_sessions.proofs.Queueing.{Called, lent_is, several_left, several_more}

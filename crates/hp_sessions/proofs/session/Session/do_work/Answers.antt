@@ -1,13 +1,13 @@
 use Rattle.std.proofs.Common.{refl, sym, ap, subst, ◌∙◌, arith}
 use Rattle.hp_model.specs.declared.event.Event.TheVariants.{Tasks as OnTasks, Pool as OnPool}
-use Rattle.hp_model.specs.declared.event.TableEvent.TheVariants.{Add, Find}
+use Rattle.hp_model.specs.declared.event.TableEvent.TheVariants.{Add}
 use Rattle.hp_model.specs.machine.Plan.{Reply}
 use Rattle.hp_model.specs.beside.Told.{told_reply}
 use Rattle.hp_sessions.specs.Calls.{HasReceiptRoom, IsMade}
 use Rattle.hp_events.specs.Works.{work_receipts}
 use Rattle.hp_sessions.specs.Works.{IsWorked}
 use Rattle.hp_events.specs.declared.work.Work.{Work}
-use Rattle.hp_events.specs.declared.work.Work.TheVariants.{Connect, Attach, Mount, OnSlot, Pool, Remount, Umount}
+use Rattle.hp_events.specs.declared.work.Work.TheVariants.{Connect, Mount, Pool, Remount, Umount}
 use Rattle.hp_parts.specs.declared.slot_work.SlotWork.TheVariants as w
 use Rattle.hp_sessions.proofs.Carrying.{only_made}
 use Rattle.hp_sessions.proofs.Working.{asked_worked, worked}
