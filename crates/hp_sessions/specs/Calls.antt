@@ -14,7 +14,7 @@ use Rattle.hp_parts.specs.Replies.{is_trace_full}
 
 -- ---- a session
 
--- the slots of its machine, the receipts so far, and for how many there is room
+-- the slots of its machine, the receipts so far, and for how many there is room, where entries are kept
 pub record SessionView : Type 0 where
   pub slots : ℕ
   pub receipts : List Receipt

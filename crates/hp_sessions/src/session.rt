@@ -13,7 +13,7 @@ use std::marker::Model;
 
 /// What one thread asks of a machine's parts, step after step, while others do the same.
 ///
-/// The parts have a receipt of each event that the session was told of, in order. `finish` hands them back.
+/// The parts have a receipt of each event that they told of, in order. `finish` hands the parts back.
 #[derive(Drop)]
 pub struct Session<P: Parts> {
     parts: P,

@@ -32,7 +32,7 @@ use std::alloc::AllocError;
 impl<P: Parts> Session<P> {
     /// Answers a step, or leaves everything as it was and says why; a fork that is refused is undone.
     ///
-    /// Where the machine keeps entries, a receipt of each of the step's events is added, in their order. It is answered
+    /// A receipt of each of the step's events is added, in their order. Where the machine keeps entries, it is answered
     /// TraceFull before the first event where there is no room for the most receipts that the step can bring, and later where a
     /// trail has no place for one; and OutOfMemory before the first where there is no room for a copy of its name, options or
     /// bytes.
